@@ -1,0 +1,79 @@
+//! The program: the words of the command line, standard input and output, and the exit status.
+#![tactic(auto)]
+
+use clap::Error as WordsError;
+use clap::error::ErrorKind as WordsKind;
+use pg_cli::{CliFault, Command, Line, exit_code, parse_words, run};
+use std::env;
+use std::io::{self, BufWriter, Write};
+use std::process::ExitCode;
+
+/// The status of a fault of the command line.
+const BAD_WORDS: u8 = 2;
+
+/// Prints the fault's line on the error stream, and answers its status.
+fn tell(rt: &impl Eprint, fault: &CliFault) -> ExitCode {
+    let _ = eprintln!(rt; "parsolve: {fault}");
+    ExitCode::from(exit_code(fault))
+}
+
+/// Prints what `clap` says of the words: a fault of the command line, or the help that was asked for.
+fn tell_words(rt: &(impl Print + Eprint), error: &WordsError) -> ExitCode {
+    if matches!(error.kind(), WordsKind::OutOfMemory) {
+        return tell(rt, &CliFault::OutOfMemory);
+    }
+    let printed = error.print(rt);
+    if error.use_stderr() {
+        ExitCode::from(BAD_WORDS)
+    } else if printed.is_err() {
+        tell(rt, &CliFault::Write)
+    } else {
+        ExitCode::SUCCESS
+    }
+}
+
+/// Runs a command on standard input, and writes its answer through a buffer to standard output.
+fn answer<R: Input + Print + AllocGlobal>(rt: &R, command: Command) -> Result<(), CliFault> {
+    let Ok(mut output) = BufWriter::new(rt.alloc(), io::writer(rt)) else {
+        return Err(CliFault::OutOfMemory);
+    };
+    run(rt.alloc(), command, &mut rt.reader(), &mut output)?;
+    output.flush().map_err(|_| CliFault::Write)
+}
+
+/// Does what the words ask for.
+fn obey<R: Input + Print + Eprint + AllocGlobal>(rt: &R, words: &[String]) -> ExitCode {
+    let collected: Result<Vec<&str>, _> = words
+        .iter()
+        .map(|word| word.as_str())
+        .collect(rt.alloc());
+    let Ok(words) = collected else {
+        return tell(rt, &CliFault::OutOfMemory);
+    };
+    match parse_words(rt.alloc(), words.as_slice()) {
+        Ok(Line::Run(command)) => match answer(rt, command) {
+            Ok(()) => ExitCode::SUCCESS,
+            Err(fault) => tell(rt, &fault),
+        },
+        Err(error) => tell_words(rt, &error),
+    }
+}
+
+/// The words of the command line; a word that is no text is a fault of the command line.
+fn words_of(rt: &HostRuntime) -> io::Result<Vec<String>> {
+    Ok(env::args(rt)?.collect(rt.alloc())?)
+}
+
+fn main(rt: HostRuntime) -> ExitCode {
+    match words_of(&rt) {
+        Ok(words) => obey(&rt, words.as_slice()),
+        Err(error) if error.kind() == io::ErrorKind::OutOfMemory => tell(
+            &rt,
+            &CliFault::OutOfMemory,
+        ),
+        Err(_) => {
+            let _ = eprintln!(rt; "parsolve: a word of the command line is not UTF-8");
+            ExitCode::from(BAD_WORDS)
+        }
+    }
+}

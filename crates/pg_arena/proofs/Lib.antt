@@ -1,0 +1,8 @@
+pub mod Rising
+pub mod Members
+pub mod Adding
+pub mod Finishing
+pub mod Unknown
+pub mod Unique
+pub mod Vertices
+pub mod Dualling

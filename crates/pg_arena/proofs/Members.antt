@@ -1,0 +1,39 @@
+-- Whether a number stands among rising ones.
+use Rattle.std.proofs.Common.{◌≡◌, ℕ, suc, ◌-◌, ◌≤◌, ◌<◌, false, List, [], ◌∷◌, length, get_or, Result, Ok, Err, refl, sym, ◌∙◌, arith, inl, inr}
+use Rattle.std.specs.Prelude.{MatchResult, is_ok, Some, slice_get}
+use Rattle.std.specs.List.Sorted.{IsStrictlyIncreasing, IsBinarySearchResult}
+use Rattle.std.specs.Ordering.{nat_cmp}
+use Rattle.std.proofs.lemmas.Bool.{ne_eqb, cases_lt}
+use Rattle.std.proofs.lemmas.List.{get_or_default}
+use Rattle.std.proofs.lemmas.Option.{get_or_from_slice_get}
+use Rattle.std.proofs.lemmas.List.Sorted.{searched}
+use Rattle.std.proofs.lemmas.Map.Keys.{sorted_from_strictly_increasing, non_decreasing_from_sorted}
+use Rattle.pg_arena.proofs.Rising.{has, has_from}
+
+pub has_none : (q : ℕ) (xs : List ℕ) → ((k : ℕ) → k < length xs → get_or xs k 0 ≡ q → ⊥) → has q xs ≡ false
+has_none q [] h = refl
+has_none q (x ∷ xs) h = rw (ne_eqb q x (λ e. h 0 (omega arith) (sym e)), has_none q xs (λ k lt e. h (suc k) (omega arith) e)) refl
+
+pub above_last : (xs : List ℕ) (n last : ℕ) → IsStrictlyIncreasing xs → Some last ≡ slice_get xs (length xs - 1) → last < n → has n xs ≡ false
+above_last xs n last up is lt = has_none n xs (λ k within e.
+    let order : get_or xs k 0 ≤ get_or xs (length xs - 1) 0 = non_decreasing_from_sorted xs (sorted_from_strictly_increasing xs up) k (length xs - 1) 0 (omega arith) (omega arith) in
+    omega (arith, get_or_from_slice_get xs (length xs - 1) last 0 (sym is)))
+
+found : (q : ℕ) (xs : List ℕ) (r : Result ℕ ℕ) → MatchResult r (λ i. (i < length xs) × (get_or xs i 0 ≡ q)) (λ i. (i ≤ length xs) × ((k : ℕ) → k < i → get_or xs k 0 < q) × ((k : ℕ) → i ≤ k → k < length xs → q < get_or xs k 0)) → is_ok r ≡ has q xs
+found q xs (Ok i) h = sym (has_from q xs i (h.0) (get_or_default xs i q 0 (h.0) ∙ h.1))
+found q xs (Err i) h = sym (has_none q xs (λ k lt e.
+    elim (cases_lt k i) [
+      | inl low ↦ (let below = h.1 k low in omega arith)
+      | inr high ↦ (let above = h.2 k high lt in omega arith)
+    ]))
+
+pub search_finds : (q : ℕ) (xs : List ℕ) (r : Result ℕ ℕ) → IsStrictlyIncreasing xs → IsBinarySearchResult (λ y. nat_cmp y q) xs r → is_ok r ≡ has q xs
+search_finds q xs r up h = found q xs r (searched xs q r h (λ i j le lt. non_decreasing_from_sorted xs (sorted_from_strictly_increasing xs up) i j 0 le lt))
+
+pub below_least : (xs : List ℕ) (n least : ℕ) → IsStrictlyIncreasing xs → Some least ≡ slice_get xs 0 → n < least → has n xs ≡ false
+below_least xs n least up is lt = has_none n xs (λ k within e.
+    let order : get_or xs 0 0 ≤ get_or xs k 0 = non_decreasing_from_sorted xs (sorted_from_strictly_increasing xs up) 0 k 0 (omega arith) within in
+    omega (arith, get_or_from_slice_get xs 0 least 0 (sym is)))
+
+pub search_misses : (q : ℕ) (xs : List ℕ) (i : ℕ) → IsStrictlyIncreasing xs → (let r : Result ℕ ℕ = Err i in IsBinarySearchResult (λ y. nat_cmp y q) xs r) → has q xs ≡ false
+search_misses q xs i up h = sym (search_finds q xs (Err i) up h)

@@ -1,0 +1,6 @@
+use Rattle.std.proofs.Common.{◌≡◌, take, map}
+use Rattle.pg_arena.specs.Entries.{dual_entry}
+use Rattle.pg_arena.proofs.game.dual_entries.Given as goal
+
+abbrev pub invariant-loop-entry : goal.invariant-loop-entry
+invariant-loop-entry l = l.list.items ≡ map dual_entry (take l.entry-index l.entries)

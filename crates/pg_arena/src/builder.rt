@@ -1,0 +1,104 @@
+//! Games from their lines.
+
+ghost use Rattle.std.specs.Prelude.{◌≡◌, ◌++◌, ◌∷◌, [], IsTrue, OnOk, OnErr, IfOk, IfErr, MatchResult, List, option_copied};
+ghost use Rattle.std.specs.List.Sorted.{IsStrictlyIncreasing};
+ghost use Rattle.pg_arena.specs.declared.fault.ArenaFault.TheVariants.{OutOfMemory};
+ghost use Rattle.pg_arena.specs.Games.{GameVertex, HasPrioritiesUpTo};
+ghost use Rattle.pg_arena.specs.Lines.{Line, counted, each_once, add_fault, Answers, IsGameOf, FinishFails};
+
+use crate::fault::ArenaFault;
+use crate::game::Game;
+use crate::lines::Lines;
+use crate::player::Player;
+use std::alloc::{AllocError, Global};
+use std::marker::Model;
+
+/// Takes the lines of a game one after another, each the whole of a vertex. Contracts see the lines that it took.
+#[derive(Drop)]
+pub struct GameBuilder {
+    lines: Lines,
+    buffer: Vec<u32>,
+}
+
+impl Model for GameBuilder {
+    ghost use Rattle.std.specs.Prelude.{List};
+    ghost use Rattle.pg_arena.specs.Lines.{Line};
+
+    ghost Value = { List Line };
+
+    ghost view = { λ b. b.lines };
+}
+
+impl GameBuilder {
+    /// A builder without a line.
+    pub fn new(alloc: Global) -> GameBuilder
+        ensures { result ≡ [] }
+    {
+        GameBuilder {
+            lines: Lines::new(alloc),
+            buffer: Vec::new(alloc),
+        }
+    }
+
+    /// Adds a line: a vertex by its identifier, and its successors by theirs, in any order. A repeated successor counts once.
+    ///
+    /// Refuses, the first that fits: `PriorityTooLarge` for a priority over 65,535; `NoSuccessor`; `DuplicateVertex` if an
+    /// earlier line has the identifier; `TooManyVertices` after 1,048,576 lines; `TooManyEdges` if the edges would be over
+    /// 8,388,608. The builder is then as it was, and so it is after `OutOfMemory`, which may come at any growth.
+    pub fn add(
+        &mut self,
+        identifier: u32,
+        priority: u32,
+        owner: Player,
+        successors: &[u32],
+        name: Option<&[u8]>,
+    ) -> Result<(), ArenaFault>
+        ensures answer { let line : Line = record { identifier = identifier; priority = priority; owner = owner; successors = successors.now; name = option_copied name.entry }
+            in Answers result (add_fault self.old (counted line)) }
+        ensures ok { let line : Line = record { identifier = identifier; priority = priority; owner = owner; successors = successors.now; name = option_copied name.entry }
+            in OnOk result (self.new ≡ self.old ++ counted line ∷ []) }
+        ensures err { OnErr result (self.new ≡ self.old) }
+    {
+        if rise(successors) {
+            return self
+                .lines
+                .add(identifier, priority, owner, successors, name);
+        }
+        put_each_once(&mut self.buffer, successors)?;
+        self.lines
+            .add(identifier, priority, owner, &self.buffer, name)
+    }
+
+    /// The game of the lines, in whatever order they came.
+    ///
+    /// Refuses with `NoVertex` if there is no line; then with `UnknownSuccessor` if no line defines some successor: it names the
+    /// line of the least identifier with such a successor, and the least of these there; else only with `OutOfMemory`, which
+    /// may come ahead of `UnknownSuccessor`.
+    pub fn finish(self) -> Result<Game, ArenaFault>
+        ensures game { IfOk result (λ game. IsGameOf self game) }
+        ensures only { (game : List GameVertex) → IsGameOf self game → MatchResult result (λ g. g ≡ game) (λ e. e ≡ OutOfMemory) }
+        ensures priorities { IfOk result (HasPrioritiesUpTo 65535) }
+        ensures fault { IfErr result (λ fault. FinishFails self fault) }
+    {
+        let GameBuilder { lines, buffer: _ } = self;
+        lines.finish()
+    }
+}
+
+/// Whether each number is below the next.
+fn rise(numbers: &[u32]) -> bool
+    ensures { IsTrue result → IsStrictlyIncreasing numbers.now }
+{
+    numbers.is_sorted_by(|a, b| a < b)
+}
+
+/// Makes the list that of the numbers, each once, the least first.
+fn put_each_once(list: &mut Vec<u32>, numbers: &[u32]) -> Result<(), AllocError>
+    ensures { OnOk result (list.new.items ≡ each_once numbers.now) }
+{
+    list.clear();
+    list.extend_from_slice(numbers)?;
+    list.sort_unstable();
+    list.dedup();
+    Ok(())
+}

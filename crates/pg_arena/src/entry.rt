@@ -1,0 +1,34 @@
+//! A vertex as games and builders keep it.
+
+ghost use Rattle.std.specs.Prelude.{◌≡◌, ◌≤◌};
+ghost use Rattle.pg_arena.specs.Entries.{dual_entry};
+
+use crate::player::Player;
+
+/// A vertex whose successors stand from `from` to `to` in a list of all, and its name at `name` in another.
+#[derive(Clone, Copy, Debug)]
+pub(crate) struct Entry {
+    pub identifier: u32,
+    pub priority: u32,
+    pub owner: Player,
+    pub from: u32,
+    pub to: u32,
+    pub name: Option<u32>,
+}
+
+impl Entry {
+    /// The vertex of the other player, with its priority raised by one.
+    pub fn dual(self) -> Entry
+        requires { self.priority ≤ 65535 }
+        ensures { result ≡ dual_entry self }
+    {
+        Entry {
+            identifier: self.identifier,
+            priority: self.priority + 1,
+            owner: self.owner.opponent(),
+            from: self.from,
+            to: self.to,
+            name: self.name,
+        }
+    }
+}

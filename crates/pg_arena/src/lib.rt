@@ -1,0 +1,19 @@
+//! Parity games: vertices with priorities, owners and successors, and the dual of a game.
+#![tactic(auto)]
+
+mod builder;
+mod entry;
+mod fault;
+mod game;
+mod identifiers;
+mod lines;
+mod link;
+mod place;
+mod player;
+mod vertex;
+
+pub use builder::GameBuilder;
+pub use fault::ArenaFault;
+pub use game::{Game, dual};
+pub use player::Player;
+pub use vertex::Vertex;

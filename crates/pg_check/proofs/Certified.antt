@@ -1,0 +1,355 @@
+-- What two maps certify is sound; so is the solution of closed maps, of which none has a list where the other has one.
+use Rattle.std.proofs.Common.{◌≡◌, ℕ, zero, suc, ◌+◌, ◌%◌, ◌<◌, ◌≤◌, ◌⊎◌, inl, inr, true, List, [], ◌∷◌, ◌++◌, Some, None, take, length, map, get_or, arith, sym, subst, refl, ap, ◌∙◌, add-one, MatchBool}
+use Rattle.std.specs.List.{count_by, All, Any, Contains}
+use Rattle.std.specs.Option.{IsSome}
+use Rattle.std.proofs.lemmas.Bool.{cases_lt}
+use Rattle.std.proofs.lemmas.List.Elements.{All-nil, All-cons, All-head, All-tail, All-map}
+use Rattle.pg_arena.specs.declared.player.Player.{Player}
+use Rattle.pg_arena.specs.declared.player.Player.TheVariants.{Even, Odd}
+use Rattle.pg_arena.specs.Games.{GameVertex, IsGame, IsEdge, IsPath, HasParityOf, opponent, priority, owner, successors, vertex_at, dual}
+use Rattle.pg_arena.specs.Duals.{length_dual, successors_dual, priority_dual, owner_dual}
+use Rattle.pg_text.specs.declared.answer.Answer.{Answer}
+use Rattle.pg_text.specs.Solutions.{winner, loser, choice}
+use Rattle.pg_measure.specs.Measures.{BoundList, MeasureValue, ListBelow, ListAtMost, Covers, width_from, is_odd}
+use Rattle.pg_map.specs.Lines.{Line, vertex_line, game_line, line_at}
+use Rattle.pg_map.specs.Maps.{MapValue, measure_at, IsServedBy, IsClosed, SomeOrAll}
+use Rattle.pg_check.specs.Plays.{IsPlay, stretch}
+use Rattle.pg_check.specs.Soundness.{Counts, IsGreatest, IsSound}
+use Rattle.pg_check.specs.Strategies.{game_of, map_of, HasList, IsServedFor, AreClosed, IsSolutionOf, IsCertifiedFor, Certifies}
+use Rattle.pg_check.proofs.Recurring.{parity_of}
+use Rattle.pg_check.proofs.Paths.{IsWay, way_later, path_upto, path_keeps, all_front, all_later, repeat_or_few}
+use Rattle.pg_check.proofs.Cycles.{all_unmap, count-cons, edge_from, sound_from_safe}
+use Rattle.pg_check.proofs.Wins.{all_stretch, stretch_path, player_cases}
+use Rattle.pg_check.proofs.Falls.{Falls, no_odd_cycle}
+
+-- lines of a game and of its dual
+
+pub line_is : (game : List GameVertex) (v : ℕ) → line_at (game_line game) v ≡ vertex_line (vertex_at game v)
+line_is [] v = refl
+line_is (x ∷ game) zero = refl
+line_is (x ∷ game) (suc v) = line_is game v
+
+same_edges : (player : Player) (game : List GameVertex) (v : ℕ) → successors (game_of player game) v ≡ successors game v
+same_edges Even game v = refl
+same_edges Odd game v = successors_dual game v
+
+-- in the player's game Even owns what the player owns
+owner_is : (player : Player) (game : List GameVertex) (v : ℕ) → v < length game → owner game v ≡ player → owner (game_of player game) v ≡ Even
+owner_is Even game v lt e = e
+owner_is Odd game v lt e = owner_dual game v lt ∙ ap opponent e
+
+owner_isn't : (player : Player) (game : List GameVertex) (v : ℕ) → v < length game → owner game v ≡ opponent player → owner (game_of player game) v ≡ Odd
+owner_isn't Even game v lt e = e
+owner_isn't Odd game v lt e = owner_dual game v lt ∙ ap opponent e
+
+some_served : (o : Player) (P : ℕ → Type 0) (successors : List ℕ) → o ≡ Even → SomeOrAll o P successors → Any P successors
+some_served Even P successors e h = h
+some_served Odd P successors e h = absurd (cc e)
+
+all_served : (o : Player) (P : ℕ → Type 0) (successors : List ℕ) → o ≡ Odd → SomeOrAll o P successors → All P successors
+all_served Even P successors e h = absurd (cc e)
+all_served Odd P successors e h = h
+
+-- steps that a player's map serves
+
+list_of : MeasureValue → List ℕ
+list_of None = []
+list_of (Some xs) = xs
+
+pub lists : MapValue → ℕ → List ℕ
+lists m v = list_of (measure_at m.measures v)
+
+abbrev pub FallsFor : Player → List GameVertex → MapValue → MapValue → ℕ → ℕ → Type 0
+FallsFor player game f g = let m = map_of player f g in Falls m.bounds (priority (game_of player game)) (lists m)
+
+covers_falls : (bounds : BoundList) (p : ℕ) (m n : MeasureValue) → IsSome m → Covers bounds p m n
+    → IsSome n × MatchBool (is_odd p)
+    (ListBelow (take (width_from bounds p) (list_of n)) (take (width_from bounds p) (list_of m)))
+    (ListAtMost (take (width_from bounds p) (list_of n)) (take (width_from bounds p) (list_of m)))
+unfolding list_of
+covers_falls bounds p None n s h = absurd (cc s)
+covers_falls bounds p (Some xs) None s h = absurd h
+covers_falls bounds p (Some xs) (Some ys) s h = (refl, h)
+
+map_falls : (game : List GameVertex) (m : MapValue) (v w : ℕ) → IsSome (measure_at m.measures v)
+    → IsServedBy m.bounds (game_line game) m.measures v w
+    → IsSome (measure_at m.measures w) × Falls m.bounds (priority game) (lists m) v w
+unfolding lists
+map_falls game m v w s h =
+    covers_falls m.bounds (priority game v) (measure_at m.measures v) (measure_at m.measures w) s
+    (subst (λ (l : Line). Covers m.bounds l.priority (measure_at m.measures v) (measure_at m.measures w)) (line_is game v) h)
+
+pub served_falls : (player : Player) (game : List GameVertex) (f g : MapValue) (v w : ℕ) → HasList player f g v
+    → IsServedFor player game f g v w → HasList player f g w × FallsFor player game f g v w
+served_falls player game f g v w s h = map_falls (game_of player game) (map_of player f g) v w s h
+
+-- a priority of the opponent's parity is odd in the player's game
+occurs_raised : (f h : ℕ → ℕ) (p : ℕ) (xs : List ℕ) → All (λ v. h v ≡ f v + 1) xs → (k : ℕ) → k < length (map f xs)
+    → get_or (map f xs) k p ≡ p → Contains (map h xs) (p + 1)
+occurs_raised f h p [] raised k lt e = absurd (omega arith)
+occurs_raised f h p (x ∷ xs) raised zero lt e =
+    (0, omega arith, (let here : h x ≡ f x + 1 = All-head (λ v. h v ≡ f v + 1) x xs raised in omega arith))
+occurs_raised f h p (x ∷ xs) raised (suc k) lt e =
+    let c = occurs_raised f h p xs (All-tail (λ v. h v ≡ f v + 1) x xs raised) k (omega arith) e in
+    (suc c.0, omega (arith, c.1), c.2)
+
+above_raised : (f h : ℕ → ℕ) (p : ℕ) (xs : List ℕ) → All (λ v. h v ≡ f v + 1) xs → All (λ v. f v ≤ p) xs → All (λ v. h v ≤ p + 1) xs
+above_raised f h p [] raised above = All-nil (λ v. h v ≤ p + 1)
+above_raised f h p (x ∷ xs) raised above =
+    let here : h x ≡ f x + 1 = All-head (λ v. h v ≡ f v + 1) x xs raised in
+    let le : f x ≤ p = All-head (λ v. f v ≤ p) x xs above in
+    All-cons (λ v. h v ≤ p + 1) x xs (omega arith)
+    (above_raised f h p xs (All-tail (λ v. h v ≡ f v + 1) x xs raised) (All-tail (λ v. f v ≤ p) x xs above))
+
+odd_greatest : (player : Player) (game : List GameVertex) (p : ℕ) (xs : List ℕ) → All (λ v. v < length game) xs
+    → IsGreatest p (map (priority game) xs) → HasParityOf (opponent player) p
+    → (q : ℕ) × IsGreatest q (map (priority (game_of player game)) xs) × (q % 2 ≡ 1)
+odd_greatest Even game p xs within greatest parity = (p, greatest, parity)
+odd_greatest Odd game p xs within greatest parity = (
+  p + 1,
+  record {
+    occurs = occurs_raised (priority game) (priority (dual game)) p xs raised greatest.occurs.0 greatest.occurs.1 greatest.occurs.2;
+    above_all = All-map (λ q. q ≤ p + 1) (priority (dual game)) xs
+        (above_raised (priority game) (priority (dual game)) p xs raised (all_unmap (priority game) (λ q. q ≤ p) xs greatest.above_all));
+  },
+  (let even : p % 2 ≡ 0 = parity in omega arith),
+)
+  where
+    raised : All (λ v. priority (dual game) v ≡ priority game v + 1) xs
+    raised k d lt = priority_dual game (get_or xs k d) (within k d lt)
+
+-- no cycle of steps that the player's map serves is lost by the player
+pub no_lost_cycle : (player : Player) (game : List GameVertex) (f g : MapValue) (v : ℕ) (rest : List ℕ) (p : ℕ)
+    → All (λ u. u < length game) (v ∷ rest) → IsPath (FallsFor player game f g) v (rest ++ v ∷ [])
+    → IsGreatest p (map (priority game) (v ∷ rest)) → HasParityOf (opponent player) p → ⊥
+no_lost_cycle player game f g v rest p within path greatest parity =
+    let o = odd_greatest player game p (v ∷ rest) within greatest parity in
+    no_odd_cycle (map_of player f g).bounds (priority (game_of player game)) (lists (map_of player f g)) v rest o.0 path o.1 o.2
+
+path_map : (Step Step' : ℕ → ℕ → Type 0) → (Q : ℕ → Type 0) → ((v w : ℕ) → Q v → Step v w → Step' v w × Q w)
+    → (v : ℕ) (rest : List ℕ) → Q v → IsPath Step v rest → IsPath Step' v rest
+path_map Step Step' Q f v [] q h = tt
+path_map Step Step' Q f v (w ∷ rest) q h =
+    let k = f v w q h.0 in (k.0, path_map Step Step' Q f w rest k.1 h.1)
+
+-- closed maps serve the winner, by some edge where it owns the vertex and by all where it doesn't
+
+closed_for : (player : Player) (game : List GameVertex) (f g : MapValue) → AreClosed game f g
+    → IsClosed (map_of player f g).bounds (game_line (game_of player game)) (map_of player f g).measures
+closed_for Even game f g closed = closed.game_map
+closed_for Odd game f g closed = closed.dual_map
+
+pub has_line : (player : Player) (game : List GameVertex) (v : ℕ) → v < length game → IsSome (game_line (game_of player game) v)
+has_line player game v lt = go (game_of player game) v (same_length player)
+  where
+    same_length : (player : Player) → v < length (game_of player game)
+    same_length Even = lt
+    same_length Odd = omega (arith, length_dual game, lt)
+
+    go : (xs : List GameVertex) (v : ℕ) → v < length xs → IsSome (game_line xs v)
+    go [] v lt = absurd (omega arith)
+    go (x ∷ xs) zero lt = refl
+    go (x ∷ xs) (suc v) lt = go xs v (omega arith)
+
+pub some_serves : (player : Player) (game : List GameVertex) (f g : MapValue) → AreClosed game f g → (v : ℕ) → v < length game
+    → owner game v ≡ player → Any (IsServedFor player game f g v) (line_at (game_line (game_of player game)) v).successors
+some_serves player game f g closed v lt e =
+    let line : Line = line_at (game_line (game_of player game)) v in
+    let is : line ≡ vertex_line (vertex_at (game_of player game) v) = line_is (game_of player game) v in
+    some_served line.owner (IsServedFor player game f g v) line.successors (ap Line.owner is ∙ owner_is player game v lt e)
+    (closed_for player game f g closed v (has_line player game v lt))
+
+pub line_edges : (player : Player) (game : List GameVertex) (v : ℕ) → (line_at (game_line (game_of player game)) v).successors ≡ successors game v
+line_edges player game v = ap Line.successors (line_is (game_of player game) v) ∙ same_edges player game v
+
+closed_some : (player : Player) (game : List GameVertex) (f g : MapValue) → AreClosed game f g → (v : ℕ) → v < length game
+    → owner game v ≡ player → (w : ℕ) × IsEdge game v w × IsServedFor player game f g v w
+closed_some player game f g closed v lt e =
+    let any = some_serves player game f g closed v lt e in
+    (any.1, subst (λ ws. Contains ws any.1) (line_edges player game v) (any.0, any.2, any.3), any.4)
+
+closed_all : (player : Player) (game : List GameVertex) (f g : MapValue) → AreClosed game f g → (v w : ℕ) → v < length game
+    → owner game v ≡ opponent player → IsEdge game v w → IsServedFor player game f g v w
+closed_all player game f g closed v w lt e edge =
+    let G = game_of player game in
+    let line : Line = line_at (game_line G) v in
+    let is : line ≡ vertex_line (vertex_at G v) = line_is G v in
+    let all = all_served line.owner (IsServedFor player game f g v) line.successors (ap Line.owner is ∙ owner_isn't player game v lt e)
+    (closed_for player game f g closed v (has_line player game v lt)) in
+    let edge' : Contains line.successors w = subst (λ ws. Contains ws w) (sym (line_edges player game v)) edge in
+    subst (λ u. IsServedFor player game f g v u) edge'.2 (all edge'.0 w edge'.1)
+
+-- what is certified is safe
+
+module _ (game : List GameVertex) (f g : MapValue) (solution : List Answer) (certifies : Certifies game f g solution) where
+  at : (v w : ℕ) → Counts game solution v w → IsCertifiedFor (winner solution v) game f g solution v
+  at v w counts = certifies v (edge_from game v w counts.0)
+
+  certified_step : (player : Player) (v w : ℕ) → winner solution v ≡ player → Counts game solution v w
+      → FallsFor player game f g v w × (winner solution w ≡ player)
+  certified_step player v w e counts = (
+    subst (λ p. FallsFor p game f g v w) e
+        (served_falls (winner solution v) game f g v w (at v w counts).listed ((at v w counts).served w counts)).1,
+    (at v w counts).stays w counts ∙ e,
+  )
+
+  pub sound_from_certificate : IsGame game → IsSound game solution
+  sound_from_certificate is_game = sound_from_safe game solution is_game (record {
+    none_leaves = λ v w counts. (at v w counts).stays w counts;
+    no_bad_cycle = λ v rest bad.
+        no_lost_cycle (winner solution v) game f g v rest bad.lost.0 (within v rest bad.closes)
+        (path_map (Counts game solution) (FallsFor (winner solution v) game f g) (λ u. winner solution u ≡ winner solution v)
+        (certified_step (winner solution v)) v (rest ++ v ∷ []) refl bad.closes)
+        bad.lost.1 bad.lost.2;
+  })
+    where
+      starts : (v : ℕ) (rest : List ℕ) → IsPath (Counts game solution) v (rest ++ v ∷ []) → v < length game
+      starts v [] h = edge_from game v v h.0.0
+      starts v (w ∷ rest) h = edge_from game v w h.0.0
+
+      within : (v : ℕ) (rest : List ℕ) → IsPath (Counts game solution) v (rest ++ v ∷ []) → All (λ u. u < length game) (v ∷ rest)
+      within v rest h =
+          all_front (λ u. u < length game) (v ∷ rest) (v ∷ [])
+          (path_keeps (Counts game solution) (λ u. u < length game) (λ u w lt s. is_game.in_range u w s.0) v (rest ++ v ∷ []) h (starts v rest h))
+
+-- the solution of closed maps is certified
+
+pub certifies_from_closed : (game : List GameVertex) (f g : MapValue) (solution : List Answer) → IsGame game → AreClosed game f g
+    → IsSolutionOf game f g solution → Certifies game f g solution
+certifies_from_closed game f g solution is_game closed is v lt = record { listed = listed v lt; stays = stays v; served = served v }
+  where
+    listed : (v : ℕ) → v < length game → HasList (winner solution v) f g v
+    listed v lt = ((is.answers v lt).wins (winner solution v)).0 refl
+
+    by_choice : (v w : ℕ) → v < length game → owner game v ≡ winner solution v
+        → ((owner game v ≡ loser solution v) ⊎ (choice solution v ≡ Some w)) → IsServedFor (winner solution v) game f g v w
+    by_choice v w lt e (inl o) = absurd (not_both (winner solution v) (sym e ∙ o))
+      where
+        not_both : (p : Player) → p ≡ opponent p → ⊥
+        not_both Even h = cc h
+        not_both Odd h = cc h
+    by_choice v w lt e (inr o) =
+        let c = (is.answers v lt).chosen e in
+        let same : c.0 ≡ w = same_choice c.0 c.1 in
+        subst (λ u. IsServedFor (winner solution v) game f g v u) same c.2.serves
+      where
+        same_choice : (u : ℕ) → choice solution v ≡ Some u → u ≡ w
+        same_choice u h = cc
+
+    served : (v w : ℕ) → Counts game solution v w → IsServedFor (winner solution v) game f g v w
+    served v w counts =
+        let lt = edge_from game v w counts.0 in
+        elim (player_cases (owner game v) (winner solution v)) [
+          | inl e ↦ by_choice v w lt e counts.1
+          | inr e ↦ closed_all (winner solution v) game f g closed v w lt e counts.0
+        ]
+
+    stays : (v w : ℕ) → Counts game solution v w → winner solution w ≡ winner solution v
+    stays v w counts =
+        ((is.answers w (is_game.in_range v w counts.0)).wins (winner solution v)).1
+        (served_falls (winner solution v) game f g v w (listed v (edge_from game v w counts.0)) (served v w counts)).0
+
+-- no vertex has two lists
+
+count_everything : (play : ℕ → ℕ) (from count : ℕ) → count_by (λ _. true) (stretch play from count) ≡ count
+count_everything play from zero = refl
+count_everything play from (suc count) =
+    let e = count_everything play (from + 1) count in
+    rw (count-cons (λ _. true) (play from) (stretch play (from + 1) count)) (omega (arith, e))
+
+greatest_of : (x : ℕ) (xs : List ℕ) → (p : ℕ) × IsGreatest p (x ∷ xs)
+greatest_of x [] = (x, record { occurs = (0, omega arith, refl); above_all = All-cons (λ q. q ≤ x) x [] (omega arith) (All-nil (λ q. q ≤ x)) })
+greatest_of x (y ∷ ys) = go (greatest_of y ys)
+  where
+    weaker : (p q : ℕ) → p ≤ q → (zs : List ℕ) → All (λ z. z ≤ p) zs → All (λ z. z ≤ q) zs
+    weaker p q le zs h k d lt = let here : get_or zs k d ≤ p = h k d lt in omega arith
+
+    go : (p : ℕ) × IsGreatest p (y ∷ ys) → (p : ℕ) × IsGreatest p (x ∷ y ∷ ys)
+    go (p, g) = elim (cases_lt p x) [
+      | inl lt ↦ (
+        x,
+        record {
+          occurs = (0, omega arith, refl);
+          above_all = All-cons (λ q. q ≤ x) x (y ∷ ys) (omega arith) (weaker p x (omega arith) (y ∷ ys) g.above_all);
+        },
+      )
+      | inr le ↦ (
+        p,
+        record {
+          occurs = (suc g.occurs.0, (let l : g.occurs.0 < length (y ∷ ys) = g.occurs.1 in omega arith), g.occurs.2);
+          above_all = All-cons (λ q. q ≤ p) x (y ∷ ys) le g.above_all;
+        },
+      )
+    ]
+
+module _ (game : List GameVertex) (f g : MapValue) (is_game : IsGame game) (closed : AreClosed game f g) where
+  pub record HasBoth (v : ℕ) : Type 0 where
+    pub within : v < length game
+    pub lists : (player : Player) → HasList player f g v
+
+  abbrev BothFall : ℕ → ℕ → Type 0
+  BothFall v w = (player : Player) → FallsFor player game f g v w
+
+  next_both : (v : ℕ) → HasBoth v → (w : ℕ) × BothFall v w × HasBoth w
+  next_both v d =
+      let lt = d.within in
+      let c = closed_some (owner game v) game f g closed v lt refl in
+      let w = c.0 in
+      let each : (player : Player) → IsServedFor player game f g v w = λ player.
+      elim (player_cases (owner game v) player) [
+        | inl e ↦ subst (λ p. IsServedFor p game f g v w) e c.2
+        | inr e ↦ closed_all player game f g closed v w lt e c.1
+      ]
+      in (
+        w,
+        (λ player. (served_falls player game f g v w (d.lists player) (each player)).1),
+        record {
+          within = is_game.in_range v w c.1;
+          lists = λ player. (served_falls player game f g v w (d.lists player) (each player)).0;
+        },
+      )
+
+  no_cycle : (v : ℕ) (rest : List ℕ) → All (λ u. u < length game) (v ∷ rest) → IsPath BothFall v (rest ++ v ∷ []) → ⊥
+  no_cycle v rest within h =
+      let m = greatest_of (priority game v) (map (priority game) rest) in
+      let lost : (player : Player) → HasParityOf (opponent player) m.0 → ⊥ = λ player parity.
+      no_lost_cycle player game f g v rest m.0 within
+      (path_map BothFall (FallsFor player game f g) (λ _. Unit {0}) (λ v w q s. (s player, tt)) v (rest ++ v ∷ []) tt h)
+      m.1 parity
+      in elim (parity_of m.0) [ inl even ↦ lost Odd even | inr odd ↦ lost Even odd ]
+
+  pub no_both : (v : ℕ) → HasBoth v → ⊥
+  no_both v d = done
+    where
+      trace : ℕ → (u : ℕ) × HasBoth u
+      trace zero = (v, d)
+      trace (suc t) = let n = next_both (trace t).0 (trace t).1 in (n.0, n.2)
+
+      play : ℕ → ℕ
+      play t = (trace t).0
+
+      falls : IsPlay BothFall play
+      falls t = subst (λ s. BothFall (play t) (play s)) (sym (add-one t)) (next_both (trace t).0 (trace t).1).1
+
+      part : List ℕ
+      part = stretch play 0 (suc (length game))
+
+      within : All (λ u. u < length game) part
+      within = all_stretch (λ u. u < length game) play 0 (suc (length game)) (λ s le. (trace s).1.within)
+
+      way : IsWay BothFall part
+      way = stretch_path BothFall play falls 0 (length game)
+
+      done : ⊥
+      done = elim (repeat_or_few (length game) (λ _. true) part within) [
+        | inl r ↦
+            let round = r.twice ∷ (r.between ++ r.twice ∷ r.after) in
+            let inside : All (λ u. u < length game) round =
+            all_later (λ u. u < length game) r.before round (subst (All (λ u. u < length game)) r.splits within)
+            in no_cycle r.twice r.between (all_front (λ u. u < length game) (r.twice ∷ r.between) (r.twice ∷ r.after) inside)
+            (path_upto BothFall r.twice r.between r.twice r.after
+            (way_later BothFall r.before round (subst (IsWay BothFall) r.splits way)))
+        | inr le ↦
+            let e = count_everything play 0 (suc (length game)) in
+            omega (arith, le, e)
+      ]

@@ -1,0 +1,33 @@
+-- What a search for bad cycles finds, and what it says of the solution.
+use Rattle.std.proofs.Common.{◌≡◌, ◌≢◌, ℕ, List, [], ◌∷◌, ◌++◌, sym, subst}
+use Rattle.std.specs.List.{AllPairs}
+use Rattle.pg_arena.specs.Games.{GameVertex, IsGame}
+use Rattle.pg_text.specs.declared.answer.Answer.{Answer}
+use Rattle.pg_check.specs.Soundness.{IsSound, NoneLeaves}
+use Rattle.pg_check.specs.Rounds.{IsRound, IsSimpleRound, IsLost, HasNoBadRound}
+use Rattle.pg_check.specs.Verdicts.{IsLeastLeaving, IsSimpleBadCycle}
+use Rattle.pg_check.proofs.Cycles.{IsBadRound, cycle_from_round, sound_from_no_round, safe_from_sound}
+
+-- a round of a lost vertex that names no vertex twice is a bad cycle that doesn't either
+pub bad_cycle_of : (game : List GameVertex) (solution : List Answer) (v : ℕ) (vertices : List ℕ) → IsLost game solution v
+    → IsSimpleRound game solution v vertices → IsSimpleBadCycle game solution vertices
+bad_cycle_of game solution v vertices lost (rest, e, r, distinct) =
+    subst (IsSimpleBadCycle game solution) (sym e) (
+      subst (AllPairs (λ x y. x ≢ y)) e distinct,
+      cycle_from_round game solution v rest (record { closes = r.closes; greatest = r.greatest; lost = lost }),
+    )
+
+pub sound_of : (game : List GameVertex) (solution : List Answer) → IsGame game → NoneLeaves game solution
+    → HasNoBadRound game solution → IsSound game solution
+sound_of game solution is_game none_leaves none =
+    sound_from_no_round game solution is_game none_leaves
+    (λ v rest r. none v r.lost rest (record { closes = r.closes; greatest = r.greatest }))
+
+pub unsound_by_edge : (game : List GameVertex) (solution : List Answer) (v w : ℕ) → IsLeastLeaving game solution v w → ¬ IsSound game solution
+unsound_by_edge game solution v w least sound =
+    least.leaving.1 ((safe_from_sound game solution sound).none_leaves v w least.leaving.0)
+
+pub unsound_by_cycle : (game : List GameVertex) (solution : List Answer) (vertices : List ℕ) → IsSimpleBadCycle game solution vertices
+    → ¬ IsSound game solution
+unsound_by_cycle game solution [] cycle sound = cycle
+unsound_by_cycle game solution (v ∷ rest) cycle sound = (safe_from_sound game solution sound).no_bad_cycle v rest cycle.1

@@ -1,0 +1,168 @@
+-- The solution of two maps, vertex by vertex.
+use Rattle.std.proofs.Common.{◌≡◌, ◌≢◌, ◌↔◌, ℕ, zero, suc, ◌+◌, ◌<◌, ◌≤◌, inl, inr, List, [], ◌∷◌, Option, Some, None, length, get_or, slice_set, arith, sym, subst, refl, ◌∙◌, get_or-set_other, get_or-set_same, length-set}
+use Rattle.std.specs.List.{All, Contains}
+use Rattle.std.specs.List.Sorted.{IsStrictlyIncreasing}
+use Rattle.std.specs.Option.{IsSome, IfSome, IfNone}
+use Rattle.std.proofs.lemmas.Bool.{cases_lt}
+use Rattle.std.proofs.lemmas.List.Elements.{Contains-get_or}
+use Rattle.pg_arena.specs.declared.player.Player.{Player}
+use Rattle.pg_arena.specs.declared.player.Player.TheVariants.{Even, Odd}
+use Rattle.pg_arena.specs.Games.{GameVertex, IsGame, opponent, owner, successors}
+use Rattle.pg_arena.specs.Duals.{length_dual}
+use Rattle.pg_text.specs.declared.answer.Answer.{Answer}
+use Rattle.pg_text.specs.Solutions.{answer_at, unanswered, winner, IsSolution}
+use Rattle.pg_measure.specs.Measures.{BoundList, MeasureValue}
+use Rattle.pg_map.specs.Lines.{Line, line_at, game_line, AreWithin}
+use Rattle.pg_map.specs.Maps.{MapValue, IsServedBy}
+use Rattle.pg_check.specs.Strategies.{game_of, map_of, HasList, AreClosed, IsFirstServing, IsChoiceFor, IsAnswerOf, IsSolutionOf, IsUndecided}
+use Rattle.pg_check.proofs.Wins.{player_cases}
+use Rattle.pg_check.proofs.Leaving.{passed_or_later, rising_at}
+use Rattle.pg_check.proofs.Certified.{some_serves, line_edges, no_both}
+
+pub first_of : (bounds : BoundList) (lines : ℕ → Option Line) (f : List MeasureValue) (v w k : ℕ) (items : List ℕ)
+    → items ≡ (line_at lines v).successors → IsStrictlyIncreasing items
+    → ((j d : ℕ) → j < k → ¬ IsServedBy bounds lines f v (get_or items j d))
+    → k < length items → get_or items k w ≡ w → IsServedBy bounds lines f v w → IsFirstServing bounds lines f v w
+first_of bounds lines f v w k items is rising passed lt e serves = record {
+  follows = subst (λ ws. Contains ws w) is (k, lt, e);
+  serves = serves;
+  first = λ u edge served.
+      elim (passed_or_later (λ x. ¬ IsServedBy bounds lines f v x) items k u passed (subst (λ ws. Contains ws u) (sym is) edge)) [
+        | inl not ↦ absurd (not served)
+        | inr there ↦ rising_at items rising k there.0 w u there.1 there.2 e there.3
+      ];
+}
+
+-- the lines of a player's game are those of vertices of the game
+pub lines_within : (player : Player) (game : List GameVertex) (n : ℕ) → IsGame game → n ≡ length game → AreWithin n (game_line (game_of player game))
+lines_within player game n is_game e = record {
+  numbers = λ v some. let lt = below v some in omega arith;
+  successors = λ v some.
+      subst (λ ws. All (λ w. w < n) ws) (sym (line_edges player game v))
+      (λ k d lt. let h = is_game.in_range v (get_or (successors game v) k d) (Contains-get_or (successors game v) k d lt) in omega (arith, h));
+  nonempty = λ v some. subst (λ ws. 0 < length ws) (sym (line_edges player game v)) (is_game.goes_on v (below v some));
+}
+  where
+    below : (v : ℕ) → IsSome (game_line (game_of player game) v) → v < length game
+    below v some = subst (λ m. v < m) (same_length player) (go (game_of player game) v some)
+      where
+        same_length : (player : Player) → length (game_of player game) ≡ length game
+        same_length Even = refl
+        same_length Odd = length_dual game
+
+        go : (xs : List GameVertex) (v : ℕ) → IsSome (game_line xs v) → v < length xs
+        go [] v some = absurd (cc some)
+        go (x ∷ xs) zero some = omega arith
+        go (x ∷ xs) (suc v) some = let h = go xs v some in omega (arith, h)
+
+-- the choice is found: some successor serves the vertex
+pub choice_found : (player : Player) (game : List GameVertex) (f g : MapValue) → AreClosed game f g → (v : ℕ) → v < length game
+    → owner game v ≡ player → (found : Option ℕ) → IfSome found (IsChoiceFor player game f g v)
+    → IfNone found ((w : ℕ) → Contains (line_at (game_line (game_of player game)) v).successors w
+    → ¬ IsServedBy (map_of player f g).bounds (game_line (game_of player game)) (map_of player f g).measures v w)
+    → (w : ℕ) × (found ≡ Some w) × IsChoiceFor player game f g v w
+choice_found player game f g closed v lt e None some none =
+    let any = some_serves player game f g closed v lt e in absurd (none any.1 (any.0, any.2, any.3) any.4)
+choice_found player game f g closed v lt e (Some w) some none = (w, refl, some)
+
+-- the player with a list wins, and no other
+pub wins_exactly : (game : List GameVertex) (f g : MapValue) → IsGame game → AreClosed game f g → (v : ℕ) → v < length game
+    → (winner : Player) → HasList winner f g v → (player : Player) → (winner ≡ player) ↔ HasList player f g v
+wins_exactly game f g is_game closed v lt winner list player = (
+  λ e. subst (λ p. HasList p f g v) e list,
+  λ other. elim (player_cases winner player) [
+    | inl e ↦ e
+    | inr e ↦ absurd (no_both game f g is_game closed v (record { within = lt; lists = each player e other }))
+  ],
+)
+  where
+    each : (player : Player) → winner ≡ opponent player → HasList player f g v → (p : Player) → HasList p f g v
+    each Even e other Even = other
+    each Even e other Odd = subst (λ p. HasList p f g v) e list
+    each Odd e other Even = subst (λ p. HasList p f g v) e list
+    each Odd e other Odd = other
+
+not_both : (p q : Player) → p ≡ q → p ≡ opponent q → ⊥
+not_both Even Even e h = cc h
+not_both Even Odd e h = cc e
+not_both Odd Even e h = cc e
+not_both Odd Odd e h = cc h
+
+pub answer_without : (game : List GameVertex) (f g : MapValue) → IsGame game → AreClosed game f g → (v : ℕ) → v < length game
+    → (player : Player) → HasList player f g v → owner game v ≢ player → IsAnswerOf game f g v (record { winner = player; choice = None })
+answer_without game f g is_game closed v lt player list not_owner = record {
+  wins = wins_exactly game f g is_game closed v lt player list;
+  chosen = λ e. absurd (not_owner e);
+  elsewhere = λ e. refl;
+}
+
+pub answer_with : (game : List GameVertex) (f g : MapValue) → IsGame game → AreClosed game f g → (v : ℕ) → v < length game
+    → (player : Player) → HasList player f g v → owner game v ≡ player → (found : Option ℕ) → IfSome found (IsChoiceFor player game f g v)
+    → IfNone found ((w : ℕ) → Contains (line_at (game_line (game_of player game)) v).successors w
+    → ¬ IsServedBy (map_of player f g).bounds (game_line (game_of player game)) (map_of player f g).measures v w)
+    → IsAnswerOf game f g v (record { winner = player; choice = found })
+answer_with game f g is_game closed v lt player list is_owner found some none = record {
+  wins = wins_exactly game f g is_game closed v lt player list;
+  chosen = λ e. choice_found player game f g closed v lt is_owner found some none;
+  elsewhere = λ e. absurd (not_both (owner game v) player is_owner e);
+}
+
+-- the vertices below i have their answers
+pub record AnswersUpto (game : List GameVertex) (f g : MapValue) (solution : List Answer) (i : ℕ) : Type 0 where
+  pub whole : length solution ≡ length game
+  pub answers : (u : ℕ) → u < i → IsAnswerOf game f g u (answer_at solution u)
+
+pub answers_more : (game : List GameVertex) (f g : MapValue) (solution : List Answer) (v : ℕ) (answer : Answer) → v < length game
+    → AnswersUpto game f g solution v → IsAnswerOf game f g v answer → AnswersUpto game f g (slice_set solution v answer) (v + 1)
+answers_more game f g solution v answer lt upto here = record {
+  whole = length-set solution v answer ∙ upto.whole;
+  answers = λ u below. elim (cases_lt u v) [
+    | inl earlier ↦
+        let ne : u ≢ v = omega arith in
+        let same : answer_at (slice_set solution v answer) u ≡ answer_at solution u = get_or-set_other solution v u answer unanswered ne in
+        subst (IsAnswerOf game f g u) (sym same) (upto.answers u earlier)
+    | inr later ↦
+        let e : v ≡ u = omega arith in
+        let inside : v < length solution = let w = upto.whole in omega arith in
+        let same : answer_at (slice_set solution v answer) v ≡ answer = get_or-set_same solution v answer unanswered inside in
+        subst (λ x. IsAnswerOf game f g x (answer_at (slice_set solution v answer) x)) e (subst (IsAnswerOf game f g v) (sym same) here)
+  ];
+}
+
+pub lines_rise : (player : Player) (game : List GameVertex) → IsGame game → (v : ℕ) → v < length game
+    → IsStrictlyIncreasing (line_at (game_line (game_of player game)) v).successors
+lines_rise player game is_game v lt = subst IsStrictlyIncreasing (sym (line_edges player game v)) (is_game.successors_rise v)
+
+pub solution_from_upto : (game : List GameVertex) (f g : MapValue) (solution : List Answer) (i : ℕ) → length game ≤ i
+    → AnswersUpto game f g solution i → IsSolutionOf game f g solution
+solution_from_upto game f g solution i done upto = record {
+  whole = upto.whole;
+  answers = λ v lt. upto.answers v (omega arith);
+}
+
+-- a vertex with an answer isn't undecided
+pub not_undecided : (game : List GameVertex) (f g : MapValue) (v : ℕ) (answer : Answer) → IsAnswerOf game f g v answer → ¬ IsUndecided game f g v
+not_undecided game f g v answer is undecided = go answer.winner ((is.wins answer.winner).0 refl)
+  where
+    go : (player : Player) → HasList player f g v → ⊥
+    go Even list = cc (undecided.game_map, list)
+    go Odd list = cc (undecided.dual_map, list)
+
+pub answers_step : (game : List GameVertex) (f g : MapValue) (solution after : List Answer) (v : ℕ) → v < length game → AnswersUpto game f g solution v
+    → (winner player : Player) (choice found : Option ℕ) → winner ≡ player → choice ≡ found
+    → after ≡ slice_set solution v (record { winner = winner; choice = choice })
+    → IsAnswerOf game f g v (record { winner = player; choice = found }) → AnswersUpto game f g after (v + 1)
+answers_step game f g solution after v lt upto winner player choice found e e' is here =
+    subst (λ s. AnswersUpto game f g s (v + 1)) (sym is)
+    (answers_more game f g solution v (record { winner = winner; choice = choice }) lt upto
+    (subst (λ p. IsAnswerOf game f g v (record { winner = p; choice = choice })) (sym e)
+    (subst (λ w. IsAnswerOf game f g v (record { winner = player; choice = w })) (sym e') here)))
+
+-- the winner has a choice on each vertex that it owns
+pub is_solution : (game : List GameVertex) (f g : MapValue) (solution : List Answer) → IsSolutionOf game f g solution → IsSolution game solution
+is_solution game f g solution of = record {
+  whole = of.whole;
+  chosen = λ v lt own.
+      let c = (of.answers v lt).chosen own in
+      (c.0, c.1, subst (λ ws. Contains ws c.0) (line_edges (winner solution v) game v) c.2.follows);
+}

@@ -1,0 +1,12 @@
+pub mod Recurring
+pub mod Paths
+pub mod Cycles
+pub mod Wins
+pub mod Leaving
+pub mod Searches
+pub mod Trails
+pub mod Sifting
+pub mod Checking
+pub mod Falls
+pub mod Certified
+pub mod Chosen

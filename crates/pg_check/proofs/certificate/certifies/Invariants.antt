@@ -1,0 +1,8 @@
+use Rattle.std.proofs.Common.{ℕ, ◌<◌}
+use Rattle.pg_text.specs.Solutions.{winner}
+use Rattle.pg_check.specs.Strategies.{IsCertifiedFor}
+use Rattle.pg_check.proofs.certificate.certifies.Given as goal
+
+abbrev pub invariant-loop-number : goal.invariant-loop-number
+invariant-loop-number l =
+    (v : ℕ) → v < l.number → IsCertifiedFor (winner l.solution v) l.game l.even l.odd l.solution v

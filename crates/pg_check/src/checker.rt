@@ -1,0 +1,125 @@
+//! The checker: whether a solution is sound.
+
+ghost use Rattle.std.specs.Prelude.{◌≡◌, ◌↔◌, ℕ, ◌<◌, length, All, Contains, IfOk, IfErr, IfSome, IfNone};
+ghost use Rattle.pg_arena.specs.Games.{IsGame};
+ghost use Rattle.pg_text.specs.Solutions.{IsSolution};
+ghost use Rattle.pg_check.specs.Soundness.{IsSound};
+ghost use Rattle.pg_check.specs.Rounds.{IsLost, HasNoRound, HasNoBadRound};
+ghost use Rattle.pg_check.specs.Verdicts.{IsSimpleBadCycle, IsWins, Refutes};
+ghost use Rattle.pg_check.specs.declared.fault.CheckFault.TheVariants.{OutOfMemory};
+
+use crate::edges::first_leaving;
+use crate::fault::CheckFault;
+use crate::parts::{NEW, OUT, find_parts, mark};
+use crate::rounds::{is_lost, round_through};
+use crate::sift::sift;
+use crate::verdict::Verdict;
+use pg_arena::{Game, Vertex};
+use pg_text::Solution;
+use std::alloc::{AllocError, Global};
+
+fn all_vertices(alloc: Global, game: &Game) -> Result<Vec<Vertex>, AllocError>
+    ensures within { IfOk result (λ vertices. All (λ v. v < length game.now) vertices.items) }
+    ensures all { IfOk result (λ vertices. (v : ℕ) → v < length game.now → Contains vertices.items v) }
+{
+    let mut vertices = Vec::with_capacity(alloc, game.len())?;
+    for number in 0..game.len() as u32 {
+        vertices.push(Vertex(number))?;
+    }
+    Ok(vertices)
+}
+
+/// A bad cycle on which no priority is greater than that of `v`.
+fn bad_cycle_through(
+    alloc: Global,
+    game: &Game,
+    solution: &Solution,
+    v: Vertex,
+) -> Result<Option<Vec<Vertex>>, AllocError>
+    requires whole { length solution.now ≡ length game.now }
+    requires within { v < length game.now }
+    ensures none { IfOk result (λ found. IfNone found (IsLost game.now solution.now v → HasNoRound game.now solution.now v)) }
+    ensures some { IfOk result (λ found. IfSome found (λ cycle. IsSimpleBadCycle game.now solution.now cycle.items)) }
+{
+    if !is_lost(game, solution, v) {
+        return Ok(None);
+    }
+    round_through(alloc, game, solution, v)
+}
+
+/// A bad cycle, by a search from each vertex.
+fn search_each(
+    alloc: Global,
+    game: &Game,
+    solution: &Solution,
+) -> Result<Option<Vec<Vertex>>, AllocError>
+    requires { length solution.now ≡ length game.now }
+    ensures none { IfOk result (λ found. IfNone found (HasNoBadRound game.now solution.now)) }
+    ensures some { IfOk result (λ found. IfSome found (λ cycle. IsSimpleBadCycle game.now solution.now cycle.items)) }
+{
+    for number in 0..game.len() as u32 {
+        if let Some(cycle) = bad_cycle_through(alloc, game, solution, Vertex(number))? {
+            return Ok(Some(cycle));
+        }
+    }
+    Ok(None)
+}
+
+/// A bad cycle, by strongly connected parts of the edges that count. Each turn of the loop numbers the parts of the
+/// vertices that are left, in time linear in their edges. Where the greatest priority of a part with an edge is of a
+/// lost vertex, a bad cycle goes through that vertex. Else the vertices over the part's greatest lost priority are left
+/// out, and those that no edge keeps in their part.
+///
+/// That the parts are strongly connected isn't proved, nor needed: `sift` rules out only what it may. Should the parts
+/// not be what they ought to be, the plain search from each vertex decides; with true parts it never runs.
+fn bad_cycle(
+    alloc: Global,
+    game: &Game,
+    solution: &Solution,
+) -> Result<Option<Vec<Vertex>>, AllocError>
+    requires { length solution.now ≡ length game.now }
+    ensures game { IsGame game.now }
+    ensures none { IfOk result (λ found. IfNone found (HasNoBadRound game.now solution.now)) }
+    ensures some { IfOk result (λ found. IfSome found (λ cycle. IsSimpleBadCycle game.now solution.now cycle.items)) }
+{
+    let mut numbers = vec![in alloc; NEW; game.len()]?;
+    let mut vertices = all_vertices(alloc, game)?;
+    'rounds: while !vertices.is_empty() {
+        let parts = find_parts(alloc, game, solution, &vertices, &mut numbers)?;
+        if let Some(v) = parts.suspect {
+            return match bad_cycle_through(alloc, game, solution, v)? {
+                Some(cycle) => Ok(Some(cycle)),
+                None => search_each(alloc, game, solution),
+            };
+        }
+        match sift(alloc, game, solution, &vertices, &numbers, &parts.limits)? {
+            Some(kept) if kept.len() < vertices.len() => {
+                mark(&mut numbers, &vertices, OUT);
+                mark(&mut numbers, &kept, NEW);
+                vertices = kept;
+            }
+            _ => return search_each(alloc, game, solution),
+        }
+    }
+    Ok(None)
+}
+
+/// Whether a solution is sound. `Wins` if it is. `Leaves` where an edge that counts joins vertices with different
+/// winners: the least, by where it comes from and then where it leads. `BadCycle` else.
+///
+/// Takes time linear in the edges for each priority that it looks at, and room for a few numbers for each vertex.
+/// Refuses for want of memory only, with `OutOfMemory`.
+pub fn check(alloc: Global, game: &Game, solution: &Solution) -> Result<Verdict, CheckFault>
+    requires { IsSolution game.now solution.now }
+    ensures wins { IfOk result (λ verdict. IsWins verdict ↔ IsSound game.now solution.now) }
+    ensures refutes { IfOk result (Refutes game.now solution.now) }
+    ensures err { IfErr result (λ fault. fault ≡ OutOfMemory) }
+{
+    if let Some((from, to)) = first_leaving(game, solution) {
+        return Ok(Verdict::Leaves(from, to));
+    }
+    match bad_cycle(alloc, game, solution)? {
+        Some(cycle) => Ok(Verdict::BadCycle(cycle)),
+        None => Ok(Verdict::Wins),
+    }
+}

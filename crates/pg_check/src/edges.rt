@@ -1,0 +1,49 @@
+//! The edges that count in a solution.
+
+ghost use Rattle.std.specs.Prelude.{◌≡◌, ◌↔◌, ℕ, ◌<◌, length, Contains, IfSome, IfNone};
+ghost use Rattle.std.specs.List.Sorted.{IsStrictlyIncreasing};
+ghost use Rattle.pg_arena.specs.Games.{IsGame};
+ghost use Rattle.pg_check.specs.Soundness.{Counts, NoneLeaves};
+ghost use Rattle.pg_check.specs.Verdicts.{IsLeastLeaving};
+
+use pg_arena::{Game, Vertex};
+use pg_text::Solution;
+
+/// Where the edges that count lead from `v`, rising: to all successors if the loser owns `v`, and else to the choice.
+pub(crate) fn counted<'a>(game: &'a Game, solution: &Solution, v: Vertex) -> &'a [Vertex]
+    requires whole { length solution.now ≡ length game.now }
+    requires within { v < length game.now }
+    ensures counted { (w : ℕ) → Contains result.now w ↔ Counts game.now solution.now v w }
+    ensures rising { IsGame game.now → IsStrictlyIncreasing result.now }
+{
+    let successors = game.successors(v);
+    if game.owner(v) != solution.winner(v) {
+        return successors;
+    }
+    let Some(chosen) = solution.choice(v) else {
+        return &successors[..0];
+    };
+    for (place, w) in successors.iter().enumerate() {
+        if *w == chosen {
+            return &successors[place..place + 1];
+        }
+    }
+    &successors[..0]
+}
+
+/// The least edge that counts and joins vertices with different winners.
+pub(crate) fn first_leaving(game: &Game, solution: &Solution) -> Option<(Vertex, Vertex)>
+    requires { length solution.now ≡ length game.now }
+    ensures none { IfNone result (NoneLeaves game.now solution.now) }
+    ensures some { IfSome result (λ e. IsLeastLeaving game.now solution.now e.0 e.1) }
+{
+    for number in 0..game.len() as u32 {
+        let v = Vertex(number);
+        for w in counted(game, solution, v) {
+            if solution.winner(*w) != solution.winner(v) {
+                return Some((v, *w));
+            }
+        }
+    }
+    None
+}

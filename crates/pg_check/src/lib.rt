@@ -1,0 +1,23 @@
+//! Solutions of parity games: which of them are sound, what a sound solution does for endless plays, and how one
+//! is made from measures and checked.
+#![tactic(auto)]
+
+mod certificate;
+mod checker;
+mod choices;
+mod dual;
+mod edges;
+mod fault;
+pub mod laws;
+mod parts;
+mod play;
+mod rounds;
+mod sift;
+mod verdict;
+
+pub use certificate::{certifies, check_with};
+pub use checker::check;
+pub use choices::strategies;
+pub use fault::CheckFault;
+pub use play::Play;
+pub use verdict::Verdict;

@@ -1,0 +1,5 @@
+pub mod Parting
+pub mod Writing
+pub mod Refusing
+pub mod Measuring
+pub mod Verdicts

@@ -1,0 +1,4 @@
+pub mod Input
+pub mod Parts
+pub mod Faults
+pub mod Answers

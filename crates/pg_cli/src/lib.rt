@@ -1,0 +1,20 @@
+//! The commands of the program, as functions from the bytes of an input to the bytes of an answer.
+#![tactic(auto)]
+
+mod command;
+mod fault;
+mod input;
+mod measure;
+mod output;
+mod parts;
+mod program;
+mod solve;
+#[cfg(test)]
+mod tests;
+mod verdict;
+mod words;
+
+pub use command::Command;
+pub use fault::{CliFault, exit_code, write_fault};
+pub use program::run;
+pub use words::{Line, parse_words};

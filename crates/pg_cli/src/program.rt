@@ -1,0 +1,40 @@
+//! A command from its input to its answer.
+
+ghost use Rattle.std.specs.Prelude.{◌≡◌, ◌≢◌, ℕ, List, OnOk, IfSome, IfErr};
+ghost use Rattle.std.specs.Io.KnownBytes.{Appends};
+ghost use Rattle.pg_cli.specs.Answers.{IsAnswer, Refuses};
+
+use crate::command::Command;
+use crate::fault::CliFault;
+use crate::input::read_all_limited;
+use crate::measure::measure;
+use crate::solve::solve;
+use crate::verdict::verify;
+use std::alloc::Global;
+use std::io::{Read, Write};
+
+/// Reads the whole input, and writes the answer to it and nothing else. Hand it a buffered writer, and flush that.
+///
+/// Refuses, in this order: `Read`; `InputTooLong` for more than 268,435,456 bytes, of which it reads the first one over
+/// the limit at most; `NoSeparator` where two texts are wanted and no line `--` parts them; `Text` for a text that
+/// doesn't spell what it has to, the first text's fault before the second's; `Undecided`, of `solve` alone; `Write`,
+/// after which nothing is said of how much went out. `OutOfMemory` may come at any growth. Nothing is written before the work is done, so after another fault than
+/// `Write` nothing was written.
+pub fn run<R: Read, W: Write>(
+    alloc: Global,
+    command: Command,
+    reader: &mut R,
+    writer: &mut W,
+) -> Result<(), CliFault>
+    ensures answer { OnOk result (IfSome (R.remaining reader.old) (λ input.
+        (output : List ℕ) × IsAnswer command input output × Appends (W.contents writer.old) (W.contents writer.new) output)) }
+    ensures refused { IfErr result (λ fault. IfSome (R.remaining reader.old) (λ input. Refuses command input fault)) }
+    ensures untouched { IfErr result (λ fault. fault ≢ CliFault.Write → writer.new ≡ writer.old) }
+{
+    let text = read_all_limited(alloc, reader)?;
+    match command {
+        Command::Measure => measure(alloc, text, writer),
+        Command::Solve => solve(alloc, text, writer),
+        Command::Check => verify(alloc, text, writer),
+    }
+}

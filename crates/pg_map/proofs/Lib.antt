@@ -1,0 +1,10 @@
+pub mod Tables
+pub mod Bests
+pub mod Lifts
+pub mod Above
+pub mod Joins
+pub mod Weights
+pub mod Least
+pub mod GameLines
+pub mod Orderings
+pub mod Passes

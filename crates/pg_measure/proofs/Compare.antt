@@ -1,0 +1,39 @@
+-- What comparing lists tells.
+use Rattle.std.proofs.Common.{◌≡◌, ℕ, ◌<◌, List, [], ◌∷◌, Some, take, refl, ap, sym, ◌∙◌, inl, inr, subst}
+use Rattle.std.specs.declared.cmp.Ordering.{Ordering}
+use Rattle.std.specs.declared.cmp.Ordering.TheVariants.{Less, Equal, Greater}
+use Rattle.std.specs.Ordering.{MatchOrdering, nat_cmp, ordering_then}
+use Rattle.std.specs.Cmp.Lexicographic.{slice_cmp}
+use Rattle.std.proofs.lemmas.Cmp.{ranked}
+use Rattle.pg_measure.specs.Measures.{BoundList, MeasureValue, ListBelow, IsBelow, width_from, measure_from}
+
+cons_tells : (x y : ℕ) (xs ys : List ℕ) (o r : Ordering) → MatchOrdering o (x < y) (x ≡ y) (y < x) → MatchOrdering r (ListBelow xs ys) (xs ≡ ys) (ListBelow ys xs) → MatchOrdering (ordering_then o r) (ListBelow (x ∷ xs) (y ∷ ys)) (x ∷ xs ≡ y ∷ ys) (ListBelow (y ∷ ys) (x ∷ xs))
+cons_tells x y xs ys Less r h k = inl h
+cons_tells x y xs ys Greater r h k = inl h
+cons_tells x y xs ys Equal Less h k = inr (h, k)
+cons_tells x y xs ys Equal Equal h k = cc
+cons_tells x y xs ys Equal Greater h k = inr (sym h, k)
+
+pub slice_cmp_tells : (xs ys : List ℕ) → MatchOrdering (slice_cmp nat_cmp xs ys) (ListBelow xs ys) (xs ≡ ys) (ListBelow ys xs)
+slice_cmp_tells [] [] = refl
+slice_cmp_tells [] (y ∷ ys) = tt
+slice_cmp_tells (x ∷ xs) [] = tt
+slice_cmp_tells (x ∷ xs) (y ∷ ys) = cons_tells x y xs ys (nat_cmp x y) (slice_cmp nat_cmp xs ys) (ranked x y (nat_cmp x y) refl) (slice_cmp_tells xs ys)
+
+tells_some : (xs ys : List ℕ) (r : Ordering) → MatchOrdering r (ListBelow xs ys) (xs ≡ ys) (ListBelow ys xs) → MatchOrdering r (ListBelow xs ys) (Some xs ≡ Some ys) (ListBelow ys xs)
+tells_some xs ys Less h = h
+tells_some xs ys Equal h = ap Some h
+tells_some xs ys Greater h = h
+
+-- the answer of `cmp` on two lists
+pub cmp_tells : (xs ys : List ℕ) (r : Ordering) → r ≡ slice_cmp nat_cmp xs ys → MatchOrdering r (ListBelow xs ys) (Some xs ≡ Some ys) (ListBelow ys xs)
+cmp_tells xs ys r e =
+    tells_some xs ys r (subst (λ (o : Ordering). MatchOrdering o (ListBelow xs ys) (xs ≡ ys) (ListBelow ys xs)) (sym e) (slice_cmp_tells xs ys))
+
+-- and on the components of priorities at least p of two measures
+pub order_tells : (bs : BoundList) (p w : ℕ) (m n : MeasureValue) (xs ys us vs : List ℕ) (r : Ordering) → Some xs ≡ m → Some ys ≡ n → w ≡ width_from bs p → us ≡ take w xs → vs ≡ take w ys → r ≡ slice_cmp nat_cmp us vs → MatchOrdering r (IsBelow (measure_from bs p m) (measure_from bs p n)) (measure_from bs p m ≡ measure_from bs p n) (IsBelow (measure_from bs p n) (measure_from bs p m))
+order_tells bs p w m n xs ys us vs r a b e f g h = rw (← a, ← b, ← e, ← f, ← g) (cmp_tells us vs r h)
+
+-- and on two measures
+pub measures_tell : (m n : MeasureValue) (xs ys : List ℕ) (r : Ordering) → Some xs ≡ m → Some ys ≡ n → r ≡ slice_cmp nat_cmp xs ys → MatchOrdering r (IsBelow m n) (m ≡ n) (IsBelow n m)
+measures_tell m n xs ys r a b h = rw (← a, ← b) (cmp_tells xs ys r h)

@@ -1,0 +1,6 @@
+pub mod Rows
+pub mod Steps
+pub mod Order
+pub mod Widths
+pub mod Compare
+pub mod Counted

@@ -1,0 +1,98 @@
+//! Bounds of the components of measures.
+
+ghost use Rattle.std.specs.Prelude.{◌≡◌, ℕ, ◌<◌, ◌≤◌, ◌^◌, length, IfOk};
+ghost use Rattle.pg_measure.specs.Measures.{AreBounds, width_from};
+ghost use Rattle.pg_measure.specs.Games.{IsBoundsOf};
+ghost use Rattle.pg_measure.specs.Counts.{IsCount};
+ghost use Rattle.pg_arena.specs.Games.{priority};
+
+use crate::row;
+use pg_arena::{Game, Vertex};
+use std::alloc::{AllocError, Global};
+use std::marker::Model;
+
+/// The odd priorities that occur, falling, each with the number of its vertices. Contracts see the list of these pairs.
+#[derive(Drop)]
+pub struct Bounds {
+    pairs: Vec<(u32, u32)>,
+}
+
+impl Model for Bounds {
+    ghost use Rattle.pg_measure.specs.Measures.{BoundList, AreBounds};
+
+    ghost Value = { BoundList };
+
+    ghost view = { λ b. b.pairs.items };
+
+    ghost invariant = { λ b. AreBounds b.pairs.items };
+}
+
+impl Bounds {
+    /// The bounds of a game: exactly its odd priorities, each with the number of its vertices.
+    pub fn of(alloc: Global, game: &Game) -> Result<Bounds, AllocError>
+        ensures { IfOk result (λ b. IsBoundsOf game.now b) }
+    {
+        let counts = priority_counts(alloc, game)?;
+        let mut pairs = Vec::new(alloc);
+        let mut priority = counts.len();
+        while priority > 0 {
+            priority -= 1;
+            let count = counts[priority];
+            if priority % 2 == 1 && count > 0 {
+                pairs.push((priority as u32, count))?;
+            }
+        }
+        Ok(Bounds { pairs })
+    }
+
+    /// The bounds with these pairs of a priority and how many vertices have it. Priorities are odd and fall,
+    /// and each has a vertex.
+    pub fn from_pairs(alloc: Global, pairs: &[(u32, u32)]) -> Result<Bounds, AllocError>
+        requires { AreBounds pairs.now }
+        ensures { IfOk result (λ b. b ≡ pairs.now) }
+    {
+        let mut kept = Vec::new(alloc);
+        kept.extend_from_slice(pairs)?;
+        Ok(Bounds { pairs: kept })
+    }
+
+    /// The pairs of a priority and how many vertices have it: priorities are odd and fall.
+    pub fn pairs(&self) -> &[(u32, u32)]
+        ensures value { result.now ≡ self.now }
+        ensures bounds { AreBounds self.now }
+    {
+        self.pairs.as_slice()
+    }
+
+    /// How many components are of a priority at least `p`.
+    pub fn width_from(&self, p: u32) -> usize
+        ensures value { result ≡ width_from self.now p }
+        ensures within { result ≤ length self.now }
+    {
+        row::width_from(&self.pairs, p)
+    }
+}
+
+/// How many vertices have each priority, up to the greatest.
+fn priority_counts(alloc: Global, game: &Game) -> Result<Vec<u32>, AllocError>
+    ensures counts { IfOk result (λ c. IsCount game.now c.items) }
+    ensures few { IfOk result (λ c. length c.items ≤ 2 ^ 32) }
+{
+    let mut counts = vec![in alloc; 0; greatest_priority(game) as usize + 1]?;
+    for number in 0..game.len() {
+        let priority = game.priority(Vertex(number as u32)) as usize;
+        counts[priority] += 1;
+    }
+    Ok(counts)
+}
+
+/// The greatest priority that occurs.
+fn greatest_priority(game: &Game) -> u32
+    ensures { (v : ℕ) → v < length game.now → priority game.now v ≤ result }
+{
+    let mut greatest = 0;
+    for number in 0..game.len() {
+        greatest = greatest.max(game.priority(Vertex(number as u32)));
+    }
+    greatest
+}

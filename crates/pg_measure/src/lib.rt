@@ -1,0 +1,14 @@
+//! Progress measures: top, or a list with a component for each odd priority that occurs, the greatest first.
+//! They are those of Jurdzinski, "Small Progress Measures for Solving Parity Games", section 3, where the
+//! greatest recurring priority decides.
+#![tactic(auto)]
+
+mod bounds;
+pub mod laws;
+mod measure;
+pub mod row;
+mod view;
+
+pub use bounds::Bounds;
+pub use measure::Measure;
+pub use view::View;

@@ -1,0 +1,142 @@
+//! Measures that own their components.
+
+ghost use Rattle.std.specs.Prelude.{◌≡◌, ◌↔◌, ℕ, List, Some, None, length, option_map, IfOk, IsTrue};
+ghost use Rattle.std.specs.Ordering.{MatchOrdering};
+ghost use Rattle.pg_measure.specs.Measures.{Fits, IsLeastStep, IsBelow, zeros, measure_from, owned, IsOwned};
+ghost use Rattle.pg_measure.specs.Views.{measure_in};
+
+use crate::{Bounds, View, row};
+use std::alloc::{AllocError, Global};
+use std::cmp::Ordering;
+use std::marker::Model;
+
+/// Top, or a list of components. Contracts see the measure as `value`, and as `width` how many components it has room
+/// for, also at top.
+#[derive(Drop)]
+pub struct Measure {
+    row: Vec<u32>,
+}
+
+impl Model for Measure {
+    ghost use Rattle.std.specs.Prelude.{length, ◌<◌, ◌-◌};
+    ghost use Rattle.pg_measure.specs.Measures.{OwnedMeasure, owned};
+    ghost use Rattle.pg_measure.specs.Rows.{measure_of};
+
+    ghost Value = { OwnedMeasure };
+
+    ghost view = { λ m. owned (measure_of m.row.items) (length m.row.items - 1) };
+
+    ghost invariant = { λ m. 0 < length m.row.items };
+}
+
+impl Measure {
+    /// The least measure of the bounds: a zero for each.
+    pub fn zero(alloc: Global, bounds: &Bounds) -> Result<Measure, AllocError>
+        ensures { IfOk result (λ m. m ≡ owned (zeros bounds.now) (length bounds.now)) }
+    {
+        let row = vec![in alloc; 0; bounds.pairs().len() + 1]?;
+        Ok(Measure { row })
+    }
+
+    /// Top, with room for a component for each of the bounds.
+    pub fn top(alloc: Global, bounds: &Bounds) -> Result<Measure, AllocError>
+        ensures { IfOk result (λ m. m ≡ owned None (length bounds.now)) }
+    {
+        let row = vec![in alloc; 1; bounds.pairs().len() + 1]?;
+        Ok(Measure { row })
+    }
+
+    /// The list of these components.
+    pub fn from_list(alloc: Global, list: &[u32]) -> Result<Measure, AllocError>
+        ensures { IfOk result (λ m. m ≡ owned (Some list.now) (length list.now)) }
+    {
+        let mut row = vec![in alloc; 0; 1]?;
+        row.extend_from_slice(list)?;
+        Ok(Measure { row })
+    }
+
+    /// The components, or none for top.
+    pub fn list(&self) -> Option<&[u32]>
+        ensures value { option_map (λ r. r.now) result ≡ self.now.value }
+        ensures width { IsOwned self.now }
+    {
+        if self.row[0] != 0 {
+            None
+        } else {
+            Some(&self.row[1..])
+        }
+    }
+
+    /// The measure, lent.
+    pub fn view(&self) -> View<'_>
+        ensures value { measure_in result ≡ self.now.value }
+        ensures width { IsOwned self.now }
+    {
+        match self.list() {
+            None => View::Top,
+            Some(list) => View::List(list),
+        }
+    }
+
+    /// Sets this measure to one that is lent. A list has to take up the room.
+    pub fn set(&mut self, m: View)
+        requires { (xs : List ℕ) → measure_in m ≡ Some xs → length xs ≡ self.old.width }
+        ensures { self.new ≡ owned (measure_in m.entry) self.old.width }
+    {
+        match m {
+            View::Top => self.row[0] = 1,
+            View::List(list) => {
+                self.row[0] = 0;
+                self.row[1..].copy_from_slice(list);
+            }
+        }
+    }
+
+    /// Whether this is a measure of the bounds: top, or a component for each of them that isn't above it.
+    pub fn fits(&self, bounds: &Bounds) -> bool
+        ensures { IsTrue result ↔ Fits bounds.now self.now.value }
+    {
+        match self.list() {
+            None => true,
+            Some(list) => row::fits(list, bounds.pairs()),
+        }
+    }
+
+    /// How the two compare in lexicographic order. Top is above every list.
+    pub fn order(&self, other: &Measure) -> Ordering
+        ensures { MatchOrdering result (IsBelow self.now.value other.now.value) (self.now.value ≡ other.now.value) (IsBelow other.now.value self.now.value) }
+    {
+        match (self.list(), other.list()) {
+            (None, None) => Ordering::Equal,
+            (None, Some(_)) => Ordering::Greater,
+            (Some(_), None) => Ordering::Less,
+            (Some(a), Some(b)) => a.cmp(b),
+        }
+    }
+
+    /// How the components of priorities at least `p` compare in lexicographic order. Top is above every list.
+    pub fn order_from(&self, other: &Measure, p: u32, bounds: &Bounds) -> Ordering
+        ensures { MatchOrdering result (IsBelow (measure_from bounds.now p self.now.value) (measure_from bounds.now p other.now.value)) (measure_from bounds.now p self.now.value ≡ measure_from bounds.now p other.now.value) (IsBelow (measure_from bounds.now p other.now.value) (measure_from bounds.now p self.now.value)) }
+    {
+        let width = bounds.width_from(p);
+        match (self.list(), other.list()) {
+            (None, None) => Ordering::Equal,
+            (None, Some(_)) => Ordering::Greater,
+            (Some(_), None) => Ordering::Less,
+            (Some(a), Some(b)) => row::first(a, width).cmp(row::first(b, width)),
+        }
+    }
+
+    /// The least measure of the bounds that covers this one at `p`.
+    pub fn least_step(&self, p: u32, bounds: &Bounds) -> Result<Measure, AllocError>
+        requires { Fits bounds.now self.now.value }
+        ensures least { IfOk result (λ m. IsLeastStep bounds.now p self.now.value m.value) }
+        ensures width { IfOk result (λ m. m.width ≡ self.now.width) }
+    {
+        let mut row = self.row.clone()?;
+        if row[0] == 0 {
+            row::step(&mut row, bounds.pairs(), bounds.width_from(p), p % 2 == 1);
+        }
+        Ok(Measure { row })
+    }
+}

@@ -1,0 +1,110 @@
+//! Measures kept in rows of numbers: a mark, 0 for a list and 1 for top, and then the components. The rows of a map
+//! stand in one table, so these functions take slices.
+
+ghost use Rattle.std.specs.Prelude.{◌≡◌, ◌↔◌, ℕ, ◌+◌, ◌<◌, ◌≤◌, length, take, AllPairs, IsTrue, MatchBool};
+ghost use Rattle.pg_measure.specs.Measures.{ListFits, Fits, ListBelow, ListAtMost, CoversFront, width_from, AreBounds};
+ghost use Rattle.pg_measure.specs.Rows.{IsLeastCover, measure_of, cleared, FrontAtMost, MissesFront};
+
+/// How many bounds are of a priority at least `p`.
+pub fn width_from(bounds: &[(u32, u32)], p: u32) -> usize
+    requires { AreBounds bounds.now }
+    ensures value { result ≡ width_from bounds.now p }
+    ensures within { result ≤ length bounds.now }
+{
+    bounds.partition_point(|b| b.0 >= p)
+}
+
+/// The first `width` numbers, or all where there are fewer.
+pub fn first(list: &[u32], width: usize) -> &[u32]
+    ensures { result.now ≡ take width list.now }
+{
+    if width < list.len() {
+        &list[..width]
+    } else {
+        list
+    }
+}
+
+/// Whether a list has a component for each of the bounds, and none above it.
+pub fn fits(list: &[u32], bounds: &[(u32, u32)]) -> bool
+    ensures { IsTrue result ↔ ListFits bounds.now list.now }
+{
+    if list.len() != bounds.len() {
+        return false;
+    }
+    for i in 0..list.len() {
+        if list[i] > bounds[i].1 {
+            return false;
+        }
+    }
+    true
+}
+
+/// Sets every number from `from` on to 0.
+pub fn clear_from(row: &mut [u32], from: usize)
+    requires { from ≤ length row.old }
+    ensures { row.new ≡ cleared from row.old }
+{
+    row[from..].fill(0);
+}
+
+/// Makes the row the least measure of the bounds that covers it in the first `width` components.
+pub fn step(row: &mut [u32], bounds: &[(u32, u32)], width: usize, strict: bool)
+    requires length { length row.old ≡ length bounds.now + 1 }
+    requires width { width ≤ length bounds.now }
+    requires fits { Fits bounds.now (measure_of row.old) }
+    ensures length { length row.new ≡ length row.old }
+    ensures least { IsLeastCover bounds.now strict width (measure_of row.old) (measure_of row.new) }
+{
+    if row[0] != 0 {
+        return;
+    }
+    let mut at = width;
+    if strict {
+        while at > 0 && row[at] >= bounds[at - 1].1 {
+            at -= 1;
+        }
+        row[at] += 1;
+    }
+    clear_from(row, at + 1);
+}
+
+/// Whether the first list is less than the second.
+pub fn is_below(a: &[u32], b: &[u32]) -> bool
+    requires { length a.now ≡ length b.now }
+    ensures { MatchBool result (ListBelow a.now b.now) (ListAtMost b.now a.now) }
+{
+    for i in 0..a.len() {
+        if a[i] != b[i] {
+            return a[i] < b[i];
+        }
+    }
+    false
+}
+
+/// Whether the first row's first `width` components are less than the second's; top is above all.
+pub fn is_front_below(a: &[u32], b: &[u32], width: usize) -> bool
+    requires first { width < length a.now }
+    requires second { width < length b.now }
+    ensures { MatchBool result (FrontAtMost width (measure_of a.now) (measure_of b.now)) (FrontAtMost width (measure_of b.now) (measure_of a.now)) }
+{
+    is_below(&a[..width + 1], &b[..width + 1])
+}
+
+/// Whether the first row covers the second in the first `width` components.
+pub fn covers(a: &[u32], b: &[u32], width: usize, strict: bool) -> bool
+    requires first { width < length a.now }
+    requires second { width < length b.now }
+    ensures { MatchBool result (CoversFront strict width (measure_of a.now) (measure_of b.now)) (MissesFront strict width (measure_of a.now) (measure_of b.now)) }
+{
+    if a[0] != 0 {
+        return true;
+    }
+    let a = &a[..width + 1];
+    let b = &b[..width + 1];
+    if strict {
+        is_below(b, a)
+    } else {
+        !is_below(a, b)
+    }
+}

@@ -1,0 +1,8 @@
+//! Measures that are lent.
+
+/// A measure, lent: top, or a list of components.
+#[derive(Clone, Copy, Debug, PartialEq, Eq)]
+pub enum View<'a> {
+    Top,
+    List(&'a [u32]),
+}

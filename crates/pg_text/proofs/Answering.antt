@@ -1,0 +1,64 @@
+-- The vertices of a game by their identifiers, and what one line says of them.
+use Rattle.std.proofs.Common.{◌≡◌, ◌≢◌, ℕ, ◌<◌, Bool, false, List, length, get_or, Some, Result, Err, sym, ap, subst, ◌∙◌, arith, inl, inr}
+use Rattle.std.specs.Prelude.{Contains}
+use Rattle.std.specs.List.Sorted.{IsStrictlyIncreasing, IsBinarySearchResult}
+use Rattle.std.specs.Ordering.{nat_cmp}
+use Rattle.std.proofs.lemmas.Bool.{cases_lt}
+use Rattle.std.proofs.lemmas.List.{get_or-map, get_or_default, length-map}
+use Rattle.std.proofs.lemmas.List.Kept.{AllPairs-from_increasing}
+use Rattle.std.proofs.lemmas.List.Sorted.{searched}
+use Rattle.std.proofs.lemmas.Map.Keys.{sorted_from_strictly_increasing, non_decreasing_from_sorted}
+use Rattle.pg_arena.specs.Games.{GameVertex, nowhere, identifiers, identifier, successors, IsEdge, IsGame}
+use Rattle.pg_text.specs.declared.solution_line.SolutionLine.{SolutionLine}
+use Rattle.pg_text.specs.SolutionText.{counting_strategy, Fits}
+use Rattle.pg_text.specs.SolutionReading.{is_seen, LeadsNowhere, IsUnfit}
+
+identifier_at : (game : List GameVertex) (v : ℕ) → v < length game → get_or (identifiers game) v 0 ≡ identifier game v
+identifier_at game v within = get_or-map (λ (x : GameVertex). x.identifier) game v nowhere 0 within
+
+identifier_rises : (game : List GameVertex) (v u : ℕ) → IsGame game → u < length game → v < u → identifier game v < identifier game u
+identifier_rises game v u well within lt =
+    let pairs : get_or (identifiers game) v 0 < get_or (identifiers game) u 0 = AllPairs-from_increasing (identifiers game) well.rising v u 0 lt (rw length-map within) in
+    omega (arith, identifier_at game v (omega arith), identifier_at game u within)
+
+-- no two vertices have one identifier
+pub same_vertex : (game : List GameVertex) (v u : ℕ) → IsGame game → v < length game → u < length game → identifier game v ≡ identifier game u → v ≡ u
+same_vertex game v u well v_in u_in e =
+    elim (cases_lt v u) [
+      | inl lt ↦ (let rises = identifier_rises game v u well u_in lt in absurd (omega arith))
+      | inr ge ↦ elim (cases_lt u v) [
+        | inl lt ↦ (let rises = identifier_rises game u v well v_in lt in absurd (omega arith))
+        | inr le ↦ omega arith
+      ]
+    ]
+
+-- what is searched in rising numbers and not found isn't there
+pub not_found : (xs : List ℕ) (x i : ℕ) → IsStrictlyIncreasing xs → (let r : Result ℕ ℕ = Err i in IsBinarySearchResult (λ y. nat_cmp y x) xs r) → ¬ Contains xs x
+not_found xs x i rises h c =
+    let found = searched xs x (Err i) h (λ i j le lt. non_decreasing_from_sorted xs (sorted_from_strictly_increasing xs rises) i j 0 le lt) in
+    let at : get_or xs c.0 0 ≡ x = sym (get_or_default xs c.0 x 0 c.1) ∙ c.2 in
+    elim (cases_lt c.0 i) [
+      | inl low ↦ (let below = found.1 c.0 low in omega arith)
+      | inr high ↦ (let above = found.2 c.0 high c.1 in omega arith)
+    ]
+
+-- the only vertex with an identifier is no successor, so none with that identifier is
+pub no_successor : (game : List GameVertex) (v w i n : ℕ) → IsGame game → w < length game → identifier game w ≡ n → (let r : Result ℕ ℕ = Err i in IsBinarySearchResult (λ y. nat_cmp y w) (successors game v) r)
+    → (u : ℕ) → IsEdge game v u → identifier game u ≢ n
+no_successor game v w i n well within named h = λ u edge e.
+    let same : u ≡ w = same_vertex game u w well (well.in_range v u edge) within (e ∙ sym named) in
+    not_found (successors game v) w i (well.successors_rise v) h (subst (λ (t : ℕ). IsEdge game v t) same edge)
+
+-- a strategy that leads nowhere doesn't fit
+pub unfit : (game : List GameVertex) (line : SolutionLine) (v : ℕ) → IsGame game → v < length game → identifier game v ≡ line.identifier → LeadsNowhere game line v → ¬ Fits game line
+unfit game line v well within named nowhere f =
+    let same : v ≡ f.v = same_vertex game v f.v well within f.within (named ∙ f.named) in
+    let leads = f.leads nowhere.n (subst (λ (t : ℕ). counting_strategy game line t ≡ Some nowhere.n) same nowhere.counts) in
+    nowhere.absent leads.0 (subst (λ (t : ℕ). IsEdge game t leads.0) (sym same) leads.1) leads.2
+
+-- the same, where the vertex isn't marked
+pub unfit_here : (game : List GameVertex) (line : SolutionLine) (v : ℕ) (seen : List Bool) → IsGame game → v < length game → identifier game v ≡ line.identifier → is_seen seen v ≡ false → LeadsNowhere game line v → IsUnfit game line seen
+unfit_here game line v seen well within named unmarked nowhere = record {
+  unfit = unfit game line v well within named nowhere;
+  fresh = λ u u_in e. ap (is_seen seen) (same_vertex game u v well u_in within (sym e ∙ sym named)) ∙ unmarked;
+}

@@ -1,0 +1,83 @@
+-- What a game text is, by tokens.
+use Rattle.std.specs.Prelude.{◌≡◌, ◌≢◌, ◌⊎◌, ℕ, List, [], ◌∷◌, ◌++◌, Option, Some, None, codes, map}
+use Rattle.std.specs.List.{flat_map, AllByRecursion}
+use Rattle.pg_arena.specs.declared.player.Player.{Player}
+use Rattle.pg_arena.specs.declared.player.Player.TheVariants.{Even, Odd}
+use Rattle.pg_arena.specs.Games.{GameVertex}
+use Rattle.pg_arena.specs.declared.fault.ArenaFault.{ArenaFault}
+use Rattle.pg_arena.specs.Lines.{Line, counted, Accepts, IsGameOf, add_fault, FinishFails}
+use Rattle.pg_text.specs.declared.fault.TextFault.{TextFault}
+use Rattle.pg_text.specs.declared.fault.TextFault.TheVariants.{OutOfMemory, Syntax, NumberTooLarge, Arena}
+use Rattle.pg_text.specs.Lexemes.{Lexeme, number, word, semicolon, comma, quoted, end, Spells}
+
+-- Even is player 0, Odd is player 1
+abbrev pub player_number : Player → ℕ
+player_number Even = 0
+player_number Odd = 1
+
+abbrev pub further_lexemes : ℕ → List Lexeme
+further_lexemes n = comma ∷ number n ∷ []
+
+-- numbers with commas between
+abbrev pub successor_lexemes : List ℕ → List Lexeme
+successor_lexemes [] = []
+successor_lexemes (n ∷ ns) = number n ∷ flat_map further_lexemes ns
+
+abbrev pub name_lexemes : Option (List ℕ) → List Lexeme
+name_lexemes None = []
+name_lexemes (Some name) = quoted name ∷ []
+
+-- identifier, priority, owner, successors, perhaps a name, and a semicolon
+abbrev pub line_lexemes : Line → List Lexeme
+line_lexemes line = number line.identifier ∷ number line.priority ∷ number (player_number line.owner) ∷
+    (successor_lexemes line.successors ++ (name_lexemes line.name ++ semicolon ∷ []))
+
+-- a word, a number and a semicolon; or nothing
+abbrev pub clause_lexemes : List ℕ → Option ℕ → List Lexeme
+clause_lexemes name None = []
+clause_lexemes name (Some n) = word name ∷ number n ∷ semicolon ∷ []
+
+-- perhaps a header, perhaps a start, the lines, and what follows them
+abbrev pub game_lexemes : Option ℕ → Option ℕ → List Line → List Lexeme → List Lexeme
+game_lexemes header start lines others = clause_lexemes (codes "parity") header ++ (clause_lexemes (codes "start") start ++ (flat_map line_lexemes lines ++ others))
+
+-- The bytes are a text of these lines, in this order. The numbers of the header and of the start may be any.
+pub record IsText (bytes : List ℕ) (lines : List Line) : Type 0 where
+  pub header : Option ℕ
+  pub start : Option ℕ
+  pub spelt : Spells bytes (game_lexemes header start lines (end ∷ [])) []
+  pub successors : AllByRecursion (λ line. line.successors ≢ []) lines
+
+-- The bytes spell the game: they are a text of lines that keep the limits, and it is the game of these lines, a
+-- repeated successor counted once.
+pub record IsGameText (bytes : List ℕ) (game : List GameVertex) : Type 0 where
+  pub lines : List Line
+  pub text : IsText bytes lines
+  pub limits : Accepts [] lines
+  pub game_of : IsGameOf (map counted lines) game
+
+-- The text begins with these lines, which keep the limits, and then a line that may not follow them.
+pub record HasBadLine (bytes : List ℕ) (fault : ArenaFault) : Type 0 where
+  pub header : Option ℕ
+  pub start : Option ℕ
+  pub lines : List Line
+  pub line : Line
+  pub rest : List ℕ
+  pub spelt : Spells bytes (game_lexemes header start lines (line_lexemes line)) rest
+  pub limits : Accepts [] lines
+  pub refused : add_fault (map counted lines) (counted line) ≡ Some fault
+
+-- The bytes are a text of lines that keep the limits, and no game has these lines.
+pub record HasNoGame (bytes : List ℕ) (fault : ArenaFault) : Type 0 where
+  pub lines : List Line
+  pub text : IsText bytes lines
+  pub limits : Accepts [] lines
+  pub refused : FinishFails (map counted lines) fault
+
+-- why the bytes are refused
+abbrev pub Refuses : List ℕ → TextFault → Type 0
+Refuses bytes OutOfMemory = Unit {0}
+Refuses bytes (Syntax offset) = (lines : List Line) → IsText bytes lines → ⊥
+Refuses bytes (NumberTooLarge offset) = (lines : List Line) → IsText bytes lines → ⊥
+Refuses bytes (Arena fault) = HasBadLine bytes fault ⊎ HasNoGame bytes fault
+Refuses bytes _ = ⊥

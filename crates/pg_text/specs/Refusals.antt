@@ -1,0 +1,20 @@
+-- What the faults of the parts are told as.
+use Rattle.std.specs.Prelude.{ℕ, ◌-◌}
+use Rattle.pg_arena.specs.declared.fault.ArenaFault.{ArenaFault}
+use Rattle.pg_arena.specs.declared.fault.ArenaFault.TheVariants as arena
+use Rattle.pg_text.specs.declared.tokens.TokenFault.TheVariants as tokens
+use Rattle.pg_text.specs.declared.fault.Refusal.{Refusal}
+use Rattle.pg_text.specs.declared.fault.Refusal.TheVariants.{Memory, Token}
+use Rattle.pg_text.specs.declared.fault.TextFault.{TextFault}
+use Rattle.pg_text.specs.declared.fault.TextFault.TheVariants.{OutOfMemory, Syntax, NumberTooLarge, Arena}
+
+-- want of memory below is want of memory
+abbrev pub arena_fault : ArenaFault → TextFault
+arena_fault arena.OutOfMemory = OutOfMemory
+arena_fault fault = Arena fault
+
+-- the fault in a text of this many bytes: an offset is the length less what is left
+abbrev pub fault_of : ℕ → Refusal → TextFault
+fault_of len Memory = OutOfMemory
+fault_of len (Token (tokens.Syntax left)) = Syntax (len - left)
+fault_of len (Token (tokens.NumberTooLarge left)) = NumberTooLarge (len - left)

@@ -1,0 +1,150 @@
+-- What a solution text is, by tokens: its lines, and the solution that the lines give for a game.
+use Rattle.std.specs.Prelude.{◌≡◌, ◌⊎◌, ℕ, ◌-◌, ◌<◌, ◌≤◌, ◌==◌, ◌&&◌, Bool, true, false, List, [], ◌∷◌, ◌++◌, Option, Some, None, length, codes, count_by, is_some, option_map, if◌then◌else◌}
+use Rattle.std.specs.List.{flat_map, list_any, AllByRecursion}
+use Rattle.pg_arena.specs.declared.player.Player.{Player}
+use Rattle.pg_arena.specs.declared.player.Player.TheVariants.{Even, Odd}
+use Rattle.pg_arena.specs.Games.{GameVertex, identifier, owner, IsEdge}
+use Rattle.pg_text.specs.declared.answer.Answer.{Answer}
+use Rattle.pg_text.specs.declared.solution_line.SolutionLine.{SolutionLine}
+use Rattle.pg_text.specs.declared.fault.TextFault.{TextFault}
+use Rattle.pg_text.specs.declared.fault.TextFault.TheVariants.{OutOfMemory, Syntax, NumberTooLarge, NotOfGame, Missing}
+use Rattle.pg_text.specs.Solutions.{winner, choice, IsSolution}
+use Rattle.pg_text.specs.Lexemes.{Lexeme, number, semicolon, end, Spells, after_space}
+use Rattle.pg_text.specs.GameText.{player_number, clause_lexemes}
+
+-- ---- the lines of a text
+
+-- a number, or nothing
+abbrev pub strategy_lexemes : Option ℕ → List Lexeme
+strategy_lexemes None = []
+strategy_lexemes (Some n) = number n ∷ []
+
+-- identifier, winner, perhaps a strategy, and a semicolon
+abbrev pub answer_lexemes : SolutionLine → List Lexeme
+answer_lexemes line = number line.identifier ∷ number (player_number line.winner) ∷ (strategy_lexemes line.strategy ++ semicolon ∷ [])
+
+-- perhaps a header, and then the lines
+abbrev pub solution_lexemes : Option ℕ → List SolutionLine → List Lexeme
+solution_lexemes header lines = clause_lexemes (codes "paritysol") header ++ flat_map answer_lexemes lines
+
+-- The bytes begin with these lines, in this order, and the rest follows. The header's number may be any.
+pub record BeginsWithLines (bytes : List ℕ) (lines : List SolutionLine) (rest : List ℕ) : Type 0 where
+  pub header : Option ℕ
+  pub spelt : Spells bytes (solution_lexemes header lines) rest
+
+-- the bytes are a text of these lines: nothing but white space follows
+pub record AreLines (bytes : List ℕ) (lines : List SolutionLine) : Type 0 where
+  pub rest : List ℕ
+  pub begins : BeginsWithLines bytes lines rest
+  pub ends : Spells rest (end ∷ []) []
+
+-- ---- what the lines say of a game
+
+abbrev pub is_same : Player → Player → Bool
+is_same Even Even = true
+is_same Odd Odd = true
+is_same Even Odd = false
+is_same Odd Even = false
+
+-- whether the player owns the vertex v
+abbrev pub owns : List GameVertex → Player → ℕ → Bool
+owns game player v = is_same player (owner game v)
+
+-- the strategy that counts: one stands on a vertex that the winner owns; another is ignored
+abbrev pub counting_strategy : List GameVertex → SolutionLine → ℕ → Option ℕ
+counting_strategy game line v = if owns game line.winner v then line.strategy else None
+
+-- The line names v, and the solution says at v what the line says: its winner, and the choice of the vertex that the
+-- strategy names, if it counts. Where none counts there is no choice.
+pub record Says (game : List GameVertex) (solution : List Answer) (line : SolutionLine) (v : ℕ) : Type 0 where
+  pub within : v < length game
+  pub named : line.identifier ≡ identifier game v
+  pub won : winner solution v ≡ line.winner
+  pub chosen : option_map (identifier game) (choice solution v) ≡ counting_strategy game line v
+
+-- how many of the lines name v
+abbrev pub line_count : List GameVertex → List SolutionLine → ℕ → ℕ
+line_count game lines v = count_by (λ line. line.identifier == identifier game v) lines
+
+-- The bytes spell the solution for the game: they are lines in any order, of which exactly one names each vertex, and
+-- the solution says what they say.
+pub record IsSolutionText (bytes : List ℕ) (game : List GameVertex) (solution : List Answer) : Type 0 where
+  pub lines : List SolutionLine
+  pub text : AreLines bytes lines
+  pub one_each : (v : ℕ) → v < length game → line_count game lines v ≡ 1
+  pub said : AllByRecursion (λ line. (v : ℕ) × Says game solution line v) lines
+  pub whole : IsSolution game solution
+
+-- ---- why bytes spell no solution
+
+-- the line names a vertex of the game, and if its strategy counts it names a successor of that vertex
+pub record Fits (game : List GameVertex) (line : SolutionLine) : Type 0 where
+  pub v : ℕ
+  pub within : v < length game
+  pub named : line.identifier ≡ identifier game v
+  pub leads : (n : ℕ) → counting_strategy game line v ≡ Some n → (w : ℕ) × IsEdge game v w × (identifier game w ≡ n)
+
+-- lines that a reader takes: each fits, and no two name one vertex
+pub record AreTaken (game : List GameVertex) (lines : List SolutionLine) : Type 0 where
+  pub fitting : AllByRecursion (Fits game) lines
+  pub single : (v : ℕ) → v < length game → line_count game lines v ≤ 1
+
+-- whether one of the lines has this identifier
+abbrev pub has_line : List SolutionLine → ℕ → Bool
+has_line lines n = list_any (λ line. line.identifier == n) lines
+
+-- behind lines that are taken, none of which has the identifier n, stands one with that identifier that doesn't fit
+pub record IsNotOfGame (bytes : List ℕ) (game : List GameVertex) (n : ℕ) : Type 0 where
+  pub before : List SolutionLine
+  pub line : SolutionLine
+  pub rest : List ℕ
+  pub begins : BeginsWithLines bytes (before ++ line ∷ []) rest
+  pub taken : AreTaken game before
+  pub named : line.identifier ≡ n
+  pub new : has_line before n ≡ false
+  pub unfit : ¬ Fits game line
+
+-- the line names v, and has a strategy if its winner owns v
+abbrev pub answers : List GameVertex → ℕ → SolutionLine → Bool
+answers game v line = (line.identifier == identifier game v) && (if owns game line.winner v then is_some line.strategy else true)
+
+-- no line answers for the vertex with the identifier n, and some line for each before it
+pub record IsFirstMissing (bytes : List ℕ) (game : List GameVertex) (n : ℕ) : Type 0 where
+  pub lines : List SolutionLine
+  pub text : AreLines bytes lines
+  pub taken : AreTaken game lines
+  pub v : ℕ
+  pub within : v < length game
+  pub named : identifier game v ≡ n
+  pub missing : list_any (answers game v) lines ≡ false
+  pub first : (u : ℕ) → u < v → list_any (answers game u) lines ≡ true
+
+-- Behind lines that are taken stands, at this offset, one with the identifier of a line before it.
+pub record IsSecond (bytes : List ℕ) (game : List GameVertex) (offset : ℕ) : Type 0 where
+  pub before : List SolutionLine
+  pub here : List ℕ
+  pub begins : BeginsWithLines bytes before here
+  pub taken : AreTaken game before
+  pub line : SolutionLine
+  pub rest : List ℕ
+  pub stands : Spells here (answer_lexemes line) rest
+  pub twice : has_line before line.identifier ≡ true
+  pub place : offset ≡ length bytes - length (after_space here)
+
+-- behind lines that are taken stands neither a line nor the end of the text
+pub record IsNoText (bytes : List ℕ) (game : List GameVertex) : Type 0 where
+  pub before : List SolutionLine
+  pub here : List ℕ
+  pub begins : BeginsWithLines bytes before here
+  pub taken : AreTaken game before
+  pub no_line : (line : SolutionLine) (rest : List ℕ) → ¬ Spells here (answer_lexemes line) rest
+  pub no_end : ¬ Spells here (end ∷ []) []
+
+-- why the bytes are refused
+abbrev pub RefusesSolution : List ℕ → List GameVertex → TextFault → Type 0
+RefusesSolution bytes game OutOfMemory = Unit {0}
+RefusesSolution bytes game (Syntax offset) = IsSecond bytes game offset ⊎ IsNoText bytes game
+RefusesSolution bytes game (NumberTooLarge offset) = IsNoText bytes game
+RefusesSolution bytes game (NotOfGame n) = IsNotOfGame bytes game n
+RefusesSolution bytes game (Missing n) = IsFirstMissing bytes game n
+RefusesSolution bytes game _ = ⊥

@@ -1,0 +1,16 @@
+//! Laws of the definitions: functions that do nothing, whose contracts state them.
+
+ghost use Rattle.pg_text.specs.ReadBack.{GameReadsBack};
+ghost use Rattle.pg_text.specs.SolutionReadBack.{SolutionReadsBack};
+
+/// The text of a game within the limits on vertices, edges and identifiers, whose priorities are at most 65,535 and
+/// whose names hold no quote, spells that game and no other.
+pub fn game_reads_back()
+    ensures { GameReadsBack }
+{}
+
+/// The text of a solution, for a game whose identifiers are within their limit, spells its winners and its choices on
+/// vertices that the winner owns, and no others.
+pub fn solution_reads_back()
+    ensures { SolutionReadsBack }
+{}

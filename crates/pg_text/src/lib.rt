@@ -1,0 +1,27 @@
+//! Texts of games and solutions in the format of PGSolver.
+#![tactic(auto)]
+
+mod answer;
+mod fault;
+mod game;
+pub mod laws;
+mod layout;
+mod line;
+mod solution;
+mod solution_layout;
+mod solution_line;
+#[cfg(test)]
+mod solution_tests;
+mod solution_text;
+pub mod tokens;
+
+pub use answer::Answer;
+pub use fault::TextFault;
+pub use game::read_game;
+pub use layout::write_game;
+pub use solution::Solution;
+pub use solution_layout::write_solution;
+pub use solution_text::read_solution;
+
+#[cfg(test)]
+mod tests;

@@ -1,0 +1,104 @@
+//! Solutions to text.
+
+ghost use Rattle.std.specs.Prelude.{◌≡◌, ℕ, ◌<◌, ◌++◌, length, decimal, codes, OnOk, IfErr, IfSome, option_map};
+ghost use Rattle.std.specs.Io.KnownBytes.{Appends};
+ghost use Rattle.pg_arena.specs.Games.{IsGame, identifier};
+ghost use Rattle.pg_text.specs.GameText.{player_number};
+ghost use Rattle.pg_text.specs.Solutions.{IsSolution};
+ghost use Rattle.pg_text.specs.SolutionLayout.{told_at, printed_line, strategy_text, answer_text, solution_text};
+
+use crate::fault::TextFault;
+use crate::layout::write_number;
+use crate::solution::Solution;
+use crate::solution_text::is_owned;
+use pg_arena::{Game, Player, Vertex};
+use std::io::Write;
+
+/// The winner's number behind a space.
+fn write_winner<W: Write>(winner: Player, out: &mut W) -> Result<(), TextFault>
+    ensures bytes { OnOk result (Appends (W.contents out.old) (W.contents out.new)
+        (codes " " ++ decimal (player_number winner))) }
+    ensures refused { IfErr result (λ fault. fault ≡ TextFault.Write) }
+{
+    match winner {
+        Player::Even => out.write_all(b" 0")?,
+        Player::Odd => out.write_all(b" 1")?,
+    }
+    Ok(())
+}
+
+fn write_strategy<W: Write>(
+    game: &Game,
+    choice: Option<Vertex>,
+    out: &mut W,
+) -> Result<(), TextFault>
+    requires { (w : ℕ) → choice ≡ Some w → w < length game.now }
+    ensures bytes { OnOk result (Appends (W.contents out.old) (W.contents out.new)
+        (strategy_text (option_map (identifier game.now) choice))) }
+    ensures refused { IfErr result (λ fault. fault ≡ TextFault.Write) }
+{
+    if let Some(w) = choice {
+        out.write_all(b" ")?;
+        write_number(game.identifier(w), out)?;
+    }
+    Ok(())
+}
+
+/// The choice at `v`, where the winner owns it.
+fn told_choice(game: &Game, solution: &Solution, v: Vertex) -> Option<Vertex>
+    requires whole { length solution.now ≡ length game.now }
+    requires vertex { v < length game.now }
+    ensures { result ≡ (told_at game.now solution.now v).choice }
+{
+    if is_owned(game, solution.winner(v), v) {
+        solution.choice(v)
+    } else {
+        None
+    }
+}
+
+fn write_answer<W: Write>(
+    game: &Game,
+    solution: &Solution,
+    v: Vertex,
+    out: &mut W,
+) -> Result<(), TextFault>
+    requires game { IsGame game.now }
+    requires solution { IsSolution game.now solution.now }
+    requires vertex { v < length game.now }
+    ensures bytes { OnOk result (Appends (W.contents out.old) (W.contents out.new)
+        (answer_text (printed_line game.now solution.now v))) }
+    ensures refused { IfErr result (λ fault. fault ≡ TextFault.Write) }
+{
+    write_number(game.identifier(v), out)?;
+    write_winner(solution.winner(v), out)?;
+    write_strategy(game, told_choice(game, solution, v), out)?;
+    out.write_all(b";\n")?;
+    Ok(())
+}
+
+/// Writes a solution of the game in the PGSolver format: `paritysol N;` with the greatest identifier, then a line for
+/// each vertex by rising identifier, with single spaces between the fields, the strategy exactly where the winner owns
+/// the vertex, and a newline after each `;`. It makes many small writes: give it a buffered writer.
+///
+/// The only fault is `Write`, where the writer fails; nothing is then known of how much went out.
+pub fn write_solution<W: Write>(
+    game: &Game,
+    solution: &Solution,
+    out: &mut W,
+) -> Result<(), TextFault>
+    // Each vertex that its winner owns has a choice among its successors.
+    requires { IsSolution game.now solution.now }
+    ensures bytes { OnOk result (Appends (W.contents out.old) (W.contents out.new)
+        (solution_text game.now solution.now)) }
+    ensures refused { IfErr result (λ fault. fault ≡ TextFault.Write) }
+{
+    let len = game.len();
+    out.write_all(b"paritysol ")?;
+    write_number(game.identifier(Vertex((len - 1) as u32)), out)?;
+    out.write_all(b";\n")?;
+    for v in 0..len {
+        write_answer(game, solution, Vertex(v as u32), out)?;
+    }
+    Ok(())
+}

@@ -1,0 +1,59 @@
+//! The lines of a solution text.
+
+ghost use Rattle.pg_text.specs.Steps.{Gives};
+ghost use Rattle.pg_text.specs.SolutionScan.{answer_seen, strategy_at, answer_at, next_answer_at};
+
+use crate::fault::{Refusal, unexpected};
+use crate::line::{player, semicolon};
+use crate::tokens::{Token, scan};
+use pg_arena::Player;
+
+/// A line as it stands in the text: who wins at the vertex with this identifier, and the identifier of the vertex to
+/// which the winner goes, where a strategy stands.
+#[derive(Clone, Copy, Debug)]
+pub(crate) struct SolutionLine {
+    pub(crate) identifier: u32,
+    pub(crate) winner: Player,
+    pub(crate) strategy: Option<u32>,
+}
+
+/// The strategy, where one stands, and the semicolon.
+#[tactic(auto, unfolding(crate::specs::SolutionScan::strategy_at))]
+fn strategy(bytes: &[u8]) -> Result<(Option<u32>, &[u8]), Refusal>
+    ensures { Gives (λ x. (x.0, x.1.now)) result (strategy_at bytes.now) }
+{
+    match scan(bytes)? {
+        (Token::Number(value), rest) => Ok((Some(value), semicolon(rest)?)),
+        (Token::Semicolon, rest) => Ok((None, rest)),
+        _ => Err(unexpected(bytes)),
+    }
+}
+
+#[tactic(auto, unfolding(crate::specs::SolutionScan::answer_at))]
+fn answer(identifier: u32, bytes: &[u8]) -> Result<(SolutionLine, &[u8]), Refusal>
+    ensures { Gives (λ x. (x.0, x.1.now)) result (answer_at identifier bytes.now) }
+{
+    let (winner, rest) = player(bytes)?;
+    let (strategy, rest) = strategy(rest)?;
+    let line = SolutionLine {
+        identifier,
+        winner,
+        strategy,
+    };
+    Ok((line, rest))
+}
+
+/// A line, or nothing at the end of the text.
+#[tactic(auto, unfolding(crate::specs::SolutionScan::next_answer_at))]
+pub(crate) fn next_answer(bytes: &[u8]) -> Result<(Option<SolutionLine>, &[u8]), Refusal>
+    ensures { Gives (λ x. (answer_seen x.0, x.1.now)) result (next_answer_at bytes.now) }
+{
+    match scan(bytes)? {
+        (Token::Number(identifier), rest) => {
+            let (line, rest) = answer(identifier, rest)?;
+            Ok((Some(line), rest))
+        }
+        (Token::End, rest) => Ok((None, rest)),
+        _ => Err(unexpected(bytes)),
+    }
+}

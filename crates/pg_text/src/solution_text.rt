@@ -1,0 +1,180 @@
+//! Solutions from text.
+
+ghost use Rattle.std.specs.Prelude.{◌≡◌, ◌≢◌, ℕ, ◌<◌, List, Bool, true, false, length, IfOk, IfErr, OnErr, IfSome, IfNone, MatchResult};
+ghost use Rattle.pg_arena.specs.Games.{identifier, IsEdge, IsGame};
+ghost use Rattle.pg_text.specs.declared.answer.Answer.{Answer};
+ghost use Rattle.pg_text.specs.declared.fault.TextFault.TheVariants.{OutOfMemory};
+ghost use Rattle.pg_text.specs.SolutionText.{owns, IsSolutionText, RefusesSolution};
+ghost use Rattle.pg_text.specs.SolutionReading.{Chooses, LeadsNowhere, Puts, IsMisfit, HasRead, IsRefused, is_complete, misfit_fault};
+
+use crate::fault::TextFault;
+use crate::line::clause;
+use crate::solution::Solution;
+use crate::solution_line::{SolutionLine, next_answer};
+use crate::tokens::left_at;
+use pg_arena::{Game, Player, Vertex};
+use std::alloc::Global;
+
+/// Why a line of a solution can't be taken.
+#[derive(Clone, Copy, Debug)]
+pub(crate) enum Misfit {
+    /// It names no vertex of the game, or a strategy that counts and is no successor.
+    NotOfGame,
+    /// A line before it names the same vertex.
+    Repeated,
+}
+
+impl Misfit {
+    /// The fault of a line with this identifier, which stands at this offset.
+    fn of_line(self, identifier: u32, offset: usize) -> TextFault
+        ensures { result ≡ misfit_fault self identifier offset }
+    {
+        match self {
+            Misfit::NotOfGame => TextFault::NotOfGame(identifier),
+            Misfit::Repeated => TextFault::Syntax(offset),
+        }
+    }
+}
+
+/// Whether the player owns `v`.
+pub(crate) fn is_owned(game: &Game, player: Player, v: Vertex) -> bool
+    requires { v < length game.now }
+    ensures { result ≡ owns game.now player v }
+{
+    game.owner(v) == player
+}
+
+/// The successor of `v` with this identifier.
+fn successor(game: &Game, v: Vertex, wanted: u32) -> Option<Vertex>
+    requires game { IsGame game.now }
+    requires within { v < length game.now }
+    ensures found { IfSome result (λ w. IsEdge game.now v w × (identifier game.now w ≡ wanted)) }
+    ensures absent { IfNone result ((w : ℕ) → IsEdge game.now v w → identifier game.now w ≢ wanted) }
+{
+    let w = game.vertex_of(wanted)?;
+    match game.successors(v).binary_search(&w) {
+        Ok(_) => Some(w),
+        Err(_) => None,
+    }
+}
+
+/// The choice at `v` that the line names.
+fn choice_of(game: &Game, line: SolutionLine, v: Vertex) -> Option<Option<Vertex>>
+    requires game { IsGame game.now }
+    requires within { v < length game.now }
+    ensures named { IfSome result (Chooses game.now line v) }
+    ensures none { IfNone result (LeadsNowhere game.now line v) }
+{
+    match line.strategy {
+        Some(wanted) if is_owned(game, line.winner, v) => match successor(game, v, wanted) {
+            Some(w) => Some(Some(w)),
+            None => None,
+        },
+        _ => Some(None),
+    }
+}
+
+/// Puts what the line says into the solution, and marks its vertex.
+fn take_line(
+    game: &Game,
+    line: SolutionLine,
+    solution: &mut Solution,
+    seen: &mut [bool],
+) -> Result<(), Misfit>
+    requires game { IsGame game.now }
+    requires whole { length solution.old ≡ length game.now }
+    requires marks { length seen.old ≡ length game.now }
+    ensures ok { IfOk result (λ _. Puts game.now line solution.old seen.old solution.new seen.new) }
+    ensures err { IfErr result (IsMisfit game.now line seen.old) }
+{
+    let Some(v) = game.vertex_of(line.identifier) else {
+        return Err(Misfit::NotOfGame);
+    };
+    if seen[v.0 as usize] {
+        return Err(Misfit::Repeated);
+    }
+    let Some(choice) = choice_of(game, line, v) else {
+        return Err(Misfit::NotOfGame);
+    };
+    seen[v.0 as usize] = true;
+    solution.set(v, line.winner, choice);
+    Ok(())
+}
+
+fn is_answered(game: &Game, solution: &Solution, seen: &[bool], v: Vertex) -> bool
+    requires within { v < length game.now }
+    requires whole { length solution.now ≡ length game.now }
+    requires marks { length seen.now ≡ length game.now }
+    ensures { result ≡ is_complete game.now solution.now seen.now v }
+{
+    seen[v.0 as usize] && (!is_owned(game, solution.winner(v), v) || solution.choice(v).is_some())
+}
+
+/// The first vertex without a line, or without a choice where its winner owns it.
+fn first_missing(game: &Game, solution: &Solution, seen: &[bool]) -> Option<Vertex>
+    requires whole { length solution.now ≡ length game.now }
+    requires marks { length seen.now ≡ length game.now }
+    ensures within { IfSome result (λ v. v < length game.now) }
+    ensures missing { IfSome result (λ v. is_complete game.now solution.now seen.now v ≡ false) }
+    ensures first { IfSome result (λ v. (u : ℕ) → u < v → is_complete game.now solution.now seen.now u ≡ true) }
+    ensures none { IfNone result ((u : ℕ) → u < length game.now → is_complete game.now solution.now seen.now u ≡ true) }
+{
+    for i in 0..game.len() {
+        let v = Vertex(i as u32);
+        if !is_answered(game, solution, seen, v) {
+            return Some(v);
+        }
+    }
+    None
+}
+
+/// What the lines of the text say, and a mark for each vertex that one of them names.
+fn read_lines(alloc: Global, game: &Game, bytes: &[u8]) -> Result<(Solution, Vec<bool>), TextFault>
+    requires { IsGame game.now }
+    ensures read { IfOk result (λ x. HasRead bytes.now game.now x.0 x.1.items) }
+    ensures refused { IfErr result (IsRefused bytes.now game.now) }
+{
+    let mut solution = Solution::new(alloc, game)?;
+    let mut seen = vec![in alloc; false; game.len()]?;
+    let mut rest = match clause(b"paritysol", bytes) {
+        Ok(rest) => rest,
+        Err(refusal) => return Err(refusal.in_text(bytes.len())),
+    };
+    'lines: loop {
+        match next_answer(rest) {
+            Ok((Some(line), after)) => {
+                if let Err(misfit) = take_line(game, line, &mut solution, &mut seen) {
+                    let offset = bytes.len().saturating_sub(left_at(rest));
+                    return Err(misfit.of_line(line.identifier, offset));
+                }
+                rest = after;
+            }
+            Ok((None, _)) => return Ok((solution, seen)),
+            Err(refusal) => return Err(refusal.in_text(bytes.len())),
+        }
+    }
+}
+
+/// The solution that the bytes spell for the game in the PGSolver format: perhaps `paritysol N;`, and then, in any
+/// order, for each vertex one line of its identifier, its winner (0 is Even, 1 is Odd), perhaps the identifier of the
+/// successor that the winner chooses, and a `;`. The number of the header is read and not used. A strategy must stand
+/// where the winner owns the vertex; elsewhere it is read and not used, and the solution has no choice there.
+///
+/// Refused are, from left to right, `Syntax` and `NumberTooLarge` at the token at fault, and with the `;` of a line
+/// `NotOfGame` where no vertex has its identifier, `Syntax` at the identifier where a line before has it too, and
+/// `NotOfGame` where the winner owns the vertex and the strategy is no successor; at the end `Missing` with the least
+/// identifier of a vertex that has no line, or no strategy where its winner owns it.
+pub fn read_solution(alloc: Global, game: &Game, bytes: &[u8]) -> Result<Solution, TextFault>
+    ensures found { IfOk result (IsSolutionText bytes.now game.now) }
+    // Bytes that spell a solution are read, unless memory runs out, and they spell no other.
+    ensures only { (solution : List Answer) → IsSolutionText bytes.now game.now solution
+        → MatchResult result (λ found. found ≡ solution) (λ fault. fault ≡ TextFault.OutOfMemory) }
+    ensures refused { IfErr result (RefusesSolution bytes.now game.now) }
+{
+    let _vertices = game.len();
+    let (solution, seen) = read_lines(alloc, game, bytes)?;
+    match first_missing(game, &solution, &seen) {
+        Some(v) => Err(TextFault::Missing(game.identifier(v))),
+        None => Ok(solution),
+    }
+}

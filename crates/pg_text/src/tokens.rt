@@ -1,0 +1,181 @@
+//! The tokens of the PGSolver format, read one at a time: numbers, words, `;`, `,`, strings and the end.
+//!
+//! A token is a longest one. White space, the bytes 9 to 13 and 32, may stand between any two tokens, before the
+//! first and behind the last, and must stand only between two numbers or two words.
+
+ghost use Rattle.std.specs.Prelude.{◌≡◌, ◌<◌, ◌+◌, List, ℕ, length, option_map, IfOk, IfErr, IsOkAnd};
+ghost use Rattle.std.specs.Result.{result_ok};
+ghost use Rattle.std.specs.List.{prefix_len};
+ghost use Rattle.pg_text.specs.Lexemes.{Lexeme, lexeme, is_space, is_digit, is_letter, is_plain, Begins, after_space, fault_at, token_fault};
+ghost use Rattle.pg_text.specs.Scan.{number_at, word_at, quoted_at, solid_at, token_at};
+
+/// A token, which borrows the text.
+#[derive(Clone, Copy, Debug)]
+pub enum Token<'a> {
+    /// The value of a run of decimal digits; leading zeros are allowed.
+    Number(u32),
+    /// A run of letters from `a` to `z`.
+    Word(&'a [u8]),
+    /// The byte `;`.
+    Semicolon,
+    /// The byte `,`.
+    Comma,
+    /// The bytes between two quotes: any but a quote.
+    Quoted(&'a [u8]),
+    /// Nothing but white space is left.
+    End,
+}
+
+/// Why no token can be read. The number says how many bytes are left from the first byte of the token at fault on,
+/// so that its offset is the length of the text less this number.
+#[derive(Clone, Copy, Debug, PartialEq, Eq)]
+pub enum TokenFault {
+    /// No token begins with this byte, or it is the first quote of a string without its second.
+    Syntax(usize),
+    /// The digits write a number over 4,294,967,295.
+    NumberTooLarge(usize),
+}
+
+fn is_space(byte: u8) -> bool
+    ensures { result ≡ is_space byte }
+{
+    (9 <= byte && byte <= 13) || byte == b' '
+}
+
+fn is_digit(byte: u8) -> bool
+    ensures { result ≡ is_digit byte }
+{
+    b'0' <= byte && byte <= b'9'
+}
+
+fn is_letter(byte: u8) -> bool
+    ensures { result ≡ is_letter byte }
+{
+    b'a' <= byte && byte <= b'z'
+}
+
+fn spaces(bytes: &[u8]) -> usize
+    ensures { result ≡ prefix_len is_space bytes.now }
+{
+    bytes.iter().take_while(|byte| is_space(**byte)).count()
+}
+
+fn letters(bytes: &[u8]) -> usize
+    ensures { result ≡ prefix_len is_letter bytes.now }
+{
+    bytes.iter().take_while(|byte| is_letter(**byte)).count()
+}
+
+fn plain(bytes: &[u8]) -> usize
+    ensures { result ≡ prefix_len is_plain bytes.now }
+{
+    bytes.iter().take_while(|byte| **byte != b'"').count()
+}
+
+/// The number whose digits stand in front.
+#[tactic(auto, unfolding(crate::specs::Scan::number_at))]
+fn number(bytes: &[u8]) -> Result<(Token<'_>, &[u8]), TokenFault>
+    ensures token { option_map (λ x. (lexeme x.0, x.1.now)) (result_ok result) ≡ number_at bytes.now }
+    ensures fault { IfErr result (λ e. e ≡ TokenFault.NumberTooLarge (length bytes.now)) }
+{
+    let mut value = 0;
+    let mut rest = bytes;
+    'digits: loop {
+        match rest {
+            [first, after @ ..] if is_digit(*first) => {
+                value = 10 * value + u64::from(first.saturating_sub(b'0'));
+                if value > u64::from(u32::MAX) {
+                    return Err(TokenFault::NumberTooLarge(bytes.len()));
+                }
+                rest = after;
+            }
+            _ => return Ok((Token::Number(value as u32), rest)),
+        }
+    }
+}
+
+#[tactic(auto, using(crate::proofs::Runs::run_within), unfolding(crate::specs::Scan::word_at))]
+fn word(bytes: &[u8]) -> (Token<'_>, &[u8])
+    ensures { Some (lexeme result.0, result.1.now) ≡ word_at bytes.now }
+{
+    let (word, rest) = bytes.split_at(letters(bytes));
+    (Token::Word(word), rest)
+}
+
+/// The string whose first quote stands in front of `bytes`.
+#[tactic(auto, using(crate::proofs::Runs::run_within), unfolding(crate::specs::Scan::quoted_at))]
+fn quoted(bytes: &[u8]) -> Option<(Token<'_>, &[u8])>
+    ensures { option_map (λ x. (lexeme x.0, x.1.now)) result ≡ quoted_at bytes.now }
+{
+    let len = plain(bytes);
+    if len < bytes.len() {
+        Some((Token::Quoted(&bytes[..len]), &bytes[len + 1..]))
+    } else {
+        None
+    }
+}
+
+/// The token at the very front.
+#[tactic(auto, unfolding(crate::specs::Scan::solid_at))]
+fn solid(bytes: &[u8]) -> Result<(Token<'_>, &[u8]), TokenFault>
+    ensures token { option_map (λ x. (lexeme x.0, x.1.now)) (result_ok result) ≡ solid_at bytes.now }
+    ensures fault { IfErr result (λ e. e ≡ fault_at bytes.now) }
+{
+    match bytes {
+        [] => Ok((Token::End, bytes)),
+        [first, rest @ ..] => {
+            if is_digit(*first) {
+                number(bytes)
+            } else if is_letter(*first) {
+                Ok(word(bytes))
+            } else if *first == b';' {
+                Ok((Token::Semicolon, rest))
+            } else if *first == b',' {
+                Ok((Token::Comma, rest))
+            } else if *first == b'"' {
+                quoted(rest).ok_or(TokenFault::Syntax(bytes.len()))
+            } else {
+                Err(TokenFault::Syntax(bytes.len()))
+            }
+        }
+    }
+}
+
+/// Behind the white space in front.
+#[tactic(auto, using(crate::proofs::Runs::run_within))]
+fn after_space(bytes: &[u8]) -> &[u8]
+    ensures { result.now ≡ after_space bytes.now }
+{
+    &bytes[spaces(bytes)..]
+}
+
+/// The token in front, behind white space, and the bytes after it: `next_token` for the readers of this crate.
+#[tactic(auto, unfolding(crate::specs::Scan::token_at))]
+pub(crate) fn scan(bytes: &[u8]) -> Result<(Token<'_>, &[u8]), TokenFault>
+    ensures token { option_map (λ x. (lexeme x.0, x.1.now)) (result_ok result) ≡ token_at bytes.now }
+    ensures fault { IfErr result (λ e. e ≡ token_fault bytes.now) }
+{
+    solid(after_space(bytes))
+}
+
+/// The next token of a text, and the bytes after it. White space in front is skipped. At the end of the text the
+/// token is `End`.
+///
+/// Where a number over 4,294,967,295 stands the fault is `NumberTooLarge`; where another byte stands with which no
+/// token begins, or a string without its second quote, it is `Syntax`.
+pub fn next_token(bytes: &[u8]) -> Result<(Token<'_>, &[u8]), TokenFault>
+    ensures spelt { IfOk result (λ x. Begins bytes.now (lexeme x.0) x.1.now) }
+    // No other token begins there, and where one begins it is read.
+    ensures only { (token : Lexeme) (rest : List ℕ) → Begins bytes.now token rest
+        → IsOkAnd result (λ x. (lexeme x.0 ≡ token) × (x.1.now ≡ rest)) }
+    ensures fault { IfErr result (λ e. e ≡ token_fault bytes.now) }
+{
+    scan(bytes)
+}
+
+/// How many bytes are left from the next token on: the length of the text less its offset.
+pub fn left_at(bytes: &[u8]) -> usize
+    ensures { result ≡ length (after_space bytes.now) }
+{
+    after_space(bytes).len()
+}

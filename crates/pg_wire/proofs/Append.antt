@@ -1,0 +1,67 @@
+-- Bytes that are appended one after the other.
+use Rattle.std.proofs.Common.{◌≡◌, ℕ, ◌+◌, ◌<◌, ◌≤◌, List, [], ◌∷◌, ◌++◌, length, take, get_or, refl, sym, ap, ◌∙◌, Option, Some, None, append_assoc, arith}
+use Rattle.std.specs.List.{flat_map}
+use Rattle.std.specs.Prelude.{Result, Ok, Err, OnOk}
+use Rattle.std.proofs.lemmas.List.{append-nil, take_more, length-append}
+use Rattle.std.proofs.lemmas.List.Concat.{flat_map-cons}
+use Rattle.std.proofs.lemmas.List.Folds.{length-flat_map-take}
+use Rattle.std.proofs.lemmas.Grind.{flat_map-append}
+use Rattle.std.specs.Io.KnownBytes.{Appends}
+use Rattle.byteorder.specs.Endian.{big_bytes}
+use Rattle.pg_wire.specs.Spelling.{word}
+use Rattle.pg_wire.specs.Reading.{HasBytes}
+
+pub word_is : (n : ℕ) → big_bytes 4 n ≡ word n
+word_is n = refl
+
+pub then : (a b c : Option (List ℕ)) (x y : List ℕ) → Appends a b x → Appends b c y → Appends a c (x ++ y)
+then None b c x y p q = tt
+then (Some xs) None c x y p q = absurd p
+then (Some xs) (Some ys) None x y p q = absurd q
+then (Some xs) (Some ys) (Some zs) x y p q = q ∙ ap (λ (t : List ℕ). t ++ y) p ∙ append_assoc xs x y
+
+pub nothing : (a : Option (List ℕ)) → Appends a a []
+nothing None = tt
+nothing (Some xs) = sym (append-nil xs)
+
+-- one item more
+pub one_more : {T : Type 0} (spelled : T → List ℕ) (items : List T) (i : ℕ) (item : T) (a b c : Option (List ℕ)) → i < length items → item ≡ get_or items i item
+    → Appends a b (flat_map spelled (take i items)) → Appends b c (spelled item) → Appends a c (flat_map spelled (take (i + 1) items))
+one_more {T} spelled items i item a b c lt e p q =
+    let parts : take (i + 1) items ≡ take i items ++ item ∷ [] = take_more items i item lt ∙ ap (λ (t : T). take i items ++ t ∷ []) (sym e) in
+    let spelt : flat_map spelled (take (i + 1) items) ≡ flat_map spelled (take i items) ++ spelled item = ap (flat_map spelled) parts ∙ flat_map-append spelled (take i items) (item ∷ []) ∙ ap (λ (t : List ℕ). flat_map spelled (take i items) ++ t) (flat_map-cons spelled item [] ∙ append-nil (spelled item)) in
+    rw spelt (then a b c (flat_map spelled (take i items)) (spelled item) p q)
+
+-- room for one item more
+pub one_fits : {T : Type 0} (spelled : T → List ℕ) (items : List T) (i : ℕ) (item : T) (left left' room : ℕ) → i < length items → item ≡ get_or items i item
+    → left + length (flat_map spelled (take i items)) ≡ room → left' + length (spelled item) ≡ left → left' + length (flat_map spelled (take (i + 1) items)) ≡ room
+one_fits {T} spelled items i item left left' room lt e p q =
+    let parts : take (i + 1) items ≡ take i items ++ item ∷ [] = take_more items i item lt ∙ ap (λ (t : T). take i items ++ t ∷ []) (sym e) in
+    let spelt : flat_map spelled (take (i + 1) items) ≡ flat_map spelled (take i items) ++ spelled item = ap (flat_map spelled) parts ∙ flat_map-append spelled (take i items) (item ∷ []) ∙ ap (λ (t : List ℕ). flat_map spelled (take i items) ++ t) (flat_map-cons spelled item [] ∙ append-nil (spelled item)) in
+    rw spelt (omega (arith, length-append (flat_map spelled (take i items)) (spelled item)))
+
+pub none_fits : {T : Type 0} (spelled : T → List ℕ) (items : List T) (i : ℕ) (item : T) (left room : ℕ) → i < length items → item ≡ get_or items i item
+    → left + length (flat_map spelled (take i items)) ≡ room → left < length (spelled item) → room < length (flat_map spelled items)
+none_fits {T} spelled items i item left room lt e p q =
+    let all = length-flat_map-take spelled items i item lt in
+    let same : length (spelled (get_or items i item)) ≡ length (spelled item) = ap (λ (t : T). length (spelled t)) (sym e) in
+    omega arith
+
+has_length : (bytes : List ℕ) → HasBytes bytes → 0 < length bytes
+has_length [] h = absurd h
+has_length (b ∷ bytes) h = omega arith
+
+-- no more items than bytes
+pub few : {T : Type 0} (spelled : T → List ℕ) (xs : List T) → ((x : T) → HasBytes (spelled x)) → length xs ≤ length (flat_map spelled xs)
+few spelled [] some = omega arith
+few spelled (x ∷ xs) some = omega (arith, has_length (spelled x) (some x), few spelled xs some, ap length (flat_map-cons spelled x xs), length-append (spelled x) (flat_map spelled xs))
+
+pub one_of : {T : Type 0} (spelled : T → List ℕ) (items : List T) (i : ℕ) (item : T) (most : ℕ) → i < length items → item ≡ get_or items i item → length (flat_map spelled items) < most → length (spelled item) < most
+one_of {T} spelled items i item most lt e p =
+    let all = length-flat_map-take spelled items i item lt in
+    let same : length (spelled (get_or items i item)) ≡ length (spelled item) = ap (λ (t : T). length (spelled t)) (sym e) in
+    omega arith
+
+pub then_ok : {R E : Type 0} (r : Result R E) (a b c : Option (List ℕ)) (x y : List ℕ) → Appends a b x → OnOk r (Appends b c y) → OnOk r (Appends a c (x ++ y))
+then_ok (Ok v) a b c x y p q = then a b c x y p q
+then_ok (Err e) a b c x y p q = tt

@@ -1,0 +1,216 @@
+-- Bytes that were read one after the other, and what reading a frame answers by them.
+use Rattle.std.proofs.Common.{◌≡◌, ℕ, ◌+◌, ◌<◌, ◌≤◌, ◌⊎◌, List, [], ◌++◌, length, take, drop, refl, sym, ap, subst, ◌∙◌, Option, Some, None, IfSome, Result, Ok, Err, append_assoc, arith, inl, inr}
+use Rattle.std.proofs.lemmas.List.{length-append, length-take, take_at, drop_at, take_all, take-append-le}
+use Rattle.std.proofs.Math.Seq.{take-append-add}
+use Rattle.std.specs.Int.{w32, from_be_bytes}
+use Rattle.std.specs.Io.KnownBytes.{Consumes, IsAtEnd}
+use Rattle.pg_wire.specs.declared.fault.WireFault.{WireFault}
+use Rattle.pg_wire.specs.declared.fault.WireFault.TheVariants.{TooLong, Truncated, OutOfMemory, BadKind, BadField, Read, Write, Version}
+use Rattle.pg_wire.specs.declared.frame.Frame.{Frame}
+use Rattle.pg_wire.specs.Spelling.{word, body, spelling, longest}
+use Rattle.pg_wire.specs.Well.{IsWell}
+use Rattle.pg_wire.specs.Bytes.{Spells, IsReadFrom, length_field}
+use Rattle.pg_wire.proofs.Grammar.{IsBytes}
+use Rattle.pg_wire.proofs.Bodies.{whole_found, length_is, same_body}
+
+pub consumes_then : (a b c : Option (List ℕ)) (x y : List ℕ) → Consumes a b x → Consumes b c y → Consumes a c (x ++ y)
+consumes_then None b c x y p q = tt
+consumes_then (Some xs) None c x y p q = absurd p
+consumes_then (Some xs) (Some ys) None x y p q = absurd q
+consumes_then (Some xs) (Some ys) (Some zs) x y p q = p ∙ ap (λ (t : List ℕ). x ++ t) q ∙ sym (append_assoc x y zs)
+
+-- a buffer in whose middle bytes were put
+pub filled_more : (xs ys after : List ℕ) (a n : ℕ) → a ≤ length xs → n ≤ length ys → take (a + n) (take a xs ++ (ys ++ after)) ≡ take a xs ++ take n ys
+filled_more xs ys after a n le within =
+    let len : length (take a xs) ≡ a = omega (arith, length-take a xs) in
+    subst (λ (k : ℕ). take (k + n) (take a xs ++ (ys ++ after)) ≡ take a xs ++ take n ys) len (take-append-add (take a xs) (ys ++ after) n ∙ ap (λ (t : List ℕ). take a xs ++ t) (take-append-le n ys after within))
+
+pub filled_within : (xs ys after : List ℕ) (a n : ℕ) → a ≤ length xs → n ≤ length ys → a + n ≤ length (take a xs ++ (ys ++ after))
+filled_within xs ys after a n le within = omega (arith, length-append (take a xs) (ys ++ after), length-append ys after, length-take a xs)
+
+-- a buffer that was filled
+pub filled_all : (a b : Option (List ℕ)) (buffer : List ℕ) (n size : ℕ) → length buffer ≡ size → size ≤ n → n ≤ length buffer → Consumes a b (take n buffer) → Consumes a b buffer
+filled_all a b buffer n size len le within p =
+    let n_is : n ≡ length buffer = omega arith in
+    let P : List ℕ → Type 0 = λ t. Consumes a b t in
+    subst P (ap (λ (k : ℕ). take k buffer) n_is ∙ take_all (length buffer) buffer (omega arith)) p
+
+-- fewer bytes were left than were asked for
+pub fell_short : (a b c : Option (List ℕ)) (bytes more : List ℕ) (len : ℕ) → Consumes a b bytes → Consumes b c more → IsAtEnd c → length bytes + length more < len → IfSome a (λ xs. length xs < len)
+fell_short None b c bytes more len p q e lt = tt
+fell_short (Some xs) None c bytes more len p q e lt = absurd p
+fell_short (Some xs) (Some ys) None bytes more len p q e lt = absurd q
+fell_short (Some xs) (Some ys) (Some zs) bytes more len p q e lt = omega (arith, ap length p, ap length q, ap length e, length-append bytes ys, length-append more zs)
+
+-- ---- what is answered
+
+no_end : (front rest : List ℕ) → length front ≡ 4 → (front ++ rest) ≡ [] → ⊥
+no_end front rest len e = absurd (omega (arith, ap length e, length-append front rest))
+
+spelled_front : (front rest more : List ℕ) (f : Frame) → length front ≡ 4 → length (body f) ≤ longest → (front ++ rest) ≡ spelling f ++ more → (from_be_bytes w32 front ≡ length (body f)) × (rest ≡ body f ++ more)
+spelled_front front rest more f len within e =
+    let joined : front ++ rest ≡ word (length (body f)) ++ (body f ++ more) = e ∙ append_assoc (word (length (body f))) (body f) more in
+    let first : front ≡ word (length (body f)) = sym (take_at front rest 4 len) ∙ ap (take 4) joined ∙ take_at (word (length (body f))) (body f ++ more) 4 refl in
+    (ap (from_be_bytes w32) first ∙ length_is f within, sym (drop_at front rest 4 len) ∙ ap (drop 4) joined ∙ drop_at (word (length (body f))) (body f ++ more) 4 refl)
+
+field_is : (front rest : List ℕ) → length front ≡ 4 → length_field (front ++ rest) ≡ from_be_bytes w32 front
+field_is front rest len = ap (from_be_bytes w32) (take_at front rest 4 len)
+
+abbrev Answer : Type 0
+Answer = Result (Option Frame) WireFault
+
+none_is : IsReadFrom [] (Ok None)
+none_is = record {
+  ended = (λ e. refl, λ e. refl);
+  too_long = (λ t. absurd (omega (arith, t.whole)), λ e. absurd cc);
+  truncated = (λ t. absurd (t.0 refl), λ e. absurd cc);
+  frame = λ f rest s e. absurd cc;
+}
+
+pub ended : (a b : Option (List ℕ)) (bytes : List ℕ) → Consumes a b bytes → bytes ≡ [] → IsAtEnd b → IfSome a (λ xs. IsReadFrom xs (Ok None))
+ended None b bytes p none e = tt
+ended (Some xs) None bytes p none e = absurd p
+ended (Some xs) (Some ys) bytes p none e =
+    let P : List ℕ → Type 0 = λ zs. IsReadFrom zs (Ok None) in
+    subst P (sym (p ∙ ap (λ (t : List ℕ). t ++ ys) none ∙ e)) none_is
+
+cut_is : (xs : List ℕ) → 0 < length xs → length xs < 4 → IsReadFrom xs (Err Truncated)
+cut_is xs some lt = record {
+  ended = (λ e. absurd (omega (arith, ap length e)), λ e. absurd cc);
+  too_long = (λ t. absurd (omega (arith, t.whole)), λ e. absurd cc);
+  truncated = (λ t. refl, λ e. (λ none. absurd (omega (arith, ap length none)), inl lt));
+  frame = λ f rest s e. absurd (omega (arith, ap length e, length-append (spelling f) rest, length-append (word (length (body f))) (body f)));
+}
+
+pub cut : (a b : Option (List ℕ)) (bytes : List ℕ) → Consumes a b bytes → 0 < length bytes → length bytes < 4 → IsAtEnd b → IfSome a (λ xs. IsReadFrom xs (Err Truncated))
+cut None b bytes p some lt e = tt
+cut (Some xs) None bytes p some lt e = absurd p
+cut (Some xs) (Some ys) bytes p some lt e =
+    let n : length xs ≡ length bytes = omega (arith, ap length p, ap length e, length-append bytes ys) in
+    cut_is xs (omega arith) (omega arith)
+
+long_is : (front rest : List ℕ) → length front ≡ 4 → longest < from_be_bytes w32 front → IsReadFrom (front ++ rest) (Err TooLong)
+long_is front rest len over =
+    let field = field_is front rest len in
+    let whole : 4 ≤ length (front ++ rest) = omega (arith, length-append front rest) in
+    record {
+      ended = (λ e. absurd (no_end front rest len e), λ e. absurd cc);
+      too_long = (λ t. refl, λ e. record { whole = whole; over = rw field over });
+      truncated = (λ t. elim t.1 [ inl lt ↦ absurd (omega arith) | inr k ↦ absurd (omega (arith, k.within, field)) ], λ e. absurd cc);
+      frame = λ f more s e. absurd (omega (arith, s.within, (spelled_front front rest more f len s.within e).0));
+    }
+
+pub long : (a b : Option (List ℕ)) (front : List ℕ) → Consumes a b front → length front ≡ 4 → longest < from_be_bytes w32 front → IfSome a (λ xs. IsReadFrom xs (Err TooLong))
+long None b front p len over = tt
+long (Some xs) None front p len over = absurd p
+long (Some xs) (Some ys) front p len over =
+    let P : List ℕ → Type 0 = λ zs. IsReadFrom zs (Err TooLong) in
+    subst P (sym p) (long_is front ys len over)
+
+short_is : (front rest : List ℕ) → length front ≡ 4 → from_be_bytes w32 front ≤ longest → length rest < from_be_bytes w32 front → IsReadFrom (front ++ rest) (Err Truncated)
+short_is front rest len within fewer =
+    let field = field_is front rest len in
+    let all = length-append front rest in
+    record {
+      ended = (λ e. absurd (no_end front rest len e), λ e. absurd cc);
+      too_long = (λ t. absurd (omega (arith, t.over, field)), λ e. absurd cc);
+      truncated = (λ t. refl, λ e. (no_end front rest len, inr (record { some = omega arith; within = omega arith; fewer = omega arith })));
+      frame = λ f more s e. let k = spelled_front front rest more f len s.within e in absurd (omega (arith, k.0, ap length k.1, length-append (body f) more));
+    }
+
+pub short : (a b : Option (List ℕ)) (front : List ℕ) → Consumes a b front → length front ≡ 4 → from_be_bytes w32 front ≤ longest → IfSome b (λ ys. length ys < from_be_bytes w32 front) → IfSome a (λ xs. IsReadFrom xs (Err Truncated))
+short None b front p len within fewer = tt
+short (Some xs) None front p len within fewer = absurd p
+short (Some xs) (Some ys) front p len within fewer =
+    let P : List ℕ → Type 0 = λ zs. IsReadFrom zs (Err Truncated) in
+    subst P (sym p) (short_is front ys len within fewer)
+
+-- a length and as many bytes, which give a frame
+record Whole (front rest : List ℕ) : Type 0 where
+  pub len : length front ≡ 4
+  pub size : length rest ≡ from_be_bytes w32 front
+  pub within : from_be_bytes w32 front ≤ longest
+
+spells_it : (front rest : List ℕ) (f : Frame) → IsBytes front → Whole front rest → (rest ≡ body f) × IsWell f → Spells f (front ++ rest)
+spells_it front rest f fits w r = whole_found (front ++ rest) front rest f refl w.len fits w.size (omega (arith, w.size, w.within)) r
+
+-- the frame was read, and no byte more
+pub got : (a b c : Option (List ℕ)) (front rest : List ℕ) (f : Frame) → Consumes a b front → Consumes b c rest → IsBytes front → length front ≡ 4 → length rest ≡ from_be_bytes w32 front → from_be_bytes w32 front ≤ longest
+    → (rest ≡ body f) × IsWell f → Spells f (spelling f) × Consumes a c (spelling f)
+got a b c front rest f p q fits len size within r =
+    let s = spells_it front rest f fits (record { len = len; size = size; within = within }) r in
+    (record { well = s.well; within = s.within; spelled = refl }, subst (Consumes a c) s.spelled (consumes_then a b c front rest p q))
+
+whole_is : (front rest more : List ℕ) → Whole front rest → (answer : Answer) → ((answer ≡ Ok None) → ⊥) → ((answer ≡ Err TooLong) → ⊥) → ((answer ≡ Err Truncated) → ⊥)
+    → ((f : Frame) → IsWell f → rest ≡ body f → answer ≡ Ok (Some f)) → IsReadFrom (front ++ (rest ++ more)) answer
+whole_is front rest more w answer not_none not_long not_short all =
+    let field = field_is front (rest ++ more) w.len in
+    let size : length (front ++ (rest ++ more)) ≡ length front + (length rest + length more) = length-append front (rest ++ more) ∙ ap (λ (k : ℕ). length front + k) (length-append rest more) in
+    record {
+      ended = (λ e. absurd (no_end front (rest ++ more) w.len e), λ e. absurd (not_none e));
+      too_long = (λ t. absurd (omega (arith, t.over, field, w.within)), λ e. absurd (not_long e));
+      truncated = (λ t. elim t.1 [ inl lt ↦ absurd (omega (arith, w.len)) | inr k ↦ absurd (omega (arith, k.fewer, field, w.size, w.len)) ], λ e. absurd (not_short e));
+      frame = λ f after s e.
+          let k = spelled_front front (rest ++ more) after f w.len s.within e in
+          let n : length rest ≡ length (body f) = w.size ∙ k.0 in
+          all f s.well (sym (take_at rest more (length (body f)) n) ∙ ap (take (length (body f))) k.1 ∙ take_at (body f) after (length (body f)) refl);
+    }
+
+pub got_known : (a b c : Option (List ℕ)) (front rest : List ℕ) (f : Frame) → Consumes a b front → Consumes b c rest → length front ≡ 4 → length rest ≡ from_be_bytes w32 front → from_be_bytes w32 front ≤ longest
+    → (rest ≡ body f) × IsWell f → IfSome a (λ xs. IsReadFrom xs (Ok (Some f)))
+got_known None b c front rest f p q len size within r = tt
+got_known (Some xs) None c front rest f p q len size within r = absurd p
+got_known (Some xs) (Some ys) None front rest f p q len size within r = absurd q
+got_known (Some xs) (Some ys) (Some zs) front rest f p q len size within r =
+    let P : List ℕ → Type 0 = λ t. IsReadFrom t (Ok (Some f)) in
+    subst P (sym (p ∙ ap (λ (t : List ℕ). front ++ t) q))
+    (whole_is front rest zs (record { len = len; size = size; within = within }) (Ok (Some f)) (λ e. absurd cc) (λ e. absurd cc) (λ e. absurd cc)
+    (λ g well e. ap (λ (h : Frame). Ok (Some h)) (same_body f g r.1 well (sym r.0 ∙ e))))
+
+-- what `read_frame` may answer where these bytes are left, if they are known
+abbrev pub IsAnswer : Option (List ℕ) → Answer → Type 0
+IsAnswer known answer = (answer ≡ Err Read) ⊎ ((answer ≡ Err OutOfMemory) ⊎ IfSome known (λ bytes. IsReadFrom bytes answer))
+
+abbrev failed : WireFault → Answer
+failed e = Err e
+
+abbrev failure : WireFault → Result Frame WireFault
+failure e = Err e
+
+fault_is : (d e : WireFault) → failure d ≡ failure e → d ≡ e
+fault_is d e h = cc
+
+answer_is : (d e : WireFault) → failed d ≡ failed e → d ≡ e
+answer_is d e h = cc
+
+memory_or : (e : WireFault) → (e ≡ OutOfMemory) ⊎ ((e ≡ OutOfMemory) → ⊥)
+memory_or OutOfMemory = inl refl
+memory_or TooLong = inr (λ e. absurd cc)
+memory_or Truncated = inr (λ e. absurd cc)
+memory_or BadKind = inr (λ e. absurd cc)
+memory_or (BadField n) = inr (λ e. absurd cc)
+memory_or Read = inr (λ e. absurd cc)
+memory_or Write = inr (λ e. absurd cc)
+memory_or Version = inr (λ e. absurd cc)
+
+refused_is : (a b c : Option (List ℕ)) (front rest : List ℕ) (fault : WireFault) → Consumes a b front → Consumes b c rest → Whole front rest → ((f : Frame) → IsWell f → rest ≡ body f → ⊥)
+    → ((fault ≡ TooLong) → ⊥) → ((fault ≡ Truncated) → ⊥) → IfSome a (λ xs. IsReadFrom xs (Err fault))
+refused_is None b c front rest fault p q w none not_long not_short = tt
+refused_is (Some xs) None c front rest fault p q w none not_long not_short = absurd p
+refused_is (Some xs) (Some ys) None front rest fault p q w none not_long not_short = absurd q
+refused_is (Some xs) (Some ys) (Some zs) front rest fault p q w none not_long not_short =
+    let P : List ℕ → Type 0 = λ t. IsReadFrom t (Err fault) in
+    subst P (sym (p ∙ ap (λ (t : List ℕ). front ++ t) q))
+    (whole_is front rest zs w (Err fault) (λ e. absurd cc) (λ e. not_long (answer_is fault TooLong e)) (λ e. not_short (answer_is fault Truncated e)) (λ f well e. absurd (none f well e)))
+
+-- no frame has these bytes as its body, or memory ran out
+pub refused_known : (a b c : Option (List ℕ)) (front rest : List ℕ) (fault : WireFault) (read : Result Frame WireFault) → read ≡ Err fault → Consumes a b front → Consumes b c rest → length front ≡ 4 → length rest ≡ from_be_bytes w32 front → from_be_bytes w32 front ≤ longest
+    → ((f : Frame) → IsWell f → rest ≡ body f → (read ≡ Ok f) ⊎ (read ≡ Err OutOfMemory)) → ((read ≡ Err TooLong) → ⊥) → ((read ≡ Err Truncated) → ⊥)
+    → IsAnswer a (Err fault)
+refused_known a b c front rest fault read is p q len size within all not_long not_short =
+    elim (memory_or fault) [
+      | inl e ↦ inr (inl (ap failed e))
+      | inr other ↦ inr (inr (refused_is a b c front rest fault p q (record { len = len; size = size; within = within })
+          (λ f well e. elim (all f well e) [ inl ok ↦ absurd (cc (sym ok ∙ is)) | inr err ↦ absurd (other (fault_is fault OutOfMemory (sym is ∙ err))) ])
+          (λ e. not_long (is ∙ ap failure e)) (λ e. not_short (is ∙ ap failure e))))
+    ]

@@ -1,0 +1,26 @@
+use Rattle.std.proofs.Common.{refl, sym, ◌∙◌}
+use Rattle.pg_wire.proofs.Orders.{Steps, ordered, follow, goes_on, stops, past}
+use Rattle.pg_wire.proofs.form.are_ordered.Goals as goal
+
+pub returns-then-not-fits : goal.returns-then-not-fits
+returns-then-not-fits g c =
+    let t = g.met.F.Form in
+    let steps : Steps g.F.Form.Stands g.F.Form.Precedes g.F.Form.place_after = record { forth = t.next; back = t.next_back; later = t.later } in (
+      λ no. absurd cc,
+      λ h.
+          let all = follow g.F.Form.Stands (g.F.Form.IsItem c.args.width) g.F.Form.Precedes g.F.Form.place_after steps c.args.place c.args.items.now h in
+          let fits = stops g.F.Form.Stands (g.F.Form.IsItem c.args.width) g.F.Form.place_after c.args.place c.loop-item.at c.loop-item.item-index c.args.items.now c.item-item.result c.loop-item-test.true c.item-item.is c.loop-item.invariant all in
+          sym c.if-not-fits.true ∙ c.fits.ensures.1 fits,
+    )
+
+pub loop-item-preserved : goal.loop-item-preserved
+loop-item-preserved g c =
+    rw c.place_after_item-at.ensures (goes_on g.F.Form.Stands (g.F.Form.IsItem c.args.width) g.F.Form.place_after c.args.place c.loop-item.at c.loop-item.item-index c.args.items.now c.item-item.result c.loop-item-test.true c.item-item.is (c.fits.ensures.0 c.if-not-fits.false) c.loop-item.invariant)
+
+pub returns : goal.returns
+returns g c =
+    let t = g.met.F.Form in
+    let steps : Steps g.F.Form.Stands g.F.Form.Precedes g.F.Form.place_after = record { forth = t.next; back = t.next_back; later = t.later } in (
+      λ yes. ordered g.F.Form.Stands (g.F.Form.IsItem c.args.width) g.F.Form.Precedes g.F.Form.place_after steps c.args.place c.args.items.now (c.loop-item.invariant.whole (past g.F.Form.Stands (g.F.Form.IsItem c.args.width) g.F.Form.place_after c.loop-item.at c.loop-item.item-index c.args.items.now c.loop-item-test.false)),
+      λ h. refl,
+    )

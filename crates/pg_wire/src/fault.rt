@@ -1,0 +1,77 @@
+//! Why a frame was refused.
+ghost use Rattle.std.specs.Prelude.{◌≡◌};
+ghost use Rattle.pg_wire.specs.Faults.{number_of};
+
+use std::alloc::AllocError;
+use thiserror::Error;
+
+/// Why a frame can't be read or written.
+#[derive(Clone, Copy, Debug, PartialEq, Eq, Error)]
+pub enum WireFault {
+    #[error("out of memory")]
+    OutOfMemory,
+    /// More than 16,777,216 bytes after the length.
+    #[error("the frame is longer than 16777216 bytes")]
+    TooLong,
+    /// The bytes end before the frame does.
+    #[error("the frame is cut short")]
+    Truncated,
+    /// No frame has this kind, or there is no kind.
+    #[error("no frame has this kind")]
+    BadKind,
+    /// A field that is out of its range or order, or that runs past the frame's end; or bytes after
+    /// the last field. Offsets count bytes from the first one of the length.
+    #[error("bad field at byte {0}")]
+    BadField(usize),
+    #[error("cannot read a frame")]
+    Read,
+    #[error("cannot write a frame")]
+    Write,
+    /// A set-up of a version that isn't 1 or 2.
+    #[error("unknown version")]
+    Version,
+}
+
+impl WireFault {
+    /// The fault's number, 1 to 8. A report of this fault has the code that is ten more.
+    pub fn number(&self) -> u8
+        ensures { result ≡ number_of self.now }
+    {
+        match self {
+            WireFault::OutOfMemory => 1,
+            WireFault::TooLong => 2,
+            WireFault::Truncated => 3,
+            WireFault::BadKind => 4,
+            WireFault::BadField(_) => 5,
+            WireFault::Read => 6,
+            WireFault::Write => 7,
+            WireFault::Version => 8,
+        }
+    }
+}
+
+/// What is wrong with a field.
+#[derive(Clone, Copy, Debug, PartialEq, Eq)]
+pub enum FieldFault {
+    /// So many bytes were left where the field begins.
+    At(usize),
+    Version,
+    Kind,
+}
+
+/// Why a field wasn't read.
+#[derive(Clone, Copy, Debug, PartialEq, Eq)]
+pub enum ReadFault {
+    Memory,
+    Field(FieldFault),
+}
+
+impl From<AllocError> for ReadFault {
+    ghost use Rattle.pg_wire.specs.declared.fault.ReadFault.TheVariants.{Memory};
+
+    ghost from_gives = { λ _ e. e ≡ Memory };
+
+    fn from(_e: AllocError) -> ReadFault {
+        ReadFault::Memory
+    }
+}

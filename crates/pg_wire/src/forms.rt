@@ -1,0 +1,441 @@
+//! The kinds of lists in frames.
+ghost use Rattle.std.specs.Prelude.{◌≡◌, ◌+◌, ◌≤◌, ◌↔◌, IsTrue, IfOk, IfSome, length};
+ghost use Rattle.pg_wire.specs.Reading.{Gives, items_at, counted_at, tagged_at, word_at, place_at};
+ghost use Rattle.pg_wire.specs.Well.{IsComponents, ArePlaces};
+
+use crate::fault::ReadFault;
+use crate::fields::{WORDS, byte, odd, within};
+use crate::form::{Form, are_ordered, counted, items};
+use crate::frame::{SparseValue, Value, VertexLine};
+use crate::list::{Numbers, Pairs, Rows};
+use std::alloc::Global;
+
+/// The successors of a vertex, which rise.
+pub struct SuccessorForm;
+
+impl Form for SuccessorForm {
+    ghost use Rattle.std.specs.Prelude.{◌+◌, ◌≤◌, ◌<◌};
+    ghost use Rattle.std.proofs.Common.{arith};
+    ghost use Rattle.pg_wire.specs.Reading.{word_at};
+    ghost use Rattle.pg_wire.specs.Well.{IsWord};
+
+    type Item = u32;
+
+    ghost SIZE = { 4 };
+
+    const SIZE: usize = 4;
+
+    ghost item_at = { λ _. word_at };
+
+    ghost place_after = { λ n. n + 1 };
+
+    ghost Stands = { λ at n. at ≤ n };
+
+    ghost Precedes = { λ m n. m < n };
+
+    ghost IsItem = { λ _. IsWord };
+
+    fn read(_: Global, _: u32, place: u64, bytes: &[u8]) -> Result<(u32, &[u8]), ReadFault> {
+        within(place, WORDS, bytes)
+    }
+
+    fn place_after_item(successor: &u32) -> u64 {
+        *successor as u64 + 1
+    }
+
+    fn fits(_: u32, place: u64, item: &u32) -> bool {
+        place <= *item as u64
+    }
+
+    ghost some = { Prim.omega arith };
+
+    ghost next = { λ x y h. Prim.omega arith };
+
+    ghost next_back = { λ x y h. Prim.omega arith };
+
+    ghost later = { λ at x y h k. Prim.omega arith };
+}
+
+/// Priorities that fall, each with its bound.
+pub struct BoundForm;
+
+impl Form for BoundForm {
+    ghost use Rattle.std.specs.Prelude.{◌+◌, ◌≤◌, ◌<◌};
+    ghost use Rattle.std.proofs.Common.{arith};
+    ghost use Rattle.pg_wire.specs.Reading.{bound_at};
+    ghost use Rattle.pg_wire.specs.Well.{IsBound};
+
+    type Item = (u32, u32);
+
+    ghost SIZE = { 8 };
+
+    const SIZE: usize = 8;
+
+    ghost item_at = { λ _. bound_at };
+
+    ghost place_after = { λ p. p.0 };
+
+    ghost Stands = { λ at p. p.0 < at };
+
+    ghost Precedes = { λ p q. q.0 < p.0 };
+
+    ghost IsItem = { λ _. IsBound };
+
+    #[tactic(auto, unfolding(crate::specs::Reading::bound_at))]
+    fn read(_: Global, _: u32, place: u64, bytes: &[u8]) -> Result<((u32, u32), &[u8]), ReadFault> {
+        let (priority, rest) = odd(place, bytes)?;
+        let (bound, rest) = within(1, WORDS, rest)?;
+        Ok(((priority, bound), rest))
+    }
+
+    fn place_after_item(bound: &(u32, u32)) -> u64 {
+        bound.0 as u64
+    }
+
+    fn fits(_: u32, place: u64, item: &(u32, u32)) -> bool {
+        let (priority, bound) = *item;
+        (priority as u64) < place && priority % 2 == 1 && priority <= 65_535 && bound >= 1
+    }
+
+    ghost some = { Prim.omega arith };
+
+    ghost next = { λ x y h. h };
+
+    ghost next_back = { λ x y h. h };
+
+    ghost later = { λ at x y h k. Prim.omega arith };
+}
+
+/// The components of a measure.
+pub struct ComponentForm;
+
+impl Form for ComponentForm {
+    ghost use Rattle.std.specs.Prelude.{⊤};
+    ghost use Rattle.std.proofs.Common.{arith};
+    ghost use Rattle.pg_wire.specs.Reading.{word_at};
+    ghost use Rattle.pg_wire.specs.Well.{IsWord};
+
+    type Item = u32;
+
+    ghost SIZE = { 4 };
+
+    const SIZE: usize = 4;
+
+    ghost item_at = { λ _ _. word_at 0 };
+
+    ghost place_after = { λ _. 0 };
+
+    ghost Stands = { λ _ _. ⊤ };
+
+    ghost Precedes = { λ _ _. ⊤ };
+
+    ghost IsItem = { λ _. IsWord };
+
+    fn read(_: Global, _: u32, _: u64, bytes: &[u8]) -> Result<(u32, &[u8]), ReadFault> {
+        within(0, WORDS, bytes)
+    }
+
+    fn place_after_item(_: &u32) -> u64 {
+        0
+    }
+
+    fn fits(_: u32, _: u64, item: &u32) -> bool {
+        let _component = *item;
+        true
+    }
+
+    ghost some = { Prim.omega arith };
+
+    ghost next = { λ x y h. tt };
+
+    ghost next_back = { λ x y h. tt };
+
+    ghost later = { λ at x y h k. tt };
+}
+
+/// Places below the width, which rise, each with its number.
+pub struct PlaceForm;
+
+impl Form for PlaceForm {
+    ghost use Rattle.std.specs.Prelude.{◌+◌, ◌≤◌, ◌<◌};
+    ghost use Rattle.std.proofs.Common.{arith};
+    ghost use Rattle.pg_wire.specs.Reading.{place_at};
+    ghost use Rattle.pg_wire.specs.Well.{IsPlace};
+
+    type Item = (u32, u32);
+
+    ghost SIZE = { 8 };
+
+    const SIZE: usize = 8;
+
+    ghost item_at = { place_at };
+
+    ghost place_after = { λ p. p.0 + 1 };
+
+    ghost Stands = { λ at p. at ≤ p.0 };
+
+    ghost Precedes = { λ p q. p.0 < q.0 };
+
+    ghost IsItem = { IsPlace };
+
+    #[tactic(auto, unfolding(crate::specs::Reading::place_at))]
+    fn read(
+        _: Global,
+        width: u32,
+        place: u64,
+        bytes: &[u8],
+    ) -> Result<((u32, u32), &[u8]), ReadFault> {
+        let (at, rest) = within(place, width as u64, bytes)?;
+        let (number, rest) = within(1, WORDS, rest)?;
+        Ok(((at, number), rest))
+    }
+
+    fn place_after_item(place: &(u32, u32)) -> u64 {
+        place.0 as u64 + 1
+    }
+
+    fn fits(width: u32, place: u64, item: &(u32, u32)) -> bool {
+        let (at, number) = *item;
+        place <= at as u64 && at < width && number >= 1
+    }
+
+    ghost some = { Prim.omega arith };
+
+    ghost next = { λ x y h. Prim.omega arith };
+
+    ghost next_back = { λ x y h. Prim.omega arith };
+
+    ghost later = { λ at x y h k. Prim.omega arith };
+}
+
+/// The lines of vertices, which rise.
+pub struct LineForm;
+
+impl Form for LineForm {
+    ghost use Rattle.std.specs.Prelude.{◌+◌, ◌≤◌, ◌<◌};
+    ghost use Rattle.std.proofs.Common.{arith};
+    ghost use Rattle.pg_wire.specs.Reading.{line_at};
+    ghost use Rattle.pg_wire.specs.Well.{IsVertexLine};
+
+    type Item = VertexLine;
+
+    ghost SIZE = { 17 };
+
+    const SIZE: usize = 17;
+
+    ghost item_at = { λ _. line_at };
+
+    ghost place_after = { λ l. l.vertex + 1 };
+
+    ghost Stands = { λ at l. at ≤ l.vertex };
+
+    ghost Precedes = { λ l m. l.vertex < m.vertex };
+
+    ghost IsItem = { λ _. IsVertexLine };
+
+    #[tactic(auto, unfolding(crate::specs::Reading::line_at))]
+    fn read(
+        alloc: Global,
+        _: u32,
+        place: u64,
+        bytes: &[u8],
+    ) -> Result<(VertexLine, &[u8]), ReadFault> {
+        let (vertex, rest) = within(place, WORDS, bytes)?;
+        let (priority, rest) = within(0, 65_537, rest)?;
+        let (owner, rest) = byte(2, rest)?;
+        let (successors, rest) = counted::<SuccessorForm>(alloc, 0, 1, WORDS, 0, rest)?;
+        Ok((
+            VertexLine {
+                vertex,
+                priority,
+                owner,
+                successors,
+            },
+            rest,
+        ))
+    }
+
+    fn place_after_item(line: &VertexLine) -> u64 {
+        line.vertex as u64 + 1
+    }
+
+    fn fits(_: u32, place: u64, item: &VertexLine) -> bool {
+        let successors = item.successors.as_slice();
+        place <= item.vertex as u64
+            && item.priority <= 65_536
+            && item.owner <= 1
+            && !successors.is_empty()
+            && (successors.len() as u64) < WORDS
+            && are_ordered::<SuccessorForm>(0, 0, successors)
+    }
+
+    ghost some = { Prim.omega arith };
+
+    ghost next = { λ x y h. Prim.omega arith };
+
+    ghost next_back = { λ x y h. Prim.omega arith };
+
+    ghost later = { λ at x y h k. Prim.omega arith };
+}
+
+/// The list behind a tag, 0, in a frame of this width; behind 1 there is none.
+#[tactic(auto, unfolding(crate::specs::Reading::tagged_at))]
+fn components(
+    alloc: Global,
+    width: u32,
+    bytes: &[u8],
+) -> Result<(Option<Numbers>, &[u8]), ReadFault>
+    ensures read { Gives (λ x. (x.0, x.1.now)) result (tagged_at (items_at (λ _. word_at 0) (λ _. 0) width 0) bytes.now) }
+    ensures size { IfOk result (λ x. 1 + length x.1.now ≤ length bytes.now) }
+{
+    let (tag, rest) = byte(2, bytes)?;
+    if tag != 0 {
+        return Ok((None, rest));
+    }
+    let (numbers, rest) = items::<ComponentForm>(alloc, 0, width, 0, rest)?;
+    Ok((Some(Rows::new(numbers)), rest))
+}
+
+/// Whether a list has a number for each place of the width.
+fn are_components(width: u32, numbers: &[u32]) -> bool
+    ensures { IsTrue result ↔ IsComponents width numbers.now }
+{
+    numbers.len() == width as usize && are_ordered::<ComponentForm>(width, 0, numbers)
+}
+
+/// The measures of vertices, which rise.
+pub struct ValueForm;
+
+impl Form for ValueForm {
+    ghost use Rattle.std.specs.Prelude.{◌+◌, ◌≤◌, ◌<◌};
+    ghost use Rattle.std.proofs.Common.{arith};
+    ghost use Rattle.pg_wire.specs.Reading.{value_at};
+    ghost use Rattle.pg_wire.specs.Well.{IsValue};
+
+    type Item = Value;
+
+    ghost SIZE = { 5 };
+
+    const SIZE: usize = 5;
+
+    ghost item_at = { value_at };
+
+    ghost place_after = { λ v. v.vertex + 1 };
+
+    ghost Stands = { λ at v. at ≤ v.vertex };
+
+    ghost Precedes = { λ x y. x.vertex < y.vertex };
+
+    ghost IsItem = { IsValue };
+
+    #[tactic(auto, unfolding(crate::specs::Reading::value_at))]
+    fn read(
+        alloc: Global,
+        width: u32,
+        place: u64,
+        bytes: &[u8],
+    ) -> Result<(Value, &[u8]), ReadFault> {
+        let (vertex, rest) = within(place, WORDS, bytes)?;
+        let (list, rest) = components(alloc, width, rest)?;
+        Ok((Value { vertex, list }, rest))
+    }
+
+    fn place_after_item(value: &Value) -> u64 {
+        value.vertex as u64 + 1
+    }
+
+    fn fits(width: u32, place: u64, item: &Value) -> bool {
+        let fits = match &item.list {
+            None => true,
+            Some(list) => are_components(width, list.as_slice()),
+        };
+        place <= item.vertex as u64 && fits
+    }
+
+    ghost some = { Prim.omega arith };
+
+    ghost next = { λ x y h. Prim.omega arith };
+
+    ghost next_back = { λ x y h. Prim.omega arith };
+
+    ghost later = { λ at x y h k. Prim.omega arith };
+}
+
+/// The pairs behind a tag, 0, in a frame of this width; behind 1 there are none.
+#[tactic(auto, unfolding(crate::specs::Reading::tagged_at))]
+fn places(alloc: Global, width: u32, bytes: &[u8]) -> Result<(Option<Pairs>, &[u8]), ReadFault>
+    ensures read { Gives (λ x. (x.0, x.1.now)) result (tagged_at (counted_at (place_at width) (λ p. p.0 + 1) 0 (width + 1) 0) bytes.now) }
+    ensures size { IfOk result (λ x. 1 + length x.1.now ≤ length bytes.now) }
+{
+    let (tag, rest) = byte(2, bytes)?;
+    if tag != 0 {
+        return Ok((None, rest));
+    }
+    let (pairs, rest) = counted::<PlaceForm>(alloc, width, 0, width as u64 + 1, 0, rest)?;
+    Ok((Some(pairs), rest))
+}
+
+/// Whether the places rise and are below the width.
+fn are_places(width: u32, pairs: &[(u32, u32)]) -> bool
+    ensures { IsTrue result ↔ ArePlaces width pairs.now }
+{
+    pairs.len() <= width as usize && are_ordered::<PlaceForm>(width, 0, pairs)
+}
+
+/// The measures of vertices, which rise, by the components that aren't 0.
+pub struct SparseValueForm;
+
+impl Form for SparseValueForm {
+    ghost use Rattle.std.specs.Prelude.{◌+◌, ◌≤◌, ◌<◌};
+    ghost use Rattle.std.proofs.Common.{arith};
+    ghost use Rattle.pg_wire.specs.Reading.{sparse_value_at};
+    ghost use Rattle.pg_wire.specs.Well.{IsSparseValue};
+
+    type Item = SparseValue;
+
+    ghost SIZE = { 5 };
+
+    const SIZE: usize = 5;
+
+    ghost item_at = { sparse_value_at };
+
+    ghost place_after = { λ v. v.vertex + 1 };
+
+    ghost Stands = { λ at v. at ≤ v.vertex };
+
+    ghost Precedes = { λ x y. x.vertex < y.vertex };
+
+    ghost IsItem = { IsSparseValue };
+
+    #[tactic(auto, unfolding(crate::specs::Reading::sparse_value_at))]
+    fn read(
+        alloc: Global,
+        width: u32,
+        place: u64,
+        bytes: &[u8],
+    ) -> Result<(SparseValue, &[u8]), ReadFault> {
+        let (vertex, rest) = within(place, WORDS, bytes)?;
+        let (pairs, rest) = places(alloc, width, rest)?;
+        Ok((SparseValue { vertex, pairs }, rest))
+    }
+
+    fn place_after_item(sparse: &SparseValue) -> u64 {
+        sparse.vertex as u64 + 1
+    }
+
+    fn fits(width: u32, place: u64, item: &SparseValue) -> bool {
+        let fits = match &item.pairs {
+            None => true,
+            Some(pairs) => are_places(width, pairs.as_slice()),
+        };
+        place <= item.vertex as u64 && fits
+    }
+
+    ghost some = { Prim.omega arith };
+
+    ghost next = { λ x y h. Prim.omega arith };
+
+    ghost next_back = { λ x y h. Prim.omega arith };
+
+    ghost later = { λ at x y h k. Prim.omega arith };
+}

@@ -1,0 +1,14 @@
+//! What holds of the spellings alone.
+ghost use Rattle.std.specs.Prelude.{◌≡◌, ◌++◌, List, ℕ, []};
+ghost use Rattle.pg_wire.specs.declared.frame.Frame.{Frame};
+ghost use Rattle.pg_wire.specs.Bytes.{Spells};
+
+/// No spelling is a proper front of another.
+pub fn no_front()
+    ensures { (f g : Frame) (front more : List ℕ) → Spells f front → Spells g (front ++ more) → more ≡ [] }
+{}
+
+/// Bytes spell at most one frame.
+pub fn one_frame()
+    ensures { (f g : Frame) (bytes : List ℕ) → Spells f bytes → Spells g bytes → f ≡ g }
+{}

@@ -1,0 +1,23 @@
+//! The frames between a coordinator and its workers.
+#![tactic(auto)]
+
+mod fault;
+mod fields;
+mod form;
+mod forms;
+mod frame;
+pub mod laws;
+mod list;
+mod reading;
+mod stream;
+mod well;
+mod writing;
+
+pub use fault::WireFault;
+pub use frame::{
+    Frame, Go, Report, Setup, Sparse, SparseValue, Value, Values, VertexLine, Vertices,
+};
+pub use list::{Numbers, Pairs, Rows};
+pub use reading::decode;
+pub use stream::read_frame;
+pub use writing::{encode, write_frame};

@@ -1,0 +1,186 @@
+//! Reads frames from bytes.
+ghost use Rattle.std.specs.Prelude.{◌≡◌, ◌≢◌, ◌⊎◌, Ok, Err, IfOk, IfErr, ◌↔◌};
+ghost use Rattle.pg_wire.specs.Reading.{Gives, setup_at, vertices_at, values_at, sparse_at, go_at, report_at, frame_at, body_at};
+ghost use Rattle.pg_wire.specs.Spelling.{body};
+ghost use Rattle.pg_wire.specs.Well.{IsWell};
+ghost use Rattle.pg_wire.specs.Bytes.{Spells, IsTooLong, IsTruncated};
+ghost use Rattle.pg_wire.specs.declared.frame.Frame.{Frame};
+ghost use Rattle.pg_wire.specs.declared.fault.WireFault.TheVariants.{TooLong, Truncated, OutOfMemory};
+
+use crate::fault::{FieldFault, ReadFault, WireFault};
+use crate::fields::{WORDS, byte, code, version, within};
+use crate::form::counted;
+use crate::forms::{BoundForm, LineForm, SparseValueForm, ValueForm};
+use crate::frame::{Frame, Go, Report, Setup, Sparse, Values, Vertices};
+use std::alloc::Global;
+
+/// The limit of a frame's length, which counts the bytes after it.
+pub const LONGEST: u32 = 16_777_216;
+
+#[tactic(auto, unfolding(crate::specs::Reading::setup_at))]
+fn setup(alloc: Global, bytes: &[u8]) -> Result<(Setup, &[u8]), ReadFault>
+    ensures { Gives (λ x. (x.0, x.1.now)) result (setup_at bytes.now) }
+{
+    let (version, rest) = version(bytes)?;
+    let (vertices, rest) = within(1, 1_048_577, rest)?;
+    let (bounds, rest) = counted::<BoundForm>(alloc, 0, 0, WORDS, 65_536, rest)?;
+    Ok((
+        Setup {
+            version,
+            vertices,
+            bounds,
+        },
+        rest,
+    ))
+}
+
+#[tactic(auto, unfolding(crate::specs::Reading::vertices_at))]
+fn vertices(alloc: Global, bytes: &[u8]) -> Result<(Vertices, &[u8]), ReadFault>
+    ensures { Gives (λ x. (x.0, x.1.now)) result (vertices_at bytes.now) }
+{
+    let (lines, rest) = counted::<LineForm>(alloc, 0, 0, WORDS, 0, bytes)?;
+    Ok((Vertices { lines }, rest))
+}
+
+#[tactic(auto, unfolding(crate::specs::Reading::values_at))]
+fn values(alloc: Global, bytes: &[u8]) -> Result<(Values, &[u8]), ReadFault>
+    ensures { Gives (λ x. (x.0, x.1.now)) result (values_at bytes.now) }
+{
+    let (width, rest) = within(0, 32_769, bytes)?;
+    let (values, rest) = counted::<ValueForm>(alloc, width, 0, WORDS, 0, rest)?;
+    Ok((Values { width, values }, rest))
+}
+
+#[tactic(auto, unfolding(crate::specs::Reading::sparse_at))]
+fn sparse(alloc: Global, bytes: &[u8]) -> Result<(Sparse, &[u8]), ReadFault>
+    ensures { Gives (λ x. (x.0, x.1.now)) result (sparse_at bytes.now) }
+{
+    let (width, rest) = within(0, 32_769, bytes)?;
+    let (values, rest) = counted::<SparseValueForm>(alloc, width, 0, WORDS, 0, rest)?;
+    Ok((Sparse { width, values }, rest))
+}
+
+#[tactic(auto, unfolding(crate::specs::Reading::go_at))]
+fn go(bytes: &[u8]) -> Result<(Go, &[u8]), ReadFault>
+    ensures { Gives (λ x. (x.0, x.1.now)) result (go_at bytes.now) }
+{
+    let (budget, rest) = within(0, WORDS, bytes)?;
+    Ok((Go { budget }, rest))
+}
+
+#[tactic(auto, unfolding(crate::specs::Reading::report_at))]
+fn report(bytes: &[u8]) -> Result<(Report, &[u8]), ReadFault>
+    ensures { Gives (λ x. (x.0, x.1.now)) result (report_at bytes.now) }
+{
+    let (status, rest) = byte(3, bytes)?;
+    let (code, rest) = code(status, rest)?;
+    Ok((Report { status, code }, rest))
+}
+
+#[tactic(auto, unfolding(crate::specs::Reading::frame_at))]
+fn frame(alloc: Global, kind: u8, bytes: &[u8]) -> Result<(Frame, &[u8]), ReadFault>
+    ensures { Gives (λ x. (x.0, x.1.now)) result (frame_at kind bytes.now) }
+{
+    match kind {
+        1 => {
+            let (f, rest) = setup(alloc, bytes)?;
+            Ok((Frame::Setup(f), rest))
+        }
+        2 => {
+            let (f, rest) = vertices(alloc, bytes)?;
+            Ok((Frame::Vertices(f), rest))
+        }
+        3 => {
+            let (f, rest) = values(alloc, bytes)?;
+            Ok((Frame::Values(f), rest))
+        }
+        4 => {
+            let (f, rest) = go(bytes)?;
+            Ok((Frame::Go(f), rest))
+        }
+        5 => {
+            let (f, rest) = report(bytes)?;
+            Ok((Frame::Report(f), rest))
+        }
+        6 => Ok((Frame::Halt, bytes)),
+        7 => {
+            let (f, rest) = sparse(alloc, bytes)?;
+            Ok((Frame::Sparse(f), rest))
+        }
+        _ => Err(ReadFault::Field(FieldFault::Kind)),
+    }
+}
+
+/// The frame that all of the bytes after a length give.
+#[tactic(auto, unfolding(crate::specs::Reading::body_at))]
+fn whole(alloc: Global, bytes: &[u8]) -> Result<Frame, ReadFault>
+    ensures { Gives (λ x. x) result (body_at bytes.now) }
+{
+    match bytes {
+        [] => Err(ReadFault::Field(FieldFault::Kind)),
+        [kind, rest @ ..] => {
+            let (f, rest) = frame(alloc, *kind, rest)?;
+            if rest.is_empty() {
+                Ok(f)
+            } else {
+                Err(ReadFault::Field(FieldFault::At(rest.len())))
+            }
+        }
+    }
+}
+
+/// The frame of which these bytes, those after a length, are the body.
+pub fn from_body(alloc: Global, bytes: &[u8]) -> Result<Frame, WireFault>
+    ensures found { IfOk result (λ f. (bytes.now ≡ body f) × IsWell f) }
+    ensures all { (f : Frame) → IsWell f → bytes.now ≡ body f → (result ≡ Ok f) ⊎ (result ≡ Err OutOfMemory) }
+    ensures not_long { result ≢ Err TooLong }
+    ensures not_short { result ≢ Err Truncated }
+    ensures no_stream { IfErr result (λ e. (e ≢ WireFault.Read) × (e ≢ WireFault.Write)) }
+{
+    match whole(alloc, bytes) {
+        Ok(f) => Ok(f),
+        Err(ReadFault::Memory) => Err(WireFault::OutOfMemory),
+        Err(ReadFault::Field(FieldFault::At(left))) => {
+            Err(WireFault::BadField(4 + bytes.len().saturating_sub(left)))
+        }
+        Err(ReadFault::Field(FieldFault::Version)) => Err(WireFault::Version),
+        Err(ReadFault::Field(FieldFault::Kind)) => Err(WireFault::BadKind),
+    }
+}
+
+/// The frame that the bytes spell, all of them. It takes no more memory than the bytes can fill,
+/// whatever they say.
+///
+/// Faults, in this order: `Truncated` for fewer than four bytes; `TooLong` for a length of more
+/// than 16,777,216; `BadKind` for a length of 0; `Truncated` for fewer bytes than the length says;
+/// `BadField` at the first byte past what it says; `BadKind`; then the fields from first to last,
+/// `Version` for a set-up's version and `BadField` at each other field that is out of its range or
+/// order or past the end; `BadField` at the first byte after the last field. Offsets count from the
+/// first byte of the length.
+pub fn decode(alloc: Global, bytes: &[u8]) -> Result<Frame, WireFault>
+    ensures found { IfOk result (λ f. Spells f bytes.now) }
+    ensures all { (f : Frame) → Spells f bytes.now → (result ≡ Ok f) ⊎ (result ≡ Err OutOfMemory) }
+    ensures too_long { result ≡ Err TooLong ↔ IsTooLong bytes.now }
+    ensures truncated { result ≡ Err Truncated ↔ IsTruncated bytes.now }
+    ensures no_stream { IfErr result (λ e. (e ≢ WireFault.Read) × (e ≢ WireFault.Write)) }
+{
+    if bytes.len() < 4 {
+        return Err(WireFault::Truncated);
+    }
+    let (front, rest) = bytes.split_at(4);
+    let length = u32::from_be_bytes([front[0], front[1], front[2], front[3]]);
+    if length > LONGEST {
+        return Err(WireFault::TooLong);
+    }
+    let length = length as usize;
+    if length == 0 {
+        return Err(WireFault::BadKind);
+    }
+    if rest.len() < length {
+        return Err(WireFault::Truncated);
+    }
+    if rest.len() > length {
+        return Err(WireFault::BadField(4 + length));
+    }
+    from_body(alloc, rest)
+}

@@ -1,0 +1,96 @@
+"""Checks of the built programs that are no rows: random small games against the definitions, want of memory."""
+import os
+import random
+import subprocess
+import tempfile
+
+import naive
+
+top = os.path.dirname(os.path.dirname(os.path.abspath(__file__)))
+
+
+def random_game(dice):
+    """A game of up to six vertices with identifiers that needn't be contiguous."""
+    identifiers = dice.sample(range(12), dice.randint(1, 6))
+    return {v: (dice.randint(0, 4), dice.randint(0, 1), dice.sample(identifiers, dice.randint(1, min(3, len(identifiers)))))
+            for v in identifiers}
+
+
+def answers_as_defined(program, command, text_of, count=150):
+    """The program's answers on random games are those of the definitions."""
+    dice = random.Random(1)
+    for _ in range(count):
+        game = random_game(dice)
+        ran = subprocess.run([program, command], input=naive.game_text(game).encode(), capture_output=True, timeout=60)
+        if ran.returncode != 0 or ran.stdout.decode() != text_of(game):
+            return f"{command} on {naive.game_text(game)!r}: {ran.stdout!r}, wanted {text_of(game)!r}"
+    return None
+
+
+def refuser(folder):
+    """Compiles the object that refuses one growth of a program, and answers its path."""
+    path = os.path.join(folder, "refuse.so")
+    subprocess.run(["cc", "-shared", "-fPIC", "-O1", "-o", path, os.path.join(top, "tests/refuse.c"), "-ldl"], check=True)
+    return path
+
+
+def survives_want_of_memory(program, args, text, wanted):
+    """The N-th growth is refused, N rising until a run meets no refusal: each earlier run ends with status 1, no output
+    and `out of memory`, or (where it could do without) with the right answer."""
+    with tempfile.TemporaryDirectory() as folder:
+        preload = refuser(folder)
+        for n in range(1, 10_000):
+            met = os.path.join(folder, "met")
+            if os.path.exists(met):
+                os.remove(met)
+            ran = subprocess.run([program, *args], input=text, capture_output=True, timeout=60,
+                                 env={**os.environ, "LD_PRELOAD": preload, "REFUSE_AT": str(n), "REFUSE_MET": met})
+            if ran.returncode == 0 and ran.stdout == wanted:
+                if not os.path.exists(met):
+                    return None if n > 1 else "no growth was refused"
+                continue
+            if (ran.returncode, ran.stdout, ran.stderr) != (1, b"", b"parsolve: out of memory\n"):
+                return f"growth {n} refused: status {ran.returncode}, {ran.stdout!r}, {ran.stderr!r}"
+    return "no run met no refusal"
+
+
+def solutions_win(program):
+    """What `solve` prints of each example `check` calls sound."""
+    for name in ("two", "mutex", "grid"):
+        with open(os.path.join(top, "examples", name + ".pg"), "rb") as file:
+            game = file.read()
+        solved = subprocess.run([program, "solve"], input=game, capture_output=True, timeout=60)
+        checked = subprocess.run([program, "check"], input=game + b"--\n" + solved.stdout, capture_output=True, timeout=60)
+        if solved.returncode != 0 or checked.stdout != b"WINS\n":
+            return f"{name}: status {solved.returncode}, {checked.stdout!r}, {checked.stderr!r}"
+    return None
+
+
+def cases(programs):
+    """(name, check) of each check."""
+    game = b"parity 2;\n0 1 0 1;\n1 3 0 2;\n2 4 0 0;\n"
+    three = b"parity 2;\n0 0 1 0,1;\n1 1 1 1,2 \"odd\";\n2 2 0 0,2;\n"
+    solution = b"paritysol 2;\n0 1 1;\n1 1 1;\n2 0 2;\n"
+    for program in programs:
+        name = os.path.basename(program)
+        yield f"measure on random games ({name})", lambda p=program: answers_as_defined(p, "measure", naive.measure_text)
+        yield f"solve on random games ({name})", lambda p=program: answers_as_defined(p, "solve", naive.solution_text)
+        yield f"solutions of the examples ({name})", lambda p=program: solutions_win(p)
+    # the program as LLVM builds it takes its memory by malloc and realloc alone
+    for command, text, wanted in (("measure", game, b"0 1,1;\n1 1,0;\n2 0,0;\n"), ("solve", three, solution),
+                                  ("check", three + b"--\n" + solution, b"WINS\n")):
+        yield f"want of memory in {command}", lambda c=command, t=text, w=wanted: survives_want_of_memory(programs[0], [c], t, w)
+
+
+def run(programs):
+    """Runs every check; answers how many passed and failed."""
+    passed = failed = 0
+    for name, check in cases(programs):
+        why = check()
+        if why is None:
+            passed += 1
+        else:
+            failed += 1
+            print(f"{name}: {why}")
+    print(f"checks: {passed} passed, {failed} failed")
+    return passed, failed

@@ -1,0 +1,83 @@
+"""Runs programs over the rows of rows/*.toml. A row has
+
+    name       what it shows
+    args       the words after the program's name; {program} stands for the program's own path
+    args_hex   the same as hexadecimal bytes, for words that are no text
+    stdin      the input (or stdin_hex, or stdin_file: a file of the repository)
+    blanks     how many blanks stand before the input; absent: none
+    stdout     the whole output (or stdout_file); absent: nothing
+    stderr     the whole error stream; absent: anything
+    status     the exit status; absent: 0
+    output_to  where the output goes in place of a pipe: a path, or "closed"
+"""
+import glob
+import os
+import subprocess
+import tomllib
+
+top = os.path.dirname(os.path.dirname(os.path.abspath(__file__)))
+
+
+def bytes_of(row, name):
+    if name + "_hex" in row:
+        return bytes.fromhex(row[name + "_hex"])
+    if name + "_file" in row:
+        with open(os.path.join(top, row[name + "_file"]), "rb") as file:
+            return file.read()
+    return row.get(name, "").encode()
+
+
+def input_of(row):
+    return b" " * row.get("blanks", 0) + bytes_of(row, "stdin")
+
+
+def words_of(row, program):
+    if "args_hex" in row:
+        return [bytes.fromhex(word) for word in row["args_hex"]]
+    return [program if word == "{program}" else word for word in row.get("args", [])]
+
+
+def run_row(program, row):
+    """(status, output, error stream) of the program on a row; the output is None where it isn't kept."""
+    command = [program, *words_of(row, program)]
+    where = row.get("output_to")
+    if where is None:
+        ran = subprocess.run(command, input=input_of(row), capture_output=True, timeout=120)
+        return ran.returncode, ran.stdout, ran.stderr
+    if where == "closed":
+        ran = subprocess.run(["sh", "-c", 'exec "$@" >&-', "sh", *command], input=input_of(row),
+                             stderr=subprocess.PIPE, timeout=120)
+    else:
+        with open(where, "wb") as target:
+            ran = subprocess.run(command, input=input_of(row), stdout=target, stderr=subprocess.PIPE, timeout=120)
+    return ran.returncode, None, ran.stderr
+
+
+def failure(program, row):
+    """Why the program fails the row, or None."""
+    status, output, errors = run_row(program, row)
+    if status != row.get("status", 0):
+        return f"status {status}, wanted {row.get('status', 0)}; {errors[-300:]!r}"
+    if output is not None and output != bytes_of(row, "stdout"):
+        return f"output {output[:300]!r}, wanted {bytes_of(row, 'stdout')[:300]!r}"
+    if "stderr" in row and errors != row["stderr"].encode():
+        return f"error stream {errors[:300]!r}, wanted {row['stderr']!r}"
+    return None
+
+
+def run(programs):
+    """Runs every row on every program; answers how many passed and failed."""
+    passed = failed = 0
+    for path in sorted(glob.glob(os.path.join(top, "rows", "*.toml"))):
+        with open(path, "rb") as file:
+            rows = tomllib.load(file)["row"]
+        for program in programs:
+            for row in rows:
+                why = failure(program, row)
+                if why is None:
+                    passed += 1
+                else:
+                    failed += 1
+                    print(f"{os.path.basename(path)}: {row['name']} ({os.path.basename(program)}): {why}")
+    print(f"rows: {passed} passed, {failed} failed")
+    return passed, failed
