@@ -3,3 +3,4 @@ pub mod Writing
 pub mod Refusing
 pub mod Measuring
 pub mod Verdicts
+pub mod Printed

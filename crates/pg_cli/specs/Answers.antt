@@ -1,5 +1,5 @@
 -- What the commands print.
-use Rattle.std.specs.Prelude.{◌≡◌, ◌↔◌, ℕ, ◌<◌, List, [], ◌∷◌, ◌++◌, length, map, max, All, Option, Some, None, codes, decimal}
+use Rattle.std.specs.Prelude.{◌≡◌, ◌↔◌, ℕ, ◌<◌, ◌^◌, List, [], ◌∷◌, ◌++◌, length, map, max, All, Option, Some, None, codes, decimal}
 use Rattle.std.specs.List.{flat_map, zip}
 use Rattle.pg_arena.specs.Games.{GameVertex, identifier, priority, dual}
 use Rattle.pg_measure.specs.Measures.{MeasureValue}
@@ -67,10 +67,12 @@ pub record IsSolvedBy (game : List GameVertex) (solution : List Answer) : Type 0
   pub odd_measure : IsMeasureOf (dual game) odd
   pub solution_of : IsSolutionOf game even odd solution
 
--- What `solve` prints for an input: the input spells a game, and the output is the text of its solution.
+-- What `solve` prints for an input: the input spells a game, whose identifiers are numbers of 32 bits, and the output
+-- is the text of its solution.
 pub record IsSolved (input output : List ℕ) : Type 0 where
   pub game : List GameVertex
   pub spelt : IsGameText input game
+  pub identifiers : All (λ x. x.identifier < 2 ^ 32) game
   pub solution : List Answer
   pub solved : IsSolvedBy game solution
   pub printed : output ≡ solution_text game solution

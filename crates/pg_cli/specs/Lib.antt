@@ -2,3 +2,4 @@ pub mod Input
 pub mod Parts
 pub mod Faults
 pub mod Answers
+pub mod Laws

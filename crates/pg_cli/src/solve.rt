@@ -1,6 +1,6 @@
 //! The command `solve`.
 
-ghost use Rattle.std.specs.Prelude.{◌≡◌, ◌≢◌, ℕ, List, IfOk, IfErr, OnOk};
+ghost use Rattle.std.specs.Prelude.{◌≡◌, ◌≢◌, ◌<◌, ◌^◌, ℕ, List, All, IfOk, IfErr, OnOk};
 ghost use Rattle.std.specs.Io.KnownBytes.{Appends};
 ghost use Rattle.pg_arena.specs.Games.{HasPrioritiesUpTo, dual};
 ghost use Rattle.pg_text.specs.GameText.{IsGameText};
@@ -33,10 +33,12 @@ fn dual_measure(alloc: Global, game: &Game) -> Result<MeasureMap, CliFault>
 fn solved(alloc: Global, text: Vec<u8>) -> Result<(Game, Solution), CliFault>
     ensures found { IfOk result (λ x. IsGameText text.items x.0 × IsSolvedBy x.0 x.1) }
     ensures solution { IfOk result (λ x. IsSolution x.0 x.1) }
+    ensures identifiers { IfOk result (λ x. All (λ y. y.identifier < 2 ^ 32) x.0) }
     ensures refused { IfErr result (RefusesSolve text.items) }
     ensures unwritten { result ≢ Err CliFault.Write }
 {
     let game = read_game(alloc, &text)?;
+    let _vertices = game.len();
     drop(text);
     let even = least_measure(alloc, &game)?;
     let odd = dual_measure(alloc, &game)?;

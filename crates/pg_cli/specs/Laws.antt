@@ -1,0 +1,24 @@
+-- What the commands' answers say of endless plays.
+use Rattle.std.specs.Prelude.{◌≡◌, ℕ, ◌<◌, List, length}
+use Rattle.pg_arena.specs.Games.{GameVertex}
+use Rattle.pg_text.specs.declared.answer.Answer.{Answer}
+use Rattle.pg_text.specs.GameText.{IsGameText}
+use Rattle.pg_text.specs.Solutions.{winner, IsSolution}
+use Rattle.pg_text.specs.SolutionText.{IsSolutionText}
+use Rattle.pg_check.specs.Soundness.{IsSound, Wins}
+use Rattle.pg_cli.specs.Answers.{IsSolved}
+
+-- The output spells a solution of the game that the input spells. At each vertex the printed winner wins every endless
+-- play that follows the printed strategy, and no sound solution has another winner there.
+pub record WinsAsPrinted (input output : List ℕ) : Type 0 where
+  pub game : List GameVertex
+  pub spelt : IsGameText input game
+  pub solution : List Answer
+  pub printed : IsSolutionText output game solution
+  pub wins : (v : ℕ) → Wins game solution v
+  pub one_winner : (other : List Answer) → IsSolution game other → IsSound game other
+      → (v : ℕ) → v < length game → winner other v ≡ winner solution v
+
+-- so it is of each answer of `solve`
+abbrev pub PrintedWinnersWin : Type 0
+PrintedWinnersWin = (input output : List ℕ) → IsSolved input output → WinsAsPrinted input output

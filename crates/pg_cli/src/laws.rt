@@ -1,0 +1,14 @@
+//! Laws over the definitions. Their functions take no memory and do nothing: their contracts are what they are for.
+
+ghost use Rattle.pg_cli.specs.Laws.{PrintedWinnersWin};
+
+/// What `solve` prints for a game spells a solution of it. Each printed winner wins, by the printed strategy, every
+/// endless play that follows it, and no vertex has two winners.
+pub fn printed_winners_win()
+    ensures { PrintedWinnersWin }
+{
+    pg_text::laws::solution_reads_back();
+    pg_check::laws::closed_maps_sound();
+    pg_check::laws::sound_wins();
+    pg_check::laws::one_winner();
+}
