@@ -48,6 +48,10 @@ CASES = [
     ("measure", sparse, 20_000, 6),
     ("measure", sparse, 100_000, 4),
     ("measure", dense, 100_000, 4),
+    ("solve", settled, 1_000_000, 4),
+    ("solve", dense, 100_000, 4),
+    ("check", settled, 1_000_000, 4),
+    ("check", dense, 100_000, 4),
 ]
 
 
@@ -70,6 +74,11 @@ def main():
         for command, family, vertices, priorities in CASES:
             with open(source, "w") as out:
                 family(out, vertices, priorities)
+            if command == "check":
+                with open(source, "rb") as game:
+                    solution = subprocess.run([program, "solve"], stdin=game, stdout=subprocess.PIPE, check=True).stdout
+                with open(source, "ab") as out:
+                    out.write(b"--\n" + solution)
             size = os.path.getsize(source) / 1e6
             seconds, peak = min(once(program, command, source) for _ in range(3))
             name = f"{command} {family.__name__} {vertices} {priorities}"
