@@ -5,6 +5,7 @@ coded.
     bench/programs.py read_speed        tokens, read_game and write_game on texts of a million lines
     bench/programs.py lift_speed        lifts a second on rows of 1, 10 and 200 components
     bench/programs.py frame_speed       encode, decode and read_frame on frames of a million numbers
+    bench/programs.py hoa_speed         read_automaton on automata of many states, and of many letters
 
 A program is a crate of one file, `NAME.rt.txt`; it is built in a copy of the repository's crates, which proves those below
 it, so the first run takes some minutes. A folder as a second word keeps the copy for the next run.
@@ -18,7 +19,7 @@ import tempfile
 
 BENCH = pathlib.Path(__file__).resolve().parent
 TOP = BENCH.parent
-STANDS_ON = {"read_speed": "pg_text pg_arena", "lift_speed": "pg_arena pg_measure pg_map", "frame_speed": "pg_wire anyhow"}
+STANDS_ON = {"read_speed": "pg_text pg_arena", "lift_speed": "pg_arena pg_measure pg_map", "frame_speed": "pg_wire anyhow", "hoa_speed": "pg_hoa itoa"}
 LINES = 1_000_000
 
 

@@ -1,0 +1,209 @@
+-- Token by token through a body.
+use Rattle.std.proofs.Common.{◌≡◌, ℕ, suc, zero, ◌≤◌, ◌<◌, Bool, true, false, cond, List, [], ◌∷◌, ◌++◌, length, get_or, Option, Some, None, refl, sym, ap, subst, ◌∙◌, arith, append_assoc, inl, inr}
+use Rattle.std.specs.Prelude.{nat_lt, ◌||◌}
+use Rattle.std.proofs.Math.ListN.{set, replicate}
+use Rattle.std.proofs.lemmas.Bool.{ltb-true}
+use Rattle.std.proofs.lemmas.Bool.Decides.{eqb_tells}
+use Rattle.std.proofs.lemmas.List.{append-nil, length-set, length-replicate, get_or-replicate, get_or-set_same, get_or-set_other}
+use Rattle.pg_hoa.specs.declared.fault.Refusal.{Refusal}
+use Rattle.pg_hoa.specs.declared.fault.Refusal.TheVariants.{Memory, Wrong}
+use Rattle.pg_hoa.specs.Lexemes.{Lexeme, number, stray}
+use Rattle.pg_hoa.specs.Scan.{first}
+use Rattle.pg_hoa.specs.Steps.{◌>>=◌, Fails}
+use Rattle.pg_hoa.specs.Kept.{KeptEdge, KeptLine}
+use Rattle.pg_hoa.specs.BodyScan.{due, state_of, new_state, set_in, sets_at, sets_if, edge_at, begins_edge, edges_within, edges_at, behind_name, line_at, begins_line, is_seen, lines_within, body_at}
+use Rattle.pg_hoa.proofs.BodyLaws.{due_is, edge_shorter, line_shorter}
+
+-- what was read before, and then the rest
+abbrev pub ahead : {A : Type 0} → List A → Option (List A × List Lexeme) → Option (List A × List Lexeme)
+ahead done o = o >>= λ x. Some (done ++ x.0, x.1)
+
+ahead_none : {A : Type 0} (o : Option (List A × List Lexeme)) → ahead [] o ≡ o
+ahead_none None = refl
+ahead_none (Some x) = refl
+
+ahead_one : {A : Type 0} (done : List A) (a : A) (o : Option (List A × List Lexeme)) → ahead done (o >>= λ x. Some (a ∷ x.0, x.1)) ≡ ahead (done ++ (a ∷ [])) o
+ahead_one done a None = refl
+ahead_one {A} done a (Some x) = ap (λ (l : List A). Some (l, x.1)) (sym (append_assoc done (a ∷ []) x.0))
+
+-- ---- sets
+
+no_sets : (sets : ℕ) (tokens : List Lexeme) → due tokens ≡ None → sets_at sets tokens ≡ None
+unfolding sets_at set_in due
+no_sets sets [] e = refl
+no_sets sets (stray ∷ rest) e = refl
+no_sets sets (t ∷ rest) e = absurd cc
+
+pub sets_unread : (refusal : Refusal) (sets : ℕ) (done : List ℕ) (tokens : List Lexeme) → Fails refusal (due tokens) → Fails refusal (ahead done (sets_at sets tokens))
+sets_unread Memory sets done tokens h = tt
+sets_unread (Wrong fault) sets done tokens h = rw (no_sets sets tokens h) refl
+
+pub sets_fail : (refusal : Refusal) (sets : ℕ) (done : List ℕ) (tokens rest : List Lexeme) (t : Lexeme) → due tokens ≡ Some (t, rest) → Fails refusal (set_in sets t) → Fails refusal (ahead done (sets_at sets tokens))
+unfolding sets_at
+sets_fail Memory sets done tokens rest t e h = tt
+sets_fail (Wrong fault) sets done tokens rest t e h = rw (due_is tokens (t, rest) e, h) refl
+
+pub sets_more : (sets : ℕ) (done : List ℕ) (tokens rest : List Lexeme) (t : Lexeme) (n : ℕ) → due tokens ≡ Some (t, rest) → set_in sets t ≡ Some (Some n) → ahead done (sets_at sets tokens) ≡ ahead (done ++ (n ∷ [])) (sets_at sets rest)
+unfolding sets_at
+sets_more sets done tokens rest t n e h = rw (due_is tokens (t, rest) e, h) (ahead_one done n (sets_at sets rest))
+
+pub sets_end : (sets : ℕ) (done : List ℕ) (tokens rest : List Lexeme) (t : Lexeme) → due tokens ≡ Some (t, rest) → set_in sets t ≡ Some None → ahead done (sets_at sets tokens) ≡ Some (done, rest)
+unfolding sets_at
+sets_end sets done tokens rest t e h = rw (due_is tokens (t, rest) e, h, append-nil done) refl
+
+pub due_shorter : (tokens : List Lexeme) (x : Lexeme × List Lexeme) → due tokens ≡ Some x → length x.1 < length tokens
+due_shorter tokens x e = omega (arith, ap length (due_is tokens x e))
+
+-- ---- edges
+
+-- what is left gives the same
+pub record EdgesLeft (states propositions sets : ℕ) (done : List KeptEdge) (tokens : List Lexeme) (all : Option (List KeptEdge × List Lexeme)) : Type 0 where
+  turns : ℕ
+  enough : length tokens ≤ turns
+  same : ahead done (edges_within (suc turns) states propositions sets tokens) ≡ all
+
+pub edges_start : (states propositions sets : ℕ) (tokens : List Lexeme) → EdgesLeft states propositions sets [] tokens (edges_at states propositions sets tokens)
+unfolding edges_at
+edges_start states propositions sets tokens = record {
+  turns = length tokens;
+  enough = omega arith;
+  same = ahead_none (edges_within (suc (length tokens)) states propositions sets tokens);
+}
+
+pub edges_unread : (refusal : Refusal) (states propositions sets : ℕ) (done : List KeptEdge) (tokens : List Lexeme) (all : Option (List KeptEdge × List Lexeme)) → EdgesLeft states propositions sets done tokens all → Fails refusal (due tokens) → Fails refusal all
+unfolding edges_within
+edges_unread Memory states propositions sets done tokens all left h = tt
+edges_unread (Wrong fault) states propositions sets done tokens all left h = sym left.same ∙ rw h refl
+
+pub edges_fail : (refusal : Refusal) (states propositions sets : ℕ) (done : List KeptEdge) (tokens rest : List Lexeme) (t : Lexeme) (all : Option (List KeptEdge × List Lexeme)) → EdgesLeft states propositions sets done tokens all → due tokens ≡ Some (t, rest) → Fails refusal (begins_edge t) → Fails refusal all
+unfolding edges_within
+edges_fail Memory states propositions sets done tokens rest t all left e h = tt
+edges_fail (Wrong fault) states propositions sets done tokens rest t all left e h = sym left.same ∙ rw (e, h) refl
+
+pub edges_end : (states propositions sets : ℕ) (done : List KeptEdge) (tokens rest : List Lexeme) (t : Lexeme) (all : Option (List KeptEdge × List Lexeme)) → EdgesLeft states propositions sets done tokens all → due tokens ≡ Some (t, rest) → begins_edge t ≡ Some false → all ≡ Some (done, tokens)
+unfolding edges_within
+edges_end states propositions sets done tokens rest t all left e h = sym left.same ∙ rw (e, h, append-nil done) refl
+
+pub edge_fails : (refusal : Refusal) (states propositions sets : ℕ) (done : List KeptEdge) (tokens rest : List Lexeme) (t : Lexeme) (all : Option (List KeptEdge × List Lexeme)) → EdgesLeft states propositions sets done tokens all → due tokens ≡ Some (t, rest) → begins_edge t ≡ Some true → Fails refusal (edge_at states propositions sets rest) → Fails refusal all
+unfolding edges_within
+edge_fails Memory states propositions sets done tokens rest t all left e first h = tt
+edge_fails (Wrong fault) states propositions sets done tokens rest t all left e first h = sym left.same ∙ rw (e, first, h) refl
+
+pub edges_more : (states propositions sets : ℕ) (done : List KeptEdge) (tokens rest : List Lexeme) (t : Lexeme) (x : KeptEdge × List Lexeme) (all : Option (List KeptEdge × List Lexeme)) → EdgesLeft states propositions sets done tokens all → due tokens ≡ Some (t, rest) → begins_edge t ≡ Some true → edge_at states propositions sets rest ≡ Some x → EdgesLeft states propositions sets (done ++ (x.0 ∷ [])) x.1 all
+unfolding edges_within
+edges_more states propositions sets done tokens rest t x all left e first h = more left.turns left.enough left.same
+  where
+    more : (n : ℕ) → length tokens ≤ n → ahead done (edges_within (suc n) states propositions sets tokens) ≡ all → EdgesLeft states propositions sets (done ++ (x.0 ∷ [])) x.1 all
+    more zero enough same = absurd (omega (arith, due_shorter tokens (t, rest) e))
+    more (suc n) enough same =
+        let turn : ahead done (edges_within (suc (suc n)) states propositions sets tokens) ≡ ahead done (edges_within (suc n) states propositions sets x.1 >>= λ y. Some (x.0 ∷ y.0, y.1)) = rw (e, first, h) refl in
+        record {
+          turns = n;
+          enough = omega (arith, due_shorter tokens (t, rest) e, edge_shorter states propositions sets rest x h);
+          same = sym (ahead_one done x.0 (edges_within (suc n) states propositions sets x.1)) ∙ sym turn ∙ same;
+        }
+
+pub edges_smaller : (states propositions sets : ℕ) (tokens rest : List Lexeme) (t : Lexeme) (x : KeptEdge × List Lexeme) → due tokens ≡ Some (t, rest) → edge_at states propositions sets rest ≡ Some x → length x.1 < length tokens
+edges_smaller states propositions sets tokens rest t x e h = omega (arith, due_shorter tokens (t, rest) e, edge_shorter states propositions sets rest x h)
+
+-- ---- lines
+
+-- the marks are those of these numbers
+abbrev Marks : ℕ → List Bool → List ℕ → Type 0
+Marks states seen numbers = (n : ℕ) → n < states → get_or seen n false ≡ is_seen numbers n
+
+one_mark : (states : ℕ) (seen : List Bool) (numbers : List ℕ) (i : ℕ) → length seen ≡ states → i < states → Marks states seen numbers → Marks states (set seen i true) (i ∷ numbers)
+one_mark states seen numbers i size below marks n h =
+    elim (eqb_tells i n) [
+      | inl c ↦
+          let within : i < length seen = omega arith in
+          let marked : get_or (set seen i true) n false ≡ true = subst (λ (k : ℕ). get_or (set seen i true) k false ≡ true) c.1 (get_or-set_same seen i true false within) in
+          marked ∙ sym (ap (λ (b : Bool). b || is_seen numbers n) c.0)
+      | inr c ↦ get_or-set_other seen i n true false (λ e. c.1 (sym e)) ∙ marks n h ∙ sym (ap (λ (b : Bool). b || is_seen numbers n) c.0)
+    ]
+
+same_state : (states : ℕ) (seen : List Bool) (numbers : List ℕ) → Marks states seen numbers → (t : Lexeme) → new_state states (λ n. get_or seen n false) t ≡ new_state states (is_seen numbers) t
+unfolding new_state state_of
+same_state states seen numbers marks (number n) = below (nat_lt n states) (ltb-true n states)
+  where
+    below : (b : Bool) → (b ≡ true → n < states) → ((cond b (Some n) None) >>= λ n. cond (get_or seen n false) None (Some n)) ≡ ((cond b (Some n) None) >>= λ n. cond (is_seen numbers n) None (Some n))
+    below true h = ap (λ (b : Bool). cond b None (Some n)) (marks n (h refl))
+    below false h = refl
+same_state states seen numbers marks t = refl
+
+-- behind the number of a line
+abbrev behind_state : ℕ → ℕ → ℕ → List Lexeme → ℕ → Option (KeptLine × List Lexeme)
+behind_state states propositions sets tokens n =
+    behind_name tokens >>= λ rest. sets_if sets rest >>= λ x. edges_at states propositions sets x.1 >>= λ y. Some (record { state = n; sets = x.0; edges = y.0 }, y.1)
+
+same_line : (states propositions sets : ℕ) (seen : List Bool) (numbers : List ℕ) (tokens : List Lexeme) → Marks states seen numbers → line_at states propositions sets (λ n. get_or seen n false) tokens ≡ line_at states propositions sets (is_seen numbers) tokens
+unfolding line_at
+same_line states propositions sets seen numbers tokens marks = same (due tokens)
+  where
+    same : (o : Option (Lexeme × List Lexeme)) → (o >>= λ t. new_state states (λ n. get_or seen n false) t.0 >>= behind_state states propositions sets t.1) ≡ (o >>= λ t. new_state states (is_seen numbers) t.0 >>= behind_state states propositions sets t.1)
+    same None = refl
+    same (Some t) = ap (λ (v : Option ℕ). v >>= behind_state states propositions sets t.1) (same_state states seen numbers marks t.0)
+
+-- what is left gives the same
+pub record LinesLeft (states propositions sets : ℕ) (seen : List Bool) (done : List KeptLine) (tokens : List Lexeme) (all : Option (List KeptLine × List Lexeme)) : Type 0 where
+  turns : ℕ
+  numbers : List ℕ
+  pub size : length seen ≡ states
+  marks : Marks states seen numbers
+  enough : length tokens ≤ turns
+  same : ahead done (lines_within (suc turns) states propositions sets numbers tokens) ≡ all
+
+pub lines_start : (states propositions sets : ℕ) (tokens : List Lexeme) → LinesLeft states propositions sets (replicate states false) [] tokens (body_at states propositions sets tokens)
+unfolding body_at
+lines_start states propositions sets tokens = record {
+  turns = length tokens;
+  numbers = [];
+  size = length-replicate states false;
+  marks = λ n h. get_or-replicate states n false false h;
+  enough = omega arith;
+  same = ahead_none (lines_within (suc (length tokens)) states propositions sets [] tokens);
+}
+
+pub lines_unread : (refusal : Refusal) (states propositions sets : ℕ) (seen : List Bool) (done : List KeptLine) (tokens : List Lexeme) (all : Option (List KeptLine × List Lexeme)) → LinesLeft states propositions sets seen done tokens all → Fails refusal (due tokens) → Fails refusal all
+unfolding lines_within
+lines_unread Memory states propositions sets seen done tokens all left h = tt
+lines_unread (Wrong fault) states propositions sets seen done tokens all left h = sym left.same ∙ rw h refl
+
+pub lines_fail : (refusal : Refusal) (states propositions sets : ℕ) (seen : List Bool) (done : List KeptLine) (tokens rest : List Lexeme) (t : Lexeme) (all : Option (List KeptLine × List Lexeme)) → LinesLeft states propositions sets seen done tokens all → due tokens ≡ Some (t, rest) → Fails refusal (begins_line t) → Fails refusal all
+unfolding lines_within
+lines_fail Memory states propositions sets seen done tokens rest t all left e h = tt
+lines_fail (Wrong fault) states propositions sets seen done tokens rest t all left e h = sym left.same ∙ rw (e, h) refl
+
+pub lines_end : (states propositions sets : ℕ) (seen : List Bool) (done : List KeptLine) (tokens rest : List Lexeme) (t : Lexeme) (all : Option (List KeptLine × List Lexeme)) → LinesLeft states propositions sets seen done tokens all → due tokens ≡ Some (t, rest) → begins_line t ≡ Some false → all ≡ Some (done, rest)
+unfolding lines_within
+lines_end states propositions sets seen done tokens rest t all left e h = sym left.same ∙ rw (e, h, append-nil done) refl
+
+pub line_fails : (refusal : Refusal) (states propositions sets : ℕ) (seen : List Bool) (done : List KeptLine) (tokens rest : List Lexeme) (t : Lexeme) (all : Option (List KeptLine × List Lexeme)) → LinesLeft states propositions sets seen done tokens all → due tokens ≡ Some (t, rest) → begins_line t ≡ Some true → Fails refusal (line_at states propositions sets (λ n. get_or seen n false) rest) → Fails refusal all
+unfolding lines_within
+line_fails Memory states propositions sets seen done tokens rest t all left e first h = tt
+line_fails (Wrong fault) states propositions sets seen done tokens rest t all left e first h =
+    let line = sym (same_line states propositions sets seen left.numbers rest left.marks) ∙ h in
+    sym left.same ∙ rw (e, first, line) refl
+
+pub lines_more : (states propositions sets : ℕ) (seen : List Bool) (done : List KeptLine) (tokens rest : List Lexeme) (t : Lexeme) (x : KeptLine × List Lexeme) (all : Option (List KeptLine × List Lexeme)) → LinesLeft states propositions sets seen done tokens all → due tokens ≡ Some (t, rest) → begins_line t ≡ Some true → line_at states propositions sets (λ n. get_or seen n false) rest ≡ Some x → x.0.state < states → LinesLeft states propositions sets (set seen x.0.state true) (done ++ (x.0 ∷ [])) x.1 all
+unfolding lines_within
+lines_more states propositions sets seen done tokens rest t x all left e first h below = more left.turns left.enough left.same
+  where
+    line : line_at states propositions sets (is_seen left.numbers) rest ≡ Some x
+    line = sym (same_line states propositions sets seen left.numbers rest left.marks) ∙ h
+
+    more : (n : ℕ) → length tokens ≤ n → ahead done (lines_within (suc n) states propositions sets left.numbers tokens) ≡ all → LinesLeft states propositions sets (set seen x.0.state true) (done ++ (x.0 ∷ [])) x.1 all
+    more zero enough same = absurd (omega (arith, due_shorter tokens (t, rest) e))
+    more (suc n) enough same =
+        let turn : ahead done (lines_within (suc (suc n)) states propositions sets left.numbers tokens) ≡ ahead done (lines_within (suc n) states propositions sets (x.0.state ∷ left.numbers) x.1 >>= λ y. Some (x.0 ∷ y.0, y.1)) = rw (e, first, line) refl in
+        record {
+          turns = n;
+          numbers = x.0.state ∷ left.numbers;
+          size = length-set seen x.0.state true ∙ left.size;
+          marks = one_mark states seen left.numbers x.0.state left.size below left.marks;
+          enough = omega (arith, due_shorter tokens (t, rest) e, line_shorter states propositions sets (is_seen left.numbers) rest x line);
+          same = sym (ahead_one done x.0 (lines_within (suc n) states propositions sets (x.0.state ∷ left.numbers) x.1)) ∙ sym turn ∙ same;
+        }
+
+pub lines_smaller : (states propositions sets : ℕ) (seen : ℕ → Bool) (tokens rest : List Lexeme) (t : Lexeme) (x : KeptLine × List Lexeme) → due tokens ≡ Some (t, rest) → line_at states propositions sets seen rest ≡ Some x → length x.1 < length tokens
+lines_smaller states propositions sets seen tokens rest t x e h = omega (arith, due_shorter tokens (t, rest) e, line_shorter states propositions sets seen rest x h)

@@ -1,0 +1,72 @@
+-- What the reader of labels and conditions gives is written there, and what is written there it gives.
+use Rattle.std.proofs.Common.{◌≡◌, ◌<◌, List, [], ◌∷◌, ◌++◌, length, Some, sym, ap, ◌∙◌, arith}
+use Rattle.std.specs.List.{AllByRecursion}
+use Rattle.std.proofs.lemmas.List.{length-append}
+use Rattle.pg_hoa.specs.declared.formula.Kind.{Kind}
+use Rattle.pg_hoa.specs.declared.formula.Op.{Op}
+use Rattle.pg_hoa.specs.Lexemes.{Lexeme, right_paren, ampersand, bar}
+use Rattle.pg_hoa.specs.Scan.{IsToken}
+use Rattle.pg_hoa.specs.Formulas.{Formula, yes, no, proposition, inf, fin, not, both, either, bracket, formula_lexemes, IsWritten}
+use Rattle.pg_hoa.specs.FormulaRun.{postfix, ops_at}
+use Rattle.pg_hoa.specs.FormulaScan.{formula_at}
+use Rattle.pg_hoa.proofs.Steps.{bind_some, some, some_is}
+use Rattle.pg_hoa.proofs.FormulasTake.{formula_takes}
+use Rattle.pg_hoa.proofs.FormulasAgain.{Ends, formula_again}
+use Rattle.pg_hoa.proofs.Keeping.{as_ops, formula_keeps}
+
+-- a formula that is written at the front of the tokens, its operations, and the tokens behind it
+pub record ReadsFormula (k : Kind) (tokens : List Lexeme) (ops : List Op) (rest : List Lexeme) : Type 0 where
+  pub formula : Formula
+  pub written : IsWritten k formula
+  pub is : tokens ≡ formula_lexemes formula ++ rest
+  pub computed : ops ≡ postfix formula
+
+pub ops_take : (k : Kind) (tokens : List Lexeme) (x : List Op × List Lexeme) → ops_at k tokens ≡ Some x → ReadsFormula k tokens x.0 x.1
+ops_take k tokens x e =
+    let found = bind_some (formula_at k tokens) (λ (y : Formula × List Lexeme). some (postfix y.0, y.1)) x (sym (formula_keeps k tokens) ∙ e) in
+    let taken = formula_takes k tokens found.0 found.1 in
+    let same : (postfix found.0.0, found.0.1) ≡ x = some_is (postfix found.0.0, found.0.1) x found.2 in
+    record {
+      formula = found.0.0;
+      written = taken.written;
+      is = taken.is ∙ ap (λ (y : List Op × List Lexeme). formula_lexemes found.0.0 ++ y.1) same;
+      computed = sym (ap (λ (y : List Op × List Lexeme). y.0) same);
+    }
+
+pub ops_again : (k : Kind) (f : Formula) (rest : List Lexeme) → IsWritten k f → Ends rest → ops_at k (formula_lexemes f ++ rest) ≡ Some (postfix f, rest)
+ops_again k f rest written ends = formula_keeps k (formula_lexemes f ++ rest) ∙ ap as_ops (formula_again k f rest written ends)
+
+-- ---- the tokens of a formula
+
+tokens_append : (ts us : List Lexeme) → AllByRecursion IsToken ts → AllByRecursion IsToken us → AllByRecursion IsToken (ts ++ us)
+tokens_append [] us a b = b
+tokens_append (t ∷ ts) us a b = (a.0, tokens_append ts us a.1 b)
+
+pub formula_tokens : (f : Formula) → AllByRecursion IsToken (formula_lexemes f)
+formula_tokens yes = (tt, tt)
+formula_tokens no = (tt, tt)
+formula_tokens (proposition a) = (tt, tt)
+formula_tokens (inf s) = (tt, (tt, (tt, (tt, tt))))
+formula_tokens (fin s) = (tt, (tt, (tt, (tt, tt))))
+formula_tokens (not f) = (tt, formula_tokens f)
+formula_tokens (both f g) = tokens_append (formula_lexemes f) (ampersand ∷ formula_lexemes g) (formula_tokens f) (tt, formula_tokens g)
+formula_tokens (either f g) = tokens_append (formula_lexemes f) (bar ∷ formula_lexemes g) (formula_tokens f) (tt, formula_tokens g)
+formula_tokens (bracket f) = (tt, tokens_append (formula_lexemes f) (right_paren ∷ []) (formula_tokens f) (tt, tt))
+
+pub some_tokens : (f : Formula) → 0 < length (formula_lexemes f)
+some_tokens yes = omega arith
+some_tokens no = omega arith
+some_tokens (proposition a) = omega arith
+some_tokens (inf s) = omega arith
+some_tokens (fin s) = omega arith
+some_tokens (not f) = omega arith
+some_tokens (both f g) = omega (arith, length-append (formula_lexemes f) (ampersand ∷ formula_lexemes g))
+some_tokens (either f g) = omega (arith, length-append (formula_lexemes f) (bar ∷ formula_lexemes g))
+some_tokens (bracket f) = omega arith
+
+-- a formula has a token at least
+pub ops_shorter : (k : Kind) (tokens : List Lexeme) (x : List Op × List Lexeme) → ops_at k tokens ≡ Some x → length x.1 < length tokens
+ops_shorter k tokens x e =
+    let read = ops_take k tokens x e in
+    let longer = some_tokens read.formula in
+    omega (arith, ap length read.is, length-append (formula_lexemes read.formula) x.1)

@@ -1,0 +1,134 @@
+-- Token by token through the values of headers.
+use Rattle.std.proofs.Common.{◌≡◌, ℕ, suc, ◌<◌, Bool, true, false, eqb, List, [], ◌∷◌, ◌++◌, length, map, Option, Some, None, refl, sym, subst, arith, inl, inr}
+use Rattle.std.specs.List.{list_all}
+use Rattle.pg_hoa.specs.declared.fault.Refusal.{Refusal}
+use Rattle.pg_hoa.specs.declared.fault.Refusal.TheVariants.{Memory, Wrong}
+use Rattle.pg_hoa.specs.Lexemes.{Lexeme, number, identifier, string, stray}
+use Rattle.pg_hoa.specs.Scan.{first, characters}
+use Rattle.pg_hoa.specs.AutomatonText.{character_code}
+use Rattle.pg_hoa.specs.Steps.{Fails}
+use Rattle.pg_hoa.specs.HeaderScan.{numeral_of, numbers_from, is_value, skipped_from, code_at, is_name_byte, is_name, quoted_at, names_from}
+use Rattle.pg_hoa.proofs.Steps.{chosen, some, some_is, none, none_is_some}
+use Rattle.pg_hoa.proofs.Turning.{first_end, first_token}
+
+-- no token begins with what can't be read
+pub first_good : {T : Type 0} (ts rest : List Lexeme) → first ts ≡ Some (Some stray, rest) → T
+first_good ts rest e =
+    let tok = first_token ts stray rest e in
+    let f : first (stray ∷ rest) ≡ Some (Some stray, rest) = subst (λ (l : List Lexeme). first l ≡ Some (Some stray, rest)) tok e in
+    absurd (none_is_some (some stray, rest) f)
+
+-- ---- numbers
+
+numbers_none : (ns : List ℕ) (ts : List Lexeme) → first ts ≡ None → numbers_from ns ts ≡ None
+unfolding numbers_from
+numbers_none ns [] e = absurd cc
+numbers_none ns (stray ∷ ts) e = refl
+numbers_none ns (t ∷ ts) e = absurd cc
+
+pub numbers_fail : (refusal : Refusal) (ns : List ℕ) (ts : List Lexeme) → Fails refusal (first ts) → Fails refusal (numbers_from ns ts)
+numbers_fail Memory ns ts h = tt
+numbers_fail (Wrong fault) ns ts h = numbers_none ns ts h
+
+pub numbers_more : (ns : List ℕ) (ts after : List Lexeme) (t : Option Lexeme) (n : ℕ) → first ts ≡ Some (t, after) → numeral_of t ≡ Some n → numbers_from ns ts ≡ numbers_from (ns ++ (n ∷ [])) after
+unfolding numbers_from
+numbers_more ns ts after (Some (number m)) n e f = rw (first_token ts (number m) after e, ← some_is m n f) refl
+numbers_more ns ts after t n e f = absurd (none_is_some n f)
+
+pub numbers_end : (ns : List ℕ) (ts after : List Lexeme) (t : Option Lexeme) → first ts ≡ Some (t, after) → numeral_of t ≡ None → numbers_from ns ts ≡ Some (ns, ts)
+unfolding numbers_from
+numbers_end ns ts after None e f = rw ((first_end ts after e).0) refl
+numbers_end ns ts after (Some (number m)) e f = absurd (none_is_some m (sym f))
+numbers_end ns ts after (Some stray) e f = first_good ts after e
+numbers_end ns ts after (Some t) e f = rw (first_token ts t after e) refl
+
+-- ---- values
+
+skipped_none : (ts : List Lexeme) → first ts ≡ None → skipped_from ts ≡ None
+unfolding skipped_from
+skipped_none [] e = absurd cc
+skipped_none (stray ∷ ts) e = refl
+skipped_none (t ∷ ts) e = absurd cc
+
+pub skipped_fail : (refusal : Refusal) (ts : List Lexeme) → Fails refusal (first ts) → Fails refusal (skipped_from ts)
+skipped_fail Memory ts h = tt
+skipped_fail (Wrong fault) ts h = skipped_none ts h
+
+pub true_is_false : {T : Type 0} → true ≡ false → T
+true_is_false e = absurd cc
+
+pub skipped_more : (ts after : List Lexeme) (t : Option Lexeme) → first ts ≡ Some (t, after) → is_value t ≡ true → skipped_from ts ≡ skipped_from after
+unfolding skipped_from
+skipped_more ts after (Some (number n)) e f = rw (first_token ts (number n) after e) refl
+skipped_more ts after (Some (identifier w)) e f = rw (first_token ts (identifier w) after e) refl
+skipped_more ts after (Some (string s)) e f = rw (first_token ts (string s) after e) refl
+skipped_more ts after t e f = true_is_false (sym f)
+
+pub skipped_end : (ts after : List Lexeme) (t : Option Lexeme) → first ts ≡ Some (t, after) → is_value t ≡ false → skipped_from ts ≡ Some ts
+unfolding skipped_from
+skipped_end ts after None e f = rw ((first_end ts after e).0) refl
+skipped_end ts after (Some (number m)) e f = true_is_false f
+skipped_end ts after (Some (identifier w)) e f = true_is_false f
+skipped_end ts after (Some (string s)) e f = true_is_false f
+skipped_end ts after (Some stray) e f = first_good ts after e
+skipped_end ts after (Some t) e f = rw (first_token ts t after e) refl
+
+-- a token at least is taken
+pub taken : (ts after : List Lexeme) (t : Lexeme) → first ts ≡ Some (Some t, after) → length after < length ts
+taken ts after t e = rw (first_token ts t after e) (omega arith)
+
+pub value_taken : (ts after : List Lexeme) (t : Option Lexeme) → first ts ≡ Some (t, after) → is_value t ≡ true → length after < length ts
+value_taken ts after None e f = true_is_false (sym f)
+value_taken ts after (Some t) e f = taken ts after t e
+
+pub number_taken : (ts after : List Lexeme) (t : Option Lexeme) (n : ℕ) → first ts ≡ Some (t, after) → numeral_of t ≡ Some n → length after < length ts
+number_taken ts after None n e f = absurd (none_is_some n f)
+number_taken ts after (Some t) n e f = taken ts after t e
+
+-- ---- names
+
+-- the first character, and the others
+pub record Begun (content : List ℕ) (x : ℕ × List ℕ) : Type 0 where
+  pub is : map character_code (characters content) ≡ x.0 ∷ map character_code (characters x.1)
+  pub shorter : length x.1 < length content
+
+begun : (content : List ℕ) (b : ℕ) (rest : List ℕ) (x : ℕ × List ℕ) → some (b, rest) ≡ some x → Begun content (b, rest) → Begun content x
+begun content b rest x e h = subst (Begun content) (some_is (b, rest) x e) h
+
+pub character_begins : (content : List ℕ) (x : ℕ × List ℕ) → code_at content ≡ Some x → Begun content x
+character_begins [] x e = absurd (none_is_some x e)
+character_begins (b ∷ []) x e = begun (b ∷ []) b [] x e (record { is = refl; shorter = omega arith })
+character_begins (b ∷ c ∷ rest) x e =
+    elim (chosen (eqb b 92) (some (c, rest)) (some (b, c ∷ rest)) (some x) e) [
+      | inl h ↦ begun (b ∷ c ∷ rest) c rest x h.1 (record { is = rw h.0 refl; shorter = omega arith })
+      | inr h ↦ begun (b ∷ c ∷ rest) b (c ∷ rest) x h.1 (record { is = rw h.0 refl; shorter = omega arith })
+    ]
+
+pub characters_end : (content : List ℕ) → code_at content ≡ None → map character_code (characters content) ≡ []
+characters_end [] e = refl
+characters_end (b ∷ []) e = absurd (none_is_some (b, []) (sym e))
+characters_end (b ∷ c ∷ rest) e =
+    elim (chosen (eqb b 92) (some (c, rest)) (some (b, c ∷ rest)) none e) [
+      | inl h ↦ absurd (none_is_some (c, rest) (sym h.1))
+      | inr h ↦ absurd (none_is_some (b, c ∷ rest) (sym h.1))
+    ]
+
+pub name_is : (r : Bool) (name : List ℕ) → eqb (length name) 0 ≡ false → r ≡ list_all is_name_byte name → r ≡ is_name name
+name_is r [] e f = true_is_false e
+name_is r (b ∷ name) e f = f
+
+pub names_more : (n m : ℕ) (names : List (List ℕ)) (tokens : List Lexeme) (x : List ℕ × List Lexeme) → n ≡ suc m → quoted_at tokens ≡ Some x → names_from n names tokens ≡ names_from m (names ++ (x.0 ∷ [])) x.1
+unfolding names_from
+names_more n m names tokens x same e = rw (same, e) refl
+
+names_none : (n m : ℕ) (names : List (List ℕ)) (tokens : List Lexeme) → n ≡ suc m → quoted_at tokens ≡ None → names_from n names tokens ≡ None
+unfolding names_from
+names_none n m names tokens same e = rw (same, e) refl
+
+pub names_fail : (refusal : Refusal) (n m : ℕ) (names : List (List ℕ)) (tokens : List Lexeme) → n ≡ suc m → Fails refusal (quoted_at tokens) → Fails refusal (names_from n names tokens)
+names_fail Memory n m names tokens same h = tt
+names_fail (Wrong fault) n m names tokens same h = names_none n m names tokens same h
+
+pub names_end : (n : ℕ) (names : List (List ℕ)) (tokens : List Lexeme) → n ≡ 0 → names_from n names tokens ≡ Some (names, tokens)
+unfolding names_from
+names_end n names tokens same = rw same refl

@@ -1,0 +1,34 @@
+-- The operations of a formula say what the formula says.
+use Rattle.std.proofs.Common.{◌≡◌, ℕ, Bool, List, [], ◌∷◌, ◌++◌, refl, ap, ◌∙◌}
+use Rattle.pg_hoa.specs.declared.formula.Op.{Op}
+use Rattle.pg_hoa.specs.declared.formula.Op.TheVariants as ops
+use Rattle.pg_hoa.specs.Formulas.{Formula, yes, no, proposition, inf, fin, not, both, either, bracket, holds}
+use Rattle.pg_hoa.specs.FormulaRun.{postfix}
+use Rattle.pg_hoa.specs.Saying.{top, perform, run, says}
+
+pub run_append : (a b : List Op) (on : ℕ → Bool) (stack : List Bool) → run (a ++ b) on stack ≡ run b on (run a on stack)
+run_append [] b on stack = refl
+run_append (op ∷ a) b on stack = run_append a b on (perform op on stack)
+
+-- two operands and their operator
+run_two : (f g : Formula) (op : Op) (on : ℕ → Bool) (stack : List Bool) → run (postfix f) on stack ≡ holds f on ∷ stack → run (postfix g) on (holds f on ∷ stack) ≡ holds g on ∷ holds f on ∷ stack → run (postfix f ++ (postfix g ++ (op ∷ []))) on stack ≡ perform op on (holds g on ∷ holds f on ∷ stack)
+run_two f g op on stack hf hg =
+    run_append (postfix f) (postfix g ++ (op ∷ [])) on stack
+    ∙ run_append (postfix g) (op ∷ []) on (run (postfix f) on stack)
+    ∙ ap (λ (s : List Bool). perform op on (run (postfix g) on s)) hf
+    ∙ ap (perform op on) hg
+
+-- a formula leaves its truth on the stack
+pub postfix_runs : (f : Formula) (on : ℕ → Bool) (stack : List Bool) → run (postfix f) on stack ≡ holds f on ∷ stack
+postfix_runs yes on stack = refl
+postfix_runs no on stack = refl
+postfix_runs (proposition a) on stack = refl
+postfix_runs (inf s) on stack = refl
+postfix_runs (fin s) on stack = refl
+postfix_runs (not f) on stack = run_append (postfix f) (ops.Not ∷ []) on stack ∙ ap (perform ops.Not on) (postfix_runs f on stack)
+postfix_runs (both f g) on stack = run_two f g ops.Both on stack (postfix_runs f on stack) (postfix_runs g on (holds f on ∷ stack))
+postfix_runs (either f g) on stack = run_two f g ops.Either on stack (postfix_runs f on stack) (postfix_runs g on (holds f on ∷ stack))
+postfix_runs (bracket f) on stack = postfix_runs f on stack
+
+pub postfix_says : (f : Formula) (on : ℕ → Bool) → says (postfix f) on ≡ holds f on
+postfix_says f on = ap top (postfix_runs f on [])

@@ -1,0 +1,234 @@
+-- What one more step does to a table that is being filled.
+use Rattle.std.proofs.Common.{◌≡◌, ℕ, ◌<◌, ◌≤◌, Bool, true, false, ◌&&◌, ◌==◌, List, [], ◌∷◌, ◌++◌, length, get_or, set, Option, Some, None, refl, sym, ap, subst, ◌∙◌, arith, append_assoc}
+use Rattle.std.specs.Prelude.{option_map}
+use Rattle.std.specs.List.{All}
+use Rattle.std.proofs.lemmas.List.{append-nil, get_or-set_same, get_or-set_other, length-set}
+use Rattle.std.proofs.lemmas.List.Elements.{All-nil, All-cons, All-head, All-tail, All-push, All-weaker}
+use Rattle.std.proofs.lemmas.Bool.{false≢true}
+use Rattle.std.proofs.lemmas.Bool.Decides.{Decides-eqb}
+use Rattle.pg_hoa.specs.declared.shape.Shape.{Shape}
+use Rattle.pg_hoa.specs.Automata.{Step, deciding}
+use Rattle.pg_hoa.specs.AutomatonText.{Agree}
+use Rattle.pg_hoa.specs.Tables.{Stage, numbered, same_set, agree, Leads, Extends, IsFilled, Adds, when, at_slot}
+use Rattle.pg_hoa.proofs.Steps.{some, some_is, none_is_some}
+
+-- ---- steps that agree
+
+abbrev SameKey : Shape → Step → Step → Type 0
+SameKey shape s t = (s.target ≡ t.target) × (deciding shape s.sets ≡ deciding shape t.sets)
+
+all_but_last : {X : Type 0} (P : X → Type 0) (xs : List X) (x : X) → All P (xs ++ (x ∷ [])) → All P xs
+all_but_last P [] x h = All-nil P
+all_but_last P (y ∷ xs) x h = All-cons P y xs (All-head P y (xs ++ (x ∷ [])) h) (all_but_last P xs x (All-tail P y (xs ++ (x ∷ [])) h))
+
+last_of_all : {X : Type 0} (P : X → Type 0) (xs : List X) (x : X) → All P (xs ++ (x ∷ [])) → P x
+last_of_all P [] x h = All-head P x [] h
+last_of_all P (y ∷ xs) x h = last_of_all P xs x (All-tail P y (xs ++ (x ∷ [])) h)
+
+agree_none : (shape : Shape) → Agree shape []
+agree_none shape = All-nil (λ s. All (SameKey shape s) [])
+
+agree_one : (shape : Shape) (s : Step) → Agree shape (s ∷ [])
+agree_one shape s = All-cons (λ x. All (SameKey shape x) (s ∷ [])) s [] (All-cons (SameKey shape s) s [] (refl, refl) (All-nil (SameKey shape s))) (All-nil (λ x. All (SameKey shape x) (s ∷ [])))
+
+agree_more : (shape : Shape) (s t : Step) (steps : List Step) → Agree shape (s ∷ steps) → SameKey shape s t → Agree shape ((s ∷ steps) ++ (t ∷ []))
+agree_more shape s t steps h same =
+    let first = All-head (λ x. All (SameKey shape x) (s ∷ steps)) s steps h in
+    let P : Step → Type 0 = λ x. All (SameKey shape x) ((s ∷ steps) ++ (t ∷ [])) in
+    All-push P (s ∷ steps) t
+    (All-weaker (λ x. All (SameKey shape x) (s ∷ steps)) P
+    (λ x p. let q = All-head (SameKey shape x) s steps p in All-push (SameKey shape x) (s ∷ steps) t p (q.0 ∙ same.0, q.1 ∙ same.1))
+    (s ∷ steps) h)
+    (All-push (SameKey shape t) (s ∷ steps) t
+    (All-weaker (SameKey shape s) (SameKey shape t) (λ x p. (sym same.0 ∙ p.0, sym same.1 ∙ p.1)) (s ∷ steps) first)
+    (refl, refl))
+
+agree_less : (shape : Shape) (steps : List Step) (t : Step) → Agree shape (steps ++ (t ∷ [])) → Agree shape steps
+agree_less shape steps t h =
+    All-weaker (λ x. All (SameKey shape x) (steps ++ (t ∷ []))) (λ x. All (SameKey shape x) steps) (λ x p. all_but_last (SameKey shape x) steps t p) steps
+    (all_but_last (λ x. All (SameKey shape x) (steps ++ (t ∷ []))) steps t h)
+
+agree_last : (shape : Shape) (s t : Step) (steps : List Step) → Agree shape ((s ∷ steps) ++ (t ∷ [])) → SameKey shape s t
+agree_last shape s t steps h = last_of_all (SameKey shape s) (s ∷ steps) t (All-head (λ x. All (SameKey shape x) ((s ∷ steps) ++ (t ∷ []))) s (steps ++ (t ∷ [])) h)
+
+same_set_is : (a b : Option ℕ) → same_set a b ≡ true → a ≡ b
+same_set_is None None e = refl
+same_set_is (Some a) (Some b) e = ap some ((Decides-eqb a b).0 e)
+same_set_is None (Some b) e = absurd (false≢true e)
+same_set_is (Some a) None e = absurd (false≢true e)
+
+same_set_refl : (a : Option ℕ) → same_set a a ≡ true
+same_set_refl None = refl
+same_set_refl (Some a) = (Decides-eqb a a).1 refl
+
+both_true : (a b : Bool) → (a && b) ≡ true → (a ≡ true) × (b ≡ true)
+both_true true b e = (refl, e)
+both_true false b e = absurd (false≢true e)
+
+agree_key : (shape : Shape) (s t : Step) → agree shape s t ≡ true → SameKey shape s t
+agree_key shape s t e =
+    let p = both_true (s.target == t.target) (same_set (deciding shape s.sets) (deciding shape t.sets)) e in
+    ((Decides-eqb s.target t.target).0 p.0, same_set_is (deciding shape s.sets) (deciding shape t.sets) p.1)
+
+key_agrees : (shape : Shape) (s t : Step) → SameKey shape s t → agree shape s t ≡ true
+key_agrees shape s t k =
+    ap (λ b. b && same_set (deciding shape s.sets) (deciding shape t.sets)) ((Decides-eqb s.target t.target).1 k.0)
+    ∙ ap (λ d. same_set d (deciding shape t.sets)) k.1 ∙ same_set_refl (deciding shape t.sets)
+
+-- ---- a slot
+
+leads_extended : (t u : Stage) (n : ℕ) (steps : List Step) → Extends t u → Leads t n steps → Leads u n steps
+leads_extended t u n [] x h = h
+leads_extended t u n (s ∷ steps) x h = x.numbers n s h
+
+leads_none : (t : Stage) (n : ℕ) (steps : List Step) → Leads t n steps → numbered t.steps t.lists n ≡ None → steps ≡ []
+leads_none t n [] h e = refl
+leads_none t n (s ∷ steps) h e = absurd (none_is_some s (sym e ∙ h))
+
+-- a slot with a step has a first one
+leads_some : (t : Stage) (n : ℕ) (steps : List Step) (x : Step) → Leads t n steps → numbered t.steps t.lists n ≡ Some x → (rest : List Step) × (steps ≡ x ∷ rest)
+leads_some t n [] x h e = absurd (none_is_some x (sym (ap (numbered t.steps t.lists) h) ∙ e))
+leads_some t n (s ∷ steps) x h e = (steps, ap (λ y. y ∷ steps) (some_is s x (sym h ∙ e)))
+
+slot_cases : (P : List Step → Type 0) (steps : List Step) (slot i : ℕ) (s : Step) → ((i ≡ slot → ⊥) → P steps) → (i ≡ slot → P (steps ++ (s ∷ []))) → P (steps ++ at_slot slot s i)
+slot_cases P steps slot i s other same =
+    elim (i == slot) as (λ v. i == slot ≡ v → P (steps ++ when v s)) [
+      | true ↦ λ e. same ((Decides-eqb i slot).0 e)
+      | false ↦ λ e. subst P (sym (append-nil steps)) (other (λ is. false≢true (sym e ∙ (Decides-eqb i slot).1 is)))
+    ] refl
+
+mapped_some : {A B : Type 0} (f : A → B) (o : Option A) (y : B) → option_map f o ≡ Some y → (x : A) × (o ≡ Some x) × (f x ≡ y)
+mapped_some f None y e = absurd (none_is_some y e)
+mapped_some f (Some x) y e = (x, refl, some_is (f x) y e)
+
+mapped_none : {A B : Type 0} (f : A → B) (o : Option A) → option_map f o ≡ None → o ≡ None
+mapped_none f None e = refl
+mapped_none f (Some x) e = absurd (none_is_some (f x) (sym e))
+
+-- ---- a full slot
+
+abbrev Compares : Shape → Stage → ℕ → Step → Option Bool → Type 0
+Compares shape t slot s answer = option_map (λ x. agree shape x s) (numbered t.steps t.lists (get_or t.slots slot 0)) ≡ answer
+
+full_leads : (shape : Shape) (t : Stage) (given : ℕ → List Step) (slot : ℕ) (s : Step) (answer : Bool) → IsFilled shape t given → Compares shape t slot s (Some answer) → (i : ℕ) → i < length t.slots → Leads t (get_or t.slots i 0) (given i ++ at_slot slot s i)
+full_leads shape t given slot s answer f e i h =
+    let x = mapped_some (λ x. agree shape x s) (numbered t.steps t.lists (get_or t.slots slot 0)) answer e in
+    slot_cases (Leads t (get_or t.slots i 0)) (given i) slot i s (λ _. f.leads i h)
+    (λ is.
+    let there : numbered t.steps t.lists (get_or t.slots i 0) ≡ Some x.0 = ap (λ i. numbered t.steps t.lists (get_or t.slots i 0)) is ∙ x.1 in
+    let y = leads_some t (get_or t.slots i 0) (given i) x.0 (f.leads i h) there in
+    subst (λ (l : List Step). Leads t (get_or t.slots i 0) (l ++ (s ∷ []))) (sym y.1) there)
+
+-- what was there, with the first that is there
+first_there : (shape : Shape) (t : Stage) (given : ℕ → List Step) (slot : ℕ) (s : Step) (answer : Bool) → slot < length t.slots → IsFilled shape t given → Compares shape t slot s (Some answer) → (x : Step) × (rest : List Step) × (given slot ≡ x ∷ rest) × (agree shape x s ≡ answer)
+first_there shape t given slot s answer h f e =
+    let x = mapped_some (λ x. agree shape x s) (numbered t.steps t.lists (get_or t.slots slot 0)) answer e in
+    let y = leads_some t (get_or t.slots slot 0) (given slot) x.0 (f.leads slot h) x.1 in
+    (x.0, y.0, y.1, x.2)
+
+still_not_there : (shape : Shape) (t : Stage) (given : ℕ → List Step) (slot : ℕ) (s : Step) → IsFilled shape t given → t.conflict < length t.slots → Agree shape (given t.conflict ++ at_slot slot s t.conflict) → ⊥
+still_not_there shape t given slot s f h =
+    slot_cases (λ l. Agree shape l → ⊥) (given t.conflict) slot t.conflict s (λ _. f.not_there h) (λ _ a. f.not_there h (agree_less shape (given t.conflict) s a))
+
+pub adds_agreeing : (shape : Shape) (t : Stage) (slot : ℕ) (s : Step) → slot < length t.slots → Compares shape t slot s (Some true) → Adds shape (at_slot slot s) t t
+adds_agreeing shape t slot s h e = record {
+  as_many = refl;
+  fills = λ given f. record {
+    leads = full_leads shape t given slot s true f e;
+    conflict_within = f.conflict_within;
+    agree_before = λ i k. slot_cases (Agree shape) (given i) slot i s (λ _. f.agree_before i k)
+        (λ is.
+        let x = first_there shape t given slot s true h f e in
+        let there : given i ≡ x.0 ∷ x.1 = ap given is ∙ x.2 in
+        subst (λ (l : List Step). Agree shape (l ++ (s ∷ []))) (sym there) (agree_more shape x.0 s x.1 (subst (Agree shape) there (f.agree_before i k)) (agree_key shape x.0 s x.3)));
+    not_there = still_not_there shape t given slot s f;
+  };
+}
+
+pub adds_late_clash : (shape : Shape) (t : Stage) (slot : ℕ) (s : Step) → slot < length t.slots → Compares shape t slot s (Some false) → t.conflict ≤ slot → Adds shape (at_slot slot s) t t
+adds_late_clash shape t slot s h e late = record {
+  as_many = refl;
+  fills = λ given f. record {
+    leads = full_leads shape t given slot s false f e;
+    conflict_within = f.conflict_within;
+    agree_before = λ i k. slot_cases (Agree shape) (given i) slot i s (λ _. f.agree_before i k) (λ is. absurd (omega arith));
+    not_there = still_not_there shape t given slot s f;
+  };
+}
+
+pub adds_clash : (shape : Shape) (t u : Stage) (slot : ℕ) (s : Step) → slot < length t.slots → Compares shape t slot s (Some false) → slot < t.conflict → u ≡ record t { conflict = slot } → Adds shape (at_slot slot s) t u
+adds_clash shape t u slot s h e early is = subst (Adds shape (at_slot slot s) t) (sym is) (record {
+  as_many = refl;
+  fills = λ given f. record {
+    leads = full_leads shape t given slot s false f e;
+    conflict_within = omega arith;
+    agree_before = λ i k. slot_cases (Agree shape) (given i) slot i s (λ _. f.agree_before i (omega arith)) (λ is. absurd (omega arith));
+    not_there = λ _. slot_cases (λ l. Agree shape l → ⊥) (given slot) slot slot s (λ other. absurd (other refl))
+        (λ _ a.
+        let x = first_there shape t given slot s false h f e in
+        let k = agree_last shape x.0 s x.1 (subst (λ (l : List Step). Agree shape (l ++ (s ∷ []))) x.2 a) in
+        false≢true (sym x.3 ∙ key_agrees shape x.0 s k));
+  };
+})
+
+-- ---- an empty slot
+
+pub adds_first : (shape : Shape) (t u v : Stage) (slot n : ℕ) (s : Step) → slot < length t.slots → Compares shape t slot s None → Extends t u → numbered u.steps u.lists n ≡ Some s → v ≡ record u { slots = set u.slots slot n } → Adds shape (at_slot slot s) t v
+adds_first shape t u v slot n s h e x there is = subst (Adds shape (at_slot slot s) t) (sym is) (record {
+  as_many = length-set u.slots slot n ∙ ap length x.slots;
+  fills = λ given f.
+      let none_yet : given slot ≡ [] = leads_none t (get_or t.slots slot 0) (given slot) (f.leads slot h) (mapped_none (λ x. agree shape x s) (numbered t.steps t.lists (get_or t.slots slot 0)) e) in
+      let many : length (set u.slots slot n) ≡ length t.slots = length-set u.slots slot n ∙ ap length x.slots in
+      record {
+        leads = λ i k.
+            slot_cases (Leads u (get_or (set u.slots slot n) i 0)) (given i) slot i s
+            (λ other. subst (λ m. Leads u m (given i)) (sym (get_or-set_other u.slots slot i n 0 other ∙ ap (λ l. get_or l i 0) x.slots)) (leads_extended t u (get_or t.slots i 0) (given i) x (f.leads i (omega arith))))
+            (λ same.
+            let here : get_or (set u.slots slot n) i 0 ≡ n = ap (λ j. get_or (set u.slots slot n) j 0) same ∙ get_or-set_same u.slots slot n 0 (omega (arith, ap length x.slots)) in
+            let empty : given i ≡ [] = ap given same ∙ none_yet in
+            subst (λ (l : List Step). Leads u (get_or (set u.slots slot n) i 0) (l ++ (s ∷ []))) (sym empty) (subst (λ m. numbered u.steps u.lists m ≡ Some s) (sym here) there));
+        conflict_within = omega (arith, x.conflict, f.conflict_within, many);
+        agree_before = λ i k. slot_cases (Agree shape) (given i) slot i s (λ _. f.agree_before i (omega (arith, x.conflict)))
+            (λ same. let empty : given i ≡ [] = ap given same ∙ none_yet in subst (λ (l : List Step). Agree shape (l ++ (s ∷ []))) (sym empty) (agree_one shape s));
+        not_there = λ k. let back = still_not_there shape t given slot s f (omega (arith, x.conflict, many)) in subst (λ c. Agree shape (given c ++ at_slot slot s c) → ⊥) (sym x.conflict) back;
+      };
+})
+
+-- ---- one after another
+
+refilled : (shape : Shape) (t : Stage) (f g : ℕ → List Step) → IsFilled shape t f → ((i : ℕ) → i < length t.slots → f i ≡ g i) → IsFilled shape t g
+refilled shape t f g h e = record {
+  leads = λ i k. subst (Leads t (get_or t.slots i 0)) (e i k) (h.leads i k);
+  conflict_within = h.conflict_within;
+  agree_before = λ i k. let in_range : i < length t.slots = omega (arith, h.conflict_within) in subst (Agree shape) (e i in_range) (h.agree_before i k);
+  not_there = λ k a. h.not_there k (subst (Agree shape) (sym (e t.conflict k)) a);
+}
+
+pub adds_none : (shape : Shape) (more : ℕ → List Step) (t : Stage) → ((i : ℕ) → i < length t.slots → more i ≡ []) → Adds shape more t t
+adds_none shape more t e = record {
+  as_many = refl;
+  fills = λ given f. refilled shape t given (λ i. given i ++ more i) f (λ i k. sym (ap (λ l. given i ++ l) (e i k) ∙ append-nil (given i)));
+}
+
+pub adds_then : (shape : Shape) (g h k : ℕ → List Step) (t u v : Stage) → Adds shape g t u → Adds shape h u v → ((i : ℕ) → i < length t.slots → g i ++ h i ≡ k i) → Adds shape k t v
+adds_then shape g h k t u v a b e = record {
+  as_many = b.as_many ∙ a.as_many;
+  fills = λ given f. refilled shape v (λ i. (given i ++ g i) ++ h i) (λ i. given i ++ k i) (b.fills (λ i. given i ++ g i) (a.fills given f))
+      (λ i w. let in_range : i < length t.slots = omega (arith, a.as_many, b.as_many) in append_assoc (given i) (g i) (h i) ∙ ap (λ l. given i ++ l) (e i in_range));
+}
+
+pub adds_same : (shape : Shape) (g h : ℕ → List Step) (t u : Stage) → Adds shape g t u → ((i : ℕ) → i < length t.slots → g i ≡ h i) → Adds shape h t u
+adds_same shape g h t u a e = record {
+  as_many = a.as_many;
+  fills = λ given f. refilled shape u (λ i. given i ++ g i) (λ i. given i ++ h i) (a.fills given f) (λ i w. ap (λ l. given i ++ l) (e i (omega (arith, a.as_many))));
+}
+
+-- ---- the first stage
+
+pub nothing_yet : (shape : Shape) (t : Stage) → ((i : ℕ) → i < length t.slots → get_or t.slots i 0 ≡ 0) → t.conflict ≡ length t.slots → IsFilled shape t (λ i. [])
+nothing_yet shape t zeros c = record {
+  leads = zeros;
+  conflict_within = omega arith;
+  agree_before = λ i k. agree_none shape;
+  not_there = λ k a. absurd (omega arith);
+}

@@ -1,0 +1,104 @@
+-- Letters that fit what a label needs.
+use Rattle.std.proofs.Common.{◌≡◌, ℕ, ◌+◌, ◌*◌, ◌/◌, ◌^◌, ◌<◌, min, max, Bool, true, false, ◌&&◌, ◌||◌, ◌==◌, List, [], ◌∷◌, ◌++◌, length, drop, get_or, refl, sym, ap, subst, ◌∙◌, arith}
+use Rattle.std.specs.Prelude.{bit_and}
+use Rattle.std.specs.Int.{bit_at}
+use Rattle.std.specs.Int.RustNames.{bit_or}
+use Rattle.std.proofs.lemmas.Bool.{false≢true}
+use Rattle.std.proofs.lemmas.Bool.Decides.{Decides-eqb}
+use Rattle.std.proofs.lemmas.Nat.{and_shr, shr_high}
+use Rattle.std.proofs.lemmas.Nat.Bits.{bit_at_and, bit_at_or, bit_at-lt, and_pow, same_from_bits}
+use Rattle.std.proofs.lemmas.List.{reverse-append, at_drop_more}
+use Rattle.pg_hoa.specs.declared.formula.Op.{Op}
+use Rattle.pg_hoa.specs.declared.needs.Bits.{Bits}
+use Rattle.pg_hoa.specs.declared.needs.Need.{Need}
+use Rattle.pg_hoa.specs.Saying.{top, under, perform, run, says}
+use Rattle.pg_hoa.specs.Letters.{truth, on_at}
+use Rattle.pg_hoa.specs.Needs.{on_letter, Fits, Allows, AllowsEach, AllowsStack}
+use Rattle.pg_hoa.proofs.TableWords.{truth_none}
+
+-- ---- bits
+
+spread : (l a b : ℕ) → min l (max a b) ≡ max (min l a) (min l b)
+spread l a b = omega arith
+
+and_of_or : (l a b : ℕ) → bit_and l (bit_or a b) ≡ bit_or (bit_and l a) (bit_and l b)
+and_of_or l a b = same_from_bits (bit_and l (bit_or a b)) (bit_or (bit_and l a) (bit_and l b))
+    (λ i. bit_at_and l (bit_or a b) i ∙ ap (min (bit_at l i)) (bit_at_or a b i) ∙ spread (bit_at l i) (bit_at a i) (bit_at b i)
+    ∙ ap (λ x. max x (min (bit_at l i) (bit_at b i))) (sym (bit_at_and l a i)) ∙ ap (max (bit_at (bit_and l a) i)) (sym (bit_at_and l b i)) ∙ sym (bit_at_or (bit_and l a) (bit_and l b) i))
+
+pub fits_both : (letter : ℕ) (a b : Bits) → Fits letter a → Fits letter b → bit_and letter (bit_or a.care b.care) ≡ bit_or a.value b.value
+fits_both letter a b p q = and_of_or letter a.care b.care ∙ ap (λ x. bit_or x (bit_and letter b.care)) p ∙ ap (bit_or a.value) q
+
+zero_or_one : (a : ℕ) → a < 2 → (a ≡ 1 → ⊥) → a ≡ 0
+zero_or_one a h n = omega arith
+
+pub literal_allows : (letter a w : ℕ) → w ≡ 2 ^ a → Allows letter (record { yes = record { care = w; value = w }; no = record { care = w; value = 0 } }) (on_letter letter a)
+literal_allows letter a w h =
+    elim (bit_at letter a == 1) as (λ v. bit_at letter a == 1 ≡ v → Allows letter (record { yes = record { care = w; value = w }; no = record { care = w; value = 0 } }) v) [
+      | true ↦ λ e. (let same : 1 * 2 ^ a ≡ w = omega (arith, h) in ap (bit_and letter) h ∙ and_pow letter a ∙ ap (λ b. b * 2 ^ a) ((Decides-eqb (bit_at letter a) 1).0 e) ∙ same)
+      | false ↦ λ e. (let none : 0 * 2 ^ a ≡ 0 = omega arith in
+          ap (bit_and letter) h ∙ and_pow letter a ∙ ap (λ b. b * 2 ^ a) (zero_or_one (bit_at letter a) (bit_at-lt letter a) (λ is. false≢true (sym e ∙ (Decides-eqb (bit_at letter a) 1).1 is))) ∙ none)
+    ] refl
+
+-- a letter of a block has the block's number above its low six bits
+pub none_fits : (block : ℕ) (bits : Bits) → (bit_and block (bits.care / 2 ^ 6) ≡ bits.value / 2 ^ 6 → ⊥) → (j : ℕ) → j < 64 → Fits (block * 64 + j) bits → ⊥
+none_fits block bits n j h fit =
+    n (ap (λ b. bit_and b (bits.care / 2 ^ 6)) (sym (shr_high block 6 j h)) ∙ sym (and_shr (block * 64 + j) bits.care 6) ∙ ap (λ x. x / 2 ^ 6) fit)
+
+says_none : (b : Bool) → (b ≡ true → ⊥) → false ≡ b
+says_none true n = absurd (n refl)
+says_none false n = refl
+
+pub no_word : (label : List Op) (block : ℕ) (bits : Bits) → ((letter : ℕ) → says label (on_letter letter) ≡ true → Fits letter bits) → ((j : ℕ) → j < 64 → Fits (block * 64 + j) bits → ⊥) → (j : ℕ) → j < 64 → truth 0 j ≡ says label (on_at block j)
+no_word label block bits fit none j h = truth_none j ∙ says_none (says label (on_at block j)) (λ e. none j h (fit (block * 64 + j) e))
+
+-- ---- stacks
+
+pub pushed_allows : (letter : ℕ) (needs : List Need) (n : Need) (answers : List Bool) → Allows letter n (top answers) × AllowsStack letter needs (under answers) → AllowsStack letter (needs ++ (n ∷ [])) answers
+unfolding AllowsStack
+pushed_allows letter needs n answers h = subst (λ (l : List Need). AllowsEach letter l answers) (sym (reverse-append needs (n ∷ []))) h
+
+pub popped_allows : (letter : ℕ) (needs : List Need) (n : Need) (answers : List Bool) → AllowsStack letter (needs ++ (n ∷ [])) answers → Allows letter n (top answers) × AllowsStack letter needs (under answers)
+unfolding AllowsStack
+popped_allows letter needs n answers h = subst (λ (l : List Need). AllowsEach letter l answers) (reverse-append needs (n ∷ [])) h
+
+pub none_allows : (letter : ℕ) (answers : List Bool) → AllowsStack letter [] answers
+unfolding AllowsStack
+none_allows letter answers = tt
+
+pub any_allows : (letter : ℕ) (n : Need) (answer : Bool) → Fits letter n.yes → Fits letter n.no → Allows letter n answer
+any_allows letter n true p q = p
+any_allows letter n false p q = q
+
+pub allows_both : (letter : ℕ) (l r n : Need) (a b : Bool) → (Fits letter l.yes → Fits letter r.yes → Fits letter n.yes) → (Fits letter l.no → Fits letter n.no) → (Fits letter r.no → Fits letter n.no) → Allows letter l a → Allows letter r b → Allows letter n (a && b)
+allows_both letter l r n true true join left right p q = join p q
+allows_both letter l r n true false join left right p q = right q
+allows_both letter l r n false b join left right p q = left p
+
+pub allows_either : (letter : ℕ) (l r n : Need) (a b : Bool) → (Fits letter l.no → Fits letter r.no → Fits letter n.no) → (Fits letter l.yes → Fits letter n.yes) → (Fits letter r.yes → Fits letter n.yes) → Allows letter l a → Allows letter r b → Allows letter n (a || b)
+allows_either letter l r n false false join left right p q = join p q
+allows_either letter l r n false true join left right p q = right q
+allows_either letter l r n true b join left right p q = left p
+
+-- ---- the loop
+
+-- answers that the needs allow, from which what is left of the label says what it says
+pub record IsOnTheWay (letter : ℕ) (label left : List Op) (needs : List Need) : Type 0 where
+  pub answers : List Bool
+  pub allowed : AllowsStack letter needs answers
+  pub same : run left (on_letter letter) answers ≡ run label (on_letter letter) []
+
+pub setting_out : (letter : ℕ) (label : List Op) (needs : List Need) → needs ≡ [] → IsOnTheWay letter label label needs
+setting_out letter label needs e = record { answers = []; allowed = subst (λ l. AllowsStack letter l []) (sym e) (none_allows letter []); same = refl }
+
+pub one_more : (letter : ℕ) (label : List Op) (i : ℕ) (op d : Op) (needs left pushed : List Need) (n : Need) → i < length label → op ≡ get_or label i d → ((answers : List Bool) → AllowsStack letter needs answers → Allows letter n (top (perform op (on_letter letter) answers)) × AllowsStack letter left (under (perform op (on_letter letter) answers))) → pushed ≡ left ++ (n ∷ []) → IsOnTheWay letter label (drop i label) needs → IsOnTheWay letter label (drop (i + 1) label) pushed
+one_more letter label i op d needs left pushed n lt is step p way = record {
+  answers = perform op (on_letter letter) way.answers;
+  allowed = subst (λ l. AllowsStack letter l (perform op (on_letter letter) way.answers)) (sym p) (pushed_allows letter left n (perform op (on_letter letter) way.answers) (step way.answers way.allowed));
+  same = ap (λ o. run (drop (i + 1) label) (on_letter letter) (perform o (on_letter letter) way.answers)) is ∙ sym (at_drop_more (λ ops. run ops (on_letter letter) way.answers) label i d lt) ∙ way.same;
+}
+
+pub arrived : (letter : ℕ) (label left : List Op) (needs : List Need) (n : Need) (rest : List Need) → left ≡ [] → IsOnTheWay letter label left needs → ((answers : List Bool) → AllowsStack letter needs answers → Allows letter n (top answers) × AllowsStack letter rest (under answers)) → says label (on_letter letter) ≡ true → Fits letter n.yes
+arrived letter label left needs n rest e way popped said =
+    let here : top way.answers ≡ true = ap top (sym (ap (λ l. run l (on_letter letter) way.answers) e) ∙ way.same) ∙ said in
+    subst (Allows letter n) here (popped way.answers way.allowed).0

@@ -1,0 +1,50 @@
+-- Steps by their numbers, while more are stored.
+use Rattle.std.proofs.Common.{◌≡◌, ℕ, suc, zero, ◌<◌, List, [], ◌∷◌, ◌++◌, length, Option, Some, refl, ap, ◌∙◌, arith}
+use Rattle.std.specs.Prelude.{slice_get}
+use Rattle.pg_hoa.specs.declared.table.Stored.{Stored}
+use Rattle.pg_hoa.specs.Automata.{Step}
+use Rattle.pg_hoa.specs.Steps.{◌>>=◌}
+use Rattle.pg_hoa.specs.Tables.{Stage, step, numbered, Extends, MayNumber}
+use Rattle.pg_hoa.proofs.Steps.{bind_some, some, none_is_some}
+
+slice_get_more : {X : Type 0} (xs ys : List X) (k : ℕ) (x : X) → slice_get xs k ≡ Some x → slice_get (xs ++ ys) k ≡ Some x
+slice_get_more [] ys k x e = absurd (none_is_some x e)
+slice_get_more (z ∷ xs) ys zero x e = e
+slice_get_more (z ∷ xs) ys (suc k) x e = slice_get_more xs ys k x e
+
+pub slice_get_last : {X : Type 0} (xs : List X) (x : X) → slice_get (xs ++ (x ∷ [])) (length xs) ≡ Some x
+slice_get_last [] x = refl
+slice_get_last (z ∷ xs) x = slice_get_last xs x
+
+-- what a number stands for, from its parts
+pub numbered_is : (steps : List Stored) (lists : List (List ℕ)) (k : ℕ) (s : Stored) (sets : List ℕ) → slice_get steps k ≡ Some s → slice_get lists s.list ≡ Some sets → numbered steps lists (suc k) ≡ Some (step s.target sets)
+numbered_is steps lists k s sets a b =
+    ap (λ (o : Option Stored). o >>= λ s. slice_get lists s.list >>= λ sets. Some (step s.target sets)) a ∙ ap (λ (o : Option (List ℕ)). o >>= λ sets. some (step s.target sets)) b
+
+pub numbered_more : (steps : List Stored) (lists : List (List ℕ)) (new_steps : List Stored) (new_lists : List (List ℕ)) (n : ℕ) (s : Step) → numbered steps lists n ≡ Some s → numbered (steps ++ new_steps) (lists ++ new_lists) n ≡ Some s
+numbered_more steps lists new_steps new_lists zero s e = absurd (none_is_some s e)
+numbered_more steps lists new_steps new_lists (suc k) s e =
+    let a = bind_some (slice_get steps k) (λ s. slice_get lists s.list >>= λ sets. Some (step s.target sets)) s e in
+    let b = bind_some (slice_get lists a.0.list) (λ sets. some (step a.0.target sets)) s a.2 in
+    numbered_is (steps ++ new_steps) (lists ++ new_lists) k a.0 b.0 (slice_get_more steps new_steps k a.0 a.1) (slice_get_more lists new_lists a.0.list b.0 b.1) ∙ b.2
+
+pub extends_refl : (t : Stage) → Extends t t
+extends_refl t = record { slots = refl; conflict = refl; numbers = λ n s e. e }
+
+pub extends_by : (t u : Stage) (new_steps : List Stored) (new_lists : List (List ℕ)) → u.slots ≡ t.slots → u.conflict ≡ t.conflict → u.steps ≡ t.steps ++ new_steps → u.lists ≡ t.lists ++ new_lists → Extends t u
+extends_by t u new_steps new_lists a b c d = record {
+  slots = a;
+  conflict = b;
+  numbers = λ n s e. ap (λ l. numbered l u.lists n) c ∙ ap (λ l. numbered (t.steps ++ new_steps) l n) d ∙ numbered_more t.steps t.lists new_steps new_lists n s e;
+}
+
+pub extends_then : (t u v : Stage) → Extends t u → Extends u v → Extends t v
+extends_then t u v a b = record {
+  slots = b.slots ∙ a.slots;
+  conflict = b.conflict ∙ a.conflict;
+  numbers = λ n s e. b.numbers n s (a.numbers n s e);
+}
+
+pub numbers_more : (t : Stage) (n : ℕ) (s : Step) → 0 < n → MayNumber t n s → numbered t.steps t.lists n ≡ Some s
+numbers_more t zero s h m = absurd (omega arith)
+numbers_more t (suc n) s h m = m

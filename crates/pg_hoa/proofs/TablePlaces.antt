@@ -1,0 +1,231 @@
+-- Which slots a step goes to: bit by bit, block by block, edge by edge and line by line.
+use Rattle.std.proofs.Common.{◌≡◌, ℕ, suc, ◌+◌, ◌-◌, ◌*◌, ◌/◌, ◌%◌, ◌^◌, ◌<◌, ◌≤◌, Bool, true, false, cond, ◌&&◌, ◌==◌, leb, ltb, List, [], ◌∷◌, ◌++◌, length, map, take, get_or, refl, sym, ap, ◌∙◌, arith, lit<, lit≤, inl, inr, ◌⊎◌, Decides}
+use Rattle.std.specs.List.{filter}
+use Rattle.std.specs.Int.{bit_at, trailing_zeros, w64}
+use Rattle.std.proofs.lemmas.Bool.{false≢true}
+use Rattle.std.proofs.lemmas.Bool.Decides.{Decides-eqb, Decides-ltb, Decides-and, leb_tells}
+use Rattle.std.proofs.lemmas.Nat.{div-mul-add, div-add-mod', mod_below, pow-add, pow_pos, pow_below, shr-shr, shr_le}
+use Rattle.std.proofs.lemmas.Nat.Bits.{bit_at-zero, bit_at-trailing_zeros}
+use Rattle.std.proofs.lemmas.List.{map-append, flat_map_more, take_more}
+use Rattle.std.proofs.lemmas.List.Elements.{filter-append}
+use Rattle.pg_hoa.specs.declared.formula.Op.{Op}
+use Rattle.pg_hoa.specs.Automata.{Step}
+use Rattle.pg_hoa.specs.AutomatonText.{rising}
+use Rattle.pg_hoa.specs.Kept.{KeptEdge, KeptLine}
+use Rattle.pg_hoa.specs.Saying.{says}
+use Rattle.pg_hoa.specs.Letters.{truth, on_at}
+use Rattle.pg_hoa.specs.Tables.{when, within, at_slot, at_word, at_letters, at_line, at_lines, IsSplit, says_at, step, edge_step, kept_edge_steps}
+
+-- ---- tests
+
+when_split : (b c d : Bool) (s : Step) (P Q R : Type 0) → Decides b P → Decides c Q → Decides d R → (P → Q → ⊥) → (P → R) → (Q → R) → (R → P ⊎ Q) → when b s ++ when c s ≡ when d s
+when_split true true d s P Q R p q r apart a b back = absurd (apart (p.0 refl) (q.0 refl))
+when_split true false d s P Q R p q r apart a b back = ap (λ d. when d s) (sym (r.1 (a (p.0 refl))))
+when_split false true d s P Q R p q r apart a b back = ap (λ d. when d s) (sym (r.1 (b (q.0 refl))))
+when_split false false true s P Q R p q r apart a b back = elim (back (r.0 refl)) [ inl h ↦ absurd (false≢true (p.1 h)) | inr h ↦ absurd (false≢true (q.1 h)) ]
+when_split false false false s P Q R p q r apart a b back = refl
+
+when_same : (b d : Bool) (s : Step) (P R : Type 0) → Decides b P → Decides d R → (P → R) → (R → P) → when b s ≡ when d s
+when_same true d s P R p r a back = ap (λ d. when d s) (sym (r.1 (a (p.0 refl))))
+when_same false true s P R p r a back = absurd (false≢true (p.1 (back (r.0 refl))))
+when_same false false s P R p r a back = refl
+
+when_none : (b : Bool) (s : Step) (P : Type 0) → Decides b P → (P → ⊥) → when b s ≡ []
+when_none true s P p n = absurd (n (p.0 refl))
+when_none false s P p n = refl
+
+decides_le : (a b : ℕ) → Decides (leb a b) (a ≤ b)
+decides_le a b = elim (leb_tells a b) [ inl p ↦ (λ _. p.1, λ _. p.0) | inr p ↦ (λ e. absurd (false≢true (sym p.0 ∙ e)), λ h. absurd (omega arith)) ]
+
+decides_true : (b : Bool) → Decides b (b ≡ true)
+decides_true b = (λ e. e, λ e. e)
+
+abbrev Within : ℕ → ℕ → ℕ → Type 0
+Within first width i = (first ≤ i) × (i < first + width)
+
+decides_within : (first width i : ℕ) → Decides (within first width i) (Within first width i)
+decides_within first width i = Decides-and (leb first i) (ltb i (first + width)) (decides_le first i) (Decides-ltb i (first + width))
+
+before_or_behind : (a b : ℕ) → (a < b) ⊎ (b ≤ a)
+before_or_behind a b = elim (leb_tells (suc a) b) [ inl p ↦ inl p.1 | inr p ↦ inr (omega (arith, p.1)) ]
+
+-- ---- bits
+
+abbrev AtBit : ℕ → ℕ → ℕ → ℕ → Type 0
+AtBit first width word i = Within first width i × (bit_at word (i - first) ≡ 1)
+
+decides_bit : (first width word i : ℕ) → Decides (within first width i && (bit_at word (i - first) == 1)) (AtBit first width word i)
+decides_bit first width word i = Decides-and (within first width i) (bit_at word (i - first) == 1) (decides_within first width i) (Decides-eqb (bit_at word (i - first)) 1)
+
+pub no_bits : (first word : ℕ) (s : Step) (i : ℕ) → at_word first 0 word s i ≡ []
+no_bits first word s i = when_none (within first 0 i && (bit_at word (i - first) == 1)) s (AtBit first 0 word i) (decides_bit first 0 word i) (λ p. absurd (omega (arith, p.0.0, p.0.1)))
+
+pub set_bit : (first j word : ℕ) (s : Step) (i : ℕ) → bit_at word j ≡ 1 → at_word first j word s i ++ at_slot (first + j) s i ≡ at_word first (j + 1) word s i
+set_bit first j word s i bit =
+    when_split (within first j i && (bit_at word (i - first) == 1)) (i == first + j) (within first (j + 1) i && (bit_at word (i - first) == 1)) s
+    (AtBit first j word i) (i ≡ first + j) (AtBit first (j + 1) word i)
+    (decides_bit first j word i) (Decides-eqb i (first + j)) (decides_bit first (j + 1) word i)
+    (λ p q. omega (arith, p.0.1, q))
+    (λ p. ((p.0.0, omega (arith, p.0.1)), p.1))
+    (λ q. let place : i - first ≡ j = omega (arith, q) in ((omega (arith, q), omega (arith, q)), ap (bit_at word) place ∙ bit))
+    (λ r. elim (before_or_behind i (first + j)) [ inl h ↦ inl ((r.0.0, h), r.1) | inr h ↦ inr (omega (arith, r.0.1, h)) ])
+
+pub unset_bits : (first a b word : ℕ) (s : Step) (i : ℕ) → a ≤ b → ((k : ℕ) → a ≤ k → k < b → bit_at word k ≡ 1 → ⊥) → at_word first a word s i ≡ at_word first b word s i
+unset_bits first a b word s i h none =
+    when_same (within first a i && (bit_at word (i - first) == 1)) (within first b i && (bit_at word (i - first) == 1)) s
+    (AtBit first a word i) (AtBit first b word i) (decides_bit first a word i) (decides_bit first b word i)
+    (λ p. ((p.0.0, omega (arith, p.0.1, h)), p.1))
+    (λ r. elim (before_or_behind i (first + a)) [
+      | inl less ↦ ((r.0.0, less), r.1)
+      | inr more ↦ absurd (none (i - first) (omega (arith, more)) (omega (arith, r.0.0, r.0.1)) r.1)
+    ])
+
+bit_of_rest : (word at k : ℕ) → at ≤ k → bit_at (word / 2 ^ at) (k - at) ≡ bit_at word k
+bit_of_rest word at k h =
+    let place : at + (k - at) ≡ k = omega (arith, h) in
+    ap (λ n. n % 2) (shr-shr word at (k - at)) ∙ ap (bit_at word) place
+
+-- the bits from one place on, where nothing is left
+pub none_left : (word at : ℕ) → word / 2 ^ at ≡ 0 → (k : ℕ) → at ≤ k → bit_at word k ≡ 1 → ⊥
+none_left word at none k h e =
+    let zero_there : bit_at word k ≡ 0 = sym (bit_of_rest word at k h) ∙ ap (λ n. bit_at n (k - at)) none ∙ bit_at-zero (k - at) in
+    omega (arith, sym zero_there ∙ e)
+
+-- the next bit, and none before it
+pub next_bit : (word at skip : ℕ) → word < 2 ^ 64 → (word / 2 ^ at ≡ 0 → ⊥) → skip ≡ trailing_zeros w64 (word / 2 ^ at) → (bit_at word (at + skip) ≡ 1) × ((k : ℕ) → at ≤ k → k < at + skip → bit_at word k ≡ 1 → ⊥)
+next_bit word at skip h some e =
+    let small : word / 2 ^ at < 18446744073709551616 = omega (arith, h, shr_le word at) in
+    let z = bit_at-trailing_zeros w64 (word / 2 ^ at) (omega (arith, some)) small in
+    let here : at + skip - at ≡ trailing_zeros w64 (word / 2 ^ at) = omega (arith, e) in (
+      sym (bit_of_rest word at (at + skip) (omega arith)) ∙ ap (bit_at (word / 2 ^ at)) here ∙ z.1,
+      λ k low high one.
+          let zero_there : bit_at word k ≡ 0 = sym (bit_of_rest word at k low) ∙ z.2 (k - at) (omega (arith, low, high, e)) in
+          omega (arith, sym zero_there ∙ one),
+    )
+
+-- ---- blocks
+
+abbrev says_behind : List Op → ℕ → ℕ → Bool
+says_behind label first i = says label (λ a. bit_at (i - first) a == 1)
+
+abbrev AtLetter : ℕ → ℕ → List Op → ℕ → Type 0
+AtLetter first width label i = Within first width i × (says_behind label first i ≡ true)
+
+decides_letter : (first width : ℕ) (label : List Op) (i : ℕ) → Decides (within first width i && says_behind label first i) (AtLetter first width label i)
+decides_letter first width label i = Decides-and (within first width i) (says_behind label first i) (decides_within first width i) (decides_true (says_behind label first i))
+
+abbrev Tells : ℕ → List Op → ℕ → Type 0
+Tells word label block = (j : ℕ) → j < 64 → truth word j ≡ says label (on_at block j)
+
+-- what a word says of a slot is what the label says
+word_tells : (word : ℕ) (label : List Op) (block first width i : ℕ) → Tells word label block → width ≤ 64 → block * width ≡ block * 64 → Within (first + block * width) width i → (bit_at word (i - (first + block * width)) == 1) ≡ says_behind label first i
+word_tells word label block first width i tells narrow whole h =
+    let inside : i - (first + block * width) < 64 = omega (arith, h.0, h.1) in
+    let place : block * 64 + (i - (first + block * width)) ≡ i - first = omega (arith, h.0, h.1, whole) in
+    tells (i - (first + block * width)) inside ∙ ap (λ m. says label (λ a. bit_at m a == 1)) place
+
+pub no_letters : (first : ℕ) (label : List Op) (s : Step) (i : ℕ) → at_letters first 0 label s i ≡ []
+no_letters first label s i = when_none (within first 0 i && says_behind label first i) s (AtLetter first 0 label i) (decides_letter first 0 label i) (λ p. absurd (omega (arith, p.0.0, p.0.1)))
+
+pub more_letters : (first block width word : ℕ) (label : List Op) (s : Step) (i : ℕ) → Tells word label block → width ≤ 64 → block * width ≡ block * 64 → at_letters first (block * width) label s i ++ at_word (first + block * width) width word s i ≡ at_letters first ((block + 1) * width) label s i
+more_letters first block width word label s i tells narrow whole =
+    let next : (block + 1) * width ≡ block * width + width = omega arith in
+    when_split (within first (block * width) i && says_behind label first i) (within (first + block * width) width i && (bit_at word (i - (first + block * width)) == 1)) (within first ((block + 1) * width) i && says_behind label first i) s
+    (AtLetter first (block * width) label i) (AtBit (first + block * width) width word i) (AtLetter first ((block + 1) * width) label i)
+    (decides_letter first (block * width) label i) (decides_bit (first + block * width) width word i) (decides_letter first ((block + 1) * width) label i)
+    (λ p q. omega (arith, p.0.1, q.0.0))
+    (λ p. ((p.0.0, omega (arith, p.0.1, next)), p.1))
+    (λ q. ((omega (arith, q.0.0), omega (arith, q.0.1, next)), sym (word_tells word label block first width i tells narrow whole q.0) ∙ (Decides-eqb (bit_at word (i - (first + block * width))) 1).1 q.1))
+    (λ r. elim (before_or_behind i (first + block * width)) [
+      | inl h ↦ inl ((r.0.0, h), r.1)
+      | inr h ↦ (let inside : Within (first + block * width) width i = (h, omega (arith, r.0.1, next)) in
+          inr (inside, (Decides-eqb (bit_at word (i - (first + block * width))) 1).0 (word_tells word label block first width i tells narrow whole inside ∙ r.1)))
+    ])
+
+-- a word without bits gives nothing
+pub empty_word : (first width : ℕ) (s : Step) (i : ℕ) → at_word first width 0 s i ≡ []
+empty_word first width s i = when_none (within first width i && (bit_at 0 (i - first) == 1)) s (AtBit first width 0 i) (decides_bit first width 0 i) (λ p. none_set (i - first) p.1)
+  where
+    none_set : (j : ℕ) → bit_at 0 j ≡ 1 → ⊥
+    none_set j e = omega (arith, sym (bit_at-zero j) ∙ e)
+
+-- ---- edges
+
+abbrev pub line_of : ℕ → List ℕ → List KeptEdge → KeptLine
+line_of state own edges = record { state = state; sets = own; edges = edges }
+
+at_row : (letters state i : ℕ) → 0 < letters → i / letters ≡ state → Within (state * letters) letters i × (i - state * letters ≡ i % letters)
+at_row letters state i h e =
+    let whole : state * letters + i % letters ≡ i = ap (λ q. q * letters + i % letters) (sym e) ∙ div-add-mod' i letters in
+    let small = mod_below i letters h in
+    ((omega (arith, whole), omega (arith, whole, small)), omega (arith, whole))
+
+row_at : (letters state i : ℕ) → Within (state * letters) letters i → i / letters ≡ state
+row_at letters state i h =
+    let whole : state * letters + (i - state * letters) ≡ i = omega (arith, h.0) in
+    ap (λ i. i / letters) (sym whole) ∙ div-mul-add state letters (i - state * letters) (omega (arith, h.0, h.1))
+
+-- the slots of a state, by its letters
+letters_at : (letters state i : ℕ) (own : List ℕ) (e : KeptEdge) → 0 < letters → at_letters (state * letters) letters e.label (edge_step own e) i ≡ when (state == i / letters && says_at (i % letters) e) (edge_step own e)
+letters_at letters state i own e h =
+    when_same (within (state * letters) letters i && says_behind e.label (state * letters) i) (state == i / letters && says_at (i % letters) e) (edge_step own e)
+    (AtLetter (state * letters) letters e.label i) ((state ≡ i / letters) × (says_at (i % letters) e ≡ true))
+    (decides_letter (state * letters) letters e.label i) (Decides-and (state == i / letters) (says_at (i % letters) e) (Decides-eqb state (i / letters)) (decides_true (says_at (i % letters) e)))
+    (λ p. let row = row_at letters state i p.0 in (sym row, ap (λ m. says_at m e) (sym (at_row letters state i h row).1) ∙ p.1))
+    (λ q. let there = at_row letters state i h (sym q.0) in (there.0, ap (λ m. says_at m e) there.1 ∙ q.1))
+
+pub no_edges : (letters state : ℕ) (own : List ℕ) (i : ℕ) → at_line letters (line_of state own []) i ≡ []
+no_edges letters state own i = elim (state == i / letters) as (λ b. cond {A = List Step} b [] [] ≡ []) [ true ↦ refl | false ↦ refl ]
+
+alone : (own : List ℕ) (e : KeptEdge) (b : Bool) → map (edge_step own) (cond b (e ∷ []) []) ≡ when b (edge_step own e)
+alone own e true = refl
+alone own e false = refl
+
+pub more_edges : (letters state : ℕ) (own : List ℕ) (edges : List KeptEdge) (e : KeptEdge) (i : ℕ) → 0 < letters → at_line letters (line_of state own edges) i ++ at_letters (state * letters) letters e.label (edge_step own e) i ≡ at_line letters (line_of state own (edges ++ (e ∷ []))) i
+more_edges letters state own edges e i h = ap (λ l. at_line letters (line_of state own edges) i ++ l) (letters_at letters state i own e h) ∙ by_state (state == i / letters)
+  where
+    by_state : (b : Bool) → cond b (map (edge_step own) (filter (says_at (i % letters)) edges)) [] ++ when (b && says_at (i % letters) e) (edge_step own e) ≡ cond b (map (edge_step own) (filter (says_at (i % letters)) (edges ++ (e ∷ [])))) []
+    by_state true =
+        sym (ap (map (edge_step own)) (filter-append (says_at (i % letters)) edges (e ∷ [])) ∙ map-append (edge_step own) (filter (says_at (i % letters)) edges) (filter (says_at (i % letters)) (e ∷ []))
+        ∙ ap (λ l. map (edge_step own) (filter (says_at (i % letters)) edges) ++ l) (alone own e (says_at (i % letters) e)))
+    by_state false = refl
+
+pub more_items : {A B : Type 0} (f : A → B) (xs : List A) (i : ℕ) (x : A) → i < length xs → x ≡ get_or xs i x → map f (take i xs) ++ (f x ∷ []) ≡ map f (take (i + 1) xs)
+more_items f xs i x h is =
+    sym (ap (map f) (take_more xs i x h) ∙ map-append f (take i xs) (get_or xs i x ∷ []) ∙ ap (λ y. map f (take i xs) ++ (f y ∷ [])) (sym is))
+
+-- an edge as it is given, with its sets put into those of the state
+pub edge_added : (letters state first : ℕ) (own : List ℕ) (edges more : List KeptEdge) (e : KeptEdge) (label : List Op) (sets : List ℕ) (i : ℕ) → 0 < letters → first ≡ state * letters → label ≡ e.label → sets ≡ rising (own ++ e.sets) → edges ++ (e ∷ []) ≡ more → at_line letters (line_of state own edges) i ++ at_letters first letters label (step e.target sets) i ≡ at_line letters (line_of state own more) i
+edge_added letters state first own edges more e label sets i h a b c d =
+    ap (λ f. at_line letters (line_of state own edges) i ++ at_letters f letters label (step e.target sets) i) a
+    ∙ ap (λ l. at_line letters (line_of state own edges) i ++ at_letters (state * letters) letters l (step e.target sets) i) b
+    ∙ ap (λ l. at_line letters (line_of state own edges) i ++ at_letters (state * letters) letters e.label (step e.target l) i) c
+    ∙ more_edges letters state own edges e i h ∙ ap (λ l. at_line letters (line_of state own l) i) d
+
+-- ---- lines
+
+pub more_lines : (letters : ℕ) (lines : List KeptLine) (l : KeptLine) (i : ℕ) → at_lines letters lines i ++ at_line letters l i ≡ at_lines letters (lines ++ (l ∷ [])) i
+more_lines letters lines l i = flat_map_more (kept_edge_steps (i / letters) (i % letters)) [] lines l
+
+-- ---- how letters fall into blocks
+
+pub one_block : (propositions width : ℕ) → propositions < 6 → width ≡ 2 ^ propositions → IsSplit propositions 1 width
+one_block propositions width h e =
+    let small : 2 ^ propositions < 64 = pow_below propositions 6 h in
+    record { all = omega (arith, e); few = lit≤ tt; narrow = omega (arith, e, small); some = lit< tt; whole = λ block b. let none : block ≡ 0 = omega (arith, b) in ap (λ n. n * width) none ∙ nothing width ∙ ap (λ n. n * 64) (sym none) }
+  where
+    nothing : (n : ℕ) → 0 * n ≡ 0 * 64
+    nothing n = omega arith
+
+pub many_blocks : (propositions blocks : ℕ) → 6 ≤ propositions → propositions ≤ 16 → blocks ≡ 2 ^ (propositions - 6) → IsSplit propositions blocks 64
+many_blocks propositions blocks h k e =
+    let there : propositions - 6 + 6 ≡ propositions = omega (arith, h) in
+    let product : 2 ^ (propositions - 6) * 64 ≡ 2 ^ propositions = sym (pow-add 2 (propositions - 6) 6) ∙ ap (λ n. 2 ^ n) there in
+    let bound : 2 ^ (propositions - 6) ≤ 1024 = at_most_ten (propositions - 6) (omega (arith, h, k)) in
+    record { all = ap (λ n. n * 64) e ∙ product; few = omega (arith, e, bound); narrow = lit≤ tt; some = omega (arith, e, pow_pos (propositions - 6)); whole = λ block b. refl }
+  where
+    at_most_ten : (n : ℕ) → n ≤ 10 → 2 ^ n ≤ 1024
+    at_most_ten n h = elim (before_or_behind n 10) [
+      | inl less ↦ (let below : 2 ^ n < 1024 = pow_below n 10 less in omega (arith, below))
+      | inr same ↦ (let is : n ≡ 10 = omega (arith, h, same) in let there : 2 ^ n ≡ 1024 = ap (λ n. 2 ^ n) is in omega (arith, there))
+    ]

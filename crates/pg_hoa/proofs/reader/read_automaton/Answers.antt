@@ -1,0 +1,32 @@
+use Rattle.std.proofs.Common.{sym, subst, List, length, map}
+use Rattle.std.specs.Prelude.{IfOk, IfErr}
+use Rattle.pg_hoa.specs.declared.body.Line.{Line}
+use Rattle.pg_hoa.specs.Scan.{lex}
+use Rattle.pg_hoa.specs.Kept.{kept_line}
+use Rattle.pg_hoa.specs.Settling.{settled as said}
+use Rattle.pg_hoa.specs.Readings.{CanAssemble, Assembles, NeverAssembles, IsRefused}
+use Rattle.pg_hoa.proofs.ReadParts.{reads_can}
+use Rattle.pg_hoa.proofs.Refusing.{refusal_refused, whole_found, whole_refused}
+use Rattle.pg_hoa.proofs.reader.read_automaton.Goals as goal
+
+pub assembled-requires : goal.assembled-requires
+assembled-requires c =
+    let r = c.in-Ok.ensures.found in
+    subst (λ (lines : List Line). CanAssemble (said c.in-Ok.settled) (map kept_line lines)) (sym c.deref.ensures.value)
+    (reads_can (lex c.args.bytes.now) r.0 (said c.in-Ok.settled) (map kept_line c.in-Ok.lines.items) r.1)
+
+pub returns-in-Ok-clause-found : goal.returns-in-Ok-clause-found
+returns-in-Ok-clause-found c =
+    let r = c.in-Ok.ensures.found in
+    whole_found c.args.bytes.now r.0 (said c.in-Ok.settled) (map kept_line c.in-Ok.lines.items) c.assembled.result r.1
+    (subst (λ (lines : List Line). IfOk c.assembled.result (Assembles (said c.in-Ok.settled) (map kept_line lines))) c.deref.ensures.value c.assembled.ensures.found)
+
+pub returns-in-Ok-clause-refused : goal.returns-in-Ok-clause-refused
+returns-in-Ok-clause-refused c =
+    let r = c.in-Ok.ensures.found in
+    whole_refused c.args.bytes.now r.0 (said c.in-Ok.settled) (map kept_line c.in-Ok.lines.items) c.assembled.result r.1
+    (subst (λ (lines : List Line). IfErr c.assembled.result (NeverAssembles (said c.in-Ok.settled) (map kept_line lines))) c.deref.ensures.value c.assembled.ensures.refused)
+
+pub returns-in-Err-clause-refused : goal.returns-in-Err-clause-refused
+returns-in-Err-clause-refused c =
+    subst (IsRefused c.args.bytes.now) (sym c.in_text.ensures) (refusal_refused c.args.bytes.now (length c.args.bytes.now) c.in-Err.refusal c.in-Err.ensures.refused)

@@ -1,0 +1,36 @@
+use Rattle.std.proofs.Common.{◌≡◌, ℕ, ◌∙◌, ◌+◌, ◌*◌, ◌++◌, sym, ap, arith}
+use Rattle.std.proofs.lemmas.List.{append-nil}
+use Rattle.pg_hoa.specs.Tables.{stage, way_step, at_word, at_letters}
+use Rattle.pg_hoa.proofs.TableFilling.{adds_none, adds_same, adds_then}
+use Rattle.pg_hoa.proofs.TablePlaces.{no_letters, more_letters, empty_word}
+use Rattle.pg_hoa.proofs.table.add_edge.Goals as goal
+use Rattle.pg_hoa.proofs.table.add_edge.Goals.{then-word-ne0+in_ok-number, else-word-ne0}
+
+pub loop-block-init : goal.loop-block-init
+loop-block-init c =
+    let none : 0 * c.blocks_of-blocks.result.1 ≡ 0 = omega arith in
+    record {
+      adds = adds_none c.args.way.now.shape (at_letters c.args.first (0 * c.blocks_of-blocks.result.1) c.args.label.now (way_step c.args.way.now)) (stage c.args.filling.now)
+          (λ i h. ap (λ n. at_letters c.args.first n c.args.label.now (way_step c.args.way.now) i) none ∙ no_letters c.args.first c.args.label.now (way_step c.args.way.now) i);
+      known = tt;
+    }
+
+pub loop-block-preserved : goal.loop-block-preserved
+loop-block-preserved c =
+    let s = way_step c.args.way.now in
+    let width = c.blocks_of-blocks.result.1 in
+    let block = c.loop-block.block in
+    let more = λ (i : ℕ). more_letters c.args.first block width c.in_ok-word.word c.args.label.now s i c.in_ok-word.ensures c.blocks_of-blocks.ensures.narrow (c.blocks_of-blocks.ensures.whole block c.loop-block-test.true) in
+    elim c.if-word-ne0.branch [
+      | then-word-ne0+in_ok-number w ↦ (rw (w.filling-is, w.number-is) (record {
+        adds = adds_then c.args.way.now.shape (at_letters c.args.first (block * width) c.args.label.now s) (at_word (c.args.first + block * width) width c.in_ok-word.word s) (at_letters c.args.first ((block + 1) * width) c.args.label.now s)
+            (stage c.args.filling.now) (stage c.loop-block.filling) (stage w.place_word.new.filling) c.loop-block.invariant.adds w.in_ok-number.ensures.adds (λ i h. more i);
+        known = w.in_ok-number.ensures.known;
+      }))
+      | else-word-ne0 w ↦ (rw (w.filling-is, w.number-is) (record {
+        adds = adds_same c.args.way.now.shape (at_letters c.args.first (block * width) c.args.label.now s) (at_letters c.args.first ((block + 1) * width) c.args.label.now s)
+            (stage c.args.filling.now) (stage c.loop-block.filling) c.loop-block.invariant.adds
+            (λ i h. sym (append-nil (at_letters c.args.first (block * width) c.args.label.now s i)) ∙ ap (λ l. at_letters c.args.first (block * width) c.args.label.now s i ++ l) (sym (ap (λ v. at_word (c.args.first + block * width) width v s i) w.if-word-ne0.false ∙ empty_word (c.args.first + block * width) width s i)) ∙ more i);
+        known = c.loop-block.invariant.known;
+      }))
+    ]

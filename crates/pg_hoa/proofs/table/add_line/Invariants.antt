@@ -1,0 +1,8 @@
+use Rattle.std.proofs.Common.{◌^◌, take, map}
+use Rattle.pg_hoa.specs.Kept.{kept_edge}
+use Rattle.pg_hoa.specs.Tables.{stage, Adds, at_line}
+use Rattle.pg_hoa.proofs.table.add_line.Given as goal
+
+-- the steps of the edges so far
+abbrev pub invariant-loop-edge : goal.invariant-loop-edge
+invariant-loop-edge l = Adds l.shape (at_line (2 ^ l.propositions) (record { state = l.line.state; sets = l.line.sets.items; edges = map kept_edge (take l.edge-index l.line.edges.items) })) (stage l.initial.filling) (stage l.filling)

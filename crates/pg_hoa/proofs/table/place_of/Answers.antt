@@ -1,0 +1,10 @@
+use Rattle.std.proofs.Common.{◌∙◌, ◌∷◌, [], sym, refl, ap, map}
+use Rattle.std.proofs.lemmas.List.{append-nil, map-append}
+use Rattle.pg_hoa.specs.Tables.{stage}
+use Rattle.pg_hoa.proofs.TableNumbers.{extends_by}
+use Rattle.pg_hoa.proofs.table.place_of.Goals as goal
+
+pub returns-clause-keeps : goal.returns-clause-keeps
+returns-clause-keeps c =
+    extends_by (stage c.args.filling.now) _ [] (c.in_ok-from_slice.field-0.items ∷ []) refl refl (sym (append-nil c.args.filling.now.steps.items))
+    (ap (map (λ v. v.items)) c.in_ok-push.ensures.items ∙ map-append (λ v. v.items) c.args.filling.now.lists.items (c.in_ok-from_slice.field-0 ∷ []))

@@ -1,0 +1,85 @@
+-- What the reader keeps of a whole text, and the automaton that it makes of that.
+use Rattle.std.specs.Prelude.{◌≡◌, ℕ, ◌*◌, ◌^◌, ◌<◌, ◌≤◌, List, [], length, Option, Some, None}
+use Rattle.std.specs.List.{All}
+use Rattle.pg_hoa.specs.declared.fault.Refusal.{Refusal}
+use Rattle.pg_hoa.specs.declared.fault.Refusal.TheVariants.{Memory, Wrong}
+use Rattle.pg_hoa.specs.declared.fault.HoaFault.{HoaFault}
+use Rattle.pg_hoa.specs.declared.fault.HoaFault.TheVariants.{OutOfMemory, NotDeterministic}
+use Rattle.pg_hoa.specs.Lexemes.{Lexeme}
+use Rattle.pg_hoa.specs.Automata.{Automaton, letters, rows, next}
+use Rattle.pg_hoa.specs.AutomatonText.{Agree, head, Spelt, IsUndetermined}
+use Rattle.pg_hoa.specs.Kept.{KeptHead, KeptLine}
+use Rattle.pg_hoa.specs.HeaderScan.{headers_at}
+use Rattle.pg_hoa.specs.BodyScan.{body_at}
+use Rattle.pg_hoa.specs.Settling.{Settled, IsSettled}
+use Rattle.pg_hoa.specs.Tables.{kept_steps, kept_count, IsFirstConflict}
+
+-- a state's number is below this
+abbrev pub bound : Option ℕ → ℕ
+bound None = 65535
+bound (Some states) = states
+
+-- the headers and lines that the tokens are
+pub record Reads (tokens : List Lexeme) (h : KeptHead) (s : Settled) (lines : List KeptLine) : Type 0 where
+  pub behind : List Lexeme
+  pub headers : headers_at tokens ≡ Some (h, behind)
+  pub settled : IsSettled h s
+  pub body : body_at (bound s.states) (length s.names) s.sets behind ≡ Some (lines, [])
+
+-- nothing else than want of memory refuses tokens that can be read
+abbrev pub NeverReads : List Lexeme → Refusal → Type 0
+NeverReads tokens Memory = Unit {0}
+NeverReads tokens (Wrong fault) = (h : KeptHead) (s : Settled) (lines : List KeptLine) → Reads tokens h s lines → ⊥
+
+-- the states are counted, or go up to the greatest number that is named
+abbrev pub states_in : Option ℕ → ℕ → List KeptLine → ℕ
+states_in None start lines = kept_count start lines
+states_in (Some states) start lines = states
+
+abbrev pub kept_states : Settled → List KeptLine → ℕ
+kept_states s lines = states_in s.states s.start lines
+
+abbrev pub kept_letters : Settled → ℕ
+kept_letters s = 2 ^ length s.names
+
+-- few enough states and letters for a table
+abbrev pub AreFew : Settled → List KeptLine → Type 0
+AreFew s lines = kept_states s lines * kept_letters s ≤ 16777216
+
+-- what may be asked of headers and lines that were read: the numbers are in range and the counts within their limits
+pub record CanAssemble (s : Settled) (lines : List KeptLine) : Type 0 where
+  pub start_below : s.start < kept_states s lines
+  pub few_states : kept_states s lines ≤ 65535
+  pub few_propositions : length s.names ≤ 16
+  pub few_sets : s.sets ≤ 4096
+  pub marks : length s.controllable ≡ length s.names
+  pub low_start : s.start < 65535
+  pub below : All (λ l. l.state < kept_states s lines) lines
+
+-- the automaton of these headers and lines: the steps agree, and each step is the first
+pub record Assembles (s : Settled) (lines : List KeptLine) (a : Automaton) : Type 0 where
+  pub states : a.states ≡ kept_states s lines
+  pub start : a.start ≡ s.start
+  pub propositions : a.propositions ≡ s.names
+  pub controllable : a.controllable ≡ s.controllable
+  pub sets : a.sets ≡ s.sets
+  pub shape : a.shape ≡ s.shape
+  pub few : AreFew s lines
+  pub steps : (state letter : ℕ) → state < kept_states s lines → letter < kept_letters s → (next a state letter ≡ head (kept_steps lines state letter)) × Agree s.shape (kept_steps lines state letter)
+  pub all : a.steps ≡ rows (next a) a.states (letters a)
+
+-- there are too many states and letters, or else the steps don't agree
+abbrev pub NeverAssembles : Settled → List KeptLine → HoaFault → Type 0
+NeverAssembles s lines OutOfMemory = Unit {0}
+NeverAssembles s lines (NotDeterministic state letter) = AreFew s lines × IsFirstConflict s.shape lines (kept_states s lines) (kept_letters s) state letter
+NeverAssembles s lines fault = AreFew s lines → ⊥
+
+-- no automaton is spelt
+abbrev pub SpellsNone : List ℕ → Type 0
+SpellsNone bytes = (a : Automaton) → Spelt bytes a → ⊥
+
+-- the bytes spell no automaton, if it isn't memory that is wanting; where a state isn't deterministic that alone is wrong
+abbrev pub IsRefused : List ℕ → HoaFault → Type 0
+IsRefused bytes OutOfMemory = Unit {0}
+IsRefused bytes (NotDeterministic state letter) = IsUndetermined bytes state letter × SpellsNone bytes
+IsRefused bytes fault = SpellsNone bytes

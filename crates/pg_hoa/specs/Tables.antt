@@ -1,0 +1,164 @@
+-- The steps that the lines of a text give, and a table of them by state and letter.
+use Rattle.std.specs.Prelude.{◌≡◌, ℕ, zero, suc, ◌+◌, ◌-◌, ◌*◌, ◌/◌, ◌%◌, ◌^◌, ◌<◌, ◌≤◌, ◌==◌, nat_lt, nat_le, max, Bool, true, false, ◌&&◌, List, [], ◌∷◌, ◌++◌, map, length, get_or, slice_get, Option, Some, None, if◌then◌else◌}
+use Rattle.std.specs.List.{filter, flat_map, fold}
+use Rattle.std.specs.Int.{bit_at}
+use Rattle.pg_hoa.specs.declared.shape.Shape.{Shape}
+use Rattle.pg_hoa.specs.declared.fault.Conflict.{Conflict}
+use Rattle.pg_hoa.specs.declared.fault.Conflict.TheVariants.{Memory, NotDeterministic}
+use Rattle.pg_hoa.specs.declared.table.Stored.{Stored}
+use Rattle.pg_hoa.specs.declared.table.Filling.{Filling}
+use Rattle.pg_hoa.specs.declared.table.Way.{Way}
+use Rattle.pg_hoa.specs.declared.table.Table.{Table}
+use Rattle.pg_hoa.specs.declared.formula.Op.{Op}
+use Rattle.pg_hoa.specs.Steps.{◌>>=◌}
+use Rattle.pg_hoa.specs.Automata.{Step, deciding}
+use Rattle.pg_hoa.specs.AutomatonText.{Agree, head, put, rising}
+use Rattle.pg_hoa.specs.Kept.{KeptEdge, KeptLine}
+use Rattle.pg_hoa.specs.Saying.{says}
+
+abbrev pub step : ℕ → List ℕ → Step
+step target sets = record { target = target; sets = sets }
+
+-- ---- what lines give
+
+abbrev pub says_at : ℕ → KeptEdge → Bool
+says_at letter e = says e.label (λ a. bit_at letter a == 1)
+
+abbrev pub edge_step : List ℕ → KeptEdge → Step
+edge_step own e = step e.target (rising (own ++ e.sets))
+
+abbrev pub kept_edge_steps : ℕ → ℕ → KeptLine → List Step
+kept_edge_steps state letter l =
+    if l.state == state then map (edge_step l.sets) (filter (says_at letter) l.edges) else []
+
+-- the steps of the edges of these lines that leave the state by the letter, in the order of the text
+abbrev pub kept_steps : List KeptLine → ℕ → ℕ → List Step
+kept_steps lines state letter = flat_map (kept_edge_steps state letter) lines
+
+-- the states that a line names
+abbrev pub kept_numbers : KeptLine → List ℕ
+kept_numbers l = l.state ∷ map (λ e. e.target) l.edges
+
+abbrev pub kept_count : ℕ → List KeptLine → ℕ
+kept_count start lines = suc (fold max 0 (start ∷ flat_map kept_numbers lines))
+
+abbrev pub put_all : List ℕ → List ℕ → List ℕ
+put_all [] sets = sets
+put_all (n ∷ ns) sets = put_all ns (put n sets)
+
+-- ---- what a table says
+
+-- the step with this number, where 0 stands for none
+abbrev pub numbered : List Stored → List (List ℕ) → ℕ → Option Step
+numbered steps lists zero = None
+numbered steps lists (suc k) = slice_get steps k >>= λ s. slice_get lists s.list >>= λ sets. Some (step s.target sets)
+
+abbrev pub next : Table → ℕ → ℕ → Option Step
+next t state letter =
+    if nat_lt state t.states && nat_lt letter t.letters
+    then numbered t.steps.items (map (λ v. v.items) t.lists.items) (get_or t.slots.items (state * t.letters + letter) 0)
+    else None
+
+-- ---- filling
+
+-- a table that is being filled, and its first slot where steps don't agree, or how many slots there are
+pub record Stage : Type 0 where
+  pub slots : List ℕ
+  pub steps : List Stored
+  pub lists : List (List ℕ)
+  pub conflict : ℕ
+
+abbrev pub stage : Filling → Stage
+stage f = record { slots = f.slots.items; steps = f.steps.items; lists = map (λ v. v.items) f.lists.items; conflict = f.conflict }
+
+-- a number that is 0 or stands for the step
+abbrev pub MayNumber : Stage → ℕ → Step → Type 0
+MayNumber t zero s = Unit {0}
+MayNumber t (suc k) s = numbered t.steps t.lists (suc k) ≡ Some s
+
+-- the number in a slot stands for the first of the steps
+abbrev pub Leads : Stage → ℕ → List Step → Type 0
+Leads t n [] = n ≡ 0
+Leads t n (s ∷ steps) = numbered t.steps t.lists n ≡ Some s
+
+-- nothing but new steps and lists
+pub record Extends (t u : Stage) : Type 0 where
+  pub slots : u.slots ≡ t.slots
+  pub conflict : u.conflict ≡ t.conflict
+  pub numbers : (n : ℕ) (s : Step) → numbered t.steps t.lists n ≡ Some s → numbered u.steps u.lists n ≡ Some s
+
+abbrev pub same_set : Option ℕ → Option ℕ → Bool
+same_set None None = true
+same_set (Some a) (Some b) = a == b
+same_set _ _ = false
+
+-- two steps lead to one state, and the same set counts
+abbrev pub agree : Shape → Step → Step → Bool
+agree shape s t = (s.target == t.target) && same_set (deciding shape s.sets) (deciding shape t.sets)
+
+abbrev pub way_step : Way → Step
+way_step w = step w.target w.sets.items
+
+-- each slot has the first of its steps, and the conflict is the first slot whose steps don't agree
+pub record IsFilled (shape : Shape) (t : Stage) (given : ℕ → List Step) : Type 0 where
+  pub leads : (i : ℕ) → i < length t.slots → Leads t (get_or t.slots i 0) (given i)
+  pub conflict_within : t.conflict ≤ length t.slots
+  pub agree_before : (i : ℕ) → i < t.conflict → Agree shape (given i)
+  pub not_there : t.conflict < length t.slots → Agree shape (given t.conflict) → ⊥
+
+-- from one stage to another each slot was given these steps
+pub record Adds (shape : Shape) (more : ℕ → List Step) (t u : Stage) : Type 0 where
+  pub as_many : length u.slots ≡ length t.slots
+  pub fills : (given : ℕ → List Step) → IsFilled shape t given → IsFilled shape u (λ i. given i ++ more i)
+
+abbrev pub when : Bool → Step → List Step
+when b s = if b then s ∷ [] else []
+
+-- the letters of so many propositions, in so many blocks of one width
+pub record IsSplit (propositions blocks width : ℕ) : Type 0 where
+  pub all : blocks * width ≡ 2 ^ propositions
+  pub few : blocks ≤ 1024
+  pub narrow : width ≤ 64
+  pub some : 0 < blocks
+  pub whole : (block : ℕ) → block < blocks → block * width ≡ block * 64
+
+abbrev pub within : ℕ → ℕ → ℕ → Bool
+within first width i = nat_le first i && nat_lt i (first + width)
+
+-- the step at one slot, at the slots that stand at the bits of a word, and at those of a state
+abbrev pub at_slot : ℕ → Step → ℕ → List Step
+at_slot slot s i = when (i == slot) s
+
+abbrev pub at_word : ℕ → ℕ → ℕ → Step → ℕ → List Step
+at_word first width word s i = when (within first width i && (bit_at word (i - first) == 1)) s
+
+abbrev pub at_letters : ℕ → ℕ → List Op → Step → ℕ → List Step
+at_letters first width label s i = when (within first width i && says label (λ a. bit_at (i - first) a == 1)) s
+
+-- the steps of a line, and of lines, at each slot, where a state has so many letters
+abbrev pub at_line : ℕ → KeptLine → ℕ → List Step
+at_line letters l i = kept_edge_steps (i / letters) (i % letters) l
+
+abbrev pub at_lines : ℕ → List KeptLine → ℕ → List Step
+at_lines letters lines i = kept_steps lines (i / letters) (i % letters)
+
+-- ---- what is answered
+
+-- the table has the first of the steps at each state and letter, and they agree
+pub record IsTableOf (shape : Shape) (lines : List KeptLine) (states letters : ℕ) (t : Table) : Type 0 where
+  pub states_are : t.states ≡ states
+  pub letters_are : t.letters ≡ letters
+  pub next_is : (state letter : ℕ) → state < states → letter < letters → next t state letter ≡ head (kept_steps lines state letter)
+  pub agrees : (state letter : ℕ) → state < states → letter < letters → Agree shape (kept_steps lines state letter)
+
+-- they don't agree there, and do before
+pub record IsFirstConflict (shape : Shape) (lines : List KeptLine) (states letters state letter : ℕ) : Type 0 where
+  pub state_below : state < states
+  pub letter_below : letter < letters
+  pub fails : Agree shape (kept_steps lines state letter) → ⊥
+  pub before_state : (q l : ℕ) → q < state → l < letters → Agree shape (kept_steps lines q l)
+  pub before_letter : (l : ℕ) → l < letter → Agree shape (kept_steps lines state l)
+
+abbrev pub IsConflictOf : Shape → List KeptLine → ℕ → ℕ → Conflict → Type 0
+IsConflictOf shape lines states letters Memory = Unit {0}
+IsConflictOf shape lines states letters (NotDeterministic state letter) = IsFirstConflict shape lines states letters state letter

@@ -1,0 +1,184 @@
+//! Why an automaton text is refused.
+
+ghost use Rattle.std.specs.Prelude.{◌≡◌};
+ghost use Rattle.pg_hoa.specs.declared.fault.Refusal.TheVariants.{Memory};
+
+use std::alloc::{AllocError, AllocFailed};
+use std::fmt;
+use thiserror::Error;
+
+/// What this reader of HOA v1 leaves out, by its name.
+#[derive(Clone, Copy, Debug, PartialEq, Eq)]
+pub enum LeftOutName {
+    /// The header `Alias:`, or a name that begins with `@`.
+    Alias,
+    /// A label behind `State:`.
+    StateLabel,
+    /// An edge without a label.
+    ImplicitLabel,
+    /// A conjunction of states, at its `&`.
+    Universal,
+    /// A second `Start:`.
+    SeveralStarts,
+    /// No `Start:`.
+    NoStart,
+    /// `Inf(!s)` or `Fin(!s)`, at its `!`.
+    NegatedSet,
+    /// `HOA:` behind `--END--`.
+    SeveralAutomata,
+    /// `--ABORT--`.
+    Abort,
+}
+
+impl fmt::Display for LeftOutName {
+    fn fmt<W: fmt::Write>(&self, f: &mut fmt::Formatter<W>) -> fmt::Result {
+        f.write_str(match self {
+            LeftOutName::Alias => "alias",
+            LeftOutName::StateLabel => "state label",
+            LeftOutName::ImplicitLabel => "implicit label",
+            LeftOutName::Universal => "universal branching",
+            LeftOutName::SeveralStarts => "second Start",
+            LeftOutName::NoStart => "missing Start",
+            LeftOutName::NegatedSet => "negated set",
+            LeftOutName::SeveralAutomata => "second automaton",
+            LeftOutName::Abort => "--ABORT--",
+        })
+    }
+}
+
+/// Why a text is refused. Offsets count bytes from 0 and name the first byte of the token at fault; at the end of the
+/// text they are its length.
+#[derive(Clone, Copy, Debug, PartialEq, Eq, Error)]
+pub enum HoaFault {
+    /// A growth was refused.
+    #[error("out of memory")]
+    OutOfMemory,
+    /// No token begins at this offset, or a comment or string there doesn't end, or another token has to stand there.
+    #[error("syntax error at byte {0}")]
+    Syntax(usize),
+    /// What stands at this offset is of HOA v1, and left out here.
+    #[error("{0} at byte {1} is not supported")]
+    LeftOut(LeftOutName, usize),
+    /// A header that HOA v1 doesn't know, whose name begins with an upper-case letter.
+    #[error("unknown header at byte {0}")]
+    UnknownHeader(usize),
+    /// The number of a state, a proposition or a set at this offset isn't below its count.
+    #[error("number out of range at byte {0}")]
+    OutOfRange(usize),
+    /// The acceptance condition has none of the six shapes.
+    #[error("acceptance is not a supported parity condition")]
+    NotParity,
+    /// Two edges of the state match the letter, and lead to different states or meet different deciding sets: the
+    /// least state with such a letter, and its least letter.
+    #[error("state {0} is not deterministic at letter {1}")]
+    NotDeterministic(u32, u32),
+    /// A number over 4,294,967,295, a count over its limit, or nesting deeper than 8,192.
+    #[error("automaton too large")]
+    TooLarge,
+    /// The proposition of this number has an empty name, or a name with a byte below 32 or the byte 127.
+    #[error("bad name of proposition {0}")]
+    BadName(u32),
+}
+
+/// What is wrong with a part of a text, where the text before it isn't known: in place of an offset stands how many bytes
+/// are left from the token at fault on. The names are those of `HoaFault`.
+#[derive(Clone, Copy, Debug, PartialEq, Eq)]
+pub enum PartFault {
+    Syntax(usize),
+    LeftOut(LeftOutName, usize),
+    UnknownHeader(usize),
+    OutOfRange(usize),
+    NotParity,
+    TooLarge,
+    BadName(u32),
+}
+
+impl PartFault {
+    ghost use Rattle.pg_hoa.specs.Faults.{in_text};
+
+    /// The fault of a text of `len` bytes that ends with this part.
+    fn in_text(self, len: usize) -> HoaFault
+        ensures { result ≡ in_text len self }
+    {
+        match self {
+            PartFault::Syntax(left) => HoaFault::Syntax(len.saturating_sub(left)),
+            PartFault::LeftOut(name, left) => HoaFault::LeftOut(name, len.saturating_sub(left)),
+            PartFault::UnknownHeader(left) => HoaFault::UnknownHeader(len.saturating_sub(left)),
+            PartFault::OutOfRange(left) => HoaFault::OutOfRange(len.saturating_sub(left)),
+            PartFault::NotParity => HoaFault::NotParity,
+            PartFault::TooLarge => HoaFault::TooLarge,
+            PartFault::BadName(proposition) => HoaFault::BadName(proposition),
+        }
+    }
+}
+
+/// Why a part of a text is refused.
+#[derive(Clone, Copy, Debug, PartialEq, Eq)]
+pub enum Refusal {
+    /// A growth was refused.
+    Memory,
+    /// The text isn't good, whatever the memory.
+    Wrong(PartFault),
+}
+
+impl Refusal {
+    ghost use Rattle.pg_hoa.specs.Faults.{refusal_in_text};
+
+    /// The fault of a text of `len` bytes that ends with this part.
+    pub fn in_text(self, len: usize) -> HoaFault
+        ensures { result ≡ refusal_in_text len self }
+    {
+        match self {
+            Refusal::Memory => HoaFault::OutOfMemory,
+            Refusal::Wrong(fault) => fault.in_text(len),
+        }
+    }
+}
+
+impl From<AllocError> for Refusal {
+    ghost from_gives = { λ _ e. e ≡ Memory };
+
+    fn from(_e: AllocError) -> Refusal {
+        Refusal::Memory
+    }
+}
+
+impl<T: Drop> From<AllocFailed<T>> for Refusal {
+    ghost from_gives = { λ _ e. e ≡ Memory };
+
+    fn from(_e: AllocFailed<T>) -> Refusal {
+        Refusal::Memory
+    }
+}
+
+/// Why no table of steps is made.
+#[derive(Clone, Copy, Debug, PartialEq, Eq)]
+pub enum Conflict {
+    /// A growth was refused.
+    Memory,
+    /// Steps of the state by the letter don't agree: the least such state, and its least letter.
+    NotDeterministic(u32, u32),
+}
+
+impl From<AllocError> for Conflict {
+    ghost use Rattle.pg_hoa.specs.declared.fault.Conflict.TheVariants as conflicts;
+
+    ghost from_gives = { λ _ e. e ≡ conflicts.Memory };
+
+    fn from(_e: AllocError) -> Conflict {
+        Conflict::Memory
+    }
+}
+
+impl From<Conflict> for HoaFault {
+    ghost use Rattle.pg_hoa.specs.Faults.{conflict_fault};
+
+    ghost from_gives = { λ conflict e. e ≡ conflict_fault conflict };
+
+    fn from(conflict: Conflict) -> HoaFault {
+        match conflict {
+            Conflict::Memory => HoaFault::OutOfMemory,
+            Conflict::NotDeterministic(state, letter) => HoaFault::NotDeterministic(state, letter),
+        }
+    }
+}

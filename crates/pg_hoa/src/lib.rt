@@ -1,0 +1,29 @@
+//! Automata from text.
+#![tactic(auto)]
+
+mod automaton;
+mod body;
+mod fault;
+mod formula;
+mod header;
+mod letters;
+mod needs;
+mod reader;
+mod settle;
+mod shape;
+mod table;
+mod token;
+
+pub use automaton::Automaton;
+pub use fault::{HoaFault, LeftOutName};
+pub use reader::read_automaton;
+pub use shape::Shape;
+
+#[cfg(test)]
+mod body_tests;
+#[cfg(test)]
+mod formula_tests;
+#[cfg(test)]
+mod header_tests;
+#[cfg(test)]
+mod token_tests;

@@ -1,0 +1,181 @@
+//! Which letters a label can say yes to, by bits that such letters have.
+
+ghost use Rattle.std.specs.Prelude.{◌≡◌, ℕ, ◌+◌, ◌*◌, ◌<◌, Bool, ◌&&◌, ◌||◌, true, false, List, if◌then◌else◌, IfOk};
+ghost use Rattle.pg_hoa.specs.Saying.{top, under, perform, says};
+ghost use Rattle.pg_hoa.specs.Letters.{truth, on_at};
+ghost use Rattle.pg_hoa.specs.Needs.{on_letter, Fits, Allows, AllowsStack};
+
+use crate::formula::Op;
+use crate::letters::word_of;
+use std::alloc::{AllocError, Global};
+
+/// Bits of a letter: those of `care`, where the letter has what `value` has.
+#[derive(Clone, Copy, Debug)]
+pub struct Bits {
+    care: u32,
+    value: u32,
+}
+
+/// Bits of each letter at which the answer is yes, and of each at which it is no.
+#[derive(Clone, Copy, Debug)]
+pub struct Need {
+    yes: Bits,
+    no: Bits,
+}
+
+/// Each letter fits.
+fn any() -> Bits
+    ensures { (letter : ℕ) → Fits letter result }
+{
+    Bits { care: 0, value: 0 }
+}
+
+/// A letter that fits both fits this.
+fn both(a: Bits, b: Bits) -> Bits
+    ensures { (letter : ℕ) → Fits letter a → Fits letter b → Fits letter result }
+{
+    Bits {
+        care: a.care | b.care,
+        value: a.value | b.value,
+    }
+}
+
+/// A letter that fits one of them fits this.
+fn either(a: Bits, b: Bits) -> Bits
+    ensures left { (letter : ℕ) → Fits letter a → Fits letter result }
+    ensures right { (letter : ℕ) → Fits letter b → Fits letter result }
+{
+    if a.care == b.care && a.value == b.value {
+        return a;
+    }
+    any()
+}
+
+fn literal(proposition: u32) -> Need
+    ensures { (letter : ℕ) → Allows letter result (on_letter letter proposition) }
+{
+    if proposition >= 32 {
+        return Need {
+            yes: any(),
+            no: any(),
+        };
+    }
+    let bit = 1 << proposition;
+    Need {
+        yes: Bits {
+            care: bit,
+            value: bit,
+        },
+        no: Bits {
+            care: bit,
+            value: 0,
+        },
+    }
+}
+
+fn negated(need: Need) -> Need
+    ensures { (letter : ℕ) → (answer : Bool) → Allows letter need answer → Allows letter result (if answer then false else true) }
+{
+    Need {
+        yes: need.no,
+        no: need.yes,
+    }
+}
+
+/// What the top answer needs; nothing, where there is none.
+fn pop(stack: &mut Vec<Need>) -> Need
+    ensures { (letter : ℕ) → (answers : List Bool) → AllowsStack letter stack.old.items answers → Allows letter result (top answers) × AllowsStack letter stack.new.items (under answers) }
+{
+    match stack.pop() {
+        Some(need) => need,
+        None => Need {
+            yes: any(),
+            no: any(),
+        },
+    }
+}
+
+fn need_both(left: Need, right: Need) -> Need
+    ensures { (letter : ℕ) → (a b : Bool) → Allows letter left a → Allows letter right b → Allows letter result (a && b) }
+{
+    Need {
+        yes: both(left.yes, right.yes),
+        no: either(left.no, right.no),
+    }
+}
+
+fn need_either(left: Need, right: Need) -> Need
+    ensures { (letter : ℕ) → (a b : Bool) → Allows letter left a → Allows letter right b → Allows letter result (a || b) }
+{
+    Need {
+        yes: either(left.yes, right.yes),
+        no: both(left.no, right.no),
+    }
+}
+
+/// What the answer of the operation needs.
+fn need_of(op: Op, stack: &mut Vec<Need>) -> Need
+    ensures { (letter : ℕ) → (answers : List Bool) → AllowsStack letter stack.old.items answers → Allows letter result (top (perform op (on_letter letter) answers)) × AllowsStack letter stack.new.items (under (perform op (on_letter letter) answers)) }
+{
+    match op {
+        Op::Yes => Need {
+            yes: any(),
+            no: any(),
+        },
+        Op::No => Need {
+            yes: any(),
+            no: any(),
+        },
+        Op::Proposition(a) => literal(a),
+        Op::Inf(a) => literal(a),
+        Op::Fin(a) => negated(literal(a)),
+        Op::Not => negated(pop(stack)),
+        Op::Both => {
+            let right = pop(stack);
+            let left = pop(stack);
+            need_both(left, right)
+        }
+        Op::Either => {
+            let right = pop(stack);
+            let left = pop(stack);
+            need_either(left, right)
+        }
+    }
+}
+
+/// Bits of each letter to which the label says yes.
+pub fn bits_of(alloc: Global, label: &[Op]) -> Result<Bits, AllocError>
+    ensures { IfOk result (λ bits. (letter : ℕ) → says label.now (on_letter letter) ≡ true → Fits letter bits) }
+{
+    let mut stack = Vec::new(alloc);
+    for op in label {
+        let need = need_of(*op, &mut stack);
+        stack.push(need)?;
+    }
+    Ok(pop(&mut stack).yes)
+}
+
+/// Whether a letter of the block, of which there are sixty-four, may fit.
+fn may_fit(block: u32, bits: Bits) -> bool
+    ensures { result ≡ false → (j : ℕ) → j < 64 → Fits (block * 64 + j) bits → ⊥ }
+{
+    block & (bits.care >> 6) == bits.value >> 6
+}
+
+/// The letters of a block to which the label says yes, which all have the bits.
+pub fn fitting_word(
+    label: &[Op],
+    bits: Bits,
+    block: u32,
+    stack: &mut Vec<u64>,
+) -> Result<u64, AllocError>
+    requires few { block < 1024 }
+    requires fit { (letter : ℕ) → says label.now (on_letter letter) ≡ true → Fits letter bits }
+    ensures { IfOk result (λ word. (j : ℕ) → j < 64 → truth word j ≡ says label.now (on_at block j)) }
+{
+    if may_fit(block, bits) {
+        word_of(label, block, stack)
+    } else {
+        Ok(0)
+    }
+}
