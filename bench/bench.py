@@ -15,23 +15,17 @@ import time
 top = os.path.dirname(os.path.dirname(os.path.abspath(__file__)))
 
 
-def sparse(out, vertices, priorities):
-    """Each vertex leads to the next one and to one of the hundred behind it."""
+def harbours(out, vertices, priorities):
+    """A loop that each player wins; half of the vertices may go to their owner's loop, and the others to vertices before
+    them, so that few lifts are needed in the game and in its dual."""
     dice = random.Random(1)
-    out.write(f"parity {vertices - 1};\n")
-    for v in range(vertices):
-        near = max(0, v - dice.randrange(1, 100))
-        ws = sorted({min(v + 1, vertices - 1), near})
-        out.write(f"{v} {dice.randrange(priorities)} {dice.randrange(2)} {','.join(map(str, ws))};\n")
-
-
-def dense(out, vertices, priorities):
-    """Each vertex has eight successors anywhere."""
-    dice = random.Random(2)
-    out.write(f"parity {vertices - 1};\n")
-    for v in range(vertices):
-        ws = sorted({dice.randrange(vertices) for _ in range(8)})
-        out.write(f"{v} {dice.randrange(priorities)} {dice.randrange(2)} {','.join(map(str, ws))};\n")
+    top = priorities + priorities % 2
+    out.write(f"parity {vertices - 1};\n0 {top + 2} 0 0;\n1 {top + 1} 1 1;\n")
+    for v in range(2, vertices):
+        owner, linked = dice.randrange(2), dice.randrange(2) == 1
+        ws = {dice.randrange(vertices) if linked else dice.randrange(v) for _ in range(dice.randrange(1, 4))}
+        ws = sorted(ws | {owner}) if linked else sorted(ws)
+        out.write(f"{v} {dice.randrange(priorities + 1)} {owner} {','.join(map(str, ws))};\n")
 
 
 def settled(out, vertices, priorities):
@@ -45,13 +39,12 @@ def settled(out, vertices, priorities):
 
 CASES = [
     ("measure", settled, 1_000_000, 4),
-    ("measure", sparse, 20_000, 6),
-    ("measure", sparse, 100_000, 4),
-    ("measure", dense, 100_000, 4),
-    ("solve", settled, 1_000_000, 4),
-    ("solve", dense, 100_000, 4),
-    ("check", settled, 1_000_000, 4),
-    ("check", dense, 100_000, 4),
+    ("measure", harbours, 100_000, 10),
+    ("measure", harbours, 1_000_000, 10),
+    ("solve", harbours, 100_000, 10),
+    ("solve", harbours, 1_000_000, 10),
+    ("check", harbours, 100_000, 10),
+    ("check", harbours, 1_000_000, 10),
 ]
 
 

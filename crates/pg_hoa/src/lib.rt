@@ -18,12 +18,3 @@ pub use automaton::Automaton;
 pub use fault::{HoaFault, LeftOutName};
 pub use reader::read_automaton;
 pub use shape::Shape;
-
-#[cfg(test)]
-mod body_tests;
-#[cfg(test)]
-mod formula_tests;
-#[cfg(test)]
-mod header_tests;
-#[cfg(test)]
-mod token_tests;

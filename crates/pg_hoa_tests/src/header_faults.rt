@@ -220,6 +220,10 @@ fn second_headers(rt: HostRuntime) -> Result<(), Fail> {
 #[test]
 fn left_out(rt: HostRuntime) -> Result<(), Fail> {
     for (before, from, name) in [
+        ("", "--ABORT--", LeftOutName::Abort),
+        ("HOA: ", "--ABORT--", LeftOutName::Abort),
+        ("", "@a: v1", LeftOutName::Alias),
+        ("HOA: ", "@v1 Start: 0", LeftOutName::Alias),
         ("HOA: v1 Start: 0 ", "Start: 0", LeftOutName::SeveralStarts),
         (
             "HOA: v1 Start: 0 tool: a ",
