@@ -10,8 +10,8 @@ use Rattle.std.proofs.lemmas.List.Sorted.{searched}
 use Rattle.std.proofs.lemmas.Map.Keys.{sorted_from_strictly_increasing, non_decreasing_from_sorted}
 use Rattle.pg_arena.specs.Games.{GameVertex, nowhere, identifiers, identifier, successors, IsEdge, IsGame}
 use Rattle.pg_text.specs.declared.solution_line.SolutionLine.{SolutionLine}
-use Rattle.pg_text.specs.SolutionText.{counting_strategy, Fits}
-use Rattle.pg_text.specs.SolutionReading.{is_seen, LeadsNowhere, IsUnfit}
+use Rattle.pg_text.specs.SolutionText.{counting_strategy, Fits, IsUnknown}
+use Rattle.pg_text.specs.SolutionReading.{is_seen, LeadsNowhere, IsUnmarked}
 
 identifier_at : (game : List GameVertex) (v : ℕ) → v < length game → get_or (identifiers game) v 0 ≡ identifier game v
 identifier_at game v within = get_or-map (λ (x : GameVertex). x.identifier) game v nowhere 0 within
@@ -56,9 +56,10 @@ unfit game line v well within named nowhere f =
     let leads = f.leads nowhere.n (subst (λ (t : ℕ). counting_strategy game line t ≡ Some nowhere.n) same nowhere.counts) in
     nowhere.absent leads.0 (subst (λ (t : ℕ). IsEdge game t leads.0) (sym same) leads.1) leads.2
 
--- the same, where the vertex isn't marked
-pub unfit_here : (game : List GameVertex) (line : SolutionLine) (v : ℕ) (seen : List Bool) → IsGame game → v < length game → identifier game v ≡ line.identifier → is_seen seen v ≡ false → LeadsNowhere game line v → IsUnfit game line seen
-unfit_here game line v seen well within named unmarked nowhere = record {
-  unfit = unfit game line v well within named nowhere;
-  fresh = λ u u_in e. ap (is_seen seen) (same_vertex game u v well u_in within (sym e ∙ sym named)) ∙ unmarked;
-}
+-- no marked vertex has the identifier of one that isn't marked
+pub unmarked_here : (game : List GameVertex) (n v : ℕ) (seen : List Bool) → IsGame game → v < length game → n ≡ identifier game v → is_seen seen v ≡ false → IsUnmarked game n seen
+unmarked_here game n v seen well within named unmarked = λ u u_in e. ap (is_seen seen) (same_vertex game u v well u_in within (sym e ∙ named)) ∙ unmarked
+
+-- nor one that no vertex has
+pub unmarked_nowhere : (game : List GameVertex) (n : ℕ) (seen : List Bool) → IsUnknown game n → IsUnmarked game n seen
+unmarked_nowhere game n seen unknown = λ u u_in e. absurd (unknown u u_in (sym e))

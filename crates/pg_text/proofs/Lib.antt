@@ -12,6 +12,7 @@ pub mod Printing
 pub mod Spelt
 pub mod ReadingBack
 pub mod Answering
+pub mod Misfits
 pub mod SolutionLines
 pub mod Marking
 pub mod SolutionReads

@@ -1,13 +1,13 @@
 -- The lines of a solution text: what is read is spelt, and what is spelt is read.
-use Rattle.std.proofs.Common.{◌≡◌, ◌≢◌, ℕ, ◌+◌, ◌≤◌, ◌<◌, List, [], ◌∷◌, ◌++◌, length, Option, Some, None, refl, sym, ap, subst, ◌∙◌, arith, append_assoc}
+use Rattle.std.proofs.Common.{◌≡◌, ℕ, List, [], ◌∷◌, ◌++◌, Option, Some, None, refl, sym, ap, subst, ◌∙◌, arith, append_assoc}
 use Rattle.std.specs.Prelude.{codes}
 use Rattle.std.specs.List.{flat_map, AllByRecursion}
 use Rattle.std.proofs.lemmas.List.{append-nil}
 use Rattle.std.proofs.lemmas.List.Concat.{flat_map-cons}
 use Rattle.std.proofs.lemmas.Grind.{flat_map-append}
 use Rattle.pg_text.specs.declared.solution_line.SolutionLine.{SolutionLine}
-use Rattle.pg_text.specs.Lexemes.{Lexeme, number, word, semicolon, end, Begins, Spells}
-use Rattle.pg_text.specs.Steps.{◌>>=◌, Step, item, stop, items_at}
+use Rattle.pg_text.specs.Lexemes.{Lexeme, number, semicolon, end, Begins, Spells}
+use Rattle.pg_text.specs.Steps.{◌>>=◌, Step, item, stop}
 use Rattle.pg_text.specs.Scan.{token_at}
 use Rattle.pg_text.specs.GameText.{player_number, clause_lexemes}
 use Rattle.pg_text.specs.GameScan.{owner_at, semicolon_at, clause_at}
@@ -16,7 +16,7 @@ use Rattle.pg_text.specs.SolutionScan.{strategy_in, strategy_at, answer_at, answ
 use Rattle.pg_text.proofs.Steps.{bind_some, some, some_is, none, none_is_some}
 use Rattle.pg_text.proofs.Lexing.{token_takes, token_again}
 use Rattle.pg_text.proofs.Items.{Shrinks}
-use Rattle.pg_text.proofs.Spelling.{spells_append, spells_parts, begins_shorter, spells_within, IsExact, items_take, items_again}
+use Rattle.pg_text.proofs.Spelling.{spells_append, spells_parts, begins_shorter, spells_within, IsExact, items_again}
 use Rattle.pg_text.proofs.Takes.{owner_takes, owner_again, semicolon_takes, semicolon_again}
 use Rattle.pg_text.proofs.Texts.{clause_takes, clause_there, clause_absent}
 
@@ -92,6 +92,9 @@ line_takes bytes line rest e = next_takes bytes (item line, rest) e
 pub line_again : (bytes : List ℕ) (line : SolutionLine) (rest : List ℕ) → Spells bytes (answer_lexemes line) rest → next_answer_at bytes ≡ Some (item line, rest)
 unfolding next_answer_at
 line_again bytes line rest s = rw (token_again bytes (number line.identifier) s.0 s.1, answer_again line s.0 rest s.2) refl
+
+pub end_takes : (bytes : List ℕ) (u : Unit {0}) (rest : List ℕ) → next_answer_at bytes ≡ Some (stop u, rest) → Begins bytes end rest
+end_takes bytes u rest e = next_takes bytes (stop u, rest) e
 
 pub end_again : (bytes rest : List ℕ) → Begins bytes end rest → next_answer_at bytes ≡ Some (stop tt, rest)
 unfolding next_answer_at

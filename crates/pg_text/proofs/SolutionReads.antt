@@ -1,5 +1,5 @@
 -- A solution text read line by line.
-use Rattle.std.proofs.Common.{◌≡◌, ◌≢◌, ℕ, ◌-◌, ◌<◌, Bool, true, false, cond, eqb, List, [], ◌∷◌, ◌++◌, length, Option, Some, None, refl, sym, ap, subst, ◌∙◌, arith, inl, inr, append_assoc}
+use Rattle.std.proofs.Common.{◌≡◌, ◌≢◌, ℕ, ◌-◌, ◌<◌, Bool, true, false, cond, eqb, List, [], ◌∷◌, ◌++◌, length, Option, Some, None, refl, sym, ap, subst, ◌∙◌, ◌⊎◌, arith, inl, inr, append_assoc}
 use Rattle.std.specs.Prelude.{codes, replicate}
 use Rattle.std.specs.List.{list_any, AllByRecursion}
 use Rattle.pg_arena.specs.Games.{GameVertex, identifier, IsGame}
@@ -14,16 +14,17 @@ use Rattle.pg_text.specs.declared.fault.TextFault.{TextFault}
 use Rattle.pg_text.specs.declared.fault.TextFault.TheVariants as text
 use Rattle.pg_text.specs.Refusals.{fault_of}
 use Rattle.pg_text.specs.Lexemes.{number, end, Spells, after_space}
-use Rattle.pg_text.specs.Steps.{◌>>=◌, Fails, item, stop, items_at}
+use Rattle.pg_text.specs.Steps.{◌>>=◌, Fails, Step, item, stop, items_at}
 use Rattle.pg_text.specs.GameScan.{clause_at}
 use Rattle.pg_text.specs.Solutions.{unanswered}
-use Rattle.pg_text.specs.SolutionText.{answer_lexemes, BeginsWithLines, AreLines, Fits, line_count, answers, IsSolutionText, IsFirstMissing, IsNoText, RefusesSolution}
+use Rattle.pg_text.specs.SolutionText.{answer_lexemes, BeginsWithLines, AreLines, Fits, line_count, answers, IsSolutionText, StartsLine, IsUnknown, IsNoMove, IsFirstMissing, IsNoText, RefusesSolution}
 use Rattle.pg_text.specs.SolutionScan.{next_answer_at, answers_at}
-use Rattle.pg_text.specs.SolutionReading.{Puts, State, IsMarked, IsMisfit, HasRead, SpellsNone, IsRefused, is_complete, misfit_fault}
+use Rattle.pg_text.specs.SolutionReading.{Puts, State, IsMarked, IsMisfit, BeginsMisfit, HasRead, SpellsNone, IsRefused, is_complete, misfit_fault}
 use Rattle.pg_text.proofs.Steps.{bind_some, some, some_is, none_is_some}
 use Rattle.pg_text.proofs.Items.{with_front, nothing_yet, goes_on, items_none}
 use Rattle.pg_text.proofs.Texts.{clause_absent}
-use Rattle.pg_text.proofs.SolutionLines.{line_takes, line_again, end_again, line_shrinks, header_takes, begins_more, lines_end, answers_again}
+use Rattle.pg_text.proofs.Misfits.{same_token, starts_with, unfit_front, front_starts, line_front}
+use Rattle.pg_text.proofs.SolutionLines.{line_takes, line_again, end_takes, end_again, line_shrinks, header_takes, begins_more, lines_end, answers_again}
 use Rattle.pg_text.proofs.Marking.{all_at, nothing_read, reads_more, named_if, answered_is, all_answered, text_fits, read_fits, read_taken, no_line, one_too_many, reads_same, reads_text}
 
 -- these lines were read, and the rest follows
@@ -129,49 +130,69 @@ text_lines bytes game solution seen rest line after lines r e spelt =
     sym (some_is b.0.0 lines b.2) ∙ sym (ap (λ (p : Lines). p.0) (some_is ((r.front ++ line ∷ []) ++ g.0.0, g.0.1, g.0.2) b.0 g.2)) ∙ append_assoc r.front (line ∷ []) g.0.0 in
     (g.0.0, whole)
 
+-- what begins with a number is a line, in a text
+record LineThere (rest : List ℕ) : Type 0 where
+  line : SolutionLine
+  after : List ℕ
+  read : next_answer_at rest ≡ Some (item line, after)
+
+line_there : (bytes : List ℕ) (game : List GameVertex) (solution : List Answer) (seen : List Bool) (rest : List ℕ) (n : ℕ) (lines : List SolutionLine)
+    → Reading bytes game solution seen rest → StartsLine rest n → AreLines bytes lines → LineThere rest
+line_there bytes game solution seen rest n lines r s spelt = there (next_answer_at rest) refl
+  where
+    there : (o : Option (Step SolutionLine (Unit {0}) × List ℕ)) → next_answer_at rest ≡ o → LineThere rest
+    there None e = absurd (none_is_some lines (sym (no_items bytes r.start r.header (sym r.so_far ∙ ap (with_front r.front) (items_none next_answer_at rest e))) ∙ answers_again bytes lines spelt))
+    there (Some (item line, after)) e = record { line = line; after = after; read = e }
+    there (Some (stop t, after)) e = absurd (let same : end ≡ number n = (same_token rest end (number n) after s.stands.0 (end_takes rest t after e) s.stands.1).0 in cc)
+
 -- a line of a text fits
-unfit_spoils : (bytes : List ℕ) (game : List GameVertex) (solution : List Answer) (seen : List Bool) (rest : List ℕ) (line : SolutionLine) (after : List ℕ)
-    → Reading bytes game solution seen rest → next_answer_at rest ≡ Some (item line, after) → ¬ Fits game line → SpellsNone bytes game
-unfit_spoils bytes game solution seen rest line after r e unfit = λ other t.
-    let l = text_lines bytes game solution seen rest line after t.lines r e t.text in
-    unfit (all_at (Fits game) r.front line l.0 (subst (AllByRecursion (Fits game)) l.1 (text_fits bytes game other t)))
+unfit_spoils : (bytes : List ℕ) (game : List GameVertex) (solution : List Answer) (seen : List Bool) (rest : List ℕ) (n : ℕ)
+    → IsGame game → Reading bytes game solution seen rest → (StartsLine rest n × IsUnknown game n) ⊎ IsNoMove game rest n → SpellsNone bytes game
+unfit_spoils bytes game solution seen rest n well r misfit = λ other t.
+    let there = line_there bytes game solution seen rest n t.lines r (front_starts game rest n misfit) t.text in
+    let l = text_lines bytes game solution seen rest there.line there.after t.lines r there.read t.text in
+    unfit_front game rest n there.line there.after well misfit (line_takes rest there.line there.after there.read)
+    (all_at (Fits game) r.front there.line l.0 (subst (AllByRecursion (Fits game)) l.1 (text_fits bytes game other t)))
 
 -- no two lines of a text name one vertex
-second_spoils : (bytes : List ℕ) (game : List GameVertex) (solution : List Answer) (seen : List Bool) (rest : List ℕ) (line : SolutionLine) (after : List ℕ)
-    → Reading bytes game solution seen rest → next_answer_at rest ≡ Some (item line, after) → IsMarked game line seen → SpellsNone bytes game
-second_spoils bytes game solution seen rest line after r e m = λ other t.
-    let l = text_lines bytes game solution seen rest line after t.lines r e t.text in
-    one_too_many game r.front line l.0 m.v m.named (r.state.counted m.v m.within ∙ ap (λ (b : Bool). cond b 1 0) m.marked) (subst (λ (lines : List SolutionLine). line_count game lines m.v ≡ 1) l.1 (t.one_each m.v m.within))
+second_spoils : (bytes : List ℕ) (game : List GameVertex) (solution : List Answer) (seen : List Bool) (rest : List ℕ) (n : ℕ)
+    → Reading bytes game solution seen rest → StartsLine rest n → IsMarked game n seen → SpellsNone bytes game
+second_spoils bytes game solution seen rest n r s m = λ other t.
+    let there = line_there bytes game solution seen rest n t.lines r s t.text in
+    let l = text_lines bytes game solution seen rest there.line there.after t.lines r there.read t.text in
+    let named : there.line.identifier ≡ identifier game m.v = starts_with rest n (s.token ∷ []) s.rest there.line there.after s.stands (line_takes rest there.line there.after there.read) ∙ m.named in
+    one_too_many game r.front there.line l.0 m.v named (r.state.counted m.v m.within ∙ ap (λ (b : Bool). cond b 1 0) m.marked) (subst (λ (lines : List SolutionLine). line_count game lines m.v ≡ 1) l.1 (t.one_each m.v m.within))
 
-pub fails_misfit : (bytes : List ℕ) (game : List GameVertex) (solution : List Answer) (seen : List Bool) (rest : List ℕ) (line : SolutionLine) (after : List ℕ) (misfit : Misfit)
-    → Reading bytes game solution seen rest → next_answer_at rest ≡ Some (item line, after) → IsMisfit game line seen misfit → IsRefused bytes game (misfit_fault misfit line.identifier (length bytes - length (after_space rest)))
-fails_misfit bytes game solution seen rest line after NotOfGame r e unfit = (
-  unfit_spoils bytes game solution seen rest line after r e unfit.unfit,
+pub fails_front : (bytes : List ℕ) (game : List GameVertex) (solution : List Answer) (seen : List Bool) (rest : List ℕ) (n : ℕ) (misfit : Misfit)
+    → IsGame game → Reading bytes game solution seen rest → BeginsMisfit game seen rest n misfit → IsRefused bytes game (misfit_fault misfit n (length bytes - length (after_space rest)))
+fails_front bytes game solution seen rest n NotOfGame well r m = (
+  unfit_spoils bytes game solution seen rest n well r m.0,
   record {
     before = r.front;
-    line = line;
-    rest = after;
-    begins = begins_more bytes r.front rest line after r.begins (line_takes rest line after e);
+    here = rest;
+    begins = r.begins;
     taken = read_taken game r.front solution seen r.state;
-    named = refl;
-    new = no_line game r.front line.identifier (read_fits game r.front solution seen r.state) (λ v within named. r.state.counted v within ∙ ap (λ (b : Bool). cond b 1 0) (unfit.fresh v within named));
-    unfit = unfit.unfit;
+    new = no_line game r.front n (read_fits game r.front solution seen r.state) (λ v within named. r.state.counted v within ∙ ap (λ (b : Bool). cond b 1 0) (m.1 v within named));
+    misfit = m.0;
   },
 )
-fails_misfit bytes game solution seen rest line after Repeated r e m = (
-  second_spoils bytes game solution seen rest line after r e m,
+fails_front bytes game solution seen rest n Repeated well r m = (
+  second_spoils bytes game solution seen rest n r m.0 m.1,
   inl (record {
     before = r.front;
     here = rest;
     begins = r.begins;
     taken = read_taken game r.front solution seen r.state;
-    line = line;
-    rest = after;
-    stands = line_takes rest line after e;
-    twice = subst (λ (n : ℕ). list_any (λ (other : SolutionLine). eqb other.identifier n) r.front ≡ true) (sym m.named) (named_if game m.v r.front true (r.state.counted m.v m.within ∙ ap (λ (b : Bool). cond b 1 0) m.marked));
+    n = n;
+    starts = m.0;
+    twice = subst (λ (k : ℕ). list_any (λ (other : SolutionLine). eqb other.identifier k) r.front ≡ true) (sym m.1.named) (named_if game m.1.v r.front true (r.state.counted m.1.v m.1.within ∙ ap (λ (b : Bool). cond b 1 0) m.1.marked));
     place = refl;
   }),
 )
+
+pub fails_misfit : (bytes : List ℕ) (game : List GameVertex) (solution : List Answer) (seen : List Bool) (rest : List ℕ) (line : SolutionLine) (after : List ℕ) (misfit : Misfit)
+    → IsGame game → Reading bytes game solution seen rest → next_answer_at rest ≡ Some (item line, after) → IsMisfit game line seen misfit → IsRefused bytes game (misfit_fault misfit line.identifier (length bytes - length (after_space rest)))
+fails_misfit bytes game solution seen rest line after misfit well r e m = fails_front bytes game solution seen rest line.identifier misfit well r (line_front game seen rest line after misfit (line_takes rest line after e) m)
 
 -- ---- the end
 

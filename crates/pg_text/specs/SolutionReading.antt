@@ -1,5 +1,5 @@
 -- What is known while a solution's lines are read: helpers of proofs.
-use Rattle.std.specs.Prelude.{◌≡◌, ◌≢◌, ℕ, ◌<◌, ◌&&◌, Bool, true, false, List, length, Option, Some, option_map, is_some, slice_index_or, slice_set, if◌then◌else◌}
+use Rattle.std.specs.Prelude.{◌≡◌, ◌≢◌, ◌⊎◌, ℕ, ◌<◌, ◌&&◌, Bool, true, false, List, length, Option, Some, option_map, is_some, slice_index_or, slice_set, if◌then◌else◌}
 use Rattle.std.specs.List.{AllByRecursion}
 use Rattle.pg_arena.specs.Games.{GameVertex, identifier, IsEdge}
 use Rattle.pg_text.specs.declared.answer.Answer.{Answer}
@@ -9,7 +9,7 @@ use Rattle.pg_text.specs.declared.solution_text.Misfit.TheVariants.{NotOfGame, R
 use Rattle.pg_text.specs.declared.fault.TextFault.{TextFault}
 use Rattle.pg_text.specs.declared.fault.TextFault.TheVariants as text
 use Rattle.pg_text.specs.Solutions.{winner, choice}
-use Rattle.pg_text.specs.SolutionText.{owns, counting_strategy, line_count, Says, Fits, AreLines, IsSolutionText, RefusesSolution}
+use Rattle.pg_text.specs.SolutionText.{owns, counting_strategy, line_count, Says, StartsLine, IsUnknown, IsNoMove, AreLines, IsSolutionText, RefusesSolution}
 
 -- whether v is marked
 abbrev pub is_seen : List Bool → ℕ → Bool
@@ -37,21 +37,33 @@ pub record Puts (game : List GameVertex) (line : SolutionLine) (solution : List 
   pub solution_is : solution' ≡ slice_set solution v (record { winner = line.winner; choice = chosen })
   pub seen_is : seen' ≡ slice_set seen v true
 
--- the line names a vertex that is marked
-pub record IsMarked (game : List GameVertex) (line : SolutionLine) (seen : List Bool) : Type 0 where
+-- the vertex with the identifier n is marked
+pub record IsMarked (game : List GameVertex) (n : ℕ) (seen : List Bool) : Type 0 where
+  pub v : ℕ
+  pub within : v < length game
+  pub named : n ≡ identifier game v
+  pub marked : is_seen seen v ≡ true
+
+-- no marked vertex has the identifier n
+abbrev pub IsUnmarked : List GameVertex → ℕ → List Bool → Type 0
+IsUnmarked game n seen = (v : ℕ) → v < length game → n ≡ identifier game v → is_seen seen v ≡ false
+
+-- the line names v, and its strategy counts there and names no successor
+pub record IsLost (game : List GameVertex) (line : SolutionLine) : Type 0 where
   pub v : ℕ
   pub within : v < length game
   pub named : line.identifier ≡ identifier game v
-  pub marked : is_seen seen v ≡ true
+  pub nowhere : LeadsNowhere game line v
 
--- the line doesn't fit, and no marked vertex is named by it
-pub record IsUnfit (game : List GameVertex) (line : SolutionLine) (seen : List Bool) : Type 0 where
-  pub unfit : ¬ Fits game line
-  pub fresh : (v : ℕ) → v < length game → line.identifier ≡ identifier game v → is_seen seen v ≡ false
-
+-- why the line can't be taken
 abbrev pub IsMisfit : List GameVertex → SolutionLine → List Bool → Misfit → Type 0
-IsMisfit game line seen NotOfGame = IsUnfit game line seen
-IsMisfit game line seen Repeated = IsMarked game line seen
+IsMisfit game line seen NotOfGame = (IsUnknown game line.identifier ⊎ IsLost game line) × IsUnmarked game line.identifier seen
+IsMisfit game line seen Repeated = IsMarked game line.identifier seen
+
+-- why no line that begins here with the identifier n can be taken
+abbrev pub BeginsMisfit : List GameVertex → List Bool → List ℕ → ℕ → Misfit → Type 0
+BeginsMisfit game seen here n NotOfGame = ((StartsLine here n × IsUnknown game n) ⊎ IsNoMove game here n) × IsUnmarked game n seen
+BeginsMisfit game seen here n Repeated = StartsLine here n × IsMarked game n seen
 
 -- what is read says what these lines say, and each vertex is marked that one of them names
 pub record State (game : List GameVertex) (lines : List SolutionLine) (solution : List Answer) (seen : List Bool) : Type 0 where

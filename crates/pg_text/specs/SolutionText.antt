@@ -1,5 +1,5 @@
 -- What a solution text is, by tokens: its lines, and the solution that the lines give for a game.
-use Rattle.std.specs.Prelude.{◌≡◌, ◌⊎◌, ℕ, ◌-◌, ◌<◌, ◌≤◌, ◌==◌, ◌&&◌, Bool, true, false, List, [], ◌∷◌, ◌++◌, Option, Some, None, length, codes, count_by, is_some, option_map, if◌then◌else◌}
+use Rattle.std.specs.Prelude.{◌≡◌, ◌≢◌, ◌⊎◌, ℕ, ◌-◌, ◌<◌, ◌≤◌, ◌==◌, ◌&&◌, Bool, true, false, List, [], ◌∷◌, ◌++◌, Option, Some, None, length, codes, count_by, is_some, option_map, if◌then◌else◌}
 use Rattle.std.specs.List.{flat_map, list_any, AllByRecursion}
 use Rattle.pg_arena.specs.declared.player.Player.{Player}
 use Rattle.pg_arena.specs.declared.player.Player.TheVariants.{Even, Odd}
@@ -93,16 +93,37 @@ pub record AreTaken (game : List GameVertex) (lines : List SolutionLine) : Type 
 abbrev pub has_line : List SolutionLine → ℕ → Bool
 has_line lines n = list_any (λ line. line.identifier == n) lines
 
--- behind lines that are taken, none of which has the identifier n, stands one with that identifier that doesn't fit
+-- here stands the number n, and behind it another token, or the end
+pub record StartsLine (here : List ℕ) (n : ℕ) : Type 0 where
+  pub token : Lexeme
+  pub rest : List ℕ
+  pub stands : Spells here (number n ∷ token ∷ []) rest
+
+-- no vertex has the identifier n
+abbrev pub IsUnknown : List GameVertex → ℕ → Type 0
+IsUnknown game n = (v : ℕ) → v < length game → identifier game v ≢ n
+
+-- Here stand the identifier n of a vertex, its owner as the winner, and a number that is the identifier of no successor.
+pub record IsNoMove (game : List GameVertex) (here : List ℕ) (n : ℕ) : Type 0 where
+  pub winner : Player
+  pub strategy : ℕ
+  pub rest : List ℕ
+  pub stands : Spells here (number n ∷ number (player_number winner) ∷ number strategy ∷ []) rest
+  pub v : ℕ
+  pub within : v < length game
+  pub named : n ≡ identifier game v
+  pub owned : owns game winner v ≡ true
+  pub absent : (w : ℕ) → IsEdge game v w → identifier game w ≢ strategy
+
+-- Behind lines that are taken, none of which has the identifier n, begins a line with it, and no vertex has it, or its
+-- strategy counts and is no successor. How the line ends isn't asked.
 pub record IsNotOfGame (bytes : List ℕ) (game : List GameVertex) (n : ℕ) : Type 0 where
   pub before : List SolutionLine
-  pub line : SolutionLine
-  pub rest : List ℕ
-  pub begins : BeginsWithLines bytes (before ++ line ∷ []) rest
+  pub here : List ℕ
+  pub begins : BeginsWithLines bytes before here
   pub taken : AreTaken game before
-  pub named : line.identifier ≡ n
   pub new : has_line before n ≡ false
-  pub unfit : ¬ Fits game line
+  pub misfit : (StartsLine here n × IsUnknown game n) ⊎ IsNoMove game here n
 
 -- the line names v, and has a strategy if its winner owns v
 abbrev pub answers : List GameVertex → ℕ → SolutionLine → Bool
@@ -119,16 +140,16 @@ pub record IsFirstMissing (bytes : List ℕ) (game : List GameVertex) (n : ℕ) 
   pub missing : list_any (answers game v) lines ≡ false
   pub first : (u : ℕ) → u < v → list_any (answers game u) lines ≡ true
 
--- Behind lines that are taken stands, at this offset, one with the identifier of a line before it.
+-- Behind lines that are taken begins, at this offset, a line with the identifier of a line before it. How it ends isn't
+-- asked.
 pub record IsSecond (bytes : List ℕ) (game : List GameVertex) (offset : ℕ) : Type 0 where
   pub before : List SolutionLine
   pub here : List ℕ
   pub begins : BeginsWithLines bytes before here
   pub taken : AreTaken game before
-  pub line : SolutionLine
-  pub rest : List ℕ
-  pub stands : Spells here (answer_lexemes line) rest
-  pub twice : has_line before line.identifier ≡ true
+  pub n : ℕ
+  pub starts : StartsLine here n
+  pub twice : has_line before n ≡ true
   pub place : offset ≡ length bytes - length (after_space here)
 
 -- behind lines that are taken stands neither a line nor the end of the text

@@ -17,7 +17,7 @@ const TWO: &[u8] = b"parity 1;\n0 1 0 0,1;\n1 2 1 0;\n";
 const FAR: &[u8] = b"parity 4000000000;\n4000000000 2 0 7;\n7 1 1 4000000000;\n";
 
 /// Texts that spell no solution of the first game.
-const TABLE: [(&[u8], TextFault); 46] = [
+const TABLE: [(&[u8], TextFault); 64] = [
     // the least vertex without an answer, at the end
     (b"", Missing(0)),
     (b" \n", Missing(0)),
@@ -35,15 +35,36 @@ const TABLE: [(&[u8], TextFault); 46] = [
     (b"1 1 1;", NotOfGame(1)),
     (b"0 0 1;1 1 1;$", NotOfGame(1)),
     (b"4294967295 1 0;", NotOfGame(4294967295)),
-    (b"2 0", Syntax(3)),
-    (b"2 9;", Syntax(2)),
-    (b"2 0 1 1;", Syntax(6)),
-    (b"2 0 4294967296;", NumberTooLarge(4)),
+    // ... or before it, however the line goes on
+    (b"2", NotOfGame(2)),
+    (b"2;", NotOfGame(2)),
+    (b"2 0", NotOfGame(2)),
+    (b"2 9;", NotOfGame(2)),
+    (b"2 0 1 1;", NotOfGame(2)),
+    (b"2 0 4294967296;", NotOfGame(2)),
+    (b"0 0 1;2 0 \"", NotOfGame(2)),
+    (b"0 0 2", NotOfGame(0)),
+    (b"0 0 2 0;", NotOfGame(0)),
+    (b"0 0 2 4294967296;", NotOfGame(0)),
+    (b"1 1 1$", NotOfGame(1)),
+    // ... unless no token can be read behind the identifier, no number stands for the strategy, or no winner
+    (b"2$", Syntax(1)),
+    (b"0 2 $", Syntax(2)),
+    (b"2 4294967296;", NumberTooLarge(2)),
+    (b"0 0 4294967296;", NumberTooLarge(4)),
+    (b"0 2 2 0;", Syntax(2)),
+    (b"0 0;0 4294967296;", NumberTooLarge(6)),
+    // a strategy that is ignored fits
+    (b"0 1 2", Syntax(5)),
+    (b"1 0 1 1;", Syntax(6)),
     // a second line of one vertex, at its identifier
     (b"0 0 1;\n0 0 1;\n", Syntax(7)),
     (b"1 0;\n  1 0;", Syntax(7)),
     (b"1 0;001 1 0;", Syntax(4)),
     (b"0 0 1;0 0 9;", Syntax(6)),
+    (b"0 0 1;0 7;", Syntax(6)),
+    (b"0 0 1; 0", Syntax(7)),
+    (b"0 0 1;0 0 0 4294967296;", Syntax(6)),
     // a winner is 0 or 1
     (b"0 2 1;", Syntax(2)),
     (b"0 10;", Syntax(2)),

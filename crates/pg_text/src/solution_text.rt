@@ -1,17 +1,18 @@
 //! Solutions from text.
 
-ghost use Rattle.std.specs.Prelude.{◌≡◌, ◌≢◌, ℕ, ◌<◌, List, Bool, true, false, length, IfOk, IfErr, OnErr, IfSome, IfNone, MatchResult};
+ghost use Rattle.std.specs.Prelude.{◌≡◌, ◌≢◌, ◌-◌, ℕ, ◌<◌, List, Bool, true, false, length, IfOk, IfErr, OnErr, IfSome, IfNone, MatchResult};
 ghost use Rattle.pg_arena.specs.Games.{identifier, IsEdge, IsGame};
 ghost use Rattle.pg_text.specs.declared.answer.Answer.{Answer};
 ghost use Rattle.pg_text.specs.declared.fault.TextFault.TheVariants.{OutOfMemory};
+ghost use Rattle.pg_text.specs.Lexemes.{after_space};
 ghost use Rattle.pg_text.specs.SolutionText.{owns, IsSolutionText, RefusesSolution};
-ghost use Rattle.pg_text.specs.SolutionReading.{Chooses, LeadsNowhere, Puts, IsMisfit, HasRead, IsRefused, is_complete, misfit_fault};
+ghost use Rattle.pg_text.specs.SolutionReading.{Chooses, LeadsNowhere, Puts, IsMisfit, BeginsMisfit, HasRead, IsRefused, is_complete, misfit_fault};
 
 use crate::fault::TextFault;
-use crate::line::clause;
+use crate::line::{clause, player};
 use crate::solution::Solution;
 use crate::solution_line::{SolutionLine, next_answer};
-use crate::tokens::left_at;
+use crate::tokens::{Token, left_at, next_token};
 use pg_arena::{Game, Player, Vertex};
 use std::alloc::Global;
 
@@ -25,13 +26,13 @@ pub(crate) enum Misfit {
 }
 
 impl Misfit {
-    /// The fault of a line with this identifier, which stands at this offset.
-    fn of_line(self, identifier: u32, offset: usize) -> TextFault
-        ensures { result ≡ misfit_fault self identifier offset }
+    /// The fault of a line with this identifier, which stands in front of `rest`, an end of the text.
+    fn of_line(self, identifier: u32, text: &[u8], rest: &[u8]) -> TextFault
+        ensures { result ≡ misfit_fault self identifier (length text.now - length (after_space rest.now)) }
     {
         match self {
             Misfit::NotOfGame => TextFault::NotOfGame(identifier),
-            Misfit::Repeated => TextFault::Syntax(offset),
+            Misfit::Repeated => TextFault::Syntax(text.len().saturating_sub(left_at(rest))),
         }
     }
 }
@@ -101,6 +102,38 @@ fn take_line(
     Ok(())
 }
 
+/// The identifier of the line that begins here, and why that line can't be taken, where its identifier, or its winner
+/// and its strategy, show it before the end of the line is read. An identifier counts once the token behind it can be
+/// read, a strategy at once.
+fn early_misfit(game: &Game, seen: &[bool], bytes: &[u8]) -> Option<(u32, Misfit)>
+    requires game { IsGame game.now }
+    requires marks { length seen.now ≡ length game.now }
+    ensures { IfSome result (λ x. BeginsMisfit game.now seen.now bytes.now x.0 x.1) }
+{
+    let Ok((Token::Number(identifier), rest)) = next_token(bytes) else {
+        return None;
+    };
+    let Ok(_) = next_token(rest) else {
+        return None;
+    };
+    let Some(v) = game.vertex_of(identifier) else {
+        return Some((identifier, Misfit::NotOfGame));
+    };
+    if seen[v.0 as usize] {
+        return Some((identifier, Misfit::Repeated));
+    }
+    let Ok((winner, rest)) = player(rest) else {
+        return None;
+    };
+    let Ok((Token::Number(wanted), _)) = next_token(rest) else {
+        return None;
+    };
+    match successor(game, v, wanted) {
+        None if is_owned(game, winner, v) => Some((identifier, Misfit::NotOfGame)),
+        _ => None,
+    }
+}
+
 fn is_answered(game: &Game, solution: &Solution, seen: &[bool], v: Vertex) -> bool
     requires within { v < length game.now }
     requires whole { length solution.now ≡ length game.now }
@@ -144,13 +177,17 @@ fn read_lines(alloc: Global, game: &Game, bytes: &[u8]) -> Result<(Solution, Vec
         match next_answer(rest) {
             Ok((Some(line), after)) => {
                 if let Err(misfit) = take_line(game, line, &mut solution, &mut seen) {
-                    let offset = bytes.len().saturating_sub(left_at(rest));
-                    return Err(misfit.of_line(line.identifier, offset));
+                    return Err(misfit.of_line(line.identifier, bytes, rest));
                 }
                 rest = after;
             }
             Ok((None, _)) => return Ok((solution, seen)),
-            Err(refusal) => return Err(refusal.in_text(bytes.len())),
+            Err(refusal) => {
+                if let Some((identifier, misfit)) = early_misfit(game, &seen, rest) {
+                    return Err(misfit.of_line(identifier, bytes, rest));
+                }
+                return Err(refusal.in_text(bytes.len()));
+            }
         }
     }
 }
@@ -160,10 +197,11 @@ fn read_lines(alloc: Global, game: &Game, bytes: &[u8]) -> Result<(Solution, Vec
 /// successor that the winner chooses, and a `;`. The number of the header is read and not used. A strategy must stand
 /// where the winner owns the vertex; elsewhere it is read and not used, and the solution has no choice there.
 ///
-/// Refused are, from left to right, `Syntax` and `NumberTooLarge` at the token at fault, and with the `;` of a line
-/// `NotOfGame` where no vertex has its identifier, `Syntax` at the identifier where a line before has it too, and
-/// `NotOfGame` where the winner owns the vertex and the strategy is no successor; at the end `Missing` with the least
-/// identifier of a vertex that has no line, or no strategy where its winner owns it.
+/// Refused are, from left to right, `Syntax` and `NumberTooLarge` at the token at fault, `NotOfGame` where no vertex has
+/// the identifier of a line, `Syntax` at the identifier where a line before has it too, and `NotOfGame` where the winner
+/// owns the vertex and the strategy is no successor; at the end `Missing` with the least identifier of a vertex that has
+/// no line, or no strategy where its winner owns it. How a line goes on behind such an identifier or strategy isn't
+/// asked, but for this: where no token can be read behind an identifier, that fault comes first.
 pub fn read_solution(alloc: Global, game: &Game, bytes: &[u8]) -> Result<Solution, TextFault>
     ensures found { IfOk result (IsSolutionText bytes.now game.now) }
     // Bytes that spell a solution are read, unless memory runs out, and they spell no other.

@@ -2,7 +2,7 @@ use Rattle.std.proofs.Common.{◌≡◌, List, ℕ, Bool, Option, Some, replicat
 use Rattle.std.proofs.lemmas.List.{take_at}
 use Rattle.pg_text.specs.declared.solution_line.SolutionLine.{SolutionLine}
 use Rattle.pg_text.specs.SolutionScan.{answer_seen}
-use Rattle.pg_text.proofs.SolutionReads.{Reading, starts, goes, finishes, fails_header, fails_line, fails_misfit}
+use Rattle.pg_text.proofs.SolutionReads.{Reading, starts, goes, finishes, fails_header, fails_line, fails_front, fails_misfit}
 use Rattle.pg_text.proofs.SolutionLines.{line_shrinks}
 use Rattle.pg_text.proofs.solution_text.read_lines.Goals as goal
 
@@ -20,8 +20,8 @@ take_line-requires-clause-marks c = rw c.deref_mut.ensures.value c.lines.invaria
 
 pub returns-in-Err-take_line-clause-refused : goal.returns-in-Err-take_line-clause-refused
 returns-in-Err-take_line-clause-refused c =
-    rw (c.of_line.ensures, c.saturating_sub-offset.ensures, c.left_at.ensures)
-    (fails_misfit c.args.bytes.now c.args.game.now c.lines.solution c.lines.seen.items c.lines.rest.now c.in-Ok-Some-default.line c.in-Ok-Some-default.after.now c.in-Err-take_line.misfit c.lines.invariant
+    rw c.of_line.ensures
+    (fails_misfit c.args.bytes.now c.args.game.now c.lines.solution c.lines.seen.items c.lines.rest.now c.in-Ok-Some-default.line c.in-Ok-Some-default.after.now c.in-Err-take_line.misfit c.requires c.lines.invariant
     (c.in-Ok-Some-default.ensures ∙ ap (λ (o : Option SolutionLine). Some (answer_seen o, c.in-Ok-Some-default.after.now)) c.in-Ok-Some-default.field-0-0-is)
     (rw (sym c.deref_mut.ensures.value) c.in-Err-take_line.ensures.err))
 
@@ -43,3 +43,8 @@ returns-in-Ok-None-default-clause-read c = finishes c.args.bytes.now c.args.game
 
 pub returns-in-Err-next_answer-clause-refused : goal.returns-in-Err-next_answer-clause-refused
 returns-in-Err-next_answer-clause-refused c = rw c.in_text-in-Err-next_answer.ensures (fails_line c.args.bytes.now c.args.game.now c.lines.solution c.lines.seen.items c.lines.rest.now c.in-Err-next_answer.refusal (length c.args.bytes.now) c.lines.invariant c.in-Err-next_answer.ensures)
+
+pub returns-in-Some-clause-refused : goal.returns-in-Some-clause-refused
+returns-in-Some-clause-refused c =
+    rw c.of_line-in-Some.ensures
+    (fails_front c.args.bytes.now c.args.game.now c.lines.solution c.lines.seen.items c.lines.rest.now c.in-Some.identifier c.in-Some.misfit c.requires c.lines.invariant (rw (sym c.deref.ensures.value) c.in-Some.ensures))

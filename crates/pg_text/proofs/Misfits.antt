@@ -1,0 +1,104 @@
+-- Lines that can't be taken, known by the tokens with which they begin.
+use Rattle.std.proofs.Common.{◌≡◌, ℕ, Bool, true, false, cond, List, [], ◌∷◌, ◌++◌, Option, Some, None, refl, sym, ap, subst, ◌∙◌, inl, inr, ◌⊎◌}
+use Rattle.pg_arena.specs.declared.player.Player.{Player}
+use Rattle.pg_arena.specs.declared.player.Player.TheVariants.{Even, Odd}
+use Rattle.pg_arena.specs.Games.{GameVertex, identifier, IsGame}
+use Rattle.pg_text.specs.declared.solution_line.SolutionLine.{SolutionLine}
+use Rattle.pg_text.specs.declared.solution_text.Misfit.{Misfit}
+use Rattle.pg_text.specs.declared.solution_text.Misfit.TheVariants.{NotOfGame, Repeated}
+use Rattle.pg_text.specs.Lexemes.{Lexeme, number, semicolon, Begins, Spells}
+use Rattle.pg_text.specs.GameText.{player_number}
+use Rattle.pg_text.specs.SolutionText.{owns, strategy_lexemes, answer_lexemes, Fits, StartsLine, IsUnknown, IsNoMove}
+use Rattle.pg_text.specs.SolutionReading.{IsLost, IsMisfit, BeginsMisfit}
+use Rattle.pg_text.proofs.Steps.{some, some_is, none, none_is_some}
+use Rattle.pg_text.proofs.Lexing.{token_again}
+use Rattle.pg_text.proofs.Answering.{unfit}
+
+-- ---- tokens are read in one way only
+
+pub same_token : (bytes : List ℕ) (a b : Lexeme) (p q : List ℕ) → Begins bytes a p → Begins bytes b q → (a ≡ b) × (p ≡ q)
+same_token bytes a b p q x y =
+    let same : (let r : Lexeme × List ℕ = (a, p) in r) ≡ (b, q) = some_is (a, p) (b, q) (sym (token_again bytes a p x) ∙ token_again bytes b q y) in
+    (ap (λ (t : Lexeme × List ℕ). t.0) same, ap (λ (t : Lexeme × List ℕ). t.1) same)
+
+number_is : (n m : ℕ) → number n ≡ number m → n ≡ m
+number_is n m e = cc
+
+player_is : (p q : Player) → player_number p ≡ player_number q → p ≡ q
+player_is Even Even e = refl
+player_is Odd Odd e = refl
+player_is Even Odd e = absurd cc
+player_is Odd Even e = absurd cc
+
+-- a line has the number with which it starts
+pub starts_with : (here : List ℕ) (n : ℕ) (tokens : List Lexeme) (mid : List ℕ) (line : SolutionLine) (after : List ℕ) → Spells here (number n ∷ tokens) mid → Spells here (answer_lexemes line) after → line.identifier ≡ n
+starts_with here n tokens mid line after p q = number_is line.identifier n (same_token here (number line.identifier) (number n) q.0 p.0 q.1 p.1).0
+
+strategy_is : (bytes : List ℕ) (m : ℕ) (mid : List ℕ) (strategy : Option ℕ) (after : List ℕ) → Begins bytes (number m) mid → Spells bytes (strategy_lexemes strategy ++ semicolon ∷ []) after → strategy ≡ some m
+strategy_is bytes m mid None after b s = absurd (let same : semicolon ≡ number m = (same_token bytes semicolon (number m) s.0 mid s.1 b).0 in cc)
+strategy_is bytes m mid (Some k) after b s = ap (λ (n : ℕ). some n) (number_is k m (same_token bytes (number k) (number m) s.0 mid s.1 b).0)
+
+-- the winner and the strategy of a line of which the first three tokens are known
+front_is : (here : List ℕ) (n : ℕ) (winner : Player) (m : ℕ) (mid : List ℕ) (line : SolutionLine) (after : List ℕ)
+    → Spells here (number n ∷ number (player_number winner) ∷ number m ∷ []) mid → Spells here (answer_lexemes line) after → (line.winner ≡ winner) × (line.strategy ≡ some m)
+front_is here n winner m mid line after p q =
+    let one = same_token here (number line.identifier) (number n) q.0 p.0 q.1 p.1 in
+    let second : Begins p.0 (number (player_number line.winner)) q.2.0 = subst (λ (b : List ℕ). Begins b (number (player_number line.winner)) q.2.0) one.1 q.2.1 in
+    let two = same_token p.0 (number (player_number line.winner)) (number (player_number winner)) q.2.0 p.2.0 second p.2.1 in
+    let third : Begins q.2.0 (number m) p.2.2.0 = subst (λ (b : List ℕ). Begins b (number m) p.2.2.0) (sym two.1) p.2.2.1 in
+    (player_is line.winner winner (number_is (player_number line.winner) (player_number winner) two.0), strategy_is q.2.0 m p.2.2.0 line.strategy after third q.2.2)
+
+-- ---- what begins so is no line that fits
+
+pub unknown_unfit : (game : List GameVertex) (n : ℕ) (line : SolutionLine) → line.identifier ≡ n → IsUnknown game n → ¬ Fits game line
+unknown_unfit game n line named unknown f = unknown f.v f.within (sym f.named ∙ named)
+
+pub no_move_unfit : (game : List GameVertex) (here : List ℕ) (n : ℕ) (line : SolutionLine) (after : List ℕ) → IsGame game → IsNoMove game here n → Spells here (answer_lexemes line) after → ¬ Fits game line
+no_move_unfit game here n line after well m s =
+    let front = front_is here n m.winner m.strategy m.rest line after m.stands s in
+    let named : identifier game m.v ≡ line.identifier = sym (starts_with here n (number (player_number m.winner) ∷ number m.strategy ∷ []) m.rest line after m.stands s ∙ m.named) in
+    let owned : owns game line.winner m.v ≡ true = ap (λ (p : Player). owns game p m.v) front.0 ∙ m.owned in
+    unfit game line m.v well m.within named (record { n = m.strategy; counts = ap (λ (b : Bool). cond b line.strategy none) owned ∙ front.1; absent = m.absent })
+
+pub unfit_front : (game : List GameVertex) (here : List ℕ) (n : ℕ) (line : SolutionLine) (after : List ℕ) → IsGame game → (StartsLine here n × IsUnknown game n) ⊎ IsNoMove game here n → Spells here (answer_lexemes line) after → ¬ Fits game line
+unfit_front game here n line after well (inl u) s = unknown_unfit game n line (starts_with here n (u.0.token ∷ []) u.0.rest line after u.0.stands s) u.1
+unfit_front game here n line after well (inr m) s = no_move_unfit game here n line after well m s
+
+pub front_starts : (game : List GameVertex) (here : List ℕ) (n : ℕ) → (StartsLine here n × IsUnknown game n) ⊎ IsNoMove game here n → StartsLine here n
+front_starts game here n (inl u) = u.0
+front_starts game here n (inr m) = record { token = number (player_number m.winner); rest = m.stands.2.0; stands = (m.stands.0, m.stands.1, (m.stands.2.0, m.stands.2.1, refl)) }
+
+-- ---- a whole line begins so too
+
+pub line_starts : (here : List ℕ) (line : SolutionLine) (after : List ℕ) → Spells here (answer_lexemes line) after → StartsLine here line.identifier
+line_starts here line after s = record { token = number (player_number line.winner); rest = s.2.0; stands = (s.0, s.1, (s.2.0, s.2.1, refl)) }
+
+-- the strategy that counts stands there, where the winner owns the vertex
+counts_is : (b : Bool) (strategy : Option ℕ) (n : ℕ) → cond b strategy none ≡ some n → (b ≡ true) × (strategy ≡ some n)
+counts_is true strategy n e = (refl, e)
+counts_is false strategy n e = absurd (none_is_some n e)
+
+strategy_stands : (bytes : List ℕ) (strategy : Option ℕ) (m : ℕ) (after : List ℕ) → strategy ≡ some m → Spells bytes (strategy_lexemes strategy ++ semicolon ∷ []) after → (mid : List ℕ) × Begins bytes (number m) mid
+strategy_stands bytes None m after e s = absurd (none_is_some m e)
+strategy_stands bytes (Some k) m after e s = (s.0, subst (λ (n : ℕ). Begins bytes (number n) s.0) (some_is k m e) s.1)
+
+lost_front : (game : List GameVertex) (here : List ℕ) (line : SolutionLine) (after : List ℕ) → Spells here (answer_lexemes line) after → IsLost game line → IsNoMove game here line.identifier
+lost_front game here line after s l =
+    let c = counts_is (owns game line.winner l.v) line.strategy l.nowhere.n l.nowhere.counts in
+    let third = strategy_stands s.2.0 line.strategy l.nowhere.n after c.1 s.2.2 in
+    record {
+      winner = line.winner;
+      strategy = l.nowhere.n;
+      rest = third.0;
+      stands = (s.0, s.1, (s.2.0, s.2.1, (third.0, third.1, refl)));
+      v = l.v;
+      within = l.within;
+      named = l.named;
+      owned = c.0;
+      absent = l.nowhere.absent;
+    }
+
+pub line_front : (game : List GameVertex) (seen : List Bool) (here : List ℕ) (line : SolutionLine) (after : List ℕ) (misfit : Misfit) → Spells here (answer_lexemes line) after → IsMisfit game line seen misfit → BeginsMisfit game seen here line.identifier misfit
+line_front game seen here line after NotOfGame s (inl unknown, unmarked) = (inl (line_starts here line after s, unknown), unmarked)
+line_front game seen here line after NotOfGame s (inr lost, unmarked) = (inr (lost_front game here line after s lost), unmarked)
+line_front game seen here line after Repeated s m = (line_starts here line after s, m)
