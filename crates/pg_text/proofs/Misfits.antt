@@ -1,18 +1,20 @@
 -- Lines that can't be taken, known by the tokens with which they begin.
-use Rattle.std.proofs.Common.{◌≡◌, ℕ, Bool, true, false, cond, List, [], ◌∷◌, ◌++◌, Option, Some, None, refl, sym, ap, subst, ◌∙◌, inl, inr, ◌⊎◌}
+use Rattle.std.proofs.Common.{◌≡◌, ◌≢◌, ℕ, ◌<◌, Bool, true, false, cond, List, [], ◌∷◌, ◌++◌, length, Option, Some, None, refl, sym, ap, subst, ◌∙◌, inl, inr}
 use Rattle.pg_arena.specs.declared.player.Player.{Player}
 use Rattle.pg_arena.specs.declared.player.Player.TheVariants.{Even, Odd}
-use Rattle.pg_arena.specs.Games.{GameVertex, identifier, IsGame}
+use Rattle.pg_arena.specs.Games.{GameVertex, identifier, IsEdge, IsGame}
 use Rattle.pg_text.specs.declared.solution_line.SolutionLine.{SolutionLine}
 use Rattle.pg_text.specs.declared.solution_text.Misfit.{Misfit}
 use Rattle.pg_text.specs.declared.solution_text.Misfit.TheVariants.{NotOfGame, Repeated}
 use Rattle.pg_text.specs.Lexemes.{Lexeme, number, semicolon, Begins, Spells}
 use Rattle.pg_text.specs.GameText.{player_number}
-use Rattle.pg_text.specs.SolutionText.{owns, strategy_lexemes, answer_lexemes, Fits, StartsLine, IsUnknown, IsNoMove}
-use Rattle.pg_text.specs.SolutionReading.{IsLost, IsMisfit, BeginsMisfit}
+use Rattle.pg_text.specs.GameScan.{natural_at, owner_at}
+use Rattle.pg_text.specs.SolutionText.{owns, strategy_lexemes, answer_lexemes, Fits, StartsLine, IsUnknown, IsNoMove, BeginsUnfit}
+use Rattle.pg_text.specs.SolutionReading.{is_seen, IsLost, IsUnmarked, IsMisfit, BeginsMisfit, BeginsWell}
 use Rattle.pg_text.proofs.Steps.{some, some_is, none, none_is_some}
 use Rattle.pg_text.proofs.Lexing.{token_again}
-use Rattle.pg_text.proofs.Answering.{unfit}
+use Rattle.pg_text.proofs.Takes.{natural_again, owner_again}
+use Rattle.pg_text.proofs.Answering.{same_vertex, unfit, unmarked_here}
 
 -- ---- tokens are read in one way only
 
@@ -60,11 +62,11 @@ no_move_unfit game here n line after well m s =
     let owned : owns game line.winner m.v ≡ true = ap (λ (p : Player). owns game p m.v) front.0 ∙ m.owned in
     unfit game line m.v well m.within named (record { n = m.strategy; counts = ap (λ (b : Bool). cond b line.strategy none) owned ∙ front.1; absent = m.absent })
 
-pub unfit_front : (game : List GameVertex) (here : List ℕ) (n : ℕ) (line : SolutionLine) (after : List ℕ) → IsGame game → (StartsLine here n × IsUnknown game n) ⊎ IsNoMove game here n → Spells here (answer_lexemes line) after → ¬ Fits game line
+pub unfit_front : (game : List GameVertex) (here : List ℕ) (n : ℕ) (line : SolutionLine) (after : List ℕ) → IsGame game → BeginsUnfit game here n → Spells here (answer_lexemes line) after → ¬ Fits game line
 unfit_front game here n line after well (inl u) s = unknown_unfit game n line (starts_with here n (u.0.token ∷ []) u.0.rest line after u.0.stands s) u.1
 unfit_front game here n line after well (inr m) s = no_move_unfit game here n line after well m s
 
-pub front_starts : (game : List GameVertex) (here : List ℕ) (n : ℕ) → (StartsLine here n × IsUnknown game n) ⊎ IsNoMove game here n → StartsLine here n
+pub front_starts : (game : List GameVertex) (here : List ℕ) (n : ℕ) → BeginsUnfit game here n → StartsLine here n
 front_starts game here n (inl u) = u.0
 front_starts game here n (inr m) = record { token = number (player_number m.winner); rest = m.stands.2.0; stands = (m.stands.0, m.stands.1, (m.stands.2.0, m.stands.2.1, refl)) }
 
@@ -102,3 +104,72 @@ pub line_front : (game : List GameVertex) (seen : List Bool) (here : List ℕ) (
 line_front game seen here line after NotOfGame s (inl unknown, unmarked) = (inl (line_starts here line after s, unknown), unmarked)
 line_front game seen here line after NotOfGame s (inr lost, unmarked) = (inr (lost_front game here line after s lost), unmarked)
 line_front game seen here line after Repeated s m = (line_starts here line after s, m)
+
+-- ---- what begins well
+
+well_unstarted : (game : List GameVertex) (seen : List Bool) (here : List ℕ) → ((n : ℕ) → ¬ StartsLine here n) → BeginsWell game seen here
+well_unstarted game seen here none = record {
+  fresh = λ n s. absurd (none n s);
+  no_unfit = λ n b. none n (front_starts game here n b);
+}
+
+-- no number stands here
+pub well_numberless : (game : List GameVertex) (seen : List Bool) (here : List ℕ) → ((n : ℕ) (mid : List ℕ) → ¬ Begins here (number n) mid) → BeginsWell game seen here
+well_numberless game seen here none = well_unstarted game seen here (λ n s. none n s.stands.0 s.stands.1)
+
+-- no token stands behind the identifier
+pub well_cut : (game : List GameVertex) (seen : List Bool) (here : List ℕ) (n : ℕ) (mid : List ℕ) → Begins here (number n) mid → ((token : Lexeme) (rest : List ℕ) → ¬ Begins mid token rest) → BeginsWell game seen here
+well_cut game seen here n mid first none = well_unstarted game seen here (λ k s.
+    let same = same_token here (number k) (number n) s.stands.0 mid s.stands.1 first in
+    none s.token s.stands.2.0 (subst (λ (b : List ℕ). Begins b s.token s.stands.2.0) same.1 s.stands.2.1))
+
+-- at this vertex no strategy that counts and is no successor stands behind the identifier
+abbrev pub HasMove : List GameVertex → ℕ → List ℕ → Type 0
+HasMove game v mid = (player : Player) (m : ℕ) (rest : List ℕ) → Spells mid (number (player_number player) ∷ number m ∷ []) rest → owns game player v ≡ true → ((w : ℕ) → IsEdge game v w → identifier game w ≢ m) → ⊥
+
+pub well_here : (game : List GameVertex) (seen : List Bool) (here : List ℕ) (n : ℕ) (mid : List ℕ) (v : ℕ) → IsGame game → Begins here (number n) mid → v < length game → n ≡ identifier game v → is_seen seen v ≡ false → HasMove game v mid → BeginsWell game seen here
+well_here game seen here n mid v well first within named unmarked moves = record { fresh = fresh; no_unfit = no_unfit }
+  where
+    fresh : (k : ℕ) → StartsLine here k → IsUnmarked game k seen
+    fresh k s =
+        let same : k ≡ n = number_is k n (same_token here (number k) (number n) s.stands.0 mid s.stands.1 first).0 in
+        unmarked_here game k v seen well within (same ∙ named) unmarked
+
+    no_unfit : (k : ℕ) → ¬ BeginsUnfit game here k
+    no_unfit k (inl u) =
+        let same : k ≡ n = number_is k n (same_token here (number k) (number n) u.0.stands.0 mid u.0.stands.1 first).0 in
+        u.1 v within (sym named ∙ sym same)
+    no_unfit k (inr m) =
+        let same = same_token here (number k) (number n) m.stands.0 mid m.stands.1 first in
+        let at : m.v ≡ v = same_vertex game m.v v well m.within within (sym m.named ∙ number_is k n same.0 ∙ named) in
+        moves m.winner m.strategy m.rest (subst (λ (b : List ℕ). Spells b (number (player_number m.winner) ∷ number m.strategy ∷ []) m.rest) same.1 m.stands.2)
+        (subst (λ (u : ℕ). owns game m.winner u ≡ true) at m.owned)
+        (subst (λ (u : ℕ). (w : ℕ) → IsEdge game u w → identifier game w ≢ m.strategy) at m.absent)
+
+-- no winner stands there
+pub moves_unwon : (game : List GameVertex) (v : ℕ) (mid : List ℕ) → owner_at mid ≡ None → HasMove game v mid
+moves_unwon game v mid e = λ player m rest s owned absent. none_is_some _ (sym e ∙ owner_again mid player s.0 s.1)
+
+-- no strategy stands there
+pub moves_unnamed : (game : List GameVertex) (v : ℕ) (mid : List ℕ) (winner : Player) (after : List ℕ) → Begins mid (number (player_number winner)) after → ((n : ℕ) (rest : List ℕ) → ¬ Begins after (number n) rest) → HasMove game v mid
+moves_unnamed game v mid winner after won none = λ player m rest s owned absent.
+    let same = same_token mid (number (player_number player)) (number (player_number winner)) s.0 after s.1 won in
+    none m s.2.0 (subst (λ (b : List ℕ). Begins b (number m) s.2.0) same.1 s.2.1)
+
+-- this winner and this strategy stand there, and they don't refuse the line
+pub moves_named : (game : List GameVertex) (v : ℕ) (mid : List ℕ) (winner : Player) (after : List ℕ) (n : ℕ) (rest : List ℕ) → Begins mid (number (player_number winner)) after → Begins after (number n) rest
+    → (owns game winner v ≡ true → ((w : ℕ) → IsEdge game v w → identifier game w ≢ n) → ⊥) → HasMove game v mid
+moves_named game v mid winner after n rest won named holds = λ player m end s owned absent.
+    let same = same_token mid (number (player_number player)) (number (player_number winner)) s.0 after s.1 won in
+    let who : player ≡ winner = player_is player winner (number_is (player_number player) (player_number winner) same.0) in
+    let what : m ≡ n = number_is m n (same_token after (number m) (number n) s.2.0 rest (subst (λ (b : List ℕ). Begins b (number m) s.2.0) same.1 s.2.1) named).0 in
+    holds (subst (λ (p : Player). owns game p v ≡ true) who owned) (subst (λ (k : ℕ). (w : ℕ) → IsEdge game v w → identifier game w ≢ k) what absent)
+
+-- ---- what isn't read doesn't stand there
+
+pub unread_number : (bytes : List ℕ) → natural_at bytes ≡ None → (n : ℕ) (mid : List ℕ) → ¬ Begins bytes (number n) mid
+unread_number bytes e = λ n mid b. none_is_some (n, mid) (sym e ∙ natural_again bytes n mid b)
+
+pub not_both : (b : Bool) → b ≡ true → b ≡ false → ⊥
+not_both true e f = absurd cc
+not_both false e f = absurd cc

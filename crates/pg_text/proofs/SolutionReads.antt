@@ -1,5 +1,5 @@
 -- A solution text read line by line.
-use Rattle.std.proofs.Common.{◌≡◌, ◌≢◌, ℕ, ◌-◌, ◌<◌, Bool, true, false, cond, eqb, List, [], ◌∷◌, ◌++◌, length, Option, Some, None, refl, sym, ap, subst, ◌∙◌, ◌⊎◌, arith, inl, inr, append_assoc}
+use Rattle.std.proofs.Common.{◌≡◌, ◌≢◌, ℕ, ◌-◌, ◌<◌, Bool, true, false, cond, eqb, List, [], ◌∷◌, ◌++◌, length, Option, Some, None, refl, sym, ap, subst, ◌∙◌, arith, inl, inr, append_assoc}
 use Rattle.std.specs.Prelude.{codes, replicate}
 use Rattle.std.specs.List.{list_any, AllByRecursion}
 use Rattle.pg_arena.specs.Games.{GameVertex, identifier, IsGame}
@@ -17,9 +17,9 @@ use Rattle.pg_text.specs.Lexemes.{number, end, Spells, after_space}
 use Rattle.pg_text.specs.Steps.{◌>>=◌, Fails, Step, item, stop, items_at}
 use Rattle.pg_text.specs.GameScan.{clause_at}
 use Rattle.pg_text.specs.Solutions.{unanswered}
-use Rattle.pg_text.specs.SolutionText.{answer_lexemes, BeginsWithLines, AreLines, Fits, line_count, answers, IsSolutionText, StartsLine, IsUnknown, IsNoMove, IsFirstMissing, IsNoText, RefusesSolution}
+use Rattle.pg_text.specs.SolutionText.{answer_lexemes, BeginsWithLines, AreLines, Fits, line_count, answers, IsSolutionText, has_line, StartsLine, BeginsUnfit, IsFirstMissing, IsNoText, RefusesSolution}
 use Rattle.pg_text.specs.SolutionScan.{next_answer_at, answers_at}
-use Rattle.pg_text.specs.SolutionReading.{Puts, State, IsMarked, IsMisfit, BeginsMisfit, HasRead, SpellsNone, IsRefused, is_complete, misfit_fault}
+use Rattle.pg_text.specs.SolutionReading.{Puts, State, IsMarked, IsUnmarked, IsMisfit, BeginsMisfit, BeginsWell, HasRead, SpellsNone, IsRefused, is_complete, misfit_fault}
 use Rattle.pg_text.proofs.Steps.{bind_some, some, some_is, none_is_some}
 use Rattle.pg_text.proofs.Items.{with_front, nothing_yet, goes_on, items_none}
 use Rattle.pg_text.proofs.Texts.{clause_absent}
@@ -61,6 +61,10 @@ goes bytes game solution seen rest line after solution' seen' well r e p = recor
 pub finishes : (bytes : List ℕ) (game : List GameVertex) (solution : List Answer) (seen : List Bool) (rest after : List ℕ) → Reading bytes game solution seen rest → next_answer_at rest ≡ Some (stop tt, after) → HasRead bytes game solution seen
 finishes bytes game solution seen rest after r e = record { lines = r.front; text = lines_end bytes r.front rest after r.begins e; state = r.state }
 
+-- no line that was read has the identifier of an unmarked vertex
+unnamed : (game : List GameVertex) (lines : List SolutionLine) (n : ℕ) (solution : List Answer) (seen : List Bool) → State game lines solution seen → IsUnmarked game n seen → has_line lines n ≡ false
+unnamed game lines n solution seen s unmarked = no_line game lines n (read_fits game lines solution seen s) (λ v within named. s.counted v within ∙ ap (λ (b : Bool). cond b 1 0) (unmarked v within named))
+
 -- ---- no text
 
 nothing_spelt : (bytes : List ℕ) (game : List GameVertex) → answers_at bytes ≡ None → SpellsNone bytes game
@@ -85,19 +89,22 @@ no_header_no_line bytes line rest e s = none_is_some bytes (sym e ∙ clause_abs
 no_header_no_end : (bytes : List ℕ) → clause_at (codes "paritysol") bytes ≡ None → Spells bytes (end ∷ []) [] → ⊥
 no_header_no_end bytes e s = none_is_some bytes (sym e ∙ clause_absent (codes "paritysol") bytes end s.0 (λ e. cc) s.1)
 
+no_header_no_start : (bytes : List ℕ) (n : ℕ) → clause_at (codes "paritysol") bytes ≡ None → ¬ StartsLine bytes n
+no_header_no_start bytes n e s = none_is_some bytes (sym e ∙ clause_absent (codes "paritysol") bytes (number n) s.stands.0 (λ e. cc) s.stands.1)
+
 pub fails_header : (bytes : List ℕ) (game : List GameVertex) (refusal : Refusal) (len : ℕ) → Fails refusal (clause_at (codes "paritysol") bytes) → IsRefused bytes game (fault_of len refusal)
 fails_header bytes game refusal len h = refused bytes game refusal len (λ other.
     let e = not_read refusal (clause_at (codes "paritysol") bytes) h other in (
       nothing_spelt bytes game (no_lines bytes e),
-      record { before = []; here = bytes; begins = record { header = None; spelt = refl }; taken = record { fitting = tt; single = λ v within. omega arith }; no_line = λ line rest s. no_header_no_line bytes line rest e s; no_end = λ s. no_header_no_end bytes e s },
+      record { before = []; here = bytes; begins = record { header = None; spelt = refl }; taken = record { fitting = tt; single = λ v within. omega arith }; no_line = λ line rest s. no_header_no_line bytes line rest e s; no_end = λ s. no_header_no_end bytes e s; new = λ n s. refl; no_unfit = λ n b. no_header_no_start bytes n e (front_starts game bytes n b) },
     ))
 
 no_items : (bytes start : List ℕ) → clause_at (codes "paritysol") bytes ≡ Some start → items_at next_answer_at start ≡ None → answers_at bytes ≡ None
 unfolding answers_at
 no_items bytes start e h = rw (e, h) refl
 
-pub fails_line : (bytes : List ℕ) (game : List GameVertex) (solution : List Answer) (seen : List Bool) (rest : List ℕ) (refusal : Refusal) (len : ℕ) → Reading bytes game solution seen rest → Fails refusal (next_answer_at rest) → IsRefused bytes game (fault_of len refusal)
-fails_line bytes game solution seen rest refusal len r h = refused bytes game refusal len (λ other.
+pub fails_line : (bytes : List ℕ) (game : List GameVertex) (solution : List Answer) (seen : List Bool) (rest : List ℕ) (refusal : Refusal) (len : ℕ) → Reading bytes game solution seen rest → Fails refusal (next_answer_at rest) → BeginsWell game seen rest → IsRefused bytes game (fault_of len refusal)
+fails_line bytes game solution seen rest refusal len r h well = refused bytes game refusal len (λ other.
     let e = not_read refusal (next_answer_at rest) h other in
     let unread = no_items bytes r.start r.header (sym r.so_far ∙ ap (with_front r.front) (items_none next_answer_at rest e)) in (
       nothing_spelt bytes game unread,
@@ -108,6 +115,8 @@ fails_line bytes game solution seen rest refusal len r h = refused bytes game re
         taken = read_taken game r.front solution seen r.state;
         no_line = λ line after s. none_is_some _ (sym e ∙ line_again rest line after s);
         no_end = λ s. none_is_some _ (sym e ∙ end_again rest s.0 s.1);
+        new = λ n s. unnamed game r.front n solution seen r.state (well.fresh n s);
+        no_unfit = well.no_unfit;
       },
     ))
 
@@ -147,7 +156,7 @@ line_there bytes game solution seen rest n lines r s spelt = there (next_answer_
 
 -- a line of a text fits
 unfit_spoils : (bytes : List ℕ) (game : List GameVertex) (solution : List Answer) (seen : List Bool) (rest : List ℕ) (n : ℕ)
-    → IsGame game → Reading bytes game solution seen rest → (StartsLine rest n × IsUnknown game n) ⊎ IsNoMove game rest n → SpellsNone bytes game
+    → IsGame game → Reading bytes game solution seen rest → BeginsUnfit game rest n → SpellsNone bytes game
 unfit_spoils bytes game solution seen rest n well r misfit = λ other t.
     let there = line_there bytes game solution seen rest n t.lines r (front_starts game rest n misfit) t.text in
     let l = text_lines bytes game solution seen rest there.line there.after t.lines r there.read t.text in
@@ -172,8 +181,8 @@ fails_front bytes game solution seen rest n NotOfGame well r m = (
     here = rest;
     begins = r.begins;
     taken = read_taken game r.front solution seen r.state;
-    new = no_line game r.front n (read_fits game r.front solution seen r.state) (λ v within named. r.state.counted v within ∙ ap (λ (b : Bool). cond b 1 0) (m.1 v within named));
-    misfit = m.0;
+    new = unnamed game r.front n solution seen r.state m.1;
+    unfit = m.0;
   },
 )
 fails_front bytes game solution seen rest n Repeated well r m = (

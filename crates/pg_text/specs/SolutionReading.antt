@@ -9,7 +9,7 @@ use Rattle.pg_text.specs.declared.solution_text.Misfit.TheVariants.{NotOfGame, R
 use Rattle.pg_text.specs.declared.fault.TextFault.{TextFault}
 use Rattle.pg_text.specs.declared.fault.TextFault.TheVariants as text
 use Rattle.pg_text.specs.Solutions.{winner, choice}
-use Rattle.pg_text.specs.SolutionText.{owns, counting_strategy, line_count, Says, StartsLine, IsUnknown, IsNoMove, AreLines, IsSolutionText, RefusesSolution}
+use Rattle.pg_text.specs.SolutionText.{owns, counting_strategy, line_count, Says, StartsLine, IsUnknown, BeginsUnfit, AreLines, IsSolutionText, RefusesSolution}
 
 -- whether v is marked
 abbrev pub is_seen : List Bool → ℕ → Bool
@@ -62,8 +62,13 @@ IsMisfit game line seen Repeated = IsMarked game line.identifier seen
 
 -- why no line that begins here with the identifier n can be taken
 abbrev pub BeginsMisfit : List GameVertex → List Bool → List ℕ → ℕ → Misfit → Type 0
-BeginsMisfit game seen here n NotOfGame = ((StartsLine here n × IsUnknown game n) ⊎ IsNoMove game here n) × IsUnmarked game n seen
+BeginsMisfit game seen here n NotOfGame = BeginsUnfit game here n × IsUnmarked game n seen
 BeginsMisfit game seen here n Repeated = StartsLine here n × IsMarked game n seen
+
+-- no line that begins here is refused for its identifier or its strategy
+pub record BeginsWell (game : List GameVertex) (seen : List Bool) (here : List ℕ) : Type 0 where
+  pub fresh : (n : ℕ) → StartsLine here n → IsUnmarked game n seen
+  pub no_unfit : (n : ℕ) → ¬ BeginsUnfit game here n
 
 -- what is read says what these lines say, and each vertex is marked that one of them names
 pub record State (game : List GameVertex) (lines : List SolutionLine) (solution : List Answer) (seen : List Bool) : Type 0 where

@@ -115,6 +115,10 @@ pub record IsNoMove (game : List GameVertex) (here : List ℕ) (n : ℕ) : Type 
   pub owned : owns game winner v ≡ true
   pub absent : (w : ℕ) → IsEdge game v w → identifier game w ≢ strategy
 
+-- here begins a line with the identifier n, which no vertex has, or whose strategy counts and is no successor
+abbrev pub BeginsUnfit : List GameVertex → List ℕ → ℕ → Type 0
+BeginsUnfit game here n = (StartsLine here n × IsUnknown game n) ⊎ IsNoMove game here n
+
 -- Behind lines that are taken, none of which has the identifier n, begins a line with it, and no vertex has it, or its
 -- strategy counts and is no successor. How the line ends isn't asked.
 pub record IsNotOfGame (bytes : List ℕ) (game : List GameVertex) (n : ℕ) : Type 0 where
@@ -123,7 +127,7 @@ pub record IsNotOfGame (bytes : List ℕ) (game : List GameVertex) (n : ℕ) : T
   pub begins : BeginsWithLines bytes before here
   pub taken : AreTaken game before
   pub new : has_line before n ≡ false
-  pub misfit : (StartsLine here n × IsUnknown game n) ⊎ IsNoMove game here n
+  pub unfit : BeginsUnfit game here n
 
 -- the line names v, and has a strategy if its winner owns v
 abbrev pub answers : List GameVertex → ℕ → SolutionLine → Bool
@@ -152,7 +156,8 @@ pub record IsSecond (bytes : List ℕ) (game : List GameVertex) (offset : ℕ) :
   pub twice : has_line before n ≡ true
   pub place : offset ≡ length bytes - length (after_space here)
 
--- behind lines that are taken stands neither a line nor the end of the text
+-- Behind lines that are taken stands neither a line nor the end of the text, and what stands there doesn't begin as a
+-- line that is refused for its identifier or its strategy.
 pub record IsNoText (bytes : List ℕ) (game : List GameVertex) : Type 0 where
   pub before : List SolutionLine
   pub here : List ℕ
@@ -160,6 +165,8 @@ pub record IsNoText (bytes : List ℕ) (game : List GameVertex) : Type 0 where
   pub taken : AreTaken game before
   pub no_line : (line : SolutionLine) (rest : List ℕ) → ¬ Spells here (answer_lexemes line) rest
   pub no_end : ¬ Spells here (end ∷ []) []
+  pub new : (n : ℕ) → StartsLine here n → has_line before n ≡ false
+  pub no_unfit : (n : ℕ) → ¬ BeginsUnfit game here n
 
 -- why the bytes are refused
 abbrev pub RefusesSolution : List ℕ → List GameVertex → TextFault → Type 0

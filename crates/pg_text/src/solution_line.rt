@@ -1,6 +1,8 @@
 //! The lines of a solution text.
 
+ghost use Rattle.std.specs.Prelude.{◌≡◌, option_map};
 ghost use Rattle.pg_text.specs.Steps.{Gives};
+ghost use Rattle.pg_text.specs.GameScan.{natural_at, owner_at};
 ghost use Rattle.pg_text.specs.SolutionScan.{answer_seen, strategy_at, answer_at, next_answer_at};
 
 use crate::fault::{Refusal, unexpected};
@@ -15,6 +17,29 @@ pub(crate) struct SolutionLine {
     pub(crate) identifier: u32,
     pub(crate) winner: Player,
     pub(crate) strategy: Option<u32>,
+}
+
+/// The number in front, if one stands there.
+#[tactic(auto, unfolding(crate::specs::GameScan::natural_at))]
+pub(crate) fn natural(bytes: &[u8]) -> Option<(u32, &[u8])>
+    ensures { option_map (λ x. (x.0, x.1.now)) result ≡ natural_at bytes.now }
+{
+    match scan(bytes) {
+        Ok((Token::Number(value), rest)) => Some((value, rest)),
+        _ => None,
+    }
+}
+
+/// The winner in front, if one stands there.
+#[tactic(auto, unfolding(crate::specs::GameScan::owner_at, crate::specs::GameScan::natural_at))]
+pub(crate) fn winner(bytes: &[u8]) -> Option<(Player, &[u8])>
+    ensures { option_map (λ x. (x.0, x.1.now)) result ≡ owner_at bytes.now }
+{
+    match scan(bytes) {
+        Ok((Token::Number(0), rest)) => Some((Player::Even, rest)),
+        Ok((Token::Number(1), rest)) => Some((Player::Odd, rest)),
+        _ => None,
+    }
 }
 
 /// The strategy, where one stands, and the semicolon.

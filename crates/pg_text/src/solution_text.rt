@@ -6,13 +6,13 @@ ghost use Rattle.pg_text.specs.declared.answer.Answer.{Answer};
 ghost use Rattle.pg_text.specs.declared.fault.TextFault.TheVariants.{OutOfMemory};
 ghost use Rattle.pg_text.specs.Lexemes.{after_space};
 ghost use Rattle.pg_text.specs.SolutionText.{owns, IsSolutionText, RefusesSolution};
-ghost use Rattle.pg_text.specs.SolutionReading.{Chooses, LeadsNowhere, Puts, IsMisfit, BeginsMisfit, HasRead, IsRefused, is_complete, misfit_fault};
+ghost use Rattle.pg_text.specs.SolutionReading.{Chooses, LeadsNowhere, Puts, IsMisfit, BeginsMisfit, BeginsWell, HasRead, IsRefused, is_complete, misfit_fault};
 
 use crate::fault::TextFault;
-use crate::line::{clause, player};
+use crate::line::clause;
 use crate::solution::Solution;
-use crate::solution_line::{SolutionLine, next_answer};
-use crate::tokens::{Token, left_at, next_token};
+use crate::solution_line::{SolutionLine, natural, next_answer, winner};
+use crate::tokens::{left_at, next_token};
 use pg_arena::{Game, Player, Vertex};
 use std::alloc::Global;
 
@@ -108,9 +108,10 @@ fn take_line(
 fn early_misfit(game: &Game, seen: &[bool], bytes: &[u8]) -> Option<(u32, Misfit)>
     requires game { IsGame game.now }
     requires marks { length seen.now ≡ length game.now }
-    ensures { IfSome result (λ x. BeginsMisfit game.now seen.now bytes.now x.0 x.1) }
+    ensures misfit { IfSome result (λ x. BeginsMisfit game.now seen.now bytes.now x.0 x.1) }
+    ensures none { IfNone result (BeginsWell game.now seen.now bytes.now) }
 {
-    let Ok((Token::Number(identifier), rest)) = next_token(bytes) else {
+    let Some((identifier, rest)) = natural(bytes) else {
         return None;
     };
     let Ok(_) = next_token(rest) else {
@@ -122,10 +123,10 @@ fn early_misfit(game: &Game, seen: &[bool], bytes: &[u8]) -> Option<(u32, Misfit
     if seen[v.0 as usize] {
         return Some((identifier, Misfit::Repeated));
     }
-    let Ok((winner, rest)) = player(rest) else {
+    let Some((winner, rest)) = winner(rest) else {
         return None;
     };
-    let Ok((Token::Number(wanted), _)) = next_token(rest) else {
+    let Some((wanted, _)) = natural(rest) else {
         return None;
     };
     match successor(game, v, wanted) {

@@ -42,9 +42,9 @@ returns-in-Ok-None-default-clause-read c = finishes c.args.bytes.now c.args.game
     (c.in-Ok-None-default.ensures ∙ ap (λ (o : Option SolutionLine). Some (answer_seen o, c.in-Ok-None-default.field-0-1.now)) c.in-Ok-None-default.field-0-0-is)
 
 pub returns-in-Err-next_answer-clause-refused : goal.returns-in-Err-next_answer-clause-refused
-returns-in-Err-next_answer-clause-refused c = rw c.in_text-in-Err-next_answer.ensures (fails_line c.args.bytes.now c.args.game.now c.lines.solution c.lines.seen.items c.lines.rest.now c.in-Err-next_answer.refusal (length c.args.bytes.now) c.lines.invariant c.in-Err-next_answer.ensures)
+returns-in-Err-next_answer-clause-refused c = rw c.in_text-in-Err-next_answer.ensures (fails_line c.args.bytes.now c.args.game.now c.lines.solution c.lines.seen.items c.lines.rest.now c.in-Err-next_answer.refusal (length c.args.bytes.now) c.lines.invariant c.in-Err-next_answer.ensures (rw (sym c.deref.ensures.value) c.in_default-early_misfit.ensures.none))
 
 pub returns-in-Some-clause-refused : goal.returns-in-Some-clause-refused
 returns-in-Some-clause-refused c =
     rw c.of_line-in-Some.ensures
-    (fails_front c.args.bytes.now c.args.game.now c.lines.solution c.lines.seen.items c.lines.rest.now c.in-Some.identifier c.in-Some.misfit c.requires c.lines.invariant (rw (sym c.deref.ensures.value) c.in-Some.ensures))
+    (fails_front c.args.bytes.now c.args.game.now c.lines.solution c.lines.seen.items c.lines.rest.now c.in-Some.identifier c.in-Some.misfit c.requires c.lines.invariant (rw (sym c.deref.ensures.value) c.in-Some.ensures.misfit))
