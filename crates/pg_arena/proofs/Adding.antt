@@ -16,7 +16,7 @@ use Rattle.pg_arena.specs.declared.entry.Entry.{Entry}
 use Rattle.pg_arena.specs.declared.fault.ArenaFault.TheVariants.{DuplicateVertex, TooManyVertices, TooManyEdges}
 use Rattle.pg_arena.specs.Games.{edge_count}
 use Rattle.pg_arena.specs.Lines.{Line, is_named, add_fault}
-use Rattle.pg_arena.specs.Entries.{name_in, vertex_in, vertices_in, AreWithin, AreNamed, IsOrderly, AreKept}
+use Rattle.pg_arena.specs.Mirrors.Entries.{name_in, vertex_in, vertices_in, AreWithin, AreNamed, IsOrderly, AreKept}
 
 abbrev Names : Type 0
 Names = List (Vec ℕ Global)

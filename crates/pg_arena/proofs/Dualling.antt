@@ -7,8 +7,8 @@ use Rattle.std.proofs.lemmas.Option.{slice_get-map}
 use Rattle.std.proofs.lemmas.List.Elements.{All-head, All-tail, All-cons, All-nil, All-map}
 use Rattle.pg_arena.specs.declared.entry.Entry.{Entry}
 use Rattle.pg_arena.specs.Games.{GameVertex, IsGame, IsWithinLimits, HasPrioritiesUpTo, dual}
-use Rattle.pg_arena.specs.Duals.{game_dual, limits_dual}
-use Rattle.pg_arena.specs.Entries.{name_in, vertex_in, vertices_in, texts, dual_entry, IsBuilt, IsOrderly}
+use Rattle.pg_arena.specs.Lemmas.Duals.{game_dual, limits_dual}
+use Rattle.pg_arena.specs.Mirrors.Entries.{name_in, vertex_in, vertices_in, texts, dual_entry, IsBuilt, IsOrderly}
 
 abbrev Names : Type 0
 Names = List (Vec ℕ Global)

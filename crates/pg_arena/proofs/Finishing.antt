@@ -18,8 +18,8 @@ use Rattle.pg_arena.specs.declared.player.Player.TheVariants.{Even}
 use Rattle.pg_arena.specs.declared.entry.Entry.{Entry}
 use Rattle.pg_arena.specs.Games.{GameVertex, IsGame, identifiers, identifier, successors, edge_count, nowhere}
 use Rattle.pg_arena.specs.Lines.{Line, IsGameOf, line_of}
-use Rattle.pg_arena.specs.Entries.{vertex_in, vertices_in, AreWithin, IsOrderly, AreKept, IsBuilt}
-use Rattle.pg_arena.specs.Links.{AreLinked}
+use Rattle.pg_arena.specs.Mirrors.Entries.{vertex_in, vertices_in, AreWithin, IsOrderly, AreKept, IsBuilt}
+use Rattle.pg_arena.specs.Mirrors.Links.{AreLinked}
 use Rattle.pg_arena.proofs.Rising.{up_same, up_sorted}
 
 abbrev Names : Type 0

@@ -11,8 +11,8 @@ use Rattle.std.proofs.lemmas.List.Sorted.{Contains-permutation, IsPermutation-sy
 use Rattle.std.proofs.lemmas.Map.Keys.{sorted_from_strictly_increasing}
 use Rattle.pg_arena.specs.declared.entry.Entry.{Entry}
 use Rattle.pg_arena.specs.Lines.{Line, is_named, IsUnknown, IsLeastUnknown}
-use Rattle.pg_arena.specs.Entries.{vertex_in, vertices_in, IsOrderly}
-use Rattle.pg_arena.specs.Links.{HasUnknown, unknown_in, first_unknown_in}
+use Rattle.pg_arena.specs.Mirrors.Entries.{vertex_in, vertices_in, IsOrderly}
+use Rattle.pg_arena.specs.Mirrors.Links.{HasUnknown, unknown_in, first_unknown_in}
 use Rattle.pg_arena.proofs.Rising.{has, Up, up_sorted}
 use Rattle.pg_arena.proofs.Adding.{named_is}
 use Rattle.pg_arena.proofs.Finishing.{IsReady}

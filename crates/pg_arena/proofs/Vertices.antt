@@ -10,7 +10,7 @@ use Rattle.std.proofs.lemmas.List.Elements.{Contains-get_or}
 use Rattle.std.proofs.lemmas.Map.Keys.{sorted_from_strictly_increasing, below_from_sorted}
 use Rattle.pg_arena.specs.declared.entry.Entry.{Entry}
 use Rattle.pg_arena.specs.Games.{GameVertex, IsGame, identifiers, identifier, vertex_at}
-use Rattle.pg_arena.specs.Entries.{vertices_in, IsBuilt}
+use Rattle.pg_arena.specs.Mirrors.Entries.{vertices_in, IsBuilt}
 use Rattle.pg_arena.proofs.Rising.{has, has_contained}
 use Rattle.pg_arena.proofs.Finishing.{identifiers_are, identifier_is}
 

@@ -1,5 +1,4 @@
 pub mod Games
-pub mod Duals
 pub mod Lines
-pub mod Entries
-pub mod Links
+pub mod Mirrors
+pub mod Lemmas

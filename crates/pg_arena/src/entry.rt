@@ -1,7 +1,7 @@
 //! A vertex as games and builders keep it.
 
 ghost use Rattle.std.specs.Prelude.{◌≡◌, ◌≤◌};
-ghost use Rattle.pg_arena.specs.Entries.{dual_entry};
+ghost use Rattle.pg_arena.specs.Mirrors.Entries.{dual_entry};
 
 use crate::player::Player;
 

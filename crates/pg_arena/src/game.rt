@@ -2,7 +2,7 @@
 
 ghost use Rattle.std.specs.Prelude.{◌^◌, ◌≡◌, ◌≢◌, ℕ, ◌<◌, length, ◌≤◌, All, map, option_copied, IfSome, IfNone, IfOk, IfErr};
 ghost use Rattle.pg_arena.specs.Games.{IsGame, IsWithinLimits, HasPrioritiesUpTo, dual, vertex_at, identifier, priority, owner, successors, name};
-ghost use Rattle.pg_arena.specs.Entries.{dual_entry, texts};
+ghost use Rattle.pg_arena.specs.Mirrors.Entries.{dual_entry, texts};
 ghost use Rattle.pg_arena.specs.declared.fault.ArenaFault.TheVariants.{OutOfMemory};
 
 use crate::entry::Entry;
@@ -25,7 +25,7 @@ pub struct Game {
 impl Model for Game {
     ghost use Rattle.std.specs.Prelude.{List};
     ghost use Rattle.pg_arena.specs.Games.{GameVertex};
-    ghost use Rattle.pg_arena.specs.Entries.{vertices_in, IsBuilt};
+    ghost use Rattle.pg_arena.specs.Mirrors.Entries.{vertices_in, IsBuilt};
 
     ghost Value = { List GameVertex };
 
@@ -35,7 +35,7 @@ impl Model for Game {
 }
 
 impl Game {
-    ghost use Rattle.pg_arena.specs.Entries.{vertices_in, IsBuilt};
+    ghost use Rattle.pg_arena.specs.Mirrors.Entries.{vertices_in, IsBuilt};
 
     pub(crate) fn from_parts(
         identifiers: Vec<u32>,

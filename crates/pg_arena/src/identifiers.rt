@@ -5,7 +5,7 @@ ghost use Rattle.std.specs.List.{list_any};
 ghost use Rattle.std.specs.List.Sorted.{IsPermutation, IsNonDecreasing, IsStrictlyIncreasing};
 ghost use Rattle.std.specs.Ordering.{nat_cmp};
 ghost use Rattle.std.specs.BTreeSet.{contains};
-ghost use Rattle.pg_arena.specs.Entries.{AreTold};
+ghost use Rattle.pg_arena.specs.Mirrors.Entries.{AreTold};
 
 use std::alloc::{AllocError, Global};
 use std::collections::BTreeSet;
@@ -21,7 +21,7 @@ pub(crate) struct Identifiers {
 
 impl Model for Identifiers {
     ghost use Rattle.std.specs.Prelude.{List, ℕ};
-    ghost use Rattle.pg_arena.specs.Entries.{AreTold};
+    ghost use Rattle.pg_arena.specs.Mirrors.Entries.{AreTold};
 
     ghost Value = { List ℕ };
 

@@ -34,7 +34,7 @@ pub(crate) struct Lines {
 impl Model for Lines {
     ghost use Rattle.std.specs.Prelude.{List};
     ghost use Rattle.pg_arena.specs.Lines.{Line};
-    ghost use Rattle.pg_arena.specs.Entries.{vertices_in, AreKept};
+    ghost use Rattle.pg_arena.specs.Mirrors.Entries.{vertices_in, AreKept};
 
     ghost Value = { List Line };
 

@@ -2,8 +2,8 @@
 
 ghost use Rattle.std.specs.Prelude.{◌≡◌, ◌<◌, ◌≤◌, length, not, IfOk, MatchOption};
 ghost use Rattle.std.specs.List.Sorted.{IsStrictlyIncreasing};
-ghost use Rattle.pg_arena.specs.Entries.{AreWithin};
-ghost use Rattle.pg_arena.specs.Links.{is_among, AreLinked, HasUnknown, unknown_in, first_unknown_in};
+ghost use Rattle.pg_arena.specs.Mirrors.Entries.{AreWithin};
+ghost use Rattle.pg_arena.specs.Mirrors.Links.{is_among, AreLinked, HasUnknown, unknown_in, first_unknown_in};
 
 use crate::entry::Entry;
 use crate::place::place_of;

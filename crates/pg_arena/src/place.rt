@@ -2,7 +2,7 @@
 
 ghost use Rattle.std.specs.Prelude.{◌≡◌, ◌<◌, false, length, slice_index, IfSome, IfNone};
 ghost use Rattle.std.specs.List.Sorted.{IsStrictlyIncreasing};
-ghost use Rattle.pg_arena.specs.Links.{is_among};
+ghost use Rattle.pg_arena.specs.Mirrors.Links.{is_among};
 
 /// The place of an identifier, looked for first where it stands if no number is left out between the least one and it.
 pub(crate) fn place_of(identifiers: &[u32], identifier: u32) -> Option<usize>

@@ -7,7 +7,7 @@ use Rattle.std.proofs.lemmas.List.Elements.{All-nil, All-cons, All-head, All-tai
 use Rattle.pg_arena.specs.declared.player.Player.{Player}
 use Rattle.pg_arena.specs.declared.player.Player.TheVariants.{Even, Odd}
 use Rattle.pg_arena.specs.Games.{GameVertex, IsGame, IsEdge, IsPath, HasParityOf, opponent, priority, owner, successors, vertex_at, dual}
-use Rattle.pg_arena.specs.Duals.{length_dual, successors_dual, priority_dual, owner_dual}
+use Rattle.pg_arena.specs.Lemmas.Duals.{length_dual, successors_dual, priority_dual, owner_dual}
 use Rattle.pg_text.specs.declared.answer.Answer.{Answer}
 use Rattle.pg_text.specs.Solutions.{winner, loser, choice}
 use Rattle.pg_measure.specs.Measures.{BoundList, MeasureValue, ListBelow, ListAtMost, Covers, width_from, is_odd}

@@ -4,7 +4,7 @@ use Rattle.std.specs.List.{AllPairs}
 use Rattle.pg_arena.specs.Games.{GameVertex, IsGame}
 use Rattle.pg_text.specs.declared.answer.Answer.{Answer}
 use Rattle.pg_check.specs.Soundness.{IsSound, NoneLeaves}
-use Rattle.pg_check.specs.Rounds.{IsRound, IsSimpleRound, IsLost, HasNoBadRound}
+use Rattle.pg_check.specs.Mirrors.Rounds.{IsRound, IsSimpleRound, IsLost, HasNoBadRound}
 use Rattle.pg_check.specs.Verdicts.{IsLeastLeaving, IsSimpleBadCycle}
 use Rattle.pg_check.proofs.Cycles.{IsBadRound, cycle_from_round, sound_from_no_round, safe_from_sound}
 

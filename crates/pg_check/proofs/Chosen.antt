@@ -8,7 +8,7 @@ use Rattle.std.proofs.lemmas.List.Elements.{Contains-get_or}
 use Rattle.pg_arena.specs.declared.player.Player.{Player}
 use Rattle.pg_arena.specs.declared.player.Player.TheVariants.{Even, Odd}
 use Rattle.pg_arena.specs.Games.{GameVertex, IsGame, opponent, owner, successors}
-use Rattle.pg_arena.specs.Duals.{length_dual}
+use Rattle.pg_arena.specs.Lemmas.Duals.{length_dual}
 use Rattle.pg_text.specs.declared.answer.Answer.{Answer}
 use Rattle.pg_text.specs.Solutions.{answer_at, unanswered, winner, IsSolution}
 use Rattle.pg_measure.specs.Measures.{BoundList, MeasureValue}

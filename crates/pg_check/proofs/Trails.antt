@@ -7,7 +7,7 @@ use Rattle.std.proofs.lemmas.List.Kept.{AllPairs-cons}
 use Rattle.pg_arena.specs.Games.{GameVertex, IsPath, priority}
 use Rattle.pg_text.specs.declared.answer.Answer.{Answer}
 use Rattle.pg_check.specs.Soundness.{Counts}
-use Rattle.pg_check.specs.Rounds.{IsSimpleRound, IsTrail}
+use Rattle.pg_check.specs.Mirrors.Rounds.{IsSimpleRound, IsTrail}
 
 -- x stands after the place
 abbrev pub StandsAfter : List ℕ → ℕ → ℕ → Type 0

@@ -4,7 +4,7 @@ ghost use Rattle.std.specs.Prelude.{◌≡◌, ◌↔◌, ℕ, ◌<◌, length, 
 ghost use Rattle.pg_arena.specs.Games.{IsGame};
 ghost use Rattle.pg_text.specs.Solutions.{IsSolution};
 ghost use Rattle.pg_check.specs.Soundness.{IsSound};
-ghost use Rattle.pg_check.specs.Rounds.{IsLost, HasNoRound, HasNoBadRound};
+ghost use Rattle.pg_check.specs.Mirrors.Rounds.{IsLost, HasNoRound, HasNoBadRound};
 ghost use Rattle.pg_check.specs.Verdicts.{IsSimpleBadCycle, IsWins, Refutes};
 ghost use Rattle.pg_check.specs.declared.fault.CheckFault.TheVariants.{OutOfMemory};
 

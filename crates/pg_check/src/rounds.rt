@@ -1,7 +1,7 @@
 //! Cycles of edges that count, seen from a vertex of their greatest priority.
 
 ghost use Rattle.std.specs.Prelude.{◌≡◌, ◌↔◌, ◌<◌, length, IsTrue, IfOk, IfSome, IfNone};
-ghost use Rattle.pg_check.specs.Rounds.{HasNoRound, IsSimpleRound, IsTrail, IsLost};
+ghost use Rattle.pg_check.specs.Mirrors.Rounds.{HasNoRound, IsSimpleRound, IsTrail, IsLost};
 
 use crate::edges::counted;
 use pg_arena::{Game, Player, Vertex};

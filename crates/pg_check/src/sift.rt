@@ -3,7 +3,7 @@
 ghost use Rattle.std.specs.Prelude.{◌≡◌, ◌<◌, length, All, IfOk, IfSome};
 ghost use Rattle.std.specs.Bool.{OnFalse};
 ghost use Rattle.pg_arena.specs.Games.{IsGame};
-ghost use Rattle.pg_check.specs.Rounds.{HoldsRounds, RisesFrom, StaysNowhere, limit_of, IsNumbered, IsRuledOut};
+ghost use Rattle.pg_check.specs.Mirrors.Rounds.{HoldsRounds, RisesFrom, StaysNowhere, limit_of, IsNumbered, IsRuledOut};
 
 use crate::edges::counted;
 use crate::rounds::is_lost;

@@ -4,13 +4,13 @@ use Rattle.std.specs.List.{range_with_len}
 use Rattle.pg_hoa.specs.declared.table.Table.{Table}
 use Rattle.pg_hoa.specs.declared.fault.Conflict.{Conflict}
 use Rattle.pg_hoa.specs.declared.fault.Conflict.TheVariants.{Memory, NotDeterministic}
-use Rattle.pg_hoa.specs.Faults.{conflict_fault}
+use Rattle.pg_hoa.specs.Mirrors.Faults.{conflict_fault}
 use Rattle.pg_hoa.specs.Automata.{Automaton, Step, IsAutomaton, letters, rows, next}
-use Rattle.pg_hoa.specs.Kept.{KeptLine}
-use Rattle.pg_hoa.specs.Settling.{Settled}
-use Rattle.pg_hoa.specs.Tables.{kept_steps, IsTableOf, IsFirstConflict, IsConflictOf}
-use Rattle.pg_hoa.specs.Tables as tables
-use Rattle.pg_hoa.specs.Readings.{CanAssemble, Assembles, NeverAssembles, AreFew, kept_states}
+use Rattle.pg_hoa.specs.Mirrors.Kept.{KeptLine}
+use Rattle.pg_hoa.specs.Mirrors.Settling.{Settled}
+use Rattle.pg_hoa.specs.Mirrors.Tables.{kept_steps, IsTableOf, IsFirstConflict, IsConflictOf}
+use Rattle.pg_hoa.specs.Mirrors.Tables as tables
+use Rattle.pg_hoa.specs.Mirrors.Readings.{CanAssemble, Assembles, NeverAssembles, AreFew, kept_states}
 
 -- an automaton of what the headers say, with the steps of a table
 pub record IsOf (s : Settled) (t : Table) (a : Automaton) : Type 0 where

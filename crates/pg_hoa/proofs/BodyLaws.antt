@@ -12,12 +12,12 @@ use Rattle.pg_hoa.specs.declared.formula.Kind.TheVariants.{Label}
 use Rattle.pg_hoa.specs.declared.formula.Op.{Op}
 use Rattle.pg_hoa.specs.Lexemes.{Lexeme, number, header, string, end, left_bracket, right_bracket, left_brace, right_brace, ampersand, stray, Character}
 use Rattle.pg_hoa.specs.Formulas.{formula_lexemes}
-use Rattle.pg_hoa.specs.FormulaRun.{ops_at}
-use Rattle.pg_hoa.specs.Scan.{first, IsToken}
-use Rattle.pg_hoa.specs.Steps.{◌>>=◌}
+use Rattle.pg_hoa.specs.Mirrors.FormulaRun.{ops_at}
+use Rattle.pg_hoa.specs.Mirrors.Scan.{first, IsToken}
+use Rattle.pg_hoa.specs.Mirrors.Steps.{◌>>=◌}
 use Rattle.pg_hoa.specs.AutomatonText.{Edge, StateLine, sets_lexemes, name_lexemes, edge_lexemes, state_lexemes, set_list, EachBelow, IsDistinct, EdgeFits, LineFits}
-use Rattle.pg_hoa.specs.Kept.{KeptEdge, KeptLine, edge_kept, line_kept}
-use Rattle.pg_hoa.specs.BodyScan.{due, state_of, new_state, set_in, behind_set, sets_at, sets_before, sets_if, bracket_first, behind_label, single, target_at, edge_at, begins_edge, edges_within, edges_at, name_first, behind_name, line_at, begins_line, is_seen, lines_within, body_at}
+use Rattle.pg_hoa.specs.Mirrors.Kept.{KeptEdge, KeptLine, edge_kept, line_kept}
+use Rattle.pg_hoa.specs.Mirrors.BodyScan.{due, state_of, new_state, set_in, behind_set, sets_at, sets_before, sets_if, bracket_first, behind_label, single, target_at, edge_at, begins_edge, edges_within, edges_at, name_first, behind_name, line_at, begins_line, is_seen, lines_within, body_at}
 use Rattle.pg_hoa.proofs.Steps.{bind_some, chosen, some, some_is, none_is_some}
 use Rattle.pg_hoa.proofs.FormulaLaws.{ReadsFormula, ops_take, ops_again, formula_tokens}
 

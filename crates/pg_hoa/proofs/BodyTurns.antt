@@ -8,10 +8,10 @@ use Rattle.std.proofs.lemmas.List.{append-nil, length-set, length-replicate, get
 use Rattle.pg_hoa.specs.declared.fault.Refusal.{Refusal}
 use Rattle.pg_hoa.specs.declared.fault.Refusal.TheVariants.{Memory, Wrong}
 use Rattle.pg_hoa.specs.Lexemes.{Lexeme, number, stray}
-use Rattle.pg_hoa.specs.Scan.{first}
-use Rattle.pg_hoa.specs.Steps.{◌>>=◌, Fails}
-use Rattle.pg_hoa.specs.Kept.{KeptEdge, KeptLine}
-use Rattle.pg_hoa.specs.BodyScan.{due, state_of, new_state, set_in, sets_at, sets_if, edge_at, begins_edge, edges_within, edges_at, behind_name, line_at, begins_line, is_seen, lines_within, body_at}
+use Rattle.pg_hoa.specs.Mirrors.Scan.{first}
+use Rattle.pg_hoa.specs.Mirrors.Steps.{◌>>=◌, Fails}
+use Rattle.pg_hoa.specs.Mirrors.Kept.{KeptEdge, KeptLine}
+use Rattle.pg_hoa.specs.Mirrors.BodyScan.{due, state_of, new_state, set_in, sets_at, sets_if, edge_at, begins_edge, edges_within, edges_at, behind_name, line_at, begins_line, is_seen, lines_within, body_at}
 use Rattle.pg_hoa.proofs.BodyLaws.{due_is, edge_shorter, line_shorter}
 
 -- what was read before, and then the rest

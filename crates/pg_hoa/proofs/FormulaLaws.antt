@@ -5,10 +5,10 @@ use Rattle.std.proofs.lemmas.List.{length-append}
 use Rattle.pg_hoa.specs.declared.formula.Kind.{Kind}
 use Rattle.pg_hoa.specs.declared.formula.Op.{Op}
 use Rattle.pg_hoa.specs.Lexemes.{Lexeme, right_paren, ampersand, bar}
-use Rattle.pg_hoa.specs.Scan.{IsToken}
+use Rattle.pg_hoa.specs.Mirrors.Scan.{IsToken}
 use Rattle.pg_hoa.specs.Formulas.{Formula, yes, no, proposition, inf, fin, not, both, either, bracket, formula_lexemes, IsWritten}
-use Rattle.pg_hoa.specs.FormulaRun.{postfix, ops_at}
-use Rattle.pg_hoa.specs.FormulaScan.{formula_at}
+use Rattle.pg_hoa.specs.Mirrors.FormulaRun.{postfix, ops_at}
+use Rattle.pg_hoa.specs.Mirrors.FormulaScan.{formula_at}
 use Rattle.pg_hoa.proofs.Steps.{bind_some, some, some_is}
 use Rattle.pg_hoa.proofs.FormulasTake.{formula_takes}
 use Rattle.pg_hoa.proofs.FormulasAgain.{Ends, formula_again}

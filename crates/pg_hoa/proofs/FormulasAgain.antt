@@ -5,7 +5,7 @@ use Rattle.pg_hoa.specs.Lexemes.{Lexeme, right_paren, ampersand, bar, stray}
 use Rattle.pg_hoa.specs.declared.formula.Kind.{Kind}
 use Rattle.pg_hoa.specs.declared.formula.Kind.TheVariants.{Label, Condition}
 use Rattle.pg_hoa.specs.Formulas.{Formula, yes, no, proposition, inf, fin, not, both, either, bracket, formula_lexemes, rank, IsGrouped, nesting, IsOf, IsWritten}
-use Rattle.pg_hoa.specs.FormulaScan.{Frame, fresh, State, operand, operator, summed, multiplied, negated, completes, formula_from, formula_at}
+use Rattle.pg_hoa.specs.Mirrors.FormulaScan.{Frame, fresh, State, operand, operator, summed, multiplied, negated, completes, formula_from, formula_at}
 
 abbrev starting : Option Formula → Frame
 starting sum = record { sum = sum; product = None; nots = 0 }

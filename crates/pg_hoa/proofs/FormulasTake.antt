@@ -9,8 +9,8 @@ use Rattle.pg_hoa.specs.Lexemes.{Lexeme, number, identifier, left_paren, right_p
 use Rattle.pg_hoa.specs.declared.formula.Kind.{Kind}
 use Rattle.pg_hoa.specs.declared.formula.Kind.TheVariants.{Label, Condition}
 use Rattle.pg_hoa.specs.Formulas.{Formula, yes, no, proposition, inf, fin, not, bracket, formula_lexemes, rank, IsGrouped, nesting, IsOf, IsWritten}
-use Rattle.pg_hoa.specs.Steps.{◌>>=◌}
-use Rattle.pg_hoa.specs.FormulaScan.{Frame, fresh, State, operand, opening, naming, closing, operator, summed, multiplied, negated, limited, completes, deeper, word_step, operand_step, opening_step, naming_step, closing_step, operator_step, step, finish, stops, formula_from, formula_at}
+use Rattle.pg_hoa.specs.Mirrors.Steps.{◌>>=◌}
+use Rattle.pg_hoa.specs.Mirrors.FormulaScan.{Frame, fresh, State, operand, opening, naming, closing, operator, summed, multiplied, negated, limited, completes, deeper, word_step, operand_step, opening_step, naming_step, closing_step, operator_step, step, finish, stops, formula_from, formula_at}
 use Rattle.pg_hoa.proofs.Steps.{bind_some, chosen, some, some_is, none_is_some}
 
 -- ---- the tokens read so far

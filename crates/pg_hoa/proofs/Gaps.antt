@@ -3,8 +3,8 @@ use Rattle.std.proofs.Common.{◌≡◌, ℕ, zero, suc, ◌+◌, ◌-◌, ◌�
 use Rattle.std.specs.Prelude.{◌&&◌}
 use Rattle.std.proofs.lemmas.Bool.{ltb-true}
 use Rattle.pg_hoa.specs.Lexemes.{is_space}
-use Rattle.pg_hoa.specs.Steps.{◌>>=◌, Fails}
-use Rattle.pg_hoa.specs.Scan.{gap_step, behind_blank, gap_within, gap_from}
+use Rattle.pg_hoa.specs.Mirrors.Steps.{◌>>=◌, Fails}
+use Rattle.pg_hoa.specs.Mirrors.Scan.{gap_step, behind_blank, gap_within, gap_from}
 use Rattle.pg_hoa.specs.declared.fault.Refusal.{Refusal}
 use Rattle.pg_hoa.specs.declared.fault.Refusal.TheVariants.{Memory, Wrong}
 use Rattle.pg_hoa.proofs.Steps.{chosen, some, some_is, none, none_is_some}

@@ -6,10 +6,10 @@ use Rattle.std.proofs.lemmas.List.{append-nil, length-map}
 use Rattle.pg_hoa.specs.declared.formula.Op.{Op}
 use Rattle.pg_hoa.specs.Lexemes.{Character}
 use Rattle.pg_hoa.specs.Formulas.{Formula}
-use Rattle.pg_hoa.specs.FormulaRun.{postfix}
+use Rattle.pg_hoa.specs.Mirrors.FormulaRun.{postfix}
 use Rattle.pg_hoa.specs.Automata.{Automaton}
 use Rattle.pg_hoa.specs.AutomatonText.{Header, Written, Says, AtMostOne, count_of, character_code, state_counts, starts, names, acceptances, controls}
-use Rattle.pg_hoa.specs.Kept.{KeptHead}
+use Rattle.pg_hoa.specs.Mirrors.Kept.{KeptHead}
 use Rattle.pg_hoa.proofs.HeaderValues.{IsGoodName}
 use Rattle.pg_hoa.proofs.HeaderParts.{option_list}
 use Rattle.pg_hoa.proofs.HeaderLaws.{SaysHeaders}

@@ -9,14 +9,14 @@ use Rattle.std.proofs.lemmas.Slice.Eq.{bytes_eq-Decides}
 use Rattle.pg_hoa.specs.declared.formula.Op.{Op}
 use Rattle.pg_hoa.specs.declared.formula.Kind.TheVariants.{Condition}
 use Rattle.pg_hoa.specs.Lexemes.{Lexeme, number, identifier, header, string, body, Character}
-use Rattle.pg_hoa.specs.Scan.{IsToken}
-use Rattle.pg_hoa.specs.Steps.{◌>>=◌}
+use Rattle.pg_hoa.specs.Mirrors.Scan.{IsToken}
+use Rattle.pg_hoa.specs.Mirrors.Steps.{◌>>=◌}
 use Rattle.pg_hoa.specs.Formulas.{Formula, formula_lexemes, IsWritten}
-use Rattle.pg_hoa.specs.FormulaRun.{ops_at, postfix}
+use Rattle.pg_hoa.specs.Mirrors.FormulaRun.{ops_at, postfix}
 use Rattle.pg_hoa.specs.AutomatonText.{Header, header_lexemes, IsHeader, value_lexeme, character_code, IsNameByte, state_counts, starts, names, acceptances, controls}
 use Rattle.pg_hoa.specs.AutomatonText as text
-use Rattle.pg_hoa.specs.Kept.{KeptHead}
-use Rattle.pg_hoa.specs.HeaderScan.{numeral_at, alone_at, numbers_from, skipped_from, names_from, once, at_most, states_at, start_at, names_at, acceptance_at, controls_at, begins_low, other_at, header_at, empty_head, headers_within, headers_from, opening_at, version_at, headers_at}
+use Rattle.pg_hoa.specs.Mirrors.Kept.{KeptHead}
+use Rattle.pg_hoa.specs.Mirrors.HeaderScan.{numeral_at, alone_at, numbers_from, skipped_from, names_from, once, at_most, states_at, start_at, names_at, acceptance_at, controls_at, begins_low, other_at, header_at, empty_head, headers_within, headers_from, opening_at, version_at, headers_at}
 use Rattle.pg_hoa.proofs.Steps.{bind_some, chosen, some, some_is, none, none_is_some}
 use Rattle.pg_hoa.proofs.FormulasAgain.{Ends}
 use Rattle.pg_hoa.proofs.FormulaLaws.{ops_take, ops_again, formula_tokens}

@@ -5,11 +5,11 @@ use Rattle.std.specs.List.{flat_map, AllByRecursion}
 use Rattle.std.proofs.lemmas.List.{append-nil}
 use Rattle.pg_hoa.specs.declared.formula.Op.{Op}
 use Rattle.pg_hoa.specs.Formulas.{Formula}
-use Rattle.pg_hoa.specs.FormulaRun.{postfix}
+use Rattle.pg_hoa.specs.Mirrors.FormulaRun.{postfix}
 use Rattle.pg_hoa.specs.AutomatonText.{Header, state_counts, starts, names, acceptances, controls, character_code}
 use Rattle.pg_hoa.specs.AutomatonText as text
 use Rattle.pg_hoa.specs.Lexemes.{Character}
-use Rattle.pg_hoa.specs.Kept.{KeptHead}
+use Rattle.pg_hoa.specs.Mirrors.Kept.{KeptHead}
 use Rattle.pg_hoa.proofs.HeaderValues.{IsGoodName}
 
 -- nothing, or one

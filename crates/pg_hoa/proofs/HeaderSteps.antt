@@ -3,10 +3,10 @@ use Rattle.std.proofs.Common.{◌≡◌, ℕ, suc, zero, ◌<◌, List, ◌∷�
 use Rattle.pg_hoa.specs.declared.fault.Refusal.{Refusal}
 use Rattle.pg_hoa.specs.declared.fault.Refusal.TheVariants.{Memory, Wrong}
 use Rattle.pg_hoa.specs.Lexemes.{Lexeme, header, body}
-use Rattle.pg_hoa.specs.Scan.{first}
-use Rattle.pg_hoa.specs.Steps.{◌>>=◌, Fails}
-use Rattle.pg_hoa.specs.Kept.{KeptHead}
-use Rattle.pg_hoa.specs.HeaderScan.{header_at, headers_within, headers_from, opening_at, version_at, empty_head, headers_at}
+use Rattle.pg_hoa.specs.Mirrors.Scan.{first}
+use Rattle.pg_hoa.specs.Mirrors.Steps.{◌>>=◌, Fails}
+use Rattle.pg_hoa.specs.Mirrors.Kept.{KeptHead}
+use Rattle.pg_hoa.specs.Mirrors.HeaderScan.{header_at, headers_within, headers_from, opening_at, version_at, empty_head, headers_at}
 use Rattle.pg_hoa.proofs.Steps.{none_is_some}
 use Rattle.pg_hoa.proofs.Turning.{first_end, first_token}
 use Rattle.pg_hoa.proofs.HeaderLaws.{header_shorter}

@@ -4,10 +4,10 @@ use Rattle.std.specs.List.{list_all}
 use Rattle.pg_hoa.specs.declared.fault.Refusal.{Refusal}
 use Rattle.pg_hoa.specs.declared.fault.Refusal.TheVariants.{Memory, Wrong}
 use Rattle.pg_hoa.specs.Lexemes.{Lexeme, number, identifier, string, stray}
-use Rattle.pg_hoa.specs.Scan.{first, characters}
+use Rattle.pg_hoa.specs.Mirrors.Scan.{first, characters}
 use Rattle.pg_hoa.specs.AutomatonText.{character_code}
-use Rattle.pg_hoa.specs.Steps.{Fails}
-use Rattle.pg_hoa.specs.HeaderScan.{numeral_of, numbers_from, is_value, skipped_from, code_at, is_name_byte, is_name, quoted_at, names_from}
+use Rattle.pg_hoa.specs.Mirrors.Steps.{Fails}
+use Rattle.pg_hoa.specs.Mirrors.HeaderScan.{numeral_of, numbers_from, is_value, skipped_from, code_at, is_name_byte, is_name, quoted_at, names_from}
 use Rattle.pg_hoa.proofs.Steps.{chosen, some, some_is, none, none_is_some}
 use Rattle.pg_hoa.proofs.Turning.{first_end, first_token}
 

@@ -6,9 +6,9 @@ use Rattle.std.proofs.lemmas.List.{append-nil}
 use Rattle.std.proofs.lemmas.Bool.{eq-eqb}
 use Rattle.std.proofs.lemmas.Bool.Decides.{nat_tests}
 use Rattle.pg_hoa.specs.Lexemes.{Lexeme, number, identifier, header, string, body, ampersand, stray, Character}
-use Rattle.pg_hoa.specs.Steps.{◌>>=◌}
+use Rattle.pg_hoa.specs.Mirrors.Steps.{◌>>=◌}
 use Rattle.pg_hoa.specs.AutomatonText.{Value, numeral, word, quoted, value_lexeme, character_code, IsNameByte}
-use Rattle.pg_hoa.specs.HeaderScan.{numeral_at, alone_at, numbers_from, skipped_from, is_name_byte, is_name, name_of, quoted_at, names_from}
+use Rattle.pg_hoa.specs.Mirrors.HeaderScan.{numeral_at, alone_at, numbers_from, skipped_from, is_name_byte, is_name, name_of, quoted_at, names_from}
 use Rattle.pg_hoa.proofs.Steps.{bind_some, chosen, some, some_is, none, none_is_some}
 use Rattle.pg_hoa.proofs.HeaderTurns.{true_is_false}
 

@@ -13,9 +13,9 @@ use Rattle.pg_hoa.specs.declared.formula.Mode.{Mode}
 use Rattle.pg_hoa.specs.declared.formula.Mode.TheVariants as modes
 use Rattle.pg_hoa.specs.Lexemes.{Lexeme, number, identifier, left_paren, right_paren, bang, ampersand, bar, stray}
 use Rattle.pg_hoa.specs.Formulas.{Formula, yes, no, proposition, not, bracket}
-use Rattle.pg_hoa.specs.Steps.{◌>>=◌}
-use Rattle.pg_hoa.specs.FormulaScan.{Frame, fresh, State, operand, opening, naming, closing, operator, summed, deeper, word_step, operand_step, operator_step, multiplied, negated, limited, completes, step, finish, stops, formula_from, formula_at}
-use Rattle.pg_hoa.specs.FormulaRun.{Kept, not_ops, both_ops, either_ops, limit_op, completed_at, operand_at, negated_at, opened_at, product_at, sum_at, closed_at, limit_at, word_at, operand_turn, operator_turn, opening_turn, naming_turn, closing_turn, turn_at, goes_on, goes_on_at, ops_in, over_at, ops_from, ops_at, postfix}
+use Rattle.pg_hoa.specs.Mirrors.Steps.{◌>>=◌}
+use Rattle.pg_hoa.specs.Mirrors.FormulaScan.{Frame, fresh, State, operand, opening, naming, closing, operator, summed, deeper, word_step, operand_step, operator_step, multiplied, negated, limited, completes, step, finish, stops, formula_from, formula_at}
+use Rattle.pg_hoa.specs.Mirrors.FormulaRun.{Kept, not_ops, both_ops, either_ops, limit_op, completed_at, operand_at, negated_at, opened_at, product_at, sum_at, closed_at, limit_at, word_at, operand_turn, operator_turn, opening_turn, naming_turn, closing_turn, turn_at, goes_on, goes_on_at, ops_in, over_at, ops_from, ops_at, postfix}
 use Rattle.pg_hoa.proofs.Frames.{split_pushed}
 
 abbrev is_some : Option Formula → Bool

@@ -3,12 +3,12 @@ use Rattle.std.proofs.Common.{◌≡◌, ℕ, zero, suc, ◌≤◌, ◌<◌, tru
 use Rattle.std.specs.List.{flat_map}
 use Rattle.std.proofs.lemmas.Bool.{eqb-true}
 use Rattle.pg_hoa.specs.Lexemes.{blank_bytes, Lexeme, stray}
-use Rattle.pg_hoa.specs.Steps.{Fails}
+use Rattle.pg_hoa.specs.Mirrors.Steps.{Fails}
 use Rattle.pg_hoa.specs.declared.fault.Refusal.{Refusal}
 use Rattle.pg_hoa.specs.declared.fault.Refusal.TheVariants.{Memory, Wrong}
 use Rattle.pg_hoa.specs.declared.token.Token.{Token}
 use Rattle.pg_hoa.specs.declared.token.Token.TheVariants as tokens
-use Rattle.pg_hoa.specs.Scan.{lexeme, gap_step, gap_within, gap_from, solid_at, behind_token, behind_gap, lex_within, lex, first}
+use Rattle.pg_hoa.specs.Mirrors.Scan.{lexeme, gap_step, gap_within, gap_from, solid_at, behind_token, behind_gap, lex_within, lex, first}
 use Rattle.pg_hoa.proofs.Steps.{none_is_some}
 use Rattle.pg_hoa.proofs.SpellingBlanks.{gap_written}
 use Rattle.pg_hoa.proofs.SpellingTokens.{solid_takes, spelt_some}

@@ -3,10 +3,10 @@ use Rattle.std.proofs.Common.{◌<◌, ◌≤◌, ℕ, suc, max, List, [], ◌�
 use Rattle.std.specs.List.{All, AllByRecursion, flat_map, fold}
 use Rattle.std.proofs.lemmas.List.Elements.{All-from_recursion}
 use Rattle.pg_hoa.specs.AutomatonText.{Edge, StateLine, EdgeFits, LineFits}
-use Rattle.pg_hoa.specs.Kept.{KeptEdge, KeptLine, edge_kept, line_kept}
-use Rattle.pg_hoa.specs.Settling.{StartsBelow}
-use Rattle.pg_hoa.specs.Tables.{kept_numbers, kept_count}
-use Rattle.pg_hoa.specs.Readings.{bound, states_in}
+use Rattle.pg_hoa.specs.Mirrors.Kept.{KeptEdge, KeptLine, edge_kept, line_kept}
+use Rattle.pg_hoa.specs.Mirrors.Settling.{StartsBelow}
+use Rattle.pg_hoa.specs.Mirrors.Tables.{kept_numbers, kept_count}
+use Rattle.pg_hoa.specs.Mirrors.Readings.{bound, states_in}
 
 -- ---- the greatest number of a list
 

@@ -8,16 +8,16 @@ use Rattle.pg_hoa.specs.declared.shape.Shape.{Shape}
 use Rattle.pg_hoa.specs.declared.fault.Refusal.{Refusal}
 use Rattle.pg_hoa.specs.declared.fault.Refusal.TheVariants.{Memory, Wrong}
 use Rattle.pg_hoa.specs.Lexemes.{Lexeme}
-use Rattle.pg_hoa.specs.Steps.{Fails}
+use Rattle.pg_hoa.specs.Mirrors.Steps.{Fails}
 use Rattle.pg_hoa.specs.Formulas.{Formula}
-use Rattle.pg_hoa.specs.FormulaRun.{postfix}
+use Rattle.pg_hoa.specs.Mirrors.FormulaRun.{postfix}
 use Rattle.pg_hoa.specs.Shapes.{bare, IsLike, FitsShape, HasShape}
 use Rattle.pg_hoa.specs.AutomatonText.{acceptances}
-use Rattle.pg_hoa.specs.Kept.{KeptHead, KeptLine, line_kept}
-use Rattle.pg_hoa.specs.HeaderScan.{headers_at}
-use Rattle.pg_hoa.specs.BodyScan.{body_at}
-use Rattle.pg_hoa.specs.Settling.{Settled, IsSettled, HasCondition, NeverSettled, StartsBelow, listed, nothing_at}
-use Rattle.pg_hoa.specs.Readings.{bound, states_in, Reads, NeverReads, CanAssemble}
+use Rattle.pg_hoa.specs.Mirrors.Kept.{KeptHead, KeptLine, line_kept}
+use Rattle.pg_hoa.specs.Mirrors.HeaderScan.{headers_at}
+use Rattle.pg_hoa.specs.Mirrors.BodyScan.{body_at}
+use Rattle.pg_hoa.specs.Mirrors.Settling.{Settled, IsSettled, HasCondition, NeverSettled, StartsBelow, listed, nothing_at}
+use Rattle.pg_hoa.specs.Mirrors.Readings.{bound, states_in, Reads, NeverReads, CanAssemble}
 use Rattle.pg_hoa.proofs.Steps.{some, some_is, none_is_some}
 use Rattle.pg_hoa.proofs.HeaderParts.{option_list}
 use Rattle.pg_hoa.proofs.HeaderLaws.{headers_take}

@@ -4,13 +4,13 @@ use Rattle.std.specs.Prelude.{codes}
 use Rattle.std.specs.List.{flat_map, AllByRecursion}
 use Rattle.pg_hoa.specs.declared.shape.Shape.{Shape}
 use Rattle.pg_hoa.specs.Lexemes.{Lexeme, identifier, header, body, end}
-use Rattle.pg_hoa.specs.Scan.{lex, IsToken}
+use Rattle.pg_hoa.specs.Mirrors.Scan.{lex, IsToken}
 use Rattle.pg_hoa.specs.Automata.{Automaton}
 use Rattle.pg_hoa.specs.AutomatonText.{StateLine, Written, IsText, IsHeader, Says, Spelt, IsUndetermined, IsDistinct, LineFits, Agree, head, EachBelow, header_lexemes, state_lexemes, text_lexemes, state_counts, names, controls, acceptances, character_code, steps_of}
-use Rattle.pg_hoa.specs.Kept.{KeptHead, KeptLine, line_kept}
-use Rattle.pg_hoa.specs.Settling.{Settled, IsSettled, listed, marked}
-use Rattle.pg_hoa.specs.Tables.{kept_steps, IsFirstConflict}
-use Rattle.pg_hoa.specs.Readings.{Reads, Assembles, AreFew, CanAssemble, bound, kept_states, kept_letters}
+use Rattle.pg_hoa.specs.Mirrors.Kept.{KeptHead, KeptLine, line_kept}
+use Rattle.pg_hoa.specs.Mirrors.Settling.{Settled, IsSettled, listed, marked}
+use Rattle.pg_hoa.specs.Mirrors.Tables.{kept_steps, IsFirstConflict}
+use Rattle.pg_hoa.specs.Mirrors.Readings.{Reads, Assembles, AreFew, CanAssemble, bound, kept_states, kept_letters}
 use Rattle.pg_hoa.proofs.Spelling.{lex_spelt}
 use Rattle.pg_hoa.proofs.HeaderParts.{option_list}
 use Rattle.pg_hoa.proofs.HeaderLaws.{SaysHeaders, headers_take, header_tokens}

@@ -7,12 +7,12 @@ use Rattle.pg_hoa.specs.declared.formula.Op.{Op}
 use Rattle.pg_hoa.specs.declared.shape.Shape.{Shape}
 use Rattle.pg_hoa.specs.Lexemes.{Character}
 use Rattle.pg_hoa.specs.Formulas.{Formula}
-use Rattle.pg_hoa.specs.FormulaRun.{postfix}
+use Rattle.pg_hoa.specs.Mirrors.FormulaRun.{postfix}
 use Rattle.pg_hoa.specs.Shapes.{bare, IsLike, FitsShape, HasShape}
 use Rattle.pg_hoa.specs.AutomatonText.{StateLine, AtMostOne, character_code, count_of, line_numbers}
-use Rattle.pg_hoa.specs.Kept.{line_kept}
-use Rattle.pg_hoa.specs.Settling.{listed}
-use Rattle.pg_hoa.specs.Readings.{states_in}
+use Rattle.pg_hoa.specs.Mirrors.Kept.{line_kept}
+use Rattle.pg_hoa.specs.Mirrors.Settling.{listed}
+use Rattle.pg_hoa.specs.Mirrors.Readings.{states_in}
 use Rattle.pg_hoa.proofs.HeaderValues.{IsGoodName}
 use Rattle.pg_hoa.proofs.HeaderParts.{option_list}
 use Rattle.pg_hoa.proofs.ShapeTrees.{one_tree}

@@ -2,8 +2,8 @@
 use Rattle.std.proofs.Common.{◌<◌, ◌≤◌, ℕ, suc, max, List, [], ◌∷◌, ◌++◌, map, Option, Some, None, sym, subst, arith}
 use Rattle.std.specs.List.{fold, flat_map, AllByRecursion}
 use Rattle.pg_hoa.specs.AutomatonText.{Edge, StateLine, EdgeFits, LineFits, line_numbers, count_of}
-use Rattle.pg_hoa.specs.Kept.{line_kept}
-use Rattle.pg_hoa.specs.Readings.{bound, states_in}
+use Rattle.pg_hoa.specs.Mirrors.Kept.{line_kept}
+use Rattle.pg_hoa.specs.Mirrors.Readings.{bound, states_in}
 use Rattle.pg_hoa.proofs.TableLaws.{kept_count_is}
 
 -- ---- what holds of all elements of two lists

@@ -7,13 +7,13 @@ use Rattle.pg_hoa.specs.declared.fault.PartFault.{PartFault}
 use Rattle.pg_hoa.specs.declared.fault.PartFault.TheVariants.{Syntax, LeftOut, UnknownHeader, OutOfRange, NotParity, TooLarge, BadName}
 use Rattle.pg_hoa.specs.declared.fault.Refusal.{Refusal}
 use Rattle.pg_hoa.specs.declared.fault.Refusal.TheVariants.{Memory, Wrong}
-use Rattle.pg_hoa.specs.Scan.{lex}
+use Rattle.pg_hoa.specs.Mirrors.Scan.{lex}
 use Rattle.pg_hoa.specs.Automata.{Automaton}
 use Rattle.pg_hoa.specs.AutomatonText.{Spelt}
-use Rattle.pg_hoa.specs.Faults.{in_text, refusal_in_text}
-use Rattle.pg_hoa.specs.Kept.{KeptHead, KeptLine}
-use Rattle.pg_hoa.specs.Settling.{Settled}
-use Rattle.pg_hoa.specs.Readings.{Reads, NeverReads, Assembles, NeverAssembles, IsRefused}
+use Rattle.pg_hoa.specs.Mirrors.Faults.{in_text, refusal_in_text}
+use Rattle.pg_hoa.specs.Mirrors.Kept.{KeptHead, KeptLine}
+use Rattle.pg_hoa.specs.Mirrors.Settling.{Settled}
+use Rattle.pg_hoa.specs.Mirrors.Readings.{Reads, NeverReads, Assembles, NeverAssembles, IsRefused}
 use Rattle.pg_hoa.proofs.ReadSpelt.{reads_spelt, reads_undetermined}
 use Rattle.pg_hoa.proofs.SpeltReads.{never_spelt, many_spell_none, undetermined_spell_none}
 

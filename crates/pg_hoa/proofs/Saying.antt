@@ -3,8 +3,8 @@ use Rattle.std.proofs.Common.{◌≡◌, ℕ, Bool, List, [], ◌∷◌, ◌++�
 use Rattle.pg_hoa.specs.declared.formula.Op.{Op}
 use Rattle.pg_hoa.specs.declared.formula.Op.TheVariants as ops
 use Rattle.pg_hoa.specs.Formulas.{Formula, yes, no, proposition, inf, fin, not, both, either, bracket, holds}
-use Rattle.pg_hoa.specs.FormulaRun.{postfix}
-use Rattle.pg_hoa.specs.Saying.{top, perform, run, says}
+use Rattle.pg_hoa.specs.Mirrors.FormulaRun.{postfix}
+use Rattle.pg_hoa.specs.Mirrors.Saying.{top, perform, run, says}
 
 pub run_append : (a b : List Op) (on : ℕ → Bool) (stack : List Bool) → run (a ++ b) on stack ≡ run b on (run a on stack)
 run_append [] b on stack = refl

@@ -7,10 +7,10 @@ use Rattle.std.proofs.lemmas.List.{length-map}
 use Rattle.pg_hoa.specs.declared.formula.Op.{Op}
 use Rattle.pg_hoa.specs.declared.shape.Shape.{Shape}
 use Rattle.pg_hoa.specs.Formulas.{Formula}
-use Rattle.pg_hoa.specs.FormulaRun.{postfix}
+use Rattle.pg_hoa.specs.Mirrors.FormulaRun.{postfix}
 use Rattle.pg_hoa.specs.Shapes.{FitsShape}
-use Rattle.pg_hoa.specs.Kept.{KeptHead, option_with}
-use Rattle.pg_hoa.specs.Settling.{Settled, IsSettled, listed}
+use Rattle.pg_hoa.specs.Mirrors.Kept.{KeptHead, option_with}
+use Rattle.pg_hoa.specs.Mirrors.Settling.{Settled, IsSettled, listed}
 use Rattle.pg_hoa.proofs.Steps.{some_is}
 
 -- the list that stands in, where there is none, is empty

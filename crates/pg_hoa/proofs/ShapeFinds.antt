@@ -6,9 +6,9 @@ use Rattle.pg_hoa.specs.declared.formula.Op.TheVariants.{Yes, No}
 use Rattle.pg_hoa.specs.declared.shape.Shape.{Shape}
 use Rattle.pg_hoa.specs.declared.shape.Shape.TheVariants.{MaxEven, MaxOdd, MinEven, MinOdd, Always, Never}
 use Rattle.pg_hoa.specs.Formulas.{Formula, yes, no}
-use Rattle.pg_hoa.specs.FormulaRun.{postfix}
+use Rattle.pg_hoa.specs.Mirrors.FormulaRun.{postfix}
 use Rattle.pg_hoa.specs.Shapes.{is_even, decides, leaf, max_even, max_odd, min_even, min_odd, condition_of, bare, IsLike, FitsShape, HasShape, place}
-use Rattle.pg_hoa.specs.ShapeRun.{set_at, wanted_at, nests_at, fits_at, constant_at, nested_at}
+use Rattle.pg_hoa.specs.Mirrors.ShapeRun.{set_at, wanted_at, nests_at, fits_at, constant_at, nested_at}
 use Rattle.pg_hoa.proofs.Steps.{some, some_is, none_is_some}
 use Rattle.pg_hoa.proofs.ShapeTrees.{one_tree, bare_postfix}
 use Rattle.pg_hoa.proofs.ShapeNests.{nested, nests_tree, tree_nests, AllDiffer}

@@ -6,7 +6,7 @@ use Rattle.pg_hoa.specs.declared.shape.Shape.{Shape}
 use Rattle.pg_hoa.specs.declared.shape.Shape.TheVariants.{MaxEven, MaxOdd, MinEven, MinOdd, Always, Never}
 use Rattle.pg_hoa.specs.Formulas.{Formula, yes, no, proposition, inf, fin, not, both, either, bracket, holds}
 use Rattle.pg_hoa.specs.Shapes.{bare, IsLike, FitsShape, HasShape, Accepts, condition_of, place}
-use Rattle.pg_hoa.specs.ShapeRun.{set_at, wanted_at}
+use Rattle.pg_hoa.specs.Mirrors.ShapeRun.{set_at, wanted_at}
 use Rattle.pg_hoa.proofs.Steps.{some_is, none_is_some}
 use Rattle.pg_hoa.proofs.ShapeFinds.{nested_in, condition_nested, no_constant}
 use Rattle.pg_hoa.proofs.ShapeSays.{nested_decided, decided_nested, to_accepts, from_accepts}

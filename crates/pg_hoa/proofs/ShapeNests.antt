@@ -2,9 +2,9 @@
 use Rattle.std.proofs.Common.{◌≡◌, ℕ, suc, zero, ◌<◌, ◌≤◌, Bool, true, false, cond, List, [], ◌∷◌, ◌++◌, Option, Some, None, refl, sym, ap, ◌∙◌, ◌⊎◌, inl, inr, arith, append_assoc}
 use Rattle.pg_hoa.specs.declared.formula.Op.{Op}
 use Rattle.pg_hoa.specs.Formulas.{Formula}
-use Rattle.pg_hoa.specs.FormulaRun.{postfix, limit_op}
+use Rattle.pg_hoa.specs.Mirrors.FormulaRun.{postfix, limit_op}
 use Rattle.pg_hoa.specs.Shapes.{leaf, decides, bare, IsLike}
-use Rattle.pg_hoa.specs.ShapeRun.{is_leaf, is_join, last_op, leaf_last, without_leaf, inner_at, only_leaf, passes, nests_at}
+use Rattle.pg_hoa.specs.Mirrors.ShapeRun.{is_leaf, is_join, last_op, leaf_last, without_leaf, inner_at, only_leaf, passes, nests_at}
 use Rattle.pg_hoa.proofs.Steps.{chosen, bind_some, some, some_is, none, none_is_some}
 use Rattle.pg_hoa.proofs.ShapeSteps.{join_op, last_parts, leaf_is, leaf_again, leaf_other, join_is, join_again, leaf_first, takes_behind, takes_before, inner_is}
 use Rattle.pg_hoa.proofs.ShapeTrees.{joined, postfix_leaf, postfix_joined, bare_leaf, bare_joined, like_leaf, like_leaf_is, like_before, like_behind, like_parts}

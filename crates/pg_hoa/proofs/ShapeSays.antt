@@ -5,7 +5,7 @@ use Rattle.pg_hoa.specs.declared.shape.Shape.{Shape}
 use Rattle.pg_hoa.specs.declared.shape.Shape.TheVariants.{MaxEven, MaxOdd, MinEven, MinOdd, Always, Never}
 use Rattle.pg_hoa.specs.Formulas.{Formula, holds}
 use Rattle.pg_hoa.specs.Shapes.{is_even, leaf, decides, NoneRecurs, IsGreatest, IsLeast, Accepts, place}
-use Rattle.pg_hoa.specs.ShapeRun.{set_at, wanted_at}
+use Rattle.pg_hoa.specs.Mirrors.ShapeRun.{set_at, wanted_at}
 use Rattle.pg_hoa.proofs.ShapeNests.{nested}
 
 -- ---- the outermost set that recurs

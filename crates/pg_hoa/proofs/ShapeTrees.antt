@@ -3,7 +3,7 @@ use Rattle.std.proofs.Common.{◌≡◌, ℕ, Bool, true, false, cond, List, [],
 use Rattle.pg_hoa.specs.declared.formula.Op.{Op}
 use Rattle.pg_hoa.specs.declared.formula.Op.TheVariants.{Yes, No, Proposition, Inf, Fin, Not, Both, Either}
 use Rattle.pg_hoa.specs.Formulas.{Formula, yes, no, proposition, inf, fin, not, both, either, bracket}
-use Rattle.pg_hoa.specs.FormulaRun.{postfix, limit_op}
+use Rattle.pg_hoa.specs.Mirrors.FormulaRun.{postfix, limit_op}
 use Rattle.pg_hoa.specs.Shapes.{leaf, decides, bare, IsLike}
 use Rattle.pg_hoa.proofs.ShapeSteps.{join_op}
 

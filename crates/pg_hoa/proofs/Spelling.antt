@@ -3,7 +3,7 @@ use Rattle.std.proofs.Common.{◌≡◌, ℕ, List, [], ◌∷◌, ◌++◌, Som
 use Rattle.std.specs.List.{flat_map, AllByRecursion}
 use Rattle.std.proofs.lemmas.List.{append-nil}
 use Rattle.pg_hoa.specs.Lexemes.{Lexeme, stray, Blank, blank_bytes, IsBlank, Begins, Spells}
-use Rattle.pg_hoa.specs.Scan.{gap_step, gap_from, solid_at, lex, IsToken}
+use Rattle.pg_hoa.specs.Mirrors.Scan.{gap_step, gap_from, solid_at, lex, IsToken}
 use Rattle.pg_hoa.proofs.Steps.{none, none_is_some}
 use Rattle.pg_hoa.proofs.Lexing.{lex_fails, lex_ends, lex_wrong, lex_more}
 use Rattle.pg_hoa.proofs.SpellingBlanks.{gap_written, gap_again}

@@ -5,8 +5,8 @@ use Rattle.std.specs.List.{flat_map, AllByRecursion}
 use Rattle.std.proofs.Math.Dec.{eqb-suc-zero}
 use Rattle.std.proofs.lemmas.Bool.{cases_Bool, and_parts, eqb-true}
 use Rattle.pg_hoa.specs.Lexemes.{is_space, after_comments, Blank, space, comment, blank_bytes, IsBlank}
-use Rattle.pg_hoa.specs.Steps.{◌>>=◌}
-use Rattle.pg_hoa.specs.Scan.{gap_step, gap_from}
+use Rattle.pg_hoa.specs.Mirrors.Steps.{◌>>=◌}
+use Rattle.pg_hoa.specs.Mirrors.Scan.{gap_step, gap_from}
 use Rattle.pg_hoa.proofs.Steps.{bind_some, some, some_is, none_is_some}
 use Rattle.pg_hoa.proofs.Gaps.{gap_next, gap_ends, gap_none}
 

@@ -10,7 +10,7 @@ use Rattle.std.proofs.lemmas.Slice.Eq.{bytes_eq-Decides}
 use Rattle.std.proofs.Math.Dec.{eqb-suc-zero}
 use Rattle.std.proofs.Math.Seq.{take-append_seam, drop-append-add}
 use Rattle.pg_hoa.specs.Lexemes.{Lexeme, number, identifier, header, string, alias, body, end, abort, left_bracket, right_bracket, left_brace, right_brace, left_paren, right_paren, bang, ampersand, bar, stray, Character, plain, escaped, is_space, is_digit, is_letter, is_inner, is_colon, Each, Stops, IsName, value_of, character_bytes, IsCharacter, IsSpelt}
-use Rattle.pg_hoa.specs.Scan.{characters, gap_step, number_at, name_before, name_at, string_len, string_at, alias_at, mark_at, sign_at, solid_at}
+use Rattle.pg_hoa.specs.Mirrors.Scan.{characters, gap_step, number_at, name_before, name_at, string_len, string_at, alias_at, mark_at, sign_at, solid_at}
 use Rattle.pg_hoa.proofs.Steps.{bind_some, chosen, some, some_is, none, none_is_some}
 use Rattle.pg_hoa.proofs.Runs.{run_first, run_some, run_each, run_stops, run_parts, run_is, run_again, rest_again}
 use Rattle.pg_hoa.proofs.Strings.{further}

@@ -4,15 +4,15 @@ use Rattle.std.specs.List.{flat_map}
 use Rattle.pg_hoa.specs.declared.fault.PartFault.{PartFault}
 use Rattle.pg_hoa.specs.declared.fault.Refusal.TheVariants.{Wrong}
 use Rattle.pg_hoa.specs.Lexemes.{Lexeme, end}
-use Rattle.pg_hoa.specs.Scan.{lex}
+use Rattle.pg_hoa.specs.Mirrors.Scan.{lex}
 use Rattle.pg_hoa.specs.Automata.{Automaton}
 use Rattle.pg_hoa.specs.AutomatonText.{Written, IsText, Says, Spelt, Agree, state_counts, state_lexemes, text_lexemes}
-use Rattle.pg_hoa.specs.Kept.{KeptHead, KeptLine, line_kept}
-use Rattle.pg_hoa.specs.HeaderScan.{headers_at}
-use Rattle.pg_hoa.specs.BodyScan.{body_at}
-use Rattle.pg_hoa.specs.Settling.{Settled, IsSettled}
-use Rattle.pg_hoa.specs.Tables.{kept_steps, IsFirstConflict}
-use Rattle.pg_hoa.specs.Readings.{Reads, NeverReads, AreFew, SpellsNone, bound, kept_states, kept_letters}
+use Rattle.pg_hoa.specs.Mirrors.Kept.{KeptHead, KeptLine, line_kept}
+use Rattle.pg_hoa.specs.Mirrors.HeaderScan.{headers_at}
+use Rattle.pg_hoa.specs.Mirrors.BodyScan.{body_at}
+use Rattle.pg_hoa.specs.Mirrors.Settling.{Settled, IsSettled}
+use Rattle.pg_hoa.specs.Mirrors.Tables.{kept_steps, IsFirstConflict}
+use Rattle.pg_hoa.specs.Mirrors.Readings.{Reads, NeverReads, AreFew, SpellsNone, bound, kept_states, kept_letters}
 use Rattle.pg_hoa.proofs.Steps.{some_is}
 use Rattle.pg_hoa.proofs.Spelling.{spelt_lex}
 use Rattle.pg_hoa.proofs.HeaderLaws.{headers_again}

@@ -5,12 +5,12 @@ use Rattle.std.proofs.lemmas.List.{append-nil}
 use Rattle.pg_hoa.specs.declared.formula.Op.{Op}
 use Rattle.pg_hoa.specs.Lexemes.{Character}
 use Rattle.pg_hoa.specs.Formulas.{Formula}
-use Rattle.pg_hoa.specs.FormulaRun.{postfix}
+use Rattle.pg_hoa.specs.Mirrors.FormulaRun.{postfix}
 use Rattle.pg_hoa.specs.Automata.{Automaton}
 use Rattle.pg_hoa.specs.AutomatonText.{Written, Says, Edge, StateLine, EdgeFits, LineFits, EachBelow, AtMostOne, count_of, line_numbers, character_code, state_counts, starts, names, acceptances, controls}
-use Rattle.pg_hoa.specs.Kept.{line_kept}
-use Rattle.pg_hoa.specs.Settling.{Settled, IsSettled, StartsBelow, listed, marked}
-use Rattle.pg_hoa.specs.Readings.{bound, states_in}
+use Rattle.pg_hoa.specs.Mirrors.Kept.{line_kept}
+use Rattle.pg_hoa.specs.Mirrors.Settling.{Settled, IsSettled, StartsBelow, listed, marked}
+use Rattle.pg_hoa.specs.Mirrors.Readings.{bound, states_in}
 use Rattle.pg_hoa.proofs.HeaderHead.{first_said, said_head}
 use Rattle.pg_hoa.proofs.TableLaws.{kept_count_is}
 

@@ -7,8 +7,8 @@ use Rattle.pg_hoa.specs.declared.shape.Shape.{Shape}
 use Rattle.pg_hoa.specs.declared.table.Table.{Table}
 use Rattle.pg_hoa.specs.Automata.{Step}
 use Rattle.pg_hoa.specs.AutomatonText.{Agree, head}
-use Rattle.pg_hoa.specs.Kept.{KeptLine}
-use Rattle.pg_hoa.specs.Tables.{Stage, numbered, Leads, IsFilled, Adds, at_lines, kept_steps, IsTableOf, IsFirstConflict}
+use Rattle.pg_hoa.specs.Mirrors.Kept.{KeptLine}
+use Rattle.pg_hoa.specs.Mirrors.Tables.{Stage, numbered, Leads, IsFilled, Adds, at_lines, kept_steps, IsTableOf, IsFirstConflict}
 use Rattle.pg_hoa.proofs.TableFilling.{nothing_yet}
 
 leads_head : (t : Stage) (n : ℕ) (steps : List Step) → Leads t n steps → numbered t.steps t.lists n ≡ head steps

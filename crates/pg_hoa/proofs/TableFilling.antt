@@ -9,7 +9,7 @@ use Rattle.std.proofs.lemmas.Bool.Decides.{Decides-eqb}
 use Rattle.pg_hoa.specs.declared.shape.Shape.{Shape}
 use Rattle.pg_hoa.specs.Automata.{Step, deciding}
 use Rattle.pg_hoa.specs.AutomatonText.{Agree}
-use Rattle.pg_hoa.specs.Tables.{Stage, numbered, same_set, agree, Leads, Extends, IsFilled, Adds, when, at_slot}
+use Rattle.pg_hoa.specs.Mirrors.Tables.{Stage, numbered, same_set, agree, Leads, Extends, IsFilled, Adds, when, at_slot}
 use Rattle.pg_hoa.proofs.Steps.{some, some_is, none_is_some}
 
 -- ---- steps that agree

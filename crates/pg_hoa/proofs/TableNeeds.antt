@@ -11,9 +11,9 @@ use Rattle.std.proofs.lemmas.List.{reverse-append, at_drop_more}
 use Rattle.pg_hoa.specs.declared.formula.Op.{Op}
 use Rattle.pg_hoa.specs.declared.needs.Bits.{Bits}
 use Rattle.pg_hoa.specs.declared.needs.Need.{Need}
-use Rattle.pg_hoa.specs.Saying.{top, under, perform, run, says}
-use Rattle.pg_hoa.specs.Letters.{truth, on_at}
-use Rattle.pg_hoa.specs.Needs.{on_letter, Fits, Allows, AllowsEach, AllowsStack}
+use Rattle.pg_hoa.specs.Mirrors.Saying.{top, under, perform, run, says}
+use Rattle.pg_hoa.specs.Mirrors.Letters.{truth, on_at}
+use Rattle.pg_hoa.specs.Mirrors.Needs.{on_letter, Fits, Allows, AllowsEach, AllowsStack}
 use Rattle.pg_hoa.proofs.TableWords.{truth_none}
 
 -- ---- bits

@@ -11,10 +11,10 @@ use Rattle.std.proofs.lemmas.List.Elements.{filter-append}
 use Rattle.pg_hoa.specs.declared.formula.Op.{Op}
 use Rattle.pg_hoa.specs.Automata.{Step}
 use Rattle.pg_hoa.specs.AutomatonText.{rising}
-use Rattle.pg_hoa.specs.Kept.{KeptEdge, KeptLine}
-use Rattle.pg_hoa.specs.Saying.{says}
-use Rattle.pg_hoa.specs.Letters.{truth, on_at}
-use Rattle.pg_hoa.specs.Tables.{when, within, at_slot, at_word, at_letters, at_line, at_lines, IsSplit, says_at, step, edge_step, kept_edge_steps}
+use Rattle.pg_hoa.specs.Mirrors.Kept.{KeptEdge, KeptLine}
+use Rattle.pg_hoa.specs.Mirrors.Saying.{says}
+use Rattle.pg_hoa.specs.Mirrors.Letters.{truth, on_at}
+use Rattle.pg_hoa.specs.Mirrors.Tables.{when, within, at_slot, at_word, at_letters, at_line, at_lines, IsSplit, says_at, step, edge_step, kept_edge_steps}
 
 -- ---- tests
 

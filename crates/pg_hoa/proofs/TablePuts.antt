@@ -6,7 +6,7 @@ use Rattle.pg_hoa.specs.declared.shape.Shape.{Shape}
 use Rattle.pg_hoa.specs.declared.shape.Shape.TheVariants.{MaxEven, MaxOdd, MinEven, MinOdd, Always, Never}
 use Rattle.pg_hoa.specs.Automata.{last, deciding}
 use Rattle.pg_hoa.specs.AutomatonText.{put, rising}
-use Rattle.pg_hoa.specs.Tables.{put_all}
+use Rattle.pg_hoa.specs.Mirrors.Tables.{put_all}
 
 three_ways : (a b : ℕ) → (a < b) ⊎ ((a ≡ b) ⊎ (b < a))
 three_ways zero zero = inr (inl refl)

@@ -7,8 +7,8 @@ use Rattle.std.proofs.lemmas.Nat.Bits.{bit_at_and, bit_at_or, bit_at_not, bit_at
 use Rattle.std.proofs.lemmas.Bool.Decides.{Decides-below_and, Decides-eqb, nat_tests}
 use Rattle.std.proofs.lemmas.List.{reverse-append, at_drop_more}
 use Rattle.pg_hoa.specs.declared.formula.Op.{Op}
-use Rattle.pg_hoa.specs.Saying.{top, under, perform, run}
-use Rattle.pg_hoa.specs.Letters.{truth, on_at, truths}
+use Rattle.pg_hoa.specs.Mirrors.Saying.{top, under, perform, run}
+use Rattle.pg_hoa.specs.Mirrors.Letters.{truth, on_at, truths}
 
 -- ---- bits
 

@@ -4,7 +4,7 @@ ghost use Rattle.std.specs.Prelude.{◌≡◌, ◌↔◌, ℕ, ◌<◌, Bool, Is
 ghost use Rattle.pg_hoa.specs.Automata.{IsAutomaton, next};
 ghost use Rattle.pg_hoa.specs.Formulas.{Formula, holds};
 ghost use Rattle.pg_hoa.specs.Shapes.{FitsShape, Accepts};
-ghost use Rattle.pg_hoa.specs.Tables.{step};
+ghost use Rattle.pg_hoa.specs.Mirrors.Tables.{step};
 
 use crate::settle::Settled;
 use crate::shape::Shape;
@@ -25,7 +25,7 @@ pub struct Automaton {
 
 impl Model for Automaton {
     ghost use Rattle.pg_hoa.specs.Automata.{Automaton, IsAutomaton};
-    ghost use Rattle.pg_hoa.specs.Views.{viewed};
+    ghost use Rattle.pg_hoa.specs.Mirrors.Views.{viewed};
 
     ghost Value = { Automaton };
 
@@ -35,7 +35,7 @@ impl Model for Automaton {
 }
 
 impl Automaton {
-    ghost use Rattle.pg_hoa.specs.Views.{viewed};
+    ghost use Rattle.pg_hoa.specs.Mirrors.Views.{viewed};
 
     pub(crate) fn from_parts(settled: Settled, table: Table) -> Automaton
         requires { IsAutomaton (viewed settled.start settled.names.items settled.controllable.items settled.sets settled.shape table) }

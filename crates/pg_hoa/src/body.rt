@@ -1,10 +1,10 @@
 //! The states and edges of a text.
 
 ghost use Rattle.std.specs.Prelude.{◌≡◌, ◌≤◌, ◌<◌, map, length, slice_index_or, IfOk, false};
-ghost use Rattle.pg_hoa.specs.Steps.{Gives};
-ghost use Rattle.pg_hoa.specs.Scan.{lexeme, lex};
-ghost use Rattle.pg_hoa.specs.Kept.{kept_edge, kept_line};
-ghost use Rattle.pg_hoa.specs.BodyScan.{due, state_of, new_state, set_in, sets_at, sets_if, behind_label, target_at, edge_at, begins_edge, edges_at, behind_name, line_at, begins_line, body_at};
+ghost use Rattle.pg_hoa.specs.Mirrors.Steps.{Gives};
+ghost use Rattle.pg_hoa.specs.Mirrors.Scan.{lexeme, lex};
+ghost use Rattle.pg_hoa.specs.Mirrors.Kept.{kept_edge, kept_line};
+ghost use Rattle.pg_hoa.specs.Mirrors.BodyScan.{due, state_of, new_state, set_in, sets_at, sets_if, behind_label, target_at, edge_at, begins_edge, edges_at, behind_name, line_at, begins_line, body_at};
 
 use crate::fault::{LeftOutName, PartFault, Refusal};
 use crate::formula::{Kind, Op, read_formula};
@@ -37,7 +37,7 @@ pub struct Ranges {
 }
 
 /// The token at the front, where one has to stand, how many bytes are left from it on, and the bytes behind it.
-#[tactic(auto, unfolding(crate::specs::BodyScan::due))]
+#[tactic(auto, unfolding(crate::specs::Mirrors::BodyScan::due))]
 fn due_token(bytes: &[u8]) -> Result<(Token<'_>, usize, &[u8]), Refusal>
     ensures { Gives (λ x. (lexeme x.0, lex x.2.now)) result (due (lex bytes.now)) }
 {
@@ -49,7 +49,7 @@ fn due_token(bytes: &[u8]) -> Result<(Token<'_>, usize, &[u8]), Refusal>
 }
 
 /// The number of a state.
-#[tactic(auto, unfolding(crate::specs::BodyScan::state_of))]
+#[tactic(auto, unfolding(crate::specs::Mirrors::BodyScan::state_of))]
 fn state_of(states: u32, token: Token<'_>, left: usize) -> Result<u32, Refusal>
     requires { states ≤ 65535 }
     ensures value { Gives (λ x. x) result (state_of states (lexeme token.entry)) }
@@ -70,7 +70,7 @@ fn state_of(states: u32, token: Token<'_>, left: usize) -> Result<u32, Refusal>
 }
 
 /// The number of a state that has no line so far.
-#[tactic(auto, unfolding(crate::specs::BodyScan::new_state, crate::specs::BodyScan::state_of))]
+#[tactic(auto, unfolding(crate::specs::Mirrors::BodyScan::new_state, crate::specs::Mirrors::BodyScan::state_of))]
 fn new_state(states: u32, seen: &[bool], token: Token<'_>, left: usize) -> Result<u32, Refusal>
     requires few { states ≤ 65535 }
     requires all { length seen.now ≡ states }
@@ -94,7 +94,7 @@ fn new_state(states: u32, seen: &[bool], token: Token<'_>, left: usize) -> Resul
 }
 
 /// A number between the braces round sets, or none at the last brace.
-#[tactic(auto, unfolding(crate::specs::BodyScan::set_in))]
+#[tactic(auto, unfolding(crate::specs::Mirrors::BodyScan::set_in))]
 fn set_in(sets: u32, token: Token<'_>, left: usize) -> Result<Option<u32>, Refusal>
     ensures { Gives (λ x. x) result (set_in sets (lexeme token.entry)) }
 {
@@ -130,7 +130,7 @@ fn read_sets(alloc: Global, sets: u32, bytes: &[u8]) -> Result<(Vec<u32>, &[u8])
 }
 
 /// The sets where a `{` stands, and else none.
-#[tactic(auto, unfolding(crate::specs::BodyScan::sets_if))]
+#[tactic(auto, unfolding(crate::specs::Mirrors::BodyScan::sets_if))]
 fn sets_if(alloc: Global, sets: u32, bytes: &[u8]) -> Result<(Vec<u32>, &[u8]), Refusal>
     ensures { Gives (λ x. (x.0.items, lex x.1.now)) result (sets_if sets (lex bytes.now)) }
 {
@@ -142,7 +142,7 @@ fn sets_if(alloc: Global, sets: u32, bytes: &[u8]) -> Result<(Vec<u32>, &[u8]), 
 }
 
 /// Behind the `]` that has to stand at the front.
-#[tactic(auto, unfolding(crate::specs::BodyScan::behind_label))]
+#[tactic(auto, unfolding(crate::specs::Mirrors::BodyScan::behind_label))]
 fn behind_label(bytes: &[u8]) -> Result<&[u8], Refusal>
     ensures { Gives (λ x. lex x.now) result (behind_label (lex bytes.now)) }
 {
@@ -154,7 +154,7 @@ fn behind_label(bytes: &[u8]) -> Result<&[u8], Refusal>
 }
 
 /// The state that an edge leads to, and the bytes behind it, where no `&` may stand.
-#[tactic(auto, unfolding(crate::specs::BodyScan::target_at))]
+#[tactic(auto, unfolding(crate::specs::Mirrors::BodyScan::target_at))]
 fn read_target(states: u32, bytes: &[u8]) -> Result<(u32, &[u8]), Refusal>
     requires { states ≤ 65535 }
     ensures { Gives (λ x. (x.0, lex x.1.now)) result (target_at states (lex bytes.now)) }
@@ -172,7 +172,7 @@ fn read_target(states: u32, bytes: &[u8]) -> Result<(u32, &[u8]), Refusal>
 }
 
 /// Behind the `[` of an edge.
-#[tactic(auto, unfolding(crate::specs::BodyScan::edge_at))]
+#[tactic(auto, unfolding(crate::specs::Mirrors::BodyScan::edge_at))]
 fn read_edge(alloc: Global, ranges: Ranges, bytes: &[u8]) -> Result<(Edge, &[u8]), Refusal>
     requires { ranges.states ≤ 65535 }
     ensures { Gives (λ x. (kept_edge x.0, lex x.1.now)) result (edge_at ranges.states ranges.propositions ranges.sets (lex bytes.now)) }
@@ -192,7 +192,7 @@ fn read_edge(alloc: Global, ranges: Ranges, bytes: &[u8]) -> Result<(Edge, &[u8]
 }
 
 /// Whether an edge begins. A number there is an edge without a label.
-#[tactic(auto, unfolding(crate::specs::BodyScan::begins_edge))]
+#[tactic(auto, unfolding(crate::specs::Mirrors::BodyScan::begins_edge))]
 fn begins_edge(token: Token<'_>, left: usize) -> Result<bool, Refusal>
     ensures { Gives (λ x. x) result (begins_edge (lexeme token.entry)) }
 {
@@ -226,7 +226,7 @@ fn read_edges(alloc: Global, ranges: Ranges, bytes: &[u8]) -> Result<(Vec<Edge>,
 }
 
 /// Behind the name of a state, where one stands.
-#[tactic(auto, unfolding(crate::specs::BodyScan::behind_name))]
+#[tactic(auto, unfolding(crate::specs::Mirrors::BodyScan::behind_name))]
 fn behind_name(bytes: &[u8]) -> Result<&[u8], Refusal>
     ensures { Gives (λ x. lex x.now) result (behind_name (lex bytes.now)) }
 {
@@ -238,7 +238,7 @@ fn behind_name(bytes: &[u8]) -> Result<&[u8], Refusal>
 }
 
 /// Behind `State:`: a state, for which `seen` has no line, and its edges.
-#[tactic(auto, unfolding(crate::specs::BodyScan::line_at))]
+#[tactic(auto, unfolding(crate::specs::Mirrors::BodyScan::line_at))]
 fn read_line<'a>(
     alloc: Global,
     ranges: Ranges,
@@ -259,7 +259,7 @@ fn read_line<'a>(
 }
 
 /// Whether a line begins. Else the body ends there.
-#[tactic(auto, unfolding(crate::specs::BodyScan::begins_line))]
+#[tactic(auto, unfolding(crate::specs::Mirrors::BodyScan::begins_line))]
 fn begins_line(token: Token<'_>, left: usize) -> Result<bool, Refusal>
     ensures { Gives (λ x. x) result (begins_line (lexeme token.entry)) }
 {

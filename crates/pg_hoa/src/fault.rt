@@ -94,7 +94,7 @@ pub enum PartFault {
 }
 
 impl PartFault {
-    ghost use Rattle.pg_hoa.specs.Faults.{in_text};
+    ghost use Rattle.pg_hoa.specs.Mirrors.Faults.{in_text};
 
     /// The fault of a text of `len` bytes that ends with this part.
     fn in_text(self, len: usize) -> HoaFault
@@ -122,7 +122,7 @@ pub enum Refusal {
 }
 
 impl Refusal {
-    ghost use Rattle.pg_hoa.specs.Faults.{refusal_in_text};
+    ghost use Rattle.pg_hoa.specs.Mirrors.Faults.{refusal_in_text};
 
     /// The fault of a text of `len` bytes that ends with this part.
     pub fn in_text(self, len: usize) -> HoaFault
@@ -171,7 +171,7 @@ impl From<AllocError> for Conflict {
 }
 
 impl From<Conflict> for HoaFault {
-    ghost use Rattle.pg_hoa.specs.Faults.{conflict_fault};
+    ghost use Rattle.pg_hoa.specs.Mirrors.Faults.{conflict_fault};
 
     ghost from_gives = { λ conflict e. e ≡ conflict_fault conflict };
 

@@ -2,9 +2,9 @@
 //! stands in for recursion, so that deep nesting costs memory in line with the text alone.
 
 ghost use Rattle.std.specs.Prelude.{◌≡◌, ◌++◌, Some, None, option_map};
-ghost use Rattle.pg_hoa.specs.Steps.{Gives};
-ghost use Rattle.pg_hoa.specs.Scan.{lexeme, lex};
-ghost use Rattle.pg_hoa.specs.FormulaRun.{view, not_ops, split_last, completed_at, operand_at, negated_at, opened_at, product_at, sum_at, closed_at, limit_at, word_at, operand_turn, operator_turn, opening_turn, naming_turn, closing_turn, turn_at, goes_on_at, over_at, ops_at};
+ghost use Rattle.pg_hoa.specs.Mirrors.Steps.{Gives};
+ghost use Rattle.pg_hoa.specs.Mirrors.Scan.{lexeme, lex};
+ghost use Rattle.pg_hoa.specs.Mirrors.FormulaRun.{view, not_ops, split_last, completed_at, operand_at, negated_at, opened_at, product_at, sum_at, closed_at, limit_at, word_at, operand_turn, operator_turn, opening_turn, naming_turn, closing_turn, turn_at, goes_on_at, over_at, ops_at};
 
 use crate::fault::{LeftOutName, PartFault, Refusal};
 use crate::token::{Token, next_token, unexpected};
@@ -86,7 +86,7 @@ fn split_last(mut outer: Vec<Frame>) -> Option<(Vec<Frame>, Frame)>
 }
 
 /// The reading behind an operand whose operations are kept.
-#[tactic(auto, unfolding(crate::specs::FormulaRun::completed_at))]
+#[tactic(auto, unfolding(crate::specs::Mirrors::FormulaRun::completed_at))]
 fn completed(reading: Reading) -> Result<Reading, Refusal>
     ensures { Gives view result (completed_at (view reading)) }
 {
@@ -109,7 +109,7 @@ fn completed(reading: Reading) -> Result<Reading, Refusal>
 }
 
 /// The reading behind an operand of one operation.
-#[tactic(auto, unfolding(crate::specs::FormulaRun::operand_at))]
+#[tactic(auto, unfolding(crate::specs::Mirrors::FormulaRun::operand_at))]
 fn operand(mut reading: Reading, op: Op) -> Result<Reading, Refusal>
     ensures { Gives view result (operand_at (view reading) op) }
 {
@@ -118,7 +118,7 @@ fn operand(mut reading: Reading, op: Op) -> Result<Reading, Refusal>
 }
 
 /// The reading behind a `!`.
-#[tactic(auto, unfolding(crate::specs::FormulaRun::negated_at))]
+#[tactic(auto, unfolding(crate::specs::Mirrors::FormulaRun::negated_at))]
 fn negated(mut reading: Reading) -> Result<Reading, Refusal>
     ensures { Gives view result (negated_at (view reading)) }
 {
@@ -132,7 +132,7 @@ fn negated(mut reading: Reading) -> Result<Reading, Refusal>
 }
 
 /// The reading behind a bracket that opens.
-#[tactic(auto, unfolding(crate::specs::FormulaRun::opened_at))]
+#[tactic(auto, unfolding(crate::specs::Mirrors::FormulaRun::opened_at))]
 fn opened(mut reading: Reading) -> Result<Reading, Refusal>
     ensures { Gives view result (opened_at (view reading)) }
 {
@@ -153,7 +153,7 @@ fn opened(mut reading: Reading) -> Result<Reading, Refusal>
 }
 
 /// The reading behind a `&`.
-#[tactic(auto, unfolding(crate::specs::FormulaRun::product_at))]
+#[tactic(auto, unfolding(crate::specs::Mirrors::FormulaRun::product_at))]
 fn product(mut reading: Reading) -> Result<Reading, Refusal>
     ensures { Gives view result (product_at (view reading)) }
 {
@@ -164,7 +164,7 @@ fn product(mut reading: Reading) -> Result<Reading, Refusal>
 }
 
 /// The reading behind a `|`.
-#[tactic(auto, unfolding(crate::specs::FormulaRun::sum_at))]
+#[tactic(auto, unfolding(crate::specs::Mirrors::FormulaRun::sum_at))]
 fn sum(mut reading: Reading) -> Result<Reading, Refusal>
     ensures { Gives view result (sum_at (view reading)) }
 {
@@ -179,7 +179,7 @@ fn sum(mut reading: Reading) -> Result<Reading, Refusal>
 }
 
 /// The reading behind a bracket that closes, with `left` bytes left from it on.
-#[tactic(auto, unfolding(crate::specs::FormulaRun::closed_at))]
+#[tactic(auto, unfolding(crate::specs::Mirrors::FormulaRun::closed_at))]
 fn closed(reading: Reading, left: usize) -> Result<Reading, Refusal>
     ensures { Gives view result (closed_at (view reading)) }
 {
@@ -199,7 +199,7 @@ fn closed(reading: Reading, left: usize) -> Result<Reading, Refusal>
 }
 
 /// The reading behind a word that is `Inf` or `Fin`, in a condition.
-#[tactic(auto, unfolding(crate::specs::FormulaRun::limit_at))]
+#[tactic(auto, unfolding(crate::specs::Mirrors::FormulaRun::limit_at))]
 fn limit(kind: Kind, word: &[u8], mut reading: Reading, left: usize) -> Result<Reading, Refusal>
     ensures { Gives view result (limit_at kind word.now (view reading)) }
 {
@@ -220,7 +220,7 @@ fn limit(kind: Kind, word: &[u8], mut reading: Reading, left: usize) -> Result<R
 }
 
 /// The reading behind a word.
-#[tactic(auto, unfolding(crate::specs::FormulaRun::word_at))]
+#[tactic(auto, unfolding(crate::specs::Mirrors::FormulaRun::word_at))]
 fn word(kind: Kind, word: &[u8], reading: Reading, left: usize) -> Result<Reading, Refusal>
     ensures { Gives view result (word_at kind word.now (view reading)) }
 {
@@ -234,7 +234,7 @@ fn word(kind: Kind, word: &[u8], reading: Reading, left: usize) -> Result<Readin
 }
 
 /// The reading behind a token where an operand is due.
-#[tactic(auto, unfolding(crate::specs::FormulaRun::operand_turn))]
+#[tactic(auto, unfolding(crate::specs::Mirrors::FormulaRun::operand_turn))]
 fn operand_turn(
     kind: Kind,
     reading: Reading,
@@ -259,7 +259,7 @@ fn operand_turn(
 }
 
 /// The reading behind a token where an operand has ended.
-#[tactic(auto, unfolding(crate::specs::FormulaRun::operator_turn))]
+#[tactic(auto, unfolding(crate::specs::Mirrors::FormulaRun::operator_turn))]
 fn operator_turn(reading: Reading, token: Token<'_>, left: usize) -> Result<Reading, Refusal>
     ensures { Gives view result (operator_turn (view reading) (lexeme token.entry)) }
 {
@@ -272,7 +272,7 @@ fn operator_turn(reading: Reading, token: Token<'_>, left: usize) -> Result<Read
 }
 
 /// The reading behind a token where the bracket behind `Inf`, if `positive`, or `Fin` is due.
-#[tactic(auto, unfolding(crate::specs::FormulaRun::opening_turn))]
+#[tactic(auto, unfolding(crate::specs::Mirrors::FormulaRun::opening_turn))]
 fn opening_turn(
     mut reading: Reading,
     positive: bool,
@@ -291,7 +291,7 @@ fn opening_turn(
 }
 
 /// The reading behind a token where the number of a set is due.
-#[tactic(auto, unfolding(crate::specs::FormulaRun::naming_turn))]
+#[tactic(auto, unfolding(crate::specs::Mirrors::FormulaRun::naming_turn))]
 fn naming_turn(
     kind: Kind,
     mut reading: Reading,
@@ -319,7 +319,7 @@ fn naming_turn(
 }
 
 /// The reading behind a token where the bracket behind that number is due.
-#[tactic(auto, unfolding(crate::specs::FormulaRun::closing_turn))]
+#[tactic(auto, unfolding(crate::specs::Mirrors::FormulaRun::closing_turn))]
 fn closing_turn(reading: Reading, op: Op, token: Token<'_>, left: usize) -> Result<Reading, Refusal>
     ensures { Gives view result (closing_turn (view reading) op (lexeme token.entry)) }
 {
@@ -330,7 +330,7 @@ fn closing_turn(reading: Reading, op: Op, token: Token<'_>, left: usize) -> Resu
 }
 
 /// The reading behind one more token, with `left` bytes left from it on.
-#[tactic(auto, unfolding(crate::specs::FormulaRun::turn_at))]
+#[tactic(auto, unfolding(crate::specs::Mirrors::FormulaRun::turn_at))]
 fn turn(kind: Kind, reading: Reading, token: Token<'_>, left: usize) -> Result<Reading, Refusal>
     ensures { Gives view result (turn_at kind (view reading) (lexeme token.entry)) }
 {
@@ -344,7 +344,7 @@ fn turn(kind: Kind, reading: Reading, token: Token<'_>, left: usize) -> Result<R
 }
 
 /// Whether the token may belong to the formula.
-#[tactic(auto, unfolding(crate::specs::FormulaRun::goes_on_at))]
+#[tactic(auto, unfolding(crate::specs::Mirrors::FormulaRun::goes_on_at))]
 fn goes_on(reading: &Reading, token: Token<'_>) -> bool
     ensures { result ≡ goes_on_at (view reading.now) (lexeme token.entry) }
 {
@@ -359,7 +359,7 @@ fn goes_on(reading: &Reading, token: Token<'_>) -> bool
 }
 
 /// The operations of a formula that ends here, with `left` bytes left.
-#[tactic(auto, unfolding(crate::specs::FormulaRun::over_at))]
+#[tactic(auto, unfolding(crate::specs::Mirrors::FormulaRun::over_at))]
 fn over(reading: Reading, left: usize) -> Result<Vec<Op>, Refusal>
     ensures { Gives (λ x. x.items) result (over_at (view reading)) }
 {

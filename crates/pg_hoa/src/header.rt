@@ -1,11 +1,11 @@
 //! The headers of a text.
 
 ghost use Rattle.std.specs.Prelude.{◌≡◌, [], IfOk, option_map, map};
-ghost use Rattle.pg_hoa.specs.Steps.{Gives};
-ghost use Rattle.pg_hoa.specs.Scan.{characters, lex, lexeme};
+ghost use Rattle.pg_hoa.specs.Mirrors.Steps.{Gives};
+ghost use Rattle.pg_hoa.specs.Mirrors.Scan.{characters, lex, lexeme};
 ghost use Rattle.pg_hoa.specs.AutomatonText.{character_code};
-ghost use Rattle.pg_hoa.specs.Kept.{kept_head};
-ghost use Rattle.pg_hoa.specs.HeaderScan.{numeral_of, numeral_at, alone_at, numbers_from, is_value, skipped_from, code_at, is_name_byte, is_name, name_of, quoted_of, quoted_at, names_from, states_at, start_at, names_at, acceptance_at, controls_at, begins_low, other_at, header_at, is_header, is_word, opening_at, version_at, headers_at};
+ghost use Rattle.pg_hoa.specs.Mirrors.Kept.{kept_head};
+ghost use Rattle.pg_hoa.specs.Mirrors.HeaderScan.{numeral_of, numeral_at, alone_at, numbers_from, is_value, skipped_from, code_at, is_name_byte, is_name, name_of, quoted_of, quoted_at, names_from, states_at, start_at, names_at, acceptance_at, controls_at, begins_low, other_at, header_at, is_header, is_word, opening_at, version_at, headers_at};
 
 use crate::fault::{LeftOutName, PartFault, Refusal};
 use crate::formula::{Kind, Op, read_formula};
@@ -73,7 +73,7 @@ fn is_word(word: &[u8], found: Option<Token<'_>>) -> bool
 }
 
 /// A number, how many bytes are left from it on, and the bytes behind it.
-#[tactic(auto, unfolding(crate::specs::HeaderScan::numeral_at))]
+#[tactic(auto, unfolding(crate::specs::Mirrors::HeaderScan::numeral_at))]
 fn read_number(bytes: &[u8]) -> Result<(u32, usize, &[u8]), Refusal>
     ensures { Gives (λ x. (x.0, lex x.2.now)) result (numeral_at (lex bytes.now)) }
 {
@@ -85,7 +85,7 @@ fn read_number(bytes: &[u8]) -> Result<(u32, usize, &[u8]), Refusal>
 }
 
 /// The bytes behind the number of `Start:`, where no `&` stands.
-#[tactic(auto, unfolding(crate::specs::HeaderScan::alone_at))]
+#[tactic(auto, unfolding(crate::specs::Mirrors::HeaderScan::alone_at))]
 fn alone(bytes: &[u8]) -> Result<&[u8], Refusal>
     ensures { Gives (λ x. lex x.now) result (alone_at (lex bytes.now)) }
 {
@@ -182,7 +182,7 @@ fn is_name(name: &[u8]) -> bool
 }
 
 /// The name of the proposition of this number, from a string's content.
-#[tactic(auto, unfolding(crate::specs::HeaderScan::name_of))]
+#[tactic(auto, unfolding(crate::specs::Mirrors::HeaderScan::name_of))]
 fn name(alloc: Global, proposition: u32, content: &[u8]) -> Result<Vec<u8>, Refusal>
     ensures { Gives (λ v. v.items) result (name_of (map character_code (characters content.now))) }
 {
@@ -210,7 +210,7 @@ fn name_in(
 }
 
 /// The name of the proposition of this number, and the bytes behind it.
-#[tactic(auto, unfolding(crate::specs::HeaderScan::quoted_at))]
+#[tactic(auto, unfolding(crate::specs::Mirrors::HeaderScan::quoted_at))]
 fn read_name(alloc: Global, proposition: u32, bytes: &[u8]) -> Result<(Vec<u8>, &[u8]), Refusal>
     ensures { Gives (λ x. (x.0.items, lex x.1.now)) result (quoted_at (lex bytes.now)) }
 {
@@ -233,7 +233,7 @@ fn read_names(alloc: Global, count: u32, bytes: &[u8]) -> Result<(Vec<Vec<u8>>, 
 }
 
 /// The head with what stands behind `States:`, a name `left` bytes before the end, and the bytes behind that.
-#[tactic(auto, unfolding(crate::specs::HeaderScan::states_at))]
+#[tactic(auto, unfolding(crate::specs::Mirrors::HeaderScan::states_at))]
 fn states(mut head: Head, left: usize, bytes: &[u8]) -> Result<(Head, &[u8]), Refusal>
     ensures { Gives (λ x. (kept_head x.0, lex x.1.now)) result (states_at (kept_head head) (lex bytes.now)) }
 {
@@ -249,7 +249,7 @@ fn states(mut head: Head, left: usize, bytes: &[u8]) -> Result<(Head, &[u8]), Re
 }
 
 /// Likewise behind `Start:`.
-#[tactic(auto, unfolding(crate::specs::HeaderScan::start_at))]
+#[tactic(auto, unfolding(crate::specs::Mirrors::HeaderScan::start_at))]
 fn start(mut head: Head, left: usize, bytes: &[u8]) -> Result<(Head, &[u8]), Refusal>
     ensures { Gives (λ x. (kept_head x.0, lex x.1.now)) result (start_at (kept_head head) (lex bytes.now)) }
 {
@@ -266,7 +266,7 @@ fn start(mut head: Head, left: usize, bytes: &[u8]) -> Result<(Head, &[u8]), Ref
 }
 
 /// Likewise behind `AP:`.
-#[tactic(auto, unfolding(crate::specs::HeaderScan::names_at))]
+#[tactic(auto, unfolding(crate::specs::Mirrors::HeaderScan::names_at))]
 fn names(alloc: Global, mut head: Head, left: usize, bytes: &[u8]) -> Result<(Head, &[u8]), Refusal>
     ensures { Gives (λ x. (kept_head x.0, lex x.1.now)) result (names_at (kept_head head) (lex bytes.now)) }
 {
@@ -283,7 +283,7 @@ fn names(alloc: Global, mut head: Head, left: usize, bytes: &[u8]) -> Result<(He
 }
 
 /// Likewise behind `Acceptance:`.
-#[tactic(auto, unfolding(crate::specs::HeaderScan::acceptance_at))]
+#[tactic(auto, unfolding(crate::specs::Mirrors::HeaderScan::acceptance_at))]
 fn acceptance(
     alloc: Global,
     mut head: Head,
@@ -305,7 +305,7 @@ fn acceptance(
 }
 
 /// Likewise behind `controllable-AP:`.
-#[tactic(auto, unfolding(crate::specs::HeaderScan::controls_at))]
+#[tactic(auto, unfolding(crate::specs::Mirrors::HeaderScan::controls_at))]
 fn controls(
     alloc: Global,
     mut head: Head,
@@ -333,7 +333,7 @@ fn begins_low(name: &[u8]) -> bool
 }
 
 /// Likewise behind any other name: a header is skipped with its values, or refused.
-#[tactic(auto, unfolding(crate::specs::HeaderScan::other_at))]
+#[tactic(auto, unfolding(crate::specs::Mirrors::HeaderScan::other_at))]
 fn other<'a>(
     head: Head,
     name: &[u8],
@@ -353,7 +353,7 @@ fn other<'a>(
 }
 
 /// The head with one header more, of this name, which stands `left` bytes before the end, and the bytes behind it.
-#[tactic(auto, unfolding(crate::specs::HeaderScan::header_at))]
+#[tactic(auto, unfolding(crate::specs::Mirrors::HeaderScan::header_at))]
 fn header<'a>(
     alloc: Global,
     head: Head,
@@ -379,7 +379,7 @@ fn header<'a>(
 }
 
 /// The bytes behind `HOA:`.
-#[tactic(auto, unfolding(crate::specs::HeaderScan::opening_at))]
+#[tactic(auto, unfolding(crate::specs::Mirrors::HeaderScan::opening_at))]
 fn opening(bytes: &[u8]) -> Result<&[u8], Refusal>
     ensures { Gives (λ x. lex x.now) result (opening_at (lex bytes.now)) }
 {
@@ -392,7 +392,7 @@ fn opening(bytes: &[u8]) -> Result<&[u8], Refusal>
 }
 
 /// The bytes behind `v1`.
-#[tactic(auto, unfolding(crate::specs::HeaderScan::version_at))]
+#[tactic(auto, unfolding(crate::specs::Mirrors::HeaderScan::version_at))]
 fn version(bytes: &[u8]) -> Result<&[u8], Refusal>
     ensures { Gives (λ x. lex x.now) result (version_at (lex bytes.now)) }
 {

@@ -1,8 +1,8 @@
 //! Which letters a label says yes to, sixty-four at a time.
 
 ghost use Rattle.std.specs.Prelude.{◌≡◌, ℕ, ◌<◌, ◌≤◌, ◌∷◌, IfOk};
-ghost use Rattle.pg_hoa.specs.Saying.{top, under, perform, says};
-ghost use Rattle.pg_hoa.specs.Letters.{truth, on_at, truths};
+ghost use Rattle.pg_hoa.specs.Mirrors.Saying.{top, under, perform, says};
+ghost use Rattle.pg_hoa.specs.Mirrors.Letters.{truth, on_at, truths};
 
 use crate::formula::Op;
 use std::alloc::AllocError;

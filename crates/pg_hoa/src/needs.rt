@@ -1,9 +1,9 @@
 //! Which letters a label can say yes to, by bits that such letters have.
 
 ghost use Rattle.std.specs.Prelude.{◌≡◌, ℕ, ◌+◌, ◌*◌, ◌<◌, Bool, ◌&&◌, ◌||◌, true, false, List, if◌then◌else◌, IfOk};
-ghost use Rattle.pg_hoa.specs.Saying.{top, under, perform, says};
-ghost use Rattle.pg_hoa.specs.Letters.{truth, on_at};
-ghost use Rattle.pg_hoa.specs.Needs.{on_letter, Fits, Allows, AllowsStack};
+ghost use Rattle.pg_hoa.specs.Mirrors.Saying.{top, under, perform, says};
+ghost use Rattle.pg_hoa.specs.Mirrors.Letters.{truth, on_at};
+ghost use Rattle.pg_hoa.specs.Mirrors.Needs.{on_letter, Fits, Allows, AllowsStack};
 
 use crate::formula::Op;
 use crate::letters::word_of;

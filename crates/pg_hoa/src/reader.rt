@@ -1,12 +1,12 @@
 //! Automata from text.
 
 ghost use Rattle.std.specs.Prelude.{◌≡◌, ◌≤◌, ◌<◌, ◌*◌, ◌^◌, length, map, IfOk, IfErr, MatchBool};
-ghost use Rattle.pg_hoa.specs.Steps.{Gives};
-ghost use Rattle.pg_hoa.specs.Scan.{lex};
-ghost use Rattle.pg_hoa.specs.Kept.{KeptHead, kept_line};
+ghost use Rattle.pg_hoa.specs.Mirrors.Steps.{Gives};
+ghost use Rattle.pg_hoa.specs.Mirrors.Scan.{lex};
+ghost use Rattle.pg_hoa.specs.Mirrors.Kept.{KeptHead, kept_line};
 ghost use Rattle.pg_hoa.specs.AutomatonText.{Spelt};
-ghost use Rattle.pg_hoa.specs.Settling.{settled as said, nothing_at};
-ghost use Rattle.pg_hoa.specs.Readings.{bound, kept_states, Reads, NeverReads, CanAssemble, Assembles, NeverAssembles, IsRefused};
+ghost use Rattle.pg_hoa.specs.Mirrors.Settling.{settled as said, nothing_at};
+ghost use Rattle.pg_hoa.specs.Mirrors.Readings.{bound, kept_states, Reads, NeverReads, CanAssemble, Assembles, NeverAssembles, IsRefused};
 
 use crate::automaton::Automaton;
 use crate::body::{Line, Ranges, read_body};

@@ -2,8 +2,8 @@
 
 ghost use Rattle.std.specs.Prelude.{◌≡◌, ◌<◌, ◌==◌, map, IfOk, IfErr, MatchOption, MatchBool};
 ghost use Rattle.std.specs.List.{All, list_any};
-ghost use Rattle.pg_hoa.specs.Kept.{kept_head};
-ghost use Rattle.pg_hoa.specs.Settling.{settled, IsSettled, HasCondition, NeverSettled, StartsBelow, marked};
+ghost use Rattle.pg_hoa.specs.Mirrors.Kept.{kept_head};
+ghost use Rattle.pg_hoa.specs.Mirrors.Settling.{settled, IsSettled, HasCondition, NeverSettled, StartsBelow, marked};
 
 use crate::fault::{LeftOutName, PartFault, Refusal};
 use crate::header::Head;

@@ -1,10 +1,10 @@
 //! The six shapes of a parity condition.
 
 ghost use Rattle.std.specs.Prelude.{◌≡◌, ◌<◌, ◌-◌, IfSome, IfNone, option_map};
-ghost use Rattle.pg_hoa.specs.FormulaRun.{postfix};
+ghost use Rattle.pg_hoa.specs.Mirrors.FormulaRun.{postfix};
 ghost use Rattle.pg_hoa.specs.Formulas.{Formula};
 ghost use Rattle.pg_hoa.specs.Shapes.{FitsShape, HasShape};
-ghost use Rattle.pg_hoa.specs.ShapeRun.{set_at, is_wanted, is_leaf, is_join, without_leaf, inner_at, only_leaf, fits_at, constant_at, nested_at};
+ghost use Rattle.pg_hoa.specs.Mirrors.ShapeRun.{set_at, is_wanted, is_leaf, is_join, without_leaf, inner_at, only_leaf, fits_at, constant_at, nested_at};
 
 use crate::formula::Op;
 
@@ -70,7 +70,7 @@ fn is_join(op: Op, wanted: bool) -> bool
 
 /// What two operands leave without the leaf, which is one of them. Where it stands at both ends it is taken from the
 /// front: what is left has the leaf once more, and so is of no shape either way.
-#[tactic(auto, unfolding(crate::specs::ShapeRun::without_leaf))]
+#[tactic(auto, unfolding(crate::specs::Mirrors::ShapeRun::without_leaf))]
 fn without_leaf(operands: &[Op], wanted: bool, set: u32) -> Option<&[Op]>
     ensures { option_map (λ ops. ops.now) result ≡ without_leaf wanted set operands.now }
 {
@@ -87,7 +87,7 @@ fn without_leaf(operands: &[Op], wanted: bool, set: u32) -> Option<&[Op]>
 }
 
 /// What the set's leaf is joined with.
-#[tactic(auto, unfolding(crate::specs::ShapeRun::inner_at))]
+#[tactic(auto, unfolding(crate::specs::Mirrors::ShapeRun::inner_at))]
 fn inner(ops: &[Op], wanted: bool, set: u32) -> Option<&[Op]>
     ensures { option_map (λ ops. ops.now) result ≡ inner_at wanted set ops.now }
 {

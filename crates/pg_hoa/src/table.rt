@@ -4,8 +4,8 @@ ghost use Rattle.std.specs.Prelude.{◌≡◌, ℕ, ◌+◌, ◌*◌, ◌^◌, �
 ghost use Rattle.std.specs.List.{All, fold};
 ghost use Rattle.pg_hoa.specs.Automata.{deciding};
 ghost use Rattle.pg_hoa.specs.AutomatonText.{put};
-ghost use Rattle.pg_hoa.specs.Kept.{kept_line};
-ghost use Rattle.pg_hoa.specs.Tables.{step, way_step, put_all, same_set, agree, Extends, IsSplit, numbered, next, stage, MayNumber, Adds, at_slot, at_word, at_letters, at_line, IsTableOf, IsConflictOf, kept_numbers, kept_count};
+ghost use Rattle.pg_hoa.specs.Mirrors.Kept.{kept_line};
+ghost use Rattle.pg_hoa.specs.Mirrors.Tables.{step, way_step, put_all, same_set, agree, Extends, IsSplit, numbered, next, stage, MayNumber, Adds, at_slot, at_word, at_letters, at_line, IsTableOf, IsConflictOf, kept_numbers, kept_count};
 
 use crate::body::Line;
 use crate::fault::Conflict;

@@ -3,8 +3,8 @@
 ghost use Rattle.std.specs.Prelude.{◌≡◌, ◌<◌, ◌^◌, ◌≤◌, length, SomeIff, IfSome, option_map};
 ghost use Rattle.std.specs.List.{prefix_len};
 ghost use Rattle.pg_hoa.specs.Lexemes.{is_space, is_digit, is_letter, is_inner, value_of};
-ghost use Rattle.pg_hoa.specs.Steps.{Gives};
-ghost use Rattle.pg_hoa.specs.Scan.{lexeme, gap_from, gap_step, number_at, name_at, character_at, string_len, string_at, alias_at, mark_at, sign_at, solid_at, lex, first};
+ghost use Rattle.pg_hoa.specs.Mirrors.Steps.{Gives};
+ghost use Rattle.pg_hoa.specs.Mirrors.Scan.{lexeme, gap_from, gap_step, number_at, name_at, character_at, string_len, string_at, alias_at, mark_at, sign_at, solid_at, lex, first};
 
 use crate::fault::{LeftOutName, PartFault, Refusal};
 
@@ -89,7 +89,7 @@ fn value_of(digits: &[u8]) -> Option<u32>
 }
 
 /// The number whose digits stand in front, and what follows.
-#[tactic(auto, using(crate::proofs::Runs::run_within), unfolding(crate::specs::Scan::number_at))]
+#[tactic(auto, using(crate::proofs::Runs::run_within), unfolding(crate::specs::Mirrors::Scan::number_at))]
 fn number(bytes: &[u8]) -> Result<(Token<'_>, &[u8]), Refusal>
     ensures { Gives (λ x. (lexeme x.0, x.1.now)) result (number_at bytes.now) }
 {
@@ -101,7 +101,7 @@ fn number(bytes: &[u8]) -> Result<(Token<'_>, &[u8]), Refusal>
 }
 
 /// The identifier in front, or the header name with its colon, and what follows.
-#[tactic(auto, using(crate::proofs::Runs::run_within), unfolding(crate::specs::Scan::name_at))]
+#[tactic(auto, using(crate::proofs::Runs::run_within), unfolding(crate::specs::Mirrors::Scan::name_at))]
 fn name(bytes: &[u8]) -> Result<(Token<'_>, &[u8]), Refusal>
     ensures { Gives (λ x. (lexeme x.0, x.1.now)) result (name_at bytes.now) }
 {
@@ -113,7 +113,7 @@ fn name(bytes: &[u8]) -> Result<(Token<'_>, &[u8]), Refusal>
 }
 
 /// The alias whose `@` stands in front of `bytes`, with `left` bytes left from the `@` on, and what follows.
-#[tactic(auto, using(crate::proofs::Runs::run_within), unfolding(crate::specs::Scan::alias_at))]
+#[tactic(auto, using(crate::proofs::Runs::run_within), unfolding(crate::specs::Mirrors::Scan::alias_at))]
 fn alias(bytes: &[u8], left: usize) -> Result<(Token<'_>, &[u8]), Refusal>
     ensures { Gives (λ x. (lexeme x.0, x.1.now)) result (alias_at bytes.now) }
 {
@@ -126,7 +126,7 @@ fn alias(bytes: &[u8], left: usize) -> Result<(Token<'_>, &[u8]), Refusal>
 }
 
 /// The token that is one byte, which stands in front of `rest`, with `left` bytes left from it on, and what follows.
-#[tactic(auto, unfolding(crate::specs::Scan::sign_at))]
+#[tactic(auto, unfolding(crate::specs::Mirrors::Scan::sign_at))]
 fn sign(byte: u8, rest: &[u8], left: usize) -> Result<(Token<'_>, &[u8]), Refusal>
     ensures { Gives (λ x. (lexeme x.0, x.1.now)) result (sign_at byte rest.now) }
 {
@@ -146,7 +146,7 @@ fn sign(byte: u8, rest: &[u8], left: usize) -> Result<(Token<'_>, &[u8]), Refusa
 
 /// White space or the `/*` of a comment in front, where no comment is open: how many are open behind it, and what
 /// follows. Nothing is taken where a token or the end stands.
-#[tactic(auto, unfolding(crate::specs::Scan::gap_step))]
+#[tactic(auto, unfolding(crate::specs::Mirrors::Scan::gap_step))]
 fn outside_comments(bytes: &[u8]) -> Option<(u32, &[u8])>
     ensures { gap_step 0 bytes.now ≡ Some (option_map (λ x. (x.0, x.1.now)) result) }
 {
@@ -159,7 +159,7 @@ fn outside_comments(bytes: &[u8]) -> Option<(u32, &[u8])>
 
 /// A part of the comments of which so many are open, the outermost with so many bytes left from its `/*` on: how many
 /// are open behind it, and what follows.
-#[tactic(auto, unfolding(crate::specs::Scan::gap_step))]
+#[tactic(auto, unfolding(crate::specs::Mirrors::Scan::gap_step))]
 fn inside_comments(deep: u32, outermost: usize, bytes: &[u8]) -> Result<(u32, &[u8]), Refusal>
     requires some_open { 0 < deep }
     requires few { deep ≤ 8192 }
@@ -214,7 +214,7 @@ fn blanks(bytes: &[u8]) -> Result<&[u8], Refusal>
 }
 
 /// The mark in front, which begins with a `-`, and what follows.
-#[tactic(auto, unfolding(crate::specs::Scan::mark_at))]
+#[tactic(auto, unfolding(crate::specs::Mirrors::Scan::mark_at))]
 fn mark(bytes: &[u8]) -> Result<(Token<'_>, &[u8]), Refusal>
     ensures { Gives (λ x. (lexeme x.0, x.1.now)) result (mark_at bytes.now) }
 {
@@ -230,7 +230,7 @@ fn mark(bytes: &[u8]) -> Result<(Token<'_>, &[u8]), Refusal>
 }
 
 /// The string whose first quote stands in front of `bytes`, with `left` bytes left from the quote on, and what follows.
-#[tactic(auto, unfolding(crate::specs::Scan::string_at))]
+#[tactic(auto, unfolding(crate::specs::Mirrors::Scan::string_at))]
 fn string(bytes: &[u8], left: usize) -> Result<(Token<'_>, &[u8]), Refusal>
     ensures { Gives (λ x. (lexeme x.0, x.1.now)) result (string_at bytes.now) }
 {
@@ -241,7 +241,7 @@ fn string(bytes: &[u8], left: usize) -> Result<(Token<'_>, &[u8]), Refusal>
 }
 
 /// The bytes of one character of a string, and what follows; nothing at the quote that ends it.
-#[tactic(auto, unfolding(crate::specs::Scan::character_at))]
+#[tactic(auto, unfolding(crate::specs::Mirrors::Scan::character_at))]
 fn character(bytes: &[u8]) -> Option<Option<(usize, &[u8])>>
     ensures { option_map (λ x. option_map (λ y. (y.0, y.1.now)) x) result ≡ character_at bytes.now }
 {
@@ -273,7 +273,7 @@ fn string_len(bytes: &[u8]) -> Option<usize>
 }
 
 /// The token in front, where no blank stands, and what follows.
-#[tactic(auto, unfolding(crate::specs::Scan::solid_at))]
+#[tactic(auto, unfolding(crate::specs::Mirrors::Scan::solid_at))]
 fn solid(bytes: &[u8]) -> Result<(Token<'_>, &[u8]), Refusal>
     ensures { Gives (λ x. (lexeme x.0, x.1.now)) result (solid_at bytes.now) }
 {

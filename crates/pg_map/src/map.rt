@@ -26,7 +26,7 @@ pub struct MeasureMap {
 impl Model for MeasureMap {
     ghost use Rattle.std.specs.Prelude.{length, ◌+◌};
     ghost use Rattle.pg_map.specs.Maps.{MapValue};
-    ghost use Rattle.pg_map.specs.Tables.{table, IsTable};
+    ghost use Rattle.pg_map.specs.Mirrors.Tables.{table, IsTable};
 
     ghost Value = { MapValue };
 

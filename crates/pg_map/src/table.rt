@@ -3,11 +3,11 @@
 ghost use Rattle.std.specs.Prelude.{◌≡◌, ◌⊎◌, ℕ, List, Some, ◌+◌, ◌*◌, ◌<◌, ◌≤◌, length, slice_set, MatchBool, All};
 ghost use Rattle.std.specs.Bool.{OnTrue, OnFalse};
 ghost use Rattle.pg_measure.specs.Measures.{AreBounds, Fits, IsBelow, AtMost, Covers};
-ghost use Rattle.pg_measure.specs.Rows.{measure_of, IsLeastCover};
+ghost use Rattle.pg_measure.specs.Mirrors.Rows.{measure_of, IsLeastCover};
 ghost use Rattle.pg_measure.specs.Views.{measure_in};
 ghost use Rattle.pg_map.specs.Lines.{line_of, only};
 ghost use Rattle.pg_map.specs.Maps.{measure_at, update_map, IsServed, IsLifted, IsJoin};
-ghost use Rattle.pg_map.specs.Tables.{table, IsTable, IsBetter, IsBest};
+ghost use Rattle.pg_map.specs.Mirrors.Tables.{table, IsTable, IsBetter, IsBest};
 
 use pg_arena::{Player, Vertex};
 use pg_measure::{View, row};

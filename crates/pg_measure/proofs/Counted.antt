@@ -10,7 +10,7 @@ use Rattle.std.proofs.lemmas.List.Sums.{sum_by-cons, count_by_more_no, count_by_
 use Rattle.pg_arena.specs.Games.{GameVertex, HasPrioritiesUpTo, priority, vertex_at, nowhere}
 use Rattle.pg_measure.specs.Measures.{BoundList, AreBounds}
 use Rattle.pg_measure.specs.Games.{vertices_of, IsBoundsOf}
-use Rattle.pg_measure.specs.Counts.{IsCount}
+use Rattle.pg_measure.specs.Mirrors.Counts.{IsCount}
 
 differs : (i p : ℕ) → i ≢ p → (i == p) ≡ false
 differs i p e = grind (arith, nat_tests)

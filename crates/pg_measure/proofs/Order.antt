@@ -4,7 +4,7 @@ use Rattle.std.proofs.Common.{◌≡◌, ℕ, zero, suc, ◌+◌, ◌<◌, ◌�
 use Rattle.std.proofs.lemmas.Bool.{cases_lt}
 use Rattle.pg_measure.proofs.Rows.{at_most_itself}
 use Rattle.pg_measure.specs.Measures.{MeasureValue, ListBelow, ListAtMost, AtMost, IsBelow, CoversFront}
-use Rattle.pg_measure.specs.Rows.{MissesFront, FrontAtMost, measure_of}
+use Rattle.pg_measure.specs.Mirrors.Rows.{MissesFront, FrontAtMost, measure_of}
 
 pub below_at_most : (xs ys : List ℕ) → ListBelow xs ys → ListAtMost xs ys
 below_at_most [] ys h = tt

@@ -3,7 +3,7 @@ use Rattle.std.proofs.Common.{◌≡◌, ℕ, zero, suc, ◌+◌, ◌-◌, ◌<�
 use Rattle.std.proofs.lemmas.Bool.{cases_lt}
 use Rattle.std.specs.Prelude.{Some, None}
 use Rattle.pg_measure.specs.Measures.{BoundList, MeasureValue, ListFits, Fits, zeros, ListBelow, ListAtMost, AtMost}
-use Rattle.pg_measure.specs.Rows.{cleared}
+use Rattle.pg_measure.specs.Mirrors.Rows.{cleared}
 
 pub cleared-is : (j : ℕ) (xs : List ℕ) → take j xs ++ replicate (length xs - j) 0 ≡ cleared j xs
 cleared-is zero [] = refl

@@ -3,7 +3,7 @@ use Rattle.std.proofs.Common.{◌≡◌, ℕ, zero, suc, ◌+◌, ◌-◌, ◌<�
 use Rattle.std.proofs.lemmas.Grind.{common_steps}
 use borrow.Rule.Slice.PartMut.{put_mid}
 use Rattle.pg_measure.specs.Measures.{BoundList, MeasureValue, Fits, ListFits, AtMost, CoversFront, width_from, is_odd, IsLeastStep}
-use Rattle.pg_measure.specs.Rows.{IsLeastCover, measure_of, cleared}
+use Rattle.pg_measure.specs.Mirrors.Rows.{IsLeastCover, measure_of, cleared}
 use Rattle.pg_measure.proofs.Rows.{cleared-is, raised, raised-is, same_length, cleared_fits, raised_fits, cleared_covers, raised_covers, cleared_least, raised_least, none_above}
 
 pub clear_put : (a : ℕ) (xs ys : List ℕ) → a ≤ length xs → ys ≡ replicate (length (take (length xs - a) (drop a xs))) 0 → put_mid a (length xs - a) xs ys ≡ cleared a xs

@@ -1,6 +1,5 @@
 pub mod Measures
 pub mod Games
 pub mod Views
-pub mod Rows
 pub mod Laws
-pub mod Counts
+pub mod Mirrors

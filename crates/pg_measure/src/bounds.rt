@@ -3,7 +3,7 @@
 ghost use Rattle.std.specs.Prelude.{◌≡◌, ℕ, ◌<◌, ◌≤◌, ◌^◌, length, IfOk};
 ghost use Rattle.pg_measure.specs.Measures.{AreBounds, width_from};
 ghost use Rattle.pg_measure.specs.Games.{IsBoundsOf};
-ghost use Rattle.pg_measure.specs.Counts.{IsCount};
+ghost use Rattle.pg_measure.specs.Mirrors.Counts.{IsCount};
 ghost use Rattle.pg_arena.specs.Games.{priority};
 
 use crate::row;

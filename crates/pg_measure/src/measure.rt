@@ -20,7 +20,7 @@ pub struct Measure {
 impl Model for Measure {
     ghost use Rattle.std.specs.Prelude.{length, ◌<◌, ◌-◌};
     ghost use Rattle.pg_measure.specs.Measures.{OwnedMeasure, owned};
-    ghost use Rattle.pg_measure.specs.Rows.{measure_of};
+    ghost use Rattle.pg_measure.specs.Mirrors.Rows.{measure_of};
 
     ghost Value = { OwnedMeasure };
 

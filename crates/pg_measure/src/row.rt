@@ -3,7 +3,7 @@
 
 ghost use Rattle.std.specs.Prelude.{◌≡◌, ◌↔◌, ℕ, ◌+◌, ◌<◌, ◌≤◌, length, take, AllPairs, IsTrue, MatchBool};
 ghost use Rattle.pg_measure.specs.Measures.{ListFits, Fits, ListBelow, ListAtMost, CoversFront, width_from, AreBounds};
-ghost use Rattle.pg_measure.specs.Rows.{IsLeastCover, measure_of, cleared, FrontAtMost, MissesFront};
+ghost use Rattle.pg_measure.specs.Mirrors.Rows.{IsLeastCover, measure_of, cleared, FrontAtMost, MissesFront};
 
 /// How many bounds are of a priority at least `p`.
 pub fn width_from(bounds: &[(u32, u32)], p: u32) -> usize

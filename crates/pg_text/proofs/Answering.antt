@@ -11,7 +11,7 @@ use Rattle.std.proofs.lemmas.Map.Keys.{sorted_from_strictly_increasing, non_decr
 use Rattle.pg_arena.specs.Games.{GameVertex, nowhere, identifiers, identifier, successors, IsEdge, IsGame}
 use Rattle.pg_text.specs.declared.solution_line.SolutionLine.{SolutionLine}
 use Rattle.pg_text.specs.SolutionText.{counting_strategy, Fits, IsUnknown}
-use Rattle.pg_text.specs.SolutionReading.{is_seen, LeadsNowhere, IsUnmarked}
+use Rattle.pg_text.specs.Mirrors.SolutionReading.{is_seen, LeadsNowhere, IsUnmarked}
 
 identifier_at : (game : List GameVertex) (v : ℕ) → v < length game → get_or (identifiers game) v 0 ≡ identifier game v
 identifier_at game v within = get_or-map (λ (x : GameVertex). x.identifier) game v nowhere 0 within

@@ -9,12 +9,12 @@ use Rattle.pg_arena.specs.Lines.{Line, counted, add_fault, Answers, Accepts}
 use Rattle.pg_text.specs.declared.fault.Refusal.{Refusal}
 use Rattle.pg_text.specs.declared.fault.Refusal.TheVariants.{Memory, Token}
 use Rattle.pg_text.specs.declared.tokens.TokenFault.TheVariants.{Syntax, NumberTooLarge}
-use Rattle.pg_text.specs.Refusals.{arena_fault, fault_of}
+use Rattle.pg_text.specs.Mirrors.Refusals.{arena_fault, fault_of}
 use Rattle.pg_text.specs.Lexemes.{Lexeme, Spells}
 use Rattle.pg_text.specs.GameText.{line_lexemes, IsText, HasBadLine}
-use Rattle.pg_text.specs.Steps.{◌>>=◌, Fails, item, stop, items_at}
-use Rattle.pg_text.specs.GameScan.{item_at, body_at, lines_at}
-use Rattle.pg_text.specs.Building.{BuildsLines}
+use Rattle.pg_text.specs.Mirrors.Steps.{◌>>=◌, Fails, item, stop, items_at}
+use Rattle.pg_text.specs.Mirrors.GameScan.{item_at, body_at, lines_at}
+use Rattle.pg_text.specs.Mirrors.Building.{BuildsLines}
 use Rattle.pg_text.proofs.Steps.{bind_some, some, some_is, none_is_some}
 use Rattle.pg_text.proofs.Items.{with_front, nothing_yet, goes_on, ends, items_none}
 use Rattle.pg_text.proofs.Spelling.{spells_append}

@@ -3,7 +3,7 @@ use Rattle.std.proofs.Common.{◌≡◌, ℕ, zero, suc, ◌<◌, List, [], ◌�
 use Rattle.std.proofs.lemmas.List.{append-nil}
 use Rattle.pg_text.specs.declared.fault.Refusal.{Refusal}
 use Rattle.pg_text.specs.declared.fault.Refusal.TheVariants.{Memory}
-use Rattle.pg_text.specs.Steps.{◌>>=◌, Fails, Step, item, stop, after_step, items_within, items_at}
+use Rattle.pg_text.specs.Mirrors.Steps.{◌>>=◌, Fails, Step, item, stop, after_step, items_within, items_at}
 
 -- each item takes a byte at least
 pub record Shrinks {A E : Type 0} (step : List ℕ → Option (Step A E × List ℕ)) : Type 0 where

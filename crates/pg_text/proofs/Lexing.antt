@@ -9,7 +9,7 @@ use Rattle.pg_text.specs.Lexemes.{Lexeme, lexeme, number, word, semicolon, comma
 use Rattle.std.specs.Result.{result_ok}
 use Rattle.pg_text.specs.declared.tokens.Token.{Token}
 use Rattle.pg_text.specs.declared.tokens.TokenFault.{TokenFault}
-use Rattle.pg_text.specs.Scan.{number_at, word_at, quoted_at, solid_at, token_at}
+use Rattle.pg_text.specs.Mirrors.Scan.{number_at, word_at, quoted_at, solid_at, token_at}
 use Rattle.pg_text.proofs.Steps.{chosen, some, some_is, none, none_is_some}
 use Rattle.pg_text.proofs.Runs.{run_each, run_stops, run_parts, run_again, rest_again, run_is, one_more}
 

@@ -12,7 +12,7 @@ use Rattle.pg_text.specs.declared.answer.Answer.{Answer}
 use Rattle.pg_text.specs.declared.solution_line.SolutionLine.{SolutionLine}
 use Rattle.pg_text.specs.Solutions.{unanswered, answer_at, winner, choice, IsSolution}
 use Rattle.pg_text.specs.SolutionText.{is_same, owns, counting_strategy, line_count, Says, Fits, AreTaken, has_line, answers, AreLines, IsSolutionText}
-use Rattle.pg_text.specs.SolutionReading.{is_seen, Puts, State, is_complete}
+use Rattle.pg_text.specs.Mirrors.SolutionReading.{is_seen, Puts, State, is_complete}
 use Rattle.pg_text.proofs.Steps.{some, some_is, none, none_is_some, chosen}
 use Rattle.pg_text.proofs.Answering.{same_vertex}
 

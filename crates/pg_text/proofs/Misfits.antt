@@ -8,9 +8,9 @@ use Rattle.pg_text.specs.declared.solution_text.Misfit.{Misfit}
 use Rattle.pg_text.specs.declared.solution_text.Misfit.TheVariants.{NotOfGame, Repeated}
 use Rattle.pg_text.specs.Lexemes.{Lexeme, number, semicolon, Begins, Spells}
 use Rattle.pg_text.specs.GameText.{player_number}
-use Rattle.pg_text.specs.GameScan.{natural_at, owner_at}
+use Rattle.pg_text.specs.Mirrors.GameScan.{natural_at, owner_at}
 use Rattle.pg_text.specs.SolutionText.{owns, strategy_lexemes, answer_lexemes, Fits, StartsLine, IsUnknown, IsNoMove, BeginsUnfit}
-use Rattle.pg_text.specs.SolutionReading.{is_seen, IsLost, IsUnmarked, IsMisfit, BeginsMisfit, BeginsWell}
+use Rattle.pg_text.specs.Mirrors.SolutionReading.{is_seen, IsLost, IsUnmarked, IsMisfit, BeginsMisfit, BeginsWell}
 use Rattle.pg_text.proofs.Steps.{some, some_is, none, none_is_some}
 use Rattle.pg_text.proofs.Lexing.{token_again}
 use Rattle.pg_text.proofs.Takes.{natural_again, owner_again}

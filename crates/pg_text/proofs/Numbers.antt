@@ -4,7 +4,7 @@ use Rattle.std.specs.List.{fold, prefix_len, take_while}
 use Rattle.std.proofs.lemmas.Bool.{lt-ltb, le-ltb}
 use Rattle.std.proofs.lemmas.List.{take_rest}
 use Rattle.pg_text.specs.Lexemes.{number, is_digit, value_of}
-use Rattle.pg_text.specs.Scan.{number_at}
+use Rattle.pg_text.specs.Mirrors.Scan.{number_at}
 use Rattle.pg_text.proofs.Runs.{one_more, none_more}
 
 -- the value of digits behind others of value n

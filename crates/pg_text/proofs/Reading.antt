@@ -6,9 +6,9 @@ use Rattle.pg_arena.specs.Games.{GameVertex}
 use Rattle.pg_arena.specs.Lines.{Line, counted, IsGameOf, FinishFails}
 use Rattle.pg_text.specs.declared.fault.TextFault.{TextFault}
 use Rattle.pg_text.specs.declared.fault.TextFault.TheVariants.{OutOfMemory, Syntax, NumberTooLarge, Arena}
-use Rattle.pg_text.specs.Refusals.{arena_fault}
+use Rattle.pg_text.specs.Mirrors.Refusals.{arena_fault}
 use Rattle.pg_text.specs.GameText.{IsText, IsGameText, Refuses, HasNoGame}
-use Rattle.pg_text.specs.Building.{BuildsLines}
+use Rattle.pg_text.specs.Mirrors.Building.{BuildsLines}
 use Rattle.pg_text.proofs.Steps.{some_is}
 use Rattle.pg_text.proofs.Texts.{lines_again}
 

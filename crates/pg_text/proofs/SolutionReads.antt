@@ -12,14 +12,14 @@ use Rattle.pg_text.specs.declared.fault.Refusal.{Refusal}
 use Rattle.pg_text.specs.declared.fault.Refusal.TheVariants.{Memory, Token}
 use Rattle.pg_text.specs.declared.fault.TextFault.{TextFault}
 use Rattle.pg_text.specs.declared.fault.TextFault.TheVariants as text
-use Rattle.pg_text.specs.Refusals.{fault_of}
+use Rattle.pg_text.specs.Mirrors.Refusals.{fault_of}
 use Rattle.pg_text.specs.Lexemes.{number, end, Spells, after_space}
-use Rattle.pg_text.specs.Steps.{◌>>=◌, Fails, Step, item, stop, items_at}
-use Rattle.pg_text.specs.GameScan.{clause_at}
+use Rattle.pg_text.specs.Mirrors.Steps.{◌>>=◌, Fails, Step, item, stop, items_at}
+use Rattle.pg_text.specs.Mirrors.GameScan.{clause_at}
 use Rattle.pg_text.specs.Solutions.{unanswered}
 use Rattle.pg_text.specs.SolutionText.{answer_lexemes, BeginsWithLines, AreLines, Fits, line_count, answers, IsSolutionText, has_line, StartsLine, BeginsUnfit, IsFirstMissing, IsNoText, RefusesSolution}
-use Rattle.pg_text.specs.SolutionScan.{next_answer_at, answers_at}
-use Rattle.pg_text.specs.SolutionReading.{Puts, State, IsMarked, IsUnmarked, IsMisfit, BeginsMisfit, BeginsWell, HasRead, SpellsNone, IsRefused, is_complete, misfit_fault}
+use Rattle.pg_text.specs.Mirrors.SolutionScan.{next_answer_at, answers_at}
+use Rattle.pg_text.specs.Mirrors.SolutionReading.{Puts, State, IsMarked, IsUnmarked, IsMisfit, BeginsMisfit, BeginsWell, HasRead, SpellsNone, IsRefused, is_complete, misfit_fault}
 use Rattle.pg_text.proofs.Steps.{bind_some, some, some_is, none_is_some}
 use Rattle.pg_text.proofs.Items.{with_front, nothing_yet, goes_on, items_none}
 use Rattle.pg_text.proofs.Texts.{clause_absent}

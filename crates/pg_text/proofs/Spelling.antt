@@ -3,7 +3,7 @@ use Rattle.std.proofs.Common.{◌≡◌, ℕ, zero, suc, ◌≤◌, ◌<◌, Lis
 use Rattle.std.specs.List.{flat_map, AllByRecursion}
 use Rattle.std.proofs.lemmas.List.{length-append}
 use Rattle.pg_text.specs.Lexemes.{Lexeme, number, word, semicolon, comma, quoted, end, Begins, Spells, IsSpelt}
-use Rattle.pg_text.specs.Steps.{Step, item, stop, after_step, items_within, items_at}
+use Rattle.pg_text.specs.Mirrors.Steps.{Step, item, stop, after_step, items_within, items_at}
 use Rattle.pg_text.proofs.Steps.{bind_some, some_is}
 use Rattle.pg_text.proofs.Items.{Shrinks, items_end, items_more}
 

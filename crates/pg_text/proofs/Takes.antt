@@ -5,10 +5,10 @@ use Rattle.pg_arena.specs.declared.player.Player.{Player}
 use Rattle.pg_arena.specs.declared.player.Player.TheVariants.{Even, Odd}
 use Rattle.pg_arena.specs.Lines.{Line}
 use Rattle.pg_text.specs.Lexemes.{Lexeme, number, semicolon, comma, quoted, end, Begins, Spells}
-use Rattle.pg_text.specs.Steps.{◌>>=◌, Step, item, stop, items_at}
-use Rattle.pg_text.specs.Scan.{token_at}
+use Rattle.pg_text.specs.Mirrors.Steps.{◌>>=◌, Step, item, stop, items_at}
+use Rattle.pg_text.specs.Mirrors.Scan.{token_at}
 use Rattle.pg_text.specs.GameText.{player_number, further_lexemes, successor_lexemes, name_lexemes, line_lexemes}
-use Rattle.pg_text.specs.GameScan.{number_in, natural_at, player_of, owner_at, semicolon_in, semicolon_at, behind_in, behind_at, successors_at, line_at, item_in, item_at}
+use Rattle.pg_text.specs.Mirrors.GameScan.{number_in, natural_at, player_of, owner_at, semicolon_in, semicolon_at, behind_in, behind_at, successors_at, line_at, item_in, item_at}
 use Rattle.pg_text.proofs.Steps.{bind_some, some, some_is, none_is_some}
 use Rattle.pg_text.proofs.Lexing.{token_takes, token_again}
 use Rattle.pg_text.proofs.Items.{Shrinks}

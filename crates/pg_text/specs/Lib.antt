@@ -1,15 +1,9 @@
 pub mod Solutions
 pub mod Lexemes
-pub mod Scan
-pub mod Refusals
-pub mod Steps
 pub mod GameText
-pub mod GameScan
-pub mod Building
 pub mod GameLayout
 pub mod ReadBack
 pub mod SolutionText
 pub mod SolutionLayout
 pub mod SolutionReadBack
-pub mod SolutionScan
-pub mod SolutionReading
+pub mod Mirrors

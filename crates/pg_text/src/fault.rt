@@ -5,7 +5,7 @@ ghost use Rattle.pg_text.specs.declared.fault.Refusal.TheVariants.{Memory, Token
 ghost use Rattle.pg_text.specs.declared.tokens.TokenFault.TheVariants.{Syntax};
 ghost use Rattle.pg_text.specs.declared.fault.TextFault.TheVariants.{OutOfMemory, Write};
 ghost use Rattle.pg_text.specs.Lexemes.{after_space};
-ghost use Rattle.pg_text.specs.Refusals.{arena_fault, fault_of};
+ghost use Rattle.pg_text.specs.Mirrors.Refusals.{arena_fault, fault_of};
 
 use crate::tokens::{TokenFault, left_at};
 use pg_arena::ArenaFault;

@@ -3,7 +3,7 @@
 ghost use Rattle.std.specs.Prelude.{◌≡◌, List, IfOk, IfErr, MatchResult};
 ghost use Rattle.pg_arena.specs.Games.{GameVertex, HasPrioritiesUpTo};
 ghost use Rattle.pg_text.specs.GameText.{IsGameText, Refuses};
-ghost use Rattle.pg_text.specs.Building.{BuildsLines};
+ghost use Rattle.pg_text.specs.Mirrors.Building.{BuildsLines};
 
 use crate::fault::TextFault;
 use crate::line::{body, item};

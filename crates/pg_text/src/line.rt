@@ -1,8 +1,8 @@
 //! The lines of a game text.
 
 ghost use Rattle.std.specs.Prelude.{◌≡◌, option_copied};
-ghost use Rattle.pg_text.specs.Steps.{Gives};
-ghost use Rattle.pg_text.specs.GameScan.{line_seen, item_seen, step_seen, natural_at, owner_at, semicolon_at, behind_at, successors_at, line_at, item_at, clause_at, body_at};
+ghost use Rattle.pg_text.specs.Mirrors.Steps.{Gives};
+ghost use Rattle.pg_text.specs.Mirrors.GameScan.{line_seen, item_seen, step_seen, natural_at, owner_at, semicolon_at, behind_at, successors_at, line_at, item_at, clause_at, body_at};
 
 use crate::fault::{Refusal, unexpected};
 use crate::tokens::{Token, scan};
@@ -26,7 +26,7 @@ pub(crate) enum AfterSuccessor<'a> {
     LineEnd(Option<&'a [u8]>),
 }
 
-#[tactic(auto, unfolding(crate::specs::GameScan::natural_at))]
+#[tactic(auto, unfolding(crate::specs::Mirrors::GameScan::natural_at))]
 pub(crate) fn number(bytes: &[u8]) -> Result<(u32, &[u8]), Refusal>
     ensures { Gives (λ x. (x.0, x.1.now)) result (natural_at bytes.now) }
 {
@@ -36,7 +36,7 @@ pub(crate) fn number(bytes: &[u8]) -> Result<(u32, &[u8]), Refusal>
     }
 }
 
-#[tactic(auto, unfolding(crate::specs::GameScan::owner_at))]
+#[tactic(auto, unfolding(crate::specs::Mirrors::GameScan::owner_at))]
 pub(crate) fn player(bytes: &[u8]) -> Result<(Player, &[u8]), Refusal>
     ensures { Gives (λ x. (x.0, x.1.now)) result (owner_at bytes.now) }
 {
@@ -47,7 +47,7 @@ pub(crate) fn player(bytes: &[u8]) -> Result<(Player, &[u8]), Refusal>
     }
 }
 
-#[tactic(auto, unfolding(crate::specs::GameScan::semicolon_at))]
+#[tactic(auto, unfolding(crate::specs::Mirrors::GameScan::semicolon_at))]
 pub(crate) fn semicolon(bytes: &[u8]) -> Result<&[u8], Refusal>
     ensures { Gives (λ x. x.now) result (semicolon_at bytes.now) }
 {
@@ -57,7 +57,7 @@ pub(crate) fn semicolon(bytes: &[u8]) -> Result<&[u8], Refusal>
     }
 }
 
-#[tactic(auto, unfolding(crate::specs::GameScan::behind_at))]
+#[tactic(auto, unfolding(crate::specs::Mirrors::GameScan::behind_at))]
 fn behind(bytes: &[u8]) -> Result<(AfterSuccessor<'_>, &[u8]), Refusal>
     ensures { Gives (λ x. (step_seen x.0, x.1.now)) result (behind_at bytes.now) }
 {
@@ -76,7 +76,7 @@ fn behind(bytes: &[u8]) -> Result<(AfterSuccessor<'_>, &[u8]), Refusal>
 }
 
 /// The name behind the successors, which take the place of what the buffer held.
-#[tactic(auto, unfolding(crate::specs::GameScan::successors_at))]
+#[tactic(auto, unfolding(crate::specs::Mirrors::GameScan::successors_at))]
 fn successors<'a>(
     buffer: &mut Vec<u32>,
     bytes: &'a [u8],
@@ -98,7 +98,7 @@ fn successors<'a>(
     }
 }
 
-#[tactic(auto, unfolding(crate::specs::GameScan::line_at))]
+#[tactic(auto, unfolding(crate::specs::Mirrors::GameScan::line_at))]
 fn line<'a>(
     buffer: &mut Vec<u32>,
     identifier: u32,
@@ -119,7 +119,7 @@ fn line<'a>(
 }
 
 /// A line, whose successors the buffer then holds, or nothing at the end of the text.
-#[tactic(auto, unfolding(crate::specs::GameScan::item_at))]
+#[tactic(auto, unfolding(crate::specs::Mirrors::GameScan::item_at))]
 pub(crate) fn item<'a>(
     buffer: &mut Vec<u32>,
     bytes: &'a [u8],
@@ -137,7 +137,7 @@ pub(crate) fn item<'a>(
 }
 
 /// AfterSuccessor the word, a number and a semicolon, if the word stands in front.
-#[tactic(auto, unfolding(crate::specs::GameScan::clause_at))]
+#[tactic(auto, unfolding(crate::specs::Mirrors::GameScan::clause_at))]
 pub(crate) fn clause<'a>(name: &[u8], bytes: &'a [u8]) -> Result<&'a [u8], Refusal>
     ensures { Gives (λ x. x.now) result (clause_at name.now bytes.now) }
 {
@@ -151,7 +151,7 @@ pub(crate) fn clause<'a>(name: &[u8], bytes: &'a [u8]) -> Result<&'a [u8], Refus
 }
 
 /// AfterSuccessor the header and the start, where they stand.
-#[tactic(auto, unfolding(crate::specs::GameScan::body_at))]
+#[tactic(auto, unfolding(crate::specs::Mirrors::GameScan::body_at))]
 pub(crate) fn body(bytes: &[u8]) -> Result<&[u8], Refusal>
     ensures { Gives (λ x. x.now) result (body_at bytes.now) }
 {

@@ -1,9 +1,9 @@
 //! The lines of a solution text.
 
 ghost use Rattle.std.specs.Prelude.{◌≡◌, option_map};
-ghost use Rattle.pg_text.specs.Steps.{Gives};
-ghost use Rattle.pg_text.specs.GameScan.{natural_at, owner_at};
-ghost use Rattle.pg_text.specs.SolutionScan.{answer_seen, strategy_at, answer_at, next_answer_at};
+ghost use Rattle.pg_text.specs.Mirrors.Steps.{Gives};
+ghost use Rattle.pg_text.specs.Mirrors.GameScan.{natural_at, owner_at};
+ghost use Rattle.pg_text.specs.Mirrors.SolutionScan.{answer_seen, strategy_at, answer_at, next_answer_at};
 
 use crate::fault::{Refusal, unexpected};
 use crate::line::{player, semicolon};
@@ -20,7 +20,7 @@ pub(crate) struct SolutionLine {
 }
 
 /// The number in front, if one stands there.
-#[tactic(auto, unfolding(crate::specs::GameScan::natural_at))]
+#[tactic(auto, unfolding(crate::specs::Mirrors::GameScan::natural_at))]
 pub(crate) fn natural(bytes: &[u8]) -> Option<(u32, &[u8])>
     ensures { option_map (λ x. (x.0, x.1.now)) result ≡ natural_at bytes.now }
 {
@@ -31,7 +31,7 @@ pub(crate) fn natural(bytes: &[u8]) -> Option<(u32, &[u8])>
 }
 
 /// The winner in front, if one stands there.
-#[tactic(auto, unfolding(crate::specs::GameScan::owner_at, crate::specs::GameScan::natural_at))]
+#[tactic(auto, unfolding(crate::specs::Mirrors::GameScan::owner_at, crate::specs::Mirrors::GameScan::natural_at))]
 pub(crate) fn winner(bytes: &[u8]) -> Option<(Player, &[u8])>
     ensures { option_map (λ x. (x.0, x.1.now)) result ≡ owner_at bytes.now }
 {
@@ -43,7 +43,7 @@ pub(crate) fn winner(bytes: &[u8]) -> Option<(Player, &[u8])>
 }
 
 /// The strategy, where one stands, and the semicolon.
-#[tactic(auto, unfolding(crate::specs::SolutionScan::strategy_at))]
+#[tactic(auto, unfolding(crate::specs::Mirrors::SolutionScan::strategy_at))]
 fn strategy(bytes: &[u8]) -> Result<(Option<u32>, &[u8]), Refusal>
     ensures { Gives (λ x. (x.0, x.1.now)) result (strategy_at bytes.now) }
 {
@@ -54,7 +54,7 @@ fn strategy(bytes: &[u8]) -> Result<(Option<u32>, &[u8]), Refusal>
     }
 }
 
-#[tactic(auto, unfolding(crate::specs::SolutionScan::answer_at))]
+#[tactic(auto, unfolding(crate::specs::Mirrors::SolutionScan::answer_at))]
 fn answer(identifier: u32, bytes: &[u8]) -> Result<(SolutionLine, &[u8]), Refusal>
     ensures { Gives (λ x. (x.0, x.1.now)) result (answer_at identifier bytes.now) }
 {
@@ -69,7 +69,7 @@ fn answer(identifier: u32, bytes: &[u8]) -> Result<(SolutionLine, &[u8]), Refusa
 }
 
 /// A line, or nothing at the end of the text.
-#[tactic(auto, unfolding(crate::specs::SolutionScan::next_answer_at))]
+#[tactic(auto, unfolding(crate::specs::Mirrors::SolutionScan::next_answer_at))]
 pub(crate) fn next_answer(bytes: &[u8]) -> Result<(Option<SolutionLine>, &[u8]), Refusal>
     ensures { Gives (λ x. (answer_seen x.0, x.1.now)) result (next_answer_at bytes.now) }
 {

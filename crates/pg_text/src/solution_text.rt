@@ -6,7 +6,7 @@ ghost use Rattle.pg_text.specs.declared.answer.Answer.{Answer};
 ghost use Rattle.pg_text.specs.declared.fault.TextFault.TheVariants.{OutOfMemory};
 ghost use Rattle.pg_text.specs.Lexemes.{after_space};
 ghost use Rattle.pg_text.specs.SolutionText.{owns, IsSolutionText, RefusesSolution};
-ghost use Rattle.pg_text.specs.SolutionReading.{Chooses, LeadsNowhere, Puts, IsMisfit, BeginsMisfit, BeginsWell, HasRead, IsRefused, is_complete, misfit_fault};
+ghost use Rattle.pg_text.specs.Mirrors.SolutionReading.{Chooses, LeadsNowhere, Puts, IsMisfit, BeginsMisfit, BeginsWell, HasRead, IsRefused, is_complete, misfit_fault};
 
 use crate::fault::TextFault;
 use crate::line::clause;

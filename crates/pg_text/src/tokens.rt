@@ -7,7 +7,7 @@ ghost use Rattle.std.specs.Prelude.{◌≡◌, ◌<◌, ◌+◌, List, ℕ, leng
 ghost use Rattle.std.specs.Result.{result_ok};
 ghost use Rattle.std.specs.List.{prefix_len};
 ghost use Rattle.pg_text.specs.Lexemes.{Lexeme, lexeme, is_space, is_digit, is_letter, is_plain, Begins, after_space, fault_at, token_fault};
-ghost use Rattle.pg_text.specs.Scan.{number_at, word_at, quoted_at, solid_at, token_at};
+ghost use Rattle.pg_text.specs.Mirrors.Scan.{number_at, word_at, quoted_at, solid_at, token_at};
 
 /// A token, which borrows the text.
 #[derive(Clone, Copy, Debug)]
@@ -73,7 +73,7 @@ fn plain(bytes: &[u8]) -> usize
 }
 
 /// The number whose digits stand in front.
-#[tactic(auto, unfolding(crate::specs::Scan::number_at))]
+#[tactic(auto, unfolding(crate::specs::Mirrors::Scan::number_at))]
 fn number(bytes: &[u8]) -> Result<(Token<'_>, &[u8]), TokenFault>
     ensures token { option_map (λ x. (lexeme x.0, x.1.now)) (result_ok result) ≡ number_at bytes.now }
     ensures fault { IfErr result (λ e. e ≡ TokenFault.NumberTooLarge (length bytes.now)) }
@@ -94,7 +94,7 @@ fn number(bytes: &[u8]) -> Result<(Token<'_>, &[u8]), TokenFault>
     }
 }
 
-#[tactic(auto, using(crate::proofs::Runs::run_within), unfolding(crate::specs::Scan::word_at))]
+#[tactic(auto, using(crate::proofs::Runs::run_within), unfolding(crate::specs::Mirrors::Scan::word_at))]
 fn word(bytes: &[u8]) -> (Token<'_>, &[u8])
     ensures { Some (lexeme result.0, result.1.now) ≡ word_at bytes.now }
 {
@@ -103,7 +103,7 @@ fn word(bytes: &[u8]) -> (Token<'_>, &[u8])
 }
 
 /// The string whose first quote stands in front of `bytes`.
-#[tactic(auto, using(crate::proofs::Runs::run_within), unfolding(crate::specs::Scan::quoted_at))]
+#[tactic(auto, using(crate::proofs::Runs::run_within), unfolding(crate::specs::Mirrors::Scan::quoted_at))]
 fn quoted(bytes: &[u8]) -> Option<(Token<'_>, &[u8])>
     ensures { option_map (λ x. (lexeme x.0, x.1.now)) result ≡ quoted_at bytes.now }
 {
@@ -116,7 +116,7 @@ fn quoted(bytes: &[u8]) -> Option<(Token<'_>, &[u8])>
 }
 
 /// The token at the very front.
-#[tactic(auto, unfolding(crate::specs::Scan::solid_at))]
+#[tactic(auto, unfolding(crate::specs::Mirrors::Scan::solid_at))]
 fn solid(bytes: &[u8]) -> Result<(Token<'_>, &[u8]), TokenFault>
     ensures token { option_map (λ x. (lexeme x.0, x.1.now)) (result_ok result) ≡ solid_at bytes.now }
     ensures fault { IfErr result (λ e. e ≡ fault_at bytes.now) }
@@ -150,7 +150,7 @@ fn after_space(bytes: &[u8]) -> &[u8]
 }
 
 /// The token in front, behind white space, and the bytes after it: `next_token` for the readers of this crate.
-#[tactic(auto, unfolding(crate::specs::Scan::token_at))]
+#[tactic(auto, unfolding(crate::specs::Mirrors::Scan::token_at))]
 pub(crate) fn scan(bytes: &[u8]) -> Result<(Token<'_>, &[u8]), TokenFault>
     ensures token { option_map (λ x. (lexeme x.0, x.1.now)) (result_ok result) ≡ token_at bytes.now }
     ensures fault { IfErr result (λ e. e ≡ token_fault bytes.now) }

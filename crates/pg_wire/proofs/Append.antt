@@ -9,7 +9,7 @@ use Rattle.std.proofs.lemmas.Grind.{flat_map-append}
 use Rattle.std.specs.Io.KnownBytes.{Appends}
 use Rattle.byteorder.specs.Endian.{big_bytes}
 use Rattle.pg_wire.specs.Spelling.{word}
-use Rattle.pg_wire.specs.Reading.{HasBytes}
+use Rattle.pg_wire.specs.Mirrors.Reading.{HasBytes}
 
 pub word_is : (n : ℕ) → big_bytes 4 n ≡ word n
 word_is n = refl

@@ -19,7 +19,7 @@ use Rattle.pg_wire.specs.declared.frame.Frame.TheVariants as frames
 use Rattle.pg_wire.specs.Spelling.{word, counted, pair, line, value, sparse_value, body, longest}
 use Rattle.pg_wire.specs.Well.{IsWord, IsSetup, IsVertices, IsValues, IsSparse, IsReport, IsWell}
 use Rattle.pg_wire.specs.Bytes.{Spells}
-use Rattle.pg_wire.specs.Reading.{◌>>=◌, Reader, Fails, made, frame_at, body_at, setup_at, vertices_at, values_at, sparse_at, go_at, report_at}
+use Rattle.pg_wire.specs.Mirrors.Reading.{◌>>=◌, Reader, Fails, made, frame_at, body_at, setup_at, vertices_at, values_at, sparse_at, go_at, report_at}
 use Rattle.pg_wire.proofs.Grammar.{IsForm, IsBytes, bind_ok, test_ok, ok_is}
 use Rattle.pg_wire.proofs.FrameParts.{setup_form, vertices_form, values_form, sparse_form, go_form, report_form}
 

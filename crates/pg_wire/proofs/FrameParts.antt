@@ -15,8 +15,8 @@ use Rattle.pg_wire.specs.declared.frame.Go.{Go}
 use Rattle.pg_wire.specs.declared.frame.Report.{Report}
 use Rattle.pg_wire.specs.Spelling.{word, counted, tagged, pair, line, value, sparse_value}
 use Rattle.pg_wire.specs.Well.{IsWord, IsBound, IsSetup, IsVertexLine, IsVertices, IsComponents, IsValue, IsValues, IsPlace, ArePlaces, IsSparseValue, IsSparse, IsFaultCode, IsReport}
-use Rattle.pg_wire.specs.Ordered.{AreOrdered}
-use Rattle.pg_wire.specs.Reading.{both, within_at, word_at, odd_at, byte_at, version_at, items_at, counted_at, tagged_at, bound_at, place_at, line_of, line_at, value_of, value_at, sparse_value_of, sparse_value_at, setup_of, setup_at, vertices_of, vertices_at, values_of, values_at, sparse_of, sparse_at, go_of, go_at, is_code, code_at, report_of, report_at}
+use Rattle.pg_wire.specs.Mirrors.Ordered.{AreOrdered}
+use Rattle.pg_wire.specs.Mirrors.Reading.{both, within_at, word_at, odd_at, byte_at, version_at, items_at, counted_at, tagged_at, bound_at, place_at, line_of, line_at, value_of, value_at, sparse_value_of, sparse_value_at, setup_of, setup_at, vertices_of, vertices_at, values_of, values_at, sparse_of, sparse_at, go_of, go_at, is_code, code_at, report_of, report_at}
 use Rattle.pg_wire.proofs.Grammar.{IsForm, IsKind, Takes, Within, bind_ok, test_ok, both_form, made_form, said_form, within_form, odd_form, byte_form, version_form, items_form, counted_form, tagged_form}
 
 -- ---- what stands in lists

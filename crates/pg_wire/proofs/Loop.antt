@@ -6,7 +6,7 @@ use Rattle.std.proofs.lemmas.List.{append-nil}
 use Rattle.pg_wire.specs.declared.fault.FieldFault.{FieldFault}
 use Rattle.pg_wire.specs.declared.fault.ReadFault.{ReadFault}
 use Rattle.pg_wire.specs.declared.fault.ReadFault.TheVariants as faults
-use Rattle.pg_wire.specs.Reading.{◌>>=◌, Reader, Fails, items_at}
+use Rattle.pg_wire.specs.Mirrors.Reading.{◌>>=◌, Reader, Fails, items_at}
 
 abbrev pub with_front : {A : Type 0} → List A → Result (List A × List ℕ) FieldFault → Result (List A × List ℕ) FieldFault
 with_front front read = read >>= λ x. Ok (front ++ x.0, x.1)

@@ -6,7 +6,7 @@ use Rattle.std.specs.List.{AllPairs}
 use Rattle.std.proofs.lemmas.List.{drop_more}
 use Rattle.std.proofs.lemmas.List.Elements.{All-cons}
 use Rattle.std.proofs.lemmas.List.Kept.{AllPairs-cons}
-use Rattle.pg_wire.specs.Ordered.{AreOrdered}
+use Rattle.pg_wire.specs.Mirrors.Ordered.{AreOrdered}
 
 -- how the items of a kind follow each other
 pub record Steps {A : Type 0} (Stands : ℕ → A → Type 0) (Precedes : A → A → Type 0) (next : A → ℕ) : Type 0 where

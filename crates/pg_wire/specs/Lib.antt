@@ -1,6 +1,5 @@
 pub mod Spelling
 pub mod Well
 pub mod Bytes
-pub mod Reading
-pub mod Ordered
 pub mod Faults
+pub mod Mirrors

@@ -1,6 +1,6 @@
 //! Reads the fields that are a number.
 ghost use Rattle.std.specs.Prelude.{◌≡◌, ◌+◌, ◌≤◌, length, IfOk};
-ghost use Rattle.pg_wire.specs.Reading.{Gives, number_at, within_at, odd_at, byte_at, version_at, code_at};
+ghost use Rattle.pg_wire.specs.Mirrors.Reading.{Gives, number_at, within_at, odd_at, byte_at, version_at, code_at};
 
 use crate::fault::{FieldFault, ReadFault};
 
@@ -20,7 +20,7 @@ fn number(bytes: &[u8]) -> Result<(u32, &[u8]), ReadFault>
 }
 
 /// A number from `low` on, below `high`.
-#[tactic(auto, unfolding(crate::specs::Reading::within_at))]
+#[tactic(auto, unfolding(crate::specs::Mirrors::Reading::within_at))]
 pub fn within(low: u64, high: u64, bytes: &[u8]) -> Result<(u32, &[u8]), ReadFault>
     ensures read { Gives (λ x. (x.0, x.1.now)) result (within_at low high bytes.now) }
     ensures size { IfOk result (λ x. 4 + length x.1.now ≡ length bytes.now) }
@@ -35,7 +35,7 @@ pub fn within(low: u64, high: u64, bytes: &[u8]) -> Result<(u32, &[u8]), ReadFau
 }
 
 /// An odd number below `high`.
-#[tactic(auto, unfolding(crate::specs::Reading::odd_at))]
+#[tactic(auto, unfolding(crate::specs::Mirrors::Reading::odd_at))]
 pub fn odd(high: u64, bytes: &[u8]) -> Result<(u32, &[u8]), ReadFault>
     ensures read { Gives (λ x. (x.0, x.1.now)) result (odd_at high bytes.now) }
     ensures size { IfOk result (λ x. 4 + length x.1.now ≡ length bytes.now) }
@@ -49,7 +49,7 @@ pub fn odd(high: u64, bytes: &[u8]) -> Result<(u32, &[u8]), ReadFault>
 }
 
 /// A byte below `high`.
-#[tactic(auto, unfolding(crate::specs::Reading::byte_at))]
+#[tactic(auto, unfolding(crate::specs::Mirrors::Reading::byte_at))]
 pub fn byte(high: u8, bytes: &[u8]) -> Result<(u8, &[u8]), ReadFault>
     ensures read { Gives (λ x. (x.0, x.1.now)) result (byte_at high bytes.now) }
     ensures size { IfOk result (λ x. 1 + length x.1.now ≡ length bytes.now) }
@@ -67,7 +67,7 @@ pub fn byte(high: u8, bytes: &[u8]) -> Result<(u8, &[u8]), ReadFault>
 }
 
 /// The version of a set-up, 1 or 2.
-#[tactic(auto, unfolding(crate::specs::Reading::version_at))]
+#[tactic(auto, unfolding(crate::specs::Mirrors::Reading::version_at))]
 pub fn version(bytes: &[u8]) -> Result<(u8, &[u8]), ReadFault>
     ensures { Gives (λ x. (x.0, x.1.now)) result (version_at bytes.now) }
 {
@@ -84,7 +84,7 @@ pub fn version(bytes: &[u8]) -> Result<(u8, &[u8]), ReadFault>
 }
 
 /// The code of a report with this status.
-#[tactic(auto, unfolding(crate::specs::Reading::code_at))]
+#[tactic(auto, unfolding(crate::specs::Mirrors::Reading::code_at))]
 pub fn code(status: u8, bytes: &[u8]) -> Result<(u8, &[u8]), ReadFault>
     ensures { Gives (λ x. (x.0, x.1.now)) result (code_at status bytes.now) }
 {

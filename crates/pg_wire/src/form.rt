@@ -1,7 +1,7 @@
 //! Lists of items that are spelled one after the other.
 ghost use Rattle.std.specs.Prelude.{◌≡◌, ℕ, ◌+◌, ◌*◌, ◌≤◌, ◌↔◌, List, Result, IsTrue, IfOk, length, vec_capacity};
-ghost use Rattle.pg_wire.specs.Reading.{Gives, Reader, items_at, counted_at};
-ghost use Rattle.pg_wire.specs.Ordered.{AreOrdered};
+ghost use Rattle.pg_wire.specs.Mirrors.Reading.{Gives, Reader, items_at, counted_at};
+ghost use Rattle.pg_wire.specs.Mirrors.Ordered.{AreOrdered};
 
 use crate::fault::ReadFault;
 use crate::fields::within;
@@ -82,7 +82,7 @@ pub fn items<F: Form>(
 }
 
 /// How many items, from `least` on and below `high`, and then each.
-#[tactic(auto, using(crate::proofs::Loop::size_counted), unfolding(crate::specs::Reading::counted_at))]
+#[tactic(auto, using(crate::proofs::Loop::size_counted), unfolding(crate::specs::Mirrors::Reading::counted_at))]
 pub fn counted<F: Form>(
     alloc: Global,
     width: u32,

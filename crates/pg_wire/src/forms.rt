@@ -1,6 +1,6 @@
 //! The kinds of lists in frames.
 ghost use Rattle.std.specs.Prelude.{◌≡◌, ◌+◌, ◌≤◌, ◌↔◌, IsTrue, IfOk, IfSome, length};
-ghost use Rattle.pg_wire.specs.Reading.{Gives, items_at, counted_at, tagged_at, word_at, place_at};
+ghost use Rattle.pg_wire.specs.Mirrors.Reading.{Gives, items_at, counted_at, tagged_at, word_at, place_at};
 ghost use Rattle.pg_wire.specs.Well.{IsComponents, ArePlaces};
 
 use crate::fault::ReadFault;
@@ -16,7 +16,7 @@ pub struct SuccessorForm;
 impl Form for SuccessorForm {
     ghost use Rattle.std.specs.Prelude.{◌+◌, ◌≤◌, ◌<◌};
     ghost use Rattle.std.proofs.Common.{arith};
-    ghost use Rattle.pg_wire.specs.Reading.{word_at};
+    ghost use Rattle.pg_wire.specs.Mirrors.Reading.{word_at};
     ghost use Rattle.pg_wire.specs.Well.{IsWord};
 
     type Item = u32;
@@ -62,7 +62,7 @@ pub struct BoundForm;
 impl Form for BoundForm {
     ghost use Rattle.std.specs.Prelude.{◌+◌, ◌≤◌, ◌<◌};
     ghost use Rattle.std.proofs.Common.{arith};
-    ghost use Rattle.pg_wire.specs.Reading.{bound_at};
+    ghost use Rattle.pg_wire.specs.Mirrors.Reading.{bound_at};
     ghost use Rattle.pg_wire.specs.Well.{IsBound};
 
     type Item = (u32, u32);
@@ -81,7 +81,7 @@ impl Form for BoundForm {
 
     ghost IsItem = { λ _. IsBound };
 
-    #[tactic(auto, unfolding(crate::specs::Reading::bound_at))]
+    #[tactic(auto, unfolding(crate::specs::Mirrors::Reading::bound_at))]
     fn read(_: Global, _: u32, place: u64, bytes: &[u8]) -> Result<((u32, u32), &[u8]), ReadFault> {
         let (priority, rest) = odd(place, bytes)?;
         let (bound, rest) = within(1, WORDS, rest)?;
@@ -112,7 +112,7 @@ pub struct ComponentForm;
 impl Form for ComponentForm {
     ghost use Rattle.std.specs.Prelude.{⊤};
     ghost use Rattle.std.proofs.Common.{arith};
-    ghost use Rattle.pg_wire.specs.Reading.{word_at};
+    ghost use Rattle.pg_wire.specs.Mirrors.Reading.{word_at};
     ghost use Rattle.pg_wire.specs.Well.{IsWord};
 
     type Item = u32;
@@ -159,7 +159,7 @@ pub struct PlaceForm;
 impl Form for PlaceForm {
     ghost use Rattle.std.specs.Prelude.{◌+◌, ◌≤◌, ◌<◌};
     ghost use Rattle.std.proofs.Common.{arith};
-    ghost use Rattle.pg_wire.specs.Reading.{place_at};
+    ghost use Rattle.pg_wire.specs.Mirrors.Reading.{place_at};
     ghost use Rattle.pg_wire.specs.Well.{IsPlace};
 
     type Item = (u32, u32);
@@ -178,7 +178,7 @@ impl Form for PlaceForm {
 
     ghost IsItem = { IsPlace };
 
-    #[tactic(auto, unfolding(crate::specs::Reading::place_at))]
+    #[tactic(auto, unfolding(crate::specs::Mirrors::Reading::place_at))]
     fn read(
         _: Global,
         width: u32,
@@ -214,7 +214,7 @@ pub struct LineForm;
 impl Form for LineForm {
     ghost use Rattle.std.specs.Prelude.{◌+◌, ◌≤◌, ◌<◌};
     ghost use Rattle.std.proofs.Common.{arith};
-    ghost use Rattle.pg_wire.specs.Reading.{line_at};
+    ghost use Rattle.pg_wire.specs.Mirrors.Reading.{line_at};
     ghost use Rattle.pg_wire.specs.Well.{IsVertexLine};
 
     type Item = VertexLine;
@@ -233,7 +233,7 @@ impl Form for LineForm {
 
     ghost IsItem = { λ _. IsVertexLine };
 
-    #[tactic(auto, unfolding(crate::specs::Reading::line_at))]
+    #[tactic(auto, unfolding(crate::specs::Mirrors::Reading::line_at))]
     fn read(
         alloc: Global,
         _: u32,
@@ -279,7 +279,7 @@ impl Form for LineForm {
 }
 
 /// The list behind a tag, 0, in a frame of this width; behind 1 there is none.
-#[tactic(auto, unfolding(crate::specs::Reading::tagged_at))]
+#[tactic(auto, unfolding(crate::specs::Mirrors::Reading::tagged_at))]
 fn components(
     alloc: Global,
     width: u32,
@@ -309,7 +309,7 @@ pub struct ValueForm;
 impl Form for ValueForm {
     ghost use Rattle.std.specs.Prelude.{◌+◌, ◌≤◌, ◌<◌};
     ghost use Rattle.std.proofs.Common.{arith};
-    ghost use Rattle.pg_wire.specs.Reading.{value_at};
+    ghost use Rattle.pg_wire.specs.Mirrors.Reading.{value_at};
     ghost use Rattle.pg_wire.specs.Well.{IsValue};
 
     type Item = Value;
@@ -328,7 +328,7 @@ impl Form for ValueForm {
 
     ghost IsItem = { IsValue };
 
-    #[tactic(auto, unfolding(crate::specs::Reading::value_at))]
+    #[tactic(auto, unfolding(crate::specs::Mirrors::Reading::value_at))]
     fn read(
         alloc: Global,
         width: u32,
@@ -362,7 +362,7 @@ impl Form for ValueForm {
 }
 
 /// The pairs behind a tag, 0, in a frame of this width; behind 1 there are none.
-#[tactic(auto, unfolding(crate::specs::Reading::tagged_at))]
+#[tactic(auto, unfolding(crate::specs::Mirrors::Reading::tagged_at))]
 fn places(alloc: Global, width: u32, bytes: &[u8]) -> Result<(Option<Pairs>, &[u8]), ReadFault>
     ensures read { Gives (λ x. (x.0, x.1.now)) result (tagged_at (counted_at (place_at width) (λ p. p.0 + 1) 0 (width + 1) 0) bytes.now) }
     ensures size { IfOk result (λ x. 1 + length x.1.now ≤ length bytes.now) }
@@ -388,7 +388,7 @@ pub struct SparseValueForm;
 impl Form for SparseValueForm {
     ghost use Rattle.std.specs.Prelude.{◌+◌, ◌≤◌, ◌<◌};
     ghost use Rattle.std.proofs.Common.{arith};
-    ghost use Rattle.pg_wire.specs.Reading.{sparse_value_at};
+    ghost use Rattle.pg_wire.specs.Mirrors.Reading.{sparse_value_at};
     ghost use Rattle.pg_wire.specs.Well.{IsSparseValue};
 
     type Item = SparseValue;
@@ -407,7 +407,7 @@ impl Form for SparseValueForm {
 
     ghost IsItem = { IsSparseValue };
 
-    #[tactic(auto, unfolding(crate::specs::Reading::sparse_value_at))]
+    #[tactic(auto, unfolding(crate::specs::Mirrors::Reading::sparse_value_at))]
     fn read(
         alloc: Global,
         width: u32,

@@ -1,6 +1,6 @@
 //! Reads frames from bytes.
 ghost use Rattle.std.specs.Prelude.{◌≡◌, ◌≢◌, ◌⊎◌, Ok, Err, IfOk, IfErr, ◌↔◌};
-ghost use Rattle.pg_wire.specs.Reading.{Gives, setup_at, vertices_at, values_at, sparse_at, go_at, report_at, frame_at, body_at};
+ghost use Rattle.pg_wire.specs.Mirrors.Reading.{Gives, setup_at, vertices_at, values_at, sparse_at, go_at, report_at, frame_at, body_at};
 ghost use Rattle.pg_wire.specs.Spelling.{body};
 ghost use Rattle.pg_wire.specs.Well.{IsWell};
 ghost use Rattle.pg_wire.specs.Bytes.{Spells, IsTooLong, IsTruncated};
@@ -17,7 +17,7 @@ use std::alloc::Global;
 /// The limit of a frame's length, which counts the bytes after it.
 pub const LONGEST: u32 = 16_777_216;
 
-#[tactic(auto, unfolding(crate::specs::Reading::setup_at))]
+#[tactic(auto, unfolding(crate::specs::Mirrors::Reading::setup_at))]
 fn setup(alloc: Global, bytes: &[u8]) -> Result<(Setup, &[u8]), ReadFault>
     ensures { Gives (λ x. (x.0, x.1.now)) result (setup_at bytes.now) }
 {
@@ -34,7 +34,7 @@ fn setup(alloc: Global, bytes: &[u8]) -> Result<(Setup, &[u8]), ReadFault>
     ))
 }
 
-#[tactic(auto, unfolding(crate::specs::Reading::vertices_at))]
+#[tactic(auto, unfolding(crate::specs::Mirrors::Reading::vertices_at))]
 fn vertices(alloc: Global, bytes: &[u8]) -> Result<(Vertices, &[u8]), ReadFault>
     ensures { Gives (λ x. (x.0, x.1.now)) result (vertices_at bytes.now) }
 {
@@ -42,7 +42,7 @@ fn vertices(alloc: Global, bytes: &[u8]) -> Result<(Vertices, &[u8]), ReadFault>
     Ok((Vertices { lines }, rest))
 }
 
-#[tactic(auto, unfolding(crate::specs::Reading::values_at))]
+#[tactic(auto, unfolding(crate::specs::Mirrors::Reading::values_at))]
 fn values(alloc: Global, bytes: &[u8]) -> Result<(Values, &[u8]), ReadFault>
     ensures { Gives (λ x. (x.0, x.1.now)) result (values_at bytes.now) }
 {
@@ -51,7 +51,7 @@ fn values(alloc: Global, bytes: &[u8]) -> Result<(Values, &[u8]), ReadFault>
     Ok((Values { width, values }, rest))
 }
 
-#[tactic(auto, unfolding(crate::specs::Reading::sparse_at))]
+#[tactic(auto, unfolding(crate::specs::Mirrors::Reading::sparse_at))]
 fn sparse(alloc: Global, bytes: &[u8]) -> Result<(Sparse, &[u8]), ReadFault>
     ensures { Gives (λ x. (x.0, x.1.now)) result (sparse_at bytes.now) }
 {
@@ -60,7 +60,7 @@ fn sparse(alloc: Global, bytes: &[u8]) -> Result<(Sparse, &[u8]), ReadFault>
     Ok((Sparse { width, values }, rest))
 }
 
-#[tactic(auto, unfolding(crate::specs::Reading::go_at))]
+#[tactic(auto, unfolding(crate::specs::Mirrors::Reading::go_at))]
 fn go(bytes: &[u8]) -> Result<(Go, &[u8]), ReadFault>
     ensures { Gives (λ x. (x.0, x.1.now)) result (go_at bytes.now) }
 {
@@ -68,7 +68,7 @@ fn go(bytes: &[u8]) -> Result<(Go, &[u8]), ReadFault>
     Ok((Go { budget }, rest))
 }
 
-#[tactic(auto, unfolding(crate::specs::Reading::report_at))]
+#[tactic(auto, unfolding(crate::specs::Mirrors::Reading::report_at))]
 fn report(bytes: &[u8]) -> Result<(Report, &[u8]), ReadFault>
     ensures { Gives (λ x. (x.0, x.1.now)) result (report_at bytes.now) }
 {
@@ -77,7 +77,7 @@ fn report(bytes: &[u8]) -> Result<(Report, &[u8]), ReadFault>
     Ok((Report { status, code }, rest))
 }
 
-#[tactic(auto, unfolding(crate::specs::Reading::frame_at))]
+#[tactic(auto, unfolding(crate::specs::Mirrors::Reading::frame_at))]
 fn frame(alloc: Global, kind: u8, bytes: &[u8]) -> Result<(Frame, &[u8]), ReadFault>
     ensures { Gives (λ x. (x.0, x.1.now)) result (frame_at kind bytes.now) }
 {
@@ -112,7 +112,7 @@ fn frame(alloc: Global, kind: u8, bytes: &[u8]) -> Result<(Frame, &[u8]), ReadFa
 }
 
 /// The frame that all of the bytes after a length give.
-#[tactic(auto, unfolding(crate::specs::Reading::body_at))]
+#[tactic(auto, unfolding(crate::specs::Mirrors::Reading::body_at))]
 fn whole(alloc: Global, bytes: &[u8]) -> Result<Frame, ReadFault>
     ensures { Gives (λ x. x) result (body_at bytes.now) }
 {

@@ -4,7 +4,7 @@ ghost use Rattle.std.specs.List.{flat_map};
 ghost use Rattle.std.specs.Io.KnownBytes.{Appends};
 ghost use Rattle.pg_wire.specs.Spelling.{word, counted, spelling, body, longest};
 ghost use Rattle.pg_wire.specs.Well.{IsWell};
-ghost use Rattle.pg_wire.specs.Reading.{HasBytes};
+ghost use Rattle.pg_wire.specs.Mirrors.Reading.{HasBytes};
 ghost use Rattle.pg_wire.specs.declared.fault.WireFault.TheVariants.{TooLong, OutOfMemory};
 
 use crate::fault::WireFault;

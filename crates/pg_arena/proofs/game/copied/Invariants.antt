@@ -1,5 +1,5 @@
 use Rattle.std.proofs.Common.{◌≡◌, take}
-use Rattle.pg_arena.specs.Entries.{texts}
+use Rattle.pg_arena.specs.Mirrors.Entries.{texts}
 use Rattle.pg_arena.proofs.game.copied.Given as goal
 
 abbrev pub invariant-loop-name : goal.invariant-loop-name

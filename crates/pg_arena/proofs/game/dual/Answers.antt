@@ -1,6 +1,6 @@
 use Rattle.std.proofs.Common.{◌≡◌, ◌∙◌, map, subst, sym, ap, rules}
 use Rattle.pg_arena.specs.Games.{HasPrioritiesUpTo, dual}
-use Rattle.pg_arena.specs.Entries.{texts, dual_entry}
+use Rattle.pg_arena.specs.Mirrors.Entries.{texts, dual_entry}
 use Rattle.pg_arena.proofs.Dualling.{dual_vertices, dual_built, small_entries}
 use Rattle.pg_arena.proofs.game.dual.Goals as goal
 

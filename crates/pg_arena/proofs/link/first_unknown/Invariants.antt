@@ -1,5 +1,5 @@
 use Rattle.std.proofs.Common.{◌≡◌, drop}
-use Rattle.pg_arena.specs.Links.{first_unknown_in}
+use Rattle.pg_arena.specs.Mirrors.Links.{first_unknown_in}
 use Rattle.pg_arena.proofs.link.first_unknown.Given as goal
 
 abbrev pub invariant-loop-entry : goal.invariant-loop-entry

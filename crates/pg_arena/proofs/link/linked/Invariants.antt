@@ -1,5 +1,5 @@
 use Rattle.std.proofs.Common.{take}
-use Rattle.pg_arena.specs.Links.{AreLinked}
+use Rattle.pg_arena.specs.Mirrors.Links.{AreLinked}
 use Rattle.pg_arena.proofs.link.linked.Given as goal
 
 abbrev pub invariant-loop-target : goal.invariant-loop-target

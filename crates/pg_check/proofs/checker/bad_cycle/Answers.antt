@@ -1,5 +1,5 @@
 use Rattle.std.proofs.Common.{rules, ◌≡◌, length, arith, sym, subst}
-use Rattle.pg_check.specs.Rounds.{HoldsRounds}
+use Rattle.pg_check.specs.Mirrors.Rounds.{HoldsRounds}
 use Rattle.pg_check.proofs.Sifting.{none_left, all_hold}
 use Rattle.pg_check.proofs.checker.bad_cycle.Goals as goal
 

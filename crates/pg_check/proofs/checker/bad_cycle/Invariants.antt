@@ -1,6 +1,6 @@
 use Rattle.std.proofs.Common.{◌≡◌, ◌<◌, length}
 use Rattle.std.specs.List.{All}
-use Rattle.pg_check.specs.Rounds.{HoldsRounds}
+use Rattle.pg_check.specs.Mirrors.Rounds.{HoldsRounds}
 use Rattle.pg_check.proofs.checker.bad_cycle.Given as goal
 
 abbrev pub invariant-rounds : goal.invariant-rounds

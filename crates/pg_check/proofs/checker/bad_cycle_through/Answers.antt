@@ -4,7 +4,7 @@ use Rattle.std.specs.declared.alloc.Global.{Global}
 use Rattle.std.specs.declared.alloc.AllocError.{AllocError}
 use Rattle.pg_arena.specs.Games.{GameVertex}
 use Rattle.pg_text.specs.declared.answer.Answer.{Answer}
-use Rattle.pg_check.specs.Rounds.{IsLost, IsSimpleRound}
+use Rattle.pg_check.specs.Mirrors.Rounds.{IsLost, IsSimpleRound}
 use Rattle.pg_check.specs.Verdicts.{IsSimpleBadCycle}
 use Rattle.pg_check.proofs.Checking.{bad_cycle_of}
 use Rattle.pg_check.proofs.checker.bad_cycle_through.Goals as goal

@@ -1,6 +1,6 @@
 use Rattle.std.proofs.Common.{rules}
 use Rattle.pg_check.specs.Soundness.{NoneLeaves}
-use Rattle.pg_check.specs.Rounds.{HasNoBadRound}
+use Rattle.pg_check.specs.Mirrors.Rounds.{HasNoBadRound}
 use Rattle.pg_check.specs.Verdicts.{IsLeastLeaving, IsSimpleBadCycle}
 use Rattle.pg_check.proofs.Checking.{sound_of, unsound_by_edge, unsound_by_cycle}
 use Rattle.pg_check.proofs.checker.check.Goals as goal

@@ -1,6 +1,6 @@
 use Rattle.std.proofs.Common.{rules, ◌≡◌, ◌<◌, ◌≤◌, [], ◌∷◌, ◌++◌, length, get_or, reverse, ap, sym, subst, ◌∙◌, arith}
 use Rattle.std.proofs.lemmas.List.{get_or_read, reverse-append}
-use Rattle.pg_check.specs.Rounds.{IsSimpleRound, IsTrail}
+use Rattle.pg_check.specs.Mirrors.Rounds.{IsSimpleRound, IsTrail}
 use Rattle.pg_check.proofs.Trails.{way_begins, way_steps, way_ends}
 use Rattle.pg_check.proofs.rounds.round_through.Goals as goal
 

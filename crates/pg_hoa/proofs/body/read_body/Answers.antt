@@ -1,9 +1,9 @@
 use Rattle.std.proofs.Common.{◌≡◌, ◌∙◌, ap, [], ◌∷◌, map, Bool, true, false, Some, get_or}
 use Rattle.std.proofs.lemmas.Result.{err_from_is_err_and}
 use Rattle.std.proofs.lemmas.List.{map-append}
-use Rattle.pg_hoa.specs.Scan.{lex, lexeme}
-use Rattle.pg_hoa.specs.Kept.{kept_line}
-use Rattle.pg_hoa.specs.BodyScan.{begins_line, body_at}
+use Rattle.pg_hoa.specs.Mirrors.Scan.{lex, lexeme}
+use Rattle.pg_hoa.specs.Mirrors.Kept.{kept_line}
+use Rattle.pg_hoa.specs.Mirrors.BodyScan.{begins_line, body_at}
 use Rattle.pg_hoa.proofs.BodyTurns.{lines_start, lines_unread, lines_fail, lines_end, line_fails, lines_more, lines_smaller}
 use Rattle.pg_hoa.proofs.body.read_body.Goals as goal
 

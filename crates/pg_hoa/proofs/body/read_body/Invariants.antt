@@ -1,8 +1,8 @@
 use Rattle.std.proofs.Common.{length}
 use Rattle.std.specs.Prelude.{map}
-use Rattle.pg_hoa.specs.Scan.{lex}
-use Rattle.pg_hoa.specs.Kept.{kept_line}
-use Rattle.pg_hoa.specs.BodyScan.{body_at}
+use Rattle.pg_hoa.specs.Mirrors.Scan.{lex}
+use Rattle.pg_hoa.specs.Mirrors.Kept.{kept_line}
+use Rattle.pg_hoa.specs.Mirrors.BodyScan.{body_at}
 use Rattle.pg_hoa.proofs.BodyTurns.{LinesLeft}
 use Rattle.pg_hoa.proofs.body.read_body.Given as goal
 

@@ -1,9 +1,9 @@
 use Rattle.std.proofs.Common.{◌≡◌, ◌∙◌, ap, [], ◌∷◌, map, Bool, true, false, Some}
 use Rattle.std.proofs.lemmas.Result.{err_from_is_err_and}
 use Rattle.std.proofs.lemmas.List.{map-append}
-use Rattle.pg_hoa.specs.Scan.{lex, lexeme}
-use Rattle.pg_hoa.specs.Kept.{kept_edge}
-use Rattle.pg_hoa.specs.BodyScan.{begins_edge, edges_at}
+use Rattle.pg_hoa.specs.Mirrors.Scan.{lex, lexeme}
+use Rattle.pg_hoa.specs.Mirrors.Kept.{kept_edge}
+use Rattle.pg_hoa.specs.Mirrors.BodyScan.{begins_edge, edges_at}
 use Rattle.pg_hoa.proofs.BodyTurns.{edges_start, edges_unread, edges_fail, edges_end, edge_fails, edges_more, edges_smaller}
 use Rattle.pg_hoa.proofs.body.read_edges.Goals as goal
 

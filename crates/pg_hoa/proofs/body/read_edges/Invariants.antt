@@ -1,8 +1,8 @@
 use Rattle.std.proofs.Common.{length}
 use Rattle.std.specs.Prelude.{map}
-use Rattle.pg_hoa.specs.Scan.{lex}
-use Rattle.pg_hoa.specs.Kept.{kept_edge}
-use Rattle.pg_hoa.specs.BodyScan.{edges_at}
+use Rattle.pg_hoa.specs.Mirrors.Scan.{lex}
+use Rattle.pg_hoa.specs.Mirrors.Kept.{kept_edge}
+use Rattle.pg_hoa.specs.Mirrors.BodyScan.{edges_at}
 use Rattle.pg_hoa.proofs.BodyTurns.{EdgesLeft}
 use Rattle.pg_hoa.proofs.body.read_edges.Given as goal
 

@@ -1,7 +1,7 @@
 use Rattle.std.proofs.Common.{◌≡◌, ◌∙◌, ap, sym, ℕ, List, Option, Some}
 use Rattle.std.proofs.lemmas.Result.{err_from_is_err_and}
-use Rattle.pg_hoa.specs.Scan.{lex, lexeme}
-use Rattle.pg_hoa.specs.BodyScan.{set_in, sets_at}
+use Rattle.pg_hoa.specs.Mirrors.Scan.{lex, lexeme}
+use Rattle.pg_hoa.specs.Mirrors.BodyScan.{set_in, sets_at}
 use Rattle.pg_hoa.proofs.BodyTurns.{ahead, due_shorter, sets_unread, sets_fail, sets_more, sets_end}
 use Rattle.pg_hoa.proofs.body.read_sets.Goals as goal
 

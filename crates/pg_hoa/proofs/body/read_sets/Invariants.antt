@@ -1,6 +1,6 @@
 use Rattle.std.proofs.Common.{◌≡◌, length}
-use Rattle.pg_hoa.specs.Scan.{lex}
-use Rattle.pg_hoa.specs.BodyScan.{sets_at}
+use Rattle.pg_hoa.specs.Mirrors.Scan.{lex}
+use Rattle.pg_hoa.specs.Mirrors.BodyScan.{sets_at}
 use Rattle.pg_hoa.proofs.BodyTurns.{ahead}
 use Rattle.pg_hoa.proofs.body.read_sets.Given as goal
 

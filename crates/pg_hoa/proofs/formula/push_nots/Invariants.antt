@@ -1,5 +1,5 @@
 use Rattle.std.proofs.Common.{◌≡◌, ◌++◌}
-use Rattle.pg_hoa.specs.FormulaRun.{not_ops}
+use Rattle.pg_hoa.specs.Mirrors.FormulaRun.{not_ops}
 use Rattle.pg_hoa.proofs.formula.push_nots.Given as goal
 
 abbrev pub invariant-loop : goal.invariant-loop

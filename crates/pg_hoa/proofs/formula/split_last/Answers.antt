@@ -1,5 +1,5 @@
 use Rattle.std.proofs.Common.{◌∙◌, ap, sym}
-use Rattle.pg_hoa.specs.FormulaRun.{split_last}
+use Rattle.pg_hoa.specs.Mirrors.FormulaRun.{split_last}
 use Rattle.pg_hoa.proofs.Frames.{split_pushed}
 use Rattle.pg_hoa.proofs.formula.split_last.Goals as goal
 

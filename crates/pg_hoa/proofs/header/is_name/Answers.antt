@@ -2,7 +2,7 @@ use Rattle.std.proofs.Common.{◌≡◌, ◌∙◌, sym, rules, tests}
 use Rattle.std.specs.List.{list_all}
 use Rattle.std.proofs.lemmas.Iterator.{YieldsList-from_slice}
 use Rattle.std.proofs.lemmas.Iterator.Search.{all_from_yields_List}
-use Rattle.pg_hoa.specs.HeaderScan.{is_name_byte}
+use Rattle.pg_hoa.specs.Mirrors.HeaderScan.{is_name_byte}
 use Rattle.pg_hoa.proofs.HeaderTurns.{name_is}
 use Rattle.pg_hoa.proofs.header.is_name.Goals as goal
 

@@ -4,8 +4,8 @@ use Rattle.std.specs.Prelude.{option_map}
 use Rattle.pg_hoa.specs.declared.token.Token.{Token}
 use Rattle.pg_hoa.specs.declared.token.Token.TheVariants as tokens
 use Rattle.pg_hoa.specs.Lexemes.{Lexeme, header, body}
-use Rattle.pg_hoa.specs.Scan.{lex, lexeme, first}
-use Rattle.pg_hoa.specs.Kept.{kept_head}
+use Rattle.pg_hoa.specs.Mirrors.Scan.{lex, lexeme, first}
+use Rattle.pg_hoa.specs.Mirrors.Kept.{kept_head}
 use Rattle.pg_hoa.proofs.HeaderSteps.{IsElse, headers_fail, headers_end, headers_more, header_fails, fewer, headers_refused, opening_fails, version_fails, headers_begin}
 use Rattle.pg_hoa.proofs.header.read_headers.Goals as goal
 

@@ -1,7 +1,7 @@
 use Rattle.std.proofs.Common.{◌≡◌, length}
-use Rattle.pg_hoa.specs.Scan.{lex}
-use Rattle.pg_hoa.specs.Kept.{kept_head}
-use Rattle.pg_hoa.specs.HeaderScan.{headers_from, headers_at}
+use Rattle.pg_hoa.specs.Mirrors.Scan.{lex}
+use Rattle.pg_hoa.specs.Mirrors.Kept.{kept_head}
+use Rattle.pg_hoa.specs.Mirrors.HeaderScan.{headers_from, headers_at}
 use Rattle.pg_hoa.proofs.header.read_headers.Given as goal
 
 -- what is left, with the head so far, gives the same

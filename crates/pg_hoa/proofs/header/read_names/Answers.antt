@@ -1,8 +1,8 @@
 use Rattle.std.proofs.Common.{◌∙◌, ◌-◌, ◌+◌, sym, ap, map, List, [], ◌∷◌, ℕ, arith, Vec, Global}
 use Rattle.std.proofs.lemmas.List.{map-append}
 use Rattle.std.proofs.lemmas.Result.{err_from_is_err_and}
-use Rattle.pg_hoa.specs.Scan.{lex}
-use Rattle.pg_hoa.specs.HeaderScan.{names_from}
+use Rattle.pg_hoa.specs.Mirrors.Scan.{lex}
+use Rattle.pg_hoa.specs.Mirrors.HeaderScan.{names_from}
 use Rattle.pg_hoa.proofs.HeaderTurns.{names_fail, names_more, names_end}
 use Rattle.pg_hoa.proofs.header.read_names.Goals as goal
 

@@ -1,6 +1,6 @@
 use Rattle.std.proofs.Common.{◌≡◌, ◌-◌, [], map}
-use Rattle.pg_hoa.specs.Scan.{lex}
-use Rattle.pg_hoa.specs.HeaderScan.{names_from}
+use Rattle.pg_hoa.specs.Mirrors.Scan.{lex}
+use Rattle.pg_hoa.specs.Mirrors.HeaderScan.{names_from}
 use Rattle.pg_hoa.proofs.header.read_names.Given as goal
 
 -- the names that are left, behind those so far, give the same

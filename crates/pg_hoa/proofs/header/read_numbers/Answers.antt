@@ -2,8 +2,8 @@ use Rattle.std.proofs.Common.{◌∙◌, sym, ap, map, List, [], ◌∷◌, ℕ}
 use Rattle.std.proofs.lemmas.List.{map-append}
 use Rattle.std.proofs.lemmas.Result.{err_from_is_err_and}
 use Rattle.std.specs.Prelude.{option_map}
-use Rattle.pg_hoa.specs.Scan.{lex, lexeme}
-use Rattle.pg_hoa.specs.HeaderScan.{numbers_from}
+use Rattle.pg_hoa.specs.Mirrors.Scan.{lex, lexeme}
+use Rattle.pg_hoa.specs.Mirrors.HeaderScan.{numbers_from}
 use Rattle.pg_hoa.proofs.HeaderTurns.{numbers_fail, numbers_more, numbers_end, number_taken}
 use Rattle.pg_hoa.proofs.header.read_numbers.Goals as goal
 

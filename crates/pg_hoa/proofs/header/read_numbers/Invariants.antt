@@ -1,6 +1,6 @@
 use Rattle.std.proofs.Common.{◌≡◌, [], length, map}
-use Rattle.pg_hoa.specs.Scan.{lex}
-use Rattle.pg_hoa.specs.HeaderScan.{numbers_from}
+use Rattle.pg_hoa.specs.Mirrors.Scan.{lex}
+use Rattle.pg_hoa.specs.Mirrors.HeaderScan.{numbers_from}
 use Rattle.pg_hoa.proofs.header.read_numbers.Given as goal
 
 -- what is left, with the numbers so far, gives the same

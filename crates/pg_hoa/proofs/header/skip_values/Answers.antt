@@ -1,7 +1,7 @@
 use Rattle.std.proofs.Common.{◌∙◌, sym}
 use Rattle.std.proofs.lemmas.Result.{err_from_is_err_and}
 use Rattle.std.specs.Prelude.{option_map}
-use Rattle.pg_hoa.specs.Scan.{lex, lexeme}
+use Rattle.pg_hoa.specs.Mirrors.Scan.{lex, lexeme}
 use Rattle.pg_hoa.proofs.HeaderTurns.{skipped_fail, skipped_more, skipped_end, value_taken}
 use Rattle.pg_hoa.proofs.header.skip_values.Goals as goal
 

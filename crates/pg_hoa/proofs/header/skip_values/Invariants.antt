@@ -1,6 +1,6 @@
 use Rattle.std.proofs.Common.{◌≡◌, length}
-use Rattle.pg_hoa.specs.Scan.{lex}
-use Rattle.pg_hoa.specs.HeaderScan.{skipped_from}
+use Rattle.pg_hoa.specs.Mirrors.Scan.{lex}
+use Rattle.pg_hoa.specs.Mirrors.HeaderScan.{skipped_from}
 use Rattle.pg_hoa.proofs.header.skip_values.Given as goal
 
 -- what is left gives the same

@@ -1,5 +1,5 @@
 use Rattle.std.proofs.Common.{◌≡◌, ◌++◌, length, map}
-use Rattle.pg_hoa.specs.Scan.{characters}
+use Rattle.pg_hoa.specs.Mirrors.Scan.{characters}
 use Rattle.pg_hoa.specs.AutomatonText.{character_code}
 use Rattle.pg_hoa.proofs.header.unescaped.Given as goal
 

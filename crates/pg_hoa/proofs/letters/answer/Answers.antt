@@ -1,5 +1,5 @@
 use Rattle.std.proofs.Common.{◌∙◌, ◌∷◌, ap, cond, false, true}
-use Rattle.pg_hoa.specs.Letters.{truths}
+use Rattle.pg_hoa.specs.Mirrors.Letters.{truths}
 use Rattle.pg_hoa.proofs.TableWords.{truth_all, truth_not, answers_not, answers_both, answers_either}
 use Rattle.pg_hoa.proofs.letters.answer.Goals as goal
 

@@ -1,6 +1,6 @@
 use Rattle.std.proofs.Common.{◌∙◌, ap, refl, arith}
-use Rattle.pg_hoa.specs.Saying.{run}
-use Rattle.pg_hoa.specs.Letters.{on_at, truths}
+use Rattle.pg_hoa.specs.Mirrors.Saying.{run}
+use Rattle.pg_hoa.specs.Mirrors.Letters.{on_at, truths}
 use Rattle.pg_hoa.proofs.TableWords.{truths_none, step_run}
 use Rattle.pg_hoa.proofs.letters.word_of.Goals as goal
 

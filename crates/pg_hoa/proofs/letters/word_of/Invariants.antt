@@ -1,6 +1,6 @@
 use Rattle.std.proofs.Common.{◌≡◌, ℕ, ◌<◌, [], drop}
-use Rattle.pg_hoa.specs.Saying.{run}
-use Rattle.pg_hoa.specs.Letters.{on_at, truths}
+use Rattle.pg_hoa.specs.Mirrors.Saying.{run}
+use Rattle.pg_hoa.specs.Mirrors.Letters.{on_at, truths}
 use Rattle.pg_hoa.proofs.letters.word_of.Given as goal
 
 -- what is left to do leaves the same

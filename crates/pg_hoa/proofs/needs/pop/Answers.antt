@@ -1,7 +1,7 @@
 use Rattle.std.proofs.Common.{◌≡◌, [], sym, subst, arith}
 use Rattle.std.proofs.lemmas.List.{nil_from_length}
-use Rattle.pg_hoa.specs.Saying.{top, under}
-use Rattle.pg_hoa.specs.Needs.{AllowsStack}
+use Rattle.pg_hoa.specs.Mirrors.Saying.{top, under}
+use Rattle.pg_hoa.specs.Mirrors.Needs.{AllowsStack}
 use Rattle.pg_hoa.proofs.TableNeeds.{popped_allows, none_allows, any_allows}
 use Rattle.pg_hoa.proofs.needs.pop.Goals as goal
 

@@ -6,12 +6,12 @@ use Rattle.std.specs.declared.vec.Vec.{Vec}
 use Rattle.std.specs.declared.alloc.Global.{Global}
 use Rattle.std.specs.Prelude.{vec_len}
 use Rattle.pg_hoa.specs.declared.body.Line.{Line}
-use Rattle.pg_hoa.specs.Kept.{KeptLine, kept_line}
-use Rattle.pg_hoa.specs.Settling.{settled as said}
-use Rattle.pg_hoa.specs.Settling.{Settled}
-use Rattle.pg_hoa.specs.Readings.{CanAssemble, kept_states}
+use Rattle.pg_hoa.specs.Mirrors.Kept.{KeptLine, kept_line}
+use Rattle.pg_hoa.specs.Mirrors.Settling.{settled as said}
+use Rattle.pg_hoa.specs.Mirrors.Settling.{Settled}
+use Rattle.pg_hoa.specs.Mirrors.Readings.{CanAssemble, kept_states}
 use Rattle.std.specs.List.{All}
-use Rattle.pg_hoa.specs.Views.{viewed}
+use Rattle.pg_hoa.specs.Mirrors.Views.{viewed}
 use Rattle.pg_hoa.proofs.Rows.{next_viewed}
 use Rattle.pg_hoa.proofs.Assembling.{table_assembles, table_is_automaton, conflict_never}
 use Rattle.pg_hoa.proofs.reader.assembled.Goals as goal

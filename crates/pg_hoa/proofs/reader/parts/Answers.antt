@@ -2,12 +2,12 @@ use Rattle.std.proofs.Common.{◌≡◌, ◌∙◌, sym, subst, ℕ, List, map, 
 use Rattle.std.proofs.lemmas.List.{length-map}
 use Rattle.std.proofs.lemmas.Result.{err_from_is_err_and}
 use Rattle.pg_hoa.specs.Lexemes.{Lexeme}
-use Rattle.pg_hoa.specs.Scan.{lex}
-use Rattle.pg_hoa.specs.Kept.{kept_head, kept_line}
-use Rattle.pg_hoa.specs.Settling.{settled}
-use Rattle.pg_hoa.specs.BodyScan.{body_at}
-use Rattle.pg_hoa.specs.Steps.{Fails}
-use Rattle.pg_hoa.specs.Readings.{bound}
+use Rattle.pg_hoa.specs.Mirrors.Scan.{lex}
+use Rattle.pg_hoa.specs.Mirrors.Kept.{kept_head, kept_line}
+use Rattle.pg_hoa.specs.Mirrors.Settling.{settled}
+use Rattle.pg_hoa.specs.Mirrors.BodyScan.{body_at}
+use Rattle.pg_hoa.specs.Mirrors.Steps.{Fails}
+use Rattle.pg_hoa.specs.Mirrors.Readings.{bound}
 use Rattle.pg_hoa.proofs.ReadParts.{head_condition, few_names, few_states, headers_never, settle_never, body_never, end_never, all_read}
 use Rattle.pg_hoa.proofs.reader.parts.Goals as goal
 

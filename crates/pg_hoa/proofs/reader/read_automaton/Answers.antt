@@ -1,10 +1,10 @@
 use Rattle.std.proofs.Common.{sym, subst, List, length, map}
 use Rattle.std.specs.Prelude.{IfOk, IfErr}
 use Rattle.pg_hoa.specs.declared.body.Line.{Line}
-use Rattle.pg_hoa.specs.Scan.{lex}
-use Rattle.pg_hoa.specs.Kept.{kept_line}
-use Rattle.pg_hoa.specs.Settling.{settled as said}
-use Rattle.pg_hoa.specs.Readings.{CanAssemble, Assembles, NeverAssembles, IsRefused}
+use Rattle.pg_hoa.specs.Mirrors.Scan.{lex}
+use Rattle.pg_hoa.specs.Mirrors.Kept.{kept_line}
+use Rattle.pg_hoa.specs.Mirrors.Settling.{settled as said}
+use Rattle.pg_hoa.specs.Mirrors.Readings.{CanAssemble, Assembles, NeverAssembles, IsRefused}
 use Rattle.pg_hoa.proofs.ReadParts.{reads_can}
 use Rattle.pg_hoa.proofs.Refusing.{refusal_refused, whole_found, whole_refused}
 use Rattle.pg_hoa.proofs.reader.read_automaton.Goals as goal

@@ -1,7 +1,7 @@
 use Rattle.std.proofs.Common.{◌≡◌, ◌+◌, ◌==◌, ◌∙◌, ℕ, Bool, List, [], ◌∷◌, ◌++◌, map, ap, refl, arith}
 use Rattle.std.specs.List.{list_any}
 use Rattle.std.proofs.lemmas.List.FromFn.{map-range_with_len_more}
-use Rattle.pg_hoa.specs.Settling.{marked}
+use Rattle.pg_hoa.specs.Mirrors.Settling.{marked}
 use Rattle.pg_hoa.proofs.settle.marked.Goals as goal
 
 any_map : (p : ℕ) (xs : List (ℕ × ℕ)) → list_any (λ n. n == p) (map {A = ℕ × ℕ} {B = ℕ} (λ x. x.0) xs) ≡ list_any (λ (x : ℕ × ℕ). x.0 == p) xs

@@ -1,5 +1,5 @@
 use Rattle.std.proofs.Common.{◌≡◌, ℕ, map}
-use Rattle.pg_hoa.specs.Settling.{marked}
+use Rattle.pg_hoa.specs.Mirrors.Settling.{marked}
 use Rattle.pg_hoa.proofs.settle.marked.Given as goal
 
 abbrev pub invariant-loop-proposition : goal.invariant-loop-proposition

@@ -2,8 +2,8 @@ use Rattle.std.proofs.Common.{◌≡◌, ◌∙◌, ◌<◌, ℕ, length, map, L
 use Rattle.std.specs.List.{All}
 use Rattle.std.proofs.lemmas.List.{length-map}
 use Rattle.pg_hoa.specs.declared.formula.Op.{Op}
-use Rattle.pg_hoa.specs.Kept.{kept_head, option_with}
-use Rattle.pg_hoa.specs.Settling.{HasCondition, listed}
+use Rattle.pg_hoa.specs.Mirrors.Kept.{kept_head, option_with}
+use Rattle.pg_hoa.specs.Mirrors.Settling.{HasCondition, listed}
 use Rattle.pg_hoa.proofs.Settles.{opened, below_numbers, numbers_below, no_shape}
 use Rattle.pg_hoa.proofs.settle.settle.Goals as goal
 

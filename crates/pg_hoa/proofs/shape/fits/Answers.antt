@@ -1,6 +1,6 @@
 use Rattle.std.proofs.Common.{◌<◌, ◌∙◌, arith, List, Option, Some, None}
 use Rattle.pg_hoa.specs.declared.formula.Op.{Op}
-use Rattle.pg_hoa.specs.ShapeRun.{fits_at}
+use Rattle.pg_hoa.specs.Mirrors.ShapeRun.{fits_at}
 use Rattle.pg_hoa.proofs.ShapeSteps.{fits_turn, fits_innermost}
 use Rattle.pg_hoa.proofs.shape.fits.Goals as goal
 

@@ -1,5 +1,5 @@
 use Rattle.std.proofs.Common.{◌≡◌, ◌<◌, ◌-◌}
-use Rattle.pg_hoa.specs.ShapeRun.{set_at, wanted_at, nests_at}
+use Rattle.pg_hoa.specs.Mirrors.ShapeRun.{set_at, wanted_at, nests_at}
 use Rattle.pg_hoa.proofs.shape.fits.Given as goal
 
 -- what is left nests as the whole does

@@ -1,5 +1,5 @@
 use Rattle.std.proofs.Common.{◌∙◌, ap, sym}
-use Rattle.pg_hoa.specs.ShapeRun.{inner_at}
+use Rattle.pg_hoa.specs.Mirrors.ShapeRun.{inner_at}
 use Rattle.pg_hoa.proofs.ShapeSteps.{inner_is, inner_none}
 use Rattle.pg_hoa.proofs.shape.inner.Goals as goal
 

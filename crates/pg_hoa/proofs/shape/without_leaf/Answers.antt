@@ -1,5 +1,5 @@
 use Rattle.std.proofs.Common.{◌≡◌, ◌∙◌, ap, sym, false}
-use Rattle.pg_hoa.specs.ShapeRun.{without_leaf}
+use Rattle.pg_hoa.specs.Mirrors.ShapeRun.{without_leaf}
 use Rattle.pg_hoa.proofs.ShapeSteps.{leaf_first, takes_before, takes_none}
 use Rattle.pg_hoa.proofs.shape.without_leaf.Goals as goal
 

@@ -1,6 +1,6 @@
 use Rattle.std.proofs.Common.{◌≡◌, ℕ, ◌∙◌, ◌+◌, ◌*◌, ◌++◌, sym, ap, arith}
 use Rattle.std.proofs.lemmas.List.{append-nil}
-use Rattle.pg_hoa.specs.Tables.{stage, way_step, at_word, at_letters}
+use Rattle.pg_hoa.specs.Mirrors.Tables.{stage, way_step, at_word, at_letters}
 use Rattle.pg_hoa.proofs.TableFilling.{adds_none, adds_same, adds_then}
 use Rattle.pg_hoa.proofs.TablePlaces.{no_letters, more_letters, empty_word}
 use Rattle.pg_hoa.proofs.table.add_edge.Goals as goal

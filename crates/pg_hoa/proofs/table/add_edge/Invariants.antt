@@ -1,5 +1,5 @@
 use Rattle.std.proofs.Common.{◌*◌}
-use Rattle.pg_hoa.specs.Tables.{stage, way_step, Adds, at_letters, MayNumber}
+use Rattle.pg_hoa.specs.Mirrors.Tables.{stage, way_step, Adds, at_letters, MayNumber}
 use Rattle.pg_hoa.proofs.table.add_edge.Given as goal
 
 abbrev pub invariant-loop-block : goal.invariant-loop-block

@@ -1,8 +1,8 @@
 use Rattle.std.proofs.Common.{◌≡◌, ◌∙◌, ◌+◌, ◌*◌, ◌%◌, ◌++◌, ◌^◌, ◌<◌, map, take, get_or, length, ap, arith}
 use Rattle.std.proofs.lemmas.Nat.{shl_whole, pow_pos}
 use Rattle.pg_hoa.specs.AutomatonText.{rising}
-use Rattle.pg_hoa.specs.Kept.{kept_edge}
-use Rattle.pg_hoa.specs.Tables.{stage, step, at_line, at_letters, put_all}
+use Rattle.pg_hoa.specs.Mirrors.Kept.{kept_edge}
+use Rattle.pg_hoa.specs.Mirrors.Tables.{stage, step, at_line, at_letters, put_all}
 use Rattle.pg_hoa.proofs.TableFilling.{adds_none, adds_then}
 use Rattle.pg_hoa.proofs.TablePuts.{put_all_none, put_all_rising}
 use Rattle.pg_hoa.proofs.TablePlaces.{line_of, no_edges, edge_added, more_items}

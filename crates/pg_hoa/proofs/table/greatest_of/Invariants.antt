@@ -1,5 +1,5 @@
 use Rattle.std.proofs.Common.{◌≡◌, drop, map, max, fold}
-use Rattle.pg_hoa.specs.Kept.{KeptEdge, kept_edge}
+use Rattle.pg_hoa.specs.Mirrors.Kept.{KeptEdge, kept_edge}
 use Rattle.pg_hoa.proofs.table.greatest_of.Given as goal
 
 -- what is left gives the same

@@ -1,6 +1,6 @@
 use Rattle.std.proofs.Common.{◌∙◌, ◌∷◌, [], sym, refl, ap, map}
 use Rattle.std.proofs.lemmas.List.{append-nil, map-append}
-use Rattle.pg_hoa.specs.Tables.{stage}
+use Rattle.pg_hoa.specs.Mirrors.Tables.{stage}
 use Rattle.pg_hoa.proofs.TableNumbers.{extends_by}
 use Rattle.pg_hoa.proofs.table.place_of.Goals as goal
 

@@ -1,5 +1,5 @@
 use Rattle.std.proofs.Common.{◌≡◌, drop}
-use Rattle.pg_hoa.specs.Tables.{put_all}
+use Rattle.pg_hoa.specs.Mirrors.Tables.{put_all}
 use Rattle.pg_hoa.proofs.table.put_all.Given as goal
 
 -- what is left to put gives the same

@@ -1,7 +1,7 @@
 use Rattle.std.proofs.Common.{◌≡◌, drop, map, max, fold}
 use Rattle.std.specs.List.{flat_map}
-use Rattle.pg_hoa.specs.Kept.{kept_line}
-use Rattle.pg_hoa.specs.Tables.{kept_numbers}
+use Rattle.pg_hoa.specs.Mirrors.Kept.{kept_line}
+use Rattle.pg_hoa.specs.Mirrors.Tables.{kept_numbers}
 use Rattle.pg_hoa.proofs.table.states_named.Given as goal
 
 -- what is left gives the same

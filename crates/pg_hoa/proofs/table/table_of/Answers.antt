@@ -1,8 +1,8 @@
 use Rattle.std.proofs.Common.{◌≡◌, ◌∙◌, ◌+◌, ◌*◌, ◌%◌, ◌/◌, ◌^◌, ℕ, map, take, length, sym, refl, ap, subst, arith}
 use Rattle.std.proofs.lemmas.Nat.{one_shl, pow_pos}
 use Rattle.std.proofs.lemmas.List.{take_all}
-use Rattle.pg_hoa.specs.Kept.{kept_line}
-use Rattle.pg_hoa.specs.Tables.{stage, at_line, at_lines, IsFirstConflict}
+use Rattle.pg_hoa.specs.Mirrors.Kept.{kept_line}
+use Rattle.pg_hoa.specs.Mirrors.Tables.{stage, at_line, at_lines, IsFirstConflict}
 use Rattle.pg_hoa.proofs.TableFilling.{adds_then}
 use Rattle.pg_hoa.proofs.TablePlaces.{more_lines, more_items}
 use Rattle.pg_hoa.proofs.TableAnswers.{found_table, first_conflict, all_filled}

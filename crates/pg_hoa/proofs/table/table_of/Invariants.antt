@@ -1,6 +1,6 @@
 use Rattle.std.proofs.Common.{◌^◌, take, map}
-use Rattle.pg_hoa.specs.Kept.{kept_line}
-use Rattle.pg_hoa.specs.Tables.{stage, Adds, at_lines}
+use Rattle.pg_hoa.specs.Mirrors.Kept.{kept_line}
+use Rattle.pg_hoa.specs.Mirrors.Tables.{stage, Adds, at_lines}
 use Rattle.pg_hoa.proofs.table.table_of.Given as goal
 
 -- the steps of the lines so far

@@ -2,7 +2,7 @@ use Rattle.std.proofs.Common.{◌≡◌, ◌∙◌, sym, ap, Some, Option, ℕ, 
 use Rattle.std.proofs.lemmas.Result.{err_from_is_err_and}
 use Rattle.std.specs.Prelude.{option_map}
 use Rattle.std.specs.Borrow.{Bor}
-use Rattle.pg_hoa.specs.Scan.{gap_step}
+use Rattle.pg_hoa.specs.Mirrors.Scan.{gap_step}
 use Rattle.pg_hoa.proofs.Gaps.{gap_takes, gap_next, gap_ends, gap_fails}
 use Rattle.pg_hoa.proofs.token.blanks.Goals as goal
 

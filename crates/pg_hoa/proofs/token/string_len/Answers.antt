@@ -1,6 +1,6 @@
 use Rattle.std.proofs.Common.{◌≡◌, ◌∙◌, ap, sym, Some, None, Option, ℕ, List, Bor, ◌+◌, arith}
 use Rattle.std.specs.Prelude.{option_map}
-use Rattle.pg_hoa.specs.Scan.{character_at, string_len}
+use Rattle.pg_hoa.specs.Mirrors.Scan.{character_at, string_len}
 use Rattle.pg_hoa.proofs.Strings.{further, further_more, character_takes, string_fails, string_ends}
 use Rattle.pg_hoa.proofs.token.string_len.Goals as goal
 

@@ -2,7 +2,7 @@ use Rattle.std.proofs.Common.{◌≡◌, ◌∙◌, ap, subst, Some, None, ◌++
 use Rattle.std.proofs.lemmas.Result.{err_from_is_err_and}
 use Rattle.pg_arena.specs.Lines.{counted, Answers, add_fault}
 use Rattle.pg_text.specs.declared.line.TextLine.{TextLine}
-use Rattle.pg_text.specs.GameScan.{line_seen, item_seen}
+use Rattle.pg_text.specs.Mirrors.GameScan.{line_seen, item_seen}
 use Rattle.pg_text.proofs.Building.{more, finishes, fails_body, fails_item, fails_add}
 use Rattle.pg_text.proofs.Takes.{item_shrinks}
 use Rattle.pg_text.proofs.game.builder_of.Goals as goal

@@ -1,7 +1,7 @@
 use Rattle.std.proofs.Common.{◌∙◌, ap, Some}
 use Rattle.std.proofs.lemmas.Result.{err_from_is_err_and}
 use Rattle.pg_text.specs.declared.line.AfterSuccessor.{AfterSuccessor}
-use Rattle.pg_text.specs.GameScan.{step_seen, behind_at, successors_at}
+use Rattle.pg_text.specs.Mirrors.GameScan.{step_seen, behind_at, successors_at}
 use Rattle.std.specs.Prelude.{option_copied}
 use Rattle.pg_text.proofs.Items.{goes_on, ends, fails}
 use Rattle.pg_text.proofs.Takes.{behind_shrinks}

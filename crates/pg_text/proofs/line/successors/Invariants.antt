@@ -1,6 +1,6 @@
 use Rattle.std.proofs.Common.{◌≡◌, length}
-use Rattle.pg_text.specs.GameScan.{behind_at, successors_at}
-use Rattle.pg_text.specs.Steps.{items_at}
+use Rattle.pg_text.specs.Mirrors.GameScan.{behind_at, successors_at}
+use Rattle.pg_text.specs.Mirrors.Steps.{items_at}
 use Rattle.pg_text.proofs.Items.{with_front}
 use Rattle.pg_text.proofs.line.successors.Given as goal
 

@@ -1,6 +1,6 @@
 use Rattle.std.proofs.Common.{ap, sym, refl, ◌∙◌, inl, inr}
 use Rattle.pg_text.specs.Lexemes.{lexeme}
-use Rattle.pg_text.specs.SolutionReading.{is_seen}
+use Rattle.pg_text.specs.Mirrors.SolutionReading.{is_seen}
 use Rattle.pg_text.proofs.Takes.{natural_takes, owner_takes}
 use Rattle.pg_text.proofs.Answering.{unmarked_here, unmarked_nowhere}
 use Rattle.pg_text.proofs.Misfits.{well_numberless, well_cut, well_here, moves_unwon, moves_unnamed, moves_named, unread_number, not_both}

@@ -1,7 +1,7 @@
 use Rattle.std.proofs.Common.{◌≡◌, ◌≤◌, ◌+◌, ◌*◌, ◌++◌, ◌∷◌, [], length, vec_len, vec_capacity, min, ◌/◌, ◌∙◌, rules, arith}
 use Rattle.std.proofs.Math.Nat.{sub-zero}
 use Rattle.std.proofs.lemmas.Result.{err_from_is_err_and}
-use Rattle.pg_wire.specs.Reading.{items_at}
+use Rattle.pg_wire.specs.Mirrors.Reading.{items_at}
 use Rattle.pg_wire.proofs.Loop.{goes_on, ends, is_done, starts, room_left, room_used, room_fits}
 use Rattle.pg_wire.proofs.form.items.Goals as goal
 

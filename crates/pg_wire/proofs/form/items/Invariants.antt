@@ -1,5 +1,5 @@
 use Rattle.std.proofs.Common.{◌≡◌, ◌-◌, ◌+◌, ◌*◌, ◌≤◌, length, vec_len, vec_capacity}
-use Rattle.pg_wire.specs.Reading.{items_at}
+use Rattle.pg_wire.specs.Mirrors.Reading.{items_at}
 use Rattle.pg_wire.proofs.Loop.{with_front}
 use Rattle.pg_wire.proofs.form.items.Given as goal
 

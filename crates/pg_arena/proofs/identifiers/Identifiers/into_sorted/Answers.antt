@@ -4,7 +4,7 @@ use Rattle.std.specs.BTreeSet.{BTreeSet}
 use Rattle.std.specs.List.Sorted.{IsNonDecreasing}
 use Rattle.std.proofs.lemmas.List.Sorted.{IsNonDecreasingBy-from_sort}
 use Rattle.std.proofs.lemmas.Map.Keys.{sorted_from_strictly_increasing, non_decreasing_from_sorted}
-use Rattle.pg_arena.specs.Entries.{AreTold}
+use Rattle.pg_arena.specs.Mirrors.Entries.{AreTold}
 use Rattle.pg_arena.proofs.identifiers.Identifiers.into_sorted.Goals as goal
 use Rattle.pg_arena.proofs.identifiers.Identifiers.into_sorted.Goals.{then-is_some, else-is_some}
 

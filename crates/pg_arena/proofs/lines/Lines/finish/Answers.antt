@@ -7,7 +7,7 @@ use Rattle.std.proofs.lemmas.List.{length-map}
 use Rattle.std.proofs.lemmas.Option.{MatchOption-at_some, MatchOption-at_none}
 use Rattle.std.proofs.lemmas.List.Sorted.{length_permutation}
 use Rattle.pg_arena.specs.declared.entry.Entry.{Entry}
-use Rattle.pg_arena.specs.Links.{AreLinked, HasUnknown, first_unknown_in}
+use Rattle.pg_arena.specs.Mirrors.Links.{AreLinked, HasUnknown, first_unknown_in}
 use Rattle.pg_arena.proofs.Finishing.{ready, finished, built}
 use Rattle.pg_arena.proofs.Dualling.{small_vertices}
 use Rattle.pg_arena.proofs.Unknown.{least_unknown, some_unknown}

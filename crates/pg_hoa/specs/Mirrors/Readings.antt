@@ -8,11 +8,11 @@ use Rattle.pg_hoa.specs.declared.fault.HoaFault.TheVariants.{OutOfMemory, NotDet
 use Rattle.pg_hoa.specs.Lexemes.{Lexeme}
 use Rattle.pg_hoa.specs.Automata.{Automaton, letters, rows, next}
 use Rattle.pg_hoa.specs.AutomatonText.{Agree, head, Spelt, IsUndetermined}
-use Rattle.pg_hoa.specs.Kept.{KeptHead, KeptLine}
-use Rattle.pg_hoa.specs.HeaderScan.{headers_at}
-use Rattle.pg_hoa.specs.BodyScan.{body_at}
-use Rattle.pg_hoa.specs.Settling.{Settled, IsSettled}
-use Rattle.pg_hoa.specs.Tables.{kept_steps, kept_count, IsFirstConflict}
+use Rattle.pg_hoa.specs.Mirrors.Kept.{KeptHead, KeptLine}
+use Rattle.pg_hoa.specs.Mirrors.HeaderScan.{headers_at}
+use Rattle.pg_hoa.specs.Mirrors.BodyScan.{body_at}
+use Rattle.pg_hoa.specs.Mirrors.Settling.{Settled, IsSettled}
+use Rattle.pg_hoa.specs.Mirrors.Tables.{kept_steps, kept_count, IsFirstConflict}
 
 -- a state's number is below this
 abbrev pub bound : Option ℕ → ℕ

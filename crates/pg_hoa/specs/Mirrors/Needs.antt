@@ -3,7 +3,7 @@ use Rattle.std.specs.Prelude.{◌≡◌, ℕ, ◌==◌, Bool, true, false, List,
 use Rattle.std.specs.Int.{bit_at}
 use Rattle.pg_hoa.specs.declared.needs.Bits.{Bits}
 use Rattle.pg_hoa.specs.declared.needs.Need.{Need}
-use Rattle.pg_hoa.specs.Saying.{top, under}
+use Rattle.pg_hoa.specs.Mirrors.Saying.{top, under}
 
 abbrev pub on_letter : ℕ → ℕ → Bool
 on_letter letter a = bit_at letter a == 1

@@ -5,7 +5,7 @@ use Rattle.std.specs.declared.alloc.Global.{Global}
 use Rattle.pg_hoa.specs.declared.shape.Shape.{Shape}
 use Rattle.pg_hoa.specs.declared.table.Table.{Table}
 use Rattle.pg_hoa.specs.Automata.{Automaton, rows}
-use Rattle.pg_hoa.specs.Tables.{next}
+use Rattle.pg_hoa.specs.Mirrors.Tables.{next}
 
 abbrev pub viewed : ℕ → List (Vec ℕ Global) → List Bool → ℕ → Shape → Table → Automaton
 viewed start names controllable sets shape table = record {

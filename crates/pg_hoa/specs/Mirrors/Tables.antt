@@ -10,11 +10,11 @@ use Rattle.pg_hoa.specs.declared.table.Filling.{Filling}
 use Rattle.pg_hoa.specs.declared.table.Way.{Way}
 use Rattle.pg_hoa.specs.declared.table.Table.{Table}
 use Rattle.pg_hoa.specs.declared.formula.Op.{Op}
-use Rattle.pg_hoa.specs.Steps.{◌>>=◌}
+use Rattle.pg_hoa.specs.Mirrors.Steps.{◌>>=◌}
 use Rattle.pg_hoa.specs.Automata.{Step, deciding}
 use Rattle.pg_hoa.specs.AutomatonText.{Agree, head, put, rising}
-use Rattle.pg_hoa.specs.Kept.{KeptEdge, KeptLine}
-use Rattle.pg_hoa.specs.Saying.{says}
+use Rattle.pg_hoa.specs.Mirrors.Kept.{KeptEdge, KeptLine}
+use Rattle.pg_hoa.specs.Mirrors.Saying.{says}
 
 abbrev pub step : ℕ → List ℕ → Step
 step target sets = record { target = target; sets = sets }

@@ -3,11 +3,11 @@ use Rattle.std.specs.Prelude.{ℕ, suc, zero, Bool, true, false, ◌==◌, nat_l
 use Rattle.std.specs.List.{list_any}
 use Rattle.std.specs.Str.{bytes_eq}
 use Rattle.pg_hoa.specs.Lexemes.{Lexeme, number, header, string, end, left_bracket, right_bracket, left_brace, right_brace, ampersand}
-use Rattle.pg_hoa.specs.Scan.{first}
-use Rattle.pg_hoa.specs.Steps.{◌>>=◌}
+use Rattle.pg_hoa.specs.Mirrors.Scan.{first}
+use Rattle.pg_hoa.specs.Mirrors.Steps.{◌>>=◌}
 use Rattle.pg_hoa.specs.declared.formula.Kind.TheVariants.{Label}
-use Rattle.pg_hoa.specs.FormulaRun.{ops_at}
-use Rattle.pg_hoa.specs.Kept.{KeptEdge, KeptLine}
+use Rattle.pg_hoa.specs.Mirrors.FormulaRun.{ops_at}
+use Rattle.pg_hoa.specs.Mirrors.Kept.{KeptEdge, KeptLine}
 
 -- the token that has to stand first, and what follows
 unfoldable pub due : List Lexeme → Option (Lexeme × List Lexeme)

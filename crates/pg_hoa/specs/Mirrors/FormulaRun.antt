@@ -11,7 +11,7 @@ use Rattle.pg_hoa.specs.declared.formula.Kind.{Kind}
 use Rattle.pg_hoa.specs.declared.formula.Kind.TheVariants.{Label, Condition}
 use Rattle.pg_hoa.specs.declared.formula.Reading.{Reading}
 use Rattle.pg_hoa.specs.Lexemes.{Lexeme, number, identifier, left_paren, right_paren, bang, ampersand, bar, stray}
-use Rattle.pg_hoa.specs.Steps.{◌>>=◌}
+use Rattle.pg_hoa.specs.Mirrors.Steps.{◌>>=◌}
 
 -- operands before their operators
 abbrev pub postfix : Formula → List Op

@@ -7,10 +7,10 @@ use Rattle.pg_hoa.specs.declared.settle.Settled as read_settled
 use Rattle.pg_hoa.specs.declared.fault.Refusal.{Refusal}
 use Rattle.pg_hoa.specs.declared.fault.Refusal.TheVariants.{Memory, Wrong}
 use Rattle.pg_hoa.specs.Lexemes.{Lexeme}
-use Rattle.pg_hoa.specs.FormulaRun.{postfix}
+use Rattle.pg_hoa.specs.Mirrors.FormulaRun.{postfix}
 use Rattle.pg_hoa.specs.Formulas.{Formula}
 use Rattle.pg_hoa.specs.Shapes.{HasShape}
-use Rattle.pg_hoa.specs.Kept.{KeptHead}
+use Rattle.pg_hoa.specs.Mirrors.Kept.{KeptHead}
 
 pub record Settled : Type 0 where
   pub states : Option ℕ

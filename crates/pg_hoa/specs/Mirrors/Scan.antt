@@ -4,7 +4,7 @@ use Rattle.std.specs.Str.{bytes_eq}
 use Rattle.std.specs.List.{prefix_len, take_while}
 use Rattle.pg_hoa.specs.declared.token.Token.{Token}
 use Rattle.pg_hoa.specs.declared.token.Token.TheVariants as tokens
-use Rattle.pg_hoa.specs.Steps.{◌>>=◌}
+use Rattle.pg_hoa.specs.Mirrors.Steps.{◌>>=◌}
 use Rattle.pg_hoa.specs.Lexemes.{Lexeme, number, identifier, header, string, alias, body, end, abort, left_bracket, right_bracket, left_brace, right_brace, left_paren, right_paren, bang, ampersand, bar, stray, Character, plain, escaped, is_space, is_digit, is_letter, is_inner, is_colon, value_of}
 
 -- the characters of a string's content

@@ -2,9 +2,9 @@
 use Rattle.std.specs.Prelude.{ℕ, List, [], ◌∷◌, Option, Some, None, codes}
 use Rattle.pg_text.specs.declared.solution_line.SolutionLine.{SolutionLine}
 use Rattle.pg_text.specs.Lexemes.{Lexeme, number, semicolon, end}
-use Rattle.pg_text.specs.Steps.{◌>>=◌, Step, item, stop, items_at}
-use Rattle.pg_text.specs.Scan.{token_at}
-use Rattle.pg_text.specs.GameScan.{owner_at, semicolon_at, clause_at}
+use Rattle.pg_text.specs.Mirrors.Steps.{◌>>=◌, Step, item, stop, items_at}
+use Rattle.pg_text.specs.Mirrors.Scan.{token_at}
+use Rattle.pg_text.specs.Mirrors.GameScan.{owner_at, semicolon_at, clause_at}
 
 abbrev pub strategy_in : Lexeme × List ℕ → Option (Option ℕ × List ℕ)
 strategy_in (number n, rest) = semicolon_at rest >>= λ after. Some (Some n, after)

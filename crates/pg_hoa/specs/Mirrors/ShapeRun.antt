@@ -5,7 +5,7 @@ use Rattle.pg_hoa.specs.declared.formula.Op.TheVariants.{Yes, No, Inf, Fin, Both
 use Rattle.pg_hoa.specs.declared.shape.Shape.{Shape}
 use Rattle.pg_hoa.specs.declared.shape.Shape.TheVariants.{MaxEven, MaxOdd, MinEven, MinOdd, Always, Never}
 use Rattle.pg_hoa.specs.Shapes.{is_even}
-use Rattle.pg_hoa.specs.Steps.{◌>>=◌}
+use Rattle.pg_hoa.specs.Mirrors.Steps.{◌>>=◌}
 
 -- the set round which so many others stand inside
 abbrev pub set_at : Shape → ℕ → ℕ → ℕ

@@ -8,8 +8,8 @@ use Rattle.pg_text.specs.declared.line.TextLine.{TextLine}
 use Rattle.pg_text.specs.declared.line.AfterSuccessor.{AfterSuccessor}
 use Rattle.pg_text.specs.declared.line.AfterSuccessor.TheVariants.{Successor, LineEnd}
 use Rattle.pg_text.specs.Lexemes.{Lexeme, number, word, semicolon, comma, quoted, end}
-use Rattle.pg_text.specs.Steps.{◌>>=◌, Step, item, stop, items_at}
-use Rattle.pg_text.specs.Scan.{token_at}
+use Rattle.pg_text.specs.Mirrors.Steps.{◌>>=◌, Step, item, stop, items_at}
+use Rattle.pg_text.specs.Mirrors.Scan.{token_at}
 
 -- a line without where it lies in memory
 abbrev pub line_seen : List ℕ → TextLine → Line

@@ -4,7 +4,7 @@ use Rattle.pg_hoa.specs.declared.formula.Op.{Op}
 use Rattle.pg_hoa.specs.declared.body.Edge as read_edge
 use Rattle.pg_hoa.specs.declared.body.Line as read_line
 use Rattle.pg_hoa.specs.declared.header.Head as read_head
-use Rattle.pg_hoa.specs.FormulaRun.{postfix}
+use Rattle.pg_hoa.specs.Mirrors.FormulaRun.{postfix}
 use Rattle.pg_hoa.specs.AutomatonText.{Edge, StateLine, set_list}
 
 pub record KeptEdge : Type 0 where
