@@ -9,12 +9,11 @@ words for the program. A run over the limit is ended, and its case isn't repeate
 import argparse
 import os
 import subprocess
+import sys
 import tempfile
 import time
 
-import families
-
-top = os.path.dirname(os.path.dirname(os.path.abspath(__file__)))
+here = os.path.dirname(os.path.abspath(__file__))
 
 # command, family and sizes
 CASES = """
@@ -52,7 +51,7 @@ check hubs 1000000 20
 
 def options():
     words = argparse.ArgumentParser(description=__doc__, formatter_class=argparse.RawDescriptionHelpFormatter)
-    words.add_argument("program", nargs="?", default=os.path.join(top, "crates/parsolve/out/parsolve"))
+    words.add_argument("program", nargs="?", default=os.path.join(os.path.dirname(here), "crates/parsolve/out/parsolve"))
     words.add_argument("--only", default="")
     words.add_argument("--repeats", type=int, default=3)
     words.add_argument("--limit", type=float, default=60)
@@ -83,16 +82,19 @@ def best(words, source, given):
     return min(runs)
 
 
-def prepare(source, command, family, a, b, given):
-    """Writes the input of a case, and answers whether that was possible within the limit: `check` needs a solution."""
-    with open(source, "w") as out:
-        families.write(out, family, a, b)
+def prepare(source, command, sizes, given):
+    """Writes the input of a case, and answers whether that was possible within the limit: `check` needs a solution. This
+    is left to other processes, since the peak of a run is at least what the process that starts it has had."""
+    with open(source, "wb") as out:
+        subprocess.run([sys.executable, os.path.join(here, "families.py"), *sizes], stdout=out, check=True)
     if command != "check":
         return True
-    with open(source, "rb") as game:
-        solved = subprocess.run(["timeout", str(given.limit), given.program, "solve"], stdin=game, stdout=subprocess.PIPE)
+    with open(source, "rb") as game, open(source + ".solution", "wb") as out:
+        solved = subprocess.run(["timeout", str(given.limit), given.program, "solve"], stdin=game, stdout=out)
     with open(source, "ab") as out:
-        out.write(b"--\n" + solved.stdout)
+        out.write(b"--\n")
+        out.flush()
+        subprocess.run(["cat", source + ".solution"], stdout=out, check=True)
     return solved.returncode == 0
 
 
@@ -102,10 +104,10 @@ def main():
     with tempfile.TemporaryDirectory() as folder:
         source = os.path.join(folder, "input")
         for case in CASES.strip().split("\n"):
-            command, family, a, b = case.split()
+            command, *sizes = case.split()
             if given.only not in case:
                 continue
-            is_ready = prepare(source, command, family, int(a), int(b), given)
+            is_ready = prepare(source, command, sizes, given)
             size = os.path.getsize(source) / 1e6
             ran = best([given.program, command, *given.words.split()], source, given) if is_ready else None
             if ran is None:
