@@ -97,7 +97,7 @@ def defined(name, path):
 
 def entries():
     """The same for each name of docs/definitions.md, whose headings name the crates."""
-    for crate, section in re.findall(r"^## .*\(`(\w+)`\)\n(.*?)(?=^## |\Z)", DEFINITIONS.read_text(), re.M | re.S):
+    for crate, section in re.findall(r"^## [^\n]*\(`(\w+)`\)\n(.*?)(?=^## |\Z)", DEFINITIONS.read_text(), re.M | re.S):
         for row in re.findall(r"^\| `.*", section, re.M):
             names, files = (re.findall(r"`([^`]+)`", cell) for cell in row.split(" | ")[:2])
             paths = [CRATES / crate / "specs" / file for file in files]
