@@ -7,8 +7,9 @@ coded.
     bench/programs.py frame_speed       encode, decode and read_frame on frames of a million numbers
     bench/programs.py hoa_speed         read_automaton on automata of many states, and of many letters
 
-A program is a crate of one file, `NAME.rt.txt`; it is built in a copy of the repository's crates, which proves those below
-it, so the first run takes some minutes. A folder as a second word keeps the copy for the next run.
+A program is a crate of one file, `NAME.rt.txt`; it is built in a copy of the repository's crates, with what was proved of
+them, so that no more than the program and what isn't proved yet is proved. A folder as a second word keeps the copy for the
+next run.
 """
 import pathlib
 import random
@@ -26,7 +27,7 @@ LINES = 1_000_000
 def build(name, copy):
     """The program, built in a copy of the repository's crates."""
     for crate in (TOP / "crates").iterdir():
-        for part in ("src", "specs", "proofs"):
+        for part in ("src", "specs", "proofs", "out"):
             if (crate / part).is_dir():
                 target = copy / "crates" / crate.name / part
                 shutil.rmtree(target, ignore_errors=True)
