@@ -126,7 +126,7 @@ no_lost_cycle player game f g v rest p within path greatest parity =
     let o = odd_greatest player game p (v ∷ rest) within greatest parity in
     no_odd_cycle (map_of player f g).bounds (priority (game_of player game)) (lists (map_of player f g)) v rest o.0 path o.1 o.2
 
-path_map : (Step Step' : ℕ → ℕ → Type 0) → (Q : ℕ → Type 0) → ((v w : ℕ) → Q v → Step v w → Step' v w × Q w)
+pub path_map : (Step Step' : ℕ → ℕ → Type 0) → (Q : ℕ → Type 0) → ((v w : ℕ) → Q v → Step v w → Step' v w × Q w)
     → (v : ℕ) (rest : List ℕ) → Q v → IsPath Step v rest → IsPath Step' v rest
 path_map Step Step' Q f v [] q h = tt
 path_map Step Step' Q f v (w ∷ rest) q h =
@@ -360,12 +360,12 @@ module _ (game : List GameVertex) (f g : MapValue) (is_game : IsGame game) (clos
       done : ⊥
       done = elim (repeat_or_few (length game) (λ _. true) part within) [
         | inl r ↦
-            let round = r.twice ∷ (r.between ++ r.twice ∷ r.after) in
-            let inside : All (λ u. u < length game) round =
-            all_later (λ u. u < length game) r.before round (subst (All (λ u. u < length game)) r.splits within)
+            let cycle = r.twice ∷ (r.between ++ r.twice ∷ r.after) in
+            let inside : All (λ u. u < length game) cycle =
+            all_later (λ u. u < length game) r.before cycle (subst (All (λ u. u < length game)) r.splits within)
             in no_cycle r.twice r.between (all_front (λ u. u < length game) (r.twice ∷ r.between) (r.twice ∷ r.after) inside)
             (path_upto BothFall r.twice r.between r.twice r.after
-            (way_later BothFall r.before round (subst (IsWay BothFall) r.splits way)))
+            (way_later BothFall r.before cycle (subst (IsWay BothFall) r.splits way)))
         | inr le ↦
             let e = count_everything play 0 (suc (length game)) in
             omega (arith, le, e)

@@ -19,10 +19,10 @@ use Rattle.pg_check.proofs.Falls.{Falls, no_odd_cycle}
 use Rattle.pg_check.proofs.Certified.{lists, map_falls, some_edge_serves, each_edge_serves}
 
 module _ (game : List GameVertex) (f : MapValue) (is_game : IsGame game) (closed : IsClosed f.bounds (game_line game) f.measures) where
-  abbrev HasListAt : ℕ → Type 0
+  abbrev pub HasListAt : ℕ → Type 0
   HasListAt v = IsSome (measure_at f.measures v)
 
-  abbrev FallsHere : ℕ → ℕ → Type 0
+  abbrev pub FallsHere : ℕ → ℕ → Type 0
   FallsHere = Falls f.bounds (priority game) (lists f)
 
   -- whoever owns the vertex, the edge serves it
@@ -33,7 +33,7 @@ module _ (game : List GameVertex) (f : MapValue) (is_game : IsGame game) (closed
       go Even e = goes.1 e
       go Odd e = each_edge_serves game f closed v w (edge_from game v w goes.0) e goes.0
 
-  falls : (v w : ℕ) → HasListAt v → GoesServed game f v w → HasListAt w × FallsHere v w
+  pub falls : (v w : ℕ) → HasListAt v → GoesServed game f v w → HasListAt w × FallsHere v w
   falls v w s goes = map_falls game f v w s (serves v w goes)
 
   goes_on : (v : ℕ) → v < length game → (w : ℕ) × GoesServed game f v w

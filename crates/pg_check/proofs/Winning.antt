@@ -12,7 +12,7 @@ use Rattle.pg_check.specs.Laws.{SoundIffWins}
 use Rattle.pg_check.proofs.Cycles.{all_unmap, edge_from, sound_from_safe}
 use Rattle.pg_check.proofs.Wins.{wins, player_cases}
 
--- round a cycle for ever
+-- along a cycle for ever
 
 module _ (Step : ℕ → ℕ → Type 0) (v : ℕ) (rest : List ℕ) (closes : IsPath Step v (rest ++ v ∷ [])) where
   -- the vertex after t steps from x, where `ys` is still to come before v

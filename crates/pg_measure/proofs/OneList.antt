@@ -4,10 +4,10 @@ use Rattle.std.specs.Prelude.{AllPairs, Contains}
 use Rattle.pg_measure.specs.Measures.{BoundList}
 use Rattle.pg_measure.specs.Laws.{OneListOfBounds}
 
-abbrev Falls : BoundList → Type 0
+abbrev pub Falls : BoundList → Type 0
 Falls bs = AllPairs (λ b c. c.0 < b.0) bs
 
-falls_after : (b : ℕ × ℕ) (bs : BoundList) → Falls (b ∷ bs) → Falls bs
+pub falls_after : (b : ℕ × ℕ) (bs : BoundList) → Falls (b ∷ bs) → Falls bs
 falls_after b bs f = λ i j d l m. f (suc i) (suc j) d (omega arith) (omega arith)
 
 later : (b : ℕ × ℕ) (bs : BoundList) (x : ℕ × ℕ) → Contains bs x → Contains (b ∷ bs) x
