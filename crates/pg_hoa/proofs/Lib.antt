@@ -1,11 +1,13 @@
 pub mod Assembling
 pub mod BodyLaws
 pub mod BodyTurns
+pub mod Collections
 pub mod FormulaLaws
 pub mod FormulasAgain
 pub mod FormulasTake
 pub mod Frames
 pub mod Gaps
+pub mod GoodSteps
 pub mod HeaderHead
 pub mod HeaderLaws
 pub mod HeaderParts
@@ -21,6 +23,7 @@ pub mod ReadSpelt
 pub mod ReadSpeltHeads
 pub mod ReadSpeltLines
 pub mod Refusing
+pub mod Rising
 pub mod Rows
 pub mod Runs
 pub mod Saying

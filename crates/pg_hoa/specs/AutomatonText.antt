@@ -7,7 +7,7 @@ use Rattle.pg_hoa.specs.declared.formula.Kind.TheVariants.{Label, Condition}
 use Rattle.pg_hoa.specs.Formulas.{Formula, IsWritten, formula_lexemes, holds}
 use Rattle.pg_hoa.specs.Shapes.{HasShape}
 use Rattle.pg_hoa.specs.declared.shape.Shape.{Shape}
-use Rattle.pg_hoa.specs.Automata.{Step, Automaton, letters, rows, next, deciding}
+use Rattle.pg_hoa.specs.Automata.{Step, Automaton, letters, rows, next, deciding, IsPropositionName}
 
 -- ---- headers
 
@@ -151,9 +151,6 @@ head (s ∷ steps) = Some s
 abbrev pub Agree : Shape → List Step → Type 0
 Agree shape steps = All (λ s. All (λ t. (s.target ≡ t.target) × (deciding shape s.sets ≡ deciding shape t.sets)) steps) steps
 
-abbrev pub IsNameByte : ℕ → Type 0
-IsNameByte b = (32 ≤ b) × (b ≢ 127)
-
 abbrev pub AtMostOne : {A : Type 0} → List A → Type 0
 AtMostOne list = length list ≤ 1
 
@@ -183,7 +180,7 @@ pub record Says (w : Written) (a : Automaton) : Type 0 where
   pub start : flat_map starts w.headers ≡ a.start ∷ []
   pub named : AtMostOne (flat_map names w.headers)
   pub propositions : a.propositions ≡ map (λ name. map character_code name) (flat_map (λ x. x) (flat_map names w.headers))
-  pub good_names : AllByRecursion (λ name. (name ≢ []) × AllByRecursion IsNameByte name) a.propositions
+  pub good_names : AllByRecursion IsPropositionName a.propositions
   pub controlled : AtMostOne (flat_map controls w.headers)
   pub controllable : a.controllable ≡ map (λ p. list_any (λ n. n == p) (flat_map (λ x. x) (flat_map controls w.headers))) (range_with_len 0 (length a.propositions))
   pub controls_below : EachBelow (length a.propositions) (flat_map (λ x. x) (flat_map controls w.headers))
