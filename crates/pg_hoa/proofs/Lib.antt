@@ -17,6 +17,7 @@ pub mod HeaderValues
 pub mod Keeping
 pub mod Lexing
 pub mod Numbers
+pub mod OneReading
 pub mod ReadCan
 pub mod ReadParts
 pub mod ReadSpelt

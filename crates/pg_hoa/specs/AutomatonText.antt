@@ -7,6 +7,8 @@ use Rattle.pg_hoa.specs.declared.formula.Kind.TheVariants.{Label, Condition}
 use Rattle.pg_hoa.specs.Formulas.{Formula, IsWritten, formula_lexemes, holds}
 use Rattle.pg_hoa.specs.Shapes.{HasShape}
 use Rattle.pg_hoa.specs.declared.shape.Shape.{Shape}
+use Rattle.pg_hoa.specs.declared.fault.HoaFault.{HoaFault}
+use Rattle.pg_hoa.specs.declared.fault.HoaFault.TheVariants.{OutOfMemory, NotDeterministic}
 use Rattle.pg_hoa.specs.Automata.{Step, Automaton, letters, rows, next, deciding, IsPropositionName}
 
 -- ---- headers
@@ -218,3 +220,20 @@ pub record IsUndetermined (bytes : List ℕ) (state letter : ℕ) : Type 0 where
   pub fails : IsDeterministicAt automaton written.lines state letter → ⊥
   pub before_state : (q l : ℕ) → q < state → l < 2 ^ length automaton.propositions → IsDeterministicAt automaton written.lines q l
   pub before_letter : (l : ℕ) → l < letter → IsDeterministicAt automaton written.lines state l
+
+-- ---- what is refused
+
+-- no automaton is spelt
+abbrev pub SpellsNone : List ℕ → Type 0
+SpellsNone bytes = (a : Automaton) → Spelt bytes a → ⊥
+
+-- the bytes are no text that says an automaton, deterministic or not
+abbrev pub SaysNone : List ℕ → Type 0
+SaysNone bytes = (w : Written) (a : Automaton) → IsText bytes w → Says w a → ⊥
+
+-- Each text may be refused for want of memory. NotDeterministic comes where that alone is wrong, and names where; each other
+-- fault where more is wrong.
+abbrev pub IsRefused : List ℕ → HoaFault → Type 0
+IsRefused bytes OutOfMemory = Unit {0}
+IsRefused bytes (NotDeterministic state letter) = IsUndetermined bytes state letter × SpellsNone bytes
+IsRefused bytes fault = SaysNone bytes × SpellsNone bytes

@@ -9,7 +9,7 @@ use Rattle.pg_hoa.specs.Lexemes.{Lexeme}
 use Rattle.pg_hoa.specs.Formulas.{Formula}
 use Rattle.pg_hoa.specs.Shapes.{FitsShape}
 use Rattle.pg_hoa.specs.Automata.{Automaton, IsPropositionName, IsStepOf, letters, rows, next}
-use Rattle.pg_hoa.specs.AutomatonText.{Agree, head, Spelt, IsUndetermined}
+use Rattle.pg_hoa.specs.AutomatonText.{Agree, head}
 use Rattle.pg_hoa.specs.Mirrors.Kept.{KeptHead, KeptLine}
 use Rattle.pg_hoa.specs.Mirrors.HeaderScan.{headers_at}
 use Rattle.pg_hoa.specs.Mirrors.BodyScan.{body_at}
@@ -80,13 +80,3 @@ abbrev pub NeverAssembles : Settled → List KeptLine → HoaFault → Type 0
 NeverAssembles s lines OutOfMemory = Unit {0}
 NeverAssembles s lines (NotDeterministic state letter) = AreFew s lines × IsFirstConflict s.shape lines (kept_states s lines) (kept_letters s) state letter
 NeverAssembles s lines fault = AreFew s lines → ⊥
-
--- no automaton is spelt
-abbrev pub SpellsNone : List ℕ → Type 0
-SpellsNone bytes = (a : Automaton) → Spelt bytes a → ⊥
-
--- the bytes spell no automaton, if it isn't memory that is wanting; where a state isn't deterministic that alone is wrong
-abbrev pub IsRefused : List ℕ → HoaFault → Type 0
-IsRefused bytes OutOfMemory = Unit {0}
-IsRefused bytes (NotDeterministic state letter) = IsUndetermined bytes state letter × SpellsNone bytes
-IsRefused bytes fault = SpellsNone bytes
