@@ -1,7 +1,7 @@
-use Rattle.std.proofs.Common.{◌≡◌, ap, ◌∙◌}
+use Rattle.std.proofs.Common.{ap, ◌∙◌}
 use Rattle.pg_map.specs.Maps.{zero_map}
 use Rattle.pg_cli.proofs.Measuring.{lifted_from_zeros}
-use Rattle.pg_cli.proofs.measure.least_measure.Goals as goal
+use Rattle.pg_cli.proofs.solver.least_measure.Goals as goal
 
 pub returns : goal.returns
 returns c =

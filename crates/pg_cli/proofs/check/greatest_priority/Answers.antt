@@ -1,9 +1,9 @@
-use Rattle.std.proofs.Common.{◌≡◌, ◌<◌, ℕ, List, length, get_or, map, max, take, sym, ap, ◌∙◌, arith}
+use Rattle.std.proofs.Common.{◌≡◌, ◌<◌, length, get_or, map, max, take, sym, ap, ◌∙◌}
 use Rattle.std.proofs.lemmas.List.{get_or_default}
 use Rattle.pg_arena.specs.Games.{priority}
-use Rattle.pg_cli.specs.Answers.{greatest}
+use Rattle.pg_cli.specs.Checking.{greatest}
 use Rattle.pg_cli.proofs.Verdicts.{greatest_more, ord_max_is}
-use Rattle.pg_cli.proofs.verdict.greatest_priority.Goals as goal
+use Rattle.pg_cli.proofs.check.greatest_priority.Goals as goal
 
 pub loop-v-preserved : goal.loop-v-preserved
 loop-v-preserved c =
