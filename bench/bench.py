@@ -1,81 +1,118 @@
 #!/usr/bin/env python3
-"""Times the program on generated games: seconds and peak memory of each run, the best of three.
+"""Times the program on generated games: the size of the text, and the seconds and the peak memory of the quickest run.
 
-    bench/bench.py [PROGRAM]        PROGRAM is crates/parsolve/out/parsolve where none is given
+    bench/bench.py [PROGRAM] [--only WORD] [--repeats N] [--limit SECONDS] [--words WORDS]
 
-The games are drawn by a generator with a fixed seed, so that two machines time the same texts.
+PROGRAM is crates/parsolve/out/parsolve where none is given. WORD picks the cases whose names have it; WORDS are further
+words for the program. A run over the limit is ended, and its case isn't repeated. The games are those of families.py.
 """
+import argparse
 import os
-import random
 import subprocess
-import sys
 import tempfile
 import time
 
+import families
+
 top = os.path.dirname(os.path.dirname(os.path.abspath(__file__)))
 
+# command, family and sizes
+CASES = """
+measure settled 1000000 4
+measure sparse 10000 20
+measure sparse 100000 40
+measure sparse 1000000 40
+measure elevator 12500 20
+measure grid 1000 6
+measure chain 100000 10
+measure chain 1000000 10
+measure wide 10000 100
+measure wide 100000 200
+measure climb 6 6
+measure climb 7 8
+measure recladder 11 0
+measure random 5000 3
+measure random 200000 2
+measure ladder 1000 0
+measure hubs 1000000 20
+solve ladder 500 0
+solve ladder 2000 0
+solve clique 300 0
+solve clique 2000 0
+solve jurdzinski 4 5
+solve jurdzinski 5 8
+solve random 2000 3
+solve hubs 10000 10
+solve hubs 100000 10
+solve hubs 1000000 20
+check hubs 100000 10
+check hubs 1000000 20
+"""
 
-def harbours(out, vertices, priorities):
-    """A loop that each player wins; half of the vertices may go to their owner's loop, and the others to vertices before
-    them, so that few lifts are needed in the game and in its dual."""
-    dice = random.Random(1)
-    top = priorities + priorities % 2
-    out.write(f"parity {vertices - 1};\n0 {top + 2} 0 0;\n1 {top + 1} 1 1;\n")
-    for v in range(2, vertices):
-        owner, linked = dice.randrange(2), dice.randrange(2) == 1
-        ws = {dice.randrange(vertices) if linked else dice.randrange(v) for _ in range(dice.randrange(1, 4))}
-        ws = sorted(ws | {owner}) if linked else sorted(ws)
-        out.write(f"{v} {dice.randrange(priorities + 1)} {owner} {','.join(map(str, ws))};\n")
+
+def options():
+    words = argparse.ArgumentParser(description=__doc__, formatter_class=argparse.RawDescriptionHelpFormatter)
+    words.add_argument("program", nargs="?", default=os.path.join(top, "crates/parsolve/out/parsolve"))
+    words.add_argument("--only", default="")
+    words.add_argument("--repeats", type=int, default=3)
+    words.add_argument("--limit", type=float, default=60)
+    words.add_argument("--words", default="")
+    return words.parse_args()
 
 
-def settled(out, vertices, priorities):
-    """Every priority is even, so that the time is that of reading and writing."""
-    dice = random.Random(3)
-    out.write(f"parity {vertices - 1};\n")
-    for v in range(vertices):
-        ws = sorted({dice.randrange(vertices) for _ in range(3)})
-        out.write(f"{v} {2 * dice.randrange(priorities)} {dice.randrange(2)} {','.join(map(str, ws))};\n")
-
-
-CASES = [
-    ("measure", settled, 1_000_000, 4),
-    ("measure", harbours, 100_000, 10),
-    ("measure", harbours, 1_000_000, 10),
-    ("solve", harbours, 100_000, 10),
-    ("solve", harbours, 1_000_000, 10),
-    ("check", harbours, 100_000, 10),
-    ("check", harbours, 1_000_000, 10),
-]
-
-
-def once(program, command, source):
-    """(seconds, megabytes at the peak) of one run."""
+def once(words, source, limit):
+    """(seconds, megabytes at the peak) of one run, or None where it took longer than the limit."""
     with open(source, "rb") as text, open(os.devnull, "wb") as sink:
         start = time.time()
-        child = subprocess.Popen([program, command], stdin=text, stdout=sink)
+        child = subprocess.Popen(["timeout", str(limit), *words], stdin=text, stdout=sink)
         _, status, usage = os.wait4(child.pid, 0)
-    child.returncode = os.waitstatus_to_exitcode(status)
+    seconds, child.returncode = time.time() - start, os.waitstatus_to_exitcode(status)
+    if child.returncode == 124:
+        return None
     assert child.returncode == 0, f"status {child.returncode}"
-    return time.time() - start, usage.ru_maxrss / 1024
+    return seconds, usage.ru_maxrss / 1024
+
+
+def best(words, source, given):
+    """The quickest of the runs."""
+    runs = []
+    for _ in range(given.repeats):
+        runs.append(once(words, source, given.limit))
+        if runs[-1] is None:
+            return None
+    return min(runs)
+
+
+def prepare(source, command, family, a, b, given):
+    """Writes the input of a case, and answers whether that was possible within the limit: `check` needs a solution."""
+    with open(source, "w") as out:
+        families.write(out, family, a, b)
+    if command != "check":
+        return True
+    with open(source, "rb") as game:
+        solved = subprocess.run(["timeout", str(given.limit), given.program, "solve"], stdin=game, stdout=subprocess.PIPE)
+    with open(source, "ab") as out:
+        out.write(b"--\n" + solved.stdout)
+    return solved.returncode == 0
 
 
 def main():
-    program = sys.argv[1] if len(sys.argv) > 1 else os.path.join(top, "crates/parsolve/out/parsolve")
-    print(f"{'case':36} {'MB of text':>10} {'seconds':>8} {'MB/s':>7} {'peak MB':>8}")
+    given = options()
+    print(f"{'case':28} {'MB of text':>10} {'seconds':>8} {'MB/s':>7} {'peak MB':>8}")
     with tempfile.TemporaryDirectory() as folder:
-        source = os.path.join(folder, "game.pg")
-        for command, family, vertices, priorities in CASES:
-            with open(source, "w") as out:
-                family(out, vertices, priorities)
-            if command == "check":
-                with open(source, "rb") as game:
-                    solution = subprocess.run([program, "solve"], stdin=game, stdout=subprocess.PIPE, check=True).stdout
-                with open(source, "ab") as out:
-                    out.write(b"--\n" + solution)
+        source = os.path.join(folder, "input")
+        for case in CASES.strip().split("\n"):
+            command, family, a, b = case.split()
+            if given.only not in case:
+                continue
+            is_ready = prepare(source, command, family, int(a), int(b), given)
             size = os.path.getsize(source) / 1e6
-            seconds, peak = min(once(program, command, source) for _ in range(3))
-            name = f"{command} {family.__name__} {vertices} {priorities}"
-            print(f"{name:36} {size:10.1f} {seconds:8.2f} {size / seconds:7.1f} {peak:8.1f}", flush=True)
+            ran = best([given.program, command, *given.words.split()], source, given) if is_ready else None
+            if ran is None:
+                print(f"{case:28} {size:10.2f} over {given.limit:g} seconds", flush=True)
+            else:
+                seconds, peak = ran
+                print(f"{case:28} {size:10.2f} {seconds:8.3f} {size / seconds:7.1f} {peak:8.1f}", flush=True)
 
 
 main()

@@ -1,0 +1,181 @@
+#!/usr/bin/env python3
+"""Families of games of any size, the same on every machine.
+
+    bench/families.py FAMILY A B [SEED]      prints a game; what A and B are, the families below say
+"""
+import sys
+
+
+class Dice:
+    """Numbers that look random: splitmix64."""
+
+    MASK = 2**64 - 1
+
+    def __init__(self, seed):
+        self.state = seed * 0x9E3779B97F4A7C15 & self.MASK ^ 0xD1B54A32D192ED03
+
+    def below(self, n):
+        self.state = z = self.state + 0x9E3779B97F4A7C15 & self.MASK
+        z = (z ^ z >> 30) * 0xBF58476D1CE4E5B9 & self.MASK
+        z = (z ^ z >> 27) * 0x94D049BB133111EB & self.MASK
+        return ((z ^ z >> 31) >> 33) % max(n, 1)
+
+    def between(self, least, most):
+        return least + self.below(most - least + 1)
+
+    def one_in(self, n):
+        return self.below(n) == 0
+
+
+# Each family yields vertices as (priority, owner, successors), by rising identifiers from 0.
+
+
+def settled(a, b, dice):
+    """a vertices of even priorities below 2b, with three successors: no measure rises, so the time is that of the texts"""
+    for _ in range(a):
+        yield 2 * dice.below(b), dice.below(2), [dice.below(a) for _ in range(3)]
+
+
+def climb(a, b, dice):
+    """a odd priorities of b vertices each that Even wins, and a loop of priority 1 that climbs through all lists"""
+    yield 1, 1, [0]
+    yield 2 * a + 2, 0, [1]
+    for i in range(a * b):
+        yield 2 * (i // b) + 1, i % 2, [1]
+
+
+def climbers(a, b, dice):
+    """the same with b chained loops of length 3, in which Odd wins slowly"""
+    yield 2 * a + 2, 0, [0]
+    for i in range(4 * a):
+        yield 2 * (i // 4) + 1, (i + 1) % 2, [0]
+    for i in range(b):
+        first = 1 + 4 * a + 3 * i
+        yield 1, 0, [first + 1, first + 3 if i + 1 < b else first]
+        yield 0, 1, [first + 2]
+        yield 2 * (i % a), 0, [first]
+
+
+def jurdzinski(a, b, dice):
+    """a levels of b blocks, after Jurdzinski's lower bound: measures climb level by level"""
+    def vertex(level, block, place):
+        return (level * b + block) * 3 + place
+    for i in range(a):
+        for j in range(b):
+            right = vertex(i, (j + 1) % b, 0)
+            yield 2 * i + 1, 1, [vertex(i, j, 1), vertex(i - 1 if i > 0 else i, j, 0)]
+            yield 2 * i + 2 if j + 1 == b else 0, 0, [right, vertex(i, j, 2)]
+            yield 2 * i, 0, [vertex(i, j, 1), vertex(i + 1, j, 0) if i + 1 < a else right]
+
+
+def ladder(a, b, dice):
+    """a rungs of two vertices"""
+    for i in range(2 * a):
+        yield i % 2, i % 2, [(i + 1) % (2 * a), (i + 2) % (2 * a)]
+
+
+def clique(a, b, dice):
+    """a vertices, each with its own priority and an edge to each other one"""
+    for i in range(a):
+        yield i, i % 2, [j for j in range(a) if j != i]
+
+
+def recladder(a, b, dice):
+    """a layers of five vertices: the recursive ladder"""
+    for i in range(a):
+        q = 5 * i
+        yield 2 * i + 1, 0, [q + 1, q + 5 if i + 1 < a else q]
+        yield 2 * i + 2, 1, [q, q + 2, q - 5 if i > 0 else q]
+        yield 2 * i, 1, [q + 3, q + 1]
+        yield 2 * i + 1, 0, [q + 4, q - 1 if i > 0 else q + 3]
+        yield 2 * i, 1, [q + 3, q + 1]
+
+
+def elevator(a, b, dice):
+    """b lifts over a floors each; a request has priority 1 and its service 2"""
+    for lift in range(b):
+        for f in range(a):
+            q, first = 4 * (lift * a + f), 4 * lift * a
+            up, down = first + 4 * ((f + 1) % a), first + 4 * ((f + a - 1) % a)
+            yield 0, 1, [q + 1, q + 2]
+            yield 1 if lift == 0 and f % 16 == 3 else 0, 0, [up, down, q + 3]
+            yield 0, 0, [up, first + 4 * ((lift + f) % a)]
+            yield 2, 1, [up, q + 1]
+
+
+def sparse(a, b, dice):
+    """a vertices as of a model checker, mostly of priorities 0 and 2, and b of priority 1 or 3"""
+    game = []
+    for i in range(a):
+        successors = [dice.below(a) if dice.one_in(4) else (i + dice.between(1, 20)) % a for _ in range(dice.between(1, 3))]
+        game.append([2 if dice.one_in(10) else 0, dice.below(2), successors])
+    for k in range(b):
+        game[dice.below(a)][0] = 1 if k % 2 == 0 else 3
+    yield from game
+
+
+def random(a, b, dice):
+    """a vertices of priorities up to b, each with at most four successors"""
+    for _ in range(a):
+        successors = [dice.below(a) for _ in range(dice.between(1, 4))]
+        yield dice.below(b + 1), dice.below(2), successors
+
+
+def chain(a, b, dice):
+    """a cycle of a vertices, b of them of priority 1: a rise runs through all"""
+    ones = {k * 7919 % a for k in range(b)}
+    for i in range(a):
+        yield 1 if i in ones else 0, i % 2, [(i + 1) % a]
+
+
+def grid(a, b, dice):
+    """a by a vertices, the players in turn, priorities up to b, of which few are odd"""
+    for y in range(a):
+        for x in range(a):
+            successors = [y * a + (x + 1) % a, (y + 1) % a * a + x]
+            if dice.one_in(3):
+                successors.append(y * a + (x + a - 1) % a)
+            priority = dice.below(b + 1) if dice.one_in(50) else 0
+            if priority % 2 == 1 and not dice.one_in(1 + a * a // 3000):
+                priority -= 1
+            yield priority, (x + y) % 2, successors
+
+
+def wide(a, b, dice):
+    """a vertices and b odd priorities, so that measures are long; Even reaches a loop of the greatest priority"""
+    yield 2 * b + 2, 0, [0]
+    for i in range(1, a):
+        if dice.one_in(4):
+            yield i * 7919 % (2 * b + 1), 1, [i - dice.below(min(i, 50)) - 1, i - 1]
+        else:
+            yield i * 7919 % (2 * b + 1), 0, [i - 1, 0, dice.below(a)]
+
+
+def hubs(a, b, dice):
+    """a vertices of priorities up to b, every second of which may go to a loop that its owner wins: few lifts in the game
+    and in its dual"""
+    yield b + b % 2 + 2, 0, [0]
+    yield b + b % 2 + 1, 1, [1]
+    for i in range(2, a):
+        owner, linked = dice.below(2), dice.one_in(2)
+        successors = [dice.below(a if linked else i) if linked or dice.one_in(3) else i - 1 - dice.below(min(i, 30))
+                      for _ in range(dice.between(1, 3))]
+        yield dice.below(b + 1), owner, successors + [owner] if linked else successors
+
+
+FAMILIES = {it.__name__: it for it in (settled, climb, climbers, jurdzinski, ladder, clique, recladder, elevator, sparse, random,
+                                       chain, grid, wide, hubs)}
+
+
+def write(out, family, a, b, seed=1):
+    """Writes a game of the family."""
+    game = list(FAMILIES[family](a, b, Dice(seed)))
+    out.write(f"parity {len(game) - 1};\n")
+    for v, (priority, owner, successors) in enumerate(game):
+        out.write(f"{v} {priority} {owner} {','.join(map(str, successors))};\n")
+
+
+if __name__ == "__main__":
+    if len(sys.argv) not in (4, 5) or sys.argv[1] not in FAMILIES:
+        sys.exit(__doc__ + "\n" + "\n".join(f"{name:12} {it.__doc__}" for name, it in FAMILIES.items()))
+    write(sys.stdout, sys.argv[1], *map(int, sys.argv[2:]))

@@ -1,0 +1,186 @@
+"""Checks of ./parsolve and ./build, with a stand-in for the toolchain that proves nothing and notes what it is asked."""
+import os
+import pathlib
+import shutil
+import subprocess
+import sys
+import tempfile
+
+TOP = pathlib.Path(__file__).resolve().parent.parent
+CRATES = {"low": "", "left": "low", "right": "low", "parsolve": "left right", "low_tests": "low"}
+
+RTLIB = '''
+import os, pathlib, time
+def note(text):
+    with open(os.environ["NOTES"], "a") as notes:
+        notes.write(text + "\\n")
+def wait_for(other):
+    # of two libraries side by side neither ends before both have begun
+    notes, kept = pathlib.Path(os.environ["NOTES"]), pathlib.Path(other.folder, "out/stamp")
+    for _ in range(1000):
+        if f"start {other.name}" in notes.read_text() or kept.exists() or "FITS" in os.environ:
+            return
+        time.sleep(0.02)
+class Crate:
+    def __init__(self, folder, deps):
+        self.folder, self.name, self.deps = folder, folder.rpartition("/")[2], deps
+    def below(self):
+        return list(dict.fromkeys(it for dep in self.deps for it in [*dep.below(), dep]))
+    def stamp(self):
+        return "".join(it.stamp() for it in self.deps) + pathlib.Path(self.folder, "src/lib.rt").read_text()
+    def is_built(self):
+        kept = pathlib.Path(self.folder, "out/stamp")
+        return kept.exists() and kept.read_text() == self.stamp()
+    def build_rlib(self, flags, anew):
+        note(f"start {self.name}")
+        for other in self.beside:
+            wait_for(other)
+        note(f"end {self.name}")
+        if "wrong" in self.stamp():
+            print("not proved", file=self.out)
+            return 1
+        pathlib.Path(self.folder, "out/stamp").write_text(self.stamp())
+        return 0
+def crates_below(folder):
+    top, found = pathlib.Path(folder).parent.parent, {}
+    for line in (top / "crates.txt").read_text().splitlines():
+        name, _, uses = line.partition(":")
+        found[name] = Crate(str(top / "crates" / name), [found[it] for it in uses.split()])
+    found["low"].beside, found["left"].beside, found["right"].beside = [], [found["right"]], [found["left"]]
+    return [*found["parsolve"].below(), found["parsolve"]]
+def lock(crates):
+    return []
+def guarded():
+    return []
+def fits(*needs):
+    return len(needs) <= int(os.environ.get("FITS", "4"))
+'''
+RT = '''#!/bin/sh
+echo "run" >> "$NOTES"
+grep -q wrong ../*/src/lib.rt && exit 1
+printf '#!/bin/sh\\necho "$@"\\ncat\\n' > out/parsolve
+chmod +x out/parsolve
+'''
+
+
+class Copy:
+    """A repository of small crates with this one's scripts, in a folder with a blank in its name."""
+
+    def __init__(self, folder):
+        self.top, self.kit, self.notes = folder / "a copy", folder / "kit", folder / "notes"
+        self.kit.mkdir()
+        self.write(self.kit / "rt", RT)
+        self.write(self.kit / "rtlib.py", RTLIB)
+        (self.kit / "rt").chmod(0o755)
+        for name in CRATES:
+            self.write(self.source(name), name)
+        self.write(self.top / "crates.txt", "".join(f"{name}: {uses}\n" for name, uses in CRATES.items()))
+        for name in ("parsolve", "build"):
+            shutil.copy(TOP / name, self.top / name)
+
+    def source(self, crate):
+        return self.top / "crates" / crate / "src/lib.rt"
+
+    def write(self, path, text):
+        path.parent.mkdir(parents=True, exist_ok=True)
+        path.write_text(text)
+
+    def start(self, **more):
+        """Starts ./parsolve from another folder, through a link, with two words and an input."""
+        link = self.top.parent / "link"
+        if not link.is_symlink():
+            link.symlink_to(self.top / "parsolve")
+        path = f"{self.kit}:{os.environ['PATH']}"
+        return subprocess.Popen([link, "solve", "two words"], cwd="/", text=True, stdin=subprocess.PIPE, stdout=subprocess.PIPE,
+                                stderr=subprocess.PIPE, env={**os.environ, "PATH": path, "NOTES": str(self.notes), **more})
+
+    def use(self, **more):
+        """(status, output, error stream, what the toolchain was asked) of one use."""
+        self.notes.write_text("")
+        ran = self.start(**more)
+        output, errors = ran.communicate("the input\n", timeout=60)
+        return ran.returncode, output, errors, self.notes.read_text().split("\n")[:-1]
+
+
+RIGHT = (0, "solve two words\nthe input\n")
+
+
+def first_use(copy):
+    """The libraries are proved, those beside one another at once, and then the program runs."""
+    *ran, _, asked = copy.use()
+    return tuple(ran) == RIGHT and asked[:2] == ["start low", "end low"] and {*asked[2:4]} == {"start left", "start right"} \
+        and asked[6:] == ["run"]
+
+
+def later_uses(copy):
+    """Nothing is asked where nothing changed, nor after a change of a crate of tests."""
+    copy.use()
+    copy.write(copy.source("low_tests"), "changed")
+    return copy.use() == (*RIGHT, "", [])
+
+
+def changes(copy):
+    """After a change of a library it and what stands on it are proved again, and nothing else."""
+    copy.use()
+    copy.write(copy.source("left"), "changed")
+    *ran, _, asked = copy.use()
+    return tuple(ran) == RIGHT and asked == ["start left", "end left", "run"] and copy.use() == (*RIGHT, "", [])
+
+
+def failures(copy):
+    """Where a library isn't proved the status is 1, nothing is printed, and the error stream says where the log is."""
+    copy.write(copy.source("left"), "wrong")
+    status, output, errors, asked = copy.use()
+    log = copy.top / "crates/left/out/build.log"
+    return (status, output) == (1, "") and str(log) in errors and log.read_text() == "not proved\n" and "run" not in asked
+
+
+def little_memory(copy):
+    """Where memory is short the libraries are proved one after the other."""
+    *_, asked = copy.use(FITS="1")
+    return asked == [f"{what} {name}" for name in ("low", "left", "right") for what in ("start", "end")] + ["run"] \
+        or asked == [f"{what} {name}" for name in ("low", "right", "left") for what in ("start", "end")] + ["run"]
+
+
+def at_once(copy):
+    """Of two first uses at once one builds and the other waits; both run the program."""
+    copy.notes.write_text("")
+    both = [copy.start(), copy.start()]
+    ran = [(it.communicate("the input\n", timeout=60)[0], it.returncode) for it in both]
+    return ran == [RIGHT[::-1]] * 2 and copy.notes.read_text().count("start low") == 1
+
+
+def other_toolchain(copy):
+    """With a toolchain whose library can't be used, `rt` alone builds the program."""
+    (copy.kit / "rtlib.py").unlink()
+    *ran, _, asked = copy.use()
+    return tuple(ran) == RIGHT and asked == ["run"]
+
+
+def no_toolchain(copy):
+    """Without a toolchain the error stream says what is missing."""
+    (copy.kit / "rt").unlink()
+    for name in ("sh", "awk", "find", "head", "dirname", "readlink"):
+        (copy.kit / name).symlink_to(shutil.which(name))
+    (copy.kit / "python3").symlink_to(sys.executable)
+    status, output, errors, _ = copy.use(PATH=str(copy.kit))
+    return (status, output) == (1, "") and "rt isn't on the path" in errors
+
+
+def run():
+    """Makes every check; answers how many passed and failed."""
+    checks = (first_use, later_uses, changes, failures, little_memory, at_once, other_toolchain, no_toolchain)
+    passed = failed = 0
+    for check in checks:
+        with tempfile.TemporaryDirectory() as folder:
+            if check(Copy(pathlib.Path(folder))):
+                passed += 1
+            else:
+                failed += 1
+                print(f"first use: {check.__name__} failed")
+    print(f"first use: {passed} passed, {failed} failed")
+    return passed, failed
+
+
+if __name__ == "__main__":
+    raise SystemExit(1 if run()[1] else 0)

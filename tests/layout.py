@@ -1,0 +1,138 @@
+#!/usr/bin/env python3
+"""Checks how the definitions are laid out, and that the documents that list them are true.
+
+Whoever wants to believe what is proved reads the believed modules: the files of a crate's `specs/` but `Lib`, and what
+`Mirrors` and `Lemmas` list. So
+- no believed module names a mirror, a lemma or a proof, of its own crate or of another (`Rattle.std.proofs.Common`, which
+  holds constructors of the logic, aside), and no `Lib` passes one on;
+- docs/map.md lists each believed module once, with the number of its lines;
+- each name of docs/definitions.md is defined in the file that stands beside it.
+
+    tests/layout.py            prints what it finds; the status is 1 if something is wrong
+    tests/layout.py --write    also puts the numbers of lines into docs/map.md
+"""
+import pathlib
+import re
+import sys
+
+TOP = pathlib.Path(__file__).resolve().parent.parent
+CRATES, MAP, DEFINITIONS = TOP / "crates", TOP / "docs/map.md", TOP / "docs/definitions.md"
+APART = {"Mirrors", "Lemmas"}
+ROW = re.compile(r"^\| `(\w+/specs/[\w/]+\.antt)` \| (\d+) \|", re.M)
+
+
+def modules():
+    """(believed modules, files that list others, modules that stand apart), by crate; those of tests promise nothing."""
+    believed, lists, apart = [], [], []
+    for path in sorted(CRATES.glob("*/specs/**/*.antt")):
+        below = path.relative_to(CRATES).with_suffix("").parts[2:]
+        if path.parts[-1] == "Lib.antt" or path.stem in APART:
+            lists.append(path)
+        elif APART & set(below):
+            apart.append(path)
+        else:
+            believed.append(path)
+    return believed, lists, apart
+
+
+def is_of_tests(path):
+    return path.relative_to(CRATES).parts[0].endswith("_tests")
+
+
+def shown(path):
+    return str(path.relative_to(CRATES))
+
+
+def line_count(path):
+    return len(path.read_text().splitlines())
+
+
+def code_of(path):
+    """The text without its comments."""
+    return re.sub(r"--.*", "", path.read_text())
+
+
+def forbidden(code):
+    """The paths in the code that lead to a mirror, a lemma or a proof."""
+    paths = re.findall(r"[\w«»-]+(?:\.[\w«»-]+)+", code)
+    return sorted({path for path in paths if (APART | {"proofs"}) & set(path.split("."))
+                   and not path.startswith("Rattle.std.proofs.Common")})
+
+
+def imports():
+    """(what is checked, what is wrong with it) for each believed module and each list of modules."""
+    believed, lists, _ = modules()
+    for path in believed:
+        for name in forbidden(code_of(path)) or [None]:
+            yield shown(path), name and f"names {name}: a believed module may not"
+    for path in lists:
+        uses = "\n".join(re.findall(r"^\s*(?:pub\s+|unfoldable\s+)*use\s.*", code_of(path), re.M))
+        for name in forbidden(uses) or [None]:
+            yield shown(path), name and f"passes on {name}"
+
+
+def rows_of_map():
+    """The same for the table of docs/map.md."""
+    rows = ROW.findall(MAP.read_text())
+    names = [name for name, _ in rows]
+    for path in modules()[0]:
+        if shown(path) not in names and not is_of_tests(path):
+            yield shown(path), "stands in no row of docs/map.md: add one, where it is to be read"
+    for name, lines in rows:
+        path = CRATES / name
+        if not path.is_file():
+            yield name, "stands in docs/map.md, and there is no such file"
+        elif names.count(name) > 1:
+            yield name, "stands in docs/map.md twice"
+        elif line_count(path) != int(lines):
+            yield name, f"has {line_count(path)} lines, and docs/map.md says {lines}: run tests/layout.py --write"
+        else:
+            yield name, None
+
+
+def defined(name, path):
+    """Whether the file defines the name."""
+    return re.search(rf"^(?:(?:abbrev|pub|unfoldable|opaque|record|data)\s+)*{re.escape(name)}(?=[\s:])", path.read_text(), re.M)
+
+
+def entries():
+    """The same for each name of docs/definitions.md, whose headings name the crates."""
+    for crate, section in re.findall(r"^## .*\(`(\w+)`\)\n(.*?)(?=^## |\Z)", DEFINITIONS.read_text(), re.M | re.S):
+        for row in re.findall(r"^\| `.*", section, re.M):
+            names, files = (re.findall(r"`([^`]+)`", cell) for cell in row.split(" | ")[:2])
+            paths = [CRATES / crate / "specs" / file for file in files]
+            for name in (words.split()[0] for words in names):
+                is_there = any(path.is_file() and defined(name, path) for path in paths)
+                yield name, None if is_there else f"isn't defined in {crate}/specs/{' or '.join(files)}, as docs/definitions.md says"
+
+
+def write():
+    """Puts the numbers of lines into docs/map.md."""
+    def counted(row):
+        path = CRATES / row[1]
+        return f"| `{row[1]}` | {line_count(path) if path.is_file() else row[2]} |"
+    MAP.write_text(ROW.sub(counted, MAP.read_text()))
+
+
+def run():
+    """Makes every check; answers how many passed and failed."""
+    passed = failed = 0
+    for part in (imports, rows_of_map, entries):
+        for what, why in part():
+            if why is None:
+                passed += 1
+            else:
+                failed += 1
+                print(f"{what}: {why}")
+    believed, _, apart = modules()
+    read = [path for path in believed if not is_of_tests(path)]
+    print(f"layout: {len(read)} believed modules of {sum(map(line_count, read))} lines, "
+          f"{len(apart)} mirrors and lemmas of {sum(map(line_count, apart))} lines")
+    print(f"layout: {passed} passed, {failed} failed")
+    return passed, failed
+
+
+if __name__ == "__main__":
+    if "--write" in sys.argv[1:]:
+        write()
+    sys.exit(1 if run()[1] else 0)
