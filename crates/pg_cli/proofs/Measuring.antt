@@ -1,5 +1,5 @@
 -- A map that was lifted from zeros to the end is the least progress measure.
-use Rattle.std.proofs.Common.{◌≡◌, ℕ, List, length, ap, subst, sym, ◌∙◌}
+use Rattle.std.proofs.Common.{◌≡◌, List, length, ap, subst, sym, ◌∙◌}
 use Rattle.std.proofs.lemmas.List.{length-replicate}
 use Rattle.pg_arena.specs.Games.{GameVertex}
 use Rattle.pg_measure.specs.Measures.{BoundList, MeasureValue, zeros}
@@ -7,7 +7,7 @@ use Rattle.pg_measure.specs.Games.{IsBoundsOf}
 use Rattle.pg_map.specs.Lines.{game_line}
 use Rattle.pg_map.specs.Maps.{MapValue, zero_map, IsLeastClosedFrom, IsLeastProgressMeasure}
 use Rattle.pg_map.specs.Laws.{ClosedIsLeast}
-use Rattle.pg_cli.specs.Answers.{IsMeasureOf}
+use Rattle.pg_cli.specs.Measuring.{IsMeasureOf}
 
 pub lifted_from_zeros : (game : List GameVertex) (bounds : BoundList) (old new : MapValue) → ClosedIsLeast → IsBoundsOf game bounds
     → old.bounds ≡ bounds → old.measures ≡ zero_map bounds (length game) → new.bounds ≡ old.bounds → length new.measures ≡ length old.measures

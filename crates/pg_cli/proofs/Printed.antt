@@ -1,14 +1,13 @@
 -- The winners that `solve` prints win.
-use Rattle.std.proofs.Common.{◌≡◌, ℕ, ◌<◌, List, length, get_or, map, Option, None, refl, sym, ap, subst, ◌∙◌, arith}
+use Rattle.std.proofs.Common.{◌≡◌, ℕ, ◌<◌, List, length, Option, None, refl, sym, ap, subst, ◌∙◌, arith}
 use Rattle.std.specs.Prelude.{if◌then◌else◌}
-use Rattle.std.specs.List.{range_with_len}
 use Rattle.std.proofs.lemmas.List.{same_lists, get_or_default}
 use Rattle.std.proofs.lemmas.List.FromFn.{length-map-range_with_len, get_or-map-range_with_len}
 use Rattle.pg_arena.specs.declared.player.Player.{Player}
 use Rattle.pg_arena.specs.declared.player.Player.TheVariants.{Even, Odd}
 use Rattle.pg_arena.specs.Games.{GameVertex, IsGame, opponent, owner}
 use Rattle.pg_text.specs.declared.answer.Answer.{Answer}
-use Rattle.pg_text.specs.Solutions.{answer_at, unanswered, winner, choice}
+use Rattle.pg_text.specs.Solutions.{unanswered, winner, choice}
 use Rattle.pg_text.specs.SolutionText.{is_same, IsSolutionText}
 use Rattle.pg_text.specs.SolutionLayout.{told_at, told, solution_text}
 use Rattle.pg_text.specs.SolutionReadBack.{SolutionReadsBack}
@@ -16,7 +15,7 @@ use Rattle.pg_map.specs.Maps.{MapValue}
 use Rattle.pg_check.specs.Laws.{SoundWins, OneWinner}
 use Rattle.pg_check.specs.Strategies.{AreClosed, IsSolutionOf, ClosedMapsSound}
 use Rattle.pg_check.proofs.Chosen.{is_solution}
-use Rattle.pg_cli.specs.Answers.{IsSolved}
+use Rattle.pg_cli.specs.Solving.{IsSolved}
 use Rattle.pg_cli.specs.Laws.{WinsAsPrinted}
 
 -- a choice that is left out where another player owns the vertex wasn't there

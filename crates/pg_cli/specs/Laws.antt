@@ -6,7 +6,7 @@ use Rattle.pg_text.specs.GameText.{IsGameText}
 use Rattle.pg_text.specs.Solutions.{winner, IsSolution}
 use Rattle.pg_text.specs.SolutionText.{IsSolutionText}
 use Rattle.pg_check.specs.Soundness.{IsSound, Wins}
-use Rattle.pg_cli.specs.Answers.{IsSolved}
+use Rattle.pg_cli.specs.Solving.{IsSolved}
 
 -- The output spells a solution of the game that the input spells. At each vertex the printed winner wins every endless
 -- play that follows the printed strategy, and no sound solution has another winner there.

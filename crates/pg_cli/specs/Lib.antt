@@ -1,5 +1,10 @@
 pub mod Input
 pub mod Parts
-pub mod Faults
+pub mod Texts
+pub mod Measuring
+pub mod Solving
+pub mod Checking
 pub mod Answers
+pub mod Faults
 pub mod Laws
+pub mod Mirrors

@@ -1,6 +1,7 @@
 //! The commands of the program, as functions from the bytes of an input to the bytes of an answer.
 #![tactic(auto)]
 
+mod check;
 mod command;
 mod fault;
 mod input;
@@ -10,12 +11,11 @@ mod output;
 mod parts;
 mod program;
 mod solve;
-#[cfg(test)]
-mod tests;
-mod verdict;
+mod solver;
 mod words;
 
 pub use command::Command;
 pub use fault::{CliFault, exit_code, write_fault};
+pub use input::MOST_BYTES;
 pub use program::run;
 pub use words::{Line, parse_words};

@@ -4,7 +4,7 @@ ghost use Rattle.std.specs.Prelude.{OnOk, decimal};
 ghost use Rattle.std.specs.List.{flat_map};
 ghost use Rattle.std.specs.Io.KnownBytes.{Appends};
 ghost use Rattle.pg_measure.specs.Views.{measure_in};
-ghost use Rattle.pg_cli.specs.Answers.{comma_number, numbers_text, measure_text, measure_line};
+ghost use Rattle.pg_cli.specs.Measuring.{comma_number, numbers_text, measure_text, measure_line};
 
 use itoa::Buffer;
 use pg_measure::View;
@@ -20,7 +20,8 @@ pub(crate) fn write_number<W: Write>(writer: &mut W, number: u32) -> io::Result<
 
 /// Writes each number behind a comma.
 fn write_behind_commas<W: Write>(writer: &mut W, numbers: &[u32]) -> io::Result<()>
-    ensures { OnOk result (Appends (W.contents writer.old) (W.contents writer.new) (flat_map comma_number numbers.now)) }
+    ensures { OnOk result
+        (Appends (W.contents writer.old) (W.contents writer.new) (flat_map comma_number numbers.now)) }
 {
     for number in numbers {
         writer.write_all(b",")?;
@@ -44,7 +45,8 @@ fn write_numbers<W: Write>(writer: &mut W, numbers: &[u32]) -> io::Result<()>
 
 /// Writes a measure: `T` for top, `-` for the list without components, and else the components with commas.
 fn write_measure<W: Write>(writer: &mut W, measure: View) -> io::Result<()>
-    ensures { OnOk result (Appends (W.contents writer.old) (W.contents writer.new) (measure_text (measure_in measure.entry))) }
+    ensures { OnOk result
+        (Appends (W.contents writer.old) (W.contents writer.new) (measure_text (measure_in measure.entry))) }
 {
     match measure {
         View::Top => writer.write_all(b"T"),
@@ -59,7 +61,8 @@ pub(crate) fn write_measure_line<W: Write>(
     identifier: u32,
     measure: View,
 ) -> io::Result<()>
-    ensures { OnOk result (Appends (W.contents writer.old) (W.contents writer.new) (measure_line identifier (measure_in measure.entry))) }
+    ensures { OnOk result (Appends (W.contents writer.old) (W.contents writer.new)
+        (measure_line identifier (measure_in measure.entry))) }
 {
     write_number(writer, identifier)?;
     writer.write_all(b" ")?;

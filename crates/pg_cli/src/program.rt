@@ -1,15 +1,16 @@
 //! A command from its input to its answer.
 
-ghost use Rattle.std.specs.Prelude.{◌≡◌, ◌≢◌, ℕ, List, OnOk, IfSome, IfErr};
+ghost use Rattle.std.specs.Prelude.{◌≡◌, ◌≢◌, ◌+◌, ℕ, List, OnOk, IfSome, IfErr};
 ghost use Rattle.std.specs.Io.KnownBytes.{Appends};
-ghost use Rattle.pg_cli.specs.Answers.{IsAnswer, Refuses};
+ghost use Rattle.pg_cli.specs.Input.{StaysWithin};
+ghost use Rattle.pg_cli.specs.Answers.{Prints, Refuses};
 
+use crate::check::check;
 use crate::command::Command;
 use crate::fault::CliFault;
-use crate::input::read_all_limited;
+use crate::input::{MOST_BYTES, read_all_limited};
 use crate::measure::measure;
 use crate::solve::solve;
-use crate::verdict::verify;
 use std::alloc::Global;
 use std::io::{Read, Write};
 
@@ -27,14 +28,17 @@ pub fn run<R: Read, W: Write>(
     writer: &mut W,
 ) -> Result<(), CliFault>
     ensures answer { OnOk result (IfSome (R.remaining reader.old) (λ input.
-        (output : List ℕ) × IsAnswer command input output × Appends (W.contents writer.old) (W.contents writer.new) output)) }
+        (output : List ℕ) × Prints command input output
+        × Appends (W.contents writer.old) (W.contents writer.new) output)) }
     ensures refused { IfErr result (λ fault. IfSome (R.remaining reader.old) (λ input. Refuses command input fault)) }
+    // Whatever comes of it, no byte behind the first one over the limit is read.
+    ensures no_further { StaysWithin (R.remaining reader.old) (R.remaining reader.new) (MOST_BYTES + 1) }
     ensures untouched { IfErr result (λ fault. fault ≢ CliFault.Write → writer.new ≡ writer.old) }
 {
     let text = read_all_limited(alloc, reader)?;
     match command {
         Command::Measure => measure(alloc, text, writer),
         Command::Solve => solve(alloc, text, writer),
-        Command::Check => verify(alloc, text, writer),
+        Command::Check => check(alloc, text, writer),
     }
 }

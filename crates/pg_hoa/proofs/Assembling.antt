@@ -5,11 +5,12 @@ use Rattle.pg_hoa.specs.declared.table.Table.{Table}
 use Rattle.pg_hoa.specs.declared.fault.Conflict.{Conflict}
 use Rattle.pg_hoa.specs.declared.fault.Conflict.TheVariants.{Memory, NotDeterministic}
 use Rattle.pg_hoa.specs.Mirrors.Faults.{conflict_fault}
-use Rattle.pg_hoa.specs.Automata.{Automaton, Step, IsAutomaton, letters, rows, next}
+use Rattle.pg_hoa.specs.Automata.{Automaton, Step, IsAutomaton, IsStepOf, letters, rows, next}
 use Rattle.pg_hoa.specs.Mirrors.Kept.{KeptLine}
 use Rattle.pg_hoa.specs.Mirrors.Settling.{Settled}
 use Rattle.pg_hoa.specs.Mirrors.Tables.{kept_steps, IsTableOf, IsFirstConflict, IsConflictOf}
 use Rattle.pg_hoa.specs.Mirrors.Tables as tables
+use Rattle.pg_hoa.proofs.GoodSteps.{first_good}
 use Rattle.pg_hoa.specs.Mirrors.Readings.{CanAssemble, Assembles, NeverAssembles, AreFew, kept_states}
 
 -- an automaton of what the headers say, with the steps of a table
@@ -56,6 +57,14 @@ table_is_automaton s lines states propositions t a e p h table can is =
     let count : a.states ≡ kept_states s lines = is.states ∙ table.states_are ∙ e in
     record {
       start_below = rw (count, is.start) can.start_below;
+      steps = λ q l good below within e.
+          let q_below : q < states = rw (is.states ∙ table.states_are) at below in
+          let l_within : l < 2 ^ propositions = subst (λ (n : ℕ). l < 2 ^ n) (ap length is.propositions ∙ sym p) within in
+          subst (λ (n : ℕ). IsStepOf a.states n good) (sym is.sets) (subst (λ (n : ℕ). IsStepOf n s.sets good) (sym count)
+          (first_good (kept_states s lines) s.sets (kept_steps lines q l) good (can.steps q l) (sym (is.steps q l ∙ table.next_is q l q_below l_within) ∙ e)));
+      names = rw is.propositions can.names;
+      condition = can.condition;
+      shape = rw (is.sets, is.shape) can.shape;
       marks = rw (is.controllable, is.propositions) can.marks;
       few_states = rw count can.few_states;
       few_propositions = rw is.propositions can.few_propositions;

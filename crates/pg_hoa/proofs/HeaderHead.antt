@@ -7,10 +7,9 @@ use Rattle.pg_hoa.specs.declared.formula.Op.{Op}
 use Rattle.pg_hoa.specs.Lexemes.{Character}
 use Rattle.pg_hoa.specs.Formulas.{Formula}
 use Rattle.pg_hoa.specs.Mirrors.FormulaRun.{postfix}
-use Rattle.pg_hoa.specs.Automata.{Automaton}
+use Rattle.pg_hoa.specs.Automata.{Automaton, IsPropositionName}
 use Rattle.pg_hoa.specs.AutomatonText.{Header, Written, Says, AtMostOne, count_of, character_code, state_counts, starts, names, acceptances, controls}
 use Rattle.pg_hoa.specs.Mirrors.Kept.{KeptHead}
-use Rattle.pg_hoa.proofs.HeaderValues.{IsGoodName}
 use Rattle.pg_hoa.proofs.HeaderParts.{option_list}
 use Rattle.pg_hoa.proofs.HeaderLaws.{SaysHeaders}
 
@@ -58,7 +57,7 @@ few_names [] one few = tt
 few_names (ns ∷ []) one few = rw (append-nil ns) at few
 few_names (ns ∷ ms ∷ lists) one few = absurd (omega arith)
 
-good_names : (lists : List (List (List Character))) → AtMostOne lists → AllByRecursion IsGoodName (given lists) → IfSome (first_said (map (map (map character_code)) lists)) (λ ns. AllByRecursion IsGoodName ns)
+good_names : (lists : List (List (List Character))) → AtMostOne lists → AllByRecursion IsPropositionName (given lists) → IfSome (first_said (map (map (map character_code)) lists)) (λ ns. AllByRecursion IsPropositionName ns)
 good_names [] one good = tt
 good_names (ns ∷ []) one good = rw (append-nil ns) at good
 good_names (ns ∷ ms ∷ lists) one good = absurd (omega arith)
@@ -77,6 +76,6 @@ says_head w a s =
       few_states = few_counted (flat_map state_counts hs) _ a.states s.states s.few_states;
       low_start = low (flat_map starts hs) a.start s.start start_low;
       few_names = few_names (flat_map names hs) s.named few;
-      good_names = good_names (flat_map names hs) s.named (subst (λ (ns : List (List ℕ)). AllByRecursion IsGoodName ns) s.propositions s.good_names);
+      good_names = good_names (flat_map names hs) s.named (subst (λ (ns : List (List ℕ)). AllByRecursion IsPropositionName ns) s.propositions s.good_names);
       few_sets = few_sets (flat_map acceptances hs) a.sets s.condition s.accepted s.few_sets;
     }

@@ -13,7 +13,8 @@ use Rattle.pg_hoa.specs.Mirrors.Scan.{IsToken}
 use Rattle.pg_hoa.specs.Mirrors.Steps.{◌>>=◌}
 use Rattle.pg_hoa.specs.Formulas.{Formula, formula_lexemes, IsWritten}
 use Rattle.pg_hoa.specs.Mirrors.FormulaRun.{ops_at, postfix}
-use Rattle.pg_hoa.specs.AutomatonText.{Header, header_lexemes, IsHeader, value_lexeme, character_code, IsNameByte, state_counts, starts, names, acceptances, controls}
+use Rattle.pg_hoa.specs.Automata.{IsPropositionName}
+use Rattle.pg_hoa.specs.AutomatonText.{Header, header_lexemes, IsHeader, value_lexeme, character_code, state_counts, starts, names, acceptances, controls}
 use Rattle.pg_hoa.specs.AutomatonText as text
 use Rattle.pg_hoa.specs.Mirrors.Kept.{KeptHead}
 use Rattle.pg_hoa.specs.Mirrors.HeaderScan.{numeral_at, alone_at, numbers_from, skipped_from, names_from, once, at_most, states_at, start_at, names_at, acceptance_at, controls_at, begins_low, other_at, header_at, empty_head, headers_within, headers_from, opening_at, version_at, headers_at}
@@ -21,7 +22,7 @@ use Rattle.pg_hoa.proofs.Steps.{bind_some, chosen, some, some_is, none, none_is_
 use Rattle.pg_hoa.proofs.FormulasAgain.{Ends}
 use Rattle.pg_hoa.proofs.FormulaLaws.{ops_take, ops_again, formula_tokens}
 use Rattle.pg_hoa.proofs.HeaderTurns.{true_is_false}
-use Rattle.pg_hoa.proofs.HeaderValues.{Follows, IsGoodName, numeral_take, numeral_again, alone_take, alone_again, numbers_take, numbers_again, skipped_take, skipped_again, names_take, names_again}
+use Rattle.pg_hoa.proofs.HeaderValues.{Follows, numeral_take, numeral_again, alone_take, alone_again, numbers_take, numbers_again, skipped_take, skipped_again, names_take, names_again}
 use Rattle.pg_hoa.proofs.HeaderParts.{option_list, Adds, IsWithin, adds_states, adds_start, adds_names, adds_controls, adds_acceptance, adds_nothing, adds_none, adds_more, first_states, first_start, first_names, first_controls, first_acceptance, none_first, all_said}
 
 -- ---- one header that is read
@@ -96,7 +97,7 @@ names_header_take h tokens x e =
       is = ap (λ (ts : List Lexeme). header (codes "AP") ∷ ts) (numeral_take tokens n.0 n.1 ∙ ap (λ (ts : List Lexeme). number n.0.0 ∷ ts) found.is ∙ ap (λ (m : ℕ). number m ∷ (map string found.names ++ r.0.1)) (sym found.count));
       good = tt;
       adds = subst (λ (ns : List (List ℕ)). Adds h (text.propositions found.names ∷ []) (record h { names = Some ns })) (sym found.added) (adds_names h found.names o.0);
-      within = λ w. record { states = w.states; start = w.start; few_names = few_names n.0.0 found.names r.0.0 found.count found.added b.0; good_names = subst (λ (ns : List (List ℕ)). AllByRecursion IsGoodName ns) (sym found.added) found.good; sets = w.sets };
+      within = λ w. record { states = w.states; start = w.start; few_names = few_names n.0.0 found.names r.0.0 found.count found.added b.0; good_names = subst (λ (ns : List (List ℕ)). AllByRecursion IsPropositionName ns) (sym found.added) found.good; sets = w.sets };
     })
 
 acceptance_take : (h : KeptHead) (tokens : List Lexeme) (x : KeptHead × List Lexeme) → acceptance_at h tokens ≡ Some x → TakesHeader h (codes "Acceptance") tokens x
@@ -248,7 +249,7 @@ unfolding header_at names_at
 names_header_again h k ns hs rest a w =
     let f = first_names h k ns hs a in
     let few : length ns ≤ 16 = omega (arith, said_within k.names (map (map character_code) ns) (λ names. length names ≤ 16) f.is w.few_names, length-map ns (map character_code)) in
-    let good = said_within k.names (map (map character_code) ns) (λ names. AllByRecursion IsGoodName names) f.is w.good_names in
+    let good = said_within k.names (map (map character_code) ns) (λ names. AllByRecursion IsPropositionName names) f.is w.good_names in
     record {
       more = record h { names = Some (map (map character_code) ns) };
       reads = rw (f.unsaid_before, numeral_again (length ns) (map string ns ++ rest), names_again ns [] rest good) (within_bound 16 (length ns) _ few);
@@ -384,7 +385,7 @@ pub record SaysHeaders (hs : List Header) (h : KeptHead) : Type 0 where
   pub few_states : IfSome h.states (λ n. n ≤ 65535)
   pub low_start : IfSome h.start (λ q. q ≤ 65534)
   pub few_names : IfSome h.names (λ ns. length ns ≤ 16)
-  pub good_names : IfSome h.names (λ ns. AllByRecursion (λ name. (name ≢ []) × AllByRecursion IsNameByte name) ns)
+  pub good_names : IfSome h.names (λ ns. AllByRecursion IsPropositionName ns)
   pub few_sets : IfSome h.acceptance (λ x. x.0 ≤ 4096)
 
 -- the headers that stand at the front of the tokens, and what they say

@@ -6,11 +6,11 @@ use Rattle.std.proofs.lemmas.List.{append-nil}
 use Rattle.pg_hoa.specs.declared.formula.Op.{Op}
 use Rattle.pg_hoa.specs.Formulas.{Formula}
 use Rattle.pg_hoa.specs.Mirrors.FormulaRun.{postfix}
+use Rattle.pg_hoa.specs.Automata.{IsPropositionName}
 use Rattle.pg_hoa.specs.AutomatonText.{Header, state_counts, starts, names, acceptances, controls, character_code}
 use Rattle.pg_hoa.specs.AutomatonText as text
 use Rattle.pg_hoa.specs.Lexemes.{Character}
 use Rattle.pg_hoa.specs.Mirrors.Kept.{KeptHead}
-use Rattle.pg_hoa.proofs.HeaderValues.{IsGoodName}
 
 -- nothing, or one
 abbrev pub option_list : {A : Type 0} → Option A → List A
@@ -37,7 +37,7 @@ pub record IsWithin (h : KeptHead) : Type 0 where
   pub states : IfSome h.states (λ n. n ≤ 65535)
   pub start : IfSome h.start (λ q. q ≤ 65534)
   pub few_names : IfSome h.names (λ ns. length ns ≤ 16)
-  pub good_names : IfSome h.names (λ ns. AllByRecursion IsGoodName ns)
+  pub good_names : IfSome h.names (λ ns. AllByRecursion IsPropositionName ns)
   pub sets : IfSome h.acceptance (λ x. x.0 ≤ 4096)
 
 -- ---- one header more

@@ -7,7 +7,8 @@ use Rattle.std.proofs.lemmas.Bool.{eq-eqb}
 use Rattle.std.proofs.lemmas.Bool.Decides.{nat_tests}
 use Rattle.pg_hoa.specs.Lexemes.{Lexeme, number, identifier, header, string, body, ampersand, stray, Character}
 use Rattle.pg_hoa.specs.Mirrors.Steps.{◌>>=◌}
-use Rattle.pg_hoa.specs.AutomatonText.{Value, numeral, word, quoted, value_lexeme, character_code, IsNameByte}
+use Rattle.pg_hoa.specs.Automata.{IsPropositionName, IsNameByte}
+use Rattle.pg_hoa.specs.AutomatonText.{Value, numeral, word, quoted, value_lexeme, character_code}
 use Rattle.pg_hoa.specs.Mirrors.HeaderScan.{numeral_at, alone_at, numbers_from, skipped_from, is_name_byte, is_name, name_of, quoted_at, names_from}
 use Rattle.pg_hoa.proofs.Steps.{bind_some, chosen, some, some_is, none, none_is_some}
 use Rattle.pg_hoa.proofs.HeaderTurns.{true_is_false}
@@ -99,9 +100,6 @@ skipped_again (quoted s ∷ vs) rest f = skipped_again vs rest f
 -- ---- names
 
 -- a name is not empty and made of bytes that a name may have
-abbrev pub IsGoodName : List ℕ → Type 0
-IsGoodName name = (name ≢ []) × AllByRecursion IsNameByte name
-
 both_true : (a b : Bool) → (a && b) ≡ true → (a ≡ true) × (b ≡ true)
 both_true true b e = (refl, e)
 both_true false b e = absurd cc
@@ -131,11 +129,11 @@ name_bytes_again : (name : List ℕ) → AllByRecursion IsNameByte name → list
 name_bytes_again [] h = refl
 name_bytes_again (b ∷ name) h = rw (name_byte_again b h.0, name_bytes_again name h.1) refl
 
-good_name : (name : List ℕ) → is_name name ≡ true → IsGoodName name
+good_name : (name : List ℕ) → is_name name ≡ true → IsPropositionName name
 good_name [] e = absurd cc
 good_name (b ∷ name) e = (λ same. absurd cc, name_bytes (b ∷ name) e)
 
-good_name_again : (name : List ℕ) → IsGoodName name → is_name name ≡ true
+good_name_again : (name : List ℕ) → IsPropositionName name → is_name name ≡ true
 good_name_again [] h = absurd (h.0 refl)
 good_name_again (b ∷ name) h = name_bytes_again (b ∷ name) h.1
 
@@ -143,7 +141,7 @@ pub record TakesName (tokens : List Lexeme) (x : List ℕ × List Lexeme) : Type
   pub name : List Character
   pub is : tokens ≡ string name ∷ x.1
   pub said : x.0 ≡ map character_code name
-  pub good : IsGoodName x.0
+  pub good : IsPropositionName x.0
 
 pub quoted_take : (tokens : List Lexeme) (x : List ℕ × List Lexeme) → quoted_at tokens ≡ Some x → TakesName tokens x
 unfolding quoted_at name_of
@@ -156,7 +154,7 @@ quoted_take (string s ∷ rest) x e =
     ]
 quoted_take _ x e = absurd (none_is_some x e)
 
-quoted_again : (s : List Character) (rest : List Lexeme) → IsGoodName (map character_code s) → quoted_at (string s ∷ rest) ≡ Some (map character_code s, rest)
+quoted_again : (s : List Character) (rest : List Lexeme) → IsPropositionName (map character_code s) → quoted_at (string s ∷ rest) ≡ Some (map character_code s, rest)
 unfolding quoted_at name_of
 quoted_again s rest h = rw (good_name_again (map character_code s) h) refl
 
@@ -165,7 +163,7 @@ pub record TakesNames (n : ℕ) (before : List (List ℕ)) (tokens : List Lexeme
   pub count : length names ≡ n
   pub is : tokens ≡ map string names ++ x.1
   pub added : x.0 ≡ before ++ map (map character_code) names
-  pub good : AllByRecursion IsGoodName (map (map character_code) names)
+  pub good : AllByRecursion IsPropositionName (map (map character_code) names)
 
 pub names_take : (n : ℕ) (before : List (List ℕ)) (tokens : List Lexeme) (x : List (List ℕ) × List Lexeme) → names_from n before tokens ≡ Some x → TakesNames n before tokens x
 unfolding names_from
@@ -181,10 +179,10 @@ names_take (suc n) before tokens x e =
       count = ap suc more.count;
       is = one.is ∙ ap (λ (ts : List Lexeme). string one.name ∷ ts) more.is;
       added = more.added ∙ append_assoc before (found.0.0 ∷ []) (map (map character_code) more.names) ∙ ap (λ (name : List ℕ). before ++ (name ∷ map (map character_code) more.names)) one.said;
-      good = (subst IsGoodName one.said one.good, more.good);
+      good = (subst IsPropositionName one.said one.good, more.good);
     }
 
-pub names_again : (names : List (List Character)) (before : List (List ℕ)) (rest : List Lexeme) → AllByRecursion IsGoodName (map (map character_code) names) → names_from (length names) before (map string names ++ rest) ≡ Some (before ++ map (map character_code) names, rest)
+pub names_again : (names : List (List Character)) (before : List (List ℕ)) (rest : List Lexeme) → AllByRecursion IsPropositionName (map (map character_code) names) → names_from (length names) before (map string names ++ rest) ≡ Some (before ++ map (map character_code) names, rest)
 unfolding names_from
 names_again [] before rest h = ap (λ (ns : List (List ℕ)). some (ns, rest)) (sym (append-nil before))
 names_again (s ∷ names) before rest h =

@@ -1,7 +1,7 @@
 -- Headers, lines and end, read one after another.
 use Rattle.std.proofs.Common.{◌≡◌, ◌∙◌, ◌≤◌, ℕ, List, [], ◌∷◌, map, length, Option, Some, None, refl, sym, ap, subst, arith}
 use Rattle.std.specs.Prelude.{IfSome, ◌==◌}
-use Rattle.std.specs.List.{list_any, flat_map}
+use Rattle.std.specs.List.{AllByRecursion, list_any, flat_map}
 use Rattle.std.proofs.lemmas.List.FromFn.{length-map-range_with_len}
 use Rattle.pg_hoa.specs.declared.formula.Op.{Op}
 use Rattle.pg_hoa.specs.declared.shape.Shape.{Shape}
@@ -12,7 +12,8 @@ use Rattle.pg_hoa.specs.Mirrors.Steps.{Fails}
 use Rattle.pg_hoa.specs.Formulas.{Formula}
 use Rattle.pg_hoa.specs.Mirrors.FormulaRun.{postfix}
 use Rattle.pg_hoa.specs.Shapes.{bare, IsLike, FitsShape, HasShape}
-use Rattle.pg_hoa.specs.AutomatonText.{acceptances}
+use Rattle.pg_hoa.specs.Automata.{IsPropositionName}
+use Rattle.pg_hoa.specs.AutomatonText.{LineFits, acceptances}
 use Rattle.pg_hoa.specs.Mirrors.Kept.{KeptHead, KeptLine, line_kept}
 use Rattle.pg_hoa.specs.Mirrors.HeaderScan.{headers_at}
 use Rattle.pg_hoa.specs.Mirrors.BodyScan.{body_at}
@@ -24,6 +25,9 @@ use Rattle.pg_hoa.proofs.HeaderLaws.{headers_take}
 use Rattle.pg_hoa.proofs.BodyLaws.{body_takes}
 use Rattle.pg_hoa.proofs.ShapeTrees.{one_tree}
 use Rattle.pg_hoa.proofs.ShapeLaws.{one_shape}
+use Rattle.pg_hoa.proofs.ReadSpeltHeads.{good_names}
+use Rattle.pg_hoa.proofs.ReadSpeltLines.{states_fit}
+use Rattle.pg_hoa.proofs.GoodSteps.{kept_good}
 use Rattle.pg_hoa.proofs.ReadCan.{AreCounted, are_counted}
 
 -- ---- what the headers say
@@ -172,4 +176,9 @@ reads_can tokens h s lines r =
       marks = ap length i.controllable ∙ length-map-range_with_len (λ (p : ℕ). list_any (λ (n : ℕ). n == p) controls) 0 (length (listed h.names)) ∙ ap length (sym i.names);
       low_start = omega arith;
       below = all.below;
+      names = subst (λ (ns : List (List ℕ)). AllByRecursion IsPropositionName ns) (sym i.names) (good_names h.names says.good_names);
+      condition = i.condition;
+      shape = i.shape.fits;
+      steps = λ state letter. kept_good (states_in s.states s.start lines) (length s.names) s.sets state letter body.lines lines body.kept
+          (subst (λ (ls : List KeptLine). AllByRecursion (LineFits (states_in s.states s.start ls) (length s.names) s.sets) body.lines) body.kept (states_fit s.states s.start (length s.names) s.sets body.lines body.fit));
     }

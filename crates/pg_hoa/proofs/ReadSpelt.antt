@@ -5,7 +5,7 @@ use Rattle.std.specs.List.{flat_map, AllByRecursion}
 use Rattle.pg_hoa.specs.declared.shape.Shape.{Shape}
 use Rattle.pg_hoa.specs.Lexemes.{Lexeme, identifier, header, body, end}
 use Rattle.pg_hoa.specs.Mirrors.Scan.{lex, IsToken}
-use Rattle.pg_hoa.specs.Automata.{Automaton}
+use Rattle.pg_hoa.specs.Automata.{Automaton, IsPropositionName}
 use Rattle.pg_hoa.specs.AutomatonText.{StateLine, Written, IsText, IsHeader, Says, Spelt, IsUndetermined, IsDistinct, LineFits, Agree, head, EachBelow, header_lexemes, state_lexemes, text_lexemes, state_counts, names, controls, acceptances, character_code, steps_of}
 use Rattle.pg_hoa.specs.Mirrors.Kept.{KeptHead, KeptLine, line_kept}
 use Rattle.pg_hoa.specs.Mirrors.Settling.{Settled, IsSettled, listed, marked}
@@ -14,7 +14,6 @@ use Rattle.pg_hoa.specs.Mirrors.Readings.{Reads, Assembles, AreFew, CanAssemble,
 use Rattle.pg_hoa.proofs.Spelling.{lex_spelt}
 use Rattle.pg_hoa.proofs.HeaderParts.{option_list}
 use Rattle.pg_hoa.proofs.HeaderLaws.{SaysHeaders, headers_take, header_tokens}
-use Rattle.pg_hoa.proofs.HeaderValues.{IsGoodName}
 use Rattle.pg_hoa.proofs.BodyLaws.{body_takes, line_tokens}
 use Rattle.pg_hoa.proofs.TableLaws.{kept_steps_are}
 use Rattle.pg_hoa.proofs.ReadParts.{reads_can}
@@ -74,7 +73,7 @@ says_settled w h s said i can few fit distinct =
       start = sym said.start ∙ ap option_list i.start;
       named = mapped_once (map (map character_code)) h.names (flat_map names hs) said.names;
       propositions = i.names ∙ propositions;
-      good_names = subst (λ (ns : List (List ℕ)). AllByRecursion IsGoodName ns) (sym i.names) (good_names h.names said.good_names);
+      good_names = subst (λ (ns : List (List ℕ)). AllByRecursion IsPropositionName ns) (sym i.names) (good_names h.names said.good_names);
       controlled = once h.controls (flat_map controls hs) said.controls;
       controllable = i.controllable ∙ ap (λ (ns : List ℕ). marked ns (length (listed h.names))) controls_are ∙ ap (λ (n : ℕ). marked (flat_map (λ x. x) (flat_map controls hs)) n) count;
       controls_below = subst (λ (n : ℕ). EachBelow n (flat_map (λ x. x) (flat_map controls hs))) count (subst (λ (ns : List ℕ). EachBelow (length (listed h.names)) ns) controls_are i.controls_below);

@@ -9,11 +9,11 @@ use Rattle.pg_hoa.specs.Lexemes.{Character}
 use Rattle.pg_hoa.specs.Formulas.{Formula}
 use Rattle.pg_hoa.specs.Mirrors.FormulaRun.{postfix}
 use Rattle.pg_hoa.specs.Shapes.{bare, IsLike, FitsShape, HasShape}
+use Rattle.pg_hoa.specs.Automata.{IsPropositionName}
 use Rattle.pg_hoa.specs.AutomatonText.{StateLine, AtMostOne, character_code, count_of, line_numbers}
 use Rattle.pg_hoa.specs.Mirrors.Kept.{line_kept}
 use Rattle.pg_hoa.specs.Mirrors.Settling.{listed}
 use Rattle.pg_hoa.specs.Mirrors.Readings.{states_in}
-use Rattle.pg_hoa.proofs.HeaderValues.{IsGoodName}
 use Rattle.pg_hoa.proofs.HeaderParts.{option_list}
 use Rattle.pg_hoa.proofs.ShapeTrees.{one_tree}
 use Rattle.pg_hoa.proofs.TableLaws.{kept_count_is}
@@ -46,7 +46,7 @@ names_are (Some names) [] e = absurd cc
 names_are (Some names) (ns ∷ []) e = let same : names ≡ map (map character_code) ns = cc in rw (append-nil ns) same
 names_are (Some names) (ns ∷ ms ∷ lists) e = absurd cc
 
-pub good_names : (o : Option (List (List ℕ))) → IfSome o (λ ns. AllByRecursion IsGoodName ns) → AllByRecursion IsGoodName (listed o)
+pub good_names : (o : Option (List (List ℕ))) → IfSome o (λ ns. AllByRecursion IsPropositionName ns) → AllByRecursion IsPropositionName (listed o)
 good_names None good = tt
 good_names (Some names) good = good
 

@@ -9,22 +9,26 @@ use Rattle.pg_hoa.specs.declared.fault.Refusal.{Refusal}
 use Rattle.pg_hoa.specs.declared.fault.Refusal.TheVariants.{Memory, Wrong}
 use Rattle.pg_hoa.specs.Mirrors.Scan.{lex}
 use Rattle.pg_hoa.specs.Automata.{Automaton}
-use Rattle.pg_hoa.specs.AutomatonText.{Spelt}
+use Rattle.pg_hoa.specs.AutomatonText.{Spelt, SpellsNone, SaysNone, IsRefused}
 use Rattle.pg_hoa.specs.Mirrors.Faults.{in_text, refusal_in_text}
 use Rattle.pg_hoa.specs.Mirrors.Kept.{KeptHead, KeptLine}
 use Rattle.pg_hoa.specs.Mirrors.Settling.{Settled}
-use Rattle.pg_hoa.specs.Mirrors.Readings.{Reads, NeverReads, Assembles, NeverAssembles, IsRefused}
+use Rattle.pg_hoa.specs.Mirrors.Readings.{Reads, NeverReads, Assembles, NeverAssembles}
 use Rattle.pg_hoa.proofs.ReadSpelt.{reads_spelt, reads_undetermined}
-use Rattle.pg_hoa.proofs.SpeltReads.{never_spelt, many_spell_none, undetermined_spell_none}
+use Rattle.pg_hoa.proofs.SpeltReads.{never_said, says_spell_none, many_say_none, undetermined_spell_none}
+
+-- what says none spells none
+none_at_all : (bytes : List ℕ) → SaysNone bytes → SaysNone bytes × SpellsNone bytes
+none_at_all bytes none = (none, says_spell_none bytes none)
 
 part_refused : (bytes : List ℕ) (len : ℕ) (fault : PartFault) → NeverReads (lex bytes) (Wrong fault) → IsRefused bytes (in_text len fault)
-part_refused bytes len (Syntax left) never = never_spelt bytes (Syntax left) never
-part_refused bytes len (LeftOut name left) never = never_spelt bytes (LeftOut name left) never
-part_refused bytes len (UnknownHeader left) never = never_spelt bytes (UnknownHeader left) never
-part_refused bytes len (OutOfRange left) never = never_spelt bytes (OutOfRange left) never
-part_refused bytes len NotParity never = never_spelt bytes NotParity never
-part_refused bytes len TooLarge never = never_spelt bytes TooLarge never
-part_refused bytes len (BadName proposition) never = never_spelt bytes (BadName proposition) never
+part_refused bytes len (Syntax left) never = none_at_all bytes (never_said bytes (Syntax left) never)
+part_refused bytes len (LeftOut name left) never = none_at_all bytes (never_said bytes (LeftOut name left) never)
+part_refused bytes len (UnknownHeader left) never = none_at_all bytes (never_said bytes (UnknownHeader left) never)
+part_refused bytes len (OutOfRange left) never = none_at_all bytes (never_said bytes (OutOfRange left) never)
+part_refused bytes len NotParity never = none_at_all bytes (never_said bytes NotParity never)
+part_refused bytes len TooLarge never = none_at_all bytes (never_said bytes TooLarge never)
+part_refused bytes len (BadName proposition) never = none_at_all bytes (never_said bytes (BadName proposition) never)
 
 pub refusal_refused : (bytes : List ℕ) (len : ℕ) (refusal : Refusal) → NeverReads (lex bytes) refusal → IsRefused bytes (refusal_in_text len refusal)
 refusal_refused bytes len Memory never = tt
@@ -33,14 +37,15 @@ refusal_refused bytes len (Wrong fault) never = part_refused bytes len fault nev
 refused : (bytes : List ℕ) (h : KeptHead) (s : Settled) (lines : List KeptLine) (fault : HoaFault) → Reads (lex bytes) h s lines → NeverAssembles s lines fault → IsRefused bytes fault
 refused bytes h s lines faults.OutOfMemory r never = tt
 refused bytes h s lines (faults.NotDeterministic state letter) r never =
-    (reads_undetermined bytes h s lines state letter r never.0 never.1, undetermined_spell_none bytes h s lines state letter r never.1)
-refused bytes h s lines (faults.Syntax offset) r never = many_spell_none bytes h s lines r never
-refused bytes h s lines (faults.LeftOut name offset) r never = many_spell_none bytes h s lines r never
-refused bytes h s lines (faults.UnknownHeader offset) r never = many_spell_none bytes h s lines r never
-refused bytes h s lines (faults.OutOfRange offset) r never = many_spell_none bytes h s lines r never
-refused bytes h s lines faults.NotParity r never = many_spell_none bytes h s lines r never
-refused bytes h s lines faults.TooLarge r never = many_spell_none bytes h s lines r never
-refused bytes h s lines (faults.BadName proposition) r never = many_spell_none bytes h s lines r never
+    let undetermined = reads_undetermined bytes h s lines state letter r never.0 never.1 in
+    (undetermined, undetermined_spell_none bytes state letter undetermined)
+refused bytes h s lines (faults.Syntax offset) r never = none_at_all bytes (many_say_none bytes h s lines r never)
+refused bytes h s lines (faults.LeftOut name offset) r never = none_at_all bytes (many_say_none bytes h s lines r never)
+refused bytes h s lines (faults.UnknownHeader offset) r never = none_at_all bytes (many_say_none bytes h s lines r never)
+refused bytes h s lines (faults.OutOfRange offset) r never = none_at_all bytes (many_say_none bytes h s lines r never)
+refused bytes h s lines faults.NotParity r never = none_at_all bytes (many_say_none bytes h s lines r never)
+refused bytes h s lines faults.TooLarge r never = none_at_all bytes (many_say_none bytes h s lines r never)
+refused bytes h s lines (faults.BadName proposition) r never = none_at_all bytes (many_say_none bytes h s lines r never)
 
 pub whole_found : (bytes : List ℕ) (h : KeptHead) (s : Settled) (lines : List KeptLine) (answer : Result Automaton HoaFault) → Reads (lex bytes) h s lines → IfOk answer (Assembles s lines) → IfOk answer (Spelt bytes)
 whole_found bytes h s lines (Ok a) r m = reads_spelt bytes h s lines a r m

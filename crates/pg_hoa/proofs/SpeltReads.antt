@@ -6,13 +6,13 @@ use Rattle.pg_hoa.specs.declared.fault.Refusal.TheVariants.{Wrong}
 use Rattle.pg_hoa.specs.Lexemes.{Lexeme, end}
 use Rattle.pg_hoa.specs.Mirrors.Scan.{lex}
 use Rattle.pg_hoa.specs.Automata.{Automaton}
-use Rattle.pg_hoa.specs.AutomatonText.{Written, IsText, Says, Spelt, Agree, state_counts, state_lexemes, text_lexemes}
+use Rattle.pg_hoa.specs.AutomatonText.{Written, IsText, Says, Spelt, IsUndetermined, IsDeterministicAt, SpellsNone, SaysNone, steps_of, state_counts, state_lexemes, text_lexemes}
 use Rattle.pg_hoa.specs.Mirrors.Kept.{KeptHead, KeptLine, line_kept}
 use Rattle.pg_hoa.specs.Mirrors.HeaderScan.{headers_at}
 use Rattle.pg_hoa.specs.Mirrors.BodyScan.{body_at}
 use Rattle.pg_hoa.specs.Mirrors.Settling.{Settled, IsSettled}
-use Rattle.pg_hoa.specs.Mirrors.Tables.{kept_steps, IsFirstConflict}
-use Rattle.pg_hoa.specs.Mirrors.Readings.{Reads, NeverReads, AreFew, SpellsNone, bound, kept_states, kept_letters}
+use Rattle.pg_hoa.specs.Mirrors.Tables.{kept_steps}
+use Rattle.pg_hoa.specs.Mirrors.Readings.{Reads, NeverReads, AreFew, bound, kept_states, kept_letters}
 use Rattle.pg_hoa.proofs.Steps.{some_is}
 use Rattle.pg_hoa.proofs.Spelling.{spelt_lex}
 use Rattle.pg_hoa.proofs.HeaderLaws.{headers_again}
@@ -22,16 +22,7 @@ use Rattle.pg_hoa.proofs.TableLaws.{kept_steps_are}
 use Rattle.pg_hoa.proofs.ReadParts.{AreSettled, settled_once}
 use Rattle.pg_hoa.proofs.SpeltReadsHead.{said_settled, says_settled, states_are, within_bound, lines_fit}
 
--- what is read of bytes that spell an automaton
-pub record ReadsSpelt (bytes : List ℕ) (a : Automaton) : Type 0 where
-  pub head : KeptHead
-  pub said : Settled
-  pub lines : List KeptLine
-  pub reads : Reads (lex bytes) head said lines
-  pub few : AreFew said lines
-  pub agrees : (state letter : ℕ) → state < kept_states said lines → letter < kept_letters said → Agree said.shape (kept_steps lines state letter)
-
-text_reads : (bytes : List ℕ) (w : Written) (a : Automaton) → IsText bytes w → Says w a → Reads (lex bytes) (said_head w.headers) (said_settled w a) (map line_kept w.lines)
+pub text_reads : (bytes : List ℕ) (w : Written) (a : Automaton) → IsText bytes w → Says w a → Reads (lex bytes) (said_head w.headers) (said_settled w a) (map line_kept w.lines)
 text_reads bytes w a text s =
     let behind : List Lexeme = flat_map state_lexemes w.lines ++ (end ∷ []) in
     let most : a.states ≤ bound (first_said (flat_map state_counts w.headers)) = within_bound (flat_map state_counts w.headers) _ a.states s.states s.few_states in
@@ -42,26 +33,14 @@ text_reads bytes w a text s =
       body = body_again (bound (first_said (flat_map state_counts w.headers))) (length a.propositions) a.sets w.lines [] (lines_fit a.states _ (length a.propositions) a.sets w.lines most s.lines) s.distinct;
     }
 
-states_same : (w : Written) (a : Automaton) → Says w a → a.states ≡ kept_states (said_settled w a) (map line_kept w.lines)
+pub states_same : (w : Written) (a : Automaton) → Says w a → a.states ≡ kept_states (said_settled w a) (map line_kept w.lines)
 states_same w a s = s.states ∙ sym (states_are (flat_map state_counts w.headers) a.start w.lines)
 
-pub spelt_reads : (bytes : List ℕ) (a : Automaton) → Spelt bytes a → ReadsSpelt bytes a
-spelt_reads bytes a s =
-    let w = s.written in
-    let lines = map line_kept w.lines in
-    let same = states_same w a s.says in
-    record {
-      head = said_head w.headers;
-      said = said_settled w a;
-      lines = lines;
-      reads = text_reads bytes w a s.text s.says;
-      few = subst (λ (n : ℕ). n * kept_letters (said_settled w a) ≤ 16777216) same s.says.few_steps;
-      agrees = λ state letter below few.
-          subst (Agree a.shape) (sym (kept_steps_are w.lines state letter)) (s.deterministic state letter (subst (λ (n : ℕ). state < n) (sym same) below) few);
-    }
+pub never_said : (bytes : List ℕ) (fault : PartFault) → NeverReads (lex bytes) (Wrong fault) → SaysNone bytes
+never_said bytes fault never = λ w a text says. never (said_head w.headers) (said_settled w a) (map line_kept w.lines) (text_reads bytes w a text says)
 
-pub never_spelt : (bytes : List ℕ) (fault : PartFault) → NeverReads (lex bytes) (Wrong fault) → SpellsNone bytes
-never_spelt bytes fault never = λ a s. let r = spelt_reads bytes a s in never r.head r.said r.lines r.reads
+pub says_spell_none : (bytes : List ℕ) → SaysNone bytes → SpellsNone bytes
+says_spell_none bytes none = λ a s. none s.written a s.text s.says
 
 -- ---- what is read is read once
 
@@ -88,18 +67,41 @@ letters_once s t lines more o = ap (λ (ns : List (List ℕ)). 2 ^ length ns) o.
 few_once : (s t : Settled) (lines more : List KeptLine) → ReadOnce s t lines more → AreFew t more → AreFew s lines
 few_once s t lines more o few = rw (states_once s t lines more o, letters_once s t lines more o) few
 
-pub many_spell_none : (bytes : List ℕ) (h : KeptHead) (s : Settled) (lines : List KeptLine) → Reads (lex bytes) h s lines → (AreFew s lines → ⊥) → SpellsNone bytes
-many_spell_none bytes h s lines r many = λ a spelt.
-    let q = spelt_reads bytes a spelt in
-    many (few_once s q.said lines q.lines (read_once (lex bytes) h q.head s q.said lines q.lines r q.reads) q.few)
+few_said : (w : Written) (a : Automaton) → Says w a → AreFew (said_settled w a) (map line_kept w.lines)
+few_said w a s = subst (λ (n : ℕ). n * kept_letters (said_settled w a) ≤ 16777216) (states_same w a s) s.few_steps
 
-agree_once : (s t : Settled) (lines more : List KeptLine) (state letter : ℕ) → ReadOnce s t lines more → Agree t.shape (kept_steps more state letter) → Agree s.shape (kept_steps lines state letter)
-agree_once s t lines more state letter o agree = rw (o.settled.shape, o.lines_are) agree
+pub many_say_none : (bytes : List ℕ) (h : KeptHead) (s : Settled) (lines : List KeptLine) → Reads (lex bytes) h s lines → (AreFew s lines → ⊥) → SaysNone bytes
+many_say_none bytes h s lines r many = λ w a text says.
+    let said = said_settled w a in
+    many (few_once s said lines (map line_kept w.lines) (read_once (lex bytes) h (said_head w.headers) s said lines (map line_kept w.lines) r (text_reads bytes w a text says)) (few_said w a says))
 
-pub undetermined_spell_none : (bytes : List ℕ) (h : KeptHead) (s : Settled) (lines : List KeptLine) (state letter : ℕ) → Reads (lex bytes) h s lines → IsFirstConflict s.shape lines (kept_states s lines) (kept_letters s) state letter → SpellsNone bytes
-undetermined_spell_none bytes h s lines state letter r conflict = λ a spelt.
-    let q = spelt_reads bytes a spelt in
-    let once = read_once (lex bytes) h q.head s q.said lines q.lines r q.reads in
-    let state_below = subst (λ (n : ℕ). state < n) (states_once s q.said lines q.lines once) conflict.state_below in
-    let letter_below = subst (λ (n : ℕ). letter < n) (letters_once s q.said lines q.lines once) conflict.letter_below in
-    conflict.fails (agree_once s q.said lines q.lines state letter once (q.agrees state letter state_below letter_below))
+-- ---- what is said is said once
+
+-- two automata that one text says, and the steps of its lines
+pub record SaidOnce (w x : Written) (a b : Automaton) : Type 0 where
+  pub states : a.states ≡ b.states
+  pub settled : AreSettled (said_settled w a) (said_settled x b)
+  pub steps : (state letter : ℕ) → steps_of w.lines state letter ≡ steps_of x.lines state letter
+
+pub said_once : (bytes : List ℕ) (w x : Written) (a b : Automaton) → IsText bytes w → IsText bytes x → Says w a → Says x b → SaidOnce w x a b
+said_once bytes w x a b text other says more =
+    let s = said_settled w a in
+    let t = said_settled x b in
+    let once = read_once (lex bytes) (said_head w.headers) (said_head x.headers) s t (map line_kept w.lines) (map line_kept x.lines) (text_reads bytes w a text says) (text_reads bytes x b other more) in
+    record {
+      states = states_same w a says ∙ states_once s t (map line_kept w.lines) (map line_kept x.lines) once ∙ sym (states_same x b more);
+      settled = once.settled;
+      steps = λ state letter. sym (kept_steps_are w.lines state letter) ∙ ap (λ (ls : List KeptLine). kept_steps ls state letter) once.lines_are ∙ kept_steps_are x.lines state letter;
+    }
+
+pub determined_once : (w x : Written) (a b : Automaton) (state letter : ℕ) → SaidOnce w x a b → IsDeterministicAt b x.lines state letter → IsDeterministicAt a w.lines state letter
+determined_once w x a b state letter o agree = rw (o.settled.shape, o.steps state letter) agree
+
+pub letters_below : (w x : Written) (a b : Automaton) (letter : ℕ) → SaidOnce w x a b → letter < 2 ^ length a.propositions → letter < 2 ^ length b.propositions
+letters_below w x a b letter o h = subst (λ (ns : List (List ℕ)). letter < 2 ^ length ns) o.settled.names h
+
+pub undetermined_spell_none : (bytes : List ℕ) (state letter : ℕ) → IsUndetermined bytes state letter → SpellsNone bytes
+undetermined_spell_none bytes state letter u = λ a s.
+    let o = said_once bytes u.written s.written u.automaton a u.text s.text u.says s.says in
+    u.fails (determined_once u.written s.written u.automaton a state letter o
+    (s.deterministic state letter (subst (λ (n : ℕ). state < n) o.states u.state_below) (letters_below u.written s.written u.automaton a letter o u.letter_below)))

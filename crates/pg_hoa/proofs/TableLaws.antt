@@ -12,7 +12,7 @@ use Rattle.pg_hoa.proofs.Saying.{postfix_says}
 abbrev holds_at : ℕ → Edge → Bool
 holds_at letter e = holds e.letter (λ a. bit_at letter a == 1)
 
-abbrev written_step : List ℕ → Edge → Step
+abbrev pub written_step : List ℕ → Edge → Step
 written_step own e = step e.target (rising (own ++ set_list e.sets))
 
 mapped : {A B : Type 0} (f : A → B) (b : Bool) (x : A) (xs : List A) → map f (cond b (x ∷ xs) xs) ≡ cond b (f x ∷ map f xs) (map f xs)

@@ -1,6 +1,9 @@
 -- What an automaton is.
-use Rattle.std.specs.Prelude.{◌≡◌, ℕ, ◌^◌, ◌*◌, ◌<◌, ◌≤◌, Bool, List, [], ◌∷◌, map, length, Option, Some, None, get_or}
-use Rattle.std.specs.List.{range_with_len}
+use Rattle.std.specs.Prelude.{◌≡◌, ◌≢◌, ℕ, ◌^◌, ◌*◌, ◌<◌, ◌≤◌, Bool, List, [], ◌∷◌, map, length, Option, Some, None, get_or}
+use Rattle.std.specs.List.{All, AllByRecursion, range_with_len}
+use Rattle.std.specs.List.Sorted.{IsStrictlyIncreasing}
+use Rattle.pg_hoa.specs.Formulas.{Formula}
+use Rattle.pg_hoa.specs.Shapes.{FitsShape}
 use Rattle.pg_hoa.specs.declared.shape.Shape.{Shape}
 use Rattle.pg_hoa.specs.declared.shape.Shape.TheVariants.{MinEven, MinOdd}
 
@@ -50,10 +53,31 @@ deciding MinEven sets = first sets
 deciding MinOdd sets = first sets
 deciding _ sets = last sets
 
--- a run begins at a state, each proposition is the controller's or not, and it is within the limits
+abbrev pub IsNameByte : ℕ → Type 0
+IsNameByte b = (32 ≤ b) × (b ≢ 127)
+
+-- at least one byte, and no control characters
+abbrev pub IsPropositionName : List ℕ → Type 0
+IsPropositionName name = (name ≢ []) × AllByRecursion IsNameByte name
+
+-- it leads to one of so many states, and the sets met are among so many, the least first and each once
+pub record IsStepOf (states sets : ℕ) (step : Step) : Type 0 where
+  pub target_below : step.target < states
+  pub sets_below : All (λ s. s < sets) step.sets
+  pub sets_rise : IsStrictlyIncreasing step.sets
+
+abbrev pub HasGoodSteps : Automaton → Type 0
+HasGoodSteps a = (state letter : ℕ) (step : Step) → state < a.states → letter < letters a → next a state letter ≡ Some step → IsStepOf a.states a.sets step
+
+-- a run begins at a state and goes on to states, each proposition has a name and is the controller's or not, some condition
+-- over the sets is of the shape, and all is within the limits
 pub record IsAutomaton (a : Automaton) : Type 0 where
   pub start_below : a.start < a.states
+  pub steps : HasGoodSteps a
+  pub names : AllByRecursion IsPropositionName a.propositions
   pub marks : length a.controllable ≡ length a.propositions
+  pub condition : Formula
+  pub shape : FitsShape condition a.sets a.shape
   pub few_states : a.states ≤ 65535
   pub few_propositions : length a.propositions ≤ 16
   pub few_sets : a.sets ≤ 4096

@@ -7,7 +7,9 @@ use Rattle.pg_hoa.specs.declared.formula.Kind.TheVariants.{Label, Condition}
 use Rattle.pg_hoa.specs.Formulas.{Formula, IsWritten, formula_lexemes, holds}
 use Rattle.pg_hoa.specs.Shapes.{HasShape}
 use Rattle.pg_hoa.specs.declared.shape.Shape.{Shape}
-use Rattle.pg_hoa.specs.Automata.{Step, Automaton, letters, rows, next, deciding}
+use Rattle.pg_hoa.specs.declared.fault.HoaFault.{HoaFault}
+use Rattle.pg_hoa.specs.declared.fault.HoaFault.TheVariants.{OutOfMemory, NotDeterministic}
+use Rattle.pg_hoa.specs.Automata.{Step, Automaton, letters, rows, next, deciding, IsPropositionName}
 
 -- ---- headers
 
@@ -151,9 +153,6 @@ head (s ∷ steps) = Some s
 abbrev pub Agree : Shape → List Step → Type 0
 Agree shape steps = All (λ s. All (λ t. (s.target ≡ t.target) × (deciding shape s.sets ≡ deciding shape t.sets)) steps) steps
 
-abbrev pub IsNameByte : ℕ → Type 0
-IsNameByte b = (32 ≤ b) × (b ≢ 127)
-
 abbrev pub AtMostOne : {A : Type 0} → List A → Type 0
 AtMostOne list = length list ≤ 1
 
@@ -183,7 +182,7 @@ pub record Says (w : Written) (a : Automaton) : Type 0 where
   pub start : flat_map starts w.headers ≡ a.start ∷ []
   pub named : AtMostOne (flat_map names w.headers)
   pub propositions : a.propositions ≡ map (λ name. map character_code name) (flat_map (λ x. x) (flat_map names w.headers))
-  pub good_names : AllByRecursion (λ name. (name ≢ []) × AllByRecursion IsNameByte name) a.propositions
+  pub good_names : AllByRecursion IsPropositionName a.propositions
   pub controlled : AtMostOne (flat_map controls w.headers)
   pub controllable : a.controllable ≡ map (λ p. list_any (λ n. n == p) (flat_map (λ x. x) (flat_map controls w.headers))) (range_with_len 0 (length a.propositions))
   pub controls_below : EachBelow (length a.propositions) (flat_map (λ x. x) (flat_map controls w.headers))
@@ -221,3 +220,20 @@ pub record IsUndetermined (bytes : List ℕ) (state letter : ℕ) : Type 0 where
   pub fails : IsDeterministicAt automaton written.lines state letter → ⊥
   pub before_state : (q l : ℕ) → q < state → l < 2 ^ length automaton.propositions → IsDeterministicAt automaton written.lines q l
   pub before_letter : (l : ℕ) → l < letter → IsDeterministicAt automaton written.lines state l
+
+-- ---- what is refused
+
+-- no automaton is spelt
+abbrev pub SpellsNone : List ℕ → Type 0
+SpellsNone bytes = (a : Automaton) → Spelt bytes a → ⊥
+
+-- the bytes are no text that says an automaton, deterministic or not
+abbrev pub SaysNone : List ℕ → Type 0
+SaysNone bytes = (w : Written) (a : Automaton) → IsText bytes w → Says w a → ⊥
+
+-- Each text may be refused for want of memory. NotDeterministic comes where that alone is wrong, and names where; each other
+-- fault where more is wrong.
+abbrev pub IsRefused : List ℕ → HoaFault → Type 0
+IsRefused bytes OutOfMemory = Unit {0}
+IsRefused bytes (NotDeterministic state letter) = IsUndetermined bytes state letter × SpellsNone bytes
+IsRefused bytes fault = SaysNone bytes × SpellsNone bytes

@@ -6,6 +6,7 @@ mod body;
 mod fault;
 mod formula;
 mod header;
+pub mod laws;
 mod letters;
 mod needs;
 mod reader;

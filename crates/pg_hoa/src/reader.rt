@@ -4,9 +4,9 @@ ghost use Rattle.std.specs.Prelude.{◌≡◌, ◌≤◌, ◌<◌, ◌*◌, ◌^
 ghost use Rattle.pg_hoa.specs.Mirrors.Steps.{Gives};
 ghost use Rattle.pg_hoa.specs.Mirrors.Scan.{lex};
 ghost use Rattle.pg_hoa.specs.Mirrors.Kept.{KeptHead, kept_line};
-ghost use Rattle.pg_hoa.specs.AutomatonText.{Spelt};
+ghost use Rattle.pg_hoa.specs.AutomatonText.{Spelt, IsRefused};
 ghost use Rattle.pg_hoa.specs.Mirrors.Settling.{settled as said, nothing_at};
-ghost use Rattle.pg_hoa.specs.Mirrors.Readings.{bound, kept_states, Reads, NeverReads, CanAssemble, Assembles, NeverAssembles, IsRefused};
+ghost use Rattle.pg_hoa.specs.Mirrors.Readings.{bound, kept_states, Reads, NeverReads, CanAssemble, Assembles, NeverAssembles};
 
 use crate::automaton::Automaton;
 use crate::body::{Line, Ranges, read_body};

@@ -6,10 +6,10 @@ use Rattle.std.proofs.lemmas.List.{append-nil}
 use Rattle.std.proofs.lemmas.List.Concat.{flat_map-cons}
 use Rattle.std.proofs.lemmas.Grind.{flat_map-append}
 use Rattle.pg_text.specs.declared.solution_line.SolutionLine.{SolutionLine}
-use Rattle.pg_text.specs.Lexemes.{Lexeme, number, semicolon, end, Begins, Spells}
+use Rattle.pg_text.specs.Lexemes.{Lexeme, number, semicolon, end, Begins, Spells, clause_lexemes}
 use Rattle.pg_text.specs.Mirrors.Steps.{◌>>=◌, Step, item, stop}
 use Rattle.pg_text.specs.Mirrors.Scan.{token_at}
-use Rattle.pg_text.specs.GameText.{player_number, clause_lexemes}
+use Rattle.pg_text.specs.GameText.{player_number}
 use Rattle.pg_text.specs.Mirrors.GameScan.{owner_at, semicolon_at, clause_at}
 use Rattle.pg_text.specs.SolutionText.{strategy_lexemes, answer_lexemes, solution_lexemes, BeginsWithLines, AreLines}
 use Rattle.pg_text.specs.Mirrors.SolutionScan.{strategy_in, strategy_at, answer_at, answer_in, next_answer_at, answers_at}

@@ -7,7 +7,8 @@ use Rattle.pg_arena.specs.Lines.{Line}
 use Rattle.pg_text.specs.Lexemes.{Lexeme, number, semicolon, comma, quoted, end, Begins, Spells}
 use Rattle.pg_text.specs.Mirrors.Steps.{◌>>=◌, Step, item, stop, items_at}
 use Rattle.pg_text.specs.Mirrors.Scan.{token_at}
-use Rattle.pg_text.specs.GameText.{player_number, further_lexemes, successor_lexemes, name_lexemes, line_lexemes}
+use Rattle.pg_text.specs.GameText.{player_number, name_lexemes, line_lexemes}
+use Rattle.pg_text.specs.Numbers.{comma_number_lexemes, numbers_lexemes}
 use Rattle.pg_text.specs.Mirrors.GameScan.{number_in, natural_at, player_of, owner_at, semicolon_in, semicolon_at, behind_in, behind_at, successors_at, line_at, item_in, item_at}
 use Rattle.pg_text.proofs.Steps.{bind_some, some, some_is, none_is_some}
 use Rattle.pg_text.proofs.Lexing.{token_takes, token_again}
@@ -67,7 +68,7 @@ abbrev BehindStep : Type 0
 BehindStep = Step ℕ (Option (List ℕ)) × List ℕ
 
 abbrev IsBehind : List ℕ → BehindStep → Type 0
-IsBehind bytes (item n, rest) = Spells bytes (further_lexemes n) rest
+IsBehind bytes (item n, rest) = Spells bytes (comma_number_lexemes n) rest
 IsBehind bytes (stop name, rest) = Spells bytes (name_lexemes name ++ semicolon ∷ []) rest
 
 behind_in_is : (bytes : List ℕ) (x : Lexeme × List ℕ) (y : BehindStep) → Begins bytes (x.0) (x.1) → behind_in x ≡ Some y → IsBehind bytes y
@@ -86,7 +87,7 @@ behind_takes bytes y e =
     let b = bind_some (token_at bytes) behind_in y e in
     behind_in_is bytes (b.0) y (token_takes bytes (b.0) (b.1)) (b.2)
 
-further_again : (bytes : List ℕ) (n : ℕ) (rest : List ℕ) → Spells bytes (further_lexemes n) rest → behind_at bytes ≡ Some (item n, rest)
+further_again : (bytes : List ℕ) (n : ℕ) (rest : List ℕ) → Spells bytes (comma_number_lexemes n) rest → behind_at bytes ≡ Some (item n, rest)
 unfolding behind_at
 further_again bytes n rest s = rw (token_again bytes comma (s.0) (s.1), natural_again (s.0) n (s.2.0) (s.2.1), s.2.2) refl
 
@@ -95,7 +96,7 @@ unfolding behind_at
 ending_again None bytes rest s = rw (token_again bytes semicolon (s.0) (s.1), s.2) refl
 ending_again (Some name) bytes rest s = rw (token_again bytes (quoted name) (s.0) (s.1), semicolon_again (s.0) (s.2.0) (s.2.1), s.2.2) refl
 
-pub behind_exact : IsExact behind_at further_lexemes (λ _. Unit {0})
+pub behind_exact : IsExact behind_at comma_number_lexemes (λ _. Unit {0})
 behind_exact = record { takes = λ bytes n rest e. (behind_takes bytes (item n, rest) e, tt); again = λ bytes n rest fits s. further_again bytes n rest s }
 
 pub behind_shrinks : Shrinks behind_at
@@ -108,34 +109,34 @@ behind_shrinks = record {
 -- ---- the successors and what ends the line
 
 abbrev IsEnding : List ℕ → List ℕ × Option (List ℕ) × List ℕ → Type 0
-IsEnding bytes y = Spells bytes (successor_lexemes (y.0) ++ (name_lexemes (y.1) ++ semicolon ∷ [])) (y.2) × (y.0 ≢ [])
+IsEnding bytes y = Spells bytes (numbers_lexemes (y.0) ++ (name_lexemes (y.1) ++ semicolon ∷ [])) (y.2) × (y.0 ≢ [])
 
 pub successors_take : (bytes : List ℕ) (y : List ℕ × Option (List ℕ) × List ℕ) → successors_at bytes ≡ Some y → IsEnding bytes y
 unfolding successors_at
 successors_take bytes y e =
     let a = bind_some (natural_at bytes) (λ first. items_at behind_at (first.1) >>= λ others. some (first.0 ∷ others.0, others.1, others.2)) y e in
     let b = bind_some (items_at behind_at (a.0.1)) (λ others. some (a.0.0 ∷ others.0, others.1, others.2)) y (a.2) in
-    let later = items_take behind_at further_lexemes (λ _. Unit {0}) behind_exact (a.0.1) (b.0) (b.1) in
+    let later = items_take behind_at comma_number_lexemes (λ _. Unit {0}) behind_exact (a.0.1) (b.0) (b.1) in
     let ending = behind_takes (later.0) (stop (b.0.1), b.0.2) (later.2) in
-    let whole = spells_append (flat_map further_lexemes (b.0.0)) (name_lexemes (b.0.1) ++ semicolon ∷ []) (a.0.1) (later.0) (b.0.2) (later.1) ending in
+    let whole = spells_append (flat_map comma_number_lexemes (b.0.0)) (name_lexemes (b.0.1) ++ semicolon ∷ []) (a.0.1) (later.0) (b.0.2) (later.1) ending in
     subst (IsEnding bytes) (some_is (a.0.0 ∷ b.0.0, b.0.1, b.0.2) y (b.2)) ((a.0.1, natural_takes bytes (a.0) (a.1), whole), λ e. cc)
 
 all_units : (ns : List ℕ) → AllByRecursion (λ (_ : ℕ). Unit {0}) ns
 all_units [] = tt
 all_units (n ∷ ns) = (tt, all_units ns)
 
-pub successors_again : (ns : List ℕ) (name : Option (List ℕ)) (bytes rest : List ℕ) → ns ≢ [] → Spells bytes (successor_lexemes ns ++ (name_lexemes name ++ semicolon ∷ [])) rest → successors_at bytes ≡ Some (ns, name, rest)
+pub successors_again : (ns : List ℕ) (name : Option (List ℕ)) (bytes rest : List ℕ) → ns ≢ [] → Spells bytes (numbers_lexemes ns ++ (name_lexemes name ++ semicolon ∷ [])) rest → successors_at bytes ≡ Some (ns, name, rest)
 unfolding successors_at
 successors_again [] name bytes rest h s = absurd (h refl)
 successors_again (n ∷ ns) name bytes rest h s =
-    let parts = spells_parts (flat_map further_lexemes ns) (name_lexemes name ++ semicolon ∷ []) (s.0) rest (s.2) in
-    let others : items_at behind_at (s.0) ≡ Some (ns, name, rest) = items_again behind_at further_lexemes (λ _. Unit {0}) behind_exact behind_shrinks ns (s.0) (parts.0) name rest (all_units ns) (parts.1) (ending_again name (parts.0) rest (parts.2)) in
+    let parts = spells_parts (flat_map comma_number_lexemes ns) (name_lexemes name ++ semicolon ∷ []) (s.0) rest (s.2) in
+    let others : items_at behind_at (s.0) ≡ Some (ns, name, rest) = items_again behind_at comma_number_lexemes (λ _. Unit {0}) behind_exact behind_shrinks ns (s.0) (parts.0) name rest (all_units ns) (parts.1) (ending_again name (parts.0) rest (parts.2)) in
     rw (natural_again bytes n (s.0) (s.1), others) refl
 
 -- ---- a line behind its identifier
 
 abbrev behind_lexemes : Line → List Lexeme
-behind_lexemes line = number (line.priority) ∷ number (player_number (line.owner)) ∷ (successor_lexemes (line.successors) ++ (name_lexemes (line.name) ++ semicolon ∷ []))
+behind_lexemes line = number (line.priority) ∷ number (player_number (line.owner)) ∷ (numbers_lexemes (line.successors) ++ (name_lexemes (line.name) ++ semicolon ∷ []))
 
 abbrev LineTaken : List ℕ → Line × List ℕ → Type 0
 LineTaken bytes y = Spells bytes (behind_lexemes (y.0)) (y.1) × (y.0.successors ≢ [])

@@ -6,10 +6,10 @@ use Rattle.std.specs.List.{flat_map}
 use Rattle.std.proofs.lemmas.Slice.Eq.{bytes_eq-Decides}
 use Rattle.std.proofs.lemmas.Bool.{false_from_ne_true}
 use Rattle.pg_arena.specs.Lines.{Line}
-use Rattle.pg_text.specs.Lexemes.{Lexeme, number, word, semicolon, end, Begins, Spells}
+use Rattle.pg_text.specs.Lexemes.{Lexeme, number, word, semicolon, end, Begins, Spells, clause_lexemes}
 use Rattle.pg_text.specs.Mirrors.Steps.{◌>>=◌, items_at}
 use Rattle.pg_text.specs.Mirrors.Scan.{token_at}
-use Rattle.pg_text.specs.GameText.{line_lexemes, clause_lexemes, game_lexemes, IsText}
+use Rattle.pg_text.specs.GameText.{line_lexemes, game_lexemes, IsText}
 use Rattle.pg_text.specs.Mirrors.GameScan.{natural_at, semicolon_at, item_at, clause_in, clause_at, body_at, lines_at}
 use Rattle.pg_text.proofs.Steps.{bind_some, chosen, some, some_is}
 use Rattle.pg_text.proofs.Lexing.{token_takes, token_again}

@@ -1,5 +1,5 @@
 -- The tokens of a text in the PGSolver format, and the bytes that spell them.
-use Rattle.std.specs.Prelude.{◌≡◌, ◌≢◌, ℕ, ◌+◌, ◌-◌, ◌*◌, ◌^◌, ◌<◌, Bool, true, false, ◌||◌, ◌&&◌, ◌==◌, nat_le, List, [], ◌∷◌, ◌++◌, length, drop, if◌then◌else◌}
+use Rattle.std.specs.Prelude.{◌≡◌, ◌≢◌, ℕ, ◌+◌, ◌-◌, ◌*◌, ◌^◌, ◌<◌, Bool, true, false, ◌||◌, ◌&&◌, ◌==◌, nat_le, List, [], ◌∷◌, ◌++◌, length, drop, Option, Some, None, if◌then◌else◌}
 use Rattle.std.specs.List.{fold, prefix_len, AllByRecursion}
 use Rattle.pg_text.specs.declared.tokens.Token.{Token}
 use Rattle.pg_text.specs.declared.tokens.Token.TheVariants as tokens
@@ -73,6 +73,11 @@ pub record Begins (bytes : List ℕ) (token : Lexeme) (rest : List ℕ) : Type 0
 abbrev pub Spells : List ℕ → List Lexeme → List ℕ → Type 0
 Spells bytes [] rest = bytes ≡ rest
 Spells bytes (token ∷ tokens) rest = (mid : List ℕ) × Begins bytes token mid × Spells mid tokens rest
+
+-- a word, a number and a semicolon; or nothing
+abbrev pub clause_lexemes : List ℕ → Option ℕ → List Lexeme
+clause_lexemes name None = []
+clause_lexemes name (Some n) = word name ∷ number n ∷ semicolon ∷ []
 
 -- behind the white space in front
 abbrev pub after_space : List ℕ → List ℕ

@@ -14,6 +14,7 @@ mod solution_line;
 mod solution_tests;
 mod solution_text;
 pub mod tokens;
+pub mod writing;
 
 pub use answer::Answer;
 pub use fault::TextFault;

@@ -1,13 +1,15 @@
 -- What the reader keeps of a whole text, and the automaton that it makes of that.
 use Rattle.std.specs.Prelude.{◌≡◌, ℕ, ◌*◌, ◌^◌, ◌<◌, ◌≤◌, List, [], length, Option, Some, None}
-use Rattle.std.specs.List.{All}
+use Rattle.std.specs.List.{All, AllByRecursion}
 use Rattle.pg_hoa.specs.declared.fault.Refusal.{Refusal}
 use Rattle.pg_hoa.specs.declared.fault.Refusal.TheVariants.{Memory, Wrong}
 use Rattle.pg_hoa.specs.declared.fault.HoaFault.{HoaFault}
 use Rattle.pg_hoa.specs.declared.fault.HoaFault.TheVariants.{OutOfMemory, NotDeterministic}
 use Rattle.pg_hoa.specs.Lexemes.{Lexeme}
-use Rattle.pg_hoa.specs.Automata.{Automaton, letters, rows, next}
-use Rattle.pg_hoa.specs.AutomatonText.{Agree, head, Spelt, IsUndetermined}
+use Rattle.pg_hoa.specs.Formulas.{Formula}
+use Rattle.pg_hoa.specs.Shapes.{FitsShape}
+use Rattle.pg_hoa.specs.Automata.{Automaton, IsPropositionName, IsStepOf, letters, rows, next}
+use Rattle.pg_hoa.specs.AutomatonText.{Agree, head}
 use Rattle.pg_hoa.specs.Mirrors.Kept.{KeptHead, KeptLine}
 use Rattle.pg_hoa.specs.Mirrors.HeaderScan.{headers_at}
 use Rattle.pg_hoa.specs.Mirrors.BodyScan.{body_at}
@@ -46,7 +48,8 @@ kept_letters s = 2 ^ length s.names
 abbrev pub AreFew : Settled → List KeptLine → Type 0
 AreFew s lines = kept_states s lines * kept_letters s ≤ 16777216
 
--- what may be asked of headers and lines that were read: the numbers are in range and the counts within their limits
+-- what may be asked of headers and lines that were read: names are good, some condition has the shape, the numbers are in range
+-- and the counts within their limits
 pub record CanAssemble (s : Settled) (lines : List KeptLine) : Type 0 where
   pub start_below : s.start < kept_states s lines
   pub few_states : kept_states s lines ≤ 65535
@@ -55,6 +58,10 @@ pub record CanAssemble (s : Settled) (lines : List KeptLine) : Type 0 where
   pub marks : length s.controllable ≡ length s.names
   pub low_start : s.start < 65535
   pub below : All (λ l. l.state < kept_states s lines) lines
+  pub names : AllByRecursion IsPropositionName s.names
+  pub condition : Formula
+  pub shape : FitsShape condition s.sets s.shape
+  pub steps : (state letter : ℕ) → AllByRecursion (IsStepOf (kept_states s lines) s.sets) (kept_steps lines state letter)
 
 -- the automaton of these headers and lines: the steps agree, and each step is the first
 pub record Assembles (s : Settled) (lines : List KeptLine) (a : Automaton) : Type 0 where
@@ -73,13 +80,3 @@ abbrev pub NeverAssembles : Settled → List KeptLine → HoaFault → Type 0
 NeverAssembles s lines OutOfMemory = Unit {0}
 NeverAssembles s lines (NotDeterministic state letter) = AreFew s lines × IsFirstConflict s.shape lines (kept_states s lines) (kept_letters s) state letter
 NeverAssembles s lines fault = AreFew s lines → ⊥
-
--- no automaton is spelt
-abbrev pub SpellsNone : List ℕ → Type 0
-SpellsNone bytes = (a : Automaton) → Spelt bytes a → ⊥
-
--- the bytes spell no automaton, if it isn't memory that is wanting; where a state isn't deterministic that alone is wrong
-abbrev pub IsRefused : List ℕ → HoaFault → Type 0
-IsRefused bytes OutOfMemory = Unit {0}
-IsRefused bytes (NotDeterministic state letter) = IsUndetermined bytes state letter × SpellsNone bytes
-IsRefused bytes fault = SpellsNone bytes

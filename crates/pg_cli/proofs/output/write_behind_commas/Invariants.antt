@@ -1,7 +1,7 @@
 use Rattle.std.proofs.Common.{take}
 use Rattle.std.specs.List.{flat_map}
 use Rattle.std.specs.Io.KnownBytes.{Appends}
-use Rattle.pg_cli.specs.Answers.{comma_number}
+use Rattle.pg_cli.specs.Measuring.{comma_number}
 use Rattle.pg_cli.proofs.output.write_behind_commas.Given as goal
 
 abbrev pub invariant-loop-number : goal.invariant-loop-number

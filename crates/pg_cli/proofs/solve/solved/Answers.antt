@@ -1,10 +1,24 @@
-use Rattle.pg_cli.specs.Faults.{text_fault}
-use Rattle.pg_cli.specs.Answers.{RefusesSolve}
-use Rattle.pg_cli.proofs.Refusing.{no_game, no_game_solved, refused_by}
+use Rattle.pg_text.specs.GameText.{Refuses}
+use Rattle.pg_cli.specs.Faults.{text_fault, check_fault}
+use Rattle.pg_cli.specs.Answers as answers
+use Rattle.pg_cli.specs.declared.command.Command.TheVariants.{Solve}
+use Rattle.pg_cli.proofs.Refusing.{no_game, game_unwritten, told_so, refused_by}
+use Rattle.pg_cli.proofs.Printing.{refuses_undecided}
 use Rattle.pg_cli.proofs.solve.solved.Goals as goal
 
 pub returns-in_err-game-clause-refused : goal.returns-in_err-game-clause-refused
 returns-in_err-game-clause-refused c =
-    refused_by (RefusesSolve c.args.text.items) c.from_residual.result (text_fault c.in_err-game.field-0.0) c.from_residual.ensures.1
-    (no_game_solved c.args.text.items c.in_err-game.field-0.0
-    (no_game c.args.text.items c.in_err-game.field-0.0 (rw (← c.deref.ensures.value) c.in_err-game.ensures.only)))
+    let bytes = c.args.text.items in
+    let fault = c.in_err-game.field-0.0 in
+    let why : Refuses bytes fault = rw (← c.deref.ensures.value) c.in_err-game.ensures.refused in
+    refused_by (answers.Refuses Solve bytes) c.from_residual.result (text_fault fault) c.from_residual.ensures.1
+    (told_so (answers.Refuses Solve bytes) fault tt (game_unwritten bytes fault why) (λ no_memory.
+    (c.requires, no_game bytes fault (rw (← c.deref.ensures.value) c.in_err-game.ensures.only) why no_memory)))
+
+pub returns-in_err-solution-clause-refused : goal.returns-in_err-solution-clause-refused
+returns-in_err-solution-clause-refused c =
+    let bytes = c.args.text.items in
+    let fault = c.in_err-solution.field-0.0 in
+    refused_by (answers.Refuses Solve bytes) c.from_residual-in_err-solution.result (check_fault fault) c.from_residual-in_err-solution.ensures.1
+    (refuses_undecided bytes c.in_ok-game.game c.in_ok-even.even c.in_ok-odd.odd c.requires (rw (← c.deref.ensures.value) c.in_ok-game.ensures.found)
+    c.in_ok-even.ensures c.in_ok-odd.ensures fault c.in_err-solution.ensures.fault)

@@ -4,7 +4,8 @@ use Rattle.pg_hoa.specs.declared.body.Line.{Line}
 use Rattle.pg_hoa.specs.Mirrors.Scan.{lex}
 use Rattle.pg_hoa.specs.Mirrors.Kept.{kept_line}
 use Rattle.pg_hoa.specs.Mirrors.Settling.{settled as said}
-use Rattle.pg_hoa.specs.Mirrors.Readings.{CanAssemble, Assembles, NeverAssembles, IsRefused}
+use Rattle.pg_hoa.specs.AutomatonText.{IsRefused}
+use Rattle.pg_hoa.specs.Mirrors.Readings.{CanAssemble, Assembles, NeverAssembles}
 use Rattle.pg_hoa.proofs.ReadParts.{reads_can}
 use Rattle.pg_hoa.proofs.Refusing.{refusal_refused, whole_found, whole_refused}
 use Rattle.pg_hoa.proofs.reader.read_automaton.Goals as goal

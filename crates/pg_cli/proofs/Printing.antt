@@ -1,0 +1,76 @@
+-- What a command prints, from what it worked out; and why it prints nothing.
+use Rattle.std.proofs.Common.{◌≡◌, ℕ, ◌<◌, ◌≤◌, ◌^◌, List, length, Option, Some, None, Result, Ok, Err, refl, subst}
+use Rattle.std.specs.Prelude.{All, IfErr, IfSome}
+use Rattle.pg_arena.specs.Games.{GameVertex, dual}
+use Rattle.pg_map.specs.Maps.{MapValue}
+use Rattle.pg_text.specs.GameText.{IsGameText}
+use Rattle.pg_text.specs.SolutionLayout.{solution_text}
+use Rattle.pg_text.specs.declared.answer.Answer.{Answer}
+use Rattle.pg_check.specs.Strategies.{StrategiesFail}
+use Rattle.pg_check.specs.declared.fault.CheckFault.{CheckFault}
+use Rattle.pg_check.specs.declared.fault.CheckFault.TheVariants as check
+use Rattle.pg_check.specs.declared.verdict.Verdict.{Verdict}
+use Rattle.pg_cli.specs.Measuring.{measures_text, IsMeasureOf}
+use Rattle.pg_cli.specs.Solving.{IsSolvedBy}
+use Rattle.pg_cli.specs.Checking.{verdict_text, IsCheckedBy}
+use Rattle.pg_cli.specs.Answers.{Prints, Refuses}
+use Rattle.pg_cli.specs.Faults.{check_fault}
+use Rattle.pg_cli.specs.declared.input.TheConstants.{MOST_BYTES}
+use Rattle.pg_cli.specs.declared.command.Command.{Command}
+use Rattle.pg_cli.specs.declared.command.Command.TheVariants.{Measure, Solve, Check}
+use Rattle.pg_cli.specs.declared.fault.CliFault.{CliFault}
+
+pub prints_measures : (input : List ℕ) (game : List GameVertex) (map : MapValue) → length input ≤ MOST_BYTES → IsGameText input game → IsMeasureOf game map
+    → (output : List ℕ) × Prints Measure input output
+prints_measures input game map limit spelt measure = (
+  measures_text game map.measures,
+  record {
+    limit = limit;
+    answer = record { game = game; spelt = spelt; map = map; measure = measure; printed = refl };
+  },
+)
+
+pub prints_solution : (input : List ℕ) (game : List GameVertex) (solution : List Answer) → length input ≤ MOST_BYTES → IsGameText input game
+    → All (λ x. x.identifier < 2 ^ 32) game → IsSolvedBy game solution → (output : List ℕ) × Prints Solve input output
+prints_solution input game solution limit spelt identifiers solved = (
+  solution_text game solution,
+  record {
+    limit = limit;
+    answer = record { game = game; spelt = spelt; identifiers = identifiers; solution = solution; solved = solved; printed = refl };
+  },
+)
+
+pub prints_verdict : (input : List ℕ) (game : List GameVertex) (verdict : Verdict) → length input ≤ MOST_BYTES → IsCheckedBy input game verdict
+    → (output : List ℕ) × Prints Check input output
+prints_verdict input game verdict limit checked = (
+  verdict_text game verdict,
+  record {
+    limit = limit;
+    answer = record { game = game; verdict = verdict; checked = checked; printed = refl };
+  },
+)
+
+-- where two least progress measures have no solution, memory aside, both are top at some vertex
+pub refuses_undecided : (input : List ℕ) (game : List GameVertex) (even odd : MapValue) → length input ≤ MOST_BYTES → IsGameText input game
+    → IsMeasureOf game even → IsMeasureOf (dual game) odd → (fault : CheckFault) → StrategiesFail game even odd fault → Refuses Solve input (check_fault fault)
+refuses_undecided input game even odd limit spelt of_game of_dual check.OutOfMemory fails = tt
+refuses_undecided input game even odd limit spelt of_game of_dual (check.Undecided id) fails = (
+  limit,
+  record {
+    game = game;
+    spelt = spelt;
+    even = even;
+    odd = odd;
+    even_measure = of_game;
+    odd_measure = of_dual;
+    undecided = fails;
+  },
+)
+
+-- what is so of the text that was read is so of the known bytes
+pub refused_known : (command : Command) (known : Option (List ℕ)) (text : List ℕ) (result : Result (Unit {0}) CliFault) → IfSome known (λ input. text ≡ input)
+    → IfErr result (Refuses command text) → IfErr result (λ fault. IfSome known (λ input. Refuses command input fault))
+refused_known command known text (Ok x) same why = tt
+refused_known command None text (Err fault) same why = tt
+refused_known command (Some input) text (Err fault) same why =
+    subst (λ (bytes : List ℕ). Refuses command bytes fault) same why

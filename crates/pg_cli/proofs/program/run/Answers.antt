@@ -1,0 +1,7 @@
+use Rattle.pg_cli.proofs.Printing.{refused_known}
+use Rattle.pg_cli.proofs.program.run.Goals as goal
+
+pub returns-in-Check-clause-refused : goal.returns-in-Check-clause-refused
+returns-in-Check-clause-refused g c =
+    refused_known c.args.command (g.R.Read.remaining c.args.reader.now) c.in_ok-text.text.items c.check.result c.in_ok-text.ensures.bytes
+    (rw c.in-Check.is c.check.ensures.refused)

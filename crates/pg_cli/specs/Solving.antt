@@ -1,0 +1,46 @@
+-- What `solve` prints.
+use Rattle.std.specs.Prelude.{◌≡◌, ℕ, ◌<◌, ◌^◌, List, All}
+use Rattle.pg_arena.specs.Games.{GameVertex, dual}
+use Rattle.pg_map.specs.Maps.{MapValue}
+use Rattle.pg_text.specs.GameText.{IsGameText}
+use Rattle.pg_text.specs.SolutionLayout.{solution_text}
+use Rattle.pg_text.specs.declared.answer.Answer.{Answer}
+use Rattle.pg_check.specs.Strategies.{IsSolutionOf, IsLeastUndecided}
+use Rattle.pg_cli.specs.Texts.{SpellsNoGame}
+use Rattle.pg_cli.specs.Measuring.{IsMeasureOf}
+use Rattle.pg_cli.specs.declared.fault.CliFault.{CliFault}
+use Rattle.pg_cli.specs.declared.fault.CliFault.TheVariants.{Text, Undecided}
+
+-- the solution of the least progress measures of the game and of its dual
+pub record IsSolvedBy (game : List GameVertex) (solution : List Answer) : Type 0 where
+  pub even : MapValue
+  pub odd : MapValue
+  pub even_measure : IsMeasureOf game even
+  pub odd_measure : IsMeasureOf (dual game) odd
+  pub solution_of : IsSolutionOf game even odd solution
+
+-- The input spells a game, whose identifiers are numbers of 32 bits, and the output is the text of its solution.
+pub record IsSolved (input output : List ℕ) : Type 0 where
+  pub game : List GameVertex
+  pub spelt : IsGameText input game
+  pub identifiers : All (λ x. x.identifier < 2 ^ 32) game
+  pub solution : List Answer
+  pub solved : IsSolvedBy game solution
+  pub printed : output ≡ solution_text game solution
+
+-- The input spells a game, and the vertex with this identifier is the least at which the least progress measures of the
+-- game and of its dual are both top.
+pub record IsUndecidedAt (input : List ℕ) (id : ℕ) : Type 0 where
+  pub game : List GameVertex
+  pub spelt : IsGameText input game
+  pub even : MapValue
+  pub odd : MapValue
+  pub even_measure : IsMeasureOf game even
+  pub odd_measure : IsMeasureOf (dual game) odd
+  pub undecided : IsLeastUndecided game even odd id
+
+-- why an input has no such output: it spells no game, or both measures are top at some vertex
+abbrev pub RefusesSolve : List ℕ → CliFault → Type 0
+RefusesSolve input (Text fault) = SpellsNoGame input fault
+RefusesSolve input (Undecided id) = IsUndecidedAt input id
+RefusesSolve input _ = ⊥

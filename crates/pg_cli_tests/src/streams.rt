@@ -1,0 +1,126 @@
+use pg_cli::{CliFault, Command, exit_code, run, write_fault};
+use std::alloc::Global;
+use std::io::{self, ErrorKind, Read, Write};
+use std::test::Fail;
+
+/// Gives a byte at a time; the read with this number fails with this kind of error.
+#[derive(Drop)]
+struct Failing<'a> {
+    left: &'a [u8],
+    before: usize,
+    kind: ErrorKind,
+}
+
+impl Read for Failing<'_> {
+    fn read(&mut self, buf: &mut [u8]) -> io::Result<usize> {
+        if self.before == 0 {
+            self.before = usize::MAX;
+            return Err(io::Error::from(self.kind));
+        }
+        self.before -= 1;
+        let room = buf.len().min(1);
+        self.left.read(&mut buf[..room])
+    }
+}
+
+/// Takes a byte at a time, and fails at one write and at each after it.
+#[derive(Drop)]
+struct Full {
+    before: usize,
+}
+
+impl Write for Full {
+    fn write(&mut self, buf: &[u8]) -> io::Result<usize> {
+        if self.before == 0 {
+            return Err(io::Error::from(ErrorKind::Other));
+        }
+        self.before -= 1;
+        Ok(buf.len().min(1))
+    }
+
+    fn flush(&mut self) -> io::Result<()> {
+        Ok(())
+    }
+}
+
+/// From the vertex with priority 1 Even leaves by the one with priority 2.
+const TWO: &[u8] = b"parity 1;\n0 1 0 0,1;\n1 2 1 0;\n";
+
+/// The same, and its solution.
+const SOLVED: &[u8] = b"parity 1;\n0 1 0 0,1;\n1 2 1 0;\n--\nparitysol 1;\n0 0 1;\n1 0;\n";
+
+/// Each command on an input, and its answer.
+const ANSWERS: [(Command, &[u8], &[u8]); 3] = [
+    (Command::Measure, TWO, b"0 1;\n1 0;\n"),
+    (Command::Solve, TWO, b"paritysol 1;\n0 0 1;\n1 0;\n"),
+    (Command::Check, SOLVED, b"WINS\n"),
+];
+
+#[test]
+fn each_command_answers(rt: HostRuntime) -> Result<(), Fail> {
+    for (command, input, answer) in ANSWERS {
+        let mut input = input;
+        let mut output = Vec::new(rt.alloc());
+        run(rt.alloc(), command, &mut input, &mut output)?;
+        assert_eq!(rt; output.as_slice(), answer, "{command:?}");
+    }
+    Ok(())
+}
+
+/// What `measure` answers to a reader whose read with this number fails, and what was written.
+fn measured(
+    alloc: Global,
+    before: usize,
+    kind: ErrorKind,
+) -> (Result<(), CliFault>, Vec<u8>) {
+    let mut input = Failing { left: TWO, before, kind };
+    let mut output = Vec::new(alloc);
+    let done = run(alloc, Command::Measure, &mut input, &mut output);
+    (done, output)
+}
+
+/// The text has 30 bytes, so that the thirty-first read is the one that finds the end.
+#[test]
+fn a_failed_read_writes_nothing(rt: HostRuntime) {
+    for before in 0..31usize {
+        let (done, output) = measured(rt.alloc(), before, ErrorKind::Other);
+        assert!(rt; matches!(&done, Err(CliFault::Read)), "before {before}");
+        assert!(rt; output.is_empty(), "before {before}");
+        let _ = done;
+    }
+}
+
+#[test]
+fn an_interrupted_read_is_tried_again(rt: HostRuntime) {
+    for before in 0..31usize {
+        let (done, output) = measured(rt.alloc(), before, ErrorKind::Interrupted);
+        assert!(rt; done.is_ok(), "before {before}");
+        assert_eq!(rt; output.as_slice(), b"0 1;\n1 0;\n".as_slice(), "before {before}");
+        let _ = done;
+    }
+}
+
+/// The answer has 10 bytes.
+#[test]
+fn a_failed_write_is_told(rt: HostRuntime) {
+    for before in 0..12usize {
+        let mut input = TWO;
+        let mut output = Full { before };
+        let done = run(rt.alloc(), Command::Measure, &mut input, &mut output);
+        assert_eq!(rt; matches!(&done, Err(CliFault::Write)), before < 10, "before {before}");
+        assert_eq!(rt; done.is_ok(), 10 <= before, "before {before}");
+        let _ = done;
+    }
+}
+
+#[test]
+fn a_fault_is_one_line(rt: HostRuntime) -> Result<(), Fail> {
+    let mut output = Vec::new(rt.alloc());
+    write_fault(&CliFault::InputTooLong, &mut output)?;
+    assert_eq!(rt;
+        output.as_slice(),
+        b"parsolve: input is longer than 268435456 bytes\n".as_slice()
+    );
+    assert_eq!(rt; exit_code(&CliFault::InputTooLong), 1);
+    Ok(())
+}
