@@ -9,7 +9,8 @@ Whoever wants to believe what is proved reads the believed modules: the files of
 - each name of docs/definitions.md is defined in the file that stands beside it.
 
     tests/layout.py            prints what it finds; the status is 1 if something is wrong
-    tests/layout.py --write    also puts the numbers of lines into docs/map.md
+    tests/layout.py --write    first mends both documents as far as that needs no words: numbers of lines, files that are
+                               gone or new (with their first line), the file of a definition that has moved
 """
 import pathlib
 import re
@@ -106,12 +107,45 @@ def entries():
                 yield name, None if is_there else f"isn't defined in {crate}/specs/{' or '.join(files)}, as docs/definitions.md says"
 
 
-def write():
-    """Puts the numbers of lines into docs/map.md."""
-    def counted(row):
-        path = CRATES / row[1]
-        return f"| `{row[1]}` | {line_count(path) if path.is_file() else row[2]} |"
-    MAP.write_text(ROW.sub(counted, MAP.read_text()))
+def headline(path):
+    """What the first line of a module says of it."""
+    return path.read_text().partition("\n")[0].lstrip("- ").rstrip(".") or "?"
+
+
+def write_map():
+    """Sets the numbers of lines, takes out rows of files that are gone, and puts new modules behind others of their crate."""
+    rows = MAP.read_text().split("\n")
+    kept = []
+    for row in rows:
+        found = ROW.match(row)
+        if not found:
+            kept.append(row)
+        elif (CRATES / found[1]).is_file():
+            kept.append(ROW.sub(f"| `{found[1]}` | {line_count(CRATES / found[1])} |", row))
+    for path in modules()[0]:
+        if is_of_tests(path) or any(f"| `{shown(path)}` |" in row for row in kept):
+            continue
+        crate = shown(path).partition("/")[0]
+        places = [place for place, row in enumerate(kept) if ROW.match(row) and row.startswith(f"| `{crate}/")]
+        places = places or [place for place, row in enumerate(kept) if ROW.match(row)]
+        kept.insert(places[-1] + 1, f"| `{shown(path)}` | {line_count(path)} | {headline(path)} |")
+    MAP.write_text("\n".join(kept))
+
+
+def write_definitions():
+    """Sets the files of the entries whose names stand in one other file of their crate."""
+    text, crate = [], None
+    for row in DEFINITIONS.read_text().split("\n"):
+        crate = re.match(r"## .*\(`(\w+)`\)|", row)[1] or crate
+        if row.startswith("| `"):
+            first, files, rest = row.split(" | ", 2)
+            names = [words.split()[0] for words in re.findall(r"`([^`]+)`", first)]
+            found = [[path.name for path in modules()[0] if shown(path).startswith(f"{crate}/") and defined(name, path)] for name in names]
+            if all(len(set(it)) == 1 for it in found):
+                files = ", ".join(f"`{name}`" for name in dict.fromkeys(it[0] for it in found))
+            row = " | ".join((first, files, rest))
+        text.append(row)
+    DEFINITIONS.write_text("\n".join(text))
 
 
 def run():
@@ -134,5 +168,6 @@ def run():
 
 if __name__ == "__main__":
     if "--write" in sys.argv[1:]:
-        write()
+        write_map()
+        write_definitions()
     sys.exit(1 if run()[1] else 0)
