@@ -6,7 +6,8 @@ Whoever wants to believe what is proved reads the believed modules: the files of
 - no believed module names a mirror, a lemma or a proof, of its own crate or of another (`Rattle.std.proofs.Common`, which
   holds constructors of the logic, aside), and no `Lib` passes one on;
 - docs/map.md lists each believed module once, with the number of its lines;
-- each name of docs/definitions.md is defined in the file that stands beside it.
+- each name of docs/definitions.md is defined in the file that stands beside it;
+- each call and law that the README names is there.
 
     tests/layout.py            prints what it finds; the status is 1 if something is wrong
     tests/layout.py --write    first mends both documents as far as that needs no words: numbers of lines, files that are
@@ -17,7 +18,7 @@ import re
 import sys
 
 TOP = pathlib.Path(__file__).resolve().parent.parent
-CRATES, MAP, DEFINITIONS = TOP / "crates", TOP / "docs/map.md", TOP / "docs/definitions.md"
+CRATES, README, MAP, DEFINITIONS = TOP / "crates", TOP / "README.md", TOP / "docs/map.md", TOP / "docs/definitions.md"
 APART = {"Mirrors", "Lemmas"}
 ROW = re.compile(r"^\| `(\w+/specs/[\w/]+\.antt)` \| (\d+) \|", re.M)
 
@@ -107,9 +108,17 @@ def entries():
                 yield name, None if is_there else f"isn't defined in {crate}/specs/{' or '.join(files)}, as docs/definitions.md says"
 
 
+def calls():
+    """The same for each call and law of the README, as `pg_check::laws::one_winner`."""
+    for crate, name in re.findall(r"`(pg_\w+)::(?:\w+::)*(\w+)`", README.read_text()):
+        is_there = any(re.search(rf"\bpub fn {name}\b", path.read_text()) for path in (CRATES / crate / "src").rglob("*.rt"))
+        yield name, None if is_there else f"isn't in {crate}, as the README says"
+
+
 def headline(path):
     """What the first line of a module says of it."""
-    return path.read_text().partition("\n")[0].lstrip("- ").rstrip(".") or "?"
+    line = path.read_text().partition("\n")[0].lstrip("- ").rstrip(".")
+    return line[:1].lower() + line[1:]
 
 
 def write_map():
@@ -151,7 +160,7 @@ def write_definitions():
 def run():
     """Makes every check; answers how many passed and failed."""
     passed = failed = 0
-    for part in (imports, rows_of_map, entries):
+    for part in (imports, rows_of_map, entries, calls):
         for what, why in part():
             if why is None:
                 passed += 1
