@@ -5,7 +5,8 @@ Whoever wants to believe what is proved reads the believed modules: the files of
 `Mirrors` and `Lemmas` list. So
 - no believed module names a mirror, a lemma or a proof, of its own crate or of another (`Rattle.std.proofs.Common`, which
   holds constructors of the logic, aside), and no `Lib` passes one on;
-- docs/map.md lists each believed module once, with the number of its lines;
+- docs/map.md lists each believed module once, with the number of its lines, and the public calls whose contracts name a
+  mirror all the same;
 - each name of docs/definitions.md is defined in the file that stands beside it;
 - each call and law that the README names is there.
 
@@ -16,10 +17,12 @@ Whoever wants to believe what is proved reads the believed modules: the files of
 import pathlib
 import re
 import sys
+import textwrap
 
 TOP = pathlib.Path(__file__).resolve().parent.parent
 CRATES, README, MAP, DEFINITIONS = TOP / "crates", TOP / "README.md", TOP / "docs/map.md", TOP / "docs/definitions.md"
 APART = {"Mirrors", "Lemmas"}
+EXCEPTIONS = re.compile(r"Public calls whose contracts name one: ((?:[^.]|\n)*)\.")
 ROW = re.compile(r"^\| `(\w+/specs/[\w/]+\.antt)` \| (\d+) \|", re.M)
 
 
@@ -108,6 +111,45 @@ def entries():
                 yield name, None if is_there else f"isn't defined in {crate}/specs/{' or '.join(files)}, as docs/definitions.md says"
 
 
+def offered(crate):
+    """(file, names) of each module with items that the crate offers; None where it offers all that are public there."""
+    text = (crate / "src/lib.rt").read_text() if (crate / "src/lib.rt").is_file() else ""
+    for name in re.findall(r"^pub mod (\w+);", text, re.M):
+        yield crate / f"src/{name}.rt", None
+    for name, items in re.findall(r"^pub use (?:crate::)?(\w+)::(\w+|\{[^}]*\});", text, re.M):
+        yield crate / f"src/{name}.rt", set(re.findall(r"\w+", items))
+
+
+def heads(text):
+    """(item, function, signature and contract) of each public function of a module."""
+    item = ""
+    for block in re.split(r"^(?=impl\b|\}|pub fn|    pub fn)", text, flags=re.M):
+        kind = re.match(r"impl(?:<.*?>)? (?:\S+ for )?(\w+)|(\})|( *)pub fn (\w+)", block)
+        if kind and kind[4]:
+            yield item if kind[3] else "", kind[4], re.split(rf"^{kind[3]}\{{$|\{{$", block, flags=re.M)[0]
+        elif kind:
+            item = kind[1] or ""
+
+
+def naming_mirrors():
+    """The public calls whose contracts name a mirror or a lemma."""
+    for crate in sorted(CRATES.iterdir()):
+        for path, names in offered(crate):
+            text = path.read_text() if path.is_file() else ""
+            uses = re.findall(r"ghost use [\w.]*\b(?:Mirrors|Lemmas)\b[\w.]*?\.?(?:\{([^}]*)\})?;", text)
+            mirrors = {it.split(" as ")[-1].strip() for use in uses for it in use.split(",")} - {""}
+            for item, name, head in heads(text):
+                if (names is None or (item or name) in names) and any(re.search(rf"(?<![\w.]){re.escape(it)}(?!\w)", head) for it in mirrors):
+                    yield "::".join(it for it in (crate.name, item, name) if it)
+
+
+def exceptions():
+    """The same for the list of such calls in docs/map.md."""
+    found, listed = sorted(set(naming_mirrors())), re.findall(r"`([^`]+)`", re.search(EXCEPTIONS, MAP.read_text())[1])
+    for name in sorted({*found, *listed}):
+        yield name, None if name in found and name in listed else "names a mirror, and docs/map.md doesn't say so, or the other way round"
+
+
 def calls():
     """The same for each call and law of the README, as `pg_check::laws::one_winner`."""
     for crate, name in re.findall(r"`(pg_\w+)::(?:\w+::)*(\w+)`", README.read_text()):
@@ -138,7 +180,9 @@ def write_map():
         places = [place for place, row in enumerate(kept) if ROW.match(row) and row.startswith(f"| `{crate}/")]
         places = places or [place for place, row in enumerate(kept) if ROW.match(row)]
         kept.insert(places[-1] + 1, f"| `{shown(path)}` | {line_count(path)} | {headline(path)} |")
-    MAP.write_text("\n".join(kept))
+    listed = ", ".join(f"`{name}`" for name in sorted(set(naming_mirrors()))) or "none"
+    text = "Public calls whose contracts name one: " + listed
+    MAP.write_text(EXCEPTIONS.sub(textwrap.fill(text, 124, break_long_words=False).replace("\n", "\n  ") + ".", "\n".join(kept)))
 
 
 def write_definitions():
@@ -160,7 +204,7 @@ def write_definitions():
 def run():
     """Makes every check; answers how many passed and failed."""
     passed = failed = 0
-    for part in (imports, rows_of_map, entries, calls):
+    for part in (imports, rows_of_map, exceptions, entries, calls):
         for what, why in part():
             if why is None:
                 passed += 1
