@@ -108,7 +108,7 @@ def entries():
             paths = [CRATES / crate / "specs" / file for file in files]
             for name in (words.split()[0] for words in names):
                 is_there = any(path.is_file() and defined(name, path) for path in paths)
-                yield name, None if is_there else f"isn't defined in {crate}/specs/{' or '.join(files)}, as docs/definitions.md says"
+                yield name, None if is_there else f"isn't in {crate}/specs/{' or '.join(files)}, as docs/definitions.md says"
 
 
 def offered(crate):
@@ -138,8 +138,9 @@ def naming_mirrors():
             text = path.read_text() if path.is_file() else ""
             uses = re.findall(r"ghost use [\w.]*\b(?:Mirrors|Lemmas)\b[\w.]*?\.?(?:\{([^}]*)\})?;", text)
             mirrors = {it.split(" as ")[-1].strip() for use in uses for it in use.split(",")} - {""}
+            words = re.compile("|".join(rf"(?<![\w.]){re.escape(it)}(?!\w)" for it in mirrors) or r"(?!)")
             for item, name, head in heads(text):
-                if (names is None or (item or name) in names) and any(re.search(rf"(?<![\w.]){re.escape(it)}(?!\w)", head) for it in mirrors):
+                if (names is None or (item or name) in names) and words.search(head):
                     yield "::".join(it for it in (crate.name, item, name) if it)
 
 
@@ -147,7 +148,8 @@ def exceptions():
     """The same for the list of such calls in docs/map.md."""
     found, listed = sorted(set(naming_mirrors())), re.findall(r"`([^`]+)`", re.search(EXCEPTIONS, MAP.read_text())[1])
     for name in sorted({*found, *listed}):
-        yield name, None if name in found and name in listed else "names a mirror, and docs/map.md doesn't say so, or the other way round"
+        why = "names a mirror, which docs/map.md doesn't say" if name in found else "names no mirror, though docs/map.md says so"
+        yield name, None if name in found and name in listed else why
 
 
 def calls():
