@@ -6,5 +6,6 @@ pub mod Solving
 pub mod Checking
 pub mod Answers
 pub mod Faults
+pub mod Words
 pub mod Laws
 pub mod Mirrors
