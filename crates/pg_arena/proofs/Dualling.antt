@@ -1,12 +1,12 @@
 -- The parts of a game's dual.
-use Rattle.std.proofs.Common.{◌≡◌, ℕ, ◌≤◌, List, [], ◌∷◌, length, map, Option, Some, None, refl, sym, ap, subst, ◌∙◌, All}
+use Rattle.std.proofs.Common.{◌≡◌, ℕ, ◌≤◌, List, [], ◌∷◌, length, map, Option, Some, None, refl, sym, ap, subst, ◌∙◌, All, ◌+◌, arith}
 use Rattle.std.specs.Prelude.{slice_get}
 use Rattle.std.specs.declared.vec.Vec.{Vec}
 use Rattle.std.specs.declared.alloc.Global.{Global}
 use Rattle.std.proofs.lemmas.Option.{slice_get-map}
-use Rattle.std.proofs.lemmas.List.Elements.{All-head, All-tail, All-cons, All-nil, All-map}
+use Rattle.std.proofs.lemmas.List.Elements.{All-head, All-tail, All-cons, All-nil, All-map, All-weaker}
 use Rattle.pg_arena.specs.declared.entry.Entry.{Entry}
-use Rattle.pg_arena.specs.Games.{GameVertex, IsGame, IsWithinLimits, HasPrioritiesUpTo, dual}
+use Rattle.pg_arena.specs.Games.{GameVertex, IsGame, IsWithinLimits, HasPrioritiesUpTo, dual, dual_vertex}
 use Rattle.pg_arena.specs.Lemmas.Duals.{game_dual, limits_dual}
 use Rattle.pg_arena.specs.Mirrors.Entries.{name_in, vertex_in, vertices_in, texts, dual_entry, IsBuilt, IsOrderly}
 
@@ -25,14 +25,23 @@ same_ids : (entries : List Entry) → map (λ e. e.identifier) (map dual_entry e
 same_ids [] = refl
 same_ids (e ∷ entries) = ap (λ (ids : List ℕ). e.identifier ∷ ids) (same_ids entries)
 
-pub dual_built : (ids targets : List ℕ) (names copy : Names) (entries : List Entry) → texts copy ≡ texts names → IsBuilt ids targets names entries → IsBuilt ids targets copy (map dual_entry entries)
-dual_built ids targets names copy entries same b =
+-- priorities are raised by one
+dual_priorities : (game : List GameVertex) → HasPrioritiesUpTo 65535 game → HasPrioritiesUpTo 65536 (dual game)
+dual_priorities game small =
+    All-map (λ (x : GameVertex). x.priority ≤ 65536) dual_vertex game
+    (All-weaker (λ (x : GameVertex). x.priority ≤ 65535) (λ (x : GameVertex). x.priority + 1 ≤ 65536) (λ x le. omega arith) game small)
+
+pub dual_built : (ids targets : List ℕ) (names copy : Names) (entries : List Entry) → texts copy ≡ texts names
+    → HasPrioritiesUpTo 65535 (vertices_in targets names entries) → IsBuilt ids targets names entries
+    → IsBuilt ids targets copy (map dual_entry entries)
+dual_built ids targets names copy entries same small b =
     let is = dual_vertices targets names copy entries same in
     record {
       ranges = All-map (λ e. (e.from ≤ e.to) × (e.to ≤ length targets)) dual_entry entries b.ranges;
       named = b.named ∙ sym (same_ids entries);
       game = subst IsGame (sym is) (game_dual (vertices_in targets names entries) b.game);
       limits = subst IsWithinLimits (sym is) (limits_dual (vertices_in targets names entries) b.limits);
+      priorities = subst (HasPrioritiesUpTo 65536) (sym is) (dual_priorities (vertices_in targets names entries) small);
     }
 
 pub small_entries : (targets : List ℕ) (names : Names) (entries : List Entry) → HasPrioritiesUpTo 65535 (vertices_in targets names entries) → All (λ e. e.priority ≤ 65535) entries

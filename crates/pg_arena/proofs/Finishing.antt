@@ -8,7 +8,7 @@ use Rattle.std.specs.declared.vec.Vec.{Vec}
 use Rattle.std.specs.declared.alloc.Global.{Global}
 use Rattle.std.proofs.lemmas.Bool.{cases_lt}
 use Rattle.std.proofs.lemmas.List.{take-map, drop-map, length-map, get_or-map, get_or_past}
-use Rattle.std.proofs.lemmas.List.Elements.{All-head, All-tail, All-cons, All-nil, All-take, All-drop, All-contains, All-get_or}
+use Rattle.std.proofs.lemmas.List.Elements.{All-head, All-tail, All-cons, All-nil, All-take, All-drop, All-contains, All-get_or, All-weaker}
 use Rattle.std.proofs.lemmas.List.Sums.{sum_by-cons}
 use Rattle.std.proofs.lemmas.List.Concat.{length-flat_map}
 use Rattle.std.proofs.lemmas.List.Sorted.{IsPermutation-map, IsPermutation-sym, IsPermutation-trans, length_permutation, All-permutation, list_any-IsPermutation, sum_by-IsPermutation}
@@ -21,6 +21,7 @@ use Rattle.pg_arena.specs.Lines.{Line, IsGameOf, line_of}
 use Rattle.pg_arena.specs.Mirrors.Entries.{vertex_in, vertices_in, AreWithin, IsOrderly, AreKept, IsBuilt}
 use Rattle.pg_arena.specs.Mirrors.Links.{AreLinked}
 use Rattle.pg_arena.proofs.Rising.{up_same, up_sorted}
+use Rattle.pg_arena.proofs.Dualling.{small_vertices}
 
 abbrev Names : Type 0
 Names = List (Vec ℕ Global)
@@ -188,4 +189,6 @@ built {lines} {ids} {targets} {names} {sorted} vertices some r linked =
         vertices = omega (arith, r.few);
         edges = omega (arith, r.few_edges, edges_back game game, ap edge_count back, sum_by-IsPermutation (λ (x : GameVertex). length x.successors) lines (vertices_in targets names sorted) r.same, ap length r.laid, length-flat_map (λ (x : GameVertex). x.successors) lines);
       };
+      priorities = All-weaker (λ (x : GameVertex). x.priority ≤ 65535) (λ (x : GameVertex). x.priority ≤ 65536)
+          (λ x le. omega arith) game (small_vertices targets vertices names sorted r.orderly);
     }

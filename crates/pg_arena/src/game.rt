@@ -59,6 +59,7 @@ impl Game {
         ensures value { result ≡ length self.now }
         ensures game { IsGame self.now }
         ensures limits { IsWithinLimits self.now }
+        ensures priorities { HasPrioritiesUpTo 65536 self.now }
         ensures identifiers { All (λ x. x.identifier < 2 ^ 32) self.now }
     {
         let identifiers = self.identifiers.as_slice();

@@ -71,7 +71,7 @@ covers_falls bounds p None n s h = absurd (cc s)
 covers_falls bounds p (Some xs) None s h = absurd h
 covers_falls bounds p (Some xs) (Some ys) s h = (refl, h)
 
-map_falls : (game : List GameVertex) (m : MapValue) (v w : ℕ) → IsSome (measure_at m.measures v)
+pub map_falls : (game : List GameVertex) (m : MapValue) (v w : ℕ) → IsSome (measure_at m.measures v)
     → IsServedBy m.bounds (game_line game) m.measures v w
     → IsSome (measure_at m.measures w) × Falls m.bounds (priority game) (lists m) v w
 unfolding lists
@@ -126,7 +126,7 @@ no_lost_cycle player game f g v rest p within path greatest parity =
     let o = odd_greatest player game p (v ∷ rest) within greatest parity in
     no_odd_cycle (map_of player f g).bounds (priority (game_of player game)) (lists (map_of player f g)) v rest o.0 path o.1 o.2
 
-path_map : (Step Step' : ℕ → ℕ → Type 0) → (Q : ℕ → Type 0) → ((v w : ℕ) → Q v → Step v w → Step' v w × Q w)
+pub path_map : (Step Step' : ℕ → ℕ → Type 0) → (Q : ℕ → Type 0) → ((v w : ℕ) → Q v → Step v w → Step' v w × Q w)
     → (v : ℕ) (rest : List ℕ) → Q v → IsPath Step v rest → IsPath Step' v rest
 path_map Step Step' Q f v [] q h = tt
 path_map Step Step' Q f v (w ∷ rest) q h =
@@ -139,17 +139,17 @@ closed_for : (player : Player) (game : List GameVertex) (f g : MapValue) → Are
 closed_for Even game f g closed = closed.game_map
 closed_for Odd game f g closed = closed.dual_map
 
-pub has_line : (player : Player) (game : List GameVertex) (v : ℕ) → v < length game → IsSome (game_line (game_of player game) v)
-has_line player game v lt = go (game_of player game) v (same_length player)
-  where
-    same_length : (player : Player) → v < length (game_of player game)
-    same_length Even = lt
-    same_length Odd = omega (arith, length_dual game, lt)
+pub in_line : (game : List GameVertex) (v : ℕ) → v < length game → IsSome (game_line game v)
+in_line [] v lt = absurd (omega arith)
+in_line (x ∷ game) zero lt = refl
+in_line (x ∷ game) (suc v) lt = in_line game v (omega arith)
 
-    go : (xs : List GameVertex) (v : ℕ) → v < length xs → IsSome (game_line xs v)
-    go [] v lt = absurd (omega arith)
-    go (x ∷ xs) zero lt = refl
-    go (x ∷ xs) (suc v) lt = go xs v (omega arith)
+same_length : (player : Player) (game : List GameVertex) (v : ℕ) → v < length game → v < length (game_of player game)
+same_length Even game v lt = lt
+same_length Odd game v lt = omega (arith, length_dual game, lt)
+
+pub has_line : (player : Player) (game : List GameVertex) (v : ℕ) → v < length game → IsSome (game_line (game_of player game) v)
+has_line player game v lt = in_line (game_of player game) v (same_length player game v lt)
 
 pub some_serves : (player : Player) (game : List GameVertex) (f g : MapValue) → AreClosed game f g → (v : ℕ) → v < length game
     → owner game v ≡ player → Any (IsServedFor player game f g v) (line_at (game_line (game_of player game)) v).successors
@@ -162,22 +162,39 @@ some_serves player game f g closed v lt e =
 pub line_edges : (player : Player) (game : List GameVertex) (v : ℕ) → (line_at (game_line (game_of player game)) v).successors ≡ successors game v
 line_edges player game v = ap Line.successors (line_is (game_of player game) v) ∙ same_edges player game v
 
+-- in a closed map some edge from a vertex of Even serves it, and each edge from a vertex of Odd does
+
+pub some_edge_serves : (game : List GameVertex) (m : MapValue) → IsClosed m.bounds (game_line game) m.measures → (v : ℕ) → v < length game
+    → owner game v ≡ Even → (w : ℕ) × IsEdge game v w × IsServedBy m.bounds (game_line game) m.measures v w
+some_edge_serves game m closed v lt e =
+    let line : Line = line_at (game_line game) v in
+    let is : line ≡ vertex_line (vertex_at game v) = line_is game v in
+    let any = some_served line.owner (IsServedBy m.bounds (game_line game) m.measures v) line.successors (ap Line.owner is ∙ e)
+    (closed v (in_line game v lt)) in
+    (any.1, subst (λ ws. Contains ws any.1) (ap Line.successors is) (any.0, any.2, any.3), any.4)
+
+pub each_edge_serves : (game : List GameVertex) (m : MapValue) → IsClosed m.bounds (game_line game) m.measures → (v w : ℕ) → v < length game
+    → owner game v ≡ Odd → IsEdge game v w → IsServedBy m.bounds (game_line game) m.measures v w
+each_edge_serves game m closed v w lt e edge =
+    let line : Line = line_at (game_line game) v in
+    let is : line ≡ vertex_line (vertex_at game v) = line_is game v in
+    let all = all_served line.owner (IsServedBy m.bounds (game_line game) m.measures v) line.successors (ap Line.owner is ∙ e)
+    (closed v (in_line game v lt)) in
+    let edge' : Contains line.successors w = subst (λ ws. Contains ws w) (sym (ap Line.successors is)) edge in
+    subst (λ u. IsServedBy m.bounds (game_line game) m.measures v u) edge'.2 (all edge'.0 w edge'.1)
+
 closed_some : (player : Player) (game : List GameVertex) (f g : MapValue) → AreClosed game f g → (v : ℕ) → v < length game
     → owner game v ≡ player → (w : ℕ) × IsEdge game v w × IsServedFor player game f g v w
 closed_some player game f g closed v lt e =
-    let any = some_serves player game f g closed v lt e in
-    (any.1, subst (λ ws. Contains ws any.1) (line_edges player game v) (any.0, any.2, any.3), any.4)
+    let some = some_edge_serves (game_of player game) (map_of player f g) (closed_for player game f g closed) v
+    (same_length player game v lt) (owner_is player game v lt e) in
+    (some.0, subst (λ ws. Contains ws some.0) (same_edges player game v) some.1, some.2)
 
 closed_all : (player : Player) (game : List GameVertex) (f g : MapValue) → AreClosed game f g → (v w : ℕ) → v < length game
     → owner game v ≡ opponent player → IsEdge game v w → IsServedFor player game f g v w
 closed_all player game f g closed v w lt e edge =
-    let G = game_of player game in
-    let line : Line = line_at (game_line G) v in
-    let is : line ≡ vertex_line (vertex_at G v) = line_is G v in
-    let all = all_served line.owner (IsServedFor player game f g v) line.successors (ap Line.owner is ∙ owner_isn't player game v lt e)
-    (closed_for player game f g closed v (has_line player game v lt)) in
-    let edge' : Contains line.successors w = subst (λ ws. Contains ws w) (sym (line_edges player game v)) edge in
-    subst (λ u. IsServedFor player game f g v u) edge'.2 (all edge'.0 w edge'.1)
+    each_edge_serves (game_of player game) (map_of player f g) (closed_for player game f g closed) v w
+    (same_length player game v lt) (owner_isn't player game v lt e) (subst (λ ws. Contains ws w) (sym (same_edges player game v)) edge)
 
 -- what is certified is safe
 
@@ -343,12 +360,12 @@ module _ (game : List GameVertex) (f g : MapValue) (is_game : IsGame game) (clos
       done : ⊥
       done = elim (repeat_or_few (length game) (λ _. true) part within) [
         | inl r ↦
-            let round = r.twice ∷ (r.between ++ r.twice ∷ r.after) in
-            let inside : All (λ u. u < length game) round =
-            all_later (λ u. u < length game) r.before round (subst (All (λ u. u < length game)) r.splits within)
+            let cycle = r.twice ∷ (r.between ++ r.twice ∷ r.after) in
+            let inside : All (λ u. u < length game) cycle =
+            all_later (λ u. u < length game) r.before cycle (subst (All (λ u. u < length game)) r.splits within)
             in no_cycle r.twice r.between (all_front (λ u. u < length game) (r.twice ∷ r.between) (r.twice ∷ r.after) inside)
             (path_upto BothFall r.twice r.between r.twice r.after
-            (way_later BothFall r.before round (subst (IsWay BothFall) r.splits way)))
+            (way_later BothFall r.before cycle (subst (IsWay BothFall) r.splits way)))
         | inr le ↦
             let e = count_everything play 0 (suc (length game)) in
             omega (arith, le, e)

@@ -4,23 +4,23 @@ use Rattle.std.specs.List.{AllPairs}
 use Rattle.pg_arena.specs.Games.{GameVertex, IsGame}
 use Rattle.pg_text.specs.declared.answer.Answer.{Answer}
 use Rattle.pg_check.specs.Soundness.{IsSound, NoneLeaves}
-use Rattle.pg_check.specs.Mirrors.Rounds.{IsRound, IsSimpleRound, IsLost, HasNoBadRound}
+use Rattle.pg_check.specs.Mirrors.Cycles.{IsCycleFrom, IsSimpleCycle, IsLost, HasNoBadCycle}
 use Rattle.pg_check.specs.Verdicts.{IsLeastLeaving, IsSimpleBadCycle}
-use Rattle.pg_check.proofs.Cycles.{IsBadRound, cycle_from_round, sound_from_no_round, safe_from_sound}
+use Rattle.pg_check.proofs.Cycles.{IsBadCycleFrom, bad_cycle_from, sound_from_no_cycle, safe_from_sound}
 
--- a round of a lost vertex that names no vertex twice is a bad cycle that doesn't either
+-- a cycle from a lost vertex that names no vertex twice is a bad cycle that doesn't either
 pub bad_cycle_of : (game : List GameVertex) (solution : List Answer) (v : ℕ) (vertices : List ℕ) → IsLost game solution v
-    → IsSimpleRound game solution v vertices → IsSimpleBadCycle game solution vertices
+    → IsSimpleCycle game solution v vertices → IsSimpleBadCycle game solution vertices
 bad_cycle_of game solution v vertices lost (rest, e, r, distinct) =
     subst (IsSimpleBadCycle game solution) (sym e) (
       subst (AllPairs (λ x y. x ≢ y)) e distinct,
-      cycle_from_round game solution v rest (record { closes = r.closes; greatest = r.greatest; lost = lost }),
+      bad_cycle_from game solution v rest (record { closes = r.closes; greatest = r.greatest; lost = lost }),
     )
 
 pub sound_of : (game : List GameVertex) (solution : List Answer) → IsGame game → NoneLeaves game solution
-    → HasNoBadRound game solution → IsSound game solution
+    → HasNoBadCycle game solution → IsSound game solution
 sound_of game solution is_game none_leaves none =
-    sound_from_no_round game solution is_game none_leaves
+    sound_from_no_cycle game solution is_game none_leaves
     (λ v rest r. none v r.lost rest (record { closes = r.closes; greatest = r.greatest }))
 
 pub unsound_by_edge : (game : List GameVertex) (solution : List Answer) (v w : ℕ) → IsLeastLeaving game solution v w → ¬ IsSound game solution

@@ -41,37 +41,37 @@ edge_from game v w h = elim (cases_lt v (length game)) [
 -- safe solutions are sound
 
 -- a bad cycle through v on which nothing has a greater priority than v
-pub record IsBadRound (game : List GameVertex) (solution : List Answer) (v : ℕ) (rest : List ℕ) : Type 0 where
+pub record IsBadCycleFrom (game : List GameVertex) (solution : List Answer) (v : ℕ) (rest : List ℕ) : Type 0 where
   pub closes : IsPath (Counts game solution) v (rest ++ v ∷ [])
   pub greatest : All (λ w. priority game w ≤ priority game v) rest
   pub lost : HasParityOf (loser solution v) (priority game v)
 
-pub round_from_repeat : (game : List GameVertex) (solution : List Answer) (v p : ℕ) (part : List ℕ)
+pub cycle_from_repeat : (game : List GameVertex) (solution : List Answer) (v p : ℕ) (part : List ℕ)
     → IsWay (Counts game solution) part → All (λ x. winner solution x ≡ winner solution v) part
     → All (λ x. priority game x ≤ p) part → HasParityOf (loser solution v) p
-    → (r : Repeat (λ x. eqb (priority game x) p) part) → IsBadRound game solution r.twice r.between
-round_from_repeat game solution v p part way same above parity r =
-    let round = r.twice ∷ (r.between ++ r.twice ∷ r.after) in
+    → (r : Repeat (λ x. eqb (priority game x) p) part) → IsBadCycleFrom game solution r.twice r.between
+cycle_from_repeat game solution v p part way same above parity r =
+    let cycle = r.twice ∷ (r.between ++ r.twice ∷ r.after) in
     let is_p : priority game r.twice ≡ p = eqb-true (priority game r.twice) p r.passes in
-    let above_round : All (λ x. priority game x ≤ p) round =
-    all_later (λ x. priority game x ≤ p) r.before round (subst (All (λ x. priority game x ≤ p)) r.splits above) in
-    let same_round : All (λ x. winner solution x ≡ winner solution v) round =
-    all_later (λ x. winner solution x ≡ winner solution v) r.before round (subst (All (λ x. winner solution x ≡ winner solution v)) r.splits same) in
+    let above_cycle : All (λ x. priority game x ≤ p) cycle =
+    all_later (λ x. priority game x ≤ p) r.before cycle (subst (All (λ x. priority game x ≤ p)) r.splits above) in
+    let same_cycle : All (λ x. winner solution x ≡ winner solution v) cycle =
+    all_later (λ x. winner solution x ≡ winner solution v) r.before cycle (subst (All (λ x. winner solution x ≡ winner solution v)) r.splits same) in
     let same_twice : winner solution r.twice ≡ winner solution v =
-    All-head (λ x. winner solution x ≡ winner solution v) r.twice (r.between ++ r.twice ∷ r.after) same_round in
+    All-head (λ x. winner solution x ≡ winner solution v) r.twice (r.between ++ r.twice ∷ r.after) same_cycle in
     record {
       closes = path_upto (Counts game solution) r.twice r.between r.twice r.after
-          (way_later (Counts game solution) r.before round (subst (IsWay (Counts game solution)) r.splits way));
+          (way_later (Counts game solution) r.before cycle (subst (IsWay (Counts game solution)) r.splits way));
       greatest = subst (λ q. All (λ x. priority game x ≤ q) r.between) (sym is_p)
           (all_front (λ x. priority game x ≤ p) r.between (r.twice ∷ r.after)
-          (All-tail (λ x. priority game x ≤ p) r.twice (r.between ++ r.twice ∷ r.after) above_round));
+          (All-tail (λ x. priority game x ≤ p) r.twice (r.between ++ r.twice ∷ r.after) above_cycle));
       lost = subst (λ w. HasParityOf (opponent w) (priority game r.twice)) (sym same_twice)
           (subst (HasParityOf (loser solution v)) (sym is_p) parity);
     }
 
-pub sound_from_no_round : (game : List GameVertex) (solution : List Answer) → IsGame game → NoneLeaves game solution
-    → ((v : ℕ) (rest : List ℕ) → ¬ IsBadRound game solution v rest) → IsSound game solution
-sound_from_no_round game solution is_game none_leaves no_round v rest lt path =
+pub sound_from_no_cycle : (game : List GameVertex) (solution : List Answer) → IsGame game → NoneLeaves game solution
+    → ((v : ℕ) (rest : List ℕ) → ¬ IsBadCycleFrom game solution v rest) → IsSound game solution
+sound_from_no_cycle game solution is_game none_leaves no_cycle v rest lt path =
     let same : All (λ x. winner solution x ≡ winner solution v) (v ∷ rest) =
     path_keeps (Counts game solution) (λ x. winner solution x ≡ winner solution v)
     (λ u w e s. none_leaves u w s ∙ e) v rest path refl in
@@ -82,8 +82,8 @@ sound_from_no_round game solution is_game none_leaves no_round v rest lt path =
       counts = λ before part after e p greatest parity.
           elim (repeat_or_few (length game) (λ x. eqb (priority game x) p) part
           (all_part (λ x. x < length game) before part after (subst (All (λ x. x < length game)) e below))) [
-            | inl r ↦ absurd (no_round r.twice r.between
-                (round_from_repeat game solution v p part
+            | inl r ↦ absurd (no_cycle r.twice r.between
+                (cycle_from_repeat game solution v p part
                 (way_part (Counts game solution) before part after (subst (IsWay (Counts game solution)) e path))
                 (all_part (λ x. winner solution x ≡ winner solution v) before part after (subst (All (λ x. winner solution x ≡ winner solution v)) e same))
                 (all_unmap (priority game) (λ q. q ≤ p) part greatest.above_all) parity r))
@@ -91,10 +91,10 @@ sound_from_no_round game solution is_game none_leaves no_round v rest lt path =
           ];
     }
 
--- a bad round is a bad cycle
-pub cycle_from_round : (game : List GameVertex) (solution : List Answer) (v : ℕ) (rest : List ℕ)
-    → IsBadRound game solution v rest → IsBadCycle game solution v rest
-cycle_from_round game solution v rest r = record {
+-- such a cycle is a bad cycle
+pub bad_cycle_from : (game : List GameVertex) (solution : List Answer) (v : ℕ) (rest : List ℕ)
+    → IsBadCycleFrom game solution v rest → IsBadCycle game solution v rest
+bad_cycle_from game solution v rest r = record {
   closes = r.closes;
   lost = (
     priority game v,
@@ -109,12 +109,12 @@ cycle_from_round game solution v rest r = record {
 
 pub sound_from_safe : (game : List GameVertex) (solution : List Answer) → IsGame game → IsSafe game solution → IsSound game solution
 sound_from_safe game solution is_game safe =
-    sound_from_no_round game solution is_game safe.none_leaves
-    (λ v rest r. safe.no_bad_cycle v rest (cycle_from_round game solution v rest r))
+    sound_from_no_cycle game solution is_game safe.none_leaves
+    (λ v rest r. safe.no_bad_cycle v rest (bad_cycle_from game solution v rest r))
 
 -- sound solutions are safe
 
--- from v round the cycle, so many times
+-- from v along the cycle, so many times
 abbrev laps : ℕ → List ℕ → ℕ → List ℕ
 laps v rest zero = []
 laps v rest (suc k) = rest ++ v ∷ laps v rest k

@@ -1,4 +1,4 @@
--- Round a cycle of steps by which measures fall, the greatest priority is even.
+-- On a cycle of steps by which measures fall, the greatest priority is even.
 use Rattle.std.proofs.Common.{◌≡◌, ℕ, zero, suc, ◌%◌, ◌<◌, ◌≤◌, inl, inr, Bool, true, false, cond, leb, List, [], ◌∷◌, ◌++◌, take, length, map, get_or, arith, subst, refl, ◌∙◌, MatchBool}
 use Rattle.std.specs.List.{All}
 use Rattle.std.proofs.lemmas.Bool.{eq-eqb, leb-true, le-leb}
@@ -6,52 +6,10 @@ use Rattle.std.proofs.lemmas.List.Elements.{All-head, All-tail}
 use Rattle.std.proofs.lemmas.List.Sums.{sum_by-cons}
 use Rattle.pg_arena.specs.Games.{IsPath}
 use Rattle.pg_measure.specs.Measures.{BoundList, ListBelow, ListAtMost, width_from, is_odd}
+use Rattle.pg_measure.proofs.Rows.{at_most_itself}
+use Rattle.pg_measure.proofs.Order.{at_most_trans, below_at_most, below_then, then_below, never_both}
 use Rattle.pg_check.specs.Soundness.{IsGreatest}
 use Rattle.pg_check.proofs.Cycles.{all_unmap}
-
--- lexicographic order
-
-at_most_trans : (xs ys zs : List ℕ) → ListAtMost xs ys → ListAtMost ys zs → ListAtMost xs zs
-at_most_trans [] ys zs h k = tt
-at_most_trans (x ∷ xs) [] zs h k = absurd h
-at_most_trans (x ∷ xs) (y ∷ ys) [] h k = absurd k
-at_most_trans (x ∷ xs) (y ∷ ys) (z ∷ zs) (inl h) (inl k) = inl (omega arith)
-at_most_trans (x ∷ xs) (y ∷ ys) (z ∷ zs) (inl h) (inr (e, k)) = inl (omega arith)
-at_most_trans (x ∷ xs) (y ∷ ys) (z ∷ zs) (inr (e, h)) (inl k) = inl (omega arith)
-at_most_trans (x ∷ xs) (y ∷ ys) (z ∷ zs) (inr (e, h)) (inr (f, k)) = inr (e ∙ f, at_most_trans xs ys zs h k)
-
-below_at_most : (xs ys zs : List ℕ) → ListBelow xs ys → ListAtMost ys zs → ListBelow xs zs
-below_at_most [] [] zs h k = absurd h
-below_at_most [] (y ∷ ys) [] h k = absurd k
-below_at_most [] (y ∷ ys) (z ∷ zs) h k = tt
-below_at_most (x ∷ xs) [] zs h k = absurd h
-below_at_most (x ∷ xs) (y ∷ ys) [] h k = absurd k
-below_at_most (x ∷ xs) (y ∷ ys) (z ∷ zs) (inl h) (inl k) = inl (omega arith)
-below_at_most (x ∷ xs) (y ∷ ys) (z ∷ zs) (inl h) (inr (e, k)) = inl (omega arith)
-below_at_most (x ∷ xs) (y ∷ ys) (z ∷ zs) (inr (e, h)) (inl k) = inl (omega arith)
-below_at_most (x ∷ xs) (y ∷ ys) (z ∷ zs) (inr (e, h)) (inr (f, k)) = inr (e ∙ f, below_at_most xs ys zs h k)
-
-at_most_below : (xs ys zs : List ℕ) → ListAtMost xs ys → ListBelow ys zs → ListBelow xs zs
-at_most_below [] [] [] h k = absurd k
-at_most_below [] (y ∷ ys) [] h k = absurd k
-at_most_below [] ys (z ∷ zs) h k = tt
-at_most_below (x ∷ xs) [] zs h k = absurd h
-at_most_below (x ∷ xs) (y ∷ ys) [] h k = absurd k
-at_most_below (x ∷ xs) (y ∷ ys) (z ∷ zs) (inl h) (inl k) = inl (omega arith)
-at_most_below (x ∷ xs) (y ∷ ys) (z ∷ zs) (inl h) (inr (e, k)) = inl (omega arith)
-at_most_below (x ∷ xs) (y ∷ ys) (z ∷ zs) (inr (e, h)) (inl k) = inl (omega arith)
-at_most_below (x ∷ xs) (y ∷ ys) (z ∷ zs) (inr (e, h)) (inr (f, k)) = inr (e ∙ f, at_most_below xs ys zs h k)
-
-at_most_from_below : (xs ys : List ℕ) → ListBelow xs ys → ListAtMost xs ys
-at_most_from_below [] ys h = tt
-at_most_from_below (x ∷ xs) [] h = absurd h
-at_most_from_below (x ∷ xs) (y ∷ ys) (inl h) = inl h
-at_most_from_below (x ∷ xs) (y ∷ ys) (inr (e, h)) = inr (e, at_most_from_below xs ys h)
-
-not_below_itself : (xs : List ℕ) → ¬ ListBelow xs xs
-not_below_itself [] h = h
-not_below_itself (x ∷ xs) (inl h) = omega arith
-not_below_itself (x ∷ xs) (inr (e, h)) = not_below_itself xs h
 
 -- fewer components are compared
 at_most_fewer : (i j : ℕ) (xs ys : List ℕ) → i ≤ j → ListAtMost (take j xs) (take j ys) → ListAtMost (take i xs) (take i ys)
@@ -91,7 +49,7 @@ module _ (bounds : BoundList) (met : ℕ → ℕ) (list : ℕ → List ℕ) wher
   falls_here v w h = go (is_odd (met v)) h
     where
       go : (t : Bool) → MatchBool t (IsAbove (met v) v w) (IsAtLeast (met v) v w) → IsAtLeast (met v) v w
-      go true k = at_most_from_below (take (width_from bounds (met v)) (list w)) (take (width_from bounds (met v)) (list v)) k
+      go true k = below_at_most (take (width_from bounds (met v)) (list w)) (take (width_from bounds (met v)) (list v)) k
       go false k = k
 
   falls_at_least : (v w p : ℕ) → met v ≤ p → Falls v w → IsAtLeast p v w
@@ -119,15 +77,16 @@ module _ (bounds : BoundList) (met : ℕ → ℕ) (list : ℕ → List ℕ) wher
   path_above p v [] w h above odd zero lt e = falls_above v w p odd e h.0
   path_above p v [] w h above odd (suc k) lt e = absurd (omega arith)
   path_above p v (u ∷ rest) w h above odd zero lt e =
-      at_most_below (take (width_from bounds p) (list w)) (take (width_from bounds p) (list u)) (take (width_from bounds p) (list v))
+      then_below (take (width_from bounds p) (list w)) (take (width_from bounds p) (list u)) (take (width_from bounds p) (list v))
       (path_at_least p u rest w h.1 (All-tail (λ x. met x ≤ p) v (u ∷ rest) above)) (falls_above v u p odd e h.0)
   path_above p v (u ∷ rest) w h above odd (suc k) lt e =
-      below_at_most (take (width_from bounds p) (list w)) (take (width_from bounds p) (list u)) (take (width_from bounds p) (list v))
+      below_then (take (width_from bounds p) (list w)) (take (width_from bounds p) (list u)) (take (width_from bounds p) (list v))
       (path_above p u rest w h.1 (All-tail (λ x. met x ≤ p) v (u ∷ rest) above) odd k (omega arith) e)
       (falls_at_least v u p (All-head (λ x. met x ≤ p) v (u ∷ rest) above) h.0)
 
   -- no cycle of such steps has an odd greatest priority
   pub no_odd_cycle : (v : ℕ) (rest : List ℕ) (p : ℕ) → IsPath Falls v (rest ++ v ∷ []) → IsGreatest p (map met (v ∷ rest)) → p % 2 ≡ 1 → ⊥
   no_odd_cycle v rest p h g odd =
-      not_below_itself (take (width_from bounds p) (list v))
+      never_both (take (width_from bounds p) (list v)) (take (width_from bounds p) (list v))
       (path_above p v rest v h (all_unmap met (λ q. q ≤ p) (v ∷ rest) g.above_all) odd g.occurs.0 g.occurs.1 g.occurs.2)
+      (at_most_itself (take (width_from bounds p) (list v)))

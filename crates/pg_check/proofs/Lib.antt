@@ -10,3 +10,5 @@ pub mod Checking
 pub mod Falls
 pub mod Certified
 pub mod Chosen
+pub mod Listed
+pub mod Winning

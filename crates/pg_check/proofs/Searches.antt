@@ -1,4 +1,4 @@
--- A search by breadth from a vertex: what is reached, and why no round from that vertex escapes it.
+-- A search by breadth from a vertex: what is reached, and why no cycle from that vertex escapes it.
 use Rattle.std.proofs.Common.{◌≡◌, ◌≢◌, ◌↔◌, ℕ, ◌+◌, ◌<◌, ◌≤◌, inl, inr, Bool, true, false, List, [], ◌∷◌, ◌++◌, length, get_or, set, replicate, arith, sym, subst, refl, ◌∙◌}
 use Rattle.std.specs.List.{All, AllPairs, Contains}
 use Rattle.std.proofs.lemmas.Bool.{cases_lt, cases_eq, eqb-true}
@@ -12,7 +12,7 @@ use Rattle.std.proofs.lemmas.Map.Views.{Contains-from_any}
 use Rattle.pg_arena.specs.Games.{GameVertex, IsPath, priority}
 use Rattle.pg_text.specs.declared.answer.Answer.{Answer}
 use Rattle.pg_check.specs.Soundness.{Counts}
-use Rattle.pg_check.specs.Mirrors.Rounds.{IsRound, HasNoRound, IsTrail}
+use Rattle.pg_check.specs.Mirrors.Cycles.{IsCycleFrom, HasNoCycle, IsTrail}
 use Rattle.pg_check.proofs.Leaving.{all_passed}
 use Rattle.pg_check.proofs.Sifting.{here_too}
 
@@ -134,7 +134,7 @@ trail_of game solution v reached before flags at s here counts = record {
   closes = counts;
 }
 
--- w doesn't close a round, and is reached if it may stand on one
+-- w doesn't close a cycle, and is reached if it may stand on one
 abbrev pub IsTaken : List GameVertex → ℕ → List ℕ → ℕ → Type 0
 IsTaken game v reached w = (w ≢ v) × (priority game w ≤ priority game v → Contains reached w)
 
@@ -153,10 +153,10 @@ taken_still game solution v reached at x upto taken k w lt inside counts =
     taken_more game v reached x w (taken k w lt here
     (subst (λ u. Counts game solution u w) (get_or_append_left reached (x ∷ []) 0 k here) counts))
 
--- a search that took every edge finds that v has no round
-pub no_round : (game : List GameVertex) (solution : List Answer) (v : ℕ) (reached before : List ℕ) (flags : List Bool) (at : ℕ)
-    → IsSearched game solution v reached before flags → length reached ≤ at → AreTaken game solution v reached at → HasNoRound game solution v
-no_round game solution v reached before flags at s done taken rest r =
+-- a search that took every edge finds that v has no cycle
+pub no_cycle : (game : List GameVertex) (solution : List Answer) (v : ℕ) (reached before : List ℕ) (flags : List Bool) (at : ℕ)
+    → IsSearched game solution v reached before flags → length reached ≤ at → AreTaken game solution v reached at → HasNoCycle game solution v
+no_cycle game solution v reached before flags at s done taken rest r =
     go v rest (0, s.some, get_or_default reached 0 v 0 s.some ∙ s.first) r.closes r.greatest
   where
     takes : (u w : ℕ) → Contains reached u → Counts game solution u w → IsTaken game v reached w

@@ -1,4 +1,4 @@
--- The way back along a trail: a round that names no vertex twice.
+-- The way back along a trail: a cycle that names no vertex twice.
 use Rattle.std.proofs.Common.{◌≡◌, ◌≢◌, ℕ, ◌<◌, ◌≤◌, List, [], ◌∷◌, ◌++◌, length, get_or, arith, sym, subst, refl, ◌∙◌}
 use Rattle.std.specs.List.{All, AllPairs}
 use Rattle.std.proofs.lemmas.List.{get_or_default}
@@ -7,7 +7,7 @@ use Rattle.std.proofs.lemmas.List.Kept.{AllPairs-cons}
 use Rattle.pg_arena.specs.Games.{GameVertex, IsPath, priority}
 use Rattle.pg_text.specs.declared.answer.Answer.{Answer}
 use Rattle.pg_check.specs.Soundness.{Counts}
-use Rattle.pg_check.specs.Mirrors.Rounds.{IsSimpleRound, IsTrail}
+use Rattle.pg_check.specs.Mirrors.Cycles.{IsSimpleCycle, IsTrail}
 
 -- x stands after the place
 abbrev pub StandsAfter : List ℕ → ℕ → ℕ → Type 0
@@ -56,7 +56,7 @@ way_steps game solution v reached before end place back t positive w =
 
 pub way_ends : (game : List GameVertex) (solution : List Answer) (v : ℕ) (reached before : List ℕ) (end place : ℕ) (back : List ℕ)
     → IsTrail game solution v reached before end → place ≡ 0 → IsWayBack game solution v reached back place
-    → IsSimpleRound game solution v (v ∷ back)
+    → IsSimpleCycle game solution v (v ∷ back)
 way_ends game solution v reached before end place back t start w =
     let first : get_or reached place 0 ≡ v = subst (λ i. get_or reached i 0 ≡ v) (sym start) t.first in (
       back,

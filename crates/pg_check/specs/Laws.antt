@@ -34,6 +34,12 @@ pub record WinsAll (game : List GameVertex) (solution : List Answer) : Type 0 wh
 abbrev pub SoundWins : Type 0
 SoundWins = (game : List GameVertex) (solution : List Answer) → IsGame game → IsSound game solution → WinsAll game solution
 
+-- a solution is sound exactly if each printed winner wins by the printed strategy
+abbrev pub SoundIffWins : Type 0
+SoundIffWins =
+    (game : List GameVertex) (solution : List Answer) → IsGame game → IsSolution game solution
+    → IsSound game solution ↔ ((v : ℕ) → v < length game → Wins game solution v)
+
 abbrev pub SoundIffSafe : Type 0
 SoundIffSafe =
     (game : List GameVertex) (solution : List Answer) → IsGame game

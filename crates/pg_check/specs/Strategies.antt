@@ -2,7 +2,7 @@
 use Rattle.std.specs.Prelude.{◌≡◌, ◌↔◌, ℕ, ◌<◌, ◌≤◌, List, length, Contains, Option, Some, None, IsSome}
 use Rattle.pg_arena.specs.declared.player.Player.{Player}
 use Rattle.pg_arena.specs.declared.player.Player.TheVariants.{Even, Odd}
-use Rattle.pg_arena.specs.Games.{GameVertex, IsGame, opponent, owner, identifier, dual}
+use Rattle.pg_arena.specs.Games.{GameVertex, IsGame, IsEdge, opponent, owner, priority, identifier, dual}
 use Rattle.pg_text.specs.declared.answer.Answer.{Answer}
 use Rattle.pg_text.specs.Solutions.{answer_at, winner}
 use Rattle.pg_measure.specs.Measures.{BoundList, MeasureValue}
@@ -10,6 +10,7 @@ use Rattle.pg_map.specs.Lines.{Line, line_at, game_line}
 use Rattle.pg_map.specs.Maps.{MapValue, measure_at, IsServedBy, IsClosed}
 use Rattle.pg_check.specs.declared.fault.CheckFault.{CheckFault}
 use Rattle.pg_check.specs.declared.fault.CheckFault.TheVariants.{OutOfMemory, Undecided}
+use Rattle.pg_check.specs.Plays.{IsPlay, WinsPlay}
 use Rattle.pg_check.specs.Soundness.{Counts, IsSound}
 
 -- Even plays the game, Odd its dual
@@ -91,6 +92,20 @@ IsCertifiedFor player game f g solution v =
 -- each vertex is certified by its winner's map
 abbrev pub Certifies : List GameVertex → MapValue → MapValue → List Answer → Type 0
 Certifies game f g solution = (v : ℕ) → v < length game → IsCertifiedFor (winner solution v) game f g solution v
+
+-- an edge by which Even goes to a successor that serves v in the map; Odd may go by any
+abbrev pub GoesServed : List GameVertex → MapValue → ℕ → ℕ → Type 0
+GoesServed game f v w = IsEdge game v w × (owner game v ≡ Even → IsServedBy f.bounds (game_line game) f.measures v w)
+
+-- in a closed map such an edge leaves each vertex, and by such edges Even wins each play from a vertex with a list
+pub record WinsByLists (game : List GameVertex) (f : MapValue) : Type 0 where
+  pub goes_on : (v : ℕ) → v < length game → (w : ℕ) × GoesServed game f v w
+  pub wins : (play : ℕ → ℕ) → IsPlay (GoesServed game f) play → IsSome (measure_at f.measures (play 0))
+      → WinsPlay Even (λ t. priority game (play t))
+
+abbrev pub ListsWin : Type 0
+ListsWin =
+    (game : List GameVertex) (f : MapValue) → IsGame game → IsClosed f.bounds (game_line game) f.measures → WinsByLists game f
 
 abbrev pub NoListInBoth : Type 0
 NoListInBoth =

@@ -1,7 +1,7 @@
 //! Certificates of soundness.
 
 ghost use Rattle.std.specs.Prelude.{◌≡◌, ◌↔◌, ◌<◌, length, IsSome, IsTrue, IfOk, IfErr, IsOkAnd};
-ghost use Rattle.pg_arena.specs.Games.{IsGame, HasPrioritiesUpTo};
+ghost use Rattle.pg_arena.specs.Games.{IsGame};
 ghost use Rattle.pg_text.specs.Solutions.{IsSolution};
 ghost use Rattle.pg_check.specs.Soundness.{IsSound};
 ghost use Rattle.pg_check.specs.Verdicts.{IsWins, Refutes};
@@ -26,12 +26,12 @@ pub fn certifies(game: &Game, solution: &Solution, even: &MeasureMap, odd: &Meas
     requires solution { IsSolution game.now solution.now }
     requires even_size { length even.now.measures ≡ length game.now }
     requires odd_size { length odd.now.measures ≡ length game.now }
-    requires priorities { HasPrioritiesUpTo 65535 game.now }
     ensures certifies { IsTrue result ↔ Certifies game.now even.now odd.now solution.now }
     ensures sound { IsTrue result → IsSound game.now solution.now }
 {
+    let count = game.len() as u32;
     let dual = Dual { game };
-    for number in 0..game.len() as u32 {
+    for number in 0..count {
         let v = Vertex(number);
         let is_certified = match solution.winner(v) {
             Player::Even => is_certified_by(even, game, game, solution, v),
@@ -58,7 +58,6 @@ pub fn check_with(
     requires solution { IsSolution game.now solution.now }
     requires even_size { length even.now.measures ≡ length game.now }
     requires odd_size { length odd.now.measures ≡ length game.now }
-    requires priorities { HasPrioritiesUpTo 65535 game.now }
     ensures wins { IfOk result (λ verdict. IsWins verdict ↔ IsSound game.now solution.now) }
     ensures refutes { IfOk result (Refutes game.now solution.now) }
     ensures err { IfErr result (λ fault. fault ≡ OutOfMemory) }

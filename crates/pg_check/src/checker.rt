@@ -4,14 +4,14 @@ ghost use Rattle.std.specs.Prelude.{◌≡◌, ◌↔◌, ℕ, ◌<◌, length, 
 ghost use Rattle.pg_arena.specs.Games.{IsGame};
 ghost use Rattle.pg_text.specs.Solutions.{IsSolution};
 ghost use Rattle.pg_check.specs.Soundness.{IsSound};
-ghost use Rattle.pg_check.specs.Mirrors.Rounds.{IsLost, HasNoRound, HasNoBadRound};
+ghost use Rattle.pg_check.specs.Mirrors.Cycles.{IsLost, HasNoCycle, HasNoBadCycle};
 ghost use Rattle.pg_check.specs.Verdicts.{IsSimpleBadCycle, IsWins, Refutes};
 ghost use Rattle.pg_check.specs.declared.fault.CheckFault.TheVariants.{OutOfMemory};
 
 use crate::edges::first_leaving;
 use crate::fault::CheckFault;
-use crate::parts::{NEW, OUT, find_parts, mark};
-use crate::rounds::{is_lost, round_through};
+use crate::components::{NEW, OUT, find_components, mark};
+use crate::cycle::{is_lost, cycle_through};
 use crate::sift::sift;
 use crate::verdict::Verdict;
 use pg_arena::{Game, Vertex};
@@ -38,13 +38,13 @@ fn bad_cycle_through(
 ) -> Result<Option<Vec<Vertex>>, AllocError>
     requires whole { length solution.now ≡ length game.now }
     requires within { v < length game.now }
-    ensures none { IfOk result (λ found. IfNone found (IsLost game.now solution.now v → HasNoRound game.now solution.now v)) }
+    ensures none { IfOk result (λ found. IfNone found (IsLost game.now solution.now v → HasNoCycle game.now solution.now v)) }
     ensures some { IfOk result (λ found. IfSome found (λ cycle. IsSimpleBadCycle game.now solution.now cycle.items)) }
 {
     if !is_lost(game, solution, v) {
         return Ok(None);
     }
-    round_through(alloc, game, solution, v)
+    cycle_through(alloc, game, solution, v)
 }
 
 /// A bad cycle, by a search from each vertex.
@@ -54,7 +54,7 @@ fn search_each(
     solution: &Solution,
 ) -> Result<Option<Vec<Vertex>>, AllocError>
     requires { length solution.now ≡ length game.now }
-    ensures none { IfOk result (λ found. IfNone found (HasNoBadRound game.now solution.now)) }
+    ensures none { IfOk result (λ found. IfNone found (HasNoBadCycle game.now solution.now)) }
     ensures some { IfOk result (λ found. IfSome found (λ cycle. IsSimpleBadCycle game.now solution.now cycle.items)) }
 {
     for number in 0..game.len() as u32 {
@@ -65,13 +65,13 @@ fn search_each(
     Ok(None)
 }
 
-/// A bad cycle, by strongly connected parts of the edges that count. Each turn of the loop numbers the parts of the
-/// vertices that are left, in time linear in their edges. Where the greatest priority of a part with an edge is of a
-/// lost vertex, a bad cycle goes through that vertex. Else the vertices over the part's greatest lost priority are left
-/// out, and those that no edge keeps in their part.
+/// A bad cycle, by strongly connected components of the edges that count. Each turn of the loop numbers the components of
+/// the vertices that are left, in time linear in their edges. Where the greatest priority of a component with an edge is
+/// of a lost vertex, a bad cycle goes through that vertex. Else the vertices over the component's greatest lost priority
+/// are left out, and those that no edge keeps in their component.
 ///
-/// That the parts are strongly connected isn't proved, nor needed: `sift` rules out only what it may. Should the parts
-/// not be what they ought to be, the plain search from each vertex decides; with true parts it never runs.
+/// That the components are strongly connected isn't proved, nor needed: `sift` rules out only what it may. Should the
+/// components not be what they ought to be, the plain search from each vertex decides; with true components it never runs.
 fn bad_cycle(
     alloc: Global,
     game: &Game,
@@ -79,20 +79,20 @@ fn bad_cycle(
 ) -> Result<Option<Vec<Vertex>>, AllocError>
     requires { length solution.now ≡ length game.now }
     ensures game { IsGame game.now }
-    ensures none { IfOk result (λ found. IfNone found (HasNoBadRound game.now solution.now)) }
+    ensures none { IfOk result (λ found. IfNone found (HasNoBadCycle game.now solution.now)) }
     ensures some { IfOk result (λ found. IfSome found (λ cycle. IsSimpleBadCycle game.now solution.now cycle.items)) }
 {
     let mut numbers = vec![in alloc; NEW; game.len()]?;
     let mut vertices = all_vertices(alloc, game)?;
-    'rounds: while !vertices.is_empty() {
-        let parts = find_parts(alloc, game, solution, &vertices, &mut numbers)?;
-        if let Some(v) = parts.suspect {
+    'left: while !vertices.is_empty() {
+        let components = find_components(alloc, game, solution, &vertices, &mut numbers)?;
+        if let Some(v) = components.suspect {
             return match bad_cycle_through(alloc, game, solution, v)? {
                 Some(cycle) => Ok(Some(cycle)),
                 None => search_each(alloc, game, solution),
             };
         }
-        match sift(alloc, game, solution, &vertices, &numbers, &parts.limits)? {
+        match sift(alloc, game, solution, &vertices, &numbers, &components.limits)? {
             Some(kept) if kept.len() < vertices.len() => {
                 mark(&mut numbers, &vertices, OUT);
                 mark(&mut numbers, &kept, NEW);

@@ -2,7 +2,6 @@
 
 ghost use Rattle.std.specs.Prelude.{◌≡◌, ◌<◌, ℕ, length, Contains, IsSome, IfSome, IfNone, IfOk, IfErr, None};
 ghost use Rattle.std.specs.List.Sorted.{IsStrictlyIncreasing};
-ghost use Rattle.pg_arena.specs.Games.{HasPrioritiesUpTo};
 ghost use Rattle.pg_map.specs.Lines.{AreWithin, line_at};
 ghost use Rattle.pg_map.specs.Maps.{measure_at, IsServedBy};
 ghost use Rattle.pg_text.specs.Solutions.{IsSolution};
@@ -31,15 +30,15 @@ pub fn strategies(
     requires even_size { length even.now.measures ≡ length game.now }
     requires odd_size { length odd.now.measures ≡ length game.now }
     requires closed { AreClosed game.now even.now odd.now }
-    requires priorities { HasPrioritiesUpTo 65535 game.now }
     ensures solution { IfOk result (IsSolutionOf game.now even.now odd.now) }
     ensures choices { IfOk result (IsSolution game.now) }
     ensures sound { IfOk result (IsSound game.now) }
     ensures fault { IfErr result (StrategiesFail game.now even.now odd.now) }
 {
+    let count = game.len() as u32;
     let dual = Dual { game };
     let mut solution = Solution::new(alloc, game)?;
-    for number in 0..game.len() as u32 {
+    for number in 0..count {
         let v = Vertex(number);
         let Some(winner) = winner_at(even, odd, v) else {
             return Err(CheckFault::Undecided(game.identifier(v)));

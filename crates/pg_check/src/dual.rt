@@ -9,7 +9,7 @@ use pg_map::Lines;
 #[derive(Clone, Copy)]
 pub(crate) struct Dual<'a> {
     pub game: &'a Game,
-    ghost priorities: { HasPrioritiesUpTo 65535 game.now },
+    ghost priorities: { HasPrioritiesUpTo 65536 game.now },
 }
 
 impl Lines for Dual<'_> {

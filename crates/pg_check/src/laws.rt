@@ -6,7 +6,7 @@ ghost use Rattle.pg_text.specs.declared.answer.Answer.{Answer};
 ghost use Rattle.pg_text.specs.Solutions.{winner};
 ghost use Rattle.pg_check.specs.Plays.{IsPlay, WinsPlay};
 ghost use Rattle.pg_check.specs.Soundness.{Counts, IsSound};
-ghost use Rattle.pg_check.specs.Laws.{OneRecurring, HasOneLoser, SoundWins, KeepsToSolution, SoundIffSafe, OneWinner};
+ghost use Rattle.pg_check.specs.Laws.{OneRecurring, HasOneLoser, SoundWins, KeepsToSolution, SoundIffWins, SoundIffSafe, OneWinner};
 
 use crate::play::Play;
 
@@ -37,6 +37,12 @@ pub fn sound_wins_of<P: Play>(play: &P)
         × WinsPlay (winner solution (P.vertex play.now 0)) (λ t. priority (P.game play.now) (P.vertex play.now t)) }
 {}
 
+/// A solution is sound exactly if each winner wins by it: every play that follows it from the vertex stays with the winner
+/// and is won by that player.
+pub fn sound_iff_wins()
+    ensures { SoundIffWins }
+{}
+
 /// A solution is sound exactly if no edge that counts joins vertices with different winners, and no cycle of such edges
 /// has a greatest priority of the loser's parity.
 pub fn sound_iff_safe()
@@ -48,7 +54,12 @@ pub fn one_winner()
     ensures { OneWinner }
 {}
 
-ghost use Rattle.pg_check.specs.Strategies.{NoListInBoth, ClosedMapsSound, CertifiedSound};
+ghost use Rattle.pg_check.specs.Strategies.{ListsWin, NoListInBoth, ClosedMapsSound, CertifiedSound};
+
+/// In a closed map of a game, from each vertex with a list Even wins every play in which it goes to successors that serve.
+pub fn lists_win()
+    ensures { ListsWin }
+{}
 
 /// No vertex has a list both in a closed map of the game and in a closed map of its dual.
 pub fn no_list_in_both()

@@ -9,9 +9,9 @@ mod dual;
 mod edges;
 mod fault;
 pub mod laws;
-mod parts;
+mod components;
 mod play;
-mod rounds;
+mod cycle;
 mod sift;
 mod verdict;
 

@@ -3,10 +3,10 @@
 ghost use Rattle.std.specs.Prelude.{◌≡◌, ◌<◌, length, All, IfOk, IfSome};
 ghost use Rattle.std.specs.Bool.{OnFalse};
 ghost use Rattle.pg_arena.specs.Games.{IsGame};
-ghost use Rattle.pg_check.specs.Mirrors.Rounds.{HoldsRounds, RisesFrom, StaysNowhere, limit_of, IsNumbered, IsRuledOut};
+ghost use Rattle.pg_check.specs.Mirrors.Cycles.{HoldsCycles, RisesFrom, StaysNowhere, limit_of, IsNumbered, IsRuledOut};
 
 use crate::edges::counted;
-use crate::rounds::is_lost;
+use crate::cycle::is_lost;
 use pg_arena::{Game, Vertex};
 use pg_text::Solution;
 use std::alloc::{AllocError, Global};
@@ -85,9 +85,9 @@ pub(crate) fn sift(
     requires whole { length solution.now ≡ length game.now }
     requires numbered { length numbers.now ≡ length game.now }
     requires within { All (λ v. v < length game.now) vertices.now }
-    requires before { HoldsRounds game.now solution.now vertices.now }
+    requires before { HoldsCycles game.now solution.now vertices.now }
     ensures within { IfOk result (λ sifted. IfSome sifted (λ kept. All (λ v. v < length game.now) kept.items)) }
-    ensures holds { IfOk result (λ sifted. IfSome sifted (λ kept. HoldsRounds game.now solution.now kept.items)) }
+    ensures holds { IfOk result (λ sifted. IfSome sifted (λ kept. HoldsCycles game.now solution.now kept.items)) }
 {
     let mut kept = Vec::new(alloc);
     for v in vertices {

@@ -5,7 +5,7 @@ ghost use Rattle.std.specs.Bool.{OnTrue, OnFalse};
 ghost use Rattle.pg_measure.specs.Measures.{Fits, AtMost, IsBelow, owned};
 ghost use Rattle.pg_measure.specs.Views.{measure_in};
 ghost use Rattle.pg_map.specs.Lines.{AreWithin};
-ghost use Rattle.pg_map.specs.Maps.{measure_at, IsMap, zero_map, update_map, MapAtMost, IsServedBy, IsServed, IsClosed, IsLifted, StaysUnder, IsLeastClosedFrom, IsJoin};
+ghost use Rattle.pg_map.specs.Maps.{measure_at, IsMap, zero_map, update_map, MapAtMost, IsServedBy, IsServed, IsClosed, IsLifted, StaysUnder, CoversSuccessors, IsLeastClosedFrom, IsJoin};
 ghost use Rattle.pg_map.specs.Weights.{map_weight};
 
 use crate::{Lines, table};
@@ -171,12 +171,15 @@ impl MeasureMap {
         None
     }
 
-    /// Lifts each vertex that can be lifted, from 0 up. True exactly if one rose; else the map is closed.
+    /// Lifts each vertex that can be lifted, from 0 up. True exactly if one rose; else the map is closed. Each measure then
+    /// covers what some or all of the vertex's successors had before.
     pub fn lift_each<G: Lines>(&mut self, lines: &G) -> bool
         requires { AreWithin (length self.old.measures) (G.line lines.now) }
         ensures bounds { self.new.bounds ≡ self.old.bounds }
         ensures map { IsMap self.old.bounds (length self.old.measures) self.new.measures }
         ensures above { MapAtMost self.old.measures self.new.measures }
+        ensures covers { (v : ℕ) → IsSome (G.line lines.now v)
+            → CoversSuccessors self.old.bounds (G.line lines.now) self.old.measures v (measure_at self.new.measures v) }
         ensures under { StaysUnder self.old.bounds (G.line lines.now) self.old.measures self.new.measures }
         ensures weight { OnTrue result (map_weight self.old.bounds self.new.measures < map_weight self.old.bounds self.old.measures) }
         ensures same { OnFalse result (self.new ≡ self.old) }

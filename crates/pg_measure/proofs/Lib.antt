@@ -4,3 +4,4 @@ pub mod Order
 pub mod Widths
 pub mod Compare
 pub mod Counted
+pub mod OneList

@@ -14,7 +14,7 @@ nat_le_yes p q h = grind (arith, nat_tests)
 nat_le_no : (p q : ℕ) → q < p → nat_le p q ≡ false
 nat_le_no p q h = grind (arith, nat_tests)
 
-width_in : (b : ℕ × ℕ) (bs : BoundList) (p : ℕ) → p ≤ b.0 → width_from (b ∷ bs) p ≡ suc (width_from bs p)
+pub width_in : (b : ℕ × ℕ) (bs : BoundList) (p : ℕ) → p ≤ b.0 → width_from (b ∷ bs) p ≡ suc (width_from bs p)
 width_in b bs p h = rw (sum_by-cons, nat_le_yes p b.0 h) (omega arith)
 
 width_out : (b : ℕ × ℕ) (bs : BoundList) (p : ℕ) → b.0 < p → width_from (b ∷ bs) p ≡ width_from bs p

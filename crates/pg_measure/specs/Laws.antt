@@ -34,6 +34,11 @@ abbrev pub OneLeastStep : Type 0
 OneLeastStep =
     (bounds : BoundList) (p : ℕ) (m r s : MeasureValue) → IsLeastStep bounds p m r → IsLeastStep bounds p m s → r ≡ s
 
+-- a game has one list of bounds
+abbrev pub OneListOfBounds : Type 0
+OneListOfBounds =
+    (game : List GameVertex) (first second : BoundList) → IsBoundsOf game first → IsBoundsOf game second → first ≡ second
+
 -- a game whose priorities are at most 65,536, as in a game that is read and in its dual, has at most 32,768 bounds,
 -- and their priorities are at most 65,535
 abbrev pub BoundsAreFew : Type 0

@@ -7,7 +7,7 @@ use Rattle.std.specs.BTreeSet.{BTreeSet, contains}
 use Rattle.std.specs.declared.vec.Vec.{Vec}
 use Rattle.std.specs.declared.alloc.Global.{Global}
 use Rattle.pg_arena.specs.declared.entry.Entry.{Entry}
-use Rattle.pg_arena.specs.Games.{GameVertex, IsGame, IsWithinLimits, opponent}
+use Rattle.pg_arena.specs.Games.{GameVertex, IsGame, IsWithinLimits, HasPrioritiesUpTo, opponent}
 use Rattle.pg_arena.specs.Lines.{Line}
 
 -- the name that stands at a place
@@ -31,6 +31,7 @@ pub record IsBuilt (identifiers targets : List ℕ) (names : List (Vec ℕ Globa
   pub named : identifiers ≡ map (λ e. e.identifier) entries
   pub game : IsGame (vertices_in targets names entries)
   pub limits : IsWithinLimits (vertices_in targets names entries)
+  pub priorities : HasPrioritiesUpTo 65536 (vertices_in targets names entries)
 
 -- each entry's name stands in the list of names
 abbrev pub AreNamed : List (Vec ℕ Global) → List Entry → Type 0

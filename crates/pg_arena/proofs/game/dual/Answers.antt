@@ -13,7 +13,7 @@ from_parts-requires c =
     let targets-are : c.in_ok-targets.targets.items ≡ c.game.inside.targets.items = search rules in
     let entries-are : c.in_ok-entries.entries.items ≡ map dual_entry c.game.inside.entries.items = search rules in
     let names-are : texts c.in_ok-names.names.items ≡ texts c.game.inside.names.items = c.in_ok-names.ensures ∙ ap texts c.deref-4.ensures.value in
-    rw (ids-are, targets-are, entries-are) (dual_built c.game.inside.identifiers.items c.game.inside.targets.items c.game.inside.names.items c.in_ok-names.names.items c.game.inside.entries.items names-are c.game.invariant)
+    rw (ids-are, targets-are, entries-are) (dual_built c.game.inside.identifiers.items c.game.inside.targets.items c.game.inside.names.items c.in_ok-names.names.items c.game.inside.entries.items names-are (subst (HasPrioritiesUpTo 65535) (sym c.game.view_is) c.requires) c.game.invariant)
 
 pub returns-clause-dual : goal.returns-clause-dual
 returns-clause-dual c =

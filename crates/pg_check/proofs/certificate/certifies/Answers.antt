@@ -28,4 +28,4 @@ loop-number-preserved c v lt = elim (cases_lt v c.loop-number.number) [
 pub returns-clause-sound : goal.returns-clause-sound
 returns-clause-sound c = λ yes.
     sound_from_certificate c.args.game.now c.args.even.now c.args.odd.now c.args.solution.now
-    (λ v lt. c.loop-number.invariant v (omega arith)) c.len-number-end.ensures.game
+    (λ v lt. c.loop-number.invariant v (omega arith)) c.len-count.ensures.game

@@ -4,13 +4,13 @@ use Rattle.std.specs.declared.alloc.Global.{Global}
 use Rattle.std.specs.declared.alloc.AllocError.{AllocError}
 use Rattle.pg_arena.specs.Games.{GameVertex}
 use Rattle.pg_text.specs.declared.answer.Answer.{Answer}
-use Rattle.pg_check.specs.Mirrors.Rounds.{IsLost, IsSimpleRound}
+use Rattle.pg_check.specs.Mirrors.Cycles.{IsLost, IsSimpleCycle}
 use Rattle.pg_check.specs.Verdicts.{IsSimpleBadCycle}
 use Rattle.pg_check.proofs.Checking.{bad_cycle_of}
 use Rattle.pg_check.proofs.checker.bad_cycle_through.Goals as goal
 
 found_bad : (game : List GameVertex) (solution : List Answer) (v : ℕ) (r : Result (Option (Vec ℕ Global)) AllocError) → IsLost game solution v
-    → IfOk r (λ found. IfSome found (λ cycle. IsSimpleRound game solution v cycle.items))
+    → IfOk r (λ found. IfSome found (λ cycle. IsSimpleCycle game solution v cycle.items))
     → IfOk r (λ found. IfSome found (λ cycle. IsSimpleBadCycle game solution cycle.items))
 found_bad game solution v (Ok (Some cycle)) lost h = bad_cycle_of game solution v cycle.items lost h
 found_bad game solution v (Ok None) lost h = tt
@@ -19,4 +19,4 @@ found_bad game solution v (Err e) lost h = tt
 pub returns-clause-some : goal.returns-clause-some
 returns-clause-some c =
     let lost : IsLost c.args.game.now c.args.solution.now c.args.v = search rules in
-    found_bad c.args.game.now c.args.solution.now c.args.v c.round_through.result lost c.round_through.ensures.some
+    found_bad c.args.game.now c.args.solution.now c.args.v c.cycle_through.result lost c.cycle_through.ensures.some

@@ -1,6 +1,6 @@
 use Rattle.std.proofs.Common.{rules}
 use Rattle.pg_check.specs.Soundness.{NoneLeaves}
-use Rattle.pg_check.specs.Mirrors.Rounds.{HasNoBadRound}
+use Rattle.pg_check.specs.Mirrors.Cycles.{HasNoBadCycle}
 use Rattle.pg_check.specs.Verdicts.{IsLeastLeaving, IsSimpleBadCycle}
 use Rattle.pg_check.proofs.Checking.{sound_of, unsound_by_edge, unsound_by_cycle}
 use Rattle.pg_check.proofs.checker.check.Goals as goal
@@ -18,5 +18,5 @@ returns-in-Some-2-clause-wins c =
 pub returns-in-None-clause-wins : goal.returns-in-None-clause-wins
 returns-in-None-clause-wins c =
     let none_leaves : NoneLeaves c.args.game.now c.args.solution.now = search rules in
-    let none : HasNoBadRound c.args.game.now c.args.solution.now = rw c.in-None.is at c.in_ok-cycle.ensures.none in
+    let none : HasNoBadCycle c.args.game.now c.args.solution.now = rw c.in-None.is at c.in_ok-cycle.ensures.none in
     (λ h. sound_of c.args.game.now c.args.solution.now c.in_ok-cycle.ensures.game none_leaves none, λ h. tt)

@@ -22,22 +22,22 @@ returns-in_default-clause-fault c = record {
 
 pub first_serving-choice-requires-clause-within : goal.first_serving-choice-requires-clause-within
 first_serving-choice-requires-clause-within c =
-    lines_within Even c.args.game.now (length c.args.even.now.measures) c.len-number-end.ensures.game c.requires.even_size
+    lines_within Even c.args.game.now (length c.args.even.now.measures) c.len-count.ensures.game c.requires.even_size
 
 pub first_serving-choice-requires-clause-rising : goal.first_serving-choice-requires-clause-rising
 first_serving-choice-requires-clause-rising c =
-    lines_rise Even c.args.game.now c.len-number-end.ensures.game c.loop-number.number (omega arith)
+    lines_rise Even c.args.game.now c.len-count.ensures.game c.loop-number.number (omega arith)
 
 pub first_serving-choice-requires-in-Odd-Odd-clause-held : goal.first_serving-choice-requires-in-Odd-Odd-clause-held
 first_serving-choice-requires-in-Odd-Odd-clause-held c = has_line Odd c.args.game.now c.loop-number.number (omega arith)
 
 pub first_serving-choice-requires-in-Odd-Odd-clause-within : goal.first_serving-choice-requires-in-Odd-Odd-clause-within
 first_serving-choice-requires-in-Odd-Odd-clause-within c =
-    lines_within Odd c.args.game.now (length c.args.odd.now.measures) c.len-number-end.ensures.game c.requires.odd_size
+    lines_within Odd c.args.game.now (length c.args.odd.now.measures) c.len-count.ensures.game c.requires.odd_size
 
 pub first_serving-choice-requires-in-Odd-Odd-clause-rising : goal.first_serving-choice-requires-in-Odd-Odd-clause-rising
 first_serving-choice-requires-in-Odd-Odd-clause-rising c =
-    lines_rise Odd c.args.game.now c.len-number-end.ensures.game c.loop-number.number (omega arith)
+    lines_rise Odd c.args.game.now c.len-count.ensures.game c.loop-number.number (omega arith)
 
 pub loop-number-preserved : goal.loop-number-preserved
 loop-number-preserved c =
@@ -46,7 +46,7 @@ loop-number-preserved c =
     let g = c.args.odd.now in
     let v = c.loop-number.number in
     let lt : v < length game = omega arith in
-    let is_game = c.len-number-end.ensures.game in
+    let is_game = c.len-count.ensures.game in
     let closed = c.requires.closed in
     let winner = c.in-Some.winner in
     let list = c.in-Some.ensures.some in
@@ -77,8 +77,8 @@ pub returns-clause-sound : goal.returns-clause-sound
 returns-clause-sound c =
     let is = solution_from_upto c.args.game.now c.args.even.now c.args.odd.now c.loop-number.solution c.loop-number.number (omega arith) c.loop-number.invariant in
     sound_from_certificate c.args.game.now c.args.even.now c.args.odd.now c.loop-number.solution
-    (certifies_from_closed c.args.game.now c.args.even.now c.args.odd.now c.loop-number.solution c.len-number-end.ensures.game c.requires.closed is)
-    c.len-number-end.ensures.game
+    (certifies_from_closed c.args.game.now c.args.even.now c.args.odd.now c.loop-number.solution c.len-count.ensures.game c.requires.closed is)
+    c.len-count.ensures.game
 
 pub returns-clause-choices : goal.returns-clause-choices
 returns-clause-choices c =

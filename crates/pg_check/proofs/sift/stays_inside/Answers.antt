@@ -3,7 +3,7 @@ use Rattle.std.specs.Bool.{OnFalse}
 use Rattle.std.specs.List.{Contains}
 use Rattle.pg_arena.specs.Games.{GameVertex}
 use Rattle.pg_text.specs.declared.answer.Answer.{Answer}
-use Rattle.pg_check.specs.Mirrors.Rounds.{StaysNowhere}
+use Rattle.pg_check.specs.Mirrors.Cycles.{StaysNowhere}
 use Rattle.pg_check.specs.Soundness.{Counts}
 use Rattle.pg_check.proofs.Leaving.{all_passed}
 use Rattle.pg_check.proofs.sift.stays_inside.Goals as goal
