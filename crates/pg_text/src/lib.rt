@@ -7,6 +7,7 @@ mod game;
 pub mod laws;
 mod layout;
 mod line;
+pub mod reading;
 mod solution;
 mod solution_layout;
 mod solution_line;
