@@ -8,8 +8,9 @@ use Rattle.pg_arena.specs.declared.player.Player.{Player}
 use Rattle.pg_arena.specs.declared.player.Player.TheVariants.{Even, Odd}
 use Rattle.pg_arena.specs.Lines.{Line}
 use Rattle.pg_text.specs.Lexemes.{number, semicolon, comma, is_space, is_digit, is_plain, Each, Stops, IsSpelt, Begins, Spells}
-use Rattle.pg_text.specs.GameText.{player_number, further_lexemes, successor_lexemes, name_lexemes, line_lexemes}
-use Rattle.pg_text.specs.GameLayout.{further_text, numbers_text, name_text, line_text}
+use Rattle.pg_text.specs.GameText.{player_number, name_lexemes, line_lexemes}
+use Rattle.pg_text.specs.Numbers.{comma_number_lexemes, numbers_lexemes, comma_number, numbers_text}
+use Rattle.pg_text.specs.GameLayout.{name_text, line_text}
 use Rattle.pg_text.proofs.Numbers.{value_from}
 use Rattle.pg_text.proofs.Spelling.{spells_append}
 
@@ -27,25 +28,25 @@ number_begins gap n rest blank small stops = record { gap = gap; text = decimal 
 
 -- ---- the successors
 
-further_stops : (ns tail : List ℕ) → Stops is_digit tail → Stops is_digit (flat_map further_text ns ++ tail)
+further_stops : (ns tail : List ℕ) → Stops is_digit tail → Stops is_digit (flat_map comma_number ns ++ tail)
 further_stops [] tail stops = stops
 further_stops (n ∷ ns) tail stops = refl
 
-further_spelt : (ns tail : List ℕ) → AllByRecursion (λ n. n < 2 ^ 32) ns → Stops is_digit tail → Spells (flat_map further_text ns ++ tail) (flat_map further_lexemes ns) tail
+further_spelt : (ns tail : List ℕ) → AllByRecursion (λ n. n < 2 ^ 32) ns → Stops is_digit tail → Spells (flat_map comma_number ns ++ tail) (flat_map comma_number_lexemes ns) tail
 further_spelt [] tail small stops = refl
 further_spelt (n ∷ ns) tail small stops =
-    let later = flat_map further_text ns ++ tail in
-    let regroup : flat_map further_text (n ∷ ns) ++ tail ≡ 44 ∷ (decimal n ++ later) = ap (λ (t : List ℕ). 44 ∷ t) (append_assoc (decimal n) (flat_map further_text ns) tail) in
+    let later = flat_map comma_number ns ++ tail in
+    let regroup : flat_map comma_number (n ∷ ns) ++ tail ≡ 44 ∷ (decimal n ++ later) = ap (λ (t : List ℕ). 44 ∷ t) (append_assoc (decimal n) (flat_map comma_number ns) tail) in
     let after : Begins (44 ∷ (decimal n ++ later)) comma (decimal n ++ later) = record { gap = []; text = 44 ∷ []; parts = refl; blank = tt; spelt = refl } in
-    subst (λ (bytes : List ℕ). Spells bytes (flat_map further_lexemes (n ∷ ns)) tail) (sym regroup)
+    subst (λ (bytes : List ℕ). Spells bytes (flat_map comma_number_lexemes (n ∷ ns)) tail) (sym regroup)
     (decimal n ++ later, after, (later, number_begins [] n later tt small.0 (further_stops ns tail stops), further_spelt ns tail small.1 stops))
 
-numbers_spelt : (gap ns tail : List ℕ) → Each is_space gap → AllByRecursion (λ n. n < 2 ^ 32) ns → ns ≢ [] → Stops is_digit tail → Spells (gap ++ (numbers_text ns ++ tail)) (successor_lexemes ns) tail
+numbers_spelt : (gap ns tail : List ℕ) → Each is_space gap → AllByRecursion (λ n. n < 2 ^ 32) ns → ns ≢ [] → Stops is_digit tail → Spells (gap ++ (numbers_text ns ++ tail)) (numbers_lexemes ns) tail
 numbers_spelt gap [] tail blank small some stops = absurd (some refl)
 numbers_spelt gap (n ∷ ns) tail blank small some stops =
-    let later = flat_map further_text ns ++ tail in
-    let regroup : gap ++ (numbers_text (n ∷ ns) ++ tail) ≡ gap ++ (decimal n ++ later) = ap (λ (t : List ℕ). gap ++ t) (append_assoc (decimal n) (flat_map further_text ns) tail) in
-    subst (λ (bytes : List ℕ). Spells bytes (successor_lexemes (n ∷ ns)) tail) (sym regroup)
+    let later = flat_map comma_number ns ++ tail in
+    let regroup : gap ++ (numbers_text (n ∷ ns) ++ tail) ≡ gap ++ (decimal n ++ later) = ap (λ (t : List ℕ). gap ++ t) (append_assoc (decimal n) (flat_map comma_number ns) tail) in
+    subst (λ (bytes : List ℕ). Spells bytes (numbers_lexemes (n ∷ ns)) tail) (sym regroup)
     (later, number_begins gap n later blank small.0 (further_stops ns tail stops), further_spelt ns tail small.1 stops)
 
 -- ---- the name and the end of the line
@@ -82,7 +83,7 @@ line_spelt gap line rest blank p =
     let successors = 32 ∷ (numbers_text line.successors ++ ending) in
     let owner = 32 ∷ (decimal (player_number line.owner) ++ successors) in
     let priority = 32 ∷ (decimal line.priority ++ owner) in
-    let last = spells_append (successor_lexemes line.successors) (name_lexemes line.name ++ semicolon ∷ []) successors ending (10 ∷ rest)
+    let last = spells_append (numbers_lexemes line.successors) (name_lexemes line.name ++ semicolon ∷ []) successors ending (10 ∷ rest)
     (numbers_spelt (32 ∷ []) line.successors ending (refl, tt) p.successors p.some (ending_stops line.name (10 ∷ rest))) (ending_spelt line.name (10 ∷ rest) p.name) in
     subst (λ (bytes : List ℕ). Spells (gap ++ bytes) (line_lexemes line) (10 ∷ rest)) (sym (line_regroup line rest))
     (priority, number_begins gap line.identifier priority blank p.identifier refl, (owner, number_begins (32 ∷ []) line.priority owner (refl, tt) p.priority refl, (successors, number_begins (32 ∷ []) (player_number line.owner) successors (refl, tt) (player_small line.owner) refl, last)))

@@ -1,17 +1,10 @@
 -- The layout in which a game is printed.
-use Rattle.std.specs.Prelude.{ℕ, ◌-◌, List, [], ◌∷◌, ◌++◌, Option, Some, None, length, codes, decimal}
+use Rattle.std.specs.Prelude.{ℕ, ◌-◌, List, [], ◌++◌, Option, Some, None, length, codes, decimal}
 use Rattle.std.specs.List.{flat_map}
 use Rattle.pg_arena.specs.Games.{GameVertex, identifier}
 use Rattle.pg_arena.specs.Lines.{Line, lines_of}
 use Rattle.pg_text.specs.GameText.{player_number}
-
-abbrev pub further_text : ℕ → List ℕ
-further_text n = codes "," ++ decimal n
-
--- numbers with commas between
-abbrev pub numbers_text : List ℕ → List ℕ
-numbers_text [] = []
-numbers_text (n ∷ ns) = decimal n ++ flat_map further_text ns
+use Rattle.pg_text.specs.Numbers.{numbers_text}
 
 -- a space, and the name in quotes as it stands
 abbrev pub name_text : Option (List ℕ) → List ℕ

@@ -8,20 +8,13 @@ use Rattle.pg_arena.specs.declared.fault.ArenaFault.{ArenaFault}
 use Rattle.pg_arena.specs.Lines.{Line, counted, Accepts, IsGameOf, add_fault, FinishFails}
 use Rattle.pg_text.specs.declared.fault.TextFault.{TextFault}
 use Rattle.pg_text.specs.declared.fault.TextFault.TheVariants.{OutOfMemory, Syntax, NumberTooLarge, Arena}
-use Rattle.pg_text.specs.Lexemes.{Lexeme, number, word, semicolon, comma, quoted, end, Spells}
+use Rattle.pg_text.specs.Lexemes.{Lexeme, number, semicolon, quoted, end, clause_lexemes, Spells}
+use Rattle.pg_text.specs.Numbers.{numbers_lexemes}
 
 -- Even is player 0, Odd is player 1
 abbrev pub player_number : Player → ℕ
 player_number Even = 0
 player_number Odd = 1
-
-abbrev pub further_lexemes : ℕ → List Lexeme
-further_lexemes n = comma ∷ number n ∷ []
-
--- numbers with commas between
-abbrev pub successor_lexemes : List ℕ → List Lexeme
-successor_lexemes [] = []
-successor_lexemes (n ∷ ns) = number n ∷ flat_map further_lexemes ns
 
 abbrev pub name_lexemes : Option (List ℕ) → List Lexeme
 name_lexemes None = []
@@ -30,12 +23,7 @@ name_lexemes (Some name) = quoted name ∷ []
 -- identifier, priority, owner, successors, perhaps a name, and a semicolon
 abbrev pub line_lexemes : Line → List Lexeme
 line_lexemes line = number line.identifier ∷ number line.priority ∷ number (player_number line.owner) ∷
-    (successor_lexemes line.successors ++ (name_lexemes line.name ++ semicolon ∷ []))
-
--- a word, a number and a semicolon; or nothing
-abbrev pub clause_lexemes : List ℕ → Option ℕ → List Lexeme
-clause_lexemes name None = []
-clause_lexemes name (Some n) = word name ∷ number n ∷ semicolon ∷ []
+    (numbers_lexemes line.successors ++ (name_lexemes line.name ++ semicolon ∷ []))
 
 -- perhaps a header, perhaps a start, the lines, and what follows them
 abbrev pub game_lexemes : Option ℕ → Option ℕ → List Line → List Lexeme → List Lexeme

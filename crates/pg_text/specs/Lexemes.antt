@@ -1,5 +1,5 @@
 -- The tokens of a text in the PGSolver format, and the bytes that spell them.
-use Rattle.std.specs.Prelude.{◌≡◌, ◌≢◌, ℕ, ◌+◌, ◌-◌, ◌*◌, ◌^◌, ◌<◌, Bool, true, false, ◌||◌, ◌&&◌, ◌==◌, nat_le, List, [], ◌∷◌, ◌++◌, length, drop, if◌then◌else◌}
+use Rattle.std.specs.Prelude.{◌≡◌, ◌≢◌, ℕ, ◌+◌, ◌-◌, ◌*◌, ◌^◌, ◌<◌, Bool, true, false, ◌||◌, ◌&&◌, ◌==◌, nat_le, List, [], ◌∷◌, ◌++◌, length, drop, Option, Some, None, if◌then◌else◌}
 use Rattle.std.specs.List.{fold, prefix_len, AllByRecursion}
 use Rattle.pg_text.specs.declared.tokens.Token.{Token}
 use Rattle.pg_text.specs.declared.tokens.Token.TheVariants as tokens
@@ -74,6 +74,11 @@ abbrev pub Spells : List ℕ → List Lexeme → List ℕ → Type 0
 Spells bytes [] rest = bytes ≡ rest
 Spells bytes (token ∷ tokens) rest = (mid : List ℕ) × Begins bytes token mid × Spells mid tokens rest
 
+-- a word, a number and a semicolon; or nothing
+abbrev pub clause_lexemes : List ℕ → Option ℕ → List Lexeme
+clause_lexemes name None = []
+clause_lexemes name (Some n) = word name ∷ number n ∷ semicolon ∷ []
+
 -- behind the white space in front
 abbrev pub after_space : List ℕ → List ℕ
 after_space bytes = drop (prefix_len is_space bytes) bytes
@@ -86,3 +91,8 @@ fault_at (b ∷ bytes) = if is_digit b then NumberTooLarge (length (b ∷ bytes)
 -- why no token begins; the fault is told at the token's first byte, by how many bytes are left from there
 abbrev pub token_fault : List ℕ → TokenFault
 token_fault bytes = fault_at (after_space bytes)
+
+-- how many bytes are left from the token at fault on
+abbrev pub left_of : TokenFault → ℕ
+left_of (Syntax left) = left
+left_of (NumberTooLarge left) = left

@@ -1,5 +1,6 @@
 pub mod Solutions
 pub mod Lexemes
+pub mod Numbers
 pub mod GameText
 pub mod GameLayout
 pub mod ReadBack

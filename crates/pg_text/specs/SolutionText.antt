@@ -9,8 +9,8 @@ use Rattle.pg_text.specs.declared.solution_line.SolutionLine.{SolutionLine}
 use Rattle.pg_text.specs.declared.fault.TextFault.{TextFault}
 use Rattle.pg_text.specs.declared.fault.TextFault.TheVariants.{OutOfMemory, Syntax, NumberTooLarge, NotOfGame, Missing}
 use Rattle.pg_text.specs.Solutions.{winner, choice, IsSolution}
-use Rattle.pg_text.specs.Lexemes.{Lexeme, number, semicolon, end, Spells, after_space}
-use Rattle.pg_text.specs.GameText.{player_number, clause_lexemes}
+use Rattle.pg_text.specs.Lexemes.{Lexeme, number, semicolon, end, Spells, after_space, clause_lexemes}
+use Rattle.pg_text.specs.GameText.{player_number}
 
 -- ---- the lines of a text
 

@@ -1,15 +1,13 @@
 //! Why a text is refused.
 
-ghost use Rattle.std.specs.Prelude.{◌≡◌, length};
-ghost use Rattle.pg_text.specs.declared.fault.Refusal.TheVariants.{Memory, Token};
-ghost use Rattle.pg_text.specs.declared.tokens.TokenFault.TheVariants.{Syntax};
+ghost use Rattle.std.specs.Prelude.{◌≡◌};
 ghost use Rattle.pg_text.specs.declared.fault.TextFault.TheVariants.{OutOfMemory, Write};
-ghost use Rattle.pg_text.specs.Lexemes.{after_space};
-ghost use Rattle.pg_text.specs.Mirrors.Refusals.{arena_fault, fault_of};
+ghost use Rattle.pg_text.specs.Mirrors.Refusals.{arena_fault, token_fault_of, fault_of};
 
-use crate::tokens::{TokenFault, left_at};
+use crate::reading::Refusal;
+use crate::tokens::TokenFault;
 use pg_arena::ArenaFault;
-use std::alloc::{AllocError, AllocFailed};
+use std::alloc::AllocError;
 use std::io;
 use thiserror::Error;
 
@@ -67,13 +65,16 @@ impl From<io::Error> for TextFault {
     }
 }
 
-/// Why a part of a text is refused.
-#[derive(Clone, Copy, Debug, PartialEq, Eq)]
-pub(crate) enum Refusal {
-    /// A growth was refused.
-    Memory,
-    /// No token, or not this one, may stand there.
-    Token(TokenFault),
+impl TokenFault {
+    /// The fault in a text of this many bytes.
+    pub(crate) fn in_text(self, len: usize) -> TextFault
+        ensures { result ≡ token_fault_of len self }
+    {
+        match self {
+            TokenFault::Syntax(_) => TextFault::Syntax(self.offset_in(len)),
+            TokenFault::NumberTooLarge(_) => TextFault::NumberTooLarge(self.offset_in(len)),
+        }
+    }
 }
 
 impl Refusal {
@@ -83,43 +84,7 @@ impl Refusal {
     {
         match self {
             Refusal::Memory => TextFault::OutOfMemory,
-            Refusal::Token(TokenFault::Syntax(left)) => {
-                TextFault::Syntax(len.saturating_sub(left))
-            }
-            Refusal::Token(TokenFault::NumberTooLarge(left)) => {
-                TextFault::NumberTooLarge(len.saturating_sub(left))
-            }
+            Refusal::Token(fault) => fault.in_text(len),
         }
-    }
-}
-
-/// Refuses the next token, where another one has to stand.
-pub(crate) fn unexpected(bytes: &[u8]) -> Refusal
-    ensures { result ≡ Token (Syntax (length (after_space bytes.now))) }
-{
-    Refusal::Token(TokenFault::Syntax(left_at(bytes)))
-}
-
-impl From<TokenFault> for Refusal {
-    ghost from_gives = { λ fault e. e ≡ Token fault };
-
-    fn from(fault: TokenFault) -> Refusal {
-        Refusal::Token(fault)
-    }
-}
-
-impl From<AllocError> for Refusal {
-    ghost from_gives = { λ _ e. e ≡ Memory };
-
-    fn from(_e: AllocError) -> Refusal {
-        Refusal::Memory
-    }
-}
-
-impl<T: Drop> From<AllocFailed<T>> for Refusal {
-    ghost from_gives = { λ _ e. e ≡ Memory };
-
-    fn from(_e: AllocFailed<T>) -> Refusal {
-        Refusal::Memory
     }
 }

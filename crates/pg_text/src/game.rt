@@ -18,7 +18,7 @@ fn builder_of(alloc: Global, bytes: &[u8]) -> Result<GameBuilder, TextFault>
     let mut successors = Vec::new(alloc);
     let mut rest = match body(bytes) {
         Ok(rest) => rest,
-        Err(refusal) => return Err(refusal.in_text(bytes.len())),
+        Err(fault) => return Err(fault.in_text(bytes.len())),
     };
     'lines: loop {
         match item(&mut successors, rest) {

@@ -1,30 +1,19 @@
 //! Games to text.
 
-ghost use Rattle.std.specs.Prelude.{◌≡◌, ◌<◌, ◌++◌, length, map, decimal, OnOk, IfErr, option_copied, codes};
+ghost use Rattle.std.specs.Prelude.{◌≡◌, ◌<◌, ◌++◌, length, decimal, OnOk, IfErr, option_copied, codes};
 ghost use Rattle.std.specs.Io.KnownBytes.{Appends};
-ghost use Rattle.pg_arena.specs.Games.{IsGame, identifier, successors, vertex_at};
+ghost use Rattle.pg_arena.specs.Games.{IsGame, vertex_at};
 ghost use Rattle.pg_arena.specs.Lines.{line_of};
 ghost use Rattle.pg_text.specs.GameText.{player_number};
-ghost use Rattle.pg_text.specs.GameLayout.{further_text, numbers_text, name_text, line_text, game_text};
+ghost use Rattle.pg_text.specs.GameLayout.{name_text, line_text, game_text};
 
 use crate::fault::TextFault;
-use itoa::Buffer;
+use crate::writing::{write_identifiers, write_number};
 use pg_arena::{Game, Player, Vertex};
-use std::io::Write;
+use std::io::{self, Write};
 
-pub(crate) fn write_number<W: Write>(n: u32, out: &mut W) -> Result<(), TextFault>
-    ensures bytes { OnOk result (Appends (W.contents out.old) (W.contents out.new) (decimal n)) }
-    ensures refused { IfErr result (λ fault. fault ≡ TextFault.Write) }
-{
-    let mut buffer = Buffer::new();
-    out.write_all(buffer.format(n).as_bytes())?;
-    Ok(())
-}
-
-fn write_name<W: Write>(name: Option<&[u8]>, out: &mut W) -> Result<(), TextFault>
-    ensures bytes { OnOk result (Appends (W.contents out.old) (W.contents out.new)
-        (name_text (option_copied name.entry))) }
-    ensures refused { IfErr result (λ fault. fault ≡ TextFault.Write) }
+fn write_name<W: Write>(name: Option<&[u8]>, out: &mut W) -> io::Result<()>
+    ensures { OnOk result (Appends (W.contents out.old) (W.contents out.new) (name_text (option_copied name.entry))) }
 {
     if let Some(name) = name {
         out.write_all(b" \"")?;
@@ -35,58 +24,29 @@ fn write_name<W: Write>(name: Option<&[u8]>, out: &mut W) -> Result<(), TextFaul
 }
 
 /// The owner's number between two spaces.
-fn write_owner<W: Write>(owner: Player, out: &mut W) -> Result<(), TextFault>
-    ensures bytes { OnOk result (Appends (W.contents out.old) (W.contents out.new)
+fn write_owner<W: Write>(owner: Player, out: &mut W) -> io::Result<()>
+    ensures { OnOk result (Appends (W.contents out.old) (W.contents out.new)
         (codes " " ++ (decimal (player_number owner) ++ codes " "))) }
-    ensures refused { IfErr result (λ fault. fault ≡ TextFault.Write) }
 {
     match owner {
-        Player::Even => out.write_all(b" 0 ")?,
-        Player::Odd => out.write_all(b" 1 ")?,
+        Player::Even => out.write_all(b" 0 "),
+        Player::Odd => out.write_all(b" 1 "),
     }
-    Ok(())
 }
 
-/// A number behind a comma.
-fn write_further<W: Write>(n: u32, out: &mut W) -> Result<(), TextFault>
-    ensures bytes { OnOk result (Appends (W.contents out.old) (W.contents out.new) (further_text n)) }
-    ensures refused { IfErr result (λ fault. fault ≡ TextFault.Write) }
-{
-    out.write_all(b",")?;
-    write_number(n, out)?;
-    Ok(())
-}
-
-fn write_successors<W: Write>(game: &Game, v: Vertex, out: &mut W) -> Result<(), TextFault>
+fn write_line<W: Write>(game: &Game, v: Vertex, out: &mut W) -> io::Result<()>
     requires game { IsGame game.now }
     requires vertex { v < length game.now }
-    ensures bytes { OnOk result (Appends (W.contents out.old) (W.contents out.new)
-        (numbers_text (map (identifier game.now) (successors game.now v)))) }
-    ensures refused { IfErr result (λ fault. fault ≡ TextFault.Write) }
-{
-    let successors = game.successors(v);
-    write_number(game.identifier(successors[0]), out)?;
-    for successor in &successors[1..] {
-        write_further(game.identifier(*successor), out)?;
-    }
-    Ok(())
-}
-
-fn write_line<W: Write>(game: &Game, v: Vertex, out: &mut W) -> Result<(), TextFault>
-    requires game { IsGame game.now }
-    requires vertex { v < length game.now }
-    ensures bytes { OnOk result (Appends (W.contents out.old) (W.contents out.new)
+    ensures { OnOk result (Appends (W.contents out.old) (W.contents out.new)
         (line_text (line_of game.now (vertex_at game.now v)))) }
-    ensures refused { IfErr result (λ fault. fault ≡ TextFault.Write) }
 {
     write_number(game.identifier(v), out)?;
     out.write_all(b" ")?;
     write_number(game.priority(v), out)?;
     write_owner(game.owner(v), out)?;
-    write_successors(game, v, out)?;
+    write_identifiers(game, game.successors(v), out)?;
     write_name(game.name(v), out)?;
-    out.write_all(b";\n")?;
-    Ok(())
+    out.write_all(b";\n")
 }
 
 /// Writes a game in the PGSolver format: `parity N;` with the greatest identifier, then a line for each vertex by

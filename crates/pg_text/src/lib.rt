@@ -7,6 +7,7 @@ mod game;
 pub mod laws;
 mod layout;
 mod line;
+pub mod reading;
 mod solution;
 mod solution_layout;
 mod solution_line;
@@ -14,6 +15,7 @@ mod solution_line;
 mod solution_tests;
 mod solution_text;
 pub mod tokens;
+pub mod writing;
 
 pub use answer::Answer;
 pub use fault::TextFault;

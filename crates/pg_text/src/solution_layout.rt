@@ -8,34 +8,27 @@ ghost use Rattle.pg_text.specs.Solutions.{IsSolution};
 ghost use Rattle.pg_text.specs.SolutionLayout.{told_at, printed_line, strategy_text, answer_text, solution_text};
 
 use crate::fault::TextFault;
-use crate::layout::write_number;
 use crate::solution::Solution;
 use crate::solution_text::is_owned;
+use crate::writing::write_number;
 use pg_arena::{Game, Player, Vertex};
-use std::io::Write;
+use std::io::{self, Write};
 
 /// The winner's number behind a space.
-fn write_winner<W: Write>(winner: Player, out: &mut W) -> Result<(), TextFault>
-    ensures bytes { OnOk result (Appends (W.contents out.old) (W.contents out.new)
+fn write_winner<W: Write>(winner: Player, out: &mut W) -> io::Result<()>
+    ensures { OnOk result (Appends (W.contents out.old) (W.contents out.new)
         (codes " " ++ decimal (player_number winner))) }
-    ensures refused { IfErr result (λ fault. fault ≡ TextFault.Write) }
 {
     match winner {
-        Player::Even => out.write_all(b" 0")?,
-        Player::Odd => out.write_all(b" 1")?,
+        Player::Even => out.write_all(b" 0"),
+        Player::Odd => out.write_all(b" 1"),
     }
-    Ok(())
 }
 
-fn write_strategy<W: Write>(
-    game: &Game,
-    choice: Option<Vertex>,
-    out: &mut W,
-) -> Result<(), TextFault>
+fn write_strategy<W: Write>(game: &Game, choice: Option<Vertex>, out: &mut W) -> io::Result<()>
     requires { (w : ℕ) → choice ≡ Some w → w < length game.now }
-    ensures bytes { OnOk result (Appends (W.contents out.old) (W.contents out.new)
+    ensures { OnOk result (Appends (W.contents out.old) (W.contents out.new)
         (strategy_text (option_map (identifier game.now) choice))) }
-    ensures refused { IfErr result (λ fault. fault ≡ TextFault.Write) }
 {
     if let Some(w) = choice {
         out.write_all(b" ")?;
@@ -62,19 +55,17 @@ fn write_answer<W: Write>(
     solution: &Solution,
     v: Vertex,
     out: &mut W,
-) -> Result<(), TextFault>
+) -> io::Result<()>
     requires game { IsGame game.now }
     requires solution { IsSolution game.now solution.now }
     requires vertex { v < length game.now }
-    ensures bytes { OnOk result (Appends (W.contents out.old) (W.contents out.new)
+    ensures { OnOk result (Appends (W.contents out.old) (W.contents out.new)
         (answer_text (printed_line game.now solution.now v))) }
-    ensures refused { IfErr result (λ fault. fault ≡ TextFault.Write) }
 {
     write_number(game.identifier(v), out)?;
     write_winner(solution.winner(v), out)?;
     write_strategy(game, told_choice(game, solution, v), out)?;
-    out.write_all(b";\n")?;
-    Ok(())
+    out.write_all(b";\n")
 }
 
 /// Writes a solution of the game in the PGSolver format: `paritysol N;` with the greatest identifier, then a line for

@@ -2,8 +2,8 @@ use Rattle.std.proofs.Common.{arith}
 use Rattle.std.proofs.lemmas.Fmt.{decimal_digit}
 use Rattle.pg_text.proofs.layout.write_owner.Goals as goal
 
-pub returns-in_ok-write_all-in-Even-clause-bytes : goal.returns-in_ok-write_all-in-Even-clause-bytes
-returns-in_ok-write_all-in-Even-clause-bytes g c = rw (c.in-Even.is, decimal_digit 0 (omega arith)) c.in_ok-write_all-in-Even.ensures.bytes
+pub returns-in-Even : goal.returns-in-Even
+returns-in-Even g c = rw (c.in-Even.is, decimal_digit 0 (omega arith)) c.write_all.ensures.bytes
 
-pub returns-in_ok-write_all-in-Odd-clause-bytes : goal.returns-in_ok-write_all-in-Odd-clause-bytes
-returns-in_ok-write_all-in-Odd-clause-bytes g c = rw (c.in-Odd.is, decimal_digit 1 (omega arith)) c.in_ok-write_all-in-Odd.ensures.bytes
+pub returns-in-Odd : goal.returns-in-Odd
+returns-in-Odd g c = rw (c.in-Odd.is, decimal_digit 1 (omega arith)) c.write_all-in-Odd.ensures.bytes

@@ -1,6 +1,5 @@
-use Rattle.std.proofs.Common.{◌≡◌, ℕ, ◌<◌, Bool, List, true, false, length, sym, subst}
+use Rattle.std.proofs.Common.{sym}
 use Rattle.std.proofs.lemmas.Result.{err_from_is_err_and}
-use Rattle.pg_text.specs.Mirrors.SolutionReading.{HasRead, is_complete}
 use Rattle.pg_text.proofs.SolutionReads.{found, found_only, missing, refused_only}
 use Rattle.pg_text.proofs.solution_text.read_solution.Goals as goal
 

@@ -9,12 +9,12 @@ use Rattle.pg_text.specs.declared.fault.TextFault.TheVariants.{OutOfMemory, Synt
 use Rattle.pg_text.specs.Mirrors.Refusals.{arena_fault}
 use Rattle.pg_text.specs.GameText.{IsText, IsGameText, Refuses, HasNoGame}
 use Rattle.pg_text.specs.Mirrors.Building.{BuildsLines}
-use Rattle.pg_text.proofs.Steps.{some_is}
+use Rattle.pg_text.proofs.Steps.{ok_is}
 use Rattle.pg_text.proofs.Texts.{lines_again}
 
 -- a text has one list of lines
 pub one_text : (bytes : List ℕ) (lines others : List Line) → IsText bytes lines → IsText bytes others → lines ≡ others
-one_text bytes lines others text other = some_is lines others (sym (lines_again bytes lines text) ∙ lines_again bytes others other)
+one_text bytes lines others text other = ok_is lines others (sym (lines_again bytes lines text) ∙ lines_again bytes others other)
 
 pub found_game : (bytes : List ℕ) (built : List Line) (game : List GameVertex) → BuildsLines bytes (Ok built) → IsGameOf built game → IsGameText bytes game
 found_game bytes built game b made = record { lines = b.0; text = b.1; limits = b.3; game_of = subst (λ (ls : List Line). IsGameOf ls game) b.2 made }

@@ -1,0 +1,79 @@
+//! Parts of texts, written: numbers, and numbers with commas between. They make many small writes: give them a buffered
+//! writer.
+
+ghost use Rattle.std.specs.Prelude.{◌<◌, All, decimal, length, map, OnOk};
+ghost use Rattle.std.specs.List.{flat_map};
+ghost use Rattle.std.specs.Io.KnownBytes.{Appends};
+ghost use Rattle.pg_arena.specs.Games.{identifier};
+ghost use Rattle.pg_text.specs.Numbers.{comma_number, numbers_text, identifiers_text};
+
+use itoa::Buffer;
+use pg_arena::{Game, Vertex};
+use std::io::{self, Write};
+
+/// Writes a number in decimal digits.
+pub fn write_number<W: Write>(number: u32, out: &mut W) -> io::Result<()>
+    ensures { OnOk result (Appends (W.contents out.old) (W.contents out.new) (decimal number)) }
+{
+    let mut buffer = Buffer::new();
+    out.write_all(buffer.format(number).as_bytes())
+}
+
+/// A number behind a comma.
+fn write_comma_number<W: Write>(number: u32, out: &mut W) -> io::Result<()>
+    ensures { OnOk result (Appends (W.contents out.old) (W.contents out.new) (comma_number number)) }
+{
+    out.write_all(b",")?;
+    write_number(number, out)
+}
+
+fn write_comma_numbers<W: Write>(numbers: &[u32], out: &mut W) -> io::Result<()>
+    ensures { OnOk result (Appends (W.contents out.old) (W.contents out.new) (flat_map comma_number numbers.now)) }
+{
+    for number in numbers {
+        write_comma_number(*number, out)?;
+    }
+    Ok(())
+}
+
+/// Writes numbers with commas between and no spaces.
+pub fn write_numbers<W: Write>(numbers: &[u32], out: &mut W) -> io::Result<()>
+    ensures { OnOk result (Appends (W.contents out.old) (W.contents out.new) (numbers_text numbers.now)) }
+{
+    match numbers {
+        [] => Ok(()),
+        [first, rest @ ..] => {
+            write_number(*first, out)?;
+            write_comma_numbers(rest, out)
+        }
+    }
+}
+
+fn write_comma_identifiers<W: Write>(
+    game: &Game,
+    vertices: &[Vertex],
+    out: &mut W,
+) -> io::Result<()>
+    requires { All (λ v. v < length game.now) vertices.now }
+    ensures { OnOk result (Appends (W.contents out.old) (W.contents out.new)
+        (flat_map comma_number (map (identifier game.now) vertices.now))) }
+{
+    for v in vertices {
+        write_comma_number(game.identifier(*v), out)?;
+    }
+    Ok(())
+}
+
+/// Writes the identifiers of vertices with commas between and no spaces.
+pub fn write_identifiers<W: Write>(game: &Game, vertices: &[Vertex], out: &mut W) -> io::Result<()>
+    requires { All (λ v. v < length game.now) vertices.now }
+    ensures { OnOk result (Appends (W.contents out.old) (W.contents out.new) (identifiers_text game.now vertices.now)) }
+{
+    match vertices {
+        [] => Ok(()),
+        [first, rest @ ..] => {
+            write_number(game.identifier(*first), out)?;
+            write_comma_identifiers(game, rest, out)
+        }
+    }
+}
