@@ -1,6 +1,7 @@
 -- What `check` prints.
 use Rattle.std.specs.Prelude.{◌≡◌, ◌↔◌, ◌⊎◌, ℕ, List, [], ◌∷◌, ◌++◌, map, max, codes, decimal}
 use Rattle.pg_arena.specs.Games.{GameVertex, identifier, priority}
+use Rattle.pg_text.specs.Numbers.{identifiers_text}
 use Rattle.pg_text.specs.GameText.{IsGameText}
 use Rattle.pg_text.specs.SolutionText.{IsSolutionText}
 use Rattle.pg_text.specs.declared.answer.Answer.{Answer}
@@ -11,7 +12,6 @@ use Rattle.pg_check.specs.declared.verdict.Verdict.{Verdict}
 use Rattle.pg_check.specs.declared.verdict.Verdict.TheVariants.{Wins, Leaves, BadCycle}
 use Rattle.pg_cli.specs.Parts.{IsParted}
 use Rattle.pg_cli.specs.Texts.{SpellsNoGame, SpellsNoSolution}
-use Rattle.pg_cli.specs.Measuring.{numbers_text}
 use Rattle.pg_cli.specs.declared.fault.CliFault.{CliFault}
 use Rattle.pg_cli.specs.declared.fault.CliFault.TheVariants.{Text, NoSeparator}
 
@@ -27,7 +27,7 @@ verdict_text game (Leaves v w) =
     codes "LEAVES " ++ (decimal (identifier game v) ++ (codes " " ++ (decimal (identifier game w) ++ codes "\n")))
 verdict_text game (BadCycle cycle) =
     codes "CYCLE " ++ (decimal (greatest (map (priority game) cycle.items)) ++ (codes " "
-    ++ (numbers_text (map (identifier game) cycle.items) ++ codes "\n")))
+    ++ (identifiers_text game cycle.items ++ codes "\n")))
 
 -- An input of a game, a line `--` and a solution of the game, and a verdict on it: `Wins` exactly if the solution is
 -- sound, and else what speaks against it.

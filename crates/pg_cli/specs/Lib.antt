@@ -6,6 +6,7 @@ pub mod Solving
 pub mod Checking
 pub mod Answers
 pub mod Faults
+pub mod FaultTexts
 pub mod Words
 pub mod Laws
 pub mod Mirrors
