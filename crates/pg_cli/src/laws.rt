@@ -1,6 +1,6 @@
 //! Laws over the definitions. Their functions take no memory and do nothing: their contracts are what they are for.
 
-ghost use Rattle.pg_cli.specs.Laws.{PrintedWinnersWin, OneAnswer};
+ghost use Rattle.pg_cli.specs.Laws.{PrintedWinnersWin, OneAnswer, NeverUndecided};
 
 /// What `solve` prints for a game spells a solution of it. Each printed winner wins, by the printed strategy, every
 /// endless play that follows it, and no vertex has two winners.
@@ -20,4 +20,11 @@ pub fn one_answer()
 {
     pg_measure::laws::one_list_of_bounds();
     pg_map::laws::closed_is_least();
+}
+
+/// `solve` is undecided on no input: it answers each game, memory, limit, reader and writer aside.
+pub fn never_undecided()
+    ensures { NeverUndecided }
+{
+    pg_determined::laws::never_undecided();
 }
