@@ -7,4 +7,5 @@ pub mod ReadBack
 pub mod SolutionText
 pub mod SolutionLayout
 pub mod SolutionReadBack
+pub mod OneSpelling
 pub mod Mirrors
