@@ -124,6 +124,7 @@ bad_line bytes built rest after line f b e fault =
       line = line;
       rest = after;
       spelt = front.2 (flat_map line_lexemes b.front ++ line_lexemes line) after lines;
+      successors = (item_exact.takes rest line after e).1;
       limits = b.fits;
       refused = subst (λ (ls : List Line). add_fault ls (counted line) ≡ Some f) b.is fault;
     }

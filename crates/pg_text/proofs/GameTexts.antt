@@ -1,5 +1,5 @@
 -- The game of the lines that are read.
-use Rattle.std.proofs.Common.{◌≡◌, ℕ, List, map, Ok, Err, refl, sym, ap, subst, ◌∙◌, inl, inr}
+use Rattle.std.proofs.Common.{◌≡◌, ◌≢◌, ℕ, List, map, Ok, Err, refl, sym, ap, subst, ◌∙◌, inl, inr}
 use Rattle.pg_arena.specs.declared.fault.ArenaFault.{ArenaFault}
 use Rattle.pg_arena.specs.declared.fault.ArenaFault.TheVariants as arena
 use Rattle.pg_arena.specs.Games.{GameVertex}
@@ -27,25 +27,27 @@ pub only_memory : (fault : TextFault) (bytes : List ℕ) (game : List GameVertex
 only_memory OutOfMemory bytes game b spelt = refl
 only_memory (Syntax offset) bytes game b spelt = absurd (b spelt.lines spelt.text)
 only_memory (NumberTooLarge offset) bytes game b spelt = absurd (b spelt.lines spelt.text)
-only_memory (Arena fault) bytes game b spelt = absurd (b.1 spelt.lines spelt.text spelt.limits)
+only_memory (Arena arena.OutOfMemory) bytes game b spelt = absurd b
+only_memory (Arena _) bytes game b spelt = absurd (b.1 spelt.lines spelt.text spelt.limits)
 only_memory _ bytes game b spelt = absurd b
 
-pub refuses_lines : (fault : TextFault) (bytes : List ℕ) → BuildsLines bytes (Err fault) → Refuses bytes fault
-refuses_lines OutOfMemory bytes b = tt
-refuses_lines (Syntax offset) bytes b = b
-refuses_lines (NumberTooLarge offset) bytes b = b
-refuses_lines (Arena fault) bytes b = inl b.0
-refuses_lines _ bytes b = b
+pub refuses_lines : (fault : TextFault) (bytes : List ℕ) → BuildsLines bytes (Err fault) → fault ≢ OutOfMemory → Refuses bytes fault
+refuses_lines OutOfMemory bytes b other = absurd (other refl)
+refuses_lines (Syntax offset) bytes b other = b
+refuses_lines (NumberTooLarge offset) bytes b other = b
+refuses_lines (Arena arena.OutOfMemory) bytes b other = b
+refuses_lines (Arena _) bytes b other = inl b.0
+refuses_lines _ bytes b other = b
 
 no_game : (bytes : List ℕ) (built : List Line) (fault : ArenaFault) → BuildsLines bytes (Ok built) → FinishFails built fault → HasNoGame bytes fault
 no_game bytes built fault b fails = record { lines = b.0; text = b.1; limits = b.3; refused = subst (λ (ls : List Line). FinishFails ls fault) b.2 fails }
 
-pub refuses_game : (fault : ArenaFault) (bytes : List ℕ) (built : List Line) → BuildsLines bytes (Ok built) → FinishFails built fault → Refuses bytes (arena_fault fault)
-refuses_game arena.OutOfMemory bytes built b fails = tt
-refuses_game (arena.DuplicateVertex n) bytes built b fails = inr (no_game bytes built (arena.DuplicateVertex n) b fails)
-refuses_game (arena.NoSuccessor n) bytes built b fails = inr (no_game bytes built (arena.NoSuccessor n) b fails)
-refuses_game (arena.UnknownSuccessor n m) bytes built b fails = inr (no_game bytes built (arena.UnknownSuccessor n m) b fails)
-refuses_game arena.TooManyVertices bytes built b fails = inr (no_game bytes built arena.TooManyVertices b fails)
-refuses_game arena.TooManyEdges bytes built b fails = inr (no_game bytes built arena.TooManyEdges b fails)
-refuses_game (arena.PriorityTooLarge n m) bytes built b fails = inr (no_game bytes built (arena.PriorityTooLarge n m) b fails)
-refuses_game arena.NoVertex bytes built b fails = inr (no_game bytes built arena.NoVertex b fails)
+pub refuses_game : (fault : ArenaFault) (bytes : List ℕ) (built : List Line) → BuildsLines bytes (Ok built) → FinishFails built fault → arena_fault fault ≢ OutOfMemory → Refuses bytes (arena_fault fault)
+refuses_game arena.OutOfMemory bytes built b fails other = absurd (other refl)
+refuses_game (arena.DuplicateVertex n) bytes built b fails other = inr (no_game bytes built (arena.DuplicateVertex n) b fails)
+refuses_game (arena.NoSuccessor n) bytes built b fails other = inr (no_game bytes built (arena.NoSuccessor n) b fails)
+refuses_game (arena.UnknownSuccessor n m) bytes built b fails other = inr (no_game bytes built (arena.UnknownSuccessor n m) b fails)
+refuses_game arena.TooManyVertices bytes built b fails other = inr (no_game bytes built arena.TooManyVertices b fails)
+refuses_game arena.TooManyEdges bytes built b fails other = inr (no_game bytes built arena.TooManyEdges b fails)
+refuses_game (arena.PriorityTooLarge n m) bytes built b fails other = inr (no_game bytes built (arena.PriorityTooLarge n m) b fails)
+refuses_game arena.NoVertex bytes built b fails other = inr (no_game bytes built arena.NoVertex b fails)

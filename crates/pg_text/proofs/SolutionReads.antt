@@ -16,9 +16,9 @@ use Rattle.pg_text.specs.Lexemes.{Lexeme, number, word, end, Begins, Spells, aft
 use Rattle.pg_text.specs.Mirrors.Steps.{◌>>=◌, Read, Step, item, stop, items_at}
 use Rattle.pg_text.specs.Mirrors.Parts.{clause_at}
 use Rattle.pg_text.specs.Solutions.{unanswered}
-use Rattle.pg_text.specs.SolutionText.{answer_lexemes, BeginsWithLines, AreLines, Fits, line_count, answers, IsSolutionText, has_line, StartsLine, BeginsUnfit, IsFirstMissing, IsNoText, RefusesSolution}
+use Rattle.pg_text.specs.SolutionText.{answer_lexemes, BeginsWithLines, AreLines, Fits, line_count, answers, IsSolutionText, SpellsNoSolution, has_line, StartsLine, BeginsUnfit, IsFirstMissing, IsNoText, RefusesSolution}
 use Rattle.pg_text.specs.Mirrors.SolutionScan.{next_answer_at, answers_at}
-use Rattle.pg_text.specs.Mirrors.SolutionReading.{Puts, State, IsMarked, IsUnmarked, IsMisfit, BeginsMisfit, BeginsWell, HasRead, SpellsNone, IsRefused, is_complete, misfit_fault}
+use Rattle.pg_text.specs.Mirrors.SolutionReading.{Puts, State, IsMarked, IsUnmarked, IsMisfit, BeginsMisfit, BeginsWell, HasRead, IsRefused, is_complete, misfit_fault}
 use Rattle.pg_text.proofs.Steps.{bind_ok, ok, ok_is, err_is_ok}
 use Rattle.pg_text.proofs.Items.{with_front, nothing_yet, goes_on, items_err}
 use Rattle.pg_text.proofs.Parts.{clause_absent}
@@ -69,10 +69,10 @@ unnamed game lines n solution seen s unmarked = no_line game lines n (read_fits 
 
 -- ---- no text
 
-nothing_spelt : (bytes : List ℕ) (game : List GameVertex) (fault : TokenFault) → answers_at bytes ≡ Err fault → SpellsNone bytes game
+nothing_spelt : (bytes : List ℕ) (game : List GameVertex) (fault : TokenFault) → answers_at bytes ≡ Err fault → SpellsNoSolution bytes game
 nothing_spelt bytes game fault h = λ solution t. err_is_ok fault t.lines (sym h ∙ answers_again bytes t.lines t.text)
 
-refused : (bytes : List ℕ) (game : List GameVertex) (fault : TokenFault) (len : ℕ) → SpellsNone bytes game → IsNoText bytes game → IsRefused bytes game (token_fault_of len fault)
+refused : (bytes : List ℕ) (game : List GameVertex) (fault : TokenFault) (len : ℕ) → SpellsNoSolution bytes game → IsNoText bytes game → IsRefused bytes game (token_fault_of len fault)
 refused bytes game (tokens.Syntax left) len none no_text = (none, inr no_text)
 refused bytes game (tokens.NumberTooLarge left) len none no_text = (none, no_text)
 
@@ -151,7 +151,7 @@ line_there bytes game solution seen rest n lines r s spelt = there (next_answer_
 
 -- a line of a text fits
 unfit_spoils : (bytes : List ℕ) (game : List GameVertex) (solution : List Answer) (seen : List Bool) (rest : List ℕ) (n : ℕ)
-    → IsGame game → Reading bytes game solution seen rest → BeginsUnfit game rest n → SpellsNone bytes game
+    → IsGame game → Reading bytes game solution seen rest → BeginsUnfit game rest n → SpellsNoSolution bytes game
 unfit_spoils bytes game solution seen rest n well r misfit = λ other t.
     let there = line_there bytes game solution seen rest n t.lines r (front_starts game rest n misfit) t.text in
     let l = text_lines bytes game solution seen rest there.line there.after t.lines r there.read t.text in
@@ -160,7 +160,7 @@ unfit_spoils bytes game solution seen rest n well r misfit = λ other t.
 
 -- no two lines of a text name one vertex
 second_spoils : (bytes : List ℕ) (game : List GameVertex) (solution : List Answer) (seen : List Bool) (rest : List ℕ) (n : ℕ)
-    → Reading bytes game solution seen rest → StartsLine rest n → IsMarked game n seen → SpellsNone bytes game
+    → Reading bytes game solution seen rest → StartsLine rest n → IsMarked game n seen → SpellsNoSolution bytes game
 second_spoils bytes game solution seen rest n r s m = λ other t.
     let there = line_there bytes game solution seen rest n t.lines r s t.text in
     let l = text_lines bytes game solution seen rest there.line there.after t.lines r there.read t.text in
@@ -209,7 +209,7 @@ found_only bytes game solution seen spelt well h t =
     reads_same bytes game solution seen spelt well t (subst (λ (lines : List SolutionLine). State game lines solution seen) same h.state)
 
 pub missing : (bytes : List ℕ) (game : List GameVertex) (solution : List Answer) (seen : List Bool) (v : ℕ) → IsGame game → HasRead bytes game solution seen → v < length game → is_complete game solution seen v ≡ false
-    → ((u : ℕ) → u < v → is_complete game solution seen u ≡ true) → SpellsNone bytes game × IsFirstMissing bytes game (identifier game v)
+    → ((u : ℕ) → u < v → is_complete game solution seen u ≡ true) → SpellsNoSolution bytes game × IsFirstMissing bytes game (identifier game v)
 missing bytes game solution seen v well h within lacks first =
     let unanswered : list_any (answers game v) h.lines ≡ false = answered_is game h.lines solution seen v well within h.state ∙ lacks in (
       λ other t.
@@ -242,11 +242,11 @@ refused_only bytes game (text.NotOfGame n) spelt h t = absurd (h.0 spelt t)
 refused_only bytes game (text.Missing n) spelt h t = absurd (h.0 spelt t)
 refused_only bytes game text.Write spelt h t = absurd (h.0 spelt t)
 
-pub refused_why : (bytes : List ℕ) (game : List GameVertex) (fault : TextFault) → IsRefused bytes game fault → RefusesSolution bytes game fault
-refused_why bytes game text.OutOfMemory h = tt
-refused_why bytes game (text.Syntax n) h = h.1
-refused_why bytes game (text.NumberTooLarge n) h = h.1
-refused_why bytes game (text.Arena f) h = h.1
-refused_why bytes game (text.NotOfGame n) h = h.1
-refused_why bytes game (text.Missing n) h = h.1
-refused_why bytes game text.Write h = h.1
+pub refused_why : (bytes : List ℕ) (game : List GameVertex) (fault : TextFault) → IsRefused bytes game fault → fault ≢ text.OutOfMemory → RefusesSolution bytes game fault
+refused_why bytes game text.OutOfMemory h other = absurd (other refl)
+refused_why bytes game (text.Syntax n) h other = h.1
+refused_why bytes game (text.NumberTooLarge n) h other = h.1
+refused_why bytes game (text.Arena f) h other = h.1
+refused_why bytes game (text.NotOfGame n) h other = h.1
+refused_why bytes game (text.Missing n) h other = h.1
+refused_why bytes game text.Write h other = h.1

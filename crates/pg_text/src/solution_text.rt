@@ -209,7 +209,7 @@ pub fn read_solution(alloc: Global, game: &Game, bytes: &[u8]) -> Result<Solutio
     // Bytes that spell a solution are read, unless memory runs out, and they spell no other.
     ensures only { (solution : List Answer) → IsSolutionText bytes.now game.now solution
         → MatchResult result (λ found. found ≡ solution) (λ fault. fault ≡ TextFault.OutOfMemory) }
-    ensures refused { IfErr result (RefusesSolution bytes.now game.now) }
+    ensures refused { IfErr result (λ fault. fault ≢ TextFault.OutOfMemory → RefusesSolution bytes.now game.now fault) }
 {
     let _vertices = game.len();
     let (solution, seen) = read_lines(alloc, game, bytes)?;

@@ -1,22 +1,9 @@
-//! Texts that are read and printed, and faults with their places. All values are worked out by hand.
+//! Texts of games that are read and printed.
 
-use crate::fault::TextFault;
-use crate::game::read_game;
-use crate::layout::write_game;
-use pg_arena::{ArenaFault, Player, Vertex};
+use pg_arena::{Player, Vertex};
+use pg_text::{TextFault, read_game, write_game};
 use std::alloc::Global;
-use std::io;
 use std::test::Fail;
-
-mod faults;
-
-/// What is wrong with a text, if anything.
-fn fault_of(alloc: Global, text: &[u8]) -> Option<TextFault> {
-    match read_game(alloc, text) {
-        Ok(_) => None,
-        Err(fault) => Some(fault),
-    }
-}
 
 /// The printed layout of the game that the text spells.
 fn reprinted(alloc: Global, text: &[u8]) -> Result<Vec<u8>, TextFault> {
@@ -95,74 +82,5 @@ fn printed_by_rising_identifier(rt: HostRuntime) -> Result<(), Fail> {
     )?;
     let expected = b"parity 4000000000;\n7 1 1 7,4000000000;\n4000000000 2 0 7;\n";
     assert_eq!(rt; out.as_slice(), expected.as_slice());
-    Ok(())
-}
-
-/// A writer that takes so many bytes and then fails.
-#[derive(Drop)]
-struct Full {
-    room: usize,
-}
-
-impl io::Write for Full {
-    fn write(&mut self, buf: &[u8]) -> io::Result<usize> {
-        if self.room < buf.len() {
-            return Err(io::Error::from(io::ErrorKind::WriteZero));
-        }
-        self.room -= buf.len();
-        Ok(buf.len())
-    }
-
-    fn flush(&mut self) -> io::Result<()> {
-        Ok(())
-    }
-}
-
-#[test]
-fn writer_that_fails(rt: HostRuntime) -> Result<(), Fail> {
-    let game = read_game(rt.alloc(), b"parity 0;\n0 0 0 0 \"a\";\n")?;
-    for room in 0..23 {
-        assert_eq!(rt;
-            write_game(&game, &mut Full { room }),
-            Err(TextFault::Write)
-        );
-    }
-    assert_eq!(rt; write_game(&game, &mut Full { room: 23 }), Ok(()));
-    Ok(())
-}
-
-#[test]
-fn texts_of_faults(rt: HostRuntime) -> Result<(), Fail> {
-    let alloc = rt.alloc();
-    assert_eq!(rt;
-        TextFault::OutOfMemory.to_string(alloc)?.as_str(),
-        "out of memory"
-    );
-    assert_eq!(rt;
-        TextFault::Syntax(3).to_string(alloc)?.as_str(),
-        "syntax error at byte 3"
-    );
-    assert_eq!(rt;
-        TextFault::NumberTooLarge(12).to_string(alloc)?.as_str(),
-        "number too large at byte 12"
-    );
-    assert_eq!(rt;
-        TextFault::Arena(ArenaFault::DuplicateVertex(5))
-            .to_string(alloc)?
-            .as_str(),
-        "vertex 5 is defined twice"
-    );
-    assert_eq!(rt;
-        TextFault::NotOfGame(4000000000).to_string(alloc)?.as_str(),
-        "line of vertex 4000000000 does not fit the game"
-    );
-    assert_eq!(rt;
-        TextFault::Missing(6).to_string(alloc)?.as_str(),
-        "vertex 6 has no answer"
-    );
-    assert_eq!(rt;
-        TextFault::Write.to_string(alloc)?.as_str(),
-        "cannot write the output"
-    );
     Ok(())
 }

@@ -1,9 +1,9 @@
-//! A table of texts that are refused.
+//! A table of texts that are refused as games.
 
-use super::fault_of;
-use crate::fault::TextFault::{self, Arena, NumberTooLarge, Syntax};
 use pg_arena::ArenaFault::{DuplicateVertex, NoVertex, PriorityTooLarge, UnknownSuccessor};
-use std::test::Fail;
+use pg_text::TextFault::{self, Arena, NumberTooLarge, Syntax};
+use pg_text::read_game;
+use std::alloc::Global;
 
 const TABLE: [(&[u8], TextFault); 48] = [
     // nothing is defined
@@ -64,10 +64,17 @@ const TABLE: [(&[u8], TextFault); 48] = [
     (b"0 0 0 9;x", Syntax(8)),
 ];
 
-#[test]
-fn places(rt: HostRuntime) -> Result<(), Fail> {
-    for (text, fault) in &TABLE {
-        assert_eq!(rt; fault_of(rt.alloc(), text), Some(*fault));
+/// What is wrong with a text of a game, if anything.
+pub(crate) fn game_fault(alloc: Global, text: &[u8]) -> Option<TextFault> {
+    match read_game(alloc, text) {
+        Ok(_) => None,
+        Err(fault) => Some(fault),
     }
-    Ok(())
+}
+
+#[test]
+fn texts_that_are_refused(rt: HostRuntime) {
+    for (text, fault) in TABLE {
+        assert_eq!(rt; game_fault(rt.alloc(), text), Some(fault));
+    }
 }
