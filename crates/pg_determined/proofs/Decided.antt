@@ -14,7 +14,8 @@ use Rattle.pg_map.specs.Maps.{MapValue, IsMap, IsClosed, IsLeastProgressMeasure,
 use Rattle.pg_check.specs.Plays.{IsPlay, WinsPlay}
 use Rattle.pg_check.specs.Soundness.{Counts, IsSound, IsSafe}
 use Rattle.pg_check.specs.Strategies.{GoesServed}
-use Rattle.pg_check.proofs.Recurring.{one_loser, priority_bound}
+use Rattle.pg_measure.proofs.SomeBounds.{priority_bound}
+use Rattle.pg_check.proofs.Recurring.{one_loser}
 use Rattle.pg_check.proofs.Cycles.{sound_from_safe, safe_from_sound}
 use Rattle.pg_check.proofs.Wins.{wins, player_cases, same_winner}
 use Rattle.pg_check.proofs.Listed.{lists_win, falls}
