@@ -4,3 +4,4 @@ pub mod Refusing
 pub mod Measuring
 pub mod Verdicts
 pub mod Printed
+pub mod Won

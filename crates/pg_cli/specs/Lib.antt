@@ -3,3 +3,4 @@ pub mod Parts
 pub mod Faults
 pub mod Answers
 pub mod Laws
+pub mod Winners

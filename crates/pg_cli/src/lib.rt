@@ -13,6 +13,7 @@ mod solve;
 #[cfg(test)]
 mod tests;
 mod verdict;
+pub mod winners;
 mod words;
 
 pub use command::Command;
