@@ -55,7 +55,6 @@ module _ (bounds : BoundList) (lines : ℕ → Option Line) (f : List MeasureVal
 
 module _ (game : List GameVertex) (f g : MapValue) (is_game : IsGame game) (closed : AreClosed game f g)
     (decided : (v : ℕ) → ¬ IsUndecided game f g v) where
-
   winner_at : (v : ℕ) → v < length game → (player : Player) × HasList player f g v
   winner_at v lt = go (measure_at f.measures v) refl (measure_at g.measures v) refl
     where

@@ -78,7 +78,6 @@ least_has_list game s bounds f is_game is_s sound is_bounds size least v lt e to
 
 module _ (game : List GameVertex) (s : List Answer) (f : MapValue) (is_game : IsGame game) (is_s : IsSolution game s) (sound : IsSound game s)
     (closed : IsClosed f.bounds (game_line game) f.measures) where
-
   -- Odd wins at v, and the map has a list there
   record Contested (v : ℕ) : Type 0 where
     pub in_game : v < length game

@@ -89,11 +89,14 @@ module _ (bs : BoundList) (lines : ℕ → Option Line) (n : ℕ) (within : AreW
             (line_at lines v).successors m (measure_at f v) le least.covers)
         | inl less ↦
             let same : measure_at (set f v m) v ≡ m = get_or-set_same f v m None lt in
-            inr (set f v m, record {
-              least = subst (IsLeastServing bs lines f v) (sym same) least;
-              above = subst (IsBelow (measure_at f v)) (sym same) less;
-              others = ap (set f v) (sym same);
-            })
+            inr (
+              set f v m,
+              record {
+                least = subst (IsLeastServing bs lines f v) (sym same) least;
+                above = subst (IsBelow (measure_at f v)) (sym same) less;
+                others = ap (set f v) (sym same);
+              },
+            )
       ]
 
   held_or_not : (v : ℕ) → IsSome (lines v) ⊎ (IsSome (lines v) → ⊥)
