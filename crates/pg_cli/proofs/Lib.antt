@@ -6,3 +6,4 @@ pub mod Verdicts
 pub mod Printed
 pub mod Printing
 pub mod One
+pub mod Won

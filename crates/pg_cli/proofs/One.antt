@@ -11,17 +11,13 @@ use Rattle.pg_map.specs.Lines.{game_line}
 use Rattle.pg_map.specs.Maps.{MapValue, measure_at, IsLeastProgressMeasure}
 use Rattle.pg_map.specs.Laws.{ClosedIsLeast}
 use Rattle.pg_text.specs.declared.answer.Answer.{Answer}
-use Rattle.pg_text.specs.GameText.{IsGameText}
+use Rattle.pg_text.specs.OneSpelling.{SpellsOneGame}
 use Rattle.pg_text.specs.Solutions.{answer_at, unanswered}
 use Rattle.pg_text.specs.SolutionLayout.{solution_text}
 use Rattle.pg_check.specs.Strategies.{HasList, IsChoiceFor, IsAnswerOf, IsSolutionOf, IsLeastUndecided}
 use Rattle.pg_cli.specs.Measuring.{IsMeasureOf, IsMeasured, measures_text}
 use Rattle.pg_cli.specs.Solving.{IsSolved, IsUndecidedAt}
 use Rattle.pg_cli.specs.Laws.{OneAnswer}
-
--- bytes spell one game
-abbrev pub OneGame : Type 0
-OneGame = (bytes : List ℕ) (first second : List GameVertex) → IsGameText bytes first → IsGameText bytes second → first ≡ second
 
 module _ (one_bounds : OneListOfBounds) (least : ClosedIsLeast) where
   -- two equal games have one least progress measure
@@ -35,9 +31,9 @@ module _ (one_bounds : OneListOfBounds) (least : ClosedIsLeast) where
       least.one f.bounds (game_line game) f.measures g.measures (of.size ∙ sym of'.size) of.least is_least in
       ap₂ (λ (b : BoundList) (m : List MeasureValue). record { bounds = b; measures = m }) bounds measures
 
-  pub one_measured : OneGame → (input first second : List ℕ) → IsMeasured input first → IsMeasured input second → first ≡ second
+  pub one_measured : SpellsOneGame → (input first second : List ℕ) → IsMeasured input first → IsMeasured input second → first ≡ second
   one_measured one_game input first second p q =
-      let same : p.game ≡ q.game = one_game input p.game q.game p.spelt q.spelt in
+      let same : p.game ≡ q.game = one_game input q.game p.game q.spelt p.spelt in
       let map : p.map ≡ q.map = one_map p.game q.game p.map q.map same p.measure q.measure in
       p.printed ∙ ap₂ (λ (x : List GameVertex) (f : MapValue). measures_text x f.measures) same map ∙ sym q.printed
 
@@ -97,11 +93,11 @@ one_undecided game f g id other p q =
     let same : p.vertex ≡ q.vertex = omega arith in
     p.named ∙ ap (identifier game) same ∙ sym q.named
 
-pub one_answer : OneGame → OneListOfBounds → ClosedIsLeast → OneAnswer
+pub one_answer : SpellsOneGame → OneListOfBounds → ClosedIsLeast → OneAnswer
 one_answer one_game one_bounds least = record {
   measured = one_measured one_bounds least one_game;
   solved = λ input first second p q.
-      let same : p.game ≡ q.game = one_game input p.game q.game p.spelt q.spelt in
+      let same : p.game ≡ q.game = one_game input q.game p.game q.spelt p.spelt in
       let even = one_map one_bounds least p.game q.game p.solved.even q.solved.even same p.solved.even_measure q.solved.even_measure in
       let odd = one_map one_bounds least (dual p.game) (dual q.game) p.solved.odd q.solved.odd (ap dual same) p.solved.odd_measure q.solved.odd_measure in
       let of : IsSolutionOf p.game p.solved.even p.solved.odd q.solution =
@@ -112,7 +108,7 @@ one_answer one_game one_bounds least = record {
       one_solution p.game p.solved.even p.solved.odd p.solution q.solution p.solved.solution_of of in
       p.printed ∙ ap₂ (λ (x : List GameVertex) (s : List Answer). solution_text x s) same solution ∙ sym q.printed;
   decided = λ input output id p q.
-      let same : p.game ≡ q.game = one_game input p.game q.game p.spelt q.spelt in
+      let same : p.game ≡ q.game = one_game input q.game p.game q.spelt p.spelt in
       let even = one_map one_bounds least p.game q.game p.solved.even q.even same p.solved.even_measure q.even_measure in
       let odd = one_map one_bounds least (dual p.game) (dual q.game) p.solved.odd q.odd (ap dual same) p.solved.odd_measure q.odd_measure in
       decided_by p.game p.solved.even p.solved.odd p.solution id p.solved.solution_of
@@ -120,7 +116,7 @@ one_answer one_game one_bounds least = record {
       (subst (λ (f : MapValue). IsLeastUndecided q.game f p.solved.odd id) (sym even)
       (subst (λ (g : MapValue). IsLeastUndecided q.game q.even g id) (sym odd) q.undecided)));
   undecided = λ input first second p q.
-      let same : p.game ≡ q.game = one_game input p.game q.game p.spelt q.spelt in
+      let same : p.game ≡ q.game = one_game input q.game p.game q.spelt p.spelt in
       let even = one_map one_bounds least p.game q.game p.even q.even same p.even_measure q.even_measure in
       let odd = one_map one_bounds least (dual p.game) (dual q.game) p.odd q.odd (ap dual same) p.odd_measure q.odd_measure in
       one_undecided p.game p.even p.odd first second p.undecided

@@ -11,7 +11,7 @@ use Rattle.pg_check.specs.Verdicts.{IsWins, Refutes}
 use Rattle.pg_check.specs.declared.verdict.Verdict.{Verdict}
 use Rattle.pg_check.specs.declared.verdict.Verdict.TheVariants.{Wins, Leaves, BadCycle}
 use Rattle.pg_cli.specs.Parts.{IsParted}
-use Rattle.pg_cli.specs.Texts.{SpellsNoGame, SpellsNoSolution}
+use Rattle.pg_cli.specs.Texts.{IsNoGame, IsNoSolution}
 use Rattle.pg_cli.specs.declared.fault.CliFault.{CliFault}
 use Rattle.pg_cli.specs.declared.fault.CliFault.TheVariants.{Text, NoSeparator}
 
@@ -53,7 +53,7 @@ pub record FailsFirst (input : List ℕ) (fault : TextFault) : Type 0 where
   pub first : List ℕ
   pub second : List ℕ
   pub parted : IsParted input first second
-  pub none : SpellsNoGame first fault
+  pub none : IsNoGame first fault
 
 -- the first text spells a game, and the second no solution of it
 pub record FailsSecond (input : List ℕ) (fault : TextFault) : Type 0 where
@@ -62,7 +62,7 @@ pub record FailsSecond (input : List ℕ) (fault : TextFault) : Type 0 where
   pub parted : IsParted input first second
   pub game : List GameVertex
   pub spelt : IsGameText first game
-  pub none : SpellsNoSolution second game fault
+  pub none : IsNoSolution second game fault
 
 -- why an input has no such output: no line `--` parts it, or the first text fails, or the second one
 abbrev pub RefusesCheck : List ℕ → CliFault → Type 0

@@ -31,7 +31,3 @@ pub record OneAnswer : Type 0 where
   pub solved : (input first second : List ℕ) → IsSolved input first → IsSolved input second → first ≡ second
   pub decided : (input output : List ℕ) (id : ℕ) → IsSolved input output → ¬ IsUndecidedAt input id
   pub undecided : (input : List ℕ) (first second : ℕ) → IsUndecidedAt input first → IsUndecidedAt input second → first ≡ second
-
--- `solve` is undecided on no input
-abbrev pub NeverUndecided : Type 0
-NeverUndecided = (input : List ℕ) (id : ℕ) → ¬ IsUndecidedAt input id

@@ -9,4 +9,5 @@ pub mod Faults
 pub mod FaultTexts
 pub mod Words
 pub mod Laws
+pub mod Winners
 pub mod Mirrors

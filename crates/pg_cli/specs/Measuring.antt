@@ -8,7 +8,7 @@ use Rattle.pg_map.specs.Lines.{game_line}
 use Rattle.pg_map.specs.Maps.{MapValue, IsLeastProgressMeasure}
 use Rattle.pg_text.specs.Numbers.{numbers_text}
 use Rattle.pg_text.specs.GameText.{IsGameText}
-use Rattle.pg_cli.specs.Texts.{SpellsNoGame}
+use Rattle.pg_cli.specs.Texts.{IsNoGame}
 use Rattle.pg_cli.specs.declared.fault.CliFault.{CliFault}
 use Rattle.pg_cli.specs.declared.fault.CliFault.TheVariants.{Text}
 
@@ -42,5 +42,5 @@ pub record IsMeasured (input output : List ℕ) : Type 0 where
 
 -- why an input has no such output: it spells no game
 abbrev pub RefusesMeasure : List ℕ → CliFault → Type 0
-RefusesMeasure input (Text fault) = SpellsNoGame input fault
+RefusesMeasure input (Text fault) = IsNoGame input fault
 RefusesMeasure input _ = ⊥

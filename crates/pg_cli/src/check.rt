@@ -30,8 +30,8 @@ fn greatest_priority(game: &Game, vertices: &[Vertex]) -> u32
     most
 }
 
-/// Writes a verdict and a newline: `WINS`; `LEAVES` and the identifiers of the edge; `CYCLE`, the greatest priority of the
-/// cycle, and its identifiers with commas.
+/// Writes a verdict and a newline: `WINS`; `LEAVES` and the identifiers of the edge; `CYCLE`, the greatest priority of
+/// the cycle, and its identifiers with commas.
 fn write_verdict<W: Write>(writer: &mut W, game: &Game, verdict: &Verdict) -> io::Result<()>
     requires { IsWithin game.now verdict.now }
     ensures { OnOk result

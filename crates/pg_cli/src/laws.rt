@@ -1,6 +1,6 @@
 //! Laws over the definitions. Their functions take no memory and do nothing: their contracts are what they are for.
 
-ghost use Rattle.pg_cli.specs.Laws.{PrintedWinnersWin, OneAnswer, NeverUndecided};
+ghost use Rattle.pg_cli.specs.Laws.{PrintedWinnersWin, OneAnswer};
 
 /// What `solve` prints for a game spells a solution of it. Each printed winner wins, by the printed strategy, every
 /// endless play that follows it, and no vertex has two winners.
@@ -18,13 +18,7 @@ pub fn printed_winners_win()
 pub fn one_answer()
     ensures { OneAnswer }
 {
+    pg_text::laws::one_game();
     pg_measure::laws::one_list_of_bounds();
     pg_map::laws::closed_is_least();
-}
-
-/// `solve` is undecided on no input: it answers each game, memory, limit, reader and writer aside.
-pub fn never_undecided()
-    ensures { NeverUndecided }
-{
-    pg_determined::laws::never_undecided();
 }

@@ -44,7 +44,8 @@ const MEASURE: Help = Help {
     more: "\
 Input: a parity game in the format of PGSolver, as `parity 1; 0 1 0 0,1; 1 2 1 0;`
 Output: a line `IDENTIFIER MEASURE;` for each vertex by rising identifier. A measure is a list of numbers with commas,
-one for each odd priority that occurs, the greatest first (`-` where none occurs), or `T` for top.
+one for each odd priority that occurs, the greatest first (`-` where none occurs), or `T` for top. Player 0 wins from a
+vertex with a list, and player 1 from one with `T`.
 
 Example: printf 'parity 1; 0 1 0 0,1; 1 2 1 0;' | parsolve measure
 prints `0 1;` and `1 0;`, each on a line.",
@@ -55,7 +56,7 @@ const SOLVE: Help = Help {
     more: "\
 Input: a parity game in the format of PGSolver, as `parity 1; 0 1 0 0,1; 1 2 1 0;`
 Output: `paritysol N;` with the greatest identifier, and a line `IDENTIFIER WINNER STRATEGY;` for each vertex by rising
-identifier. The strategy is the successor that the winner goes to; it is left out where the other player owns the vertex.
+identifier. The strategy is the successor that the winner goes to, left out where the other player owns the vertex.
 
 Example: printf 'parity 1; 0 1 0 0,1; 1 2 1 0;' | parsolve solve
 prints `paritysol 1;`, `0 0 1;` and `1 0;`, each on a line.",
@@ -65,9 +66,9 @@ const CHECK: Help = Help {
     about: "Prints whether a solution of a game is sound",
     more: "\
 Input: a parity game, a line `--`, and a solution of the game, both in the format of PGSolver
-Output: `WINS` if each printed winner wins by the printed strategy; `LEAVES V W` if the edge from V to W, which follows the
-solution, leads to a vertex of the other winner; `CYCLE P V,V,..` if these vertices are a cycle that follows the solution
-and whose greatest priority P favours the loser.
+Output: `WINS` if each printed winner wins by the printed strategy; `LEAVES V W` if the edge from V to W, which follows
+the solution, leads to a vertex of the other winner; `CYCLE P V,V,..` if these vertices are a cycle that follows the
+solution and whose greatest priority P favours the loser.
 
 Example: printf 'parity 1; 0 1 0 0,1; 1 2 1 0;\n--\n0 0 1; 1 0;' | parsolve check
 prints `WINS`.",
