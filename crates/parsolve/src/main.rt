@@ -3,7 +3,7 @@
 
 use clap::Error as WordsError;
 use clap::error::ErrorKind as WordsKind;
-use pg_cli::{CliFault, Command, Line, exit_code, parse_words, run};
+use pg_cli::{CliFault, Command, Line, exit_code, parse_words, run, write_fault};
 use std::env;
 use std::io::{self, BufWriter, Write};
 use std::process::ExitCode;
@@ -12,21 +12,25 @@ use std::process::ExitCode;
 const BAD_WORDS: u8 = 2;
 
 /// Prints the fault's line on the error stream, and answers its status.
-fn tell(rt: &impl Eprint, fault: &CliFault) -> ExitCode {
-    let _ = eprintln!(rt; "parsolve: {fault}");
+fn tell<E: Write>(errors: &mut E, fault: &CliFault) -> ExitCode {
+    let _ = write_fault(fault, errors);
     ExitCode::from(exit_code(fault))
 }
 
-/// Prints what `clap` says of the words: a fault of the command line, or the help that was asked for.
-fn tell_words(rt: &(impl Print + Eprint), error: &WordsError) -> ExitCode {
+/// Prints what `clap` says of the words: a fault of the command line, or the help or version that was asked for.
+fn tell_words<E: Write>(
+    rt: &(impl Print + Eprint),
+    errors: &mut E,
+    error: &WordsError,
+) -> ExitCode {
     if matches!(error.kind(), WordsKind::OutOfMemory) {
-        return tell(rt, &CliFault::OutOfMemory);
+        return tell(errors, &CliFault::OutOfMemory);
     }
     let printed = error.print(rt);
     if error.use_stderr() {
         ExitCode::from(BAD_WORDS)
     } else if printed.is_err() {
-        tell(rt, &CliFault::Write)
+        tell(errors, &CliFault::Write)
     } else {
         ExitCode::SUCCESS
     }
@@ -42,20 +46,24 @@ fn answer<R: Input + Print + AllocGlobal>(rt: &R, command: Command) -> Result<()
 }
 
 /// Does what the words ask for.
-fn obey<R: Input + Print + Eprint + AllocGlobal>(rt: &R, words: &[String]) -> ExitCode {
+fn obey<R: Input + Print + Eprint + AllocGlobal, E: Write>(
+    rt: &R,
+    errors: &mut E,
+    words: &[String],
+) -> ExitCode {
     let collected: Result<Vec<&str>, _> = words
         .iter()
         .map(|word| word.as_str())
         .collect(rt.alloc());
     let Ok(words) = collected else {
-        return tell(rt, &CliFault::OutOfMemory);
+        return tell(errors, &CliFault::OutOfMemory);
     };
     match parse_words(rt.alloc(), words.as_slice()) {
         Ok(Line::Run(command)) => match answer(rt, command) {
             Ok(()) => ExitCode::SUCCESS,
-            Err(fault) => tell(rt, &fault),
+            Err(fault) => tell(errors, &fault),
         },
-        Err(error) => tell_words(rt, &error),
+        Err(error) => tell_words(rt, errors, &error),
     }
 }
 
@@ -65,10 +73,11 @@ fn words_of(rt: &HostRuntime) -> io::Result<Vec<String>> {
 }
 
 fn main(rt: HostRuntime) -> ExitCode {
+    let mut errors = rt.stderr();
     match words_of(&rt) {
-        Ok(words) => obey(&rt, words.as_slice()),
+        Ok(words) => obey(&rt, &mut errors, words.as_slice()),
         Err(error) if error.kind() == io::ErrorKind::OutOfMemory => tell(
-            &rt,
+            &mut errors,
             &CliFault::OutOfMemory,
         ),
         Err(_) => {

@@ -4,36 +4,58 @@ ghost use Rattle.std.specs.Prelude.{◌≡◌};
 ghost use Rattle.pg_arena.specs.declared.fault.ArenaFault.TheVariants.{OutOfMemory};
 
 use std::alloc::{AllocError, AllocFailed};
-use thiserror::Error;
+use std::error::Error;
+use std::fmt;
 
 /// Why lines make no game. Numbers are identifiers, but for the second of `PriorityTooLarge`.
-#[derive(Clone, Copy, Debug, PartialEq, Eq, Error)]
+#[derive(Clone, Copy, Debug, PartialEq, Eq)]
 pub enum ArenaFault {
     /// A growth was refused.
-    #[error("out of memory")]
     OutOfMemory,
     /// A second line has this identifier.
-    #[error("vertex {0} is defined twice")]
     DuplicateVertex(u32),
     /// The line with this identifier has no successor.
-    #[error("vertex {0} has no successor")]
     NoSuccessor(u32),
     /// The line of the first identifier has the second as a successor, which no line defines.
-    #[error("vertex {0} has successor {1}, which no line defines")]
     UnknownSuccessor(u32, u32),
     /// A line over 1,048,576.
-    #[error("more than 1048576 vertices")]
     TooManyVertices,
     /// The line's successors, each counted once, are over 8,388,608 together with those before.
-    #[error("more than 8388608 edges")]
     TooManyEdges,
     /// The line of this identifier has a priority over 65,535, which is the second number.
-    #[error("vertex {0} has priority {1}, the limit is 65535")]
     PriorityTooLarge(u32, u32),
     /// No line was added.
-    #[error("no vertex")]
     NoVertex,
 }
+
+impl fmt::Display for ArenaFault {
+    ghost use Rattle.std.specs.Prelude.{Some};
+    ghost use Rattle.pg_arena.specs.FaultTexts.{fault_text};
+
+    ghost output = { λ fault. Some (fault_text fault) };
+
+    fn fmt<W: fmt::Write>(&self, f: &mut fmt::Formatter<W>) -> fmt::Result {
+        match self {
+            ArenaFault::OutOfMemory => f.write_str("out of memory"),
+            ArenaFault::DuplicateVertex(id) => write!(f, "vertex {id} is defined twice"),
+            ArenaFault::NoSuccessor(id) => write!(f, "vertex {id} has no successor"),
+            ArenaFault::UnknownSuccessor(id, successor) => {
+                write!(
+                    f,
+                    "vertex {id} has successor {successor}, which no line defines"
+                )
+            }
+            ArenaFault::TooManyVertices => f.write_str("more than 1048576 vertices"),
+            ArenaFault::TooManyEdges => f.write_str("more than 8388608 edges"),
+            ArenaFault::PriorityTooLarge(id, priority) => {
+                write!(f, "vertex {id} has priority {priority}, the limit is 65535")
+            }
+            ArenaFault::NoVertex => f.write_str("no vertex"),
+        }
+    }
+}
+
+impl Error for ArenaFault {}
 
 impl From<AllocError> for ArenaFault {
     ghost from_gives = { λ _ e. e ≡ OutOfMemory };

@@ -82,7 +82,7 @@ wins_exactly game f g is_game closed v lt winner list player = (
     each Odd e other Even = subst (λ p. HasList p f g v) e list
     each Odd e other Odd = other
 
-not_both : (p q : Player) → p ≡ q → p ≡ opponent q → ⊥
+pub not_both : (p q : Player) → p ≡ q → p ≡ opponent q → ⊥
 not_both Even Even e h = cc h
 not_both Even Odd e h = cc e
 not_both Odd Even e h = cc e

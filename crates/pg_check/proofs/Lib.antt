@@ -12,3 +12,4 @@ pub mod Certified
 pub mod Chosen
 pub mod Listed
 pub mod Winning
+pub mod Deciding

@@ -1,7 +1,7 @@
 -- A play over finitely many priorities has one greatest recurring priority.
 use Rattle.std.proofs.Common.{◌≡◌, ◌≢◌, ℕ, zero, suc, ◌+◌, ◌%◌, ◌<◌, ◌≤◌, ◌⊎◌, inl, inr, List, [], ◌∷◌, arith}
 use Rattle.pg_arena.specs.declared.player.Player.TheVariants.{Even, Odd}
-use Rattle.pg_arena.specs.Games.{GameVertex, priority, HasParityOf}
+use Rattle.pg_arena.specs.Games.{HasParityOf}
 use Rattle.pg_check.specs.Plays.{IsAbsentFrom, IsGreatestRecurring}
 use Rattle.pg_check.specs.Laws.{HasOneLoser}
 
@@ -53,10 +53,3 @@ one_loser met bound below =
       not_neither = λ (e, o). exists (λ h.
           elim (parity_of h.0) [ inl even ↦ o (h.0, h.1, even) | inr odd ↦ e (h.0, h.1, odd) ]);
     }
-
--- a number above every priority of the game
-pub priority_bound : (game : List GameVertex) → (b : ℕ) × ((v : ℕ) → priority game v < b)
-priority_bound [] = (1, λ v. omega arith)
-priority_bound (x ∷ xs) =
-    let h = priority_bound xs in
-    (x.priority + 1 + h.0, elim [ zero ↦ omega arith | suc v ↦ let k : priority xs v < h.0 = h.1 v in omega arith ])

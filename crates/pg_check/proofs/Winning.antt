@@ -73,7 +73,6 @@ module _ (Step : ℕ → ℕ → Type 0) (v : ℕ) (rest : List ℕ) (closes : I
 
 module _ (game : List GameVertex) (solution : List Answer) (is_game : IsGame game) (is_solution : IsSolution game solution)
     (won : (v : ℕ) → v < length game → Wins game solution v) where
-
   -- an edge that counts leaves each vertex
   next : (v : ℕ) → v < length game → (w : ℕ) × Counts game solution v w
   next v lt = elim (player_cases (owner game v) (winner solution v)) [
@@ -121,8 +120,11 @@ module _ (game : List GameVertex) (solution : List Answer) (is_game : IsGame gam
         p,
         record {
           recurs = λ (t, absent). let r = met_again Step v rest bad.closes k 0 t inside in absent r.0 r.1 (ap (priority game) r.2 ∙ is_p);
-          bounds = (0, λ s le. all_along Step v rest bad.closes (λ x. priority game x ≤ p)
-              (all_unmap (priority game) (λ q. q ≤ p) (v ∷ rest) g.above_all) s);
+          bounds = (
+            0,
+            λ s le. all_along Step v rest bad.closes (λ x. priority game x ≤ p)
+                (all_unmap (priority game) (λ q. q ≤ p) (v ∷ rest) g.above_all) s,
+          );
         },
         bad.lost.2,
       ) in

@@ -14,7 +14,8 @@ use Rattle.pg_text.specs.Solutions.{winner}
 use Rattle.pg_text.specs.Solutions.{IsSolution}
 use Rattle.pg_check.specs.Soundness.{Counts, IsSound, IsSafe, KeepsCount, Wins}
 use Rattle.pg_check.specs.Laws.{KeepsToSolution}
-use Rattle.pg_check.proofs.Recurring.{one_loser, priority_bound}
+use Rattle.pg_measure.proofs.SomeBounds.{priority_bound}
+use Rattle.pg_check.proofs.Recurring.{one_loser}
 use Rattle.pg_check.proofs.Cycles.{count-cons, edge_from, safe_from_sound}
 
 pub all_stretch : (P : ℕ → Type 0) (play : ℕ → ℕ) (from count : ℕ) → ((s : ℕ) → from ≤ s → P (play s)) → All P (stretch play from count)

@@ -112,6 +112,12 @@ NoListInBoth =
     (game : List GameVertex) (f g : MapValue) → IsGame game → AreClosed game f g
     → (v : ℕ) → v < length game → ¬ (HasList Even f g v × HasList Odd f g v)
 
+-- closed maps that leave no vertex undecided have a solution
+abbrev pub DecidedMapsSolve : Type 0
+DecidedMapsSolve =
+    (game : List GameVertex) (f g : MapValue) → IsGame game → AreClosed game f g → ((v : ℕ) → ¬ IsUndecided game f g v)
+    → (solution : List Answer) × IsSolutionOf game f g solution
+
 abbrev pub ClosedMapsSound : Type 0
 ClosedMapsSound =
     (game : List GameVertex) (f g : MapValue) (solution : List Answer) → IsGame game → AreClosed game f g

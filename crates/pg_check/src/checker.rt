@@ -8,10 +8,10 @@ ghost use Rattle.pg_check.specs.Mirrors.Cycles.{IsLost, HasNoCycle, HasNoBadCycl
 ghost use Rattle.pg_check.specs.Verdicts.{IsSimpleBadCycle, IsWins, Refutes};
 ghost use Rattle.pg_check.specs.declared.fault.CheckFault.TheVariants.{OutOfMemory};
 
+use crate::components::{NEW, OUT, find_components, mark};
+use crate::cycle::{cycle_through, is_lost};
 use crate::edges::first_leaving;
 use crate::fault::CheckFault;
-use crate::components::{NEW, OUT, find_components, mark};
-use crate::cycle::{is_lost, cycle_through};
 use crate::sift::sift;
 use crate::verdict::Verdict;
 use pg_arena::{Game, Vertex};
@@ -92,7 +92,14 @@ fn bad_cycle(
                 None => search_each(alloc, game, solution),
             };
         }
-        match sift(alloc, game, solution, &vertices, &numbers, &components.limits)? {
+        match sift(
+            alloc,
+            game,
+            solution,
+            &vertices,
+            &numbers,
+            &components.limits,
+        )? {
             Some(kept) if kept.len() < vertices.len() => {
                 mark(&mut numbers, &vertices, OUT);
                 mark(&mut numbers, &kept, NEW);

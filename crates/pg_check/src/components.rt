@@ -4,8 +4,8 @@
 ghost use Rattle.std.specs.Prelude.{◌≡◌, ◌<◌, ◌≤◌, length, [], All, IfOk, IfSome};
 ghost use Rattle.pg_arena.specs.Games.{IsGame};
 
-use crate::edges::counted;
 use crate::cycle::is_lost;
+use crate::edges::counted;
 use crate::sift::stays_inside;
 use pg_arena::{Game, Vertex};
 use pg_text::Solution;

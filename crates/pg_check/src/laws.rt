@@ -54,7 +54,7 @@ pub fn one_winner()
     ensures { OneWinner }
 {}
 
-ghost use Rattle.pg_check.specs.Strategies.{ListsWin, NoListInBoth, ClosedMapsSound, CertifiedSound};
+ghost use Rattle.pg_check.specs.Strategies.{ListsWin, NoListInBoth, DecidedMapsSolve, ClosedMapsSound, CertifiedSound};
 
 /// In a closed map of a game, from each vertex with a list Even wins every play in which it goes to successors that serve.
 pub fn lists_win()
@@ -64,6 +64,11 @@ pub fn lists_win()
 /// No vertex has a list both in a closed map of the game and in a closed map of its dual.
 pub fn no_list_in_both()
     ensures { NoListInBoth }
+{}
+
+/// Closed maps of a game and of its dual that aren't both top at a vertex have a solution.
+pub fn decided_maps_solve()
+    ensures { DecidedMapsSolve }
 {}
 
 /// The solution of a closed map of the game and one of its dual is sound, whether or not they are the least.

@@ -5,13 +5,13 @@
 mod certificate;
 mod checker;
 mod choices;
+mod components;
+mod cycle;
 mod dual;
 mod edges;
 mod fault;
 pub mod laws;
-mod components;
 mod play;
-mod cycle;
 mod sift;
 mod verdict;
 

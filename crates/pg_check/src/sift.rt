@@ -5,8 +5,8 @@ ghost use Rattle.std.specs.Bool.{OnFalse};
 ghost use Rattle.pg_arena.specs.Games.{IsGame};
 ghost use Rattle.pg_check.specs.Mirrors.Cycles.{HoldsCycles, RisesFrom, StaysNowhere, limit_of, IsNumbered, IsRuledOut};
 
-use crate::edges::counted;
 use crate::cycle::is_lost;
+use crate::edges::counted;
 use pg_arena::{Game, Vertex};
 use pg_text::Solution;
 use std::alloc::{AllocError, Global};

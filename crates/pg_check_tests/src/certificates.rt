@@ -1,7 +1,5 @@
 //! Certificates.
 
-ghost use Rattle.pg_arena.specs.Games.{HasPrioritiesUpTo};
-
 use crate::tools::{is_of, is_solution, least_map, solution_of, three, zero_map};
 use pg_arena::Player::{Even, Odd};
 use pg_arena::{Game, dual};
@@ -17,9 +15,7 @@ fn is_certified(
     solution: &Solution,
     even: &MeasureMap,
     odd: &MeasureMap,
-) -> Option<bool>
-    requires { HasPrioritiesUpTo 65535 game.now }
-{
+) -> Option<bool> {
     if is_of(even, game) && is_of(odd, game) && is_solution(game, solution) {
         Some(certifies(game, solution, even, odd))
     } else {
@@ -51,9 +47,7 @@ fn verdict(
     solution: &Solution,
     even: &MeasureMap,
     odd: &MeasureMap,
-) -> Result<Option<Verdict>, CheckFault>
-    requires { HasPrioritiesUpTo 65535 game.now }
-{
+) -> Result<Option<Verdict>, CheckFault> {
     if is_of(even, game) && is_of(odd, game) && is_solution(game, solution) {
         Ok(Some(check_with(alloc, game, solution, even, odd)?))
     } else {

@@ -86,8 +86,7 @@ pub fn solved(
     even: &MeasureMap,
     odd: &MeasureMap,
 ) -> Option<Result<Solution, CheckFault>>
-    requires other { other.now ≡ dual game.now }
-    requires priorities { HasPrioritiesUpTo 65535 game.now }
+    requires { other.now ≡ dual game.now }
 {
     if is_closed(even, game) && is_closed(odd, other) && odd.len() == even.len() {
         Some(strategies(alloc, game, even, odd))

@@ -5,3 +5,5 @@ pub mod Measuring
 pub mod Verdicts
 pub mod Printed
 pub mod Printing
+pub mod One
+pub mod Won

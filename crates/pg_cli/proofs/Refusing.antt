@@ -12,7 +12,7 @@ use Rattle.pg_cli.specs.declared.fault.CliFault.{CliFault}
 use Rattle.pg_cli.specs.declared.fault.CliFault.TheVariants as cli
 use Rattle.pg_cli.specs.Faults.{text_fault}
 use Rattle.pg_cli.specs.Parts.{separator, IsParted}
-use Rattle.pg_cli.specs.Texts.{SpellsNoGame, SpellsNoSolution}
+use Rattle.pg_cli.specs.Texts.{IsNoGame, IsNoSolution}
 
 -- what is so of a fault is so of each result that has it
 pub refused_by : {X : Type 0} (P : CliFault → Type 0) (result : Result X CliFault) (fault : CliFault) → IsErrAnd result (λ e. e ≡ fault) → P fault → IfErr result P
@@ -20,39 +20,29 @@ refused_by P (Ok x) fault is why = tt
 refused_by P (Err e) fault is why = subst P (sym is) why
 
 -- What is so of want of memory, and of what a text says, is so of each fault of a reader; none of them is the writer's.
-pub told_so : (P : CliFault → Type 0) (fault : TextFault) → P cli.OutOfMemory → fault ≢ text.Write → (fault ≢ text.OutOfMemory → P (cli.Text fault)) → P (text_fault fault)
-told_so P text.OutOfMemory memory write said = memory
-told_so P text.Write memory write said = absurd (write refl)
-told_so P (text.Syntax n) memory write said = said (λ e. (cc))
-told_so P (text.NumberTooLarge n) memory write said = said (λ e. (cc))
-told_so P (text.Arena fault) memory write said = said (λ e. (cc))
-told_so P (text.NotOfGame n) memory write said = said (λ e. (cc))
-told_so P (text.Missing n) memory write said = said (λ e. (cc))
+pub told_so : (P : CliFault → Type 0) (fault : TextFault) → P cli.OutOfMemory → (fault ≢ text.OutOfMemory → (fault ≢ text.Write) × P (cli.Text fault))
+    → P (text_fault fault)
+told_so P text.OutOfMemory memory said = memory
+told_so P text.Write memory said = absurd ((said (λ e. (cc))).0 refl)
+told_so P (text.Syntax n) memory said = (said (λ e. (cc))).1
+told_so P (text.NumberTooLarge n) memory said = (said (λ e. (cc))).1
+told_so P (text.Arena fault) memory said = (said (λ e. (cc))).1
+told_so P (text.NotOfGame n) memory said = (said (λ e. (cc))).1
+told_so P (text.Missing n) memory said = (said (λ e. (cc))).1
 
--- the reader of games writes nothing
-pub game_unwritten : (bytes : List ℕ) (fault : TextFault) → Refuses bytes fault → fault ≢ text.Write
-game_unwritten bytes fault why e = subst (Refuses bytes) e why
-
+-- memory aside, the reader of games tells nothing of a writer, and refuses what spells no game
 pub no_game : (bytes : List ℕ) (fault : TextFault) → ((game : List GameVertex) → IsGameText bytes game → fault ≡ text.OutOfMemory)
-    → Refuses bytes fault → fault ≢ text.OutOfMemory → SpellsNoGame bytes fault
-no_game bytes fault only why no_memory = record {
-  none = λ game spelt. no_memory (only game spelt);
-  why = why;
-  no_memory = no_memory;
-}
+    → (fault ≢ text.OutOfMemory → Refuses bytes fault) → fault ≢ text.OutOfMemory → (fault ≢ text.Write) × IsNoGame bytes fault
+no_game bytes fault only why memory =
+    (λ e. subst (Refuses bytes) e (why memory), (λ game spelt. memory (only game spelt), why memory))
 
--- nor does that of solutions
-pub solution_unwritten : (bytes : List ℕ) (game : List GameVertex) (fault : TextFault) → RefusesSolution bytes game fault → fault ≢ text.Write
-solution_unwritten bytes game fault why e = subst (RefusesSolution bytes game) e why
-
+-- so does that of solutions
 pub no_solution : (bytes : List ℕ) (game : List GameVertex) (fault : TextFault)
     → ((solution : List Answer) → IsSolutionText bytes game solution → fault ≡ text.OutOfMemory)
-    → RefusesSolution bytes game fault → fault ≢ text.OutOfMemory → SpellsNoSolution bytes game fault
-no_solution bytes game fault only why no_memory = record {
-  none = λ solution spelt. no_memory (only solution spelt);
-  why = why;
-  no_memory = no_memory;
-}
+    → (fault ≢ text.OutOfMemory → RefusesSolution bytes game fault) → fault ≢ text.OutOfMemory
+    → (fault ≢ text.Write) × IsNoSolution bytes game fault
+no_solution bytes game fault only why memory =
+    (λ e. subst (RefusesSolution bytes game) e (why memory), (λ solution spelt. memory (only solution spelt), why memory))
 
 -- no input has two first separators
 same_front : (input : List ℕ) (first second first' second' : List ℕ) (p : IsParted input first second) (q : IsParted input first' second')

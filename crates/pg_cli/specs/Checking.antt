@@ -1,6 +1,7 @@
 -- What `check` prints.
 use Rattle.std.specs.Prelude.{◌≡◌, ◌↔◌, ◌⊎◌, ℕ, List, [], ◌∷◌, ◌++◌, map, max, codes, decimal}
 use Rattle.pg_arena.specs.Games.{GameVertex, identifier, priority}
+use Rattle.pg_text.specs.Numbers.{identifiers_text}
 use Rattle.pg_text.specs.GameText.{IsGameText}
 use Rattle.pg_text.specs.SolutionText.{IsSolutionText}
 use Rattle.pg_text.specs.declared.answer.Answer.{Answer}
@@ -10,8 +11,7 @@ use Rattle.pg_check.specs.Verdicts.{IsWins, Refutes}
 use Rattle.pg_check.specs.declared.verdict.Verdict.{Verdict}
 use Rattle.pg_check.specs.declared.verdict.Verdict.TheVariants.{Wins, Leaves, BadCycle}
 use Rattle.pg_cli.specs.Parts.{IsParted}
-use Rattle.pg_cli.specs.Texts.{SpellsNoGame, SpellsNoSolution}
-use Rattle.pg_cli.specs.Measuring.{numbers_text}
+use Rattle.pg_cli.specs.Texts.{IsNoGame, IsNoSolution}
 use Rattle.pg_cli.specs.declared.fault.CliFault.{CliFault}
 use Rattle.pg_cli.specs.declared.fault.CliFault.TheVariants.{Text, NoSeparator}
 
@@ -27,7 +27,7 @@ verdict_text game (Leaves v w) =
     codes "LEAVES " ++ (decimal (identifier game v) ++ (codes " " ++ (decimal (identifier game w) ++ codes "\n")))
 verdict_text game (BadCycle cycle) =
     codes "CYCLE " ++ (decimal (greatest (map (priority game) cycle.items)) ++ (codes " "
-    ++ (numbers_text (map (identifier game) cycle.items) ++ codes "\n")))
+    ++ (identifiers_text game cycle.items ++ codes "\n")))
 
 -- An input of a game, a line `--` and a solution of the game, and a verdict on it: `Wins` exactly if the solution is
 -- sound, and else what speaks against it.
@@ -53,7 +53,7 @@ pub record FailsFirst (input : List ℕ) (fault : TextFault) : Type 0 where
   pub first : List ℕ
   pub second : List ℕ
   pub parted : IsParted input first second
-  pub none : SpellsNoGame first fault
+  pub none : IsNoGame first fault
 
 -- the first text spells a game, and the second no solution of it
 pub record FailsSecond (input : List ℕ) (fault : TextFault) : Type 0 where
@@ -62,7 +62,7 @@ pub record FailsSecond (input : List ℕ) (fault : TextFault) : Type 0 where
   pub parted : IsParted input first second
   pub game : List GameVertex
   pub spelt : IsGameText first game
-  pub none : SpellsNoSolution second game fault
+  pub none : IsNoSolution second game fault
 
 -- why an input has no such output: no line `--` parts it, or the first text fails, or the second one
 abbrev pub RefusesCheck : List ℕ → CliFault → Type 0

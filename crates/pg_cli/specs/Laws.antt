@@ -6,7 +6,8 @@ use Rattle.pg_text.specs.GameText.{IsGameText}
 use Rattle.pg_text.specs.Solutions.{winner, IsSolution}
 use Rattle.pg_text.specs.SolutionText.{IsSolutionText}
 use Rattle.pg_check.specs.Soundness.{IsSound, Wins}
-use Rattle.pg_cli.specs.Solving.{IsSolved}
+use Rattle.pg_cli.specs.Measuring.{IsMeasured}
+use Rattle.pg_cli.specs.Solving.{IsSolved, IsUndecidedAt}
 
 -- The output spells a solution of the game that the input spells. At each vertex the printed winner wins every endless
 -- play that follows the printed strategy, and no sound solution has another winner there.
@@ -22,3 +23,11 @@ pub record WinsAsPrinted (input output : List ℕ) : Type 0 where
 -- so it is of each answer of `solve`
 abbrev pub PrintedWinnersWin : Type 0
 PrintedWinnersWin = (input output : List ℕ) → IsSolved input output → WinsAsPrinted input output
+
+-- The output is a function of the input: `measure` has one answer to an input, and so has `solve`; where `solve` has one
+-- it isn't undecided, and where it is it names one vertex.
+pub record OneAnswer : Type 0 where
+  pub measured : (input first second : List ℕ) → IsMeasured input first → IsMeasured input second → first ≡ second
+  pub solved : (input first second : List ℕ) → IsSolved input first → IsSolved input second → first ≡ second
+  pub decided : (input output : List ℕ) (id : ℕ) → IsSolved input output → ¬ IsUndecidedAt input id
+  pub undecided : (input : List ℕ) (first second : ℕ) → IsUndecidedAt input first → IsUndecidedAt input second → first ≡ second

@@ -6,5 +6,8 @@ pub mod Solving
 pub mod Checking
 pub mod Answers
 pub mod Faults
+pub mod FaultTexts
+pub mod Words
 pub mod Laws
+pub mod Winners
 pub mod Mirrors

@@ -6,19 +6,11 @@ use Rattle.pg_measure.specs.Measures.{MeasureValue}
 use Rattle.pg_measure.specs.Games.{IsBoundsOf}
 use Rattle.pg_map.specs.Lines.{game_line}
 use Rattle.pg_map.specs.Maps.{MapValue, IsLeastProgressMeasure}
+use Rattle.pg_text.specs.Numbers.{numbers_text}
 use Rattle.pg_text.specs.GameText.{IsGameText}
-use Rattle.pg_cli.specs.Texts.{SpellsNoGame}
+use Rattle.pg_cli.specs.Texts.{IsNoGame}
 use Rattle.pg_cli.specs.declared.fault.CliFault.{CliFault}
 use Rattle.pg_cli.specs.declared.fault.CliFault.TheVariants.{Text}
-
--- a comma and a number
-abbrev pub comma_number : ℕ → List ℕ
-comma_number n = 44 ∷ decimal n
-
--- numbers with commas between them
-abbrev pub numbers_text : List ℕ → List ℕ
-numbers_text [] = []
-numbers_text (n ∷ ns) = decimal n ++ flat_map comma_number ns
 
 -- `T` for top, `-` for the list without components, and else the components with commas
 abbrev pub measure_text : MeasureValue → List ℕ
@@ -50,5 +42,5 @@ pub record IsMeasured (input output : List ℕ) : Type 0 where
 
 -- why an input has no such output: it spells no game
 abbrev pub RefusesMeasure : List ℕ → CliFault → Type 0
-RefusesMeasure input (Text fault) = SpellsNoGame input fault
+RefusesMeasure input (Text fault) = IsNoGame input fault
 RefusesMeasure input _ = ⊥

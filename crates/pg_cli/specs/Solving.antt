@@ -6,7 +6,7 @@ use Rattle.pg_text.specs.GameText.{IsGameText}
 use Rattle.pg_text.specs.SolutionLayout.{solution_text}
 use Rattle.pg_text.specs.declared.answer.Answer.{Answer}
 use Rattle.pg_check.specs.Strategies.{IsSolutionOf, IsLeastUndecided}
-use Rattle.pg_cli.specs.Texts.{SpellsNoGame}
+use Rattle.pg_cli.specs.Texts.{IsNoGame}
 use Rattle.pg_cli.specs.Measuring.{IsMeasureOf}
 use Rattle.pg_cli.specs.declared.fault.CliFault.{CliFault}
 use Rattle.pg_cli.specs.declared.fault.CliFault.TheVariants.{Text, Undecided}
@@ -41,6 +41,6 @@ pub record IsUndecidedAt (input : List ℕ) (id : ℕ) : Type 0 where
 
 -- why an input has no such output: it spells no game, or both measures are top at some vertex
 abbrev pub RefusesSolve : List ℕ → CliFault → Type 0
-RefusesSolve input (Text fault) = SpellsNoGame input fault
+RefusesSolve input (Text fault) = IsNoGame input fault
 RefusesSolve input (Undecided id) = IsUndecidedAt input id
 RefusesSolve input _ = ⊥

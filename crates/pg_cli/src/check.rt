@@ -1,10 +1,8 @@
 //! The command `check`.
 
 ghost use Rattle.std.specs.Prelude.{◌≡◌, ◌≢◌, ◌<◌, ◌≤◌, ℕ, List, length, map, All, IfOk, IfErr, OnOk};
-ghost use Rattle.std.specs.List.{flat_map};
 ghost use Rattle.std.specs.Io.KnownBytes.{Appends};
-ghost use Rattle.pg_arena.specs.Games.{identifier, priority};
-ghost use Rattle.pg_cli.specs.Measuring.{comma_number, numbers_text};
+ghost use Rattle.pg_arena.specs.Games.{priority};
 ghost use Rattle.pg_cli.specs.Checking.{greatest, verdict_text, IsCheckedBy};
 ghost use Rattle.pg_cli.specs.Answers.{Prints, Refuses};
 ghost use Rattle.pg_cli.specs.Mirrors.Naming.{IsWithin};
@@ -12,10 +10,10 @@ ghost use Rattle.pg_cli.specs.declared.command.Command.TheVariants.{Check};
 
 use crate::fault::CliFault;
 use crate::input::MOST_BYTES;
-use crate::output::write_number;
 use crate::parts::part;
 use pg_arena::{Game, Vertex};
 use pg_check::Verdict;
+use pg_text::writing::{write_identifiers, write_number};
 use pg_text::{read_game, read_solution};
 use std::alloc::Global;
 use std::io::{self, Write};
@@ -32,36 +30,8 @@ fn greatest_priority(game: &Game, vertices: &[Vertex]) -> u32
     most
 }
 
-/// Writes the identifier of each vertex behind a comma.
-fn write_behind_commas<W: Write>(writer: &mut W, game: &Game, vertices: &[Vertex]) -> io::Result<()>
-    requires { All (λ v. v < length game.now) vertices.now }
-    ensures { OnOk result (Appends (W.contents writer.old) (W.contents writer.new)
-        (flat_map comma_number (map (identifier game.now) vertices.now))) }
-{
-    for v in vertices {
-        writer.write_all(b",")?;
-        write_number(writer, game.identifier(*v))?;
-    }
-    Ok(())
-}
-
-/// Writes the identifiers of vertices with commas between them.
-fn write_identifiers<W: Write>(writer: &mut W, game: &Game, vertices: &[Vertex]) -> io::Result<()>
-    requires { All (λ v. v < length game.now) vertices.now }
-    ensures { OnOk result (Appends (W.contents writer.old) (W.contents writer.new)
-        (numbers_text (map (identifier game.now) vertices.now))) }
-{
-    match vertices {
-        [] => Ok(()),
-        [first, rest @ ..] => {
-            write_number(writer, game.identifier(*first))?;
-            write_behind_commas(writer, game, rest)
-        }
-    }
-}
-
-/// Writes a verdict and a newline: `WINS`; `LEAVES` and the identifiers of the edge; `CYCLE`, the greatest priority of the
-/// cycle, and its identifiers with commas.
+/// Writes a verdict and a newline: `WINS`; `LEAVES` and the identifiers of the edge; `CYCLE`, the greatest priority of
+/// the cycle, and its identifiers with commas.
 fn write_verdict<W: Write>(writer: &mut W, game: &Game, verdict: &Verdict) -> io::Result<()>
     requires { IsWithin game.now verdict.now }
     ensures { OnOk result
@@ -71,16 +41,16 @@ fn write_verdict<W: Write>(writer: &mut W, game: &Game, verdict: &Verdict) -> io
         Verdict::Wins => writer.write_all(b"WINS\n"),
         Verdict::Leaves(from, to) => {
             writer.write_all(b"LEAVES ")?;
-            write_number(writer, game.identifier(*from))?;
+            write_number(game.identifier(*from), writer)?;
             writer.write_all(b" ")?;
-            write_number(writer, game.identifier(*to))?;
+            write_number(game.identifier(*to), writer)?;
             writer.write_all(b"\n")
         }
         Verdict::BadCycle(cycle) => {
             writer.write_all(b"CYCLE ")?;
-            write_number(writer, greatest_priority(game, cycle))?;
+            write_number(greatest_priority(game, cycle), writer)?;
             writer.write_all(b" ")?;
-            write_identifiers(writer, game, cycle)?;
+            write_identifiers(game, cycle, writer)?;
             writer.write_all(b"\n")
         }
     }

@@ -10,3 +10,36 @@ pub enum Command {
     /// Prints whether a solution of a game is sound, and if not, what speaks against it.
     Check,
 }
+
+impl Command {
+    ghost use Rattle.std.specs.Prelude.{◌≡◌, ◌≢◌, IfSome, IfNone};
+    ghost use Rattle.pg_cli.specs.declared.command.Command.{Command};
+    ghost use Rattle.pg_cli.specs.Words.{command_name};
+
+    /// Every command, in the order of the help.
+    pub const ALL: [Command; 3] = [Command::Measure, Command::Solve, Command::Check];
+
+    /// The word that names the command.
+    pub fn name(self) -> &'static str
+        ensures { result.now ≡ command_name self }
+    {
+        match self {
+            Command::Measure => "measure",
+            Command::Solve => "solve",
+            Command::Check => "check",
+        }
+    }
+
+    /// The command with this name.
+    pub fn named(name: &str) -> Option<Command>
+        ensures known { IfSome result (λ command. name.now ≡ command_name command) }
+        ensures unknown { IfNone result ((command : Command) → name.now ≢ command_name command) }
+    {
+        for command in Command::ALL {
+            if command.name() == name {
+                return Some(command);
+            }
+        }
+        None
+    }
+}

@@ -1,40 +1,57 @@
 //! Why the program gives no answer.
 
-ghost use Rattle.std.specs.Prelude.{◌≡◌};
+ghost use Rattle.std.specs.Prelude.{◌≡◌, OnOk};
+ghost use Rattle.std.specs.Io.KnownBytes.{Appends};
 ghost use Rattle.pg_cli.specs.Faults.{status_of};
+ghost use Rattle.pg_cli.specs.FaultTexts.{fault_line};
 
 use pg_check::CheckFault;
 use pg_text::TextFault;
 use std::alloc::AllocError;
+use std::error::Error;
+use std::fmt;
 use std::io::{self, Write};
-use thiserror::Error;
 
 /// Why a command gives no answer. Its text is what the program prints on the error stream after `parsolve: `.
-#[derive(Debug, Drop, Error)]
+#[derive(Debug, Drop)]
 pub enum CliFault {
     /// A growth was refused.
-    #[error("out of memory")]
     OutOfMemory,
     /// The input could not be read to its end.
-    #[error("cannot read the input")]
     Read,
     /// The output could not be written; nothing is said of how much went out.
-    #[error("cannot write the output")]
     Write,
     /// The input has more than 268,435,456 bytes.
-    #[error("input is longer than 268435456 bytes")]
     InputTooLong,
     /// No line `--` stands between two texts.
-    #[error("no line -- between the two texts")]
     NoSeparator,
     /// A text doesn't spell what it has to; never `OutOfMemory` or `Write`.
-    #[error(transparent)]
     Text(TextFault),
     /// Both least progress measures, that of the game and that of its dual, are top at the vertex with this identifier,
     /// and at none with a lesser one.
-    #[error("undecided at {0}")]
     Undecided(u32),
 }
+
+impl fmt::Display for CliFault {
+    ghost use Rattle.std.specs.Prelude.{Some};
+    ghost use Rattle.pg_cli.specs.FaultTexts.{fault_text};
+
+    ghost output = { λ fault. Some (fault_text fault) };
+
+    fn fmt<W: fmt::Write>(&self, f: &mut fmt::Formatter<W>) -> fmt::Result {
+        match self {
+            CliFault::OutOfMemory => f.write_str("out of memory"),
+            CliFault::Read => f.write_str("cannot read the input"),
+            CliFault::Write => f.write_str("cannot write the output"),
+            CliFault::InputTooLong => f.write_str("input is longer than 268435456 bytes"),
+            CliFault::NoSeparator => f.write_str("no line -- between the two texts"),
+            CliFault::Text(fault) => write!(f, "{fault}"),
+            CliFault::Undecided(id) => write!(f, "undecided at {id}"),
+        }
+    }
+}
+
+impl Error for CliFault {}
 
 impl From<AllocError> for CliFault {
     ghost use Rattle.pg_cli.specs.declared.fault.CliFault.TheVariants.{OutOfMemory};
@@ -83,7 +100,10 @@ pub fn exit_code(fault: &CliFault) -> u8
     }
 }
 
-/// Writes the fault's line, `parsolve: ` and its text. It takes no memory, and fails only where the writer does.
-pub fn write_fault<W: Write>(fault: &CliFault, writer: &mut W) -> io::Result<()> {
+/// Writes the fault's line: `parsolve: `, its text and a newline. It takes no memory, and fails only where the writer
+/// does.
+pub fn write_fault<W: Write>(fault: &CliFault, writer: &mut W) -> io::Result<()>
+    ensures { OnOk result (Appends (W.contents writer.old) (W.contents writer.new) (fault_line fault.now)) }
+{
     writeln!(writer, "parsolve: {fault}")
 }

@@ -1,6 +1,6 @@
 //! Laws over the definitions. Their functions take no memory and do nothing: their contracts are what they are for.
 
-ghost use Rattle.pg_cli.specs.Laws.{PrintedWinnersWin};
+ghost use Rattle.pg_cli.specs.Laws.{PrintedWinnersWin, OneAnswer};
 
 /// What `solve` prints for a game spells a solution of it. Each printed winner wins, by the printed strategy, every
 /// endless play that follows it, and no vertex has two winners.
@@ -11,4 +11,14 @@ pub fn printed_winners_win()
     pg_check::laws::closed_maps_sound();
     pg_check::laws::sound_wins();
     pg_check::laws::one_winner();
+}
+
+/// `measure` has one answer to an input, and so has `solve`; where `solve` has one it isn't undecided. So what a run
+/// writes is a function of what it reads.
+pub fn one_answer()
+    ensures { OneAnswer }
+{
+    pg_text::laws::one_game();
+    pg_measure::laws::one_list_of_bounds();
+    pg_map::laws::closed_is_least();
 }

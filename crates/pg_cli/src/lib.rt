@@ -12,6 +12,7 @@ mod parts;
 mod program;
 mod solve;
 mod solver;
+pub mod winners;
 mod words;
 
 pub use command::Command;

@@ -19,8 +19,8 @@ use std::io::{Read, Write};
 /// Refuses, in this order: `Read`; `InputTooLong` for more than 268,435,456 bytes, of which it reads the first one over
 /// the limit at most; `NoSeparator` where two texts are wanted and no line `--` parts them; `Text` for a text that
 /// doesn't spell what it has to, the first text's fault before the second's; `Undecided`, of `solve` alone; `Write`,
-/// after which nothing is said of how much went out. `OutOfMemory` may come at any growth. Nothing is written before the work is done, so after another fault than
-/// `Write` nothing was written.
+/// after which nothing is said of how much went out. `OutOfMemory` may come at any growth. Nothing is written before the
+/// work is done, so after another fault than `Write` nothing was written.
 pub fn run<R: Read, W: Write>(
     alloc: Global,
     command: Command,

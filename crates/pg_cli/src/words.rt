@@ -1,6 +1,10 @@
 //! The words of the command line.
 
-use crate::Command;
+ghost use Rattle.std.specs.Prelude.{map, IfOk};
+ghost use Rattle.pg_cli.specs.Words.{AsksFor};
+
+use crate::command::Command;
+use clap::error::ErrorKind;
 use clap::{Command as Program, Error};
 use std::alloc::Global;
 
@@ -11,78 +15,104 @@ pub enum Line {
     Run(Command),
 }
 
-const ABOUT: &str = "Solves parity games; every answer is proved";
+const NAME: &str = "parsolve";
+
+const VERSION: &str = "0.1.0";
+
+const ABOUT: &str = "Solves parity games; the answers are proved";
 
 const MORE: &str = "\
-Each command reads standard input and writes standard output. Games are in the format of PGSolver.
+Each command reads standard input and writes standard output. Games and solutions are in the format of PGSolver.
+
+Exit status:
+  0  an answer was printed
+  1  the input was refused, or memory ran out, or reading or writing failed; the error stream has one line that says why
+  2  the command line names no command, or has a word that doesn't belong there
+  3  undecided: the least progress measures of the game and of its dual are both top at the vertex that is named
 
 Example: parsolve solve < examples/two.pg";
 
-const MEASURE: &str = "Prints the least progress measure of a game";
-
-const MEASURE_MORE: &str = "\
-Input: a parity game in the format of PGSolver, as `parity 1; 0 1 0 0,1; 1 2 1 0;`
-Output: a line `IDENTIFIER MEASURE;` for each vertex by rising identifier. A measure is a list of numbers with commas,
-one for each odd priority that occurs, the greatest first (`-` where none occurs), or `T` for top. A list says that
-player 0 wins from the vertex.
-
-Example: printf 'parity 1; 0 1 0 0,1; 1 2 1 0;' | parsolve measure
-prints `0 1;` and `1 0;`, each on a line.";
-
-const SOLVE: &str = "Prints who wins at each vertex of a game, and by which strategy";
-
-const SOLVE_MORE: &str = "\
-Input: a parity game in the format of PGSolver, as `parity 1; 0 1 0 0,1; 1 2 1 0;`
-Output: `paritysol N;` with the greatest identifier, and a line `IDENTIFIER WINNER STRATEGY;` for each vertex by rising
-identifier. The strategy is the successor that the winner goes to; it is left out where the other player owns the vertex.
-
-Example: printf 'parity 1; 0 1 0 0,1; 1 2 1 0;' | parsolve solve
-prints `paritysol 1;`, `0 0 1;` and `1 0;`, each on a line.";
-
-const CHECK: &str = "Prints whether a solution of a game is sound";
-
-const CHECK_MORE: &str = "\
-Input: a parity game, a line `--`, and a solution of the game, both in the format of PGSolver
-Output: `WINS` if each printed winner wins by the printed strategy; `LEAVES V W` if the edge from V to W, which follows the
-solution, leads to a vertex of the other winner; `CYCLE P V,V,..` if these vertices are a cycle that follows the solution
-and whose greatest priority P has the parity of the loser.
-
-Example: printf 'parity 1; 0 1 0 0,1; 1 2 1 0;\n--\n0 0 1; 1 0;' | parsolve check
-prints `WINS`.";
-
-fn program<'a>(alloc: Global) -> Result<Program<'a>, Error> {
-    let measure = Program::new(alloc, "measure")
-        .about(MEASURE)
-        .after_help(MEASURE_MORE);
-    let solve = Program::new(alloc, "solve")
-        .about(SOLVE)
-        .after_help(SOLVE_MORE);
-    let check = Program::new(alloc, "check")
-        .about(CHECK)
-        .after_help(CHECK_MORE);
-    Ok(
-        Program::new(alloc, "parsolve")
-            .about(ABOUT)
-            .after_help(MORE)
-            .subcommand_required(true)
-            .subcommand(measure)?
-            .subcommand(solve)?
-            .subcommand(check)?,
-    )
+/// What the help says of a command: a line in the list of commands, and the text behind the command's own usage.
+#[derive(Clone, Copy)]
+struct Help {
+    about: &'static str,
+    more: &'static str,
 }
 
-/// The command with this name; the reader of the words has refused every other name.
-fn command_named(name: &str) -> Command {
-    match name {
-        "measure" => Command::Measure,
-        "solve" => Command::Solve,
-        _ => Command::Check,
+const MEASURE: Help = Help {
+    about: "Prints the least progress measure of a game",
+    more: "\
+Input: a parity game in the format of PGSolver, as `parity 1; 0 1 0 0,1; 1 2 1 0;`
+Output: a line `IDENTIFIER MEASURE;` for each vertex by rising identifier. A measure is a list of numbers with commas,
+one for each odd priority that occurs, the greatest first (`-` where none occurs), or `T` for top. Player 0 wins from a
+vertex with a list, and player 1 from one with `T`.
+
+Example: printf 'parity 1; 0 1 0 0,1; 1 2 1 0;' | parsolve measure
+prints `0 1;` and `1 0;`, each on a line.",
+};
+
+const SOLVE: Help = Help {
+    about: "Prints the winner of each vertex of a game, and a winning strategy",
+    more: "\
+Input: a parity game in the format of PGSolver, as `parity 1; 0 1 0 0,1; 1 2 1 0;`
+Output: `paritysol N;` with the greatest identifier, and a line `IDENTIFIER WINNER STRATEGY;` for each vertex by rising
+identifier. The strategy is the successor that the winner goes to, left out where the other player owns the vertex.
+
+Example: printf 'parity 1; 0 1 0 0,1; 1 2 1 0;' | parsolve solve
+prints `paritysol 1;`, `0 0 1;` and `1 0;`, each on a line.",
+};
+
+const CHECK: Help = Help {
+    about: "Prints whether a solution of a game is sound",
+    more: "\
+Input: a parity game, a line `--`, and a solution of the game, both in the format of PGSolver
+Output: `WINS` if each printed winner wins by the printed strategy; `LEAVES V W` if the edge from V to W, which follows
+the solution, leads to a vertex of the other winner; `CYCLE P V,V,..` if these vertices are a cycle that follows the
+solution and whose greatest priority P favours the loser.
+
+Example: printf 'parity 1; 0 1 0 0,1; 1 2 1 0;\n--\n0 0 1; 1 0;' | parsolve check
+prints `WINS`.",
+};
+
+fn help_of(command: Command) -> Help {
+    match command {
+        Command::Measure => MEASURE,
+        Command::Solve => SOLVE,
+        Command::Check => CHECK,
     }
 }
 
+/// The command as the command line knows it.
+fn subcommand<'a>(alloc: Global, command: Command) -> Program<'a> {
+    let help = help_of(command);
+    let (name, about, more): (&'a str, &'a str, &'a str) = (command.name(), help.about, help.more);
+    Program::new(alloc, name).about(about).after_help(more)
+}
+
+fn program<'a>(alloc: Global) -> Result<Program<'a>, Error> {
+    let mut program = Program::new(alloc, NAME)
+        .version(VERSION)
+        .about(ABOUT)
+        .after_help(MORE)
+        .subcommand_required(true);
+    for command in Command::ALL {
+        program = program.subcommand(subcommand(alloc, command))?;
+    }
+    Ok(program)
+}
+
 /// Reads a command line, whose first word is the program's own name. The error is `clap`'s: its text, and whether it
-/// goes to the error stream (a fault of the command line) or not (`--help`).
-pub fn parse_words(alloc: Global, words: &[&str]) -> Result<Line, Error> {
-    let found = program(alloc)?.try_get_matches_from(words)?;
-    Ok(Line::Run(command_named(found.subcommand_name().unwrap_or("check"))))
+/// goes to the error stream (a fault of the command line) or not (`--help`, `--version`).
+pub fn parse_words(alloc: Global, words: &[&str]) -> Result<Line, Error>
+    ensures { IfOk result (AsksFor (map (λ word. word.now) words.now)) }
+{
+    let mut program = program(alloc)?;
+    program.try_get_matches_from_mut(words)?;
+    match words {
+        [_, name, ..] => match Command::named(name) {
+            Some(command) => Ok(Line::Run(command)),
+            None => Err(program.error(ErrorKind::InvalidSubcommand, "no such command")?),
+        },
+        _ => Err(program.error(ErrorKind::MissingSubcommand, "no command")?),
+    }
 }

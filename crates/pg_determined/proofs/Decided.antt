@@ -14,7 +14,8 @@ use Rattle.pg_map.specs.Maps.{MapValue, IsMap, IsClosed, IsLeastProgressMeasure,
 use Rattle.pg_check.specs.Plays.{IsPlay, WinsPlay}
 use Rattle.pg_check.specs.Soundness.{Counts, IsSound, IsSafe}
 use Rattle.pg_check.specs.Strategies.{GoesServed}
-use Rattle.pg_check.proofs.Recurring.{one_loser, priority_bound}
+use Rattle.pg_measure.proofs.SomeBounds.{priority_bound}
+use Rattle.pg_check.proofs.Recurring.{one_loser}
 use Rattle.pg_check.proofs.Cycles.{sound_from_safe, safe_from_sound}
 use Rattle.pg_check.proofs.Wins.{wins, player_cases, same_winner}
 use Rattle.pg_check.proofs.Listed.{lists_win, falls}
@@ -77,7 +78,6 @@ least_has_list game s bounds f is_game is_s sound is_bounds size least v lt e to
 
 module _ (game : List GameVertex) (s : List Answer) (f : MapValue) (is_game : IsGame game) (is_s : IsSolution game s) (sound : IsSound game s)
     (closed : IsClosed f.bounds (game_line game) f.measures) where
-
   -- Odd wins at v, and the map has a list there
   record Contested (v : ℕ) : Type 0 where
     pub in_game : v < length game

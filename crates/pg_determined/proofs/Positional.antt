@@ -12,7 +12,8 @@ use Rattle.pg_check.specs.Soundness.{Counts, NoneLeaves, IsSafe}
 use Rattle.pg_check.proofs.Cycles.{edge_from, IsBadCycleFrom, sound_from_no_cycle, safe_from_sound}
 use Rattle.pg_determined.proofs.Sets.{size}
 use Rattle.pg_determined.proofs.Walks.{starts}
-use Rattle.pg_determined.proofs.Attractors.{not_both, Subgame}
+use Rattle.pg_check.proofs.Chosen.{not_both}
+use Rattle.pg_determined.proofs.Attractors.{Subgame}
 use Rattle.pg_determined.proofs.Solving.{Solved, Goes, GoesUpTo, solve}
 
 find_in : (P Q : ℕ → Type 0) → ((w : ℕ) → P w ⊎ Q w) → (xs : List ℕ)

@@ -9,3 +9,4 @@ pub mod GameLines
 pub mod Orderings
 pub mod Passes
 pub mod Overs
+pub mod Existing

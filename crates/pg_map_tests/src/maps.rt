@@ -126,6 +126,14 @@ fn passes_reach_top(rt: HostRuntime) -> Result<(), Fail> {
 }
 
 #[test]
+fn a_map_may_have_more_than_a_million_components(rt: HostRuntime) -> Result<(), Fail> {
+    let bounds = Bounds::of(rt.alloc(), &game(rt.alloc())?)?;
+    let map = MeasureMap::zero(rt.alloc(), 600_000, &bounds)?;
+    assert!(rt; shows(&map, 599_999, View::List(&[0, 0])));
+    Ok(())
+}
+
+#[test]
 fn copies_into_one_measure(rt: HostRuntime) -> Result<(), Fail> {
     let bounds = Bounds::of(rt.alloc(), &game(rt.alloc())?)?;
     let map = map(rt.alloc(), &bounds, None, Some(&[1, 0]))?;

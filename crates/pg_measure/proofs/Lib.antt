@@ -5,3 +5,4 @@ pub mod Widths
 pub mod Compare
 pub mod Counted
 pub mod OneList
+pub mod SomeBounds

@@ -130,6 +130,18 @@ misses_not strict k (Some xs) None h i = i
 misses_not true k (Some xs) (Some ys) h i = never_both (take k ys) (take k xs) i h
 misses_not false k (Some xs) (Some ys) h i = never_both (take k xs) (take k ys) h i
 
+pub covers_or : (strict : Bool) (k : ℕ) (m n : MeasureValue) → CoversFront strict k m n ⊎ (CoversFront strict k m n → ⊥)
+covers_or strict k None n = inl tt
+covers_or strict k (Some xs) None = inr (λ h. h)
+covers_or true k (Some xs) (Some ys) = elim (below_or (take k ys) (take k xs)) [
+  | inl less ↦ inl less
+  | inr more ↦ inr (λ h. never_both (take k ys) (take k xs) h more)
+]
+covers_or false k (Some xs) (Some ys) = elim (below_or (take k xs) (take k ys)) [
+  | inl less ↦ inr (λ h. never_both (take k xs) (take k ys) less h)
+  | inr more ↦ inl more
+]
+
 -- what is more covers what is covered
 pub more_covers : (strict : Bool) (k : ℕ) (m n o : MeasureValue) → CoversFront strict k m n → AtMost m o → CoversFront strict k o n
 more_covers strict k m n None h i = tt

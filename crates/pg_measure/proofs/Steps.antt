@@ -1,6 +1,7 @@
 -- What a step of one row leaves.
-use Rattle.std.proofs.Common.{◌≡◌, ℕ, zero, suc, ◌+◌, ◌-◌, ◌<◌, ◌≤◌, Bool, true, false, Some, None, List, [], ◌∷◌, length, get_or, take, drop, set, replicate, refl, sym, ◌∙◌, arith, add-one, subst, append-nil, length-take, length-drop}
+use Rattle.std.proofs.Common.{◌≡◌, ℕ, zero, suc, ◌+◌, ◌-◌, ◌<◌, ◌≤◌, Bool, true, false, Some, None, List, [], ◌∷◌, length, get_or, take, drop, set, replicate, refl, sym, ◌∙◌, arith, add-one, subst, append-nil, length-take, length-drop, ◌⊎◌, inl, inr}
 use Rattle.std.proofs.lemmas.Grind.{common_steps}
+use Rattle.std.proofs.lemmas.Bool.{cases_lt}
 use borrow.Rule.Slice.PartMut.{put_mid}
 use Rattle.pg_measure.specs.Measures.{BoundList, MeasureValue, Fits, ListFits, AtMost, CoversFront, width_from, is_odd, IsLeastStep}
 use Rattle.pg_measure.specs.Mirrors.Rows.{IsLeastCover, measure_of, cleared}
@@ -89,3 +90,35 @@ marked_top (suc k ∷ xs) n l e h = refl
 -- a row that is marked as top is its own least step
 pub top_step : (bs : BoundList) (p n : ℕ) (row : List ℕ) (m : MeasureValue) → 0 < length row → n ≡ get_or row 0 n → (n ≡ 0 → ⊥) → measure_of row ≡ m → IsLeastStep bs p m (measure_of row)
 top_step bs p n row m l e h v = top_by bs p (measure_of row) m (marked_top row n l e h) v
+
+-- the last of the first w components that has room, or none has
+
+abbrev HasRoom : BoundList → List ℕ → ℕ → Type 0
+HasRoom bs xs j = get_or xs j 0 < (get_or bs j (0, 0)).1
+
+abbrev IsFull : BoundList → List ℕ → ℕ → Type 0
+IsFull bs xs j = (get_or bs j (0, 0)).1 ≤ get_or xs j 0
+
+room_or_full : (bs : BoundList) (xs : List ℕ) (w : ℕ)
+    → ((j : ℕ) × (j < w) × HasRoom bs xs j × ((i : ℕ) → j < i → i < w → IsFull bs xs i)) ⊎ ((i : ℕ) → i < w → IsFull bs xs i)
+room_or_full bs xs zero = inr (λ i l. absurd (omega arith))
+room_or_full bs xs (suc w) = go (cases_lt (get_or xs w 0) (get_or bs w (0, 0)).1) (room_or_full bs xs w)
+  where
+    last : IsFull bs xs w → (i : ℕ) → w ≤ i → i < suc w → IsFull bs xs i
+    last full i le lt = let e : w ≡ i = omega arith in subst (IsFull bs xs) e full
+
+    go : HasRoom bs xs w ⊎ IsFull bs xs w
+        → ((j : ℕ) × (j < w) × HasRoom bs xs j × ((i : ℕ) → j < i → i < w → IsFull bs xs i)) ⊎ ((i : ℕ) → i < w → IsFull bs xs i)
+        → ((j : ℕ) × (j < suc w) × HasRoom bs xs j × ((i : ℕ) → j < i → i < suc w → IsFull bs xs i)) ⊎ ((i : ℕ) → i < suc w → IsFull bs xs i)
+    go (inl here) r = inl (w, omega arith, here, λ i more lt. absurd (omega arith))
+    go (inr full) (inl (j, lt, here, above)) = inl (j, omega arith, here, λ i more l. elim (cases_lt i w) [ inl less ↦ above i more less | inr le ↦ last full i le l ])
+    go (inr full) (inr all) = inr (λ i l. elim (cases_lt i w) [ inl less ↦ all i less | inr le ↦ last full i le l ])
+
+-- each measure has a least cover
+pub least_cover : (bs : BoundList) (strict : Bool) (w : ℕ) (m : MeasureValue) → Fits bs m → w ≤ length bs → (r : MeasureValue) × IsLeastCover bs strict w m r
+least_cover bs strict w None f le = (None, top_stays bs strict w)
+least_cover bs false w (Some xs) f le = (Some (cleared w xs), still bs w xs f)
+least_cover bs true w (Some xs) f le = elim (room_or_full bs xs w) [
+  | inl (j, lt, here, full) ↦ (Some (raised j xs), up bs j w xs f lt (let same = same_length bs xs f in omega arith) here full)
+  | inr full ↦ (None, over bs w xs f full)
+]

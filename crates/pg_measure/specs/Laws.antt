@@ -34,7 +34,11 @@ abbrev pub OneLeastStep : Type 0
 OneLeastStep =
     (bounds : BoundList) (p : ℕ) (m r s : MeasureValue) → IsLeastStep bounds p m r → IsLeastStep bounds p m s → r ≡ s
 
--- a game has one list of bounds
+-- a game has bounds
+abbrev pub HasBounds : Type 0
+HasBounds = (game : List GameVertex) → (bounds : BoundList) × IsBoundsOf game bounds
+
+-- and one list of them
 abbrev pub OneListOfBounds : Type 0
 OneListOfBounds =
     (game : List GameVertex) (first second : BoundList) → IsBoundsOf game first → IsBoundsOf game second → first ≡ second

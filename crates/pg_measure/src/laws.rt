@@ -1,6 +1,6 @@
 //! What is proved of measures: each function's contract is a law, and its body does nothing.
 
-ghost use Rattle.pg_measure.specs.Laws.{OrderIsTotal, ZerosAreLeast, ComponentsAreFirst, OneLeastStep, OneListOfBounds, BoundsAreFew};
+ghost use Rattle.pg_measure.specs.Laws.{OrderIsTotal, ZerosAreLeast, ComponentsAreFirst, OneLeastStep, HasBounds, OneListOfBounds, BoundsAreFew};
 
 /// The order of measures is total.
 pub fn order_is_total()
@@ -20,6 +20,11 @@ pub fn components_are_first()
 /// Of the measures that cover one there is one least.
 pub fn one_least_step()
     ensures { OneLeastStep }
+{}
+
+/// A game has bounds.
+pub fn has_bounds()
+    ensures { HasBounds }
 {}
 
 /// A game has one list of bounds.

@@ -6,17 +6,18 @@ use Rattle.std.proofs.lemmas.Grind.{flat_map-append}
 use Rattle.pg_arena.specs.declared.fault.ArenaFault.{ArenaFault}
 use Rattle.pg_arena.specs.declared.fault.ArenaFault.TheVariants as arena
 use Rattle.pg_arena.specs.Lines.{Line, counted, add_fault, Answers, Accepts}
-use Rattle.pg_text.specs.declared.fault.Refusal.{Refusal}
-use Rattle.pg_text.specs.declared.fault.Refusal.TheVariants.{Memory, Token}
+use Rattle.pg_text.specs.declared.reading.Refusal.{Refusal}
+use Rattle.pg_text.specs.declared.reading.Refusal.TheVariants.{Memory, Token}
+use Rattle.pg_text.specs.declared.tokens.TokenFault.{TokenFault}
 use Rattle.pg_text.specs.declared.tokens.TokenFault.TheVariants.{Syntax, NumberTooLarge}
-use Rattle.pg_text.specs.Mirrors.Refusals.{arena_fault, fault_of}
+use Rattle.pg_text.specs.Mirrors.Refusals.{arena_fault, token_fault_of, fault_of}
 use Rattle.pg_text.specs.Lexemes.{Lexeme, Spells}
 use Rattle.pg_text.specs.GameText.{line_lexemes, IsText, HasBadLine}
 use Rattle.pg_text.specs.Mirrors.Steps.{◌>>=◌, Fails, item, stop, items_at}
 use Rattle.pg_text.specs.Mirrors.GameScan.{item_at, body_at, lines_at}
 use Rattle.pg_text.specs.Mirrors.Building.{BuildsLines}
-use Rattle.pg_text.proofs.Steps.{bind_some, some, some_is, none_is_some}
-use Rattle.pg_text.proofs.Items.{with_front, nothing_yet, goes_on, ends, items_none}
+use Rattle.pg_text.proofs.Steps.{bind_ok, ok, ok_is, err_is_ok, none_is_some}
+use Rattle.pg_text.proofs.Items.{with_front, nothing_yet, goes_on, ends, items_err}
 use Rattle.pg_text.proofs.Spelling.{spells_append}
 use Rattle.pg_text.proofs.Takes.{item_exact, item_shrinks}
 use Rattle.pg_text.proofs.Texts.{body_takes, lines_take, lines_again}
@@ -25,13 +26,13 @@ use Rattle.pg_text.proofs.Texts.{body_takes, lines_take, lines_again}
 pub record Built (bytes : List ℕ) (built : List Line) (rest : List ℕ) : Type 0 where
   pub start : List ℕ
   pub front : List Line
-  pub body : body_at bytes ≡ Some start
+  pub body : body_at bytes ≡ Ok start
   pub so_far : with_front front (items_at item_at rest) ≡ items_at item_at start
   pub spelt : Spells start (flat_map line_lexemes front) rest
   pub is : built ≡ map counted front
   pub fits : Accepts [] front
 
-pub begins : (bytes start : List ℕ) → body_at bytes ≡ Some start → Built bytes [] start
+pub begins : (bytes start : List ℕ) → body_at bytes ≡ Ok start → Built bytes [] start
 begins bytes start e = record { start = start; front = []; body = e; so_far = nothing_yet (items_at item_at start); spelt = refl; is = refl; fits = tt }
 
 accepts_push : (before front : List Line) (line : Line) → Accepts before front → add_fault (before ++ map counted front) (counted line) ≡ None → Accepts before (front ++ line ∷ [])
@@ -43,12 +44,12 @@ accepts_at before [] line later a = subst (λ (b : List Line). add_fault b (coun
 accepts_at before (x ∷ front) line later a = subst (λ (b : List Line). add_fault b (counted line) ≡ None) (append_assoc before (counted x ∷ []) (map counted front)) (accepts_at (before ++ counted x ∷ []) front line later (a.1))
 
 -- a line more is spelt
-spelt_push : (start : List ℕ) (front : List Line) (rest after : List ℕ) (line : Line) → Spells start (flat_map line_lexemes front) rest → item_at rest ≡ Some (item line, after) → Spells start (flat_map line_lexemes (front ++ line ∷ [])) after
+spelt_push : (start : List ℕ) (front : List Line) (rest after : List ℕ) (line : Line) → Spells start (flat_map line_lexemes front) rest → item_at rest ≡ Ok (item line, after) → Spells start (flat_map line_lexemes (front ++ line ∷ [])) after
 spelt_push start front rest after line s e =
     let last : Spells rest (flat_map line_lexemes (line ∷ [])) after = subst (λ (ts : List Lexeme). Spells rest ts after) (sym (append-nil (line_lexemes line))) ((item_exact.takes rest line after e).0) in
     subst (λ (ts : List Lexeme). Spells start ts after) (sym (flat_map-append line_lexemes front (line ∷ []))) (spells_append (flat_map line_lexemes front) (flat_map line_lexemes (line ∷ [])) start rest after s last)
 
-pub more : (bytes : List ℕ) (built after_built : List Line) (rest after : List ℕ) (line : Line) → Built bytes built rest → item_at rest ≡ Some (item line, after) → add_fault built (counted line) ≡ None → after_built ≡ built ++ counted line ∷ [] → Built bytes after_built after
+pub more : (bytes : List ℕ) (built after_built : List Line) (rest after : List ℕ) (line : Line) → Built bytes built rest → item_at rest ≡ Ok (item line, after) → add_fault built (counted line) ≡ None → after_built ≡ built ++ counted line ∷ [] → Built bytes after_built after
 more bytes built after_built rest after line b e fault grown = record {
   start = b.start;
   front = b.front ++ line ∷ [];
@@ -60,61 +61,59 @@ more bytes built after_built rest after line b e fault grown = record {
 }
 
 -- all lines are read
-read_all : (bytes : List ℕ) (built : List Line) (rest : List ℕ) (u : Unit {0}) (after : List ℕ) (b : Built bytes built rest) → item_at rest ≡ Some (stop u, after) → lines_at bytes ≡ Some (b.front)
+read_all : (bytes : List ℕ) (built : List Line) (rest : List ℕ) (u : Unit {0}) (after : List ℕ) (b : Built bytes built rest) → item_at rest ≡ Ok (stop u, after) → lines_at bytes ≡ Ok b.front
 unfolding lines_at
 read_all bytes built rest u after b e =
     let all = ends item_at (b.front) rest u after (items_at item_at (b.start)) e (b.so_far) in
     rw (b.body, all) refl
 
-pub finishes : (bytes : List ℕ) (built : List Line) (rest : List ℕ) (u : Unit {0}) (after : List ℕ) → Built bytes built rest → item_at rest ≡ Some (stop u, after) → BuildsLines bytes (Ok built)
+pub finishes : (bytes : List ℕ) (built : List Line) (rest : List ℕ) (u : Unit {0}) (after : List ℕ) → Built bytes built rest → item_at rest ≡ Ok (stop u, after) → BuildsLines bytes (Ok built)
 finishes bytes built rest u after b e = (b.front, lines_take bytes b.front (read_all bytes built rest u after b e), b.is, b.fits)
 
 -- nothing is read behind the body, so nothing is read
-no_items : (bytes start : List ℕ) → body_at bytes ≡ Some start → items_at item_at start ≡ None → lines_at bytes ≡ None
+no_items : (bytes start : List ℕ) (fault : TokenFault) → body_at bytes ≡ Ok start → items_at item_at start ≡ Err fault → lines_at bytes ≡ Err fault
 unfolding lines_at
-no_items bytes start e h = rw (e, h) refl
+no_items bytes start fault e h = rw (e, h) refl
 
-no_body : (bytes : List ℕ) → body_at bytes ≡ None → lines_at bytes ≡ None
+no_body : (bytes : List ℕ) (fault : TokenFault) → body_at bytes ≡ Err fault → lines_at bytes ≡ Err fault
 unfolding lines_at
-no_body bytes e = rw e refl
+no_body bytes fault e = rw e refl
 
 -- what is not read is no text
-no_text : (bytes : List ℕ) → lines_at bytes ≡ None → (lines : List Line) → IsText bytes lines → ⊥
-no_text bytes e lines text = none_is_some lines (sym e ∙ lines_again bytes lines text)
+no_text : (bytes : List ℕ) (fault : TokenFault) → lines_at bytes ≡ Err fault → (lines : List Line) → IsText bytes lines → ⊥
+no_text bytes fault e lines text = err_is_ok fault lines (sym e ∙ lines_again bytes lines text)
+
+refuses : (fault : TokenFault) (len : ℕ) (bytes : List ℕ) → lines_at bytes ≡ Err fault → BuildsLines bytes (Err (token_fault_of len fault))
+refuses (Syntax left) len bytes h = no_text bytes (Syntax left) h
+refuses (NumberTooLarge left) len bytes h = no_text bytes (NumberTooLarge left) h
+
+pub fails_body : (fault : TokenFault) (len : ℕ) (bytes : List ℕ) → body_at bytes ≡ Err fault → BuildsLines bytes (Err (token_fault_of len fault))
+fails_body fault len bytes h = refuses fault len bytes (no_body bytes fault h)
+
+unread : (bytes : List ℕ) (built : List Line) (rest : List ℕ) (fault : TokenFault) → Built bytes built rest → item_at rest ≡ Err fault → lines_at bytes ≡ Err fault
+unread bytes built rest fault b h = no_items bytes b.start fault b.body (sym b.so_far ∙ ap (with_front b.front) (items_err item_at rest fault h))
 
 -- a refusal for another cause than memory says that nothing is read
-refuses : (refusal : Refusal) (len : ℕ) (bytes : List ℕ) → Fails refusal (lines_at bytes) → BuildsLines bytes (Err (fault_of len refusal))
-refuses Memory len bytes h = tt
-refuses (Token (Syntax left)) len bytes h = no_text bytes h
-refuses (Token (NumberTooLarge left)) len bytes h = no_text bytes h
-
-pub fails_body : (refusal : Refusal) (len : ℕ) (bytes : List ℕ) → Fails refusal (body_at bytes) → BuildsLines bytes (Err (fault_of len refusal))
-fails_body Memory len bytes h = tt
-fails_body (Token fault) len bytes h = refuses (Token fault) len bytes (no_body bytes h)
-
-unread : (bytes : List ℕ) (built : List Line) (rest : List ℕ) → Built bytes built rest → item_at rest ≡ None → lines_at bytes ≡ None
-unread bytes built rest b h = no_items bytes (b.start) (b.body) (sym (b.so_far) ∙ ap (with_front (b.front)) (items_none item_at rest h))
-
 pub fails_item : (refusal : Refusal) (len : ℕ) (bytes : List ℕ) (built : List Line) (rest : List ℕ) → Built bytes built rest → Fails refusal (item_at rest) → BuildsLines bytes (Err (fault_of len refusal))
 fails_item Memory len bytes built rest b h = tt
-fails_item (Token fault) len bytes built rest b h = refuses (Token fault) len bytes (unread bytes built rest b h)
+fails_item (Token fault) len bytes built rest b h = refuses fault len bytes (unread bytes built rest fault b h)
 
 -- a line that is not accepted stands in each list of lines that is read
-spoils : (bytes : List ℕ) (built : List Line) (rest after : List ℕ) (line : Line) (f : ArenaFault) → Built bytes built rest → item_at rest ≡ Some (item line, after) → add_fault built (counted line) ≡ Some f → (lines : List Line) → lines_at bytes ≡ Some lines → Accepts [] lines → ⊥
+spoils : (bytes : List ℕ) (built : List Line) (rest after : List ℕ) (line : Line) (f : ArenaFault) → Built bytes built rest → item_at rest ≡ Ok (item line, after) → add_fault built (counted line) ≡ Some f → (lines : List Line) → lines_at bytes ≡ Ok lines → Accepts [] lines → ⊥
 unfolding lines_at
 spoils bytes built rest after line f b e fault lines read accepts =
     let total = goes_on item_at item_shrinks (b.front) rest line after (items_at item_at (b.start)) e (b.so_far) in
-    let a = bind_some (body_at bytes) (λ rest. items_at item_at rest >>= λ x. some (x.0)) lines read in
-    let start : a.0 ≡ b.start = some_is (a.0) (b.start) (sym (a.1) ∙ b.body) in
-    let d = bind_some (items_at item_at (a.0)) (λ x. some (x.0)) lines (a.2) in
-    let g = bind_some (items_at item_at after) (λ x. some ((b.front ++ line ∷ []) ++ x.0, x.1, x.2)) (d.0) (total ∙ ap (items_at item_at) (sym start) ∙ d.1) in
+    let a = bind_ok (body_at bytes) (λ rest. items_at item_at rest >>= λ x. ok (x.0)) lines read in
+    let start : a.0 ≡ b.start = ok_is (a.0) (b.start) (sym (a.1) ∙ b.body) in
+    let d = bind_ok (items_at item_at (a.0)) (λ x. ok (x.0)) lines (a.2) in
+    let g = bind_ok (items_at item_at after) (λ x. ok ((b.front ++ line ∷ []) ++ x.0, x.1, x.2)) (d.0) (total ∙ ap (items_at item_at) (sym start) ∙ d.1) in
     let whole : lines ≡ b.front ++ line ∷ g.0.0 =
-    sym (some_is (d.0.0) lines (d.2)) ∙ sym (ap (λ (p : List Line × Unit {0} × List ℕ). p.0) (some_is ((b.front ++ line ∷ []) ++ g.0.0, g.0.1, g.0.2) (d.0) (g.2))) ∙ append_assoc (b.front) (line ∷ []) (g.0.0) in
+    sym (ok_is (d.0.0) lines (d.2)) ∙ sym (ap (λ (p : List Line × Unit {0} × List ℕ). p.0) (ok_is ((b.front ++ line ∷ []) ++ g.0.0, g.0.1, g.0.2) (d.0) (g.2))) ∙ append_assoc (b.front) (line ∷ []) (g.0.0) in
     let none_here = accepts_at [] (b.front) line (g.0.0) (subst (Accepts []) whole accepts) in
     none_is_some f (sym (subst (λ (ls : List Line). add_fault ls (counted line) ≡ None) (sym (b.is)) none_here) ∙ fault)
 
 -- the text begins with the lines so far and then this one
-bad_line : (bytes : List ℕ) (built : List Line) (rest after : List ℕ) (line : Line) (f : ArenaFault) → Built bytes built rest → item_at rest ≡ Some (item line, after) → add_fault built (counted line) ≡ Some f → HasBadLine bytes f
+bad_line : (bytes : List ℕ) (built : List Line) (rest after : List ℕ) (line : Line) (f : ArenaFault) → Built bytes built rest → item_at rest ≡ Ok (item line, after) → add_fault built (counted line) ≡ Some f → HasBadLine bytes f
 bad_line bytes built rest after line f b e fault =
     let front = body_takes bytes b.start b.body in
     let lines = spells_append (flat_map line_lexemes b.front) (line_lexemes line) b.start rest after b.spelt ((item_exact.takes rest line after e).0) in
@@ -125,6 +124,7 @@ bad_line bytes built rest after line f b e fault =
       line = line;
       rest = after;
       spelt = front.2 (flat_map line_lexemes b.front ++ line_lexemes line) after lines;
+      successors = (item_exact.takes rest line after e).1;
       limits = b.fits;
       refused = subst (λ (ls : List Line). add_fault ls (counted line) ≡ Some f) b.is fault;
     }
@@ -142,7 +142,7 @@ named T arena.TooManyEdges bytes reason h k = k h
 named T (arena.PriorityTooLarge n m) bytes reason h k = k h
 named T arena.NoVertex bytes reason h k = k h
 
-pub fails_add : {T : Type 0} (r : Result T ArenaFault) (f : ArenaFault) (bytes : List ℕ) (built : List Line) (rest after : List ℕ) (line : Line) → r ≡ Err f → Built bytes built rest → item_at rest ≡ Some (item line, after) → Answers r (add_fault built (counted line)) → BuildsLines bytes (Err (arena_fault f))
+pub fails_add : {T : Type 0} (r : Result T ArenaFault) (f : ArenaFault) (bytes : List ℕ) (built : List Line) (rest after : List ℕ) (line : Line) → r ≡ Err f → Built bytes built rest → item_at rest ≡ Ok (item line, after) → Answers r (add_fault built (counted line)) → BuildsLines bytes (Err (arena_fault f))
 fails_add {T} r f bytes built rest after line was b e h =
     named T f bytes (add_fault built (counted line)) (subst (λ (r : Result T ArenaFault). Answers r (add_fault built (counted line))) was h)
     (λ fault. (bad_line bytes built rest after line f b e fault, λ lines text accepts. spoils bytes built rest after line f b e fault lines (lines_again bytes lines text) accepts))

@@ -4,10 +4,11 @@ pub mod Steps
 pub mod Lexing
 pub mod Items
 pub mod Spelling
+pub mod Parts
 pub mod Takes
 pub mod Texts
 pub mod Building
-pub mod Reading
+pub mod GameTexts
 pub mod Printing
 pub mod Spelt
 pub mod ReadingBack

@@ -1,5 +1,5 @@
 -- Lines that can't be taken, known by the tokens with which they begin.
-use Rattle.std.proofs.Common.{◌≡◌, ◌≢◌, ℕ, ◌<◌, Bool, true, false, cond, List, [], ◌∷◌, ◌++◌, length, Option, Some, None, refl, sym, ap, subst, ◌∙◌, inl, inr}
+use Rattle.std.proofs.Common.{◌≡◌, ◌≢◌, ℕ, ◌<◌, Bool, true, false, cond, List, [], ◌∷◌, ◌++◌, length, Option, Some, None, Err, refl, sym, ap, subst, ◌∙◌, inl, inr}
 use Rattle.pg_arena.specs.declared.player.Player.{Player}
 use Rattle.pg_arena.specs.declared.player.Player.TheVariants.{Even, Odd}
 use Rattle.pg_arena.specs.Games.{GameVertex, identifier, IsEdge, IsGame}
@@ -8,19 +8,22 @@ use Rattle.pg_text.specs.declared.solution_text.Misfit.{Misfit}
 use Rattle.pg_text.specs.declared.solution_text.Misfit.TheVariants.{NotOfGame, Repeated}
 use Rattle.pg_text.specs.Lexemes.{Lexeme, number, semicolon, Begins, Spells}
 use Rattle.pg_text.specs.GameText.{player_number}
-use Rattle.pg_text.specs.Mirrors.GameScan.{natural_at, owner_at}
+use Rattle.pg_text.specs.declared.tokens.TokenFault.{TokenFault}
+use Rattle.pg_text.specs.Mirrors.Parts.{natural_at}
+use Rattle.pg_text.specs.Mirrors.GameScan.{owner_at}
 use Rattle.pg_text.specs.SolutionText.{owns, strategy_lexemes, answer_lexemes, Fits, StartsLine, IsUnknown, IsNoMove, BeginsUnfit}
 use Rattle.pg_text.specs.Mirrors.SolutionReading.{is_seen, IsLost, IsUnmarked, IsMisfit, BeginsMisfit, BeginsWell}
-use Rattle.pg_text.proofs.Steps.{some, some_is, none, none_is_some}
+use Rattle.pg_text.proofs.Steps.{some, some_is, none, none_is_some, ok_is, err_is_ok}
 use Rattle.pg_text.proofs.Lexing.{token_again}
-use Rattle.pg_text.proofs.Takes.{natural_again, owner_again}
+use Rattle.pg_text.proofs.Parts.{natural_again}
+use Rattle.pg_text.proofs.Takes.{owner_again}
 use Rattle.pg_text.proofs.Answering.{same_vertex, unfit, unmarked_here}
 
 -- ---- tokens are read in one way only
 
 pub same_token : (bytes : List ℕ) (a b : Lexeme) (p q : List ℕ) → Begins bytes a p → Begins bytes b q → (a ≡ b) × (p ≡ q)
 same_token bytes a b p q x y =
-    let same : (let r : Lexeme × List ℕ = (a, p) in r) ≡ (b, q) = some_is (a, p) (b, q) (sym (token_again bytes a p x) ∙ token_again bytes b q y) in
+    let same : (let r : Lexeme × List ℕ = (a, p) in r) ≡ (b, q) = ok_is (a, p) (b, q) (sym (token_again bytes a p x) ∙ token_again bytes b q y) in
     (ap (λ (t : Lexeme × List ℕ). t.0) same, ap (λ (t : Lexeme × List ℕ). t.1) same)
 
 number_is : (n m : ℕ) → number n ≡ number m → n ≡ m
@@ -147,8 +150,8 @@ well_here game seen here n mid v well first within named unmarked moves = record
         (subst (λ (u : ℕ). (w : ℕ) → IsEdge game u w → identifier game w ≢ m.strategy) at m.absent)
 
 -- no winner stands there
-pub moves_unwon : (game : List GameVertex) (v : ℕ) (mid : List ℕ) → owner_at mid ≡ None → HasMove game v mid
-moves_unwon game v mid e = λ player m rest s owned absent. none_is_some _ (sym e ∙ owner_again mid player s.0 s.1)
+pub moves_unwon : (game : List GameVertex) (v : ℕ) (mid : List ℕ) (fault : TokenFault) → owner_at mid ≡ Err fault → HasMove game v mid
+moves_unwon game v mid fault e = λ player m rest s owned absent. err_is_ok fault _ (sym e ∙ owner_again mid player s.0 s.1)
 
 -- no strategy stands there
 pub moves_unnamed : (game : List GameVertex) (v : ℕ) (mid : List ℕ) (winner : Player) (after : List ℕ) → Begins mid (number (player_number winner)) after → ((n : ℕ) (rest : List ℕ) → ¬ Begins after (number n) rest) → HasMove game v mid
@@ -167,8 +170,8 @@ moves_named game v mid winner after n rest won named holds = λ player m end s o
 
 -- ---- what isn't read doesn't stand there
 
-pub unread_number : (bytes : List ℕ) → natural_at bytes ≡ None → (n : ℕ) (mid : List ℕ) → ¬ Begins bytes (number n) mid
-unread_number bytes e = λ n mid b. none_is_some (n, mid) (sym e ∙ natural_again bytes n mid b)
+pub unread_number : (bytes : List ℕ) (fault : TokenFault) → natural_at bytes ≡ Err fault → (n : ℕ) (mid : List ℕ) → ¬ Begins bytes (number n) mid
+unread_number bytes fault e = λ n mid b. err_is_ok fault (n, mid) (sym e ∙ natural_again bytes n mid b)
 
 pub not_both : (b : Bool) → b ≡ true → b ≡ false → ⊥
 not_both true e f = absurd cc

@@ -21,7 +21,7 @@ use Rattle.pg_text.specs.GameLayout.{line_text, game_text}
 use Rattle.pg_text.specs.ReadBack.{IsPrintable}
 use Rattle.pg_text.proofs.Spelling.{spells_append}
 use Rattle.pg_text.proofs.Spelt.{IsPrintableLine, number_begins, lines_spelt}
-use Rattle.pg_text.proofs.Reading.{one_text}
+use Rattle.pg_text.proofs.GameTexts.{one_text}
 
 -- ---- identifiers rise
 

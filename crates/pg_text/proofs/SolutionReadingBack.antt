@@ -15,7 +15,7 @@ use Rattle.pg_text.specs.GameText.{player_number}
 use Rattle.pg_text.specs.Solutions.{unanswered, answer_at, winner, choice, IsSolution}
 use Rattle.pg_text.specs.SolutionText.{strategy_lexemes, answer_lexemes, owns, is_same, counting_strategy, line_count, Says, AreLines, IsSolutionText}
 use Rattle.pg_text.specs.SolutionLayout.{told_at, told, printed_line, printed_lines, strategy_text, answer_text, solution_text}
-use Rattle.pg_text.proofs.Steps.{some, some_is, none}
+use Rattle.pg_text.proofs.Steps.{some, none, ok_is}
 use Rattle.pg_text.proofs.Spelling.{spells_append}
 use Rattle.pg_text.proofs.Spelt.{number_begins}
 use Rattle.pg_text.proofs.Answering.{same_vertex}
@@ -162,5 +162,5 @@ spells_told game solution well small whole = record {
 -- bytes spell one solution of a game at most
 pub spells_one : (bytes : List ℕ) (game : List GameVertex) (solution other : List Answer) → IsGame game → IsSolutionText bytes game solution → IsSolutionText bytes game other → other ≡ solution
 spells_one bytes game solution other well t u =
-    let same : t.lines ≡ u.lines = some_is t.lines u.lines (sym (answers_again bytes t.lines t.text) ∙ answers_again bytes u.lines u.text) in
+    let same : t.lines ≡ u.lines = ok_is t.lines u.lines (sym (answers_again bytes t.lines t.text) ∙ answers_again bytes u.lines u.text) in
     same_solution game u.lines other solution well u.whole.whole t.whole.whole u.said (subst (AllByRecursion (IsSaid game solution)) same t.said) u.one_each (λ line v w says is. said_edge game other line v w u.whole says is) (λ line v w says is. said_edge game solution line v w t.whole says is)

@@ -1,5 +1,5 @@
 -- A solution text read line by line.
-use Rattle.std.proofs.Common.{◌≡◌, ◌≢◌, ℕ, ◌-◌, ◌<◌, Bool, true, false, cond, eqb, List, [], ◌∷◌, ◌++◌, length, Option, Some, None, refl, sym, ap, subst, ◌∙◌, arith, inl, inr, append_assoc}
+use Rattle.std.proofs.Common.{◌≡◌, ◌≢◌, ℕ, ◌-◌, ◌<◌, Bool, true, false, cond, eqb, List, [], ◌∷◌, ◌++◌, length, Option, None, Ok, Err, refl, sym, ap, subst, ◌∙◌, arith, inl, inr, append_assoc}
 use Rattle.std.specs.Prelude.{codes, replicate}
 use Rattle.std.specs.List.{list_any, AllByRecursion}
 use Rattle.pg_arena.specs.Games.{GameVertex, identifier, IsGame}
@@ -8,21 +8,20 @@ use Rattle.pg_text.specs.declared.solution_line.SolutionLine.{SolutionLine}
 use Rattle.pg_text.specs.declared.solution_text.Misfit.{Misfit}
 use Rattle.pg_text.specs.declared.solution_text.Misfit.TheVariants.{NotOfGame, Repeated}
 use Rattle.pg_text.specs.declared.tokens.TokenFault.TheVariants as tokens
-use Rattle.pg_text.specs.declared.fault.Refusal.{Refusal}
-use Rattle.pg_text.specs.declared.fault.Refusal.TheVariants.{Memory, Token}
+use Rattle.pg_text.specs.declared.tokens.TokenFault.{TokenFault}
 use Rattle.pg_text.specs.declared.fault.TextFault.{TextFault}
 use Rattle.pg_text.specs.declared.fault.TextFault.TheVariants as text
-use Rattle.pg_text.specs.Mirrors.Refusals.{fault_of}
-use Rattle.pg_text.specs.Lexemes.{number, end, Spells, after_space}
-use Rattle.pg_text.specs.Mirrors.Steps.{◌>>=◌, Fails, Step, item, stop, items_at}
-use Rattle.pg_text.specs.Mirrors.GameScan.{clause_at}
+use Rattle.pg_text.specs.Mirrors.Refusals.{token_fault_of}
+use Rattle.pg_text.specs.Lexemes.{Lexeme, number, word, end, Begins, Spells, after_space}
+use Rattle.pg_text.specs.Mirrors.Steps.{◌>>=◌, Read, Step, item, stop, items_at}
+use Rattle.pg_text.specs.Mirrors.Parts.{clause_at}
 use Rattle.pg_text.specs.Solutions.{unanswered}
-use Rattle.pg_text.specs.SolutionText.{answer_lexemes, BeginsWithLines, AreLines, Fits, line_count, answers, IsSolutionText, has_line, StartsLine, BeginsUnfit, IsFirstMissing, IsNoText, RefusesSolution}
+use Rattle.pg_text.specs.SolutionText.{answer_lexemes, BeginsWithLines, AreLines, Fits, line_count, answers, IsSolutionText, SpellsNoSolution, has_line, StartsLine, BeginsUnfit, IsFirstMissing, IsNoText, RefusesSolution}
 use Rattle.pg_text.specs.Mirrors.SolutionScan.{next_answer_at, answers_at}
-use Rattle.pg_text.specs.Mirrors.SolutionReading.{Puts, State, IsMarked, IsUnmarked, IsMisfit, BeginsMisfit, BeginsWell, HasRead, SpellsNone, IsRefused, is_complete, misfit_fault}
-use Rattle.pg_text.proofs.Steps.{bind_some, some, some_is, none_is_some}
-use Rattle.pg_text.proofs.Items.{with_front, nothing_yet, goes_on, items_none}
-use Rattle.pg_text.proofs.Texts.{clause_absent}
+use Rattle.pg_text.specs.Mirrors.SolutionReading.{Puts, State, IsMarked, IsUnmarked, IsMisfit, BeginsMisfit, BeginsWell, HasRead, IsRefused, is_complete, misfit_fault}
+use Rattle.pg_text.proofs.Steps.{bind_ok, ok, ok_is, err_is_ok}
+use Rattle.pg_text.proofs.Items.{with_front, nothing_yet, goes_on, items_err}
+use Rattle.pg_text.proofs.Parts.{clause_absent}
 use Rattle.pg_text.proofs.Misfits.{same_token, starts_with, unfit_front, front_starts, line_front}
 use Rattle.pg_text.proofs.SolutionLines.{line_takes, line_again, end_takes, end_again, line_shrinks, header_takes, begins_more, lines_end, answers_again}
 use Rattle.pg_text.proofs.Marking.{all_at, nothing_read, reads_more, named_if, answered_is, all_answered, text_fits, read_fits, read_taken, no_line, one_too_many, reads_same, reads_text}
@@ -31,34 +30,37 @@ use Rattle.pg_text.proofs.Marking.{all_at, nothing_read, reads_more, named_if, a
 pub record Reading (bytes : List ℕ) (game : List GameVertex) (solution : List Answer) (seen : List Bool) (rest : List ℕ) : Type 0 where
   pub start : List ℕ
   pub front : List SolutionLine
-  pub header : clause_at (codes "paritysol") bytes ≡ Some start
+  pub header : Option ℕ
+  pub header_read : clause_at (codes "paritysol") bytes ≡ Ok (header, start)
   pub so_far : with_front front (items_at next_answer_at rest) ≡ items_at next_answer_at start
   pub begins : BeginsWithLines bytes front rest
   pub state : State game front solution seen
 
-pub starts : (bytes : List ℕ) (game : List GameVertex) (solution : List Answer) (seen : List Bool) (start : List ℕ) → clause_at (codes "paritysol") bytes ≡ Some start
+pub starts : (bytes : List ℕ) (game : List GameVertex) (solution : List Answer) (seen : List Bool) (header : Option ℕ) (start : List ℕ) → clause_at (codes "paritysol") bytes ≡ Ok (header, start)
     → solution ≡ replicate (length game) unanswered → seen ≡ replicate (length game) false → Reading bytes game solution seen start
-starts bytes game solution seen start header s m = record {
+starts bytes game solution seen header start read s m = record {
   start = start;
   front = [];
   header = header;
+  header_read = read;
   so_far = nothing_yet (items_at next_answer_at start);
-  begins = header_takes bytes start header;
+  begins = header_takes bytes header start read;
   state = rw (s, m) (nothing_read game);
 }
 
 pub goes : (bytes : List ℕ) (game : List GameVertex) (solution : List Answer) (seen : List Bool) (rest : List ℕ) (line : SolutionLine) (after : List ℕ) (solution' : List Answer) (seen' : List Bool)
-    → IsGame game → Reading bytes game solution seen rest → next_answer_at rest ≡ Some (item line, after) → Puts game line solution seen solution' seen' → Reading bytes game solution' seen' after
+    → IsGame game → Reading bytes game solution seen rest → next_answer_at rest ≡ Ok (item line, after) → Puts game line solution seen solution' seen' → Reading bytes game solution' seen' after
 goes bytes game solution seen rest line after solution' seen' well r e p = record {
   start = r.start;
   front = r.front ++ line ∷ [];
   header = r.header;
+  header_read = r.header_read;
   so_far = goes_on next_answer_at line_shrinks r.front rest line after (items_at next_answer_at r.start) e r.so_far;
   begins = begins_more bytes r.front rest line after r.begins (line_takes rest line after e);
   state = reads_more game r.front line solution seen solution' seen' well r.state p;
 }
 
-pub finishes : (bytes : List ℕ) (game : List GameVertex) (solution : List Answer) (seen : List Bool) (rest after : List ℕ) → Reading bytes game solution seen rest → next_answer_at rest ≡ Some (stop tt, after) → HasRead bytes game solution seen
+pub finishes : (bytes : List ℕ) (game : List GameVertex) (solution : List Answer) (seen : List Bool) (rest after : List ℕ) → Reading bytes game solution seen rest → next_answer_at rest ≡ Ok (stop tt, after) → HasRead bytes game solution seen
 finishes bytes game solution seen rest after r e = record { lines = r.front; text = lines_end bytes r.front rest after r.begins e; state = r.state }
 
 -- no line that was read has the identifier of an unmarked vertex
@@ -67,58 +69,51 @@ unnamed game lines n solution seen s unmarked = no_line game lines n (read_fits 
 
 -- ---- no text
 
-nothing_spelt : (bytes : List ℕ) (game : List GameVertex) → answers_at bytes ≡ None → SpellsNone bytes game
-nothing_spelt bytes game h = λ solution t. none_is_some t.lines (sym h ∙ answers_again bytes t.lines t.text)
+nothing_spelt : (bytes : List ℕ) (game : List GameVertex) (fault : TokenFault) → answers_at bytes ≡ Err fault → SpellsNoSolution bytes game
+nothing_spelt bytes game fault h = λ solution t. err_is_ok fault t.lines (sym h ∙ answers_again bytes t.lines t.text)
 
-refused : (bytes : List ℕ) (game : List GameVertex) (refusal : Refusal) (len : ℕ) → (refusal ≢ Memory → SpellsNone bytes game × IsNoText bytes game) → IsRefused bytes game (fault_of len refusal)
-refused bytes game Memory len h = tt
-refused bytes game (Token (tokens.Syntax left)) len h = let g = h (λ e. cc) in (g.0, inr g.1)
-refused bytes game (Token (tokens.NumberTooLarge left)) len h = h (λ e. cc)
+refused : (bytes : List ℕ) (game : List GameVertex) (fault : TokenFault) (len : ℕ) → SpellsNoSolution bytes game → IsNoText bytes game → IsRefused bytes game (token_fault_of len fault)
+refused bytes game (tokens.Syntax left) len none no_text = (none, inr no_text)
+refused bytes game (tokens.NumberTooLarge left) len none no_text = (none, no_text)
 
-not_read : {Y : Type 0} (refusal : Refusal) (read : Option Y) → Fails refusal read → refusal ≢ Memory → read ≡ None
-not_read Memory read h other = absurd (other refl)
-not_read (Token fault) read h other = h
-
-no_lines : (bytes : List ℕ) → clause_at (codes "paritysol") bytes ≡ None → answers_at bytes ≡ None
+no_lines : (bytes : List ℕ) (fault : TokenFault) → clause_at (codes "paritysol") bytes ≡ Err fault → answers_at bytes ≡ Err fault
 unfolding answers_at
-no_lines bytes e = rw e refl
+no_lines bytes fault e = rw e refl
 
-no_header_no_line : (bytes : List ℕ) (line : SolutionLine) (rest : List ℕ) → clause_at (codes "paritysol") bytes ≡ None → Spells bytes (answer_lexemes line) rest → ⊥
-no_header_no_line bytes line rest e s = none_is_some bytes (sym e ∙ clause_absent (codes "paritysol") bytes (number line.identifier) s.0 (λ e. cc) s.1)
+-- where the header can't be read no token stands
+no_header : (bytes : List ℕ) (fault : TokenFault) (token : Lexeme) (rest : List ℕ) → (token ≡ word (codes "paritysol") → ⊥) → clause_at (codes "paritysol") bytes ≡ Err fault → ¬ Begins bytes token rest
+no_header bytes fault token rest other e b = err_is_ok fault _ (sym e ∙ clause_absent (codes "paritysol") bytes token rest other b)
 
-no_header_no_end : (bytes : List ℕ) → clause_at (codes "paritysol") bytes ≡ None → Spells bytes (end ∷ []) [] → ⊥
-no_header_no_end bytes e s = none_is_some bytes (sym e ∙ clause_absent (codes "paritysol") bytes end s.0 (λ e. cc) s.1)
+pub fails_header : (bytes : List ℕ) (game : List GameVertex) (fault : TokenFault) (len : ℕ) → clause_at (codes "paritysol") bytes ≡ Err fault → IsRefused bytes game (token_fault_of len fault)
+fails_header bytes game fault len e = refused bytes game fault len (nothing_spelt bytes game fault (no_lines bytes fault e)) (record {
+  before = [];
+  here = bytes;
+  begins = record { header = None; spelt = refl };
+  taken = record { fitting = tt; single = λ v within. omega arith };
+  no_line = λ line rest s. no_header bytes fault (number line.identifier) s.0 (λ e. cc) e s.1;
+  no_end = λ s. no_header bytes fault end s.0 (λ e. cc) e s.1;
+  new = λ n s. refl;
+  no_unfit = λ n b. let s = front_starts game bytes n b in no_header bytes fault (number n) s.stands.0 (λ e. cc) e s.stands.1;
+})
 
-no_header_no_start : (bytes : List ℕ) (n : ℕ) → clause_at (codes "paritysol") bytes ≡ None → ¬ StartsLine bytes n
-no_header_no_start bytes n e s = none_is_some bytes (sym e ∙ clause_absent (codes "paritysol") bytes (number n) s.stands.0 (λ e. cc) s.stands.1)
-
-pub fails_header : (bytes : List ℕ) (game : List GameVertex) (refusal : Refusal) (len : ℕ) → Fails refusal (clause_at (codes "paritysol") bytes) → IsRefused bytes game (fault_of len refusal)
-fails_header bytes game refusal len h = refused bytes game refusal len (λ other.
-    let e = not_read refusal (clause_at (codes "paritysol") bytes) h other in (
-      nothing_spelt bytes game (no_lines bytes e),
-      record { before = []; here = bytes; begins = record { header = None; spelt = refl }; taken = record { fitting = tt; single = λ v within. omega arith }; no_line = λ line rest s. no_header_no_line bytes line rest e s; no_end = λ s. no_header_no_end bytes e s; new = λ n s. refl; no_unfit = λ n b. no_header_no_start bytes n e (front_starts game bytes n b) },
-    ))
-
-no_items : (bytes start : List ℕ) → clause_at (codes "paritysol") bytes ≡ Some start → items_at next_answer_at start ≡ None → answers_at bytes ≡ None
+no_items : (bytes : List ℕ) (header : Option ℕ) (start : List ℕ) (fault : TokenFault) → clause_at (codes "paritysol") bytes ≡ Ok (header, start) → items_at next_answer_at start ≡ Err fault → answers_at bytes ≡ Err fault
 unfolding answers_at
-no_items bytes start e h = rw (e, h) refl
+no_items bytes header start fault e h = rw (e, h) refl
 
-pub fails_line : (bytes : List ℕ) (game : List GameVertex) (solution : List Answer) (seen : List Bool) (rest : List ℕ) (refusal : Refusal) (len : ℕ) → Reading bytes game solution seen rest → Fails refusal (next_answer_at rest) → BeginsWell game seen rest → IsRefused bytes game (fault_of len refusal)
-fails_line bytes game solution seen rest refusal len r h well = refused bytes game refusal len (λ other.
-    let e = not_read refusal (next_answer_at rest) h other in
-    let unread = no_items bytes r.start r.header (sym r.so_far ∙ ap (with_front r.front) (items_none next_answer_at rest e)) in (
-      nothing_spelt bytes game unread,
-      record {
-        before = r.front;
-        here = rest;
-        begins = r.begins;
-        taken = read_taken game r.front solution seen r.state;
-        no_line = λ line after s. none_is_some _ (sym e ∙ line_again rest line after s);
-        no_end = λ s. none_is_some _ (sym e ∙ end_again rest s.0 s.1);
-        new = λ n s. unnamed game r.front n solution seen r.state (well.fresh n s);
-        no_unfit = well.no_unfit;
-      },
-    ))
+unread : (bytes : List ℕ) (game : List GameVertex) (solution : List Answer) (seen : List Bool) (rest : List ℕ) (fault : TokenFault) → Reading bytes game solution seen rest → next_answer_at rest ≡ Err fault → answers_at bytes ≡ Err fault
+unread bytes game solution seen rest fault r e = no_items bytes r.header r.start fault r.header_read (sym r.so_far ∙ ap (with_front r.front) (items_err next_answer_at rest fault e))
+
+pub fails_line : (bytes : List ℕ) (game : List GameVertex) (solution : List Answer) (seen : List Bool) (rest : List ℕ) (fault : TokenFault) (len : ℕ) → Reading bytes game solution seen rest → next_answer_at rest ≡ Err fault → BeginsWell game seen rest → IsRefused bytes game (token_fault_of len fault)
+fails_line bytes game solution seen rest fault len r e well = refused bytes game fault len (nothing_spelt bytes game fault (unread bytes game solution seen rest fault r e)) (record {
+  before = r.front;
+  here = rest;
+  begins = r.begins;
+  taken = read_taken game r.front solution seen r.state;
+  no_line = λ line after s. err_is_ok fault _ (sym e ∙ line_again rest line after s);
+  no_end = λ s. err_is_ok fault _ (sym e ∙ end_again rest s.0 s.1);
+  new = λ n s. unnamed game r.front n solution seen r.state (well.fresh n s);
+  no_unfit = well.no_unfit;
+})
 
 -- ---- a line that doesn't fit
 
@@ -127,36 +122,36 @@ Lines = List SolutionLine × Unit {0} × List ℕ
 
 -- the lines of a text that begins so
 text_lines : (bytes : List ℕ) (game : List GameVertex) (solution : List Answer) (seen : List Bool) (rest : List ℕ) (line : SolutionLine) (after : List ℕ) (lines : List SolutionLine)
-    → (r : Reading bytes game solution seen rest) → next_answer_at rest ≡ Some (item line, after) → AreLines bytes lines → (later : List SolutionLine) × (lines ≡ r.front ++ line ∷ later)
+    → (r : Reading bytes game solution seen rest) → next_answer_at rest ≡ Ok (item line, after) → AreLines bytes lines → (later : List SolutionLine) × (lines ≡ r.front ++ line ∷ later)
 unfolding answers_at
 text_lines bytes game solution seen rest line after lines r e spelt =
     let total : with_front (r.front ++ line ∷ []) (items_at next_answer_at after) ≡ items_at next_answer_at r.start = goes_on next_answer_at line_shrinks r.front rest line after (items_at next_answer_at r.start) e r.so_far in
-    let a = bind_some (clause_at (codes "paritysol") bytes) (λ start. items_at next_answer_at start >>= λ x. some x.0) lines (answers_again bytes lines spelt) in
-    let start : a.0 ≡ r.start = some_is a.0 r.start (sym a.1 ∙ r.header) in
-    let b = bind_some (items_at next_answer_at a.0) (λ x. some x.0) lines a.2 in
-    let g = bind_some (items_at next_answer_at after) (λ x. some ((r.front ++ line ∷ []) ++ x.0, x.1, x.2)) b.0 (total ∙ ap (items_at next_answer_at) (sym start) ∙ b.1) in
+    let a = bind_ok (clause_at (codes "paritysol") bytes) (λ header. items_at next_answer_at header.1 >>= λ x. ok x.0) lines (answers_again bytes lines spelt) in
+    let start : a.0.1 ≡ r.start = ap (λ (p : Option ℕ × List ℕ). p.1) (ok_is a.0 (r.header, r.start) (sym a.1 ∙ r.header_read)) in
+    let b = bind_ok (items_at next_answer_at a.0.1) (λ x. ok x.0) lines a.2 in
+    let g = bind_ok (items_at next_answer_at after) (λ x. ok ((r.front ++ line ∷ []) ++ x.0, x.1, x.2)) b.0 (total ∙ ap (items_at next_answer_at) (sym start) ∙ b.1) in
     let whole : lines ≡ r.front ++ line ∷ g.0.0 =
-    sym (some_is b.0.0 lines b.2) ∙ sym (ap (λ (p : Lines). p.0) (some_is ((r.front ++ line ∷ []) ++ g.0.0, g.0.1, g.0.2) b.0 g.2)) ∙ append_assoc r.front (line ∷ []) g.0.0 in
+    sym (ok_is b.0.0 lines b.2) ∙ sym (ap (λ (p : Lines). p.0) (ok_is ((r.front ++ line ∷ []) ++ g.0.0, g.0.1, g.0.2) b.0 g.2)) ∙ append_assoc r.front (line ∷ []) g.0.0 in
     (g.0.0, whole)
 
 -- what begins with a number is a line, in a text
 record LineThere (rest : List ℕ) : Type 0 where
   line : SolutionLine
   after : List ℕ
-  read : next_answer_at rest ≡ Some (item line, after)
+  read : next_answer_at rest ≡ Ok (item line, after)
 
 line_there : (bytes : List ℕ) (game : List GameVertex) (solution : List Answer) (seen : List Bool) (rest : List ℕ) (n : ℕ) (lines : List SolutionLine)
     → Reading bytes game solution seen rest → StartsLine rest n → AreLines bytes lines → LineThere rest
 line_there bytes game solution seen rest n lines r s spelt = there (next_answer_at rest) refl
   where
-    there : (o : Option (Step SolutionLine (Unit {0}) × List ℕ)) → next_answer_at rest ≡ o → LineThere rest
-    there None e = absurd (none_is_some lines (sym (no_items bytes r.start r.header (sym r.so_far ∙ ap (with_front r.front) (items_none next_answer_at rest e))) ∙ answers_again bytes lines spelt))
-    there (Some (item line, after)) e = record { line = line; after = after; read = e }
-    there (Some (stop t, after)) e = absurd (let same : end ≡ number n = (same_token rest end (number n) after s.stands.0 (end_takes rest t after e) s.stands.1).0 in cc)
+    there : (o : Read (Step SolutionLine (Unit {0}) × List ℕ)) → next_answer_at rest ≡ o → LineThere rest
+    there (Err fault) e = absurd (err_is_ok fault lines (sym (unread bytes game solution seen rest fault r e) ∙ answers_again bytes lines spelt))
+    there (Ok (item line, after)) e = record { line = line; after = after; read = e }
+    there (Ok (stop t, after)) e = absurd (let same : end ≡ number n = (same_token rest end (number n) after s.stands.0 (end_takes rest t after e) s.stands.1).0 in cc)
 
 -- a line of a text fits
 unfit_spoils : (bytes : List ℕ) (game : List GameVertex) (solution : List Answer) (seen : List Bool) (rest : List ℕ) (n : ℕ)
-    → IsGame game → Reading bytes game solution seen rest → BeginsUnfit game rest n → SpellsNone bytes game
+    → IsGame game → Reading bytes game solution seen rest → BeginsUnfit game rest n → SpellsNoSolution bytes game
 unfit_spoils bytes game solution seen rest n well r misfit = λ other t.
     let there = line_there bytes game solution seen rest n t.lines r (front_starts game rest n misfit) t.text in
     let l = text_lines bytes game solution seen rest there.line there.after t.lines r there.read t.text in
@@ -165,7 +160,7 @@ unfit_spoils bytes game solution seen rest n well r misfit = λ other t.
 
 -- no two lines of a text name one vertex
 second_spoils : (bytes : List ℕ) (game : List GameVertex) (solution : List Answer) (seen : List Bool) (rest : List ℕ) (n : ℕ)
-    → Reading bytes game solution seen rest → StartsLine rest n → IsMarked game n seen → SpellsNone bytes game
+    → Reading bytes game solution seen rest → StartsLine rest n → IsMarked game n seen → SpellsNoSolution bytes game
 second_spoils bytes game solution seen rest n r s m = λ other t.
     let there = line_there bytes game solution seen rest n t.lines r s t.text in
     let l = text_lines bytes game solution seen rest there.line there.after t.lines r there.read t.text in
@@ -200,7 +195,7 @@ fails_front bytes game solution seen rest n Repeated well r m = (
 )
 
 pub fails_misfit : (bytes : List ℕ) (game : List GameVertex) (solution : List Answer) (seen : List Bool) (rest : List ℕ) (line : SolutionLine) (after : List ℕ) (misfit : Misfit)
-    → IsGame game → Reading bytes game solution seen rest → next_answer_at rest ≡ Some (item line, after) → IsMisfit game line seen misfit → IsRefused bytes game (misfit_fault misfit line.identifier (length bytes - length (after_space rest)))
+    → IsGame game → Reading bytes game solution seen rest → next_answer_at rest ≡ Ok (item line, after) → IsMisfit game line seen misfit → IsRefused bytes game (misfit_fault misfit line.identifier (length bytes - length (after_space rest)))
 fails_misfit bytes game solution seen rest line after misfit well r e m = fails_front bytes game solution seen rest line.identifier misfit well r (line_front game seen rest line after misfit (line_takes rest line after e) m)
 
 -- ---- the end
@@ -210,15 +205,15 @@ found bytes game solution seen h complete = reads_text bytes game h.lines soluti
 
 pub found_only : (bytes : List ℕ) (game : List GameVertex) (solution : List Answer) (seen : List Bool) (spelt : List Answer) → IsGame game → HasRead bytes game solution seen → IsSolutionText bytes game spelt → solution ≡ spelt
 found_only bytes game solution seen spelt well h t =
-    let same : h.lines ≡ t.lines = some_is h.lines t.lines (sym (answers_again bytes h.lines h.text) ∙ answers_again bytes t.lines t.text) in
+    let same : h.lines ≡ t.lines = ok_is h.lines t.lines (sym (answers_again bytes h.lines h.text) ∙ answers_again bytes t.lines t.text) in
     reads_same bytes game solution seen spelt well t (subst (λ (lines : List SolutionLine). State game lines solution seen) same h.state)
 
 pub missing : (bytes : List ℕ) (game : List GameVertex) (solution : List Answer) (seen : List Bool) (v : ℕ) → IsGame game → HasRead bytes game solution seen → v < length game → is_complete game solution seen v ≡ false
-    → ((u : ℕ) → u < v → is_complete game solution seen u ≡ true) → SpellsNone bytes game × IsFirstMissing bytes game (identifier game v)
+    → ((u : ℕ) → u < v → is_complete game solution seen u ≡ true) → SpellsNoSolution bytes game × IsFirstMissing bytes game (identifier game v)
 missing bytes game solution seen v well h within lacks first =
     let unanswered : list_any (answers game v) h.lines ≡ false = answered_is game h.lines solution seen v well within h.state ∙ lacks in (
       λ other t.
-          let same : h.lines ≡ t.lines = some_is h.lines t.lines (sym (answers_again bytes h.lines h.text) ∙ answers_again bytes t.lines t.text) in
+          let same : h.lines ≡ t.lines = ok_is h.lines t.lines (sym (answers_again bytes h.lines h.text) ∙ answers_again bytes t.lines t.text) in
           let yet : list_any (answers game v) h.lines ≡ true = ap (λ (lines : List SolutionLine). list_any (answers game v) lines) same ∙ all_answered bytes game other v well within t in
           absurd (differ (list_any (answers game v) h.lines) yet unanswered),
       record {
@@ -247,11 +242,11 @@ refused_only bytes game (text.NotOfGame n) spelt h t = absurd (h.0 spelt t)
 refused_only bytes game (text.Missing n) spelt h t = absurd (h.0 spelt t)
 refused_only bytes game text.Write spelt h t = absurd (h.0 spelt t)
 
-pub refused_why : (bytes : List ℕ) (game : List GameVertex) (fault : TextFault) → IsRefused bytes game fault → RefusesSolution bytes game fault
-refused_why bytes game text.OutOfMemory h = tt
-refused_why bytes game (text.Syntax n) h = h.1
-refused_why bytes game (text.NumberTooLarge n) h = h.1
-refused_why bytes game (text.Arena f) h = h.1
-refused_why bytes game (text.NotOfGame n) h = h.1
-refused_why bytes game (text.Missing n) h = h.1
-refused_why bytes game text.Write h = h.1
+pub refused_why : (bytes : List ℕ) (game : List GameVertex) (fault : TextFault) → IsRefused bytes game fault → fault ≢ text.OutOfMemory → RefusesSolution bytes game fault
+refused_why bytes game text.OutOfMemory h other = absurd (other refl)
+refused_why bytes game (text.Syntax n) h other = h.1
+refused_why bytes game (text.NumberTooLarge n) h other = h.1
+refused_why bytes game (text.Arena f) h other = h.1
+refused_why bytes game (text.NotOfGame n) h other = h.1
+refused_why bytes game (text.Missing n) h other = h.1
+refused_why bytes game text.Write h other = h.1

@@ -1,10 +1,10 @@
 -- Tokens one after another.
-use Rattle.std.proofs.Common.{◌≡◌, ℕ, zero, suc, ◌≤◌, ◌<◌, List, [], ◌∷◌, ◌++◌, length, Option, Some, refl, sym, ap, subst, ◌∙◌, arith}
+use Rattle.std.proofs.Common.{◌≡◌, ℕ, zero, suc, ◌≤◌, ◌<◌, List, [], ◌∷◌, ◌++◌, length, Ok, refl, sym, ap, subst, ◌∙◌, arith}
 use Rattle.std.specs.List.{flat_map, AllByRecursion}
 use Rattle.std.proofs.lemmas.List.{length-append}
 use Rattle.pg_text.specs.Lexemes.{Lexeme, number, word, semicolon, comma, quoted, end, Begins, Spells, IsSpelt}
-use Rattle.pg_text.specs.Mirrors.Steps.{Step, item, stop, after_step, items_within, items_at}
-use Rattle.pg_text.proofs.Steps.{bind_some, some_is}
+use Rattle.pg_text.specs.Mirrors.Steps.{Read, Step, item, stop, after_step, items_within, items_at}
+use Rattle.pg_text.proofs.Steps.{bind_ok, ok_is}
 use Rattle.pg_text.proofs.Items.{Shrinks, items_end, items_more}
 
 pub spells_append : (xs ys : List Lexeme) (bytes mid rest : List ℕ) → Spells bytes xs mid → Spells mid ys rest → Spells bytes (xs ++ ys) rest
@@ -40,36 +40,36 @@ spells_within [] bytes rest p = omega (arith, ap length p)
 spells_within (t ∷ ts) bytes rest p = omega (arith, begins_within bytes t (p.0) (p.1), spells_within ts (p.0) rest (p.2))
 
 -- a step whose items are spelt by their tokens
-pub record IsExact {A E : Type 0} (step : List ℕ → Option (Step A E × List ℕ)) (lexemes : A → List Lexeme) (P : A → Type 0) : Type 0 where
-  pub takes : (bytes : List ℕ) (x : A) (rest : List ℕ) → step bytes ≡ Some (item x, rest) → Spells bytes (lexemes x) rest × P x
-  pub again : (bytes : List ℕ) (x : A) (rest : List ℕ) → P x → Spells bytes (lexemes x) rest → step bytes ≡ Some (item x, rest)
+pub record IsExact {A E : Type 0} (step : List ℕ → Read (Step A E × List ℕ)) (lexemes : A → List Lexeme) (P : A → Type 0) : Type 0 where
+  pub takes : (bytes : List ℕ) (x : A) (rest : List ℕ) → step bytes ≡ Ok (item x, rest) → Spells bytes (lexemes x) rest × P x
+  pub again : (bytes : List ℕ) (x : A) (rest : List ℕ) → P x → Spells bytes (lexemes x) rest → step bytes ≡ Ok (item x, rest)
 
-abbrev Taken : {A E : Type 0} → (List ℕ → Option (Step A E × List ℕ)) → (A → List Lexeme) → (A → Type 0) → List ℕ → List A × E × List ℕ → Type 0
-Taken step lexemes P bytes y = (mid : List ℕ) × Spells bytes (flat_map lexemes (y.0)) mid × (step mid ≡ Some (stop (y.1), y.2)) × AllByRecursion P (y.0)
+abbrev Taken : {A E : Type 0} → (List ℕ → Read (Step A E × List ℕ)) → (A → List Lexeme) → (A → Type 0) → List ℕ → List A × E × List ℕ → Type 0
+Taken step lexemes P bytes y = (mid : List ℕ) × Spells bytes (flat_map lexemes (y.0)) mid × (step mid ≡ Ok (stop (y.1), y.2)) × AllByRecursion P (y.0)
 
-within_take : {A E : Type 0} (step : List ℕ → Option (Step A E × List ℕ)) (lexemes : A → List Lexeme) (P : A → Type 0) → IsExact step lexemes P → (n : ℕ) (bytes : List ℕ) (y : List A × E × List ℕ) → items_within step n bytes ≡ Some y → Taken step lexemes P bytes y
+within_take : {A E : Type 0} (step : List ℕ → Read (Step A E × List ℕ)) (lexemes : A → List Lexeme) (P : A → Type 0) → IsExact step lexemes P → (n : ℕ) (bytes : List ℕ) (y : List A × E × List ℕ) → items_within step n bytes ≡ Ok y → Taken step lexemes P bytes y
 unfolding items_within
 within_take step lexemes P exact zero bytes y e = absurd cc
 within_take {A} {E} step lexemes P exact (suc n) bytes y e =
-    let b = bind_some (step bytes) (after_step (items_within step n)) y e in
-    let go : (o : Step A E) (rest : List ℕ) → step bytes ≡ Some (o, rest) → after_step (items_within step n) (o, rest) ≡ Some y → Taken step lexemes P bytes y
-    = λ o rest. elim o as (λ o. step bytes ≡ Some (o, rest) → after_step (items_within step n) (o, rest) ≡ Some y → Taken step lexemes P bytes y) [
-      | stop z ↦ λ h k. subst (Taken step lexemes P bytes) (some_is ([], z, rest) y k) (bytes, refl, h, tt)
+    let b = bind_ok (step bytes) (after_step (items_within step n)) y e in
+    let go : (o : Step A E) (rest : List ℕ) → step bytes ≡ Ok (o, rest) → after_step (items_within step n) (o, rest) ≡ Ok y → Taken step lexemes P bytes y
+    = λ o rest. elim o as (λ o. step bytes ≡ Ok (o, rest) → after_step (items_within step n) (o, rest) ≡ Ok y → Taken step lexemes P bytes y) [
+      | stop z ↦ λ h k. subst (Taken step lexemes P bytes) (ok_is ([], z, rest) y k) (bytes, refl, h, tt)
       | item x ↦ λ h k.
-          let c = bind_some (items_within step n rest) (λ others. Some (x ∷ others.0, others.1, others.2)) y k in
+          let c = bind_ok (items_within step n rest) (λ others. Ok (x ∷ others.0, others.1, others.2)) y k in
           let first = exact.takes bytes x rest h in
           let later = within_take step lexemes P exact n rest (c.0) (c.1) in
-          subst (Taken step lexemes P bytes) (some_is (x ∷ c.0.0, c.0.1, c.0.2) y (c.2))
+          subst (Taken step lexemes P bytes) (ok_is (x ∷ c.0.0, c.0.1, c.0.2) y (c.2))
           (later.0, spells_append (lexemes x) (flat_map lexemes (c.0.0)) bytes rest (later.0) (first.0) (later.1), later.2, (first.1, later.3))
     ] in
     go (b.0.0) (b.0.1) (b.1) (b.2)
 
-pub items_take : {A E : Type 0} (step : List ℕ → Option (Step A E × List ℕ)) (lexemes : A → List Lexeme) (P : A → Type 0) → IsExact step lexemes P → (bytes : List ℕ) (y : List A × E × List ℕ) → items_at step bytes ≡ Some y
-    → (mid : List ℕ) × Spells bytes (flat_map lexemes (y.0)) mid × (step mid ≡ Some (stop (y.1), y.2)) × AllByRecursion P (y.0)
+pub items_take : {A E : Type 0} (step : List ℕ → Read (Step A E × List ℕ)) (lexemes : A → List Lexeme) (P : A → Type 0) → IsExact step lexemes P → (bytes : List ℕ) (y : List A × E × List ℕ) → items_at step bytes ≡ Ok y
+    → (mid : List ℕ) × Spells bytes (flat_map lexemes (y.0)) mid × (step mid ≡ Ok (stop (y.1), y.2)) × AllByRecursion P (y.0)
 unfolding items_at
 items_take step lexemes P exact bytes y e = within_take step lexemes P exact (suc (length bytes)) bytes y e
 
-pub items_again : {A E : Type 0} (step : List ℕ → Option (Step A E × List ℕ)) (lexemes : A → List Lexeme) (P : A → Type 0) → IsExact step lexemes P → Shrinks step → (items : List A) (bytes mid : List ℕ) (z : E) (rest : List ℕ) → AllByRecursion P items → Spells bytes (flat_map lexemes items) mid → step mid ≡ Some (stop z, rest) → items_at step bytes ≡ Some (items, z, rest)
+pub items_again : {A E : Type 0} (step : List ℕ → Read (Step A E × List ℕ)) (lexemes : A → List Lexeme) (P : A → Type 0) → IsExact step lexemes P → Shrinks step → (items : List A) (bytes mid : List ℕ) (z : E) (rest : List ℕ) → AllByRecursion P items → Spells bytes (flat_map lexemes items) mid → step mid ≡ Ok (stop z, rest) → items_at step bytes ≡ Ok (items, z, rest)
 items_again step lexemes P exact shrinks [] bytes mid z rest each s e = items_end step bytes z rest (ap step s ∙ e)
 items_again step lexemes P exact shrinks (x ∷ items) bytes mid z rest each s e =
     let parts = spells_parts (lexemes x) (flat_map lexemes items) bytes mid s in

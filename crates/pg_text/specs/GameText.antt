@@ -5,9 +5,10 @@ use Rattle.pg_arena.specs.declared.player.Player.{Player}
 use Rattle.pg_arena.specs.declared.player.Player.TheVariants.{Even, Odd}
 use Rattle.pg_arena.specs.Games.{GameVertex}
 use Rattle.pg_arena.specs.declared.fault.ArenaFault.{ArenaFault}
+use Rattle.pg_arena.specs.declared.fault.ArenaFault.TheVariants as arena
 use Rattle.pg_arena.specs.Lines.{Line, counted, Accepts, IsGameOf, add_fault, FinishFails}
 use Rattle.pg_text.specs.declared.fault.TextFault.{TextFault}
-use Rattle.pg_text.specs.declared.fault.TextFault.TheVariants.{OutOfMemory, Syntax, NumberTooLarge, Arena}
+use Rattle.pg_text.specs.declared.fault.TextFault.TheVariants.{Syntax, NumberTooLarge, Arena}
 use Rattle.pg_text.specs.Lexemes.{Lexeme, number, semicolon, quoted, end, clause_lexemes, Spells}
 use Rattle.pg_text.specs.Numbers.{numbers_lexemes}
 
@@ -44,6 +45,10 @@ pub record IsGameText (bytes : List ℕ) (game : List GameVertex) : Type 0 where
   pub limits : Accepts [] lines
   pub game_of : IsGameOf (map counted lines) game
 
+-- no game is spelt
+abbrev pub SpellsNoGame : List ℕ → Type 0
+SpellsNoGame bytes = (game : List GameVertex) → ¬ IsGameText bytes game
+
 -- The text begins with these lines, which keep the limits, and then a line that may not follow them.
 pub record HasBadLine (bytes : List ℕ) (fault : ArenaFault) : Type 0 where
   pub header : Option ℕ
@@ -52,6 +57,7 @@ pub record HasBadLine (bytes : List ℕ) (fault : ArenaFault) : Type 0 where
   pub line : Line
   pub rest : List ℕ
   pub spelt : Spells bytes (game_lexemes header start lines (line_lexemes line)) rest
+  pub successors : line.successors ≢ []
   pub limits : Accepts [] lines
   pub refused : add_fault (map counted lines) (counted line) ≡ Some fault
 
@@ -62,10 +68,10 @@ pub record HasNoGame (bytes : List ℕ) (fault : ArenaFault) : Type 0 where
   pub limits : Accepts [] lines
   pub refused : FinishFails (map counted lines) fault
 
--- why the bytes are refused
+-- why the bytes are refused, want of memory aside
 abbrev pub Refuses : List ℕ → TextFault → Type 0
-Refuses bytes OutOfMemory = Unit {0}
 Refuses bytes (Syntax offset) = (lines : List Line) → IsText bytes lines → ⊥
 Refuses bytes (NumberTooLarge offset) = (lines : List Line) → IsText bytes lines → ⊥
+Refuses bytes (Arena arena.OutOfMemory) = ⊥
 Refuses bytes (Arena fault) = HasBadLine bytes fault ⊎ HasNoGame bytes fault
 Refuses bytes _ = ⊥

@@ -91,3 +91,8 @@ fault_at (b ∷ bytes) = if is_digit b then NumberTooLarge (length (b ∷ bytes)
 -- why no token begins; the fault is told at the token's first byte, by how many bytes are left from there
 abbrev pub token_fault : List ℕ → TokenFault
 token_fault bytes = fault_at (after_space bytes)
+
+-- how many bytes are left from the token at fault on
+abbrev pub left_of : TokenFault → ℕ
+left_of (Syntax left) = left
+left_of (NumberTooLarge left) = left

@@ -7,4 +7,6 @@ pub mod ReadBack
 pub mod SolutionText
 pub mod SolutionLayout
 pub mod SolutionReadBack
+pub mod FaultTexts
+pub mod OneSpelling
 pub mod Mirrors

@@ -1,7 +1,8 @@
 -- What mirrors code: contracts of private functions cite it, and no definition that a reader has to believe does.
-pub mod Scan
-pub mod Refusals
 pub mod Steps
+pub mod Scan
+pub mod Parts
+pub mod Refusals
 pub mod GameScan
 pub mod Building
 pub mod SolutionScan

@@ -7,7 +7,7 @@ use Rattle.pg_arena.specs.Games.{GameVertex, identifier, owner, IsEdge}
 use Rattle.pg_text.specs.declared.answer.Answer.{Answer}
 use Rattle.pg_text.specs.declared.solution_line.SolutionLine.{SolutionLine}
 use Rattle.pg_text.specs.declared.fault.TextFault.{TextFault}
-use Rattle.pg_text.specs.declared.fault.TextFault.TheVariants.{OutOfMemory, Syntax, NumberTooLarge, NotOfGame, Missing}
+use Rattle.pg_text.specs.declared.fault.TextFault.TheVariants.{Syntax, NumberTooLarge, NotOfGame, Missing}
 use Rattle.pg_text.specs.Solutions.{winner, choice, IsSolution}
 use Rattle.pg_text.specs.Lexemes.{Lexeme, number, semicolon, end, Spells, after_space, clause_lexemes}
 use Rattle.pg_text.specs.GameText.{player_number}
@@ -74,6 +74,10 @@ pub record IsSolutionText (bytes : List ℕ) (game : List GameVertex) (solution 
   pub one_each : (v : ℕ) → v < length game → line_count game lines v ≡ 1
   pub said : AllByRecursion (λ line. (v : ℕ) × Says game solution line v) lines
   pub whole : IsSolution game solution
+
+-- no solution of the game is spelt
+abbrev pub SpellsNoSolution : List ℕ → List GameVertex → Type 0
+SpellsNoSolution bytes game = (solution : List Answer) → ¬ IsSolutionText bytes game solution
 
 -- ---- why bytes spell no solution
 
@@ -168,9 +172,8 @@ pub record IsNoText (bytes : List ℕ) (game : List GameVertex) : Type 0 where
   pub new : (n : ℕ) → StartsLine here n → has_line before n ≡ false
   pub no_unfit : (n : ℕ) → ¬ BeginsUnfit game here n
 
--- why the bytes are refused
+-- why the bytes are refused, want of memory aside
 abbrev pub RefusesSolution : List ℕ → List GameVertex → TextFault → Type 0
-RefusesSolution bytes game OutOfMemory = Unit {0}
 RefusesSolution bytes game (Syntax offset) = IsSecond bytes game offset ⊎ IsNoText bytes game
 RefusesSolution bytes game (NumberTooLarge offset) = IsNoText bytes game
 RefusesSolution bytes game (NotOfGame n) = IsNotOfGame bytes game n

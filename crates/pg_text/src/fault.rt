@@ -1,44 +1,56 @@
 //! Why a text is refused.
 
-ghost use Rattle.std.specs.Prelude.{◌≡◌, length};
-ghost use Rattle.pg_text.specs.declared.fault.Refusal.TheVariants.{Memory, Token};
-ghost use Rattle.pg_text.specs.declared.tokens.TokenFault.TheVariants.{Syntax};
+ghost use Rattle.std.specs.Prelude.{◌≡◌};
 ghost use Rattle.pg_text.specs.declared.fault.TextFault.TheVariants.{OutOfMemory, Write};
-ghost use Rattle.pg_text.specs.Lexemes.{after_space};
-ghost use Rattle.pg_text.specs.Mirrors.Refusals.{arena_fault, fault_of};
+ghost use Rattle.pg_text.specs.Mirrors.Refusals.{arena_fault, token_fault_of, fault_of};
 
-use crate::tokens::{TokenFault, left_at};
+use crate::reading::Refusal;
+use crate::tokens::TokenFault;
 use pg_arena::ArenaFault;
-use std::alloc::{AllocError, AllocFailed};
-use std::io;
-use thiserror::Error;
+use std::alloc::AllocError;
+use std::error::Error;
+use std::{fmt, io};
 
 /// Why a text is refused or not written. Offsets count bytes from 0 and name the first byte of the token at fault;
 /// at the end of the text they are its length. The other numbers are identifiers.
-#[derive(Clone, Copy, Debug, PartialEq, Eq, Error)]
+#[derive(Clone, Copy, Debug, PartialEq, Eq)]
 pub enum TextFault {
     /// A growth was refused.
-    #[error("out of memory")]
     OutOfMemory,
     /// No token begins at this offset, or the string there has no second quote, or another token has to stand there.
-    #[error("syntax error at byte {0}")]
     Syntax(usize),
     /// The number at this offset is over 4,294,967,295.
-    #[error("number too large at byte {0}")]
     NumberTooLarge(usize),
     /// The lines make no game; never `OutOfMemory`.
-    #[error(transparent)]
     Arena(ArenaFault),
     /// The line of a solution with this identifier names no vertex of the game, or a strategy that is no successor.
-    #[error("line of vertex {0} does not fit the game")]
     NotOfGame(u32),
     /// The solution has no line for the vertex with this identifier, or no strategy where the winner owns it.
-    #[error("vertex {0} has no answer")]
     Missing(u32),
     /// The writer failed. Nothing is known of how much went out.
-    #[error("cannot write the output")]
     Write,
 }
+
+impl fmt::Display for TextFault {
+    ghost use Rattle.std.specs.Prelude.{Some};
+    ghost use Rattle.pg_text.specs.FaultTexts.{fault_text};
+
+    ghost output = { λ fault. Some (fault_text fault) };
+
+    fn fmt<W: fmt::Write>(&self, f: &mut fmt::Formatter<W>) -> fmt::Result {
+        match self {
+            TextFault::OutOfMemory => f.write_str("out of memory"),
+            TextFault::Syntax(offset) => write!(f, "syntax error at byte {offset}"),
+            TextFault::NumberTooLarge(offset) => write!(f, "number too large at byte {offset}"),
+            TextFault::Arena(fault) => write!(f, "{fault}"),
+            TextFault::NotOfGame(id) => write!(f, "line of vertex {id} does not fit the game"),
+            TextFault::Missing(id) => write!(f, "vertex {id} has no answer"),
+            TextFault::Write => f.write_str("cannot write the output"),
+        }
+    }
+}
+
+impl Error for TextFault {}
 
 impl From<ArenaFault> for TextFault {
     ghost from_gives = { λ fault e. e ≡ arena_fault fault };
@@ -67,13 +79,16 @@ impl From<io::Error> for TextFault {
     }
 }
 
-/// Why a part of a text is refused.
-#[derive(Clone, Copy, Debug, PartialEq, Eq)]
-pub(crate) enum Refusal {
-    /// A growth was refused.
-    Memory,
-    /// No token, or not this one, may stand there.
-    Token(TokenFault),
+impl TokenFault {
+    /// The fault in a text of this many bytes.
+    pub(crate) fn in_text(self, len: usize) -> TextFault
+        ensures { result ≡ token_fault_of len self }
+    {
+        match self {
+            TokenFault::Syntax(_) => TextFault::Syntax(self.offset_in(len)),
+            TokenFault::NumberTooLarge(_) => TextFault::NumberTooLarge(self.offset_in(len)),
+        }
+    }
 }
 
 impl Refusal {
@@ -83,43 +98,7 @@ impl Refusal {
     {
         match self {
             Refusal::Memory => TextFault::OutOfMemory,
-            Refusal::Token(TokenFault::Syntax(left)) => {
-                TextFault::Syntax(len.saturating_sub(left))
-            }
-            Refusal::Token(TokenFault::NumberTooLarge(left)) => {
-                TextFault::NumberTooLarge(len.saturating_sub(left))
-            }
+            Refusal::Token(fault) => fault.in_text(len),
         }
-    }
-}
-
-/// Refuses the next token, where another one has to stand.
-pub(crate) fn unexpected(bytes: &[u8]) -> Refusal
-    ensures { result ≡ Token (Syntax (length (after_space bytes.now))) }
-{
-    Refusal::Token(TokenFault::Syntax(left_at(bytes)))
-}
-
-impl From<TokenFault> for Refusal {
-    ghost from_gives = { λ fault e. e ≡ Token fault };
-
-    fn from(fault: TokenFault) -> Refusal {
-        Refusal::Token(fault)
-    }
-}
-
-impl From<AllocError> for Refusal {
-    ghost from_gives = { λ _ e. e ≡ Memory };
-
-    fn from(_e: AllocError) -> Refusal {
-        Refusal::Memory
-    }
-}
-
-impl<T: Drop> From<AllocFailed<T>> for Refusal {
-    ghost from_gives = { λ _ e. e ≡ Memory };
-
-    fn from(_e: AllocFailed<T>) -> Refusal {
-        Refusal::Memory
     }
 }

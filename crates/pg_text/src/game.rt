@@ -1,6 +1,6 @@
 //! Games from text.
 
-ghost use Rattle.std.specs.Prelude.{◌≡◌, List, IfOk, IfErr, MatchResult};
+ghost use Rattle.std.specs.Prelude.{◌≡◌, ◌≢◌, List, IfOk, IfErr, MatchResult};
 ghost use Rattle.pg_arena.specs.Games.{GameVertex, HasPrioritiesUpTo};
 ghost use Rattle.pg_text.specs.GameText.{IsGameText, Refuses};
 ghost use Rattle.pg_text.specs.Mirrors.Building.{BuildsLines};
@@ -18,7 +18,7 @@ fn builder_of(alloc: Global, bytes: &[u8]) -> Result<GameBuilder, TextFault>
     let mut successors = Vec::new(alloc);
     let mut rest = match body(bytes) {
         Ok(rest) => rest,
-        Err(refusal) => return Err(refusal.in_text(bytes.len())),
+        Err(fault) => return Err(fault.in_text(bytes.len())),
     };
     'lines: loop {
         match item(&mut successors, rest) {
@@ -51,7 +51,7 @@ pub fn read_game(alloc: Global, bytes: &[u8]) -> Result<Game, TextFault>
     ensures only { (game : List GameVertex) → IsGameText bytes.now game
         → MatchResult result (λ found. found ≡ game) (λ fault. fault ≡ TextFault.OutOfMemory) }
     ensures priorities { IfOk result (HasPrioritiesUpTo 65535) }
-    ensures refused { IfErr result (Refuses bytes.now) }
+    ensures refused { IfErr result (λ fault. fault ≢ TextFault.OutOfMemory → Refuses bytes.now fault) }
 {
     Ok(builder_of(alloc, bytes)?.finish()?)
 }

@@ -1,5 +1,6 @@
 //! Laws of the definitions: functions that do nothing, whose contracts state them.
 
+ghost use Rattle.pg_text.specs.OneSpelling.{SpellsOneGame, SpellsOneSolution};
 ghost use Rattle.pg_text.specs.ReadBack.{GameReadsBack};
 ghost use Rattle.pg_text.specs.SolutionReadBack.{SolutionReadsBack};
 
@@ -13,4 +14,14 @@ pub fn game_reads_back()
 /// vertices that the winner owns, and no others.
 pub fn solution_reads_back()
     ensures { SolutionReadsBack }
+{}
+
+/// One text spells one game at most.
+pub fn one_game()
+    ensures { SpellsOneGame }
+{}
+
+/// For one game one text spells one solution at most.
+pub fn one_solution()
+    ensures { SpellsOneSolution }
 {}

@@ -7,11 +7,10 @@ mod game;
 pub mod laws;
 mod layout;
 mod line;
+pub mod reading;
 mod solution;
 mod solution_layout;
 mod solution_line;
-#[cfg(test)]
-mod solution_tests;
 mod solution_text;
 pub mod tokens;
 pub mod writing;
@@ -23,6 +22,3 @@ pub use layout::write_game;
 pub use solution::Solution;
 pub use solution_layout::write_solution;
 pub use solution_text::read_solution;
-
-#[cfg(test)]
-mod tests;

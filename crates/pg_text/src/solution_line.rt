@@ -1,13 +1,12 @@
 //! The lines of a solution text.
 
-ghost use Rattle.std.specs.Prelude.{◌≡◌, option_map};
-ghost use Rattle.pg_text.specs.Mirrors.Steps.{Gives};
-ghost use Rattle.pg_text.specs.Mirrors.GameScan.{natural_at, owner_at};
+ghost use Rattle.std.specs.Prelude.{◌≡◌};
+ghost use Rattle.pg_text.specs.Mirrors.Steps.{Reads};
 ghost use Rattle.pg_text.specs.Mirrors.SolutionScan.{answer_seen, strategy_at, answer_at, next_answer_at};
 
-use crate::fault::{Refusal, unexpected};
-use crate::line::{player, semicolon};
-use crate::tokens::{Token, scan};
+use crate::line::player;
+use crate::reading::{semicolon, unexpected};
+use crate::tokens::{Token, TokenFault, scan};
 use pg_arena::Player;
 
 /// A line as it stands in the text: who wins at the vertex with this identifier, and the identifier of the vertex to
@@ -19,33 +18,10 @@ pub(crate) struct SolutionLine {
     pub(crate) strategy: Option<u32>,
 }
 
-/// The number in front, if one stands there.
-#[tactic(auto, unfolding(crate::specs::Mirrors::GameScan::natural_at))]
-pub(crate) fn natural(bytes: &[u8]) -> Option<(u32, &[u8])>
-    ensures { option_map (λ x. (x.0, x.1.now)) result ≡ natural_at bytes.now }
-{
-    match scan(bytes) {
-        Ok((Token::Number(value), rest)) => Some((value, rest)),
-        _ => None,
-    }
-}
-
-/// The winner in front, if one stands there.
-#[tactic(auto, unfolding(crate::specs::Mirrors::GameScan::owner_at, crate::specs::Mirrors::GameScan::natural_at))]
-pub(crate) fn winner(bytes: &[u8]) -> Option<(Player, &[u8])>
-    ensures { option_map (λ x. (x.0, x.1.now)) result ≡ owner_at bytes.now }
-{
-    match scan(bytes) {
-        Ok((Token::Number(0), rest)) => Some((Player::Even, rest)),
-        Ok((Token::Number(1), rest)) => Some((Player::Odd, rest)),
-        _ => None,
-    }
-}
-
 /// The strategy, where one stands, and the semicolon.
 #[tactic(auto, unfolding(crate::specs::Mirrors::SolutionScan::strategy_at))]
-fn strategy(bytes: &[u8]) -> Result<(Option<u32>, &[u8]), Refusal>
-    ensures { Gives (λ x. (x.0, x.1.now)) result (strategy_at bytes.now) }
+fn strategy(bytes: &[u8]) -> Result<(Option<u32>, &[u8]), TokenFault>
+    ensures { Reads (λ x. (x.0, x.1.now)) result (strategy_at bytes.now) }
 {
     match scan(bytes)? {
         (Token::Number(value), rest) => Ok((Some(value), semicolon(rest)?)),
@@ -55,8 +31,8 @@ fn strategy(bytes: &[u8]) -> Result<(Option<u32>, &[u8]), Refusal>
 }
 
 #[tactic(auto, unfolding(crate::specs::Mirrors::SolutionScan::answer_at))]
-fn answer(identifier: u32, bytes: &[u8]) -> Result<(SolutionLine, &[u8]), Refusal>
-    ensures { Gives (λ x. (x.0, x.1.now)) result (answer_at identifier bytes.now) }
+fn answer(identifier: u32, bytes: &[u8]) -> Result<(SolutionLine, &[u8]), TokenFault>
+    ensures { Reads (λ x. (x.0, x.1.now)) result (answer_at identifier bytes.now) }
 {
     let (winner, rest) = player(bytes)?;
     let (strategy, rest) = strategy(rest)?;
@@ -70,8 +46,8 @@ fn answer(identifier: u32, bytes: &[u8]) -> Result<(SolutionLine, &[u8]), Refusa
 
 /// A line, or nothing at the end of the text.
 #[tactic(auto, unfolding(crate::specs::Mirrors::SolutionScan::next_answer_at))]
-pub(crate) fn next_answer(bytes: &[u8]) -> Result<(Option<SolutionLine>, &[u8]), Refusal>
-    ensures { Gives (λ x. (answer_seen x.0, x.1.now)) result (next_answer_at bytes.now) }
+pub(crate) fn next_answer(bytes: &[u8]) -> Result<(Option<SolutionLine>, &[u8]), TokenFault>
+    ensures { Reads (λ x. (answer_seen x.0, x.1.now)) result (next_answer_at bytes.now) }
 {
     match scan(bytes)? {
         (Token::Number(identifier), rest) => {

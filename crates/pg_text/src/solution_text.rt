@@ -9,9 +9,10 @@ ghost use Rattle.pg_text.specs.SolutionText.{owns, IsSolutionText, RefusesSoluti
 ghost use Rattle.pg_text.specs.Mirrors.SolutionReading.{Chooses, LeadsNowhere, Puts, IsMisfit, BeginsMisfit, BeginsWell, HasRead, IsRefused, is_complete, misfit_fault};
 
 use crate::fault::TextFault;
-use crate::line::clause;
+use crate::line::player;
+use crate::reading::{clause, natural};
 use crate::solution::Solution;
-use crate::solution_line::{SolutionLine, natural, next_answer, winner};
+use crate::solution_line::{SolutionLine, next_answer};
 use crate::tokens::{left_at, next_token};
 use pg_arena::{Game, Player, Vertex};
 use std::alloc::Global;
@@ -111,7 +112,7 @@ fn early_misfit(game: &Game, seen: &[bool], bytes: &[u8]) -> Option<(u32, Misfit
     ensures misfit { IfSome result (λ x. BeginsMisfit game.now seen.now bytes.now x.0 x.1) }
     ensures none { IfNone result (BeginsWell game.now seen.now bytes.now) }
 {
-    let Some((identifier, rest)) = natural(bytes) else {
+    let Ok((identifier, rest)) = natural(bytes) else {
         return None;
     };
     let Ok(_) = next_token(rest) else {
@@ -123,10 +124,10 @@ fn early_misfit(game: &Game, seen: &[bool], bytes: &[u8]) -> Option<(u32, Misfit
     if seen[v.0 as usize] {
         return Some((identifier, Misfit::Repeated));
     }
-    let Some((winner, rest)) = winner(rest) else {
+    let Ok((winner, rest)) = player(rest) else {
         return None;
     };
-    let Some((wanted, _)) = natural(rest) else {
+    let Ok((wanted, _)) = natural(rest) else {
         return None;
     };
     match successor(game, v, wanted) {
@@ -171,8 +172,8 @@ fn read_lines(alloc: Global, game: &Game, bytes: &[u8]) -> Result<(Solution, Vec
     let mut solution = Solution::new(alloc, game)?;
     let mut seen = vec![in alloc; false; game.len()]?;
     let mut rest = match clause(b"paritysol", bytes) {
-        Ok(rest) => rest,
-        Err(refusal) => return Err(refusal.in_text(bytes.len())),
+        Ok((_header, rest)) => rest,
+        Err(fault) => return Err(fault.in_text(bytes.len())),
     };
     'lines: loop {
         match next_answer(rest) {
@@ -183,11 +184,11 @@ fn read_lines(alloc: Global, game: &Game, bytes: &[u8]) -> Result<(Solution, Vec
                 rest = after;
             }
             Ok((None, _)) => return Ok((solution, seen)),
-            Err(refusal) => {
+            Err(fault) => {
                 if let Some((identifier, misfit)) = early_misfit(game, &seen, rest) {
                     return Err(misfit.of_line(identifier, bytes, rest));
                 }
-                return Err(refusal.in_text(bytes.len()));
+                return Err(fault.in_text(bytes.len()));
             }
         }
     }
@@ -208,7 +209,7 @@ pub fn read_solution(alloc: Global, game: &Game, bytes: &[u8]) -> Result<Solutio
     // Bytes that spell a solution are read, unless memory runs out, and they spell no other.
     ensures only { (solution : List Answer) → IsSolutionText bytes.now game.now solution
         → MatchResult result (λ found. found ≡ solution) (λ fault. fault ≡ TextFault.OutOfMemory) }
-    ensures refused { IfErr result (RefusesSolution bytes.now game.now) }
+    ensures refused { IfErr result (λ fault. fault ≢ TextFault.OutOfMemory → RefusesSolution bytes.now game.now fault) }
 {
     let _vertices = game.len();
     let (solution, seen) = read_lines(alloc, game, bytes)?;

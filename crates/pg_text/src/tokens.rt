@@ -8,6 +8,7 @@ ghost use Rattle.std.specs.Result.{result_ok};
 ghost use Rattle.std.specs.List.{prefix_len};
 ghost use Rattle.pg_text.specs.Lexemes.{Lexeme, lexeme, is_space, is_digit, is_letter, is_plain, Begins, after_space, fault_at, token_fault};
 ghost use Rattle.pg_text.specs.Mirrors.Scan.{number_at, word_at, quoted_at, solid_at, token_at};
+ghost use Rattle.pg_text.specs.Mirrors.Steps.{Reads};
 
 /// A token, which borrows the text.
 #[derive(Clone, Copy, Debug)]
@@ -150,10 +151,9 @@ fn after_space(bytes: &[u8]) -> &[u8]
 }
 
 /// The token in front, behind white space, and the bytes after it: `next_token` for the readers of this crate.
-#[tactic(auto, unfolding(crate::specs::Mirrors::Scan::token_at))]
+#[tactic(auto, unfolding(crate::specs::Mirrors::Scan::token_at, crate::specs::Mirrors::Scan::lexeme_at))]
 pub(crate) fn scan(bytes: &[u8]) -> Result<(Token<'_>, &[u8]), TokenFault>
-    ensures token { option_map (λ x. (lexeme x.0, x.1.now)) (result_ok result) ≡ token_at bytes.now }
-    ensures fault { IfErr result (λ e. e ≡ token_fault bytes.now) }
+    ensures { Reads (λ x. (lexeme x.0, x.1.now)) result (token_at bytes.now) }
 {
     solid(after_space(bytes))
 }

@@ -1,5 +1,6 @@
 -- What the lines of a text become: a helper of proofs.
 use Rattle.std.specs.Prelude.{◌≡◌, ℕ, List, [], map, Result, Ok, Err}
+use Rattle.pg_arena.specs.declared.fault.ArenaFault.TheVariants as arena
 use Rattle.pg_arena.specs.Lines.{Line, counted, Accepts}
 use Rattle.pg_text.specs.declared.fault.TextFault.{TextFault}
 use Rattle.pg_text.specs.declared.fault.TextFault.TheVariants.{OutOfMemory, Syntax, NumberTooLarge, Arena}
@@ -12,5 +13,6 @@ BuildsLines bytes (Ok built) = (lines : List Line) × IsText bytes lines × (bui
 BuildsLines bytes (Err OutOfMemory) = Unit {0}
 BuildsLines bytes (Err (Syntax offset)) = (lines : List Line) → IsText bytes lines → ⊥
 BuildsLines bytes (Err (NumberTooLarge offset)) = (lines : List Line) → IsText bytes lines → ⊥
+BuildsLines bytes (Err (Arena arena.OutOfMemory)) = ⊥
 BuildsLines bytes (Err (Arena fault)) = HasBadLine bytes fault × ((lines : List Line) → IsText bytes lines → Accepts [] lines → ⊥)
 BuildsLines bytes (Err _) = ⊥

@@ -1,7 +1,9 @@
 -- What the functions that read a token compute: a mirror of them for proofs, whose laws stand in proofs/Lexing.
-use Rattle.std.specs.Prelude.{ℕ, ◌+◌, ◌^◌, ◌==◌, List, [], ◌∷◌, length, drop, Option, Some, None, nat_lt, if◌then◌else◌}
+use Rattle.std.specs.Prelude.{ℕ, ◌+◌, ◌^◌, ◌==◌, List, [], ◌∷◌, length, drop, Option, Some, None, Ok, Err, nat_lt, if◌then◌else◌}
 use Rattle.std.specs.List.{prefix_len, take_while}
-use Rattle.pg_text.specs.Lexemes.{Lexeme, number, word, semicolon, comma, quoted, end, is_digit, is_letter, is_plain, value_of, after_space}
+use Rattle.pg_text.specs.Lexemes.{Lexeme, number, word, semicolon, comma, quoted, end, is_digit, is_letter, is_plain, value_of, after_space, token_fault}
+use Rattle.pg_text.specs.declared.tokens.TokenFault.{TokenFault}
+use Rattle.pg_text.specs.Mirrors.Steps.{Read}
 
 unfoldable pub number_at : List ℕ → Option (Lexeme × List ℕ)
 number_at bytes =
@@ -29,5 +31,12 @@ solid_at (b ∷ bytes) =
     else (if b == 34 then quoted_at bytes
     else None))))
 
-unfoldable pub token_at : List ℕ → Option (Lexeme × List ℕ)
-token_at bytes = solid_at (after_space bytes)
+unfoldable pub lexeme_at : List ℕ → Option (Lexeme × List ℕ)
+lexeme_at bytes = solid_at (after_space bytes)
+
+abbrev pub or_fault : Option (Lexeme × List ℕ) → TokenFault → Read (Lexeme × List ℕ)
+or_fault (Some x) fault = Ok x
+or_fault None fault = Err fault
+
+unfoldable pub token_at : List ℕ → Read (Lexeme × List ℕ)
+token_at bytes = or_fault (lexeme_at bytes) (token_fault bytes)

@@ -9,7 +9,7 @@ use Rattle.pg_text.specs.declared.solution_text.Misfit.TheVariants.{NotOfGame, R
 use Rattle.pg_text.specs.declared.fault.TextFault.{TextFault}
 use Rattle.pg_text.specs.declared.fault.TextFault.TheVariants as text
 use Rattle.pg_text.specs.Solutions.{winner, choice}
-use Rattle.pg_text.specs.SolutionText.{owns, counting_strategy, line_count, Says, StartsLine, IsUnknown, BeginsUnfit, AreLines, IsSolutionText, RefusesSolution}
+use Rattle.pg_text.specs.SolutionText.{owns, counting_strategy, line_count, Says, StartsLine, IsUnknown, BeginsUnfit, AreLines, SpellsNoSolution, RefusesSolution}
 
 -- whether v is marked
 abbrev pub is_seen : List Bool → ℕ → Bool
@@ -93,11 +93,7 @@ pub record HasRead (bytes : List ℕ) (game : List GameVertex) (solution : List 
   pub text : AreLines bytes lines
   pub state : State game lines solution seen
 
--- no solution is spelt
-abbrev pub SpellsNone : List ℕ → List GameVertex → Type 0
-SpellsNone bytes game = (solution : List Answer) → ¬ IsSolutionText bytes game solution
-
 -- why a text is refused
 abbrev pub IsRefused : List ℕ → List GameVertex → TextFault → Type 0
 IsRefused bytes game text.OutOfMemory = Unit {0}
-IsRefused bytes game fault = SpellsNone bytes game × RefusesSolution bytes game fault
+IsRefused bytes game fault = SpellsNoSolution bytes game × RefusesSolution bytes game fault

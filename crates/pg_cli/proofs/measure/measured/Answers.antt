@@ -1,15 +1,14 @@
-use Rattle.pg_text.specs.GameText.{Refuses}
 use Rattle.pg_cli.specs.Faults.{text_fault}
 use Rattle.pg_cli.specs.Answers as answers
 use Rattle.pg_cli.specs.declared.command.Command.TheVariants.{Measure}
-use Rattle.pg_cli.proofs.Refusing.{no_game, game_unwritten, told_so, refused_by}
+use Rattle.pg_cli.proofs.Refusing.{no_game, told_so, refused_by}
 use Rattle.pg_cli.proofs.measure.measured.Goals as goal
 
 pub returns-in_err-game-clause-refused : goal.returns-in_err-game-clause-refused
 returns-in_err-game-clause-refused c =
     let bytes = c.args.text.items in
     let fault = c.in_err-game.field-0.0 in
-    let why : Refuses bytes fault = rw (← c.deref.ensures.value) c.in_err-game.ensures.refused in
     refused_by (answers.Refuses Measure bytes) c.from_residual.result (text_fault fault) c.from_residual.ensures.1
-    (told_so (answers.Refuses Measure bytes) fault tt (game_unwritten bytes fault why) (λ no_memory.
-    (c.requires, no_game bytes fault (rw (← c.deref.ensures.value) c.in_err-game.ensures.only) why no_memory)))
+    (told_so (answers.Refuses Measure bytes) fault tt (λ memory.
+    let why = no_game bytes fault (rw (← c.deref.ensures.value) c.in_err-game.ensures.only) (rw (← c.deref.ensures.value) c.in_err-game.ensures.refused) memory in
+    (why.0, (c.requires, why.1))))

@@ -1,6 +1,16 @@
 use Rattle.pg_cli.proofs.Printing.{refused_known}
 use Rattle.pg_cli.proofs.program.run.Goals as goal
 
+pub returns-in-Measure-clause-refused : goal.returns-in-Measure-clause-refused
+returns-in-Measure-clause-refused g c =
+    refused_known c.args.command (g.R.Read.remaining c.args.reader.now) c.in_ok-text.text.items c.measure.result c.in_ok-text.ensures.bytes
+    (rw c.in-Measure.is c.measure.ensures.refused)
+
+pub returns-in-Solve-clause-refused : goal.returns-in-Solve-clause-refused
+returns-in-Solve-clause-refused g c =
+    refused_known c.args.command (g.R.Read.remaining c.args.reader.now) c.in_ok-text.text.items c.solve.result c.in_ok-text.ensures.bytes
+    (rw c.in-Solve.is c.solve.ensures.refused)
+
 pub returns-in-Check-clause-refused : goal.returns-in-Check-clause-refused
 returns-in-Check-clause-refused g c =
     refused_known c.args.command (g.R.Read.remaining c.args.reader.now) c.in_ok-text.text.items c.check.result c.in_ok-text.ensures.bytes

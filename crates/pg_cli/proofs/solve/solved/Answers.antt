@@ -1,8 +1,7 @@
-use Rattle.pg_text.specs.GameText.{Refuses}
 use Rattle.pg_cli.specs.Faults.{text_fault, check_fault}
 use Rattle.pg_cli.specs.Answers as answers
 use Rattle.pg_cli.specs.declared.command.Command.TheVariants.{Solve}
-use Rattle.pg_cli.proofs.Refusing.{no_game, game_unwritten, told_so, refused_by}
+use Rattle.pg_cli.proofs.Refusing.{no_game, told_so, refused_by}
 use Rattle.pg_cli.proofs.Printing.{refuses_undecided}
 use Rattle.pg_cli.proofs.solve.solved.Goals as goal
 
@@ -10,10 +9,10 @@ pub returns-in_err-game-clause-refused : goal.returns-in_err-game-clause-refused
 returns-in_err-game-clause-refused c =
     let bytes = c.args.text.items in
     let fault = c.in_err-game.field-0.0 in
-    let why : Refuses bytes fault = rw (← c.deref.ensures.value) c.in_err-game.ensures.refused in
     refused_by (answers.Refuses Solve bytes) c.from_residual.result (text_fault fault) c.from_residual.ensures.1
-    (told_so (answers.Refuses Solve bytes) fault tt (game_unwritten bytes fault why) (λ no_memory.
-    (c.requires, no_game bytes fault (rw (← c.deref.ensures.value) c.in_err-game.ensures.only) why no_memory)))
+    (told_so (answers.Refuses Solve bytes) fault tt (λ memory.
+    let why = no_game bytes fault (rw (← c.deref.ensures.value) c.in_err-game.ensures.only) (rw (← c.deref.ensures.value) c.in_err-game.ensures.refused) memory in
+    (why.0, (c.requires, why.1))))
 
 pub returns-in_err-solution-clause-refused : goal.returns-in_err-solution-clause-refused
 returns-in_err-solution-clause-refused c =

@@ -1,4 +1,4 @@
-use Rattle.std.proofs.Common.{◌≡◌, ◌∙◌, ap, subst, Some, None, ◌++◌, ◌∷◌, [], List, ℕ, Option, length}
+use Rattle.std.proofs.Common.{◌≡◌, ◌∙◌, ap, subst, Ok, None, ◌++◌, ◌∷◌, [], List, ℕ, Option, length}
 use Rattle.std.proofs.lemmas.Result.{err_from_is_err_and}
 use Rattle.pg_arena.specs.Lines.{counted, Answers, add_fault}
 use Rattle.pg_text.specs.declared.line.TextLine.{TextLine}
@@ -8,7 +8,7 @@ use Rattle.pg_text.proofs.Takes.{item_shrinks}
 use Rattle.pg_text.proofs.game.builder_of.Goals as goal
 
 pub returns-in-Err : goal.returns-in-Err
-returns-in-Err c = rw c.in_text.ensures (fails_body c.in-Err.refusal (length c.args.bytes.now) c.args.bytes.now c.in-Err.ensures)
+returns-in-Err c = rw c.in_text.ensures (fails_body c.in-Err.fault (length c.args.bytes.now) c.args.bytes.now c.in-Err.ensures)
 
 pub returns-in-Err-item : goal.returns-in-Err-item
 returns-in-Err-item c = rw c.in_text-in-Err-item.ensures (fails_item c.in-Err-item.refusal (length c.args.bytes.now) c.args.bytes.now c.lines.builder c.lines.rest.now c.lines.invariant c.in-Err-item.ensures)
@@ -16,12 +16,12 @@ returns-in-Err-item c = rw c.in_text-in-Err-item.ensures (fails_item c.in-Err-it
 pub lines-smaller : goal.lines-smaller
 lines-smaller c =
     item_shrinks.shorter c.lines.rest.now (line_seen c.item.new.buffer.items c.in-Ok-Some-default.line) c.in-Ok-Some-default.after.now
-    (c.in-Ok-Some-default.ensures ∙ ap (λ (o : Option TextLine). Some (item_seen c.item.new.buffer.items o, c.in-Ok-Some-default.after.now)) c.in-Ok-Some-default.field-0-0-is)
+    (c.in-Ok-Some-default.ensures ∙ ap (λ (o : Option TextLine). Ok (item_seen c.item.new.buffer.items o, c.in-Ok-Some-default.after.now)) c.in-Ok-Some-default.field-0-0-is)
 
 pub returns-in-Ok-None-default : goal.returns-in-Ok-None-default
 returns-in-Ok-None-default c =
     finishes c.args.bytes.now c.lines.builder c.lines.rest.now tt c.in-Ok-None-default.field-0-1.now c.lines.invariant
-    (c.in-Ok-None-default.ensures ∙ ap (λ (o : Option TextLine). Some (item_seen c.item.new.buffer.items o, c.in-Ok-None-default.field-0-1.now)) c.in-Ok-None-default.field-0-0-is)
+    (c.in-Ok-None-default.ensures ∙ ap (λ (o : Option TextLine). Ok (item_seen c.item.new.buffer.items o, c.in-Ok-None-default.field-0-1.now)) c.in-Ok-None-default.field-0-0-is)
 
 pub returns-in_err-add-in-Ok-Some-default : goal.returns-in_err-add-in-Ok-Some-default
 returns-in_err-add-in-Ok-Some-default c =
@@ -30,7 +30,7 @@ returns-in_err-add-in-Ok-Some-default c =
     let answer = subst (λ (s : List ℕ). Answers c.add.result (add_fault c.lines.builder (given s))) c.deref.ensures.value c.add.ensures.answer in
     rw (p.1, p.2)
     (fails_add c.add.result c.in_err-add-in-Ok-Some-default.field-0.0 c.args.bytes.now c.lines.builder c.lines.rest.now c.in-Ok-Some-default.after.now (line_seen c.item.new.buffer.items c.in-Ok-Some-default.line) c.in_err-add-in-Ok-Some-default.was c.lines.invariant
-    (c.in-Ok-Some-default.ensures ∙ ap (λ (o : Option TextLine). Some (item_seen c.item.new.buffer.items o, c.in-Ok-Some-default.after.now)) c.in-Ok-Some-default.field-0-0-is) answer)
+    (c.in-Ok-Some-default.ensures ∙ ap (λ (o : Option TextLine). Ok (item_seen c.item.new.buffer.items o, c.in-Ok-Some-default.after.now)) c.in-Ok-Some-default.field-0-0-is) answer)
 
 pub lines-preserved : goal.lines-preserved
 lines-preserved c =
@@ -38,4 +38,4 @@ lines-preserved c =
     let fault = subst (λ (s : List ℕ). add_fault c.lines.builder (given s) ≡ None) c.deref.ensures.value c.in_ok-add-in-Ok-Some-default.ensures.answer in
     let grown = subst (λ (s : List ℕ). c.add.new.self ≡ c.lines.builder ++ given s ∷ []) c.deref.ensures.value c.in_ok-add-in-Ok-Some-default.ensures.ok in
     more c.args.bytes.now c.lines.builder c.add.new.self c.lines.rest.now c.in-Ok-Some-default.after.now (line_seen c.item.new.buffer.items c.in-Ok-Some-default.line) c.lines.invariant
-    (c.in-Ok-Some-default.ensures ∙ ap (λ (o : Option TextLine). Some (item_seen c.item.new.buffer.items o, c.in-Ok-Some-default.after.now)) c.in-Ok-Some-default.field-0-0-is) fault grown
+    (c.in-Ok-Some-default.ensures ∙ ap (λ (o : Option TextLine). Ok (item_seen c.item.new.buffer.items o, c.in-Ok-Some-default.after.now)) c.in-Ok-Some-default.field-0-0-is) fault grown

@@ -1,7 +1,7 @@
 use Rattle.std.proofs.Common.{ap}
 use Rattle.std.proofs.lemmas.Result.{err_from_is_err_and}
 use Rattle.pg_text.specs.Mirrors.Refusals.{arena_fault}
-use Rattle.pg_text.proofs.Reading.{found_game, spelt_game, only_memory, refuses_lines, refuses_game}
+use Rattle.pg_text.proofs.GameTexts.{found_game, spelt_game, only_memory, refuses_lines, refuses_game}
 use Rattle.pg_text.proofs.game.read_game.Goals as goal
 
 pub returns-clause-found : goal.returns-clause-found

@@ -13,7 +13,7 @@ returns-in-Some-clause-only c = λ solution text.
     absurd ((missing c.args.bytes.now c.args.game.now c.in_ok-solution.solution c.in_ok-solution.seen.items c.in-Some.v c.len-vertices.ensures.game c.in_ok-solution.ensures.read c.in-Some.ensures.within (rw (sym c.deref.ensures.value) c.in-Some.ensures.missing) (rw (sym c.deref.ensures.value) c.in-Some.ensures.first)).0 solution text)
 
 pub returns-in-Some-clause-refused : goal.returns-in-Some-clause-refused
-returns-in-Some-clause-refused c =
+returns-in-Some-clause-refused c = λ other.
     rw c.identifier.ensures
     (missing c.args.bytes.now c.args.game.now c.in_ok-solution.solution c.in_ok-solution.seen.items c.in-Some.v c.len-vertices.ensures.game c.in_ok-solution.ensures.read c.in-Some.ensures.within (rw (sym c.deref.ensures.value) c.in-Some.ensures.missing) (rw (sym c.deref.ensures.value) c.in-Some.ensures.first)).1
 

@@ -1,0 +1,126 @@
+-- The answers of `measure` and of `solve` are functions of the input.
+use Rattle.std.proofs.Common.{◌≡◌, ◌⊎◌, ℕ, ◌<◌, ◌≤◌, List, length, get_or, Option, Some, None, refl, sym, ap, ap₂, subst, inl, inr, ◌∙◌, arith}
+use Rattle.std.specs.Prelude.{IsSome}
+use Rattle.std.proofs.lemmas.List.{same_lists, get_or_default}
+use Rattle.pg_arena.specs.declared.player.Player.{Player}
+use Rattle.pg_arena.specs.declared.player.Player.TheVariants.{Even, Odd}
+use Rattle.pg_arena.specs.Games.{GameVertex, opponent, owner, identifier, dual}
+use Rattle.pg_measure.specs.Measures.{BoundList, MeasureValue}
+use Rattle.pg_measure.specs.Laws.{OneListOfBounds}
+use Rattle.pg_map.specs.Lines.{game_line}
+use Rattle.pg_map.specs.Maps.{MapValue, measure_at, IsLeastProgressMeasure}
+use Rattle.pg_map.specs.Laws.{ClosedIsLeast}
+use Rattle.pg_text.specs.declared.answer.Answer.{Answer}
+use Rattle.pg_text.specs.OneSpelling.{SpellsOneGame}
+use Rattle.pg_text.specs.Solutions.{answer_at, unanswered}
+use Rattle.pg_text.specs.SolutionLayout.{solution_text}
+use Rattle.pg_check.specs.Strategies.{HasList, IsChoiceFor, IsAnswerOf, IsSolutionOf, IsLeastUndecided}
+use Rattle.pg_cli.specs.Measuring.{IsMeasureOf, IsMeasured, measures_text}
+use Rattle.pg_cli.specs.Solving.{IsSolved, IsUndecidedAt}
+use Rattle.pg_cli.specs.Laws.{OneAnswer}
+
+module _ (one_bounds : OneListOfBounds) (least : ClosedIsLeast) where
+  -- two equal games have one least progress measure
+  one_map : (game other : List GameVertex) (f g : MapValue) → game ≡ other → IsMeasureOf game f → IsMeasureOf other g → f ≡ g
+  one_map game other f g same of of_other =
+      let of' : IsMeasureOf game g = subst (λ (x : List GameVertex). IsMeasureOf x g) (sym same) of_other in
+      let bounds : f.bounds ≡ g.bounds = one_bounds game f.bounds g.bounds of.bounds of'.bounds in
+      let is_least : IsLeastProgressMeasure f.bounds (game_line game) g.measures =
+      subst (λ (b : BoundList). IsLeastProgressMeasure b (game_line game) g.measures) (sym bounds) of'.least in
+      let measures : f.measures ≡ g.measures =
+      least.one f.bounds (game_line game) f.measures g.measures (of.size ∙ sym of'.size) of.least is_least in
+      ap₂ (λ (b : BoundList) (m : List MeasureValue). record { bounds = b; measures = m }) bounds measures
+
+  pub one_measured : SpellsOneGame → (input first second : List ℕ) → IsMeasured input first → IsMeasured input second → first ≡ second
+  one_measured one_game input first second p q =
+      let same : p.game ≡ q.game = one_game input q.game p.game q.spelt p.spelt in
+      let map : p.map ≡ q.map = one_map p.game q.game p.map q.map same p.measure q.measure in
+      p.printed ∙ ap₂ (λ (x : List GameVertex) (f : MapValue). measures_text x f.measures) same map ∙ sym q.printed
+
+-- a player is this one or the other
+one_of : (own won : Player) → (own ≡ won) ⊎ (own ≡ opponent won)
+one_of Even Even = inl refl
+one_of Odd Odd = inl refl
+one_of Even Odd = inr refl
+one_of Odd Even = inr refl
+
+-- two maps give a vertex one answer
+one_answer_at : (game : List GameVertex) (f g : MapValue) (v : ℕ) (a b : Answer) → IsAnswerOf game f g v a → IsAnswerOf game f g v b → a ≡ b
+one_answer_at game f g v a b p q =
+    ap₂ (λ (w : Player) (c : Option ℕ). record { winner = w; choice = c }) (sym won) (chosen (one_of (owner game v) a.winner))
+  where
+    won : b.winner ≡ a.winner
+    won = (q.wins a.winner).1 ((p.wins a.winner).0 refl)
+
+    chosen : (owner game v ≡ a.winner) ⊎ (owner game v ≡ opponent a.winner) → a.choice ≡ b.choice
+    chosen (inl own) =
+        let c = p.chosen own in
+        let d = q.chosen (own ∙ sym won) in
+        let first : IsChoiceFor a.winner game f g v c.0 = c.2 in
+        let other : IsChoiceFor a.winner game f g v d.0 = subst (λ (w : Player). IsChoiceFor w game f g v d.0) won d.2 in
+        let below : c.0 ≤ d.0 = first.first d.0 other.follows other.serves in
+        let above : d.0 ≤ c.0 = other.first c.0 first.follows first.serves in
+        let same : c.0 ≡ d.0 = omega arith in
+        c.1 ∙ ap Some same ∙ sym d.1
+    chosen (inr other) =
+        p.elsewhere other ∙ sym (q.elsewhere (other ∙ ap opponent (sym won)))
+
+one_solution : (game : List GameVertex) (f g : MapValue) (s t : List Answer) → IsSolutionOf game f g s → IsSolutionOf game f g t → s ≡ t
+one_solution game f g s t p q =
+    same_lists s t (p.whole ∙ sym q.whole) (λ k d lt.
+    let within : k < length game = omega (arith, p.whole) in
+    let there : k < length t = omega (arith, q.whole) in
+    sym (get_or_default s k unanswered d lt)
+    ∙ one_answer_at game f g k (answer_at s k) (answer_at t k) (p.answers k within) (q.answers k within)
+    ∙ get_or_default t k unanswered d there)
+
+-- no player has a list where both measures are top
+no_list : (player : Player) (f g : MapValue) (v : ℕ) → measure_at f.measures v ≡ None → measure_at g.measures v ≡ None → ¬ HasList player f g v
+no_list Even f g v even odd has = let bad : IsSome {T = List ℕ} None = subst (λ (m : MeasureValue). IsSome m) even has in (cc)
+no_list Odd f g v even odd has = let bad : IsSome {T = List ℕ} None = subst (λ (m : MeasureValue). IsSome m) odd has in (cc)
+
+decided_by : (game : List GameVertex) (f g : MapValue) (solution : List Answer) (id : ℕ) → IsSolutionOf game f g solution → ¬ IsLeastUndecided game f g id
+decided_by game f g solution id of least =
+    let v = least.vertex in
+    let at = of.answers v least.undecided.within in
+    let won : Player = (answer_at solution v).winner in
+    no_list won f g v least.undecided.game_map least.undecided.dual_map ((at.wins won).0 refl)
+
+one_undecided : (game : List GameVertex) (f g : MapValue) (id other : ℕ) → IsLeastUndecided game f g id → IsLeastUndecided game f g other → id ≡ other
+one_undecided game f g id other p q =
+    let below = p.least q.vertex q.undecided in
+    let above = q.least p.vertex p.undecided in
+    let same : p.vertex ≡ q.vertex = omega arith in
+    p.named ∙ ap (identifier game) same ∙ sym q.named
+
+pub one_answer : SpellsOneGame → OneListOfBounds → ClosedIsLeast → OneAnswer
+one_answer one_game one_bounds least = record {
+  measured = one_measured one_bounds least one_game;
+  solved = λ input first second p q.
+      let same : p.game ≡ q.game = one_game input q.game p.game q.spelt p.spelt in
+      let even = one_map one_bounds least p.game q.game p.solved.even q.solved.even same p.solved.even_measure q.solved.even_measure in
+      let odd = one_map one_bounds least (dual p.game) (dual q.game) p.solved.odd q.solved.odd (ap dual same) p.solved.odd_measure q.solved.odd_measure in
+      let of : IsSolutionOf p.game p.solved.even p.solved.odd q.solution =
+      subst (λ (x : List GameVertex). IsSolutionOf x p.solved.even p.solved.odd q.solution) (sym same)
+      (subst (λ (f : MapValue). IsSolutionOf q.game f p.solved.odd q.solution) (sym even)
+      (subst (λ (g : MapValue). IsSolutionOf q.game q.solved.even g q.solution) (sym odd) q.solved.solution_of)) in
+      let solution : p.solution ≡ q.solution =
+      one_solution p.game p.solved.even p.solved.odd p.solution q.solution p.solved.solution_of of in
+      p.printed ∙ ap₂ (λ (x : List GameVertex) (s : List Answer). solution_text x s) same solution ∙ sym q.printed;
+  decided = λ input output id p q.
+      let same : p.game ≡ q.game = one_game input q.game p.game q.spelt p.spelt in
+      let even = one_map one_bounds least p.game q.game p.solved.even q.even same p.solved.even_measure q.even_measure in
+      let odd = one_map one_bounds least (dual p.game) (dual q.game) p.solved.odd q.odd (ap dual same) p.solved.odd_measure q.odd_measure in
+      decided_by p.game p.solved.even p.solved.odd p.solution id p.solved.solution_of
+      (subst (λ (x : List GameVertex). IsLeastUndecided x p.solved.even p.solved.odd id) (sym same)
+      (subst (λ (f : MapValue). IsLeastUndecided q.game f p.solved.odd id) (sym even)
+      (subst (λ (g : MapValue). IsLeastUndecided q.game q.even g id) (sym odd) q.undecided)));
+  undecided = λ input first second p q.
+      let same : p.game ≡ q.game = one_game input q.game p.game q.spelt p.spelt in
+      let even = one_map one_bounds least p.game q.game p.even q.even same p.even_measure q.even_measure in
+      let odd = one_map one_bounds least (dual p.game) (dual q.game) p.odd q.odd (ap dual same) p.odd_measure q.odd_measure in
+      one_undecided p.game p.even p.odd first second p.undecided
+      (subst (λ (x : List GameVertex). IsLeastUndecided x p.even p.odd second) (sym same)
+      (subst (λ (f : MapValue). IsLeastUndecided q.game f p.odd second) (sym even)
+      (subst (λ (g : MapValue). IsLeastUndecided q.game q.even g second) (sym odd) q.undecided)));
+}

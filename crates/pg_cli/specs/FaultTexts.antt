@@ -1,0 +1,18 @@
+-- The line that is told of a fault.
+use Rattle.std.specs.Prelude.{ℕ, List, ◌++◌, codes, decimal}
+use Rattle.pg_text.specs.FaultTexts as text
+use Rattle.pg_cli.specs.declared.fault.CliFault.{CliFault}
+use Rattle.pg_cli.specs.declared.fault.CliFault.TheVariants.{OutOfMemory, Read, Write, InputTooLong, NoSeparator, Text, Undecided}
+
+abbrev pub fault_text : CliFault → List ℕ
+fault_text OutOfMemory = codes "out of memory"
+fault_text Read = codes "cannot read the input"
+fault_text Write = codes "cannot write the output"
+fault_text InputTooLong = codes "input is longer than 268435456 bytes"
+fault_text NoSeparator = codes "no line -- between the two texts"
+fault_text (Text fault) = text.fault_text fault
+fault_text (Undecided id) = codes "undecided at " ++ decimal id
+
+-- `parsolve: `, the text and a newline
+abbrev pub fault_line : CliFault → List ℕ
+fault_line fault = codes "parsolve: " ++ (fault_text fault ++ codes "\n")

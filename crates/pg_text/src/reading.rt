@@ -1,0 +1,155 @@
+//! Parts of texts, read: numbers, words, semicolons, clauses, and numbers with commas between.
+//!
+//! Each function reads what stands in front, behind white space, and returns it with the bytes after it. What doesn't
+//! stand there is refused at the first token at fault: with `NumberTooLarge` where a number over 4,294,967,295 stands,
+//! and else with `Syntax`.
+
+ghost use Rattle.std.specs.Prelude.{◌≡◌, ◌-◌, length, option_copied};
+ghost use Rattle.pg_text.specs.declared.reading.Refusal.TheVariants.{Memory, Token};
+ghost use Rattle.pg_text.specs.Lexemes.{left_of};
+ghost use Rattle.pg_text.specs.Mirrors.Steps.{Reads, Gives, unexpected};
+ghost use Rattle.pg_text.specs.Mirrors.Parts.{natural_at, name_at, semicolon_at, end_at, further_seen, further_at, numbers_at, clause_at};
+
+use crate::tokens::{Token, TokenFault, left_at, scan};
+use std::alloc::{AllocError, AllocFailed};
+
+/// Why a part of a text is refused.
+#[derive(Clone, Copy, Debug, PartialEq, Eq)]
+pub enum Refusal {
+    /// A growth was refused.
+    Memory,
+    /// No token, or not this one, may stand there.
+    Token(TokenFault),
+}
+
+impl From<TokenFault> for Refusal {
+    ghost from_gives = { λ fault e. e ≡ Token fault };
+
+    fn from(fault: TokenFault) -> Refusal {
+        Refusal::Token(fault)
+    }
+}
+
+impl From<AllocError> for Refusal {
+    ghost from_gives = { λ _ e. e ≡ Memory };
+
+    fn from(_e: AllocError) -> Refusal {
+        Refusal::Memory
+    }
+}
+
+impl<T: Drop> From<AllocFailed<T>> for Refusal {
+    ghost from_gives = { λ _ e. e ≡ Memory };
+
+    fn from(_e: AllocFailed<T>) -> Refusal {
+        Refusal::Memory
+    }
+}
+
+impl TokenFault {
+    /// The offset of the token at fault in a text of this many bytes.
+    pub fn offset_in(self, len: usize) -> usize
+        ensures { result ≡ len - left_of self }
+    {
+        match self {
+            TokenFault::Syntax(left) | TokenFault::NumberTooLarge(left) => len.saturating_sub(left),
+        }
+    }
+}
+
+/// Refuses the next token, where another one has to stand.
+pub fn unexpected(bytes: &[u8]) -> TokenFault
+    ensures { result ≡ unexpected bytes.now }
+{
+    TokenFault::Syntax(left_at(bytes))
+}
+
+/// The number in front.
+#[tactic(auto, unfolding(crate::specs::Mirrors::Parts::natural_at))]
+pub fn natural(bytes: &[u8]) -> Result<(u32, &[u8]), TokenFault>
+    ensures { Reads (λ x. (x.0, x.1.now)) result (natural_at bytes.now) }
+{
+    match scan(bytes)? {
+        (Token::Number(value), rest) => Ok((value, rest)),
+        _ => Err(unexpected(bytes)),
+    }
+}
+
+/// The word in front.
+#[tactic(auto, unfolding(crate::specs::Mirrors::Parts::name_at))]
+pub fn word(bytes: &[u8]) -> Result<(&[u8], &[u8]), TokenFault>
+    ensures { Reads (λ x. (x.0.now, x.1.now)) result (name_at bytes.now) }
+{
+    match scan(bytes)? {
+        (Token::Word(word), rest) => Ok((word, rest)),
+        _ => Err(unexpected(bytes)),
+    }
+}
+
+/// The semicolon in front: what stands after it.
+#[tactic(auto, unfolding(crate::specs::Mirrors::Parts::semicolon_at))]
+pub fn semicolon(bytes: &[u8]) -> Result<&[u8], TokenFault>
+    ensures { Reads (λ x. x.now) result (semicolon_at bytes.now) }
+{
+    match scan(bytes)? {
+        (Token::Semicolon, rest) => Ok(rest),
+        _ => Err(unexpected(bytes)),
+    }
+}
+
+/// The end of the text.
+#[tactic(auto, unfolding(crate::specs::Mirrors::Parts::end_at))]
+pub fn end(bytes: &[u8]) -> Result<(), TokenFault>
+    ensures { Reads (λ x. x) result (end_at bytes.now) }
+{
+    match scan(bytes)? {
+        (Token::End, _) => Ok(()),
+        _ => Err(unexpected(bytes)),
+    }
+}
+
+/// The number of a clause, which is this word, a number and a semicolon. Where the word doesn't stand in front there is
+/// no number, and all bytes are left.
+#[tactic(auto, unfolding(crate::specs::Mirrors::Parts::clause_at))]
+pub fn clause<'a>(name: &[u8], bytes: &'a [u8]) -> Result<(Option<u32>, &'a [u8]), TokenFault>
+    ensures { Reads (λ x. (x.0, x.1.now)) result (clause_at name.now bytes.now) }
+{
+    match scan(bytes)? {
+        (Token::Word(word), rest) if word == name => {
+            let (number, rest) = natural(rest)?;
+            let rest = semicolon(rest)?;
+            Ok((Some(number), rest))
+        }
+        _ => Ok((None, bytes)),
+    }
+}
+
+/// The number behind the comma in front, if one stands there.
+#[tactic(auto, unfolding(crate::specs::Mirrors::Parts::further_at))]
+fn further(bytes: &[u8]) -> Result<Option<(u32, &[u8])>, TokenFault>
+    ensures { Reads (further_seen bytes.now) result (further_at bytes.now) }
+{
+    match scan(bytes)? {
+        (Token::Comma, rest) => Ok(Some(natural(rest)?)),
+        _ => Ok(None),
+    }
+}
+
+/// One or more numbers with commas between. They take the place of what the list held.
+#[tactic(auto, unfolding(crate::specs::Mirrors::Parts::numbers_at))]
+pub fn numbers<'a>(list: &mut Vec<u32>, bytes: &'a [u8]) -> Result<&'a [u8], Refusal>
+    ensures { Gives (λ rest. (list.new.items, rest.now)) result (numbers_at bytes.now) }
+{
+    let (first, mut rest) = natural(bytes)?;
+    list.clear();
+    list.push(first)?;
+    'numbers: loop {
+        match further(rest)? {
+            Some((number, after)) => {
+                list.push(number)?;
+                rest = after;
+            }
+            None => return Ok(rest),
+        }
+    }
+}

@@ -1,0 +1,86 @@
+//! Texts of games that are read and printed.
+
+use pg_arena::{Player, Vertex};
+use pg_text::{TextFault, read_game, write_game};
+use std::alloc::Global;
+use std::test::Fail;
+
+/// The printed layout of the game that the text spells.
+fn reprinted(alloc: Global, text: &[u8]) -> Result<Vec<u8>, TextFault> {
+    let game = read_game(alloc, text)?;
+    let mut out = Vec::new(alloc);
+    write_game(&game, &mut out)?;
+    Ok(out)
+}
+
+#[test]
+fn vertices_of_a_game(rt: HostRuntime) -> Result<(), Fail> {
+    let text = b"4294967295 3 1 7,4294967295,7;\n7 2 0 4294967295 \"x y\";\n";
+    let game = read_game(rt.alloc(), text)?;
+    assert_eq!(rt; game.len(), 2);
+    assert_eq!(rt; game.identifier(Vertex(0)), 7);
+    assert_eq!(rt; game.priority(Vertex(0)), 2);
+    assert_eq!(rt; game.owner(Vertex(0)), Player::Even);
+    assert_eq!(rt; game.successors(Vertex(0)), [Vertex(1)].as_slice());
+    assert!(rt; matches!(game.name(Vertex(0)), Some(name) if name == b"x y".as_slice()));
+    assert_eq!(rt; game.identifier(Vertex(1)), 4294967295);
+    assert_eq!(rt; game.priority(Vertex(1)), 3);
+    assert_eq!(rt; game.owner(Vertex(1)), Player::Odd);
+    assert_eq!(rt;
+        game.successors(Vertex(1)),
+        [Vertex(0), Vertex(1)].as_slice()
+    );
+    assert!(rt; game.name(Vertex(1)).is_none());
+    Ok(())
+}
+
+#[test]
+fn last_line_without_a_newline(rt: HostRuntime) -> Result<(), Fail> {
+    let game = read_game(rt.alloc(), b"parity 1;\n0 1 0 0,1;\n1 2 1 0;")?;
+    assert_eq!(rt; game.len(), 2);
+    Ok(())
+}
+
+#[test]
+fn leading_zeros(rt: HostRuntime) -> Result<(), Fail> {
+    let out = reprinted(rt.alloc(), b"parity 07;007 0000 001 00000000000000000007;")?;
+    assert_eq!(rt; out.as_slice(), b"parity 7;\n7 0 1 7;\n".as_slice());
+    Ok(())
+}
+
+#[test]
+fn tokens_without_white_space(rt: HostRuntime) -> Result<(), Fail> {
+    let out = reprinted(rt.alloc(), b"parity4;start9;0 1 0 4,0,0\"a b\";4 0 1 0;")?;
+    let expected = b"parity 4;\n0 1 0 0,4 \"a b\";\n4 0 1 0;\n";
+    assert_eq!(rt; out.as_slice(), expected.as_slice());
+    Ok(())
+}
+
+#[test]
+fn each_white_space_byte(rt: HostRuntime) -> Result<(), Fail> {
+    let out = reprinted(
+        rt.alloc(),
+        b"\x09parity\x0a0\x0b;\x0c\x0d 0\x091\x0a0\x0b0\x0c,\x0d0 \"n\"\x0c;\x0b",
+    )?;
+    assert_eq!(rt; out.as_slice(), b"parity 0;\n0 1 0 0 \"n\";\n".as_slice());
+    Ok(())
+}
+
+#[test]
+fn printed_as_it_was(rt: HostRuntime) -> Result<(), Fail> {
+    let text = b"parity 2;\n0 0 1 0,1;\n1 1 1 1,2 \"odd\";\n2 65535 0 0,2 \"\";\n";
+    let out = reprinted(rt.alloc(), text)?;
+    assert_eq!(rt; out.as_slice(), text.as_slice());
+    Ok(())
+}
+
+#[test]
+fn printed_by_rising_identifier(rt: HostRuntime) -> Result<(), Fail> {
+    let out = reprinted(
+        rt.alloc(),
+        b"start 7;4000000000 2 0 7;\n7 1 1 4000000000,7,7;",
+    )?;
+    let expected = b"parity 4000000000;\n7 1 1 7,4000000000;\n4000000000 2 0 7;\n";
+    assert_eq!(rt; out.as_slice(), expected.as_slice());
+    Ok(())
+}

@@ -1,0 +1,77 @@
+//! Texts of solutions that are read and printed.
+
+use pg_arena::{Player, Vertex};
+use pg_text::{TextFault, read_game, read_solution, write_solution};
+use std::alloc::Global;
+use std::test::Fail;
+
+/// Vertex 0 is Even's, with edges to 0 and 1; vertex 1 is Odd's, with an edge to 0.
+pub(crate) const TWO: &[u8] = b"parity 1;\n0 1 0 0,1;\n1 2 1 0;\n";
+
+/// The identifiers are far apart and out of order: 7 is Odd's, 4000000000 is Even's, and each leads to the other.
+const FAR: &[u8] = b"parity 4000000000;\n4000000000 2 0 7;\n7 1 1 4000000000;\n";
+
+/// The printed layout of the solution that the text spells for the game.
+fn reprinted(alloc: Global, game: &[u8], text: &[u8]) -> Result<Vec<u8>, TextFault> {
+    let game = read_game(alloc, game)?;
+    let solution = read_solution(alloc, &game, text)?;
+    let mut out = Vec::new(alloc);
+    write_solution(&game, &solution, &mut out)?;
+    Ok(out)
+}
+
+#[test]
+fn one_solution_in_several_spellings(rt: HostRuntime) -> Result<(), Fail> {
+    let game = read_game(rt.alloc(), TWO)?;
+    let texts: [&[u8]; 5] = [
+        b"0 0 1;\n1 0;\n",
+        b"1 0 0;\n0 0 01;",
+        b"paritysol 9;\n0 0 1;1 0;",
+        b"0 0 1;1 0 77;",
+        b"1\x0a0;0\x0c0\x0b1\x09; \x0d",
+    ];
+    for text in texts {
+        let solution = read_solution(rt.alloc(), &game, text)?;
+        assert_eq!(rt; solution.len(), 2);
+        assert_eq!(rt; solution.winner(Vertex(0)), Player::Even);
+        assert_eq!(rt; solution.choice(Vertex(0)), Some(Vertex(1)));
+        assert_eq!(rt; solution.winner(Vertex(1)), Player::Even);
+        assert_eq!(rt; solution.choice(Vertex(1)), None);
+    }
+    Ok(())
+}
+
+#[test]
+fn winners_on_both_sides(rt: HostRuntime) -> Result<(), Fail> {
+    let game = read_game(rt.alloc(), FAR)?;
+    let solution = read_solution(rt.alloc(), &game, b"4000000000 0 7;7 1 4000000000;")?;
+    assert_eq!(rt; solution.len(), 2);
+    assert_eq!(rt; solution.winner(Vertex(0)), Player::Odd);
+    assert_eq!(rt; solution.choice(Vertex(0)), Some(Vertex(1)));
+    assert_eq!(rt; solution.winner(Vertex(1)), Player::Even);
+    assert_eq!(rt; solution.choice(Vertex(1)), Some(Vertex(0)));
+    Ok(())
+}
+
+#[test]
+fn printed_by_rising_identifier(rt: HostRuntime) -> Result<(), Fail> {
+    let out = reprinted(
+        rt.alloc(),
+        FAR,
+        b"paritysol 9;4000000000 0 7;7 0 4000000000;",
+    )?;
+    let expected = b"paritysol 4000000000;\n7 0;\n4000000000 0 7;\n";
+    assert_eq!(rt; out.as_slice(), expected.as_slice());
+    Ok(())
+}
+
+#[test]
+fn printed_where_the_winner_owns(rt: HostRuntime) -> Result<(), Fail> {
+    let even = reprinted(rt.alloc(), TWO, b"1 0 0;\n0 0 01;")?;
+    let expected = b"paritysol 1;\n0 0 1;\n1 0;\n";
+    assert_eq!(rt; even.as_slice(), expected.as_slice());
+    let odd = reprinted(rt.alloc(), TWO, b"0 1 1;1 1 0;")?;
+    let expected = b"paritysol 1;\n0 1;\n1 1 0;\n";
+    assert_eq!(rt; odd.as_slice(), expected.as_slice());
+    Ok(())
+}
