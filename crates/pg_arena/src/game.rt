@@ -110,12 +110,14 @@ impl Game {
         }
     }
 
-    /// The vertex with this identifier, if there is one. It takes a binary search, or one look where no identifier between the
-    /// least and this one is left out.
+    /// The vertex with this identifier, if there is one. It takes a binary search, or one look where no identifier
+    /// between the least and this one is left out.
     pub fn vertex_of(&self, identifier: u32) -> Option<Vertex>
         ensures found { IfSome result (λ v. (v < length self.now) × ((vertex_at self.now v).identifier ≡ identifier)) }
-        ensures missing { IfNone result ((v : ℕ) → v < length self.now → (vertex_at self.now v).identifier ≢ identifier) }
-        ensures only { (v : ℕ) → v < length self.now → (vertex_at self.now v).identifier ≡ identifier → result ≡ Some v }
+        ensures missing { IfNone result
+            ((v : ℕ) → v < length self.now → (vertex_at self.now v).identifier ≢ identifier) }
+        ensures only { (v : ℕ) → v < length self.now → (vertex_at self.now v).identifier ≡ identifier
+            → result ≡ Some v }
     {
         match place_of(&self.identifiers, identifier) {
             Some(place) => Some(Vertex(place as u32)),
@@ -124,8 +126,8 @@ impl Game {
     }
 }
 
-/// The dual of a game: owners swapped and each priority raised by one, identifiers, names and edges kept. A player wins in it what
-/// the other player wins in the game. No priority may be over 65,535. Refuses only with `OutOfMemory`.
+/// The dual of a game: owners swapped and each priority raised by one, identifiers, names and edges kept. A player wins
+/// in it what the other player wins in the game. No priority may be over 65,535. Refuses only with `OutOfMemory`.
 pub fn dual(alloc: Global, game: &Game) -> Result<Game, ArenaFault>
     requires { HasPrioritiesUpTo 65535 game.now }
     ensures dual { IfOk result (λ d. d ≡ dual game.now) }

@@ -66,9 +66,21 @@ impl Lines {
         name: Option<&[u8]>,
     ) -> Result<(), ArenaFault>
         requires { IsStrictlyIncreasing successors.now }
-        ensures answer { let line : Line = record { identifier = identifier; priority = priority; owner = owner; successors = successors.now; name = option_copied name.entry }
+        ensures answer { let line : Line = record {
+          identifier = identifier;
+          priority = priority;
+          owner = owner;
+          successors = successors.now;
+          name = option_copied name.entry;
+        }
             in Answers result (add_fault self.old line) }
-        ensures ok { let line : Line = record { identifier = identifier; priority = priority; owner = owner; successors = successors.now; name = option_copied name.entry }
+        ensures ok { let line : Line = record {
+          identifier = identifier;
+          priority = priority;
+          owner = owner;
+          successors = successors.now;
+          name = option_copied name.entry;
+        }
             in OnOk result (self.new ≡ self.old ++ line ∷ []) }
         ensures err { OnErr result (self.new ≡ self.old) }
     {

@@ -18,7 +18,8 @@ pub(crate) fn linked(
 ) -> Result<Option<Vec<Vertex>>, AllocError>
     requires few { length identifiers.now ≤ 1048576 }
     requires rising { IsStrictlyIncreasing identifiers.now }
-    ensures { IfOk result (λ linked. MatchOption linked (HasUnknown identifiers.now targets.now) (λ vertices. AreLinked identifiers.now targets.now vertices.items)) }
+    ensures { IfOk result (λ linked. MatchOption linked (HasUnknown identifiers.now targets.now)
+        (λ vertices. AreLinked identifiers.now targets.now vertices.items)) }
 {
     let mut vertices = Vec::with_capacity(alloc, targets.len())?;
     for target in targets {

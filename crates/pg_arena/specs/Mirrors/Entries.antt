@@ -16,7 +16,13 @@ name_in names None = None
 name_in names (Some k) = option_map (λ n. n.items) (slice_get names k)
 
 abbrev pub vertex_in : List ℕ → List (Vec ℕ Global) → Entry → GameVertex
-vertex_in targets names e = record { identifier = e.identifier; priority = e.priority; owner = e.owner; successors = slice_range targets e.from e.to; name = name_in names e.name }
+vertex_in targets names e = record {
+  identifier = e.identifier;
+  priority = e.priority;
+  owner = e.owner;
+  successors = slice_range targets e.from e.to;
+  name = name_in names e.name;
+}
 
 abbrev pub vertices_in : List ℕ → List (Vec ℕ Global) → List Entry → List GameVertex
 vertices_in targets names entries = map (vertex_in targets names) entries
@@ -57,7 +63,8 @@ pub record AreKept (identifiers targets : List ℕ) (names : List (Vec ℕ Globa
 
 -- identifiers rise as long as they are in no set, and a set has just these
 abbrev pub AreTold : List ℕ → Option (BTreeSet ℕ) → Type 0
-AreTold identifiers set = MatchOption set (IsStrictlyIncreasing identifiers) (λ s. (q : ℕ) → contains nat_cmp s q ≡ list_any (λ x. q == x) identifiers)
+AreTold identifiers set = MatchOption set (IsStrictlyIncreasing identifiers)
+    (λ s. (q : ℕ) → contains nat_cmp s q ≡ list_any (λ x. q == x) identifiers)
 
 -- the entry of the dual's vertex
 abbrev pub dual_entry : Entry → Entry
