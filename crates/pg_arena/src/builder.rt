@@ -8,6 +8,7 @@ ghost use Rattle.pg_arena.specs.Lines.{Line, counted, each_once, add_fault, Answ
 
 use crate::fault::ArenaFault;
 use crate::game::Game;
+use crate::limits::MAX_PRIORITY;
 use crate::lines::Lines;
 use crate::player::Player;
 use std::alloc::{AllocError, Global};
@@ -92,7 +93,7 @@ impl GameBuilder {
         ensures game { IfOk result (λ game. IsGameOf self game) }
         ensures only { (game : List GameVertex) → IsGameOf self game
             → MatchResult result (λ g. g ≡ game) (λ e. e ≡ OutOfMemory) }
-        ensures priorities { IfOk result (HasPrioritiesUpTo 65535) }
+        ensures priorities { IfOk result (HasPrioritiesUpTo MAX_PRIORITY) }
         ensures fault { IfErr result (λ fault. FinishFails self fault) }
     {
         let GameBuilder { lines, buffer: _ } = self;

@@ -7,6 +7,7 @@ use Rattle.std.specs.BTreeSet.{BTreeSet, contains}
 use Rattle.std.specs.declared.vec.Vec.{Vec}
 use Rattle.std.specs.declared.alloc.Global.{Global}
 use Rattle.pg_arena.specs.declared.entry.Entry.{Entry}
+use Rattle.pg_arena.specs.declared.limits.TheConstants.{MAX_PRIORITY, MAX_VERTICES, MAX_EDGES}
 use Rattle.pg_arena.specs.Games.{GameVertex, IsGame, IsWithinLimits, HasPrioritiesUpTo, opponent}
 use Rattle.pg_arena.specs.Lines.{Line}
 
@@ -45,7 +46,7 @@ AreNamed names entries = All (λ e. IfSome e.name (λ k. k < length names)) entr
 
 -- what an accepted line is, whatever the others are
 pub record IsOrderly (line : Line) : Type 0 where
-  pub priority : line.priority ≤ 65535
+  pub priority : line.priority ≤ MAX_PRIORITY
   pub goes_on : 0 < length line.successors
   pub rise : IsStrictlyIncreasing line.successors
 
@@ -57,8 +58,8 @@ pub record AreKept (identifiers targets : List ℕ) (names : List (Vec ℕ Globa
   pub distinct : IsDistinct nat_eq identifiers
   pub laid : targets ≡ flat_map (λ line. line.successors) (vertices_in targets names entries)
   pub orderly : All IsOrderly (vertices_in targets names entries)
-  pub few_vertices : length entries ≤ 1048576
-  pub few_edges : length targets ≤ 8388608
+  pub few_vertices : length entries ≤ MAX_VERTICES
+  pub few_edges : length targets ≤ MAX_EDGES
   pub few_names : length names ≤ length entries
 
 -- identifiers rise as long as they are in no set, and a set has just these
