@@ -2,6 +2,7 @@
 use Rattle.std.specs.Prelude.{◌≡◌, ℕ, ◌+◌, ◌%◌, ◌<◌, ◌≤◌, List, [], ◌∷◌, Option, None, length, map, slice_index_or, All, Contains}
 use Rattle.std.specs.List.{sum_by}
 use Rattle.std.specs.List.Sorted.{IsStrictlyIncreasing}
+use Rattle.pg_arena.specs.declared.limits.TheConstants.{MAX_VERTICES, MAX_EDGES}
 use Rattle.pg_arena.specs.declared.player.Player.{Player}
 use Rattle.pg_arena.specs.declared.player.Player.TheVariants.{Even, Odd}
 
@@ -66,8 +67,8 @@ pub record IsGame (game : List GameVertex) : Type 0 where
 
 -- how large a game may be
 pub record IsWithinLimits (game : List GameVertex) : Type 0 where
-  pub vertices : length game ≤ 1048576
-  pub edges : edge_count game ≤ 8388608
+  pub vertices : length game ≤ MAX_VERTICES
+  pub edges : edge_count game ≤ MAX_EDGES
 
 -- no priority is above the limit
 abbrev pub HasPrioritiesUpTo : ℕ → List GameVertex → Type 0

@@ -4,6 +4,7 @@ use Rattle.std.specs.List.{list_any}
 use Rattle.std.specs.List.Sorted.{IsPermutation}
 use Rattle.pg_arena.specs.declared.fault.ArenaFault.{ArenaFault}
 use Rattle.pg_arena.specs.declared.fault.ArenaFault.TheVariants.{OutOfMemory, DuplicateVertex, NoSuccessor, UnknownSuccessor, TooManyVertices, TooManyEdges, PriorityTooLarge, NoVertex}
+use Rattle.pg_arena.specs.declared.limits.TheConstants.{MAX_PRIORITY, MAX_VERTICES, MAX_EDGES}
 use Rattle.pg_arena.specs.Games.{GameVertex, IsGame, identifier, edge_count}
 
 -- A line says of a vertex what a game says of it, but that a successor is given by its identifier.
@@ -31,11 +32,11 @@ is_named lines n = list_any (λ line. n == line.identifier) lines
 -- why a line may not follow these lines: the first reason
 abbrev pub add_fault : List Line → Line → Option ArenaFault
 add_fault lines line =
-    if nat_lt 65535 line.priority then Some (PriorityTooLarge line.identifier line.priority)
+    if nat_lt MAX_PRIORITY line.priority then Some (PriorityTooLarge line.identifier line.priority)
     else (if length line.successors == 0 then Some (NoSuccessor line.identifier)
     else (if is_named lines line.identifier then Some (DuplicateVertex line.identifier)
-    else (if nat_le 1048576 (length lines) then Some TooManyVertices
-    else (if nat_lt 8388608 (edge_count lines + length line.successors) then Some TooManyEdges
+    else (if nat_le MAX_VERTICES (length lines) then Some TooManyVertices
+    else (if nat_lt MAX_EDGES (edge_count lines + length line.successors) then Some TooManyEdges
     else None))))
 
 -- the call succeeds where there is no reason against it, and else names the reason; memory may run out

@@ -8,6 +8,7 @@ ghost use Rattle.pg_arena.specs.Lines.{Line, counted, each_once, add_fault, Answ
 
 use crate::fault::ArenaFault;
 use crate::game::Game;
+use crate::limits::MAX_PRIORITY;
 use crate::lines::Lines;
 use crate::player::Player;
 use std::alloc::{AllocError, Global};
@@ -40,11 +41,13 @@ impl GameBuilder {
         }
     }
 
-    /// Adds a line: a vertex by its identifier, and its successors by theirs, in any order. A repeated successor counts once.
+    /// Adds a line: a vertex by its identifier, and its successors by theirs, in any order. A repeated successor counts
+    /// once.
     ///
-    /// Refuses, the first that fits: `PriorityTooLarge` for a priority over 65,535; `NoSuccessor`; `DuplicateVertex` if an
-    /// earlier line has the identifier; `TooManyVertices` after 1,048,576 lines; `TooManyEdges` if the edges would be over
-    /// 8,388,608. The builder is then as it was, and so it is after `OutOfMemory`, which may come at any growth.
+    /// Refuses, the first that fits: `PriorityTooLarge` for a priority over 65,535; `NoSuccessor`; `DuplicateVertex` if
+    /// an earlier line has the identifier; `TooManyVertices` after 1,048,576 lines; `TooManyEdges` if the edges would
+    /// be over 8,388,608. The builder is then as it was, and so it is after `OutOfMemory`, which may come at any
+    /// growth.
     pub fn add(
         &mut self,
         identifier: u32,
@@ -53,9 +56,21 @@ impl GameBuilder {
         successors: &[u32],
         name: Option<&[u8]>,
     ) -> Result<(), ArenaFault>
-        ensures answer { let line : Line = record { identifier = identifier; priority = priority; owner = owner; successors = successors.now; name = option_copied name.entry }
+        ensures answer { let line : Line = record {
+          identifier = identifier;
+          priority = priority;
+          owner = owner;
+          successors = successors.now;
+          name = option_copied name.entry;
+        }
             in Answers result (add_fault self.old (counted line)) }
-        ensures ok { let line : Line = record { identifier = identifier; priority = priority; owner = owner; successors = successors.now; name = option_copied name.entry }
+        ensures ok { let line : Line = record {
+          identifier = identifier;
+          priority = priority;
+          owner = owner;
+          successors = successors.now;
+          name = option_copied name.entry;
+        }
             in OnOk result (self.new ≡ self.old ++ counted line ∷ []) }
         ensures err { OnErr result (self.new ≡ self.old) }
     {
@@ -71,13 +86,14 @@ impl GameBuilder {
 
     /// The game of the lines, in whatever order they came.
     ///
-    /// Refuses with `NoVertex` if there is no line; then with `UnknownSuccessor` if no line defines some successor: it names the
-    /// line of the least identifier with such a successor, and the least of these there; else only with `OutOfMemory`, which
-    /// may come ahead of `UnknownSuccessor`.
+    /// Refuses with `NoVertex` if there is no line; then with `UnknownSuccessor` if no line defines some successor: it
+    /// names the line of the least identifier with such a successor, and the least of these there; else only with
+    /// `OutOfMemory`, which may come ahead of `UnknownSuccessor`.
     pub fn finish(self) -> Result<Game, ArenaFault>
         ensures game { IfOk result (λ game. IsGameOf self game) }
-        ensures only { (game : List GameVertex) → IsGameOf self game → MatchResult result (λ g. g ≡ game) (λ e. e ≡ OutOfMemory) }
-        ensures priorities { IfOk result (HasPrioritiesUpTo 65535) }
+        ensures only { (game : List GameVertex) → IsGameOf self game
+            → MatchResult result (λ g. g ≡ game) (λ e. e ≡ OutOfMemory) }
+        ensures priorities { IfOk result (HasPrioritiesUpTo MAX_PRIORITY) }
         ensures fault { IfErr result (λ fault. FinishFails self fault) }
     {
         let GameBuilder { lines, buffer: _ } = self;

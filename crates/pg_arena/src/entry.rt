@@ -3,6 +3,7 @@
 ghost use Rattle.std.specs.Prelude.{◌≡◌, ◌≤◌};
 ghost use Rattle.pg_arena.specs.Mirrors.Entries.{dual_entry};
 
+use crate::limits::MAX_PRIORITY;
 use crate::player::Player;
 
 /// A vertex whose successors stand from `from` to `to` in a list of all, and its name at `name` in another.
@@ -19,7 +20,7 @@ pub(crate) struct Entry {
 impl Entry {
     /// The vertex of the other player, with its priority raised by one.
     pub fn dual(self) -> Entry
-        requires { self.priority ≤ 65535 }
+        requires { self.priority ≤ MAX_PRIORITY }
         ensures { result ≡ dual_entry self }
     {
         Entry {

@@ -7,6 +7,7 @@ ghost use Rattle.pg_arena.specs.declared.fault.ArenaFault.TheVariants.{OutOfMemo
 
 use crate::entry::Entry;
 use crate::fault::ArenaFault;
+use crate::limits::MAX_PRIORITY;
 use crate::place::place_of;
 use crate::player::Player;
 use crate::vertex::Vertex;
@@ -110,12 +111,14 @@ impl Game {
         }
     }
 
-    /// The vertex with this identifier, if there is one. It takes a binary search, or one look where no identifier between the
-    /// least and this one is left out.
+    /// The vertex with this identifier, if there is one. It takes a binary search, or one look where no identifier
+    /// between the least and this one is left out.
     pub fn vertex_of(&self, identifier: u32) -> Option<Vertex>
         ensures found { IfSome result (λ v. (v < length self.now) × ((vertex_at self.now v).identifier ≡ identifier)) }
-        ensures missing { IfNone result ((v : ℕ) → v < length self.now → (vertex_at self.now v).identifier ≢ identifier) }
-        ensures only { (v : ℕ) → v < length self.now → (vertex_at self.now v).identifier ≡ identifier → result ≡ Some v }
+        ensures missing { IfNone result
+            ((v : ℕ) → v < length self.now → (vertex_at self.now v).identifier ≢ identifier) }
+        ensures only { (v : ℕ) → v < length self.now → (vertex_at self.now v).identifier ≡ identifier
+            → result ≡ Some v }
     {
         match place_of(&self.identifiers, identifier) {
             Some(place) => Some(Vertex(place as u32)),
@@ -124,10 +127,10 @@ impl Game {
     }
 }
 
-/// The dual of a game: owners swapped and each priority raised by one, identifiers, names and edges kept. A player wins in it what
-/// the other player wins in the game. No priority may be over 65,535. Refuses only with `OutOfMemory`.
+/// The dual of a game: owners swapped and each priority raised by one, identifiers, names and edges kept. A player wins
+/// in it what the other player wins in the game. No priority may be over 65,535. Refuses only with `OutOfMemory`.
 pub fn dual(alloc: Global, game: &Game) -> Result<Game, ArenaFault>
-    requires { HasPrioritiesUpTo 65535 game.now }
+    requires { HasPrioritiesUpTo MAX_PRIORITY game.now }
     ensures dual { IfOk result (λ d. d ≡ dual game.now) }
     ensures fault { IfErr result (λ e. e ≡ OutOfMemory) }
 {
@@ -139,7 +142,7 @@ pub fn dual(alloc: Global, game: &Game) -> Result<Game, ArenaFault>
 }
 
 fn dual_entries(alloc: Global, entries: &[Entry]) -> Result<Vec<Entry>, AllocError>
-    requires { All (λ e. e.priority ≤ 65535) entries.now }
+    requires { All (λ e. e.priority ≤ MAX_PRIORITY) entries.now }
     ensures { IfOk result (λ list. list.items ≡ map dual_entry entries.now) }
 {
     let mut list = Vec::with_capacity(alloc, entries.len())?;

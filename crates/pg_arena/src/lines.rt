@@ -10,16 +10,11 @@ use crate::entry::Entry;
 use crate::fault::ArenaFault;
 use crate::game::Game;
 use crate::identifiers::Identifiers;
+use crate::limits::{MAX_EDGES, MAX_PRIORITY, MAX_VERTICES};
 use crate::link::{first_unknown, linked};
 use crate::player::Player;
 use std::alloc::{AllocError, Global};
 use std::marker::Model;
-
-const MAX_PRIORITY: u32 = 65_535;
-
-const MAX_VERTICES: usize = 1_048_576;
-
-const MAX_EDGES: usize = 8_388_608;
 
 /// The lines in the order in which they came. Targets are identifiers.
 #[derive(Drop)]
@@ -66,9 +61,21 @@ impl Lines {
         name: Option<&[u8]>,
     ) -> Result<(), ArenaFault>
         requires { IsStrictlyIncreasing successors.now }
-        ensures answer { let line : Line = record { identifier = identifier; priority = priority; owner = owner; successors = successors.now; name = option_copied name.entry }
+        ensures answer { let line : Line = record {
+          identifier = identifier;
+          priority = priority;
+          owner = owner;
+          successors = successors.now;
+          name = option_copied name.entry;
+        }
             in Answers result (add_fault self.old line) }
-        ensures ok { let line : Line = record { identifier = identifier; priority = priority; owner = owner; successors = successors.now; name = option_copied name.entry }
+        ensures ok { let line : Line = record {
+          identifier = identifier;
+          priority = priority;
+          owner = owner;
+          successors = successors.now;
+          name = option_copied name.entry;
+        }
             in OnOk result (self.new ≡ self.old ++ line ∷ []) }
         ensures err { OnErr result (self.new ≡ self.old) }
     {
@@ -111,7 +118,7 @@ impl Lines {
     /// The game of the lines.
     pub fn finish(self) -> Result<Game, ArenaFault>
         ensures game { IfOk result (λ game. IsGameOf self game) }
-        ensures priorities { IfOk result (HasPrioritiesUpTo 65535) }
+        ensures priorities { IfOk result (HasPrioritiesUpTo MAX_PRIORITY) }
         ensures fault { IfErr result (λ fault. FinishFails self fault) }
     {
         let Lines {
@@ -163,7 +170,7 @@ fn copied(alloc: Global, name: Option<&[u8]>) -> Result<Option<Vec<u8>>, AllocEr
 /// Puts a name behind the others, for which there is room, and answers its place.
 fn keep(names: &mut Vec<Vec<u8>>, name: Option<Vec<u8>>) -> Option<u32>
     requires room { vec_len names.old < vec_capacity names.old }
-    requires few { length names.old.items < 1048576 }
+    requires few { length names.old.items < MAX_VERTICES }
     ensures names { names.new.items ≡ names.old.items ++ option_to_list name }
     ensures place { result ≡ option_map (λ _. length names.old.items) name }
 {

@@ -6,6 +6,7 @@ ghost use Rattle.pg_arena.specs.Mirrors.Entries.{AreWithin};
 ghost use Rattle.pg_arena.specs.Mirrors.Links.{is_among, AreLinked, HasUnknown, unknown_in, first_unknown_in};
 
 use crate::entry::Entry;
+use crate::limits::MAX_VERTICES;
 use crate::place::place_of;
 use crate::vertex::Vertex;
 use std::alloc::{AllocError, Global};
@@ -16,9 +17,10 @@ pub(crate) fn linked(
     identifiers: &[u32],
     targets: &[u32],
 ) -> Result<Option<Vec<Vertex>>, AllocError>
-    requires few { length identifiers.now ≤ 1048576 }
+    requires few { length identifiers.now ≤ MAX_VERTICES }
     requires rising { IsStrictlyIncreasing identifiers.now }
-    ensures { IfOk result (λ linked. MatchOption linked (HasUnknown identifiers.now targets.now) (λ vertices. AreLinked identifiers.now targets.now vertices.items)) }
+    ensures { IfOk result (λ linked. MatchOption linked (HasUnknown identifiers.now targets.now)
+        (λ vertices. AreLinked identifiers.now targets.now vertices.items)) }
 {
     let mut vertices = Vec::with_capacity(alloc, targets.len())?;
     for target in targets {

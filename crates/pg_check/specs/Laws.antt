@@ -32,7 +32,8 @@ pub record WinsAll (game : List GameVertex) (solution : List Answer) : Type 0 wh
   pub wins : (v : ℕ) → Wins game solution v
 
 abbrev pub SoundWins : Type 0
-SoundWins = (game : List GameVertex) (solution : List Answer) → IsGame game → IsSound game solution → WinsAll game solution
+SoundWins = (game : List GameVertex) (solution : List Answer) → IsGame game → IsSound game solution
+    → WinsAll game solution
 
 -- a solution is sound exactly if each printed winner wins by the printed strategy
 abbrev pub SoundIffWins : Type 0

@@ -38,7 +38,8 @@ pub record AreClosed (game : List GameVertex) (f g : MapValue) : Type 0 where
   pub dual_map : IsClosed g.bounds (game_line (dual game)) g.measures
 
 -- w is the first successor of v that serves it
-pub record IsFirstServing (bounds : BoundList) (lines : ℕ → Option Line) (f : List MeasureValue) (v w : ℕ) : Type 0 where
+pub record IsFirstServing (bounds : BoundList) (lines : ℕ → Option Line) (f : List MeasureValue)
+    (v w : ℕ) : Type 0 where
   pub follows : Contains (line_at lines v).successors w
   pub serves : IsServedBy bounds lines f v w
   pub first : (u : ℕ) → Contains (line_at lines v).successors u → IsServedBy bounds lines f v u → w ≤ u
@@ -52,7 +53,8 @@ IsChoiceFor player game f g v w =
 -- serves v in its map; otherwise there is no choice.
 pub record IsAnswerOf (game : List GameVertex) (f g : MapValue) (v : ℕ) (answer : Answer) : Type 0 where
   pub wins : (player : Player) → (answer.winner ≡ player) ↔ HasList player f g v
-  pub chosen : owner game v ≡ answer.winner → (w : ℕ) × (answer.choice ≡ Some w) × IsChoiceFor answer.winner game f g v w
+  pub chosen : owner game v ≡ answer.winner → (w : ℕ) × (answer.choice ≡ Some w)
+      × IsChoiceFor answer.winner game f g v w
   pub elsewhere : owner game v ≡ opponent answer.winner → answer.choice ≡ None
 
 -- the solution of a map of the game and one of its dual
@@ -79,7 +81,8 @@ StrategiesFail game f g OutOfMemory = Unit {0}
 StrategiesFail game f g (Undecided id) = IsLeastUndecided game f g id
 
 -- v has a list in the map, and each edge that counts leads from v to a vertex with the same winner that serves v there
-pub record IsCertifiedBy (bounds : BoundList) (lines : ℕ → Option Line) (f : List MeasureValue) (game : List GameVertex) (solution : List Answer) (v : ℕ) : Type 0 where
+pub record IsCertifiedBy (bounds : BoundList) (lines : ℕ → Option Line) (f : List MeasureValue)
+    (game : List GameVertex) (solution : List Answer) (v : ℕ) : Type 0 where
   pub listed : IsSome (measure_at f v)
   pub stays : (w : ℕ) → Counts game solution v w → winner solution w ≡ winner solution v
   pub served : (w : ℕ) → Counts game solution v w → IsServedBy bounds lines f v w
@@ -105,7 +108,8 @@ pub record WinsByLists (game : List GameVertex) (f : MapValue) : Type 0 where
 
 abbrev pub ListsWin : Type 0
 ListsWin =
-    (game : List GameVertex) (f : MapValue) → IsGame game → IsClosed f.bounds (game_line game) f.measures → WinsByLists game f
+    (game : List GameVertex) (f : MapValue) → IsGame game → IsClosed f.bounds (game_line game) f.measures
+    → WinsByLists game f
 
 abbrev pub NoListInBoth : Type 0
 NoListInBoth =

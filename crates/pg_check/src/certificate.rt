@@ -18,10 +18,10 @@ use pg_map::{Lines, MeasureMap, View};
 use pg_text::Solution;
 use std::alloc::Global;
 
-/// Whether the maps certify the solution. The first has to be over the game's vertices and bounds, the second over those
-/// of its dual; they needn't be closed. True exactly if each vertex that Even wins has a list in the first map and every
-/// edge that counts leads from it to a vertex that Even wins and that serves it there, and the same holds for Odd with
-/// the second map and the dual. Then the solution is sound. Takes no memory.
+/// Whether the maps certify the solution. The first has to be over the game's vertices and bounds, the second over
+/// those of its dual; they needn't be closed. True exactly if each vertex that Even wins has a list in the first map
+/// and every edge that counts leads from it to a vertex that Even wins and that serves it there, and the same holds for
+/// Odd with the second map and the dual. Then the solution is sound. Takes no memory.
 pub fn certifies(game: &Game, solution: &Solution, even: &MeasureMap, odd: &MeasureMap) -> bool
     requires solution { IsSolution game.now solution.now }
     requires even_size { length even.now.measures ≡ length game.now }

@@ -38,7 +38,8 @@ fn bad_cycle_through(
 ) -> Result<Option<Vec<Vertex>>, AllocError>
     requires whole { length solution.now ≡ length game.now }
     requires within { v < length game.now }
-    ensures none { IfOk result (λ found. IfNone found (IsLost game.now solution.now v → HasNoCycle game.now solution.now v)) }
+    ensures none { IfOk result (λ found. IfNone found
+        (IsLost game.now solution.now v → HasNoCycle game.now solution.now v)) }
     ensures some { IfOk result (λ found. IfSome found (λ cycle. IsSimpleBadCycle game.now solution.now cycle.items)) }
 {
     if !is_lost(game, solution, v) {
@@ -65,13 +66,14 @@ fn search_each(
     Ok(None)
 }
 
-/// A bad cycle, by strongly connected components of the edges that count. Each turn of the loop numbers the components of
-/// the vertices that are left, in time linear in their edges. Where the greatest priority of a component with an edge is
-/// of a lost vertex, a bad cycle goes through that vertex. Else the vertices over the component's greatest lost priority
-/// are left out, and those that no edge keeps in their component.
+/// A bad cycle, by strongly connected components of the edges that count. Each turn of the loop numbers the components
+/// of the vertices that are left, in time linear in their edges. Where the greatest priority of a component with an
+/// edge is of a lost vertex, a bad cycle goes through that vertex. Else the vertices over the component's greatest lost
+/// priority are left out, and those that no edge keeps in their component.
 ///
 /// That the components are strongly connected isn't proved, nor needed: `sift` rules out only what it may. Should the
-/// components not be what they ought to be, the plain search from each vertex decides; with true components it never runs.
+/// components not be what they ought to be, the plain search from each vertex decides; with true components it never
+/// runs.
 fn bad_cycle(
     alloc: Global,
     game: &Game,

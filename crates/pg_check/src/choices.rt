@@ -16,8 +16,8 @@ use pg_text::Solution;
 use std::alloc::Global;
 
 /// The solution of a closed map of the game and a closed map of its dual, whether or not they are the least. Even wins
-/// where the first has a list, Odd where the second has; on a vertex that the winner owns, its choice is the successor of
-/// least identifier that serves the vertex in the winner's map. The solution is sound.
+/// where the first has a list, Odd where the second has; on a vertex that the winner owns, its choice is the successor
+/// of least identifier that serves the vertex in the winner's map. The solution is sound.
 ///
 /// Refuses with `Undecided` of the least identifier at which both maps have top, exactly if there is one, but for want
 /// of memory.

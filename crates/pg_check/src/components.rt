@@ -1,5 +1,5 @@
-//! Strongly connected components of the edges that count, by one search through their depth. What it finds is a proposal:
-//! its contract says only that it is safe, and `sift` judges the numbers.
+//! Strongly connected components of the edges that count, by one search through their depth. What it finds is a
+//! proposal: its contract says only that it is safe, and `sift` judges the numbers.
 
 ghost use Rattle.std.specs.Prelude.{◌≡◌, ◌<◌, ◌≤◌, length, [], All, IfOk, IfSome};
 ghost use Rattle.pg_arena.specs.Games.{IsGame};
@@ -14,7 +14,8 @@ use std::alloc::{AllocError, Global};
 /// The number of a vertex that the search hasn't met.
 pub(crate) const NEW: u32 = 0;
 
-/// The number of a vertex that the search leaves out. Components have the numbers below it, the first component the greatest.
+/// The number of a vertex that the search leaves out. Components have the numbers below it, the first component the
+/// greatest.
 pub(crate) const OUT: u32 = u32::MAX;
 
 /// A vertex on the way of the search: its turn, the first turn that it is known to lead back to, and its next edge.
@@ -85,7 +86,8 @@ fn next_new(game: &Game, solution: &Solution, numbers: &[u32], frame: &mut Frame
     None
 }
 
-/// Where the last component begins among the vertices of no component yet: it has those that were met at this turn or later.
+/// Where the last component begins among the vertices of no component yet: it has those that were met at this turn or
+/// later.
 fn component_start(numbers: &[u32], unclosed: &[Vertex], turn: u32) -> usize
     requires { All (λ v. v < length numbers.now) unclosed.now }
     ensures { result ≤ length unclosed.now }
@@ -136,8 +138,8 @@ fn close(
     Component { limit, suspect }
 }
 
-/// A search in its midst: the way to the vertex that it stands at, the vertices of no component yet, the turn of the vertex
-/// that it met last, the limits of the components and the number of the last.
+/// A search in its midst: the way to the vertex that it stands at, the vertices of no component yet, the turn of the
+/// vertex that it met last, the limits of the components and the number of the last.
 #[derive(Drop)]
 struct Search {
     path: Vec<Frame>,
@@ -174,7 +176,8 @@ impl Search {
         Ok(())
     }
 
-    /// Is done with a vertex. Where it leads back to none before it, its component is closed, and perhaps has a suspect.
+    /// Is done with a vertex. Where it leads back to none before it, its component is closed, and perhaps has a
+    /// suspect.
     fn leave(
         &mut self,
         game: &Game,
@@ -246,8 +249,8 @@ impl Search {
     }
 }
 
-/// Numbers the vertices, which are new, by components: an edge that counts leads to the same number, a greater one or `OUT`.
-/// It stops at the first component with a suspect.
+/// Numbers the vertices, which are new, by components: an edge that counts leads to the same number, a greater one or
+/// `OUT`. It stops at the first component with a suspect.
 pub(crate) fn find_components(
     alloc: Global,
     game: &Game,

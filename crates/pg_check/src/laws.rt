@@ -37,8 +37,8 @@ pub fn sound_wins_of<P: Play>(play: &P)
         × WinsPlay (winner solution (P.vertex play.now 0)) (λ t. priority (P.game play.now) (P.vertex play.now t)) }
 {}
 
-/// A solution is sound exactly if each winner wins by it: every play that follows it from the vertex stays with the winner
-/// and is won by that player.
+/// A solution is sound exactly if each winner wins by it: every play that follows it from the vertex stays with the
+/// winner and is won by that player.
 pub fn sound_iff_wins()
     ensures { SoundIffWins }
 {}
@@ -56,7 +56,8 @@ pub fn one_winner()
 
 ghost use Rattle.pg_check.specs.Strategies.{ListsWin, NoListInBoth, DecidedMapsSolve, ClosedMapsSound, CertifiedSound};
 
-/// In a closed map of a game, from each vertex with a list Even wins every play in which it goes to successors that serve.
+/// In a closed map of a game, from each vertex with a list Even wins every play in which it goes to successors that
+/// serve.
 pub fn lists_win()
     ensures { ListsWin }
 {}

@@ -2,7 +2,8 @@
 
 ghost use Rattle.pg_determined.specs.Winners.{HasSoundSolution, EachHasOneWinner, LeastTellsWinners, NeverUndecided};
 
-/// Each game has a sound solution, so that from each vertex some player wins by a strategy that looks at the vertex alone.
+/// Each game has a sound solution, so that from each vertex some player wins by a strategy that looks at the vertex
+/// alone.
 pub fn has_sound_solution()
     ensures { HasSoundSolution }
 {}

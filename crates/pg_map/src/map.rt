@@ -38,8 +38,8 @@ impl Model for MeasureMap {
 }
 
 impl MeasureMap {
-    /// The map with zeros at each vertex. It takes all the memory that the map ever has, and is refused only for want of
-    /// it, also where the size of the table can't be had.
+    /// The map with zeros at each vertex. It takes all the memory that the map ever has, and is refused only for want
+    /// of it, also where the size of the table can't be had.
     pub fn zero(alloc: Global, vertices: u32, bounds: &Bounds) -> Result<MeasureMap, AllocError>
         ensures bounds { IfOk result (λ m. m.bounds ≡ bounds.now) }
         ensures zeros { IfOk result (λ m. m.measures ≡ zero_map bounds.now vertices) }
@@ -102,10 +102,12 @@ impl MeasureMap {
         requires fits { Fits self.old.bounds (measure_in m) }
         ensures bounds { self.new.bounds ≡ self.old.bounds }
         ensures size { length self.new.measures ≡ length self.old.measures }
-        ensures rose { OnTrue result (IsBelow (measure_at self.old.measures v) (measure_in m.entry) × (self.new.measures ≡ slice_set self.old.measures v (measure_in m.entry))) }
+        ensures rose { OnTrue result (IsBelow (measure_at self.old.measures v) (measure_in m.entry)
+            × (self.new.measures ≡ slice_set self.old.measures v (measure_in m.entry))) }
         ensures stays { OnFalse result (AtMost (measure_in m.entry) (measure_at self.old.measures v)) }
         ensures same { OnFalse result (self.new ≡ self.old) }
-        ensures join { IsJoin self.old.measures (update_map self.old.bounds (length self.old.measures) v (measure_in m.entry)) self.new.measures }
+        ensures join { IsJoin self.old.measures
+            (update_map self.old.bounds (length self.old.measures) v (measure_in m.entry)) self.new.measures }
     {
         table::raise(
             &mut self.cells,
@@ -181,11 +183,13 @@ impl MeasureMap {
         requires within { AreWithin (length self.old.measures) (G.line lines.now) }
         ensures bounds { self.new.bounds ≡ self.old.bounds }
         ensures map { IsMap self.old.bounds (length self.old.measures) self.new.measures }
-        ensures lifted { OnTrue result (IsLifted self.old.bounds (G.line lines.now) self.old.measures self.new.measures v) }
+        ensures lifted { OnTrue result (IsLifted self.old.bounds
+            (G.line lines.now) self.old.measures self.new.measures v) }
         ensures served { OnFalse result (IsServed self.old.bounds (G.line lines.now) self.old.measures v) }
         ensures same { OnFalse result (self.new ≡ self.old) }
         ensures under { StaysUnder self.old.bounds (G.line lines.now) self.old.measures self.new.measures }
-        ensures weight { OnTrue result (map_weight self.old.bounds self.new.measures < map_weight self.old.bounds self.old.measures) }
+        ensures weight { OnTrue result
+            (map_weight self.old.bounds self.new.measures < map_weight self.old.bounds self.old.measures) }
     {
         table::lift(
             &mut self.cells,
@@ -203,8 +207,10 @@ impl MeasureMap {
         requires { AreWithin (length self.now.measures) (G.line lines.now) }
         ensures fits { All (Fits self.now.bounds) self.now.measures }
         ensures closed { IfNone result (IsClosed self.now.bounds (G.line lines.now) self.now.measures) }
-        ensures liftable { IfSome result (λ v. IsSome (G.line lines.now v) × ¬ (IsServed self.now.bounds (G.line lines.now) self.now.measures v)) }
-        ensures least { IfSome result (λ v. (u : ℕ) → u < v → IsSome (G.line lines.now u) → IsServed self.now.bounds (G.line lines.now) self.now.measures u) }
+        ensures liftable { IfSome result
+            (λ v. IsSome (G.line lines.now v) × ¬ (IsServed self.now.bounds (G.line lines.now) self.now.measures v)) }
+        ensures least { IfSome result (λ v. (u : ℕ) → u < v → IsSome (G.line lines.now u)
+            → IsServed self.now.bounds (G.line lines.now) self.now.measures u) }
     {
         for number in 0..self.count {
             let v = Vertex(number);
@@ -215,8 +221,8 @@ impl MeasureMap {
         None
     }
 
-    /// Lifts each vertex that can be lifted, from 0 up. True exactly if one rose; else the map is closed. Each measure then
-    /// covers what some or all of the vertex's successors had before.
+    /// Lifts each vertex that can be lifted, from 0 up. True exactly if one rose; else the map is closed. Each measure
+    /// then covers what some or all of the vertex's successors had before.
     pub fn lift_each<G: Lines>(&mut self, lines: &G) -> bool
         requires { AreWithin (length self.old.measures) (G.line lines.now) }
         ensures bounds { self.new.bounds ≡ self.old.bounds }
@@ -225,7 +231,8 @@ impl MeasureMap {
         ensures covers { (v : ℕ) → IsSome (G.line lines.now v)
             → CoversSuccessors self.old.bounds (G.line lines.now) self.old.measures v (measure_at self.new.measures v) }
         ensures under { StaysUnder self.old.bounds (G.line lines.now) self.old.measures self.new.measures }
-        ensures weight { OnTrue result (map_weight self.old.bounds self.new.measures < map_weight self.old.bounds self.old.measures) }
+        ensures weight { OnTrue result
+            (map_weight self.old.bounds self.new.measures < map_weight self.old.bounds self.old.measures) }
         ensures same { OnFalse result (self.new ≡ self.old) }
         ensures closed { OnFalse result (IsClosed self.old.bounds (G.line lines.now) self.old.measures) }
     {
@@ -243,7 +250,8 @@ impl MeasureMap {
     fn is_served<G: Lines>(&self, lines: &G, v: Vertex) -> bool
         requires held { IsSome (G.line lines.now v) }
         requires within { AreWithin (length self.now.measures) (G.line lines.now) }
-        ensures { MatchBool result (IsServed self.now.bounds (G.line lines.now) self.now.measures v) (¬ (IsServed self.now.bounds (G.line lines.now) self.now.measures v)) }
+        ensures { MatchBool result (IsServed self.now.bounds (G.line lines.now) self.now.measures v)
+            (¬ (IsServed self.now.bounds (G.line lines.now) self.now.measures v)) }
     {
         table::is_served(
             &self.cells,
@@ -288,8 +296,8 @@ impl MeasureMap {
     }
 }
 
-/// Lifts until nothing can be lifted, in passes over all vertices. The map becomes the least closed map that is at least
-/// what it was: from zeros, the least progress measure.
+/// Lifts until nothing can be lifted, in passes over all vertices. The map becomes the least closed map that is at
+/// least what it was: from zeros, the least progress measure.
 pub fn lift_to_end<G: Lines>(map: &mut MeasureMap, lines: &G)
     requires { AreWithin (length map.old.measures) (G.line lines.now) }
     ensures bounds { map.new.bounds ≡ map.old.bounds }

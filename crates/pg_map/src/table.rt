@@ -38,8 +38,12 @@ pub(crate) fn write_step(
     requires to { to < count }
     requires front { front ≤ length bounds.now }
     ensures table { IsTable bounds.now count (length bounds.now + 1) cells.new }
-    ensures step { IsLeastCover bounds.now strict front (measure_at (table count (length bounds.now + 1) cells.old) from) (measure_at (table count (length bounds.now + 1) cells.new) to) }
-    ensures others { table count (length bounds.now + 1) cells.new ≡ slice_set (table count (length bounds.now + 1) cells.old) to (measure_at (table count (length bounds.now + 1) cells.new) to) }
+    ensures step { IsLeastCover bounds.now strict front
+        (measure_at (table count (length bounds.now + 1) cells.old) from)
+        (measure_at (table count (length bounds.now + 1) cells.new) to) }
+    ensures others { table count (length bounds.now + 1) cells.new ≡ slice_set
+        (table count (length bounds.now + 1) cells.old) to
+        (measure_at (table count (length bounds.now + 1) cells.new) to) }
 {
     let width = bounds.len() + 1;
     let best = from * width;
@@ -52,7 +56,8 @@ pub(crate) fn write_step(
 fn is_better(owner: Player, a: &[u32], b: &[u32], front: usize) -> bool
     requires first { front < length a.now }
     requires second { front < length b.now }
-    ensures { MatchBool result (IsBetter owner front (measure_of a.now) (measure_of b.now)) (IsBetter owner front (measure_of b.now) (measure_of a.now)) }
+    ensures { MatchBool result (IsBetter owner front (measure_of a.now) (measure_of b.now))
+        (IsBetter owner front (measure_of b.now) (measure_of a.now)) }
 {
     match owner {
         Player::Even => row::is_front_below(a, b, front),
@@ -105,7 +110,11 @@ pub(crate) fn covers(
     requires filled { length cells.now ≡ count * (length bounds.now + 1) }
     requires v { v < count }
     requires w { w < count }
-    ensures { MatchBool result (Covers bounds.now priority (measure_at (table count (length bounds.now + 1) cells.now) v) (measure_at (table count (length bounds.now + 1) cells.now) w)) (¬ (Covers bounds.now priority (measure_at (table count (length bounds.now + 1) cells.now) v) (measure_at (table count (length bounds.now + 1) cells.now) w))) }
+    ensures { MatchBool result (Covers bounds.now priority
+        (measure_at (table count (length bounds.now + 1) cells.now) v)
+        (measure_at (table count (length bounds.now + 1) cells.now) w))
+        (¬ (Covers bounds.now priority (measure_at (table count (length bounds.now + 1) cells.now) v)
+        (measure_at (table count (length bounds.now + 1) cells.now) w))) }
 {
     let width = bounds.len() + 1;
     row::covers(
@@ -131,7 +140,10 @@ pub(crate) fn is_served(
     requires v { v < count }
     requires successors { All (λ w. w < count) successors.now }
     requires nonempty { 0 < length successors.now }
-    ensures { MatchBool result (IsServed bounds.now (only (line_of priority owner successors.now)) (table count (length bounds.now + 1) cells.now) v) (¬ (IsServed bounds.now (only (line_of priority owner successors.now)) (table count (length bounds.now + 1) cells.now) v)) }
+    ensures { MatchBool result (IsServed bounds.now (only (line_of priority owner successors.now))
+        (table count (length bounds.now + 1) cells.now) v)
+        (¬ (IsServed bounds.now (only (line_of priority owner successors.now))
+        (table count (length bounds.now + 1) cells.now) v)) }
 {
     let front = row::width_from(bounds, priority);
     let width = bounds.len() + 1;
@@ -160,8 +172,11 @@ pub(crate) fn lift(
     requires successors { All (λ w. w < count) successors.now }
     requires nonempty { 0 < length successors.now }
     ensures table { IsTable bounds.now count (length bounds.now + 1) cells.new }
-    ensures lifted { OnTrue result (IsLifted bounds.now (only (line_of priority owner successors.now)) (table count (length bounds.now + 1) cells.old) (table count (length bounds.now + 1) cells.new) v) }
-    ensures served { OnFalse result (IsServed bounds.now (only (line_of priority owner successors.now)) (table count (length bounds.now + 1) cells.old) v) }
+    ensures lifted { OnTrue result (IsLifted bounds.now (only (line_of priority owner successors.now))
+        (table count (length bounds.now + 1) cells.old) (table count (length bounds.now + 1) cells.new) v) }
+    ensures served { OnFalse result
+        (IsServed bounds.now (only (line_of priority owner successors.now))
+        (table count (length bounds.now + 1) cells.old) v) }
     ensures same { OnFalse result (cells.new ≡ cells.old) }
 {
     let front = row::width_from(bounds, priority);
@@ -229,7 +244,8 @@ fn raise_row(row: &mut [u32], m: View) -> bool
     requires top { 0 < length row.old }
     requires list { (xs : List ℕ) → measure_in m ≡ Some xs → length row.old ≡ length xs + 1 }
     ensures length { length row.new ≡ length row.old }
-    ensures rose { OnTrue result ((IsBelow (measure_of row.old) (measure_in m.entry)) × (measure_of row.new ≡ measure_in m.entry)) }
+    ensures rose { OnTrue result ((IsBelow (measure_of row.old) (measure_in m.entry))
+        × (measure_of row.new ≡ measure_in m.entry)) }
     ensures stays { OnFalse result (AtMost (measure_in m.entry) (measure_of row.old)) }
     ensures same { OnFalse result (row.new ≡ row.old) }
 {
@@ -264,10 +280,14 @@ pub(crate) fn raise(
     requires v { v < count }
     requires fits { Fits bounds.now (measure_in m) }
     ensures table { IsTable bounds.now count (length bounds.now + 1) cells.new }
-    ensures rose { OnTrue result ((IsBelow (measure_at (table count (length bounds.now + 1) cells.old) v) (measure_in m.entry)) × (table count (length bounds.now + 1) cells.new ≡ slice_set (table count (length bounds.now + 1) cells.old) v (measure_in m.entry))) }
-    ensures stays { OnFalse result (AtMost (measure_in m.entry) (measure_at (table count (length bounds.now + 1) cells.old) v)) }
+    ensures rose { OnTrue result ((IsBelow (measure_at (table count (length bounds.now + 1) cells.old) v)
+        (measure_in m.entry)) × (table count (length bounds.now + 1) cells.new ≡ slice_set
+        (table count (length bounds.now + 1) cells.old) v (measure_in m.entry))) }
+    ensures stays { OnFalse result (AtMost (measure_in m.entry)
+        (measure_at (table count (length bounds.now + 1) cells.old) v)) }
     ensures same { OnFalse result (cells.new ≡ cells.old) }
-    ensures join { IsJoin (table count (length bounds.now + 1) cells.old) (update_map bounds.now count v (measure_in m.entry)) (table count (length bounds.now + 1) cells.new) }
+    ensures join { IsJoin (table count (length bounds.now + 1) cells.old)
+        (update_map bounds.now count v (measure_in m.entry)) (table count (length bounds.now + 1) cells.new) }
 {
     let width = bounds.len() + 1;
     let start = v * width;

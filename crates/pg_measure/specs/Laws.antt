@@ -14,7 +14,8 @@ pub record OrderIsTotal : Type 0 where
 
 -- zeros are the least measure of the bounds
 abbrev pub ZerosAreLeast : Type 0
-ZerosAreLeast = (bounds : BoundList) → Fits bounds (zeros bounds) × ((m : MeasureValue) → Fits bounds m → AtMost (zeros bounds) m)
+ZerosAreLeast = (bounds : BoundList) → Fits bounds (zeros bounds)
+    × ((m : MeasureValue) → Fits bounds m → AtMost (zeros bounds) m)
 
 -- the components whose priority is at least p, looked up one by one
 abbrev pub components_by_priority : BoundList → ℕ → List ℕ → List ℕ
@@ -41,7 +42,8 @@ HasBounds = (game : List GameVertex) → (bounds : BoundList) × IsBoundsOf game
 -- and one list of them
 abbrev pub OneListOfBounds : Type 0
 OneListOfBounds =
-    (game : List GameVertex) (first second : BoundList) → IsBoundsOf game first → IsBoundsOf game second → first ≡ second
+    (game : List GameVertex) (first second : BoundList) → IsBoundsOf game first → IsBoundsOf game second
+    → first ≡ second
 
 -- a game whose priorities are at most 65,536, as in a game that is read and in its dual, has at most 32,768 bounds,
 -- and their priorities are at most 65,535

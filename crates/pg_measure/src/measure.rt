@@ -104,7 +104,8 @@ impl Measure {
 
     /// How the two compare in lexicographic order. Top is above every list.
     pub fn order(&self, other: &Measure) -> Ordering
-        ensures { MatchOrdering result (IsBelow self.now.value other.now.value) (self.now.value ≡ other.now.value) (IsBelow other.now.value self.now.value) }
+        ensures { MatchOrdering result (IsBelow self.now.value other.now.value) (self.now.value ≡ other.now.value)
+            (IsBelow other.now.value self.now.value) }
     {
         match (self.list(), other.list()) {
             (None, None) => Ordering::Equal,
@@ -116,7 +117,10 @@ impl Measure {
 
     /// How the components of priorities at least `p` compare in lexicographic order. Top is above every list.
     pub fn order_from(&self, other: &Measure, p: u32, bounds: &Bounds) -> Ordering
-        ensures { MatchOrdering result (IsBelow (measure_from bounds.now p self.now.value) (measure_from bounds.now p other.now.value)) (measure_from bounds.now p self.now.value ≡ measure_from bounds.now p other.now.value) (IsBelow (measure_from bounds.now p other.now.value) (measure_from bounds.now p self.now.value)) }
+        ensures { MatchOrdering result (IsBelow (measure_from bounds.now p self.now.value)
+            (measure_from bounds.now p other.now.value))
+            (measure_from bounds.now p self.now.value ≡ measure_from bounds.now p other.now.value)
+            (IsBelow (measure_from bounds.now p other.now.value) (measure_from bounds.now p self.now.value)) }
     {
         let width = bounds.width_from(p);
         match (self.list(), other.list()) {

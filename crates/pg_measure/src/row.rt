@@ -86,7 +86,8 @@ pub fn is_below(a: &[u32], b: &[u32]) -> bool
 pub fn is_front_below(a: &[u32], b: &[u32], width: usize) -> bool
     requires first { width < length a.now }
     requires second { width < length b.now }
-    ensures { MatchBool result (FrontAtMost width (measure_of a.now) (measure_of b.now)) (FrontAtMost width (measure_of b.now) (measure_of a.now)) }
+    ensures { MatchBool result (FrontAtMost width (measure_of a.now) (measure_of b.now))
+        (FrontAtMost width (measure_of b.now) (measure_of a.now)) }
 {
     is_below(&a[..width + 1], &b[..width + 1])
 }
@@ -95,7 +96,8 @@ pub fn is_front_below(a: &[u32], b: &[u32], width: usize) -> bool
 pub fn covers(a: &[u32], b: &[u32], width: usize, strict: bool) -> bool
     requires first { width < length a.now }
     requires second { width < length b.now }
-    ensures { MatchBool result (CoversFront strict width (measure_of a.now) (measure_of b.now)) (MissesFront strict width (measure_of a.now) (measure_of b.now)) }
+    ensures { MatchBool result (CoversFront strict width (measure_of a.now) (measure_of b.now))
+        (MissesFront strict width (measure_of a.now) (measure_of b.now)) }
 {
     if a[0] != 0 {
         return true;

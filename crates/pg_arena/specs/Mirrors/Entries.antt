@@ -7,6 +7,7 @@ use Rattle.std.specs.BTreeSet.{BTreeSet, contains}
 use Rattle.std.specs.declared.vec.Vec.{Vec}
 use Rattle.std.specs.declared.alloc.Global.{Global}
 use Rattle.pg_arena.specs.declared.entry.Entry.{Entry}
+use Rattle.pg_arena.specs.declared.limits.TheConstants.{MAX_PRIORITY, MAX_VERTICES, MAX_EDGES}
 use Rattle.pg_arena.specs.Games.{GameVertex, IsGame, IsWithinLimits, HasPrioritiesUpTo, opponent}
 use Rattle.pg_arena.specs.Lines.{Line}
 
@@ -16,7 +17,13 @@ name_in names None = None
 name_in names (Some k) = option_map (λ n. n.items) (slice_get names k)
 
 abbrev pub vertex_in : List ℕ → List (Vec ℕ Global) → Entry → GameVertex
-vertex_in targets names e = record { identifier = e.identifier; priority = e.priority; owner = e.owner; successors = slice_range targets e.from e.to; name = name_in names e.name }
+vertex_in targets names e = record {
+  identifier = e.identifier;
+  priority = e.priority;
+  owner = e.owner;
+  successors = slice_range targets e.from e.to;
+  name = name_in names e.name;
+}
 
 abbrev pub vertices_in : List ℕ → List (Vec ℕ Global) → List Entry → List GameVertex
 vertices_in targets names entries = map (vertex_in targets names) entries
@@ -39,7 +46,7 @@ AreNamed names entries = All (λ e. IfSome e.name (λ k. k < length names)) entr
 
 -- what an accepted line is, whatever the others are
 pub record IsOrderly (line : Line) : Type 0 where
-  pub priority : line.priority ≤ 65535
+  pub priority : line.priority ≤ MAX_PRIORITY
   pub goes_on : 0 < length line.successors
   pub rise : IsStrictlyIncreasing line.successors
 
@@ -51,13 +58,14 @@ pub record AreKept (identifiers targets : List ℕ) (names : List (Vec ℕ Globa
   pub distinct : IsDistinct nat_eq identifiers
   pub laid : targets ≡ flat_map (λ line. line.successors) (vertices_in targets names entries)
   pub orderly : All IsOrderly (vertices_in targets names entries)
-  pub few_vertices : length entries ≤ 1048576
-  pub few_edges : length targets ≤ 8388608
+  pub few_vertices : length entries ≤ MAX_VERTICES
+  pub few_edges : length targets ≤ MAX_EDGES
   pub few_names : length names ≤ length entries
 
 -- identifiers rise as long as they are in no set, and a set has just these
 abbrev pub AreTold : List ℕ → Option (BTreeSet ℕ) → Type 0
-AreTold identifiers set = MatchOption set (IsStrictlyIncreasing identifiers) (λ s. (q : ℕ) → contains nat_cmp s q ≡ list_any (λ x. q == x) identifiers)
+AreTold identifiers set = MatchOption set (IsStrictlyIncreasing identifiers)
+    (λ s. (q : ℕ) → contains nat_cmp s q ≡ list_any (λ x. q == x) identifiers)
 
 -- the entry of the dual's vertex
 abbrev pub dual_entry : Entry → Entry

@@ -9,7 +9,8 @@ is_among identifiers n = list_any (λ x. n == x) identifiers
 
 -- the vertices have these identifiers
 abbrev pub AreLinked : List ℕ → List ℕ → List ℕ → Type 0
-AreLinked identifiers targets vertices = (map (slice_index identifiers) vertices ≡ targets) × All (λ v. v < length identifiers) vertices
+AreLinked identifiers targets vertices = (map (slice_index identifiers) vertices ≡ targets)
+    × All (λ v. v < length identifiers) vertices
 
 -- one of the targets is no identifier
 abbrev pub HasUnknown : List ℕ → List ℕ → Type 0
@@ -22,4 +23,6 @@ unknown_in identifiers numbers = find (λ n. not (is_among identifiers n)) numbe
 -- the first entry's identifier with its first successor that is no identifier
 abbrev pub first_unknown_in : List ℕ → List ℕ → List Entry → Option (ℕ × ℕ)
 first_unknown_in identifiers targets [] = None
-first_unknown_in identifiers targets (e ∷ entries) = option_or (option_map (λ n. (e.identifier, n)) (unknown_in identifiers (slice_range targets e.from e.to))) (first_unknown_in identifiers targets entries)
+first_unknown_in identifiers targets (e ∷ entries) = option_or
+    (option_map (λ n. (e.identifier, n)) (unknown_in identifiers (slice_range targets e.from e.to)))
+    (first_unknown_in identifiers targets entries)

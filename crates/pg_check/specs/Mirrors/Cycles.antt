@@ -29,7 +29,8 @@ HasNoBadCycle game solution = (v : ℕ) → IsLost game solution v → HasNoCycl
 -- each cycle from a lost vertex goes through these vertices alone
 abbrev pub HoldsCycles : List GameVertex → List Answer → List ℕ → Type 0
 HoldsCycles game solution vertices =
-    (v : ℕ) (rest : List ℕ) → IsLost game solution v → IsCycleFrom game solution v rest → All (Contains vertices) (v ∷ rest)
+    (v : ℕ) (rest : List ℕ) → IsLost game solution v → IsCycleFrom game solution v rest
+    → All (Contains vertices) (v ∷ rest)
 
 -- no edge that counts leads from v to a smaller number
 abbrev pub RisesFrom : List GameVertex → List Answer → List ℕ → ℕ → Type 0
@@ -45,7 +46,8 @@ StaysNowhere game solution numbers v =
 abbrev pub limit_of : List ℕ → ℕ → ℕ
 limit_of limits number = slice_index limits (4294967295 - number)
 
--- no edge that counts leads from v to a smaller number, and where v is lost its priority is below the limit of its number
+-- no edge that counts leads from v to a smaller number, and where v is lost its priority is below the limit of its
+-- number
 pub record IsNumbered (game : List GameVertex) (solution : List Answer) (numbers limits : List ℕ) (v : ℕ) : Type 0 where
   pub rises : RisesFrom game solution numbers v
   pub limited : IsLost game solution v → priority game v < limit_of limits (slice_index numbers v)
@@ -57,12 +59,14 @@ IsRuledOut game solution numbers limits v =
 
 -- Vertices in the order in which a search from v reached them, and for each but the first the place of the one before
 -- it: an edge that counts leads from there. An edge that counts leads from the one at `end` back to v.
-pub record IsTrail (game : List GameVertex) (solution : List Answer) (v : ℕ) (reached before : List ℕ) (end : ℕ) : Type 0 where
+pub record IsTrail (game : List GameVertex) (solution : List Answer) (v : ℕ) (reached before : List ℕ)
+    (end : ℕ) : Type 0 where
   pub first : slice_index reached 0 ≡ v
   pub inside : end < length reached
   pub as_long : length before ≡ length reached
   pub distinct : AllPairs (λ x y. x ≢ y) reached
   pub greatest : All (λ w. priority game w ≤ priority game v) reached
   pub steps : (k : ℕ) → 0 < k → k < length reached
-      → (slice_index before k < k) × Counts game solution (slice_index reached (slice_index before k)) (slice_index reached k)
+      → (slice_index before k < k) × Counts game solution (slice_index reached (slice_index before k))
+      (slice_index reached k)
   pub closes : Counts game solution (slice_index reached end) v

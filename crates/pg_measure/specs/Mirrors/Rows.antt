@@ -22,7 +22,8 @@ FrontAtMost width None (Some ys) = ⊥
 FrontAtMost width (Some xs) None = Unit {0}
 FrontAtMost width (Some xs) (Some ys) = ListAtMost (take width xs) (take width ys)
 
--- what stands where m doesn't cover n: m is a list, and less than n in the first components, or at most n where more is wanted
+-- what stands where m doesn't cover n: m is a list, and less than n in the first components, or at most n where more is
+-- wanted
 abbrev pub MissesFront : Bool → ℕ → MeasureValue → MeasureValue → Type 0
 MissesFront strict width None n = ⊥
 MissesFront strict width (Some xs) None = Unit {0}
