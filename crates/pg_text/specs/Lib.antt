@@ -8,4 +8,5 @@ pub mod SolutionText
 pub mod SolutionLayout
 pub mod SolutionReadBack
 pub mod OneSpelling
+pub mod Limits
 pub mod Mirrors
