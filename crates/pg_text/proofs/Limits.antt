@@ -114,9 +114,11 @@ accepts before (line ∷ lines) d fair few fits =
     let edges = sum_by-cons size (counted line) (map counted lines) in
     let fresh : is_named before line.identifier ≡ false = named_among before line.identifier ∙ apart (identifiers before) line.identifier (identifiers (map counted lines)) (subst (IsDistinct eqb) (map-append (λ (l : Line). l.identifier) before (map counted (line ∷ lines))) d) in
     let some = each_once_length line.successors (long line.successors fair.0.1) in
-    let here = names_none before (counted line) (record { priority = fair.0.0; some = some }) fresh (omega arith) (omega (arith, edges, fits)) in
-    (here, accepts (before ++ counted line ∷ []) lines (subst (λ (ls : List Line). IsDistinct eqb (identifiers ls)) (sym (regroup before (counted line) (map counted lines))) d) fair.1
-    (omega (arith, few, length-append before (counted line ∷ []))) (omega (arith, fits, edges, push_edges before (counted line))))
+    let here = names_none before (counted line) (record { priority = fair.0.0; some = some }) fresh (omega arith) (omega (arith, edges, fits)) in (
+      here,
+      accepts (before ++ counted line ∷ []) lines (subst (λ (ls : List Line). IsDistinct eqb (identifiers ls)) (sym (regroup before (counted line) (map counted lines))) d) fair.1
+          (omega (arith, few, length-append before (counted line ∷ []))) (omega (arith, fits, edges, push_edges before (counted line))),
+    )
   where
     long : (ns : List ℕ) → ns ≢ [] → 0 < length ns
     long [] h = absurd (h refl)
