@@ -147,7 +147,7 @@ named_vertex lines game v g lt =
     ∙ named_by_ids (lines_of game) q ∙ ap (has q) (lines_named game game)
     ∙ has_contained q (identifiers game) (has_line game (vertex_at game v) (contains_vertex game v lt))
 
-no_unknown : (lines : List Line) (game : List GameVertex) (i s : ℕ) → IsGameOf lines game → IsUnknown lines i s → ⊥
+pub no_unknown : (lines : List Line) (game : List GameVertex) (i s : ℕ) → IsGameOf lines game → IsUnknown lines i s → ⊥
 no_unknown lines game i s g u =
     let p = contains_map (line_of game) game u.line (Contains-permutation lines (lines_of game) u.line g.same u.given) in
     let x : GameVertex = p.0 in

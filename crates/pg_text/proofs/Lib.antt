@@ -11,6 +11,7 @@ pub mod Building
 pub mod GameTexts
 pub mod Printing
 pub mod Spelt
+pub mod Limits
 pub mod ReadingBack
 pub mod Answering
 pub mod Misfits

@@ -4,17 +4,17 @@ use Rattle.std.specs.Str.{bytes_eq}
 use Rattle.std.specs.List.{flat_map, AllByRecursion}
 use Rattle.std.proofs.lemmas.Slice.Eq.{bytes_eq-Decides}
 use Rattle.std.proofs.lemmas.Bool.{false_from_ne_true}
-use Rattle.pg_text.specs.Lexemes.{Lexeme, number, word, semicolon, comma, quoted, end, Begins, Spells, clause_lexemes}
+use Rattle.pg_text.specs.Lexemes.{Lexeme, number, word, semicolon, comma, end, Begins, Spells, clause_lexemes}
 use Rattle.pg_text.specs.Numbers.{comma_number_lexemes, numbers_lexemes}
 use Rattle.pg_text.specs.declared.tokens.TokenFault.{TokenFault}
 use Rattle.pg_text.specs.declared.reading.Refusal.TheVariants.{Token}
 use Rattle.pg_text.specs.Mirrors.Steps.{◌>>=◌, Read, Step, item, stop, items_at}
 use Rattle.pg_text.specs.Mirrors.Scan.{token_at}
 use Rattle.pg_text.specs.Mirrors.Parts.{number_in, natural_at, word_in, name_at, semicolon_in, semicolon_at, end_in, end_at, further_in, further_at, numbers_at, clause_in, clause_at}
-use Rattle.pg_text.proofs.Steps.{bind_ok, chosen, ok, ok_is, err_is_ok, some}
+use Rattle.pg_text.proofs.Steps.{bind_ok, chosen, ok, ok_is, some}
 use Rattle.pg_text.proofs.Lexing.{token_takes, token_again}
 use Rattle.pg_text.proofs.Items.{Shrinks, with_front, goes_on, ends, fails}
-use Rattle.pg_text.proofs.Spelling.{spells_append, spells_parts, begins_shorter, spells_within, IsExact, items_take, items_again}
+use Rattle.pg_text.proofs.Spelling.{begins_shorter, spells_within, IsExact, items_take, items_again}
 
 -- ---- numbers, words, semicolons, the end
 

@@ -1,19 +1,19 @@
 -- The text of a game spells that game.
-use Rattle.std.proofs.Common.{◌≡◌, ◌≢◌, ℕ, zero, suc, ◌+◌, ◌-◌, ◌<◌, ◌≤◌, ◌^◌, false, eqb, List, [], ◌∷◌, ◌++◌, length, get_or, map, Some, None, IfSome, refl, sym, ap, subst, ◌∙◌, arith, append_assoc}
+use Rattle.std.proofs.Common.{◌≡◌, ◌≢◌, ℕ, zero, suc, ◌+◌, ◌-◌, ◌<◌, ◌≤◌, ◌^◌, eqb, List, [], ◌∷◌, ◌++◌, length, get_or, map, Some, None, IfSome, refl, sym, ap, subst, ◌∙◌, arith}
 use Rattle.std.specs.Prelude.{decimal, codes}
-use Rattle.std.specs.List.{flat_map, AllByRecursion}
+use Rattle.std.specs.List.{flat_map, AllByRecursion, IsDistinct}
 use Rattle.std.specs.List.Sorted.{IsStrictlyIncreasing}
 use Rattle.std.proofs.lemmas.Bool.{ne_eqb}
-use Rattle.std.proofs.lemmas.List.{length-append, length-map, get_or-map, get_or_append_left}
-use Rattle.std.proofs.Math.Seq.{get_or-append_seam}
-use Rattle.std.proofs.lemmas.List.Sums.{sum_by-append, sum_by-cons}
-use Rattle.std.proofs.lemmas.List.Folds.{list_any_none}
-use Rattle.std.proofs.lemmas.List.Elements.{All-get_or, All-from_get_or, All-map, recursion_from_All, Contains-get_or}
+use Rattle.std.proofs.lemmas.List.{length-map, get_or-map}
+use Rattle.std.proofs.lemmas.List.Sums.{sum_by-cons}
+use Rattle.std.proofs.lemmas.List.Elements.{All-get_or, All-from_get_or, All-map, recursion_from_All, All-from_recursion, Contains-get_or}
 use Rattle.std.proofs.lemmas.List.Sorted.{IsPermutation-refl}
+use Rattle.std.proofs.lemmas.List.Kept.{AllPairs-from_increasing}
+use Rattle.std.proofs.lemmas.Map.Keys.{IsDistinct-from_apart}
 use Rattle.pg_arena.specs.Games.{GameVertex, IsGame, IsWithinLimits, vertex_at, nowhere, identifier, identifiers, successors, edge_count}
-use Rattle.pg_arena.specs.Lines.{Line, counted, add_fault, is_named, Accepts, line_of, lines_of, IsGameOf}
+use Rattle.pg_arena.specs.Lines.{Line, counted, Accepts, line_of, lines_of, IsGameOf}
 use Rattle.pg_arena.proofs.Rising.{each_once_same}
-use Rattle.pg_arena.proofs.Adding.{Passes, names_none}
+use Rattle.pg_arena.proofs.Adding.{Passes}
 use Rattle.pg_arena.proofs.Unique.{one_game}
 use Rattle.pg_text.specs.Lexemes.{number, word, semicolon, end, is_plain, Each, Begins}
 use Rattle.pg_text.specs.GameText.{line_lexemes, IsText, IsGameText}
@@ -22,6 +22,7 @@ use Rattle.pg_text.specs.ReadBack.{IsPrintable}
 use Rattle.pg_text.proofs.Spelling.{spells_append}
 use Rattle.pg_text.proofs.Spelt.{IsPrintableLine, number_begins, lines_spelt}
 use Rattle.pg_text.proofs.GameTexts.{one_text}
+use Rattle.pg_text.proofs.Limits.{are_accepted}
 
 -- ---- identifiers rise
 
@@ -106,34 +107,6 @@ all_counted (line ∷ lines) each = ap (λ (l : Line). l ∷ map counted lines) 
 abbrev line_identifiers : List Line → List ℕ
 line_identifiers lines = map (λ (l : Line). l.identifier) lines
 
--- no line before has the identifier
-unnamed : (before : List Line) (line : Line) (rest : List Line) → IsStrictlyIncreasing (line_identifiers (before ++ line ∷ rest)) → is_named before line.identifier ≡ false
-unnamed before line rest rise =
-    let all = before ++ line ∷ rest in
-    let whole : length (line_identifiers all) ≡ length before + suc (length rest) = length-map all (λ (l : Line). l.identifier) ∙ length-append before (line ∷ rest) in
-    let here : get_or (line_identifiers all) (length before) 0 ≡ line.identifier =
-    get_or-map (λ (l : Line). l.identifier) all (length before) nowhere 0 (omega (arith, length-append before (line ∷ rest))) ∙ ap (λ (l : Line). l.identifier) (get_or-append_seam before line rest nowhere) in
-    list_any_none (λ (l : Line). eqb line.identifier l.identifier) before
-    (All-from_get_or (λ (l : Line). eqb line.identifier l.identifier ≡ false) before nowhere (λ i lt.
-    let there : get_or (line_identifiers all) i 0 ≡ (get_or before i nowhere).identifier =
-    get_or-map (λ (l : Line). l.identifier) all i nowhere 0 (omega (arith, length-append before (line ∷ rest))) ∙ ap (λ (l : Line). l.identifier) (get_or_append_left before (line ∷ rest) nowhere i lt) in
-    let up = rising_lt (line_identifiers all) rise i (length before) lt (omega (arith, whole)) in
-    ne_eqb line.identifier (get_or before i nowhere).identifier (λ e. absurd (omega (arith, up, here, there, e)))))
-
-edges_fit : (before : List Line) (line : Line) (rest : List Line) → edge_count (before ++ line ∷ rest) ≤ 8388608 → edge_count before + length line.successors ≤ 8388608
-edges_fit before line rest fits =
-    let count = λ (l : Line). length l.successors in
-    let parts : edge_count (before ++ line ∷ rest) ≡ edge_count before + (length line.successors + edge_count rest) = sum_by-append count before (line ∷ rest) ∙ ap (λ (n : ℕ). edge_count before + n) (sum_by-cons count line rest) in
-    omega (arith, fits, parts)
-
-accepts_all : (before lines : List Line) → AllByRecursion IsFair lines → IsStrictlyIncreasing (line_identifiers (before ++ lines)) → length (before ++ lines) ≤ 1048576 → edge_count (before ++ lines) ≤ 8388608 → Accepts before lines
-accepts_all before [] each rise few fits = tt
-accepts_all before (line ∷ rest) each rise few fits =
-    let here = names_none before line each.0.passes (unnamed before line rest rise) (omega (arith, few, length-append before (line ∷ rest))) (edges_fit before line rest fits) in
-    let regroup : (before ++ line ∷ []) ++ rest ≡ before ++ line ∷ rest = append_assoc before (line ∷ []) rest in
-    let later = accepts_all (before ++ line ∷ []) rest each.1 (rw regroup rise) (rw regroup few) (rw regroup fits) in
-    subst (λ (l : Line). (add_fault before l ≡ None) × Accepts (before ++ l ∷ []) rest) (sym (counted_same line each.0)) (here, later)
-
 same_identifiers : (game vertices : List GameVertex) → line_identifiers (map (line_of game) vertices) ≡ identifiers vertices
 same_identifiers game [] = refl
 same_identifiers game (x ∷ vertices) = ap (λ (ns : List ℕ). x.identifier ∷ ns) (same_identifiers game vertices)
@@ -146,9 +119,26 @@ same_edges game (x ∷ vertices) =
     let right : edge_count (x ∷ vertices) ≡ length x.successors + edge_count vertices = sum_by-cons count x vertices in
     omega (arith, left, right, same_edges game vertices, length-map x.successors (identifier game))
 
+distinct_from_rising : (ids : List ℕ) → IsStrictlyIncreasing ids → IsDistinct eqb ids
+distinct_from_rising ids rise = IsDistinct-from_apart eqb ids (λ i j d lt within.
+    let up = AllPairs-from_increasing ids rise i j d lt within in
+    ne_eqb (get_or ids i d) (get_or ids j d) (λ e. absurd (omega (arith, up, e))))
+
+have_fair : (lines : List Line) → AllByRecursion IsFair lines → AllByRecursion (λ (line : Line). line.priority ≤ 65535) lines
+have_fair [] each = tt
+have_fair (line ∷ lines) each = (each.0.passes.priority, have_fair lines each.1)
+
 accepts_game : (game : List GameVertex) → IsGame game → IsWithinLimits game → IsPrintable game → Accepts [] (lines_of game)
 accepts_game game well limits printable =
-    accepts_all [] (lines_of game) (fair game well printable) (rw (same_identifiers game game) well.rising) (omega (arith, limits.vertices, length-map game (line_of game))) (omega (arith, limits.edges, same_edges game game))
+    let lines = lines_of game in
+    let each = fair game well printable in
+    are_accepted lines (record {
+      distinct = distinct_from_rising (identifiers lines) (rw (same_identifiers game game) well.rising);
+      priorities = All-from_recursion (λ (line : Line). line.priority ≤ 65535) lines (have_fair lines each);
+      successors = All-from_recursion (λ (line : Line). line.successors ≢ []) lines (have_successors lines each);
+      vertices = omega (arith, limits.vertices, length-map game (line_of game));
+      edges = omega (arith, limits.edges, same_edges game game, ap edge_count (all_counted lines each));
+    })
 
 -- ---- the text
 

@@ -1,21 +1,21 @@
 -- The text of a solution spells that solution, without choices on vertices that the winner doesn't own.
-use Rattle.std.proofs.Common.{◌≡◌, ◌≢◌, ℕ, zero, suc, ◌+◌, ◌-◌, ◌<◌, ◌≤◌, ◌^◌, Bool, true, false, cond, eqb, List, [], ◌∷◌, ◌++◌, length, get_or, map, Option, Some, None, IfSome, refl, sym, ap, subst, ◌∙◌, inl, inr, arith, append_assoc}
+use Rattle.std.proofs.Common.{◌≡◌, ◌≢◌, ℕ, zero, suc, ◌+◌, ◌-◌, ◌<◌, ◌≤◌, ◌^◌, Bool, true, false, cond, List, [], ◌∷◌, ◌++◌, length, map, Option, Some, None, IfSome, refl, sym, ap, subst, ◌∙◌, inl, inr, arith, append_assoc}
 use Rattle.std.specs.Prelude.{All, decimal, codes, option_map}
 use Rattle.std.specs.List.{flat_map, range_with_len, AllByRecursion}
 use Rattle.std.proofs.lemmas.Bool.{eq-eqb, ne_eqb, cases_eq}
-use Rattle.std.proofs.lemmas.List.FromFn.{get_or-map-range_with_len, length-map-range_with_len, get_or-range_with_len}
-use Rattle.std.proofs.lemmas.List.Elements.{All-get_or, All-from_get_or, All-map, recursion_from_All}
+use Rattle.std.proofs.lemmas.List.FromFn.{get_or-map-range_with_len, length-map-range_with_len}
+use Rattle.std.proofs.lemmas.List.Elements.{All-get_or}
 use Rattle.pg_arena.specs.declared.player.Player.{Player}
 use Rattle.pg_arena.specs.declared.player.Player.TheVariants.{Even, Odd}
-use Rattle.pg_arena.specs.Games.{GameVertex, IsGame, nowhere, identifier, owner, IsEdge}
+use Rattle.pg_arena.specs.Games.{GameVertex, IsGame, nowhere, identifier, owner}
 use Rattle.pg_text.specs.declared.answer.Answer.{Answer}
 use Rattle.pg_text.specs.declared.solution_line.SolutionLine.{SolutionLine}
 use Rattle.pg_text.specs.Lexemes.{number, word, semicolon, end, is_space, is_digit, Each, Stops, Begins, Spells}
 use Rattle.pg_text.specs.GameText.{player_number}
 use Rattle.pg_text.specs.Solutions.{unanswered, answer_at, winner, choice, IsSolution}
-use Rattle.pg_text.specs.SolutionText.{strategy_lexemes, answer_lexemes, owns, is_same, counting_strategy, line_count, Says, AreLines, IsSolutionText}
+use Rattle.pg_text.specs.SolutionText.{strategy_lexemes, answer_lexemes, owns, is_same, line_count, Says, AreLines, IsSolutionText}
 use Rattle.pg_text.specs.SolutionLayout.{told_at, told, printed_line, printed_lines, strategy_text, answer_text, solution_text}
-use Rattle.pg_text.proofs.Steps.{some, none, ok_is}
+use Rattle.pg_text.proofs.Steps.{none, ok_is}
 use Rattle.pg_text.proofs.Spelling.{spells_append}
 use Rattle.pg_text.proofs.Spelt.{number_begins}
 use Rattle.pg_text.proofs.Answering.{same_vertex}

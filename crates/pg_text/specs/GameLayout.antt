@@ -14,9 +14,11 @@ name_text (Some name) = codes " \"" ++ (name ++ codes "\"")
 -- identifier, priority, owner and successors with single spaces between, the name, a semicolon and a newline
 abbrev pub line_text : Line → List ℕ
 line_text line =
-    decimal line.identifier ++ (codes " " ++ (decimal line.priority ++ (codes " " ++ (decimal (player_number line.owner) ++ (codes " " ++
+    decimal line.identifier ++ (codes " " ++ (decimal line.priority ++ (codes " " ++
+    (decimal (player_number line.owner) ++ (codes " " ++
     (numbers_text line.successors ++ (name_text line.name ++ codes ";\n")))))))
 
 -- a header with the greatest identifier, which is that of the last vertex, and a line for each vertex
 abbrev pub game_text : List GameVertex → List ℕ
-game_text game = codes "parity " ++ (decimal (identifier game (length game - 1)) ++ (codes ";\n" ++ flat_map line_text (lines_of game)))
+game_text game =
+    codes "parity " ++ (decimal (identifier game (length game - 1)) ++ (codes ";\n" ++ flat_map line_text (lines_of game)))

@@ -54,7 +54,8 @@ value_of digits = fold (λ n b. 10 * n + (b - 48)) 0 digits
 
 -- The bytes of one token, and what may stand behind it: a run of digits or of letters is a longest one.
 abbrev pub IsSpelt : Lexeme → List ℕ → List ℕ → Type 0
-IsSpelt (number n) text rest = (text ≢ []) × Each is_digit text × Stops is_digit rest × (value_of text ≡ n) × (n < 2 ^ 32)
+IsSpelt (number n) text rest =
+    (text ≢ []) × Each is_digit text × Stops is_digit rest × (value_of text ≡ n) × (n < 2 ^ 32)
 IsSpelt (word w) text rest = (text ≢ []) × Each is_letter text × Stops is_letter rest × (text ≡ w)
 IsSpelt semicolon text rest = text ≡ 59 ∷ []
 IsSpelt comma text rest = text ≡ 44 ∷ []

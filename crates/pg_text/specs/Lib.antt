@@ -9,4 +9,5 @@ pub mod SolutionLayout
 pub mod SolutionReadBack
 pub mod FaultTexts
 pub mod OneSpelling
+pub mod Limits
 pub mod Mirrors

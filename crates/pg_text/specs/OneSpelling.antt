@@ -6,7 +6,8 @@ use Rattle.pg_text.specs.GameText.{IsGameText}
 use Rattle.pg_text.specs.SolutionText.{IsSolutionText}
 
 abbrev pub SpellsOneGame : Type 0
-SpellsOneGame = (bytes : List ℕ) (game other : List GameVertex) → IsGameText bytes game → IsGameText bytes other → other ≡ game
+SpellsOneGame = (bytes : List ℕ) (game other : List GameVertex)
+    → IsGameText bytes game → IsGameText bytes other → other ≡ game
 
 abbrev pub SpellsOneSolution : Type 0
 SpellsOneSolution = (bytes : List ℕ) (game : List GameVertex) (solution other : List Answer) → IsGame game

@@ -38,8 +38,12 @@ strategy_text (Some n) = codes " " ++ decimal n
 
 -- identifier, winner and perhaps the strategy with single spaces between, a semicolon and a newline
 abbrev pub answer_text : SolutionLine → List ℕ
-answer_text line = decimal line.identifier ++ (codes " " ++ (decimal (player_number line.winner) ++ (strategy_text line.strategy ++ codes ";\n")))
+answer_text line =
+    decimal line.identifier ++ (codes " " ++ (decimal (player_number line.winner) ++
+    (strategy_text line.strategy ++ codes ";\n")))
 
 -- a header with the greatest identifier, which is that of the last vertex, and the lines
 abbrev pub solution_text : List GameVertex → List Answer → List ℕ
-solution_text game solution = codes "paritysol " ++ (decimal (identifier game (length game - 1)) ++ (codes ";\n" ++ flat_map answer_text (printed_lines game solution)))
+solution_text game solution =
+    codes "paritysol " ++ (decimal (identifier game (length game - 1)) ++ (codes ";\n" ++
+    flat_map answer_text (printed_lines game solution)))

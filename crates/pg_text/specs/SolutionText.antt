@@ -21,7 +21,8 @@ strategy_lexemes (Some n) = number n ∷ []
 
 -- identifier, winner, perhaps a strategy, and a semicolon
 abbrev pub answer_lexemes : SolutionLine → List Lexeme
-answer_lexemes line = number line.identifier ∷ number (player_number line.winner) ∷ (strategy_lexemes line.strategy ++ semicolon ∷ [])
+answer_lexemes line =
+    number line.identifier ∷ number (player_number line.winner) ∷ (strategy_lexemes line.strategy ++ semicolon ∷ [])
 
 -- perhaps a header, and then the lines
 abbrev pub solution_lexemes : Option ℕ → List SolutionLine → List Lexeme
@@ -107,7 +108,7 @@ pub record StartsLine (here : List ℕ) (n : ℕ) : Type 0 where
 abbrev pub IsUnknown : List GameVertex → ℕ → Type 0
 IsUnknown game n = (v : ℕ) → v < length game → identifier game v ≢ n
 
--- Here stand the identifier n of a vertex, its owner as the winner, and a number that is the identifier of no successor.
+-- Here stand the identifier n of a vertex, its owner as the winner, and a number that no successor has as identifier.
 pub record IsNoMove (game : List GameVertex) (here : List ℕ) (n : ℕ) : Type 0 where
   pub winner : Player
   pub strategy : ℕ
@@ -135,7 +136,8 @@ pub record IsNotOfGame (bytes : List ℕ) (game : List GameVertex) (n : ℕ) : T
 
 -- the line names v, and has a strategy if its winner owns v
 abbrev pub answers : List GameVertex → ℕ → SolutionLine → Bool
-answers game v line = (line.identifier == identifier game v) && (if owns game line.winner v then is_some line.strategy else true)
+answers game v line =
+    (line.identifier == identifier game v) && (if owns game line.winner v then is_some line.strategy else true)
 
 -- no line answers for the vertex with the identifier n, and some line for each before it
 pub record IsFirstMissing (bytes : List ℕ) (game : List GameVertex) (n : ℕ) : Type 0 where

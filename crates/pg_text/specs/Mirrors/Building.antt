@@ -14,5 +14,6 @@ BuildsLines bytes (Err OutOfMemory) = Unit {0}
 BuildsLines bytes (Err (Syntax offset)) = (lines : List Line) → IsText bytes lines → ⊥
 BuildsLines bytes (Err (NumberTooLarge offset)) = (lines : List Line) → IsText bytes lines → ⊥
 BuildsLines bytes (Err (Arena arena.OutOfMemory)) = ⊥
-BuildsLines bytes (Err (Arena fault)) = HasBadLine bytes fault × ((lines : List Line) → IsText bytes lines → Accepts [] lines → ⊥)
+BuildsLines bytes (Err (Arena fault)) =
+    HasBadLine bytes fault × ((lines : List Line) → IsText bytes lines → Accepts [] lines → ⊥)
 BuildsLines bytes (Err _) = ⊥

@@ -11,7 +11,13 @@ use Rattle.pg_text.specs.Mirrors.Parts.{natural_at, semicolon_at, numbers_at, cl
 
 -- a line without where it lies in memory
 abbrev pub line_seen : List ℕ → TextLine → Line
-line_seen successors l = record { identifier = l.identifier; priority = l.priority; owner = l.owner; successors = successors; name = option_copied l.name }
+line_seen successors l = record {
+  identifier = l.identifier;
+  priority = l.priority;
+  owner = l.owner;
+  successors = successors;
+  name = option_copied l.name;
+}
 
 abbrev pub player_in : List ℕ → ℕ × List ℕ → Read (Player × List ℕ)
 player_in bytes (zero, rest) = Ok (Even, rest)
@@ -37,7 +43,16 @@ line_at identifier bytes = do
   owner ← owner_at priority.1
   successors ← numbers_at owner.1
   ending ← ending_at successors.1
-  Ok (record { identifier = identifier; priority = priority.0; owner = owner.0; successors = successors.0; name = ending.0 }, ending.1)
+  Ok (
+    record {
+      identifier = identifier;
+      priority = priority.0;
+      owner = owner.0;
+      successors = successors.0;
+      name = ending.0;
+    },
+    ending.1,
+  )
 
 abbrev pub item_seen : List ℕ → Option TextLine → Step Line (Unit {0})
 item_seen successors (Some l) = item (line_seen successors l)

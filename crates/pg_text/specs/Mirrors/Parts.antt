@@ -36,7 +36,8 @@ end_at bytes = token_at bytes >>= end_in bytes
 
 abbrev pub clause_in : List ℕ → List ℕ → Lexeme × List ℕ → Read (Option ℕ × List ℕ)
 clause_in name bytes (word w, rest) =
-    if bytes_eq w name then (natural_at rest >>= λ n. semicolon_at n.1 >>= λ after. Ok (Some n.0, after)) else Ok (None, bytes)
+    if bytes_eq w name then (natural_at rest >>= λ n. semicolon_at n.1 >>= λ after. Ok (Some n.0, after))
+    else Ok (None, bytes)
 clause_in name bytes (_, rest) = Ok (None, bytes)
 
 -- the number between the word and a semicolon; nothing is taken where the word doesn't stand

@@ -27,7 +27,8 @@ pub record LeadsNowhere (game : List GameVertex) (line : SolutionLine) (v : ℕ)
   pub absent : (w : ℕ) → IsEdge game v w → identifier game w ≢ n
 
 -- the line's answer was put where none was
-pub record Puts (game : List GameVertex) (line : SolutionLine) (solution : List Answer) (seen : List Bool) (solution' : List Answer) (seen' : List Bool) : Type 0 where
+pub record Puts (game : List GameVertex) (line : SolutionLine) (solution : List Answer) (seen : List Bool)
+    (solution' : List Answer) (seen' : List Bool) : Type 0 where
   pub v : ℕ
   pub within : v < length game
   pub named : line.identifier ≡ identifier game v
@@ -57,7 +58,8 @@ pub record IsLost (game : List GameVertex) (line : SolutionLine) : Type 0 where
 
 -- why the line can't be taken
 abbrev pub IsMisfit : List GameVertex → SolutionLine → List Bool → Misfit → Type 0
-IsMisfit game line seen NotOfGame = (IsUnknown game line.identifier ⊎ IsLost game line) × IsUnmarked game line.identifier seen
+IsMisfit game line seen NotOfGame =
+    (IsUnknown game line.identifier ⊎ IsLost game line) × IsUnmarked game line.identifier seen
 IsMisfit game line seen Repeated = IsMarked game line.identifier seen
 
 -- why no line that begins here with the identifier n can be taken
@@ -71,7 +73,8 @@ pub record BeginsWell (game : List GameVertex) (seen : List Bool) (here : List �
   pub no_unfit : (n : ℕ) → ¬ BeginsUnfit game here n
 
 -- what is read says what these lines say, and each vertex is marked that one of them names
-pub record State (game : List GameVertex) (lines : List SolutionLine) (solution : List Answer) (seen : List Bool) : Type 0 where
+pub record State (game : List GameVertex) (lines : List SolutionLine) (solution : List Answer) (seen : List Bool)
+    : Type 0 where
   pub whole : length solution ≡ length game
   pub marks : length seen ≡ length game
   pub counted : (v : ℕ) → v < length game → line_count game lines v ≡ (if is_seen seen v then 1 else 0)
@@ -85,7 +88,8 @@ misfit_fault Repeated n offset = text.Syntax offset
 
 -- v is marked, and has a choice if its winner owns it
 abbrev pub is_complete : List GameVertex → List Answer → List Bool → ℕ → Bool
-is_complete game solution seen v = is_seen seen v && (if owns game (winner solution v) v then is_some (choice solution v) else true)
+is_complete game solution seen v =
+    is_seen seen v && (if owns game (winner solution v) v then is_some (choice solution v) else true)
 
 -- all lines of the text were read
 pub record HasRead (bytes : List ℕ) (game : List GameVertex) (solution : List Answer) (seen : List Bool) : Type 0 where

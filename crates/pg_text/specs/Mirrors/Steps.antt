@@ -39,11 +39,13 @@ pub data Step (A E : Type 0) : Type 0 where
   item : A → Step A E
   stop : E → Step A E
 
-abbrev pub after_step : {A E : Type 0} → (List ℕ → Read (List A × E × List ℕ)) → Step A E × List ℕ → Read (List A × E × List ℕ)
+abbrev pub after_step : {A E : Type 0} → (List ℕ → Read (List A × E × List ℕ)) → Step A E × List ℕ
+    → Read (List A × E × List ℕ)
 after_step again (item x, rest) = again rest >>= λ others. Ok (x ∷ others.0, others.1, others.2)
 after_step again (stop e, rest) = Ok ([], e, rest)
 
-unfoldable pub items_within : {A E : Type 0} → (List ℕ → Read (Step A E × List ℕ)) → ℕ → List ℕ → Read (List A × E × List ℕ)
+unfoldable pub items_within : {A E : Type 0} → (List ℕ → Read (Step A E × List ℕ)) → ℕ → List ℕ
+    → Read (List A × E × List ℕ)
 items_within step zero bytes = Err (Syntax 0)
 items_within step (suc n) bytes = step bytes >>= after_step (items_within step n)
 
