@@ -2,6 +2,7 @@ pub mod Assembling
 pub mod BodyLaws
 pub mod BodyTurns
 pub mod Collections
+pub mod Counting
 pub mod FormulaLaws
 pub mod FormulasAgain
 pub mod FormulasTake
@@ -48,6 +49,5 @@ pub mod TableLaws
 pub mod TableNeeds
 pub mod TableNumbers
 pub mod TablePlaces
-pub mod TablePuts
 pub mod TableWords
 pub mod Turning

@@ -1,5 +1,5 @@
 -- What one more step does to a table that is being filled.
-use Rattle.std.proofs.Common.{◌≡◌, ℕ, ◌<◌, ◌≤◌, Bool, true, false, ◌&&◌, ◌==◌, List, [], ◌∷◌, ◌++◌, length, get_or, set, Option, Some, None, refl, sym, ap, subst, ◌∙◌, arith, append_assoc}
+use Rattle.std.proofs.Common.{◌≡◌, ℕ, ◌<◌, ◌≤◌, Bool, true, false, ◌&&◌, ◌==◌, List, [], ◌∷◌, ◌++◌, length, get_or, set, Option, Some, None, refl, sym, ap, subst, ◌∙◌, arith, append_assoc, inl, inr, ◌⊎◌}
 use Rattle.std.specs.Prelude.{option_map}
 use Rattle.std.specs.List.{All}
 use Rattle.std.proofs.lemmas.List.{append-nil, get_or-set_same, get_or-set_other, length-set}
@@ -221,6 +221,48 @@ pub adds_same : (shape : Shape) (g h : ℕ → List Step) (t u : Stage) → Adds
 adds_same shape g h t u a e = record {
   as_many = a.as_many;
   fills = λ given f. refilled shape u (λ i. given i ++ g i) (λ i. given i ++ h i) (a.fills given f) (λ i w. ap (λ l. given i ++ l) (e i (omega (arith, a.as_many))));
+}
+
+-- ---- a step that was given before
+
+abbrev pub Has : Step → List Step → Type 0
+Has s [] = ⊥
+Has s (x ∷ xs) = (x ≡ s) ⊎ Has s xs
+
+has_behind : (s : Step) (xs ys : List Step) → Has s ys → Has s (xs ++ ys)
+has_behind s [] ys h = h
+has_behind s (x ∷ xs) ys h = inr (has_behind s xs ys h)
+
+all_has : (P : Step → Type 0) (s : Step) (xs : List Step) → All P xs → Has s xs → P s
+all_has P s [] all h = absurd h
+all_has P s (x ∷ xs) all (inl e) = subst P e (All-head P x xs all)
+all_has P s (x ∷ xs) all (inr h) = all_has P s xs (All-tail P x xs all) h
+
+leads_again : (u : Stage) (n : ℕ) (s : Step) (steps : List Step) → Has s steps → Leads u n steps → Leads u n (steps ++ (s ∷ []))
+leads_again u n s [] h leads = absurd h
+leads_again u n s (x ∷ xs) h leads = leads
+
+agree_again : (shape : Shape) (s : Step) (steps : List Step) → Has s steps → Agree shape steps → Agree shape (steps ++ (s ∷ []))
+agree_again shape s [] h agree = absurd h
+agree_again shape s (x ∷ xs) h agree = agree_more shape x s xs agree (all_has (SameKey shape x) s (x ∷ xs) (All-head (λ y. All (SameKey shape y) (x ∷ xs)) x xs agree) h)
+
+when_cases : (P : List Step → Type 0) (steps : List Step) (b : Bool) (s : Step) → P steps → (b ≡ true → P (steps ++ (s ∷ []))) → P (steps ++ when b s)
+when_cases P steps true s other same = same refl
+when_cases P steps false s other same = subst P (sym (append-nil steps)) other
+
+-- a step that was given before at each slot where it is given once more changes nothing
+pub adds_repeated : (shape : Shape) (more : ℕ → List Step) (b : ℕ → Bool) (s : Step) (t u : Stage) → Adds shape more t u → ((i : ℕ) → b i ≡ true → Has s (more i)) → Adds shape (λ i. more i ++ when (b i) s) t u
+adds_repeated shape more b s t u a has = record {
+  as_many = a.as_many;
+  fills = λ given f.
+      let g = a.fills given f in
+      let there = λ (i : ℕ) (e : b i ≡ true). has_behind s (given i) (more i) (has i e) in
+      refilled shape u (λ i. (given i ++ more i) ++ when (b i) s) (λ i. given i ++ (more i ++ when (b i) s)) (record {
+        leads = λ i k. when_cases (Leads u (get_or u.slots i 0)) (given i ++ more i) (b i) s (g.leads i k) (λ e. leads_again u (get_or u.slots i 0) s (given i ++ more i) (there i e) (g.leads i k));
+        conflict_within = g.conflict_within;
+        agree_before = λ i k. when_cases (Agree shape) (given i ++ more i) (b i) s (g.agree_before i k) (λ e. agree_again shape s (given i ++ more i) (there i e) (g.agree_before i k));
+        not_there = λ k. when_cases (λ l. Agree shape l → ⊥) (given u.conflict ++ more u.conflict) (b u.conflict) s (g.not_there k) (λ _ agree. g.not_there k (agree_less shape (given u.conflict ++ more u.conflict) s agree));
+      }) (λ i k. append_assoc (given i) (more i) (when (b i) s));
 }
 
 -- ---- the first stage

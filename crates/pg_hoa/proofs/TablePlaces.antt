@@ -1,5 +1,5 @@
 -- Which slots a step goes to: bit by bit, block by block, edge by edge and line by line.
-use Rattle.std.proofs.Common.{◌≡◌, ℕ, suc, ◌+◌, ◌-◌, ◌*◌, ◌/◌, ◌%◌, ◌^◌, ◌<◌, ◌≤◌, Bool, true, false, cond, ◌&&◌, ◌==◌, leb, ltb, List, [], ◌∷◌, ◌++◌, length, map, take, get_or, refl, sym, ap, ◌∙◌, arith, lit<, lit≤, inl, inr, ◌⊎◌, Decides}
+use Rattle.std.proofs.Common.{◌≡◌, ℕ, zero, suc, ◌+◌, ◌-◌, ◌*◌, ◌/◌, ◌%◌, ◌^◌, ◌<◌, ◌≤◌, Bool, true, false, cond, ◌&&◌, ◌==◌, leb, ltb, List, [], ◌∷◌, ◌++◌, length, map, take, get_or, refl, sym, ap, ◌∙◌, arith, lit<, lit≤, inl, inr, ◌⊎◌, Decides}
 use Rattle.std.specs.List.{filter}
 use Rattle.std.specs.Int.{bit_at, trailing_zeros, w64}
 use Rattle.std.proofs.lemmas.Bool.{false≢true}
@@ -14,7 +14,9 @@ use Rattle.pg_hoa.specs.AutomatonText.{rising}
 use Rattle.pg_hoa.specs.Mirrors.Kept.{KeptEdge, KeptLine}
 use Rattle.pg_hoa.specs.Mirrors.Saying.{says}
 use Rattle.pg_hoa.specs.Mirrors.Letters.{truth, on_at}
-use Rattle.pg_hoa.specs.Mirrors.Tables.{when, within, at_slot, at_word, at_letters, at_line, at_lines, IsSplit, says_at, step, edge_step, kept_edge_steps}
+use Rattle.pg_hoa.specs.declared.shape.Shape.{Shape}
+use Rattle.pg_hoa.proofs.TableFilling.{Has, adds_same, adds_repeated}
+use Rattle.pg_hoa.specs.Mirrors.Tables.{Stage, Adds, when, within, at_slot, at_word, at_letters, at_line, at_lines, IsSplit, says_at, step, edge_step, kept_edge_steps}
 
 -- ---- tests
 
@@ -201,6 +203,46 @@ edge_added letters state first own edges more e label sets i h a b c d =
     ∙ ap (λ l. at_line letters (line_of state own edges) i ++ at_letters (state * letters) letters l (step e.target sets) i) b
     ∙ ap (λ l. at_line letters (line_of state own edges) i ++ at_letters (state * letters) letters e.label (step e.target l) i) c
     ∙ more_edges letters state own edges e i h ∙ ap (λ l. at_line letters (line_of state own l) i) d
+
+-- ---- an edge that says what an earlier one says
+
+has_kept : (own : List ℕ) (test : KeptEdge → Bool) (edges : List KeptEdge) (k : ℕ) (e : KeptEdge) → k < length edges → get_or edges k e ≡ e → test e ≡ true → Has (edge_step own e) (map (edge_step own) (filter test edges))
+has_kept own test [] k e h is holds = absurd (omega arith)
+has_kept own test (x ∷ edges) zero e h is holds =
+    let passes : test x ≡ true = ap test is ∙ holds in rw passes (inl (ap (edge_step own) is))
+has_kept own test (x ∷ edges) (suc k) e h is holds = behind (test x) (has_kept own test edges k e (omega arith) is holds)
+  where
+    behind : (b : Bool) → Has (edge_step own e) (map (edge_step own) (filter test edges)) → Has (edge_step own e) (map (edge_step own) (cond b (x ∷ filter test edges) (filter test edges)))
+    behind true rest = inr rest
+    behind false rest = rest
+
+pub edge_repeated : (shape : Shape) (letters state : ℕ) (own : List ℕ) (edges more : List KeptEdge) (e : KeptEdge) (k : ℕ) (t u : Stage) → 0 < letters → k < length edges → get_or edges k e ≡ e → edges ++ (e ∷ []) ≡ more
+    → Adds shape (at_line letters (line_of state own edges)) t u → Adds shape (at_line letters (line_of state own more)) t u
+edge_repeated shape letters state own edges more e k t u some h is all a =
+    let s = edge_step own e in
+    let b = λ (i : ℕ). state == i / letters && says_at (i % letters) e in
+    adds_same shape (λ i. at_line letters (line_of state own edges) i ++ when (b i) s) (at_line letters (line_of state own more)) t u
+    (adds_repeated shape (at_line letters (line_of state own edges)) b s t u a (λ i. there i (state == i / letters)))
+    (λ i below.
+    ap (λ l. at_line letters (line_of state own edges) i ++ l) (sym (letters_at letters state i own e some))
+    ∙ more_edges letters state own edges e i some ∙ ap (λ l. at_line letters (line_of state own l) i) all)
+  where
+    there : (i : ℕ) (row : Bool) → (row && says_at (i % letters) e) ≡ true → Has (edge_step own e) (cond row (map (edge_step own) (filter (says_at (i % letters)) edges)) [])
+    there i true holds = has_kept own (says_at (i % letters)) edges k e h is holds
+    there i false holds = absurd (false≢true holds)
+
+pub so_many_kept : {A B : Type 0} (f : A → B) (xs : List A) (i : ℕ) → i ≤ length xs → length (map f (take i xs)) ≡ i
+so_many_kept f [] zero h = refl
+so_many_kept f [] (suc i) h = absurd (omega arith)
+so_many_kept f (x ∷ xs) zero h = refl
+so_many_kept f (x ∷ xs) (suc i) h = ap suc (so_many_kept f xs i (omega arith))
+
+-- the place of an earlier element, among those so far
+pub kept_before : {A B : Type 0} (f : A → B) (xs : List A) (i k : ℕ) (d : A) → k < i → i < length xs → get_or (map f (take i xs)) k (f d) ≡ f (get_or xs k d)
+kept_before f [] i k d h lt = absurd (omega arith)
+kept_before f (x ∷ xs) (suc i) zero d h lt = refl
+kept_before f (x ∷ xs) (suc i) (suc k) d h lt = kept_before f xs i k d (omega arith) (omega arith)
+kept_before f (x ∷ xs) zero k d h lt = absurd (omega arith)
 
 -- ---- lines
 

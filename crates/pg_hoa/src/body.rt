@@ -12,7 +12,7 @@ use crate::token::{Token, next_token, unexpected};
 use std::alloc::Global;
 
 /// An edge as it is read: its label, where it leads, and the sets that stand behind it.
-#[derive(Debug, Drop)]
+#[derive(Clone, Debug, Drop, PartialEq, Eq, PartialOrd, Ord)]
 pub struct Edge {
     pub label: Vec<Op>,
     pub target: u32,

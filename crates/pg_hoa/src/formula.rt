@@ -18,7 +18,7 @@ pub enum Kind {
 }
 
 /// An operand, or an operator on what stands before it.
-#[derive(Clone, Copy, Debug, PartialEq, Eq)]
+#[derive(Clone, Copy, Debug, PartialEq, Eq, PartialOrd, Ord)]
 pub enum Op {
     Yes,
     No,

@@ -10,6 +10,7 @@ pub mod laws;
 mod letters;
 mod needs;
 mod reader;
+mod repeats;
 mod settle;
 mod shape;
 mod table;

@@ -7,7 +7,7 @@ ghost use Rattle.pg_hoa.specs.Mirrors.Needs.{on_letter, Fits, Allows, AllowsStac
 
 use crate::formula::Op;
 use crate::letters::word_of;
-use std::alloc::{AllocError, Global};
+use std::alloc::AllocError;
 
 /// Bits of a letter: those of `care`, where the letter has what `value` has.
 #[derive(Clone, Copy, Debug)]
@@ -21,6 +21,13 @@ pub struct Bits {
 pub struct Need {
     yes: Bits,
     no: Bits,
+}
+
+/// Stacks that labels are computed on, kept from label to label.
+#[derive(Drop)]
+pub struct Stacks {
+    pub needs: Vec<Need>,
+    pub words: Vec<u64>,
 }
 
 /// Each letter fits.
@@ -143,16 +150,16 @@ fn need_of(op: Op, stack: &mut Vec<Need>) -> Need
     }
 }
 
-/// Bits of each letter to which the label says yes.
-pub fn bits_of(alloc: Global, label: &[Op]) -> Result<Bits, AllocError>
+/// Bits of each letter to which the label says yes. What the stack holds is lost.
+pub fn bits_of(label: &[Op], stack: &mut Vec<Need>) -> Result<Bits, AllocError>
     ensures { IfOk result (λ bits. (letter : ℕ) → says label.now (on_letter letter) ≡ true → Fits letter bits) }
 {
-    let mut stack = Vec::new(alloc);
+    stack.clear();
     for op in label {
-        let need = need_of(*op, &mut stack);
+        let need = need_of(*op, stack);
         stack.push(need)?;
     }
-    Ok(pop(&mut stack).yes)
+    Ok(pop(stack).yes)
 }
 
 /// Whether a letter of the block, of which there are sixty-four, may fit.

@@ -1,19 +1,20 @@
 //! The table of steps by state and letter.
 
-ghost use Rattle.std.specs.Prelude.{◌≡◌, ℕ, ◌+◌, ◌*◌, ◌^◌, ◌<◌, ◌≤◌, map, length, get_or, max, slice_get, option_map, true, Some, IfSome, IfOk, OnOk, IfErr};
+ghost use Rattle.std.specs.Prelude.{◌≡◌, ℕ, ◌+◌, ◌*◌, ◌^◌, ◌<◌, ◌≤◌, List, ◌++◌, map, length, get_or, max, slice_get, option_map, Some, IfSome, IfOk, OnOk, IfErr};
 ghost use Rattle.std.specs.List.{All, fold};
 ghost use Rattle.pg_hoa.specs.Automata.{deciding};
-ghost use Rattle.pg_hoa.specs.AutomatonText.{put};
+ghost use Rattle.pg_hoa.specs.AutomatonText.{rising};
 ghost use Rattle.pg_hoa.specs.Mirrors.Kept.{kept_line};
-ghost use Rattle.pg_hoa.specs.Mirrors.Tables.{step, way_step, put_all, same_set, agree, Extends, IsSplit, numbered, next, stage, MayNumber, Adds, at_slot, at_word, at_letters, at_line, IsTableOf, IsConflictOf, kept_numbers, kept_count};
+ghost use Rattle.pg_hoa.specs.Mirrors.Tables.{step, way_step, IsDecided, with_set, same_set, agree, Extends, IsSplit, numbered, next, stage, MayNumber, Adds, at_slot, at_word, at_letters, at_line, IsTableOf, IsConflictOf, kept_numbers, kept_count};
 
 use crate::body::Line;
 use crate::fault::Conflict;
 use crate::formula::Op;
-use crate::needs::{bits_of, fitting_word};
+use crate::needs::{Stacks, bits_of, fitting_word};
+use crate::repeats::{is_repeated, is_same_list};
 use crate::shape::Shape;
 use std::alloc::{AllocError, Global};
-use std::collections::HashMap;
+use std::collections::BTreeMap;
 
 /// A step: where it leads, and the place of its list of sets.
 #[derive(Clone, Copy, Debug)]
@@ -33,12 +34,15 @@ pub struct Table {
     lists: Vec<Vec<u32>>,
 }
 
-/// A step that goes into a table of a shape.
+/// A step that goes into a table of a shape: where it leads, which of the sets met on the way counts, and these, those of the
+/// state and those of the edge.
 #[derive(Drop)]
-pub struct Way {
+pub struct Way<'a> {
     shape: Shape,
     target: u32,
-    sets: Vec<u32>,
+    counts: Option<u32>,
+    own: &'a [u32],
+    more: &'a [u32],
 }
 
 /// A table that is being filled, where each list of sets is by its place, and the first slot whose steps don't agree,
@@ -48,7 +52,7 @@ pub struct Filling {
     slots: Vec<u32>,
     steps: Vec<Stored>,
     lists: Vec<Vec<u32>>,
-    known: HashMap<Vec<u32>, u32>,
+    known: BTreeMap<Vec<u32>, u32>,
     conflict: usize,
 }
 
@@ -86,47 +90,40 @@ fn same_set(a: Option<u32>, b: Option<u32>) -> bool
     }
 }
 
-/// Whether the lists are the same; where the answer is no they may be.
-fn is_same(a: &[u32], b: &[u32]) -> bool
-    ensures { result ≡ true → a.now ≡ b.now }
+/// The set that counts, with one more.
+fn with_set(shape: Shape, counts: Option<u32>, set: u32) -> Option<u32>
+    ensures { result ≡ with_set shape counts set }
 {
-    a == b
+    match counts {
+        None => Some(set),
+        Some(n) => match shape {
+            Shape::MinEven => Some(n.min(set)),
+            Shape::MinOdd => Some(n.min(set)),
+            _ => Some(n.max(set)),
+        },
+    }
 }
 
-/// How many numbers stand before the first that isn't less.
-fn place_in(sets: &[u32], number: u32) -> usize
-    ensures within { result ≤ length sets.now }
-    ensures before { (k : ℕ) → k < result → get_or sets.now k 0 < number }
-    ensures there { result < length sets.now → number ≤ get_or sets.now result 0 }
+/// The set that counts, with more sets, where without these it is the given one.
+fn counts_with(shape: Shape, counts: Option<u32>, sets: &[u32]) -> Option<u32>
+    ensures { (own : List ℕ) → counts ≡ deciding shape (rising own) → result ≡ deciding shape (rising (own ++ sets.now)) }
 {
-    for (i, n) in sets.iter().enumerate() {
-        if *n >= number {
-            return i;
-        }
+    let mut found = counts;
+    for set in sets {
+        found = with_set(shape, found, *set);
     }
-    sets.len()
+    found
 }
 
-/// Puts the number into the list, before the first that isn't less, unless it is there.
-fn put(sets: &mut Vec<u32>, number: u32) -> Result<(), AllocError>
-    ensures { OnOk result (sets.new.items ≡ put number sets.old.items) }
+/// The sets of the way, each once, the least first.
+fn sets_of(alloc: Global, way: &Way<'_>) -> Result<Vec<u32>, AllocError>
+    ensures { IfOk result (λ v. v.items ≡ (way_step way.now).sets) }
 {
-    let place = place_in(sets.as_slice(), number);
-    if place < sets.len() && sets[place] == number {
-        return Ok(());
-    }
-    sets.insert(place, number)?;
-    Ok(())
-}
-
-/// Puts each of the numbers into the list.
-fn put_all(sets: &mut Vec<u32>, numbers: &[u32]) -> Result<(), AllocError>
-    ensures { OnOk result (sets.new.items ≡ put_all numbers.now sets.old.items) }
-{
-    for number in numbers {
-        put(sets, *number)?;
-    }
-    Ok(())
+    let mut sets = Vec::from_slice(alloc, way.own)?;
+    sets.extend_from_slice(way.more)?;
+    sets.sort_unstable();
+    sets.dedup();
+    Ok(sets)
 }
 
 /// The place of the list, if it is known.
@@ -135,7 +132,7 @@ fn known_place(filling: &Filling, sets: &[u32]) -> Option<u32>
 {
     let place = *filling.known.get(sets)?;
     let list = filling.lists.get(place as usize)?;
-    if is_same(list.as_slice(), sets) {
+    if is_same_list(list.as_slice(), sets) {
         Some(place)
     } else {
         None
@@ -143,30 +140,31 @@ fn known_place(filling: &Filling, sets: &[u32]) -> Option<u32>
 }
 
 /// The place of the list, which is put behind the others if it isn't known.
-fn place_of(alloc: Global, filling: &mut Filling, sets: &[u32]) -> Result<u32, AllocError>
-    ensures there { IfOk result (λ place. slice_get (stage filling.new).lists place ≡ Some sets.now) }
+fn place_of(alloc: Global, filling: &mut Filling, sets: Vec<u32>) -> Result<u32, AllocError>
+    ensures there { IfOk result (λ place. slice_get (stage filling.new).lists place ≡ Some sets.items) }
     ensures keeps { OnOk result (Extends (stage filling.old) (stage filling.new)) }
 {
-    if let Some(place) = known_place(filling, sets) {
+    if let Some(place) = known_place(filling, sets.as_slice()) {
         return Ok(place);
     }
     let place = filling.lists.len();
     if place >= u32::MAX as usize {
         return Err(AllocError);
     }
-    filling.lists.push(Vec::from_slice(alloc, sets)?)?;
     filling
         .known
-        .insert(Vec::from_slice(alloc, sets)?, place as u32)?;
+        .insert(Vec::from_slice(alloc, sets.as_slice())?, place as u32)?;
+    filling.lists.push(sets)?;
     Ok(place as u32)
 }
 
 /// The number of a new step.
-fn store(alloc: Global, filling: &mut Filling, way: &Way) -> Result<u32, AllocError>
+fn store(alloc: Global, filling: &mut Filling, way: &Way<'_>) -> Result<u32, AllocError>
     ensures there { IfOk result (λ number. numbered (stage filling.new).steps (stage filling.new).lists number ≡ Some (way_step way.now)) }
     ensures keeps { OnOk result (Extends (stage filling.old) (stage filling.new)) }
 {
-    let list = place_of(alloc, filling, way.sets.as_slice())?;
+    let sets = sets_of(alloc, way)?;
+    let list = place_of(alloc, filling, sets)?;
     let number = filling.steps.len() + 1;
     if number > u32::MAX as usize {
         return Err(AllocError);
@@ -179,28 +177,24 @@ fn store(alloc: Global, filling: &mut Filling, way: &Way) -> Result<u32, AllocEr
 }
 
 /// Whether the step agrees with that in the slot, if one is there.
-fn compared(filling: &Filling, way: &Way, slot: usize) -> Option<bool>
-    requires { slot < length filling.now.slots.items }
+fn compared(filling: &Filling, way: &Way<'_>, slot: usize) -> Option<bool>
+    requires decided { IsDecided way.now }
+    requires within { slot < length filling.now.slots.items }
     ensures { result ≡ option_map (λ s. agree way.now.shape s (way_step way.now)) (numbered (stage filling.now).steps (stage filling.now).lists (get_or filling.now.slots.items slot 0)) }
 {
     let (target, sets) = numbered(&filling.steps, &filling.lists, filling.slots[slot])?;
-    Some(
-        target == way.target
-            && same_set(
-                deciding(way.shape, sets),
-                deciding(way.shape, way.sets.as_slice()),
-            ),
-    )
+    Some(target == way.target && same_set(deciding(way.shape, sets), way.counts))
 }
 
 /// Gives the step to the slot. The step's number, or 0 while it has none, goes in and out.
 fn place(
     alloc: Global,
     filling: &mut Filling,
-    way: &Way,
+    way: &Way<'_>,
     slot: usize,
     number: u32,
 ) -> Result<u32, AllocError>
+    requires decided { IsDecided way.now }
     requires within { slot < length filling.old.slots.items }
     requires known { MayNumber (stage filling.old) number (way_step way.now) }
     ensures adds { OnOk result (Adds way.now.shape (at_slot slot (way_step way.now)) (stage filling.old) (stage filling.new)) }
@@ -231,12 +225,13 @@ fn place(
 fn place_word(
     alloc: Global,
     filling: &mut Filling,
-    way: &Way,
+    way: &Way<'_>,
     first: usize,
     width: u32,
     word: u64,
     mut number: u32,
 ) -> Result<u32, AllocError>
+    requires decided { IsDecided way.now }
     requires within { first + width ≤ length filling.old.slots.items }
     requires narrow { width ≤ 64 }
     requires known { MayNumber (stage filling.old) number (way_step way.now) }
@@ -275,21 +270,22 @@ fn blocks_of(propositions: u32) -> (u32, u32)
 fn add_edge(
     alloc: Global,
     filling: &mut Filling,
-    stack: &mut Vec<u64>,
-    way: &Way,
+    stacks: &mut Stacks,
+    way: &Way<'_>,
     propositions: u32,
     first: usize,
     label: &[Op],
 ) -> Result<(), AllocError>
+    requires decided { IsDecided way.now }
     requires few { propositions ≤ 16 }
     requires within { first + 2 ^ propositions ≤ length filling.old.slots.items }
     ensures { OnOk result (Adds way.now.shape (at_letters first (2 ^ propositions) label.now (way_step way.now)) (stage filling.old) (stage filling.new)) }
 {
     let (blocks, width) = blocks_of(propositions);
-    let bits = bits_of(alloc, label)?;
+    let bits = bits_of(label, &mut stacks.needs)?;
     let mut number = 0;
     for block in 0..blocks {
-        let word = fitting_word(label, bits, block, stack)?;
+        let word = fitting_word(label, bits, block, &mut stacks.words)?;
         if word != 0 {
             let at = first + (block * width) as usize;
             number = place_word(alloc, filling, way, at, width, word, number)?;
@@ -302,7 +298,7 @@ fn add_edge(
 fn add_line(
     alloc: Global,
     filling: &mut Filling,
-    stack: &mut Vec<u64>,
+    stacks: &mut Stacks,
     shape: Shape,
     propositions: u32,
     line: &Line,
@@ -311,27 +307,30 @@ fn add_line(
     requires within { line.now.state * 2 ^ propositions + 2 ^ propositions ≤ length filling.old.slots.items }
     ensures { OnOk result (Adds shape (at_line (2 ^ propositions) (kept_line line.now)) (stage filling.old) (stage filling.new)) }
 {
-    let state = line.state;
-    let first = (state as usize) << propositions;
-    let mut own = Vec::new(alloc);
-    put_all(&mut own, line.sets.as_slice())?;
-    for edge in &line.edges {
-        let mut sets = Vec::from_slice(alloc, own.as_slice())?;
-        put_all(&mut sets, edge.sets.as_slice())?;
-        let way = Way {
-            shape,
-            target: edge.target,
-            sets,
-        };
-        add_edge(
-            alloc,
-            filling,
-            stack,
-            &way,
-            propositions,
-            first,
-            edge.label.as_slice(),
-        )?;
+    let first = (line.state as usize) << propositions;
+    let own = line.sets.as_slice();
+    let counts = counts_with(shape, None, own);
+    let mut seen = BTreeMap::new(alloc);
+    for (index, edge) in line.edges.iter().enumerate() {
+        if !is_repeated(&mut seen, &line.edges, index)? {
+            let more = edge.sets.as_slice();
+            let way = Way {
+                shape,
+                target: edge.target,
+                counts: counts_with(shape, counts, more),
+                own,
+                more,
+            };
+            add_edge(
+                alloc,
+                filling,
+                stacks,
+                &way,
+                propositions,
+                first,
+                edge.label.as_slice(),
+            )?;
+        }
     }
     Ok(())
 }
@@ -358,12 +357,15 @@ pub fn table_of(
         slots: vec![in alloc; 0u32; total]?,
         steps: Vec::new(alloc),
         lists: Vec::new(alloc),
-        known: HashMap::new(alloc),
+        known: BTreeMap::new(alloc),
         conflict: total,
     };
-    let mut stack = Vec::new(alloc);
+    let mut stacks = Stacks {
+        needs: Vec::new(alloc),
+        words: Vec::new(alloc),
+    };
     for line in lines {
-        add_line(alloc, &mut filling, &mut stack, shape, propositions, line)?;
+        add_line(alloc, &mut filling, &mut stacks, shape, propositions, line)?;
     }
     if filling.conflict < total {
         let state = (filling.conflict / letters) as u32;

@@ -1,8 +1,10 @@
 -- The steps that the lines of a text give, and a table of them by state and letter.
-use Rattle.std.specs.Prelude.{◌≡◌, ℕ, zero, suc, ◌+◌, ◌-◌, ◌*◌, ◌/◌, ◌%◌, ◌^◌, ◌<◌, ◌≤◌, ◌==◌, nat_lt, nat_le, max, Bool, true, false, ◌&&◌, List, [], ◌∷◌, ◌++◌, map, length, get_or, slice_get, Option, Some, None, if◌then◌else◌}
+use Rattle.std.specs.Prelude.{◌≡◌, ℕ, zero, suc, ◌+◌, ◌-◌, ◌*◌, ◌/◌, ◌%◌, ◌^◌, ◌<◌, ◌≤◌, ◌==◌, nat_lt, nat_le, min, max, Bool, true, false, ◌&&◌, List, [], ◌∷◌, ◌++◌, map, length, get_or, slice_get, Option, Some, None, if◌then◌else◌}
 use Rattle.std.specs.List.{filter, flat_map, fold}
 use Rattle.std.specs.Int.{bit_at}
 use Rattle.pg_hoa.specs.declared.shape.Shape.{Shape}
+use Rattle.pg_hoa.specs.declared.shape.Shape.TheVariants.{MinEven, MinOdd}
+use Rattle.pg_hoa.specs.declared.body.Edge as read_edge
 use Rattle.pg_hoa.specs.declared.fault.Conflict.{Conflict}
 use Rattle.pg_hoa.specs.declared.fault.Conflict.TheVariants.{Memory, NotDeterministic}
 use Rattle.pg_hoa.specs.declared.table.Stored.{Stored}
@@ -12,8 +14,8 @@ use Rattle.pg_hoa.specs.declared.table.Table.{Table}
 use Rattle.pg_hoa.specs.declared.formula.Op.{Op}
 use Rattle.pg_hoa.specs.Mirrors.Steps.{◌>>=◌}
 use Rattle.pg_hoa.specs.Automata.{Step, deciding}
-use Rattle.pg_hoa.specs.AutomatonText.{Agree, head, put, rising}
-use Rattle.pg_hoa.specs.Mirrors.Kept.{KeptEdge, KeptLine}
+use Rattle.pg_hoa.specs.AutomatonText.{Agree, head, rising}
+use Rattle.pg_hoa.specs.Mirrors.Kept.{KeptEdge, KeptLine, kept_edge}
 use Rattle.pg_hoa.specs.Mirrors.Saying.{says}
 
 abbrev pub step : ℕ → List ℕ → Step
@@ -42,9 +44,16 @@ kept_numbers l = l.state ∷ map (λ e. e.target) l.edges
 abbrev pub kept_count : ℕ → List KeptLine → ℕ
 kept_count start lines = suc (fold max 0 (start ∷ flat_map kept_numbers lines))
 
-abbrev pub put_all : List ℕ → List ℕ → List ℕ
-put_all [] sets = sets
-put_all (n ∷ ns) sets = put_all ns (put n sets)
+-- the set that counts, with one more
+abbrev pub with_set : Shape → Option ℕ → ℕ → Option ℕ
+with_set shape None set = Some set
+with_set MinEven (Some n) set = Some (min n set)
+with_set MinOdd (Some n) set = Some (min n set)
+with_set shape (Some n) set = Some (max n set)
+
+-- an edge says what an earlier one says
+abbrev pub Repeats : List read_edge.Edge → ℕ → Type 0
+Repeats edges index = (place : ℕ) × (place < index) × ((d : read_edge.Edge) → kept_edge (get_or edges place d) ≡ kept_edge (get_or edges index d))
 
 -- ---- what a table says
 
@@ -97,7 +106,11 @@ abbrev pub agree : Shape → Step → Step → Bool
 agree shape s t = (s.target == t.target) && same_set (deciding shape s.sets) (deciding shape t.sets)
 
 abbrev pub way_step : Way → Step
-way_step w = step w.target w.sets.items
+way_step w = step w.target (rising (w.own.now ++ w.more.now))
+
+-- the set of the way that counts is known
+abbrev pub IsDecided : Way → Type 0
+IsDecided w = w.counts ≡ deciding w.shape (way_step w).sets
 
 -- each slot has the first of its steps, and the conflict is the first slot whose steps don't agree
 pub record IsFilled (shape : Shape) (t : Stage) (given : ℕ → List Step) : Type 0 where

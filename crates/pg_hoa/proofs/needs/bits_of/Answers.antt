@@ -4,7 +4,7 @@ use Rattle.pg_hoa.proofs.TableNeeds.{setting_out, one_more, arrived}
 use Rattle.pg_hoa.proofs.needs.bits_of.Goals as goal
 
 pub loop-op-init : goal.loop-op-init
-loop-op-init c = λ letter. setting_out letter c.args.label.now c.new-stack.result.items c.new-stack.ensures.items
+loop-op-init c = λ letter. setting_out letter c.args.label.now c.clear.new.self.items c.clear.ensures.items
 
 pub loop-op-preserved : goal.loop-op-preserved
 loop-op-preserved c = λ letter.

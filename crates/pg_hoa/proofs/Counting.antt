@@ -1,0 +1,141 @@
+-- The set of a step that counts.
+use Rattle.std.proofs.Common.{◌≡◌, ◌≢◌, ◌∙◌, ℕ, suc, zero, ◌<◌, ◌≤◌, ◌-◌, min, max, List, [], ◌∷◌, ◌++◌, length, Option, Some, None, refl, sym, ap, arith, inl, inr, ◌⊎◌}
+use Rattle.std.specs.Prelude.{slice_get}
+use Rattle.std.proofs.lemmas.Bool.Decides.{nat_tests}
+use Rattle.pg_hoa.specs.declared.shape.Shape.{Shape}
+use Rattle.pg_hoa.specs.declared.shape.Shape.TheVariants.{MaxEven, MaxOdd, MinEven, MinOdd, Always, Never}
+use Rattle.pg_hoa.specs.Automata.{first, last, deciding}
+use Rattle.pg_hoa.specs.AutomatonText.{put, rising}
+use Rattle.pg_hoa.specs.Mirrors.Tables.{with_set}
+use Rattle.pg_hoa.proofs.Steps.{some, some_is}
+use Rattle.pg_hoa.proofs.Rising.{Up, up_rising, rising_put}
+
+three_ways : (a b : ℕ) → (a < b) ⊎ ((a ≡ b) ⊎ (b < a))
+three_ways zero zero = inr (inl refl)
+three_ways zero (suc b) = inl (omega arith)
+three_ways (suc a) zero = inr (inr (omega arith))
+three_ways (suc a) (suc b) = elim (three_ways a b) [ inl h ↦ inl (omega arith) | inr k ↦ elim k [ inl e ↦ inr (inl (ap suc e)) | inr h ↦ inr (inr (omega arith)) ] ]
+
+put_below : (n m : ℕ) (ms : List ℕ) → n < m → put n (m ∷ ms) ≡ n ∷ m ∷ ms
+put_below n m ms h = grind (arith, nat_tests)
+
+put_here : (n m : ℕ) (ms : List ℕ) → n ≡ m → put n (m ∷ ms) ≡ m ∷ ms
+put_here n m ms h = grind (arith, nat_tests)
+
+put_behind : (n m : ℕ) (ms : List ℕ) → m < n → put n (m ∷ ms) ≡ m ∷ put n ms
+put_behind n m ms h = grind (arith, nat_tests)
+
+-- ---- the greatest of a list
+
+last_at : (xs : List ℕ) → slice_get xs (length xs - 1) ≡ last xs
+last_at [] = refl
+last_at (x ∷ []) = refl
+last_at (x ∷ y ∷ xs) =
+    let here : length (x ∷ y ∷ xs) - 1 ≡ suc (length (y ∷ xs) - 1) = omega arith in
+    ap (slice_get (x ∷ y ∷ xs)) here ∙ last_at (y ∷ xs)
+
+pub decides_last : (shape : Shape) (xs : List ℕ) (o : Option ℕ) → (shape ≢ MinEven) → (shape ≢ MinOdd) → o ≡ slice_get xs (length xs - 1) → o ≡ deciding shape xs
+decides_last MinEven xs o a b e = absurd (a refl)
+decides_last MinOdd xs o a b e = absurd (b refl)
+decides_last MaxEven xs o a b e = e ∙ last_at xs
+decides_last MaxOdd xs o a b e = e ∙ last_at xs
+decides_last Always xs o a b e = e ∙ last_at xs
+decides_last Never xs o a b e = e ∙ last_at xs
+
+-- ---- one more set
+
+first_put : (n m : ℕ) (ms : List ℕ) → first (put n (m ∷ ms)) ≡ Some (min m n)
+first_put n m ms = elim (three_ways n m) [
+  | inl h ↦ ap first (put_below n m ms h) ∙ ap some (omega arith)
+  | inr k ↦ elim k [
+    | inl e ↦ ap first (put_here n m ms e) ∙ ap some (omega arith)
+    | inr h ↦ ap first (put_behind n m ms h) ∙ ap some (omega arith)
+  ]
+]
+
+last_some : (m : ℕ) (ms : List ℕ) → (k : ℕ) × (last (m ∷ ms) ≡ Some k)
+last_some m [] = (m, refl)
+last_some m (n ∷ ms) = last_some n ms
+
+least_is_first : (m : ℕ) (ms : List ℕ) (k : ℕ) → Up (m ∷ ms) → last (m ∷ ms) ≡ Some k → m ≤ k
+least_is_first m [] k up e = let same = some_is m k e in omega arith
+least_is_first m (n ∷ ms) k up e = let below : m < n = up.0.0 in let rest = least_is_first n ms k up.1 e in omega arith
+
+last_behind : (m n : ℕ) (xs : List ℕ) → last (m ∷ put n xs) ≡ last (put n xs)
+last_behind m n [] = refl
+last_behind m n (x ∷ xs) = elim (three_ways n x) [
+  | inl h ↦ ap (λ l. last (m ∷ l)) (put_below n x xs h) ∙ sym (ap last (put_below n x xs h))
+  | inr k ↦ elim k [
+    | inl e ↦ ap (λ l. last (m ∷ l)) (put_here n x xs e) ∙ sym (ap last (put_here n x xs e))
+    | inr h ↦ ap (λ l. last (m ∷ l)) (put_behind n x xs h) ∙ sym (ap last (put_behind n x xs h))
+  ]
+]
+
+last_put : (n m : ℕ) (ms : List ℕ) (k : ℕ) → Up (m ∷ ms) → last (m ∷ ms) ≡ Some k → last (put n (m ∷ ms)) ≡ Some (max k n)
+last_put n m [] k up e =
+    let same = some_is m k e in
+    elim (three_ways n m) [
+      | inl h ↦ ap last (put_below n m [] h) ∙ ap some (omega arith)
+      | inr j ↦ elim j [
+        | inl is ↦ ap last (put_here n m [] is) ∙ ap some (omega arith)
+        | inr h ↦ ap last (put_behind n m [] h) ∙ ap some (omega arith)
+      ]
+    ]
+last_put n m (x ∷ ms) k up e =
+    let low = least_is_first m (x ∷ ms) k up e in
+    elim (three_ways n m) [
+      | inl h ↦ ap last (put_below n m (x ∷ ms) h) ∙ e ∙ ap some (omega arith)
+      | inr j ↦ elim j [
+        | inl is ↦ ap last (put_here n m (x ∷ ms) is) ∙ e ∙ ap some (omega arith)
+        | inr h ↦ ap last (put_behind n m (x ∷ ms) h) ∙ last_behind m n (x ∷ ms) ∙ last_put n x ms k up.1 e
+      ]
+    ]
+
+abbrev greater : Option ℕ → ℕ → Option ℕ
+greater None n = Some n
+greater (Some k) n = Some (max k n)
+
+last_more : (n : ℕ) (ys : List ℕ) → Up ys → greater (last ys) n ≡ last (put n ys)
+last_more n [] up = refl
+last_more n (m ∷ ms) up = let k = last_some m ms in ap (λ o. greater o n) k.1 ∙ sym (last_put n m ms k.0 up k.1)
+
+abbrev less : Option ℕ → ℕ → Option ℕ
+less None n = Some n
+less (Some k) n = Some (min k n)
+
+first_more : (n : ℕ) (ys : List ℕ) → less (first ys) n ≡ first (put n ys)
+first_more n [] = refl
+first_more n (m ∷ ms) = sym (first_put n m ms)
+
+with_greater : (shape : Shape) (o : Option ℕ) (n : ℕ) → (shape ≢ MinEven) → (shape ≢ MinOdd) → with_set shape o n ≡ greater o n
+with_greater shape None n a b = refl
+with_greater MinEven (Some k) n a b = absurd (a refl)
+with_greater MinOdd (Some k) n a b = absurd (b refl)
+with_greater MaxEven (Some k) n a b = refl
+with_greater MaxOdd (Some k) n a b = refl
+with_greater Always (Some k) n a b = refl
+with_greater Never (Some k) n a b = refl
+
+with_less : (shape : Shape) (o : Option ℕ) (n : ℕ) → (shape ≡ MinEven) ⊎ (shape ≡ MinOdd) → with_set shape o n ≡ less o n
+with_less shape None n is = refl
+with_less shape (Some k) n (inl e) = ap (λ s. with_set s (some k) n) e
+with_less shape (Some k) n (inr e) = ap (λ s. with_set s (some k) n) e
+
+deciding_put : (shape : Shape) (n : ℕ) (ys : List ℕ) → Up ys → with_set shape (deciding shape ys) n ≡ deciding shape (put n ys)
+deciding_put MinEven n ys up = with_less MinEven (first ys) n (inl refl) ∙ first_more n ys
+deciding_put MinOdd n ys up = with_less MinOdd (first ys) n (inr refl) ∙ first_more n ys
+deciding_put MaxEven n ys up = with_greater MaxEven (last ys) n (λ e. absurd cc) (λ e. absurd cc) ∙ last_more n ys up
+deciding_put MaxOdd n ys up = with_greater MaxOdd (last ys) n (λ e. absurd cc) (λ e. absurd cc) ∙ last_more n ys up
+deciding_put Always n ys up = with_greater Always (last ys) n (λ e. absurd cc) (λ e. absurd cc) ∙ last_more n ys up
+deciding_put Never n ys up = with_greater Never (last ys) n (λ e. absurd cc) (λ e. absurd cc) ∙ last_more n ys up
+
+pub one_more_counts : (shape : Shape) (xs : List ℕ) (n : ℕ) → with_set shape (deciding shape (rising xs)) n ≡ deciding shape (rising (xs ++ (n ∷ [])))
+one_more_counts shape xs n = deciding_put shape n (rising xs) (up_rising xs) ∙ ap (deciding shape) (rising_put xs n)
+
+pub none_counts : (shape : Shape) → None ≡ deciding shape []
+none_counts MaxEven = refl
+none_counts MaxOdd = refl
+none_counts MinEven = refl
+none_counts MinOdd = refl
+none_counts Always = refl
+none_counts Never = refl
