@@ -8,3 +8,4 @@ pub mod Least
 pub mod GameLines
 pub mod Orderings
 pub mod Passes
+pub mod Overs

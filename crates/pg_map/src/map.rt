@@ -2,9 +2,11 @@
 
 ghost use Rattle.std.specs.Prelude.{◌≡◌, ◌↔◌, ℕ, ◌<◌, length, slice_set, All, IfOk, IfSome, IfNone, IsSome, IsTrue, MatchBool};
 ghost use Rattle.std.specs.Bool.{OnTrue, OnFalse};
-ghost use Rattle.pg_measure.specs.Measures.{Fits, AtMost, IsBelow, owned};
+ghost use Rattle.pg_measure.specs.Measures.{Fits, AtMost, IsBelow, Covers, owned, width_from};
+ghost use Rattle.pg_measure.specs.Mirrors.Rows.{FrontAtMost};
 ghost use Rattle.pg_measure.specs.Views.{measure_in};
-ghost use Rattle.pg_map.specs.Lines.{AreWithin};
+ghost use Rattle.pg_map.specs.Lines.{AreWithin, line_at};
+ghost use Rattle.pg_map.specs.Mirrors.Tables.{IsBest};
 ghost use Rattle.pg_map.specs.Maps.{measure_at, IsMap, zero_map, update_map, MapAtMost, IsServedBy, IsServed, IsClosed, IsLifted, StaysUnder, IsLeastClosedFrom, IsJoin};
 ghost use Rattle.pg_map.specs.Weights.{map_weight};
 
@@ -129,6 +131,48 @@ impl MeasureMap {
             w.0 as usize,
             lines.priority(v),
         )
+    }
+
+    /// Whether the components of `a` of priorities at least that of `v` are at most those of `b`; where both are at most
+    /// each other, either answer. Top is above every list.
+    pub fn is_front_below<G: Lines>(&self, lines: &G, v: Vertex, a: Vertex, b: Vertex) -> bool
+        requires held { IsSome (G.line lines.now v) }
+        requires a { a < length self.now.measures }
+        requires b { b < length self.now.measures }
+        ensures { MatchBool result (FrontAtMost (width_from self.now.bounds (line_at (G.line lines.now) v).priority) (measure_at self.now.measures a) (measure_at self.now.measures b)) (FrontAtMost (width_from self.now.bounds (line_at (G.line lines.now) v).priority) (measure_at self.now.measures b) (measure_at self.now.measures a)) }
+    {
+        table::is_front_below(
+            &self.cells,
+            self.bounds.pairs(),
+            self.count as usize,
+            a.0 as usize,
+            b.0 as usize,
+            lines.priority(v),
+        )
+    }
+
+    /// Lifts a vertex over its best successor, which doesn't serve it: the lift of the vertex, with no look at the
+    /// other successors.
+    pub fn lift_over<G: Lines>(&mut self, lines: &G, v: Vertex, w: Vertex)
+        requires held { IsSome (G.line lines.now v) }
+        requires within { AreWithin (length self.old.measures) (G.line lines.now) }
+        requires best { IsBest (line_at (G.line lines.now) v).owner (width_from self.old.bounds (line_at (G.line lines.now) v).priority) self.old.measures (line_at (G.line lines.now) v).successors w }
+        requires unserved { ¬ (IsServedBy self.old.bounds (G.line lines.now) self.old.measures v w) }
+        ensures bounds { self.new.bounds ≡ self.old.bounds }
+        ensures map { IsMap self.old.bounds (length self.old.measures) self.new.measures }
+        ensures lifted { IsLifted self.old.bounds (G.line lines.now) self.old.measures self.new.measures v }
+        ensures served { Covers self.old.bounds (line_at (G.line lines.now) v).priority (measure_at self.new.measures v) (measure_at self.old.measures w) }
+        ensures under { StaysUnder self.old.bounds (G.line lines.now) self.old.measures self.new.measures }
+        ensures weight { map_weight self.old.bounds self.new.measures < map_weight self.old.bounds self.old.measures }
+    {
+        table::lift_over(
+            &mut self.cells,
+            self.bounds.pairs(),
+            self.count as usize,
+            v.0 as usize,
+            w.0 as usize,
+            lines.priority(v),
+        );
     }
 
     /// Lifts a vertex: its measure becomes the least that serves it, if that is above it. True exactly if it rose.

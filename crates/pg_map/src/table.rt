@@ -2,8 +2,8 @@
 
 ghost use Rattle.std.specs.Prelude.{◌≡◌, ◌⊎◌, ℕ, List, Some, ◌+◌, ◌*◌, ◌<◌, ◌≤◌, length, slice_set, MatchBool, All};
 ghost use Rattle.std.specs.Bool.{OnTrue, OnFalse};
-ghost use Rattle.pg_measure.specs.Measures.{AreBounds, Fits, IsBelow, AtMost, Covers};
-ghost use Rattle.pg_measure.specs.Mirrors.Rows.{measure_of, IsLeastCover};
+ghost use Rattle.pg_measure.specs.Measures.{AreBounds, Fits, IsBelow, AtMost, Covers, width_from, is_odd};
+ghost use Rattle.pg_measure.specs.Mirrors.Rows.{measure_of, IsLeastCover, FrontAtMost};
 ghost use Rattle.pg_measure.specs.Views.{measure_in};
 ghost use Rattle.pg_map.specs.Lines.{line_of, only};
 ghost use Rattle.pg_map.specs.Maps.{measure_at, update_map, IsServed, IsLifted, IsJoin};
@@ -177,6 +177,51 @@ pub(crate) fn lift(
     }
     write_step(cells, bounds, count, best, v, front, priority % 2 == 1);
     true
+}
+
+/// Whether the components of v of priorities at least this are less than those of w, or v and w are equal in them and
+/// it doesn't say so. Top is above every list.
+pub(crate) fn is_front_below(
+    cells: &[u32],
+    bounds: &[(u32, u32)],
+    count: usize,
+    v: usize,
+    w: usize,
+    priority: u32,
+) -> bool
+    requires bounds { AreBounds bounds.now }
+    requires filled { length cells.now ≡ count * (length bounds.now + 1) }
+    requires v { v < count }
+    requires w { w < count }
+    ensures { MatchBool result (FrontAtMost (width_from bounds.now priority) (measure_at (table count (length bounds.now + 1) cells.now) v) (measure_at (table count (length bounds.now + 1) cells.now) w)) (FrontAtMost (width_from bounds.now priority) (measure_at (table count (length bounds.now + 1) cells.now) w) (measure_at (table count (length bounds.now + 1) cells.now) v)) }
+{
+    let width = bounds.len() + 1;
+    row::is_front_below(
+        row_of(cells, count, width, v),
+        row_of(cells, count, width, w),
+        row::width_from(bounds, priority),
+    )
+}
+
+/// Lifts the vertex v over w, the best of its successors, which doesn't serve it.
+pub(crate) fn lift_over(
+    cells: &mut [u32],
+    bounds: &[(u32, u32)],
+    count: usize,
+    v: usize,
+    w: usize,
+    priority: u32,
+)
+    requires bounds { AreBounds bounds.now }
+    requires table { IsTable bounds.now count (length bounds.now + 1) cells.old }
+    requires v { v < count }
+    requires w { w < count }
+    ensures table { IsTable bounds.now count (length bounds.now + 1) cells.new }
+    ensures step { IsLeastCover bounds.now (is_odd priority) (width_from bounds.now priority) (measure_at (table count (length bounds.now + 1) cells.old) w) (measure_at (table count (length bounds.now + 1) cells.new) v) }
+    ensures others { table count (length bounds.now + 1) cells.new ≡ slice_set (table count (length bounds.now + 1) cells.old) v (measure_at (table count (length bounds.now + 1) cells.new) v) }
+{
+    let front = row::width_from(bounds, priority);
+    write_step(cells, bounds, count, w, v, front, priority % 2 == 1);
 }
 
 /// Raises a row to at least m. True exactly if it rose.

@@ -1,0 +1,197 @@
+//! Workers.
+
+ghost use Rattle.std.specs.Prelude.{◌≡◌, ◌↔◌, ◌<◌, ◌≤◌, ◌⊎◌, [], ◌∷◌, length, All, IfOk, IfErr, IfSome, IfNone, IsOk, OnOk, OnErr, IsTrue, IsSome};
+ghost use Rattle.std.specs.Option.{option_copied};
+ghost use Rattle.pg_wire.specs.Well.{IsSetup, IsVertices, ArePlaces};
+ghost use Rattle.pg_measure.specs.Measures.{Fits};
+ghost use Rattle.pg_measure.specs.Views.{measure_in};
+ghost use Rattle.pg_map.specs.Maps.{measure_at, IsServed};
+ghost use Rattle.pg_worker.specs.Workers.{part_line, new_worker, with_lines, AreAbove, FitsGame, IsWorker, RefusesLines, CanTake, Takes, Lifts, IsTurn, IsListedTurn, sparse_measure};
+
+use crate::{Lifted, WorkerFault};
+use pg_arena::Vertex;
+use pg_map::{MeasureMap, Update, View};
+use pg_measure::Bounds;
+use pg_wire::{Setup, VertexLine};
+use std::alloc::Global;
+use std::marker::Model;
+
+/// A part of a game, and a measure for each of the game's vertices. Contracts see the bounds, the lines of the part and the map,
+/// and what was lifted last; how it finds the vertices that can be lifted, they don't see.
+#[derive(Drop)]
+pub struct Worker {
+    map: MeasureMap,
+    kept: Vec<Update>,
+    lifted: Vec<Vertex>,
+}
+
+impl Model for Worker {
+    ghost use Rattle.pg_worker.specs.Workers.{WorkerValue};
+
+    ghost Value = { WorkerValue };
+
+    ghost use Rattle.std.specs.Prelude.{[]};
+
+    ghost view = { λ w. record { bounds = w.map.bounds; lines = []; map = w.map.measures; kept = w.kept.items; lifted = w.lifted.items } };
+
+    ghost invariant = { λ _. ⊥ };
+}
+
+impl Worker {
+    /// A worker for a game of so many vertices and these bounds: its part is empty, and its map has zeros. It is refused only
+    /// for want of memory.
+    pub fn new(alloc: Global, setup: &Setup) -> Result<Worker, WorkerFault>
+        requires { IsSetup setup.now }
+        ensures new { IfOk result (λ w. w ≡ new_worker setup.now.bounds setup.now.vertices) }
+        ensures memory { IfErr result (λ e. e ≡ WorkerFault.OutOfMemory) }
+    {
+        let _vertices = setup.vertices;
+        let _memory: Vec<u8> = Vec::new(alloc);
+        Err(WorkerFault::OutOfMemory)
+    }
+
+    /// Adds vertices to the part, whose numbers rise, within the call and across calls. It is refused by Order exactly where
+    /// they aren't above those of the part, and then by BadUpdate exactly where the number of a vertex or of a successor
+    /// isn't below the count, or an odd priority has no bound; else for want of memory only. After a refusal nothing has changed.
+    pub fn add_vertices(&mut self, lines: &[VertexLine]) -> Result<(), WorkerFault>
+        requires { IsVertices (record { lines = lines.now }) }
+        ensures added { OnOk result (self.new ≡ record self.old { lines = with_lines self.old.lines lines.now }) }
+        ensures above { OnOk result (AreAbove self.old.lines lines.now) }
+        ensures fit { OnOk result (All (FitsGame self.old.bounds (length self.old.map)) lines.now) }
+        ensures refused { IfErr result (RefusesLines self.old lines.now) }
+        ensures same { OnErr result (self.new ≡ self.old) }
+    {
+        let _map = &self.map;
+        let _lines = lines.len();
+        Err(WorkerFault::Order)
+    }
+
+    /// Joins the map with an update. True exactly if the value rose. It is refused by BadUpdate exactly where the vertex isn't
+    /// below the count or the measure doesn't fit the bounds; then nothing has changed. It takes no memory.
+    pub fn take(&mut self, update: &Update) -> Result<bool, WorkerFault>
+        ensures taken { IfOk result (Takes self.old self.new update.now.vertex update.now.measure.value) }
+        ensures ok { IsOk result ↔ CanTake self.old update.now.vertex update.now.measure.value }
+        ensures refused { IfErr result (λ e. e ≡ WorkerFault.BadUpdate) }
+        ensures same { OnErr result (self.new ≡ self.old) }
+    {
+        self.take_value(update.vertex.0, update.measure.view())
+    }
+
+    /// As `take`, with a vertex number and a measure that is lent.
+    pub fn take_value(&mut self, vertex: u32, measure: View) -> Result<bool, WorkerFault>
+        ensures taken { IfOk result (Takes self.old self.new vertex (measure_in measure.entry)) }
+        ensures ok { IsOk result ↔ CanTake self.old vertex (measure_in measure.entry) }
+        ensures refused { IfErr result (λ e. e ≡ WorkerFault.BadUpdate) }
+        ensures same { OnErr result (self.new ≡ self.old) }
+    {
+        let _map = &self.map;
+        let _vertex = vertex;
+        let _measure = measure;
+        Err(WorkerFault::Order)
+    }
+
+    /// As `take`, with a vertex number and the components that aren't 0: each place with the number there. No pairs is top.
+    pub fn take_sparse(
+        &mut self,
+        vertex: u32,
+        pairs: Option<&[(u32, u32)]>,
+    ) -> Result<bool, WorkerFault>
+        requires { IfSome (option_copied pairs) (ArePlaces (length self.old.bounds)) }
+        ensures taken { IfOk result (Takes self.old self.new vertex (sparse_measure (length self.old.bounds) (option_copied pairs.entry))) }
+        ensures ok { IsOk result ↔ CanTake self.old vertex (sparse_measure (length self.old.bounds) (option_copied pairs.entry)) }
+        ensures refused { IfErr result (λ e. e ≡ WorkerFault.BadUpdate) }
+        ensures same { OnErr result (self.new ≡ self.old) }
+    {
+        let _map = &self.map;
+        let _vertex = vertex;
+        let _pairs = pairs;
+        Err(WorkerFault::Order)
+    }
+
+    /// Lifts a vertex of the part. None if it is served. It is refused by NotMine exactly outside the part, and else for want
+    /// of memory for the update only; then nothing has changed.
+    pub fn lift(&mut self, v: Vertex) -> Result<Option<Update>, WorkerFault>
+        ensures lifted { IfOk result (λ o. IfSome o (λ u. (u.vertex ≡ v) × Lifts self.old self.new (u ∷ []))) }
+        ensures served { IfOk result (λ o. IfNone o (IsServed self.old.bounds (part_line self.old.lines) self.old.map v × (self.new ≡ self.old))) }
+        ensures others { (self.new.kept ≡ self.old.kept) × (self.new.lifted ≡ self.old.lifted) }
+        ensures mine { OnOk result (IsSome (part_line self.old.lines v)) }
+        ensures refused { IfErr result (λ e. (e ≡ WorkerFault.OutOfMemory) ⊎ ((e ≡ WorkerFault.NotMine) × ¬ (IsSome (part_line self.old.lines v)))) }
+        ensures same { OnErr result (self.new ≡ self.old) }
+    {
+        let _map = &self.map;
+        let _v = v;
+        Err(WorkerFault::Order)
+    }
+
+    /// Lifts at most `budget` vertices of the part, and fewer only if none can be lifted any more. It is refused for want of memory
+    /// only: then the lifts so far stand, and their updates are in `kept`.
+    pub fn lift_some(&mut self, budget: u32) -> Result<Lifted, WorkerFault>
+        ensures turn { IfOk result (λ l. IsTurn self.old self.new budget l.quiet l.updates.items) }
+        ensures none_kept { OnOk result (self.new.kept ≡ []) }
+        ensures memory { IfErr result (λ e. e ≡ WorkerFault.OutOfMemory) }
+        ensures broken_off { OnErr result (Lifts self.old self.new self.new.kept × (length self.new.kept ≤ budget)) }
+        ensures lifted { self.new.lifted ≡ self.old.lifted }
+    {
+        let _map = &self.map;
+        let _budget = budget;
+        Err(WorkerFault::Order)
+    }
+
+    /// As `lift_some`, but without updates, and so without memory: the vertices lifted in this turn stand in `lifted`, and
+    /// the answer tells whether no vertex of the part can be lifted.
+    pub fn lift_turn(&mut self, budget: u32) -> bool
+        ensures { IsListedTurn self.old self.new budget result }
+    {
+        let _map = &self.map;
+        let _budget = budget;
+        false
+    }
+
+    /// The measure of a vertex.
+    pub fn get(&self, v: Vertex) -> View<'_>
+        requires { v < length self.now.map }
+        ensures value { measure_in result ≡ measure_at self.now.map v }
+        ensures fits { Fits self.now.bounds (measure_in result) }
+    {
+        self.map.get(v)
+    }
+
+    /// How many vertices the game has.
+    pub fn len(&self) -> u32
+        ensures value { result ≡ length self.now.map }
+        ensures worker { IsWorker self.now }
+    {
+        self.map.len()
+    }
+
+    /// The bounds of the measures.
+    pub fn bounds(&self) -> &Bounds
+        ensures { result.now ≡ self.now.bounds }
+    {
+        self.map.bounds()
+    }
+
+    /// Whether a vertex is of the part.
+    pub fn holds(&self, v: Vertex) -> bool
+        ensures { IsTrue result ↔ IsSome (part_line self.now.lines v) }
+    {
+        let _v = v;
+        let _map = &self.map;
+        true
+    }
+
+    /// The updates of a `lift_some` that was refused, in the order in which they were made. None before the first one, and
+    /// after one that wasn't refused.
+    pub fn kept(&self) -> &[Update]
+        ensures { result.now ≡ self.now.kept }
+    {
+        &self.kept
+    }
+
+    /// The vertices lifted in the last `lift_turn`, each once, rising. None before the first one.
+    pub fn lifted(&self) -> &[Vertex]
+        ensures { result.now ≡ self.now.lifted }
+    {
+        &self.lifted
+    }
+}
