@@ -5,3 +5,7 @@ pub mod FrameParts
 pub mod Bodies
 pub mod Append
 pub mod Consumed
+pub mod Buffers
+pub mod Nonzero
+pub mod Frames
+pub mod Few

@@ -22,10 +22,10 @@ Follow Stands IsItem next at (x ∷ xs) = (Stands at x × IsItem x) × Follow St
 all_map : {A : Type 0} (P Q : A → Type 0) (xs : List A) → ((x : A) → P x → Q x) → All P xs → All Q xs
 all_map P Q xs f h = λ i d lt. f _ (h i d lt)
 
-pairs_head : {A : Type 0} (R : A → A → Type 0) (x : A) (xs : List A) → AllPairs R (x ∷ xs) → All (R x) xs
+pub pairs_head : {A : Type 0} (R : A → A → Type 0) (x : A) (xs : List A) → AllPairs R (x ∷ xs) → All (R x) xs
 pairs_head R x xs h = λ i d lt. h 0 (suc i) d (omega arith) (omega arith)
 
-pairs_tail : {A : Type 0} (R : A → A → Type 0) (x : A) (xs : List A) → AllPairs R (x ∷ xs) → AllPairs R xs
+pub pairs_tail : {A : Type 0} (R : A → A → Type 0) (x : A) (xs : List A) → AllPairs R (x ∷ xs) → AllPairs R xs
 pairs_tail R x xs h = λ i j d lt within. h (suc i) (suc j) d (omega arith) (omega arith)
 
 pub ordered : {A : Type 0} (Stands : ℕ → A → Type 0) (IsItem : A → Type 0) (Precedes : A → A → Type 0) (next : A → ℕ) → Steps Stands Precedes next

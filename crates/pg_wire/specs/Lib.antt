@@ -2,4 +2,6 @@ pub mod Spelling
 pub mod Well
 pub mod Bytes
 pub mod Faults
+pub mod Measured
+pub mod Written
 pub mod Mirrors

@@ -1,7 +1,9 @@
 //! What holds of the spellings alone.
-ghost use Rattle.std.specs.Prelude.{◌≡◌, ◌++◌, List, ℕ, []};
+ghost use Rattle.std.specs.Prelude.{◌≡◌, ◌≤◌, ◌++◌, List, ℕ, [], length};
 ghost use Rattle.pg_wire.specs.declared.frame.Frame.{Frame};
+ghost use Rattle.pg_wire.specs.declared.frame.Setup.{Setup};
 ghost use Rattle.pg_wire.specs.Bytes.{Spells};
+ghost use Rattle.pg_wire.specs.Well.{IsSetup};
 
 /// No spelling is a proper front of another.
 pub fn no_front()
@@ -11,4 +13,9 @@ pub fn no_front()
 /// Bytes spell at most one frame.
 pub fn one_frame()
     ensures { (f g : Frame) (bytes : List ℕ) → Spells f bytes → Spells g bytes → f ≡ g }
+{}
+
+/// A set-up that is well has at most 32,768 bounds: there are no more odd priorities up to 65,535.
+pub fn few_bounds()
+    ensures { (s : Setup) → IsSetup s → length s.bounds ≤ 32768 }
 {}

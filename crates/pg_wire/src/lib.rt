@@ -6,18 +6,22 @@ mod fields;
 mod form;
 mod forms;
 mod frame;
+mod kind;
 pub mod laws;
 mod list;
 mod reading;
 mod stream;
 mod well;
+mod writer;
 mod writing;
 
 pub use fault::WireFault;
 pub use frame::{
     Frame, Go, Report, Setup, Sparse, SparseValue, Value, Values, VertexLine, Vertices,
 };
+pub use kind::ValueKind;
 pub use list::{Numbers, Pairs, Rows};
 pub use reading::decode;
 pub use stream::read_frame;
+pub use writer::ValuesWriter;
 pub use writing::{encode, write_frame};

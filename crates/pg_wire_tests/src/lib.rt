@@ -9,3 +9,5 @@ mod encoding;
 mod streams;
 #[cfg(test)]
 mod texts;
+#[cfg(test)]
+mod values;

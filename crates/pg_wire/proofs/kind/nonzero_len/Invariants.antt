@@ -1,0 +1,9 @@
+use Rattle.std.proofs.Common.{◌≡◌, ◌≤◌, length, take}
+use Rattle.pg_wire.specs.Measured.{nonzero}
+use Rattle.pg_wire.proofs.kind.nonzero_len.Given as goal
+
+abbrev pub invariant-loop-n : goal.invariant-loop-n
+invariant-loop-n l = record {
+  count : l.count ≡ length (nonzero (take l.n-index l.list));
+  few : l.count ≤ l.n-index;
+}

@@ -1,0 +1,8 @@
+use Rattle.std.proofs.Common.{◌≡◌, ◌++◌, take}
+use Rattle.std.specs.List.{flat_map}
+use Rattle.pg_wire.specs.Spelling.{pair}
+use Rattle.pg_wire.specs.Measured.{nonzero}
+use Rattle.pg_wire.proofs.writer.put_pairs.Given as goal
+
+abbrev pub invariant-loop-place : goal.invariant-loop-place
+invariant-loop-place l = l.out.items ≡ l.initial.out.items ++ flat_map pair (nonzero (take l.place l.numbers))

@@ -1,0 +1,6 @@
+-- Buffers to which bytes are appended.
+use Rattle.std.specs.Prelude.{◌≡◌, ℕ, List, length, take}
+
+-- the new bytes begin with the old ones
+abbrev pub Extends : List ℕ → List ℕ → Type 0
+Extends old new = take (length old) new ≡ old

@@ -1,0 +1,47 @@
+//! The kinds of frames that carry measures, and how many bytes a measure takes in them.
+ghost use Rattle.std.specs.Prelude.{◌≡◌, ℕ, ◌≤◌, ◌+◌, ◌*◌, Some, None, length};
+ghost use Rattle.pg_wire.specs.Measured.{nonzero, spelled_as};
+
+/// The kinds of frames that carry measures.
+#[derive(Clone, Copy, Debug, PartialEq, Eq)]
+pub enum ValueKind {
+    /// `Values`, with every component.
+    Dense,
+    /// `Sparse`, with the components that aren't 0.
+    Sparse,
+}
+
+/// How many components aren't 0.
+pub fn nonzero_len(list: &[u32]) -> usize
+    ensures count { result ≡ length (nonzero list.now) }
+    ensures few { result ≤ length list.now }
+{
+    let mut count = 0;
+    for n in list {
+        if *n != 0 {
+            count += 1;
+        }
+    }
+    count
+}
+
+impl ValueKind {
+    /// How many bytes a vertex with this list takes.
+    pub fn list_size(self, list: &[u32]) -> usize
+        requires { length list.now ≤ 32768 }
+        ensures size { (vertex : ℕ) → result ≡ length (spelled_as self (vertex, Some list.now)) }
+        ensures bound { result ≤ 9 + 8 * length list.now }
+    {
+        match self {
+            ValueKind::Dense => 5 + 4 * list.len(),
+            ValueKind::Sparse => 9 + 8 * nonzero_len(list),
+        }
+    }
+
+    /// How many bytes a vertex with top takes.
+    pub fn top_size(self) -> usize
+        ensures { (vertex : ℕ) → result ≡ length (spelled_as self (vertex, None)) }
+    {
+        5
+    }
+}
