@@ -12,7 +12,7 @@ use Rattle.std.proofs.lemmas.Map.Views.{Contains-from_any}
 use Rattle.pg_arena.specs.Games.{GameVertex, IsPath, priority}
 use Rattle.pg_text.specs.declared.answer.Answer.{Answer}
 use Rattle.pg_check.specs.Soundness.{Counts}
-use Rattle.pg_check.specs.Mirrors.Cycles.{IsCycleFrom, HasNoCycle, IsTrail}
+use Rattle.pg_check.specs.Mirrors.Cycles.{HasNoCycle, IsTrail}
 use Rattle.pg_check.proofs.Leaving.{all_passed}
 use Rattle.pg_check.proofs.Sifting.{here_too}
 

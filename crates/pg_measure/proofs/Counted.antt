@@ -1,13 +1,13 @@
 -- The bounds of a game, from a table of how many vertices have each priority.
-use Rattle.std.proofs.Common.{◌≡◌, ◌≢◌, ℕ, zero, suc, ◌+◌, ◌-◌, ◌%◌, ◌<◌, ◌≤◌, Bool, true, false, List, [], ◌∷◌, ◌++◌, length, get_or, take, set, refl, ap, sym, ◌∙◌, ◌⊎◌, inl, inr, arith, subst, length-append}
-use Rattle.std.specs.Prelude.{◌↔◌, AllPairs, All, Contains, count_by, ◌==◌}
+use Rattle.std.proofs.Common.{◌≡◌, ◌≢◌, ℕ, zero, suc, ◌+◌, ◌-◌, ◌%◌, ◌<◌, ◌≤◌, true, false, List, [], ◌∷◌, ◌++◌, length, get_or, take, set, refl, ap, sym, ◌∙◌, ◌⊎◌, inl, inr, arith, length-append}
+use Rattle.std.specs.Prelude.{AllPairs, All, Contains, ◌==◌}
 use Rattle.std.proofs.lemmas.Grind.{common_steps}
 use Rattle.std.proofs.lemmas.Bool.{cases_lt, cases_eq}
 use Rattle.std.proofs.lemmas.Bool.Decides.{nat_tests}
 use Rattle.std.proofs.lemmas.List.{get_or_default, get_or-set_same, get_or-set_other, get_or_append_left}
 use Rattle.std.proofs.lemmas.List.Quantifiers.{all_pairs_push}
 use Rattle.std.proofs.lemmas.List.Sums.{sum_by-cons, count_by_more_no, count_by_more_yes, count_by-le-length}
-use Rattle.pg_arena.specs.Games.{GameVertex, HasPrioritiesUpTo, priority, vertex_at, nowhere}
+use Rattle.pg_arena.specs.Games.{GameVertex, HasPrioritiesUpTo, priority, nowhere}
 use Rattle.pg_measure.specs.Measures.{BoundList, AreBounds}
 use Rattle.pg_measure.specs.Games.{vertices_of, IsBoundsOf}
 use Rattle.pg_measure.specs.Mirrors.Counts.{IsCount}

@@ -1,5 +1,5 @@
 -- A game has one list of bounds: two lists that fall and have the same members are equal.
-use Rattle.std.proofs.Common.{◌≡◌, ℕ, zero, suc, ◌<◌, List, [], ◌∷◌, length, get_or, refl, sym, ◌∙◌, arith}
+use Rattle.std.proofs.Common.{◌≡◌, ℕ, zero, suc, ◌<◌, [], ◌∷◌, get_or, refl, sym, arith}
 use Rattle.std.specs.Prelude.{AllPairs, Contains}
 use Rattle.pg_measure.specs.Measures.{BoundList}
 use Rattle.pg_measure.specs.Laws.{OneListOfBounds}

@@ -1,5 +1,5 @@
 -- How many vertices have each priority.
-use Rattle.std.specs.Prelude.{◌≡◌, ℕ, ◌<◌, ◌≤◌, List, length, slice_index}
+use Rattle.std.specs.Prelude.{◌≡◌, ℕ, ◌<◌, List, length, slice_index}
 use Rattle.pg_arena.specs.Games.{GameVertex, priority}
 use Rattle.pg_measure.specs.Games.{vertices_of}
 

@@ -1,4 +1,4 @@
-use Rattle.std.proofs.Common.{◌≡◌, ◌<◌, length, arith}
+use Rattle.std.proofs.Common.{◌<◌, arith}
 use Rattle.pg_check.proofs.checker.all_vertices.Goals as goal
 
 pub returns-clause-all : goal.returns-clause-all

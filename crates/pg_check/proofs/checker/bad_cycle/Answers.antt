@@ -1,4 +1,4 @@
-use Rattle.std.proofs.Common.{rules, ◌≡◌, length, arith, sym, subst}
+use Rattle.std.proofs.Common.{rules, ◌≡◌, length, sym, subst}
 use Rattle.pg_check.specs.Mirrors.Cycles.{HoldsCycles}
 use Rattle.pg_check.proofs.Sifting.{none_left, all_hold}
 use Rattle.pg_check.proofs.checker.bad_cycle.Goals as goal

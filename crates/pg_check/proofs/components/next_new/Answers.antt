@@ -1,4 +1,4 @@
-use Rattle.std.proofs.Common.{◌≡◌, ◌<◌, length, arith, sym}
+use Rattle.std.proofs.Common.{arith, sym}
 use Rattle.pg_check.proofs.components.next_new.Goals as goal
 
 pub bounds-numbers-w-inside : goal.bounds-numbers-w-inside

@@ -1,7 +1,7 @@
-use Rattle.std.proofs.Common.{rules, ◌≡◌, ◌<◌, ◌≤◌, [], ◌∷◌, ◌++◌, length, get_or, reverse, ap, sym, subst, ◌∙◌, arith}
+use Rattle.std.proofs.Common.{rules, ◌≡◌, ◌<◌, [], ◌∷◌, ◌++◌, length, get_or, reverse, ap, sym, subst, ◌∙◌, arith}
 use Rattle.std.proofs.lemmas.List.{get_or_read, reverse-append}
 use Rattle.pg_check.specs.Mirrors.Cycles.{IsSimpleCycle, IsTrail}
-use Rattle.pg_check.proofs.Trails.{way_begins, way_steps, way_ends}
+use Rattle.pg_check.proofs.Trails.{way_steps, way_ends}
 use Rattle.pg_check.proofs.cycle.cycle_through.Goals as goal
 
 pub loop-place-preserved : goal.loop-place-preserved

@@ -1,4 +1,4 @@
-use Rattle.std.proofs.Common.{◌≡◌, ◌≢◌, ℕ, ◌<◌, ◌≤◌, Bool, false, get_or}
+use Rattle.std.proofs.Common.{◌≡◌, ◌≢◌, ℕ, ◌<◌, ◌≤◌, false, get_or}
 use Rattle.pg_check.proofs.sift.stays_inside.Given as goal
 
 abbrev pub invariant-loop-w : goal.invariant-loop-w

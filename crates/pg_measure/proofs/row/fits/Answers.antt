@@ -1,4 +1,4 @@
-use Rattle.std.proofs.Common.{◌≡◌, ◌<◌, ◌≤◌, length, get_or, refl, arith}
+use Rattle.std.proofs.Common.{refl, arith}
 use Rattle.pg_measure.proofs.Rows.{same_length, fits_each, fit_each}
 use Rattle.pg_measure.proofs.row.fits.Goals as goal
 

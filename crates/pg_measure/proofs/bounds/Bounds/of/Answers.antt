@@ -1,6 +1,6 @@
-use Rattle.std.proofs.Common.{◌≡◌, ◌∙◌, ℕ, ◌+◌, ◌-◌, ◌<◌, inl, inr, length, arith, subst}
+use Rattle.std.proofs.Common.{◌≡◌, ℕ, ◌+◌, ◌-◌, ◌<◌, inl, inr, length, arith, subst}
 use Rattle.std.proofs.lemmas.List.{get_or_default}
-use Rattle.pg_measure.proofs.Counted.{CountedFrom, counted_is, counted_bounds, counted_skip, counted_push}
+use Rattle.pg_measure.proofs.Counted.{CountedFrom, counted_is, counted_bounds, counted_skip}
 use Rattle.pg_measure.proofs.bounds.Bounds.of.Goals as goal
 
 pub invariant_of-result : goal.invariant_of-result

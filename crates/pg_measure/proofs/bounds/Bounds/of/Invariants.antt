@@ -1,4 +1,4 @@
-use Rattle.std.proofs.Common.{◌≡◌, ℕ, ◌<◌, ◌≤◌, length}
+use Rattle.std.proofs.Common.{◌≤◌, length}
 use Rattle.pg_measure.proofs.Counted.{CountedFrom}
 use Rattle.pg_measure.proofs.bounds.Bounds.of.Given as goal
 

@@ -1,7 +1,7 @@
-use Rattle.std.proofs.Common.{◌≡◌, ◌∙◌, ◌+◌, ◌%◌, ℕ, ap, drop, refl, rules, length, arith}
+use Rattle.std.proofs.Common.{◌≡◌, ◌∙◌, ◌+◌, ap, drop, refl, rules, length, arith}
 use Rattle.std.proofs.lemmas.List.{take_at}
 use Rattle.std.proofs.lemmas.List.Elements.{same_from_all_zip}
-use Rattle.pg_measure.specs.Measures.{MeasureValue, OwnedMeasure}
+use Rattle.pg_measure.specs.Measures.{OwnedMeasure}
 use Rattle.pg_measure.specs.Mirrors.Rows.{measure_of}
 use Rattle.pg_measure.proofs.Steps.{row_length, least_step_by, top_step}
 use Rattle.pg_measure.proofs.measure.Measure.least_step.Goals as goal
