@@ -6,6 +6,7 @@ pub mod Items
 pub mod Spelling
 pub mod Parts
 pub mod Takes
+pub mod Misplaced
 pub mod Texts
 pub mod Building
 pub mod GameTexts

@@ -1,6 +1,7 @@
 pub mod Solutions
 pub mod Lexemes
 pub mod Numbers
+pub mod GamePlaces
 pub mod GameText
 pub mod GameLayout
 pub mod ReadBack
