@@ -7,6 +7,7 @@ pub mod Spelling
 pub mod Parts
 pub mod Takes
 pub mod Misplaced
+pub mod Places
 pub mod Texts
 pub mod Building
 pub mod GameTexts

@@ -240,7 +240,7 @@ numbers_stuck bytes fault e =
     ]
 
 -- numbers that are read lead behind the last one
-others_lead : (ns : List ℕ) → after_all (flat_map comma_number_lexemes ns) behind_successor ≡ Some behind_successor
+pub others_lead : (ns : List ℕ) → after_all (flat_map comma_number_lexemes ns) behind_successor ≡ Some behind_successor
 others_lead [] = refl
 others_lead (n ∷ ns) = others_lead ns
 

@@ -3,6 +3,7 @@ pub mod Lexemes
 pub mod Numbers
 pub mod GamePlaces
 pub mod GameText
+pub mod GamePlaceLaws
 pub mod GameLayout
 pub mod ReadBack
 pub mod SolutionText
