@@ -100,7 +100,7 @@ lexeme_takes bytes x e =
 letter_no_digit : (b : ℕ) → is_letter b ≡ true → is_digit b ≡ false
 letter_no_digit b h = let p = and_parts (nat_le 97 b) (nat_le b 122) h in let low : 97 ≤ b = leb-true 97 b p.0 in and_right (nat_le 48 b) (nat_le b 57) (lt-leb b 57 (omega arith))
 
-solid_digit : (b : ℕ) (bytes : List ℕ) → is_digit b ≡ true → solid_at (b ∷ bytes) ≡ number_at (b ∷ bytes)
+pub solid_digit : (b : ℕ) (bytes : List ℕ) → is_digit b ≡ true → solid_at (b ∷ bytes) ≡ number_at (b ∷ bytes)
 unfolding solid_at
 solid_digit b bytes h = rw h refl
 

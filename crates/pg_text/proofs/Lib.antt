@@ -6,6 +6,8 @@ pub mod Items
 pub mod Spelling
 pub mod Parts
 pub mod Takes
+pub mod Misplaced
+pub mod Places
 pub mod Texts
 pub mod Building
 pub mod GameTexts

@@ -115,7 +115,7 @@ clause_absent name bytes token mid h b = rw (token_again bytes token mid b) (cla
 
 -- ---- numbers with commas between
 
-abbrev IsFurther : List ℕ → Step ℕ (Unit {0}) × List ℕ → Type 0
+abbrev pub IsFurther : List ℕ → Step ℕ (Unit {0}) × List ℕ → Type 0
 IsFurther bytes (item n, rest) = Spells bytes (comma_number_lexemes n) rest
 IsFurther bytes (stop _, rest) = rest ≡ bytes
 
@@ -125,7 +125,7 @@ further_in_is bytes (comma, mid) y begins e =
     subst (IsFurther bytes) (ok_is (item b.0.0, b.0.1) y b.2) (mid, begins, (b.0.1, natural_takes mid b.0 b.1, refl))
 further_in_is bytes (_, mid) y begins e = subst (IsFurther bytes) (ok_is (stop tt, bytes) y e) refl
 
-further_takes : (bytes : List ℕ) (y : Step ℕ (Unit {0}) × List ℕ) → further_at bytes ≡ Ok y → IsFurther bytes y
+pub further_takes : (bytes : List ℕ) (y : Step ℕ (Unit {0}) × List ℕ) → further_at bytes ≡ Ok y → IsFurther bytes y
 unfolding further_at
 further_takes bytes y e =
     let b = bind_ok (token_at bytes) (further_in bytes) y e in
@@ -144,7 +144,7 @@ further_absent : (bytes : List ℕ) (token : Lexeme) (mid : List ℕ) → token 
 unfolding further_at
 further_absent bytes token mid h b = rw (token_again bytes token mid b) (further_in_other bytes token mid h)
 
-further_exact : IsExact further_at comma_number_lexemes (λ _. Unit {0})
+pub further_exact : IsExact further_at comma_number_lexemes (λ _. Unit {0})
 further_exact = record { takes = λ bytes n rest e. (further_takes bytes (item n, rest) e, tt); again = λ bytes n rest fits s. further_again bytes n rest s }
 
 pub further_shrinks : Shrinks further_at

@@ -1,6 +1,6 @@
 -- The tokens of a text in the PGSolver format, and the bytes that spell them.
-use Rattle.std.specs.Prelude.{◌≡◌, ◌≢◌, ℕ, ◌+◌, ◌-◌, ◌*◌, ◌^◌, ◌<◌, Bool, true, false, ◌||◌, ◌&&◌, ◌==◌, nat_le, List, [], ◌∷◌, ◌++◌, length, drop, Option, Some, None, if◌then◌else◌}
-use Rattle.std.specs.List.{fold, prefix_len, AllByRecursion}
+use Rattle.std.specs.Prelude.{◌≡◌, ◌≢◌, ℕ, ◌+◌, ◌-◌, ◌*◌, ◌^◌, ◌<◌, ◌≤◌, Bool, true, false, ◌||◌, ◌&&◌, ◌==◌, nat_le, List, [], ◌∷◌, ◌++◌, length, drop, Option, Some, None, if◌then◌else◌}
+use Rattle.std.specs.List.{fold, prefix_len, take_while, AllByRecursion}
 use Rattle.pg_text.specs.declared.tokens.Token.{Token}
 use Rattle.pg_text.specs.declared.tokens.Token.TheVariants as tokens
 use Rattle.pg_text.specs.declared.tokens.TokenFault.{TokenFault}
@@ -92,6 +92,15 @@ fault_at (b ∷ bytes) = if is_digit b then NumberTooLarge (length (b ∷ bytes)
 -- why no token begins; the fault is told at the token's first byte, by how many bytes are left from there
 abbrev pub token_fault : List ℕ → TokenFault
 token_fault bytes = fault_at (after_space bytes)
+
+-- the digits that stand here write a number over 4,294,967,295
+abbrev pub IsTooLarge : List ℕ → Type 0
+IsTooLarge bytes = 2 ^ 32 ≤ value_of (take_while is_digit bytes)
+
+-- the fault is told at the first of these bytes, and says whether a number that is too large stands there
+abbrev pub IsToldAt : List ℕ → TokenFault → Type 0
+IsToldAt bytes (Syntax left) = (left ≡ length bytes) × (¬ IsTooLarge bytes)
+IsToldAt bytes (NumberTooLarge left) = (left ≡ length bytes) × IsTooLarge bytes
 
 -- how many bytes are left from the token at fault on
 abbrev pub left_of : TokenFault → ℕ

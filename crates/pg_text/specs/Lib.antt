@@ -1,7 +1,9 @@
 pub mod Solutions
 pub mod Lexemes
 pub mod Numbers
+pub mod GamePlaces
 pub mod GameText
+pub mod GamePlaceLaws
 pub mod GameLayout
 pub mod ReadBack
 pub mod SolutionText

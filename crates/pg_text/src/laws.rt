@@ -1,5 +1,6 @@
 //! Laws of the definitions: functions that do nothing, whose contracts state them.
 
+ghost use Rattle.pg_text.specs.GamePlaceLaws.{PartsLead, NoTextGoesOn, PlacesLeadOn};
 ghost use Rattle.pg_text.specs.Limits.{AcceptsWithinLimits, NamesSuccessors};
 ghost use Rattle.pg_text.specs.OneSpelling.{SpellsOneGame, SpellsOneSolution};
 ghost use Rattle.pg_text.specs.ReadBack.{GameReadsBack};
@@ -36,4 +37,13 @@ pub fn accepts_within_limits()
 /// In a text of a game each successor is the identifier of a line.
 pub fn names_successors()
     ensures { NamesSuccessors }
+{}
+
+/// The places of a game text are those of its grammar: a header, a start and lines lead from the front to the place
+/// behind them, no text goes on with a token that may not stand at a place, and from each place some tokens lead to the
+/// end.
+pub fn places_of_a_game()
+    ensures parts { PartsLead }
+    ensures only { NoTextGoesOn }
+    ensures lead_on { PlacesLeadOn }
 {}

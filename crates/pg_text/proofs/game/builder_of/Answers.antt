@@ -1,4 +1,4 @@
-use Rattle.std.proofs.Common.{◌≡◌, ◌∙◌, ap, subst, Ok, None, ◌++◌, ◌∷◌, [], List, ℕ, Option, length}
+use Rattle.std.proofs.Common.{◌≡◌, ◌∙◌, ap, subst, Ok, None, ◌++◌, ◌∷◌, [], List, ℕ, Option}
 use Rattle.std.proofs.lemmas.Result.{err_from_is_err_and}
 use Rattle.pg_arena.specs.Lines.{counted, Answers, add_fault}
 use Rattle.pg_text.specs.declared.line.TextLine.{TextLine}
@@ -8,10 +8,10 @@ use Rattle.pg_text.proofs.Takes.{item_shrinks}
 use Rattle.pg_text.proofs.game.builder_of.Goals as goal
 
 pub returns-in-Err : goal.returns-in-Err
-returns-in-Err c = rw c.in_text.ensures (fails_body c.in-Err.fault (length c.args.bytes.now) c.args.bytes.now c.in-Err.ensures)
+returns-in-Err c = rw c.in_text.ensures (fails_body c.in-Err.fault c.args.bytes.now c.in-Err.ensures)
 
 pub returns-in-Err-item : goal.returns-in-Err-item
-returns-in-Err-item c = rw c.in_text-in-Err-item.ensures (fails_item c.in-Err-item.refusal (length c.args.bytes.now) c.args.bytes.now c.lines.builder c.lines.rest.now c.lines.invariant c.in-Err-item.ensures)
+returns-in-Err-item c = rw c.in_text-in-Err-item.ensures (fails_item c.in-Err-item.refusal c.args.bytes.now c.lines.builder c.lines.rest.now c.lines.invariant c.in-Err-item.ensures)
 
 pub lines-smaller : goal.lines-smaller
 lines-smaller c =

@@ -1,0 +1,28 @@
+-- What the places of a game text have to do with its grammar.
+use Rattle.std.specs.Prelude.{◌≡◌, ◌≢◌, ℕ, List, [], ◌∷◌, ◌++◌, Option, Some, None}
+use Rattle.std.specs.List.{AllByRecursion}
+use Rattle.pg_arena.specs.Lines.{Line}
+use Rattle.pg_text.specs.Lexemes.{Lexeme, end}
+use Rattle.pg_text.specs.GameText.{game_lexemes}
+use Rattle.pg_text.specs.GamePlaces.{Place, at_front, behind_end, after, after_all, part_place}
+
+-- each line has a successor
+abbrev pub HaveSuccessors : List Line → Type 0
+HaveSuccessors lines = AllByRecursion (λ line. line.successors ≢ []) lines
+
+-- A header, a start and lines lead from the front to the place behind them, and with the end to the end.
+abbrev pub PartsLead : Type 0
+PartsLead = (header start : Option ℕ) (lines : List Line) → HaveSuccessors lines
+    → (after_all (game_lexemes header start lines []) at_front ≡ Some (part_place header start lines))
+    × (after_all (game_lexemes header start lines (end ∷ [])) at_front ≡ Some behind_end)
+
+-- Behind tokens that lead to a place no text goes on with a token that may not stand there.
+abbrev pub NoTextGoesOn : Type 0
+NoTextGoesOn = (tokens : List Lexeme) (place : Place) (token : Lexeme) (others : List Lexeme)
+    → after_all tokens at_front ≡ Some place → after place token ≡ None
+    → (header start : Option ℕ) (lines : List Line) → HaveSuccessors lines
+    → game_lexemes header start lines (end ∷ []) ≢ tokens ++ token ∷ others
+
+-- From each place some tokens lead to the end.
+abbrev pub PlacesLeadOn : Type 0
+PlacesLeadOn = (place : Place) → (tokens : List Lexeme) × (after_all tokens place ≡ Some behind_end)
