@@ -18,8 +18,9 @@ use Rattle.pg_hoa.specs.Mirrors.Steps.{◌>>=◌}
 use Rattle.pg_hoa.specs.AutomatonText.{Edge, StateLine, sets_lexemes, name_lexemes, edge_lexemes, state_lexemes, set_list, EachBelow, IsDistinct, EdgeFits, LineFits}
 use Rattle.pg_hoa.specs.Mirrors.Kept.{KeptEdge, KeptLine, edge_kept, line_kept}
 use Rattle.pg_hoa.specs.Mirrors.BodyScan.{due, state_of, new_state, set_in, behind_set, sets_at, sets_before, sets_if, bracket_first, behind_label, single, target_at, edge_at, begins_edge, edges_within, edges_at, name_first, behind_name, line_at, begins_line, is_seen, lines_within, body_at}
+use Rattle.pg_hoa.proofs.Lists.{all_of_both}
 use Rattle.pg_hoa.proofs.Steps.{bind_some, chosen, some, some_is, none_is_some}
-use Rattle.pg_hoa.proofs.FormulaLaws.{ReadsFormula, ops_take, ops_again, formula_tokens}
+use Rattle.pg_hoa.proofs.FormulaLaws.{number_tokens, ReadsFormula, ops_take, ops_again, formula_tokens}
 
 -- ---- tokens one by one
 
@@ -548,17 +549,9 @@ body_again states propositions sets lines rest h distinct =
 
 -- ---- no token of a body is `stray`
 
-tokens_append : (ts us : List Lexeme) → AllByRecursion IsToken ts → AllByRecursion IsToken us → AllByRecursion IsToken (ts ++ us)
-tokens_append [] us a b = b
-tokens_append (t ∷ ts) us a b = (a.0, tokens_append ts us a.1 b)
-
-number_tokens : (ns : List ℕ) → AllByRecursion IsToken (map number ns)
-number_tokens [] = tt
-number_tokens (n ∷ ns) = (tt, number_tokens ns)
-
 set_tokens : (sets : Option (List ℕ)) → AllByRecursion IsToken (sets_lexemes sets)
 set_tokens None = tt
-set_tokens (Some ns) = (tt, tokens_append (map number ns) (right_brace ∷ []) (number_tokens ns) (tt, tt))
+set_tokens (Some ns) = (tt, all_of_both IsToken (map number ns) (right_brace ∷ []) (number_tokens ns) (tt, tt))
 
 name_tokens : (name : Option (List Character)) → AllByRecursion IsToken (name_lexemes name)
 name_tokens None = tt
@@ -568,14 +561,14 @@ edge_tokens : (es : List Edge) → AllByRecursion IsToken (flat_map edge_lexemes
 edge_tokens [] = tt
 edge_tokens (e ∷ es) = (
   tt,
-  tokens_append (inner_edge e) (flat_map edge_lexemes es)
-      (tokens_append (formula_lexemes e.letter) (right_bracket ∷ number e.target ∷ sets_lexemes e.sets) (formula_tokens e.letter) (tt, (tt, set_tokens e.sets)))
+  all_of_both IsToken (inner_edge e) (flat_map edge_lexemes es)
+      (all_of_both IsToken (formula_lexemes e.letter) (right_bracket ∷ number e.target ∷ sets_lexemes e.sets) (formula_tokens e.letter) (tt, (tt, set_tokens e.sets)))
       (edge_tokens es),
 )
 
 pub line_tokens : (lines : List StateLine) → AllByRecursion IsToken (flat_map state_lexemes lines)
 line_tokens [] = tt
 line_tokens (l ∷ lines) =
-    let sets_and_edges = tokens_append (sets_lexemes l.sets) (flat_map edge_lexemes l.edges) (set_tokens l.sets) (edge_tokens l.edges) in
-    let inner : AllByRecursion IsToken (inner_line l) = (tt, tokens_append (name_lexemes l.name) (sets_lexemes l.sets ++ flat_map edge_lexemes l.edges) (name_tokens l.name) sets_and_edges) in
-    (tt, tokens_append (inner_line l) (flat_map state_lexemes lines) inner (line_tokens lines))
+    let sets_and_edges = all_of_both IsToken (sets_lexemes l.sets) (flat_map edge_lexemes l.edges) (set_tokens l.sets) (edge_tokens l.edges) in
+    let inner : AllByRecursion IsToken (inner_line l) = (tt, all_of_both IsToken (name_lexemes l.name) (sets_lexemes l.sets ++ flat_map edge_lexemes l.edges) (name_tokens l.name) sets_and_edges) in
+    (tt, all_of_both IsToken (inner_line l) (flat_map state_lexemes lines) inner (line_tokens lines))

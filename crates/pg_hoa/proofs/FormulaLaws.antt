@@ -1,14 +1,15 @@
 -- What the reader of labels and conditions gives is written there, and what is written there it gives.
-use Rattle.std.proofs.Common.{◌≡◌, ◌<◌, List, [], ◌∷◌, ◌++◌, length, Some, sym, ap, ◌∙◌, arith}
+use Rattle.std.proofs.Common.{◌≡◌, ◌<◌, ℕ, List, [], ◌∷◌, ◌++◌, map, length, Some, sym, ap, ◌∙◌, arith}
 use Rattle.std.specs.List.{AllByRecursion}
 use Rattle.std.proofs.lemmas.List.{length-append}
 use Rattle.pg_hoa.specs.declared.formula.Kind.{Kind}
 use Rattle.pg_hoa.specs.declared.formula.Op.{Op}
-use Rattle.pg_hoa.specs.Lexemes.{Lexeme, right_paren, ampersand, bar}
+use Rattle.pg_hoa.specs.Lexemes.{Lexeme, number, right_paren, ampersand, bar}
 use Rattle.pg_hoa.specs.Mirrors.Scan.{IsToken}
 use Rattle.pg_hoa.specs.Formulas.{Formula, yes, no, proposition, inf, fin, not, both, either, bracket, formula_lexemes, IsWritten}
 use Rattle.pg_hoa.specs.Mirrors.FormulaRun.{postfix, ops_at}
 use Rattle.pg_hoa.specs.Mirrors.FormulaScan.{formula_at}
+use Rattle.pg_hoa.proofs.Lists.{all_of_both}
 use Rattle.pg_hoa.proofs.Steps.{bind_some, some, some_is}
 use Rattle.pg_hoa.proofs.FormulasTake.{formula_takes}
 use Rattle.pg_hoa.proofs.FormulasAgain.{Ends, formula_again}
@@ -36,11 +37,11 @@ ops_take k tokens x e =
 pub ops_again : (k : Kind) (f : Formula) (rest : List Lexeme) → IsWritten k f → Ends rest → ops_at k (formula_lexemes f ++ rest) ≡ Some (postfix f, rest)
 ops_again k f rest written ends = formula_keeps k (formula_lexemes f ++ rest) ∙ ap as_ops (formula_again k f rest written ends)
 
--- ---- the tokens of a formula
+-- ---- tokens of numbers and of a formula
 
-tokens_append : (ts us : List Lexeme) → AllByRecursion IsToken ts → AllByRecursion IsToken us → AllByRecursion IsToken (ts ++ us)
-tokens_append [] us a b = b
-tokens_append (t ∷ ts) us a b = (a.0, tokens_append ts us a.1 b)
+pub number_tokens : (ns : List ℕ) → AllByRecursion IsToken (map number ns)
+number_tokens [] = tt
+number_tokens (n ∷ ns) = (tt, number_tokens ns)
 
 pub formula_tokens : (f : Formula) → AllByRecursion IsToken (formula_lexemes f)
 formula_tokens yes = (tt, tt)
@@ -49,9 +50,9 @@ formula_tokens (proposition a) = (tt, tt)
 formula_tokens (inf s) = (tt, (tt, (tt, (tt, tt))))
 formula_tokens (fin s) = (tt, (tt, (tt, (tt, tt))))
 formula_tokens (not f) = (tt, formula_tokens f)
-formula_tokens (both f g) = tokens_append (formula_lexemes f) (ampersand ∷ formula_lexemes g) (formula_tokens f) (tt, formula_tokens g)
-formula_tokens (either f g) = tokens_append (formula_lexemes f) (bar ∷ formula_lexemes g) (formula_tokens f) (tt, formula_tokens g)
-formula_tokens (bracket f) = (tt, tokens_append (formula_lexemes f) (right_paren ∷ []) (formula_tokens f) (tt, tt))
+formula_tokens (both f g) = all_of_both IsToken (formula_lexemes f) (ampersand ∷ formula_lexemes g) (formula_tokens f) (tt, formula_tokens g)
+formula_tokens (either f g) = all_of_both IsToken (formula_lexemes f) (bar ∷ formula_lexemes g) (formula_tokens f) (tt, formula_tokens g)
+formula_tokens (bracket f) = (tt, all_of_both IsToken (formula_lexemes f) (right_paren ∷ []) (formula_tokens f) (tt, tt))
 
 pub some_tokens : (f : Formula) → 0 < length (formula_lexemes f)
 some_tokens yes = omega arith

@@ -1,13 +1,13 @@
 -- The steps of lines whose numbers are in range are in range.
-use Rattle.std.proofs.Common.{◌≡◌, ◌∙◌, ℕ, ◌<◌, Bool, true, false, eqb, List, [], ◌∷◌, ◌++◌, map, length, Option, Some, refl, sym, subst}
+use Rattle.std.proofs.Common.{◌≡◌, ℕ, ◌<◌, Bool, true, false, eqb, List, [], ◌∷◌, ◌++◌, map, Some, refl, sym, subst}
 use Rattle.std.specs.List.{AllByRecursion, filter}
 use Rattle.std.proofs.lemmas.List.Elements.{All-append}
 use Rattle.pg_hoa.specs.Automata.{Step, IsStepOf}
-use Rattle.pg_hoa.specs.AutomatonText.{Edge, StateLine, rising, set_list, edge_steps, steps_of, head, EachBelow, EdgeFits, LineFits}
+use Rattle.pg_hoa.specs.AutomatonText.{Edge, StateLine, set_list, edge_steps, steps_of, head, EachBelow, EdgeFits, LineFits}
 use Rattle.pg_hoa.specs.Mirrors.Kept.{KeptLine, line_kept}
-use Rattle.pg_hoa.specs.Mirrors.Tables.{step, kept_steps}
+use Rattle.pg_hoa.specs.Mirrors.Tables.{kept_steps}
 use Rattle.pg_hoa.proofs.Rising.{rising_below, rising_rises}
-use Rattle.pg_hoa.proofs.ReadSpeltLines.{all_of_both}
+use Rattle.pg_hoa.proofs.Lists.{all_of_both}
 use Rattle.pg_hoa.proofs.TableLaws.{written_step, kept_steps_are}
 
 edge_good : (states propositions sets : ℕ) (own : List ℕ) (e : Edge) → EachBelow sets own → EdgeFits states propositions sets e → IsStepOf states sets (written_step own e)

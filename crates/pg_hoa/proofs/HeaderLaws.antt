@@ -18,9 +18,10 @@ use Rattle.pg_hoa.specs.AutomatonText.{Header, header_lexemes, IsHeader, value_l
 use Rattle.pg_hoa.specs.AutomatonText as text
 use Rattle.pg_hoa.specs.Mirrors.Kept.{KeptHead}
 use Rattle.pg_hoa.specs.Mirrors.HeaderScan.{numeral_at, alone_at, numbers_from, skipped_from, names_from, once, at_most, states_at, start_at, names_at, acceptance_at, controls_at, begins_low, other_at, header_at, empty_head, headers_within, headers_from, opening_at, version_at, headers_at}
+use Rattle.pg_hoa.proofs.Lists.{all_of_both}
 use Rattle.pg_hoa.proofs.Steps.{bind_some, chosen, some, some_is, none, none_is_some}
 use Rattle.pg_hoa.proofs.FormulasAgain.{Ends}
-use Rattle.pg_hoa.proofs.FormulaLaws.{ops_take, ops_again, formula_tokens}
+use Rattle.pg_hoa.proofs.FormulaLaws.{number_tokens, ops_take, ops_again, formula_tokens}
 use Rattle.pg_hoa.proofs.HeaderTurns.{true_is_false}
 use Rattle.pg_hoa.proofs.HeaderValues.{Follows, numeral_take, numeral_again, alone_take, alone_again, numbers_take, numbers_again, skipped_take, skipped_again, names_take, names_again}
 use Rattle.pg_hoa.proofs.HeaderParts.{option_list, Adds, IsWithin, adds_states, adds_start, adds_names, adds_controls, adds_acceptance, adds_nothing, adds_none, adds_more, first_states, first_start, first_names, first_controls, first_acceptance, none_first, all_said}
@@ -461,17 +462,9 @@ headers_again hs h rest good s =
 
 -- ---- the tokens of headers
 
-tokens_append : (ts us : List Lexeme) → AllByRecursion IsToken ts → AllByRecursion IsToken us → AllByRecursion IsToken (ts ++ us)
-tokens_append [] us a b = b
-tokens_append (t ∷ ts) us a b = (a.0, tokens_append ts us a.1 b)
-
 string_tokens : (ns : List (List Character)) → AllByRecursion IsToken (map string ns)
 string_tokens [] = tt
 string_tokens (n ∷ ns) = (tt, string_tokens ns)
-
-number_tokens : (ns : List ℕ) → AllByRecursion IsToken (map number ns)
-number_tokens [] = tt
-number_tokens (n ∷ ns) = (tt, number_tokens ns)
 
 value_tokens : (vs : List text.Value) → AllByRecursion IsToken (map value_lexeme vs)
 value_tokens [] = tt
@@ -489,4 +482,4 @@ one_header_tokens (text.skipped name values) = (tt, value_tokens values)
 
 pub header_tokens : (hs : List Header) → AllByRecursion IsHeader hs → AllByRecursion IsToken (flat_map header_lexemes hs)
 header_tokens [] good = tt
-header_tokens (one ∷ hs) good = tokens_append (header_lexemes one) (flat_map header_lexemes hs) (one_header_tokens one) (header_tokens hs good.1)
+header_tokens (one ∷ hs) good = all_of_both IsToken (header_lexemes one) (flat_map header_lexemes hs) (one_header_tokens one) (header_tokens hs good.1)

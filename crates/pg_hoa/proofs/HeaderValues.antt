@@ -1,6 +1,6 @@
 -- The values of headers: what is read is written there, and what is written there is read.
-use Rattle.std.proofs.Common.{◌≡◌, ◌≢◌, ℕ, suc, zero, ◌≤◌, Bool, true, false, eqb, List, [], ◌∷◌, ◌++◌, length, map, Option, Some, refl, sym, ap, subst, ◌∙◌, arith, append_assoc, inl, inr}
-use Rattle.std.specs.Prelude.{◌&&◌, nat_le, if◌then◌else◌, ◌==◌}
+use Rattle.std.proofs.Common.{◌≡◌, ℕ, suc, zero, ◌≤◌, Bool, true, false, eqb, List, [], ◌∷◌, ◌++◌, length, map, Option, Some, refl, sym, ap, subst, ◌∙◌, arith, append_assoc, inl, inr}
+use Rattle.std.specs.Prelude.{nat_le, if◌then◌else◌, ◌==◌}
 use Rattle.std.specs.List.{list_all, AllByRecursion}
 use Rattle.std.proofs.lemmas.List.{append-nil}
 use Rattle.std.proofs.lemmas.Bool.{eq-eqb}
@@ -10,6 +10,7 @@ use Rattle.pg_hoa.specs.Mirrors.Steps.{◌>>=◌}
 use Rattle.pg_hoa.specs.Automata.{IsPropositionName, IsNameByte}
 use Rattle.pg_hoa.specs.AutomatonText.{Value, numeral, word, quoted, value_lexeme, character_code}
 use Rattle.pg_hoa.specs.Mirrors.HeaderScan.{numeral_at, alone_at, numbers_from, skipped_from, is_name_byte, is_name, name_of, quoted_at, names_from}
+use Rattle.pg_hoa.proofs.Lists.{both_true}
 use Rattle.pg_hoa.proofs.Steps.{bind_some, chosen, some, some_is, none, none_is_some}
 use Rattle.pg_hoa.proofs.HeaderTurns.{true_is_false}
 
@@ -100,10 +101,6 @@ skipped_again (quoted s ∷ vs) rest f = skipped_again vs rest f
 -- ---- names
 
 -- a name is not empty and made of bytes that a name may have
-both_true : (a b : Bool) → (a && b) ≡ true → (a ≡ true) × (b ≡ true)
-both_true true b e = (refl, e)
-both_true false b e = absurd cc
-
 isnt : (t : Bool) → (if t then false else true) ≡ true → t ≡ false
 isnt true e = absurd cc
 isnt false e = refl

@@ -17,6 +17,7 @@ pub mod HeaderTurns
 pub mod HeaderValues
 pub mod Keeping
 pub mod Lexing
+pub mod Lists
 pub mod Numbers
 pub mod OneReading
 pub mod ReadCan

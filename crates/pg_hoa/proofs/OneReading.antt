@@ -1,12 +1,12 @@
 -- One text has one reading.
-use Rattle.std.proofs.Common.{◌≡◌, ◌∙◌, ◌<◌, ◌≤◌, ◌+◌, ◌^◌, ℕ, zero, suc, Bool, List, [], ◌∷◌, map, length, Option, refl, sym, ap, subst, inl, inr, ◌⊎◌, arith}
+use Rattle.std.proofs.Common.{◌≡◌, ◌∙◌, ◌<◌, ◌+◌, ◌^◌, ℕ, zero, suc, Bool, List, ◌∷◌, map, length, Option, refl, sym, ap, subst, inl, inr, ◌⊎◌, arith}
 use Rattle.std.specs.List.{range_with_len}
 use Rattle.std.proofs.lemmas.Bool.{cases_order}
 use Rattle.pg_hoa.specs.declared.shape.Shape.{Shape}
 use Rattle.pg_hoa.specs.Automata.{Step, Automaton, letters, rows, next}
-use Rattle.pg_hoa.specs.AutomatonText.{Written, Spelt, IsUndetermined, IsDeterministicAt, head}
+use Rattle.pg_hoa.specs.AutomatonText.{Spelt, IsUndetermined, IsDeterministicAt, head}
 use Rattle.pg_hoa.specs.Laws.{HasOneReading}
-use Rattle.pg_hoa.proofs.SpeltReads.{SaidOnce, said_once, determined_once, letters_below, undetermined_spell_none}
+use Rattle.pg_hoa.proofs.SpeltReads.{said_once, determined_once, letters_below, undetermined_spell_none}
 
 map_below : {A : Type 0} (f g : ℕ → A) (first count : ℕ) → ((k : ℕ) → k < first + count → f k ≡ g k) → map f (range_with_len first count) ≡ map g (range_with_len first count)
 map_below f g first zero same = refl

@@ -1,5 +1,5 @@
 -- The start and the state of each line are among the states, whether these are counted or only named.
-use Rattle.std.proofs.Common.{◌<◌, ◌≤◌, ℕ, suc, max, List, [], ◌∷◌, ◌++◌, map, Option, Some, None, arith}
+use Rattle.std.proofs.Common.{◌<◌, ◌≤◌, ℕ, suc, max, List, [], ◌∷◌, map, Option, Some, None, arith}
 use Rattle.std.specs.List.{All, AllByRecursion, flat_map, fold}
 use Rattle.std.proofs.lemmas.List.Elements.{All-from_recursion}
 use Rattle.pg_hoa.specs.AutomatonText.{Edge, StateLine, EdgeFits, LineFits}
@@ -7,6 +7,7 @@ use Rattle.pg_hoa.specs.Mirrors.Kept.{KeptEdge, KeptLine, edge_kept, line_kept}
 use Rattle.pg_hoa.specs.Mirrors.Settling.{StartsBelow}
 use Rattle.pg_hoa.specs.Mirrors.Tables.{kept_numbers, kept_count}
 use Rattle.pg_hoa.specs.Mirrors.Readings.{bound, states_in}
+use Rattle.pg_hoa.proofs.Lists.{all_of_both, all_of_second, greatest_from, all_counted}
 
 -- ---- the greatest number of a list
 
@@ -14,23 +15,7 @@ greatest_at_most : (n a : ℕ) (xs : List ℕ) → a ≤ n → AllByRecursion (�
 greatest_at_most n a [] low all = low
 greatest_at_most n a (x ∷ xs) low all = let here : x ≤ n = all.0 in greatest_at_most n (max a x) xs (omega arith) all.1
 
-greatest_at_least : (a : ℕ) (xs : List ℕ) → a ≤ fold max a xs
-greatest_at_least a [] = omega arith
-greatest_at_least a (x ∷ xs) = let more : max a x ≤ fold max (max a x) xs = greatest_at_least (max a x) xs in omega arith
-
-below_greatest : (a : ℕ) (xs : List ℕ) → AllByRecursion (λ (x : ℕ). x < suc (fold max a xs)) xs
-below_greatest a [] = tt
-below_greatest a (x ∷ xs) = let more : max a x ≤ fold max (max a x) xs = greatest_at_least (max a x) xs in (omega arith, below_greatest (max a x) xs)
-
 -- ---- the numbers that lines name
-
-in_both : {A : Type 0} (P : A → Type 0) (xs ys : List A) → AllByRecursion P xs → AllByRecursion P ys → AllByRecursion P (xs ++ ys)
-in_both P [] ys all more = more
-in_both P (x ∷ xs) ys all more = (all.0, in_both P xs ys all.1 more)
-
-in_second : {A : Type 0} (P : A → Type 0) (xs ys : List A) → AllByRecursion P (xs ++ ys) → AllByRecursion P ys
-in_second P [] ys all = all
-in_second P (x ∷ xs) ys all = in_second P xs ys all.1
 
 targets_low : (n propositions sets : ℕ) (edges : List Edge) → AllByRecursion (EdgeFits (suc n) propositions sets) edges → AllByRecursion (λ (x : ℕ). x ≤ n) (map (λ (e : KeptEdge). e.target) (map edge_kept edges))
 targets_low n propositions sets [] fit = tt
@@ -42,12 +27,12 @@ numbers_low n propositions sets (l ∷ lines) fit =
     let low : l.state < suc n = fit.0.state in
     let targets = targets_low n propositions sets l.edges fit.0.edges in (
       omega arith,
-      in_both (λ (x : ℕ). x ≤ n) (map (λ (e : KeptEdge). e.target) (map edge_kept l.edges)) (flat_map kept_numbers (map line_kept lines)) targets (numbers_low n propositions sets lines fit.1),
+      all_of_both (λ (x : ℕ). x ≤ n) (map (λ (e : KeptEdge). e.target) (map edge_kept l.edges)) (flat_map kept_numbers (map line_kept lines)) targets (numbers_low n propositions sets lines fit.1),
     )
 
 states_named : (n : ℕ) (lines : List KeptLine) → AllByRecursion (λ (x : ℕ). x < n) (flat_map kept_numbers lines) → AllByRecursion (λ (l : KeptLine). l.state < n) lines
 states_named n [] all = tt
-states_named n (l ∷ lines) all = (all.0, states_named n lines (in_second (λ (x : ℕ). x < n) (map (λ (e : KeptEdge). e.target) l.edges) (flat_map kept_numbers lines) all.1))
+states_named n (l ∷ lines) all = (all.0, states_named n lines (all_of_second (λ (x : ℕ). x < n) (map (λ (e : KeptEdge). e.target) l.edges) (flat_map kept_numbers lines) all.1))
 
 states_kept : (n propositions sets : ℕ) (lines : List StateLine) → AllByRecursion (LineFits n propositions sets) lines → AllByRecursion (λ (l : KeptLine). l.state < n) (map line_kept lines)
 states_kept n propositions sets [] fit = tt
@@ -65,9 +50,9 @@ pub record AreCounted (states start : ℕ) (lines : List KeptLine) : Type 0 wher
 named : (start propositions sets : ℕ) (lines : List StateLine) → start ≤ 65534 → AllByRecursion (LineFits 65535 propositions sets) lines → AreCounted (kept_count start (map line_kept lines)) start (map line_kept lines)
 named start propositions sets lines low fit =
     let numbers = flat_map kept_numbers (map line_kept lines) in
-    let first : max 0 start ≤ fold max (max 0 start) numbers = greatest_at_least (max 0 start) numbers in
+    let first : max 0 start ≤ fold max (max 0 start) numbers = greatest_from (max 0 start) numbers in
     let last : fold max (max 0 start) numbers ≤ 65534 = greatest_at_most 65534 (max 0 start) numbers (omega arith) (numbers_low 65534 propositions sets lines fit) in
-    let all = states_named (kept_count start (map line_kept lines)) (map line_kept lines) (below_greatest (max 0 start) numbers) in
+    let all = states_named (kept_count start (map line_kept lines)) (map line_kept lines) (all_counted (max 0 start) numbers) in
     record { few = omega arith; start_below = omega arith; below = All-from_recursion (λ (l : KeptLine). l.state < kept_count start (map line_kept lines)) (map line_kept lines) all }
 
 pub are_counted : (states : Option ℕ) (start propositions sets : ℕ) (lines : List StateLine) → bound states ≤ 65535 → start ≤ 65534 → StartsBelow start states → AllByRecursion (LineFits (bound states) propositions sets) lines → AreCounted (states_in states start (map line_kept lines)) start (map line_kept lines)

@@ -11,7 +11,7 @@ use Rattle.pg_hoa.specs.Lexemes.{Lexeme}
 use Rattle.pg_hoa.specs.Mirrors.Steps.{Fails}
 use Rattle.pg_hoa.specs.Formulas.{Formula}
 use Rattle.pg_hoa.specs.Mirrors.FormulaRun.{postfix}
-use Rattle.pg_hoa.specs.Shapes.{bare, IsLike, FitsShape, HasShape}
+use Rattle.pg_hoa.specs.Shapes.{HasShape}
 use Rattle.pg_hoa.specs.Automata.{IsPropositionName}
 use Rattle.pg_hoa.specs.AutomatonText.{LineFits, acceptances}
 use Rattle.pg_hoa.specs.Mirrors.Kept.{KeptHead, KeptLine, line_kept}
@@ -23,9 +23,8 @@ use Rattle.pg_hoa.proofs.Steps.{some, some_is, none_is_some}
 use Rattle.pg_hoa.proofs.HeaderParts.{option_list}
 use Rattle.pg_hoa.proofs.HeaderLaws.{headers_take}
 use Rattle.pg_hoa.proofs.BodyLaws.{body_takes}
-use Rattle.pg_hoa.proofs.ShapeTrees.{one_tree}
 use Rattle.pg_hoa.proofs.ShapeLaws.{one_shape}
-use Rattle.pg_hoa.proofs.ReadSpeltHeads.{good_names}
+use Rattle.pg_hoa.proofs.ReadSpeltHeads.{good_names, shape_alike}
 use Rattle.pg_hoa.proofs.ReadSpeltLines.{states_fit}
 use Rattle.pg_hoa.proofs.GoodSteps.{kept_good}
 use Rattle.pg_hoa.proofs.ReadCan.{AreCounted, are_counted}
@@ -70,18 +69,8 @@ pub record AreSettled (s t : Settled) : Type 0 where
   pub sets : s.sets ≡ t.sets
   pub shape : s.shape ≡ t.shape
 
-fits_too : (f g : Formula) (sets : ℕ) (shape : Shape) → bare f ≡ bare g → FitsShape f sets shape → FitsShape g sets shape
-fits_too f g sets shape e fits = (fits.0, fits.1, subst (IsLike fits.0) e fits.2)
-
--- brackets do not change the shape
-has_too : (f g : Formula) (sets : ℕ) (shape : Shape) → bare f ≡ bare g → HasShape f sets shape → HasShape g sets shape
-has_too f g sets shape e has = record {
-  fits = fits_too f g sets shape e has.fits;
-  first = λ other lt fits. has.first other lt (fits_too g f sets other (sym e) fits);
-}
-
 same_shape : (f g : Formula) (sets more : ℕ) (s t : Shape) → sets ≡ more → postfix f ≡ postfix g → HasShape f sets s → HasShape g more t → s ≡ t
-same_shape f g sets more s t n e a b = one_shape (has_too f g more s (one_tree f g e) (subst (λ (k : ℕ). HasShape f k s) n a)) b
+same_shape f g sets more s t n e a b = one_shape (shape_alike f g more s e (subst (λ (k : ℕ). HasShape f k s) n a)) b
 
 pub settled_once : (h : KeptHead) (s t : Settled) → IsSettled h s → IsSettled h t → AreSettled s t
 settled_once h s t i j =

@@ -18,7 +18,8 @@ use Rattle.pg_hoa.proofs.BodyLaws.{body_takes, line_tokens}
 use Rattle.pg_hoa.proofs.TableLaws.{kept_steps_are}
 use Rattle.pg_hoa.proofs.ReadParts.{reads_can}
 use Rattle.pg_hoa.proofs.ReadSpeltHeads.{once, mapped_once, states_are, names_are, good_names, listed_are, one_condition, shape_alike}
-use Rattle.pg_hoa.proofs.ReadSpeltLines.{all_of_both, states_fit}
+use Rattle.pg_hoa.proofs.Lists.{all_of_both}
+use Rattle.pg_hoa.proofs.ReadSpeltLines.{states_fit}
 
 -- ---- the text
 

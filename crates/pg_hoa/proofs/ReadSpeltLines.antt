@@ -1,34 +1,11 @@
 -- Each number that the lines name is below the count of states.
-use Rattle.std.proofs.Common.{◌<◌, ◌≤◌, ℕ, suc, max, List, [], ◌∷◌, ◌++◌, map, Option, Some, None, sym, subst, arith}
-use Rattle.std.specs.List.{fold, flat_map, AllByRecursion}
+use Rattle.std.proofs.Common.{◌<◌, ℕ, List, [], ◌∷◌, map, Option, Some, None, sym, subst}
+use Rattle.std.specs.List.{flat_map, AllByRecursion}
 use Rattle.pg_hoa.specs.AutomatonText.{Edge, StateLine, EdgeFits, LineFits, line_numbers, count_of}
 use Rattle.pg_hoa.specs.Mirrors.Kept.{line_kept}
 use Rattle.pg_hoa.specs.Mirrors.Readings.{bound, states_in}
+use Rattle.pg_hoa.proofs.Lists.{all_of_first, all_of_second, all_counted}
 use Rattle.pg_hoa.proofs.TableLaws.{kept_count_is}
-
--- ---- what holds of all elements of two lists
-
-pub all_of_both : {X : Type 0} (P : X → Type 0) (xs ys : List X) → AllByRecursion P xs → AllByRecursion P ys → AllByRecursion P (xs ++ ys)
-all_of_both P [] ys a b = b
-all_of_both P (x ∷ xs) ys a b = (a.0, all_of_both P xs ys a.1 b)
-
-all_of_first : {X : Type 0} (P : X → Type 0) (xs ys : List X) → AllByRecursion P (xs ++ ys) → AllByRecursion P xs
-all_of_first P [] ys a = tt
-all_of_first P (x ∷ xs) ys a = (a.0, all_of_first P xs ys a.1)
-
-all_of_second : {X : Type 0} (P : X → Type 0) (xs ys : List X) → AllByRecursion P (xs ++ ys) → AllByRecursion P ys
-all_of_second P [] ys a = a
-all_of_second P (x ∷ xs) ys a = all_of_second P xs ys a.1
-
--- ---- one more than the greatest number
-
-greatest_from : (a : ℕ) (ns : List ℕ) → a ≤ fold max a ns
-greatest_from a [] = omega arith
-greatest_from a (n ∷ ns) = omega (arith, greatest_from (max a n) ns)
-
-all_counted : (a : ℕ) (ns : List ℕ) → AllByRecursion (λ n. n < suc (fold max a ns)) ns
-all_counted a [] = tt
-all_counted a (n ∷ ns) = (omega (arith, greatest_from (max a n) ns), all_counted (max a n) ns)
 
 -- ---- lines of which each number is below a bound fit that bound
 

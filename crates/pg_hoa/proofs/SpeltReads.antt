@@ -6,7 +6,7 @@ use Rattle.pg_hoa.specs.declared.fault.Refusal.TheVariants.{Wrong}
 use Rattle.pg_hoa.specs.Lexemes.{Lexeme, end}
 use Rattle.pg_hoa.specs.Mirrors.Scan.{lex}
 use Rattle.pg_hoa.specs.Automata.{Automaton}
-use Rattle.pg_hoa.specs.AutomatonText.{Written, IsText, Says, Spelt, IsUndetermined, IsDeterministicAt, SpellsNone, SaysNone, steps_of, state_counts, state_lexemes, text_lexemes}
+use Rattle.pg_hoa.specs.AutomatonText.{Written, IsText, Says, IsUndetermined, IsDeterministicAt, SpellsNone, SaysNone, steps_of, state_counts, state_lexemes, text_lexemes}
 use Rattle.pg_hoa.specs.Mirrors.Kept.{KeptHead, KeptLine, line_kept}
 use Rattle.pg_hoa.specs.Mirrors.HeaderScan.{headers_at}
 use Rattle.pg_hoa.specs.Mirrors.BodyScan.{body_at}

@@ -10,6 +10,7 @@ use Rattle.pg_hoa.specs.declared.shape.Shape.{Shape}
 use Rattle.pg_hoa.specs.Automata.{Step, deciding}
 use Rattle.pg_hoa.specs.AutomatonText.{Agree}
 use Rattle.pg_hoa.specs.Mirrors.Tables.{Stage, numbered, same_set, agree, Leads, Extends, IsFilled, Adds, when, at_slot}
+use Rattle.pg_hoa.proofs.Lists.{both_true}
 use Rattle.pg_hoa.proofs.Steps.{some, some_is, none_is_some}
 
 -- ---- steps that agree
@@ -60,10 +61,6 @@ same_set_is (Some a) None e = absurd (false≢true e)
 same_set_refl : (a : Option ℕ) → same_set a a ≡ true
 same_set_refl None = refl
 same_set_refl (Some a) = (Decides-eqb a a).1 refl
-
-both_true : (a b : Bool) → (a && b) ≡ true → (a ≡ true) × (b ≡ true)
-both_true true b e = (refl, e)
-both_true false b e = absurd (false≢true e)
 
 agree_key : (shape : Shape) (s t : Step) → agree shape s t ≡ true → SameKey shape s t
 agree_key shape s t e =

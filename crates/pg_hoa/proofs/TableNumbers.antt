@@ -2,9 +2,9 @@
 use Rattle.std.proofs.Common.{◌≡◌, ℕ, suc, zero, ◌<◌, List, [], ◌∷◌, ◌++◌, length, Option, Some, refl, ap, ◌∙◌, arith}
 use Rattle.std.specs.Prelude.{slice_get}
 use Rattle.pg_hoa.specs.declared.table.Stored.{Stored}
-use Rattle.pg_hoa.specs.Automata.{Step}
+use Rattle.pg_hoa.specs.Automata.{Step, step}
 use Rattle.pg_hoa.specs.Mirrors.Steps.{◌>>=◌}
-use Rattle.pg_hoa.specs.Mirrors.Tables.{Stage, step, numbered, Extends, MayNumber}
+use Rattle.pg_hoa.specs.Mirrors.Tables.{Stage, numbered, Extends, MayNumber}
 use Rattle.pg_hoa.proofs.Steps.{bind_some, some, none_is_some}
 
 slice_get_more : {X : Type 0} (xs ys : List X) (k : ℕ) (x : X) → slice_get xs k ≡ Some x → slice_get (xs ++ ys) k ≡ Some x

@@ -9,14 +9,14 @@ use Rattle.std.proofs.lemmas.Nat.Bits.{bit_at-zero, bit_at-trailing_zeros}
 use Rattle.std.proofs.lemmas.List.{map-append, flat_map_more, take_more}
 use Rattle.std.proofs.lemmas.List.Elements.{filter-append}
 use Rattle.pg_hoa.specs.declared.formula.Op.{Op}
-use Rattle.pg_hoa.specs.Automata.{Step}
+use Rattle.pg_hoa.specs.Automata.{Step, step}
 use Rattle.pg_hoa.specs.AutomatonText.{rising}
 use Rattle.pg_hoa.specs.Mirrors.Kept.{KeptEdge, KeptLine}
 use Rattle.pg_hoa.specs.Mirrors.Saying.{says}
 use Rattle.pg_hoa.specs.Mirrors.Letters.{truth, on_at}
 use Rattle.pg_hoa.specs.declared.shape.Shape.{Shape}
 use Rattle.pg_hoa.proofs.TableFilling.{Has, adds_same, adds_repeated}
-use Rattle.pg_hoa.specs.Mirrors.Tables.{Stage, Adds, when, within, at_slot, at_word, at_letters, at_line, at_lines, IsSplit, says_at, step, edge_step, kept_edge_steps}
+use Rattle.pg_hoa.specs.Mirrors.Tables.{Stage, Adds, when, within, at_slot, at_word, at_letters, at_line, at_lines, IsSplit, says_at, edge_step, kept_edge_steps}
 
 -- ---- tests
 

@@ -12,6 +12,9 @@ pub record Step : Type 0 where
   pub target : ℕ
   pub sets : List ℕ
 
+abbrev pub step : ℕ → List ℕ → Step
+step target sets = record { target = target; sets = sets }
+
 -- An automaton over the letters 0, 1, .. below 2 ^ length propositions; bit a of a letter is proposition a.
 pub record Automaton : Type 0 where
   pub states : ℕ

@@ -1,10 +1,9 @@
 //! Automata.
 
 ghost use Rattle.std.specs.Prelude.{◌≡◌, ◌↔◌, ℕ, ◌<◌, Bool, IsTrue, length, get_or, option_map};
-ghost use Rattle.pg_hoa.specs.Automata.{IsAutomaton, next};
+ghost use Rattle.pg_hoa.specs.Automata.{IsAutomaton, next, step};
 ghost use Rattle.pg_hoa.specs.Formulas.{Formula, holds};
 ghost use Rattle.pg_hoa.specs.Shapes.{FitsShape, Accepts};
-ghost use Rattle.pg_hoa.specs.Mirrors.Tables.{step};
 
 use crate::settle::Settled;
 use crate::shape::Shape;

@@ -2,10 +2,10 @@
 
 ghost use Rattle.std.specs.Prelude.{◌≡◌, ℕ, ◌+◌, ◌*◌, ◌^◌, ◌<◌, ◌≤◌, List, ◌++◌, map, length, get_or, max, slice_get, option_map, Some, IfSome, IfOk, OnOk, IfErr};
 ghost use Rattle.std.specs.List.{All, fold};
-ghost use Rattle.pg_hoa.specs.Automata.{deciding};
+ghost use Rattle.pg_hoa.specs.Automata.{deciding, step};
 ghost use Rattle.pg_hoa.specs.AutomatonText.{rising};
 ghost use Rattle.pg_hoa.specs.Mirrors.Kept.{kept_line};
-ghost use Rattle.pg_hoa.specs.Mirrors.Tables.{step, way_step, IsDecided, with_set, same_set, agree, Extends, IsSplit, numbered, next, stage, MayNumber, Adds, at_slot, at_word, at_letters, at_line, IsTableOf, IsConflictOf, kept_numbers, kept_count};
+ghost use Rattle.pg_hoa.specs.Mirrors.Tables.{way_step, IsDecided, with_set, same_set, agree, Extends, IsSplit, numbered, next, stage, MayNumber, Adds, at_slot, at_word, at_letters, at_line, IsTableOf, IsConflictOf, kept_numbers, kept_count};
 
 use crate::body::Line;
 use crate::fault::Conflict;

@@ -4,18 +4,10 @@
 #[cfg(test)]
 mod accepted;
 #[cfg(test)]
-mod body_faults;
-#[cfg(test)]
-mod ends;
-#[cfg(test)]
-mod examples;
-#[cfg(test)]
-mod header_faults;
+mod faults;
 #[cfg(test)]
 mod limits;
 #[cfg(test)]
 mod messages;
-#[cfg(test)]
-mod shapes;
 #[cfg(test)]
 mod texts;

@@ -1,12 +1,8 @@
-//! What a text spells, or why it is refused.
+//! Texts, and what the reader answers to them, as a line.
 
 use pg_hoa::{Automaton, HoaFault, read_automaton};
 use std::alloc::{AllocError, Global};
 use std::test::Fail;
-
-/// Headers for two states, two propositions and two sets, of which the greatest has to be even.
-pub const TWO_STATES: &str =
-    "HOA: v1 States: 2 Start: 0 AP: 2 \"a\" \"b\" Acceptance: 2 Fin(1) & Inf(0) --BODY-- ";
 
 /// The parts, one behind the other.
 pub fn joined(alloc: Global, parts: &[&str]) -> Result<Vec<u8>, AllocError> {
@@ -17,24 +13,32 @@ pub fn joined(alloc: Global, parts: &[&str]) -> Result<Vec<u8>, AllocError> {
     Ok(text)
 }
 
-/// Why the text is refused, if it is.
-pub fn fault_in(alloc: Global, text: &[u8]) -> Result<Option<HoaFault>, AllocError> {
-    match read_automaton(alloc, text) {
-        Ok(_) => Ok(None),
-        Err(HoaFault::OutOfMemory) => Err(AllocError),
-        Err(fault) => Ok(Some(fault)),
+/// The head and then the row without its mark `^`, and where that stands.
+fn unmarked(alloc: Global, head: &str, row: &str) -> Result<(Vec<u8>, usize), AllocError> {
+    let mut text = Vec::from_slice(alloc, head.as_bytes())?;
+    let mut at = 0;
+    for byte in row.as_bytes() {
+        if *byte == b'^' {
+            at = text.len();
+        } else {
+            text.push(*byte)?;
+        }
     }
+    Ok((text, at))
 }
 
-/// Why the text of these parts is refused, if it is.
-pub fn fault_of(alloc: Global, parts: &[&str]) -> Result<Option<HoaFault>, AllocError> {
-    let text = joined(alloc, parts)?;
-    fault_in(alloc, &text)
+/// Why the text is refused, or that it is accepted.
+pub fn answer(alloc: Global, text: &[u8]) -> Result<String, AllocError> {
+    match read_automaton(alloc, text) {
+        Ok(_) => format!(in alloc; "accepted"),
+        Err(HoaFault::OutOfMemory) => Err(AllocError),
+        Err(fault) => format!(in alloc; "{fault}"),
+    }
 }
 
 /// The automaton but for its steps, as `2 states from 0, a b*, 2 sets, MaxEven`: a star stands behind a proposition of the
 /// controller.
-pub fn head_of(alloc: Global, automaton: &Automaton) -> Result<String, Fail> {
+fn head_of(alloc: Global, automaton: &Automaton) -> Result<String, Fail> {
     let states = automaton.states();
     let mut head = format!(in alloc; "{states} states from {},", automaton.start())?;
     for a in 0..automaton.propositions() {
@@ -57,21 +61,74 @@ fn steps_from(alloc: Global, automaton: &Automaton, state: u32) -> Result<String
     Ok(steps)
 }
 
-/// The steps of all states.
-pub fn steps_of(alloc: Global, automaton: &Automaton) -> Result<String, AllocError> {
-    let mut steps = String::new(alloc);
-    for state in 0..automaton.states() {
-        let more = steps_from(alloc, automaton, state)?;
-        steps = format!(in alloc; "{steps}{more}")?;
+/// What the text spells: the automaton, a colon and its steps; or why it is refused.
+pub fn spelt(alloc: Global, text: &[u8]) -> Result<String, Fail> {
+    match read_automaton(alloc, text) {
+        Ok(automaton) => {
+            let mut line = head_of(alloc, &automaton)?;
+            line = format!(in alloc; "{line}:")?;
+            for state in 0..automaton.states() {
+                let steps = steps_from(alloc, &automaton, state)?;
+                line = format!(in alloc; "{line}{steps}")?;
+            }
+            Ok(line)
+        }
+        Err(fault) => Ok(format!(in alloc; "{fault}")?),
     }
-    Ok(steps)
 }
 
-/// What a text of these parts spells: the automaton, a colon and its steps.
-pub fn spelt(alloc: Global, parts: &[&str]) -> Result<String, Fail> {
-    let text = joined(alloc, parts)?;
-    let automaton = read_automaton(alloc, &text)?;
-    let head = head_of(alloc, &automaton)?;
-    let steps = steps_of(alloc, &automaton)?;
-    Ok(format!(in alloc; "{head}:{steps}")?)
+/// The rows to which the answer isn't the fault whose words stand round the place of the mark. The head stands before each.
+pub fn wrong_places(
+    alloc: Global,
+    head: &str,
+    fault: (&str, &str),
+    rows: &[&str],
+) -> Result<String, AllocError> {
+    let mut wrong = String::new(alloc);
+    for row in rows {
+        let (text, at) = unmarked(alloc, head, row)?;
+        let want = format!(in alloc; "{}{at}{}", fault.0, fault.1)?;
+        let found = answer(alloc, &text)?;
+        if found.as_str() != want.as_str() {
+            wrong = format!(in alloc; "{wrong}{row}: {found}\n")?;
+        }
+    }
+    Ok(wrong)
+}
+
+/// The rows to which the answer isn't the one that stands beside them.
+pub fn wrong_answers(
+    alloc: Global,
+    head: &str,
+    rows: &[(&str, &str)],
+) -> Result<String, AllocError> {
+    let mut wrong = String::new(alloc);
+    for (row, want) in rows {
+        let text = joined(alloc, &[head, *row])?;
+        let found = answer(alloc, &text)?;
+        if found.as_str() != *want {
+            wrong = format!(in alloc; "{wrong}{row}: {found}\n")?;
+        }
+    }
+    Ok(wrong)
+}
+
+/// The rows that don't spell what stands beside them, behind `before`.
+pub fn wrong_spellings(
+    alloc: Global,
+    head: &str,
+    tail: &str,
+    before: &str,
+    rows: &[(&str, &str)],
+) -> Result<String, Fail> {
+    let mut wrong = String::new(alloc);
+    for (row, want) in rows {
+        let text = joined(alloc, &[head, *row, tail])?;
+        let found = spelt(alloc, &text)?;
+        let want = format!(in alloc; "{before}{want}")?;
+        if found.as_str() != want.as_str() {
+            wrong = format!(in alloc; "{wrong}{row}: {found}\n")?;
+        }
+    }
+    Ok(wrong)
 }

@@ -13,13 +13,10 @@ use Rattle.pg_hoa.specs.declared.table.Way.{Way}
 use Rattle.pg_hoa.specs.declared.table.Table.{Table}
 use Rattle.pg_hoa.specs.declared.formula.Op.{Op}
 use Rattle.pg_hoa.specs.Mirrors.Steps.{◌>>=◌}
-use Rattle.pg_hoa.specs.Automata.{Step, deciding}
+use Rattle.pg_hoa.specs.Automata.{Step, deciding, step}
 use Rattle.pg_hoa.specs.AutomatonText.{Agree, head, rising}
 use Rattle.pg_hoa.specs.Mirrors.Kept.{KeptEdge, KeptLine, kept_edge}
 use Rattle.pg_hoa.specs.Mirrors.Saying.{says}
-
-abbrev pub step : ℕ → List ℕ → Step
-step target sets = record { target = target; sets = sets }
 
 -- ---- what lines give
 

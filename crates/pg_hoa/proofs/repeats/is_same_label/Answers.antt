@@ -1,14 +1,11 @@
-use Rattle.std.proofs.Common.{◌≡◌, ◌∙◌, true, Bool, false, ◌&&◌, List, [], ◌∷◌, ℕ, sym, refl, ap}
+use Rattle.std.proofs.Common.{◌≡◌, ◌∙◌, true, Bool, List, [], ◌∷◌, sym, refl, ap}
 use Rattle.std.specs.Cmp.Lexicographic.{pointwise}
 use Rattle.std.proofs.lemmas.Bool.{eqb-true}
 use Rattle.pg_hoa.specs.declared.formula.Op.{Op}
 use Rattle.pg_hoa.specs.declared.formula.Op.TheVariants.{Yes, No, Proposition, Inf, Fin, Not, Both, Either}
 use Rattle.pg_hoa.specs.contracts.formula.OpPartialEq.TheImpl as derived
+use Rattle.pg_hoa.proofs.Lists.{both_true}
 use Rattle.pg_hoa.proofs.repeats.is_same_label.Goals as goal
-
-both_true : (a b : Bool) → (a && b) ≡ true → (a ≡ true) × (b ≡ true)
-both_true true b e = (refl, e)
-both_true false b e = absurd cc
 
 same_items : {A : Type 0} (E : A → A → Bool) → ((x y : A) → E x y ≡ true → x ≡ y) → (xs ys : List A) → pointwise E xs ys ≡ true → xs ≡ ys
 same_items E same [] [] e = refl

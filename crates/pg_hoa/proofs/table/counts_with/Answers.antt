@@ -1,4 +1,4 @@
-use Rattle.std.proofs.Common.{◌≡◌, ◌∙◌, ℕ, List, [], ◌∷◌, ◌++◌, ◌+◌, ◌<◌, ◌≤◌, take, length, get_or, sym, ap, append_assoc, arith}
+use Rattle.std.proofs.Common.{◌≡◌, ◌∙◌, ℕ, List, [], ◌∷◌, ◌++◌, ◌+◌, take, get_or, sym, ap, append_assoc, arith}
 use Rattle.std.proofs.lemmas.List.{append-nil, take_all, take_more}
 use Rattle.pg_hoa.specs.Automata.{deciding}
 use Rattle.pg_hoa.specs.AutomatonText.{rising}
