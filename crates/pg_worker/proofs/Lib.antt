@@ -1,0 +1,4 @@
+pub mod Packing
+pub mod Joining
+pub mod Listed
+pub mod Exchanging
