@@ -1,3 +1,4 @@
 pub mod Faults
 pub mod Cuts
 pub mod Workers
+pub mod Mirrors

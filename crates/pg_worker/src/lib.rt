@@ -2,10 +2,21 @@
 //! of other parts.
 #![tactic(auto)]
 
+mod adding;
 mod cut;
+mod edges;
+mod entry;
 mod fault;
+mod head;
 mod lifted;
+mod lifting;
+mod listing;
+mod part;
+mod settle;
+mod sparse;
+mod touch;
 mod worker;
+mod worklist;
 
 pub use cut::Cut;
 pub use fault::WorkerFault;

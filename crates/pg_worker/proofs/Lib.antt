@@ -1,0 +1,7 @@
+pub mod Stacks
+pub mod Parts
+pub mod Runs
+pub mod Filling
+pub mod Working
+pub mod Keeping
+pub mod Linking
