@@ -1,3 +1,6 @@
 pub mod Faults
 pub mod Cuts
 pub mod Workers
+pub mod Turns
+pub mod Serving
+pub mod Mirrors

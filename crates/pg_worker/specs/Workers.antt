@@ -1,10 +1,10 @@
 -- Workers: the part that one holds, its map, and what its calls make of them.
 use Rattle.std.proofs.Common.{zero, suc}
-use Rattle.std.specs.Prelude.{◌≡◌, ℕ, ◌%◌, ◌<◌, ◌≤◌, Bool, false, List, [], ◌∷◌, length, replicate, map, All, AllPairs, Any, Option, Some, None, IsSome, Result, MatchBool, slice_index_or, slice_set, ◌==◌, if◌then◌else◌}
+use Rattle.std.specs.Prelude.{◌≡◌, ℕ, ◌%◌, ◌<◌, ◌≤◌, Bool, false, List, [], ◌∷◌, length, replicate, map, All, AllPairs, Any, Option, Some, None, IsSome, MatchBool, slice_index_or, slice_set, ◌==◌, if◌then◌else◌}
 use Rattle.std.specs.List.{Contains, range_with_len}
 use Rattle.pg_arena.specs.declared.player.Player.{Player}
 use Rattle.pg_arena.specs.declared.player.Player.TheVariants.{Even, Odd}
-use Rattle.pg_measure.specs.Measures.{BoundList, MeasureValue, OwnedMeasure, owned, Fits, AtMost, IsBelow}
+use Rattle.pg_measure.specs.Measures.{BoundList, MeasureValue, owned, Fits, AtMost, IsBelow}
 use Rattle.pg_map.specs.Lines.{Line, AreWithin, line_of}
 use Rattle.pg_map.specs.Maps.{measure_at, IsMap, zero_map, update_map, IsClosed, IsJoin, IsLifted, StaysUnder}
 use Rattle.pg_map.specs.declared.update.Update.{Update}

@@ -1,13 +1,35 @@
 //! Workers: each holds a part of a game's vertices and lifts them, in a map over all vertices that it joins with the values
-//! of other parts.
+//! of other parts. A session puts a worker behind frames.
 #![tactic(auto)]
 
+mod adding;
 mod cut;
+mod edges;
+mod entry;
 mod fault;
+mod head;
+mod held;
+mod joins;
 mod lifted;
+mod lifting;
+mod listing;
+mod part;
+mod reply;
+mod served;
+mod service;
+mod session;
+mod settle;
+mod sparse;
+mod step;
+mod touch;
+mod turn;
 mod worker;
+mod worklist;
 
 pub use cut::Cut;
 pub use fault::WorkerFault;
 pub use lifted::Lifted;
+pub use served::Served;
+pub use service::serve;
+pub use session::Session;
 pub use worker::Worker;

@@ -8,21 +8,39 @@ ghost use Rattle.pg_measure.specs.Views.{measure_in};
 ghost use Rattle.pg_map.specs.Maps.{measure_at, IsServed};
 ghost use Rattle.pg_worker.specs.Workers.{part_line, new_worker, with_lines, AreAbove, FitsGame, IsWorker, RefusesLines, CanTake, Takes, Lifts, IsTurn, IsListedTurn, sparse_measure};
 
+use crate::adding::{add_lines, are_from, count_edges, fit_game};
+use crate::edges::Edges;
+use crate::lifting::{lift_one, lift_some, lift_turn, receive};
+use crate::listing::Listing;
+use crate::part::Part;
+use crate::sparse::fill;
+use crate::worklist::Worklist;
 use crate::{Lifted, WorkerFault};
 use pg_arena::Vertex;
-use pg_map::{MeasureMap, Update, View};
+use pg_map::{Lines, MeasureMap, Update, View};
 use pg_measure::Bounds;
 use pg_wire::{Setup, VertexLine};
-use std::alloc::Global;
+use std::alloc::{AllocError, Global};
 use std::marker::Model;
+use std::mem;
 
 /// A part of a game, and a measure for each of the game's vertices. Contracts see the bounds, the lines of the part and the map,
 /// and what was lifted last; how it finds the vertices that can be lifted, they don't see.
 #[derive(Drop)]
 pub struct Worker {
     map: MeasureMap,
+    part: Part,
+    edges: Edges,
+    /// The vertices of the part that have to be looked at; the others are served.
+    work: Worklist,
+    /// For each vertex of the part the successor that serves it, or that it is to be lifted over.
+    best: Vec<Vertex>,
+    /// One more than the greatest vertex of the part, or 0.
+    next: u64,
+    /// A measure's components, all 0 between calls.
+    row: Vec<u32>,
     kept: Vec<Update>,
-    lifted: Vec<Vertex>,
+    lifted: Listing,
 }
 
 impl Model for Worker {
@@ -30,11 +48,12 @@ impl Model for Worker {
 
     ghost Value = { WorkerValue };
 
-    ghost use Rattle.std.specs.Prelude.{[]};
+    ghost use Rattle.pg_worker.specs.Mirrors.Parts.{lines_in};
+    ghost use Rattle.pg_worker.specs.Mirrors.Insides.{IsWhole};
 
-    ghost view = { λ w. record { bounds = w.map.bounds; lines = []; map = w.map.measures; kept = w.kept.items; lifted = w.lifted.items } };
+    ghost view = { λ w. record { bounds = w.map.bounds; lines = lines_in w.part; map = w.map.measures; kept = w.kept.items; lifted = w.lifted.vertices } };
 
-    ghost invariant = { λ _. ⊥ };
+    ghost invariant = { λ w. IsWhole w.part w.map w.edges.last.items w.edges.entries.items w.work w.best.items w.next w.lifted.count w.row.items };
 }
 
 impl Worker {
@@ -45,9 +64,19 @@ impl Worker {
         ensures new { IfOk result (λ w. w ≡ new_worker setup.now.bounds setup.now.vertices) }
         ensures memory { IfErr result (λ e. e ≡ WorkerFault.OutOfMemory) }
     {
-        let _vertices = setup.vertices;
-        let _memory: Vec<u8> = Vec::new(alloc);
-        Err(WorkerFault::OutOfMemory)
+        let vertices = setup.vertices;
+        let bounds = Bounds::from_pairs(alloc, setup.bounds.as_slice())?;
+        Ok(Worker {
+            map: MeasureMap::zero(alloc, vertices, &bounds)?,
+            part: Part::new(alloc, vertices)?,
+            edges: Edges::new(alloc, vertices)?,
+            work: Worklist::new(alloc, vertices)?,
+            best: vec![in alloc; Vertex(0); vertices as usize]?,
+            next: 0,
+            row: vec![in alloc; 0; bounds.pairs().len()]?,
+            kept: Vec::new(alloc),
+            lifted: Listing::new(alloc, vertices)?,
+        })
     }
 
     /// Adds vertices to the part, whose numbers rise, within the call and across calls. It is refused by Order exactly where
@@ -61,9 +90,25 @@ impl Worker {
         ensures refused { IfErr result (RefusesLines self.old lines.now) }
         ensures same { OnErr result (self.new ≡ self.old) }
     {
-        let _map = &self.map;
-        let _lines = lines.len();
-        Err(WorkerFault::Order)
+        if !are_from(self.next, lines) {
+            return Err(WorkerFault::Order);
+        }
+        if !fit_game(self.map.bounds().pairs(), self.map.len(), lines) {
+            return Err(WorkerFault::BadUpdate);
+        }
+        let count = count_edges(lines).ok_or(AllocError)?;
+        self.part.reserve(count)?;
+        self.edges.reserve(count)?;
+        add_lines(
+            &self.map,
+            &mut self.part,
+            &mut self.edges,
+            &mut self.work,
+            &mut self.best,
+            &mut self.next,
+            lines,
+        );
+        Ok(())
     }
 
     /// Joins the map with an update. True exactly if the value rose. It is refused by BadUpdate exactly where the vertex isn't
@@ -84,10 +129,15 @@ impl Worker {
         ensures refused { IfErr result (λ e. e ≡ WorkerFault.BadUpdate) }
         ensures same { OnErr result (self.new ≡ self.old) }
     {
-        let _map = &self.map;
-        let _vertex = vertex;
-        let _measure = measure;
-        Err(WorkerFault::Order)
+        receive(
+            &mut self.map,
+            &self.part,
+            &self.edges,
+            &mut self.work,
+            &mut self.best,
+            vertex,
+            measure,
+        )
     }
 
     /// As `take`, with a vertex number and the components that aren't 0: each place with the number there. No pairs is top.
@@ -102,10 +152,21 @@ impl Worker {
         ensures refused { IfErr result (λ e. e ≡ WorkerFault.BadUpdate) }
         ensures same { OnErr result (self.new ≡ self.old) }
     {
-        let _map = &self.map;
-        let _vertex = vertex;
-        let _pairs = pairs;
-        Err(WorkerFault::Order)
+        let Some(pairs) = pairs else {
+            return self.take_value(vertex, View::Top);
+        };
+        fill(&mut self.row, pairs);
+        let answer = receive(
+            &mut self.map,
+            &self.part,
+            &self.edges,
+            &mut self.work,
+            &mut self.best,
+            vertex,
+            View::List(&self.row),
+        );
+        self.row.fill(0);
+        answer
     }
 
     /// Lifts a vertex of the part. None if it is served. It is refused by NotMine exactly outside the part, and else for want
@@ -118,9 +179,20 @@ impl Worker {
         ensures refused { IfErr result (λ e. (e ≡ WorkerFault.OutOfMemory) ⊎ ((e ≡ WorkerFault.NotMine) × ¬ (IsSome (part_line self.old.lines v)))) }
         ensures same { OnErr result (self.new ≡ self.old) }
     {
-        let _map = &self.map;
-        let _v = v;
-        Err(WorkerFault::Order)
+        if !self.part.holds(v) {
+            return Err(WorkerFault::NotMine);
+        }
+        let alloc = *self.kept.allocator();
+        let update = lift_one(
+            &mut self.map,
+            &self.part,
+            &self.edges,
+            &mut self.work,
+            &mut self.best,
+            alloc,
+            v,
+        )?;
+        Ok(update)
     }
 
     /// Lifts at most `budget` vertices of the part, and fewer only if none can be lifted any more. It is refused for want of memory
@@ -132,9 +204,19 @@ impl Worker {
         ensures broken_off { OnErr result (Lifts self.old self.new self.new.kept × (length self.new.kept ≤ budget)) }
         ensures lifted { self.new.lifted ≡ self.old.lifted }
     {
-        let _map = &self.map;
-        let _budget = budget;
-        Err(WorkerFault::Order)
+        self.kept.clear();
+        let quiet = lift_some(
+            &mut self.map,
+            &self.part,
+            &self.edges,
+            &mut self.work,
+            &mut self.best,
+            &mut self.kept,
+            budget,
+        )?;
+        let alloc = *self.kept.allocator();
+        let updates = mem::replace(&mut self.kept, Vec::new(alloc));
+        Ok(Lifted { quiet, updates })
     }
 
     /// As `lift_some`, but without updates, and so without memory: the vertices lifted in this turn stand in `lifted`, and
@@ -142,9 +224,18 @@ impl Worker {
     pub fn lift_turn(&mut self, budget: u32) -> bool
         ensures { IsListedTurn self.old self.new budget result }
     {
-        let _map = &self.map;
-        let _budget = budget;
-        false
+        self.lifted.clear();
+        let quiet = lift_turn(
+            &mut self.map,
+            &self.part,
+            &self.edges,
+            &mut self.work,
+            &mut self.best,
+            &mut self.lifted,
+            budget,
+        );
+        self.lifted.sort();
+        quiet
     }
 
     /// The measure of a vertex.
@@ -175,9 +266,7 @@ impl Worker {
     pub fn holds(&self, v: Vertex) -> bool
         ensures { IsTrue result ↔ IsSome (part_line self.now.lines v) }
     {
-        let _v = v;
-        let _map = &self.map;
-        true
+        self.part.holds(v)
     }
 
     /// The updates of a `lift_some` that was refused, in the order in which they were made. None before the first one, and
@@ -192,6 +281,6 @@ impl Worker {
     pub fn lifted(&self) -> &[Vertex]
         ensures { result.now ≡ self.now.lifted }
     {
-        &self.lifted
+        self.lifted.as_slice()
     }
 }

@@ -1,0 +1,53 @@
+-- Frames that are read and answered one after the other.
+use Rattle.std.proofs.Common.{◌≡◌, ◌≢◌, ℕ, ◌+◌, ◌⊎◌, List, [], ◌∷◌, ◌++◌, length, Option, refl, sym, ap, ◌∙◌, subst, append_assoc, inl, inr}
+use Rattle.std.specs.List.{flat_map}
+use Rattle.std.specs.Io.KnownBytes.{Consumes, Appends}
+use Rattle.std.proofs.lemmas.List.{append-nil}
+use Rattle.std.proofs.lemmas.List.Concat.{flat_map-cons}
+use Rattle.std.proofs.lemmas.Grind.{flat_map-append}
+use Rattle.pg_wire.specs.declared.fault.WireFault.TheVariants as wire
+use Rattle.pg_wire.specs.declared.frame.Frame.{Frame}
+use Rattle.pg_wire.specs.Spelling.{spelling}
+use Rattle.pg_wire.proofs.Append.{then}
+use Rattle.pg_wire.proofs.Consumed.{consumes_then}
+use Rattle.pg_worker.specs.declared.fault.WorkerFault.{WorkerFault}
+use Rattle.pg_worker.specs.declared.fault.WorkerFault.TheVariants.{Wire}
+use Rattle.pg_worker.specs.Turns.{HeldValue, Turn}
+use Rattle.pg_worker.specs.Serving.{Replies, Exchanges, IsFaultAt, Breaks, told}
+use Rattle.pg_worker.specs.Mirrors.Steps.{Answers}
+
+replies_more : (a : Option HeldValue) (fs : List Frame) (b : Option HeldValue) (bytes : List ℕ) (f : Frame) (c : Option HeldValue) (reply : List ℕ) → Replies a fs b bytes → Turn b f c reply → Replies a (fs ++ f ∷ []) c (bytes ++ reply)
+replies_more a [] b bytes f c reply r t = (c, reply, [], subst (λ (h : Option HeldValue). Turn h f c reply) r.0 t, (refl, refl), ap (λ (bs : List ℕ). bs ++ reply) r.1 ∙ sym (append-nil reply))
+replies_more a (g ∷ fs) b bytes f c reply r t = (r.0, r.1, r.2 ++ reply, r.3, replies_more r.0 fs b r.2 f c reply r.4 t, ap (λ (bs : List ℕ). bs ++ reply) r.5 ∙ append_assoc r.1 r.2 reply)
+
+pub exchanges_more : (i i' i'' o o' o'' : Option (List ℕ)) (fs : List Frame) (f : Frame) (held held' : Option HeldValue) → Exchanges i i' o o' fs held → Answers f held held' i' i'' o' o'' → Exchanges i i'' o o'' (fs ++ f ∷ []) held'
+exchanges_more i i' i'' o o' o'' fs f held held' e a =
+    let spelled : flat_map spelling fs ++ spelling f ≡ flat_map spelling (fs ++ f ∷ []) =
+        sym (flat_map-append spelling fs (f ∷ []) ∙ ap (λ (bs : List ℕ). flat_map spelling fs ++ bs) (flat_map-cons spelling f [] ∙ append-nil (spelling f))) in
+    record {
+      bytes = e.bytes ++ a.reply;
+      replies = replies_more _ fs held e.bytes f held' a.reply e.replies a.turn;
+      read = subst (λ (bs : List ℕ). Consumes i i'' bs) spelled (consumes_then i i' i'' (flat_map spelling fs) (spelling f) e.read a.read);
+      written = then o o' o'' e.bytes a.reply e.written a.written;
+    }
+
+abbrev write_fault : WorkerFault
+write_fault = Wire wire.Write
+
+pub broken_off : (e fault : WorkerFault) (input left output before before' output' : Option (List ℕ)) (fs : List Frame) (held : Option HeldValue) → Exchanges input left output before fs held
+    → (fault ≡ Wire wire.Write) ⊎ (IsFaultAt left held fault × (before' ≡ before)) → ((e ≡ fault) × Appends before' output' (told fault)) ⊎ (e ≡ Wire wire.Write)
+    → (e ≡ Wire wire.Write) ⊎ Breaks e input output output'
+broken_off e fault input left output before before' output' fs held x (inl w) (inl t) = inl (t.0 ∙ w)
+broken_off e fault input left output before before' output' fs held x (inl w) (inr t) = inl t
+broken_off e fault input left output before before' output' fs held x (inr w) (inr t) = inl t
+broken_off e fault input left output before before' output' fs held x (inr w) (inl t) =
+    let back : fault ≡ e = sym t.0 in
+    inr (record {
+      fs = fs;
+      held = held;
+      left = left;
+      before = before;
+      exchanges = x;
+      fault = subst (IsFaultAt left held) back w.0;
+      told_is = subst (λ (g : WorkerFault). Appends before output' (told g)) back (subst (λ (b : Option (List ℕ)). Appends b output' (told fault)) w.1 t.1);
+    })

@@ -1,0 +1,11 @@
+pub mod Stacks
+pub mod Parts
+pub mod Runs
+pub mod Filling
+pub mod Working
+pub mod Keeping
+pub mod Linking
+pub mod Packing
+pub mod Joining
+pub mod Listed
+pub mod Exchanging

@@ -1,0 +1,10 @@
+use Rattle.std.proofs.Common.{take, length}
+use Rattle.pg_worker.specs.Turns.{CanTakeAll, told_sparse}
+use Rattle.pg_worker.specs.Mirrors.Joins.{JoinsAll}
+use Rattle.pg_worker.proofs.joins.join_sparse.Given as goal
+
+abbrev pub invariant-loop-value : goal.invariant-loop-value
+invariant-loop-value l = record {
+  joined : JoinsAll l.fn.worker (told_sparse (length l.fn.worker.bounds) (take l.value-index l.values)) l.worker;
+  fit : CanTakeAll l.fn.worker (told_sparse (length l.fn.worker.bounds) (take l.value-index l.values));
+}

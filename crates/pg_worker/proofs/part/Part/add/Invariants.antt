@@ -1,0 +1,9 @@
+use Rattle.std.proofs.Common.{◌≡◌, ◌++◌, take}
+use Rattle.pg_worker.proofs.part.Part.add.Given as goal
+
+abbrev pub invariant-loop-w : goal.invariant-loop-w
+invariant-loop-w l = record {
+  items : l.self-inside.targets.items ≡ l.initial.self-inside.targets.items ++ take l.w-index l.successors;
+  room : l.self-inside.targets.cap ≡ l.initial.self-inside.targets.cap;
+  heads : l.self-inside.heads ≡ l.initial.self-inside.heads;
+}

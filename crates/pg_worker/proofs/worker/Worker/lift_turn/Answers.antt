@@ -1,0 +1,31 @@
+use Rattle.std.proofs.Common.{◌≡◌, ℕ, get_or, refl, subst}
+use Rattle.std.specs.Prelude.{Any}
+use Rattle.std.proofs.lemmas.List.{get_or_default}
+use Rattle.pg_map.specs.declared.update.Update.{Update}
+use Rattle.pg_worker.proofs.worker.Worker.lift_turn.Goals as goal
+
+pub returns : goal.returns
+returns c =
+    let t = c.lift_turn-quiet.ensures.turn in
+    rw (← c.self.view_is) record {
+      updates = t.updates;
+      turn = record {
+        lifts = record {
+          part = record { bounds = c.lift_turn-quiet.ensures.bounds; lines = refl; size = c.lift_turn-quiet.ensures.size };
+          lifts = t.lifts;
+          under = c.lift_turn-quiet.ensures.under;
+        };
+        few = t.count.0;
+        fewer = t.count.1;
+        rest = rw c.lift_turn-quiet.ensures.bounds c.lift_turn-quiet.ensures.quiet;
+      };
+      lifted = record {
+        rising = c.sort.ensures.rising;
+        each = λ i d lt. c.sort.ensures.more _ (t.each i d lt);
+        only = λ i d lt.
+            let w = get_or c.sort.new.self.vertices i d in
+            let k = c.sort.ensures.only w (i, lt, get_or_default c.sort.new.self.vertices i w d lt) in
+            subst (λ (u : ℕ). Any (λ (x : Update). x.vertex ≡ u) t.updates) k.2 (t.only k.0 w k.1);
+      };
+      kept = refl;
+    }

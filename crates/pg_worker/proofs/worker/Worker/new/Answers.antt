@@ -1,0 +1,21 @@
+use Rattle.std.proofs.Common.{◌≡◌, ◌∙◌, length, ap, sym, arith, false}
+use Rattle.std.proofs.lemmas.List.{length-replicate}
+use Rattle.pg_measure.specs.Measures.{zeros}
+use Rattle.pg_worker.proofs.Working.{worker_empty, none_held_at, next_empty}
+use Rattle.pg_worker.proofs.worker.Worker.new.Goals as goal
+
+pub invariant_of-result : goal.invariant_of-result
+invariant_of-result c =
+    let n = c.args.setup.now.vertices in
+    let map = c.in_ok-zero.field-0 in
+    let m : length map.measures ≡ n = ap length c.in_ok-zero.ensures.zeros ∙ length-replicate n (zeros _) in
+    let w : length c.in_ok-new-3.field-0 ≡ n = ap length c.in_ok-new-3.ensures ∙ length-replicate n false in
+    let b : length c.in_ok-vec.field-0.items ≡ length map.measures = omega (arith, c.in_ok-vec.ensures.len, c.in_ok-vec.field-0.ok.0, m) in
+    let none = none_held_at c.in_ok-new.field-0 n c.in_ok-new.ensures.none in
+    record {
+      inside = worker_empty c.in_ok-new.field-0 map c.in_ok-new-2.field-0.last.items c.in_ok-new-3.field-0 c.in_ok-vec.field-0.items c.in_ok-new-2.field-0.entries.items c.in_ok-new-2.ensures.none none
+          (c.in_ok-new-2.ensures.size ∙ sym m) (w ∙ sym m) b (c.in_ok-new.ensures.size ∙ sym m);
+      above = next_empty c.in_ok-new.field-0 none;
+      listed = c.in_ok-new-4.ensures.count ∙ sym m;
+      clear = rw (c.in_ok-zero.ensures.bounds, ← c.pairs.ensures.value) (c.in_ok-vec-2.ensures.items_if_clones_equal (λ y e. e));
+    }

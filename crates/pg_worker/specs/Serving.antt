@@ -1,0 +1,73 @@
+-- What serving does: the frames that were read, the replies to them, and how it ended.
+use Rattle.std.specs.Prelude.{◌≡◌, ◌≢◌, ℕ, ◌⊎◌, List, [], ◌∷◌, ◌++◌, length, All, Option, Some, None, Result, Err, IfSome}
+use Rattle.std.specs.List.{flat_map}
+use Rattle.std.specs.Io.KnownBytes.{Consumes, Appends, IsAtEnd}
+use Rattle.pg_wire.specs.declared.fault.WireFault.{WireFault}
+use Rattle.pg_wire.specs.declared.fault.WireFault.TheVariants as wire
+use Rattle.pg_wire.specs.declared.frame.Frame.{Frame}
+use Rattle.pg_wire.specs.declared.frame.Frame.TheVariants as frames
+use Rattle.pg_wire.specs.Spelling.{spelling}
+use Rattle.pg_wire.specs.Bytes.{IsReadFrom}
+use Rattle.pg_worker.specs.declared.fault.WorkerFault.{WorkerFault}
+use Rattle.pg_worker.specs.declared.fault.WorkerFault.TheVariants.{OutOfMemory, NotMine, BadUpdate, Order, Wire}
+use Rattle.pg_worker.specs.declared.served.Served.{Served}
+use Rattle.pg_worker.specs.declared.served.Served.TheVariants.{Halted, InputEnded, Bound}
+use Rattle.pg_worker.specs.Faults.{code_of}
+use Rattle.pg_worker.specs.Turns.{HeldValue, Turn, Refuses, report}
+
+-- the replies to some frames, one turn after the other
+abbrev pub Replies : Option HeldValue → List Frame → Option HeldValue → List ℕ → Type 0
+Replies before [] after bytes = (after ≡ before) × (bytes ≡ [])
+Replies before (f ∷ fs) after bytes =
+    (held : Option HeldValue) × (reply : List ℕ) × (rest : List ℕ)
+    × Turn before f held reply × Replies held fs after rest × (bytes ≡ reply ++ rest)
+
+-- from a new session on, these frames were read and the replies to them were written
+pub record Exchanges (input input' output output' : Option (List ℕ)) (fs : List Frame) (held : Option HeldValue) : Type 0 where
+  pub bytes : List ℕ
+  pub replies : Replies None fs held bytes
+  pub read : Consumes input input' (flat_map spelling fs)
+  pub written : Appends output output' bytes
+
+-- after these frames it ended: with Halt, where the input ended, or with the last frame that may be counted
+abbrev pub EndsAfter : Served → List Frame → Option (List ℕ) → Type 0
+EndsAfter (Halted n) fs left = (n ≡ length fs) × (front : List Frame) × (fs ≡ front ++ frames.Halt ∷ []) × All (λ f. f ≢ frames.Halt) front
+EndsAfter (InputEnded n) fs left = (n ≡ length fs) × All (λ f. f ≢ frames.Halt) fs × IsAtEnd left
+EndsAfter Bound fs left = (length fs ≡ 4294967295) × All (λ f. f ≢ frames.Halt) fs
+
+-- where the input ended, reading on may have changed the reader
+abbrev pub IsLeft : Served → Option (List ℕ) → Option (List ℕ) → Type 0
+IsLeft (InputEnded n) left input' = Unit {0}
+IsLeft served left input' = left ≡ input'
+
+pub record Serves (served : Served) (input input' output output' : Option (List ℕ)) : Type 0 where
+  pub fs : List Frame
+  pub held : Option HeldValue
+  pub left : Option (List ℕ)
+  pub exchanges : Exchanges input left output output' fs held
+  pub ends : EndsAfter served fs left
+  pub left_is : IsLeft served left input'
+
+-- the report of a fault; none where the input or the output failed or was cut short
+abbrev pub told : WorkerFault → List ℕ
+told (Wire wire.Read) = []
+told (Wire wire.Write) = []
+told (Wire wire.Truncated) = []
+told e = report 2 (code_of e)
+
+-- why no turn was done with what is left: memory, a read that failed, bytes that are no frame, or a frame that is refused
+abbrev pub IsFaultAt : Option (List ℕ) → Option HeldValue → WorkerFault → Type 0
+IsFaultAt left held e =
+    (e ≡ OutOfMemory) ⊎ (e ≡ Wire wire.Read)
+    ⊎ ((fault : WireFault) × (e ≡ Wire fault) × IfSome left (λ bytes. IsReadFrom bytes (Err fault)))
+    ⊎ ((f : Frame) × (rest : Option (List ℕ)) × Consumes left rest (spelling f) × Refuses 2 held f e)
+
+-- the frames before the fault were answered, and the fault was told
+pub record Breaks (e : WorkerFault) (input output output' : Option (List ℕ)) : Type 0 where
+  pub fs : List Frame
+  pub held : Option HeldValue
+  pub left : Option (List ℕ)
+  pub before : Option (List ℕ)
+  pub exchanges : Exchanges input left output before fs held
+  pub fault : IsFaultAt left held e
+  pub told_is : Appends before output' (told e)

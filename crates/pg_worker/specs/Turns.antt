@@ -1,0 +1,156 @@
+-- The turns of a session: what it holds, what it answers to a frame, and when it refuses one.
+use Rattle.std.specs.Prelude.{◌≡◌, ◌≢◌, ℕ, ◌<◌, ◌≤◌, ◌==◌, ◌⊎◌, Bool, true, false, List, [], ◌∷◌, ◌++◌, length, map, take, All, Option, Some, None, if◌then◌else◌}
+use Rattle.std.specs.List.{flat_map}
+use Rattle.pg_measure.specs.Measures.{MeasureValue, AtMost}
+use Rattle.pg_map.specs.Maps.{measure_at, MapAtMost}
+use Rattle.pg_wire.specs.declared.fault.WireFault.TheVariants.{Version}
+use Rattle.pg_wire.specs.declared.frame.Setup.{Setup}
+use Rattle.pg_wire.specs.declared.frame.VertexLine.{VertexLine}
+use Rattle.pg_wire.specs.declared.frame.Value.{Value}
+use Rattle.pg_wire.specs.declared.frame.SparseValue.{SparseValue}
+use Rattle.pg_wire.specs.declared.frame.Frame.{Frame}
+use Rattle.pg_wire.specs.declared.frame.Frame.TheVariants as frames
+use Rattle.pg_wire.specs.declared.kind.ValueKind.{ValueKind}
+use Rattle.pg_wire.specs.declared.kind.ValueKind.TheVariants.{Dense, Sparse}
+use Rattle.pg_wire.specs.Spelling.{body, spelling, longest}
+use Rattle.pg_wire.specs.Measured.{Measured, frame_of}
+use Rattle.pg_worker.specs.declared.fault.WorkerFault.{WorkerFault}
+use Rattle.pg_worker.specs.declared.fault.WorkerFault.TheVariants.{BadUpdate, Order, Wire}
+use Rattle.pg_worker.specs.Workers.{WorkerValue, new_worker, with_lines, AreAbove, FitsGame, RefusesLines, CanTake, IsListedTurn, sparse_measure}
+
+-- what a session holds from a set-up on: the kind of frames in which values go, whether values or a Go came, and its worker
+pub record HeldValue : Type 0 where
+  pub kind : ValueKind
+  pub is_started : Bool
+  pub worker : WorkerValue
+
+-- ---- what is held after a frame
+
+-- values go as Values under version 1, and as Sparse under version 2
+abbrev pub kind_of : ℕ → ValueKind
+kind_of version = if version == 2 then Sparse else Dense
+
+abbrev pub fresh : Setup → HeldValue
+fresh s = record { kind = kind_of s.version; is_started = false; worker = new_worker s.bounds s.vertices }
+
+abbrev pub with_part : HeldValue → List VertexLine → HeldValue
+with_part h ls = record { kind = h.kind; is_started = h.is_started; worker = record h.worker { lines = with_lines h.worker.lines ls } }
+
+abbrev pub started : HeldValue → WorkerValue → HeldValue
+started h w = record { kind = h.kind; is_started = true; worker = w }
+
+-- ---- values that are sent
+
+-- the measures that values tell
+abbrev pub told_values : List Value → List Measured
+told_values vs = map (λ v. (v.vertex, v.list)) vs
+
+abbrev pub told_sparse : ℕ → List SparseValue → List Measured
+told_sparse width vs = map (λ v. (v.vertex, sparse_measure width v.pairs)) vs
+
+-- each measure is of a vertex below the count, and fits the bounds
+abbrev pub CanTakeAll : WorkerValue → List Measured → Type 0
+CanTakeAll w ms = All (λ m. CanTake w m.0 m.1) ms
+
+-- the map is at least each of the measures
+abbrev pub IsAtLeast : List MeasureValue → List Measured → Type 0
+IsAtLeast f ms = All (λ m. AtMost m.1 (measure_at f m.0)) ms
+
+-- g is the least map that is at least f and each of the measures
+pub record Joins (f : List MeasureValue) (ms : List Measured) (g : List MeasureValue) : Type 0 where
+  pub size : length g ≡ length f
+  pub above : MapAtMost f g
+  pub each : IsAtLeast g ms
+  pub least : (h : List MeasureValue) → MapAtMost f h → IsAtLeast h ms → MapAtMost g h
+
+-- values of this kind and width are in turn and fit
+pub record AreInTurn (h : HeldValue) (kind : ValueKind) (width : ℕ) (ms : List Measured) : Type 0 where
+  pub kind_is : h.kind ≡ kind
+  pub width_is : width ≡ length h.worker.bounds
+  pub fit : CanTakeAll h.worker ms
+
+-- the values are joined to the worker's map
+pub record TakesValues (h : HeldValue) (kind : ValueKind) (width : ℕ) (ms : List Measured) (after : Option HeldValue) : Type 0 where
+  pub in_turn : AreInTurn h kind width ms
+  pub map : List MeasureValue
+  pub joins : Joins h.worker.map ms map
+  pub held : after ≡ Some (started h (record h.worker { map = map }))
+
+-- a kind that isn't in turn comes before a width or a value that doesn't fit
+abbrev pub RefusesValues : HeldValue → ValueKind → ℕ → List Measured → WorkerFault → Type 0
+RefusesValues h kind width ms why =
+    ((why ≡ Order) × (h.kind ≢ kind))
+    ⊎ ((why ≡ BadUpdate) × (h.kind ≡ kind) × ¬ ((width ≡ length h.worker.bounds) × CanTakeAll h.worker ms))
+
+-- ---- replies
+
+abbrev pub report : ℕ → ℕ → List ℕ
+report status code = spelling (frames.Report (record { status = status; code = code }))
+
+-- a set-up of version 2 is answered
+abbrev pub greeting : ℕ → List ℕ
+greeting version = if version == 2 then report 1 0 else []
+
+abbrev pub frame_size : ValueKind → ℕ → List Measured → ℕ
+frame_size kind width ms = length (body (frame_of kind width ms))
+
+-- with the next measure the frame would be too long
+abbrev pub EndsFull : ValueKind → ℕ → List Measured → List (List Measured) → Type 0
+EndsFull kind width ms [] = Unit {0}
+EndsFull kind width ms (next ∷ more) = longest < frame_size kind width (ms ++ take 1 next)
+
+-- the measures of some frames, one after the other: each has one, none is too long, and one ends only where the next
+-- measure wouldn't fit
+abbrev pub ArePacked : ValueKind → ℕ → List (List Measured) → Type 0
+ArePacked kind width [] = Unit {0}
+ArePacked kind width (ms ∷ more) =
+    (1 ≤ length ms) × (frame_size kind width ms ≤ longest) × EndsFull kind width ms more × ArePacked kind width more
+
+-- the bytes are frames of these measures
+pub record Packs (kind : ValueKind) (width : ℕ) (ms : List Measured) (bytes : List ℕ) : Type 0 where
+  pub groups : List (List Measured)
+  pub all : flat_map (λ group. group) groups ≡ ms
+  pub packed : ArePacked kind width groups
+  pub spelled : bytes ≡ flat_map (λ group. spelling (frame_of kind width group)) groups
+
+-- the vertices lifted in the last turn, with their measures
+abbrev pub lifted_measures : WorkerValue → List Measured
+lifted_measures w = map (λ v. (v, measure_at w.map v)) w.lifted
+
+-- lifts, answered by the measures of the vertices that were lifted and a report
+pub record LiftsAndTells (h : HeldValue) (budget : ℕ) (after : Option HeldValue) (reply : List ℕ) : Type 0 where
+  pub worker : WorkerValue
+  pub quiet : Bool
+  pub turn : IsListedTurn h.worker worker budget quiet
+  pub held : after ≡ Some (started h worker)
+  pub measures : List ℕ
+  pub packs : Packs h.kind (length worker.bounds) (lifted_measures worker) measures
+  pub reply_is : reply ≡ measures ++ report (if quiet then 1 else 0) 0
+
+-- ---- turns
+
+-- One turn that isn't refused: what is held before, the frame, what is held after it, and the reply. A set-up or Halt may come
+-- at any time, vertices only before the first values or Go, and values only in the kind of the version.
+abbrev pub Turn : Option HeldValue → Frame → Option HeldValue → List ℕ → Type 0
+Turn before (frames.Setup s) after reply = (after ≡ Some (fresh s)) × (reply ≡ greeting s.version)
+Turn before frames.Halt after reply = (after ≡ None) × (reply ≡ [])
+Turn None frame after reply = ⊥
+Turn (Some h) (frames.Vertices v) after reply =
+    (h.is_started ≡ false) × AreAbove h.worker.lines v.lines × All (FitsGame h.worker.bounds (length h.worker.map)) v.lines
+    × (after ≡ Some (with_part h v.lines)) × (reply ≡ [])
+Turn (Some h) (frames.Values v) after reply = TakesValues h Dense v.width (told_values v.values) after × (reply ≡ [])
+Turn (Some h) (frames.Sparse v) after reply = TakesValues h Sparse v.width (told_sparse v.width v.values) after × (reply ≡ [])
+Turn (Some h) (frames.Go g) after reply = LiftsAndTells h g.budget after reply
+Turn (Some h) (frames.Report r) after reply = ⊥
+
+-- why a session that takes versions up to `highest` refuses a frame, want of memory aside
+abbrev pub Refuses : ℕ → Option HeldValue → Frame → WorkerFault → Type 0
+Refuses highest before (frames.Setup s) why = (why ≡ Wire Version) × (highest < s.version)
+Refuses highest before frames.Halt why = ⊥
+Refuses highest None frame why = why ≡ Order
+Refuses highest (Some h) (frames.Vertices v) why =
+    ((why ≡ Order) × (h.is_started ≡ true)) ⊎ ((h.is_started ≡ false) × RefusesLines h.worker v.lines why)
+Refuses highest (Some h) (frames.Values v) why = RefusesValues h Dense v.width (told_values v.values) why
+Refuses highest (Some h) (frames.Sparse v) why = RefusesValues h Sparse v.width (told_sparse v.width v.values) why
+Refuses highest (Some h) (frames.Go g) why = ⊥
+Refuses highest (Some h) (frames.Report r) why = why ≡ Order

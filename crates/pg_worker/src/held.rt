@@ -1,0 +1,24 @@
+//! What a session holds.
+
+use crate::Worker;
+use pg_wire::ValueKind;
+use std::marker::Model;
+
+/// What a session holds from a set-up on: the kind of frames in which values go, whether values or a Go came, and the worker.
+#[derive(Drop)]
+pub struct Held {
+    pub kind: ValueKind,
+    pub is_started: bool,
+    pub worker: Worker,
+}
+
+impl Model for Held {
+    ghost use Rattle.std.specs.Prelude.{◌≤◌, length};
+    ghost use Rattle.pg_worker.specs.Turns.{HeldValue};
+
+    ghost Value = { HeldValue };
+
+    ghost view = { λ h. record { kind = h.kind; is_started = h.is_started; worker = h.worker } };
+
+    ghost invariant = { λ h. length h.worker.bounds ≤ 32768 };
+}

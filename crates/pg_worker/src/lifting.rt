@@ -1,0 +1,284 @@
+//! Values that a worker takes, and the lifts that it makes.
+
+ghost use Rattle.std.specs.Prelude.{◌≡◌, ◌↔◌, ◌<◌, ◌≤◌, true, false, [], ◌∷◌, length, slice_set, IsSome, IfSome, IfNone, IfOk, IfErr, IsOk, OnOk, OnErr, IsTrue, MatchBool, vec_len, vec_capacity};
+ghost use Rattle.std.specs.Bool.{OnTrue, OnFalse};
+ghost use Rattle.pg_measure.specs.Measures.{Fits, AtMost, IsBelow};
+ghost use Rattle.pg_measure.specs.Views.{measure_in};
+ghost use Rattle.pg_map.specs.Lines.{AreWithin};
+ghost use Rattle.pg_map.specs.Maps.{measure_at, update_map, IsJoin, IsServed, IsLifted, IsClosed, StaysUnder};
+ghost use Rattle.pg_worker.specs.Mirrors.Edges.{AreEdges};
+ghost use Rattle.pg_worker.specs.Mirrors.Keeps.{IsKept, IsReady, AreListedLifts};
+ghost use Rattle.pg_worker.specs.Workers.{AreLifts};
+
+use crate::WorkerFault;
+use crate::edges::Edges;
+use crate::listing::Listing;
+use crate::settle::{next_ready, settle};
+use crate::touch::touch_all;
+use crate::worklist::Worklist;
+use pg_arena::Vertex;
+use pg_map::{Lines, MeasureMap, Update, View};
+use pg_measure::{Bounds, Measure, row};
+use std::alloc::{AllocError, Global};
+
+/// Raises the measure of a vertex to at least `m`. True exactly if it rose.
+pub(crate) fn take<G: Lines>(
+    map: &mut MeasureMap,
+    lines: &G,
+    edges: &Edges,
+    work: &mut Worklist,
+    best: &mut [Vertex],
+    v: Vertex,
+    m: View,
+) -> bool
+    requires v { v < length map.old.measures }
+    requires fits { Fits map.old.bounds (measure_in m) }
+    requires within { AreWithin (length map.old.measures) (G.line lines.now) }
+    requires edges { AreEdges (G.line lines.now) edges.now.entries.items }
+    requires targets { length edges.now.last.items ≡ length map.old.measures }
+    requires work { length work.old ≡ length map.old.measures }
+    requires best { length best.old ≡ length map.old.measures }
+    requires kept { IsKept map.old.bounds (G.line lines.now) map.old.measures work.old best.old }
+    ensures bounds { map.new.bounds ≡ map.old.bounds }
+    ensures size { length map.new.measures ≡ length map.old.measures }
+    ensures work { length work.new ≡ length work.old }
+    ensures best { length best.new ≡ length best.old }
+    ensures kept { IsKept map.old.bounds (G.line lines.now) map.new.measures work.new best.new }
+    ensures rose { OnTrue result (IsBelow (measure_at map.old.measures v) (measure_in m.entry) × (map.new.measures ≡ slice_set map.old.measures v (measure_in m.entry))) }
+    ensures stays { OnFalse result (AtMost (measure_in m.entry) (measure_at map.old.measures v)) }
+    ensures same { OnFalse result (map.new ≡ map.old) }
+    ensures join { IsJoin map.old.measures (update_map map.old.bounds (length map.old.measures) v (measure_in m.entry)) map.new.measures }
+{
+    let rose = map.raise(v, m);
+    if rose {
+        touch_all(map, lines, edges, work, best, v);
+    }
+    rose
+}
+
+/// Lifts a vertex that `settle` said to be ready.
+pub(crate) fn lift_ready<G: Lines>(
+    map: &mut MeasureMap,
+    lines: &G,
+    edges: &Edges,
+    work: &mut Worklist,
+    best: &mut [Vertex],
+    v: Vertex,
+)
+    requires within { AreWithin (length map.old.measures) (G.line lines.now) }
+    requires edges { AreEdges (G.line lines.now) edges.now.entries.items }
+    requires targets { length edges.now.last.items ≡ length map.old.measures }
+    requires work { length work.old ≡ length map.old.measures }
+    requires best { length best.old ≡ length map.old.measures }
+    requires ready { IsReady map.old.bounds (G.line lines.now) map.old.measures best.old v }
+    requires kept { IsKept map.old.bounds (G.line lines.now) map.old.measures (slice_set work.old v true) best.old }
+    ensures bounds { map.new.bounds ≡ map.old.bounds }
+    ensures size { length map.new.measures ≡ length map.old.measures }
+    ensures work { length work.new ≡ length work.old }
+    ensures best { length best.new ≡ length best.old }
+    ensures lifted { IsLifted map.old.bounds (G.line lines.now) map.old.measures map.new.measures v }
+    ensures under { StaysUnder map.old.bounds (G.line lines.now) map.old.measures map.new.measures }
+    ensures kept { IsKept map.old.bounds (G.line lines.now) map.new.measures work.new best.new }
+{
+    map.lift_over(lines, v, best[v.0 as usize]);
+    work.lifted(v.0);
+    touch_all(map, lines, edges, work, best, v);
+}
+
+/// Whether no vertex of the part can be lifted.
+fn is_quiet<G: Lines>(map: &MeasureMap, lines: &G, work: &mut Worklist, best: &mut [Vertex]) -> bool
+    requires within { AreWithin (length map.now.measures) (G.line lines.now) }
+    requires work { length work.old ≡ length map.now.measures }
+    requires best { length best.old ≡ length map.now.measures }
+    requires kept { IsKept map.now.bounds (G.line lines.now) map.now.measures work.old best.old }
+    ensures work { length work.new ≡ length work.old }
+    ensures best { length best.new ≡ length best.old }
+    ensures kept { IsKept map.now.bounds (G.line lines.now) map.now.measures work.new best.new }
+    ensures quiet { MatchBool result (IsClosed map.now.bounds (G.line lines.now) map.now.measures) (¬ (IsClosed map.now.bounds (G.line lines.now) map.now.measures)) }
+{
+    match next_ready(map, lines, work, best) {
+        Some(v) => {
+            work.add(v.0);
+            false
+        }
+        None => true,
+    }
+}
+
+/// Makes room for one update more, and takes the memory for its measure.
+fn room_for_update(updates: &mut Vec<Update>, bounds: &Bounds) -> Result<Measure, AllocError>
+    ensures items { updates.new.items ≡ updates.old.items }
+    ensures room { OnOk result (vec_len updates.new < vec_capacity updates.new) }
+    ensures width { IfOk result (λ m. m.width ≡ length bounds.now) }
+{
+    updates.reserve(1)?;
+    Measure::zero(*updates.allocator(), bounds)
+}
+
+/// Lifts at most `budget` vertices, and tells whether none of the part can be lifted. The updates are appended, in order,
+/// whatever the answer is; the memory for one is taken before its lift.
+pub(crate) fn lift_some<G: Lines>(
+    map: &mut MeasureMap,
+    lines: &G,
+    edges: &Edges,
+    work: &mut Worklist,
+    best: &mut [Vertex],
+    updates: &mut Vec<Update>,
+    budget: u32,
+) -> Result<bool, AllocError>
+    requires within { AreWithin (length map.old.measures) (G.line lines.now) }
+    requires edges { AreEdges (G.line lines.now) edges.now.entries.items }
+    requires targets { length edges.now.last.items ≡ length map.old.measures }
+    requires work { length work.old ≡ length map.old.measures }
+    requires best { length best.old ≡ length map.old.measures }
+    requires kept { IsKept map.old.bounds (G.line lines.now) map.old.measures work.old best.old }
+    requires none { updates.old.items ≡ [] }
+    ensures bounds { map.new.bounds ≡ map.old.bounds }
+    ensures size { length map.new.measures ≡ length map.old.measures }
+    ensures work { length work.new ≡ length work.old }
+    ensures best { length best.new ≡ length best.old }
+    ensures kept { IsKept map.old.bounds (G.line lines.now) map.new.measures work.new best.new }
+    ensures lifts { AreLifts map.old.bounds (G.line lines.now) map.old.measures updates.new.items map.new.measures }
+    ensures under { StaysUnder map.old.bounds (G.line lines.now) map.old.measures map.new.measures }
+    ensures few { length updates.new.items ≤ budget }
+    ensures quiet { IfOk result (λ quiet. MatchBool quiet (IsClosed map.old.bounds (G.line lines.now) map.new.measures) (¬ (IsClosed map.old.bounds (G.line lines.now) map.new.measures))) }
+    ensures fewer { IfOk result (λ quiet. quiet ≡ false → length updates.new.items ≡ budget) }
+{
+    for _ in 0..budget {
+        let v = match next_ready(map, lines, work, best) {
+            Some(v) => v,
+            None => return Ok(true),
+        };
+        let mut measure = match room_for_update(updates, map.bounds()) {
+            Ok(measure) => measure,
+            Err(failed) => {
+                work.add(v.0);
+                return Err(failed);
+            }
+        };
+        lift_ready(map, lines, edges, work, best, v);
+        map.copy_to(v, &mut measure);
+        updates.push_reserved(Update { vertex: v, measure });
+    }
+    Ok(is_quiet(map, lines, work, best))
+}
+
+/// Lifts at most `budget` vertices, and tells whether none of the part can be lifted. Each vertex that is lifted is listed.
+pub(crate) fn lift_turn<G: Lines>(
+    map: &mut MeasureMap,
+    lines: &G,
+    edges: &Edges,
+    work: &mut Worklist,
+    best: &mut [Vertex],
+    lifted: &mut Listing,
+    budget: u32,
+) -> bool
+    requires within { AreWithin (length map.old.measures) (G.line lines.now) }
+    requires edges { AreEdges (G.line lines.now) edges.now.entries.items }
+    requires targets { length edges.now.last.items ≡ length map.old.measures }
+    requires work { length work.old ≡ length map.old.measures }
+    requires best { length best.old ≡ length map.old.measures }
+    requires kept { IsKept map.old.bounds (G.line lines.now) map.old.measures work.old best.old }
+    requires room { lifted.old.count ≡ length map.old.measures }
+    requires none { lifted.old.vertices ≡ [] }
+    ensures bounds { map.new.bounds ≡ map.old.bounds }
+    ensures size { length map.new.measures ≡ length map.old.measures }
+    ensures work { length work.new ≡ length work.old }
+    ensures best { length best.new ≡ length best.old }
+    ensures kept { IsKept map.old.bounds (G.line lines.now) map.new.measures work.new best.new }
+    ensures room { lifted.new.count ≡ lifted.old.count }
+    ensures under { StaysUnder map.old.bounds (G.line lines.now) map.old.measures map.new.measures }
+    ensures quiet { MatchBool result (IsClosed map.old.bounds (G.line lines.now) map.new.measures) (¬ (IsClosed map.old.bounds (G.line lines.now) map.new.measures)) }
+    ensures turn { AreListedLifts map.old.bounds (G.line lines.now) map.old.measures map.new.measures lifted.new.vertices (λ n. (n ≤ budget) × (result ≡ false → n ≡ budget)) }
+{
+    for _ in 0..budget {
+        let v = match next_ready(map, lines, work, best) {
+            Some(v) => v,
+            None => return true,
+        };
+        lift_ready(map, lines, edges, work, best, v);
+        lifted.add(v);
+    }
+    is_quiet(map, lines, work, best)
+}
+
+/// Lifts a vertex of the part. None if it is served. The memory for the update is taken before the lift.
+pub(crate) fn lift_one<G: Lines>(
+    map: &mut MeasureMap,
+    lines: &G,
+    edges: &Edges,
+    work: &mut Worklist,
+    best: &mut [Vertex],
+    alloc: Global,
+    v: Vertex,
+) -> Result<Option<Update>, AllocError>
+    requires held { IsSome (G.line lines.now v) }
+    requires within { AreWithin (length map.old.measures) (G.line lines.now) }
+    requires edges { AreEdges (G.line lines.now) edges.now.entries.items }
+    requires targets { length edges.now.last.items ≡ length map.old.measures }
+    requires work { length work.old ≡ length map.old.measures }
+    requires best { length best.old ≡ length map.old.measures }
+    requires kept { IsKept map.old.bounds (G.line lines.now) map.old.measures work.old best.old }
+    ensures bounds { map.new.bounds ≡ map.old.bounds }
+    ensures size { length map.new.measures ≡ length map.old.measures }
+    ensures work { length work.new ≡ length work.old }
+    ensures best { length best.new ≡ length best.old }
+    ensures kept { IsKept map.old.bounds (G.line lines.now) map.new.measures work.new best.new }
+    ensures lifted { IfOk result (λ o. IfSome o (λ u. (u.vertex ≡ v) × AreLifts map.old.bounds (G.line lines.now) map.old.measures (u ∷ []) map.new.measures × StaysUnder map.old.bounds (G.line lines.now) map.old.measures map.new.measures)) }
+    ensures served { IfOk result (λ o. IfNone o (IsServed map.old.bounds (G.line lines.now) map.old.measures v × (map.new ≡ map.old))) }
+    ensures same { OnErr result (map.new ≡ map.old) }
+{
+    if !work.waits(v.0) {
+        return Ok(None);
+    }
+    if settle(map, lines, best, v) {
+        return Ok(None);
+    }
+    let mut measure = Measure::zero(alloc, map.bounds())?;
+    lift_ready(map, lines, edges, work, best, v);
+    map.copy_to(v, &mut measure);
+    Ok(Some(Update { vertex: v, measure }))
+}
+
+/// Whether a measure that is lent is one of the bounds.
+fn fits(measure: View, bounds: &Bounds) -> bool
+    ensures { IsTrue result ↔ Fits bounds.now (measure_in measure.entry) }
+{
+    match measure {
+        View::Top => true,
+        View::List(list) => row::fits(list, bounds.pairs()),
+    }
+}
+
+/// Takes the measure of a vertex by its number, if there is such a vertex and the measure fits. True exactly if it rose.
+pub(crate) fn receive<G: Lines>(
+    map: &mut MeasureMap,
+    lines: &G,
+    edges: &Edges,
+    work: &mut Worklist,
+    best: &mut [Vertex],
+    vertex: u32,
+    measure: View,
+) -> Result<bool, WorkerFault>
+    requires within { AreWithin (length map.old.measures) (G.line lines.now) }
+    requires edges { AreEdges (G.line lines.now) edges.now.entries.items }
+    requires targets { length edges.now.last.items ≡ length map.old.measures }
+    requires work { length work.old ≡ length map.old.measures }
+    requires best { length best.old ≡ length map.old.measures }
+    requires kept { IsKept map.old.bounds (G.line lines.now) map.old.measures work.old best.old }
+    ensures bounds { map.new.bounds ≡ map.old.bounds }
+    ensures size { length map.new.measures ≡ length map.old.measures }
+    ensures work { length work.new ≡ length work.old }
+    ensures best { length best.new ≡ length best.old }
+    ensures kept { IsKept map.old.bounds (G.line lines.now) map.new.measures work.new best.new }
+    ensures ok { IsOk result ↔ ((vertex < length map.old.measures) × Fits map.old.bounds (measure_in measure.entry)) }
+    ensures refused { IfErr result (λ e. e ≡ WorkerFault.BadUpdate) }
+    ensures same { OnErr result (map.new ≡ map.old) }
+    ensures join { OnOk result (IsJoin map.old.measures (update_map map.old.bounds (length map.old.measures) vertex (measure_in measure.entry)) map.new.measures) }
+    ensures change { IfOk result (λ rose. MatchBool rose (IsBelow (measure_at map.old.measures vertex) (measure_in measure.entry) × (map.new.measures ≡ slice_set map.old.measures vertex (measure_in measure.entry))) (AtMost (measure_in measure.entry) (measure_at map.old.measures vertex) × (map.new.measures ≡ map.old.measures))) }
+{
+    if vertex >= map.len() || !fits(measure, map.bounds()) {
+        return Err(WorkerFault::BadUpdate);
+    }
+    Ok(take(map, lines, edges, work, best, Vertex(vertex), measure))
+}

@@ -1,0 +1,87 @@
+//! Writes replies.
+
+ghost use Rattle.std.specs.Prelude.{◌≡◌, ℕ, ◌+◌, ◌<◌, ◌≤◌, ◌++◌, ◌∷◌, [], List, Some, All, length, map, take, IfOk, OnOk, OnErr, IfSome, MatchBool};
+ghost use Rattle.pg_measure.specs.Measures.{Fits};
+ghost use Rattle.pg_measure.specs.Views.{measure_in};
+ghost use Rattle.pg_wire.specs.Spelling.{spelling, longest};
+ghost use Rattle.pg_wire.specs.Measured.{Measured, frame_of};
+ghost use Rattle.pg_wire.specs.Written.{IsWriting, IsAdded};
+ghost use Rattle.pg_wire.specs.Mirrors.Buffers.{Extends};
+ghost use Rattle.pg_worker.specs.Turns.{report, frame_size, Packs, lifted_measures};
+ghost use Rattle.pg_worker.specs.Mirrors.Replies.{measures_of};
+
+use crate::Worker;
+use pg_arena::Vertex;
+use pg_map::View;
+use pg_wire::{ValueKind, ValuesWriter};
+use std::alloc::AllocError;
+
+/// Appends a report.
+pub fn put_report(status: u8, code: u8, out: &mut Vec<u8>) -> Result<(), AllocError>
+    ensures ok { OnOk result (out.new.items ≡ out.old.items ++ report status code) }
+    ensures err { OnErr result (out.new.items ≡ out.old.items) }
+{
+    out.extend_from_slice(&[0, 0, 0, 3, 5, status, code])
+}
+
+fn push(
+    writer: &mut ValuesWriter,
+    v: Vertex,
+    measure: View,
+    out: &mut Vec<u8>,
+) -> Result<bool, AllocError>
+    requires { IfSome (measure_in measure) (λ xs. length xs ≤ 32768) }
+    ensures of { (writer.new.kind ≡ writer.old.kind) × (writer.new.width ≡ writer.old.width) }
+    ensures added { (before : List ℕ) (ms : List Measured) → IsWriting writer.old before ms out.old.items → IfOk result (λ fits. IsAdded fits writer.old writer.new before ms (v, measure_in measure.entry) out.old.items out.new.items) }
+    ensures kept { OnErr result ((writer.new ≡ writer.old) × (out.new.items ≡ out.old.items)) }
+{
+    match measure {
+        View::Top => writer.push_top(v.0, out),
+        View::List(list) => writer.push_list(v.0, list, out),
+    }
+}
+
+/// Appends one frame of the measures of as many of these vertices as fit in it, from the first on, and says how many.
+fn put_frame(
+    worker: &Worker,
+    kind: ValueKind,
+    vertices: &[Vertex],
+    out: &mut Vec<u8>,
+) -> Result<usize, AllocError>
+    requires few { length worker.now.bounds ≤ 32768 }
+    requires within { All (λ v. v < length worker.now.map) vertices.now }
+    requires some { 0 < length vertices.now }
+    ensures count { IfOk result (λ n. (1 ≤ n) × (n ≤ length vertices.now)) }
+    ensures frame { IfOk result (λ n. out.new.items ≡ out.old.items ++ spelling (frame_of kind (length worker.now.bounds) (measures_of worker.now.map (take n vertices.now)))) }
+    ensures within { IfOk result (λ n. frame_size kind (length worker.now.bounds) (measures_of worker.now.map (take n vertices.now)) ≤ longest) }
+    ensures full { IfOk result (λ n. n < length vertices.now → longest < frame_size kind (length worker.now.bounds) (measures_of worker.now.map (take (n + 1) vertices.now))) }
+    ensures kept { Extends out.old.items out.new.items }
+{
+    let width = worker.bounds().pairs().len() as u32;
+    let mut writer = ValuesWriter::begin(kind, width, out)?;
+    for (n, v) in vertices.iter().enumerate() {
+        let fits = push(&mut writer, *v, worker.get(*v), out)?;
+        if !fits {
+            writer.finish(out);
+            return Ok(n);
+        }
+    }
+    writer.finish(out);
+    Ok(vertices.len())
+}
+
+/// Appends frames of the measures of the vertices that were lifted in the last turn.
+pub fn put_lifted(worker: &Worker, kind: ValueKind, out: &mut Vec<u8>) -> Result<(), AllocError>
+    requires few { length worker.now.bounds ≤ 32768 }
+    requires within { All (λ v. v < length worker.now.map) worker.now.lifted }
+    ensures packs { OnOk result ((bytes : List ℕ) × Packs kind (length worker.now.bounds) (lifted_measures worker.now) bytes × (out.new.items ≡ out.old.items ++ bytes)) }
+    ensures kept { Extends out.old.items out.new.items }
+{
+    let mut rest = worker.lifted();
+    while !rest.is_empty() {
+        let count = put_frame(worker, kind, rest, out)?;
+        let (_, after) = rest.split_at(count);
+        rest = after;
+    }
+    Ok(())
+}

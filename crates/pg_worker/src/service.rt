@@ -1,0 +1,102 @@
+//! A session between a reader and a writer.
+
+ghost use Rattle.std.specs.Prelude.{◌≡◌, ◌≢◌, ℕ, ◌++◌, ◌⊎◌, List, None, IfOk, IfErr, OnOk};
+ghost use Rattle.std.specs.Io.KnownBytes.{Appends};
+ghost use Rattle.pg_wire.specs.declared.fault.WireFault.TheVariants.{Write};
+ghost use Rattle.pg_worker.specs.declared.fault.WorkerFault.TheVariants.{Wire};
+ghost use Rattle.pg_worker.specs.Faults.{code_of};
+ghost use Rattle.pg_worker.specs.Turns.{report};
+ghost use Rattle.pg_worker.specs.Serving.{Serves, Breaks, told, IsFaultAt};
+ghost use Rattle.pg_worker.specs.Mirrors.Steps.{own_fault, IsStep};
+
+use crate::served::Served;
+use crate::session::Session;
+use crate::step::Step;
+use crate::WorkerFault;
+use pg_wire::{Frame, Report, WireFault, read_frame, write_frame};
+use std::alloc::Global;
+use std::io::{Read, Write};
+
+fn own(fault: WireFault) -> WorkerFault
+    ensures { result ≡ own_fault fault }
+{
+    match fault {
+        WireFault::OutOfMemory => WorkerFault::OutOfMemory,
+        _ => WorkerFault::Wire(fault),
+    }
+}
+
+/// Reads one frame, if there is one, and writes the reply to it.
+fn step<R: Read, W: Write>(
+    alloc: Global,
+    session: &mut Session,
+    reply: &mut Vec<u8>,
+    input: &mut R,
+    output: &mut W,
+) -> Result<Step, WorkerFault>
+    requires { session.old.highest ≡ 2 }
+    ensures step { IfOk result (λ s. IsStep s session.old.held session.new.held (R.remaining input.old) (R.remaining input.new) (W.contents output.old) (W.contents output.new)) }
+    ensures highest { session.new.highest ≡ session.old.highest }
+    ensures fault { IfErr result (λ e. (e ≡ Wire Write) ⊎ (IsFaultAt (R.remaining input.old) session.old.held e × (W.contents output.new ≡ W.contents output.old))) }
+{
+    let frame = match read_frame(alloc, input) {
+        Ok(Some(frame)) => frame,
+        Ok(None) => return Ok(Step::Ended),
+        Err(fault) => return Err(own(fault)),
+    };
+    reply.clear();
+    let halts = session.frame(&frame, reply)?;
+    if output.write_all(reply).is_err() {
+        return Err(WorkerFault::Wire(WireFault::Write));
+    }
+    if halts {
+        return Ok(Step::Halted);
+    }
+    Ok(Step::Answered)
+}
+
+/// Writes the report of a fault, if it has one, and gives the fault that serving ends with.
+fn tell<W: Write>(fault: WorkerFault, output: &mut W) -> WorkerFault
+    ensures { ((result ≡ fault) × Appends (W.contents output.old) (W.contents output.new) (told fault)) ⊎ (result ≡ Wire Write) }
+{
+    match fault {
+        WorkerFault::Wire(WireFault::Read | WireFault::Write | WireFault::Truncated) => fault,
+        _ => {
+            let report = Frame::Report(Report {
+                status: 2,
+                code: fault.code(),
+            });
+            match write_frame(&report, output) {
+                Ok(()) => fault,
+                Err(_) => WorkerFault::Wire(WireFault::Write),
+            }
+        }
+    }
+}
+
+/// Serves frames: reads them one after the other, and writes the replies of a session to `output`. It ends after Halt, where
+/// the input ends before a frame, after 4,294,967,295 frames, or at a fault.
+///
+/// Faults: those of a session; `Wire` of a frame that can't be read; `Wire(Write)` where a write fails, and then nothing is
+/// said of how much went out. Before it ends with another fault than `Wire(Read)` and `Wire(Truncated)` it writes the
+/// fault's report, which takes no memory; where that write fails the answer is `Wire(Write)`.
+pub fn serve<R: Read, W: Write>(
+    alloc: Global,
+    input: &mut R,
+    output: &mut W,
+) -> Result<Served, WorkerFault>
+    ensures served { IfOk result (λ s. Serves s (R.remaining input.old) (R.remaining input.new) (W.contents output.old) (W.contents output.new)) }
+    ensures fault { IfErr result (λ e. (e ≡ Wire Write) ⊎ Breaks e (R.remaining input.old) (W.contents output.old) (W.contents output.new)) }
+{
+    let mut session = Session::new(alloc);
+    let mut reply = Vec::new(alloc);
+    for frames in 0..u32::MAX {
+        match step(alloc, &mut session, &mut reply, input, output) {
+            Ok(Step::Ended) => return Ok(Served::InputEnded(frames)),
+            Ok(Step::Halted) => return Ok(Served::Halted(frames + 1)),
+            Ok(Step::Answered) => {}
+            Err(fault) => return Err(tell(fault, output)),
+        }
+    }
+    Ok(Served::Bound)
+}

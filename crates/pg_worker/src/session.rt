@@ -1,0 +1,76 @@
+//! Sessions: a worker behind frames.
+
+ghost use Rattle.std.specs.Prelude.{◌≡◌, ◌↔◌, ℕ, ◌++◌, ◌⊎◌, List, None, IsTrue, IfOk, IfErr, OnOk, OnErr};
+ghost use Rattle.pg_wire.specs.Well.{IsWell};
+ghost use Rattle.pg_wire.specs.declared.frame.Frame.TheVariants.{Halt};
+ghost use Rattle.pg_worker.specs.Turns.{Turn, Refuses};
+
+use crate::held::Held;
+use crate::turn::turn;
+use crate::WorkerFault;
+use pg_wire::Frame;
+use std::alloc::Global;
+
+/// A worker that is told what to do by frames, and answers by frames. Before a set-up, after Halt and after a refusal it holds
+/// nothing.
+#[derive(Drop)]
+pub struct Session {
+    alloc: Global,
+    highest: u8,
+    held: Option<Held>,
+}
+
+impl Session {
+    /// A session that takes set-ups of both versions of the wire format.
+    pub fn new(alloc: Global) -> Session
+        ensures highest { result.highest ≡ 2 }
+        ensures held { result.held ≡ None }
+    {
+        Session::limited(alloc, 2)
+    }
+
+    /// A session that takes set-ups of versions up to `highest`, which is 1 or 2.
+    pub fn limited(alloc: Global, highest: u8) -> Session
+        ensures highest { result.highest ≡ highest }
+        ensures held { result.held ≡ None }
+    {
+        Session {
+            alloc,
+            highest,
+            held: None,
+        }
+    }
+
+    /// Does the turn of one frame, and appends the reply to `out`. True for Halt, after which the session holds nothing.
+    ///
+    /// A set-up starts the worker anew, with an empty part and zeros; one of version 2 is answered by the report of a quiet
+    /// worker. Vertices are added to the part, before the first values or Go. Values are joined to the map: Values under version
+    /// 1, Sparse under version 2. Go lets the worker lift, and is answered by frames of the measures of the vertices that were
+    /// lifted, each once, rising, and a report.
+    ///
+    /// Faults: `Wire(Version)` for a set-up of a version above the session's highest; `Order` for a frame out of turn, and for
+    /// vertices that don't rise; `BadUpdate` for lines, a width or values that don't fit the game; `OutOfMemory`. After a fault
+    /// `out` is as before, and the session holds nothing.
+    pub fn frame(&mut self, frame: &Frame, out: &mut Vec<u8>) -> Result<bool, WorkerFault>
+        requires { IsWell frame.now }
+        ensures highest { self.new.highest ≡ self.old.highest }
+        ensures turn { OnOk result ((reply : List ℕ) × Turn self.old.held frame.now self.new.held reply × (out.new.items ≡ out.old.items ++ reply)) }
+        ensures halt { IfOk result (λ halts. IsTrue halts ↔ (frame.now ≡ Halt)) }
+        ensures refused { IfErr result (λ e. (e ≡ WorkerFault.OutOfMemory) ⊎ Refuses self.old.highest self.old.held frame.now e) }
+        ensures same { OnErr result (out.new.items ≡ out.old.items) }
+        ensures empty { OnErr result (self.new.held ≡ None) }
+    {
+        let held = self.held.take();
+        let len = out.len();
+        match turn(self.alloc, self.highest, held, frame, out) {
+            Ok(held) => {
+                self.held = held;
+                Ok(matches!(frame, Frame::Halt))
+            }
+            Err(fault) => {
+                out.truncate(len);
+                Err(fault)
+            }
+        }
+    }
+}
