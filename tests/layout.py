@@ -188,17 +188,18 @@ def write_map():
 
 
 def write_definitions():
-    """Sets the files of the entries whose names stand in one other file of their crate."""
+    """Sets the files of entries, also of those that name none yet, where each name stands in one file of the crate."""
     text, crate = [], None
     for row in DEFINITIONS.read_text().split("\n"):
         crate = re.match(r"## .*\(`(\w+)`\)|", row)[1] or crate
         if row.startswith("| `"):
-            first, files, rest = row.split(" | ", 2)
+            first, files, rest = re.fullmatch(r"(.*?) \| (?:(`\w+\.antt`(?:, `\w+\.antt`)*) \| )?(.*)", row).groups()
             names = [words.split()[0] for words in re.findall(r"`([^`]+)`", first)]
-            found = [[path.name for path in modules()[0] if shown(path).startswith(f"{crate}/") and defined(name, path)] for name in names]
-            if all(len(set(it)) == 1 for it in found):
+            own = [path for path in modules()[0] if shown(path).startswith(f"{crate}/")]
+            found = [[path.name for path in own if defined(name, path)] for name in names]
+            if all(len(it) == 1 for it in found):
                 files = ", ".join(f"`{name}`" for name in dict.fromkeys(it[0] for it in found))
-            row = " | ".join((first, files, rest))
+            row = " | ".join(cell for cell in (first, files, rest) if cell)
         text.append(row)
     DEFINITIONS.write_text("\n".join(text))
 
