@@ -9,7 +9,7 @@ use Rattle.pg_arena.specs.Lines.{Line}
 use Rattle.pg_text.specs.Lexemes.{Lexeme, number, semicolon, end, clause_lexemes}
 use Rattle.pg_text.specs.Numbers.{numbers_lexemes}
 use Rattle.pg_text.specs.GameText.{player_number, name_lexemes, line_lexemes, game_lexemes}
-use Rattle.pg_text.specs.GamePlaces.{Place, at_front, behind_parity, behind_parity_number, behind_header, behind_start, behind_start_number, behind_line, behind_identifier, behind_priority, behind_owner, behind_successor, behind_comma, behind_name, behind_end, after, after_all, part_place}
+use Rattle.pg_text.specs.Places.{Place, at_front, behind_parity, behind_parity_number, behind_header, behind_start, behind_start_number, behind_line, behind_identifier, behind_priority, behind_owner, behind_successor, behind_comma, behind_name, at_solution_front, behind_paritysol, behind_paritysol_number, behind_answer, behind_answer_identifier, behind_winner, behind_strategy, behind_end, after, after_all, part_place}
 use Rattle.pg_text.specs.GamePlaceLaws.{HaveSuccessors}
 use Rattle.pg_text.proofs.Steps.{some_is, none_is_some}
 use Rattle.pg_text.proofs.Misplaced.{others_lead}
@@ -100,4 +100,11 @@ leads_on behind_owner = (number 0 ∷ semicolon ∷ end ∷ [], refl)
 leads_on behind_successor = (semicolon ∷ end ∷ [], refl)
 leads_on behind_comma = (number 0 ∷ semicolon ∷ end ∷ [], refl)
 leads_on behind_name = (semicolon ∷ end ∷ [], refl)
+leads_on at_solution_front = (end ∷ [], refl)
+leads_on behind_paritysol = (number 0 ∷ semicolon ∷ end ∷ [], refl)
+leads_on behind_paritysol_number = (semicolon ∷ end ∷ [], refl)
+leads_on behind_answer = (end ∷ [], refl)
+leads_on behind_answer_identifier = (number 0 ∷ semicolon ∷ end ∷ [], refl)
+leads_on behind_winner = (semicolon ∷ end ∷ [], refl)
+leads_on behind_strategy = (semicolon ∷ end ∷ [], refl)
 leads_on behind_end = ([], refl)

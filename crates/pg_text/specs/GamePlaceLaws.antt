@@ -4,7 +4,7 @@ use Rattle.std.specs.List.{AllByRecursion}
 use Rattle.pg_arena.specs.Lines.{Line}
 use Rattle.pg_text.specs.Lexemes.{Lexeme, end}
 use Rattle.pg_text.specs.GameText.{game_lexemes}
-use Rattle.pg_text.specs.GamePlaces.{Place, at_front, behind_end, after, after_all, part_place}
+use Rattle.pg_text.specs.Places.{Place, at_front, behind_end, after, after_all, part_place}
 
 -- each line has a successor
 abbrev pub HaveSuccessors : List Line → Type 0

@@ -10,7 +10,7 @@ use Rattle.pg_arena.specs.Lines.{Line, counted, Accepts, IsGameOf, add_fault, Fi
 use Rattle.pg_text.specs.declared.fault.TextFault.{TextFault}
 use Rattle.pg_text.specs.declared.fault.TextFault.TheVariants.{Syntax, NumberTooLarge, Arena}
 use Rattle.pg_text.specs.Lexemes.{Lexeme, number, semicolon, quoted, end, clause_lexemes, Begins, Spells, after_space, IsTooLarge}
-use Rattle.pg_text.specs.GamePlaces.{Place, after, after_all, part_place}
+use Rattle.pg_text.specs.Places.{Place, IsInner, after, after_all, part_place}
 use Rattle.pg_text.specs.Numbers.{numbers_lexemes}
 
 -- Even is player 0, Odd is player 1
@@ -46,10 +46,6 @@ pub record IsGameText (bytes : List ℕ) (game : List GameVertex) : Type 0 where
   pub text : IsText bytes lines
   pub limits : Accepts [] lines
   pub game_of : IsGameOf (map counted lines) game
-
--- neither the end of a line or of a clause, nor that of the text
-abbrev pub IsInner : Lexeme → Type 0
-IsInner token = (token ≢ semicolon) × (token ≢ end)
 
 -- Behind whole lines that keep the limits, and tokens of a part that isn't whole, stands no token that may stand there.
 -- The rest of the bytes begins there.

@@ -1,7 +1,7 @@
 pub mod Solutions
 pub mod Lexemes
 pub mod Numbers
-pub mod GamePlaces
+pub mod Places
 pub mod GameText
 pub mod GamePlaceLaws
 pub mod GameLayout
