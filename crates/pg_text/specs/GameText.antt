@@ -30,7 +30,8 @@ line_lexemes line = number line.identifier ∷ number line.priority ∷ number (
 -- perhaps a header, perhaps a start, the lines, and what follows them
 abbrev pub game_lexemes : Option ℕ → Option ℕ → List Line → List Lexeme → List Lexeme
 game_lexemes header start lines others =
-    clause_lexemes (codes "parity") header ++ (clause_lexemes (codes "start") start ++ (flat_map line_lexemes lines ++ others))
+    clause_lexemes (codes "parity") header ++ (clause_lexemes (codes "start") start ++
+    (flat_map line_lexemes lines ++ others))
 
 -- The bytes are a text of these lines, in this order. The numbers of the header and of the start may be any.
 pub record IsText (bytes : List ℕ) (lines : List Line) : Type 0 where

@@ -3,10 +3,10 @@ pub mod Lexemes
 pub mod Numbers
 pub mod Places
 pub mod GameText
-pub mod GamePlaceLaws
 pub mod GameLayout
 pub mod ReadBack
 pub mod SolutionText
+pub mod PlaceLaws
 pub mod SolutionLayout
 pub mod SolutionReadBack
 pub mod OneSpelling
