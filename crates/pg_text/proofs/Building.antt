@@ -16,7 +16,7 @@ use Rattle.pg_text.specs.declared.tokens.TokenFault.{TokenFault}
 use Rattle.pg_text.specs.declared.tokens.TokenFault.TheVariants.{Syntax, NumberTooLarge}
 use Rattle.pg_text.specs.Mirrors.Refusals.{arena_fault, token_fault_of, fault_of}
 use Rattle.pg_text.specs.Lexemes.{Lexeme, number, word, semicolon, comma, quoted, end, Begins, Spells, after_space, IsToldAt, clause_lexemes}
-use Rattle.pg_text.specs.GamePlaces.{Place, at_front, behind_parity, behind_parity_number, behind_header, behind_start, behind_start_number, behind_line, to_line, after, part_place}
+use Rattle.pg_text.specs.Places.{Place, at_front, behind_parity, behind_parity_number, behind_header, behind_start, behind_start_number, behind_line, to_line, after, part_place}
 use Rattle.pg_text.specs.GameText.{line_lexemes, IsText, IsMisplaced, HasBadLine}
 use Rattle.pg_text.specs.Mirrors.Steps.{◌>>=◌, Fails, item, stop, items_at}
 use Rattle.pg_text.specs.Mirrors.Parts.{clause_at}

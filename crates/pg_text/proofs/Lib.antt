@@ -8,6 +8,7 @@ pub mod Parts
 pub mod Takes
 pub mod Misplaced
 pub mod Places
+pub mod SolutionMisplaced
 pub mod Texts
 pub mod Building
 pub mod GameTexts

@@ -12,8 +12,8 @@ use Rattle.pg_text.specs.declared.tokens.TokenFault.{TokenFault}
 use Rattle.pg_text.specs.declared.tokens.TokenFault.TheVariants.{Syntax, NumberTooLarge}
 use Rattle.pg_text.specs.Lexemes.{Lexeme, number, word, semicolon, comma, quoted, end, is_digit, value_of, Begins, Spells, after_space, fault_at, token_fault, IsTooLarge, IsToldAt}
 use Rattle.pg_text.specs.Numbers.{comma_number_lexemes, numbers_lexemes}
-use Rattle.pg_text.specs.GamePlaces.{Place, behind_line, behind_identifier, behind_priority, behind_owner, behind_successor, behind_comma, behind_name, to_number, to_semicolon, to_line, after, after_all}
-use Rattle.pg_text.specs.GameText.{IsInner, player_number}
+use Rattle.pg_text.specs.Places.{IsInner, Place, behind_line, behind_identifier, behind_priority, behind_owner, behind_successor, behind_comma, behind_name, to_number, to_semicolon, to_player, to_line, after, after_all}
+use Rattle.pg_text.specs.GameText.{player_number}
 use Rattle.pg_text.specs.Mirrors.Steps.{◌>>=◌, Read, Step, item, stop, unexpected, after_step, items_within, items_at}
 use Rattle.pg_text.specs.Mirrors.Scan.{number_at, solid_at, lexeme_at, or_fault, token_at}
 use Rattle.pg_text.specs.Mirrors.Parts.{number_in, natural_at, semicolon_in, semicolon_at, clause_in, clause_at, further_in, further_at, numbers_at}
@@ -65,7 +65,7 @@ solid_none (b ∷ bytes) e =
       | false ↦ λ h. (refl, no_number b bytes h)
     ] refl
 
-err_same : {A : Type 0} (f g : TokenFault) → (let r : Read A = Err f in r) ≡ Err g → f ≡ g
+pub err_same : {A : Type 0} (f g : TokenFault) → (let r : Read A = Err f in r) ≡ Err g → f ≡ g
 err_same f g e = cc
 
 token_err_told : (bytes : List ℕ) (fault : TokenFault) → token_at bytes ≡ Err fault → IsToldAt (after_space bytes) fault
@@ -96,7 +96,7 @@ pub record Stuck (place : Place) (bytes : List ℕ) (fault : TokenFault) : Type 
   pub none : (token : Lexeme) (behind : List ℕ) → Begins rest token behind → after there token ≡ None
   pub told : IsToldAt (after_space rest) fault
 
-token_stuck : (place : Place) (bytes : List ℕ) (fault : TokenFault) → token_at bytes ≡ Err fault → Stuck place bytes fault
+pub token_stuck : (place : Place) (bytes : List ℕ) (fault : TokenFault) → token_at bytes ≡ Err fault → Stuck place bytes fault
 token_stuck place bytes fault e = record {
   tokens = [];
   rest = bytes;
@@ -109,7 +109,7 @@ token_stuck place bytes fault e = record {
 }
 
 -- this token may not stand there
-wrong : (place : Place) (bytes : List ℕ) (token : Lexeme) (rest : List ℕ) (fault : TokenFault) → token_at bytes ≡ Ok (token, rest) → after place token ≡ None → (let r : Read ℕ = Err (unexpected bytes) in r) ≡ Err fault → Stuck place bytes fault
+pub wrong : (place : Place) (bytes : List ℕ) (token : Lexeme) (rest : List ℕ) (fault : TokenFault) → token_at bytes ≡ Ok (token, rest) → after place token ≡ None → (let r : Read ℕ = Err (unexpected bytes) in r) ≡ Err fault → Stuck place bytes fault
 wrong place bytes token rest fault e refused same = subst (Stuck place bytes) (err_same (unexpected bytes) fault same) (record {
   tokens = [];
   rest = bytes;
@@ -124,7 +124,7 @@ wrong place bytes token rest fault e refused same = subst (Stuck place bytes) (e
 })
 
 -- a token that may stand there
-step : (place next : Place) (bytes : List ℕ) (token : Lexeme) (mid : List ℕ) (fault : TokenFault) → Begins bytes token mid → IsInner token → after place token ≡ Some next → Stuck next mid fault → Stuck place bytes fault
+pub step : (place next : Place) (bytes : List ℕ) (token : Lexeme) (mid : List ℕ) (fault : TokenFault) → Begins bytes token mid → IsInner token → after place token ≡ Some next → Stuck next mid fault → Stuck place bytes fault
 step place next bytes token mid fault b inner e s = record {
   tokens = token ∷ s.tokens;
   rest = s.rest;
@@ -136,7 +136,7 @@ step place next bytes token mid fault b inner e s = record {
   told = s.told;
 }
 
-number_inner : (n : ℕ) → IsInner (number n)
+pub number_inner : (n : ℕ) → IsInner (number n)
 number_inner n = (λ e. cc, λ e. cc)
 
 -- which of two steps failed
@@ -146,7 +146,7 @@ bind_err (Ok x) f fault e = inr (x, refl, e)
 
 -- ---- parts
 
-natural_stuck : (place next : Place) (bytes : List ℕ) (fault : TokenFault) → ((token : Lexeme) → after place token ≡ to_number next token) → natural_at bytes ≡ Err fault → Stuck place bytes fault
+pub natural_stuck : (place next : Place) (bytes : List ℕ) (fault : TokenFault) → ((token : Lexeme) → after place token ≡ to_number next token) → natural_at bytes ≡ Err fault → Stuck place bytes fault
 unfolding natural_at
 natural_stuck place next bytes fault is e = go (token_at bytes) refl e
   where
@@ -159,7 +159,7 @@ natural_stuck place next bytes fault is e = go (token_at bytes) refl e
     go (Ok (quoted s, rest)) h k = wrong place bytes (quoted s) rest fault h (is (quoted s)) cc
     go (Ok (end, rest)) h k = wrong place bytes end rest fault h (is end) cc
 
-semicolon_stuck : (place next : Place) (bytes : List ℕ) (fault : TokenFault) → ((token : Lexeme) → after place token ≡ to_semicolon next token) → semicolon_at bytes ≡ Err fault → Stuck place bytes fault
+pub semicolon_stuck : (place next : Place) (bytes : List ℕ) (fault : TokenFault) → ((token : Lexeme) → after place token ≡ to_semicolon next token) → semicolon_at bytes ≡ Err fault → Stuck place bytes fault
 unfolding semicolon_at
 semicolon_stuck place next bytes fault is e = go (token_at bytes) refl e
   where
@@ -172,20 +172,20 @@ semicolon_stuck place next bytes fault is e = go (token_at bytes) refl e
     go (Ok (quoted s, rest)) h k = wrong place bytes (quoted s) rest fault h (is (quoted s)) cc
     go (Ok (end, rest)) h k = wrong place bytes end rest fault h (is end) cc
 
-owner_stuck : (bytes : List ℕ) (fault : TokenFault) → owner_at bytes ≡ Err fault → Stuck behind_priority bytes fault
+pub owner_stuck : (place next : Place) (bytes : List ℕ) (fault : TokenFault) → ((token : Lexeme) → after place token ≡ to_player next token) → owner_at bytes ≡ Err fault → Stuck place bytes fault
 unfolding owner_at natural_at
-owner_stuck bytes fault e = go (token_at bytes) refl e
+owner_stuck place next bytes fault is e = go (token_at bytes) refl e
   where
-    go : (o : Read (Lexeme × List ℕ)) → token_at bytes ≡ o → ((o >>= number_in bytes) >>= player_in bytes) ≡ Err fault → Stuck behind_priority bytes fault
-    go (Err f) h k = token_stuck behind_priority bytes fault (h ∙ ap (λ (g : TokenFault). err g) (err_same f fault k))
+    go : (o : Read (Lexeme × List ℕ)) → token_at bytes ≡ o → ((o >>= number_in bytes) >>= player_in bytes) ≡ Err fault → Stuck place bytes fault
+    go (Err f) h k = token_stuck place bytes fault (h ∙ ap (λ (g : TokenFault). err g) (err_same f fault k))
     go (Ok (number zero, rest)) h k = absurd cc
     go (Ok (number (suc zero), rest)) h k = absurd cc
-    go (Ok (number (suc (suc n)), rest)) h k = wrong behind_priority bytes (number (suc (suc n))) rest fault h refl cc
-    go (Ok (word w, rest)) h k = wrong behind_priority bytes (word w) rest fault h refl cc
-    go (Ok (semicolon, rest)) h k = wrong behind_priority bytes semicolon rest fault h refl cc
-    go (Ok (comma, rest)) h k = wrong behind_priority bytes comma rest fault h refl cc
-    go (Ok (quoted s, rest)) h k = wrong behind_priority bytes (quoted s) rest fault h refl cc
-    go (Ok (end, rest)) h k = wrong behind_priority bytes end rest fault h refl cc
+    go (Ok (number (suc (suc n)), rest)) h k = wrong place bytes (number (suc (suc n))) rest fault h (is (number (suc (suc n)))) cc
+    go (Ok (word w, rest)) h k = wrong place bytes (word w) rest fault h (is (word w)) cc
+    go (Ok (semicolon, rest)) h k = wrong place bytes semicolon rest fault h (is semicolon) cc
+    go (Ok (comma, rest)) h k = wrong place bytes comma rest fault h (is comma) cc
+    go (Ok (quoted s, rest)) h k = wrong place bytes (quoted s) rest fault h (is (quoted s)) cc
+    go (Ok (end, rest)) h k = wrong place bytes end rest fault h (is end) cc
 
 -- ---- numbers with commas between
 
@@ -317,7 +317,7 @@ line_stuck identifier bytes fault e =
       | inl f ↦ natural_stuck behind_identifier behind_priority bytes fault (λ t. refl) f
       | inr a ↦ step behind_identifier behind_priority bytes (number a.0.0) a.0.1 fault (natural_takes bytes a.0 a.1) (number_inner a.0.0) refl
           (elim (bind_err (owner_at a.0.1) (λ o. numbers_at o.1 >>= λ s. ending_at s.1 >>= λ n. made a.0.0 o.0 s.0 n) fault a.2) [
-            | inl f ↦ owner_stuck a.0.1 fault f
+            | inl f ↦ owner_stuck behind_priority behind_owner a.0.1 fault (λ t. refl) f
             | inr b ↦ step behind_priority behind_owner a.0.1 (number (player_number b.0.0)) b.0.1 fault (owner_takes a.0.1 b.0 b.1) (number_inner (player_number b.0.0)) (owner_leads b.0.0)
                 (elim (bind_err (numbers_at b.0.1) (λ s. ending_at s.1 >>= λ n. made a.0.0 b.0.0 s.0 n) fault b.2) [
                   | inl f ↦ numbers_stuck b.0.1 fault f

@@ -1,4 +1,4 @@
--- The tokens of a text of a game lead from place to place.
+-- The tokens of texts lead from place to place.
 use Rattle.std.proofs.Common.{◌≡◌, ◌≢◌, ℕ, List, [], ◌∷◌, ◌++◌, Option, Some, None, refl, sym, ap, ◌∙◌, append_assoc}
 use Rattle.std.specs.Prelude.{codes, option_and_then}
 use Rattle.std.specs.List.{flat_map}
@@ -9,8 +9,10 @@ use Rattle.pg_arena.specs.Lines.{Line}
 use Rattle.pg_text.specs.Lexemes.{Lexeme, number, semicolon, end, clause_lexemes}
 use Rattle.pg_text.specs.Numbers.{numbers_lexemes}
 use Rattle.pg_text.specs.GameText.{player_number, name_lexemes, line_lexemes, game_lexemes}
-use Rattle.pg_text.specs.GamePlaces.{Place, at_front, behind_parity, behind_parity_number, behind_header, behind_start, behind_start_number, behind_line, behind_identifier, behind_priority, behind_owner, behind_successor, behind_comma, behind_name, behind_end, after, after_all, part_place}
-use Rattle.pg_text.specs.GamePlaceLaws.{HaveSuccessors}
+use Rattle.pg_text.specs.Places.{Place, at_front, behind_parity, behind_parity_number, behind_header, behind_start, behind_start_number, behind_line, behind_identifier, behind_priority, behind_owner, behind_successor, behind_comma, behind_name, at_solution_front, behind_paritysol, behind_paritysol_number, behind_answer, behind_answer_identifier, behind_winner, behind_strategy, behind_end, after, after_all, part_place, answer_place}
+use Rattle.pg_text.specs.declared.solution_line.SolutionLine.{SolutionLine}
+use Rattle.pg_text.specs.SolutionText.{strategy_lexemes, answer_lexemes, solution_lexemes}
+use Rattle.pg_text.specs.PlaceLaws.{HaveSuccessors}
 use Rattle.pg_text.proofs.Steps.{some_is, none_is_some}
 use Rattle.pg_text.proofs.Misplaced.{others_lead}
 
@@ -86,6 +88,51 @@ none_goes_on tokens place token others e refused header start lines each same =
     ∙ sym (ap (λ (l : List Lexeme). after_all l at_front) same)
     ∙ text_leads header start lines each)
 
+-- ---- solutions
+
+strategy_leads : (strategy : Option ℕ) → after_all (strategy_lexemes strategy ++ semicolon ∷ []) behind_winner ≡ Some behind_answer
+strategy_leads None = refl
+strategy_leads (Some n) = refl
+
+answer_leads : (line : SolutionLine) → after_all (answer_lexemes line) behind_answer ≡ Some behind_answer
+answer_leads line = go line.winner
+  where
+    go : (player : Player) → after_all (number line.identifier ∷ number (player_number player) ∷ (strategy_lexemes line.strategy ++ semicolon ∷ [])) behind_answer ≡ Some behind_answer
+    go Even = strategy_leads line.strategy
+    go Odd = strategy_leads line.strategy
+
+answers_lead : (lines : List SolutionLine) → after_all (flat_map answer_lexemes lines) behind_answer ≡ Some behind_answer
+answers_lead [] = refl
+answers_lead (line ∷ lines) = behind_all (answer_lexemes line) (flat_map answer_lexemes lines) behind_answer behind_answer (answer_leads line) ∙ answers_lead lines
+
+pub solution_leads : (header : Option ℕ) (lines : List SolutionLine) → after_all (solution_lexemes header lines) at_solution_front ≡ Some (answer_place header lines)
+solution_leads None [] = refl
+solution_leads (Some n) [] = refl
+solution_leads None (line ∷ lines) = answers_lead (line ∷ lines)
+solution_leads (Some n) (line ∷ lines) = answers_lead (line ∷ lines)
+
+answer_end : (header : Option ℕ) (lines : List SolutionLine) → after (answer_place header lines) end ≡ Some behind_end
+answer_end None [] = refl
+answer_end (Some n) [] = refl
+answer_end None (line ∷ lines) = refl
+answer_end (Some n) (line ∷ lines) = refl
+
+pub solution_ends : (header : Option ℕ) (lines : List SolutionLine) → after_all (solution_lexemes header lines ++ end ∷ []) at_solution_front ≡ Some behind_end
+solution_ends header lines =
+    behind_all (solution_lexemes header lines) (end ∷ []) at_solution_front (answer_place header lines) (solution_leads header lines)
+    ∙ ap (option_and_then (after_all [])) (answer_end header lines)
+
+pub no_solution_goes_on : (tokens : List Lexeme) (place : Place) (token : Lexeme) (others : List Lexeme) → after_all tokens at_solution_front ≡ Some place → after place token ≡ None
+    → (header : Option ℕ) (lines : List SolutionLine) → solution_lexemes header lines ++ end ∷ [] ≢ tokens ++ token ∷ others
+no_solution_goes_on tokens place token others e refused header lines same =
+    none_is_some behind_end
+    (sym (ap (option_and_then (after_all others)) refused)
+    ∙ sym (behind_all tokens (token ∷ others) at_solution_front place e)
+    ∙ sym (ap (λ (l : List Lexeme). after_all l at_solution_front) same)
+    ∙ solution_ends header lines)
+
+-- ---- from each place
+
 pub leads_on : (place : Place) → (tokens : List Lexeme) × (after_all tokens place ≡ Some behind_end)
 leads_on at_front = (end ∷ [], refl)
 leads_on behind_parity = (number 0 ∷ semicolon ∷ end ∷ [], refl)
@@ -100,4 +147,11 @@ leads_on behind_owner = (number 0 ∷ semicolon ∷ end ∷ [], refl)
 leads_on behind_successor = (semicolon ∷ end ∷ [], refl)
 leads_on behind_comma = (number 0 ∷ semicolon ∷ end ∷ [], refl)
 leads_on behind_name = (semicolon ∷ end ∷ [], refl)
+leads_on at_solution_front = (end ∷ [], refl)
+leads_on behind_paritysol = (number 0 ∷ semicolon ∷ end ∷ [], refl)
+leads_on behind_paritysol_number = (semicolon ∷ end ∷ [], refl)
+leads_on behind_answer = (end ∷ [], refl)
+leads_on behind_answer_identifier = (number 0 ∷ semicolon ∷ end ∷ [], refl)
+leads_on behind_winner = (semicolon ∷ end ∷ [], refl)
+leads_on behind_strategy = (semicolon ∷ end ∷ [], refl)
 leads_on behind_end = ([], refl)

@@ -121,13 +121,13 @@ line_shrinks = record {
 -- ---- the header, and the whole
 
 -- the header is read, and the rest stands behind it
-pub header_takes : (bytes : List ℕ) (header : Option ℕ) (start : List ℕ) → clause_at (codes "paritysol") bytes ≡ Ok (header, start) → BeginsWithLines bytes [] start
+abbrev pub header_takes : (bytes : List ℕ) (header : Option ℕ) (start : List ℕ) → clause_at (codes "paritysol") bytes ≡ Ok (header, start) → BeginsWithLines bytes [] start
 header_takes bytes header start e =
     let taken = clause_takes (codes "paritysol") bytes (header, start) e in
     record { header = header; spelt = subst (λ (tokens : List Lexeme). Spells bytes tokens start) (sym (append-nil (clause_lexemes (codes "paritysol") header))) taken }
 
 -- one line more
-pub begins_more : (bytes : List ℕ) (lines : List SolutionLine) (mid : List ℕ) (line : SolutionLine) (rest : List ℕ) → BeginsWithLines bytes lines mid → Spells mid (answer_lexemes line) rest → BeginsWithLines bytes (lines ++ line ∷ []) rest
+abbrev pub begins_more : (bytes : List ℕ) (lines : List SolutionLine) (mid : List ℕ) (line : SolutionLine) (rest : List ℕ) → BeginsWithLines bytes lines mid → Spells mid (answer_lexemes line) rest → BeginsWithLines bytes (lines ++ line ∷ []) rest
 begins_more bytes lines mid line rest b s =
     let one : flat_map answer_lexemes (lines ++ line ∷ []) ≡ flat_map answer_lexemes lines ++ answer_lexemes line = flat_map-append answer_lexemes lines (line ∷ []) ∙ ap (λ (t : List Lexeme). flat_map answer_lexemes lines ++ t) (flat_map-cons answer_lexemes line [] ∙ append-nil (answer_lexemes line)) in
     let all : solution_lexemes b.header (lines ++ line ∷ []) ≡ solution_lexemes b.header lines ++ answer_lexemes line = ap (λ (t : List Lexeme). clause_lexemes (codes "paritysol") b.header ++ t) one ∙ sym (append_assoc (clause_lexemes (codes "paritysol") b.header) (flat_map answer_lexemes lines) (answer_lexemes line)) in

@@ -1,7 +1,9 @@
 -- A solution text read line by line.
 use Rattle.std.proofs.Common.{◌≡◌, ◌≢◌, ℕ, ◌-◌, ◌<◌, Bool, true, false, cond, eqb, List, [], ◌∷◌, ◌++◌, length, Option, None, Ok, Err, refl, sym, ap, subst, ◌∙◌, arith, inl, inr, append_assoc}
 use Rattle.std.specs.Prelude.{codes, replicate}
-use Rattle.std.specs.List.{list_any, AllByRecursion}
+use Rattle.std.specs.List.{list_any, flat_map, AllByRecursion}
+use Rattle.std.proofs.lemmas.List.{append-nil}
+use Rattle.std.proofs.lemmas.Grind.{flat_map-append}
 use Rattle.pg_arena.specs.Games.{GameVertex, identifier, IsGame}
 use Rattle.pg_text.specs.declared.answer.Answer.{Answer}
 use Rattle.pg_text.specs.declared.solution_line.SolutionLine.{SolutionLine}
@@ -12,16 +14,19 @@ use Rattle.pg_text.specs.declared.tokens.TokenFault.{TokenFault}
 use Rattle.pg_text.specs.declared.fault.TextFault.{TextFault}
 use Rattle.pg_text.specs.declared.fault.TextFault.TheVariants as text
 use Rattle.pg_text.specs.Mirrors.Refusals.{token_fault_of}
-use Rattle.pg_text.specs.Lexemes.{Lexeme, number, word, end, Begins, after_space}
+use Rattle.pg_text.specs.Lexemes.{Lexeme, number, word, end, Begins, Spells, after_space, IsToldAt}
+use Rattle.pg_text.specs.Places.{after_all, answer_place}
 use Rattle.pg_text.specs.Mirrors.Steps.{◌>>=◌, Read, Step, item, stop, items_at}
 use Rattle.pg_text.specs.Mirrors.Parts.{clause_at}
 use Rattle.pg_text.specs.Solutions.{unanswered}
-use Rattle.pg_text.specs.SolutionText.{BeginsWithLines, AreLines, Fits, line_count, answers, IsSolutionText, SpellsNoSolution, has_line, StartsLine, BeginsUnfit, IsFirstMissing, IsNoText, RefusesSolution}
+use Rattle.pg_text.specs.SolutionText.{answer_lexemes, BeginsWithLines, AreLines, Fits, line_count, answers, IsSolutionText, SpellsNoSolution, has_line, StartsLine, BeginsUnfit, IsFirstMissing, IsNoText, RefusesSolution}
 use Rattle.pg_text.specs.Mirrors.SolutionScan.{next_answer_at, answers_at}
 use Rattle.pg_text.specs.Mirrors.SolutionReading.{Puts, State, IsMarked, IsUnmarked, IsMisfit, BeginsMisfit, BeginsWell, HasRead, IsRefused, is_complete, misfit_fault}
 use Rattle.pg_text.proofs.Steps.{bind_ok, ok, ok_is, err_is_ok}
 use Rattle.pg_text.proofs.Items.{with_front, nothing_yet, goes_on, items_err}
 use Rattle.pg_text.proofs.Parts.{clause_absent}
+use Rattle.pg_text.proofs.Spelling.{spells_append}
+use Rattle.pg_text.proofs.SolutionMisplaced.{header_stuck, line_stuck}
 use Rattle.pg_text.proofs.Misfits.{same_token, starts_with, unfit_front, front_starts, line_front}
 use Rattle.pg_text.proofs.SolutionLines.{line_takes, line_again, end_takes, end_again, line_shrinks, header_takes, begins_more, lines_end, answers_again}
 use Rattle.pg_text.proofs.Marking.{all_at, nothing_read, reads_more, named_if, answered_is, all_answered, text_fits, read_fits, read_taken, no_line, one_too_many, reads_same, reads_text}
@@ -33,7 +38,9 @@ pub record Reading (bytes : List ℕ) (game : List GameVertex) (solution : List 
   pub header : Option ℕ
   pub header_read : clause_at (codes "paritysol") bytes ≡ Ok (header, start)
   pub so_far : with_front front (items_at next_answer_at rest) ≡ items_at next_answer_at start
+  pub spelt : Spells start (flat_map answer_lexemes front) rest
   pub begins : BeginsWithLines bytes front rest
+  pub same_header : begins.header ≡ header
   pub state : State game front solution seen
 
 pub starts : (bytes : List ℕ) (game : List GameVertex) (solution : List Answer) (seen : List Bool) (header : Option ℕ) (start : List ℕ) → clause_at (codes "paritysol") bytes ≡ Ok (header, start)
@@ -44,9 +51,17 @@ starts bytes game solution seen header start read s m = record {
   header = header;
   header_read = read;
   so_far = nothing_yet (items_at next_answer_at start);
+  spelt = refl;
   begins = header_takes bytes header start read;
+  same_header = refl;
   state = rw (s, m) (nothing_read game);
 }
+
+-- one line more behind others
+lines_more : (start : List ℕ) (front : List SolutionLine) (rest : List ℕ) (line : SolutionLine) (after : List ℕ) → Spells start (flat_map answer_lexemes front) rest → Spells rest (answer_lexemes line) after → Spells start (flat_map answer_lexemes (front ++ line ∷ [])) after
+lines_more start front rest line after s t =
+    let one : flat_map answer_lexemes (front ++ line ∷ []) ≡ flat_map answer_lexemes front ++ answer_lexemes line = flat_map-append answer_lexemes front (line ∷ []) ∙ ap (λ (l : List Lexeme). flat_map answer_lexemes front ++ l) (append-nil (answer_lexemes line)) in
+    subst (λ (tokens : List Lexeme). Spells start tokens after) (sym one) (spells_append (flat_map answer_lexemes front) (answer_lexemes line) start rest after s t)
 
 pub goes : (bytes : List ℕ) (game : List GameVertex) (solution : List Answer) (seen : List Bool) (rest : List ℕ) (line : SolutionLine) (after : List ℕ) (solution' : List Answer) (seen' : List Bool)
     → IsGame game → Reading bytes game solution seen rest → next_answer_at rest ≡ Ok (item line, after) → Puts game line solution seen solution' seen' → Reading bytes game solution' seen' after
@@ -56,7 +71,9 @@ goes bytes game solution seen rest line after solution' seen' well r e p = recor
   header = r.header;
   header_read = r.header_read;
   so_far = goes_on next_answer_at line_shrinks r.front rest line after (items_at next_answer_at r.start) e r.so_far;
+  spelt = lines_more r.start r.front rest line after r.spelt (line_takes rest line after e);
   begins = begins_more bytes r.front rest line after r.begins (line_takes rest line after e);
+  same_header = r.same_header;
   state = reads_more game r.front line solution seen solution' seen' well r.state p;
 }
 
@@ -72,9 +89,10 @@ unnamed game lines n solution seen s unmarked = no_line game lines n (read_fits 
 nothing_spelt : (bytes : List ℕ) (game : List GameVertex) (fault : TokenFault) → answers_at bytes ≡ Err fault → SpellsNoSolution bytes game
 nothing_spelt bytes game fault h = λ solution t. err_is_ok fault t.lines (sym h ∙ answers_again bytes t.lines t.text)
 
-refused : (bytes : List ℕ) (game : List GameVertex) (fault : TokenFault) (len : ℕ) → SpellsNoSolution bytes game → IsNoText bytes game → IsRefused bytes game (token_fault_of len fault)
-refused bytes game (tokens.Syntax left) len none no_text = (none, inr no_text)
-refused bytes game (tokens.NumberTooLarge left) len none no_text = (none, no_text)
+refused : (bytes : List ℕ) (game : List GameVertex) (fault : TokenFault) (rest : List ℕ) → SpellsNoSolution bytes game → IsToldAt (after_space rest) fault
+    → ((offset : ℕ) → offset ≡ length bytes - length (after_space rest) → IsNoText bytes game offset rest) → IsRefused bytes game (token_fault_of (length bytes) fault)
+refused bytes game (tokens.Syntax left) rest none told no_text = (none, inr (rest, no_text (length bytes - left) (ap (λ (n : ℕ). length bytes - n) told.0), told.1))
+refused bytes game (tokens.NumberTooLarge left) rest none told no_text = (none, (rest, no_text (length bytes - left) (ap (λ (n : ℕ). length bytes - n) told.0), told.1))
 
 no_lines : (bytes : List ℕ) (fault : TokenFault) → clause_at (codes "paritysol") bytes ≡ Err fault → answers_at bytes ≡ Err fault
 unfolding answers_at
@@ -84,17 +102,26 @@ no_lines bytes fault e = rw e refl
 no_header : (bytes : List ℕ) (fault : TokenFault) (token : Lexeme) (rest : List ℕ) → (token ≡ word (codes "paritysol") → ⊥) → clause_at (codes "paritysol") bytes ≡ Err fault → ¬ Begins bytes token rest
 no_header bytes fault token rest other e b = err_is_ok fault _ (sym e ∙ clause_absent (codes "paritysol") bytes token rest other b)
 
-pub fails_header : (bytes : List ℕ) (game : List GameVertex) (fault : TokenFault) (len : ℕ) → clause_at (codes "paritysol") bytes ≡ Err fault → IsRefused bytes game (token_fault_of len fault)
-fails_header bytes game fault len e = refused bytes game fault len (nothing_spelt bytes game fault (no_lines bytes fault e)) (record {
-  before = [];
-  here = bytes;
-  begins = record { header = None; spelt = refl };
-  taken = record { fitting = tt; single = λ v within. omega arith };
-  no_line = λ line rest s. no_header bytes fault (number line.identifier) s.0 (λ e. cc) e s.1;
-  no_end = λ s. no_header bytes fault end s.0 (λ e. cc) e s.1;
-  new = λ n s. refl;
-  no_unfit = λ n b. let s = front_starts game bytes n b in no_header bytes fault (number n) s.stands.0 (λ e. cc) e s.stands.1;
-})
+pub fails_header : (bytes : List ℕ) (game : List GameVertex) (fault : TokenFault) → clause_at (codes "paritysol") bytes ≡ Err fault → IsRefused bytes game (token_fault_of (length bytes) fault)
+fails_header bytes game fault e =
+    let s = header_stuck bytes fault e in
+    refused bytes game fault s.rest (nothing_spelt bytes game fault (no_lines bytes fault e)) s.told (λ offset place. record {
+      before = [];
+      here = bytes;
+      begins = record { header = None; spelt = refl };
+      taken = record { fitting = tt; single = λ v within. omega arith };
+      no_line = λ line rest l. no_header bytes fault (number line.identifier) l.0 (λ e. cc) e l.1;
+      no_end = λ l. no_header bytes fault end l.0 (λ e. cc) e l.1;
+      new = λ n l. refl;
+      no_unfit = λ n b. let l = front_starts game bytes n b in no_header bytes fault (number n) l.stands.0 (λ e. cc) e l.stands.1;
+      others = s.tokens;
+      place = s.there;
+      spelt = s.spelt;
+      inner = s.inner;
+      leads = s.leads;
+      none = s.none;
+      told = place;
+    })
 
 no_items : (bytes : List ℕ) (header : Option ℕ) (start : List ℕ) (fault : TokenFault) → clause_at (codes "paritysol") bytes ≡ Ok (header, start) → items_at next_answer_at start ≡ Err fault → answers_at bytes ≡ Err fault
 unfolding answers_at
@@ -103,17 +130,26 @@ no_items bytes header start fault e h = rw (e, h) refl
 unread : (bytes : List ℕ) (game : List GameVertex) (solution : List Answer) (seen : List Bool) (rest : List ℕ) (fault : TokenFault) → Reading bytes game solution seen rest → next_answer_at rest ≡ Err fault → answers_at bytes ≡ Err fault
 unread bytes game solution seen rest fault r e = no_items bytes r.header r.start fault r.header_read (sym r.so_far ∙ ap (with_front r.front) (items_err next_answer_at rest fault e))
 
-pub fails_line : (bytes : List ℕ) (game : List GameVertex) (solution : List Answer) (seen : List Bool) (rest : List ℕ) (fault : TokenFault) (len : ℕ) → Reading bytes game solution seen rest → next_answer_at rest ≡ Err fault → BeginsWell game seen rest → IsRefused bytes game (token_fault_of len fault)
-fails_line bytes game solution seen rest fault len r e well = refused bytes game fault len (nothing_spelt bytes game fault (unread bytes game solution seen rest fault r e)) (record {
-  before = r.front;
-  here = rest;
-  begins = r.begins;
-  taken = read_taken game r.front solution seen r.state;
-  no_line = λ line after s. err_is_ok fault _ (sym e ∙ line_again rest line after s);
-  no_end = λ s. err_is_ok fault _ (sym e ∙ end_again rest s.0 s.1);
-  new = λ n s. unnamed game r.front n solution seen r.state (well.fresh n s);
-  no_unfit = well.no_unfit;
-})
+pub fails_line : (bytes : List ℕ) (game : List GameVertex) (solution : List Answer) (seen : List Bool) (rest : List ℕ) (fault : TokenFault) → Reading bytes game solution seen rest → next_answer_at rest ≡ Err fault → BeginsWell game seen rest → IsRefused bytes game (token_fault_of (length bytes) fault)
+fails_line bytes game solution seen rest fault r e well =
+    let s = line_stuck bytes r.start r.header r.front rest fault r.header_read r.spelt e in
+    refused bytes game fault s.rest (nothing_spelt bytes game fault (unread bytes game solution seen rest fault r e)) s.told (λ offset place. record {
+      before = r.front;
+      here = rest;
+      begins = r.begins;
+      taken = read_taken game r.front solution seen r.state;
+      no_line = λ line after l. err_is_ok fault _ (sym e ∙ line_again rest line after l);
+      no_end = λ l. err_is_ok fault _ (sym e ∙ end_again rest l.0 l.1);
+      new = λ n l. unnamed game r.front n solution seen r.state (well.fresh n l);
+      no_unfit = well.no_unfit;
+      others = s.tokens;
+      place = s.there;
+      spelt = s.spelt;
+      inner = s.inner;
+      leads = ap (λ (h : Option ℕ). after_all s.tokens (answer_place h r.front)) r.same_header ∙ s.leads;
+      none = s.none;
+      told = place;
+    })
 
 -- ---- a line that doesn't fit
 

@@ -21,4 +21,5 @@ line_text line =
 -- a header with the greatest identifier, which is that of the last vertex, and a line for each vertex
 abbrev pub game_text : List GameVertex → List ℕ
 game_text game =
-    codes "parity " ++ (decimal (identifier game (length game - 1)) ++ (codes ";\n" ++ flat_map line_text (lines_of game)))
+    codes "parity " ++ (decimal (identifier game (length game - 1)) ++ (codes ";\n" ++
+    flat_map line_text (lines_of game)))

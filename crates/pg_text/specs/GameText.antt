@@ -10,7 +10,7 @@ use Rattle.pg_arena.specs.Lines.{Line, counted, Accepts, IsGameOf, add_fault, Fi
 use Rattle.pg_text.specs.declared.fault.TextFault.{TextFault}
 use Rattle.pg_text.specs.declared.fault.TextFault.TheVariants.{Syntax, NumberTooLarge, Arena}
 use Rattle.pg_text.specs.Lexemes.{Lexeme, number, semicolon, quoted, end, clause_lexemes, Begins, Spells, after_space, IsTooLarge}
-use Rattle.pg_text.specs.GamePlaces.{Place, after, after_all, part_place}
+use Rattle.pg_text.specs.Places.{Place, IsInner, after, after_all, part_place}
 use Rattle.pg_text.specs.Numbers.{numbers_lexemes}
 
 -- Even is player 0, Odd is player 1
@@ -30,7 +30,8 @@ line_lexemes line = number line.identifier ∷ number line.priority ∷ number (
 -- perhaps a header, perhaps a start, the lines, and what follows them
 abbrev pub game_lexemes : Option ℕ → Option ℕ → List Line → List Lexeme → List Lexeme
 game_lexemes header start lines others =
-    clause_lexemes (codes "parity") header ++ (clause_lexemes (codes "start") start ++ (flat_map line_lexemes lines ++ others))
+    clause_lexemes (codes "parity") header ++ (clause_lexemes (codes "start") start ++
+    (flat_map line_lexemes lines ++ others))
 
 -- The bytes are a text of these lines, in this order. The numbers of the header and of the start may be any.
 pub record IsText (bytes : List ℕ) (lines : List Line) : Type 0 where
@@ -46,10 +47,6 @@ pub record IsGameText (bytes : List ℕ) (game : List GameVertex) : Type 0 where
   pub text : IsText bytes lines
   pub limits : Accepts [] lines
   pub game_of : IsGameOf (map counted lines) game
-
--- neither the end of a line or of a clause, nor that of the text
-abbrev pub IsInner : Lexeme → Type 0
-IsInner token = (token ≢ semicolon) × (token ≢ end)
 
 -- Behind whole lines that keep the limits, and tokens of a part that isn't whole, stands no token that may stand there.
 -- The rest of the bytes begins there.

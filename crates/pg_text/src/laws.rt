@@ -1,6 +1,6 @@
 //! Laws of the definitions: functions that do nothing, whose contracts state them.
 
-ghost use Rattle.pg_text.specs.GamePlaceLaws.{PartsLead, NoTextGoesOn, PlacesLeadOn};
+ghost use Rattle.pg_text.specs.PlaceLaws.{PartsLead, NoTextGoesOn, SolutionPartsLead, NoSolutionGoesOn, PlacesLeadOn};
 ghost use Rattle.pg_text.specs.Limits.{AcceptsWithinLimits, NamesSuccessors};
 ghost use Rattle.pg_text.specs.OneSpelling.{SpellsOneGame, SpellsOneSolution};
 ghost use Rattle.pg_text.specs.ReadBack.{GameReadsBack};
@@ -46,4 +46,11 @@ pub fn places_of_a_game()
     ensures parts { PartsLead }
     ensures only { NoTextGoesOn }
     ensures lead_on { PlacesLeadOn }
+{}
+
+/// The places of a solution text are those of its grammar: a header and lines lead from the front to the place behind
+/// them, and no text goes on with a token that may not stand at a place.
+pub fn places_of_a_solution()
+    ensures parts { SolutionPartsLead }
+    ensures only { NoSolutionGoesOn }
 {}

@@ -7,7 +7,7 @@ use Rattle.pg_text.proofs.SolutionLines.{line_shrinks}
 use Rattle.pg_text.proofs.solution_text.read_lines.Goals as goal
 
 pub returns-in-Err-clause-refused : goal.returns-in-Err-clause-refused
-returns-in-Err-clause-refused c = rw c.in_text.ensures (fails_header c.args.bytes.now c.args.game.now c.in-Err.fault (length c.args.bytes.now) c.in-Err.ensures)
+returns-in-Err-clause-refused c = rw c.in_text.ensures (fails_header c.args.bytes.now c.args.game.now c.in-Err.fault c.in-Err.ensures)
 
 pub lines-init : goal.lines-init
 lines-init c = starts c.args.bytes.now c.args.game.now c.in_ok-solution.solution c.in_ok-seen.seen.items c.in-Ok._header c.in-Ok.rest.now c.in-Ok.ensures c.in_ok-solution.ensures (c.in_ok-seen.ensures.items_if_clones_equal (λ y e. e) ∙ ap (λ (n : ℕ). replicate n false) c.len.ensures.value)
@@ -42,7 +42,7 @@ returns-in-Ok-None-default-clause-read c = finishes c.args.bytes.now c.args.game
     (c.in-Ok-None-default.ensures ∙ ap (λ (o : Option SolutionLine). Ok (answer_seen o, c.in-Ok-None-default.field-0-1.now)) c.in-Ok-None-default.field-0-0-is)
 
 pub returns-in-Err-next_answer-clause-refused : goal.returns-in-Err-next_answer-clause-refused
-returns-in-Err-next_answer-clause-refused c = rw c.in_text-in-Err-next_answer.ensures (fails_line c.args.bytes.now c.args.game.now c.lines.solution c.lines.seen.items c.lines.rest.now c.in-Err-next_answer.fault (length c.args.bytes.now) c.lines.invariant c.in-Err-next_answer.ensures (rw (sym c.deref.ensures.value) c.in_default-early_misfit.ensures.none))
+returns-in-Err-next_answer-clause-refused c = rw c.in_text-in-Err-next_answer.ensures (fails_line c.args.bytes.now c.args.game.now c.lines.solution c.lines.seen.items c.lines.rest.now c.in-Err-next_answer.fault c.lines.invariant c.in-Err-next_answer.ensures (rw (sym c.deref.ensures.value) c.in_default-early_misfit.ensures.none))
 
 pub returns-in-Some-clause-refused : goal.returns-in-Some-clause-refused
 returns-in-Some-clause-refused c =
