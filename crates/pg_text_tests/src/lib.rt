@@ -9,6 +9,8 @@ mod games;
 #[cfg(test)]
 mod limits;
 #[cfg(test)]
+mod parts;
+#[cfg(test)]
 mod places;
 #[cfg(test)]
 mod solution_faults;
