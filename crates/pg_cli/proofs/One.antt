@@ -1,5 +1,5 @@
 -- The answers of `measure` and of `solve` are functions of the input.
-use Rattle.std.proofs.Common.{◌≡◌, ◌⊎◌, ℕ, ◌<◌, ◌≤◌, List, length, get_or, Option, Some, None, refl, sym, ap, ap₂, subst, inl, inr, ◌∙◌, arith}
+use Rattle.std.proofs.Common.{◌≡◌, ◌⊎◌, ℕ, ◌<◌, ◌≤◌, List, length, Option, Some, None, refl, sym, ap, ap₂, subst, inl, inr, ◌∙◌, arith}
 use Rattle.std.specs.Prelude.{IsSome}
 use Rattle.std.proofs.lemmas.List.{same_lists, get_or_default}
 use Rattle.pg_arena.specs.declared.player.Player.{Player}
@@ -16,7 +16,6 @@ use Rattle.pg_text.specs.Solutions.{answer_at, unanswered}
 use Rattle.pg_text.specs.SolutionLayout.{solution_text}
 use Rattle.pg_check.specs.Strategies.{HasList, IsChoiceFor, IsAnswerOf, IsSolutionOf, IsLeastUndecided}
 use Rattle.pg_cli.specs.Measuring.{IsMeasureOf, IsMeasured, measures_text}
-use Rattle.pg_cli.specs.Solving.{IsSolved, IsUndecidedAt}
 use Rattle.pg_cli.specs.Laws.{OneAnswer}
 
 module _ (one_bounds : OneListOfBounds) (least : ClosedIsLeast) where

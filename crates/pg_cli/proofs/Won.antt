@@ -1,8 +1,8 @@
 -- What the commands' answers say of who wins.
-use Rattle.std.proofs.Common.{◌≡◌, ℕ, zero, suc, ◌<◌, List, [], ◌∷◌, ◌++◌, length, map, get_or, Option, arith, sym, subst, refl, ◌∙◌}
+use Rattle.std.proofs.Common.{◌≡◌, ℕ, zero, suc, ◌<◌, List, [], ◌∷◌, ◌++◌, length, map, get_or, arith, subst, refl, ◌∙◌}
 use Rattle.std.specs.Prelude.{All, Contains, ◌^◌, codes}
 use Rattle.std.specs.List.{flat_map}
-use Rattle.std.proofs.lemmas.List.{get_or_default, get_or-map, length-map}
+use Rattle.std.proofs.lemmas.List.{get_or-map, length-map}
 use Rattle.std.proofs.lemmas.List.Elements.{All-map, Contains-append_left, Contains-append_right}
 use Rattle.std.proofs.lemmas.List.Sorted.{All-permutation}
 use Rattle.pg_arena.specs.Games.{GameVertex, IsGame, dual}
@@ -16,8 +16,7 @@ use Rattle.pg_map.specs.Maps.{MapValue}
 use Rattle.pg_map.specs.Laws.{GameLines, HasLeastProgressMeasure}
 use Rattle.pg_check.specs.Strategies.{IsUndecided, DecidedMapsSolve}
 use Rattle.pg_determined.specs.Winners.{LeastTellsWinners, NeverUndecided}
-use Rattle.pg_cli.specs.Measuring.{IsMeasureOf, measures_text, IsMeasured}
-use Rattle.pg_cli.specs.Solving.{IsSolved, IsUndecidedAt}
+use Rattle.pg_cli.specs.Measuring.{IsMeasureOf, measures_text}
 use Rattle.pg_cli.specs.Winners.{MeasuresTellWinners, NoneUndecided, GamesHaveAnswers}
 
 pub measures_tell_winners : LeastTellsWinners → MeasuresTellWinners

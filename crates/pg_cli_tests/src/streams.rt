@@ -68,12 +68,12 @@ fn each_command_answers(rt: HostRuntime) -> Result<(), Fail> {
 }
 
 /// What `measure` answers to a reader whose read with this number fails, and what was written.
-fn measured(
-    alloc: Global,
-    before: usize,
-    kind: ErrorKind,
-) -> (Result<(), CliFault>, Vec<u8>) {
-    let mut input = Failing { left: TWO, before, kind };
+fn measured(alloc: Global, before: usize, kind: ErrorKind) -> (Result<(), CliFault>, Vec<u8>) {
+    let mut input = Failing {
+        left: TWO,
+        before,
+        kind,
+    };
     let mut output = Vec::new(alloc);
     let done = run(alloc, Command::Measure, &mut input, &mut output);
     (done, output)
@@ -95,7 +95,11 @@ fn an_interrupted_read_is_tried_again(rt: HostRuntime) {
     for before in 0..31usize {
         let (done, output) = measured(rt.alloc(), before, ErrorKind::Interrupted);
         assert!(rt; done.is_ok(), "before {before}");
-        assert_eq!(rt; output.as_slice(), b"0 1;\n1 0;\n".as_slice(), "before {before}");
+        assert_eq!(rt;
+            output.as_slice(),
+            b"0 1;\n1 0;\n".as_slice(),
+            "before {before}"
+        );
         let _ = done;
     }
 }
@@ -107,7 +111,11 @@ fn a_failed_write_is_told(rt: HostRuntime) {
         let mut input = TWO;
         let mut output = Full { before };
         let done = run(rt.alloc(), Command::Measure, &mut input, &mut output);
-        assert_eq!(rt; matches!(&done, Err(CliFault::Write)), before < 10, "before {before}");
+        assert_eq!(rt;
+            matches!(&done, Err(CliFault::Write)),
+            before < 10,
+            "before {before}"
+        );
         assert_eq!(rt; done.is_ok(), 10 <= before, "before {before}");
         let _ = done;
     }

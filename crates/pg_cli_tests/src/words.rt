@@ -8,7 +8,10 @@ fn words_name_a_command(rt: HostRuntime) {
         ("check", Command::Check),
     ] {
         let line = parse_words(rt.alloc(), &["parsolve", name]);
-        assert!(rt; matches!(&line, Ok(Line::Run(named)) if *named == command), "{name}");
+        assert!(rt;
+            matches!(&line, Ok(Line::Run(named)) if *named == command),
+            "{name}"
+        );
         let _ = line;
     }
 }
