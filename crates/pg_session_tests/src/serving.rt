@@ -13,8 +13,11 @@ fn bytes_of(alloc: Global, text: &str) -> Result<Vec<u8>, Fail> {
 
 /// The set-up of version 1 for `parity 1; 0 1 0 0; 1 3 0 0;`, and the line of vertex 0.
 const SETUP: &str = "0000001a 01 01 00000002 00000002 00000003 00000001 00000001 00000001";
+
 const LINES: &str = "00000016 02 00000001 00000000 00000001 00 00000001 00000000";
+
 const SETUP_2: &str = "0000001a 01 02 00000002 00000002 00000003 00000001 00000001 00000001";
+
 const HALT: &str = "00000001 06";
 
 fn serves(alloc: Global, parts: &[&str], reply: &str) -> Result<Result<Served, WorkerFault>, Fail> {
@@ -73,7 +76,10 @@ fn refuses_a_frame_out_of_turn(rt: HostRuntime) -> Result<(), Fail> {
         ([LINES, HALT, HALT], order),
         (["00000003 05 01 00", HALT, HALT], order),
         ([SETUP, sparse, HALT], order),
-        ([SETUP_2, values, HALT], "00000003 05 01 00 00000003 05 02 04"),
+        (
+            [SETUP_2, values, HALT],
+            "00000003 05 01 00 00000003 05 02 04",
+        ),
         ([SETUP, values, LINES], order),
         ([SETUP, LINES, LINES], order),
         ([SETUP, "00000003 05 01 00", HALT], order),
@@ -108,15 +114,26 @@ fn tells_a_frame_that_can_not_be_read(rt: HostRuntime) -> Result<(), Fail> {
         ("01000001", "00000003 05 02 0c", WireFault::TooLong),
         ("0000", "", WireFault::Truncated),
         ("00000001 08", "00000003 05 02 0e", WireFault::BadKind),
-        ("00000002 06 00", "00000003 05 02 0f", WireFault::BadField(5)),
-        ("0000000a 01 03 00000002 00000000", "00000003 05 02 12", WireFault::Version),
+        (
+            "00000002 06 00",
+            "00000003 05 02 0f",
+            WireFault::BadField(5),
+        ),
+        (
+            "0000000a 01 03 00000002 00000000",
+            "00000003 05 02 12",
+            WireFault::Version,
+        ),
     ];
     for (frame, reply, fault) in rows {
         let answer = serves(rt.alloc(), &[frame], reply)?;
         assert_eq!(rt; answer, Err(WorkerFault::Wire(fault)), "{frame}");
     }
     assert_eq!(rt; serves(rt.alloc(), &[], "")?, Ok(Served::InputEnded(0)));
-    assert_eq!(rt; serves(rt.alloc(), &[SETUP], "")?, Ok(Served::InputEnded(1)));
+    assert_eq!(rt;
+        serves(rt.alloc(), &[SETUP], "")?,
+        Ok(Served::InputEnded(1))
+    );
     Ok(())
 }
 

@@ -53,8 +53,14 @@ fn takes_many_vertices_in_one_frame_or_two(rt: HostRuntime) -> Result<(), Fail> 
         lines(rt.alloc(), 40_000, 65_536, 0, 65_536)?,
     ];
     let quiet = [0, 0, 0, 3, 5, 1, 0];
-    assert_eq!(rt; replies(rt.alloc(), 65_537, 0, &one)?.as_slice(), quiet.as_slice());
-    assert_eq!(rt; replies(rt.alloc(), 65_537, 0, &two)?.as_slice(), quiet.as_slice());
+    assert_eq!(rt;
+        replies(rt.alloc(), 65_537, 0, &one)?.as_slice(),
+        quiet.as_slice()
+    );
+    assert_eq!(rt;
+        replies(rt.alloc(), 65_537, 0, &two)?.as_slice(),
+        quiet.as_slice()
+    );
     Ok(())
 }
 

@@ -1,9 +1,7 @@
-use Rattle.std.proofs.Common.{◌≡◌, ℕ, List, length, Some, true, ap, sym, ◌∙◌, inr, refl, rules, arith}
+use Rattle.std.proofs.Common.{◌≡◌, ℕ, length, Some, true, ap, sym, ◌∙◌, inr, rules}
 use Rattle.std.proofs.lemmas.Result.{err_from_is_err_and}
-use Rattle.pg_wire.specs.Measured.{Measured}
-use Rattle.pg_wire.specs.declared.frame.SparseValue.{SparseValue}
 use Rattle.pg_worker.specs.Workers.{WorkerValue}
-use Rattle.pg_worker.specs.Turns.{HeldValue, told_sparse, Joins, CanTakeAll}
+use Rattle.pg_worker.specs.Turns.{told_sparse, Joins, CanTakeAll}
 use Rattle.pg_worker.proofs.turn.take_sparse.Goals as goal
 
 pub returns-in_err-join_sparse-clause-refused : goal.returns-in_err-join_sparse-clause-refused
