@@ -1,5 +1,5 @@
 -- Frames that are read and answered one after the other.
-use Rattle.std.proofs.Common.{◌≡◌, ◌≢◌, ℕ, ◌+◌, ◌⊎◌, List, [], ◌∷◌, ◌++◌, length, Option, refl, sym, ap, ◌∙◌, subst, append_assoc, inl, inr}
+use Rattle.std.proofs.Common.{◌≡◌, ℕ, ◌⊎◌, List, [], ◌∷◌, ◌++◌, Option, refl, sym, ap, ◌∙◌, subst, append_assoc, inl, inr}
 use Rattle.std.specs.List.{flat_map}
 use Rattle.std.specs.Io.KnownBytes.{Consumes, Appends}
 use Rattle.std.proofs.lemmas.List.{append-nil}
@@ -23,7 +23,7 @@ replies_more a (g ∷ fs) b bytes f c reply r t = (r.0, r.1, r.2 ++ reply, r.3, 
 pub exchanges_more : (i i' i'' o o' o'' : Option (List ℕ)) (fs : List Frame) (f : Frame) (held held' : Option HeldValue) → Exchanges i i' o o' fs held → Answers f held held' i' i'' o' o'' → Exchanges i i'' o o'' (fs ++ f ∷ []) held'
 exchanges_more i i' i'' o o' o'' fs f held held' e a =
     let spelled : flat_map spelling fs ++ spelling f ≡ flat_map spelling (fs ++ f ∷ []) =
-        sym (flat_map-append spelling fs (f ∷ []) ∙ ap (λ (bs : List ℕ). flat_map spelling fs ++ bs) (flat_map-cons spelling f [] ∙ append-nil (spelling f))) in
+    sym (flat_map-append spelling fs (f ∷ []) ∙ ap (λ (bs : List ℕ). flat_map spelling fs ++ bs) (flat_map-cons spelling f [] ∙ append-nil (spelling f))) in
     record {
       bytes = e.bytes ++ a.reply;
       replies = replies_more _ fs held e.bytes f held' a.reply e.replies a.turn;

@@ -1,5 +1,5 @@
 -- Measures that are joined to a map one after the other.
-use Rattle.std.proofs.Common.{◌≡◌, ℕ, ◌+◌, ◌<◌, ◌≤◌, Bool, true, false, List, [], ◌∷◌, ◌++◌, length, map, take, get_or, set, None, refl, sym, ap, ◌∙◌, subst, inl, inr, arith}
+use Rattle.std.proofs.Common.{◌≡◌, ℕ, ◌+◌, ◌<◌, Bool, true, false, List, [], ◌∷◌, ◌++◌, length, map, take, get_or, None, refl, sym, ap, ◌∙◌, subst, inl, inr, arith}
 use Rattle.std.specs.Prelude.{All, MatchBool, slice_set}
 use Rattle.std.proofs.lemmas.Bool.{cases_eq}
 use Rattle.std.proofs.lemmas.List.{get_or-map, map_more, length-map, get_or-set_same, get_or-set_other, get_or_append_left, get_or_push, length-append}
@@ -9,8 +9,8 @@ use Rattle.pg_measure.proofs.Order.{at_most_same, at_most_all}
 use Rattle.pg_map.specs.Maps.{measure_at, MapAtMost}
 use Rattle.pg_map.specs.Lemmas.Orders.{map_reflexive, map_transitive}
 use Rattle.pg_wire.specs.Measured.{Measured}
-use Rattle.pg_worker.specs.Workers.{WorkerValue, CanTake, Takes, KeepsPart}
-use Rattle.pg_worker.specs.Turns.{IsAtLeast, Joins, CanTakeAll}
+use Rattle.pg_worker.specs.Workers.{WorkerValue, CanTake, Takes}
+use Rattle.pg_worker.specs.Turns.{Joins}
 use Rattle.pg_worker.specs.Mirrors.Joins.{JoinsAll}
 
 pub all_at : {A : Type 0} (f : A → Measured) (P : Measured → Type 0) (xs : List A) (i : ℕ) (x : A) → i < length xs → x ≡ get_or xs i x → All P (map f xs) → P (f x)

@@ -1,8 +1,8 @@
 -- The vertices that a turn lifted.
-use Rattle.std.proofs.Common.{◌≡◌, ℕ, zero, suc, ◌<◌, ◌≤◌, List, [], ◌∷◌, length, get_or, Option, refl, sym, ap, ◌∙◌, subst, arith}
+use Rattle.std.proofs.Common.{◌≡◌, ℕ, ◌<◌, List, [], ◌∷◌, length, get_or, Bool, true, false, cond, Option, refl, subst, arith}
 use Rattle.std.specs.Prelude.{All, IsSome}
-use Rattle.std.proofs.lemmas.List.{get_or_default}
 use Rattle.std.proofs.lemmas.List.Elements.{All-cons}
+use mir.Val.{bool_byte}
 use Rattle.pg_measure.specs.Measures.{BoundList, MeasureValue}
 use Rattle.pg_map.specs.Lines.{Line}
 use Rattle.pg_map.specs.declared.update.Update.{Update}
@@ -12,9 +12,14 @@ all_mine : (bounds : BoundList) (lines : ℕ → Option Line) (f : List MeasureV
 all_mine bounds lines f [] g h = λ i d lt. absurd (omega arith)
 all_mine bounds lines f (u ∷ us) g h = All-cons (λ u. IsSome (lines u.vertex)) u us h.1.mine (all_mine bounds lines h.0 us g h.2)
 
-pub lifted_within : (w w' : WorkerValue) (budget : ℕ) (quiet : _) → IsListedTurn w w' budget quiet → IsWorker w' → All (λ v. v < length w'.map) w'.lifted
+pub lifted_within : (w w' : WorkerValue) (budget : ℕ) (quiet : Bool) → IsListedTurn w w' budget quiet → IsWorker w' → All (λ v. v < length w'.map) w'.lifted
 lifted_within w w' budget quiet t whole = λ i d lt.
     let some = t.lifted.only i d lt in
     let mine : IsSome (part_line w.lines some.1.vertex) = subst (λ (u : Update). IsSome (part_line w.lines u.vertex)) some.3 (all_mine w.bounds (part_line w.lines) w.map t.updates w'.map t.turn.lifts.lifts some.0 some.1 some.2) in
     let same : IsSome (part_line w'.lines (get_or w'.lifted i d)) = subst (λ (v : ℕ). IsSome (part_line w'.lines v)) some.4 (rw t.turn.lifts.part.lines mine) in
     whole.within.numbers (get_or w'.lifted i d) same
+
+-- the status of a report
+pub status_is : (quiet : Bool) → bool_byte quiet ≡ cond quiet 1 0
+status_is true = refl
+status_is false = refl

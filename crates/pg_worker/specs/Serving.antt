@@ -1,5 +1,5 @@
 -- What serving does: the frames that were read, the replies to them, and how it ended.
-use Rattle.std.specs.Prelude.{◌≡◌, ◌≢◌, ℕ, ◌⊎◌, List, [], ◌∷◌, ◌++◌, length, All, Option, Some, None, Result, Err, IfSome}
+use Rattle.std.specs.Prelude.{◌≡◌, ◌≢◌, ℕ, ◌⊎◌, List, [], ◌∷◌, ◌++◌, length, All, Option, None, Err, IfSome}
 use Rattle.std.specs.List.{flat_map}
 use Rattle.std.specs.Io.KnownBytes.{Consumes, Appends, IsAtEnd}
 use Rattle.pg_wire.specs.declared.fault.WireFault.{WireFault}
@@ -9,7 +9,7 @@ use Rattle.pg_wire.specs.declared.frame.Frame.TheVariants as frames
 use Rattle.pg_wire.specs.Spelling.{spelling}
 use Rattle.pg_wire.specs.Bytes.{IsReadFrom}
 use Rattle.pg_worker.specs.declared.fault.WorkerFault.{WorkerFault}
-use Rattle.pg_worker.specs.declared.fault.WorkerFault.TheVariants.{OutOfMemory, NotMine, BadUpdate, Order, Wire}
+use Rattle.pg_worker.specs.declared.fault.WorkerFault.TheVariants.{OutOfMemory, Wire}
 use Rattle.pg_worker.specs.declared.served.Served.{Served}
 use Rattle.pg_worker.specs.declared.served.Served.TheVariants.{Halted, InputEnded, Bound}
 use Rattle.pg_worker.specs.Faults.{code_of}

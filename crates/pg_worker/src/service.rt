@@ -9,10 +9,10 @@ ghost use Rattle.pg_worker.specs.Turns.{report};
 ghost use Rattle.pg_worker.specs.Serving.{Serves, Breaks, told, IsFaultAt};
 ghost use Rattle.pg_worker.specs.Mirrors.Steps.{own_fault, IsStep};
 
+use crate::WorkerFault;
 use crate::served::Served;
 use crate::session::Session;
 use crate::step::Step;
-use crate::WorkerFault;
 use pg_wire::{Frame, Report, WireFault, read_frame, write_frame};
 use std::alloc::Global;
 use std::io::{Read, Write};

@@ -5,9 +5,9 @@ ghost use Rattle.pg_wire.specs.Well.{IsWell};
 ghost use Rattle.pg_wire.specs.declared.frame.Frame.TheVariants.{Halt};
 ghost use Rattle.pg_worker.specs.Turns.{Turn, Refuses};
 
+use crate::WorkerFault;
 use crate::held::Held;
 use crate::turn::turn;
-use crate::WorkerFault;
 use pg_wire::Frame;
 use std::alloc::Global;
 

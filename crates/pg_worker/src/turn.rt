@@ -14,12 +14,7 @@ use crate::{Worker, WorkerFault};
 use pg_wire::{Frame, Setup, ValueKind, Values, Vertices, WireFault};
 use std::alloc::Global;
 
-fn set_up(
-    alloc: Global,
-    highest: u8,
-    setup: &Setup,
-    out: &mut Vec<u8>,
-) -> Result<Held, WorkerFault>
+fn set_up(alloc: Global, highest: u8, setup: &Setup, out: &mut Vec<u8>) -> Result<Held, WorkerFault>
     requires { IsSetup setup.now }
     ensures held { IfOk result (λ h. h ≡ fresh setup.now) }
     ensures reply { OnOk result (out.new.items ≡ out.old.items ++ greeting setup.now.version) }

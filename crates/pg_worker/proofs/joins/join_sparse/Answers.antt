@@ -1,16 +1,13 @@
-use Rattle.std.proofs.Common.{◌≡◌, ℕ, List, length, take, refl, sym, ap, ◌∙◌, subst, arith}
-use Rattle.std.specs.Prelude.{All}
+use Rattle.std.proofs.Common.{◌≡◌, List, length, take, refl, ap, ◌∙◌}
 use Rattle.std.specs.Option.{option_copied}
 use Rattle.std.proofs.lemmas.List.{take_all}
 use Rattle.std.proofs.lemmas.List.Elements.{All-push}
 use Rattle.std.proofs.lemmas.Result.{err_from_is_err_and}
-use Rattle.pg_measure.specs.Measures.{BoundList, MeasureValue}
-use Rattle.pg_measure.specs.Views.{measure_in}
+use Rattle.pg_measure.specs.Measures.{BoundList}
 use Rattle.pg_wire.specs.declared.frame.SparseValue.{SparseValue}
 use Rattle.pg_wire.specs.Measured.{Measured}
 use Rattle.pg_worker.specs.Workers.{WorkerValue, CanTake, Takes, sparse_measure}
 use Rattle.pg_worker.specs.Turns.{CanTakeAll, told_sparse}
-use Rattle.pg_worker.specs.Mirrors.Joins.{JoinsAll}
 use Rattle.pg_worker.proofs.Joining.{all_none, all_at, told_more, all_joined_none, all_joined_more, can_take_same, can_take_back}
 use Rattle.pg_worker.proofs.joins.join_sparse.Goals as goal
 
@@ -26,9 +23,9 @@ returns-in_err-take_sparse-clause-refused c =
     let ms : List Measured = told_sparse (length c.args.worker.now.bounds) (take c.loop-value.value-index c.args.values.now) in
     let same : sparse_measure (length c.loop-value.worker.bounds) (option_copied c.lent_pairs.result) ≡ (sparse_measure (length c.args.worker.now.bounds) c.value-item.result.pairs) = ap (λ (b : BoundList). sparse_measure (length b) (option_copied c.lent_pairs.result)) (ap (λ (w : WorkerValue). w.bounds) c.loop-value.invariant.joined.others) ∙ ap (sparse_measure (length c.args.worker.now.bounds)) c.lent_pairs.ensures in
     let none : CanTakeAll W (told_sparse (length c.args.worker.now.bounds) c.args.values.now) → ⊥ =
-        λ all.
-        let can = can_take_same W u ms value.vertex (sparse_measure (length c.args.worker.now.bounds) c.value-item.result.pairs) c.loop-value.invariant.joined (all_at (λ (v : SparseValue). (v.vertex, sparse_measure (length c.args.worker.now.bounds) v.pairs)) (λ m. CanTake W m.0 m.1) c.args.values.now c.loop-value.value-index value c.loop-value-test.true c.value-item.is all) in
-        absurd (cc (c.in_err-take_sparse.ensures.ok.1 (rw same can))) in
+    λ all.
+    let can = can_take_same W u ms value.vertex (sparse_measure (length c.args.worker.now.bounds) c.value-item.result.pairs) c.loop-value.invariant.joined (all_at (λ (v : SparseValue). (v.vertex, sparse_measure (length c.args.worker.now.bounds) v.pairs)) (λ m. CanTake W m.0 m.1) c.args.values.now c.loop-value.value-index value c.loop-value-test.true c.value-item.is all) in
+    absurd (cc (c.in_err-take_sparse.ensures.ok.1 (rw same can))) in
     rw (p.1, p.2) (c.in_err-take_sparse.ensures.refused, none)
 
 pub loop-value-preserved : goal.loop-value-preserved

@@ -1,16 +1,11 @@
-use Rattle.std.proofs.Common.{◌≡◌, ℕ, List, length, take, refl, sym, ap, ◌∙◌, subst, arith}
-use Rattle.std.specs.Prelude.{All}
-use Rattle.std.specs.Option.{option_copied}
-use Rattle.std.proofs.lemmas.List.{take_all}
+use Rattle.std.proofs.Common.{◌≡◌, List, take, refl}
 use Rattle.std.proofs.lemmas.List.Elements.{All-push}
 use Rattle.std.proofs.lemmas.Result.{err_from_is_err_and}
-use Rattle.pg_measure.specs.Measures.{BoundList, MeasureValue}
 use Rattle.pg_measure.specs.Views.{measure_in}
 use Rattle.pg_wire.specs.declared.frame.Value.{Value}
 use Rattle.pg_wire.specs.Measured.{Measured}
-use Rattle.pg_worker.specs.Workers.{WorkerValue, CanTake, Takes, sparse_measure}
+use Rattle.pg_worker.specs.Workers.{CanTake, Takes}
 use Rattle.pg_worker.specs.Turns.{CanTakeAll, told_values}
-use Rattle.pg_worker.specs.Mirrors.Joins.{JoinsAll}
 use Rattle.pg_worker.proofs.Joining.{all_none, all_at, told_more, all_joined_none, all_joined_more, can_take_same, can_take_back}
 use Rattle.pg_worker.proofs.joins.join_values.Goals as goal
 
@@ -26,9 +21,9 @@ returns-in_err-take_value-clause-refused c =
     let ms : List Measured = told_values (take c.loop-value.value-index c.args.values.now) in
     let same : measure_in c.lent.result ≡ c.value-item.result.list = c.lent.ensures in
     let none : CanTakeAll W (told_values c.args.values.now) → ⊥ =
-        λ all.
-        let can = can_take_same W u ms value.vertex c.value-item.result.list c.loop-value.invariant.joined (all_at (λ (v : Value). (v.vertex, v.list)) (λ m. CanTake W m.0 m.1) c.args.values.now c.loop-value.value-index value c.loop-value-test.true c.value-item.is all) in
-        absurd (cc (c.in_err-take_value.ensures.ok.1 (rw same can))) in
+    λ all.
+    let can = can_take_same W u ms value.vertex c.value-item.result.list c.loop-value.invariant.joined (all_at (λ (v : Value). (v.vertex, v.list)) (λ m. CanTake W m.0 m.1) c.args.values.now c.loop-value.value-index value c.loop-value-test.true c.value-item.is all) in
+    absurd (cc (c.in_err-take_value.ensures.ok.1 (rw same can))) in
     rw (p.1, p.2) (c.in_err-take_value.ensures.refused, none)
 
 pub loop-value-preserved : goal.loop-value-preserved

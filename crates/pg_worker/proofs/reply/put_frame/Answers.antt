@@ -1,4 +1,4 @@
-use Rattle.std.proofs.Common.{◌≡◌, ◌≤◌, ◌<◌, ◌++◌, ℕ, List, length, take, ap, ◌∙◌, arith}
+use Rattle.std.proofs.Common.{◌≡◌, ◌++◌, length, take, ap, ◌∙◌, arith}
 use Rattle.pg_measure.specs.Views.{measure_in}
 use Rattle.pg_wire.specs.declared.frame.Frame.{Frame}
 use Rattle.pg_wire.specs.Spelling.{spelling}
@@ -17,9 +17,9 @@ returns-then-not-fits c =
     let before = c.args.out.now.items in
     let ms = measures_of W.map (take c.loop-n.n c.args.vertices.now) in
     let full : IsFull c.args.kind (length W.bounds) c.push.new.writer before W.map c.args.vertices.now c.loop-n.n c.push.new.out.items =
-        stopped c.args.kind (length W.bounds) c.loop-n.writer c.push.new.writer before c.loop-n.out.items c.push.new.out.items W.map c.args.vertices.now c.loop-n.n c.index-vertices-n.result (measure_in c.get.result) c.in_ok-fits.fits
-        c.loop-n.invariant.kind c.loop-n.invariant.width c.push.ensures.of c.loop-n-test.true c.index-vertices-n.is c.get.ensures.value (few_components W.bounds (measure_in c.get.result) c.get.ensures.fits c.requires.few)
-        c.if-not-fits.true c.loop-n.invariant.writing (c.in_ok-fits.ensures.added before ms c.loop-n.invariant.writing) in
+    stopped c.args.kind (length W.bounds) c.loop-n.writer c.push.new.writer before c.loop-n.out.items c.push.new.out.items W.map c.args.vertices.now c.loop-n.n c.index-vertices-n.result (measure_in c.get.result) c.in_ok-fits.fits
+    c.loop-n.invariant.kind c.loop-n.invariant.width c.push.ensures.of c.loop-n-test.true c.index-vertices-n.is c.get.ensures.value (few_components W.bounds (measure_in c.get.result) c.get.ensures.fits c.requires.few)
+    c.if-not-fits.true c.loop-n.invariant.writing (c.in_ok-fits.ensures.added before ms c.loop-n.invariant.writing) in
     let spelled : c.finish.new.out.items ≡ before ++ spelling (frame_of c.args.kind (length W.bounds) ms) = c.finish.ensures.spelled before ms full.writing ∙ ap (λ (g : Frame). before ++ spelling g) full.spelled in
     record {
       count = (full.some, omega arith);

@@ -1,4 +1,4 @@
-use Rattle.std.proofs.Common.{◌≡◌, ◌≢◌, ◌+◌, ◌∷◌, ◌++◌, ◌∙◌, [], length, refl, arith}
+use Rattle.std.proofs.Common.{◌≢◌, ◌∷◌, ◌++◌, ◌∙◌, [], refl, arith}
 use Rattle.std.proofs.lemmas.List.{length-append}
 use Rattle.std.proofs.lemmas.List.Elements.{All-push}
 use Rattle.pg_wire.specs.declared.frame.Frame.{Frame}
@@ -12,7 +12,7 @@ pub returns-in-Ok-Halted-clause-served : goal.returns-in-Ok-Halted-clause-served
 returns-in-Ok-Halted-clause-served g c =
     let l = c.loop-frames.invariant in
     let s : IsStep steps.Halted c.loop-frames.session.held c.step.new.session.held (g.R.Read.remaining c.loop-frames.input) (g.R.Read.remaining c.step.new.input) (g.W.Write.contents c.loop-frames.output) (g.W.Write.contents c.step.new.output) =
-        rw c.in-Ok-Halted.field-0-is at c.in-Ok-Halted.ensures.step in
+    rw c.in-Ok-Halted.field-0-is at c.in-Ok-Halted.ensures.step in
     record {
       fs = l.fs ++ frames.Halt ∷ [];
       held = c.step.new.session.held;
@@ -32,7 +32,7 @@ pub loop-frames-preserved : goal.loop-frames-preserved
 loop-frames-preserved g c =
     let l = c.loop-frames.invariant in
     let s : IsStep steps.Answered c.loop-frames.session.held c.step.new.session.held (g.R.Read.remaining c.loop-frames.input) (g.R.Read.remaining c.step.new.input) (g.W.Write.contents c.loop-frames.output) (g.W.Write.contents c.step.new.output) =
-        rw c.in-Ok-Answered.field-0-is at c.in-Ok-Answered.ensures.step in
+    rw c.in-Ok-Answered.field-0-is at c.in-Ok-Answered.ensures.step in
     record {
       fs = l.fs ++ s.0 ∷ [];
       count = omega (arith, l.count, length-append l.fs (s.0 ∷ []));

@@ -1,8 +1,6 @@
-use Rattle.std.proofs.Common.{◌≡◌, ℕ, List, length, Some, true, ap, sym, ◌∙◌, arith, rules}
-use Rattle.pg_wire.specs.Measured.{Measured}
-use Rattle.pg_wire.specs.declared.frame.Value.{Value}
+use Rattle.std.proofs.Common.{◌≡◌, Some, true, ap, rules}
 use Rattle.pg_worker.specs.Workers.{WorkerValue}
-use Rattle.pg_worker.specs.Turns.{HeldValue, told_values, Joins, CanTakeAll}
+use Rattle.pg_worker.specs.Turns.{told_values, Joins, CanTakeAll}
 use Rattle.pg_worker.proofs.turn.take_values.Goals as goal
 
 pub returns-clause-turn : goal.returns-clause-turn

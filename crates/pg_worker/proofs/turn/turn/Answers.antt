@@ -13,3 +13,6 @@ returns-in_ok-take_values-in-Values-clause-turn c =
 pub returns-in_ok-take_sparse-in-Sparse-clause-turn : goal.returns-in_ok-take_sparse-in-Sparse-clause-turn
 returns-in_ok-take_sparse-in-Sparse-clause-turn c =
     ([], rw (c.in_ok-held-in-Sparse.ensures.ok_part, c.in-Sparse.is) (c.in_ok-take_sparse-in-Sparse.ensures.turn, refl), sym (append-nil c.args.out.now.items))
+
+pub returns-in-Halt-clause-turn : goal.returns-in-Halt-clause-turn
+returns-in-Halt-clause-turn c = ([], rw c.in-Halt.is (refl, refl), sym (append-nil c.args.out.now.items))
