@@ -1,4 +1,5 @@
 pub mod Faults
 pub mod Cuts
 pub mod Workers
+pub mod Laws
 pub mod Mirrors

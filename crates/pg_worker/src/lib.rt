@@ -8,6 +8,7 @@ mod edges;
 mod entry;
 mod fault;
 mod head;
+pub mod laws;
 mod lifted;
 mod lifting;
 mod listing;
