@@ -1,0 +1,33 @@
+-- What is proved of workers, over the definitions alone.
+use Rattle.std.specs.Prelude.{◌≡◌, ℕ, ◌<◌, List, [], ◌∷◌, length, Option}
+use Rattle.pg_measure.specs.Measures.{BoundList, MeasureValue, AtMost}
+use Rattle.pg_map.specs.Lines.{Line}
+use Rattle.pg_map.specs.Maps.{measure_at, IsMap, zero_map, update_map, MapAtMost, IsClosed, IsJoin}
+use Rattle.pg_map.specs.declared.update.Update.{Update}
+use Rattle.pg_worker.specs.Workers.{AreLifts}
+
+-- what changes a worker's map once its part is complete: a value is taken, or lifts make updates
+pub data Step : Type 0 where
+  Taken : ℕ → MeasureValue → Step
+  Lifted : List Update → Step
+
+-- the steps, one after the other, make g of f
+abbrev pub AreSteps : BoundList → (ℕ → Option Line) → List MeasureValue → List Step → List MeasureValue → Type 0
+AreSteps bounds lines f [] g = g ≡ f
+AreSteps bounds lines f (Taken v m ∷ ss) g =
+    (h : List MeasureValue) × (v < length f) × (length h ≡ length f) × IsJoin f (update_map bounds (length f) v m) h × AreSteps bounds lines h ss g
+AreSteps bounds lines f (Lifted us ∷ ss) g =
+    (h : List MeasureValue) × (length h ≡ length f) × AreLifts bounds lines f us h × AreSteps bounds lines h ss g
+
+-- the map is at least every value taken
+abbrev pub IsAtLeastTaken : List Step → List MeasureValue → Type 0
+IsAtLeastTaken [] h = Unit {0}
+IsAtLeastTaken (Taken v m ∷ ss) h = AtMost m (measure_at h v) × IsAtLeastTaken ss h
+IsAtLeastTaken (Lifted us ∷ ss) h = IsAtLeastTaken ss h
+
+-- a worker's map is at most every map that is both closed on its part and at least every value taken
+abbrev pub StepsStayUnder : Type 0
+StepsStayUnder =
+    (bounds : BoundList) (lines : ℕ → Option Line) (count : ℕ) (ss : List Step) (g h : List MeasureValue)
+    → AreSteps bounds lines (zero_map bounds count) ss g
+    → IsMap bounds count h → IsClosed bounds lines h → IsAtLeastTaken ss h → MapAtMost g h
