@@ -1,0 +1,12 @@
+pub mod Letters
+pub mod Lists
+pub mod Collections
+pub mod Ranks
+pub mod Recurs
+pub mod Accepting
+pub mod Trace
+pub mod Deciding
+pub mod WorkedGame
+pub mod WorkedLeast
+pub mod OneGame
+pub mod Places

@@ -1,0 +1,59 @@
+-- The lines of which the game of an automaton is made.
+use Rattle.std.specs.Prelude.{ℕ, ◌+◌, ◌-◌, ◌/◌, ◌%◌, ◌==◌, nat_le, if◌then◌else◌, List, [], ◌∷◌, ◌++◌, map, Some, None}
+use Rattle.std.specs.List.{flat_map, range_with_len, sum_by}
+use Rattle.pg_arena.specs.Lines.{Line, each_once}
+use Rattle.pg_hoa.specs.Automata.{Automaton, letters, next}
+use Rattle.pg_synth.specs.Letters.{joined}
+use Rattle.pg_synth.specs.AutomatonGames.{input_letters, output_letters, width, place_identifier, place_owner, place_priority, place_name, arrival_of}
+use Rattle.pg_synth.specs.declared.place.Place.{Place}
+use Rattle.pg_synth.specs.declared.place.Place.TheVariants.{Dead, Arrival, Answer}
+
+-- the place with the number r among those of the state q, and the one with an identifier
+abbrev pub place_within : ℕ → ℕ → ℕ → Place
+place_within sets q r =
+    if r == 0 then Arrival q None else (if nat_le r sets then Arrival q (Some (r - 1)) else Answer q (r - 1 - sets))
+
+abbrev pub place_with : ℕ → ℕ → ℕ → Place
+place_with sets width n =
+    if n == 0 then Dead else place_within sets ((n - 1) / width) ((n - 1) % width)
+
+abbrev pub place_in : Automaton → ℕ → Place
+place_in a n = place_with a.sets (width a) n
+
+-- the identifier of the place to which a letter leads
+abbrev pub target : Automaton → ℕ → ℕ → ℕ
+target a q letter = place_identifier a (arrival_of a.shape (next a q letter))
+
+-- the identifiers of the places to which a place leads, letter by letter
+abbrev pub leads : Automaton → Place → List ℕ
+leads a Dead = 0 ∷ []
+leads a (Arrival q set) = map (λ i. place_identifier a (Answer q i)) (range_with_len 0 (input_letters a))
+leads a (Answer q i) = map (λ o. target a q (joined a.controllable i o)) (range_with_len 0 (output_letters a))
+
+-- the identifiers of the places that a state adds: those to which its letters lead, and its answers
+abbrev pub added_by : Automaton → ℕ → List ℕ
+added_by a q =
+    map (target a q) (range_with_len 0 (letters a))
+    ++ map (λ i. place_identifier a (Answer q i)) (range_with_len 0 (input_letters a))
+
+abbrev pub all_identifiers : Automaton → List ℕ
+all_identifiers a =
+    0 ∷ place_identifier a (Arrival a.start None) ∷ flat_map (added_by a) (range_with_len 0 a.states)
+
+abbrev pub game_identifiers : Automaton → List ℕ
+game_identifiers a = each_once (all_identifiers a)
+
+abbrev pub line_of_place : Automaton → ℕ → Place → Line
+line_of_place a n x = record {
+  identifier = n;
+  priority = place_priority a.shape a.sets x;
+  owner = place_owner x;
+  successors = each_once (leads a x);
+  name = Some (place_name x);
+}
+
+abbrev pub line_at : Automaton → ℕ → Line
+line_at a n = line_of_place a n (place_in a n)
+
+abbrev pub game_lines : Automaton → List Line
+game_lines a = map (line_at a) (game_identifiers a)

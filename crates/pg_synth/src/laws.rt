@@ -1,0 +1,36 @@
+//! Laws over the definitions. Their functions take no memory and do nothing: their contracts are what they are for.
+
+ghost use Rattle.std.specs.Prelude.{List};
+ghost use Rattle.pg_arena.specs.Games.{GameVertex};
+ghost use Rattle.pg_hoa.specs.Automata.{Automaton, IsAutomaton};
+ghost use Rattle.pg_synth.specs.Words.{HasGoodSteps, IsWord};
+ghost use Rattle.pg_synth.specs.AutomatonGames.{IsGameOfAutomaton};
+ghost use Rattle.pg_synth.specs.Laws.{JoinedLetters, OneGame, TracesOnePlay, WordAndPlay, WorkedGames};
+
+use crate::word::Word;
+
+/// A letter and its two parts.
+pub fn joined_letters()
+    ensures { JoinedLetters }
+{}
+
+/// Every word traces one play of the game of the automaton, and is accepted exactly if Even wins that play.
+pub fn word_and_play()
+    ensures { WordAndPlay }
+{}
+
+/// The same of a word that is given.
+pub fn word_and_play_of<W: Word>(word: &W)
+    ensures { (a : Automaton) (game : List GameVertex) → IsAutomaton a → HasGoodSteps a → IsGameOfAutomaton a game
+        → IsWord a (W.letter word.now) → TracesOnePlay a game (W.letter word.now) }
+{}
+
+/// Two automata and their games, one under each way to look at sets.
+pub fn worked_games()
+    ensures { WorkedGames }
+{}
+
+/// An automaton has at most one game.
+pub fn one_game()
+    ensures { OneGame }
+{}
