@@ -14,12 +14,12 @@ use Rattle.pg_hoa.specs.declared.shape.Shape.{Shape}
 use Rattle.pg_hoa.specs.Automata.{Step, Automaton, IsAutomaton, next, deciding}
 use Rattle.pg_hoa.specs.Formulas.{Formula, holds}
 use Rattle.pg_synth.specs.Letters.{input_of}
-use Rattle.pg_synth.specs.Words.{HasGoodSteps, IsWord, IsAccepted, SetRecurs, HoldsRecurring, step_from, step_at, sets_of, target_of, state_after}
+use Rattle.pg_hoa.specs.Words.{IsWord, IsAccepted, SetRecurs, HoldsRecurring, step_from, step_at, sets_of, target_of, state_after}
 use Rattle.pg_synth.specs.AutomatonGames.{set_priority, none_priority, place_priority, arrival_of, IsGameOfAutomaton}
 use Rattle.pg_synth.specs.Tracing.{answer_at, Traces}
 use Rattle.pg_synth.specs.declared.place.Place.TheVariants.{Arrival}
 use Rattle.pg_synth.specs.Laws.{TracesOnePlay}
-use Rattle.pg_synth.proofs.Collections.{not_not_collected}
+use Rattle.pg_hoa.proofs.Collections.{not_not_collected}
 use Rattle.pg_synth.proofs.Ranks.{HasSets, IsMet, deciding_cases, rank_rises, none_lowest, rank_parity, none_parity, find_foremost}
 use Rattle.pg_synth.proofs.Recurs.{Meets, ListRecurs, foremost_rank, empty_rank}
 use Rattle.pg_synth.proofs.Accepting.{HasShape, shape_of_fits}
@@ -44,14 +44,14 @@ arrival_meets shape n q xs inc below = elim (deciding_cases shape xs inc) [
 ]
 
 -- the sets of a step of the run
-sets_good : (a : Automaton) (word : ℕ → ℕ) → IsAutomaton a → HasGoodSteps a → IsWord a word → (t : ℕ)
+sets_good : (a : Automaton) (word : ℕ → ℕ) → IsAutomaton a → IsWord a word → (t : ℕ)
     → All (λ s. s < a.sets) (sets_of (step_at a word t)) × IsStrictlyIncreasing (sets_of (step_at a word t))
-sets_good a word is good letters_in t = go (state_after a word t) (state_in a word is good letters_in t)
+sets_good a word is letters_in t = go (state_after a word t) (state_in a word is letters_in t)
   where
     there : (q : ℕ) → q < a.states → (o : Option Step) → next a q (word t) ≡ o
         → All (λ s. s < a.sets) (sets_of o) × IsStrictlyIncreasing (sets_of o)
     there q below None e = ((λ k d l. absurd (omega arith)), λ k h. absurd (omega arith))
-    there q below (Some step) e = let g = good q (word t) step below (letters_in t) e in (g.sets_below, g.sets_rise)
+    there q below (Some step) e = let g = is.steps q (word t) step below (letters_in t) e in (g.sets_below, g.sets_rise)
 
     go : (o : Option ℕ) → ((q : ℕ) → o ≡ Some q → q < a.states)
         → All (λ s. s < a.sets) (sets_of (step_from a o (word t))) × IsStrictlyIncreasing (sets_of (step_from a o (word t)))
@@ -73,11 +73,11 @@ answer_zero : (shape : Shape) (n : ℕ) (o : Option ℕ) (i : ℕ) → is_some o
 answer_zero shape n None i some = absurd (cc some)
 answer_zero shape n (Some q) i some = refl
 
-pub meets_of : (a : Automaton) (game : List GameVertex) (word play : ℕ → ℕ) → IsAutomaton a → HasGoodSteps a → IsWord a word
+pub meets_of : (a : Automaton) (game : List GameVertex) (word play : ℕ → ℕ) → IsAutomaton a → IsWord a word
     → Traces a game word play → ((t : ℕ) → IsSome (state_after a word t))
     → Meets a.shape a.sets (λ t. sets_of (step_at a word t)) (λ u. priority game (play u))
 unfolding Matters
-meets_of a game word play is good letters_in tr endless = record {
+meets_of a game word play is letters_in tr endless = record {
   in_range = λ t s h. below t s h;
   over_none = λ t. (at t).0;
   over_each = λ t s h. (at t).1 s h;
@@ -87,11 +87,11 @@ meets_of a game word play is good letters_in tr endless = record {
 }
   where
     below : (t s : ℕ) → Contains (sets_of (step_at a word t)) s → s < a.sets
-    below t s h = All-contains (λ x. x < a.sets) (sets_of (step_at a word t)) s (sets_good a word is good letters_in t).0 h
+    below t s h = All-contains (λ x. x < a.sets) (sets_of (step_at a word t)) s (sets_good a word is letters_in t).0 h
 
     at : (t : ℕ) → Matters a.shape a.sets (sets_of (step_at a word t)) (priority game (play (2 * suc t)))
     at t = subst (Matters a.shape a.sets (sets_of (step_at a word t))) (sym (tr.arrivals (suc t)).prioritised)
-        (arrival_matters a.shape a.sets (step_at a word t) (endless (suc t)) (sets_good a word is good letters_in t).1 (below t))
+        (arrival_matters a.shape a.sets (step_at a word t) (endless (suc t)) (sets_good a word is letters_in t).1 (below t))
 
 -- who wins it
 
@@ -133,15 +133,15 @@ dead_lost a game word play t tr e = (
     one : (u : ℕ) → 2 * t ≤ u → priority game (play u) ≡ 1
     one u le = (dead_after a game word play tr t u e le).prioritised
 
-pub decides : (a : Automaton) (game : List GameVertex) (word play : ℕ → ℕ) → IsAutomaton a → HasGoodSteps a → IsWord a word
+pub decides : (a : Automaton) (game : List GameVertex) (word play : ℕ → ℕ) → IsAutomaton a → IsWord a word
     → (condition : Formula) → HasShape condition a.sets a.shape → Traces a game word play
     → IsAccepted a condition word ↔ WinsPlay Even (λ u. priority game (play u))
-decides a game word play is good letters_in condition has tr = (to, from)
+decides a game word play is letters_in condition has tr = (to, from)
   where
     to : IsAccepted a condition word → WinsPlay Even (λ u. priority game (play u))
     to acc (p, g, odd) =
-        not_not_collected (SetRecurs a word) a.sets (λ (c, just, past).
-        let m = meets_of a game word play is good letters_in tr acc.endless in
+        not_not_collected (SetRecurs a word) a.sets (λ (c, just).
+        let m = meets_of a game word play is letters_in tr acc.endless in
         let e : p % 2 ≡ 0 =
         (even_iff a.shape a.sets (λ t. sets_of (step_at a word t)) (λ u. priority game (play u)) c p has.has_sets m g just).1
         ((has.tells c).0 (acc.satisfied c just)) in
@@ -165,7 +165,7 @@ decides a game word play is good letters_in condition has tr = (to, from)
               absurd ((one_loser (λ u. priority game (play u)) b.0 (λ s. b.1 (play s))).not_none (λ (p, g).
               elim (parity_of p) [
                 | inl even ↦
-                    let m = meets_of a game word play is good letters_in tr endless in
+                    let m = meets_of a game word play is letters_in tr endless in
                     let k : false ≡ true = sym f ∙ (has.tells c).1
                     ((even_iff a.shape a.sets (λ t. sets_of (step_at a word t)) (λ u. priority game (play u)) c p has.has_sets m g just).0 even) in
                     cc k
@@ -173,13 +173,12 @@ decides a game word play is good letters_in condition has tr = (to, from)
               ]))
         ]
 
-pub traces_one : (a : Automaton) (game : List GameVertex) (word : ℕ → ℕ) → IsAutomaton a → HasGoodSteps a → IsGameOfAutomaton a game
+pub traces_one : (a : Automaton) (game : List GameVertex) (word : ℕ → ℕ) → IsAutomaton a → IsGameOfAutomaton a game
     → IsWord a word → TracesOnePlay a game word
-traces_one a game word is good g letters_in = record {
-  traced = the_play a game word is good g letters_in;
+traces_one a game word is g letters_in = record {
+  traced = the_play a game word is g letters_in;
   one = one_play a game word g;
   ends = λ play tr. dead_after a game word play tr;
-  collected = λ none. not_not_collected (SetRecurs a word) a.sets (λ (on, just, past). none (on, just));
   decides = λ condition fits play tr.
-      decides a game word play is good letters_in condition (shape_of_fits condition a.sets a.shape fits) tr;
+      decides a game word play is letters_in condition (shape_of_fits condition a.sets a.shape fits) tr;
 }

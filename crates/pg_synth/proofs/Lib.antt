@@ -1,6 +1,5 @@
 pub mod Letters
 pub mod Lists
-pub mod Collections
 pub mod Ranks
 pub mod Recurs
 pub mod Accepting
@@ -10,3 +9,8 @@ pub mod WorkedGame
 pub mod WorkedLeast
 pub mod OneGame
 pub mod Places
+pub mod Made
+pub mod Linked
+pub mod Numbers
+pub mod Building
+pub mod Limits

@@ -1,8 +1,9 @@
 -- Membership in lists that are made from others.
-use Rattle.std.proofs.Common.{◌≡◌, ℕ, ◌<◌, inl, inr, List, [], ◌∷◌, ◌++◌, length, map, get_or, arith, refl, sym, subst, ◌∙◌}
+use Rattle.std.proofs.Common.{◌≡◌, ℕ, ◌+◌, ◌<◌, inl, inr, List, [], ◌∷◌, ◌++◌, map, append_assoc, map-id, arith, sym, ap, subst, ◌∙◌}
 use Rattle.std.specs.List.{Contains, flat_map, range_with_len}
+use Rattle.std.proofs.lemmas.List.{flat_map_more}
 use Rattle.std.proofs.lemmas.List.Elements.{Contains-append_left, Contains-append_right, Contains-append_cases}
-use Rattle.std.proofs.lemmas.List.FromFn.{length-range_with_len, get_or-range_with_len}
+use Rattle.std.proofs.lemmas.List.FromFn.{length-range_with_len, get_or-range_with_len, map-range_with_len_more}
 use Rattle.pg_arena.specs.Lines.{each_once}
 use Rattle.pg_arena.proofs.Rising.{contains_from, has_contained, has_each_once}
 use Rattle.pg_arena.proofs.Unknown.{contains_cases, contains_here, contains_later}
@@ -58,3 +59,17 @@ contains_each ns q c = contains_from q ns (sym (has_each_once q ns) ∙ has_cont
 
 pub each_contains : (ns : List ℕ) (q : ℕ) → Contains ns q → Contains (each_once ns) q
 each_contains ns q c = contains_from q (each_once ns) (has_each_once q ns ∙ has_contained q ns c)
+
+-- one more element of a list made from numbers
+pub pushed : (f : ℕ → ℕ) (base before after : List ℕ) (i v : ℕ) → before ≡ base ++ map f (range_with_len 0 i) → after ≡ before ++ v ∷ [] → v ≡ f i
+    → after ≡ base ++ map f (range_with_len 0 (i + 1))
+pushed f base before after i v e d is =
+    d ∙ rw (e, is) (append_assoc base (map f (range_with_len 0 i)) (f i ∷ []) ∙ ap (λ (xs : List ℕ). base ++ xs) (sym (map-range_with_len_more f 0 i i (omega arith))))
+
+pub flat_more : (f : ℕ → List ℕ) (base before after : List ℕ) (i : ℕ) → before ≡ base ++ flat_map f (range_with_len 0 i) → after ≡ before ++ f i
+    → after ≡ base ++ flat_map f (range_with_len 0 (i + 1))
+flat_more f base before after i e d =
+    d ∙ rw e (flat_map_more f base (range_with_len 0 i) i ∙ ap (λ (xs : List ℕ). base ++ flat_map f xs) (sym more))
+  where
+    more : range_with_len 0 (i + 1) ≡ range_with_len 0 i ++ i ∷ []
+    more = sym (map-id (range_with_len 0 (i + 1))) ∙ map-range_with_len_more (λ x. x) 0 i i (omega arith) ∙ ap (λ (xs : List ℕ). xs ++ i ∷ []) (map-id (range_with_len 0 i))

@@ -1,16 +1,16 @@
 -- Identifiers tell places apart, and those of the game are the listed ones.
-use Rattle.std.proofs.Common.{◌≡◌, ℕ, zero, suc, ◌+◌, ◌*◌, ◌-◌, ◌/◌, ◌%◌, ◌^◌, ◌<◌, ◌≤◌, ◌⊎◌, inl, inr, true, false, eqb, leb, List, [], ◌∷◌, ◌++◌, map, Option, Some, None, arith, refl, sym, subst, ap, ◌∙◌}
+use Rattle.std.proofs.Common.{◌≡◌, ℕ, ◌+◌, ◌*◌, ◌-◌, ◌/◌, ◌%◌, ◌^◌, ◌<◌, inl, inr, true, false, eqb, leb, List, [], ◌∷◌, map, length, Option, Some, None, arith, refl, sym, subst, ap, ◌∙◌}
 use Rattle.std.specs.List.{Contains, All, flat_map, range_with_len}
 use Rattle.std.specs.List.Sorted.{IsStrictlyIncreasing}
 use Rattle.std.proofs.lemmas.Bool.{ne_eqb, le-leb, lt-leb}
-use Rattle.std.proofs.lemmas.Nat.{div-mul-add, mod-mul-add}
+use Rattle.std.proofs.lemmas.Nat.{div-mul-add, mod-mul-add, pow_pos}
+use Rattle.std.proofs.lemmas.List.FromFn.{length-map-range_with_len}
 use Rattle.std.proofs.lemmas.List.Elements.{All-contains, Contains-append_left, Contains-append_right, Contains-append_cases}
 use Rattle.pg_arena.proofs.Unknown.{contains_cases, contains_here, contains_later}
 use Rattle.pg_hoa.specs.declared.shape.Shape.{Shape}
 use Rattle.pg_hoa.specs.Automata.{Step, Automaton, IsAutomaton, letters, next, deciding}
-use Rattle.pg_synth.specs.Letters.{joined}
-use Rattle.pg_synth.specs.Words.{HasGoodSteps}
-use Rattle.pg_synth.specs.AutomatonGames.{input_letters, output_letters, width, place_identifier, arrival_of, IsPlaceOf, IsArrival, Moves}
+use Rattle.pg_synth.specs.Letters.{joined, inputs, outputs}
+use Rattle.pg_synth.specs.AutomatonGames.{input_letters, output_letters, width, place_identifier, arrival_of, IsPlaceOf, Moves}
 use Rattle.pg_synth.specs.Mirrors.GameLines.{place_within, place_with, place_in, target, leads, added_by, all_identifiers, game_identifiers}
 use Rattle.pg_synth.specs.declared.place.Place.{Place}
 use Rattle.pg_synth.specs.declared.place.Place.TheVariants.{Dead, Arrival, Answer}
@@ -55,7 +55,7 @@ known a (Answer q i) h =
 
 -- ---- places of the game
 
-deciding_below : (shape : Shape) (n : ℕ) (step : Step) (s : ℕ) → All (λ s. s < n) step.sets → IsStrictlyIncreasing step.sets
+pub deciding_below : (shape : Shape) (n : ℕ) (step : Step) (s : ℕ) → All (λ s. s < n) step.sets → IsStrictlyIncreasing step.sets
     → deciding shape step.sets ≡ Some s → s < n
 deciding_below shape n step s below rise e = elim (deciding_cases shape step.sets rise) [
   | inl (none, _) ↦ absurd (let w : None ≡ Some s = sym none ∙ e in cc w)
@@ -65,29 +65,29 @@ deciding_below shape n step s below rise e = elim (deciding_cases shape step.set
       subst (λ k. k < n) same (All-contains (λ k. k < n) step.sets r below first.occurs)
 ]
 
-pub within_game : (a : Automaton) (x : Place) → HasGoodSteps a → IsPlaceOf a x → IsWithin a x
-within_game a Dead good h = tt
-within_game a (Arrival q None) good h = tt
-within_game a (Arrival q (Some s)) good (inl e) = absurd (cc e)
-within_game a (Arrival q (Some s)) good (inr (p, letter, lp, ll, e)) = go (next a p letter) refl e
+pub within_game : (a : Automaton) (x : Place) → IsAutomaton a → IsPlaceOf a x → IsWithin a x
+within_game a Dead is h = tt
+within_game a (Arrival q None) is h = tt
+within_game a (Arrival q (Some s)) is (inl e) = absurd (cc e)
+within_game a (Arrival q (Some s)) is (inr (p, letter, lp, ll, e)) = go (next a p letter) refl e
   where
     go : (o : Option Step) → next a p letter ≡ o → Arrival q (Some s) ≡ arrival_of a.shape o → s < a.sets
     go None f d = absurd (cc d)
     go (Some step) f d =
-        let g = good p letter step lp ll f in
+        let g = is.steps p letter step lp ll f in
         let same : deciding a.shape step.sets ≡ Some s = cc d in
         deciding_below a.shape a.sets step s g.sets_below g.sets_rise same
-within_game a (Answer q i) good h = h.1
+within_game a (Answer q i) is h = h.1
 
-pub arrival_below : (a : Automaton) (q : ℕ) (set : Option ℕ) → IsAutomaton a → HasGoodSteps a → IsPlaceOf a (Arrival q set) → q < a.states
-arrival_below a q set is good (inl e) =
+pub arrival_below : (a : Automaton) (q : ℕ) (set : Option ℕ) → IsAutomaton a → IsPlaceOf a (Arrival q set) → q < a.states
+arrival_below a q set is (inl e) =
     let same : q ≡ a.start = cc e in omega (arith, is.start_below)
-arrival_below a q set is good (inr (p, letter, lp, ll, e)) = go (next a p letter) refl e
+arrival_below a q set is (inr (p, letter, lp, ll, e)) = go (next a p letter) refl e
   where
     go : (o : Option Step) → next a p letter ≡ o → Arrival q set ≡ arrival_of a.shape o → q < a.states
     go None f d = absurd (cc d)
     go (Some step) f d =
-        let g = good p letter step lp ll f in
+        let g = is.steps p letter step lp ll f in
         let same : q ≡ step.target = cc d in omega (arith, g.target_below)
 
 reached : (a : Automaton) (q letter : ℕ) → q < a.states → letter < letters a → IsPlaceOf a (arrival_of a.shape (next a q letter))
@@ -97,14 +97,14 @@ reached a q letter lq ll = go (next a q letter) refl
     go None f = tt
     go (Some step) f = inr (q, letter, lq, ll, ap (arrival_of a.shape) (sym f))
 
-letter_in : (a : Automaton) (i o : ℕ) → IsAutomaton a → joined a.controllable i o < letters a
+pub letter_in : (a : Automaton) (i o : ℕ) → IsAutomaton a → joined a.controllable i o < letters a
 letter_in a i o is = subst (λ n. joined a.controllable i o < 2 ^ n) is.marks (joined_in a.controllable i o)
 
 -- moves stay in the game
-pub moved : (a : Automaton) (x y : Place) → IsAutomaton a → HasGoodSteps a → IsPlaceOf a x → Moves a x y → IsPlaceOf a y
-moved a Dead y is good h e = subst (IsPlaceOf a) (sym e) tt
-moved a (Arrival q set) y is good h (i, l, e) = subst (IsPlaceOf a) (sym e) (arrival_below a q set is good h, l)
-moved a (Answer q i) y is good h (o, l, e) =
+pub moved : (a : Automaton) (x y : Place) → IsAutomaton a → IsPlaceOf a x → Moves a x y → IsPlaceOf a y
+moved a Dead y is h e = subst (IsPlaceOf a) (sym e) tt
+moved a (Arrival q set) y is h (i, l, e) = subst (IsPlaceOf a) (sym e) (arrival_below a q set is h, l)
+moved a (Answer q i) y is h (o, l, e) =
     subst (IsPlaceOf a) (sym e) (reached a q (joined a.controllable i o) h.0 (letter_in a i o is))
 
 -- ---- the listed identifiers are those of the places
@@ -185,3 +185,16 @@ leading a (Arrival q set) y (i, l, e) = subst (λ z. Contains (leads a (Arrival 
     (range_contained (λ i. place_identifier a (Answer q i)) (input_letters a) i l)
 leading a (Answer q i) y (o, l, e) = subst (λ z. Contains (leads a (Answer q i)) (place_identifier a z)) (sym e)
     (range_contained (λ o. target a q (joined a.controllable i o)) (output_letters a) o l)
+
+pub has_leads : (a : Automaton) (x : Place) → 0 < length (leads a x)
+has_leads a Dead = omega arith
+has_leads a (Arrival q set) =
+    omega (arith, length-map-range_with_len (λ i. place_identifier a (Answer q i)) 0 (input_letters a), pow_pos (inputs a.controllable))
+has_leads a (Answer q i) =
+    omega (arith, length-map-range_with_len (λ o. target a q (joined a.controllable i o)) 0 (output_letters a), pow_pos (outputs a.controllable))
+
+-- a listed identifier is that of a place
+pub place_listed : (a : Automaton) (n : ℕ) → IsAutomaton a → Contains (game_identifiers a) n → IsPlaceOf a (place_in a n)
+place_listed a n is c =
+    let x = only_listed a n c in
+    subst (IsPlaceOf a) (sym (ap (place_in a) (sym x.2) ∙ known a x.0 (within_game a x.0 is x.1))) x.1

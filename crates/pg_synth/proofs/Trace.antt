@@ -5,7 +5,7 @@ use Rattle.std.proofs.lemmas.List.Kept.{AllPairs-from_increasing}
 use Rattle.pg_arena.specs.Games.{GameVertex, IsGame, IsEdge, vertex_at, identifiers}
 use Rattle.pg_hoa.specs.Automata.{Step, Automaton, IsAutomaton, next}
 use Rattle.pg_synth.specs.Letters.{input_of, output_of}
-use Rattle.pg_synth.specs.Words.{HasGoodSteps, IsWord, step_from, step_at, target_of, state_after}
+use Rattle.pg_hoa.specs.Words.{IsWord, step_from, step_at, target_of, state_after}
 use Rattle.pg_synth.specs.AutomatonGames.{arrival_of, IsPlaceOf, IsArrival, Moves, StandsFor, IsGameOfAutomaton}
 use Rattle.pg_synth.specs.Tracing.{arrival_after, answer_at, answer_after, Traces}
 use Rattle.pg_synth.specs.declared.place.Place.{Place}
@@ -49,16 +49,16 @@ one_vertex a game g v w x here there =
 
 -- ---- every place that is traced is in the game
 
-pub state_in : (a : Automaton) (word : ℕ → ℕ) → IsAutomaton a → HasGoodSteps a → IsWord a word → (t q : ℕ)
+pub state_in : (a : Automaton) (word : ℕ → ℕ) → IsAutomaton a → IsWord a word → (t q : ℕ)
     → state_after a word t ≡ Some q → q < a.states
-state_in a word is good letters_in zero q e = let f : a.start ≡ q = grind (arith, e) in let l = is.start_below in omega (arith, f, l)
-state_in a word is good letters_in (suc t) q e = go (state_after a word t) (state_in a word is good letters_in t) e
+state_in a word is letters_in zero q e = let f : a.start ≡ q = grind (arith, e) in let l = is.start_below in omega (arith, f, l)
+state_in a word is letters_in (suc t) q e = go (state_after a word t) (state_in a word is letters_in t) e
   where
     there : (o : Option Step) (p : ℕ) → p < a.states → next a p (word t) ≡ o → target_of o ≡ Some q → q < a.states
     there None p below f e = absurd (cc e)
     there (Some step) p below f e =
         let g : step.target ≡ q = grind (arith, e) in
-        let l = (good p (word t) step below (letters_in t) f).target_below in omega (arith, g, l)
+        let l = (is.steps p (word t) step below (letters_in t) f).target_below in omega (arith, g, l)
 
     go : (o : Option ℕ) → ((p : ℕ) → o ≡ Some p → p < a.states) → target_of (step_from a o (word t)) ≡ Some q → q < a.states
     go None h e = absurd (cc e)
@@ -68,18 +68,18 @@ in_arrived : (a : Automaton) (o : Option Step) → IsArrival a (arrival_of a.sha
 in_arrived a None h = tt
 in_arrived a (Some step) h = h
 
-pub arrival_in : (a : Automaton) (word : ℕ → ℕ) → IsAutomaton a → HasGoodSteps a → IsWord a word → (t : ℕ)
+pub arrival_in : (a : Automaton) (word : ℕ → ℕ) → IsAutomaton a → IsWord a word → (t : ℕ)
     → IsPlaceOf a (arrival_after a word t)
-arrival_in a word is good letters_in zero = inl refl
-arrival_in a word is good letters_in (suc t) = go (state_after a word t) (state_in a word is good letters_in t)
+arrival_in a word is letters_in zero = inl refl
+arrival_in a word is letters_in (suc t) = go (state_after a word t) (state_in a word is letters_in t)
   where
     go : (o : Option ℕ) → ((q : ℕ) → o ≡ Some q → q < a.states) → IsPlaceOf a (arrival_of a.shape (step_from a o (word t)))
     go None h = tt
     go (Some q) h = in_arrived a (next a q (word t)) (inr (q, word t, h q refl, letters_in t, refl))
 
-pub answer_in : (a : Automaton) (word : ℕ → ℕ) → IsAutomaton a → HasGoodSteps a → IsWord a word → (t : ℕ)
+pub answer_in : (a : Automaton) (word : ℕ → ℕ) → IsAutomaton a → IsWord a word → (t : ℕ)
     → IsPlaceOf a (answer_after a word t)
-answer_in a word is good letters_in t = go (state_after a word t) (state_in a word is good letters_in t)
+answer_in a word is letters_in t = go (state_after a word t) (state_in a word is letters_in t)
   where
     go : (o : Option ℕ) → ((q : ℕ) → o ≡ Some q → q < a.states) → IsPlaceOf a (answer_at o (input_of a.controllable (word t)))
     go None h = tt
@@ -130,22 +130,22 @@ place_odd a word t =
 pub halves : (u : ℕ) → ((t : ℕ) × (u ≡ 2 * t)) ⊎ ((t : ℕ) × (u ≡ 2 * t + 1))
 halves u = elim (cases_eq (u % 2) 0) [ inl e ↦ inl (u / 2, omega arith) | inr e ↦ inr (u / 2, omega arith) ]
 
-place_in : (a : Automaton) (word : ℕ → ℕ) → IsAutomaton a → HasGoodSteps a → IsWord a word → (u : ℕ)
+place_in : (a : Automaton) (word : ℕ → ℕ) → IsAutomaton a → IsWord a word → (u : ℕ)
     → IsPlaceOf a (place_at a word u)
-place_in a word is good letters_in u = elim (halves u) [
+place_in a word is letters_in u = elim (halves u) [
   | inl h ↦ subst (IsPlaceOf a) (sym (ap (place_at a word) h.1 ∙ place_even a word h.0))
-      (arrival_in a word is good letters_in h.0)
+      (arrival_in a word is letters_in h.0)
   | inr h ↦ subst (IsPlaceOf a) (sym (ap (place_at a word) h.1 ∙ place_odd a word h.0))
-      (answer_in a word is good letters_in h.0)
+      (answer_in a word is letters_in h.0)
 ]
 
-pub the_play : (a : Automaton) (game : List GameVertex) (word : ℕ → ℕ) → IsAutomaton a → HasGoodSteps a
+pub the_play : (a : Automaton) (game : List GameVertex) (word : ℕ → ℕ) → IsAutomaton a
     → IsGameOfAutomaton a game → IsWord a word → (play : ℕ → ℕ) × Traces a game word play
-the_play a game word is good g letters_in =
+the_play a game word is g letters_in =
     (play, record { goes_on = goes_on; arrivals = arrivals; answers = answers })
   where
     found : (u : ℕ) → (v : ℕ) × StandsFor a game v (place_at a word u)
-    found u = g.each_place (place_at a word u) (place_in a word is good letters_in u)
+    found u = g.each_place (place_at a word u) (place_in a word is letters_in u)
 
     play : ℕ → ℕ
     play u = (found u).0

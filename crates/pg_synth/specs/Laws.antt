@@ -7,7 +7,7 @@ use Rattle.pg_hoa.specs.Automata.{Automaton, IsAutomaton}
 use Rattle.pg_hoa.specs.Formulas.{Formula}
 use Rattle.pg_hoa.specs.Shapes.{FitsShape}
 use Rattle.pg_synth.specs.Letters.{JoinsBack}
-use Rattle.pg_synth.specs.Words.{HasGoodSteps, IsWord, state_after, HoldsRecurring, IsAccepted}
+use Rattle.pg_hoa.specs.Words.{IsWord, state_after, IsAccepted}
 use Rattle.pg_synth.specs.AutomatonGames.{StandsFor, IsGameOfAutomaton}
 use Rattle.pg_synth.specs.Tracing.{Traces}
 use Rattle.pg_synth.specs.declared.place.Place.TheVariants.{Dead}
@@ -23,19 +23,19 @@ pub record TracesOnePlay (a : Automaton) (game : List GameVertex) (word : ℕ �
   pub one : (first second : ℕ → ℕ) → Traces a game word first → Traces a game word second → (t : ℕ) → first t ≡ second t
   pub ends : (play : ℕ → ℕ) → Traces a game word play → (t u : ℕ) → state_after a word t ≡ None → 2 * t ≤ u
       → StandsFor a game (play u) Dead
-  pub collected : ¬ ¬ ((on : ℕ → Bool) × HoldsRecurring a word on)
   pub decides : (condition : Formula) → FitsShape condition a.sets a.shape → (play : ℕ → ℕ) → Traces a game word play
       → IsAccepted a condition word ↔ WinsPlay Even (λ t. priority game (play t))
 
 abbrev pub WordAndPlay : Type 0
 WordAndPlay =
-    (a : Automaton) (game : List GameVertex) (word : ℕ → ℕ) → IsAutomaton a → HasGoodSteps a → IsGameOfAutomaton a game
+    (a : Automaton) (game : List GameVertex) (word : ℕ → ℕ) → IsAutomaton a → IsGameOfAutomaton a game
     → IsWord a word → TracesOnePlay a game word
 
--- two games of one automaton are the same
+-- an automaton has a game, and every other is the same
 abbrev pub OneGame : Type 0
 OneGame =
-    (a : Automaton) (first second : List GameVertex) → IsGameOfAutomaton a first → IsGameOfAutomaton a second → first ≡ second
+    (a : Automaton) → IsAutomaton a
+    → (game : List GameVertex) × IsGameOfAutomaton a game × ((other : List GameVertex) → IsGameOfAutomaton a other → other ≡ game)
 
 abbrev pub WorkedGames : Type 0
 WorkedGames = IsGameOfAutomaton agreeing game_of_agreeing × IsGameOfAutomaton choosing game_of_choosing

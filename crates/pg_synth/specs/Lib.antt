@@ -1,7 +1,7 @@
 pub mod Letters
-pub mod Words
 pub mod AutomatonGames
 pub mod Tracing
+pub mod Answers
 pub mod Worked
 pub mod Laws
 pub mod Mirrors

@@ -4,7 +4,7 @@ use Rattle.pg_arena.specs.Games.{GameVertex, IsEdge}
 use Rattle.pg_check.specs.Plays.{IsPlay}
 use Rattle.pg_hoa.specs.Automata.{Automaton}
 use Rattle.pg_synth.specs.Letters.{input_of}
-use Rattle.pg_synth.specs.Words.{state_after, step_at}
+use Rattle.pg_hoa.specs.Words.{state_after, step_at}
 use Rattle.pg_synth.specs.AutomatonGames.{StandsFor, arrival_of}
 use Rattle.pg_synth.specs.declared.place.Place.{Place}
 use Rattle.pg_synth.specs.declared.place.Place.TheVariants.{Dead, Arrival, Answer}

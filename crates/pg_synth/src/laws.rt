@@ -3,7 +3,7 @@
 ghost use Rattle.std.specs.Prelude.{List};
 ghost use Rattle.pg_arena.specs.Games.{GameVertex};
 ghost use Rattle.pg_hoa.specs.Automata.{Automaton, IsAutomaton};
-ghost use Rattle.pg_synth.specs.Words.{HasGoodSteps, IsWord};
+ghost use Rattle.pg_hoa.specs.Words.{IsWord};
 ghost use Rattle.pg_synth.specs.AutomatonGames.{IsGameOfAutomaton};
 ghost use Rattle.pg_synth.specs.Laws.{JoinedLetters, OneGame, TracesOnePlay, WordAndPlay, WorkedGames};
 
@@ -21,7 +21,7 @@ pub fn word_and_play()
 
 /// The same of a word that is given.
 pub fn word_and_play_of<W: Word>(word: &W)
-    ensures { (a : Automaton) (game : List GameVertex) → IsAutomaton a → HasGoodSteps a → IsGameOfAutomaton a game
+    ensures { (a : Automaton) (game : List GameVertex) → IsAutomaton a → IsGameOfAutomaton a game
         → IsWord a (W.letter word.now) → TracesOnePlay a game (W.letter word.now) }
 {}
 
@@ -30,7 +30,7 @@ pub fn worked_games()
     ensures { WorkedGames }
 {}
 
-/// An automaton has at most one game.
+/// An automaton has one game.
 pub fn one_game()
     ensures { OneGame }
 {}

@@ -2,9 +2,15 @@
 //! its plays to endless words.
 #![tactic(auto)]
 
+mod fault;
+mod game;
 pub mod laws;
+mod layout;
+mod lines;
 mod place;
 mod word;
 
+pub use fault::SynthFault;
+pub use game::{SynthGame, game_of};
 pub use place::Place;
 pub use word::{InputWord, Word};

@@ -1,5 +1,14 @@
 //! What the vertices of the game of an automaton stand for.
 
+ghost use Rattle.std.specs.Prelude.{◌≡◌, ◌<◌, ◌≤◌, ◌++◌, decimal, OnOk};
+ghost use Rattle.pg_synth.specs.AutomatonGames.{place_owner, place_priority, place_name, none_priority, set_priority};
+ghost use Rattle.pg_synth.specs.Mirrors.GameLines.{place_with, HasSetBelow};
+
+use itoa::Buffer;
+use pg_arena::Player;
+use pg_hoa::Shape;
+use std::alloc::AllocError;
+
 /// A place in a run that is played step by step: Odd chooses an input letter at an arrival, Even an output letter at an
 /// answer.
 #[derive(Clone, Copy, Debug, PartialEq, Eq)]
@@ -10,4 +19,105 @@ pub enum Place {
     Arrival(u32, Option<u32>),
     /// The run is at the state, and the input letter is chosen.
     Answer(u32, u32),
+}
+
+impl Place {
+    /// The place with an identifier, where there are so many sets and each state has so many identifiers.
+    pub(crate) fn with_identifier(identifier: u32, sets: u32, width: u32) -> Place
+        requires wide { 0 < width }
+        requires few { sets ≤ 4096 }
+        ensures { result ≡ place_with sets width identifier }
+    {
+        if identifier == 0 {
+            return Place::Dead;
+        }
+        let state = (identifier - 1) / width;
+        let number = (identifier - 1) % width;
+        if number == 0 {
+            Place::Arrival(state, None)
+        } else if number <= sets {
+            Place::Arrival(state, Some(number - 1))
+        } else {
+            Place::Answer(state, number - 1 - sets)
+        }
+    }
+
+    /// Who goes on from it.
+    pub(crate) fn owner(self) -> Player
+        ensures { result ≡ place_owner self }
+    {
+        match self {
+            Place::Dead | Place::Arrival(_, _) => Player::Odd,
+            Place::Answer(_, _) => Player::Even,
+        }
+    }
+
+    /// Its priority, under an acceptance of the shape over so many sets.
+    pub(crate) fn priority(self, shape: Shape, sets: u32) -> u32
+        requires few { sets ≤ 4096 }
+        requires below { HasSetBelow sets self }
+        ensures { result ≡ place_priority shape sets self }
+    {
+        match self {
+            Place::Dead => 1,
+            Place::Arrival(_, None) => none_priority(shape, sets),
+            Place::Arrival(_, Some(set)) => set_priority(shape, sets, set),
+            Place::Answer(_, _) => 0,
+        }
+    }
+
+    /// Makes the text that of its name.
+    pub(crate) fn put_name(self, name: &mut Vec<u8>) -> Result<(), AllocError>
+        ensures { OnOk result (name.new.items ≡ place_name self) }
+    {
+        name.clear();
+        match self {
+            Place::Dead => name.extend_from_slice(b"dead"),
+            Place::Arrival(state, None) => append(name, b"s", state),
+            Place::Arrival(state, Some(set)) => {
+                append(name, b"s", state)?;
+                append(name, b"/", set)
+            }
+            Place::Answer(state, input) => {
+                append(name, b"s", state)?;
+                append(name, b":", input)
+            }
+        }
+    }
+}
+
+fn none_priority(shape: Shape, sets: u32) -> u32
+    requires { sets ≤ 4096 }
+    ensures { result ≡ none_priority shape sets }
+{
+    match shape {
+        Shape::MaxEven => 1,
+        Shape::MaxOdd => 0,
+        Shape::MinEven => sets % 2,
+        Shape::MinOdd => (sets + 1) % 2,
+        Shape::Always => 2,
+        Shape::Never => 1,
+    }
+}
+
+fn set_priority(shape: Shape, sets: u32, set: u32) -> u32
+    requires few { sets ≤ 4096 }
+    requires below { set < sets }
+    ensures { result ≡ set_priority shape sets set }
+{
+    match shape {
+        Shape::MaxEven => set + 2,
+        Shape::MinEven => 2 * sets + 2 - set,
+        Shape::MinOdd => 2 * sets + 3 - set,
+        Shape::MaxOdd | Shape::Always | Shape::Never => set + 3,
+    }
+}
+
+/// Appends a mark and a number.
+fn append(name: &mut Vec<u8>, mark: &[u8], number: u32) -> Result<(), AllocError>
+    ensures { OnOk result (name.new.items ≡ name.old.items ++ mark.now ++ decimal number) }
+{
+    let mut buffer = Buffer::new();
+    name.extend_from_slice(mark)?;
+    name.extend_from_slice(buffer.format(number).as_bytes())
 }

@@ -1,6 +1,6 @@
 -- The lines of which the game of an automaton is made.
-use Rattle.std.specs.Prelude.{ℕ, ◌+◌, ◌-◌, ◌/◌, ◌%◌, ◌==◌, nat_le, if◌then◌else◌, List, [], ◌∷◌, ◌++◌, map, Some, None}
-use Rattle.std.specs.List.{flat_map, range_with_len, sum_by}
+use Rattle.std.specs.Prelude.{ℕ, ◌-◌, ◌/◌, ◌%◌, ◌<◌, ◌==◌, nat_le, if◌then◌else◌, List, [], ◌∷◌, ◌++◌, map, length, Some, None}
+use Rattle.std.specs.List.{flat_map, range_with_len}
 use Rattle.pg_arena.specs.Lines.{Line, each_once}
 use Rattle.pg_hoa.specs.Automata.{Automaton, letters, next}
 use Rattle.pg_synth.specs.Letters.{joined}
@@ -43,6 +43,10 @@ all_identifiers a =
 abbrev pub game_identifiers : Automaton → List ℕ
 game_identifiers a = each_once (all_identifiers a)
 
+-- how many edges the vertex with an identifier has
+abbrev pub edges_of : Automaton → ℕ → ℕ
+edges_of a n = length (each_once (leads a (place_in a n)))
+
 abbrev pub line_of_place : Automaton → ℕ → Place → Line
 line_of_place a n x = record {
   identifier = n;
@@ -57,3 +61,10 @@ line_at a n = line_of_place a n (place_in a n)
 
 abbrev pub game_lines : Automaton → List Line
 game_lines a = map (line_at a) (game_identifiers a)
+
+-- the set of an arrival is one of so many
+abbrev pub HasSetBelow : ℕ → Place → Type 0
+HasSetBelow sets Dead = Unit {0}
+HasSetBelow sets (Arrival q None) = Unit {0}
+HasSetBelow sets (Arrival q (Some s)) = s < sets
+HasSetBelow sets (Answer q i) = Unit {0}

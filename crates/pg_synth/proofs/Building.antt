@@ -1,0 +1,113 @@
+-- The builder takes each line of the game, if these are within its limits.
+use Rattle.std.proofs.Common.{◌≡◌, ℕ, ◌<◌, ◌≤◌, false, eqb, List, [], ◌∷◌, length, map, get_or, take, Option, Some, None, Err, arith, refl, sym, ap, subst, ◌∙◌, ◌||◌}
+use Rattle.std.specs.List.{Contains, sum_by}
+use Rattle.std.specs.List.Sorted.{IsStrictlyIncreasing}
+use Rattle.std.proofs.lemmas.List.{length-map, length-take, get_or-take}
+use Rattle.std.proofs.lemmas.List.Elements.{Contains-get_or}
+use Rattle.std.proofs.lemmas.List.Sums.{sum_by-cons, sum_by_more_le}
+use Rattle.std.proofs.lemmas.Map.Keys.{sorted_from_strictly_increasing, below_from_sorted}
+use Rattle.pg_arena.specs.declared.player.Player.{Player}
+use Rattle.pg_arena.specs.declared.fault.ArenaFault.{ArenaFault}
+use Rattle.pg_arena.specs.declared.fault.ArenaFault.TheVariants.{OutOfMemory, DuplicateVertex, NoSuccessor, UnknownSuccessor, TooManyVertices, TooManyEdges, PriorityTooLarge, NoVertex}
+use Rattle.pg_arena.specs.Games.{GameVertex, edge_count}
+use Rattle.pg_arena.specs.Lines.{counted, is_named, add_fault, Answers}
+use Rattle.pg_arena.proofs.Adding.{names_none}
+use Rattle.pg_arena.proofs.Members.{has_none}
+use Rattle.pg_arena.proofs.Rising.{has, each_once_rises, each_once_length}
+use Rattle.pg_hoa.specs.declared.shape.Shape.{Shape}
+use Rattle.pg_hoa.specs.declared.shape.Shape.TheVariants.{MaxEven, MaxOdd, MinEven, MinOdd, Always, Never}
+use Rattle.pg_hoa.specs.Automata.{Automaton, IsAutomaton}
+use Rattle.pg_synth.specs.AutomatonGames.{set_priority, none_priority, place_priority, place_owner, place_name, IsPlaceOf}
+use Rattle.pg_synth.specs.Mirrors.GameLines.{place_with, place_in, leads, edges_of, line_at, all_identifiers, game_identifiers}
+use Rattle.pg_synth.specs.Mirrors.Layouts.{IsLayoutOf}
+use Rattle.pg_synth.specs.declared.layout.Layout.{Layout}
+use Rattle.pg_synth.specs.declared.place.Place.{Place}
+use Rattle.pg_synth.specs.declared.place.Place.TheVariants.{Dead, Arrival, Answer}
+use Rattle.pg_synth.proofs.Places.{IsWithin, within_game, place_listed, has_leads}
+
+-- ---- priorities are small
+
+set_small : (shape : Shape) (n s : ℕ) → n ≤ 4096 → s < n → set_priority shape n s ≤ 65535
+set_small MaxEven n s h l = omega arith
+set_small MaxOdd n s h l = omega arith
+set_small MinEven n s h l = omega arith
+set_small MinOdd n s h l = omega arith
+set_small Always n s h l = omega arith
+set_small Never n s h l = omega arith
+
+none_small : (shape : Shape) (n : ℕ) → none_priority shape n ≤ 65535
+none_small MaxEven n = omega arith
+none_small MaxOdd n = omega arith
+none_small MinEven n = omega arith
+none_small MinOdd n = omega arith
+none_small Always n = omega arith
+none_small Never n = omega arith
+
+priority_small : (a : Automaton) (x : Place) → IsAutomaton a → IsWithin a x → place_priority a.shape a.sets x ≤ 65535
+priority_small a Dead is h = omega arith
+priority_small a (Arrival q None) is h = none_small a.shape a.sets
+priority_small a (Arrival q (Some s)) is h = set_small a.shape a.sets s is.few_sets h
+priority_small a (Answer q i) is h = omega arith
+
+-- ---- no reason against a line
+
+named_is : (a : Automaton) (ns : List ℕ) (q : ℕ) → is_named (map (line_at a) ns) q ≡ has q ns
+named_is a [] q = refl
+named_is a (n ∷ ns) q = ap (λ b. eqb q n || b) (named_is a ns q)
+
+edges_so_far : (a : Automaton) (ns : List ℕ) → edge_count (map (line_at a) ns) ≡ sum_by (edges_of a) ns
+edges_so_far a [] = refl
+edges_so_far a (n ∷ ns) =
+    omega (arith, sum_by-cons (λ (x : GameVertex). length x.successors) (line_at a n) (map (line_at a) ns), sum_by-cons (edges_of a) n ns, edges_so_far a ns)
+
+pub may_follow : (a : Automaton) (ids : List ℕ) (k : ℕ) → IsAutomaton a → ids ≡ game_identifiers a → k < length ids → length ids ≤ 1048576
+    → sum_by (edges_of a) ids ≤ 8388608 → add_fault (map (line_at a) (take k ids)) (line_at a (get_or ids k 0)) ≡ None
+may_follow a ids k is e lt vertices edges =
+    names_none (map (line_at a) before) (line_at a n)
+    (record { priority = priority_small a (place_in a n) is (within_game a (place_in a n) is place); some = each_once_length (leads a (place_in a n)) (has_leads a (place_in a n)) })
+    (named_is a before n ∙ new)
+    (omega (arith, length-map before (line_at a), length-take k ids))
+    (omega (arith, edges_so_far a before, sum_by_more_le (edges_of a) ids k 0 lt))
+  where
+    n : ℕ
+    n = get_or ids k 0
+
+    before : List ℕ
+    before = take k ids
+
+    place : IsPlaceOf a (place_in a n)
+    place = place_listed a n is (subst (λ (xs : List ℕ). Contains xs n) e (Contains-get_or ids k 0 lt))
+
+    new : has n before ≡ false
+    new = has_none n before (λ j l same.
+        let short = length-take k ids in
+        let at : get_or (take k ids) j 0 ≡ get_or ids j 0 = get_or-take k ids j 0 (omega arith) in
+        let up = sorted_from_strictly_increasing ids (subst IsStrictlyIncreasing (sym e) (each_once_rises (all_identifiers a))) in
+        let less = below_from_sorted ids j k 0 up (omega arith) lt in omega (arith, at, same, less))
+
+-- then only memory can be refused
+pub memory_only : (T : Type 0) (fault : ArenaFault) (reason : Option ArenaFault) → reason ≡ None → Answers {T = T} (Err fault) reason → fault ≡ OutOfMemory
+memory_only T OutOfMemory reason e h = refl
+memory_only T (DuplicateVertex n) reason e h = absurd (let w = sym h ∙ e in cc w)
+memory_only T (NoSuccessor n) reason e h = absurd (let w = sym h ∙ e in cc w)
+memory_only T (UnknownSuccessor n s) reason e h = absurd (let w = sym h ∙ e in cc w)
+memory_only T TooManyVertices reason e h = absurd (let w = sym h ∙ e in cc w)
+memory_only T TooManyEdges reason e h = absurd (let w = sym h ∙ e in cc w)
+memory_only T (PriorityTooLarge n p) reason e h = absurd (let w = sym h ∙ e in cc w)
+memory_only T NoVertex reason e h = absurd (let w = sym h ∙ e in cc w)
+
+-- ---- what is added is the line
+
+pub place_at : (a : Automaton) (layout : Layout) (sets n : ℕ) (x : Place) → IsLayoutOf a layout → sets ≡ a.sets → x ≡ place_with sets layout.width n → x ≡ place_in a n
+place_at a layout sets n x laid e h = h ∙ ap (λ s. place_with s layout.width n) e ∙ ap (λ w. place_with a.sets w n) laid.width
+
+pub is_place : (a : Automaton) (layout : Layout) (ids : List ℕ) (sets k : ℕ) (x : Place) → IsLayoutOf a layout → ids ≡ game_identifiers a → k < length ids → sets ≡ a.sets
+    → x ≡ place_with sets layout.width (get_or ids k 0) → IsPlaceOf a x
+is_place a layout ids sets k x laid e lt s h =
+    subst (IsPlaceOf a) (sym (place_at a layout sets (get_or ids k 0) x laid s h))
+    (place_listed a (get_or ids k 0) laid.automaton (subst (λ (xs : List ℕ). Contains xs (get_or ids k 0)) e (Contains-get_or ids k 0 lt)))
+
+pub line_is : (a : Automaton) (n priority : ℕ) (owner : Player) (successors : List ℕ) (name : Option (List ℕ)) (x : Place) → x ≡ place_in a n
+    → priority ≡ place_priority a.shape a.sets x → owner ≡ place_owner x → successors ≡ leads a x → name ≡ Some (place_name x)
+    → counted (record { identifier = n; priority = priority; owner = owner; successors = successors; name = name }) ≡ line_at a n
+line_is a n priority owner successors name x e p o s m = rw (p, o, s, m, e) refl

@@ -1,0 +1,10 @@
+use Rattle.std.proofs.Common.{◌≡◌, ◌∷◌, None}
+use Rattle.std.specs.List.{flat_map, range_with_len}
+use Rattle.pg_synth.specs.AutomatonGames.{place_identifier}
+use Rattle.pg_synth.specs.Mirrors.GameLines.{added_by}
+use Rattle.pg_synth.specs.declared.place.Place.TheVariants.{Arrival}
+use Rattle.pg_synth.proofs.lines.identifiers_of.Given as goal
+
+abbrev pub invariant-loop-state : goal.invariant-loop-state
+invariant-loop-state l =
+    l.list.items ≡ 0 ∷ place_identifier l.automaton (Arrival l.automaton.start None) ∷ flat_map (added_by l.automaton) (range_with_len 0 l.state)

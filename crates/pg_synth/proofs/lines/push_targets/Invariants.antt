@@ -1,0 +1,8 @@
+use Rattle.std.proofs.Common.{◌≡◌, ◌++◌, map}
+use Rattle.std.specs.List.{range_with_len}
+use Rattle.pg_synth.specs.Mirrors.GameLines.{target}
+use Rattle.pg_synth.proofs.lines.push_targets.Given as goal
+
+abbrev pub invariant-loop-letter : goal.invariant-loop-letter
+invariant-loop-letter l =
+    l.list.items ≡ l.initial.list.items ++ map (target l.automaton l.state) (range_with_len 0 l.letter)

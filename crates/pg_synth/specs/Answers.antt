@@ -1,0 +1,19 @@
+-- What is answered for an automaton: its game and where that begins, or why there is none.
+use Rattle.std.specs.Prelude.{ℕ, List, None}
+use Rattle.pg_arena.specs.Games.{GameVertex, IsWithinLimits}
+use Rattle.pg_hoa.specs.Automata.{Automaton}
+use Rattle.pg_synth.specs.AutomatonGames.{StandsFor, IsGameOfAutomaton}
+use Rattle.pg_synth.specs.declared.fault.SynthFault.{SynthFault}
+use Rattle.pg_synth.specs.declared.fault.SynthFault.TheVariants.{OutOfMemory, TooLarge}
+use Rattle.pg_synth.specs.declared.place.Place.TheVariants.{Arrival}
+
+-- the game of the automaton, within the limits, with its initial vertex: the arrival at the initial state without a set
+pub record IsSynthGame (a : Automaton) (game : List GameVertex) (initial : ℕ) : Type 0 where
+  pub is_game_of : IsGameOfAutomaton a game
+  pub limits : IsWithinLimits game
+  pub begins : StandsFor a game initial (Arrival a.start None)
+
+-- why there is no game; memory may run out
+abbrev pub Refuses : Automaton → SynthFault → Type 0
+Refuses a OutOfMemory = Unit {0}
+Refuses a TooLarge = (game : List GameVertex) × IsGameOfAutomaton a game × ¬ IsWithinLimits game

@@ -1,0 +1,52 @@
+//! The game of an automaton.
+
+ghost use Rattle.std.specs.Prelude.{IfOk, IfErr};
+ghost use Rattle.pg_synth.specs.Answers.{IsSynthGame, Refuses};
+
+use crate::fault::SynthFault;
+use crate::layout::layout_of;
+use crate::lines::{built, has_few_edges, identifiers_of};
+use pg_arena::{Game, Vertex};
+use pg_hoa::Automaton;
+use std::alloc::Global;
+
+const MAX_VERTICES: usize = 1_048_576;
+
+/// The game of an automaton, with the vertex where it begins.
+#[derive(Drop)]
+pub struct SynthGame {
+    /// The game. Even wins a play exactly if the automaton accepts the word that traces it.
+    pub game: Game,
+    /// The arrival at the initial state without a set.
+    pub initial: Vertex,
+}
+
+/// The game of an automaton. Odd chooses input letters, Even output letters, and each vertex but the first, where a run has ended,
+/// is an arrival at a state or the answer at a state to an input letter. Every arrival that some state and letter lead to is
+/// there, and the answers at every state, reachable or not.
+///
+/// Refuses with `TooLarge` exactly if the game has more than 1,048,576 vertices, or more than 8,388,608 edges where edges between
+/// the same two vertices count once; it finds that before it makes the game. Else it refuses only with `OutOfMemory`.
+pub fn game_of(alloc: Global, automaton: &Automaton) -> Result<SynthGame, SynthFault>
+    ensures game { IfOk result (λ made. IsSynthGame automaton.now made.game made.initial) }
+    ensures fault { IfErr result (Refuses automaton.now) }
+{
+    // asked for what its contract says of the automaton
+    let _states = automaton.states();
+    let layout = layout_of(alloc, automaton)?;
+    let identifiers = identifiers_of(alloc, automaton, &layout)?;
+    if identifiers.len() > MAX_VERTICES {
+        return Err(SynthFault::TooLarge);
+    }
+    if !has_few_edges(alloc, automaton, &layout, &identifiers)? {
+        return Err(SynthFault::TooLarge);
+    }
+    // the limits are kept, so only memory can be refused
+    let Ok(game) = built(alloc, automaton, &layout, &identifiers) else {
+        return Err(SynthFault::OutOfMemory);
+    };
+    let initial = game
+        .vertex_of(1 + automaton.start() * layout.width)
+        .unwrap();
+    Ok(SynthGame { game, initial })
+}

@@ -1,0 +1,114 @@
+//! How the vertices of the game of an automaton are numbered: each state has a number for its arrival without a set, one for
+//! that with each set, and one for its answer to each input letter.
+
+ghost use Rattle.std.specs.Prelude.{◌≡◌, ◌^◌, ◌≤◌, length, map, IfOk};
+ghost use Rattle.std.specs.List.{range_with_len};
+ghost use Rattle.pg_hoa.specs.Automata.{IsAutomaton};
+ghost use Rattle.pg_synth.specs.Letters.{joined, inputs, outputs};
+ghost use Rattle.pg_synth.specs.Mirrors.Layouts.{IsLayoutOf};
+
+use pg_hoa::Automaton;
+use std::alloc::{AllocError, Global};
+
+/// Each input letter and each output letter as a letter whose other part is zero, and how many numbers a state has.
+#[derive(Drop)]
+pub(crate) struct Layout {
+    pub inputs: Vec<u32>,
+    pub outputs: Vec<u32>,
+    pub width: u32,
+}
+
+/// The layout of the game of an automaton.
+pub(crate) fn layout_of(alloc: Global, automaton: &Automaton) -> Result<Layout, AllocError>
+    requires { IsAutomaton automaton.now }
+    ensures { IfOk result (IsLayoutOf automaton.now) }
+{
+    let controllable = marks(alloc, automaton)?;
+    let inputs = input_parts(alloc, &controllable)?;
+    let outputs = output_parts(alloc, &controllable)?;
+    let width = automaton.sets() + 1 + inputs.len() as u32;
+    Ok(Layout {
+        inputs,
+        outputs,
+        width,
+    })
+}
+
+/// For each proposition, whether the controller sets it.
+fn marks(alloc: Global, automaton: &Automaton) -> Result<Vec<bool>, AllocError>
+    requires { IsAutomaton automaton.now }
+    ensures { IfOk result (λ list. list.items ≡ automaton.now.controllable) }
+{
+    let mut list = Vec::new(alloc);
+    for a in 0..automaton.propositions() {
+        list.push(automaton.controllable(a))?;
+    }
+    Ok(list)
+}
+
+fn input_parts(alloc: Global, controllable: &[bool]) -> Result<Vec<u32>, AllocError>
+    requires { length controllable.now ≤ 16 }
+    ensures { IfOk result (λ list. list.items ≡ map (λ i. joined controllable.now i 0) (range_with_len 0 (2 ^ inputs controllable.now))) }
+{
+    let mut list = Vec::new(alloc);
+    for input in 0..count_inputs(controllable) {
+        list.push(joined(controllable, input, 0))?;
+    }
+    Ok(list)
+}
+
+fn output_parts(alloc: Global, controllable: &[bool]) -> Result<Vec<u32>, AllocError>
+    requires { length controllable.now ≤ 16 }
+    ensures { IfOk result (λ list. list.items ≡ map (λ o. joined controllable.now 0 o) (range_with_len 0 (2 ^ outputs controllable.now))) }
+{
+    let mut list = Vec::new(alloc);
+    for output in 0..count_outputs(controllable) {
+        list.push(joined(controllable, 0, output))?;
+    }
+    Ok(list)
+}
+
+/// How many input letters there are.
+fn count_inputs(controllable: &[bool]) -> u32
+    requires { length controllable.now ≤ 16 }
+    ensures { result ≡ 2 ^ inputs controllable.now }
+{
+    match controllable {
+        [] => 1,
+        [first, rest @ ..] => {
+            let others = count_inputs(rest);
+            if *first { others } else { 2 * others }
+        }
+    }
+}
+
+/// How many output letters there are.
+fn count_outputs(controllable: &[bool]) -> u32
+    requires { length controllable.now ≤ 16 }
+    ensures { result ≡ 2 ^ outputs controllable.now }
+{
+    match controllable {
+        [] => 1,
+        [first, rest @ ..] => {
+            let others = count_outputs(rest);
+            if *first { 2 * others } else { others }
+        }
+    }
+}
+
+/// The letter with these parts.
+fn joined(controllable: &[bool], input: u32, output: u32) -> u32
+    requires { length controllable.now ≤ 16 }
+    ensures { result ≡ joined controllable.now input output }
+{
+    match controllable {
+        [] => 0,
+        [first, rest @ ..] => {
+            if *first {
+                output % 2 + 2 * joined(rest, input, output / 2)
+            } else {
+                input % 2 + 2 * joined(rest, input / 2, output)
+            }
+        }
+    }
+}

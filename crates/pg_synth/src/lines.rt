@@ -1,0 +1,194 @@
+//! The lines of the game of an automaton.
+
+ghost use Rattle.std.specs.Prelude.{◌≡◌, ◌↔◌, ◌≤◌, ◌<◌, ◌++◌, ◌∷◌, [], map, length, IsTrue, None, OnOk, IfOk, IfErr, Contains};
+ghost use Rattle.std.specs.List.{range_with_len, sum_by};
+ghost use Rattle.pg_arena.specs.declared.fault.ArenaFault.TheVariants.{OutOfMemory};
+ghost use Rattle.pg_arena.specs.Lines.{add_fault, each_once, IsGameOf};
+ghost use Rattle.pg_hoa.specs.Automata.{deciding, letters};
+ghost use Rattle.pg_synth.specs.AutomatonGames.{IsPlaceOf, input_letters, place_identifier};
+ghost use Rattle.pg_synth.specs.Mirrors.GameLines.{target, leads, edges_of, line_at, game_identifiers, game_lines};
+ghost use Rattle.pg_synth.specs.Mirrors.Layouts.{IsLayoutOf};
+ghost use Rattle.pg_synth.specs.declared.place.Place.TheVariants.{Answer};
+
+use crate::layout::Layout;
+use crate::place::Place;
+use pg_arena::{ArenaFault, Game, GameBuilder};
+use pg_hoa::{Automaton, Shape};
+use std::alloc::{AllocError, Global};
+
+const MAX_EDGES: usize = 8_388_608;
+
+/// The identifiers of all vertices, the least first.
+pub(crate) fn identifiers_of(
+    alloc: Global,
+    automaton: &Automaton,
+    layout: &Layout,
+) -> Result<Vec<u32>, AllocError>
+    requires { IsLayoutOf automaton.now layout.now }
+    ensures { IfOk result (λ list. list.items ≡ game_identifiers automaton.now) }
+{
+    let mut list = Vec::new(alloc);
+    list.push(0)?;
+    list.push(1 + automaton.start() * layout.width)?;
+    for state in 0..automaton.states() {
+        push_targets(&mut list, automaton, layout, state)?;
+        push_answers(&mut list, automaton, layout, state)?;
+    }
+    put_each_once(&mut list);
+    Ok(list)
+}
+
+/// Whether the vertices with these identifiers have no more edges together than a game may have.
+pub(crate) fn has_few_edges(
+    alloc: Global,
+    automaton: &Automaton,
+    layout: &Layout,
+    identifiers: &[u32],
+) -> Result<bool, AllocError>
+    requires laid { IsLayoutOf automaton.now layout.now }
+    requires listed { identifiers.now ≡ game_identifiers automaton.now }
+    ensures { IfOk result (λ few. IsTrue few ↔ (sum_by (edges_of automaton.now) identifiers.now ≤ 8388608)) }
+{
+    let mut edges = 0;
+    let mut list = Vec::new(alloc);
+    for identifier in identifiers {
+        let place = Place::with_identifier(*identifier, automaton.sets(), layout.width);
+        put_leads(&mut list, automaton, layout, place)?;
+        put_each_once(&mut list);
+        edges += list.len();
+        if edges > MAX_EDGES {
+            return Ok(false);
+        }
+    }
+    Ok(true)
+}
+
+/// The game whose vertices have these identifiers. Refuses for memory only.
+pub(crate) fn built(
+    alloc: Global,
+    automaton: &Automaton,
+    layout: &Layout,
+    identifiers: &[u32],
+) -> Result<Game, ArenaFault>
+    requires laid { IsLayoutOf automaton.now layout.now }
+    requires listed { identifiers.now ≡ game_identifiers automaton.now }
+    requires vertices { length identifiers.now ≤ 1048576 }
+    requires edges { sum_by (edges_of automaton.now) identifiers.now ≤ 8388608 }
+    ensures game { IfOk result (IsGameOf (game_lines automaton.now)) }
+    ensures memory { IfErr result (λ fault. fault ≡ OutOfMemory) }
+{
+    let mut builder = GameBuilder::new(alloc);
+    let mut successors = Vec::new(alloc);
+    let mut name = Vec::new(alloc);
+    for identifier in identifiers {
+        let place = Place::with_identifier(*identifier, automaton.sets(), layout.width);
+        put_leads(&mut successors, automaton, layout, place)?;
+        place.put_name(&mut name)?;
+        let priority = place.priority(automaton.shape(), automaton.sets());
+        builder.add(
+            *identifier,
+            priority,
+            place.owner(),
+            &successors,
+            Some(&name),
+        )?;
+    }
+    builder.finish()
+}
+
+/// Makes the list that of the identifiers of the places to which a place leads, letter by letter.
+fn put_leads(
+    list: &mut Vec<u32>,
+    automaton: &Automaton,
+    layout: &Layout,
+    place: Place,
+) -> Result<(), AllocError>
+    requires laid { IsLayoutOf automaton.now layout.now }
+    requires place { IsPlaceOf automaton.now place }
+    ensures { OnOk result (list.new.items ≡ leads automaton.now place) }
+{
+    list.clear();
+    match place {
+        Place::Dead => list.push(0)?,
+        Place::Arrival(state, _) => push_answers(list, automaton, layout, state)?,
+        Place::Answer(state, input) => {
+            let part = layout.inputs[input as usize];
+            for other in &layout.outputs {
+                list.push(target(automaton, layout, state, part + *other))?;
+            }
+        }
+    }
+    Ok(())
+}
+
+/// Appends the identifiers of the places to which the letters lead from a state.
+fn push_targets(
+    list: &mut Vec<u32>,
+    automaton: &Automaton,
+    layout: &Layout,
+    state: u32,
+) -> Result<(), AllocError>
+    requires laid { IsLayoutOf automaton.now layout.now }
+    requires state { state < automaton.now.states }
+    ensures { OnOk result (list.new.items ≡ list.old.items ++ map (target automaton.now state) (range_with_len 0 (letters automaton.now))) }
+{
+    for letter in 0..1 << automaton.propositions() {
+        list.push(target(automaton, layout, state, letter))?;
+    }
+    Ok(())
+}
+
+/// Appends the identifiers of the answers at a state.
+fn push_answers(
+    list: &mut Vec<u32>,
+    automaton: &Automaton,
+    layout: &Layout,
+    state: u32,
+) -> Result<(), AllocError>
+    requires laid { IsLayoutOf automaton.now layout.now }
+    requires state { state < automaton.now.states }
+    ensures { OnOk result (list.new.items ≡ list.old.items ++ map (λ i. place_identifier automaton.now (Answer state i)) (range_with_len 0 (input_letters automaton.now))) }
+{
+    let first = 1 + state * layout.width + automaton.sets() + 1;
+    for input in 0..layout.inputs.len() as u32 {
+        list.push(first + input)?;
+    }
+    Ok(())
+}
+
+/// The identifier of the place to which a letter leads from a state.
+fn target(automaton: &Automaton, layout: &Layout, state: u32, letter: u32) -> u32
+    requires laid { IsLayoutOf automaton.now layout.now }
+    requires state { state < automaton.now.states }
+    requires letter { letter < letters automaton.now }
+    ensures { result ≡ target automaton.now state letter }
+{
+    match automaton.next(state, letter) {
+        None => 0,
+        Some((target, sets)) => {
+            let first = 1 + target * layout.width;
+            match deciding(automaton.shape(), sets) {
+                None => first,
+                Some(set) => first + 1 + set,
+            }
+        }
+    }
+}
+
+/// The set of a step that counts under a shape.
+fn deciding(shape: Shape, sets: &[u32]) -> Option<u32>
+    ensures { result ≡ deciding shape sets.now }
+{
+    match shape {
+        Shape::MinEven | Shape::MinOdd => sets.first().copied(),
+        _ => sets.last().copied(),
+    }
+}
+
+/// Sorts the list and leaves each number once.
+fn put_each_once(list: &mut Vec<u32>)
+    ensures { list.new.items ≡ each_once list.old.items }
+{
+    list.sort_unstable();
+    list.dedup();
+}
