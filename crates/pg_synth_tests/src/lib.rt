@@ -1,0 +1,11 @@
+//! Tests of the games of automata, on texts that were worked out by hand.
+#![tactic(auto)]
+
+#[cfg(test)]
+mod games;
+#[cfg(test)]
+mod limits;
+#[cfg(test)]
+mod texts;
+#[cfg(test)]
+mod words;
