@@ -14,3 +14,4 @@ pub mod Linked
 pub mod Numbers
 pub mod Building
 pub mod Limits
+pub mod Machines

@@ -1,8 +1,12 @@
 -- The laws, as statements.
 use Rattle.std.specs.Prelude.{◌≡◌, ◌↔◌, ℕ, ◌*◌, ◌≤◌, Bool, List, None}
-use Rattle.pg_arena.specs.declared.player.Player.TheVariants.{Even}
+use Rattle.pg_arena.specs.declared.player.Player.{Player}
+use Rattle.pg_arena.specs.declared.player.Player.TheVariants.{Even, Odd}
 use Rattle.pg_arena.specs.Games.{GameVertex, priority}
 use Rattle.pg_check.specs.Plays.{WinsPlay}
+use Rattle.pg_check.specs.Soundness.{IsSound}
+use Rattle.pg_text.specs.declared.answer.Answer.{Answer}
+use Rattle.pg_text.specs.Solutions.{IsSolution, winner}
 use Rattle.pg_hoa.specs.Automata.{Automaton, IsAutomaton}
 use Rattle.pg_hoa.specs.Formulas.{Formula}
 use Rattle.pg_hoa.specs.Shapes.{FitsShape}
@@ -10,7 +14,8 @@ use Rattle.pg_synth.specs.Letters.{JoinsBack}
 use Rattle.pg_hoa.specs.Words.{IsWord, state_after, IsAccepted}
 use Rattle.pg_synth.specs.AutomatonGames.{StandsFor, IsGameOfAutomaton}
 use Rattle.pg_synth.specs.Tracing.{Traces}
-use Rattle.pg_synth.specs.declared.place.Place.TheVariants.{Dead}
+use Rattle.pg_synth.specs.Machines.{Machine, machine_word, IsMachineOf, IsInputWord, HasChosenInputs}
+use Rattle.pg_synth.specs.declared.place.Place.TheVariants.{Dead, Arrival}
 use Rattle.pg_synth.specs.Worked.{agreeing, game_of_agreeing, choosing, game_of_choosing}
 
 abbrev pub JoinedLetters : Type 0
@@ -39,3 +44,26 @@ OneGame =
 
 abbrev pub WorkedGames : Type 0
 WorkedGames = IsGameOfAutomaton agreeing game_of_agreeing × IsGameOfAutomaton choosing game_of_choosing
+
+-- The solution is sound, and the player wins by it where the game begins.
+pub record IsWonBy (a : Automaton) (game : List GameVertex) (initial : ℕ) (solution : List Answer) (player : Player) : Type 0 where
+  pub game_of : IsGameOfAutomaton a game
+  pub begins : StandsFor a game initial (Arrival a.start None)
+  pub solution_of : IsSolution game solution
+  pub sound : IsSound game solution
+  pub wins : winner solution initial ≡ player
+
+-- where Even wins, every word of the machine is accepted
+abbrev pub MachineAccepted : Type 0
+MachineAccepted =
+    (a : Automaton) (game : List GameVertex) (initial : ℕ) (solution : List Answer) (numbering : ℕ → ℕ) (machine : Machine)
+    (condition : Formula) (input : ℕ → ℕ) → IsAutomaton a → FitsShape condition a.sets a.shape → IsWonBy a game initial solution Even
+    → IsMachineOf a game solution numbering machine → IsInputWord a input
+    → IsAccepted a condition (machine_word a.controllable machine input)
+
+-- where Odd wins, no word with Odd's input letters is accepted
+abbrev pub Unrealizable : Type 0
+Unrealizable =
+    (a : Automaton) (game : List GameVertex) (initial : ℕ) (solution : List Answer) (condition : Formula) (word play : ℕ → ℕ)
+    → IsAutomaton a → FitsShape condition a.sets a.shape → IsWonBy a game initial solution Odd → IsWord a word
+    → Traces a game word play → HasChosenInputs a game solution word play → ¬ IsAccepted a condition word

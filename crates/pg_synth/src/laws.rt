@@ -5,7 +5,7 @@ ghost use Rattle.pg_arena.specs.Games.{GameVertex};
 ghost use Rattle.pg_hoa.specs.Automata.{Automaton, IsAutomaton};
 ghost use Rattle.pg_hoa.specs.Words.{IsWord};
 ghost use Rattle.pg_synth.specs.AutomatonGames.{IsGameOfAutomaton};
-ghost use Rattle.pg_synth.specs.Laws.{JoinedLetters, OneGame, TracesOnePlay, WordAndPlay, WorkedGames};
+ghost use Rattle.pg_synth.specs.Laws.{JoinedLetters, MachineAccepted, OneGame, TracesOnePlay, Unrealizable, WordAndPlay, WorkedGames};
 
 use crate::word::Word;
 
@@ -33,4 +33,15 @@ pub fn worked_games()
 /// An automaton has one game.
 pub fn one_game()
     ensures { OneGame }
+{}
+
+/// A machine that follows a sound solution by which Even wins answers every input word so that the word of both is accepted.
+pub fn machine_accepted()
+    ensures { MachineAccepted }
+{}
+
+/// Where Odd wins by a sound solution, no word is accepted whose input letters are those that Odd chooses at the arrivals that
+/// the word traces.
+pub fn unrealizable()
+    ensures { Unrealizable }
 {}
