@@ -6,6 +6,7 @@ coded.
     bench/programs.py lift_speed        lifts a second on rows of 1, 10 and 200 components
     bench/programs.py frame_speed       encode, decode and read_frame on frames of a million numbers
     bench/programs.py hoa_speed         read_automaton on automata of many states, and of many letters
+    bench/programs.py game_speed        game_of on such automata
 
 A program is a crate of one file, `NAME.rt.txt`; it is built in a copy of the repository's crates, with what was proved of
 them, so that no more than the program and what isn't proved yet is proved. A folder as a second word keeps the copy for the
@@ -20,7 +21,8 @@ import tempfile
 
 BENCH = pathlib.Path(__file__).resolve().parent
 TOP = BENCH.parent
-STANDS_ON = {"read_speed": "pg_text pg_arena", "lift_speed": "pg_arena pg_measure pg_map", "frame_speed": "pg_wire anyhow", "hoa_speed": "pg_hoa itoa"}
+STANDS_ON = {"read_speed": "pg_text pg_arena", "lift_speed": "pg_arena pg_measure pg_map", "frame_speed": "pg_wire anyhow", "hoa_speed": "pg_hoa itoa",
+             "game_speed": "pg_hoa pg_synth pg_arena itoa"}
 LINES = 1_000_000
 
 

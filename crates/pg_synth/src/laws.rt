@@ -7,7 +7,7 @@ ghost use Rattle.pg_hoa.specs.Words.{IsWord};
 ghost use Rattle.pg_synth.specs.AutomatonGames.{IsGameOfAutomaton};
 ghost use Rattle.pg_synth.specs.Laws.{JoinedLetters, MachineAccepted, OneGame, TracesOnePlay, Unrealizable, WordAndPlay, WorkedGames};
 
-use crate::word::Word;
+use crate::word::{InputWord, Word};
 
 /// A letter and its two parts.
 pub fn joined_letters()
@@ -44,4 +44,21 @@ pub fn machine_accepted()
 /// the word traces.
 pub fn unrealizable()
     ensures { Unrealizable }
+{}
+
+ghost use Rattle.std.specs.Prelude.{ℕ};
+ghost use Rattle.pg_arena.specs.declared.player.Player.TheVariants.{Even};
+ghost use Rattle.pg_hoa.specs.Formulas.{Formula};
+ghost use Rattle.pg_hoa.specs.Shapes.{FitsShape};
+ghost use Rattle.pg_hoa.specs.Words.{IsAccepted};
+ghost use Rattle.pg_text.specs.declared.answer.Answer.{Answer};
+ghost use Rattle.pg_synth.specs.Laws.{IsWonBy};
+ghost use Rattle.pg_synth.specs.Machines.{Machine, machine_word, IsMachineOf, IsInputWord};
+
+/// What is said of machines, of an input word that is given.
+pub fn machine_accepted_of<W: InputWord>(word: &W)
+    ensures { (a : Automaton) (game : List GameVertex) (initial : ℕ) (solution : List Answer) (numbering : ℕ → ℕ)
+        (machine : Machine) (condition : Formula) → IsAutomaton a → FitsShape condition a.sets a.shape
+        → IsWonBy a game initial solution Even → IsMachineOf a game solution numbering machine
+        → IsInputWord a (W.input word.now) → IsAccepted a condition (machine_word a.controllable machine (W.input word.now)) }
 {}

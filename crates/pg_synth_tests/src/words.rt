@@ -7,13 +7,17 @@ ghost use Rattle.pg_hoa.specs.Words.{IsWord};
 ghost use Rattle.pg_synth.specs.AutomatonGames.{IsGameOfAutomaton};
 ghost use Rattle.pg_synth.specs.Laws.{TracesOnePlay};
 
-use pg_synth::{Word, laws};
+use pg_synth::{InputWord, Word, laws};
 
 /// The word whose letters are all the same one, in which no proposition is true.
 struct Silent;
 
 impl Word for Silent {
     ghost letter = { λ _ _. 0 };
+}
+
+impl InputWord for Silent {
+    ghost input = { λ _ _. 0 };
 }
 
 /// It traces one play in each game.
@@ -35,4 +39,7 @@ fn each_law(_rt: HostRuntime) {
     laws::word_and_play();
     laws::worked_games();
     laws::one_game();
+    laws::machine_accepted();
+    laws::unrealizable();
+    laws::machine_accepted_of(&Silent);
 }
