@@ -7,3 +7,4 @@ pub mod Printed
 pub mod Printing
 pub mod One
 pub mod Won
+pub mod Made

@@ -1,10 +1,10 @@
--- The answers of `measure` and of `solve` are functions of the input.
+-- The answers of `measure`, of `solve` and of `game` are functions of the input.
 use Rattle.std.proofs.Common.{◌≡◌, ◌⊎◌, ℕ, ◌<◌, ◌≤◌, List, length, Option, Some, None, refl, sym, ap, ap₂, subst, inl, inr, ◌∙◌, arith}
 use Rattle.std.specs.Prelude.{IsSome}
 use Rattle.std.proofs.lemmas.List.{same_lists, get_or_default}
 use Rattle.pg_arena.specs.declared.player.Player.{Player}
 use Rattle.pg_arena.specs.declared.player.Player.TheVariants.{Even, Odd}
-use Rattle.pg_arena.specs.Games.{GameVertex, opponent, owner, identifier, dual}
+use Rattle.pg_arena.specs.Games.{GameVertex, IsWithinLimits, opponent, owner, identifier, dual}
 use Rattle.pg_measure.specs.Measures.{BoundList, MeasureValue}
 use Rattle.pg_measure.specs.Laws.{OneListOfBounds}
 use Rattle.pg_map.specs.Lines.{game_line}
@@ -16,7 +16,13 @@ use Rattle.pg_text.specs.Solutions.{answer_at, unanswered}
 use Rattle.pg_text.specs.SolutionLayout.{solution_text}
 use Rattle.pg_check.specs.Strategies.{HasList, IsChoiceFor, IsAnswerOf, IsSolutionOf, IsLeastUndecided}
 use Rattle.pg_cli.specs.Measuring.{IsMeasureOf, IsMeasured, measures_text}
+use Rattle.pg_cli.specs.Making.{IsGameFor}
 use Rattle.pg_cli.specs.Laws.{OneAnswer}
+use Rattle.pg_hoa.specs.Automata.{Automaton}
+use Rattle.pg_hoa.specs.Laws.{OneReading}
+use Rattle.pg_synth.specs.AutomatonGames.{IsGameOfAutomaton}
+use Rattle.pg_synth.proofs.OneGame as synth
+use Rattle.pg_text.specs.GameLayout.{game_text}
 
 module _ (one_bounds : OneListOfBounds) (least : ClosedIsLeast) where
   -- two equal games have one least progress measure
@@ -92,8 +98,15 @@ one_undecided game f g id other p q =
     let same : p.vertex ≡ q.vertex = omega arith in
     p.named ∙ ap (identifier game) same ∙ sym q.named
 
-pub one_answer : SpellsOneGame → OneListOfBounds → ClosedIsLeast → OneAnswer
-one_answer one_game one_bounds least = record {
+-- an input has one game
+one_made : OneReading → (input : List ℕ) (game other : List GameVertex) → IsGameFor input game → IsGameFor input other → game ≡ other
+one_made reading input game other p q =
+    let same : q.automaton ≡ p.automaton = (reading input).automaton q.automaton p.automaton q.spelt p.spelt in
+    synth.one_game p.automaton game other p.game_of
+    (subst (λ (a : Automaton). IsGameOfAutomaton a other) same q.game_of)
+
+pub one_answer : SpellsOneGame → OneListOfBounds → ClosedIsLeast → OneReading → OneAnswer
+one_answer one_game one_bounds least reading = record {
   measured = one_measured one_bounds least one_game;
   solved = λ input first second p q.
       let same : p.game ≡ q.game = one_game input q.game p.game q.spelt p.spelt in
@@ -122,4 +135,8 @@ one_answer one_game one_bounds least = record {
       (subst (λ (x : List GameVertex). IsLeastUndecided x p.even p.odd second) (sym same)
       (subst (λ (f : MapValue). IsLeastUndecided q.game f p.odd second) (sym even)
       (subst (λ (g : MapValue). IsLeastUndecided q.game q.even g second) (sym odd) q.undecided)));
+  made = λ input first second p q.
+      p.printed ∙ ap game_text (one_made reading input p.game q.game p.made q.made) ∙ sym q.printed;
+  within = λ input output p q.
+      q.over (subst IsWithinLimits (one_made reading input p.game q.game p.made q.made) p.limits);
 }

@@ -1,8 +1,10 @@
 -- The line that is told of a fault.
 use Rattle.std.specs.Prelude.{ℕ, List, ◌++◌, codes, decimal}
 use Rattle.pg_text.specs.FaultTexts as text
+use Rattle.pg_hoa.specs.FaultTexts as hoa
+use Rattle.pg_synth.specs.FaultTexts as synth
 use Rattle.pg_cli.specs.declared.fault.CliFault.{CliFault}
-use Rattle.pg_cli.specs.declared.fault.CliFault.TheVariants.{OutOfMemory, Read, Write, InputTooLong, NoSeparator, Text, Undecided}
+use Rattle.pg_cli.specs.declared.fault.CliFault.TheVariants.{OutOfMemory, Read, Write, InputTooLong, NoSeparator, Text, Undecided, Hoa, Synth}
 
 abbrev pub fault_text : CliFault → List ℕ
 fault_text OutOfMemory = codes "out of memory"
@@ -12,6 +14,8 @@ fault_text InputTooLong = codes "input is longer than 268435456 bytes"
 fault_text NoSeparator = codes "no line -- between the two texts"
 fault_text (Text fault) = text.fault_text fault
 fault_text (Undecided id) = codes "undecided at " ++ decimal id
+fault_text (Hoa fault) = hoa.fault_text fault
+fault_text (Synth fault) = synth.fault_text fault
 
 -- `parsolve: `, the text and a newline
 abbrev pub fault_line : CliFault → List ℕ

@@ -8,6 +8,7 @@ use Rattle.pg_text.specs.SolutionText.{IsSolutionText}
 use Rattle.pg_check.specs.Soundness.{IsSound, Wins}
 use Rattle.pg_cli.specs.Measuring.{IsMeasured}
 use Rattle.pg_cli.specs.Solving.{IsSolved, IsUndecidedAt}
+use Rattle.pg_cli.specs.Making.{IsMade, IsTooLarge}
 
 -- The output spells a solution of the game that the input spells. At each vertex the printed winner wins every endless
 -- play that follows the printed strategy, and no sound solution has another winner there.
@@ -24,10 +25,12 @@ pub record WinsAsPrinted (input output : List ℕ) : Type 0 where
 abbrev pub PrintedWinnersWin : Type 0
 PrintedWinnersWin = (input output : List ℕ) → IsSolved input output → WinsAsPrinted input output
 
--- The output is a function of the input: `measure` has one answer to an input, and so has `solve`; where `solve` has one
--- it isn't undecided, and where it is it names one vertex.
+-- The output is a function of the input: `measure` has one answer to an input, and so have `solve` and `game`; where
+-- `solve` has one it isn't undecided, and where it is it names one vertex; where `game` has one it isn't too large.
 pub record OneAnswer : Type 0 where
   pub measured : (input first second : List ℕ) → IsMeasured input first → IsMeasured input second → first ≡ second
   pub solved : (input first second : List ℕ) → IsSolved input first → IsSolved input second → first ≡ second
   pub decided : (input output : List ℕ) (id : ℕ) → IsSolved input output → ¬ IsUndecidedAt input id
   pub undecided : (input : List ℕ) (first second : ℕ) → IsUndecidedAt input first → IsUndecidedAt input second → first ≡ second
+  pub made : (input first second : List ℕ) → IsMade input first → IsMade input second → first ≡ second
+  pub within : (input output : List ℕ) → IsMade input output → ¬ IsTooLarge input

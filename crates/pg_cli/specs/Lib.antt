@@ -4,6 +4,7 @@ pub mod Texts
 pub mod Measuring
 pub mod Solving
 pub mod Checking
+pub mod Making
 pub mod Answers
 pub mod Faults
 pub mod FaultTexts

@@ -9,6 +9,8 @@ pub enum Command {
     Solve,
     /// Prints whether a solution of a game is sound, and if not, what speaks against it.
     Check,
+    /// Prints the game of an automaton.
+    Game,
 }
 
 impl Command {
@@ -17,7 +19,7 @@ impl Command {
     ghost use Rattle.pg_cli.specs.Words.{command_name};
 
     /// Every command, in the order of the help.
-    pub const ALL: [Command; 3] = [Command::Measure, Command::Solve, Command::Check];
+    pub const ALL: [Command; 4] = [Command::Measure, Command::Solve, Command::Check, Command::Game];
 
     /// The word that names the command.
     pub fn name(self) -> &'static str
@@ -27,6 +29,7 @@ impl Command {
             Command::Measure => "measure",
             Command::Solve => "solve",
             Command::Check => "check",
+            Command::Game => "game",
         }
     }
 

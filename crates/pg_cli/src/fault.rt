@@ -6,6 +6,8 @@ ghost use Rattle.pg_cli.specs.Faults.{status_of};
 ghost use Rattle.pg_cli.specs.FaultTexts.{fault_line};
 
 use pg_check::CheckFault;
+use pg_hoa::HoaFault;
+use pg_synth::SynthFault;
 use pg_text::TextFault;
 use std::alloc::AllocError;
 use std::error::Error;
@@ -30,6 +32,10 @@ pub enum CliFault {
     /// Both least progress measures, that of the game and that of its dual, are top at the vertex with this identifier,
     /// and at none with a lesser one.
     Undecided(u32),
+    /// A text spells no automaton; never `OutOfMemory`.
+    Hoa(HoaFault),
+    /// The game of an automaton is too large; never `OutOfMemory`.
+    Synth(SynthFault),
 }
 
 impl fmt::Display for CliFault {
@@ -47,6 +53,8 @@ impl fmt::Display for CliFault {
             CliFault::NoSeparator => f.write_str("no line -- between the two texts"),
             CliFault::Text(fault) => write!(f, "{fault}"),
             CliFault::Undecided(id) => write!(f, "undecided at {id}"),
+            CliFault::Hoa(fault) => write!(f, "{fault}"),
+            CliFault::Synth(fault) => write!(f, "{fault}"),
         }
     }
 }
@@ -86,6 +94,32 @@ impl From<CheckFault> for CliFault {
         match fault {
             CheckFault::OutOfMemory => CliFault::OutOfMemory,
             CheckFault::Undecided(identifier) => CliFault::Undecided(identifier),
+        }
+    }
+}
+
+impl From<HoaFault> for CliFault {
+    ghost use Rattle.pg_cli.specs.Faults.{hoa_fault};
+
+    ghost from_gives = { λ fault e. e ≡ hoa_fault fault };
+
+    fn from(fault: HoaFault) -> CliFault {
+        match fault {
+            HoaFault::OutOfMemory => CliFault::OutOfMemory,
+            _ => CliFault::Hoa(fault),
+        }
+    }
+}
+
+impl From<SynthFault> for CliFault {
+    ghost use Rattle.pg_cli.specs.Faults.{synth_fault};
+
+    ghost from_gives = { λ fault e. e ≡ synth_fault fault };
+
+    fn from(fault: SynthFault) -> CliFault {
+        match fault {
+            SynthFault::OutOfMemory => CliFault::OutOfMemory,
+            SynthFault::TooLarge => CliFault::Synth(fault),
         }
     }
 }

@@ -13,12 +13,13 @@ pub fn printed_winners_win()
     pg_check::laws::one_winner();
 }
 
-/// `measure` has one answer to an input, and so has `solve`; where `solve` has one it isn't undecided. So what a run
-/// writes is a function of what it reads.
+/// `measure` has one answer to an input, and so have `solve` and `game`; where `solve` has one it isn't undecided, and
+/// where `game` has one it isn't too large. So what a run writes is a function of what it reads.
 pub fn one_answer()
     ensures { OneAnswer }
 {
     pg_text::laws::one_game();
     pg_measure::laws::one_list_of_bounds();
     pg_map::laws::closed_is_least();
+    pg_hoa::laws::one_reading();
 }

@@ -4,6 +4,7 @@
 mod check;
 mod command;
 mod fault;
+mod game;
 mod input;
 pub mod laws;
 mod measure;

@@ -8,6 +8,7 @@ ghost use Rattle.pg_cli.specs.Answers.{Prints, Refuses};
 use crate::check::check;
 use crate::command::Command;
 use crate::fault::CliFault;
+use crate::game::game;
 use crate::input::{MOST_BYTES, read_all_limited};
 use crate::measure::measure;
 use crate::solve::solve;
@@ -18,9 +19,10 @@ use std::io::{Read, Write};
 ///
 /// Refuses, in this order: `Read`; `InputTooLong` for more than 268,435,456 bytes, of which it reads the first one over
 /// the limit at most; `NoSeparator` where two texts are wanted and no line `--` parts them; `Text` for a text that
-/// doesn't spell what it has to, the first text's fault before the second's; `Undecided`, of `solve` alone; `Write`,
-/// after which nothing is said of how much went out. `OutOfMemory` may come at any growth. Nothing is written before the
-/// work is done, so after another fault than `Write` nothing was written.
+/// doesn't spell what it has to, the first text's fault before the second's, or `Hoa` for one that spells no automaton;
+/// `Undecided`, of `solve` alone; `Synth`, of `game` alone, for an automaton whose game is too large; `Write`, after which
+/// nothing is said of how much went out. `OutOfMemory` may come at any growth. Nothing is written before the work is done,
+/// so after another fault than `Write` nothing was written.
 pub fn run<R: Read, W: Write>(
     alloc: Global,
     command: Command,
@@ -40,5 +42,6 @@ pub fn run<R: Read, W: Write>(
         Command::Measure => measure(alloc, text, writer),
         Command::Solve => solve(alloc, text, writer),
         Command::Check => check(alloc, text, writer),
+        Command::Game => game(alloc, text, writer),
     }
 }

@@ -22,7 +22,8 @@ const VERSION: &str = "0.1.0";
 const ABOUT: &str = "Solves parity games; the answers are proved";
 
 const MORE: &str = "\
-Each command reads standard input and writes standard output. Games and solutions are in the format of PGSolver.
+Each command reads standard input and writes standard output. Games and solutions are in the format of PGSolver,
+automata in HOA v1.
 
 Exit status:
   0  an answer was printed
@@ -74,11 +75,24 @@ Example: printf 'parity 1; 0 1 0 0,1; 1 2 1 0;\n--\n0 0 1; 1 0;' | parsolve chec
 prints `WINS`.",
 };
 
+const GAME: Help = Help {
+    about: "Prints the parity game of an automaton",
+    more: "\
+Input: an automaton in HOA v1 with the header `controllable-AP`: deterministic, with a parity condition, labels on edges
+Output: its game in the format of PGSolver. Player 1 chooses the propositions that aren't controllable, player 0 then the
+controllable ones. `dead` is where a run ends, `sQ` the arrival at state Q without a set and `sQ/S` with the set S that
+counts, `sQ:I` the answer at Q to the input letter I. Player 0 wins from `sQ` of the start exactly if a controller exists
+under which every run is accepted.
+
+Example: parsolve game < examples/request-grant.hoa | parsolve solve",
+};
+
 fn help_of(command: Command) -> Help {
     match command {
         Command::Measure => MEASURE,
         Command::Solve => SOLVE,
         Command::Check => CHECK,
+        Command::Game => GAME,
     }
 }
 

@@ -1,5 +1,6 @@
 pub mod Automata
 pub mod AutomatonText
+pub mod FaultTexts
 pub mod Formulas
 pub mod Laws
 pub mod Lexemes

@@ -4,8 +4,8 @@ ghost use Rattle.std.specs.Prelude.{◌≡◌};
 ghost use Rattle.pg_hoa.specs.declared.fault.Refusal.TheVariants.{Memory};
 
 use std::alloc::{AllocError, AllocFailed};
+use std::error::Error;
 use std::fmt;
-use thiserror::Error;
 
 /// What this reader of HOA v1 leaves out, by its name.
 #[derive(Clone, Copy, Debug, PartialEq, Eq)]
@@ -31,6 +31,11 @@ pub enum LeftOutName {
 }
 
 impl fmt::Display for LeftOutName {
+    ghost use Rattle.std.specs.Prelude.{Some};
+    ghost use Rattle.pg_hoa.specs.FaultTexts.{left_out_text};
+
+    ghost output = { λ name. Some (left_out_text name) };
+
     fn fmt<W: fmt::Write>(&self, f: &mut fmt::Formatter<W>) -> fmt::Result {
         f.write_str(match self {
             LeftOutName::Alias => "alias",
@@ -48,37 +53,53 @@ impl fmt::Display for LeftOutName {
 
 /// Why a text is refused. Offsets count bytes from 0 and name the first byte of the token at fault; at the end of the
 /// text they are its length.
-#[derive(Clone, Copy, Debug, PartialEq, Eq, Error)]
+#[derive(Clone, Copy, Debug, PartialEq, Eq)]
 pub enum HoaFault {
     /// A growth was refused.
-    #[error("out of memory")]
     OutOfMemory,
     /// No token begins at this offset, or a comment or string there doesn't end, or another token has to stand there.
-    #[error("syntax error at byte {0}")]
     Syntax(usize),
     /// What stands at this offset is of HOA v1, and left out here.
-    #[error("{0} at byte {1} is not supported")]
     LeftOut(LeftOutName, usize),
     /// A header that HOA v1 doesn't know, whose name begins with an upper-case letter.
-    #[error("unknown header at byte {0}")]
     UnknownHeader(usize),
     /// The number of a state, a proposition or a set at this offset isn't below its count.
-    #[error("number out of range at byte {0}")]
     OutOfRange(usize),
     /// The acceptance condition has none of the six shapes.
-    #[error("acceptance is not a supported parity condition")]
     NotParity,
     /// Two edges of the state match the letter, and lead to different states or meet different deciding sets: the
     /// least state with such a letter, and its least letter.
-    #[error("state {0} is not deterministic at letter {1}")]
     NotDeterministic(u32, u32),
     /// A number over 4,294,967,295, a count over its limit, or nesting deeper than 8,192.
-    #[error("automaton too large")]
     TooLarge,
     /// The proposition of this number has an empty name, or a name with a byte below 32 or the byte 127.
-    #[error("bad name of proposition {0}")]
     BadName(u32),
 }
+
+impl fmt::Display for HoaFault {
+    ghost use Rattle.std.specs.Prelude.{Some};
+    ghost use Rattle.pg_hoa.specs.FaultTexts.{fault_text};
+
+    ghost output = { λ fault. Some (fault_text fault) };
+
+    fn fmt<W: fmt::Write>(&self, f: &mut fmt::Formatter<W>) -> fmt::Result {
+        match self {
+            HoaFault::OutOfMemory => f.write_str("out of memory"),
+            HoaFault::Syntax(offset) => write!(f, "syntax error at byte {offset}"),
+            HoaFault::LeftOut(name, offset) => write!(f, "{name} at byte {offset} is not supported"),
+            HoaFault::UnknownHeader(offset) => write!(f, "unknown header at byte {offset}"),
+            HoaFault::OutOfRange(offset) => write!(f, "number out of range at byte {offset}"),
+            HoaFault::NotParity => f.write_str("acceptance is not a supported parity condition"),
+            HoaFault::NotDeterministic(state, letter) => {
+                write!(f, "state {state} is not deterministic at letter {letter}")
+            }
+            HoaFault::TooLarge => f.write_str("automaton too large"),
+            HoaFault::BadName(proposition) => write!(f, "bad name of proposition {proposition}"),
+        }
+    }
+}
+
+impl Error for HoaFault {}
 
 /// What is wrong with a part of a text, where the text before it isn't known: in place of an offset stands how many bytes
 /// are left from the token at fault on. The names are those of `HoaFault`.

@@ -9,8 +9,8 @@ use Rattle.std.proofs.lemmas.List.Elements.{All-contains}
 use Rattle.pg_arena.specs.declared.player.Player.TheVariants.{Even}
 use Rattle.pg_arena.specs.Games.{GameVertex, priority}
 use Rattle.pg_check.specs.Plays.{IsGreatestRecurring, Loses, WinsPlay}
-use Rattle.pg_check.proofs.Recurring.{one_loser, parity_of}
 use Rattle.pg_measure.proofs.SomeBounds.{priority_bound}
+use Rattle.pg_check.proofs.Recurring.{one_loser, parity_of}
 use Rattle.pg_hoa.specs.declared.shape.Shape.{Shape}
 use Rattle.pg_hoa.specs.Automata.{Step, Automaton, IsAutomaton, next, deciding}
 use Rattle.pg_hoa.specs.Formulas.{Formula, holds}

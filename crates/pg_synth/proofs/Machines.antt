@@ -5,8 +5,8 @@ use Rattle.pg_arena.specs.declared.player.Player.TheVariants.{Even, Odd}
 use Rattle.pg_arena.specs.Games.{GameVertex, IsGame, priority, owner, opponent}
 use Rattle.pg_check.specs.Plays.{IsPlay, WinsPlay}
 use Rattle.pg_check.specs.Soundness.{Counts, IsSound}
-use Rattle.pg_check.proofs.Recurring.{one_loser}
 use Rattle.pg_measure.proofs.SomeBounds.{priority_bound}
+use Rattle.pg_check.proofs.Recurring.{one_loser}
 use Rattle.pg_check.proofs.Cycles.{safe_from_sound}
 use Rattle.pg_check.proofs.Wins.{wins}
 use Rattle.pg_hoa.specs.Automata.{Step, Automaton, IsAutomaton, deciding}

@@ -2,6 +2,7 @@ pub mod Letters
 pub mod AutomatonGames
 pub mod Tracing
 pub mod Answers
+pub mod FaultTexts
 pub mod Machines
 pub mod Worked
 pub mod Laws

@@ -3,4 +3,4 @@ use Rattle.pg_cli.proofs.laws.one_answer.Goals as goal
 
 pub returns : goal.returns
 returns c =
-    one_answer c.one_game.ensures c.one_list_of_bounds.ensures c.closed_is_least.ensures
+    one_answer c.one_game.ensures c.one_list_of_bounds.ensures c.closed_is_least.ensures c.one_reading.ensures

@@ -15,3 +15,8 @@ pub returns-in-Check-clause-refused : goal.returns-in-Check-clause-refused
 returns-in-Check-clause-refused g c =
     refused_known c.args.command (g.R.Read.remaining c.args.reader.now) c.in_ok-text.text.items c.check.result c.in_ok-text.ensures.bytes
     (rw c.in-Check.is c.check.ensures.refused)
+
+pub returns-in-Game-clause-refused : goal.returns-in-Game-clause-refused
+returns-in-Game-clause-refused g c =
+    refused_known c.args.command (g.R.Read.remaining c.args.reader.now) c.in_ok-text.text.items c.game.result c.in_ok-text.ensures.bytes
+    (rw c.in-Game.is c.game.ensures.refused)

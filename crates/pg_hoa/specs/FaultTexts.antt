@@ -1,0 +1,29 @@
+-- The texts of faults.
+use Rattle.std.specs.Prelude.{ℕ, List, ◌++◌, codes, decimal}
+use Rattle.pg_hoa.specs.declared.fault.LeftOutName.{LeftOutName}
+use Rattle.pg_hoa.specs.declared.fault.LeftOutName.TheVariants.{Alias, StateLabel, ImplicitLabel, Universal, SeveralStarts, NoStart, NegatedSet, SeveralAutomata, Abort}
+use Rattle.pg_hoa.specs.declared.fault.HoaFault.{HoaFault}
+use Rattle.pg_hoa.specs.declared.fault.HoaFault.TheVariants.{OutOfMemory, Syntax, LeftOut, UnknownHeader, OutOfRange, NotParity, NotDeterministic, TooLarge, BadName}
+
+abbrev pub left_out_text : LeftOutName → List ℕ
+left_out_text Alias = codes "alias"
+left_out_text StateLabel = codes "state label"
+left_out_text ImplicitLabel = codes "implicit label"
+left_out_text Universal = codes "universal branching"
+left_out_text SeveralStarts = codes "second Start"
+left_out_text NoStart = codes "missing Start"
+left_out_text NegatedSet = codes "negated set"
+left_out_text SeveralAutomata = codes "second automaton"
+left_out_text Abort = codes "--ABORT--"
+
+abbrev pub fault_text : HoaFault → List ℕ
+fault_text OutOfMemory = codes "out of memory"
+fault_text (Syntax offset) = codes "syntax error at byte " ++ decimal offset
+fault_text (LeftOut name offset) = left_out_text name ++ (codes " at byte " ++ (decimal offset ++ codes " is not supported"))
+fault_text (UnknownHeader offset) = codes "unknown header at byte " ++ decimal offset
+fault_text (OutOfRange offset) = codes "number out of range at byte " ++ decimal offset
+fault_text NotParity = codes "acceptance is not a supported parity condition"
+fault_text (NotDeterministic state letter) =
+    codes "state " ++ (decimal state ++ (codes " is not deterministic at letter " ++ decimal letter))
+fault_text TooLarge = codes "automaton too large"
+fault_text (BadName proposition) = codes "bad name of proposition " ++ decimal proposition
