@@ -9,3 +9,4 @@ pub mod Packing
 pub mod Joining
 pub mod Listed
 pub mod Exchanging
+pub mod Under

@@ -3,4 +3,5 @@ pub mod Cuts
 pub mod Workers
 pub mod Turns
 pub mod Serving
+pub mod Laws
 pub mod Mirrors

@@ -10,6 +10,7 @@ mod fault;
 mod head;
 mod held;
 mod joins;
+pub mod laws;
 mod lifted;
 mod lifting;
 mod listing;
