@@ -11,3 +11,4 @@ pub mod Joining
 pub mod Listed
 pub mod Exchanging
 pub mod Ranges
+pub mod Under
