@@ -54,11 +54,19 @@ def survives_want_of_memory(program, args, text, wanted):
     return "no run met no refusal"
 
 
+def example_game(program, name):
+    """The game of an example: the file itself, or what `game` prints of an automaton."""
+    with open(os.path.join(top, "examples", name), "rb") as file:
+        text = file.read()
+    if name.endswith(".hoa"):
+        return subprocess.run([program, "game"], input=text, capture_output=True, timeout=60).stdout
+    return text
+
+
 def solutions_win(program):
     """What `solve` prints of each example `check` calls sound."""
-    for name in ("two", "mutex", "grid"):
-        with open(os.path.join(top, "examples", name + ".pg"), "rb") as file:
-            game = file.read()
+    for name in ("two.pg", "mutex.pg", "grid.pg", "request-grant.hoa", "owl-arbiter.hoa"):
+        game = example_game(program, name)
         solved = subprocess.run([program, "solve"], input=game, capture_output=True, timeout=60)
         checked = subprocess.run([program, "check"], input=game + b"--\n" + solved.stdout, capture_output=True, timeout=60)
         if solved.returncode != 0 or checked.stdout != b"WINS\n":
@@ -71,6 +79,10 @@ def cases(programs):
     game = b"parity 2;\n0 1 0 1;\n1 3 0 2;\n2 4 0 0;\n"
     three = b"parity 2;\n0 0 1 0,1;\n1 1 1 1,2 \"odd\";\n2 2 0 0,2;\n"
     solution = b"paritysol 2;\n0 1 1;\n1 1 1;\n2 0 2;\n"
+    automaton = (b'HOA: v1\nStart: 0\nAP: 1 "g"\ncontrollable-AP: 0\nAcceptance: 1 Inf(0)\n--BODY--\n'
+                 b"State: 0\n[0] 1 {0}\nState: 1\n[!0] 0 {0}\n--END--\n")
+    automaton_game = (b'parity 6;\n0 1 1 0 "dead";\n1 1 1 3 "s0";\n2 2 1 3 "s0/0";\n3 0 0 0,5 "s0:0";\n'
+                      b'5 2 1 6 "s1/0";\n6 0 0 0,2 "s1:0";\n')
     for program in programs:
         name = os.path.basename(program)
         yield f"measure on random games ({name})", lambda p=program: answers_as_defined(p, "measure", naive.measure_text)
@@ -78,7 +90,7 @@ def cases(programs):
         yield f"solutions of the examples ({name})", lambda p=program: solutions_win(p)
     # the program as LLVM builds it takes its memory by malloc and realloc alone
     for command, text, wanted in (("measure", game, b"0 1,1;\n1 1,0;\n2 0,0;\n"), ("solve", three, solution),
-                                  ("check", three + b"--\n" + solution, b"WINS\n")):
+                                  ("check", three + b"--\n" + solution, b"WINS\n"), ("game", automaton, automaton_game)):
         yield f"want of memory in {command}", lambda c=command, t=text, w=wanted: survives_want_of_memory(programs[0], [c], t, w)
 
 

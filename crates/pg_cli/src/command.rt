@@ -19,7 +19,12 @@ impl Command {
     ghost use Rattle.pg_cli.specs.Words.{command_name};
 
     /// Every command, in the order of the help.
-    pub const ALL: [Command; 4] = [Command::Measure, Command::Solve, Command::Check, Command::Game];
+    pub const ALL: [Command; 4] = [
+        Command::Measure,
+        Command::Solve,
+        Command::Check,
+        Command::Game,
+    ];
 
     /// The word that names the command.
     pub fn name(self) -> &'static str

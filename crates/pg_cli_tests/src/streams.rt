@@ -49,11 +49,18 @@ const TWO: &[u8] = b"parity 1;\n0 1 0 0,1;\n1 2 1 0;\n";
 /// The same, and its solution.
 const SOLVED: &[u8] = b"parity 1;\n0 1 0 0,1;\n1 2 1 0;\n--\nparitysol 1;\n0 0 1;\n1 0;\n";
 
+/// The controller sets nothing; the only letter leads on without a set.
+const LOOP: &[u8] = b"HOA: v1 Start: 0 Acceptance: 1 Inf(0) --BODY-- State: 0 [t] 0 --END--";
+
+/// Its game.
+const GAME: &[u8] = b"parity 3;\n0 1 1 0 \"dead\";\n1 1 1 3 \"s0\";\n3 0 0 1 \"s0:0\";\n";
+
 /// Each command on an input, and its answer.
-const ANSWERS: [(Command, &[u8], &[u8]); 3] = [
+const ANSWERS: [(Command, &[u8], &[u8]); 4] = [
     (Command::Measure, TWO, b"0 1;\n1 0;\n"),
     (Command::Solve, TWO, b"paritysol 1;\n0 0 1;\n1 0;\n"),
     (Command::Check, SOLVED, b"WINS\n"),
+    (Command::Game, LOOP, GAME),
 ];
 
 #[test]

@@ -6,6 +6,7 @@ fn words_name_a_command(rt: HostRuntime) {
         ("measure", Command::Measure),
         ("solve", Command::Solve),
         ("check", Command::Check),
+        ("game", Command::Game),
     ] {
         let line = parse_words(rt.alloc(), &["parsolve", name]);
         assert!(rt;
