@@ -10,3 +10,5 @@ pub mod Packing
 pub mod Joining
 pub mod Listed
 pub mod Exchanging
+pub mod Ranges
+pub mod Under

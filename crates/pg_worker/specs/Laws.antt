@@ -1,10 +1,11 @@
--- What is proved of workers, over the definitions alone.
+-- What is proved of workers and sessions, over the definitions alone.
 use Rattle.std.specs.Prelude.{◌≡◌, ℕ, ◌<◌, List, [], ◌∷◌, length, Option}
 use Rattle.pg_measure.specs.Measures.{BoundList, MeasureValue, AtMost}
 use Rattle.pg_map.specs.Lines.{Line}
 use Rattle.pg_map.specs.Maps.{measure_at, IsMap, zero_map, update_map, MapAtMost, IsClosed, IsJoin}
 use Rattle.pg_map.specs.declared.update.Update.{Update}
-use Rattle.pg_worker.specs.Workers.{AreLifts}
+use Rattle.pg_worker.specs.Workers.{part_line, AreLifts}
+use Rattle.pg_worker.specs.Turns.{HeldValue, IsAtLeast, lifted_measures, LiftsAndTells}
 
 -- what changes a worker's map once its part is complete: a value is taken, or lifts make updates
 pub data Step : Type 0 where
@@ -31,3 +32,10 @@ StepsStayUnder =
     (bounds : BoundList) (lines : ℕ → Option Line) (count : ℕ) (ss : List Step) (g h : List MeasureValue)
     → AreSteps bounds lines (zero_map bounds count) ss g
     → IsMap bounds count h → IsClosed bounds lines h → IsAtLeastTaken ss h → MapAtMost g h
+
+-- what is told after lifts is at most every map that is closed on the part and at least the worker's map
+abbrev pub ToldStayUnder : Type 0
+ToldStayUnder =
+    (h : HeldValue) (budget : ℕ) (after : Option HeldValue) (reply : List ℕ) (k : List MeasureValue) (t : LiftsAndTells h budget after reply)
+    → IsMap h.worker.bounds (length h.worker.map) k → IsClosed h.worker.bounds (part_line h.worker.lines) k → MapAtMost h.worker.map k
+    → IsAtLeast k (lifted_measures t.worker)

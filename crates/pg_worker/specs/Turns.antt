@@ -143,6 +143,11 @@ Turn (Some h) (frames.Sparse v) after reply = TakesValues h Sparse v.width (told
 Turn (Some h) (frames.Go g) after reply = LiftsAndTells h g.budget after reply
 Turn (Some h) (frames.Report r) after reply = ⊥
 
+-- a set-up is of one of the versions that the session takes
+abbrev pub IsUpTo : ℕ → Frame → Type 0
+IsUpTo highest (frames.Setup s) = s.version ≤ highest
+IsUpTo highest frame = Unit {0}
+
 -- why a session that takes versions up to `highest` refuses a frame, want of memory aside
 abbrev pub Refuses : ℕ → Option HeldValue → Frame → WorkerFault → Type 0
 Refuses highest before (frames.Setup s) why = (why ≡ Wire Version) × (highest < s.version)

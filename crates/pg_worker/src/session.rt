@@ -3,7 +3,7 @@
 ghost use Rattle.std.specs.Prelude.{◌≡◌, ◌↔◌, ℕ, ◌++◌, ◌⊎◌, List, None, IsTrue, IfOk, IfErr, OnOk, OnErr};
 ghost use Rattle.pg_wire.specs.Well.{IsWell};
 ghost use Rattle.pg_wire.specs.declared.frame.Frame.TheVariants.{Halt};
-ghost use Rattle.pg_worker.specs.Turns.{Turn, Refuses};
+ghost use Rattle.pg_worker.specs.Turns.{Turn, IsUpTo, Refuses};
 
 use crate::WorkerFault;
 use crate::held::Held;
@@ -54,6 +54,7 @@ impl Session {
     pub fn frame(&mut self, frame: &Frame, out: &mut Vec<u8>) -> Result<bool, WorkerFault>
         requires { IsWell frame.now }
         ensures highest { self.new.highest ≡ self.old.highest }
+        ensures version { OnOk result (IsUpTo self.old.highest frame.now) }
         ensures turn { OnOk result ((reply : List ℕ) × Turn self.old.held frame.now self.new.held reply × (out.new.items ≡ out.old.items ++ reply)) }
         ensures halt { IfOk result (λ halts. IsTrue halts ↔ (frame.now ≡ Halt)) }
         ensures refused { IfErr result (λ e. (e ≡ WorkerFault.OutOfMemory) ⊎ Refuses self.old.highest self.old.held frame.now e) }

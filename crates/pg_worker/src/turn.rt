@@ -1,11 +1,11 @@
 //! The turn of each kind of frame.
 
-ghost use Rattle.std.specs.Prelude.{◌≡◌, ℕ, ◌++◌, ◌⊎◌, List, [], None, Some, length, OnErr, OnOk, IfOk, IfErr};
+ghost use Rattle.std.specs.Prelude.{◌≡◌, ◌≤◌, ℕ, ◌++◌, ◌⊎◌, List, [], None, Some, length, OnErr, OnOk, IfOk, IfErr};
 ghost use Rattle.pg_wire.specs.Well.{IsWell, IsSetup, IsVertices, IsSparse};
 ghost use Rattle.pg_wire.specs.declared.kind.ValueKind.TheVariants.{Dense, Sparse};
 ghost use Rattle.pg_wire.specs.declared.frame.Frame.TheVariants as frames;
 ghost use Rattle.pg_wire.specs.Mirrors.Buffers.{Extends};
-ghost use Rattle.pg_worker.specs.Turns.{Turn, Refuses, TakesValues, RefusesValues, LiftsAndTells, fresh, greeting, told_values, told_sparse};
+ghost use Rattle.pg_worker.specs.Turns.{Turn, IsUpTo, Refuses, TakesValues, RefusesValues, LiftsAndTells, fresh, greeting, told_values, told_sparse};
 
 use crate::held::Held;
 use crate::joins::{join_sparse, join_values};
@@ -16,6 +16,7 @@ use std::alloc::Global;
 
 fn set_up(alloc: Global, highest: u8, setup: &Setup, out: &mut Vec<u8>) -> Result<Held, WorkerFault>
     requires { IsSetup setup.now }
+    ensures version { OnOk result (setup.now.version ≤ highest) }
     ensures held { IfOk result (λ h. h ≡ fresh setup.now) }
     ensures reply { OnOk result (out.new.items ≡ out.old.items ++ greeting setup.now.version) }
     ensures refused { IfErr result (λ e. (e ≡ WorkerFault.OutOfMemory) ⊎ Refuses highest None (frames.Setup setup.now) e) }
@@ -103,6 +104,7 @@ pub fn turn(
     out: &mut Vec<u8>,
 ) -> Result<Option<Held>, WorkerFault>
     requires { IsWell frame.now }
+    ensures version { OnOk result (IsUpTo highest frame.now) }
     ensures turn { IfOk result (λ after. (reply : List ℕ) × Turn held frame.now after reply × (out.new.items ≡ out.old.items ++ reply)) }
     ensures refused { IfErr result (λ e. (e ≡ WorkerFault.OutOfMemory) ⊎ Refuses highest held frame.now e) }
     ensures kept { Extends out.old.items out.new.items }

@@ -1,0 +1,6 @@
+use Rattle.std.proofs.Common.{◌≡◌, ℕ, List, [], replicate}
+use Rattle.std.specs.Prelude.{map}
+use Rattle.pg_world.proofs.world.nothing_taken.Given as goal
+
+abbrev pub invariant-loop : goal.invariant-loop
+invariant-loop l = map (λ x. x.items) l.taken.items ≡ replicate l.counter []

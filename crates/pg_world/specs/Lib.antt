@@ -1,0 +1,4 @@
+pub mod Updates
+pub mod Worlds
+pub mod Laws
+pub mod Mirrors

@@ -1,0 +1,16 @@
+//! Events.
+
+use pg_arena::Vertex;
+
+/// What may happen next in a world. Replica 0 is the coordinator, replicas 1, 2, .. are the workers.
+#[derive(Clone, Copy, Debug, PartialEq, Eq)]
+pub enum Event {
+    /// The worker lifts a vertex of its part, in its own map.
+    Lift(u32, Vertex),
+    /// The replica takes the update with this number; updates are numbered from 0 as they are made.
+    Deliver(u32, usize),
+    /// The worker starts anew: it has taken nothing.
+    Restart(u32),
+    /// The coordinator lifts a vertex, in its own map.
+    CoordinatorLift(Vertex),
+}

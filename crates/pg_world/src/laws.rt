@@ -1,0 +1,32 @@
+//! Laws over the definitions. Their functions take no memory and do nothing: their contracts are what they are for.
+
+ghost use Rattle.pg_measure.specs.Laws.{OrderIsTotal};
+ghost use Rattle.pg_map.specs.Laws.{GameLines, ZeroMapIsLeast, LiftStaysUnder};
+ghost use Rattle.pg_world.specs.Laws.{SameTaken, NeverAbove};
+
+/// Where the same updates are taken the maps are equal, whatever the order and the repeats, within one world or between two
+/// worlds over the same bounds and as many vertices.
+pub fn same_taken()
+    ensures { SameTaken }
+{}
+
+/// After any list of events each replica has a map, the join of the updates that it took, and that map is never above the
+/// least progress measure.
+pub fn never_above()
+    ensures { NeverAbove }
+{
+    of_maps();
+}
+
+/// The laws of measures and maps that the proofs of this crate use.
+pub(crate) fn of_maps()
+    ensures order { OrderIsTotal }
+    ensures zero { ZeroMapIsLeast }
+    ensures lines { GameLines }
+    ensures under { LiftStaysUnder }
+{
+    pg_measure::laws::order_is_total();
+    pg_map::laws::zero_map_is_least();
+    pg_map::laws::game_lines();
+    pg_map::laws::lift_stays_under();
+}
