@@ -1,5 +1,5 @@
 -- The game of an automaton as an answer, and why there is none.
-use Rattle.std.proofs.Common.{◌≡◌, ◌≢◌, ℕ, ◌≤◌, List, length, refl}
+use Rattle.std.proofs.Common.{ℕ, ◌≤◌, List, length, refl}
 use Rattle.pg_arena.specs.Games.{GameVertex, IsWithinLimits}
 use Rattle.pg_text.specs.GameLayout.{game_text}
 use Rattle.pg_hoa.specs.Automata.{Automaton}
@@ -14,7 +14,6 @@ use Rattle.pg_cli.specs.Answers.{Prints, Refuses}
 use Rattle.pg_cli.specs.Faults.{hoa_fault, synth_fault}
 use Rattle.pg_cli.specs.declared.input.TheConstants.{MOST_BYTES}
 use Rattle.pg_cli.specs.declared.command.Command.TheVariants.{Game}
-use Rattle.pg_cli.specs.declared.fault.CliFault.TheVariants.{Write}
 
 pub prints_game : (input : List ℕ) (game : List GameVertex) → length input ≤ MOST_BYTES → IsGameFor input game → IsWithinLimits game
     → (output : List ℕ) × Prints Game input output
@@ -48,19 +47,3 @@ refuses_large input a limit spelt synth.TooLarge why = (
     over = why.2;
   },
 )
-
--- neither fault is the writer's
-pub hoa_reads : (fault : HoaFault) → hoa_fault fault ≢ Write
-hoa_reads hoa.OutOfMemory = λ e. (cc)
-hoa_reads (hoa.Syntax n) = λ e. (cc)
-hoa_reads (hoa.LeftOut name n) = λ e. (cc)
-hoa_reads (hoa.UnknownHeader n) = λ e. (cc)
-hoa_reads (hoa.OutOfRange n) = λ e. (cc)
-hoa_reads hoa.NotParity = λ e. (cc)
-hoa_reads (hoa.NotDeterministic q l) = λ e. (cc)
-hoa_reads hoa.TooLarge = λ e. (cc)
-hoa_reads (hoa.BadName p) = λ e. (cc)
-
-pub synth_reads : (fault : SynthFault) → synth_fault fault ≢ Write
-synth_reads synth.OutOfMemory = λ e. (cc)
-synth_reads synth.TooLarge = λ e. (cc)
