@@ -208,7 +208,13 @@ pub(crate) fn is_front_below(
     requires filled { length cells.now ≡ count * (length bounds.now + 1) }
     requires v { v < count }
     requires w { w < count }
-    ensures { MatchBool result (FrontAtMost (width_from bounds.now priority) (measure_at (table count (length bounds.now + 1) cells.now) v) (measure_at (table count (length bounds.now + 1) cells.now) w)) (FrontAtMost (width_from bounds.now priority) (measure_at (table count (length bounds.now + 1) cells.now) w) (measure_at (table count (length bounds.now + 1) cells.now) v)) }
+    ensures { MatchBool result
+        (FrontAtMost (width_from bounds.now priority)
+            (measure_at (table count (length bounds.now + 1) cells.now) v)
+            (measure_at (table count (length bounds.now + 1) cells.now) w))
+        (FrontAtMost (width_from bounds.now priority)
+            (measure_at (table count (length bounds.now + 1) cells.now) w)
+            (measure_at (table count (length bounds.now + 1) cells.now) v)) }
 {
     let width = bounds.len() + 1;
     row::is_front_below(
