@@ -107,7 +107,8 @@ impl Automaton {
     /// exactly if the least or greatest set there has the shape's parity, or there is none and the shape accepts that.
     pub fn shape(&self) -> Shape
         ensures value { result ≡ self.now.shape }
-        ensures says { (condition : Formula) (recurs : ℕ → Bool) → FitsShape condition self.now.sets result → IsTrue (holds condition recurs) ↔ Accepts result self.now.sets recurs }
+        ensures says { (condition : Formula) (recurs : ℕ → Bool) → FitsShape condition self.now.sets result
+            → IsTrue (holds condition recurs) ↔ Accepts result self.now.sets recurs }
     {
         self.shape
     }

@@ -74,7 +74,8 @@ fn state_of(states: u32, token: Token<'_>, left: usize) -> Result<u32, Refusal>
 fn new_state(states: u32, seen: &[bool], token: Token<'_>, left: usize) -> Result<u32, Refusal>
     requires few { states ≤ 65535 }
     requires all { length seen.now ≡ states }
-    ensures value { Gives (λ x. x) result (new_state states (λ n. slice_index_or seen.now n false) (lexeme token.entry)) }
+    ensures value { Gives (λ x. x) result
+        (new_state states (λ n. slice_index_or seen.now n false) (lexeme token.entry)) }
     ensures below { IfOk result (λ x. x < states) }
 {
     match token {
@@ -175,7 +176,8 @@ fn read_target(states: u32, bytes: &[u8]) -> Result<(u32, &[u8]), Refusal>
 #[tactic(auto, unfolding(crate::specs::Mirrors::BodyScan::edge_at))]
 fn read_edge(alloc: Global, ranges: Ranges, bytes: &[u8]) -> Result<(Edge, &[u8]), Refusal>
     requires { ranges.states ≤ 65535 }
-    ensures { Gives (λ x. (kept_edge x.0, lex x.1.now)) result (edge_at ranges.states ranges.propositions ranges.sets (lex bytes.now)) }
+    ensures { Gives (λ x. (kept_edge x.0, lex x.1.now)) result
+        (edge_at ranges.states ranges.propositions ranges.sets (lex bytes.now)) }
 {
     let (label, rest) = read_formula(alloc, Kind::Label(ranges.propositions), bytes)?;
     let rest = behind_label(rest)?;
@@ -209,7 +211,8 @@ fn begins_edge(token: Token<'_>, left: usize) -> Result<bool, Refusal>
 /// The edges of one state, and the bytes behind them.
 fn read_edges(alloc: Global, ranges: Ranges, bytes: &[u8]) -> Result<(Vec<Edge>, &[u8]), Refusal>
     requires { ranges.states ≤ 65535 }
-    ensures { Gives (λ x. (map kept_edge x.0.items, lex x.1.now)) result (edges_at ranges.states ranges.propositions ranges.sets (lex bytes.now)) }
+    ensures { Gives (λ x. (map kept_edge x.0.items, lex x.1.now)) result
+        (edges_at ranges.states ranges.propositions ranges.sets (lex bytes.now)) }
 {
     let mut edges = Vec::new(alloc);
     let mut rest = bytes;
@@ -247,7 +250,9 @@ fn read_line<'a>(
 ) -> Result<(Line, &'a [u8]), Refusal>
     requires few { ranges.states ≤ 65535 }
     requires all { length seen.now ≡ ranges.states }
-    ensures value { Gives (λ x. (kept_line x.0, lex x.1.now)) result (line_at ranges.states ranges.propositions ranges.sets (λ n. slice_index_or seen.now n false) (lex bytes.now)) }
+    ensures value { Gives (λ x. (kept_line x.0, lex x.1.now)) result
+        (line_at ranges.states ranges.propositions ranges.sets
+        (λ n. slice_index_or seen.now n false) (lex bytes.now)) }
     ensures below { IfOk result (λ x. x.0.state < ranges.states) }
 {
     let (token, left, rest) = due_token(bytes)?;
@@ -279,7 +284,8 @@ fn begins_line(token: Token<'_>, left: usize) -> Result<bool, Refusal>
 /// Behind `--BODY--`: the lines in their order, and the bytes behind `--END--`.
 pub fn read_body(alloc: Global, ranges: Ranges, bytes: &[u8]) -> Result<(Vec<Line>, &[u8]), Refusal>
     requires { ranges.states ≤ 65535 }
-    ensures { Gives (λ x. (map kept_line x.0.items, lex x.1.now)) result (body_at ranges.states ranges.propositions ranges.sets (lex bytes.now)) }
+    ensures { Gives (λ x. (map kept_line x.0.items, lex x.1.now)) result
+        (body_at ranges.states ranges.propositions ranges.sets (lex bytes.now)) }
 {
     let mut lines = Vec::new(alloc);
     let mut seen = vec![in alloc; false; ranges.states as usize]?;

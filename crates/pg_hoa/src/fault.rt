@@ -86,7 +86,10 @@ impl fmt::Display for HoaFault {
         match self {
             HoaFault::OutOfMemory => f.write_str("out of memory"),
             HoaFault::Syntax(offset) => write!(f, "syntax error at byte {offset}"),
-            HoaFault::LeftOut(name, offset) => write!(f, "{name} at byte {offset} is not supported"),
+            HoaFault::LeftOut(name, offset) => write!(
+                f,
+                "{name} at byte {offset} is not supported"
+            ),
             HoaFault::UnknownHeader(offset) => write!(f, "unknown header at byte {offset}"),
             HoaFault::OutOfRange(offset) => write!(f, "number out of range at byte {offset}"),
             HoaFault::NotParity => f.write_str("acceptance is not a supported parity condition"),

@@ -220,7 +220,8 @@ fn read_name(alloc: Global, proposition: u32, bytes: &[u8]) -> Result<(Vec<u8>, 
 
 /// So many names, and the bytes behind them.
 fn read_names(alloc: Global, count: u32, bytes: &[u8]) -> Result<(Vec<Vec<u8>>, &[u8]), Refusal>
-    ensures { Gives (λ x. (map (λ name. name.items) x.0.items, lex x.1.now)) result (names_from count [] (lex bytes.now)) }
+    ensures { Gives (λ x. (map (λ name. name.items) x.0.items, lex x.1.now)) result
+        (names_from count [] (lex bytes.now)) }
 {
     let mut names = Vec::new(alloc);
     let mut rest = bytes;

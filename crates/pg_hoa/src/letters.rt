@@ -50,7 +50,8 @@ fn pop(stack: &mut Vec<u64>) -> u64
 /// What the operation leaves on top of the stack.
 fn answer(op: Op, block: u32, stack: &mut Vec<u64>) -> u64
     requires { block < 1024 }
-    ensures { (j : ℕ) → j < 64 → truth result j ∷ truths j stack.new.items ≡ perform op (on_at block j) (truths j stack.old.items) }
+    ensures { (j : ℕ) → j < 64 → truth result j ∷ truths j stack.new.items
+        ≡ perform op (on_at block j) (truths j stack.old.items) }
 {
     match op {
         Op::Yes => u64::MAX,

@@ -81,7 +81,8 @@ fn literal(proposition: u32) -> Need
 }
 
 fn negated(need: Need) -> Need
-    ensures { (letter : ℕ) → (answer : Bool) → Allows letter need answer → Allows letter result (if answer then false else true) }
+    ensures { (letter : ℕ) → (answer : Bool) → Allows letter need answer
+        → Allows letter result (if answer then false else true) }
 {
     Need {
         yes: need.no,
@@ -91,7 +92,8 @@ fn negated(need: Need) -> Need
 
 /// What the top answer needs; nothing, where there is none.
 fn pop(stack: &mut Vec<Need>) -> Need
-    ensures { (letter : ℕ) → (answers : List Bool) → AllowsStack letter stack.old.items answers → Allows letter result (top answers) × AllowsStack letter stack.new.items (under answers) }
+    ensures { (letter : ℕ) → (answers : List Bool) → AllowsStack letter stack.old.items answers
+        → Allows letter result (top answers) × AllowsStack letter stack.new.items (under answers) }
 {
     match stack.pop() {
         Some(need) => need,
@@ -103,7 +105,8 @@ fn pop(stack: &mut Vec<Need>) -> Need
 }
 
 fn need_both(left: Need, right: Need) -> Need
-    ensures { (letter : ℕ) → (a b : Bool) → Allows letter left a → Allows letter right b → Allows letter result (a && b) }
+    ensures { (letter : ℕ) → (a b : Bool) → Allows letter left a → Allows letter right b
+        → Allows letter result (a && b) }
 {
     Need {
         yes: both(left.yes, right.yes),
@@ -112,7 +115,8 @@ fn need_both(left: Need, right: Need) -> Need
 }
 
 fn need_either(left: Need, right: Need) -> Need
-    ensures { (letter : ℕ) → (a b : Bool) → Allows letter left a → Allows letter right b → Allows letter result (a || b) }
+    ensures { (letter : ℕ) → (a b : Bool) → Allows letter left a → Allows letter right b
+        → Allows letter result (a || b) }
 {
     Need {
         yes: either(left.yes, right.yes),
@@ -122,7 +126,9 @@ fn need_either(left: Need, right: Need) -> Need
 
 /// What the answer of the operation needs.
 fn need_of(op: Op, stack: &mut Vec<Need>) -> Need
-    ensures { (letter : ℕ) → (answers : List Bool) → AllowsStack letter stack.old.items answers → Allows letter result (top (perform op (on_letter letter) answers)) × AllowsStack letter stack.new.items (under (perform op (on_letter letter) answers)) }
+    ensures { (letter : ℕ) → (answers : List Bool) → AllowsStack letter stack.old.items answers
+        → Allows letter result (top (perform op (on_letter letter) answers))
+        × AllowsStack letter stack.new.items (under (perform op (on_letter letter) answers)) }
 {
     match op {
         Op::Yes => Need {

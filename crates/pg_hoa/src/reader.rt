@@ -80,7 +80,8 @@ fn end(bytes: &[u8]) -> Result<(), Refusal>
 
 /// How many states there are: so many as the headers say, or else one more than the greatest number that is named.
 fn states_of(settled: &Settled, lines: &[Line]) -> u32
-    ensures { kept_states (said settled.now) (map kept_line lines.now) < 2 ^ 32 → result ≡ kept_states (said settled.now) (map kept_line lines.now) }
+    ensures { kept_states (said settled.now) (map kept_line lines.now) < 2 ^ 32
+        → result ≡ kept_states (said settled.now) (map kept_line lines.now) }
 {
     match settled.states {
         Some(states) => states,

@@ -106,7 +106,8 @@ fn with_set(shape: Shape, counts: Option<u32>, set: u32) -> Option<u32>
 
 /// The set that counts, with more sets, where without these it is the given one.
 fn counts_with(shape: Shape, counts: Option<u32>, sets: &[u32]) -> Option<u32>
-    ensures { (own : List ℕ) → counts ≡ deciding shape (rising own) → result ≡ deciding shape (rising (own ++ sets.now)) }
+    ensures { (own : List ℕ) → counts ≡ deciding shape (rising own)
+        → result ≡ deciding shape (rising (own ++ sets.now)) }
 {
     let mut found = counts;
     for set in sets {
@@ -160,7 +161,8 @@ fn place_of(alloc: Global, filling: &mut Filling, sets: Vec<u32>) -> Result<u32,
 
 /// The number of a new step.
 fn store(alloc: Global, filling: &mut Filling, way: &Way<'_>) -> Result<u32, AllocError>
-    ensures there { IfOk result (λ number. numbered (stage filling.new).steps (stage filling.new).lists number ≡ Some (way_step way.now)) }
+    ensures there { IfOk result (λ number. numbered (stage filling.new).steps (stage filling.new).lists number
+        ≡ Some (way_step way.now)) }
     ensures keeps { OnOk result (Extends (stage filling.old) (stage filling.new)) }
 {
     let sets = sets_of(alloc, way)?;
@@ -180,7 +182,8 @@ fn store(alloc: Global, filling: &mut Filling, way: &Way<'_>) -> Result<u32, All
 fn compared(filling: &Filling, way: &Way<'_>, slot: usize) -> Option<bool>
     requires decided { IsDecided way.now }
     requires within { slot < length filling.now.slots.items }
-    ensures { result ≡ option_map (λ s. agree way.now.shape s (way_step way.now)) (numbered (stage filling.now).steps (stage filling.now).lists (get_or filling.now.slots.items slot 0)) }
+    ensures { result ≡ option_map (λ s. agree way.now.shape s (way_step way.now))
+        (numbered (stage filling.now).steps (stage filling.now).lists (get_or filling.now.slots.items slot 0)) }
 {
     let (target, sets) = numbered(&filling.steps, &filling.lists, filling.slots[slot])?;
     Some(target == way.target && same_set(deciding(way.shape, sets), way.counts))
@@ -197,7 +200,8 @@ fn place(
     requires decided { IsDecided way.now }
     requires within { slot < length filling.old.slots.items }
     requires known { MayNumber (stage filling.old) number (way_step way.now) }
-    ensures adds { OnOk result (Adds way.now.shape (at_slot slot (way_step way.now)) (stage filling.old) (stage filling.new)) }
+    ensures adds { OnOk result (Adds way.now.shape (at_slot slot (way_step way.now)) (stage filling.old)
+        (stage filling.new)) }
     ensures known { IfOk result (λ n. MayNumber (stage filling.new) n (way_step way.now)) }
 {
     match compared(filling, way, slot) {
@@ -235,7 +239,8 @@ fn place_word(
     requires within { first + width ≤ length filling.old.slots.items }
     requires narrow { width ≤ 64 }
     requires known { MayNumber (stage filling.old) number (way_step way.now) }
-    ensures adds { OnOk result (Adds way.now.shape (at_word first width word (way_step way.now)) (stage filling.old) (stage filling.new)) }
+    ensures adds { OnOk result (Adds way.now.shape (at_word first width word (way_step way.now)) (stage filling.old)
+        (stage filling.new)) }
     ensures known { IfOk result (λ n. MayNumber (stage filling.new) n (way_step way.now)) }
 {
     let mut at: u32 = 0;
@@ -279,7 +284,8 @@ fn add_edge(
     requires decided { IsDecided way.now }
     requires few { propositions ≤ 16 }
     requires within { first + 2 ^ propositions ≤ length filling.old.slots.items }
-    ensures { OnOk result (Adds way.now.shape (at_letters first (2 ^ propositions) label.now (way_step way.now)) (stage filling.old) (stage filling.new)) }
+    ensures { OnOk result (Adds way.now.shape (at_letters first (2 ^ propositions) label.now (way_step way.now))
+        (stage filling.old) (stage filling.new)) }
 {
     let (blocks, width) = blocks_of(propositions);
     let bits = bits_of(label, &mut stacks.needs)?;
@@ -305,7 +311,8 @@ fn add_line(
 ) -> Result<(), AllocError>
     requires few { propositions ≤ 16 }
     requires within { line.now.state * 2 ^ propositions + 2 ^ propositions ≤ length filling.old.slots.items }
-    ensures { OnOk result (Adds shape (at_line (2 ^ propositions) (kept_line line.now)) (stage filling.old) (stage filling.new)) }
+    ensures { OnOk result (Adds shape (at_line (2 ^ propositions) (kept_line line.now)) (stage filling.old)
+        (stage filling.new)) }
 {
     let first = (line.state as usize) << propositions;
     let own = line.sets.as_slice();
@@ -383,7 +390,8 @@ pub fn table_of(
 
 /// One more than the greatest of the number and the states that the lines name, if it is below 2^32.
 pub fn states_named(lines: &[Line], start: u32) -> u32
-    ensures { kept_count start (map kept_line lines.now) < 2 ^ 32 → result ≡ kept_count start (map kept_line lines.now) }
+    ensures { kept_count start (map kept_line lines.now) < 2 ^ 32
+        → result ≡ kept_count start (map kept_line lines.now) }
 {
     let mut greatest = start;
     for line in lines {

@@ -13,8 +13,8 @@ use Rattle.pg_map.proofs.Lifts.{lifted_by_step, lifted_line}
 pub misses_by : (strict : Bool) (k : ℕ) (m n : MeasureValue) → (CoversFront strict k m n → ⊥) → MissesFront strict k m n
 misses_by strict k None n h = h tt
 misses_by strict k (Some xs) None h = tt
-misses_by true k (Some xs) (Some ys) h = elim (below_or (take k ys) (take k xs)) [ | inl b ↦ absurd (h b) | inr a ↦ a ]
-misses_by false k (Some xs) (Some ys) h = elim (below_or (take k xs) (take k ys)) [ | inl b ↦ b | inr a ↦ absurd (h a) ]
+misses_by true k (Some xs) (Some ys) h = elim (below_or (take k ys) (take k xs)) [ inl b ↦ absurd (h b) | inr a ↦ a ]
+misses_by false k (Some xs) (Some ys) h = elim (below_or (take k xs) (take k ys)) [ inl b ↦ b | inr a ↦ absurd (h a) ]
 
 pub lifted_over : (bs : BoundList) (lines : ℕ → Option Line) (f g : List MeasureValue) (v w : ℕ) → IsBest (line_at lines v).owner (width_from bs (line_at lines v).priority) f (line_at lines v).successors w → (IsServedBy bs lines f v w → ⊥) → IsLeastCover bs (is_odd (line_at lines v).priority) (width_from bs (line_at lines v).priority) (measure_at f w) (measure_at g v) → g ≡ set f v (measure_at g v) → IsLifted bs lines f g v
 lifted_over bs lines f g v w best un c others =

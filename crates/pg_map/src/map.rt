@@ -141,7 +141,10 @@ impl MeasureMap {
         requires held { IsSome (G.line lines.now v) }
         requires a { a < length self.now.measures }
         requires b { b < length self.now.measures }
-        ensures { MatchBool result (FrontAtMost (width_from self.now.bounds (line_at (G.line lines.now) v).priority) (measure_at self.now.measures a) (measure_at self.now.measures b)) (FrontAtMost (width_from self.now.bounds (line_at (G.line lines.now) v).priority) (measure_at self.now.measures b) (measure_at self.now.measures a)) }
+        ensures { MatchBool result (FrontAtMost (width_from self.now.bounds (line_at (G.line lines.now) v).priority)
+            (measure_at self.now.measures a) (measure_at self.now.measures b))
+            (FrontAtMost (width_from self.now.bounds (line_at (G.line lines.now) v).priority)
+            (measure_at self.now.measures b) (measure_at self.now.measures a)) }
     {
         table::is_front_below(
             &self.cells,
@@ -158,12 +161,15 @@ impl MeasureMap {
     pub fn lift_over<G: Lines>(&mut self, lines: &G, v: Vertex, w: Vertex)
         requires held { IsSome (G.line lines.now v) }
         requires within { AreWithin (length self.old.measures) (G.line lines.now) }
-        requires best { IsBest (line_at (G.line lines.now) v).owner (width_from self.old.bounds (line_at (G.line lines.now) v).priority) self.old.measures (line_at (G.line lines.now) v).successors w }
+        requires best { IsBest (line_at (G.line lines.now) v).owner
+            (width_from self.old.bounds (line_at (G.line lines.now) v).priority) self.old.measures
+            (line_at (G.line lines.now) v).successors w }
         requires unserved { ¬ (IsServedBy self.old.bounds (G.line lines.now) self.old.measures v w) }
         ensures bounds { self.new.bounds ≡ self.old.bounds }
         ensures map { IsMap self.old.bounds (length self.old.measures) self.new.measures }
         ensures lifted { IsLifted self.old.bounds (G.line lines.now) self.old.measures self.new.measures v }
-        ensures served { Covers self.old.bounds (line_at (G.line lines.now) v).priority (measure_at self.new.measures v) (measure_at self.old.measures w) }
+        ensures served { Covers self.old.bounds (line_at (G.line lines.now) v).priority
+            (measure_at self.new.measures v) (measure_at self.old.measures w) }
         ensures under { StaysUnder self.old.bounds (G.line lines.now) self.old.measures self.new.measures }
         ensures weight { map_weight self.old.bounds self.new.measures < map_weight self.old.bounds self.old.measures }
     {

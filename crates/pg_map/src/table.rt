@@ -210,11 +210,11 @@ pub(crate) fn is_front_below(
     requires w { w < count }
     ensures { MatchBool result
         (FrontAtMost (width_from bounds.now priority)
-            (measure_at (table count (length bounds.now + 1) cells.now) v)
-            (measure_at (table count (length bounds.now + 1) cells.now) w))
+        (measure_at (table count (length bounds.now + 1) cells.now) v)
+        (measure_at (table count (length bounds.now + 1) cells.now) w))
         (FrontAtMost (width_from bounds.now priority)
-            (measure_at (table count (length bounds.now + 1) cells.now) w)
-            (measure_at (table count (length bounds.now + 1) cells.now) v)) }
+        (measure_at (table count (length bounds.now + 1) cells.now) w)
+        (measure_at (table count (length bounds.now + 1) cells.now) v)) }
 {
     let width = bounds.len() + 1;
     row::is_front_below(
@@ -238,8 +238,12 @@ pub(crate) fn lift_over(
     requires v { v < count }
     requires w { w < count }
     ensures table { IsTable bounds.now count (length bounds.now + 1) cells.new }
-    ensures step { IsLeastCover bounds.now (is_odd priority) (width_from bounds.now priority) (measure_at (table count (length bounds.now + 1) cells.old) w) (measure_at (table count (length bounds.now + 1) cells.new) v) }
-    ensures others { table count (length bounds.now + 1) cells.new ≡ slice_set (table count (length bounds.now + 1) cells.old) v (measure_at (table count (length bounds.now + 1) cells.new) v) }
+    ensures step { IsLeastCover bounds.now (is_odd priority) (width_from bounds.now priority)
+        (measure_at (table count (length bounds.now + 1) cells.old) w)
+        (measure_at (table count (length bounds.now + 1) cells.new) v) }
+    ensures others { table count (length bounds.now + 1) cells.new
+        ≡ slice_set (table count (length bounds.now + 1) cells.old) v
+        (measure_at (table count (length bounds.now + 1) cells.new) v) }
 {
     let front = row::width_from(bounds, priority);
     write_step(cells, bounds, count, w, v, front, priority % 2 == 1);

@@ -48,7 +48,8 @@ fn marks(alloc: Global, automaton: &Automaton) -> Result<Vec<bool>, AllocError>
 
 fn input_parts(alloc: Global, controllable: &[bool]) -> Result<Vec<u32>, AllocError>
     requires { length controllable.now ≤ 16 }
-    ensures { IfOk result (λ list. list.items ≡ map (λ i. joined controllable.now i 0) (range_with_len 0 (2 ^ inputs controllable.now))) }
+    ensures { IfOk result (λ list. list.items
+        ≡ map (λ i. joined controllable.now i 0) (range_with_len 0 (2 ^ inputs controllable.now))) }
 {
     let mut list = Vec::new(alloc);
     for input in 0..count_inputs(controllable) {
@@ -59,7 +60,8 @@ fn input_parts(alloc: Global, controllable: &[bool]) -> Result<Vec<u32>, AllocEr
 
 fn output_parts(alloc: Global, controllable: &[bool]) -> Result<Vec<u32>, AllocError>
     requires { length controllable.now ≤ 16 }
-    ensures { IfOk result (λ list. list.items ≡ map (λ o. joined controllable.now 0 o) (range_with_len 0 (2 ^ outputs controllable.now))) }
+    ensures { IfOk result (λ list. list.items
+        ≡ map (λ o. joined controllable.now 0 o) (range_with_len 0 (2 ^ outputs controllable.now))) }
 {
     let mut list = Vec::new(alloc);
     for output in 0..count_outputs(controllable) {

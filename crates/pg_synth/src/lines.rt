@@ -130,7 +130,8 @@ fn push_targets(
 ) -> Result<(), AllocError>
     requires laid { IsLayoutOf automaton.now layout.now }
     requires state { state < automaton.now.states }
-    ensures { OnOk result (list.new.items ≡ list.old.items ++ map (target automaton.now state) (range_with_len 0 (letters automaton.now))) }
+    ensures { OnOk result (list.new.items
+        ≡ list.old.items ++ map (target automaton.now state) (range_with_len 0 (letters automaton.now))) }
 {
     for letter in 0..1 << automaton.propositions() {
         list.push(target(automaton, layout, state, letter))?;
@@ -147,7 +148,9 @@ fn push_answers(
 ) -> Result<(), AllocError>
     requires laid { IsLayoutOf automaton.now layout.now }
     requires state { state < automaton.now.states }
-    ensures { OnOk result (list.new.items ≡ list.old.items ++ map (λ i. place_identifier automaton.now (Answer state i)) (range_with_len 0 (input_letters automaton.now))) }
+    ensures { OnOk result (list.new.items
+        ≡ list.old.items ++ map
+        (λ i. place_identifier automaton.now (Answer state i)) (range_with_len 0 (input_letters automaton.now))) }
 {
     let first = 1 + state * layout.width + automaton.sets() + 1;
     for input in 0..layout.inputs.len() as u32 {

@@ -23,7 +23,8 @@ use pg_wire::VertexLine;
 fn greatest<G: Lines>(map: &MeasureMap, lines: &G, v: Vertex) -> Vertex
     requires held { IsSome (G.line lines.now v) }
     requires within { AreWithin (length map.now.measures) (G.line lines.now) }
-    ensures { IsBest Odd (width_from map.now.bounds (line_at (G.line lines.now) v).priority) map.now.measures (line_at (G.line lines.now) v).successors result }
+    ensures { IsBest Odd (width_from map.now.bounds (line_at (G.line lines.now) v).priority) map.now.measures
+        (line_at (G.line lines.now) v).successors result }
 {
     let mut best = lines.successors(v)[0];
     for w in lines.successors(v) {
@@ -38,7 +39,8 @@ fn greatest<G: Lines>(map: &MeasureMap, lines: &G, v: Vertex) -> Vertex
 fn first_best<G: Lines>(map: &MeasureMap, lines: &G, v: Vertex) -> Vertex
     requires held { IsSome (G.line lines.now v) }
     requires within { AreWithin (length map.now.measures) (G.line lines.now) }
-    ensures { Keeps map.now.bounds (line_at (G.line lines.now) v) map.now.measures nothing (measure_at map.now.measures v) true result }
+    ensures { Keeps map.now.bounds (line_at (G.line lines.now) v) map.now.measures nothing
+        (measure_at map.now.measures v) true result }
 {
     match lines.owner(v) {
         Player::Even => lines.successors(v)[0],

@@ -40,7 +40,8 @@ impl Cut {
 
     /// The cut with these numbers of workers, one for each vertex. None if a number isn't between 1 and `workers`.
     pub fn from_list(alloc: Global, workers: u32, list: &[u32]) -> Result<Option<Cut>, AllocError>
-        ensures cut { IfOk result (λ o. IfSome o (λ c. (c.workers ≡ workers) × (c.numbers ≡ list.now) × NameWorkers workers list.now)) }
+        ensures cut { IfOk result (λ o. IfSome o (λ c. (c.workers ≡ workers) × (c.numbers ≡ list.now)
+            × NameWorkers workers list.now)) }
         ensures none { IfOk result (λ o. IfNone o (¬ (NameWorkers workers list.now))) }
     {
         if !list.iter().all(|number| (1..=workers).contains(number)) {

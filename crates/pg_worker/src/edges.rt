@@ -58,7 +58,8 @@ impl Edges {
         requires targets { All (λ x. x < length self.old.last.items) successors.now }
         requires room { length self.old.entries.items + length successors.now ≤ vec_capacity self.old.entries }
         ensures size { length self.new.last.items ≡ length self.old.last.items }
-        ensures added { AreAdded u successors.now (length successors.now) self.old.entries.items self.new.entries.items }
+        ensures added { AreAdded u successors.now
+            (length successors.now) self.old.entries.items self.new.entries.items }
         ensures count { length self.new.entries.items ≡ length self.old.entries.items + length successors.now }
         ensures room { vec_capacity self.new.entries ≡ vec_capacity self.old.entries }
     {

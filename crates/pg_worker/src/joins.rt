@@ -33,7 +33,8 @@ fn lent_pairs(pairs: &Option<Pairs>) -> Option<&[(u32, u32)]>
 pub fn join_values(worker: &mut Worker, values: &[Value]) -> Result<(), WorkerFault>
     ensures joined { OnOk result (JoinsAll worker.old (told_values values.now) worker.new) }
     ensures fit { OnOk result (CanTakeAll worker.old (told_values values.now)) }
-    ensures refused { IfErr result (λ e. (e ≡ WorkerFault.BadUpdate) × ¬ (CanTakeAll worker.old (told_values values.now))) }
+    ensures refused { IfErr result (λ e. (e ≡ WorkerFault.BadUpdate)
+        × ¬ (CanTakeAll worker.old (told_values values.now))) }
     ensures bounds { worker.new.bounds ≡ worker.old.bounds }
 {
     for value in values {
@@ -47,7 +48,8 @@ pub fn join_sparse(worker: &mut Worker, values: &[SparseValue]) -> Result<(), Wo
     requires { All (IsSparseValue (length worker.old.bounds)) values.now }
     ensures joined { OnOk result (JoinsAll worker.old (told_sparse (length worker.old.bounds) values.now) worker.new) }
     ensures fit { OnOk result (CanTakeAll worker.old (told_sparse (length worker.old.bounds) values.now)) }
-    ensures refused { IfErr result (λ e. (e ≡ WorkerFault.BadUpdate) × ¬ (CanTakeAll worker.old (told_sparse (length worker.old.bounds) values.now))) }
+    ensures refused { IfErr result (λ e. (e ≡ WorkerFault.BadUpdate)
+        × ¬ (CanTakeAll worker.old (told_sparse (length worker.old.bounds) values.now))) }
     ensures bounds { worker.new.bounds ≡ worker.old.bounds }
 {
     for value in values {

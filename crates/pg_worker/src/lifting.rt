@@ -44,10 +44,12 @@ pub(crate) fn take<G: Lines>(
     ensures work { length work.new ≡ length work.old }
     ensures best { length best.new ≡ length best.old }
     ensures kept { IsKept map.old.bounds (G.line lines.now) map.new.measures work.new best.new }
-    ensures rose { OnTrue result (IsBelow (measure_at map.old.measures v) (measure_in m.entry) × (map.new.measures ≡ slice_set map.old.measures v (measure_in m.entry))) }
+    ensures rose { OnTrue result (IsBelow (measure_at map.old.measures v) (measure_in m.entry)
+        × (map.new.measures ≡ slice_set map.old.measures v (measure_in m.entry))) }
     ensures stays { OnFalse result (AtMost (measure_in m.entry) (measure_at map.old.measures v)) }
     ensures same { OnFalse result (map.new ≡ map.old) }
-    ensures join { IsJoin map.old.measures (update_map map.old.bounds (length map.old.measures) v (measure_in m.entry)) map.new.measures }
+    ensures join { IsJoin map.old.measures
+        (update_map map.old.bounds (length map.old.measures) v (measure_in m.entry)) map.new.measures }
 {
     let rose = map.raise(v, m);
     if rose {
@@ -94,7 +96,8 @@ fn is_quiet<G: Lines>(map: &MeasureMap, lines: &G, work: &mut Worklist, best: &m
     ensures work { length work.new ≡ length work.old }
     ensures best { length best.new ≡ length best.old }
     ensures kept { IsKept map.now.bounds (G.line lines.now) map.now.measures work.new best.new }
-    ensures quiet { MatchBool result (IsClosed map.now.bounds (G.line lines.now) map.now.measures) (¬ (IsClosed map.now.bounds (G.line lines.now) map.now.measures)) }
+    ensures quiet { MatchBool result (IsClosed map.now.bounds (G.line lines.now) map.now.measures)
+        (¬ (IsClosed map.now.bounds (G.line lines.now) map.now.measures)) }
 {
     match next_ready(map, lines, work, best) {
         Some(v) => {
@@ -141,7 +144,9 @@ pub(crate) fn lift_some<G: Lines>(
     ensures lifts { AreLifts map.old.bounds (G.line lines.now) map.old.measures updates.new.items map.new.measures }
     ensures under { StaysUnder map.old.bounds (G.line lines.now) map.old.measures map.new.measures }
     ensures few { length updates.new.items ≤ budget }
-    ensures quiet { IfOk result (λ quiet. MatchBool quiet (IsClosed map.old.bounds (G.line lines.now) map.new.measures) (¬ (IsClosed map.old.bounds (G.line lines.now) map.new.measures))) }
+    ensures quiet { IfOk result (λ quiet. MatchBool quiet
+        (IsClosed map.old.bounds (G.line lines.now) map.new.measures)
+        (¬ (IsClosed map.old.bounds (G.line lines.now) map.new.measures))) }
     ensures fewer { IfOk result (λ quiet. quiet ≡ false → length updates.new.items ≡ budget) }
 {
     for _ in 0..budget {
@@ -188,8 +193,11 @@ pub(crate) fn lift_turn<G: Lines>(
     ensures kept { IsKept map.old.bounds (G.line lines.now) map.new.measures work.new best.new }
     ensures room { lifted.new.count ≡ lifted.old.count }
     ensures under { StaysUnder map.old.bounds (G.line lines.now) map.old.measures map.new.measures }
-    ensures quiet { MatchBool result (IsClosed map.old.bounds (G.line lines.now) map.new.measures) (¬ (IsClosed map.old.bounds (G.line lines.now) map.new.measures)) }
-    ensures turn { AreListedLifts map.old.bounds (G.line lines.now) map.old.measures map.new.measures lifted.new.vertices (λ n. (n ≤ budget) × (result ≡ false → n ≡ budget)) }
+    ensures quiet { MatchBool result (IsClosed map.old.bounds (G.line lines.now) map.new.measures)
+        (¬ (IsClosed map.old.bounds (G.line lines.now) map.new.measures)) }
+    ensures turn { AreListedLifts map.old.bounds
+        (G.line lines.now) map.old.measures map.new.measures lifted.new.vertices (λ n. (n ≤ budget)
+        × (result ≡ false → n ≡ budget)) }
 {
     for _ in 0..budget {
         let v = match next_ready(map, lines, work, best) {
@@ -224,8 +232,11 @@ pub(crate) fn lift_one<G: Lines>(
     ensures work { length work.new ≡ length work.old }
     ensures best { length best.new ≡ length best.old }
     ensures kept { IsKept map.old.bounds (G.line lines.now) map.new.measures work.new best.new }
-    ensures lifted { IfOk result (λ o. IfSome o (λ u. (u.vertex ≡ v) × AreLifts map.old.bounds (G.line lines.now) map.old.measures (u ∷ []) map.new.measures × StaysUnder map.old.bounds (G.line lines.now) map.old.measures map.new.measures)) }
-    ensures served { IfOk result (λ o. IfNone o (IsServed map.old.bounds (G.line lines.now) map.old.measures v × (map.new ≡ map.old))) }
+    ensures lifted { IfOk result (λ o. IfSome o (λ u. (u.vertex ≡ v)
+        × AreLifts map.old.bounds (G.line lines.now) map.old.measures (u ∷ []) map.new.measures
+        × StaysUnder map.old.bounds (G.line lines.now) map.old.measures map.new.measures)) }
+    ensures served { IfOk result (λ o. IfNone o (IsServed map.old.bounds (G.line lines.now) map.old.measures v
+        × (map.new ≡ map.old))) }
     ensures same { OnErr result (map.new ≡ map.old) }
 {
     if !work.waits(v.0) {
@@ -274,8 +285,13 @@ pub(crate) fn receive<G: Lines>(
     ensures ok { IsOk result ↔ ((vertex < length map.old.measures) × Fits map.old.bounds (measure_in measure.entry)) }
     ensures refused { IfErr result (λ e. e ≡ WorkerFault.BadUpdate) }
     ensures same { OnErr result (map.new ≡ map.old) }
-    ensures join { OnOk result (IsJoin map.old.measures (update_map map.old.bounds (length map.old.measures) vertex (measure_in measure.entry)) map.new.measures) }
-    ensures change { IfOk result (λ rose. MatchBool rose (IsBelow (measure_at map.old.measures vertex) (measure_in measure.entry) × (map.new.measures ≡ slice_set map.old.measures vertex (measure_in measure.entry))) (AtMost (measure_in measure.entry) (measure_at map.old.measures vertex) × (map.new.measures ≡ map.old.measures))) }
+    ensures join { OnOk result (IsJoin map.old.measures
+        (update_map map.old.bounds (length map.old.measures) vertex (measure_in measure.entry)) map.new.measures) }
+    ensures change { IfOk result (λ rose. MatchBool rose
+        (IsBelow (measure_at map.old.measures vertex) (measure_in measure.entry)
+        × (map.new.measures ≡ slice_set map.old.measures vertex (measure_in measure.entry)))
+        (AtMost (measure_in measure.entry) (measure_at map.old.measures vertex)
+        × (map.new.measures ≡ map.old.measures))) }
 {
     if vertex >= map.len() || !fits(measure, map.bounds()) {
         return Err(WorkerFault::BadUpdate);

@@ -60,7 +60,8 @@ impl Part {
         requires nonempty { 0 < length successors.now }
         requires room { length self.old.targets + length successors.now ≤ self.old.room }
         ensures size { length self.new.heads ≡ length self.old.heads }
-        ensures lines { lines_in self.new ≡ slice_set (lines_in self.old) v (Some (line_of priority owner successors.now)) }
+        ensures lines { lines_in self.new ≡ slice_set (lines_in self.old) v
+            (Some (line_of priority owner successors.now)) }
         ensures targets { length self.new.targets ≡ length self.old.targets + length successors.now }
         ensures room { self.new.room ≡ self.old.room }
     {

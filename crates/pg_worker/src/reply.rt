@@ -32,7 +32,9 @@ fn push(
 ) -> Result<bool, AllocError>
     requires { IfSome (measure_in measure) (λ xs. length xs ≤ 32768) }
     ensures of { (writer.new.kind ≡ writer.old.kind) × (writer.new.width ≡ writer.old.width) }
-    ensures added { (before : List ℕ) (ms : List Measured) → IsWriting writer.old before ms out.old.items → IfOk result (λ fits. IsAdded fits writer.old writer.new before ms (v, measure_in measure.entry) out.old.items out.new.items) }
+    ensures added { (before : List ℕ) (ms : List Measured) → IsWriting writer.old before ms out.old.items
+        → IfOk result (λ fits. IsAdded fits writer.old writer.new before ms
+        (v, measure_in measure.entry) out.old.items out.new.items) }
     ensures kept { OnErr result ((writer.new ≡ writer.old) × (out.new.items ≡ out.old.items)) }
 {
     match measure {
@@ -52,9 +54,14 @@ fn put_frame(
     requires within { All (λ v. v < length worker.now.map) vertices.now }
     requires some { 0 < length vertices.now }
     ensures count { IfOk result (λ n. (1 ≤ n) × (n ≤ length vertices.now)) }
-    ensures frame { IfOk result (λ n. out.new.items ≡ out.old.items ++ spelling (frame_of kind (length worker.now.bounds) (measures_of worker.now.map (take n vertices.now)))) }
-    ensures within { IfOk result (λ n. frame_size kind (length worker.now.bounds) (measures_of worker.now.map (take n vertices.now)) ≤ longest) }
-    ensures full { IfOk result (λ n. n < length vertices.now → longest < frame_size kind (length worker.now.bounds) (measures_of worker.now.map (take (n + 1) vertices.now))) }
+    ensures frame { IfOk result (λ n. out.new.items
+        ≡ out.old.items ++ spelling
+        (frame_of kind (length worker.now.bounds) (measures_of worker.now.map (take n vertices.now)))) }
+    ensures within { IfOk result (λ n. frame_size kind (length worker.now.bounds)
+        (measures_of worker.now.map (take n vertices.now)) ≤ longest) }
+    ensures full { IfOk result (λ n. n < length vertices.now
+        → longest < frame_size kind (length worker.now.bounds)
+        (measures_of worker.now.map (take (n + 1) vertices.now))) }
     ensures kept { Extends out.old.items out.new.items }
 {
     let width = worker.bounds().pairs().len() as u32;
@@ -74,7 +81,9 @@ fn put_frame(
 pub fn put_lifted(worker: &Worker, kind: ValueKind, out: &mut Vec<u8>) -> Result<(), AllocError>
     requires few { length worker.now.bounds ≤ 32768 }
     requires within { All (λ v. v < length worker.now.map) worker.now.lifted }
-    ensures packs { OnOk result ((bytes : List ℕ) × Packs kind (length worker.now.bounds) (lifted_measures worker.now) bytes × (out.new.items ≡ out.old.items ++ bytes)) }
+    ensures packs { OnOk result ((bytes : List ℕ)
+        × Packs kind (length worker.now.bounds) (lifted_measures worker.now) bytes
+        × (out.new.items ≡ out.old.items ++ bytes)) }
     ensures kept { Extends out.old.items out.new.items }
 {
     let mut rest = worker.lifted();

@@ -35,9 +35,11 @@ fn step<R: Read, W: Write>(
     output: &mut W,
 ) -> Result<Step, WorkerFault>
     requires { session.old.highest ≡ 2 }
-    ensures step { IfOk result (λ s. IsStep s session.old.held session.new.held (R.remaining input.old) (R.remaining input.new) (W.contents output.old) (W.contents output.new)) }
+    ensures step { IfOk result (λ s. IsStep s session.old.held session.new.held (R.remaining input.old)
+        (R.remaining input.new) (W.contents output.old) (W.contents output.new)) }
     ensures highest { session.new.highest ≡ session.old.highest }
-    ensures fault { IfErr result (λ e. (e ≡ Wire Write) ⊎ (IsFaultAt (R.remaining input.old) session.old.held e × (W.contents output.new ≡ W.contents output.old))) }
+    ensures fault { IfErr result (λ e. (e ≡ Wire Write)
+        ⊎ (IsFaultAt (R.remaining input.old) session.old.held e × (W.contents output.new ≡ W.contents output.old))) }
 {
     let frame = match read_frame(alloc, input) {
         Ok(Some(frame)) => frame,
@@ -57,7 +59,8 @@ fn step<R: Read, W: Write>(
 
 /// Writes the report of a fault, if it has one, and gives the fault that serving ends with.
 fn tell<W: Write>(fault: WorkerFault, output: &mut W) -> WorkerFault
-    ensures { ((result ≡ fault) × Appends (W.contents output.old) (W.contents output.new) (told fault)) ⊎ (result ≡ Wire Write) }
+    ensures { ((result ≡ fault) × Appends (W.contents output.old) (W.contents output.new) (told fault))
+        ⊎ (result ≡ Wire Write) }
 {
     match fault {
         WorkerFault::Wire(WireFault::Read | WireFault::Write | WireFault::Truncated) => fault,
@@ -85,8 +88,10 @@ pub fn serve<R: Read, W: Write>(
     input: &mut R,
     output: &mut W,
 ) -> Result<Served, WorkerFault>
-    ensures served { IfOk result (λ s. Serves s (R.remaining input.old) (R.remaining input.new) (W.contents output.old) (W.contents output.new)) }
-    ensures fault { IfErr result (λ e. (e ≡ Wire Write) ⊎ Breaks e (R.remaining input.old) (W.contents output.old) (W.contents output.new)) }
+    ensures served { IfOk result (λ s. Serves s (R.remaining input.old) (R.remaining input.new)
+        (W.contents output.old) (W.contents output.new)) }
+    ensures fault { IfErr result (λ e. (e ≡ Wire Write)
+        ⊎ Breaks e (R.remaining input.old) (W.contents output.old) (W.contents output.new)) }
 {
     let mut session = Session::new(alloc);
     let mut reply = Vec::new(alloc);

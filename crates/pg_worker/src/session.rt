@@ -55,9 +55,11 @@ impl Session {
         requires { IsWell frame.now }
         ensures highest { self.new.highest ≡ self.old.highest }
         ensures version { OnOk result (IsUpTo self.old.highest frame.now) }
-        ensures turn { OnOk result ((reply : List ℕ) × Turn self.old.held frame.now self.new.held reply × (out.new.items ≡ out.old.items ++ reply)) }
+        ensures turn { OnOk result ((reply : List ℕ) × Turn self.old.held frame.now self.new.held reply
+            × (out.new.items ≡ out.old.items ++ reply)) }
         ensures halt { IfOk result (λ halts. IsTrue halts ↔ (frame.now ≡ Halt)) }
-        ensures refused { IfErr result (λ e. (e ≡ WorkerFault.OutOfMemory) ⊎ Refuses self.old.highest self.old.held frame.now e) }
+        ensures refused { IfErr result (λ e. (e ≡ WorkerFault.OutOfMemory)
+            ⊎ Refuses self.old.highest self.old.held frame.now e) }
         ensures same { OnErr result (out.new.items ≡ out.old.items) }
         ensures empty { OnErr result (self.new.held ≡ None) }
     {

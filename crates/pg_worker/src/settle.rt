@@ -19,7 +19,9 @@ fn choose<G: Lines>(map: &MeasureMap, lines: &G, v: Vertex) -> (Vertex, bool)
     requires within { AreWithin (length map.now.measures) (G.line lines.now) }
     ensures among { IsAmong result.0 (line_at (G.line lines.now) v).successors }
     ensures serves { OnTrue result.1 (IsServedBy map.now.bounds (G.line lines.now) map.now.measures v result.0) }
-    ensures best { OnFalse result.1 (IsBest Even (width_from map.now.bounds (line_at (G.line lines.now) v).priority) map.now.measures (line_at (G.line lines.now) v).successors result.0) }
+    ensures best { OnFalse result.1 (IsBest Even
+        (width_from map.now.bounds (line_at (G.line lines.now) v).priority) map.now.measures
+        (line_at (G.line lines.now) v).successors result.0) }
     ensures unserved { OnFalse result.1 (¬ (IsServedBy map.now.bounds (G.line lines.now) map.now.measures v result.0)) }
 {
     let mut least = lines.successors(v)[0];
@@ -39,10 +41,13 @@ pub(crate) fn settle<G: Lines>(map: &MeasureMap, lines: &G, best: &mut [Vertex],
     requires held { IsSome (G.line lines.now v) }
     requires within { AreWithin (length map.now.measures) (G.line lines.now) }
     requires best { length best.old ≡ length map.now.measures }
-    requires kept { Keeps map.now.bounds (line_at (G.line lines.now) v) map.now.measures nothing (measure_at map.now.measures v) true (slice_index_or best.old v 0) }
+    requires kept { Keeps map.now.bounds (line_at (G.line lines.now) v) map.now.measures nothing
+        (measure_at map.now.measures v) true (slice_index_or best.old v 0) }
     ensures others { best.new ≡ slice_set best.old v (slice_index_or best.new v 0) }
-    ensures kept { Keeps map.now.bounds (line_at (G.line lines.now) v) map.now.measures nothing (measure_at map.now.measures v) true (slice_index_or best.new v 0) }
-    ensures served { OnTrue result (Keeps map.now.bounds (line_at (G.line lines.now) v) map.now.measures nothing (measure_at map.now.measures v) false (slice_index_or best.new v 0)) }
+    ensures kept { Keeps map.now.bounds (line_at (G.line lines.now) v) map.now.measures nothing
+        (measure_at map.now.measures v) true (slice_index_or best.new v 0) }
+    ensures served { OnTrue result (Keeps map.now.bounds (line_at (G.line lines.now) v) map.now.measures nothing
+        (measure_at map.now.measures v) false (slice_index_or best.new v 0)) }
     ensures ready { OnFalse result (IsReady map.now.bounds (G.line lines.now) map.now.measures best.new v) }
 {
     let at = v.0 as usize;
@@ -73,7 +78,8 @@ pub(crate) fn next_ready<G: Lines>(
     ensures work { length work.new ≡ length work.old }
     ensures best { length best.new ≡ length best.old }
     ensures ready { IfSome result (λ v. IsReady map.now.bounds (G.line lines.now) map.now.measures best.new v) }
-    ensures kept { IfSome result (λ v. IsKept map.now.bounds (G.line lines.now) map.now.measures (slice_set work.new v true) best.new) }
+    ensures kept { IfSome result (λ v. IsKept map.now.bounds (G.line lines.now) map.now.measures
+        (slice_set work.new v true) best.new) }
     ensures quiet { IfNone result (IsKept map.now.bounds (G.line lines.now) map.now.measures work.new best.new) }
     ensures closed { IfNone result (IsClosed map.now.bounds (G.line lines.now) map.now.measures) }
 {

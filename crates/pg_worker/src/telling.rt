@@ -13,7 +13,12 @@ use pg_wire::{Rows, Setup, VertexLine};
 use std::alloc::{AllocError, Global};
 
 /// What sets a worker up for a game with these bounds, by version 1 or 2 of the wire format.
-pub fn setup_of(alloc: Global, version: u8, game: &Game, bounds: &Bounds) -> Result<Setup, AllocError>
+pub fn setup_of(
+    alloc: Global,
+    version: u8,
+    game: &Game,
+    bounds: &Bounds,
+) -> Result<Setup, AllocError>
     requires version { (1 ≤ version) × (version ≤ 2) }
     requires bounds { IsBoundsOf game.now bounds.now }
     ensures version { IfOk result (λ s. s.version ≡ version) }

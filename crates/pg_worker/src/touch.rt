@@ -64,7 +64,8 @@ pub(crate) fn touch_all<G: Lines>(
     requires x { x < length map.now.measures }
     requires work { length work.old ≡ length map.now.measures }
     requires best { length best.old ≡ length map.now.measures }
-    requires kept { IsKeptBut map.now.bounds (G.line lines.now) map.now.measures work.old best.old x (IsLeft edges.now.entries.items x (length edges.now.entries.items)) }
+    requires kept { IsKeptBut map.now.bounds (G.line lines.now) map.now.measures work.old best.old x
+        (IsLeft edges.now.entries.items x (length edges.now.entries.items)) }
     ensures work { length work.new ≡ length work.old }
     ensures best { length best.new ≡ length best.old }
     ensures kept { IsKept map.now.bounds (G.line lines.now) map.now.measures work.new best.new }

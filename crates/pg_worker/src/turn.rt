@@ -19,7 +19,8 @@ fn set_up(alloc: Global, highest: u8, setup: &Setup, out: &mut Vec<u8>) -> Resul
     ensures version { OnOk result (setup.now.version ≤ highest) }
     ensures held { IfOk result (λ h. h ≡ fresh setup.now) }
     ensures reply { OnOk result (out.new.items ≡ out.old.items ++ greeting setup.now.version) }
-    ensures refused { IfErr result (λ e. (e ≡ WorkerFault.OutOfMemory) ⊎ Refuses highest None (frames.Setup setup.now) e) }
+    ensures refused { IfErr result (λ e. (e ≡ WorkerFault.OutOfMemory)
+        ⊎ Refuses highest None (frames.Setup setup.now) e) }
     ensures kept { OnErr result (out.new.items ≡ out.old.items) }
 {
     if setup.version > highest {
@@ -42,7 +43,8 @@ fn set_up(alloc: Global, highest: u8, setup: &Setup, out: &mut Vec<u8>) -> Resul
 fn add_lines(mut held: Held, vertices: &Vertices) -> Result<Held, WorkerFault>
     requires { IsVertices vertices.now }
     ensures turn { IfOk result (λ after. Turn (Some held) (frames.Vertices vertices.now) (Some after) []) }
-    ensures refused { IfErr result (λ e. (e ≡ WorkerFault.OutOfMemory) ⊎ Refuses 0 (Some held) (frames.Vertices vertices.now) e) }
+    ensures refused { IfErr result (λ e. (e ≡ WorkerFault.OutOfMemory)
+        ⊎ Refuses 0 (Some held) (frames.Vertices vertices.now) e) }
 {
     if held.is_started {
         return Err(WorkerFault::Order);
@@ -52,7 +54,8 @@ fn add_lines(mut held: Held, vertices: &Vertices) -> Result<Held, WorkerFault>
 }
 
 fn take_values(mut held: Held, frame: &Values) -> Result<Held, WorkerFault>
-    ensures turn { IfOk result (λ after. TakesValues held Dense frame.now.width (told_values frame.now.values) (Some after)) }
+    ensures turn { IfOk result (λ after. TakesValues held Dense frame.now.width (told_values frame.now.values)
+        (Some after)) }
     ensures refused { IfErr result (λ e. RefusesValues held Dense frame.now.width (told_values frame.now.values) e) }
 {
     if held.kind != ValueKind::Dense {
@@ -68,8 +71,10 @@ fn take_values(mut held: Held, frame: &Values) -> Result<Held, WorkerFault>
 
 fn take_sparse(mut held: Held, frame: &pg_wire::Sparse) -> Result<Held, WorkerFault>
     requires { IsSparse frame.now }
-    ensures turn { IfOk result (λ after. TakesValues held Sparse frame.now.width (told_sparse frame.now.width frame.now.values) (Some after)) }
-    ensures refused { IfErr result (λ e. RefusesValues held Sparse frame.now.width (told_sparse frame.now.width frame.now.values) e) }
+    ensures turn { IfOk result (λ after. TakesValues held Sparse frame.now.width
+        (told_sparse frame.now.width frame.now.values) (Some after)) }
+    ensures refused { IfErr result (λ e. RefusesValues held Sparse frame.now.width
+        (told_sparse frame.now.width frame.now.values) e) }
 {
     if held.kind != ValueKind::Sparse {
         return Err(WorkerFault::Order);
@@ -83,7 +88,8 @@ fn take_sparse(mut held: Held, frame: &pg_wire::Sparse) -> Result<Held, WorkerFa
 }
 
 fn lift(mut held: Held, budget: u32, out: &mut Vec<u8>) -> Result<Held, WorkerFault>
-    ensures turn { IfOk result (λ after. (reply : List ℕ) × LiftsAndTells held budget (Some after) reply × (out.new.items ≡ out.old.items ++ reply)) }
+    ensures turn { IfOk result (λ after. (reply : List ℕ) × LiftsAndTells held budget (Some after) reply
+        × (out.new.items ≡ out.old.items ++ reply)) }
     ensures memory { IfErr result (λ e. e ≡ WorkerFault.OutOfMemory) }
     ensures kept { Extends out.old.items out.new.items }
 {
@@ -105,7 +111,8 @@ pub fn turn(
 ) -> Result<Option<Held>, WorkerFault>
     requires { IsWell frame.now }
     ensures version { OnOk result (IsUpTo highest frame.now) }
-    ensures turn { IfOk result (λ after. (reply : List ℕ) × Turn held frame.now after reply × (out.new.items ≡ out.old.items ++ reply)) }
+    ensures turn { IfOk result (λ after. (reply : List ℕ) × Turn held frame.now after reply
+        × (out.new.items ≡ out.old.items ++ reply)) }
     ensures refused { IfErr result (λ e. (e ≡ WorkerFault.OutOfMemory) ⊎ Refuses highest held frame.now e) }
     ensures kept { Extends out.old.items out.new.items }
 {

@@ -147,8 +147,10 @@ impl Worker {
         pairs: Option<&[(u32, u32)]>,
     ) -> Result<bool, WorkerFault>
         requires { IfSome (option_copied pairs) (ArePlaces (length self.old.bounds)) }
-        ensures taken { IfOk result (Takes self.old self.new vertex (sparse_measure (length self.old.bounds) (option_copied pairs.entry))) }
-        ensures ok { IsOk result ↔ CanTake self.old vertex (sparse_measure (length self.old.bounds) (option_copied pairs.entry)) }
+        ensures taken { IfOk result (Takes self.old self.new vertex
+            (sparse_measure (length self.old.bounds) (option_copied pairs.entry))) }
+        ensures ok { IsOk result ↔ CanTake self.old vertex
+            (sparse_measure (length self.old.bounds) (option_copied pairs.entry)) }
         ensures refused { IfErr result (λ e. e ≡ WorkerFault.BadUpdate) }
         ensures same { OnErr result (self.new ≡ self.old) }
     {
@@ -173,10 +175,12 @@ impl Worker {
     /// of memory for the update only; then nothing has changed.
     pub fn lift(&mut self, v: Vertex) -> Result<Option<Update>, WorkerFault>
         ensures lifted { IfOk result (λ o. IfSome o (λ u. (u.vertex ≡ v) × Lifts self.old self.new (u ∷ []))) }
-        ensures served { IfOk result (λ o. IfNone o (IsServed self.old.bounds (part_line self.old.lines) self.old.map v × (self.new ≡ self.old))) }
+        ensures served { IfOk result (λ o. IfNone o
+            (IsServed self.old.bounds (part_line self.old.lines) self.old.map v × (self.new ≡ self.old))) }
         ensures others { (self.new.kept ≡ self.old.kept) × (self.new.lifted ≡ self.old.lifted) }
         ensures mine { OnOk result (IsSome (part_line self.old.lines v)) }
-        ensures refused { IfErr result (λ e. (e ≡ WorkerFault.OutOfMemory) ⊎ ((e ≡ WorkerFault.NotMine) × ¬ (IsSome (part_line self.old.lines v)))) }
+        ensures refused { IfErr result (λ e. (e ≡ WorkerFault.OutOfMemory)
+            ⊎ ((e ≡ WorkerFault.NotMine) × ¬ (IsSome (part_line self.old.lines v)))) }
         ensures same { OnErr result (self.new ≡ self.old) }
     {
         if !self.part.holds(v) {

@@ -85,7 +85,8 @@ impl Worklist {
 
     /// Takes a number that waits.
     pub fn pop(&mut self) -> Option<u32>
-        ensures some { IfSome result (λ v. (v < length self.old) × (slice_index_or self.old v false ≡ true) × (self.new ≡ slice_set self.old v false)) }
+        ensures some { IfSome result (λ v. (v < length self.old) × (slice_index_or self.old v false ≡ true)
+            × (self.new ≡ slice_set self.old v false)) }
         ensures none { IfNone result ((v : ℕ) → slice_index_or self.old v false ≡ false) }
         ensures same { IfNone result (self.new ≡ self.old) }
     {

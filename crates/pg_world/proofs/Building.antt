@@ -70,6 +70,7 @@ part_is_whole game bounds cut r n x e p = record {
     past : (v : ℕ) → n ≤ v → (b : Bool) → cond b (game_line game v) None ≡ None
     past v l false = refl
     past v l true = let beyond : length game ≤ v = omega arith in rw (slice_get_past game v beyond) refl
+
     at : (v : ℕ) → (v < n) ⊎ (n ≤ v) → part_line x.lines v ≡ line_of_part game cut r v
     at v (inl l) = p.below v l
     at v (inr l) = p.above v l ∙ sym (past v l (worker_of cut v == r))

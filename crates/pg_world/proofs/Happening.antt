@@ -41,8 +41,8 @@ view_taken game bounds cut us us' ts t1 t2 r n e f h = alike game bounds cut (ma
 pub view_made : (game : List GameVertex) (bounds : BoundList) (cut : CutValue) (us u1 u2 : List Update) (ts t1 t2 : List Numbers) (r n : ℕ) (u : Update) → u1 ≡ us → u2 ≡ u1 ++ u ∷ [] → n ≡ length u1 → map items t1 ≡ map items ts → map items t2 ≡ set (map items t1) r (get_or (map items t1) r [] ++ n ∷ []) → viewed game bounds cut u2 t2 ≡ making (viewed game bounds cut us ts) r (update_value u)
 view_made game bounds cut us u1 u2 ts t1 t2 r n u e p l f h =
     alike game bounds cut (map update_value u2) (map update_value us ++ update_value u ∷ []) (map items t2) (set (map items ts) r (get_or (map items ts) r [] ++ length (map update_value us) ∷ []))
-        (ap (λ (x : List Update). map update_value x) (p ∙ ap (λ (x : List Update). x ++ u ∷ []) e) ∙ map-append update_value us (u ∷ []))
-        (noted (map items ts) (map items t1) (map items t2) r n (length (map update_value us)) f (l ∙ (ap length e ∙ sym (length-map us update_value))) h)
+    (ap (λ (x : List Update). map update_value x) (p ∙ ap (λ (x : List Update). x ++ u ∷ []) e) ∙ map-append update_value us (u ∷ []))
+    (noted (map items ts) (map items t1) (map items t2) r n (length (map update_value us)) f (l ∙ (ap length e ∙ sym (length-map us update_value))) h)
 
 pub view_forgot : (game : List GameVertex) (bounds : BoundList) (cut : CutValue) (us : List Update) (ts t1 : List Numbers) (r : ℕ) → map items t1 ≡ set (map items ts) r [] → viewed game bounds cut us t1 ≡ forgetting (viewed game bounds cut us ts) r
 view_forgot game bounds cut us ts t1 r h = alike game bounds cut (map update_value us) (map update_value us) (map items t1) (set (map items ts) r []) refl h
@@ -61,41 +61,55 @@ worker_lifted laws w c ws k r v x new u i l at here mine lv vertex lifts = (repl
   where
     was : IsReplica w (suc k) x
     was = subst (IsReplica w (suc k)) (sym here) (i.each k l)
+
     map_of : IsMapOf w r x.map
     map_of = subst (λ (q : ℕ). IsMapOf w q x.map) (sym at) was.map
+
     lift : IsLifted x.bounds (part_line x.lines) x.map new.map u.vertex
     lift = subst (λ (g : List MeasureValue). IsLifted x.bounds (part_line x.lines) x.map g u.vertex) (sym (lifts.lifts.2)) (lifts.lifts.1.lifted)
+
     measure : u.measure ≡ owned (measure_at new.map v) (length x.bounds)
     measure = lifts.lifts.1.measure ∙ ap (λ (m : MeasureValue). owned m (length x.bounds)) (ap (λ (g : List MeasureValue). measure_at g u.vertex) (sym (lifts.lifts.2)) ∙ ap (λ (q : ℕ). measure_at new.map q) vertex)
+
     value : update_value u ≡ record { vertex = v; measure = measure_at new.map v }
     value = value_is u v (measure_at new.map v) (length x.bounds) vertex measure
+
     same_line : line_at (part_line x.lines) v ≡ line_at (game_line w.game) v
     same_line = ap (λ (o : Option Line). line_at (λ q. o) v) (line_is w k v x was (mine ∙ at))
+
     lift_here : IsLifted w.bounds (part_line x.lines) x.map new.map v
     lift_here = subst (λ (b : BoundList). IsLifted b (part_line x.lines) x.map new.map v) was.bounds (subst (λ (q : ℕ). IsLifted x.bounds (part_line x.lines) x.map new.map q) vertex lift)
+
     lift_game : IsLifted w.bounds (game_line w.game) x.map new.map v
     lift_game = record { least = least_same w.bounds (part_line x.lines) (game_line w.game) x.map v (measure_at new.map v) same_line lift_here.least; above = lift_here.above; others = lift_here.others }
+
     made : IsMade w.bounds (game_line w.game) (count w) (update_value u)
     made = subst (IsMade w.bounds (game_line w.game) (count w)) (sym value) (lift_makes laws w r v x.map (measure_at new.map v) i.world lv map_of lift_game.least lift_game.above)
+
     joins : IsJoin x.map (map_of_update w.bounds (count w) (update_value u)) new.map
     joins = subst (λ (y : UpdateValue). IsJoin x.map (map_of_update w.bounds (count w) y) new.map) (sym value) (lift_joins laws.order laws.zero w.bounds (game_line w.game) (count w) x.map new.map v was.map.map lv lift_game)
+
     replicas : AreReplicas (making w r (update_value u)) c (set ws k new)
     replicas = subst (λ (q : ℕ). AreReplicas (making w q (update_value u)) c (set ws k new)) (sym at)
         (worker_makes w c ws k (update_value u) new i l made
-            (lifts.part.bounds ∙ ap (λ (y : WorkerValue). y.bounds) here) (lifts.part.lines ∙ ap (λ (y : WorkerValue). y.lines) here)
-            (lifted_map w.bounds (game_line w.game) (count w) x.map new.map v was.map.map lift_game)
-            (subst (λ (y : WorkerValue). IsJoin y.map (map_of_update w.bounds (count w) (update_value u)) new.map) here joins))
+        (lifts.part.bounds ∙ ap (λ (y : WorkerValue). y.bounds) here) (lifts.part.lines ∙ ap (λ (y : WorkerValue). y.lines) here)
+        (lifted_map w.bounds (game_line w.game) (count w) x.map new.map v was.map.map lift_game)
+        (subst (λ (y : WorkerValue). IsJoin y.map (map_of_update w.bounds (count w) (update_value u)) new.map) here joins))
+
     happens : Lifts w r v (making w r (update_value u))
     happens = (x.map, map_of, inr (measure_at new.map v, lift_game.least, lift_game.above, ap (λ (y : UpdateValue). making w r y) value))
 
 -- the worker's vertex was served
 pub worker_stays : (w new : WorldValue) (c : MapValue) (ws : List WorkerValue) (k r v : ℕ) (x : WorkerValue) → AreReplicas w c ws → k < length ws → r ≡ suc k → x ≡ worker_at ws k → worker_of w.cut v ≡ r → new ≡ w → IsServed x.bounds (part_line x.lines) x.map v → Lifts w r v new
-worker_stays w new c ws k r v x i l at here mine same served =
-    (x.map, subst (λ (q : ℕ). IsMapOf w q x.map) (sym at) was.map,
-     inl (served_same w.bounds (part_line x.lines) (game_line w.game) x.map v same_line (subst (λ (b : BoundList). IsServed b (part_line x.lines) x.map v) was.bounds served), same))
+worker_stays w new c ws k r v x i l at here mine same served = (
+  x.map,
+  subst (λ (q : ℕ). IsMapOf w q x.map) (sym at) was.map,
+  inl (served_same w.bounds (part_line x.lines) (game_line w.game) x.map v same_line (subst (λ (b : BoundList). IsServed b (part_line x.lines) x.map v) was.bounds served), same),
+)
   where
     was : IsReplica w (suc k) x
     was = subst (IsReplica w (suc k)) (sym here) (i.each k l)
+
     same_line : line_at (part_line x.lines) v ≡ line_at (game_line w.game) v
     same_line = ap (λ (o : Option Line). line_at (λ q. o) v) (line_is w k v x was (mine ∙ at))
 
@@ -105,8 +119,10 @@ coordinator_lifted laws w c new ws v u i lv bounds lifted value = (replicas, (c.
   where
     lift : IsLifted w.bounds (game_line w.game) c.measures new.measures v
     lift = subst (λ (b : BoundList). IsLifted b (game_line w.game) c.measures new.measures v) i.bounds lifted
+
     made : IsMade w.bounds (game_line w.game) (count w) (update_value u)
     made = subst (IsMade w.bounds (game_line w.game) (count w)) (sym value) (lift_makes laws w 0 v c.measures (measure_at new.measures v) i.world lv i.map lift.least lift.above)
+
     replicas : AreReplicas (making w 0 (update_value u)) new ws
     replicas = coordinator_makes w c new ws (update_value u) i made (bounds ∙ i.bounds)
         (lifted_map w.bounds (game_line w.game) (count w) c.measures new.measures v i.map.map lift)
@@ -147,8 +163,8 @@ worker_delivered w c ws us n k r q x new u d rose i e l here kl at xs t m qe =
     let map' : IsMap w.bounds (count w) new.map = subst (λ (b : BoundList). IsMap b (count w) new.map) (t.part.bounds ∙ was.bounds) (subst (λ (y : ℕ). IsMap new.bounds y new.map) whole m) in
     let join : IsJoin x.map (map_of_update w.bounds (count w) (update_value u)) new.map = subst (λ (b : BoundList). IsJoin x.map (update_map b (count w) u.vertex u.measure.value) new.map) was.bounds (subst (λ (y : ℕ). IsJoin x.map (update_map x.bounds y u.vertex u.measure.value) new.map) size t.join) in
     subst (λ (y : ℕ). AreReplicas (taking w y n) c (set ws k new)) (sym at)
-        (worker_takes w c ws k n new i kl below (t.part.bounds ∙ ap (λ (y : WorkerValue). y.bounds) xs) (t.part.lines ∙ ap (λ (y : WorkerValue). y.lines) xs) map'
-            (subst (λ (y : WorkerValue). IsJoin y.map (as_map w.bounds (count w) w.updates n) new.map) xs (subst (λ (y : UpdateValue). IsJoin x.map (map_of_update w.bounds (count w) y) new.map) (sym same) join)))
+    (worker_takes w c ws k n new i kl below (t.part.bounds ∙ ap (λ (y : WorkerValue). y.bounds) xs) (t.part.lines ∙ ap (λ (y : WorkerValue). y.lines) xs) map'
+    (subst (λ (y : WorkerValue). IsJoin y.map (as_map w.bounds (count w) w.updates n) new.map) xs (subst (λ (y : UpdateValue). IsJoin x.map (map_of_update w.bounds (count w) y) new.map) (sym same) join)))
 
 -- a call that succeeded says what it said of Ok
 pub taken_is : {E : Type 0} (r : Result Bool E) (P : Bool → Type 0) → IsOk r → IfOk r P → (b : Bool) × P b

@@ -81,13 +81,17 @@ raise_joins o z bs n f v m w fits l b = record {
   where
     within : v < length f
     within = let e : length f ≡ n = w.size in omega arith
+
     here : measure_at (set f v m) v ≡ m
     here = get_or-set_same f v m None within
+
     set_is_map : IsMap bs n (set f v m)
     set_is_map = record { size = length-set f v m ∙ w.size; fits = All-set (Fits bs) f v m fits w.fits }
+
     risen : (u : ℕ) → (u ≡ v) ⊎ (u ≢ v) → AtMost (measure_at f u) (measure_at (set f v m) u)
     risen u (inl e) = rw (e, here) ((o.strict (measure_at f v) m b).0)
     risen u (inr ne) = rw (get_or-set_other f v u m None ne) (o.reflexive (measure_at f u))
+
     under : (k : List MeasureValue) → MapAtMost f k → MapAtMost (update_map bs n v m) k → (u : ℕ) → (u ≡ v) ⊎ (u ≢ v) → AtMost (measure_at (set f v m) u) (measure_at k u)
     under k p q u (inl e) = rw (e, here) (update_at_vertex bs n v m k l q)
     under k p q u (inr ne) = rw (get_or-set_other f v u m None ne) (p u)

@@ -23,6 +23,7 @@ replaced P ts r q t here past others = cases (cases_eq q r)
     at : (r < length ts) ⊎ (length ts ≤ r) → P (get_or (set ts r t) r [])
     at (inl l) = subst P (sym (get_or-set_same ts r t [] l)) here
     at (inr l) = subst P (sym (get_or_past (set ts r t) r [] (omega (arith, length-set ts r t)))) past
+
     cases : (q ≡ r) ⊎ (q ≢ r) → P (get_or (set ts r t) q [])
     cases (inl e) = subst (λ (x : ℕ). P (get_or (set ts r t) x [])) (sym e) (at (cases_lt r (length ts)))
     cases (inr ne) = subst P (sym (get_or-set_other ts r q t [] ne)) (others q)
@@ -100,8 +101,8 @@ map_after_making w r u f g i l j m k =
     let us : List UpdateValue = w.updates ++ u ∷ [] in
     subst (λ (t : List ℕ). IsJoinOf w.bounds (length w.game) us t g) (sym (get_or-set_same w.taken r (taken_of w r ++ length w.updates ∷ []) [] within))
     (join_more w.bounds (length w.game) us (taken_of w r) (length w.updates) f g
-        (join_longer w.bounds (length w.game) w.updates u (taken_of w r) f (i.taken r) j) m
-        (subst (λ (x : UpdateValue). IsJoin f (map_of_update w.bounds (length w.game) x) g) (sym (last_at w.bounds w.updates u)) k))
+    (join_longer w.bounds (length w.game) w.updates u (taken_of w r) f (i.taken r) j) m
+    (subst (λ (x : UpdateValue). IsJoin f (map_of_update w.bounds (length w.game) x) g) (sym (last_at w.bounds w.updates u)) k))
 
 pub map_besides_making : (w : WorldValue) (r q : ℕ) (u : UpdateValue) (f : List MeasureValue) → IsWorld w → q ≢ r → IsMapOf w q f → IsMapOf (making w r u) q f
 map_besides_making w r q u f i ne j =

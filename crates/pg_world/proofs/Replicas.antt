@@ -57,6 +57,7 @@ worker_takes w c ws k n new i l below b e m j = record {
       lines = λ v. (ap (λ (ls : List (Option Line)). part_line ls v) e ∙ x.lines v);
       map = map_after_taking w (suc k) n (worker_at ws k).map new.map i.world (omega (arith, i.count)) x.map m j;
     }
+
     others : (q : ℕ) → q ≢ k → q < length ws → IsReplica (taking w (suc k) n) (suc q) (worker_at ws q)
     others q ne within = let x = i.each q within in record { bounds = x.bounds; lines = x.lines; map = map_besides_taking w (suc k) (suc q) n (worker_at ws q).map (omega arith) x.map }
 
@@ -88,6 +89,7 @@ worker_makes w c ws k u new i l made b e m j = record {
       lines = λ v. (ap (λ (ls : List (Option Line)). part_line ls v) e ∙ x.lines v);
       map = map_after_making w (suc k) u (worker_at ws k).map new.map i.world (omega (arith, i.count)) x.map m j;
     }
+
     others : (q : ℕ) → q ≢ k → q < length ws → IsReplica (making w (suc k) u) (suc q) (worker_at ws q)
     others q ne within = let x = i.each q within in record { bounds = x.bounds; lines = x.lines; map = map_besides_making w (suc k) (suc q) u (worker_at ws q).map i.world (omega arith) x.map }
 
@@ -109,6 +111,7 @@ worker_forgets z w c ws k new i l x = record {
       lines = x.lines;
       map = subst (IsMapOf (forgetting w (suc k)) (suc k)) (sym x.map) (map_after_forgetting z w (suc k) i.world (omega (arith, i.count)));
     }
+
     others : (q : ℕ) → q ≢ k → q < length ws → IsReplica (forgetting w (suc k)) (suc q) (worker_at ws q)
     others q ne within = let y = i.each q within in record { bounds = y.bounds; lines = y.lines; map = map_besides_forgetting w (suc k) (suc q) (worker_at ws q).map (omega arith) y.map }
 
@@ -149,6 +152,7 @@ new_replicas z game bounds cut taken c ws m n g b size same each cb cm ne te me 
   where
     whole : taken ≡ replicate (1 + cut.workers) []
     whole = te ∙ ap (λ (k : ℕ). replicate k []) me
+
     zeros : c.measures ≡ zero_map bounds (length game)
     zeros = cm ∙ ap (λ (k : ℕ). zero_map bounds k) ne
 

@@ -63,8 +63,10 @@ lift_makes laws w r v f m i l j least below = record {
   where
     lift : IsLifted w.bounds (game_line w.game) f (set f v m) v
     lift = as_lift w.bounds (game_line w.game) (length w.game) f v m j.map l least below
+
     here : measure_at (set f v m) v ≡ m
     here = let size : length f ≡ length w.game = j.map.size in let within : v < length f = omega arith in get_or-set_same f v m None within
+
     under : (h : List MeasureValue) → IsMap w.bounds (length w.game) h → IsClosed w.bounds (game_line w.game) h → AtMost m (measure_at h v)
     under h map c =
         let held : IsSome (game_line w.game v) = ((laws.lines w.game i.game).1) v l in
@@ -90,11 +92,15 @@ join_at laws bs n f u w l fits = either (laws.order.total (measure_at f u.vertex
   where
     either : IsBelow (measure_at f u.vertex) u.measure ⊎ AtMost u.measure (measure_at f u.vertex) → (g : List MeasureValue) × IsMap bs n g × IsJoin f (map_of_update bs n u) g
     either (inl below) = (set f u.vertex u.measure, record { size = length-set f u.vertex u.measure ∙ w.size; fits = All-set (Fits bs) f u.vertex u.measure fits w.fits }, raise_joins laws.order laws.zero bs n f u.vertex u.measure w fits l below)
-    either (inr most) = (f, w, record {
-      first = λ v. laws.order.reflexive (measure_at f v);
-      second = update_under laws.zero bs n u.vertex u.measure f l w most;
-      least = λ k p q. p;
-    })
+    either (inr most) = (
+      f,
+      w,
+      record {
+        first = λ v. laws.order.reflexive (measure_at f v);
+        second = update_under laws.zero bs n u.vertex u.measure f l w most;
+        least = λ k p q. p;
+      },
+    )
 
 deliver_keeps : Laws → (game : List GameVertex) (bounds : BoundList) (cut : CutValue) (w : WorldValue) (r n : ℕ) → Keeps game bounds cut w → r ≤ w.cut.workers → n < length w.updates → Keeps game bounds cut (taking w r n)
 deliver_keeps laws game bounds cut w r n k l below = record {
@@ -107,11 +113,13 @@ deliver_keeps laws game bounds cut w r n k l below = record {
   where
     made : IsMade w.bounds (game_line w.game) (length w.game) (update_at w.bounds w.updates n)
     made = k.world.made n (record { vertex = 0; measure = zeros w.bounds }) below
+
     here : (f : List MeasureValue) × IsMapOf (taking w r n) r f
     here =
         let f = k.maps r l in
         let g = join_at laws w.bounds (length w.game) f.0 (update_at w.bounds w.updates n) (f.1.map) made.within made.fits in
         (g.0, map_after_taking w r n f.0 g.0 k.world l f.1 g.1 g.2)
+
     at : (q : ℕ) → q ≤ w.cut.workers → (q ≡ r) ⊎ (q ≢ r) → (f : List MeasureValue) × IsMapOf (taking w r n) q f
     at q within (inl e) = subst (λ (x : ℕ). (f : List MeasureValue) × IsMapOf (taking w r n) x f) (sym e) here
     at q within (inr ne) = let f = k.maps q within in (f.0, map_besides_taking w r q n f.0 ne f.1)
@@ -140,12 +148,15 @@ make_keeps laws game bounds cut w r v f m k l lv j least below = record {
   where
     u : UpdateValue
     u = record { vertex = v; measure = m }
+
     made : IsMade w.bounds (game_line w.game) (length w.game) (record { vertex = v; measure = m })
     made = lift_makes laws w r v f m k.world lv j least below
+
     here : (g : List MeasureValue) × IsMapOf (making w r (record { vertex = v; measure = m })) r g
     here =
         let g = join_at laws w.bounds (length w.game) f (record { vertex = v; measure = m }) j.map made.within made.fits in
         (g.0, map_after_making w r (record { vertex = v; measure = m }) f g.0 k.world l j g.1 g.2)
+
     at : (q : ℕ) → q ≤ w.cut.workers → (q ≡ r) ⊎ (q ≢ r) → (g : List MeasureValue) × IsMapOf (making w r (record { vertex = v; measure = m })) q g
     at q within (inl e) = subst (λ (x : ℕ). (g : List MeasureValue) × IsMapOf (making w r (record { vertex = v; measure = m })) x g) (sym e) here
     at q within (inr ne) = let g = k.maps q within in (g.0, map_besides_making w r q (record { vertex = v; measure = m }) g.0 k.world ne g.1)
@@ -186,9 +197,11 @@ runs_never_above laws game bounds cut es w r g b a l s =
 
 -- and that is never above
 pub map_known : Laws → (w o : WorldValue) (r q : ℕ) (f : List MeasureValue) → w ≡ o → r ≡ q → IsWorld w → IsMapOf w q f → (g : List MeasureValue) × IsMapOf o r g × IsNeverAbove o.bounds (game_line o.game) g
-map_known laws w o r q f same at i j =
-    (f, subst (λ (n : ℕ). IsMapOf o n f) (sym at) (subst (λ (x : WorldValue). IsMapOf x q f) same j),
-     subst (λ (x : WorldValue). IsNeverAbove x.bounds (game_line x.game) f) same (map_never_above laws w q f i j))
+map_known laws w o r q f same at i j = (
+  f,
+  subst (λ (n : ℕ). IsMapOf o n f) (sym at) (subst (λ (x : WorldValue). IsMapOf x q f) same j),
+  subst (λ (x : WorldValue). IsNeverAbove x.bounds (game_line x.game) f) same (map_never_above laws w q f i j),
+)
 
 lift_game : (w new : WorldValue) (r v : ℕ) → Lifts w r v new → new.game ≡ w.game
 lift_game w new r v (f, j, inl same) = ap (λ (x : WorldValue). x.game) same.1

@@ -50,7 +50,7 @@ abbrev pub LiftsIn : List MeasureValue → WorldValue → ℕ → ℕ → WorldV
 LiftsIn f old r v new =
     (IsServed old.bounds (game_line old.game) f v × (new ≡ old))
     ⊎ ((m : MeasureValue) × IsLeastServing old.bounds (game_line old.game) f v m × IsBelow (measure_at f v) m
-        × (new ≡ making old r (record { vertex = v; measure = m })))
+    × (new ≡ making old r (record { vertex = v; measure = m })))
 
 -- the replica r lifts v in its map
 abbrev pub Lifts : WorldValue → ℕ → ℕ → WorldValue → Type 0

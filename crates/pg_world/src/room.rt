@@ -34,7 +34,9 @@ pub(crate) fn push_in_room(updates: &mut Vec<Update>, update: Update)
 pub(crate) fn note(taken: &mut Vec<Vec<usize>>, r: usize, number: usize)
     requires r { r < length taken.old.items }
     requires place { IfSome (slice_get taken.old.items r) (λ t. vec_len t < vec_capacity t) }
-    ensures { map (λ t. t.items) taken.new.items ≡ slice_set (map (λ t. t.items) taken.old.items) r (slice_index_or (map (λ t. t.items) taken.old.items) r [] ++ number ∷ []) }
+    ensures { map (λ t. t.items) taken.new.items
+        ≡ slice_set (map (λ t. t.items) taken.old.items) r
+        (slice_index_or (map (λ t. t.items) taken.old.items) r [] ++ number ∷ []) }
 {
     let _pushed = taken[r].push(number);
 }

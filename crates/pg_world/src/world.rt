@@ -96,7 +96,8 @@ impl World {
         requires replica { replica ≤ self.now.cut.workers }
         requires v { v < length self.now.game }
         ensures value { (f : List (Option (List ℕ))) → IsMapOf self.now replica f → measure_in result ≡ measure_at f v }
-        ensures map { (f : List (Option (List ℕ))) × IsMapOf self.now replica f × IsNeverAbove self.now.bounds (game_line self.now.game) f }
+        ensures map { (f : List (Option (List ℕ))) × IsMapOf self.now replica f
+            × IsNeverAbove self.now.bounds (game_line self.now.game) f }
         ensures fits { Fits self.now.bounds (measure_in result) }
     {
         laws::of_maps();
@@ -183,7 +184,8 @@ impl World {
 
     /// A replica takes an update.
     fn deliver(&mut self, replica: u32, number: usize) -> Result<(), WorldFault>
-        ensures ok { OnOk result ((refusal self.old (Event.Deliver replica number) ≡ None) × (self.new ≡ taking self.old replica number)) }
+        ensures ok { OnOk result ((refusal self.old (Event.Deliver replica number) ≡ None)
+            × (self.new ≡ taking self.old replica number)) }
         ensures refused { IfErr result (λ fault. IsRefusedBy fault (refusal self.old (Event.Deliver replica number))) }
         ensures same { OnErr result (self.new ≡ self.old) }
     {
@@ -234,7 +236,8 @@ impl World {
 
     /// A worker starts anew.
     fn restart(&mut self, worker: u32) -> Result<(), WorldFault>
-        ensures ok { OnOk result ((refusal self.old (Event.Restart worker) ≡ None) × (self.new ≡ forgetting self.old worker)) }
+        ensures ok { OnOk result ((refusal self.old (Event.Restart worker) ≡ None)
+            × (self.new ≡ forgetting self.old worker)) }
         ensures refused { IfErr result (λ fault. IsRefusedBy fault (refusal self.old (Event.Restart worker))) }
         ensures same { OnErr result (self.new ≡ self.old) }
     {
@@ -277,7 +280,8 @@ fn workers_of(
     requires bounds { IsBoundsOf game.now bounds.now }
     requires cut { length cut.now.numbers ≡ length game.now }
     ensures count { IfOk result (λ ws. length ws.items ≡ cut.now.workers) }
-    ensures each { IfOk result (λ ws. (k : ℕ) → k < length ws.items → IsNewReplica game.now bounds.now cut.now (suc k) (worker_at ws.items k)) }
+    ensures each { IfOk result (λ ws. (k : ℕ) → k < length ws.items
+        → IsNewReplica game.now bounds.now cut.now (suc k) (worker_at ws.items k)) }
     ensures memory { IfErr result (λ fault. fault ≡ WorldFault.OutOfMemory) }
 {
     let mut workers = Vec::new(alloc);

@@ -2,8 +2,8 @@
 
 use pg_arena::{ArenaFault, Game, GameBuilder, Player, Vertex};
 use pg_map::View;
-use pg_world::{Event, World, WorldFault};
 use pg_worker::Cut;
+use pg_world::{Event, World, WorldFault};
 use std::alloc::{AllocError, Global};
 
 /// Two vertices of Even with the priorities 1 and 3, each leading to the first.

@@ -32,8 +32,14 @@ fn deliveries_join_what_was_made(rt: HostRuntime) -> Result<(), Fail> {
     assert!(rt; took(&world, 1, &[0, 1]));
     assert!(rt; took(&world, 2, &[1, 0, 0]));
     for replica in 0..3 {
-        assert!(rt; shows(&world, replica, 0, View::List(&[0, 1])), "replica {replica}");
-        assert!(rt; shows(&world, replica, 1, View::List(&[1, 0])), "replica {replica}");
+        assert!(rt;
+            shows(&world, replica, 0, View::List(&[0, 1])),
+            "replica {replica}"
+        );
+        assert!(rt;
+            shows(&world, replica, 1, View::List(&[1, 0])),
+            "replica {replica}"
+        );
     }
     Ok(())
 }
@@ -100,6 +106,11 @@ fn refusals(rt: HostRuntime) -> Result<(), Fail> {
 fn a_cut_of_another_game(rt: HostRuntime) -> Result<(), Fail> {
     let game = odd_game(rt.alloc())?;
     let cut = Cut::even(rt.alloc(), 3, 2)?;
-    assert!(rt; matches!(World::new(rt.alloc(), game, cut), Err(WorldFault::CutMismatch)));
+    assert!(rt;
+        matches!(
+            World::new(rt.alloc(), game, cut),
+            Err(WorldFault::CutMismatch)
+        )
+    );
     Ok(())
 }

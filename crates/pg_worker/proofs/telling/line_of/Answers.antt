@@ -6,5 +6,5 @@ use Rattle.pg_worker.proofs.telling.line_of.Goals.{in-Even, in-Odd}
 pub returns-clause-well : goal.returns-clause-well
 returns-clause-well c =
     vertex_line_is_well c.args.game.now c.v.inside.0 c.priority.result c.match-owner.owner c.new.result
-        c.len-vertices.ensures.game c.len-vertices.ensures.limits c.len-vertices.ensures.priorities (omega arith) (search rules)
-        (elim c.match-owner.branch [ in-Even w ↦ omega arith | in-Odd w ↦ omega arith ]) (search rules)
+    c.len-vertices.ensures.game c.len-vertices.ensures.limits c.len-vertices.ensures.priorities (omega arith) (search rules)
+    (elim c.match-owner.branch [ in-Even w ↦ omega arith | in-Odd w ↦ omega arith ]) (search rules)

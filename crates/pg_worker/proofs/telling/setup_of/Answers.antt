@@ -8,5 +8,5 @@ pub returns-clause-well : goal.returns-clause-well
 returns-clause-well c =
     let same = c.new.ensures ∙ (c.in_ok-pairs.ensures.items ∙ c.pairs.ensures.value) in
     setup_is_well c.args.game.now c.new.result c.args.version c.len-vertices.result
-        c.bounds_are_few.ensures c.len-vertices.ensures.game c.len-vertices.ensures.limits c.len-vertices.ensures.priorities
-        (subst (λ (x : BoundList). IsBoundsOf c.args.game.now x) (sym same) c.requires.bounds) c.requires.version c.len-vertices.ensures.value
+    c.bounds_are_few.ensures c.len-vertices.ensures.game c.len-vertices.ensures.limits c.len-vertices.ensures.priorities
+    (subst (λ (x : BoundList). IsBoundsOf c.args.game.now x) (sym same) c.requires.bounds) c.requires.version c.len-vertices.ensures.value

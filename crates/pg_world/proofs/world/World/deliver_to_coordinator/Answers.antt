@@ -47,7 +47,7 @@ invariant_of-self-2 c =
     let u : Update = c.index-update.result.now in
     let join = subst (λ (m : MeasureValue). IsJoin c.self.inside.coordinator.measures (update_map c.self.inside.coordinator.bounds (length c.self.inside.coordinator.measures) u.vertex m) c.raise.new.self.measures) c.view.ensures.value c.raise.ensures.join in
     let kept = coordinator_delivered w c.self.inside.coordinator c.raise.new.self c.self.inside.workers.items us c.args.number c.len-vertices.result u u
-        c.self.invariant e l c.index-update.ensures c.raise.ensures.bounds c.raise.ensures.size c.len-vertices.ensures.value c.len-vertices.ensures.map join in
+    c.self.invariant e l c.index-update.ensures c.raise.ensures.bounds c.raise.ensures.size c.len-vertices.ensures.value c.len-vertices.ensures.map join in
     let view = view_taken c.self.inside.game c.self.inside.bounds c.self.inside.cut c.self.inside.updates.items us c.self.inside.taken.items c.make_room.new.taken.items c.note.new.taken.items 0 c.args.number
-        same_us c.in_ok-make_room.ensures.taken c.note.ensures in
+    same_us c.in_ok-make_room.ensures.taken c.note.ensures in
     subst (λ (o : WorldValue). AreReplicas o c.raise.new.self c.self.inside.workers.items) (sym view) kept

@@ -35,7 +35,7 @@ invariant_of-self-2 c =
     let room : u.vertex < length x.map = omega (arith, made.within, was.map.map.size) in
     let taken = taken_is c.take-rose.result (Takes x c.take-rose.new.self u.vertex u.measure.value) (c.take-rose.ensures.ok.1 (room, fits)) c.take-rose.ensures.taken in
     let kept = worker_delivered w c.self.inside.coordinator c.self.inside.workers.items us c.args.number k c.args.worker (length c.take-rose.new.self.map) x c.take-rose.new.self u u taken.0
-        c.self.invariant e l c.index.ensures within at xs taken.1 c.len-vertices.ensures.worker.map refl in
+    c.self.invariant e l c.index.ensures within at xs taken.1 c.len-vertices.ensures.worker.map refl in
     let view = view_taken c.self.inside.game c.self.inside.bounds c.self.inside.cut c.self.inside.updates.items us c.self.inside.taken.items c.make_room.new.taken.items c.note.new.taken.items c.args.worker c.args.number
-        same_us c.in_ok-make_room.ensures.taken c.note.ensures in
+    same_us c.in_ok-make_room.ensures.taken c.note.ensures in
     subst (λ (o : WorldValue). AreReplicas o c.self.inside.coordinator (set c.self.inside.workers.items k c.take-rose.new.self)) (sym view) kept

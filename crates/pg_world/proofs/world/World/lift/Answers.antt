@@ -15,11 +15,11 @@ invariant_of-self-in-Ok-Some c =
     let lifted = rw c.in-Ok-Some.field-0-is at c.in-Ok-Some.ensures.lifted in
     let within : c.args.worker - 1 < length c.self.inside.workers.items = omega (arith, c.self.invariant.count, c.workers.ensures) in
     let both = worker_lifted laws w c.self.inside.coordinator c.self.inside.workers.items (c.args.worker - 1) c.args.worker c.args.v c.index_mut.result.now c.lift.new.self c.in-Ok-Some.update
-        c.self.invariant within (omega arith) (c.index_mut.ensures.value ∙ get_or_default c.self.inside.workers.items (c.args.worker - 1) c.index_mut.result.now _ within)
-        (omega (arith, c.worker_of.ensures.value)) (subst (λ (o : WorldValue). c.args.v < length o.game) (sym c.self.view_is) c.requires) (lifted.0) (lifted.1) in
+    c.self.invariant within (omega arith) (c.index_mut.ensures.value ∙ get_or_default c.self.inside.workers.items (c.args.worker - 1) c.index_mut.result.now _ within)
+    (omega (arith, c.worker_of.ensures.value)) (subst (λ (o : WorldValue). c.args.v < length o.game) (sym c.self.view_is) c.requires) (lifted.0) (lifted.1) in
     let view = view_made c.self.inside.game c.self.inside.bounds c.self.inside.cut c.self.inside.updates.items c.make_room.new.updates.items c.push_in_room.new.updates.items
-        c.self.inside.taken.items c.make_room.new.taken.items c.note.new.taken.items c.args.worker c.len.result c.in-Ok-Some.update
-        c.in_ok-make_room.ensures.updates c.push_in_room.ensures (c.len.ensures ∙ c.make_room.new.updates.ok.0) c.in_ok-make_room.ensures.taken c.note.ensures in
+    c.self.inside.taken.items c.make_room.new.taken.items c.note.new.taken.items c.args.worker c.len.result c.in-Ok-Some.update
+    c.in_ok-make_room.ensures.updates c.push_in_room.ensures (c.len.ensures ∙ c.make_room.new.updates.ok.0) c.in_ok-make_room.ensures.taken c.note.ensures in
     subst (λ (o : WorldValue). AreReplicas o c.self.inside.coordinator (set c.self.inside.workers.items (c.args.worker - 1) c.lift.new.self)) (sym view) both.0
 
 pub returns-in-Ok-Some-clause-ok : goal.returns-in-Ok-Some-clause-ok
@@ -30,14 +30,15 @@ returns-in-Ok-Some-clause-ok c =
     let lifted = rw c.in-Ok-Some.field-0-is at c.in-Ok-Some.ensures.lifted in
     let within : c.args.worker - 1 < length c.self.inside.workers.items = omega (arith, c.self.invariant.count, c.workers.ensures) in
     let both = worker_lifted laws w c.self.inside.coordinator c.self.inside.workers.items (c.args.worker - 1) c.args.worker c.args.v c.index_mut.result.now c.lift.new.self c.in-Ok-Some.update
-        c.self.invariant within (omega arith) (c.index_mut.ensures.value ∙ get_or_default c.self.inside.workers.items (c.args.worker - 1) c.index_mut.result.now _ within)
-        (omega (arith, c.worker_of.ensures.value)) (subst (λ (o : WorldValue). c.args.v < length o.game) (sym c.self.view_is) c.requires) (lifted.0) (lifted.1) in
+    c.self.invariant within (omega arith) (c.index_mut.ensures.value ∙ get_or_default c.self.inside.workers.items (c.args.worker - 1) c.index_mut.result.now _ within)
+    (omega (arith, c.worker_of.ensures.value)) (subst (λ (o : WorldValue). c.args.v < length o.game) (sym c.self.view_is) c.requires) (lifted.0) (lifted.1) in
     let view = view_made c.self.inside.game c.self.inside.bounds c.self.inside.cut c.self.inside.updates.items c.make_room.new.updates.items c.push_in_room.new.updates.items
-        c.self.inside.taken.items c.make_room.new.taken.items c.note.new.taken.items c.args.worker c.len.result c.in-Ok-Some.update
-        c.in_ok-make_room.ensures.updates c.push_in_room.ensures (c.len.ensures ∙ c.make_room.new.updates.ok.0) c.in_ok-make_room.ensures.taken c.note.ensures in
-    subst (λ (o : WorldValue). (refusal o (Lift c.args.worker c.args.v) ≡ None) × Lifts o c.args.worker c.args.v new) c.self.view_is
-        (lift_goes w c.args.worker c.args.v (omega arith) (omega (arith, c.workers.ensures)) (omega (arith, c.worker_of.ensures.value)),
-         subst (λ (n : WorldValue). Lifts w c.args.worker c.args.v n) (sym view) both.1)
+    c.self.inside.taken.items c.make_room.new.taken.items c.note.new.taken.items c.args.worker c.len.result c.in-Ok-Some.update
+    c.in_ok-make_room.ensures.updates c.push_in_room.ensures (c.len.ensures ∙ c.make_room.new.updates.ok.0) c.in_ok-make_room.ensures.taken c.note.ensures in
+    subst (λ (o : WorldValue). (refusal o (Lift c.args.worker c.args.v) ≡ None) × Lifts o c.args.worker c.args.v new) c.self.view_is (
+      lift_goes w c.args.worker c.args.v (omega arith) (omega (arith, c.workers.ensures)) (omega (arith, c.worker_of.ensures.value)),
+      subst (λ (n : WorldValue). Lifts w c.args.worker c.args.v n) (sym view) both.1,
+    )
 
 pub returns-in-Ok-None-clause-ok : goal.returns-in-Ok-None-clause-ok
 returns-in-Ok-None-clause-ok c =
@@ -46,9 +47,10 @@ returns-in-Ok-None-clause-ok c =
     let served = rw c.in-Ok-None.field-0-is at c.in-Ok-None.ensures.served in
     let within : c.args.worker - 1 < length c.self.inside.workers.items = omega (arith, c.self.invariant.count, c.workers.ensures) in
     let same = view_same c.self.inside.game c.self.inside.bounds c.self.inside.cut c.self.inside.updates.items c.make_room.new.updates.items
-        c.self.inside.taken.items c.make_room.new.taken.items c.in_ok-make_room.ensures.updates c.in_ok-make_room.ensures.taken in
-    subst (λ (o : WorldValue). (refusal o (Lift c.args.worker c.args.v) ≡ None) × Lifts o c.args.worker c.args.v new) c.self.view_is
-        (lift_goes w c.args.worker c.args.v (omega arith) (omega (arith, c.workers.ensures)) (omega (arith, c.worker_of.ensures.value)),
-         worker_stays w new c.self.inside.coordinator c.self.inside.workers.items (c.args.worker - 1) c.args.worker c.args.v c.index_mut.result.now
-            c.self.invariant within (omega arith) (c.index_mut.ensures.value ∙ get_or_default c.self.inside.workers.items (c.args.worker - 1) c.index_mut.result.now _ within)
-            (omega (arith, c.worker_of.ensures.value)) same (served.0))
+    c.self.inside.taken.items c.make_room.new.taken.items c.in_ok-make_room.ensures.updates c.in_ok-make_room.ensures.taken in
+    subst (λ (o : WorldValue). (refusal o (Lift c.args.worker c.args.v) ≡ None) × Lifts o c.args.worker c.args.v new) c.self.view_is (
+      lift_goes w c.args.worker c.args.v (omega arith) (omega (arith, c.workers.ensures)) (omega (arith, c.worker_of.ensures.value)),
+      worker_stays w new c.self.inside.coordinator c.self.inside.workers.items (c.args.worker - 1) c.args.worker c.args.v c.index_mut.result.now
+          c.self.invariant within (omega arith) (c.index_mut.ensures.value ∙ get_or_default c.self.inside.workers.items (c.args.worker - 1) c.index_mut.result.now _ within)
+          (omega (arith, c.worker_of.ensures.value)) same (served.0),
+    )
