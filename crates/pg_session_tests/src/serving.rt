@@ -1,6 +1,7 @@
 use pg_wire::WireFault;
 use pg_worker::{Served, Session, WorkerFault, serve};
 use std::alloc::Global;
+use std::io::{self, ErrorKind, Write};
 use std::test::Fail;
 
 fn bytes_of(alloc: Global, text: &str) -> Result<Vec<u8>, Fail> {
@@ -150,4 +151,68 @@ fn refuses_a_version_above_its_highest(rt: HostRuntime) -> Result<(), Fail> {
     assert_eq!(rt; session.frame(&frame, &mut out), Ok(false));
     assert_eq!(rt; out.len(), 8);
     Ok(())
+}
+
+/// Takes a byte at a time, and fails at one write and at each after it.
+#[derive(Drop)]
+struct Full {
+    before: usize,
+}
+
+impl Write for Full {
+    fn write(&mut self, buf: &[u8]) -> io::Result<usize> {
+        if self.before == 0 {
+            return Err(io::Error::from(ErrorKind::Other));
+        }
+        self.before -= 1;
+        Ok(buf.len().min(1))
+    }
+
+    fn flush(&mut self) -> io::Result<()> {
+        Ok(())
+    }
+}
+
+/// The reply to these frames has 33 bytes.
+#[test]
+fn a_failed_write_ends_serving(rt: HostRuntime) -> Result<(), Fail> {
+    let mut input = Vec::new(rt.alloc());
+    for part in [SETUP, LINES, "00000005 04 00000002", HALT] {
+        input.extend_from_slice(&bytes_of(rt.alloc(), part)?)?;
+    }
+    for before in 0..33usize {
+        let mut output = Full { before };
+        let answer = serve(rt.alloc(), &mut input.as_slice(), &mut output);
+        assert_eq!(rt;
+            answer,
+            Err(WorkerFault::Wire(WireFault::Write)),
+            "before {before}"
+        );
+    }
+    let mut output = Full { before: 33 };
+    let answer = serve(rt.alloc(), &mut input.as_slice(), &mut output);
+    assert_eq!(rt; answer, Ok(Served::Halted(4)));
+    Ok(())
+}
+
+/// In the order of the format's list of codes; frames' faults are told by ten more than their numbers.
+#[test]
+fn each_fault_has_its_code(rt: HostRuntime) {
+    let rows = [
+        (WorkerFault::OutOfMemory, 1u8),
+        (WorkerFault::NotMine, 2),
+        (WorkerFault::BadUpdate, 3),
+        (WorkerFault::Order, 4),
+        (WorkerFault::Wire(WireFault::OutOfMemory), 11),
+        (WorkerFault::Wire(WireFault::TooLong), 12),
+        (WorkerFault::Wire(WireFault::Truncated), 13),
+        (WorkerFault::Wire(WireFault::BadKind), 14),
+        (WorkerFault::Wire(WireFault::BadField(9)), 15),
+        (WorkerFault::Wire(WireFault::Read), 16),
+        (WorkerFault::Wire(WireFault::Write), 17),
+        (WorkerFault::Wire(WireFault::Version), 18),
+    ];
+    for (fault, code) in rows {
+        assert_eq!(rt; fault.code(), code);
+    }
 }
