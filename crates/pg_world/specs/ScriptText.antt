@@ -40,7 +40,8 @@ IsCutOf game (Some numbers) cut =
 
 -- The bytes spell the cut and the events for the game: the number of workers, at most 16, perhaps a line of the cut,
 -- and then a line for each event, in this order, whose vertices are of the game. Nothing else stands there.
-pub record IsScriptText (bytes : List ℕ) (game : List GameVertex) (cut : CutValue) (events : List Event) : Type 0 where
+pub record IsScriptText (bytes : List ℕ) (game : List GameVertex) (cut : CutValue) (events : List Event)
+    : Type 0 where
   pub numbers : Option (List ℕ)
   pub text : Spells bytes (head_lexemes cut.workers numbers ++ events_lexemes game events) []
   pub few : cut.workers ≤ MAX_WORKERS

@@ -29,7 +29,8 @@ pub struct Script {
 /// The vertex with this identifier.
 fn vertex(game: &Game, identifier: u32) -> Result<Vertex, ScriptFault>
     ensures found { IfOk result (λ v. (v < length game.now) × ((vertex_at game.now v).identifier ≡ identifier)) }
-    ensures absent { IfErr result (λ _. (v : ℕ) → v < length game.now → (vertex_at game.now v).identifier ≢ identifier) }
+    ensures absent { IfErr result (λ _.
+        (v : ℕ) → v < length game.now → (vertex_at game.now v).identifier ≢ identifier) }
 {
     match game.vertex_of(identifier) {
         Some(v) => Ok(v),

@@ -22,8 +22,8 @@ pub enum ScriptFault {
     NumberTooLarge(usize),
     /// No vertex of the game has this identifier.
     NoVertex(u32),
-    /// There are more than 16 workers, or the line of the cut has not one number for each vertex, or a number that is no
-    /// worker's.
+    /// There are more than 16 workers, or the line of the cut has not one number for each vertex, or a number that is
+    /// no worker's.
     CutMismatch,
 }
 
