@@ -165,3 +165,11 @@ some_holds P None x e h = absurd cc
 pub none_holds : {X : Type 0} (Q : Type 0) (o : Option X) → o ≡ None → IfNone o Q → Q
 none_holds Q None e h = h
 none_holds Q (Some y) e h = absurd cc
+
+-- ---- one text, one script
+
+pub one_script : (bytes : List ℕ) (game : List GameVertex) (cut other : CutValue) (events others : List Event) → IsGame game → IsScriptText bytes game cut events → IsScriptText bytes game other others → (other ≡ cut) × (others ≡ events)
+one_script bytes game cut other events others well t u =
+    let h = head_read bytes game cut events well t in
+    let s = same_head bytes game cut.workers h.mid t.numbers h.after well h.workers_read h.cut_read other others u in
+    (same_cut game t.numbers other cut s.workers_are s.cut_is t.cut_is, same_events game h.after others events well s.later h.later)
