@@ -1,5 +1,5 @@
 -- The lines before the events.
-use Rattle.std.proofs.Common.{◌≡◌, ◌≢◌, ℕ, ◌<◌, ◌≤◌, List, [], ◌∷◌, ◌++◌, Option, Some, None, Ok, Err, refl, sym, ap, subst, ◌∙◌, arith, length}
+use Rattle.std.proofs.Common.{◌≡◌, ◌≢◌, ℕ, ◌<◌, ◌≤◌, List, [], ◌∷◌, Option, Some, None, Ok, Err, refl, sym, ap, subst, ◌∙◌, arith, length}
 use Rattle.std.specs.Prelude.{codes, IfSome, IfNone}
 use Rattle.std.proofs.lemmas.List.{ext_get_or}
 use Rattle.pg_arena.specs.Games.{GameVertex, IsGame}
@@ -7,10 +7,10 @@ use Rattle.pg_text.specs.Lexemes.{Spells, clause_lexemes}
 use Rattle.pg_text.specs.declared.tokens.TokenFault.{TokenFault}
 use Rattle.pg_text.specs.declared.reading.Refusal.{Refusal}
 use Rattle.pg_text.specs.declared.reading.Refusal.TheVariants.{Memory, Token}
-use Rattle.pg_text.specs.Mirrors.Steps.{Read, Fails}
-use Rattle.pg_text.proofs.Steps.{ok, ok_is, err, err_is_ok, some, some_is}
+use Rattle.pg_text.specs.Mirrors.Steps.{Fails}
+use Rattle.pg_text.proofs.Steps.{ok_is, err_is_ok, some_is}
 use Rattle.pg_text.proofs.Spelling.{spells_append, spells_parts}
-use Rattle.pg_worker.specs.Cuts.{CutValue, even_worker, IsEvenCut}
+use Rattle.pg_worker.specs.Cuts.{CutValue, even_worker}
 use Rattle.pg_world.specs.declared.event.Event.{Event}
 use Rattle.pg_world.specs.declared.script.TheConstants.{MAX_WORKERS}
 use Rattle.pg_world.specs.declared.script_fault.ScriptFault.{ScriptFault}

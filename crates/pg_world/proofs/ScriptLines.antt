@@ -1,14 +1,12 @@
 -- The lines of a script: what is read is spelt, and what is spelt is read.
-use Rattle.std.proofs.Common.{◌≡◌, ◌≢◌, ℕ, ◌<◌, true, false, cond, List, [], ◌∷◌, ◌++◌, Option, Some, None, Ok, Err, refl, sym, ap, subst, ◌∙◌, arith, inl, inr}
+use Rattle.std.proofs.Common.{◌≡◌, ◌≢◌, ℕ, ◌<◌, true, List, [], ◌∷◌, Option, Some, None, Ok, Err, refl, ap, subst, arith, inl, inr}
 use Rattle.std.specs.Prelude.{codes, length}
 use Rattle.std.specs.Str.{bytes_eq}
 use Rattle.std.proofs.lemmas.Slice.Eq.{bytes_eq-Decides}
 use Rattle.pg_text.specs.Lexemes.{Lexeme, number, word, semicolon, end, Begins, Spells, clause_lexemes}
-use Rattle.pg_text.specs.declared.tokens.TokenFault.{TokenFault}
 use Rattle.pg_text.specs.Mirrors.Steps.{◌>>=◌, Read, unexpected}
-use Rattle.pg_text.specs.Mirrors.Scan.{token_at}
 use Rattle.pg_text.specs.Mirrors.Parts.{natural_at, name_at, semicolon_at, end_at, numbers_at, clause_at}
-use Rattle.pg_text.proofs.Steps.{bind_ok, chosen, ok, ok_is, err, err_is_ok, some}
+use Rattle.pg_text.proofs.Steps.{bind_ok, chosen, ok, ok_is, err_is_ok, some}
 use Rattle.pg_text.proofs.Lexing.{token_again}
 use Rattle.pg_text.proofs.Spelling.{spells_append, spells_parts, begins_shorter, spells_within}
 use Rattle.pg_text.proofs.Parts.{natural_takes, natural_again, name_takes, name_again, semicolon_takes, semicolon_again, end_takes, end_again, clause_takes, clause_there, numbers_take, numbers_again}

@@ -1,4 +1,4 @@
-use Rattle.std.proofs.Common.{◌∙◌, ap, sym, Option, Ok}
+use Rattle.std.proofs.Common.{◌∙◌, ap, Option, Ok}
 use Rattle.std.proofs.lemmas.Result.{err_from_is_err_and}
 use Rattle.pg_world.specs.declared.script_line.ScriptLine.{ScriptLine}
 use Rattle.pg_world.proofs.ScriptLines.{line_shorter}
