@@ -6,3 +6,6 @@ pub mod Happening
 pub mod Building
 pub mod Noting
 pub mod Replicas
+pub mod ScriptLines
+pub mod ScriptReads
+pub mod ScriptHeads

@@ -3,6 +3,7 @@
 ghost use Rattle.pg_measure.specs.Laws.{OrderIsTotal};
 ghost use Rattle.pg_map.specs.Laws.{GameLines, ZeroMapIsLeast, LiftStaysUnder};
 ghost use Rattle.pg_world.specs.Laws.{SameTaken, NeverAbove};
+ghost use Rattle.pg_world.specs.OneScript.{SpellsOneScript};
 
 /// Where the same updates are taken the maps are equal, whatever the order and the repeats, within one world or between two
 /// worlds over the same bounds and as many vertices.
@@ -17,6 +18,11 @@ pub fn never_above()
 {
     of_maps();
 }
+
+/// For one game one text spells one script at most.
+pub fn one_script()
+    ensures { SpellsOneScript }
+{}
 
 /// The laws of measures and maps that the proofs of this crate use.
 pub(crate) fn of_maps()

@@ -6,8 +6,13 @@ mod fault;
 pub mod laws;
 mod part;
 mod room;
+mod script;
+mod script_fault;
+mod script_line;
 mod world;
 
 pub use event::Event;
 pub use fault::WorldFault;
+pub use script::{Script, read_script};
+pub use script_fault::ScriptFault;
 pub use world::World;

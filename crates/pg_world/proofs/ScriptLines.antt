@@ -1,0 +1,204 @@
+-- The lines of a script: what is read is spelt, and what is spelt is read.
+use Rattle.std.proofs.Common.{◌≡◌, ◌≢◌, ℕ, ◌<◌, true, List, [], ◌∷◌, Option, Some, None, Ok, Err, refl, ap, subst, arith, inl, inr}
+use Rattle.std.specs.Prelude.{codes, length}
+use Rattle.std.specs.Str.{bytes_eq}
+use Rattle.std.proofs.lemmas.Slice.Eq.{bytes_eq-Decides}
+use Rattle.pg_text.specs.Lexemes.{Lexeme, number, word, semicolon, end, Begins, Spells, clause_lexemes}
+use Rattle.pg_text.specs.Mirrors.Steps.{◌>>=◌, Read, unexpected}
+use Rattle.pg_text.specs.Mirrors.Parts.{natural_at, name_at, semicolon_at, end_at, numbers_at, clause_at}
+use Rattle.pg_text.proofs.Steps.{bind_ok, chosen, ok, ok_is, err_is_ok, some}
+use Rattle.pg_text.proofs.Lexing.{token_again}
+use Rattle.pg_text.proofs.Spelling.{spells_append, spells_parts, begins_shorter, spells_within}
+use Rattle.pg_text.proofs.Parts.{natural_takes, natural_again, name_takes, name_again, semicolon_takes, semicolon_again, end_takes, end_again, clause_takes, clause_there, numbers_take, numbers_again}
+use Rattle.pg_world.specs.declared.script_line.ScriptLine.{ScriptLine}
+use Rattle.pg_world.specs.declared.script_line.ScriptLine.TheVariants.{Lift, Deliver, Restart, Central}
+use Rattle.pg_world.specs.ScriptText.{cut_lexemes}
+use Rattle.pg_world.specs.Mirrors.ScriptScan.{one_at, two_at, line_at, end_or, next_in, next_line_at, workers_in, workers_at, cut_in, cut_at}
+
+-- ---- numbers and a semicolon
+
+one_takes : (bytes : List ℕ) (y : ℕ × List ℕ) → one_at bytes ≡ Ok y → Spells bytes (number y.0 ∷ semicolon ∷ []) y.1
+unfolding one_at
+one_takes bytes y e =
+    let a = bind_ok (natural_at bytes) (λ n. semicolon_at n.1 >>= λ after. ok (n.0, after)) y e in
+    let b = bind_ok (semicolon_at a.0.1) (λ after. ok (a.0.0, after)) y a.2 in
+    subst (λ (y : ℕ × List ℕ). Spells bytes (number y.0 ∷ semicolon ∷ []) y.1) (ok_is (a.0.0, b.0) y b.2)
+    (a.0.1, natural_takes bytes a.0 a.1, (b.0, semicolon_takes a.0.1 b.0 b.1, refl))
+
+one_again : (n : ℕ) (bytes rest : List ℕ) → Spells bytes (number n ∷ semicolon ∷ []) rest → one_at bytes ≡ Ok (n, rest)
+unfolding one_at
+one_again n bytes rest s = rw (natural_again bytes n s.0 s.1, semicolon_again s.0 s.2.0 s.2.1, s.2.2) refl
+
+two_takes : (bytes : List ℕ) (y : ℕ × ℕ × List ℕ) → two_at bytes ≡ Ok y → Spells bytes (number y.0 ∷ number y.1 ∷ semicolon ∷ []) y.2
+unfolding two_at
+two_takes bytes y e =
+    let a = bind_ok (natural_at bytes) (λ a. one_at a.1 >>= λ b. ok (a.0, b.0, b.1)) y e in
+    let b = bind_ok (one_at a.0.1) (λ b. ok (a.0.0, b.0, b.1)) y a.2 in
+    subst (λ (y : ℕ × ℕ × List ℕ). Spells bytes (number y.0 ∷ number y.1 ∷ semicolon ∷ []) y.2) (ok_is (a.0.0, b.0.0, b.0.1) y b.2)
+    (a.0.1, natural_takes bytes a.0 a.1, one_takes a.0.1 b.0 b.1)
+
+two_again : (n m : ℕ) (bytes rest : List ℕ) → Spells bytes (number n ∷ number m ∷ semicolon ∷ []) rest → two_at bytes ≡ Ok (n, m, rest)
+unfolding two_at
+two_again n m bytes rest s = rw (natural_again bytes n s.0 s.1, one_again m s.0 rest s.2) refl
+
+-- ---- a line
+
+abbrev pub line_lexemes : ScriptLine → List Lexeme
+line_lexemes (Lift worker id) = word (codes "lift") ∷ number worker ∷ number id ∷ semicolon ∷ []
+line_lexemes (Deliver replica n) = word (codes "deliver") ∷ number replica ∷ number n ∷ semicolon ∷ []
+line_lexemes (Restart worker) = word (codes "restart") ∷ number worker ∷ semicolon ∷ []
+line_lexemes (Central id) = word (codes "central") ∷ number id ∷ semicolon ∷ []
+
+one_line : (bytes name rest w : List ℕ) (make : ℕ → ScriptLine) (y : ScriptLine × List ℕ) → bytes_eq name w ≡ true → Begins bytes (word name) rest → (one_at rest >>= λ x. ok (make x.0, x.1)) ≡ Ok y
+    → (a : ℕ) × (make a ≡ y.0) × Spells bytes (word w ∷ number a ∷ semicolon ∷ []) y.1
+one_line bytes name rest w make y same begins e =
+    let named : name ≡ w = (bytes_eq-Decides name w).0 same in
+    let x = bind_ok (one_at rest) (λ x. ok (make x.0, x.1)) y e in
+    let is : (make x.0.0, x.0.1) ≡ y = ok_is (make x.0.0, x.0.1) y x.2 in (
+      x.0.0,
+      ap (λ (p : ScriptLine × List ℕ). p.0) is,
+      (
+        rest,
+        subst (λ (v : List ℕ). Begins bytes (word v) rest) named begins,
+        subst (λ (p : ScriptLine × List ℕ). Spells rest (number x.0.0 ∷ semicolon ∷ []) p.1) is (one_takes rest x.0 x.1),
+      ),
+    )
+
+two_line : (bytes name rest w : List ℕ) (make : ℕ → ℕ → ScriptLine) (y : ScriptLine × List ℕ) → bytes_eq name w ≡ true → Begins bytes (word name) rest → (two_at rest >>= λ x. ok (make x.0 x.1, x.2)) ≡ Ok y
+    → (a : ℕ) × (b : ℕ) × (make a b ≡ y.0) × Spells bytes (word w ∷ number a ∷ number b ∷ semicolon ∷ []) y.1
+two_line bytes name rest w make y same begins e =
+    let named : name ≡ w = (bytes_eq-Decides name w).0 same in
+    let x = bind_ok (two_at rest) (λ x. ok (make x.0 x.1, x.2)) y e in
+    let is : (make x.0.0 x.0.1, x.0.2) ≡ y = ok_is (make x.0.0 x.0.1, x.0.2) y x.2 in (
+      x.0.0,
+      x.0.1,
+      ap (λ (p : ScriptLine × List ℕ). p.0) is,
+      (
+        rest,
+        subst (λ (v : List ℕ). Begins bytes (word v) rest) named begins,
+        subst (λ (p : ScriptLine × List ℕ). Spells rest (number x.0.0 ∷ number x.0.1 ∷ semicolon ∷ []) p.1) is (two_takes rest x.0 x.1),
+      ),
+    )
+
+line_is : (bytes front name rest : List ℕ) (y : ScriptLine × List ℕ) → Begins bytes (word name) rest → line_at front name rest ≡ Ok y → Spells bytes (line_lexemes y.0) y.1
+unfolding line_at
+line_is bytes front name rest y begins e =
+    let as_line : (l : ScriptLine) → l ≡ y.0 → Spells bytes (line_lexemes l) y.1 → Spells bytes (line_lexemes y.0) y.1 = λ l same s. subst (λ (l : ScriptLine). Spells bytes (line_lexemes l) y.1) same s in
+    elim (chosen (bytes_eq name (codes "lift")) _ _ (ok y) e) [
+      | inl c ↦ (let l = two_line bytes name rest (codes "lift") (λ a b. Lift a b) y c.0 begins c.1 in as_line (Lift l.0 l.1) l.2 l.3)
+      | inr n ↦ elim (chosen (bytes_eq name (codes "deliver")) _ _ (ok y) n.1) [
+        | inl c ↦ (let l = two_line bytes name rest (codes "deliver") (λ a b. Deliver a b) y c.0 begins c.1 in as_line (Deliver l.0 l.1) l.2 l.3)
+        | inr n ↦ elim (chosen (bytes_eq name (codes "restart")) _ _ (ok y) n.1) [
+          | inl c ↦ (let l = one_line bytes name rest (codes "restart") (λ a. Restart a) y c.0 begins c.1 in as_line (Restart l.0) l.1 l.2)
+          | inr n ↦ elim (chosen (bytes_eq name (codes "central")) _ _ (ok y) n.1) [
+            | inl c ↦ (let l = one_line bytes name rest (codes "central") (λ a. Central a) y c.0 begins c.1 in as_line (Central l.0) l.1 l.2)
+            | inr n ↦ absurd (err_is_ok (unexpected front) y n.1)
+          ]
+        ]
+      ]
+    ]
+
+abbrev IsNext : List ℕ → Option ScriptLine × List ℕ → Type 0
+IsNext bytes (Some line, rest) = Spells bytes (line_lexemes line) rest
+IsNext bytes (None, rest) = Spells bytes (end ∷ []) []
+
+next_is : (bytes : List ℕ) (o : Read (List ℕ × List ℕ)) (y : Option ScriptLine × List ℕ) → name_at bytes ≡ o → next_in bytes o ≡ Ok y → IsNext bytes y
+next_is bytes (Ok x) y named e =
+    let l = bind_ok (line_at bytes x.0 x.1) (λ l. ok (some l.0, l.1)) y e in
+    subst (IsNext bytes) (ok_is (some l.0.0, l.0.1) y l.2) (line_is bytes bytes x.0 x.1 l.0 (name_takes bytes x named) l.1)
+next_is bytes (Err fault) y named e =
+    let go : (o : Read (Unit {0})) → end_at bytes ≡ o → end_or fault bytes o ≡ Ok y → IsNext bytes y
+    = λ o. elim o as (λ o. end_at bytes ≡ o → end_or fault bytes o ≡ Ok y → IsNext bytes y) [
+      | Ok u ↦ λ h k. (let nothing : Option ScriptLine × List ℕ = (None, bytes) in subst (IsNext bytes) (ok_is nothing y k) (end_takes bytes u h))
+      | Err f ↦ λ h k. absurd (err_is_ok fault y k)
+    ] in
+    go (end_at bytes) refl e
+
+next_takes : (bytes : List ℕ) (y : Option ScriptLine × List ℕ) → next_line_at bytes ≡ Ok y → IsNext bytes y
+unfolding next_line_at
+next_takes bytes y e = next_is bytes (name_at bytes) y refl e
+
+pub line_takes : (bytes : List ℕ) (line : ScriptLine) (rest : List ℕ) → next_line_at bytes ≡ Ok (Some line, rest) → Spells bytes (line_lexemes line) rest
+line_takes bytes line rest e = next_takes bytes (Some line, rest) e
+
+pub text_ends : (bytes rest : List ℕ) → next_line_at bytes ≡ Ok (None, rest) → Spells bytes (end ∷ []) []
+text_ends bytes rest e = next_takes bytes (None, rest) e
+
+pub line_again : (bytes : List ℕ) (line : ScriptLine) (rest : List ℕ) → Spells bytes (line_lexemes line) rest → next_line_at bytes ≡ Ok (Some line, rest)
+unfolding next_line_at line_at
+line_again bytes (Lift a b) rest s = rw (name_again bytes (codes "lift") s.0 s.1, two_again a b s.0 rest s.2) refl
+line_again bytes (Deliver a b) rest s = rw (name_again bytes (codes "deliver") s.0 s.1, two_again a b s.0 rest s.2) refl
+line_again bytes (Restart a) rest s = rw (name_again bytes (codes "restart") s.0 s.1, one_again a s.0 rest s.2) refl
+line_again bytes (Central a) rest s = rw (name_again bytes (codes "central") s.0 s.1, one_again a s.0 rest s.2) refl
+
+no_name : (bytes : List ℕ) → Spells bytes (end ∷ []) [] → name_at bytes ≡ Err (unexpected bytes)
+unfolding name_at
+no_name bytes s = rw (token_again bytes end s.0 s.1) refl
+
+pub text_ends_again : (bytes : List ℕ) → Spells bytes (end ∷ []) [] → next_line_at bytes ≡ Ok (None, bytes)
+unfolding next_line_at
+text_ends_again bytes s = rw (no_name bytes s, end_again bytes s) refl
+
+shorter : (bytes rest : List ℕ) (line : ScriptLine) → Spells bytes (line_lexemes line) rest → length rest < length bytes
+shorter bytes rest (Lift a b) s = omega (arith, begins_shorter bytes (word (codes "lift")) s.0 (λ e. cc) s.1, spells_within (number a ∷ number b ∷ semicolon ∷ []) s.0 rest s.2)
+shorter bytes rest (Deliver a b) s = omega (arith, begins_shorter bytes (word (codes "deliver")) s.0 (λ e. cc) s.1, spells_within (number a ∷ number b ∷ semicolon ∷ []) s.0 rest s.2)
+shorter bytes rest (Restart a) s = omega (arith, begins_shorter bytes (word (codes "restart")) s.0 (λ e. cc) s.1, spells_within (number a ∷ semicolon ∷ []) s.0 rest s.2)
+shorter bytes rest (Central a) s = omega (arith, begins_shorter bytes (word (codes "central")) s.0 (λ e. cc) s.1, spells_within (number a ∷ semicolon ∷ []) s.0 rest s.2)
+
+pub line_shorter : (bytes : List ℕ) (line : ScriptLine) (rest : List ℕ) → next_line_at bytes ≡ Ok (Some line, rest) → length rest < length bytes
+line_shorter bytes line rest e = shorter bytes rest line (line_takes bytes line rest e)
+
+-- ---- the lines before the events
+
+workers_is : (bytes : List ℕ) (x : Option ℕ × List ℕ) (y : ℕ × List ℕ) → workers_in bytes x ≡ Ok y → x ≡ (some y.0, y.1)
+workers_is bytes (Some n, rest) y e = ap (λ (p : ℕ × List ℕ). (some p.0, p.1)) (ok_is (n, rest) y e)
+workers_is bytes (None, rest) y e = absurd cc
+
+pub workers_take : (bytes : List ℕ) (y : ℕ × List ℕ) → workers_at bytes ≡ Ok y → Spells bytes (clause_lexemes (codes "workers") (Some y.0)) y.1
+unfolding workers_at
+workers_take bytes y e =
+    let x = bind_ok (clause_at (codes "workers") bytes) (workers_in bytes) y e in
+    subst (λ (x : Option ℕ × List ℕ). Spells bytes (clause_lexemes (codes "workers") x.0) x.1) (workers_is bytes x.0 y x.2) (clause_takes (codes "workers") bytes x.0 x.1)
+
+pub workers_again : (bytes : List ℕ) (n : ℕ) (rest : List ℕ) → Spells bytes (clause_lexemes (codes "workers") (Some n)) rest → workers_at bytes ≡ Ok (n, rest)
+unfolding workers_at
+workers_again bytes n rest s = rw (clause_there (codes "workers") n bytes rest s) refl
+
+cut_is : (bytes : List ℕ) (o : Read (List ℕ × List ℕ)) (y : Option (List ℕ) × List ℕ) → name_at bytes ≡ o → cut_in bytes o ≡ Ok y → Spells bytes (cut_lexemes y.0) y.1
+cut_is bytes (Ok x) y named e =
+    let nothing : Option (List ℕ) × List ℕ = (None, bytes) in
+    elim (chosen (bytes_eq x.0 (codes "cut")) _ _ (ok y) e) [
+      | inl c ↦
+          let same : x.0 ≡ codes "cut" = (bytes_eq-Decides x.0 (codes "cut")).0 c.0 in
+          let n = bind_ok (numbers_at x.1) (λ n. semicolon_at n.1 >>= λ after. ok (some n.0, after)) y c.1 in
+          let s = bind_ok (semicolon_at n.0.1) (λ after. ok (some n.0.0, after)) y n.2 in
+          let tokens = spells_append _ (semicolon ∷ []) x.1 n.0.1 s.0 (numbers_take x.1 n.0 n.1).0 (s.0, semicolon_takes n.0.1 s.0 s.1, refl) in
+          subst (λ (y : Option (List ℕ) × List ℕ). Spells bytes (cut_lexemes y.0) y.1) (ok_is (some n.0.0, s.0) y s.2)
+          (x.1, subst (λ (v : List ℕ). Begins bytes (word v) x.1) same (name_takes bytes x named), tokens)
+      | inr c ↦ subst (λ (y : Option (List ℕ) × List ℕ). Spells bytes (cut_lexemes y.0) y.1) (ok_is nothing y c.1) refl
+    ]
+cut_is bytes (Err f) y named e =
+    let nothing : Option (List ℕ) × List ℕ = (None, bytes) in
+    subst (λ (y : Option (List ℕ) × List ℕ). Spells bytes (cut_lexemes y.0) y.1) (ok_is nothing y e) refl
+
+pub cut_takes : (bytes : List ℕ) (y : Option (List ℕ) × List ℕ) → cut_at bytes ≡ Ok y → Spells bytes (cut_lexemes y.0) y.1
+unfolding cut_at
+cut_takes bytes y e = cut_is bytes (name_at bytes) y refl e
+
+pub cut_there : (bytes : List ℕ) (ns rest : List ℕ) → ns ≢ [] → Spells bytes (cut_lexemes (Some ns)) rest → cut_at bytes ≡ Ok (Some ns, rest)
+unfolding cut_at
+cut_there bytes ns rest some_there s =
+    let parts = spells_parts _ (semicolon ∷ []) s.0 rest s.2 in
+    rw (name_again bytes (codes "cut") s.0 s.1, numbers_again ns s.0 parts.0 semicolon parts.2.0 some_there parts.1 (λ e. cc) parts.2.1, semicolon_again parts.0 parts.2.0 parts.2.1, parts.2.2) refl
+
+-- where a line or the end stands there is no line of a cut
+pub no_cut_at_end : (bytes : List ℕ) → Spells bytes (end ∷ []) [] → cut_at bytes ≡ Ok (None, bytes)
+unfolding cut_at
+no_cut_at_end bytes s = rw (no_name bytes s) refl
+
+pub no_cut_at_line : (bytes : List ℕ) (line : ScriptLine) (rest : List ℕ) → Spells bytes (line_lexemes line) rest → cut_at bytes ≡ Ok (None, bytes)
+unfolding cut_at
+no_cut_at_line bytes (Lift a b) rest s = rw (name_again bytes (codes "lift") s.0 s.1) refl
+no_cut_at_line bytes (Deliver a b) rest s = rw (name_again bytes (codes "deliver") s.0 s.1) refl
+no_cut_at_line bytes (Restart a) rest s = rw (name_again bytes (codes "restart") s.0 s.1) refl
+no_cut_at_line bytes (Central a) rest s = rw (name_again bytes (codes "central") s.0 s.1) refl
