@@ -9,3 +9,5 @@ pub mod Buffers
 pub mod Nonzero
 pub mod Frames
 pub mod Few
+pub mod Skip
+pub mod Left

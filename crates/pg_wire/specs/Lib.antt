@@ -5,3 +5,4 @@ pub mod Faults
 pub mod Measured
 pub mod Written
 pub mod Mirrors
+pub mod Left

@@ -2,3 +2,4 @@
 pub mod Reading
 pub mod Ordered
 pub mod Buffers
+pub mod Skipping

@@ -9,6 +9,7 @@ mod frame;
 mod kind;
 pub mod laws;
 mod list;
+mod reader;
 mod reading;
 mod stream;
 mod well;
@@ -21,6 +22,7 @@ pub use frame::{
 };
 pub use kind::ValueKind;
 pub use list::{Numbers, Pairs, Rows};
+pub use reader::ValuesReader;
 pub use reading::decode;
 pub use stream::read_frame;
 pub use writer::ValuesWriter;

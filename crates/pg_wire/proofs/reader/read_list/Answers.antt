@@ -1,0 +1,26 @@
+use Rattle.std.proofs.Common.{◌<◌, ◌≤◌, ◌-◌, ◌+◌, length, take, List, ℕ, Ok, ap, ◌∙◌, arith}
+use Rattle.std.proofs.lemmas.List.{take_all, take_more_set}
+use Rattle.std.proofs.lemmas.Result.{err_from_is_err_and}
+use Rattle.pg_wire.specs.Mirrors.Reading.{word_at, items_at}
+use Rattle.pg_wire.proofs.Loop.{goes_on, is_done, with_front}
+use Rattle.pg_wire.proofs.reader.read_list.Goals as goal
+use Rattle.pg_wire.proofs.Skip.{list_ends}
+
+pub returns-in_err-n : goal.returns-in_err-n
+returns-in_err-n c =
+    let p = err_from_is_err_and c.from_residual.result c.from_residual.ensures.1 in
+    rw (p.1, p.2) (list_ends (λ _. word_at 0) (λ _. 0) _ (take c.loop-place.place-index c.loop-place.row) (length c.args.row.now) c.loop-place.place-index 0 c.loop-place.rest.now (items_at (λ _. word_at 0) (λ _. 0) (length c.args.row.now) 0 c.args.bytes.now) c.loop-place-test.true c.in_err-n.ensures c.loop-place.invariant)
+
+pub loop-place-preserved : goal.loop-place-preserved
+loop-place-preserved c =
+    let i = c.loop-place.place-index in
+    let after = items_at (λ _. word_at 0) (λ _. 0) (length c.args.row.now - (i + 1)) 0 c.in_ok-n.after.now in
+    let lt : i < length c.loop-place.row = omega arith in
+    ap (λ (front : List ℕ). with_front front after) (take_more_set c.loop-place.row i c.in_ok-n.n lt)
+    ∙ goes_on (λ _. word_at 0) (λ _. 0) (take i c.loop-place.row) (length c.args.row.now) i 0 c.loop-place.rest.now c.in_ok-n.n c.in_ok-n.after.now (items_at (λ _. word_at 0) (λ _. 0) (length c.args.row.now) 0 c.args.bytes.now) c.loop-place-test.true c.in_ok-n.ensures c.loop-place.invariant
+
+pub returns : goal.returns
+returns c =
+    let all : length c.loop-place.row ≤ c.loop-place.place-index = omega arith in
+    is_done (λ _. word_at 0) (λ _. 0) (take c.loop-place.place-index c.loop-place.row) (length c.args.row.now) c.loop-place.place-index 0 c.loop-place.rest.now (items_at (λ _. word_at 0) (λ _. 0) (length c.args.row.now) 0 c.args.bytes.now) c.loop-place-test.false c.loop-place.invariant
+    ∙ ap (λ (xs : List ℕ). Ok (xs, c.loop-place.rest.now)) (take_all c.loop-place.place-index c.loop-place.row all)
