@@ -1,5 +1,5 @@
 use crate::texts::bytes_of;
-use pg_wire::{ValueKind, ValuesWriter, laws};
+use pg_wire::{ValueKind, ValuesReader, ValuesWriter, laws};
 use std::alloc::Global;
 use std::test::Fail;
 
@@ -62,6 +62,23 @@ fn tells_the_size_of_a_measure(rt: HostRuntime) {
         assert_eq!(rt; kind.list_size(list), size, "{kind:?} {list:?}");
         assert_eq!(rt; kind.top_size(), 5);
     }
+}
+
+#[test]
+fn reads_one_value_after_the_other(rt: HostRuntime) -> Result<(), Fail> {
+    let text = "0000001b 03 00000002 00000002 00000000 00 00000000 00000001 00000001 01";
+    let bytes = bytes_of(rt.alloc(), text)?;
+    let Some(mut values) = ValuesReader::open(bytes.as_slice()) else {
+        return Err(Fail::from("no frame of values"));
+    };
+    let mut row = [7, 7];
+    assert_eq!(rt; values.width(), 2);
+    assert_eq!(rt; values.next(&mut row), Some((0, false)));
+    assert_eq!(rt; row, [0, 1]);
+    assert_eq!(rt; values.next(&mut row), Some((1, true)));
+    assert_eq!(rt; values.next(&mut row), None);
+    assert!(rt; ValuesReader::open(&bytes.as_slice()[..27]).is_none());
+    Ok(())
 }
 
 /// 127 lists of 32,767 numbers, of 131,073 bytes each, leave room for 130,936 bytes.
