@@ -4,7 +4,7 @@ use std::alloc::Global;
 use std::test::Fail;
 
 /// A byte, and then the frame of a list for vertex 0 and top for vertex 1.
-fn two_measures(alloc: Global, kind: ValueKind, list: &[u32]) -> Result<Vec<u8>, Fail> {
+fn two_measures(alloc: Global, kind: ValueKind, list: &[u32; 2]) -> Result<Vec<u8>, Fail> {
     let mut out = Vec::new(alloc);
     out.push(255)?;
     let mut writer = ValuesWriter::begin(kind, 2, &mut out)?;
