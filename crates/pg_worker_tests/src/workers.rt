@@ -1,100 +1,164 @@
 //! Parts, values and lifts.
 
-use crate::tools::{add, idle, shows, take_last, worker};
+use crate::tools::{
+    add, are, has, idle, is_bad, is_foreign, is_served, lifts_to, lifts_twice, refuses, rests,
+    rises, stays, take_last, take_top, turns, worker,
+};
 use pg_arena::Vertex;
-use pg_map::{Update, View};
-use pg_measure::Measure;
-use pg_worker::WorkerFault;
+use pg_map::View;
+use pg_worker::{Worker, WorkerFault};
+use std::alloc::Global;
 use std::test::Fail;
 
+/// Whether a worker has the game's bounds, and an empty part and zeros after each call.
+fn has_no_part(worker: &mut Worker) -> Result<bool, WorkerFault> {
+    Ok(
+        worker.bounds().pairs() == [(3, 1), (1, 1)].as_slice()
+            && has(worker, false, false)
+            && worker.kept().is_empty()
+            && worker.lifted().is_empty()
+            && rests(worker)?
+            && turns(worker, 5, true, &[])
+            && is_foreign(worker, 0)
+            && are(worker, View::List(&[0, 0]), View::List(&[0, 0])),
+    )
+}
+
 #[test]
-fn an_empty_part_is_quiet(rt: HostRuntime) -> Result<(), Fail> {
+fn an_empty_part_rests(rt: HostRuntime) -> Result<(), Fail> {
     let mut worker = idle(rt.alloc())?;
-    let lifted = worker.lift_some(5)?;
-    assert!(rt; lifted.quiet && lifted.updates.is_empty());
-    assert!(rt; worker.lift_turn(5) && worker.lifted().is_empty());
-    assert!(rt; worker.kept().is_empty());
-    assert_eq!(rt; worker.len(), 2);
-    assert_eq!(rt; worker.bounds().pairs(), [(3, 1), (1, 1)].as_slice());
+    assert!(rt; has_no_part(&mut worker)?);
     Ok(())
+}
+
+/// Whether vertex 0 alone climbs by 0,1; 1,0; 1,1 to top.
+fn climbs(worker: &mut Worker) -> Result<bool, WorkerFault> {
+    Ok(
+        has(worker, true, false)
+            && lifts_twice(worker, 0, View::List(&[0, 1]), View::List(&[1, 0]))?
+            && turns(worker, 1, false, &[Vertex(0)])
+            && are(worker, View::List(&[1, 1]), View::List(&[0, 0]))
+            && turns(worker, 9, true, &[Vertex(0)])
+            && are(worker, View::Top, View::List(&[0, 0]))
+            && rests(worker)?,
+    )
 }
 
 #[test]
 fn one_vertex_climbs_to_top(rt: HostRuntime) -> Result<(), Fail> {
     let mut worker = worker(rt.alloc(), &[(0, 1)])?;
-    assert!(rt; worker.holds(Vertex(0)) && !worker.holds(Vertex(1)));
-    let lifted = worker.lift_some(2)?;
-    assert!(rt; !lifted.quiet);
-    assert_eq!(rt; lifted.updates.len(), 2);
-    assert_eq!(rt; lifted.updates[0].measure.view(), View::List(&[0, 1]));
-    assert_eq!(rt; lifted.updates[1].measure.view(), View::List(&[1, 0]));
-    assert!(rt; worker.lift_turn(2));
-    assert_eq!(rt; worker.lifted(), [Vertex(0)].as_slice());
-    assert!(rt; shows(&worker, 0, View::Top) && shows(&worker, 1, View::List(&[0, 0])));
+    assert!(rt; climbs(&mut worker)?);
     Ok(())
+}
+
+/// Whether one turn ends with top for both vertices.
+fn ends_at_top(worker: &mut Worker) -> Result<bool, WorkerFault> {
+    Ok(
+        turns(worker, 100, true, &[Vertex(0), Vertex(1)])
+            && are(worker, View::Top, View::Top)
+            && rests(worker)?,
+    )
 }
 
 #[test]
 fn a_part_of_all_ends_at_top(rt: HostRuntime) -> Result<(), Fail> {
     let mut worker = worker(rt.alloc(), &[(0, 1), (1, 3)])?;
-    assert!(rt; worker.lift_turn(100));
-    assert_eq!(rt; worker.lifted(), [Vertex(0), Vertex(1)].as_slice());
-    assert!(rt; shows(&worker, 0, View::Top) && shows(&worker, 1, View::Top));
-    assert!(rt; worker.lift_some(1)?.updates.is_empty());
+    assert!(rt; ends_at_top(&mut worker)?);
     Ok(())
 }
 
+/// Whether single lifts raise both vertices to top, vertex 1 by way of 1,0.
+fn climbs_by_single_lifts(worker: &mut Worker) -> Result<bool, WorkerFault> {
+    Ok(
+        lifts_to(worker, 0, View::List(&[0, 1]))?
+            && lifts_to(worker, 1, View::List(&[1, 0]))?
+            && is_served(worker, 1)?
+            && lifts_to(worker, 0, View::List(&[1, 0]))?
+            && lifts_to(worker, 1, View::Top)?
+            && lifts_to(worker, 0, View::List(&[1, 1]))?
+            && lifts_to(worker, 0, View::Top)?
+            && is_served(worker, 0)?
+            && is_foreign(worker, 2),
+    )
+}
+
 #[test]
-fn single_lifts_follow_what_was_taken(rt: HostRuntime) -> Result<(), Fail> {
-    let mut worker = worker(rt.alloc(), &[(1, 3)])?;
-    let lifted = worker.lift(Vertex(1))?.ok_or("it isn't served")?;
-    assert_eq!(rt; lifted.measure.view(), View::List(&[1, 0]));
-    assert!(rt; worker.lift(Vertex(1))?.is_none());
-    let measure = Measure::top(rt.alloc(), worker.bounds())?;
-    let update = Update {
-        vertex: Vertex(0),
-        measure,
-    };
-    assert!(rt; worker.take(&update)?);
-    assert!(rt; !worker.take(&update)?);
-    assert!(rt; worker.lift(Vertex(1))?.is_some());
-    assert!(rt; shows(&worker, 1, View::Top));
-    assert_eq!(rt; worker.lift(Vertex(0)).err(), Some(WorkerFault::NotMine));
+fn single_lifts_touch_what_leads_there(rt: HostRuntime) -> Result<(), Fail> {
+    let mut worker = worker(rt.alloc(), &[(0, 1), (1, 3)])?;
+    assert!(rt; climbs_by_single_lifts(&mut worker)?);
     Ok(())
+}
+
+/// Whether vertex 1 alone is lifted to 1,0, and to top once top was taken for vertex 0.
+fn follows(alloc: Global, worker: &mut Worker) -> Result<bool, WorkerFault> {
+    Ok(
+        turns(worker, 5, true, &[Vertex(1)])
+            && take_top(alloc, worker, 0)?
+            && !take_top(alloc, worker, 0)?
+            && are(worker, View::Top, View::List(&[1, 0]))
+            && turns(worker, 5, true, &[Vertex(1)])
+            && are(worker, View::Top, View::Top)
+            && is_foreign(worker, 0),
+    )
+}
+
+#[test]
+fn lifts_follow_what_was_taken(rt: HostRuntime) -> Result<(), Fail> {
+    let mut worker = worker(rt.alloc(), &[(1, 3)])?;
+    assert!(rt; follows(rt.alloc(), &mut worker)?);
+    Ok(())
+}
+
+/// Whether values that don't fit are refused, and others joined.
+fn takes_what_fits(worker: &mut Worker) -> bool {
+    is_bad(worker, 0, View::List(&[0, 2]))
+        && is_bad(worker, 0, View::List(&[0]))
+        && is_bad(worker, 2, View::Top)
+        && are(worker, View::List(&[0, 0]), View::List(&[0, 0]))
+        && rises(worker, 1, View::List(&[1, 0]))
+        && stays(worker, 1, View::List(&[0, 1]))
+        && are(worker, View::List(&[0, 0]), View::List(&[1, 0]))
 }
 
 #[test]
 fn values_that_do_not_fit_are_refused(rt: HostRuntime) -> Result<(), Fail> {
-    let mut worker = worker(rt.alloc(), &[(0, 1)])?;
-    for (vertex, measure, answer) in [
-        (0, View::List(&[0, 2]), Err(WorkerFault::BadUpdate)),
-        (0, View::List(&[0]), Err(WorkerFault::BadUpdate)),
-        (2, View::Top, Err(WorkerFault::BadUpdate)),
-        (1, View::List(&[0, 1]), Ok(true)),
-        (1, View::List(&[0, 0]), Ok(false)),
-    ] {
-        assert_eq!(rt; worker.take_value(vertex, measure), answer);
-    }
-    assert_eq!(rt; take_last(&mut worker, 1, 2), Err(WorkerFault::BadUpdate));
-    assert_eq!(rt; take_last(&mut worker, 0, 1), Ok(true));
-    assert_eq!(rt; worker.take_sparse(1, None), Ok(true));
-    assert_eq!(rt; worker.take_sparse(2, None), Err(WorkerFault::BadUpdate));
-    assert!(rt; shows(&worker, 0, View::List(&[0, 1])) && shows(&worker, 1, View::Top));
+    let mut worker = worker(rt.alloc(), &[(0, 1), (1, 3)])?;
+    assert!(rt; takes_what_fits(&mut worker));
     Ok(())
+}
+
+/// Whether values are taken that are given by the components that aren't 0.
+fn takes_sparse_values(worker: &mut Worker) -> Result<bool, WorkerFault> {
+    Ok(
+        take_last(worker, 1, 2) == Err(WorkerFault::BadUpdate)
+            && take_last(worker, 1, 1)?
+            && !take_last(worker, 1, 1)?
+            && worker.take_sparse(0, None)?
+            && are(worker, View::Top, View::List(&[0, 1])),
+    )
+}
+
+#[test]
+fn sparse_values_are_taken(rt: HostRuntime) -> Result<(), Fail> {
+    let mut worker = worker(rt.alloc(), &[(0, 1)])?;
+    assert!(rt; takes_sparse_values(&mut worker)?);
+    Ok(())
+}
+
+/// Whether a worker for vertex 0 refuses vertices that don't rise or don't fit, and takes another then.
+fn adds_what_rises(alloc: Global, worker: &mut Worker) -> bool {
+    refuses(alloc, worker, &[(0, 1)], WorkerFault::Order)
+        && refuses(alloc, worker, &[(2, 1)], WorkerFault::BadUpdate)
+        && refuses(alloc, worker, &[(1, 5)], WorkerFault::BadUpdate)
+        && has(worker, true, false)
+        && add(alloc, worker, &[(1, 4)]).is_ok()
+        && has(worker, true, true)
 }
 
 #[test]
 fn vertices_rise_and_fit(rt: HostRuntime) -> Result<(), Fail> {
-    let mut worker = worker(rt.alloc(), &[(1, 3)])?;
-    let order = add(rt.alloc(), &mut worker, &[(0, 1)])?;
-    assert_eq!(rt; order, Some(WorkerFault::Order));
-    let outside = add(rt.alloc(), &mut worker, &[(2, 1)])?;
-    assert_eq!(rt; outside, Some(WorkerFault::BadUpdate));
-    let mut other = idle(rt.alloc())?;
-    let boundless = add(rt.alloc(), &mut other, &[(0, 5)])?;
-    assert_eq!(rt; boundless, Some(WorkerFault::BadUpdate));
-    assert_eq!(rt; add(rt.alloc(), &mut other, &[(0, 4)])?, None);
-    assert!(rt; other.holds(Vertex(0)));
-    assert_eq!(rt; WorkerFault::Order.code(), 4);
+    let mut worker = worker(rt.alloc(), &[(0, 1)])?;
+    assert!(rt; adds_what_rises(rt.alloc(), &mut worker));
+    assert_eq!(rt; WorkerFault::BadUpdate.code(), 3);
     Ok(())
 }
