@@ -4,6 +4,7 @@ coded.
 
     bench/programs.py read_speed        tokens, read_game and write_game on texts of a million lines
     bench/programs.py lift_speed        lifts a second on rows of 1, 10 and 200 components
+    bench/programs.py worker_speed      lifts a second of a worker, by both of its ways to lift, on the same rows
     bench/programs.py frame_speed       encode, decode and read_frame on frames of a million numbers
     bench/programs.py hoa_speed         read_automaton on automata of many states, and of many letters
     bench/programs.py game_speed        game_of on such automata
@@ -22,7 +23,7 @@ import tempfile
 BENCH = pathlib.Path(__file__).resolve().parent
 TOP = BENCH.parent
 STANDS_ON = {"read_speed": "pg_text pg_arena", "lift_speed": "pg_arena pg_measure pg_map", "frame_speed": "pg_wire anyhow", "hoa_speed": "pg_hoa itoa",
-             "game_speed": "pg_hoa pg_synth pg_arena itoa"}
+             "worker_speed": "pg_arena pg_measure pg_wire pg_worker", "game_speed": "pg_hoa pg_synth pg_arena itoa"}
 LINES = 1_000_000
 
 

@@ -1,11 +1,11 @@
 -- The map of a worker stays under the closed maps that are at least what it took.
-use Rattle.std.proofs.Common.{◌≡◌, ◌≢◌, ℕ, ◌<◌, ◌⊎◌, List, [], ◌∷◌, length, get_or, set, sym, subst, ap, ◌∙◌, arith, inl, inr, None}
-use Rattle.std.specs.Prelude.{Option, IsSome}
+use Rattle.std.proofs.Common.{◌≡◌, ℕ, ◌<◌, List, [], ◌∷◌, length, sym, subst, ap, ◌∙◌, arith, inl, inr, None}
+use Rattle.std.specs.Prelude.{Option}
 use Rattle.std.proofs.lemmas.Bool.{cases_eq}
 use Rattle.std.proofs.lemmas.List.{get_or-set_same, get_or-set_other, length-replicate, length-set}
 use Rattle.pg_measure.specs.Measures.{BoundList, MeasureValue, AtMost, zeros}
 use Rattle.pg_map.specs.Lines.{Line}
-use Rattle.pg_map.specs.Maps.{measure_at, IsMap, zero_map, update_map, MapAtMost, IsClosed, IsJoin}
+use Rattle.pg_map.specs.Maps.{measure_at, IsMap, zero_map, update_map, MapAtMost, IsClosed}
 use Rattle.pg_map.specs.declared.update.Update.{Update}
 use Rattle.pg_map.proofs.Above.{lift_stays_under}
 use Rattle.pg_map.proofs.Joins.{zero_map_least}

@@ -4,7 +4,7 @@ use pg_arena::Vertex;
 use pg_map::{Update, View};
 use pg_measure::Measure;
 use pg_wire::{Frame, Numbers, Pairs, Rows, Setup, VertexLine, Vertices, WireFault};
-use pg_worker::{Worker, WorkerFault};
+use pg_worker::{Lifted, Worker, WorkerFault};
 use std::alloc::{AllocError, Global};
 use std::test::Fail;
 
@@ -103,16 +103,16 @@ fn is(update: &Update, v: u32, to: View) -> bool {
 }
 
 /// Lifts the vertex. Whether it rose to this measure.
-pub fn lifts_to(worker: &mut Worker, v: u32, to: View) -> Result<bool, WorkerFault> {
-    match worker.lift(Vertex(v))? {
-        Some(update) => Ok(is(&update, v, to)),
-        None => Ok(false),
+pub fn lifts_to(worker: &mut Worker, v: u32, to: View) -> bool {
+    match worker.lift(Vertex(v)) {
+        Ok(Some(update)) => is(&update, v, to),
+        _ => false,
     }
 }
 
 /// Whether a lift of the vertex raises nothing.
-pub fn is_served(worker: &mut Worker, v: u32) -> Result<bool, WorkerFault> {
-    Ok(worker.lift(Vertex(v))?.is_none())
+pub fn is_served(worker: &mut Worker, v: u32) -> bool {
+    matches!(worker.lift(Vertex(v)), Ok(None))
 }
 
 /// Whether a lift of the vertex is refused by NotMine.
@@ -120,28 +120,26 @@ pub fn is_foreign(worker: &mut Worker, v: u32) -> bool {
     matches!(worker.lift(Vertex(v)), Err(WorkerFault::NotMine))
 }
 
-/// Makes two lifts. Whether they raised the vertex to these measures, and left something to lift.
-pub fn lifts_twice(
-    worker: &mut Worker,
-    v: u32,
-    first: View,
-    second: View,
-) -> Result<bool, WorkerFault> {
-    let lifted = worker.lift_some(2)?;
+/// Whether two lifts raised the vertex to these measures, and left something to lift.
+fn are_two(lifted: &Lifted, v: u32, first: View, second: View) -> bool {
     let updates = &lifted.updates;
-    Ok(
-        !lifted.quiet
-            && updates.len() == 2
-            && is(&updates[0], v, first)
-            && is(&updates[1], v, second)
-            && worker.kept().is_empty(),
-    )
+    !lifted.quiet && updates.len() == 2 && is(&updates[0], v, first) && is(&updates[1], v, second)
+}
+
+/// Makes two lifts. Whether they raised the vertex to these measures, and left something to lift.
+pub fn lifts_twice(worker: &mut Worker, v: u32, first: View, second: View) -> bool {
+    match worker.lift_some(2) {
+        Ok(lifted) => are_two(&lifted, v, first, second) && worker.kept().is_empty(),
+        Err(_) => false,
+    }
 }
 
 /// Whether a run of lifts finds nothing to lift.
-pub fn rests(worker: &mut Worker) -> Result<bool, WorkerFault> {
-    let lifted = worker.lift_some(5)?;
-    Ok(lifted.quiet && lifted.updates.is_empty() && worker.kept().is_empty())
+pub fn rests(worker: &mut Worker) -> bool {
+    match worker.lift_some(5) {
+        Ok(lifted) => lifted.quiet && lifted.updates.is_empty() && worker.kept().is_empty(),
+        Err(_) => false,
+    }
 }
 
 /// Makes at most `budget` lifts. Whether they left something to lift or not, and raised these vertices.

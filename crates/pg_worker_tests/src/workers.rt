@@ -11,101 +11,91 @@ use std::alloc::Global;
 use std::test::Fail;
 
 /// Whether a worker has the game's bounds, and an empty part and zeros after each call.
-fn has_no_part(worker: &mut Worker) -> Result<bool, WorkerFault> {
-    Ok(
-        worker.bounds().pairs() == [(3, 1), (1, 1)].as_slice()
-            && has(worker, false, false)
-            && worker.kept().is_empty()
-            && worker.lifted().is_empty()
-            && rests(worker)?
-            && turns(worker, 5, true, &[])
-            && is_foreign(worker, 0)
-            && are(worker, View::List(&[0, 0]), View::List(&[0, 0])),
-    )
+fn has_no_part(worker: &mut Worker) -> bool {
+    worker.bounds().pairs() == [(3, 1), (1, 1)].as_slice()
+        && has(worker, false, false)
+        && worker.kept().is_empty()
+        && worker.lifted().is_empty()
+        && rests(worker)
+        && turns(worker, 5, true, &[])
+        && is_foreign(worker, 0)
+        && are(worker, View::List(&[0, 0]), View::List(&[0, 0]))
 }
 
 #[test]
 fn an_empty_part_rests(rt: HostRuntime) -> Result<(), Fail> {
     let mut worker = idle(rt.alloc())?;
-    assert!(rt; has_no_part(&mut worker)?);
+    assert!(rt; has_no_part(&mut worker));
     Ok(())
 }
 
 /// Whether vertex 0 alone climbs by 0,1; 1,0; 1,1 to top.
-fn climbs(worker: &mut Worker) -> Result<bool, WorkerFault> {
-    Ok(
-        has(worker, true, false)
-            && lifts_twice(worker, 0, View::List(&[0, 1]), View::List(&[1, 0]))?
-            && turns(worker, 1, false, &[Vertex(0)])
-            && are(worker, View::List(&[1, 1]), View::List(&[0, 0]))
-            && turns(worker, 9, true, &[Vertex(0)])
-            && are(worker, View::Top, View::List(&[0, 0]))
-            && rests(worker)?,
-    )
+fn climbs(worker: &mut Worker) -> bool {
+    has(worker, true, false)
+        && lifts_twice(worker, 0, View::List(&[0, 1]), View::List(&[1, 0]))
+        && turns(worker, 1, false, &[Vertex(0)])
+        && are(worker, View::List(&[1, 1]), View::List(&[0, 0]))
+        && turns(worker, 9, true, &[Vertex(0)])
+        && are(worker, View::Top, View::List(&[0, 0]))
+        && rests(worker)
 }
 
 #[test]
 fn one_vertex_climbs_to_top(rt: HostRuntime) -> Result<(), Fail> {
     let mut worker = worker(rt.alloc(), &[(0, 1)])?;
-    assert!(rt; climbs(&mut worker)?);
+    assert!(rt; climbs(&mut worker));
     Ok(())
 }
 
 /// Whether one turn ends with top for both vertices.
-fn ends_at_top(worker: &mut Worker) -> Result<bool, WorkerFault> {
-    Ok(
-        turns(worker, 100, true, &[Vertex(0), Vertex(1)])
-            && are(worker, View::Top, View::Top)
-            && rests(worker)?,
-    )
+fn ends_at_top(worker: &mut Worker) -> bool {
+    turns(worker, 100, true, &[Vertex(0), Vertex(1)])
+        && are(worker, View::Top, View::Top)
+        && rests(worker)
 }
 
 #[test]
 fn a_part_of_all_ends_at_top(rt: HostRuntime) -> Result<(), Fail> {
     let mut worker = worker(rt.alloc(), &[(0, 1), (1, 3)])?;
-    assert!(rt; ends_at_top(&mut worker)?);
+    assert!(rt; ends_at_top(&mut worker));
     Ok(())
 }
 
 /// Whether single lifts raise both vertices to top, vertex 1 by way of 1,0.
-fn climbs_by_single_lifts(worker: &mut Worker) -> Result<bool, WorkerFault> {
-    Ok(
-        lifts_to(worker, 0, View::List(&[0, 1]))?
-            && lifts_to(worker, 1, View::List(&[1, 0]))?
-            && is_served(worker, 1)?
-            && lifts_to(worker, 0, View::List(&[1, 0]))?
-            && lifts_to(worker, 1, View::Top)?
-            && lifts_to(worker, 0, View::List(&[1, 1]))?
-            && lifts_to(worker, 0, View::Top)?
-            && is_served(worker, 0)?
-            && is_foreign(worker, 2),
-    )
+fn climbs_by_single_lifts(worker: &mut Worker) -> bool {
+    lifts_to(worker, 0, View::List(&[0, 1]))
+        && lifts_to(worker, 1, View::List(&[1, 0]))
+        && is_served(worker, 1)
+        && lifts_to(worker, 0, View::List(&[1, 0]))
+        && lifts_to(worker, 1, View::Top)
+        && lifts_to(worker, 0, View::List(&[1, 1]))
+        && lifts_to(worker, 0, View::Top)
+        && is_served(worker, 0)
+        && is_foreign(worker, 2)
 }
 
 #[test]
 fn single_lifts_touch_what_leads_there(rt: HostRuntime) -> Result<(), Fail> {
     let mut worker = worker(rt.alloc(), &[(0, 1), (1, 3)])?;
-    assert!(rt; climbs_by_single_lifts(&mut worker)?);
+    assert!(rt; climbs_by_single_lifts(&mut worker));
     Ok(())
 }
 
 /// Whether vertex 1 alone is lifted to 1,0, and to top once top was taken for vertex 0.
-fn follows(alloc: Global, worker: &mut Worker) -> Result<bool, WorkerFault> {
-    Ok(
-        turns(worker, 5, true, &[Vertex(1)])
-            && take_top(alloc, worker, 0)?
-            && !take_top(alloc, worker, 0)?
-            && are(worker, View::Top, View::List(&[1, 0]))
-            && turns(worker, 5, true, &[Vertex(1)])
-            && are(worker, View::Top, View::Top)
-            && is_foreign(worker, 0),
-    )
+fn follows(alloc: Global, worker: &mut Worker) -> bool {
+    turns(worker, 5, true, &[Vertex(1)])
+        && take_top(alloc, worker, 0) == Ok(true)
+        && take_top(alloc, worker, 0) == Ok(false)
+        && are(worker, View::Top, View::List(&[1, 0]))
+        && turns(worker, 5, true, &[Vertex(1)])
+        && are(worker, View::Top, View::Top)
+        && is_foreign(worker, 0)
 }
 
 #[test]
 fn lifts_follow_what_was_taken(rt: HostRuntime) -> Result<(), Fail> {
     let mut worker = worker(rt.alloc(), &[(1, 3)])?;
-    assert!(rt; follows(rt.alloc(), &mut worker)?);
+    assert!(rt; follows(rt.alloc(), &mut worker));
     Ok(())
 }
 
@@ -128,20 +118,18 @@ fn values_that_do_not_fit_are_refused(rt: HostRuntime) -> Result<(), Fail> {
 }
 
 /// Whether values are taken that are given by the components that aren't 0.
-fn takes_sparse_values(worker: &mut Worker) -> Result<bool, WorkerFault> {
-    Ok(
-        take_last(worker, 1, 2) == Err(WorkerFault::BadUpdate)
-            && take_last(worker, 1, 1)?
-            && !take_last(worker, 1, 1)?
-            && worker.take_sparse(0, None)?
-            && are(worker, View::Top, View::List(&[0, 1])),
-    )
+fn takes_sparse_values(worker: &mut Worker) -> bool {
+    take_last(worker, 1, 2) == Err(WorkerFault::BadUpdate)
+        && take_last(worker, 1, 1) == Ok(true)
+        && take_last(worker, 1, 1) == Ok(false)
+        && worker.take_sparse(0, None) == Ok(true)
+        && are(worker, View::Top, View::List(&[0, 1]))
 }
 
 #[test]
 fn sparse_values_are_taken(rt: HostRuntime) -> Result<(), Fail> {
     let mut worker = worker(rt.alloc(), &[(0, 1)])?;
-    assert!(rt; takes_sparse_values(&mut worker)?);
+    assert!(rt; takes_sparse_values(&mut worker));
     Ok(())
 }
 
