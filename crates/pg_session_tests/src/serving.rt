@@ -138,6 +138,68 @@ fn tells_a_frame_that_can_not_be_read(rt: HostRuntime) -> Result<(), Fail> {
     Ok(())
 }
 
+/// The sparse frame of `0,1` for vertex 0 and top for vertex 1.
+const SPARSE: &str =
+    "0000001f 07 00000002 00000002 00000000 00 00000001 00000001 00000001 00000001 01";
+
+/// What the last of these frames is answered with; the replies are appended.
+fn takes(
+    alloc: Global,
+    session: &mut Session,
+    parts: &[&str],
+    out: &mut Vec<u8>,
+) -> Result<Result<bool, WorkerFault>, Fail> {
+    let mut halts = false;
+    for part in parts {
+        match session.frame_from(&bytes_of(alloc, part)?, out) {
+            Ok(answer) => halts = answer,
+            Err(fault) => return Ok(Err(fault)),
+        }
+    }
+    Ok(Ok(halts))
+}
+
+/// With `0,1` joined to it the first lift of vertex 0 raises it to `1,0`.
+#[test]
+fn takes_frames_as_bytes(rt: HostRuntime) -> Result<(), Fail> {
+    let mut session = Session::new(rt.alloc());
+    let mut out = Vec::new(rt.alloc());
+    let parts = [SETUP_2, LINES, SPARSE, "00000005 04 00000001", HALT];
+    assert_eq!(rt;
+        takes(rt.alloc(), &mut session, &parts, &mut out)?,
+        Ok(true)
+    );
+    let reply = "00000003 05 01 00 \
+                 0000001a 07 00000002 00000001 00000000 00 00000001 00000000 00000001 \
+                 00000003 05 00 00";
+    assert_eq!(rt; out.as_slice(), bytes_of(rt.alloc(), reply)?.as_slice());
+    Ok(())
+}
+
+#[test]
+fn refuses_bytes_and_then_holds_nothing(rt: HostRuntime) -> Result<(), Fail> {
+    let dense = "0000001b 03 00000002 00000002 00000000 00 00000000 00000001 00000001 01";
+    let zero = "0000001f 07 00000002 00000002 00000000 00 00000001 00000001 00000000 00000001 01";
+    let above = "0000001f 07 00000002 00000002 00000000 00 00000001 00000001 00000002 00000001 01";
+    let rows = [
+        (SETUP_2, dense, WorkerFault::Order),
+        (SETUP, SPARSE, WorkerFault::Order),
+        (SETUP_2, above, WorkerFault::BadUpdate),
+        (SETUP_2, zero, WorkerFault::Wire(WireFault::BadField(26))),
+    ];
+    for (setup, values, fault) in rows {
+        let mut session = Session::new(rt.alloc());
+        let mut out = Vec::new(rt.alloc());
+        assert_eq!(rt;
+            takes(rt.alloc(), &mut session, &[setup, values], &mut out)?,
+            Err(fault)
+        );
+        let answer = takes(rt.alloc(), &mut session, &[LINES], &mut out)?;
+        assert_eq!(rt; answer, Err(WorkerFault::Order));
+    }
+    Ok(())
+}
+
 #[test]
 fn refuses_a_version_above_its_highest(rt: HostRuntime) -> Result<(), Fail> {
     let frame = pg_wire::decode(rt.alloc(), &bytes_of(rt.alloc(), SETUP_2)?)?;

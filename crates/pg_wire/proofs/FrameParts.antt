@@ -94,7 +94,7 @@ line_form low =
     made_form (λ (p : ℕ × (ℕ × (ℕ × List ℕ))). word p.0 ++ (word p.1.0 ++ ((p.1.1.0 ∷ []) ++ counted word p.1.1.1))) (λ p. ((low ≤ p.0) × IsWord p.0) × (Within 0 65537 p.1.0 × ((p.1.1.0 < 2) × IsSuccessors p.1.1.1))) (both (word_at low) (λ _. both (within_at 0 65537) (λ _. both (byte_at 2) (λ _. counted_at word_at (λ n. n + 1) 1 (2 ^ 32) 0))))
     line (λ l. (low ≤ l.vertex) × IsVertexLine l) line_of line_parts
     (both_form word (λ n. (low ≤ n) × IsWord n) (word_at low) (λ (p : ℕ × (ℕ × List ℕ)). word p.0 ++ ((p.1.0 ∷ []) ++ counted word p.1.1)) (λ _ p. Within 0 65537 p.0 × ((p.1.0 < 2) × IsSuccessors p.1.1)) (λ _. both (within_at 0 65537) (λ _. both (byte_at 2) (λ _. counted_at word_at (λ n. n + 1) 1 (2 ^ 32) 0))) (word_form low) (λ _ _. priority_on))
-    (λ l. refl) (λ p. refl) (λ l. refl)
+    (λ l. refl) (λ p h. refl) (λ l h. refl)
     (λ p h. (h.0.0, record { vertex = h.0.1; priority = omega (arith, h.1.0.below); owner = omega (arith, h.1.1.0); some = h.1.1.1.0.from; countable = h.1.1.1.0.below; successors = h.1.1.1.1.items; rising = h.1.1.1.1.order }))
     (λ l h. ((h.0, h.1.vertex), (record { from = omega arith; below = omega (arith, h.1.priority) }, (omega (arith, h.1.owner), (record { from = h.1.some; below = h.1.countable }, record { stand = all_from_zero (λ (n : ℕ). n) l.successors; items = h.1.successors; order = h.1.rising })))))
 
@@ -105,7 +105,7 @@ line_kind = record {
   low = λ x h. omega (arith, h.vertex);
 }
 
-components_form : (width : ℕ) → IsForm (flat_map word) (IsComponents width) (items_at (λ _. word_at 0) (λ _. 0) width 0)
+pub components_form : (width : ℕ) → IsForm (flat_map word) (IsComponents width) (items_at (λ _. word_at 0) (λ _. 0) width 0)
 components_form width =
     said_form (flat_map word) (λ ns. (length ns ≡ width) × AreOrdered (λ _. ⊤) IsWord (λ _ _. ⊤) ns) (IsComponents width) (items_at (λ _. word_at 0) (λ _. 0) width 0)
     (items_form word (λ _ _. ⊤) IsWord (λ _ _. ⊤) (λ _. 0) (λ _. word_at 0) (2 ^ 32) component_kind width 0 (omega arith))
@@ -121,7 +121,7 @@ value_form width low =
     made_form (λ (p : ℕ × Option (List ℕ)). word p.0 ++ tagged (flat_map word) p.1) (λ p. ((low ≤ p.0) × IsWord p.0) × IfSome p.1 (IsComponents width)) (both (word_at low) (λ _. tagged_at (items_at (λ _. word_at 0) (λ _. 0) width 0)))
     value (λ v. (low ≤ v.vertex) × IsValue width v) value_of value_parts
     (both_form word (λ n. (low ≤ n) × IsWord n) (word_at low) (tagged (flat_map word)) (λ _ o. IfSome o (IsComponents width)) (λ _. tagged_at (items_at (λ _. word_at 0) (λ _. 0) width 0)) (word_form low) (λ _ _. tagged_form (flat_map word) (IsComponents width) (items_at (λ _. word_at 0) (λ _. 0) width 0) (components_form width)))
-    (λ v. refl) (λ p. refl) (λ v. refl)
+    (λ v. refl) (λ p h. refl) (λ v h. refl)
     (λ p h. (h.0.0, record { vertex = h.0.1; list = h.1 }))
     (λ v h. ((h.0, h.1.vertex), h.1.list))
 
@@ -132,7 +132,7 @@ value_kind width = record {
   low = λ x h. omega (arith, h.vertex);
 }
 
-places_form : (width : ℕ) → width < 2 ^ 32 → IsForm (counted pair) (ArePlaces width) (counted_at (place_at width) (λ p. p.0 + 1) 0 (width + 1) 0)
+pub places_form : (width : ℕ) → width < 2 ^ 32 → IsForm (counted pair) (ArePlaces width) (counted_at (place_at width) (λ p. p.0 + 1) 0 (width + 1) 0)
 places_form width small =
     said_form (counted pair) (λ ps. Within 0 (width + 1) (length ps) × AreOrdered (λ p. 0 ≤ p.0) (IsPlace width) (λ p q. p.0 < q.0) ps) (ArePlaces width) (counted_at (place_at width) (λ p. p.0 + 1) 0 (width + 1) 0)
     (counted_form pair (λ at p. at ≤ p.0) (IsPlace width) (λ p q. p.0 < q.0) (λ p. p.0 + 1) (place_at width) (2 ^ 32) (place_kind width small) 0 (width + 1) 0 (omega arith) (omega arith))
@@ -148,7 +148,7 @@ sparse_value_form width small low =
     made_form (λ (p : ℕ × Option (List (ℕ × ℕ))). word p.0 ++ tagged (counted pair) p.1) (λ p. ((low ≤ p.0) × IsWord p.0) × IfSome p.1 (ArePlaces width)) (both (word_at low) (λ _. tagged_at (counted_at (place_at width) (λ p. p.0 + 1) 0 (width + 1) 0)))
     sparse_value (λ v. (low ≤ v.vertex) × IsSparseValue width v) sparse_value_of sparse_value_parts
     (both_form word (λ n. (low ≤ n) × IsWord n) (word_at low) (tagged (counted pair)) (λ _ o. IfSome o (ArePlaces width)) (λ _. tagged_at (counted_at (place_at width) (λ p. p.0 + 1) 0 (width + 1) 0)) (word_form low) (λ _ _. tagged_form (counted pair) (ArePlaces width) (counted_at (place_at width) (λ p. p.0 + 1) 0 (width + 1) 0) (places_form width small)))
-    (λ v. refl) (λ p. refl) (λ v. refl)
+    (λ v. refl) (λ p h. refl) (λ v h. refl)
     (λ p h. (h.0.0, record { vertex = h.0.1; pairs = h.1 }))
     (λ v h. ((h.0, h.1.vertex), h.1.pairs))
 
@@ -182,7 +182,7 @@ setup_form =
     made_form (λ (p : ℕ × (ℕ × List (ℕ × ℕ))). (p.0 ∷ []) ++ (word p.1.0 ++ counted pair p.1.1)) (λ p. Within 1 3 p.0 × (Within 1 1048577 p.1.0 × IsBounds p.1.1)) (both version_at (λ _. both (within_at 1 1048577) (λ _. counted_at bound_at (λ p. p.0) 0 (2 ^ 32) 65536)))
     (λ s. s.version ∷ (word s.vertices ++ counted pair s.bounds)) IsSetup setup_of setup_parts
     (both_form (λ b. b ∷ []) (Within 1 3) version_at (λ (p : ℕ × List (ℕ × ℕ)). word p.0 ++ counted pair p.1) (λ _ p. Within 1 1048577 p.0 × IsBounds p.1) (λ _. both (within_at 1 1048577) (λ _. counted_at bound_at (λ p. p.0) 0 (2 ^ 32) 65536)) version_form (λ _ _. count_on))
-    (λ s. refl) (λ p. refl) (λ s. refl)
+    (λ s. refl) (λ p h. refl) (λ s h. refl)
     (λ p h. record { version = (h.0.from, omega (arith, h.0.below)); vertices = (h.1.0.from, omega (arith, h.1.0.below)); bounds = record { countable = h.1.1.0.below; bounds = h.1.1.1.items; falling = h.1.1.1.order } })
     (λ s h. (record { from = h.version.0; below = omega (arith, h.version.1) }, (record { from = h.vertices.0; below = omega (arith, h.vertices.1) }, (record { from = omega arith; below = h.bounds.countable }, record { stand = below_limit s.bounds h.bounds.bounds; items = h.bounds.bounds; order = h.bounds.falling }))))
 
@@ -192,7 +192,7 @@ vertices_form =
     made_form (counted line) (λ ls. Within 0 (2 ^ 32) (length ls) × AreOrdered (λ l. 0 ≤ l.vertex) IsVertexLine (λ l m. l.vertex < m.vertex) ls) (counted_at line_at (λ l. l.vertex + 1) 0 (2 ^ 32) 0)
     (λ (v : Vertices). counted line v.lines) IsVertices vertices_of (λ (v : Vertices). v.lines)
     (counted_form line (λ at l. at ≤ l.vertex) IsVertexLine (λ l m. l.vertex < m.vertex) (λ l. l.vertex + 1) line_at (2 ^ 32) line_kind 0 (2 ^ 32) 0 (omega arith) (omega arith))
-    (λ v. refl) (λ ls. refl) (λ v. refl)
+    (λ v. refl) (λ ls h. refl) (λ v h. refl)
     (λ ls h. record { countable = h.0.below; lines = h.1.items; rising = h.1.order })
     (λ v h. (record { from = omega arith; below = h.countable }, record { stand = all_from_zero (λ (l : VertexLine). l.vertex) v.lines; items = h.lines; order = h.rising }))
 
@@ -206,7 +206,7 @@ values_form =
     (λ (v : Values). word v.width ++ counted value v.values) IsValues values_of values_parts
     (both_form word (Within 0 32769) (within_at 0 32769) (counted value) (λ width vs. Within 0 (2 ^ 32) (length vs) × AreOrdered (λ v. 0 ≤ v.vertex) (IsValue width) (λ x y. x.vertex < y.vertex) vs) (λ width. counted_at (value_at width) (λ v. v.vertex + 1) 0 (2 ^ 32) 0) (within_form 0 32769 (omega arith))
     (λ width _. counted_form value (λ at v. at ≤ v.vertex) (IsValue width) (λ x y. x.vertex < y.vertex) (λ v. v.vertex + 1) (value_at width) (2 ^ 32) (value_kind width) 0 (2 ^ 32) 0 (omega arith) (omega arith)))
-    (λ v. refl) (λ p. refl) (λ v. refl)
+    (λ v. refl) (λ p h. refl) (λ v h. refl)
     (λ p h. record { width = omega (arith, h.0.below); countable = h.1.0.below; values = h.1.1.items; rising = h.1.1.order })
     (λ v h. (record { from = omega arith; below = omega (arith, h.width) }, (record { from = omega arith; below = h.countable }, record { stand = all_from_zero (λ (x : Value). x.vertex) v.values; items = h.values; order = h.rising })))
 
@@ -220,13 +220,13 @@ sparse_form =
     (λ (s : Sparse). word s.width ++ counted sparse_value s.values) IsSparse sparse_of sparse_parts
     (both_form word (Within 0 32769) (within_at 0 32769) (counted sparse_value) (λ width vs. Within 0 (2 ^ 32) (length vs) × AreOrdered (λ v. 0 ≤ v.vertex) (IsSparseValue width) (λ x y. x.vertex < y.vertex) vs) (λ width. counted_at (sparse_value_at width) (λ v. v.vertex + 1) 0 (2 ^ 32) 0) (within_form 0 32769 (omega arith))
     (λ width h. counted_form sparse_value (λ at v. at ≤ v.vertex) (IsSparseValue width) (λ x y. x.vertex < y.vertex) (λ v. v.vertex + 1) (sparse_value_at width) (2 ^ 32) (sparse_value_kind width (omega (arith, h.below))) 0 (2 ^ 32) 0 (omega arith) (omega arith)))
-    (λ s. refl) (λ p. refl) (λ s. refl)
+    (λ s. refl) (λ p h. refl) (λ s h. refl)
     (λ p h. record { width = omega (arith, h.0.below); countable = h.1.0.below; values = h.1.1.items; rising = h.1.1.order })
     (λ s h. (record { from = omega arith; below = omega (arith, h.width) }, (record { from = omega arith; below = h.countable }, record { stand = all_from_zero (λ (x : SparseValue). x.vertex) s.values; items = h.values; order = h.rising })))
 
 pub go_form : IsForm (λ (g : Go). word g.budget) (λ (g : Go). IsWord g.budget) go_at
 unfolding go_at
-go_form = made_form word (λ n. (0 ≤ n) × IsWord n) (word_at 0) (λ (g : Go). word g.budget) (λ (g : Go). IsWord g.budget) go_of (λ (g : Go). g.budget) (word_form 0) (λ g. refl) (λ n. refl) (λ g. refl) (λ n h. h.1) (λ g h. (omega arith, h))
+go_form = made_form word (λ n. (0 ≤ n) × IsWord n) (word_at 0) (λ (g : Go). word g.budget) (λ (g : Go). IsWord g.budget) go_of (λ (g : Go). g.budget) (word_form 0) (λ g. refl) (λ n h. refl) (λ g h. refl) (λ n h. h.1) (λ g h. (omega arith, h))
 
 -- ---- reports
 
@@ -297,4 +297,4 @@ unfolding report_at
 report_form =
     made_form (λ (p : ℕ × ℕ). (p.0 ∷ []) ++ (p.1 ∷ [])) (λ p. (p.0 < 3) × IsCode p.0 p.1) (both (byte_at 3) code_at) (λ (r : Report). r.status ∷ r.code ∷ []) IsReport report_of report_parts
     (both_form (λ b. b ∷ []) (λ b. b < 3) (byte_at 3) (λ b. b ∷ []) IsCode code_at (byte_form 3) code_form)
-    (λ r. refl) (λ p. refl) (λ r. refl) (λ p h. h.1) (λ r h. ((fits_code r.status r.code h).0, h))
+    (λ r. refl) (λ p h. refl) (λ r h. refl) (λ p h. h.1) (λ r h. ((fits_code r.status r.code h).0, h))

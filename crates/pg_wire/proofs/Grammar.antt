@@ -77,19 +77,19 @@ both_form {A} {B} sa FA ra sb FB rb fa fb = record {
 }
 
 pub made_form : {A B : Type 0} (sa : A → List ℕ) (FA : A → Type 0) (ra : Reader A) (sb : B → List ℕ) (FB : B → Type 0) (make : A → B) (parts : B → A)
-    → IsForm sa FA ra → ((b : B) → sb b ≡ sa (parts b)) → ((a : A) → parts (make a) ≡ a) → ((b : B) → make (parts b) ≡ b)
+    → IsForm sa FA ra → ((b : B) → sb b ≡ sa (parts b)) → ((a : A) → FA a → parts (make a) ≡ a) → ((b : B) → FB b → make (parts b) ≡ b)
     → ((a : A) → FA a → FB (make a)) → ((b : B) → FB b → FA (parts b)) → IsForm sb FB (made make ra)
 made_form {A} {B} sa FA ra sb FB make parts fa spelt there back up down = record {
   takes = λ bytes x h e.
       let p = bind_ok (ra bytes) (λ a. Ok (make a.0, a.1)) x e in
       let t = fa.takes bytes p.0 h p.1 in
       let made_is : B × List ℕ = (make p.0.0, p.0.1) in
-      let text : sa p.0.0 ≡ sb (make p.0.0) = ap sa (sym (there p.0.0)) ∙ sym (spelt (make p.0.0)) in
+      let text : sa p.0.0 ≡ sb (make p.0.0) = ap sa (sym (there p.0.0 t.1)) ∙ sym (spelt (make p.0.0)) in
       let P : B × List ℕ → Type 0 = λ y. Takes bytes (sb y.0) y.1 × FB y.0 in
       subst P (ok_is made_is x p.2) (subst (λ (s : List ℕ). Takes bytes s p.0.1) text t.0, up p.0.0 t.1);
   again = λ b rest h.
       let first : ra (sb b ++ rest) ≡ Ok (parts b, rest) = ap (λ (s : List ℕ). ra (s ++ rest)) (spelt b) ∙ fa.again (parts b) rest (down b h) in
-      rw (first, back b) refl;
+      rw (first, back b h) refl;
 }
 
 -- the same reader, with the ranges said in other words

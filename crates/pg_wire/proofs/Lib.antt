@@ -9,5 +9,8 @@ pub mod Buffers
 pub mod Nonzero
 pub mod Frames
 pub mod Few
+pub mod Filling
+pub mod Tells
+pub mod Measuring
 pub mod Skip
 pub mod Left

@@ -1,19 +1,22 @@
 -- What is passed over is read.
-use Rattle.std.proofs.Common.{◌≡◌, ℕ, suc, ◌+◌, ◌-◌, ◌^◌, ◌<◌, ◌≤◌, List, [], ◌∷◌, ◌++◌, Result, Ok, Err, refl, sym, ap, ◌∙◌, arith}
+use Rattle.std.proofs.Common.{◌≡◌, ℕ, suc, ◌+◌, ◌-◌, ◌^◌, ◌<◌, ◌≤◌, List, [], ◌∷◌, ◌++◌, drop, Result, Ok, Err, refl, sym, ap, ◌∙◌, arith}
 use Rattle.std.specs.List.{flat_map}
 use Rattle.std.proofs.lemmas.List.{append-nil}
 use Rattle.pg_wire.specs.declared.fault.FieldFault.{FieldFault}
-use Rattle.pg_wire.specs.declared.frame.Value.{Value}
-use Rattle.pg_wire.specs.declared.frame.Values.{Values}
-use Rattle.pg_wire.specs.Spelling.{word, counted, value}
-use Rattle.pg_wire.specs.Well.{IsValue, IsValues}
-use Rattle.pg_wire.specs.Mirrors.Reading.{◌>>=◌, Reader, made, items_at, counted_at, tagged_at, within_at, byte_at, word_at, values_at, value_at}
-use Rattle.pg_wire.specs.Mirrors.Skipping.{skipped, AreFields}
+use Rattle.pg_wire.specs.declared.frame.Frame.{Frame}
+use Rattle.pg_wire.specs.declared.kind.ValueKind.{ValueKind}
+use Rattle.pg_wire.specs.declared.kind.ValueKind.TheVariants.{Sparse}
+use Rattle.pg_wire.specs.Spelling.{word, counted, body}
+use Rattle.pg_wire.specs.Well.{IsWell}
+use Rattle.pg_wire.specs.Measured.{Measured, IsMeasured, filled, spelled_as, kind_number}
+use Rattle.pg_wire.specs.Mirrors.Reading.{◌>>=◌, Reader, made, items_at, counted_at, tagged_at, within_at, byte_at, place_at}
+use Rattle.pg_wire.specs.Mirrors.Skipping.{skipped, list_at, measured_at, after_measured, fields_at, AreFields}
 use Rattle.pg_wire.specs.declared.fault.ReadFault.TheVariants as faults
 use Rattle.pg_wire.proofs.Loop.{with_front}
 use Rattle.pg_wire.proofs.Loop.{ends as list_stops}
 use Rattle.pg_wire.proofs.Grammar.{IsBytes, bind_ok, ok_is, items_form, within_form}
-use Rattle.pg_wire.proofs.FrameParts.{value_kind, values_form}
+use Rattle.pg_wire.proofs.Tells.{well_of, measures_of, body_is}
+use Rattle.pg_wire.proofs.Measuring.{measured_kind, fields_form}
 
 result_err : {A B : Type 0} (r : Result A FieldFault) (f : A → B) (e : FieldFault) → (r >>= λ a. Ok (f a)) ≡ Err e → r ≡ Err e
 result_err (Ok x) f e h = absurd cc
@@ -84,75 +87,114 @@ pub list_ends : {A : Type 0} (item : ℕ → Reader A) (next : A → ℕ) (e : F
     → i < count → item at bytes ≡ Err e → with_front front (items_at item next (count - i) at bytes) ≡ total → total ≡ Err e
 list_ends item next e front count i at bytes total lt h so_far = list_stops item next (faults.Field e) front count i at bytes total lt h so_far
 
-abbrev numbers_at : ℕ → Reader (List ℕ)
-numbers_at width = items_at (λ _. word_at 0) (λ _. 0) width 0
+abbrev pub after_place : ℕ × ℕ → ℕ
+after_place p = p.0 + 1
+
+abbrev pub places_at : ℕ → ℕ → Reader (List (ℕ × ℕ))
+places_at width count = items_at (place_at width) after_place count 0
+
+-- pairs that are passed over
+pub pairs_skipped : (width count : ℕ) (bytes list after : List ℕ) → within_at 0 (width + 1) bytes ≡ Ok (count, list) → skipped (places_at width count) list ≡ Ok after → skipped (list_at Sparse width) bytes ≡ Ok after
+unfolding list_at counted_at
+pairs_skipped width count bytes list after a s =
+    let p = skipped_ok (places_at width count) list after s in
+    rw (a, p.1) refl
+
+pub pairs_refused : (width count : ℕ) (bytes list : List ℕ) (e : FieldFault) → within_at 0 (width + 1) bytes ≡ Ok (count, list) → skipped (places_at width count) list ≡ Err e → skipped (list_at Sparse width) bytes ≡ Err e
+unfolding list_at counted_at
+pairs_refused width count bytes list e a s =
+    let p = skipped_err (places_at width count) list e s in
+    rw (a, p) refl
+
+-- and that are read
+pub filled_read : (width count : ℕ) (bytes : List ℕ) (ps : List (ℕ × ℕ)) (rest : List ℕ) → places_at width count bytes ≡ Ok (ps, rest) → made (filled width) (places_at width count) bytes ≡ Ok (filled width ps, rest)
+filled_read width count bytes ps rest h = rw h refl
+
+pub filled_refused : (width count : ℕ) (bytes : List ℕ) (e : FieldFault) → places_at width count bytes ≡ Err e → made (filled width) (places_at width count) bytes ≡ Err e
+filled_refused width count bytes e h = rw h refl
+
+pub pairs_read : (width count : ℕ) (bytes list : List ℕ) (x : Result (List ℕ × List ℕ) FieldFault) → within_at 0 (width + 1) bytes ≡ Ok (count, list) → made (filled width) (places_at width count) list ≡ x → list_at Sparse width bytes ≡ x
+unfolding list_at counted_at
+pairs_read width count bytes list x a h = rw a h
 
 -- a value whose list is passed over
-pub value_skipped : (width place n t : ℕ) (bytes rest list after : List ℕ) → within_at place (2 ^ 32) bytes ≡ Ok (n, rest) → byte_at 2 rest ≡ Ok (t, list) → t ≡ 0 → skipped (numbers_at width) list ≡ Ok after
-    → made (λ (v : Value). v.vertex + 1) (value_at width place) bytes ≡ Ok (n + 1, after)
-unfolding value_at tagged_at
-value_skipped width place n t bytes rest list after a b z s =
-    let p = skipped_ok (numbers_at width) list after s in
+pub value_skipped : (kind : ValueKind) (width place n t : ℕ) (bytes rest list after : List ℕ) → within_at place (2 ^ 32) bytes ≡ Ok (n, rest) → byte_at 2 rest ≡ Ok (t, list) → t ≡ 0 → skipped (list_at kind width) list ≡ Ok after
+    → made after_measured (measured_at kind width place) bytes ≡ Ok (n + 1, after)
+unfolding measured_at tagged_at
+value_skipped kind width place n t bytes rest list after a b z s =
+    let p = skipped_ok (list_at kind width) list after s in
     rw (a, b, z, p.1) refl
 
-pub value_refused : (width place n t : ℕ) (bytes rest list : List ℕ) (e : FieldFault) → within_at place (2 ^ 32) bytes ≡ Ok (n, rest) → byte_at 2 rest ≡ Ok (t, list) → t ≡ 0 → skipped (numbers_at width) list ≡ Err e
-    → made (λ (v : Value). v.vertex + 1) (value_at width place) bytes ≡ Err e
-unfolding value_at tagged_at
-value_refused width place n t bytes rest list e a b z s =
-    let p = skipped_err (numbers_at width) list e s in
+pub value_refused : (kind : ValueKind) (width place n t : ℕ) (bytes rest list : List ℕ) (e : FieldFault) → within_at place (2 ^ 32) bytes ≡ Ok (n, rest) → byte_at 2 rest ≡ Ok (t, list) → t ≡ 0 → skipped (list_at kind width) list ≡ Err e
+    → made after_measured (measured_at kind width place) bytes ≡ Err e
+unfolding measured_at tagged_at
+value_refused kind width place n t bytes rest list e a b z s =
+    let p = skipped_err (list_at kind width) list e s in
     rw (a, b, z, p) refl
 
-abbrev pub after_value : Value → ℕ
-after_value v = v.vertex + 1
+abbrev pub measures_at : ValueKind → ℕ → ℕ → Reader (List Measured)
+measures_at kind width count = items_at (measured_at kind width) after_measured count 0
 
 -- the fields were passed over and nothing is left
-pub fields_are : (width count : ℕ) (bytes list values rest : List ℕ) → IsBytes bytes → within_at 0 32769 bytes ≡ Ok (width, list) → within_at 0 (2 ^ 32) list ≡ Ok (count, values)
-    → skipped (items_at (value_at width) after_value count 0) values ≡ Ok rest → rest ≡ [] → AreFields bytes width values
-unfolding values_at counted_at
-fields_are width count bytes list values rest fits a b s none =
+pub fields_are : (kind : ValueKind) (width count : ℕ) (bytes list values rest : List ℕ) → IsBytes bytes → within_at 0 32769 bytes ≡ Ok (width, list) → within_at 0 (2 ^ 32) list ≡ Ok (count, values)
+    → skipped (measures_at kind width count) values ≡ Ok rest → rest ≡ [] → AreFields bytes kind width values
+unfolding fields_at counted_at
+fields_are kind width count bytes list values rest fits a b s none =
     let first = (within_form 0 32769 (omega arith)).takes bytes (width, list) fits a in
     let second = (within_form 0 (2 ^ 32) (omega arith)).takes list (count, values) first.0.rest_fits b in
-    let p = skipped_ok (items_at (value_at width) after_value count 0) values rest s in
-    let items : items_at (value_at width) after_value count 0 values ≡ Ok (p.0, []) = p.1 ∙ ap (λ (r : List ℕ). Ok (p.0, r)) none in
-    let v : Values = record { width = width; values = p.0 } in
-    let read : values_at bytes ≡ Ok (v, []) = rw (a, b, items) refl in
-    let t = values_form.takes bytes (v, []) fits read in
-    let u = (items_form value (λ at x. at ≤ x.vertex) (IsValue width) (λ x y. x.vertex < y.vertex) after_value (value_at width) (2 ^ 32) (value_kind width) count 0 (omega arith)).takes values (p.0, []) second.0.rest_fits items in
+    let p = skipped_ok (measures_at kind width count) values rest s in
+    let items : measures_at kind width count values ≡ Ok (p.0, []) = p.1 ∙ ap (λ (r : List ℕ). Ok (p.0, r)) none in
+    let read : fields_at kind bytes ≡ Ok ((width, p.0), []) = rw (a, b, items) refl in
+    let t = (fields_form kind).takes bytes ((width, p.0), []) fits read in
+    let u = (items_form (spelled_as kind) (λ at m. at ≤ m.0) (IsMeasured width) (λ x y. x.0 < y.0) after_measured (measured_at kind width) (2 ^ 32) (measured_kind kind width (omega (arith, t.1.within))) count 0 (omega arith)).takes values (p.0, []) second.0.rest_fits items in
     record {
       list = p.0;
-      well = t.1;
-      whole = t.0.parts ∙ append-nil (word width ++ counted value p.0);
-      last = u.0.parts ∙ append-nil (flat_map value p.0);
+      well = well_of kind width p.0 t.1;
+      within = t.1.within;
+      each = t.1.each;
+      whole = ap (λ (bs : List ℕ). kind_number kind ∷ bs) (t.0.parts ∙ append-nil (word width ++ counted (spelled_as kind) p.0)) ∙ sym (body_is kind width p.0);
+      last = u.0.parts ∙ append-nil (flat_map (spelled_as kind) p.0);
     }
 
-pub fields_read : (v : Values) (bytes : List ℕ) → IsValues v → bytes ≡ word v.width ++ counted value v.values → values_at bytes ≡ Ok (v, [])
-fields_read v bytes well e = ap values_at (e ∙ sym (append-nil (word v.width ++ counted value v.values))) ∙ values_form.again v [] well
+-- the fields of a well frame of this kind
+pub fields_read : (kind : ValueKind) (f : Frame) (bytes : List ℕ) → IsWell f → (kind_number kind ∷ bytes) ≡ body f → (p : ℕ × List Measured) × (fields_at kind bytes ≡ Ok (p, []))
+fields_read kind f bytes well e =
+    let o = measures_of kind f bytes well e in
+    let same : (kind_number kind ∷ bytes) ≡ kind_number kind ∷ (word o.width ++ counted (spelled_as kind) o.list) = e ∙ ap body (sym o.same) ∙ body_is kind o.width o.list in
+    let rest : bytes ≡ word o.width ++ counted (spelled_as kind) o.list = ap (λ (bs : List ℕ). drop 1 bs) same in
+    ((o.width, o.list), ap (fields_at kind) (rest ∙ sym (append-nil (word o.width ++ counted (spelled_as kind) o.list))) ∙ (fields_form kind).again (o.width, o.list) [] o.measures)
 
 not_read : {A : Type 0} (r : Result A FieldFault) (x : A) (e : FieldFault) → r ≡ Ok x → r ≡ Err e → ⊥
 not_read r x e ok err = absurd (cc (sym ok ∙ err))
 
--- fields of a well frame are read
-pub no_width : (v : Values) (bytes : List ℕ) (e : FieldFault) → IsValues v → bytes ≡ word v.width ++ counted value v.values → within_at 0 32769 bytes ≡ Err e → ⊥
-unfolding values_at
-no_width v bytes e well is a = not_read (values_at bytes) (v, []) e (fields_read v bytes well is) (rw a refl)
+-- which are read
+pub no_width : (kind : ValueKind) (f : Frame) (bytes : List ℕ) (e : FieldFault) → IsWell f → (kind_number kind ∷ bytes) ≡ body f → within_at 0 32769 bytes ≡ Err e → ⊥
+unfolding fields_at
+no_width kind f bytes e well is a =
+    let p = fields_read kind f bytes well is in
+    not_read (fields_at kind bytes) (p.0, []) e p.1 (rw a refl)
 
-pub no_count : (v : Values) (bytes list : List ℕ) (width : ℕ) (e : FieldFault) → IsValues v → bytes ≡ word v.width ++ counted value v.values → within_at 0 32769 bytes ≡ Ok (width, list) → within_at 0 (2 ^ 32) list ≡ Err e → ⊥
-unfolding values_at counted_at
-no_count v bytes list width e well is a b = not_read (values_at bytes) (v, []) e (fields_read v bytes well is) (rw (a, b) refl)
+pub no_count : (kind : ValueKind) (f : Frame) (bytes list : List ℕ) (width : ℕ) (e : FieldFault) → IsWell f → (kind_number kind ∷ bytes) ≡ body f → within_at 0 32769 bytes ≡ Ok (width, list) → within_at 0 (2 ^ 32) list ≡ Err e → ⊥
+unfolding fields_at counted_at
+no_count kind f bytes list width e well is a b =
+    let p = fields_read kind f bytes well is in
+    not_read (fields_at kind bytes) (p.0, []) e p.1 (rw (a, b) refl)
 
-pub no_values : (v : Values) (bytes list values : List ℕ) (width count : ℕ) (e : FieldFault) → IsValues v → bytes ≡ word v.width ++ counted value v.values → within_at 0 32769 bytes ≡ Ok (width, list) → within_at 0 (2 ^ 32) list ≡ Ok (count, values)
-    → skipped (items_at (value_at width) after_value count 0) values ≡ Err e → ⊥
-unfolding values_at counted_at
-no_values v bytes list values width count e well is a b s =
-    let items : items_at (value_at width) after_value count 0 values ≡ Err e = skipped_err (items_at (value_at width) after_value count 0) values e s in
-    not_read (values_at bytes) (v, []) e (fields_read v bytes well is) (rw (a, b, items) refl)
+pub no_values : (kind : ValueKind) (f : Frame) (bytes list values : List ℕ) (width count : ℕ) (e : FieldFault) → IsWell f → (kind_number kind ∷ bytes) ≡ body f → within_at 0 32769 bytes ≡ Ok (width, list) → within_at 0 (2 ^ 32) list ≡ Ok (count, values)
+    → skipped (measures_at kind width count) values ≡ Err e → ⊥
+unfolding fields_at counted_at
+no_values kind f bytes list values width count e well is a b s =
+    let p = fields_read kind f bytes well is in
+    let items : measures_at kind width count values ≡ Err e = skipped_err (measures_at kind width count) values e s in
+    not_read (fields_at kind bytes) (p.0, []) e p.1 (rw (a, b, items) refl)
 
-pub no_end : (v : Values) (bytes list values rest : List ℕ) (width count : ℕ) → IsValues v → bytes ≡ word v.width ++ counted value v.values → within_at 0 32769 bytes ≡ Ok (width, list) → within_at 0 (2 ^ 32) list ≡ Ok (count, values)
-    → skipped (items_at (value_at width) after_value count 0) values ≡ Ok rest → rest ≡ []
-unfolding values_at counted_at
-no_end v bytes list values rest width count well is a b s =
-    let p = skipped_ok (items_at (value_at width) after_value count 0) values rest s in
-    let read : values_at bytes ≡ Ok (record { width = width; values = p.0 }, rest) = rw (a, b, p.1) refl in
-    let wanted : Values × List ℕ = (v, []) in
-    let found : Values × List ℕ = (record { width = width; values = p.0 }, rest) in
-    ap (λ (y : Values × List ℕ). y.1) (ok_is found wanted (sym read ∙ fields_read v bytes well is))
+pub no_end : (kind : ValueKind) (f : Frame) (bytes list values rest : List ℕ) (width count : ℕ) → IsWell f → (kind_number kind ∷ bytes) ≡ body f → within_at 0 32769 bytes ≡ Ok (width, list) → within_at 0 (2 ^ 32) list ≡ Ok (count, values)
+    → skipped (measures_at kind width count) values ≡ Ok rest → rest ≡ []
+unfolding fields_at counted_at
+no_end kind f bytes list values rest width count well is a b s =
+    let p = fields_read kind f bytes well is in
+    let q = skipped_ok (measures_at kind width count) values rest s in
+    let read : fields_at kind bytes ≡ Ok ((width, q.0), rest) = rw (a, b, q.1) refl in
+    let wanted : (ℕ × List Measured) × List ℕ = (p.0, []) in
+    let found : (ℕ × List Measured) × List ℕ = ((width, q.0), rest) in
+    ap (λ (y : (ℕ × List Measured) × List ℕ). y.1) (ok_is found wanted (sym read ∙ p.1))

@@ -1,8 +1,10 @@
 //! What holds of the spellings alone.
-ghost use Rattle.std.specs.Prelude.{◌≡◌, ◌≤◌, ◌++◌, List, ℕ, [], length};
+ghost use Rattle.std.specs.Prelude.{◌≡◌, ◌≤◌, ◌++◌, List, ℕ, [], length, All};
 ghost use Rattle.pg_wire.specs.declared.frame.Frame.{Frame};
 ghost use Rattle.pg_wire.specs.declared.frame.Setup.{Setup};
+ghost use Rattle.pg_wire.specs.declared.kind.ValueKind.{ValueKind};
 ghost use Rattle.pg_wire.specs.Bytes.{Spells};
+ghost use Rattle.pg_wire.specs.Measured.{Measured, IsMeasured, frame_of};
 ghost use Rattle.pg_wire.specs.Well.{IsSetup};
 
 /// No spelling is a proper front of another.
@@ -13,6 +15,12 @@ pub fn no_front()
 /// Bytes spell at most one frame.
 pub fn one_frame()
     ensures { (f g : Frame) (bytes : List ℕ) → Spells f bytes → Spells g bytes → f ≡ g }
+{}
+
+/// A frame of measures tells one list of measures, which have as many components as its width says.
+pub fn one_list()
+    ensures { (kind : ValueKind) (width : ℕ) (ms ns : List Measured) → All (IsMeasured width) ms → All (IsMeasured width) ns
+        → frame_of kind width ms ≡ frame_of kind width ns → ms ≡ ns }
 {}
 
 /// A set-up that is well has at most 32,768 bounds: there are no more odd priorities up to 65,535.

@@ -1,22 +1,23 @@
-//! Reads the values of a frame one after the other, from its bytes and without memory.
-ghost use Rattle.std.specs.Prelude.{◌≡◌, ◌≢◌, ℕ, ◌+◌, ◌++◌, ◌^◌, List, [], Some, None, IfSome, IfOk, length, cond, true};
-ghost use Rattle.std.specs.List.{flat_map};
-ghost use Rattle.pg_wire.specs.declared.frame.Value.{Value};
-ghost use Rattle.pg_wire.specs.declared.frame.Values.{Values};
-ghost use Rattle.pg_wire.specs.declared.frame.Frame.TheVariants as frames;
-ghost use Rattle.pg_wire.specs.Spelling.{word, counted, value};
-ghost use Rattle.pg_wire.specs.Well.{IsValues};
+//! Reads the measures of a frame one after the other, from its bytes and without memory.
+ghost use Rattle.std.specs.Prelude.{◌≡◌, ◌≢◌, ◌+◌, ◌≤◌, ◌<◌, ◌∷◌, List, Some, None, IfSome, IfOk, length, cond, true};
+ghost use Rattle.pg_wire.specs.declared.kind.ValueKind.{ValueKind};
+ghost use Rattle.pg_wire.specs.declared.frame.Frame.{Frame};
+ghost use Rattle.pg_wire.specs.Spelling.{body};
+ghost use Rattle.pg_wire.specs.Well.{IsWell};
 ghost use Rattle.pg_wire.specs.Bytes.{Spells};
-ghost use Rattle.pg_wire.specs.Mirrors.Reading.{made, within_at, byte_at, word_at, items_at, value_at};
-ghost use Rattle.pg_wire.specs.Mirrors.Skipping.{Yields, skipped, AreFields};
+ghost use Rattle.pg_wire.specs.Measured.{Measured, filled, kind_number, frame_of, TellsMeasures};
+ghost use Rattle.pg_wire.specs.Mirrors.Reading.{made, within_at, byte_at, items_at, place_at};
+ghost use Rattle.pg_wire.specs.Mirrors.Skipping.{Yields, skipped, numbers_at, pairs_at, list_at, measured_at, after_measured, AreFields};
 
 use crate::fault::FieldFault;
 use crate::fields::WORDS;
+use crate::kind::ValueKind;
 use crate::reading::LONGEST;
 
-/// The values of a frame that are left.
+/// The measures of a frame that are left.
 #[derive(Clone, Copy, Debug)]
 pub struct ValuesReader<'a> {
+    kind: ValueKind,
     width: u32,
     bytes: &'a [u8],
 }
@@ -24,7 +25,9 @@ pub struct ValuesReader<'a> {
 /// A number from `low` on, below `high`.
 #[tactic(auto, unfolding(crate::specs::Mirrors::Reading::within_at))]
 fn number(low: u64, high: u64, bytes: &[u8]) -> Result<(u32, &[u8]), FieldFault>
-    ensures { Yields (λ x. (x.0, x.1.now)) result (within_at low high bytes.now) }
+    ensures read { Yields (λ x. (x.0, x.1.now)) result (within_at low high bytes.now) }
+    ensures range { IfOk result (λ x. (low ≤ x.0) × (x.0 < high)) }
+    ensures less { IfOk result (λ x. length x.1.now < length bytes.now) }
 {
     if bytes.len() < 4 {
         return Err(FieldFault::At(bytes.len()));
@@ -41,7 +44,8 @@ fn number(low: u64, high: u64, bytes: &[u8]) -> Result<(u32, &[u8]), FieldFault>
 /// The tag of a list, 0, or of top, 1.
 #[tactic(auto, unfolding(crate::specs::Mirrors::Reading::byte_at))]
 fn tag(bytes: &[u8]) -> Result<(u8, &[u8]), FieldFault>
-    ensures { Yields (λ x. (x.0, x.1.now)) result (byte_at 2 bytes.now) }
+    ensures read { Yields (λ x. (x.0, x.1.now)) result (byte_at 2 bytes.now) }
+    ensures less { IfOk result (λ x. length x.1.now < length bytes.now) }
 {
     match bytes {
         [] => Err(FieldFault::At(0)),
@@ -55,9 +59,21 @@ fn tag(bytes: &[u8]) -> Result<(u8, &[u8]), FieldFault>
     }
 }
 
-/// The bytes after a list.
-fn skip_list(width: u32, bytes: &[u8]) -> Result<&[u8], FieldFault>
-    ensures { Yields (λ x. x.now) result (skipped (items_at (λ _. word_at 0) (λ _. 0) width 0) bytes.now) }
+/// A place from `at` on, below the width, and the number there, which isn't 0.
+#[tactic(auto, unfolding(crate::specs::Mirrors::Reading::place_at))]
+fn pair(width: u32, at: u64, bytes: &[u8]) -> Result<(u32, u32, &[u8]), FieldFault>
+    ensures read { Yields (λ x. ((x.0, x.1), x.2.now)) result (place_at width at bytes.now) }
+    ensures range { IfOk result (λ x. (at ≤ x.0) × (x.0 < width)) }
+    ensures less { IfOk result (λ x. length x.2.now < length bytes.now) }
+{
+    let (place, rest) = number(at, width as u64, bytes)?;
+    let (n, rest) = number(1, WORDS, rest)?;
+    Ok((place, n, rest))
+}
+
+/// The bytes after so many numbers.
+fn skip_numbers(width: u32, bytes: &[u8]) -> Result<&[u8], FieldFault>
+    ensures { Yields (λ x. x.now) result (skipped (numbers_at width) bytes.now) }
 {
     let mut rest = bytes;
     for _ in 0..width {
@@ -67,38 +83,72 @@ fn skip_list(width: u32, bytes: &[u8]) -> Result<&[u8], FieldFault>
     Ok(rest)
 }
 
+/// The bytes after so many pairs, whose places rise from 0 on.
+fn skip_places(width: u32, count: u32, bytes: &[u8]) -> Result<&[u8], FieldFault>
+    ensures { Yields (λ x. x.now) result (skipped (items_at (place_at width) (λ p. p.0 + 1) count 0) bytes.now) }
+{
+    let mut rest = bytes;
+    let mut at = 0;
+    for _ in 0..count {
+        let (place, _, after) = pair(width, at, rest)?;
+        at = place as u64 + 1;
+        rest = after;
+    }
+    Ok(rest)
+}
+
+/// The bytes after a list.
+#[tactic(auto, using(crate::proofs::Skip::pairs_skipped, crate::proofs::Skip::pairs_refused), unfolding(crate::specs::Mirrors::Skipping::list_at, crate::specs::Mirrors::Reading::counted_at))]
+fn skip_list(kind: ValueKind, width: u32, bytes: &[u8]) -> Result<&[u8], FieldFault>
+    ensures { Yields (λ x. x.now) result (skipped (list_at kind width) bytes.now) }
+{
+    match kind {
+        ValueKind::Dense => skip_numbers(width, bytes),
+        ValueKind::Sparse => {
+            let (count, rest) = number(0, width as u64 + 1, bytes)?;
+            skip_places(width, count, rest)
+        }
+    }
+}
+
 /// The least vertex that may come after a value, and the bytes after it.
-#[tactic(auto, using(crate::proofs::Skip::value_skipped, crate::proofs::Skip::value_refused), unfolding(crate::specs::Mirrors::Reading::value_at, crate::specs::Mirrors::Reading::tagged_at))]
-fn skip_value(width: u32, place: u64, bytes: &[u8]) -> Result<(u64, &[u8]), FieldFault>
-    ensures { Yields (λ x. (x.0, x.1.now)) result (made (λ v. v.vertex + 1) (value_at width place) bytes.now) }
+#[tactic(auto, using(crate::proofs::Skip::value_skipped, crate::proofs::Skip::value_refused), unfolding(crate::specs::Mirrors::Skipping::measured_at, crate::specs::Mirrors::Reading::tagged_at))]
+fn skip_value(
+    kind: ValueKind,
+    width: u32,
+    place: u64,
+    bytes: &[u8],
+) -> Result<(u64, &[u8]), FieldFault>
+    ensures { Yields (λ x. (x.0, x.1.now)) result (made after_measured (measured_at kind width place) bytes.now) }
 {
     let (vertex, rest) = number(place, WORDS, bytes)?;
     let (tag, rest) = tag(rest)?;
     if tag != 0 {
         return Ok((vertex as u64 + 1, rest));
     }
-    let rest = skip_list(width, rest)?;
+    let rest = skip_list(kind, width, rest)?;
     Ok((vertex as u64 + 1, rest))
 }
 
 /// The bytes after so many values.
-fn skip_values(width: u32, count: u32, bytes: &[u8]) -> Result<&[u8], FieldFault>
-    ensures { Yields (λ x. x.now) result (skipped (items_at (value_at width) (λ v. v.vertex + 1) count 0) bytes.now) }
+fn skip_values(kind: ValueKind, width: u32, count: u32, bytes: &[u8]) -> Result<&[u8], FieldFault>
+    ensures { Yields (λ x. x.now) result
+        (skipped (items_at (measured_at kind width) after_measured count 0) bytes.now) }
 {
     let mut rest = bytes;
     let mut at = 0;
     for _ in 0..count {
-        let (next, after) = skip_value(width, at, rest)?;
+        let (next, after) = skip_value(kind, width, at, rest)?;
         at = next;
         rest = after;
     }
     Ok(rest)
 }
 
-/// The width and the values' bytes, where the bytes are the fields of a frame of values.
-fn fields(bytes: &[u8]) -> Option<(u32, &[u8])>
-    ensures found { IfSome result (λ x. AreFields bytes.now x.0 x.1.now) }
-    ensures all { (v : Values) → IsValues v → bytes.now ≡ word v.width ++ counted value v.values → result ≢ None }
+/// The width and the bytes of the values, where the bytes are the fields of a frame of measures.
+fn fields(kind: ValueKind, bytes: &[u8]) -> Option<(u32, &[u8])>
+    ensures found { IfSome result (λ x. AreFields bytes.now kind x.0 x.1.now) }
+    ensures all { (f : Frame) → IsWell f → (kind_number kind ∷ bytes.now) ≡ body f → result ≢ None }
 {
     let Ok((width, list)) = number(0, 32_769, bytes) else {
         return None;
@@ -106,7 +156,7 @@ fn fields(bytes: &[u8]) -> Option<(u32, &[u8])>
     let Ok((count, values)) = number(0, WORDS, list) else {
         return None;
     };
-    let Ok(rest) = skip_values(width, count, values) else {
+    let Ok(rest) = skip_values(kind, width, count, values) else {
         return None;
     };
     if !rest.is_empty() {
@@ -115,9 +165,10 @@ fn fields(bytes: &[u8]) -> Option<(u32, &[u8])>
     Some((width, values))
 }
 
-/// The next list, written into the row.
-fn read_list<'a>(bytes: &'a [u8], row: &mut [u32]) -> Result<&'a [u8], FieldFault>
-    ensures { Yields (λ x. (row.new, x.now)) result (items_at (λ _. word_at 0) (λ _. 0) (length row.old) 0 bytes.now) }
+/// The next numbers, written into the row.
+fn read_numbers<'a>(bytes: &'a [u8], row: &mut [u32]) -> Result<&'a [u8], FieldFault>
+    ensures read { Yields (λ x. (row.new, x.now)) result (numbers_at (length row.old) bytes.now) }
+    ensures less { IfOk result (λ x. length x.now ≤ length bytes.now) }
 {
     let mut rest = bytes;
     for place in row.iter_mut() {
@@ -128,29 +179,95 @@ fn read_list<'a>(bytes: &'a [u8], row: &mut [u32]) -> Result<&'a [u8], FieldFaul
     Ok(rest)
 }
 
+/// The next pairs, whose numbers are written into the row at their places; at the others it gets 0.
+fn read_places<'a>(
+    width: u32,
+    count: u32,
+    bytes: &'a [u8],
+    row: &mut [u32],
+) -> Result<&'a [u8], FieldFault>
+    requires { length row.old ≡ width }
+    ensures read { Yields (λ x. (row.new, x.now)) result
+        (made (filled width) (items_at (place_at width) (λ p. p.0 + 1) count 0) bytes.now) }
+    ensures less { IfOk result (λ x. length x.now ≤ length bytes.now) }
+{
+    row.fill(0);
+    let mut rest = bytes;
+    let mut at = 0;
+    for _ in 0..count {
+        let (place, n, after) = pair(width, at, rest)?;
+        row[place as usize] = n;
+        at = place as u64 + 1;
+        rest = after;
+    }
+    Ok(rest)
+}
+
+/// The next list, written into the row.
+#[tactic(auto, using(crate::proofs::Skip::pairs_read), unfolding(crate::specs::Mirrors::Skipping::list_at, crate::specs::Mirrors::Reading::counted_at))]
+fn read_list<'a>(
+    kind: ValueKind,
+    width: u32,
+    bytes: &'a [u8],
+    row: &mut [u32],
+) -> Result<&'a [u8], FieldFault>
+    requires { length row.old ≡ width }
+    ensures read { Yields (λ x. (row.new, x.now)) result (list_at kind width bytes.now) }
+    ensures less { IfOk result (λ x. length x.now ≤ length bytes.now) }
+{
+    match kind {
+        ValueKind::Dense => read_numbers(bytes, row),
+        ValueKind::Sparse => {
+            let (count, rest) = number(0, width as u64 + 1, bytes)?;
+            read_places(width, count, rest, row)
+        }
+    }
+}
+
 /// The next vertex, whether its measure is top, and the bytes behind it; else the list is in the row.
-#[tactic(auto, unfolding(crate::specs::Mirrors::Reading::value_at, crate::specs::Mirrors::Reading::tagged_at))]
-fn read_value<'a>(bytes: &'a [u8], row: &mut [u32]) -> Result<(u32, bool, &'a [u8]), FieldFault>
-    ensures read { Yields (λ x. (record { vertex = x.0; list = cond x.1 None (Some row.new) }, x.2.now)) result (value_at (length row.old) 0 bytes.now) }
+#[tactic(auto, unfolding(crate::specs::Mirrors::Skipping::measured_at, crate::specs::Mirrors::Reading::tagged_at))]
+fn read_value<'a>(
+    kind: ValueKind,
+    width: u32,
+    bytes: &'a [u8],
+    row: &mut [u32],
+) -> Result<(u32, bool, &'a [u8]), FieldFault>
+    requires { length row.old ≡ width }
+    ensures read { Yields (λ x. ((x.0, cond x.1 None (Some row.new)), x.2.now)) result
+        (measured_at kind width 0 bytes.now) }
     ensures kept { IfOk result (λ x. x.1 ≡ true → row.new ≡ row.old) }
+    ensures less { IfOk result (λ x. length x.2.now < length bytes.now) }
 {
     let (vertex, rest) = number(0, WORDS, bytes)?;
     let (tag, rest) = tag(rest)?;
     if tag != 0 {
         return Ok((vertex, true, rest));
     }
-    let rest = read_list(rest, row)?;
+    let rest = read_list(kind, width, rest, row)?;
     Ok((vertex, false, rest))
+}
+
+/// The kind of frames of measures that has this number.
+fn kind_of(number: u8) -> Option<ValueKind>
+    ensures found { IfSome result (λ kind. kind_number kind ≡ number) }
+    ensures all { (kind : ValueKind) → kind_number kind ≡ number → result ≢ None }
+{
+    match number {
+        3 => Some(ValueKind::Dense),
+        7 => Some(ValueKind::Sparse),
+        _ => None,
+    }
 }
 
 impl<'a> ValuesReader<'a> {
     ghost use Rattle.pg_wire.specs.Left.{IsLeft, IsNext};
 
-    /// A reader of the values of the frame that the bytes spell, all of them; none where they don't spell a frame
-    /// of values. It takes no memory.
+    /// A reader of the measures of the frame that the bytes spell, all of them; none where they don't spell a frame
+    /// of measures. It takes no memory.
     pub fn open(bytes: &'a [u8]) -> Option<ValuesReader<'a>>
-        ensures found { IfSome result (λ r. (vs : List Value) × Spells (frames.Values (record { width = r.width; values = vs })) bytes.now × IsLeft r vs) }
-        ensures all { (v : Values) → Spells (frames.Values v) bytes.now → result ≢ None }
+        ensures found { IfSome result (λ r. (ms : List Measured) × Spells (frame_of r.kind r.width ms) bytes.now
+            × IsLeft r ms) }
+        ensures all { (f : Frame) → TellsMeasures f → Spells f bytes.now → result ≢ None }
     {
         if bytes.len() < 4 {
             return None;
@@ -161,12 +278,20 @@ impl<'a> ValuesReader<'a> {
             return None;
         }
         match body {
-            [3, rest @ ..] => {
-                let (width, bytes) = fields(rest)?;
-                Some(ValuesReader { width, bytes })
+            [] => None,
+            [number, rest @ ..] => {
+                let kind = kind_of(*number)?;
+                let (width, bytes) = fields(kind, rest)?;
+                Some(ValuesReader { kind, width, bytes })
             }
-            _ => None,
         }
+    }
+
+    /// The kind of the frame.
+    pub fn kind(&self) -> ValueKind
+        ensures { result ≡ self.now.kind }
+    {
+        self.kind
     }
 
     /// The width of the frame, which each list has.
@@ -180,13 +305,14 @@ impl<'a> ValuesReader<'a> {
     /// the width says. None where no value is left; then, and where it is top, the row stays.
     pub fn next(&mut self, row: &mut [u32]) -> Option<(u32, bool)>
         requires { length row.old ≡ self.old.width }
-        ensures of { self.new.width ≡ self.old.width }
-        ensures next { (vs : List Value) → IsLeft self.old vs → IsNext vs self.new row.old row.new result }
+        ensures of { (self.new.kind ≡ self.old.kind) × (self.new.width ≡ self.old.width) }
+        ensures less { IfSome result (λ x. length self.new.bytes.now < length self.old.bytes.now) }
+        ensures next { (ms : List Measured) → IsLeft self.old ms → IsNext ms self.new row.old row.new result }
     {
         if self.bytes.is_empty() {
             return None;
         }
-        let Ok((vertex, is_top, rest)) = read_value(self.bytes, row) else {
+        let Ok((vertex, is_top, rest)) = read_value(self.kind, self.width, self.bytes, row) else {
             return None;
         };
         self.bytes = rest;

@@ -81,6 +81,41 @@ fn reads_one_value_after_the_other(rt: HostRuntime) -> Result<(), Fail> {
     Ok(())
 }
 
+#[test]
+fn reads_one_sparse_value_after_the_other(rt: HostRuntime) -> Result<(), Fail> {
+    let text = "0000001f 07 00000002 00000002 00000000 00 00000001 00000001 00000001 00000001 01";
+    let bytes = bytes_of(rt.alloc(), text)?;
+    let Some(mut values) = ValuesReader::open(bytes.as_slice()) else {
+        return Err(Fail::from("no frame of values"));
+    };
+    let mut row = [7, 7];
+    assert_eq!(rt; values.kind(), ValueKind::Sparse);
+    assert_eq!(rt; values.width(), 2);
+    assert_eq!(rt; values.next(&mut row), Some((0, false)));
+    assert_eq!(rt; row, [0, 1]);
+    assert_eq!(rt; values.next(&mut row), Some((1, true)));
+    assert_eq!(rt; row, [0, 1]);
+    assert_eq!(rt; values.next(&mut row), None);
+    assert!(rt; ValuesReader::open(&bytes.as_slice()[..30]).is_none());
+    Ok(())
+}
+
+/// The same frame with the number 0 in its pair, with place 2, and with two pairs of place 1; and a frame of another kind.
+#[test]
+fn opens_no_frame_that_is_refused(rt: HostRuntime) -> Result<(), Fail> {
+    let texts = [
+        "0000001f 07 00000002 00000002 00000000 00 00000001 00000001 00000000 00000001 01",
+        "0000001f 07 00000002 00000002 00000000 00 00000001 00000002 00000001 00000001 01",
+        "00000027 07 00000002 00000002 00000000 00 00000002 00000001 00000001 00000001 00000001 00000001 01",
+        "00000005 04 00001000",
+    ];
+    for text in texts {
+        let bytes = bytes_of(rt.alloc(), text)?;
+        assert!(rt; ValuesReader::open(bytes.as_slice()).is_none(), "{text}");
+    }
+    Ok(())
+}
+
 /// 127 lists of 32,767 numbers, of 131,073 bytes each, leave room for 130,936 bytes.
 #[test]
 fn writes_until_the_frame_is_full(rt: HostRuntime) -> Result<(), Fail> {

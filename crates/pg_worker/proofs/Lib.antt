@@ -1,13 +1,13 @@
 pub mod Stacks
 pub mod Parts
 pub mod Runs
-pub mod Filling
 pub mod Working
 pub mod Steps
 pub mod Keeping
 pub mod Linking
 pub mod Packing
 pub mod Joining
+pub mod Taking
 pub mod Listed
 pub mod Exchanging
 pub mod Ranges

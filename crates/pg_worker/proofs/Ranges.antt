@@ -1,17 +1,14 @@
 -- What is told of a game is within the ranges of frames.
-use Rattle.std.proofs.Common.{◌≡◌, ℕ, ◌+◌, ◌*◌, ◌%◌, ◌^◌, ◌<◌, ◌≤◌, List, length, get_or, refl, ap, sym, arith, subst, ◌⊎◌, inl, inr}
-use Rattle.std.specs.Prelude.{All, AllPairs, Contains, ◌==◌}
+use Rattle.std.proofs.Common.{◌≡◌, ℕ, ◌^◌, ◌<◌, ◌≤◌, List, length, get_or, sym, arith, subst}
+use Rattle.std.specs.Prelude.{All, AllPairs, ◌==◌}
 use Rattle.std.proofs.lemmas.List.Sums.{get_or-le-sum_by, count_by-le-length}
-use Rattle.std.proofs.lemmas.List.Elements.{Contains-get_or, All-get_or}
+use Rattle.std.proofs.lemmas.List.Elements.{Contains-get_or}
 use Rattle.std.proofs.lemmas.List.Kept.{AllPairs-from_increasing}
-use Rattle.pg_arena.specs.declared.player.Player.{Player}
-use Rattle.pg_arena.specs.Games.{GameVertex, IsGame, IsWithinLimits, HasPrioritiesUpTo, nowhere, vertex_at, priority, successors}
+use Rattle.pg_arena.specs.Games.{GameVertex, IsGame, IsWithinLimits, HasPrioritiesUpTo, nowhere, priority, successors}
 use Rattle.pg_measure.specs.Measures.{BoundList}
 use Rattle.pg_measure.specs.Games.{IsBoundsOf}
 use Rattle.pg_measure.specs.Laws.{BoundsAreFew}
-use Rattle.pg_wire.specs.Well.{IsWord, IsBound, AreBounds, IsSetup, IsVertexLine}
-use Rattle.pg_wire.specs.declared.frame.Setup.{Setup}
-use Rattle.pg_wire.specs.declared.frame.VertexLine.{VertexLine}
+use Rattle.pg_wire.specs.Well.{IsWord, IsBound, IsSetup, IsVertexLine}
 
 pub vertex_line_is_well : (game : List GameVertex) (v p o : ℕ) (ss : List ℕ) → IsGame game → IsWithinLimits game → HasPrioritiesUpTo 65536 game → v < length game → p ≡ priority game v → o ≤ 1 → ss ≡ successors game v → IsVertexLine (record { vertex = v; priority = p; owner = o; successors = ss })
 vertex_line_is_well game v p o ss g within top l pe ob se = record {

@@ -1,6 +1,5 @@
 -- What is told after lifts is at most every closed map that the worker is under.
-use Rattle.std.proofs.Common.{◌≡◌, ℕ, ◌<◌, List, length, map, get_or, sym, subst, Option, arith}
-use Rattle.std.specs.Prelude.{All}
+use Rattle.std.proofs.Common.{ℕ, ◌<◌, List, length, map, get_or, sym, subst, arith}
 use Rattle.std.proofs.lemmas.List.{get_or-map, length-map}
 use Rattle.pg_measure.specs.Measures.{MeasureValue, AtMost}
 use Rattle.pg_map.specs.Maps.{measure_at, MapAtMost}

@@ -7,3 +7,4 @@ pub mod Insides
 pub mod Replies
 pub mod Joins
 pub mod Steps
+pub mod Faults

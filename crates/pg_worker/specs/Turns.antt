@@ -1,22 +1,22 @@
 -- The turns of a session: what it holds, what it answers to a frame, and when it refuses one.
-use Rattle.std.specs.Prelude.{◌≡◌, ◌≢◌, ℕ, ◌<◌, ◌≤◌, ◌==◌, ◌⊎◌, Bool, true, false, List, [], ◌∷◌, ◌++◌, length, map, take, All, Option, Some, None, if◌then◌else◌}
+use Rattle.std.specs.Prelude.{◌≡◌, ◌≢◌, ℕ, ◌<◌, ◌≤◌, ◌==◌, ◌⊎◌, ◌↔◌, IsTrue, Bool, true, false, List, [], ◌∷◌, ◌++◌, length, map, take, All, Option, Some, None, if◌then◌else◌}
 use Rattle.std.specs.List.{flat_map}
 use Rattle.pg_measure.specs.Measures.{MeasureValue, AtMost}
 use Rattle.pg_map.specs.Maps.{measure_at, MapAtMost}
-use Rattle.pg_wire.specs.declared.fault.WireFault.TheVariants.{Version}
+use Rattle.pg_wire.specs.declared.fault.WireFault.{WireFault}
+use Rattle.pg_wire.specs.declared.fault.WireFault.TheVariants.{Version, TooLong, Truncated}
 use Rattle.pg_wire.specs.declared.frame.Setup.{Setup}
 use Rattle.pg_wire.specs.declared.frame.VertexLine.{VertexLine}
-use Rattle.pg_wire.specs.declared.frame.Value.{Value}
-use Rattle.pg_wire.specs.declared.frame.SparseValue.{SparseValue}
 use Rattle.pg_wire.specs.declared.frame.Frame.{Frame}
 use Rattle.pg_wire.specs.declared.frame.Frame.TheVariants as frames
 use Rattle.pg_wire.specs.declared.kind.ValueKind.{ValueKind}
 use Rattle.pg_wire.specs.declared.kind.ValueKind.TheVariants.{Dense, Sparse}
 use Rattle.pg_wire.specs.Spelling.{body, spelling, longest}
-use Rattle.pg_wire.specs.Measured.{Measured, frame_of}
+use Rattle.pg_wire.specs.Bytes.{Spells, IsTooLong, IsTruncated}
+use Rattle.pg_wire.specs.Measured.{Measured, told_values, told_sparse, frame_of}
 use Rattle.pg_worker.specs.declared.fault.WorkerFault.{WorkerFault}
 use Rattle.pg_worker.specs.declared.fault.WorkerFault.TheVariants.{BadUpdate, Order, Wire}
-use Rattle.pg_worker.specs.Workers.{WorkerValue, new_worker, with_lines, AreAbove, FitsGame, RefusesLines, CanTake, IsListedTurn, sparse_measure}
+use Rattle.pg_worker.specs.Workers.{WorkerValue, new_worker, with_lines, AreAbove, FitsGame, RefusesLines, CanTake, IsListedTurn}
 
 -- what a session holds from a set-up on: the kind of frames in which values go, whether values or a Go came, and its worker
 pub record HeldValue : Type 0 where
@@ -40,13 +40,6 @@ abbrev pub started : HeldValue → WorkerValue → HeldValue
 started h w = record { kind = h.kind; is_started = true; worker = w }
 
 -- ---- values that are sent
-
--- the measures that values tell
-abbrev pub told_values : List Value → List Measured
-told_values vs = map (λ v. (v.vertex, v.list)) vs
-
-abbrev pub told_sparse : ℕ → List SparseValue → List Measured
-told_sparse width vs = map (λ v. (v.vertex, sparse_measure width v.pairs)) vs
 
 -- each measure is of a vertex below the count, and fits the bounds
 abbrev pub CanTakeAll : WorkerValue → List Measured → Type 0
@@ -159,3 +152,25 @@ Refuses highest (Some h) (frames.Values v) why = RefusesValues h Dense v.width (
 Refuses highest (Some h) (frames.Sparse v) why = RefusesValues h Sparse v.width (told_sparse v.width v.values) why
 Refuses highest (Some h) (frames.Go g) why = ⊥
 Refuses highest (Some h) (frames.Report r) why = why ≡ Order
+
+-- ---- turns of bytes
+
+-- one turn of the frame that the bytes spell, which halts or not
+pub record DoesTurn (highest : ℕ) (before : Option HeldValue) (bytes : List ℕ) (after : Option HeldValue) (halts : Bool) (reply : List ℕ) : Type 0 where
+  pub frame : Frame
+  pub spells : Spells frame bytes
+  pub version : IsUpTo highest frame
+  pub halt : IsTrue halts ↔ (frame ≡ frames.Halt)
+  pub turn : Turn before frame after reply
+
+-- why bytes that spell no frame are refused
+pub record SpellsNone (bytes : List ℕ) (why : WorkerFault) : Type 0 where
+  pub fault : WireFault
+  pub why_is : why ≡ Wire fault
+  pub none : (f : Frame) → ¬ (Spells f bytes)
+  pub too_long : (fault ≡ TooLong) ↔ IsTooLong bytes
+  pub truncated : (fault ≡ Truncated) ↔ IsTruncated bytes
+
+-- why a session refuses bytes, want of memory aside
+abbrev pub RefusesBytes : ℕ → Option HeldValue → List ℕ → WorkerFault → Type 0
+RefusesBytes highest before bytes why = SpellsNone bytes why ⊎ ((f : Frame) × Spells f bytes × Refuses highest before f why)

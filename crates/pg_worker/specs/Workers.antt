@@ -1,7 +1,7 @@
 -- Workers: the part that one holds, its map, and what its calls make of them.
 use Rattle.std.proofs.Common.{zero, suc}
-use Rattle.std.specs.Prelude.{◌≡◌, ℕ, ◌%◌, ◌<◌, ◌≤◌, Bool, false, List, [], ◌∷◌, length, replicate, map, All, AllPairs, Any, Option, Some, None, IsSome, MatchBool, slice_index_or, slice_set, ◌==◌, if◌then◌else◌}
-use Rattle.std.specs.List.{Contains, range_with_len}
+use Rattle.std.specs.Prelude.{◌≡◌, ℕ, ◌%◌, ◌<◌, ◌≤◌, Bool, false, List, [], ◌∷◌, length, replicate, All, AllPairs, Any, Option, Some, None, IsSome, MatchBool, slice_index_or, slice_set, option_map}
+use Rattle.std.specs.List.{Contains}
 use Rattle.pg_arena.specs.declared.player.Player.{Player}
 use Rattle.pg_arena.specs.declared.player.Player.TheVariants.{Even, Odd}
 use Rattle.pg_measure.specs.Measures.{BoundList, MeasureValue, owned, Fits, AtMost, IsBelow}
@@ -9,6 +9,7 @@ use Rattle.pg_map.specs.Lines.{Line, AreWithin, line_of}
 use Rattle.pg_map.specs.Maps.{measure_at, IsMap, zero_map, update_map, IsClosed, IsJoin, IsLifted, StaysUnder}
 use Rattle.pg_map.specs.declared.update.Update.{Update}
 use Rattle.pg_wire.specs.declared.frame.VertexLine.{VertexLine}
+use Rattle.pg_wire.specs.Measured.{filled}
 use Rattle.pg_worker.specs.declared.fault.WorkerFault.{WorkerFault}
 use Rattle.pg_worker.specs.declared.fault.WorkerFault.TheVariants.{OutOfMemory, NotMine, BadUpdate, Order, Wire}
 
@@ -131,12 +132,6 @@ pub record IsListedTurn (old new : WorkerValue) (budget : ℕ) (quiet : Bool) : 
   pub lifted : AreVerticesOf updates new.lifted
   pub kept : new.kept ≡ old.kept
 
--- the number of the pair of this place, or 0
-abbrev pub number_at : List (ℕ × ℕ) → ℕ → ℕ
-number_at [] k = 0
-number_at (p ∷ ps) k = if p.0 == k then p.1 else number_at ps k
-
 -- a measure by the components that aren't 0; no pairs is top
 abbrev pub sparse_measure : ℕ → Option (List (ℕ × ℕ)) → MeasureValue
-sparse_measure width None = None
-sparse_measure width (Some ps) = Some (map (number_at ps) (range_with_len 0 width))
+sparse_measure width pairs = option_map (filled width) pairs

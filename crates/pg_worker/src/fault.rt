@@ -3,6 +3,7 @@
 ghost use Rattle.std.specs.Prelude.{◌≡◌};
 ghost use Rattle.pg_worker.specs.declared.fault.WorkerFault.TheVariants.{OutOfMemory, Wire};
 ghost use Rattle.pg_worker.specs.Faults.{code_of};
+ghost use Rattle.pg_worker.specs.Mirrors.Faults.{own_fault};
 
 use pg_wire::WireFault;
 use std::alloc::{AllocError, AllocFailed};
@@ -41,6 +42,16 @@ impl WorkerFault {
             WorkerFault::Order => 4,
             WorkerFault::Wire(fault) => 10 + fault.number(),
         }
+    }
+}
+
+/// A fault of a frame as one of a worker: want of memory is the worker's own.
+pub(crate) fn own(fault: WireFault) -> WorkerFault
+    ensures { result ≡ own_fault fault }
+{
+    match fault {
+        WireFault::OutOfMemory => WorkerFault::OutOfMemory,
+        _ => WorkerFault::Wire(fault),
     }
 }
 

@@ -10,15 +10,17 @@ pub struct Held {
     pub kind: ValueKind,
     pub is_started: bool,
     pub worker: Worker,
+    /// A place for each component of a measure.
+    pub row: Vec<u32>,
 }
 
 impl Model for Held {
-    ghost use Rattle.std.specs.Prelude.{◌≤◌, length};
+    ghost use Rattle.std.specs.Prelude.{◌≡◌, ◌≤◌, length};
     ghost use Rattle.pg_worker.specs.Turns.{HeldValue};
 
     ghost Value = { HeldValue };
 
     ghost view = { λ h. record { kind = h.kind; is_started = h.is_started; worker = h.worker } };
 
-    ghost invariant = { λ h. length h.worker.bounds ≤ 32768 };
+    ghost invariant = { λ h. (length h.worker.bounds ≤ 32768) × (length h.row.items ≡ length h.worker.bounds) };
 }

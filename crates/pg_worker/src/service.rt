@@ -7,24 +7,16 @@ ghost use Rattle.pg_worker.specs.declared.fault.WorkerFault.TheVariants.{Wire};
 ghost use Rattle.pg_worker.specs.Faults.{code_of};
 ghost use Rattle.pg_worker.specs.Turns.{report};
 ghost use Rattle.pg_worker.specs.Serving.{Serves, Breaks, told, IsFaultAt};
-ghost use Rattle.pg_worker.specs.Mirrors.Steps.{own_fault, IsStep};
+ghost use Rattle.pg_worker.specs.Mirrors.Steps.{IsStep};
 
 use crate::WorkerFault;
+use crate::fault::own;
 use crate::served::Served;
 use crate::session::Session;
 use crate::step::Step;
 use pg_wire::{Frame, Report, WireFault, read_frame, write_frame};
 use std::alloc::Global;
 use std::io::{Read, Write};
-
-fn own(fault: WireFault) -> WorkerFault
-    ensures { result ≡ own_fault fault }
-{
-    match fault {
-        WireFault::OutOfMemory => WorkerFault::OutOfMemory,
-        _ => WorkerFault::Wire(fault),
-    }
-}
 
 /// Reads one frame, if there is one, and writes the reply to it.
 fn step<R: Read, W: Write>(

@@ -3,11 +3,11 @@
 ghost use Rattle.std.specs.Prelude.{◌≡◌, ◌↔◌, ℕ, ◌++◌, ◌⊎◌, List, None, IsTrue, IfOk, IfErr, OnOk, OnErr};
 ghost use Rattle.pg_wire.specs.Well.{IsWell};
 ghost use Rattle.pg_wire.specs.declared.frame.Frame.TheVariants.{Halt};
-ghost use Rattle.pg_worker.specs.Turns.{Turn, IsUpTo, Refuses};
+ghost use Rattle.pg_worker.specs.Turns.{Turn, IsUpTo, Refuses, DoesTurn, RefusesBytes};
 
 use crate::WorkerFault;
 use crate::held::Held;
-use crate::turn::turn;
+use crate::turn::{turn, turn_of};
 use pg_wire::Frame;
 use std::alloc::Global;
 
@@ -72,6 +72,35 @@ impl Session {
             }
             Err(fault) => {
                 out.truncate(len);
+                Err(fault)
+            }
+        }
+    }
+
+    /// As `frame`, for the frame that the bytes spell, all of them. Measures are read from the bytes, one after the other and
+    /// without memory.
+    ///
+    /// Faults: those of `frame`, and `Wire` with the fault of `decode` where the bytes spell no frame. After a fault `out` is as
+    /// before, and the session holds nothing.
+    pub fn frame_from(&mut self, bytes: &[u8], out: &mut Vec<u8>) -> Result<bool, WorkerFault>
+        ensures highest { self.new.highest ≡ self.old.highest }
+        ensures turn { IfOk result (λ halts. (reply : List ℕ)
+            × DoesTurn self.old.highest self.old.held bytes.now self.new.held halts reply
+            × (out.new.items ≡ out.old.items ++ reply)) }
+        ensures refused { IfErr result (λ e. (e ≡ WorkerFault.OutOfMemory)
+            ⊎ RefusesBytes self.old.highest self.old.held bytes.now e) }
+        ensures same { OnErr result (out.new.items ≡ out.old.items) }
+        ensures empty { OnErr result (self.new.held ≡ None) }
+    {
+        let held = self.held.take();
+        let before = out.len();
+        match turn_of(self.alloc, self.highest, held, bytes, out) {
+            Ok((held, halts)) => {
+                self.held = held;
+                Ok(halts)
+            }
+            Err(fault) => {
+                out.truncate(before);
                 Err(fault)
             }
         }

@@ -5,13 +5,16 @@ ghost use Rattle.pg_wire.specs.Well.{IsWell, IsSetup, IsVertices, IsSparse};
 ghost use Rattle.pg_wire.specs.declared.kind.ValueKind.TheVariants.{Dense, Sparse};
 ghost use Rattle.pg_wire.specs.declared.frame.Frame.TheVariants as frames;
 ghost use Rattle.pg_wire.specs.Mirrors.Buffers.{Extends};
-ghost use Rattle.pg_worker.specs.Turns.{Turn, IsUpTo, Refuses, TakesValues, RefusesValues, LiftsAndTells, fresh, greeting, told_values, told_sparse};
+ghost use Rattle.pg_worker.specs.Turns.{Turn, IsUpTo, Refuses, TakesValues, RefusesValues, LiftsAndTells, fresh, greeting, DoesTurn, RefusesBytes};
+ghost use Rattle.pg_wire.specs.Left.{IsLeft};
+ghost use Rattle.pg_wire.specs.Measured.{Measured, told_values, told_sparse};
 
+use crate::fault::own;
 use crate::held::Held;
-use crate::joins::{join_sparse, join_values};
+use crate::joins::{join_read, join_sparse, join_values};
 use crate::reply::{put_lifted, put_report};
 use crate::{Worker, WorkerFault};
-use pg_wire::{Frame, Setup, ValueKind, Values, Vertices, WireFault};
+use pg_wire::{Frame, Setup, ValueKind, Values, ValuesReader, Vertices, WireFault, decode};
 use std::alloc::Global;
 
 fn set_up(alloc: Global, highest: u8, setup: &Setup, out: &mut Vec<u8>) -> Result<Held, WorkerFault>
@@ -27,6 +30,7 @@ fn set_up(alloc: Global, highest: u8, setup: &Setup, out: &mut Vec<u8>) -> Resul
         return Err(WorkerFault::Wire(WireFault::Version));
     }
     let worker = Worker::new(alloc, setup)?;
+    let row = vec![in alloc; 0; setup.bounds.as_slice().len()]?;
     let kind = if setup.version == 2 {
         put_report(1, 0, out)?;
         ValueKind::Sparse
@@ -37,6 +41,7 @@ fn set_up(alloc: Global, highest: u8, setup: &Setup, out: &mut Vec<u8>) -> Resul
         kind,
         is_started: false,
         worker,
+        row,
     })
 }
 
@@ -83,6 +88,24 @@ fn take_sparse(mut held: Held, frame: &pg_wire::Sparse) -> Result<Held, WorkerFa
         return Err(WorkerFault::BadUpdate);
     }
     join_sparse(&mut held.worker, frame.values.as_slice())?;
+    held.is_started = true;
+    Ok(held)
+}
+
+/// As `take_values` and `take_sparse`, of the measures that are left of a frame.
+fn take_read(mut held: Held, values: ValuesReader) -> Result<Held, WorkerFault>
+    ensures turn { (ms : List Measured) → IsLeft values.entry ms
+        → IfOk result (λ after. TakesValues held values.entry.kind values.entry.width ms (Some after)) }
+    ensures refused { (ms : List Measured) → IsLeft values.entry ms
+        → IfErr result (λ e. RefusesValues held values.entry.kind values.entry.width ms e) }
+{
+    if held.kind != values.kind() {
+        return Err(WorkerFault::Order);
+    }
+    if held.worker.bounds().pairs().len() != values.width() as usize {
+        return Err(WorkerFault::BadUpdate);
+    }
+    join_read(&mut held.worker, values, &mut held.row)?;
     held.is_started = true;
     Ok(held)
 }
@@ -137,4 +160,30 @@ pub fn turn(
         }
         Frame::Report(_) => Err(WorkerFault::Order),
     }
+}
+
+/// What is held after the frame that the bytes spell, and whether that is Halt; the reply is appended. Measures are read from
+/// the bytes, one after the other. After a fault some of the reply may stand in `out`.
+pub fn turn_of(
+    alloc: Global,
+    highest: u8,
+    held: Option<Held>,
+    bytes: &[u8],
+    out: &mut Vec<u8>,
+) -> Result<(Option<Held>, bool), WorkerFault>
+    ensures turn { IfOk result (λ x. (reply : List ℕ) × DoesTurn highest held bytes.now x.0 x.1 reply
+        × (out.new.items ≡ out.old.items ++ reply)) }
+    ensures refused { IfErr result (λ e. (e ≡ WorkerFault.OutOfMemory) ⊎ RefusesBytes highest held bytes.now e) }
+    ensures kept { Extends out.old.items out.new.items }
+{
+    if let Some(values) = ValuesReader::open(bytes) {
+        let held = held.ok_or(WorkerFault::Order)?;
+        return Ok((Some(take_read(held, values)?), false));
+    }
+    let frame = match decode(alloc, bytes) {
+        Ok(frame) => frame,
+        Err(fault) => return Err(own(fault)),
+    };
+    let halts = matches!(frame, Frame::Halt);
+    Ok((turn(alloc, highest, held, &frame, out)?, halts))
 }

@@ -1,21 +1,12 @@
 -- One step of serving.
 use Rattle.std.specs.Prelude.{◌≡◌, ◌≢◌, ℕ, List, Option}
 use Rattle.std.specs.Io.KnownBytes.{Consumes, Appends, IsAtEnd}
-use Rattle.pg_wire.specs.declared.fault.WireFault.{WireFault}
-use Rattle.pg_wire.specs.declared.fault.WireFault.TheVariants as wire
 use Rattle.pg_wire.specs.declared.frame.Frame.{Frame}
 use Rattle.pg_wire.specs.declared.frame.Frame.TheVariants as frames
 use Rattle.pg_wire.specs.Spelling.{spelling}
-use Rattle.pg_worker.specs.declared.fault.WorkerFault.{WorkerFault}
-use Rattle.pg_worker.specs.declared.fault.WorkerFault.TheVariants.{OutOfMemory, Wire}
 use Rattle.pg_worker.specs.declared.step.Step.{Step}
 use Rattle.pg_worker.specs.declared.step.Step.TheVariants as steps
 use Rattle.pg_worker.specs.Turns.{HeldValue, Turn}
-
--- want of memory is the worker's own
-abbrev pub own_fault : WireFault → WorkerFault
-own_fault wire.OutOfMemory = OutOfMemory
-own_fault f = Wire f
 
 -- a frame was read and answered
 pub record Answers (f : Frame) (held held' : Option HeldValue) (input input' output output' : Option (List ℕ)) : Type 0 where

@@ -5,9 +5,9 @@ use Rattle.std.proofs.lemmas.List.Elements.{All-push}
 use Rattle.std.proofs.lemmas.Result.{err_from_is_err_and}
 use Rattle.pg_measure.specs.Measures.{BoundList}
 use Rattle.pg_wire.specs.declared.frame.SparseValue.{SparseValue}
-use Rattle.pg_wire.specs.Measured.{Measured}
+use Rattle.pg_wire.specs.Measured.{Measured, told_sparse}
 use Rattle.pg_worker.specs.Workers.{WorkerValue, CanTake, Takes, sparse_measure}
-use Rattle.pg_worker.specs.Turns.{CanTakeAll, told_sparse}
+use Rattle.pg_worker.specs.Turns.{CanTakeAll}
 use Rattle.pg_worker.proofs.Joining.{all_none, all_at, told_more, all_joined_none, all_joined_more, can_take_same, can_take_back}
 use Rattle.pg_worker.proofs.joins.join_sparse.Goals as goal
 

@@ -1,5 +1,6 @@
 use Rattle.std.proofs.Common.{take, length}
-use Rattle.pg_worker.specs.Turns.{CanTakeAll, told_sparse}
+use Rattle.pg_wire.specs.Measured.{told_sparse}
+use Rattle.pg_worker.specs.Turns.{CanTakeAll}
 use Rattle.pg_worker.specs.Mirrors.Joins.{JoinsAll}
 use Rattle.pg_worker.proofs.joins.join_sparse.Given as goal
 

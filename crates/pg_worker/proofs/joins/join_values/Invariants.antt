@@ -1,5 +1,6 @@
 use Rattle.std.proofs.Common.{take}
-use Rattle.pg_worker.specs.Turns.{CanTakeAll, told_values}
+use Rattle.pg_wire.specs.Measured.{told_values}
+use Rattle.pg_worker.specs.Turns.{CanTakeAll}
 use Rattle.pg_worker.specs.Mirrors.Joins.{JoinsAll}
 use Rattle.pg_worker.proofs.joins.join_values.Given as goal
 

@@ -2,8 +2,8 @@ use Rattle.std.proofs.Common.{◌≡◌, ◌≢◌, ◌<◌, ◌∙◌, ℕ, len
 use Rattle.std.proofs.lemmas.List.{get_or_default, get_or-replicate, get_or-take, length-set, length-take, take_all}
 use Rattle.std.proofs.lemmas.List.FromFn.{fill_by_all}
 use Rattle.std.proofs.lemmas.Grind.{take_at_read}
-use Rattle.pg_worker.specs.Workers.{number_at}
-use Rattle.pg_worker.proofs.Filling.{filled_more}
+use Rattle.pg_wire.specs.Measured.{component_in}
+use Rattle.pg_wire.proofs.Filling.{filled_more}
 use Rattle.pg_worker.proofs.sparse.fill.Goals as goal
 
 pub loop-place-init : goal.loop-place-init
@@ -31,4 +31,4 @@ pub returns : goal.returns
 returns c =
     let xs = c.args.pairs.now in
     let all : take c.loop-place.place-index xs ≡ xs = take_all c.loop-place.place-index xs c.loop-place-test.false in
-    fill_by_all (number_at xs) c.loop-place.row (length c.args.row.now) 0 c.loop-place.auto.row (λ k lt. rw all at (c.loop-place.invariant k (let z = c.loop-place.auto.row in omega arith)))
+    fill_by_all (component_in xs) c.loop-place.row (length c.args.row.now) 0 c.loop-place.auto.row (λ k lt. rw all at (c.loop-place.invariant k (let z = c.loop-place.auto.row in omega arith)))

@@ -1,0 +1,165 @@
+-- Measures that are read from a frame and joined, and the turns that they make.
+use Rattle.std.proofs.Common.{◌≡◌, ◌≢◌, ℕ, suc, ◌++◌, ◌↔◌, ◌⊎◌, IsTrue, Bool, false, cond, List, [], ◌∷◌, Option, Some, None, Result, Ok, Err, refl, sym, ap, subst, ◌∙◌, append_assoc, inl, inr, arith}
+use Rattle.std.specs.Prelude.{All}
+use Rattle.std.proofs.lemmas.List.{append-nil}
+use Rattle.std.proofs.lemmas.List.Elements.{All-push}
+use Rattle.pg_wire.specs.declared.reader.ValuesReader.{ValuesReader}
+use Rattle.pg_wire.specs.declared.kind.ValueKind.{ValueKind}
+use Rattle.pg_wire.specs.declared.kind.ValueKind.TheVariants.{Dense, Sparse}
+use Rattle.pg_wire.specs.declared.frame.Frame.TheVariants as frames
+use Rattle.pg_wire.specs.declared.fault.WireFault.{WireFault}
+use Rattle.pg_wire.specs.declared.fault.WireFault.TheVariants as wire
+use Rattle.pg_wire.specs.declared.frame.Frame.{Frame}
+use Rattle.pg_wire.specs.Bytes.{Spells, IsTooLong, IsTruncated}
+use Rattle.pg_wire.specs.Left.{IsLeft, IsNext, row_of, is_top}
+use Rattle.pg_wire.specs.Measured.{Measured, IsMeasured, frame_of}
+use Rattle.pg_wire.proofs.Tells.{dense_told, sparse_told}
+use Rattle.pg_measure.specs.Measures.{MeasureValue}
+use Rattle.pg_worker.specs.declared.fault.WorkerFault.{WorkerFault}
+use Rattle.pg_worker.specs.declared.fault.WorkerFault.TheVariants.{OutOfMemory, Wire}
+use Rattle.pg_worker.specs.Workers.{WorkerValue, CanTake, Takes}
+use Rattle.pg_worker.specs.Turns.{HeldValue, CanTakeAll, TakesValues, RefusesValues, Turn, IsUpTo, Refuses, DoesTurn, RefusesBytes}
+use Rattle.pg_worker.specs.Mirrors.Faults.{own_fault}
+use Rattle.pg_worker.specs.Mirrors.Joins.{JoinsAll}
+use Rattle.pg_worker.proofs.Joining.{all_none, all_joined_none, all_joined_more, can_take_same, can_take_back}
+
+-- of these measures some were joined, and the others are left
+pub record Joined (w : WorkerValue) (ms : List Measured) (u : WorkerValue) (r : ValuesReader) : Type 0 where
+  pub front : List Measured
+  pub back : List Measured
+  pub parts : ms ≡ front ++ back
+  pub left : IsLeft r back
+  pub joins : JoinsAll w front u
+  pub fit : CanTakeAll w front
+
+pub joined_none : (w : WorkerValue) (ms : List Measured) (r : ValuesReader) → IsLeft r ms → Joined w ms w r
+joined_none w ms r h = record { front = []; back = ms; parts = refl; left = h; joins = all_joined_none w; fit = all_none (λ m. CanTake w m.0 m.1) }
+
+-- the measure that a row has
+abbrev pub in_row : Bool → List ℕ → MeasureValue
+in_row top row = cond top None (Some row)
+
+measure_is : (o : MeasureValue) (top : Bool) (row row' : List ℕ) → top ≡ is_top o → row' ≡ row_of o row → in_row top row' ≡ o
+measure_is None top row row' t r = rw t refl
+measure_is (Some list) top row row' t r = rw t (ap (λ (ns : List ℕ). Some ns) r)
+
+-- the measure that was read is the first of those that were left
+record First (back : List Measured) (r : ValuesReader) (n : ℕ) (m : MeasureValue) : Type 0 where
+  rest : List Measured
+  parts : back ≡ (n, m) ∷ rest
+  left : IsLeft r rest
+
+some_is : {A : Type 0} (x y : A) → Some x ≡ Some y → x ≡ y
+some_is x y e = cc
+
+first_is : (back : List Measured) (r : ValuesReader) (row row' : List ℕ) (n : ℕ) (top : Bool) → IsNext back r row row' (Some (n, top)) → First back r n (in_row top row')
+first_is [] r row row' n top h = absurd cc
+first_is (m ∷ ms) r row row' n top h =
+    let read : ℕ × Bool = (n, top) in
+    let told : ℕ × Bool = (m.0, is_top m.1) in
+    let same = some_is read told h.0 in
+    let number : n ≡ m.0 = ap (λ (x : ℕ × Bool). x.0) same in
+    let tag : top ≡ is_top m.1 = ap (λ (x : ℕ × Bool). x.1) same in
+    let measure : in_row top row' ≡ m.1 = measure_is m.1 top row row' tag h.1 in
+    record { rest = ms; parts = ap (λ (k : ℕ). (k, m.1) ∷ ms) (sym number) ∙ ap (λ (o : MeasureValue). (n, o) ∷ ms) (sym measure); left = h.2 }
+
+pub joined_more : (w : WorkerValue) (ms : List Measured) (u u' : WorkerValue) (r r' : ValuesReader) (row row' : List ℕ) (n : ℕ) (top rose : Bool) → ((back : List Measured) → IsLeft r back → IsNext back r' row row' (Some (n, top)))
+    → CanTake u n (in_row top row') → Takes u u' n (in_row top row') rose → Joined w ms u r → Joined w ms u' r'
+joined_more w ms u u' r r' row row' n top rose next can takes j =
+    let f = first_is j.back r' row row' n top (next j.back j.left) in
+    let m : Measured = (n, in_row top row') in
+    record {
+      front = j.front ++ m ∷ [];
+      back = f.rest;
+      parts = j.parts ∙ ap (λ (ns : List Measured). j.front ++ ns) f.parts ∙ sym (append_assoc j.front (m ∷ []) f.rest);
+      left = f.left;
+      joins = all_joined_more w u u' j.front n (in_row top row') rose j.joins can takes;
+      fit = All-push (λ (k : Measured). CanTake w k.0 k.1) j.front m j.fit (can_take_back w u j.front n (in_row top row') j.joins can);
+    }
+
+none_left : (back : List Measured) (r : ValuesReader) (row row' : List ℕ) → IsNext back r row row' None → back ≡ []
+none_left [] r row row' h = refl
+none_left (m ∷ ms) r row row' h = absurd cc
+
+pub joined_all : (w : WorkerValue) (ms : List Measured) (u : WorkerValue) (r r' : ValuesReader) (row row' : List ℕ) → ((back : List Measured) → IsLeft r back → IsNext back r' row row' None) → Joined w ms u r → JoinsAll w ms u × CanTakeAll w ms
+joined_all w ms u r r' row row' next j =
+    let none : j.back ≡ [] = none_left j.back r' row row' (next j.back j.left) in
+    let all : j.front ≡ ms = sym (j.parts ∙ ap (λ (ns : List Measured). j.front ++ ns) none ∙ append-nil j.front) in
+    (subst (λ (ns : List Measured). JoinsAll w ns u) all j.joins, subst (CanTakeAll w) all j.fit)
+
+all_mid : (P : Measured → Type 0) (front : List Measured) (m : Measured) (rest : List Measured) → All P (front ++ m ∷ rest) → P m
+all_mid P [] m rest h = h 0 m (omega arith)
+all_mid P (x ∷ front) m rest h = all_mid P front m rest (λ i d lt. h (suc i) d (omega arith))
+
+pub joined_not : (w : WorkerValue) (ms : List Measured) (u : WorkerValue) (r r' : ValuesReader) (row row' : List ℕ) (n : ℕ) (top : Bool) → ((back : List Measured) → IsLeft r back → IsNext back r' row row' (Some (n, top)))
+    → (CanTake u n (in_row top row') → ⊥) → Joined w ms u r → CanTakeAll w ms → ⊥
+joined_not w ms u r r' row row' n top next refused j all =
+    let f = first_is j.back r' row row' n top (next j.back j.left) in
+    let m : Measured = (n, in_row top row') in
+    let whole : CanTakeAll w (j.front ++ m ∷ f.rest) = subst (CanTakeAll w) (j.parts ∙ ap (λ (ns : List Measured). j.front ++ ns) f.parts) all in
+    refused (can_take_same w u j.front n (in_row top row') j.joins (all_mid (λ (k : Measured). CanTake w k.0 k.1) j.front m f.rest whole))
+
+-- ---- turns
+
+turn_measures : (kind : ValueKind) (h : HeldValue) (width : ℕ) (ms : List Measured) (after : Option HeldValue) → All (IsMeasured width) ms → TakesValues h kind width ms after → Turn (Some h) (frame_of kind width ms) after []
+turn_measures Dense h width ms after all t = (subst (λ (ns : List Measured). TakesValues h Dense width ns after) (sym (dense_told ms)) t, refl)
+turn_measures Sparse h width ms after all t = (subst (λ (ns : List Measured). TakesValues h Sparse width ns after) (sym (sparse_told width ms all)) t, refl)
+
+refuses_measures : (kind : ValueKind) (highest : ℕ) (h : HeldValue) (width : ℕ) (ms : List Measured) (why : WorkerFault) → All (IsMeasured width) ms → RefusesValues h kind width ms why → Refuses highest (Some h) (frame_of kind width ms) why
+refuses_measures Dense highest h width ms why all t = subst (λ (ns : List Measured). RefusesValues h Dense width ns why) (sym (dense_told ms)) t
+refuses_measures Sparse highest h width ms why all t = subst (λ (ns : List Measured). RefusesValues h Sparse width ns why) (sym (sparse_told width ms all)) t
+
+any_version : (kind : ValueKind) (highest width : ℕ) (ms : List Measured) → IsUpTo highest (frame_of kind width ms)
+any_version Dense highest width ms = tt
+any_version Sparse highest width ms = tt
+
+no_halt : (kind : ValueKind) (width : ℕ) (ms : List Measured) → IsTrue false ↔ (frame_of kind width ms ≡ frames.Halt)
+no_halt Dense width ms = (λ t. absurd cc, λ e. absurd cc)
+no_halt Sparse width ms = (λ t. absurd cc, λ e. absurd cc)
+
+-- what `open` finds
+abbrev pub Opens : ValuesReader → List ℕ → Type 0
+Opens r bytes = (ms : List Measured) × Spells (frame_of r.kind r.width ms) bytes × IsLeft r ms
+
+pub does_turn : (highest : ℕ) (h : HeldValue) (bytes : List ℕ) (r : ValuesReader) (after : Option HeldValue) → (o : Opens r bytes) → TakesValues h r.kind r.width o.0 after → DoesTurn highest (Some h) bytes after false []
+does_turn highest h bytes r after o t = record {
+  frame = frame_of r.kind r.width o.0;
+  spells = o.1;
+  version = any_version r.kind highest r.width o.0;
+  halt = no_halt r.kind r.width o.0;
+  turn = turn_measures r.kind h r.width o.0 after o.2.measures t;
+}
+
+pub refuses_bytes : (highest : ℕ) (h : HeldValue) (bytes : List ℕ) (r : ValuesReader) (why : WorkerFault) → (o : Opens r bytes) → RefusesValues h r.kind r.width o.0 why → RefusesBytes highest (Some h) bytes why
+refuses_bytes highest h bytes r why o t = inr (frame_of r.kind r.width o.0, o.1, refuses_measures r.kind highest h r.width o.0 why o.2.measures t)
+
+abbrev failed : WireFault → Result Frame WireFault
+failed fault = Err fault
+
+fault_is : (x y : WireFault) → failed x ≡ failed y → x ≡ y
+fault_is x y e = cc
+
+memory_or : (fault : WireFault) → (fault ≡ wire.OutOfMemory) ⊎ ((fault ≢ wire.OutOfMemory) × (own_fault fault ≡ Wire fault))
+memory_or wire.OutOfMemory = inl refl
+memory_or wire.TooLong = inr (λ e. absurd cc, refl)
+memory_or wire.Truncated = inr (λ e. absurd cc, refl)
+memory_or wire.BadKind = inr (λ e. absurd cc, refl)
+memory_or (wire.BadField offset) = inr (λ e. absurd cc, refl)
+memory_or wire.Read = inr (λ e. absurd cc, refl)
+memory_or wire.Write = inr (λ e. absurd cc, refl)
+memory_or wire.Version = inr (λ e. absurd cc, refl)
+
+-- what `decode` refuses
+pub refuses_none : (highest : ℕ) (held : Option HeldValue) (bytes : List ℕ) (fault : WireFault) (why : WorkerFault) → why ≡ own_fault fault → ((f : Frame) → Spells f bytes → (failed fault ≡ Ok f) ⊎ (failed fault ≡ failed wire.OutOfMemory))
+    → (failed fault ≡ failed wire.TooLong ↔ IsTooLong bytes) → (failed fault ≡ failed wire.Truncated ↔ IsTruncated bytes) → (why ≡ OutOfMemory) ⊎ RefusesBytes highest held bytes why
+refuses_none highest held bytes fault why is all long short =
+    elim (memory_or fault) [
+      | inl memory ↦ inl (is ∙ ap own_fault memory)
+      | inr other ↦ inr (inl (record {
+        fault = fault;
+        why_is = is ∙ other.1;
+        none = λ f s. elim (all f s) [ inl ok ↦ absurd cc | inr memory ↦ other.0 (fault_is fault wire.OutOfMemory memory) ];
+        too_long = (λ e. long.0 (ap failed e), λ t. fault_is fault wire.TooLong (long.1 t));
+        truncated = (λ e. short.0 (ap failed e), λ t. fault_is fault wire.Truncated (short.1 t));
+      }))
+    ]
