@@ -15,3 +15,8 @@ pub mod Numbers
 pub mod Building
 pub mod Limits
 pub mod Machines
+pub mod Choosing
+pub mod Drafting
+pub mod Numbering
+pub mod Priorities
+pub mod OneMachine

@@ -1,5 +1,5 @@
 -- Words of machines that follow a solution, and words with Odd's input letters.
-use Rattle.std.proofs.Common.{◌≡◌, ℕ, zero, suc, ◌+◌, ◌*◌, ◌<◌, ◌⊎◌, inl, inr, List, Option, Some, None, arith, refl, sym, subst, ap, ◌∙◌}
+use Rattle.std.proofs.Common.{◌≡◌, ℕ, zero, suc, ◌+◌, ◌*◌, ◌^◌, ◌<◌, ◌⊎◌, inl, inr, List, Option, Some, None, arith, refl, sym, subst, ap, ◌∙◌}
 use Rattle.pg_arena.specs.declared.player.Player.{Player}
 use Rattle.pg_arena.specs.declared.player.Player.TheVariants.{Even, Odd}
 use Rattle.pg_arena.specs.Games.{GameVertex, IsGame, priority, owner, opponent}
@@ -14,9 +14,10 @@ use Rattle.pg_hoa.specs.Formulas.{Formula}
 use Rattle.pg_hoa.specs.Shapes.{FitsShape}
 use Rattle.pg_hoa.specs.Words.{IsWord, IsAccepted, step_from, step_at, target_of, state_after}
 use Rattle.pg_text.specs.declared.answer.Answer as solutions
-use Rattle.pg_text.specs.Solutions.{winner, choice}
+use Rattle.pg_text.specs.Solutions.{IsSolution, winner, choice}
 use Rattle.pg_synth.specs.Letters.{input_of}
-use Rattle.pg_synth.specs.Laws.{IsWonBy}
+use Rattle.pg_synth.specs.Answers.{IsSynthGame, IsMealyOf}
+use Rattle.pg_synth.specs.Laws.{IsWonBy, Says}
 use Rattle.pg_synth.specs.AutomatonGames.{place_owner, arrival_of, Moves, StandsFor, IsGameOfAutomaton}
 use Rattle.pg_synth.specs.Machines.{Machine, machine_state, machine_output, machine_word, FollowsAt, IsMachineOf, IsInputWord, HasChosenInputs}
 use Rattle.pg_synth.specs.Tracing.{arrival_after, answer_at, answer_after, Traces}
@@ -85,12 +86,15 @@ machine_accepted a game initial solution numbering machine condition input is fi
     start_even =
         ap (winner solution) (one_vertex a game g.is_game (play 0) initial (Arrival a.start None) (tr.arrivals 0) won.begins) ∙ won.wins
 
-    k_in : (t : ℕ) → machine_state machine input t < machine.states
-    k_in zero = follows.has_start
-    k_in (suc t) = (follows.follows (machine_state machine input t) (input t) (k_in t) (inputs_in t)).next_in
+    input_below : (t : ℕ) → input t < 2 ^ machine.inputs
+    input_below t = subst (λ (n : ℕ). input t < 2 ^ n) (sym follows.same_inputs) (inputs_in t)
 
-    at : (t : ℕ) → FollowsAt a game solution numbering machine.states (numbering (machine_state machine input t)) (input t)
-        (machine.reply (machine_state machine input t) (input t))
+    k_in : (t : ℕ) → machine_state machine input t < machine.states
+    k_in zero = follows.is_machine.has_start
+    k_in (suc t) = follows.is_machine.nexts_in (machine_state machine input t) (input t) (k_in t) (input_below t)
+
+    at : (t : ℕ) → FollowsAt a game solution (numbering (machine_state machine input t)) (input t)
+        (machine_output machine input t) (numbering (machine_state machine input (suc t)))
     at t = follows.follows (machine_state machine input t) (input t) (k_in t) (inputs_in t)
 
     -- the run goes on, in the machine's states
@@ -218,3 +222,19 @@ unrealizable a game initial solution condition word play is fits won letters_in 
             | inr o ↦ (tr.goes_on u, inl (ap (λ x. owner game (play x)) h.1 ∙ o ∙ sym (ap opponent e)))
           ]
     ]
+
+-- ---- what is answered
+
+won_by : (a : Automaton) (game : List GameVertex) (initial : ℕ) (solution : Solution) (p : Player) → IsSynthGame a game initial
+    → IsSolution game solution → IsSound game solution → winner solution initial ≡ p → IsWonBy a game initial solution p
+won_by a game initial solution p made answers sound e =
+    record { game_of = made.is_game_of; begins = made.begins; solution_of = answers; sound = sound; wins = e }
+
+pub answer_holds : (a : Automaton) (game : List GameVertex) (initial : ℕ) (solution : Solution) (condition : Formula) (answer : Option Machine)
+    → IsAutomaton a → FitsShape condition a.sets a.shape → IsSynthGame a game initial → IsSolution game solution
+    → IsSound game solution → IsMealyOf a game initial solution answer → Says a game solution condition answer
+answer_holds a game initial solution condition None is fits made answers sound e = λ word play.
+    unrealizable a game initial solution condition word play is fits (won_by a game initial solution Odd made answers sound e)
+answer_holds a game initial solution condition (Some machine) is fits made answers sound (e, (numbering, follows, order)) = λ input.
+    machine_accepted a game initial solution numbering machine condition input is fits
+    (won_by a game initial solution Even made answers sound e) follows

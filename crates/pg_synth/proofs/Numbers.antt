@@ -5,7 +5,10 @@ use Rattle.std.proofs.lemmas.List.FromFn.{length-map-range_with_len, get_or-map-
 use Rattle.std.proofs.Math.Nat.{mul-le-mul_left, mul-le-mul_right, pow-le-pow_right}
 use Rattle.pg_hoa.specs.Automata.{Automaton, IsAutomaton, letters}
 use Rattle.pg_synth.specs.AutomatonGames.{width, input_letters, output_letters}
-use Rattle.pg_synth.proofs.Letters.{few_inputs, few_input_letters, few_output_letters}
+use Rattle.pg_synth.specs.Letters.{joined}
+use Rattle.pg_synth.specs.Mirrors.Layouts.{IsLayoutOf}
+use Rattle.pg_synth.specs.declared.layout.Layout.{Layout}
+use Rattle.pg_synth.proofs.Letters.{few_inputs, few_input_letters, few_output_letters, sum_of_parts}
 
 pub few_marks : (a : Automaton) → IsAutomaton a → length a.controllable ≤ 16
 few_marks a is = omega (arith, is.marks, is.few_propositions)
@@ -42,3 +45,18 @@ entry f list n i d e lt = ap (λ (xs : List ℕ). get_or xs i d) e ∙ get_or-ma
 
 pub few_letters_of : (a : Automaton) → IsAutomaton a → letters a ≤ 65536
 few_letters_of a is = pow-le-pow_right {n = 2} (omega arith) is.few_propositions
+
+-- the parts that are looked up make up the letter
+pub letter_is : (a : Automaton) (layout : Layout) (i k d e first second : ℕ) → IsLayoutOf a layout → i < input_letters a → k < output_letters a
+    → d ≡ get_or layout.inputs.items i first → e ≡ get_or layout.outputs.items k second → d + e ≡ joined a.controllable i k
+letter_is a layout i k d e first second laid li lk d_is e_is =
+    let p = entry (λ i. joined a.controllable i 0) layout.inputs.items (input_letters a) i first laid.inputs li in
+    let o = entry (λ o. joined a.controllable 0 o) layout.outputs.items (output_letters a) k second laid.outputs lk in
+    omega (arith, d_is, e_is, p, o, sum_of_parts a.controllable i k)
+
+-- the same in a loop over the outputs
+pub letter_at : (a : Automaton) (layout : Layout) (outputs : List ℕ) (i k d : ℕ) → IsLayoutOf a layout → i < input_letters a
+    → outputs ≡ layout.outputs.items → k < length outputs → d ≡ get_or layout.inputs.items i d → d + get_or outputs k 0 ≡ joined a.controllable i k
+letter_at a layout outputs i k d laid li same lk d_is =
+    let n = count (λ o. joined a.controllable 0 o) outputs (output_letters a) (same ∙ laid.outputs) in
+    letter_is a layout i k d (get_or outputs k 0) d 0 laid li (omega arith) d_is (ap (λ (xs : List ℕ). get_or xs k 0) same)

@@ -90,7 +90,7 @@ arrival_below a q set is (inr (p, letter, lp, ll, e)) = go (next a p letter) ref
         let g = is.steps p letter step lp ll f in
         let same : q ≡ step.target = cc d in omega (arith, g.target_below)
 
-reached : (a : Automaton) (q letter : ℕ) → q < a.states → letter < letters a → IsPlaceOf a (arrival_of a.shape (next a q letter))
+pub reached : (a : Automaton) (q letter : ℕ) → q < a.states → letter < letters a → IsPlaceOf a (arrival_of a.shape (next a q letter))
 reached a q letter lq ll = go (next a q letter) refl
   where
     go : (o : Option Step) → next a q letter ≡ o → IsPlaceOf a (arrival_of a.shape o)

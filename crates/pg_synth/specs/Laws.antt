@@ -1,5 +1,5 @@
 -- The laws, as statements.
-use Rattle.std.specs.Prelude.{◌≡◌, ◌↔◌, ℕ, ◌*◌, ◌≤◌, Bool, List, None}
+use Rattle.std.specs.Prelude.{◌≡◌, ◌↔◌, ℕ, ◌*◌, ◌≤◌, Bool, List, Option, Some, None}
 use Rattle.pg_arena.specs.declared.player.Player.{Player}
 use Rattle.pg_arena.specs.declared.player.Player.TheVariants.{Even, Odd}
 use Rattle.pg_arena.specs.Games.{GameVertex, priority}
@@ -14,7 +14,8 @@ use Rattle.pg_synth.specs.Letters.{JoinsBack}
 use Rattle.pg_hoa.specs.Words.{IsWord, state_after, IsAccepted}
 use Rattle.pg_synth.specs.AutomatonGames.{StandsFor, IsGameOfAutomaton}
 use Rattle.pg_synth.specs.Tracing.{Traces}
-use Rattle.pg_synth.specs.Machines.{Machine, machine_word, IsMachineOf, IsInputWord, HasChosenInputs}
+use Rattle.pg_synth.specs.Answers.{IsSynthGame, IsMealyOf}
+use Rattle.pg_synth.specs.Machines.{Machine, machine_word, IsMachineOf, Follows, IsInputWord, HasChosenInputs}
 use Rattle.pg_synth.specs.declared.place.Place.TheVariants.{Dead, Arrival}
 use Rattle.pg_synth.specs.Worked.{agreeing, game_of_agreeing, choosing, game_of_choosing}
 
@@ -67,3 +68,25 @@ Unrealizable =
     (a : Automaton) (game : List GameVertex) (initial : ℕ) (solution : List Answer) (condition : Formula) (word play : ℕ → ℕ)
     → IsAutomaton a → FitsShape condition a.sets a.shape → IsWonBy a game initial solution Odd → IsWord a word
     → Traces a game word play → HasChosenInputs a game solution word play → ¬ IsAccepted a condition word
+
+-- only one machine follows a sound solution by which Even wins
+abbrev pub OneMachine : Type 0
+OneMachine =
+    (a : Automaton) (game : List GameVertex) (initial : ℕ) (solution : List Answer) (machine other : Machine)
+    → IsAutomaton a → IsWonBy a game initial solution Even
+    → Follows a game solution machine → Follows a game solution other → other ≡ machine
+
+-- What an answer says of endless words: every word of the machine is accepted; where there is none, no word with Odd's input
+-- letters is.
+abbrev pub Says : Automaton → List GameVertex → List Answer → Formula → Option Machine → Type 0
+Says a game solution condition (Some machine) =
+    (input : ℕ → ℕ) → IsInputWord a input → IsAccepted a condition (machine_word a.controllable machine input)
+Says a game solution condition None =
+    (word play : ℕ → ℕ) → IsWord a word → Traces a game word play → HasChosenInputs a game solution word play
+    → ¬ IsAccepted a condition word
+
+abbrev pub AnswerHolds : Type 0
+AnswerHolds =
+    (a : Automaton) (game : List GameVertex) (initial : ℕ) (solution : List Answer) (condition : Formula) (answer : Option Machine)
+    → IsAutomaton a → FitsShape condition a.sets a.shape → IsSynthGame a game initial → IsSolution game solution
+    → IsSound game solution → IsMealyOf a game initial solution answer → Says a game solution condition answer

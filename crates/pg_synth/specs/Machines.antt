@@ -1,57 +1,93 @@
 -- Mealy machines, those that follow a solution of the game of an automaton, and the words that they make.
-use Rattle.std.specs.Prelude.{◌≡◌, ℕ, zero, suc, ◌*◌, ◌<◌, ◌≤◌, Bool, List, Some, IsSome}
+use Rattle.std.specs.Prelude.{◌≡◌, ℕ, zero, suc, ◌+◌, ◌*◌, ◌^◌, ◌<◌, ◌≤◌, Bool, List, length, slice_index_or, Some, IsSome}
 use Rattle.pg_arena.specs.Games.{GameVertex}
 use Rattle.pg_text.specs.declared.answer.Answer as solutions
 use Rattle.pg_text.specs.Solutions.{choice}
 use Rattle.pg_hoa.specs.Automata.{Step, Automaton, next}
 use Rattle.pg_hoa.specs.Words.{state_after}
-use Rattle.pg_synth.specs.Letters.{input_of, joined}
+use Rattle.pg_synth.specs.Letters.{input_of, joined, inputs, outputs}
 use Rattle.pg_synth.specs.AutomatonGames.{StandsFor, arrival_of, input_letters, output_letters}
 use Rattle.pg_synth.specs.declared.place.Place.TheVariants.{Answer}
+use Rattle.pg_synth.specs.declared.mealy.Reply.{Reply}
 
--- what a state does at an input letter: an output letter, and a state that is next
-pub record Reply : Type 0 where
-  pub output : ℕ
-  pub next : ℕ
-
--- a machine begins in its state 0
+-- A machine begins in its state 0. A reply to an input letter is an output letter and the state that is next.
 pub record Machine : Type 0 where
   pub states : ℕ
-  pub reply : ℕ → ℕ → Reply
+  -- how many propositions its input letters have, and its output letters
+  pub inputs : ℕ
+  pub outputs : ℕ
+  -- the replies of state 0 to the input letters 0, 1, .., then those of state 1, and so on
+  pub replies : List Reply
+
+-- what stands past the last reply
+abbrev pub no_reply : Reply
+no_reply = record { output = 0; next = 0 }
+
+abbrev pub reply_at : Machine → ℕ → Reply
+reply_at machine place = slice_index_or machine.replies place no_reply
+
+-- what the state k replies to the input letter i
+abbrev pub reply : Machine → ℕ → ℕ → Reply
+reply machine k i = reply_at machine (k * 2 ^ machine.inputs + i)
+
+-- a reply for each state and input letter, whose numbers are in range, and all is within the limits of an automaton
+pub record IsMachine (machine : Machine) : Type 0 where
+  pub has_start : 0 < machine.states
+  pub whole : length machine.replies ≡ machine.states * 2 ^ machine.inputs
+  pub outputs_in : (k i : ℕ) → k < machine.states → i < 2 ^ machine.inputs
+      → (reply machine k i).output < 2 ^ machine.outputs
+  pub nexts_in : (k i : ℕ) → k < machine.states → i < 2 ^ machine.inputs → (reply machine k i).next < machine.states
+  pub few_states : machine.states ≤ 65535
+  pub few_propositions : machine.inputs + machine.outputs ≤ 16
+  pub few_steps : machine.states * 2 ^ (machine.inputs + machine.outputs) ≤ 16777216
 
 -- the state after the first t input letters, and the output letter that comes with the next
 abbrev pub machine_state : Machine → (ℕ → ℕ) → ℕ → ℕ
 machine_state machine input zero = 0
-machine_state machine input (suc t) = (machine.reply (machine_state machine input t) (input t)).next
+machine_state machine input (suc t) = (reply machine (machine_state machine input t) (input t)).next
 
 abbrev pub machine_output : Machine → (ℕ → ℕ) → ℕ → ℕ
-machine_output machine input t = (machine.reply (machine_state machine input t) (input t)).output
+machine_output machine input t = (reply machine (machine_state machine input t) (input t)).output
 
 -- the word of an input word: each input letter joined with the machine's output letter
 abbrev pub machine_word : List Bool → Machine → (ℕ → ℕ) → ℕ → ℕ
 machine_word controllable machine input t = joined controllable (input t) (machine_output machine input t)
 
--- The reply of the automaton's state q to the input letter i leads to the chosen successor of the answer, and no lesser output
--- letter does. The machine's next state stands for where the automaton goes.
-pub record FollowsAt (a : Automaton) (game : List GameVertex) (solution : List solutions.Answer) (numbering : ℕ → ℕ) (states : ℕ)
-    (q i : ℕ) (reply : Reply) : Type 0 where
-  pub output_in : reply.output < output_letters a
-  pub next_in : reply.next < states
+-- At the automaton's state q and the input letter i the output letter leads to the chosen successor of the answer, an arrival
+-- at the state `target`, and no lesser output letter does.
+pub record FollowsAt (a : Automaton) (game : List GameVertex) (solution : List solutions.Answer)
+    (q i output target : ℕ) : Type 0 where
+  pub output_in : output < output_letters a
   pub step : Step
-  pub steps : next a q (joined a.controllable i reply.output) ≡ Some step
-  pub lands : step.target ≡ numbering reply.next
+  pub steps : next a q (joined a.controllable i output) ≡ Some step
+  pub lands : step.target ≡ target
   pub chosen : (v w : ℕ) → StandsFor a game v (Answer q i) → choice solution v ≡ Some w
       → StandsFor a game w (arrival_of a.shape (Some step))
   pub least : (v w o : ℕ) → StandsFor a game v (Answer q i) → choice solution v ≡ Some w
-      → StandsFor a game w (arrival_of a.shape (next a q (joined a.controllable i o))) → reply.output ≤ o
+      → StandsFor a game w (arrival_of a.shape (next a q (joined a.controllable i o))) → output ≤ o
 
 -- `numbering` names the automaton's state of each state of the machine
 pub record IsMachineOf (a : Automaton) (game : List GameVertex) (solution : List solutions.Answer) (numbering : ℕ → ℕ)
     (machine : Machine) : Type 0 where
-  pub has_start : 0 < machine.states
+  pub is_machine : IsMachine machine
+  pub same_inputs : machine.inputs ≡ inputs a.controllable
+  pub same_outputs : machine.outputs ≡ outputs a.controllable
   pub starts : numbering 0 ≡ a.start
   pub follows : (k i : ℕ) → k < machine.states → i < input_letters a
-      → FollowsAt a game solution numbering machine.states (numbering k) i (machine.reply k i)
+      → FollowsAt a game solution (numbering k) i (reply machine k i).output (numbering (reply machine k i).next)
+
+-- No state of the automaton has two numbers. Each but the first is next in a reply of a lesser one, and the first such reply
+-- comes behind none that leads to a greater one: states are numbered as they are met, state by state and letter by letter.
+pub record IsInOrder (numbering : ℕ → ℕ) (machine : Machine) : Type 0 where
+  pub distinct : (j k : ℕ) → j < machine.states → k < machine.states → numbering j ≡ numbering k → j ≡ k
+  pub discovered : (n : ℕ) → 0 < n → n < machine.states
+      → (place : ℕ) × (place < n * 2 ^ machine.inputs) × ((reply_at machine place).next ≡ n)
+      × ((earlier : ℕ) → earlier < place → (reply_at machine earlier).next < n)
+
+-- the machine follows the solution, and its states are numbered in order
+abbrev pub Follows : Automaton → List GameVertex → List solutions.Answer → Machine → Type 0
+Follows a game solution machine =
+    (numbering : ℕ → ℕ) × IsMachineOf a game solution numbering machine × IsInOrder numbering machine
 
 abbrev pub IsInputWord : Automaton → (ℕ → ℕ) → Type 0
 IsInputWord a input = (t : ℕ) → input t < input_letters a

@@ -1,6 +1,7 @@
 //! The game of an automaton.
 
 ghost use Rattle.std.specs.Prelude.{IfOk, IfErr};
+ghost use Rattle.pg_arena.specs.Games.{HasPrioritiesUpTo};
 ghost use Rattle.pg_synth.specs.Answers.{IsSynthGame, Refuses};
 
 use crate::fault::SynthFault;
@@ -29,6 +30,7 @@ pub struct SynthGame {
 /// the same two vertices count once; it finds that before it makes the game. Else it refuses only with `OutOfMemory`.
 pub fn game_of(alloc: Global, automaton: &Automaton) -> Result<SynthGame, SynthFault>
     ensures game { IfOk result (λ made. IsSynthGame automaton.now made.game made.initial) }
+    ensures priorities { IfOk result (λ made. HasPrioritiesUpTo 65535 made.game) }
     ensures fault { IfErr result (Refuses automaton.now) }
 {
     // asked for what its contract says of the automaton

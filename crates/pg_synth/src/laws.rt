@@ -5,7 +5,7 @@ ghost use Rattle.pg_arena.specs.Games.{GameVertex};
 ghost use Rattle.pg_hoa.specs.Automata.{Automaton, IsAutomaton};
 ghost use Rattle.pg_hoa.specs.Words.{IsWord};
 ghost use Rattle.pg_synth.specs.AutomatonGames.{IsGameOfAutomaton};
-ghost use Rattle.pg_synth.specs.Laws.{JoinedLetters, MachineAccepted, OneGame, TracesOnePlay, Unrealizable, WordAndPlay, WorkedGames};
+ghost use Rattle.pg_synth.specs.Laws.{AnswerHolds, JoinedLetters, MachineAccepted, OneGame, OneMachine, TracesOnePlay, Unrealizable, WordAndPlay, WorkedGames};
 
 use crate::word::{InputWord, Word};
 
@@ -44,6 +44,16 @@ pub fn machine_accepted()
 /// the word traces.
 pub fn unrealizable()
     ensures { Unrealizable }
+{}
+
+/// Only one machine follows a sound solution by which Even wins, so that `mealy_of` has one answer.
+pub fn one_machine()
+    ensures { OneMachine }
+{}
+
+/// What `mealy_of` answers of a sound solution holds of endless words.
+pub fn answer_holds()
+    ensures { AnswerHolds }
 {}
 
 ghost use Rattle.std.specs.Prelude.{ℕ};

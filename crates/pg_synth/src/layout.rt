@@ -34,6 +34,20 @@ pub(crate) fn layout_of(alloc: Global, automaton: &Automaton) -> Result<Layout, 
     })
 }
 
+/// How many propositions the controller sets.
+pub(crate) fn count_controlled(automaton: &Automaton) -> u32
+    requires { IsAutomaton automaton.now }
+    ensures { result ≡ outputs automaton.now.controllable }
+{
+    let mut count = 0;
+    for a in 0..automaton.propositions() {
+        if automaton.controllable(a) {
+            count += 1;
+        }
+    }
+    count
+}
+
 /// For each proposition, whether the controller sets it.
 fn marks(alloc: Global, automaton: &Automaton) -> Result<Vec<bool>, AllocError>
     requires { IsAutomaton automaton.now }

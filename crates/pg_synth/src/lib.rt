@@ -2,15 +2,19 @@
 //! its plays to endless words.
 #![tactic(auto)]
 
+mod controller;
 mod fault;
 mod game;
 pub mod laws;
 mod layout;
 mod lines;
+mod mealy;
 mod place;
 mod word;
 
+pub use controller::mealy_of;
 pub use fault::SynthFault;
 pub use game::{SynthGame, game_of};
+pub use mealy::Mealy;
 pub use place::Place;
 pub use word::{InputWord, Word};

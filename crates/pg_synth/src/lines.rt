@@ -152,15 +152,24 @@ fn push_answers(
         ≡ list.old.items ++ map
         (λ i. place_identifier automaton.now (Answer state i)) (range_with_len 0 (input_letters automaton.now))) }
 {
-    let first = 1 + state * layout.width + automaton.sets() + 1;
+    let first = first_answer(automaton, layout, state);
     for input in 0..layout.inputs.len() as u32 {
         list.push(first + input)?;
     }
     Ok(())
 }
 
+/// The identifier of the answer at a state to the first input letter; those to the others follow it.
+pub(crate) fn first_answer(automaton: &Automaton, layout: &Layout, state: u32) -> u32
+    requires laid { IsLayoutOf automaton.now layout.now }
+    requires state { state < automaton.now.states }
+    ensures { result ≡ place_identifier automaton.now (Answer state 0) }
+{
+    1 + state * layout.width + automaton.sets() + 1
+}
+
 /// The identifier of the place to which a letter leads from a state.
-fn target(automaton: &Automaton, layout: &Layout, state: u32, letter: u32) -> u32
+pub(crate) fn target(automaton: &Automaton, layout: &Layout, state: u32, letter: u32) -> u32
     requires laid { IsLayoutOf automaton.now layout.now }
     requires state { state < automaton.now.states }
     requires letter { letter < letters automaton.now }

@@ -7,6 +7,7 @@ use Rattle.pg_synth.specs.declared.place.Place.TheVariants.{Arrival}
 use Rattle.pg_synth.proofs.Made.{made}
 use Rattle.pg_synth.proofs.Limits.{many_vertices, many_edges, initial_of, synth_game}
 use Rattle.pg_synth.proofs.Numbers.{small}
+use Rattle.pg_synth.proofs.Priorities.{low_priorities}
 use Rattle.pg_synth.proofs.game.game_of.Goals as goal
 
 pub returns-then-len-gt-MAX_VERTICES-clause-fault : goal.returns-then-len-gt-MAX_VERTICES-clause-fault
@@ -68,3 +69,9 @@ returns-clause-game c =
     synth_game a c.in-Ok.game c.unwrap-initial.result is g
     (omega (arith, c.len.ensures, c.if-len-gt-MAX_VERTICES.false, c.in_ok-identifiers.identifiers.ok.0, ap length c.in_ok-identifiers.ensures))
     (subst (λ (xs : List ℕ). sum_by (edges_of a) xs ≤ 8388608) ids (c.in_ok-has_few_edges.ensures.0 c.if-not-branch.false)) (cc same)
+
+pub returns-clause-priorities : goal.returns-clause-priorities
+returns-clause-priorities c =
+    let a = c.args.automaton.now in
+    let is = c.states-states.ensures.automaton in
+    low_priorities a c.in-Ok.game is (made a c.in-Ok.game is c.in-Ok.ensures.game)

@@ -1,4 +1,4 @@
-use Rattle.std.proofs.Common.{◌≡◌, ℕ, ◌+◌, ◌*◌, ◌++◌, map, arith, ap, subst}
+use Rattle.std.proofs.Common.{◌≡◌, ℕ, ◌+◌, ◌++◌, map, arith, subst}
 use Rattle.std.specs.List.{range_with_len}
 use Rattle.pg_synth.specs.Letters.{joined}
 use Rattle.pg_synth.specs.AutomatonGames.{input_letters, place_identifier}
@@ -7,51 +7,33 @@ use Rattle.pg_synth.proofs.Lists.{pushed}
 use Rattle.pg_synth.proofs.Numbers.{small, count, few_answers}
 use Rattle.pg_synth.proofs.lines.push_answers.Goals as goal
 
-pub overflow_mul-first : goal.overflow_mul-first
-overflow_mul-first c =
-    let a = c.args.automaton.now in
-    let e = ap (λ w. c.args.state * w) c.requires.laid.width in
-    omega (arith, small a c.args.state c.requires.laid.automaton c.requires.state, e)
-
-pub overflow_add-first : goal.overflow_add-first
-overflow_add-first c =
-    let a = c.args.automaton.now in
-    let e = ap (λ w. c.args.state * w) c.requires.laid.width in
-    omega (arith, small a c.args.state c.requires.laid.automaton c.requires.state, e)
-
-pub overflow_add-first-2 : goal.overflow_add-first-2
-overflow_add-first-2 c =
-    let a = c.args.automaton.now in
-    let e = ap (λ w. c.args.state * w) c.requires.laid.width in
-    omega (arith, small a c.args.state c.requires.laid.automaton c.requires.state, e, c.sets.ensures)
-
-pub overflow_add-first-3 : goal.overflow_add-first-3
-overflow_add-first-3 c =
-    let a = c.args.automaton.now in
-    let e = ap (λ w. c.args.state * w) c.requires.laid.width in
-    omega (arith, small a c.args.state c.requires.laid.automaton c.requires.state, e, c.sets.ensures)
-
 pub overflow_cast-input-end : goal.overflow_cast-input-end
 overflow_cast-input-end c =
     let a = c.args.automaton.now in
     let n = count (λ i. joined a.controllable i 0) c.args.layout.now.inputs.items (input_letters a) c.requires.laid.inputs in
     omega (arith, n, few_answers a c.requires.laid.automaton, c.len-input-end.ensures, c.args.layout.now.inputs.ok.0)
 
-pub overflow_add-first-in-loop-input : goal.overflow_add-first-in-loop-input
-overflow_add-first-in-loop-input c =
+pub overflow_add-first : goal.overflow_add-first
+overflow_add-first c =
     let a = c.args.automaton.now in
-    let e = ap (λ w. c.args.state * w) c.requires.laid.width in
     let n = count (λ i. joined a.controllable i 0) c.args.layout.now.inputs.items (input_letters a) c.requires.laid.inputs in
-    omega (arith, small a c.args.state c.requires.laid.automaton c.requires.state, e, c.sets.ensures, n, c.len-input-end.ensures, c.args.layout.now.inputs.ok.0, few_answers a c.requires.laid.automaton)
+    omega (
+      arith,
+      small a c.args.state c.requires.laid.automaton c.requires.state,
+      c.first_answer-first.ensures,
+      n,
+      c.len-input-end.ensures,
+      c.args.layout.now.inputs.ok.0,
+      few_answers a c.requires.laid.automaton,
+    )
 
 pub loop-input-preserved : goal.loop-input-preserved
 loop-input-preserved c =
     let a = c.args.automaton.now in
-    let e = ap (λ w. c.args.state * w) c.requires.laid.width in
-    let v : 1 + c.args.state * c.args.layout.now.width + c.sets.result + 1 + c.loop-input.input ≡ place_identifier a (Answer c.args.state c.loop-input.input) =
-    omega (arith, e, c.sets.ensures) in
+    let v : c.first_answer-first.result + c.loop-input.input ≡ place_identifier a (Answer c.args.state c.loop-input.input) =
+    omega (arith, c.first_answer-first.ensures) in
     pushed (λ i. place_identifier a (Answer c.args.state i)) c.args.list.now.items c.loop-input.list.items c.push.new.self.items c.loop-input.input
-    (1 + c.args.state * c.args.layout.now.width + c.sets.result + 1 + c.loop-input.input) c.loop-input.invariant c.in_ok-push.ensures.items v
+    (c.first_answer-first.result + c.loop-input.input) c.loop-input.invariant c.in_ok-push.ensures.items v
 
 pub returns : goal.returns
 returns c =

@@ -1,16 +1,12 @@
-use Rattle.std.proofs.Common.{◌≡◌, ◌+◌, ◌<◌, ℕ, List, [], length, map, get_or, arith, sym, ap, subst, ◌∙◌}
+use Rattle.std.proofs.Common.{◌≡◌, ℕ, [], map, arith, sym, ap, subst, ◌∙◌}
 use Rattle.std.specs.List.{range_with_len}
 use Rattle.pg_synth.specs.Letters.{joined}
 use Rattle.pg_synth.specs.AutomatonGames.{input_letters, output_letters, IsPlaceOf}
 use Rattle.pg_synth.specs.Mirrors.GameLines.{target, leads}
-use Rattle.pg_hoa.specs.Automata.{Automaton}
-use Rattle.pg_synth.specs.Mirrors.Layouts.{IsLayoutOf}
-use Rattle.pg_synth.specs.declared.layout.Layout.{Layout}
 use Rattle.pg_synth.specs.declared.place.Place.{Place}
 use Rattle.pg_synth.specs.declared.place.Place.TheVariants.{Answer}
-use Rattle.pg_synth.proofs.Letters.{sum_of_parts}
 use Rattle.pg_synth.proofs.Lists.{pushed}
-use Rattle.pg_synth.proofs.Numbers.{count, entry, few_letters_of}
+use Rattle.pg_synth.proofs.Numbers.{count, few_letters_of, letter_at}
 use Rattle.pg_synth.proofs.Places.{letter_in}
 use Rattle.pg_synth.proofs.lines.put_leads.Goals as goal
 
@@ -21,20 +17,11 @@ index-part-requires c =
     let h : IsPlaceOf a (Answer c.in-Answer.state c.in-Answer.input) = subst (IsPlaceOf a) c.in-Answer.is c.requires.place in
     omega (arith, h.1, n, c.args.layout.now.inputs.ok.0)
 
--- the letter of the parts that are looked up
-letter_is : (a : Automaton) (layout : Layout) (outputs : List ℕ) (i k d : ℕ) → IsLayoutOf a layout → i < input_letters a → outputs ≡ layout.outputs.items → k < length outputs
-    → d ≡ get_or layout.inputs.items i d → d + get_or outputs k 0 ≡ joined a.controllable i k
-letter_is a layout outputs i k d laid li same lk e =
-    let n = count (λ o. joined a.controllable 0 o) outputs (output_letters a) (same ∙ laid.outputs) in
-    let p = entry (λ i. joined a.controllable i 0) layout.inputs.items (input_letters a) i d laid.inputs li in
-    let o = entry (λ o. joined a.controllable 0 o) outputs (output_letters a) k 0 (same ∙ laid.outputs) (omega arith) in
-    omega (arith, e, p, o, sum_of_parts a.controllable i k)
-
 pub overflow_add-part : goal.overflow_add-part
 overflow_add-part c =
     let a = c.args.automaton.now in
     let h : IsPlaceOf a (Answer c.in-Answer.state c.in-Answer.input) = subst (IsPlaceOf a) c.in-Answer.is c.requires.place in
-    let l = letter_is a c.args.layout.now c.deref-other-items.result.now c.in-Answer.input c.loop-other.other-index c.index-part.result.now
+    let l = letter_at a c.args.layout.now c.deref-other-items.result.now c.in-Answer.input c.loop-other.other-index c.index-part.result.now
     c.requires.laid h.1 c.deref-other-items.ensures.value c.loop-other-test.true c.index-part.ensures in
     omega (arith, l, letter_in a c.in-Answer.input c.loop-other.other-index c.requires.laid.automaton, few_letters_of a c.requires.laid.automaton)
 
@@ -42,7 +29,7 @@ pub target-requires-clause-letter : goal.target-requires-clause-letter
 target-requires-clause-letter c =
     let a = c.args.automaton.now in
     let h : IsPlaceOf a (Answer c.in-Answer.state c.in-Answer.input) = subst (IsPlaceOf a) c.in-Answer.is c.requires.place in
-    let l = letter_is a c.args.layout.now c.deref-other-items.result.now c.in-Answer.input c.loop-other.other-index c.index-part.result.now
+    let l = letter_at a c.args.layout.now c.deref-other-items.result.now c.in-Answer.input c.loop-other.other-index c.index-part.result.now
     c.requires.laid h.1 c.deref-other-items.ensures.value c.loop-other-test.true c.index-part.ensures in
     omega (arith, l, letter_in a c.in-Answer.input c.loop-other.other-index c.requires.laid.automaton)
 
@@ -50,7 +37,7 @@ pub loop-other-preserved : goal.loop-other-preserved
 loop-other-preserved c =
     let a = c.args.automaton.now in
     let h : IsPlaceOf a (Answer c.in-Answer.state c.in-Answer.input) = subst (IsPlaceOf a) c.in-Answer.is c.requires.place in
-    let l = letter_is a c.args.layout.now c.deref-other-items.result.now c.in-Answer.input c.loop-other.other-index c.index-part.result.now
+    let l = letter_at a c.args.layout.now c.deref-other-items.result.now c.in-Answer.input c.loop-other.other-index c.index-part.result.now
     c.requires.laid h.1 c.deref-other-items.ensures.value c.loop-other-test.true c.index-part.ensures in
     pushed (λ o. target a c.in-Answer.state (joined a.controllable c.in-Answer.input o)) [] c.loop-other.list.items c.push-in-loop-other.new.self.items c.loop-other.other-index
     c.target.result c.loop-other.invariant c.in_ok-push-in-Answer.ensures.items (c.target.ensures ∙ ap (target a c.in-Answer.state) l)

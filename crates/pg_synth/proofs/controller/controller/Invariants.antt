@@ -1,0 +1,14 @@
+use Rattle.std.proofs.Common.{◌≡◌, ◌≤◌, ◌*◌, ◌-◌, length}
+use Rattle.pg_synth.specs.AutomatonGames.{input_letters}
+use Rattle.pg_synth.specs.Mirrors.Drafts.{IsDraft}
+use Rattle.pg_synth.proofs.controller.controller.Given as goal
+
+abbrev pub invariant-loop-number : goal.invariant-loop-number
+invariant-loop-number l = record {
+  draft : IsDraft l.automaton l.synth.game l.solution l.draft.states.keys l.draft.replies.items;
+  within : l.number ≤ length l.draft.states.keys;
+  whole : length l.draft.replies.items ≡ l.number * input_letters l.automaton;
+}
+
+abbrev pub decreases-loop-number : goal.decreases-loop-number
+decreases-loop-number l = l.automaton.states - l.number

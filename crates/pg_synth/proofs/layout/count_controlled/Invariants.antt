@@ -1,0 +1,9 @@
+use Rattle.std.proofs.Common.{◌≡◌, ◌≤◌, take}
+use Rattle.pg_synth.specs.Letters.{outputs}
+use Rattle.pg_synth.proofs.layout.count_controlled.Given as goal
+
+abbrev pub invariant-loop-a : goal.invariant-loop-a
+invariant-loop-a l = record {
+  counted : l.count ≡ outputs (take l.a l.automaton.controllable);
+  few : l.count ≤ l.a;
+}

@@ -1,0 +1,87 @@
+//! Mealy machines.
+
+ghost use Rattle.std.specs.Prelude.{◌≡◌, ◌^◌, ◌<◌};
+ghost use Rattle.pg_synth.specs.Machines.{IsMachine, reply};
+
+use std::marker::Model;
+
+/// What a state replies to an input letter.
+#[derive(Clone, Copy)]
+pub(crate) struct Reply {
+    pub output: u32,
+    pub next: u32,
+}
+
+/// A Mealy machine. It begins in its state 0; from a state and an input letter it gives an output letter and the next
+/// state. Bit j of an input letter is the j-th proposition of the environment, bit j of an output letter the j-th of the
+/// controller, both counted from 0 in the order of the automaton.
+#[derive(Drop)]
+pub struct Mealy {
+    states: u32,
+    inputs: u32,
+    outputs: u32,
+    replies: Vec<Reply>,
+}
+
+impl Model for Mealy {
+    ghost use Rattle.pg_synth.specs.Machines.{Machine, IsMachine};
+    ghost use Rattle.pg_synth.specs.Mirrors.Drafts.{machine_with};
+
+    ghost Value = { Machine };
+
+    ghost view = { λ m. machine_with m.states m.inputs m.outputs m.replies.items };
+
+    ghost invariant = { λ m. IsMachine (machine_with m.states m.inputs m.outputs m.replies.items) };
+}
+
+impl Mealy {
+    ghost use Rattle.pg_synth.specs.Mirrors.Drafts.{machine_with};
+
+    pub(crate) fn from_parts(states: u32, inputs: u32, outputs: u32, replies: Vec<Reply>) -> Mealy
+        requires { IsMachine (machine_with states inputs outputs replies.items) }
+        ensures { result ≡ machine_with states inputs outputs replies.items }
+    {
+        Mealy {
+            states,
+            inputs,
+            outputs,
+            replies,
+        }
+    }
+
+    /// How many states it has: at least 1 and at most 65,535.
+    pub fn states(&self) -> u32
+        ensures value { result ≡ self.now.states }
+        ensures machine { IsMachine self.now }
+    {
+        self.states
+    }
+
+    /// How many propositions an input letter has.
+    pub fn inputs(&self) -> u32
+        ensures { result ≡ self.now.inputs }
+    {
+        self.inputs
+    }
+
+    /// How many propositions an output letter has.
+    pub fn outputs(&self) -> u32
+        ensures { result ≡ self.now.outputs }
+    {
+        self.outputs
+    }
+
+    /// The output letter that a state gives at an input letter, and the state that is next.
+    pub fn step(&self, state: u32, input: u32) -> (u32, u32)
+        requires state { state < self.now.states }
+        requires input { input < 2 ^ self.now.inputs }
+        ensures output { result.0 ≡ (reply self.now state input).output }
+        ensures next { result.1 ≡ (reply self.now state input).next }
+        ensures output_in { result.0 < 2 ^ self.now.outputs }
+        ensures next_in { result.1 < self.now.states }
+    {
+        let first = (state as usize) << self.inputs;
+        let reply = self.replies[first + input as usize];
+        (reply.output, reply.next)
+    }
+}
