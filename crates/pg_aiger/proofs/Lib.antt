@@ -1,0 +1,11 @@
+pub mod Gates
+pub mod Runs
+pub mod Numbers
+pub mod Pushes
+pub mod Matches
+pub mod Places
+pub mod Made
+pub mod Follows
+pub mod Steps
+pub mod ReadingBack
+pub mod Printing

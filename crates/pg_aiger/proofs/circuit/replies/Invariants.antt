@@ -1,0 +1,6 @@
+use Rattle.std.proofs.Common.{◌≡◌}
+use Rattle.pg_aiger.specs.Mirrors.Tables.{outputs_below, nexts_below}
+use Rattle.pg_aiger.proofs.circuit.replies.Given as goal
+
+abbrev pub invariant-loop-place : goal.invariant-loop-place
+invariant-loop-place l = (l.outputs.items ≡ outputs_below l.machine l.place) × (l.nexts.items ≡ nexts_below l.machine l.place)

@@ -1,0 +1,12 @@
+use Rattle.std.proofs.Common.{map}
+use Rattle.std.specs.List.{flat_map}
+use Rattle.std.specs.Io.KnownBytes.{Appends}
+use Rattle.pg_aiger.specs.CircuitLayout.{row_text}
+use Rattle.pg_aiger.specs.Mirrors.Layouts.{literal_row}
+use Rattle.pg_aiger.specs.Mirrors.Views.{literals_from}
+use Rattle.pg_aiger.proofs.layout.write_inputs.Given as goal
+
+abbrev pub invariant-loop-input : goal.invariant-loop-input
+invariant-loop-input g l =
+    let contents = g.W.Write.contents in
+    Appends (contents l.fn.out) (contents l.out) (flat_map row_text (map literal_row (literals_from 1 l.input)))

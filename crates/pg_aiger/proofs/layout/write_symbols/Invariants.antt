@@ -1,0 +1,14 @@
+use Rattle.std.proofs.Common.{◌≡◌, length, map}
+use Rattle.std.specs.List.{flat_map}
+use Rattle.std.specs.Io.KnownBytes.{Appends}
+use Rattle.pg_aiger.specs.CircuitText.{symbol}
+use Rattle.pg_aiger.specs.CircuitLayout.{row_text, symbols_from}
+use Rattle.pg_aiger.specs.Mirrors.Layouts.{kind_of, names_until}
+use Rattle.pg_aiger.proofs.layout.write_symbols.Given as goal
+
+abbrev pub invariant-loop-a : goal.invariant-loop-a
+invariant-loop-a g l =
+    let contents = g.W.Write.contents in
+    let names = names_until l.controlled l.automaton l.a in
+    (l.position ≡ length names)
+    × Appends (contents l.fn.out) (contents l.out) (flat_map row_text (map symbol (symbols_from (kind_of l.controlled) 0 names)))

@@ -1,0 +1,9 @@
+use Rattle.pg_aiger.specs.Mirrors.Drafts.{IsLiteral, Extends, Means}
+use Rattle.pg_aiger.specs.Mirrors.Tables.{any_below}
+use Rattle.pg_aiger.proofs.table.column.Given as goal
+
+abbrev pub invariant-loop-place : goal.invariant-loop-place
+invariant-loop-place l =
+    Extends l.place l.fn.draft l.draft
+    × IsLiteral l.draft l.literal
+    × Means l.draft l.literal (λ v. any_below v l.literals l.values l.bit l.place)

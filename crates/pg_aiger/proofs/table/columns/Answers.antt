@@ -1,0 +1,25 @@
+use Rattle.std.proofs.Common.{rules, length}
+use Rattle.pg_aiger.specs.Mirrors.Tables.{column_bit}
+use Rattle.pg_aiger.proofs.Places.{extends_times, extends_within, mean_push}
+use Rattle.pg_aiger.proofs.table.columns.Goals as goal
+
+pub returns-in_err-literal-clause-extends : goal.returns-in_err-literal-clause-extends
+returns-in_err-literal-clause-extends c =
+    extends_within c.loop-bit.bit (length c.args.literals.now) c.args.width c.args.draft.now c.loop-bit.draft c.column.new.draft
+    c.loop-bit-test.true c.loop-bit.invariant.0 c.column.ensures.extends
+
+pub returns-in_err-push-clause-extends : goal.returns-in_err-push-clause-extends
+returns-in_err-push-clause-extends c =
+    extends_within c.loop-bit.bit (length c.args.literals.now) c.args.width c.args.draft.now c.loop-bit.draft c.column.new.draft
+    c.loop-bit-test.true c.loop-bit.invariant.0 c.column.ensures.extends
+
+pub loop-bit-preserved : goal.loop-bit-preserved
+loop-bit-preserved c = (
+  extends_times c.loop-bit.bit (length c.args.literals.now) c.args.draft.now c.loop-bit.draft c.column.new.draft
+      c.loop-bit.invariant.0 c.column.ensures.extends,
+  search rules,
+  mean_push (length c.args.literals.now) c.loop-bit.draft c.column.new.draft (column_bit c.args.literals.now c.args.values.now)
+      c.loop-bit.made.items c.push.new.self.items c.loop-bit.bit c.in_ok-literal.literal c.column.ensures.extends
+      c.in_ok-push.ensures.items c.loop-bit.invariant.1 c.loop-bit.invariant.2
+      c.in_ok-literal.ensures.literal c.in_ok-literal.ensures.meaning,
+)

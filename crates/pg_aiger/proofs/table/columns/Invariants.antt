@@ -1,0 +1,10 @@
+use Rattle.std.proofs.Common.{◌≡◌, ◌*◌, length}
+use Rattle.pg_aiger.specs.Mirrors.Drafts.{Extends}
+use Rattle.pg_aiger.specs.Mirrors.Tables.{MeanEach, column_bit}
+use Rattle.pg_aiger.proofs.table.columns.Given as goal
+
+abbrev pub invariant-loop-bit : goal.invariant-loop-bit
+invariant-loop-bit l =
+    Extends (l.bit * length l.literals) l.fn.draft l.draft
+    × (length l.made.items ≡ l.bit)
+    × MeanEach l.draft (column_bit l.literals l.values) l.made.items

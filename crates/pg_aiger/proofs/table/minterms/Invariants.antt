@@ -1,0 +1,10 @@
+use Rattle.std.proofs.Common.{◌≡◌, ◌+◌, ◌*◌, length}
+use Rattle.pg_aiger.specs.Mirrors.Drafts.{Extends}
+use Rattle.pg_aiger.specs.Mirrors.Tables.{MeanEach, is_minterm}
+use Rattle.pg_aiger.proofs.table.minterms.Given as goal
+
+abbrev pub invariant-loop-place : goal.invariant-loop-place
+invariant-loop-place l =
+    Extends (l.place * (l.inputs + l.latches)) l.fn.draft l.draft
+    × (length l.literals.items ≡ l.place)
+    × MeanEach l.draft (is_minterm l.inputs l.latches) l.literals.items

@@ -1,0 +1,45 @@
+-- Circuits of gates and latches, as the AIGER format has them.
+use Rattle.std.specs.Prelude.{◌≡◌, ℕ, suc, ◌+◌, ◌*◌, ◌<◌, ◌≤◌, List, [], ◌∷◌, length, slice_index_or}
+use Rattle.pg_aiger.specs.declared.gate.Gate.{Gate}
+
+-- a latch's line: its literal, and the literal that it takes over in the next step
+pub record Latch : Type 0 where
+  pub literal : ℕ
+  pub next : ℕ
+
+-- What the lines say. A literal is twice its variable, plus one if it is negated.
+pub record Circuit : Type 0 where
+  -- the greatest variable
+  pub greatest : ℕ
+  pub inputs : List ℕ
+  pub latches : List Latch
+  pub outputs : List ℕ
+  pub gates : List Gate
+
+abbrev pub no_latch : Latch
+no_latch = record { literal = 0; next = 0 }
+
+abbrev pub input_at : Circuit → ℕ → ℕ
+input_at circuit j = slice_index_or circuit.inputs j 0
+
+abbrev pub latch_at : Circuit → ℕ → Latch
+latch_at circuit j = slice_index_or circuit.latches j no_latch
+
+abbrev pub output_at : Circuit → ℕ → ℕ
+output_at circuit j = slice_index_or circuit.outputs j 0
+
+-- the gates define the variables from `first` on, each by two literals of smaller variables, the greater of them first
+abbrev pub AreGatesFrom : ℕ → List Gate → Type 0
+AreGatesFrom first [] = Unit {0}
+AreGatesFrom first (gate ∷ rest) =
+    (gate.lhs ≡ 2 * first) × (gate.rhs0 < 2 * first) × (gate.rhs1 ≤ gate.rhs0) × AreGatesFrom (suc first) rest
+
+-- The order that the binary form of the format asks for: the variables from 1 on are the inputs, then the latches, then the
+-- gates, and no other is there.
+pub record IsNumbered (circuit : Circuit) : Type 0 where
+  pub greatest : circuit.greatest ≡ length circuit.inputs + length circuit.latches + length circuit.gates
+  pub inputs : (j : ℕ) → j < length circuit.inputs → input_at circuit j ≡ 2 * (j + 1)
+  pub latches : (j : ℕ) → j < length circuit.latches → (latch_at circuit j).literal ≡ 2 * (1 + length circuit.inputs + j)
+  pub gates : AreGatesFrom (1 + length circuit.inputs + length circuit.latches) circuit.gates
+  pub nexts : (j : ℕ) → j < length circuit.latches → (latch_at circuit j).next < 2 * (circuit.greatest + 1)
+  pub outputs : (j : ℕ) → j < length circuit.outputs → output_at circuit j < 2 * (circuit.greatest + 1)

@@ -1,0 +1,38 @@
+-- Gates while they are being made.
+use Rattle.std.specs.Prelude.{◌≡◌, ℕ, zero, suc, ◌+◌, ◌*◌, ◌^◌, ◌<◌, ◌≤◌, Bool, false, List, length, cond}
+use Rattle.pg_aiger.specs.declared.gate.Gate.{Gate}
+use Rattle.pg_aiger.specs.Circuits.{AreGatesFrom}
+use Rattle.pg_aiger.specs.Runs.{Valuation, value, Satisfies}
+
+-- `base` is the first gate's variable
+pub record Drafted : Type 0 where
+  pub base : ℕ
+  pub gates : List Gate
+
+pub record IsDraft (draft : Drafted) : Type 0 where
+  pub positive : 0 < draft.base
+  pub within : draft.base + length draft.gates ≤ 2 ^ 30
+  pub ordered : AreGatesFrom draft.base draft.gates
+
+-- a literal of a variable so far
+abbrev pub IsLiteral : Drafted → ℕ → Type 0
+IsLiteral draft literal = literal < 2 * (draft.base + length draft.gates)
+
+abbrev pub HasRoom : Drafted → ℕ → Type 0
+HasRoom draft count = draft.base + length draft.gates + count ≤ 2 ^ 30
+
+-- what satisfies the later gates satisfies the earlier, of which there are at most `count` fewer
+pub record Extends (count : ℕ) (old new : Drafted) : Type 0 where
+  pub base : new.base ≡ old.base
+  pub kept : (v : Valuation) → Satisfies v new.gates → Satisfies v old.gates
+  pub longer : length old.gates ≤ length new.gates
+  pub shorter : length new.gates ≤ length old.gates + count
+
+-- in every valuation that satisfies the gates the literal is true exactly if the meaning is
+abbrev pub Means : Drafted → ℕ → (Valuation → Bool) → Type 0
+Means draft literal meaning = (v : Valuation) → v 0 ≡ false → Satisfies v draft.gates → value v literal ≡ meaning v
+
+-- the number whose bits are the `count` variables from `first` on
+abbrev pub number_at : Valuation → ℕ → ℕ → ℕ
+number_at v first zero = 0
+number_at v first (suc count) = number_at v first count + cond (v (first + count)) (2 ^ count) 0

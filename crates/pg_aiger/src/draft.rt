@@ -1,0 +1,122 @@
+//! Gates in the order in which they are made.
+
+ghost use Rattle.std.specs.Prelude.{◌≡◌, ◌+◌, ◌^◌, ◌<◌, ◌≤◌, ◌/◌, ◌%◌, ◌==◌, ◌&&◌, ◌||◌, not, [], IfOk};
+ghost use Rattle.pg_aiger.specs.Runs.{Valuation, value};
+ghost use Rattle.pg_aiger.specs.Mirrors.Drafts.{IsDraft, IsLiteral, HasRoom, Extends, Means, number_at};
+
+use crate::gate::Gate;
+use std::alloc::{AllocError, Global};
+use std::marker::Model;
+
+/// The gates so far.
+#[derive(Drop)]
+pub(crate) struct Draft {
+    base: u32,
+    gates: Vec<Gate>,
+}
+
+impl Model for Draft {
+    ghost use Rattle.pg_aiger.specs.Mirrors.Drafts.{Drafted, IsDraft};
+
+    ghost Value = { Drafted };
+
+    ghost view = { λ d. record { base = d.base; gates = d.gates.items } };
+
+    ghost invariant = { λ d. IsDraft (record { base = d.base; gates = d.gates.items }) };
+}
+
+impl Draft {
+    /// No gates yet; the first will be the variable `base`.
+    pub fn new(alloc: Global, base: u32) -> Self
+        requires { (0 < base) × (base ≤ 2 ^ 30) }
+        ensures base { result.base ≡ base }
+        ensures gates { result.gates ≡ [] }
+    {
+        Draft {
+            base,
+            gates: Vec::new(alloc),
+        }
+    }
+
+    /// The gates, in order.
+    pub fn into_gates(self) -> Vec<Gate>
+        ensures gates { result.items ≡ self.gates }
+        ensures draft { IsDraft self }
+    {
+        self.gates
+    }
+
+    /// The conjunction of two literals: a new gate, unless one of them is constant.
+    pub fn and(&mut self, x: u32, y: u32) -> Result<u32, AllocError>
+        requires x_in { IsLiteral self.old x }
+        requires y_in { IsLiteral self.old y }
+        requires room { HasRoom self.old 1 }
+        ensures extends { Extends 1 self.old self.new }
+        ensures literal { IfOk result (λ l. IsLiteral self.new l) }
+        ensures meaning { IfOk result (λ l. Means self.new l (λ v. value v x && value v y)) }
+    {
+        if x == 0 || y == 0 {
+            return Ok(0);
+        }
+        if x == 1 {
+            return Ok(y);
+        }
+        if y == 1 {
+            return Ok(x);
+        }
+        let lhs = 2 * (self.base + self.gates.len() as u32);
+        let gate = Gate {
+            lhs,
+            rhs0: x.max(y),
+            rhs1: x.min(y),
+        };
+        self.gates.push(gate)?;
+        Ok(lhs)
+    }
+
+    /// The disjunction of two literals.
+    pub fn or(&mut self, x: u32, y: u32) -> Result<u32, AllocError>
+        requires x_in { IsLiteral self.old x }
+        requires y_in { IsLiteral self.old y }
+        requires room { HasRoom self.old 1 }
+        ensures extends { Extends 1 self.old self.new }
+        ensures literal { IfOk result (λ l. IsLiteral self.new l) }
+        ensures meaning { IfOk result (λ l. Means self.new l (λ v. value v x || value v y)) }
+    {
+        let literal = self.and(negated(x), negated(y))?;
+        Ok(negated(literal))
+    }
+
+    /// Whether `start` holds and the `count` variables from `first` on have the bits of the number, the low bit first.
+    pub fn matching(
+        &mut self,
+        start: u32,
+        first: u32,
+        count: u32,
+        number: u32,
+    ) -> Result<u32, AllocError>
+        requires start_in { IsLiteral self.old start }
+        requires variables { first + count ≤ self.old.base }
+        requires few { count ≤ 16 }
+        requires room { HasRoom self.old count }
+        ensures extends { Extends count self.old self.new }
+        ensures literal { IfOk result (λ l. IsLiteral self.new l) }
+        ensures meaning { IfOk result (λ l. Means self.new l
+            (λ v. value v start && (number_at v first count == number % 2 ^ count))) }
+    {
+        let mut literal = start;
+        for j in 0..count {
+            let negation = if (number >> j) % 2 == 1 { 0 } else { 1 };
+            literal = self.and(literal, 2 * (first + j) + negation)?;
+        }
+        Ok(literal)
+    }
+}
+
+/// The negation of a literal.
+fn negated(x: u32) -> u32
+    ensures variable { result / 2 ≡ x / 2 }
+    ensures value { (v : Valuation) → value v result ≡ not (value v x) }
+{
+    if x % 2 == 1 { x - 1 } else { x + 1 }
+}

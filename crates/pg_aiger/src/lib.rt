@@ -1,0 +1,15 @@
+//! Circuits of gates and latches in the AIGER format: the circuit of a machine, its steps, and its text.
+#![tactic(auto)]
+
+mod circuit;
+mod draft;
+mod fault;
+mod gate;
+pub mod laws;
+mod layout;
+mod table;
+
+pub use circuit::{Circuit, circuit_of};
+pub use fault::AigerFault;
+pub use layout::write_circuit;
+pub use pg_synth::{InputWord, Word};
