@@ -1,10 +1,12 @@
 #!/usr/bin/env python3
 """Times the program on generated games: the size of the text, and the seconds and the peak memory of the quickest run.
+`check` gets a solution too, and `replay` a script of 200,000 events with 6 workers.
 
     bench/bench.py [PROGRAM] [--only WORD] [--repeats N] [--limit SECONDS] [--words WORDS]
 
 PROGRAM is crates/parsolve/out/parsolve where none is given. WORD picks the cases whose names have it; WORDS are further
-words for the program. A run over the limit is ended, and its case isn't repeated. The games are those of families.py.
+words for the program. A run over the limit is ended, and its case isn't repeated. The games are those of families.py, the
+scripts those of schedules.py.
 """
 import argparse
 import os
@@ -14,6 +16,9 @@ import tempfile
 import time
 
 here = os.path.dirname(os.path.abspath(__file__))
+
+# workers and events of the scripts of `replay`
+SCHEDULE = ["6", "200000"]
 
 # command, family and sizes
 CASES = """
@@ -46,6 +51,7 @@ solve hubs 100000 10
 solve hubs 1000000 20
 check hubs 100000 10
 check hubs 1000000 20
+replay loops 10000 4
 """
 
 
@@ -87,6 +93,12 @@ def prepare(source, command, sizes, given):
     is left to other processes, since the peak of a run is at least what the process that starts it has had."""
     with open(source, "wb") as out:
         subprocess.run([sys.executable, os.path.join(here, "families.py"), *sizes], stdout=out, check=True)
+    if command == "replay":
+        with open(source, "ab") as out:
+            out.write(b"--\n")
+            out.flush()
+            schedule = [sys.executable, os.path.join(here, "schedules.py"), sizes[1], *SCHEDULE]
+            subprocess.run(schedule, stdout=out, check=True)
     if command != "check":
         return True
     with open(source, "rb") as game, open(source + ".solution", "wb") as out:

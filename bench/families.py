@@ -163,8 +163,14 @@ def hubs(a, b, dice):
         yield dice.below(b + 1), owner, successors + [owner] if linked else successors
 
 
+def loops(a, b, dice):
+    """a vertices of Odd, of b odd priorities, each with itself and two others as successors: each lift makes an update"""
+    for i in range(a):
+        yield 2 * dice.below(b) + 1, 1, [i, dice.below(a), dice.below(a)]
+
+
 FAMILIES = {it.__name__: it for it in (settled, climb, climbers, jurdzinski, ladder, clique, recladder, elevator, sparse, random,
-                                       chain, grid, wide, hubs)}
+                                       chain, grid, wide, hubs, loops)}
 
 
 def write(out, family, a, b, seed=1):

@@ -1,18 +1,21 @@
-"""Checks of the built programs that are no rows: random small games against the definitions, want of memory."""
+"""Checks of the built programs that are no rows: random small games and schedules against the definitions, want of
+memory."""
 import os
 import random
+import shutil
 import subprocess
 import tempfile
 
+import controllers
 import naive
 
 top = os.path.dirname(os.path.dirname(os.path.abspath(__file__)))
 
 
-def random_game(dice):
+def random_game(dice, priorities=range(5)):
     """A game of up to six vertices with identifiers that needn't be contiguous."""
     identifiers = dice.sample(range(12), dice.randint(1, 6))
-    return {v: (dice.randint(0, 4), dice.randint(0, 1), dice.sample(identifiers, dice.randint(1, min(3, len(identifiers)))))
+    return {v: (dice.choice(priorities), dice.randint(0, 1), dice.sample(identifiers, dice.randint(1, min(3, len(identifiers)))))
             for v in identifiers}
 
 
@@ -24,6 +27,79 @@ def answers_as_defined(program, command, text_of, count=150):
         ran = subprocess.run([program, command], input=naive.game_text(game).encode(), capture_output=True, timeout=60)
         if ran.returncode != 0 or ran.stdout.decode() != text_of(game):
             return f"{command} on {naive.game_text(game)!r}: {ran.stdout!r}, wanted {text_of(game)!r}"
+    return None
+
+
+def random_event(dice, game, script, made):
+    """An event after so many updates; few of them are refused."""
+    workers, v = script[0], dice.choice(sorted(game))
+    some, replica = dice.randint(1, max(workers, 1)), dice.randint(0, workers)
+    if dice.randrange(80) == 0:
+        return dice.choice([("lift", dice.randint(0, workers + 1), v), ("deliver", dice.randint(0, workers + 1), made),
+                            ("restart", dice.choice([0, workers + 1]))])
+    events = [("central", v)]
+    if workers:
+        events += [("lift", naive.worker_of(game, script, v), v)] * 5 + [("restart", some)]
+    if made:
+        events += [("deliver", replica, dice.randrange(made))] * 4
+    return dice.choice(events)
+
+
+def random_script(dice, game):
+    """Workers, perhaps a cut, and up to fifty events; behind the first that is refused stands one more."""
+    workers, events, ran = dice.choice([0, 1, 2, 3, 5, 16]), [], ([], [])
+    cut = [dice.randint(1, workers) for _ in game] if workers and dice.randint(0, 1) else None
+    for _ in range(dice.randint(0, 50)):
+        events.append(random_event(dice, game, (workers, cut, events), len(ran[0])))
+        ran = naive.replay(game, (workers, cut, events))
+        if isinstance(ran, str):
+            return workers, cut, [*events, ("central", min(game))]
+    return workers, cut, events
+
+
+def replays_as_defined(program, count=300):
+    """What the program prints of random schedules, or why it refuses an event, is what the definitions say."""
+    dice = random.Random(2)
+    refused = 0
+    for _ in range(count):
+        game = random_game(dice, (1, 1, 2, 3, 3, 4))
+        script = random_script(dice, game)
+        text = naive.game_text(game) + "--\n" + naive.script_text(script)
+        defined = naive.replay(game, script)
+        is_refused = isinstance(defined, str)
+        refused += is_refused
+        wanted = (1, "", defined) if is_refused else (0, naive.world_text(game, *defined), "")
+        ran = subprocess.run([program, "replay"], input=text, capture_output=True, text=True, timeout=60)
+        if (ran.returncode, ran.stdout, ran.stderr) != wanted:
+            return f"replay on {text!r}: {ran.stdout!r} {ran.stderr!r}, wanted {wanted!r}"
+    return None if 0 < refused < count / 2 else f"{refused} of {count} schedules were refused"
+
+
+def controllers_as_defined(program, count=120):
+    """What `synth` says of random automata is so, and under its circuits every run is accepted."""
+    dice = random.Random(2)
+    for _ in range(count):
+        why = controllers.check(program, controllers.random_automaton(dice))
+        if why is not None:
+            return why
+    return None
+
+
+def circuits_are_read(program):
+    """An outside tool, where it is installed, reads the circuits of the examples."""
+    if shutil.which("yosys") is None:
+        print("circuits of the examples: skipped, yosys is not installed")
+        return None
+    with tempfile.TemporaryDirectory() as folder:
+        for name in ("request-grant", "owl-arbiter", "delay"):
+            with open(os.path.join(top, "examples", f"{name}.hoa"), "rb") as file:
+                line, _, circuit = subprocess.run([program, "synth"], stdin=file, capture_output=True).stdout.partition(b"\n")
+            path = os.path.join(folder, f"{name}.aag")
+            with open(path, "wb") as file:
+                file.write(circuit)
+            ran = subprocess.run(["yosys", "-q", "-p", f"read_aiger {path}; check -assert"], capture_output=True, timeout=60)
+            if line != b"REALIZABLE" or ran.returncode != 0:
+                return f"{name}: {line!r}, {ran.stdout!r}, {ran.stderr!r}"
     return None
 
 
@@ -79,18 +155,30 @@ def cases(programs):
     game = b"parity 2;\n0 1 0 1;\n1 3 0 2;\n2 4 0 0;\n"
     three = b"parity 2;\n0 0 1 0,1;\n1 1 1 1,2 \"odd\";\n2 2 0 0,2;\n"
     solution = b"paritysol 2;\n0 1 1;\n1 1 1;\n2 0 2;\n"
+    odd = b"parity 1;\n0 1 0 0;\n1 3 0 0;\n"
+    script = b"--\nworkers 2;\ncut 1,2;\nlift 1 0;\nlift 2 1;\ndeliver 0 1;\nrestart 1;\ndeliver 1 0;\ncentral 0;\n"
+    world = (b"update 0 0 0,1;\nupdate 1 1 1,0;\nupdate 2 0 0,1;\nreplica 0 taken 1,2;\n0 0,1;\n1 1,0;\n"
+             b"replica 1 taken 0;\n0 0,1;\n1 0,0;\nreplica 2 taken 1;\n0 0,0;\n1 1,0;\n")
     automaton = (b'HOA: v1\nStart: 0\nAP: 1 "g"\ncontrollable-AP: 0\nAcceptance: 1 Inf(0)\n--BODY--\n'
                  b"State: 0\n[0] 1 {0}\nState: 1\n[!0] 0 {0}\n--END--\n")
     automaton_game = (b'parity 6;\n0 1 1 0 "dead";\n1 1 1 3 "s0";\n2 2 1 3 "s0/0";\n3 0 0 0,5 "s0:0";\n'
                       b'5 2 1 6 "s1/0";\n6 0 0 0,2 "s1:0";\n')
+    delay = (b'HOA: v1\nStart: 0\nAP: 2 "r" "g"\ncontrollable-AP: 1\nAcceptance: 2 Fin(1) & Inf(0)\n--BODY--\nState: 0\n'
+             b"[!0&!1] 0 {0}\n[0&!1] 1 {0}\nState: 1\n[!0&1] 0 {0}\n[0&1] 1 {0}\n--END--\n")
+    circuit = (b"REALIZABLE\naag 8 1 1 1 6\n2\n4 15\n17\n6 5 3\n8 5 2\n10 4 3\n12 4 2\n14 13 9\n16 13 11\n"
+               b"i0 r\no0 g\n")
     for program in programs:
         name = os.path.basename(program)
         yield f"measure on random games ({name})", lambda p=program: answers_as_defined(p, "measure", naive.measure_text)
         yield f"solve on random games ({name})", lambda p=program: answers_as_defined(p, "solve", naive.solution_text)
+        yield f"replay on random schedules ({name})", lambda p=program: replays_as_defined(p)
         yield f"solutions of the examples ({name})", lambda p=program: solutions_win(p)
+        yield f"synth on random automata ({name})", lambda p=program: controllers_as_defined(p)
+    yield "circuits of the examples", lambda: circuits_are_read(programs[0])
     # the program as LLVM builds it takes its memory by malloc and realloc alone
     for command, text, wanted in (("measure", game, b"0 1,1;\n1 1,0;\n2 0,0;\n"), ("solve", three, solution),
-                                  ("check", three + b"--\n" + solution, b"WINS\n"), ("game", automaton, automaton_game)):
+                                  ("check", three + b"--\n" + solution, b"WINS\n"), ("replay", odd + script, world),
+                                  ("game", automaton, automaton_game), ("synth", delay, circuit)):
         yield f"want of memory in {command}", lambda c=command, t=text, w=wanted: survives_want_of_memory(programs[0], [c], t, w)
 
 

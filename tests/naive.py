@@ -1,7 +1,8 @@
-"""Progress measures by the definition, as plainly as it can be said: for games of a few vertices.
+"""Progress measures and worlds by the definition, as plainly as it can be said: for games of a few vertices.
 
 A game is a dictionary from identifiers to (priority, owner, successors). A measure is a list of components, one for
-each odd priority that occurs, the greatest first, or TOP.
+each odd priority that occurs, the greatest first, or TOP. A script is (number of workers, cut, events): the cut is a list
+of the workers of the vertices, by rising identifier, or None, and an event a word and its numbers, as it is written.
 """
 TOP = None
 
@@ -34,17 +35,27 @@ def all_measures(bounds):
     return lists + [TOP]
 
 
+def least_serving(game, bounds, measures, f, v):
+    """The least of the measures that covers some successor of v (Even) or all (Odd)."""
+    p, owner, successors = game[v]
+    some_or_all = any if owner == 0 else all
+    return next(m for m in measures if some_or_all(covers(bounds, p, m, f[w]) for w in successors))
+
+
+def zeros(game):
+    return {v: [0] * len(bounds_of(game)) for v in game}
+
+
 def least_progress_measure(game):
-    """From zero up: each vertex gets the least measure that covers some successor (Even) or all (Odd)."""
+    """From zero up, until each vertex has its least serving measure."""
     bounds = bounds_of(game)
     measures = all_measures(bounds)
-    f = {v: [0] * len(bounds) for v in game}
+    f = zeros(game)
     changed = True
     while changed:
         changed = False
-        for v, (p, owner, successors) in game.items():
-            some_or_all = any if owner == 0 else all
-            least = next(m for m in measures if some_or_all(covers(bounds, p, m, f[w]) for w in successors))
+        for v in game:
+            least = least_serving(game, bounds, measures, f, v)
             if not at_most(least, f[v]):
                 f[v] = least
                 changed = True
@@ -68,17 +79,91 @@ def solution(game):
     return answer
 
 
+def shown(m):
+    return "T" if m is TOP else ",".join(map(str, m)) or "-"
+
+
 def game_text(game):
     lines = [f"{v} {p} {owner} {','.join(map(str, sorted(set(ws))))};\n" for v, (p, owner, ws) in sorted(game.items())]
     return f"parity {max(game)};\n" + "".join(lines)
 
 
+def measures_text(f):
+    return "".join(f"{v} {shown(m)};\n" for v, m in sorted(f.items()))
+
+
 def measure_text(game):
-    def shown(m):
-        return "T" if m is TOP else ",".join(map(str, m)) or "-"
-    return "".join(f"{v} {shown(m)};\n" for v, m in sorted(least_progress_measure(game).items()))
+    return measures_text(least_progress_measure(game))
 
 
 def solution_text(game):
     lines = [f"{v} {w};\n" if c is None else f"{v} {w} {c};\n" for v, (w, c) in sorted(solution(game).items())]
     return f"paritysol {max(game)};\n" + "".join(lines)
+
+
+def worker_of(game, script, v):
+    """The worker of a vertex; 0 where there is none."""
+    workers, cut, _ = script
+    place = sorted(game).index(v)
+    return cut[place] if cut else 1 + place * workers // len(game) if workers else 0
+
+
+def join(game, updates, taken):
+    """The least map that is at least each of the updates that were taken."""
+    f = zeros(game)
+    for v, m in (updates[n] for n in taken):
+        if not at_most(m, f[v]):
+            f[v] = m
+    return f
+
+
+def refusal(game, script, updates, event):
+    """Why an event is refused, or None."""
+    word, *numbers = event
+    least, most = 0 if word == "deliver" else 1, script[0]
+    if word == "central":
+        return None
+    if not least <= numbers[0] <= most:
+        return f"no replica {numbers[0]}"
+    if word == "lift" and worker_of(game, script, numbers[1]) != numbers[0]:
+        return f"vertex {numbers[1]} is not of worker {numbers[0]}"
+    if word == "deliver" and numbers[1] >= len(updates):
+        return f"update {numbers[1]} was never made"
+    return None
+
+
+def replay(game, script):
+    """(the updates, what each replica took) after the events, or the line that is told of the first that is refused."""
+    bounds, updates, taken = bounds_of(game), [], [[] for _ in range(script[0] + 1)]
+    measures = all_measures(bounds)
+    for place, event in enumerate(script[2]):
+        why = refusal(game, script, updates, event)
+        if why:
+            return f"parsolve: event {place}: {why}\n"
+        word, *numbers = event
+        if word == "deliver":
+            taken[numbers[0]].append(numbers[1])
+        elif word == "restart":
+            taken[numbers[0]] = []
+        else:
+            replica, v = [0, *numbers][-2:]
+            f = join(game, updates, taken[replica])
+            m = least_serving(game, bounds, measures, f, v)
+            if not at_most(m, f[v]):
+                taken[replica].append(len(updates))
+                updates.append((v, m))
+    return updates, taken
+
+
+def script_text(script):
+    workers, cut, events = script
+    head = [f"workers {workers}", f"cut {','.join(map(str, cut))}"] if cut else [f"workers {workers}"]
+    lines = head + [" ".join(map(str, event)) for event in events]
+    return "".join(f"{line};\n" for line in lines)
+
+
+def world_text(game, updates, taken):
+    made = [f"update {n} {v} {shown(m)};\n" for n, (v, m) in enumerate(updates)]
+    took = [f"replica {r} taken {','.join(map(str, it)) or '-'};\n" + measures_text(join(game, updates, it))
+            for r, it in enumerate(taken)]
+    return "".join(made + took)

@@ -1,10 +1,16 @@
 pub mod Parting
 pub mod Writing
+pub mod WorldTexts
 pub mod Refusing
 pub mod Measuring
 pub mod Verdicts
 pub mod Printed
 pub mod Printing
+pub mod Ran
+pub mod Replaying
+pub mod OneWorld
 pub mod One
 pub mod Won
 pub mod Made
+pub mod Realized
+pub mod Synthesised

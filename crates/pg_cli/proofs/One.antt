@@ -1,4 +1,4 @@
--- The answers of `measure`, of `solve` and of `game` are functions of the input.
+-- The answers of `measure`, of `solve`, of `replay` and of `game` are functions of the input.
 use Rattle.std.proofs.Common.{◌≡◌, ◌⊎◌, ℕ, ◌<◌, ◌≤◌, List, length, Option, Some, None, refl, sym, ap, ap₂, subst, inl, inr, ◌∙◌, arith}
 use Rattle.std.specs.Prelude.{IsSome}
 use Rattle.std.proofs.lemmas.List.{same_lists, get_or_default}
@@ -16,8 +16,10 @@ use Rattle.pg_text.specs.Solutions.{answer_at, unanswered}
 use Rattle.pg_text.specs.SolutionLayout.{solution_text}
 use Rattle.pg_check.specs.Strategies.{HasList, IsChoiceFor, IsAnswerOf, IsSolutionOf, IsLeastUndecided}
 use Rattle.pg_cli.specs.Measuring.{IsMeasureOf, IsMeasured, measures_text}
+use Rattle.pg_cli.specs.Solving.{IsSolvedBy, IsUndecidedIn}
 use Rattle.pg_cli.specs.Making.{IsGameFor}
 use Rattle.pg_cli.specs.Laws.{OneAnswer}
+use Rattle.pg_cli.proofs.OneWorld as world
 use Rattle.pg_hoa.specs.Automata.{Automaton}
 use Rattle.pg_hoa.specs.Laws.{OneReading}
 use Rattle.pg_synth.specs.AutomatonGames.{IsGameOfAutomaton}
@@ -98,6 +100,32 @@ one_undecided game f g id other p q =
     let same : p.vertex ≡ q.vertex = omega arith in
     p.named ∙ ap (identifier game) same ∙ sym q.named
 
+module _ (one_bounds : OneListOfBounds) (least : ClosedIsLeast) where
+  -- a game has one solution of its least progress measures
+  pub one_solved : (game : List GameVertex) (first second : List Answer) → IsSolvedBy game first → IsSolvedBy game second → first ≡ second
+  one_solved game first second p q =
+      let even = one_map one_bounds least game game p.even q.even refl p.even_measure q.even_measure in
+      let odd = one_map one_bounds least (dual game) (dual game) p.odd q.odd refl p.odd_measure q.odd_measure in
+      one_solution game p.even p.odd first second p.solution_of
+      (subst (λ (f : MapValue). IsSolutionOf game f p.odd second) (sym even)
+      (subst (λ (g : MapValue). IsSolutionOf game q.even g second) (sym odd) q.solution_of))
+
+  pub decided_in : (game : List GameVertex) (solution : List Answer) (id : ℕ) → IsSolvedBy game solution → ¬ IsUndecidedIn game id
+  decided_in game solution id p q =
+      let even = one_map one_bounds least game game p.even q.even refl p.even_measure q.even_measure in
+      let odd = one_map one_bounds least (dual game) (dual game) p.odd q.odd refl p.odd_measure q.odd_measure in
+      decided_by game p.even p.odd solution id p.solution_of
+      (subst (λ (f : MapValue). IsLeastUndecided game f p.odd id) (sym even)
+      (subst (λ (g : MapValue). IsLeastUndecided game q.even g id) (sym odd) q.undecided))
+
+  one_undecided_in : (game : List GameVertex) (first second : ℕ) → IsUndecidedIn game first → IsUndecidedIn game second → first ≡ second
+  one_undecided_in game first second p q =
+      let even = one_map one_bounds least game game p.even q.even refl p.even_measure q.even_measure in
+      let odd = one_map one_bounds least (dual game) (dual game) p.odd q.odd refl p.odd_measure q.odd_measure in
+      one_undecided game p.even p.odd first second p.undecided
+      (subst (λ (f : MapValue). IsLeastUndecided game f p.odd second) (sym even)
+      (subst (λ (g : MapValue). IsLeastUndecided game q.even g second) (sym odd) q.undecided))
+
 -- an input has one game
 one_made : OneReading → (input : List ℕ) (game other : List GameVertex) → IsGameFor input game → IsGameFor input other → game ≡ other
 one_made reading input game other p q =
@@ -105,36 +133,26 @@ one_made reading input game other p q =
     synth.one_game p.automaton game other p.game_of
     (subst (λ (a : Automaton). IsGameOfAutomaton a other) same q.game_of)
 
-pub one_answer : SpellsOneGame → OneListOfBounds → ClosedIsLeast → OneReading → OneAnswer
-one_answer one_game one_bounds least reading = record {
+pub one_answer : SpellsOneGame → OneListOfBounds → ClosedIsLeast → OneReading → world.Laws → OneAnswer
+one_answer one_game one_bounds least reading laws = record {
   measured = one_measured one_bounds least one_game;
   solved = λ input first second p q.
       let same : p.game ≡ q.game = one_game input q.game p.game q.spelt p.spelt in
-      let even = one_map one_bounds least p.game q.game p.solved.even q.solved.even same p.solved.even_measure q.solved.even_measure in
-      let odd = one_map one_bounds least (dual p.game) (dual q.game) p.solved.odd q.solved.odd (ap dual same) p.solved.odd_measure q.solved.odd_measure in
-      let of : IsSolutionOf p.game p.solved.even p.solved.odd q.solution =
-      subst (λ (x : List GameVertex). IsSolutionOf x p.solved.even p.solved.odd q.solution) (sym same)
-      (subst (λ (f : MapValue). IsSolutionOf q.game f p.solved.odd q.solution) (sym even)
-      (subst (λ (g : MapValue). IsSolutionOf q.game q.solved.even g q.solution) (sym odd) q.solved.solution_of)) in
       let solution : p.solution ≡ q.solution =
-      one_solution p.game p.solved.even p.solved.odd p.solution q.solution p.solved.solution_of of in
+      one_solved one_bounds least p.game p.solution q.solution p.solved
+      (subst (λ (x : List GameVertex). IsSolvedBy x q.solution) (sym same) q.solved) in
       p.printed ∙ ap₂ (λ (x : List GameVertex) (s : List Answer). solution_text x s) same solution ∙ sym q.printed;
   decided = λ input output id p q.
       let same : p.game ≡ q.game = one_game input q.game p.game q.spelt p.spelt in
-      let even = one_map one_bounds least p.game q.game p.solved.even q.even same p.solved.even_measure q.even_measure in
-      let odd = one_map one_bounds least (dual p.game) (dual q.game) p.solved.odd q.odd (ap dual same) p.solved.odd_measure q.odd_measure in
-      decided_by p.game p.solved.even p.solved.odd p.solution id p.solved.solution_of
-      (subst (λ (x : List GameVertex). IsLeastUndecided x p.solved.even p.solved.odd id) (sym same)
-      (subst (λ (f : MapValue). IsLeastUndecided q.game f p.solved.odd id) (sym even)
-      (subst (λ (g : MapValue). IsLeastUndecided q.game q.even g id) (sym odd) q.undecided)));
+      decided_in one_bounds least p.game p.solution id p.solved
+      (subst (λ (x : List GameVertex). IsUndecidedIn x id) (sym same) q.undecided);
   undecided = λ input first second p q.
       let same : p.game ≡ q.game = one_game input q.game p.game q.spelt p.spelt in
-      let even = one_map one_bounds least p.game q.game p.even q.even same p.even_measure q.even_measure in
-      let odd = one_map one_bounds least (dual p.game) (dual q.game) p.odd q.odd (ap dual same) p.odd_measure q.odd_measure in
-      one_undecided p.game p.even p.odd first second p.undecided
-      (subst (λ (x : List GameVertex). IsLeastUndecided x p.even p.odd second) (sym same)
-      (subst (λ (f : MapValue). IsLeastUndecided q.game f p.odd second) (sym even)
-      (subst (λ (g : MapValue). IsLeastUndecided q.game q.even g second) (sym odd) q.undecided)));
+      one_undecided_in one_bounds least p.game first second p.undecided
+      (subst (λ (x : List GameVertex). IsUndecidedIn x second) (sym same) q.undecided);
+  replayed = world.one_replayed laws;
+  unrefused = world.unrefused laws;
+  stopped = world.one_stop laws;
   made = λ input first second p q.
       p.printed ∙ ap game_text (one_made reading input p.game q.game p.made q.made) ∙ sym q.printed;
   within = λ input output p q.

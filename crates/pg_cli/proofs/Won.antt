@@ -17,6 +17,7 @@ use Rattle.pg_map.specs.Laws.{GameLines, HasLeastProgressMeasure}
 use Rattle.pg_check.specs.Strategies.{IsUndecided, DecidedMapsSolve}
 use Rattle.pg_determined.specs.Winners.{LeastTellsWinners, NeverUndecided}
 use Rattle.pg_cli.specs.Measuring.{IsMeasureOf, measures_text}
+use Rattle.pg_cli.specs.Solving.{IsUndecidedIn}
 use Rattle.pg_cli.specs.Winners.{MeasuresTellWinners, NoneUndecided, GamesHaveAnswers}
 
 pub measures_tell_winners : LeastTellsWinners → MeasuresTellWinners
@@ -30,9 +31,15 @@ none_at : NeverUndecided → (game : List GameVertex) (even odd : MapValue) → 
 none_at never game even odd is_game e o v undecided =
     never game even odd is_game e.bounds o.bounds e.size (o.size ∙ length_dual game) e.least o.least v undecided
 
+pub none_in : NeverUndecided → (game : List GameVertex) → IsGame game → (id : ℕ) → ¬ IsUndecidedIn game id
+none_in never game is_game id u =
+    none_at never game u.even u.odd is_game u.even_measure u.odd_measure u.undecided.vertex u.undecided.undecided
+
 pub none_undecided : NeverUndecided → NoneUndecided
-none_undecided never input id u =
-    none_at never u.game u.even u.odd u.spelt.game_of.well u.even_measure u.odd_measure u.undecided.vertex u.undecided.undecided
+none_undecided never input id = (
+  λ u. none_in never u.game u.spelt.game_of.well id u.undecided,
+  λ u. none_in never u.game u.made.game_of.is_game id u.undecided,
+)
 
 measure_of : HasBounds → GameLines → HasLeastProgressMeasure → (game : List GameVertex) → IsGame game → (map : MapValue) × IsMeasureOf game map
 measure_of bounded lines least game is_game =

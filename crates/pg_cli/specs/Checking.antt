@@ -11,7 +11,7 @@ use Rattle.pg_check.specs.Verdicts.{IsWins, Refutes}
 use Rattle.pg_check.specs.declared.verdict.Verdict.{Verdict}
 use Rattle.pg_check.specs.declared.verdict.Verdict.TheVariants.{Wins, Leaves, BadCycle}
 use Rattle.pg_cli.specs.Parts.{IsParted}
-use Rattle.pg_cli.specs.Texts.{IsNoGame, IsNoSolution}
+use Rattle.pg_cli.specs.Texts.{IsNoSolution, FailsFirst}
 use Rattle.pg_cli.specs.declared.fault.CliFault.{CliFault}
 use Rattle.pg_cli.specs.declared.fault.CliFault.TheVariants.{Text, NoSeparator}
 
@@ -47,13 +47,6 @@ pub record IsChecked (input output : List ℕ) : Type 0 where
   pub verdict : Verdict
   pub checked : IsCheckedBy input game verdict
   pub printed : output ≡ verdict_text game verdict
-
--- the first text spells no game
-pub record FailsFirst (input : List ℕ) (fault : TextFault) : Type 0 where
-  pub first : List ℕ
-  pub second : List ℕ
-  pub parted : IsParted input first second
-  pub none : IsNoGame first fault
 
 -- the first text spells a game, and the second no solution of it
 pub record FailsSecond (input : List ℕ) (fault : TextFault) : Type 0 where

@@ -1,10 +1,22 @@
 -- The line that is told of a fault.
 use Rattle.std.specs.Prelude.{ℕ, List, ◌++◌, codes, decimal}
 use Rattle.pg_text.specs.FaultTexts as text
+use Rattle.pg_world.specs.ScriptFaultTexts as script
+use Rattle.pg_world.specs.declared.fault.WorldFault.{WorldFault}
+use Rattle.pg_world.specs.declared.fault.WorldFault.TheVariants as world
 use Rattle.pg_hoa.specs.FaultTexts as hoa
 use Rattle.pg_synth.specs.FaultTexts as synth
+use Rattle.pg_aiger.specs.FaultTexts as aiger
 use Rattle.pg_cli.specs.declared.fault.CliFault.{CliFault}
-use Rattle.pg_cli.specs.declared.fault.CliFault.TheVariants.{OutOfMemory, Read, Write, InputTooLong, NoSeparator, Text, Undecided, Hoa, Synth}
+use Rattle.pg_cli.specs.declared.fault.CliFault.TheVariants.{OutOfMemory, Read, Write, InputTooLong, NoSeparator, Text, Script, World, Undecided, Hoa, Synth, Aiger}
+
+-- why an event is refused
+abbrev pub event_text : WorldFault → List ℕ
+event_text world.OutOfMemory = codes "out of memory"
+event_text (world.NoSuchReplica n) = codes "no replica " ++ decimal n
+event_text (world.NotMine worker id) = codes "vertex " ++ (decimal id ++ (codes " is not of worker " ++ decimal worker))
+event_text (world.NoSuchUpdate n) = codes "update " ++ (decimal n ++ codes " was never made")
+event_text world.CutMismatch = codes "the cut does not fit the game"
 
 abbrev pub fault_text : CliFault → List ℕ
 fault_text OutOfMemory = codes "out of memory"
@@ -13,9 +25,12 @@ fault_text Write = codes "cannot write the output"
 fault_text InputTooLong = codes "input is longer than 268435456 bytes"
 fault_text NoSeparator = codes "no line -- between the two texts"
 fault_text (Text fault) = text.fault_text fault
+fault_text (Script fault) = script.fault_text fault
+fault_text (World place fault) = codes "event " ++ (decimal place ++ (codes ": " ++ event_text fault))
 fault_text (Undecided id) = codes "undecided at " ++ decimal id
 fault_text (Hoa fault) = hoa.fault_text fault
 fault_text (Synth fault) = synth.fault_text fault
+fault_text (Aiger fault) = aiger.fault_text fault
 
 -- `parsolve: `, the text and a newline
 abbrev pub fault_line : CliFault → List ℕ

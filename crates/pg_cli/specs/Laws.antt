@@ -6,8 +6,10 @@ use Rattle.pg_text.specs.GameText.{IsGameText}
 use Rattle.pg_text.specs.Solutions.{winner, IsSolution}
 use Rattle.pg_text.specs.SolutionText.{IsSolutionText}
 use Rattle.pg_check.specs.Soundness.{IsSound, Wins}
+use Rattle.pg_world.specs.declared.fault.WorldFault.{WorldFault}
 use Rattle.pg_cli.specs.Measuring.{IsMeasured}
 use Rattle.pg_cli.specs.Solving.{IsSolved, IsUndecidedAt}
+use Rattle.pg_cli.specs.Replaying.{IsReplayed, IsStopped}
 use Rattle.pg_cli.specs.Making.{IsMade, IsTooLarge}
 
 -- The output spells a solution of the game that the input spells. At each vertex the printed winner wins every endless
@@ -25,12 +27,18 @@ pub record WinsAsPrinted (input output : List ℕ) : Type 0 where
 abbrev pub PrintedWinnersWin : Type 0
 PrintedWinnersWin = (input output : List ℕ) → IsSolved input output → WinsAsPrinted input output
 
--- The output is a function of the input: `measure` has one answer to an input, and so have `solve` and `game`; where
--- `solve` has one it isn't undecided, and where it is it names one vertex; where `game` has one it isn't too large.
+-- The output is a function of the input: `measure` has one answer to an input, and so have `solve`, `replay` and
+-- `game`; where `solve` has one it isn't undecided, and where it is it names one vertex; where `replay` has one no
+-- event is refused, and where one is it is at one place and for one fault; where `game` has one it isn't too large.
 pub record OneAnswer : Type 0 where
   pub measured : (input first second : List ℕ) → IsMeasured input first → IsMeasured input second → first ≡ second
   pub solved : (input first second : List ℕ) → IsSolved input first → IsSolved input second → first ≡ second
   pub decided : (input output : List ℕ) (id : ℕ) → IsSolved input output → ¬ IsUndecidedAt input id
   pub undecided : (input : List ℕ) (first second : ℕ) → IsUndecidedAt input first → IsUndecidedAt input second → first ≡ second
+  pub replayed : (input first second : List ℕ) → IsReplayed input first → IsReplayed input second → first ≡ second
+  pub unrefused : (input output : List ℕ) (place : ℕ) (fault : WorldFault)
+      → IsReplayed input output → ¬ IsStopped input place fault
+  pub stopped : (input : List ℕ) (first second : ℕ) (fault other : WorldFault)
+      → IsStopped input first fault → IsStopped input second other → (first ≡ second) × (fault ≡ other)
   pub made : (input first second : List ℕ) → IsMade input first → IsMade input second → first ≡ second
   pub within : (input output : List ℕ) → IsMade input output → ¬ IsTooLarge input

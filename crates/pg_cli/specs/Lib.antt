@@ -4,11 +4,14 @@ pub mod Texts
 pub mod Measuring
 pub mod Solving
 pub mod Checking
+pub mod Replaying
 pub mod Making
+pub mod Synthesising
 pub mod Answers
 pub mod Faults
 pub mod FaultTexts
 pub mod Words
 pub mod Laws
 pub mod Winners
+pub mod Controllers
 pub mod Mirrors

@@ -28,16 +28,20 @@ pub record IsSolved (input output : List ℕ) : Type 0 where
   pub solved : IsSolvedBy game solution
   pub printed : output ≡ solution_text game solution
 
--- The input spells a game, and the vertex with this identifier is the least at which the least progress measures of the
--- game and of its dual are both top.
-pub record IsUndecidedAt (input : List ℕ) (id : ℕ) : Type 0 where
-  pub game : List GameVertex
-  pub spelt : IsGameText input game
+-- The vertex with this identifier is the least at which the least progress measures of the game and of its dual are both
+-- top.
+pub record IsUndecidedIn (game : List GameVertex) (id : ℕ) : Type 0 where
   pub even : MapValue
   pub odd : MapValue
   pub even_measure : IsMeasureOf game even
   pub odd_measure : IsMeasureOf (dual game) odd
   pub undecided : IsLeastUndecided game even odd id
+
+-- The input spells a game that has such a vertex.
+pub record IsUndecidedAt (input : List ℕ) (id : ℕ) : Type 0 where
+  pub game : List GameVertex
+  pub spelt : IsGameText input game
+  pub undecided : IsUndecidedIn game id
 
 -- why an input has no such output: it spells no game, or both measures are top at some vertex
 abbrev pub RefusesSolve : List ℕ → CliFault → Type 0

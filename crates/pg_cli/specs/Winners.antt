@@ -5,14 +5,15 @@ use Rattle.pg_text.specs.GameText.{IsGameText}
 use Rattle.pg_determined.specs.Winners.{TellsWinners}
 use Rattle.pg_cli.specs.Measuring.{IsMeasured}
 use Rattle.pg_cli.specs.Solving.{IsSolved, IsUndecidedAt}
+use Rattle.pg_cli.specs.Synthesising.{IsUndecidedFor}
 
 -- the measures that are printed have a list exactly where Even wins, and are top exactly where Odd wins
 abbrev pub MeasuresTellWinners : Type 0
 MeasuresTellWinners = (input output : List ℕ) (measured : IsMeasured input output) → TellsWinners measured.game measured.map
 
--- no identifier is undecided for any input
+-- no identifier is undecided for any input, be it of `solve` or of `synth`
 abbrev pub NoneUndecided : Type 0
-NoneUndecided = (input : List ℕ) (id : ℕ) → ¬ IsUndecidedAt input id
+NoneUndecided = (input : List ℕ) (id : ℕ) → (¬ IsUndecidedAt input id) × (¬ IsUndecidedFor input id)
 
 -- an answer of each command that takes a game
 pub record HasAnswers (input : List ℕ) : Type 0 where

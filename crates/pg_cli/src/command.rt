@@ -9,8 +9,12 @@ pub enum Command {
     Solve,
     /// Prints whether a solution of a game is sound, and if not, what speaks against it.
     Check,
+    /// Prints the world that a script of lifts, deliveries and restarts makes of a game.
+    Replay,
     /// Prints the game of an automaton.
     Game,
+    /// Prints whether an automaton has a controller under which each run is accepted, and the circuit of one.
+    Synth,
 }
 
 impl Command {
@@ -19,11 +23,13 @@ impl Command {
     ghost use Rattle.pg_cli.specs.Words.{command_name};
 
     /// Every command, in the order of the help.
-    pub const ALL: [Command; 4] = [
+    pub const ALL: [Command; 6] = [
         Command::Measure,
         Command::Solve,
         Command::Check,
+        Command::Replay,
         Command::Game,
+        Command::Synth,
     ];
 
     /// The word that names the command.
@@ -34,7 +40,9 @@ impl Command {
             Command::Measure => "measure",
             Command::Solve => "solve",
             Command::Check => "check",
+            Command::Replay => "replay",
             Command::Game => "game",
+            Command::Synth => "synth",
         }
     }
 

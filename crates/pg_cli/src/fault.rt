@@ -5,10 +5,12 @@ ghost use Rattle.std.specs.Io.KnownBytes.{Appends};
 ghost use Rattle.pg_cli.specs.Faults.{status_of};
 ghost use Rattle.pg_cli.specs.FaultTexts.{fault_line};
 
+use pg_aiger::AigerFault;
 use pg_check::CheckFault;
 use pg_hoa::HoaFault;
 use pg_synth::SynthFault;
 use pg_text::TextFault;
+use pg_world::{ScriptFault, WorldFault};
 use std::alloc::AllocError;
 use std::error::Error;
 use std::fmt;
@@ -29,6 +31,10 @@ pub enum CliFault {
     NoSeparator,
     /// A text doesn't spell what it has to; never `OutOfMemory` or `Write`.
     Text(TextFault),
+    /// A text spells no script for the game; never `OutOfMemory`.
+    Script(ScriptFault),
+    /// The event at this place of a script, from 0, is the first that the world refuses; never `OutOfMemory`.
+    World(usize, WorldFault),
     /// Both least progress measures, that of the game and that of its dual, are top at the vertex with this identifier,
     /// and at none with a lesser one.
     Undecided(u32),
@@ -36,6 +42,8 @@ pub enum CliFault {
     Hoa(HoaFault),
     /// The game of an automaton is too large; never `OutOfMemory`.
     Synth(SynthFault),
+    /// The circuit of a controller is too large; never `OutOfMemory` or `Write`.
+    Aiger(AigerFault),
 }
 
 impl fmt::Display for CliFault {
@@ -52,9 +60,25 @@ impl fmt::Display for CliFault {
             CliFault::InputTooLong => f.write_str("input is longer than 268435456 bytes"),
             CliFault::NoSeparator => f.write_str("no line -- between the two texts"),
             CliFault::Text(fault) => write!(f, "{fault}"),
+            CliFault::Script(fault) => write!(f, "{fault}"),
+            CliFault::World(place, fault) => match fault {
+                WorldFault::OutOfMemory => write!(f, "event {place}: out of memory"),
+                WorldFault::NoSuchReplica(n) => write!(f, "event {place}: no replica {n}"),
+                WorldFault::NotMine(worker, id) => {
+                    write!(f, "event {place}: vertex {id} is not of worker {worker}")
+                }
+                WorldFault::NoSuchUpdate(n) => write!(
+                    f,
+                    "event {place}: update {n} was never made"
+                ),
+                WorldFault::CutMismatch => {
+                    write!(f, "event {place}: the cut does not fit the game")
+                }
+            },
             CliFault::Undecided(id) => write!(f, "undecided at {id}"),
             CliFault::Hoa(fault) => write!(f, "{fault}"),
             CliFault::Synth(fault) => write!(f, "{fault}"),
+            CliFault::Aiger(fault) => write!(f, "{fault}"),
         }
     }
 }
@@ -71,6 +95,16 @@ impl From<AllocError> for CliFault {
     }
 }
 
+impl From<io::Error> for CliFault {
+    ghost use Rattle.pg_cli.specs.declared.fault.CliFault.TheVariants.{Write};
+
+    ghost from_gives = { λ _ fault. fault ≡ Write };
+
+    fn from(_: io::Error) -> CliFault {
+        CliFault::Write
+    }
+}
+
 impl From<TextFault> for CliFault {
     ghost use Rattle.pg_cli.specs.Faults.{text_fault};
 
@@ -81,6 +115,32 @@ impl From<TextFault> for CliFault {
             TextFault::OutOfMemory => CliFault::OutOfMemory,
             TextFault::Write => CliFault::Write,
             _ => CliFault::Text(fault),
+        }
+    }
+}
+
+impl From<ScriptFault> for CliFault {
+    ghost use Rattle.pg_cli.specs.Faults.{script_fault};
+
+    ghost from_gives = { λ fault e. e ≡ script_fault fault };
+
+    fn from(fault: ScriptFault) -> CliFault {
+        match fault {
+            ScriptFault::OutOfMemory => CliFault::OutOfMemory,
+            _ => CliFault::Script(fault),
+        }
+    }
+}
+
+impl From<(usize, WorldFault)> for CliFault {
+    ghost use Rattle.pg_cli.specs.Faults.{event_fault};
+
+    ghost from_gives = { λ x e. e ≡ event_fault x.0 x.1 };
+
+    fn from((place, fault): (usize, WorldFault)) -> CliFault {
+        match fault {
+            WorldFault::OutOfMemory => CliFault::OutOfMemory,
+            _ => CliFault::World(place, fault),
         }
     }
 }
@@ -120,6 +180,20 @@ impl From<SynthFault> for CliFault {
         match fault {
             SynthFault::OutOfMemory => CliFault::OutOfMemory,
             SynthFault::TooLarge => CliFault::Synth(fault),
+        }
+    }
+}
+
+impl From<AigerFault> for CliFault {
+    ghost use Rattle.pg_cli.specs.Faults.{aiger_fault};
+
+    ghost from_gives = { λ fault e. e ≡ aiger_fault fault };
+
+    fn from(fault: AigerFault) -> CliFault {
+        match fault {
+            AigerFault::OutOfMemory => CliFault::OutOfMemory,
+            AigerFault::Write => CliFault::Write,
+            AigerFault::TooLarge => CliFault::Aiger(fault),
         }
     }
 }

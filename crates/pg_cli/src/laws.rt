@@ -1,6 +1,9 @@
 //! Laws over the definitions. Their functions take no memory and do nothing: their contracts are what they are for.
 
+ghost use Rattle.pg_cli.specs.Controllers.{CircuitAccepted, NoneAccepted, OneVerdict};
 ghost use Rattle.pg_cli.specs.Laws.{PrintedWinnersWin, OneAnswer};
+
+use pg_synth::{InputWord, Word};
 
 /// What `solve` prints for a game spells a solution of it. Each printed winner wins, by the printed strategy, every
 /// endless play that follows it, and no vertex has two winners.
@@ -13,13 +16,43 @@ pub fn printed_winners_win()
     pg_check::laws::one_winner();
 }
 
-/// `measure` has one answer to an input, and so have `solve` and `game`; where `solve` has one it isn't undecided, and
-/// where `game` has one it isn't too large. So what a run writes is a function of what it reads.
+/// `measure` has one answer to an input, and so have `solve`, `replay` and `game`; where `solve` has one it isn't
+/// undecided; where `replay` has one no event is refused, and where one is it is at one place and for one fault; where
+/// `game` has one it isn't too large. So what a run writes is a function of what it reads.
 pub fn one_answer()
     ensures { OneAnswer }
 {
     pg_text::laws::one_game();
     pg_measure::laws::one_list_of_bounds();
     pg_map::laws::closed_is_least();
+    pg_world::laws::one_script();
+    pg_world::laws::same_taken();
+    pg_measure::laws::order_is_total();
     pg_hoa::laws::one_reading();
+}
+
+/// What `synth` prints behind `REALIZABLE` spells a circuit. For every endless word of input letters it has exactly one
+/// run, and the automaton that the input spells accepts the word of that run.
+pub fn circuit_accepted<W: InputWord>(word: &W)
+    ensures { CircuitAccepted (W.input word.now) }
+{
+    pg_aiger::laws::circuit_follows();
+    pg_aiger::laws::circuit_reads_back();
+    pg_synth::laws::machine_accepted();
+}
+
+/// Where `synth` prints `UNREALIZABLE`, an endless word isn't accepted if its input letters are those that Odd's strategy
+/// chooses at the arrivals which the word traces.
+pub fn unrealizable<W: Word>(word: &W)
+    ensures { NoneAccepted (W.letter word.now) }
+{
+    pg_synth::laws::unrealizable();
+}
+
+/// No input has both answers of `synth`.
+pub fn one_verdict()
+    ensures { OneVerdict }
+{
+    pg_hoa::laws::one_reading();
+    pg_check::laws::one_winner();
 }

@@ -11,10 +11,13 @@ mod measure;
 mod output;
 mod parts;
 mod program;
+mod replay;
 mod solve;
 mod solver;
+mod synth;
 pub mod winners;
 mod words;
+mod world_output;
 
 pub use command::Command;
 pub use fault::{CliFault, exit_code, write_fault};

@@ -11,7 +11,9 @@ use crate::fault::CliFault;
 use crate::game::game;
 use crate::input::{MOST_BYTES, read_all_limited};
 use crate::measure::measure;
+use crate::replay::replay;
 use crate::solve::solve;
+use crate::synth::synth;
 use std::alloc::Global;
 use std::io::{Read, Write};
 
@@ -19,10 +21,12 @@ use std::io::{Read, Write};
 ///
 /// Refuses, in this order: `Read`; `InputTooLong` for more than 268,435,456 bytes, of which it reads the first one over
 /// the limit at most; `NoSeparator` where two texts are wanted and no line `--` parts them; `Text` for a text that
-/// doesn't spell what it has to, the first text's fault before the second's, or `Hoa` for one that spells no automaton;
-/// `Undecided`, of `solve` alone; `Synth`, of `game` alone, for an automaton whose game is too large; `Write`, after which
-/// nothing is said of how much went out. `OutOfMemory` may come at any growth. Nothing is written before the work is done,
-/// so after another fault than `Write` nothing was written.
+/// doesn't spell what it has to, the first text's fault before the second's, `Script` for a second text that spells no
+/// script for the game, or `Hoa` for one that spells no automaton; `Undecided`, of `solve` and `synth`; `World`, of `replay`
+/// alone, at the first event that is refused; `Synth`, of `game` and `synth`, for an automaton whose game is too large;
+/// `Aiger`, of `synth` alone, for a controller whose circuit is; `Write`, after which nothing is said of how much went out.
+/// `OutOfMemory` may come at any growth. Nothing is written before the work is done, so after another fault than `Write`
+/// nothing was written.
 pub fn run<R: Read, W: Write>(
     alloc: Global,
     command: Command,
@@ -42,6 +46,8 @@ pub fn run<R: Read, W: Write>(
         Command::Measure => measure(alloc, text, writer),
         Command::Solve => solve(alloc, text, writer),
         Command::Check => check(alloc, text, writer),
+        Command::Replay => replay(alloc, text, writer),
         Command::Game => game(alloc, text, writer),
+        Command::Synth => synth(alloc, text, writer),
     }
 }

@@ -10,9 +10,8 @@ ghost use Rattle.pg_cli.specs.declared.command.Command.TheVariants.{Solve};
 
 use crate::fault::CliFault;
 use crate::input::MOST_BYTES;
-use crate::solver::{least_measure, least_measure_of_dual};
+use crate::solver::solution_of;
 use pg_arena::Game;
-use pg_check::strategies;
 use pg_text::{Solution, read_game, write_solution};
 use std::alloc::Global;
 use std::io::Write;
@@ -30,9 +29,7 @@ fn solved(alloc: Global, text: Vec<u8>) -> Result<(Game, Solution), CliFault>
     let game = read_game(alloc, &text)?;
     let _vertices = game.len();
     drop(text);
-    let even = least_measure(alloc, &game)?;
-    let odd = least_measure_of_dual(alloc, &game)?;
-    let solution = strategies(alloc, &game, &even, &odd)?;
+    let solution = solution_of(alloc, &game)?;
     Ok((game, solution))
 }
 

@@ -9,7 +9,8 @@ pub fn measures_tell_winners()
     pg_determined::laws::least_tells_winners();
 }
 
-/// No vertex is undecided, so `solve` is never refused with `Undecided` where the least progress measures are found.
+/// No vertex is undecided, so neither `solve` nor `synth` is refused with `Undecided` where the least progress measures are
+/// found.
 pub fn none_undecided()
     ensures { NoneUndecided }
 {

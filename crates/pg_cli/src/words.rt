@@ -75,6 +75,23 @@ Example: printf 'parity 1; 0 1 0 0,1; 1 2 1 0;\n--\n0 0 1; 1 0;' | parsolve chec
 prints `WINS`.",
 };
 
+const REPLAY: Help = Help {
+    about: "Prints what workers make of a game under a script of lifts, deliveries and restarts",
+    more: "\
+Input: a parity game in the format of PGSolver, a line `--`, and a script:
+  workers N;      the workers 1 to N, at most 16; replica 0 is the coordinator
+  cut A,B,..;     may be left out: the worker of each vertex, by rising identifier; else they get runs of like length
+  lift W ID;      the worker W lifts its vertex ID, which makes an update if the measure rises
+  deliver R N;    the replica R takes the update N; updates are numbered from 0 as they are made
+  restart W;      the worker W forgets all
+  central ID;     the coordinator lifts the vertex ID
+Output: a line `update N ID MEASURE;` for each update; then for each replica `replica R taken N,N,..;` (`-` for none),
+what it took since its last restart, and its map as `measure` prints one. An event that can't be is refused.
+
+Example: printf 'parity 1; 0 1 0 0,1; 1 2 1 0;\n--\nworkers 1; lift 1 0; deliver 0 0;' | parsolve replay
+prints `update 0 0 1;`, `replica 0 taken 0;`, `0 1;`, `1 0;`, `replica 1 taken 0;`, `0 1;` and `1 0;`, each on a line.",
+};
+
 const GAME: Help = Help {
     about: "Prints the parity game of an automaton",
     more: "\
@@ -87,12 +104,25 @@ under which every run is accepted.
 Example: parsolve game < examples/request-grant.hoa | parsolve solve",
 };
 
+const SYNTH: Help = Help {
+    about: "Prints a controller for an automaton, as a circuit",
+    more: "\
+Input: an automaton in HOA v1 with the header `controllable-AP`: deterministic, with a parity condition, labels on edges
+Output: `REALIZABLE` and a circuit in the ASCII form of AIGER, whose inputs are the propositions that aren't controllable
+and whose outputs are those that are: under it every run is accepted, whatever the inputs. Or `UNREALIZABLE`, if there is
+no such controller.
+
+Example: parsolve synth < examples/request-grant.hoa",
+};
+
 fn help_of(command: Command) -> Help {
     match command {
         Command::Measure => MEASURE,
         Command::Solve => SOLVE,
         Command::Check => CHECK,
+        Command::Replay => REPLAY,
         Command::Game => GAME,
+        Command::Synth => SYNTH,
     }
 }
 

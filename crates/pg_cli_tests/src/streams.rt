@@ -49,18 +49,35 @@ const TWO: &[u8] = b"parity 1;\n0 1 0 0,1;\n1 2 1 0;\n";
 /// The same, and its solution.
 const SOLVED: &[u8] = b"parity 1;\n0 1 0 0,1;\n1 2 1 0;\n--\nparitysol 1;\n0 0 1;\n1 0;\n";
 
+/// The same, and a script in which the coordinator alone lifts.
+const SCRIPT: &[u8] = b"parity 1;\n0 1 0 0,1;\n1 2 1 0;\n--\nworkers 0;\ncentral 0;\ncentral 0;\n";
+
+/// What comes of it.
+const WORLD: &[u8] = b"update 0 0 1;\nreplica 0 taken 0;\n0 1;\n1 0;\n";
+
 /// The controller sets nothing; the only letter leads on without a set.
 const LOOP: &[u8] = b"HOA: v1 Start: 0 Acceptance: 1 Inf(0) --BODY-- State: 0 [t] 0 --END--";
 
 /// Its game.
 const GAME: &[u8] = b"parity 3;\n0 1 1 0 \"dead\";\n1 1 1 3 \"s0\";\n3 0 0 1 \"s0:0\";\n";
 
+/// Two states take turns: the controller sets its proposition in every other step, beginning with the first.
+const TURNS: &[u8] =
+    b"HOA: v1 Start: 0 AP: 1 \"g\" controllable-AP: 0 Acceptance: 1 Inf(0) --BODY-- \
+State: 0 [0] 1 {0} State: 1 [!0] 0 {0} --END--";
+
+/// Its circuit: the latch is its own negation, and so is the output.
+const CIRCUIT: &[u8] = b"REALIZABLE\naag 1 0 1 1 0\n2 3\n3\no0 g\n";
+
 /// Each command on an input, and its answer.
-const ANSWERS: [(Command, &[u8], &[u8]); 4] = [
+const ANSWERS: [(Command, &[u8], &[u8]); 7] = [
     (Command::Measure, TWO, b"0 1;\n1 0;\n"),
     (Command::Solve, TWO, b"paritysol 1;\n0 0 1;\n1 0;\n"),
     (Command::Check, SOLVED, b"WINS\n"),
+    (Command::Replay, SCRIPT, WORLD),
     (Command::Game, LOOP, GAME),
+    (Command::Synth, TURNS, CIRCUIT),
+    (Command::Synth, LOOP, b"UNREALIZABLE\n"),
 ];
 
 #[test]

@@ -6,7 +6,9 @@ fn words_name_a_command(rt: HostRuntime) {
         ("measure", Command::Measure),
         ("solve", Command::Solve),
         ("check", Command::Check),
+        ("replay", Command::Replay),
         ("game", Command::Game),
+        ("synth", Command::Synth),
     ] {
         let line = parse_words(rt.alloc(), &["parsolve", name]);
         assert!(rt;

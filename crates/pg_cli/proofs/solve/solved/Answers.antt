@@ -1,8 +1,7 @@
-use Rattle.pg_cli.specs.Faults.{text_fault, check_fault}
+use Rattle.pg_cli.specs.Faults.{text_fault}
 use Rattle.pg_cli.specs.Answers as answers
 use Rattle.pg_cli.specs.declared.command.Command.TheVariants.{Solve}
 use Rattle.pg_cli.proofs.Refusing.{no_game, told_so, refused_by}
-use Rattle.pg_cli.proofs.Printing.{refuses_undecided}
 use Rattle.pg_cli.proofs.solve.solved.Goals as goal
 
 pub returns-in_err-game-clause-refused : goal.returns-in_err-game-clause-refused
@@ -13,11 +12,3 @@ returns-in_err-game-clause-refused c =
     (told_so (answers.Refuses Solve bytes) fault tt (λ memory.
     let why = no_game bytes fault (rw (← c.deref.ensures.value) c.in_err-game.ensures.only) (rw (← c.deref.ensures.value) c.in_err-game.ensures.refused) memory in
     (why.0, (c.requires, why.1))))
-
-pub returns-in_err-solution-clause-refused : goal.returns-in_err-solution-clause-refused
-returns-in_err-solution-clause-refused c =
-    let bytes = c.args.text.items in
-    let fault = c.in_err-solution.field-0.0 in
-    refused_by (answers.Refuses Solve bytes) c.from_residual-in_err-solution.result (check_fault fault) c.from_residual-in_err-solution.ensures.1
-    (refuses_undecided bytes c.in_ok-game.game c.in_ok-even.even c.in_ok-odd.odd c.requires (rw (← c.deref.ensures.value) c.in_ok-game.ensures.found)
-    c.in_ok-even.ensures c.in_ok-odd.ensures fault c.in_err-solution.ensures.fault)
