@@ -44,15 +44,15 @@ measure_is None top row row' t r = rw t refl
 measure_is (Some list) top row row' t r = rw t (ap (λ (ns : List ℕ). Some ns) r)
 
 -- the measure that was read is the first of those that were left
-record First (back : List Measured) (r : ValuesReader) (n : ℕ) (m : MeasureValue) : Type 0 where
-  rest : List Measured
-  parts : back ≡ (n, m) ∷ rest
-  left : IsLeft r rest
+pub record First (back : List Measured) (r : ValuesReader) (n : ℕ) (m : MeasureValue) : Type 0 where
+  pub rest : List Measured
+  pub parts : back ≡ (n, m) ∷ rest
+  pub left : IsLeft r rest
 
 some_is : {A : Type 0} (x y : A) → Some x ≡ Some y → x ≡ y
 some_is x y e = cc
 
-first_is : (back : List Measured) (r : ValuesReader) (row row' : List ℕ) (n : ℕ) (top : Bool) → IsNext back r row row' (Some (n, top)) → First back r n (in_row top row')
+pub first_is : (back : List Measured) (r : ValuesReader) (row row' : List ℕ) (n : ℕ) (top : Bool) → IsNext back r row row' (Some (n, top)) → First back r n (in_row top row')
 first_is [] r row row' n top h = absurd cc
 first_is (m ∷ ms) r row row' n top h =
     let read : ℕ × Bool = (n, top) in
@@ -77,7 +77,7 @@ joined_more w ms u u' r r' row row' n top rose next can takes j =
       fit = All-push (λ (k : Measured). CanTake w k.0 k.1) j.front m j.fit (can_take_back w u j.front n (in_row top row') j.joins can);
     }
 
-none_left : (back : List Measured) (r : ValuesReader) (row row' : List ℕ) → IsNext back r row row' None → back ≡ []
+pub none_left : (back : List Measured) (r : ValuesReader) (row row' : List ℕ) → IsNext back r row row' None → back ≡ []
 none_left [] r row row' h = refl
 none_left (m ∷ ms) r row row' h = absurd cc
 

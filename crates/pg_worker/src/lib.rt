@@ -35,6 +35,5 @@ pub use listing::Listing;
 pub use served::Served;
 pub use service::serve;
 pub use session::Session;
-pub use sparse::fill;
 pub use telling::{line_of, setup_of};
 pub use worker::Worker;

@@ -5,7 +5,7 @@ ghost use Rattle.pg_wire.specs.Well.{ArePlaces};
 ghost use Rattle.pg_wire.specs.Measured.{filled};
 
 /// Writes the numbers into a row that is clear, each at its place.
-pub fn fill(row: &mut [u32], pairs: &[(u32, u32)])
+pub(crate) fn fill(row: &mut [u32], pairs: &[(u32, u32)])
     requires clear { row.old ≡ replicate (length row.old) 0 }
     requires places { ArePlaces (length row.old) pairs.now }
     ensures { row.new ≡ filled (length row.old) pairs.now }
