@@ -1,0 +1,12 @@
+mod Queues
+mod Telling
+mod Replies
+mod Sessions
+mod Keeping
+mod Under
+mod Moving
+mod Joins
+mod Gathering
+mod Measuring
+mod Seating
+mod Rounds

@@ -1,0 +1,14 @@
+use Rattle.std.proofs.Common.{◌≡◌, length, All}
+use Rattle.pg_coord.specs.Mirrors.Seats.{AllSeated}
+use Rattle.pg_coord.proofs.round.ask_all.Given as goal
+
+abbrev pub invariant-loop-i : goal.invariant-loop-i
+invariant-loop-i g l =
+    let honest = g.L.Link.is_honest in
+    let under = g.L.Link.is_under in
+    record {
+      same_len : length l.seats ≡ length l.links;
+      same_count : length l.links ≡ length l.fn.links;
+      honest_still : All honest l.fn.links → All honest l.links;
+      seated : All honest l.fn.links → AllSeated under l.task l.board.map l.fn.seats l.fn.links → AllSeated under l.task l.board.map l.seats l.links;
+    }

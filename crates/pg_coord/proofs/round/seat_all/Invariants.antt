@@ -1,0 +1,16 @@
+use Rattle.std.proofs.Common.{◌≡◌, length, All}
+use Rattle.pg_map.specs.Maps.{MapValue}
+use Rattle.pg_coord.specs.Mirrors.Seats.{IsSeated}
+use Rattle.pg_coord.proofs.Seating.{Halves}
+use Rattle.pg_coord.proofs.round.seat_all.Given as goal
+
+abbrev pub invariant-loop-i : goal.invariant-loop-i
+invariant-loop-i g l =
+    let honest = g.L.Link.is_honest in
+    let under = g.L.Link.is_under in
+    record {
+      same_len : length l.seats ≡ length l.links;
+      same_count : length l.links ≡ length l.fn.links;
+      honest_still : All honest l.fn.links → All honest l.links;
+      seated : All honest l.fn.links → Halves (λ k seat link. Unit {0}) (λ k seat link. (map : MapValue) → IsSeated under l.task map seat link) l.i l.seats l.links;
+    }

@@ -1,0 +1,62 @@
+use Rattle.std.proofs.Common.{◌≡◌, length, rules, ap, ◌∙◌, arith}
+use Rattle.pg_map.specs.Lines.{game_line}
+use Rattle.pg_map.specs.Maps.{MapValue, StaysUnder}
+use Rattle.pg_map.specs.Weights.{map_weight}
+use Rattle.pg_coord.proofs.Moving.{moves_more}
+use Rattle.pg_coord.proofs.Seating.{all_seated_above}
+use Rattle.pg_coord.proofs.Rounds.{weight_less, lifts_under}
+use Rattle.pg_coord.proofs.solver.make_rounds.Goals as goal
+
+pub rounds-init : goal.rounds-init
+rounds-init g c = record {
+  same_len = search rules;
+  same_count = search rules;
+  bounds = search rules;
+  size = search rules;
+  rounds = omega arith;
+  honest_still = λ h. h;
+  seated = λ h s. s;
+  least = λ h s l. l;
+}
+
+pub rounds-preserved : goal.rounds-preserved
+rounds-preserved g c =
+    let inv = c.rounds.invariant in
+    let task = c.args.task.now in
+    let before = c.rounds.board in
+    let begun = c.begin.new.self in
+    let heard = c.hear_all.new.board in
+    let after = c.settle.new.board in
+    let under = g.L.Link.is_under in
+    let same : begun.map ≡ before.map = c.begin.ensures.map in
+    let first = c.hear_all.ensures.moves in
+    let second = c.settle.ensures.moves in
+    let moves = moves_more begun heard after first second in
+    let begun_bounds : begun.map.bounds ≡ task.bounds = ap (λ (m : MapValue). m.bounds) same ∙ inv.bounds in
+    let begun_size : length begun.map.measures ≡ length task.game = ap (λ (m : MapValue). length m.measures) same ∙ inv.size in
+    let lifted : StaysUnder heard.map.bounds (game_line task.game) heard.map.measures after.map.measures = rw (← c.game.ensures.value) c.settle.ensures.under in
+    record {
+      same_len = search rules;
+      same_count = search rules;
+      bounds = moves.bounds ∙ begun_bounds;
+      size = moves.size ∙ begun_size;
+      rounds = (let w = weight_less begun after moves c.begin.ensures.rose c.if-not-board.false in
+          let e : map_weight begun.map.bounds begun.map.measures ≡ map_weight before.map.bounds before.map.measures = ap (λ (m : MapValue). map_weight m.bounds m.measures) same in
+          let k = inv.rounds in omega arith);
+      honest_still = λ h. c.in_ok-hear_all.ensures.honest (c.in_ok-ask_all.ensures.honest (inv.honest_still h));
+      seated = λ h s.
+          let asked = c.in_ok-ask_all.ensures.seated (inv.honest_still h) (inv.seated h s) in
+          all_seated_above under task heard.map after.map _ _ second.above (c.in_ok-hear_all.ensures.seated (c.in_ok-ask_all.ensures.honest (inv.honest_still h)) (rw same asked));
+      least = λ h s l m closed.
+          let asked = c.in_ok-ask_all.ensures.seated (inv.honest_still h) (inv.seated h s) in
+          lifts_under task heard.map after.map m (first.bounds ∙ begun_bounds) (first.size ∙ begun_size) lifted closed
+          (c.in_ok-hear_all.ensures.least (c.in_ok-ask_all.ensures.honest (inv.honest_still h)) (rw same asked) m closed (rw same (inv.least h s l m closed)));
+    }
+
+pub rounds-smaller : goal.rounds-smaller
+rounds-smaller g c =
+    let begun = c.begin.new.self in
+    let moves = moves_more begun c.hear_all.new.board c.settle.new.board c.hear_all.ensures.moves c.settle.ensures.moves in
+    let w = weight_less begun c.settle.new.board moves c.begin.ensures.rose c.if-not-board.false in
+    let e : map_weight begun.map.bounds begun.map.measures ≡ map_weight c.rounds.board.map.bounds c.rounds.board.map.measures = ap (λ (m : MapValue). map_weight m.bounds m.measures) c.begin.ensures.map in
+    omega arith

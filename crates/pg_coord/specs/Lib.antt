@@ -1,0 +1,5 @@
+pub mod Links
+pub mod Memory
+pub mod Replies
+pub mod Solving
+pub mod Mirrors

@@ -1,0 +1,124 @@
+-- Links to workers in the same process.
+use Rattle.std.specs.Prelude.{◌≡◌, ◌≢◌, ◌↔◌, ◌⊎◌, ℕ, ◌+◌, ◌-◌, ◌^◌, min, Bool, true, false, List, [], ◌++◌, length, All, Option, None, IfSome, Result, Ok, Err, MatchBool}
+use Rattle.std.specs.List.{flat_map}
+use Rattle.pg_map.specs.Maps.{MapValue, MapAtMost, IsMap, IsClosed}
+use Rattle.pg_wire.specs.declared.fault.WireFault.{WireFault}
+use Rattle.pg_wire.specs.declared.fault.WireFault.TheVariants as wire
+use Rattle.pg_wire.specs.declared.frame.Frame.{Frame}
+use Rattle.pg_wire.specs.declared.frame.Frame.TheVariants as frames
+use Rattle.pg_wire.specs.Spelling.{spelling}
+use Rattle.pg_wire.specs.Bytes.{Spells, IsTooLong, IsTruncated}
+use Rattle.pg_worker.specs.declared.fault.WorkerFault.{WorkerFault}
+use Rattle.pg_worker.specs.declared.fault.WorkerFault.TheVariants.{Wire}
+use Rattle.pg_worker.specs.Workers.{part_line}
+use Rattle.pg_worker.specs.Turns.{HeldValue, Turn, IsUpTo, Refuses, IsAtLeast}
+use Rattle.pg_worker.specs.Serving.{told}
+use Rattle.pg_coord.specs.declared.link.LinkFault.{LinkFault}
+use Rattle.pg_coord.specs.declared.link.LinkFault.TheVariants.{OutOfMemory, Failed}
+use Rattle.pg_coord.specs.Links.{measures_in}
+
+-- A link: the highest version that its session takes, what the session holds, whether it refused a frame since it was started
+-- and so drops what is sent, the bytes of the frames that wait, and how many calls were Failed.
+pub record MemoryValue : Type 0 where
+  pub highest : ℕ
+  pub held : Option HeldValue
+  pub has_refused : Bool
+  pub waiting : List ℕ
+  pub failures : ℕ
+
+-- a link that was just started, with so many failures before
+abbrev pub started_link : ℕ → ℕ → MemoryValue
+started_link highest failures =
+    record { highest = highest; held = None; has_refused = false; waiting = []; failures = failures }
+
+-- ---- what is sent
+
+-- what waits on once a frame was sent, ahead of the reply to it: nothing after a set-up
+abbrev pub still_waiting : Frame → List ℕ → List ℕ
+still_waiting (frames.Setup s) waiting = []
+still_waiting (frames.Vertices v) waiting = waiting
+still_waiting (frames.Values v) waiting = waiting
+still_waiting (frames.Sparse s) waiting = waiting
+still_waiting (frames.Go g) waiting = waiting
+still_waiting (frames.Report r) waiting = waiting
+still_waiting frames.Halt waiting = waiting
+
+-- the session does its turn, and its reply waits behind what waits on
+pub record Answers (f : Frame) (old new : MemoryValue) : Type 0 where
+  pub reply : List ℕ
+  pub version : IsUpTo old.highest f
+  pub turn : Turn old.held f new.held reply
+  pub waiting : new.waiting ≡ still_waiting f old.waiting ++ reply
+  pub refused : new.has_refused ≡ false
+
+-- the session holds nothing any more, and the report of the fault waits behind what waits on
+pub record Reports (why : WorkerFault) (before : List ℕ) (new : MemoryValue) : Type 0 where
+  pub held : new.held ≡ None
+  pub waiting : new.waiting ≡ before ++ told why
+  pub refused : new.has_refused ≡ true
+
+-- the session refuses the frame, and reports why
+abbrev pub RefusesFrame : Frame → MemoryValue → MemoryValue → Type 0
+RefusesFrame f old new =
+    (why : WorkerFault) × Refuses old.highest old.held f why × Reports why (still_waiting f old.waiting) new
+
+-- the frame is dropped, and the session still holds nothing; a set-up drops what waited all the same
+pub record Drops (f : Frame) (old new : MemoryValue) : Type 0 where
+  pub held : new.held ≡ None
+  pub waiting : new.waiting ≡ still_waiting f old.waiting
+  pub refused : new.has_refused ≡ true
+
+-- a frame is sent
+abbrev pub Sends : Frame → MemoryValue → MemoryValue → Type 0
+Sends f old new = MatchBool old.has_refused (Drops f old new) (Answers f old new ⊎ RefusesFrame f old new)
+
+-- why bytes are refused that spell no frame
+pub record IsNoFrame (bytes : List ℕ) (why : WireFault) : Type 0 where
+  pub none : (f : Frame) → ¬ (Spells f bytes)
+  pub too_long : (why ≡ wire.TooLong) ↔ IsTooLong bytes
+  pub truncated : (why ≡ wire.Truncated) ↔ IsTruncated bytes
+  pub other : (why ≢ wire.OutOfMemory) × (why ≢ wire.Read) × (why ≢ wire.Write)
+
+-- bytes are sent that spell no frame
+abbrev pub SendsNoFrame : List ℕ → MemoryValue → MemoryValue → Type 0
+SendsNoFrame bytes old new =
+    MatchBool old.has_refused (new ≡ old)
+    ((why : WireFault) × IsNoFrame bytes why × Reports (Wire why) old.waiting new)
+
+-- after want of memory in its turn the session holds nothing
+pub record Empties (f : Frame) (old new : MemoryValue) : Type 0 where
+  pub held : new.held ≡ None
+  pub waiting : new.waiting ≡ still_waiting f old.waiting
+  pub refused : new.has_refused ≡ old.has_refused
+
+-- want of memory: nothing has changed, or it came in the turn of a frame
+abbrev pub BreaksOff : List ℕ → MemoryValue → MemoryValue → Type 0
+BreaksOff bytes old new = (new ≡ old) ⊎ ((f : Frame) × Spells f bytes × Empties f old new)
+
+-- ---- what is received
+
+-- the count after a call: one more where it was Failed, up to 18,446,744,073,709,551,615
+abbrev pub count_after : Result (Unit {0}) LinkFault → ℕ → ℕ
+count_after (Ok u) failures = failures
+count_after (Err OutOfMemory) failures = failures
+count_after (Err Failed) failures = min (failures + 1) (2 ^ 64 - 1)
+
+-- ---- the maps that a link is under
+
+-- the map is over the session's bounds and vertices, closed at its lines, and at least its map
+pub record IsAboveSession (h : MapValue) (held : HeldValue) : Type 0 where
+  pub bounds : h.bounds ≡ held.worker.bounds
+  pub map : IsMap held.worker.bounds (length held.worker.map) h.measures
+  pub closed : IsClosed held.worker.bounds (part_line held.worker.lines) h.measures
+  pub above : MapAtMost held.worker.map h.measures
+
+-- the bytes are frames with this property, one after the other
+pub record AreFrames (P : Frame → Type 0) (bytes : List ℕ) : Type 0 where
+  pub fs : List Frame
+  pub spelled : bytes ≡ flat_map spelling fs
+  pub each : All (λ f. Spells f (spelling f) × P f) fs
+
+-- the map is at least what the session holds, and at least the values that wait
+pub record IsAboveLink (link : MemoryValue) (h : MapValue) : Type 0 where
+  pub session : IfSome link.held (IsAboveSession h)
+  pub waiting : AreFrames (λ f. IsAtLeast h.measures (measures_in f)) link.waiting

@@ -1,0 +1,9 @@
+-- What mirrors code: contracts of private functions cite it, and no definition that a reader has to believe does.
+pub mod Sessions
+pub mod Tasks
+pub mod Boards
+pub mod Joined
+pub mod Lines
+pub mod Sent
+pub mod Seats
+pub mod Takes

@@ -1,0 +1,50 @@
+//! Frames that go over a link.
+
+ghost use Rattle.std.specs.Prelude.{◌≡◌, ◌≢◌, ◌≤◌, ℕ, List, Some, Err, length, IfOk, OnOk};
+ghost use Rattle.pg_map.specs.Maps.{MapValue};
+ghost use Rattle.pg_wire.specs.Spelling.{body, longest};
+ghost use Rattle.pg_wire.specs.Well.{IsWell};
+ghost use Rattle.pg_worker.specs.Turns.{IsAtLeast};
+ghost use Rattle.pg_coord.specs.Links.{measures_in, IsUnderAfter, told_after};
+ghost use Rattle.pg_coord.specs.Mirrors.Takes.{TakesFrame};
+
+use crate::link::{Link, LinkFault};
+use pg_wire::{Frame, WireFault, decode, encode};
+use std::alloc::Global;
+
+/// Sends one frame. It is Failed only where the link's call was.
+pub fn send_frame<L: Link>(alloc: Global, link: &mut L, frame: &Frame) -> Result<(), LinkFault>
+    requires well { IsWell frame.now }
+    requires within { length (body frame.now) ≤ longest }
+    ensures honest { L.is_honest link.old → L.is_honest link.new }
+    ensures under { OnOk result (L.is_honest link.old → (h : MapValue)
+        → IsUnderAfter frame.now h (L.is_under link.old h) → L.is_under link.new h) }
+    ensures told { (left : List (List ℕ)) → L.told link.old ≡ Some left
+        → (result ≢ Err LinkFault.Failed) × OnOk result (L.told link.new ≡ Some (told_after frame.now left)) }
+{
+    match encode(alloc, frame) {
+        Ok(bytes) => link.send(bytes.as_slice()),
+        Err(_) => Err(LinkFault::OutOfMemory),
+    }
+}
+
+/// Receives one frame, its bytes into the buffer. It is Failed where the link's call was, and where the bytes are no frame.
+pub fn receive_frame<L: Link>(
+    alloc: Global,
+    link: &mut L,
+    buffer: &mut Vec<u8>,
+) -> Result<Frame, LinkFault>
+    ensures honest { L.is_honest link.old → L.is_honest link.new }
+    ensures under { L.is_honest link.old → (h : MapValue) → L.is_under link.old h → L.is_under link.new h }
+    ensures well { IfOk result IsWell }
+    ensures values { IfOk result (λ f. L.is_honest link.old → (h : MapValue) → L.is_under link.old h
+        → IsAtLeast h.measures (measures_in f)) }
+    ensures told { TakesFrame (L.told link.old) (L.told link.new) result }
+{
+    link.receive(buffer)?;
+    match decode(alloc, buffer.as_slice()) {
+        Ok(frame) => Ok(frame),
+        Err(WireFault::OutOfMemory) => Err(LinkFault::OutOfMemory),
+        Err(_) => Err(LinkFault::Failed),
+    }
+}

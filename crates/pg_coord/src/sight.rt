@@ -1,0 +1,46 @@
+//! Who has to know which vertex.
+
+use pg_arena::{Game, Vertex};
+use pg_worker::Cut;
+use std::alloc::{AllocError, Global};
+
+/// For each vertex the workers that see it: those of whose vertices it is a successor. Workers whose numbers are the same
+/// modulo 64 are taken for one.
+#[derive(Drop)]
+pub struct Sight {
+    masks: Vec<u64>,
+}
+
+/// The bit of a worker.
+fn bit(worker: u32) -> u64 {
+    1 << (worker % 64)
+}
+
+impl Sight {
+    ghost use Rattle.std.specs.Prelude.{◌≡◌, length};
+
+    /// Who sees what in a game that is cut so.
+    pub fn of(alloc: Global, game: &Game, cut: &Cut) -> Result<Sight, AllocError>
+        requires { length cut.now.numbers ≡ length game.now }
+    {
+        let mut masks = vec![in alloc; 0; game.len()]?;
+        for number in 0..game.len() {
+            let v = Vertex(number as u32);
+            let bit = bit(cut.worker_of(v));
+            for w in game.successors(v) {
+                if let Some(mask) = masks.get_mut(w.0 as usize) {
+                    *mask |= bit;
+                }
+            }
+        }
+        Ok(Sight { masks })
+    }
+
+    /// Whether a worker sees a vertex.
+    pub fn sees(&self, worker: u32, v: Vertex) -> bool {
+        match self.masks.get(v.0 as usize) {
+            Some(mask) => mask & bit(worker) != 0,
+            None => false,
+        }
+    }
+}

@@ -1,0 +1,144 @@
+//! Solving over links.
+
+ghost use Rattle.std.specs.Prelude.{◌≡◌, ◌↔◌, ◌+◌, ◌<◌, ◌≤◌, ◌^◌, length, IfOk, OnOk, All, Err};
+ghost use Rattle.pg_measure.specs.Games.{IsBoundsOf};
+ghost use Rattle.pg_map.specs.Lines.{game_line};
+ghost use Rattle.pg_map.specs.Maps.{MapValue, MapAtMost, IsMap, IsClosed, IsLeastProgressMeasure};
+ghost use Rattle.pg_map.specs.Weights.{map_weight};
+ghost use Rattle.pg_coord.specs.Solving.{IsMismatch, most_rounds};
+ghost use Rattle.pg_coord.specs.Mirrors.Tasks.{IsClosedMap};
+ghost use Rattle.pg_coord.specs.Mirrors.Seats.{AllSeated};
+ghost use Rattle.pg_coord.specs.declared.fault.CoordFault.TheVariants.{CutMismatch};
+
+use crate::board::Board;
+use crate::fault::CoordFault;
+use crate::link::Link;
+use crate::pass::settle;
+use crate::round::{ask_all, hear_all, seat_all};
+use crate::seat::{EMPTY, Seat};
+use crate::task::Task;
+use pg_arena::Game;
+use pg_map::MeasureMap;
+use pg_worker::Cut;
+use std::alloc::{AllocError, Global};
+
+/// What `solve` found, and after how many rounds, restarts of links and links given up. The counts stop at
+/// 18,446,744,073,709,551,615.
+#[derive(Drop)]
+pub struct Solved {
+    pub map: MeasureMap,
+    pub rounds: u64,
+    pub restarts: u64,
+    pub abandoned: u64,
+}
+
+/// How many restarts there were.
+fn restarts(seats: &[Seat]) -> u64 {
+    let mut count = 0u64;
+    for seat in seats {
+        count = count.saturating_add(u64::from(seat.restarts));
+    }
+    count
+}
+
+/// How many links were given up.
+fn abandoned(seats: &[Seat]) -> u64 {
+    let mut count = 0u64;
+    for seat in seats {
+        if !seat.in_use {
+            count = count.saturating_add(1);
+        }
+    }
+    count
+}
+
+/// Makes rounds until nothing rises in one: how many.
+fn make_rounds<L: Link>(
+    task: &Task<'_>,
+    links: &mut [L],
+    seats: &mut [Seat],
+    board: &mut Board,
+    buffer: &mut Vec<u8>,
+) -> Result<u64, AllocError>
+    requires seats { length seats.old ≡ length links.old }
+    requires few { length links.old < 2 ^ 32 }
+    requires bounds { board.old.map.bounds ≡ task.now.bounds }
+    requires size { length board.old.map.measures ≡ length task.now.game }
+    ensures bounds { board.new.map.bounds ≡ task.now.bounds }
+    ensures map { OnOk result (IsMap board.new.map.bounds (length task.now.game) board.new.map.measures) }
+    ensures closed { OnOk result (IsClosed board.new.map.bounds (game_line task.now.game) board.new.map.measures) }
+    ensures rounds { IfOk result (λ n. (1 ≤ n)
+        × (n ≤ 1 + map_weight board.old.map.bounds board.old.map.measures)) }
+    ensures least { OnOk result (All L.is_honest links.old → AllSeated L.is_under task.now board.old.map seats.old links.old
+        → ((h : MapValue) → IsClosedMap task.now h → MapAtMost board.old.map.measures h.measures)
+        → (h : MapValue) → IsClosedMap task.now h → MapAtMost board.new.map.measures h.measures) }
+{
+    let mut rounds = 0u64;
+    'rounds: loop {
+        rounds = rounds.saturating_add(1);
+        ask_all(task, links, seats, board, buffer)?;
+        board.begin();
+        hear_all(task, links, seats, board, buffer)?;
+        settle(board, task.game());
+        if !board.rose {
+            return Ok(rounds);
+        }
+    }
+}
+
+/// Solves a task over links.
+fn work<L: Link>(task: &Task<'_>, links: &mut [L]) -> Result<Solved, AllocError>
+    requires { length links.old < 2 ^ 32 }
+    ensures bounds { IfOk result (λ s. s.map.bounds ≡ task.now.bounds) }
+    ensures map { IfOk result (λ s. IsMap s.map.bounds (length task.now.game) s.map.measures) }
+    ensures closed { IfOk result (λ s. IsClosed s.map.bounds (game_line task.now.game) s.map.measures) }
+    ensures rounds { IfOk result (λ s. (1 ≤ s.rounds) × (s.rounds ≤ most_rounds (length task.now.game) task.now.bounds)) }
+    ensures least { IfOk result (λ s. All L.is_honest links.old
+        → IsLeastProgressMeasure s.map.bounds (game_line task.now.game) s.map.measures) }
+{
+    let mut board = Board::new(task)?;
+    let mut buffer = Vec::new(task.alloc());
+    let mut places = vec![in task.alloc(); EMPTY; links.len()]?;
+    let seats = places.as_mut_slice();
+    seat_all(task, links, seats, &mut buffer)?;
+    let rounds = make_rounds(task, links, seats, &mut board, &mut buffer)?;
+    let restarts = restarts(seats);
+    let abandoned = abandoned(seats);
+    Ok(Solved {
+        map: board.map,
+        rounds,
+        restarts,
+        abandoned,
+    })
+}
+
+/// Solves a game over links: worker k + 1 of the cut is behind link k, and makes at most `budget` lifts in a turn.
+///
+/// In a round each link in use is sent values and a Go; then the replies are read, and their values joined. Only where no value
+/// rose, each vertex that can be lifted is lifted here, from 0 up, and where none can be, the map is the answer. It is closed
+/// whatever the links answer; over honest links it is the least progress measure.
+///
+/// A link that fails is restarted and set up again, at most three times; then it is abandoned, and its part is lifted here.
+///
+/// Faults: `CutMismatch` where the cut isn't over the game's vertices and as many workers as links; `OutOfMemory`.
+pub fn solve<L: Link>(
+    alloc: Global,
+    game: &Game,
+    links: &mut [L],
+    cut: &Cut,
+    budget: u32,
+) -> Result<Solved, CoordFault>
+    ensures bounds { IfOk result (λ s. IsBoundsOf game.now s.map.bounds) }
+    ensures map { IfOk result (λ s. IsMap s.map.bounds (length game.now) s.map.measures) }
+    ensures closed { IfOk result (λ s. IsClosed s.map.bounds (game_line game.now) s.map.measures) }
+    ensures rounds { IfOk result (λ s. (1 ≤ s.rounds) × (s.rounds ≤ most_rounds (length game.now) s.map.bounds)) }
+    ensures least { IfOk result (λ s. All L.is_honest links.old
+        → IsLeastProgressMeasure s.map.bounds (game_line game.now) s.map.measures) }
+    ensures mismatch { result ≡ Err CutMismatch ↔ IsMismatch (length game.now) (length links.old) cut.now }
+{
+    if cut.vertices() != game.len() || cut.workers() as usize != links.len() {
+        return Err(CoordFault::CutMismatch);
+    }
+    let task = Task::new(alloc, game, cut, budget)?;
+    Ok(work(&task, links)?)
+}

@@ -1,0 +1,152 @@
+//! A turn of one link: it is asked, and then heard.
+
+ghost use Rattle.std.specs.Prelude.{◌↔◌, IfErr, ◌≡◌, ◌<◌, length, All, IfOk, IsErr, OnOk};
+ghost use Rattle.pg_map.specs.Maps.{MapValue, MapAtMost};
+ghost use Rattle.pg_coord.specs.Mirrors.Boards.{Moves};
+
+use crate::board::Board;
+use crate::joining::join_frame;
+use crate::link::{Link, LinkFault};
+use crate::seat::Seat;
+use crate::sending::send_frame;
+use crate::task::Task;
+use crate::values::{Recipient, send_values};
+use pg_arena::Vertex;
+use pg_map::{MeasureMap, View};
+use pg_wire::{Frame, Go, Report, ValueKind, ValuesReader, WireFault, decode};
+use std::alloc::{AllocError, Global};
+
+/// How many frames a reply has at most.
+const MOST_FRAMES: u32 = 65_536;
+
+/// Whether a measure is a list of zeros.
+fn is_zero(measure: View) -> bool {
+    match measure {
+        View::Top => false,
+        View::List(list) => list.iter().all(|&n| n == 0),
+    }
+}
+
+/// The vertices whose measures are above zero.
+fn above_zero(alloc: Global, map: &MeasureMap) -> Result<Vec<Vertex>, AllocError>
+    ensures { IfOk result (λ vs. All (λ v. v < length map.now.measures) vs.items) }
+{
+    let mut vertices = Vec::new(alloc);
+    for number in 0..map.len() {
+        let v = Vertex(number);
+        if !is_zero(map.get(v)) {
+            vertices.push(v)?;
+        }
+    }
+    Ok(vertices)
+}
+
+/// Sends values, those that rose or, where the worker was set up anew, all; and lets it lift.
+pub fn ask<L: Link>(
+    task: &Task<'_>,
+    link: &mut L,
+    worker: u32,
+    seat: &Seat,
+    board: &Board,
+    buffer: &mut Vec<u8>,
+) -> Result<(), LinkFault>
+    requires bounds { board.now.map.bounds ≡ task.now.bounds }
+    requires size { length board.now.map.measures ≡ length task.now.game }
+    ensures honest { L.is_honest link.old → L.is_honest link.new }
+    ensures under { OnOk result (L.is_honest link.old → (h : MapValue) → MapAtMost board.now.map.measures h.measures
+        → L.is_under link.old h → L.is_under link.new h) }
+{
+    let mut to = Recipient {
+        worker,
+        kind: seat.kind,
+        own: board.by_lifts,
+    };
+    if seat.behind {
+        to.own = true;
+        let vertices = above_zero(task.alloc(), &board.map)?;
+        send_values(to, task, link, &board.map, &vertices, buffer)?;
+    } else {
+        send_values(to, task, link, &board.map, board.risen.as_slice(), buffer)?;
+    }
+    send_frame(
+        task.alloc(),
+        link,
+        &Frame::Go(Go {
+            budget: task.budget(),
+        }),
+    )
+}
+
+/// Reads one frame of a reply and joins its measures, by a row of as many places as there are bounds. A report is answered.
+fn hear_frame<L: Link>(
+    task: &Task<'_>,
+    link: &mut L,
+    worker: u32,
+    kind: ValueKind,
+    board: &mut Board,
+    buffer: &mut Vec<u8>,
+    row: &mut [u32],
+) -> Result<Option<Report>, LinkFault>
+    requires size { length board.old.map.measures ≡ length task.now.game }
+    requires row { length row.old ≡ length board.old.map.bounds }
+    ensures honest { L.is_honest link.old → L.is_honest link.new }
+    ensures under { L.is_honest link.old → (h : MapValue) → L.is_under link.old h → L.is_under link.new h }
+    ensures moves { Moves board.old board.new }
+    ensures least { L.is_honest link.old → (h : MapValue) → L.is_under link.old h
+        → MapAtMost board.old.map.measures h.measures → MapAtMost board.new.map.measures h.measures }
+{
+    link.receive(buffer)?;
+    if let Some(values) = ValuesReader::open(buffer) {
+        let joined = join_frame(board, task.cut(), worker, kind, values, row);
+        return if joined {
+            Ok(None)
+        } else {
+            Err(LinkFault::Failed)
+        };
+    }
+    match decode(task.alloc(), buffer) {
+        Ok(Frame::Report(report)) => Ok(Some(report)),
+        Err(WireFault::OutOfMemory) => Err(LinkFault::OutOfMemory),
+        _ => Err(LinkFault::Failed),
+    }
+}
+
+/// What a report says of its link: that of a refusal is a failure.
+fn judged(report: &Report) -> Result<(), LinkFault>
+    ensures failed { IsErr result ↔ (report.now.status ≡ 2) }
+    ensures fault { IfErr result (λ e. e ≡ LinkFault.Failed) }
+{
+    if report.status == 2 {
+        return Err(LinkFault::Failed);
+    }
+    Ok(())
+}
+
+/// Reads a reply to its report and joins its values. After a fault those that came before it stay joined.
+pub fn hear<L: Link>(
+    task: &Task<'_>,
+    link: &mut L,
+    worker: u32,
+    kind: ValueKind,
+    board: &mut Board,
+    buffer: &mut Vec<u8>,
+) -> Result<(), LinkFault>
+    requires bounds { board.old.map.bounds ≡ task.now.bounds }
+    requires size { length board.old.map.measures ≡ length task.now.game }
+    ensures honest { L.is_honest link.old → L.is_honest link.new }
+    ensures under { L.is_honest link.old → (h : MapValue) → L.is_under link.old h → L.is_under link.new h }
+    ensures moves { Moves board.old board.new }
+    ensures least { L.is_honest link.old → (h : MapValue) → L.is_under link.old h
+        → MapAtMost board.old.map.measures h.measures → MapAtMost board.new.map.measures h.measures }
+{
+    let mut cells = vec![in task.alloc(); 0; task.width() as usize]?;
+    let row = cells.as_mut_slice();
+    'frames: for _ in 0..MOST_FRAMES {
+        match hear_frame(task, link, worker, kind, board, buffer, row) {
+            Ok(Some(report)) => return judged(&report),
+            Ok(None) => {}
+            Err(fault) => return Err(fault),
+        }
+    }
+    Err(LinkFault::Failed)
+}

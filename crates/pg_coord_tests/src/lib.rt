@@ -1,0 +1,12 @@
+//! Tests of `pg_coord` on a game of two vertices of Even with the priorities 1 and 3, each leading to the first:
+//! `parity 1; 0 1 0 0; 1 3 0 0;`. Its least progress measure is top at both. What is expected was worked out by hand.
+#![tactic(auto)]
+
+#[cfg(test)]
+mod failing;
+#[cfg(test)]
+mod hostile;
+#[cfg(test)]
+mod solving;
+#[cfg(test)]
+mod tools;

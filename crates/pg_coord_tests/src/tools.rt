@@ -1,0 +1,55 @@
+//! The game, and calls that test what `solve` answers.
+
+use pg_arena::{Game, GameBuilder, Player, Vertex};
+use pg_coord::{CoordFault, Link, Solved, solve};
+use pg_map::View;
+use pg_worker::Cut;
+use std::alloc::Global;
+use std::test::Fail;
+
+/// The game.
+pub fn game(alloc: Global) -> Result<Game, Fail> {
+    let mut builder = GameBuilder::new(alloc);
+    builder.add(0, 1, Player::Even, &[0], None)?;
+    builder.add(1, 3, Player::Even, &[0], None)?;
+    Ok(builder.finish()?)
+}
+
+/// How many rounds, restarts and links given up there were, where the map is top at both vertices.
+fn counts(solved: &Solved) -> Option<(u64, u64, u64)> {
+    let map = &solved.map;
+    if map.len() == 2 && map.get(Vertex(0)) == View::Top && map.get(Vertex(1)) == View::Top {
+        Some((solved.rounds, solved.restarts, solved.abandoned))
+    } else {
+        None
+    }
+}
+
+/// Solves over these links, cut evenly: how many rounds, restarts and links given up there were, where that gives top at both
+/// vertices.
+pub fn solves<L: Link>(
+    alloc: Global,
+    links: &mut [L],
+    budget: u32,
+) -> Result<Option<(u64, u64, u64)>, Fail> {
+    let game = game(alloc)?;
+    let workers = u32::try_from(links.len())?;
+    let cut = Cut::even(alloc, 2, workers)?;
+    let solved = solve(alloc, &game, links, &cut, budget)?;
+    Ok(counts(&solved))
+}
+
+/// Whether a cut of so many vertices among so many workers is refused.
+pub fn mismatches<L: Link>(
+    alloc: Global,
+    links: &mut [L],
+    vertices: u32,
+    workers: u32,
+) -> Result<bool, Fail> {
+    let game = game(alloc)?;
+    let cut = Cut::even(alloc, vertices, workers)?;
+    match solve(alloc, &game, links, &cut, 1) {
+        Ok(_) => Ok(false),
+        Err(fault) => Ok(fault == CoordFault::CutMismatch),
+    }
+}
