@@ -34,7 +34,7 @@ all_front P xs ys h = λ i d lt. subst P (get_or_append_left xs ys d i lt) (h i 
 pub all_last : {A : Type 0} (P : A → Type 0) (xs : List A) (x : A) → All P (xs ++ x ∷ []) → P x
 all_last P xs x h = subst P (get_or_push xs x x (length xs) refl) (h (length xs) x (omega (arith, length-append xs (x ∷ []))))
 
-at_least_after : (f g : List MeasureValue) (ms : List Measured) → MapAtMost f g → IsAtLeast f ms → IsAtLeast g ms
+pub at_least_after : (f g : List MeasureValue) (ms : List Measured) → MapAtMost f g → IsAtLeast f ms → IsAtLeast g ms
 at_least_after f g ms le h = λ i d lt. let m = get_or ms i d in at_most_all m.1 (measure_at f m.0) (measure_at g m.0) (h i d lt) (le m.0)
 
 pub joins_none : (cut : CutValue) (worker : ℕ) (b : Board) → JoinsPart cut worker b b [] true

@@ -10,3 +10,7 @@ mod Gathering
 mod Measuring
 mod Seating
 mod Rounds
+mod Taken
+mod Taking
+mod Hearing
+mod Replying

@@ -1,5 +1,6 @@
 pub mod Links
 pub mod Memory
 pub mod Replies
+pub mod Told
 pub mod Solving
 pub mod Mirrors

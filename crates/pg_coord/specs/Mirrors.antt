@@ -7,3 +7,4 @@ pub mod Lines
 pub mod Sent
 pub mod Seats
 pub mod Takes
+pub mod Telling

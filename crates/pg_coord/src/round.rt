@@ -1,10 +1,13 @@
 //! Rounds over the links.
 
-ghost use Rattle.std.specs.Prelude.{◌≡◌, ◌<◌, ◌^◌, length, All, OnOk};
+ghost use Rattle.std.specs.Prelude.{◌≡◌, ◌+◌, ◌<◌, ◌^◌, ℕ, List, Some, length, take, drop, All, OnOk};
 ghost use Rattle.pg_map.specs.Maps.{MapValue, MapAtMost};
+ghost use Rattle.pg_worker.specs.Turns.{Joins};
+ghost use Rattle.pg_coord.specs.Told.{Reply, IsReply, TellReplies, spelled_replies, measures_of};
 ghost use Rattle.pg_coord.specs.Mirrors.Tasks.{IsClosedMap};
 ghost use Rattle.pg_coord.specs.Mirrors.Boards.{Moves};
 ghost use Rattle.pg_coord.specs.Mirrors.Seats.{IsSeated, AllSeated};
+ghost use Rattle.pg_coord.specs.Mirrors.Telling.{TellsDense, Tells, IsAsked, AllTell, AllAsked, JoinsEach};
 
 use crate::board::Board;
 use crate::link::{Link, LinkFault};
@@ -25,6 +28,8 @@ fn start_again<L: Link>(
 ) -> Result<(), LinkFault>
     ensures honest { L.is_honest link.old → L.is_honest link.new }
     ensures under { OnOk result (L.is_honest link.old → (h : MapValue) → IsClosedMap task.now h → L.is_under link.new h) }
+    ensures told { (left : List (List ℕ)) → L.told link.old ≡ Some left
+        → TellsDense left (L.told link.new) kind.new result }
 {
     match link.restart() {
         Ok(()) => set_up(task, link, worker, kind, buffer),
@@ -43,6 +48,8 @@ fn mend<L: Link>(
 ) -> Result<(), AllocError>
     ensures honest { L.is_honest link.old → L.is_honest link.new }
     ensures seated { OnOk result (L.is_honest link.old → (map : MapValue) → IsSeated L.is_under task.now map seat.new link.new) }
+    ensures told { (left : List (List ℕ)) → L.told link.old ≡ Some left → seat.old.kind ≡ ValueKind.Dense
+        → OnOk result ((L.told link.new ≡ Some left) × (seat.new.kind ≡ ValueKind.Dense)) }
 {
     seat.in_use = false;
     seat.asked = false;
@@ -71,6 +78,9 @@ fn seat_one<L: Link>(
 ) -> Result<(), AllocError>
     ensures honest { L.is_honest link.old → L.is_honest link.new }
     ensures seated { OnOk result (L.is_honest link.old → (map : MapValue) → IsSeated L.is_under task.now map seat.new link.new) }
+    ensures told { (replies : List Reply) → L.told link.old ≡ Some (spelled_replies replies)
+        → All (IsReply task.now.bounds task.now.cut worker) replies
+        → OnOk result (Tells task.now worker replies seat.new (L.told link.new)) }
 {
     match set_up(task, link, worker, &mut seat.kind, buffer) {
         Ok(()) => {
@@ -99,6 +109,8 @@ fn ask_one<L: Link>(
     ensures honest { L.is_honest link.old → L.is_honest link.new }
     ensures seated { OnOk result (L.is_honest link.old → IsSeated L.is_under task.now board.now.map seat.old link.old
         → IsSeated L.is_under task.now board.now.map seat.new link.new) }
+    ensures told { (replies : List Reply) → Tells task.now worker replies seat.old (L.told link.old)
+        → OnOk result (Tells task.now worker replies seat.new (L.told link.new) × IsAsked seat.new) }
 {
     seat.asked = false;
     if !seat.in_use {
@@ -136,6 +148,9 @@ fn hear_one<L: Link>(
     ensures least { L.is_honest link.old → IsSeated L.is_under task.now board.old.map seat.old link.old
         → (h : MapValue) → IsClosedMap task.now h → MapAtMost board.old.map.measures h.measures
         → MapAtMost board.new.map.measures h.measures }
+    ensures told { (replies : List Reply) → Tells task.now worker replies seat.old (L.told link.old) → IsAsked seat.old
+        → OnOk result (Tells task.now worker (drop 1 replies) seat.new (L.told link.new)
+        × Joins board.old.map.measures (measures_of (take 1 replies)) board.new.map.measures) }
 {
     if !seat.in_use || !seat.asked {
         return Ok(());
@@ -162,6 +177,8 @@ pub fn seat_all<L: Link>(
     ensures honest { OnOk result (All L.is_honest links.old → All L.is_honest links.new) }
     ensures seated { OnOk result (All L.is_honest links.old → (map : MapValue)
         → AllSeated L.is_under task.now map seats.new links.new) }
+    ensures told { OnOk result ((replies : ℕ → List Reply) → TellReplies L.told task.now.bounds task.now.cut links.old replies
+        → AllTell L.told task.now seats.new links.new replies) }
 {
     for i in 0..links.len() {
         seat_one(task, &mut links[i], i as u32 + 1, &mut seats[i], buffer)?;
@@ -184,6 +201,8 @@ pub fn ask_all<L: Link>(
     ensures honest { OnOk result (All L.is_honest links.old → All L.is_honest links.new) }
     ensures seated { OnOk result (All L.is_honest links.old → AllSeated L.is_under task.now board.now.map seats.old links.old
         → AllSeated L.is_under task.now board.now.map seats.new links.new) }
+    ensures told { OnOk result ((replies : ℕ → List Reply) → AllTell L.told task.now seats.old links.old replies
+        → AllTell L.told task.now seats.new links.new replies × AllAsked seats.new links.new) }
 {
     for i in 0..links.len() {
         ask_one(
@@ -217,6 +236,9 @@ pub fn hear_all<L: Link>(
     ensures least { OnOk result (All L.is_honest links.old → AllSeated L.is_under task.now board.old.map seats.old links.old
         → (h : MapValue) → IsClosedMap task.now h → MapAtMost board.old.map.measures h.measures
         → MapAtMost board.new.map.measures h.measures) }
+    ensures told { OnOk result ((replies : ℕ → List Reply) → AllTell L.told task.now seats.old links.old replies
+        → AllAsked seats.old links.old → AllTell L.told task.now seats.new links.new (λ k. drop 1 (replies k))
+        × JoinsEach board.old.map.measures (length links.old) (λ k. measures_of (take 1 (replies k))) board.new.map.measures) }
 {
     for i in 0..links.len() {
         hear_one(

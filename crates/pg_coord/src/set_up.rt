@@ -1,11 +1,13 @@
 //! Sets workers up for their parts.
 
-ghost use Rattle.std.specs.Prelude.{◌≡◌, ℕ, ◌+◌, ◌<◌, ◌≤◌, Ok, length, IfOk, OnOk, false};
+ghost use Rattle.std.specs.Prelude.{◌≡◌, ℕ, ◌∷◌, ◌+◌, ◌<◌, ◌≤◌, List, Some, Ok, length, IfOk, OnOk, false};
 ghost use Rattle.pg_map.specs.Maps.{MapValue};
+ghost use Rattle.pg_wire.specs.Spelling.{spelling};
 ghost use Rattle.pg_worker.specs.Turns.{kind_of};
 ghost use Rattle.pg_coord.specs.Links.{refusal};
 ghost use Rattle.pg_coord.specs.Mirrors.Tasks.{IsClosedMap};
 ghost use Rattle.pg_coord.specs.Mirrors.Lines.{AreLines};
+ghost use Rattle.pg_coord.specs.Mirrors.Telling.{TellsAfter, TellsDense, AnswersAfter, told_with};
 
 use crate::link::{Link, LinkFault};
 use crate::sending::{receive_frame, send_frame};
@@ -34,6 +36,8 @@ fn version_of(kind: ValueKind) -> u8
 fn send_setup<L: Link>(task: &Task<'_>, link: &mut L, kind: ValueKind) -> Result<(), LinkFault>
     ensures honest { L.is_honest link.old → L.is_honest link.new }
     ensures under { OnOk result (L.is_honest link.old → (h : MapValue) → IsClosedMap task.now h → L.is_under link.new h) }
+    ensures told { (left : List (List ℕ)) → L.told link.old ≡ Some left
+        → TellsAfter (told_with kind left) (L.told link.new) result }
 {
     let setup = setup_of(task.alloc(), version_of(kind), task.game(), task.bounds())?;
     pg_wire::laws::few_bounds();
@@ -59,6 +63,8 @@ fn answer(frame: &Frame) -> Result<bool, LinkFault>
 fn accepts<L: Link>(task: &Task<'_>, link: &mut L, buffer: &mut Vec<u8>) -> Result<bool, LinkFault>
     ensures honest { L.is_honest link.old → L.is_honest link.new }
     ensures under { L.is_honest link.old → (h : MapValue) → L.is_under link.old h → L.is_under link.new h }
+    ensures told { (left : List (List ℕ)) → L.told link.old ≡ Some (spelling refusal ∷ left)
+        → AnswersAfter false left (L.told link.new) result }
 {
     match receive_frame(task.alloc(), link, buffer) {
         Ok(frame) => answer(&frame),
@@ -75,6 +81,8 @@ fn agree<L: Link>(
 ) -> Result<(), LinkFault>
     ensures honest { L.is_honest link.old → L.is_honest link.new }
     ensures under { OnOk result (L.is_honest link.old → (h : MapValue) → IsClosedMap task.now h → L.is_under link.new h) }
+    ensures told { (left : List (List ℕ)) → L.told link.old ≡ Some left
+        → TellsDense left (L.told link.new) kind.new result }
 {
     send_setup(task, link, *kind)?;
     if *kind == ValueKind::Dense || accepts(task, link, buffer)? {
@@ -109,6 +117,7 @@ fn send_lines<L: Link>(
     ensures honest { L.is_honest link.old → L.is_honest link.new }
     ensures under { OnOk result (L.is_honest link.old → (h : MapValue) → IsClosedMap task.now h
         → L.is_under link.old h → L.is_under link.new h) }
+    ensures told { (left : List (List ℕ)) → L.told link.old ≡ Some left → TellsAfter left (L.told link.new) result }
 {
     let lines = Rows::new(lines);
     send_frame(task.alloc(), link, &Frame::Vertices(Vertices { lines }))?;
@@ -120,6 +129,7 @@ fn send_part<L: Link>(task: &Task<'_>, link: &mut L, worker: u32) -> Result<(), 
     ensures honest { L.is_honest link.old → L.is_honest link.new }
     ensures under { OnOk result (L.is_honest link.old → (h : MapValue) → IsClosedMap task.now h
         → L.is_under link.old h → L.is_under link.new h) }
+    ensures told { (left : List (List ℕ)) → L.told link.old ≡ Some left → TellsAfter left (L.told link.new) result }
 {
     let mut lines = Vec::new(task.alloc());
     let mut size = 0;
@@ -150,6 +160,8 @@ pub fn set_up<L: Link>(
 ) -> Result<(), LinkFault>
     ensures honest { L.is_honest link.old → L.is_honest link.new }
     ensures under { OnOk result (L.is_honest link.old → (h : MapValue) → IsClosedMap task.now h → L.is_under link.new h) }
+    ensures told { (left : List (List ℕ)) → L.told link.old ≡ Some left
+        → TellsDense left (L.told link.new) kind.new result }
 {
     agree(task, link, kind, buffer)?;
     send_part(task, link, worker)?;

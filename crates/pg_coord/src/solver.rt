@@ -1,13 +1,15 @@
 //! Solving over links.
 
-ghost use Rattle.std.specs.Prelude.{◌≡◌, ◌↔◌, ◌+◌, ◌<◌, ◌≤◌, ◌^◌, length, IfOk, OnOk, All, Err};
+ghost use Rattle.std.specs.Prelude.{◌≡◌, ◌↔◌, ◌+◌, ◌<◌, ◌≤◌, ◌^◌, ℕ, List, length, IfOk, OnOk, All, Err};
 ghost use Rattle.pg_measure.specs.Games.{IsBoundsOf};
 ghost use Rattle.pg_map.specs.Lines.{game_line};
 ghost use Rattle.pg_map.specs.Maps.{MapValue, MapAtMost, IsMap, IsClosed, IsLeastProgressMeasure};
 ghost use Rattle.pg_map.specs.Weights.{map_weight};
 ghost use Rattle.pg_coord.specs.Solving.{IsMismatch, most_rounds};
+ghost use Rattle.pg_coord.specs.Told.{Reply, TellReplies, IsLeastOverReplies};
 ghost use Rattle.pg_coord.specs.Mirrors.Tasks.{IsClosedMap};
 ghost use Rattle.pg_coord.specs.Mirrors.Seats.{AllSeated};
+ghost use Rattle.pg_coord.specs.Mirrors.Telling.{AllTell};
 ghost use Rattle.pg_coord.specs.declared.fault.CoordFault.TheVariants.{CutMismatch};
 
 use crate::board::Board;
@@ -72,6 +74,10 @@ fn make_rounds<L: Link>(
     ensures least { OnOk result (All L.is_honest links.old → AllSeated L.is_under task.now board.old.map seats.old links.old
         → ((h : MapValue) → IsClosedMap task.now h → MapAtMost board.old.map.measures h.measures)
         → (h : MapValue) → IsClosedMap task.now h → MapAtMost board.new.map.measures h.measures) }
+    ensures honest { OnOk result (All L.is_honest links.old → All L.is_honest links.new) }
+    ensures told { IfOk result (λ n. (replies : ℕ → List Reply) → AllTell L.told task.now seats.old links.old replies
+        → ((h : MapValue) → IsClosedMap task.now h → MapAtMost board.old.map.measures h.measures)
+        → IsLeastOverReplies (game_line task.now.game) n (length links.old) replies board.new.map) }
 {
     let mut rounds = 0u64;
     'rounds: loop {
@@ -95,6 +101,10 @@ fn work<L: Link>(task: &Task<'_>, links: &mut [L]) -> Result<Solved, AllocError>
     ensures rounds { IfOk result (λ s. (1 ≤ s.rounds) × (s.rounds ≤ most_rounds (length task.now.game) task.now.bounds)) }
     ensures least { IfOk result (λ s. All L.is_honest links.old
         → IsLeastProgressMeasure s.map.bounds (game_line task.now.game) s.map.measures) }
+    ensures honest { OnOk result (All L.is_honest links.old → All L.is_honest links.new) }
+    ensures told { IfOk result (λ s. (replies : ℕ → List Reply)
+        → TellReplies L.told task.now.bounds task.now.cut links.old replies
+        → IsLeastOverReplies (game_line task.now.game) s.rounds (length links.old) replies s.map) }
 {
     let mut board = Board::new(task)?;
     let mut buffer = Vec::new(task.alloc());
@@ -116,7 +126,8 @@ fn work<L: Link>(task: &Task<'_>, links: &mut [L]) -> Result<Solved, AllocError>
 ///
 /// In a round each link in use is sent values and a Go; then the replies are read, and their values joined. Only where no value
 /// rose, each vertex that can be lifted is lifted here, from 0 up, and where none can be, the map is the answer. It is closed
-/// whatever the links answer; over honest links it is the least progress measure.
+/// whatever the links answer; over honest links it is the least progress measure; and over links that tell their replies it is
+/// the least closed map that is at least every value in the replies that were taken.
 ///
 /// A link that fails is restarted and set up again, at most three times; then it is abandoned, and its part is lifted here.
 ///
@@ -134,6 +145,9 @@ pub fn solve<L: Link>(
     ensures rounds { IfOk result (λ s. (1 ≤ s.rounds) × (s.rounds ≤ most_rounds (length game.now) s.map.bounds)) }
     ensures least { IfOk result (λ s. All L.is_honest links.old
         → IsLeastProgressMeasure s.map.bounds (game_line game.now) s.map.measures) }
+    ensures told { IfOk result (λ s. (replies : ℕ → List Reply) → TellReplies L.told s.map.bounds cut.now links.old replies
+        → IsLeastOverReplies (game_line game.now) s.rounds (length links.old) replies s.map) }
+    ensures honest { OnOk result (All L.is_honest links.old → All L.is_honest links.new) }
     ensures mismatch { result ≡ Err CutMismatch ↔ IsMismatch (length game.now) (length links.old) cut.now }
 {
     if cut.vertices() != game.len() || cut.workers() as usize != links.len() {

@@ -1,8 +1,18 @@
 //! A turn of one link: it is asked, and then heard.
 
-ghost use Rattle.std.specs.Prelude.{◌↔◌, IfErr, ◌≡◌, ◌<◌, length, All, IfOk, IsErr, OnOk};
+ghost use Rattle.std.specs.Prelude.{◌↔◌, IfErr, ◌≡◌, ◌∷◌, ◌++◌, ◌<◌, ℕ, List, [], Some, None, Ok, length, map, All, IfOk, IsErr, OnOk};
 ghost use Rattle.pg_map.specs.Maps.{MapValue, MapAtMost};
+ghost use Rattle.pg_wire.specs.declared.frame.Values.{Values};
+ghost use Rattle.pg_wire.specs.declared.frame.Frame.TheVariants as frames;
+ghost use Rattle.pg_wire.specs.declared.kind.ValueKind.TheVariants.{Dense};
+ghost use Rattle.pg_wire.specs.Spelling.{spelling};
+ghost use Rattle.pg_wire.specs.Bytes.{Spells};
+ghost use Rattle.pg_wire.specs.Measured.{told_values};
+ghost use Rattle.pg_worker.specs.Turns.{Joins};
+ghost use Rattle.pg_coord.specs.Replies.{AreOfPart};
+ghost use Rattle.pg_coord.specs.Told.{Reply, IsReply, frames_in};
 ghost use Rattle.pg_coord.specs.Mirrors.Boards.{Moves};
+ghost use Rattle.pg_coord.specs.Mirrors.Telling.{TellsAfter, AnswersAfter, reply_measures};
 
 use crate::board::Board;
 use crate::joining::join_frame;
@@ -55,6 +65,7 @@ pub fn ask<L: Link>(
     ensures honest { L.is_honest link.old → L.is_honest link.new }
     ensures under { OnOk result (L.is_honest link.old → (h : MapValue) → MapAtMost board.now.map.measures h.measures
         → L.is_under link.old h → L.is_under link.new h) }
+    ensures told { (left : List (List ℕ)) → L.told link.old ≡ Some left → TellsAfter left (L.told link.new) result }
 {
     let mut to = Recipient {
         worker,
@@ -77,6 +88,16 @@ pub fn ask<L: Link>(
     )
 }
 
+/// The report that a reply ends with; no other frame ends one.
+fn last(frame: &Frame) -> Result<Option<Report>, LinkFault>
+    ensures { (r : Report) → frame.now ≡ frames.Report r → result ≡ Ok (Some r) }
+{
+    match frame {
+        Frame::Report(report) => Ok(Some(*report)),
+        _ => Err(LinkFault::Failed),
+    }
+}
+
 /// Reads one frame of a reply and joins its measures, by a row of as many places as there are bounds. A report is answered.
 fn hear_frame<L: Link>(
     task: &Task<'_>,
@@ -94,6 +115,15 @@ fn hear_frame<L: Link>(
     ensures moves { Moves board.old board.new }
     ensures least { L.is_honest link.old → (h : MapValue) → L.is_under link.old h
         → MapAtMost board.old.map.measures h.measures → MapAtMost board.new.map.measures h.measures }
+    ensures values { (v : Values) (next : List ℕ) (left : List (List ℕ)) → L.told link.old ≡ Some (next ∷ left)
+        → Spells (frames.Values v) next → kind ≡ Dense
+        → AreOfPart Dense board.old.map.bounds task.now.cut worker Dense v.width (told_values v.values)
+        → AnswersAfter None left (L.told link.new) result
+        × OnOk result (Joins board.old.map.measures (told_values v.values) board.new.map.measures) }
+    ensures report { (r : Report) (next : List ℕ) (left : List (List ℕ)) → L.told link.old ≡ Some (next ∷ left)
+        → Spells (frames.Report r) next
+        → AnswersAfter (Some r) left (L.told link.new) result × (board.new ≡ board.old) }
+    ensures ended { L.told link.old ≡ Some [] → (L.told link.new ≡ Some []) × IsErr result × (board.new ≡ board.old) }
 {
     link.receive(buffer)?;
     if let Some(values) = ValuesReader::open(buffer) {
@@ -105,9 +135,9 @@ fn hear_frame<L: Link>(
         };
     }
     match decode(task.alloc(), buffer) {
-        Ok(Frame::Report(report)) => Ok(Some(report)),
+        Ok(frame) => last(&frame),
         Err(WireFault::OutOfMemory) => Err(LinkFault::OutOfMemory),
-        _ => Err(LinkFault::Failed),
+        Err(_) => Err(LinkFault::Failed),
     }
 }
 
@@ -138,6 +168,11 @@ pub fn hear<L: Link>(
     ensures moves { Moves board.old board.new }
     ensures least { L.is_honest link.old → (h : MapValue) → L.is_under link.old h
         → MapAtMost board.old.map.measures h.measures → MapAtMost board.new.map.measures h.measures }
+    ensures reply { (r : Reply) (left : List (List ℕ)) → L.told link.old ≡ Some (map spelling (frames_in r) ++ left)
+        → IsReply task.now.bounds task.now.cut worker r → kind ≡ Dense
+        → TellsAfter left (L.told link.new) result
+        × OnOk result (Joins board.old.map.measures (reply_measures r) board.new.map.measures) }
+    ensures ended { L.told link.old ≡ Some [] → (L.told link.new ≡ Some []) × IsErr result × (board.new ≡ board.old) }
 {
     let mut cells = vec![in task.alloc(); 0; task.width() as usize]?;
     let row = cells.as_mut_slice();

@@ -1,11 +1,12 @@
 //! Values that are sent to a worker.
 
-ghost use Rattle.std.specs.Prelude.{◌≡◌, ◌≤◌, ◌<◌, ℕ, List, All, length, IfOk, OnOk, IfSome};
+ghost use Rattle.std.specs.Prelude.{◌≡◌, ◌≤◌, ◌<◌, ℕ, List, All, Some, length, IfOk, OnOk, IfSome};
 ghost use Rattle.pg_measure.specs.Views.{measure_in};
 ghost use Rattle.pg_map.specs.Maps.{MapValue, MapAtMost};
 ghost use Rattle.pg_wire.specs.Measured.{Measured};
 ghost use Rattle.pg_wire.specs.Written.{IsWriting, IsAdded};
 ghost use Rattle.pg_coord.specs.Mirrors.Sent.{IsWritten, SpellsMeasures};
+ghost use Rattle.pg_coord.specs.Mirrors.Telling.{TellsAfter};
 
 use crate::link::{Link, LinkFault};
 use crate::task::Task;
@@ -120,6 +121,7 @@ pub fn send_values<L: Link>(
     ensures honest { L.is_honest link.old → L.is_honest link.new }
     ensures under { OnOk result (L.is_honest link.old → (h : MapValue) → MapAtMost map.now.measures h.measures
         → L.is_under link.old h → L.is_under link.new h) }
+    ensures told { (left : List (List ℕ)) → L.told link.old ≡ Some left → TellsAfter left (L.told link.new) result }
 {
     let mut rest = vertices;
     // Each frame has at least one of the vertices.

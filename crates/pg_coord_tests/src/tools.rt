@@ -15,6 +15,14 @@ pub fn game(alloc: Global) -> Result<Game, Fail> {
     Ok(builder.finish()?)
 }
 
+/// The second game.
+pub fn second_game(alloc: Global) -> Result<Game, Fail> {
+    let mut builder = GameBuilder::new(alloc);
+    builder.add(0, 1, Player::Even, &[0, 1], None)?;
+    builder.add(1, 2, Player::Odd, &[0], None)?;
+    Ok(builder.finish()?)
+}
+
 /// How many rounds, restarts and links given up there were, where the map is top at both vertices.
 fn counts(solved: &Solved) -> Option<(u64, u64, u64)> {
     let map = &solved.map;
@@ -25,18 +33,27 @@ fn counts(solved: &Solved) -> Option<(u64, u64, u64)> {
     }
 }
 
-/// Solves over these links, cut evenly: how many rounds, restarts and links given up there were, where that gives top at both
-/// vertices.
+/// Solves a game of two vertices over these links, cut evenly: how many rounds, restarts and links given up there were, where
+/// that gives top at both vertices.
+pub fn solves_game<L: Link>(
+    alloc: Global,
+    game: &Game,
+    links: &mut [L],
+    budget: u32,
+) -> Result<Option<(u64, u64, u64)>, Fail> {
+    let workers = u32::try_from(links.len())?;
+    let cut = Cut::even(alloc, 2, workers)?;
+    let solved = solve(alloc, game, links, &cut, budget)?;
+    Ok(counts(&solved))
+}
+
+/// The same of the game.
 pub fn solves<L: Link>(
     alloc: Global,
     links: &mut [L],
     budget: u32,
 ) -> Result<Option<(u64, u64, u64)>, Fail> {
-    let game = game(alloc)?;
-    let workers = u32::try_from(links.len())?;
-    let cut = Cut::even(alloc, 2, workers)?;
-    let solved = solve(alloc, &game, links, &cut, budget)?;
-    Ok(counts(&solved))
+    solves_game(alloc, &game(alloc)?, links, budget)
 }
 
 /// Whether a cut of so many vertices among so many workers is refused.

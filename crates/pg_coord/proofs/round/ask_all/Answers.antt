@@ -1,6 +1,7 @@
-use Rattle.std.proofs.Common.{rules, ◌<◌, length, length-set}
+use Rattle.std.proofs.Common.{rules, ◌<◌, ◌≤◌, length, length-set, arith}
 use Rattle.std.proofs.lemmas.List.Elements.{All-set}
-use Rattle.pg_coord.proofs.Seating.{AllSeated-set}
+use Rattle.pg_coord.proofs.Seating.{AllSeated-set, halves_step}
+use Rattle.pg_coord.proofs.Replying.{TellsNext, IsAskedNext}
 use Rattle.pg_coord.proofs.round.ask_all.Goals as goal
 
 pub loop-i-preserved : goal.loop-i-preserved
@@ -13,5 +14,27 @@ loop-i-preserved g c =
       same_len = search (rules, length-set);
       same_count = search (rules, length-set);
       honest_still = λ h. All-set honest c.loop-i.links c.loop-i.i c.ask_one.new.link (c.ask_one.ensures.honest (inv.honest_still h c.loop-i.i _ within)) (inv.honest_still h);
+      told_done = λ replies tell.
+          let here : c.loop-i.i ≤ c.loop-i.i = omega arith in
+          halves_step (TellsNext g.L.Link.told c.args.task.now replies) (IsAskedNext g.L.Link.told c.args.task.now replies) c.loop-i.i c.loop-i.seats
+          c.loop-i.links
+          c.ask_one.new.seat c.ask_one.new.link inv.same_len within (inv.told_done replies tell)
+          (c.in_ok-ask_one.ensures.told (replies c.loop-i.i) ((inv.told_done replies tell c.loop-i.i _ _ within).1 here));
       seated = λ h s. AllSeated-set under c.args.task.now c.args.board.now.map c.loop-i.seats c.loop-i.links c.loop-i.i c.ask_one.new.seat c.ask_one.new.link inv.same_len within (c.in_ok-ask_one.ensures.seated (inv.honest_still h c.loop-i.i _ within) (inv.seated h s c.loop-i.i _ _ within)) (inv.seated h s);
     }
+
+pub loop-i-init : goal.loop-i-init
+loop-i-init g c = record {
+  same_len = search rules;
+  same_count = search rules;
+  honest_still = λ h. h;
+  told_done = λ replies tell k d e lt. ((λ l. absurd (omega arith)), λ le. tell k d e lt);
+  seated = λ h s. s;
+}
+
+pub returns-clause-told : goal.returns-clause-told
+returns-clause-told g c = λ replies tell.
+    let done = c.loop-i.invariant.told_done replies tell in
+    let same = c.loop-i.invariant.same_count in
+    let past = c.loop-i-test.false in
+    ((λ k d e lt. ((done k d e lt).0 (omega arith)).0), λ k d e lt. ((done k d e lt).0 (omega arith)).1)

@@ -1,4 +1,8 @@
-use Rattle.std.proofs.Common.{◌≡◌, length, All}
+use Rattle.std.proofs.Common.{◌≡◌, ℕ, List, length, All}
+use Rattle.pg_coord.specs.Told.{Reply}
+use Rattle.pg_coord.specs.Mirrors.Telling.{AllTell}
+use Rattle.pg_coord.proofs.Seating.{Halves}
+use Rattle.pg_coord.proofs.Replying.{TellsNext, IsAskedNext}
 use Rattle.pg_coord.specs.Mirrors.Seats.{AllSeated}
 use Rattle.pg_coord.proofs.round.ask_all.Given as goal
 
@@ -10,5 +14,7 @@ invariant-loop-i g l =
       same_len : length l.seats ≡ length l.links;
       same_count : length l.links ≡ length l.fn.links;
       honest_still : All honest l.fn.links → All honest l.links;
+      told_done : (replies : ℕ → List Reply) → AllTell g.L.Link.told l.task l.fn.seats l.fn.links replies
+          → Halves (TellsNext g.L.Link.told l.task replies) (IsAskedNext g.L.Link.told l.task replies) l.i l.seats l.links;
       seated : All honest l.fn.links → AllSeated under l.task l.board.map l.fn.seats l.fn.links → AllSeated under l.task l.board.map l.seats l.links;
     }

@@ -1,7 +1,10 @@
-use Rattle.std.proofs.Common.{rules, ◌<◌, length, length-set, ◌∙◌}
+use Rattle.std.proofs.Common.{rules, ◌≡◌, ◌<◌, ◌≤◌, ℕ, take, length, length-set, ◌∙◌, arith, subst}
 use Rattle.std.proofs.lemmas.List.Elements.{All-set}
 use Rattle.pg_coord.proofs.Moving.{moves_none, moves_more}
-use Rattle.pg_coord.proofs.Seating.{AllSeated-set, all_seated_above}
+use Rattle.pg_coord.specs.Told.{measures_of}
+use Rattle.pg_coord.specs.Mirrors.Telling.{JoinsEach}
+use Rattle.pg_coord.proofs.Seating.{AllSeated-set, all_seated_above, halves_step}
+use Rattle.pg_coord.proofs.Replying.{IsAskedNext, IsHeardNext, each_none, each_more}
 use Rattle.pg_coord.proofs.round.hear_all.Goals as goal
 
 pub loop-i-init : goal.loop-i-init
@@ -12,6 +15,10 @@ loop-i-init g c = record {
   bounds = search rules;
   size = search rules;
   moves = moves_none _;
+  told_done = λ replies tell asked. (
+    λ k d e lt. ((λ l. absurd (omega arith)), λ le. (tell k d e lt, asked k d e lt)),
+    each_none c.args.board.now.map.measures (λ k. measures_of (take 1 (replies k))),
+  );
   seated = λ h s. s;
   least = λ h s m closed le. le;
 }
@@ -30,9 +37,30 @@ loop-i-preserved g c =
       bounds = moves.bounds ∙ inv.bounds;
       size = moves.size ∙ inv.size;
       moves = moves_more _ _ _ inv.moves moves;
+      told_done = λ replies tell asked.
+          let here : c.loop-i.i ≤ c.loop-i.i = omega arith in
+          let done = inv.told_done replies tell asked in
+          let next = c.in_ok-hear_one.ensures.told (replies c.loop-i.i) ((done.0 c.loop-i.i _ _ within).1 here).0
+          ((done.0 c.loop-i.i c.index-links-i.result _ within).1 here).1 in (
+            halves_step (IsAskedNext g.L.Link.told c.args.task.now replies) (IsHeardNext g.L.Link.told c.args.task.now replies) c.loop-i.i c.loop-i.seats
+                c.loop-i.links
+                c.hear_one.new.seat c.hear_one.new.link inv.same_len within done.0 next.0,
+            each_more c.args.board.now.map.measures c.loop-i.board.map.measures c.hear_one.new.board.map.measures c.loop-i.i
+                (λ k. measures_of (take 1 (replies k))) done.1 next.1,
+          );
       seated = λ h s. AllSeated-set under c.args.task.now c.hear_one.new.board.map c.loop-i.seats c.loop-i.links c.loop-i.i c.hear_one.new.seat c.hear_one.new.link inv.same_len within (c.in_ok-hear_one.ensures.seated (inv.honest_still h c.loop-i.i _ within) (inv.seated h s c.loop-i.i _ _ within)) (all_seated_above under c.args.task.now c.loop-i.board.map c.hear_one.new.board.map c.loop-i.seats c.loop-i.links moves.above (inv.seated h s));
       least = λ h s m closed le. c.hear_one.ensures.least (inv.honest_still h c.loop-i.i _ within) (inv.seated h s c.loop-i.i _ _ within) m closed (inv.least h s m closed le);
     }
 
 pub returns-in_err-hear_one-clause-moves : goal.returns-in_err-hear_one-clause-moves
 returns-in_err-hear_one-clause-moves g c = moves_more _ _ _ c.loop-i.invariant.moves c.hear_one.ensures.moves
+
+pub returns-clause-told : goal.returns-clause-told
+returns-clause-told g c = λ replies tell asked.
+    let same = c.loop-i.invariant.same_count in
+    let past = c.loop-i-test.false in
+    let done = c.loop-i.invariant.told_done replies tell asked in
+    let all : c.loop-i.i ≡ length c.args.links.now = (let end = c.loop-i.auto.i-end in omega arith) in (
+      (λ k d e lt. (done.0 k d e lt).0 (omega arith)),
+      subst (λ (n : ℕ). JoinsEach c.args.board.now.map.measures n (λ k. measures_of (take 1 (replies k))) c.loop-i.board.map.measures) all done.1,
+    )

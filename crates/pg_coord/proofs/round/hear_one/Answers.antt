@@ -1,6 +1,10 @@
+use Rattle.std.proofs.Common.{◌≡◌, true, false, [], ap}
+use Rattle.pg_coord.specs.declared.board.Board.{Board}
 use Rattle.pg_map.specs.Lemmas.Orders.{map_transitive}
 use Rattle.pg_coord.proofs.Moving.{moves_none}
+use Rattle.pg_coord.proofs.Replying.{not_heard, reply_heard, none_heard}
 use Rattle.pg_coord.proofs.round.hear_one.Goals as goal
+use Rattle.pg_coord.proofs.round.hear_one.Goals.{then-not-seat-via-then-not-seat, then-not-seat-via-else-not-seat+then-not-seat-2}
 
 pub returns-then-not-seat-clause-moves : goal.returns-then-not-seat-clause-moves
 returns-then-not-seat-clause-moves g c = moves_none _
@@ -10,3 +14,32 @@ returns-in-Ok-clause-seated g c = λ ho s used h closed le. c.hear.ensures.under
 
 pub returns-in_ok-mend-in-Err-Failed-clause-seated : goal.returns-in_ok-mend-in-Err-Failed-clause-seated
 returns-in_ok-mend-in-Err-Failed-clause-seated g c = λ ho s. c.in_ok-mend-in-Err-Failed.ensures.seated (c.hear.ensures.honest ho) c.hear.new.board.map
+
+pub returns-then-not-seat-clause-told : goal.returns-then-not-seat-clause-told
+returns-then-not-seat-clause-told g c = λ rs h asked.
+    let unused : c.args.seat.now.in_use ≡ false =
+    elim c.then-not-seat.branch [
+      | then-not-seat-via-then-not-seat w ↦ let unused = w.if-not-seat.true in cc
+      | then-not-seat-via-else-not-seat+then-not-seat-2 w ↦ let was = asked w.if-not-seat.false in let not = w.if-not-seat-2.true in absurd (cc)
+    ] in
+    not_heard c.args.task.now c.args.worker rs c.args.seat.now (g.L.Link.told c.args.link.now) c.args.board.now.map.measures h unused
+
+pub returns-in-Ok-clause-told : goal.returns-in-Ok-clause-told
+returns-in-Ok-clause-told g c = λ rs h asked.
+    let told = g.L.Link.told in
+    let used : c.args.seat.now.in_use ≡ true = c.if-not-seat.false in
+    reply_heard c.args.task.now c.args.worker rs c.args.seat.now (told c.args.link.now) (told c.hear.new.link) c.args.board.now.map.measures
+    c.hear.new.board.map.measures h used
+    (λ is. let bad = (c.in-Ok.ensures.ended is).1 in absurd (cc))
+    (λ r left is reply dense. let taken = c.in-Ok.ensures.reply r left is reply dense in (taken.0.1, taken.1))
+
+pub returns-in_ok-mend-in-Err-Failed-clause-told : goal.returns-in_ok-mend-in-Err-Failed-clause-told
+returns-in_ok-mend-in-Err-Failed-clause-told g c = λ rs h asked.
+    let told = g.L.Link.told in
+    none_heard c.args.task.now c.args.worker rs c.args.seat.now c.mend.new.seat (told c.args.link.now) (told c.mend.new.link) c.args.board.now.map.measures
+    c.hear.new.board.map.measures h
+    (λ r left is reply dense. (c.in-Err-Failed.ensures.reply r left is reply dense).0.0 (let f = c.in-Err-Failed.field-0-is in cc))
+    (λ is dense.
+    let ended = c.in-Err-Failed.ensures.ended is in
+    let mended = c.in_ok-mend-in-Err-Failed.ensures.told [] ended.0 dense in
+    (mended.0, mended.1, ap (λ (b : Board). b.map.measures) ended.2))

@@ -1,8 +1,9 @@
-use Rattle.std.proofs.Common.{rules, ◌<◌, length, length-set, arith}
+use Rattle.std.proofs.Common.{rules, ◌<◌, ◌≤◌, length, length-set, arith}
 use Rattle.std.proofs.lemmas.List.Elements.{All-set}
 use Rattle.pg_map.specs.Maps.{MapValue}
 use Rattle.pg_coord.specs.Mirrors.Seats.{IsSeated}
 use Rattle.pg_coord.proofs.Seating.{halves_step}
+use Rattle.pg_coord.proofs.Replying.{TellsFirst, TellsNext}
 use Rattle.pg_coord.proofs.round.seat_all.Goals as goal
 
 pub loop-i-init : goal.loop-i-init
@@ -10,6 +11,7 @@ loop-i-init g c = record {
   same_len = search rules;
   same_count = search rules;
   honest_still = λ h. h;
+  told_done = λ replies tell k d e lt. ((λ l. absurd (omega arith)), λ le. tell k d lt);
   seated = λ h k d e lt. ((λ l. absurd (omega arith)), λ le. tt);
 }
 
@@ -23,8 +25,21 @@ loop-i-preserved g c =
       same_len = search (rules, length-set);
       same_count = search (rules, length-set);
       honest_still = λ h. All-set honest c.loop-i.links c.loop-i.i c.seat_one.new.link (c.seat_one.ensures.honest (inv.honest_still h c.loop-i.i _ within)) (inv.honest_still h);
+      told_done = λ replies tell.
+          let here : c.loop-i.i ≤ c.loop-i.i = omega arith in
+          let first = (inv.told_done replies tell c.loop-i.i c.index-links-i.result c.seat_one.new.seat within).1 here in
+          halves_step (TellsFirst g.L.Link.told c.args.task.now replies) (TellsNext g.L.Link.told c.args.task.now replies) c.loop-i.i c.loop-i.seats
+          c.loop-i.links
+          c.seat_one.new.seat c.seat_one.new.link inv.same_len within (inv.told_done replies tell)
+          (c.in_ok-seat_one.ensures.told (replies c.loop-i.i) first.0 first.1);
       seated = λ h. halves_step (λ k seat link. Unit {0}) (λ k seat link. (map : MapValue) → IsSeated under c.args.task.now map seat link) c.loop-i.i c.loop-i.seats c.loop-i.links c.seat_one.new.seat c.seat_one.new.link inv.same_len within (inv.seated h) (c.in_ok-seat_one.ensures.seated (inv.honest_still h c.loop-i.i _ within));
     }
 
 pub returns-clause-seated : goal.returns-clause-seated
 returns-clause-seated g c = λ h map k d e lt. (c.loop-i.invariant.seated h k d e lt).0 (let past = c.loop-i-test.false in let same = c.loop-i.invariant.same_count in omega arith) map
+
+pub returns-clause-told : goal.returns-clause-told
+returns-clause-told g c = λ replies tell k d e lt.
+    let same = c.loop-i.invariant.same_count in
+    let past = c.loop-i-test.false in
+    (c.loop-i.invariant.told_done replies tell k d e lt).0 (omega arith)

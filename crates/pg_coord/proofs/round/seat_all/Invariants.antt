@@ -1,7 +1,9 @@
-use Rattle.std.proofs.Common.{◌≡◌, length, All}
+use Rattle.std.proofs.Common.{◌≡◌, ℕ, List, length, All}
 use Rattle.pg_map.specs.Maps.{MapValue}
 use Rattle.pg_coord.specs.Mirrors.Seats.{IsSeated}
+use Rattle.pg_coord.specs.Told.{Reply, TellReplies}
 use Rattle.pg_coord.proofs.Seating.{Halves}
+use Rattle.pg_coord.proofs.Replying.{TellsFirst, TellsNext}
 use Rattle.pg_coord.proofs.round.seat_all.Given as goal
 
 abbrev pub invariant-loop-i : goal.invariant-loop-i
@@ -12,5 +14,7 @@ invariant-loop-i g l =
       same_len : length l.seats ≡ length l.links;
       same_count : length l.links ≡ length l.fn.links;
       honest_still : All honest l.fn.links → All honest l.links;
+      told_done : (replies : ℕ → List Reply) → TellReplies g.L.Link.told l.task.bounds l.task.cut l.fn.links replies
+          → Halves (TellsFirst g.L.Link.told l.task replies) (TellsNext g.L.Link.told l.task replies) l.i l.seats l.links;
       seated : All honest l.fn.links → Halves (λ k seat link. Unit {0}) (λ k seat link. (map : MapValue) → IsSeated under l.task map seat link) l.i l.seats l.links;
     }

@@ -1,4 +1,4 @@
-use Rattle.std.proofs.Common.{◌<◌}
+use Rattle.std.proofs.Common.{◌≡◌, ◌<◌, ℕ, List, Some}
 use Rattle.pg_map.specs.Maps.{MapValue}
 use Rattle.pg_coord.specs.Mirrors.Tasks.{IsClosedMap}
 use Rattle.pg_coord.specs.Mirrors.Lines.{AreLines}
@@ -11,6 +11,7 @@ invariant-loop-number g l =
     record {
       honest_still : honest l.fn.link → honest l.link;
       under_still : honest l.fn.link → (h : MapValue) → IsClosedMap l.task h → under l.fn.link h → under l.link h;
+      told_still : (left : List (List ℕ)) → g.L.Link.told l.fn.link ≡ Some left → g.L.Link.told l.link ≡ Some left;
       lines : AreLines l.task l.number l.lines.items l.size;
       few : l.size < 65536;
     }

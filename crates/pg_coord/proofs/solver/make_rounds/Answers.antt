@@ -1,10 +1,11 @@
-use Rattle.std.proofs.Common.{◌≡◌, length, rules, ap, ◌∙◌, arith}
+use Rattle.std.proofs.Common.{◌≡◌, ◌+◌, ◌≤◌, ℕ, length, drop, rules, ap, ◌∙◌, arith}
 use Rattle.pg_map.specs.Lines.{game_line}
-use Rattle.pg_map.specs.Maps.{MapValue, StaysUnder}
+use Rattle.pg_map.specs.Maps.{MapValue, IsClosed, StaysUnder}
 use Rattle.pg_map.specs.Weights.{map_weight}
 use Rattle.pg_coord.proofs.Moving.{moves_more}
 use Rattle.pg_coord.proofs.Seating.{all_seated_above}
 use Rattle.pg_coord.proofs.Rounds.{weight_less, lifts_under}
+use Rattle.pg_coord.proofs.Taken.{none_taken, round_taken, least_over}
 use Rattle.pg_coord.proofs.solver.make_rounds.Goals as goal
 
 pub rounds-init : goal.rounds-init
@@ -15,6 +16,7 @@ rounds-init g c = record {
   size = search rules;
   rounds = omega arith;
   honest_still = λ h. h;
+  taken = λ replies tell. none_taken g.L.Link.told c.args.task.now replies c.args.seats.now c.args.links.now c.args.board.now.map.measures tell;
   seated = λ h s. s;
   least = λ h s l. l;
 }
@@ -44,6 +46,19 @@ rounds-preserved g c =
           let e : map_weight begun.map.bounds begun.map.measures ≡ map_weight before.map.bounds before.map.measures = ap (λ (m : MapValue). map_weight m.bounds m.measures) same in
           let k = inv.rounds in omega arith);
       honest_still = λ h. c.in_ok-hear_all.ensures.honest (c.in_ok-ask_all.ensures.honest (inv.honest_still h));
+      taken = λ replies tell.
+          let h = inv.taken replies tell in
+          let left = λ (k : ℕ). drop h.taken (replies k) in
+          let asked = c.in_ok-ask_all.ensures.told left h.tell in
+          let joined = c.in_ok-hear_all.ensures.told left asked.0 asked.1 in
+          let few : c.saturating_add-rounds.result ≤ c.rounds.rounds + 1 = search rules in
+          let asked_count : length c.ask_all.new.links ≡ length c.rounds.links = search rules in
+          let heard_count : length c.hear_all.new.links ≡ length c.rounds.links = search rules in
+          round_taken g.L.Link.told task replies c.rounds.rounds c.saturating_add-rounds.result c.rounds.seats c.hear_all.new.seats c.rounds.links
+          c.hear_all.new.links
+          (length c.ask_all.new.links) c.args.board.now.map.measures begun.map before.map heard.map after.map h few asked_count heard_count same joined.0
+          joined.1
+          first.above second.above (first.bounds ∙ begun_bounds) (first.size ∙ begun_size) lifted;
       seated = λ h s.
           let asked = c.in_ok-ask_all.ensures.seated (inv.honest_still h) (inv.seated h s) in
           all_seated_above under task heard.map after.map _ _ second.above (c.in_ok-hear_all.ensures.seated (c.in_ok-ask_all.ensures.honest (inv.honest_still h)) (rw same asked));
@@ -60,3 +75,38 @@ rounds-smaller g c =
     let w = weight_less begun c.settle.new.board moves c.begin.ensures.rose c.if-not-board.false in
     let e : map_weight begun.map.bounds begun.map.measures ≡ map_weight c.rounds.board.map.bounds c.rounds.board.map.measures = ap (λ (m : MapValue). map_weight m.bounds m.measures) c.begin.ensures.map in
     omega arith
+
+pub returns-then-not-board-clause-honest : goal.returns-then-not-board-clause-honest
+returns-then-not-board-clause-honest g c = λ h. c.in_ok-hear_all.ensures.honest (c.in_ok-ask_all.ensures.honest (c.rounds.invariant.honest_still h))
+
+pub returns-then-not-board-clause-told : goal.returns-then-not-board-clause-told
+returns-then-not-board-clause-told g c = λ replies tell under.
+    let inv = c.rounds.invariant in
+    let task = c.args.task.now in
+    let before = c.rounds.board in
+    let begun = c.begin.new.self in
+    let heard = c.hear_all.new.board in
+    let after = c.settle.new.board in
+    let same : begun.map ≡ before.map = c.begin.ensures.map in
+    let first = c.hear_all.ensures.moves in
+    let second = c.settle.ensures.moves in
+    let begun_bounds : begun.map.bounds ≡ task.bounds = ap (λ (m : MapValue). m.bounds) same ∙ inv.bounds in
+    let begun_size : length begun.map.measures ≡ length task.game = ap (λ (m : MapValue). length m.measures) same ∙ inv.size in
+    let lifted : StaysUnder heard.map.bounds (game_line task.game) heard.map.measures after.map.measures = rw (← c.game.ensures.value) c.settle.ensures.under in
+    let h = inv.taken replies tell in
+    let left = λ (k : ℕ). drop h.taken (replies k) in
+    let asked = c.in_ok-ask_all.ensures.told left h.tell in
+    let joined = c.in_ok-hear_all.ensures.told left asked.0 asked.1 in
+    let few : c.saturating_add-rounds.result ≤ c.rounds.rounds + 1 = search rules in
+    let asked_count : length c.ask_all.new.links ≡ length c.rounds.links = search rules in
+    let heard_count : length c.hear_all.new.links ≡ length c.rounds.links = search rules in
+    let count : length c.hear_all.new.links ≡ length c.args.links.now = heard_count ∙ inv.same_count in
+    let closed : IsClosed after.map.bounds (game_line task.game) after.map.measures =
+    rw (← c.game.ensures.value) (c.settle.ensures.closed c.if-not-board.true) in
+    let all = round_taken g.L.Link.told task replies c.rounds.rounds c.saturating_add-rounds.result c.rounds.seats c.hear_all.new.seats c.rounds.links
+    c.hear_all.new.links
+    (length c.ask_all.new.links) c.args.board.now.map.measures begun.map before.map heard.map after.map h few asked_count heard_count same joined.0 joined.1
+    first.above second.above (first.bounds ∙ begun_bounds) (first.size ∙ begun_size) lifted in
+    least_over g.L.Link.told task replies c.saturating_add-rounds.result c.hear_all.new.seats c.hear_all.new.links (length c.args.links.now)
+    c.args.board.now.map.measures after.map all
+    count (second.bounds ∙ first.bounds ∙ begun_bounds) (second.size ∙ first.size ∙ begun_size) closed under

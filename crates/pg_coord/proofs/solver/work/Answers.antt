@@ -1,4 +1,6 @@
-use Rattle.std.proofs.Common.{length, arith}
+use Rattle.std.proofs.Common.{◌≡◌, ℕ, length, arith, rules, subst}
+use Rattle.pg_map.specs.Lines.{game_line}
+use Rattle.pg_coord.specs.Told.{IsLeastOverReplies}
 use Rattle.pg_coord.proofs.Rounds.{zero_size, zero_under, zero_weight, least_at_end}
 use Rattle.pg_coord.proofs.solver.work.Goals as goal
 
@@ -18,3 +20,14 @@ returns-clause-least g c = λ honest.
     let e = c.in_ok-rounds.ensures in
     least_at_end task c.make_rounds.new.board.map c.make_rounds.ensures.bounds e.map e.closed
     (e.least (c.in_ok-seat_all.ensures.honest honest) (c.in_ok-seat_all.ensures.seated honest c.in_ok-board.board.map) (λ m closed. zero_under task c.in_ok-board.board.map m c.in_ok-board.ensures.zeros closed))
+
+pub returns-clause-honest : goal.returns-clause-honest
+returns-clause-honest g c = λ honest. c.in_ok-rounds.ensures.honest (c.in_ok-seat_all.ensures.honest honest)
+
+pub returns-clause-told : goal.returns-clause-told
+returns-clause-told g c = λ replies tell.
+    let task = c.args.task.now in
+    let count : length c.seat_all.new.links ≡ length c.args.links.now = search rules in
+    let over = c.in_ok-rounds.ensures.told replies (c.in_ok-seat_all.ensures.told replies tell)
+    (λ m closed. zero_under task c.in_ok-board.board.map m c.in_ok-board.ensures.zeros closed) in
+    subst (λ (n : ℕ). IsLeastOverReplies (game_line task.game) c.in_ok-rounds.rounds n replies c.make_rounds.new.board.map) count over

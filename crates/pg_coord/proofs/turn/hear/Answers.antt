@@ -1,5 +1,15 @@
-use Rattle.std.proofs.Common.{rules, length, ap, sym, ◌∙◌}
+use Rattle.std.proofs.Common.{rules, length, ap, sym, ◌∙◌, ◌≡◌, Some, refl, subst, arith, inl, inr}
+use Rattle.std.specs.Prelude.{IsErr}
+use Rattle.pg_wire.specs.declared.frame.Report.{Report}
+use Rattle.pg_wire.specs.declared.frame.Frame.TheVariants as frames
+use Rattle.pg_wire.specs.declared.kind.ValueKind.TheVariants.{Dense}
+use Rattle.pg_wire.specs.Spelling.{spelling}
+use Rattle.pg_wire.specs.Measured.{told_values}
+use Rattle.pg_coord.specs.declared.board.Board.{Board}
+use Rattle.pg_coord.specs.Replies.{AreOfPart}
 use Rattle.pg_coord.proofs.Moving.{moves_none, moves_more}
+use Rattle.pg_coord.proofs.Hearing.{heard_none, heard_few, next_frame}
+use Rattle.pg_coord.proofs.Taking.{judged_well}
 use Rattle.pg_coord.proofs.turn.hear.Goals as goal
 
 pub frames-init : goal.frames-init
@@ -10,12 +20,16 @@ frames-init g c = record {
   under_still = λ h m u. u;
   moves = moves_none c.args.board.now;
   least = λ h m u le. le;
+  heard = λ r left is reply dense. heard_none r left (g.L.Link.told c.args.link.now) c.args.board.now.map.measures is;
+  ended = λ is. (is, refl);
 }
 
 pub frames-preserved : goal.frames-preserved
 frames-preserved g c =
     let inv = c.frames.invariant in
     let e = c.hear_frame.ensures in
+    let told = g.L.Link.told in
+    let task = c.args.task.now in
     record {
       size = e.moves.size ∙ inv.size;
       row = c.hear_frame.auto.row ∙ inv.row ∙ sym (ap length e.moves.bounds);
@@ -23,6 +37,20 @@ frames-preserved g c =
       under_still = λ h m u. e.under (inv.honest_still h) m (inv.under_still h m u);
       moves = moves_more c.args.board.now c.frames.board c.hear_frame.new.board inv.moves e.moves;
       least = λ h m u le. e.least (inv.honest_still h) m (inv.under_still h m u) (inv.least h m u le);
+      heard = λ r left is reply dense.
+          elim (next_frame task.bounds task.cut c.args.worker r left c.frames.counter (told c.frames.link) c.args.board.now.map.measures
+          c.frames.board.map.measures reply
+          (c.frames.invariant.heard r left is reply dense)) [
+            | inl n ↦
+                let part : AreOfPart Dense c.frames.board.map.bounds task.cut c.args.worker Dense n.values.width (told_values n.values.values) =
+                rw (c.frames.invariant.moves.bounds, c.requires.bounds) n.part in
+                let taken = c.in-Ok-None.ensures.values n.values (spelling (frames.Values n.values)) n.rest n.told_is n.spells dense part in
+                n.heard (told c.hear_frame.new.link) c.hear_frame.new.board.map.measures taken.0.1.1 taken.1
+            | inr n ↦
+                let taken = c.in-Ok-None.ensures.report r.report (spelling (frames.Report r.report)) left n.told_is n.spells in
+                absurd (let no = taken.0.1.0 in let none = c.in-Ok-None.field-0-is in cc)
+          ];
+      ended = λ is. let no = (c.in-Ok-None.ensures.ended (inv.ended is).0).1 in absurd (cc);
     }
 
 pub returns-in-Ok-Some-clause-moves : goal.returns-in-Ok-Some-clause-moves
@@ -43,3 +71,57 @@ returns-in-Err-clause-least g c = λ h m u le.
 
 pub returns-in_err-cells-clause-moves : goal.returns-in_err-cells-clause-moves
 returns-in_err-cells-clause-moves g c = moves_none c.args.board.now
+
+pub returns-in-Ok-Some-clause-reply : goal.returns-in-Ok-Some-clause-reply
+returns-in-Ok-Some-clause-reply g c = λ r left is reply dense.
+    let told = g.L.Link.told in
+    let task = c.args.task.now in
+    elim (next_frame task.bounds task.cut c.args.worker r left c.frames.counter (told c.frames.link) c.args.board.now.map.measures c.frames.board.map.measures
+    reply
+    (c.frames.invariant.heard r left is reply dense)) [
+      | inl n ↦
+          let part : AreOfPart Dense c.frames.board.map.bounds task.cut c.args.worker Dense n.values.width (told_values n.values.values) =
+          rw (c.frames.invariant.moves.bounds, c.requires.bounds) n.part in
+          let taken = c.in-Ok-Some.ensures.values n.values (spelling (frames.Values n.values)) n.rest n.told_is n.spells dense part in
+          absurd (let no = taken.0.1.0 in let some = c.in-Ok-Some.field-0-is in cc)
+      | inr n ↦
+          let taken = c.in-Ok-Some.ensures.report r.report (spelling (frames.Report r.report)) left n.told_is n.spells in
+          let same : c.in-Ok-Some.report ≡ r.report = (let e = taken.0.1.0 in let f = c.in-Ok-Some.field-0-is in let h = c.in-Ok-Some.report-is in cc) in
+          let fails : IsErr c.judged.result → ⊥ = λ e. reply.report (subst (λ (q : Report). q.status ≡ 2) same (c.judged.ensures.failed.0 e)) in
+          let stays : c.hear_frame.new.board.map.measures ≡ c.frames.board.map.measures = ap (λ (b : Board). b.map.measures) taken.1 in
+          judged_well c.judged.result (told c.hear_frame.new.link ≡ Some left) _ fails taken.0.1.1 (rw stays n.joins)
+    ]
+
+pub returns-in-Ok-Some-clause-ended : goal.returns-in-Ok-Some-clause-ended
+returns-in-Ok-Some-clause-ended g c = λ is. let no = (c.in-Ok-Some.ensures.ended (c.frames.invariant.ended is).0).1 in absurd (cc)
+
+pub returns-in-Err-clause-reply : goal.returns-in-Err-clause-reply
+returns-in-Err-clause-reply g c = λ r left is reply dense.
+    let told = g.L.Link.told in
+    let task = c.args.task.now in
+    elim (next_frame task.bounds task.cut c.args.worker r left c.frames.counter (told c.frames.link) c.args.board.now.map.measures c.frames.board.map.measures
+    reply
+    (c.frames.invariant.heard r left is reply dense)) [
+      | inl n ↦
+          let part : AreOfPart Dense c.frames.board.map.bounds task.cut c.args.worker Dense n.values.width (told_values n.values.values) =
+          rw (c.frames.invariant.moves.bounds, c.requires.bounds) n.part in
+          let taken = c.in-Err.ensures.values n.values (spelling (frames.Values n.values)) n.rest n.told_is n.spells dense part in
+          (((λ no. taken.0.0 (cc)), tt), tt)
+      | inr n ↦
+          let taken = c.in-Err.ensures.report r.report (spelling (frames.Report r.report)) left n.told_is n.spells in
+          (((λ no. taken.0.0 (cc)), tt), tt)
+    ]
+
+pub returns-in-Err-clause-ended : goal.returns-in-Err-clause-ended
+returns-in-Err-clause-ended g c = λ is.
+    let before = c.frames.invariant.ended is in
+    let e = c.in-Err.ensures.ended before.0 in
+    (e.0, refl, e.2 ∙ before.1)
+
+pub returns-clause-reply : goal.returns-clause-reply
+returns-clause-reply g c = λ r left is reply dense.
+    let few = heard_few _ _ _ _ _ _ _ _ _ reply (c.frames.invariant.heard r left is reply dense) in
+    absurd (omega arith)
+
+pub returns-clause-ended : goal.returns-clause-ended
+returns-clause-ended g c = λ is. let e = c.frames.invariant.ended is in (e.0, refl, e.1)

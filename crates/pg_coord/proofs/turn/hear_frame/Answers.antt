@@ -1,4 +1,8 @@
+use Rattle.std.proofs.Common.{rules, ◌∙◌, Ok, sym, subst, refl, inl, inr}
+use Rattle.pg_wire.specs.declared.frame.Frame.TheVariants as frames
+use Rattle.pg_wire.specs.Bytes.{Spells}
 use Rattle.pg_wire.specs.Measured.{frame_of}
+use Rattle.pg_coord.proofs.Taking.{handed_over, found_dense, part_again, frame_joins}
 use Rattle.pg_coord.proofs.Moving.{moves_none}
 use Rattle.pg_coord.proofs.Measuring.{found_at_least}
 use Rattle.pg_coord.proofs.turn.hear_frame.Goals as goal
@@ -6,14 +10,11 @@ use Rattle.pg_coord.proofs.turn.hear_frame.Goals as goal
 pub returns-in_err-receive-clause-moves : goal.returns-in_err-receive-clause-moves
 returns-in_err-receive-clause-moves g c = moves_none c.args.board.now
 
-pub returns-in-Ok-Report-clause-moves : goal.returns-in-Ok-Report-clause-moves
-returns-in-Ok-Report-clause-moves g c = moves_none c.args.board.now
+pub returns-in-Ok-clause-moves : goal.returns-in-Ok-clause-moves
+returns-in-Ok-clause-moves g c = moves_none c.args.board.now
 
 pub returns-in-Err-OutOfMemory-clause-moves : goal.returns-in-Err-OutOfMemory-clause-moves
 returns-in-Err-OutOfMemory-clause-moves g c = moves_none c.args.board.now
-
-pub returns-clause-moves : goal.returns-clause-moves
-returns-clause-moves g c = moves_none c.args.board.now
 
 pub returns-then-joined-clause-least : goal.returns-then-joined-clause-least
 returns-then-joined-clause-least g c = λ ho h u le.
@@ -28,3 +29,49 @@ returns-else-joined-clause-least g c = λ ho h u le.
     let found = c.in-Some.ensures.found in
     (c.join_frame-joined.ensures.joins found.0 found.2).least h.measures le
     (found_at_least h.measures values found.0 found.2 (c.in_ok-receive.ensures.values ho h u (frame_of values.kind values.width found.0) (rw c.deref.ensures.value at found.1)))
+
+pub returns-then-joined-clause-values : goal.returns-then-joined-clause-values
+returns-then-joined-clause-values g c = λ v next left is s dense part.
+    let told = g.L.Link.told in
+    let values = c.in-Some.values in
+    let found = c.in-Some.ensures.found in
+    let handed = handed_over (told c.args.link.now) (told c.receive.new.self) (Ok c.in_ok-receive.field-0) c.receive.new.frame.items next left
+    c.in_ok-receive.ensures.told is in
+    let d = found_dense values.kind values.width found.0 v c.deref.result.now next found.1 (c.deref.ensures.value ∙ handed.1.0) s in
+    let joins = c.if-joined.ensures.joins found.0 found.2 in (
+      ((λ no. cc), (refl, handed.1.1)),
+      frame_joins c.args.kind values.kind c.cut.result.now c.args.worker values.width c.args.board.now
+          c.join_frame-joined.new.board found.0 v d c.if-joined.ensures.moves joins,
+    )
+
+pub returns-else-joined-clause-values : goal.returns-else-joined-clause-values
+returns-else-joined-clause-values g c = λ v next left is s dense part.
+    let told = g.L.Link.told in
+    let values = c.in-Some.values in
+    let found = c.in-Some.ensures.found in
+    let handed = handed_over (told c.args.link.now) (told c.receive.new.self) (Ok c.in_ok-receive.field-0) c.receive.new.frame.items next left
+    c.in_ok-receive.ensures.told is in
+    let d = found_dense values.kind values.width found.0 v c.deref.result.now next found.1 (c.deref.ensures.value ∙ handed.1.0) s in
+    let not = (c.if-joined.ensures.joins found.0 found.2).other refl in
+    absurd (not (part_again c.args.kind values.kind c.args.board.now.map.bounds c.args.task.now.cut c.cut.result.now c.args.worker values.width found.0 v d
+    dense c.cut.ensures.value part))
+
+pub returns-in-Err-clause-moves : goal.returns-in-Err-clause-moves
+returns-in-Err-clause-moves g c = moves_none c.args.board.now
+
+pub returns-in-Err-clause-values : goal.returns-in-Err-clause-values
+returns-in-Err-clause-values g c = λ v next left is s dense part.
+    let told = g.L.Link.told in
+    let handed = handed_over (told c.args.link.now) (told c.receive.new.self) (Ok c.in_ok-receive.field-0) c.receive.new.frame.items next left
+    c.in_ok-receive.ensures.told is in
+    absurd (c.in_default.ensures.all (frames.Values v) tt (subst (Spells (frames.Values v)) (sym (c.deref.ensures.value ∙ handed.1.0)) s) refl)
+
+pub returns-in-Err-clause-report : goal.returns-in-Err-clause-report
+returns-in-Err-clause-report g c = λ r next left is s.
+    let told = g.L.Link.told in
+    let handed = handed_over (told c.args.link.now) (told c.receive.new.self) (Ok c.in_ok-receive.field-0) c.receive.new.frame.items next left
+    c.in_ok-receive.ensures.told is in
+    elim (c.in-Err.ensures.all (frames.Report r) (subst (Spells (frames.Report r)) (sym (c.deref-2.ensures.value ∙ handed.1.0)) s)) [
+      | inl e ↦ absurd (cc)
+      | inr e ↦ absurd (let bad : ⊥ = search rules in bad)
+    ]

@@ -1,4 +1,4 @@
-use Rattle.std.proofs.Common.{◌<◌, length}
+use Rattle.std.proofs.Common.{◌≡◌, ◌<◌, ℕ, List, Some, length}
 use Rattle.std.specs.Prelude.{All}
 use Rattle.pg_map.specs.Maps.{MapValue, MapAtMost}
 use Rattle.pg_coord.proofs.values.send_values.Given as goal
@@ -10,5 +10,6 @@ invariant-values g l =
     record {
       within : All (λ v. v < length l.map.measures) l.rest;
       honest_still : honest l.fn.link → honest l.link;
+      told_still : (left : List (List ℕ)) → g.L.Link.told l.fn.link ≡ Some left → g.L.Link.told l.link ≡ Some left;
       under_still : honest l.fn.link → (h : MapValue) → MapAtMost l.map.measures h.measures → under l.fn.link h → under l.link h;
     }

@@ -1,0 +1,76 @@
+-- What is taken of links that tell their replies.
+use Rattle.std.specs.Prelude.{◌≡◌, ◌≢◌, ℕ, ◌+◌, ◌<◌, true, false, List, [], ◌∷◌, ◌++◌, map, length, All, Option, Some, Result, Ok, Err, OnOk, slice_index_or}
+use Rattle.std.specs.List.{flat_map}
+use Rattle.pg_measure.specs.Measures.{MeasureValue}
+use Rattle.pg_map.specs.Maps.{MapAtMost}
+use Rattle.pg_wire.specs.declared.frame.Values.{Values}
+use Rattle.pg_wire.specs.declared.frame.Report.{Report}
+use Rattle.pg_wire.specs.declared.frame.Frame.TheVariants as frames
+use Rattle.pg_wire.specs.declared.kind.ValueKind.{ValueKind}
+use Rattle.pg_wire.specs.declared.kind.ValueKind.TheVariants.{Dense, Sparse}
+use Rattle.pg_wire.specs.Spelling.{spelling}
+use Rattle.pg_wire.specs.Measured.{Measured, told_values}
+use Rattle.pg_worker.specs.Turns.{IsAtLeast}
+use Rattle.pg_coord.specs.declared.link.LinkFault.{LinkFault}
+use Rattle.pg_coord.specs.declared.link.LinkFault.TheVariants.{Failed}
+use Rattle.pg_coord.specs.declared.seat.Seat.{Seat}
+use Rattle.pg_coord.specs.Links.{refusal}
+use Rattle.pg_coord.specs.Told.{Reply, IsReply, spelled_replies}
+use Rattle.pg_coord.specs.Mirrors.Tasks.{TaskValue}
+
+-- ---- one call
+
+-- a call isn't Failed, and these frames are told after it
+abbrev pub TellsAfter : {T : Type 0} → List (List ℕ) → Option (List (List ℕ)) → Result T LinkFault → Type 0
+TellsAfter left new r = (r ≢ Err Failed) × OnOk r (new ≡ Some left)
+
+-- the same, and values go dense after it
+abbrev pub TellsDense : {T : Type 0} → List (List ℕ) → Option (List (List ℕ)) → ValueKind → Result T LinkFault → Type 0
+TellsDense left new kind r = (r ≢ Err Failed) × OnOk r ((new ≡ Some left) × (kind ≡ Dense))
+
+-- a call isn't Failed but answers this, and these frames are told after it
+abbrev pub AnswersAfter : {T : Type 0} → T → List (List ℕ) → Option (List (List ℕ)) → Result T LinkFault → Type 0
+AnswersAfter x left new r = (r ≢ Err Failed) × OnOk r ((r ≡ Ok x) × (new ≡ Some left))
+
+-- what will be handed over once a set-up was sent
+abbrev pub told_with : ValueKind → List (List ℕ) → List (List ℕ)
+told_with Sparse left = spelling refusal ∷ left
+told_with Dense left = left
+
+-- ---- one reply
+
+-- the measures in a reply
+abbrev pub reply_measures : Reply → List Measured
+reply_measures r = flat_map (λ v. told_values v.values) r.values
+
+-- what is told of a reply whose frames of values are these
+abbrev pub told_reply : List Values → Report → List (List ℕ) → List (List ℕ)
+told_reply vs report left = map spelling (map frames.Values vs ++ frames.Report report ∷ []) ++ left
+
+-- ---- links and their seats
+
+-- A link will still tell these replies, none of them a failure. As long as one is left the link is in use, and values go dense.
+pub record Tells (t : TaskValue) (worker : ℕ) (rs : List Reply) (seat : Seat) (told : Option (List (List ℕ))) : Type 0 where
+  pub told_is : told ≡ Some (spelled_replies rs)
+  pub replies : All (IsReply t.bounds t.cut worker) rs
+  pub until_end : seat.in_use ≡ false → rs ≡ []
+  pub kind : seat.kind ≡ Dense
+
+-- a link in use was asked
+abbrev pub IsAsked : Seat → Type 0
+IsAsked seat = seat.in_use ≡ true → seat.asked ≡ true
+
+-- each link will still tell the replies of its own
+abbrev pub AllTell : {L : Type 0} → (L → Option (List (List ℕ))) → TaskValue → List Seat → List L → (ℕ → List Reply) → Type 0
+AllTell {L} told t seats links replies =
+    (k : ℕ) (d : L) (e : Seat) → k < length links
+    → Tells t (k + 1) (replies k) (slice_index_or seats k e) (told (slice_index_or links k d))
+
+-- each link in use was asked
+abbrev pub AllAsked : {L : Type 0} → List Seat → List L → Type 0
+AllAsked {L} seats links = (k : ℕ) (d : L) (e : Seat) → k < length links → IsAsked (slice_index_or seats k e)
+
+-- g is the least map that is at least f and each measure in the first of so many lists
+pub record JoinsEach (f : List MeasureValue) (count : ℕ) (measures : ℕ → List Measured) (g : List MeasureValue) : Type 0 where
+  pub above : (k : ℕ) → k < count → IsAtLeast g (measures k)
+  pub least : (h : List MeasureValue) → MapAtMost f h → ((k : ℕ) → k < count → IsAtLeast h (measures k)) → MapAtMost g h
