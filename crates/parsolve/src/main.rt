@@ -1,6 +1,8 @@
 //! The program: the words of the command line, standard input and output, and the exit status.
 #![tactic(auto)]
 
+ghost use Rattle.pg_cli.specs.Words.{HasFewWorkers};
+
 use clap::Error as WordsError;
 use clap::error::ErrorKind as WordsKind;
 use pg_cli::{CliFault, Command, Line, exit_code, parse_words, run, write_fault};
@@ -37,7 +39,9 @@ fn tell_words<E: Write>(
 }
 
 /// Runs a command on standard input, and writes its answer through a buffer to standard output.
-fn answer<R: Input + Print + AllocGlobal>(rt: &R, command: Command) -> Result<(), CliFault> {
+fn answer<R: Input + Print + AllocGlobal>(rt: &R, command: Command) -> Result<(), CliFault>
+    requires { HasFewWorkers command }
+{
     let Ok(mut output) = BufWriter::new(rt.alloc(), io::writer(rt)) else {
         return Err(CliFault::OutOfMemory);
     };

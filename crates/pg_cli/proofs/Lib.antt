@@ -2,7 +2,7 @@ pub mod Parting
 pub mod Writing
 pub mod WorldTexts
 pub mod Refusing
-pub mod Measuring
+pub mod Found
 pub mod Verdicts
 pub mod Printed
 pub mod Printing

@@ -38,10 +38,10 @@ module _ (one_bounds : OneListOfBounds) (least : ClosedIsLeast) where
       least.one f.bounds (game_line game) f.measures g.measures (of.size ∙ sym of'.size) of.least is_least in
       ap₂ (λ (b : BoundList) (m : List MeasureValue). record { bounds = b; measures = m }) bounds measures
 
-  pub one_measured : SpellsOneGame → (input first second : List ℕ) → IsMeasured input first → IsMeasured input second → first ≡ second
+  pub one_measured : SpellsOneGame → (input first second : List ℕ) → IsMeasured IsMeasureOf input first → IsMeasured IsMeasureOf input second → first ≡ second
   one_measured one_game input first second p q =
       let same : p.game ≡ q.game = one_game input q.game p.game q.spelt p.spelt in
-      let map : p.map ≡ q.map = one_map p.game q.game p.map q.map same p.measure q.measure in
+      let map : p.map ≡ q.map = one_map p.game q.game p.map q.map same p.found q.found in
       p.printed ∙ ap₂ (λ (x : List GameVertex) (f : MapValue). measures_text x f.measures) same map ∙ sym q.printed
 
 -- a player is this one or the other
@@ -102,26 +102,26 @@ one_undecided game f g id other p q =
 
 module _ (one_bounds : OneListOfBounds) (least : ClosedIsLeast) where
   -- a game has one solution of its least progress measures
-  pub one_solved : (game : List GameVertex) (first second : List Answer) → IsSolvedBy game first → IsSolvedBy game second → first ≡ second
+  pub one_solved : (game : List GameVertex) (first second : List Answer) → IsSolvedBy IsMeasureOf game first → IsSolvedBy IsMeasureOf game second → first ≡ second
   one_solved game first second p q =
-      let even = one_map one_bounds least game game p.even q.even refl p.even_measure q.even_measure in
-      let odd = one_map one_bounds least (dual game) (dual game) p.odd q.odd refl p.odd_measure q.odd_measure in
+      let even = one_map one_bounds least game game p.even q.even refl p.even_found q.even_found in
+      let odd = one_map one_bounds least (dual game) (dual game) p.odd q.odd refl p.odd_found q.odd_found in
       one_solution game p.even p.odd first second p.solution_of
       (subst (λ (f : MapValue). IsSolutionOf game f p.odd second) (sym even)
       (subst (λ (g : MapValue). IsSolutionOf game q.even g second) (sym odd) q.solution_of))
 
-  pub decided_in : (game : List GameVertex) (solution : List Answer) (id : ℕ) → IsSolvedBy game solution → ¬ IsUndecidedIn game id
+  pub decided_in : (game : List GameVertex) (solution : List Answer) (id : ℕ) → IsSolvedBy IsMeasureOf game solution → ¬ IsUndecidedIn IsMeasureOf game id
   decided_in game solution id p q =
-      let even = one_map one_bounds least game game p.even q.even refl p.even_measure q.even_measure in
-      let odd = one_map one_bounds least (dual game) (dual game) p.odd q.odd refl p.odd_measure q.odd_measure in
+      let even = one_map one_bounds least game game p.even q.even refl p.even_found q.even_found in
+      let odd = one_map one_bounds least (dual game) (dual game) p.odd q.odd refl p.odd_found q.odd_found in
       decided_by game p.even p.odd solution id p.solution_of
       (subst (λ (f : MapValue). IsLeastUndecided game f p.odd id) (sym even)
       (subst (λ (g : MapValue). IsLeastUndecided game q.even g id) (sym odd) q.undecided))
 
-  one_undecided_in : (game : List GameVertex) (first second : ℕ) → IsUndecidedIn game first → IsUndecidedIn game second → first ≡ second
+  one_undecided_in : (game : List GameVertex) (first second : ℕ) → IsUndecidedIn IsMeasureOf game first → IsUndecidedIn IsMeasureOf game second → first ≡ second
   one_undecided_in game first second p q =
-      let even = one_map one_bounds least game game p.even q.even refl p.even_measure q.even_measure in
-      let odd = one_map one_bounds least (dual game) (dual game) p.odd q.odd refl p.odd_measure q.odd_measure in
+      let even = one_map one_bounds least game game p.even q.even refl p.even_found q.even_found in
+      let odd = one_map one_bounds least (dual game) (dual game) p.odd q.odd refl p.odd_found q.odd_found in
       one_undecided game p.even p.odd first second p.undecided
       (subst (λ (f : MapValue). IsLeastUndecided game f p.odd second) (sym even)
       (subst (λ (g : MapValue). IsLeastUndecided game q.even g second) (sym odd) q.undecided))
@@ -140,16 +140,16 @@ one_answer one_game one_bounds least reading laws = record {
       let same : p.game ≡ q.game = one_game input q.game p.game q.spelt p.spelt in
       let solution : p.solution ≡ q.solution =
       one_solved one_bounds least p.game p.solution q.solution p.solved
-      (subst (λ (x : List GameVertex). IsSolvedBy x q.solution) (sym same) q.solved) in
+      (subst (λ (x : List GameVertex). IsSolvedBy IsMeasureOf x q.solution) (sym same) q.solved) in
       p.printed ∙ ap₂ (λ (x : List GameVertex) (s : List Answer). solution_text x s) same solution ∙ sym q.printed;
   decided = λ input output id p q.
       let same : p.game ≡ q.game = one_game input q.game p.game q.spelt p.spelt in
       decided_in one_bounds least p.game p.solution id p.solved
-      (subst (λ (x : List GameVertex). IsUndecidedIn x id) (sym same) q.undecided);
+      (subst (λ (x : List GameVertex). IsUndecidedIn IsMeasureOf x id) (sym same) q.undecided);
   undecided = λ input first second p q.
       let same : p.game ≡ q.game = one_game input q.game p.game q.spelt p.spelt in
       one_undecided_in one_bounds least p.game first second p.undecided
-      (subst (λ (x : List GameVertex). IsUndecidedIn x second) (sym same) q.undecided);
+      (subst (λ (x : List GameVertex). IsUndecidedIn IsMeasureOf x second) (sym same) q.undecided);
   replayed = world.one_replayed laws;
   unrefused = world.unrefused laws;
   stopped = world.one_stop laws;

@@ -15,6 +15,7 @@ use Rattle.pg_map.specs.Maps.{MapValue}
 use Rattle.pg_check.specs.Laws.{SoundWins, OneWinner}
 use Rattle.pg_check.specs.Strategies.{AreClosed, IsSolutionOf, ClosedMapsSound}
 use Rattle.pg_check.proofs.Chosen.{is_solution}
+use Rattle.pg_cli.specs.Measuring.{IsClosedMapOf}
 use Rattle.pg_cli.specs.Solving.{IsSolved}
 use Rattle.pg_cli.specs.Laws.{WinsAsPrinted}
 
@@ -39,14 +40,15 @@ told_same game f g solution of =
     size : length (told game solution) ≡ length game
     size = length-map-range_with_len (told_at game solution) 0 (length game)
 
-pub wins_as_printed : SolutionReadsBack → ClosedMapsSound → SoundWins → OneWinner → (input output : List ℕ) → IsSolved input output → WinsAsPrinted input output
+pub wins_as_printed : SolutionReadsBack → ClosedMapsSound → SoundWins → OneWinner → (input output : List ℕ)
+    → IsSolved IsClosedMapOf input output → WinsAsPrinted input output
 wins_as_printed reads closed wins one input output solved =
     let game : List GameVertex = solved.game in
     let solution : List Answer = solved.solution in
     let even : MapValue = solved.solved.even in
     let odd : MapValue = solved.solved.odd in
     let is_game : IsGame game = solved.spelt.game_of.well in
-    let are_closed : AreClosed game even odd = record { game_map = solved.solved.even_measure.least.closed; dual_map = solved.solved.odd_measure.least.closed } in
+    let are_closed : AreClosed game even odd = record { game_map = solved.solved.even_found.closed; dual_map = solved.solved.odd_found.closed } in
     let of : IsSolutionOf game even odd solution = solved.solved.solution_of in
     let sound = closed game even odd solution is_game are_closed of in
     let whole = is_solution game even odd solution of in

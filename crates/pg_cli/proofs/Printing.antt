@@ -11,10 +11,10 @@ use Rattle.pg_check.specs.Strategies.{StrategiesFail}
 use Rattle.pg_check.specs.declared.fault.CheckFault.{CheckFault}
 use Rattle.pg_check.specs.declared.fault.CheckFault.TheVariants as check
 use Rattle.pg_check.specs.declared.verdict.Verdict.{Verdict}
-use Rattle.pg_cli.specs.Measuring.{measures_text, IsMeasureOf}
+use Rattle.pg_cli.specs.Measuring.{Finding, measures_text}
 use Rattle.pg_cli.specs.Solving.{IsSolvedBy}
 use Rattle.pg_cli.specs.Checking.{verdict_text, IsCheckedBy}
-use Rattle.pg_cli.specs.Answers.{Prints, Refuses}
+use Rattle.pg_cli.specs.Answers.{PrintsBy, RefusesBy, Prints}
 use Rattle.pg_cli.specs.Faults.{check_fault}
 use Rattle.pg_cli.specs.declared.input.TheConstants.{MOST_BYTES}
 use Rattle.pg_cli.specs.declared.command.Command.{Command}
@@ -23,25 +23,20 @@ use Rattle.pg_cli.specs.declared.fault.CliFault.{CliFault}
 use Rattle.pg_cli.specs.declared.fault.CliFault.TheVariants as cli
 use Rattle.pg_cli.specs.Mirrors.Solver.{IsUnsolved}
 
-pub prints_measures : (input : List ℕ) (game : List GameVertex) (map : MapValue) → length input ≤ MOST_BYTES → IsGameText input game → IsMeasureOf game map
-    → (output : List ℕ) × Prints Measure input output
-prints_measures input game map limit spelt measure = (
-  measures_text game map.measures,
-  record {
-    limit = limit;
-    answer = record { game = game; spelt = spelt; map = map; measure = measure; printed = refl };
-  },
-)
+pub prints_measures : (Found : Finding) (workers : ℕ) (input : List ℕ) (game : List GameVertex) (map : MapValue) → length input ≤ MOST_BYTES
+    → IsGameText input game → Found game map → PrintsBy Found (Measure workers) input (measures_text game map.measures)
+prints_measures Found workers input game map limit spelt found = record {
+  limit = limit;
+  answer = record { game = game; spelt = spelt; map = map; found = found; printed = refl };
+}
 
-pub prints_solution : (input : List ℕ) (game : List GameVertex) (solution : List Answer) → length input ≤ MOST_BYTES → IsGameText input game
-    → All (λ x. x.identifier < 2 ^ 32) game → IsSolvedBy game solution → (output : List ℕ) × Prints Solve input output
-prints_solution input game solution limit spelt identifiers solved = (
-  solution_text game solution,
-  record {
-    limit = limit;
-    answer = record { game = game; spelt = spelt; identifiers = identifiers; solution = solution; solved = solved; printed = refl };
-  },
-)
+pub prints_solution : (Found : Finding) (workers : ℕ) (input : List ℕ) (game : List GameVertex) (solution : List Answer) → length input ≤ MOST_BYTES
+    → IsGameText input game → All (λ x. x.identifier < 2 ^ 32) game → IsSolvedBy Found game solution
+    → PrintsBy Found (Solve workers) input (solution_text game solution)
+prints_solution Found workers input game solution limit spelt identifiers solved = record {
+  limit = limit;
+  answer = record { game = game; spelt = spelt; identifiers = identifiers; solution = solution; solved = solved; printed = refl };
+}
 
 pub prints_verdict : (input : List ℕ) (game : List GameVertex) (verdict : Verdict) → length input ≤ MOST_BYTES → IsCheckedBy input game verdict
     → (output : List ℕ) × Prints Check input output
@@ -53,41 +48,42 @@ prints_verdict input game verdict limit checked = (
   },
 )
 
--- where two least progress measures have no solution, memory aside, both are top at some vertex
-pub unsolved_by : (game : List GameVertex) (even odd : MapValue) → IsMeasureOf game even → IsMeasureOf (dual game) odd
-    → (fault : CheckFault) → StrategiesFail game even odd fault → IsUnsolved game (check_fault fault)
-unsolved_by game even odd of_game of_dual check.OutOfMemory fails = tt
-unsolved_by game even odd of_game of_dual (check.Undecided id) fails =
-    record { even = even; odd = odd; even_measure = of_game; odd_measure = of_dual; undecided = fails }
+-- where two maps have no solution, memory aside, both are top at some vertex
+pub unsolved_by : (Found : Finding) (game : List GameVertex) (even odd : MapValue) → Found game even → Found (dual game) odd
+    → (fault : CheckFault) → StrategiesFail game even odd fault → IsUnsolved Found game (check_fault fault)
+unsolved_by Found game even odd of_game of_dual check.OutOfMemory fails = tt
+unsolved_by Found game even odd of_game of_dual (check.Undecided id) fails =
+    record { even = even; odd = odd; even_found = of_game; odd_found = of_dual; undecided = fails }
 
-pub refuses_unsolved : (input : List ℕ) (game : List GameVertex) → length input ≤ MOST_BYTES → IsGameText input game
-    → (fault : CliFault) → IsUnsolved game fault → Refuses Solve input fault
-refuses_unsolved input game limit spelt cli.OutOfMemory why = tt
-refuses_unsolved input game limit spelt (cli.Undecided id) why = (limit, record { game = game; spelt = spelt; undecided = why })
-refuses_unsolved input game limit spelt cli.Read why = tt
-refuses_unsolved input game limit spelt cli.Write why = absurd why
-refuses_unsolved input game limit spelt cli.InputTooLong why = absurd why
-refuses_unsolved input game limit spelt cli.NoSeparator why = absurd why
-refuses_unsolved input game limit spelt (cli.Text fault) why = absurd why
-refuses_unsolved input game limit spelt (cli.Script fault) why = absurd why
-refuses_unsolved input game limit spelt (cli.World place fault) why = absurd why
-refuses_unsolved input game limit spelt (cli.Hoa fault) why = absurd why
-refuses_unsolved input game limit spelt (cli.Synth fault) why = absurd why
-refuses_unsolved input game limit spelt (cli.Aiger fault) why = absurd why
+pub refuses_unsolved : (Found : Finding) (workers : ℕ) (input : List ℕ) (game : List GameVertex) → length input ≤ MOST_BYTES
+    → IsGameText input game → (fault : CliFault) → IsUnsolved Found game fault → RefusesBy Found (Solve workers) input fault
+refuses_unsolved Found workers input game limit spelt cli.OutOfMemory why = tt
+refuses_unsolved Found workers input game limit spelt (cli.Undecided id) why = (limit, record { game = game; spelt = spelt; undecided = why })
+refuses_unsolved Found workers input game limit spelt cli.Read why = tt
+refuses_unsolved Found workers input game limit spelt cli.Write why = absurd why
+refuses_unsolved Found workers input game limit spelt cli.InputTooLong why = absurd why
+refuses_unsolved Found workers input game limit spelt cli.NoSeparator why = absurd why
+refuses_unsolved Found workers input game limit spelt (cli.Text fault) why = absurd why
+refuses_unsolved Found workers input game limit spelt (cli.Script fault) why = absurd why
+refuses_unsolved Found workers input game limit spelt (cli.World place fault) why = absurd why
+refuses_unsolved Found workers input game limit spelt cli.CutMismatch why = absurd why
+refuses_unsolved Found workers input game limit spelt (cli.Hoa fault) why = absurd why
+refuses_unsolved Found workers input game limit spelt (cli.Synth fault) why = absurd why
+refuses_unsolved Found workers input game limit spelt (cli.Aiger fault) why = absurd why
 
 -- what is so of the text that was read is so of the known bytes
-pub refused_known : (command : Command) (known : Option (List ℕ)) (text : List ℕ) (result : Result (Unit {0}) CliFault) → IfSome known (λ input. text ≡ input)
-    → IfErr result (Refuses command text) → IfErr result (λ fault. IfSome known (λ input. Refuses command input fault))
-refused_known command known text (Ok x) same why = tt
-refused_known command None text (Err fault) same why = tt
-refused_known command (Some input) text (Err fault) same why =
-    subst (λ (bytes : List ℕ). Refuses command bytes fault) same why
+pub refused_known : (Found : Finding) (command : Command) (known : Option (List ℕ)) (text : List ℕ) (result : Result (Unit {0}) CliFault) → IfSome known (λ input. text ≡ input)
+    → IfErr result (RefusesBy Found command text) → IfErr result (λ fault. IfSome known (λ input. RefusesBy Found command input fault))
+refused_known Found command known text (Ok x) same why = tt
+refused_known Found command None text (Err fault) same why = tt
+refused_known Found command (Some input) text (Err fault) same why =
+    subst (λ (bytes : List ℕ). RefusesBy Found command bytes fault) same why
 
 -- and so is what was answered
-pub answered_known : (command : Command) (known old new : Option (List ℕ)) (text : List ℕ) (result : Result (Unit {0}) CliFault)
-    → IfSome known (λ input. text ≡ input) → OnOk result ((output : List ℕ) × Prints command text output × Appends old new output)
-    → OnOk result (IfSome known (λ input. (output : List ℕ) × Prints command input output × Appends old new output))
-answered_known command known old new text (Err fault) same answer = tt
-answered_known command None old new text (Ok x) same answer = tt
-answered_known command (Some input) old new text (Ok x) same answer =
-    subst (λ (bytes : List ℕ). (output : List ℕ) × Prints command bytes output × Appends old new output) same answer
+pub answered_known : (Found : Finding) (command : Command) (known old new : Option (List ℕ)) (text : List ℕ) (result : Result (Unit {0}) CliFault)
+    → IfSome known (λ input. text ≡ input) → OnOk result ((output : List ℕ) × PrintsBy Found command text output × Appends old new output)
+    → OnOk result (IfSome known (λ input. (output : List ℕ) × PrintsBy Found command input output × Appends old new output))
+answered_known Found command known old new text (Err fault) same answer = tt
+answered_known Found command None old new text (Ok x) same answer = tt
+answered_known Found command (Some input) old new text (Ok x) same answer =
+    subst (λ (bytes : List ℕ). (output : List ℕ) × PrintsBy Found command bytes output × Appends old new output) same answer

@@ -14,7 +14,6 @@ use Rattle.pg_synth.proofs.OneGame.{one_game}
 use Rattle.pg_synth.proofs.Trace.{one_vertex}
 use Rattle.pg_aiger.specs.CircuitLayout.{symbols_of, circuit_text}
 use Rattle.pg_aiger.specs.Laws.{CircuitFollows, CircuitReadsBack}
-use Rattle.pg_cli.specs.Synthesising.{IsRealized}
 use Rattle.pg_cli.specs.Controllers.{CircuitAccepted, NoneAccepted, OneVerdict}
 
 pub circuit_accepted : CircuitFollows → CircuitReadsBack → MachineAccepted → (letters : ℕ → ℕ) → CircuitAccepted letters

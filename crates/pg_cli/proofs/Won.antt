@@ -22,7 +22,7 @@ use Rattle.pg_cli.specs.Winners.{MeasuresTellWinners, NoneUndecided, GamesHaveAn
 
 pub measures_tell_winners : LeastTellsWinners → MeasuresTellWinners
 measures_tell_winners tells input output measured =
-    let m = measured.measure in
+    let m = measured.found in
     tells measured.game measured.map measured.spelt.game_of.well m.bounds m.size m.least
 
 -- the measures of a game and of its dual leave no vertex undecided
@@ -31,9 +31,9 @@ none_at : NeverUndecided → (game : List GameVertex) (even odd : MapValue) → 
 none_at never game even odd is_game e o v undecided =
     never game even odd is_game e.bounds o.bounds e.size (o.size ∙ length_dual game) e.least o.least v undecided
 
-pub none_in : NeverUndecided → (game : List GameVertex) → IsGame game → (id : ℕ) → ¬ IsUndecidedIn game id
+pub none_in : NeverUndecided → (game : List GameVertex) → IsGame game → (id : ℕ) → ¬ IsUndecidedIn IsMeasureOf game id
 none_in never game is_game id u =
-    none_at never game u.even u.odd is_game u.even_measure u.odd_measure u.undecided.vertex u.undecided.undecided
+    none_at never game u.even u.odd is_game u.even_found u.odd_found u.undecided.vertex u.undecided.undecided
 
 pub none_undecided : NeverUndecided → NoneUndecided
 none_undecided never input id = (
@@ -93,14 +93,14 @@ games_have_answers bounded lines least never solves input game spelt =
     (none_at never game even.0 odd.0 is_game even.1 odd.1) in
     record {
       measures = measures_text game even.0.measures;
-      measured = record { game = game; spelt = spelt; map = even.0; measure = even.1; printed = refl };
+      measured = record { game = game; spelt = spelt; map = even.0; found = even.1; printed = refl };
       solution = solution_text game solution.0;
       solved = record {
         game = game;
         spelt = spelt;
         identifiers = small_identifiers input game spelt;
         solution = solution.0;
-        solved = record { even = even.0; odd = odd.0; even_measure = even.1; odd_measure = odd.1; solution_of = solution.1 };
+        solved = record { even = even.0; odd = odd.0; even_found = even.1; odd_found = odd.1; solution_of = solution.1 };
         printed = refl;
       };
     }

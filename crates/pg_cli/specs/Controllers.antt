@@ -1,4 +1,4 @@
--- What the answers of `synth` say of endless words.
+-- What the answers of `synth` by closed maps, whether or not they are the least, say of endless words.
 use Rattle.std.specs.Prelude.{◌≡◌, ℕ, List, ◌++◌}
 use Rattle.pg_hoa.specs.Automata.{Automaton}
 use Rattle.pg_hoa.specs.AutomatonText.{Spelt}
@@ -8,6 +8,7 @@ use Rattle.pg_synth.specs.Machines.{IsInputWord, HasChosenInputs}
 use Rattle.pg_aiger.specs.Circuits.{Circuit}
 use Rattle.pg_aiger.specs.Runs.{HasOneRun, IsWordOf}
 use Rattle.pg_aiger.specs.CircuitText.{Symbol, IsCircuitText}
+use Rattle.pg_cli.specs.Measuring.{IsClosedMapOf}
 use Rattle.pg_cli.specs.Synthesising.{realizable, IsRealized, IsUnrealized}
 
 -- the circuit has one word for the input word, and it is accepted by the condition that the input spells
@@ -32,17 +33,17 @@ pub record AcceptsRun (input bytes : List ℕ) (letters : ℕ → ℕ) : Type 0 
 
 -- so it is of the bytes behind the first line of each such answer
 abbrev pub CircuitAccepted : (ℕ → ℕ) → Type 0
-CircuitAccepted letters = (input output : List ℕ) → IsRealized input output
+CircuitAccepted letters = (input output : List ℕ) → IsRealized IsClosedMapOf input output
     → (bytes : List ℕ) × (output ≡ realizable ++ bytes) × AcceptsRun input bytes letters
 
 -- Where the answer is that there is none, no word is accepted whose input letters are those that Odd's strategy chooses at the
 -- arrivals which the word traces.
 abbrev pub NoneAccepted : (ℕ → ℕ) → Type 0
-NoneAccepted word = (input output : List ℕ) (answer : IsUnrealized input output) (play : ℕ → ℕ)
+NoneAccepted word = (input output : List ℕ) (answer : IsUnrealized IsClosedMapOf input output) (play : ℕ → ℕ)
     → IsWord answer.odd.automaton word → Traces answer.odd.automaton answer.odd.game word play
     → HasChosenInputs answer.odd.automaton answer.odd.game answer.odd.solution word play
     → ¬ IsAccepted answer.odd.automaton answer.odd.spelt.says.condition word
 
 -- no input has both answers
 abbrev pub OneVerdict : Type 0
-OneVerdict = (input first second : List ℕ) → IsRealized input first → ¬ IsUnrealized input second
+OneVerdict = (input first second : List ℕ) → IsRealized IsClosedMapOf input first → ¬ IsUnrealized IsClosedMapOf input second

@@ -8,7 +8,7 @@ use Rattle.pg_hoa.specs.FaultTexts as hoa
 use Rattle.pg_synth.specs.FaultTexts as synth
 use Rattle.pg_aiger.specs.FaultTexts as aiger
 use Rattle.pg_cli.specs.declared.fault.CliFault.{CliFault}
-use Rattle.pg_cli.specs.declared.fault.CliFault.TheVariants.{OutOfMemory, Read, Write, InputTooLong, NoSeparator, Text, Script, World, Undecided, Hoa, Synth, Aiger}
+use Rattle.pg_cli.specs.declared.fault.CliFault.TheVariants.{OutOfMemory, Read, Write, InputTooLong, NoSeparator, Text, Script, World, CutMismatch, Undecided, Hoa, Synth, Aiger}
 
 -- why an event is refused
 abbrev pub event_text : WorldFault → List ℕ
@@ -27,6 +27,7 @@ fault_text NoSeparator = codes "no line -- between the two texts"
 fault_text (Text fault) = text.fault_text fault
 fault_text (Script fault) = script.fault_text fault
 fault_text (World place fault) = codes "event " ++ (decimal place ++ (codes ": " ++ event_text fault))
+fault_text CutMismatch = codes "the cut does not fit the game"
 fault_text (Undecided id) = codes "undecided at " ++ decimal id
 fault_text (Hoa fault) = hoa.fault_text fault
 fault_text (Synth fault) = synth.fault_text fault

@@ -15,7 +15,9 @@ use Rattle.pg_synth.specs.declared.fault.SynthFault.{SynthFault}
 use Rattle.pg_synth.specs.declared.fault.SynthFault.TheVariants as synth
 use Rattle.pg_aiger.specs.declared.fault.AigerFault.{AigerFault}
 use Rattle.pg_aiger.specs.declared.fault.AigerFault.TheVariants as aiger
-use Rattle.pg_cli.specs.declared.fault.CliFault.TheVariants.{OutOfMemory, Write, Text, Script, World, Undecided, Hoa, Synth, Aiger}
+use Rattle.pg_coord.specs.declared.fault.CoordFault.{CoordFault}
+use Rattle.pg_coord.specs.declared.fault.CoordFault.TheVariants as coord
+use Rattle.pg_cli.specs.declared.fault.CliFault.TheVariants.{OutOfMemory, Write, Text, Script, World, CutMismatch, Undecided, Hoa, Synth, Aiger}
 
 -- want of memory and the writer's failure are the program's own
 abbrev pub text_fault : TextFault → CliFault
@@ -36,6 +38,11 @@ script_fault fault = Script fault
 abbrev pub event_fault : ℕ → WorldFault → CliFault
 event_fault place world.OutOfMemory = OutOfMemory
 event_fault place fault = World place fault
+
+-- what the coordinator says
+abbrev pub coord_fault : CoordFault → CliFault
+coord_fault coord.OutOfMemory = OutOfMemory
+coord_fault coord.CutMismatch = CutMismatch
 
 -- and what the reader of automata and the makers of games and of circuits say
 abbrev pub hoa_fault : HoaFault → CliFault

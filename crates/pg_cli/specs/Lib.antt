@@ -2,6 +2,7 @@ pub mod Input
 pub mod Parts
 pub mod Texts
 pub mod Measuring
+pub mod Linked
 pub mod Solving
 pub mod Checking
 pub mod Replaying

@@ -5,7 +5,7 @@ use Rattle.pg_arena.specs.Games.{GameVertex}
 use Rattle.pg_measure.specs.Measures.{MeasureValue}
 use Rattle.pg_measure.specs.Games.{IsBoundsOf}
 use Rattle.pg_map.specs.Lines.{game_line}
-use Rattle.pg_map.specs.Maps.{MapValue, IsLeastProgressMeasure}
+use Rattle.pg_map.specs.Maps.{MapValue, IsMap, IsClosed, IsLeastProgressMeasure}
 use Rattle.pg_text.specs.Numbers.{numbers_text}
 use Rattle.pg_text.specs.GameText.{IsGameText}
 use Rattle.pg_cli.specs.Texts.{IsNoGame}
@@ -26,18 +26,28 @@ measure_line identifier m = decimal identifier ++ 32 ∷ (measure_text m ++ 59 �
 abbrev pub measures_text : List GameVertex → List MeasureValue → List ℕ
 measures_text game f = flat_map (λ x. measure_line x.0.identifier x.1) (zip game f)
 
+-- the map is closed for the game, over the game's bounds
+pub record IsClosedMapOf (game : List GameVertex) (map : MapValue) : Type 0 where
+  pub bounds : IsBoundsOf game map.bounds
+  pub fits : IsMap map.bounds (length game) map.measures
+  pub closed : IsClosed map.bounds (game_line game) map.measures
+
 -- the map is the least progress measure of the game, over the game's bounds
 pub record IsMeasureOf (game : List GameVertex) (map : MapValue) : Type 0 where
   pub bounds : IsBoundsOf game map.bounds
   pub size : length map.measures ≡ length game
   pub least : IsLeastProgressMeasure map.bounds (game_line game) map.measures
 
--- The input spells a game, and the output is the text of its least progress measure.
-pub record IsMeasured (input output : List ℕ) : Type 0 where
+-- which maps may be found of a game: the least progress measure alone, or each closed map
+abbrev pub Finding : Type 1
+Finding = List GameVertex → MapValue → Type 0
+
+-- The input spells a game, and the output is the text of a map that is found of it.
+pub record IsMeasured (Found : Finding) (input output : List ℕ) : Type 0 where
   pub game : List GameVertex
   pub spelt : IsGameText input game
   pub map : MapValue
-  pub measure : IsMeasureOf game map
+  pub found : Found game map
   pub printed : output ≡ measures_text game map.measures
 
 -- why an input has no such output: it spells no game

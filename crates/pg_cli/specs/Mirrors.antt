@@ -2,3 +2,4 @@
 pub mod Reading
 pub mod Naming
 pub mod Solver
+pub mod Synthesised

@@ -13,27 +13,28 @@ use Rattle.pg_aiger.specs.Circuits.{Circuit}
 use Rattle.pg_aiger.specs.Machines.{IsCircuitOf, IsTooLarge}
 use Rattle.pg_aiger.specs.CircuitLayout.{circuit_text}
 use Rattle.pg_aiger.specs.declared.fault.AigerFault.TheVariants as aiger
+use Rattle.pg_cli.specs.Measuring.{Finding}
 use Rattle.pg_cli.specs.Solving.{IsSolvedBy, IsUndecidedIn}
 use Rattle.pg_cli.specs.Making as making
 use Rattle.pg_cli.specs.Making.{IsGameFor, IsNoAutomaton}
 use Rattle.pg_cli.specs.declared.fault.CliFault.{CliFault}
 use Rattle.pg_cli.specs.declared.fault.CliFault.TheVariants.{Hoa, Synth, Aiger, Undecided}
 
--- The input spells an automaton. By the solution of the least progress measures of its game and of the dual, which is sound,
--- the player wins where the game begins.
-pub record IsWonFor (input : List ℕ) (player : Player) : Type 0 where
+-- The input spells an automaton. By the solution of a map that is found of its game and one that is found of the dual, which is
+-- sound, the player wins where the game begins.
+pub record IsWonFor (Found : Finding) (input : List ℕ) (player : Player) : Type 0 where
   pub automaton : Automaton
   pub spelt : Spelt input automaton
   pub is_automaton : IsAutomaton automaton
   pub game : List GameVertex
   pub initial : ℕ
   pub solution : List Answer
-  pub solved : IsSolvedBy game solution
+  pub solved : IsSolvedBy Found game solution
   pub won : IsWonBy automaton game initial solution player
 
 -- Even wins, and this is the circuit of a machine that follows the solution
-pub record IsRealizedBy (input : List ℕ) (circuit : Circuit) : Type 0 where
-  pub even : IsWonFor input Even
+pub record IsRealizedBy (Found : Finding) (input : List ℕ) (circuit : Circuit) : Type 0 where
+  pub even : IsWonFor Found input Even
   pub machine : Machine
   pub follows : Follows even.automaton even.game even.solution machine
   pub circuit_of : IsCircuitOf machine circuit
@@ -46,38 +47,38 @@ abbrev pub unrealizable : List ℕ
 unrealizable = codes "UNREALIZABLE\n"
 
 -- The output is that line, and the text of the circuit.
-pub record IsRealized (input output : List ℕ) : Type 0 where
+pub record IsRealized (Found : Finding) (input output : List ℕ) : Type 0 where
   pub circuit : Circuit
-  pub realized : IsRealizedBy input circuit
+  pub realized : IsRealizedBy Found input circuit
   pub printed : output ≡ realizable ++ circuit_text circuit realized.even.automaton
 
 -- Odd wins, and the output says so.
-pub record IsUnrealized (input output : List ℕ) : Type 0 where
-  pub odd : IsWonFor input Odd
+pub record IsUnrealized (Found : Finding) (input output : List ℕ) : Type 0 where
+  pub odd : IsWonFor Found input Odd
   pub printed : output ≡ unrealizable
 
-abbrev pub IsSynthesised : List ℕ → List ℕ → Type 0
-IsSynthesised input output = IsRealized input output ⊎ IsUnrealized input output
+abbrev pub IsSynthesised : Finding → List ℕ → List ℕ → Type 0
+IsSynthesised Found input output = IsRealized Found input output ⊎ IsUnrealized Found input output
 
--- The input spells an automaton, and of its game the vertex with this identifier is the least at which the least progress
--- measures of the game and of its dual are both top.
-pub record IsUndecidedFor (input : List ℕ) (id : ℕ) : Type 0 where
+-- The input spells an automaton, and of its game the vertex with this identifier is the least at which the map that is found of
+-- the game and the one of its dual are both top.
+pub record IsUndecidedFor (Found : Finding) (input : List ℕ) (id : ℕ) : Type 0 where
   pub game : List GameVertex
   pub made : IsGameFor input game
-  pub undecided : IsUndecidedIn game id
+  pub undecided : IsUndecidedIn Found game id
 
 -- the input spells an automaton, and a machine that Even wins by is too large for a circuit
-pub record HasLargeMachine (input : List ℕ) : Type 0 where
-  pub even : IsWonFor input Even
+pub record HasLargeMachine (Found : Finding) (input : List ℕ) : Type 0 where
+  pub even : IsWonFor Found input Even
   pub machine : Machine
   pub follows : Follows even.automaton even.game even.solution machine
   pub over : IsTooLarge machine
 
--- why an input has no such output: it spells no automaton, or the game or the circuit is too large, or both measures are top at
--- some vertex
-abbrev pub RefusesSynth : List ℕ → CliFault → Type 0
-RefusesSynth input (Hoa fault) = IsNoAutomaton input fault
-RefusesSynth input (Synth synth.TooLarge) = making.IsTooLarge input
-RefusesSynth input (Aiger aiger.TooLarge) = HasLargeMachine input
-RefusesSynth input (Undecided id) = IsUndecidedFor input id
-RefusesSynth input _ = ⊥
+-- why an input has no such output: it spells no automaton, or the game or the circuit is too large, or both maps are top at some
+-- vertex
+abbrev pub RefusesSynth : Finding → List ℕ → CliFault → Type 0
+RefusesSynth Found input (Hoa fault) = IsNoAutomaton input fault
+RefusesSynth Found input (Synth synth.TooLarge) = making.IsTooLarge input
+RefusesSynth Found input (Aiger aiger.TooLarge) = HasLargeMachine Found input
+RefusesSynth Found input (Undecided id) = IsUndecidedFor Found input id
+RefusesSynth Found input _ = ⊥

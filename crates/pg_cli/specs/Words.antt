@@ -1,5 +1,5 @@
 -- What a command line asks for.
-use Rattle.std.specs.Prelude.{◌≡◌, ℕ, List, Some, codes, slice_get}
+use Rattle.std.specs.Prelude.{◌≡◌, ◌≤◌, ℕ, List, Option, Some, None, IfSome, codes, slice_get}
 use Rattle.pg_cli.specs.declared.command.Command.{Command}
 use Rattle.pg_cli.specs.declared.command.Command.TheVariants.{Measure, Solve, Check, Replay, Game, Synth}
 use Rattle.pg_cli.specs.declared.words.Line.{Line}
@@ -7,13 +7,26 @@ use Rattle.pg_cli.specs.declared.words.Line.TheVariants.{Run}
 
 -- the word that names a command
 abbrev pub command_name : Command → List ℕ
-command_name Measure = codes "measure"
-command_name Solve = codes "solve"
+command_name (Measure workers) = codes "measure"
+command_name (Solve workers) = codes "solve"
 command_name Check = codes "check"
 command_name Replay = codes "replay"
 command_name Game = codes "game"
-command_name Synth = codes "synth"
+command_name (Synth workers) = codes "synth"
 
--- the words ask for it: the word behind the program's own name is that of the command
+-- how many workers solve for a command; none is asked for where nothing is solved
+abbrev pub workers_of : Command → Option ℕ
+workers_of (Measure workers) = Some workers
+workers_of (Solve workers) = Some workers
+workers_of Check = None
+workers_of Replay = None
+workers_of Game = None
+workers_of (Synth workers) = Some workers
+
+-- there are at most 16 of them
+abbrev pub HasFewWorkers : Command → Type 0
+HasFewWorkers command = IfSome (workers_of command) (λ workers. workers ≤ 16)
+
+-- the words ask for it: the word behind the program's own name is that of the command, which has few workers
 abbrev pub AsksFor : List (List ℕ) → Line → Type 0
-AsksFor words (Run command) = slice_get words 1 ≡ Some (command_name command)
+AsksFor words (Run command) = (slice_get words 1 ≡ Some (command_name command)) × HasFewWorkers command

@@ -7,6 +7,7 @@ ghost use Rattle.pg_cli.specs.FaultTexts.{fault_line};
 
 use pg_aiger::AigerFault;
 use pg_check::CheckFault;
+use pg_coord::CoordFault;
 use pg_hoa::HoaFault;
 use pg_synth::SynthFault;
 use pg_text::TextFault;
@@ -35,8 +36,10 @@ pub enum CliFault {
     Script(ScriptFault),
     /// The event at this place of a script, from 0, is the first that the world refuses; never `OutOfMemory`.
     World(usize, WorldFault),
-    /// Both least progress measures, that of the game and that of its dual, are top at the vertex with this identifier,
-    /// and at none with a lesser one.
+    /// The cut among the workers isn't one of the game; never comes of a command.
+    CutMismatch,
+    /// Both maps that were found, that of the game and that of its dual, are top at the vertex with this identifier, and at
+    /// none with a lesser one. They are the least progress measures, unless a link isn't honest.
     Undecided(u32),
     /// A text spells no automaton; never `OutOfMemory`.
     Hoa(HoaFault),
@@ -75,6 +78,7 @@ impl fmt::Display for CliFault {
                     write!(f, "event {place}: the cut does not fit the game")
                 }
             },
+            CliFault::CutMismatch => f.write_str("the cut does not fit the game"),
             CliFault::Undecided(id) => write!(f, "undecided at {id}"),
             CliFault::Hoa(fault) => write!(f, "{fault}"),
             CliFault::Synth(fault) => write!(f, "{fault}"),
@@ -141,6 +145,19 @@ impl From<(usize, WorldFault)> for CliFault {
         match fault {
             WorldFault::OutOfMemory => CliFault::OutOfMemory,
             _ => CliFault::World(place, fault),
+        }
+    }
+}
+
+impl From<CoordFault> for CliFault {
+    ghost use Rattle.pg_cli.specs.Faults.{coord_fault};
+
+    ghost from_gives = { λ fault e. e ≡ coord_fault fault };
+
+    fn from(fault: CoordFault) -> CliFault {
+        match fault {
+            CoordFault::OutOfMemory => CliFault::OutOfMemory,
+            CoordFault::CutMismatch => CliFault::CutMismatch,
         }
     }
 }

@@ -1,12 +1,12 @@
 //! Laws over the definitions. Their functions take no memory and do nothing: their contracts are what they are for.
 
 ghost use Rattle.pg_cli.specs.Controllers.{CircuitAccepted, NoneAccepted, OneVerdict};
-ghost use Rattle.pg_cli.specs.Laws.{PrintedWinnersWin, OneAnswer};
+ghost use Rattle.pg_cli.specs.Laws.{PrintedWinnersWin, LeastIsClosed, OneAnswer};
 
 use pg_synth::{InputWord, Word};
 
-/// What `solve` prints for a game spells a solution of it. Each printed winner wins, by the printed strategy, every
-/// endless play that follows it, and no vertex has two winners.
+/// What `solve` prints for a game spells a solution of it, whatever the links answer. Each printed winner wins, by the printed
+/// strategy, every endless play that follows it, and no vertex has two winners.
 pub fn printed_winners_win()
     ensures { PrintedWinnersWin }
 {
@@ -16,7 +16,12 @@ pub fn printed_winners_win()
     pg_check::laws::one_winner();
 }
 
-/// `measure` has one answer to an input, and so have `solve`, `replay` and `game`; where `solve` has one it isn't
+/// An answer by least progress measures, as `run` gives it, is one by closed maps, of which the other laws speak.
+pub fn least_is_closed()
+    ensures { LeastIsClosed }
+{}
+
+/// By least progress measures `measure` has one answer to an input, and so have `solve`, `replay` and `game`; where `solve` has one it isn't
 /// undecided; where `replay` has one no event is refused, and where one is it is at one place and for one fault; where
 /// `game` has one it isn't too large. So what a run writes is a function of what it reads.
 pub fn one_answer()
@@ -31,8 +36,8 @@ pub fn one_answer()
     pg_hoa::laws::one_reading();
 }
 
-/// What `synth` prints behind `REALIZABLE` spells a circuit. For every endless word of input letters it has exactly one
-/// run, and the automaton that the input spells accepts the word of that run.
+/// What `synth` prints behind `REALIZABLE` spells a circuit, whatever the links answer. For every endless word of input letters
+/// it has exactly one run, and the automaton that the input spells accepts the word of that run.
 pub fn circuit_accepted<W: InputWord>(word: &W)
     ensures { CircuitAccepted (W.input word.now) }
 {
@@ -41,7 +46,7 @@ pub fn circuit_accepted<W: InputWord>(word: &W)
     pg_synth::laws::machine_accepted();
 }
 
-/// Where `synth` prints `UNREALIZABLE`, an endless word isn't accepted if its input letters are those that Odd's strategy
+/// Where `synth` prints `UNREALIZABLE`, whatever the links answer, an endless word isn't accepted if its input letters are those that Odd's strategy
 /// chooses at the arrivals which the word traces.
 pub fn unrealizable<W: Word>(word: &W)
     ensures { NoneAccepted (W.letter word.now) }

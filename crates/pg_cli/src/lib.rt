@@ -22,5 +22,5 @@ mod world_output;
 pub use command::Command;
 pub use fault::{CliFault, exit_code, write_fault};
 pub use input::MOST_BYTES;
-pub use program::run;
+pub use program::{run, run_with};
 pub use words::{Line, parse_words};

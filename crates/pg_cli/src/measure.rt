@@ -1,17 +1,20 @@
 //! The command `measure`.
 
-ghost use Rattle.std.specs.Prelude.{◌≡◌, ◌≢◌, ◌≤◌, ℕ, List, length, IfOk, IfErr, OnOk};
+ghost use Rattle.std.specs.Prelude.{◌≡◌, ◌≢◌, ◌≤◌, ℕ, List, length, All, IfOk, IfErr, OnOk};
 ghost use Rattle.std.specs.Io.KnownBytes.{Appends};
 ghost use Rattle.pg_text.specs.GameText.{IsGameText};
-ghost use Rattle.pg_cli.specs.Measuring.{IsMeasureOf, measures_text};
-ghost use Rattle.pg_cli.specs.Answers.{Prints, Refuses};
+ghost use Rattle.pg_cli.specs.Linked.{IsLeastOverTold};
+ghost use Rattle.pg_cli.specs.Measuring.{IsMeasured, measures_text};
+ghost use Rattle.pg_cli.specs.Answers.{PrintsBy, RefusesBy};
+ghost use Rattle.pg_cli.specs.Mirrors.Solver.{IsFoundIf};
 ghost use Rattle.pg_cli.specs.declared.command.Command.TheVariants.{Measure};
 
 use crate::fault::CliFault;
 use crate::input::MOST_BYTES;
 use crate::output::write_measure_line;
-use crate::solver::least_measure;
+use crate::solver::map_of;
 use pg_arena::{Game, Vertex};
+use pg_coord::Link;
 use pg_map::MeasureMap;
 use pg_text::read_game;
 use std::alloc::Global;
@@ -30,32 +33,47 @@ fn write_measures<W: Write>(game: &Game, map: &MeasureMap, writer: &mut W) -> io
     Ok(())
 }
 
-/// The game that a text spells, and its least progress measure. The text is let go before the work begins.
-fn measured(alloc: Global, text: Vec<u8>) -> Result<(Game, MeasureMap), CliFault>
-    requires { length text.items ≤ MOST_BYTES }
-    ensures found { IfOk result (λ x. IsGameText text.items x.0 × IsMeasureOf x.0 x.1) }
-    ensures refused { IfErr result (Refuses Measure text.items) }
+/// The game that a text spells, and a map of it that is found over links. The text is let go before the work begins.
+fn measured<L: Link>(
+    alloc: Global,
+    text: Vec<u8>,
+    links: &mut [L],
+) -> Result<(Game, MeasureMap), CliFault>
+    requires limit { length text.items ≤ MOST_BYTES }
+    requires few { length links.old ≤ 16 }
+    ensures spelt { IfOk result (λ x. IsGameText text.items x.0) }
+    ensures found { IfOk result (λ x. IsFoundIf (All L.is_honest links.old) x.0 x.1) }
+    ensures told { IfOk result (λ x. IsLeastOverTold L.told links.old x.0 x.1) }
+    ensures refused { (workers : ℕ)
+        → IfErr result (RefusesBy (IsFoundIf (All L.is_honest links.old)) (Measure workers) text.items) }
     ensures unwritten { result ≢ Err CliFault.Write }
 {
     let game = read_game(alloc, &text)?;
     drop(text);
-    let map = least_measure(alloc, &game)?;
+    let map = map_of(alloc, &game, links)?;
     Ok((game, map))
 }
 
-/// Writes the least progress measure of the game that a text spells.
-pub(crate) fn measure<W: Write>(
+/// Writes a map of the game that a text spells, found over links.
+pub(crate) fn measure<L: Link, W: Write>(
     alloc: Global,
     text: Vec<u8>,
+    links: &mut [L],
     writer: &mut W,
 ) -> Result<(), CliFault>
-    requires { length text.items ≤ MOST_BYTES }
-    ensures answer { OnOk result ((output : List ℕ) × Prints Measure text.items output
+    requires limit { length text.items ≤ MOST_BYTES }
+    requires few { length links.old ≤ 16 }
+    ensures answer { OnOk result ((workers : ℕ) → (output : List ℕ)
+        × PrintsBy (IsFoundIf (All L.is_honest links.old)) (Measure workers) text.items output
         × Appends (W.contents writer.old) (W.contents writer.new) output) }
-    ensures refused { IfErr result (Refuses Measure text.items) }
+    ensures told { OnOk result ((output : List ℕ)
+        × IsMeasured (IsLeastOverTold L.told links.old) text.items output
+        × Appends (W.contents writer.old) (W.contents writer.new) output) }
+    ensures refused { (workers : ℕ)
+        → IfErr result (RefusesBy (IsFoundIf (All L.is_honest links.old)) (Measure workers) text.items) }
     ensures untouched { IfErr result (λ fault. fault ≢ CliFault.Write → writer.new ≡ writer.old) }
 {
-    let (game, map) = measured(alloc, text)?;
+    let (game, map) = measured(alloc, text, links)?;
     match write_measures(&game, &map, writer) {
         Ok(()) => Ok(()),
         Err(_) => Err(CliFault::Write),

@@ -1,9 +1,13 @@
 //! A command from its input to its answer.
 
-ghost use Rattle.std.specs.Prelude.{◌≡◌, ◌≢◌, ◌+◌, ℕ, List, OnOk, IfSome, IfErr};
+ghost use Rattle.std.specs.Prelude.{◌≡◌, ◌≢◌, ◌+◌, ◌≤◌, ℕ, List, length, All, IfOk, OnOk, IfSome, IsNone, IfErr};
 ghost use Rattle.std.specs.Io.KnownBytes.{Appends};
 ghost use Rattle.pg_cli.specs.Input.{StaysWithin};
-ghost use Rattle.pg_cli.specs.Answers.{Prints, Refuses};
+ghost use Rattle.pg_cli.specs.Measuring.{IsClosedMapOf, IsMeasured};
+ghost use Rattle.pg_cli.specs.Linked.{IsLeastOverTold};
+ghost use Rattle.pg_cli.specs.Answers.{PrintsBy, RefusesBy, Prints, Refuses};
+ghost use Rattle.pg_cli.specs.Words.{workers_of, HasFewWorkers};
+ghost use Rattle.pg_cli.specs.Mirrors.Solver.{IsFoundIf};
 
 use crate::check::check;
 use crate::command::Command;
@@ -14,10 +18,58 @@ use crate::measure::measure;
 use crate::replay::replay;
 use crate::solve::solve;
 use crate::synth::synth;
-use std::alloc::Global;
+use pg_coord::{Link, MemoryLink};
+use std::alloc::{AllocError, Global};
 use std::io::{Read, Write};
 
+/// Links to so many workers in this process.
+fn memory_links(alloc: Global, count: u32) -> Result<Vec<MemoryLink>, AllocError>
+    ensures { IfOk result (λ links. length links.items ≡ count) }
+{
+    let mut links = Vec::new(alloc);
+    for _ in 0..count {
+        let Ok(link) = MemoryLink::new(alloc) else {
+            return Err(AllocError);
+        };
+        links.push(link)?;
+    }
+    Ok(links)
+}
+
+/// Writes the answer to a text. Games are solved over the links.
+fn answer<L: Link, W: Write>(
+    alloc: Global,
+    command: Command,
+    text: Vec<u8>,
+    links: &mut [L],
+    writer: &mut W,
+) -> Result<(), CliFault>
+    requires limit { length text.items ≤ MOST_BYTES }
+    requires few { length links.old ≤ 16 }
+    ensures answer { OnOk result ((output : List ℕ)
+        × PrintsBy (IsFoundIf (All L.is_honest links.old)) command text.items output
+        × Appends (W.contents writer.old) (W.contents writer.new) output) }
+    ensures told { (workers : ℕ) → command ≡ Command.Measure workers → OnOk result ((output : List ℕ)
+        × IsMeasured (IsLeastOverTold L.told links.old) text.items output
+        × Appends (W.contents writer.old) (W.contents writer.new) output) }
+    ensures refused { IfErr result (RefusesBy (IsFoundIf (All L.is_honest links.old)) command text.items) }
+    ensures untouched { IfErr result (λ fault. fault ≢ CliFault.Write → writer.new ≡ writer.old) }
+    ensures unused { IsNone (workers_of command) → links.new ≡ links.old }
+{
+    match command {
+        Command::Measure { .. } => measure(alloc, text, links, writer),
+        Command::Solve { .. } => solve(alloc, text, links, writer),
+        Command::Check => check(alloc, text, writer),
+        Command::Replay => replay(alloc, text, writer),
+        Command::Game => game(alloc, text, writer),
+        Command::Synth { .. } => synth(alloc, text, links, writer),
+    }
+}
+
 /// Reads the whole input, and writes the answer to it and nothing else. Hand it a buffered writer, and flush that.
+///
+/// Where the command solves a game, as many workers in this process solve it as the command says, or none; the answer is the
+/// same for every number of them.
 ///
 /// Refuses, in this order: `Read`; `InputTooLong` for more than 268,435,456 bytes, of which it reads the first one over
 /// the limit at most; `NoSeparator` where two texts are wanted and no line `--` parts them; `Text` for a text that
@@ -33,6 +85,7 @@ pub fn run<R: Read, W: Write>(
     reader: &mut R,
     writer: &mut W,
 ) -> Result<(), CliFault>
+    requires { HasFewWorkers command }
     ensures answer { OnOk result (IfSome (R.remaining reader.old) (λ input.
         (output : List ℕ) × Prints command input output
         × Appends (W.contents writer.old) (W.contents writer.new) output)) }
@@ -41,13 +94,48 @@ pub fn run<R: Read, W: Write>(
     ensures no_further { StaysWithin (R.remaining reader.old) (R.remaining reader.new) (MOST_BYTES + 1) }
     ensures untouched { IfErr result (λ fault. fault ≢ CliFault.Write → writer.new ≡ writer.old) }
 {
+    let mut links = memory_links(alloc, command.workers().unwrap_or(0))?;
+    run_with(alloc, command, links.as_mut_slice(), reader, writer)
+}
+
+/// The same over the links that are given, at most 16: where the command solves a game, the game is cut evenly among them, and
+/// then its dual. How many workers the command says is of no account, and a command that solves nothing leaves the links alone.
+///
+/// Whatever the links answer, what is printed goes by a closed map of the game and one of its dual, so that the printed winners
+/// win and the printed circuit is accepted; `Undecided` then names the least vertex at which both are top. Over honest links the
+/// answers and refusals are those of `run`. Over links that tell their replies, none of them a failure, `measure` prints the least
+/// closed map that is at least every value in the replies that were taken: of each link at least one, or all.
+///
+/// Refuses what `run` does, in the same order.
+pub fn run_with<L: Link, R: Read, W: Write>(
+    alloc: Global,
+    command: Command,
+    links: &mut [L],
+    reader: &mut R,
+    writer: &mut W,
+) -> Result<(), CliFault>
+    requires { length links.old ≤ 16 }
+    ensures answer { OnOk result (IfSome (R.remaining reader.old) (λ input.
+        (output : List ℕ) × PrintsBy IsClosedMapOf command input output
+        × Appends (W.contents writer.old) (W.contents writer.new) output)) }
+    ensures refused { IfErr result (λ fault. IfSome (R.remaining reader.old)
+        (λ input. RefusesBy IsClosedMapOf command input fault)) }
+
+    ensures honest_answer { All L.is_honest links.old → OnOk result (IfSome (R.remaining reader.old) (λ input.
+        (output : List ℕ) × Prints command input output
+        × Appends (W.contents writer.old) (W.contents writer.new) output)) }
+    ensures honest_refused { All L.is_honest links.old → IfErr result (λ fault. IfSome (R.remaining reader.old)
+        (λ input. Refuses command input fault)) }
+    ensures told { (workers : ℕ) → command ≡ Command.Measure workers
+        → OnOk result (IfSome (R.remaining reader.old) (λ input.
+        (output : List ℕ) × IsMeasured (IsLeastOverTold L.told links.old) input output
+        × Appends (W.contents writer.old) (W.contents writer.new) output)) }
+
+    // Whatever comes of it, no byte behind the first one over the limit is read.
+    ensures no_further { StaysWithin (R.remaining reader.old) (R.remaining reader.new) (MOST_BYTES + 1) }
+    ensures untouched { IfErr result (λ fault. fault ≢ CliFault.Write → writer.new ≡ writer.old) }
+    ensures unused { IsNone (workers_of command) → links.new ≡ links.old }
+{
     let text = read_all_limited(alloc, reader)?;
-    match command {
-        Command::Measure => measure(alloc, text, writer),
-        Command::Solve => solve(alloc, text, writer),
-        Command::Check => check(alloc, text, writer),
-        Command::Replay => replay(alloc, text, writer),
-        Command::Game => game(alloc, text, writer),
-        Command::Synth => synth(alloc, text, writer),
-    }
+    answer(alloc, command, text, links, writer)
 }

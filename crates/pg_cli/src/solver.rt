@@ -1,53 +1,69 @@
-//! Solving: the least progress measures of a game and of its dual.
+//! Solving over links: maps of a game and of its dual.
 
-ghost use Rattle.std.specs.Prelude.{IfOk, IfErr};
+ghost use Rattle.std.specs.Prelude.{◌≡◌, ◌≤◌, length, All, IfOk, IfErr, OnOk};
 ghost use Rattle.pg_arena.specs.Games.{HasPrioritiesUpTo, dual};
 ghost use Rattle.pg_text.specs.Solutions.{IsSolution};
 ghost use Rattle.pg_check.specs.Soundness.{IsSound};
-ghost use Rattle.pg_cli.specs.Measuring.{IsMeasureOf};
+ghost use Rattle.pg_cli.specs.Linked.{IsLeastOverTold};
 ghost use Rattle.pg_cli.specs.Solving.{IsSolvedBy};
-ghost use Rattle.pg_cli.specs.Mirrors.Solver.{IsUnsolved};
+ghost use Rattle.pg_cli.specs.Mirrors.Solver.{IsFoundIf, IsUnsolved};
 
 use crate::fault::CliFault;
 use pg_arena::{Game, dual};
 use pg_check::strategies;
-use pg_map::{MeasureMap, laws, lift_to_end};
-use pg_measure::Bounds;
+use pg_coord::{Link, solve};
+use pg_map::MeasureMap;
 use pg_text::Solution;
-use std::alloc::{AllocError, Global};
+use pg_worker::Cut;
+use std::alloc::Global;
 
-/// The least progress measure of a game.
-pub(crate) fn least_measure(alloc: Global, game: &Game) -> Result<MeasureMap, AllocError>
-    ensures { IfOk result (IsMeasureOf game.now) }
+/// How many lifts a worker makes in a turn, at most.
+const BUDGET: u32 = 4_096;
+
+/// A map of a game, solved over links among which the game is cut evenly.
+pub(crate) fn map_of<L: Link>(
+    alloc: Global,
+    game: &Game,
+    links: &mut [L],
+) -> Result<MeasureMap, CliFault>
+    requires { length links.old ≤ 16 }
+    ensures found { IfOk result (IsFoundIf (All L.is_honest links.old) game.now) }
+    ensures told { IfOk result (IsLeastOverTold L.told links.old game.now) }
+    ensures honest { OnOk result (All L.is_honest links.old → All L.is_honest links.new) }
+    ensures refused { IfErr result (λ fault. fault ≡ CliFault.OutOfMemory) }
 {
-    laws::game_lines();
-    laws::closed_is_least();
-    let bounds = Bounds::of(alloc, game)?;
-    let mut map = MeasureMap::zero(alloc, game.len() as u32, &bounds)?;
-    lift_to_end(&mut map, game);
-    Ok(map)
+    let cut = Cut::even(alloc, game.len() as u32, links.len() as u32)?;
+    let solved = solve(alloc, game, links, &cut, BUDGET)?;
+    Ok(solved.map)
 }
 
-/// The least progress measure of the dual of a game.
-fn least_measure_of_dual(alloc: Global, game: &Game) -> Result<MeasureMap, AllocError>
-    requires { HasPrioritiesUpTo 65535 game.now }
-    ensures { IfOk result (IsMeasureOf (dual game.now)) }
+/// A map of the dual of a game.
+fn map_of_dual<L: Link>(alloc: Global, game: &Game, links: &mut [L]) -> Result<MeasureMap, CliFault>
+    requires priorities { HasPrioritiesUpTo 65535 game.now }
+    requires few { length links.old ≤ 16 }
+    ensures found { IfOk result (IsFoundIf (All L.is_honest links.old) (dual game.now)) }
+    ensures refused { IfErr result (λ fault. fault ≡ CliFault.OutOfMemory) }
 {
     let Ok(dual) = dual(alloc, game) else {
-        return Err(AllocError);
+        return Err(CliFault::OutOfMemory);
     };
-    least_measure(alloc, &dual)
+    map_of(alloc, &dual, links)
 }
 
-/// The solution of the least progress measures of a game and of its dual.
-pub(crate) fn solution_of(alloc: Global, game: &Game) -> Result<Solution, CliFault>
-    requires { HasPrioritiesUpTo 65535 game.now }
-    ensures solved { IfOk result (IsSolvedBy game.now) }
+/// The solution of a map of a game and of one of its dual, both found over the same links.
+pub(crate) fn solution_of<L: Link>(
+    alloc: Global,
+    game: &Game,
+    links: &mut [L],
+) -> Result<Solution, CliFault>
+    requires priorities { HasPrioritiesUpTo 65535 game.now }
+    requires few { length links.old ≤ 16 }
+    ensures solved { IfOk result (IsSolvedBy (IsFoundIf (All L.is_honest links.old)) game.now) }
     ensures solution { IfOk result (IsSolution game.now) }
     ensures sound { IfOk result (IsSound game.now) }
-    ensures refused { IfErr result (IsUnsolved game.now) }
+    ensures refused { IfErr result (IsUnsolved (IsFoundIf (All L.is_honest links.old)) game.now) }
 {
-    let even = least_measure(alloc, game)?;
-    let odd = least_measure_of_dual(alloc, game)?;
+    let even = map_of(alloc, game, links)?;
+    let odd = map_of_dual(alloc, game, links)?;
     Ok(strategies(alloc, game, &even, &odd)?)
 }

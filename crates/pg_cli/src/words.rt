@@ -1,11 +1,11 @@
 //! The words of the command line.
 
-ghost use Rattle.std.specs.Prelude.{map, IfOk};
+ghost use Rattle.std.specs.Prelude.{◌≤◌, map, IfOk};
 ghost use Rattle.pg_cli.specs.Words.{AsksFor};
 
 use crate::command::Command;
 use clap::error::ErrorKind;
-use clap::{Command as Program, Error};
+use clap::{Arg, ArgAction, ArgMatches, Command as Program, Error};
 use std::alloc::Global;
 
 /// What a command line asks for.
@@ -18,6 +18,12 @@ pub enum Line {
 const NAME: &str = "parsolve";
 
 const VERSION: &str = "0.1.0";
+
+/// The option that says how many workers solve.
+const WORKERS: &str = "workers";
+
+/// The most workers that may be asked for.
+const MOST_WORKERS: u8 = 16;
 
 const ABOUT: &str = "Solves parity games; the answers are proved";
 
@@ -117,20 +123,35 @@ Example: parsolve synth < examples/request-grant.hoa",
 
 fn help_of(command: Command) -> Help {
     match command {
-        Command::Measure => MEASURE,
-        Command::Solve => SOLVE,
+        Command::Measure { .. } => MEASURE,
+        Command::Solve { .. } => SOLVE,
         Command::Check => CHECK,
         Command::Replay => REPLAY,
         Command::Game => GAME,
-        Command::Synth => SYNTH,
+        Command::Synth { .. } => SYNTH,
     }
 }
 
-/// The command as the command line knows it.
-fn subcommand<'a>(alloc: Global, command: Command) -> Program<'a> {
+/// The option `--workers N`.
+fn workers_option<'a>(alloc: Global) -> Arg<'a> {
+    Arg::new(alloc, WORKERS)
+        .long(WORKERS)
+        .value_name("N")
+        .help("How many workers solve, from 0 to 16; the answer is the same")
+        .action(ArgAction::Set)
+        .value_parser(clap::value_parser!(u8).range(0..=16))
+        .default_value("2")
+}
+
+/// The command as the command line knows it; one that solves has the option `--workers`.
+fn subcommand<'a>(alloc: Global, command: Command) -> Result<Program<'a>, Error> {
     let help = help_of(command);
     let (name, about, more): (&'a str, &'a str, &'a str) = (command.name(), help.about, help.more);
-    Program::new(alloc, name).about(about).after_help(more)
+    let program = Program::new(alloc, name).about(about).after_help(more);
+    match command.workers() {
+        Some(_) => Ok(program.arg(workers_option(alloc))?),
+        None => Ok(program),
+    }
 }
 
 fn program<'a>(alloc: Global) -> Result<Program<'a>, Error> {
@@ -139,10 +160,23 @@ fn program<'a>(alloc: Global) -> Result<Program<'a>, Error> {
         .about(ABOUT)
         .after_help(MORE)
         .subcommand_required(true);
-    for command in Command::ALL {
-        program = program.subcommand(subcommand(alloc, command))?;
+    for command in Command::all(0) {
+        program = program.subcommand(subcommand(alloc, command)?)?;
     }
     Ok(program)
+}
+
+/// How many workers the words ask for; 0 where the command solves nothing.
+fn workers_in(matches: &ArgMatches<'_>) -> u32
+    ensures { result ≤ 16 }
+{
+    let Some((_, found)) = matches.subcommand() else {
+        return 0;
+    };
+    match found.get_one::<u8>(WORKERS) {
+        Some(workers) if workers <= MOST_WORKERS => u32::from(workers),
+        _ => 0,
+    }
 }
 
 /// Reads a command line, whose first word is the program's own name. The error is `clap`'s: its text, and whether it
@@ -151,9 +185,10 @@ pub fn parse_words(alloc: Global, words: &[&str]) -> Result<Line, Error>
     ensures { IfOk result (AsksFor (map (λ word. word.now) words.now)) }
 {
     let mut program = program(alloc)?;
-    program.try_get_matches_from_mut(words)?;
+    let matches = program.try_get_matches_from_mut(words)?;
+    let workers = workers_in(&matches);
     match words {
-        [_, name, ..] => match Command::named(name) {
+        [_, name, ..] => match Command::named(name, workers) {
             Some(command) => Ok(Line::Run(command)),
             None => Err(program.error(ErrorKind::InvalidSubcommand, "no such command")?),
         },

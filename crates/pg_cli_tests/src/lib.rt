@@ -1,6 +1,8 @@
-//! Tests of the commands: streams that fail, worlds that are replayed, and the words of the command line.
+//! Tests of the commands: workers and links, streams that fail, worlds that are replayed, and the words of the command line.
 #![tactic(auto)]
 
+#[cfg(test)]
+mod links;
 #[cfg(test)]
 mod replay;
 #[cfg(test)]

@@ -1,3 +1,5 @@
+ghost use Rattle.pg_cli.specs.Words.{HasFewWorkers};
+
 use pg_cli::{CliFault, Command, exit_code, run, write_fault};
 use std::alloc::Global;
 use std::io::{self, ErrorKind, Read, Write};
@@ -69,25 +71,37 @@ State: 0 [0] 1 {0} State: 1 [!0] 0 {0} --END--";
 /// Its circuit: the latch is its own negation, and so is the output.
 const CIRCUIT: &[u8] = b"REALIZABLE\naag 1 0 1 1 0\n2 3\n3\no0 g\n";
 
-/// Each command on an input, and its answer.
-const ANSWERS: [(Command, &[u8], &[u8]); 7] = [
-    (Command::Measure, TWO, b"0 1;\n1 0;\n"),
-    (Command::Solve, TWO, b"paritysol 1;\n0 0 1;\n1 0;\n"),
-    (Command::Check, SOLVED, b"WINS\n"),
-    (Command::Replay, SCRIPT, WORLD),
-    (Command::Game, LOOP, GAME),
-    (Command::Synth, TURNS, CIRCUIT),
-    (Command::Synth, LOOP, b"UNREALIZABLE\n"),
-];
+/// What a command writes of an input.
+fn answer(alloc: Global, command: Command, input: &[u8]) -> Result<Vec<u8>, CliFault>
+    requires { HasFewWorkers command }
+{
+    let mut input = input;
+    let mut output = Vec::new(alloc);
+    run(alloc, command, &mut input, &mut output)?;
+    Ok(output)
+}
 
 #[test]
 fn each_command_answers(rt: HostRuntime) -> Result<(), Fail> {
-    for (command, input, answer) in ANSWERS {
-        let mut input = input;
-        let mut output = Vec::new(rt.alloc());
-        run(rt.alloc(), command, &mut input, &mut output)?;
-        assert_eq!(rt; output.as_slice(), answer, "{command:?}");
-    }
+    let alloc = rt.alloc();
+    let workers = 2;
+    let measured = answer(alloc, Command::Measure { workers }, TWO)?;
+    assert_eq!(rt; measured.as_slice(), b"0 1;\n1 0;\n".as_slice());
+    let solved = answer(alloc, Command::Solve { workers }, TWO)?;
+    assert_eq!(rt;
+        solved.as_slice(),
+        b"paritysol 1;\n0 0 1;\n1 0;\n".as_slice()
+    );
+    assert_eq!(rt;
+        answer(alloc, Command::Check, SOLVED)?.as_slice(),
+        b"WINS\n".as_slice()
+    );
+    assert_eq!(rt; answer(alloc, Command::Replay, SCRIPT)?.as_slice(), WORLD);
+    assert_eq!(rt; answer(alloc, Command::Game, LOOP)?.as_slice(), GAME);
+    let synthesised = answer(alloc, Command::Synth { workers }, TURNS)?;
+    assert_eq!(rt; synthesised.as_slice(), CIRCUIT);
+    let none = answer(alloc, Command::Synth { workers }, LOOP)?;
+    assert_eq!(rt; none.as_slice(), b"UNREALIZABLE\n".as_slice());
     Ok(())
 }
 
@@ -99,7 +113,12 @@ fn measured(alloc: Global, before: usize, kind: ErrorKind) -> (Result<(), CliFau
         kind,
     };
     let mut output = Vec::new(alloc);
-    let done = run(alloc, Command::Measure, &mut input, &mut output);
+    let done = run(
+        alloc,
+        Command::Measure { workers: 2 },
+        &mut input,
+        &mut output,
+    );
     (done, output)
 }
 
@@ -134,7 +153,12 @@ fn a_failed_write_is_told(rt: HostRuntime) {
     for before in 0..12usize {
         let mut input = TWO;
         let mut output = Full { before };
-        let done = run(rt.alloc(), Command::Measure, &mut input, &mut output);
+        let done = run(
+            rt.alloc(),
+            Command::Measure { workers: 2 },
+            &mut input,
+            &mut output,
+        );
         assert_eq!(rt;
             matches!(&done, Err(CliFault::Write)),
             before < 10,

@@ -1,11 +1,18 @@
--- Why a game has no solution.
-use Rattle.std.specs.Prelude.{ℕ, List}
+-- What is found of a game over links, and why a game has no solution.
+use Rattle.std.specs.Prelude.{List}
 use Rattle.pg_arena.specs.Games.{GameVertex}
+use Rattle.pg_map.specs.Maps.{MapValue}
+use Rattle.pg_cli.specs.Measuring.{Finding, IsMeasureOf, IsClosedMapOf}
 use Rattle.pg_cli.specs.Solving.{IsUndecidedIn}
 use Rattle.pg_cli.specs.declared.fault.CliFault.{CliFault}
 use Rattle.pg_cli.specs.declared.fault.CliFault.TheVariants.{OutOfMemory, Undecided}
 
-abbrev pub IsUnsolved : List GameVertex → CliFault → Type 0
-IsUnsolved game OutOfMemory = Unit {0}
-IsUnsolved game (Undecided id) = IsUndecidedIn game id
-IsUnsolved game _ = ⊥
+-- the map is closed; if the links are honest it is the least progress measure
+pub record IsFoundIf (are_honest : Type 0) (game : List GameVertex) (map : MapValue) : Type 0 where
+  pub closed : IsClosedMapOf game map
+  pub least : are_honest → IsMeasureOf game map
+
+abbrev pub IsUnsolved : Finding → List GameVertex → CliFault → Type 0
+IsUnsolved Found game OutOfMemory = Unit {0}
+IsUnsolved Found game (Undecided id) = IsUndecidedIn Found game id
+IsUnsolved Found game _ = ⊥

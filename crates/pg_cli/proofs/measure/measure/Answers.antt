@@ -1,6 +1,21 @@
+use Rattle.std.specs.Prelude.{All}
+use Rattle.pg_cli.specs.Answers.{RefusesBy}
+use Rattle.pg_cli.specs.Measuring.{measures_text}
+use Rattle.pg_cli.specs.Mirrors.Solver.{IsFoundIf}
+use Rattle.pg_cli.specs.declared.command.Command.TheVariants.{Measure}
+use Rattle.pg_cli.proofs.Refusing.{refused_by}
 use Rattle.pg_cli.proofs.Printing.{prints_measures}
 use Rattle.pg_cli.proofs.measure.measure.Goals as goal
 
+pub returns-in_err-game-clause-refused : goal.returns-in_err-game-clause-refused
+returns-in_err-game-clause-refused g c = λ workers.
+    let P = RefusesBy (IsFoundIf (All g.L.Link.is_honest c.args.links.now)) (Measure workers) c.args.text.items in
+    refused_by P c.from_residual.result c.in_err-game.field-0.0 c.from_residual.ensures.1 (c.in_err-game.ensures.refused workers)
+
 pub returns-clause-refused : goal.returns-clause-refused
-returns-clause-refused g c =
-    prints_measures c.args.text.items c.in_ok-game.game c.in_ok-game.map c.requires c.in_ok-game.ensures.found.0 c.in_ok-game.ensures.found.1
+returns-clause-refused g c = λ workers.
+    let x = c.in_ok-game in (
+      measures_text x.game x.map.measures,
+      prints_measures (IsFoundIf (All g.L.Link.is_honest c.args.links.now)) workers c.args.text.items x.game x.map c.requires.limit
+          x.ensures.spelt x.ensures.found,
+    )

@@ -1,7 +1,21 @@
+use Rattle.std.specs.Prelude.{All}
+use Rattle.pg_text.specs.SolutionLayout.{solution_text}
+use Rattle.pg_cli.specs.Answers.{RefusesBy}
+use Rattle.pg_cli.specs.Mirrors.Solver.{IsFoundIf}
+use Rattle.pg_cli.specs.declared.command.Command.TheVariants.{Solve}
+use Rattle.pg_cli.proofs.Refusing.{refused_by}
 use Rattle.pg_cli.proofs.Printing.{prints_solution}
 use Rattle.pg_cli.proofs.solve.solve.Goals as goal
 
+pub returns-in_err-game-clause-refused : goal.returns-in_err-game-clause-refused
+returns-in_err-game-clause-refused g c = λ workers.
+    let P = RefusesBy (IsFoundIf (All g.L.Link.is_honest c.args.links.now)) (Solve workers) c.args.text.items in
+    refused_by P c.from_residual.result c.in_err-game.field-0.0 c.from_residual.ensures.1 (c.in_err-game.ensures.refused workers)
+
 pub returns-clause-refused : goal.returns-clause-refused
-returns-clause-refused g c =
-    prints_solution c.args.text.items c.in_ok-game.game c.in_ok-game.solution c.requires c.in_ok-game.ensures.found.0
-    c.in_ok-game.ensures.identifiers c.in_ok-game.ensures.found.1
+returns-clause-refused g c = λ workers.
+    let x = c.in_ok-game in (
+      solution_text x.game x.solution,
+      prints_solution (IsFoundIf (All g.L.Link.is_honest c.args.links.now)) workers c.args.text.items x.game x.solution c.requires.limit
+          x.ensures.spelt x.ensures.identifiers x.ensures.found,
+    )

@@ -1,35 +1,40 @@
 use Rattle.std.proofs.Common.{Err, ap, subst}
 use Rattle.pg_synth.specs.Answers.{IsMealyOf}
 use Rattle.pg_cli.specs.Faults.{hoa_fault, synth_fault, aiger_fault}
+use Rattle.std.specs.Prelude.{All}
 use Rattle.pg_cli.specs.Answers as answers
+use Rattle.pg_cli.specs.Mirrors.Solver.{IsFoundIf}
 use Rattle.pg_cli.specs.declared.command.Command.TheVariants.{Synth}
 use Rattle.pg_cli.proofs.Refusing.{refused_by}
-use Rattle.pg_cli.proofs.Synthesised.{refuses_text, refuses_large, refuses_unsolved, refuses_circuit, IsKnown, large_by, realized_by}
+use Rattle.pg_cli.proofs.Synthesised.{refuses_text, refuses_large, refuses_circuit, IsKnown, large_by, realized_by}
 use Rattle.pg_cli.proofs.synth.synthesised.Goals as goal
 
 pub returns-in_err-automaton-clause-refused : goal.returns-in_err-automaton-clause-refused
-returns-in_err-automaton-clause-refused c =
+returns-in_err-automaton-clause-refused g c = λ workers.
+    let Found = IsFoundIf (All g.L.Link.is_honest c.args.links.now) in
     let bytes = c.args.text.items in
     let fault = c.in_err-automaton.field-0.0 in
-    refused_by (answers.Refuses Synth bytes) c.from_residual.result (hoa_fault fault) c.from_residual.ensures.1
-    (refuses_text bytes c.requires fault (rw (← c.deref.ensures.value) c.in_err-automaton.ensures.refused))
+    refused_by (answers.RefusesBy Found (Synth workers) bytes) c.from_residual.result (hoa_fault fault) c.from_residual.ensures.1
+    (refuses_text Found workers bytes c.requires.limit fault (rw (← c.deref.ensures.value) c.in_err-automaton.ensures.refused))
 
 pub returns-in_err-made-clause-refused : goal.returns-in_err-made-clause-refused
-returns-in_err-made-clause-refused c =
+returns-in_err-made-clause-refused g c = λ workers.
+    let Found = IsFoundIf (All g.L.Link.is_honest c.args.links.now) in
     let bytes = c.args.text.items in
     let fault = c.in_err-made.field-0.0 in
-    refused_by (answers.Refuses Synth bytes) c.from_residual-in_err-made.result (synth_fault fault) c.from_residual-in_err-made.ensures.1
-    (refuses_large bytes c.in_ok-automaton.automaton c.requires (rw (← c.deref.ensures.value) c.in_ok-automaton.ensures.found) fault c.in_err-made.ensures.fault)
+    refused_by (answers.RefusesBy Found (Synth workers) bytes) c.from_residual-in_err-made.result (synth_fault fault) c.from_residual-in_err-made.ensures.1
+    (refuses_large Found workers bytes c.in_ok-automaton.automaton c.requires.limit (rw (← c.deref.ensures.value) c.in_ok-automaton.ensures.found) fault c.in_err-made.ensures.fault)
 
 pub returns-in_err-circuit-clause-refused : goal.returns-in_err-circuit-clause-refused
-returns-in_err-circuit-clause-refused c =
+returns-in_err-circuit-clause-refused g c = λ workers.
+    let Found = IsFoundIf (All g.L.Link.is_honest c.args.links.now) in
     let bytes = c.args.text.items in
     let fault = c.in_err-circuit.field-0.0 in
     let a = c.in_ok-automaton.automaton in
     let made = c.in_ok-made.made in
     let solution = c.in_ok-solution.solution in
     let machine = c.in-Some.machine in
-    let known : IsKnown bytes a made.game made.initial solution machine = record {
+    let known : IsKnown Found bytes a made.game made.initial solution machine = record {
       spelt = rw (← c.deref.ensures.value) c.in_ok-automaton.ensures.found;
       is_automaton = c.states-states.ensures.automaton;
       game_of = c.in_ok-made.ensures.game;
@@ -38,18 +43,19 @@ returns-in_err-circuit-clause-refused c =
       sound = c.in_ok-solution.ensures.sound;
       machine_of = subst (IsMealyOf a made.game made.initial solution) c.in-Some.is c.in_ok-machine.ensures.machine;
     } in
-    refused_by (answers.Refuses Synth bytes) c.from_residual-in_err-circuit.result (aiger_fault fault) c.from_residual-in_err-circuit.ensures.1
-    (refuses_circuit bytes c.requires fault c.in_err-circuit.ensures.refused
-    (λ e. large_by bytes a made.game made.initial solution machine known (c.in_err-circuit.ensures.too_large.0 (ap Err e))))
+    refused_by (answers.RefusesBy Found (Synth workers) bytes) c.from_residual-in_err-circuit.result (aiger_fault fault) c.from_residual-in_err-circuit.ensures.1
+    (refuses_circuit Found workers bytes c.requires.limit fault c.in_err-circuit.ensures.refused
+    (λ e. large_by Found bytes a made.game made.initial solution machine known (c.in_err-circuit.ensures.too_large.0 (ap Err e))))
 
 pub returns-clause-circuit : goal.returns-clause-circuit
-returns-clause-circuit c =
+returns-clause-circuit g c =
+    let Found = IsFoundIf (All g.L.Link.is_honest c.args.links.now) in
     let bytes = c.args.text.items in
     let a = c.in_ok-automaton.automaton in
     let made = c.in_ok-made.made in
     let solution = c.in_ok-solution.solution in
     let machine = c.in-Some.machine in
-    let known : IsKnown bytes a made.game made.initial solution machine = record {
+    let known : IsKnown Found bytes a made.game made.initial solution machine = record {
       spelt = rw (← c.deref.ensures.value) c.in_ok-automaton.ensures.found;
       is_automaton = c.states-states.ensures.automaton;
       game_of = c.in_ok-made.ensures.game;
@@ -58,4 +64,4 @@ returns-clause-circuit c =
       sound = c.in_ok-solution.ensures.sound;
       machine_of = subst (IsMealyOf a made.game made.initial solution) c.in-Some.is c.in_ok-machine.ensures.machine;
     } in
-    realized_by bytes a made.game made.initial solution machine c.in_ok-circuit.circuit known c.in_ok-circuit.ensures.circuit
+    realized_by Found bytes a made.game made.initial solution machine c.in_ok-circuit.circuit known c.in_ok-circuit.ensures.circuit

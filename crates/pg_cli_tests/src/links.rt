@@ -1,0 +1,205 @@
+//! Games solved by workers: by any number of honest ones, and over links that answer as they like.
+
+ghost use Rattle.std.specs.Prelude.{◌≤◌, length};
+
+use pg_cli::{CliFault, Command, exit_code, run, run_with};
+use pg_coord::stand_ins::{Broken, Fixed, Told};
+use pg_coord::{Link, MemoryLink};
+use std::alloc::Global;
+use std::test::Fail;
+
+/// From the vertex with priority 1 Even leaves by the one with priority 2.
+const TWO: &[u8] = b"parity 1;\n0 1 0 0,1;\n1 2 1 0;\n";
+
+/// By single lifts vertex 0 goes through `0,1`, `1,0`, `1,1` to top.
+const ODD: &[u8] = b"parity 1;\n0 1 0 0;\n1 3 0 0;\n";
+
+/// Each player wins somewhere; the one odd priority is 1, and in the dual there are two.
+const THREE: &[u8] = b"parity 2;\n0 0 1 0,1;\n1 1 1 1,2 \"odd\";\n2 2 0 0,2;\n";
+
+/// The controller sets its proposition in every other step, beginning with the first.
+const TURNS: &[u8] =
+    b"HOA: v1 Start: 0 AP: 1 \"g\" controllable-AP: 0 Acceptance: 1 Inf(0) --BODY-- \
+State: 0 [0] 1 {0} State: 1 [!0] 0 {0} --END--";
+
+/// Its circuit: the latch is its own negation, and so is the output.
+const CIRCUIT: &[u8] = b"REALIZABLE\naag 1 0 1 1 0\n2 3\n3\no0 g\n";
+
+/// A frame of values of width 1: top for the vertices 0 and 1.
+const TOP: &[u8] = &[
+    0, 0, 0, 19, 3, 0, 0, 0, 1, 0, 0, 0, 2, 0, 0, 0, 0, 1, 0, 0, 0, 1, 1,
+];
+
+/// A frame of values of width 1: the list `1` for the vertex 2.
+const ONE: &[u8] = &[
+    0, 0, 0, 18, 3, 0, 0, 0, 1, 0, 0, 0, 1, 0, 0, 0, 2, 0, 0, 0, 0, 1,
+];
+
+/// A frame without values, of width 1.
+const NONE: &[u8] = &[0, 0, 0, 9, 3, 0, 0, 0, 1, 0, 0, 0, 0];
+
+/// The report of a worker that has nothing to lift.
+const QUIET: &[u8] = &[0, 0, 0, 3, 5, 1, 0];
+
+/// What a command writes of a text over these links.
+fn answer<L: Link>(
+    alloc: Global,
+    command: Command,
+    text: &[u8],
+    links: &mut [L],
+) -> (Result<(), CliFault>, Vec<u8>)
+    requires { length links.old ≤ 16 }
+{
+    let mut input = text;
+    let mut output = Vec::new(alloc);
+    let done = run_with(alloc, command, links, &mut input, &mut output);
+    (done, output)
+}
+
+/// Two frames, one after the other.
+fn frames(alloc: Global, first: &[u8], last: &[u8]) -> Result<Vec<Vec<u8>>, Fail> {
+    let (first, last) = (
+        Vec::from_slice(alloc, first)?,
+        Vec::from_slice(alloc, last)?,
+    );
+    Ok(vec![in alloc; first, last]?)
+}
+
+/// A link that answers every Go by these values, and that it is quiet.
+fn sends(alloc: Global, values: &[u8]) -> Result<Fixed, Fail> {
+    Ok(Fixed::new(alloc, frames(alloc, values, QUIET)?, 1))
+}
+
+#[test]
+fn every_number_of_workers_measures_the_same(rt: HostRuntime) -> Result<(), Fail> {
+    for workers in 0..=16u32 {
+        let mut input = ODD;
+        let mut output = Vec::new(rt.alloc());
+        run(
+            rt.alloc(),
+            Command::Measure { workers },
+            &mut input,
+            &mut output,
+        )?;
+        assert_eq!(rt; output.as_slice(), b"0 T;\n1 T;\n".as_slice(), "{workers}");
+    }
+    Ok(())
+}
+
+#[test]
+fn every_number_of_workers_solves_the_same(rt: HostRuntime) -> Result<(), Fail> {
+    for workers in 0..=16u32 {
+        let mut input = THREE;
+        let mut output = Vec::new(rt.alloc());
+        run(
+            rt.alloc(),
+            Command::Solve { workers },
+            &mut input,
+            &mut output,
+        )?;
+        let solution = b"paritysol 2;\n0 1 1;\n1 1 1;\n2 0 2;\n".as_slice();
+        assert_eq!(rt; output.as_slice(), solution, "{workers}");
+    }
+    Ok(())
+}
+
+#[test]
+fn every_number_of_workers_synthesises_the_same(rt: HostRuntime) -> Result<(), Fail> {
+    for workers in 0..=16u32 {
+        let mut input = TURNS;
+        let mut output = Vec::new(rt.alloc());
+        run(
+            rt.alloc(),
+            Command::Synth { workers },
+            &mut input,
+            &mut output,
+        )?;
+        assert_eq!(rt; output.as_slice(), CIRCUIT, "{workers}");
+    }
+    Ok(())
+}
+
+#[test]
+fn links_in_memory_may_be_given(rt: HostRuntime) -> Result<(), Fail> {
+    let alloc = rt.alloc();
+    let mut links = [MemoryLink::new(alloc)?, MemoryLink::limited(alloc, 1)?];
+    let (done, output) = answer(alloc, Command::Solve { workers: 7 }, THREE, &mut links);
+    assert!(rt; done.is_ok());
+    let solution = b"paritysol 2;\n0 1 1;\n1 1 1;\n2 0 2;\n".as_slice();
+    assert_eq!(rt; output.as_slice(), solution);
+    let (done, output) = answer(alloc, Command::Measure { workers: 0 }, ODD, &mut links);
+    assert!(rt; done.is_ok());
+    assert_eq!(rt; output.as_slice(), b"0 T;\n1 T;\n".as_slice());
+    Ok(())
+}
+
+#[test]
+fn a_link_that_sends_top_is_believed_by_measure(rt: HostRuntime) -> Result<(), Fail> {
+    let alloc = rt.alloc();
+    let mut links = [sends(alloc, TOP)?];
+    let (done, output) = answer(alloc, Command::Measure { workers: 0 }, TWO, &mut links);
+    assert!(rt; done.is_ok());
+    assert_eq!(rt; output.as_slice(), b"0 T;\n1 T;\n".as_slice());
+    Ok(())
+}
+
+#[test]
+fn a_link_that_tells_top_once_is_believed_by_measure(rt: HostRuntime) -> Result<(), Fail> {
+    let alloc = rt.alloc();
+    let mut links = [Told::new(alloc, frames(alloc, TOP, QUIET)?)];
+    let (done, output) = answer(alloc, Command::Measure { workers: 0 }, TWO, &mut links);
+    assert!(rt; done.is_ok());
+    assert_eq!(rt; output.as_slice(), b"0 T;\n1 T;\n".as_slice());
+    Ok(())
+}
+
+#[test]
+fn a_link_that_tells_no_values_leaves_the_lifting(rt: HostRuntime) -> Result<(), Fail> {
+    let alloc = rt.alloc();
+    let mut links = [Told::new(alloc, frames(alloc, NONE, QUIET)?)];
+    let (done, output) = answer(alloc, Command::Measure { workers: 0 }, TWO, &mut links);
+    assert!(rt; done.is_ok());
+    assert_eq!(rt; output.as_slice(), b"0 1;\n1 0;\n".as_slice());
+    Ok(())
+}
+
+#[test]
+fn where_both_maps_are_top_nothing_is_solved(rt: HostRuntime) -> Result<(), Fail> {
+    let alloc = rt.alloc();
+    let mut links = [sends(alloc, TOP)?];
+    let (done, output) = answer(alloc, Command::Solve { workers: 0 }, TWO, &mut links);
+    assert!(rt; matches!(&done, Err(CliFault::Undecided(0))));
+    assert!(rt; output.is_empty());
+    assert!(rt; matches!(&done, Err(fault) if exit_code(fault) == 3));
+    let _ = done;
+    Ok(())
+}
+
+/// In the dual the width is wrong, so that the link is given up there.
+#[test]
+fn a_value_above_the_least_one_still_solves(rt: HostRuntime) -> Result<(), Fail> {
+    let alloc = rt.alloc();
+    let mut links = [sends(alloc, ONE)?];
+    let (done, output) = answer(alloc, Command::Measure { workers: 0 }, THREE, &mut links);
+    assert!(rt; done.is_ok());
+    assert_eq!(rt; output.as_slice(), b"0 T;\n1 T;\n2 1;\n".as_slice());
+    let (done, output) = answer(alloc, Command::Solve { workers: 0 }, THREE, &mut links);
+    assert!(rt; done.is_ok());
+    let solution = b"paritysol 2;\n0 1 1;\n1 1 1;\n2 0 2;\n".as_slice();
+    assert_eq!(rt; output.as_slice(), solution);
+    Ok(())
+}
+
+#[test]
+fn links_whose_calls_fail_change_nothing(rt: HostRuntime) -> Result<(), Fail> {
+    let alloc = rt.alloc();
+    let mut links = [Broken::new(), Broken::new(), Broken::new()];
+    let (done, output) = answer(alloc, Command::Solve { workers: 0 }, THREE, &mut links);
+    assert!(rt; done.is_ok());
+    let solution = b"paritysol 2;\n0 1 1;\n1 1 1;\n2 0 2;\n".as_slice();
+    assert_eq!(rt; output.as_slice(), solution);
+    let (done, output) = answer(alloc, Command::Synth { workers: 0 }, TURNS, &mut links);
+    assert!(rt; done.is_ok());
+    assert_eq!(rt; output.as_slice(), CIRCUIT);
+    Ok(())
+}
