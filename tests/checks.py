@@ -20,14 +20,33 @@ def random_game(dice, priorities=range(5)):
 
 
 def answers_as_defined(program, command, text_of, count=150):
-    """The program's answers on random games are those of the definitions."""
+    """The program's answers on random games, by random numbers of workers, are those of the definitions."""
     dice = random.Random(1)
     for _ in range(count):
-        game = random_game(dice)
-        ran = subprocess.run([program, command], input=naive.game_text(game).encode(), capture_output=True, timeout=60)
+        game, workers = random_game(dice), dice.choice([[], ["--workers", str(dice.randint(0, 16))]])
+        ran = subprocess.run([program, command, *workers], input=naive.game_text(game).encode(), capture_output=True, timeout=60)
         if ran.returncode != 0 or ran.stdout.decode() != text_of(game):
-            return f"{command} on {naive.game_text(game)!r}: {ran.stdout!r}, wanted {text_of(game)!r}"
+            return f"{command} {workers} on {naive.game_text(game)!r}: {ran.stdout!r}, wanted {text_of(game)!r}"
     return None
+
+
+def workers_change_nothing(program, command, random_text, count=25):
+    """Every number of workers gives the same bytes on random inputs."""
+    dice = random.Random(3)
+    for _ in range(count):
+        text = random_text(dice)
+        outputs = {subprocess.run([program, command, "--workers", str(workers)], input=text.encode(), capture_output=True,
+                                  timeout=60, check=True).stdout.decode() for workers in range(17)}
+        if len(outputs) != 1:
+            return f"{command} on {text!r}: {sorted(outputs)!r}"
+    return None
+
+
+def large_game(dice):
+    """The text of a game of up to sixty vertices, too large for a solver by the definitions."""
+    count = dice.randint(20, 60)
+    return naive.game_text({v: (dice.randint(0, 6), dice.randint(0, 1), dice.sample(range(count), dice.randint(1, 3)))
+                            for v in range(count)})
 
 
 def random_event(dice, game, script, made):
@@ -171,6 +190,11 @@ def cases(programs):
         name = os.path.basename(program)
         yield f"measure on random games ({name})", lambda p=program: answers_as_defined(p, "measure", naive.measure_text)
         yield f"solve on random games ({name})", lambda p=program: answers_as_defined(p, "solve", naive.solution_text)
+        for command in ("measure", "solve"):
+            yield (f"{command} by every number of workers ({name})",
+                   lambda p=program, c=command: workers_change_nothing(p, c, large_game))
+        yield (f"synth by every number of workers ({name})", lambda p=program: workers_change_nothing(
+            p, "synth", lambda dice: controllers.automaton_text(controllers.random_automaton(dice))))
         yield f"replay on random schedules ({name})", lambda p=program: replays_as_defined(p)
         yield f"solutions of the examples ({name})", lambda p=program: solutions_win(p)
         yield f"synth on random automata ({name})", lambda p=program: controllers_as_defined(p)
