@@ -2,10 +2,13 @@
 use Rattle.std.proofs.Common.{◌≡◌, ℕ, ◌<◌, List, [], ◌∷◌, Some, take, refl, ap, sym, inl, inr, subst}
 use Rattle.std.specs.declared.cmp.Ordering.{Ordering}
 use Rattle.std.specs.declared.cmp.Ordering.TheVariants.{Less, Equal, Greater}
-use Rattle.std.specs.Ordering.{MatchOrdering, nat_cmp, ordering_then}
+use Rattle.std.specs.Ordering.{MatchOrdering, nat_cmp, ordering_then, is_lt}
 use Rattle.std.specs.Cmp.Lexicographic.{slice_cmp}
 use Rattle.std.proofs.lemmas.Cmp.{ranked}
-use Rattle.pg_measure.specs.Measures.{BoundList, MeasureValue, ListBelow, IsBelow, width_from, measure_from}
+use Rattle.std.specs.Prelude.{MatchBool}
+use Rattle.pg_measure.specs.Measures.{BoundList, MeasureValue, ListBelow, ListAtMost, IsBelow, width_from, measure_from}
+use Rattle.pg_measure.proofs.Rows.{at_most_itself}
+use Rattle.pg_measure.proofs.Order.{below_at_most}
 
 cons_tells : (x y : ℕ) (xs ys : List ℕ) (o r : Ordering) → MatchOrdering o (x < y) (x ≡ y) (y < x) → MatchOrdering r (ListBelow xs ys) (xs ≡ ys) (ListBelow ys xs) → MatchOrdering (ordering_then o r) (ListBelow (x ∷ xs) (y ∷ ys)) (x ∷ xs ≡ y ∷ ys) (ListBelow (y ∷ ys) (x ∷ xs))
 cons_tells x y xs ys Less r h k = inl h
@@ -37,3 +40,9 @@ order_tells bs p w m n xs ys us vs r a b e f g h = rw (← a, ← b, ← e, ← 
 -- and on two measures
 pub measures_tell : (m n : MeasureValue) (xs ys : List ℕ) (r : Ordering) → Some xs ≡ m → Some ys ≡ n → r ≡ slice_cmp nat_cmp xs ys → MatchOrdering r (IsBelow m n) (m ≡ n) (IsBelow n m)
 measures_tell m n xs ys r a b h = rw (← a, ← b) (cmp_tells xs ys r h)
+
+-- and whether it is less
+pub tells_below : (xs ys : List ℕ) (r : Ordering) → MatchOrdering r (ListBelow xs ys) (xs ≡ ys) (ListBelow ys xs) → MatchBool (is_lt r) (ListBelow xs ys) (ListAtMost ys xs)
+tells_below xs ys Less h = h
+tells_below xs ys Equal h = subst (λ zs. ListAtMost zs xs) h (at_most_itself xs)
+tells_below xs ys Greater h = below_at_most ys xs h

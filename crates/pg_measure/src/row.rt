@@ -74,12 +74,7 @@ pub fn is_below(a: &[u32], b: &[u32]) -> bool
     requires { length a.now ≡ length b.now }
     ensures { MatchBool result (ListBelow a.now b.now) (ListAtMost b.now a.now) }
 {
-    for i in 0..a.len() {
-        if a[i] != b[i] {
-            return a[i] < b[i];
-        }
-    }
-    false
+    a.cmp(b).is_lt()
 }
 
 /// Whether the first row's first `width` components are less than the second's; top is above all.

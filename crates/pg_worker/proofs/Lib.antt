@@ -5,6 +5,7 @@ pub mod Working
 pub mod Steps
 pub mod Keeping
 pub mod Linking
+pub mod Gathering
 pub mod Packing
 pub mod Joining
 pub mod Taking

@@ -1,6 +1,6 @@
 -- Edges that are linked by their targets.
 use Rattle.std.proofs.Common.{◌≡◌, ◌≢◌, ℕ, zero, suc, ◌+◌, ◌<◌, ◌≤◌, ◌⊎◌, Bool, List, [], ◌∷◌, ◌++◌, length, get_or, set, refl, sym, ap, subst, ◌∙◌, arith, inl, inr, length-append, None}
-use Rattle.std.specs.Prelude.{Option, IsSome, unwrap_or}
+use Rattle.std.specs.Prelude.{◌↔◌, Option, IsSome, unwrap_or}
 use Rattle.std.proofs.lemmas.Bool.{cases_lt, cases_eq}
 use Rattle.std.proofs.lemmas.List.{get_or_default, get_or-set_same, get_or-set_other, get_or_push}
 use Rattle.std.proofs.Math.ListN.{get_or-append}
@@ -8,7 +8,7 @@ use Rattle.pg_measure.specs.Measures.{BoundList, MeasureValue}
 use Rattle.pg_map.specs.Lines.{Line, line_at}
 use Rattle.pg_worker.specs.declared.entry.Entry.{Entry}
 use Rattle.pg_worker.specs.Mirrors.Keeps.{IsAmong, IsKeptBut}
-use Rattle.pg_worker.specs.Mirrors.Edges.{entry_at, no_entry, AreLinked, AreEdges, IsLeft, IsAt, AreAdded}
+use Rattle.pg_worker.specs.Mirrors.Edges.{entry_at, no_entry, AreLinked, AreEdges, IsLeft, IsAt, Leads, AreAdded}
 
 before_at : (es : List Entry) (e : Entry) (i : ℕ) → i < length es → entry_at (es ++ e ∷ []) i ≡ entry_at es i
 before_at es e i lt = get_or-append es (e ∷ []) no_entry i lt
@@ -113,10 +113,6 @@ left_earlier last es x i v a lt t ne h =
 pub none_left : (es : List Entry) (x n v : ℕ) → n ≡ 0 → IsLeft es x n v → ⊥
 none_left es x n v e h = omega (arith, h.1)
 
--- who leads to x is left at first
-pub all_left : (lines : ℕ → Option Line) (es : List Entry) (x v : ℕ) → AreEdges lines es → IsSome (lines v) → IsAmong x (line_at lines v).successors → IsLeft es x (length es) v
-all_left lines es x v a s h = let k = a.all v x s h in (k.0, k.1, k.3, k.2)
-
 pub entry_read : (es : List Entry) (i : ℕ) (r : Entry) → i < length es → r ≡ get_or es i r → r ≡ entry_at es i
 entry_read es i r lt e = e ∙ get_or_default es i r no_entry lt
 
@@ -166,33 +162,48 @@ some_same lines lines' v l u n ne h = subst (λ (t : Option Line). IsSome t) (sy
 pub some_back : (lines lines' : ℕ → Option Line) (v : ℕ) (l : Line) (u : ℕ) → IsNewLine lines lines' v l → u ≢ v → IsSome (lines' u) → IsSome (lines u)
 some_back lines lines' v l u n ne h = subst (λ (t : Option Line). IsSome t) (n.others u ne) h
 
-held_after : (lines lines' : ℕ → Option Line) (v : ℕ) (l : Line) (es es' : List Entry) (j : ℕ) → (j < length es) ⊎ (length es ≤ j) → IsNewLine lines lines' v l → AreEdges lines es → AreAdded v l.successors (length l.successors) es es' → j < length es'
-    → IsSome (lines' (entry_at es' j).source) × IsAmong (entry_at es' j).target (line_at lines' (entry_at es' j).source).successors
-held_after lines lines' v l es es' j (inl less) n a d h =
-    let u = (entry_at es j).source in
-    let held = a.held j less in
-    let ne : u ≢ v = λ e. n.none (subst (λ (w : ℕ). IsSome (lines w)) e held) in
-    rw (d.kept j less) (some_same lines lines' v l u n ne held, subst (λ (t : Line). IsAmong (entry_at es j).target t.successors) (sym (line_same lines lines' v l u n ne)) (a.lead j less))
-held_after lines lines' v l es es' j (inr more) n a d h =
-    rw (d.source j more h) (n.some, subst (λ (t : Line). IsAmong (entry_at es' j).target t.successors) (sym n.line) (d.target j more h))
+lead_on : (lines lines' : ℕ → Option Line) (v : ℕ) (l : Line) (u x : ℕ) → IsNewLine lines lines' v l → IsSome (lines u) × IsAmong x (line_at lines u).successors → IsSome (lines' u) × IsAmong x (line_at lines' u).successors
+lead_on lines lines' v l u x n k =
+    let ne : u ≢ v = λ e. n.none (subst (λ (w : ℕ). IsSome (lines w)) e k.0) in
+    (some_same lines lines' v l u n ne k.0, subst (λ (t : Line). IsAmong x t.successors) (sym (line_same lines lines' v l u n ne)) k.1)
 
-abbrev OneEdge : List Entry → ℕ → ℕ → Type 0
-OneEdge es u x = (j : ℕ) × (j < length es) × ((entry_at es j).source ≡ u) × ((entry_at es j).target ≡ x)
+lead_after : (lines lines' : ℕ → Option Line) (v : ℕ) (l : Line) (es es' : List Entry) (starts sources : List ℕ) (u x : ℕ) (h : IsLeft es' x (length es') u) → (h.0 < length es) ⊎ (length es ≤ h.0)
+    → IsNewLine lines lines' v l → AreEdges lines es starts sources → AreAdded v l.successors (length l.successors) es es'
+    → IsSome (lines' u) × IsAmong x (line_at lines' u).successors
+lead_after lines lines' v l es es' starts sources u x h (inl less) n a d =
+    let b = d.kept h.0 less in
+    lead_on lines lines' v l u x n (a.lead u x (inl (h.0, less, ap (λ (t : Entry). t.target) (sym b) ∙ h.2, ap (λ (t : Entry). t.source) (sym b) ∙ h.3)))
+lead_after lines lines' v l es es' starts sources u x h (inr more) n a d =
+    let e : v ≡ u = sym (d.source h.0 more h.1) ∙ h.3 in
+    let k : IsAmong x l.successors = subst (λ (y : ℕ). IsAmong y l.successors) h.2 (d.target h.0 more h.1) in
+    subst (λ (w : ℕ). IsSome (lines' w) × IsAmong x (line_at lines' w).successors) e (n.some, subst (λ (t : Line). IsAmong x t.successors) (sym n.line) k)
 
-all_after : (lines lines' : ℕ → Option Line) (v : ℕ) (l : Line) (es es' : List Entry) (u x : ℕ) → (u ≡ v) ⊎ (u ≢ v) → IsNewLine lines lines' v l → AreEdges lines es → AreAdded v l.successors (length l.successors) es es'
-    → IsSome (lines' u) → IsAmong x (line_at lines' u).successors → OneEdge es' u x
-all_after lines lines' v l es es' u x (inl e) n a d s h =
+all_after : (lines lines' : ℕ → Option Line) (v : ℕ) (l : Line) (es es' : List Entry) (starts sources : List ℕ) (u x : ℕ) → (u ≡ v) ⊎ (u ≢ v) → IsNewLine lines lines' v l → AreEdges lines es starts sources → AreAdded v l.successors (length l.successors) es es'
+    → IsSome (lines' u) → IsAmong x (line_at lines' u).successors → Leads es' starts sources u x
+all_after lines lines' v l es es' starts sources u x (inl e) n a d s h =
     let i : IsAmong x l.successors = subst (λ (t : Line). IsAmong x t.successors) n.line (subst (λ (w : ℕ). IsAmong x (line_at lines' w).successors) e h) in
     let k = d.all i.0 i.2 in
-    (k.0, k.1, k.2 ∙ sym e, k.3 ∙ (sym (get_or_default l.successors i.0 i.1 0 i.2) ∙ (i.3 ∙ i.4)))
-all_after lines lines' v l es es' u x (inr ne) n a d s h =
-    let k = a.all u x (some_back lines lines' v l u n ne s) (subst (λ (t : Line). IsAmong x t.successors) (line_same lines lines' v l u n ne) h) in
-    let b = d.kept k.0 k.1 in
-    (k.0, omega (arith, k.1, d.more), ap (λ (t : Entry). t.source) b ∙ k.2, ap (λ (t : Entry). t.target) b ∙ k.3)
+    inl (k.0, k.1, k.3 ∙ (sym (get_or_default l.successors i.0 i.1 0 i.2) ∙ (i.3 ∙ i.4)), k.2 ∙ sym e)
+all_after lines lines' v l es es' starts sources u x (inr ne) n a d s h =
+    elim (a.all u x (some_back lines lines' v l u n ne s) (subst (λ (t : Line). IsAmong x t.successors) (line_same lines lines' v l u n ne) h)) [
+      | inl k ↦
+          let b = d.kept k.0 k.1 in
+          inl (k.0, omega (arith, k.1, d.more), ap (λ (t : Entry). t.target) b ∙ k.2, ap (λ (t : Entry). t.source) b ∙ k.3)
+      | inr k ↦ inr k
+    ]
 
-pub edges_after : (lines lines' : ℕ → Option Line) (v : ℕ) (l : Line) (es es' : List Entry) → IsNewLine lines lines' v l → AreEdges lines es → AreAdded v l.successors (length l.successors) es es' → AreEdges lines' es'
-edges_after lines lines' v l es es' n a d = record {
-  held = λ j h. (held_after lines lines' v l es es' j (cases_lt j (length es)) n a d h).0;
-  lead = λ j h. (held_after lines lines' v l es es' j (cases_lt j (length es)) n a d h).1;
-  all = λ u x s h. all_after lines lines' v l es es' u x (cases_eq u v) n a d s h;
+pub edges_after : (lines lines' : ℕ → Option Line) (v : ℕ) (l : Line) (es es' : List Entry) (starts sources : List ℕ) → IsNewLine lines lines' v l → AreEdges lines es starts sources → AreAdded v l.successors (length l.successors) es es' → AreEdges lines' es' starts sources
+edges_after lines lines' v l es es' starts sources n a d = record {
+  lead = λ u x h. elim h [
+    | inl k ↦ lead_after lines lines' v l es es' starts sources u x k (cases_lt k.0 (length es)) n a d
+    | inr k ↦ lead_on lines lines' v l u x n (a.lead u x (inr k))
+  ];
+  all = λ u x s h. all_after lines lines' v l es es' starts sources u x (cases_eq u v) n a d s h;
+}
+
+-- the same edges
+pub edges_same : (lines : ℕ → Option Line) (es es' : List Entry) (starts starts' sources sources' : List ℕ) → ((u x : ℕ) → Leads es' starts' sources' u x ↔ Leads es starts sources u x) → AreEdges lines es starts sources → AreEdges lines es' starts' sources'
+edges_same lines es es' starts starts' sources sources' same a = record {
+  lead = λ u x h. a.lead u x ((same u x).0 h);
+  all = λ u x s h. (same u x).1 (a.all u x s h);
 }

@@ -1,6 +1,6 @@
 -- What a worker remembers after a call.
 use Rattle.std.proofs.Common.{◌≡◌, ◌≢◌, ◌∙◌, ℕ, zero, suc, ◌+◌, ◌<◌, ◌≤◌, Bool, true, false, List, [], ◌∷◌, ◌++◌, length, get_or, set, subst, sym, refl, ap, arith, inl, inr, Some, None}
-use Rattle.std.specs.Prelude.{All, Option, IsSome, IfSome, IfNone, unwrap_or, replicate}
+use Rattle.std.specs.Prelude.{◌↔◌, All, Option, IsSome, IfSome, IfNone, unwrap_or, replicate}
 use Rattle.std.proofs.lemmas.Bool.{cases_eq}
 use Rattle.std.proofs.lemmas.List.{get_or-set_same, get_or-set_other, length-set, length-map}
 use Rattle.pg_map.specs.Mirrors.Tables.{IsBest}
@@ -10,22 +10,22 @@ use Rattle.pg_measure.specs.Measures.{BoundList, MeasureValue, width_from}
 use Rattle.pg_arena.specs.Games.{nowhere}
 use Rattle.pg_map.specs.Lines.{Line, AreWithin, line_at, vertex_line}
 use Rattle.pg_map.specs.Maps.{MapValue, measure_at}
-use Rattle.pg_worker.specs.declared.entry.Entry.{Entry}
+use Rattle.pg_worker.specs.declared.edges.Edges.{Edges}
 use Rattle.pg_worker.specs.declared.head.Head.{Head}
 use Rattle.pg_worker.specs.Mirrors.Parts.{PartValue, held_line, lines_in}
 use Rattle.pg_worker.specs.Mirrors.Keeps.{IsKept, Keeps, KeepsAt, IsForemost, nothing}
-use Rattle.pg_worker.specs.Mirrors.Edges.{AreAdded}
-use Rattle.pg_worker.proofs.Linking.{IsNewLine, line_same, some_back, edges_after}
+use Rattle.pg_worker.specs.Mirrors.Edges.{AreAdded, Leads}
+use Rattle.pg_worker.proofs.Linking.{IsNewLine, line_same, some_back, edges_after, edges_same}
 use Rattle.pg_worker.proofs.Keeping.{same_keeps, set_others, mark_is, never, kept_change}
 use Rattle.pg_wire.specs.declared.frame.VertexLine.{VertexLine}
 use Rattle.pg_worker.specs.Workers.{WorkerValue, told_line, with_lines, AreAbove}
 use Rattle.pg_map.specs.declared.update.Update.{Update}
 use Rattle.pg_worker.specs.Mirrors.Insides.{IsInside, IsNext, IsWhole}
 
-pub worker_after : (lines : PartValue) (map map' : MapValue) (last : List ℕ) (entries : List Entry) (marked marked' : List Bool) (best best' : List ℕ)
+pub worker_after : (lines : PartValue) (map map' : MapValue) (edges : Edges) (marked marked' : List Bool) (best best' : List ℕ)
     → map'.bounds ≡ map.bounds → length map'.measures ≡ length map.measures → length marked' ≡ length marked → length best' ≡ length best
-    → IsKept map.bounds (held_line lines) map'.measures marked' best' → IsInside lines map last entries marked best → IsInside lines map' last entries marked' best'
-worker_after lines map map' last entries marked marked' best best' b s m t kept w = record {
+    → IsKept map.bounds (held_line lines) map'.measures marked' best' → IsInside lines map edges marked best → IsInside lines map' edges marked' best'
+worker_after lines map map' edges marked marked' best best' b s m t kept w = record {
   within = subst (λ (n : ℕ). AreWithin n (held_line lines)) (sym s) w.within;
   lead = w.lead;
   targets = w.targets ∙ sym s;
@@ -47,17 +47,16 @@ line_held : (o : Option Line) (l d : Line) → o ≡ Some l → unwrap_or o d �
 line_held o l d e = ap (λ (t : Option Line). unwrap_or t d) e
 
 -- no vertices
-pub worker_empty : (lines : PartValue) (map : MapValue) (last : List ℕ) (marked : List Bool) (best : List ℕ) (es : List Entry) → es ≡ [] → ((v : ℕ) → held_line lines v ≡ None)
-    → length last ≡ length map.measures → length marked ≡ length map.measures → length best ≡ length map.measures → length lines.heads ≡ length map.measures → IsInside lines map last es marked best
-worker_empty lines map last marked best es none held a b c d = record {
+pub worker_empty : (lines : PartValue) (map : MapValue) (edges : Edges) (marked : List Bool) (best : List ℕ) → ((u x : ℕ) → Leads edges.entries.items edges.starts.items edges.sources.items u x → ⊥) → ((v : ℕ) → held_line lines v ≡ None)
+    → length edges.last.items ≡ length map.measures → length marked ≡ length map.measures → length best ≡ length map.measures → length lines.heads ≡ length map.measures → IsInside lines map edges marked best
+worker_empty lines map edges marked best none held a b c d = record {
   within = record {
     numbers = λ v s. absurd (none_held (held_line lines v) (held v) s);
     successors = λ v s. absurd (none_held (held_line lines v) (held v) s);
     nonempty = λ v s. absurd (none_held (held_line lines v) (held v) s);
   };
   lead = record {
-    held = λ j h. absurd (let q : length es ≡ 0 = ap length none in omega arith);
-    lead = λ j h. absurd (let q : length es ≡ 0 = ap length none in omega arith);
+    lead = λ u x h. absurd (none u x h);
     all = λ u x s. absurd (none_held (held_line lines u) (held u) s);
   };
   targets = a;
@@ -108,13 +107,13 @@ kept_after bs lines lines' v l f marked marked' best best' b new k lt mark choic
     ]
 
 -- a vertex more
-pub worker_more : (lines lines' : PartValue) (map : MapValue) (last last' : List ℕ) (es es' : List Entry) (marked marked' : List Bool) (best best' : List ℕ) (v b : ℕ) (l : Line)
+pub worker_more : (lines lines' : PartValue) (map : MapValue) (edges edges' : Edges) (marked marked' : List Bool) (best best' : List ℕ) (v b : ℕ) (l : Line)
     → IsNewLine (held_line lines) (held_line lines') v l → v < length map.measures → All (λ w. w < length map.measures) l.successors → 0 < length l.successors → Keeps map.bounds (line_at (held_line lines') v) map.measures nothing (measure_at map.measures v) true b
-    → length lines'.heads ≡ length lines.heads → length last' ≡ length last → AreAdded v l.successors (length l.successors) es es' → marked' ≡ set marked v true → best' ≡ set best v b → get_or best' v 0 ≡ b
-    → IsInside lines map last es marked best → IsInside lines' map last' es' marked' best'
-worker_more lines lines' map last last' es es' marked marked' best best' v b l new lt ss ne k heads size added mark choice here w = record {
+    → length lines'.heads ≡ length lines.heads → length edges'.last.items ≡ length edges.last.items → AreAdded v l.successors (length l.successors) edges.entries.items edges'.entries.items → edges'.starts.items ≡ edges.starts.items → edges'.sources.items ≡ edges.sources.items → marked' ≡ set marked v true → best' ≡ set best v b → get_or best' v 0 ≡ b
+    → IsInside lines map edges marked best → IsInside lines' map edges' marked' best'
+worker_more lines lines' map edges edges' marked marked' best best' v b l new lt ss ne k heads size added begin sources mark choice here w = record {
   within = within_after (held_line lines) (held_line lines') v (length map.measures) l new lt ss ne w.within;
-  lead = edges_after (held_line lines) (held_line lines') v l es es' new w.lead added;
+  lead = rw (begin, sources) (edges_after (held_line lines) (held_line lines') v l edges.entries.items edges'.entries.items edges.starts.items edges.sources.items new w.lead added);
   targets = size ∙ w.targets;
   work = ap length mark ∙ (length-set marked v true ∙ w.work);
   best = ap length choice ∙ (length-set best v b ∙ w.best);
@@ -153,22 +152,21 @@ pub with_lines_more : (ls : List (Option Line)) (ys : List VertexLine) (y : Vert
 with_lines_more ls [] y = refl
 with_lines_more ls (x ∷ xs) y = with_lines_more (set ls x.vertex (Some (told_line x))) xs y
 
--- more room for successors
-pub inside_same : (p p' : PartValue) (map : MapValue) (last last' : List ℕ) (es es' : List Entry) (marked : List Bool) (best : List ℕ) → p'.heads ≡ p.heads → p'.targets ≡ p.targets → last' ≡ last → es' ≡ es → IsInside p map last es marked best → IsInside p' map last' es' marked best
-inside_same p p' map last last' es es' marked best h t l e i =
-    let at : IsInside (record { heads = p.heads; targets = p.targets; room = p'.room }) map last es marked best = record {
+-- more room for successors, and the same edges
+pub inside_same : (p p' : PartValue) (map : MapValue) (edges edges' : Edges) (marked : List Bool) (best : List ℕ) → p'.heads ≡ p.heads → p'.targets ≡ p.targets → length edges'.last.items ≡ length edges.last.items
+    → ((u x : ℕ) → Leads edges'.entries.items edges'.starts.items edges'.sources.items u x ↔ Leads edges.entries.items edges.starts.items edges.sources.items u x) → IsInside p map edges marked best → IsInside p' map edges' marked best
+inside_same p p' map edges edges' marked best h t size same i =
+    let at : IsInside (record { heads = p.heads; targets = p.targets; room = p'.room }) map edges' marked best = record {
       within = i.within;
-      lead = i.lead;
-      targets = i.targets;
+      lead = edges_same (held_line p) edges.entries.items edges'.entries.items edges.starts.items edges'.starts.items edges.sources.items edges'.sources.items same i.lead;
+      targets = size ∙ i.targets;
       work = i.work;
       best = i.best;
       kept = i.kept;
       heads = i.heads;
     } in
-    let a : IsInside (record { heads = p'.heads; targets = p.targets; room = p'.room }) map last es marked best = subst (λ (hs : List Head). IsInside (record { heads = hs; targets = p.targets; room = p'.room }) map last es marked best) (sym h) at in
-    let b : IsInside p' map last es marked best = subst (λ (ts : List ℕ). IsInside (record { heads = p'.heads; targets = ts; room = p'.room }) map last es marked best) (sym t) a in
-    let c : IsInside p' map last' es marked best = subst (λ (xs : List ℕ). IsInside p' map xs es marked best) (sym l) b in
-    subst (λ (xs : List Entry). IsInside p' map last' xs marked best) (sym e) c
+    let a : IsInside (record { heads = p'.heads; targets = p.targets; room = p'.room }) map edges' marked best = subst (λ (hs : List Head). IsInside (record { heads = hs; targets = p.targets; room = p'.room }) map edges' marked best) (sym h) at in
+    subst (λ (ts : List ℕ). IsInside (record { heads = p'.heads; targets = ts; room = p'.room }) map edges' marked best) (sym t) a
 
 pub next_same : (p p' : PartValue) (n : ℕ) → p'.heads ≡ p.heads → p'.targets ≡ p.targets → IsNext p n → IsNext p' n
 next_same p p' n h t i =
@@ -176,9 +174,10 @@ next_same p p' n h t i =
     let a : IsNext (record { heads = p'.heads; targets = p.targets; room = p'.room }) n = subst (λ (hs : List Head). IsNext (record { heads = hs; targets = p.targets; room = p'.room }) n) (sym h) at in
     subst (λ (ts : List ℕ). IsNext (record { heads = p'.heads; targets = ts; room = p'.room }) n) (sym t) a
 
-pub whole_same : (p p' : PartValue) (map : MapValue) (last last' : List ℕ) (es es' : List Entry) (marked : List Bool) (best : List ℕ) (next listings : ℕ) (row : List ℕ) → p'.heads ≡ p.heads → p'.targets ≡ p.targets → last' ≡ last → es' ≡ es → IsWhole p map last es marked best next listings row → IsWhole p' map last' es' marked best next listings row
-whole_same p p' map last last' es es' marked best next listings row h t l e w = record {
-  inside = inside_same p p' map last last' es es' marked best h t l e w.inside;
+pub whole_same : (p p' : PartValue) (map : MapValue) (edges edges' : Edges) (marked : List Bool) (best : List ℕ) (next listings : ℕ) (row : List ℕ) → p'.heads ≡ p.heads → p'.targets ≡ p.targets → length edges'.last.items ≡ length edges.last.items
+    → ((u x : ℕ) → Leads edges'.entries.items edges'.starts.items edges'.sources.items u x ↔ Leads edges.entries.items edges.starts.items edges.sources.items u x) → IsWhole p map edges marked best next listings row → IsWhole p' map edges' marked best next listings row
+whole_same p p' map edges edges' marked best next listings row h t size same w = record {
+  inside = inside_same p p' map edges edges' marked best h t size same w.inside;
   above = next_same p p' next h t w.above;
   listed = w.listed;
   clear = w.clear;
@@ -216,11 +215,11 @@ settled_kept bs lines f marked best best' v e on here kept =
     kept
 
 -- after a call that changes the map
-pub whole_after : (lines : PartValue) (map map' : MapValue) (last : List ℕ) (entries : List Entry) (marked marked' : List Bool) (best best' : List ℕ) (next listings : ℕ) (row : List ℕ)
+pub whole_after : (lines : PartValue) (map map' : MapValue) (edges : Edges) (marked marked' : List Bool) (best best' : List ℕ) (next listings : ℕ) (row : List ℕ)
     → map'.bounds ≡ map.bounds → length map'.measures ≡ length map.measures → length marked' ≡ length marked → length best' ≡ length best
-    → IsKept map.bounds (held_line lines) map'.measures marked' best' → IsWhole lines map last entries marked best next listings row → IsWhole lines map' last entries marked' best' next listings row
-whole_after lines map map' last entries marked marked' best best' next listings row b s m t kept w = record {
-  inside = worker_after lines map map' last entries marked marked' best best' b s m t kept w.inside;
+    → IsKept map.bounds (held_line lines) map'.measures marked' best' → IsWhole lines map edges marked best next listings row → IsWhole lines map' edges marked' best' next listings row
+whole_after lines map map' edges marked marked' best best' next listings row b s m t kept w = record {
+  inside = worker_after lines map map' edges marked marked' best best' b s m t kept w.inside;
   above = w.above;
   listed = w.listed ∙ sym s;
   clear = w.clear ∙ ap (λ (bs : BoundList). replicate (length bs) 0) (sym b);

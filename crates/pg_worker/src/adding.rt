@@ -1,6 +1,6 @@
 //! Vertices that are added to a part.
 
-ghost use Rattle.std.specs.Prelude.{◌≡◌, ◌↔◌, true, ◌+◌, ◌<◌, ◌≤◌, Some, length, sum_by, slice_set, All, AllPairs, IsSome, IfSome, IsTrue, vec_capacity};
+ghost use Rattle.std.specs.Prelude.{◌≡◌, ◌↔◌, ℕ, true, ◌+◌, ◌<◌, ◌≤◌, Some, length, sum_by, slice_set, All, AllPairs, IsSome, IfSome, IsTrue};
 ghost use Rattle.pg_arena.specs.declared.player.Player.TheVariants.{Odd};
 ghost use Rattle.pg_measure.specs.Measures.{width_from};
 ghost use Rattle.pg_wire.specs.Well.{IsVertexLine};
@@ -10,7 +10,7 @@ ghost use Rattle.pg_worker.specs.Workers.{told_line, with_lines, player, HasBoun
 ghost use Rattle.pg_worker.specs.Mirrors.Parts.{lines_in, held_line};
 ghost use Rattle.pg_map.specs.Mirrors.Tables.{IsBest};
 ghost use Rattle.pg_worker.specs.Mirrors.Keeps.{Keeps, nothing};
-ghost use Rattle.pg_worker.specs.Mirrors.Insides.{IsInside, IsNext, edge_count};
+ghost use Rattle.pg_worker.specs.Mirrors.Insides.{IsInside, IsNext, HasRoom, edge_count};
 
 use crate::edges::Edges;
 use crate::part::Part;
@@ -68,18 +68,17 @@ fn add_line(
     best: &mut [Vertex],
     line: &VertexLine,
 )
-    requires inside { IsInside part.old map.now edges.old.last.items edges.old.entries.items work.old best.old }
+    requires inside { IsInside part.old map.now edges.old work.old best.old }
     requires new { ¬ (IsSome (held_line part.old line.now.vertex)) }
     requires fits { FitsGame map.now.bounds (length map.now.measures) line.now }
     requires line { IsVertexLine line.now }
     requires part_room { length part.old.targets + length line.now.successors ≤ part.old.room }
-    requires edge_room { length edges.old.entries.items + length line.now.successors ≤ vec_capacity edges.old.entries }
-    ensures inside { IsInside part.new map.now edges.new.last.items edges.new.entries.items work.new best.new }
+    requires edge_room { HasRoom edges.old (length line.now.successors) }
+    ensures inside { IsInside part.new map.now edges.new work.new best.new }
     ensures lines { lines_in part.new ≡ slice_set (lines_in part.old) line.now.vertex (Some (told_line line.now)) }
     ensures targets { length part.new.targets ≡ length part.old.targets + length line.now.successors }
     ensures part_room { part.new.room ≡ part.old.room }
-    ensures entries { length edges.new.entries.items ≡ length edges.old.entries.items + length line.now.successors }
-    ensures edge_room { vec_capacity edges.new.entries ≡ vec_capacity edges.old.entries }
+    ensures edge_room { (n : ℕ) → HasRoom edges.old (n + length line.now.successors) → HasRoom edges.new n }
 {
     let v = Vertex(line.vertex);
     let successors = line.successors.as_slice();
@@ -99,15 +98,15 @@ pub(crate) fn add_lines(
     next: &mut u64,
     lines: &[VertexLine],
 )
-    requires inside { IsInside part.old map.now edges.old.last.items edges.old.entries.items work.old best.old }
+    requires inside { IsInside part.old map.now edges.old work.old best.old }
     requires next { IsNext part.old next.old }
     requires above { All (λ l. next.old ≤ l.vertex) lines.now }
     requires fit { All (FitsGame map.now.bounds (length map.now.measures)) lines.now }
     requires lines { All IsVertexLine lines.now }
     requires rising { AllPairs (λ l m. l.vertex < m.vertex) lines.now }
     requires part_room { length part.old.targets + sum_by edge_count lines.now ≤ part.old.room }
-    requires edge_room { length edges.old.entries.items + sum_by edge_count lines.now ≤ vec_capacity edges.old.entries }
-    ensures inside { IsInside part.new map.now edges.new.last.items edges.new.entries.items work.new best.new }
+    requires edge_room { HasRoom edges.old (sum_by edge_count lines.now) }
+    ensures inside { IsInside part.new map.now edges.new work.new best.new }
     ensures next { IsNext part.new next.new }
     ensures lines { lines_in part.new ≡ with_lines (lines_in part.old) lines.now }
     ensures best { length best.new ≡ length best.old }

@@ -34,7 +34,8 @@ pub(crate) fn take<G: Lines>(
     requires v { v < length map.old.measures }
     requires fits { Fits map.old.bounds (measure_in m) }
     requires within { AreWithin (length map.old.measures) (G.line lines.now) }
-    requires edges { AreEdges (G.line lines.now) edges.now.entries.items }
+    requires edges { AreEdges (G.line lines.now)
+        edges.now.entries.items edges.now.starts.items edges.now.sources.items }
     requires targets { length edges.now.last.items ≡ length map.old.measures }
     requires work { length work.old ≡ length map.old.measures }
     requires best { length best.old ≡ length map.old.measures }
@@ -68,7 +69,8 @@ pub(crate) fn lift_ready<G: Lines>(
     v: Vertex,
 )
     requires within { AreWithin (length map.old.measures) (G.line lines.now) }
-    requires edges { AreEdges (G.line lines.now) edges.now.entries.items }
+    requires edges { AreEdges (G.line lines.now)
+        edges.now.entries.items edges.now.starts.items edges.now.sources.items }
     requires targets { length edges.now.last.items ≡ length map.old.measures }
     requires work { length work.old ≡ length map.old.measures }
     requires best { length best.old ≡ length map.old.measures }
@@ -130,7 +132,8 @@ pub(crate) fn lift_some<G: Lines>(
     budget: u32,
 ) -> Result<bool, AllocError>
     requires within { AreWithin (length map.old.measures) (G.line lines.now) }
-    requires edges { AreEdges (G.line lines.now) edges.now.entries.items }
+    requires edges { AreEdges (G.line lines.now)
+        edges.now.entries.items edges.now.starts.items edges.now.sources.items }
     requires targets { length edges.now.last.items ≡ length map.old.measures }
     requires work { length work.old ≡ length map.old.measures }
     requires best { length best.old ≡ length map.old.measures }
@@ -179,7 +182,8 @@ pub(crate) fn lift_turn<G: Lines>(
     budget: u32,
 ) -> bool
     requires within { AreWithin (length map.old.measures) (G.line lines.now) }
-    requires edges { AreEdges (G.line lines.now) edges.now.entries.items }
+    requires edges { AreEdges (G.line lines.now)
+        edges.now.entries.items edges.now.starts.items edges.now.sources.items }
     requires targets { length edges.now.last.items ≡ length map.old.measures }
     requires work { length work.old ≡ length map.old.measures }
     requires best { length best.old ≡ length map.old.measures }
@@ -222,7 +226,8 @@ pub(crate) fn lift_one<G: Lines>(
 ) -> Result<Option<Update>, AllocError>
     requires held { IsSome (G.line lines.now v) }
     requires within { AreWithin (length map.old.measures) (G.line lines.now) }
-    requires edges { AreEdges (G.line lines.now) edges.now.entries.items }
+    requires edges { AreEdges (G.line lines.now)
+        edges.now.entries.items edges.now.starts.items edges.now.sources.items }
     requires targets { length edges.now.last.items ≡ length map.old.measures }
     requires work { length work.old ≡ length map.old.measures }
     requires best { length best.old ≡ length map.old.measures }
@@ -272,7 +277,8 @@ pub(crate) fn receive<G: Lines>(
     measure: View,
 ) -> Result<bool, WorkerFault>
     requires within { AreWithin (length map.old.measures) (G.line lines.now) }
-    requires edges { AreEdges (G.line lines.now) edges.now.entries.items }
+    requires edges { AreEdges (G.line lines.now)
+        edges.now.entries.items edges.now.starts.items edges.now.sources.items }
     requires targets { length edges.now.last.items ≡ length map.old.measures }
     requires work { length work.old ≡ length map.old.measures }
     requires best { length best.old ≡ length map.old.measures }

@@ -14,17 +14,19 @@ use std::marker::Model;
 #[derive(Drop)]
 pub struct Part {
     heads: Vec<Head>,
+    /// The owners again, close together: lifts ask for most of them alone.
+    owners: Vec<Player>,
     targets: Vec<Vertex>,
 }
 
 impl Model for Part {
-    ghost use Rattle.pg_worker.specs.Mirrors.Parts.{PartValue, AreHeld};
+    ghost use Rattle.pg_worker.specs.Mirrors.Parts.{PartValue, AreHeld, AreOwners};
 
     ghost Value = { PartValue };
 
     ghost view = { λ p. record { heads = p.heads.items; targets = p.targets.items; room = p.targets.cap } };
 
-    ghost invariant = { λ p. AreHeld p.heads.items p.targets.items };
+    ghost invariant = { λ p. AreHeld p.heads.items p.targets.items × AreOwners p.heads.items p.owners.items };
 }
 
 impl Part {
@@ -41,6 +43,7 @@ impl Part {
         };
         Ok(Part {
             heads: vec![in alloc; head; count as usize]?,
+            owners: vec![in alloc; Player::Even; count as usize]?,
             targets: Vec::new(alloc),
         })
     }
@@ -75,6 +78,7 @@ impl Part {
             start,
             count: successors.len(),
         };
+        self.owners[v.0 as usize] = owner;
     }
 }
 
@@ -93,7 +97,7 @@ impl Lines for Part {
     }
 
     fn owner(&self, v: Vertex) -> Player {
-        self.heads[v.0 as usize].owner
+        self.owners[v.0 as usize]
     }
 
     fn successors(&self, v: Vertex) -> &[Vertex] {

@@ -2,7 +2,7 @@
 
 ghost use Rattle.std.specs.Prelude.{◌≡◌, ℕ, ◌<◌, length, IsSome};
 ghost use Rattle.pg_map.specs.Lines.{AreWithin, line_at};
-ghost use Rattle.pg_worker.specs.Mirrors.Edges.{AreEdges, IsLeft};
+ghost use Rattle.pg_worker.specs.Mirrors.Edges.{AreEdges, IsLeft, Leads};
 ghost use Rattle.pg_worker.specs.Mirrors.Keeps.{IsAmong, KeepsAt, IsKept, IsKeptBut, AreSameBut, nothing, just};
 
 use crate::edges::Edges;
@@ -49,8 +49,8 @@ pub(crate) fn touch<G: Lines>(
     }
 }
 
-/// Looks at each vertex that x, which has risen, is a successor of.
-pub(crate) fn touch_all<G: Lines>(
+/// Looks at each vertex that x, which has risen, is a successor of by an edge that is linked.
+fn touch_linked<G: Lines>(
     map: &MeasureMap,
     lines: &G,
     edges: &Edges,
@@ -59,7 +59,8 @@ pub(crate) fn touch_all<G: Lines>(
     x: Vertex,
 )
     requires within { AreWithin (length map.now.measures) (G.line lines.now) }
-    requires edges { AreEdges (G.line lines.now) edges.now.entries.items }
+    requires edges { AreEdges (G.line lines.now)
+        edges.now.entries.items edges.now.starts.items edges.now.sources.items }
     requires targets { length edges.now.last.items ≡ length map.now.measures }
     requires x { x < length map.now.measures }
     requires work { length work.old ≡ length map.now.measures }
@@ -72,8 +73,37 @@ pub(crate) fn touch_all<G: Lines>(
 {
     let mut at = edges.last[x.0 as usize];
     while at > 0 {
-        let entry = edges.entries[at - 1];
+        let entry = edges.entries[at as usize - 1];
         touch(map, lines, work, best, entry.source, x);
         at = entry.earlier;
     }
+}
+
+/// Looks at each vertex that x, which has risen, is a successor of.
+pub(crate) fn touch_all<G: Lines>(
+    map: &MeasureMap,
+    lines: &G,
+    edges: &Edges,
+    work: &mut Worklist,
+    best: &mut [Vertex],
+    x: Vertex,
+)
+    requires within { AreWithin (length map.now.measures) (G.line lines.now) }
+    requires edges { AreEdges (G.line lines.now)
+        edges.now.entries.items edges.now.starts.items edges.now.sources.items }
+    requires targets { length edges.now.last.items ≡ length map.now.measures }
+    requires x { x < length map.now.measures }
+    requires work { length work.old ≡ length map.now.measures }
+    requires best { length best.old ≡ length map.now.measures }
+    requires kept { IsKeptBut map.now.bounds (G.line lines.now) map.now.measures work.old best.old x
+        (λ u. Leads edges.now.entries.items edges.now.starts.items edges.now.sources.items u x) }
+    ensures work { length work.new ≡ length work.old }
+    ensures best { length best.new ≡ length best.old }
+    ensures kept { IsKept map.now.bounds (G.line lines.now) map.now.measures work.new best.new }
+{
+    let sources = edges.gathered(x);
+    for u in sources {
+        touch(map, lines, work, best, *u, x);
+    }
+    touch_linked(map, lines, edges, work, best, x);
 }

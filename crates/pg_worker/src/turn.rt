@@ -140,7 +140,11 @@ pub fn turn(
     ensures kept { Extends out.old.items out.new.items }
 {
     match frame {
-        Frame::Setup(setup) => Ok(Some(set_up(alloc, highest, setup, out)?)),
+        Frame::Setup(setup) => {
+            // its memory is there for the new worker
+            drop(held);
+            Ok(Some(set_up(alloc, highest, setup, out)?))
+        }
         Frame::Halt => Ok(None),
         Frame::Vertices(vertices) => {
             let held = held.ok_or(WorkerFault::Order)?;

@@ -53,7 +53,7 @@ impl Model for Worker {
 
     ghost view = { λ w. record { bounds = w.map.bounds; lines = lines_in w.part; map = w.map.measures; kept = w.kept.items; lifted = w.lifted.vertices } };
 
-    ghost invariant = { λ w. IsWhole w.part w.map w.edges.last.items w.edges.entries.items w.work w.best.items w.next w.lifted.count w.row.items };
+    ghost invariant = { λ w. IsWhole w.part w.map w.edges w.work w.best.items w.next w.lifted.count w.row.items };
 }
 
 impl Worker {
@@ -81,7 +81,8 @@ impl Worker {
 
     /// Adds vertices to the part, whose numbers rise, within the call and across calls. It is refused by Order exactly where
     /// they aren't above those of the part, and then by BadUpdate exactly where the number of a vertex or of a successor
-    /// isn't below the count, or an odd priority has no bound; else for want of memory only. After a refusal nothing has changed.
+    /// isn't below the count, or an odd priority has no bound; else for want of memory only, also where the edges of the
+    /// part would be 2^32 or more. After a refusal nothing has changed.
     pub fn add_vertices(&mut self, lines: &[VertexLine]) -> Result<(), WorkerFault>
         requires { IsVertices (record { lines = lines.now }) }
         ensures added { OnOk result (self.new ≡ record self.old { lines = with_lines self.old.lines lines.now }) }
@@ -111,6 +112,13 @@ impl Worker {
         Ok(())
     }
 
+    /// Gathers the edges by their targets.
+    fn gather(&mut self)
+        ensures { self.new ≡ self.old }
+    {
+        self.edges.gather();
+    }
+
     /// Joins the map with an update. True exactly if the value rose. It is refused by BadUpdate exactly where the vertex isn't
     /// below the count or the measure doesn't fit the bounds; then nothing has changed. It takes no memory.
     pub fn take(&mut self, update: &Update) -> Result<bool, WorkerFault>
@@ -129,6 +137,7 @@ impl Worker {
         ensures refused { IfErr result (λ e. e ≡ WorkerFault.BadUpdate) }
         ensures same { OnErr result (self.new ≡ self.old) }
     {
+        self.gather();
         receive(
             &mut self.map,
             &self.part,
@@ -157,6 +166,7 @@ impl Worker {
         let Some(pairs) = pairs else {
             return self.take_value(vertex, View::Top);
         };
+        self.gather();
         fill(&mut self.row, pairs);
         let answer = receive(
             &mut self.map,
@@ -183,6 +193,7 @@ impl Worker {
             ⊎ ((e ≡ WorkerFault.NotMine) × ¬ (IsSome (part_line self.old.lines v)))) }
         ensures same { OnErr result (self.new ≡ self.old) }
     {
+        self.gather();
         if !self.part.holds(v) {
             return Err(WorkerFault::NotMine);
         }
@@ -208,6 +219,7 @@ impl Worker {
         ensures broken_off { OnErr result (Lifts self.old self.new self.new.kept × (length self.new.kept ≤ budget)) }
         ensures lifted { self.new.lifted ≡ self.old.lifted }
     {
+        self.gather();
         self.kept.clear();
         let quiet = lift_some(
             &mut self.map,
@@ -228,6 +240,7 @@ impl Worker {
     pub fn lift_turn(&mut self, budget: u32) -> bool
         ensures { IsListedTurn self.old self.new budget result }
     {
+        self.gather();
         self.lifted.clear();
         let quiet = lift_turn(
             &mut self.map,

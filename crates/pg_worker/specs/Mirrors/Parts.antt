@@ -1,6 +1,6 @@
 -- The lines of a part in flat lists.
 use Rattle.std.proofs.Common.{zero, suc}
-use Rattle.std.specs.Prelude.{ℕ, ◌+◌, ◌≤◌, List, length, map, take, drop, All, Option, Some, None}
+use Rattle.std.specs.Prelude.{◌≡◌, ℕ, ◌+◌, ◌≤◌, List, length, map, take, drop, All, Option, Some, None}
 use Rattle.pg_arena.specs.declared.player.Player.{Player}
 use Rattle.pg_arena.specs.declared.player.Player.TheVariants.{Even}
 use Rattle.pg_map.specs.Lines.{Line, line_of}
@@ -35,3 +35,7 @@ held_line part v = part_line (lines_in part) v
 -- the successors stand within the list
 abbrev pub AreHeld : List Head → List ℕ → Type 0
 AreHeld heads targets = All (λ h. h.start + h.count ≤ length targets) heads
+
+-- the owners of the vertices
+abbrev pub AreOwners : List Head → List Player → Type 0
+AreOwners heads owners = owners ≡ map (λ h. h.owner) heads

@@ -20,5 +20,8 @@ returns-clause-inside c =
     let new : IsNewLine (held_line part) (held_line part') v l = new_line_set part part' v l (rw (c.player.ensures, c.as_slice-successors.ensures) at c.add.ensures.lines) (omega arith) c.requires.new in
     let b = c.first_best.result in
     let q : v < length c.args.best.now = let z = i.best in omega arith in
-    rw c.v.view_is (worker_more part part' map c.args.edges.now.last.items c.add_all.new.self.last.items c.args.edges.now.entries.items c.add_all.new.self.entries.items
-    c.args.work.now c.add-2.new.self c.args.best.now (set c.args.best.now v b) v b l new lt c.requires.fits.successors (omega (arith, c.requires.line.some)) c.first_best.ensures c.add.ensures.size c.add_all.ensures.size (rw c.as_slice-successors.ensures at c.add_all.ensures.added) (rw c.v.view_is at c.add-2.ensures) refl (get_or-set_same c.args.best.now v b 0 q) i)
+    rw c.v.view_is (worker_more part part' map c.args.edges.now c.add_all.new.self
+    c.args.work.now c.add-2.new.self c.args.best.now (set c.args.best.now v b) v b l new lt c.requires.fits.successors (omega (arith, c.requires.line.some)) c.first_best.ensures c.add.ensures.size c.add_all.ensures.size (rw c.as_slice-successors.ensures at c.add_all.ensures.added) c.add_all.ensures.starts c.add_all.ensures.sources (rw c.v.view_is at c.add-2.ensures) refl (get_or-set_same c.args.best.now v b 0 q) i)
+
+pub returns-clause-edge_room : goal.returns-clause-edge_room
+returns-clause-edge_room c = rw c.as_slice-successors.ensures at c.add_all.ensures.room

@@ -1,11 +1,12 @@
-use Rattle.std.proofs.Common.{◌≡◌, ◌<◌, ◌∷◌, ◌++◌, [], ◌+◌, ◌∙◌, length, take, get_or, set, ◌≤◌, sym, ap, subst, arith, Some}
+use Rattle.std.proofs.Common.{◌≡◌, ◌<◌, ◌∷◌, ◌++◌, [], ℕ, ◌+◌, ◌∙◌, length, take, drop, get_or, set, ◌≤◌, sym, ap, subst, arith, Some}
+use Rattle.std.specs.Prelude.{sum_by}
 use Rattle.std.proofs.lemmas.List.{get_or_default}
 use Rattle.std.proofs.lemmas.Grind.{take_at_read}
 use Rattle.std.proofs.lemmas.List.Sums.{sum_by-drop_more}
 use Rattle.pg_wire.specs.declared.frame.VertexLine.{VertexLine}
 use Rattle.pg_worker.specs.Workers.{told_line, with_lines, FitsGame}
 use Rattle.pg_worker.specs.Mirrors.Parts.{lines_in}
-use Rattle.pg_worker.specs.Mirrors.Insides.{IsNext, edge_count}
+use Rattle.pg_worker.specs.Mirrors.Insides.{IsNext, HasRoom, edge_count}
 use Rattle.pg_worker.proofs.Working.{next_after, with_lines_more, lines_size}
 use Rattle.pg_worker.proofs.adding.add_lines.Goals as goal
 
@@ -34,5 +35,5 @@ loop-line-preserved c =
       above = λ j d le less. let r = subst (λ (y : VertexLine). y.vertex < (get_or xs j d).vertex) (here d) (c.requires.rising i j d (omega arith) less) in let f = c.from.ensures in omega arith;
       lines = c.add_line.ensures.lines ∙ (ap (λ ls. set ls x.vertex (Some (told_line x))) inv.lines ∙ (sym (with_lines_more (lines_in c.args.part.now) (take i xs) x) ∙ ap (with_lines (lines_in c.args.part.now)) (sym taken)));
       part_room = omega (arith, inv.part_room, c.add_line.ensures.targets, c.add_line.ensures.part_room);
-      edge_room = omega (arith, inv.edge_room, c.add_line.ensures.entries, c.add_line.ensures.edge_room);
+      edge_room = c.add_line.ensures.edge_room (sum_by edge_count (drop (i + 1) xs)) (subst (λ (n : ℕ). HasRoom c.loop-line.edges n) (let q : sum_by edge_count (drop i xs) ≡ sum_by edge_count (drop (i + 1) xs) + edge_count x = omega arith in q) inv.edge_room);
     }

@@ -1,15 +1,11 @@
 use Rattle.std.proofs.Common.{◌≡◌, length}
-use Rattle.pg_worker.specs.Mirrors.Edges.{IsLeft, IsAt}
+use Rattle.pg_worker.specs.Mirrors.Edges.{IsToSee}
 use Rattle.pg_worker.specs.Mirrors.Keeps.{IsKeptBut}
 use Rattle.pg_worker.proofs.touch.touch_all.Given as goal
 
-abbrev pub invariant-loop-at : goal.invariant-loop-at
-invariant-loop-at g l = record {
+abbrev pub invariant-loop-u : goal.invariant-loop-u
+invariant-loop-u g l = record {
   work : length l.work ≡ length l.initial.work;
   best : length l.best ≡ length l.initial.best;
-  at : IsAt l.edges.entries.items l.x l.at;
-  kept : IsKeptBut l.map.bounds (g.G.Lines.line l.lines) l.map.measures l.work l.best l.x (IsLeft l.edges.entries.items l.x l.at);
+  kept : IsKeptBut l.map.bounds (g.G.Lines.line l.lines) l.map.measures l.work l.best l.x (IsToSee l.edges.entries.items l.x l.sources l.u-index);
 }
-
-abbrev pub decreases-loop-at : goal.decreases-loop-at
-decreases-loop-at g l = l.at

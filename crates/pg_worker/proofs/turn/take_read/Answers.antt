@@ -1,4 +1,4 @@
-use Rattle.std.proofs.Common.{Some, true, length, ap, sym, ◌∙◌, rules, inr}
+use Rattle.std.proofs.Common.{Some, true, length, ap, sym, ◌∙◌, rules, inr, refl}
 use Rattle.std.proofs.lemmas.Result.{err_from_is_err_and}
 use Rattle.pg_worker.specs.Workers.{WorkerValue}
 use Rattle.pg_worker.proofs.turn.take_read.Goals as goal
@@ -18,3 +18,10 @@ returns-clause-turn c = λ ms h.
       joins = joins.joins;
       held = ap (λ (w : WorkerValue). Some (record { kind = c.held.inside.kind; is_started = true; worker = w })) joins.others;
     })
+
+pub returns-then-pairs-width-clause-refused : goal.returns-then-pairs-width-clause-refused
+returns-then-pairs-width-clause-refused c = λ ms h.
+    rw (← c.held.view_is) (inr (refl, search rules, λ both. absurd (c.if-pairs-width.true (ap length (c.pairs.ensures.value ∙ c.bounds.ensures) ∙ (sym both.0 ∙ sym c.width.ensures)))))
+
+pub join_read-requires : goal.join_read-requires
+join_read-requires c = ap length c.deref_mut.ensures.value ∙ (c.held.invariant.1 ∙ (sym (ap length (c.pairs.ensures.value ∙ c.bounds.ensures)) ∙ (c.if-pairs-width.false ∙ c.width.ensures)))

@@ -28,3 +28,8 @@ returns-clause-turn c =
       joins = joins;
       held = ap (λ (w : WorkerValue). Some (record { kind = c.held.inside.kind; is_started = true; worker = w })) e.joined.others;
     })
+
+pub join_sparse-requires : goal.join_sparse-requires
+join_sparse-requires c =
+    let width : length c.held.inside.worker.bounds ≡ c.args.frame.now.width = ap length (sym (c.pairs.ensures.value ∙ c.bounds.ensures)) ∙ c.if-pairs-frame.false in
+    rw (width, c.as_slice.ensures) c.requires.values

@@ -6,4 +6,5 @@ invariant-loop-w l = record {
   items : l.self-inside.targets.items ≡ l.initial.self-inside.targets.items ++ take l.w-index l.successors;
   room : l.self-inside.targets.cap ≡ l.initial.self-inside.targets.cap;
   heads : l.self-inside.heads ≡ l.initial.self-inside.heads;
+  owners : l.self-inside.owners ≡ l.initial.self-inside.owners;
 }

@@ -11,17 +11,17 @@ returns-then-not-are_from-clause-refused c = λ above.
 pub invariant_of-self : goal.invariant_of-self
 invariant_of-self c =
     let w = c.self.inside in
-    whole_same w.part c.reserve.new.self w.map w.edges.last.items w.edges.last.items w.edges.entries.items w.edges.entries.items w.work w.best.items w.next w.lifted.count w.row.items c.reserve.ensures.heads c.reserve.ensures.targets refl refl c.self.invariant
+    whole_same w.part c.reserve.new.self w.map w.edges w.edges w.work w.best.items w.next w.lifted.count w.row.items c.reserve.ensures.heads c.reserve.ensures.targets refl (λ u x. (λ h. h, λ h. h)) c.self.invariant
 
 pub invariant_of-self-in_err-reserve-2 : goal.invariant_of-self-in_err-reserve-2
 invariant_of-self-in_err-reserve-2 c =
     let w = c.self.inside in
-    whole_same w.part c.reserve.new.self w.map w.edges.last.items c.reserve-2.new.self.last.items w.edges.entries.items c.reserve-2.new.self.entries.items w.work w.best.items w.next w.lifted.count w.row.items c.reserve.ensures.heads c.reserve.ensures.targets c.reserve-2.ensures.last c.reserve-2.ensures.entries c.self.invariant
+    whole_same w.part c.reserve.new.self w.map w.edges c.reserve-2.new.self w.work w.best.items w.next w.lifted.count w.row.items c.reserve.ensures.heads c.reserve.ensures.targets c.reserve-2.ensures.size c.reserve-2.ensures.same c.self.invariant
 
 pub add_lines-requires-clause-inside : goal.add_lines-requires-clause-inside
 add_lines-requires-clause-inside c =
     let w = c.self.inside in
-    rw c.deref_mut.ensures.value (inside_same w.part c.reserve.new.self w.map w.edges.last.items c.reserve-2.new.self.last.items w.edges.entries.items c.reserve-2.new.self.entries.items w.work w.best.items c.reserve.ensures.heads c.reserve.ensures.targets c.reserve-2.ensures.last c.reserve-2.ensures.entries c.self.invariant.inside)
+    rw c.deref_mut.ensures.value (inside_same w.part c.reserve.new.self w.map w.edges c.reserve-2.new.self w.work w.best.items c.reserve.ensures.heads c.reserve.ensures.targets c.reserve-2.ensures.size c.reserve-2.ensures.same c.self.invariant.inside)
 
 pub add_lines-requires-clause-next : goal.add_lines-requires-clause-next
 add_lines-requires-clause-next c = next_same c.self.inside.part c.reserve.new.self c.self.inside.next c.reserve.ensures.heads c.reserve.ensures.targets c.self.invariant.above

@@ -10,7 +10,7 @@ invariant_of-self c =
     let n = c.lift_one.new in
     let k : take w.best.len (n.best ++ drop (length n.best) w.best.items) ≡ n.best = take_at n.best _ _ (c.lift_one.auto.best ∙ c.deref_mut.ensures.len) in
     let b : length n.best ≡ length w.best.items = c.lift_one.ensures.best ∙ ap length c.deref_mut.ensures.value in
-    rw k (whole_after w.part w.map n.map w.edges.last.items w.edges.entries.items w.work n.work w.best.items n.best w.next w.lifted.count w.row.items c.lift_one.ensures.bounds c.lift_one.ensures.size c.lift_one.ensures.work b c.lift_one.ensures.kept c.self.invariant)
+    rw k (whole_after w.part w.map n.map w.edges w.work n.work w.best.items n.best w.next w.lifted.count w.row.items c.lift_one.ensures.bounds c.lift_one.ensures.size c.lift_one.ensures.work b c.lift_one.ensures.kept c.self.invariant)
 
 pub invariant_of-self-2 : goal.invariant_of-self-2
 invariant_of-self-2 c =
@@ -18,12 +18,13 @@ invariant_of-self-2 c =
     let n = c.lift_one.new in
     let k : take w.best.len (n.best ++ drop (length n.best) w.best.items) ≡ n.best = take_at n.best _ _ (c.lift_one.auto.best ∙ c.deref_mut.ensures.len) in
     let b : length n.best ≡ length w.best.items = c.lift_one.ensures.best ∙ ap length c.deref_mut.ensures.value in
-    rw k (whole_after w.part w.map n.map w.edges.last.items w.edges.entries.items w.work n.work w.best.items n.best w.next w.lifted.count w.row.items c.lift_one.ensures.bounds c.lift_one.ensures.size c.lift_one.ensures.work b c.lift_one.ensures.kept c.self.invariant)
+    rw k (whole_after w.part w.map n.map w.edges w.work n.work w.best.items n.best w.next w.lifted.count w.row.items c.lift_one.ensures.bounds c.lift_one.ensures.size c.lift_one.ensures.work b c.lift_one.ensures.kept c.self.invariant)
 
 pub returns-clause-lifted : goal.returns-clause-lifted
 returns-clause-lifted c =
     let e = c.in_ok-update.ensures in
-    rw (← c.self.view_is) (if_some c.in_ok-update.update _ _ (λ u h. (
+    let seen = c.self.view_is ∙ c.gather.ensures in
+    rw (← seen) (if_some c.in_ok-update.update _ _ (λ u h. (
       h.0,
       record {
         part = record { bounds = e.bounds; lines = refl; size = e.size };
@@ -36,4 +37,5 @@ pub returns-clause-served : goal.returns-clause-served
 returns-clause-served c =
     let w = c.self.inside in
     let e = c.in_ok-update.ensures in
-    rw (← c.self.view_is) (if_none c.in_ok-update.update _ _ (λ h. (h.0, same_worker c.lift_one.new.map w.map (lines_in w.part) w.kept.items w.lifted.vertices h.1)) e.served)
+    let seen = c.self.view_is ∙ c.gather.ensures in
+    rw (← seen) (if_none c.in_ok-update.update _ _ (λ h. (h.0, same_worker c.lift_one.new.map w.map (lines_in w.part) w.kept.items w.lifted.vertices h.1)) e.served)

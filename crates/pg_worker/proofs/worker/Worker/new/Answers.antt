@@ -13,7 +13,7 @@ invariant_of-result c =
     let b : length c.in_ok-vec.field-0.items ≡ length map.measures = omega (arith, c.in_ok-vec.ensures.len, c.in_ok-vec.field-0.ok.0, m) in
     let none = none_held_at c.in_ok-new.field-0 n c.in_ok-new.ensures.none in
     record {
-      inside = worker_empty c.in_ok-new.field-0 map c.in_ok-new-2.field-0.last.items c.in_ok-new-3.field-0 c.in_ok-vec.field-0.items c.in_ok-new-2.field-0.entries.items c.in_ok-new-2.ensures.none none
+      inside = worker_empty c.in_ok-new.field-0 map c.in_ok-new-2.field-0 c.in_ok-new-3.field-0 c.in_ok-vec.field-0.items c.in_ok-new-2.ensures.none none
           (c.in_ok-new-2.ensures.size ∙ sym m) (w ∙ sym m) b (c.in_ok-new.ensures.size ∙ sym m);
       above = next_empty c.in_ok-new.field-0 none;
       listed = c.in_ok-new-4.ensures.count ∙ sym m;
