@@ -14,3 +14,6 @@ mod Taken
 mod Taking
 mod Hearing
 mod Replying
+mod Marking
+mod Sources
+mod Calm

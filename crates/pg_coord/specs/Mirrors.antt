@@ -7,4 +7,8 @@ pub mod Lines
 pub mod Sent
 pub mod Seats
 pub mod Takes
+pub mod Cutting
 pub mod Telling
+pub mod Marks
+pub mod Leading
+pub mod Alone

@@ -1,20 +1,30 @@
 //! The coordinator: it solves a game over links to workers, whatever they answer.
 #![tactic(auto)]
 
+mod alone;
 mod board;
+mod connection;
+mod cutting;
 mod ending;
 mod fault;
 mod joining;
+mod leading;
+mod limited;
 mod link;
+mod marks;
 mod memory;
+mod owner;
 mod pass;
+mod reach;
 mod round;
 mod seat;
 mod sending;
 mod set_up;
 mod sight;
+mod socket;
 mod solver;
 pub mod stand_ins;
+mod starting;
 mod task;
 mod turn;
 mod values;
@@ -24,4 +34,6 @@ pub use ending::halt;
 pub use fault::CoordFault;
 pub use link::{Link, LinkFault};
 pub use memory::MemoryLink;
+pub use reach::Reach;
+pub use socket::SocketLink;
 pub use solver::{Solved, solve};

@@ -11,7 +11,7 @@ ghost use Rattle.pg_coord.specs.Memory.{started_link, still_waiting, Reports, Se
 
 use crate::link::{Link, LinkFault};
 use crate::waiting::{first_len, put_fault};
-use pg_wire::{Frame, WireFault, decode};
+use pg_wire::{Frame, ValuesReader, WireFault, decode};
 use pg_worker::{Session, WorkerFault};
 use std::alloc::Global;
 use std::marker::Model;
@@ -110,13 +110,16 @@ impl MemoryLink {
         self.has_refused = has_refused;
     }
 
-    /// Reports why what was sent is refused, and drops what is sent from then on.
+    /// Reports why what was sent is refused, and drops what is sent from then on. Want of memory is no reason, and told.
     fn refuse(&mut self, fault: WorkerFault) -> Result<(), LinkFault>
-        ensures ok { OnOk result (Reports fault self.old.waiting self.new) }
+        ensures ok { OnOk result ((fault ≢ WorkerFault.OutOfMemory) × Reports fault self.old.waiting self.new) }
         ensures memory { IfErr result (λ e. (e ≡ LinkFault.OutOfMemory) × (self.new ≡ self.old)) }
         ensures highest { self.new.highest ≡ self.old.highest }
         ensures failures { self.new.failures ≡ self.old.failures }
     {
+        if matches!(fault, WorkerFault::OutOfMemory) {
+            return Err(LinkFault::OutOfMemory);
+        }
         put_fault(fault, &mut self.waiting)?;
         self.renew(true);
         Ok(())
@@ -136,7 +139,31 @@ impl MemoryLink {
         }
         match self.session.frame(frame, &mut self.waiting) {
             Ok(_) => Ok(()),
-            Err(WorkerFault::OutOfMemory) => Err(LinkFault::OutOfMemory),
+            Err(fault) => self.refuse(fault),
+        }
+    }
+}
+
+impl MemoryLink {
+    ghost use Rattle.std.specs.Prelude.{IfSome};
+    ghost use Rattle.pg_wire.specs.Measured.{TellsMeasures};
+    ghost use Rattle.pg_coord.specs.Mirrors.Sessions.{IsSmall};
+
+    /// Lets the session take the values that a frame tells, unless it has refused a frame.
+    fn take_values(&mut self, bytes: &[u8]) -> Result<(), LinkFault>
+        requires { (f : Frame) × TellsMeasures f × Spells f bytes.now }
+        ensures small { IfSome self.old.held IsSmall }
+        ensures ok { OnOk result ((f : Frame) → Spells f bytes.now → Sends f self.old self.new) }
+        ensures memory { IfErr result (λ e. (e ≡ LinkFault.OutOfMemory)
+            × ((f : Frame) → Spells f bytes.now → Empties f self.old self.new)) }
+        ensures highest { self.new.highest ≡ self.old.highest }
+        ensures failures { self.new.failures ≡ self.old.failures }
+    {
+        if self.has_refused {
+            return Ok(());
+        }
+        match self.session.frame_from(bytes, &mut self.waiting) {
+            Ok(_) => Ok(()),
             Err(fault) => self.refuse(fault),
         }
     }
@@ -166,6 +193,9 @@ impl Link for MemoryLink {
         ensures highest { self.new.highest ≡ self.old.highest }
         ensures failures { self.new.failures ≡ self.old.failures }
     {
+        if ValuesReader::open(frame).is_some() {
+            return self.take_values(frame);
+        }
         match decode(self.alloc, frame) {
             Ok(frame) => self.take(&frame),
             Err(WireFault::OutOfMemory) => Err(LinkFault::OutOfMemory),

@@ -1,6 +1,6 @@
 //! Solving over links.
 
-ghost use Rattle.std.specs.Prelude.{◌≡◌, ◌↔◌, ◌+◌, ◌<◌, ◌≤◌, ◌^◌, ℕ, List, length, IfOk, OnOk, All, Err};
+ghost use Rattle.std.specs.Prelude.{false, IsTrue, ◌≡◌, ◌↔◌, ◌+◌, ◌<◌, ◌≤◌, ◌^◌, ℕ, List, length, IfOk, OnOk, All, Err};
 ghost use Rattle.pg_measure.specs.Games.{IsBoundsOf};
 ghost use Rattle.pg_map.specs.Lines.{game_line};
 ghost use Rattle.pg_map.specs.Maps.{MapValue, MapAtMost, IsMap, IsClosed, IsLeastProgressMeasure};
@@ -12,6 +12,7 @@ ghost use Rattle.pg_coord.specs.Mirrors.Seats.{AllSeated};
 ghost use Rattle.pg_coord.specs.Mirrors.Telling.{AllTell};
 ghost use Rattle.pg_coord.specs.declared.fault.CoordFault.TheVariants.{CutMismatch};
 
+use crate::alone::finish;
 use crate::board::Board;
 use crate::fault::CoordFault;
 use crate::link::Link;
@@ -54,6 +55,13 @@ fn abandoned(seats: &[Seat]) -> u64 {
     count
 }
 
+/// Whether no link is in use.
+fn are_abandoned(seats: &[Seat]) -> bool
+    ensures { IsTrue result ↔ All (λ seat. seat.in_use ≡ false) seats.now }
+{
+    seats.iter().all(|seat| !seat.in_use)
+}
+
 /// Makes rounds until nothing rises in one: how many.
 fn make_rounds<L: Link>(
     task: &Task<'_>,
@@ -88,6 +96,9 @@ fn make_rounds<L: Link>(
         settle(board, task.game());
         if !board.rose {
             return Ok(rounds);
+        }
+        if are_abandoned(seats) {
+            return finish(task, board, rounds);
         }
     }
 }

@@ -1,11 +1,12 @@
-use Rattle.std.proofs.Common.{◌≡◌, ◌+◌, ◌≤◌, ℕ, length, drop, rules, ap, ◌∙◌, arith}
+use Rattle.std.proofs.Common.{◌≡◌, ◌+◌, ◌≤◌, ◌<◌, ℕ, List, length, drop, rules, ap, subst, refl, ◌∙◌, arith}
+use Rattle.std.specs.Prelude.{Result, Ok, Err, IfOk, OnOk}
 use Rattle.pg_map.specs.Lines.{game_line}
-use Rattle.pg_map.specs.Maps.{MapValue, IsClosed, StaysUnder}
+use Rattle.pg_map.specs.Maps.{MapValue, IsMap, IsClosed, StaysUnder}
 use Rattle.pg_map.specs.Weights.{map_weight}
 use Rattle.pg_coord.proofs.Moving.{moves_more}
 use Rattle.pg_coord.proofs.Seating.{all_seated_above}
 use Rattle.pg_coord.proofs.Rounds.{weight_less, lifts_under}
-use Rattle.pg_coord.proofs.Taken.{none_taken, round_taken, least_over}
+use Rattle.pg_coord.proofs.Taken.{none_taken, round_taken, ended, least_over}
 use Rattle.pg_coord.proofs.solver.make_rounds.Goals as goal
 
 pub rounds-init : goal.rounds-init
@@ -110,3 +111,94 @@ returns-then-not-board-clause-told g c = λ replies tell under.
     least_over g.L.Link.told task replies c.saturating_add-rounds.result c.hear_all.new.seats c.hear_all.new.links (length c.args.links.now)
     c.args.board.now.map.measures after.map all
     count (second.bounds ∙ first.bounds ∙ begun_bounds) (second.size ∙ first.size ∙ begun_size) closed under
+
+if_ok : {T E : Type 0} (r : Result T E) (P Q : T → Type 0) → ((x : T) → P x → Q x) → IfOk r P → IfOk r Q
+if_ok (Ok x) P Q f p = f x p
+if_ok (Err e) P Q f p = p
+
+on_ok : {T E : Type 0} (r : Result T E) (P : Type 0) → P → OnOk r P
+on_ok (Ok x) P p = p
+on_ok (Err e) P p = tt
+
+if_told : {T E : Type 0} (r : Result T E) (Q : T → Type 0) → ((x : T) → r ≡ Ok x → Q x) → IfOk r Q
+if_told (Ok x) Q f = f x refl
+if_told (Err e) Q f = tt
+
+at_ok : {T E : Type 0} (r : Result T E) (x : T) (P : Type 0) → r ≡ Ok x → OnOk r P → P
+at_ok {T} {E} r x P e p = subst (λ (s : Result T E). OnOk s P) e p
+
+pub returns-then-are_abandoned-clause-honest : goal.returns-then-are_abandoned-clause-honest
+returns-then-are_abandoned-clause-honest g c =
+    on_ok c.finish.result _ (λ h. c.in_ok-hear_all.ensures.honest (c.in_ok-ask_all.ensures.honest (c.rounds.invariant.honest_still h)))
+
+pub returns-then-are_abandoned-clause-rounds : goal.returns-then-are_abandoned-clause-rounds
+returns-then-are_abandoned-clause-rounds g c =
+    let before = c.rounds.board in
+    let begun = c.begin.new.self in
+    let after = c.settle.new.board in
+    let moves = moves_more begun c.hear_all.new.board after c.hear_all.ensures.moves c.settle.ensures.moves in
+    let w = weight_less begun after moves c.begin.ensures.rose c.if-not-board.false in
+    let e : map_weight begun.map.bounds begun.map.measures ≡ map_weight before.map.bounds before.map.measures = ap (λ (m : MapValue). map_weight m.bounds m.measures) c.begin.ensures.map in
+    let k = c.rounds.invariant.rounds in
+    let s : c.saturating_add-rounds.result ≤ c.rounds.rounds + 1 = omega arith in
+    if_ok c.finish.result _ _ (λ n r. (r.0, let few = r.1 in omega (arith, few, w, e, k, s))) c.finish.ensures.rounds
+
+pub returns-then-are_abandoned-clause-least : goal.returns-then-are_abandoned-clause-least
+returns-then-are_abandoned-clause-least g c =
+    let inv = c.rounds.invariant in
+    let task = c.args.task.now in
+    let before = c.rounds.board in
+    let begun = c.begin.new.self in
+    let heard = c.hear_all.new.board in
+    let after = c.settle.new.board in
+    let end = c.finish.new.board in
+    let same : begun.map ≡ before.map = c.begin.ensures.map in
+    let first = c.hear_all.ensures.moves in
+    let second = c.settle.ensures.moves in
+    let begun_bounds : begun.map.bounds ≡ task.bounds = ap (λ (m : MapValue). m.bounds) same ∙ inv.bounds in
+    let begun_size : length begun.map.measures ≡ length task.game = ap (λ (m : MapValue). length m.measures) same ∙ inv.size in
+    let lifted : StaysUnder heard.map.bounds (game_line task.game) heard.map.measures after.map.measures = rw (← c.game.ensures.value) c.settle.ensures.under in
+    on_ok c.finish.result _ (λ h s l m closed.
+    let asked = c.in_ok-ask_all.ensures.seated (inv.honest_still h) (inv.seated h s) in
+    let round = lifts_under task heard.map after.map m (first.bounds ∙ begun_bounds) (first.size ∙ begun_size) lifted closed
+    (c.in_ok-hear_all.ensures.least (c.in_ok-ask_all.ensures.honest (inv.honest_still h)) (rw same asked) m closed (rw same (inv.least h s l m closed))) in
+    lifts_under task after.map end.map m (second.bounds ∙ first.bounds ∙ begun_bounds) (second.size ∙ first.size ∙ begun_size) c.finish.ensures.under closed round)
+
+pub returns-then-are_abandoned-clause-told : goal.returns-then-are_abandoned-clause-told
+returns-then-are_abandoned-clause-told g c =
+    if_told c.finish.result _ (λ n is replies tell under.
+    let inv = c.rounds.invariant in
+    let task = c.args.task.now in
+    let before = c.rounds.board in
+    let begun = c.begin.new.self in
+    let heard = c.hear_all.new.board in
+    let after = c.settle.new.board in
+    let same : begun.map ≡ before.map = c.begin.ensures.map in
+    let first = c.hear_all.ensures.moves in
+    let second = c.settle.ensures.moves in
+    let begun_bounds : begun.map.bounds ≡ task.bounds = ap (λ (m : MapValue). m.bounds) same ∙ inv.bounds in
+    let begun_size : length begun.map.measures ≡ length task.game = ap (λ (m : MapValue). length m.measures) same ∙ inv.size in
+    let lifted : StaysUnder heard.map.bounds (game_line task.game) heard.map.measures after.map.measures = rw (← c.game.ensures.value) c.settle.ensures.under in
+    let h = inv.taken replies tell in
+    let left = λ (k : ℕ). drop h.taken (replies k) in
+    let asked = c.in_ok-ask_all.ensures.told left h.tell in
+    let joined = c.in_ok-hear_all.ensures.told left asked.0 asked.1 in
+    let few : c.saturating_add-rounds.result ≤ c.rounds.rounds + 1 = search rules in
+    let asked_count : length c.ask_all.new.links ≡ length c.rounds.links = search rules in
+    let heard_count : length c.hear_all.new.links ≡ length c.rounds.links = search rules in
+    let count : length c.hear_all.new.links ≡ length c.args.links.now = heard_count ∙ inv.same_count in
+    let all = round_taken g.L.Link.told task replies c.rounds.rounds c.saturating_add-rounds.result c.rounds.seats c.hear_all.new.seats c.rounds.links
+    c.hear_all.new.links
+    (length c.ask_all.new.links) c.args.board.now.map.measures begun.map before.map heard.map after.map h few asked_count heard_count same joined.0 joined.1
+    first.above second.above (first.bounds ∙ begun_bounds) (first.size ∙ begun_size) lifted in
+    let seat_count : length c.hear_all.new.seats ≡ length c.hear_all.new.links = search rules in
+    let after_bounds : after.map.bounds ≡ task.bounds = second.bounds ∙ first.bounds ∙ begun_bounds in
+    let after_size : length after.map.measures ≡ length task.game = second.size ∙ first.size ∙ begun_size in
+    let unused = c.are_abandoned.ensures.0 c.if-are_abandoned.true in
+    let end = c.finish.new.board in
+    let over = ended g.L.Link.told task replies c.saturating_add-rounds.result n c.hear_all.new.seats c.hear_all.new.links c.args.board.now.map.measures
+    after.map end.map all seat_count unused c.finish.ensures.above after_bounds after_size c.finish.ensures.under in
+    least_over g.L.Link.told task replies n c.hear_all.new.seats c.hear_all.new.links (length c.args.links.now)
+    c.args.board.now.map.measures end.map over count (c.finish.ensures.bounds ∙ after_bounds)
+    (at_ok c.finish.result n (IsMap end.map.bounds (length task.game) end.map.measures) is c.finish.ensures.map).size
+    (at_ok c.finish.result n (IsClosed end.map.bounds (game_line task.game) end.map.measures) is c.finish.ensures.closed) under)

@@ -12,3 +12,9 @@ returns-in-Ok-clause-under c =
     sent_above c.args.self.now c.take.new.self f c.in-Ok.frame c.args.frame.now h
     (rw (← c.self.view_is) c.self.invariant.small) c.in-Ok.ensures.found sends s under)
     c.take.ensures.ok
+
+pub returns-then-is_some-clause-under : goal.returns-then-is_some-clause-under
+returns-then-is_some-clause-under c =
+    on_ok c.take_values.result _ _ (λ sends. λ f s h under.
+    sent_above c.args.self.now c.take_values.new.self f f c.args.frame.now h c.take_values.ensures.small s (sends f s) s under)
+    c.take_values.ensures.ok
