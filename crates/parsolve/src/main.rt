@@ -5,7 +5,8 @@ ghost use Rattle.pg_cli.specs.Words.{HasFewWorkers};
 
 use clap::Error as WordsError;
 use clap::error::ErrorKind as WordsKind;
-use pg_cli::{CliFault, Command, Line, exit_code, parse_words, run, write_fault};
+use pg_cli::{CliFault, Command, Line, exit_code, parse_words, run, run_apart, work, write_fault};
+use pg_coord::Reach;
 use std::env;
 use std::io::{self, BufWriter, Write};
 use std::process::ExitCode;
@@ -38,23 +39,29 @@ fn tell_words<E: Write>(
     }
 }
 
-/// Runs a command on standard input, and writes its answer through a buffer to standard output.
-fn answer<R: Input + Print + AllocGlobal>(rt: &R, command: Command) -> Result<(), CliFault>
+/// What the program needs of the system.
+trait System: Input + Print + Eprint + AllocGlobal + Reach {}
+
+impl<R: Input + Print + Eprint + AllocGlobal + Reach> System for R {}
+
+/// Runs a command on standard input, and writes its answer through a buffer to standard output. Its workers are programs if a
+/// path is given.
+fn answer<R: System>(rt: &R, command: Command, apart: Option<&str>) -> Result<(), CliFault>
     requires { HasFewWorkers command }
 {
-    let Ok(mut output) = BufWriter::new(rt.alloc(), io::writer(rt)) else {
+    let alloc = rt.alloc();
+    let Ok(mut output) = BufWriter::new(alloc, io::writer(rt)) else {
         return Err(CliFault::OutOfMemory);
     };
-    run(rt.alloc(), command, &mut rt.reader(), &mut output)?;
+    match apart {
+        Some(path) => run_apart(rt, alloc, command, path, &mut rt.reader(), &mut output)?,
+        None => run(alloc, command, &mut rt.reader(), &mut output)?,
+    }
     output.flush().map_err(|_| CliFault::Write)
 }
 
 /// Does what the words ask for.
-fn obey<R: Input + Print + Eprint + AllocGlobal, E: Write>(
-    rt: &R,
-    errors: &mut E,
-    words: &[String],
-) -> ExitCode {
+fn obey<R: System, E: Write>(rt: &R, errors: &mut E, words: &[String]) -> ExitCode {
     let collected: Result<Vec<&str>, _> = words
         .iter()
         .map(|word| word.as_str())
@@ -62,12 +69,18 @@ fn obey<R: Input + Print + Eprint + AllocGlobal, E: Write>(
     let Ok(words) = collected else {
         return tell(errors, &CliFault::OutOfMemory);
     };
-    match parse_words(rt.alloc(), words.as_slice()) {
-        Ok(Line::Run(command)) => match answer(rt, command) {
-            Ok(()) => ExitCode::SUCCESS,
-            Err(fault) => tell(errors, &fault),
-        },
-        Err(error) => tell_words(rt, errors, &error),
+    let ended = match parse_words(rt.alloc(), words.as_slice()) {
+        Ok(Line::Run(command, apart)) => answer(
+            rt,
+            command,
+            apart.as_ref().map(|path| path.as_str()),
+        ),
+        Ok(Line::Work(port)) => work(rt, rt.alloc(), port),
+        Err(error) => return tell_words(rt, errors, &error),
+    };
+    match ended {
+        Ok(()) => ExitCode::SUCCESS,
+        Err(fault) => tell(errors, &fault),
     }
 }
 

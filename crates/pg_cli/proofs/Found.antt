@@ -178,6 +178,9 @@ module _ (Found Other : Finding) (is_other : (game : List GameVertex) (map : Map
   unsolved_too input (cli.Hoa fault) why = why
   unsolved_too input (cli.Synth fault) why = why
   unsolved_too input (cli.Aiger fault) why = why
+  unsolved_too input cli.Listen why = why
+  unsolved_too input (cli.Connect port) why = why
+  unsolved_too input (cli.Worker fault) why = why
 
   unsynthesised_too : (input : List ℕ) (fault : CliFault) → RefusesSynth Found input fault → RefusesSynth Other input fault
   unsynthesised_too input cli.OutOfMemory why = why
@@ -196,6 +199,9 @@ module _ (Found Other : Finding) (is_other : (game : List GameVertex) (map : Map
   unsynthesised_too input (cli.Aiger aiger.OutOfMemory) why = why
   unsynthesised_too input (cli.Aiger aiger.Write) why = why
   unsynthesised_too input (cli.Aiger aiger.TooLarge) why = large_too input why
+  unsynthesised_too input cli.Listen why = why
+  unsynthesised_too input (cli.Connect port) why = why
+  unsynthesised_too input (cli.Worker fault) why = why
 
   no_answer_too : (command : Command) (input : List ℕ) (fault : CliFault) → HasNoAnswer Found command input fault → HasNoAnswer Other command input fault
   no_answer_too (Measure workers) input fault why = why
@@ -219,6 +225,9 @@ module _ (Found Other : Finding) (is_other : (game : List GameVertex) (map : Map
   refuses_too command input (cli.Hoa fault) why = (why.0, no_answer_too command input (cli.Hoa fault) why.1)
   refuses_too command input (cli.Synth fault) why = (why.0, no_answer_too command input (cli.Synth fault) why.1)
   refuses_too command input (cli.Aiger fault) why = (why.0, no_answer_too command input (cli.Aiger fault) why.1)
+  refuses_too command input cli.Listen why = (why.0, no_answer_too command input cli.Listen why.1)
+  refuses_too command input (cli.Connect port) why = (why.0, no_answer_too command input (cli.Connect port) why.1)
+  refuses_too command input (cli.Worker fault) why = (why.0, no_answer_too command input (cli.Worker fault) why.1)
 
   pub answers_too : (command : Command) (input : List ℕ) (old new : Option (List ℕ)) (result : Result (Unit {0}) CliFault)
       → OnOk result ((output : List ℕ) × PrintsBy Found command input output × Appends old new output)

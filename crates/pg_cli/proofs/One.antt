@@ -102,7 +102,8 @@ one_undecided game f g id other p q =
 
 module _ (one_bounds : OneListOfBounds) (least : ClosedIsLeast) where
   -- a game has one solution of its least progress measures
-  pub one_solved : (game : List GameVertex) (first second : List Answer) → IsSolvedBy IsMeasureOf game first → IsSolvedBy IsMeasureOf game second → first ≡ second
+  pub one_solved : (game : List GameVertex) (first second : List Answer) → IsSolvedBy IsMeasureOf game first → IsSolvedBy IsMeasureOf game second
+      → first ≡ second
   one_solved game first second p q =
       let even = one_map one_bounds least game game p.even q.even refl p.even_found q.even_found in
       let odd = one_map one_bounds least (dual game) (dual game) p.odd q.odd refl p.odd_found q.odd_found in

@@ -70,10 +70,14 @@ refuses_unsolved Found workers input game limit spelt cli.CutMismatch why = absu
 refuses_unsolved Found workers input game limit spelt (cli.Hoa fault) why = absurd why
 refuses_unsolved Found workers input game limit spelt (cli.Synth fault) why = absurd why
 refuses_unsolved Found workers input game limit spelt (cli.Aiger fault) why = absurd why
+refuses_unsolved Found workers input game limit spelt cli.Listen why = absurd why
+refuses_unsolved Found workers input game limit spelt (cli.Connect port) why = absurd why
+refuses_unsolved Found workers input game limit spelt (cli.Worker fault) why = absurd why
 
 -- what is so of the text that was read is so of the known bytes
-pub refused_known : (Found : Finding) (command : Command) (known : Option (List ℕ)) (text : List ℕ) (result : Result (Unit {0}) CliFault) → IfSome known (λ input. text ≡ input)
-    → IfErr result (RefusesBy Found command text) → IfErr result (λ fault. IfSome known (λ input. RefusesBy Found command input fault))
+pub refused_known : (Found : Finding) (command : Command) (known : Option (List ℕ)) (text : List ℕ) (result : Result (Unit {0}) CliFault)
+    → IfSome known (λ input. text ≡ input) → IfErr result (RefusesBy Found command text)
+    → IfErr result (λ fault. IfSome known (λ input. RefusesBy Found command input fault))
 refused_known Found command known text (Ok x) same why = tt
 refused_known Found command None text (Err fault) same why = tt
 refused_known Found command (Some input) text (Err fault) same why =

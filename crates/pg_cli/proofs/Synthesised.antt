@@ -38,13 +38,15 @@ prints_realized Found workers input circuit a limit r same = record {
   answer = inl (record { circuit = circuit; realized = r; printed = ap (λ x. realizable ++ circuit_text circuit x) (sym same) });
 }
 
-pub prints_unrealized : (Found : Finding) (workers : ℕ) (input : List ℕ) → length input ≤ MOST_BYTES → IsWonFor Found input Odd → PrintsBy Found (Synth workers) input unrealizable
+pub prints_unrealized : (Found : Finding) (workers : ℕ) (input : List ℕ) → length input ≤ MOST_BYTES → IsWonFor Found input Odd
+    → PrintsBy Found (Synth workers) input unrealizable
 prints_unrealized Found workers input limit odd = record { limit = limit; answer = inr (record { odd = odd; printed = refl }) }
 
-pub has_answer : (Found : Finding) (workers : ℕ) (input : List ℕ) (a : Automaton) (circuit : Option Circuit) → length input ≤ MOST_BYTES → IsOutcome Found input a circuit
-    → (output : List ℕ) × PrintsBy Found (Synth workers) input output
+pub has_answer : (Found : Finding) (workers : ℕ) (input : List ℕ) (a : Automaton) (circuit : Option Circuit) → length input ≤ MOST_BYTES
+    → IsOutcome Found input a circuit → (output : List ℕ) × PrintsBy Found (Synth workers) input output
 has_answer Found workers input a None limit odd = (unrealizable, prints_unrealized Found workers input limit odd)
-has_answer Found workers input a (Some circuit) limit even = (realizable ++ circuit_text circuit a, prints_realized Found workers input circuit a limit even.0 even.1)
+has_answer Found workers input a (Some circuit) limit even =
+    (realizable ++ circuit_text circuit a, prints_realized Found workers input circuit a limit even.0 even.1)
 
 pub refuses_text : (Found : Finding) (workers : ℕ) (input : List ℕ) → length input ≤ MOST_BYTES → (fault : HoaFault) → IsRefused input fault
     → RefusesBy Found (Synth workers) input (hoa_fault fault)
@@ -52,7 +54,8 @@ refuses_text Found workers input limit fault why = text_refused (RefusesBy Found
 
 pub refuses_large : (Found : Finding) (workers : ℕ) (input : List ℕ) (a : Automaton) → length input ≤ MOST_BYTES → Spelt input a → (fault : SynthFault)
     → synth_answers.Refuses a fault → RefusesBy Found (Synth workers) input (synth_fault fault)
-refuses_large Found workers input a limit spelt fault why = game_refused (RefusesBy Found (Synth workers) input) input a spelt fault tt (λ over. (limit, over)) why
+refuses_large Found workers input a limit spelt fault why =
+    game_refused (RefusesBy Found (Synth workers) input) input a spelt fault tt (λ over. (limit, over)) why
 
 pub refuses_unsolved : (Found : Finding) (workers : ℕ) (input : List ℕ) (game : List GameVertex) → length input ≤ MOST_BYTES → IsGameFor input game
     → (fault : CliFault) → IsUnsolved Found game fault → RefusesBy Found (Synth workers) input fault
@@ -69,6 +72,9 @@ refuses_unsolved Found workers input game limit made cli.CutMismatch why = absur
 refuses_unsolved Found workers input game limit made (cli.Hoa fault) why = absurd why
 refuses_unsolved Found workers input game limit made (cli.Synth fault) why = absurd why
 refuses_unsolved Found workers input game limit made (cli.Aiger fault) why = absurd why
+refuses_unsolved Found workers input game limit made cli.Listen why = absurd why
+refuses_unsolved Found workers input game limit made (cli.Connect port) why = absurd why
+refuses_unsolved Found workers input game limit made (cli.Worker fault) why = absurd why
 
 pub refuses_circuit : (Found : Finding) (workers : ℕ) (input : List ℕ) → length input ≤ MOST_BYTES → (fault : AigerFault) → fault ≢ aiger.Write
     → (fault ≡ aiger.TooLarge → HasLargeMachine Found input) → RefusesBy Found (Synth workers) input (aiger_fault fault)

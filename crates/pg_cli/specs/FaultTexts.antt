@@ -4,11 +4,15 @@ use Rattle.pg_text.specs.FaultTexts as text
 use Rattle.pg_world.specs.ScriptFaultTexts as script
 use Rattle.pg_world.specs.declared.fault.WorldFault.{WorldFault}
 use Rattle.pg_world.specs.declared.fault.WorldFault.TheVariants as world
+use Rattle.pg_worker.specs.declared.fault.WorkerFault.{WorkerFault}
+use Rattle.pg_worker.specs.declared.fault.WorkerFault.TheVariants as worker
 use Rattle.pg_hoa.specs.FaultTexts as hoa
 use Rattle.pg_synth.specs.FaultTexts as synth
 use Rattle.pg_aiger.specs.FaultTexts as aiger
 use Rattle.pg_cli.specs.declared.fault.CliFault.{CliFault}
-use Rattle.pg_cli.specs.declared.fault.CliFault.TheVariants.{OutOfMemory, Read, Write, InputTooLong, NoSeparator, Text, Script, World, CutMismatch, Undecided, Hoa, Synth, Aiger}
+use Rattle.pg_cli.specs.declared.fault.CliFault.TheVariants.{OutOfMemory, Read, Write, InputTooLong, NoSeparator, Text}
+use Rattle.pg_cli.specs.declared.fault.CliFault.TheVariants.{Script, World, CutMismatch, Undecided, Hoa, Synth, Aiger}
+use Rattle.pg_cli.specs.declared.fault.CliFault.TheVariants.{Listen, Connect, Worker}
 
 -- why an event is refused
 abbrev pub event_text : WorldFault → List ℕ
@@ -17,6 +21,14 @@ event_text (world.NoSuchReplica n) = codes "no replica " ++ decimal n
 event_text (world.NotMine worker id) = codes "vertex " ++ (decimal id ++ (codes " is not of worker " ++ decimal worker))
 event_text (world.NoSuchUpdate n) = codes "update " ++ (decimal n ++ codes " was never made")
 event_text world.CutMismatch = codes "the cut does not fit the game"
+
+-- the number of a worker's fault
+abbrev pub worker_number : WorkerFault → ℕ
+worker_number worker.OutOfMemory = 1
+worker_number worker.NotMine = 2
+worker_number worker.BadUpdate = 3
+worker_number worker.Order = 4
+worker_number (worker.Wire fault) = 5
 
 abbrev pub fault_text : CliFault → List ℕ
 fault_text OutOfMemory = codes "out of memory"
@@ -32,6 +44,9 @@ fault_text (Undecided id) = codes "undecided at " ++ decimal id
 fault_text (Hoa fault) = hoa.fault_text fault
 fault_text (Synth fault) = synth.fault_text fault
 fault_text (Aiger fault) = aiger.fault_text fault
+fault_text Listen = codes "cannot listen on 127.0.0.1"
+fault_text (Connect port) = codes "cannot connect to port " ++ decimal port
+fault_text (Worker fault) = codes "worker fault " ++ decimal (worker_number fault)
 
 -- `parsolve: `, the text and a newline
 abbrev pub fault_line : CliFault → List ℕ

@@ -15,9 +15,12 @@ use Rattle.pg_synth.specs.declared.fault.SynthFault.{SynthFault}
 use Rattle.pg_synth.specs.declared.fault.SynthFault.TheVariants as synth
 use Rattle.pg_aiger.specs.declared.fault.AigerFault.{AigerFault}
 use Rattle.pg_aiger.specs.declared.fault.AigerFault.TheVariants as aiger
+use Rattle.pg_worker.specs.declared.fault.WorkerFault.{WorkerFault}
+use Rattle.pg_worker.specs.declared.fault.WorkerFault.TheVariants as worker
 use Rattle.pg_coord.specs.declared.fault.CoordFault.{CoordFault}
 use Rattle.pg_coord.specs.declared.fault.CoordFault.TheVariants as coord
-use Rattle.pg_cli.specs.declared.fault.CliFault.TheVariants.{OutOfMemory, Write, Text, Script, World, CutMismatch, Undecided, Hoa, Synth, Aiger}
+use Rattle.pg_cli.specs.declared.fault.CliFault.TheVariants.{OutOfMemory, Write, Text, Script, World, CutMismatch}
+use Rattle.pg_cli.specs.declared.fault.CliFault.TheVariants.{Undecided, Hoa, Synth, Aiger, Worker}
 
 -- want of memory and the writer's failure are the program's own
 abbrev pub text_fault : TextFault → CliFault
@@ -57,6 +60,11 @@ abbrev pub aiger_fault : AigerFault → CliFault
 aiger_fault aiger.OutOfMemory = OutOfMemory
 aiger_fault aiger.Write = Write
 aiger_fault fault = Aiger fault
+
+-- and what a worker's serving ends with
+abbrev pub worker_fault : WorkerFault → CliFault
+worker_fault worker.OutOfMemory = OutOfMemory
+worker_fault fault = Worker fault
 
 -- Undecided has a status of its own
 abbrev pub status_of : CliFault → ℕ

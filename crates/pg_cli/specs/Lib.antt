@@ -12,6 +12,7 @@ pub mod Answers
 pub mod Faults
 pub mod FaultTexts
 pub mod Words
+pub mod Serving
 pub mod Laws
 pub mod Winners
 pub mod Controllers

@@ -8,7 +8,8 @@ use Rattle.pg_coord.specs.Told.{Reply, TellReplies, IsLeastOverReplies}
 use Rattle.pg_cli.specs.Measuring.{IsClosedMapOf}
 
 -- The map is closed for the game. If the links tell replies, none a failure by the even cut of the game among them, then of the
--- replies of each link at least one was taken, or all, and the map is the least closed map that is at least every measure in these.
+-- replies of each link at least one was taken, or all, and the map is the least closed map that is at least every measure in
+-- these.
 pub record IsLeastOverTold {L : Type 0} (told : L → Option (List (List ℕ))) (links : List L) (game : List GameVertex)
     (map : MapValue) : Type 0 where
   pub closed : IsClosedMapOf game map

@@ -3,7 +3,7 @@ use Rattle.std.specs.Prelude.{◌≡◌, ◌≤◌, ℕ, List, Option, Some, Non
 use Rattle.pg_cli.specs.declared.command.Command.{Command}
 use Rattle.pg_cli.specs.declared.command.Command.TheVariants.{Measure, Solve, Check, Replay, Game, Synth}
 use Rattle.pg_cli.specs.declared.words.Line.{Line}
-use Rattle.pg_cli.specs.declared.words.Line.TheVariants.{Run}
+use Rattle.pg_cli.specs.declared.words.Line.TheVariants.{Run, Work}
 
 -- the word that names a command
 abbrev pub command_name : Command → List ℕ
@@ -27,6 +27,11 @@ workers_of (Synth workers) = Some workers
 abbrev pub HasFewWorkers : Command → Type 0
 HasFewWorkers command = IfSome (workers_of command) (λ workers. workers ≤ 16)
 
--- the words ask for it: the word behind the program's own name is that of the command, which has few workers
+-- a number by which a port can be named
+abbrev pub IsPort : ℕ → Type 0
+IsPort port = (1 ≤ port) × (port ≤ 65535)
+
+-- The words ask for it: the word behind the program's own name is that of the command, which has few workers, or `worker`.
 abbrev pub AsksFor : List (List ℕ) → Line → Type 0
-AsksFor words (Run command) = (slice_get words 1 ≡ Some (command_name command)) × HasFewWorkers command
+AsksFor words (Run command path) = (slice_get words 1 ≡ Some (command_name command)) × HasFewWorkers command
+AsksFor words (Work port) = (slice_get words 1 ≡ Some (codes "worker")) × IsPort port

@@ -58,7 +58,7 @@ impl Command {
         match self {
             Command::Measure { workers }
             | Command::Solve { workers }
-            | Command::Synth { workers } => { Some(workers) }
+            | Command::Synth { workers } => Some(workers),
             Command::Check | Command::Replay | Command::Game => None,
         }
     }

@@ -3,7 +3,7 @@
 ghost use Rattle.std.specs.Prelude.{◌≡◌, OnOk};
 ghost use Rattle.std.specs.Io.KnownBytes.{Appends};
 ghost use Rattle.pg_cli.specs.Faults.{status_of};
-ghost use Rattle.pg_cli.specs.FaultTexts.{fault_line};
+ghost use Rattle.pg_cli.specs.FaultTexts.{fault_line, worker_number};
 
 use pg_aiger::AigerFault;
 use pg_check::CheckFault;
@@ -11,6 +11,7 @@ use pg_coord::CoordFault;
 use pg_hoa::HoaFault;
 use pg_synth::SynthFault;
 use pg_text::TextFault;
+use pg_worker::WorkerFault;
 use pg_world::{ScriptFault, WorldFault};
 use std::alloc::AllocError;
 use std::error::Error;
@@ -47,6 +48,25 @@ pub enum CliFault {
     Synth(SynthFault),
     /// The circuit of a controller is too large; never `OutOfMemory` or `Write`.
     Aiger(AigerFault),
+    /// No port of 127.0.0.1 could be listened at.
+    Listen,
+    /// Nobody could be reached at this port of 127.0.0.1.
+    Connect(u16),
+    /// A worker's serving ended so; never `OutOfMemory`.
+    Worker(WorkerFault),
+}
+
+/// The number of a worker's fault, from 1 on in their order.
+fn number_of(fault: WorkerFault) -> u8
+    ensures { result ≡ worker_number fault }
+{
+    match fault {
+        WorkerFault::OutOfMemory => 1,
+        WorkerFault::NotMine => 2,
+        WorkerFault::BadUpdate => 3,
+        WorkerFault::Order => 4,
+        WorkerFault::Wire(_) => 5,
+    }
 }
 
 impl fmt::Display for CliFault {
@@ -83,6 +103,12 @@ impl fmt::Display for CliFault {
             CliFault::Hoa(fault) => write!(f, "{fault}"),
             CliFault::Synth(fault) => write!(f, "{fault}"),
             CliFault::Aiger(fault) => write!(f, "{fault}"),
+            CliFault::Listen => f.write_str("cannot listen on 127.0.0.1"),
+            CliFault::Connect(port) => write!(f, "cannot connect to port {port}"),
+            CliFault::Worker(fault) => {
+                let number = number_of(*fault);
+                write!(f, "worker fault {number}")
+            }
         }
     }
 }
@@ -211,6 +237,19 @@ impl From<AigerFault> for CliFault {
             AigerFault::OutOfMemory => CliFault::OutOfMemory,
             AigerFault::Write => CliFault::Write,
             AigerFault::TooLarge => CliFault::Aiger(fault),
+        }
+    }
+}
+
+impl From<WorkerFault> for CliFault {
+    ghost use Rattle.pg_cli.specs.Faults.{worker_fault};
+
+    ghost from_gives = { λ fault e. e ≡ worker_fault fault };
+
+    fn from(fault: WorkerFault) -> CliFault {
+        match fault {
+            WorkerFault::OutOfMemory => CliFault::OutOfMemory,
+            _ => CliFault::Worker(fault),
         }
     }
 }

@@ -21,9 +21,9 @@ pub fn least_is_closed()
     ensures { LeastIsClosed }
 {}
 
-/// By least progress measures `measure` has one answer to an input, and so have `solve`, `replay` and `game`; where `solve` has one it isn't
-/// undecided; where `replay` has one no event is refused, and where one is it is at one place and for one fault; where
-/// `game` has one it isn't too large. So what a run writes is a function of what it reads.
+/// By least progress measures `measure` has one answer to an input, and so have `solve`, `replay` and `game`; where `solve` has
+/// one it isn't undecided; where `replay` has one no event is refused, and where one is it is at one place and for one fault;
+/// where `game` has one it isn't too large. So what `run` writes is a function of what it reads.
 pub fn one_answer()
     ensures { OneAnswer }
 {
@@ -46,8 +46,8 @@ pub fn circuit_accepted<W: InputWord>(word: &W)
     pg_synth::laws::machine_accepted();
 }
 
-/// Where `synth` prints `UNREALIZABLE`, whatever the links answer, an endless word isn't accepted if its input letters are those that Odd's strategy
-/// chooses at the arrivals which the word traces.
+/// Where `synth` prints `UNREALIZABLE`, whatever the links answer, an endless word isn't accepted if its input letters are those
+/// that Odd's strategy chooses at the arrivals which the word traces.
 pub fn unrealizable<W: Word>(word: &W)
     ensures { NoneAccepted (W.letter word.now) }
 {

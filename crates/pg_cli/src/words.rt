@@ -1,7 +1,8 @@
 //! The words of the command line.
 
-ghost use Rattle.std.specs.Prelude.{◌≤◌, map, IfOk};
-ghost use Rattle.pg_cli.specs.Words.{AsksFor};
+ghost use Rattle.std.specs.Prelude.{◌≤◌, map, IfOk, IfSome};
+ghost use Rattle.pg_cli.specs.Words.{AsksFor, IsPort};
+ghost use Rattle.pg_cli.specs.Mirrors.Asked.{IsLineOf};
 
 use crate::command::Command;
 use clap::error::ErrorKind;
@@ -11,8 +12,11 @@ use std::alloc::Global;
 /// What a command line asks for.
 #[derive(Debug, Drop)]
 pub enum Line {
-    /// A command that reads standard input and writes standard output.
-    Run(Command),
+    /// A command that reads standard input and writes standard output; and the program to start as each of its workers,
+    /// where they aren't to be in this process.
+    Run(Command, Option<String>),
+    /// A worker that serves at this port of 127.0.0.1.
+    Work(u16),
 }
 
 const NAME: &str = "parsolve";
@@ -21,6 +25,15 @@ const VERSION: &str = "0.1.0";
 
 /// The option that says how many workers solve.
 const WORKERS: &str = "workers";
+
+/// The option that says which program is started as each worker.
+const APART: &str = "apart";
+
+/// The word that asks for a worker.
+const WORKER: &str = "worker";
+
+/// The option that says at which port a worker serves.
+const PORT: &str = "port";
 
 /// The most workers that may be asked for.
 const MOST_WORKERS: u8 = 16;
@@ -121,6 +134,9 @@ no such controller.
 Example: parsolve synth < examples/request-grant.hoa",
 };
 
+const WORKER_MORE: &str = "\
+It reads no standard input and prints nothing: it connects to the port, and ends when the solver tells it to or goes away.";
+
 fn help_of(command: Command) -> Help {
     match command {
         Command::Measure { .. } => MEASURE,
@@ -143,15 +159,53 @@ fn workers_option<'a>(alloc: Global) -> Arg<'a> {
         .default_value("2")
 }
 
-/// The command as the command line knows it; one that solves has the option `--workers`.
+/// The option `--apart PATH`.
+fn apart_option<'a>(alloc: Global) -> Arg<'a> {
+    Arg::new(alloc, APART)
+        .long(APART)
+        .value_name("PATH")
+        .help(
+            "Start each worker as the program PATH, which has to be this one; the answer is the same",
+        )
+        .action(ArgAction::Set)
+}
+
+/// The option `--port P`.
+fn port_option<'a>(alloc: Global) -> Arg<'a> {
+    Arg::new(alloc, PORT)
+        .long(PORT)
+        .value_name("P")
+        .help("The port of 127.0.0.1 to connect to, from 1 to 65535")
+        .required(true)
+        .action(ArgAction::Set)
+        .value_parser(clap::value_parser!(u16).range(1..))
+}
+
+/// The command as the command line knows it; one that solves has the options `--workers` and `--apart`.
 fn subcommand<'a>(alloc: Global, command: Command) -> Result<Program<'a>, Error> {
     let help = help_of(command);
     let (name, about, more): (&'a str, &'a str, &'a str) = (command.name(), help.about, help.more);
     let program = Program::new(alloc, name).about(about).after_help(more);
     match command.workers() {
-        Some(_) => Ok(program.arg(workers_option(alloc))?),
+        Some(_) => Ok(
+            program
+                .arg(workers_option(alloc))?
+                .arg(apart_option(alloc))?,
+        ),
         None => Ok(program),
     }
+}
+
+/// The worker as the command line knows it.
+fn worker<'a>(alloc: Global) -> Result<Program<'a>, Error> {
+    Ok(
+        Program::new(alloc, WORKER)
+            .about(
+                "Lifts vertices for a solver that has started it; `--apart` of the other commands does",
+            )
+            .after_help(WORKER_MORE)
+            .arg(port_option(alloc))?,
+    )
 }
 
 fn program<'a>(alloc: Global) -> Result<Program<'a>, Error> {
@@ -163,7 +217,7 @@ fn program<'a>(alloc: Global) -> Result<Program<'a>, Error> {
     for command in Command::all(0) {
         program = program.subcommand(subcommand(alloc, command)?)?;
     }
-    Ok(program)
+    Ok(program.subcommand(worker(alloc)?)?)
 }
 
 /// How many workers the words ask for; 0 where the command solves nothing.
@@ -179,6 +233,44 @@ fn workers_in(matches: &ArgMatches<'_>) -> u32
     }
 }
 
+/// The program to start as each worker, if the words name one.
+fn apart_in(alloc: Global, matches: &ArgMatches<'_>) -> Result<Option<String>, Error> {
+    let Some((_, found)) = matches.subcommand() else {
+        return Ok(None);
+    };
+    match found.get_str(APART) {
+        Some(path) => Ok(Some(String::from_str(alloc, path)?)),
+        None => Ok(None),
+    }
+}
+
+/// The port that the words name.
+fn port_in(matches: &ArgMatches<'_>) -> Option<u16>
+    ensures { IfSome result IsPort }
+{
+    let (_, found) = matches.subcommand()?;
+    match found.get_one::<u16>(PORT) {
+        Some(port) if port >= 1 => Some(port),
+        _ => None,
+    }
+}
+
+/// What the words ask for whose second word is the name.
+fn line_of(alloc: Global, name: &str, matches: &ArgMatches<'_>) -> Result<Option<Line>, Error>
+    ensures { IfOk result (λ line. IfSome line (IsLineOf name.now)) }
+{
+    if name == WORKER {
+        let Some(port) = port_in(matches) else {
+            return Ok(None);
+        };
+        return Ok(Some(Line::Work(port)));
+    }
+    let Some(command) = Command::named(name, workers_in(matches)) else {
+        return Ok(None);
+    };
+    Ok(Some(Line::Run(command, apart_in(alloc, matches)?)))
+}
+
 /// Reads a command line, whose first word is the program's own name. The error is `clap`'s: its text, and whether it
 /// goes to the error stream (a fault of the command line) or not (`--help`, `--version`).
 pub fn parse_words(alloc: Global, words: &[&str]) -> Result<Line, Error>
@@ -186,10 +278,9 @@ pub fn parse_words(alloc: Global, words: &[&str]) -> Result<Line, Error>
 {
     let mut program = program(alloc)?;
     let matches = program.try_get_matches_from_mut(words)?;
-    let workers = workers_in(&matches);
     match words {
-        [_, name, ..] => match Command::named(name, workers) {
-            Some(command) => Ok(Line::Run(command)),
+        [_, name, ..] => match line_of(alloc, name, &matches)? {
+            Some(line) => Ok(line),
             None => Err(program.error(ErrorKind::InvalidSubcommand, "no such command")?),
         },
         _ => Err(program.error(ErrorKind::MissingSubcommand, "no command")?),

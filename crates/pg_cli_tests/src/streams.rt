@@ -7,10 +7,10 @@ use std::test::Fail;
 
 /// Gives a byte at a time; the read with this number fails with this kind of error.
 #[derive(Drop)]
-struct Failing<'a> {
-    left: &'a [u8],
-    before: usize,
-    kind: ErrorKind,
+pub(crate) struct Failing<'a> {
+    pub(crate) left: &'a [u8],
+    pub(crate) before: usize,
+    pub(crate) kind: ErrorKind,
 }
 
 impl Read for Failing<'_> {
@@ -27,8 +27,8 @@ impl Read for Failing<'_> {
 
 /// Takes a byte at a time, and fails at one write and at each after it.
 #[derive(Drop)]
-struct Full {
-    before: usize,
+pub(crate) struct Full {
+    pub(crate) before: usize,
 }
 
 impl Write for Full {
@@ -46,30 +46,34 @@ impl Write for Full {
 }
 
 /// From the vertex with priority 1 Even leaves by the one with priority 2.
-const TWO: &[u8] = b"parity 1;\n0 1 0 0,1;\n1 2 1 0;\n";
+pub(crate) const TWO: &[u8] = b"parity 1;\n0 1 0 0,1;\n1 2 1 0;\n";
 
 /// The same, and its solution.
-const SOLVED: &[u8] = b"parity 1;\n0 1 0 0,1;\n1 2 1 0;\n--\nparitysol 1;\n0 0 1;\n1 0;\n";
+pub(crate) const SOLVED: &[u8] =
+    b"parity 1;\n0 1 0 0,1;\n1 2 1 0;\n--\nparitysol 1;\n0 0 1;\n1 0;\n";
 
 /// The same, and a script in which the coordinator alone lifts.
-const SCRIPT: &[u8] = b"parity 1;\n0 1 0 0,1;\n1 2 1 0;\n--\nworkers 0;\ncentral 0;\ncentral 0;\n";
+pub(crate) const SCRIPT: &[u8] =
+    b"parity 1;\n0 1 0 0,1;\n1 2 1 0;\n--\nworkers 0;\ncentral 0;\ncentral 0;\n";
 
 /// What comes of it.
-const WORLD: &[u8] = b"update 0 0 1;\nreplica 0 taken 0;\n0 1;\n1 0;\n";
+pub(crate) const WORLD: &[u8] = b"update 0 0 1;\nreplica 0 taken 0;\n0 1;\n1 0;\n";
 
 /// The controller sets nothing; the only letter leads on without a set.
-const LOOP: &[u8] = b"HOA: v1 Start: 0 Acceptance: 1 Inf(0) --BODY-- State: 0 [t] 0 --END--";
+pub(crate) const LOOP: &[u8] =
+    b"HOA: v1 Start: 0 Acceptance: 1 Inf(0) --BODY-- State: 0 [t] 0 --END--";
 
 /// Its game.
-const GAME: &[u8] = b"parity 3;\n0 1 1 0 \"dead\";\n1 1 1 3 \"s0\";\n3 0 0 1 \"s0:0\";\n";
+pub(crate) const GAME: &[u8] =
+    b"parity 3;\n0 1 1 0 \"dead\";\n1 1 1 3 \"s0\";\n3 0 0 1 \"s0:0\";\n";
 
 /// Two states take turns: the controller sets its proposition in every other step, beginning with the first.
-const TURNS: &[u8] =
+pub(crate) const TURNS: &[u8] =
     b"HOA: v1 Start: 0 AP: 1 \"g\" controllable-AP: 0 Acceptance: 1 Inf(0) --BODY-- \
 State: 0 [0] 1 {0} State: 1 [!0] 0 {0} --END--";
 
 /// Its circuit: the latch is its own negation, and so is the output.
-const CIRCUIT: &[u8] = b"REALIZABLE\naag 1 0 1 1 0\n2 3\n3\no0 g\n";
+pub(crate) const CIRCUIT: &[u8] = b"REALIZABLE\naag 1 0 1 1 0\n2 3\n3\no0 g\n";
 
 /// What a command writes of an input.
 fn answer(alloc: Global, command: Command, input: &[u8]) -> Result<Vec<u8>, CliFault>

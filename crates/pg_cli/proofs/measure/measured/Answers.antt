@@ -13,5 +13,6 @@ returns-in_err-game-clause-refused g c = λ workers.
     let P = answers.RefusesBy (IsFoundIf (All g.L.Link.is_honest c.args.links.now)) (Measure workers) bytes in
     refused_by P c.from_residual.result (text_fault fault) c.from_residual.ensures.1
     (told_so P fault tt (λ memory.
-    let why = no_game bytes fault (rw (← c.deref.ensures.value) c.in_err-game.ensures.only) (rw (← c.deref.ensures.value) c.in_err-game.ensures.refused) memory in
+    let why = no_game bytes fault (rw (← c.deref.ensures.value) c.in_err-game.ensures.only)
+    (rw (← c.deref.ensures.value) c.in_err-game.ensures.refused) memory in
     (why.0, (c.requires.limit, why.1))))

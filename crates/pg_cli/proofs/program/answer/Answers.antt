@@ -16,7 +16,8 @@ returns-in-Measure-clause-answer g c =
 pub returns-in-Measure-clause-refused : goal.returns-in-Measure-clause-refused
 returns-in-Measure-clause-refused g c =
     let Found = IsFoundIf (All g.L.Link.is_honest c.args.links.now) in
-    subst (λ (it : Command). IfErr c.measure.result (RefusesBy Found it c.args.text.items)) (sym c.in-Measure.is) (c.measure.ensures.refused c.in-Measure.workers)
+    subst (λ (it : Command). IfErr c.measure.result (RefusesBy Found it c.args.text.items)) (sym c.in-Measure.is)
+    (c.measure.ensures.refused c.in-Measure.workers)
 
 pub returns-in-Solve-clause-answer : goal.returns-in-Solve-clause-answer
 returns-in-Solve-clause-answer g c =
@@ -27,7 +28,8 @@ returns-in-Solve-clause-answer g c =
 pub returns-in-Solve-clause-refused : goal.returns-in-Solve-clause-refused
 returns-in-Solve-clause-refused g c =
     let Found = IsFoundIf (All g.L.Link.is_honest c.args.links.now) in
-    subst (λ (it : Command). IfErr c.solve.result (RefusesBy Found it c.args.text.items)) (sym c.in-Solve.is) (c.solve.ensures.refused c.in-Solve.workers)
+    subst (λ (it : Command). IfErr c.solve.result (RefusesBy Found it c.args.text.items)) (sym c.in-Solve.is)
+    (c.solve.ensures.refused c.in-Solve.workers)
 
 pub returns-in-Synth-clause-answer : goal.returns-in-Synth-clause-answer
 returns-in-Synth-clause-answer g c =
@@ -38,7 +40,8 @@ returns-in-Synth-clause-answer g c =
 pub returns-in-Synth-clause-refused : goal.returns-in-Synth-clause-refused
 returns-in-Synth-clause-refused g c =
     let Found = IsFoundIf (All g.L.Link.is_honest c.args.links.now) in
-    subst (λ (it : Command). IfErr c.synth.result (RefusesBy Found it c.args.text.items)) (sym c.in-Synth.is) (c.synth.ensures.refused c.in-Synth.workers)
+    subst (λ (it : Command). IfErr c.synth.result (RefusesBy Found it c.args.text.items)) (sym c.in-Synth.is)
+    (c.synth.ensures.refused c.in-Synth.workers)
 
 pub returns-in-Check-clause-answer : goal.returns-in-Check-clause-answer
 returns-in-Check-clause-answer g c =

@@ -22,14 +22,16 @@ pub returns-in_err-write_all-clause-refused : goal.returns-in_err-write_all-clau
 returns-in_err-write_all-clause-refused g c = λ workers.
     let Found = IsFoundIf (All g.L.Link.is_honest c.args.links.now) in
     let x = c.in_ok-automaton in
-    refused_by (answers.RefusesBy Found (Synth workers) c.args.text.items) c.from_residual-in_err-write_all.result Write c.from_residual-in_err-write_all.ensures.1
+    refused_by (answers.RefusesBy Found (Synth workers) c.args.text.items) c.from_residual-in_err-write_all.result Write
+    c.from_residual-in_err-write_all.ensures.1
     (has_answer Found workers c.args.text.items x.automaton x.circuit c.requires.limit x.ensures.circuit)
 
 pub returns-in_err-write_all-2-clause-refused : goal.returns-in_err-write_all-2-clause-refused
 returns-in_err-write_all-2-clause-refused g c = λ workers.
     let Found = IsFoundIf (All g.L.Link.is_honest c.args.links.now) in
     let x = c.in_ok-automaton in
-    refused_by (answers.RefusesBy Found (Synth workers) c.args.text.items) c.from_residual-in_err-write_all-2.result Write c.from_residual-in_err-write_all-2.ensures.1
+    refused_by (answers.RefusesBy Found (Synth workers) c.args.text.items) c.from_residual-in_err-write_all-2.result Write
+    c.from_residual-in_err-write_all-2.ensures.1
     (has_answer Found workers c.args.text.items x.automaton x.circuit c.requires.limit x.ensures.circuit)
 
 pub returns-in_err-write_circuit-clause-refused : goal.returns-in_err-write_circuit-clause-refused

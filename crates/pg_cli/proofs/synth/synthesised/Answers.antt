@@ -22,8 +22,10 @@ returns-in_err-made-clause-refused g c = λ workers.
     let Found = IsFoundIf (All g.L.Link.is_honest c.args.links.now) in
     let bytes = c.args.text.items in
     let fault = c.in_err-made.field-0.0 in
-    refused_by (answers.RefusesBy Found (Synth workers) bytes) c.from_residual-in_err-made.result (synth_fault fault) c.from_residual-in_err-made.ensures.1
-    (refuses_large Found workers bytes c.in_ok-automaton.automaton c.requires.limit (rw (← c.deref.ensures.value) c.in_ok-automaton.ensures.found) fault c.in_err-made.ensures.fault)
+    refused_by (answers.RefusesBy Found (Synth workers) bytes) c.from_residual-in_err-made.result (synth_fault fault)
+    c.from_residual-in_err-made.ensures.1
+    (refuses_large Found workers bytes c.in_ok-automaton.automaton c.requires.limit (rw (← c.deref.ensures.value) c.in_ok-automaton.ensures.found) fault
+    c.in_err-made.ensures.fault)
 
 pub returns-in_err-circuit-clause-refused : goal.returns-in_err-circuit-clause-refused
 returns-in_err-circuit-clause-refused g c = λ workers.
@@ -43,7 +45,8 @@ returns-in_err-circuit-clause-refused g c = λ workers.
       sound = c.in_ok-solution.ensures.sound;
       machine_of = subst (IsMealyOf a made.game made.initial solution) c.in-Some.is c.in_ok-machine.ensures.machine;
     } in
-    refused_by (answers.RefusesBy Found (Synth workers) bytes) c.from_residual-in_err-circuit.result (aiger_fault fault) c.from_residual-in_err-circuit.ensures.1
+    refused_by (answers.RefusesBy Found (Synth workers) bytes) c.from_residual-in_err-circuit.result (aiger_fault fault)
+    c.from_residual-in_err-circuit.ensures.1
     (refuses_circuit Found workers bytes c.requires.limit fault c.in_err-circuit.ensures.refused
     (λ e. large_by Found bytes a made.game made.initial solution machine known (c.in_err-circuit.ensures.too_large.0 (ap Err e))))
 

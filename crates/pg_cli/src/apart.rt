@@ -1,0 +1,81 @@
+//! Commands whose games are solved by programs.
+
+ghost use Rattle.std.specs.Prelude.{◌≡◌, ◌≢◌, ◌+◌, ◌⊎◌, ℕ, List, length, IfOk, OnOk, IfSome, IfErr};
+ghost use Rattle.std.specs.Io.KnownBytes.{Appends};
+ghost use Rattle.pg_cli.specs.Input.{StaysWithin};
+ghost use Rattle.pg_cli.specs.Measuring.{IsClosedMapOf};
+ghost use Rattle.pg_cli.specs.Answers.{PrintsBy, RefusesBy};
+ghost use Rattle.pg_cli.specs.Words.{HasFewWorkers};
+
+use crate::command::Command;
+use crate::fault::CliFault;
+use crate::input::MOST_BYTES;
+use crate::program::run_with;
+use pg_coord::{Link, LinkFault, Reach, SocketLink, halt};
+use std::alloc::{AllocError, Global};
+use std::io::{Read, Write};
+
+/// Links to so many programs that are still to be started.
+fn program_links<R: Reach>(
+    rt: &R,
+    alloc: Global,
+    path: &str,
+    count: u32,
+) -> Result<Vec<SocketLink<R>>, CliFault>
+    ensures ok { IfOk result (λ links. length links.items ≡ count) }
+    ensures fault { IfErr result (λ e. (e ≡ CliFault.OutOfMemory) ⊎ (e ≡ CliFault.Listen)) }
+{
+    let mut links = Vec::new(alloc);
+    for _ in 0..count {
+        match SocketLink::listen(rt.clone()?, alloc, path) {
+            Ok(link) => links.push(link).map_err(AllocError::from)?,
+            Err(LinkFault::OutOfMemory) => return Err(CliFault::OutOfMemory),
+            Err(LinkFault::Failed) => return Err(CliFault::Listen),
+        }
+    }
+    Ok(links)
+}
+
+/// Tells the programs that were started to end, and sees to it that each has ended.
+fn end<R: Reach>(mut links: Vec<SocketLink<R>>) {
+    let started = links.as_mut_slice();
+    for place in 0..started.len() {
+        if started[place].has_program() {
+            halt(&mut started[place..place + 1]);
+        }
+    }
+    for link in links {
+        link.close();
+    }
+}
+
+/// As `run`, with the program `path` started as each worker: `path worker --port P`, which has to call `work`. Nothing that was
+/// started runs when this returns.
+///
+/// Whatever the programs do, and also where none can be started, what is printed goes by a closed map of the game and one of
+/// its dual, as for `run_with`.
+///
+/// Refuses what `run` does, in the same order, and before all else `Listen` where no port of 127.0.0.1 can be listened at.
+pub fn run_apart<S: Reach, R: Read, W: Write>(
+    rt: &S,
+    alloc: Global,
+    command: Command,
+    path: &str,
+    reader: &mut R,
+    writer: &mut W,
+) -> Result<(), CliFault>
+    requires { HasFewWorkers command }
+    ensures answer { OnOk result (IfSome (R.remaining reader.old) (λ input.
+        (output : List ℕ) × PrintsBy IsClosedMapOf command input output
+        × Appends (W.contents writer.old) (W.contents writer.new) output)) }
+    ensures refused { IfErr result (λ fault. (fault ≡ CliFault.Listen)
+        ⊎ IfSome (R.remaining reader.old) (λ input. RefusesBy IsClosedMapOf command input fault)) }
+    // Whatever comes of it, no byte behind the first one over the limit is read.
+    ensures no_further { StaysWithin (R.remaining reader.old) (R.remaining reader.new) (MOST_BYTES + 1) }
+    ensures untouched { IfErr result (λ fault. fault ≢ CliFault.Write → writer.new ≡ writer.old) }
+{
+    let mut links = program_links(rt, alloc, path, command.workers().unwrap_or(0))?;
+    let ran = run_with(alloc, command, links.as_mut_slice(), reader, writer);
+    end(links);
+    ran
+}
