@@ -31,12 +31,14 @@ def answers_as_defined(program, command, text_of, count=150):
 
 
 def workers_change_nothing(program, command, random_text, count=25):
-    """Every number of workers gives the same bytes on random inputs."""
+    """Every number of workers gives the same bytes on random inputs, in the same process or in programs of their own."""
     dice = random.Random(3)
+    options = [["--workers", str(workers)] for workers in range(17)]
+    options += [["--workers", str(workers), "--apart", "/proc/self/exe"] for workers in (1, 2, 5)]
     for _ in range(count):
         text = random_text(dice)
-        outputs = {subprocess.run([program, command, "--workers", str(workers)], input=text.encode(), capture_output=True,
-                                  timeout=60, check=True).stdout.decode() for workers in range(17)}
+        outputs = {subprocess.run([program, command, *words], input=text.encode(), capture_output=True,
+                                  timeout=60, check=True).stdout.decode() for words in options}
         if len(outputs) != 1:
             return f"{command} on {text!r}: {sorted(outputs)!r}"
     return None
@@ -204,6 +206,8 @@ def cases(programs):
                                   ("check", three + b"--\n" + solution, b"WINS\n"), ("replay", odd + script, world),
                                   ("game", automaton, automaton_game), ("synth", delay, circuit)):
         yield f"want of memory in {command}", lambda c=command, t=text, w=wanted: survives_want_of_memory(programs[0], [c], t, w)
+    apart = ["measure", "--workers", "1", "--apart", "/proc/self/exe"]
+    yield "want of memory with --apart", lambda: survives_want_of_memory(programs[0], apart, game, b"0 1,1;\n1 1,0;\n2 0,0;\n")
 
 
 def run(programs):

@@ -8,7 +8,7 @@ Whoever wants to believe what is proved reads the believed modules: the files of
 - docs/map.md lists each believed module once, with the number of its lines, and the public calls whose contracts name a
   mirror all the same;
 - each name of docs/definitions.md is defined in the file that stands beside it;
-- each call and law that the README names is there.
+- each call and law that the README and docs/promises.md name is there, and so is each clause and definition of the latter.
 
     tests/layout.py            prints what it finds; the status is 1 if something is wrong
     tests/layout.py --write    first mends both documents as far as that needs no words: numbers of lines, files that are
@@ -21,6 +21,7 @@ import textwrap
 
 TOP = pathlib.Path(__file__).resolve().parent.parent
 CRATES, README, MAP, DEFINITIONS = TOP / "crates", TOP / "README.md", TOP / "docs/map.md", TOP / "docs/definitions.md"
+PROMISES = TOP / "docs/promises.md"
 APART = {"Mirrors", "Lemmas"}
 EXCEPTIONS = re.compile(r"Public calls whose contracts name one: ((?:[^.]|\n)*)\.")
 ROW = re.compile(r"^\| `(\w+/specs/[\w/]+\.antt)` \| (\d+) \|", re.M)
@@ -153,10 +154,21 @@ def exceptions():
 
 
 def calls():
-    """The same for each call and law of the README, as `pg_check::laws::one_winner`."""
-    for crate, name in re.findall(r"`(pg_\w+)::(?:\w+::)*(\w+)`", README.read_text()):
-        is_there = any(re.search(rf"\bpub fn {name}\b", path.read_text()) for path in (CRATES / crate / "src").rglob("*.rt"))
-        yield name, None if is_there else f"isn't in {crate}, as the README says"
+    """The same for each call, type and law of the README and of docs/promises.md, as `pg_check::laws::one_winner`."""
+    for document in (README, PROMISES):
+        for crate, name in re.findall(r"`(pg_\w+)::(?:\w+::)*(\w+)`", document.read_text()):
+            item = re.compile(rf"(?:\bpub (?:fn|struct|trait|mod)|^    fn) {name}\b", re.M)
+            is_there = any(item.search(path.read_text()) for path in (CRATES / crate / "src").rglob("*.rt"))
+            yield name, None if is_there else f"isn't in {crate}, as {document.name} says"
+
+
+def promises():
+    """The same for each clause and definition that docs/promises.md names: a word in its tables, of small letters or not."""
+    code = "\n".join(path.read_text() for path in CRATES.glob("*/src/**/*.rt"))
+    for name in sorted(set(re.findall(r"`([A-Za-z]\w*)`", "".join(re.findall(r"^\| .*\n", PROMISES.read_text(), re.M))))):
+        is_code = re.search(rf"\b(?:ensures|fn|struct|trait|enum|mod|invariant) {name}\b|\b{name}::|\"{name}", code)
+        is_there = is_code or (CRATES / name).is_dir() or any(defined(name, path) for path in modules()[0])
+        yield name, None if is_there else "isn't there, as docs/promises.md says"
 
 
 def headline(path):
@@ -207,7 +219,7 @@ def write_definitions():
 def run():
     """Makes every check; answers how many passed and failed."""
     passed = failed = 0
-    for part in (imports, rows_of_map, exceptions, entries, calls):
+    for part in (imports, rows_of_map, exceptions, entries, calls, promises):
         for what, why in part():
             if why is None:
                 passed += 1

@@ -1,0 +1,259 @@
+"""Runs commands whose workers are programs of their own: the program itself, programs that pretend to be a worker
+(pretender.py), programs that aren't there. Each run has to end with the right answer, in time, and leave no program behind."""
+import ctypes
+import os
+import pathlib
+import socket
+import subprocess
+import sys
+import tempfile
+import threading
+import time
+from concurrent.futures import ProcessPoolExecutor
+
+import pretender
+
+PRETENDER = pathlib.Path(__file__).resolve().parent / "pretender.py"
+LIMIT = 150  # seconds after which a run is said to hang; the slowest waits four times for ten seconds, or once for sixty
+
+TWO = "parity 1;\n0 1 0 0,1;\n1 2 1 0;\n"
+TOPS = "parity 1;\n0 1 0 0;\n1 3 0 0;\n"
+THREE = 'parity 2;\n0 0 1 0,1;\n1 1 1 1,2 "odd";\n2 2 0 0,2;\n'
+DELAY = """HOA: v1\nname: "delay"\nStates: 2\nStart: 0\nAP: 2 "r" "g"\ncontrollable-AP: 1\nacc-name: parity max even 2
+Acceptance: 2 Fin(1) & Inf(0)\nproperties: trans-labels explicit-labels trans-acc deterministic\n--BODY--\nState: 0 "low"
+[!0&!1] 0 {0}\n[0&!1] 1 {0}\nState: 1\n[!0&1] 0 {0}\n[0&1] 1 {0}\n--END--\n"""
+ANSWERS = {
+    ("measure", TWO): "0 1;\n1 0;\n",
+    ("measure", TOPS): "0 T;\n1 T;\n",
+    ("measure", THREE): "0 T;\n1 T;\n2 0;\n",
+    ("solve", TWO): "paritysol 1;\n0 0 1;\n1 0;\n",
+    ("solve", THREE): "paritysol 2;\n0 1 1;\n1 1 1;\n2 0 2;\n",
+    ("synth", DELAY): "REALIZABLE\naag 8 1 1 1 6\n2\n4 15\n17\n6 5 3\n8 5 2\n10 4 3\n12 4 2\n14 13 9\n16 13 11\ni0 r\no0 g\n",
+}
+
+FAILING = ["exits_at_once", "connects_and_exits", "half_a_frame_and_exits", "half_a_length", "length_0", "length_over_the_limit",
+           "length_at_the_limit", "unknown_kind", "setup_in_reply", "outside_its_part", "above_the_bounds", "another_width",
+           "the_other_kind", "too_many_frames", "refuses", "refuses_to_lift", "quiet_at_once"]
+WAITING = ["never_connects", "connects_and_closes", "says_nothing", "half_a_frame_and_silence", "drips"]
+STARTING = ("killed_after", "nonsense_once", "starts_the_worker")  # these start a program in turn, which ends a little later
+
+
+def begin():
+    """Makes this process the parent of programs whose own parent has ended."""
+    ctypes.CDLL(None).prctl(36, 1, 0, 0, 0)
+
+
+def left_behind(grace):
+    """How many programs were left running, or not waited for; they are waited for, and killed after so many seconds."""
+    count, until = 0, time.monotonic() + grace
+    while True:
+        try:
+            found, _ = os.waitpid(-1, os.WNOHANG)
+        except ChildProcessError:
+            return count
+        if found:
+            count += grace == 0
+        elif time.monotonic() >= until:
+            with open(f"/proc/self/task/{os.getpid()}/children") as file:
+                children = file.read().split()
+            for child in children:
+                os.kill(int(child), 9)
+                os.waitpid(int(child), 0)
+                count += 1
+        else:
+            time.sleep(0.01)
+
+
+class Run:
+    """A run of a program; `path` is what is started as a worker, the name of a pretender or a path."""
+
+    def __init__(self, program, command, text, path, workers=1):
+        self.program, self.command, self.text, self.path, self.workers = program, command, text, path, workers
+
+    def __str__(self):
+        return f"{self.command} --workers {self.workers} --apart {self.path} ({os.path.basename(self.program)})"
+
+    def make(self, folder, **more):
+        """Runs it, and sets what it answered."""
+        path = self.path
+        if path and "/" not in path:
+            path = os.path.join(folder, path)
+            os.symlink(PRETENDER, path)
+        env = {**os.environ, "PARSOLVE_PROGRAM": self.program, "PARSOLVE_FOLDER": folder, **more}
+        words = [self.program, self.command, "--workers", str(self.workers), "--apart", path]
+        ran = subprocess.Popen(words, stdin=subprocess.PIPE, stdout=subprocess.PIPE, stderr=subprocess.PIPE, text=True, env=env)
+        try:
+            self.output, self.errors = ran.communicate(self.text, timeout=LIMIT)
+        except subprocess.TimeoutExpired:
+            ran.kill()
+            self.output, self.errors = ran.communicate()
+            return "it hangs"
+        self.status = ran.returncode
+        left = left_behind(10 if self.path.startswith(STARTING) else 0)
+        return f"{left} programs were left behind" if left else None
+
+    def differs(self, status, output, errors=""):
+        """Why it isn't this answer, or None."""
+        found, wanted = (self.status, self.output, self.errors), (status, output, errors)
+        return None if found == wanted else f"{found!r}, wanted {wanted!r}"
+
+    def answers(self, output):
+        with tempfile.TemporaryDirectory() as folder:
+            return self.make(folder) or self.differs(0, output)
+
+
+def answers(program, command, text, path, workers=1):
+    """The right answer comes."""
+    run = Run(program, command, text, path, workers)
+    return str(run), run.answers(ANSWERS[command, text])
+
+
+def says(program, command, text, path, status, output, errors=""):
+    """What the programs say is believed as far as it goes."""
+    run = Run(program, command, text, path)
+    with tempfile.TemporaryDirectory() as folder:
+        return str(run), run.make(folder) or run.differs(status, output, errors)
+
+
+def wins_or_is_undecided(program, text):
+    """Whatever measures the programs make up, a solution that is printed is sound."""
+    run = Run(program, "solve", text, "random_values", 2)
+    with tempfile.TemporaryDirectory() as folder:
+        why = run.make(folder)
+    if why is not None or run.status == 3 and not run.output and run.errors.startswith("parsolve: undecided at "):
+        return str(run), why
+    checked = subprocess.run([program, "check"], input=f"{text}--\n{run.output}", capture_output=True, text=True)
+    return str(run), None if checked.stdout == "WINS\n" else f"{run.output!r}: {checked.stdout!r}"
+
+
+def killed_at_each_frame(program, command, text):
+    """One of two programs is killed behind its N-th frame, N rising until it doesn't send as many."""
+    for count in range(1000):
+        run = Run(program, command, text, f"killed_after_{count}", 2)
+        with tempfile.TemporaryDirectory() as folder:
+            why = run.make(folder) or run.differs(0, ANSWERS[command, text])
+            if why is not None:
+                return str(run), why
+            if not os.path.exists(os.path.join(folder, "killed")):
+                return str(run), None if count > 2 else f"only {count} frames came"
+    return str(run), "there is no last frame"
+
+
+def starts_anew(program):
+    """A program that answers nonsense is killed and waited for, and another one does the work over a connection of its own."""
+    run = Run(program, "measure", TOPS, "nonsense_once")
+    with tempfile.TemporaryDirectory() as folder:
+        why = run.make(folder) or run.differs(0, ANSWERS["measure", TOPS])
+        notes = set(os.listdir(folder))
+        if why is None and ("zombies" in notes or "worked" not in notes):
+            why = f"notes: {sorted(notes)}"
+    return str(run), why
+
+
+def answer_for_another(listener):
+    """Connects to the port that a program names, ahead of that program, and says top for each vertex there."""
+    told, _ = listener.accept()
+    port = int(told.makefile().readline())
+    worker = pretender.Worker(pretender.top_everywhere)
+    thread = threading.Thread(target=worker.serve, args=[port], daemon=True)
+    thread.start()
+    time.sleep(0.2)
+    told.sendall(b"\n")
+
+
+def others_stay_out(program):
+    """A connection of another program, which is there first, doesn't stand in for that of the program that was started."""
+    run = Run(program, "measure", TWO, "after_another")
+    with socket.create_server(("127.0.0.1", 0)) as listener, tempfile.TemporaryDirectory() as folder:
+        threading.Thread(target=answer_for_another, args=[listener], daemon=True).start()
+        why = run.make(folder, PARSOLVE_OTHER=str(listener.getsockname()[1]))
+        return str(run), why or run.differs(0, ANSWERS["measure", TWO])
+
+
+SETUP = "0000001a0101 00000002 00000002 00000003 00000001 00000001 00000001"
+PART = "0000001602 00000001 00000000 00000001 00 00000001 00000000"
+SERVED = [  # what a solver sends to a worker, what comes back, status, error stream
+    (f"{SETUP} {PART} 000000050400001000 0000000106", "0000000e 03 00000002 00000001 00000000 01 00000003050100", 0, ""),
+    (f"{SETUP} {PART} 000000050400000002 0000000106",
+     "00000016 03 00000002 00000001 00000000 00 00000001 00000000 00000003050000", 0, ""),
+    (f"{SETUP.replace('1a0101', '1a0102')} {PART} 000000050400001000 0000000106",
+     "00000003050100 0000000e 07 00000002 00000001 00000000 01 00000003050100", 0, ""),
+    ("000000050400001000", "00000003050204", 1, "parsolve: worker fault 4\n"),
+    ("01000001", "0000000305020c", 1, "parsolve: worker fault 5\n"),
+    ("000000", "", 1, "parsolve: worker fault 5\n"),
+    (SETUP, "", 0, ""),
+    ("", "", 0, ""),
+]
+
+
+def serves(program, sent, reply, status, errors):
+    """The program as a worker writes this reply, and ends so."""
+    with socket.create_server(("127.0.0.1", 0)) as listener:
+        words = [program, "worker", "--port", str(listener.getsockname()[1])]
+        ran = subprocess.Popen(words, stdin=subprocess.DEVNULL, stdout=subprocess.PIPE, stderr=subprocess.PIPE, text=True)
+        stream, _ = listener.accept()
+        with stream:
+            stream.sendall(bytes.fromhex(sent))
+            stream.shutdown(socket.SHUT_WR)
+            came = b"".join(iter(lambda: stream.recv(65536), b""))
+        output, told = ran.communicate(timeout=60)
+    found, wanted = (came, ran.returncode, output, told), (bytes.fromhex(reply), status, "", errors)
+    return f"worker on {sent}", None if found == wanted else f"{found!r}, wanted {wanted!r}"
+
+
+def cases(program, is_first):
+    """The checks of a program, the slow ones first, and those on the first program alone."""
+    own, nowhere = [program, "/proc/self/exe"], ["/nonexistent/parsolve", "/dev/null", ""]
+    if is_first:
+        yield answers, program, "measure", TWO, "silent_once"
+        for name in WAITING:
+            yield answers, program, "measure", TWO, name
+    for command, text in ANSWERS:
+        for workers in (0, 1, 2, 16):
+            yield answers, program, command, text, own[workers % 2], workers
+        for path in nowhere:
+            yield answers, program, command, text, path, 2
+    for name in [*FAILING, "starts_the_worker"]:
+        yield answers, program, "measure", TWO, name
+        yield answers, program, "solve", THREE, name, 2
+    for name in ("top_everywhere", "top_in_version_1"):
+        yield says, program, "measure", TWO, name, 0, "0 T;\n1 T;\n"
+        yield says, program, "solve", TWO, name, 3, "", "parsolve: undecided at 0\n"
+    yield says, program, "measure", THREE, "one_too_much", 0, "0 T;\n1 T;\n2 1;\n"
+    yield says, program, "solve", THREE, "one_too_much", 0, ANSWERS["solve", THREE]
+    yield says, program, "measure", "0 0 0 9;\n", "never_connects", 1, "", (
+        "parsolve: vertex 0 has successor 9, which no line defines\n")
+    for text in (TWO, THREE, TOPS):
+        for _ in range(5):
+            yield wins_or_is_undecided, program, text
+    yield killed_at_each_frame, program, "measure", TOPS
+    yield killed_at_each_frame, program, "solve", THREE
+    yield starts_anew, program
+    yield others_stay_out, program
+    for row in SERVED:
+        yield serves, program, *row
+
+
+def check(case):
+    """(what was checked, why it fails or None)"""
+    call, *rest = case
+    try:
+        return call(*rest)
+    except Exception as why:
+        return f"{call.__name__} {rest}", repr(why)
+
+
+def run(programs):
+    """Checks every program; answers how many checks passed and failed."""
+    todo = [case for program in programs for case in cases(program, program == programs[0])]
+    with ProcessPoolExecutor(8, initializer=begin) as pool:
+        found = list(pool.map(check, todo))
+    failed = [(name, why) for name, why in found if why is not None]
+    for name, why in failed:
+        print(f"apart: {name}: {why}")
+    print(f"apart: {len(found) - len(failed)} passed, {len(failed)} failed")
+    return len(found) - len(failed), len(failed)
+
+
+if __name__ == "__main__":
+    sys.exit(1 if run(sys.argv[1:])[1] else 0)
