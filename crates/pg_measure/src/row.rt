@@ -84,6 +84,9 @@ pub fn is_front_below(a: &[u32], b: &[u32], width: usize) -> bool
     ensures { MatchBool result (FrontAtMost width (measure_of a.now) (measure_of b.now))
         (FrontAtMost width (measure_of b.now) (measure_of a.now)) }
 {
+    if a[0] != 0 {
+        return false;
+    }
     is_below(&a[..width + 1], &b[..width + 1])
 }
 
