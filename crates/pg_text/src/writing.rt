@@ -19,10 +19,21 @@ pub fn write_number<W: Write>(number: u32, out: &mut W) -> io::Result<()>
     out.write_all(buffer.format(number).as_bytes())
 }
 
-/// A number behind a comma.
+/// A number of one digit behind a comma.
+fn write_comma_digit<W: Write>(digit: u8, out: &mut W) -> io::Result<()>
+    requires { digit < 10 }
+    ensures { OnOk result (Appends (W.contents out.old) (W.contents out.new) (comma_number digit)) }
+{
+    out.write_all(&[b',', b'0' + digit])
+}
+
+/// A number behind a comma. Most components of measures are small, so those of one digit are written at once.
 fn write_comma_number<W: Write>(number: u32, out: &mut W) -> io::Result<()>
     ensures { OnOk result (Appends (W.contents out.old) (W.contents out.new) (comma_number number)) }
 {
+    if number < 10 {
+        return write_comma_digit(number as u8, out);
+    }
     out.write_all(b",")?;
     write_number(number, out)
 }
