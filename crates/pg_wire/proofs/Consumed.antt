@@ -8,16 +8,18 @@ use Rattle.pg_wire.specs.declared.fault.WireFault.{WireFault}
 use Rattle.pg_wire.specs.declared.fault.WireFault.TheVariants.{TooLong, Truncated, OutOfMemory, BadKind, BadField, Read, Write, Version}
 use Rattle.pg_wire.specs.declared.frame.Frame.{Frame}
 use Rattle.pg_wire.specs.Spelling.{word, body, spelling, longest}
-use Rattle.pg_wire.specs.Well.{IsWell}
-use Rattle.pg_wire.specs.Bytes.{Spells, IsReadFrom, length_field}
-use Rattle.pg_wire.proofs.Grammar.{IsBytes}
-use Rattle.pg_wire.proofs.Bodies.{whole_found, length_is, same_body}
+use Rattle.pg_wire.specs.Bytes.{Spells, IsReadFrom, IsWhole, IsTooLong, IsTruncated, length_field}
+use Rattle.pg_wire.proofs.Bodies.{length_is, one_frame}
 
 pub consumes_then : (a b c : Option (List ℕ)) (x y : List ℕ) → Consumes a b x → Consumes b c y → Consumes a c (x ++ y)
 consumes_then None b c x y p q = tt
 consumes_then (Some xs) None c x y p q = absurd p
 consumes_then (Some xs) (Some ys) None x y p q = absurd q
 consumes_then (Some xs) (Some ys) (Some zs) x y p q = p ∙ ap (λ (t : List ℕ). x ++ t) q ∙ sym (append_assoc x y zs)
+
+pub consumes_none : (a : Option (List ℕ)) → Consumes a a []
+consumes_none None = tt
+consumes_none (Some xs) = refl
 
 -- a buffer in whose middle bytes were put
 pub filled_more : (xs ys after : List ℕ) (a n : ℕ) → a ≤ length xs → n ≤ length ys → take (a + n) (take a xs ++ (ys ++ after)) ≡ take a xs ++ take n ys
@@ -67,12 +69,11 @@ none_is = record {
   frame = λ f rest s e. absurd cc;
 }
 
-pub ended : (a b : Option (List ℕ)) (bytes : List ℕ) → Consumes a b bytes → bytes ≡ [] → IsAtEnd b → IfSome a (λ xs. IsReadFrom xs (Ok None))
-ended None b bytes p none e = tt
-ended (Some xs) None bytes p none e = absurd p
-ended (Some xs) (Some ys) bytes p none e =
+pub ended : (a : Option (List ℕ)) → IsAtEnd a → IfSome a (λ xs. IsReadFrom xs (Ok None))
+ended None e = tt
+ended (Some xs) e =
     let P : List ℕ → Type 0 = λ zs. IsReadFrom zs (Ok None) in
-    subst P (sym (p ∙ ap (λ (t : List ℕ). t ++ ys) none ∙ e)) none_is
+    subst P (sym e) none_is
 
 cut_is : (xs : List ℕ) → 0 < length xs → length xs < 4 → IsReadFrom xs (Err Truncated)
 cut_is xs some lt = record {
@@ -125,47 +126,65 @@ short (Some xs) (Some ys) front p len within fewer =
     let P : List ℕ → Type 0 = λ zs. IsReadFrom zs (Err Truncated) in
     subst P (sym p) (short_is front ys len within fewer)
 
--- a length and as many bytes, which give a frame
-record Whole (front rest : List ℕ) : Type 0 where
-  pub len : length front ≡ 4
-  pub size : length rest ≡ from_be_bytes w32 front
-  pub within : from_be_bytes w32 front ≤ longest
+-- ---- bytes that their length cuts
 
-spells_it : (front rest : List ℕ) (f : Frame) → IsBytes front → Whole front rest → (rest ≡ body f) × IsWell f → Spells f (front ++ rest)
-spells_it front rest f fits w r = whole_found (front ++ rest) front rest f refl w.len fits w.size (omega (arith, w.size, w.within)) r
+too_short : (bytes : List ℕ) → IsWhole bytes → IsTruncated bytes → ⊥
+too_short bytes w (inl lt) = absurd (omega (arith, w.whole))
+too_short bytes w (inr k) = absurd (omega (arith, k.fewer, w.size))
 
--- the frame was read, and no byte more
-pub got : (a b c : Option (List ℕ)) (front rest : List ℕ) (f : Frame) → Consumes a b front → Consumes b c rest → IsBytes front → length front ≡ 4 → length rest ≡ from_be_bytes w32 front → from_be_bytes w32 front ≤ longest
-    → (rest ≡ body f) × IsWell f → Spells f (spelling f) × Consumes a c (spelling f)
-got a b c front rest f p q fits len size within r =
-    let s = spells_it front rest f fits (record { len = len; size = size; within = within }) r in
-    (record { well = s.well; within = s.within; spelled = refl }, subst (Consumes a c) s.spelled (consumes_then a b c front rest p q))
+too_long : (bytes : List ℕ) → IsWhole bytes → IsTooLong bytes → ⊥
+too_long bytes w t = absurd (omega (arith, t.over, w.within))
 
-whole_is : (front rest more : List ℕ) → Whole front rest → (answer : Answer) → ((answer ≡ Ok None) → ⊥) → ((answer ≡ Err TooLong) → ⊥) → ((answer ≡ Err Truncated) → ⊥)
-    → ((f : Frame) → IsWell f → rest ≡ body f → answer ≡ Ok (Some f)) → IsReadFrom (front ++ (rest ++ more)) answer
-whole_is front rest more w answer not_none not_long not_short all =
-    let field = field_is front (rest ++ more) w.len in
-    let size : length (front ++ (rest ++ more)) ≡ length front + (length rest + length more) = length-append front (rest ++ more) ∙ ap (λ (k : ℕ). length front + k) (length-append rest more) in
+-- a length, and as many bytes as it counts
+pub joined : (front rest : List ℕ) → length front ≡ 4 → length rest ≡ from_be_bytes w32 front → from_be_bytes w32 front ≤ longest → IsWhole (front ++ rest)
+joined front rest len size within =
+    let field = field_is front rest len in
+    let all = length-append front rest in
+    record { whole = omega arith; within = omega arith; size = omega arith }
+
+-- a spelling at the front of what follows is all of the bytes
+spelled_whole : (bytes more after : List ℕ) (f : Frame) → IsWhole bytes → Spells f (spelling f) → bytes ++ more ≡ spelling f ++ after → Spells f bytes
+spelled_whole bytes more after f w s e =
+    let front : List ℕ = word (length (body f)) in
+    let field : length_field (bytes ++ more) ≡ length_field bytes = ap (from_be_bytes w32) (take-append-le 4 bytes more w.whole) in
+    let first : take 4 (bytes ++ more) ≡ front = ap (take 4) (e ∙ append_assoc front (body f) after) ∙ take_at front (body f ++ after) 4 refl in
+    let counted : length_field bytes ≡ length (body f) = sym field ∙ ap (from_be_bytes w32) first ∙ length_is f s.within in
+    let n : length (spelling f) ≡ length bytes = omega (arith, w.size, length-append front (body f)) in
     record {
-      ended = (λ e. absurd (no_end front (rest ++ more) w.len e), λ e. absurd (not_none e));
-      too_long = (λ t. absurd (omega (arith, t.over, field, w.within)), λ e. absurd (not_long e));
-      truncated = (λ t. elim t.1 [ inl lt ↦ absurd (omega (arith, w.len)) | inr k ↦ absurd (omega (arith, k.fewer, field, w.size, w.len)) ], λ e. absurd (not_short e));
-      frame = λ f after s e.
-          let k = spelled_front front (rest ++ more) after f w.len s.within e in
-          let n : length rest ≡ length (body f) = w.size ∙ k.0 in
-          all f s.well (sym (take_at rest more (length (body f)) n) ∙ ap (take (length (body f))) k.1 ∙ take_at (body f) after (length (body f)) refl);
+      well = s.well;
+      within = s.within;
+      spelled = sym (take_at bytes more (length bytes) refl) ∙ ap (take (length bytes)) e ∙ take_at (spelling f) after (length bytes) n;
     }
 
-pub got_known : (a b c : Option (List ℕ)) (front rest : List ℕ) (f : Frame) → Consumes a b front → Consumes b c rest → length front ≡ 4 → length rest ≡ from_be_bytes w32 front → from_be_bytes w32 front ≤ longest
-    → (rest ≡ body f) × IsWell f → IfSome a (λ xs. IsReadFrom xs (Ok (Some f)))
-got_known None b c front rest f p q len size within r = tt
-got_known (Some xs) None c front rest f p q len size within r = absurd p
-got_known (Some xs) (Some ys) None front rest f p q len size within r = absurd q
-got_known (Some xs) (Some ys) (Some zs) front rest f p q len size within r =
-    let P : List ℕ → Type 0 = λ t. IsReadFrom t (Ok (Some f)) in
-    subst P (sym (p ∙ ap (λ (t : List ℕ). front ++ t) q))
-    (whole_is front rest zs (record { len = len; size = size; within = within }) (Ok (Some f)) (λ e. absurd cc) (λ e. absurd cc) (λ e. absurd cc)
-    (λ g well e. ap (λ (h : Frame). Ok (Some h)) (same_body f g r.1 well (sym r.0 ∙ e))))
+whole_is : (bytes more : List ℕ) → IsWhole bytes → (answer : Answer) → ((answer ≡ Ok None) → ⊥) → ((answer ≡ Err TooLong) → ⊥) → ((answer ≡ Err Truncated) → ⊥)
+    → ((f : Frame) → Spells f bytes → answer ≡ Ok (Some f)) → IsReadFrom (bytes ++ more) answer
+whole_is bytes more w answer not_none not_long not_short all =
+    let field : length_field (bytes ++ more) ≡ length_field bytes = ap (from_be_bytes w32) (take-append-le 4 bytes more w.whole) in
+    let size = length-append bytes more in
+    record {
+      ended = (λ e. absurd (omega (arith, ap length e, w.whole)), λ e. absurd (not_none e));
+      too_long = (λ t. absurd (omega (arith, t.over, field, w.within)), λ e. absurd (not_long e));
+      truncated = (λ t. elim t.1 [ inl lt ↦ absurd (omega (arith, w.whole)) | inr k ↦ absurd (omega (arith, k.fewer, field, w.size)) ], λ e. absurd (not_short e));
+      frame = λ f after s e. all f (spelled_whole bytes more after f w s e);
+    }
+
+-- what reading answers where such bytes were read
+whole_known : (a c : Option (List ℕ)) (bytes : List ℕ) → Consumes a c bytes → IsWhole bytes → (answer : Answer) → ((answer ≡ Ok None) → ⊥) → ((answer ≡ Err TooLong) → ⊥) → ((answer ≡ Err Truncated) → ⊥)
+    → ((f : Frame) → Spells f bytes → answer ≡ Ok (Some f)) → IfSome a (λ xs. IsReadFrom xs answer)
+whole_known None c bytes p w answer not_none not_long not_short all = tt
+whole_known (Some xs) None bytes p w answer not_none not_long not_short all = absurd p
+whole_known (Some xs) (Some zs) bytes p w answer not_none not_long not_short all =
+    let P : List ℕ → Type 0 = λ t. IsReadFrom t answer in
+    subst P (sym p) (whole_is bytes zs w answer not_none not_long not_short all)
+
+-- the frame was read, and no byte more
+pub got : (a c : Option (List ℕ)) (bytes : List ℕ) (f : Frame) → Consumes a c bytes → Spells f bytes → Spells f (spelling f) × Consumes a c (spelling f)
+got a c bytes f p s = (record { well = s.well; within = s.within; spelled = refl }, subst (Consumes a c) s.spelled p)
+
+pub got_known : (a c : Option (List ℕ)) (bytes : List ℕ) (f : Frame) → Consumes a c bytes → IsWhole bytes → Spells f bytes → IfSome a (λ xs. IsReadFrom xs (Ok (Some f)))
+got_known a c bytes f p w s =
+    whole_known a c bytes p w (Ok (Some f)) (λ e. absurd cc) (λ e. absurd cc) (λ e. absurd cc)
+    (λ g t. ap (λ (h : Frame). Ok (Some h)) (one_frame f g bytes s t))
 
 -- what `read_frame` may answer where these bytes are left, if they are known
 abbrev pub IsAnswer : Option (List ℕ) → Answer → Type 0
@@ -193,24 +212,21 @@ memory_or Read = inr (λ e. absurd cc)
 memory_or Write = inr (λ e. absurd cc)
 memory_or Version = inr (λ e. absurd cc)
 
-refused_is : (a b c : Option (List ℕ)) (front rest : List ℕ) (fault : WireFault) → Consumes a b front → Consumes b c rest → Whole front rest → ((f : Frame) → IsWell f → rest ≡ body f → ⊥)
-    → ((fault ≡ TooLong) → ⊥) → ((fault ≡ Truncated) → ⊥) → IfSome a (λ xs. IsReadFrom xs (Err fault))
-refused_is None b c front rest fault p q w none not_long not_short = tt
-refused_is (Some xs) None c front rest fault p q w none not_long not_short = absurd p
-refused_is (Some xs) (Some ys) None front rest fault p q w none not_long not_short = absurd q
-refused_is (Some xs) (Some ys) (Some zs) front rest fault p q w none not_long not_short =
-    let P : List ℕ → Type 0 = λ t. IsReadFrom t (Err fault) in
-    subst P (sym (p ∙ ap (λ (t : List ℕ). front ++ t) q))
-    (whole_is front rest zs w (Err fault) (λ e. absurd cc) (λ e. not_long (answer_is fault TooLong e)) (λ e. not_short (answer_is fault Truncated e)) (λ f well e. absurd (none f well e)))
+-- no frame is spelled by these bytes
+pub refused_known : (a c : Option (List ℕ)) (bytes : List ℕ) (fault : WireFault) → Consumes a c bytes → IsWhole bytes → ((f : Frame) → Spells f bytes → ⊥)
+    → ((fault ≡ TooLong) → IsTooLong bytes) → ((fault ≡ Truncated) → IsTruncated bytes) → IfSome a (λ xs. IsReadFrom xs (Err fault))
+refused_known a c bytes fault p w none long short =
+    whole_known a c bytes p w (Err fault) (λ e. absurd cc) (λ e. too_long bytes w (long (answer_is fault TooLong e))) (λ e. too_short bytes w (short (answer_is fault Truncated e)))
+    (λ f s. absurd (none f s))
 
--- no frame has these bytes as its body, or memory ran out
-pub refused_known : (a b c : Option (List ℕ)) (front rest : List ℕ) (fault : WireFault) (read : Result Frame WireFault) → read ≡ Err fault → Consumes a b front → Consumes b c rest → length front ≡ 4 → length rest ≡ from_be_bytes w32 front → from_be_bytes w32 front ≤ longest
-    → ((f : Frame) → IsWell f → rest ≡ body f → (read ≡ Ok f) ⊎ (read ≡ Err OutOfMemory)) → ((read ≡ Err TooLong) → ⊥) → ((read ≡ Err Truncated) → ⊥)
+-- no frame is spelled by these bytes, or memory ran out
+pub failed_known : (a c : Option (List ℕ)) (bytes : List ℕ) (fault : WireFault) (read : Result Frame WireFault) → read ≡ Err fault → Consumes a c bytes → IsWhole bytes
+    → ((f : Frame) → Spells f bytes → (read ≡ Ok f) ⊎ (read ≡ Err OutOfMemory)) → ((read ≡ Err TooLong) → IsTooLong bytes) → ((read ≡ Err Truncated) → IsTruncated bytes)
     → IsAnswer a (Err fault)
-refused_known a b c front rest fault read is p q len size within all not_long not_short =
+failed_known a c bytes fault read is p w all long short =
     elim (memory_or fault) [
       | inl e ↦ inr (inl (ap failed e))
-      | inr other ↦ inr (inr (refused_is a b c front rest fault p q (record { len = len; size = size; within = within })
-          (λ f well e. elim (all f well e) [ inl ok ↦ absurd (cc (sym ok ∙ is)) | inr err ↦ absurd (other (fault_is fault OutOfMemory (sym is ∙ err))) ])
-          (λ e. not_long (is ∙ ap failure e)) (λ e. not_short (is ∙ ap failure e))))
+      | inr other ↦ inr (inr (refused_known a c bytes fault p w
+          (λ f s. elim (all f s) [ inl ok ↦ absurd (cc (sym ok ∙ is)) | inr err ↦ absurd (other (fault_is fault OutOfMemory (sym is ∙ err))) ])
+          (λ e. long (is ∙ ap failure e)) (λ e. short (is ∙ ap failure e))))
     ]

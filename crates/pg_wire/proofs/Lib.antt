@@ -14,3 +14,5 @@ pub mod Tells
 pub mod Measuring
 pub mod Skip
 pub mod Left
+pub mod Lines
+pub mod LinesWriting

@@ -164,7 +164,7 @@ fields_read kind f bytes well e =
     let rest : bytes ≡ word o.width ++ counted (spelled_as kind) o.list = ap (λ (bs : List ℕ). drop 1 bs) same in
     ((o.width, o.list), ap (fields_at kind) (rest ∙ sym (append-nil (word o.width ++ counted (spelled_as kind) o.list))) ∙ (fields_form kind).again (o.width, o.list) [] o.measures)
 
-not_read : {A : Type 0} (r : Result A FieldFault) (x : A) (e : FieldFault) → r ≡ Ok x → r ≡ Err e → ⊥
+pub not_read : {A : Type 0} (r : Result A FieldFault) (x : A) (e : FieldFault) → r ≡ Ok x → r ≡ Err e → ⊥
 not_read r x e ok err = absurd (cc (sym ok ∙ err))
 
 -- which are read

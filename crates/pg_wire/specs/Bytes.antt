@@ -32,6 +32,12 @@ pub record IsCut (bytes : List ℕ) : Type 0 where
 abbrev pub IsTruncated : List ℕ → Type 0
 IsTruncated bytes = (length bytes < 4) ⊎ IsCut bytes
 
+-- the first four bytes are a length in range, and just as many bytes follow
+pub record IsWhole (bytes : List ℕ) : Type 0 where
+  pub whole : 4 ≤ length bytes
+  pub within : length_field bytes ≤ longest
+  pub size : length bytes ≡ 4 + length_field bytes
+
 -- what reading a frame answers where these bytes are left, reads and memory willing
 pub record IsReadFrom (bytes : List ℕ) (answer : Result (Option Frame) WireFault) : Type 0 where
   pub ended : (bytes ≡ []) ↔ (answer ≡ Ok None)

@@ -6,3 +6,6 @@ pub mod Measured
 pub mod Written
 pub mod Mirrors
 pub mod Left
+pub mod Lines
+pub mod LinesLeft
+pub mod LinesWritten

@@ -3,3 +3,4 @@ pub mod Reading
 pub mod Ordered
 pub mod Buffers
 pub mod Skipping
+pub mod Lines

@@ -25,6 +25,16 @@ pub struct VertexLine {
     pub successors: Numbers,
 }
 
+/// What the line of a vertex says beside its successors.
+#[derive(Clone, Copy, Debug)]
+pub struct LineHead {
+    pub vertex: u32,
+    /// At most 65,536.
+    pub priority: u32,
+    /// 0 is Even, 1 is Odd.
+    pub owner: u8,
+}
+
 /// Vertices for a worker's part, strictly rising.
 #[derive(Debug, Drop)]
 pub struct Vertices {

@@ -8,6 +8,8 @@ mod forms;
 mod frame;
 mod kind;
 pub mod laws;
+mod lines_reader;
+mod lines_writer;
 mod list;
 mod reader;
 mod reading;
@@ -18,12 +20,14 @@ mod writing;
 
 pub use fault::WireFault;
 pub use frame::{
-    Frame, Go, Report, Setup, Sparse, SparseValue, Value, Values, VertexLine, Vertices,
+    Frame, Go, LineHead, Report, Setup, Sparse, SparseValue, Value, Values, VertexLine, Vertices,
 };
 pub use kind::ValueKind;
+pub use lines_reader::VerticesReader;
+pub use lines_writer::VerticesWriter;
 pub use list::{Numbers, Pairs, Rows};
 pub use reader::ValuesReader;
 pub use reading::decode;
-pub use stream::read_frame;
+pub use stream::{read_frame, read_frame_bytes};
 pub use writer::ValuesWriter;
 pub use writing::{encode, write_frame};

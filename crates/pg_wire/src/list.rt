@@ -31,6 +31,13 @@ impl<T> Rows<T> {
     {
         self.items.as_slice()
     }
+
+    /// The vector of the items.
+    pub fn into_items(self) -> Vec<T>
+        ensures { result.items ≡ self }
+    {
+        self.items
+    }
 }
 
 pub type Numbers = Rows<u32>;

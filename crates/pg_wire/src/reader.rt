@@ -24,7 +24,8 @@ pub struct ValuesReader<'a> {
 
 /// A number from `low` on, below `high`.
 #[tactic(auto, unfolding(crate::specs::Mirrors::Reading::within_at))]
-fn number(low: u64, high: u64, bytes: &[u8]) -> Result<(u32, &[u8]), FieldFault>
+#[inline(always)]
+pub fn number(low: u64, high: u64, bytes: &[u8]) -> Result<(u32, &[u8]), FieldFault>
     ensures read { Yields (λ x. (x.0, x.1.now)) result (within_at low high bytes.now) }
     ensures range { IfOk result (λ x. (low ≤ x.0) × (x.0 < high)) }
     ensures less { IfOk result (λ x. length x.1.now < length bytes.now) }
@@ -43,7 +44,8 @@ fn number(low: u64, high: u64, bytes: &[u8]) -> Result<(u32, &[u8]), FieldFault>
 
 /// The tag of a list, 0, or of top, 1.
 #[tactic(auto, unfolding(crate::specs::Mirrors::Reading::byte_at))]
-fn tag(bytes: &[u8]) -> Result<(u8, &[u8]), FieldFault>
+#[inline(always)]
+pub fn tag(bytes: &[u8]) -> Result<(u8, &[u8]), FieldFault>
     ensures read { Yields (λ x. (x.0, x.1.now)) result (byte_at 2 bytes.now) }
     ensures less { IfOk result (λ x. length x.1.now < length bytes.now) }
 {

@@ -130,7 +130,7 @@ fn whole(alloc: Global, bytes: &[u8]) -> Result<Frame, ReadFault>
 }
 
 /// The frame of which these bytes, those after a length, are the body.
-pub fn from_body(alloc: Global, bytes: &[u8]) -> Result<Frame, WireFault>
+fn from_body(alloc: Global, bytes: &[u8]) -> Result<Frame, WireFault>
     ensures found { IfOk result (λ f. (bytes.now ≡ body f) × IsWell f) }
     ensures all { (f : Frame) → IsWell f → bytes.now ≡ body f → (result ≡ Ok f) ⊎ (result ≡ Err OutOfMemory) }
     ensures not_long { result ≢ Err TooLong }

@@ -1,17 +1,17 @@
 //! Reads frames from a reader.
-ghost use Rattle.std.specs.Prelude.{◌≡◌, ℕ, ◌+◌, ◌≤◌, ◌<◌, ◌++◌, ◌⊎◌, ◌≢◌, List, [], take, drop, Ok, Err, Some, None, length, slice_index, ◌^◌, IfOk, OnOk, IfErr, IfSome, IfNone};
+ghost use Rattle.std.specs.Prelude.{◌≡◌, ℕ, ◌+◌, ◌≤◌, ◌<◌, ◌++◌, ◌⊎◌, ◌≢◌, true, false, List, [], take, drop, Ok, Err, Some, None, length, slice_index, ◌^◌, IfOk, OnOk, IfErr, IfSome, IfNone};
 ghost use Rattle.std.specs.Io.KnownBytes.{Consumes, IsAtEnd, Keeps};
 ghost use Rattle.pg_wire.specs.Spelling.{spelling};
-ghost use Rattle.pg_wire.specs.Bytes.{Spells, IsReadFrom};
-ghost use Rattle.pg_wire.specs.declared.fault.WireFault.TheVariants.{Truncated, OutOfMemory};
+ghost use Rattle.pg_wire.specs.Bytes.{Spells, IsReadFrom, IsWhole};
+ghost use Rattle.pg_wire.specs.declared.fault.WireFault.TheVariants.{Truncated, TooLong, OutOfMemory};
 
 use crate::fault::WireFault;
 use crate::frame::Frame;
-use crate::reading::{LONGEST, from_body};
+use crate::reading::{LONGEST, decode};
 use std::alloc::Global;
 use std::io::{ErrorKind, Read};
 
-/// How many bytes are asked for at once.
+/// How many bytes are asked for at first.
 const CHUNK: usize = 4096;
 
 /// One read, tried again as long as it is interrupted.
@@ -53,26 +53,60 @@ fn fill<R: Read>(input: &mut R, buffer: &mut [u8]) -> Result<usize, WireFault>
     Ok(filled)
 }
 
-/// Reads so many bytes. It takes memory for them only as they come.
-fn read_body<R: Read>(alloc: Global, input: &mut R, len: usize) -> Result<Vec<u8>, WireFault>
-    ensures size { IfOk result (λ bytes. length bytes.items ≡ len) }
-    ensures bytes { IfOk result (λ bytes. Consumes (R.remaining input.old) (R.remaining input.new) bytes.items) }
+/// Appends so many bytes. It takes memory for them only as they come: at a time for as many as came, or for a chunk.
+fn read_body<R: Read>(input: &mut R, len: usize, bytes: &mut Vec<u8>) -> Result<(), WireFault>
+    ensures bytes { OnOk result ((body : List ℕ) × (bytes.new.items ≡ bytes.old.items ++ body) × (length body ≡ len)
+        × Consumes (R.remaining input.old) (R.remaining input.new) body) }
     ensures short { result ≡ Err Truncated → IfSome (R.remaining input.old) (λ xs. length xs < len) }
     ensures fault { IfErr result (λ e. (e ≡ Truncated) ⊎ (e ≡ OutOfMemory) ⊎ (e ≡ WireFault.Read)) }
 {
-    let mut bytes = Vec::new(alloc);
-    let mut buffer = [0u8; CHUNK];
-    while bytes.len() < len {
-        let size = (len - bytes.len()).min(CHUNK);
-        let count = fill(input, &mut buffer[..size])?;
+    let mut left = len;
+    while left > 0 {
+        let start = bytes.len();
+        let size = left.min(start.max(CHUNK));
+        if bytes.resize(start + size, 0).is_err() {
+            return Err(WireFault::OutOfMemory);
+        }
+        let count = fill(input, &mut bytes[start..])?;
         if count < size {
             return Err(WireFault::Truncated);
         }
-        if bytes.extend_from_slice(&buffer[..size]).is_err() {
-            return Err(WireFault::OutOfMemory);
-        }
+        left -= size;
     }
-    Ok(bytes)
+    Ok(())
+}
+
+/// The bytes of the next frame, its length and as many bytes as that counts, in place of those in `bytes`. False where the
+/// input ends before the first byte. It reads no byte past the frame, tries a read again that was interrupted, and takes no
+/// more memory than the bytes that came can fill twice, or one chunk. What the bytes say is left to `decode`.
+///
+/// Faults: `Read` where a read fails; `Truncated` where the input ends within a frame; `TooLong` as soon as the length was
+/// read; `OutOfMemory`. After a fault nothing is said of `bytes`, and the reader isn't to be used again.
+pub fn read_frame_bytes<R: Read>(input: &mut R, bytes: &mut Vec<u8>) -> Result<bool, WireFault>
+    ensures end { result ≡ Ok false → IsAtEnd (R.remaining input.old) }
+    ensures frame { result ≡ Ok true → IsWhole bytes.new.items
+        × Consumes (R.remaining input.old) (R.remaining input.new) bytes.new.items }
+    ensures fault { IfErr result (λ e. (e ≡ WireFault.Read) ⊎ (e ≡ OutOfMemory)
+        ⊎ (((e ≡ TooLong) ⊎ (e ≡ Truncated)) × IfSome (R.remaining input.old) (λ xs. IsReadFrom xs (Err e)))) }
+{
+    bytes.clear();
+    let mut front = [0u8; 4];
+    let count = fill(input, &mut front)?;
+    if count == 0 {
+        return Ok(false);
+    }
+    if count < 4 {
+        return Err(WireFault::Truncated);
+    }
+    let len = u32::from_be_bytes(front);
+    if len > LONGEST {
+        return Err(WireFault::TooLong);
+    }
+    if bytes.extend_from_slice(&front).is_err() {
+        return Err(WireFault::OutOfMemory);
+    }
+    read_body(input, len as usize, bytes)?;
+    Ok(true)
 }
 
 /// The next frame, or none where the input ends before its first byte. It reads no byte past the
@@ -88,20 +122,11 @@ pub fn read_frame<R: Read>(alloc: Global, input: &mut R) -> Result<Option<Frame>
     ensures not_write { result ≢ Err WireFault.Write }
     ensures known { (result ≡ Err WireFault.Read) ⊎ (result ≡ Err OutOfMemory) ⊎ IfSome (R.remaining input.old) (λ bytes. IsReadFrom bytes result) }
 {
-    let mut front = [0u8; 4];
-    let count = fill(input, &mut front)?;
-    if count == 0 {
+    let mut bytes = Vec::new(alloc);
+    if !read_frame_bytes(input, &mut bytes)? {
         return Ok(None);
     }
-    if count < 4 {
-        return Err(WireFault::Truncated);
-    }
-    let len = u32::from_be_bytes(front);
-    if len > LONGEST {
-        return Err(WireFault::TooLong);
-    }
-    let body = read_body(alloc, input, len as usize)?;
-    match from_body(alloc, &body) {
+    match decode(alloc, &bytes) {
         Ok(frame) => Ok(Some(frame)),
         Err(fault) => Err(fault),
     }

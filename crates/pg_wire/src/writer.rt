@@ -32,7 +32,7 @@ fn put_word(n: u32, out: &mut Vec<u8>) -> Result<(), AllocError>
 
 /// Each number. Where memory runs out, some of them may stand in the buffer.
 #[tactic(auto, using(crate::proofs::Buffers::extends_by))]
-fn put_numbers(numbers: &[u32], out: &mut Vec<u8>) -> Result<(), AllocError>
+pub fn put_numbers(numbers: &[u32], out: &mut Vec<u8>) -> Result<(), AllocError>
     ensures ok { OnOk result (out.new.items ≡ out.old.items ++ flat_map word numbers.now) }
     ensures kept { Extends out.old.items out.new.items }
 {

@@ -6,6 +6,8 @@ mod decoding;
 #[cfg(test)]
 mod encoding;
 #[cfg(test)]
+mod lines;
+#[cfg(test)]
 mod streams;
 #[cfg(test)]
 mod texts;

@@ -1,5 +1,5 @@
 use crate::texts::{FRAMES, bytes_of};
-use pg_wire::{Frame, Go, WireFault, encode, read_frame, write_frame};
+use pg_wire::{Frame, Go, WireFault, encode, read_frame, read_frame_bytes, write_frame};
 use std::alloc::Global;
 use std::io;
 use std::io::{ErrorKind, Read, Write};
@@ -193,6 +193,64 @@ fn refuses_a_length_before_it_reads_on(rt: HostRuntime) -> Result<(), Fail> {
             "{text}"
         );
         assert_eq!(rt; input.len(), 2, "{text}");
+    }
+    Ok(())
+}
+
+#[test]
+fn reads_the_bytes_of_one_frame_after_the_other(rt: HostRuntime) -> Result<(), Fail> {
+    let first = bytes_of(rt.alloc(), "00000005 04 00001000")?;
+    let second = bytes_of(rt.alloc(), "00000001 06")?;
+    let all = bytes_of(rt.alloc(), "00000005 04 00001000 00000001 06")?;
+    let mut input = all.as_slice();
+    let mut bytes = Vec::new(rt.alloc());
+    assert!(rt; read_frame_bytes(&mut input, &mut bytes)?);
+    assert_eq!(rt; bytes.as_slice(), first.as_slice());
+    assert_eq!(rt; input.len(), 5);
+    assert!(rt; read_frame_bytes(&mut input, &mut bytes)?);
+    assert_eq!(rt; bytes.as_slice(), second.as_slice());
+    assert!(rt; !read_frame_bytes(&mut input, &mut bytes)?);
+    Ok(())
+}
+
+#[test]
+fn reads_many_bytes(rt: HostRuntime) -> Result<(), Fail> {
+    let mut all = bytes_of(rt.alloc(), "00004e20")?;
+    for k in 0..20_000u32 {
+        all.push((k % 251) as u8)?;
+    }
+    let mut bytes = Vec::new(rt.alloc());
+    let mut input = Slow {
+        rest: all.as_slice(),
+    };
+    assert!(rt; read_frame_bytes(&mut input, &mut bytes)?);
+    assert_eq!(rt; bytes.as_slice(), all.as_slice());
+    assert!(rt; !read_frame_bytes(&mut input, &mut bytes)?);
+    for len in [20_003, 4101, 4100, 4] {
+        all.truncate(len);
+        let mut input = all.as_slice();
+        let answer = read_frame_bytes(&mut input, &mut bytes);
+        assert_eq!(rt; answer, Err(WireFault::Truncated), "{len}");
+    }
+    Ok(())
+}
+
+#[test]
+fn refuses_bytes_by_their_length(rt: HostRuntime) -> Result<(), Fail> {
+    let rows = [
+        ("01000001 06 06", WireFault::TooLong),
+        ("000000", WireFault::Truncated),
+        ("00000005 04 0000", WireFault::Truncated),
+    ];
+    for (text, fault) in rows {
+        let all = bytes_of(rt.alloc(), text)?;
+        let mut input = all.as_slice();
+        let mut bytes = Vec::new(rt.alloc());
+        assert_eq!(rt;
+            read_frame_bytes(&mut input, &mut bytes),
+            Err(fault),
+            "{text}"
+        );
     }
     Ok(())
 }

@@ -1,12 +1,14 @@
-use Rattle.std.proofs.Common.{◌≤◌, ◌-◌, length, vec_len}
+use Rattle.std.proofs.Common.{◌≡◌, ℕ, ◌+◌, List, ◌++◌, length}
 use Rattle.std.specs.Io.KnownBytes.{Consumes}
 use Rattle.pg_wire.proofs.stream.read_body.Given as goal
 
-abbrev pub invariant-loop-buffer : goal.invariant-loop-buffer
-invariant-loop-buffer g l = record {
-  within : length l.bytes.items ≤ l.len;
-  bytes : Consumes (g.R.Read.remaining l.initial.input) (g.R.Read.remaining l.input) l.bytes.items;
+abbrev pub invariant-loop-left : goal.invariant-loop-left
+invariant-loop-left g l = record {
+  body : List ℕ;
+  appended : l.bytes.items ≡ l.initial.bytes.items ++ body;
+  size : length body + l.left ≡ l.len;
+  consumed : Consumes (g.R.Read.remaining l.initial.input) (g.R.Read.remaining l.input) body;
 }
 
-abbrev pub decreases-loop-buffer : goal.decreases-loop-buffer
-decreases-loop-buffer g l = l.len - vec_len l.bytes
+abbrev pub decreases-loop-left : goal.decreases-loop-left
+decreases-loop-left g l = l.left

@@ -1,0 +1,20 @@
+use Rattle.std.proofs.Common.{◌≡◌, ◌++◌, ◌∙◌, ℕ, List, length, take, drop, Some, sym, subst, arith}
+use Rattle.std.proofs.lemmas.List.{take_at}
+use Rattle.pg_wire.specs.LinesLeft.{IsNextLine}
+use Rattle.pg_wire.proofs.Lines.{none_left, cut_left, next_left}
+use Rattle.pg_wire.proofs.lines_reader.VerticesReader.next.Goals as goal
+
+pub returns-in_default-clause-next : goal.returns-in_default-clause-next
+returns-in_default-clause-next c = λ ls h. none_left ls c.args.self.now c.args.successors.now.items c.in_default.field-0 h c.in_default.ensures.read
+
+pub returns-then-rest-count-clause-next : goal.returns-then-rest-count-clause-next
+returns-then-rest-count-clause-next c = λ ls h. cut_left ls c.args.self.now c.args.successors.now.items c.in-Ok.head c.in-Ok.count c.in-Ok.rest.now h c.in-Ok.ensures.read c.if-rest-count.true
+
+pub returns-clause-next : goal.returns-clause-next
+returns-clause-next c = λ ls h.
+    let row = c.read_words.new.row in
+    let len : c.resize.new.self.len ≡ c.in-Ok.count = c.in_ok-resize.ensures.len in
+    let size : length row ≡ c.in-Ok.count = omega (arith, c.read_words.auto.row, c.as_mut_slice.ensures.len, len) in
+    let whole : take c.resize.new.self.len (row ++ drop (length row) c.resize.new.self.items) ≡ row = take_at row (drop (length row) c.resize.new.self.items) c.resize.new.self.len (size ∙ sym len) in
+    subst (λ (items : List ℕ). IsNextLine ls (record { bytes = c.split_at.result.1 }) items (Some c.in-Ok.head)) (sym whole)
+    (next_left ls c.args.self.now row c.in-Ok.head c.in-Ok.count c.in-Ok.rest.now c.split_at.result.0.now c.split_at.result.1 h c.in-Ok.ensures.read c.split_at.ensures.front c.split_at.ensures.back c.read_words.ensures.spelled size c.read_words.ensures.words)

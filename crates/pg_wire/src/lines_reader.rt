@@ -1,0 +1,169 @@
+//! Reads the lines of a frame of vertices one after the other, from its bytes.
+ghost use Rattle.std.specs.Prelude.{◌≡◌, ◌≢◌, ◌+◌, ◌*◌, ◌<◌, ◌∷◌, List, None, IfSome, IfOk, IfNone, OnErr, All, length};
+ghost use Rattle.std.specs.List.{flat_map};
+ghost use Rattle.pg_wire.specs.declared.frame.VertexLine.{VertexLine};
+ghost use Rattle.pg_wire.specs.Spelling.{word, body};
+ghost use Rattle.pg_wire.specs.Well.{IsWell, IsWord};
+ghost use Rattle.pg_wire.specs.Bytes.{Spells};
+ghost use Rattle.pg_wire.specs.Mirrors.Reading.{made, line_at};
+ghost use Rattle.pg_wire.specs.Lines.{frame_with};
+ghost use Rattle.pg_wire.specs.Mirrors.Skipping.{Yields, skipped};
+ghost use Rattle.pg_wire.specs.Mirrors.Lines.{head_at, counted_as, successors_at, lines_at, after_line, AreLines};
+
+use crate::fault::FieldFault;
+use crate::fields::WORDS;
+use crate::frame::LineHead;
+use crate::reader::{number, tag};
+use crate::reading::LONGEST;
+use std::alloc::AllocError;
+
+/// The lines of a frame of vertices that are left.
+#[derive(Clone, Copy, Debug)]
+pub struct VerticesReader<'a> {
+    bytes: &'a [u8],
+}
+
+/// What stands before the successors of a line, whose vertex is from a place on: its head, and how many successors
+/// there are.
+#[tactic(auto, unfolding(crate::specs::Mirrors::Lines::head_at))]
+#[inline(always)]
+fn head(place: u64, bytes: &[u8]) -> Result<(LineHead, u32, &[u8]), FieldFault>
+    ensures read { Yields (λ x. (counted_as x.0 x.1, x.2.now)) result (head_at place bytes.now) }
+    ensures less { IfOk result (λ x. length x.2.now < length bytes.now) }
+{
+    let (vertex, rest) = number(place, WORDS, bytes)?;
+    let (priority, rest) = number(0, 65_537, rest)?;
+    let (owner, rest) = tag(rest)?;
+    let (count, rest) = number(1, WORDS, rest)?;
+    let head = LineHead {
+        vertex,
+        priority,
+        owner,
+    };
+    Ok((head, count, rest))
+}
+
+/// The bytes after so many successors, which rise.
+fn skip_successors(count: u32, bytes: &[u8]) -> Result<&[u8], FieldFault>
+    ensures { Yields (λ x. x.now) result (skipped (successors_at count) bytes.now) }
+{
+    let mut rest = bytes;
+    let mut at = 0;
+    for _ in 0..count {
+        let (successor, after) = number(at, WORDS, rest)?;
+        at = successor as u64 + 1;
+        rest = after;
+    }
+    Ok(rest)
+}
+
+/// The least vertex that may come after a line, and the bytes after it.
+#[tactic(auto, using(crate::proofs::Lines::line_skipped, crate::proofs::Lines::line_refused, crate::proofs::Lines::no_line))]
+fn skip_line(place: u64, bytes: &[u8]) -> Result<(u64, &[u8]), FieldFault>
+    ensures { Yields (λ x. (x.0, x.1.now)) result (made after_line (line_at place) bytes.now) }
+{
+    let (head, count, rest) = head(place, bytes)?;
+    let rest = skip_successors(count, rest)?;
+    Ok((head.vertex as u64 + 1, rest))
+}
+
+/// The bytes after so many lines, whose vertices rise.
+fn skip_lines(count: u32, bytes: &[u8]) -> Result<&[u8], FieldFault>
+    ensures { Yields (λ x. x.now) result (skipped (lines_at count) bytes.now) }
+{
+    let mut rest = bytes;
+    let mut at = 0;
+    for _ in 0..count {
+        let (next, after) = skip_line(at, rest)?;
+        at = next;
+        rest = after;
+    }
+    Ok(rest)
+}
+
+/// The bytes of the lines, where the bytes are the fields of a frame of vertices.
+fn lines(bytes: &[u8]) -> Option<&[u8]>
+    ensures found { IfSome result (λ x. AreLines bytes.now x.now) }
+    ensures all { (ls : List VertexLine) → IsWell (frame_with ls) → (2 ∷ bytes.now) ≡ body (frame_with ls)
+        → result ≢ None }
+{
+    let Ok((count, lines)) = number(0, WORDS, bytes) else {
+        return None;
+    };
+    let Ok(rest) = skip_lines(count, lines) else {
+        return None;
+    };
+    if !rest.is_empty() {
+        return None;
+    }
+    Some(lines)
+}
+
+/// The numbers that the bytes spell, written into the row.
+fn read_words(bytes: &[u8], row: &mut [u32])
+    requires { length bytes.now ≡ 4 * length row.old }
+    ensures spelled { bytes.now ≡ flat_map word row.new }
+    ensures words { All IsWord row.new }
+{
+    let mut rest = bytes;
+    for place in row.iter_mut() {
+        let (front, after) = rest.split_at(4);
+        *place = u32::from_be_bytes([front[0], front[1], front[2], front[3]]);
+        rest = after;
+    }
+}
+
+impl<'a> VerticesReader<'a> {
+    ghost use Rattle.pg_wire.specs.LinesLeft.{AreLeft, IsNextLine};
+
+    /// A reader of the lines of the frame that the bytes spell, all of them; none where they don't spell a frame of
+    /// vertices. It takes no memory.
+    pub fn open(bytes: &'a [u8]) -> Option<VerticesReader<'a>>
+        ensures found { IfSome result (λ r. (ls : List VertexLine) × Spells (frame_with ls) bytes.now × AreLeft r ls) }
+        ensures all { (ls : List VertexLine) → Spells (frame_with ls) bytes.now → result ≢ None }
+    {
+        if bytes.len() < 4 {
+            return None;
+        }
+        let (front, body) = bytes.split_at(4);
+        let length = u32::from_be_bytes([front[0], front[1], front[2], front[3]]);
+        if length > LONGEST || body.len() != length as usize {
+            return None;
+        }
+        match body {
+            [] => None,
+            [kind, rest @ ..] => {
+                if *kind != 2 {
+                    return None;
+                }
+                let bytes = lines(rest)?;
+                Some(VerticesReader { bytes })
+            }
+        }
+    }
+
+    /// The next line; its successors are in the vector then, and nothing else. None where no line is left. The only
+    /// fault is want of memory, of which it takes some only where the vector has too little room. Where it answers none
+    /// or a fault, reader and vector are as before.
+    pub fn next(&mut self, successors: &mut Vec<u32>) -> Result<Option<LineHead>, AllocError>
+        ensures less { IfOk result (λ o. IfSome o (λ x. length self.new.bytes.now < length self.old.bytes.now)) }
+        ensures next { (ls : List VertexLine) → AreLeft self.old ls
+            → IfOk result (λ o. IsNextLine ls self.new successors.new.items o) }
+        ensures ended { IfOk result (λ o. IfNone o ((self.new ≡ self.old)
+            × (successors.new.items ≡ successors.old.items))) }
+        ensures kept { OnErr result ((self.new ≡ self.old) × (successors.new.items ≡ successors.old.items)) }
+    {
+        let Ok((head, count, rest)) = head(0, self.bytes) else {
+            return Ok(None);
+        };
+        let count = count as usize;
+        if rest.len() / 4 < count {
+            return Ok(None);
+        }
+        successors.resize(count, 0)?;
+        let (words, rest) = rest.split_at(4 * count);
+        read_words(words, successors.as_mut_slice());
+        self.bytes = rest;
+        Ok(Some(head))
+    }
+}
