@@ -8,11 +8,12 @@ use Rattle.std.proofs.lemmas.Grind.{flat_map-append}
 use Rattle.pg_wire.specs.declared.fault.WireFault.TheVariants as wire
 use Rattle.pg_wire.specs.declared.frame.Frame.{Frame}
 use Rattle.pg_wire.specs.Spelling.{spelling}
+use Rattle.pg_wire.specs.Bytes.{IsWhole}
 use Rattle.pg_wire.proofs.Append.{then}
-use Rattle.pg_wire.proofs.Consumed.{consumes_then}
+use Rattle.pg_wire.proofs.Consumed.{consumes_then, refused_known}
 use Rattle.pg_worker.specs.declared.fault.WorkerFault.{WorkerFault}
-use Rattle.pg_worker.specs.declared.fault.WorkerFault.TheVariants.{Wire}
-use Rattle.pg_worker.specs.Turns.{HeldValue, Turn}
+use Rattle.pg_worker.specs.declared.fault.WorkerFault.TheVariants.{OutOfMemory, Wire}
+use Rattle.pg_worker.specs.Turns.{HeldValue, Turn, RefusesBytes}
 use Rattle.pg_worker.specs.Serving.{Replies, Exchanges, IsFaultAt, Breaks, told}
 use Rattle.pg_worker.specs.Mirrors.Steps.{Answers}
 
@@ -51,3 +52,10 @@ broken_off e fault input left output before before' output' fs held x (inr w) (i
       fault = subst (IsFaultAt left held) back w.0;
       told_is = subst (λ (g : WorkerFault). Appends before output' (told g)) back (subst (λ (b : Option (List ℕ)). Appends b output' (told fault)) w.1 t.1);
     })
+
+-- a session refused the bytes that were read
+pub refused_at : (input input' : Option (List ℕ)) (bytes : List ℕ) (held : Option HeldValue) (e : WorkerFault) → IsWhole bytes → Consumes input input' bytes
+    → (e ≡ OutOfMemory) ⊎ RefusesBytes 2 held bytes e → IsFaultAt input held e
+refused_at input input' bytes held e w p (inl memory) = inl memory
+refused_at input input' bytes held e w p (inr (inl s)) = inr (inr (inl (s.fault, s.why_is, refused_known input input' bytes s.fault p w s.none s.too_long.0 s.truncated.0)))
+refused_at input input' bytes held e w p (inr (inr r)) = inr (inr (inr (r.0, input', subst (Consumes input input') r.1.spelled p, r.2)))

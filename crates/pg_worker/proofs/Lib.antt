@@ -4,11 +4,12 @@ pub mod Runs
 pub mod Working
 pub mod Steps
 pub mod Keeping
-pub mod Linking
+pub mod NewLines
 pub mod Gathering
 pub mod Packing
 pub mod Joining
 pub mod Taking
+pub mod Growing
 pub mod Listed
 pub mod Exchanging
 pub mod Ranges

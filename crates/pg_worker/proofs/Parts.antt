@@ -1,93 +1,224 @@
 -- Lines in flat lists, when one more is added.
-use Rattle.std.proofs.Common.{◌≡◌, ℕ, zero, suc, ◌+◌, ◌<◌, ◌≤◌, List, [], ◌∷◌, ◌++◌, length, take, drop, get_or, set, refl, sym, ap, subst, ◌∙◌, inl, inr, arith}
-use Rattle.std.specs.Prelude.{All, map, replicate, Option, Some, None, IsSome, unwrap_or}
-use Rattle.std.proofs.lemmas.Bool.{cases_lt}
+use Rattle.std.proofs.Common.{◌≡◌, ◌≢◌, ℕ, zero, suc, ◌+◌, ◌-◌, ◌<◌, ◌≤◌, List, [], ◌∷◌, ◌++◌, length, take, drop, get_or, set, refl, sym, ap, subst, ◌∙◌, inl, inr, arith, cond}
+use Rattle.std.specs.Prelude.{replicate, Option, Some, None, IsSome, unwrap_or, nat_lt, IsTrue, ◌↔◌}
+use Rattle.std.proofs.lemmas.Bool.{cases_lt, cases_eq, lt-ltb, le-ltb, ltb-true}
 use Rattle.std.proofs.lemmas.List.Elements.{All-set}
-use Rattle.std.proofs.lemmas.List.{map-set, take-append-le, drop-append-le, take_all, length-drop, length-append, length-map, get_or-map, get_or_past, get_or-replicate, length-replicate}
+use Rattle.std.proofs.lemmas.List.FromFn.{length-map-range_with_len, get_or-map-range_with_len, fill_by_all}
+use Rattle.std.proofs.lemmas.List.{take-append-le, drop-append-le, take_all, length-drop, length-append, length-set, get_or_default, get_or_past, get_or_push, get_or_append_left, get_or-set_same, get_or-set_other, get_or-replicate, length-replicate}
 use Rattle.std.proofs.Math.Seq.{drop-append_seam}
 use Rattle.pg_arena.specs.declared.player.Player.{Player}
 use Rattle.pg_arena.specs.declared.player.Player.TheVariants.{Even}
 use Rattle.pg_arena.specs.Games.{nowhere}
 use Rattle.pg_map.specs.Lines.{Line, line_of, line_at, vertex_line}
 use Rattle.pg_worker.specs.declared.head.Head.{Head}
-use Rattle.pg_worker.specs.Mirrors.Parts.{line_from, head_line, AreHeld, AreOwners, no_head}
+use Rattle.pg_worker.specs.Mirrors.Parts.{line_from, head_line, line_in, lines_of, AreHeld, IsSpan, no_head}
 
 no_some : (o : Option Line) → o ≡ None → IsSome o → ⊥
 no_some None e h = cc
 no_some (Some l) e h = cc
 
+is_some_of : (o : Option Line) (l : Line) → o ≡ Some l → IsSome o
+is_some_of None l e = absurd (cc)
+is_some_of (Some k) l e = refl
+
 some_line : (p : ℕ) (o : Player) (ss : List ℕ) (n : ℕ) → 0 < n → line_from p o ss n ≡ Some (line_of p o ss)
 some_line p o ss zero h = absurd (omega arith)
 some_line p o ss (suc n) h = refl
 
+none_line : (p : ℕ) (o : Player) (ss : List ℕ) (n : ℕ) → n ≡ 0 → line_from p o ss n ≡ None
+none_line p o ss zero h = refl
+none_line p o ss (suc n) h = absurd (omega arith)
+
 -- a line that stands before the end
-head_same : (ts ss : List ℕ) (h : Head) → h.start + h.count ≤ length ts → head_line (ts ++ ss) h ≡ head_line ts h
-head_same ts ss h le = ap (λ (xs : List ℕ). line_from h.priority h.owner xs h.count) (ap (take h.count) (drop-append-le h.start ts ss (omega arith)) ∙ take-append-le h.count (drop h.start ts) ss (let l = length-drop h.start ts in omega arith))
+head_same : (ts ss : List ℕ) (h : Head) (o : Player) → h.start + h.count ≤ length ts → head_line (ts ++ ss) h o ≡ head_line ts h o
+head_same ts ss h o le = ap (λ (xs : List ℕ). line_from h.priority o xs h.count) (ap (take h.count) (drop-append-le h.start ts ss (omega arith)) ∙ take-append-le h.count (drop h.start ts) ss (let l = length-drop h.start ts in omega arith))
 
-tail_held : (h : Head) (heads : List Head) (n : ℕ) → All (λ k. k.start + k.count ≤ n) (h ∷ heads) → All (λ k. k.start + k.count ≤ n) heads
-tail_held h heads n a = λ i d lt. a (suc i) d (omega arith)
+abbrev new_head : ℕ → List ℕ → List ℕ → Head
+new_head p ts ss = record { priority = p; start = length ts; count = length ss }
 
-cons_same : (a b : Option Line) (x y : List (Option Line)) → a ≡ b → x ≡ y → a ∷ x ≡ b ∷ y
-cons_same a b x y p q = cc
-
-lines_same : (heads : List Head) (ts ss : List ℕ) → AreHeld heads ts → map (head_line (ts ++ ss)) heads ≡ map (head_line ts) heads
-lines_same [] ts ss a = refl
-lines_same (h ∷ heads) ts ss a = cons_same _ _ _ _ (head_same ts ss h (a zero h (omega arith))) (lines_same heads ts ss (tail_held h heads (length ts) a))
-
-abbrev new_head : ℕ → Player → List ℕ → List ℕ → Head
-new_head p o ts ss = record { priority = p; owner = o; start = length ts; count = length ss }
-
-head_new : (p : ℕ) (o : Player) (ts ss : List ℕ) → 0 < length ss → head_line (ts ++ ss) (new_head p o ts ss) ≡ Some (line_of p o ss)
+head_new : (p : ℕ) (o : Player) (ts ss : List ℕ) → 0 < length ss → head_line (ts ++ ss) (new_head p ts ss) o ≡ Some (line_of p o ss)
 head_new p o ts ss h = ap (λ (xs : List ℕ). line_from p o xs (length ss)) (ap (take (length ss)) (drop-append_seam ts ss) ∙ take_all (length ss) ss (omega arith)) ∙ some_line p o ss (length ss) h
 
--- the lines after one is added
-pub lines_more : (heads : List Head) (ts ss : List ℕ) (v p : ℕ) (o : Player) → AreHeld heads ts → 0 < length ss → map (head_line (ts ++ ss)) (set heads v (new_head p o ts ss)) ≡ set (map (head_line ts) heads) v (Some (line_of p o ss))
-lines_more heads ts ss v p o a h =
-    map-set (head_line (ts ++ ss)) heads v (new_head p o ts ss)
-    ∙ (ap (λ (xs : List (Option Line)). set xs v (head_line (ts ++ ss) (new_head p o ts ss))) (lines_same heads ts ss a)
-    ∙ ap (λ (l : Option Line). set (map (head_line ts) heads) v l) (head_new p o ts ss h))
+-- ---- one line
 
-map_replicate : {X Y : Type 0} (f : X → Y) (n : ℕ) (x : X) → map f (replicate n x) ≡ replicate n (f x)
-map_replicate f zero x = refl
-map_replicate f (suc n) x = ap (λ ys. f x ∷ ys) (map_replicate f n x)
+abbrev head_at : List Head → ℕ → Head
+head_at heads i = get_or heads i no_head
 
--- no lines
-pub no_lines : (heads : List Head) (ts : List ℕ) (n : ℕ) → heads ≡ replicate n no_head → map (head_line ts) heads ≡ replicate n None
-no_lines heads ts n e = ap (map (head_line ts)) e ∙ map_replicate (head_line ts) n no_head
+before_first : (first : ℕ) (heads : List Head) (owners : List Player) (ts : List ℕ) (v : ℕ) → v < first → line_in first heads owners ts v ≡ None
+before_first first heads owners ts v lt = ap (λ b. cond b None (head_line ts (head_at heads (v - first)) (get_or owners (v - first) Even))) (lt-ltb v first lt)
 
-pub no_owners : (heads : List Head) (owners : List Player) (n : ℕ) → heads ≡ replicate n no_head → owners ≡ replicate n Even → AreOwners heads owners
-no_owners heads owners n h o = o ∙ sym (ap (map (λ (k : Head). k.owner)) h ∙ map_replicate (λ (k : Head). k.owner) n no_head)
+from_first : (first : ℕ) (heads : List Head) (owners : List Player) (ts : List ℕ) (v : ℕ) → first ≤ v → line_in first heads owners ts v ≡ head_line ts (head_at heads (v - first)) (get_or owners (v - first) Even)
+from_first first heads owners ts v le = ap (λ b. cond b None (head_line ts (head_at heads (v - first)) (get_or owners (v - first) Even))) (le-ltb v first le)
 
-pub owners_more : (heads : List Head) (owners : List Player) (v : ℕ) (h : Head) → AreOwners heads owners → AreOwners (set heads v h) (set owners v h.owner)
-owners_more heads owners v h a = ap (λ (os : List Player). set os v h.owner) a ∙ sym (map-set (λ (k : Head). k.owner) heads v h)
+past_last : (first : ℕ) (heads : List Head) (owners : List Player) (ts : List ℕ) (v : ℕ) → first ≤ v → length heads ≤ v - first → line_in first heads owners ts v ≡ None
+past_last first heads owners ts v le past =
+    from_first first heads owners ts v le
+    ∙ ap (λ (h : Head). head_line ts h (get_or owners (v - first) Even)) (get_or_past heads (v - first) no_head past)
 
-pub held_more : (heads : List Head) (v : ℕ) (h : Head) (ts ss : List ℕ) → h.start + h.count ≤ length (ts ++ ss) → AreHeld heads ts → AreHeld (set heads v h) (ts ++ ss)
-held_more heads v h ts ss e a =
-    All-set (λ k. k.start + k.count ≤ length (ts ++ ss)) heads v h e (λ i d lt. let b = a i d lt in omega (arith, length-append ts ss))
-
-owner_of : (p : ℕ) (o : Player) (ss : List ℕ) (n : ℕ) (l : Line) → IsSome (line_from p o ss n) → (unwrap_or (line_from p o ss n) l).owner ≡ o
-owner_of p o ss zero l h = absurd (no_some None refl h)
-owner_of p o ss (suc n) l h = refl
-
-no_line : (ls : List (Option Line)) (v : ℕ) → length ls ≤ v → IsSome (get_or ls v None) → ⊥
-no_line ls v le h = no_some (get_or ls v None) (get_or_past ls v None le) h
-
--- the owner of a vertex that has a line
-pub owner_is : (heads : List Head) (ts : List ℕ) (owners : List Player) (v : ℕ) (o : Player) → AreOwners heads owners → IsSome (get_or (map (head_line ts) heads) v None) → o ≡ get_or owners v o
-    → o ≡ (line_at (λ w. get_or (map (head_line ts) heads) w None) v).owner
-owner_is heads ts owners v o a s e =
-    elim (cases_lt v (length heads)) [
-      | inl lt ↦
-          let h = get_or heads v no_head in
-          let line : get_or (map (head_line ts) heads) v None ≡ head_line ts h = get_or-map (head_line ts) heads v no_head None lt in
-          let here : get_or owners v o ≡ h.owner = ap (λ (os : List Player). get_or os v o) a ∙ get_or-map (λ (k : Head). k.owner) heads v no_head o lt in
-          let some : IsSome (head_line ts h) = subst (λ (l : Option Line). IsSome l) line s in
-          e ∙ (here ∙ (sym (owner_of h.priority h.owner (take h.count (drop h.start ts)) h.count (vertex_line nowhere) some) ∙ ap (λ (l : Option Line). (unwrap_or l (vertex_line nowhere)).owner) (sym line)))
-      | inr le ↦ absurd (no_line (map (head_line ts) heads) v (omega (arith, length-map heads (head_line ts))) s)
+pub held_at : (n first : ℕ) (heads : List Head) (owners : List Player) (ts : List ℕ) (v : ℕ) → first + length heads ≤ n → get_or (lines_of n first heads owners ts) v None ≡ line_in first heads owners ts v
+held_at n first heads owners ts v within =
+    elim (cases_lt v n) [
+      | inl lt ↦ get_or-map-range_with_len (line_in first heads owners ts) 0 n v v None lt (omega arith)
+      | inr le ↦ get_or_past (lines_of n first heads owners ts) v None (let l = length-map-range_with_len (line_in first heads owners ts) 0 n in omega arith) ∙ sym (past_last first heads owners ts v (omega arith) (omega arith))
     ]
 
-pub none_held : (heads : List Head) (ts : List ℕ) (n : ℕ) → heads ≡ replicate n no_head → AreHeld heads ts
-none_held heads ts n e = λ i d lt.
-    let size : length heads ≡ n = ap length e ∙ length-replicate n no_head in
-    let h : get_or heads i d ≡ no_head = ap (λ (hs : List Head). get_or hs i d) e ∙ get_or-replicate n i no_head d (omega arith) in
-    subst (λ (k : Head). k.start + k.count ≤ length ts) (sym h) (omega arith)
+-- where the line of a vertex of the part stands
+pub record IsHeld (first : ℕ) (heads : List Head) (owners : List Player) (ts : List ℕ) (v : ℕ) (l : Line) : Type 0 where
+  pub from : first ≤ v
+  pub place : v - first < length heads
+  pub line : l ≡ line_of (head_at heads (v - first)).priority (get_or owners (v - first) Even) (take (head_at heads (v - first)).count (drop (head_at heads (v - first)).start ts))
+
+line_is : (p : ℕ) (o : Player) (ss : List ℕ) (n : ℕ) (d : Line) → IsSome (line_from p o ss n) → unwrap_or (line_from p o ss n) d ≡ line_of p o ss
+line_is p o ss zero d h = absurd (no_some None refl h)
+line_is p o ss (suc n) d h = refl
+
+pub held_is : (n first : ℕ) (heads : List Head) (owners : List Player) (ts : List ℕ) (v : ℕ) → IsSpan n first heads owners ts → IsSome (get_or (lines_of n first heads owners ts) v None)
+    → IsHeld first heads owners ts v (line_at (λ w. get_or (lines_of n first heads owners ts) w None) v)
+held_is n first heads owners ts v span some =
+    let at = held_at n first heads owners ts v span.within in
+    let here : IsSome (line_in first heads owners ts v) = subst (λ (o : Option Line). IsSome o) at some in
+    elim (cases_lt v first) [
+      | inl lt ↦ absurd (no_some (line_in first heads owners ts v) (before_first first heads owners ts v lt) here)
+      | inr le ↦ elim (cases_lt (v - first) (length heads)) [
+        | inl inside ↦
+            let h = head_at heads (v - first) in
+            let o = get_or owners (v - first) Even in
+            let e = from_first first heads owners ts v le in
+            let s : IsSome (head_line ts h o) = subst (λ (x : Option Line). IsSome x) e here in
+            record {
+              from = le;
+              place = inside;
+              line = ap (λ (x : Option Line). unwrap_or x (vertex_line nowhere)) (at ∙ e) ∙ line_is h.priority o (take h.count (drop h.start ts)) h.count (vertex_line nowhere) s;
+            }
+        | inr past ↦ absurd (no_some (line_in first heads owners ts v) (past_last first heads owners ts v le past) here)
+      ]
+    ]
+
+-- whether a vertex is of the part
+pub not_before : (n first : ℕ) (heads : List Head) (owners : List Player) (ts : List ℕ) (v : ℕ) → IsSpan n first heads owners ts → v < first → IsSome (get_or (lines_of n first heads owners ts) v None) → ⊥
+not_before n first heads owners ts v span lt some = let h = held_is n first heads owners ts v span some in let f = h.from in omega arith
+
+pub not_past : (n first : ℕ) (heads : List Head) (owners : List Player) (ts : List ℕ) (v : ℕ) → IsSpan n first heads owners ts → length heads ≤ v - first → IsSome (get_or (lines_of n first heads owners ts) v None) → ⊥
+not_past n first heads owners ts v span le some = let h = held_is n first heads owners ts v span some in let f = h.place in omega arith
+
+pub not_empty : (n first : ℕ) (heads : List Head) (owners : List Player) (ts : List ℕ) (v : ℕ) → IsSpan n first heads owners ts → first ≤ v → (head_at heads (v - first)).count ≡ 0 → IsSome (get_or (lines_of n first heads owners ts) v None) → ⊥
+not_empty n first heads owners ts v span le none some =
+    let h = head_at heads (v - first) in
+    let o = get_or owners (v - first) Even in
+    no_some _ (held_at n first heads owners ts v span.within ∙ (from_first first heads owners ts v le ∙ none_line h.priority o (take h.count (drop h.start ts)) h.count none)) some
+
+pub is_held : (n first : ℕ) (heads : List Head) (owners : List Player) (ts : List ℕ) (v : ℕ) → IsSpan n first heads owners ts → first ≤ v → 0 < (head_at heads (v - first)).count → IsSome (get_or (lines_of n first heads owners ts) v None)
+is_held n first heads owners ts v span le some =
+    let h = head_at heads (v - first) in
+    let o = get_or owners (v - first) Even in
+    is_some_of _ _ (held_at n first heads owners ts v span.within ∙ (from_first first heads owners ts v le ∙ some_line h.priority o (take h.count (drop h.start ts)) h.count some))
+
+-- ---- one line more
+
+pub head_held : (heads : List Head) (ts : List ℕ) (i : ℕ) → AreHeld heads ts → (head_at heads i).start + (head_at heads i).count ≤ length ts
+head_held heads ts i a =
+    elim (cases_lt i (length heads)) [
+      | inl lt ↦ a i no_head lt
+      | inr le ↦ subst (λ (h : Head). h.start + h.count ≤ length ts) (sym (get_or_past heads i no_head le)) (omega arith)
+    ]
+
+-- the lines but that of v are the same
+other_line : (first : ℕ) (heads heads' : List Head) (owners owners' : List Player) (ts ss : List ℕ) (v p u : ℕ) (o : Player) → AreHeld heads ts
+    → ((i : ℕ) → get_or heads' i no_head ≡ get_or heads i no_head) → ((i : ℕ) → get_or owners' i Even ≡ get_or owners i Even) → first ≤ v → u ≢ v
+    → line_in first (set heads' (v - first) (new_head p ts ss)) (set owners' (v - first) o) (ts ++ ss) u ≡ line_in first heads owners ts u
+other_line first heads heads' owners owners' ts ss v p u o held hs os from ne =
+    elim (cases_lt u first) [
+      | inl lt ↦ before_first first (set heads' (v - first) (new_head p ts ss)) (set owners' (v - first) o) (ts ++ ss) u lt ∙ sym (before_first first heads owners ts u lt)
+      | inr le ↦
+          let away : u - first ≢ v - first = omega arith in
+          let h : get_or (set heads' (v - first) (new_head p ts ss)) (u - first) no_head ≡ head_at heads (u - first) = get_or-set_other heads' (v - first) (u - first) (new_head p ts ss) no_head away ∙ hs (u - first) in
+          let w : get_or (set owners' (v - first) o) (u - first) Even ≡ get_or owners (u - first) Even = get_or-set_other owners' (v - first) (u - first) o Even away ∙ os (u - first) in
+          from_first first (set heads' (v - first) (new_head p ts ss)) (set owners' (v - first) o) (ts ++ ss) u le
+          ∙ (ap (λ (k : Head). head_line (ts ++ ss) k (get_or (set owners' (v - first) o) (u - first) Even)) h
+          ∙ (ap (λ (q : Player). head_line (ts ++ ss) (head_at heads (u - first)) q) w
+          ∙ (head_same ts ss (head_at heads (u - first)) (get_or owners (u - first) Even) (head_held heads ts (u - first) held)
+          ∙ sym (from_first first heads owners ts u le))))
+    ]
+
+this_line : (first : ℕ) (heads' : List Head) (owners' : List Player) (ts ss : List ℕ) (v p : ℕ) (o : Player) → first ≤ v → v - first < length heads' → v - first < length owners' → 0 < length ss
+    → line_in first (set heads' (v - first) (new_head p ts ss)) (set owners' (v - first) o) (ts ++ ss) v ≡ Some (line_of p o ss)
+this_line first heads' owners' ts ss v p o from head owner some =
+    from_first first (set heads' (v - first) (new_head p ts ss)) (set owners' (v - first) o) (ts ++ ss) v from
+    ∙ (ap (λ (k : Head). head_line (ts ++ ss) k (get_or (set owners' (v - first) o) (v - first) Even)) (get_or-set_same heads' (v - first) (new_head p ts ss) no_head head)
+    ∙ (ap (λ (q : Player). head_line (ts ++ ss) (new_head p ts ss) q) (get_or-set_same owners' (v - first) o Even owner)
+    ∙ head_new p o ts ss some))
+
+-- the lines after one is added
+pub lines_more : (n first : ℕ) (heads heads' : List Head) (owners owners' : List Player) (ts ss : List ℕ) (v p : ℕ) (o : Player) → AreHeld heads ts
+    → ((i : ℕ) → get_or heads' i no_head ≡ get_or heads i no_head) → ((i : ℕ) → get_or owners' i Even ≡ get_or owners i Even) → first ≤ v → v - first < length heads' → v - first < length owners' → 0 < length ss → v < n
+    → lines_of n first (set heads' (v - first) (new_head p ts ss)) (set owners' (v - first) o) (ts ++ ss) ≡ set (lines_of n first heads owners ts) v (Some (line_of p o ss))
+lines_more n first heads heads' owners owners' ts ss v p o held hs os from head owner some lt =
+    let f = line_in first heads owners ts in
+    let g = line_in first (set heads' (v - first) (new_head p ts ss)) (set owners' (v - first) o) (ts ++ ss) in
+    let old = lines_of n first heads owners ts in
+    let l = Some (line_of p o ss) in
+    let size : length old ≡ n = length-map-range_with_len f 0 n in
+    sym (fill_by_all g (set old v l) n None (length-set old v l ∙ size) (λ k less. elim (cases_eq k v) [
+      | inl e ↦ rw e (get_or-set_same old v l None (omega arith) ∙ sym (this_line first heads' owners' ts ss v p o from head owner some))
+      | inr ne ↦ get_or-set_other old v k l None ne ∙ (get_or-map-range_with_len f 0 n k k None less (omega arith) ∙ sym (other_line first heads heads' owners owners' ts ss v p k o held hs os from ne))
+    ]))
+
+held_same : (heads heads' : List Head) (ts : List ℕ) → ((i : ℕ) → get_or heads' i no_head ≡ get_or heads i no_head) → AreHeld heads ts → AreHeld heads' ts
+held_same heads heads' ts hs a = λ i d lt.
+    let e : get_or heads' i d ≡ head_at heads i = get_or_default heads' i d no_head lt ∙ hs i in
+    subst (λ (h : Head). h.start + h.count ≤ length ts) (sym e) (head_held heads ts i a)
+
+pub span_more : (n first : ℕ) (heads heads' : List Head) (owners owners' : List Player) (ts ss : List ℕ) (v p : ℕ) (o : Player) → IsSpan n first heads owners ts → ((i : ℕ) → get_or heads' i no_head ≡ get_or heads i no_head)
+    → length owners' ≡ length heads' → first + length heads' ≤ n → IsSpan n first (set heads' (v - first) (new_head p ts ss)) (set owners' (v - first) o) (ts ++ ss)
+span_more n first heads heads' owners owners' ts ss v p o span hs sizes within = record {
+  held = let size = length-append ts ss in
+      All-set (λ k. k.start + k.count ≤ length (ts ++ ss)) heads' (v - first) (new_head p ts ss) (omega arith)
+      (λ i d lt. let b = held_same heads heads' ts hs span.held i d lt in omega arith);
+  owned = length-set owners' (v - first) o ∙ (sizes ∙ sym (length-set heads' (v - first) (new_head p ts ss)));
+  within = let s = length-set heads' (v - first) (new_head p ts ss) in omega arith;
+}
+
+-- no lines
+pub no_lines : (n first : ℕ) (heads : List Head) (owners : List Player) (ts : List ℕ) → length heads ≡ 0 → lines_of n first heads owners ts ≡ replicate n None
+no_lines n first heads owners ts none =
+    sym (fill_by_all (line_in first heads owners ts) (replicate n None) n None (length-replicate n None) (λ k lt. get_or-replicate n k None None lt ∙ sym (elim (cases_lt k first) [
+      | inl before ↦ before_first first heads owners ts k before
+      | inr from ↦ past_last first heads owners ts k from (omega arith)
+    ])))
+
+-- another first vertex of no lines
+pub lines_moved : (n first first' : ℕ) (heads : List Head) (owners : List Player) (ts : List ℕ) → length heads ≡ 0 → lines_of n first' heads owners ts ≡ lines_of n first heads owners ts
+lines_moved n first first' heads owners ts none = no_lines n first' heads owners ts none ∙ sym (no_lines n first heads owners ts none)
+
+-- a head or an owner that is the default
+pub pushed_same : {X : Type 0} (xs : List X) (d : X) (i : ℕ) → get_or (xs ++ d ∷ []) i d ≡ get_or xs i d
+pushed_same xs d i =
+    elim (cases_lt i (length xs)) [
+      | inl lt ↦ get_or_append_left xs (d ∷ []) d i lt
+      | inr le ↦ elim (cases_eq i (length xs)) [
+        | inl e ↦ get_or_push xs d d i (sym e) ∙ sym (get_or_past xs i d le)
+        | inr ne ↦ get_or_past (xs ++ d ∷ []) i d (let s = length-append xs (d ∷ []) in omega arith) ∙ sym (get_or_past xs i d le)
+      ]
+    ]
+
+pub lines_size : (n first : ℕ) (heads : List Head) (owners : List Player) (ts : List ℕ) → length (lines_of n first heads owners ts) ≡ n
+lines_size n first heads owners ts = length-map-range_with_len (line_in first heads owners ts) 0 n
+
+-- a vertex is of the part if its head has successors
+pub holds_if : (n first : ℕ) (heads : List Head) (owners : List Player) (ts : List ℕ) (v count : ℕ) → IsSpan n first heads owners ts → first ≤ v → count ≡ (head_at heads (v - first)).count
+    → IsTrue (nat_lt 0 count) ↔ IsSome (get_or (lines_of n first heads owners ts) v None)
+holds_if n first heads owners ts v count span le e = (
+  λ t. let some = ltb-true 0 count t in is_held n first heads owners ts v span le (omega arith),
+  λ s. elim (cases_lt 0 count) [
+    | inl lt ↦ lt-ltb 0 count lt
+    | inr le0 ↦ absurd (not_empty n first heads owners ts v span le (omega arith) s)
+  ],
+)
+
+-- the same heads and owners from a first vertex on
+pub span_moved : (n first first' : ℕ) (heads heads' : List Head) (owners owners' : List Player) (ts ts' : List ℕ) → heads' ≡ heads → owners' ≡ owners → ts' ≡ ts → first' + length heads ≤ n → IsSpan n first heads owners ts → IsSpan n first' heads' owners' ts'
+span_moved n first first' heads heads' owners owners' ts ts' h o t within span = rw (h, o, t) record { held = span.held; owned = span.owned; within = within }
+
+-- an element that was read
+pub read_in : {X : Type 0} (xs : List X) (i j : ℕ) (r d : X) → i ≡ j → j < length xs → r ≡ get_or xs i r → r ≡ get_or xs j d
+read_in xs i j r d e lt is = is ∙ (ap (λ k. get_or xs k r) e ∙ get_or_default xs j r d lt)

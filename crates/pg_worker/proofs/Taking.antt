@@ -49,7 +49,7 @@ pub record First (back : List Measured) (r : ValuesReader) (n : ℕ) (m : Measur
   pub parts : back ≡ (n, m) ∷ rest
   pub left : IsLeft r rest
 
-some_is : {A : Type 0} (x y : A) → Some x ≡ Some y → x ≡ y
+pub some_is : {A : Type 0} (x y : A) → Some x ≡ Some y → x ≡ y
 some_is x y e = cc
 
 pub first_is : (back : List Measured) (r : ValuesReader) (row row' : List ℕ) (n : ℕ) (top : Bool) → IsNext back r row row' (Some (n, top)) → First back r n (in_row top row')
@@ -87,7 +87,7 @@ joined_all w ms u r r' row row' next j =
     let all : j.front ≡ ms = sym (j.parts ∙ ap (λ (ns : List Measured). j.front ++ ns) none ∙ append-nil j.front) in
     (subst (λ (ns : List Measured). JoinsAll w ns u) all j.joins, subst (CanTakeAll w) all j.fit)
 
-all_mid : (P : Measured → Type 0) (front : List Measured) (m : Measured) (rest : List Measured) → All P (front ++ m ∷ rest) → P m
+pub all_mid : {X : Type 0} (P : X → Type 0) (front : List X) (m : X) (rest : List X) → All P (front ++ m ∷ rest) → P m
 all_mid P [] m rest h = h 0 m (omega arith)
 all_mid P (x ∷ front) m rest h = all_mid P front m rest (λ i d lt. h (suc i) d (omega arith))
 

@@ -1,8 +1,8 @@
 -- What a worker remembers after a call.
 use Rattle.std.proofs.Common.{◌≡◌, ◌≢◌, ◌∙◌, ℕ, zero, suc, ◌+◌, ◌<◌, ◌≤◌, Bool, true, false, List, [], ◌∷◌, ◌++◌, length, get_or, set, subst, sym, refl, ap, arith, inl, inr, Some, None}
-use Rattle.std.specs.Prelude.{◌↔◌, All, Option, IsSome, IfSome, IfNone, unwrap_or, replicate}
+use Rattle.std.specs.Prelude.{vec_capacity, All, Option, IsSome, IfSome, IfNone, unwrap_or, replicate}
 use Rattle.std.proofs.lemmas.Bool.{cases_eq}
-use Rattle.std.proofs.lemmas.List.{get_or-set_same, get_or-set_other, length-set, length-map}
+use Rattle.std.proofs.lemmas.List.{get_or-set_same, get_or-set_other, length-set}
 use Rattle.pg_map.specs.Mirrors.Tables.{IsBest}
 use Rattle.pg_arena.specs.declared.player.Player.{Player}
 use Rattle.pg_arena.specs.declared.player.Player.TheVariants.{Odd}
@@ -11,28 +11,36 @@ use Rattle.pg_arena.specs.Games.{nowhere}
 use Rattle.pg_map.specs.Lines.{Line, AreWithin, line_at, vertex_line}
 use Rattle.pg_map.specs.Maps.{MapValue, measure_at}
 use Rattle.pg_worker.specs.declared.edges.Edges.{Edges}
-use Rattle.pg_worker.specs.declared.head.Head.{Head}
-use Rattle.pg_worker.specs.Mirrors.Parts.{PartValue, held_line, lines_in}
+use Rattle.pg_worker.specs.Mirrors.Parts.{PartValue, held_line}
 use Rattle.pg_worker.specs.Mirrors.Keeps.{IsKept, Keeps, KeepsAt, IsForemost, nothing}
-use Rattle.pg_worker.specs.Mirrors.Edges.{AreAdded, Leads}
-use Rattle.pg_worker.proofs.Linking.{IsNewLine, line_same, some_back, edges_after, edges_same}
+use Rattle.pg_worker.specs.Mirrors.Edges.{AreEdges, edges_of}
+use Rattle.pg_worker.proofs.NewLines.{IsNewLine, line_same, some_back, edges_more, no_edges}
 use Rattle.pg_worker.proofs.Keeping.{same_keeps, set_others, mark_is, never, kept_change}
 use Rattle.pg_wire.specs.declared.frame.VertexLine.{VertexLine}
 use Rattle.pg_worker.specs.Workers.{WorkerValue, told_line, with_lines, AreAbove}
 use Rattle.pg_map.specs.declared.update.Update.{Update}
-use Rattle.pg_worker.specs.Mirrors.Insides.{IsInside, IsNext, IsWhole}
+use Rattle.pg_worker.specs.Mirrors.Insides.{IsInside, AreReady, IsNext, IsWhole}
 
-pub worker_after : (lines : PartValue) (map map' : MapValue) (edges : Edges) (marked marked' : List Bool) (best best' : List ℕ)
+pub worker_after : (lines : PartValue) (map map' : MapValue) (marked marked' : List Bool) (best best' : List ℕ)
     → map'.bounds ≡ map.bounds → length map'.measures ≡ length map.measures → length marked' ≡ length marked → length best' ≡ length best
-    → IsKept map.bounds (held_line lines) map'.measures marked' best' → IsInside lines map edges marked best → IsInside lines map' edges marked' best'
-worker_after lines map map' edges marked marked' best best' b s m t kept w = record {
+    → IsKept map.bounds (held_line lines) map'.measures marked' best' → IsInside lines map marked best → IsInside lines map' marked' best'
+worker_after lines map map' marked marked' best best' b s m t kept w = record {
   within = subst (λ (n : ℕ). AreWithin n (held_line lines)) (sym s) w.within;
-  lead = w.lead;
-  targets = w.targets ∙ sym s;
+  count = subst (λ (n : ℕ). edges_of (held_line lines) n ≡ lines.edges) (sym s) w.count;
   work = m ∙ (w.work ∙ sym s);
   best = t ∙ (w.best ∙ sym s);
-  heads = w.heads ∙ sym s;
+  size = w.size ∙ sym s;
   kept = subst (λ (bs : BoundList). IsKept bs (held_line lines) map'.measures marked' best') (sym b) kept;
+}
+
+-- gathered edges of the same part
+pub ready_after : (lines : PartValue) (map map' : MapValue) (edges edges' : Edges) → length map'.measures ≡ length map.measures → length edges'.starts.items ≡ length map.measures + 1
+    → vec_capacity edges'.sources ≡ vec_capacity edges.sources → AreEdges (held_line lines) edges'.starts.items edges'.sources.items → AreReady lines map edges → AreReady lines map' edges'
+ready_after lines map map' edges edges' s size room right r = record {
+  size = omega arith;
+  few = r.few;
+  room = let a = r.room in omega arith;
+  right = λ e. right;
 }
 
 none_held : (o : Option Line) → o ≡ None → IsSome o → ⊥
@@ -46,23 +54,26 @@ some_held (Some k) l e = refl
 line_held : (o : Option Line) (l d : Line) → o ≡ Some l → unwrap_or o d ≡ l
 line_held o l d e = ap (λ (t : Option Line). unwrap_or t d) e
 
+no_edges_at_all : (lines : ℕ → Option Line) (n : ℕ) → ((v : ℕ) → lines v ≡ None) → edges_of lines n ≡ 0
+no_edges_at_all lines zero none = refl
+no_edges_at_all lines (suc n) none =
+    let a = no_edges_at_all lines n none in
+    let b = no_edges lines n (λ s. none_held (lines n) (none n) s) in
+    omega arith
+
 -- no vertices
-pub worker_empty : (lines : PartValue) (map : MapValue) (edges : Edges) (marked : List Bool) (best : List ℕ) → ((u x : ℕ) → Leads edges.entries.items edges.starts.items edges.sources.items u x → ⊥) → ((v : ℕ) → held_line lines v ≡ None)
-    → length edges.last.items ≡ length map.measures → length marked ≡ length map.measures → length best ≡ length map.measures → length lines.heads ≡ length map.measures → IsInside lines map edges marked best
-worker_empty lines map edges marked best none held a b c d = record {
+pub worker_empty : (lines : PartValue) (map : MapValue) (marked : List Bool) (best : List ℕ) → ((v : ℕ) → held_line lines v ≡ None) → lines.edges ≡ 0
+    → length marked ≡ length map.measures → length best ≡ length map.measures → length lines.lines ≡ length map.measures → IsInside lines map marked best
+worker_empty lines map marked best held edges b c d = record {
   within = record {
     numbers = λ v s. absurd (none_held (held_line lines v) (held v) s);
     successors = λ v s. absurd (none_held (held_line lines v) (held v) s);
     nonempty = λ v s. absurd (none_held (held_line lines v) (held v) s);
   };
-  lead = record {
-    lead = λ u x h. absurd (none u x h);
-    all = λ u x s. absurd (none_held (held_line lines u) (held u) s);
-  };
-  targets = a;
+  count = no_edges_at_all (held_line lines) (length map.measures) held ∙ sym edges;
   work = b;
   best = c;
-  heads = d;
+  size = d;
   kept = λ v s. absurd (none_held (held_line lines v) (held v) s);
 }
 
@@ -107,17 +118,16 @@ kept_after bs lines lines' v l f marked marked' best best' b new k lt mark choic
     ]
 
 -- a vertex more
-pub worker_more : (lines lines' : PartValue) (map : MapValue) (edges edges' : Edges) (marked marked' : List Bool) (best best' : List ℕ) (v b : ℕ) (l : Line)
+pub worker_more : (lines lines' : PartValue) (map : MapValue) (marked marked' : List Bool) (best best' : List ℕ) (v b : ℕ) (l : Line)
     → IsNewLine (held_line lines) (held_line lines') v l → v < length map.measures → All (λ w. w < length map.measures) l.successors → 0 < length l.successors → Keeps map.bounds (line_at (held_line lines') v) map.measures nothing (measure_at map.measures v) true b
-    → length lines'.heads ≡ length lines.heads → length edges'.last.items ≡ length edges.last.items → AreAdded v l.successors (length l.successors) edges.entries.items edges'.entries.items → edges'.starts.items ≡ edges.starts.items → edges'.sources.items ≡ edges.sources.items → marked' ≡ set marked v true → best' ≡ set best v b → get_or best' v 0 ≡ b
-    → IsInside lines map edges marked best → IsInside lines' map edges' marked' best'
-worker_more lines lines' map edges edges' marked marked' best best' v b l new lt ss ne k heads size added begin sources mark choice here w = record {
+    → length lines'.lines ≡ length lines.lines → lines'.edges ≡ lines.edges + length l.successors → marked' ≡ set marked v true → best' ≡ set best v b → get_or best' v 0 ≡ b
+    → IsInside lines map marked best → IsInside lines' map marked' best'
+worker_more lines lines' map marked marked' best best' v b l new lt ss ne k size edges mark choice here w = record {
   within = within_after (held_line lines) (held_line lines') v (length map.measures) l new lt ss ne w.within;
-  lead = rw (begin, sources) (edges_after (held_line lines) (held_line lines') v l edges.entries.items edges'.entries.items edges.starts.items edges.sources.items new w.lead added);
-  targets = size ∙ w.targets;
+  count = let a = edges_more (held_line lines) (held_line lines') v l (length map.measures) new lt in let q = w.count in omega arith;
   work = ap length mark ∙ (length-set marked v true ∙ w.work);
   best = ap length choice ∙ (length-set best v b ∙ w.best);
-  heads = heads ∙ w.heads;
+  size = size ∙ w.size;
   kept = kept_after map.bounds (held_line lines) (held_line lines') v l map.measures marked marked' best best' b new k (let q = w.work in omega arith) mark choice here w.kept;
 }
 
@@ -126,17 +136,14 @@ none_is None h = refl
 none_is (Some l) h = absurd (h refl)
 
 -- the line of v was set
-pub new_line_set : (lines lines' : PartValue) (v : ℕ) (l : Line) → lines_in lines' ≡ set (lines_in lines) v (Some l) → v < length (lines_in lines) → (IsSome (held_line lines v) → ⊥) → IsNewLine (held_line lines) (held_line lines') v l
+pub new_line_set : (lines lines' : PartValue) (v : ℕ) (l : Line) → lines'.lines ≡ set lines.lines v (Some l) → v < length lines.lines → (IsSome (held_line lines v) → ⊥) → IsNewLine (held_line lines) (held_line lines') v l
 new_line_set lines lines' v l e lt none =
     new_line lines lines' v l (none_is (held_line lines v) none)
-    (ap (λ (ls : List (Option Line)). get_or ls v None) e ∙ get_or-set_same (lines_in lines) v (Some l) None lt)
-    (λ u ne. ap (λ (ls : List (Option Line)). get_or ls u None) e ∙ get_or-set_other (lines_in lines) v u (Some l) None ne)
-
-pub lines_size : (lines : PartValue) (n : ℕ) → length lines.heads ≡ n → length (lines_in lines) ≡ n
-lines_size lines n e = simp length-map e
+    (ap (λ (ls : List (Option Line)). get_or ls v None) e ∙ get_or-set_same lines.lines v (Some l) None lt)
+    (λ u ne. ap (λ (ls : List (Option Line)). get_or ls u None) e ∙ get_or-set_other lines.lines v u (Some l) None ne)
 
 -- v is the greatest vertex now
-pub next_after : (lines lines' : PartValue) (v next : ℕ) (l : Line) → lines_in lines' ≡ set (lines_in lines) v (Some l) → v < length (lines_in lines) → next ≤ v → IsNext lines next → IsNext lines' (v + 1)
+pub next_after : (lines lines' : PartValue) (v next : ℕ) (l : Line) → lines'.lines ≡ set lines.lines v (Some l) → v < length lines.lines → next ≤ v → IsNext lines next → IsNext lines' (v + 1)
 next_after lines lines' v next l e lt le n =
     let new : IsNewLine (held_line lines) (held_line lines') v l = new_line_set lines lines' v l e lt (λ s. let k = n.above v s in absurd (omega arith)) in
     record {
@@ -152,33 +159,43 @@ pub with_lines_more : (ls : List (Option Line)) (ys : List VertexLine) (y : Vert
 with_lines_more ls [] y = refl
 with_lines_more ls (x ∷ xs) y = with_lines_more (set ls x.vertex (Some (told_line x))) xs y
 
--- more room for successors, and the same edges
-pub inside_same : (p p' : PartValue) (map : MapValue) (edges edges' : Edges) (marked : List Bool) (best : List ℕ) → p'.heads ≡ p.heads → p'.targets ≡ p.targets → length edges'.last.items ≡ length edges.last.items
-    → ((u x : ℕ) → Leads edges'.entries.items edges'.starts.items edges'.sources.items u x ↔ Leads edges.entries.items edges.starts.items edges.sources.items u x) → IsInside p map edges marked best → IsInside p' map edges' marked best
-inside_same p p' map edges edges' marked best h t size same i =
-    let at : IsInside (record { heads = p.heads; targets = p.targets; room = p'.room }) map edges' marked best = record {
+-- more room, and the same lines
+pub inside_same : (p p' : PartValue) (map : MapValue) (marked : List Bool) (best : List ℕ) → p'.lines ≡ p.lines → p'.edges ≡ p.edges → IsInside p map marked best → IsInside p' map marked best
+inside_same p p' map marked best l e i =
+    let at : IsInside (record { lines = p.lines; edges = p'.edges; room = p'.room; first = p'.first; heads = p'.heads; owners = p'.owners }) map marked best = record {
       within = i.within;
-      lead = edges_same (held_line p) edges.entries.items edges'.entries.items edges.starts.items edges'.starts.items edges.sources.items edges'.sources.items same i.lead;
-      targets = size ∙ i.targets;
+      count = i.count ∙ sym e;
       work = i.work;
       best = i.best;
       kept = i.kept;
-      heads = i.heads;
+      size = i.size;
     } in
-    let a : IsInside (record { heads = p'.heads; targets = p.targets; room = p'.room }) map edges' marked best = subst (λ (hs : List Head). IsInside (record { heads = hs; targets = p.targets; room = p'.room }) map edges' marked best) (sym h) at in
-    subst (λ (ts : List ℕ). IsInside (record { heads = p'.heads; targets = ts; room = p'.room }) map edges' marked best) (sym t) a
+    subst (λ (ls : List (Option Line)). IsInside (record { lines = ls; edges = p'.edges; room = p'.room; first = p'.first; heads = p'.heads; owners = p'.owners }) map marked best) (sym l) at
 
-pub next_same : (p p' : PartValue) (n : ℕ) → p'.heads ≡ p.heads → p'.targets ≡ p.targets → IsNext p n → IsNext p' n
-next_same p p' n h t i =
-    let at : IsNext (record { heads = p.heads; targets = p.targets; room = p'.room }) n = record { above = i.above; least = i.least } in
-    let a : IsNext (record { heads = p'.heads; targets = p.targets; room = p'.room }) n = subst (λ (hs : List Head). IsNext (record { heads = hs; targets = p.targets; room = p'.room }) n) (sym h) at in
-    subst (λ (ts : List ℕ). IsNext (record { heads = p'.heads; targets = ts; room = p'.room }) n) (sym t) a
+pub ready_same : (p p' : PartValue) (map : MapValue) (edges edges' : Edges) → p'.lines ≡ p.lines → p'.edges ≡ p.edges → edges'.starts.items ≡ edges.starts.items → edges'.sources.items ≡ edges.sources.items
+    → edges'.is_gathered ≡ edges.is_gathered → vec_capacity edges.sources ≤ vec_capacity edges'.sources → AreReady p map edges → AreReady p' map edges'
+ready_same p p' map edges edges' l e starts sources g more r =
+    let at : AreReady (record { lines = p.lines; edges = p'.edges; room = p'.room; first = p'.first; heads = p'.heads; owners = p'.owners }) map edges' = record {
+      size = ap length starts ∙ r.size;
+      few = let a = r.few in omega arith;
+      room = let a = r.room in omega arith;
+      right = λ q. rw (starts, sources) (r.right (sym g ∙ q));
+    } in
+    subst (λ (ls : List (Option Line)). AreReady (record { lines = ls; edges = p'.edges; room = p'.room; first = p'.first; heads = p'.heads; owners = p'.owners }) map edges') (sym l) at
 
-pub whole_same : (p p' : PartValue) (map : MapValue) (edges edges' : Edges) (marked : List Bool) (best : List ℕ) (next listings : ℕ) (row : List ℕ) → p'.heads ≡ p.heads → p'.targets ≡ p.targets → length edges'.last.items ≡ length edges.last.items
-    → ((u x : ℕ) → Leads edges'.entries.items edges'.starts.items edges'.sources.items u x ↔ Leads edges.entries.items edges.starts.items edges.sources.items u x) → IsWhole p map edges marked best next listings row → IsWhole p' map edges' marked best next listings row
-whole_same p p' map edges edges' marked best next listings row h t size same w = record {
-  inside = inside_same p p' map edges edges' marked best h t size same w.inside;
-  above = next_same p p' next h t w.above;
+pub next_same : (p p' : PartValue) (n : ℕ) → p'.lines ≡ p.lines → IsNext p n → IsNext p' n
+next_same p p' n l i =
+    let at : IsNext (record { lines = p.lines; edges = p'.edges; room = p'.room; first = p'.first; heads = p'.heads; owners = p'.owners }) n = record { above = i.above; least = i.least } in
+    subst (λ (ls : List (Option Line)). IsNext (record { lines = ls; edges = p'.edges; room = p'.room; first = p'.first; heads = p'.heads; owners = p'.owners }) n) (sym l) at
+
+pub whole_same : (p p' : PartValue) (map : MapValue) (edges edges' : Edges) (marked : List Bool) (best : List ℕ) (next listings : ℕ) (row : List ℕ) → p'.lines ≡ p.lines → p'.edges ≡ p.edges → p'.first ≡ p.first
+    → edges'.starts.items ≡ edges.starts.items → edges'.sources.items ≡ edges.sources.items → edges'.is_gathered ≡ edges.is_gathered → vec_capacity edges.sources ≤ vec_capacity edges'.sources
+    → IsWhole p map edges marked best next listings row → IsWhole p' map edges' marked best next listings row
+whole_same p p' map edges edges' marked best next listings row l e f starts sources g more w = record {
+  inside = inside_same p p' map marked best l e w.inside;
+  ready = ready_same p p' map edges edges' l e starts sources g more w.ready;
+  above = next_same p p' next l w.above;
+  first = let a = w.first in omega arith;
   listed = w.listed;
   clear = w.clear;
 }
@@ -188,7 +205,7 @@ none_at zero v = refl
 none_at (suc n) zero = refl
 none_at (suc n) (suc v) = none_at n v
 
-pub none_held_at : (p : PartValue) (n : ℕ) → lines_in p ≡ replicate n None → (v : ℕ) → held_line p v ≡ None
+pub none_held_at : (p : PartValue) (n : ℕ) → p.lines ≡ replicate n None → (v : ℕ) → held_line p v ≡ None
 none_held_at p n e v = ap (λ (ls : List (Option Line)). get_or ls v None) e ∙ none_at n v
 
 -- no vertices at all
@@ -199,10 +216,10 @@ next_empty p none = record {
 }
 
 -- vertices above the part are at least `next`
-pub above_next : (p : PartValue) (n : ℕ) (ls : List VertexLine) → IsNext p n → AreAbove (lines_in p) ls → All (λ l. n ≤ l.vertex) ls
+pub above_next : (p : PartValue) (n : ℕ) (ls : List VertexLine) → IsNext p n → AreAbove p.lines ls → All (λ l. n ≤ l.vertex) ls
 above_next p n ls next above = λ i d lt. next.least (get_or ls i d).vertex (λ v s. above v s i d lt)
 
-pub next_above : (p : PartValue) (n : ℕ) (ls : List VertexLine) → IsNext p n → All (λ l. n ≤ l.vertex) ls → AreAbove (lines_in p) ls
+pub next_above : (p : PartValue) (n : ℕ) (ls : List VertexLine) → IsNext p n → All (λ l. n ≤ l.vertex) ls → AreAbove p.lines ls
 next_above p n ls next all = λ v s i d lt. let a = next.above v s in let b = all i d lt in omega arith
 
 -- another successor of v is remembered
@@ -215,15 +232,25 @@ settled_kept bs lines f marked best best' v e on here kept =
     kept
 
 -- after a call that changes the map
-pub whole_after : (lines : PartValue) (map map' : MapValue) (edges : Edges) (marked marked' : List Bool) (best best' : List ℕ) (next listings : ℕ) (row : List ℕ)
-    → map'.bounds ≡ map.bounds → length map'.measures ≡ length map.measures → length marked' ≡ length marked → length best' ≡ length best
-    → IsKept map.bounds (held_line lines) map'.measures marked' best' → IsWhole lines map edges marked best next listings row → IsWhole lines map' edges marked' best' next listings row
-whole_after lines map map' edges marked marked' best best' next listings row b s m t kept w = record {
-  inside = worker_after lines map map' edges marked marked' best best' b s m t kept w.inside;
+pub whole_after : (lines : PartValue) (map map' : MapValue) (edges edges' : Edges) (marked marked' : List Bool) (best best' : List ℕ) (next listings : ℕ) (row : List ℕ)
+    → map'.bounds ≡ map.bounds → length map'.measures ≡ length map.measures → length edges'.starts.items ≡ length map.measures + 1 → vec_capacity edges'.sources ≡ vec_capacity edges.sources
+    → AreEdges (held_line lines) edges'.starts.items edges'.sources.items → length marked' ≡ length marked → length best' ≡ length best
+    → IsKept map.bounds (held_line lines) map'.measures marked' best' → IsWhole lines map edges marked best next listings row → IsWhole lines map' edges' marked' best' next listings row
+whole_after lines map map' edges edges' marked marked' best best' next listings row b s size room right m t kept w = record {
+  inside = worker_after lines map map' marked marked' best best' b s m t kept w.inside;
+  ready = ready_after lines map map' edges edges' s size room right w.ready;
   above = w.above;
+  first = w.first;
   listed = w.listed ∙ sym s;
   clear = w.clear ∙ ap (λ (bs : BoundList). replicate (length bs) 0) (sym b);
 }
+
+-- after edges were gathered
+pub whole_gathered : (lines : PartValue) (map : MapValue) (edges edges' : Edges) (marked : List Bool) (best : List ℕ) (next listings : ℕ) (row : List ℕ)
+    → length edges'.starts.items ≡ length map.measures + 1 → vec_capacity edges'.sources ≡ vec_capacity edges.sources
+    → AreEdges (held_line lines) edges'.starts.items edges'.sources.items → IsWhole lines map edges marked best next listings row → IsWhole lines map edges' marked best next listings row
+whole_gathered lines map edges edges' marked best next listings row size room right w =
+    whole_after lines map map edges edges' marked marked best best next listings row refl refl size room right refl refl w.inside.kept w
 
 abbrev worker_of : MapValue → List (Option Line) → List Update → List ℕ → WorkerValue
 worker_of m ls us vs = record { bounds = m.bounds; lines = ls; map = m.measures; kept = us; lifted = vs }

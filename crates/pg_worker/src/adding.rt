@@ -1,18 +1,17 @@
 //! Vertices that are added to a part.
 
-ghost use Rattle.std.specs.Prelude.{◌≡◌, ◌↔◌, ℕ, true, ◌+◌, ◌<◌, ◌≤◌, Some, length, sum_by, slice_set, All, AllPairs, IsSome, IfSome, IsTrue};
+ghost use Rattle.std.specs.Prelude.{◌≡◌, ◌↔◌, ℕ, true, ◌+◌, ◌^◌, ◌<◌, ◌≤◌, Some, length, sum_by, slice_set, All, AllPairs, IsSome, IfSome, IsTrue};
 ghost use Rattle.pg_arena.specs.declared.player.Player.TheVariants.{Odd};
 ghost use Rattle.pg_measure.specs.Measures.{width_from};
 ghost use Rattle.pg_wire.specs.Well.{IsVertexLine};
 ghost use Rattle.pg_map.specs.Lines.{AreWithin, line_at};
 ghost use Rattle.pg_map.specs.Maps.{measure_at};
 ghost use Rattle.pg_worker.specs.Workers.{told_line, with_lines, player, HasBound, FitsGame};
-ghost use Rattle.pg_worker.specs.Mirrors.Parts.{lines_in, held_line};
+ghost use Rattle.pg_worker.specs.Mirrors.Parts.{HasPlace, held_line};
 ghost use Rattle.pg_map.specs.Mirrors.Tables.{IsBest};
 ghost use Rattle.pg_worker.specs.Mirrors.Keeps.{Keeps, nothing};
-ghost use Rattle.pg_worker.specs.Mirrors.Insides.{IsInside, IsNext, HasRoom, edge_count};
+ghost use Rattle.pg_worker.specs.Mirrors.Insides.{IsInside, IsNext, edge_count};
 
-use crate::edges::Edges;
 use crate::part::Part;
 use crate::worklist::Worklist;
 use pg_arena::{Player, Vertex};
@@ -59,60 +58,78 @@ fn player(number: u8) -> Player
     }
 }
 
-/// Adds a vertex above those of the part, for whose edges there is room. It waits.
+/// Whether no odd priority is greater than this one, which is odd too.
+fn is_greatest(bounds: &[(u32, u32)], priority: u32) -> bool {
+    bounds.first().is_some_and(|bound| bound.0 == priority)
+}
+
+/// Lets a new vertex wait: for the next generation, where its priority isn't the greatest odd one.
+fn enlist(work: &mut Worklist, bounds: &[(u32, u32)], v: Vertex, priority: u32)
+    requires { v < length work.old }
+    ensures { work.new ≡ slice_set work.old v true }
+{
+    if !is_greatest(bounds, priority) {
+        work.put_off(v.0);
+    }
+    work.add(v.0);
+}
+
+/// Adds a vertex above those of the part, for which there is room. It waits.
 fn add_line(
     map: &MeasureMap,
     part: &mut Part,
-    edges: &mut Edges,
     work: &mut Worklist,
     best: &mut [Vertex],
     line: &VertexLine,
 )
-    requires inside { IsInside part.old map.now edges.old work.old best.old }
+    requires inside { IsInside part.old map.now work.old best.old }
     requires new { ¬ (IsSome (held_line part.old line.now.vertex)) }
     requires fits { FitsGame map.now.bounds (length map.now.measures) line.now }
     requires line { IsVertexLine line.now }
-    requires part_room { length part.old.targets + length line.now.successors ≤ part.old.room }
-    requires edge_room { HasRoom edges.old (length line.now.successors) }
-    ensures inside { IsInside part.new map.now edges.new work.new best.new }
-    ensures lines { lines_in part.new ≡ slice_set (lines_in part.old) line.now.vertex (Some (told_line line.now)) }
-    ensures targets { length part.new.targets ≡ length part.old.targets + length line.now.successors }
-    ensures part_room { part.new.room ≡ part.old.room }
-    ensures edge_room { (n : ℕ) → HasRoom edges.old (n + length line.now.successors) → HasRoom edges.new n }
+    requires place { HasPlace part.old line.now.vertex }
+    requires few { part.old.edges + length line.now.successors < 2 ^ 32 }
+    requires room { part.old.edges + length line.now.successors ≤ part.old.room }
+    ensures inside { IsInside part.new map.now work.new best.new }
+    ensures lines { part.new.lines ≡ slice_set part.old.lines line.now.vertex (Some (told_line line.now)) }
+    ensures edges { part.new.edges ≡ part.old.edges + length line.now.successors }
+    ensures first { part.new.first ≡ part.old.first }
+    ensures places { (v : ℕ) → HasPlace part.old v → HasPlace part.new v }
+    ensures room { part.new.room ≡ part.old.room }
 {
     let v = Vertex(line.vertex);
     let successors = line.successors.as_slice();
     part.add(v, line.priority, player(line.owner), successors);
-    edges.add_all(v, successors);
     best[v.0 as usize] = first_best(map, part, v);
-    work.add(v.0);
+    enlist(work, map.bounds().pairs(), v, line.priority);
 }
 
-/// Adds vertices, which rise from `next` on, and for whose edges there is room. They wait.
+/// Adds vertices, which rise from `next` on, and for which there is room. They wait.
 pub(crate) fn add_lines(
     map: &MeasureMap,
     part: &mut Part,
-    edges: &mut Edges,
     work: &mut Worklist,
     best: &mut [Vertex],
     next: &mut u64,
     lines: &[VertexLine],
 )
-    requires inside { IsInside part.old map.now edges.old work.old best.old }
+    requires inside { IsInside part.old map.now work.old best.old }
     requires next { IsNext part.old next.old }
     requires above { All (λ l. next.old ≤ l.vertex) lines.now }
     requires fit { All (FitsGame map.now.bounds (length map.now.measures)) lines.now }
     requires lines { All IsVertexLine lines.now }
     requires rising { AllPairs (λ l m. l.vertex < m.vertex) lines.now }
-    requires part_room { length part.old.targets + sum_by edge_count lines.now ≤ part.old.room }
-    requires edge_room { HasRoom edges.old (sum_by edge_count lines.now) }
-    ensures inside { IsInside part.new map.now edges.new work.new best.new }
+    requires places { All (λ l. HasPlace part.old l.vertex) lines.now }
+    requires few { part.old.edges + sum_by edge_count lines.now < 2 ^ 32 }
+    requires room { part.old.edges + sum_by edge_count lines.now ≤ part.old.room }
+    ensures inside { IsInside part.new map.now work.new best.new }
     ensures next { IsNext part.new next.new }
-    ensures lines { lines_in part.new ≡ with_lines (lines_in part.old) lines.now }
+    ensures lines { part.new.lines ≡ with_lines part.old.lines lines.now }
+    ensures edges { part.new.edges ≡ part.old.edges + sum_by edge_count lines.now }
+    ensures first { 0 < length lines.now → part.new.first ≤ next.new }
     ensures best { length best.new ≡ length best.old }
 {
     for line in lines {
-        add_line(map, part, edges, work, best, line);
+        add_line(map, part, work, best, line);
         *next = u64::from(line.vertex) + 1;
     }
 }

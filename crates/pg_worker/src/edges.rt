@@ -1,160 +1,147 @@
 //! Who leads to a vertex.
 
-ghost use Rattle.std.specs.Prelude.{◌≡◌, ◌↔◌, ℕ, ◌+◌, ◌^◌, ◌<◌, ◌≤◌, List, [], ◌∷◌, ◌++◌, length, All, IfOk, OnOk, slice_index_or, vec_capacity};
-ghost use Rattle.pg_worker.specs.Mirrors.Edges.{AreLinked, ArePlaced, AreAdded, AreAppended, AreGathered, IsListed, IsFrom, Leads, edges_to};
+ghost use Rattle.std.specs.Prelude.{◌≡◌, ℕ, ◌+◌, ◌^◌, ◌<◌, ◌≤◌, true, false, length, IfOk, OnOk, slice_index, slice_index_or, vec_capacity};
+ghost use Rattle.pg_map.specs.Lines.{AreWithin};
+ghost use Rattle.pg_worker.specs.Mirrors.Edges.{AreEdges, AreSums, ArePut, ArePutBefore, IsRight, IsListed, IsFrom, LeadsTo, edges_of, leads, begin_of, sum_below};
 
-use crate::entry::Entry;
 use pg_arena::Vertex;
+use pg_map::Lines;
 use std::alloc::{AllocError, Global};
 
-/// The edges of a part. They are linked, from the last to the first of each target, until they are gathered: then the sources
-/// of each target stand side by side. What is added after that is linked, and stays so.
+/// For each vertex of some lines those that it is a successor of, from the greatest to the least: once they are gathered, those of
+/// vertex v stand from place `starts[v]` to `starts[v + 1]`.
 #[derive(Drop)]
 pub struct Edges {
-    pub last: Vec<u32>,
-    pub entries: Vec<Entry>,
-    /// Where the sources of each target begin, and the end.
     pub starts: Vec<u32>,
     pub sources: Vec<Vertex>,
-    ghost linked: { AreLinked last.items entries.items },
-    ghost placed: { ArePlaced (length last.items) starts.items sources.items },
-    ghost room: { sources.items ≡ [] → length entries.items ≤ vec_capacity sources },
-    ghost few: { length entries.items < 2 ^ 32 },
+    /// Whether they are those of the lines as these are now.
+    pub is_gathered: bool,
 }
 
-/// Appends the sources of the edges to x, for which there is room.
-fn push_sources(last: &[u32], entries: &[Entry], x: usize, sources: &mut Vec<Vertex>)
-    requires linked { AreLinked last.now entries.now }
-    requires x { x < length last.now }
-    requires room { length sources.old.items + edges_to x entries.now ≤ vec_capacity sources.old }
-    ensures appended { AreAppended entries.now x 0 sources.old.items sources.new.items }
-    ensures few { length sources.new.items ≤ length sources.old.items + edges_to x entries.now }
-    ensures room { vec_capacity sources.new ≡ vec_capacity sources.old }
+/// Counts how many of the lines lead to each vertex.
+fn count_all<G: Lines>(lines: &G, vertices: u32, counts: &mut [u32])
+    requires size { length counts.old ≡ vertices + 1 }
+    requires within { AreWithin vertices (G.line lines.now) }
+    requires few { edges_of (G.line lines.now) vertices < 2 ^ 32 }
+    requires zeros { (w : ℕ) → slice_index counts.old w ≡ 0 }
+    ensures { (w : ℕ) → w < length counts.new → slice_index counts.new w ≡ leads (G.line lines.now) vertices w }
 {
-    let mut at = last[x];
-    while at > 0 {
-        let entry = entries[at as usize - 1];
-        sources.push_reserved(entry.source);
-        at = entry.earlier;
+    for number in 0..vertices {
+        let u = Vertex(number);
+        if !lines.holds(u) {
+            continue;
+        }
+        for w in lines.successors(u) {
+            counts[w.0 as usize] += 1;
+        }
     }
 }
 
-/// Gathers the sources of each target, for which there is room.
-fn push_all(last: &[u32], entries: &[Entry], starts: &mut [u32], sources: &mut Vec<Vertex>)
-    requires linked { AreLinked last.now entries.now }
-    requires few { length entries.now < 2 ^ 32 }
-    requires size { length starts.old ≡ length last.now + 1 }
-    requires none { sources.old.items ≡ [] }
-    requires room { length entries.now ≤ vec_capacity sources.old }
-    ensures size { length starts.new ≡ length starts.old }
-    ensures gathered { AreGathered entries.now starts.new sources.new.items (length last.now) }
+/// Puts into the place of each count the sum of those up to it.
+fn add_up(counts: &mut [u32])
+    requires few { sum_below (slice_index counts.old) (length counts.old) < 2 ^ 32 }
+    ensures { AreSums counts.old counts.new (length counts.new) }
 {
-    starts[0] = 0;
-    for x in 0..last.len() {
-        push_sources(last, entries, x, sources);
-        starts[x + 1] = sources.len() as u32;
+    let mut end = 0;
+    for place in counts.iter_mut() {
+        end += *place;
+        *place = end;
+    }
+}
+
+/// Makes at least so many vertices, for which there is room.
+fn lengthen(sources: &mut Vec<Vertex>, count: usize)
+    requires room { count ≤ vec_capacity sources.old }
+    ensures more { count ≤ length sources.new.items }
+    ensures room { vec_capacity sources.new ≡ vec_capacity sources.old }
+{
+    for _ in sources.len()..count {
+        sources.push_reserved(Vertex(0));
+    }
+}
+
+/// Puts each vertex in front of what stands in the runs of its successors, where `starts` tells at first the ends of the runs.
+fn put_all<G: Lines>(lines: &G, vertices: u32, starts: &mut [u32], sources: &mut [Vertex])
+    requires within { AreWithin vertices (G.line lines.now) }
+    requires put { ArePutBefore (G.line lines.now) vertices 0 starts.old sources.old }
+    ensures edges { AreEdges (G.line lines.now) starts.new sources.new }
+{
+    for number in 0..vertices {
+        let u = Vertex(number);
+        if !lines.holds(u) {
+            continue;
+        }
+        for x in lines.successors(u) {
+            let start = starts[x.0 as usize] - 1;
+            starts[x.0 as usize] = start;
+            sources[start as usize] = u;
+        }
     }
 }
 
 impl Edges {
-    ghost use Rattle.pg_worker.specs.Mirrors.Insides.{HasRoom};
-
     /// No edges, for targets below `count`.
     pub fn new(alloc: Global, count: u32) -> Result<Edges, AllocError>
-        ensures size { IfOk result (λ e. length e.last.items ≡ count) }
-        ensures none { IfOk result (λ e. (u x : ℕ) → Leads e.entries.items e.starts.items e.sources.items u x → ⊥) }
+        ensures size { IfOk result (λ e. length e.starts.items ≡ count + 1) }
+        ensures none { IfOk result (λ e. e.is_gathered ≡ false) }
     {
         Ok(Edges {
-            last: vec![in alloc; 0; count as usize]?,
-            entries: Vec::new(alloc),
             starts: vec![in alloc; 0; count as usize + 1]?,
             sources: Vec::new(alloc),
+            is_gathered: false,
         })
     }
 
-    /// Makes room for so many edges more. It is refused for want of memory only, also where an edge's number would not be
-    /// below 2^32.
-    pub fn reserve(&mut self, additional: usize) -> Result<(), AllocError>
-        ensures size { length self.new.last.items ≡ length self.old.last.items }
-        ensures same { (u x : ℕ) → Leads self.new.entries.items self.new.starts.items self.new.sources.items u x
-            ↔ Leads self.old.entries.items self.old.starts.items self.old.sources.items u x }
-        ensures room { OnOk result (HasRoom self.new additional) }
+    /// Makes room for so many edges in all. It is refused for want of memory only, also where the number of an edge would not
+    /// be below 2^32.
+    pub fn reserve(&mut self, count: usize) -> Result<(), AllocError>
+        ensures starts { self.new.starts.items ≡ self.old.starts.items }
+        ensures sources { self.new.sources.items ≡ self.old.sources.items }
+        ensures gathered { self.new.is_gathered ≡ self.old.is_gathered }
+        ensures more { vec_capacity self.old.sources ≤ vec_capacity self.new.sources }
+        ensures few { OnOk result (count < 2 ^ 32) }
+        ensures room { OnOk result (count ≤ vec_capacity self.new.sources) }
     {
-        let count = self
-            .entries
-            .len()
-            .checked_add(additional)
-            .ok_or(AllocError)?;
         if count > u32::MAX as usize {
             return Err(AllocError);
         }
-        if self.sources.is_empty() {
-            self.sources.reserve(count)?;
-        }
-        self.entries.reserve(additional)
+        self.sources
+            .reserve(count.saturating_sub(self.sources.len()))
     }
 
-    /// Gathers the edges that are linked, if none are gathered yet. It takes no memory.
-    pub fn gather(&mut self)
-        ensures size { length self.new.last.items ≡ length self.old.last.items }
-        ensures same { (u x : ℕ) → Leads self.new.entries.items self.new.starts.items self.new.sources.items u x
-            ↔ Leads self.old.entries.items self.old.starts.items self.old.sources.items u x }
+    /// Gathers the edges of the lines, for which there is room, unless they are gathered. It takes no memory.
+    pub fn gather<G: Lines>(&mut self, lines: &G, vertices: u32)
+        requires size { length self.old.starts.items ≡ vertices + 1 }
+        requires within { AreWithin vertices (G.line lines.now) }
+        requires few { edges_of (G.line lines.now) vertices < 2 ^ 32 }
+        requires room { edges_of (G.line lines.now) vertices ≤ vec_capacity self.old.sources }
+        requires right { IsRight (G.line lines.now) self.old }
+        ensures size { length self.new.starts.items ≡ length self.old.starts.items }
+        ensures room { vec_capacity self.new.sources ≡ vec_capacity self.old.sources }
+        ensures edges { AreEdges (G.line lines.now) self.new.starts.items self.new.sources.items }
     {
-        if self.sources.is_empty() && !self.entries.is_empty() {
-            push_all(
-                &self.last,
-                &self.entries,
-                &mut self.starts,
-                &mut self.sources,
-            );
-            self.last.fill(0);
-            self.entries = Vec::new(*self.entries.allocator());
+        if self.is_gathered {
+            return;
         }
+        self.starts.fill(0);
+        let starts = self.starts.as_mut_slice();
+        count_all(lines, vertices, starts);
+        add_up(starts);
+        lengthen(&mut self.sources, starts[vertices as usize] as usize);
+        put_all(lines, vertices, starts, &mut self.sources);
+        self.is_gathered = true;
     }
 
-    /// The sources of the edges to x that are gathered.
-    pub fn gathered(&self, x: Vertex) -> &[Vertex]
-        requires { x < length self.now.last.items }
+    /// The sources of the edges to x, which are gathered.
+    pub fn to(&self, x: Vertex) -> &[Vertex]
+        requires x { x + 1 < length self.now.starts.items }
+        requires rise { slice_index self.now.starts.items x ≤ slice_index self.now.starts.items (x + 1) }
+        requires within { slice_index self.now.starts.items (x + 1) ≤ length self.now.sources.items }
         ensures lead { (j : ℕ) → j < length result.now
             → IsListed self.now.starts.items self.now.sources.items x (slice_index_or result.now j 0) }
         ensures all { (u : ℕ) → IsListed self.now.starts.items self.now.sources.items x u → IsFrom result.now 0 u }
     {
         let at = x.0 as usize;
         &self.sources[self.starts[at] as usize..self.starts[at + 1] as usize]
-    }
-
-    /// Adds the edge from u to x, for which there is room.
-    fn add(&mut self, u: Vertex, x: Vertex)
-        requires x { x < length self.old.last.items }
-        requires room { HasRoom self.old 1 }
-        ensures size { length self.new.last.items ≡ length self.old.last.items }
-        ensures added { self.new.entries.items ≡ self.old.entries.items ++ record { source = u; target = x; earlier = slice_index_or self.old.last.items x 0 } ∷ [] }
-        ensures starts { self.new.starts.items ≡ self.old.starts.items }
-        ensures sources { self.new.sources.items ≡ self.old.sources.items }
-        ensures room { (n : ℕ) → HasRoom self.old (n + 1) → HasRoom self.new n }
-    {
-        let entry = Entry {
-            source: u,
-            target: x,
-            earlier: self.last[x.0 as usize],
-        };
-        self.entries.push_reserved(entry);
-        self.last[x.0 as usize] = self.entries.len() as u32;
-    }
-
-    /// Adds the edges from u to each of the vertices, for which there is room.
-    pub fn add_all(&mut self, u: Vertex, successors: &[u32])
-        requires targets { All (λ x. x < length self.old.last.items) successors.now }
-        requires room { HasRoom self.old (length successors.now) }
-        ensures size { length self.new.last.items ≡ length self.old.last.items }
-        ensures added { AreAdded u successors.now
-            (length successors.now) self.old.entries.items self.new.entries.items }
-        ensures starts { self.new.starts.items ≡ self.old.starts.items }
-        ensures sources { self.new.sources.items ≡ self.old.sources.items }
-        ensures room { (n : ℕ) → HasRoom self.old (n + length successors.now) → HasRoom self.new n }
-    {
-        for x in successors {
-            self.add(u, Vertex(*x));
-        }
     }
 }

@@ -1,6 +1,6 @@
 //! Values that a worker takes, and the lifts that it makes.
 
-ghost use Rattle.std.specs.Prelude.{◌≡◌, ◌↔◌, ◌<◌, ◌≤◌, true, false, [], ◌∷◌, length, slice_set, IsSome, IfSome, IfNone, IfOk, IfErr, IsOk, OnOk, OnErr, IsTrue, MatchBool, vec_len, vec_capacity};
+ghost use Rattle.std.specs.Prelude.{◌≡◌, ◌↔◌, ◌+◌, ◌<◌, ◌≤◌, true, false, [], ◌∷◌, length, slice_set, IsSome, IfSome, IfNone, IfOk, IfErr, IsOk, OnOk, OnErr, IsTrue, MatchBool, vec_len, vec_capacity};
 ghost use Rattle.std.specs.Bool.{OnTrue, OnFalse};
 ghost use Rattle.pg_measure.specs.Measures.{Fits, AtMost, IsBelow};
 ghost use Rattle.pg_measure.specs.Views.{measure_in};
@@ -34,9 +34,8 @@ pub(crate) fn take<G: Lines>(
     requires v { v < length map.old.measures }
     requires fits { Fits map.old.bounds (measure_in m) }
     requires within { AreWithin (length map.old.measures) (G.line lines.now) }
-    requires edges { AreEdges (G.line lines.now)
-        edges.now.entries.items edges.now.starts.items edges.now.sources.items }
-    requires targets { length edges.now.last.items ≡ length map.old.measures }
+    requires edges { AreEdges (G.line lines.now) edges.now.starts.items edges.now.sources.items }
+    requires targets { length edges.now.starts.items ≡ length map.old.measures + 1 }
     requires work { length work.old ≡ length map.old.measures }
     requires best { length best.old ≡ length map.old.measures }
     requires kept { IsKept map.old.bounds (G.line lines.now) map.old.measures work.old best.old }
@@ -69,9 +68,8 @@ pub(crate) fn lift_ready<G: Lines>(
     v: Vertex,
 )
     requires within { AreWithin (length map.old.measures) (G.line lines.now) }
-    requires edges { AreEdges (G.line lines.now)
-        edges.now.entries.items edges.now.starts.items edges.now.sources.items }
-    requires targets { length edges.now.last.items ≡ length map.old.measures }
+    requires edges { AreEdges (G.line lines.now) edges.now.starts.items edges.now.sources.items }
+    requires targets { length edges.now.starts.items ≡ length map.old.measures + 1 }
     requires work { length work.old ≡ length map.old.measures }
     requires best { length best.old ≡ length map.old.measures }
     requires ready { IsReady map.old.bounds (G.line lines.now) map.old.measures best.old v }
@@ -132,9 +130,8 @@ pub(crate) fn lift_some<G: Lines>(
     budget: u32,
 ) -> Result<bool, AllocError>
     requires within { AreWithin (length map.old.measures) (G.line lines.now) }
-    requires edges { AreEdges (G.line lines.now)
-        edges.now.entries.items edges.now.starts.items edges.now.sources.items }
-    requires targets { length edges.now.last.items ≡ length map.old.measures }
+    requires edges { AreEdges (G.line lines.now) edges.now.starts.items edges.now.sources.items }
+    requires targets { length edges.now.starts.items ≡ length map.old.measures + 1 }
     requires work { length work.old ≡ length map.old.measures }
     requires best { length best.old ≡ length map.old.measures }
     requires kept { IsKept map.old.bounds (G.line lines.now) map.old.measures work.old best.old }
@@ -182,9 +179,8 @@ pub(crate) fn lift_turn<G: Lines>(
     budget: u32,
 ) -> bool
     requires within { AreWithin (length map.old.measures) (G.line lines.now) }
-    requires edges { AreEdges (G.line lines.now)
-        edges.now.entries.items edges.now.starts.items edges.now.sources.items }
-    requires targets { length edges.now.last.items ≡ length map.old.measures }
+    requires edges { AreEdges (G.line lines.now) edges.now.starts.items edges.now.sources.items }
+    requires targets { length edges.now.starts.items ≡ length map.old.measures + 1 }
     requires work { length work.old ≡ length map.old.measures }
     requires best { length best.old ≡ length map.old.measures }
     requires kept { IsKept map.old.bounds (G.line lines.now) map.old.measures work.old best.old }
@@ -226,9 +222,8 @@ pub(crate) fn lift_one<G: Lines>(
 ) -> Result<Option<Update>, AllocError>
     requires held { IsSome (G.line lines.now v) }
     requires within { AreWithin (length map.old.measures) (G.line lines.now) }
-    requires edges { AreEdges (G.line lines.now)
-        edges.now.entries.items edges.now.starts.items edges.now.sources.items }
-    requires targets { length edges.now.last.items ≡ length map.old.measures }
+    requires edges { AreEdges (G.line lines.now) edges.now.starts.items edges.now.sources.items }
+    requires targets { length edges.now.starts.items ≡ length map.old.measures + 1 }
     requires work { length work.old ≡ length map.old.measures }
     requires best { length best.old ≡ length map.old.measures }
     requires kept { IsKept map.old.bounds (G.line lines.now) map.old.measures work.old best.old }
@@ -277,9 +272,8 @@ pub(crate) fn receive<G: Lines>(
     measure: View,
 ) -> Result<bool, WorkerFault>
     requires within { AreWithin (length map.old.measures) (G.line lines.now) }
-    requires edges { AreEdges (G.line lines.now)
-        edges.now.entries.items edges.now.starts.items edges.now.sources.items }
-    requires targets { length edges.now.last.items ≡ length map.old.measures }
+    requires edges { AreEdges (G.line lines.now) edges.now.starts.items edges.now.sources.items }
+    requires targets { length edges.now.starts.items ≡ length map.old.measures + 1 }
     requires work { length work.old ≡ length map.old.measures }
     requires best { length best.old ≡ length map.old.measures }
     requires kept { IsKept map.old.bounds (G.line lines.now) map.old.measures work.old best.old }

@@ -14,14 +14,14 @@ use crate::fault::own;
 use crate::served::Served;
 use crate::session::Session;
 use crate::step::Step;
-use pg_wire::{Frame, Report, WireFault, read_frame, write_frame};
+use pg_wire::{Frame, Report, WireFault, read_frame_bytes, write_frame};
 use std::alloc::Global;
 use std::io::{Read, Write};
 
-/// Reads one frame, if there is one, and writes the reply to it.
+/// Reads one frame into `bytes`, if there is one, and writes the reply to it, which it makes in `reply`.
 fn step<R: Read, W: Write>(
-    alloc: Global,
     session: &mut Session,
+    bytes: &mut Vec<u8>,
     reply: &mut Vec<u8>,
     input: &mut R,
     output: &mut W,
@@ -33,13 +33,13 @@ fn step<R: Read, W: Write>(
     ensures fault { IfErr result (λ e. (e ≡ Wire Write)
         ⊎ (IsFaultAt (R.remaining input.old) session.old.held e × (W.contents output.new ≡ W.contents output.old))) }
 {
-    let frame = match read_frame(alloc, input) {
-        Ok(Some(frame)) => frame,
-        Ok(None) => return Ok(Step::Ended),
+    match read_frame_bytes(input, bytes) {
+        Ok(true) => {}
+        Ok(false) => return Ok(Step::Ended),
         Err(fault) => return Err(own(fault)),
-    };
+    }
     reply.clear();
-    let halts = session.frame(&frame, reply)?;
+    let halts = session.frame_from(bytes, reply)?;
     if output.write_all(reply).is_err() {
         return Err(WorkerFault::Wire(WireFault::Write));
     }
@@ -86,9 +86,10 @@ pub fn serve<R: Read, W: Write>(
         ⊎ Breaks e (R.remaining input.old) (W.contents output.old) (W.contents output.new)) }
 {
     let mut session = Session::new(alloc);
+    let mut bytes = Vec::new(alloc);
     let mut reply = Vec::new(alloc);
     for frames in 0..u32::MAX {
-        match step(alloc, &mut session, &mut reply, input, output) {
+        match step(&mut session, &mut bytes, &mut reply, input, output) {
             Ok(Step::Ended) => return Ok(Served::InputEnded(frames)),
             Ok(Step::Halted) => return Ok(Served::Halted(frames + 1)),
             Ok(Step::Answered) => {}

@@ -1,15 +1,16 @@
 //! What a worker is told of a game.
 
-ghost use Rattle.std.specs.Prelude.{◌≡◌, ◌≤◌, ◌<◌, length, IfOk};
+ghost use Rattle.std.specs.Prelude.{◌≡◌, ◌≤◌, ◌<◌, length, IfOk, OnOk};
 ghost use Rattle.pg_arena.specs.Games.{vertex_at};
 ghost use Rattle.pg_measure.specs.Games.{IsBoundsOf};
 ghost use Rattle.pg_map.specs.Lines.{vertex_line};
 ghost use Rattle.pg_wire.specs.Well.{IsSetup, IsVertexLine};
+ghost use Rattle.pg_wire.specs.Lines.{line_with};
 ghost use Rattle.pg_worker.specs.Workers.{told_line};
 
 use pg_arena::{Game, Player, Vertex};
 use pg_measure::Bounds;
-use pg_wire::{Rows, Setup, VertexLine};
+use pg_wire::{LineHead, Rows, Setup, VertexLine};
 use std::alloc::{AllocError, Global};
 
 /// What sets a worker up for a game with these bounds, by version 1 or 2 of the wire format.
@@ -36,15 +37,37 @@ pub fn setup_of(
     })
 }
 
-/// The numbers of vertices.
-fn numbers(alloc: Global, vertices: &[Vertex]) -> Result<Vec<u32>, AllocError>
-    ensures { IfOk result (λ ns. ns.items ≡ vertices.now) }
+/// Puts the numbers of vertices into a vector, in place of what it held.
+fn fill_numbers(vertices: &[Vertex], numbers: &mut Vec<u32>) -> Result<(), AllocError>
+    ensures { OnOk result (numbers.new.items ≡ vertices.now) }
 {
-    let mut list = Vec::with_capacity(alloc, vertices.len())?;
+    numbers.clear();
+    numbers.reserve(vertices.len())?;
     for v in vertices {
-        list.push(v.0)?;
+        numbers.push(v.0)?;
     }
-    Ok(list)
+    Ok(())
+}
+
+/// What a worker is told of a vertex of a game; its successors are put into a vector that is kept, in place of what it held.
+pub fn fill_line(game: &Game, v: Vertex, successors: &mut Vec<u32>) -> Result<LineHead, AllocError>
+    requires { v < length game.now }
+    ensures vertex { IfOk result (λ head. head.vertex ≡ v) }
+    ensures line { IfOk result (λ head. told_line (line_with head successors.new.items)
+        ≡ vertex_line (vertex_at game.now v)) }
+    ensures well { IfOk result (λ head. IsVertexLine (line_with head successors.new.items)) }
+{
+    let _vertices = game.len();
+    fill_numbers(game.successors(v), successors)?;
+    let owner = match game.owner(v) {
+        Player::Even => 0,
+        Player::Odd => 1,
+    };
+    Ok(LineHead {
+        vertex: v.0,
+        priority: game.priority(v),
+        owner,
+    })
 }
 
 /// What a worker is told of a vertex of a game.
@@ -54,16 +77,12 @@ pub fn line_of(alloc: Global, game: &Game, v: Vertex) -> Result<VertexLine, Allo
     ensures line { IfOk result (λ l. told_line l ≡ vertex_line (vertex_at game.now v)) }
     ensures well { IfOk result IsVertexLine }
 {
-    let _vertices = game.len();
-    let successors = numbers(alloc, game.successors(v))?;
-    let owner = match game.owner(v) {
-        Player::Even => 0,
-        Player::Odd => 1,
-    };
+    let mut successors = Vec::new(alloc);
+    let head = fill_line(game, v, &mut successors)?;
     Ok(VertexLine {
-        vertex: v.0,
-        priority: game.priority(v),
-        owner,
+        vertex: head.vertex,
+        priority: head.priority,
+        owner: head.owner,
         successors: Rows::new(successors),
     })
 }

@@ -1,8 +1,8 @@
 //! What a worker looks at when a measure has risen.
 
-ghost use Rattle.std.specs.Prelude.{◌≡◌, ℕ, ◌<◌, length, IsSome};
+ghost use Rattle.std.specs.Prelude.{◌≡◌, ◌+◌, ◌<◌, length, IsSome};
 ghost use Rattle.pg_map.specs.Lines.{AreWithin, line_at};
-ghost use Rattle.pg_worker.specs.Mirrors.Edges.{AreEdges, IsLeft, Leads};
+ghost use Rattle.pg_worker.specs.Mirrors.Edges.{AreEdges, IsListed};
 ghost use Rattle.pg_worker.specs.Mirrors.Keeps.{IsAmong, KeepsAt, IsKept, IsKeptBut, AreSameBut, nothing, just};
 
 use crate::edges::Edges;
@@ -39,43 +39,15 @@ pub(crate) fn touch<G: Lines>(
             }
         }
         Player::Odd => {
-            if !map.serves(lines, u, x) {
-                if !work.waits(u.0) || map.is_front_below(lines, u, best[at], x) {
+            if work.waits(u.0) {
+                if map.is_front_below(lines, u, best[at], x) {
                     best[at] = x;
                 }
+            } else if !map.serves(lines, u, x) {
+                best[at] = x;
                 work.add(u.0);
             }
         }
-    }
-}
-
-/// Looks at each vertex that x, which has risen, is a successor of by an edge that is linked.
-fn touch_linked<G: Lines>(
-    map: &MeasureMap,
-    lines: &G,
-    edges: &Edges,
-    work: &mut Worklist,
-    best: &mut [Vertex],
-    x: Vertex,
-)
-    requires within { AreWithin (length map.now.measures) (G.line lines.now) }
-    requires edges { AreEdges (G.line lines.now)
-        edges.now.entries.items edges.now.starts.items edges.now.sources.items }
-    requires targets { length edges.now.last.items ≡ length map.now.measures }
-    requires x { x < length map.now.measures }
-    requires work { length work.old ≡ length map.now.measures }
-    requires best { length best.old ≡ length map.now.measures }
-    requires kept { IsKeptBut map.now.bounds (G.line lines.now) map.now.measures work.old best.old x
-        (IsLeft edges.now.entries.items x (length edges.now.entries.items)) }
-    ensures work { length work.new ≡ length work.old }
-    ensures best { length best.new ≡ length best.old }
-    ensures kept { IsKept map.now.bounds (G.line lines.now) map.now.measures work.new best.new }
-{
-    let mut at = edges.last[x.0 as usize];
-    while at > 0 {
-        let entry = edges.entries[at as usize - 1];
-        touch(map, lines, work, best, entry.source, x);
-        at = entry.earlier;
     }
 }
 
@@ -89,21 +61,18 @@ pub(crate) fn touch_all<G: Lines>(
     x: Vertex,
 )
     requires within { AreWithin (length map.now.measures) (G.line lines.now) }
-    requires edges { AreEdges (G.line lines.now)
-        edges.now.entries.items edges.now.starts.items edges.now.sources.items }
-    requires targets { length edges.now.last.items ≡ length map.now.measures }
+    requires edges { AreEdges (G.line lines.now) edges.now.starts.items edges.now.sources.items }
+    requires targets { length edges.now.starts.items ≡ length map.now.measures + 1 }
     requires x { x < length map.now.measures }
     requires work { length work.old ≡ length map.now.measures }
     requires best { length best.old ≡ length map.now.measures }
     requires kept { IsKeptBut map.now.bounds (G.line lines.now) map.now.measures work.old best.old x
-        (λ u. Leads edges.now.entries.items edges.now.starts.items edges.now.sources.items u x) }
+        (IsListed edges.now.starts.items edges.now.sources.items x) }
     ensures work { length work.new ≡ length work.old }
     ensures best { length best.new ≡ length best.old }
     ensures kept { IsKept map.now.bounds (G.line lines.now) map.now.measures work.new best.new }
 {
-    let sources = edges.gathered(x);
-    for u in sources {
+    for u in edges.to(x) {
         touch(map, lines, work, best, *u, x);
     }
-    touch_linked(map, lines, edges, work, best, x);
 }

@@ -12,9 +12,12 @@ ghost use Rattle.pg_wire.specs.Measured.{Measured, told_values, told_sparse};
 use crate::fault::own;
 use crate::held::Held;
 use crate::joins::{join_read, join_sparse, join_values};
+use crate::lines::add_read_lines;
 use crate::reply::{put_lifted, put_report};
 use crate::{Worker, WorkerFault};
-use pg_wire::{Frame, Setup, ValueKind, Values, ValuesReader, Vertices, WireFault, decode};
+use pg_wire::{
+    Frame, Setup, ValueKind, Values, ValuesReader, Vertices, VerticesReader, WireFault, decode,
+};
 use std::alloc::Global;
 
 fn set_up(alloc: Global, highest: u8, setup: &Setup, out: &mut Vec<u8>) -> Result<Held, WorkerFault>
@@ -166,8 +169,8 @@ pub fn turn(
     }
 }
 
-/// What is held after the frame that the bytes spell, and whether that is Halt; the reply is appended. Measures are read from
-/// the bytes, one after the other. After a fault some of the reply may stand in `out`.
+/// What is held after the frame that the bytes spell, and whether that is Halt; the reply is appended. Measures and
+/// vertices are read from the bytes, one after the other. After a fault some of the reply may stand in `out`.
 pub fn turn_of(
     alloc: Global,
     highest: u8,
@@ -183,6 +186,10 @@ pub fn turn_of(
     if let Some(values) = ValuesReader::open(bytes) {
         let held = held.ok_or(WorkerFault::Order)?;
         return Ok((Some(take_read(held, values)?), false));
+    }
+    if let Some(lines) = VerticesReader::open(bytes) {
+        let held = held.ok_or(WorkerFault::Order)?;
+        return Ok((Some(add_read_lines(alloc, held, lines)?), false));
     }
     let frame = match decode(alloc, bytes) {
         Ok(frame) => frame,

@@ -1,11 +1,15 @@
 //! Workers.
 
-ghost use Rattle.std.specs.Prelude.{◌≡◌, ◌↔◌, ◌<◌, ◌≤◌, ◌⊎◌, [], ◌∷◌, length, All, IfOk, IfErr, IfSome, IfNone, IsOk, OnOk, OnErr, IsTrue, IsSome};
+ghost use Rattle.std.specs.Prelude.{◌≡◌, ◌↔◌, ◌+◌, ◌<◌, ◌≤◌, ◌⊎◌, [], ◌∷◌, length, All, IfOk, IfErr, IfSome, IfNone, IsOk, OnOk, OnErr, IsTrue, IsSome, vec_capacity};
 ghost use Rattle.std.specs.Option.{option_copied};
 ghost use Rattle.pg_wire.specs.Well.{IsSetup, IsVertices, ArePlaces};
 ghost use Rattle.pg_measure.specs.Measures.{Fits};
 ghost use Rattle.pg_measure.specs.Views.{measure_in};
 ghost use Rattle.pg_map.specs.Maps.{measure_at, IsServed};
+ghost use Rattle.pg_map.specs.Lines.{AreWithin};
+ghost use Rattle.pg_worker.specs.Mirrors.Edges.{AreEdges, edges_of};
+ghost use Rattle.pg_worker.specs.Mirrors.Insides.{AreReady};
+ghost use Rattle.pg_worker.specs.Mirrors.Parts.{held_line};
 ghost use Rattle.pg_worker.specs.Workers.{part_line, new_worker, with_lines, AreAbove, FitsGame, IsWorker, RefusesLines, CanTake, Takes, Lifts, IsTurn, IsListedTurn, sparse_measure};
 
 use crate::adding::{add_lines, are_from, count_edges, fit_game};
@@ -48,12 +52,23 @@ impl Model for Worker {
 
     ghost Value = { WorkerValue };
 
-    ghost use Rattle.pg_worker.specs.Mirrors.Parts.{lines_in};
     ghost use Rattle.pg_worker.specs.Mirrors.Insides.{IsWhole};
 
-    ghost view = { λ w. record { bounds = w.map.bounds; lines = lines_in w.part; map = w.map.measures; kept = w.kept.items; lifted = w.lifted.vertices } };
+    ghost view = { λ w. record { bounds = w.map.bounds; lines = w.part.lines; map = w.map.measures; kept = w.kept.items; lifted = w.lifted.vertices } };
 
     ghost invariant = { λ w. IsWhole w.part w.map w.edges w.work w.best.items w.next w.lifted.count w.row.items };
+}
+
+/// Gathers the edges of a part.
+fn gather(edges: &mut Edges, part: &Part, map: &MeasureMap)
+    requires within { AreWithin (length map.now.measures) (held_line part.now) }
+    requires count { edges_of (held_line part.now) (length map.now.measures) ≡ part.now.edges }
+    requires ready { AreReady part.now map.now edges.old }
+    ensures size { length edges.new.starts.items ≡ length map.now.measures + 1 }
+    ensures room { vec_capacity edges.new.sources ≡ vec_capacity edges.old.sources }
+    ensures edges { AreEdges (held_line part.now) edges.new.starts.items edges.new.sources.items }
+{
+    edges.gather(part, map.len());
 }
 
 impl Worker {
@@ -68,7 +83,7 @@ impl Worker {
         let bounds = Bounds::from_pairs(alloc, setup.bounds.as_slice())?;
         Ok(Worker {
             map: MeasureMap::zero(alloc, vertices, &bounds)?,
-            part: Part::new(alloc, vertices)?,
+            part: Part::new(alloc, vertices),
             edges: Edges::new(alloc, vertices)?,
             work: Worklist::new(alloc, vertices)?,
             best: vec![in alloc; Vertex(0); vertices as usize]?,
@@ -82,7 +97,8 @@ impl Worker {
     /// Adds vertices to the part, whose numbers rise, within the call and across calls. It is refused by Order exactly where
     /// they aren't above those of the part, and then by BadUpdate exactly where the number of a vertex or of a successor
     /// isn't below the count, or an odd priority has no bound; else for want of memory only, also where the edges of the
-    /// part would be 2^32 or more. After a refusal nothing has changed.
+    /// part would be 2^32 or more. After a refusal nothing has changed. The next value or lift goes over all edges of the part
+    /// once, to find who leads to each vertex.
     pub fn add_vertices(&mut self, lines: &[VertexLine]) -> Result<(), WorkerFault>
         requires { IsVertices (record { lines = lines.now }) }
         ensures added { OnOk result (self.new ≡ record self.old { lines = with_lines self.old.lines lines.now }) }
@@ -97,26 +113,25 @@ impl Worker {
         if !fit_game(self.map.bounds().pairs(), self.map.len(), lines) {
             return Err(WorkerFault::BadUpdate);
         }
+        if lines.is_empty() {
+            return Ok(());
+        }
+        let from = lines[0].vertex;
+        let to = lines[lines.len() - 1].vertex;
         let count = count_edges(lines).ok_or(AllocError)?;
-        self.part.reserve(count)?;
-        self.edges.reserve(count)?;
+        let all = self.part.edges().checked_add(count).ok_or(AllocError)?;
+        self.edges.reserve(all)?;
+        self.part.reserve(from, to, count)?;
+        self.edges.is_gathered = false;
         add_lines(
             &self.map,
             &mut self.part,
-            &mut self.edges,
             &mut self.work,
             &mut self.best,
             &mut self.next,
             lines,
         );
         Ok(())
-    }
-
-    /// Gathers the edges by their targets.
-    fn gather(&mut self)
-        ensures { self.new ≡ self.old }
-    {
-        self.edges.gather();
     }
 
     /// Joins the map with an update. True exactly if the value rose. It is refused by BadUpdate exactly where the vertex isn't
@@ -137,7 +152,7 @@ impl Worker {
         ensures refused { IfErr result (λ e. e ≡ WorkerFault.BadUpdate) }
         ensures same { OnErr result (self.new ≡ self.old) }
     {
-        self.gather();
+        gather(&mut self.edges, &self.part, &self.map);
         receive(
             &mut self.map,
             &self.part,
@@ -166,7 +181,7 @@ impl Worker {
         let Some(pairs) = pairs else {
             return self.take_value(vertex, View::Top);
         };
-        self.gather();
+        gather(&mut self.edges, &self.part, &self.map);
         fill(&mut self.row, pairs);
         let answer = receive(
             &mut self.map,
@@ -193,7 +208,7 @@ impl Worker {
             ⊎ ((e ≡ WorkerFault.NotMine) × ¬ (IsSome (part_line self.old.lines v)))) }
         ensures same { OnErr result (self.new ≡ self.old) }
     {
-        self.gather();
+        gather(&mut self.edges, &self.part, &self.map);
         if !self.part.holds(v) {
             return Err(WorkerFault::NotMine);
         }
@@ -219,7 +234,7 @@ impl Worker {
         ensures broken_off { OnErr result (Lifts self.old self.new self.new.kept × (length self.new.kept ≤ budget)) }
         ensures lifted { self.new.lifted ≡ self.old.lifted }
     {
-        self.gather();
+        gather(&mut self.edges, &self.part, &self.map);
         self.kept.clear();
         let quiet = lift_some(
             &mut self.map,
@@ -240,7 +255,7 @@ impl Worker {
     pub fn lift_turn(&mut self, budget: u32) -> bool
         ensures { IsListedTurn self.old self.new budget result }
     {
-        self.gather();
+        gather(&mut self.edges, &self.part, &self.map);
         self.lifted.clear();
         let quiet = lift_turn(
             &mut self.map,

@@ -70,6 +70,14 @@ impl Worklist {
         }
     }
 
+    /// Lets a number that is added in this generation wait for the next.
+    pub fn put_off(&mut self, v: u32)
+        requires { v < length self.old }
+        ensures { self.new ≡ self.old }
+    {
+        self.lifts[v as usize] = self.generation.wrapping_add(LIFTS);
+    }
+
     /// Tells that a number was lifted.
     pub fn lifted(&mut self, v: u32)
         requires { v < length self.old }

@@ -5,6 +5,8 @@
 #[cfg(test)]
 mod cuts;
 #[cfg(test)]
+mod telling;
+#[cfg(test)]
 mod tools;
 #[cfg(test)]
 mod workers;

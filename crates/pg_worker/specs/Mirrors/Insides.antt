@@ -1,27 +1,27 @@
 -- What a worker remembers fits its part and its map.
-use Rattle.std.specs.Prelude.{◌≡◌, ℕ, ◌+◌, ◌^◌, ◌<◌, ◌≤◌, Bool, List, [], length, replicate, IsSome, vec_capacity}
+use Rattle.std.specs.Prelude.{◌≡◌, ℕ, ◌+◌, ◌^◌, ◌<◌, ◌≤◌, Bool, List, length, replicate, IsSome, vec_capacity}
 use Rattle.pg_map.specs.Lines.{AreWithin}
 use Rattle.pg_map.specs.Maps.{MapValue}
 use Rattle.pg_wire.specs.declared.frame.VertexLine.{VertexLine}
 use Rattle.pg_worker.specs.declared.edges.Edges.{Edges}
 use Rattle.pg_worker.specs.Mirrors.Parts.{PartValue, held_line}
 use Rattle.pg_worker.specs.Mirrors.Keeps.{IsKept}
-use Rattle.pg_worker.specs.Mirrors.Edges.{AreEdges}
+use Rattle.pg_worker.specs.Mirrors.Edges.{IsRight, edges_of}
 
-pub record IsInside (part : PartValue) (map : MapValue) (edges : Edges) (marked : List Bool) (choices : List ℕ) : Type 0 where
+pub record IsInside (part : PartValue) (map : MapValue) (marked : List Bool) (choices : List ℕ) : Type 0 where
   pub within : AreWithin (length map.measures) (held_line part)
-  pub lead : AreEdges (held_line part) edges.entries.items edges.starts.items edges.sources.items
-  pub targets : length edges.last.items ≡ length map.measures
+  pub count : edges_of (held_line part) (length map.measures) ≡ part.edges
   pub work : length marked ≡ length map.measures
   pub best : length choices ≡ length map.measures
   pub kept : IsKept map.bounds (held_line part) map.measures marked choices
-  pub heads : length part.heads ≡ length map.measures
+  pub size : length part.lines ≡ length map.measures
 
--- there is room for so many edges more, and for the sources of all where none are gathered
-abbrev pub HasRoom : Edges → ℕ → Type 0
-HasRoom e n =
-    (length e.entries.items + n ≤ vec_capacity e.entries) × (length e.entries.items + n < 2 ^ 32)
-    × (e.sources.items ≡ [] → length e.entries.items + n ≤ vec_capacity e.sources)
+-- there is room for the sources of all edges of the part, and they are right where they are gathered
+pub record AreReady (part : PartValue) (map : MapValue) (edges : Edges) : Type 0 where
+  pub size : length edges.starts.items ≡ length map.measures + 1
+  pub few : part.edges < 2 ^ 32
+  pub room : part.edges ≤ vec_capacity edges.sources
+  pub right : IsRight (held_line part) edges
 
 -- how many successors a line has
 abbrev pub edge_count : VertexLine → ℕ
@@ -34,7 +34,9 @@ pub record IsNext (part : PartValue) (next : ℕ) : Type 0 where
 
 -- the same of a whole worker: the last two are for how many vertices it can list lifts, and a row that is clear
 pub record IsWhole (part : PartValue) (map : MapValue) (edges : Edges) (marked : List Bool) (choices : List ℕ) (next listings : ℕ) (row : List ℕ) : Type 0 where
-  pub inside : IsInside part map edges marked choices
+  pub inside : IsInside part map marked choices
+  pub ready : AreReady part map edges
   pub above : IsNext part next
+  pub first : part.first ≤ next
   pub listed : listings ≡ length map.measures
   pub clear : row ≡ replicate (length map.bounds) 0

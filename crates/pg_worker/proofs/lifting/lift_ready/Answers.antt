@@ -2,7 +2,7 @@ use Rattle.std.proofs.Common.{◌≡◌, ◌<◌, length, get_or, arith}
 use Rattle.pg_measure.specs.Measures.{Covers}
 use Rattle.pg_map.specs.Lines.{line_at}
 use Rattle.pg_map.specs.Maps.{measure_at}
-use Rattle.pg_worker.specs.Mirrors.Edges.{Leads}
+use Rattle.pg_worker.specs.Mirrors.Edges.{IsListed}
 use Rattle.pg_worker.proofs.Keeping.{lifted_begun, read_at}
 use Rattle.pg_worker.proofs.lifting.lift_ready.Goals as goal
 
@@ -15,4 +15,4 @@ touch_all-requires-clause-kept g c =
     let lt : c.args.v < length c.args.best.now = let z = c.requires.best in omega arith in
     let e : c.index-best-v.result ≡ get_or c.args.best.now c.args.v 0 = read_at c.args.best.now c.v.inside.0 c.args.v c.index-best-v.result c.v.view_is lt c.index-best-v.is in
     let served : Covers bs (line_at lines c.args.v).priority (measure_at c.lift_over.new.self.measures c.args.v) (measure_at f (get_or c.args.best.now c.args.v 0)) = rw e at c.lift_over.ensures.served in
-    rw (c.lift_over.ensures.bounds, c.lifted.ensures) (lifted_begun bs lines f c.lift_over.new.self.measures c.args.work.now c.args.best.now c.args.v (λ u. Leads c.args.edges.now.entries.items c.args.edges.now.starts.items c.args.edges.now.sources.items u c.args.v) (λ u s t. c.requires.edges.all u c.args.v s t) n c.lift_over.ensures.lifted c.requires.ready served c.requires.kept)
+    rw (c.lift_over.ensures.bounds, c.lifted.ensures) (lifted_begun bs lines f c.lift_over.new.self.measures c.args.work.now c.args.best.now c.args.v (IsListed c.args.edges.now.starts.items c.args.edges.now.sources.items c.args.v) (λ u s t. c.requires.edges.all u c.args.v (s, t)) n c.lift_over.ensures.lifted c.requires.ready served c.requires.kept)

@@ -1,4 +1,4 @@
-use Rattle.std.proofs.Common.{◌≡◌, ℕ, length, Some, true, ap, sym, ◌∙◌, inr, rules}
+use Rattle.std.proofs.Common.{◌≡◌, ℕ, length, Some, true, ap, sym, refl, ◌∙◌, inr, rules}
 use Rattle.std.proofs.lemmas.Result.{err_from_is_err_and}
 use Rattle.pg_worker.specs.Workers.{WorkerValue}
 use Rattle.pg_wire.specs.Measured.{told_sparse}
@@ -33,3 +33,7 @@ pub join_sparse-requires : goal.join_sparse-requires
 join_sparse-requires c =
     let width : length c.held.inside.worker.bounds ≡ c.args.frame.now.width = ap length (sym (c.pairs.ensures.value ∙ c.bounds.ensures)) ∙ c.if-pairs-frame.false in
     rw (width, c.as_slice.ensures) c.requires.values
+
+pub returns-then-pairs-frame-clause-refused : goal.returns-then-pairs-frame-clause-refused
+returns-then-pairs-frame-clause-refused c =
+    rw (← c.held.view_is) (inr (refl, search rules, λ both. absurd (c.if-pairs-frame.true (ap length (c.pairs.ensures.value ∙ c.bounds.ensures) ∙ sym both.0))))

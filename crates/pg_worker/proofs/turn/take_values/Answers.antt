@@ -1,4 +1,5 @@
-use Rattle.std.proofs.Common.{◌≡◌, Some, true, length, ap, sym, ◌∙◌, rules}
+use Rattle.std.proofs.Common.{◌≡◌, Some, true, length, ap, sym, refl, ◌∙◌, inr, rules}
+use Rattle.std.proofs.lemmas.Result.{err_from_is_err_and}
 use Rattle.pg_worker.specs.Workers.{WorkerValue}
 use Rattle.pg_wire.specs.Measured.{told_values}
 use Rattle.pg_worker.specs.Turns.{Joins, CanTakeAll}
@@ -17,3 +18,14 @@ returns-clause-turn c =
       joins = joins;
       held = ap (λ (w : WorkerValue). Some (record { kind = c.held.inside.kind; is_started = true; worker = w })) e.joined.others;
     })
+
+pub returns-then-pairs-frame-clause-refused : goal.returns-then-pairs-frame-clause-refused
+returns-then-pairs-frame-clause-refused c =
+    rw (← c.held.view_is) (inr (refl, search rules, λ both. absurd (c.if-pairs-frame.true (ap length (c.pairs.ensures.value ∙ c.bounds.ensures) ∙ sym both.0))))
+
+pub returns-in_err-join_values-clause-refused : goal.returns-in_err-join_values-clause-refused
+returns-in_err-join_values-clause-refused c =
+    let p = err_from_is_err_and c.from_residual.result c.from_residual.ensures.1 in
+    let told : told_values c.as_slice.result.now ≡ told_values c.args.frame.now.values = ap told_values c.as_slice.ensures in
+    let refused = rw told at c.in_err-join_values.ensures.refused in
+    rw (p.1, p.2, ← c.held.view_is) (inr (refused.0, search rules, λ both. refused.1 both.1))

@@ -3,6 +3,7 @@ use Rattle.std.proofs.lemmas.List.{append-nil}
 use Rattle.std.proofs.lemmas.Result.{err_from_is_err_and}
 use Rattle.std.proofs.Common.{inr}
 use Rattle.pg_worker.proofs.Taking.{does_turn, refuses_bytes, refuses_none}
+use Rattle.pg_worker.proofs.Growing.{does_lines}
 use Rattle.pg_worker.proofs.turn.turn_of.Goals as goal
 use Rattle.pg_worker.proofs.turn.turn_of.Goals.{in-Halt, in_default-matches}
 
@@ -16,6 +17,11 @@ pub returns-in-Some-clause-turn : goal.returns-in-Some-clause-turn
 returns-in-Some-clause-turn c =
     let o = c.in-Some.ensures.found in
     ([], rw c.in_ok-held.ensures.ok_part (does_turn c.args.highest c.in_ok-held.held c.args.bytes.now c.in-Some.values (Some c.in_ok-take_read.field-0) o (c.in_ok-take_read.ensures.turn o.0 o.2)), sym (append-nil c.args.out.now.items))
+
+pub returns-in-Some-open-clause-turn : goal.returns-in-Some-open-clause-turn
+returns-in-Some-open-clause-turn c =
+    let o = c.in-Some-open.ensures.found in
+    ([], rw c.in_ok-held-2.ensures.ok_part (does_lines c.args.highest c.in_ok-held-2.held c.args.bytes.now c.in-Some-open.lines (Some c.in_ok-add_read_lines.field-0) o (c.in_ok-add_read_lines.ensures.turn o.0 o.2)), sym (append-nil c.args.out.now.items))
 
 pub returns-in-Err-clause-refused : goal.returns-in-Err-clause-refused
 returns-in-Err-clause-refused c = refuses_none c.args.highest c.args.held c.args.bytes.now c.in-Err.fault c.own.result c.own.ensures c.in-Err.ensures.all c.in-Err.ensures.too_long c.in-Err.ensures.truncated

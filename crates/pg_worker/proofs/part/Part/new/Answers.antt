@@ -1,10 +1,6 @@
-use Rattle.pg_worker.proofs.Parts.{no_lines, no_owners, none_held}
+use Rattle.std.proofs.Common.{ap, length}
+use Rattle.pg_worker.proofs.Parts.{no_lines}
 use Rattle.pg_worker.proofs.part.Part.new.Goals as goal
 
 pub returns-clause-none : goal.returns-clause-none
-returns-clause-none c = no_lines _ _ c.args.count (c.in_ok-vec.ensures.items_if_clones_equal (λ y e. e))
-
-pub invariant_of-result : goal.invariant_of-result
-invariant_of-result c =
-    let heads = c.in_ok-vec.ensures.items_if_clones_equal (λ y e. e) in
-    (none_held c.in_ok-vec.field-0.items c.new.result.items c.args.count heads, no_owners c.in_ok-vec.field-0.items c.in_ok-vec-2.field-0.items c.args.count heads (c.in_ok-vec-2.ensures.items_if_clones_equal (λ y e. e)))
+returns-clause-none c = no_lines c.args.count 0 c.new.result.items c.new-2.result.items c.new-3.result.items (ap length c.new.ensures.items)

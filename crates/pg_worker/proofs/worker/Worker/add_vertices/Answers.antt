@@ -1,5 +1,9 @@
-use Rattle.std.proofs.Common.{refl}
-use Rattle.pg_worker.proofs.Working.{above_next, whole_same, inside_same, next_same}
+use Rattle.std.proofs.Common.{◌≡◌, ◌<◌, ◌≤◌, ◌+◌, ◌-◌, ℕ, List, length, get_or, ap, inl, inr, arith}
+use Rattle.std.specs.Prelude.{AllPairs}
+use Rattle.std.proofs.lemmas.Bool.{cases_eq}
+use Rattle.std.proofs.lemmas.List.{get_or_default}
+use Rattle.pg_wire.specs.declared.frame.VertexLine.{VertexLine}
+use Rattle.pg_worker.proofs.Working.{above_next, whole_same, next_same}
 use Rattle.pg_worker.proofs.worker.Worker.add_vertices.Goals as goal
 
 pub returns-then-not-are_from-clause-refused : goal.returns-then-not-are_from-clause-refused
@@ -8,20 +12,36 @@ returns-then-not-are_from-clause-refused c = λ above.
     let all = above_next w.part w.next c.args.lines.now c.self.invariant.above (rw (← c.self.view_is) at above) in
     absurd (cc (c.if-not-are_from.true, c.are_from.ensures.1 all))
 
-pub invariant_of-self : goal.invariant_of-self
-invariant_of-self c =
-    let w = c.self.inside in
-    whole_same w.part c.reserve.new.self w.map w.edges w.edges w.work w.best.items w.next w.lifted.count w.row.items c.reserve.ensures.heads c.reserve.ensures.targets refl (λ u x. (λ h. h, λ h. h)) c.self.invariant
-
 pub invariant_of-self-in_err-reserve-2 : goal.invariant_of-self-in_err-reserve-2
 invariant_of-self-in_err-reserve-2 c =
     let w = c.self.inside in
-    whole_same w.part c.reserve.new.self w.map w.edges c.reserve-2.new.self w.work w.best.items w.next w.lifted.count w.row.items c.reserve.ensures.heads c.reserve.ensures.targets c.reserve-2.ensures.size c.reserve-2.ensures.same c.self.invariant
-
-pub add_lines-requires-clause-inside : goal.add_lines-requires-clause-inside
-add_lines-requires-clause-inside c =
-    let w = c.self.inside in
-    rw c.deref_mut.ensures.value (inside_same w.part c.reserve.new.self w.map w.edges c.reserve-2.new.self w.work w.best.items c.reserve.ensures.heads c.reserve.ensures.targets c.reserve-2.ensures.size c.reserve-2.ensures.same c.self.invariant.inside)
+    let e = c.reserve.ensures in
+    whole_same w.part c.reserve-2.new.self w.map w.edges c.reserve.new.self w.work w.best.items w.next w.lifted.count w.row.items c.reserve-2.ensures.lines c.reserve-2.ensures.edges c.in_err-reserve-2.ensures.first
+    e.starts e.sources e.gathered e.more c.self.invariant
 
 pub add_lines-requires-clause-next : goal.add_lines-requires-clause-next
-add_lines-requires-clause-next c = next_same c.self.inside.part c.reserve.new.self c.self.inside.next c.reserve.ensures.heads c.reserve.ensures.targets c.self.invariant.above
+add_lines-requires-clause-next c = next_same c.self.inside.part c.reserve-2.new.self c.self.inside.next c.reserve-2.ensures.lines c.self.invariant.above
+
+-- lines that rise are from the first to the last
+from_first : (ls : List VertexLine) (d e : VertexLine) (k : ℕ) → AllPairs (λ l m. l.vertex < m.vertex) ls → k < length ls → (get_or ls 0 e).vertex ≤ (get_or ls k d).vertex
+from_first ls d e k rising lt =
+    let same = ap (λ (l : VertexLine). l.vertex) (get_or_default ls 0 e d (omega arith)) in
+    elim (cases_eq k 0) [
+      | inl q ↦ let w = ap (λ (i : ℕ). (get_or ls i d).vertex) q in omega arith
+      | inr ne ↦ let r = rising 0 k d (omega (arith, ne)) lt in omega arith
+    ]
+
+to_last : (ls : List VertexLine) (d e : VertexLine) (k n : ℕ) → AllPairs (λ l m. l.vertex < m.vertex) ls → k < length ls → length ls ≡ n + 1 → (get_or ls k d).vertex ≤ (get_or ls n e).vertex
+to_last ls d e k n rising lt size =
+    let same = ap (λ (l : VertexLine). l.vertex) (get_or_default ls n e d (omega arith)) in
+    elim (cases_eq k n) [
+      | inl q ↦ let w = ap (λ (i : ℕ). (get_or ls i d).vertex) q in omega arith
+      | inr ne ↦ let r = rising k n d (omega (arith, ne)) (omega arith) in omega arith
+    ]
+
+pub add_lines-requires-clause-places : goal.add_lines-requires-clause-places
+add_lines-requires-clause-places c = λ k d lt.
+    let ls = c.args.lines.now in
+    c.in_ok-reserve-2.ensures.places (get_or ls k d).vertex
+    (from_first ls d c.index-lines-0.result k c.requires.rising lt)
+    (to_last ls d c.index-lines-lines.result k (length ls - 1) c.requires.rising lt (omega arith))

@@ -1,12 +1,13 @@
-use Rattle.std.proofs.Common.{◌≡◌, ◌∙◌, refl, ap}
+use Rattle.std.proofs.Common.{◌≡◌, ◌++◌, ◌∙◌, refl, ap, take, drop, length}
+use Rattle.std.proofs.lemmas.List.{take_at}
+use Rattle.pg_worker.proofs.Working.{whole_after}
 use Rattle.std.proofs.lemmas.Result.{err_from_is_err_and}
 use Rattle.pg_worker.proofs.worker.Worker.lift_some.Goals as goal
 
 pub returns-in_err-quiet-clause-broken_off : goal.returns-in_err-quiet-clause-broken_off
 returns-in_err-quiet-clause-broken_off c =
     let p = err_from_is_err_and c.from_residual.result c.from_residual.ensures.1 in
-    let seen = c.self.view_is ∙ c.gather.ensures in
-    rw (p.1, ← seen) (
+    rw (p.1, ← c.self.view_is) (
       record {
         part = record { bounds = c.in_err-quiet.ensures.bounds; lines = refl; size = c.in_err-quiet.ensures.size };
         lifts = c.in_err-quiet.ensures.lifts;
@@ -19,8 +20,7 @@ pub returns-clause-turn : goal.returns-clause-turn
 returns-clause-turn c =
     let e = c.in_ok-quiet.ensures in
     let same : c.replace-updates.result.items ≡ c.lift_some.new.updates.items = ap (λ v. v.items) c.replace-updates.ensures.value in
-    let seen = c.self.view_is ∙ c.gather.ensures in
-    rw (← seen, same) record {
+    rw (← c.self.view_is, same) record {
       lifts = record {
         part = record { bounds = e.bounds; lines = refl; size = e.size };
         lifts = e.lifts;
@@ -30,3 +30,11 @@ returns-clause-turn c =
       fewer = e.fewer;
       rest = rw e.bounds e.quiet;
     }
+
+pub invariant_of-self-2 : goal.invariant_of-self-2
+invariant_of-self-2 c =
+    let w = c.self.inside in
+    let n = c.lift_some.new in
+    let k : take w.best.len (n.best ++ drop (length n.best) w.best.items) ≡ n.best = take_at n.best _ _ (c.lift_some.auto.best ∙ c.deref_mut.ensures.len) in
+    let b : length n.best ≡ length w.best.items = c.lift_some.ensures.best ∙ ap length c.deref_mut.ensures.value in
+    rw k (whole_after w.part w.map n.map w.edges c.gather.new.edges w.work n.work w.best.items n.best w.next w.lifted.count w.row.items c.lift_some.ensures.bounds c.lift_some.ensures.size c.gather.ensures.size c.gather.ensures.room c.gather.ensures.edges c.lift_some.ensures.work b c.lift_some.ensures.kept c.self.invariant)

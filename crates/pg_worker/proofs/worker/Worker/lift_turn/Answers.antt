@@ -1,4 +1,4 @@
-use Rattle.std.proofs.Common.{◌≡◌, ◌∙◌, ℕ, get_or, refl, subst}
+use Rattle.std.proofs.Common.{◌≡◌, ℕ, get_or, refl, subst}
 use Rattle.std.specs.Prelude.{Any}
 use Rattle.std.proofs.lemmas.List.{get_or_default}
 use Rattle.pg_map.specs.declared.update.Update.{Update}
@@ -7,8 +7,7 @@ use Rattle.pg_worker.proofs.worker.Worker.lift_turn.Goals as goal
 pub returns : goal.returns
 returns c =
     let t = c.lift_turn-quiet.ensures.turn in
-    let seen = c.self.view_is ∙ c.gather.ensures in
-    rw (← seen) record {
+    rw (← c.self.view_is) record {
       updates = t.updates;
       turn = record {
         lifts = record {

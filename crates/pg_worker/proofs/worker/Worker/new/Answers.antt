@@ -1,4 +1,4 @@
-use Rattle.std.proofs.Common.{◌≡◌, ◌∙◌, length, ap, sym, arith, false}
+use Rattle.std.proofs.Common.{◌≡◌, ◌∙◌, length, ap, sym, arith, false, None}
 use Rattle.std.proofs.lemmas.List.{length-replicate}
 use Rattle.pg_measure.specs.Measures.{zeros}
 use Rattle.pg_worker.proofs.Working.{worker_empty, none_held_at, next_empty}
@@ -9,13 +9,19 @@ invariant_of-result c =
     let n = c.args.setup.now.vertices in
     let map = c.in_ok-zero.field-0 in
     let m : length map.measures ≡ n = ap length c.in_ok-zero.ensures.zeros ∙ length-replicate n (zeros _) in
-    let w : length c.in_ok-new-3.field-0 ≡ n = ap length c.in_ok-new-3.ensures ∙ length-replicate n false in
+    let w : length c.in_ok-new-2.field-0 ≡ n = ap length c.in_ok-new-2.ensures ∙ length-replicate n false in
     let b : length c.in_ok-vec.field-0.items ≡ length map.measures = omega (arith, c.in_ok-vec.ensures.len, c.in_ok-vec.field-0.ok.0, m) in
-    let none = none_held_at c.in_ok-new.field-0 n c.in_ok-new.ensures.none in
+    let none = none_held_at c.new.result n c.new.ensures.none in
     record {
-      inside = worker_empty c.in_ok-new.field-0 map c.in_ok-new-2.field-0 c.in_ok-new-3.field-0 c.in_ok-vec.field-0.items c.in_ok-new-2.ensures.none none
-          (c.in_ok-new-2.ensures.size ∙ sym m) (w ∙ sym m) b (c.in_ok-new.ensures.size ∙ sym m);
-      above = next_empty c.in_ok-new.field-0 none;
-      listed = c.in_ok-new-4.ensures.count ∙ sym m;
+      inside = worker_empty c.new.result map c.in_ok-new-2.field-0 c.in_ok-vec.field-0.items none c.new.ensures.edges (w ∙ sym m) b (ap length c.new.ensures.none ∙ (length-replicate n None ∙ sym m));
+      ready = record {
+        size = let e = c.in_ok-new.ensures.size in omega arith;
+        few = let e = c.new.ensures.edges in omega arith;
+        room = let e = c.new.ensures.edges in omega arith;
+        right = λ e. let off = c.in_ok-new.ensures.none in absurd (cc (off, e));
+      };
+      first = let e = c.new.ensures.first in omega arith;
+      above = next_empty c.new.result none;
+      listed = c.in_ok-new-3.ensures.count ∙ sym m;
       clear = rw (c.in_ok-zero.ensures.bounds, ← c.pairs.ensures.value) (c.in_ok-vec-2.ensures.items_if_clones_equal (λ y e. e));
     }

@@ -1,0 +1,13 @@
+use Rattle.std.proofs.Common.{List, length}
+use Rattle.pg_wire.specs.declared.frame.VertexLine.{VertexLine}
+use Rattle.pg_wire.specs.LinesLeft.{AreLeft}
+use Rattle.pg_worker.proofs.Growing.{Added}
+use Rattle.pg_worker.proofs.lines.add_read.Given as goal
+
+abbrev pub invariant-each : goal.invariant-each
+invariant-each l = record {
+  added : (ls : List VertexLine) → AreLeft l.fn.lines ls → Added l.fn.worker ls l.worker l.lines;
+}
+
+abbrev pub decreases-each : goal.decreases-each
+decreases-each l = length l.lines.bytes.now

@@ -1,0 +1,30 @@
+use Rattle.std.proofs.Common.{◌≡◌, ◌-◌, ◌∙◌, ℕ, get_or, ap, sym, arith}
+use Rattle.pg_map.specs.Lines.{Line}
+use Rattle.pg_worker.specs.declared.head.Head.{Head}
+use Rattle.pg_worker.specs.Mirrors.Parts.{no_head}
+use Rattle.pg_worker.proofs.Parts.{held_is, read_in}
+use Rattle.pg_worker.proofs.part.PartLines.priority.Goals as goal
+
+pub overflow_sub-v-inside : goal.overflow_sub-v-inside
+overflow_sub-v-inside c =
+    let p = c.self.inside in
+    let h = held_is p.vertices p.first p.heads.items p.owners.items p.targets.items c.args.v c.self.invariant (rw (← c.self.view_is) at c.requires) in
+    rw c.v.view_is h.from
+
+pub index-requires : goal.index-requires
+index-requires c =
+    let p = c.self.inside in
+    let h = held_is p.vertices p.first p.heads.items p.owners.items p.targets.items c.args.v c.self.invariant (rw (← c.self.view_is) at c.requires) in
+    let place = h.place in
+    let owned = c.self.invariant.owned in
+    let a = p.heads.ok.0 in
+    let at = c.v.view_is in
+    omega arith
+
+pub returns : goal.returns
+returns c =
+    let p = c.self.inside in
+    let h = held_is p.vertices p.first p.heads.items p.owners.items p.targets.items c.args.v c.self.invariant (rw (← c.self.view_is) at c.requires) in
+    let n = c.args.v - p.first in
+    let read : c.index.result.now ≡ get_or p.heads.items n no_head = read_in p.heads.items (c.v.inside.0 - p.first) n c.index.result.now no_head (ap (λ (k : ℕ). k - p.first) c.v.view_is) h.place c.index.ensures in
+    rw (← c.self.view_is) (ap (λ (k : Head). k.priority) read ∙ sym (ap (λ (l : Line). l.priority) h.line))
