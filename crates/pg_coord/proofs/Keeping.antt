@@ -1,9 +1,7 @@
 -- What a link keeps of its session and of the bytes that wait.
-use Rattle.std.proofs.Common.{◌≡◌, ◌≢◌, ℕ, ◌≤◌, Bool, true, false, List, ◌++◌, length, drop, Option, ◌⊎◌, refl, sym, ap, subst, ◌∙◌, arith, inl, inr}
+use Rattle.std.proofs.Common.{◌≡◌, ◌≢◌, ℕ, ◌≤◌, Bool, true, false, List, ◌++◌, length, drop, Option, None, ◌⊎◌, sym, ap, subst, ◌∙◌, arith, inl, inr}
 use Rattle.std.proofs.lemmas.List.{length-append, length-drop, drop-append-le}
 use Rattle.pg_wire.specs.declared.frame.Frame.{Frame}
-use Rattle.pg_wire.specs.declared.frame.Frame.TheVariants as frames
-use Rattle.pg_wire.specs.Measured.{TellsMeasures}
 use Rattle.pg_wire.proofs.Bodies.{one_frame}
 use Rattle.pg_wire.specs.Spelling.{spelling}
 use Rattle.pg_wire.specs.Well.{IsWell}
@@ -12,8 +10,8 @@ use Rattle.pg_worker.specs.declared.fault.WorkerFault.{WorkerFault}
 use Rattle.pg_worker.specs.declared.fault.WorkerFault.TheVariants.{OutOfMemory}
 use Rattle.pg_worker.specs.Turns.{HeldValue, Turn, IsUpTo, Refuses, DoesTurn, RefusesBytes}
 use Rattle.pg_worker.specs.Serving.{told}
-use Rattle.pg_coord.specs.Memory.{MemoryValue, still_waiting, Sends, Reports, AreFrames}
-use Rattle.pg_coord.specs.Mirrors.Sessions.{IsKept}
+use Rattle.pg_coord.specs.Memory.{MemoryValue, still_waiting, Sends, Reports, Empties, AreFrames}
+use Rattle.pg_coord.specs.Mirrors.Sessions.{IsKept, LeavesWaiting}
 use Rattle.pg_coord.proofs.Queues.{frames_then, frames_less, first_frame, IsParted, parted}
 use Rattle.pg_coord.proofs.Replies.{Tells}
 use Rattle.pg_coord.proofs.Sessions.{turn_small, turn_tells, fault_frames}
@@ -83,45 +81,43 @@ turn_sent old new f highest s next held has_refused bytes bytes' reply k highest
       refused = refused ∙ hears;
     }))
 
--- ---- values
+-- ---- frames that are no set-ups
 
-tells_waiting : (f : Frame) (waiting : List ℕ) → TellsMeasures f → still_waiting f waiting ≡ waiting
-tells_waiting (frames.Setup s) waiting t = absurd t
-tells_waiting (frames.Vertices v) waiting t = absurd t
-tells_waiting (frames.Values v) waiting t = refl
-tells_waiting (frames.Sparse s) waiting t = refl
-tells_waiting (frames.Go g) waiting t = absurd t
-tells_waiting (frames.Report r) waiting t = absurd t
-tells_waiting frames.Halt waiting t = absurd t
-
--- the frame that bytes of values spell drops nothing that waits
-pub values_waiting : (f g : Frame) (bytes waiting : List ℕ) → TellsMeasures g → Spells g bytes → Spells f bytes → waiting ≡ still_waiting f waiting
-values_waiting f g bytes waiting tells sg sf = sym (tells_waiting f waiting (subst TellsMeasures (one_frame g f bytes sg sf) tells))
+-- the frame that the bytes spell drops nothing that waits
+still_waits : (f g : Frame) (bytes waiting : List ℕ) → LeavesWaiting g → Spells g bytes → Spells f bytes → waiting ≡ still_waiting f waiting
+still_waits f g bytes waiting leaves sg sf = sym (subst LeavesWaiting (one_frame g f bytes sg sf) leaves waiting)
 
 -- a turn of bytes that spell a frame is one of the frame
-pub values_sent : (old new : MemoryValue) (f g : Frame) (highest s next : ℕ) (held : Option HeldValue) (has_refused halts : Bool)
+pub bytes_sent : (old new : MemoryValue) (f g : Frame) (highest s next : ℕ) (held : Option HeldValue) (has_refused halts : Bool)
     (spelled bytes bytes' reply : List ℕ)
     → IsKept highest s held has_refused next bytes → highest ≡ old.highest → held ≡ old.held → has_refused ≡ old.has_refused → drop next bytes ≡ old.waiting
-    → has_refused ≡ false → TellsMeasures g → Spells g spelled → Spells f spelled → DoesTurn s held spelled new.held halts reply → bytes' ≡ bytes ++ reply
+    → has_refused ≡ false → LeavesWaiting g → Spells g spelled → Spells f spelled → DoesTurn s held spelled new.held halts reply → bytes' ≡ bytes ++ reply
     → new.waiting ≡ drop next bytes' → new.has_refused ≡ has_refused → Sends f old new
-values_sent old new f g highest s next held has_refused halts spelled bytes bytes' reply k highest_is held_is refused_is waits_is hears tells sg sf does e
+bytes_sent old new f g highest s next held has_refused halts spelled bytes bytes' reply k highest_is held_is refused_is waits_is hears leaves sg sf does e
     waits refused =
     subst (λ (x : Frame). Sends x old new) (one_frame does.frame f spelled does.spells sf)
     (turn_sent old new does.frame highest s next held has_refused bytes bytes' reply k highest_is held_is refused_is
-    (waits_is ∙ values_waiting does.frame g spelled old.waiting tells sg does.spells) hears does.version does.turn e waits refused)
+    (waits_is ∙ still_waits does.frame g spelled old.waiting leaves sg does.spells) hears does.version does.turn e waits refused)
 
 -- a refusal of bytes that spell a frame is one of the frame
-pub values_refused : (old new : MemoryValue) (f g : Frame) (highest s : ℕ) (held : Option HeldValue) (bytes waits : List ℕ) (why : WorkerFault)
+pub bytes_refused : (old new : MemoryValue) (f g : Frame) (highest s : ℕ) (held : Option HeldValue) (bytes waits : List ℕ) (why : WorkerFault)
     → old.has_refused ≡ false → s ≡ highest
-    → highest ≡ old.highest → held ≡ old.held → waits ≡ old.waiting → TellsMeasures g → Spells g bytes → Spells f bytes
+    → highest ≡ old.highest → held ≡ old.held → waits ≡ old.waiting → LeavesWaiting g → Spells g bytes → Spells f bytes
     → (why ≡ OutOfMemory) ⊎ RefusesBytes s held bytes why
     → (why ≢ OutOfMemory) × Reports why waits new → Sends f old new
-values_refused old new f g highest s held bytes waits why listens s_is highest_is held_is waits_is tells sg sf (inl e) r = absurd (r.0 e)
-values_refused old new f g highest s held bytes waits why listens s_is highest_is held_is waits_is tells sg sf (inr (inl none)) r = absurd (none.none g sg)
-values_refused old new f g highest s held bytes waits why listens s_is highest_is held_is waits_is tells sg sf (inr (inr refuses)) r =
+bytes_refused old new f g highest s held bytes waits why listens s_is highest_is held_is waits_is leaves sg sf (inl e) r = absurd (r.0 e)
+bytes_refused old new f g highest s held bytes waits why listens s_is highest_is held_is waits_is leaves sg sf (inr (inl none)) r = absurd (none.none g sg)
+bytes_refused old new f g highest s held bytes waits why listens s_is highest_is held_is waits_is leaves sg sf (inr (inr refuses)) r =
     let one : refuses.0 ≡ f = one_frame refuses.0 f bytes refuses.1 sf in
     let same : Refuses old.highest old.held f why =
     subst (λ (n : ℕ). Refuses n old.held f why) (s_is ∙ highest_is)
     (subst (λ (o : Option HeldValue). Refuses s o f why) held_is (subst (λ (k : Frame). Refuses s held k why) one refuses.2)) in
-    let waiting : waits ≡ still_waiting f old.waiting = waits_is ∙ values_waiting f g bytes old.waiting tells sg sf in
+    let waiting : waits ≡ still_waiting f old.waiting = waits_is ∙ still_waits f g bytes old.waiting leaves sg sf in
     rw listens (inr (why, same, subst (λ (w : List ℕ). Reports why w new) waiting r.1))
+
+-- want of memory in the turn of bytes that spell a frame
+pub bytes_emptied : (old now new : MemoryValue) (f g : Frame) (bytes : List ℕ) → LeavesWaiting g → Spells g bytes → Spells f bytes
+    → now.held ≡ None → now.waiting ≡ old.waiting → now.has_refused ≡ old.has_refused → new ≡ now → Empties f old new
+bytes_emptied old now new f g bytes leaves sg sf held waits refused same =
+    subst (λ (m : MemoryValue). Empties f old m) (sym same)
+    (record { held = held; waiting = waits ∙ still_waits f g bytes old.waiting leaves sg sf; refused = refused })

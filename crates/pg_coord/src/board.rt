@@ -23,6 +23,8 @@ pub struct Board {
     pub rose: bool,
     /// Whether those that rose were lifted here.
     pub by_lifts: bool,
+    /// Whether a round has begun.
+    pub has_begun: bool,
     ghost sized: { risen.count ≡ length map.measures },
     ghost within: { All (λ v. v < length map.measures) risen.vertices },
 }
@@ -55,6 +57,7 @@ impl Board {
             risen,
             rose: false,
             by_lifts: false,
+            has_begun: false,
         })
     }
 
@@ -66,6 +69,7 @@ impl Board {
         self.risen.clear();
         self.rose = false;
         self.by_lifts = false;
+        self.has_begun = true;
     }
 
     /// Raises the measure of a vertex to at least `m`.

@@ -130,7 +130,7 @@ fn ask_one<L: Link>(
     }
 }
 
-/// Hears a link, if it was asked, and joins the values of its reply.
+/// Hears a link, if it was asked, and joins the values of its reply, by a row of as many places as there are bounds.
 fn hear_one<L: Link>(
     task: &Task<'_>,
     link: &mut L,
@@ -138,9 +138,11 @@ fn hear_one<L: Link>(
     seat: &mut Seat,
     board: &mut Board,
     buffer: &mut Vec<u8>,
+    row: &mut [u32],
 ) -> Result<(), AllocError>
     requires bounds { board.old.map.bounds ≡ task.now.bounds }
     requires size { length board.old.map.measures ≡ length task.now.game }
+    requires row { length row.old ≡ length task.now.bounds }
     ensures honest { L.is_honest link.old → L.is_honest link.new }
     ensures moves { Moves board.old board.new }
     ensures seated { OnOk result (L.is_honest link.old → IsSeated L.is_under task.now board.old.map seat.old link.old
@@ -155,7 +157,7 @@ fn hear_one<L: Link>(
     if !seat.in_use || !seat.asked {
         return Ok(());
     }
-    match hear(task, link, worker, seat.kind, board, buffer) {
+    match hear(task, link, worker, seat.kind, board, buffer, row) {
         Ok(()) => Ok(()),
         Err(LinkFault::OutOfMemory) => Err(AllocError),
         Err(LinkFault::Failed) => {
@@ -217,18 +219,20 @@ pub fn ask_all<L: Link>(
     Ok(())
 }
 
-/// Hears each link that was asked.
+/// Hears each link that was asked, by a row of as many places as there are bounds.
 pub fn hear_all<L: Link>(
     task: &Task<'_>,
     links: &mut [L],
     seats: &mut [Seat],
     board: &mut Board,
     buffer: &mut Vec<u8>,
+    row: &mut [u32],
 ) -> Result<(), AllocError>
     requires seats { length seats.old ≡ length links.old }
     requires few { length links.old < 2 ^ 32 }
     requires bounds { board.old.map.bounds ≡ task.now.bounds }
     requires size { length board.old.map.measures ≡ length task.now.game }
+    requires row { length row.old ≡ length task.now.bounds }
     ensures honest { OnOk result (All L.is_honest links.old → All L.is_honest links.new) }
     ensures moves { Moves board.old board.new }
     ensures seated { OnOk result (All L.is_honest links.old → AllSeated L.is_under task.now board.old.map seats.old links.old
@@ -248,6 +252,7 @@ pub fn hear_all<L: Link>(
             &mut seats[i],
             board,
             buffer,
+            row,
         )?;
     }
     Ok(())

@@ -9,11 +9,15 @@ ghost use Rattle.pg_coord.specs.Links.{measures_in, IsUnderAfter, told_after};
 ghost use Rattle.pg_coord.specs.Mirrors.Takes.{TakesFrame};
 
 use crate::link::{Link, LinkFault};
-use pg_wire::{Frame, WireFault, decode, encode};
+use pg_wire::{Frame, WireFault, decode, write_frame};
 use std::alloc::Global;
 
-/// Sends one frame. It is Failed only where the link's call was.
-pub fn send_frame<L: Link>(alloc: Global, link: &mut L, frame: &Frame) -> Result<(), LinkFault>
+/// Sends one frame, whose bytes are put into the buffer. It is Failed only where the link's call was.
+pub fn send_frame<L: Link>(
+    link: &mut L,
+    frame: &Frame,
+    buffer: &mut Vec<u8>,
+) -> Result<(), LinkFault>
     requires well { IsWell frame.now }
     requires within { length (body frame.now) ≤ longest }
     ensures honest { L.is_honest link.old → L.is_honest link.new }
@@ -22,8 +26,9 @@ pub fn send_frame<L: Link>(alloc: Global, link: &mut L, frame: &Frame) -> Result
     ensures told { (left : List (List ℕ)) → L.told link.old ≡ Some left
         → (result ≢ Err LinkFault.Failed) × OnOk result (L.told link.new ≡ Some (told_after frame.now left)) }
 {
-    match encode(alloc, frame) {
-        Ok(bytes) => link.send(bytes.as_slice()),
+    buffer.clear();
+    match write_frame(frame, buffer) {
+        Ok(()) => link.send(buffer.as_slice()),
         Err(_) => Err(LinkFault::OutOfMemory),
     }
 }

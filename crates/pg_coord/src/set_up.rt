@@ -2,24 +2,27 @@
 
 ghost use Rattle.std.specs.Prelude.{◌≡◌, ℕ, ◌∷◌, ◌+◌, ◌<◌, ◌≤◌, List, Some, Ok, length, IfOk, OnOk, false};
 ghost use Rattle.pg_map.specs.Maps.{MapValue};
+ghost use Rattle.pg_wire.specs.declared.frame.VertexLine.{VertexLine};
 ghost use Rattle.pg_wire.specs.Spelling.{spelling};
 ghost use Rattle.pg_worker.specs.Turns.{kind_of};
 ghost use Rattle.pg_coord.specs.Links.{refusal};
 ghost use Rattle.pg_coord.specs.Mirrors.Tasks.{IsClosedMap};
-ghost use Rattle.pg_coord.specs.Mirrors.Lines.{AreLines};
+ghost use Rattle.pg_coord.specs.Mirrors.Lines.{AreWritten, SpellsLines};
 ghost use Rattle.pg_coord.specs.Mirrors.Telling.{TellsAfter, TellsDense, AnswersAfter, told_with};
 
 use crate::link::{Link, LinkFault};
 use crate::sending::{receive_frame, send_frame};
 use crate::task::Task;
 use pg_arena::Vertex;
-use pg_wire::{Frame, Rows, ValueKind, VertexLine, Vertices};
-use pg_worker::{line_of, setup_of};
+use pg_wire::{Frame, ValueKind, VerticesWriter};
+use pg_worker::{fill_line, setup_of};
 use std::alloc::AllocError;
-use std::mem;
 
 /// How many bytes of lines make a frame that is sent.
 const BATCH: usize = 65_536;
+
+/// How many bytes stand before the lines of a frame: its length, its kind and the count.
+const FRONT: usize = 9;
 
 /// The version of the wire format in which values go in frames of a kind.
 fn version_of(kind: ValueKind) -> u8
@@ -33,7 +36,12 @@ fn version_of(kind: ValueKind) -> u8
 }
 
 /// Sends the set-up of a version.
-fn send_setup<L: Link>(task: &Task<'_>, link: &mut L, kind: ValueKind) -> Result<(), LinkFault>
+fn send_setup<L: Link>(
+    task: &Task<'_>,
+    link: &mut L,
+    kind: ValueKind,
+    buffer: &mut Vec<u8>,
+) -> Result<(), LinkFault>
     ensures honest { L.is_honest link.old → L.is_honest link.new }
     ensures under { OnOk result (L.is_honest link.old → (h : MapValue) → IsClosedMap task.now h → L.is_under link.new h) }
     ensures told { (left : List (List ℕ)) → L.told link.old ≡ Some left
@@ -41,7 +49,7 @@ fn send_setup<L: Link>(task: &Task<'_>, link: &mut L, kind: ValueKind) -> Result
 {
     let setup = setup_of(task.alloc(), version_of(kind), task.game(), task.bounds())?;
     pg_wire::laws::few_bounds();
-    send_frame(task.alloc(), link, &Frame::Setup(setup))?;
+    send_frame(link, &Frame::Setup(setup), buffer)?;
     Ok(())
 }
 
@@ -84,68 +92,86 @@ fn agree<L: Link>(
     ensures told { (left : List (List ℕ)) → L.told link.old ≡ Some left
         → TellsDense left (L.told link.new) kind.new result }
 {
-    send_setup(task, link, *kind)?;
+    send_setup(task, link, *kind, buffer)?;
     if *kind == ValueKind::Dense || accepts(task, link, buffer)? {
         return Ok(());
     }
     *kind = ValueKind::Dense;
     link.restart()?;
-    send_setup(task, link, ValueKind::Dense)?;
+    send_setup(task, link, ValueKind::Dense, buffer)?;
     Ok(())
 }
 
-/// Appends the line of a vertex; how many bytes spell it.
-fn add_line(task: &Task<'_>, v: Vertex, lines: &mut Vec<VertexLine>) -> Result<usize, AllocError>
-    requires { v < length task.now.game }
-    ensures lines { IfOk result (λ n. (size : ℕ) → AreLines task.now v lines.old.items size
-        → AreLines task.now (v + 1) lines.new.items (size + n)) }
-    ensures size { IfOk result (λ n. n ≤ 4194317) }
-{
-    let line = line_of(task.alloc(), task.game(), v)?;
-    let size = 13 + 4 * line.successors.as_slice().len();
-    lines.push(line)?;
-    Ok(size)
-}
-
-/// Sends lines of a worker's part.
-fn send_lines<L: Link>(
+/// Appends the line of a vertex to a frame; it fits.
+fn push_line(
     task: &Task<'_>,
-    link: &mut L,
-    lines: Vec<VertexLine>,
-) -> Result<(), LinkFault>
-    requires { (next : ℕ) × (size : ℕ) × AreLines task.now next lines.items size × (size ≤ 8388608) }
-    ensures honest { L.is_honest link.old → L.is_honest link.new }
-    ensures under { OnOk result (L.is_honest link.old → (h : MapValue) → IsClosedMap task.now h
-        → L.is_under link.old h → L.is_under link.new h) }
-    ensures told { (left : List (List ℕ)) → L.told link.old ≡ Some left → TellsAfter left (L.told link.new) result }
+    v: Vertex,
+    writer: &mut VerticesWriter,
+    successors: &mut Vec<u32>,
+    out: &mut Vec<u8>,
+) -> Result<(), AllocError>
+    requires v { v < length task.now.game }
+    requires short { length out.old.items ≤ 8388608 }
+    requires written { (ls : List VertexLine) × AreWritten task.now writer.old v ls out.old.items }
+    ensures { OnOk result ((ls : List VertexLine) × AreWritten task.now writer.new (v + 1) ls out.new.items) }
 {
-    let lines = Rows::new(lines);
-    send_frame(task.alloc(), link, &Frame::Vertices(Vertices { lines }))?;
+    let head = fill_line(task.game(), v, successors)?;
+    let fits = writer.push(head, successors.as_slice(), out)?;
+    prove!(fits);
     Ok(())
 }
 
-/// Sends the lines of a worker's part.
-fn send_part<L: Link>(task: &Task<'_>, link: &mut L, worker: u32) -> Result<(), LinkFault>
-    ensures honest { L.is_honest link.old → L.is_honest link.new }
-    ensures under { OnOk result (L.is_honest link.old → (h : MapValue) → IsClosedMap task.now h
-        → L.is_under link.old h → L.is_under link.new h) }
-    ensures told { (left : List (List ℕ)) → L.told link.old ≡ Some left → TellsAfter left (L.told link.new) result }
+/// Writes one frame of lines of a worker's part, those of the vertices from one on, until it has 64 kB of lines: the vertex
+/// after the last one that it passed, and whether it has a line.
+fn write_lines(
+    task: &Task<'_>,
+    worker: u32,
+    first: usize,
+    successors: &mut Vec<u32>,
+    out: &mut Vec<u8>,
+) -> Result<(usize, bool), AllocError>
+    requires { first < length task.now.game }
+    ensures next { IfOk result (λ x. first < x.0) }
+    ensures frame { OnOk result (SpellsLines task.now out.new.items) }
 {
-    let mut lines = Vec::new(task.alloc());
-    let mut size = 0;
-    for number in 0..task.game().len() {
+    out.clear();
+    let mut writer = VerticesWriter::begin(out)?;
+    for number in first..task.game().len() {
         let v = Vertex(number as u32);
         if task.cut().worker_of(v) != worker {
             continue;
         }
-        size += add_line(task, v, &mut lines)?;
-        if size >= BATCH {
-            send_lines(task, link, mem::replace(&mut lines, Vec::new(task.alloc())))?;
-            size = 0;
+        push_line(task, v, &mut writer, successors, out)?;
+        if out.len() >= FRONT + BATCH {
+            writer.finish(out);
+            return Ok((number + 1, true));
         }
     }
-    if !lines.is_empty() {
-        send_lines(task, link, lines)?;
+    let some = out.len() > FRONT;
+    writer.finish(out);
+    Ok((task.game().len(), some))
+}
+
+/// Sends the lines of a worker's part.
+fn send_part<L: Link>(
+    task: &Task<'_>,
+    link: &mut L,
+    worker: u32,
+    buffer: &mut Vec<u8>,
+) -> Result<(), LinkFault>
+    ensures honest { L.is_honest link.old → L.is_honest link.new }
+    ensures under { OnOk result (L.is_honest link.old → (h : MapValue) → IsClosedMap task.now h
+        → L.is_under link.old h → L.is_under link.new h) }
+    ensures told { (left : List (List ℕ)) → L.told link.old ≡ Some left → TellsAfter left (L.told link.new) result }
+{
+    let mut successors = Vec::new(task.alloc());
+    let mut next = 0;
+    'frames: while next < task.game().len() {
+        let (after, some) = write_lines(task, worker, next, &mut successors, buffer)?;
+        if some {
+            link.send(buffer.as_slice())?;
+        }
+        next = after;
     }
     Ok(())
 }
@@ -164,6 +190,6 @@ pub fn set_up<L: Link>(
         → TellsDense left (L.told link.new) kind.new result }
 {
     agree(task, link, kind, buffer)?;
-    send_part(task, link, worker)?;
+    send_part(task, link, worker, buffer)?;
     Ok(())
 }

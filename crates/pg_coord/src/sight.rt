@@ -5,15 +5,15 @@ use pg_worker::Cut;
 use std::alloc::{AllocError, Global};
 
 /// For each vertex the workers that see it: those of whose vertices it is a successor. Workers whose numbers are the same
-/// modulo 64 are taken for one.
+/// modulo 16 are taken for one.
 #[derive(Drop)]
 pub struct Sight {
-    masks: Vec<u64>,
+    masks: Vec<u16>,
 }
 
 /// The bit of a worker.
-fn bit(worker: u32) -> u64 {
-    1 << (worker % 64)
+fn bit(worker: u32) -> u16 {
+    1 << (worker % 16)
 }
 
 impl Sight {

@@ -62,18 +62,20 @@ fn are_abandoned(seats: &[Seat]) -> bool
     seats.iter().all(|seat| !seat.in_use)
 }
 
-/// Makes rounds until nothing rises in one: how many.
+/// Makes rounds until nothing rises in one, by a row of as many places as there are bounds: how many.
 fn make_rounds<L: Link>(
     task: &Task<'_>,
     links: &mut [L],
     seats: &mut [Seat],
     board: &mut Board,
     buffer: &mut Vec<u8>,
+    row: &mut [u32],
 ) -> Result<u64, AllocError>
     requires seats { length seats.old ≡ length links.old }
     requires few { length links.old < 2 ^ 32 }
     requires bounds { board.old.map.bounds ≡ task.now.bounds }
     requires size { length board.old.map.measures ≡ length task.now.game }
+    requires row { length row.old ≡ length task.now.bounds }
     ensures bounds { board.new.map.bounds ≡ task.now.bounds }
     ensures map { OnOk result (IsMap board.new.map.bounds (length task.now.game) board.new.map.measures) }
     ensures closed { OnOk result (IsClosed board.new.map.bounds (game_line task.now.game) board.new.map.measures) }
@@ -92,7 +94,7 @@ fn make_rounds<L: Link>(
         rounds = rounds.saturating_add(1);
         ask_all(task, links, seats, board, buffer)?;
         board.begin();
-        hear_all(task, links, seats, board, buffer)?;
+        hear_all(task, links, seats, board, buffer, row)?;
         settle(board, task.game());
         if !board.rose {
             return Ok(rounds);
@@ -119,10 +121,12 @@ fn work<L: Link>(task: &Task<'_>, links: &mut [L]) -> Result<Solved, AllocError>
 {
     let mut board = Board::new(task)?;
     let mut buffer = Vec::new(task.alloc());
+    let mut cells = vec![in task.alloc(); 0; task.width() as usize]?;
+    let row = cells.as_mut_slice();
     let mut places = vec![in task.alloc(); EMPTY; links.len()]?;
     let seats = places.as_mut_slice();
     seat_all(task, links, seats, &mut buffer)?;
-    let rounds = make_rounds(task, links, seats, &mut board, &mut buffer)?;
+    let rounds = make_rounds(task, links, seats, &mut board, &mut buffer, row)?;
     let restarts = restarts(seats);
     let abandoned = abandoned(seats);
     Ok(Solved {

@@ -29,6 +29,12 @@ use std::alloc::{AllocError, Global};
 /// How many frames a reply has at most.
 const MOST_FRAMES: u32 = 65_536;
 
+/// How many lifts a short turn has.
+const SHORT_TURN: u32 = 256;
+
+/// Where so many vertices rose for each worker, the next turns are short.
+const MANY: usize = 224;
+
 /// Whether a measure is a list of zeros.
 fn is_zero(measure: View) -> bool {
     match measure {
@@ -49,6 +55,17 @@ fn above_zero(alloc: Global, map: &MeasureMap) -> Result<Vec<Vertex>, AllocError
         }
     }
     Ok(vertices)
+}
+
+/// How many lifts a worker is asked for: the budget, or a short turn at most, at first and where many vertices rose in the last
+/// round. Then most lifts raised a vertex of their own, and much of what a long turn made of them would have to be made again.
+fn lifts(task: &Task<'_>, board: &Board) -> u32 {
+    let workers = task.cut().workers() as usize;
+    if board.has_begun && board.risen.as_slice().len() / MANY < workers {
+        task.budget()
+    } else {
+        task.budget().min(SHORT_TURN)
+    }
 }
 
 /// Sends values, those that rose or, where the worker was set up anew, all; and lets it lift.
@@ -79,13 +96,10 @@ pub fn ask<L: Link>(
     } else {
         send_values(to, task, link, &board.map, board.risen.as_slice(), buffer)?;
     }
-    send_frame(
-        task.alloc(),
-        link,
-        &Frame::Go(Go {
-            budget: task.budget(),
-        }),
-    )
+    let go = Go {
+        budget: lifts(task, board),
+    };
+    send_frame(link, &Frame::Go(go), buffer)
 }
 
 /// The report that a reply ends with; no other frame ends one.
@@ -152,7 +166,8 @@ fn judged(report: &Report) -> Result<(), LinkFault>
     Ok(())
 }
 
-/// Reads a reply to its report and joins its values. After a fault those that came before it stay joined.
+/// Reads a reply to its report and joins its values, by a row of as many places as there are bounds. After a fault those that
+/// came before it stay joined.
 pub fn hear<L: Link>(
     task: &Task<'_>,
     link: &mut L,
@@ -160,9 +175,11 @@ pub fn hear<L: Link>(
     kind: ValueKind,
     board: &mut Board,
     buffer: &mut Vec<u8>,
+    row: &mut [u32],
 ) -> Result<(), LinkFault>
     requires bounds { board.old.map.bounds ≡ task.now.bounds }
     requires size { length board.old.map.measures ≡ length task.now.game }
+    requires row { length row.old ≡ length task.now.bounds }
     ensures honest { L.is_honest link.old → L.is_honest link.new }
     ensures under { L.is_honest link.old → (h : MapValue) → L.is_under link.old h → L.is_under link.new h }
     ensures moves { Moves board.old board.new }
@@ -174,8 +191,6 @@ pub fn hear<L: Link>(
         × OnOk result (Joins board.old.map.measures (reply_measures r) board.new.map.measures) }
     ensures ended { L.told link.old ≡ Some [] → (L.told link.new ≡ Some []) × IsErr result × (board.new ≡ board.old) }
 {
-    let mut cells = vec![in task.alloc(); 0; task.width() as usize]?;
-    let row = cells.as_mut_slice();
     'frames: for _ in 0..MOST_FRAMES {
         match hear_frame(task, link, worker, kind, board, buffer, row) {
             Ok(Some(report)) => return judged(&report),

@@ -69,9 +69,6 @@ returns-in-Err-clause-least g c = λ h m u le.
     let inv = c.frames.invariant in
     c.hear_frame.ensures.least (inv.honest_still h) m (inv.under_still h m u) (inv.least h m u le)
 
-pub returns-in_err-cells-clause-moves : goal.returns-in_err-cells-clause-moves
-returns-in_err-cells-clause-moves g c = moves_none c.args.board.now
-
 pub returns-in-Ok-Some-clause-reply : goal.returns-in-Ok-Some-clause-reply
 returns-in-Ok-Some-clause-reply g c = λ r left is reply dense.
     let told = g.L.Link.told in

@@ -13,8 +13,8 @@ returns-in-Ok-clause-under c =
     (rw (← c.self.view_is) c.self.invariant.small) c.in-Ok.ensures.found sends s under)
     c.take.ensures.ok
 
-pub returns-then-is_some-clause-under : goal.returns-then-is_some-clause-under
-returns-then-is_some-clause-under c =
-    on_ok c.take_values.result _ _ (λ sends. λ f s h under.
-    sent_above c.args.self.now c.take_values.new.self f f c.args.frame.now h c.take_values.ensures.small s (sends f s) s under)
-    c.take_values.ensures.ok
+pub returns-then-spells_rows-clause-under : goal.returns-then-spells_rows-clause-under
+returns-then-spells_rows-clause-under c =
+    on_ok c.take_bytes.result _ _ (λ sends. λ f s h under.
+    sent_above c.args.self.now c.take_bytes.new.self f f c.args.frame.now h c.take_bytes.ensures.small s (sends f s) s under)
+    c.take_bytes.ensures.ok
