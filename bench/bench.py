@@ -1,12 +1,13 @@
 #!/usr/bin/env python3
-"""Times the program on generated games: the size of the text, and the seconds and the peak memory of the quickest run.
-`check` gets a solution too, and `replay` a script of 200,000 events with 6 workers.
+"""Times the program on generated inputs: the size of the text, and the seconds (of the clock and of processors) and the peak
+memory of the quickest run. `check` gets a solution too, and `replay` a script of 200,000 events with 6 workers.
 
-    bench/bench.py [PROGRAM] [--only WORD] [--repeats N] [--limit SECONDS] [--words WORDS]
+    bench/bench.py [PROGRAM] [--only WORD] [--repeats N] [--limit SECONDS] [--words WORDS] [--beside OTHER]
 
 PROGRAM is crates/parsolve/out/parsolve where none is given. WORD picks the cases whose names have it; WORDS are further
-words for the program. A run over the limit is ended, and its case isn't repeated. The games are those of families.py, the
-scripts those of schedules.py.
+words for the program. OTHER is a program with the same commands (it may lack some): its figures stand beside, and how many
+times its processor seconds and its memory the program takes. A run over the limit is ended, and its case isn't repeated. The games
+are those of families.py, the automata those of automata.py, the scripts those of schedules.py.
 """
 import argparse
 import os
@@ -52,6 +53,10 @@ solve hubs 1000000 20
 check hubs 100000 10
 check hubs 1000000 20
 replay loops 10000 4
+game automaton 60000 3 2
+game automaton 200 12 2
+synth automaton 2000 3 2
+synth automaton 300 6 4
 """
 
 
@@ -62,20 +67,21 @@ def options():
     words.add_argument("--repeats", type=int, default=3)
     words.add_argument("--limit", type=float, default=60)
     words.add_argument("--words", default="")
+    words.add_argument("--beside")
     return words.parse_args()
 
 
 def once(words, source, limit):
-    """(seconds, megabytes at the peak) of one run, or None where it took longer than the limit."""
+    """(processor seconds, seconds, megabytes at the peak) of one run, or None where it took longer than the limit or wasn't
+    answered."""
     with open(source, "rb") as text, open(os.devnull, "wb") as sink:
         start = time.time()
         child = subprocess.Popen(["timeout", str(limit), *words], stdin=text, stdout=sink)
         _, status, usage = os.wait4(child.pid, 0)
     seconds, child.returncode = time.time() - start, os.waitstatus_to_exitcode(status)
-    if child.returncode == 124:
+    if child.returncode != 0:
         return None
-    assert child.returncode == 0, f"status {child.returncode}"
-    return seconds, usage.ru_maxrss / 1024
+    return usage.ru_utime + usage.ru_stime, seconds, usage.ru_maxrss / 1024
 
 
 def best(words, source, given):
@@ -91,8 +97,10 @@ def best(words, source, given):
 def prepare(source, command, sizes, given):
     """Writes the input of a case, and answers whether that was possible within the limit: `check` needs a solution. This
     is left to other processes, since the peak of a run is at least what the process that starts it has had."""
+    family, *numbers = sizes
+    maker = ["automata.py", *numbers] if family == "automaton" else ["families.py", *sizes]
     with open(source, "wb") as out:
-        subprocess.run([sys.executable, os.path.join(here, "families.py"), *sizes], stdout=out, check=True)
+        subprocess.run([sys.executable, os.path.join(here, maker[0]), *maker[1:]], stdout=out, check=True)
     if command == "replay":
         with open(source, "ab") as out:
             out.write(b"--\n")
@@ -110,9 +118,23 @@ def prepare(source, command, sizes, given):
     return solved.returncode == 0
 
 
+def figures(ran):
+    if ran is None:
+        return f"{'-':>8} {'-':>8} {'-':>8}"
+    used, seconds, peak = ran
+    return f"{used:8.2f} {seconds:8.2f} {peak:8.1f}"
+
+
+def beside(ran, other):
+    if ran is None or other is None:
+        return figures(other)
+    return f"{figures(other)} {ran[0] / max(other[0], 0.001):6.2f} {ran[2] / other[2]:6.2f}"
+
+
 def main():
     given = options()
-    print(f"{'case':28} {'MB of text':>10} {'seconds':>8} {'MB/s':>7} {'peak MB':>8}")
+    columns = f"{'proc. s':>8} {'seconds':>8} {'peak MB':>8}"
+    print(f"{'case':28} {'text MB':>8} {columns}" + (f" | {columns} {'times':>6} {'memory':>6}" if given.beside else ""))
     with tempfile.TemporaryDirectory() as folder:
         source = os.path.join(folder, "input")
         for case in CASES.strip().split("\n"):
@@ -122,11 +144,10 @@ def main():
             is_ready = prepare(source, command, sizes, given)
             size = os.path.getsize(source) / 1e6
             ran = best([given.program, command, *given.words.split()], source, given) if is_ready else None
-            if ran is None:
-                print(f"{case:28} {size:10.2f} over {given.limit:g} seconds", flush=True)
-            else:
-                seconds, peak = ran
-                print(f"{case:28} {size:10.2f} {seconds:8.3f} {size / seconds:7.1f} {peak:8.1f}", flush=True)
+            line = f"{case:28} {size:8.2f} {figures(ran)}"
+            if given.beside:
+                line += " | " + beside(ran, best([given.beside, command], source, given))
+            print(line, flush=True)
 
 
 main()

@@ -1,0 +1,55 @@
+#!/usr/bin/env python3
+"""Automata of any size, the same on every machine.
+
+    bench/automata.py STATES PROPOSITIONS SETS [SEED]      prints a deterministic automaton that is complete, with a parity
+                                                           condition on its edges; the first half of the propositions is
+                                                           controllable
+"""
+import sys
+
+from families import Dice
+
+
+def header(states, propositions, sets):
+    names = " ".join(f'"p{k}"' for k in range(propositions))
+    controllable = " ".join(map(str, range(propositions // 2)))
+    yield "HOA: v1"
+    yield f"States: {states}"
+    yield "Start: 0"
+    yield f"AP: {propositions} {names}"
+    yield f"controllable-AP: {controllable}"
+    yield f"acc-name: parity max even {sets}"
+    yield f"Acceptance: {sets} {condition(sets)}"
+    yield "--BODY--"
+
+
+def condition(sets):
+    """That the greatest set which is met again and again is even."""
+    said = "Inf(0)"
+    for k in range(1, sets):
+        said = f"Inf({k}) | ({said})" if k % 2 == 0 else f"Fin({k}) & ({said})"
+    return said
+
+
+def label(letter, propositions):
+    return " & ".join(("" if letter >> k & 1 else "!") + str(k) for k in range(propositions))
+
+
+def write(out, states, propositions, sets, seed=1):
+    """Each state has an edge for each letter, with any target and at most one set."""
+    dice = Dice(seed)
+    for line in header(states, propositions, sets):
+        out.write(line + "\n")
+    for state in range(states):
+        out.write(f"State: {state}\n")
+        for letter in range(2**propositions):
+            met = dice.below(sets + 1)
+            mark = f" {{{met}}}" if met < sets else ""
+            out.write(f"[{label(letter, propositions)}] {dice.below(states)}{mark}\n")
+    out.write("--END--\n")
+
+
+if __name__ == "__main__":
+    if len(sys.argv) not in (4, 5):
+        sys.exit(__doc__)
+    write(sys.stdout, *map(int, sys.argv[1:]))
