@@ -12,29 +12,39 @@ use Rattle.std.proofs.lemmas.List.{drop-append-le, take-append-le, take_all, dro
 use Rattle.std.proofs.lemmas.List.Concat.{length-flat_map, flat_map-append}
 use Rattle.std.proofs.lemmas.List.Elements.{All-nil, All-head, All-tail, All-push, All-weaker}
 use Rattle.pg_arena.specs.declared.player.Player.{Player}
-use Rattle.pg_arena.specs.declared.entry.Entry.{Entry}
 use Rattle.pg_arena.specs.declared.fault.ArenaFault.TheVariants.{DuplicateVertex, TooManyVertices, TooManyEdges}
 use Rattle.pg_arena.specs.Games.{edge_count}
 use Rattle.pg_arena.specs.Lines.{Line, is_named, add_fault}
-use Rattle.pg_arena.specs.Mirrors.Entries.{name_in, vertex_in, vertices_in, AreWithin, AreNamed, IsOrderly, AreKept}
+use Rattle.pg_arena.specs.declared.entry.Entry.{Entry}
+use Rattle.pg_arena.specs.Mirrors.Entries.{Row, row_of, rows_in, place_at, name_in, vertex_in, vertices_in, AreWithin, AreNamed, IsOrderly, AreKept, AreKeptIn}
+use Rattle.pg_arena.proofs.Beside.{rows_long, rows_more}
 
 abbrev Names : Type 0
 Names = List (Vec ℕ Global)
 
 -- ---- what is told of the lines by their parts
 
-pub named_is : (targets : List ℕ) (names : Names) (entries : List Entry) (q : ℕ) → is_named (vertices_in targets names entries) q ≡ list_any (eqb q) (map (λ e. e.identifier) entries)
+pub named_is : (targets : List ℕ) (names : Names) (rows : List Row) (q : ℕ)
+    → is_named (vertices_in targets names rows) q ≡ list_any (eqb q) (map (λ e. e.identifier) rows)
 named_is targets names [] q = refl
-named_is targets names (e ∷ entries) q = ap (λ b. eqb q (e.identifier) || b) (named_is targets names entries q)
+named_is targets names (e ∷ rows) q = ap (λ b. eqb q (e.identifier) || b) (named_is targets names rows q)
 
-pub named_by : {ids targets : List ℕ} {names : Names} {entries : List Entry} (q : ℕ) → AreKept ids targets names entries → is_named (vertices_in targets names entries) q ≡ list_any (eqb q) ids
-named_by {ids} {targets} {names} {entries} q kept = named_is targets names entries q ∙ ap (list_any (eqb q)) (sym kept.listed)
+pub named_by : {ids targets : List ℕ} {names : Names} {rows : List Row} (q : ℕ) → AreKept ids targets names rows
+    → is_named (vertices_in targets names rows) q ≡ list_any (eqb q) ids
+named_by {ids} {targets} {names} {rows} q kept = named_is targets names rows q ∙ ap (list_any (eqb q)) (sym kept.listed)
 
-pub edges_by : {ids targets : List ℕ} {names : Names} {entries : List Entry} → AreKept ids targets names entries → edge_count (vertices_in targets names entries) ≡ length targets
-edges_by {ids} {targets} {names} {entries} kept = sym (length-flat_map (λ (line : Line). line.successors) (vertices_in targets names entries)) ∙ ap length (sym kept.laid)
+pub edges_by : {ids targets : List ℕ} {names : Names} {rows : List Row} → AreKept ids targets names rows
+    → edge_count (vertices_in targets names rows) ≡ length targets
+edges_by {ids} {targets} {names} {rows} kept = sym (length-flat_map (λ (line : Line). line.successors) (vertices_in targets names rows))
+    ∙ ap length (sym kept.laid)
 
-pub lines_by : (targets : List ℕ) (names : Names) (entries : List Entry) → length (vertices_in targets names entries) ≡ length entries
-lines_by targets names entries = length-map entries (vertex_in targets names)
+lines_by : (targets : List ℕ) (names : Names) (rows : List Row) → length (vertices_in targets names rows) ≡ length rows
+lines_by targets names rows = length-map rows (vertex_in targets names)
+
+pub lines_in : {ids targets : List ℕ} {names : Names} {places : List (Option ℕ)} {entries : List Entry} → AreKeptIn ids targets names places entries
+    → length (vertices_in targets names (rows_in ids places entries)) ≡ length entries
+lines_in {ids} {targets} {names} {places} {entries} kept =
+    omega (arith, lines_by targets names (rows_in ids places entries), rows_long ids places entries kept.as_many, kept.as_many)
 
 -- ---- one more line leaves the others as they were
 
@@ -57,14 +67,16 @@ name_stays : (names extra : Names) (place : Option ℕ) → IfSome place (λ k. 
 name_stays names extra None h = refl
 name_stays names extra (Some k) h = ap (option_map (λ n. n.items)) (get_stays names extra k h)
 
-lines_stay : (targets more : List ℕ) (names extra : Names) (entries : List Entry) → AreWithin targets entries → AreNamed names entries → vertices_in (targets ++ more) (names ++ extra) entries ≡ vertices_in targets names entries
+lines_stay : (targets more : List ℕ) (names extra : Names) (rows : List Row) → AreWithin targets rows → AreNamed names rows
+    → vertices_in (targets ++ more) (names ++ extra) rows ≡ vertices_in targets names rows
 lines_stay targets more names extra [] within named = refl
-lines_stay targets more names extra (e ∷ entries) within named =
-    let range = All-head (λ e. (e.from ≤ e.to) × (e.to ≤ length targets)) e entries within in
-    let name = All-head (λ e. IfSome e.name (λ k. k < length names)) e entries named in
+lines_stay targets more names extra (e ∷ rows) within named =
+    let range = All-head (λ e. (e.from ≤ e.to) × (e.to ≤ length targets)) e rows within in
+    let name = All-head (λ e. IfSome e.name (λ k. k < length names)) e rows named in
     let same = range_stays targets more (e.from) (e.to) (range.0) (range.1) in
     let called = name_stays names extra (e.name) name in
-    let rest = lines_stay targets more names extra entries (All-tail (λ e. (e.from ≤ e.to) × (e.to ≤ length targets)) e entries within) (All-tail (λ e. IfSome e.name (λ k. k < length names)) e entries named) in
+    let rest = lines_stay targets more names extra rows (All-tail (λ e. (e.from ≤ e.to) × (e.to ≤ length targets)) e rows within)
+    (All-tail (λ e. IfSome e.name (λ k. k < length names)) e rows named) in
     rw (same, called, rest) refl
 
 range_new : (targets more : List ℕ) → slice_range (targets ++ more) (length targets) (length targets + length more) ≡ more
@@ -80,23 +92,33 @@ name_new : (names : Names) (new : Option (Vec ℕ Global)) → name_in (names ++
 name_new names None = refl
 name_new names (Some n) = ap (option_map (λ n. n.items)) (get_new names n)
 
--- an entry for a line whose successors stand behind all others
-abbrev pub new_entry : List ℕ → Names → ℕ → ℕ → Player → List ℕ → Option (Vec ℕ Global) → Entry
-new_entry targets names identifier priority owner more new = record { identifier = identifier; priority = priority; owner = owner; from = length targets; to = length targets + length more; name = place_of_new names new }
+-- an entry for a line whose successors stand behind all others, and what is kept of that line
+abbrev pub new_entry : List ℕ → ℕ → Player → List ℕ → Entry
+new_entry targets priority owner more = record { priority = priority; owner = owner; from = length targets; to = length targets + length more }
 
-pub entry_is : (targets : List ℕ) (names : Names) (identifier priority : ℕ) (owner : Player) (more : List ℕ) (new : Option (Vec ℕ Global)) (from to : ℕ) (place : Option ℕ) → from ≡ length targets → to ≡ length targets + length more → place ≡ place_of_new names new
-    → (let e : Entry = record { identifier = identifier; priority = priority; owner = owner; from = from; to = to; name = place } in e) ≡ new_entry targets names identifier priority owner more new
-entry_is targets names identifier priority owner more new from to place f t p = rw (f, t, p) refl
+abbrev new_row : List ℕ → Names → ℕ → ℕ → Player → List ℕ → Option (Vec ℕ Global) → Row
+new_row targets names identifier priority owner more new = row_of identifier (place_of_new names new) (new_entry targets priority owner more)
+
+pub entry_is : (targets : List ℕ) (priority : ℕ) (owner : Player) (more : List ℕ) (from to : ℕ) → from ≡ length targets → to ≡ length targets + length more
+    → (let e : Entry = record { priority = priority; owner = owner; from = from; to = to } in e) ≡ new_entry targets priority owner more
+entry_is targets priority owner more from to f t = rw (f, t) refl
 
 abbrev pub new_line : ℕ → ℕ → Player → List ℕ → Option (Vec ℕ Global) → Line
-new_line identifier priority owner more new = record { identifier = identifier; priority = priority; owner = owner; successors = more; name = option_map (λ n. n.items) new }
+new_line identifier priority owner more new =
+    record { identifier = identifier; priority = priority; owner = owner; successors = more; name = option_map (λ n. n.items) new }
 
-pub line_more : (targets : List ℕ) (names : Names) (entries : List Entry) (identifier priority : ℕ) (owner : Player) (more : List ℕ) (new : Option (Vec ℕ Global)) → AreWithin targets entries → AreNamed names entries
-    → vertices_in (targets ++ more) (names ++ option_to_list new) (entries ++ new_entry targets names identifier priority owner more new ∷ []) ≡ vertices_in targets names entries ++ new_line identifier priority owner more new ∷ []
-line_more targets names entries identifier priority owner more new within named =
-    let e = new_entry targets names identifier priority owner more new in
-    let last : vertex_in (targets ++ more) (names ++ option_to_list new) e ≡ new_line identifier priority owner more new = rw (range_new targets more, name_new names new) refl in
-    map-append (vertex_in (targets ++ more) (names ++ option_to_list new)) entries (e ∷ []) ∙ ap (λ (ls : List Line). ls ++ vertex_in (targets ++ more) (names ++ option_to_list new) e ∷ []) (lines_stay targets more names (option_to_list new) entries within named) ∙ ap (λ (l : Line). vertices_in targets names entries ++ l ∷ []) last
+pub line_more : (targets : List ℕ) (names : Names) (rows : List Row) (identifier priority : ℕ) (owner : Player) (more : List ℕ) (new : Option (Vec ℕ Global))
+    → AreWithin targets rows → AreNamed names rows
+    → vertices_in (targets ++ more) (names ++ option_to_list new)
+    (rows ++ new_row targets names identifier priority owner more new ∷ []) ≡ vertices_in targets names rows ++ new_line identifier priority owner more
+    new ∷ []
+line_more targets names rows identifier priority owner more new within named =
+    let e = new_row targets names identifier priority owner more new in
+    let last : vertex_in (targets ++ more) (names ++ option_to_list new) e ≡ new_line identifier priority owner more new =
+    rw (range_new targets more, name_new names new) refl in
+    map-append (vertex_in (targets ++ more) (names ++ option_to_list new)) rows (e ∷ [])
+    ∙ ap (λ (ls : List Line). ls ++ vertex_in (targets ++ more) (names ++ option_to_list new) e ∷ [])
+    (lines_stay targets more names (option_to_list new) rows within named) ∙ ap (λ (l : Line). vertices_in targets names rows ++ l ∷ []) last
 
 -- ---- the reasons, in their order
 
@@ -104,22 +126,43 @@ pub record Passes (line : Line) : Type 0 where
   pub priority : line.priority ≤ 65535
   pub some : 0 < length line.successors
 
-pub names_duplicate : (lines : List Line) (line : Line) → Passes line → is_named lines (line.identifier) ≡ true → add_fault lines line ≡ Some (DuplicateVertex (line.identifier))
+pub names_duplicate : (lines : List Line) (line : Line) → Passes line → is_named lines (line.identifier) ≡ true
+    → add_fault lines line ≡ Some (DuplicateVertex (line.identifier))
 names_duplicate lines line p named = rw (le-ltb 65535 (line.priority) (p.priority), ne_eqb (length (line.successors)) 0 (omega (arith, p.some)), named) refl
 
-pub names_vertices : (lines : List Line) (line : Line) → Passes line → is_named lines (line.identifier) ≡ false → 1048576 ≤ length lines → add_fault lines line ≡ Some TooManyVertices
-names_vertices lines line p named many = rw (le-ltb 65535 (line.priority) (p.priority), ne_eqb (length (line.successors)) 0 (omega (arith, p.some)), named, le-leb 1048576 (length lines) many) refl
+pub names_vertices : (lines : List Line) (line : Line) → Passes line → is_named lines (line.identifier) ≡ false → 1048576 ≤ length lines
+    → add_fault lines line ≡ Some TooManyVertices
+names_vertices lines line p named many =
+    rw (le-ltb 65535 (line.priority) (p.priority), ne_eqb (length (line.successors)) 0 (omega (arith, p.some)), named, le-leb 1048576 (length lines) many) refl
 
-pub names_edges : (lines : List Line) (line : Line) → Passes line → is_named lines (line.identifier) ≡ false → length lines < 1048576 → 8388608 < edge_count lines + length (line.successors) → add_fault lines line ≡ Some TooManyEdges
-names_edges lines line p named few many = rw (le-ltb 65535 (line.priority) (p.priority), ne_eqb (length (line.successors)) 0 (omega (arith, p.some)), named, lt-leb 1048576 (length lines) few, lt-ltb 8388608 (edge_count lines + length (line.successors)) many) refl
+pub names_edges : (lines : List Line) (line : Line) → Passes line → is_named lines (line.identifier) ≡ false → length lines < 1048576
+    → 8388608 < edge_count lines + length (line.successors) → add_fault lines line ≡ Some TooManyEdges
+names_edges lines line p named few many =
+    rw (
+      le-ltb 65535 (line.priority) (p.priority),
+      ne_eqb (length (line.successors)) 0 (omega (arith, p.some)),
+      named,
+      lt-leb 1048576
+          (length lines) few,
+      lt-ltb 8388608 (edge_count lines + length (line.successors)) many,
+    ) refl
 
-pub names_none : (lines : List Line) (line : Line) → Passes line → is_named lines (line.identifier) ≡ false → length lines < 1048576 → edge_count lines + length (line.successors) ≤ 8388608 → add_fault lines line ≡ None
-names_none lines line p named few fits = rw (le-ltb 65535 (line.priority) (p.priority), ne_eqb (length (line.successors)) 0 (omega (arith, p.some)), named, lt-leb 1048576 (length lines) few, le-ltb 8388608 (edge_count lines + length (line.successors)) fits) refl
+pub names_none : (lines : List Line) (line : Line) → Passes line → is_named lines (line.identifier) ≡ false → length lines < 1048576
+    → edge_count lines + length (line.successors) ≤ 8388608 → add_fault lines line ≡ None
+names_none lines line p named few fits =
+    rw (
+      le-ltb 65535 (line.priority) (p.priority),
+      ne_eqb (length (line.successors)) 0 (omega (arith, p.some)),
+      named,
+      lt-leb 1048576
+          (length lines) few,
+      le-ltb 8388608 (edge_count lines + length (line.successors)) fits,
+    ) refl
 
 -- ---- what is kept
 
-weaker_within : (n m : ℕ) (entries : List Entry) → n ≤ m → All (λ e. (e.from ≤ e.to) × (e.to ≤ n)) entries → All (λ e. (e.from ≤ e.to) × (e.to ≤ m)) entries
-weaker_within n m entries le all = All-weaker (λ e. (e.from ≤ e.to) × (e.to ≤ n)) (λ e. (e.from ≤ e.to) × (e.to ≤ m)) (λ e p. (p.0, omega (arith, p.1))) entries all
+weaker_within : (n m : ℕ) (rows : List Row) → n ≤ m → All (λ e. (e.from ≤ e.to) × (e.to ≤ n)) rows → All (λ e. (e.from ≤ e.to) × (e.to ≤ m)) rows
+weaker_within n m rows le all = All-weaker (λ e. (e.from ≤ e.to) × (e.to ≤ n)) (λ e. (e.from ≤ e.to) × (e.to ≤ m)) (λ e p. (p.0, omega (arith, p.1))) rows all
 
 weaker_name : (n m : ℕ) → n ≤ m → (place : Option ℕ) → IfSome place (λ k. k < n) → IfSome place (λ k. k < m)
 weaker_name n m le None h = h
@@ -129,44 +172,108 @@ new_name : (names : Names) (new : Option (Vec ℕ Global)) → IfSome (place_of_
 new_name names None = tt
 new_name names (Some n) = omega (arith, length-append names (n ∷ []))
 
-names_grow : (names : Names) (new : Option (Vec ℕ Global)) → (length names ≤ length (names ++ option_to_list new)) × (length (names ++ option_to_list new) ≤ length names + 1)
+names_grow : (names : Names) (new : Option (Vec ℕ Global))
+    → (length names ≤ length (names ++ option_to_list new)) × (length (names ++ option_to_list new) ≤ length names + 1)
 names_grow names None = (omega (arith, length-append names []), omega (arith, length-append names []))
 names_grow names (Some n) = (omega (arith, length-append names (n ∷ [])), omega (arith, length-append names (n ∷ [])))
 
-pub kept_more : (ids targets : List ℕ) (names : Names) (entries : List Entry) (identifier priority : ℕ) (owner : Player) (more : List ℕ) (new : Option (Vec ℕ Global)) → AreKept ids targets names entries
-    → list_any (eqb identifier) ids ≡ false → length entries < 1048576 → length targets + length more ≤ 8388608 → priority ≤ 65535 → 0 < length more → IsStrictlyIncreasing more
-    → AreKept (ids ++ identifier ∷ []) (targets ++ more) (names ++ option_to_list new) (entries ++ new_entry targets names identifier priority owner more new ∷ [])
-kept_more ids targets names entries identifier priority owner more new kept unknown few fits small some rise =
-    let e = new_entry targets names identifier priority owner more new in
-    let lines = line_more targets names entries identifier priority owner more new kept.ranges kept.named in
+pub kept_more : (ids targets : List ℕ) (names : Names) (rows : List Row) (identifier priority : ℕ) (owner : Player) (more : List ℕ)
+    (new : Option (Vec ℕ Global)) → AreKept ids targets names rows
+    → list_any (eqb identifier) ids ≡ false → length rows < 1048576 → length targets + length more ≤ 8388608 → priority ≤ 65535 → 0 < length more
+    → IsStrictlyIncreasing more
+    → AreKept (ids ++ identifier ∷ []) (targets ++ more) (names ++ option_to_list new) (rows ++ new_row targets names identifier priority owner more new ∷ [])
+kept_more ids targets names rows identifier priority owner more new kept unknown few fits small some rise =
+    let e = new_row targets names identifier priority owner more new in
+    let lines = line_more targets names rows identifier priority owner more new kept.ranges kept.named in
     let long : length (targets ++ more) ≡ length targets + length more = length-append targets more in
-    let count : length (entries ++ e ∷ []) ≡ length entries + 1 = length-append entries (e ∷ []) in
+    let count : length (rows ++ e ∷ []) ≡ length rows + 1 = length-append rows (e ∷ []) in
     let grown = names_grow names new in
     record {
-      ranges = All-push (λ (e : Entry). (e.from ≤ e.to) × (e.to ≤ length (targets ++ more))) entries e (weaker_within (length targets) (length (targets ++ more)) entries (omega arith) kept.ranges) (omega arith, omega arith);
-      named = All-push (λ (e : Entry). IfSome e.name (λ k. k < length (names ++ option_to_list new))) entries e (All-weaker (λ (e : Entry). IfSome e.name (λ k. k < length names)) (λ (e : Entry). IfSome e.name (λ k. k < length (names ++ option_to_list new))) (λ (x : Entry) p. weaker_name (length names) (length (names ++ option_to_list new)) (grown.0) (x.name) p) entries kept.named) (new_name names new);
-      listed = ap (λ (l : List ℕ). l ++ identifier ∷ []) kept.listed ∙ sym (map-append (λ (e : Entry). e.identifier) entries (e ∷ []));
+      ranges = All-push (λ (e : Row). (e.from ≤ e.to) × (e.to ≤ length (targets ++ more))) rows e
+          (weaker_within (length targets) (length (targets ++ more)) rows (omega arith) kept.ranges) (omega arith, omega arith);
+      named = All-push (λ (e : Row). IfSome e.name (λ k. k < length (names ++ option_to_list new))) rows e
+          (All-weaker (λ (e : Row). IfSome e.name (λ k. k < length names)) (λ (e : Row). IfSome e.name (λ k. k < length (names ++ option_to_list new)))
+          (λ (x : Row) p. weaker_name (length names) (length (names ++ option_to_list new)) (grown.0) (x.name) p) rows kept.named) (new_name names new);
+      listed = ap (λ (l : List ℕ). l ++ identifier ∷ []) kept.listed ∙ sym (map-append (λ (e : Row). e.identifier) rows (e ∷ []));
       distinct = IsDistinct-push nat_eq_equiv ids identifier kept.distinct unknown;
-      laid = ap (λ (ts : List ℕ). ts ++ more) kept.laid ∙ ap (λ (ts : List ℕ). flat_map (λ (line : Line). line.successors) (vertices_in targets names entries) ++ ts) (sym (append-nil more)) ∙ sym (flat_map-append (λ (line : Line). line.successors) (vertices_in targets names entries) (new_line identifier priority owner more new ∷ [])) ∙ sym (ap (flat_map (λ (line : Line). line.successors)) lines);
-      orderly = subst (All IsOrderly) (sym lines) (All-push IsOrderly (vertices_in targets names entries) (new_line identifier priority owner more new) kept.orderly (record { priority = small; goes_on = some; rise = rise }));
+      laid = ap (λ (ts : List ℕ). ts ++ more) kept.laid
+          ∙ ap (λ (ts : List ℕ). flat_map (λ (line : Line). line.successors) (vertices_in targets names rows) ++ ts) (sym (append-nil more))
+          ∙ sym (flat_map-append (λ (line : Line). line.successors) (vertices_in targets names rows) (new_line identifier priority owner more new ∷ []))
+          ∙ sym (ap (flat_map (λ (line : Line). line.successors)) lines);
+      orderly = subst (All IsOrderly) (sym lines)
+          (All-push IsOrderly (vertices_in targets names rows) (new_line identifier priority owner more new) kept.orderly
+          (record { priority = small; goes_on = some; rise = rise }));
       few_vertices = omega arith;
       few_edges = omega arith;
       few_names = omega (arith, grown.1, kept.few_names);
     }
 
-no_lines : AreKept [] [] [] []
+no_lines : AreKeptIn [] [] [] [] []
 unfolding IsDistinct
 no_lines = record {
-  ranges = All-nil (λ (e : Entry). (e.from ≤ e.to) × (e.to ≤ 0));
-  named = All-nil (λ (e : Entry). IfSome e.name (λ k. k < 0));
-  listed = refl;
-  distinct = tt;
-  laid = refl;
-  orderly = All-nil IsOrderly;
-  few_vertices = omega arith;
-  few_edges = omega arith;
-  few_names = omega arith;
+  as_many = refl;
+  few_places = omega arith;
+  kept = record {
+    ranges = All-nil (λ (e : Row). (e.from ≤ e.to) × (e.to ≤ 0));
+    named = All-nil (λ (e : Row). IfSome e.name (λ k. k < 0));
+    listed = refl;
+    distinct = tt;
+    laid = refl;
+    orderly = All-nil IsOrderly;
+    few_vertices = omega arith;
+    few_edges = omega arith;
+    few_names = omega arith;
+  };
 }
 
-pub kept_none : (ids targets : List ℕ) (names : Names) (entries : List Entry) → ids ≡ [] → targets ≡ [] → names ≡ [] → entries ≡ [] → AreKept ids targets names entries
-kept_none ids targets names entries i t n e = rw (i, t, n, e) no_lines
+pub kept_none : (ids targets : List ℕ) (names : Names) (places : List (Option ℕ)) (entries : List Entry) → ids ≡ [] → targets ≡ [] → names ≡ [] → places ≡ []
+    → entries ≡ [] → AreKeptIn ids targets names places entries
+kept_none ids targets names places entries i t n p e = rw (i, t, n, p, e) no_lines
+
+-- ---- and of the lists
+
+-- places of names, and those with one more line
+pub record IsPlaced (names : Names) (places : List (Option ℕ)) (lines : ℕ) (new : Option (Vec ℕ Global)) (other : List (Option ℕ)) : Type 0 where
+  pub same : (v : ℕ) → v < lines → place_at other v ≡ place_at places v
+  pub place : place_at other lines ≡ place_of_new names new
+  pub few : length other ≤ lines + 1
+
+rows_added : {ids targets : List ℕ} {names : Names} {places : List (Option ℕ)} {entries : List Entry} (other : List (Option ℕ)) (identifier priority : ℕ)
+    (owner : Player) (more : List ℕ) (new : Option (Vec ℕ Global)) → AreKeptIn ids targets names places entries
+    → IsPlaced names places (length entries) new other
+    → rows_in (ids ++ identifier ∷ []) other
+    (entries ++ new_entry targets priority owner more ∷ []) ≡ rows_in ids places entries ++ new_row targets names identifier priority owner more new ∷ []
+rows_added {ids} {targets} {names} {places} {entries} other identifier priority owner more new kept placed =
+    let e = new_entry targets priority owner more in
+    let last : place_at other (length ids) ≡ place_of_new names new = ap (place_at other) kept.as_many ∙ placed.place in
+    rows_more ids places other entries identifier e kept.as_many (λ v lt. placed.same v (omega (arith, kept.as_many)))
+    ∙ ap (λ (p : Option ℕ). rows_in ids places entries ++ row_of identifier p e ∷ []) last
+
+pub lines_added : {ids targets : List ℕ} {names : Names} {places : List (Option ℕ)} {entries : List Entry} (other : List (Option ℕ)) (identifier priority : ℕ)
+    (owner : Player) (more : List ℕ) (new : Option (Vec ℕ Global)) → AreKeptIn ids targets names places entries
+    → IsPlaced names places (length entries) new other
+    → vertices_in (targets ++ more) (names ++ option_to_list new)
+    (rows_in (ids ++ identifier ∷ []) other (entries ++ new_entry targets priority owner more ∷ [])) ≡ vertices_in targets names
+    (rows_in ids places entries) ++ new_line identifier priority owner more new ∷ []
+lines_added {ids} {targets} {names} {places} {entries} other identifier priority owner more new kept placed =
+    ap (vertices_in (targets ++ more) (names ++ option_to_list new)) (rows_added other identifier priority owner more new kept placed)
+    ∙ line_more targets names (rows_in ids places entries) identifier priority owner more new kept.kept.ranges kept.kept.named
+
+pub kept_added : {ids targets : List ℕ} {names : Names} {places : List (Option ℕ)} {entries : List Entry} (other : List (Option ℕ)) (identifier priority : ℕ)
+    (owner : Player) (more : List ℕ) (new : Option (Vec ℕ Global)) → AreKeptIn ids targets names places entries
+    → IsPlaced names places (length entries) new other
+    → list_any (eqb identifier) ids ≡ false → length entries < 1048576 → length targets + length more ≤ 8388608 → priority ≤ 65535 → 0 < length more
+    → IsStrictlyIncreasing more
+    → AreKeptIn (ids ++ identifier ∷ []) (targets ++ more) (names ++ option_to_list new) other (entries ++ new_entry targets priority owner more ∷ [])
+kept_added {ids} {targets} {names} {places} {entries} other identifier priority owner more new kept placed unknown few fits small some rise =
+    let e = new_entry targets priority owner more in
+    let ids_long : length (ids ++ identifier ∷ []) ≡ length ids + 1 = length-append ids (identifier ∷ []) in
+    let entries_long : length (entries ++ e ∷ []) ≡ length entries + 1 = length-append entries (e ∷ []) in
+    let rows_few : length (rows_in ids places entries) < 1048576 = omega (arith, rows_long ids places entries kept.as_many, kept.as_many) in
+    record {
+      as_many = omega (arith, kept.as_many);
+      few_places = omega (arith, placed.few);
+      kept = subst (AreKept (ids ++ identifier ∷ []) (targets ++ more) (names ++ option_to_list new))
+          (sym (rows_added other identifier priority owner more new kept placed))
+          (kept_more ids targets names (rows_in ids places entries) identifier priority owner more new kept.kept unknown rows_few fits small some rise);
+    }

@@ -1,29 +1,25 @@
 -- The parts of a game's dual.
-use Rattle.std.proofs.Common.{◌≡◌, ℕ, ◌≤◌, List, [], ◌∷◌, length, map, Option, Some, None, refl, sym, ap, subst, ◌∙◌, All, ◌+◌, arith}
-use Rattle.std.specs.Prelude.{slice_get}
+use Rattle.std.proofs.Common.{◌≡◌, ℕ, ◌≤◌, List, [], ◌∷◌, length, map, drop, Option, refl, sym, ap, subst, ◌∙◌, All, ◌+◌, arith}
 use Rattle.std.specs.declared.vec.Vec.{Vec}
 use Rattle.std.specs.declared.alloc.Global.{Global}
-use Rattle.std.proofs.lemmas.Option.{slice_get-map}
+use Rattle.std.proofs.lemmas.List.{length-map}
 use Rattle.std.proofs.lemmas.List.Elements.{All-head, All-tail, All-cons, All-nil, All-map, All-weaker}
 use Rattle.pg_arena.specs.declared.entry.Entry.{Entry}
 use Rattle.pg_arena.specs.Games.{GameVertex, IsGame, IsWithinLimits, HasPrioritiesUpTo, dual, dual_vertex}
 use Rattle.pg_arena.specs.Lemmas.Duals.{game_dual, limits_dual}
-use Rattle.pg_arena.specs.Mirrors.Entries.{name_in, vertex_in, vertices_in, texts, dual_entry, IsBuilt, IsOrderly}
+use Rattle.pg_arena.specs.Mirrors.Entries.{Row, row_of, rows_in, place_at, vertex_in, vertices_in, dual_entry, dual_row, IsBuilt, IsBuiltIn, IsOrderly}
+use Rattle.pg_arena.proofs.Beside.{rows_dual}
 
 abbrev Names : Type 0
 Names = List (Vec ℕ Global)
 
-name_same : (names copy : Names) (place : Option ℕ) → texts copy ≡ texts names → name_in copy place ≡ name_in names place
-name_same names copy None same = refl
-name_same names copy (Some k) same = sym (slice_get-map (λ (n : Vec ℕ Global). n.items) copy k) ∙ ap (λ (ts : List (List ℕ)). slice_get ts k) same ∙ slice_get-map (λ (n : Vec ℕ Global). n.items) names k
+dual_vertices : (targets : List ℕ) (names : Names) (rows : List Row) → vertices_in targets names (map dual_row rows) ≡ dual (vertices_in targets names rows)
+dual_vertices targets names [] = refl
+dual_vertices targets names (r ∷ rows) = ap (λ (xs : List GameVertex). dual_vertex (vertex_in targets names r) ∷ xs) (dual_vertices targets names rows)
 
-pub dual_vertices : (targets : List ℕ) (names copy : Names) (entries : List Entry) → texts copy ≡ texts names → vertices_in targets copy (map dual_entry entries) ≡ dual (vertices_in targets names entries)
-dual_vertices targets names copy [] same = refl
-dual_vertices targets names copy (e ∷ entries) same = rw (name_same names copy (e.name) same, dual_vertices targets names copy entries same) refl
-
-same_ids : (entries : List Entry) → map (λ e. e.identifier) (map dual_entry entries) ≡ map (λ e. e.identifier) entries
+same_ids : (rows : List Row) → map (λ e. e.identifier) (map dual_row rows) ≡ map (λ e. e.identifier) rows
 same_ids [] = refl
-same_ids (e ∷ entries) = ap (λ (ids : List ℕ). e.identifier ∷ ids) (same_ids entries)
+same_ids (e ∷ rows) = ap (λ (ids : List ℕ). e.identifier ∷ ids) (same_ids rows)
 
 -- priorities are raised by one
 dual_priorities : (game : List GameVertex) → HasPrioritiesUpTo 65535 game → HasPrioritiesUpTo 65536 (dual game)
@@ -31,28 +27,47 @@ dual_priorities game small =
     All-map (λ (x : GameVertex). x.priority ≤ 65536) dual_vertex game
     (All-weaker (λ (x : GameVertex). x.priority ≤ 65535) (λ (x : GameVertex). x.priority + 1 ≤ 65536) (λ x le. omega arith) game small)
 
-pub dual_built : (ids targets : List ℕ) (names copy : Names) (entries : List Entry) → texts copy ≡ texts names
-    → HasPrioritiesUpTo 65535 (vertices_in targets names entries) → IsBuilt ids targets names entries
-    → IsBuilt ids targets copy (map dual_entry entries)
-dual_built ids targets names copy entries same small b =
-    let is = dual_vertices targets names copy entries same in
+dual_built : (ids targets : List ℕ) (names : Names) (rows : List Row) → HasPrioritiesUpTo 65535 (vertices_in targets names rows)
+    → IsBuilt ids targets names rows → IsBuilt ids targets names (map dual_row rows)
+dual_built ids targets names rows small b =
+    let is = dual_vertices targets names rows in
     record {
-      ranges = All-map (λ e. (e.from ≤ e.to) × (e.to ≤ length targets)) dual_entry entries b.ranges;
-      named = b.named ∙ sym (same_ids entries);
-      game = subst IsGame (sym is) (game_dual (vertices_in targets names entries) b.game);
-      limits = subst IsWithinLimits (sym is) (limits_dual (vertices_in targets names entries) b.limits);
-      priorities = subst (HasPrioritiesUpTo 65536) (sym is) (dual_priorities (vertices_in targets names entries) small);
+      ranges = All-map (λ r. (r.from ≤ r.to) × (r.to ≤ length targets)) dual_row rows b.ranges;
+      named = b.named ∙ sym (same_ids rows);
+      game = subst IsGame (sym is) (game_dual (vertices_in targets names rows) b.game);
+      limits = subst IsWithinLimits (sym is) (limits_dual (vertices_in targets names rows) b.limits);
+      priorities = subst (HasPrioritiesUpTo 65536) (sym is) (dual_priorities (vertices_in targets names rows) small);
     }
 
-pub small_entries : (targets : List ℕ) (names : Names) (entries : List Entry) → HasPrioritiesUpTo 65535 (vertices_in targets names entries) → All (λ e. e.priority ≤ 65535) entries
-small_entries targets names [] small = All-nil (λ (e : Entry). e.priority ≤ 65535)
-small_entries targets names (e ∷ entries) small =
-    All-cons (λ (e : Entry). e.priority ≤ 65535) e entries (All-head (λ (x : GameVertex). x.priority ≤ 65535) (vertex_in targets names e) (vertices_in targets names entries) small)
-    (small_entries targets names entries (All-tail (λ (x : GameVertex). x.priority ≤ 65535) (vertex_in targets names e) (vertices_in targets names entries) small))
+pub dual_built_in : {ids targets : List ℕ} {names : Names} {places : List (Option ℕ)} {entries : List Entry}
+    → HasPrioritiesUpTo 65535 (vertices_in targets names (rows_in ids places entries)) → IsBuiltIn ids targets names places entries
+    → IsBuiltIn ids targets names places (map dual_entry entries)
+dual_built_in {ids} {targets} {names} {places} {entries} small b =
+    record {
+      as_many = omega (arith, b.as_many, length-map entries dual_entry);
+      built = subst (IsBuilt ids targets names) (sym (rows_dual ids places entries)) (dual_built ids targets names (rows_in ids places entries) small b.built);
+    }
 
-pub small_vertices : (targets vertices : List ℕ) (names : Names) (entries : List Entry) → All IsOrderly (vertices_in targets names entries) → HasPrioritiesUpTo 65535 (vertices_in vertices names entries)
+pub dual_vertices_in : (ids targets : List ℕ) (names : Names) (places : List (Option ℕ)) (entries : List Entry)
+    → vertices_in targets names (rows_in ids places (map dual_entry entries)) ≡ dual (vertices_in targets names (rows_in ids places entries))
+dual_vertices_in ids targets names places entries = ap (vertices_in targets names) (rows_dual ids places entries)
+    ∙ dual_vertices targets names (rows_in ids places entries)
+
+pub small_entries : (ids targets : List ℕ) (names : Names) (places : List (Option ℕ)) (entries : List Entry) → length ids ≡ length entries
+    → HasPrioritiesUpTo 65535 (vertices_in targets names (rows_in ids places entries)) → All (λ e. e.priority ≤ 65535) entries
+small_entries [] targets names places [] long small = All-nil (λ (e : Entry). e.priority ≤ 65535)
+small_entries [] targets names places (e ∷ entries) long small = absurd (omega arith)
+small_entries (i ∷ ids) targets names places [] long small = absurd (omega arith)
+small_entries (i ∷ ids) targets names places (e ∷ entries) long small =
+    let first = vertex_in targets names (row_of i (place_at places 0) e) in
+    let rest = vertices_in targets names (rows_in ids (drop 1 places) entries) in
+    All-cons (λ (e : Entry). e.priority ≤ 65535) e entries (All-head (λ (x : GameVertex). x.priority ≤ 65535) first rest small)
+    (small_entries ids targets names (drop 1 places) entries (omega arith) (All-tail (λ (x : GameVertex). x.priority ≤ 65535) first rest small))
+
+pub small_vertices : (targets vertices : List ℕ) (names : Names) (rows : List Row) → All IsOrderly (vertices_in targets names rows)
+    → HasPrioritiesUpTo 65535 (vertices_in vertices names rows)
 small_vertices targets vertices names [] orderly = All-nil (λ (x : GameVertex). x.priority ≤ 65535)
-small_vertices targets vertices names (e ∷ entries) orderly =
-    let first = All-head IsOrderly (vertex_in targets names e) (vertices_in targets names entries) orderly in
-    All-cons (λ (x : GameVertex). x.priority ≤ 65535) (vertex_in vertices names e) (vertices_in vertices names entries) first.priority
-    (small_vertices targets vertices names entries (All-tail IsOrderly (vertex_in targets names e) (vertices_in targets names entries) orderly))
+small_vertices targets vertices names (e ∷ rows) orderly =
+    let first = All-head IsOrderly (vertex_in targets names e) (vertices_in targets names rows) orderly in
+    All-cons (λ (x : GameVertex). x.priority ≤ 65535) (vertex_in vertices names e) (vertices_in vertices names rows) first.priority
+    (small_vertices targets vertices names rows (All-tail IsOrderly (vertex_in targets names e) (vertices_in targets names rows) orderly))

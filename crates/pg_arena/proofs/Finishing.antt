@@ -1,9 +1,8 @@
 -- The game that sorted entries make is the game of the lines.
-use Rattle.std.proofs.Common.{◌≡◌, ℕ, ◌+◌, ◌-◌, ◌≤◌, ◌<◌, eqb, List, [], ◌∷◌, length, get_or, take, drop, map, None, refl, sym, ap, subst, ◌∙◌, arith, inl, inr, All}
+use Rattle.std.proofs.Common.{Option, ◌≡◌, ℕ, ◌+◌, ◌-◌, ◌≤◌, ◌<◌, List, [], ◌∷◌, length, get_or, take, drop, map, refl, sym, ap, subst, ◌∙◌, arith, inl, inr, All}
 use Rattle.std.specs.Prelude.{slice_range, slice_index, Contains}
-use Rattle.std.specs.List.{flat_map, IsDistinct}
-use Rattle.std.specs.List.Sorted.{IsPermutation, IsStrictlyIncreasing, IsNonDecreasing, IsNonDecreasingBy}
-use Rattle.std.specs.Cmp.{nat_eq_equiv}
+use Rattle.std.specs.List.{flat_map}
+use Rattle.std.specs.List.Sorted.{IsPermutation, IsStrictlyIncreasing}
 use Rattle.std.specs.declared.vec.Vec.{Vec}
 use Rattle.std.specs.declared.alloc.Global.{Global}
 use Rattle.std.proofs.lemmas.Bool.{cases_lt}
@@ -11,41 +10,23 @@ use Rattle.std.proofs.lemmas.List.{take-map, drop-map, length-map, get_or-map, g
 use Rattle.std.proofs.lemmas.List.Elements.{All-head, All-tail, All-cons, All-nil, All-take, All-drop, All-contains, All-get_or, All-weaker}
 use Rattle.std.proofs.lemmas.List.Sums.{sum_by-cons}
 use Rattle.std.proofs.lemmas.List.Concat.{length-flat_map}
-use Rattle.std.proofs.lemmas.List.Sorted.{IsPermutation-map, IsPermutation-sym, IsPermutation-trans, length_permutation, All-permutation, list_any-IsPermutation, sum_by-IsPermutation}
-use Rattle.std.proofs.lemmas.Map.Keys.{sorted_from_strictly_increasing, non_decreasing_from_sorted, IsDistinct-IsPermutation, IsStrictlyIncreasing-from_distinct}
+use Rattle.std.proofs.lemmas.List.Sorted.{IsPermutation-map, length_permutation, All-permutation, sum_by-IsPermutation}
+use Rattle.std.proofs.lemmas.Map.Keys.{sorted_from_strictly_increasing, non_decreasing_from_sorted}
 use Rattle.std.proofs.Math.ListN.{get_or-map as get_or-map_at}
-use Rattle.pg_arena.specs.declared.player.Player.TheVariants.{Even}
-use Rattle.pg_arena.specs.declared.entry.Entry.{Entry}
 use Rattle.pg_arena.specs.Games.{GameVertex, IsGame, identifiers, identifier, successors, edge_count, nowhere}
 use Rattle.pg_arena.specs.Lines.{Line, IsGameOf, line_of}
-use Rattle.pg_arena.specs.Mirrors.Entries.{vertex_in, vertices_in, AreWithin, IsOrderly, AreKept, IsBuilt}
+use Rattle.pg_arena.specs.declared.entry.Entry.{Entry}
+use Rattle.pg_arena.specs.Mirrors.Entries.{Row, rows_in, vertex_in, vertices_in, AreWithin, IsOrderly, AreKept, AreKeptIn, IsBuilt}
 use Rattle.pg_arena.specs.Mirrors.Links.{AreLinked}
-use Rattle.pg_arena.proofs.Rising.{up_same, up_sorted}
+use Rattle.pg_arena.proofs.Beside.{rows_named, rows_long}
 use Rattle.pg_arena.proofs.Dualling.{small_vertices}
 
 abbrev Names : Type 0
 Names = List (Vec ℕ Global)
 
--- rising numbers in two orders are one list
-pub same_rising : (xs ys : List ℕ) → IsStrictlyIncreasing xs → IsStrictlyIncreasing ys → IsPermutation xs ys → xs ≡ ys
-same_rising xs ys u v p =
-    up_same xs ys (up_sorted xs (sorted_from_strictly_increasing xs u)) (up_sorted ys (sorted_from_strictly_increasing ys v))
-    (λ q h. sym (list_any-IsPermutation (eqb q) xs ys p) ∙ h) (λ q h. list_any-IsPermutation (eqb q) xs ys p ∙ h)
+-- ---- what stands once the vertices stand by rising identifier
 
--- entries of different identifiers rise once they don't fall
-pub rising_identifiers : (entries sorted : List Entry) → IsPermutation entries sorted → IsDistinct eqb (map (λ e. e.identifier) entries) → IsNonDecreasingBy (λ e. e.identifier) sorted → IsStrictlyIncreasing (map (λ e. e.identifier) sorted)
-rising_identifiers entries sorted same distinct order =
-    let id = λ (e : Entry). e.identifier in
-    let len = length-map sorted id in
-    let up : IsNonDecreasing (map id sorted) = λ i j d le lt. (let a = get_or-map id sorted i no_entry d (omega arith) in let b = get_or-map id sorted j no_entry d (omega arith) in let h = order i j no_entry le (omega arith) in omega (arith, a, b, h)) in
-    IsStrictlyIncreasing-from_distinct (map id sorted) up (IsDistinct-IsPermutation eqb (nat_eq_equiv.symm) (map id entries) (map id sorted) (IsPermutation-map id entries sorted same) distinct)
-  where
-    no_entry : Entry
-    no_entry = record { identifier = 0; priority = 0; owner = Even; from = 0; to = 0; name = None }
-
--- ---- what stands once the entries are sorted
-
-pub record IsReady (lines : List Line) (ids targets : List ℕ) (names : Names) (sorted : List Entry) : Type 0 where
+pub record IsReady (lines : List Line) (ids targets : List ℕ) (names : Names) (sorted : List Row) : Type 0 where
   pub listed : ids ≡ map (λ e. e.identifier) sorted
   pub rising : IsStrictlyIncreasing ids
   pub same : IsPermutation lines (vertices_in targets names sorted)
@@ -55,38 +36,67 @@ pub record IsReady (lines : List Line) (ids targets : List ℕ) (names : Names) 
   pub few : length ids ≤ 1048576
   pub few_edges : length targets ≤ 8388608
 
-pub ready : (lines : List Line) (before ids targets : List ℕ) (names : Names) (entries sorted : List Entry) → vertices_in targets names entries ≡ lines → AreKept before targets names entries → IsPermutation entries sorted → IsStrictlyIncreasing (map (λ e. e.identifier) sorted) → IsPermutation before ids → IsNonDecreasing ids → IsReady lines ids targets names sorted
-ready lines before ids targets names entries sorted view kept order up moved not-falling =
-    let apart : IsDistinct eqb ids = IsDistinct-IsPermutation eqb (nat_eq_equiv.symm) before ids moved kept.distinct in
-    let rising : IsStrictlyIncreasing ids = IsStrictlyIncreasing-from_distinct ids not-falling apart in
-    let id = λ (e : Entry). e.identifier in
-    let named : IsPermutation before (map id sorted) = subst (λ (xs : List ℕ). IsPermutation xs (map id sorted)) (sym kept.listed) (IsPermutation-map id entries sorted order) in
-    let listed : ids ≡ map id sorted = same_rising ids (map id sorted) rising up (IsPermutation-trans ids before (map id sorted) (IsPermutation-sym before ids moved) named) in
+pub ready : (lines : List Line) (before ids targets : List ℕ) (names : Names) (rows sorted : List Row) → vertices_in targets names rows ≡ lines
+    → AreKept before targets names rows → IsPermutation rows sorted → ids ≡ map (λ e. e.identifier) sorted → IsStrictlyIncreasing ids
+    → IsReady lines ids targets names sorted
+ready lines before ids targets names rows sorted view kept order listed rising =
+    let moved : IsPermutation (vertices_in targets names rows) (vertices_in targets names sorted) =
+    IsPermutation-map (vertex_in targets names) rows sorted order in
     record {
       listed = listed;
       rising = rising;
-      same = subst (λ (ls : List Line). IsPermutation ls (vertices_in targets names sorted)) view (IsPermutation-map (vertex_in targets names) entries sorted order);
-      ranges = All-permutation (λ e. (e.from ≤ e.to) × (e.to ≤ length targets)) entries sorted order kept.ranges;
-      orderly = All-permutation IsOrderly (vertices_in targets names entries) (vertices_in targets names sorted) (IsPermutation-map (vertex_in targets names) entries sorted order) kept.orderly;
+      same = subst (λ (ls : List Line). IsPermutation ls (vertices_in targets names sorted)) view moved;
+      ranges = All-permutation (λ e. (e.from ≤ e.to) × (e.to ≤ length targets)) rows sorted order kept.ranges;
+      orderly = All-permutation IsOrderly (vertices_in targets names rows) (vertices_in targets names sorted) moved kept.orderly;
       laid = kept.laid ∙ ap (flat_map (λ (line : Line). line.successors)) view;
-      few = omega (arith, length_permutation before ids moved, ap length kept.listed, length-map entries id, kept.few_vertices);
+      few = omega (arith, length_permutation rows sorted order, ap length listed, length-map sorted (λ (e : Row). e.identifier), kept.few_vertices);
       few_edges = kept.few_edges;
     }
+
+pub ready_in : {lines : List Line} {before targets : List ℕ} {names : Names} {places : List (Option ℕ)} {entries : List Entry} (ids : List ℕ)
+    (other : List (Option ℕ)) (sorted : List Entry) → vertices_in targets names (rows_in before places entries) ≡ lines
+    → AreKeptIn before targets names places entries → IsPermutation (rows_in before places entries) (rows_in ids other sorted) → length ids ≡ length sorted
+    → IsStrictlyIncreasing ids
+    → IsReady lines ids targets names (rows_in ids other sorted)
+ready_in {lines} {before} {targets} {names} {places} {entries} ids other sorted view kept order long rising =
+    ready lines before ids targets names (rows_in before places entries) (rows_in ids other sorted) view kept.kept order
+    (sym (rows_named ids other sorted long)) rising
+
+-- no vertex is lost
+pub as_many_ids : {before targets : List ℕ} {names : Names} {places : List (Option ℕ)} {entries : List Entry} (ids : List ℕ) (other : List (Option ℕ))
+    (sorted : List Entry) → AreKeptIn before targets names places entries → IsPermutation (rows_in before places entries) (rows_in ids other sorted)
+    → length ids ≡ length sorted → length ids ≡ length entries
+as_many_ids {before} {targets} {names} {places} {entries} ids other sorted kept order long =
+    omega (
+      arith,
+      length_permutation (rows_in before places entries)
+          (rows_in ids other sorted) order,
+      rows_long before places entries kept.as_many,
+      rows_long ids other sorted long,
+      kept.as_many,
+    )
 
 -- ---- linked successors
 
 range_map : {A B : Type 0} (f : A → B) (xs : List A) (from to : ℕ) → slice_range (map f xs) from to ≡ map f (slice_range xs from to)
 range_map f xs from to = ap (take (to - from)) (drop-map f from xs) ∙ take-map f (to - from) (drop from xs)
 
-linked_range : (ids targets vertices : List ℕ) (from to : ℕ) → AreLinked ids targets vertices → AreLinked ids (slice_range targets from to) (slice_range vertices from to)
-linked_range ids targets vertices from to linked =
-    (sym (range_map (slice_index ids) vertices from to) ∙ ap (λ (ts : List ℕ). slice_range ts from to) (linked.0), All-take (λ v. v < length ids) (to - from) (drop from vertices) (All-drop (λ v. v < length ids) from vertices (linked.1)))
+linked_range : (ids targets vertices : List ℕ) (from to : ℕ) → AreLinked ids targets vertices
+    → AreLinked ids (slice_range targets from to) (slice_range vertices from to)
+linked_range ids targets vertices from to linked = (
+  sym (range_map (slice_index ids) vertices from to)
+      ∙ ap (λ (ts : List ℕ). slice_range ts from to) (linked.0),
+  All-take (λ v. v < length ids) (to - from) (drop from vertices)
+      (All-drop (λ v. v < length ids) from vertices (linked.1)),
+)
 
-at_linked : (ids targets vertices : List ℕ) (k : ℕ) → AreLinked ids targets vertices → k < length vertices → get_or targets k 0 ≡ get_or ids (get_or vertices k 0) 0
+at_linked : (ids targets vertices : List ℕ) (k : ℕ) → AreLinked ids targets vertices → k < length vertices
+    → get_or targets k 0 ≡ get_or ids (get_or vertices k 0) 0
 at_linked ids targets vertices k linked lt = ap (λ (ts : List ℕ). get_or ts k 0) (sym (linked.0)) ∙ get_or-map (slice_index ids) vertices k 0 0 lt
 
 -- vertices rise where their identifiers do
-linked_rise : (ids targets vertices : List ℕ) → IsStrictlyIncreasing ids → AreLinked ids targets vertices → IsStrictlyIncreasing targets → IsStrictlyIncreasing vertices
+linked_rise : (ids targets vertices : List ℕ) → IsStrictlyIncreasing ids → AreLinked ids targets vertices → IsStrictlyIncreasing targets
+    → IsStrictlyIncreasing vertices
 linked_rise ids targets vertices up linked rise = λ k lt.
     let long : length targets ≡ length vertices = ap length (sym (linked.0)) ∙ length-map vertices (slice_index ids) in
     let here = at_linked ids targets vertices k linked (omega arith) in
@@ -95,14 +105,16 @@ linked_rise ids targets vertices up linked rise = λ k lt.
     let within : get_or vertices k 0 < length ids = All-get_or (λ v. v < length ids) vertices k 0 (omega arith) (linked.1) in
     elim (cases_lt (get_or vertices k 0) (get_or vertices (k + 1) 0)) [
       | inl low ↦ low
-      | inr high ↦ (let wrong : get_or ids (get_or vertices (k + 1) 0) 0 ≤ get_or ids (get_or vertices k 0) 0 = non_decreasing_from_sorted ids (sorted_from_strictly_increasing ids up) (get_or vertices (k + 1) 0) (get_or vertices k 0) 0 high within in absurd (omega arith))
+      | inr high ↦ (let wrong : get_or ids (get_or vertices (k + 1) 0) 0 ≤ get_or ids (get_or vertices k 0) 0 =
+          non_decreasing_from_sorted ids (sorted_from_strictly_increasing ids up) (get_or vertices (k + 1) 0) (get_or vertices k 0) 0 high within in
+          absurd (omega arith))
     ]
 
 -- ---- the game of sorted entries
 
-pub identifiers_are : (vertices : List ℕ) (names : Names) (entries : List Entry) → identifiers (vertices_in vertices names entries) ≡ map (λ e. e.identifier) entries
+pub identifiers_are : (vertices : List ℕ) (names : Names) (rows : List Row) → identifiers (vertices_in vertices names rows) ≡ map (λ e. e.identifier) rows
 identifiers_are vertices names [] = refl
-identifiers_are vertices names (e ∷ entries) = ap (λ (ids : List ℕ). e.identifier ∷ ids) (identifiers_are vertices names entries)
+identifiers_are vertices names (e ∷ rows) = ap (λ (ids : List ℕ). e.identifier ∷ ids) (identifiers_are vertices names rows)
 
 -- what is true of each vertex of a game with n vertices
 pub record IsSound (n : ℕ) (x : GameVertex) : Type 0 where
@@ -128,16 +140,24 @@ game_from_sound game some rising all = record {
   ];
 }
 
-sound_entries : (n : ℕ) (ids targets vertices : List ℕ) (names : Names) (entries : List Entry) → length ids ≡ n → IsStrictlyIncreasing ids → AreLinked ids targets vertices → All IsOrderly (vertices_in targets names entries) → All (IsSound n) (vertices_in vertices names entries)
+sound_entries : (n : ℕ) (ids targets vertices : List ℕ) (names : Names) (rows : List Row) → length ids ≡ n → IsStrictlyIncreasing ids
+    → AreLinked ids targets vertices → All IsOrderly (vertices_in targets names rows) → All (IsSound n) (vertices_in vertices names rows)
 sound_entries n ids targets vertices names [] len up linked orderly = All-nil (IsSound n)
-sound_entries n ids targets vertices names (e ∷ entries) len up linked orderly =
-    let line = All-head IsOrderly (vertex_in targets names e) (vertices_in targets names entries) orderly in
-    let rest = All-tail IsOrderly (vertex_in targets names e) (vertices_in targets names entries) orderly in
+sound_entries n ids targets vertices names (e ∷ rows) len up linked orderly =
+    let line = All-head IsOrderly (vertex_in targets names e) (vertices_in targets names rows) orderly in
+    let rest = All-tail IsOrderly (vertex_in targets names e) (vertices_in targets names rows) orderly in
     let here = linked_range ids targets vertices (e.from) (e.to) linked in
-    let long : length (slice_range targets (e.from) (e.to)) ≡ length (slice_range vertices (e.from) (e.to)) = ap length (sym (here.0)) ∙ length-map (slice_range vertices (e.from) (e.to)) (slice_index ids) in
-    All-cons (IsSound n) (vertex_in vertices names e) (vertices_in vertices names entries)
-    (record { goes_on = omega (arith, line.goes_on); rise = linked_rise ids (slice_range targets (e.from) (e.to)) (slice_range vertices (e.from) (e.to)) up here line.rise; within = subst (λ (m : ℕ). All (λ w. w < m) (slice_range vertices (e.from) (e.to))) len (here.1) })
-    (sound_entries n ids targets vertices names entries len up linked rest)
+    let long : length (slice_range targets (e.from) (e.to)) ≡ length (slice_range vertices (e.from) (e.to)) = ap length (sym (here.0))
+    ∙ length-map (slice_range vertices (e.from) (e.to)) (slice_index ids) in
+    All-cons (IsSound n) (vertex_in vertices names e) (vertices_in vertices names rows)
+    (record {
+      goes_on = omega (arith, line.goes_on);
+      rise =
+          linked_rise ids (slice_range targets (e.from) (e.to)) (slice_range vertices (e.from) (e.to)) up here line.rise;
+      within =
+          subst (λ (m : ℕ). All (λ w. w < m) (slice_range vertices (e.from) (e.to))) len (here.1);
+    })
+    (sound_entries n ids targets vertices names rows len up linked rest)
 
 -- ---- the lines of that game
 
@@ -148,33 +168,46 @@ map_same f g (x ∷ xs) h = rw (h x, map_same f g xs h) refl
 pub identifier_is : (game : List GameVertex) (v : ℕ) → identifier game v ≡ slice_index (identifiers game) v
 identifier_is game v = sym (get_or-map_at (λ (x : GameVertex). x.identifier) game v nowhere)
 
-line_back : (ids targets vertices : List ℕ) (names : Names) (game : List GameVertex) (e : Entry) → identifiers game ≡ ids → AreLinked ids targets vertices → line_of game (vertex_in vertices names e) ≡ vertex_in targets names e
+line_back : (ids targets vertices : List ℕ) (names : Names) (game : List GameVertex) (e : Row) → identifiers game ≡ ids → AreLinked ids targets vertices
+    → line_of game (vertex_in vertices names e) ≡ vertex_in targets names e
 line_back ids targets vertices names game e is linked =
     let same : map (identifier game) (slice_range vertices (e.from) (e.to)) ≡ slice_range targets (e.from) (e.to) =
     map_same (identifier game) (slice_index ids) (slice_range vertices (e.from) (e.to)) (λ v. identifier_is game v ∙ ap (λ (i : List ℕ). slice_index i v) is)
     ∙ (linked_range ids targets vertices (e.from) (e.to) linked).0 in
     ap (λ (s : List ℕ). let line : Line = record (vertex_in targets names e) { successors = s } in line) same
 
-lines_back : (ids targets vertices : List ℕ) (names : Names) (game : List GameVertex) (entries : List Entry) → identifiers game ≡ ids → AreLinked ids targets vertices → map (line_of game) (vertices_in vertices names entries) ≡ vertices_in targets names entries
+lines_back : (ids targets vertices : List ℕ) (names : Names) (game : List GameVertex) (rows : List Row) → identifiers game ≡ ids
+    → AreLinked ids targets vertices → map (line_of game) (vertices_in vertices names rows) ≡ vertices_in targets names rows
 lines_back ids targets vertices names game [] is linked = refl
-lines_back ids targets vertices names game (e ∷ entries) is linked = rw (line_back ids targets vertices names game e is linked, lines_back ids targets vertices names game entries is linked) refl
+lines_back ids targets vertices names game (e ∷ rows) is linked =
+    rw (line_back ids targets vertices names game e is linked, lines_back ids targets vertices names game rows is linked) refl
 
 edges_back : (game xs : List GameVertex) → edge_count (map (line_of game) xs) ≡ edge_count xs
 edges_back game [] = refl
 edges_back game (x ∷ xs) =
-    omega (arith, sum_by-cons (λ (x : GameVertex). length x.successors) (line_of game x) (map (line_of game) xs), sum_by-cons (λ (x : GameVertex). length x.successors) x xs, length-map (x.successors) (identifier game), edges_back game xs)
+    omega (
+      arith,
+      sum_by-cons (λ (x : GameVertex). length x.successors) (line_of game x) (map (line_of game) xs),
+      sum_by-cons
+          (λ (x : GameVertex). length x.successors) x xs,
+      length-map (x.successors) (identifier game),
+      edges_back game xs,
+    )
 
-pub finished : {lines : List Line} {ids targets : List ℕ} {names : Names} {sorted : List Entry} (vertices : List ℕ) → 0 < length ids → IsReady lines ids targets names sorted → AreLinked ids targets vertices → IsGameOf lines (vertices_in vertices names sorted)
+pub finished : {lines : List Line} {ids targets : List ℕ} {names : Names} {sorted : List Row} (vertices : List ℕ) → 0 < length ids
+    → IsReady lines ids targets names sorted → AreLinked ids targets vertices → IsGameOf lines (vertices_in vertices names sorted)
 finished {lines} {ids} {targets} {names} {sorted} vertices some r linked =
     let game : List GameVertex = vertices_in vertices names sorted in
     let is : identifiers game ≡ ids = identifiers_are vertices names sorted ∙ sym r.listed in
     let count : length ids ≡ length game = ap length (sym is) ∙ length-map game (λ (x : GameVertex). x.identifier) in
     record {
-      well = game_from_sound game (omega arith) (subst IsStrictlyIncreasing (sym is) r.rising) (sound_entries (length game) ids targets vertices names sorted count r.rising linked r.orderly);
+      well = game_from_sound game (omega arith) (subst IsStrictlyIncreasing (sym is) r.rising)
+          (sound_entries (length game) ids targets vertices names sorted count r.rising linked r.orderly);
       same = subst (IsPermutation lines) (sym (lines_back ids targets vertices names game sorted is linked)) r.same;
     }
 
-pub built : {lines : List Line} {ids targets : List ℕ} {names : Names} {sorted : List Entry} (vertices : List ℕ) → 0 < length ids → IsReady lines ids targets names sorted → AreLinked ids targets vertices → IsBuilt ids vertices names sorted
+pub built : {lines : List Line} {ids targets : List ℕ} {names : Names} {sorted : List Row} (vertices : List ℕ) → 0 < length ids
+    → IsReady lines ids targets names sorted → AreLinked ids targets vertices → IsBuilt ids vertices names sorted
 built {lines} {ids} {targets} {names} {sorted} vertices some r linked =
     let game : List GameVertex = vertices_in vertices names sorted in
     let is : identifiers game ≡ ids = identifiers_are vertices names sorted ∙ sym r.listed in
@@ -187,7 +220,16 @@ built {lines} {ids} {targets} {names} {sorted} vertices some r linked =
       game = (finished vertices some r linked).well;
       limits = record {
         vertices = omega (arith, r.few);
-        edges = omega (arith, r.few_edges, edges_back game game, ap edge_count back, sum_by-IsPermutation (λ (x : GameVertex). length x.successors) lines (vertices_in targets names sorted) r.same, ap length r.laid, length-flat_map (λ (x : GameVertex). x.successors) lines);
+        edges = omega (
+          arith,
+          r.few_edges,
+          edges_back game game,
+          ap edge_count back,
+          sum_by-IsPermutation (λ (x : GameVertex). length x.successors) lines
+              (vertices_in targets names sorted) r.same,
+          ap length r.laid,
+          length-flat_map (λ (x : GameVertex). x.successors) lines,
+        );
       };
       priorities = All-weaker (λ (x : GameVertex). x.priority ≤ 65535) (λ (x : GameVertex). x.priority ≤ 65536)
           (λ x le. omega arith) game (small_vertices targets vertices names sorted r.orderly);

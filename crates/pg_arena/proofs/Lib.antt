@@ -1,3 +1,4 @@
+pub mod Beside
 pub mod Rising
 pub mod Members
 pub mod Adding

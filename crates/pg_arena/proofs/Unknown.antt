@@ -1,19 +1,21 @@
 -- The first unknown successor of sorted entries is the least of the lines.
-use Rattle.std.proofs.Common.{◌≡◌, ℕ, zero, suc, ◌≤◌, ◌<◌, true, false, not, cond, eqb, List, [], ◌∷◌, map, Some, None, refl, sym, ap, subst, ◌∙◌, ◌⊎◌, arith, inl, inr, All}
+use Rattle.std.proofs.Common.{◌≡◌, ℕ, zero, suc, ◌≤◌, ◌<◌, true, false, not, cond, eqb, List, [], ◌∷◌, length, get_or, ◌+◌, map, drop, Option, Some, None, refl, sym, ap, subst, ◌∙◌, ◌⊎◌, arith, inl, inr, All}
 use Rattle.std.specs.Prelude.{slice_range, Contains, IsSome, option_map}
 use Rattle.std.specs.Option.{option_or}
 use Rattle.std.specs.List.{flat_map, AllByRecursion}
 use Rattle.std.specs.declared.vec.Vec.{Vec}
 use Rattle.std.specs.declared.alloc.Global.{Global}
+use Rattle.std.proofs.lemmas.List.{drop_more, drop_all}
 use Rattle.std.proofs.lemmas.Option.{some_pair_parts}
 use Rattle.std.proofs.lemmas.List.Elements.{All-head, All-tail, Contains-append_cases}
 use Rattle.std.proofs.lemmas.List.Sorted.{Contains-permutation, IsPermutation-sym, list_any-IsPermutation}
 use Rattle.std.proofs.lemmas.Map.Keys.{sorted_from_strictly_increasing}
 use Rattle.pg_arena.specs.declared.entry.Entry.{Entry}
 use Rattle.pg_arena.specs.Lines.{Line, is_named, IsUnknown, IsLeastUnknown}
-use Rattle.pg_arena.specs.Mirrors.Entries.{vertex_in, vertices_in, IsOrderly}
+use Rattle.pg_arena.specs.Mirrors.Entries.{Row, row_of, rows_in, entry_at, vertex_in, vertices_in, IsOrderly}
 use Rattle.pg_arena.specs.Mirrors.Links.{HasUnknown, unknown_in, first_unknown_in}
 use Rattle.pg_arena.proofs.Rising.{has, Up, up_sorted}
+use Rattle.pg_arena.proofs.Beside.{rows_long, row_at}
 use Rattle.pg_arena.proofs.Adding.{named_is}
 use Rattle.pg_arena.proofs.Finishing.{IsReady}
 
@@ -45,17 +47,32 @@ found_least : (ids ns : List ℕ) (n : ℕ) → Up ns → unknown_in ids ns ≡ 
 found_least ids [] n up h = absurd cc
 found_least ids (m ∷ ms) n up h =
     elim (has m ids) as (λ b. has m ids ≡ b → cond (not b) (Some m) (unknown_in ids ms) ≡ Some n → IsLeastOf ids (m ∷ ms) n) [
-      | true ↦ λ known h. (let rest = found_least ids ms n (up.1) h in
-          (contains_later m ms n (rest.0), rest.1, λ a c none. elim (contains_cases m ms a c) [ inl same ↦ (let wrong : true ≡ false = sym known ∙ ap (λ (k : ℕ). has k ids) (sym same) ∙ none in absurd cc) | inr later ↦ rest.2 a later none ]))
-      | false ↦ λ none h. (let same : m ≡ n = cc in
-          (subst (Contains (m ∷ ms)) same (contains_here m ms), subst (λ (k : ℕ). has k ids ≡ false) same none, λ a c other. elim (contains_cases m ms a c) [ inl e ↦ omega arith | inr later ↦ (let lt : m < a = all_contained (λ y. m < y) ms a (up.0) later in omega arith) ]))
+      | true ↦ λ known h. (let rest = found_least ids ms n (up.1) h in (
+        contains_later m ms n (rest.0),
+        rest.1,
+        λ a c none. elim
+            (contains_cases m ms a c) [
+              | inl same ↦ (let wrong : true ≡ false = sym known ∙ ap (λ (k : ℕ). has k ids) (sym same) ∙ none in absurd cc)
+              | inr later ↦ rest.2 a later none
+            ],
+      ))
+      | false ↦ λ none h. (let same : m ≡ n = cc in (
+        subst (Contains (m ∷ ms)) same (contains_here m ms),
+        subst (λ (k : ℕ). has k ids ≡ false) same none,
+        λ a c other. elim
+            (contains_cases m ms a c) [ inl e ↦ omega arith | inr later ↦ (let lt : m < a = all_contained (λ y. m < y) ms a (up.0) later in omega arith) ],
+      ))
     ] refl h
 
 none_unknown : (ids ns : List ℕ) → unknown_in ids ns ≡ None → (a : ℕ) → Contains ns a → has a ids ≡ false → ⊥
 none_unknown ids [] h a (k, lt, is) none = omega arith
 none_unknown ids (m ∷ ms) h a c none =
     elim (has m ids) as (λ b. has m ids ≡ b → cond (not b) (Some m) (unknown_in ids ms) ≡ None → ⊥) [
-      | true ↦ λ known h. elim (contains_cases m ms a c) [ inl same ↦ (let wrong : true ≡ false = sym known ∙ ap (λ (k : ℕ). has k ids) (sym same) ∙ none in absurd cc) | inr later ↦ none_unknown ids ms h a later none ]
+      | true ↦ λ known h. elim (contains_cases m ms a c) [
+        | inl same ↦ (let wrong : true ≡ false = sym known ∙ ap (λ (k : ℕ). has k ids) (sym same)
+            ∙ none in absurd cc)
+        | inr later ↦ none_unknown ids ms h a later none
+      ]
       | false ↦ λ known h. absurd cc
     ] refl h
 
@@ -73,74 +90,159 @@ record IsLeastBy (ids : List ℕ) (lines : List Line) (identifier successor : �
   pub least_identifier : (other any : ℕ) → IsUnknownBy ids lines other any → identifier ≤ other
   pub least_successor : (other : ℕ) → IsUnknownBy ids lines identifier other → successor ≤ other
 
-unknown_cases : (ids : List ℕ) (line : Line) (lines : List Line) (i s : ℕ) → IsUnknownBy ids (line ∷ lines) i s → ((line.identifier ≡ i) × Contains (line.successors) s × (has s ids ≡ false)) ⊎ IsUnknownBy ids lines i s
+unknown_cases : (ids : List ℕ) (line : Line) (lines : List Line) (i s : ℕ) → IsUnknownBy ids (line ∷ lines) i s
+    → ((line.identifier ≡ i) × Contains (line.successors) s × (has s ids ≡ false)) ⊎ IsUnknownBy ids lines i s
 unknown_cases ids line lines i s u = elim (contains_cases line lines u.line u.given) [
   | inl same ↦ inl (ap (λ (l : Line). l.identifier) (sym same) ∙ u.of, subst (λ (l : Line). Contains (l.successors) s) same u.leads, u.undefined)
   | inr later ↦ inr (record { line = u.line; given = later; of = u.of; leads = u.leads; undefined = u.undefined })
 ]
 
 unknown_later : (ids : List ℕ) (line : Line) (lines : List Line) (i s : ℕ) → IsUnknownBy ids lines i s → IsUnknownBy ids (line ∷ lines) i s
-unknown_later ids line lines i s u = record { line = u.line; given = contains_later line lines u.line u.given; of = u.of; leads = u.leads; undefined = u.undefined }
+unknown_later ids line lines i s u =
+    record { line = u.line; given = contains_later line lines u.line u.given; of = u.of; leads = u.leads; undefined = u.undefined }
 
 -- an unknown successor's line stands among later identifiers
-above : (ids targets : List ℕ) (names : Names) (entries : List Entry) (low i s : ℕ) → AllByRecursion (λ y. low < y) (map (λ e. e.identifier) entries) → IsUnknownBy ids (vertices_in targets names entries) i s → low < i
+above : (ids targets : List ℕ) (names : Names) (rows : List Row) (low i s : ℕ) → AllByRecursion (λ y. low < y) (map (λ e. e.identifier) rows)
+    → IsUnknownBy ids (vertices_in targets names rows) i s → low < i
 above ids targets names [] low i s all u = let lt = u.given.1 in absurd (omega arith)
-above ids targets names (e ∷ entries) low i s all u = elim (unknown_cases ids (vertex_in targets names e) (vertices_in targets names entries) i s u) [
+above ids targets names (e ∷ rows) low i s all u = elim (unknown_cases ids (vertex_in targets names e) (vertices_in targets names rows) i s u) [
   | inl here ↦ omega (arith, here.0, all.0)
-  | inr later ↦ above ids targets names entries low i s (all.1) later
+  | inr later ↦ above ids targets names rows low i s (all.1) later
 ]
 
-least_by : (ids targets : List ℕ) (names : Names) (entries : List Entry) (i s : ℕ) → Up (map (λ e. e.identifier) entries) → All IsOrderly (vertices_in targets names entries) → first_unknown_in ids targets entries ≡ Some (i, s) → IsLeastBy ids (vertices_in targets names entries) i s
+least_by : (ids targets : List ℕ) (names : Names) (rows : List Row) (i s : ℕ) → Up (map (λ e. e.identifier) rows)
+    → All IsOrderly (vertices_in targets names rows) → first_unknown_in ids targets rows ≡ Some (i, s) → IsLeastBy ids (vertices_in targets names rows) i s
 least_by ids targets names [] i s up orderly h = absurd cc
-least_by ids targets names (e ∷ entries) i s up orderly h =
+least_by ids targets names (e ∷ rows) i s up orderly h =
     let line = vertex_in targets names e in
-    let lines = vertices_in targets names entries in
+    let lines = vertices_in targets names rows in
     let ns : List ℕ = slice_range targets (e.from) (e.to) in
     let first = All-head IsOrderly line lines orderly in
     let rest = All-tail IsOrderly line lines orderly in
-    elim (unknown_in ids ns) as (λ o. unknown_in ids ns ≡ o → option_or (option_map (λ n. (e.identifier, n)) o) (first_unknown_in ids targets entries) ≡ Some (i, s) → IsLeastBy ids (line ∷ lines) i s) [
+    elim (unknown_in ids ns) as (λ o. unknown_in ids ns ≡ o
+    → option_or (option_map (λ n. (e.identifier, n)) o) (first_unknown_in ids targets rows) ≡ Some (i, s) → IsLeastBy ids (line ∷ lines) i s) [
       | Some n ↦ λ is h. (let p = some_pair_parts (e.identifier) i n s h in
           let f = found_least ids ns n (up_sorted ns (sorted_from_strictly_increasing ns first.rise)) is in
           record {
-            unknown = record { line = line; given = contains_here line lines; of = p.0; leads = subst (Contains ns) (p.1) (f.0); undefined = subst (λ (k : ℕ). has k ids ≡ false) (p.1) (f.1) };
-            least_identifier = λ o a u. elim (unknown_cases ids line lines o a u) [ inl here ↦ omega (arith, here.0, p.0) | inr later ↦ (let lt = above ids targets names entries (e.identifier) o a (up.0) later in omega (arith, p.0)) ];
-            least_successor = λ a u. elim (unknown_cases ids line lines i a u) [ inl here ↦ omega (arith, f.2 a (here.1) (here.2), p.1) | inr later ↦ (let lt = above ids targets names entries (e.identifier) i a (up.0) later in absurd (omega (arith, p.0))) ];
+            unknown = record {
+              line = line;
+              given = contains_here line lines;
+              of = p.0;
+              leads = subst (Contains ns) (p.1) (f.0);
+              undefined =
+                  subst (λ (k : ℕ). has k ids ≡ false) (p.1) (f.1);
+            };
+            least_identifier = λ o a u. elim (unknown_cases ids line lines o a u) [
+              | inl here ↦ omega (arith, here.0, p.0)
+              | inr later ↦ (let lt = above ids targets names rows (e.identifier) o a (up.0) later in omega (arith, p.0))
+            ];
+            least_successor = λ a u. elim (unknown_cases ids line lines i a u) [
+              | inl here ↦ omega (arith, f.2 a (here.1) (here.2), p.1)
+              | inr later ↦ (let lt = above ids targets names rows (e.identifier) i a (up.0) later in absurd (omega (arith, p.0)))
+            ];
           })
-      | None ↦ λ is h. (let r = least_by ids targets names entries i s (up.1) rest h in
+      | None ↦ λ is h. (let r = least_by ids targets names rows i s (up.1) rest h in
           record {
             unknown = unknown_later ids line lines i s r.unknown;
-            least_identifier = λ o a u. elim (unknown_cases ids line lines o a u) [ inl here ↦ absurd (none_unknown ids ns is a (here.1) (here.2)) | inr later ↦ r.least_identifier o a later ];
-            least_successor = λ a u. elim (unknown_cases ids line lines i a u) [ inl here ↦ absurd (none_unknown ids ns is a (here.1) (here.2)) | inr later ↦ r.least_successor a later ];
+            least_identifier = λ o a u. elim (unknown_cases ids line lines o a u) [
+              | inl here ↦ absurd (none_unknown ids ns is a (here.1) (here.2))
+              | inr later ↦ r.least_identifier o a later
+            ];
+            least_successor = λ a u. elim (unknown_cases ids line lines i a u) [
+              | inl here ↦ absurd (none_unknown ids ns is a (here.1) (here.2))
+              | inr later ↦ r.least_successor a later
+            ];
           })
     ] refl h
 
-none_by : (ids targets : List ℕ) (names : Names) (entries : List Entry) → first_unknown_in ids targets entries ≡ None → (i s : ℕ) → IsUnknownBy ids (vertices_in targets names entries) i s → ⊥
+none_by : (ids targets : List ℕ) (names : Names) (rows : List Row) → first_unknown_in ids targets rows ≡ None → (i s : ℕ)
+    → IsUnknownBy ids (vertices_in targets names rows) i s → ⊥
 none_by ids targets names [] h i s u = let lt = u.given.1 in omega arith
-none_by ids targets names (e ∷ entries) h i s u =
+none_by ids targets names (e ∷ rows) h i s u =
     let line = vertex_in targets names e in
-    let lines = vertices_in targets names entries in
+    let lines = vertices_in targets names rows in
     let ns : List ℕ = slice_range targets (e.from) (e.to) in
-    elim (unknown_in ids ns) as (λ o. unknown_in ids ns ≡ o → option_or (option_map (λ n. (e.identifier, n)) o) (first_unknown_in ids targets entries) ≡ None → ⊥) [
+    elim (unknown_in ids ns) as (λ o. unknown_in ids ns ≡ o → option_or (option_map (λ n. (e.identifier, n)) o) (first_unknown_in ids targets rows) ≡ None
+    → ⊥) [
       | Some n ↦ λ is h. absurd cc
-      | None ↦ λ is h. elim (unknown_cases ids line lines i s u) [ inl here ↦ none_unknown ids ns is s (here.1) (here.2) | inr later ↦ none_by ids targets names entries h i s later ]
+      | None ↦ λ is h. elim (unknown_cases ids line lines i s u) [
+        | inl here ↦ none_unknown ids ns is s (here.1) (here.2)
+        | inr later ↦ none_by ids targets names rows h i s later
+      ]
     ] refl h
+
+-- vertex by vertex
+pub unknown_here : (all targets ids : List ℕ) (places : List (Option ℕ)) (entries : List Entry) (v s : ℕ) → length ids ≡ length entries → v < length ids
+    → unknown_in all (slice_range targets (entry_at entries v).from (entry_at entries v).to) ≡ Some s
+    → first_unknown_in all targets (drop v (rows_in ids places entries)) ≡ Some (get_or ids v 0, s)
+unknown_here all targets ids places entries v s long lt is =
+    let rows : List Row = rows_in ids places entries in
+    let d : Row = row_of 0 None (entry_at [] 0) in
+    ap (first_unknown_in all targets) (drop_more rows v d (omega (arith, rows_long ids places entries long))
+    ∙ ap (λ (r : Row). r ∷ drop (v + 1) rows) (row_at ids places entries v d long lt))
+    ∙ ap (λ (o : Option ℕ). option_or (option_map (λ n. (get_or ids v 0, n)) o) (first_unknown_in all targets (drop (v + 1) rows))) is
+
+pub unknown_later_on : (all targets ids : List ℕ) (places : List (Option ℕ)) (entries : List Entry) (v : ℕ) → length ids ≡ length entries → v < length ids
+    → unknown_in all (slice_range targets (entry_at entries v).from (entry_at entries v).to) ≡ None
+    → first_unknown_in all targets (drop v (rows_in ids places entries)) ≡ first_unknown_in all targets (drop (v + 1) (rows_in ids places entries))
+unknown_later_on all targets ids places entries v long lt is =
+    let rows : List Row = rows_in ids places entries in
+    let d : Row = row_of 0 None (entry_at [] 0) in
+    ap (first_unknown_in all targets) (drop_more rows v d (omega (arith, rows_long ids places entries long))
+    ∙ ap (λ (r : Row). r ∷ drop (v + 1) rows) (row_at ids places entries v d long lt))
+    ∙ ap (λ (o : Option ℕ). option_or (option_map (λ n. (get_or ids v 0, n)) o) (first_unknown_in all targets (drop (v + 1) rows))) is
+
+pub no_unknown_left : (all targets ids : List ℕ) (places : List (Option ℕ)) (entries : List Entry) (v : ℕ) → length ids ≡ length entries → length ids ≤ v
+    → first_unknown_in all targets (drop v (rows_in ids places entries)) ≡ None
+no_unknown_left all targets ids places entries v long past =
+    ap (first_unknown_in all targets) (drop_all v (rows_in ids places entries) (omega (arith, rows_long ids places entries long)))
+
+-- names don't matter
+pub unknown_same : (all targets ids : List ℕ) (places other : List (Option ℕ)) (entries : List Entry)
+    → first_unknown_in all targets (rows_in ids places entries) ≡ first_unknown_in all targets (rows_in ids other entries)
+unknown_same all targets [] places other entries = refl
+unknown_same all targets (i ∷ ids) places other [] = refl
+unknown_same all targets (i ∷ ids) places other (e ∷ entries) =
+    ap (option_or (option_map (λ n. (i, n)) (unknown_in all (slice_range targets (e.from) (e.to)))))
+    (unknown_same all targets ids (drop 1 places) (drop 1 other) entries)
 
 -- ---- and so of the lines
 
-named_same : {lines : List Line} {ids targets : List ℕ} {names : Names} {sorted : List Entry} (q : ℕ) → IsReady lines ids targets names sorted → is_named lines q ≡ has q ids
-named_same {lines} {ids} {targets} {names} {sorted} q r = list_any-IsPermutation (λ (line : Line). eqb q line.identifier) lines (vertices_in targets names sorted) r.same ∙ named_is targets names sorted q ∙ ap (has q) (sym r.listed)
+named_same : {lines : List Line} {ids targets : List ℕ} {names : Names} {sorted : List Row} (q : ℕ) → IsReady lines ids targets names sorted
+    → is_named lines q ≡ has q ids
+named_same {lines} {ids} {targets} {names} {sorted} q r =
+    list_any-IsPermutation (λ (line : Line). eqb q line.identifier) lines (vertices_in targets names sorted) r.same ∙ named_is targets names sorted q
+    ∙ ap (has q) (sym r.listed)
 
-to_lines : {lines : List Line} {ids targets : List ℕ} {names : Names} {sorted : List Entry} (i s : ℕ) → IsReady lines ids targets names sorted → IsUnknownBy ids (vertices_in targets names sorted) i s → IsUnknown lines i s
+to_lines : {lines : List Line} {ids targets : List ℕ} {names : Names} {sorted : List Row} (i s : ℕ) → IsReady lines ids targets names sorted
+    → IsUnknownBy ids (vertices_in targets names sorted) i s → IsUnknown lines i s
 to_lines {lines} {ids} {targets} {names} {sorted} i s r u =
-    record { line = u.line; given = Contains-permutation (vertices_in targets names sorted) lines u.line (IsPermutation-sym lines (vertices_in targets names sorted) r.same) u.given; of = u.of; leads = u.leads; undefined = named_same s r ∙ u.undefined }
+    record {
+      line = u.line;
+      given =
+          Contains-permutation (vertices_in targets names sorted) lines u.line (IsPermutation-sym lines (vertices_in targets names sorted) r.same) u.given;
+      of =
+          u.of;
+      leads = u.leads;
+      undefined = named_same s r ∙ u.undefined;
+    }
 
-from_lines : {lines : List Line} {ids targets : List ℕ} {names : Names} {sorted : List Entry} (i s : ℕ) → IsReady lines ids targets names sorted → IsUnknown lines i s → IsUnknownBy ids (vertices_in targets names sorted) i s
+from_lines : {lines : List Line} {ids targets : List ℕ} {names : Names} {sorted : List Row} (i s : ℕ) → IsReady lines ids targets names sorted
+    → IsUnknown lines i s → IsUnknownBy ids (vertices_in targets names sorted) i s
 from_lines {lines} {ids} {targets} {names} {sorted} i s r u =
-    record { line = u.line; given = Contains-permutation lines (vertices_in targets names sorted) u.line r.same u.given; of = u.of; leads = u.leads; undefined = sym (named_same s r) ∙ u.undefined }
+    record {
+      line = u.line;
+      given = Contains-permutation lines (vertices_in targets names sorted) u.line r.same u.given;
+      of = u.of;
+      leads = u.leads;
+      undefined =
+          sym (named_same s r) ∙ u.undefined;
+    }
 
-pub least_unknown : {lines : List Line} {ids targets : List ℕ} {names : Names} {sorted : List Entry} (i s : ℕ) → IsReady lines ids targets names sorted → first_unknown_in ids targets sorted ≡ Some (i, s) → IsLeastUnknown lines i s
+pub least_unknown : {lines : List Line} {ids targets : List ℕ} {names : Names} {sorted : List Row} (i s : ℕ) → IsReady lines ids targets names sorted
+    → first_unknown_in ids targets sorted ≡ Some (i, s) → IsLeastUnknown lines i s
 least_unknown {lines} {ids} {targets} {names} {sorted} i s r h =
-    let up : Up (map (λ (e : Entry). e.identifier) sorted) = subst Up r.listed (up_sorted ids (sorted_from_strictly_increasing ids r.rising)) in
+    let up : Up (map (λ (e : Row). e.identifier) sorted) = subst Up r.listed (up_sorted ids (sorted_from_strictly_increasing ids r.rising)) in
     let l = least_by ids targets names sorted i s up r.orderly h in
     record {
       unknown = to_lines i s r l.unknown;
@@ -148,14 +250,16 @@ least_unknown {lines} {ids} {targets} {names} {sorted} i s r h =
       least_successor = λ a u. l.least_successor a (from_lines i a r u);
     }
 
-in_line : (lines : List Line) (n : ℕ) → Contains (flat_map (λ line. line.successors) lines) n → (line : Line) × Contains lines line × Contains (line.successors) n
+in_line : (lines : List Line) (n : ℕ) → Contains (flat_map (λ line. line.successors) lines) n
+    → (line : Line) × Contains lines line × Contains (line.successors) n
 in_line [] n (k, lt, is) = absurd (omega arith)
 in_line (line ∷ lines) n c = elim (Contains-append_cases (line.successors) (flat_map (λ (l : Line). l.successors) lines) n c) [
   | inl here ↦ (line, contains_here line lines, here)
   | inr later ↦ (let p = in_line lines n later in (p.0, contains_later line lines (p.0) (p.1), p.2))
 ]
 
-pub some_unknown : {lines : List Line} {ids targets : List ℕ} {names : Names} {sorted : List Entry} → IsReady lines ids targets names sorted → HasUnknown ids targets → IsSome (first_unknown_in ids targets sorted)
+pub some_unknown : {lines : List Line} {ids targets : List ℕ} {names : Names} {sorted : List Row} → IsReady lines ids targets names sorted
+    → HasUnknown ids targets → IsSome (first_unknown_in ids targets sorted)
 some_unknown {lines} {ids} {targets} {names} {sorted} r (n, there, none) =
     let l = in_line lines n (subst (λ (ts : List ℕ). Contains ts n) r.laid there) in
     let u : IsUnknown lines ((l.0).identifier) n = record { line = l.0; given = l.1; of = refl; leads = l.2; undefined = named_same n r ∙ none } in

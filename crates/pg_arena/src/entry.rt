@@ -6,15 +6,13 @@ ghost use Rattle.pg_arena.specs.Mirrors.Entries.{dual_entry};
 use crate::limits::MAX_PRIORITY;
 use crate::player::Player;
 
-/// A vertex whose successors stand from `from` to `to` in a list of all, and its name at `name` in another.
+/// A vertex but for its identifier and its name. Its successors stand from `from` to `to` in a list of all.
 #[derive(Clone, Copy, Debug)]
 pub(crate) struct Entry {
-    pub identifier: u32,
     pub priority: u32,
     pub owner: Player,
     pub from: u32,
     pub to: u32,
-    pub name: Option<u32>,
 }
 
 impl Entry {
@@ -24,12 +22,10 @@ impl Entry {
         ensures { result ≡ dual_entry self }
     {
         Entry {
-            identifier: self.identifier,
             priority: self.priority + 1,
             owner: self.owner.opponent(),
             from: self.from,
             to: self.to,
-            name: self.name,
         }
     }
 }

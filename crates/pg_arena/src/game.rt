@@ -2,7 +2,7 @@
 
 ghost use Rattle.std.specs.Prelude.{◌^◌, ◌≡◌, ◌≢◌, ℕ, ◌<◌, length, ◌≤◌, All, map, option_copied, IfSome, IfNone, IfOk, IfErr};
 ghost use Rattle.pg_arena.specs.Games.{IsGame, IsWithinLimits, HasPrioritiesUpTo, dual, vertex_at, identifier, priority, owner, successors, name};
-ghost use Rattle.pg_arena.specs.Mirrors.Entries.{dual_entry, texts};
+ghost use Rattle.pg_arena.specs.Mirrors.Entries.{name_in, dual_entry};
 ghost use Rattle.pg_arena.specs.declared.fault.ArenaFault.TheVariants.{OutOfMemory};
 
 use crate::entry::Entry;
@@ -10,49 +10,71 @@ use crate::fault::ArenaFault;
 use crate::limits::MAX_PRIORITY;
 use crate::place::place_of;
 use crate::player::Player;
+use crate::rows::{Rows, place_at};
 use crate::vertex::Vertex;
 use std::alloc::{AllocError, Global};
 use std::marker::Model;
+use std::rc::Rc;
 
 /// A parity game. Contracts see the list of its vertices by rising identifier.
 #[derive(Drop)]
 pub struct Game {
-    identifiers: Vec<u32>,
     entries: Vec<Entry>,
+    shared: Rc<Shared>,
+}
+
+/// What a game has in common with its dual.
+#[derive(Drop)]
+pub(crate) struct Shared {
+    identifiers: Vec<u32>,
     targets: Vec<Vertex>,
+    places: Vec<Option<u32>>,
     names: Vec<Vec<u8>>,
 }
 
 impl Model for Game {
     ghost use Rattle.std.specs.Prelude.{List};
     ghost use Rattle.pg_arena.specs.Games.{GameVertex};
-    ghost use Rattle.pg_arena.specs.Mirrors.Entries.{vertices_in, IsBuilt};
+    ghost use Rattle.pg_arena.specs.Mirrors.Entries.{vertices_in, rows_in, IsBuiltIn};
 
     ghost Value = { List GameVertex };
 
-    ghost view = { λ g. vertices_in g.targets.items g.names.items g.entries.items };
+    ghost view = { λ g. vertices_in g.shared.value.targets.items g.shared.value.names.items
+        (rows_in g.shared.value.identifiers.items g.shared.value.places.items g.entries.items) };
 
-    ghost invariant = { λ g. IsBuilt g.identifiers.items g.targets.items g.names.items g.entries.items };
+    ghost invariant = { λ g. IsBuiltIn g.shared.value.identifiers.items g.shared.value.targets.items
+        g.shared.value.names.items g.shared.value.places.items g.entries.items };
 }
 
 impl Game {
-    ghost use Rattle.pg_arena.specs.Mirrors.Entries.{vertices_in, IsBuilt};
+    ghost use Rattle.pg_arena.specs.Mirrors.Entries.{vertices_in, rows_in, IsBuiltIn};
 
     pub(crate) fn from_parts(
-        identifiers: Vec<u32>,
-        entries: Vec<Entry>,
+        alloc: Global,
+        rows: Rows,
         targets: Vec<Vertex>,
         names: Vec<Vec<u8>>,
-    ) -> Game
-        requires { IsBuilt identifiers.items targets.items names.items entries.items }
-        ensures { result ≡ vertices_in targets.items names.items entries.items }
+    ) -> Result<Game, ArenaFault>
+        requires { IsBuiltIn rows.identifiers.items targets.items names.items rows.places.items rows.entries.items }
+        ensures game { IfOk result (λ game. game ≡ vertices_in targets.items names.items
+            (rows_in rows.identifiers.items rows.places.items rows.entries.items)) }
+        ensures fault { IfErr result (λ e. e ≡ OutOfMemory) }
     {
-        Game {
+        let Rows {
             identifiers,
             entries,
-            targets,
-            names,
-        }
+            places,
+        } = rows;
+        let shared = Rc::new(
+            alloc,
+            Shared {
+                identifiers,
+                targets,
+                places,
+                names,
+            },
+        )?;
+        Ok(Game { entries, shared })
     }
 
     /// How many vertices it has: at least 1 and at most 1,048,576.
@@ -63,7 +85,7 @@ impl Game {
         ensures priorities { HasPrioritiesUpTo 65536 self.now }
         ensures identifiers { All (λ x. x.identifier < 2 ^ 32) self.now }
     {
-        let identifiers = self.identifiers.as_slice();
+        let identifiers = self.shared.identifiers.as_slice();
         identifiers.len()
     }
 
@@ -72,7 +94,7 @@ impl Game {
         requires { v < length self.now }
         ensures { result ≡ identifier self.now v }
     {
-        self.entries[v.0 as usize].identifier
+        self.shared.identifiers[v.0 as usize]
     }
 
     /// The priority of a vertex: at most 65,535, or 65,536 in a dual.
@@ -97,7 +119,7 @@ impl Game {
         ensures { result.now ≡ successors self.now v }
     {
         let entry = &self.entries[v.0 as usize];
-        &self.targets[entry.from as usize..entry.to as usize]
+        &self.shared.targets[entry.from as usize..entry.to as usize]
     }
 
     /// The name of a vertex, where it has one.
@@ -105,10 +127,8 @@ impl Game {
         requires { v < length self.now }
         ensures { option_copied result ≡ name self.now v }
     {
-        match self.entries[v.0 as usize].name {
-            Some(place) => self.names.get(place as usize).map(|name| name.as_slice()),
-            None => None,
-        }
+        let place = place_at(&self.shared.places, v.0 as usize);
+        name_at(&self.shared.names, place)
     }
 
     /// The vertex with this identifier, if there is one. It takes a binary search, or one look where no identifier
@@ -120,7 +140,7 @@ impl Game {
         ensures only { (v : ℕ) → v < length self.now → (vertex_at self.now v).identifier ≡ identifier
             → result ≡ Some v }
     {
-        match place_of(&self.identifiers, identifier) {
+        match place_of(&self.shared.identifiers, identifier) {
             Some(place) => Some(Vertex(place as u32)),
             None => None,
         }
@@ -129,16 +149,24 @@ impl Game {
 
 /// The dual of a game: owners swapped and each priority raised by one, identifiers, names and edges kept. A player wins
 /// in it what the other player wins in the game. No priority may be over 65,535. Refuses only with `OutOfMemory`.
+/// Identifiers, names and edges stand in memory once for both.
 pub fn dual(alloc: Global, game: &Game) -> Result<Game, ArenaFault>
     requires { HasPrioritiesUpTo MAX_PRIORITY game.now }
     ensures dual { IfOk result (λ d. d ≡ dual game.now) }
     ensures fault { IfErr result (λ e. e ≡ OutOfMemory) }
 {
-    let identifiers = Vec::from_slice(alloc, &game.identifiers)?;
     let entries = dual_entries(alloc, &game.entries)?;
-    let targets = Vec::from_slice(alloc, &game.targets)?;
-    let names = copied(alloc, &game.names)?;
-    Ok(Game::from_parts(identifiers, entries, targets, names))
+    let shared = game.shared.clone()?;
+    Ok(Game { entries, shared })
+}
+
+fn name_at(names: &[Vec<u8>], place: Option<u32>) -> Option<&[u8]>
+    ensures { option_copied result ≡ name_in names.now place }
+{
+    match place {
+        Some(place) => names.get(place as usize).map(|name| name.as_slice()),
+        None => None,
+    }
 }
 
 fn dual_entries(alloc: Global, entries: &[Entry]) -> Result<Vec<Entry>, AllocError>
@@ -148,16 +176,6 @@ fn dual_entries(alloc: Global, entries: &[Entry]) -> Result<Vec<Entry>, AllocErr
     let mut list = Vec::with_capacity(alloc, entries.len())?;
     for entry in entries {
         list.push(entry.dual())?;
-    }
-    Ok(list)
-}
-
-fn copied(alloc: Global, names: &[Vec<u8>]) -> Result<Vec<Vec<u8>>, AllocError>
-    ensures { IfOk result (λ list. texts list.items ≡ texts names.now) }
-{
-    let mut list = Vec::with_capacity(alloc, names.len())?;
-    for name in names {
-        list.push(Vec::from_slice(alloc, name)?)?;
     }
     Ok(list)
 }

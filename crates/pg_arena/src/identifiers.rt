@@ -2,7 +2,7 @@
 
 ghost use Rattle.std.specs.Prelude.{◌≡◌, ℕ, ◌++◌, ◌∷◌, [], ◌==◌, IsTrue, IfOk, OnOk, OnErr};
 ghost use Rattle.std.specs.List.{list_any};
-ghost use Rattle.std.specs.List.Sorted.{IsPermutation, IsNonDecreasing, IsStrictlyIncreasing};
+ghost use Rattle.std.specs.List.Sorted.{IsStrictlyIncreasing};
 ghost use Rattle.std.specs.Ordering.{nat_cmp};
 ghost use Rattle.std.specs.BTreeSet.{contains};
 ghost use Rattle.pg_arena.specs.Mirrors.Entries.{AreTold};
@@ -69,19 +69,15 @@ impl Identifiers {
         Ok(())
     }
 
-    /// The identifiers from the least to the greatest.
-    pub fn into_sorted(self) -> Vec<u32>
-        ensures permutation { IsPermutation self result.items }
-        ensures sorted { IsNonDecreasing result.items }
+    /// The list of them.
+    pub fn into_list(self) -> Vec<u32>
+        ensures { result.items ≡ self }
     {
         let Identifiers {
-            mut list,
-            set,
+            list,
+            set: _,
             alloc: _,
         } = self;
-        if set.is_some() {
-            list.sort_unstable();
-        }
         list
     }
 }

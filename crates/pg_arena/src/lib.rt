@@ -11,6 +11,7 @@ mod lines;
 mod link;
 mod place;
 mod player;
+mod rows;
 mod vertex;
 
 pub use builder::GameBuilder;

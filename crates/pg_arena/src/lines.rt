@@ -1,10 +1,10 @@
 //! Lines whose successors rise, and the game that they make.
 
-ghost use Rattle.std.specs.Prelude.{◌≡◌, ◌++◌, ◌∷◌, [], ◌<◌, IsTrue, OnOk, OnErr, IfOk, IfErr, map, nat_eq, option_map, option_copied, option_to_list, length, vec_len, vec_capacity};
-ghost use Rattle.std.specs.List.{IsDistinct};
-ghost use Rattle.std.specs.List.Sorted.{IsStrictlyIncreasing, IsPermutation};
+ghost use Rattle.std.specs.Prelude.{◌≡◌, ℕ, ◌+◌, ◌++◌, ◌∷◌, [], ◌<◌, ◌≤◌, IsTrue, OnOk, OnErr, IfOk, IfErr, IsSome, option_map, option_copied, option_to_list, length, vec_len, vec_capacity};
+ghost use Rattle.std.specs.List.Sorted.{IsStrictlyIncreasing};
 ghost use Rattle.pg_arena.specs.Games.{HasPrioritiesUpTo};
 ghost use Rattle.pg_arena.specs.Lines.{Line, add_fault, Answers, IsGameOf, FinishFails};
+ghost use Rattle.pg_arena.specs.Mirrors.Entries.{place_at};
 
 use crate::entry::Entry;
 use crate::fault::ArenaFault;
@@ -13,15 +13,18 @@ use crate::identifiers::Identifiers;
 use crate::limits::{MAX_EDGES, MAX_PRIORITY, MAX_VERTICES};
 use crate::link::{first_unknown, linked};
 use crate::player::Player;
+use crate::rows::rows_by_identifier;
 use std::alloc::{AllocError, Global};
 use std::marker::Model;
 
-/// The lines in the order in which they came. Targets are identifiers.
+/// The lines in the order in which they came. Targets are identifiers. The name of a line stands in the list of names,
+/// and where it does in the list of places, which ends with the last line that has a name.
 #[derive(Drop)]
 pub(crate) struct Lines {
     identifiers: Identifiers,
     entries: Vec<Entry>,
     targets: Vec<u32>,
+    places: Vec<Option<u32>>,
     names: Vec<Vec<u8>>,
     alloc: Global,
 }
@@ -29,13 +32,14 @@ pub(crate) struct Lines {
 impl Model for Lines {
     ghost use Rattle.std.specs.Prelude.{List};
     ghost use Rattle.pg_arena.specs.Lines.{Line};
-    ghost use Rattle.pg_arena.specs.Mirrors.Entries.{vertices_in, AreKept};
+    ghost use Rattle.pg_arena.specs.Mirrors.Entries.{vertices_in, rows_in, AreKeptIn};
 
     ghost Value = { List Line };
 
-    ghost view = { λ l. vertices_in l.targets.items l.names.items l.entries.items };
+    ghost view = { λ l. vertices_in l.targets.items l.names.items
+        (rows_in l.identifiers l.places.items l.entries.items) };
 
-    ghost invariant = { λ l. AreKept l.identifiers l.targets.items l.names.items l.entries.items };
+    ghost invariant = { λ l. AreKeptIn l.identifiers l.targets.items l.names.items l.places.items l.entries.items };
 }
 
 impl Lines {
@@ -46,6 +50,7 @@ impl Lines {
             identifiers: Identifiers::new(alloc),
             entries: Vec::new(alloc),
             targets: Vec::new(alloc),
+            places: Vec::new(alloc),
             names: Vec::new(alloc),
             alloc,
         }
@@ -97,19 +102,18 @@ impl Lines {
         }
         let to = from + successors.len();
         let name = copied(self.alloc, name)?;
-        self.names.reserve(1)?;
+        let line = self.entries.len();
+        make_room(&mut self.names, &mut self.places, line, name.is_some())?;
         self.targets.reserve(successors.len())?;
         self.entries.reserve(1)?;
         self.identifiers.push(identifier)?;
         self.targets.extend_from_slice(successors).unwrap();
-        let name = keep(&mut self.names, name);
+        keep(&mut self.names, &mut self.places, line, name);
         let entry = Entry {
-            identifier,
             priority,
             owner,
             from: from as u32,
             to: to as u32,
-            name,
         };
         self.entries.push(entry).unwrap();
         Ok(())
@@ -125,37 +129,23 @@ impl Lines {
             identifiers,
             entries,
             targets,
+            places,
             names,
             alloc,
         } = self;
         if entries.is_empty() {
             return Err(ArenaFault::NoVertex);
         }
-        let entries = sorted(entries, identifiers.rise());
-        let identifiers = identifiers.into_sorted();
-        match linked(alloc, &identifiers, &targets)? {
-            Some(vertices) => Ok(Game::from_parts(identifiers, entries, vertices, names)),
+        let rows = rows_by_identifier(alloc, identifiers, entries, places)?;
+        match linked(alloc, &rows.identifiers, &targets)? {
+            Some(vertices) => Game::from_parts(alloc, rows, vertices, names),
             None => {
-                let first = first_unknown(&identifiers, &entries, &targets);
+                let first = first_unknown(&rows.identifiers, &rows.entries, &targets);
                 let (identifier, successor) = first.unwrap();
                 Err(ArenaFault::UnknownSuccessor(identifier, successor))
             }
         }
     }
-}
-
-/// The entries by rising identifier, as they stand already if `rise` says so.
-fn sorted(mut entries: Vec<Entry>, rise: bool) -> Vec<Entry>
-    requires distinct { IsDistinct nat_eq (map (λ e. e.identifier) entries.items) }
-    requires rise { IsTrue rise → IsStrictlyIncreasing (map (λ e. e.identifier) entries.items) }
-    ensures permutation { IsPermutation entries.items result.items }
-    ensures rising { IsStrictlyIncreasing (map (λ e. e.identifier) result.items) }
-{
-    if rise {
-        return entries;
-    }
-    entries.sort_unstable_by_key(|entry| entry.identifier);
-    entries
 }
 
 fn copied(alloc: Global, name: Option<&[u8]>) -> Result<Option<Vec<u8>>, AllocError>
@@ -167,15 +157,42 @@ fn copied(alloc: Global, name: Option<&[u8]>) -> Result<Option<Vec<u8>>, AllocEr
     }
 }
 
-/// Puts a name behind the others, for which there is room, and answers its place.
-fn keep(names: &mut Vec<Vec<u8>>, name: Option<Vec<u8>>) -> Option<u32>
-    requires room { vec_len names.old < vec_capacity names.old }
-    requires few { length names.old.items < MAX_VERTICES }
-    ensures names { names.new.items ≡ names.old.items ++ option_to_list name }
-    ensures place { result ≡ option_map (λ _. length names.old.items) name }
+/// Makes room for one more name, if the line has one, and for its place.
+fn make_room(
+    names: &mut Vec<Vec<u8>>,
+    places: &mut Vec<Option<u32>>,
+    line: usize,
+    named: bool,
+) -> Result<(), AllocError>
+    requires few { length places.old.items ≤ line }
+    requires fits { line < MAX_VERTICES }
+    ensures names { names.new.items ≡ names.old.items }
+    ensures places { places.new.items ≡ places.old.items }
+    ensures room { OnOk result (IsTrue named → vec_len names.new < vec_capacity names.new) }
+    ensures room_for_place { OnOk result (IsTrue named → line < vec_capacity places.new) }
 {
-    let name = name?;
-    let place = names.len() as u32;
-    names.push(name).unwrap();
-    Some(place)
+    if !named {
+        return Ok(());
+    }
+    names.reserve(1)?;
+    places.reserve(line + 1 - places.len())
+}
+
+/// Puts a name behind the others, and notes its place behind those of all lines before this one. There is room for both.
+fn keep(names: &mut Vec<Vec<u8>>, places: &mut Vec<Option<u32>>, line: usize, name: Option<Vec<u8>>)
+    requires room { IsSome name → vec_len names.old < vec_capacity names.old }
+    requires room_for_place { IsSome name → line < vec_capacity places.old }
+    requires few { length names.old.items < MAX_VERTICES }
+    requires few_places { length places.old.items ≤ line }
+    ensures names { names.new.items ≡ names.old.items ++ option_to_list name }
+    ensures same { (v : ℕ) → v < line → place_at places.new.items v ≡ place_at places.old.items v }
+    ensures place { place_at places.new.items line ≡ option_map (λ _. length names.old.items) name }
+    ensures few_places { length places.new.items ≤ line + 1 }
+{
+    if let Some(name) = name {
+        let place = names.len() as u32;
+        names.push(name).unwrap();
+        places.resize(line, None).unwrap();
+        places.push(Some(place)).unwrap();
+    }
 }

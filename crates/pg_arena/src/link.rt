@@ -1,8 +1,8 @@
 //! Successors by identifier made vertices.
 
-ghost use Rattle.std.specs.Prelude.{◌≡◌, ◌<◌, ◌≤◌, length, not, IfOk, MatchOption};
+ghost use Rattle.std.specs.Prelude.{◌≡◌, ◌<◌, ◌≤◌, [], length, not, IfOk, MatchOption};
 ghost use Rattle.std.specs.List.Sorted.{IsStrictlyIncreasing};
-ghost use Rattle.pg_arena.specs.Mirrors.Entries.{AreWithin};
+ghost use Rattle.pg_arena.specs.Mirrors.Entries.{HaveRanges, rows_in};
 ghost use Rattle.pg_arena.specs.Mirrors.Links.{is_among, AreLinked, HasUnknown, unknown_in, first_unknown_in};
 
 use crate::entry::Entry;
@@ -32,20 +32,21 @@ pub(crate) fn linked(
     Ok(Some(vertices))
 }
 
-/// The first entry with a successor that is no vertex, by its identifier, and there the first such successor.
+/// The first vertex with a successor that is no vertex, by its identifier, and there the first such successor.
 pub(crate) fn first_unknown(
     identifiers: &[u32],
     entries: &[Entry],
     targets: &[u32],
 ) -> Option<(u32, u32)>
-    requires within { AreWithin targets.now entries.now }
+    requires as_many { length identifiers.now ≡ length entries.now }
+    requires within { HaveRanges targets.now entries.now }
     requires rising { IsStrictlyIncreasing identifiers.now }
-    ensures { result ≡ first_unknown_in identifiers.now targets.now entries.now }
+    ensures { result ≡ first_unknown_in identifiers.now targets.now (rows_in identifiers.now [] entries.now) }
 {
-    for entry in entries {
+    for (v, entry) in entries.iter().enumerate() {
         let successors = &targets[entry.from as usize..entry.to as usize];
         if let Some(successor) = unknown_in(identifiers, successors) {
-            return Some((entry.identifier, successor));
+            return Some((identifiers[v], successor));
         }
     }
     None

@@ -2,7 +2,7 @@
 use Rattle.std.specs.Prelude.{◌≡◌, ℕ, ◌<◌, ◌==◌, Bool, not, false, List, [], ◌∷◌, length, map, Option, None, slice_range, slice_index, option_map, All, Contains}
 use Rattle.std.specs.List.{list_any, find}
 use Rattle.std.specs.Option.{option_or}
-use Rattle.pg_arena.specs.declared.entry.Entry.{Entry}
+use Rattle.pg_arena.specs.Mirrors.Entries.{Row}
 
 abbrev pub is_among : List ℕ → ℕ → Bool
 is_among identifiers n = list_any (λ x. n == x) identifiers
@@ -20,9 +20,9 @@ HasUnknown identifiers targets = (n : ℕ) × Contains targets n × (is_among id
 abbrev pub unknown_in : List ℕ → List ℕ → Option ℕ
 unknown_in identifiers numbers = find (λ n. not (is_among identifiers n)) numbers
 
--- the first entry's identifier with its first successor that is no identifier
-abbrev pub first_unknown_in : List ℕ → List ℕ → List Entry → Option (ℕ × ℕ)
+-- the first vertex's identifier with its first successor that is no identifier
+abbrev pub first_unknown_in : List ℕ → List ℕ → List Row → Option (ℕ × ℕ)
 first_unknown_in identifiers targets [] = None
-first_unknown_in identifiers targets (e ∷ entries) = option_or
-    (option_map (λ n. (e.identifier, n)) (unknown_in identifiers (slice_range targets e.from e.to)))
-    (first_unknown_in identifiers targets entries)
+first_unknown_in identifiers targets (r ∷ rows) = option_or
+    (option_map (λ n. (r.identifier, n)) (unknown_in identifiers (slice_range targets r.from r.to)))
+    (first_unknown_in identifiers targets rows)

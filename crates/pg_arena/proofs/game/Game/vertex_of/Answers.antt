@@ -1,38 +1,44 @@
-use Rattle.std.proofs.Common.{◌≡◌, ◌<◌, false, List, ℕ, length}
+use Rattle.std.proofs.Common.{◌≡◌, ◌∙◌, ◌<◌, false, List, ℕ, length, ap}
 use Rattle.std.specs.Prelude.{slice_index}
+use Rattle.pg_arena.specs.declared.game.Shared.{Shared}
 use Rattle.pg_arena.specs.Mirrors.Links.{is_among}
 use Rattle.pg_arena.proofs.Vertices.{listed_by, found, missing, only_one}
 use Rattle.pg_arena.proofs.game.Game.vertex_of.Goals as goal
 
 pub place_of-requires : goal.place_of-requires
-place_of-requires c = rw c.deref.ensures.value (listed_by c.args.self.now c.self.invariant c.self.view_is).rising
+place_of-requires c = rw (c.deref-2.ensures.value ∙ ap (λ (s : Shared). s.identifiers.items) c.deref.ensures)
+    (listed_by c.args.self.now c.self.invariant.built c.self.view_is).rising
 
 pub returns-in-Some-clause-found : goal.returns-in-Some-clause-found
 returns-in-Some-clause-found c =
-    let ids : List ℕ = c.self.inside.identifiers.items in
-    let l = listed_by c.args.self.now c.self.invariant c.self.view_is in
-    let lt : c.in-Some.place < length ids = rw (← c.deref.ensures.value) c.in-Some.ensures.within in
-    let is : slice_index ids c.in-Some.place ≡ c.args.identifier = rw (← c.deref.ensures.value) c.in-Some.ensures.found in
+    let ids : List ℕ = c.self.inside.shared.value.identifiers.items in
+    let ids-are : c.deref-2.result.now ≡ ids = c.deref-2.ensures.value ∙ ap (λ (s : Shared). s.identifiers.items) c.deref.ensures in
+    let l = listed_by c.args.self.now c.self.invariant.built c.self.view_is in
+    let lt : c.in-Some.place < length ids = rw (← ids-are) c.in-Some.ensures.within in
+    let is : slice_index ids c.in-Some.place ≡ c.args.identifier = rw (← ids-are) c.in-Some.ensures.found in
     found ids c.args.self.now c.args.identifier c.in-Some.place l lt is
 
 pub returns-in-Some-clause-only : goal.returns-in-Some-clause-only
 returns-in-Some-clause-only c =
-    let ids : List ℕ = c.self.inside.identifiers.items in
-    let l = listed_by c.args.self.now c.self.invariant c.self.view_is in
-    let lt : c.in-Some.place < length ids = rw (← c.deref.ensures.value) c.in-Some.ensures.within in
-    let is : slice_index ids c.in-Some.place ≡ c.args.identifier = rw (← c.deref.ensures.value) c.in-Some.ensures.found in
+    let ids : List ℕ = c.self.inside.shared.value.identifiers.items in
+    let ids-are : c.deref-2.result.now ≡ ids = c.deref-2.ensures.value ∙ ap (λ (s : Shared). s.identifiers.items) c.deref.ensures in
+    let l = listed_by c.args.self.now c.self.invariant.built c.self.view_is in
+    let lt : c.in-Some.place < length ids = rw (← ids-are) c.in-Some.ensures.within in
+    let is : slice_index ids c.in-Some.place ≡ c.args.identifier = rw (← ids-are) c.in-Some.ensures.found in
     λ v within named. only_one ids c.args.self.now c.args.identifier c.in-Some.place v l lt is within named
 
 pub returns-in-None-clause-missing : goal.returns-in-None-clause-missing
 returns-in-None-clause-missing c =
-    let ids : List ℕ = c.self.inside.identifiers.items in
-    let l = listed_by c.args.self.now c.self.invariant c.self.view_is in
-    let none : is_among ids c.args.identifier ≡ false = rw (← c.deref.ensures.value) c.in-None.ensures.missing in
+    let ids : List ℕ = c.self.inside.shared.value.identifiers.items in
+    let ids-are : c.deref-2.result.now ≡ ids = c.deref-2.ensures.value ∙ ap (λ (s : Shared). s.identifiers.items) c.deref.ensures in
+    let l = listed_by c.args.self.now c.self.invariant.built c.self.view_is in
+    let none : is_among ids c.args.identifier ≡ false = rw (← ids-are) c.in-None.ensures.missing in
     missing ids c.args.self.now c.args.identifier l none
 
 pub returns-in-None-clause-only : goal.returns-in-None-clause-only
 returns-in-None-clause-only c =
-    let ids : List ℕ = c.self.inside.identifiers.items in
-    let l = listed_by c.args.self.now c.self.invariant c.self.view_is in
-    let none : is_among ids c.args.identifier ≡ false = rw (← c.deref.ensures.value) c.in-None.ensures.missing in
+    let ids : List ℕ = c.self.inside.shared.value.identifiers.items in
+    let ids-are : c.deref-2.result.now ≡ ids = c.deref-2.ensures.value ∙ ap (λ (s : Shared). s.identifiers.items) c.deref.ensures in
+    let l = listed_by c.args.self.now c.self.invariant.built c.self.view_is in
+    let none : is_among ids c.args.identifier ≡ false = rw (← ids-are) c.in-None.ensures.missing in
     λ v within named. absurd (missing ids c.args.self.now c.args.identifier l none v within named)
