@@ -1,4 +1,6 @@
 pub mod Tables
+pub mod Places
+pub mod Sharing
 pub mod Bests
 pub mod Lifts
 pub mod Above

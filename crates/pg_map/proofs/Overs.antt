@@ -1,13 +1,14 @@
 -- A lift over the best successor.
-use Rattle.std.proofs.Common.{◌≡◌, ℕ, ◌<◌, Bool, true, false, Some, None, List, length, get_or, set, take, refl, sym, arith, inl, inr, subst}
-use Rattle.std.specs.Prelude.{All, Any, Option, IsSome}
+use Rattle.std.proofs.Common.{◌≡◌, ℕ, ◌<◌, Bool, true, false, Some, None, List, get_or, set, take, refl, arith, inl, inr, subst}
+use Rattle.std.specs.Prelude.{Option, IsSome}
+use Rattle.pg_arena.specs.declared.player.Player.{Player}
 use Rattle.pg_measure.specs.Measures.{BoundList, MeasureValue, CoversFront, is_odd, width_from}
 use Rattle.pg_measure.specs.Mirrors.Rows.{MissesFront, IsLeastCover}
 use Rattle.pg_measure.proofs.Order.{below_or}
 use Rattle.pg_map.specs.Lines.{Line, AreWithin, line_at}
-use Rattle.pg_map.specs.Maps.{measure_at, IsServedBy, IsLifted}
+use Rattle.pg_map.specs.Maps.{measure_at, IsServed, IsServedBy, IsLifted}
 use Rattle.pg_map.specs.Mirrors.Tables.{IsBest}
-use Rattle.pg_map.proofs.Lifts.{lifted_by_step, lifted_line}
+use Rattle.pg_map.proofs.Lifts.{best_serves, lifted_by_step, lifted_line}
 
 -- what doesn't cover misses
 pub misses_by : (strict : Bool) (k : ℕ) (m n : MeasureValue) → (CoversFront strict k m n → ⊥) → MissesFront strict k m n
@@ -16,11 +17,19 @@ misses_by strict k (Some xs) None h = tt
 misses_by true k (Some xs) (Some ys) h = elim (below_or (take k ys) (take k xs)) [ inl b ↦ absurd (h b) | inr a ↦ a ]
 misses_by false k (Some xs) (Some ys) h = elim (below_or (take k xs) (take k ys)) [ inl b ↦ b | inr a ↦ absurd (h a) ]
 
-pub lifted_over : (bs : BoundList) (lines : ℕ → Option Line) (f g : List MeasureValue) (v w : ℕ) → IsBest (line_at lines v).owner (width_from bs (line_at lines v).priority) f (line_at lines v).successors w → (IsServedBy bs lines f v w → ⊥) → IsLeastCover bs (is_odd (line_at lines v).priority) (width_from bs (line_at lines v).priority) (measure_at f w) (measure_at g v) → g ≡ set f v (measure_at g v) → IsLifted bs lines f g v
-lifted_over bs lines f g v w best un c others =
+pub lifted_over : (bs ks : BoundList) (lines : ℕ → Option Line) (f g : List MeasureValue) (v w p front : ℕ) → p ≡ (line_at lines v).priority → ks ≡ bs → front ≡ width_from ks p → IsBest (line_at lines v).owner (width_from bs (line_at lines v).priority) f (line_at lines v).successors w → (IsServedBy bs lines f v w → ⊥) → IsLeastCover bs (is_odd p) front (measure_at f w) (measure_at g v) → g ≡ set f v (measure_at g v) → IsLifted bs lines f g v
+lifted_over bs ks lines f g v w p front ep ek ef best un c others =
     let l = line_at lines v in
+    let c' : IsLeastCover bs (is_odd l.priority) (width_from bs l.priority) (measure_at f w) (measure_at g v) = rw (ef, ek, ep) at c in
     let h = misses_by (is_odd l.priority) (width_from bs l.priority) (measure_at f v) (measure_at f w) un in
-    lifted_line bs lines l f g v refl (lifted_by_step bs l f g v w (width_from bs l.priority) (measure_at f v) (measure_at f w) refl refl refl best h c others)
+    lifted_line bs lines l f g v refl (lifted_by_step bs l f g v w (width_from bs l.priority) (measure_at f v) (measure_at f w) refl refl refl best h c' others)
+
+-- the best successor of a vertex that isn't served doesn't serve it
+pub lifted_best : (bs ks : BoundList) (lines : ℕ → Option Line) (f g : List MeasureValue) (v w p front : ℕ) (o : Player) (ss : List ℕ) → p ≡ (line_at lines v).priority → o ≡ (line_at lines v).owner → ss ≡ (line_at lines v).successors → ks ≡ bs → front ≡ width_from ks p → IsBest o front f ss w → (IsServed bs lines f v → ⊥) → IsLeastCover bs (is_odd p) front (measure_at f w) (measure_at g v) → g ≡ set f v (measure_at g v) → IsLifted bs lines f g v
+lifted_best bs ks lines f g v w p front o ss ep eo es ek ef best un c others =
+    let l = line_at lines v in
+    let best' : IsBest l.owner (width_from bs l.priority) f l.successors w = rw (ef, ek, ep, eo, es) at best in
+    lifted_over bs ks lines f g v w p front ep ek ef best' (λ h. un (best_serves l.owner (is_odd l.priority) (width_from bs l.priority) f l.successors w (measure_at f v) best' h)) c others
 
 pub best_below : (lines : ℕ → Option Line) (bs : BoundList) (f : List MeasureValue) (v w n count : ℕ) → IsSome (lines v) → AreWithin n lines → IsBest (line_at lines v).owner (width_from bs (line_at lines v).priority) f (line_at lines v).successors w → n ≡ count → w < count
 best_below lines bs f v w n count h a best e =

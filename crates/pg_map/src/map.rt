@@ -1,59 +1,66 @@
 //! Maps from vertices to measures.
 
-ghost use Rattle.std.specs.Prelude.{◌≡◌, ◌↔◌, ℕ, ◌<◌, length, slice_set, All, IfOk, IfSome, IfNone, IsSome, IsTrue, MatchBool};
+ghost use Rattle.std.specs.Prelude.{◌≡◌, ◌↔◌, ℕ, ◌+◌, ◌<◌, ◌≤◌, Some, None, length, slice_set, All, Any, IfOk, IfSome, IfNone, IsSome, IsTrue, MatchBool};
 ghost use Rattle.std.specs.Bool.{OnTrue, OnFalse};
-ghost use Rattle.pg_measure.specs.Measures.{Fits, AtMost, IsBelow, Covers, owned, width_from};
-ghost use Rattle.pg_measure.specs.Mirrors.Rows.{FrontAtMost};
+ghost use Rattle.pg_measure.specs.Measures.{Fits, AtMost, IsBelow, Covers, CoversFront, owned, width_from};
+ghost use Rattle.pg_measure.specs.Mirrors.Rows.{measure_of, FrontAtMost, MissesFront, IsLeastCover};
 ghost use Rattle.pg_measure.specs.Views.{measure_in};
 ghost use Rattle.pg_map.specs.Lines.{AreWithin, line_at};
-ghost use Rattle.pg_map.specs.Mirrors.Tables.{IsBest};
-ghost use Rattle.pg_map.specs.Maps.{measure_at, IsMap, zero_map, update_map, MapAtMost, IsServedBy, IsServed, IsClosed, IsLifted, StaysUnder, CoversSuccessors, IsLeastClosedFrom, IsJoin};
+ghost use Rattle.pg_map.specs.Mirrors.Tables.{IsBetter, IsBest};
+ghost use Rattle.pg_map.specs.Maps.{measure_at, IsMap, zero_map, update_map, MapAtMost, SomeOrAll, IsServedBy, IsServed, IsClosed, IsLifted, StaysUnder, CoversSuccessors, IsLeastClosedFrom, IsJoin};
 ghost use Rattle.pg_map.specs.Weights.{map_weight};
 
-use crate::{Lines, table};
-use pg_arena::Vertex;
+use crate::Lines;
+use crate::rows::Rows;
+use pg_arena::{Player, Vertex};
 use pg_measure::{Bounds, Measure, View, row};
 use std::alloc::{AllocError, Global};
 use std::marker::Model;
 
-/// A measure of the bounds for each vertex. Contracts see the bounds and the list of the measures. After `zero` no call
-/// takes memory.
+/// A measure of the bounds for each vertex. Contracts see the bounds and the list of the measures. Each vertex has the
+/// place of its row: at first all share the row of zeros, all at top share another, and the others have rows of their
+/// own. After `zero` no call takes memory.
 #[derive(Drop)]
 pub struct MeasureMap {
     bounds: Bounds,
-    count: u32,
-    cells: Vec<u32>,
+    places: Vec<u32>,
+    rows: Rows,
 }
 
 impl Model for MeasureMap {
-    ghost use Rattle.std.specs.Prelude.{length, ◌+◌};
     ghost use Rattle.pg_map.specs.Maps.{MapValue};
-    ghost use Rattle.pg_map.specs.Mirrors.Tables.{table, IsTable};
+    ghost use Rattle.pg_map.specs.Mirrors.Tables.{placed, IsTable};
 
     ghost Value = { MapValue };
 
-    ghost view = { λ m. record { bounds = m.bounds; measures = table m.count (length m.bounds + 1) m.cells.items } };
+    ghost view = { λ m. record { bounds = m.bounds; measures = placed m.rows.measures m.places.items } };
 
-    ghost invariant = { λ m. IsTable m.bounds m.count (length m.bounds + 1) m.cells.items };
+    ghost invariant = { λ m. IsTable m.bounds m.rows m.places.items };
 }
+
+/// The place of the row of zeros.
+const ZERO: u32 = 0;
+
+/// The place of the row of top.
+const TOP: u32 = 1;
 
 impl MeasureMap {
     /// The map with zeros at each vertex. It takes all the memory that the map ever has, and is refused only for want
-    /// of it, also where the size of the table can't be had.
+    /// of it, also where the size of the rows can't be had, or for `u32::MAX` vertices a number for each row.
     pub fn zero(alloc: Global, vertices: u32, bounds: &Bounds) -> Result<MeasureMap, AllocError>
         ensures bounds { IfOk result (λ m. m.bounds ≡ bounds.now) }
         ensures zeros { IfOk result (λ m. m.measures ≡ zero_map bounds.now vertices) }
     {
         let kept = Bounds::from_pairs(alloc, bounds.pairs())?;
-        let width = bounds.pairs().len() + 1;
-        let Some(size) = width.checked_mul(vertices as usize) else {
+        let Some(last) = vertices.checked_add(1) else {
             return Err(AllocError);
         };
-        let cells = vec![in alloc; 0; size]?;
+        let rows = Rows::with_room(alloc, bounds.pairs().len() + 1, last as usize + 1)?;
+        let places = vec![in alloc; ZERO; vertices as usize]?;
         Ok(MeasureMap {
             bounds: kept,
-            count: vertices,
-            cells,
+            places,
+            rows,
         })
     }
 
@@ -62,7 +69,7 @@ impl MeasureMap {
         ensures value { result ≡ length self.now.measures }
         ensures map { IsMap self.now.bounds result self.now.measures }
     {
-        self.count
+        self.places.len() as u32
     }
 
     /// The bounds of its measures.
@@ -78,8 +85,7 @@ impl MeasureMap {
         ensures value { measure_in result ≡ measure_at self.now.measures v }
         ensures fits { Fits self.now.bounds (measure_in result) }
     {
-        let width = self.bounds.pairs().len() + 1;
-        let row = table::row_of(&self.cells, self.count as usize, width, v.0 as usize);
+        let row = self.row(v.0 as usize);
         if row[0] != 0 {
             View::Top
         } else {
@@ -109,13 +115,21 @@ impl MeasureMap {
         ensures join { IsJoin self.old.measures
             (update_map self.old.bounds (length self.old.measures) v (measure_in m.entry)) self.new.measures }
     {
-        table::raise(
-            &mut self.cells,
-            self.bounds.pairs(),
-            self.count as usize,
-            v.0 as usize,
-            m,
-        )
+        let at = v.0 as usize;
+        let place = self.places[at];
+        if place == TOP {
+            return false;
+        }
+        match m {
+            View::Top => self.places[at] = TOP,
+            View::List(list) => {
+                if !row::is_below(&self.rows.row(place)[1..], list) {
+                    return false;
+                }
+                self.write_list(at, list);
+            }
+        }
+        true
     }
 
     /// Whether `v` is served by `w`: its measure covers that of `w` at the priority of `v`.
@@ -125,14 +139,9 @@ impl MeasureMap {
         requires w { w < length self.now.measures }
         ensures { IsTrue result ↔ IsServedBy self.now.bounds (G.line lines.now) self.now.measures v w }
     {
-        table::covers(
-            &self.cells,
-            self.bounds.pairs(),
-            self.count as usize,
-            v.0 as usize,
-            w.0 as usize,
-            lines.priority(v),
-        )
+        let priority = lines.priority(v);
+        let front = self.bounds.width_from(priority);
+        self.covers(v.0 as usize, w.0 as usize, front, priority % 2 == 1)
     }
 
     /// Whether the components of `a` of priorities at least that of `v` are at most those of `b`; where both are at most
@@ -146,14 +155,8 @@ impl MeasureMap {
             (FrontAtMost (width_from self.now.bounds (line_at (G.line lines.now) v).priority)
             (measure_at self.now.measures b) (measure_at self.now.measures a)) }
     {
-        table::is_front_below(
-            &self.cells,
-            self.bounds.pairs(),
-            self.count as usize,
-            a.0 as usize,
-            b.0 as usize,
-            lines.priority(v),
-        )
+        let front = self.bounds.width_from(lines.priority(v));
+        self.is_less(a.0 as usize, b.0 as usize, front)
     }
 
     /// Lifts a vertex over its best successor, which doesn't serve it: the lift of the vertex, with no look at the
@@ -173,14 +176,9 @@ impl MeasureMap {
         ensures under { StaysUnder self.old.bounds (G.line lines.now) self.old.measures self.new.measures }
         ensures weight { map_weight self.old.bounds self.new.measures < map_weight self.old.bounds self.old.measures }
     {
-        table::lift_over(
-            &mut self.cells,
-            self.bounds.pairs(),
-            self.count as usize,
-            v.0 as usize,
-            w.0 as usize,
-            lines.priority(v),
-        );
+        let priority = lines.priority(v);
+        let front = self.bounds.width_from(priority);
+        self.step(w.0 as usize, v.0 as usize, front, priority % 2 == 1);
     }
 
     /// Lifts a vertex: its measure becomes the least that serves it, if that is above it. True exactly if it rose.
@@ -197,15 +195,19 @@ impl MeasureMap {
         ensures weight { OnTrue result
             (map_weight self.old.bounds self.new.measures < map_weight self.old.bounds self.old.measures) }
     {
-        table::lift(
-            &mut self.cells,
-            self.bounds.pairs(),
-            self.count as usize,
-            v.0 as usize,
-            lines.priority(v),
-            lines.owner(v),
-            lines.successors(v),
-        )
+        let at = v.0 as usize;
+        if self.places[at] == TOP {
+            return false;
+        }
+        let priority = lines.priority(v);
+        let front = self.bounds.width_from(priority);
+        let strict = priority % 2 == 1;
+        if self.covers_successors(at, lines.owner(v), lines.successors(v), front, strict) {
+            return false;
+        }
+        let best = self.best_of(lines.owner(v), lines.successors(v), front);
+        self.step(best, at, front, strict);
+        true
     }
 
     /// The least vertex that can be lifted; none exactly if the map is closed.
@@ -218,7 +220,7 @@ impl MeasureMap {
         ensures least { IfSome result (λ v. (u : ℕ) → u < v → IsSome (G.line lines.now u)
             → IsServed self.now.bounds (G.line lines.now) self.now.measures u) }
     {
-        for number in 0..self.count {
+        for number in 0..self.len() {
             let v = Vertex(number);
             if lines.holds(v) && !self.is_served(lines, v) {
                 return Some(v);
@@ -259,15 +261,14 @@ impl MeasureMap {
         ensures { MatchBool result (IsServed self.now.bounds (G.line lines.now) self.now.measures v)
             (¬ (IsServed self.now.bounds (G.line lines.now) self.now.measures v)) }
     {
-        table::is_served(
-            &self.cells,
-            self.bounds.pairs(),
-            self.count as usize,
-            v.0 as usize,
-            lines.priority(v),
-            lines.owner(v),
-            lines.successors(v),
-        )
+        let at = v.0 as usize;
+        if self.places[at] == TOP {
+            return true;
+        }
+        let priority = lines.priority(v);
+        let front = self.bounds.width_from(priority);
+        let strict = priority % 2 == 1;
+        self.covers_successors(at, lines.owner(v), lines.successors(v), front, strict)
     }
 
     /// Whether this map is at most the other, at each vertex.
@@ -276,11 +277,8 @@ impl MeasureMap {
         requires size { length self.now.measures ≡ length other.now.measures }
         ensures { IsTrue result ↔ MapAtMost self.now.measures other.now.measures }
     {
-        let width = self.bounds.pairs().len() + 1;
-        for number in 0..self.count as usize {
-            let first = table::row_of(&self.cells, self.count as usize, width, number);
-            let second = table::row_of(&other.cells, other.count as usize, width, number);
-            if !row::covers(second, first, width - 1, false) {
+        for number in 0..self.places.len() {
+            if !self.is_at_most_at(other, number) {
                 return false;
             }
         }
@@ -295,10 +293,216 @@ impl MeasureMap {
         ensures size { length self.new.measures ≡ length self.old.measures }
         ensures join { IsJoin self.old.measures other.now.measures self.new.measures }
     {
-        for number in 0..other.count {
+        for number in 0..other.len() {
             let v = Vertex(number);
             self.raise(v, other.get(v));
         }
+    }
+
+    /// The row of a vertex.
+    fn row(&self, v: usize) -> &[u32]
+        requires { v < length self.now.measures }
+        ensures length { length result.now ≡ length self.now.bounds + 1 }
+        ensures value { measure_of result.now ≡ measure_at self.now.measures v }
+        ensures fits { Fits self.now.bounds (measure_at self.now.measures v) }
+    {
+        self.rows.row(self.places[v])
+    }
+
+    /// Whether the first `front` components of `a` are at most those of `b`; where both are at most each other, either
+    /// answer. Top is above every list.
+    fn is_less(&self, a: usize, b: usize, front: usize) -> bool
+        requires a { a < length self.now.measures }
+        requires b { b < length self.now.measures }
+        requires front { front ≤ length self.now.bounds }
+        ensures { MatchBool result (FrontAtMost front (measure_at self.now.measures a) (measure_at self.now.measures b))
+            (FrontAtMost front (measure_at self.now.measures b) (measure_at self.now.measures a)) }
+    {
+        let first = self.places[a];
+        let second = self.places[b];
+        if first == second || first == TOP || second == ZERO {
+            return false;
+        }
+        if first == ZERO || second == TOP {
+            return true;
+        }
+        row::is_front_below(self.rows.row(first), self.rows.row(second), front)
+    }
+
+    /// Whether the measure of `v` covers that of `w` in the first `front` components.
+    fn covers(&self, v: usize, w: usize, front: usize, strict: bool) -> bool
+        requires v { v < length self.now.measures }
+        requires w { w < length self.now.measures }
+        requires front { front ≤ length self.now.bounds }
+        ensures { MatchBool result
+            (CoversFront strict front (measure_at self.now.measures v) (measure_at self.now.measures w))
+            (MissesFront strict front (measure_at self.now.measures v) (measure_at self.now.measures w)) }
+    {
+        let first = self.places[v];
+        let second = self.places[w];
+        if first == TOP {
+            return true;
+        }
+        if second == TOP {
+            return false;
+        }
+        if first == ZERO && strict {
+            return false;
+        }
+        if first == second {
+            return !strict;
+        }
+        if second == ZERO && !strict {
+            return true;
+        }
+        row::covers(self.rows.row(first), self.rows.row(second), front, strict)
+    }
+
+    /// Whether the measure of `v` covers those of some of the vertices, or of all: some for Even, all for Odd.
+    fn covers_successors(
+        &self,
+        v: usize,
+        owner: Player,
+        successors: &[Vertex],
+        front: usize,
+        strict: bool,
+    ) -> bool
+        requires v { v < length self.now.measures }
+        requires successors { All (λ w. w < length self.now.measures) successors.now }
+        requires front { front ≤ length self.now.bounds }
+        ensures { MatchBool result (SomeOrAll owner (λ w. CoversFront strict front (measure_at self.now.measures v)
+            (measure_at self.now.measures w)) successors.now)
+            (¬ (SomeOrAll owner (λ w. CoversFront strict front (measure_at self.now.measures v)
+            (measure_at self.now.measures w)) successors.now)) }
+    {
+        match owner {
+            Player::Even => self.covers_one(v, successors, front, strict),
+            Player::Odd => self.covers_each(v, successors, front, strict),
+        }
+    }
+
+    /// Whether the measure of `v` covers that of one of the vertices.
+    fn covers_one(&self, v: usize, successors: &[Vertex], front: usize, strict: bool) -> bool
+        requires v { v < length self.now.measures }
+        requires successors { All (λ w. w < length self.now.measures) successors.now }
+        requires front { front ≤ length self.now.bounds }
+        ensures { IsTrue result ↔ Any (λ w. CoversFront strict front (measure_at self.now.measures v)
+            (measure_at self.now.measures w)) successors.now }
+    {
+        for w in successors {
+            if self.covers(v, w.0 as usize, front, strict) {
+                return true;
+            }
+        }
+        false
+    }
+
+    /// Whether the measure of `v` covers that of each of the vertices.
+    fn covers_each(&self, v: usize, successors: &[Vertex], front: usize, strict: bool) -> bool
+        requires v { v < length self.now.measures }
+        requires successors { All (λ w. w < length self.now.measures) successors.now }
+        requires front { front ≤ length self.now.bounds }
+        ensures { IsTrue result ↔ All (λ w. CoversFront strict front (measure_at self.now.measures v)
+            (measure_at self.now.measures w)) successors.now }
+    {
+        for w in successors {
+            if !self.covers(v, w.0 as usize, front, strict) {
+                return false;
+            }
+        }
+        true
+    }
+
+    /// The successor that the owner would rather cover.
+    fn best_of(&self, owner: Player, successors: &[Vertex], front: usize) -> usize
+        requires successors { All (λ w. w < length self.now.measures) successors.now }
+        requires nonempty { 0 < length successors.now }
+        requires front { front ≤ length self.now.bounds }
+        ensures within { result < length self.now.measures }
+        ensures best { IsBest owner front self.now.measures successors.now result }
+    {
+        let first = successors[0];
+        let mut best = first.0 as usize;
+        for w in successors {
+            let here = w.0 as usize;
+            if self.is_better(owner, here, best, front) {
+                best = here;
+            }
+        }
+        best
+    }
+
+    /// Whether the owner would rather cover `a` than `b`.
+    fn is_better(&self, owner: Player, a: usize, b: usize, front: usize) -> bool
+        requires a { a < length self.now.measures }
+        requires b { b < length self.now.measures }
+        requires front { front ≤ length self.now.bounds }
+        ensures { MatchBool result
+            (IsBetter owner front (measure_at self.now.measures a) (measure_at self.now.measures b))
+            (IsBetter owner front (measure_at self.now.measures b) (measure_at self.now.measures a)) }
+    {
+        match owner {
+            Player::Even => self.is_less(a, b, front),
+            Player::Odd => self.is_less(b, a, front),
+        }
+    }
+
+    /// Gives the vertex `to`, which isn't at top, the least measure that covers that of `from` in the first `front`
+    /// components.
+    fn step(&mut self, from: usize, to: usize, front: usize, strict: bool)
+        requires from { from < length self.old.measures }
+        requires to { to < length self.old.measures }
+        requires front { front ≤ length self.old.bounds }
+        requires list { ¬ (measure_at self.old.measures to ≡ None) }
+        ensures bounds { self.new.bounds ≡ self.old.bounds }
+        ensures map { IsMap self.old.bounds (length self.old.measures) self.new.measures }
+        ensures step { IsLeastCover self.old.bounds strict front
+            (measure_at self.old.measures from) (measure_at self.new.measures to) }
+        ensures others { self.new.measures ≡ slice_set self.old.measures to (measure_at self.new.measures to) }
+    {
+        let source = self.places[from];
+        if source == TOP {
+            self.places[to] = TOP;
+            return;
+        }
+        let place = self.rows.own(self.places[to]);
+        self.rows
+            .step(source, place, self.bounds.pairs(), front, strict);
+        let kept = if self.rows.is_top(place) { TOP } else { place };
+        self.places[to] = kept;
+    }
+
+    /// Gives a vertex, which isn't at top, a list of the bounds.
+    fn write_list(&mut self, v: usize, list: &[u32])
+        requires v { v < length self.old.measures }
+        requires fits { Fits self.old.bounds (Some list.now) }
+        requires list { ¬ (measure_at self.old.measures v ≡ None) }
+        ensures bounds { self.new.bounds ≡ self.old.bounds }
+        ensures measures { self.new.measures ≡ slice_set self.old.measures v (Some list.now) }
+    {
+        let place = self.rows.own(self.places[v]);
+        self.rows.set(place, list);
+        self.places[v] = place;
+    }
+
+    /// Whether the measure of a vertex is at most that in the other map.
+    fn is_at_most_at(&self, other: &MeasureMap, v: usize) -> bool
+        requires bounds { self.now.bounds ≡ other.now.bounds }
+        requires first { v < length self.now.measures }
+        requires second { v < length other.now.measures }
+        ensures { IsTrue result ↔ AtMost (measure_at self.now.measures v) (measure_at other.now.measures v) }
+    {
+        let first = self.places[v];
+        let second = other.places[v];
+        if first == ZERO || second == TOP {
+            return true;
+        }
+        row::covers(
+            other.rows.row(second),
+            self.rows.row(first),
+            self.bounds.pairs().len(),
+            false,
+        )
     }
 }
 

@@ -1,0 +1,193 @@
+//! Rows of numbers in one list, each of which holds a measure as `pg_measure::row` keeps it.
+
+ghost use Rattle.std.specs.Prelude.{◌≡◌, ℕ, List, [], ◌∷◌, ◌++◌, Some, None, ◌+◌, ◌-◌, ◌*◌, ◌<◌, ◌≤◌, ◌^◌, length, replicate, slice_set, All, IfOk, MatchBool};
+ghost use Rattle.pg_measure.specs.Measures.{Fits};
+ghost use Rattle.pg_measure.specs.Mirrors.Rows.{measure_of, IsLeastCover};
+ghost use Rattle.pg_map.specs.Maps.{measure_at};
+ghost use Rattle.pg_map.specs.Mirrors.Tables.{table};
+
+use pg_measure::row;
+use std::alloc::{AllocError, Global};
+use std::marker::Model;
+
+/// Rows of one width. Contracts see the measure in each, and how many there is room for: as long as there is room no
+/// call takes memory.
+#[derive(Drop)]
+pub(crate) struct Rows {
+    width: usize,
+    count: usize,
+    room: usize,
+    cells: Vec<u32>,
+}
+
+impl Model for Rows {
+    ghost use Rattle.pg_map.specs.Mirrors.Tables.{table, RowsValue, AreRows};
+
+    ghost Value = { RowsValue };
+
+    ghost view = { λ r. record { width = r.width; measures = table r.count r.width r.cells.items; room = r.room } };
+
+    ghost invariant = { λ r. AreRows r.width r.count r.room r.cells.items r.cells.cap };
+}
+
+impl Rows {
+    /// A row of zeros and a row of top, with room for `room` rows. Refused only for want of memory, also where the
+    /// size of the list can't be had.
+    pub(crate) fn with_room(alloc: Global, width: usize, room: usize) -> Result<Rows, AllocError>
+        requires { 0 < width }
+        ensures width { IfOk result (λ r. r.width ≡ width) }
+        ensures room { IfOk result (λ r. r.room ≡ room) }
+        ensures shared { IfOk result (λ r. r.measures ≡ Some (replicate (width - 1) 0) ∷ None ∷ []) }
+    {
+        let Some(size) = room.checked_mul(width) else {
+            return Err(AllocError);
+        };
+        let Some(shared) = width.checked_mul(2) else {
+            return Err(AllocError);
+        };
+        let mut cells = Vec::with_capacity(alloc, size)?;
+        cells.resize(shared, 0)?;
+        cells[width] = 1;
+        Ok(Rows {
+            width,
+            count: 2,
+            room,
+            cells,
+        })
+    }
+
+    /// The row at a place.
+    pub(crate) fn row(&self, place: u32) -> &[u32]
+        requires { place < length self.now.measures }
+        ensures length { length result.now ≡ self.now.width }
+        ensures value { measure_of result.now ≡ measure_at self.now.measures place }
+    {
+        let start = place as usize * self.width;
+        &self.cells[start..start + self.width]
+    }
+
+    /// Whether the row at a place is that of top.
+    pub(crate) fn is_top(&self, place: u32) -> bool
+        requires { place < length self.now.measures }
+        ensures { MatchBool result (measure_at self.now.measures place ≡ None)
+            (¬ (measure_at self.now.measures place ≡ None)) }
+    {
+        self.cells[place as usize * self.width] != 0
+    }
+
+    /// The place of a row that isn't the first: the place itself, or where that is 0 the place of a copy of the first row
+    /// behind all rows.
+    pub(crate) fn own(&mut self, place: u32) -> u32
+        requires first { 0 < length self.old.measures }
+        requires room { place ≡ 0 → length self.old.measures < self.old.room }
+        requires numbered { self.old.room ≤ 2 ^ 32 }
+        ensures width { self.new.width ≡ self.old.width }
+        ensures room { self.new.room ≡ self.old.room }
+        ensures copied { place ≡ 0 → (result ≡ length self.old.measures)
+            × (self.new.measures ≡ self.old.measures ++ measure_at self.old.measures 0 ∷ []) }
+        ensures same { 0 < place → (result ≡ place) × (self.new ≡ self.old) }
+    {
+        if place != 0 {
+            return place;
+        }
+        let last = self.count as u32;
+        self.cells.extend_from_within(0..self.width).unwrap();
+        self.count += 1;
+        last
+    }
+
+    /// Writes into the row at `place` the least measure of the bounds that covers that of the row at `source` in the
+    /// first `front` components.
+    pub(crate) fn step(
+        &mut self,
+        source: u32,
+        place: u32,
+        bounds: &[(u32, u32)],
+        front: usize,
+        strict: bool,
+    )
+        requires width { self.old.width ≡ length bounds.now + 1 }
+        requires fits { All (Fits bounds.now) self.old.measures }
+        requires source { source < length self.old.measures }
+        requires place { place < length self.old.measures }
+        requires front { front ≤ length bounds.now }
+        ensures width { self.new.width ≡ self.old.width }
+        ensures room { self.new.room ≡ self.old.room }
+        ensures step { IsLeastCover bounds.now strict front
+            (measure_at self.old.measures source) (measure_at self.new.measures place) }
+        ensures others { self.new.measures ≡ slice_set self.old.measures place (measure_at self.new.measures place) }
+    {
+        write_step(
+            &mut self.cells,
+            bounds,
+            self.count,
+            source as usize,
+            place as usize,
+            front,
+            strict,
+        );
+    }
+
+    /// Writes a list into the row at a place.
+    pub(crate) fn set(&mut self, place: u32, list: &[u32])
+        requires place { place < length self.old.measures }
+        requires width { self.old.width ≡ length list.now + 1 }
+        ensures width { self.new.width ≡ self.old.width }
+        ensures room { self.new.room ≡ self.old.room }
+        ensures measures { self.new.measures ≡ slice_set self.old.measures place (Some list.now) }
+    {
+        write_list(&mut self.cells, self.count, place as usize, list);
+    }
+}
+
+/// Writes into the row at `place` the least measure of the bounds that covers that of the row at `source` in the first
+/// `front` components.
+fn write_step(
+    cells: &mut [u32],
+    bounds: &[(u32, u32)],
+    count: usize,
+    source: usize,
+    place: usize,
+    front: usize,
+    strict: bool,
+)
+    requires filled { length cells.old ≡ count * (length bounds.now + 1) }
+    requires source { source < count }
+    requires place { place < count }
+    requires front { front ≤ length bounds.now }
+    requires fits { Fits bounds.now (measure_at (table count (length bounds.now + 1) cells.old) source) }
+    ensures step { IsLeastCover bounds.now strict front
+        (measure_at (table count (length bounds.now + 1) cells.old) source)
+        (measure_at (table count (length bounds.now + 1) cells.new) place) }
+    ensures others { table count (length bounds.now + 1) cells.new ≡ slice_set
+        (table count (length bounds.now + 1) cells.old) place
+        (measure_at (table count (length bounds.now + 1) cells.new) place) }
+{
+    let width = bounds.len() + 1;
+    let from = source * width;
+    let start = place * width;
+    cells.copy_within(from..from + width, start);
+    row::step(&mut cells[start..start + width], bounds, front, strict);
+}
+
+/// Writes a list into the row at `place`.
+fn write_list(cells: &mut [u32], count: usize, place: usize, list: &[u32])
+    requires filled { length cells.old ≡ count * (length list.now + 1) }
+    requires place { place < count }
+    ensures { table count (length list.now + 1) cells.new ≡ slice_set
+        (table count (length list.now + 1) cells.old) place (Some list.now) }
+{
+    let width = list.len() + 1;
+    let start = place * width;
+    set_row(&mut cells[start..start + width], list);
+}
+
+/// Makes a list of a row.
+fn set_row(row: &mut [u32], list: &[u32])
+    requires { length row.old ≡ length list.now + 1 }
+    ensures length { length row.new ≡ length row.old }
+    ensures value { measure_of row.new ≡ Some list.now }
+{
+    row[0] = 0;
+    row[1..].copy_from_slice(list);
+}
