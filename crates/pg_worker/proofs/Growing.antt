@@ -117,7 +117,7 @@ all_below lines [] n old all = old
 all_below lines (l ∷ ls) n old all =
     all_below (set lines l.vertex (Some (told_line l))) ls n (below_more lines l n old (all 0 l (omega arith))) (λ i d lt. all (suc i) d (omega arith))
 
-only : (P : VertexLine → Type 0) (l : VertexLine) → P l → All P (l ∷ [])
+pub only : (P : VertexLine → Type 0) (l : VertexLine) → P l → All P (l ∷ [])
 only P l p = All-cons P l [] p (λ i d lt. absurd (omega arith))
 
 -- a line above the part as it grew is above the part as it was

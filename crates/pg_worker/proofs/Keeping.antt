@@ -266,6 +266,10 @@ keeps_served bs l f m b c h = record {
   foremost = h.foremost;
 }
 
+-- a vertex that is served may wait too
+pub keeps_marked : (bs : BoundList) (l : Line) (f : List MeasureValue) (m : MeasureValue) (q : Bool) (b : ℕ) → Keeps bs l f nothing m false b → Keeps bs l f nothing m q b
+keeps_marked bs l f m q b h = record { among = h.among; rest = λ e. h.rest refl; foremost = h.foremost }
+
 -- Even owns it, and another successor is remembered
 pub keeps_even : (bs : BoundList) (l : Line) (f : List MeasureValue) (m : MeasureValue) (b : ℕ) → l.owner ≡ Even → IsAmong b l.successors → Keeps bs l f nothing m true b
 keeps_even bs l f m b o a = record {

@@ -1,6 +1,7 @@
 pub mod Stacks
 pub mod Parts
 pub mod Runs
+pub mod Noting
 pub mod Working
 pub mod Steps
 pub mod Keeping

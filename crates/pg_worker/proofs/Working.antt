@@ -2,7 +2,7 @@
 use Rattle.std.proofs.Common.{◌≡◌, ◌≢◌, ◌∙◌, ℕ, zero, suc, ◌+◌, ◌<◌, ◌≤◌, Bool, true, false, List, [], ◌∷◌, ◌++◌, length, get_or, set, subst, sym, refl, ap, arith, inl, inr, Some, None}
 use Rattle.std.specs.Prelude.{vec_capacity, All, Option, IsSome, IfSome, IfNone, unwrap_or, replicate}
 use Rattle.std.proofs.lemmas.Bool.{cases_eq}
-use Rattle.std.proofs.lemmas.List.{get_or-set_same, get_or-set_other, length-set}
+use Rattle.std.proofs.lemmas.List.{get_or-set_same, get_or-set_other}
 use Rattle.pg_map.specs.Mirrors.Tables.{IsBest}
 use Rattle.pg_arena.specs.declared.player.Player.{Player}
 use Rattle.pg_arena.specs.declared.player.Player.TheVariants.{Odd}
@@ -12,25 +12,25 @@ use Rattle.pg_map.specs.Lines.{Line, AreWithin, line_at, vertex_line}
 use Rattle.pg_map.specs.Maps.{MapValue, measure_at}
 use Rattle.pg_worker.specs.declared.edges.Edges.{Edges}
 use Rattle.pg_worker.specs.Mirrors.Parts.{PartValue, held_line}
-use Rattle.pg_worker.specs.Mirrors.Keeps.{IsKept, Keeps, KeepsAt, IsForemost, nothing}
+use Rattle.pg_worker.specs.Mirrors.Keeps.{IsKept, Keeps, KeepsAt, IsForemost, AreSameBut, nothing}
 use Rattle.pg_worker.specs.Mirrors.Edges.{AreEdges, edges_of}
 use Rattle.pg_worker.proofs.NewLines.{IsNewLine, line_same, some_back, edges_more, no_edges}
-use Rattle.pg_worker.proofs.Keeping.{same_keeps, set_others, mark_is, never, kept_change}
+use Rattle.pg_worker.proofs.Keeping.{same_keeps, never}
 use Rattle.pg_wire.specs.declared.frame.VertexLine.{VertexLine}
 use Rattle.pg_worker.specs.Workers.{WorkerValue, told_line, with_lines, AreAbove}
 use Rattle.pg_map.specs.declared.update.Update.{Update}
 use Rattle.pg_worker.specs.Mirrors.Insides.{IsInside, AreReady, IsNext, IsWhole}
+use Rattle.pg_worker.specs.Mirrors.Notes.{Span, NotesValue, HasNote, AreNotes, IsSameSpan, AreSameNotes}
+use Rattle.pg_worker.proofs.Noting.{notes_on, same_notes}
 
-pub worker_after : (lines : PartValue) (map map' : MapValue) (marked marked' : List Bool) (best best' : List ℕ)
-    → map'.bounds ≡ map.bounds → length map'.measures ≡ length map.measures → length marked' ≡ length marked → length best' ≡ length best
-    → IsKept map.bounds (held_line lines) map'.measures marked' best' → IsInside lines map marked best → IsInside lines map' marked' best'
-worker_after lines map map' marked marked' best best' b s m t kept w = record {
+pub worker_after : (lines : PartValue) (map map' : MapValue) (notes notes' : NotesValue) → map'.bounds ≡ map.bounds → length map'.measures ≡ length map.measures → IsSameSpan notes notes'
+    → IsKept map.bounds (held_line lines) map'.measures notes'.waits notes'.best → IsInside lines map notes → IsInside lines map' notes'
+worker_after lines map map' notes notes' b s same kept w = record {
   within = subst (λ (n : ℕ). AreWithin n (held_line lines)) (sym s) w.within;
   count = subst (λ (n : ℕ). edges_of (held_line lines) n ≡ lines.edges) (sym s) w.count;
-  work = m ∙ (w.work ∙ sym s);
-  best = t ∙ (w.best ∙ sym s);
+  noted = subst (λ (n : ℕ). AreNotes n (held_line lines) notes') (sym s) (notes_on (length map.measures) (held_line lines) notes notes' same w.noted);
   size = w.size ∙ sym s;
-  kept = subst (λ (bs : BoundList). IsKept bs (held_line lines) map'.measures marked' best') (sym b) kept;
+  kept = subst (λ (bs : BoundList). IsKept bs (held_line lines) map'.measures notes'.waits notes'.best) (sym b) kept;
 }
 
 -- gathered edges of the same part
@@ -62,17 +62,16 @@ no_edges_at_all lines (suc n) none =
     omega arith
 
 -- no vertices
-pub worker_empty : (lines : PartValue) (map : MapValue) (marked : List Bool) (best : List ℕ) → ((v : ℕ) → held_line lines v ≡ None) → lines.edges ≡ 0
-    → length marked ≡ length map.measures → length best ≡ length map.measures → length lines.lines ≡ length map.measures → IsInside lines map marked best
-worker_empty lines map marked best held edges b c d = record {
+pub worker_empty : (lines : PartValue) (map : MapValue) (notes : NotesValue) → ((v : ℕ) → held_line lines v ≡ None) → lines.edges ≡ 0
+    → length notes.waits ≡ length map.measures → length notes.best ≡ length map.measures → length lines.lines ≡ length map.measures → IsInside lines map notes
+worker_empty lines map notes held edges b c d = record {
   within = record {
     numbers = λ v s. absurd (none_held (held_line lines v) (held v) s);
     successors = λ v s. absurd (none_held (held_line lines v) (held v) s);
     nonempty = λ v s. absurd (none_held (held_line lines v) (held v) s);
   };
   count = no_edges_at_all (held_line lines) (length map.measures) held ∙ sym edges;
-  work = b;
-  best = c;
+  noted = record { waits = b; best = c; noted = λ v s. absurd (none_held (held_line lines v) (held v) s) };
   size = d;
   kept = λ v s. absurd (none_held (held_line lines v) (held v) s);
 }
@@ -105,30 +104,48 @@ keeps_first bs l f m b o best = record {
   foremost = subst (λ (w : Player). IsForemost w bs l.priority f nothing l.successors m b) (sym o) (λ i d lt. inr (inr (best.best i d lt)));
 }
 
-kept_after : (bs : BoundList) (lines lines' : ℕ → Option Line) (v : ℕ) (l : Line) (f : List MeasureValue) (marked marked' : List Bool) (best best' : List ℕ) (b : ℕ) → IsNewLine lines lines' v l → Keeps bs (line_at lines' v) f nothing (measure_at f v) true b
-    → v < length marked → marked' ≡ set marked v true → best' ≡ set best v b → get_or best' v 0 ≡ b → IsKept bs lines f marked best → IsKept bs lines' f marked' best'
-kept_after bs lines lines' v l f marked marked' best best' b new k lt mark choice here kept = λ u s.
+kept_after : (bs : BoundList) (lines lines' : ℕ → Option Line) (v : ℕ) (l : Line) (f : List MeasureValue) (marked marked' : List Bool) (best best' : List ℕ) → IsNewLine lines lines' v l
+    → KeepsAt bs lines' f nothing marked' best' v → AreSameBut v marked marked' best best' → IsKept bs lines f marked best → IsKept bs lines' f marked' best'
+kept_after bs lines lines' v l f marked marked' best best' new here others kept = λ u s.
     elim (cases_eq u v) [
-      | inl q ↦ subst (λ (w : ℕ). KeepsAt bs lines' f nothing marked' best' w) (sym q)
-          (same_keeps bs (line_at lines' v) f nothing (measure_at f v) true (get_or marked' v false) b (get_or best' v 0) (mark_is marked marked' v true lt mark) here k)
+      | inl q ↦ subst (λ (w : ℕ). KeepsAt bs lines' f nothing marked' best' w) (sym q) here
       | inr d ↦
-          let o = set_others marked marked' best best' v true b mark choice u d in
+          let o = others u d in
           same_keeps bs (line_at lines' u) f nothing (measure_at f u) (get_or marked u false) (get_or marked' u false) (get_or best u 0) (get_or best' u 0) o.0 o.1
           (subst (λ (k : Line). Keeps bs k f nothing (measure_at f u) (get_or marked u false) (get_or best u 0)) (sym (line_same lines lines' v l u new d)) (kept u (some_back lines lines' v l u new d s)))
     ]
 
+-- lines with one more
+pub within_more : (lines lines' : PartValue) (map : MapValue) (notes : NotesValue) (v : ℕ) (l : Line) → IsNewLine (held_line lines) (held_line lines') v l → v < length map.measures
+    → All (λ w. w < length map.measures) l.successors → 0 < length l.successors → IsInside lines map notes → AreWithin (length map.measures) (held_line lines')
+within_more lines lines' map notes v l new lt ss ne w = within_after (held_line lines) (held_line lines') v (length map.measures) l new lt ss ne w.within
+
+-- and a note of it
+pub notes_more : (n : ℕ) (lines lines' : ℕ → Option Line) (notes notes' : NotesValue) (v : ℕ) (l : Line) → IsNewLine lines lines' v l → notes'.waits ≡ notes.waits → notes'.best ≡ notes.best
+    → HasNote notes'.span v → ((w : ℕ) → HasNote notes.span w → HasNote notes'.span w) → AreNotes n lines notes → AreNotes n lines' notes'
+notes_more n lines lines' notes notes' v l new m b here more a = record {
+  waits = ap length m ∙ a.waits;
+  best = ap length b ∙ a.best;
+  noted = λ u s. elim (cases_eq u v) [
+    | inl e ↦ subst (λ (w : ℕ). HasNote notes'.span w) (sym e) here
+    | inr d ↦ more u (a.noted u (some_back lines lines' v l u new d s))
+  ];
+}
+
 -- a vertex more
-pub worker_more : (lines lines' : PartValue) (map : MapValue) (marked marked' : List Bool) (best best' : List ℕ) (v b : ℕ) (l : Line)
-    → IsNewLine (held_line lines) (held_line lines') v l → v < length map.measures → All (λ w. w < length map.measures) l.successors → 0 < length l.successors → Keeps map.bounds (line_at (held_line lines') v) map.measures nothing (measure_at map.measures v) true b
-    → length lines'.lines ≡ length lines.lines → lines'.edges ≡ lines.edges + length l.successors → marked' ≡ set marked v true → best' ≡ set best v b → get_or best' v 0 ≡ b
-    → IsInside lines map marked best → IsInside lines' map marked' best'
-worker_more lines lines' map marked marked' best best' v b l new lt ss ne k size edges mark choice here w = record {
-  within = within_after (held_line lines) (held_line lines') v (length map.measures) l new lt ss ne w.within;
+pub worker_more : (lines lines' : PartValue) (map : MapValue) (notes notes' notes'' : NotesValue) (v : ℕ) (l : Line)
+    → IsNewLine (held_line lines) (held_line lines') v l → v < length map.measures → All (λ w. w < length map.measures) l.successors → 0 < length l.successors
+    → length lines'.lines ≡ length lines.lines → lines'.edges ≡ lines.edges + length l.successors → notes'.waits ≡ notes.waits → notes'.best ≡ notes.best
+    → AreNotes (length map.measures) (held_line lines') notes' → IsSameSpan notes' notes'' → KeepsAt map.bounds (held_line lines') map.measures nothing notes''.waits notes''.best v
+    → AreSameBut v notes'.waits notes''.waits notes'.best notes''.best → IsInside lines map notes → IsInside lines' map notes''
+worker_more lines lines' map notes notes' notes'' v l new lt ss ne size edges m b noted same here others w = record {
+  within = within_more lines lines' map notes v l new lt ss ne w;
   count = let a = edges_more (held_line lines) (held_line lines') v l (length map.measures) new lt in let q = w.count in omega arith;
-  work = ap length mark ∙ (length-set marked v true ∙ w.work);
-  best = ap length choice ∙ (length-set best v b ∙ w.best);
+  noted = notes_on (length map.measures) (held_line lines') notes' notes'' same noted;
   size = size ∙ w.size;
-  kept = kept_after map.bounds (held_line lines) (held_line lines') v l map.measures marked marked' best best' b new k (let q = w.work in omega arith) mark choice here w.kept;
+  kept =
+      kept_after map.bounds (held_line lines) (held_line lines') v l map.measures notes'.waits notes''.waits notes'.best notes''.best new here others
+      (rw (m, b) w.kept);
 }
 
 none_is : (o : Option Line) → (IsSome o → ⊥) → o ≡ None
@@ -159,18 +176,17 @@ pub with_lines_more : (ls : List (Option Line)) (ys : List VertexLine) (y : Vert
 with_lines_more ls [] y = refl
 with_lines_more ls (x ∷ xs) y = with_lines_more (set ls x.vertex (Some (told_line x))) xs y
 
--- more room, and the same lines
-pub inside_same : (p p' : PartValue) (map : MapValue) (marked : List Bool) (best : List ℕ) → p'.lines ≡ p.lines → p'.edges ≡ p.edges → IsInside p map marked best → IsInside p' map marked best
-inside_same p p' map marked best l e i =
-    let at : IsInside (record { lines = p.lines; edges = p'.edges; room = p'.room; first = p'.first; heads = p'.heads; owners = p'.owners }) map marked best = record {
+-- more room, and the same lines and notes
+pub inside_same : (p p' : PartValue) (map : MapValue) (notes notes' : NotesValue) → p'.lines ≡ p.lines → p'.edges ≡ p.edges → AreSameNotes notes notes' → IsInside p map notes → IsInside p' map notes'
+inside_same p p' map notes notes' l e same i =
+    let at : IsInside (record { lines = p.lines; edges = p'.edges; room = p'.room; first = p'.first; heads = p'.heads; owners = p'.owners }) map notes' = record {
       within = i.within;
       count = i.count ∙ sym e;
-      work = i.work;
-      best = i.best;
-      kept = i.kept;
+      noted = same_notes (length map.measures) (held_line p) notes notes' same i.noted;
+      kept = rw (same.waits, same.best) i.kept;
       size = i.size;
     } in
-    subst (λ (ls : List (Option Line)). IsInside (record { lines = ls; edges = p'.edges; room = p'.room; first = p'.first; heads = p'.heads; owners = p'.owners }) map marked best) (sym l) at
+    subst (λ (ls : List (Option Line)). IsInside (record { lines = ls; edges = p'.edges; room = p'.room; first = p'.first; heads = p'.heads; owners = p'.owners }) map notes') (sym l) at
 
 pub ready_same : (p p' : PartValue) (map : MapValue) (edges edges' : Edges) → p'.lines ≡ p.lines → p'.edges ≡ p.edges → edges'.starts.items ≡ edges.starts.items → edges'.sources.items ≡ edges.sources.items
     → edges'.is_gathered ≡ edges.is_gathered → vec_capacity edges.sources ≤ vec_capacity edges'.sources → AreReady p map edges → AreReady p' map edges'
@@ -188,14 +204,19 @@ next_same p p' n l i =
     let at : IsNext (record { lines = p.lines; edges = p'.edges; room = p'.room; first = p'.first; heads = p'.heads; owners = p'.owners }) n = record { above = i.above; least = i.least } in
     subst (λ (ls : List (Option Line)). IsNext (record { lines = ls; edges = p'.edges; room = p'.room; first = p'.first; heads = p'.heads; owners = p'.owners }) n) (sym l) at
 
-pub whole_same : (p p' : PartValue) (map : MapValue) (edges edges' : Edges) (marked : List Bool) (best : List ℕ) (next listings : ℕ) (row : List ℕ) → p'.lines ≡ p.lines → p'.edges ≡ p.edges → p'.first ≡ p.first
+pub whole_same : (p p' : PartValue) (map : MapValue) (edges edges' : Edges) (notes notes' : NotesValue) (next listings : ℕ) (row : List ℕ) → p'.lines ≡ p.lines → p'.edges ≡ p.edges → p'.first ≡ p.first
     → edges'.starts.items ≡ edges.starts.items → edges'.sources.items ≡ edges.sources.items → edges'.is_gathered ≡ edges.is_gathered → vec_capacity edges.sources ≤ vec_capacity edges'.sources
-    → IsWhole p map edges marked best next listings row → IsWhole p' map edges' marked best next listings row
-whole_same p p' map edges edges' marked best next listings row l e f starts sources g more w = record {
-  inside = inside_same p p' map marked best l e w.inside;
+    → AreSameNotes notes notes' → IsWhole p map edges notes next listings row → IsWhole p' map edges' notes' next listings row
+whole_same p p' map edges edges' notes notes' next listings row l e f starts sources g more same w = record {
+  inside = inside_same p p' map notes notes' l e same w.inside;
   ready = ready_same p p' map edges edges' l e starts sources g more w.ready;
   above = next_same p p' next l w.above;
   first = let a = w.first in omega arith;
+  note_first = λ some.
+      let old : 0 < notes.span.size = let s = same.size in omega arith in
+      let a = w.note_first old in
+      let b = same.first old in
+      omega arith;
   listed = w.listed;
   clear = w.clear;
 }
@@ -222,35 +243,27 @@ above_next p n ls next above = λ i d lt. next.least (get_or ls i d).vertex (λ 
 pub next_above : (p : PartValue) (n : ℕ) (ls : List VertexLine) → IsNext p n → All (λ l. n ≤ l.vertex) ls → AreAbove p.lines ls
 next_above p n ls next all = λ v s i d lt. let a = next.above v s in let b = all i d lt in omega arith
 
--- another successor of v is remembered
-pub settled_kept : (bs : BoundList) (lines : ℕ → Option Line) (f : List MeasureValue) (marked : List Bool) (best best' : List ℕ) (v : ℕ) → best' ≡ set best v (get_or best' v 0) → get_or marked v false ≡ true
-    → Keeps bs (line_at lines v) f nothing (measure_at f v) true (get_or best' v 0) → IsKept bs lines f marked best → IsKept bs lines f marked best'
-settled_kept bs lines f marked best best' v e on here kept =
-    kept_change bs lines f marked marked best best' v
-    (λ u ne. (refl, ap (λ (t : List ℕ). get_or t u 0) e ∙ get_or-set_other best v u (get_or best' v 0) 0 ne))
-    (λ s. same_keeps bs (line_at lines v) f nothing (measure_at f v) true (get_or marked v false) (get_or best' v 0) (get_or best' v 0) on refl here)
-    kept
-
 -- after a call that changes the map
-pub whole_after : (lines : PartValue) (map map' : MapValue) (edges edges' : Edges) (marked marked' : List Bool) (best best' : List ℕ) (next listings : ℕ) (row : List ℕ)
+pub whole_after : (lines : PartValue) (map map' : MapValue) (edges edges' : Edges) (notes notes' : NotesValue) (next listings : ℕ) (row : List ℕ)
     → map'.bounds ≡ map.bounds → length map'.measures ≡ length map.measures → length edges'.starts.items ≡ length map.measures + 1 → vec_capacity edges'.sources ≡ vec_capacity edges.sources
-    → AreEdges (held_line lines) edges'.starts.items edges'.sources.items → length marked' ≡ length marked → length best' ≡ length best
-    → IsKept map.bounds (held_line lines) map'.measures marked' best' → IsWhole lines map edges marked best next listings row → IsWhole lines map' edges' marked' best' next listings row
-whole_after lines map map' edges edges' marked marked' best best' next listings row b s size room right m t kept w = record {
-  inside = worker_after lines map map' marked marked' best best' b s m t kept w.inside;
+    → AreEdges (held_line lines) edges'.starts.items edges'.sources.items → IsSameSpan notes notes'
+    → IsKept map.bounds (held_line lines) map'.measures notes'.waits notes'.best → IsWhole lines map edges notes next listings row → IsWhole lines map' edges' notes' next listings row
+whole_after lines map map' edges edges' notes notes' next listings row b s size room right same kept w = record {
+  inside = worker_after lines map map' notes notes' b s same kept w.inside;
   ready = ready_after lines map map' edges edges' s size room right w.ready;
   above = w.above;
   first = w.first;
+  note_first = subst (λ (p : Span). 0 < p.size → p.first ≤ next) (sym same.span) w.note_first;
   listed = w.listed ∙ sym s;
   clear = w.clear ∙ ap (λ (bs : BoundList). replicate (length bs) 0) (sym b);
 }
 
 -- after edges were gathered
-pub whole_gathered : (lines : PartValue) (map : MapValue) (edges edges' : Edges) (marked : List Bool) (best : List ℕ) (next listings : ℕ) (row : List ℕ)
+pub whole_gathered : (lines : PartValue) (map : MapValue) (edges edges' : Edges) (notes : NotesValue) (next listings : ℕ) (row : List ℕ)
     → length edges'.starts.items ≡ length map.measures + 1 → vec_capacity edges'.sources ≡ vec_capacity edges.sources
-    → AreEdges (held_line lines) edges'.starts.items edges'.sources.items → IsWhole lines map edges marked best next listings row → IsWhole lines map edges' marked best next listings row
-whole_gathered lines map edges edges' marked best next listings row size room right w =
-    whole_after lines map map edges edges' marked marked best best next listings row refl refl size room right refl refl w.inside.kept w
+    → AreEdges (held_line lines) edges'.starts.items edges'.sources.items → IsWhole lines map edges notes next listings row → IsWhole lines map edges' notes next listings row
+whole_gathered lines map edges edges' notes next listings row size room right w =
+    whole_after lines map map edges edges' notes notes next listings row refl refl size room right (record { waits = refl; best = refl; span = refl }) w.inside.kept w
 
 abbrev worker_of : MapValue → List (Option Line) → List Update → List ℕ → WorkerValue
 worker_of m ls us vs = record { bounds = m.bounds; lines = ls; map = m.measures; kept = us; lifted = vs }

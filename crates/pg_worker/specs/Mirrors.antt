@@ -3,6 +3,7 @@ pub mod Keeps
 pub mod Edges
 pub mod Parts
 pub mod Worklists
+pub mod Notes
 pub mod Insides
 pub mod Replies
 pub mod Joins

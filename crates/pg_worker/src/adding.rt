@@ -3,20 +3,22 @@
 ghost use Rattle.std.specs.Prelude.{◌≡◌, ◌↔◌, ℕ, true, ◌+◌, ◌^◌, ◌<◌, ◌≤◌, Some, length, sum_by, slice_set, All, AllPairs, IsSome, IfSome, IsTrue};
 ghost use Rattle.pg_arena.specs.declared.player.Player.TheVariants.{Odd};
 ghost use Rattle.pg_measure.specs.Measures.{width_from};
+ghost use Rattle.pg_wire.specs.Lines.{line_with};
 ghost use Rattle.pg_wire.specs.Well.{IsVertexLine};
 ghost use Rattle.pg_map.specs.Lines.{AreWithin, line_at};
 ghost use Rattle.pg_map.specs.Maps.{measure_at};
 ghost use Rattle.pg_worker.specs.Workers.{told_line, with_lines, player, HasBound, FitsGame};
 ghost use Rattle.pg_worker.specs.Mirrors.Parts.{HasPlace, held_line};
 ghost use Rattle.pg_map.specs.Mirrors.Tables.{IsBest};
-ghost use Rattle.pg_worker.specs.Mirrors.Keeps.{Keeps, nothing};
+ghost use Rattle.pg_worker.specs.Mirrors.Keeps.{Keeps, KeepsAt, AreSameBut, nothing};
+ghost use Rattle.pg_worker.specs.Mirrors.Notes.{AreNotes, HasRoom, IsSameSpan};
 ghost use Rattle.pg_worker.specs.Mirrors.Insides.{IsInside, IsNext, edge_count};
 
+use crate::notes::Notes;
 use crate::part::Part;
-use crate::worklist::Worklist;
 use pg_arena::{Player, Vertex};
 use pg_map::{Lines, MeasureMap};
-use pg_wire::VertexLine;
+use pg_wire::{LineHead, VertexLine};
 
 /// The successor whose measure is greatest in the components of priorities at least that of the vertex.
 fn greatest<G: Lines>(map: &MeasureMap, lines: &G, v: Vertex) -> Vertex
@@ -34,7 +36,7 @@ fn greatest<G: Lines>(map: &MeasureMap, lines: &G, v: Vertex) -> Vertex
     best
 }
 
-/// What to remember of a vertex that waits: any successor where Even owns it, the greatest where Odd does.
+/// What to remember of a vertex at first: any successor where Even owns it, the greatest where Odd does.
 fn first_best<G: Lines>(map: &MeasureMap, lines: &G, v: Vertex) -> Vertex
     requires held { IsSome (G.line lines.now v) }
     requires within { AreWithin (length map.now.measures) (G.line lines.now) }
@@ -63,73 +65,90 @@ fn is_greatest(bounds: &[(u32, u32)], priority: u32) -> bool {
     bounds.first().is_some_and(|bound| bound.0 == priority)
 }
 
-/// Lets a new vertex wait: for the next generation, where its priority isn't the greatest odd one.
-fn enlist(work: &mut Worklist, bounds: &[(u32, u32)], v: Vertex, priority: u32)
-    requires { v < length work.old }
-    ensures { work.new ≡ slice_set work.old v true }
+/// Looks at a new vertex: it waits where its first choice doesn't serve it. In this generation it is looked at again only
+/// if its priority is the greatest odd one.
+fn look<G: Lines>(map: &MeasureMap, lines: &G, notes: &mut Notes, v: Vertex)
+    requires held { IsSome (G.line lines.now v) }
+    requires within { AreWithin (length map.now.measures) (G.line lines.now) }
+    requires notes { AreNotes (length map.now.measures) (G.line lines.now) notes.old }
+    ensures span { IsSameSpan notes.old notes.new }
+    ensures kept { KeepsAt map.now.bounds (G.line lines.now) map.now.measures nothing notes.new.waits notes.new.best v }
+    ensures others { AreSameBut v notes.old.waits notes.new.waits notes.old.best notes.new.best }
 {
-    if !is_greatest(bounds, priority) {
-        work.put_off(v.0);
+    let choice = first_best(map, lines, v);
+    notes.remember(v, choice);
+    if !is_greatest(map.bounds().pairs(), lines.priority(v)) {
+        notes.put_off(v);
     }
-    work.add(v.0);
+    if !map.serves(lines, v, choice) {
+        notes.add(v);
+    }
 }
 
-/// Adds a vertex above those of the part, for which there is room. It waits.
-fn add_line(
+/// Adds a vertex above those of the part, for which there is room.
+pub(crate) fn add_line(
     map: &MeasureMap,
     part: &mut Part,
-    work: &mut Worklist,
-    best: &mut [Vertex],
-    line: &VertexLine,
+    notes: &mut Notes,
+    head: LineHead,
+    successors: &[u32],
 )
-    requires inside { IsInside part.old map.now work.old best.old }
-    requires new { ¬ (IsSome (held_line part.old line.now.vertex)) }
-    requires fits { FitsGame map.now.bounds (length map.now.measures) line.now }
-    requires line { IsVertexLine line.now }
-    requires place { HasPlace part.old line.now.vertex }
-    requires few { part.old.edges + length line.now.successors < 2 ^ 32 }
-    requires room { part.old.edges + length line.now.successors ≤ part.old.room }
-    ensures inside { IsInside part.new map.now work.new best.new }
-    ensures lines { part.new.lines ≡ slice_set part.old.lines line.now.vertex (Some (told_line line.now)) }
-    ensures edges { part.new.edges ≡ part.old.edges + length line.now.successors }
+    requires inside { IsInside part.old map.now notes.old }
+    requires new { ¬ (IsSome (held_line part.old head.vertex)) }
+    requires fits { FitsGame map.now.bounds (length map.now.measures) (line_with head successors.now) }
+    requires some { 0 < length successors.now }
+    requires place { HasPlace part.old head.vertex }
+    requires note { HasRoom notes.old.span head.vertex }
+    requires few { part.old.edges + length successors.now < 2 ^ 32 }
+    requires room { part.old.edges + length successors.now ≤ part.old.room }
+    ensures inside { IsInside part.new map.now notes.new }
+    ensures lines { part.new.lines ≡ slice_set part.old.lines head.vertex
+        (Some (told_line (line_with head successors.now))) }
+    ensures edges { part.new.edges ≡ part.old.edges + length successors.now }
     ensures first { part.new.first ≡ part.old.first }
     ensures places { (v : ℕ) → HasPlace part.old v → HasPlace part.new v }
     ensures room { part.new.room ≡ part.old.room }
+    ensures note_first { notes.new.span.first ≡ notes.old.span.first }
+    ensures note_room { notes.new.span.room ≡ notes.old.span.room }
 {
-    let v = Vertex(line.vertex);
-    let successors = line.successors.as_slice();
-    part.add(v, line.priority, player(line.owner), successors);
-    best[v.0 as usize] = first_best(map, part, v);
-    enlist(work, map.bounds().pairs(), v, line.priority);
+    let v = Vertex(head.vertex);
+    part.add(v, head.priority, player(head.owner), successors);
+    notes.begin(v);
+    look(map, part, notes, v);
 }
 
-/// Adds vertices, which rise from `next` on, and for which there is room. They wait.
+/// Adds vertices, which rise from `next` on, and for which there is room.
 pub(crate) fn add_lines(
     map: &MeasureMap,
     part: &mut Part,
-    work: &mut Worklist,
-    best: &mut [Vertex],
+    notes: &mut Notes,
     next: &mut u64,
     lines: &[VertexLine],
 )
-    requires inside { IsInside part.old map.now work.old best.old }
+    requires inside { IsInside part.old map.now notes.old }
     requires next { IsNext part.old next.old }
     requires above { All (λ l. next.old ≤ l.vertex) lines.now }
     requires fit { All (FitsGame map.now.bounds (length map.now.measures)) lines.now }
     requires lines { All IsVertexLine lines.now }
     requires rising { AllPairs (λ l m. l.vertex < m.vertex) lines.now }
     requires places { All (λ l. HasPlace part.old l.vertex) lines.now }
+    requires notes { All (λ l. HasRoom notes.old.span l.vertex) lines.now }
     requires few { part.old.edges + sum_by edge_count lines.now < 2 ^ 32 }
     requires room { part.old.edges + sum_by edge_count lines.now ≤ part.old.room }
-    ensures inside { IsInside part.new map.now work.new best.new }
+    ensures inside { IsInside part.new map.now notes.new }
     ensures next { IsNext part.new next.new }
     ensures lines { part.new.lines ≡ with_lines part.old.lines lines.now }
     ensures edges { part.new.edges ≡ part.old.edges + sum_by edge_count lines.now }
     ensures first { 0 < length lines.now → part.new.first ≤ next.new }
-    ensures best { length best.new ≡ length best.old }
+    ensures note_first { 0 < length lines.now → notes.new.span.first ≤ next.new }
 {
     for line in lines {
-        add_line(map, part, work, best, line);
+        let head = LineHead {
+            vertex: line.vertex,
+            priority: line.priority,
+            owner: line.owner,
+        };
+        add_line(map, part, notes, head, line.successors.as_slice());
         *next = u64::from(line.vertex) + 1;
     }
 }
@@ -160,12 +179,27 @@ fn has_bound(bounds: &[(u32, u32)], priority: u32) -> bool
 }
 
 /// Whether vertex and successors are below the count, and an odd priority has a bound.
+pub(crate) fn fits_line(
+    bounds: &[(u32, u32)],
+    count: u32,
+    head: LineHead,
+    successors: &[u32],
+) -> bool
+    ensures { IsTrue result ↔ FitsGame bounds.now count (line_with head successors.now) }
+{
+    head.vertex < count && successors.iter().all(|w| *w < count) && has_bound(bounds, head.priority)
+}
+
+/// As `fits_line`, of a line.
 fn fits_game(bounds: &[(u32, u32)], count: u32, line: &VertexLine) -> bool
     ensures { IsTrue result ↔ FitsGame bounds.now count line.now }
 {
-    line.vertex < count
-        && line.successors.as_slice().iter().all(|w| *w < count)
-        && has_bound(bounds, line.priority)
+    let head = LineHead {
+        vertex: line.vertex,
+        priority: line.priority,
+        owner: line.owner,
+    };
+    fits_line(bounds, count, head, line.successors.as_slice())
 }
 
 /// Whether all the lines fit the game.

@@ -14,6 +14,8 @@ mod lifted;
 mod lifting;
 mod lines;
 mod listing;
+mod note;
+mod notes;
 mod part;
 mod reply;
 mod served;
@@ -26,7 +28,6 @@ mod telling;
 mod touch;
 mod turn;
 mod worker;
-mod worklist;
 
 pub use cut::Cut;
 pub use fault::WorkerFault;

@@ -8,14 +8,15 @@ ghost use Rattle.pg_map.specs.Lines.{AreWithin};
 ghost use Rattle.pg_map.specs.Maps.{measure_at, update_map, IsJoin, IsServed, IsLifted, IsClosed, StaysUnder};
 ghost use Rattle.pg_worker.specs.Mirrors.Edges.{AreEdges};
 ghost use Rattle.pg_worker.specs.Mirrors.Keeps.{IsKept, IsReady, AreListedLifts};
+ghost use Rattle.pg_worker.specs.Mirrors.Notes.{AreNotes, IsSameSpan};
 ghost use Rattle.pg_worker.specs.Workers.{AreLifts};
 
 use crate::WorkerFault;
 use crate::edges::Edges;
 use crate::listing::Listing;
+use crate::notes::Notes;
 use crate::settle::{next_ready, settle};
 use crate::touch::touch_all;
-use crate::worklist::Worklist;
 use pg_arena::Vertex;
 use pg_map::{Lines, MeasureMap, Update, View};
 use pg_measure::{Bounds, Measure, row};
@@ -26,8 +27,7 @@ pub(crate) fn take<G: Lines>(
     map: &mut MeasureMap,
     lines: &G,
     edges: &Edges,
-    work: &mut Worklist,
-    best: &mut [Vertex],
+    notes: &mut Notes,
     v: Vertex,
     m: View,
 ) -> bool
@@ -36,14 +36,12 @@ pub(crate) fn take<G: Lines>(
     requires within { AreWithin (length map.old.measures) (G.line lines.now) }
     requires edges { AreEdges (G.line lines.now) edges.now.starts.items edges.now.sources.items }
     requires targets { length edges.now.starts.items ≡ length map.old.measures + 1 }
-    requires work { length work.old ≡ length map.old.measures }
-    requires best { length best.old ≡ length map.old.measures }
-    requires kept { IsKept map.old.bounds (G.line lines.now) map.old.measures work.old best.old }
+    requires notes { AreNotes (length map.old.measures) (G.line lines.now) notes.old }
+    requires kept { IsKept map.old.bounds (G.line lines.now) map.old.measures notes.old.waits notes.old.best }
     ensures bounds { map.new.bounds ≡ map.old.bounds }
     ensures size { length map.new.measures ≡ length map.old.measures }
-    ensures work { length work.new ≡ length work.old }
-    ensures best { length best.new ≡ length best.old }
-    ensures kept { IsKept map.old.bounds (G.line lines.now) map.new.measures work.new best.new }
+    ensures span { IsSameSpan notes.old notes.new }
+    ensures kept { IsKept map.old.bounds (G.line lines.now) map.new.measures notes.new.waits notes.new.best }
     ensures rose { OnTrue result (IsBelow (measure_at map.old.measures v) (measure_in m.entry)
         × (map.new.measures ≡ slice_set map.old.measures v (measure_in m.entry))) }
     ensures stays { OnFalse result (AtMost (measure_in m.entry) (measure_at map.old.measures v)) }
@@ -53,7 +51,7 @@ pub(crate) fn take<G: Lines>(
 {
     let rose = map.raise(v, m);
     if rose {
-        touch_all(map, lines, edges, work, best, v);
+        touch_all(map, lines, edges, notes, v);
     }
     rose
 }
@@ -63,45 +61,41 @@ pub(crate) fn lift_ready<G: Lines>(
     map: &mut MeasureMap,
     lines: &G,
     edges: &Edges,
-    work: &mut Worklist,
-    best: &mut [Vertex],
+    notes: &mut Notes,
     v: Vertex,
 )
     requires within { AreWithin (length map.old.measures) (G.line lines.now) }
     requires edges { AreEdges (G.line lines.now) edges.now.starts.items edges.now.sources.items }
     requires targets { length edges.now.starts.items ≡ length map.old.measures + 1 }
-    requires work { length work.old ≡ length map.old.measures }
-    requires best { length best.old ≡ length map.old.measures }
-    requires ready { IsReady map.old.bounds (G.line lines.now) map.old.measures best.old v }
-    requires kept { IsKept map.old.bounds (G.line lines.now) map.old.measures (slice_set work.old v true) best.old }
+    requires notes { AreNotes (length map.old.measures) (G.line lines.now) notes.old }
+    requires ready { IsReady map.old.bounds (G.line lines.now) map.old.measures notes.old.best v }
+    requires kept { IsKept map.old.bounds (G.line lines.now) map.old.measures
+        (slice_set notes.old.waits v true) notes.old.best }
     ensures bounds { map.new.bounds ≡ map.old.bounds }
     ensures size { length map.new.measures ≡ length map.old.measures }
-    ensures work { length work.new ≡ length work.old }
-    ensures best { length best.new ≡ length best.old }
+    ensures span { IsSameSpan notes.old notes.new }
     ensures lifted { IsLifted map.old.bounds (G.line lines.now) map.old.measures map.new.measures v }
     ensures under { StaysUnder map.old.bounds (G.line lines.now) map.old.measures map.new.measures }
-    ensures kept { IsKept map.old.bounds (G.line lines.now) map.new.measures work.new best.new }
+    ensures kept { IsKept map.old.bounds (G.line lines.now) map.new.measures notes.new.waits notes.new.best }
 {
-    map.lift_over(lines, v, best[v.0 as usize]);
-    work.lifted(v.0);
-    touch_all(map, lines, edges, work, best, v);
+    map.lift_over(lines, v, notes.best(v));
+    notes.lifted(v);
+    touch_all(map, lines, edges, notes, v);
 }
 
 /// Whether no vertex of the part can be lifted.
-fn is_quiet<G: Lines>(map: &MeasureMap, lines: &G, work: &mut Worklist, best: &mut [Vertex]) -> bool
+fn is_quiet<G: Lines>(map: &MeasureMap, lines: &G, notes: &mut Notes) -> bool
     requires within { AreWithin (length map.now.measures) (G.line lines.now) }
-    requires work { length work.old ≡ length map.now.measures }
-    requires best { length best.old ≡ length map.now.measures }
-    requires kept { IsKept map.now.bounds (G.line lines.now) map.now.measures work.old best.old }
-    ensures work { length work.new ≡ length work.old }
-    ensures best { length best.new ≡ length best.old }
-    ensures kept { IsKept map.now.bounds (G.line lines.now) map.now.measures work.new best.new }
+    requires notes { AreNotes (length map.now.measures) (G.line lines.now) notes.old }
+    requires kept { IsKept map.now.bounds (G.line lines.now) map.now.measures notes.old.waits notes.old.best }
+    ensures span { IsSameSpan notes.old notes.new }
+    ensures kept { IsKept map.now.bounds (G.line lines.now) map.now.measures notes.new.waits notes.new.best }
     ensures quiet { MatchBool result (IsClosed map.now.bounds (G.line lines.now) map.now.measures)
         (¬ (IsClosed map.now.bounds (G.line lines.now) map.now.measures)) }
 {
-    match next_ready(map, lines, work, best) {
+    match next_ready(map, lines, notes) {
         Some(v) => {
-            work.add(v.0);
+            notes.add(v);
             false
         }
         None => true,
@@ -124,23 +118,20 @@ pub(crate) fn lift_some<G: Lines>(
     map: &mut MeasureMap,
     lines: &G,
     edges: &Edges,
-    work: &mut Worklist,
-    best: &mut [Vertex],
+    notes: &mut Notes,
     updates: &mut Vec<Update>,
     budget: u32,
 ) -> Result<bool, AllocError>
     requires within { AreWithin (length map.old.measures) (G.line lines.now) }
     requires edges { AreEdges (G.line lines.now) edges.now.starts.items edges.now.sources.items }
     requires targets { length edges.now.starts.items ≡ length map.old.measures + 1 }
-    requires work { length work.old ≡ length map.old.measures }
-    requires best { length best.old ≡ length map.old.measures }
-    requires kept { IsKept map.old.bounds (G.line lines.now) map.old.measures work.old best.old }
+    requires notes { AreNotes (length map.old.measures) (G.line lines.now) notes.old }
+    requires kept { IsKept map.old.bounds (G.line lines.now) map.old.measures notes.old.waits notes.old.best }
     requires none { updates.old.items ≡ [] }
     ensures bounds { map.new.bounds ≡ map.old.bounds }
     ensures size { length map.new.measures ≡ length map.old.measures }
-    ensures work { length work.new ≡ length work.old }
-    ensures best { length best.new ≡ length best.old }
-    ensures kept { IsKept map.old.bounds (G.line lines.now) map.new.measures work.new best.new }
+    ensures span { IsSameSpan notes.old notes.new }
+    ensures kept { IsKept map.old.bounds (G.line lines.now) map.new.measures notes.new.waits notes.new.best }
     ensures lifts { AreLifts map.old.bounds (G.line lines.now) map.old.measures updates.new.items map.new.measures }
     ensures under { StaysUnder map.old.bounds (G.line lines.now) map.old.measures map.new.measures }
     ensures few { length updates.new.items ≤ budget }
@@ -150,22 +141,22 @@ pub(crate) fn lift_some<G: Lines>(
     ensures fewer { IfOk result (λ quiet. quiet ≡ false → length updates.new.items ≡ budget) }
 {
     for _ in 0..budget {
-        let v = match next_ready(map, lines, work, best) {
+        let v = match next_ready(map, lines, notes) {
             Some(v) => v,
             None => return Ok(true),
         };
         let mut measure = match room_for_update(updates, map.bounds()) {
             Ok(measure) => measure,
             Err(failed) => {
-                work.add(v.0);
+                notes.add(v);
                 return Err(failed);
             }
         };
-        lift_ready(map, lines, edges, work, best, v);
+        lift_ready(map, lines, edges, notes, v);
         map.copy_to(v, &mut measure);
         updates.push_reserved(Update { vertex: v, measure });
     }
-    Ok(is_quiet(map, lines, work, best))
+    Ok(is_quiet(map, lines, notes))
 }
 
 /// Lifts at most `budget` vertices, and tells whether none of the part can be lifted. Each vertex that is lifted is listed.
@@ -173,24 +164,21 @@ pub(crate) fn lift_turn<G: Lines>(
     map: &mut MeasureMap,
     lines: &G,
     edges: &Edges,
-    work: &mut Worklist,
-    best: &mut [Vertex],
+    notes: &mut Notes,
     lifted: &mut Listing,
     budget: u32,
 ) -> bool
     requires within { AreWithin (length map.old.measures) (G.line lines.now) }
     requires edges { AreEdges (G.line lines.now) edges.now.starts.items edges.now.sources.items }
     requires targets { length edges.now.starts.items ≡ length map.old.measures + 1 }
-    requires work { length work.old ≡ length map.old.measures }
-    requires best { length best.old ≡ length map.old.measures }
-    requires kept { IsKept map.old.bounds (G.line lines.now) map.old.measures work.old best.old }
+    requires notes { AreNotes (length map.old.measures) (G.line lines.now) notes.old }
+    requires kept { IsKept map.old.bounds (G.line lines.now) map.old.measures notes.old.waits notes.old.best }
     requires room { lifted.old.count ≡ length map.old.measures }
     requires none { lifted.old.vertices ≡ [] }
     ensures bounds { map.new.bounds ≡ map.old.bounds }
     ensures size { length map.new.measures ≡ length map.old.measures }
-    ensures work { length work.new ≡ length work.old }
-    ensures best { length best.new ≡ length best.old }
-    ensures kept { IsKept map.old.bounds (G.line lines.now) map.new.measures work.new best.new }
+    ensures span { IsSameSpan notes.old notes.new }
+    ensures kept { IsKept map.old.bounds (G.line lines.now) map.new.measures notes.new.waits notes.new.best }
     ensures room { lifted.new.count ≡ lifted.old.count }
     ensures under { StaysUnder map.old.bounds (G.line lines.now) map.old.measures map.new.measures }
     ensures quiet { MatchBool result (IsClosed map.old.bounds (G.line lines.now) map.new.measures)
@@ -200,14 +188,14 @@ pub(crate) fn lift_turn<G: Lines>(
         × (result ≡ false → n ≡ budget)) }
 {
     for _ in 0..budget {
-        let v = match next_ready(map, lines, work, best) {
+        let v = match next_ready(map, lines, notes) {
             Some(v) => v,
             None => return true,
         };
-        lift_ready(map, lines, edges, work, best, v);
+        lift_ready(map, lines, edges, notes, v);
         lifted.add(v);
     }
-    is_quiet(map, lines, work, best)
+    is_quiet(map, lines, notes)
 }
 
 /// Lifts a vertex of the part. None if it is served. The memory for the update is taken before the lift.
@@ -215,8 +203,7 @@ pub(crate) fn lift_one<G: Lines>(
     map: &mut MeasureMap,
     lines: &G,
     edges: &Edges,
-    work: &mut Worklist,
-    best: &mut [Vertex],
+    notes: &mut Notes,
     alloc: Global,
     v: Vertex,
 ) -> Result<Option<Update>, AllocError>
@@ -224,14 +211,12 @@ pub(crate) fn lift_one<G: Lines>(
     requires within { AreWithin (length map.old.measures) (G.line lines.now) }
     requires edges { AreEdges (G.line lines.now) edges.now.starts.items edges.now.sources.items }
     requires targets { length edges.now.starts.items ≡ length map.old.measures + 1 }
-    requires work { length work.old ≡ length map.old.measures }
-    requires best { length best.old ≡ length map.old.measures }
-    requires kept { IsKept map.old.bounds (G.line lines.now) map.old.measures work.old best.old }
+    requires notes { AreNotes (length map.old.measures) (G.line lines.now) notes.old }
+    requires kept { IsKept map.old.bounds (G.line lines.now) map.old.measures notes.old.waits notes.old.best }
     ensures bounds { map.new.bounds ≡ map.old.bounds }
     ensures size { length map.new.measures ≡ length map.old.measures }
-    ensures work { length work.new ≡ length work.old }
-    ensures best { length best.new ≡ length best.old }
-    ensures kept { IsKept map.old.bounds (G.line lines.now) map.new.measures work.new best.new }
+    ensures span { IsSameSpan notes.old notes.new }
+    ensures kept { IsKept map.old.bounds (G.line lines.now) map.new.measures notes.new.waits notes.new.best }
     ensures lifted { IfOk result (λ o. IfSome o (λ u. (u.vertex ≡ v)
         × AreLifts map.old.bounds (G.line lines.now) map.old.measures (u ∷ []) map.new.measures
         × StaysUnder map.old.bounds (G.line lines.now) map.old.measures map.new.measures)) }
@@ -239,14 +224,14 @@ pub(crate) fn lift_one<G: Lines>(
         × (map.new ≡ map.old))) }
     ensures same { OnErr result (map.new ≡ map.old) }
 {
-    if !work.waits(v.0) {
+    if !notes.waits(v) {
         return Ok(None);
     }
-    if settle(map, lines, best, v) {
+    if settle(map, lines, notes, v) {
         return Ok(None);
     }
     let mut measure = Measure::zero(alloc, map.bounds())?;
-    lift_ready(map, lines, edges, work, best, v);
+    lift_ready(map, lines, edges, notes, v);
     map.copy_to(v, &mut measure);
     Ok(Some(Update { vertex: v, measure }))
 }
@@ -266,22 +251,19 @@ pub(crate) fn receive<G: Lines>(
     map: &mut MeasureMap,
     lines: &G,
     edges: &Edges,
-    work: &mut Worklist,
-    best: &mut [Vertex],
+    notes: &mut Notes,
     vertex: u32,
     measure: View,
 ) -> Result<bool, WorkerFault>
     requires within { AreWithin (length map.old.measures) (G.line lines.now) }
     requires edges { AreEdges (G.line lines.now) edges.now.starts.items edges.now.sources.items }
     requires targets { length edges.now.starts.items ≡ length map.old.measures + 1 }
-    requires work { length work.old ≡ length map.old.measures }
-    requires best { length best.old ≡ length map.old.measures }
-    requires kept { IsKept map.old.bounds (G.line lines.now) map.old.measures work.old best.old }
+    requires notes { AreNotes (length map.old.measures) (G.line lines.now) notes.old }
+    requires kept { IsKept map.old.bounds (G.line lines.now) map.old.measures notes.old.waits notes.old.best }
     ensures bounds { map.new.bounds ≡ map.old.bounds }
     ensures size { length map.new.measures ≡ length map.old.measures }
-    ensures work { length work.new ≡ length work.old }
-    ensures best { length best.new ≡ length best.old }
-    ensures kept { IsKept map.old.bounds (G.line lines.now) map.new.measures work.new best.new }
+    ensures span { IsSameSpan notes.old notes.new }
+    ensures kept { IsKept map.old.bounds (G.line lines.now) map.new.measures notes.new.waits notes.new.best }
     ensures ok { IsOk result ↔ ((vertex < length map.old.measures) × Fits map.old.bounds (measure_in measure.entry)) }
     ensures refused { IfErr result (λ e. e ≡ WorkerFault.BadUpdate) }
     ensures same { OnErr result (map.new ≡ map.old) }
@@ -296,5 +278,5 @@ pub(crate) fn receive<G: Lines>(
     if vertex >= map.len() || !fits(measure, map.bounds()) {
         return Err(WorkerFault::BadUpdate);
     }
-    Ok(take(map, lines, edges, work, best, Vertex(vertex), measure))
+    Ok(take(map, lines, edges, notes, Vertex(vertex), measure))
 }

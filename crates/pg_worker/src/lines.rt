@@ -1,47 +1,16 @@
 //! Lines that are read are added to a worker's part.
 
-ghost use Rattle.std.specs.Prelude.{◌≡◌, ◌⊎◌, List, [], ◌∷◌, Some, All, OnOk, OnErr, IfOk, IfErr, length};
+ghost use Rattle.std.specs.Prelude.{◌≡◌, ◌⊎◌, List, [], Some, All, OnOk, IfOk, IfErr, length};
 ghost use Rattle.pg_wire.specs.declared.frame.VertexLine.{VertexLine};
-ghost use Rattle.pg_wire.specs.Well.{IsVertexLine};
-ghost use Rattle.pg_wire.specs.Lines.{line_with, frame_with};
+ghost use Rattle.pg_wire.specs.Lines.{frame_with};
 ghost use Rattle.pg_wire.specs.LinesLeft.{AreLeft};
 ghost use Rattle.pg_worker.specs.Workers.{with_lines, AreAbove, FitsGame, RefusesLines};
 ghost use Rattle.pg_worker.specs.Turns.{Turn, Refuses};
 
 use crate::held::Held;
 use crate::{Worker, WorkerFault};
-use pg_wire::{LineHead, Rows, VertexLine, VerticesReader};
+use pg_wire::VerticesReader;
 use std::alloc::Global;
-use std::{mem, slice};
-
-/// Adds a vertex to the part, by its head and its successors; these stand in the vector afterwards too. After a refusal the
-/// worker is as before.
-fn add_one(
-    worker: &mut Worker,
-    head: LineHead,
-    successors: &mut Vec<u32>,
-) -> Result<(), WorkerFault>
-    requires { IsVertexLine (line_with head successors.old.items) }
-    ensures added { OnOk result (worker.new ≡ record worker.old {
-      lines = with_lines worker.old.lines (line_with head successors.old.items ∷ []);
-    }) }
-    ensures above { OnOk result (AreAbove worker.old.lines (line_with head successors.old.items ∷ [])) }
-    ensures fit { OnOk result (All (FitsGame worker.old.bounds (length worker.old.map))
-        (line_with head successors.old.items ∷ [])) }
-    ensures refused { IfErr result (RefusesLines worker.old (line_with head successors.old.items ∷ [])) }
-    ensures same { OnErr result (worker.new ≡ worker.old) }
-{
-    let empty = Vec::new(*successors.allocator());
-    let line = VertexLine {
-        vertex: head.vertex,
-        priority: head.priority,
-        owner: head.owner,
-        successors: Rows::new(mem::replace(successors, empty)),
-    };
-    let answer = worker.add_vertices(slice::from_ref(&line));
-    *successors = line.successors.into_items();
-    answer
-}
 
 /// Adds the vertices of the lines that are left, as `Worker::add_vertices` does; the vector is for the successors of one line
 /// at a time. After a refusal some of them may be of the part.
@@ -59,7 +28,7 @@ fn add_read(
     ensures refused { (ls : List VertexLine) → AreLeft lines.entry ls → IfErr result (RefusesLines worker.old ls) }
 {
     'each: while let Some(head) = lines.next(successors)? {
-        add_one(worker, head, successors)?;
+        worker.add_vertex(head, successors)?;
     }
     Ok(())
 }

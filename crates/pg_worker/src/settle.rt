@@ -1,6 +1,6 @@
 //! Which vertices that wait are served, and by which successor.
 
-ghost use Rattle.std.specs.Prelude.{◌≡◌, ℕ, ◌<◌, true, false, length, IsSome, IfSome, IfNone, slice_index_or, slice_set};
+ghost use Rattle.std.specs.Prelude.{◌≡◌, ◌<◌, true, false, length, IsSome, IfSome, IfNone, slice_index_or, slice_set};
 ghost use Rattle.std.specs.Bool.{OnTrue, OnFalse};
 ghost use Rattle.pg_arena.specs.declared.player.Player.TheVariants.{Even};
 ghost use Rattle.pg_measure.specs.Measures.{width_from};
@@ -8,8 +8,9 @@ ghost use Rattle.pg_map.specs.Lines.{AreWithin, line_at};
 ghost use Rattle.pg_map.specs.Maps.{measure_at, IsServedBy, IsClosed};
 ghost use Rattle.pg_map.specs.Mirrors.Tables.{IsBest};
 ghost use Rattle.pg_worker.specs.Mirrors.Keeps.{IsAmong, Keeps, IsKept, IsReady, nothing};
+ghost use Rattle.pg_worker.specs.Mirrors.Notes.{AreNotes, IsSameSpan};
 
-use crate::worklist::Worklist;
+use crate::notes::Notes;
 use pg_arena::{Player, Vertex};
 use pg_map::{Lines, MeasureMap};
 
@@ -37,27 +38,28 @@ fn choose<G: Lines>(map: &MeasureMap, lines: &G, v: Vertex) -> (Vertex, bool)
 }
 
 /// Whether a vertex that waits is served. What is remembered of it is then what serves it, or else its best successor.
-pub(crate) fn settle<G: Lines>(map: &MeasureMap, lines: &G, best: &mut [Vertex], v: Vertex) -> bool
+pub(crate) fn settle<G: Lines>(map: &MeasureMap, lines: &G, notes: &mut Notes, v: Vertex) -> bool
     requires held { IsSome (G.line lines.now v) }
     requires within { AreWithin (length map.now.measures) (G.line lines.now) }
-    requires best { length best.old ≡ length map.now.measures }
+    requires notes { AreNotes (length map.now.measures) (G.line lines.now) notes.old }
     requires kept { Keeps map.now.bounds (line_at (G.line lines.now) v) map.now.measures nothing
-        (measure_at map.now.measures v) true (slice_index_or best.old v 0) }
-    ensures others { best.new ≡ slice_set best.old v (slice_index_or best.new v 0) }
+        (measure_at map.now.measures v) true (slice_index_or notes.old.best v 0) }
+    ensures span { IsSameSpan notes.old notes.new }
+    ensures waits { notes.new.waits ≡ notes.old.waits }
+    ensures others { notes.new.best ≡ slice_set notes.old.best v (slice_index_or notes.new.best v 0) }
     ensures kept { Keeps map.now.bounds (line_at (G.line lines.now) v) map.now.measures nothing
-        (measure_at map.now.measures v) true (slice_index_or best.new v 0) }
+        (measure_at map.now.measures v) true (slice_index_or notes.new.best v 0) }
     ensures served { OnTrue result (Keeps map.now.bounds (line_at (G.line lines.now) v) map.now.measures nothing
-        (measure_at map.now.measures v) false (slice_index_or best.new v 0)) }
-    ensures ready { OnFalse result (IsReady map.now.bounds (G.line lines.now) map.now.measures best.new v) }
+        (measure_at map.now.measures v) false (slice_index_or notes.new.best v 0)) }
+    ensures ready { OnFalse result (IsReady map.now.bounds (G.line lines.now) map.now.measures notes.new.best v) }
 {
-    let at = v.0 as usize;
-    if map.serves(lines, v, best[at]) {
+    if map.serves(lines, v, notes.best(v)) {
         return true;
     }
     match lines.owner(v) {
         Player::Even => {
             let (w, serves) = choose(map, lines, v);
-            best[at] = w;
+            notes.remember(v, w);
             serves
         }
         Player::Odd => false,
@@ -65,27 +67,20 @@ pub(crate) fn settle<G: Lines>(map: &MeasureMap, lines: &G, best: &mut [Vertex],
 }
 
 /// Takes from the list until a vertex isn't served. That one no longer waits, and is to be lifted or to wait again.
-pub(crate) fn next_ready<G: Lines>(
-    map: &MeasureMap,
-    lines: &G,
-    work: &mut Worklist,
-    best: &mut [Vertex],
-) -> Option<Vertex>
+pub(crate) fn next_ready<G: Lines>(map: &MeasureMap, lines: &G, notes: &mut Notes) -> Option<Vertex>
     requires within { AreWithin (length map.now.measures) (G.line lines.now) }
-    requires work { length work.old ≡ length map.now.measures }
-    requires best { length best.old ≡ length map.now.measures }
-    requires kept { IsKept map.now.bounds (G.line lines.now) map.now.measures work.old best.old }
-    ensures work { length work.new ≡ length work.old }
-    ensures best { length best.new ≡ length best.old }
-    ensures ready { IfSome result (λ v. IsReady map.now.bounds (G.line lines.now) map.now.measures best.new v) }
+    requires notes { AreNotes (length map.now.measures) (G.line lines.now) notes.old }
+    requires kept { IsKept map.now.bounds (G.line lines.now) map.now.measures notes.old.waits notes.old.best }
+    ensures span { IsSameSpan notes.old notes.new }
+    ensures ready { IfSome result (λ v. IsReady map.now.bounds (G.line lines.now) map.now.measures notes.new.best v) }
     ensures kept { IfSome result (λ v. IsKept map.now.bounds (G.line lines.now) map.now.measures
-        (slice_set work.new v true) best.new) }
-    ensures quiet { IfNone result (IsKept map.now.bounds (G.line lines.now) map.now.measures work.new best.new) }
+        (slice_set notes.new.waits v true) notes.new.best) }
+    ensures quiet { IfNone result
+        (IsKept map.now.bounds (G.line lines.now) map.now.measures notes.new.waits notes.new.best) }
     ensures closed { IfNone result (IsClosed map.now.bounds (G.line lines.now) map.now.measures) }
 {
-    while let Some(number) = work.pop() {
-        let v = Vertex(number);
-        if lines.holds(v) && !settle(map, lines, best, v) {
+    while let Some(v) = notes.pop() {
+        if lines.holds(v) && !settle(map, lines, notes, v) {
             return Some(v);
         }
     }

@@ -2,6 +2,7 @@
 
 ghost use Rattle.std.specs.Prelude.{◌≡◌, ◌↔◌, ◌+◌, ◌<◌, ◌≤◌, ◌⊎◌, [], ◌∷◌, length, All, IfOk, IfErr, IfSome, IfNone, IsOk, OnOk, OnErr, IsTrue, IsSome, vec_capacity};
 ghost use Rattle.std.specs.Option.{option_copied};
+ghost use Rattle.pg_wire.specs.Lines.{line_with};
 ghost use Rattle.pg_wire.specs.Well.{IsSetup, IsVertices, ArePlaces};
 ghost use Rattle.pg_measure.specs.Measures.{Fits};
 ghost use Rattle.pg_measure.specs.Views.{measure_in};
@@ -12,18 +13,18 @@ ghost use Rattle.pg_worker.specs.Mirrors.Insides.{AreReady};
 ghost use Rattle.pg_worker.specs.Mirrors.Parts.{held_line};
 ghost use Rattle.pg_worker.specs.Workers.{part_line, new_worker, with_lines, AreAbove, FitsGame, IsWorker, RefusesLines, CanTake, Takes, Lifts, IsTurn, IsListedTurn, sparse_measure};
 
-use crate::adding::{add_lines, are_from, count_edges, fit_game};
+use crate::adding::{add_line, add_lines, are_from, count_edges, fit_game, fits_line};
 use crate::edges::Edges;
 use crate::lifting::{lift_one, lift_some, lift_turn, receive};
 use crate::listing::Listing;
+use crate::notes::Notes;
 use crate::part::Part;
 use crate::sparse::fill;
-use crate::worklist::Worklist;
 use crate::{Lifted, WorkerFault};
 use pg_arena::Vertex;
 use pg_map::{Lines, MeasureMap, Update, View};
 use pg_measure::Bounds;
-use pg_wire::{Setup, VertexLine};
+use pg_wire::{LineHead, Setup, VertexLine};
 use std::alloc::{AllocError, Global};
 use std::marker::Model;
 use std::mem;
@@ -35,10 +36,8 @@ pub struct Worker {
     map: MeasureMap,
     part: Part,
     edges: Edges,
-    /// The vertices of the part that have to be looked at; the others are served.
-    work: Worklist,
-    /// For each vertex of the part the successor that serves it, or that it is to be lifted over.
-    best: Vec<Vertex>,
+    /// What is remembered of the vertices of the part, and which of them have to be looked at; the others are served.
+    notes: Notes,
     /// One more than the greatest vertex of the part, or 0.
     next: u64,
     /// A measure's components, all 0 between calls.
@@ -56,7 +55,7 @@ impl Model for Worker {
 
     ghost view = { λ w. record { bounds = w.map.bounds; lines = w.part.lines; map = w.map.measures; kept = w.kept.items; lifted = w.lifted.vertices } };
 
-    ghost invariant = { λ w. IsWhole w.part w.map w.edges w.work w.best.items w.next w.lifted.count w.row.items };
+    ghost invariant = { λ w. IsWhole w.part w.map w.edges w.notes w.next w.lifted.count w.row.items };
 }
 
 /// Gathers the edges of a part.
@@ -85,8 +84,7 @@ impl Worker {
             map: MeasureMap::zero(alloc, vertices, &bounds)?,
             part: Part::new(alloc, vertices),
             edges: Edges::new(alloc, vertices)?,
-            work: Worklist::new(alloc, vertices)?,
-            best: vec![in alloc; Vertex(0); vertices as usize]?,
+            notes: Notes::new(alloc, vertices)?,
             next: 0,
             row: vec![in alloc; 0; bounds.pairs().len()]?,
             kept: Vec::new(alloc),
@@ -121,16 +119,51 @@ impl Worker {
         let count = count_edges(lines).ok_or(AllocError)?;
         let all = self.part.edges().checked_add(count).ok_or(AllocError)?;
         self.edges.reserve(all)?;
+        self.notes.reserve(from, to)?;
         self.part.reserve(from, to, count)?;
         self.edges.is_gathered = false;
         add_lines(
             &self.map,
             &mut self.part,
-            &mut self.work,
-            &mut self.best,
+            &mut self.notes,
             &mut self.next,
             lines,
         );
+        Ok(())
+    }
+
+    /// As `add_vertices`, of one vertex by its head and its successors.
+    pub(crate) fn add_vertex(
+        &mut self,
+        head: LineHead,
+        successors: &[u32],
+    ) -> Result<(), WorkerFault>
+        requires { 0 < length successors.now }
+        ensures added { OnOk result (self.new ≡ record self.old {
+          lines = with_lines self.old.lines (line_with head successors.now ∷ []);
+        }) }
+        ensures above { OnOk result (AreAbove self.old.lines (line_with head successors.now ∷ [])) }
+        ensures fit { OnOk result (All (FitsGame self.old.bounds (length self.old.map))
+            (line_with head successors.now ∷ [])) }
+        ensures refused { IfErr result (RefusesLines self.old (line_with head successors.now ∷ [])) }
+        ensures same { OnErr result (self.new ≡ self.old) }
+    {
+        let vertex = head.vertex;
+        if u64::from(vertex) < self.next {
+            return Err(WorkerFault::Order);
+        }
+        let count = self.map.len();
+        if !fits_line(self.map.bounds().pairs(), count, head, successors) {
+            return Err(WorkerFault::BadUpdate);
+        }
+        let count = successors.len();
+        let all = self.part.edges().checked_add(count).ok_or(AllocError)?;
+        self.edges.reserve(all)?;
+        self.notes.reserve(vertex, vertex)?;
+        self.part.reserve(vertex, vertex, count)?;
+        self.edges.is_gathered = false;
+        add_line(&self.map, &mut self.part, &mut self.notes, head, successors);
+        self.next = u64::from(vertex) + 1;
         Ok(())
     }
 
@@ -157,8 +190,7 @@ impl Worker {
             &mut self.map,
             &self.part,
             &self.edges,
-            &mut self.work,
-            &mut self.best,
+            &mut self.notes,
             vertex,
             measure,
         )
@@ -187,8 +219,7 @@ impl Worker {
             &mut self.map,
             &self.part,
             &self.edges,
-            &mut self.work,
-            &mut self.best,
+            &mut self.notes,
             vertex,
             View::List(&self.row),
         );
@@ -217,8 +248,7 @@ impl Worker {
             &mut self.map,
             &self.part,
             &self.edges,
-            &mut self.work,
-            &mut self.best,
+            &mut self.notes,
             alloc,
             v,
         )?;
@@ -240,8 +270,7 @@ impl Worker {
             &mut self.map,
             &self.part,
             &self.edges,
-            &mut self.work,
-            &mut self.best,
+            &mut self.notes,
             &mut self.kept,
             budget,
         )?;
@@ -261,8 +290,7 @@ impl Worker {
             &mut self.map,
             &self.part,
             &self.edges,
-            &mut self.work,
-            &mut self.best,
+            &mut self.notes,
             &mut self.lifted,
             budget,
         );

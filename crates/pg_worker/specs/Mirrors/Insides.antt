@@ -1,19 +1,19 @@
 -- What a worker remembers fits its part and its map.
-use Rattle.std.specs.Prelude.{◌≡◌, ℕ, ◌+◌, ◌^◌, ◌<◌, ◌≤◌, Bool, List, length, replicate, IsSome, vec_capacity}
+use Rattle.std.specs.Prelude.{◌≡◌, ℕ, ◌+◌, ◌^◌, ◌<◌, ◌≤◌, List, length, replicate, IsSome, vec_capacity}
 use Rattle.pg_map.specs.Lines.{AreWithin}
 use Rattle.pg_map.specs.Maps.{MapValue}
 use Rattle.pg_wire.specs.declared.frame.VertexLine.{VertexLine}
 use Rattle.pg_worker.specs.declared.edges.Edges.{Edges}
 use Rattle.pg_worker.specs.Mirrors.Parts.{PartValue, held_line}
 use Rattle.pg_worker.specs.Mirrors.Keeps.{IsKept}
+use Rattle.pg_worker.specs.Mirrors.Notes.{NotesValue, AreNotes}
 use Rattle.pg_worker.specs.Mirrors.Edges.{IsRight, edges_of}
 
-pub record IsInside (part : PartValue) (map : MapValue) (marked : List Bool) (choices : List ℕ) : Type 0 where
+pub record IsInside (part : PartValue) (map : MapValue) (notes : NotesValue) : Type 0 where
   pub within : AreWithin (length map.measures) (held_line part)
   pub count : edges_of (held_line part) (length map.measures) ≡ part.edges
-  pub work : length marked ≡ length map.measures
-  pub best : length choices ≡ length map.measures
-  pub kept : IsKept map.bounds (held_line part) map.measures marked choices
+  pub noted : AreNotes (length map.measures) (held_line part) notes
+  pub kept : IsKept map.bounds (held_line part) map.measures notes.waits notes.best
   pub size : length part.lines ≡ length map.measures
 
 -- there is room for the sources of all edges of the part, and they are right where they are gathered
@@ -33,10 +33,11 @@ pub record IsNext (part : PartValue) (next : ℕ) : Type 0 where
   pub least : (n : ℕ) → ((v : ℕ) → IsSome (held_line part v) → v < n) → next ≤ n
 
 -- the same of a whole worker: the last two are for how many vertices it can list lifts, and a row that is clear
-pub record IsWhole (part : PartValue) (map : MapValue) (edges : Edges) (marked : List Bool) (choices : List ℕ) (next listings : ℕ) (row : List ℕ) : Type 0 where
-  pub inside : IsInside part map marked choices
+pub record IsWhole (part : PartValue) (map : MapValue) (edges : Edges) (notes : NotesValue) (next listings : ℕ) (row : List ℕ) : Type 0 where
+  pub inside : IsInside part map notes
   pub ready : AreReady part map edges
   pub above : IsNext part next
   pub first : part.first ≤ next
+  pub note_first : 0 < notes.span.size → notes.span.first ≤ next
   pub listed : listings ≡ length map.measures
   pub clear : row ≡ replicate (length map.bounds) 0

@@ -1,11 +1,14 @@
-use Rattle.std.proofs.Common.{◌≡◌, ◌<◌, ◌∷◌, ◌++◌, [], ◌+◌, ◌∙◌, length, take, drop, get_or, set, ◌≤◌, sym, ap, subst, arith, Some}
+use Rattle.std.proofs.Common.{ℕ, List, ◌≡◌, ◌<◌, ◌∷◌, ◌++◌, [], ◌+◌, ◌∙◌, length, take, drop, get_or, set, ◌≤◌, sym, ap, subst, arith, Some}
 use Rattle.std.specs.Prelude.{sum_by}
 use Rattle.std.proofs.lemmas.List.{get_or_default, drop_all}
 use Rattle.std.proofs.lemmas.Grind.{take_at_read}
 use Rattle.std.proofs.lemmas.List.Sums.{sum_by-drop_more}
 use Rattle.pg_wire.specs.declared.frame.VertexLine.{VertexLine}
+use Rattle.pg_wire.specs.Well.{IsVertexLine}
 use Rattle.pg_worker.specs.Workers.{told_line, with_lines, FitsGame}
 use Rattle.pg_worker.specs.Mirrors.Parts.{HasPlace}
+use Rattle.pg_worker.specs.Mirrors.Notes.{HasRoom}
+use Rattle.pg_worker.proofs.Noting.{room_still}
 use Rattle.pg_worker.specs.Mirrors.Insides.{IsNext, edge_count}
 use Rattle.pg_worker.proofs.Working.{next_after, with_lines_more}
 use Rattle.pg_worker.proofs.adding.add_lines.Goals as goal
@@ -24,20 +27,25 @@ loop-line-preserved c =
     let below : x.vertex < length part.lines = omega (arith, fit.vertex) in
     let here : (d : VertexLine) → get_or xs i d ≡ x = λ d. get_or_default xs i d x lt ∙ sym c.line-item.is in
     let from : c.loop-line.next ≤ x.vertex = subst (λ (y : VertexLine). c.loop-line.next ≤ y.vertex) (here x) (inv.above i x (omega arith) lt) in
-    let next : IsNext part' (x.vertex + 1) = next_after part part' x.vertex c.loop-line.next (told_line x) c.add_line.ensures.lines below from inv.next in
+    let lines : part'.lines ≡ set part.lines x.vertex (Some (told_line x)) = rw c.as_slice.ensures at c.add_line.ensures.lines in
+    let edges : part'.edges ≡ part.edges + length x.successors = c.add_line.ensures.edges ∙ ap (λ (ns : List ℕ). part.edges + length ns) c.as_slice.ensures in
+    let next : IsNext part' (x.vertex + 1) = next_after part part' x.vertex c.loop-line.next (told_line x) lines below from inv.next in
     let taken : take (i + 1) xs ≡ take i xs ++ x ∷ [] = (take_at_read xs i x lt).1 ∙ ap (λ y. take i xs ++ y ∷ []) (here x) in
     let sum = sum_by-drop_more edge_count xs i x lt in
     let count : edge_count (get_or xs i x) ≡ edge_count x = ap edge_count (here x) in
     let place : HasPlace part x.vertex = inv.places x.vertex (subst (λ (y : VertexLine). HasPlace c.args.part.now y.vertex) (sym c.line-item.is) (c.requires.places i x lt)) in
+    let room : HasRoom c.args.notes.now.span x.vertex = subst (λ (y : VertexLine). HasRoom c.args.notes.now.span y.vertex) (sym c.line-item.is) (c.requires.notes i x lt) in
     record {
       inside = c.add_line.ensures.inside;
-      best = c.add_line.auto.best ∙ inv.best;
       next = rw c.from.ensures next;
       above = λ j d le less. let r = subst (λ (y : VertexLine). y.vertex < (get_or xs j d).vertex) (here d) (c.requires.rising i j d (omega arith) less) in let f = c.from.ensures in omega arith;
-      lines = c.add_line.ensures.lines ∙ (ap (λ ls. set ls x.vertex (Some (told_line x))) inv.lines ∙ (sym (with_lines_more c.args.part.now.lines (take i xs) x) ∙ ap (with_lines c.args.part.now.lines) (sym taken)));
-      room = omega (arith, inv.room, c.add_line.ensures.edges, c.add_line.ensures.room);
-      edges = omega (arith, inv.edges, c.add_line.ensures.edges);
+      lines = lines ∙ (ap (λ ls. set ls x.vertex (Some (told_line x))) inv.lines ∙ (sym (with_lines_more c.args.part.now.lines (take i xs) x) ∙ ap (with_lines c.args.part.now.lines) (sym taken)));
+      room = omega (arith, inv.room, edges, c.add_line.ensures.room);
+      edges = omega (arith, inv.edges, edges);
       places = λ v h. c.add_line.ensures.places v (inv.places v h);
+      note_first = c.add_line.ensures.note_first ∙ inv.note_first;
+      note_room = c.add_line.ensures.note_room ∙ inv.note_room;
+      noted = λ some. let f = c.from.ensures in let p = room.from in let a = inv.note_first in let b = c.add_line.ensures.note_first in omega arith;
       first = λ some. let f = c.from.ensures in let p = place.from in let s = c.add_line.ensures.first in omega arith;
     }
 
@@ -53,4 +61,64 @@ returns-clause-edges c =
     let none : drop c.loop-line.line-index c.args.lines.now ≡ [] = drop_all c.loop-line.line-index c.args.lines.now (omega arith) in
     let e = c.loop-line.invariant.edges in
     let z = ap (sum_by edge_count) none in
+    omega arith
+
+pub add_line-requires-clause-note : goal.add_line-requires-clause-note
+add_line-requires-clause-note c =
+    let i = c.loop-line.line-index in
+    let x = c.line-item.result in
+    let room : HasRoom c.args.notes.now.span x.vertex = subst (λ (y : VertexLine). HasRoom c.args.notes.now.span y.vertex) (sym c.line-item.is) (c.requires.notes i x c.loop-line-test.true) in
+    room_still c.args.notes.now.span c.loop-line.notes.span x.vertex c.loop-line.invariant.note_first c.loop-line.invariant.note_room room
+
+pub add_line-requires-clause-fits : goal.add_line-requires-clause-fits
+add_line-requires-clause-fits c =
+    let i = c.loop-line.line-index in
+    let xs = c.args.lines.now in
+    let x = c.line-item.result in
+    let inv = c.loop-line.invariant in
+    let lt = c.loop-line-test.true in
+    let here : (d : VertexLine) → get_or xs i d ≡ x = λ d. get_or_default xs i d x lt ∙ sym c.line-item.is in
+    let fit : FitsGame c.args.map.now.bounds (length c.args.map.now.measures) x = subst (λ y. FitsGame c.args.map.now.bounds (length c.args.map.now.measures) y) (sym c.line-item.is) (c.requires.fit i x lt) in
+    rw c.as_slice.ensures fit
+
+pub add_line-requires-clause-some : goal.add_line-requires-clause-some
+add_line-requires-clause-some c =
+    let i = c.loop-line.line-index in
+    let xs = c.args.lines.now in
+    let x = c.line-item.result in
+    let inv = c.loop-line.invariant in
+    let lt = c.loop-line-test.true in
+    let here : (d : VertexLine) → get_or xs i d ≡ x = λ d. get_or_default xs i d x lt ∙ sym c.line-item.is in
+    let line : IsVertexLine x = subst (λ (y : VertexLine). IsVertexLine y) (sym c.line-item.is) (c.requires.lines i x lt) in
+    let some = line.some in
+    let size = ap length c.as_slice.ensures in
+    omega arith
+
+pub add_line-requires-clause-few : goal.add_line-requires-clause-few
+add_line-requires-clause-few c =
+    let i = c.loop-line.line-index in
+    let xs = c.args.lines.now in
+    let x = c.line-item.result in
+    let inv = c.loop-line.invariant in
+    let lt = c.loop-line-test.true in
+    let here : (d : VertexLine) → get_or xs i d ≡ x = λ d. get_or_default xs i d x lt ∙ sym c.line-item.is in
+    let sum = sum_by-drop_more edge_count xs i x lt in
+    let count : edge_count (get_or xs i x) ≡ edge_count x = ap edge_count (here x) in
+    let size = ap length c.as_slice.ensures in
+    let edges = inv.edges in
+    let few = c.requires.few in
+    omega arith
+
+pub add_line-requires-clause-room : goal.add_line-requires-clause-room
+add_line-requires-clause-room c =
+    let i = c.loop-line.line-index in
+    let xs = c.args.lines.now in
+    let x = c.line-item.result in
+    let inv = c.loop-line.invariant in
+    let lt = c.loop-line-test.true in
+    let here : (d : VertexLine) → get_or xs i d ≡ x = λ d. get_or_default xs i d x lt ∙ sym c.line-item.is in
+    let sum = sum_by-drop_more edge_count xs i x lt in
+    let count : edge_count (get_or xs i x) ≡ edge_count x = ap edge_count (here x) in
+    let size = ap length c.as_slice.ensures in
+    let room = inv.room in
     omega arith

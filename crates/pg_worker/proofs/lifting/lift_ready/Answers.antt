@@ -1,9 +1,9 @@
-use Rattle.std.proofs.Common.{◌≡◌, ◌<◌, length, get_or, arith}
+use Rattle.std.proofs.Common.{◌<◌, length, get_or}
 use Rattle.pg_measure.specs.Measures.{Covers}
 use Rattle.pg_map.specs.Lines.{line_at}
 use Rattle.pg_map.specs.Maps.{measure_at}
 use Rattle.pg_worker.specs.Mirrors.Edges.{IsListed}
-use Rattle.pg_worker.proofs.Keeping.{lifted_begun, read_at}
+use Rattle.pg_worker.proofs.Keeping.{lifted_begun}
 use Rattle.pg_worker.proofs.lifting.lift_ready.Goals as goal
 
 pub touch_all-requires-clause-kept : goal.touch_all-requires-clause-kept
@@ -11,8 +11,7 @@ touch_all-requires-clause-kept g c =
     let lines = g.G.Lines.line c.args.lines.now in
     let bs = c.args.map.now.bounds in
     let f = c.args.map.now.measures in
+    let old = c.args.notes.now in
     let n : c.args.v < length f = c.requires.within.numbers c.args.v c.requires.ready.held in
-    let lt : c.args.v < length c.args.best.now = let z = c.requires.best in omega arith in
-    let e : c.index-best-v.result ≡ get_or c.args.best.now c.args.v 0 = read_at c.args.best.now c.v.inside.0 c.args.v c.index-best-v.result c.v.view_is lt c.index-best-v.is in
-    let served : Covers bs (line_at lines c.args.v).priority (measure_at c.lift_over.new.self.measures c.args.v) (measure_at f (get_or c.args.best.now c.args.v 0)) = rw e at c.lift_over.ensures.served in
-    rw (c.lift_over.ensures.bounds, c.lifted.ensures) (lifted_begun bs lines f c.lift_over.new.self.measures c.args.work.now c.args.best.now c.args.v (IsListed c.args.edges.now.starts.items c.args.edges.now.sources.items c.args.v) (λ u s t. c.requires.edges.all u c.args.v (s, t)) n c.lift_over.ensures.lifted c.requires.ready served c.requires.kept)
+    let served : Covers bs (line_at lines c.args.v).priority (measure_at c.lift_over.new.self.measures c.args.v) (measure_at f (get_or old.best c.args.v 0)) = rw c.best.ensures at c.lift_over.ensures.served in
+    rw (c.lift_over.ensures.bounds, c.lifted.ensures) (lifted_begun bs lines f c.lift_over.new.self.measures old.waits old.best c.args.v (IsListed c.args.edges.now.starts.items c.args.edges.now.sources.items c.args.v) (λ u s t. c.requires.edges.all u c.args.v (s, t)) n c.lift_over.ensures.lifted c.requires.ready served c.requires.kept)

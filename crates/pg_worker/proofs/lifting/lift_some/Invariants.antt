@@ -1,5 +1,6 @@
 use Rattle.std.proofs.Common.{◌≡◌, length}
 use Rattle.pg_map.specs.Maps.{StaysUnder}
+use Rattle.pg_worker.specs.Mirrors.Notes.{IsSameSpan}
 use Rattle.pg_worker.specs.Workers.{AreLifts}
 use Rattle.pg_worker.specs.Mirrors.Keeps.{IsKept}
 use Rattle.pg_worker.proofs.lifting.lift_some.Given as goal
@@ -8,9 +9,8 @@ abbrev pub invariant-loop : goal.invariant-loop
 invariant-loop g l = record {
   bounds : l.map.bounds ≡ l.initial.map.bounds;
   size : length l.map.measures ≡ length l.initial.map.measures;
-  work : length l.work ≡ length l.initial.work;
-  best : length l.best ≡ length l.initial.best;
-  kept : IsKept l.initial.map.bounds (g.G.Lines.line l.lines) l.map.measures l.work l.best;
+  span : IsSameSpan l.initial.notes l.notes;
+  kept : IsKept l.initial.map.bounds (g.G.Lines.line l.lines) l.map.measures l.notes.waits l.notes.best;
   lifts : AreLifts l.initial.map.bounds (g.G.Lines.line l.lines) l.initial.map.measures l.updates.items l.map.measures;
   under : StaysUnder l.initial.map.bounds (g.G.Lines.line l.lines) l.initial.map.measures l.map.measures;
   lifted : length l.updates.items ≡ l.counter;

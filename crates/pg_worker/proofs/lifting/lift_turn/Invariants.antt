@@ -1,5 +1,6 @@
 use Rattle.std.proofs.Common.{◌≡◌, length}
 use Rattle.pg_map.specs.Maps.{StaysUnder}
+use Rattle.pg_worker.specs.Mirrors.Notes.{IsSameSpan}
 use Rattle.pg_worker.specs.Mirrors.Keeps.{IsKept, AreListedLifts}
 use Rattle.pg_worker.proofs.lifting.lift_turn.Given as goal
 
@@ -7,10 +8,9 @@ abbrev pub invariant-loop : goal.invariant-loop
 invariant-loop g l = record {
   bounds : l.map.bounds ≡ l.initial.map.bounds;
   size : length l.map.measures ≡ length l.initial.map.measures;
-  work : length l.work ≡ length l.initial.work;
-  best : length l.best ≡ length l.initial.best;
+  span : IsSameSpan l.initial.notes l.notes;
   room : l.lifted.count ≡ l.initial.lifted.count;
-  kept : IsKept l.initial.map.bounds (g.G.Lines.line l.lines) l.map.measures l.work l.best;
+  kept : IsKept l.initial.map.bounds (g.G.Lines.line l.lines) l.map.measures l.notes.waits l.notes.best;
   under : StaysUnder l.initial.map.bounds (g.G.Lines.line l.lines) l.initial.map.measures l.map.measures;
   listed : AreListedLifts l.initial.map.bounds (g.G.Lines.line l.lines) l.initial.map.measures l.map.measures l.lifted.vertices (λ n. n ≡ l.counter);
 }

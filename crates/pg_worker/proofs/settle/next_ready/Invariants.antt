@@ -1,14 +1,13 @@
-use Rattle.std.proofs.Common.{◌≡◌, length}
 use Rattle.std.specs.Prelude.{count_by}
 use Rattle.pg_worker.specs.Mirrors.Keeps.{IsKept}
+use Rattle.pg_worker.specs.Mirrors.Notes.{IsSameSpan}
 use Rattle.pg_worker.proofs.settle.next_ready.Given as goal
 
-abbrev pub invariant-loop-number : goal.invariant-loop-number
-invariant-loop-number g l = record {
-  work : length l.work ≡ length l.map.measures;
-  best : length l.best ≡ length l.map.measures;
-  kept : IsKept l.map.bounds (g.G.Lines.line l.lines) l.map.measures l.work l.best;
+abbrev pub invariant-loop-v : goal.invariant-loop-v
+invariant-loop-v g l = record {
+  span : IsSameSpan l.initial.notes l.notes;
+  kept : IsKept l.map.bounds (g.G.Lines.line l.lines) l.map.measures l.notes.waits l.notes.best;
 }
 
-abbrev pub decreases-loop-number : goal.decreases-loop-number
-decreases-loop-number g l = count_by (λ b. b) l.work
+abbrev pub decreases-loop-v : goal.decreases-loop-v
+decreases-loop-v g l = count_by (λ b. b) l.notes.waits

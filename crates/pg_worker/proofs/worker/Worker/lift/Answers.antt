@@ -1,28 +1,23 @@
-use Rattle.std.proofs.Common.{◌≡◌, ◌++◌, ◌∙◌, refl, ap, take, drop, length}
-use Rattle.std.proofs.lemmas.List.{take_at}
+use Rattle.std.proofs.Common.{refl}
 use Rattle.pg_worker.proofs.Working.{whole_after, whole_gathered, same_worker, if_some, if_none}
 use Rattle.pg_worker.proofs.worker.Worker.lift.Goals as goal
 
 pub invariant_of-self : goal.invariant_of-self
 invariant_of-self c =
     let w = c.self.inside in
-    whole_gathered w.part w.map w.edges c.gather.new.edges w.work w.best.items w.next w.lifted.count w.row.items c.gather.ensures.size c.gather.ensures.room c.gather.ensures.edges c.self.invariant
+    whole_gathered w.part w.map w.edges c.gather.new.edges w.notes w.next w.lifted.count w.row.items c.gather.ensures.size c.gather.ensures.room c.gather.ensures.edges c.self.invariant
 
 pub invariant_of-self-in_err-update : goal.invariant_of-self-in_err-update
 invariant_of-self-in_err-update c =
     let w = c.self.inside in
     let n = c.lift_one.new in
-    let k : take w.best.len (n.best ++ drop (length n.best) w.best.items) ≡ n.best = take_at n.best _ _ (c.lift_one.auto.best ∙ c.deref_mut.ensures.len) in
-    let b : length n.best ≡ length w.best.items = c.lift_one.ensures.best ∙ ap length c.deref_mut.ensures.value in
-    rw k (whole_after w.part w.map n.map w.edges c.gather.new.edges w.work n.work w.best.items n.best w.next w.lifted.count w.row.items c.lift_one.ensures.bounds c.lift_one.ensures.size c.gather.ensures.size c.gather.ensures.room c.gather.ensures.edges c.lift_one.ensures.work b c.lift_one.ensures.kept c.self.invariant)
+    whole_after w.part w.map n.map w.edges c.gather.new.edges w.notes n.notes w.next w.lifted.count w.row.items c.lift_one.ensures.bounds c.lift_one.ensures.size c.gather.ensures.size c.gather.ensures.room c.gather.ensures.edges c.lift_one.ensures.span c.lift_one.ensures.kept c.self.invariant
 
 pub invariant_of-self-2 : goal.invariant_of-self-2
 invariant_of-self-2 c =
     let w = c.self.inside in
     let n = c.lift_one.new in
-    let k : take w.best.len (n.best ++ drop (length n.best) w.best.items) ≡ n.best = take_at n.best _ _ (c.lift_one.auto.best ∙ c.deref_mut.ensures.len) in
-    let b : length n.best ≡ length w.best.items = c.lift_one.ensures.best ∙ ap length c.deref_mut.ensures.value in
-    rw k (whole_after w.part w.map n.map w.edges c.gather.new.edges w.work n.work w.best.items n.best w.next w.lifted.count w.row.items c.lift_one.ensures.bounds c.lift_one.ensures.size c.gather.ensures.size c.gather.ensures.room c.gather.ensures.edges c.lift_one.ensures.work b c.lift_one.ensures.kept c.self.invariant)
+    whole_after w.part w.map n.map w.edges c.gather.new.edges w.notes n.notes w.next w.lifted.count w.row.items c.lift_one.ensures.bounds c.lift_one.ensures.size c.gather.ensures.size c.gather.ensures.room c.gather.ensures.edges c.lift_one.ensures.span c.lift_one.ensures.kept c.self.invariant
 
 pub returns-clause-lifted : goal.returns-clause-lifted
 returns-clause-lifted c =

@@ -1,5 +1,4 @@
-use Rattle.std.proofs.Common.{◌≡◌, ◌++◌, ◌∙◌, refl, ap, take, drop, length}
-use Rattle.std.proofs.lemmas.List.{take_at}
+use Rattle.std.proofs.Common.{◌≡◌, refl, ap}
 use Rattle.pg_worker.proofs.Working.{whole_after}
 use Rattle.std.proofs.lemmas.Result.{err_from_is_err_and}
 use Rattle.pg_worker.proofs.worker.Worker.lift_some.Goals as goal
@@ -35,6 +34,4 @@ pub invariant_of-self-2 : goal.invariant_of-self-2
 invariant_of-self-2 c =
     let w = c.self.inside in
     let n = c.lift_some.new in
-    let k : take w.best.len (n.best ++ drop (length n.best) w.best.items) ≡ n.best = take_at n.best _ _ (c.lift_some.auto.best ∙ c.deref_mut.ensures.len) in
-    let b : length n.best ≡ length w.best.items = c.lift_some.ensures.best ∙ ap length c.deref_mut.ensures.value in
-    rw k (whole_after w.part w.map n.map w.edges c.gather.new.edges w.work n.work w.best.items n.best w.next w.lifted.count w.row.items c.lift_some.ensures.bounds c.lift_some.ensures.size c.gather.ensures.size c.gather.ensures.room c.gather.ensures.edges c.lift_some.ensures.work b c.lift_some.ensures.kept c.self.invariant)
+    whole_after w.part w.map n.map w.edges c.gather.new.edges w.notes n.notes w.next w.lifted.count w.row.items c.lift_some.ensures.bounds c.lift_some.ensures.size c.gather.ensures.size c.gather.ensures.room c.gather.ensures.edges c.lift_some.ensures.span c.lift_some.ensures.kept c.self.invariant

@@ -1,0 +1,22 @@
+use Rattle.std.proofs.Common.{◌≡◌, ◌≤◌, ◌<◌, ◌+◌, ◌⊎◌, ◌∙◌, length, inl, inr, sym, arith}
+use Rattle.std.proofs.lemmas.Bool.{eqb-true}
+use Rattle.pg_worker.proofs.Noting.{waits_size, noted_moved}
+use Rattle.pg_worker.proofs.notes.Notes.reserve.Goals as goal
+use Rattle.pg_worker.proofs.notes.Notes.reserve.Goals.{then-is_empty, else-is_empty}
+
+pub invariant_of-self-2 : goal.invariant_of-self-2
+invariant_of-self-2 c =
+    let w = c.self.inside in
+    let size = waits_size w.vertices w.first w.notes.items in
+    let from : c.args.from < w.vertices = let f = rw (← c.self.view_is) at c.requires.from in omega arith in
+    let none_or_same : (length w.notes.items ≡ 0) ⊎ (c.if-is_empty.first ≡ w.first) = elim c.if-is_empty.branch [
+      | then-is_empty k ↦ inl (let z = eqb-true _ 0 (sym c.is_empty.ensures ∙ k.if-is_empty.true) in let a = w.notes.ok.0 in omega arith)
+      | else-is_empty k ↦ inr k.first-is
+    ] in
+    let within : c.if-is_empty.first + length w.notes.items ≤ w.vertices = elim c.if-is_empty.branch [
+      | then-is_empty k ↦
+          let none : length w.notes.items ≡ 0 = let z = eqb-true _ 0 (sym c.is_empty.ensures ∙ k.if-is_empty.true) in let a = w.notes.ok.0 in omega arith in
+          let e = k.first-is in omega arith
+      | else-is_empty k ↦ let e = k.first-is in let s = c.self.invariant.within in omega arith
+    ] in
+    noted_moved w.vertices w.first c.if-is_empty.first w.notes.items c.reserve.new.self.items w.stack.items w.next.items w.stack.cap w.next.cap c.reserve.ensures.items none_or_same within c.self.invariant

@@ -1,0 +1,84 @@
+use Rattle.std.proofs.Common.{rules, ◌<◌, ◌≤◌, ◌+◌, ◌∷◌, [], ◌∙◌, length, refl, ap, arith}
+use Rattle.pg_wire.specs.declared.frame.VertexLine.{VertexLine}
+use Rattle.pg_wire.specs.Lines.{line_with}
+use Rattle.pg_worker.specs.Workers.{told_line, FitsGame}
+use Rattle.pg_worker.specs.Mirrors.Insides.{IsNext}
+use Rattle.pg_worker.proofs.Working.{above_next, next_above, next_after, whole_same, inside_same, next_same}
+use Rattle.pg_worker.proofs.Growing.{only}
+use Rattle.pg_worker.proofs.worker.Worker.add_vertex.Goals as goal
+
+pub invariant_of-self-in_err-reserve-2 : goal.invariant_of-self-in_err-reserve-2
+invariant_of-self-in_err-reserve-2 c =
+    let w = c.self.inside in
+    let e = c.reserve.ensures in
+    whole_same w.part w.part w.map w.edges c.reserve.new.self w.notes c.reserve-2.new.self w.next w.lifted.count w.row.items refl refl refl e.starts e.sources e.gathered e.more c.in_err-reserve-2.ensures.same c.self.invariant
+
+pub invariant_of-self-in_err-reserve-3 : goal.invariant_of-self-in_err-reserve-3
+invariant_of-self-in_err-reserve-3 c =
+    let w = c.self.inside in
+    let e = c.reserve.ensures in
+    whole_same w.part c.reserve-3.new.self w.map w.edges c.reserve.new.self w.notes c.reserve-2.new.self w.next w.lifted.count w.row.items c.reserve-3.ensures.lines c.reserve-3.ensures.edges c.in_err-reserve-3.ensures.first
+    e.starts e.sources e.gathered e.more c.reserve-2.ensures.same c.self.invariant
+
+pub add_line-requires-clause-inside : goal.add_line-requires-clause-inside
+add_line-requires-clause-inside c =
+    let w = c.self.inside in
+    inside_same w.part c.reserve-3.new.self w.map w.notes c.reserve-2.new.self c.reserve-3.ensures.lines c.reserve-3.ensures.edges c.reserve-2.ensures.same c.self.invariant.inside
+
+pub add_line-requires-clause-place : goal.add_line-requires-clause-place
+add_line-requires-clause-place c = c.in_ok-reserve-3.ensures.places c.args.head.vertex (omega arith) (omega arith)
+
+pub add_line-requires-clause-note : goal.add_line-requires-clause-note
+add_line-requires-clause-note c = c.in_ok-reserve-2.ensures.room c.args.head.vertex (omega arith) (omega arith)
+
+pub returns-then-from-self-clause-refused : goal.returns-then-from-self-clause-refused
+returns-then-from-self-clause-refused c = λ above.
+    let w = c.self.inside in
+    let l = line_with c.args.head c.args.successors.now in
+    let all = above_next w.part w.next (l ∷ []) c.self.invariant.above (rw (← c.self.view_is) at above) in
+    let first = all 0 l (omega arith) in
+    let less = c.if-from-self.true in
+    let same = c.from.ensures in
+    absurd (omega arith)
+
+pub returns-then-not-fits_line-clause-refused : goal.returns-then-not-fits_line-clause-refused
+returns-then-not-fits_line-clause-refused c =
+    let w = c.self.inside in
+    let l = line_with c.args.head c.args.successors.now in
+    let from : w.next ≤ c.args.head.vertex = let a = c.if-from-self.false in let b = c.from.ensures in omega arith in
+    rw (← c.self.view_is) (
+      next_above w.part w.next (l ∷ []) c.self.invariant.above (only (λ (k : VertexLine). w.next ≤ k.vertex) l from),
+      λ all.
+          let fit : FitsGame w.map.bounds (length w.map.measures) l = all 0 l (omega arith) in
+          let told : FitsGame c.pairs.result.now c.len-count.result l = rw (c.pairs.ensures.value, c.bounds.ensures, c.len-count.ensures.value) fit in
+          absurd (cc (c.if-not-fits_line.true, c.fits_line.ensures.1 told)),
+    )
+
+pub invariant_of-self-2 : goal.invariant_of-self-2
+invariant_of-self-2 c =
+    let w = c.self.inside in
+    let l = line_with c.args.head c.args.successors.now in
+    let v = c.args.head.vertex in
+    let part = c.reserve-3.new.self in
+    let part' = c.add_line.new.part in
+    let from : w.next ≤ v = let a = c.if-from-self.false in let b = c.from.ensures in omega arith in
+    let fit : FitsGame c.pairs.result.now c.len-count.result l = c.fits_line.ensures.0 c.if-not-fits_line.false in
+    let lt : v < length part.lines = let a = fit.vertex in let b = c.len-count.ensures.value in let s = c.self.invariant.inside.size in let e = ap length c.reserve-3.ensures.lines in omega arith in
+    let next : IsNext part' (v + 1) = next_after part part' v w.next (told_line l) c.add_line.ensures.lines lt from (next_same w.part part w.next c.reserve-3.ensures.lines c.self.invariant.above) in
+    let place = c.in_ok-reserve-3.ensures.places v (omega arith) (omega arith) in
+    let room = c.in_ok-reserve-2.ensures.room v (omega arith) (omega arith) in
+    let e = c.reserve.ensures in
+    rw c.from-2.ensures record {
+      inside = c.add_line.ensures.inside;
+      ready = record {
+        size = ap length e.starts ∙ c.self.invariant.ready.size;
+        few = search rules;
+        room = search rules;
+        right = λ q. absurd (cc q);
+      };
+      above = next;
+      first = let f = place.from in let s = c.add_line.ensures.first in omega arith;
+      note_first = λ some. let f = room.from in let s = c.add_line.ensures.note_first in omega arith;
+      listed = c.self.invariant.listed;
+      clear = c.self.invariant.clear;
+    }
