@@ -176,13 +176,21 @@ lexeme_again bytes token rest h =
 abbrev seen : Token × Bor (List ℕ) → Lexeme × List ℕ
 seen x = (lexeme x.0, x.1.now)
 
-pub token_takes : (bytes : List ℕ) (x : Lexeme × List ℕ) → token_at bytes ≡ Ok x → Begins bytes x.0 x.1
+token_lexeme : (bytes : List ℕ) (x : Lexeme × List ℕ) → token_at bytes ≡ Ok x → lexeme_at bytes ≡ Some x
 unfolding token_at
-token_takes bytes x e = lexeme_takes bytes x (read (lexeme_at bytes) e)
+token_lexeme bytes x e = read (lexeme_at bytes) e
   where
     read : (o : Option (Lexeme × List ℕ)) → or_fault o (token_fault bytes) ≡ Ok x → o ≡ Some x
     read (Some y) h = ap some (ok_is y x h)
     read None h = absurd (err_is_ok (token_fault bytes) x h)
+
+pub token_takes : (bytes : List ℕ) (x : Lexeme × List ℕ) → token_at bytes ≡ Ok x → Begins bytes x.0 x.1
+token_takes bytes x e = lexeme_takes bytes x (token_lexeme bytes x e)
+
+-- behind white space the token stands at the very front
+pub token_fronts : (bytes : List ℕ) (x : Lexeme × List ℕ) → token_at bytes ≡ Ok x → Fronts (after_space bytes) x.0 x.1
+unfolding lexeme_at
+token_fronts bytes x e = solid_fronts (after_space bytes) x (token_lexeme bytes x e)
 
 pub token_again : (bytes : List ℕ) (token : Lexeme) (rest : List ℕ) → Begins bytes token rest → token_at bytes ≡ Ok (token, rest)
 unfolding token_at

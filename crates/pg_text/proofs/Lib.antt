@@ -2,6 +2,7 @@ pub mod Runs
 pub mod Numbers
 pub mod Steps
 pub mod Lexing
+pub mod FirstBytes
 pub mod Items
 pub mod Spelling
 pub mod Parts

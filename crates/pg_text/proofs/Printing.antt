@@ -1,13 +1,16 @@
 -- What is written piece by piece is the layout.
-use Rattle.std.proofs.Common.{◌≡◌, ℕ, ◌+◌, ◌<◌, List, [], ◌∷◌, ◌++◌, length, map, take, get_or, Option, sym, ap, subst, ◌∙◌}
+use Rattle.std.proofs.Common.{◌≡◌, ℕ, zero, suc, ◌-◌, ◌+◌, ◌<◌, ◌*◌, ◌≤◌, List, [], ◌∷◌, ◌++◌, length, map, take, drop, replicate, get_or, arith, Option, refl, sym, ap, subst, ◌∙◌, take-append-drop}
 use Rattle.std.specs.Prelude.{All}
 use Rattle.std.specs.List.{flat_map, take-map}
 use Rattle.std.specs.Io.KnownBytes.{Appends}
 use Rattle.std.proofs.KnownBytes.{Appends-trans}
-use Rattle.std.proofs.lemmas.List.{take_more, map-append, flat_map_more}
+use Rattle.std.proofs.lemmas.List.{take_more, take_at, map-append, flat_map_more, length-append, replicate-append-replicate}
+use Rattle.std.proofs.lemmas.List.Concat.{flat_map-append}
+use Rattle.std.proofs.lemmas.Fmt.{decimal_digit}
 use Rattle.std.proofs.lemmas.List.Elements.{Contains-get_or}
 use Rattle.pg_arena.specs.Games.{GameVertex, IsGame, successors, vertex_at, nowhere}
 use Rattle.pg_arena.specs.Lines.{Line, line_of, lines_of}
+use Rattle.pg_text.specs.Numbers.{comma_number}
 use Rattle.pg_text.specs.GameLayout.{line_text}
 
 -- successors are vertices
@@ -21,3 +24,36 @@ line_push a b c game v lt so_far more =
     let longer : take (v + 1) (lines_of game) ≡ take v (lines_of game) ++ line_of game x ∷ [] =
     take-map (line_of game) (v + 1) game ∙ ap (map (line_of game)) (take_more game v nowhere lt) ∙ map-append (line_of game) (take v game) (x ∷ []) ∙ ap (λ (ls : List Line). ls ++ line_of game x ∷ []) (sym (take-map (line_of game) v game)) in
     subst (Appends a c) (flat_map_more line_text [] (take v (lines_of game)) (line_of game x) ∙ ap (flat_map line_text) (sym longer)) (Appends-trans a b c _ _ so_far more)
+
+-- ---- numbers behind commas
+
+-- what was written, with these numbers behind it, is all numbers
+pub record Completes (old new : Option (List ℕ)) (all rest : List ℕ) : Type 0 where
+  pub by : (c : Option (List ℕ)) → Appends new c (flat_map comma_number rest) → Appends old c (flat_map comma_number all)
+
+-- some of the numbers more
+pub completes_rest : (old a b : Option (List ℕ)) (all rest : List ℕ) (k : ℕ) → Completes old a all rest
+    → Appends a b (flat_map comma_number (take k rest)) → Completes old b all (drop k rest)
+completes_rest old a b all rest k so_far more =
+    let parts : flat_map comma_number (take k rest) ++ flat_map comma_number (drop k rest) ≡ flat_map comma_number rest =
+    sym (flat_map-append comma_number (take k rest) (drop k rest)) ∙ ap (flat_map comma_number) (take-append-drop k rest) in
+    record { by = λ c p. so_far.by c (subst (Appends a c) parts (Appends-trans a b c _ _ more p)) }
+
+-- ---- zeros
+
+-- zeros take two bytes each
+zeros_long : (n : ℕ) → length (flat_map comma_number (replicate n 0)) ≡ 2 * n
+zeros_long zero = refl
+zeros_long (suc n) =
+    let more = length-append (comma_number 0) (flat_map comma_number (replicate n 0)) in
+    omega (arith, more, ap length (decimal_digit 0 (omega arith)), zeros_long n)
+
+-- the bytes of fewer zeros stand in front of those of more
+pub zeros_text : (n m : ℕ) → n ≤ m → take (2 * n) (flat_map comma_number (replicate m 0)) ≡ flat_map comma_number (replicate n 0)
+zeros_text n m le =
+    let parts : flat_map comma_number (replicate m 0) ≡ flat_map comma_number (replicate n 0) ++ flat_map comma_number (replicate (m - n) 0) =
+    ap (λ (k : ℕ). flat_map comma_number (replicate k 0)) (omega arith)
+    ∙ ap (flat_map comma_number) (sym (replicate-append-replicate n (m - n) 0))
+    ∙ flat_map-append comma_number (replicate n 0) (replicate (m - n) 0) in
+    ap (take (2 * n)) parts
+    ∙ take_at (flat_map comma_number (replicate n 0)) (flat_map comma_number (replicate (m - n) 0)) (2 * n) (zeros_long n)

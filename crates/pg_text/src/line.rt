@@ -4,8 +4,8 @@ ghost use Rattle.std.specs.Prelude.{◌≡◌, option_copied};
 ghost use Rattle.pg_text.specs.Mirrors.Steps.{Reads, Gives};
 ghost use Rattle.pg_text.specs.Mirrors.GameScan.{line_seen, item_seen, owner_at, ending_at, line_at, item_at, body_at};
 
-use crate::reading::{Refusal, clause, natural, numbers, semicolon, unexpected};
-use crate::tokens::{Token, TokenFault, scan};
+use crate::reading::{Refusal, clause, natural, numbers, semicolon, string, unexpected};
+use crate::tokens::{TokenFault, after_byte, after_space};
 use pg_arena::Player;
 
 /// A line as it stands in the text, but for its successors.
@@ -30,15 +30,14 @@ pub(crate) fn player(bytes: &[u8]) -> Result<(Player, &[u8]), TokenFault>
 }
 
 /// The name behind the successors, where one stands, and the semicolon.
-#[tactic(auto, unfolding(crate::specs::Mirrors::GameScan::ending_at))]
 fn ending(bytes: &[u8]) -> Result<(Option<&[u8]>, &[u8]), TokenFault>
     ensures { Reads (λ x. (option_copied x.0, x.1.now)) result (ending_at bytes.now) }
 {
-    match scan(bytes)? {
-        (Token::Quoted(name), rest) => Ok((Some(name), semicolon(rest)?)),
-        (Token::Semicolon, rest) => Ok((None, rest)),
-        _ => Err(unexpected(bytes)),
+    if let Some(rest) = after_byte(b';', bytes) {
+        return Ok((None, rest));
     }
+    let (name, rest) = string(bytes)?;
+    Ok((Some(name), semicolon(rest)?))
 }
 
 /// A line behind its identifier. Its successors take the place of what the buffer held.
@@ -64,21 +63,19 @@ fn line<'a>(
 }
 
 /// A line, whose successors the buffer then holds, or nothing at the end of the text.
-#[tactic(auto, unfolding(crate::specs::Mirrors::GameScan::item_at))]
 pub(crate) fn item<'a>(
     buffer: &mut Vec<u32>,
     bytes: &'a [u8],
 ) -> Result<(Option<TextLine<'a>>, &'a [u8]), Refusal>
     ensures { Gives (λ x. (item_seen buffer.new.items x.0, x.1.now)) result (item_at bytes.now) }
 {
-    match scan(bytes)? {
-        (Token::Number(identifier), rest) => {
-            let (line, rest) = line(buffer, identifier, rest)?;
-            Ok((Some(line), rest))
-        }
-        (Token::End, rest) => Ok((None, rest)),
-        _ => Err(Refusal::Token(unexpected(bytes))),
+    let front = after_space(bytes);
+    if front.is_empty() {
+        return Ok((None, front));
     }
+    let (identifier, rest) = natural(front)?;
+    let (line, rest) = line(buffer, identifier, rest)?;
+    Ok((Some(line), rest))
 }
 
 /// What stands behind the header and the start, each of which may be left out.

@@ -8,9 +8,9 @@ ghost use Rattle.std.specs.Prelude.{◌≡◌, ◌-◌, length, option_copied};
 ghost use Rattle.pg_text.specs.declared.reading.Refusal.TheVariants.{Memory, Token};
 ghost use Rattle.pg_text.specs.Lexemes.{left_of};
 ghost use Rattle.pg_text.specs.Mirrors.Steps.{Reads, Gives, unexpected};
-ghost use Rattle.pg_text.specs.Mirrors.Parts.{natural_at, name_at, semicolon_at, end_at, further_seen, further_at, numbers_at, clause_at};
+ghost use Rattle.pg_text.specs.Mirrors.Parts.{misplaced, natural_at, name_at, string_at, semicolon_at, end_at, further_seen, further_at, numbers_at, clause_at};
 
-use crate::tokens::{Token, TokenFault, left_at, scan};
+use crate::tokens::{Token, TokenFault, after_byte, after_space, digits, is_digit, left_at, scan};
 use std::alloc::{AllocError, AllocFailed};
 
 /// Why a part of a text is refused.
@@ -64,14 +64,27 @@ pub fn unexpected(bytes: &[u8]) -> TokenFault
     TokenFault::Syntax(left_at(bytes))
 }
 
+/// Refuses the next token, where another one has to stand: by its own fault where it is none.
+#[tactic(auto, unfolding(crate::specs::Mirrors::Parts::misplaced))]
+#[cold]
+#[inline(never)]
+pub(crate) fn misplaced(bytes: &[u8]) -> TokenFault
+    ensures { result ≡ misplaced bytes.now }
+{
+    match scan(bytes) {
+        Ok(_) => unexpected(bytes),
+        Err(fault) => fault,
+    }
+}
+
 /// The number in front.
-#[tactic(auto, unfolding(crate::specs::Mirrors::Parts::natural_at))]
 pub fn natural(bytes: &[u8]) -> Result<(u32, &[u8]), TokenFault>
     ensures { Reads (λ x. (x.0, x.1.now)) result (natural_at bytes.now) }
 {
-    match scan(bytes)? {
-        (Token::Number(value), rest) => Ok((value, rest)),
-        _ => Err(unexpected(bytes)),
+    let front = after_space(bytes);
+    match front {
+        [first, ..] if is_digit(*first) => digits(front),
+        _ => Err(misplaced(bytes)),
     }
 }
 
@@ -86,14 +99,24 @@ pub fn word(bytes: &[u8]) -> Result<(&[u8], &[u8]), TokenFault>
     }
 }
 
+/// The string in front, without its quotes.
+#[tactic(auto, unfolding(crate::specs::Mirrors::Parts::string_at))]
+pub(crate) fn string(bytes: &[u8]) -> Result<(&[u8], &[u8]), TokenFault>
+    ensures { Reads (λ x. (x.0.now, x.1.now)) result (string_at bytes.now) }
+{
+    match scan(bytes)? {
+        (Token::Quoted(string), rest) => Ok((string, rest)),
+        _ => Err(unexpected(bytes)),
+    }
+}
+
 /// The semicolon in front: what stands after it.
-#[tactic(auto, unfolding(crate::specs::Mirrors::Parts::semicolon_at))]
 pub fn semicolon(bytes: &[u8]) -> Result<&[u8], TokenFault>
     ensures { Reads (λ x. x.now) result (semicolon_at bytes.now) }
 {
-    match scan(bytes)? {
-        (Token::Semicolon, rest) => Ok(rest),
-        _ => Err(unexpected(bytes)),
+    match after_byte(b';', bytes) {
+        Some(rest) => Ok(rest),
+        None => Err(misplaced(bytes)),
     }
 }
 
@@ -129,9 +152,15 @@ pub fn clause<'a>(name: &[u8], bytes: &'a [u8]) -> Result<(Option<u32>, &'a [u8]
 fn further(bytes: &[u8]) -> Result<Option<(u32, &[u8])>, TokenFault>
     ensures { Reads (further_seen bytes.now) result (further_at bytes.now) }
 {
-    match scan(bytes)? {
-        (Token::Comma, rest) => Ok(Some(natural(rest)?)),
-        _ => Ok(None),
+    if let Some(rest) = after_byte(b',', bytes) {
+        return Ok(Some(natural(rest)?));
+    }
+    match after_byte(b';', bytes) {
+        Some(_) => Ok(None),
+        None => {
+            let _token = scan(bytes)?;
+            Ok(None)
+        }
     }
 }
 

@@ -3,10 +3,10 @@
 //! A token is a longest one. White space, the bytes 9 to 13 and 32, may stand between any two tokens, before the
 //! first and behind the last, and must stand only between two numbers or two words.
 
-ghost use Rattle.std.specs.Prelude.{◌≡◌, ◌<◌, ◌+◌, List, ℕ, length, option_map, IfOk, IfErr, IsOkAnd};
+ghost use Rattle.std.specs.Prelude.{◌≡◌, ◌<◌, ◌+◌, ◌==◌, ◌∷◌, List, ℕ, length, option_map, IfOk, IfErr, IfSome, IsNone, IsOkAnd};
 ghost use Rattle.std.specs.Result.{result_ok};
 ghost use Rattle.std.specs.List.{prefix_len};
-ghost use Rattle.pg_text.specs.Lexemes.{Lexeme, lexeme, is_space, is_digit, is_letter, is_plain, Begins, after_space, fault_at, token_fault};
+ghost use Rattle.pg_text.specs.Lexemes.{Lexeme, lexeme, number, is_space, is_digit, is_letter, is_plain, Stops, Begins, after_space, fault_at, token_fault};
 ghost use Rattle.pg_text.specs.Mirrors.Scan.{number_at, word_at, quoted_at, solid_at, token_at};
 ghost use Rattle.pg_text.specs.Mirrors.Steps.{Reads};
 
@@ -43,7 +43,7 @@ fn is_space(byte: u8) -> bool
     (9 <= byte && byte <= 13) || byte == b' '
 }
 
-fn is_digit(byte: u8) -> bool
+pub(crate) fn is_digit(byte: u8) -> bool
     ensures { result ≡ is_digit byte }
 {
     b'0' <= byte && byte <= b'9'
@@ -75,8 +75,8 @@ fn plain(bytes: &[u8]) -> usize
 
 /// The number whose digits stand in front.
 #[tactic(auto, unfolding(crate::specs::Mirrors::Scan::number_at))]
-fn number(bytes: &[u8]) -> Result<(Token<'_>, &[u8]), TokenFault>
-    ensures token { option_map (λ x. (lexeme x.0, x.1.now)) (result_ok result) ≡ number_at bytes.now }
+pub(crate) fn digits(bytes: &[u8]) -> Result<(u32, &[u8]), TokenFault>
+    ensures token { option_map (λ x. (number x.0, x.1.now)) (result_ok result) ≡ number_at bytes.now }
     ensures fault { IfErr result (λ e. e ≡ TokenFault.NumberTooLarge (length bytes.now)) }
 {
     let mut value = 0;
@@ -90,9 +90,18 @@ fn number(bytes: &[u8]) -> Result<(Token<'_>, &[u8]), TokenFault>
                 }
                 rest = after;
             }
-            _ => return Ok((Token::Number(value as u32), rest)),
+            _ => return Ok((value as u32, rest)),
         }
     }
+}
+
+/// The number in front, as a token.
+fn number_token(bytes: &[u8]) -> Result<(Token<'_>, &[u8]), TokenFault>
+    ensures token { option_map (λ x. (lexeme x.0, x.1.now)) (result_ok result) ≡ number_at bytes.now }
+    ensures fault { IfErr result (λ e. e ≡ TokenFault.NumberTooLarge (length bytes.now)) }
+{
+    let (value, rest) = digits(bytes)?;
+    Ok((Token::Number(value), rest))
 }
 
 #[tactic(auto, using(crate::proofs::Runs::run_within), unfolding(crate::specs::Mirrors::Scan::word_at))]
@@ -126,7 +135,7 @@ fn solid(bytes: &[u8]) -> Result<(Token<'_>, &[u8]), TokenFault>
         [] => Ok((Token::End, bytes)),
         [first, rest @ ..] => {
             if is_digit(*first) {
-                number(bytes)
+                number_token(bytes)
             } else if is_letter(*first) {
                 Ok(word(bytes))
             } else if *first == b';' {
@@ -144,10 +153,24 @@ fn solid(bytes: &[u8]) -> Result<(Token<'_>, &[u8]), TokenFault>
 
 /// Behind the white space in front.
 #[tactic(auto, using(crate::proofs::Runs::run_within))]
-fn after_space(bytes: &[u8]) -> &[u8]
+pub(crate) fn after_space(bytes: &[u8]) -> &[u8]
     ensures { result.now ≡ after_space bytes.now }
 {
-    &bytes[spaces(bytes)..]
+    match bytes {
+        [first, ..] if is_space(*first) => &bytes[spaces(bytes)..],
+        _ => bytes,
+    }
+}
+
+/// What stands after this byte, if it is the first one behind white space.
+pub(crate) fn after_byte(byte: u8, bytes: &[u8]) -> Option<&[u8]>
+    ensures some { IfSome result (λ rest. after_space bytes.now ≡ byte ∷ rest.now) }
+    ensures none { IsNone result → Stops (λ b. b == byte) (after_space bytes.now) }
+{
+    match after_space(bytes) {
+        [first, rest @ ..] if *first == byte => Some(rest),
+        _ => None,
+    }
 }
 
 /// The token in front, behind white space, and the bytes after it: `next_token` for the readers of this crate.

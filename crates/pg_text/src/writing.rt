@@ -1,7 +1,7 @@
 //! Parts of texts, written: numbers, and numbers with commas between. They make many small writes: give them a buffered
 //! writer.
 
-ghost use Rattle.std.specs.Prelude.{◌<◌, All, decimal, length, map, OnOk};
+ghost use Rattle.std.specs.Prelude.{◌≡◌, ◌<◌, ◌≤◌, All, decimal, length, map, replicate, take, OnOk};
 ghost use Rattle.std.specs.List.{flat_map};
 ghost use Rattle.std.specs.Io.KnownBytes.{Appends};
 ghost use Rattle.pg_arena.specs.Games.{identifier};
@@ -10,6 +10,9 @@ ghost use Rattle.pg_text.specs.Numbers.{comma_number, numbers_text, identifiers_
 use itoa::Buffer;
 use pg_arena::{Game, Vertex};
 use std::io::{self, Write};
+
+/// 32 zeros, each behind a comma.
+const ZEROS: &[u8] = b",0,0,0,0,0,0,0,0,0,0,0,0,0,0,0,0,0,0,0,0,0,0,0,0,0,0,0,0,0,0,0,0";
 
 /// Writes a number in decimal digits.
 pub fn write_number<W: Write>(number: u32, out: &mut W) -> io::Result<()>
@@ -38,11 +41,42 @@ fn write_comma_number<W: Write>(number: u32, out: &mut W) -> io::Result<()>
     write_number(number, out)
 }
 
+/// How many zeros stand in front, up to as many as one write takes.
+fn zeros(numbers: &[u32]) -> usize
+    ensures most { result ≤ 32 }
+    ensures within { result ≤ length numbers.now }
+    ensures zeros { take result numbers.now ≡ replicate result 0 }
+{
+    numbers
+        .iter()
+        .take(32)
+        .take_while(|number| **number == 0)
+        .count()
+}
+
+/// That many zeros, each behind a comma.
+fn write_comma_zeros<W: Write>(count: usize, out: &mut W) -> io::Result<()>
+    requires { count ≤ 32 }
+    ensures { OnOk result (Appends (W.contents out.old) (W.contents out.new)
+        (flat_map comma_number (replicate count 0))) }
+{
+    out.write_all(&ZEROS[..2 * count])
+}
+
+/// Numbers, each behind a comma. Most components of measures are zeros, so zeros in a row are written at once.
 fn write_comma_numbers<W: Write>(numbers: &[u32], out: &mut W) -> io::Result<()>
     ensures { OnOk result (Appends (W.contents out.old) (W.contents out.new) (flat_map comma_number numbers.now)) }
 {
-    for number in numbers {
-        write_comma_number(*number, out)?;
+    let mut rest = numbers;
+    'runs: while let [first, after @ ..] = rest {
+        let count = zeros(rest);
+        if count > 1 {
+            write_comma_zeros(count, out)?;
+            rest = &rest[count..];
+        } else {
+            write_comma_number(*first, out)?;
+            rest = after;
+        }
     }
     Ok(())
 }

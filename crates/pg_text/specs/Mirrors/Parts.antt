@@ -2,9 +2,18 @@
 use Rattle.std.specs.Prelude.{ℕ, List, ◌∷◌, Option, Some, None, Ok, Err, if◌then◌else◌}
 use Rattle.std.specs.Str.{bytes_eq}
 use Rattle.std.specs.Borrow.{Bor}
-use Rattle.pg_text.specs.Lexemes.{Lexeme, number, word, semicolon, comma, end}
+use Rattle.pg_text.specs.declared.tokens.TokenFault.{TokenFault}
+use Rattle.pg_text.specs.Lexemes.{Lexeme, number, word, semicolon, comma, quoted, end}
 use Rattle.pg_text.specs.Mirrors.Steps.{◌>>=◌, Read, Step, item, stop, items_at, unexpected}
 use Rattle.pg_text.specs.Mirrors.Scan.{token_at}
+
+abbrev pub misplaced_in : List ℕ → Read (Lexeme × List ℕ) → TokenFault
+misplaced_in bytes (Ok x) = unexpected bytes
+misplaced_in bytes (Err fault) = fault
+
+-- why the next token is refused, where another one has to stand
+unfoldable pub misplaced : List ℕ → TokenFault
+misplaced bytes = misplaced_in bytes (token_at bytes)
 
 abbrev pub number_in : List ℕ → Lexeme × List ℕ → Read (ℕ × List ℕ)
 number_in bytes (number n, rest) = Ok (n, rest)
@@ -19,6 +28,13 @@ word_in bytes (_, rest) = Err (unexpected bytes)
 
 unfoldable pub name_at : List ℕ → Read (List ℕ × List ℕ)
 name_at bytes = token_at bytes >>= word_in bytes
+
+abbrev pub string_in : List ℕ → Lexeme × List ℕ → Read (List ℕ × List ℕ)
+string_in bytes (quoted s, rest) = Ok (s, rest)
+string_in bytes (_, rest) = Err (unexpected bytes)
+
+unfoldable pub string_at : List ℕ → Read (List ℕ × List ℕ)
+string_at bytes = token_at bytes >>= string_in bytes
 
 abbrev pub semicolon_in : List ℕ → Lexeme × List ℕ → Read (List ℕ)
 semicolon_in bytes (semicolon, rest) = Ok rest

@@ -1,10 +1,11 @@
-use Rattle.std.proofs.Common.{take}
-use Rattle.std.specs.List.{flat_map}
-use Rattle.std.specs.Io.KnownBytes.{Appends}
-use Rattle.pg_text.specs.Numbers.{comma_number}
+use Rattle.std.proofs.Common.{length}
+use Rattle.pg_text.proofs.Printing.{Completes}
 use Rattle.pg_text.proofs.writing.write_comma_numbers.Given as goal
 
-abbrev pub invariant-loop-number : goal.invariant-loop-number
-invariant-loop-number g l =
+abbrev pub invariant-runs : goal.invariant-runs
+invariant-runs g l =
     let contents = g.W.Write.contents in
-    Appends (contents l.fn.out) (contents l.out) (flat_map comma_number (take l.number-index l.numbers))
+    Completes (contents l.fn.out) (contents l.out) l.numbers l.rest
+
+abbrev pub decreases-runs : goal.decreases-runs
+decreases-runs g l = length l.rest

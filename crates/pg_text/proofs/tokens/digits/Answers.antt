@@ -1,8 +1,8 @@
 use Rattle.std.proofs.Common.{◌≡◌, ◌≤◌, length, get_or, false, sym, refl, arith}
 use Rattle.pg_text.specs.Lexemes.{is_digit}
 use Rattle.pg_text.proofs.Numbers.{number_over, number_ends, reads_digit}
-use Rattle.pg_text.proofs.tokens.number.Goals as goal
-use Rattle.pg_text.proofs.tokens.number.Goals.{in_default-via-then-rest-lt1, in_default-via-in-len1-up+else-is_digit}
+use Rattle.pg_text.proofs.tokens.digits.Goals as goal
+use Rattle.pg_text.proofs.tokens.digits.Goals.{in_default-via-then-rest-lt1, in_default-via-in-len1-up+else-is_digit}
 
 pub digits-init : goal.digits-init
 digits-init c = record { small = omega arith; reading = record { whole = refl; behind = refl } }
