@@ -8,7 +8,8 @@ Whoever wants to believe what is proved reads the believed modules: the files of
 - docs/map.md lists each believed module once, with the number of its lines, and the public calls whose contracts name a
   mirror all the same;
 - each name of docs/definitions.md is defined in the file that stands beside it;
-- each call and law that the README and docs/promises.md name is there, and so is each clause and definition of the latter.
+- each call and law that the README and docs/promises.md name is there, and so is each clause, definition and must-fail
+  edit of the latter.
 
     tests/layout.py            prints what it finds; the status is 1 if something is wrong
     tests/layout.py --write    first mends both documents as far as that needs no words: numbers of lines, files that are
@@ -171,6 +172,13 @@ def promises():
         yield name, None if is_there else "isn't there, as docs/promises.md says"
 
 
+def edits():
+    """The same for each must-fail edit that docs/promises.md names, as `pg_map/join_keeps_the_later`."""
+    for crate, name in sorted(set(re.findall(r"`(pg_\w+)/(\w+)`", PROMISES.read_text()))):
+        is_there = (CRATES / crate / f"must-fail/{name}.edit").is_file()
+        yield name, None if is_there else f"isn't in {crate}/must-fail, as docs/promises.md says"
+
+
 def headline(path):
     """What the first line of a module says of it."""
     line = path.read_text().partition("\n")[0].lstrip("- ").rstrip(".")
@@ -219,7 +227,7 @@ def write_definitions():
 def run():
     """Makes every check; answers how many passed and failed."""
     passed = failed = 0
-    for part in (imports, rows_of_map, exceptions, entries, calls, promises):
+    for part in (imports, rows_of_map, exceptions, entries, calls, promises, edits):
         for what, why in part():
             if why is None:
                 passed += 1
