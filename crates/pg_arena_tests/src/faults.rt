@@ -1,37 +1,50 @@
 //! Faults, their order and their texts; a builder that refused goes on.
 
-use pg_arena::{ArenaFault, GameBuilder, Player};
+use pg_arena::{ArenaFault, Game, GameBuilder, Player};
 use std::test::Fail;
 
 #[test]
 fn refuses_the_first_that_fits_and_goes_on(rt: HostRuntime) -> Result<(), Fail> {
     let mut builder = GameBuilder::new(rt.alloc());
     builder.add(5, 0, Player::Even, &[5], Some(b"five"))?;
-    let too_large = builder.add(5, 65_536, Player::Even, &[], None);
-    assert_eq!(rt; too_large, Err(ArenaFault::PriorityTooLarge(5, 65_536)));
-    let greatest = builder.add(6, 4_294_967_295, Player::Even, &[5], None);
-    assert_eq!(rt;
-        greatest,
-        Err(ArenaFault::PriorityTooLarge(6, 4_294_967_295))
-    );
-    let alone = builder.add(5, 65_535, Player::Even, &[], None);
-    assert_eq!(rt; alone, Err(ArenaFault::NoSuccessor(5)));
-    let again = builder.add(5, 65_535, Player::Odd, &[9], None);
-    assert_eq!(rt; again, Err(ArenaFault::DuplicateVertex(5)));
+    let refused = [
+        builder.add(5, 65_536, Player::Even, &[], None),
+        builder.add(6, 4_294_967_295, Player::Even, &[5], None),
+        builder.add(5, 65_535, Player::Even, &[], None),
+        builder.add(5, 65_535, Player::Odd, &[9], None),
+    ];
     builder.add(1, 65_535, Player::Odd, &[5, 1], None)?;
-    let again = builder.add(5, 1, Player::Odd, &[1], None);
-    assert_eq!(rt; again, Err(ArenaFault::DuplicateVertex(5)));
-    let again = builder.add(1, 1, Player::Odd, &[1], None);
-    assert_eq!(rt; again, Err(ArenaFault::DuplicateVertex(1)));
-
+    let again = [
+        builder.add(5, 1, Player::Odd, &[1], None),
+        builder.add(1, 1, Player::Odd, &[1], None),
+    ];
     let game = builder.finish()?;
-    assert_eq!(rt; game.len(), 2);
-    let Some(five) = game.vertex_of(5) else {
-        panic!(rt; "no vertex 5");
-    };
-    assert_eq!(rt; game.priority(five), 0);
-    assert!(rt; game.name(five) == Some(b"five".as_slice()));
+    assert!(rt; keeps_the_lines_that_were_taken(&game));
+    assert_eq!(rt;
+        refused,
+        [
+            Err(ArenaFault::PriorityTooLarge(5, 65_536)),
+            Err(ArenaFault::PriorityTooLarge(6, 4_294_967_295)),
+            Err(ArenaFault::NoSuccessor(5)),
+            Err(ArenaFault::DuplicateVertex(5)),
+        ]
+    );
+    assert_eq!(rt;
+        again,
+        [
+            Err(ArenaFault::DuplicateVertex(5)),
+            Err(ArenaFault::DuplicateVertex(1)),
+        ]
+    );
     Ok(())
+}
+
+/// Whether there are two vertices, and that with the identifier 5 is as its first line says.
+fn keeps_the_lines_that_were_taken(game: &Game) -> bool {
+    let Some(five) = game.vertex_of(5) else {
+        return false;
+    };
+    game.len() == 2 && game.priority(five) == 0 && game.name(five) == Some(b"five".as_slice())
 }
 
 #[test]
@@ -43,14 +56,16 @@ fn needs_a_vertex(rt: HostRuntime) {
 #[test]
 fn names_the_least_unknown_successor(rt: HostRuntime) -> Result<(), Fail> {
     let mut builder = GameBuilder::new(rt.alloc());
-    builder.add(9, 0, Player::Even, &[1, 9], None)?;
-    builder.add(4, 0, Player::Even, &[9, 8, 6, 4], None)?;
-    builder.add(5, 0, Player::Even, &[0], None)?;
-    builder.add(2, 0, Player::Even, &[2, 4], None)?;
-    let Err(fault) = builder.finish() else {
-        panic!(rt; "no line defines 6");
-    };
-    assert_eq!(rt; fault, ArenaFault::UnknownSuccessor(4, 6));
+    for (identifier, successors) in [
+        (9, [1, 9].as_slice()),
+        (4, [9, 8, 6, 4].as_slice()),
+        (5, [0].as_slice()),
+        (2, [2, 4].as_slice()),
+    ] {
+        builder.add(identifier, 0, Player::Even, successors, None)?;
+    }
+    let fault = builder.finish().err();
+    assert_eq!(rt; fault, Some(ArenaFault::UnknownSuccessor(4, 6)));
     Ok(())
 }
 

@@ -1,6 +1,6 @@
 //! Games are read back as their lines say.
 
-ghost use Rattle.std.specs.Prelude.{IfOk};
+ghost use Rattle.std.specs.Prelude.{◌<◌, length, IfOk, IsTrue};
 ghost use Rattle.pg_arena.specs.Games.{HasPrioritiesUpTo};
 
 use pg_arena::{ArenaFault, Game, GameBuilder, Player, Vertex, dual};
@@ -18,54 +18,85 @@ fn sparse(alloc: Global) -> Result<Game, ArenaFault>
     builder.finish()
 }
 
+fn holds(game: &Game, v: Vertex) -> bool
+    ensures { IsTrue result → v < length game.now }
+{
+    (v.0 as usize) < game.len()
+}
+
+/// Whether the line of the identifier is at this place, with this priority and owner.
+fn stands_at(game: &Game, identifier: u32, place: u32, priority: u32, owner: Player) -> bool {
+    let v = Vertex(place);
+    game.vertex_of(identifier) == Some(v)
+        && holds(game, v)
+        && game.identifier(v) == identifier
+        && game.priority(v) == priority
+        && game.owner(v) == owner
+}
+
+fn leads_to(game: &Game, v: Vertex, successors: &[Vertex]) -> bool {
+    holds(game, v) && game.successors(v) == successors
+}
+
+fn has_name(game: &Game, v: Vertex, name: Option<&[u8]>) -> bool {
+    holds(game, v) && game.name(v) == name
+}
+
+fn has_the_three_lines_by_identifier(game: &Game) -> bool {
+    game.len() == 3
+        && stands_at(game, 2, 0, 65_535, Player::Even)
+        && stands_at(game, 7, 1, 3, Player::Odd)
+        && stands_at(game, 4_294_967_295, 2, 0, Player::Even)
+}
+
+fn finds_no_other_identifier(game: &Game) -> bool {
+    for identifier in [0, 1, 3, 6, 8, 4_294_967_294] {
+        if game.vertex_of(identifier).is_some() {
+            return false;
+        }
+    }
+    true
+}
+
+fn has_rising_and_distinct_successors(game: &Game) -> bool {
+    leads_to(game, Vertex(0), &[Vertex(1)])
+        && leads_to(game, Vertex(1), &[Vertex(0), Vertex(1), Vertex(2)])
+        && leads_to(game, Vertex(2), &[Vertex(0)])
+}
+
+fn has_the_names(game: &Game) -> bool {
+    has_name(game, Vertex(0), Some(b""))
+        && has_name(game, Vertex(1), None)
+        && has_name(game, Vertex(2), Some(b"last"))
+}
+
 #[test]
 fn reads_back_what_the_lines_say(rt: HostRuntime) -> Result<(), Fail> {
     let game = sparse(rt.alloc())?;
-    assert_eq!(rt; game.len(), 3);
-    for (identifier, place, priority, owner) in [
-        (2, 0, 65_535, Player::Even),
-        (7, 1, 3, Player::Odd),
-        (4_294_967_295, 2, 0, Player::Even),
-    ] {
-        let Some(v) = game.vertex_of(identifier) else {
-            panic!(rt; "no vertex {identifier}");
-        };
-        assert_eq!(rt; v, Vertex(place));
-        assert_eq!(rt; game.identifier(v), identifier);
-        assert_eq!(rt; game.priority(v), priority);
-        assert_eq!(rt; game.owner(v), owner);
-    }
-    for identifier in [0, 1, 3, 6, 8, 4_294_967_294] {
-        assert_eq!(rt; game.vertex_of(identifier), None, "at {identifier}");
-    }
-    assert!(rt; game.successors(Vertex(0)) == [Vertex(1)].as_slice());
-    assert!(rt; game.successors(Vertex(1)) == [Vertex(0), Vertex(1), Vertex(2)].as_slice());
-    assert!(rt; game.successors(Vertex(2)) == [Vertex(0)].as_slice());
-    assert!(rt; game.name(Vertex(0)) == Some(b"".as_slice()));
-    assert!(rt; game.name(Vertex(1)).is_none());
-    assert!(rt; game.name(Vertex(2)) == Some(b"last".as_slice()));
+    assert!(rt; has_the_three_lines_by_identifier(&game));
+    assert!(rt; finds_no_other_identifier(&game));
+    assert!(rt; has_rising_and_distinct_successors(&game));
+    assert!(rt; has_the_names(&game));
     Ok(())
+}
+
+fn has_the_three_lines_of_the_other_player(dual: &Game) -> bool {
+    dual.len() == 3
+        && stands_at(dual, 2, 0, 65_536, Player::Odd)
+        && stands_at(dual, 7, 1, 4, Player::Even)
+        && stands_at(dual, 4_294_967_295, 2, 1, Player::Odd)
+}
+
+fn keeps_successors_and_names(dual: &Game) -> bool {
+    leads_to(dual, Vertex(1), &[Vertex(0), Vertex(1), Vertex(2)])
+        && has_name(dual, Vertex(2), Some(b"last"))
 }
 
 #[test]
 fn takes_the_dual(rt: HostRuntime) -> Result<(), Fail> {
-    let game = sparse(rt.alloc())?;
-    let dual = dual(rt.alloc(), &game)?;
-    assert_eq!(rt; dual.len(), 3);
-    for (identifier, place, priority, owner) in [
-        (2, 0, 65_536, Player::Odd),
-        (7, 1, 4, Player::Even),
-        (4_294_967_295, 2, 1, Player::Odd),
-    ] {
-        let Some(v) = dual.vertex_of(identifier) else {
-            panic!(rt; "no vertex {identifier}");
-        };
-        assert_eq!(rt; v, Vertex(place));
-        assert_eq!(rt; dual.priority(v), priority);
-        assert_eq!(rt; dual.owner(v), owner);
-    }
-    assert!(rt; dual.successors(Vertex(1)) == [Vertex(0), Vertex(1), Vertex(2)].as_slice());
-    assert!(rt; dual.name(Vertex(2)) == Some(b"last".as_slice()));
+    let dual = dual(rt.alloc(), &sparse(rt.alloc())?)?;
+    assert!(rt; has_the_three_lines_of_the_other_player(&dual));
+    assert!(rt; keeps_successors_and_names(&dual));
     Ok(())
 }
 

@@ -1,6 +1,6 @@
 //! Texts of games that are read and printed.
 
-use pg_arena::{Player, Vertex};
+use pg_arena::{Game, Player, Vertex};
 use pg_text::{TextFault, read_game, write_game};
 use std::alloc::Global;
 use std::test::Fail;
@@ -13,24 +13,40 @@ fn reprinted(alloc: Global, text: &[u8]) -> Result<Vec<u8>, TextFault> {
     Ok(out)
 }
 
+fn has_line(game: &Game, v: u32, identifier: u32, priority: u32, owner: Player) -> bool {
+    (v as usize) < game.len()
+        && game.identifier(Vertex(v)) == identifier
+        && game.priority(Vertex(v)) == priority
+        && game.owner(Vertex(v)) == owner
+}
+
+fn leads_to(game: &Game, v: u32, successors: &[Vertex]) -> bool {
+    (v as usize) < game.len() && game.successors(Vertex(v)) == successors
+}
+
+fn has_name(game: &Game, v: u32, name: Option<&[u8]>) -> bool {
+    (v as usize) < game.len() && game.name(Vertex(v)) == name
+}
+
+fn has_the_even_line(game: &Game) -> bool {
+    has_line(game, 0, 7, 2, Player::Even)
+        && leads_to(game, 0, &[Vertex(1)])
+        && has_name(game, 0, Some(b"x y"))
+}
+
+fn has_the_odd_line(game: &Game) -> bool {
+    has_line(game, 1, 4294967295, 3, Player::Odd)
+        && leads_to(game, 1, &[Vertex(0), Vertex(1)])
+        && has_name(game, 1, None)
+}
+
 #[test]
 fn vertices_of_a_game(rt: HostRuntime) -> Result<(), Fail> {
     let text = b"4294967295 3 1 7,4294967295,7;\n7 2 0 4294967295 \"x y\";\n";
     let game = read_game(rt.alloc(), text)?;
     assert_eq!(rt; game.len(), 2);
-    assert_eq!(rt; game.identifier(Vertex(0)), 7);
-    assert_eq!(rt; game.priority(Vertex(0)), 2);
-    assert_eq!(rt; game.owner(Vertex(0)), Player::Even);
-    assert_eq!(rt; game.successors(Vertex(0)), [Vertex(1)].as_slice());
-    assert!(rt; matches!(game.name(Vertex(0)), Some(name) if name == b"x y".as_slice()));
-    assert_eq!(rt; game.identifier(Vertex(1)), 4294967295);
-    assert_eq!(rt; game.priority(Vertex(1)), 3);
-    assert_eq!(rt; game.owner(Vertex(1)), Player::Odd);
-    assert_eq!(rt;
-        game.successors(Vertex(1)),
-        [Vertex(0), Vertex(1)].as_slice()
-    );
-    assert!(rt; game.name(Vertex(1)).is_none());
+    assert!(rt; has_the_even_line(&game));
+    assert!(rt; has_the_odd_line(&game));
     Ok(())
 }
 

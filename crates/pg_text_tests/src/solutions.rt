@@ -1,7 +1,7 @@
 //! Texts of solutions that are read and printed.
 
 use pg_arena::{Player, Vertex};
-use pg_text::{TextFault, read_game, read_solution, write_solution};
+use pg_text::{Solution, TextFault, read_game, read_solution, write_solution};
 use std::alloc::Global;
 use std::test::Fail;
 
@@ -20,9 +20,33 @@ fn reprinted(alloc: Global, game: &[u8], text: &[u8]) -> Result<Vec<u8>, TextFau
     Ok(out)
 }
 
+/// Whether the vertex has this winner and this choice.
+fn answers(solution: &Solution, v: u32, winner: Player, choice: Option<Vertex>) -> bool {
+    (v as usize) < solution.len()
+        && solution.winner(Vertex(v)) == winner
+        && solution.choice(Vertex(v)) == choice
+}
+
+fn is_won_by_even(solution: &Solution) -> bool {
+    solution.len() == 2
+        && answers(solution, 0, Player::Even, Some(Vertex(1)))
+        && answers(solution, 1, Player::Even, None)
+}
+
+fn is_won_by_each_owner(solution: &Solution) -> bool {
+    solution.len() == 2
+        && answers(solution, 0, Player::Odd, Some(Vertex(1)))
+        && answers(solution, 1, Player::Even, Some(Vertex(0)))
+}
+
+/// The solution that the text spells for the game.
+fn solution_of(alloc: Global, game: &[u8], text: &[u8]) -> Result<Solution, TextFault> {
+    let game = read_game(alloc, game)?;
+    read_solution(alloc, &game, text)
+}
+
 #[test]
 fn one_solution_in_several_spellings(rt: HostRuntime) -> Result<(), Fail> {
-    let game = read_game(rt.alloc(), TWO)?;
     let texts: [&[u8]; 5] = [
         b"0 0 1;\n1 0;\n",
         b"1 0 0;\n0 0 01;",
@@ -31,25 +55,16 @@ fn one_solution_in_several_spellings(rt: HostRuntime) -> Result<(), Fail> {
         b"1\x0a0;0\x0c0\x0b1\x09; \x0d",
     ];
     for text in texts {
-        let solution = read_solution(rt.alloc(), &game, text)?;
-        assert_eq!(rt; solution.len(), 2);
-        assert_eq!(rt; solution.winner(Vertex(0)), Player::Even);
-        assert_eq!(rt; solution.choice(Vertex(0)), Some(Vertex(1)));
-        assert_eq!(rt; solution.winner(Vertex(1)), Player::Even);
-        assert_eq!(rt; solution.choice(Vertex(1)), None);
+        let solution = solution_of(rt.alloc(), TWO, text)?;
+        assert!(rt; is_won_by_even(&solution));
     }
     Ok(())
 }
 
 #[test]
 fn winners_on_both_sides(rt: HostRuntime) -> Result<(), Fail> {
-    let game = read_game(rt.alloc(), FAR)?;
-    let solution = read_solution(rt.alloc(), &game, b"4000000000 0 7;7 1 4000000000;")?;
-    assert_eq!(rt; solution.len(), 2);
-    assert_eq!(rt; solution.winner(Vertex(0)), Player::Odd);
-    assert_eq!(rt; solution.choice(Vertex(0)), Some(Vertex(1)));
-    assert_eq!(rt; solution.winner(Vertex(1)), Player::Even);
-    assert_eq!(rt; solution.choice(Vertex(1)), Some(Vertex(0)));
+    let solution = solution_of(rt.alloc(), FAR, b"4000000000 0 7;7 1 4000000000;")?;
+    assert!(rt; is_won_by_each_owner(&solution));
     Ok(())
 }
 

@@ -1,6 +1,19 @@
 use crate::texts::{FRAMES, bytes_of};
 use pg_wire::{Frame, WireFault, decode};
+use std::alloc::Global;
 use std::test::Fail;
+
+/// The frame that the text spells.
+fn frame_of(alloc: Global, text: &str) -> Result<Frame, Fail> {
+    let bytes = bytes_of(alloc, text)?;
+    Ok(decode(alloc, &bytes)?)
+}
+
+/// Why the bytes of the text are refused, if they are.
+fn fault_of(alloc: Global, text: &str) -> Result<Option<WireFault>, Fail> {
+    let bytes = bytes_of(alloc, text)?;
+    Ok(decode(alloc, &bytes).err())
+}
 
 #[test]
 fn refuses_bytes_that_spell_no_frame(rt: HostRuntime) -> Result<(), Fail> {
@@ -123,22 +136,25 @@ fn refuses_bytes_that_spell_no_frame(rt: HostRuntime) -> Result<(), Fail> {
         ),
     ];
     for (text, fault) in rows {
-        let bytes = bytes_of(rt.alloc(), text)?;
-        let answer = decode(rt.alloc(), &bytes);
-        assert_eq!(rt; answer.err(), Some(fault), "{text}");
+        assert_eq!(rt; fault_of(rt.alloc(), text)?, Some(fault), "{text}");
     }
     Ok(())
+}
+
+fn is_truncated_at_each_end(alloc: Global, bytes: &[u8]) -> bool {
+    for len in 0..bytes.len() {
+        if decode(alloc, &bytes[..len]).err() != Some(WireFault::Truncated) {
+            return false;
+        }
+    }
+    true
 }
 
 #[test]
 fn a_proper_prefix_is_truncated(rt: HostRuntime) -> Result<(), Fail> {
     for text in FRAMES {
         let bytes = bytes_of(rt.alloc(), text)?;
-        let bytes = bytes.as_slice();
-        for len in 0..bytes.len() {
-            let answer = decode(rt.alloc(), &bytes[..len]);
-            assert_eq!(rt; answer.err(), Some(WireFault::Truncated), "{text}");
-        }
+        assert!(rt; is_truncated_at_each_end(rt.alloc(), &bytes), "{text}");
     }
     Ok(())
 }
@@ -160,29 +176,38 @@ fn takes_the_ends_of_each_range(rt: HostRuntime) -> Result<(), Fail> {
         "00000022 07 00000002 00000001 00000000 00 00000002 00000000 00000001 00000001 ffffffff",
     ];
     for text in rows {
-        let bytes = bytes_of(rt.alloc(), text)?;
-        assert!(rt; decode(rt.alloc(), &bytes).is_ok(), "{text}");
+        assert_eq!(rt; fault_of(rt.alloc(), text)?, None, "{text}");
     }
     Ok(())
+}
+
+fn tells_the_line(frame: &Frame) -> bool {
+    let Frame::Vertices(vertices) = frame else {
+        return false;
+    };
+    let Some(line) = vertices.lines.as_slice().first() else {
+        return false;
+    };
+    line.vertex == 7
+        && line.priority == 259
+        && line.owner == 1
+        && line.successors.as_slice() == [9].as_slice()
+}
+
+fn tells_the_set_up(frame: &Frame) -> bool {
+    let Frame::Setup(setup) = frame else {
+        return false;
+    };
+    setup.version == 2
+        && setup.vertices == 258
+        && setup.bounds.as_slice() == [(3, 16_909_060)].as_slice()
 }
 
 #[test]
 fn reads_each_field(rt: HostRuntime) -> Result<(), Fail> {
     let line = "00000016 02 00000001 00000007 00000103 01 00000001 00000009";
-    let Frame::Vertices(vertices) = decode(rt.alloc(), &bytes_of(rt.alloc(), line)?)? else {
-        return Err(Fail::from("no vertices"));
-    };
-    let Some(line) = vertices.lines.as_slice().first() else {
-        return Err(Fail::from("no line"));
-    };
-    assert_eq!(rt; (line.vertex, line.priority, line.owner), (7, 259, 1));
-    assert_eq!(rt; line.successors.as_slice(), [9].as_slice());
-
+    assert!(rt; tells_the_line(&frame_of(rt.alloc(), line)?));
     let setup = "00000012 01 02 00000102 00000001 00000003 01020304";
-    let Frame::Setup(setup) = decode(rt.alloc(), &bytes_of(rt.alloc(), setup)?)? else {
-        return Err(Fail::from("no set-up"));
-    };
-    assert_eq!(rt; (setup.version, setup.vertices), (2, 258));
-    assert_eq!(rt; setup.bounds.as_slice(), [(3, 16_909_060)].as_slice());
+    assert!(rt; tells_the_set_up(&frame_of(rt.alloc(), setup)?));
     Ok(())
 }

@@ -6,19 +6,35 @@ use pg_wire::{
 use std::alloc::Global;
 use std::test::Fail;
 
+fn is_spelled(alloc: Global, frame: &Frame, bytes: &[u8]) -> Result<bool, WireFault> {
+    if !frame.is_well() {
+        return Ok(false);
+    }
+    let spelled = encode(alloc, frame)?;
+    Ok(spelled.as_slice() == bytes)
+}
+
+/// Whether the frame is written behind a byte, which stays.
+fn is_written_behind(alloc: Global, frame: &Frame, bytes: &[u8]) -> Result<bool, Fail> {
+    if !frame.is_well() {
+        return Ok(false);
+    }
+    let mut out = Vec::new(alloc);
+    out.push(255)?;
+    write_frame(frame, &mut out)?;
+    Ok(out.first() == Some(&255) && out.get(1..) == Some(bytes))
+}
+
+fn is_read_and_spelled(alloc: Global, text: &str) -> Result<bool, Fail> {
+    let bytes = bytes_of(alloc, text)?;
+    let frame = decode(alloc, &bytes)?;
+    Ok(is_spelled(alloc, &frame, &bytes)? && is_written_behind(alloc, &frame, &bytes)?)
+}
+
 #[test]
 fn spells_what_it_reads(rt: HostRuntime) -> Result<(), Fail> {
     for text in FRAMES {
-        let bytes = bytes_of(rt.alloc(), text)?;
-        let frame = decode(rt.alloc(), &bytes)?;
-        assert!(rt; frame.is_well(), "{text}");
-        let spelled = encode(rt.alloc(), &frame)?;
-        assert_eq!(rt; spelled.as_slice(), bytes.as_slice(), "{text}");
-        let mut out = Vec::new(rt.alloc());
-        out.push(255)?;
-        write_frame(&frame, &mut out)?;
-        assert_eq!(rt; out.first(), Some(&255), "{text}");
-        assert_eq!(rt; out.get(1..), Some(bytes.as_slice()), "{text}");
+        assert!(rt; is_read_and_spelled(rt.alloc(), text)?, "{text}");
     }
     laws::no_front();
     laws::one_frame();
@@ -29,6 +45,21 @@ fn one_row<T: Drop>(alloc: Global, item: T) -> Result<Rows<T>, Fail> {
     let mut items = Vec::new(alloc);
     items.push(item)?;
     Ok(Rows::new(items))
+}
+
+fn is_set_up_well(
+    alloc: Global,
+    version: u8,
+    vertices: u32,
+    bounds: &[(u32, u32)],
+) -> Result<bool, Fail> {
+    let bounds = Rows::new(bounds.to_vec(alloc)?);
+    let frame = Frame::Setup(Setup {
+        version,
+        vertices,
+        bounds,
+    });
+    Ok(frame.is_well())
 }
 
 #[test]
@@ -46,15 +77,21 @@ fn tells_which_set_ups_are_well(rt: HostRuntime) -> Result<(), Fail> {
         (1, 2, [(3, 1), (3, 1)].as_slice(), false),
     ];
     for (version, vertices, bounds, is_well) in rows {
-        let bounds = Rows::new(bounds.to_vec(rt.alloc())?);
-        let frame = Frame::Setup(Setup {
-            version,
-            vertices,
-            bounds,
-        });
-        assert_eq!(rt; frame.is_well(), is_well, "{frame:?}");
+        let answer = is_set_up_well(rt.alloc(), version, vertices, bounds)?;
+        assert_eq!(rt; answer, is_well, "{version} {vertices} {bounds:?}");
     }
     Ok(())
+}
+
+fn is_line_well(alloc: Global, priority: u32, owner: u8, successors: &[u32]) -> Result<bool, Fail> {
+    let line = VertexLine {
+        vertex: 0,
+        priority,
+        owner,
+        successors: Rows::new(successors.to_vec(alloc)?),
+    };
+    let lines = one_row(alloc, line)?;
+    Ok(Frame::Vertices(Vertices { lines }).is_well())
 }
 
 #[test]
@@ -68,17 +105,19 @@ fn tells_which_lines_are_well(rt: HostRuntime) -> Result<(), Fail> {
         (1, 1, [5, 4].as_slice(), false),
     ];
     for (priority, owner, successors, is_well) in rows {
-        let line = VertexLine {
-            vertex: 0,
-            priority,
-            owner,
-            successors: Rows::new(successors.to_vec(rt.alloc())?),
-        };
-        let lines = one_row(rt.alloc(), line)?;
-        let frame = Frame::Vertices(Vertices { lines });
-        assert_eq!(rt; frame.is_well(), is_well, "{frame:?}");
+        let answer = is_line_well(rt.alloc(), priority, owner, successors)?;
+        assert_eq!(rt; answer, is_well, "{priority} {owner} {successors:?}");
     }
     Ok(())
+}
+
+fn is_list_well(alloc: Global, width: u32, numbers: &[u32]) -> Result<bool, Fail> {
+    let value = Value {
+        vertex: 0,
+        list: Some(Rows::new(numbers.to_vec(alloc)?)),
+    };
+    let values = one_row(alloc, value)?;
+    Ok(Frame::Values(Values { width, values }).is_well())
 }
 
 #[test]
@@ -91,15 +130,19 @@ fn tells_which_lists_are_well(rt: HostRuntime) -> Result<(), Fail> {
         (32_769, [].as_slice(), false),
     ];
     for (width, numbers, is_well) in rows {
-        let value = Value {
-            vertex: 0,
-            list: Some(Rows::new(numbers.to_vec(rt.alloc())?)),
-        };
-        let values = one_row(rt.alloc(), value)?;
-        let frame = Frame::Values(Values { width, values });
-        assert_eq!(rt; frame.is_well(), is_well, "{frame:?}");
+        let answer = is_list_well(rt.alloc(), width, numbers)?;
+        assert_eq!(rt; answer, is_well, "{width} {numbers:?}");
     }
     Ok(())
+}
+
+fn are_pairs_well(alloc: Global, width: u32, pairs: &[(u32, u32)]) -> Result<bool, Fail> {
+    let value = SparseValue {
+        vertex: 0,
+        pairs: Some(Rows::new(pairs.to_vec(alloc)?)),
+    };
+    let values = one_row(alloc, value)?;
+    Ok(Frame::Sparse(Sparse { width, values }).is_well())
 }
 
 #[test]
@@ -113,15 +156,14 @@ fn tells_which_pairs_are_well(rt: HostRuntime) -> Result<(), Fail> {
         (32_769, [].as_slice(), false),
     ];
     for (width, pairs, is_well) in rows {
-        let value = SparseValue {
-            vertex: 0,
-            pairs: Some(Rows::new(pairs.to_vec(rt.alloc())?)),
-        };
-        let values = one_row(rt.alloc(), value)?;
-        let frame = Frame::Sparse(Sparse { width, values });
-        assert_eq!(rt; frame.is_well(), is_well, "{frame:?}");
+        let answer = are_pairs_well(rt.alloc(), width, pairs)?;
+        assert_eq!(rt; answer, is_well, "{width} {pairs:?}");
     }
     Ok(())
+}
+
+fn is_report_well(status: u8, code: u8) -> bool {
+    Frame::Report(Report { status, code }).is_well()
 }
 
 #[test]
@@ -143,8 +185,7 @@ fn tells_which_short_frames_are_well(rt: HostRuntime) {
         (3, 0, false),
     ];
     for (status, code, is_well) in rows {
-        let frame = Frame::Report(Report { status, code });
-        assert_eq!(rt; frame.is_well(), is_well, "{frame:?}");
+        assert_eq!(rt; is_report_well(status, code), is_well, "{status} {code}");
     }
 }
 
@@ -167,26 +208,36 @@ fn large(alloc: Global, tops: u32) -> Result<Frame, Fail> {
     }))
 }
 
+/// Whether the frame is spelled in so many bytes, which are read.
+fn is_spelled_in(alloc: Global, frame: &Frame, len: usize) -> Result<bool, WireFault> {
+    if !frame.is_well() {
+        return Ok(false);
+    }
+    let bytes = encode(alloc, frame)?;
+    Ok(bytes.len() == len && decode(alloc, &bytes).is_ok())
+}
+
 #[test]
 fn spells_up_to_the_limit(rt: HostRuntime) -> Result<(), Fail> {
     let frame = large(rt.alloc(), 104_831)?;
-    assert!(rt; frame.is_well());
-    let bytes = encode(rt.alloc(), &frame)?;
-    assert_eq!(rt; bytes.len(), 16_777_220);
-    assert!(rt; decode(rt.alloc(), &bytes).is_ok());
+    assert!(rt; is_spelled_in(rt.alloc(), &frame, 16_777_220)?);
     Ok(())
+}
+
+/// Whether the frame is well, and too long to be spelled and to be written.
+fn is_too_long(alloc: Global, frame: &Frame) -> bool {
+    if !frame.is_well() {
+        return false;
+    }
+    let mut out = Vec::new(alloc);
+    encode(alloc, frame).err() == Some(WireFault::TooLong)
+        && write_frame(frame, &mut out).err() == Some(WireFault::TooLong)
+        && out.is_empty()
 }
 
 #[test]
 fn refuses_to_spell_past_the_limit(rt: HostRuntime) -> Result<(), Fail> {
     let frame = large(rt.alloc(), 104_832)?;
-    assert!(rt; frame.is_well());
-    assert_eq!(rt; encode(rt.alloc(), &frame).err(), Some(WireFault::TooLong));
-    let mut out = Vec::new(rt.alloc());
-    assert_eq!(rt;
-        write_frame(&frame, &mut out).err(),
-        Some(WireFault::TooLong)
-    );
-    assert!(rt; out.is_empty());
+    assert!(rt; is_too_long(rt.alloc(), &frame));
     Ok(())
 }

@@ -1,6 +1,6 @@
 use crate::texts::bytes_of;
 use pg_wire::{LineHead, VerticesReader, VerticesWriter, decode, encode};
-use std::alloc::Global;
+use std::alloc::{AllocError, Global};
 use std::test::Fail;
 
 /// Vertex 0 with priority 3, of Odd, to 0 and 2, and vertex 2 with priority 0, of Even, to 4,294,967,295.
@@ -23,33 +23,48 @@ const SECOND: LineHead = LineHead {
 fn two_lines(alloc: Global) -> Result<Vec<u8>, Fail> {
     let mut out = Vec::new(alloc);
     out.push(255)?;
-    let mut writer = VerticesWriter::begin(&mut out)?;
-    let is_first_written = writer.push(FIRST, &[0, 2], &mut out)?;
-    let is_second_written = writer.push(SECOND, &[4_294_967_295], &mut out)?;
-    writer.finish(&mut out);
-    if is_first_written && is_second_written {
+    if write_two_lines(&mut out)? {
         Ok(out)
     } else {
         Err(Fail::from("no room"))
     }
 }
 
+/// Whether there was room for both lines.
+fn write_two_lines(out: &mut Vec<u8>) -> Result<bool, AllocError> {
+    let mut writer = VerticesWriter::begin(out)?;
+    let is_first_written = writer.push(FIRST, &[0, 2], out)?;
+    let is_second_written = writer.push(SECOND, &[4_294_967_295], out)?;
+    writer.finish(out);
+    Ok(is_first_written && is_second_written)
+}
+
+fn stand_behind_a_byte(out: &[u8], bytes: &[u8]) -> bool {
+    out.first() == Some(&255) && out.get(1..) == Some(bytes)
+}
+
 #[test]
 fn writes_one_line_after_the_other(rt: HostRuntime) -> Result<(), Fail> {
     let out = two_lines(rt.alloc())?;
     let bytes = bytes_of(rt.alloc(), TWO_LINES)?;
-    assert_eq!(rt; out.first(), Some(&255));
-    assert_eq!(rt; out.get(1..), Some(bytes.as_slice()));
+    assert!(rt; stand_behind_a_byte(&out, &bytes));
     Ok(())
+}
+
+/// What `encode` makes of the frame that `decode` reads.
+fn read_and_spelled(alloc: Global, text: &str) -> Result<Vec<u8>, Fail> {
+    let bytes = bytes_of(alloc, text)?;
+    let frame = decode(alloc, &bytes)?;
+    if !frame.is_well() {
+        return Err(Fail::from("not well"));
+    }
+    Ok(encode(alloc, &frame)?)
 }
 
 #[test]
 fn writes_what_encode_writes(rt: HostRuntime) -> Result<(), Fail> {
     let out = two_lines(rt.alloc())?;
-    let bytes = bytes_of(rt.alloc(), TWO_LINES)?;
-    let frame = decode(rt.alloc(), &bytes)?;
-    assert!(rt; frame.is_well());
-    let spelled = encode(rt.alloc(), &frame)?;
+    let spelled = read_and_spelled(rt.alloc(), TWO_LINES)?;
     assert_eq!(rt; out.get(1..), Some(spelled.as_slice()));
     Ok(())
 }
@@ -59,48 +74,64 @@ fn writes_no_line(rt: HostRuntime) -> Result<(), Fail> {
     let mut out = Vec::new(rt.alloc());
     let writer = VerticesWriter::begin(&mut out)?;
     writer.finish(&mut out);
-    let bytes = bytes_of(rt.alloc(), "00000005 02 00000000")?;
-    assert_eq!(rt; out.as_slice(), bytes.as_slice());
+    assert_eq!(rt; out.as_slice(), [0, 0, 0, 5, 2, 0, 0, 0, 0].as_slice());
     assert!(rt; VerticesReader::open(&out).is_some());
     Ok(())
+}
+
+/// Whether the next line has this head and these successors.
+fn is_next(
+    lines: &mut VerticesReader,
+    successors: &mut Vec<u32>,
+    expected: LineHead,
+    to: &[u32],
+) -> Result<bool, AllocError> {
+    let Some(head) = lines.next(successors)? else {
+        return Ok(false);
+    };
+    Ok(
+        head.vertex == expected.vertex
+            && head.priority == expected.priority
+            && head.owner == expected.owner
+            && successors.as_slice() == to,
+    )
+}
+
+/// Whether the two lines are read, and then none, which leaves the successors.
+fn reads_two_lines(bytes: &[u8], successors: &mut Vec<u32>) -> Result<bool, AllocError> {
+    let Some(mut lines) = VerticesReader::open(bytes) else {
+        return Ok(false);
+    };
+    Ok(
+        is_next(&mut lines, successors, FIRST, &[0, 2])?
+            && is_next(&mut lines, successors, SECOND, &[4_294_967_295])?
+            && lines.next(successors)?.is_none()
+            && successors.as_slice() == [4_294_967_295].as_slice(),
+    )
 }
 
 #[test]
 fn reads_one_line_after_the_other(rt: HostRuntime) -> Result<(), Fail> {
     let bytes = bytes_of(rt.alloc(), TWO_LINES)?;
-    let Some(mut lines) = VerticesReader::open(&bytes) else {
-        return Err(Fail::from("no frame of vertices"));
-    };
-    let rows = [
-        (FIRST, [0, 2].as_slice()),
-        (SECOND, [4_294_967_295].as_slice()),
-    ];
     let mut successors = [7, 7, 7].to_vec(rt.alloc())?;
-    for (expected, to) in rows {
-        let Some(head) = lines.next(&mut successors)? else {
-            return Err(Fail::from("no line"));
-        };
-        assert_eq!(rt; head.vertex, expected.vertex);
-        assert_eq!(rt; head.priority, expected.priority);
-        assert_eq!(rt; head.owner, expected.owner);
-        assert_eq!(rt; successors.as_slice(), to);
-    }
-    assert!(rt; lines.next(&mut successors)?.is_none());
-    assert_eq!(rt; successors.as_slice(), [4_294_967_295].as_slice());
+    assert!(rt; reads_two_lines(&bytes, &mut successors)?);
     Ok(())
 }
 
 /// No byte may be missing.
+fn opens_only_the_whole(bytes: &[u8]) -> bool {
+    for len in 0..bytes.len() {
+        if VerticesReader::open(&bytes[..len]).is_some() {
+            return false;
+        }
+    }
+    VerticesReader::open(bytes).is_some()
+}
+
 #[test]
 fn opens_no_cut_frame(rt: HostRuntime) -> Result<(), Fail> {
     let bytes = bytes_of(rt.alloc(), TWO_LINES)?;
-    for len in 0..bytes.len() {
-        assert!(rt;
-            VerticesReader::open(&bytes.as_slice()[..len]).is_none(),
-            "{len}"
-        );
-    }
-    assert!(rt; VerticesReader::open(&bytes).is_some());
+    assert!(rt; opens_only_the_whole(&bytes));
     Ok(())
 }
 
@@ -129,20 +160,36 @@ fn opens_no_lines_that_are_refused(rt: HostRuntime) -> Result<(), Fail> {
     Ok(())
 }
 
+/// Whether 127 lines fit with 32,765 successors, and behind them no line
+/// with the longer list, but one with the shorter.
+fn fills_the_frame(
+    successors: &[u32],
+    longer: &[u32],
+    shorter: &[u32],
+    out: &mut Vec<u8>,
+) -> Result<bool, AllocError> {
+    let mut writer = VerticesWriter::begin(out)?;
+    for _ in 0..127 {
+        if !writer.push(FIRST, successors, out)? {
+            return Ok(false);
+        }
+    }
+    let fits_once_more = writer.push(FIRST, successors, out)?;
+    let len = out.len();
+    let fits_longer = writer.push(FIRST, longer, out)?;
+    let fits_shorter = writer.push(FIRST, shorter, out)?;
+    writer.finish(out);
+    Ok(!fits_once_more && len == 16_646_280 && !fits_longer && fits_shorter)
+}
+
 /// 127 lines of 32,765 successors, of 131,073 bytes each, leave room for 130,940 bytes.
 #[test]
 fn writes_lines_until_the_frame_is_full(rt: HostRuntime) -> Result<(), Fail> {
     let successors = vec![in rt.alloc(); 1u32; 32_765]?;
     let mut out = Vec::new(rt.alloc());
-    let mut writer = VerticesWriter::begin(&mut out)?;
-    for _ in 0..127 {
-        assert!(rt; writer.push(FIRST, &successors, &mut out)?);
-    }
-    assert!(rt; !writer.push(FIRST, &successors, &mut out)?);
-    assert_eq!(rt; out.len(), 16_646_280);
-    assert!(rt; !writer.push(FIRST, &successors.as_slice()[..32_732], &mut out)?);
-    assert!(rt; writer.push(FIRST, &successors.as_slice()[..32_731], &mut out)?);
-    writer.finish(&mut out);
+    let longer = &successors.as_slice()[..32_732];
+    let shorter = &successors.as_slice()[..32_731];
+    assert!(rt; fills_the_frame(&successors, longer, shorter, &mut out)?);
     assert_eq!(rt;
         out.get(..9),
         Some([0, 255, 255, 253, 2, 0, 0, 0, 128].as_slice())

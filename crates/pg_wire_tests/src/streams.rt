@@ -78,21 +78,33 @@ fn next_bytes<R: Read>(alloc: Global, input: &mut R) -> Result<Vec<u8>, Fail> {
     Ok(encode(alloc, &frame)?)
 }
 
+/// Whether the next frame is that of the text.
+fn is_next<R: Read>(alloc: Global, input: &mut R, text: &str) -> Result<bool, Fail> {
+    let bytes = bytes_of(alloc, text)?;
+    let next = next_bytes(alloc, input)?;
+    Ok(next.as_slice() == bytes.as_slice())
+}
+
+fn is_at_end<R: Read>(alloc: Global, input: &mut R) -> Result<bool, WireFault> {
+    Ok(read_frame(alloc, input)?.is_none())
+}
+
+/// How many bytes the text spells.
+fn length_of(alloc: Global, text: &str) -> Result<usize, Fail> {
+    Ok(bytes_of(alloc, text)?.len())
+}
+
 #[test]
 fn reads_one_frame_after_the_other(rt: HostRuntime) -> Result<(), Fail> {
     let all = all_frames(rt.alloc())?;
     let mut left = all.len();
     let mut input = all.as_slice();
     for text in FRAMES {
-        let bytes = bytes_of(rt.alloc(), text)?;
-        assert_eq!(rt;
-            next_bytes(rt.alloc(), &mut input)?.as_slice(),
-            bytes.as_slice()
-        );
-        left = left.saturating_sub(bytes.len());
-        assert_eq!(rt; input.len(), left, "{text}");
+        left = left.saturating_sub(length_of(rt.alloc(), text)?);
+        let is_read = is_next(rt.alloc(), &mut input, text)? && input.len() == left;
+        assert!(rt; is_read, "{text}");
     }
-    assert!(rt; read_frame(rt.alloc(), &mut input)?.is_none());
+    assert!(rt; is_at_end(rt.alloc(), &mut input)?);
     Ok(())
 }
 
@@ -104,15 +116,11 @@ fn reads_one_byte_at_a_time(rt: HostRuntime) -> Result<(), Fail> {
         rest: all.as_slice(),
     };
     for text in FRAMES {
-        let bytes = bytes_of(rt.alloc(), text)?;
-        assert_eq!(rt;
-            next_bytes(rt.alloc(), &mut input)?.as_slice(),
-            bytes.as_slice()
-        );
-        left = left.saturating_sub(bytes.len());
-        assert_eq!(rt; input.rest.len(), left, "{text}");
+        left = left.saturating_sub(length_of(rt.alloc(), text)?);
+        let is_read = is_next(rt.alloc(), &mut input, text)? && input.rest.len() == left;
+        assert!(rt; is_read, "{text}");
     }
-    assert!(rt; read_frame(rt.alloc(), &mut input)?.is_none());
+    assert!(rt; is_at_end(rt.alloc(), &mut input)?);
     Ok(())
 }
 
@@ -127,28 +135,51 @@ fn reads_on_where_it_was_interrupted(rt: HostRuntime) -> Result<(), Fail> {
         is_next: false,
     };
     for text in FRAMES {
-        let bytes = bytes_of(rt.alloc(), text)?;
-        assert_eq!(rt;
-            next_bytes(rt.alloc(), &mut input)?.as_slice(),
-            bytes.as_slice()
-        );
+        assert!(rt; is_next(rt.alloc(), &mut input, text)?, "{text}");
     }
-    assert!(rt; read_frame(rt.alloc(), &mut input)?.is_none());
+    assert!(rt; is_at_end(rt.alloc(), &mut input)?);
     Ok(())
+}
+
+fn is_truncated_within(alloc: Global, bytes: &[u8]) -> bool {
+    for len in 1..bytes.len() {
+        let mut input = &bytes[..len];
+        if read_frame(alloc, &mut input).err() != Some(WireFault::Truncated) {
+            return false;
+        }
+    }
+    true
 }
 
 #[test]
 fn refuses_an_input_that_ends_within_a_frame(rt: HostRuntime) -> Result<(), Fail> {
     for text in FRAMES {
         let bytes = bytes_of(rt.alloc(), text)?;
-        let bytes = bytes.as_slice();
-        for len in 1..bytes.len() {
-            let mut input = &bytes[..len];
-            let answer = read_frame(rt.alloc(), &mut input);
-            assert_eq!(rt; answer.err(), Some(WireFault::Truncated), "{text} to {len}");
-        }
+        assert!(rt; is_truncated_within(rt.alloc(), &bytes), "{text}");
     }
     Ok(())
+}
+
+/// Whether a frame is read from an input that fails at a read, counted down to 0.
+fn read_failing(
+    alloc: Global,
+    bytes: &[u8],
+    reads: usize,
+    kind: ErrorKind,
+) -> Result<bool, WireFault> {
+    let bytes = Slow { rest: bytes };
+    let mut input = Failing { bytes, reads, kind };
+    Ok(read_frame(alloc, &mut input)?.is_some())
+}
+
+/// Whether each read that the frame needs is told where it fails, and none behind.
+fn tells_each_read_that_failed(alloc: Global, bytes: &[u8], kind: ErrorKind) -> bool {
+    for reads in 0..bytes.len() {
+        if read_failing(alloc, bytes, reads, kind) != Err(WireFault::Read) {
+            return false;
+        }
+    }
+    read_failing(alloc, bytes, bytes.len(), kind) == Ok(true)
 }
 
 #[test]
@@ -156,26 +187,21 @@ fn tells_a_read_that_failed(rt: HostRuntime) -> Result<(), Fail> {
     for text in FRAMES {
         let bytes = bytes_of(rt.alloc(), text)?;
         for kind in [ErrorKind::Other, ErrorKind::UnexpectedEof] {
-            for reads in 0..bytes.len() {
-                let answer = read_failing(rt.alloc(), &bytes, reads, kind);
-                assert_eq!(rt; answer.err(), Some(WireFault::Read), "{text} at {reads}");
-            }
-            let answer = read_failing(rt.alloc(), &bytes, bytes.len(), kind)?;
-            assert!(rt; answer.is_some(), "{text}");
+            assert!(rt;
+                tells_each_read_that_failed(rt.alloc(), &bytes, kind),
+                "{text}"
+            );
         }
     }
     Ok(())
 }
 
-fn read_failing(
-    alloc: Global,
-    bytes: &[u8],
-    reads: usize,
-    kind: ErrorKind,
-) -> Result<Option<Frame>, WireFault> {
-    let bytes = Slow { rest: bytes };
-    let mut input = Failing { bytes, reads, kind };
-    read_frame(alloc, &mut input)
+/// Why the text is refused, if it is, and how many bytes are left then.
+fn fault_and_rest(alloc: Global, text: &str) -> Result<(Option<WireFault>, usize), Fail> {
+    let bytes = bytes_of(alloc, text)?;
+    let mut input = bytes.as_slice();
+    let fault = read_frame(alloc, &mut input).err();
+    Ok((fault, input.len()))
 }
 
 #[test]
@@ -185,54 +211,78 @@ fn refuses_a_length_before_it_reads_on(rt: HostRuntime) -> Result<(), Fail> {
         ("00000000 06 06", WireFault::BadKind),
     ];
     for (text, fault) in rows {
-        let bytes = bytes_of(rt.alloc(), text)?;
-        let mut input = bytes.as_slice();
         assert_eq!(rt;
-            read_frame(rt.alloc(), &mut input).err(),
-            Some(fault),
+            fault_and_rest(rt.alloc(), text)?,
+            (Some(fault), 2),
             "{text}"
         );
-        assert_eq!(rt; input.len(), 2, "{text}");
     }
     Ok(())
+}
+
+/// Whether the bytes of a budget and of a halt are read, and then none.
+fn reads_a_budget_and_a_halt(input: &mut &[u8], bytes: &mut Vec<u8>) -> Result<bool, WireFault> {
+    Ok(
+        read_frame_bytes(input, bytes)?
+            && bytes.as_slice() == [0, 0, 0, 5, 4, 0, 0, 16, 0].as_slice()
+            && input.len() == 5
+            && read_frame_bytes(input, bytes)?
+            && bytes.as_slice() == [0, 0, 0, 1, 6].as_slice()
+            && !read_frame_bytes(input, bytes)?,
+    )
 }
 
 #[test]
 fn reads_the_bytes_of_one_frame_after_the_other(rt: HostRuntime) -> Result<(), Fail> {
-    let first = bytes_of(rt.alloc(), "00000005 04 00001000")?;
-    let second = bytes_of(rt.alloc(), "00000001 06")?;
     let all = bytes_of(rt.alloc(), "00000005 04 00001000 00000001 06")?;
-    let mut input = all.as_slice();
     let mut bytes = Vec::new(rt.alloc());
-    assert!(rt; read_frame_bytes(&mut input, &mut bytes)?);
-    assert_eq!(rt; bytes.as_slice(), first.as_slice());
-    assert_eq!(rt; input.len(), 5);
-    assert!(rt; read_frame_bytes(&mut input, &mut bytes)?);
-    assert_eq!(rt; bytes.as_slice(), second.as_slice());
-    assert!(rt; !read_frame_bytes(&mut input, &mut bytes)?);
+    assert!(rt; reads_a_budget_and_a_halt(&mut all.as_slice(), &mut bytes)?);
     Ok(())
+}
+
+/// A length of 20,000, and so many bytes.
+fn many_bytes(alloc: Global) -> Result<Vec<u8>, Fail> {
+    let mut all = bytes_of(alloc, "00004e20")?;
+    for k in 0..20_000u32 {
+        all.push((k % 251) as u8)?;
+    }
+    Ok(all)
+}
+
+/// Whether all the bytes are those of one frame.
+fn reads_all_as_one(all: &[u8], bytes: &mut Vec<u8>) -> Result<bool, WireFault> {
+    let mut input = Slow { rest: all };
+    Ok(
+        read_frame_bytes(&mut input, bytes)?
+            && bytes.as_slice() == all
+            && !read_frame_bytes(&mut input, bytes)?,
+    )
+}
+
+fn is_truncated_at(all: &[u8], len: usize, bytes: &mut Vec<u8>) -> bool {
+    match all.get(..len) {
+        Some(mut input) => read_frame_bytes(&mut input, bytes) == Err(WireFault::Truncated),
+        None => false,
+    }
 }
 
 #[test]
 fn reads_many_bytes(rt: HostRuntime) -> Result<(), Fail> {
-    let mut all = bytes_of(rt.alloc(), "00004e20")?;
-    for k in 0..20_000u32 {
-        all.push((k % 251) as u8)?;
-    }
+    let all = many_bytes(rt.alloc())?;
     let mut bytes = Vec::new(rt.alloc());
-    let mut input = Slow {
-        rest: all.as_slice(),
-    };
-    assert!(rt; read_frame_bytes(&mut input, &mut bytes)?);
-    assert_eq!(rt; bytes.as_slice(), all.as_slice());
-    assert!(rt; !read_frame_bytes(&mut input, &mut bytes)?);
+    assert!(rt; reads_all_as_one(&all, &mut bytes)?);
     for len in [20_003, 4101, 4100, 4] {
-        all.truncate(len);
-        let mut input = all.as_slice();
-        let answer = read_frame_bytes(&mut input, &mut bytes);
-        assert_eq!(rt; answer, Err(WireFault::Truncated), "{len}");
+        assert!(rt; is_truncated_at(&all, len, &mut bytes), "{len}");
     }
     Ok(())
+}
+
+/// What reading the bytes of a frame from the text answers.
+fn answer_to(alloc: Global, text: &str) -> Result<Result<bool, WireFault>, Fail> {
+    let all = bytes_of(alloc, text)?;
+    let mut input = all.as_slice();
+    let mut bytes = Vec::new(alloc);
+    Ok(read_frame_bytes(&mut input, &mut bytes))
 }
 
 #[test]
@@ -243,14 +293,7 @@ fn refuses_bytes_by_their_length(rt: HostRuntime) -> Result<(), Fail> {
         ("00000005 04 0000", WireFault::Truncated),
     ];
     for (text, fault) in rows {
-        let all = bytes_of(rt.alloc(), text)?;
-        let mut input = all.as_slice();
-        let mut bytes = Vec::new(rt.alloc());
-        assert_eq!(rt;
-            read_frame_bytes(&mut input, &mut bytes),
-            Err(fault),
-            "{text}"
-        );
+        assert_eq!(rt; answer_to(rt.alloc(), text)?, Err(fault), "{text}");
     }
     Ok(())
 }
@@ -282,22 +325,35 @@ impl Write for Full {
     }
 }
 
+fn write_a_budget(out: &mut Full) -> Result<(), WireFault> {
+    write_frame(&Frame::Go(Go { budget: 4096 }), out)
+}
+
+/// Why a budget isn't written where a write fails, counted down to 0.
+fn fault_at(alloc: Global, writes: u32) -> Option<WireFault> {
+    let mut out = Full {
+        taken: Vec::new(alloc),
+        writes,
+    };
+    write_a_budget(&mut out).err()
+}
+
+/// What is written of a budget.
+fn written(alloc: Global, writes: u32) -> Result<Vec<u8>, WireFault> {
+    let mut out = Full {
+        taken: Vec::new(alloc),
+        writes,
+    };
+    write_a_budget(&mut out)?;
+    Ok(out.taken)
+}
+
 #[test]
 fn tells_a_write_that_failed(rt: HostRuntime) -> Result<(), Fail> {
-    let frame = Frame::Go(Go { budget: 4096 });
-    let bytes = bytes_of(rt.alloc(), "00000005 04 00001000")?;
     for writes in 0..9 {
-        let mut out = Full {
-            taken: Vec::new(rt.alloc()),
-            writes,
-        };
-        assert_eq!(rt; write_frame(&frame, &mut out).err(), Some(WireFault::Write));
+        assert_eq!(rt; fault_at(rt.alloc(), writes), Some(WireFault::Write));
     }
-    let mut out = Full {
-        taken: Vec::new(rt.alloc()),
-        writes: 9,
-    };
-    write_frame(&frame, &mut out)?;
-    assert_eq!(rt; out.taken.as_slice(), bytes.as_slice());
+    let taken = written(rt.alloc(), 9)?;
+    assert_eq!(rt; taken.as_slice(), [0, 0, 0, 5, 4, 0, 0, 16, 0].as_slice());
     Ok(())
 }
