@@ -5,26 +5,40 @@ use pg_cli::{CliFault, Command, run};
 use std::alloc::Global;
 use std::io::ErrorKind;
 
-/// Whether the command tells each read that fails, one after the other, and then writes nothing. Each read gives a byte, and
-/// the last one finds the end.
+/// Whether the command tells that the read with this number failed, and writes nothing. Each read gives a byte, and the last
+/// one finds the end.
+fn tells_failed_read(alloc: Global, command: Command, input: &[u8], before: usize) -> bool
+    requires { HasFewWorkers command }
+{
+    let mut reader = Failing {
+        left: input,
+        before,
+        kind: ErrorKind::Other,
+    };
+    let mut output = Vec::new(alloc);
+    let done = run(alloc, command, &mut reader, &mut output);
+    matches!(&done, Err(CliFault::Read)) && output.is_empty()
+}
+
+/// Whether the command tells each read that fails, one after the other, and then writes nothing.
 fn tells_failed_reads(alloc: Global, command: Command, input: &[u8]) -> bool
     requires { HasFewWorkers command }
 {
     for before in 0..input.len() + 1 {
-        let mut reader = Failing {
-            left: input,
-            before,
-            kind: ErrorKind::Other,
-        };
-        let mut output = Vec::new(alloc);
-        let done = run(alloc, command, &mut reader, &mut output);
-        let is_told = matches!(&done, Err(CliFault::Read)) && output.is_empty();
-        let _ = done;
-        if !is_told {
+        if !tells_failed_read(alloc, command, input, before) {
             return false;
         }
     }
     true
+}
+
+/// What the command answers to a writer that takes so many bytes.
+fn run_into(alloc: Global, command: Command, input: &[u8], before: usize) -> Result<(), CliFault>
+    requires { HasFewWorkers command }
+{
+    let mut reader = input;
+    let mut output = Full { before };
+    run(alloc, command, &mut reader, &mut output)
 }
 
 /// Whether the command tells each write that fails, one after the other, and none where all bytes of its answer are taken.
@@ -32,23 +46,14 @@ fn tells_failed_writes(alloc: Global, command: Command, input: &[u8], answer: &[
     requires { HasFewWorkers command }
 {
     for before in 0..answer.len() {
-        let mut reader = input;
-        let mut output = Full { before };
-        let done = run(alloc, command, &mut reader, &mut output);
-        let is_told = matches!(&done, Err(CliFault::Write));
-        let _ = done;
-        if !is_told {
+        if !matches!(
+            run_into(alloc, command, input, before),
+            Err(CliFault::Write)
+        ) {
             return false;
         }
     }
-    let mut reader = input;
-    let mut output = Full {
-        before: answer.len(),
-    };
-    let done = run(alloc, command, &mut reader, &mut output);
-    let is_taken = done.is_ok();
-    let _ = done;
-    is_taken
+    run_into(alloc, command, input, answer.len()).is_ok()
 }
 
 /// How many proper prefixes of a text the command answers; none where it refuses one and has written something.

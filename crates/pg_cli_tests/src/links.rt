@@ -2,7 +2,8 @@
 
 ghost use Rattle.std.specs.Prelude.{◌≤◌, length};
 
-use pg_cli::{CliFault, Command, exit_code, run, run_with};
+use crate::streams::answers;
+use pg_cli::{CliFault, Command, exit_code, run_with};
 use pg_coord::stand_ins::{Broken, Fixed, Told};
 use pg_coord::{Link, MemoryLink};
 use std::alloc::Global;
@@ -16,6 +17,9 @@ const ODD: &[u8] = b"parity 1;\n0 1 0 0;\n1 3 0 0;\n";
 
 /// Each player wins somewhere; the one odd priority is 1, and in the dual there are two.
 const THREE: &[u8] = b"parity 2;\n0 0 1 0,1;\n1 1 1 1,2 \"odd\";\n2 2 0 0,2;\n";
+
+/// Its solution.
+const WON: &[u8] = b"paritysol 2;\n0 1 1;\n1 1 1;\n2 0 2;\n";
 
 /// The controller sets its proposition in every other step, beginning with the first.
 const TURNS: &[u8] =
@@ -56,6 +60,33 @@ fn answer<L: Link>(
     (done, output)
 }
 
+/// Whether a command answers a text over these links by these bytes.
+fn answers_over<L: Link>(
+    alloc: Global,
+    command: Command,
+    text: &[u8],
+    links: &mut [L],
+    expected: &[u8],
+) -> bool
+    requires { length links.old ≤ 16 }
+{
+    let (done, output) = answer(alloc, command, text, links);
+    done.is_ok() && output.as_slice() == expected
+}
+
+/// Whether `solve` leaves vertex 0 of a game undecided over these links: it tells so, writes nothing, and ends with status 3.
+fn leaves_undecided<L: Link>(alloc: Global, text: &[u8], links: &mut [L]) -> bool
+    requires { length links.old ≤ 16 }
+{
+    let (done, output) = answer(alloc, Command::Solve { workers: 0 }, text, links);
+    match &done {
+        Ok(()) => false,
+        Err(fault) => {
+            matches!(fault, CliFault::Undecided(0)) && exit_code(fault) == 3 && output.is_empty()
+        }
+    }
+}
+
 /// Two frames, one after the other.
 fn frames(alloc: Global, first: &[u8], last: &[u8]) -> Result<Vec<Vec<u8>>, Fail> {
     let (first, last) = (
@@ -70,66 +101,46 @@ fn sends(alloc: Global, values: &[u8]) -> Result<Fixed, Fail> {
     Ok(Fixed::new(alloc, frames(alloc, values, QUIET)?, 1))
 }
 
-#[test]
-fn every_number_of_workers_measures_the_same(rt: HostRuntime) -> Result<(), Fail> {
-    for workers in 0..=16u32 {
-        let mut input = ODD;
-        let mut output = Vec::new(rt.alloc());
-        run(
-            rt.alloc(),
-            Command::Measure { workers },
-            &mut input,
-            &mut output,
-        )?;
-        assert_eq!(rt; output.as_slice(), b"0 T;\n1 T;\n".as_slice(), "{workers}");
-    }
-    Ok(())
+/// Two links in memory, the second one to a worker that takes version 1 alone.
+fn memory_links(alloc: Global) -> Result<[MemoryLink; 2], Fail> {
+    Ok([MemoryLink::new(alloc)?, MemoryLink::limited(alloc, 1)?])
 }
 
 #[test]
-fn every_number_of_workers_solves_the_same(rt: HostRuntime) -> Result<(), Fail> {
+fn every_number_of_workers_measures_the_same(rt: HostRuntime) {
     for workers in 0..=16u32 {
-        let mut input = THREE;
-        let mut output = Vec::new(rt.alloc());
-        run(
-            rt.alloc(),
-            Command::Solve { workers },
-            &mut input,
-            &mut output,
-        )?;
-        let solution = b"paritysol 2;\n0 1 1;\n1 1 1;\n2 0 2;\n".as_slice();
-        assert_eq!(rt; output.as_slice(), solution, "{workers}");
+        let command = Command::Measure { workers };
+        assert!(rt;
+            answers(rt.alloc(), command, ODD, b"0 T;\n1 T;\n"),
+            "{workers}"
+        );
     }
-    Ok(())
 }
 
 #[test]
-fn every_number_of_workers_synthesises_the_same(rt: HostRuntime) -> Result<(), Fail> {
+fn every_number_of_workers_solves_the_same(rt: HostRuntime) {
     for workers in 0..=16u32 {
-        let mut input = TURNS;
-        let mut output = Vec::new(rt.alloc());
-        run(
-            rt.alloc(),
-            Command::Synth { workers },
-            &mut input,
-            &mut output,
-        )?;
-        assert_eq!(rt; output.as_slice(), CIRCUIT, "{workers}");
+        let command = Command::Solve { workers };
+        assert!(rt; answers(rt.alloc(), command, THREE, WON), "{workers}");
     }
-    Ok(())
+}
+
+#[test]
+fn every_number_of_workers_synthesises_the_same(rt: HostRuntime) {
+    for workers in 0..=16u32 {
+        let command = Command::Synth { workers };
+        assert!(rt; answers(rt.alloc(), command, TURNS, CIRCUIT), "{workers}");
+    }
 }
 
 #[test]
 fn links_in_memory_may_be_given(rt: HostRuntime) -> Result<(), Fail> {
     let alloc = rt.alloc();
-    let mut links = [MemoryLink::new(alloc)?, MemoryLink::limited(alloc, 1)?];
-    let (done, output) = answer(alloc, Command::Solve { workers: 7 }, THREE, &mut links);
-    assert!(rt; done.is_ok());
-    let solution = b"paritysol 2;\n0 1 1;\n1 1 1;\n2 0 2;\n".as_slice();
-    assert_eq!(rt; output.as_slice(), solution);
-    let (done, output) = answer(alloc, Command::Measure { workers: 0 }, ODD, &mut links);
-    assert!(rt; done.is_ok());
-    assert_eq!(rt; output.as_slice(), b"0 T;\n1 T;\n".as_slice());
+    let mut links = memory_links(alloc)?;
+    let solve = Command::Solve { workers: 7 };
+    assert!(rt; answers_over(alloc, solve, THREE, &mut links, WON));
+    let measure = Command::Measure { workers: 0 };
+    assert!(rt; answers_over(alloc, measure, ODD, &mut links, b"0 T;\n1 T;\n"));
     Ok(())
 }
 
@@ -137,9 +148,8 @@ fn links_in_memory_may_be_given(rt: HostRuntime) -> Result<(), Fail> {
 fn a_link_that_sends_top_is_believed_by_measure(rt: HostRuntime) -> Result<(), Fail> {
     let alloc = rt.alloc();
     let mut links = [sends(alloc, TOP)?];
-    let (done, output) = answer(alloc, Command::Measure { workers: 0 }, TWO, &mut links);
-    assert!(rt; done.is_ok());
-    assert_eq!(rt; output.as_slice(), b"0 T;\n1 T;\n".as_slice());
+    let measure = Command::Measure { workers: 0 };
+    assert!(rt; answers_over(alloc, measure, TWO, &mut links, b"0 T;\n1 T;\n"));
     Ok(())
 }
 
@@ -147,9 +157,8 @@ fn a_link_that_sends_top_is_believed_by_measure(rt: HostRuntime) -> Result<(), F
 fn a_link_that_tells_top_once_is_believed_by_measure(rt: HostRuntime) -> Result<(), Fail> {
     let alloc = rt.alloc();
     let mut links = [Told::new(alloc, frames(alloc, TOP, QUIET)?)];
-    let (done, output) = answer(alloc, Command::Measure { workers: 0 }, TWO, &mut links);
-    assert!(rt; done.is_ok());
-    assert_eq!(rt; output.as_slice(), b"0 T;\n1 T;\n".as_slice());
+    let measure = Command::Measure { workers: 0 };
+    assert!(rt; answers_over(alloc, measure, TWO, &mut links, b"0 T;\n1 T;\n"));
     Ok(())
 }
 
@@ -157,9 +166,8 @@ fn a_link_that_tells_top_once_is_believed_by_measure(rt: HostRuntime) -> Result<
 fn a_link_that_tells_no_values_leaves_the_lifting(rt: HostRuntime) -> Result<(), Fail> {
     let alloc = rt.alloc();
     let mut links = [Told::new(alloc, frames(alloc, NONE, QUIET)?)];
-    let (done, output) = answer(alloc, Command::Measure { workers: 0 }, TWO, &mut links);
-    assert!(rt; done.is_ok());
-    assert_eq!(rt; output.as_slice(), b"0 1;\n1 0;\n".as_slice());
+    let measure = Command::Measure { workers: 0 };
+    assert!(rt; answers_over(alloc, measure, TWO, &mut links, b"0 1;\n1 0;\n"));
     Ok(())
 }
 
@@ -167,11 +175,7 @@ fn a_link_that_tells_no_values_leaves_the_lifting(rt: HostRuntime) -> Result<(),
 fn where_both_maps_are_top_nothing_is_solved(rt: HostRuntime) -> Result<(), Fail> {
     let alloc = rt.alloc();
     let mut links = [sends(alloc, TOP)?];
-    let (done, output) = answer(alloc, Command::Solve { workers: 0 }, TWO, &mut links);
-    assert!(rt; matches!(&done, Err(CliFault::Undecided(0))));
-    assert!(rt; output.is_empty());
-    assert!(rt; matches!(&done, Err(fault) if exit_code(fault) == 3));
-    let _ = done;
+    assert!(rt; leaves_undecided(alloc, TWO, &mut links));
     Ok(())
 }
 
@@ -180,26 +184,19 @@ fn where_both_maps_are_top_nothing_is_solved(rt: HostRuntime) -> Result<(), Fail
 fn a_value_above_the_least_one_still_solves(rt: HostRuntime) -> Result<(), Fail> {
     let alloc = rt.alloc();
     let mut links = [sends(alloc, ONE)?];
-    let (done, output) = answer(alloc, Command::Measure { workers: 0 }, THREE, &mut links);
-    assert!(rt; done.is_ok());
-    assert_eq!(rt; output.as_slice(), b"0 T;\n1 T;\n2 1;\n".as_slice());
-    let (done, output) = answer(alloc, Command::Solve { workers: 0 }, THREE, &mut links);
-    assert!(rt; done.is_ok());
-    let solution = b"paritysol 2;\n0 1 1;\n1 1 1;\n2 0 2;\n".as_slice();
-    assert_eq!(rt; output.as_slice(), solution);
+    let measure = Command::Measure { workers: 0 };
+    assert!(rt; answers_over(alloc, measure, THREE, &mut links, b"0 T;\n1 T;\n2 1;\n"));
+    let solve = Command::Solve { workers: 0 };
+    assert!(rt; answers_over(alloc, solve, THREE, &mut links, WON));
     Ok(())
 }
 
 #[test]
-fn links_whose_calls_fail_change_nothing(rt: HostRuntime) -> Result<(), Fail> {
+fn links_whose_calls_fail_change_nothing(rt: HostRuntime) {
     let alloc = rt.alloc();
     let mut links = [Broken::new(), Broken::new(), Broken::new()];
-    let (done, output) = answer(alloc, Command::Solve { workers: 0 }, THREE, &mut links);
-    assert!(rt; done.is_ok());
-    let solution = b"paritysol 2;\n0 1 1;\n1 1 1;\n2 0 2;\n".as_slice();
-    assert_eq!(rt; output.as_slice(), solution);
-    let (done, output) = answer(alloc, Command::Synth { workers: 0 }, TURNS, &mut links);
-    assert!(rt; done.is_ok());
-    assert_eq!(rt; output.as_slice(), CIRCUIT);
-    Ok(())
+    let solve = Command::Solve { workers: 0 };
+    assert!(rt; answers_over(alloc, solve, THREE, &mut links, WON));
+    let synth = Command::Synth { workers: 0 };
+    assert!(rt; answers_over(alloc, synth, TURNS, &mut links, CIRCUIT));
 }

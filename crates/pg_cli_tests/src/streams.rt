@@ -3,7 +3,6 @@ ghost use Rattle.pg_cli.specs.Words.{HasFewWorkers};
 use pg_cli::{CliFault, Command, exit_code, run, write_fault};
 use std::alloc::Global;
 use std::io::{self, ErrorKind, Read, Write};
-use std::test::Fail;
 
 /// Gives a byte at a time; the read with this number fails with this kind of error.
 #[derive(Drop)]
@@ -75,38 +74,27 @@ State: 0 [0] 1 {0} State: 1 [!0] 0 {0} --END--";
 /// Its circuit: the latch is its own negation, and so is the output.
 pub(crate) const CIRCUIT: &[u8] = b"REALIZABLE\naag 1 0 1 1 0\n2 3\n3\no0 g\n";
 
-/// What a command writes of an input.
-fn answer(alloc: Global, command: Command, input: &[u8]) -> Result<Vec<u8>, CliFault>
+/// Whether a command answers an input by these bytes.
+pub(crate) fn answers(alloc: Global, command: Command, input: &[u8], answer: &[u8]) -> bool
     requires { HasFewWorkers command }
 {
     let mut input = input;
     let mut output = Vec::new(alloc);
-    run(alloc, command, &mut input, &mut output)?;
-    Ok(output)
+    let done = run(alloc, command, &mut input, &mut output);
+    done.is_ok() && output.as_slice() == answer
 }
 
 #[test]
-fn each_command_answers(rt: HostRuntime) -> Result<(), Fail> {
-    let alloc = rt.alloc();
-    let workers = 2;
-    let measured = answer(alloc, Command::Measure { workers }, TWO)?;
-    assert_eq!(rt; measured.as_slice(), b"0 1;\n1 0;\n".as_slice());
-    let solved = answer(alloc, Command::Solve { workers }, TWO)?;
-    assert_eq!(rt;
-        solved.as_slice(),
-        b"paritysol 1;\n0 0 1;\n1 0;\n".as_slice()
-    );
-    assert_eq!(rt;
-        answer(alloc, Command::Check, SOLVED)?.as_slice(),
-        b"WINS\n".as_slice()
-    );
-    assert_eq!(rt; answer(alloc, Command::Replay, SCRIPT)?.as_slice(), WORLD);
-    assert_eq!(rt; answer(alloc, Command::Game, LOOP)?.as_slice(), GAME);
-    let synthesised = answer(alloc, Command::Synth { workers }, TURNS)?;
-    assert_eq!(rt; synthesised.as_slice(), CIRCUIT);
-    let none = answer(alloc, Command::Synth { workers }, LOOP)?;
-    assert_eq!(rt; none.as_slice(), b"UNREALIZABLE\n".as_slice());
-    Ok(())
+fn each_command_answers(rt: HostRuntime) {
+    let (alloc, workers) = (rt.alloc(), 2);
+    assert!(rt; answers(alloc, Command::Measure { workers }, TWO, b"0 1;\n1 0;\n"));
+    let solution = b"paritysol 1;\n0 0 1;\n1 0;\n";
+    assert!(rt; answers(alloc, Command::Solve { workers }, TWO, solution));
+    assert!(rt; answers(alloc, Command::Check, SOLVED, b"WINS\n"));
+    assert!(rt; answers(alloc, Command::Replay, SCRIPT, WORLD));
+    assert!(rt; answers(alloc, Command::Game, LOOP, GAME));
+    assert!(rt; answers(alloc, Command::Synth { workers }, TURNS, CIRCUIT));
+    assert!(rt; answers(alloc, Command::Synth { workers }, LOOP, b"UNREALIZABLE\n"));
 }
 
 /// What `measure` answers to a reader whose read with this number fails, and what was written.
@@ -126,61 +114,66 @@ fn measured(alloc: Global, before: usize, kind: ErrorKind) -> (Result<(), CliFau
     (done, output)
 }
 
+/// Whether `measure` tells that the read with this number failed, and writes nothing.
+fn tells_failed_read(alloc: Global, before: usize) -> bool {
+    let (done, output) = measured(alloc, before, ErrorKind::Other);
+    matches!(&done, Err(CliFault::Read)) && output.is_empty()
+}
+
+/// Whether `measure` answers though the read with this number is interrupted.
+fn passes_interrupted_read(alloc: Global, before: usize) -> bool {
+    let (done, output) = measured(alloc, before, ErrorKind::Interrupted);
+    done.is_ok() && output.as_slice() == b"0 1;\n1 0;\n".as_slice()
+}
+
+/// Whether `measure` tells that the write with this number failed, or succeeds where its answer has no such byte. The answer
+/// has 10 bytes.
+fn tells_failed_write(alloc: Global, before: usize) -> bool {
+    let mut input = TWO;
+    let mut output = Full { before };
+    let command = Command::Measure { workers: 2 };
+    let done = run(alloc, command, &mut input, &mut output);
+    if before < 10 {
+        matches!(&done, Err(CliFault::Write))
+    } else {
+        done.is_ok()
+    }
+}
+
 /// The text has 30 bytes, so that the thirty-first read is the one that finds the end.
 #[test]
 fn a_failed_read_writes_nothing(rt: HostRuntime) {
     for before in 0..31usize {
-        let (done, output) = measured(rt.alloc(), before, ErrorKind::Other);
-        assert!(rt; matches!(&done, Err(CliFault::Read)), "before {before}");
-        assert!(rt; output.is_empty(), "before {before}");
-        let _ = done;
+        assert!(rt; tells_failed_read(rt.alloc(), before), "before {before}");
     }
 }
 
 #[test]
 fn an_interrupted_read_is_tried_again(rt: HostRuntime) {
     for before in 0..31usize {
-        let (done, output) = measured(rt.alloc(), before, ErrorKind::Interrupted);
-        assert!(rt; done.is_ok(), "before {before}");
-        assert_eq!(rt;
-            output.as_slice(),
-            b"0 1;\n1 0;\n".as_slice(),
+        assert!(rt;
+            passes_interrupted_read(rt.alloc(), before),
             "before {before}"
         );
-        let _ = done;
     }
 }
 
-/// The answer has 10 bytes.
 #[test]
 fn a_failed_write_is_told(rt: HostRuntime) {
     for before in 0..12usize {
-        let mut input = TWO;
-        let mut output = Full { before };
-        let done = run(
-            rt.alloc(),
-            Command::Measure { workers: 2 },
-            &mut input,
-            &mut output,
-        );
-        assert_eq!(rt;
-            matches!(&done, Err(CliFault::Write)),
-            before < 10,
-            "before {before}"
-        );
-        assert_eq!(rt; done.is_ok(), 10 <= before, "before {before}");
-        let _ = done;
+        assert!(rt; tells_failed_write(rt.alloc(), before), "before {before}");
     }
 }
 
+/// Whether the fault is told by this line.
+fn is_told(alloc: Global, fault: &CliFault, line: &[u8]) -> bool {
+    let mut output = Vec::new(alloc);
+    write_fault(fault, &mut output).is_ok() && output.as_slice() == line
+}
+
 #[test]
-fn a_fault_is_one_line(rt: HostRuntime) -> Result<(), Fail> {
-    let mut output = Vec::new(rt.alloc());
-    write_fault(&CliFault::InputTooLong, &mut output)?;
-    assert_eq!(rt;
-        output.as_slice(),
-        b"parsolve: input is longer than 268435456 bytes\n".as_slice()
-    );
+fn a_fault_is_one_line(rt: HostRuntime) {
+    let line = b"parsolve: input is longer than 268435456 bytes\n";
+    assert!(rt; is_told(rt.alloc(), &CliFault::InputTooLong, line));
     assert_eq!(rt; exit_code(&CliFault::InputTooLong), 1);
-    Ok(())
 }

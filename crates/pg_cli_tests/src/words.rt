@@ -1,4 +1,55 @@
 use pg_cli::{Command, Line, parse_words};
+use std::alloc::Global;
+
+/// Whether the words name this command, and no program of the workers.
+fn names(alloc: Global, words: &[&str], command: Command) -> bool {
+    let line = parse_words(alloc, words);
+    matches!(&line, Ok(Line::Run(named, None)) if *named == command)
+}
+
+/// Whether the words name this command, and this program of the workers.
+fn names_apart(alloc: Global, words: &[&str], command: Command, program: &str) -> bool {
+    let line = parse_words(alloc, words);
+    matches!(&line, Ok(Line::Run(named, Some(path))) if *named == command && path.as_str() == program)
+}
+
+/// Whether the words name this port of a worker.
+fn names_port(alloc: Global, words: &[&str], port: u16) -> bool {
+    let line = parse_words(alloc, words);
+    matches!(&line, Ok(Line::Work(named)) if *named == port)
+}
+
+/// Whether the words are refused, by a text that goes to the error stream.
+fn is_fault(alloc: Global, words: &[&str]) -> bool {
+    let line = parse_words(alloc, words);
+    matches!(&line, Err(error) if error.use_stderr())
+}
+
+/// Whether a program of the workers is a fault for each of these commands.
+fn have_no_program(alloc: Global, names: &[&str]) -> bool {
+    for name in names {
+        if !is_fault(alloc, &["parsolve", name, "--apart", "parsolve"]) {
+            return false;
+        }
+    }
+    true
+}
+
+/// Whether each of these words is a fault as the port of a worker.
+fn are_no_ports(alloc: Global, words: &[&str]) -> bool {
+    for word in words {
+        if !is_fault(alloc, &["parsolve", "worker", "--port", word]) {
+            return false;
+        }
+    }
+    true
+}
+
+/// Whether the words are answered by a text that doesn't go to the error stream.
+fn is_help(alloc: Global, words: &[&str]) -> bool {
+    let line = parse_words(alloc, words);
+    matches!(&line, Err(error) if !error.use_stderr())
+}
 
 #[test]
 fn words_name_a_command(rt: HostRuntime) {
@@ -10,12 +61,7 @@ fn words_name_a_command(rt: HostRuntime) {
         ("game", Command::Game),
         ("synth", Command::Synth { workers: 2 }),
     ] {
-        let line = parse_words(rt.alloc(), &["parsolve", name]);
-        assert!(rt;
-            matches!(&line, Ok(Line::Run(named, None)) if *named == command),
-            "{name}"
-        );
-        let _ = line;
+        assert!(rt; names(rt.alloc(), &["parsolve", name], command), "{name}");
     }
 }
 
@@ -27,12 +73,10 @@ fn words_say_how_many_workers_solve(rt: HostRuntime) {
             ("solve", Command::Solve { workers }),
             ("synth", Command::Synth { workers }),
         ] {
-            let line = parse_words(rt.alloc(), &["parsolve", name, "--workers", word]);
             assert!(rt;
-                matches!(&line, Ok(Line::Run(named, None)) if *named == command),
+                names(rt.alloc(), &["parsolve", name, "--workers", word], command),
                 "{name} {word}"
             );
-            let _ = line;
         }
     }
 }
@@ -40,20 +84,21 @@ fn words_say_how_many_workers_solve(rt: HostRuntime) {
 #[test]
 fn other_numbers_of_workers_are_faults(rt: HostRuntime) {
     for word in ["17", "256", "-1", "two", "1.5", ""] {
-        let line = parse_words(rt.alloc(), &["parsolve", "solve", "--workers", word]);
-        assert!(rt; matches!(&line, Err(error) if error.use_stderr()), "{word}");
-        let _ = line;
+        assert!(rt;
+            is_fault(rt.alloc(), &["parsolve", "solve", "--workers", word]),
+            "{word}"
+        );
     }
-    let line = parse_words(rt.alloc(), &["parsolve", "solve", "--workers"]);
-    assert!(rt; matches!(&line, Err(error) if error.use_stderr()));
+    assert!(rt; is_fault(rt.alloc(), &["parsolve", "solve", "--workers"]));
 }
 
 #[test]
 fn what_solves_nothing_has_no_workers(rt: HostRuntime) {
     for name in ["check", "replay", "game"] {
-        let line = parse_words(rt.alloc(), &["parsolve", name, "--workers", "1"]);
-        assert!(rt; matches!(&line, Err(error) if error.use_stderr()), "{name}");
-        let _ = line;
+        assert!(rt;
+            is_fault(rt.alloc(), &["parsolve", name, "--workers", "1"]),
+            "{name}"
+        );
     }
 }
 
@@ -73,50 +118,34 @@ fn words_name_the_program_of_the_workers(rt: HostRuntime) {
             "--workers",
             "3",
         ];
-        let line = parse_words(rt.alloc(), &words);
         assert!(rt;
-            matches!(&line, Ok(Line::Run(named, Some(path))) if *named == command && path.as_str() == "/proc/self/exe"),
+            names_apart(rt.alloc(), &words, command, "/proc/self/exe"),
             "{name}"
         );
-        let _ = line;
     }
-    for name in ["check", "replay", "game"] {
-        let line = parse_words(rt.alloc(), &["parsolve", name, "--apart", "parsolve"]);
-        assert!(rt; matches!(&line, Err(error) if error.use_stderr()), "{name}");
-        let _ = line;
-    }
+    assert!(rt; have_no_program(rt.alloc(), &["check", "replay", "game"]));
 }
 
 #[test]
 fn words_name_the_port_of_a_worker(rt: HostRuntime) {
     for (word, port) in [("1", 1), ("4000", 4000), ("65535", 65_535)] {
-        let line = parse_words(rt.alloc(), &["parsolve", "worker", "--port", word]);
         assert!(rt;
-            matches!(&line, Ok(Line::Work(named)) if *named == port),
+            names_port(rt.alloc(), &["parsolve", "worker", "--port", word], port),
             "{word}"
         );
-        let _ = line;
     }
-    for word in ["0", "65536", "-1", "http", ""] {
-        let line = parse_words(rt.alloc(), &["parsolve", "worker", "--port", word]);
-        assert!(rt; matches!(&line, Err(error) if error.use_stderr()), "{word}");
-        let _ = line;
-    }
-    let line = parse_words(rt.alloc(), &["parsolve", "worker"]);
-    assert!(rt; matches!(&line, Err(error) if error.use_stderr()));
+    assert!(rt; are_no_ports(rt.alloc(), &["0", "65536", "-1", "http", ""]));
+    assert!(rt; is_fault(rt.alloc(), &["parsolve", "worker"]));
 }
 
 #[test]
 fn other_words_are_faults(rt: HostRuntime) {
     for word in ["lift", "Solve", "--workers", ""] {
-        let line = parse_words(rt.alloc(), &["parsolve", word]);
-        assert!(rt; matches!(&line, Err(error) if error.use_stderr()), "{word}");
-        let _ = line;
+        assert!(rt; is_fault(rt.alloc(), &["parsolve", word]), "{word}");
     }
 }
 
 #[test]
 fn help_is_no_fault(rt: HostRuntime) {
-    let line = parse_words(rt.alloc(), &["parsolve", "--help"]);
-    assert!(rt; matches!(&line, Err(error) if !error.use_stderr()));
+    assert!(rt; is_help(rt.alloc(), &["parsolve", "--help"]));
 }

@@ -10,8 +10,9 @@ use std::test::Fail;
 /// The game.
 pub fn game(alloc: Global) -> Result<Game, Fail> {
     let mut builder = GameBuilder::new(alloc);
-    builder.add(0, 1, Player::Even, &[0], None)?;
-    builder.add(1, 3, Player::Even, &[0], None)?;
+    for (vertex, priority) in [(0, 1), (1, 3)] {
+        builder.add(vertex, priority, Player::Even, &[0], None)?;
+    }
     Ok(builder.finish()?)
 }
 

@@ -44,31 +44,44 @@ fn bytes_of(alloc: Global, text: &str) -> Result<Vec<u8>, Fail> {
     Ok(bytes)
 }
 
+/// Whether the link hands over a frame of these bytes.
+fn hands_over(alloc: Global, link: &mut MemoryLink, bytes: &[u8]) -> bool {
+    let mut frame = Vec::new(alloc);
+    link.receive(&mut frame).is_ok() && frame.as_slice() == bytes
+}
+
+/// Whether nothing waits at the link.
+fn is_empty(alloc: Global, link: &mut MemoryLink) -> bool {
+    let mut frame = Vec::new(alloc);
+    link.receive(&mut frame) == Err(LinkFault::Failed)
+}
+
 /// Whether the link answers as it has to.
 fn answers(alloc: Global, link: &mut MemoryLink, step: Step) -> Result<bool, Fail> {
-    let mut frame = Vec::new(alloc);
     match step {
         Step::Send(text) => Ok(link.send(&bytes_of(alloc, text)?).is_ok()),
-        Step::Receive(text) => {
-            let bytes = bytes_of(alloc, text)?;
-            Ok(link.receive(&mut frame).is_ok() && frame.as_slice() == bytes.as_slice())
-        }
-        Step::Nothing => Ok(link.receive(&mut frame) == Err(LinkFault::Failed)),
+        Step::Receive(text) => Ok(hands_over(alloc, link, &bytes_of(alloc, text)?)),
+        Step::Nothing => Ok(is_empty(alloc, link)),
         Step::Restart => Ok(link.restart().is_ok()),
     }
 }
 
-/// Whether a link that takes versions up to `highest` answers each step as it has to.
-fn follows(alloc: Global, highest: u8, steps: &[Step]) -> Result<bool, Fail> {
-    let Ok(mut link) = MemoryLink::limited(alloc, highest) else {
-        return Ok(false);
-    };
+/// Whether the link answers each step as it has to.
+fn answers_each(alloc: Global, link: &mut MemoryLink, steps: &[Step]) -> Result<bool, Fail> {
     for step in steps {
-        if !answers(alloc, &mut link, *step)? {
+        if !answers(alloc, link, *step)? {
             return Ok(false);
         }
     }
     Ok(true)
+}
+
+/// Whether a link that takes versions up to `highest` answers each step as it has to.
+fn follows(alloc: Global, highest: u8, steps: &[Step]) -> Result<bool, Fail> {
+    match MemoryLink::limited(alloc, highest) {
+        Ok(mut link) => answers_each(alloc, &mut link, steps),
+        Err(_) => Ok(false),
+    }
 }
 
 #[test]

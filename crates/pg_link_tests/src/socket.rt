@@ -1,7 +1,38 @@
 //! Links to programs that are no workers: one that ends before it connects, and one that isn't there.
 
-use pg_coord::{Link, LinkFault, SocketLink};
+use pg_coord::{Link, LinkFault, Reach, SocketLink};
+use std::alloc::Global;
 use std::test::Fail;
+
+/// Whether the link has no program before a frame is sent, and nothing to receive.
+fn is_idle<R: Reach>(link: &mut SocketLink<R>, frame: &mut Vec<u8>) -> bool {
+    link.receive(frame) == Err(LinkFault::Failed) && !link.has_program()
+}
+
+/// Whether no frame can be sent; the program is started for it exactly if it is there.
+fn fails_to_send<R: Reach>(link: &mut SocketLink<R>, is_there: bool) -> bool {
+    link.send(&[0, 0, 0, 1, 6]) == Err(LinkFault::Failed) && link.has_program() == is_there
+}
+
+/// Whether a link whose program was killed still has it, if it is there, but can neither receive nor be restarted.
+fn fails_once_killed<R: Reach>(
+    link: &mut SocketLink<R>,
+    frame: &mut Vec<u8>,
+    is_there: bool,
+) -> bool {
+    link.kill();
+    link.has_program() == is_there
+        && link.receive(frame) == Err(LinkFault::Failed)
+        && link.restart() == Err(LinkFault::Failed)
+}
+
+/// Whether each call fails, before the program is started and afterwards.
+fn fails_each_call<R: Reach>(alloc: Global, link: &mut SocketLink<R>, is_there: bool) -> bool {
+    let mut frame = Vec::new(alloc);
+    is_idle(link, &mut frame)
+        && fails_to_send(link, is_there)
+        && fails_once_killed(link, &mut frame, is_there)
+}
 
 #[test]
 fn a_program_that_never_connects_fails_each_call(rt: HostRuntime) -> Result<(), Fail> {
@@ -9,25 +40,8 @@ fn a_program_that_never_connects_fails_each_call(rt: HostRuntime) -> Result<(), 
         let Ok(mut link) = SocketLink::listen(rt, rt.alloc(), path) else {
             return Err("no port can be listened at".into());
         };
-        let mut frame = Vec::new(rt.alloc());
-        assert!(rt;
-            link.receive(&mut frame) == Err(LinkFault::Failed),
-            "{path}"
-        );
-        assert!(rt; !link.has_program(), "{path}");
-        assert!(rt;
-            link.send(&[0, 0, 0, 1, 6]) == Err(LinkFault::Failed),
-            "{path}"
-        );
         let is_there = path == "/bin/true";
-        assert!(rt; link.has_program() == is_there, "{path}");
-        link.kill();
-        assert!(rt; link.has_program() == is_there, "{path}");
-        assert!(rt;
-            link.receive(&mut frame) == Err(LinkFault::Failed),
-            "{path}"
-        );
-        assert!(rt; link.restart() == Err(LinkFault::Failed), "{path}");
+        assert!(rt; fails_each_call(rt.alloc(), &mut link, is_there), "{path}");
         link.close();
     }
     Ok(())

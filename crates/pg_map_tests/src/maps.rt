@@ -2,6 +2,7 @@
 //! `parity 1; 0 1 0 0; 1 3 0 0;`.
 
 ghost use Rattle.std.specs.Prelude.{◌≡◌, length, IfOk};
+ghost use Rattle.pg_map.specs.Maps.{AreAlike};
 
 use crate::tools::{
     are, copy, first_liftable, lift, lift_all, lift_each, lifts_to, raise, serves, shows,
@@ -14,9 +15,15 @@ use std::test::Fail;
 
 fn game(alloc: Global) -> Result<Game, ArenaFault> {
     let mut builder = GameBuilder::new(alloc);
-    builder.add(0, 1, Player::Even, &[0], None)?;
-    builder.add(1, 3, Player::Even, &[0], None)?;
+    for (vertex, priority) in [(0, 1), (1, 3)] {
+        builder.add(vertex, priority, Player::Even, &[0], None)?;
+    }
     builder.finish()
+}
+
+/// The bounds of the game.
+fn bounds(alloc: Global) -> Result<Bounds, Fail> {
+    Ok(Bounds::of(alloc, &game(alloc)?)?)
 }
 
 /// The map with these lists; with none for top.
@@ -42,117 +49,183 @@ fn measure(alloc: Global, bounds: &Bounds, list: Option<&[u32]>) -> Result<Measu
     }
 }
 
+/// The map of zeros over the game.
+fn zero(alloc: Global, game: &Game) -> Result<MeasureMap, AllocError> {
+    MeasureMap::zero(alloc, 2, &Bounds::of(alloc, game)?)
+}
+
+/// The map over the game with these lists; with none for top.
+fn map_over(
+    alloc: Global,
+    game: &Game,
+    first: Option<&[u32]>,
+    second: Option<&[u32]>,
+) -> Result<MeasureMap, AllocError> {
+    map(alloc, &Bounds::of(alloc, game)?, first, second)
+}
+
+/// Whether single lifts of vertex 0 raise it by 0,1; 1,0; 1,1 to top, and then no further.
+fn climbs(map: &mut MeasureMap, game: &Game) -> bool {
+    lifts_to(map, game, 0, View::List(&[0, 1]))
+        && lifts_to(map, game, 0, View::List(&[1, 0]))
+        && lifts_to(map, game, 0, View::List(&[1, 1]))
+        && lifts_to(map, game, 0, View::Top)
+        && !lift(map, game, 0)
+        && shows(map, 1, View::List(&[0, 0]))
+}
+
 #[test]
 fn single_lifts_carry_up_to_top(rt: HostRuntime) -> Result<(), Fail> {
     let game = game(rt.alloc())?;
-    let bounds = Bounds::of(rt.alloc(), &game)?;
-    let mut map = MeasureMap::zero(rt.alloc(), 2, &bounds)?;
-    assert!(rt; lifts_to(&mut map, &game, 0, View::List(&[0, 1])));
-    assert!(rt; lifts_to(&mut map, &game, 0, View::List(&[1, 0])));
-    assert!(rt; lifts_to(&mut map, &game, 0, View::List(&[1, 1])));
-    assert!(rt; lifts_to(&mut map, &game, 0, View::Top));
-    assert!(rt; !lift(&mut map, &game, 0));
-    assert!(rt; shows(&map, 1, View::List(&[0, 0])));
+    let mut map = zero(rt.alloc(), &game)?;
+    assert!(rt; climbs(&mut map, &game));
     Ok(())
+}
+
+/// Whether vertex 1 rises to 1,0 by the greater measure, and not by the lesser one.
+fn rises_once(map: &mut MeasureMap, greater: &Measure, lesser: &Measure) -> bool {
+    raise(map, 1, greater)
+        && !raise(map, 1, lesser)
+        && are(map, View::List(&[0, 0]), View::List(&[1, 0]))
 }
 
 #[test]
 fn raises(rt: HostRuntime) -> Result<(), Fail> {
-    let bounds = Bounds::of(rt.alloc(), &game(rt.alloc())?)?;
-    let mut map = MeasureMap::zero(rt.alloc(), 2, &bounds)?;
     let greater = Measure::from_list(rt.alloc(), &[1, 0])?;
     let lesser = Measure::from_list(rt.alloc(), &[0, 1])?;
-    assert!(rt; raise(&mut map, 1, &greater));
-    assert!(rt; !raise(&mut map, 1, &lesser));
-    assert!(rt; are(&map, View::List(&[0, 0]), View::List(&[1, 0])));
+    let mut map = zero(rt.alloc(), &game(rt.alloc())?)?;
+    assert!(rt; rises_once(&mut map, &greater, &lesser));
     Ok(())
+}
+
+/// Whether the first map has 0,1 and top once the second is joined to it.
+fn joins(first: &mut MeasureMap, second: &MeasureMap) -> bool
+    requires { AreAlike first.old second.now }
+{
+    first.join_with(second).is_ok() && are(first, View::List(&[0, 1]), View::Top)
+}
+
+/// The same of a first map that isn't at most the second, which is at most what comes of it.
+fn joins_what_is_not_above(first: &mut MeasureMap, second: &MeasureMap) -> bool
+    requires { AreAlike first.old second.now }
+{
+    !first.at_most(second)
+        && first.join_with(second).is_ok()
+        && are(first, View::List(&[0, 1]), View::Top)
+        && second.at_most(first)
 }
 
 #[test]
 fn maps_join(rt: HostRuntime) -> Result<(), Fail> {
-    let bounds = Bounds::of(rt.alloc(), &game(rt.alloc())?)?;
+    let bounds = bounds(rt.alloc())?;
     let mut first = map(rt.alloc(), &bounds, Some(&[0, 1]), Some(&[1, 0]))?;
     let second = map(rt.alloc(), &bounds, Some(&[0, 0]), None)?;
-    assert!(rt; !first.at_most(&second));
-    first.join_with(&second)?;
-    assert!(rt; are(&first, View::List(&[0, 1]), View::Top));
-    assert!(rt; second.at_most(&first));
+    assert!(rt; joins_what_is_not_above(&mut first, &second));
     Ok(())
 }
 
 #[test]
 fn maps_join_the_other_way_round(rt: HostRuntime) -> Result<(), Fail> {
-    let bounds = Bounds::of(rt.alloc(), &game(rt.alloc())?)?;
+    let bounds = bounds(rt.alloc())?;
     let mut first = map(rt.alloc(), &bounds, Some(&[0, 0]), None)?;
     let second = map(rt.alloc(), &bounds, Some(&[0, 1]), Some(&[1, 0]))?;
-    first.join_with(&second)?;
-    assert!(rt; are(&first, View::List(&[0, 1]), View::Top));
+    assert!(rt; joins(&mut first, &second));
     Ok(())
+}
+
+/// The least vertex that can be lifted in the map of zeros.
+fn first_above_zero(alloc: Global, game: &Game) -> Result<Option<Vertex>, AllocError> {
+    Ok(first_liftable(&zero(alloc, game)?, game))
+}
+
+/// Whether vertex 1 alone can be lifted.
+fn has_the_second_left(map: &MeasureMap, game: &Game) -> bool {
+    first_liftable(map, game) == Some(Vertex(1)) && !serves(map, game, 1, 0)
 }
 
 #[test]
 fn first_liftable_is_the_least(rt: HostRuntime) -> Result<(), Fail> {
     let game = game(rt.alloc())?;
-    let bounds = Bounds::of(rt.alloc(), &game)?;
-    let zero = MeasureMap::zero(rt.alloc(), 2, &bounds)?;
-    assert_eq!(rt; first_liftable(&zero, &game), Some(Vertex(0)));
-    let one_left = map(rt.alloc(), &bounds, None, Some(&[1, 0]))?;
-    assert_eq!(rt; first_liftable(&one_left, &game), Some(Vertex(1)));
-    assert!(rt; !serves(&one_left, &game, 1, 0));
+    assert!(rt; first_above_zero(rt.alloc(), &game)? == Some(Vertex(0)));
+    let one_left = map_over(rt.alloc(), &game, None, Some(&[1, 0]))?;
+    assert!(rt; has_the_second_left(&one_left, &game));
     Ok(())
+}
+
+/// Whether no vertex can be lifted, and vertex 1 is served by vertex 0.
+fn is_closed(map: &MeasureMap, game: &Game) -> bool {
+    first_liftable(map, game).is_none() && serves(map, game, 1, 0)
 }
 
 #[test]
 fn closed_maps_have_none(rt: HostRuntime) -> Result<(), Fail> {
     let game = game(rt.alloc())?;
-    let bounds = Bounds::of(rt.alloc(), &game)?;
-    let closed = map(rt.alloc(), &bounds, None, None)?;
-    assert_eq!(rt; first_liftable(&closed, &game), None);
-    assert!(rt; serves(&closed, &game, 1, 0));
+    let closed = map_over(rt.alloc(), &game, None, None)?;
+    assert!(rt; is_closed(&closed, &game));
     Ok(())
+}
+
+/// Whether a pass raises both vertices, each by one step.
+fn rises_in_a_pass(map: &mut MeasureMap, game: &Game) -> bool {
+    lift_each(map, game) && are(map, View::List(&[0, 1]), View::List(&[1, 0]))
+}
+
+/// Whether lifting ends with top at both vertices, and a further pass raises nothing.
+fn ends_at_top(map: &mut MeasureMap, game: &Game) -> bool {
+    lift_all(map, game);
+    are(map, View::Top, View::Top) && !lift_each(map, game)
 }
 
 #[test]
 fn passes_reach_top(rt: HostRuntime) -> Result<(), Fail> {
     let game = game(rt.alloc())?;
-    let bounds = Bounds::of(rt.alloc(), &game)?;
-    let mut map = MeasureMap::zero(rt.alloc(), 2, &bounds)?;
-    assert!(rt; lift_each(&mut map, &game));
-    assert!(rt; are(&map, View::List(&[0, 1]), View::List(&[1, 0])));
-    lift_all(&mut map, &game);
-    assert!(rt; are(&map, View::Top, View::Top));
-    assert!(rt; !lift_each(&mut map, &game));
+    let mut map = zero(rt.alloc(), &game)?;
+    assert!(rt; rises_in_a_pass(&mut map, &game) && ends_at_top(&mut map, &game));
     Ok(())
 }
 
 #[test]
 fn a_map_may_have_more_than_a_million_components(rt: HostRuntime) -> Result<(), Fail> {
-    let bounds = Bounds::of(rt.alloc(), &game(rt.alloc())?)?;
+    let bounds = bounds(rt.alloc())?;
     let map = MeasureMap::zero(rt.alloc(), 600_000, &bounds)?;
     assert!(rt; shows(&map, 599_999, View::List(&[0, 0])));
     Ok(())
 }
 
+/// Whether the measure becomes top as a copy of the first vertex's, and 1,0 as one of the second's.
+fn copies_both(map: &MeasureMap, measure: &mut Measure) -> bool
+    requires { measure.old.width ≡ length map.now.bounds }
+{
+    copy(map, 0, measure);
+    let is_top = measure.view() == View::Top;
+    copy(map, 1, measure);
+    is_top && measure.view() == View::List(&[1, 0])
+}
+
 #[test]
 fn copies_into_one_measure(rt: HostRuntime) -> Result<(), Fail> {
-    let bounds = Bounds::of(rt.alloc(), &game(rt.alloc())?)?;
+    let bounds = bounds(rt.alloc())?;
     let map = map(rt.alloc(), &bounds, None, Some(&[1, 0]))?;
     let mut measure = Measure::zero(rt.alloc(), &bounds)?;
-    copy(&map, 0, &mut measure);
-    assert!(rt; measure.view() == View::Top);
-    copy(&map, 1, &mut measure);
-    assert!(rt; measure.view() == View::List(&[1, 0]));
+    assert!(rt; copies_both(&map, &mut measure));
     Ok(())
+}
+
+/// Whether the first measure is below the second, and becomes top once that is joined to it.
+fn joins_to_top(first: &mut Measure, second: &Measure) -> bool
+    requires { first.old.width ≡ second.now.width }
+{
+    first.at_most(second)
+        && !second.at_most(first)
+        && first.join_with(second).is_ok()
+        && first.view() == View::Top
 }
 
 #[test]
 fn measures_join(rt: HostRuntime) -> Result<(), Fail> {
-    let bounds = Bounds::of(rt.alloc(), &game(rt.alloc())?)?;
+    let bounds = bounds(rt.alloc())?;
     let mut joined = Measure::zero(rt.alloc(), &bounds)?;
     let top = Measure::top(rt.alloc(), &bounds)?;
-    assert!(rt; joined.at_most(&top));
-    assert!(rt; !top.at_most(&joined));
-    joined.join_with(&top)?;
-    assert!(rt; joined.view() == View::Top);
+    assert!(rt; joins_to_top(&mut joined, &top));
     Ok(())
 }

@@ -8,12 +8,21 @@ use std::test::Fail;
 
 fn game(alloc: Global) -> Result<Game, ArenaFault> {
     let mut builder = GameBuilder::new(alloc);
-    builder.add(10, 1, Player::Even, &[7], None)?;
-    builder.add(8, 1, Player::Odd, &[7], None)?;
-    builder.add(9, 4, Player::Odd, &[7], None)?;
-    builder.add(7, 3, Player::Even, &[7], None)?;
-    builder.add(11, 0, Player::Even, &[7], None)?;
+    for (vertex, priority, player) in [
+        (10, 1, Player::Even),
+        (8, 1, Player::Odd),
+        (9, 4, Player::Odd),
+        (7, 3, Player::Even),
+        (11, 0, Player::Even),
+    ] {
+        builder.add(vertex, priority, player, &[7], None)?;
+    }
     builder.finish()
+}
+
+/// The bounds of the game.
+fn bounds(alloc: Global) -> Result<Bounds, Fail> {
+    Ok(Bounds::of(alloc, &game(alloc)?)?)
 }
 
 /// Whether the list fits and its least step at `p` is this measure.
@@ -49,65 +58,100 @@ fn orders(
     Ok((first.order(&second), first.order_from(&second, p, bounds)))
 }
 
+/// Whether the least step of each list at its priority is its measure.
+fn step_to(
+    alloc: Global,
+    bounds: &Bounds,
+    rows: &[([u32; 2], u32, View)],
+) -> Result<bool, AllocError> {
+    for (from, p, to) in rows {
+        if !steps_to(alloc, bounds, from, *p, *to)? {
+            return Ok(false);
+        }
+    }
+    Ok(true)
+}
+
+/// Whether these are one vertex of priority 3 and two of priority 1, and the components from a priority on are counted.
+fn are_of_the_game(bounds: &Bounds) -> bool {
+    bounds.pairs() == [(3, 1), (1, 2)].as_slice()
+        && bounds.width_from(0) == 2
+        && bounds.width_from(2) == 1
+        && bounds.width_from(4) == 0
+}
+
 #[test]
 fn bounds_are_the_odd_priorities(rt: HostRuntime) -> Result<(), Fail> {
-    let bounds = Bounds::of(rt.alloc(), &game(rt.alloc())?)?;
-    assert!(rt; bounds.pairs() == [(3, 1), (1, 2)].as_slice());
-    assert_eq!(rt; bounds.width_from(0), 2);
-    assert_eq!(rt; bounds.width_from(2), 1);
-    assert_eq!(rt; bounds.width_from(4), 0);
+    let bounds = bounds(rt.alloc())?;
+    assert!(rt; are_of_the_game(&bounds));
     Ok(())
 }
 
 #[test]
 fn steps_carry(rt: HostRuntime) -> Result<(), Fail> {
-    let bounds = Bounds::of(rt.alloc(), &game(rt.alloc())?)?;
-    assert!(rt; steps_to(rt.alloc(), &bounds, &[0, 0], 1, View::List(&[0, 1]))?);
-    assert!(rt; steps_to(rt.alloc(), &bounds, &[0, 2], 1, View::List(&[1, 0]))?);
-    assert!(rt; steps_to(rt.alloc(), &bounds, &[0, 2], 3, View::List(&[1, 0]))?);
-    assert!(rt; steps_to(rt.alloc(), &bounds, &[1, 2], 1, View::Top)?);
+    let bounds = bounds(rt.alloc())?;
+    let rows = [
+        ([0, 0], 1, View::List(&[0, 1])),
+        ([0, 2], 1, View::List(&[1, 0])),
+        ([0, 2], 3, View::List(&[1, 0])),
+        ([1, 2], 1, View::Top),
+    ];
+    assert!(rt; step_to(rt.alloc(), &bounds, &rows)?);
     Ok(())
 }
 
 #[test]
 fn even_steps_keep_what_is_greater(rt: HostRuntime) -> Result<(), Fail> {
-    let bounds = Bounds::of(rt.alloc(), &game(rt.alloc())?)?;
-    assert!(rt; steps_to(rt.alloc(), &bounds, &[1, 2], 0, View::List(&[1, 2]))?);
-    assert!(rt; steps_to(rt.alloc(), &bounds, &[1, 2], 2, View::List(&[1, 0]))?);
-    assert!(rt; steps_to(rt.alloc(), &bounds, &[1, 2], 4, View::List(&[0, 0]))?);
+    let bounds = bounds(rt.alloc())?;
+    let rows = [
+        ([1, 2], 0, View::List(&[1, 2])),
+        ([1, 2], 2, View::List(&[1, 0])),
+        ([1, 2], 4, View::List(&[0, 0])),
+    ];
+    assert!(rt; step_to(rt.alloc(), &bounds, &rows)?);
     Ok(())
+}
+
+/// Whether a list fits that is within the bounds, and neither one above them nor one of another length.
+fn fit_within(alloc: Global, bounds: &Bounds) -> Result<bool, AllocError> {
+    Ok(
+        fits(alloc, bounds, &[1, 2])?
+            && !fits(alloc, bounds, &[2, 0])?
+            && !fits(alloc, bounds, &[0])?,
+    )
 }
 
 #[test]
 fn measures_fit(rt: HostRuntime) -> Result<(), Fail> {
-    let bounds = Bounds::of(rt.alloc(), &game(rt.alloc())?)?;
-    assert!(rt; fits(rt.alloc(), &bounds, &[1, 2])?);
-    assert!(rt; !fits(rt.alloc(), &bounds, &[2, 0])?);
-    assert!(rt; !fits(rt.alloc(), &bounds, &[0])?);
+    let bounds = bounds(rt.alloc())?;
+    assert!(rt; fit_within(rt.alloc(), &bounds)?);
     assert!(rt; Measure::top(rt.alloc(), &bounds)?.fits(&bounds));
     Ok(())
 }
 
 #[test]
 fn measures_are_ordered(rt: HostRuntime) -> Result<(), Fail> {
-    let bounds = Bounds::of(rt.alloc(), &game(rt.alloc())?)?;
+    let bounds = bounds(rt.alloc())?;
     let (all, from) = orders(rt.alloc(), &bounds, &[0, 2], &[1, 0], 2)?;
-    assert_eq!(rt; all, Ordering::Less);
-    assert_eq!(rt; from, Ordering::Less);
+    assert!(rt; all == Ordering::Less && from == Ordering::Less);
     let (all, from) = orders(rt.alloc(), &bounds, &[0, 2], &[0, 1], 2)?;
-    assert_eq!(rt; all, Ordering::Greater);
-    assert_eq!(rt; from, Ordering::Equal);
+    assert!(rt; all == Ordering::Greater && from == Ordering::Equal);
     Ok(())
+}
+
+/// Whether the measure is below top, even where no component counts, and is no list once it is set to top.
+fn is_below_top(measure: &mut Measure, top: &Measure, bounds: &Bounds) -> bool {
+    let is_below = measure.order(top) == Ordering::Less
+        && top.order_from(measure, 4, bounds) == Ordering::Greater;
+    measure.set(View::Top);
+    is_below && measure.list().is_none()
 }
 
 #[test]
 fn top_is_above(rt: HostRuntime) -> Result<(), Fail> {
-    let bounds = Bounds::of(rt.alloc(), &game(rt.alloc())?)?;
+    let bounds = bounds(rt.alloc())?;
     let mut measure = Measure::from_list(rt.alloc(), &[1, 2])?;
     let top = Measure::top(rt.alloc(), &bounds)?;
-    assert_eq!(rt; measure.order(&top), Ordering::Less);
-    assert_eq!(rt; top.order_from(&measure, 4, &bounds), Ordering::Greater);
-    measure.set(View::Top);
-    assert!(rt; measure.list().is_none());
+    assert!(rt; is_below_top(&mut measure, &top, &bounds));
     Ok(())
 }

@@ -1,4 +1,4 @@
-use pg_wire::WireFault;
+use pg_wire::{Frame, WireFault};
 use pg_worker::{Served, Session, WorkerFault, serve};
 use std::alloc::Global;
 use std::io::{self, ErrorKind, Write};
@@ -21,18 +21,27 @@ const SETUP_2: &str = "0000001a 01 02 00000002 00000002 00000003 00000001 000000
 
 const HALT: &str = "00000001 06";
 
-fn serves(alloc: Global, parts: &[&str], reply: &str) -> Result<Result<Served, WorkerFault>, Fail> {
-    let mut input = Vec::new(alloc);
+/// The bytes of these texts, one after the other.
+fn bytes_of_all(alloc: Global, parts: &[&str]) -> Result<Vec<u8>, Fail> {
+    let mut bytes = Vec::new(alloc);
     for part in parts {
-        input.extend_from_slice(&bytes_of(alloc, part)?)?;
+        bytes.extend_from_slice(&bytes_of(alloc, part)?)?;
     }
+    Ok(bytes)
+}
+
+/// Whether serving these frames writes this reply and ends so.
+fn serves(
+    alloc: Global,
+    parts: &[&str],
+    reply: &str,
+    end: Result<Served, WorkerFault>,
+) -> Result<bool, Fail> {
+    let input = bytes_of_all(alloc, parts)?;
+    let reply = bytes_of(alloc, reply)?;
     let mut output = Vec::new(alloc);
     let answer = serve(alloc, &mut input.as_slice(), &mut output);
-    if output.as_slice() == bytes_of(alloc, reply)?.as_slice() {
-        Ok(answer)
-    } else {
-        Err(Fail::from("another reply"))
-    }
+    Ok(answer == end && output.as_slice() == reply.as_slice())
 }
 
 #[test]
@@ -61,8 +70,11 @@ fn answers_a_go(rt: HostRuntime) -> Result<(), Fail> {
         ),
     ];
     for (setup, go, reply) in rows {
-        let answer = serves(rt.alloc(), &[setup, LINES, go, HALT], reply)?;
-        assert_eq!(rt; answer, Ok(Served::Halted(4)), "{go}");
+        let parts = [setup, LINES, go, HALT];
+        assert!(rt;
+            serves(rt.alloc(), &parts, reply, Ok(Served::Halted(4)))?,
+            "{go}"
+        );
     }
     Ok(())
 }
@@ -86,8 +98,8 @@ fn refuses_a_frame_out_of_turn(rt: HostRuntime) -> Result<(), Fail> {
         ([SETUP, "00000003 05 01 00", HALT], order),
     ];
     for (frames, reply) in rows {
-        let answer = serves(rt.alloc(), &frames, reply)?;
-        assert_eq!(rt; answer, Err(WorkerFault::Order), "{frames:?}");
+        let end = Err(WorkerFault::Order);
+        assert!(rt; serves(rt.alloc(), &frames, reply, end)?, "{frames:?}");
     }
     Ok(())
 }
@@ -103,38 +115,42 @@ fn refuses_what_does_not_fit(rt: HostRuntime) -> Result<(), Fail> {
         "00000016 02 00000001 00000000 00000005 00 00000001 00000000",
     ];
     for frame in rows {
-        let answer = serves(rt.alloc(), &[SETUP, frame], "00000003 05 02 03")?;
-        assert_eq!(rt; answer, Err(WorkerFault::BadUpdate), "{frame}");
+        let (reply, end) = ("00000003 05 02 03", Err(WorkerFault::BadUpdate));
+        assert!(rt; serves(rt.alloc(), &[SETUP, frame], reply, end)?, "{frame}");
     }
     Ok(())
 }
 
 #[test]
 fn tells_a_frame_that_can_not_be_read(rt: HostRuntime) -> Result<(), Fail> {
-    let rows = [
-        ("01000001", "00000003 05 02 0c", WireFault::TooLong),
-        ("0000", "", WireFault::Truncated),
-        ("00000001 08", "00000003 05 02 0e", WireFault::BadKind),
+    let rows: [(&[&str], &str, Result<Served, WorkerFault>); 7] = [
         (
-            "00000002 06 00",
+            &["01000001"],
+            "00000003 05 02 0c",
+            Err(WorkerFault::Wire(WireFault::TooLong)),
+        ),
+        (&["0000"], "", Err(WorkerFault::Wire(WireFault::Truncated))),
+        (
+            &["00000001 08"],
+            "00000003 05 02 0e",
+            Err(WorkerFault::Wire(WireFault::BadKind)),
+        ),
+        (
+            &["00000002 06 00"],
             "00000003 05 02 0f",
-            WireFault::BadField(5),
+            Err(WorkerFault::Wire(WireFault::BadField(5))),
         ),
         (
-            "0000000a 01 03 00000002 00000000",
+            &["0000000a 01 03 00000002 00000000"],
             "00000003 05 02 12",
-            WireFault::Version,
+            Err(WorkerFault::Wire(WireFault::Version)),
         ),
+        (&[], "", Ok(Served::InputEnded(0))),
+        (&[SETUP], "", Ok(Served::InputEnded(1))),
     ];
-    for (frame, reply, fault) in rows {
-        let answer = serves(rt.alloc(), &[frame], reply)?;
-        assert_eq!(rt; answer, Err(WorkerFault::Wire(fault)), "{frame}");
+    for (parts, reply, end) in rows {
+        assert!(rt; serves(rt.alloc(), parts, reply, end)?, "{parts:?}");
     }
-    assert_eq!(rt; serves(rt.alloc(), &[], "")?, Ok(Served::InputEnded(0)));
-    assert_eq!(rt;
-        serves(rt.alloc(), &[SETUP], "")?,
-        Ok(Served::InputEnded(1))
-    );
     Ok(())
 }
 
@@ -159,20 +175,59 @@ fn takes(
     Ok(Ok(halts))
 }
 
+/// Whether the session takes these frames, halts at the last one and writes this reply.
+fn halts(alloc: Global, session: &mut Session, parts: &[&str], reply: &str) -> Result<bool, Fail> {
+    let reply = bytes_of(alloc, reply)?;
+    let mut out = Vec::new(alloc);
+    let answer = takes(alloc, session, parts, &mut out)?;
+    Ok(answer == Ok(true) && out.as_slice() == reply.as_slice())
+}
+
+/// The same of a new session.
+fn new_session_halts(alloc: Global, parts: &[&str], reply: &str) -> Result<bool, Fail> {
+    let mut session = Session::new(alloc);
+    halts(alloc, &mut session, parts, reply)
+}
+
+/// Whether the session refuses the last of these frames by this fault.
+fn refuses(
+    alloc: Global,
+    session: &mut Session,
+    parts: &[&str],
+    fault: WorkerFault,
+) -> Result<bool, Fail> {
+    let mut out = Vec::new(alloc);
+    let answer = takes(alloc, session, parts, &mut out)?;
+    Ok(answer == Err(fault))
+}
+
+/// Whether the session refuses the last of these frames by this fault, and holds nothing then.
+fn refuses_and_is_empty(
+    alloc: Global,
+    session: &mut Session,
+    parts: &[&str],
+    fault: WorkerFault,
+) -> Result<bool, Fail> {
+    Ok(
+        refuses(alloc, session, parts, fault)?
+            && refuses(alloc, session, &[LINES], WorkerFault::Order)?,
+    )
+}
+
+/// The same of a new session.
+fn new_session_refuses(alloc: Global, parts: &[&str], fault: WorkerFault) -> Result<bool, Fail> {
+    let mut session = Session::new(alloc);
+    refuses_and_is_empty(alloc, &mut session, parts, fault)
+}
+
 /// With `0,1` joined to it the first lift of vertex 0 raises it to `1,0`.
 #[test]
 fn takes_frames_as_bytes(rt: HostRuntime) -> Result<(), Fail> {
-    let mut session = Session::new(rt.alloc());
-    let mut out = Vec::new(rt.alloc());
     let parts = [SETUP_2, LINES, SPARSE, "00000005 04 00000001", HALT];
-    assert_eq!(rt;
-        takes(rt.alloc(), &mut session, &parts, &mut out)?,
-        Ok(true)
-    );
     let reply = "00000003 05 01 00 \
                  0000001a 07 00000002 00000001 00000000 00 00000001 00000000 00000001 \
                  00000003 05 00 00";
-    assert_eq!(rt; out.as_slice(), bytes_of(rt.alloc(), reply)?.as_slice());
+    assert!(rt; new_session_halts(rt.alloc(), &parts, reply)?);
     Ok(())
 }
 
@@ -188,30 +243,34 @@ fn refuses_bytes_and_then_holds_nothing(rt: HostRuntime) -> Result<(), Fail> {
         (SETUP_2, zero, WorkerFault::Wire(WireFault::BadField(26))),
     ];
     for (setup, values, fault) in rows {
-        let mut session = Session::new(rt.alloc());
-        let mut out = Vec::new(rt.alloc());
-        assert_eq!(rt;
-            takes(rt.alloc(), &mut session, &[setup, values], &mut out)?,
-            Err(fault)
+        assert!(rt;
+            new_session_refuses(rt.alloc(), &[setup, values], fault)?,
+            "{values}"
         );
-        let answer = takes(rt.alloc(), &mut session, &[LINES], &mut out)?;
-        assert_eq!(rt; answer, Err(WorkerFault::Order));
     }
     Ok(())
+}
+
+/// Whether a session of versions up to 1 refuses the frame as one of a higher version, and leaves the one byte that was there.
+fn refuses_version(alloc: Global, frame: &Frame, out: &mut Vec<u8>) -> bool {
+    let mut session = Session::limited(alloc, 1);
+    frame.is_well()
+        && session.frame(frame, out) == Err(WorkerFault::Wire(WireFault::Version))
+        && out.as_slice() == [7].as_slice()
+}
+
+/// Whether a session takes the frame, and writes seven bytes behind the one that was there.
+fn takes_version(alloc: Global, frame: &Frame, out: &mut Vec<u8>) -> bool {
+    let mut session = Session::new(alloc);
+    frame.is_well() && session.frame(frame, out) == Ok(false) && out.len() == 8
 }
 
 #[test]
 fn refuses_a_version_above_its_highest(rt: HostRuntime) -> Result<(), Fail> {
     let frame = pg_wire::decode(rt.alloc(), &bytes_of(rt.alloc(), SETUP_2)?)?;
-    let mut out = Vec::new(rt.alloc());
-    out.push(7)?;
-    let mut session = Session::limited(rt.alloc(), 1);
-    let answer = session.frame(&frame, &mut out);
-    assert_eq!(rt; answer, Err(WorkerFault::Wire(WireFault::Version)));
-    assert_eq!(rt; out.as_slice(), [7].as_slice());
-    let mut session = Session::new(rt.alloc());
-    assert_eq!(rt; session.frame(&frame, &mut out), Ok(false));
-    assert_eq!(rt; out.len(), 8);
+    let mut out = vec![in rt.alloc(); 7; 1]?;
+    assert!(rt; refuses_version(rt.alloc(), &frame, &mut out));
+    assert!(rt; takes_version(rt.alloc(), &frame, &mut out));
     Ok(())
 }
 
@@ -235,25 +294,30 @@ impl Write for Full {
     }
 }
 
+/// How serving these bytes ends where a write fails once so many bytes were written.
+fn end_of_serving(alloc: Global, input: &[u8], before: usize) -> Result<Served, WorkerFault> {
+    let mut input = input;
+    let mut output = Full { before };
+    serve(alloc, &mut input, &mut output)
+}
+
+/// Whether each failed write of a reply of so many bytes ends serving.
+fn tells_failed_writes(alloc: Global, input: &[u8], length: usize) -> bool {
+    for before in 0..length {
+        if end_of_serving(alloc, input, before) != Err(WorkerFault::Wire(WireFault::Write)) {
+            return false;
+        }
+    }
+    true
+}
+
 /// The reply to these frames has 33 bytes.
 #[test]
 fn a_failed_write_ends_serving(rt: HostRuntime) -> Result<(), Fail> {
-    let mut input = Vec::new(rt.alloc());
-    for part in [SETUP, LINES, "00000005 04 00000002", HALT] {
-        input.extend_from_slice(&bytes_of(rt.alloc(), part)?)?;
-    }
-    for before in 0..33usize {
-        let mut output = Full { before };
-        let answer = serve(rt.alloc(), &mut input.as_slice(), &mut output);
-        assert_eq!(rt;
-            answer,
-            Err(WorkerFault::Wire(WireFault::Write)),
-            "before {before}"
-        );
-    }
-    let mut output = Full { before: 33 };
-    let answer = serve(rt.alloc(), &mut input.as_slice(), &mut output);
-    assert_eq!(rt; answer, Ok(Served::Halted(4)));
+    let parts = [SETUP, LINES, "00000005 04 00000002", HALT];
+    let input = bytes_of_all(rt.alloc(), &parts)?;
+    assert!(rt; tells_failed_writes(rt.alloc(), &input, 33));
+    assert!(rt; end_of_serving(rt.alloc(), &input, 33) == Ok(Served::Halted(4)));
     Ok(())
 }
 

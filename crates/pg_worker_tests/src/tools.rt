@@ -71,10 +71,22 @@ pub fn add(alloc: Global, worker: &mut Worker, part: &[(u32, u32)]) -> Result<()
 }
 
 /// A worker whose part has these vertices, each with its priority.
-pub fn worker(alloc: Global, part: &[(u32, u32)]) -> Result<Worker, Fail> {
+fn worker(alloc: Global, part: &[(u32, u32)]) -> Result<Worker, Fail> {
     let mut worker = idle(alloc)?;
     add(alloc, &mut worker, part)?;
     Ok(worker)
+}
+
+/// Whether a worker whose part has these vertices, each with its priority, passes a test.
+pub fn passes<F: FnOnce(&mut Worker) -> bool + Drop>(
+    alloc: Global,
+    part: &[(u32, u32)],
+    test: F,
+) -> Result<bool, Fail>
+    requires { F.IsAlwaysCallable test }
+{
+    let mut worker = worker(alloc, part)?;
+    Ok(test(&mut worker))
 }
 
 /// Whether more vertices are refused by this fault.

@@ -1,8 +1,8 @@
 //! Parts, values and lifts.
 
 use crate::tools::{
-    add, are, has, idle, is_bad, is_foreign, is_served, lifts_to, lifts_twice, refuses, rests,
-    rises, stays, take_last, take_top, turns, worker,
+    add, are, has, idle, is_bad, is_foreign, is_served, lifts_to, lifts_twice, passes, refuses,
+    rests, rises, stays, take_last, take_top, turns,
 };
 use pg_arena::Vertex;
 use pg_map::View;
@@ -42,8 +42,7 @@ fn climbs(worker: &mut Worker) -> bool {
 
 #[test]
 fn one_vertex_climbs_to_top(rt: HostRuntime) -> Result<(), Fail> {
-    let mut worker = worker(rt.alloc(), &[(0, 1)])?;
-    assert!(rt; climbs(&mut worker));
+    assert!(rt; passes(rt.alloc(), &[(0, 1)], climbs)?);
     Ok(())
 }
 
@@ -56,8 +55,7 @@ fn ends_at_top(worker: &mut Worker) -> bool {
 
 #[test]
 fn a_part_of_all_ends_at_top(rt: HostRuntime) -> Result<(), Fail> {
-    let mut worker = worker(rt.alloc(), &[(0, 1), (1, 3)])?;
-    assert!(rt; ends_at_top(&mut worker));
+    assert!(rt; passes(rt.alloc(), &[(0, 1), (1, 3)], ends_at_top)?);
     Ok(())
 }
 
@@ -76,8 +74,7 @@ fn climbs_by_single_lifts(worker: &mut Worker) -> bool {
 
 #[test]
 fn single_lifts_touch_what_leads_there(rt: HostRuntime) -> Result<(), Fail> {
-    let mut worker = worker(rt.alloc(), &[(0, 1), (1, 3)])?;
-    assert!(rt; climbs_by_single_lifts(&mut worker));
+    assert!(rt; passes(rt.alloc(), &[(0, 1), (1, 3)], climbs_by_single_lifts)?);
     Ok(())
 }
 
@@ -94,8 +91,8 @@ fn follows(alloc: Global, worker: &mut Worker) -> bool {
 
 #[test]
 fn lifts_follow_what_was_taken(rt: HostRuntime) -> Result<(), Fail> {
-    let mut worker = worker(rt.alloc(), &[(1, 3)])?;
-    assert!(rt; follows(rt.alloc(), &mut worker));
+    let alloc = rt.alloc();
+    assert!(rt; passes(alloc, &[(1, 3)], |worker| follows(alloc, worker))?);
     Ok(())
 }
 
@@ -112,8 +109,7 @@ fn takes_what_fits(worker: &mut Worker) -> bool {
 
 #[test]
 fn values_that_do_not_fit_are_refused(rt: HostRuntime) -> Result<(), Fail> {
-    let mut worker = worker(rt.alloc(), &[(0, 1), (1, 3)])?;
-    assert!(rt; takes_what_fits(&mut worker));
+    assert!(rt; passes(rt.alloc(), &[(0, 1), (1, 3)], takes_what_fits)?);
     Ok(())
 }
 
@@ -128,8 +124,7 @@ fn takes_sparse_values(worker: &mut Worker) -> bool {
 
 #[test]
 fn sparse_values_are_taken(rt: HostRuntime) -> Result<(), Fail> {
-    let mut worker = worker(rt.alloc(), &[(0, 1)])?;
-    assert!(rt; takes_sparse_values(&mut worker));
+    assert!(rt; passes(rt.alloc(), &[(0, 1)], takes_sparse_values)?);
     Ok(())
 }
 
@@ -145,8 +140,8 @@ fn adds_what_rises(alloc: Global, worker: &mut Worker) -> bool {
 
 #[test]
 fn vertices_rise_and_fit(rt: HostRuntime) -> Result<(), Fail> {
-    let mut worker = worker(rt.alloc(), &[(0, 1)])?;
-    assert!(rt; adds_what_rises(rt.alloc(), &mut worker));
     assert_eq!(rt; WorkerFault::BadUpdate.code(), 3);
+    let alloc = rt.alloc();
+    assert!(rt; passes(alloc, &[(0, 1)], |worker| adds_what_rises(alloc, worker))?);
     Ok(())
 }

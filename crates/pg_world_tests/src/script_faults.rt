@@ -72,10 +72,21 @@ fn script_fault(alloc: Global, text: &[u8]) -> Option<ScriptFault> {
     }
 }
 
+/// Whether the script is refused by this fault.
+fn is_refused(alloc: Global, text: &[u8], fault: ScriptFault) -> bool {
+    script_fault(alloc, text) == Some(fault)
+}
+
+/// Whether the fault is told by this text.
+fn is_told(alloc: Global, fault: ScriptFault, text: &str) -> Result<bool, Fail> {
+    let printed = format!(in alloc; "{fault}")?;
+    Ok(printed.as_str() == text)
+}
+
 #[test]
 fn scripts_that_are_refused(rt: HostRuntime) {
-    for (text, fault) in TABLE {
-        assert_eq!(rt; script_fault(rt.alloc(), text), Some(fault));
+    for (text, fault) in &TABLE {
+        assert!(rt; is_refused(rt.alloc(), text, *fault));
     }
 }
 
@@ -88,8 +99,7 @@ fn texts_of_faults(rt: HostRuntime) -> Result<(), Fail> {
         (NoVertex(4), "no vertex 4"),
         (CutMismatch, "the cut does not fit the game"),
     ] {
-        let printed = format!(in rt.alloc(); "{fault}")?;
-        assert_eq!(rt; printed.as_str(), text);
+        assert!(rt; is_told(rt.alloc(), fault, text)?, "{text}");
     }
     Ok(())
 }

@@ -4,27 +4,27 @@ use pg_arena::{ArenaFault, Game, GameBuilder, Player, Vertex};
 use pg_map::View;
 use pg_worker::Cut;
 use pg_world::{Event, World, WorldFault};
-use std::alloc::{AllocError, Global};
+use std::alloc::Global;
+use std::test::Fail;
 
 /// Two vertices of Even with the priorities 1 and 3, each leading to the first.
 pub fn odd_game(alloc: Global) -> Result<Game, ArenaFault> {
     let mut builder = GameBuilder::new(alloc);
-    builder.add(10, 1, Player::Even, &[10], None)?;
-    builder.add(20, 3, Player::Even, &[10], None)?;
+    for (vertex, priority) in [(10, 1), (20, 3)] {
+        builder.add(vertex, priority, Player::Even, &[10], None)?;
+    }
     builder.finish()
 }
 
 /// The world of that game in which vertex 0 is of the first worker and vertex 1 of the second.
-pub fn odd_world(alloc: Global) -> Result<Option<World>, AllocError> {
-    let cut = Cut::from_list(alloc, 2, &[1, 2])?;
-    match (odd_game(alloc), cut) {
-        (Ok(game), Some(cut)) => Ok(World::new(alloc, game, cut).ok()),
-        _ => Ok(None),
-    }
+pub fn odd_world(alloc: Global) -> Result<World, Fail> {
+    let cut = Cut::from_list(alloc, 2, &[1, 2])?.ok_or("each is a worker")?;
+    let game = odd_game(alloc)?;
+    Ok(World::new(alloc, game, cut)?)
 }
 
 /// Lets an event happen whose vertex is one of the game.
-pub fn step(world: &mut World, event: Event) -> Result<(), WorldFault> {
+fn step(world: &mut World, event: Event) -> Result<(), WorldFault> {
     let count = world.game().len();
     match event {
         Event::Lift(worker, v) if (v.0 as usize) < count => world.step(&Event::Lift(worker, v)),
@@ -38,9 +38,33 @@ pub fn step(world: &mut World, event: Event) -> Result<(), WorldFault> {
 }
 
 /// Whether each of the events happens.
-pub fn happen(world: &mut World, events: &[Event]) -> bool {
+fn happen(world: &mut World, events: &[Event]) -> bool {
     for event in events {
         if step(world, *event).is_err() {
+            return false;
+        }
+    }
+    true
+}
+
+/// Whether each of the events happens in that world, of which the fact holds then.
+pub fn holds_after<F: FnOnce(&World) -> bool + Drop>(
+    alloc: Global,
+    events: &[Event],
+    fact: F,
+) -> Result<bool, Fail>
+    requires { F.IsAlwaysCallable fact }
+{
+    let mut world = odd_world(alloc)?;
+    let happened = happen(&mut world, events);
+    let holds = fact(&world);
+    Ok(happened && holds)
+}
+
+/// Whether each of the events is refused by its fault.
+pub fn are_refused(world: &mut World, rows: &[(Event, WorldFault)]) -> bool {
+    for (event, fault) in rows {
+        if step(world, *event) != Err(*fault) {
             return false;
         }
     }
