@@ -26,7 +26,7 @@ times_push v xs u = sum_by_push (same v) xs u
 times_cons : (v u : ℕ) (xs : List ℕ) → times v (u ∷ xs) ≡ same v u + times v xs
 times_cons v u xs = sum_by-cons (same v) u xs
 
-marked_below : (marked : List Bool) (v : ℕ) → get_or marked v false ≡ true → v < length marked
+pub marked_below : (marked : List Bool) (v : ℕ) → get_or marked v false ≡ true → v < length marked
 marked_below marked v a =
     elim (cases_lt v (length marked)) [
       | inl lt ↦ lt

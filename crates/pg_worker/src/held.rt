@@ -1,5 +1,7 @@
 //! What a session holds.
 
+ghost use Rattle.std.specs.Prelude.{◌≡◌};
+
 use crate::Worker;
 use pg_wire::ValueKind;
 use std::marker::Model;
@@ -23,4 +25,11 @@ impl Model for Held {
     ghost view = { λ h. record { kind = h.kind; is_started = h.is_started; worker = h.worker } };
 
     ghost invariant = { λ h. (length h.worker.bounds ≤ 32768) × (length h.row.items ≡ length h.worker.bounds) };
+}
+
+/// Puts this in place of what is held, which is dropped.
+pub fn hold(held: &mut Option<Held>, new: Option<Held>)
+    ensures { held.new ≡ new }
+{
+    *held = new;
 }

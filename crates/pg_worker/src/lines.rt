@@ -1,6 +1,6 @@
 //! Lines that are read are added to a worker's part.
 
-ghost use Rattle.std.specs.Prelude.{◌≡◌, ◌⊎◌, List, [], Some, All, OnOk, IfOk, IfErr, length};
+ghost use Rattle.std.specs.Prelude.{◌≡◌, ◌⊎◌, List, [], Some, All, OnOk, IfErr, length};
 ghost use Rattle.pg_wire.specs.declared.frame.VertexLine.{VertexLine};
 ghost use Rattle.pg_wire.specs.Lines.{frame_with};
 ghost use Rattle.pg_wire.specs.LinesLeft.{AreLeft};
@@ -26,6 +26,7 @@ fn add_read(
     ensures fit { (ls : List VertexLine) → AreLeft lines.entry ls
         → OnOk result (All (FitsGame worker.old.bounds (length worker.old.map)) ls) }
     ensures refused { (ls : List VertexLine) → AreLeft lines.entry ls → IfErr result (RefusesLines worker.old ls) }
+    ensures bounds { worker.new.bounds ≡ worker.old.bounds }
 {
     'each: while let Some(head) = lines.next(successors)? {
         worker.add_vertex(head, successors)?;
@@ -33,22 +34,22 @@ fn add_read(
     Ok(())
 }
 
-/// What is held after the lines that are left of a frame of vertices were added.
+/// Adds the lines that are left of a frame of vertices to what is held.
 pub fn add_read_lines(
     alloc: Global,
-    mut held: Held,
+    held: &mut Held,
     lines: VerticesReader,
-) -> Result<Held, WorkerFault>
+) -> Result<(), WorkerFault>
     requires { (ls : List VertexLine) × AreLeft lines ls }
     ensures turn { (ls : List VertexLine) → AreLeft lines.entry ls
-        → IfOk result (λ after. Turn (Some held) (frame_with ls) (Some after) []) }
+        → OnOk result (Turn (Some held.old) (frame_with ls) (Some held.new) []) }
     ensures refused { (ls : List VertexLine) → AreLeft lines.entry ls
-        → IfErr result (λ e. (e ≡ WorkerFault.OutOfMemory) ⊎ Refuses 0 (Some held) (frame_with ls) e) }
+        → IfErr result (λ e. (e ≡ WorkerFault.OutOfMemory) ⊎ Refuses 0 (Some held.old) (frame_with ls) e) }
 {
     if held.is_started {
         return Err(WorkerFault::Order);
     }
     let mut successors = Vec::new(alloc);
     add_read(&mut held.worker, lines, &mut successors)?;
-    Ok(held)
+    Ok(())
 }

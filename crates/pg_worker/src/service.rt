@@ -69,6 +69,32 @@ fn tell<W: Write>(fault: WorkerFault, output: &mut W) -> WorkerFault
     }
 }
 
+/// Serves frames with a session that holds nothing; the vectors are for the bytes of a frame and for the reply to it.
+fn serve_by<R: Read, W: Write>(
+    session: &mut Session,
+    bytes: &mut Vec<u8>,
+    reply: &mut Vec<u8>,
+    input: &mut R,
+    output: &mut W,
+) -> Result<Served, WorkerFault>
+    requires highest { session.old.highest ≡ 2 }
+    requires held { session.old.held ≡ None }
+    ensures served { IfOk result (λ s. Serves s (R.remaining input.old) (R.remaining input.new)
+        (W.contents output.old) (W.contents output.new)) }
+    ensures fault { IfErr result (λ e. (e ≡ Wire Write)
+        ⊎ Breaks e (R.remaining input.old) (W.contents output.old) (W.contents output.new)) }
+{
+    for frames in 0..u32::MAX {
+        match step(session, bytes, reply, input, output) {
+            Ok(Step::Ended) => return Ok(Served::InputEnded(frames)),
+            Ok(Step::Halted) => return Ok(Served::Halted(frames + 1)),
+            Ok(Step::Answered) => {}
+            Err(fault) => return Err(tell(fault, output)),
+        }
+    }
+    Ok(Served::Bound)
+}
+
 /// Serves frames: reads them one after the other, and writes the replies of a session to `output`. It ends after Halt, where
 /// the input ends before a frame, after 4,294,967,295 frames, or at a fault.
 ///
@@ -88,13 +114,5 @@ pub fn serve<R: Read, W: Write>(
     let mut session = Session::new(alloc);
     let mut bytes = Vec::new(alloc);
     let mut reply = Vec::new(alloc);
-    for frames in 0..u32::MAX {
-        match step(&mut session, &mut bytes, &mut reply, input, output) {
-            Ok(Step::Ended) => return Ok(Served::InputEnded(frames)),
-            Ok(Step::Halted) => return Ok(Served::Halted(frames + 1)),
-            Ok(Step::Answered) => {}
-            Err(fault) => return Err(tell(fault, output)),
-        }
-    }
-    Ok(Served::Bound)
+    serve_by(&mut session, &mut bytes, &mut reply, input, output)
 }

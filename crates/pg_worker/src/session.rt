@@ -6,7 +6,7 @@ ghost use Rattle.pg_wire.specs.declared.frame.Frame.TheVariants.{Halt};
 ghost use Rattle.pg_worker.specs.Turns.{Turn, IsUpTo, Refuses, DoesTurn, RefusesBytes};
 
 use crate::WorkerFault;
-use crate::held::Held;
+use crate::held::{Held, hold};
 use crate::turn::{turn, turn_of};
 use pg_wire::Frame;
 use std::alloc::Global;
@@ -63,14 +63,11 @@ impl Session {
         ensures same { OnErr result (out.new.items ≡ out.old.items) }
         ensures empty { OnErr result (self.new.held ≡ None) }
     {
-        let held = self.held.take();
         let len = out.len();
-        match turn(self.alloc, self.highest, held, frame, out) {
-            Ok(held) => {
-                self.held = held;
-                Ok(matches!(frame, Frame::Halt))
-            }
+        match turn(self.alloc, self.highest, &mut self.held, frame, out) {
+            Ok(()) => Ok(matches!(frame, Frame::Halt)),
             Err(fault) => {
+                hold(&mut self.held, None);
                 out.truncate(len);
                 Err(fault)
             }
@@ -92,14 +89,11 @@ impl Session {
         ensures same { OnErr result (out.new.items ≡ out.old.items) }
         ensures empty { OnErr result (self.new.held ≡ None) }
     {
-        let held = self.held.take();
         let before = out.len();
-        match turn_of(self.alloc, self.highest, held, bytes, out) {
-            Ok((held, halts)) => {
-                self.held = held;
-                Ok(halts)
-            }
+        match turn_of(self.alloc, self.highest, &mut self.held, bytes, out) {
+            Ok(halts) => Ok(halts),
             Err(fault) => {
+                hold(&mut self.held, None);
                 out.truncate(before);
                 Err(fault)
             }

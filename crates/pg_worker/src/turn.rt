@@ -5,12 +5,12 @@ ghost use Rattle.pg_wire.specs.Well.{IsWell, IsSetup, IsVertices, IsSparse};
 ghost use Rattle.pg_wire.specs.declared.kind.ValueKind.TheVariants.{Dense, Sparse};
 ghost use Rattle.pg_wire.specs.declared.frame.Frame.TheVariants as frames;
 ghost use Rattle.pg_wire.specs.Mirrors.Buffers.{Extends};
-ghost use Rattle.pg_worker.specs.Turns.{Turn, IsUpTo, Refuses, TakesValues, RefusesValues, LiftsAndTells, fresh, greeting, DoesTurn, RefusesBytes};
+ghost use Rattle.pg_worker.specs.Turns.{Turn, IsUpTo, Refuses, TakesValues, RefusesValues, LiftsAndTells, kind_of, fresh, greeting, DoesTurn, RefusesBytes};
 ghost use Rattle.pg_wire.specs.Left.{IsLeft};
 ghost use Rattle.pg_wire.specs.Measured.{Measured, told_values, told_sparse};
 
 use crate::fault::own;
-use crate::held::Held;
+use crate::held::{Held, hold};
 use crate::joins::{join_read, join_sparse, join_values};
 use crate::lines::add_read_lines;
 use crate::reply::{put_lifted, put_report};
@@ -20,6 +20,20 @@ use pg_wire::{
 };
 use std::alloc::Global;
 
+/// Answers a set-up, and tells the kind of frames in which values go under its version.
+fn greet(version: u8, out: &mut Vec<u8>) -> Result<ValueKind, WorkerFault>
+    ensures kind { IfOk result (λ kind. kind ≡ kind_of version) }
+    ensures reply { OnOk result (out.new.items ≡ out.old.items ++ greeting version) }
+    ensures memory { IfErr result (λ e. e ≡ WorkerFault.OutOfMemory) }
+    ensures kept { Extends out.old.items out.new.items }
+{
+    if version == 2 {
+        put_report(1, 0, out)?;
+        return Ok(ValueKind::Sparse);
+    }
+    Ok(ValueKind::Dense)
+}
+
 fn set_up(alloc: Global, highest: u8, setup: &Setup, out: &mut Vec<u8>) -> Result<Held, WorkerFault>
     requires { IsSetup setup.now }
     ensures version { OnOk result (setup.now.version ≤ highest) }
@@ -27,19 +41,14 @@ fn set_up(alloc: Global, highest: u8, setup: &Setup, out: &mut Vec<u8>) -> Resul
     ensures reply { OnOk result (out.new.items ≡ out.old.items ++ greeting setup.now.version) }
     ensures refused { IfErr result (λ e. (e ≡ WorkerFault.OutOfMemory)
         ⊎ Refuses highest None (frames.Setup setup.now) e) }
-    ensures kept { OnErr result (out.new.items ≡ out.old.items) }
+    ensures kept { Extends out.old.items out.new.items }
 {
     if setup.version > highest {
         return Err(WorkerFault::Wire(WireFault::Version));
     }
-    let worker = Worker::new(alloc, setup)?;
+    let kind = greet(setup.version, out)?;
     let row = vec![in alloc; 0; setup.bounds.as_slice().len()]?;
-    let kind = if setup.version == 2 {
-        put_report(1, 0, out)?;
-        ValueKind::Sparse
-    } else {
-        ValueKind::Dense
-    };
+    let worker = Worker::new(alloc, setup)?;
     Ok(Held {
         kind,
         is_started: false,
@@ -48,23 +57,24 @@ fn set_up(alloc: Global, highest: u8, setup: &Setup, out: &mut Vec<u8>) -> Resul
     })
 }
 
-fn add_lines(mut held: Held, vertices: &Vertices) -> Result<Held, WorkerFault>
+fn add_lines(held: &mut Held, vertices: &Vertices) -> Result<(), WorkerFault>
     requires { IsVertices vertices.now }
-    ensures turn { IfOk result (λ after. Turn (Some held) (frames.Vertices vertices.now) (Some after) []) }
+    ensures turn { OnOk result (Turn (Some held.old) (frames.Vertices vertices.now) (Some held.new) []) }
     ensures refused { IfErr result (λ e. (e ≡ WorkerFault.OutOfMemory)
-        ⊎ Refuses 0 (Some held) (frames.Vertices vertices.now) e) }
+        ⊎ Refuses 0 (Some held.old) (frames.Vertices vertices.now) e) }
 {
     if held.is_started {
         return Err(WorkerFault::Order);
     }
     held.worker.add_vertices(vertices.lines.as_slice())?;
-    Ok(held)
+    Ok(())
 }
 
-fn take_values(mut held: Held, frame: &Values) -> Result<Held, WorkerFault>
-    ensures turn { IfOk result (λ after. TakesValues held Dense frame.now.width (told_values frame.now.values)
-        (Some after)) }
-    ensures refused { IfErr result (λ e. RefusesValues held Dense frame.now.width (told_values frame.now.values) e) }
+fn take_values(held: &mut Held, frame: &Values) -> Result<(), WorkerFault>
+    ensures turn { OnOk result (TakesValues held.old Dense frame.now.width (told_values frame.now.values)
+        (Some held.new)) }
+    ensures refused { IfErr result (λ e. RefusesValues held.old Dense frame.now.width
+        (told_values frame.now.values) e) }
 {
     if held.kind != ValueKind::Dense {
         return Err(WorkerFault::Order);
@@ -74,14 +84,14 @@ fn take_values(mut held: Held, frame: &Values) -> Result<Held, WorkerFault>
     }
     join_values(&mut held.worker, frame.values.as_slice())?;
     held.is_started = true;
-    Ok(held)
+    Ok(())
 }
 
-fn take_sparse(mut held: Held, frame: &pg_wire::Sparse) -> Result<Held, WorkerFault>
+fn take_sparse(held: &mut Held, frame: &pg_wire::Sparse) -> Result<(), WorkerFault>
     requires { IsSparse frame.now }
-    ensures turn { IfOk result (λ after. TakesValues held Sparse frame.now.width
-        (told_sparse frame.now.width frame.now.values) (Some after)) }
-    ensures refused { IfErr result (λ e. RefusesValues held Sparse frame.now.width
+    ensures turn { OnOk result (TakesValues held.old Sparse frame.now.width
+        (told_sparse frame.now.width frame.now.values) (Some held.new)) }
+    ensures refused { IfErr result (λ e. RefusesValues held.old Sparse frame.now.width
         (told_sparse frame.now.width frame.now.values) e) }
 {
     if held.kind != ValueKind::Sparse {
@@ -92,15 +102,15 @@ fn take_sparse(mut held: Held, frame: &pg_wire::Sparse) -> Result<Held, WorkerFa
     }
     join_sparse(&mut held.worker, frame.values.as_slice())?;
     held.is_started = true;
-    Ok(held)
+    Ok(())
 }
 
 /// As `take_values` and `take_sparse`, of the measures that are left of a frame.
-fn take_read(mut held: Held, values: ValuesReader) -> Result<Held, WorkerFault>
+fn take_read(held: &mut Held, values: ValuesReader) -> Result<(), WorkerFault>
     ensures turn { (ms : List Measured) → IsLeft values.entry ms
-        → IfOk result (λ after. TakesValues held values.entry.kind values.entry.width ms (Some after)) }
+        → OnOk result (TakesValues held.old values.entry.kind values.entry.width ms (Some held.new)) }
     ensures refused { (ms : List Measured) → IsLeft values.entry ms
-        → IfErr result (λ e. RefusesValues held values.entry.kind values.entry.width ms e) }
+        → IfErr result (λ e. RefusesValues held.old values.entry.kind values.entry.width ms e) }
 {
     if held.kind != values.kind() {
         return Err(WorkerFault::Order);
@@ -110,11 +120,11 @@ fn take_read(mut held: Held, values: ValuesReader) -> Result<Held, WorkerFault>
     }
     join_read(&mut held.worker, values, &mut held.row)?;
     held.is_started = true;
-    Ok(held)
+    Ok(())
 }
 
-fn lift(mut held: Held, budget: u32, out: &mut Vec<u8>) -> Result<Held, WorkerFault>
-    ensures turn { IfOk result (λ after. (reply : List ℕ) × LiftsAndTells held budget (Some after) reply
+fn lift(held: &mut Held, budget: u32, out: &mut Vec<u8>) -> Result<(), WorkerFault>
+    ensures turn { OnOk result ((reply : List ℕ) × LiftsAndTells held.old budget (Some held.new) reply
         × (out.new.items ≡ out.old.items ++ reply)) }
     ensures memory { IfErr result (λ e. e ≡ WorkerFault.OutOfMemory) }
     ensures kept { Extends out.old.items out.new.items }
@@ -124,77 +134,98 @@ fn lift(mut held: Held, budget: u32, out: &mut Vec<u8>) -> Result<Held, WorkerFa
     put_lifted(&held.worker, held.kind, out)?;
     put_report(u8::from(quiet), 0, out)?;
     held.is_started = true;
-    Ok(held)
+    Ok(())
 }
 
-/// What is held after the frame; the reply is appended. After a fault some of it may stand in `out`.
+/// Does the turn of a frame on what is held; the reply is appended. After a fault some of it may stand in `out`, and nothing
+/// is said of what is held.
 pub fn turn(
     alloc: Global,
     highest: u8,
-    held: Option<Held>,
+    held: &mut Option<Held>,
     frame: &Frame,
     out: &mut Vec<u8>,
-) -> Result<Option<Held>, WorkerFault>
+) -> Result<(), WorkerFault>
     requires { IsWell frame.now }
     ensures version { OnOk result (IsUpTo highest frame.now) }
-    ensures turn { IfOk result (λ after. (reply : List ℕ) × Turn held frame.now after reply
+    ensures turn { OnOk result ((reply : List ℕ) × Turn held.old frame.now held.new reply
         × (out.new.items ≡ out.old.items ++ reply)) }
-    ensures refused { IfErr result (λ e. (e ≡ WorkerFault.OutOfMemory) ⊎ Refuses highest held frame.now e) }
+    ensures refused { IfErr result (λ e. (e ≡ WorkerFault.OutOfMemory) ⊎ Refuses highest held.old frame.now e) }
     ensures kept { Extends out.old.items out.new.items }
 {
     match frame {
         Frame::Setup(setup) => {
             // its memory is there for the new worker
-            drop(held);
-            Ok(Some(set_up(alloc, highest, setup, out)?))
+            hold(held, None);
+            hold(held, Some(set_up(alloc, highest, setup, out)?));
+            Ok(())
         }
-        Frame::Halt => Ok(None),
+        Frame::Halt => {
+            hold(held, None);
+            Ok(())
+        }
         Frame::Vertices(vertices) => {
-            let held = held.ok_or(WorkerFault::Order)?;
-            Ok(Some(add_lines(held, vertices)?))
+            let Some(held) = held else {
+                return Err(WorkerFault::Order);
+            };
+            add_lines(held, vertices)
         }
         Frame::Values(values) => {
-            let held = held.ok_or(WorkerFault::Order)?;
-            Ok(Some(take_values(held, values)?))
+            let Some(held) = held else {
+                return Err(WorkerFault::Order);
+            };
+            take_values(held, values)
         }
         Frame::Sparse(values) => {
-            let held = held.ok_or(WorkerFault::Order)?;
-            Ok(Some(take_sparse(held, values)?))
+            let Some(held) = held else {
+                return Err(WorkerFault::Order);
+            };
+            take_sparse(held, values)
         }
         Frame::Go(go) => {
-            let held = held.ok_or(WorkerFault::Order)?;
-            Ok(Some(lift(held, go.budget, out)?))
+            let Some(held) = held else {
+                return Err(WorkerFault::Order);
+            };
+            lift(held, go.budget, out)
         }
         Frame::Report(_) => Err(WorkerFault::Order),
     }
 }
 
-/// What is held after the frame that the bytes spell, and whether that is Halt; the reply is appended. Measures and
-/// vertices are read from the bytes, one after the other. After a fault some of the reply may stand in `out`.
+/// Does the turn of the frame that the bytes spell on what is held, and tells whether that is Halt; the reply is appended.
+/// Measures and vertices are read from the bytes, one after the other. After a fault some of the reply may stand in `out`, and
+/// nothing is said of what is held.
 pub fn turn_of(
     alloc: Global,
     highest: u8,
-    held: Option<Held>,
+    held: &mut Option<Held>,
     bytes: &[u8],
     out: &mut Vec<u8>,
-) -> Result<(Option<Held>, bool), WorkerFault>
-    ensures turn { IfOk result (λ x. (reply : List ℕ) × DoesTurn highest held bytes.now x.0 x.1 reply
+) -> Result<bool, WorkerFault>
+    ensures turn { IfOk result (λ halts. (reply : List ℕ) × DoesTurn highest held.old bytes.now held.new halts reply
         × (out.new.items ≡ out.old.items ++ reply)) }
-    ensures refused { IfErr result (λ e. (e ≡ WorkerFault.OutOfMemory) ⊎ RefusesBytes highest held bytes.now e) }
+    ensures refused { IfErr result (λ e. (e ≡ WorkerFault.OutOfMemory) ⊎ RefusesBytes highest held.old bytes.now e) }
     ensures kept { Extends out.old.items out.new.items }
 {
     if let Some(values) = ValuesReader::open(bytes) {
-        let held = held.ok_or(WorkerFault::Order)?;
-        return Ok((Some(take_read(held, values)?), false));
+        let Some(held) = held else {
+            return Err(WorkerFault::Order);
+        };
+        take_read(held, values)?;
+        return Ok(false);
     }
     if let Some(lines) = VerticesReader::open(bytes) {
-        let held = held.ok_or(WorkerFault::Order)?;
-        return Ok((Some(add_read_lines(alloc, held, lines)?), false));
+        let Some(held) = held else {
+            return Err(WorkerFault::Order);
+        };
+        add_read_lines(alloc, held, lines)?;
+        return Ok(false);
     }
     let frame = match decode(alloc, bytes) {
         Ok(frame) => frame,
         Err(fault) => return Err(own(fault)),
     };
     let halts = matches!(frame, Frame::Halt);
-    Ok((turn(alloc, highest, held, &frame, out)?, halts))
+    turn(alloc, highest, held, &frame, out)?;
+    Ok(halts)
 }

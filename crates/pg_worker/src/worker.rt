@@ -6,7 +6,7 @@ ghost use Rattle.pg_wire.specs.Lines.{line_with};
 ghost use Rattle.pg_wire.specs.Well.{IsSetup, IsVertices, ArePlaces};
 ghost use Rattle.pg_measure.specs.Measures.{Fits};
 ghost use Rattle.pg_measure.specs.Views.{measure_in};
-ghost use Rattle.pg_map.specs.Maps.{measure_at, IsServed};
+ghost use Rattle.pg_map.specs.Maps.{measure_at, zero_map, IsServed};
 ghost use Rattle.pg_map.specs.Lines.{AreWithin};
 ghost use Rattle.pg_worker.specs.Mirrors.Edges.{AreEdges, edges_of};
 ghost use Rattle.pg_worker.specs.Mirrors.Insides.{AreReady};
@@ -70,6 +70,16 @@ fn gather(edges: &mut Edges, part: &Part, map: &MeasureMap)
     edges.gather(part, map.len());
 }
 
+/// The map of a new worker.
+fn zeros(alloc: Global, setup: &Setup) -> Result<MeasureMap, AllocError>
+    requires { IsSetup setup.now }
+    ensures bounds { IfOk result (λ m. m.bounds ≡ setup.now.bounds) }
+    ensures zeros { IfOk result (λ m. m.measures ≡ zero_map setup.now.bounds setup.now.vertices) }
+{
+    let bounds = Bounds::from_pairs(alloc, setup.bounds.as_slice())?;
+    MeasureMap::zero(alloc, setup.vertices, &bounds)
+}
+
 impl Worker {
     /// A worker for a game of so many vertices and these bounds: its part is empty, and its map has zeros. It is refused only
     /// for want of memory.
@@ -79,16 +89,21 @@ impl Worker {
         ensures memory { IfErr result (λ e. e ≡ WorkerFault.OutOfMemory) }
     {
         let vertices = setup.vertices;
-        let bounds = Bounds::from_pairs(alloc, setup.bounds.as_slice())?;
+        let row = vec![in alloc; 0; setup.bounds.as_slice().len()]?;
+        let lifted = Listing::new(alloc, vertices)?;
+        let edges = Edges::new(alloc, vertices)?;
+        let notes = Notes::new(alloc, vertices)?;
+        let map = zeros(alloc, setup)?;
+        let part = Part::new(alloc, vertices);
         Ok(Worker {
-            map: MeasureMap::zero(alloc, vertices, &bounds)?,
-            part: Part::new(alloc, vertices),
-            edges: Edges::new(alloc, vertices)?,
-            notes: Notes::new(alloc, vertices)?,
+            map,
+            part,
+            edges,
+            notes,
             next: 0,
-            row: vec![in alloc; 0; bounds.pairs().len()]?,
+            row,
             kept: Vec::new(alloc),
-            lifted: Listing::new(alloc, vertices)?,
+            lifted,
         })
     }
 

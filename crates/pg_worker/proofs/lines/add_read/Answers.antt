@@ -1,5 +1,6 @@
-use Rattle.std.proofs.Common.{ap, arith, length, Some}
+use Rattle.std.proofs.Common.{◌∙◌, ap, arith, length, Some}
 use Rattle.std.proofs.lemmas.Result.{err_from_is_err_and}
+use Rattle.pg_worker.specs.Workers.{WorkerValue}
 use Rattle.pg_worker.proofs.Growing.{Reads, is_line, added_more, added_not}
 use Rattle.pg_worker.proofs.lines.add_read.Goals as goal
 
@@ -19,6 +20,7 @@ each-preserved c =
     let above = rw c.deref.ensures.value at e.above in
     let fit = rw c.deref.ensures.value at e.fit in
     record {
+      bounds = ap (λ (w : WorkerValue). w.bounds) added ∙ c.each.invariant.bounds;
       added = λ ls h. added_more c.args.worker.now ls c.each.worker c.add_vertex.new.self c.each.lines c.next.new.self c.next.new.successors.items c.in-Some.head next added above fit (c.each.invariant.added ls h);
     }
 
@@ -28,3 +30,6 @@ returns-in_err-add_vertex-clause-refused c = λ ls h.
     let next : Reads c.each.lines c.next.new.self c.next.new.successors.items (Some c.in-Some.head) = λ back left. rw c.in-Some.is at (c.in_ok-head.ensures.next back left) in
     let refused = rw c.deref.ensures.value at c.in_err-add_vertex.ensures.refused in
     rw (p.1, p.2) (added_not c.args.worker.now ls c.each.worker c.args.lines c.each.lines c.next.new.self c.next.new.successors.items c.in-Some.head _ next refused h (c.each.invariant.added ls h))
+
+pub returns-in_err-add_vertex-clause-bounds : goal.returns-in_err-add_vertex-clause-bounds
+returns-in_err-add_vertex-clause-bounds c = rw c.in_err-add_vertex.ensures.same c.each.invariant.bounds

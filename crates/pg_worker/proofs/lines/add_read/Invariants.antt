@@ -1,4 +1,4 @@
-use Rattle.std.proofs.Common.{List, length}
+use Rattle.std.proofs.Common.{◌≡◌, List, length}
 use Rattle.pg_wire.specs.declared.frame.VertexLine.{VertexLine}
 use Rattle.pg_wire.specs.LinesLeft.{AreLeft}
 use Rattle.pg_worker.proofs.Growing.{Added}
@@ -6,6 +6,7 @@ use Rattle.pg_worker.proofs.lines.add_read.Given as goal
 
 abbrev pub invariant-each : goal.invariant-each
 invariant-each l = record {
+  bounds : l.worker.bounds ≡ l.fn.worker.bounds;
   added : (ls : List VertexLine) → AreLeft l.fn.lines ls → Added l.fn.worker ls l.worker l.lines;
 }
 

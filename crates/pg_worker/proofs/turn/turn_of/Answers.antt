@@ -9,22 +9,17 @@ use Rattle.pg_worker.proofs.turn.turn_of.Goals.{in-Halt, in_default-matches}
 
 pub returns-in_err-take_read-clause-refused : goal.returns-in_err-take_read-clause-refused
 returns-in_err-take_read-clause-refused c =
-    let p = err_from_is_err_and c.from_residual-in_err-take_read.result c.from_residual-in_err-take_read.ensures.1 in
+    let p = err_from_is_err_and c.from_residual.result c.from_residual.ensures.1 in
     let o = c.in-Some.ensures.found in
-    rw (p.1, p.2, c.in_ok-held.ensures.ok_part) (inr (refuses_bytes c.args.highest c.in_ok-held.held c.args.bytes.now c.in-Some.values _ o (c.in_err-take_read.ensures.refused o.0 o.2)))
+    rw (p.1, p.2, c.in-Some-held.is) (inr (refuses_bytes c.args.highest c.in-Some-held.held c.args.bytes.now c.in-Some.values _ o (c.in_err-take_read.ensures.refused o.0 o.2)))
 
 pub returns-in-Some-clause-turn : goal.returns-in-Some-clause-turn
 returns-in-Some-clause-turn c =
     let o = c.in-Some.ensures.found in
-    ([], rw c.in_ok-held.ensures.ok_part (does_turn c.args.highest c.in_ok-held.held c.args.bytes.now c.in-Some.values (Some c.in_ok-take_read.field-0) o (c.in_ok-take_read.ensures.turn o.0 o.2)), sym (append-nil c.args.out.now.items))
-
-pub returns-in-Some-open-clause-turn : goal.returns-in-Some-open-clause-turn
-returns-in-Some-open-clause-turn c =
-    let o = c.in-Some-open.ensures.found in
-    ([], rw c.in_ok-held-2.ensures.ok_part (does_lines c.args.highest c.in_ok-held-2.held c.args.bytes.now c.in-Some-open.lines (Some c.in_ok-add_read_lines.field-0) o (c.in_ok-add_read_lines.ensures.turn o.0 o.2)), sym (append-nil c.args.out.now.items))
+    ([], rw c.in-Some-held.is (does_turn c.args.highest c.in-Some-held.held c.args.bytes.now c.in-Some.values (Some c.take_read.new.held) o (c.in_ok-take_read.ensures.turn o.0 o.2)), sym (append-nil c.args.out.now.items))
 
 pub returns-in-Err-clause-refused : goal.returns-in-Err-clause-refused
-returns-in-Err-clause-refused c = refuses_none c.args.highest c.args.held c.args.bytes.now c.in-Err.fault c.own.result c.own.ensures c.in-Err.ensures.all c.in-Err.ensures.too_long c.in-Err.ensures.truncated
+returns-in-Err-clause-refused c = refuses_none c.args.highest c.args.held.now c.args.bytes.now c.in-Err.fault c.own.result c.own.ensures c.in-Err.ensures.all c.in-Err.ensures.too_long c.in-Err.ensures.truncated
 
 pub returns-clause-turn : goal.returns-clause-turn
 returns-clause-turn c =

@@ -6,7 +6,7 @@ use Rattle.pg_wire.specs.declared.frame.Frame.TheVariants as frames
 use Rattle.pg_worker.specs.Mirrors.Steps.{IsStep}
 use Rattle.pg_worker.specs.declared.step.Step.TheVariants as steps
 use Rattle.pg_worker.proofs.Exchanging.{exchanges_more, broken_off}
-use Rattle.pg_worker.proofs.service.serve.Goals as goal
+use Rattle.pg_worker.proofs.service.serve_by.Goals as goal
 
 pub returns-in-Ok-Halted-clause-served : goal.returns-in-Ok-Halted-clause-served
 returns-in-Ok-Halted-clause-served g c =
