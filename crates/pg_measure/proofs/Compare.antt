@@ -1,5 +1,7 @@
 -- What comparing lists tells.
-use Rattle.std.proofs.Common.{◌≡◌, ℕ, ◌<◌, List, [], ◌∷◌, Some, take, refl, ap, sym, inl, inr, subst}
+use Rattle.std.proofs.lemmas.Bool.Decides.{nat_tests}
+use Rattle.std.proofs.lemmas.Grind.{common_steps}
+use Rattle.std.proofs.Common.{nat_lt, ◌-◌, ◌≡◌, ℕ, zero, suc, ◌<◌, Bool, true, false, List, [], ◌∷◌, Some, length, get_or, take, drop, refl, ap, sym, inl, inr, subst, arith}
 use Rattle.std.specs.declared.cmp.Ordering.{Ordering}
 use Rattle.std.specs.declared.cmp.Ordering.TheVariants.{Less, Equal, Greater}
 use Rattle.std.specs.Ordering.{MatchOrdering, nat_cmp, ordering_then, is_lt}
@@ -46,3 +48,37 @@ pub tells_below : (xs ys : List ℕ) (r : Ordering) → MatchOrdering r (ListBel
 tells_below xs ys Less h = h
 tells_below xs ys Equal h = subst (λ zs. ListAtMost zs xs) h (at_most_itself xs)
 tells_below xs ys Greater h = below_at_most ys xs h
+
+-- lists that begin alike compare as what follows
+one_alike : (x y : ℕ) (xs ys : List ℕ) (r : Bool) → x ≡ y → MatchBool r (ListBelow xs ys) (ListAtMost ys xs) → MatchBool r (ListBelow (x ∷ xs) (y ∷ ys)) (ListAtMost (y ∷ ys) (x ∷ xs))
+one_alike x y xs ys true e h = inr (e, h)
+one_alike x y xs ys false e h = inr (sym e, h)
+
+pub begin_alike : (n : ℕ) (xs ys : List ℕ) (r : Bool) → length xs ≡ length ys → ((k : ℕ) → k < n → get_or xs k 0 ≡ get_or ys k 0) → MatchBool r (ListBelow (drop n xs) (drop n ys)) (ListAtMost (drop n ys) (drop n xs)) → MatchBool r (ListBelow xs ys) (ListAtMost ys xs)
+begin_alike zero xs ys r l e h = h
+begin_alike (suc n) [] [] r l e h = h
+begin_alike (suc n) [] (y ∷ ys) r l e h = absurd (omega arith)
+begin_alike (suc n) (x ∷ xs) [] r l e h = absurd (omega arith)
+begin_alike (suc n) (x ∷ xs) (y ∷ ys) r l e h =
+    one_alike x y xs ys r (e zero (omega arith)) (begin_alike n xs ys r (omega arith) (λ k m. e (suc k) (omega arith)) h)
+
+-- what is behind n numbers, as a slice up to the end
+pub rest_whole : (n : ℕ) (xs : List ℕ) → take (length xs - n) (drop n xs) ≡ drop n xs
+rest_whole n xs = grind (arith, common_steps)
+
+-- and the first numbers that differ decide
+pub differ_at : (n : ℕ) (xs ys : List ℕ) (r : Bool) → length xs ≡ length ys → n < length xs → ((k : ℕ) → k < n → get_or xs k 0 ≡ get_or ys k 0) → MatchBool r (get_or xs n 0 < get_or ys n 0) (get_or ys n 0 < get_or xs n 0) → MatchBool r (ListBelow xs ys) (ListAtMost ys xs)
+differ_at n [] ys r l m e h = absurd (omega arith)
+differ_at n (x ∷ xs) [] r l m e h = absurd (omega arith)
+differ_at zero (x ∷ xs) (y ∷ ys) true l m e h = inl h
+differ_at zero (x ∷ xs) (y ∷ ys) false l m e h = inl h
+differ_at (suc n) (x ∷ xs) (y ∷ ys) r l m e h =
+    one_alike x y xs ys r (e zero (omega arith)) (differ_at n xs ys r (omega arith) (omega arith) (λ k o. e (suc k) (omega arith)) h)
+
+lesser : (x y : ℕ) (r : Bool) → nat_lt x y ≡ r → (x ≡ y → ⊥) → MatchBool r (x < y) (y < x)
+lesser x y true e d = grind (arith, nat_tests)
+lesser x y false e d = let l : (x < y) → ⊥ = (λ h. grind (arith, nat_tests)) in grind (arith, nat_tests)
+
+-- where the test of two numbers that differ tells
+pub lesser_tells : (x y : ℕ) → (x ≡ y → ⊥) → MatchBool (nat_lt x y) (x < y) (y < x)
+lesser_tells x y d = lesser x y (nat_lt x y) refl d

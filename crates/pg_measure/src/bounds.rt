@@ -4,6 +4,7 @@ ghost use Rattle.std.specs.Prelude.{◌≡◌, ℕ, ◌<◌, ◌≤◌, ◌^◌,
 ghost use Rattle.pg_measure.specs.Measures.{AreBounds, width_from};
 ghost use Rattle.pg_measure.specs.Games.{IsBoundsOf};
 ghost use Rattle.pg_measure.specs.Mirrors.Counts.{IsCount};
+ghost use Rattle.pg_measure.specs.Mirrors.Widths.{AreWidths};
 ghost use Rattle.pg_arena.specs.Games.{priority};
 
 use crate::row;
@@ -11,20 +12,25 @@ use pg_arena::{Game, Vertex};
 use std::alloc::{AllocError, Global};
 use std::marker::Model;
 
+/// For priorities below this one it is kept how many bounds are of a priority at least that.
+const AT_HAND: usize = 1024;
+
 /// The odd priorities that occur, falling, each with the number of its vertices. Contracts see the list of these pairs.
 #[derive(Drop)]
 pub struct Bounds {
     pairs: Vec<(u32, u32)>,
+    widths: Vec<usize>,
 }
 
 impl Model for Bounds {
     ghost use Rattle.pg_measure.specs.Measures.{BoundList, AreBounds};
+    ghost use Rattle.pg_measure.specs.Mirrors.Widths.{AreWidths};
 
     ghost Value = { BoundList };
 
     ghost view = { λ b. b.pairs.items };
 
-    ghost invariant = { λ b. AreBounds b.pairs.items };
+    ghost invariant = { λ b. AreBounds b.pairs.items × AreWidths b.pairs.items b.widths.items };
 }
 
 impl Bounds {
@@ -42,7 +48,8 @@ impl Bounds {
                 pairs.push((priority as u32, count))?;
             }
         }
-        Ok(Bounds { pairs })
+        let widths = first_widths(alloc, &pairs)?;
+        Ok(Bounds { pairs, widths })
     }
 
     /// The bounds with these pairs of a priority and how many vertices have it. Priorities are odd and fall,
@@ -53,7 +60,11 @@ impl Bounds {
     {
         let mut kept = Vec::new(alloc);
         kept.extend_from_slice(pairs)?;
-        Ok(Bounds { pairs: kept })
+        let widths = first_widths(alloc, pairs)?;
+        Ok(Bounds {
+            pairs: kept,
+            widths,
+        })
     }
 
     /// The pairs of a priority and how many vertices have it: priorities are odd and fall.
@@ -69,8 +80,27 @@ impl Bounds {
         ensures value { result ≡ width_from self.now p }
         ensures within { result ≤ length self.now }
     {
-        row::width_from(&self.pairs, p)
+        let at = p as usize;
+        if at < self.widths.len() {
+            self.widths[at]
+        } else {
+            row::width_from(&self.pairs, p)
+        }
     }
+}
+
+/// How many bounds are of a priority at least each of the first ones: of those up to the greatest that has a bound and the
+/// next one, or of as many as are kept at hand.
+fn first_widths(alloc: Global, pairs: &[(u32, u32)]) -> Result<Vec<usize>, AllocError>
+    requires { AreBounds pairs.now }
+    ensures { IfOk result (λ w. AreWidths pairs.now w.items) }
+{
+    let many = pairs.first().map_or(0, |b| b.0 as usize + 2).min(AT_HAND);
+    let mut widths = Vec::with_capacity(alloc, many)?;
+    for p in 0..many {
+        widths.push(row::width_from(pairs, p as u32))?;
+    }
+    Ok(widths)
 }
 
 /// How many vertices have each priority, up to the greatest.

@@ -5,6 +5,9 @@ ghost use Rattle.std.specs.Prelude.{◌≡◌, ◌↔◌, ℕ, ◌+◌, ◌<◌,
 ghost use Rattle.pg_measure.specs.Measures.{ListFits, Fits, ListBelow, ListAtMost, CoversFront, width_from, AreBounds};
 ghost use Rattle.pg_measure.specs.Mirrors.Rows.{IsLeastCover, measure_of, cleared, FrontAtMost, MissesFront};
 
+/// As many numbers are compared one by one, before the rest is compared in strides: most measures differ early.
+const NEAR: usize = 8;
+
 /// How many bounds are of a priority at least `p`.
 pub fn width_from(bounds: &[(u32, u32)], p: u32) -> usize
     requires { AreBounds bounds.now }
@@ -74,7 +77,13 @@ pub fn is_below(a: &[u32], b: &[u32]) -> bool
     requires { length a.now ≡ length b.now }
     ensures { MatchBool result (ListBelow a.now b.now) (ListAtMost b.now a.now) }
 {
-    a.cmp(b).is_lt()
+    let near = a.len().min(NEAR);
+    for i in 0..near {
+        if a[i] != b[i] {
+            return a[i] < b[i];
+        }
+    }
+    a[near..].cmp(&b[near..]).is_lt()
 }
 
 /// Whether the first row's first `width` components are less than the second's; top is above all.

@@ -1,4 +1,4 @@
-use Rattle.std.proofs.Common.{◌≡◌, ℕ, ◌+◌, ◌-◌, ◌<◌, inl, inr, length, arith, subst}
+use Rattle.std.proofs.Common.{◌≡◌, ℕ, ◌+◌, ◌-◌, ◌<◌, inl, inr, length, arith, subst, rules, of_calls}
 use Rattle.std.proofs.lemmas.List.{get_or_default}
 use Rattle.pg_measure.proofs.Counted.{CountedFrom, counted_is, counted_bounds, counted_skip}
 use Rattle.pg_measure.proofs.bounds.Bounds.of.Goals as goal
@@ -7,7 +7,7 @@ pub invariant_of-result : goal.invariant_of-result
 invariant_of-result c =
     let t = c.loop-priority-test.false in
     let e : c.loop-priority.priority ≡ 0 = omega arith in
-    counted_bounds c.in_ok-counts.counts.items c.loop-priority.pairs.items (rw e at c.loop-priority.invariant.counted)
+    (counted_bounds c.in_ok-counts.counts.items c.loop-priority.pairs.items (rw e at c.loop-priority.invariant.counted), search (rules, of_calls))
 
 pub returns : goal.returns
 returns c =
