@@ -15,3 +15,4 @@ pub mod Listed
 pub mod Exchanging
 pub mod Ranges
 pub mod Under
+pub mod Bounded

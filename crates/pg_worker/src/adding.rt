@@ -18,6 +18,7 @@ use crate::notes::Notes;
 use crate::part::Part;
 use pg_arena::{Player, Vertex};
 use pg_map::{Lines, MeasureMap};
+use pg_measure::Bounds;
 use pg_wire::{LineHead, VertexLine};
 
 /// The successor whose measure is greatest in the components of priorities at least that of the vertex.
@@ -172,26 +173,25 @@ pub(crate) fn are_from(next: u64, lines: &[VertexLine]) -> bool
 }
 
 /// Whether an odd priority has a bound.
-fn has_bound(bounds: &[(u32, u32)], priority: u32) -> bool
+fn has_bound(bounds: &Bounds, priority: u32) -> bool
     ensures { IsTrue result ↔ HasBound bounds.now priority }
 {
-    priority % 2 == 0 || bounds.iter().any(|bound| bound.0 == priority)
+    if priority % 2 == 0 {
+        return true;
+    }
+    let count = bounds.width_from(priority);
+    count > 0 && bounds.pairs()[count - 1].0 == priority
 }
 
 /// Whether vertex and successors are below the count, and an odd priority has a bound.
-pub(crate) fn fits_line(
-    bounds: &[(u32, u32)],
-    count: u32,
-    head: LineHead,
-    successors: &[u32],
-) -> bool
+pub(crate) fn fits_line(bounds: &Bounds, count: u32, head: LineHead, successors: &[u32]) -> bool
     ensures { IsTrue result ↔ FitsGame bounds.now count (line_with head successors.now) }
 {
     head.vertex < count && successors.iter().all(|w| *w < count) && has_bound(bounds, head.priority)
 }
 
 /// As `fits_line`, of a line.
-fn fits_game(bounds: &[(u32, u32)], count: u32, line: &VertexLine) -> bool
+fn fits_game(bounds: &Bounds, count: u32, line: &VertexLine) -> bool
     ensures { IsTrue result ↔ FitsGame bounds.now count line.now }
 {
     let head = LineHead {
@@ -203,7 +203,7 @@ fn fits_game(bounds: &[(u32, u32)], count: u32, line: &VertexLine) -> bool
 }
 
 /// Whether all the lines fit the game.
-pub(crate) fn fit_game(bounds: &[(u32, u32)], count: u32, lines: &[VertexLine]) -> bool
+pub(crate) fn fit_game(bounds: &Bounds, count: u32, lines: &[VertexLine]) -> bool
     ensures { IsTrue result ↔ All (FitsGame bounds.now count) lines.now }
 {
     lines.iter().all(|line| fits_game(bounds, count, line))

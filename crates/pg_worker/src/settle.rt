@@ -14,8 +14,11 @@ use crate::notes::Notes;
 use pg_arena::{Player, Vertex};
 use pg_map::{Lines, MeasureMap};
 
-/// The first successor that serves the vertex, and true; if none does, the least of them, and false.
-fn choose<G: Lines>(map: &MeasureMap, lines: &G, v: Vertex) -> (Vertex, bool)
+/// A successor that serves the vertex, and true; if none does, the least of them, and false. The one that is given doesn't
+/// serve it, so that only those below the least so far may.
+fn choose<G: Lines>(map: &MeasureMap, lines: &G, v: Vertex, given: Vertex) -> (Vertex, bool)
+    requires among { IsAmong given (line_at (G.line lines.now) v).successors }
+    requires unserved { ¬ (IsServedBy map.now.bounds (G.line lines.now) map.now.measures v given) }
     requires held { IsSome (G.line lines.now v) }
     requires within { AreWithin (length map.now.measures) (G.line lines.now) }
     ensures among { IsAmong result.0 (line_at (G.line lines.now) v).successors }
@@ -25,12 +28,12 @@ fn choose<G: Lines>(map: &MeasureMap, lines: &G, v: Vertex) -> (Vertex, bool)
         (line_at (G.line lines.now) v).successors result.0) }
     ensures unserved { OnFalse result.1 (¬ (IsServedBy map.now.bounds (G.line lines.now) map.now.measures v result.0)) }
 {
-    let mut least = lines.successors(v)[0];
+    let mut least = given;
     for w in lines.successors(v) {
-        if map.serves(lines, v, *w) {
-            return (*w, true);
-        }
         if map.is_front_below(lines, v, *w, least) {
+            if map.serves(lines, v, *w) {
+                return (*w, true);
+            }
             least = *w;
         }
     }
@@ -53,12 +56,13 @@ pub(crate) fn settle<G: Lines>(map: &MeasureMap, lines: &G, notes: &mut Notes, v
         (measure_at map.now.measures v) false (slice_index_or notes.new.best v 0)) }
     ensures ready { OnFalse result (IsReady map.now.bounds (G.line lines.now) map.now.measures notes.new.best v) }
 {
-    if map.serves(lines, v, notes.best(v)) {
+    let remembered = notes.best(v);
+    if map.serves(lines, v, remembered) {
         return true;
     }
     match lines.owner(v) {
         Player::Even => {
-            let (w, serves) = choose(map, lines, v);
+            let (w, serves) = choose(map, lines, v, remembered);
             notes.remember(v, w);
             serves
         }

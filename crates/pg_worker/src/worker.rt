@@ -123,7 +123,7 @@ impl Worker {
         if !are_from(self.next, lines) {
             return Err(WorkerFault::Order);
         }
-        if !fit_game(self.map.bounds().pairs(), self.map.len(), lines) {
+        if !fit_game(self.map.bounds(), self.map.len(), lines) {
             return Err(WorkerFault::BadUpdate);
         }
         if lines.is_empty() {
@@ -168,7 +168,7 @@ impl Worker {
             return Err(WorkerFault::Order);
         }
         let count = self.map.len();
-        if !fits_line(self.map.bounds().pairs(), count, head, successors) {
+        if !fits_line(self.map.bounds(), count, head, successors) {
             return Err(WorkerFault::BadUpdate);
         }
         let count = successors.len();

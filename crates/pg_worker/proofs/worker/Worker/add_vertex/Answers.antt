@@ -50,7 +50,7 @@ returns-then-not-fits_line-clause-refused c =
       next_above w.part w.next (l ∷ []) c.self.invariant.above (only (λ (k : VertexLine). w.next ≤ k.vertex) l from),
       λ all.
           let fit : FitsGame w.map.bounds (length w.map.measures) l = all 0 l (omega arith) in
-          let told : FitsGame c.pairs.result.now c.len-count.result l = rw (c.pairs.ensures.value, c.bounds.ensures, c.len-count.ensures.value) fit in
+          let told : FitsGame c.bounds.result.now c.len-count.result l = rw (c.bounds.ensures, c.len-count.ensures.value) fit in
           absurd (cc (c.if-not-fits_line.true, c.fits_line.ensures.1 told)),
     )
 
@@ -62,7 +62,7 @@ invariant_of-self-2 c =
     let part = c.reserve-3.new.self in
     let part' = c.add_line.new.part in
     let from : w.next ≤ v = let a = c.if-from-self.false in let b = c.from.ensures in omega arith in
-    let fit : FitsGame c.pairs.result.now c.len-count.result l = c.fits_line.ensures.0 c.if-not-fits_line.false in
+    let fit : FitsGame c.bounds.result.now c.len-count.result l = c.fits_line.ensures.0 c.if-not-fits_line.false in
     let lt : v < length part.lines = let a = fit.vertex in let b = c.len-count.ensures.value in let s = c.self.invariant.inside.size in let e = ap length c.reserve-3.ensures.lines in omega arith in
     let next : IsNext part' (v + 1) = next_after part part' v w.next (told_line l) c.add_line.ensures.lines lt from (next_same w.part part w.next c.reserve-3.ensures.lines c.self.invariant.above) in
     let place = c.in_ok-reserve-3.ensures.places v (omega arith) (omega arith) in
