@@ -14,6 +14,9 @@ use std::process::ExitCode;
 /// The status of a fault of the command line.
 const BAD_WORDS: u8 = 2;
 
+/// As many bytes of the answer are written at once.
+const AT_ONCE: usize = 65_536;
+
 /// Prints the fault's line on the error stream, and answers its status.
 fn tell<E: Write>(errors: &mut E, fault: &CliFault) -> ExitCode {
     let _ = write_fault(fault, errors);
@@ -50,7 +53,7 @@ fn answer<R: System>(rt: &R, command: Command, apart: Option<&str>) -> Result<()
     requires { HasFewWorkers command }
 {
     let alloc = rt.alloc();
-    let Ok(mut output) = BufWriter::new(alloc, io::writer(rt)) else {
+    let Ok(mut output) = BufWriter::with_capacity(alloc, AT_ONCE, io::writer(rt)) else {
         return Err(CliFault::OutOfMemory);
     };
     match apart {
