@@ -1,13 +1,74 @@
 //! Measures as text.
 
-ghost use Rattle.std.specs.Prelude.{OnOk};
+ghost use Rattle.std.specs.Prelude.{◌≡◌, ◌++◌, Some, decimal, OnOk, OnSome, IfSome};
+ghost use Rattle.std.specs.List.{flat_map};
 ghost use Rattle.std.specs.Io.KnownBytes.{Appends};
 ghost use Rattle.pg_measure.specs.Views.{measure_in};
+ghost use Rattle.pg_text.specs.Numbers.{comma_number, numbers_text};
 ghost use Rattle.pg_cli.specs.Measuring.{measure_text, measure_line};
 
+use arrayvec::ArrayVec;
+use itoa::Buffer;
 use pg_measure::View;
 use pg_text::writing::{write_number, write_numbers};
 use std::io::{self, Write};
+
+/// A short line, put together before it is written: a write costs more than the bytes that it writes.
+type ShortLine = ArrayVec<u8, 64>;
+
+/// Measures of more components don't fit in a short line.
+const MOST: usize = 28;
+
+/// Appends a number in decimal digits. Most components are of one digit. None where it doesn't fit.
+fn add_number(line: &mut ShortLine, number: u32) -> Option<()>
+    ensures { OnSome result (line.new.items ≡ line.old.items ++ decimal number) }
+{
+    if number < 10 {
+        return line.try_push(b'0' + number as u8).ok();
+    }
+    let mut buffer = Buffer::new();
+    line.try_extend_from_slice(buffer.format(number).as_bytes())
+        .ok()
+}
+
+/// Appends numbers, each behind a comma. None where they don't fit.
+fn add_comma_numbers(line: &mut ShortLine, numbers: &[u32]) -> Option<()>
+    ensures { OnSome result (line.new.items ≡ line.old.items ++ flat_map comma_number numbers.now) }
+{
+    for number in numbers {
+        line.try_push(b',').ok()?;
+        add_number(line, *number)?;
+    }
+    Some(())
+}
+
+/// Appends numbers with commas between. None where they don't fit.
+fn add_numbers(line: &mut ShortLine, numbers: &[u32]) -> Option<()>
+    ensures { OnSome result (line.new.items ≡ line.old.items ++ numbers_text numbers.now) }
+{
+    match numbers {
+        [] => Some(()),
+        [first, rest @ ..] => {
+            add_number(line, *first)?;
+            add_comma_numbers(line, rest)
+        }
+    }
+}
+
+/// The line of a vertex whose measure is a list of few components, if it is short.
+fn short_line(identifier: u32, components: &[u32]) -> Option<ShortLine>
+    ensures { IfSome result (λ line. line.items ≡ measure_line identifier (Some components.now)) }
+{
+    if components.is_empty() || components.len() > MOST {
+        return None;
+    }
+    let mut line = ArrayVec::new();
+    add_number(&mut line, identifier)?;
+    line.try_push(b' ').ok()?;
+    add_numbers(&mut line, components)?;
+    line.try_extend_from_slice(b";\n").ok()?;
+    Some(line)
+}
 
 /// Writes a measure: `T` for top, `-` for the list without components, and else the components with commas.
 fn write_measure<W: Write>(writer: &mut W, measure: View) -> io::Result<()>
@@ -30,6 +91,11 @@ pub(crate) fn write_measure_line<W: Write>(
     ensures { OnOk result (Appends (W.contents writer.old) (W.contents writer.new)
         (measure_line identifier (measure_in measure.entry))) }
 {
+    if let View::List(components) = measure {
+        if let Some(line) = short_line(identifier, components) {
+            return writer.write_all(line.as_slice());
+        }
+    }
     write_number(identifier, writer)?;
     writer.write_all(b" ")?;
     write_measure(writer, measure)?;
