@@ -105,6 +105,12 @@ impl Edges {
         if count > u32::MAX as usize {
             return Err(AllocError);
         }
+        if self.sources.is_empty() && count > self.sources.capacity() {
+            // nothing has to be moved
+            let room = count.max(self.sources.capacity().saturating_mul(2));
+            self.sources = Vec::with_capacity(*self.sources.allocator(), room)?;
+            return Ok(());
+        }
         self.sources
             .reserve(count.saturating_sub(self.sources.len()))
     }

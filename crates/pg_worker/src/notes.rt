@@ -79,7 +79,7 @@ impl Notes {
         })
     }
 
-    /// Makes room for notes of the vertices from the one to the other.
+    /// Makes room for notes of the vertices from the one to the other, and of all those from the first one on.
     pub fn reserve(&mut self, from: u32, to: u32) -> Result<(), AllocError>
         requires first { 0 < self.old.span.size → self.old.span.first ≤ from }
         requires from { from < length self.old.waits }
@@ -91,7 +91,8 @@ impl Notes {
         } else {
             self.first
         };
-        let count = to.saturating_sub(first) as usize + 1;
+        let last = to.max(self.vertices.saturating_sub(1));
+        let count = last.saturating_sub(first) as usize + 1;
         self.notes.reserve(count.saturating_sub(self.notes.len()))?;
         self.first = first;
         Ok(())

@@ -63,6 +63,18 @@ fn run(targets: &[Vertex], start: usize, count: usize) -> &[Vertex]
     &targets[start..start + count]
 }
 
+/// Makes room for so many vertices more: for four times as many as there are where there is too little, since what isn't
+/// written takes no memory of the machine, and what is moved is written again.
+fn make_room(targets: &mut Vec<Vertex>, additional: usize) -> Result<(), AllocError>
+    ensures items { targets.new.items ≡ targets.old.items }
+    ensures room { OnOk result (length targets.new.items + additional ≤ vec_capacity targets.new) }
+{
+    if targets.capacity() - targets.len() >= additional {
+        return Ok(());
+    }
+    targets.reserve(additional.max(targets.len().saturating_mul(3)))
+}
+
 impl Part {
     /// No lines, for vertices below `count`.
     pub fn new(alloc: Global, count: u32) -> Part
@@ -86,7 +98,9 @@ impl Part {
         self.targets.len()
     }
 
-    /// Makes room for lines of vertices from the one to the other, and for so many successors more.
+    /// Makes room for lines of vertices from the one to the other, and for so many successors more. There is room for all
+    /// vertices from the first one of the part on, so that no line is moved: what isn't written takes no memory of the
+    /// machine.
     pub fn reserve(&mut self, from: u32, to: u32, additional: usize) -> Result<(), AllocError>
         requires first { self.old.first ≤ from }
         requires from { from < length self.old.lines }
@@ -101,11 +115,12 @@ impl Part {
         } else {
             self.first
         };
-        let count = to.saturating_sub(first) as usize + 1;
+        let last = to.max(self.vertices.saturating_sub(1));
+        let count = last.saturating_sub(first) as usize + 1;
         self.heads.reserve(count.saturating_sub(self.heads.len()))?;
         self.owners
             .reserve(count.saturating_sub(self.owners.len()))?;
-        self.targets.reserve(additional)?;
+        make_room(&mut self.targets, additional)?;
         self.first = first;
         Ok(())
     }

@@ -15,4 +15,4 @@ invariant_of-self-2 c =
           let e = w.first-is in omega arith
       | else-is_empty w ↦ let e = w.first-is in let s = c.self.invariant.within in omega arith
     ] in
-    span_moved p.vertices p.first c.if-is_empty.first p.heads.items c.reserve.new.self.items p.owners.items c.reserve-2.new.self.items p.targets.items c.reserve-3.new.self.items c.reserve.ensures.items c.reserve-2.ensures.items c.reserve-3.ensures.items within c.self.invariant
+    span_moved p.vertices p.first c.if-is_empty.first p.heads.items c.reserve.new.self.items p.owners.items c.reserve-2.new.self.items p.targets.items c.make_room.new.targets.items c.reserve.ensures.items c.reserve-2.ensures.items c.make_room.ensures.items within c.self.invariant
