@@ -1,4 +1,4 @@
-use Rattle.std.proofs.Common.{◌≡◌, ℕ, ◌++◌, ◌∷◌, [], List, OnSome, rules, sym, subst, of_calls}
+use Rattle.std.proofs.Common.{◌≡◌, ℕ, ◌++◌, List, OnSome, rules, sym, subst, of_calls}
 use Rattle.std.proofs.lemmas.Fmt.{decimal_digit}
 use Rattle.pg_cli.proofs.output.add_number.Goals as goal
 

@@ -3,7 +3,6 @@ use Rattle.std.proofs.lemmas.List.{append-nil}
 use Rattle.std.proofs.lemmas.Result.{err_from_is_err_and}
 use Rattle.std.proofs.Common.{inr}
 use Rattle.pg_worker.proofs.Taking.{does_turn, refuses_bytes, refuses_none}
-use Rattle.pg_worker.proofs.Growing.{does_lines}
 use Rattle.pg_worker.proofs.turn.turn_of.Goals as goal
 use Rattle.pg_worker.proofs.turn.turn_of.Goals.{in-Halt, in_default-matches}
 
