@@ -16,7 +16,7 @@ use std::io::{self, Write};
 /// A short line, put together before it is written: a write costs more than the bytes that it writes.
 type ShortLine = ArrayVec<u8, 64>;
 
-/// Measures of more components don't fit in a short line.
+/// Lines of measures of more components are written part by part.
 const MOST: usize = 28;
 
 /// Appends a number in decimal digits. Most components are of one digit. None where it doesn't fit.
