@@ -11,19 +11,20 @@ use crate::fault::ArenaFault;
 use crate::game::Game;
 use crate::identifiers::Identifiers;
 use crate::limits::{MAX_EDGES, MAX_PRIORITY, MAX_VERTICES};
-use crate::link::{first_unknown, linked};
+use crate::link::{first_unknown, link};
 use crate::player::Player;
 use crate::rows::rows_by_identifier;
+use crate::vertex::Vertex;
 use std::alloc::{AllocError, Global};
 use std::marker::Model;
 
-/// The lines in the order in which they came. Targets are identifiers. The name of a line stands in the list of names,
+/// The lines in the order in which they came. Targets are identifiers, which `finish` makes vertices. The name of a line stands in the list of names,
 /// and where it does in the list of places, which ends with the last line that has a name.
 #[derive(Drop)]
 pub(crate) struct Lines {
     identifiers: Identifiers,
     entries: Vec<Entry>,
-    targets: Vec<u32>,
+    targets: Vec<Vertex>,
     places: Vec<Option<u32>>,
     names: Vec<Vec<u8>>,
     alloc: Global,
@@ -107,7 +108,7 @@ impl Lines {
         self.targets.reserve(successors.len())?;
         self.entries.reserve(1)?;
         self.identifiers.push(identifier)?;
-        self.targets.extend_from_slice(successors).unwrap();
+        put_all(&mut self.targets, successors);
         keep(&mut self.names, &mut self.places, line, name);
         let entry = Entry {
             priority,
@@ -128,7 +129,7 @@ impl Lines {
         let Lines {
             identifiers,
             entries,
-            targets,
+            mut targets,
             places,
             names,
             alloc,
@@ -137,14 +138,22 @@ impl Lines {
             return Err(ArenaFault::NoVertex);
         }
         let rows = rows_by_identifier(alloc, identifiers, entries, places)?;
-        match linked(alloc, &rows.identifiers, &targets)? {
-            Some(vertices) => Game::from_parts(alloc, rows, vertices, names),
-            None => {
-                let first = first_unknown(&rows.identifiers, &rows.entries, &targets);
-                let (identifier, successor) = first.unwrap();
-                Err(ArenaFault::UnknownSuccessor(identifier, successor))
-            }
+        if link(&rows.identifiers, &mut targets) {
+            return Game::from_parts(alloc, rows, targets, names);
         }
+        let first = first_unknown(&rows.identifiers, &rows.entries, &targets);
+        let (identifier, successor) = first.unwrap();
+        Err(ArenaFault::UnknownSuccessor(identifier, successor))
+    }
+}
+
+/// Puts identifiers behind the others. There is room for them.
+fn put_all(targets: &mut Vec<Vertex>, identifiers: &[u32])
+    requires { length targets.old.items + length identifiers.now ≤ vec_capacity targets.old }
+    ensures { targets.new.items ≡ targets.old.items ++ identifiers.now }
+{
+    for identifier in identifiers {
+        targets.push(Vertex(*identifier)).unwrap();
     }
 }
 

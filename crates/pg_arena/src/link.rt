@@ -1,6 +1,6 @@
-//! Successors by identifier made vertices.
+//! Successors by identifier made vertices, in place.
 
-ghost use Rattle.std.specs.Prelude.{◌≡◌, ◌<◌, ◌≤◌, [], length, not, IfOk, MatchOption};
+ghost use Rattle.std.specs.Prelude.{◌≡◌, ◌<◌, ◌≤◌, [], length, map, not, slice_index, All, IsTrue, IsFalse};
 ghost use Rattle.std.specs.List.Sorted.{IsStrictlyIncreasing};
 ghost use Rattle.pg_arena.specs.Mirrors.Entries.{HaveRanges, rows_in};
 ghost use Rattle.pg_arena.specs.Mirrors.Links.{is_among, AreLinked, HasUnknown, unknown_in, first_unknown_in};
@@ -9,34 +9,44 @@ use crate::entry::Entry;
 use crate::limits::MAX_VERTICES;
 use crate::place::place_of;
 use crate::vertex::Vertex;
-use std::alloc::{AllocError, Global};
 
-/// The vertices with these identifiers, or None if one of them is no vertex.
-pub(crate) fn linked(
-    alloc: Global,
-    identifiers: &[u32],
-    targets: &[u32],
-) -> Result<Option<Vec<Vertex>>, AllocError>
+/// Makes each identifier the vertex that has it, and answers true. Where one has no vertex, all stay identifiers.
+pub(crate) fn link(identifiers: &[u32], targets: &mut [Vertex]) -> bool
     requires few { length identifiers.now ≤ MAX_VERTICES }
     requires rising { IsStrictlyIncreasing identifiers.now }
-    ensures { IfOk result (λ linked. MatchOption linked (HasUnknown identifiers.now targets.now)
-        (λ vertices. AreLinked identifiers.now targets.now vertices.items)) }
+    ensures linked { IsTrue result → AreLinked identifiers.now targets.old targets.new }
+    ensures unknown { IsFalse result → HasUnknown identifiers.now targets.old }
+    ensures same { IsFalse result → targets.new ≡ targets.old }
 {
-    let mut vertices = Vec::with_capacity(alloc, targets.len())?;
-    for target in targets {
-        match place_of(identifiers, *target) {
-            Some(place) => vertices.push(Vertex(place as u32))?,
-            None => return Ok(None),
+    for k in 0..targets.len() {
+        let target = targets[k];
+        match place_of(identifiers, target.0) {
+            Some(place) => targets[k] = Vertex(place as u32),
+            None => {
+                unlink(identifiers, &mut targets[..k]);
+                return false;
+            }
         }
     }
-    Ok(Some(vertices))
+    true
 }
 
-/// The first vertex with a successor that is no vertex, by its identifier, and there the first such successor.
+/// Makes each vertex its identifier again.
+fn unlink(identifiers: &[u32], targets: &mut [Vertex])
+    requires { All (λ v. v < length identifiers.now) targets.old }
+    ensures { targets.new ≡ map (slice_index identifiers.now) targets.old }
+{
+    for target in targets.iter_mut() {
+        *target = Vertex(identifiers[target.0 as usize]);
+    }
+}
+
+/// The first vertex with a successor that is no vertex, by its identifier, and there the first such successor. The
+/// targets are identifiers.
 pub(crate) fn first_unknown(
     identifiers: &[u32],
     entries: &[Entry],
-    targets: &[u32],
+    targets: &[Vertex],
 ) -> Option<(u32, u32)>
     requires as_many { length identifiers.now ≡ length entries.now }
     requires within { HaveRanges targets.now entries.now }
@@ -52,13 +62,13 @@ pub(crate) fn first_unknown(
     None
 }
 
-fn unknown_in(identifiers: &[u32], successors: &[u32]) -> Option<u32>
+fn unknown_in(identifiers: &[u32], successors: &[Vertex]) -> Option<u32>
     requires { IsStrictlyIncreasing identifiers.now }
     ensures { result ≡ unknown_in identifiers.now successors.now }
 {
     successors
         .iter()
-        .copied()
+        .map(|successor| successor.0)
         .find(|successor| is_unknown(identifiers, *successor))
 }
 

@@ -83,7 +83,7 @@ invariant_of-self-2 c =
     let new : Option (Vec ℕ Global) = c.in_ok-name.name in
     let other : List (Option ℕ) = c.keep.new.places.items in
     let entry : Entry = new_entry targets c.args.priority c.args.owner more in
-    let targets-are : c.extend_from_slice.new.self.items ≡ targets ++ more = search rules in
+    let targets-are : c.put_all.new.targets.items ≡ targets ++ more = search rules in
     let names-are : c.keep.new.names.items ≡ names ++ option_to_list new = search rules in
     let pushed : Entry = record { priority = c.args.priority; owner = c.args.owner; from = c.len-from.result; to = c.len-from.result + length more } in
     let pushed-are : c.push-2.new.self.items ≡ entries ++ pushed ∷ [] = search rules in
@@ -114,7 +114,7 @@ returns-clause-ok c =
     let new : Option (Vec ℕ Global) = c.in_ok-name.name in
     let other : List (Option ℕ) = c.keep.new.places.items in
     let entry : Entry = new_entry targets c.args.priority c.args.owner more in
-    let targets-are : c.extend_from_slice.new.self.items ≡ targets ++ more = search rules in
+    let targets-are : c.put_all.new.targets.items ≡ targets ++ more = search rules in
     let names-are : c.keep.new.names.items ≡ names ++ option_to_list new = search rules in
     let pushed : Entry = record { priority = c.args.priority; owner = c.args.owner; from = c.len-from.result; to = c.len-from.result + length more } in
     let pushed-are : c.push-2.new.self.items ≡ entries ++ pushed ∷ [] = search rules in
