@@ -18,8 +18,9 @@ use crate::vertex::Vertex;
 use std::alloc::{AllocError, Global};
 use std::marker::Model;
 
-/// The lines in the order in which they came. Targets are identifiers, which `finish` makes vertices. The name of a line stands in the list of names,
-/// and where it does in the list of places, which ends with the last line that has a name.
+/// The lines in the order in which they came. Targets are identifiers until `finish` makes them vertices. The name of a
+/// line stands in the list of names, and where it does in the list of places, which ends with the last line that has a
+/// name.
 #[derive(Drop)]
 pub(crate) struct Lines {
     identifiers: Identifiers,
@@ -147,7 +148,7 @@ impl Lines {
     }
 }
 
-/// Puts identifiers behind the others. There is room for them.
+/// Puts identifiers behind the other targets. There is room for them.
 fn put_all(targets: &mut Vec<Vertex>, identifiers: &[u32])
     requires { length targets.old.items + length identifiers.now ≤ vec_capacity targets.old }
     ensures { targets.new.items ≡ targets.old.items ++ identifiers.now }

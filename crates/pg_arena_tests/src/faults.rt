@@ -57,10 +57,10 @@ fn needs_a_vertex(rt: HostRuntime) {
 fn names_the_least_unknown_successor(rt: HostRuntime) -> Result<(), Fail> {
     let mut builder = GameBuilder::new(rt.alloc());
     for (identifier, successors) in [
+        (2, [2, 4].as_slice()),
         (9, [1, 9].as_slice()),
         (4, [9, 8, 6, 4].as_slice()),
         (5, [0].as_slice()),
-        (2, [2, 4].as_slice()),
     ] {
         builder.add(identifier, 0, Player::Even, successors, None)?;
     }
