@@ -188,7 +188,8 @@ fn make_room(
     places.reserve(line + 1 - places.len())
 }
 
-/// Puts a name behind the others, and notes its place behind those of all lines before this one. There is room for both.
+/// Puts a name behind the others, and notes its place behind those of all lines before this one. There is room for
+/// both.
 fn keep(names: &mut Vec<Vec<u8>>, places: &mut Vec<Option<u32>>, line: usize, name: Option<Vec<u8>>)
     requires room { IsSome name → vec_len names.old < vec_capacity names.old }
     requires room_for_place { IsSome name → line < vec_capacity places.old }

@@ -10,8 +10,8 @@ use crate::limits::MAX_VERTICES;
 use crate::place::place_of;
 use crate::vertex::Vertex;
 
-/// Makes each target, an identifier, the vertex that has it, and answers true. Where no vertex has one of them, all stay
-/// identifiers and the answer is false.
+/// Makes each target, an identifier, the vertex that has it, and answers true. Where no vertex has one of them, all
+/// stay identifiers and the answer is false.
 pub(crate) fn link(identifiers: &[u32], targets: &mut [Vertex]) -> bool
     requires few { length identifiers.now ≤ MAX_VERTICES }
     requires rising { IsStrictlyIncreasing identifiers.now }
