@@ -231,6 +231,41 @@ fn takes_frames_as_bytes(rt: HostRuntime) -> Result<(), Fail> {
     Ok(())
 }
 
+/// What the session answers to these bytes, which may spell rows.
+fn rows(
+    alloc: Global,
+    session: &mut Session,
+    part: &str,
+) -> Result<Result<bool, WorkerFault>, Fail> {
+    Ok(session.rows_from(&bytes_of(alloc, part)?))
+}
+
+/// The turn of rows is that of `takes_frames_as_bytes`. Go, Halt and bytes that are cut short are left alone.
+#[test]
+fn takes_rows_as_bytes(rt: HostRuntime) -> Result<(), Fail> {
+    let alloc = rt.alloc();
+    let mut session = Session::new(alloc);
+    assert!(rt; rows(alloc, &mut session, LINES)? == Err(WorkerFault::Order));
+    let mut greeting = Vec::new(alloc);
+    assert!(rt; takes(alloc, &mut session, &[SETUP_2], &mut greeting)? == Ok(false));
+    let go = "00000005 04 00000001";
+    let cut = "00000016 02 00000001 00000000";
+    for (part, taken) in [
+        (LINES, true),
+        (go, false),
+        (SPARSE, true),
+        (cut, false),
+        (HALT, false),
+    ] {
+        assert!(rt; rows(alloc, &mut session, part)? == Ok(taken), "{part}");
+    }
+    let reply = "0000001a 07 00000002 00000001 00000000 00 00000001 00000000 00000001 \
+                 00000003 05 00 00";
+    let parts = [go, HALT];
+    assert!(rt; halts(alloc, &mut session, &parts, reply)?);
+    Ok(())
+}
+
 #[test]
 fn refuses_bytes_and_then_holds_nothing(rt: HostRuntime) -> Result<(), Fail> {
     let dense = "0000001b 03 00000002 00000002 00000000 00 00000000 00000001 00000001 01";

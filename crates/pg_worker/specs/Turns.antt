@@ -13,7 +13,7 @@ use Rattle.pg_wire.specs.declared.kind.ValueKind.{ValueKind}
 use Rattle.pg_wire.specs.declared.kind.ValueKind.TheVariants.{Dense, Sparse}
 use Rattle.pg_wire.specs.Spelling.{body, spelling, longest}
 use Rattle.pg_wire.specs.Bytes.{Spells, IsTooLong, IsTruncated}
-use Rattle.pg_wire.specs.Measured.{Measured, told_values, told_sparse, frame_of}
+use Rattle.pg_wire.specs.Measured.{Measured, TellsMeasures, told_values, told_sparse, frame_of}
 use Rattle.pg_worker.specs.declared.fault.WorkerFault.{WorkerFault}
 use Rattle.pg_worker.specs.declared.fault.WorkerFault.TheVariants.{BadUpdate, Order, Wire}
 use Rattle.pg_worker.specs.Workers.{WorkerValue, new_worker, with_lines, AreAbove, FitsGame, RefusesLines, CanTake, IsListedTurn}
@@ -154,6 +154,15 @@ Refuses highest (Some h) (frames.Go g) why = ⊥
 Refuses highest (Some h) (frames.Report r) why = why ≡ Order
 
 -- ---- turns of bytes
+
+-- a frame of vertices or of values, which may be long
+abbrev pub HasRows : Frame → Type 0
+HasRows (frames.Vertices v) = Unit {0}
+HasRows f = TellsMeasures f
+
+-- the bytes spell such a frame
+abbrev pub SpellsRows : List ℕ → Type 0
+SpellsRows bytes = (f : Frame) × HasRows f × Spells f bytes
 
 -- one turn of the frame that the bytes spell, which halts or not
 pub record DoesTurn (highest : ℕ) (before : Option HeldValue) (bytes : List ℕ) (after : Option HeldValue) (halts : Bool) (reply : List ℕ) : Type 0 where

@@ -1,13 +1,13 @@
 //! Sessions: a worker behind frames.
 
-ghost use Rattle.std.specs.Prelude.{◌≡◌, ◌↔◌, ℕ, ◌++◌, ◌⊎◌, List, None, IsTrue, IfOk, IfErr, OnOk, OnErr};
+ghost use Rattle.std.specs.Prelude.{◌≡◌, ◌↔◌, ℕ, ◌++◌, ◌⊎◌, List, [], None, IsTrue, false, MatchBool, IfOk, IfErr, OnOk, OnErr};
 ghost use Rattle.pg_wire.specs.Well.{IsWell};
 ghost use Rattle.pg_wire.specs.declared.frame.Frame.TheVariants.{Halt};
-ghost use Rattle.pg_worker.specs.Turns.{Turn, IsUpTo, Refuses, DoesTurn, RefusesBytes};
+ghost use Rattle.pg_worker.specs.Turns.{Turn, IsUpTo, Refuses, DoesTurn, SpellsRows, RefusesBytes};
 
 use crate::WorkerFault;
 use crate::held::{Held, hold};
-use crate::turn::{turn, turn_of};
+use crate::turn::{turn, turn_of, turn_of_rows};
 use pg_wire::Frame;
 use std::alloc::Global;
 
@@ -95,6 +95,30 @@ impl Session {
             Err(fault) => {
                 hold(&mut self.held, None);
                 out.truncate(before);
+                Err(fault)
+            }
+        }
+    }
+
+    /// As `frame_from`, where the bytes spell a frame of vertices or of values, which has no reply: true, and its turn is done.
+    /// False where they spell no such frame, and then nothing has changed. The bytes are opened once, either way.
+    ///
+    /// Faults: those of `frame` for that frame. After a fault the session holds nothing.
+    pub fn rows_from(&mut self, bytes: &[u8]) -> Result<bool, WorkerFault>
+        ensures highest { self.new.highest ≡ self.old.highest }
+        ensures rows { IfOk result (λ taken. IsTrue taken ↔ SpellsRows bytes.now) }
+        ensures turn { IfOk result (λ taken. MatchBool taken
+            (DoesTurn self.old.highest self.old.held bytes.now self.new.held false [])
+            (self.new.held ≡ self.old.held)) }
+        ensures fault { OnErr result (SpellsRows bytes.now) }
+        ensures refused { IfErr result (λ e. (e ≡ WorkerFault.OutOfMemory)
+            ⊎ RefusesBytes self.old.highest self.old.held bytes.now e) }
+        ensures empty { OnErr result (self.new.held ≡ None) }
+    {
+        match turn_of_rows(self.alloc, &mut self.held, bytes) {
+            Ok(taken) => Ok(taken),
+            Err(fault) => {
+                hold(&mut self.held, None);
                 Err(fault)
             }
         }

@@ -1,11 +1,11 @@
 //! The turn of each kind of frame.
 
-ghost use Rattle.std.specs.Prelude.{◌≡◌, ◌≤◌, ℕ, ◌++◌, ◌⊎◌, List, [], None, Some, length, OnErr, OnOk, IfOk, IfErr};
+ghost use Rattle.std.specs.Prelude.{◌≡◌, ◌≤◌, ◌↔◌, ℕ, ◌++◌, ◌⊎◌, IsTrue, false, List, [], None, Some, length, MatchBool, OnErr, OnOk, IfOk, IfErr};
 ghost use Rattle.pg_wire.specs.Well.{IsWell, IsSetup, IsVertices, IsSparse};
 ghost use Rattle.pg_wire.specs.declared.kind.ValueKind.TheVariants.{Dense, Sparse};
 ghost use Rattle.pg_wire.specs.declared.frame.Frame.TheVariants as frames;
 ghost use Rattle.pg_wire.specs.Mirrors.Buffers.{Extends};
-ghost use Rattle.pg_worker.specs.Turns.{Turn, IsUpTo, Refuses, TakesValues, RefusesValues, LiftsAndTells, kind_of, fresh, greeting, DoesTurn, RefusesBytes};
+ghost use Rattle.pg_worker.specs.Turns.{Turn, IsUpTo, Refuses, TakesValues, RefusesValues, LiftsAndTells, kind_of, fresh, greeting, DoesTurn, SpellsRows, RefusesBytes};
 ghost use Rattle.pg_wire.specs.Left.{IsLeft};
 ghost use Rattle.pg_wire.specs.Measured.{Measured, told_values, told_sparse};
 
@@ -192,6 +192,38 @@ pub fn turn(
     }
 }
 
+/// Does the turn of the frame of vertices or of values that the bytes spell on what is held; it has no reply. False where they
+/// spell no such frame, and then nothing has changed. The rows are read from the bytes, one after the other. After a fault
+/// nothing is said of what is held.
+pub fn turn_of_rows(
+    alloc: Global,
+    held: &mut Option<Held>,
+    bytes: &[u8],
+) -> Result<bool, WorkerFault>
+    ensures rows { IfOk result (λ taken. IsTrue taken ↔ SpellsRows bytes.now) }
+    ensures turn { (highest : ℕ) → IfOk result (λ taken. MatchBool taken
+        (DoesTurn highest held.old bytes.now held.new false []) (held.new ≡ held.old)) }
+    ensures fault { OnErr result (SpellsRows bytes.now) }
+    ensures refused { (highest : ℕ) → IfErr result (λ e. (e ≡ WorkerFault.OutOfMemory)
+        ⊎ RefusesBytes highest held.old bytes.now e) }
+{
+    if let Some(values) = ValuesReader::open(bytes) {
+        let Some(held) = held else {
+            return Err(WorkerFault::Order);
+        };
+        take_read(held, values)?;
+        return Ok(true);
+    }
+    let Some(lines) = VerticesReader::open(bytes) else {
+        return Ok(false);
+    };
+    let Some(held) = held else {
+        return Err(WorkerFault::Order);
+    };
+    add_read_lines(alloc, held, lines)?;
+    Ok(true)
+}
+
 /// Does the turn of the frame that the bytes spell on what is held, and tells whether that is Halt; the reply is appended.
 /// Measures and vertices are read from the bytes, one after the other. After a fault some of the reply may stand in `out`, and
 /// nothing is said of what is held.
@@ -207,18 +239,7 @@ pub fn turn_of(
     ensures refused { IfErr result (λ e. (e ≡ WorkerFault.OutOfMemory) ⊎ RefusesBytes highest held.old bytes.now e) }
     ensures kept { Extends out.old.items out.new.items }
 {
-    if let Some(values) = ValuesReader::open(bytes) {
-        let Some(held) = held else {
-            return Err(WorkerFault::Order);
-        };
-        take_read(held, values)?;
-        return Ok(false);
-    }
-    if let Some(lines) = VerticesReader::open(bytes) {
-        let Some(held) = held else {
-            return Err(WorkerFault::Order);
-        };
-        add_read_lines(alloc, held, lines)?;
+    if turn_of_rows(alloc, held, bytes)? {
         return Ok(false);
     }
     let frame = match decode(alloc, bytes) {
