@@ -1,17 +1,19 @@
 -- What a link keeps of its session and of the bytes that wait.
-use Rattle.std.proofs.Common.{◌≡◌, ◌≢◌, ℕ, ◌≤◌, Bool, true, false, List, ◌++◌, length, drop, Option, None, ◌⊎◌, sym, ap, subst, ◌∙◌, arith, inl, inr}
-use Rattle.std.proofs.lemmas.List.{length-append, length-drop, drop-append-le}
+use Rattle.std.proofs.Common.{◌≡◌, ◌≢◌, ◌↔◌, ℕ, ◌≤◌, Bool, IsTrue, true, false, List, [], ◌++◌, length, drop, Option, None, ◌⊎◌, refl, sym, ap, subst, ◌∙◌, arith, inl, inr}
+use Rattle.std.specs.Prelude.{MatchBool}
+use Rattle.std.proofs.lemmas.List.{append-nil, length-append, length-drop, drop-append-le}
 use Rattle.pg_wire.specs.declared.frame.Frame.{Frame}
+use Rattle.pg_wire.specs.declared.frame.Frame.TheVariants as frames
 use Rattle.pg_wire.proofs.Bodies.{one_frame}
 use Rattle.pg_wire.specs.Spelling.{spelling}
 use Rattle.pg_wire.specs.Well.{IsWell}
 use Rattle.pg_wire.specs.Bytes.{Spells}
 use Rattle.pg_worker.specs.declared.fault.WorkerFault.{WorkerFault}
 use Rattle.pg_worker.specs.declared.fault.WorkerFault.TheVariants.{OutOfMemory}
-use Rattle.pg_worker.specs.Turns.{HeldValue, Turn, IsUpTo, Refuses, DoesTurn, RefusesBytes}
+use Rattle.pg_worker.specs.Turns.{HeldValue, Turn, IsUpTo, Refuses, DoesTurn, HasRows, SpellsRows, RefusesBytes}
 use Rattle.pg_worker.specs.Serving.{told}
-use Rattle.pg_coord.specs.Memory.{MemoryValue, still_waiting, Sends, Reports, Empties, AreFrames}
-use Rattle.pg_coord.specs.Mirrors.Sessions.{IsKept, LeavesWaiting}
+use Rattle.pg_coord.specs.Memory.{MemoryValue, still_waiting, Sends, Reports, AreFrames}
+use Rattle.pg_coord.specs.Mirrors.Sessions.{IsKept}
 use Rattle.pg_coord.proofs.Queues.{frames_then, frames_less, first_frame, IsParted, parted}
 use Rattle.pg_coord.proofs.Replies.{Tells}
 use Rattle.pg_coord.proofs.Sessions.{turn_small, turn_tells, fault_frames}
@@ -81,43 +83,59 @@ turn_sent old new f highest s next held has_refused bytes bytes' reply k highest
       refused = refused ∙ hears;
     }))
 
--- ---- frames that are no set-ups
+-- ---- frames of rows
 
--- the frame that the bytes spell drops nothing that waits
-still_waits : (f g : Frame) (bytes waiting : List ℕ) → LeavesWaiting g → Spells g bytes → Spells f bytes → waiting ≡ still_waiting f waiting
-still_waits f g bytes waiting leaves sg sf = sym (subst LeavesWaiting (one_frame g f bytes sg sf) leaves waiting)
+-- rows drop nothing that waits
+rows_wait : (f : Frame) (waiting : List ℕ) → HasRows f → waiting ≡ still_waiting f waiting
+rows_wait (frames.Vertices v) waiting rows = refl
+rows_wait (frames.Values v) waiting rows = refl
+rows_wait (frames.Sparse s) waiting rows = refl
+rows_wait (frames.Setup s) waiting rows = absurd rows
+rows_wait (frames.Go g) waiting rows = absurd rows
+rows_wait (frames.Report r) waiting rows = absurd rows
+rows_wait frames.Halt waiting rows = absurd rows
 
--- a turn of bytes that spell a frame is one of the frame
-pub bytes_sent : (old new : MemoryValue) (f g : Frame) (highest s next : ℕ) (held : Option HeldValue) (has_refused halts : Bool)
-    (spelled bytes bytes' reply : List ℕ)
-    → IsKept highest s held has_refused next bytes → highest ≡ old.highest → held ≡ old.held → has_refused ≡ old.has_refused → drop next bytes ≡ old.waiting
-    → has_refused ≡ false → LeavesWaiting g → Spells g spelled → Spells f spelled → DoesTurn s held spelled new.held halts reply → bytes' ≡ bytes ++ reply
-    → new.waiting ≡ drop next bytes' → new.has_refused ≡ has_refused → Sends f old new
-bytes_sent old new f g highest s next held has_refused halts spelled bytes bytes' reply k highest_is held_is refused_is waits_is hears leaves sg sf does e
-    waits refused =
-    subst (λ (x : Frame). Sends x old new) (one_frame does.frame f spelled does.spells sf)
-    (turn_sent old new does.frame highest s next held has_refused bytes bytes' reply k highest_is held_is refused_is
-    (waits_is ∙ still_waits does.frame g spelled old.waiting leaves sg does.spells) hears does.version does.turn e waits refused)
+-- a session that holds nothing takes none
+rows_need : (f : Frame) (held : Option HeldValue) (reply : List ℕ) → HasRows f → Turn None f held reply → ⊥
+rows_need (frames.Vertices v) held reply rows t = t
+rows_need (frames.Values v) held reply rows t = t
+rows_need (frames.Sparse s) held reply rows t = t
+rows_need (frames.Setup s) held reply rows t = absurd rows
+rows_need (frames.Go g) held reply rows t = absurd rows
+rows_need (frames.Report r) held reply rows t = absurd rows
+rows_need frames.Halt held reply rows t = absurd rows
 
--- a refusal of bytes that spell a frame is one of the frame
-pub bytes_refused : (old new : MemoryValue) (f g : Frame) (highest s : ℕ) (held : Option HeldValue) (bytes waits : List ℕ) (why : WorkerFault)
-    → old.has_refused ≡ false → s ≡ highest
-    → highest ≡ old.highest → held ≡ old.held → waits ≡ old.waiting → LeavesWaiting g → Spells g bytes → Spells f bytes
-    → (why ≡ OutOfMemory) ⊎ RefusesBytes s held bytes why
-    → (why ≢ OutOfMemory) × Reports why waits new → Sends f old new
-bytes_refused old new f g highest s held bytes waits why listens s_is highest_is held_is waits_is leaves sg sf (inl e) r = absurd (r.0 e)
-bytes_refused old new f g highest s held bytes waits why listens s_is highest_is held_is waits_is leaves sg sf (inr (inl none)) r = absurd (none.none g sg)
-bytes_refused old new f g highest s held bytes waits why listens s_is highest_is held_is waits_is leaves sg sf (inr (inr refuses)) r =
-    let one : refuses.0 ≡ f = one_frame refuses.0 f bytes refuses.1 sf in
+-- so it is one that listens
+listens : (f : Frame) (held held' : Option HeldValue) (has_refused : Bool) (reply : List ℕ) → (has_refused ≡ true → held ≡ None) → HasRows f
+    → Turn held f held' reply → has_refused ≡ false
+listens f held held' false reply empty rows t = refl
+listens f held held' true reply empty rows t = absurd (rows_need f held' reply rows (subst (λ (o : Option HeldValue). Turn o f held' reply) (empty refl) t))
+
+has_rows : (bytes : List ℕ) (f : Frame) → SpellsRows bytes → Spells f bytes → HasRows f
+has_rows bytes f rows s = subst HasRows (one_frame rows.0 f bytes rows.2 s) rows.1
+
+-- what the session does with bytes that may spell rows
+abbrev pub MayTake : Bool → ℕ → Option HeldValue → List ℕ → Option HeldValue → Type 0
+MayTake taken highest held bytes held' = MatchBool taken (DoesTurn highest held bytes held' false []) (held' ≡ held)
+
+pub kept_rows : (highest s s' next : ℕ) (held held' : Option HeldValue) (has_refused taken : Bool) (spelled bytes : List ℕ)
+    → IsKept highest s held has_refused next bytes → s' ≡ s → (IsTrue taken ↔ SpellsRows spelled) → MayTake taken s held spelled held'
+    → IsKept highest s' held' has_refused next bytes
+kept_rows highest s s' next held held' has_refused true spelled bytes k same rows does =
+    let hears = listens does.frame held held' has_refused [] k.empty (has_rows spelled does.frame (rows.0 refl) does.spells) does.turn in
+    kept_turn highest s s' next held held' has_refused bytes bytes [] does.frame k same does.spells.well does.turn (sym (append-nil bytes)) hears
+kept_rows highest s s' next held held' has_refused false spelled bytes k same rows e = rw (same, e) k
+
+-- a refusal of rows is one of their frame
+pub rows_refused : (old new : MemoryValue) (s : ℕ) (held : Option HeldValue) (spelled waits : List ℕ) (why : WorkerFault)
+    → old.has_refused ≡ false → s ≡ old.highest → held ≡ old.held → waits ≡ old.waiting → SpellsRows spelled
+    → (why ≡ OutOfMemory) ⊎ RefusesBytes s held spelled why → (why ≢ OutOfMemory) × Reports why waits new
+    → (f : Frame) × Spells f spelled × Sends f old new
+rows_refused old new s held spelled waits why hears s_is held_is waits_is rows (inl e) r = absurd (r.0 e)
+rows_refused old new s held spelled waits why hears s_is held_is waits_is rows (inr (inl none)) r = absurd (none.none rows.0 rows.2)
+rows_refused old new s held spelled waits why hears s_is held_is waits_is rows (inr (inr refuses)) r =
+    let f = refuses.0 in
     let same : Refuses old.highest old.held f why =
-    subst (λ (n : ℕ). Refuses n old.held f why) (s_is ∙ highest_is)
-    (subst (λ (o : Option HeldValue). Refuses s o f why) held_is (subst (λ (k : Frame). Refuses s held k why) one refuses.2)) in
-    let waiting : waits ≡ still_waiting f old.waiting = waits_is ∙ still_waits f g bytes old.waiting leaves sg sf in
-    rw listens (inr (why, same, subst (λ (w : List ℕ). Reports why w new) waiting r.1))
-
--- want of memory in the turn of bytes that spell a frame
-pub bytes_emptied : (old now new : MemoryValue) (f g : Frame) (bytes : List ℕ) → LeavesWaiting g → Spells g bytes → Spells f bytes
-    → now.held ≡ None → now.waiting ≡ old.waiting → now.has_refused ≡ old.has_refused → new ≡ now → Empties f old new
-bytes_emptied old now new f g bytes leaves sg sf held waits refused same =
-    subst (λ (m : MemoryValue). Empties f old m) (sym same)
-    (record { held = held; waiting = waits ∙ still_waits f g bytes old.waiting leaves sg sf; refused = refused })
+    subst (λ (n : ℕ). Refuses n old.held f why) s_is (subst (λ (o : Option HeldValue). Refuses s o f why) held_is refuses.2) in
+    let waiting : waits ≡ still_waiting f old.waiting = waits_is ∙ rows_wait f old.waiting (has_rows spelled f rows refuses.1) in
+    (f, refuses.1, rw hears (inr (why, same, subst (λ (w : List ℕ). Reports why w new) waiting r.1)))

@@ -1,19 +1,17 @@
 //! Links to workers in the same process.
 
 ghost use Rattle.std.specs.Prelude.{◌≡◌, ◌≢◌, ◌↔◌, ◌⊎◌, ◌≤◌, ◌++◌, ℕ, List, [], None, length, drop, IsOk, OnOk, OnErr, IfErr};
-ghost use Rattle.std.specs.Bool.{OnTrue};
 ghost use Rattle.pg_map.specs.Maps.{MapValue};
 ghost use Rattle.pg_wire.specs.declared.frame.Frame.{Frame};
 ghost use Rattle.pg_wire.specs.Well.{IsWell};
 ghost use Rattle.pg_wire.specs.Bytes.{Spells};
 ghost use Rattle.pg_worker.specs.Turns.{IsAtLeast};
 ghost use Rattle.pg_coord.specs.Links.{measures_in, IsUnderAfter, CountsFailure};
-ghost use Rattle.pg_coord.specs.Mirrors.Sessions.{LeavesWaiting};
 ghost use Rattle.pg_coord.specs.Memory.{started_link, still_waiting, Reports, Sends, SendsNoFrame, Empties, BreaksOff, count_after, AreFrames, IsAboveLink};
 
 use crate::link::{Link, LinkFault};
 use crate::waiting::{first_len, put_fault};
-use pg_wire::{Frame, ValuesReader, VerticesReader, WireFault, decode};
+use pg_wire::{Frame, WireFault, decode};
 use pg_worker::{Session, WorkerFault};
 use std::alloc::Global;
 use std::marker::Model;
@@ -147,34 +145,28 @@ impl MemoryLink {
 }
 
 impl MemoryLink {
-    ghost use Rattle.std.specs.Prelude.{IfSome};
-    ghost use Rattle.pg_coord.specs.Mirrors.Sessions.{IsSmall, LeavesWaiting};
+    ghost use Rattle.std.specs.Prelude.{IfOk, IfSome, MatchBool};
+    ghost use Rattle.pg_coord.specs.Mirrors.Sessions.{IsSmall};
 
-    /// Lets the session do the turn of the frame that the bytes spell, unless it has refused one. The frame is no set-up.
-    fn take_bytes(&mut self, bytes: &[u8]) -> Result<(), LinkFault>
-        requires { (f : Frame) × LeavesWaiting f × Spells f bytes.now }
+    /// Lets the session do the turn of the frame of vertices or of values that the bytes spell, unless it has refused
+    /// one. False where they spell no such frame, and then nothing has changed.
+    fn take_rows(&mut self, bytes: &[u8]) -> Result<bool, LinkFault>
         ensures small { IfSome self.old.held IsSmall }
-        ensures ok { OnOk result ((f : Frame) → Spells f bytes.now → Sends f self.old self.new) }
-        ensures memory { IfErr result (λ e. (e ≡ LinkFault.OutOfMemory)
-            × ((f : Frame) → Spells f bytes.now → Empties f self.old self.new)) }
+        ensures ok { IfOk result (λ taken. MatchBool taken
+            ((f : Frame) × Spells f bytes.now × Sends f self.old self.new) (self.new ≡ self.old)) }
+        ensures memory { IfErr result (λ e. (e ≡ LinkFault.OutOfMemory) × BreaksOff bytes.now self.old self.new) }
         ensures highest { self.new.highest ≡ self.old.highest }
         ensures failures { self.new.failures ≡ self.old.failures }
     {
-        if self.has_refused {
-            return Ok(());
-        }
-        match self.session.frame_from(bytes, &mut self.waiting) {
-            Ok(_) => Ok(()),
-            Err(fault) => self.refuse(fault),
+        match self.session.rows_from(bytes) {
+            Ok(taken) => Ok(taken),
+            Err(_) if self.has_refused => Ok(true),
+            Err(fault) => {
+                self.refuse(fault)?;
+                Ok(true)
+            }
         }
     }
-}
-
-/// Whether the bytes spell a frame of vertices or of values, which may be long. It takes no memory.
-fn spells_rows(bytes: &[u8]) -> bool
-    ensures { OnTrue result ((f : Frame) × LeavesWaiting f × Spells f bytes.now) }
-{
-    VerticesReader::open(bytes).is_some() || ValuesReader::open(bytes).is_some()
 }
 
 impl Link for MemoryLink {
@@ -201,8 +193,8 @@ impl Link for MemoryLink {
         ensures highest { self.new.highest ≡ self.old.highest }
         ensures failures { self.new.failures ≡ self.old.failures }
     {
-        if spells_rows(frame) {
-            return self.take_bytes(frame);
+        if self.take_rows(frame)? {
+            return Ok(());
         }
         match decode(self.alloc, frame) {
             Ok(frame) => self.take(&frame),

@@ -100,8 +100,8 @@ impl Session {
         }
     }
 
-    /// As `frame_from`, where the bytes spell a frame of vertices or of values, which has no reply: true, and its turn is done.
-    /// False where they spell no such frame, and then nothing has changed. The bytes are opened once, either way.
+    /// As `frame_from`, where the bytes spell a frame of vertices or of values, which has no reply: true, and its turn is
+    /// done. False where they spell no such frame, and then nothing has changed.
     ///
     /// Faults: those of `frame` for that frame. After a fault the session holds nothing.
     pub fn rows_from(&mut self, bytes: &[u8]) -> Result<bool, WorkerFault>

@@ -192,9 +192,9 @@ pub fn turn(
     }
 }
 
-/// Does the turn of the frame of vertices or of values that the bytes spell on what is held; it has no reply. False where they
-/// spell no such frame, and then nothing has changed. The rows are read from the bytes, one after the other. After a fault
-/// nothing is said of what is held.
+/// Does the turn of the frame of vertices or of values that the bytes spell on what is held; it has no reply. False
+/// where they spell no such frame, and then nothing has changed. The rows are read from the bytes, one after the other.
+/// After a fault nothing is said of what is held.
 pub fn turn_of_rows(
     alloc: Global,
     held: &mut Option<Held>,

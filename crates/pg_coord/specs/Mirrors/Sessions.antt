@@ -1,8 +1,7 @@
 -- What holds of the session and of the bytes that a link keeps.
 use Rattle.std.specs.Prelude.{◌≡◌, ◌<◌, ◌≤◌, ◌^◌, ℕ, Bool, true, List, length, drop, All, Option, None, IfSome}
-use Rattle.pg_wire.specs.declared.frame.Frame.{Frame}
 use Rattle.pg_worker.specs.Turns.{HeldValue}
-use Rattle.pg_coord.specs.Memory.{AreFrames, still_waiting}
+use Rattle.pg_coord.specs.Memory.{AreFrames}
 
 -- vertices and bounds are few, and four bytes hold each bound
 pub record IsSmall (h : HeldValue) : Type 0 where
@@ -18,7 +17,3 @@ pub record IsKept (highest session_highest : ℕ) (held : Option HeldValue) (has
   pub empty : has_refused ≡ true → held ≡ None
   pub within : next ≤ length bytes
   pub frames : AreFrames (λ f. Unit {0}) (drop next bytes)
-
--- what waited waits on once the frame was sent
-abbrev pub LeavesWaiting : Frame → Type 0
-LeavesWaiting f = (waiting : List ℕ) → still_waiting f waiting ≡ waiting
