@@ -1,5 +1,5 @@
 //! The kinds of frames that carry measures, and how many bytes a measure takes in them.
-ghost use Rattle.std.specs.Prelude.{◌≡◌, ℕ, ◌≤◌, ◌+◌, ◌*◌, Some, None, length};
+ghost use Rattle.std.specs.Prelude.{◌≡◌, ◌≢◌, ℕ, IsTrue, IsFalse, ◌≤◌, ◌+◌, ◌*◌, Some, None, length};
 ghost use Rattle.pg_wire.specs.Measured.{nonzero, spelled_as};
 
 /// The kinds of frames that carry measures.
@@ -11,6 +11,14 @@ pub enum ValueKind {
     Sparse,
 }
 
+/// Whether a component is told by `Sparse`.
+pub fn is_told(n: u32) -> bool
+    ensures told { IsTrue result → n ≢ 0 }
+    ensures untold { IsFalse result → n ≡ 0 }
+{
+    n != 0
+}
+
 /// How many components aren't 0.
 pub fn nonzero_len(list: &[u32]) -> usize
     ensures count { result ≡ length (nonzero list.now) }
@@ -18,7 +26,7 @@ pub fn nonzero_len(list: &[u32]) -> usize
 {
     let mut count = 0;
     for n in list {
-        if *n != 0 {
+        if is_told(*n) {
             count += 1;
         }
     }

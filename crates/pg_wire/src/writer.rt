@@ -7,7 +7,7 @@ ghost use Rattle.pg_wire.specs.Bytes.{Spells};
 ghost use Rattle.pg_wire.specs.Measured.{Measured, nonzero, spelled_as, kind_number, frame_of};
 ghost use Rattle.pg_wire.specs.Mirrors.Buffers.{Extends};
 
-use crate::kind::{ValueKind, nonzero_len};
+use crate::kind::{ValueKind, is_told, nonzero_len};
 use crate::reading::LONGEST;
 use std::alloc::AllocError;
 
@@ -46,8 +46,9 @@ fn put_pair(place: u32, n: u32, out: &mut Vec<u8>) -> Result<(), AllocError>
     ensures ok { OnOk result (out.new.items ≡ out.old.items ++ pair (place, n)) }
     ensures kept { Extends out.old.items out.new.items }
 {
-    put_word(place, out)?;
-    put_word(n, out)
+    let [a, b, c, d] = place.to_be_bytes();
+    let [e, f, g, h] = n.to_be_bytes();
+    out.extend_from_slice(&[a, b, c, d, e, f, g, h])
 }
 
 /// Each number that isn't 0, with its place.
@@ -57,7 +58,7 @@ fn put_pairs(numbers: &[u32], out: &mut Vec<u8>) -> Result<(), AllocError>
     ensures kept { Extends out.old.items out.new.items }
 {
     for (place, n) in numbers.iter().enumerate() {
-        if *n != 0 {
+        if is_told(*n) {
             put_pair(place as u32, *n, out)?;
         }
     }
@@ -68,9 +69,8 @@ fn put_tagged(vertex: u32, tag: u8, out: &mut Vec<u8>) -> Result<(), AllocError>
     ensures ok { OnOk result (out.new.items ≡ out.old.items ++ (word vertex ++ tag ∷ [])) }
     ensures kept { Extends out.old.items out.new.items }
 {
-    put_word(vertex, out)?;
-    out.push(tag)?;
-    Ok(())
+    let [a, b, c, d] = vertex.to_be_bytes();
+    out.extend_from_slice(&[a, b, c, d, tag])
 }
 
 fn put_list(kind: ValueKind, vertex: u32, list: &[u32], out: &mut Vec<u8>) -> Result<(), AllocError>
