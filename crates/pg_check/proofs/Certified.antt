@@ -134,7 +134,7 @@ path_map Step Step' Q f v (w ∷ rest) q h =
 
 -- closed maps serve the winner, by some edge where it owns the vertex and by all where it doesn't
 
-closed_for : (player : Player) (game : List GameVertex) (f g : MapValue) → AreClosed game f g
+pub closed_for : (player : Player) (game : List GameVertex) (f g : MapValue) → AreClosed game f g
     → IsClosed (map_of player f g).bounds (game_line (game_of player game)) (map_of player f g).measures
 closed_for Even game f g closed = closed.game_map
 closed_for Odd game f g closed = closed.dual_map
@@ -151,13 +151,14 @@ same_length Odd game v lt = omega (arith, length_dual game, lt)
 pub has_line : (player : Player) (game : List GameVertex) (v : ℕ) → v < length game → IsSome (game_line (game_of player game) v)
 has_line player game v lt = in_line (game_of player game) v (same_length player game v lt)
 
-pub some_serves : (player : Player) (game : List GameVertex) (f g : MapValue) → AreClosed game f g → (v : ℕ) → v < length game
-    → owner game v ≡ player → Any (IsServedFor player game f g v) (line_at (game_line (game_of player game)) v).successors
-some_serves player game f g closed v lt e =
+pub some_serves : (player : Player) (game : List GameVertex) (m : MapValue) → IsClosed m.bounds (game_line (game_of player game)) m.measures
+    → (v : ℕ) → v < length game → owner game v ≡ player
+    → Any (IsServedBy m.bounds (game_line (game_of player game)) m.measures v) (line_at (game_line (game_of player game)) v).successors
+some_serves player game m closed v lt e =
     let line : Line = line_at (game_line (game_of player game)) v in
     let is : line ≡ vertex_line (vertex_at (game_of player game) v) = line_is (game_of player game) v in
-    some_served line.owner (IsServedFor player game f g v) line.successors (ap Line.owner is ∙ owner_is player game v lt e)
-    (closed_for player game f g closed v (has_line player game v lt))
+    some_served line.owner (IsServedBy m.bounds (game_line (game_of player game)) m.measures v) line.successors
+    (ap Line.owner is ∙ owner_is player game v lt e) (closed v (has_line player game v lt))
 
 pub line_edges : (player : Player) (game : List GameVertex) (v : ℕ) → (line_at (game_line (game_of player game)) v).successors ≡ successors game v
 line_edges player game v = ap Line.successors (line_is (game_of player game) v) ∙ same_edges player game v

@@ -13,11 +13,11 @@ use Rattle.pg_text.specs.declared.answer.Answer.{Answer}
 use Rattle.pg_text.specs.Solutions.{answer_at, unanswered, winner, IsSolution}
 use Rattle.pg_measure.specs.Measures.{BoundList, MeasureValue}
 use Rattle.pg_map.specs.Lines.{Line, line_at, game_line, AreWithin}
-use Rattle.pg_map.specs.Maps.{MapValue, IsServedBy}
+use Rattle.pg_map.specs.Maps.{MapValue, IsServedBy, IsClosed}
 use Rattle.pg_check.specs.Strategies.{game_of, map_of, HasList, AreClosed, IsFirstServing, IsChoiceFor, IsAnswerOf, IsSolutionOf, IsUndecided}
 use Rattle.pg_check.proofs.Wins.{player_cases}
 use Rattle.pg_check.proofs.Leaving.{passed_or_later, rising_at}
-use Rattle.pg_check.proofs.Certified.{some_serves, line_edges, no_both}
+use Rattle.pg_check.proofs.Certified.{closed_for, some_serves, line_edges, no_both}
 
 pub first_of : (bounds : BoundList) (lines : ℕ → Option Line) (f : List MeasureValue) (v w k : ℕ) (items : List ℕ)
     → items ≡ (line_at lines v).successors → IsStrictlyIncreasing items
@@ -56,14 +56,15 @@ lines_within player game n is_game e = record {
         go (x ∷ xs) (suc v) some = let h = go xs v some in omega (arith, h)
 
 -- the choice is found: some successor serves the vertex
-pub choice_found : (player : Player) (game : List GameVertex) (f g : MapValue) → AreClosed game f g → (v : ℕ) → v < length game
-    → owner game v ≡ player → (found : Option ℕ) → IfSome found (IsChoiceFor player game f g v)
+pub choice_found : (player : Player) (game : List GameVertex) (m : MapValue) → IsClosed m.bounds (game_line (game_of player game)) m.measures
+    → (v : ℕ) → v < length game → owner game v ≡ player
+    → (found : Option ℕ) → IfSome found (IsFirstServing m.bounds (game_line (game_of player game)) m.measures v)
     → IfNone found ((w : ℕ) → Contains (line_at (game_line (game_of player game)) v).successors w
-    → ¬ IsServedBy (map_of player f g).bounds (game_line (game_of player game)) (map_of player f g).measures v w)
-    → (w : ℕ) × (found ≡ Some w) × IsChoiceFor player game f g v w
-choice_found player game f g closed v lt e None some none =
-    let any = some_serves player game f g closed v lt e in absurd (none any.1 (any.0, any.2, any.3) any.4)
-choice_found player game f g closed v lt e (Some w) some none = (w, refl, some)
+    → ¬ IsServedBy m.bounds (game_line (game_of player game)) m.measures v w)
+    → (w : ℕ) × (found ≡ Some w) × IsFirstServing m.bounds (game_line (game_of player game)) m.measures v w
+choice_found player game m closed v lt e None some none =
+    let any = some_serves player game m closed v lt e in absurd (none any.1 (any.0, any.2, any.3) any.4)
+choice_found player game m closed v lt e (Some w) some none = (w, refl, some)
 
 -- the player with a list wins, and no other
 pub wins_exactly : (game : List GameVertex) (f g : MapValue) → IsGame game → AreClosed game f g → (v : ℕ) → v < length game
@@ -103,29 +104,29 @@ pub answer_with : (game : List GameVertex) (f g : MapValue) → IsGame game → 
     → IsAnswerOf game f g v (record { winner = player; choice = found })
 answer_with game f g is_game closed v lt player list is_owner found some none = record {
   wins = wins_exactly game f g is_game closed v lt player list;
-  chosen = λ e. choice_found player game f g closed v lt is_owner found some none;
+  chosen = λ e. choice_found player game (map_of player f g) (closed_for player game f g closed) v lt is_owner found some none;
   elsewhere = λ e. absurd (not_both (owner game v) player is_owner e);
 }
 
--- the vertices below i have their answers
-pub record AnswersUpto (game : List GameVertex) (f g : MapValue) (solution : List Answer) (i : ℕ) : Type 0 where
+-- the vertices below i have the answers that are theirs
+pub record AnswersUpto (game : List GameVertex) (IsOf : ℕ → Answer → Type 0) (solution : List Answer) (i : ℕ) : Type 0 where
   pub whole : length solution ≡ length game
-  pub answers : (u : ℕ) → u < i → IsAnswerOf game f g u (answer_at solution u)
+  pub answers : (u : ℕ) → u < i → IsOf u (answer_at solution u)
 
-pub answers_more : (game : List GameVertex) (f g : MapValue) (solution : List Answer) (v : ℕ) (answer : Answer) → v < length game
-    → AnswersUpto game f g solution v → IsAnswerOf game f g v answer → AnswersUpto game f g (slice_set solution v answer) (v + 1)
-answers_more game f g solution v answer lt upto here = record {
+pub answers_more : (game : List GameVertex) (IsOf : ℕ → Answer → Type 0) (solution : List Answer) (v : ℕ) (answer : Answer) → v < length game
+    → AnswersUpto game IsOf solution v → IsOf v answer → AnswersUpto game IsOf (slice_set solution v answer) (v + 1)
+answers_more game IsOf solution v answer lt upto here = record {
   whole = length-set solution v answer ∙ upto.whole;
   answers = λ u below. elim (cases_lt u v) [
     | inl earlier ↦
         let ne : u ≢ v = omega arith in
         let same : answer_at (slice_set solution v answer) u ≡ answer_at solution u = get_or-set_other solution v u answer unanswered ne in
-        subst (IsAnswerOf game f g u) (sym same) (upto.answers u earlier)
+        subst (IsOf u) (sym same) (upto.answers u earlier)
     | inr later ↦
         let e : v ≡ u = omega arith in
         let inside : v < length solution = let w = upto.whole in omega arith in
         let same : answer_at (slice_set solution v answer) v ≡ answer = get_or-set_same solution v answer unanswered inside in
-        subst (λ x. IsAnswerOf game f g x (answer_at (slice_set solution v answer) x)) e (subst (IsAnswerOf game f g v) (sym same) here)
+        subst (λ x. IsOf x (answer_at (slice_set solution v answer) x)) e (subst (IsOf v) (sym same) here)
   ];
 }
 
@@ -134,7 +135,7 @@ pub lines_rise : (player : Player) (game : List GameVertex) → IsGame game → 
 lines_rise player game is_game v lt = subst IsStrictlyIncreasing (sym (line_edges player game v)) (is_game.successors_rise v)
 
 pub solution_from_upto : (game : List GameVertex) (f g : MapValue) (solution : List Answer) (i : ℕ) → length game ≤ i
-    → AnswersUpto game f g solution i → IsSolutionOf game f g solution
+    → AnswersUpto game (IsAnswerOf game f g) solution i → IsSolutionOf game f g solution
 solution_from_upto game f g solution i done upto = record {
   whole = upto.whole;
   answers = λ v lt. upto.answers v (omega arith);
@@ -147,16 +148,6 @@ not_undecided game f g v answer is undecided = go answer.winner ((is.wins answer
     go : (player : Player) → HasList player f g v → ⊥
     go Even list = cc (undecided.game_map, list)
     go Odd list = cc (undecided.dual_map, list)
-
-pub answers_step : (game : List GameVertex) (f g : MapValue) (solution after : List Answer) (v : ℕ) → v < length game → AnswersUpto game f g solution v
-    → (winner player : Player) (choice found : Option ℕ) → winner ≡ player → choice ≡ found
-    → after ≡ slice_set solution v (record { winner = winner; choice = choice })
-    → IsAnswerOf game f g v (record { winner = player; choice = found }) → AnswersUpto game f g after (v + 1)
-answers_step game f g solution after v lt upto winner player choice found e e' is here =
-    subst (λ s. AnswersUpto game f g s (v + 1)) (sym is)
-    (answers_more game f g solution v (record { winner = winner; choice = choice }) lt upto
-    (subst (λ p. IsAnswerOf game f g v (record { winner = p; choice = choice })) (sym e)
-    (subst (λ w. IsAnswerOf game f g v (record { winner = player; choice = w })) (sym e') here)))
 
 -- the winner has a choice on each vertex that it owns
 pub is_solution : (game : List GameVertex) (f g : MapValue) (solution : List Answer) → IsSolutionOf game f g solution → IsSolution game solution

@@ -78,7 +78,7 @@ module _ (game : List GameVertex) (f g : MapValue) (is_game : IsGame game) (clos
             | inr own ↦ (_, answer_without game f g is_game closed v lt player list (λ same. not_both (owner game v) player same own))
           ]
 
-  answered : (n : ℕ) → n ≤ length game → (solution : List Answer) × AnswersUpto game f g solution n
+  answered : (n : ℕ) → n ≤ length game → (solution : List Answer) × AnswersUpto game (IsAnswerOf game f g) solution n
   answered zero le = (
     replicate (length game) unanswered,
     record { whole = length-replicate (length game) unanswered; answers = λ u lt. absurd (omega arith) },
@@ -86,9 +86,9 @@ module _ (game : List GameVertex) (f g : MapValue) (is_game : IsGame game) (clos
   answered (suc n) le =
       let before = answered n (omega arith) in
       let here = answer_at_vertex n (omega arith) in
-      let more = answers_more game f g before.0 n here.0 (omega arith) before.1 here.1 in
+      let more = answers_more game (IsAnswerOf game f g) before.0 n here.0 (omega arith) before.1 here.1 in
       let e : n + 1 ≡ suc n = omega arith in
-      (slice_set before.0 n here.0, subst (AnswersUpto game f g (slice_set before.0 n here.0)) e more)
+      (slice_set before.0 n here.0, subst (AnswersUpto game (IsAnswerOf game f g) (slice_set before.0 n here.0)) e more)
 
 pub decided_maps_solve : DecidedMapsSolve
 decided_maps_solve game f g is_game closed decided =

@@ -10,6 +10,7 @@ pub mod Checking
 pub mod Falls
 pub mod Certified
 pub mod Chosen
+pub mod Halved
 pub mod Listed
 pub mod Winning
 pub mod Deciding

@@ -3,4 +3,5 @@ pub mod Soundness
 pub mod Laws
 pub mod Verdicts
 pub mod Strategies
+pub mod Halves
 pub mod Mirrors
