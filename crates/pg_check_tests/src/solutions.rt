@@ -1,6 +1,8 @@
 //! Solutions of maps.
 
-use crate::tools::{Line, answers, game_of, least_map, solved, three, top_map, two};
+use crate::tools::{
+    Line, answers, filled, game_of, half_of, least_map, solved, three, top_map, two,
+};
 use pg_arena::Player::{Even, Odd};
 use pg_arena::dual;
 use pg_check::CheckFault;
@@ -42,6 +44,33 @@ fn undecided_names_the_least_identifier(rt: HostRuntime) -> Result<(), Fail> {
         &rt,
         "the maps are closed",
     );
+    assert!(rt; found.err() == Some(CheckFault::Undecided(10)));
+    Ok(())
+}
+
+/// Even's half of three vertices names its choice at the third alone; Odd's map names the two others.
+#[test]
+fn a_solution_is_made_of_its_halves(rt: HostRuntime) -> Result<(), Fail> {
+    let game = three(rt.alloc())?;
+    let even = least_map(rt.alloc(), &game)?;
+    let half = half_of(rt.alloc(), &game, &even).expect(&rt, "the map is closed")?;
+    drop(even);
+    assert!(rt; answers(&half, &[(Odd, None), (Odd, None), (Even, Some(2))]));
+    let other = dual(rt.alloc(), &game)?;
+    let odd = least_map(rt.alloc(), &other)?;
+    let found = filled(&game, half, &odd).expect(&rt, "they are of the size of the game");
+    assert!(rt; answers(&found?, &[(Odd, Some(1)), (Odd, Some(1)), (Even, Some(2))]));
+    Ok(())
+}
+
+/// With top everywhere in both maps the half has no choice, and the first vertex is undecided.
+#[test]
+fn a_half_of_tops_stays_undecided(rt: HostRuntime) -> Result<(), Fail> {
+    let game = three(rt.alloc())?;
+    let top = top_map(rt.alloc(), &game)?;
+    let half = half_of(rt.alloc(), &game, &top).expect(&rt, "the map is closed")?;
+    assert!(rt; answers(&half, &[(Odd, None), (Odd, None), (Odd, None)]));
+    let found = filled(&game, half, &top).expect(&rt, "they are of the size of the game");
     assert!(rt; found.err() == Some(CheckFault::Undecided(10)));
     Ok(())
 }

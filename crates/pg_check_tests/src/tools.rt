@@ -8,7 +8,7 @@ ghost use Rattle.pg_map.specs.Maps.{IsClosed};
 
 use Player::{Even, Odd};
 use pg_arena::{ArenaFault, Game, GameBuilder, Player, Vertex};
-use pg_check::{CheckFault, strategies};
+use pg_check::{CheckFault, even_half, strategies, with_odd_half};
 use pg_map::{MeasureMap, View, lift_to_end};
 use pg_measure::Bounds;
 use pg_text::Solution;
@@ -90,6 +90,32 @@ pub fn solved(
 {
     if is_closed(even, game) && is_closed(odd, other) && odd.len() == even.len() {
         Some(strategies(alloc, game, even, odd))
+    } else {
+        None
+    }
+}
+
+/// The half that a map of the game gives, if the map is closed.
+pub fn half_of(
+    alloc: Global,
+    game: &Game,
+    even: &MeasureMap,
+) -> Option<Result<Solution, AllocError>> {
+    if is_closed(even, game) {
+        Some(even_half(alloc, game, even))
+    } else {
+        None
+    }
+}
+
+/// The answer of `with_odd_half`, if the half and the map are of the size of the game.
+pub fn filled(
+    game: &Game,
+    half: Solution,
+    odd: &MeasureMap,
+) -> Option<Result<Solution, CheckFault>> {
+    if half.len() == game.len() && is_of(odd, game) {
+        Some(with_odd_half(game, half, odd))
     } else {
         None
     }

@@ -4,7 +4,7 @@ use Rattle.std.proofs.lemmas.List.{same_lists, get_or_default}
 use Rattle.std.specs.Prelude.{IfSome, IfErr, OnOk}
 use Rattle.std.specs.Io.KnownBytes.{Appends}
 use Rattle.pg_arena.specs.declared.player.Player.{Player}
-use Rattle.pg_arena.specs.Games.{GameVertex}
+use Rattle.pg_arena.specs.Games.{GameVertex, dual}
 use Rattle.pg_map.specs.Lines.{Line, game_line}
 use Rattle.pg_map.specs.Maps.{MapValue}
 use Rattle.pg_worker.specs.Cuts.{CutValue, IsEvenCut}
@@ -12,12 +12,13 @@ use Rattle.pg_text.specs.declared.answer.Answer.{Answer}
 use Rattle.pg_aiger.specs.declared.fault.AigerFault.TheVariants as aiger
 use Rattle.pg_synth.specs.declared.fault.SynthFault.TheVariants as synth
 use Rattle.pg_coord.specs.Told.{Reply, TellReplies, IsLeastOverReplies}
+use Rattle.pg_check.specs.Halves.{ForEachMapOf}
 use Rattle.pg_cli.specs.Linked.{IsLeastOverTold}
 use Rattle.pg_cli.specs.Measuring.{Finding, IsClosedMapOf, IsMeasureOf, IsMeasured}
 use Rattle.pg_cli.specs.Solving.{IsSolvedBy, IsSolved, IsUndecidedIn, IsUndecidedAt, RefusesSolve}
 use Rattle.pg_cli.specs.Synthesising.{IsWonFor, IsRealized, IsSynthesised, IsUndecidedFor, HasLargeMachine, RefusesSynth}
 use Rattle.pg_cli.specs.Answers.{IsAnswer, HasNoAnswer, PrintsBy, RefusesBy, Prints, Refuses}
-use Rattle.pg_cli.specs.Mirrors.Solver.{IsFoundIf}
+use Rattle.pg_cli.specs.Mirrors.Solver.{IsFoundIf, IsHalfOfFound}
 use Rattle.pg_cli.specs.declared.command.Command.{Command}
 use Rattle.pg_cli.specs.declared.command.Command.TheVariants.{Measure, Solve, Check, Replay, Game, Synth}
 use Rattle.pg_cli.specs.declared.fault.CliFault.{CliFault}
@@ -46,6 +47,13 @@ found_least are_honest honest game map f = f.least honest
 pub found_later : (are_honest later : Type 0) → (are_honest → later) → (game : List GameVertex) (map : MapValue) → IsFoundIf later game map
     → IsFoundIf are_honest game map
 found_later are_honest later kept game map f = record { closed = f.closed; least = λ honest. f.least (kept honest) }
+
+-- what is so of each map that the half may be of is so of the one that was found
+pub of_half : (are_honest later : Type 0) (game : List GameVertex) (half : List Answer) (odd : MapValue)
+    → (h : IsHalfOfFound (IsFoundIf are_honest) game half) → IsFoundIf later (dual game) odd
+    → (P : MapValue → Type 0) → ForEachMapOf game half odd P → P h.even
+of_half are_honest later game half odd h of_dual P each =
+    each h.even h.half_of (record { game_map = h.found.closed.closed; dual_map = of_dual.closed.closed })
 
 -- after so many rounds one was made
 pub first_round : (lines : ℕ → Option Line) (rounds links : ℕ) (replies : ℕ → List Reply) (map : MapValue) → 1 ≤ rounds

@@ -6,11 +6,11 @@ ghost use Rattle.pg_text.specs.Solutions.{IsSolution};
 ghost use Rattle.pg_check.specs.Soundness.{IsSound};
 ghost use Rattle.pg_cli.specs.Linked.{IsLeastOverTold};
 ghost use Rattle.pg_cli.specs.Solving.{IsSolvedBy};
-ghost use Rattle.pg_cli.specs.Mirrors.Solver.{IsFoundIf, IsUnsolved};
+ghost use Rattle.pg_cli.specs.Mirrors.Solver.{IsFoundIf, IsHalfOfFound, IsUnsolved};
 
 use crate::fault::CliFault;
 use pg_arena::{Game, dual};
-use pg_check::strategies;
+use pg_check::{even_half, with_odd_half};
 use pg_coord::{Link, solve};
 use pg_map::MeasureMap;
 use pg_text::Solution;
@@ -37,6 +37,17 @@ pub(crate) fn map_of<L: Link>(
     Ok(solved.map)
 }
 
+/// The half of a solution that a map of a game gives, found over links. The map goes with the call.
+fn half_of<L: Link>(alloc: Global, game: &Game, links: &mut [L]) -> Result<Solution, CliFault>
+    requires { length links.old ≤ 16 }
+    ensures half { IfOk result (IsHalfOfFound (IsFoundIf (All L.is_honest links.old)) game.now) }
+    ensures honest { OnOk result (All L.is_honest links.old → All L.is_honest links.new) }
+    ensures refused { IfErr result (λ fault. fault ≡ CliFault.OutOfMemory) }
+{
+    let even = map_of(alloc, game, links)?;
+    Ok(even_half(alloc, game, &even)?)
+}
+
 /// A map of the dual of a game.
 fn map_of_dual<L: Link>(alloc: Global, game: &Game, links: &mut [L]) -> Result<MeasureMap, CliFault>
     requires priorities { HasPrioritiesUpTo 65535 game.now }
@@ -50,7 +61,7 @@ fn map_of_dual<L: Link>(alloc: Global, game: &Game, links: &mut [L]) -> Result<M
     map_of(alloc, &dual, links)
 }
 
-/// The solution of a map of a game and of one of its dual, both found over the same links.
+/// The solution of a map of a game and of one of its dual, both found over the same links, one after the other.
 pub(crate) fn solution_of<L: Link>(
     alloc: Global,
     game: &Game,
@@ -63,7 +74,7 @@ pub(crate) fn solution_of<L: Link>(
     ensures sound { IfOk result (IsSound game.now) }
     ensures refused { IfErr result (IsUnsolved (IsFoundIf (All L.is_honest links.old)) game.now) }
 {
-    let even = map_of(alloc, game, links)?;
+    let half = half_of(alloc, game, links)?;
     let odd = map_of_dual(alloc, game, links)?;
-    Ok(strategies(alloc, game, &even, &odd)?)
+    Ok(with_odd_half(game, half, &odd)?)
 }

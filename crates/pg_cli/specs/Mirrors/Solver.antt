@@ -2,6 +2,8 @@
 use Rattle.std.specs.Prelude.{List}
 use Rattle.pg_arena.specs.Games.{GameVertex}
 use Rattle.pg_map.specs.Maps.{MapValue}
+use Rattle.pg_text.specs.declared.answer.Answer.{Answer}
+use Rattle.pg_check.specs.Halves.{IsHalfOf}
 use Rattle.pg_cli.specs.Measuring.{Finding, IsMeasureOf, IsClosedMapOf}
 use Rattle.pg_cli.specs.Solving.{IsUndecidedIn}
 use Rattle.pg_cli.specs.declared.fault.CliFault.{CliFault}
@@ -11,6 +13,12 @@ use Rattle.pg_cli.specs.declared.fault.CliFault.TheVariants.{OutOfMemory, Undeci
 pub record IsFoundIf (are_honest : Type 0) (game : List GameVertex) (map : MapValue) : Type 0 where
   pub closed : IsClosedMapOf game map
   pub least : are_honest → IsMeasureOf game map
+
+-- the half of a solution is that of a map that is found of the game
+pub record IsHalfOfFound (Found : Finding) (game : List GameVertex) (half : List Answer) : Type 0 where
+  pub even : MapValue
+  pub found : Found game even
+  pub half_of : IsHalfOf game even half
 
 abbrev pub IsUnsolved : Finding → List GameVertex → CliFault → Type 0
 IsUnsolved Found game OutOfMemory = Unit {0}
