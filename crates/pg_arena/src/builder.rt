@@ -48,6 +48,7 @@ impl GameBuilder {
     /// an earlier line has the identifier; `TooManyVertices` after 1,048,576 lines; `TooManyEdges` if the edges would
     /// be over 8,388,608. The builder is then as it was, and so it is after `OutOfMemory`, which may come at any
     /// growth.
+    #[inline(always)]
     pub fn add(
         &mut self,
         identifier: u32,

@@ -59,6 +59,7 @@ impl Identifiers {
     }
 
     /// Adds an identifier behind the others.
+    #[inline(always)]
     pub fn push(&mut self, identifier: u32) -> Result<(), AllocError>
         ensures ok { OnOk result (self.new ≡ self.old ++ identifier ∷ []) }
         ensures err { OnErr result (self.new ≡ self.old) }
@@ -83,6 +84,7 @@ impl Identifiers {
 }
 
 /// Gets the set ready for one more identifier, which needs none where the identifiers still rise.
+#[inline(always)]
 fn note(
     alloc: Global,
     list: &[u32],

@@ -59,6 +59,7 @@ impl Lines {
     }
 
     /// Adds a line whose successors rise.
+    #[inline(always)]
     pub fn add(
         &mut self,
         identifier: u32,
@@ -149,6 +150,7 @@ impl Lines {
 }
 
 /// Puts identifiers behind the other targets. There is room for them.
+#[inline(always)]
 fn put_all(targets: &mut Vec<Vertex>, identifiers: &[u32])
     requires { length targets.old.items + length identifiers.now ≤ vec_capacity targets.old }
     ensures { targets.new.items ≡ targets.old.items ++ identifiers.now }
@@ -190,6 +192,7 @@ fn make_room(
 
 /// Puts a name behind the others, and notes its place behind those of all lines before this one. There is room for
 /// both.
+#[inline(always)]
 fn keep(names: &mut Vec<Vec<u8>>, places: &mut Vec<Option<u32>>, line: usize, name: Option<Vec<u8>>)
     requires room { IsSome name → vec_len names.old < vec_capacity names.old }
     requires room_for_place { IsSome name → line < vec_capacity places.old }

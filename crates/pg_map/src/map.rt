@@ -103,6 +103,7 @@ impl MeasureMap {
     }
 
     /// Raises the measure of a vertex to at least `m`: the join with one update. True exactly if it rose.
+    #[inline(always)]
     pub fn raise(&mut self, v: Vertex, m: View) -> bool
         requires v { v < length self.old.measures }
         requires fits { Fits self.old.bounds (measure_in m) }
@@ -133,6 +134,7 @@ impl MeasureMap {
     }
 
     /// Whether `v` is served by `w`: its measure covers that of `w` at the priority of `v`.
+    #[inline(always)]
     pub fn serves<G: Lines>(&self, lines: &G, v: Vertex, w: Vertex) -> bool
         requires held { IsSome (G.line lines.now v) }
         requires v { v < length self.now.measures }
@@ -146,6 +148,7 @@ impl MeasureMap {
 
     /// Whether the components of `a` of priorities at least that of `v` are at most those of `b`; where both are at most
     /// each other, either answer. Top is above every list.
+    #[inline(always)]
     pub fn is_front_below<G: Lines>(&self, lines: &G, v: Vertex, a: Vertex, b: Vertex) -> bool
         requires held { IsSome (G.line lines.now v) }
         requires a { a < length self.now.measures }
@@ -161,6 +164,7 @@ impl MeasureMap {
 
     /// Lifts a vertex over its best successor, which doesn't serve it: the lift of the vertex, with no look at the
     /// other successors.
+    #[inline(always)]
     pub fn lift_over<G: Lines>(&mut self, lines: &G, v: Vertex, w: Vertex)
         requires held { IsSome (G.line lines.now v) }
         requires within { AreWithin (length self.old.measures) (G.line lines.now) }
@@ -311,6 +315,7 @@ impl MeasureMap {
 
     /// Whether the first `front` components of `a` are at most those of `b`; where both are at most each other, either
     /// answer. Top is above every list.
+    #[inline(always)]
     fn is_less(&self, a: usize, b: usize, front: usize) -> bool
         requires a { a < length self.now.measures }
         requires b { b < length self.now.measures }
@@ -330,6 +335,7 @@ impl MeasureMap {
     }
 
     /// Whether the measure of `v` covers that of `w` in the first `front` components.
+    #[inline(always)]
     fn covers(&self, v: usize, w: usize, front: usize, strict: bool) -> bool
         requires v { v < length self.now.measures }
         requires w { w < length self.now.measures }
@@ -449,6 +455,7 @@ impl MeasureMap {
 
     /// Gives the vertex `to`, which isn't at top, the least measure that covers that of `from` in the first `front`
     /// components.
+    #[inline(always)]
     fn step(&mut self, from: usize, to: usize, front: usize, strict: bool)
         requires from { from < length self.old.measures }
         requires to { to < length self.old.measures }

@@ -140,6 +140,22 @@ impl Rows {
     }
 }
 
+/// Copies the row at `source` over that at `place`, which it may be.
+fn copy_row(cells: &mut [u32], count: usize, width: usize, source: usize, place: usize)
+    requires filled { length cells.old ≡ count * width }
+    requires source { source < count }
+    requires place { place < count }
+    ensures filled { length cells.new ≡ count * width }
+    ensures copied { table count width cells.new ≡ slice_set (table count width cells.old) place
+        (measure_at (table count width cells.old) source) }
+{
+    if source == place {
+        return;
+    }
+    let from = source * width;
+    cells.copy_within(from..from + width, place * width);
+}
+
 /// Writes into the row at `place` the least measure of the bounds that covers that of the row at `source` in the first
 /// `front` components.
 fn write_step(
@@ -164,9 +180,8 @@ fn write_step(
         (measure_at (table count (length bounds.now + 1) cells.new) place) }
 {
     let width = bounds.len() + 1;
-    let from = source * width;
+    copy_row(cells, count, width, source, place);
     let start = place * width;
-    cells.copy_within(from..from + width, start);
     row::step(&mut cells[start..start + width], bounds, front, strict);
 }
 

@@ -87,6 +87,7 @@ pub fn is_below(a: &[u32], b: &[u32]) -> bool
 }
 
 /// Whether the first row's first `width` components are less than the second's; top is above all.
+#[inline(always)]
 pub fn is_front_below(a: &[u32], b: &[u32], width: usize) -> bool
     requires first { width < length a.now }
     requires second { width < length b.now }
@@ -100,6 +101,7 @@ pub fn is_front_below(a: &[u32], b: &[u32], width: usize) -> bool
 }
 
 /// Whether the first row covers the second in the first `width` components.
+#[inline(always)]
 pub fn covers(a: &[u32], b: &[u32], width: usize, strict: bool) -> bool
     requires first { width < length a.now }
     requires second { width < length b.now }

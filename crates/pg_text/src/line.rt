@@ -19,6 +19,7 @@ pub(crate) struct TextLine<'a> {
 
 /// The player in front, by its number.
 #[tactic(auto, unfolding(crate::specs::Mirrors::GameScan::owner_at))]
+#[inline(always)]
 pub(crate) fn player(bytes: &[u8]) -> Result<(Player, &[u8]), TokenFault>
     ensures { Reads (λ x. (x.0, x.1.now)) result (owner_at bytes.now) }
 {

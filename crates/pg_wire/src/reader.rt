@@ -228,6 +228,7 @@ fn read_list<'a>(
 
 /// The next vertex, whether its measure is top, and the bytes behind it; else the list is in the row.
 #[tactic(auto, unfolding(crate::specs::Mirrors::Skipping::measured_at, crate::specs::Mirrors::Reading::tagged_at))]
+#[inline(always)]
 fn read_value<'a>(
     kind: ValueKind,
     width: u32,
@@ -305,6 +306,7 @@ impl<'a> ValuesReader<'a> {
 
     /// The next vertex, and whether its measure is top; if not, its list is in the row, which has as many places as
     /// the width says. None where no value is left; then, and where it is top, the row stays.
+    #[inline(always)]
     pub fn next(&mut self, row: &mut [u32]) -> Option<(u32, bool)>
         requires { length row.old ≡ self.old.width }
         ensures of { (self.new.kind ≡ self.old.kind) × (self.new.width ≡ self.old.width) }

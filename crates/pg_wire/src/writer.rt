@@ -130,6 +130,7 @@ impl ValuesWriter {
 
     /// Appends a vertex whose measure is a list, of as many numbers as the width says; false where the frame would
     /// be longer than a frame may be. Where it answers false or memory runs out, all is as before.
+    #[inline(always)]
     pub fn push_list(
         &mut self,
         vertex: u32,

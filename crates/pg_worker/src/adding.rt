@@ -68,6 +68,7 @@ fn is_greatest(bounds: &[(u32, u32)], priority: u32) -> bool {
 
 /// Looks at a new vertex: it waits where its first choice doesn't serve it. In this generation it is looked at again only
 /// if its priority is the greatest odd one.
+#[inline(always)]
 fn look<G: Lines>(map: &MeasureMap, lines: &G, notes: &mut Notes, v: Vertex)
     requires held { IsSome (G.line lines.now v) }
     requires within { AreWithin (length map.now.measures) (G.line lines.now) }
@@ -87,6 +88,7 @@ fn look<G: Lines>(map: &MeasureMap, lines: &G, notes: &mut Notes, v: Vertex)
 }
 
 /// Adds a vertex above those of the part, for which there is room.
+#[inline(always)]
 pub(crate) fn add_line(
     map: &MeasureMap,
     part: &mut Part,

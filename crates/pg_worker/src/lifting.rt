@@ -57,6 +57,7 @@ pub(crate) fn take<G: Lines>(
 }
 
 /// Lifts a vertex that `settle` said to be ready.
+#[inline(always)]
 pub(crate) fn lift_ready<G: Lines>(
     map: &mut MeasureMap,
     lines: &G,
@@ -247,6 +248,7 @@ fn fits(measure: View, bounds: &Bounds) -> bool
 }
 
 /// Takes the measure of a vertex by its number, if there is such a vertex and the measure fits. True exactly if it rose.
+#[inline(always)]
 pub(crate) fn receive<G: Lines>(
     map: &mut MeasureMap,
     lines: &G,

@@ -16,6 +16,7 @@ use pg_map::{Lines, MeasureMap};
 
 /// A successor that serves the vertex, and true; if none does, the least of them, and false. The one that is given doesn't
 /// serve it, so that only those below the least so far may.
+#[inline(always)]
 fn choose<G: Lines>(map: &MeasureMap, lines: &G, v: Vertex, given: Vertex) -> (Vertex, bool)
     requires among { IsAmong given (line_at (G.line lines.now) v).successors }
     requires unserved { ¬ (IsServedBy map.now.bounds (G.line lines.now) map.now.measures v given) }
@@ -41,6 +42,7 @@ fn choose<G: Lines>(map: &MeasureMap, lines: &G, v: Vertex, given: Vertex) -> (V
 }
 
 /// Whether a vertex that waits is served. What is remembered of it is then what serves it, or else its best successor.
+#[inline(always)]
 pub(crate) fn settle<G: Lines>(map: &MeasureMap, lines: &G, notes: &mut Notes, v: Vertex) -> bool
     requires held { IsSome (G.line lines.now v) }
     requires within { AreWithin (length map.now.measures) (G.line lines.now) }
@@ -71,6 +73,7 @@ pub(crate) fn settle<G: Lines>(map: &MeasureMap, lines: &G, notes: &mut Notes, v
 }
 
 /// Takes from the list until a vertex isn't served. That one no longer waits, and is to be lifted or to wait again.
+#[inline(always)]
 pub(crate) fn next_ready<G: Lines>(map: &MeasureMap, lines: &G, notes: &mut Notes) -> Option<Vertex>
     requires within { AreWithin (length map.now.measures) (G.line lines.now) }
     requires notes { AreNotes (length map.now.measures) (G.line lines.now) notes.old }

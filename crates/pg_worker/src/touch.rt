@@ -13,6 +13,7 @@ use pg_map::{Lines, MeasureMap};
 
 /// Looks at the vertex u, whose successor x has risen. It waits from then on if x was what served it, or if x no
 /// longer serves it where all have to.
+#[inline(always)]
 pub(crate) fn touch<G: Lines>(map: &MeasureMap, lines: &G, notes: &mut Notes, u: Vertex, x: Vertex)
     requires held { IsSome (G.line lines.now u) }
     requires within { AreWithin (length map.now.measures) (G.line lines.now) }
@@ -43,6 +44,7 @@ pub(crate) fn touch<G: Lines>(map: &MeasureMap, lines: &G, notes: &mut Notes, u:
 }
 
 /// Looks at each vertex that x, which has risen, is a successor of.
+#[inline(always)]
 pub(crate) fn touch_all<G: Lines>(
     map: &MeasureMap,
     lines: &G,
