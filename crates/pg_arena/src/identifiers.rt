@@ -66,7 +66,7 @@ impl Identifiers {
     {
         self.list.reserve(1)?;
         note(self.alloc, &self.list, &mut self.set, identifier)?;
-        self.list.push(identifier).unwrap();
+        self.list.push_reserved(identifier);
         Ok(())
     }
 

@@ -118,7 +118,7 @@ impl Lines {
             from: from as u32,
             to: to as u32,
         };
-        self.entries.push(entry).unwrap();
+        self.entries.push_reserved(entry);
         Ok(())
     }
 
@@ -156,7 +156,7 @@ fn put_all(targets: &mut Vec<Vertex>, identifiers: &[u32])
     ensures { targets.new.items ≡ targets.old.items ++ identifiers.now }
 {
     for identifier in identifiers {
-        targets.push(Vertex(*identifier)).unwrap();
+        targets.push_reserved(Vertex(*identifier));
     }
 }
 

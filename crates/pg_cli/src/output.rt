@@ -20,6 +20,7 @@ type ShortLine = ArrayVec<u8, 64>;
 const MOST: usize = 28;
 
 /// Appends a number in decimal digits. Most components are of one digit. None where it doesn't fit.
+#[inline(always)]
 fn add_number(line: &mut ShortLine, number: u32) -> Option<()>
     ensures { OnSome result (line.new.items ≡ line.old.items ++ decimal number) }
 {

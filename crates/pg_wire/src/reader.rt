@@ -207,6 +207,7 @@ fn read_places<'a>(
 
 /// The next list, written into the row.
 #[tactic(auto, using(crate::proofs::Skip::pairs_read), unfolding(crate::specs::Mirrors::Skipping::list_at, crate::specs::Mirrors::Reading::counted_at))]
+#[inline(always)]
 fn read_list<'a>(
     kind: ValueKind,
     width: u32,

@@ -73,6 +73,7 @@ fn put_tagged(vertex: u32, tag: u8, out: &mut Vec<u8>) -> Result<(), AllocError>
     out.extend_from_slice(&[a, b, c, d, tag])
 }
 
+#[inline(always)]
 fn put_list(kind: ValueKind, vertex: u32, list: &[u32], out: &mut Vec<u8>) -> Result<(), AllocError>
     requires { length list.now ≤ 32768 }
     ensures ok { OnOk result (out.new.items ≡ out.old.items ++ spelled_as kind (vertex, Some list.now)) }

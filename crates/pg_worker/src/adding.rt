@@ -38,6 +38,7 @@ fn greatest<G: Lines>(map: &MeasureMap, lines: &G, v: Vertex) -> Vertex
 }
 
 /// What to remember of a vertex at first: any successor where Even owns it, the greatest where Odd does.
+#[inline(always)]
 fn first_best<G: Lines>(map: &MeasureMap, lines: &G, v: Vertex) -> Vertex
     requires held { IsSome (G.line lines.now v) }
     requires within { AreWithin (length map.now.measures) (G.line lines.now) }

@@ -86,11 +86,11 @@ invariant_of-self-2 c =
     let targets-are : c.put_all.new.targets.items ≡ targets ++ more = search rules in
     let names-are : c.keep.new.names.items ≡ names ++ option_to_list new = search rules in
     let pushed : Entry = record { priority = c.args.priority; owner = c.args.owner; from = c.len-from.result; to = c.len-from.result + length more } in
-    let pushed-are : c.push-2.new.self.items ≡ entries ++ pushed ∷ [] = search rules in
+    let pushed-are : c.push_reserved.new.self.items ≡ entries ++ pushed ∷ [] = search rules in
     let pushed-is : pushed ≡ entry =
     entry_is targets c.args.priority c.args.owner more c.len-from.result (c.len-from.result + length more) (omega (arith, c.self.inside.targets.ok.0))
     (omega (arith, c.self.inside.targets.ok.0)) in
-    let entries-are : c.push-2.new.self.items ≡ entries ++ entry ∷ [] = pushed-are ∙ ap (λ (e : Entry). entries ++ e ∷ []) pushed-is in
+    let entries-are : c.push_reserved.new.self.items ≡ entries ++ entry ∷ [] = pushed-are ∙ ap (λ (e : Entry). entries ++ e ∷ []) pushed-is in
     let line : c.len-line.result ≡ length entries = omega (arith, c.self.inside.entries.ok.0) in
     let placed : IsPlaced names places (length entries) new other = record {
       same = λ v lt. c.keep.ensures.same v (omega (arith, line)) ∙ ap (λ (ps : List (Option ℕ)). place_at ps v) c.make_room.ensures.places;
@@ -117,11 +117,11 @@ returns-clause-ok c =
     let targets-are : c.put_all.new.targets.items ≡ targets ++ more = search rules in
     let names-are : c.keep.new.names.items ≡ names ++ option_to_list new = search rules in
     let pushed : Entry = record { priority = c.args.priority; owner = c.args.owner; from = c.len-from.result; to = c.len-from.result + length more } in
-    let pushed-are : c.push-2.new.self.items ≡ entries ++ pushed ∷ [] = search rules in
+    let pushed-are : c.push_reserved.new.self.items ≡ entries ++ pushed ∷ [] = search rules in
     let pushed-is : pushed ≡ entry =
     entry_is targets c.args.priority c.args.owner more c.len-from.result (c.len-from.result + length more) (omega (arith, c.self.inside.targets.ok.0))
     (omega (arith, c.self.inside.targets.ok.0)) in
-    let entries-are : c.push-2.new.self.items ≡ entries ++ entry ∷ [] = pushed-are ∙ ap (λ (e : Entry). entries ++ e ∷ []) pushed-is in
+    let entries-are : c.push_reserved.new.self.items ≡ entries ++ entry ∷ [] = pushed-are ∙ ap (λ (e : Entry). entries ++ e ∷ []) pushed-is in
     let line : c.len-line.result ≡ length entries = omega (arith, c.self.inside.entries.ok.0) in
     let placed : IsPlaced names places (length entries) new other = record {
       same = λ v lt. c.keep.ensures.same v (omega (arith, line)) ∙ ap (λ (ps : List (Option ℕ)). place_at ps v) c.make_room.ensures.places;
