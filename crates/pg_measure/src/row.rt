@@ -6,7 +6,7 @@ ghost use Rattle.pg_measure.specs.Measures.{ListFits, Fits, ListBelow, ListAtMos
 ghost use Rattle.pg_measure.specs.Mirrors.Rows.{IsLeastCover, measure_of, cleared, FrontAtMost, MissesFront};
 
 /// As many numbers are compared one by one, before the rest is compared in strides: most measures differ early.
-const NEAR: usize = 8;
+const NEAR: usize = 16;
 
 /// How many bounds are of a priority at least `p`.
 pub fn width_from(bounds: &[(u32, u32)], p: u32) -> usize

@@ -22,6 +22,7 @@ use pg_measure::Bounds;
 use pg_wire::{LineHead, VertexLine};
 
 /// The successor whose measure is greatest in the components of priorities at least that of the vertex.
+#[inline(always)]
 fn greatest<G: Lines>(map: &MeasureMap, lines: &G, v: Vertex) -> Vertex
     requires held { IsSome (G.line lines.now v) }
     requires within { AreWithin (length map.now.measures) (G.line lines.now) }

@@ -23,6 +23,7 @@ use pg_measure::{Bounds, Measure, row};
 use std::alloc::{AllocError, Global};
 
 /// Raises the measure of a vertex to at least `m`. True exactly if it rose.
+#[inline(always)]
 pub(crate) fn take<G: Lines>(
     map: &mut MeasureMap,
     lines: &G,
