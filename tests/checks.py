@@ -171,6 +171,28 @@ def solutions_win(program):
     return None
 
 
+def row_lines(first, count, priority):
+    """A row of Even's vertices of one priority, each with the next one as its successor and the last with itself: its lines in
+    a game, and in a solution. Even wins them all, by going on, exactly if the priority is even."""
+    nexts = [(v, min(v + 1, first + count - 1)) for v in range(first, first + count)]
+    game = [f"{v} {priority} 0 {w};\n" for v, w in nexts]
+    return game, [f"{v} 0 {w};\n" if priority % 2 == 0 else f"{v} 1;\n" for v, w in nexts]
+
+
+def long_rows_as_worked_out(program, count=1000):
+    """Measures climb far along a row of odd priority in the game, along one of even priority in its dual, and along both in
+    both; so each way to find the halves of a solution is gone."""
+    for rows in ([(0, 1)], [(0, 2)], [(0, 1), (count, 2)]):
+        parts = [row_lines(first, count, priority) for first, priority in rows]
+        game, wanted = ("".join(line for part in parts for line in part[which]) for which in (0, 1))
+        wanted = f"paritysol {count * len(rows) - 1};\n" + wanted
+        for words in ([], ["--workers", "0"], ["--workers", "5"]):
+            ran = subprocess.run([program, "solve", *words], input=game.encode(), capture_output=True, timeout=120)
+            if ran.returncode != 0 or ran.stdout.decode() != wanted:
+                return f"solve {words} on rows {rows}: status {ran.returncode}, {ran.stdout[:200]!r}"
+    return None
+
+
 def cases(programs):
     """(name, check) of each check."""
     game = b"parity 2;\n0 1 0 1;\n1 3 0 2;\n2 4 0 0;\n"
@@ -200,6 +222,7 @@ def cases(programs):
         yield f"replay on random schedules ({name})", lambda p=program: replays_as_defined(p)
         yield f"solutions of the examples ({name})", lambda p=program: solutions_win(p)
         yield f"synth on random automata ({name})", lambda p=program: controllers_as_defined(p)
+        yield f"solve on long rows ({name})", lambda p=program: long_rows_as_worked_out(p)
     yield "circuits of the examples", lambda: circuits_are_read(programs[0])
     # the program as LLVM builds it takes its memory by malloc and realloc alone
     for command, text, wanted in (("measure", game, b"0 1,1;\n1 1,0;\n2 0,0;\n"), ("solve", three, solution),

@@ -4,21 +4,28 @@ use Rattle.std.proofs.lemmas.List.{same_lists, get_or_default}
 use Rattle.std.specs.Prelude.{IfSome, IfErr, OnOk}
 use Rattle.std.specs.Io.KnownBytes.{Appends}
 use Rattle.pg_arena.specs.declared.player.Player.{Player}
-use Rattle.pg_arena.specs.Games.{GameVertex, dual}
+use Rattle.std.proofs.Common.{All, IsSome, get_or, refl, []}
+use Rattle.std.proofs.lemmas.List.Elements.{All-nil}
+use Rattle.pg_arena.specs.declared.player.Player.TheVariants.{Even}
+use Rattle.pg_arena.specs.Games.{GameVertex, IsGame, dual}
+use Rattle.pg_measure.specs.Measures.{BoundList, MeasureValue}
 use Rattle.pg_map.specs.Lines.{Line, game_line}
-use Rattle.pg_map.specs.Maps.{MapValue}
+use Rattle.pg_map.specs.Maps.{MapValue, IsClosed, measure_at}
+use Rattle.pg_text.specs.Solutions.{winner}
+use Rattle.pg_check.specs.Strategies.{NoListInBoth}
+use Rattle.pg_coord.specs.Solving.{AreTop}
 use Rattle.pg_worker.specs.Cuts.{CutValue, IsEvenCut}
 use Rattle.pg_text.specs.declared.answer.Answer.{Answer}
 use Rattle.pg_aiger.specs.declared.fault.AigerFault.TheVariants as aiger
 use Rattle.pg_synth.specs.declared.fault.SynthFault.TheVariants as synth
 use Rattle.pg_coord.specs.Told.{Reply, TellReplies, IsLeastOverReplies}
-use Rattle.pg_check.specs.Halves.{ForEachMapOf}
+use Rattle.pg_check.specs.Halves.{ForEachMapOf, IsHalfOf}
 use Rattle.pg_cli.specs.Linked.{IsLeastOverTold}
 use Rattle.pg_cli.specs.Measuring.{Finding, IsClosedMapOf, IsMeasureOf, IsMeasured}
 use Rattle.pg_cli.specs.Solving.{IsSolvedBy, IsSolved, IsUndecidedIn, IsUndecidedAt, RefusesSolve}
 use Rattle.pg_cli.specs.Synthesising.{IsWonFor, IsRealized, IsSynthesised, IsUndecidedFor, HasLargeMachine, RefusesSynth}
 use Rattle.pg_cli.specs.Answers.{IsAnswer, HasNoAnswer, PrintsBy, RefusesBy, Prints, Refuses}
-use Rattle.pg_cli.specs.Mirrors.Solver.{IsFoundIf, IsHalfOfFound}
+use Rattle.pg_cli.specs.Mirrors.Solver.{IsFoundIf, IsFoundAbove, AreHalves}
 use Rattle.pg_cli.specs.declared.command.Command.{Command}
 use Rattle.pg_cli.specs.declared.command.Command.TheVariants.{Measure, Solve, Check, Replay, Game, Synth}
 use Rattle.pg_cli.specs.declared.fault.CliFault.{CliFault}
@@ -49,11 +56,53 @@ pub found_later : (are_honest later : Type 0) → (are_honest → later) → (ga
 found_later are_honest later kept game map f = record { closed = f.closed; least = λ honest. f.least (kept honest) }
 
 -- what is so of each map that the half may be of is so of the one that was found
-pub of_half : (are_honest later : Type 0) (game : List GameVertex) (half : List Answer) (odd : MapValue)
-    → (h : IsHalfOfFound (IsFoundIf are_honest) game half) → IsFoundIf later (dual game) odd
-    → (P : MapValue → Type 0) → ForEachMapOf game half odd P → P h.even
-of_half are_honest later game half odd h of_dual P each =
-    each h.even h.half_of (record { game_map = h.found.closed.closed; dual_map = of_dual.closed.closed })
+pub of_half : (are_honest : Type 0) (game : List GameVertex) (half : List Answer) (odd : MapValue)
+    → (h : AreHalves (IsFoundIf are_honest) game (half, odd)) → (P : MapValue → Type 0) → ForEachMapOf game half odd P → P h.half.even
+of_half are_honest game half odd h P each =
+    each h.half.even h.half.half_of (record { game_map = h.half.found.closed.closed; dual_map = h.odd.closed.closed })
+
+pub halves_later : (are_honest later : Type 0) → (are_honest → later) → (game : List GameVertex) (halves : List Answer × MapValue)
+    → AreHalves (IsFoundIf later) game halves → AreHalves (IsFoundIf are_honest) game halves
+halves_later are_honest later kept game halves h = record {
+  half = record { even = h.half.even; found = found_later are_honest later kept game h.half.even h.half.found; half_of = h.half.half_of };
+  odd = found_later are_honest later kept (dual game) halves.1 h.odd;
+}
+
+pub at_some : {X : Type 0} (o : Option X) (x : X) (P : X → Type 0) → o ≡ Some x → IfSome o P → P x
+at_some {X} o x P is p = subst (λ (it : Option X). IfSome it P) is p
+
+-- ---- vertices at which each closed map of the game, or of its dual, has top
+
+top_unless : (m : MeasureValue) → ¬ IsSome m → m ≡ None
+top_unless None isnt = refl
+top_unless (Some xs) isnt = absurd (isnt refl)
+
+-- where Even wins by the half of a closed map
+pub top_in_dual : NoListInBoth → (game : List GameVertex) (even : MapValue) (half : List Answer) (bounds : BoundList) (tops : List ℕ)
+    → IsGame game → IsClosed even.bounds (game_line game) even.measures → IsHalfOf game even half
+    → All (λ v. v < length game) tops → All (λ v. winner half v ≡ Even) tops → AreTop (dual game) bounds tops
+top_in_dual neither game even half bounds tops is closed half_of within won h map dual_closed k d lt =
+    let v = get_or tops k d in
+    let listed = (half_of.answers v (within k d lt)).wins.0 (won k d lt) in
+    top_unless (measure_at h v) (λ also. neither game even (record { bounds = bounds; measures = h }) is
+    (record { game_map = closed; dual_map = dual_closed }) v (within k d lt) (listed, also))
+
+-- where a closed map of the dual has a list
+pub top_in_game : NoListInBoth → (game : List GameVertex) (odd : MapValue) (bounds : BoundList) (tops : List ℕ)
+    → IsGame game → IsClosed odd.bounds (game_line (dual game)) odd.measures
+    → All (λ v. v < length game) tops → All (λ v. IsSome (measure_at odd.measures v)) tops → AreTop game bounds tops
+top_in_game neither game odd bounds tops is closed within listed h map game_closed k d lt =
+    let v = get_or tops k d in
+    top_unless (measure_at h v) (λ also. neither game (record { bounds = bounds; measures = h }) odd is
+    (record { game_map = game_closed; dual_map = closed }) v (within k d lt) (also, listed k d lt))
+
+pub top_at_none : (game : List GameVertex) (bounds : BoundList) → AreTop game bounds []
+top_at_none game bounds h map closed = All-nil (λ v. measure_at h v ≡ None)
+
+-- what is found above such vertices is what is found
+pub found_above : (are_honest later : Type 0) → (are_honest → later) → (game : List GameVertex) (tops : List ℕ) (map : MapValue)
+    → IsFoundAbove later game tops map → AreTop game map.bounds tops → IsFoundIf are_honest game map
+found_above are_honest later kept game tops map f top = record { closed = f.closed; least = λ honest. f.least (kept honest) top }
 
 -- after so many rounds one was made
 pub first_round : (lines : ℕ → Option Line) (rounds links : ℕ) (replies : ℕ → List Reply) (map : MapValue) → 1 ≤ rounds

@@ -1,24 +1,37 @@
 //! Solving over links: maps of a game and of its dual.
 
-ghost use Rattle.std.specs.Prelude.{◌≡◌, ◌≤◌, length, All, IfOk, IfErr, OnOk};
+ghost use Rattle.std.specs.Prelude.{◌≡◌, ◌+◌, ◌<◌, ◌≤◌, ◌^◌, length, All, IfOk, IfErr, IfSome, IfNone, OnOk, IsSome};
+ghost use Rattle.pg_arena.specs.declared.player.Player.TheVariants.{Even};
 ghost use Rattle.pg_arena.specs.Games.{HasPrioritiesUpTo, dual};
-ghost use Rattle.pg_text.specs.Solutions.{IsSolution};
+ghost use Rattle.pg_map.specs.Maps.{measure_at};
+ghost use Rattle.pg_text.specs.Solutions.{IsSolution, winner};
 ghost use Rattle.pg_check.specs.Soundness.{IsSound};
+ghost use Rattle.pg_worker.specs.Cuts.{IsEvenCut};
+ghost use Rattle.pg_coord.specs.Solving.{AreTop};
 ghost use Rattle.pg_cli.specs.Linked.{IsLeastOverTold};
+ghost use Rattle.pg_cli.specs.Measuring.{IsClosedMapOf, IsMeasureOf};
 ghost use Rattle.pg_cli.specs.Solving.{IsSolvedBy};
-ghost use Rattle.pg_cli.specs.Mirrors.Solver.{IsFoundIf, IsHalfOfFound, IsUnsolved};
+ghost use Rattle.pg_cli.specs.Mirrors.Solver.{IsFoundIf, IsHalfOfFound, IsFoundAbove, AreHalves, IsUnsolved};
 
 use crate::fault::CliFault;
-use pg_arena::{Game, dual};
+use pg_arena::{Game, Player, Vertex, dual};
 use pg_check::{even_half, with_odd_half};
-use pg_coord::{Link, solve};
-use pg_map::MeasureMap;
+use pg_coord::{Link, solve, solve_within};
+use pg_map::{MeasureMap, View};
 use pg_text::Solution;
 use pg_worker::Cut;
-use std::alloc::Global;
+use std::alloc::{AllocError, Global};
 
 /// How many lifts a worker makes in a turn, at most.
 const BUDGET: u32 = 4_096;
+
+/// The even cut of a game among so many links.
+fn cut_of(alloc: Global, game: &Game, links: usize) -> Result<Cut, AllocError>
+    requires { links ≤ 16 }
+    ensures { IfOk result (IsEvenCut (length game.now) links) }
+{
+    Cut::even(alloc, game.len() as u32, links as u32)
+}
 
 /// A map of a game, solved over links among which the game is cut evenly.
 pub(crate) fn map_of<L: Link>(
@@ -32,33 +45,184 @@ pub(crate) fn map_of<L: Link>(
     ensures honest { OnOk result (All L.is_honest links.old → All L.is_honest links.new) }
     ensures refused { IfErr result (λ fault. fault ≡ CliFault.OutOfMemory) }
 {
-    let cut = Cut::even(alloc, game.len() as u32, links.len() as u32)?;
+    let cut = cut_of(alloc, game, links.len())?;
     let solved = solve(alloc, game, links, &cut, BUDGET)?;
     Ok(solved.map)
 }
 
-/// The half of a solution that a map of a game gives, found over links. The map goes with the call.
-fn half_of<L: Link>(alloc: Global, game: &Game, links: &mut [L]) -> Result<Solution, CliFault>
-    requires { length links.old ≤ 16 }
-    ensures half { IfOk result (IsHalfOfFound (IsFoundIf (All L.is_honest links.old)) game.now) }
+/// How many measures rise before the other side is tried: for each vertex, and for each game.
+const RISES: u64 = 16;
+
+const FIRST_RISES: u64 = 4_096;
+
+/// A map of a game, solved over links among which the game is cut evenly, where it is known that each closed map has top at some
+/// vertices. None where more measures rose than `most_rises`.
+fn map_within<L: Link>(
+    alloc: Global,
+    game: &Game,
+    links: &mut [L],
+    tops: &[Vertex],
+    most_rises: u64,
+) -> Result<Option<MeasureMap>, CliFault>
+    requires few { length links.old ≤ 16 }
+    requires within { All (λ v. v < length game.now) tops.now }
+    ensures found { IfOk result (λ o. IfSome o (IsFoundAbove (All L.is_honest links.old) game.now tops.now)) }
+    ensures limited { IfOk result (λ o. IfNone o (most_rises + 1 < 2 ^ 64)) }
     ensures honest { OnOk result (All L.is_honest links.old → All L.is_honest links.new) }
     ensures refused { IfErr result (λ fault. fault ≡ CliFault.OutOfMemory) }
 {
-    let even = map_of(alloc, game, links)?;
-    Ok(even_half(alloc, game, &even)?)
+    let shares = cut_of(alloc, game, links.len())?;
+    match solve_within(alloc, game, links, &shares, BUDGET, tops, most_rises)? {
+        Some(solved) => Ok(Some(solved.map)),
+        None => Ok(None),
+    }
 }
 
-/// A map of the dual of a game.
-fn map_of_dual<L: Link>(alloc: Global, game: &Game, links: &mut [L]) -> Result<MeasureMap, CliFault>
+/// The vertices that Even wins by the half of a solution of a game.
+fn won_by_even(alloc: Global, game: &Game, half: &Solution) -> Result<Vec<Vertex>, AllocError>
+    requires { length half.now ≡ length game.now }
+    ensures within { IfOk result (λ vs. All (λ v. v < length game.now) vs.items) }
+    ensures won { IfOk result (λ vs. All (λ v. winner half.now v ≡ Even) vs.items) }
+{
+    let mut won = Vec::with_capacity(alloc, game.len())?;
+    for number in 0..game.len() {
+        let v = Vertex(number as u32);
+        if half.winner(v) == Player::Even {
+            won.push(v)?;
+        }
+    }
+    Ok(won)
+}
+
+/// The vertices at which a map has a list.
+fn listed(alloc: Global, map: &MeasureMap) -> Result<Vec<Vertex>, AllocError>
+    ensures within { IfOk result (λ vs. All (λ v. v < length map.now.measures) vs.items) }
+    ensures listed { IfOk result (λ vs. All (λ v. IsSome (measure_at map.now.measures v)) vs.items) }
+{
+    let mut vertices = Vec::with_capacity(alloc, map.len() as usize)?;
+    for number in 0..map.len() {
+        let v = Vertex(number);
+        if let View::List(_) = map.get(v) {
+            vertices.push(v)?;
+        }
+    }
+    Ok(vertices)
+}
+
+/// The half of a solution that a map of a game gives, found over links. The map goes with the call.
+fn half_within<L: Link>(
+    alloc: Global,
+    game: &Game,
+    links: &mut [L],
+    tops: &[Vertex],
+    most_rises: u64,
+) -> Result<Option<Solution>, CliFault>
+    requires few { length links.old ≤ 16 }
+    requires within { All (λ v. v < length game.now) tops.now }
+    ensures half { IfOk result (λ o. IfSome o
+        (IsHalfOfFound (λ game map. IsFoundAbove (All L.is_honest links.old) game tops.now map) game.now)) }
+    ensures limited { IfOk result (λ o. IfNone o (most_rises + 1 < 2 ^ 64)) }
+    ensures honest { OnOk result (All L.is_honest links.old → All L.is_honest links.new) }
+    ensures refused { IfErr result (λ fault. fault ≡ CliFault.OutOfMemory) }
+{
+    match map_within(alloc, game, links, tops, most_rises)? {
+        Some(even) => Ok(Some(even_half(alloc, game, &even)?)),
+        None => Ok(None),
+    }
+}
+
+/// A map of the dual of a game, found over links.
+fn dual_within<L: Link>(
+    alloc: Global,
+    game: &Game,
+    links: &mut [L],
+    tops: &[Vertex],
+    most_rises: u64,
+) -> Result<Option<MeasureMap>, CliFault>
     requires priorities { HasPrioritiesUpTo 65535 game.now }
     requires few { length links.old ≤ 16 }
-    ensures found { IfOk result (IsFoundIf (All L.is_honest links.old) (dual game.now)) }
+    requires within { All (λ v. v < length game.now) tops.now }
+    ensures found { IfOk result (λ o. IfSome o (IsFoundAbove (All L.is_honest links.old) (dual game.now) tops.now)) }
+    ensures limited { IfOk result (λ o. IfNone o (most_rises + 1 < 2 ^ 64)) }
+    ensures honest { OnOk result (All L.is_honest links.old → All L.is_honest links.new) }
     ensures refused { IfErr result (λ fault. fault ≡ CliFault.OutOfMemory) }
 {
     let Ok(dual) = dual(alloc, game) else {
         return Err(CliFault::OutOfMemory);
     };
-    map_of(alloc, &dual, links)
+    map_within(alloc, &dual, links, tops, most_rises)
+}
+
+/// The half of a solution by a map of a game, and then a map of its dual, both found over the same links. Where the first has a
+/// list each closed map of the dual has top, so that the second begins with top there. None where more measures rose in the
+/// first than `most_rises`.
+fn game_first<L: Link>(
+    alloc: Global,
+    game: &Game,
+    links: &mut [L],
+    most_rises: u64,
+) -> Result<Option<(Solution, MeasureMap)>, CliFault>
+    requires priorities { HasPrioritiesUpTo 65535 game.now }
+    requires few { length links.old ≤ 16 }
+    ensures halves { IfOk result (λ o. IfSome o (AreHalves (IsFoundIf (All L.is_honest links.old)) game.now)) }
+    ensures limited { IfOk result (λ o. IfNone o (most_rises + 1 < 2 ^ 64)) }
+    ensures honest { OnOk result (All L.is_honest links.old → All L.is_honest links.new) }
+    ensures refused { IfErr result (λ fault. fault ≡ CliFault.OutOfMemory) }
+{
+    pg_check::laws::no_list_in_both();
+    let _vertices = game.len();
+    let Some(half) = half_within(alloc, game, links, &[], most_rises)? else {
+        return Ok(None);
+    };
+    let tops = won_by_even(alloc, game, &half)?;
+    let odd = dual_within(alloc, game, links, &tops, u64::MAX)?.unwrap();
+    Ok(Some((half, odd)))
+}
+
+/// The same, but the map of the dual is found first.
+fn dual_first<L: Link>(
+    alloc: Global,
+    game: &Game,
+    links: &mut [L],
+    most_rises: u64,
+) -> Result<Option<(Solution, MeasureMap)>, CliFault>
+    requires priorities { HasPrioritiesUpTo 65535 game.now }
+    requires few { length links.old ≤ 16 }
+    ensures halves { IfOk result (λ o. IfSome o (AreHalves (IsFoundIf (All L.is_honest links.old)) game.now)) }
+    ensures honest { OnOk result (All L.is_honest links.old → All L.is_honest links.new) }
+    ensures refused { IfErr result (λ fault. fault ≡ CliFault.OutOfMemory) }
+{
+    pg_check::laws::no_list_in_both();
+    let _vertices = game.len();
+    let Some(odd) = dual_within(alloc, game, links, &[], most_rises)? else {
+        return Ok(None);
+    };
+    let tops = listed(alloc, &odd)?;
+    let half = half_within(alloc, game, links, &tops, u64::MAX)?.unwrap();
+    Ok(Some((half, odd)))
+}
+
+/// The half of a solution by a map of a game, and a map of its dual. One side can be found quickly where measures of the
+/// other climb far, and then tells where those are top: so the game is tried first, then the dual, each until so many measures
+/// rose, and then the game is solved to the end.
+fn halves_of<L: Link>(
+    alloc: Global,
+    game: &Game,
+    links: &mut [L],
+) -> Result<(Solution, MeasureMap), CliFault>
+    requires priorities { HasPrioritiesUpTo 65535 game.now }
+    requires few { length links.old ≤ 16 }
+    ensures halves { IfOk result (AreHalves (IsFoundIf (All L.is_honest links.old)) game.now) }
+    ensures refused { IfErr result (λ fault. fault ≡ CliFault.OutOfMemory) }
+{
+    let most_rises = FIRST_RISES.saturating_add(RISES.saturating_mul(game.len() as u64));
+    if let Some(halves) = game_first(alloc, game, links, most_rises)? {
+        return Ok(halves);
+    }
+    if let Some(halves) = dual_first(alloc, game, links, most_rises)? {
+        return Ok(halves);
+    }
+    Ok(game_first(alloc, game, links, u64::MAX)?.unwrap())
 }
 
 /// The solution of a map of a game and of one of its dual, both found over the same links, one after the other.
@@ -74,7 +238,6 @@ pub(crate) fn solution_of<L: Link>(
     ensures sound { IfOk result (IsSound game.now) }
     ensures refused { IfErr result (IsUnsolved (IsFoundIf (All L.is_honest links.old)) game.now) }
 {
-    let half = half_of(alloc, game, links)?;
-    let odd = map_of_dual(alloc, game, links)?;
+    let (half, odd) = halves_of(alloc, game, links)?;
     Ok(with_odd_half(game, half, &odd)?)
 }

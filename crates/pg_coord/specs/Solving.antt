@@ -1,6 +1,9 @@
 -- Solving over links.
-use Rattle.std.specs.Prelude.{◌≢◌, ℕ, ◌+◌, ◌*◌, ◌⊎◌, length}
-use Rattle.pg_measure.specs.Measures.{BoundList}
+use Rattle.std.specs.Prelude.{◌≡◌, ◌≢◌, ℕ, ◌+◌, ◌*◌, ◌⊎◌, List, length, All, None}
+use Rattle.pg_arena.specs.Games.{GameVertex}
+use Rattle.pg_measure.specs.Measures.{BoundList, MeasureValue}
+use Rattle.pg_map.specs.Lines.{game_line}
+use Rattle.pg_map.specs.Maps.{IsMap, IsClosed, measure_at}
 use Rattle.pg_map.specs.Weights.{list_count}
 use Rattle.pg_worker.specs.Cuts.{CutValue}
 
@@ -12,3 +15,9 @@ IsMismatch vertices links cut = (length cut.numbers ≢ vertices) ⊎ (cut.worke
 -- each list of the bounds, the last time to top
 abbrev pub most_rounds : ℕ → BoundList → ℕ
 most_rounds vertices bounds = 1 + vertices * list_count bounds
+
+-- each closed map of the game has top at these vertices
+abbrev pub AreTop : List GameVertex → BoundList → List ℕ → Type 0
+AreTop game bounds vertices =
+    (h : List MeasureValue) → IsMap bounds (length game) h → IsClosed bounds (game_line game) h
+    → All (λ v. measure_at h v ≡ None) vertices

@@ -1,12 +1,14 @@
 //! Solving over links.
 
-ghost use Rattle.std.specs.Prelude.{false, IsTrue, ◌≡◌, ◌↔◌, ◌+◌, ◌<◌, ◌≤◌, ◌^◌, ℕ, List, length, IfOk, OnOk, All, Err};
+ghost use Rattle.std.specs.Prelude.{false, IsTrue, ◌≡◌, ◌↔◌, ◌+◌, ◌<◌, ◌≤◌, ◌^◌, ℕ, List, length, IfOk, IfSome, IfNone, OnOk, All, None, Err};
+ghost use Rattle.pg_measure.specs.Measures.{MeasureValue};
 ghost use Rattle.pg_measure.specs.Games.{IsBoundsOf};
 ghost use Rattle.pg_map.specs.Lines.{game_line};
-ghost use Rattle.pg_map.specs.Maps.{MapValue, MapAtMost, IsMap, IsClosed, IsLeastProgressMeasure};
+ghost use Rattle.pg_map.specs.Maps.{MapValue, MapAtMost, IsMap, IsClosed, IsLeastProgressMeasure, measure_at};
 ghost use Rattle.pg_map.specs.Weights.{map_weight};
-ghost use Rattle.pg_coord.specs.Solving.{IsMismatch, most_rounds};
+ghost use Rattle.pg_coord.specs.Solving.{IsMismatch, AreTop, most_rounds};
 ghost use Rattle.pg_coord.specs.Told.{Reply, TellReplies, IsLeastOverReplies};
+ghost use Rattle.pg_coord.specs.Mirrors.Boards.{Moves};
 ghost use Rattle.pg_coord.specs.Mirrors.Tasks.{IsClosedMap};
 ghost use Rattle.pg_coord.specs.Mirrors.Seats.{AllSeated};
 ghost use Rattle.pg_coord.specs.Mirrors.Telling.{AllTell};
@@ -19,11 +21,12 @@ use crate::link::Link;
 use crate::pass::settle;
 use crate::round::{ask_all, hear_all, seat_all};
 use crate::seat::{EMPTY, Seat};
+use crate::stop::Stop;
 use crate::task::Task;
-use pg_arena::Game;
-use pg_map::MeasureMap;
+use pg_arena::{Game, Vertex};
+use pg_map::{MeasureMap, View};
 use pg_worker::Cut;
-use std::alloc::{AllocError, Global};
+use std::alloc::Global;
 
 /// What `solve` found, and after how many rounds, restarts of links and links given up. The counts stop at
 /// 18,446,744,073,709,551,615.
@@ -62,7 +65,21 @@ fn are_abandoned(seats: &[Seat]) -> bool
     seats.iter().all(|seat| !seat.in_use)
 }
 
-/// Makes rounds until nothing rises in one, by a row of as many places as there are bounds: how many.
+/// Raises vertices to top before the first round, in which they are sent to those that hold or see them.
+fn start_at(board: &mut Board, tops: &[Vertex])
+    requires { All (λ v. v < length board.old.map.measures) tops.now }
+    ensures moves { Moves board.old board.new }
+    ensures least { (h : List MeasureValue) → MapAtMost board.old.map.measures h
+        → All (λ v. measure_at h v ≡ None) tops.now → MapAtMost board.new.map.measures h }
+{
+    for v in tops {
+        board.raise(*v, View::Top);
+    }
+    board.by_lifts = true;
+}
+
+/// Makes rounds until nothing rises in one, by a row of as many places as there are bounds: how many. They stop before that
+/// where more measures rose than `most_rises`, but not where no link is in use.
 fn make_rounds<L: Link>(
     task: &Task<'_>,
     links: &mut [L],
@@ -70,7 +87,8 @@ fn make_rounds<L: Link>(
     board: &mut Board,
     buffer: &mut Vec<u8>,
     row: &mut [u32],
-) -> Result<u64, AllocError>
+    most_rises: u64,
+) -> Result<u64, Stop>
     requires seats { length seats.old ≡ length links.old }
     requires few { length links.old < 2 ^ 32 }
     requires bounds { board.old.map.bounds ≡ task.now.bounds }
@@ -85,11 +103,14 @@ fn make_rounds<L: Link>(
         → ((h : MapValue) → IsClosedMap task.now h → MapAtMost board.old.map.measures h.measures)
         → (h : MapValue) → IsClosedMap task.now h → MapAtMost board.new.map.measures h.measures) }
     ensures honest { OnOk result (All L.is_honest links.old → All L.is_honest links.new) }
+    ensures limit { result ≡ Err Stop.Limit → All L.is_honest links.old → All L.is_honest links.new }
+    ensures limited { result ≡ Err Stop.Limit → most_rises + 1 < 2 ^ 64 }
     ensures told { IfOk result (λ n. (replies : ℕ → List Reply) → AllTell L.told task.now seats.old links.old replies
         → ((h : MapValue) → IsClosedMap task.now h → MapAtMost board.old.map.measures h.measures)
         → IsLeastOverReplies (game_line task.now.game) n (length links.old) replies board.new.map) }
 {
     let mut rounds = 0u64;
+    let mut rises = 0u64;
     'rounds: loop {
         rounds = rounds.saturating_add(1);
         ask_all(task, links, seats, board, buffer)?;
@@ -100,41 +121,62 @@ fn make_rounds<L: Link>(
             return Ok(rounds);
         }
         if are_abandoned(seats) {
-            return finish(task, board, rounds);
+            return Ok(finish(task, board, rounds)?);
+        }
+        rises = rises.saturating_add(board.risen.as_slice().len() as u64);
+        if rises > most_rises {
+            return Err(Stop::Limit);
         }
     }
 }
 
-/// Solves a task over links.
-fn work<L: Link>(task: &Task<'_>, links: &mut [L]) -> Result<Solved, AllocError>
-    requires { length links.old < 2 ^ 32 }
+/// Solves a task over links, where it is known that each closed map has top at some vertices.
+fn work<L: Link>(
+    task: &Task<'_>,
+    links: &mut [L],
+    tops: &[Vertex],
+    most_rises: u64,
+) -> Result<Solved, Stop>
+    requires few { length links.old < 2 ^ 32 }
+    requires within { All (λ v. v < length task.now.game) tops.now }
     ensures bounds { IfOk result (λ s. s.map.bounds ≡ task.now.bounds) }
     ensures map { IfOk result (λ s. IsMap s.map.bounds (length task.now.game) s.map.measures) }
     ensures closed { IfOk result (λ s. IsClosed s.map.bounds (game_line task.now.game) s.map.measures) }
     ensures rounds { IfOk result (λ s. (1 ≤ s.rounds) × (s.rounds ≤ most_rounds (length task.now.game) task.now.bounds)) }
-    ensures least { IfOk result (λ s. All L.is_honest links.old
+    ensures least { IfOk result (λ s. All L.is_honest links.old → AreTop task.now.game task.now.bounds tops.now
         → IsLeastProgressMeasure s.map.bounds (game_line task.now.game) s.map.measures) }
     ensures honest { OnOk result (All L.is_honest links.old → All L.is_honest links.new) }
-    ensures told { IfOk result (λ s. (replies : ℕ → List Reply)
+    ensures limit { result ≡ Err Stop.Limit → All L.is_honest links.old → All L.is_honest links.new }
+    ensures limited { result ≡ Err Stop.Limit → most_rises + 1 < 2 ^ 64 }
+    ensures told { IfOk result (λ s. AreTop task.now.game task.now.bounds tops.now → (replies : ℕ → List Reply)
         → TellReplies L.told task.now.bounds task.now.cut links.old replies
         → IsLeastOverReplies (game_line task.now.game) s.rounds (length links.old) replies s.map) }
 {
     let mut board = Board::new(task)?;
+    start_at(&mut board, tops);
     let mut buffer = Vec::new(task.alloc());
     let mut cells = vec![in task.alloc(); 0; task.width() as usize]?;
     let row = cells.as_mut_slice();
     let mut places = vec![in task.alloc(); EMPTY; links.len()]?;
     let seats = places.as_mut_slice();
     seat_all(task, links, seats, &mut buffer)?;
-    let rounds = make_rounds(task, links, seats, &mut board, &mut buffer, row)?;
-    let restarts = restarts(seats);
-    let abandoned = abandoned(seats);
-    Ok(Solved {
-        map: board.map,
-        rounds,
-        restarts,
-        abandoned,
-    })
+    match make_rounds(task, links, seats, &mut board, &mut buffer, row, most_rises) {
+        Ok(rounds) => Ok(Solved {
+            map: board.map,
+            rounds,
+            restarts: restarts(seats),
+            abandoned: abandoned(seats),
+        }),
+        Err(stop) => Err(stop),
+    }
+}
+
+/// Whether the cut is over the game's vertices and as many workers as there are links.
+fn fits(cut: &Cut, game: &Game, links: usize) -> bool
+    ensures mismatch { result ≡ false ↔ IsMismatch (length game.now) links cut.now }
+    ensures few { IsTrue result → links < 2 ^ 32 }
+{
+    cut.vertices() == game.len() && cut.workers() as usize == links
 }
 
 /// Solves a game over links: worker k + 1 of the cut is behind link k, and makes at most `budget` lifts in a turn.
@@ -165,9 +207,53 @@ pub fn solve<L: Link>(
     ensures honest { OnOk result (All L.is_honest links.old → All L.is_honest links.new) }
     ensures mismatch { result ≡ Err CutMismatch ↔ IsMismatch (length game.now) (length links.old) cut.now }
 {
-    if cut.vertices() != game.len() || cut.workers() as usize != links.len() {
+    if !fits(cut, game, links.len()) {
         return Err(CoordFault::CutMismatch);
     }
     let task = Task::new(alloc, game, cut, budget)?;
-    Ok(work(&task, links)?)
+    match work(&task, links, &[], u64::MAX) {
+        Ok(solved) => Ok(solved),
+        // so many measures never rise
+        Err(_) => Err(CoordFault::OutOfMemory),
+    }
+}
+
+/// Solves a game as `solve` does, where it is known that each closed map has top at some vertices: the map begins with top
+/// there. It is given up where more than `most_rises` measures rose in rounds over links and the map isn't closed yet; then
+/// there is no answer, and the links may be used again. It is never given up where `most_rises` is `u64::MAX`.
+///
+/// The map is closed whatever the links answer, and also where a closed map has a list at one of these vertices; over honest links
+/// it is the least progress measure, if none has.
+///
+/// Faults: as for `solve`.
+pub fn solve_within<L: Link>(
+    alloc: Global,
+    game: &Game,
+    links: &mut [L],
+    cut: &Cut,
+    budget: u32,
+    tops: &[Vertex],
+    most_rises: u64,
+) -> Result<Option<Solved>, CoordFault>
+    requires { All (λ v. v < length game.now) tops.now }
+    ensures bounds { IfOk result (λ o. IfSome o (λ s. IsBoundsOf game.now s.map.bounds)) }
+    ensures map { IfOk result (λ o. IfSome o (λ s. IsMap s.map.bounds (length game.now) s.map.measures)) }
+    ensures closed { IfOk result (λ o. IfSome o (λ s. IsClosed s.map.bounds (game_line game.now) s.map.measures)) }
+    ensures rounds { IfOk result (λ o. IfSome o (λ s. (1 ≤ s.rounds)
+        × (s.rounds ≤ most_rounds (length game.now) s.map.bounds))) }
+    ensures least { IfOk result (λ o. IfSome o (λ s. All L.is_honest links.old → AreTop game.now s.map.bounds tops.now
+        → IsLeastProgressMeasure s.map.bounds (game_line game.now) s.map.measures)) }
+    ensures limited { IfOk result (λ o. IfNone o (most_rises + 1 < 2 ^ 64)) }
+    ensures honest { OnOk result (All L.is_honest links.old → All L.is_honest links.new) }
+    ensures mismatch { result ≡ Err CutMismatch ↔ IsMismatch (length game.now) (length links.old) cut.now }
+{
+    if !fits(cut, game, links.len()) {
+        return Err(CoordFault::CutMismatch);
+    }
+    let task = Task::new(alloc, game, cut, budget)?;
+    match work(&task, links, tops, most_rises) {
+        Ok(solved) => Ok(Some(solved)),
+        Err(Stop::Limit) => Ok(None),
+        Err(Stop::OutOfMemory) => Err(CoordFault::OutOfMemory),
+    }
 }

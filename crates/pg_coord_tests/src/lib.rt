@@ -15,3 +15,5 @@ mod solving;
 mod told;
 #[cfg(test)]
 mod tools;
+#[cfg(test)]
+mod within;

@@ -1,7 +1,7 @@
 //! The game, and calls that test what `solve` answers.
 
 use pg_arena::{Game, GameBuilder, Player, Vertex};
-use pg_coord::{CoordFault, Link, Solved, solve};
+use pg_coord::{CoordFault, Link, Solved, solve, solve_within};
 use pg_map::View;
 use pg_worker::Cut;
 use std::alloc::Global;
@@ -55,6 +55,22 @@ pub fn solves<L: Link>(
     budget: u32,
 ) -> Result<Option<(u64, u64, u64)>, Fail> {
     solves_game(alloc, &game(alloc)?, links, budget)
+}
+
+/// Solves the game over these links, where the map begins with top at the first vertex, and gives up where more measures rose:
+/// how many rounds, restarts and links given up there were, where that gives top at both vertices.
+pub fn solves_within<L: Link>(
+    alloc: Global,
+    links: &mut [L],
+    most_rises: u64,
+) -> Result<Option<(u64, u64, u64)>, Fail> {
+    let game = game(alloc)?;
+    let cut = Cut::even(alloc, 2, u32::try_from(links.len())?)?;
+    let tops: &[Vertex] = if game.len() == 2 { &[Vertex(0)] } else { &[] };
+    match solve_within(alloc, &game, links, &cut, 4096, tops, most_rises)? {
+        Some(solved) => Ok(counts(&solved)),
+        None => Ok(None),
+    }
 }
 
 /// Whether a cut of so many vertices among so many workers is refused.

@@ -1,7 +1,6 @@
-use Rattle.std.proofs.Common.{◌≡◌, ◌+◌, ◌≤◌, ℕ, length, drop, rules, ap, subst, refl, ◌∙◌, arith}
-use Rattle.std.specs.Prelude.{Result, Ok, Err, IfOk, OnOk}
+use Rattle.std.proofs.Common.{◌≡◌, ◌+◌, ◌≤◌, ℕ, length, drop, rules, ap, ◌∙◌, arith}
 use Rattle.pg_map.specs.Lines.{game_line}
-use Rattle.pg_map.specs.Maps.{MapValue, IsMap, IsClosed, StaysUnder}
+use Rattle.pg_map.specs.Maps.{MapValue, IsClosed, StaysUnder}
 use Rattle.pg_map.specs.Weights.{map_weight}
 use Rattle.pg_coord.proofs.Moving.{moves_more}
 use Rattle.pg_coord.proofs.Seating.{all_seated_above}
@@ -112,24 +111,9 @@ returns-then-not-board-clause-told g c = λ replies tell under.
     c.args.board.now.map.measures after.map all
     count (second.bounds ∙ first.bounds ∙ begun_bounds) (second.size ∙ first.size ∙ begun_size) closed under
 
-if_ok : {T E : Type 0} (r : Result T E) (P Q : T → Type 0) → ((x : T) → P x → Q x) → IfOk r P → IfOk r Q
-if_ok (Ok x) P Q f p = f x p
-if_ok (Err e) P Q f p = p
-
-on_ok : {T E : Type 0} (r : Result T E) (P : Type 0) → P → OnOk r P
-on_ok (Ok x) P p = p
-on_ok (Err e) P p = tt
-
-if_told : {T E : Type 0} (r : Result T E) (Q : T → Type 0) → ((x : T) → r ≡ Ok x → Q x) → IfOk r Q
-if_told (Ok x) Q f = f x refl
-if_told (Err e) Q f = tt
-
-at_ok : {T E : Type 0} (r : Result T E) (x : T) (P : Type 0) → r ≡ Ok x → OnOk r P → P
-at_ok {T} {E} r x P e p = subst (λ (s : Result T E). OnOk s P) e p
-
 pub returns-then-are_abandoned-clause-honest : goal.returns-then-are_abandoned-clause-honest
 returns-then-are_abandoned-clause-honest g c =
-    on_ok c.finish.result _ (λ h. c.in_ok-hear_all.ensures.honest (c.in_ok-ask_all.ensures.honest (c.rounds.invariant.honest_still h)))
+    λ h. c.in_ok-hear_all.ensures.honest (c.in_ok-ask_all.ensures.honest (c.rounds.invariant.honest_still h))
 
 pub returns-then-are_abandoned-clause-rounds : goal.returns-then-are_abandoned-clause-rounds
 returns-then-are_abandoned-clause-rounds g c =
@@ -141,7 +125,8 @@ returns-then-are_abandoned-clause-rounds g c =
     let e : map_weight begun.map.bounds begun.map.measures ≡ map_weight before.map.bounds before.map.measures = ap (λ (m : MapValue). map_weight m.bounds m.measures) c.begin.ensures.map in
     let k = c.rounds.invariant.rounds in
     let s : c.saturating_add-rounds.result ≤ c.rounds.rounds + 1 = omega arith in
-    if_ok c.finish.result _ _ (λ n r. (r.0, let few = r.1 in omega (arith, few, w, e, k, s))) c.finish.ensures.rounds
+    let r = c.in_ok-finish.ensures.rounds in
+    (r.0, let few = r.1 in omega (arith, few, w, e, k, s))
 
 pub returns-then-are_abandoned-clause-least : goal.returns-then-are_abandoned-clause-least
 returns-then-are_abandoned-clause-least g c =
@@ -158,15 +143,16 @@ returns-then-are_abandoned-clause-least g c =
     let begun_bounds : begun.map.bounds ≡ task.bounds = ap (λ (m : MapValue). m.bounds) same ∙ inv.bounds in
     let begun_size : length begun.map.measures ≡ length task.game = ap (λ (m : MapValue). length m.measures) same ∙ inv.size in
     let lifted : StaysUnder heard.map.bounds (game_line task.game) heard.map.measures after.map.measures = rw (← c.game.ensures.value) c.settle.ensures.under in
-    on_ok c.finish.result _ (λ h s l m closed.
+    λ h s l m closed.
     let asked = c.in_ok-ask_all.ensures.seated (inv.honest_still h) (inv.seated h s) in
     let round = lifts_under task heard.map after.map m (first.bounds ∙ begun_bounds) (first.size ∙ begun_size) lifted closed
     (c.in_ok-hear_all.ensures.least (c.in_ok-ask_all.ensures.honest (inv.honest_still h)) (rw same asked) m closed (rw same (inv.least h s l m closed))) in
-    lifts_under task after.map end.map m (second.bounds ∙ first.bounds ∙ begun_bounds) (second.size ∙ first.size ∙ begun_size) c.finish.ensures.under closed round)
+    lifts_under task after.map end.map m (second.bounds ∙ first.bounds ∙ begun_bounds) (second.size ∙ first.size ∙ begun_size) c.in_ok-finish.ensures.under closed round
 
 pub returns-then-are_abandoned-clause-told : goal.returns-then-are_abandoned-clause-told
 returns-then-are_abandoned-clause-told g c =
-    if_told c.finish.result _ (λ n is replies tell under.
+    λ replies tell under.
+    let n = c.in_ok-finish.field-0 in
     let inv = c.rounds.invariant in
     let task = c.args.task.now in
     let before = c.rounds.board in
@@ -197,8 +183,11 @@ returns-then-are_abandoned-clause-told g c =
     let unused = c.are_abandoned.ensures.0 c.if-are_abandoned.true in
     let end = c.finish.new.board in
     let over = ended g.L.Link.told task replies c.saturating_add-rounds.result n c.hear_all.new.seats c.hear_all.new.links c.args.board.now.map.measures
-    after.map end.map all seat_count unused c.finish.ensures.above after_bounds after_size c.finish.ensures.under in
+    after.map end.map all seat_count unused c.in_ok-finish.ensures.above after_bounds after_size c.in_ok-finish.ensures.under in
     least_over g.L.Link.told task replies n c.hear_all.new.seats c.hear_all.new.links (length c.args.links.now)
-    c.args.board.now.map.measures end.map over count (c.finish.ensures.bounds ∙ after_bounds)
-    (at_ok c.finish.result n (IsMap end.map.bounds (length task.game) end.map.measures) is c.finish.ensures.map).size
-    (at_ok c.finish.result n (IsClosed end.map.bounds (game_line task.game) end.map.measures) is c.finish.ensures.closed) under)
+    c.args.board.now.map.measures end.map over count (c.in_ok-finish.ensures.bounds ∙ after_bounds)
+    c.in_ok-finish.ensures.map.size c.in_ok-finish.ensures.closed under
+
+pub returns-then-rises-most_rises-clause-limit : goal.returns-then-rises-most_rises-clause-limit
+returns-then-rises-most_rises-clause-limit g c = λ is h.
+    c.in_ok-hear_all.ensures.honest (c.in_ok-ask_all.ensures.honest (c.rounds.invariant.honest_still h))

@@ -1,0 +1,23 @@
+//! Why rounds end while the map isn't closed.
+
+use std::alloc::AllocError;
+
+/// Why rounds end while the map isn't closed.
+#[derive(Clone, Copy, Debug, PartialEq, Eq)]
+pub enum Stop {
+    /// A growth was refused, here or in a link.
+    OutOfMemory,
+    /// More measures rose than were to rise.
+    Limit,
+}
+
+impl From<AllocError> for Stop {
+    ghost use Rattle.std.specs.Prelude.{◌≡◌};
+    ghost use Rattle.pg_coord.specs.declared.stop.Stop.TheVariants.{OutOfMemory};
+
+    ghost from_gives = { λ _ e. e ≡ OutOfMemory };
+
+    fn from(_e: AllocError) -> Stop {
+        Stop::OutOfMemory
+    }
+}
