@@ -1,7 +1,8 @@
 //! Solutions of maps.
 
 use crate::tools::{
-    Line, answers, filled, game_of, half_of, least_map, solved, three, top_map, two,
+    Line, game_of, gives, half_gives, halves_give, halves_leave_undecided, least_map,
+    least_map_of_dual, leaves_undecided, three, top_map, two,
 };
 use pg_arena::Player::{Even, Odd};
 use pg_arena::dual;
@@ -14,8 +15,16 @@ fn even_wins_both_of_two(rt: HostRuntime) -> Result<(), Fail> {
     let other = dual(rt.alloc(), &game)?;
     let even = least_map(rt.alloc(), &game)?;
     let odd = least_map(rt.alloc(), &other)?;
-    let found = solved(rt.alloc(), &game, &other, &even, &odd).expect(&rt, "the maps are closed");
-    assert!(rt; answers(&found?, &[(Even, Some(1)), (Even, None)]));
+    assert!(rt;
+        gives(
+            rt.alloc(),
+            &game,
+            &other,
+            &even,
+            &odd,
+            &[(Even, Some(1)), (Even, None)]
+        )
+    );
     Ok(())
 }
 
@@ -25,8 +34,8 @@ fn each_player_wins_where_its_map_has_a_list(rt: HostRuntime) -> Result<(), Fail
     let other = dual(rt.alloc(), &game)?;
     let even = least_map(rt.alloc(), &game)?;
     let odd = least_map(rt.alloc(), &other)?;
-    let found = solved(rt.alloc(), &game, &other, &even, &odd).expect(&rt, "the maps are closed");
-    assert!(rt; answers(&found?, &[(Odd, Some(1)), (Odd, Some(1)), (Even, Some(2))]));
+    let expected = [(Odd, Some(1)), (Odd, Some(1)), (Even, Some(2))];
+    assert!(rt; gives(rt.alloc(), &game, &other, &even, &odd, &expected));
     Ok(())
 }
 
@@ -36,15 +45,17 @@ fn undecided_names_the_least_identifier(rt: HostRuntime) -> Result<(), Fail> {
     let other = dual(rt.alloc(), &game)?;
     let top = top_map(rt.alloc(), &game)?;
     let odd = least_map(rt.alloc(), &other)?;
-    let found = solved(rt.alloc(), &game, &other, &top, &odd).expect(&rt, "the maps are closed");
-    assert!(rt; found.err() == Some(CheckFault::Undecided(30)));
+    assert!(rt; leaves_undecided(rt.alloc(), &game, &other, &top, &odd, 30));
+    Ok(())
+}
+
+#[test]
+fn undecided_names_the_least_identifier_of_the_dual_too(rt: HostRuntime) -> Result<(), Fail> {
+    let game = three(rt.alloc())?;
+    let other = dual(rt.alloc(), &game)?;
     let even = least_map(rt.alloc(), &game)?;
-    let top_of_dual = top_map(rt.alloc(), &other)?;
-    let found = solved(rt.alloc(), &game, &other, &even, &top_of_dual).expect(
-        &rt,
-        "the maps are closed",
-    );
-    assert!(rt; found.err() == Some(CheckFault::Undecided(10)));
+    let top = top_map(rt.alloc(), &other)?;
+    assert!(rt; leaves_undecided(rt.alloc(), &game, &other, &even, &top, 10));
     Ok(())
 }
 
@@ -53,13 +64,17 @@ fn undecided_names_the_least_identifier(rt: HostRuntime) -> Result<(), Fail> {
 fn a_solution_is_made_of_its_halves(rt: HostRuntime) -> Result<(), Fail> {
     let game = three(rt.alloc())?;
     let even = least_map(rt.alloc(), &game)?;
-    let half = half_of(rt.alloc(), &game, &even).expect(&rt, "the map is closed")?;
-    drop(even);
-    assert!(rt; answers(&half, &[(Odd, None), (Odd, None), (Even, Some(2))]));
-    let other = dual(rt.alloc(), &game)?;
-    let odd = least_map(rt.alloc(), &other)?;
-    let found = filled(&game, half, &odd).expect(&rt, "they are of the size of the game");
-    assert!(rt; answers(&found?, &[(Odd, Some(1)), (Odd, Some(1)), (Even, Some(2))]));
+    assert!(rt;
+        half_gives(
+            rt.alloc(),
+            &game,
+            &even,
+            &[(Odd, None), (Odd, None), (Even, Some(2))]
+        )
+    );
+    let odd = least_map_of_dual(rt.alloc(), &game)?;
+    let expected = [(Odd, Some(1)), (Odd, Some(1)), (Even, Some(2))];
+    assert!(rt; halves_give(rt.alloc(), &game, &even, &odd, &expected));
     Ok(())
 }
 
@@ -68,10 +83,15 @@ fn a_solution_is_made_of_its_halves(rt: HostRuntime) -> Result<(), Fail> {
 fn a_half_of_tops_stays_undecided(rt: HostRuntime) -> Result<(), Fail> {
     let game = three(rt.alloc())?;
     let top = top_map(rt.alloc(), &game)?;
-    let half = half_of(rt.alloc(), &game, &top).expect(&rt, "the map is closed")?;
-    assert!(rt; answers(&half, &[(Odd, None), (Odd, None), (Odd, None)]));
-    let found = filled(&game, half, &top).expect(&rt, "they are of the size of the game");
-    assert!(rt; found.err() == Some(CheckFault::Undecided(10)));
+    assert!(rt;
+        half_gives(
+            rt.alloc(),
+            &game,
+            &top,
+            &[(Odd, None), (Odd, None), (Odd, None)]
+        )
+    );
+    assert!(rt; halves_leave_undecided(rt.alloc(), &game, &top, &top, 10));
     Ok(())
 }
 
@@ -90,13 +110,8 @@ fn the_choice_is_the_first_that_serves(rt: HostRuntime) -> Result<(), Fail> {
     let other = dual(rt.alloc(), &game)?;
     let even = least_map(rt.alloc(), &game)?;
     let odd = least_map(rt.alloc(), &other)?;
-    let found = solved(rt.alloc(), &game, &other, &even, &odd).expect(&rt, "the maps are closed");
-    assert!(rt;
-        answers(
-            &found?,
-            &[(Even, Some(2)), (Odd, None), (Even, None), (Even, None)]
-        )
-    );
+    let expected = [(Even, Some(2)), (Odd, None), (Even, None), (Even, None)];
+    assert!(rt; gives(rt.alloc(), &game, &other, &even, &odd, &expected));
     Ok(())
 }
 

@@ -7,7 +7,7 @@ ghost use Rattle.pg_map.specs.Lines.{AreWithin, game_line};
 ghost use Rattle.pg_map.specs.Maps.{IsClosed};
 
 use Player::{Even, Odd};
-use pg_arena::{ArenaFault, Game, GameBuilder, Player, Vertex};
+use pg_arena::{ArenaFault, Game, GameBuilder, Player, Vertex, dual};
 use pg_check::{CheckFault, even_half, strategies, with_odd_half};
 use pg_map::{MeasureMap, View, lift_to_end};
 use pg_measure::Bounds;
@@ -78,8 +78,16 @@ fn is_closed(map: &MeasureMap, game: &Game) -> bool
     }
 }
 
+/// The least progress measure of the dual of a game.
+pub fn least_map_of_dual(alloc: Global, game: &Game) -> Result<MeasureMap, ArenaFault>
+    requires { HasPrioritiesUpTo 65535 game.now }
+{
+    let other = dual(alloc, game)?;
+    Ok(least_map(alloc, &other)?)
+}
+
 /// The answer of `strategies`, if the maps are closed.
-pub fn solved(
+fn solved(
     alloc: Global,
     game: &Game,
     other: &Game,
@@ -95,12 +103,42 @@ pub fn solved(
     }
 }
 
-/// The half that a map of the game gives, if the map is closed.
-pub fn half_of(
+/// Whether the maps give a solution with these answers.
+pub fn gives(
     alloc: Global,
     game: &Game,
+    other: &Game,
     even: &MeasureMap,
-) -> Option<Result<Solution, AllocError>> {
+    odd: &MeasureMap,
+    expected: &[(Player, Option<u32>)],
+) -> bool
+    requires { other.now ≡ dual game.now }
+{
+    match solved(alloc, game, other, even, odd) {
+        Some(Ok(found)) => answers(&found, expected),
+        _ => false,
+    }
+}
+
+/// Whether the maps leave the vertex with this identifier undecided.
+pub fn leaves_undecided(
+    alloc: Global,
+    game: &Game,
+    other: &Game,
+    even: &MeasureMap,
+    odd: &MeasureMap,
+    identifier: u32,
+) -> bool
+    requires { other.now ≡ dual game.now }
+{
+    match solved(alloc, game, other, even, odd) {
+        Some(Err(fault)) => fault == CheckFault::Undecided(identifier),
+        _ => false,
+    }
+}
+
+/// The half that a map of the game gives, if the map is closed.
+fn half_of(alloc: Global, game: &Game, even: &MeasureMap) -> Option<Result<Solution, AllocError>> {
     if is_closed(even, game) {
         Some(even_half(alloc, game, even))
     } else {
@@ -108,12 +146,21 @@ pub fn half_of(
     }
 }
 
-/// The answer of `with_odd_half`, if the half and the map are of the size of the game.
-pub fn filled(
+/// Whether the map of the game gives a half with these answers.
+pub fn half_gives(
+    alloc: Global,
     game: &Game,
-    half: Solution,
-    odd: &MeasureMap,
-) -> Option<Result<Solution, CheckFault>> {
+    even: &MeasureMap,
+    expected: &[(Player, Option<u32>)],
+) -> bool {
+    match half_of(alloc, game, even) {
+        Some(Ok(half)) => answers(&half, expected),
+        _ => false,
+    }
+}
+
+/// The answer of `with_odd_half`, if the half and the map are of the size of the game.
+fn filled(game: &Game, half: Solution, odd: &MeasureMap) -> Option<Result<Solution, CheckFault>> {
     if half.len() == game.len() && is_of(odd, game) {
         Some(with_odd_half(game, half, odd))
     } else {
@@ -121,8 +168,57 @@ pub fn filled(
     }
 }
 
+/// Whether the half and the map make a solution with these answers.
+fn filled_gives(
+    game: &Game,
+    half: Solution,
+    odd: &MeasureMap,
+    expected: &[(Player, Option<u32>)],
+) -> bool {
+    match filled(game, half, odd) {
+        Some(Ok(found)) => answers(&found, expected),
+        _ => false,
+    }
+}
+
+/// Whether the half of the one map and the other map make a solution with these answers.
+pub fn halves_give(
+    alloc: Global,
+    game: &Game,
+    even: &MeasureMap,
+    odd: &MeasureMap,
+    expected: &[(Player, Option<u32>)],
+) -> bool {
+    match half_of(alloc, game, even) {
+        Some(Ok(half)) => filled_gives(game, half, odd, expected),
+        _ => false,
+    }
+}
+
+/// Whether the half and the map leave the vertex with this identifier undecided.
+fn filled_leaves_undecided(game: &Game, half: Solution, odd: &MeasureMap, identifier: u32) -> bool {
+    match filled(game, half, odd) {
+        Some(Err(fault)) => fault == CheckFault::Undecided(identifier),
+        _ => false,
+    }
+}
+
+/// Whether the half of the one map and the other map leave the vertex with this identifier undecided.
+pub fn halves_leave_undecided(
+    alloc: Global,
+    game: &Game,
+    even: &MeasureMap,
+    odd: &MeasureMap,
+    identifier: u32,
+) -> bool {
+    match half_of(alloc, game, even) {
+        Some(Ok(half)) => filled_leaves_undecided(game, half, odd, identifier),
+        _ => false,
+    }
+}
+
 /// Whether the solution has these answers.
-pub fn answers(solution: &Solution, expected: &[(Player, Option<u32>)]) -> bool {
+fn answers(solution: &Solution, expected: &[(Player, Option<u32>)]) -> bool {
     let mut number = 0u32;
     for (winner, choice) in expected {
         let v = Vertex(number);

@@ -65,9 +65,12 @@ pub fn solves_within<L: Link>(
     most_rises: u64,
 ) -> Result<Option<(u64, u64, u64)>, Fail> {
     let game = game(alloc)?;
+    if game.len() != 2 {
+        return Ok(None);
+    }
     let cut = Cut::even(alloc, 2, u32::try_from(links.len())?)?;
-    let tops: &[Vertex] = if game.len() == 2 { &[Vertex(0)] } else { &[] };
-    match solve_within(alloc, &game, links, &cut, 4096, tops, most_rises)? {
+    let tops = [Vertex(0)];
+    match solve_within(alloc, &game, links, &cut, 4096, &tops, most_rises)? {
         Some(solved) => Ok(counts(&solved)),
         None => Ok(None),
     }
