@@ -141,32 +141,42 @@ impl MeasureMap {
         requires w { w < length self.now.measures }
         ensures { IsTrue result ↔ IsServedBy self.now.bounds (G.line lines.now) self.now.measures v w }
     {
-        let priority = lines.priority(v);
+        self.covers_at(lines.priority(v), v, w)
+    }
+
+    /// Whether the measure of `v` covers that of `w` at a priority.
+    #[inline(always)]
+    pub fn covers_at(&self, priority: u32, v: Vertex, w: Vertex) -> bool
+        requires v { v < length self.now.measures }
+        requires w { w < length self.now.measures }
+        ensures { IsTrue result ↔ Covers self.now.bounds priority
+            (measure_at self.now.measures v) (measure_at self.now.measures w) }
+    {
         let front = self.bounds.width_from(priority);
         self.covers(v.0 as usize, w.0 as usize, front, priority % 2 == 1)
     }
 
-    /// Whether the components of `a` of priorities at least that of `v` are at most those of `b`; where both are at most
-    /// each other, either answer. Top is above every list.
+    /// Whether the components of `a` of priorities at least this one are at most those of `b`; where both are at most each
+    /// other, either answer. Top is above every list.
     #[inline(always)]
-    pub fn is_front_below<G: Lines>(&self, lines: &G, v: Vertex, a: Vertex, b: Vertex) -> bool
-        requires held { IsSome (G.line lines.now v) }
+    pub fn is_front_below(&self, priority: u32, a: Vertex, b: Vertex) -> bool
         requires a { a < length self.now.measures }
         requires b { b < length self.now.measures }
-        ensures { MatchBool result (FrontAtMost (width_from self.now.bounds (line_at (G.line lines.now) v).priority)
+        ensures { MatchBool result (FrontAtMost (width_from self.now.bounds priority)
             (measure_at self.now.measures a) (measure_at self.now.measures b))
-            (FrontAtMost (width_from self.now.bounds (line_at (G.line lines.now) v).priority)
+            (FrontAtMost (width_from self.now.bounds priority)
             (measure_at self.now.measures b) (measure_at self.now.measures a)) }
     {
-        let front = self.bounds.width_from(lines.priority(v));
+        let front = self.bounds.width_from(priority);
         self.is_less(a.0 as usize, b.0 as usize, front)
     }
 
-    /// Lifts a vertex over its best successor, which doesn't serve it: the lift of the vertex, with no look at the
-    /// other successors.
+    /// Lifts a vertex of this priority over its best successor, which doesn't serve it: the lift of the vertex, with no
+    /// look at its line. The lines are what the contract speaks of.
     #[inline(always)]
-    pub fn lift_over<G: Lines>(&mut self, lines: &G, v: Vertex, w: Vertex)
+    pub fn lift_over<G: Lines>(&mut self, lines: &G, priority: u32, v: Vertex, w: Vertex)
         requires held { IsSome (G.line lines.now v) }
+        requires priority { priority ≡ (line_at (G.line lines.now) v).priority }
         requires within { AreWithin (length self.old.measures) (G.line lines.now) }
         requires best { IsBest (line_at (G.line lines.now) v).owner
             (width_from self.old.bounds (line_at (G.line lines.now) v).priority) self.old.measures
@@ -180,7 +190,6 @@ impl MeasureMap {
         ensures under { StaysUnder self.old.bounds (G.line lines.now) self.old.measures self.new.measures }
         ensures weight { map_weight self.old.bounds self.new.measures < map_weight self.old.bounds self.old.measures }
     {
-        let priority = lines.priority(v);
         let front = self.bounds.width_from(priority);
         self.step(w.0 as usize, v.0 as usize, front, priority % 2 == 1);
     }

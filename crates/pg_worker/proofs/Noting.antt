@@ -1,14 +1,15 @@
 -- What notes tell after one is written.
 use Rattle.std.proofs.Common.{◌≡◌, ◌≢◌, ℕ, zero, suc, ◌+◌, ◌-◌, ◌<◌, ◌≤◌, ◌⊎◌, Bool, true, false, List, [], ◌∷◌, ◌++◌, length, cond, get_or, set, refl, sym, ap, subst, ◌∙◌, inl, inr, arith}
-use Rattle.std.specs.Prelude.{Option, count_by, replicate, not}
+use Rattle.std.specs.Prelude.{◌↔◌, Option, Some, None, IsSome, IfSome, IsTrue, option_map, unwrap_or, count_by, replicate, not}
 use Rattle.std.proofs.lemmas.Bool.{cases_lt, cases_eq, lt-ltb, le-ltb}
 use Rattle.std.proofs.lemmas.List.FromFn.{length-map-range_with_len, get_or-map-range_with_len, fill_by_all}
 use Rattle.std.proofs.lemmas.List.Sums.{sum_by-cons}
 use Rattle.std.proofs.lemmas.List.{get_or_default, get_or_past, get_or-set_same, get_or-set_other, get_or-replicate, length-replicate, length-set}
+use Rattle.pg_arena.specs.declared.player.Player.{Player}
 use Rattle.pg_map.specs.Lines.{Line}
 use Rattle.pg_worker.specs.declared.note.Note.{Note}
 use Rattle.pg_worker.specs.Mirrors.Worklists.{IsWorklist}
-use Rattle.pg_worker.specs.Mirrors.Notes.{NotesValue, Span, HasNote, HasRoom, AreNotes, AreNoted, IsSameSpan, AreSameNotes, no_note, note_in, told_of, waits_of, best_of}
+use Rattle.pg_worker.specs.Mirrors.Notes.{NotesValue, Span, HasNote, HasRoom, AreNotes, AreNoted, IsSameSpan, AreSameNotes, Label, label_of, line_label, label_in, no_note, note_in, told_of, waits_of, best_of, labels_of}
 use Rattle.pg_worker.proofs.Stacks.{pushed, swapped, popped, top_marked, none_marked}
 
 -- ---- vertices that have notes
@@ -22,6 +23,8 @@ notes_on n lines notes notes' same a = record {
   waits = same.waits ∙ a.waits;
   best = same.best ∙ a.best;
   noted = λ v s. note_on notes.span notes'.span v same.span (a.noted v s);
+  labelled = ap (λ (s : Span). length s.labels) same.span ∙ a.labelled;
+  labels = λ v. ap (λ (s : Span). get_or s.labels v None) same.span ∙ a.labels v;
 }
 
 same_note : (notes notes' : NotesValue) (v : ℕ) → AreSameNotes notes notes' → HasNote notes.span v → HasNote notes'.span v
@@ -37,6 +40,8 @@ same_notes n lines notes notes' same a = record {
   waits = ap length same.waits ∙ a.waits;
   best = ap length same.best ∙ a.best;
   noted = λ v s. same_note notes notes' v same (a.noted v s);
+  labelled = ap length same.labels ∙ a.labelled;
+  labels = λ v. ap (λ (ls : List (Option Label)). get_or ls v None) same.labels ∙ a.labels v;
 }
 
 pub same_span : (notes notes' notes'' : NotesValue) → IsSameSpan notes notes' → IsSameSpan notes' notes'' → IsSameSpan notes notes''
@@ -94,6 +99,11 @@ nothing_in first notes v none = elim (cases_lt v first) [
 -- no notes begin elsewhere
 pub told_moved : {X : Type 0} (f : Note → X) (d : X) (n first first' : ℕ) (notes : List Note) → length notes ≡ 0 → told_of f n first' notes ≡ told_of f n first notes
 told_moved f d n first first' notes none = told_same f d n first first' notes notes (λ v. ap f (nothing_in first' notes v none ∙ sym (nothing_in first notes v none)))
+
+-- the same notes; where there are none, they may begin elsewhere
+pub told_either : {X : Type 0} (f : Note → X) (d : X) (n first first' : ℕ) (notes notes' : List Note) → notes' ≡ notes → (length notes ≡ 0) ⊎ (first' ≡ first) → told_of f n first' notes' ≡ told_of f n first notes
+told_either f d n first first' notes notes' e (inl none) = rw e (told_moved f d n first first' notes none)
+told_either f d n first first' notes notes' e (inr same) = rw (e, same) refl
 
 set_in : (first : ℕ) (notes : List Note) (v : ℕ) (m : Note) (u : ℕ) → first ≤ v → u ≢ v → note_in first (set notes (v - first) m) u ≡ note_in first notes u
 set_in first notes v m u le ne = elim (cases_lt u first) [
@@ -177,6 +187,13 @@ unwritten f d count first notes v at r m p same = ap (λ (i : ℕ). told_of f co
 told_read : {X : Type 0} (f : Note → X) (d : X) (count first : ℕ) (notes : List Note) (v at : ℕ) (r : Note) → IsAt count first notes v at r → get_or (told_of f count first notes) v d ≡ f r
 told_read f d count first notes v at r p = told_at f d count first notes v p.from p.below ∙ ap f p.read
 
+abbrev pub value_of : ℕ → ℕ → List Note → ℕ → NotesValue
+value_of count first notes room = record {
+  waits = waits_of count first notes;
+  best = best_of count first notes;
+  span = record { first = first; size = length notes; room = room; labels = labels_of count first notes };
+}
+
 pub waits_set : (count first : ℕ) (notes : List Note) (v at : ℕ) (r m : Note) → IsAt count first notes v at r → waits_of count first (set notes at m) ≡ set (waits_of count first notes) v m.waits
 waits_set count first notes v at r m p = written (λ (k : Note). k.waits) false count first notes v at r m p
 
@@ -195,19 +212,32 @@ waits_read count first notes v at r p = told_read (λ (k : Note). k.waits) false
 pub best_read : (count first : ℕ) (notes : List Note) (v at : ℕ) (r : Note) → IsAt count first notes v at r → get_or (best_of count first notes) v 0 ≡ r.best
 best_read count first notes v at r p = told_read (λ (k : Note). k.best) 0 count first notes v at r p
 
+pub labels_set : (count first : ℕ) (notes : List Note) (v at : ℕ) (r m : Note) → IsAt count first notes v at r → labels_of count first (set notes at m) ≡ set (labels_of count first notes) v (label_in m)
+labels_set count first notes v at r m p = written label_in None count first notes v at r m p
+
+pub labels_kept : (count first : ℕ) (notes : List Note) (v at : ℕ) (r m : Note) → IsAt count first notes v at r → label_in m ≡ label_in r → labels_of count first (set notes at m) ≡ labels_of count first notes
+labels_kept count first notes v at r m p same = unwritten label_in None count first notes v at r m p same
+
+pub labels_read : (count first : ℕ) (notes : List Note) (v at : ℕ) (r : Note) → IsAt count first notes v at r → get_or (labels_of count first notes) v None ≡ label_in r
+labels_read count first notes v at r p = told_read label_in None count first notes v at r p
+
+-- notes of the same vertices, with the same labels
+pub span_kept : (count first : ℕ) (notes : List Note) (room v at : ℕ) (r m : Note) → IsAt count first notes v at r → label_in m ≡ label_in r → (value_of count first (set notes at m) room).span ≡ (value_of count first notes room).span
+span_kept count first notes room v at r m p same =
+    let new : List Note = set notes at m in
+    ap (λ (n : ℕ). record { first = first; size = n; room = room; labels = labels_of count first new }) (length-set notes at m)
+    ∙ ap (λ (ls : List (Option Label)). record { first = first; size = length notes; room = room; labels = ls }) (labels_kept count first notes v at r m p same)
+
 pub waits_size : (count first : ℕ) (notes : List Note) → length (waits_of count first notes) ≡ count
 waits_size count first notes = told_size (λ (k : Note). k.waits) count first notes
 
-abbrev pub value_of : ℕ → ℕ → List Note → ℕ → NotesValue
-value_of count first notes room = record { waits = waits_of count first notes; best = best_of count first notes; span = record { first = first; size = length notes; room = room } }
-
 -- a note that tells the same
-pub value_kept : (count first : ℕ) (notes : List Note) (room v at : ℕ) (r m : Note) → IsAt count first notes v at r → m.waits ≡ r.waits → m.best ≡ r.best → value_of count first (set notes at m) room ≡ value_of count first notes room
-value_kept count first notes room v at r m p waits best =
+pub value_kept : (count first : ℕ) (notes : List Note) (room v at : ℕ) (r m : Note) → IsAt count first notes v at r → m.waits ≡ r.waits → m.best ≡ r.best → label_in m ≡ label_in r → value_of count first (set notes at m) room ≡ value_of count first notes room
+value_kept count first notes room v at r m p waits best label =
     let new : List Note = set notes at m in
-    ap (λ (ws : List Bool). record { waits = ws; best = best_of count first new; span = record { first = first; size = length new; room = room } }) (waits_kept count first notes v at r m p waits)
-    ∙ (ap (λ (bs : List ℕ). record { waits = waits_of count first notes; best = bs; span = record { first = first; size = length new; room = room } }) (best_kept count first notes v at r m p best)
-    ∙ ap (λ (n : ℕ). record { waits = waits_of count first notes; best = best_of count first notes; span = record { first = first; size = n; room = room } }) (length-set notes at m))
+    ap (λ (ws : List Bool). record { waits = ws; best = best_of count first new; span = (value_of count first new room).span }) (waits_kept count first notes v at r m p waits)
+    ∙ (ap (λ (bs : List ℕ). record { waits = waits_of count first notes; best = bs; span = (value_of count first new room).span }) (best_kept count first notes v at r m p best)
+    ∙ ap (λ (s : Span). record { waits = waits_of count first notes; best = best_of count first notes; span = s }) (span_kept count first notes room v at r m p label))
 
 -- ---- and the vertices that wait
 
@@ -319,3 +349,29 @@ not_off false e = cc
 
 pub notes_still : (n m : ℕ) (lines : ℕ → Option Line) (notes notes' : NotesValue) → m ≡ n → IsSameSpan notes notes' → AreNotes n lines notes → AreNotes m lines notes'
 notes_still n m lines notes notes' e same a = rw e (notes_on n lines notes notes' same a)
+
+-- ---- what a label says
+
+pub held_by : (b : Bool) (p : ℕ) (o : Player) (m : Option Label) → m ≡ cond b (Some (label_of p o)) None → IsTrue b ↔ IsSome m
+held_by true p o m e = rw e (λ t. refl, λ t. refl)
+held_by false p o m e = rw e (λ t. cc, λ t. cc)
+
+pub priority_by : (b : Bool) (p : ℕ) (o : Player) (m : Option Label) → m ≡ cond b (Some (label_of p o)) None → IfSome m (λ l. p ≡ l.priority)
+priority_by true p o m e = rw e refl
+priority_by false p o m e = rw e tt
+
+pub owner_by : (b : Bool) (p : ℕ) (o : Player) (m : Option Label) → m ≡ cond b (Some (label_of p o)) None → IfSome m (λ l. o ≡ l.owner)
+owner_by true p o m e = rw e refl
+owner_by false p o m e = rw e tt
+
+pub held_of : (o : Option Line) (m : Option Label) (b : Bool) → m ≡ option_map line_label o → IsTrue b ↔ IsSome m → IsTrue b ↔ IsSome o
+held_of None m b e h = rw e at h
+held_of (Some l) m b e h = rw e at h
+
+pub priority_of : (o : Option Line) (m : Option Label) (d : Line) (p : ℕ) → m ≡ option_map line_label o → IsSome o → IfSome m (λ l. p ≡ l.priority) → p ≡ (unwrap_or o d).priority
+priority_of None m d p e s h = cc
+priority_of (Some l) m d p e s h = rw e at h
+
+pub owner_of : (o : Option Line) (m : Option Label) (d : Line) (p : Player) → m ≡ option_map line_label o → IsSome o → IfSome m (λ l. p ≡ l.owner) → p ≡ (unwrap_or o d).owner
+owner_of None m d p e s h = cc
+owner_of (Some l) m d p e s h = rw e at h

@@ -1,8 +1,8 @@
 -- What a worker remembers after a call.
 use Rattle.std.proofs.Common.{◌≡◌, ◌≢◌, ◌∙◌, ℕ, zero, suc, ◌+◌, ◌<◌, ◌≤◌, Bool, true, false, List, [], ◌∷◌, ◌++◌, length, get_or, set, subst, sym, refl, ap, arith, inl, inr, Some, None}
-use Rattle.std.specs.Prelude.{vec_capacity, All, Option, IsSome, IfSome, IfNone, unwrap_or, replicate}
+use Rattle.std.specs.Prelude.{vec_capacity, All, Option, IsSome, IfSome, IfNone, option_map, unwrap_or, replicate}
 use Rattle.std.proofs.lemmas.Bool.{cases_eq}
-use Rattle.std.proofs.lemmas.List.{get_or-set_same, get_or-set_other}
+use Rattle.std.proofs.lemmas.List.{get_or-set_same, get_or-set_other, length-set, length-replicate}
 use Rattle.pg_map.specs.Mirrors.Tables.{IsBest}
 use Rattle.pg_arena.specs.declared.player.Player.{Player}
 use Rattle.pg_arena.specs.declared.player.Player.TheVariants.{Odd}
@@ -20,7 +20,7 @@ use Rattle.pg_wire.specs.declared.frame.VertexLine.{VertexLine}
 use Rattle.pg_worker.specs.Workers.{WorkerValue, told_line, with_lines, AreAbove}
 use Rattle.pg_map.specs.declared.update.Update.{Update}
 use Rattle.pg_worker.specs.Mirrors.Insides.{IsInside, AreReady, IsNext, IsWhole}
-use Rattle.pg_worker.specs.Mirrors.Notes.{Span, NotesValue, HasNote, AreNotes, IsSameSpan, AreSameNotes}
+use Rattle.pg_worker.specs.Mirrors.Notes.{Span, Label, line_label, NotesValue, HasNote, AreNotes, IsSameSpan, AreSameNotes}
 use Rattle.pg_worker.proofs.Noting.{notes_on, same_notes}
 
 pub worker_after : (lines : PartValue) (map map' : MapValue) (notes notes' : NotesValue) → map'.bounds ≡ map.bounds → length map'.measures ≡ length map.measures → IsSameSpan notes notes'
@@ -61,17 +61,29 @@ no_edges_at_all lines (suc n) none =
     let b = no_edges lines n (λ s. none_held (lines n) (none n) s) in
     omega arith
 
+no_label : (n v : ℕ) → get_or {A = Option Label} (replicate n None) v None ≡ None
+no_label zero v = refl
+no_label (suc n) zero = refl
+no_label (suc n) (suc v) = no_label n v
+
 -- no vertices
 pub worker_empty : (lines : PartValue) (map : MapValue) (notes : NotesValue) → ((v : ℕ) → held_line lines v ≡ None) → lines.edges ≡ 0
-    → length notes.waits ≡ length map.measures → length notes.best ≡ length map.measures → length lines.lines ≡ length map.measures → IsInside lines map notes
-worker_empty lines map notes held edges b c d = record {
+    → length notes.waits ≡ length map.measures → length notes.best ≡ length map.measures → length lines.lines ≡ length map.measures
+    → notes.span.labels ≡ replicate (length map.measures) None → IsInside lines map notes
+worker_empty lines map notes held edges b c d e = record {
   within = record {
     numbers = λ v s. absurd (none_held (held_line lines v) (held v) s);
     successors = λ v s. absurd (none_held (held_line lines v) (held v) s);
     nonempty = λ v s. absurd (none_held (held_line lines v) (held v) s);
   };
   count = no_edges_at_all (held_line lines) (length map.measures) held ∙ sym edges;
-  noted = record { waits = b; best = c; noted = λ v s. absurd (none_held (held_line lines v) (held v) s) };
+  noted = record {
+    waits = b;
+    best = c;
+    noted = λ v s. absurd (none_held (held_line lines v) (held v) s);
+    labelled = ap length e ∙ length-replicate (length map.measures) None;
+    labels = λ v. ap (λ (ls : List (Option Label)). get_or ls v None) e ∙ (no_label (length map.measures) v ∙ sym (ap (option_map line_label) (held v)));
+  };
   size = d;
   kept = λ v s. absurd (none_held (held_line lines v) (held v) s);
 }
@@ -120,15 +132,25 @@ pub within_more : (lines lines' : PartValue) (map : MapValue) (notes : NotesValu
     → All (λ w. w < length map.measures) l.successors → 0 < length l.successors → IsInside lines map notes → AreWithin (length map.measures) (held_line lines')
 within_more lines lines' map notes v l new lt ss ne w = within_after (held_line lines) (held_line lines') v (length map.measures) l new lt ss ne w.within
 
+line_is : (o : Option Line) (d l : Line) → IsSome o → unwrap_or o d ≡ l → o ≡ Some l
+line_is None d l s e = cc
+line_is (Some k) d l s e = ap Some e
+
 -- and a note of it
 pub notes_more : (n : ℕ) (lines lines' : ℕ → Option Line) (notes notes' : NotesValue) (v : ℕ) (l : Line) → IsNewLine lines lines' v l → notes'.waits ≡ notes.waits → notes'.best ≡ notes.best
+    → v < n → notes'.span.labels ≡ set notes.span.labels v (Some (line_label l))
     → HasNote notes'.span v → ((w : ℕ) → HasNote notes.span w → HasNote notes'.span w) → AreNotes n lines notes → AreNotes n lines' notes'
-notes_more n lines lines' notes notes' v l new m b here more a = record {
+notes_more n lines lines' notes notes' v l new m b lt e here more a = record {
   waits = ap length m ∙ a.waits;
   best = ap length b ∙ a.best;
   noted = λ u s. elim (cases_eq u v) [
     | inl e ↦ subst (λ (w : ℕ). HasNote notes'.span w) (sym e) here
     | inr d ↦ more u (a.noted u (some_back lines lines' v l u new d s))
+  ];
+  labelled = ap length e ∙ (length-set notes.span.labels v (Some (line_label l)) ∙ a.labelled);
+  labels = λ u. ap (λ (ls : List (Option Label)). get_or ls u None) e ∙ elim (cases_eq u v) [
+    | inl q ↦ rw q (let s = a.labelled in get_or-set_same notes.span.labels v (Some (line_label l)) None (omega arith) ∙ ap (option_map line_label) (sym (line_is (lines' v) _ l new.some new.line)))
+    | inr d ↦ get_or-set_other notes.span.labels v u (Some (line_label l)) None d ∙ (a.labels u ∙ ap (option_map line_label) (sym (new.others u d)))
   ];
 }
 

@@ -14,6 +14,7 @@ ghost use Rattle.pg_worker.specs.Mirrors.Keeps.{Keeps, KeepsAt, AreSameBut, noth
 ghost use Rattle.pg_worker.specs.Mirrors.Notes.{AreNotes, HasRoom, IsSameSpan};
 ghost use Rattle.pg_worker.specs.Mirrors.Insides.{IsInside, IsNext, edge_count};
 
+use crate::asked::{is_front_below, owner, priority, serves};
 use crate::notes::Notes;
 use crate::part::Part;
 use pg_arena::{Player, Vertex};
@@ -23,15 +24,16 @@ use pg_wire::{LineHead, VertexLine};
 
 /// The successor whose measure is greatest in the components of priorities at least that of the vertex.
 #[inline(always)]
-fn greatest<G: Lines>(map: &MeasureMap, lines: &G, v: Vertex) -> Vertex
+fn greatest<G: Lines>(map: &MeasureMap, lines: &G, notes: &Notes, v: Vertex) -> Vertex
     requires held { IsSome (G.line lines.now v) }
     requires within { AreWithin (length map.now.measures) (G.line lines.now) }
+    requires notes { AreNotes (length map.now.measures) (G.line lines.now) notes.now }
     ensures { IsBest Odd (width_from map.now.bounds (line_at (G.line lines.now) v).priority) map.now.measures
         (line_at (G.line lines.now) v).successors result }
 {
     let mut best = lines.successors(v)[0];
     for w in lines.successors(v) {
-        if map.is_front_below(lines, v, best, *w) {
+        if is_front_below(map, lines, notes, v, best, *w) {
             best = *w;
         }
     }
@@ -40,15 +42,16 @@ fn greatest<G: Lines>(map: &MeasureMap, lines: &G, v: Vertex) -> Vertex
 
 /// What to remember of a vertex at first: any successor where Even owns it, the greatest where Odd does.
 #[inline(always)]
-fn first_best<G: Lines>(map: &MeasureMap, lines: &G, v: Vertex) -> Vertex
+fn first_best<G: Lines>(map: &MeasureMap, lines: &G, notes: &Notes, v: Vertex) -> Vertex
     requires held { IsSome (G.line lines.now v) }
     requires within { AreWithin (length map.now.measures) (G.line lines.now) }
+    requires notes { AreNotes (length map.now.measures) (G.line lines.now) notes.now }
     ensures { Keeps map.now.bounds (line_at (G.line lines.now) v) map.now.measures nothing
         (measure_at map.now.measures v) true result }
 {
-    match lines.owner(v) {
+    match owner(map, lines, notes, v) {
         Player::Even => lines.successors(v)[0],
-        Player::Odd => greatest(map, lines, v),
+        Player::Odd => greatest(map, lines, notes, v),
     }
 }
 
@@ -79,12 +82,12 @@ fn look<G: Lines>(map: &MeasureMap, lines: &G, notes: &mut Notes, v: Vertex)
     ensures kept { KeepsAt map.now.bounds (G.line lines.now) map.now.measures nothing notes.new.waits notes.new.best v }
     ensures others { AreSameBut v notes.old.waits notes.new.waits notes.old.best notes.new.best }
 {
-    let choice = first_best(map, lines, v);
+    let choice = first_best(map, lines, notes, v);
     notes.remember(v, choice);
-    if !is_greatest(map.bounds().pairs(), lines.priority(v)) {
+    if !is_greatest(map.bounds().pairs(), priority(map, lines, notes, v)) {
         notes.put_off(v);
     }
-    if !map.serves(lines, v, choice) {
+    if !serves(map, lines, notes, v, choice) {
         notes.add(v);
     }
 }
@@ -117,8 +120,9 @@ pub(crate) fn add_line(
     ensures note_room { notes.new.span.room ≡ notes.old.span.room }
 {
     let v = Vertex(head.vertex);
-    part.add(v, head.priority, player(head.owner), successors);
-    notes.begin(v);
+    let owner = player(head.owner);
+    part.add(v, head.priority, owner, successors);
+    notes.begin(v, head.priority, owner);
     look(map, part, notes, v);
 }
 

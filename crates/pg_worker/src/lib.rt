@@ -3,6 +3,7 @@
 #![tactic(auto)]
 
 mod adding;
+mod asked;
 mod cut;
 mod edges;
 mod fault;

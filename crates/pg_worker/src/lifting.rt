@@ -12,6 +12,7 @@ ghost use Rattle.pg_worker.specs.Mirrors.Notes.{AreNotes, IsSameSpan};
 ghost use Rattle.pg_worker.specs.Workers.{AreLifts};
 
 use crate::WorkerFault;
+use crate::asked::priority;
 use crate::edges::Edges;
 use crate::listing::Listing;
 use crate::notes::Notes;
@@ -80,7 +81,7 @@ pub(crate) fn lift_ready<G: Lines>(
     ensures under { StaysUnder map.old.bounds (G.line lines.now) map.old.measures map.new.measures }
     ensures kept { IsKept map.old.bounds (G.line lines.now) map.new.measures notes.new.waits notes.new.best }
 {
-    map.lift_over(lines, v, notes.best(v));
+    map.lift_over(lines, priority(map, lines, notes, v), v, notes.best(v));
     notes.lifted(v);
     touch_all(map, lines, edges, notes, v);
 }

@@ -1,10 +1,10 @@
 //! What a worker remembers of the vertices of its part, and which of them wait.
 
-ghost use Rattle.std.specs.Prelude.{◌≡◌, ℕ, ◌+◌, ◌-◌, ◌<◌, ◌≤◌, true, false, length, replicate, slice_set, slice_index_or, IfOk, IfSome, IfNone, OnOk, vec_capacity};
-ghost use Rattle.pg_worker.specs.Mirrors.Notes.{AreSameNotes, HasNote, HasRoom, no_note};
+ghost use Rattle.std.specs.Prelude.{◌≡◌, ◌↔◌, ℕ, ◌+◌, ◌-◌, ◌<◌, ◌≤◌, Some, None, true, false, length, replicate, slice_set, slice_index_or, IfOk, IfSome, IfNone, IsSome, IsTrue, OnOk, vec_capacity};
+ghost use Rattle.pg_worker.specs.Mirrors.Notes.{AreSameNotes, HasNote, HasRoom, no_note, label_of};
 
 use crate::note::Note;
-use pg_arena::Vertex;
+use pg_arena::{Player, Vertex};
 use std::alloc::{AllocError, Global};
 use std::marker::Model;
 use std::mem;
@@ -27,11 +27,11 @@ pub struct Notes {
 
 impl Model for Notes {
     ghost use Rattle.std.specs.Prelude.{length};
-    ghost use Rattle.pg_worker.specs.Mirrors.Notes.{NotesValue, AreNoted, waits_of, best_of};
+    ghost use Rattle.pg_worker.specs.Mirrors.Notes.{NotesValue, AreNoted, waits_of, best_of, labels_of};
 
     ghost Value = { NotesValue };
 
-    ghost view = { λ n. record { waits = waits_of n.vertices n.first n.notes.items; best = best_of n.vertices n.first n.notes.items; span = record { first = n.first; size = length n.notes.items; room = n.notes.cap } } };
+    ghost view = { λ n. record { waits = waits_of n.vertices n.first n.notes.items; best = best_of n.vertices n.first n.notes.items; span = record { first = n.first; size = length n.notes.items; room = n.notes.cap; labels = labels_of n.vertices n.first n.notes.items } } };
 
     ghost invariant = { λ n. AreNoted n.vertices n.first n.notes.items n.stack.items n.next.items n.stack.cap n.next.cap };
 }
@@ -57,6 +57,9 @@ fn lengthen(notes: &mut Vec<Note>, count: usize)
         notes.push_reserved(Note {
             best: Vertex(0),
             lifts: 0,
+            priority: 0,
+            owner: Player::Even,
+            is_held: false,
             waits: false,
         });
     }
@@ -68,6 +71,7 @@ impl Notes {
         ensures waits { IfOk result (λ n. n.waits ≡ replicate count false) }
         ensures best { IfOk result (λ n. n.best ≡ replicate count 0) }
         ensures none { IfOk result (λ n. n.span.size ≡ 0) }
+        ensures labels { IfOk result (λ n. n.span.labels ≡ replicate count None) }
     {
         Ok(Notes {
             vertices: count,
@@ -98,8 +102,9 @@ impl Notes {
         Ok(())
     }
 
-    /// Begins a note of a vertex, for which there is room.
-    pub fn begin(&mut self, v: Vertex)
+    /// Begins a note of a vertex, for which there is room: the vertex is of the part, and this is its label.
+    #[inline(always)]
+    pub fn begin(&mut self, v: Vertex, priority: u32, owner: Player)
         requires v { v < length self.old.waits }
         requires room { HasRoom self.old.span v }
         ensures waits { self.new.waits ≡ self.old.waits }
@@ -108,8 +113,41 @@ impl Notes {
         ensures more { (w : ℕ) → HasNote self.old.span w → HasNote self.new.span w }
         ensures first { self.new.span.first ≡ self.old.span.first }
         ensures room { self.new.span.room ≡ self.old.span.room }
+        ensures labels { self.new.span.labels ≡ slice_set self.old.span.labels v (Some (label_of priority owner)) }
     {
-        lengthen(&mut self.notes, place(self.first, v) + 1);
+        let at = place(self.first, v);
+        lengthen(&mut self.notes, at + 1);
+        let note = self.notes[at];
+        self.notes[at] = Note {
+            priority,
+            owner,
+            is_held: true,
+            ..note
+        };
+    }
+
+    /// Whether a vertex is of the part.
+    pub fn holds(&self, v: Vertex) -> bool
+        requires { HasNote self.now.span v }
+        ensures { IsTrue result ↔ IsSome (slice_index_or self.now.span.labels v None) }
+    {
+        self.notes[place(self.first, v)].is_held
+    }
+
+    /// The priority of a vertex of the part.
+    pub fn priority(&self, v: Vertex) -> u32
+        requires { HasNote self.now.span v }
+        ensures { IfSome (slice_index_or self.now.span.labels v None) (λ l. result ≡ l.priority) }
+    {
+        self.notes[place(self.first, v)].priority
+    }
+
+    /// The owner of a vertex of the part.
+    pub fn owner(&self, v: Vertex) -> Player
+        requires { HasNote self.now.span v }
+        ensures { IfSome (slice_index_or self.now.span.labels v None) (λ l. result ≡ l.owner) }
+    {
+        self.notes[place(self.first, v)].owner
     }
 
     /// The successor that is remembered of a vertex.
@@ -131,8 +169,7 @@ impl Notes {
         let note = self.notes[at];
         self.notes[at] = Note {
             best: successor,
-            lifts: note.lifts,
-            waits: note.waits,
+            ..note
         };
     }
 
@@ -155,9 +192,8 @@ impl Notes {
         let note = self.notes[at];
         if !note.waits {
             self.notes[at] = Note {
-                best: note.best,
-                lifts: note.lifts,
                 waits: true,
+                ..note
             };
             if note.lifts.wrapping_sub(self.generation) == LIFTS {
                 self.next.push_reserved(v);
@@ -175,9 +211,8 @@ impl Notes {
         let at = place(self.first, v);
         let note = self.notes[at];
         self.notes[at] = Note {
-            best: note.best,
             lifts: self.generation.wrapping_add(LIFTS),
-            waits: note.waits,
+            ..note
         };
     }
 
@@ -193,17 +228,14 @@ impl Notes {
             count if count < LIFTS => note.lifts.wrapping_add(1),
             _ => self.generation.wrapping_add(1),
         };
-        self.notes[at] = Note {
-            best: note.best,
-            lifts,
-            waits: note.waits,
-        };
+        self.notes[at] = Note { lifts, ..note };
     }
 
     /// Takes a vertex that waits.
     pub fn pop(&mut self) -> Option<Vertex>
         ensures some { IfSome result (λ v. (v < length self.old.waits) × (slice_index_or self.old.waits v false ≡ true)
             × (self.new.waits ≡ slice_set self.old.waits v false)) }
+        ensures there { IfSome result (HasNote self.old.span) }
         ensures none { IfNone result ((v : ℕ) → slice_index_or self.old.waits v false ≡ false) }
         ensures same { IfNone result (self.new.waits ≡ self.old.waits) }
         ensures best { self.new.best ≡ self.old.best }
@@ -217,9 +249,8 @@ impl Notes {
         let at = place(self.first, v);
         let note = self.notes[at];
         self.notes[at] = Note {
-            best: note.best,
-            lifts: note.lifts,
             waits: false,
+            ..note
         };
         Some(v)
     }

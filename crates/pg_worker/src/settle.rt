@@ -10,6 +10,7 @@ ghost use Rattle.pg_map.specs.Mirrors.Tables.{IsBest};
 ghost use Rattle.pg_worker.specs.Mirrors.Keeps.{IsAmong, Keeps, IsKept, IsReady, nothing};
 ghost use Rattle.pg_worker.specs.Mirrors.Notes.{AreNotes, IsSameSpan};
 
+use crate::asked::{holds, is_front_below, owner, serves};
 use crate::notes::Notes;
 use pg_arena::{Player, Vertex};
 use pg_map::{Lines, MeasureMap};
@@ -17,11 +18,18 @@ use pg_map::{Lines, MeasureMap};
 /// A successor that serves the vertex, and true; if none does, the least of them, and false. The one that is given doesn't
 /// serve it, so that only those below the least so far may.
 #[inline(always)]
-fn choose<G: Lines>(map: &MeasureMap, lines: &G, v: Vertex, given: Vertex) -> (Vertex, bool)
+fn choose<G: Lines>(
+    map: &MeasureMap,
+    lines: &G,
+    notes: &Notes,
+    v: Vertex,
+    given: Vertex,
+) -> (Vertex, bool)
     requires among { IsAmong given (line_at (G.line lines.now) v).successors }
     requires unserved { ¬ (IsServedBy map.now.bounds (G.line lines.now) map.now.measures v given) }
     requires held { IsSome (G.line lines.now v) }
     requires within { AreWithin (length map.now.measures) (G.line lines.now) }
+    requires notes { AreNotes (length map.now.measures) (G.line lines.now) notes.now }
     ensures among { IsAmong result.0 (line_at (G.line lines.now) v).successors }
     ensures serves { OnTrue result.1 (IsServedBy map.now.bounds (G.line lines.now) map.now.measures v result.0) }
     ensures best { OnFalse result.1 (IsBest Even
@@ -31,8 +39,8 @@ fn choose<G: Lines>(map: &MeasureMap, lines: &G, v: Vertex, given: Vertex) -> (V
 {
     let mut least = given;
     for w in lines.successors(v) {
-        if map.is_front_below(lines, v, *w, least) {
-            if map.serves(lines, v, *w) {
+        if is_front_below(map, lines, notes, v, *w, least) {
+            if serves(map, lines, notes, v, *w) {
                 return (*w, true);
             }
             least = *w;
@@ -59,12 +67,12 @@ pub(crate) fn settle<G: Lines>(map: &MeasureMap, lines: &G, notes: &mut Notes, v
     ensures ready { OnFalse result (IsReady map.now.bounds (G.line lines.now) map.now.measures notes.new.best v) }
 {
     let remembered = notes.best(v);
-    if map.serves(lines, v, remembered) {
+    if serves(map, lines, notes, v, remembered) {
         return true;
     }
-    match lines.owner(v) {
+    match owner(map, lines, notes, v) {
         Player::Even => {
-            let (w, serves) = choose(map, lines, v, remembered);
+            let (w, serves) = choose(map, lines, notes, v, remembered);
             notes.remember(v, w);
             serves
         }
@@ -87,7 +95,7 @@ pub(crate) fn next_ready<G: Lines>(map: &MeasureMap, lines: &G, notes: &mut Note
     ensures closed { IfNone result (IsClosed map.now.bounds (G.line lines.now) map.now.measures) }
 {
     while let Some(v) = notes.pop() {
-        if lines.holds(v) && !settle(map, lines, notes, v) {
+        if holds(map, lines, notes, v) && !settle(map, lines, notes, v) {
             return Some(v);
         }
     }

@@ -6,6 +6,7 @@ ghost use Rattle.pg_worker.specs.Mirrors.Edges.{AreEdges, IsListed};
 ghost use Rattle.pg_worker.specs.Mirrors.Keeps.{IsAmong, KeepsAt, IsKept, IsKeptBut, AreSameBut, nothing, just};
 ghost use Rattle.pg_worker.specs.Mirrors.Notes.{AreNotes, IsSameSpan};
 
+use crate::asked::{is_front_below, owner, serves};
 use crate::edges::Edges;
 use crate::notes::Notes;
 use pg_arena::{Player, Vertex};
@@ -24,7 +25,7 @@ pub(crate) fn touch<G: Lines>(map: &MeasureMap, lines: &G, notes: &mut Notes, u:
     ensures kept { KeepsAt map.now.bounds (G.line lines.now) map.now.measures nothing notes.new.waits notes.new.best u }
     ensures others { AreSameBut u notes.old.waits notes.new.waits notes.old.best notes.new.best }
 {
-    match lines.owner(u) {
+    match owner(map, lines, notes, u) {
         Player::Even => {
             if notes.best(u) == x {
                 notes.add(u);
@@ -32,10 +33,10 @@ pub(crate) fn touch<G: Lines>(map: &MeasureMap, lines: &G, notes: &mut Notes, u:
         }
         Player::Odd => {
             if notes.waits(u) {
-                if map.is_front_below(lines, u, notes.best(u), x) {
+                if is_front_below(map, lines, notes, u, notes.best(u), x) {
                     notes.remember(u, x);
                 }
-            } else if !map.serves(lines, u, x) {
+            } else if !serves(map, lines, notes, u, x) {
                 notes.remember(u, x);
                 notes.add(u);
             }

@@ -17,7 +17,7 @@ look-requires-clause-within c =
     let part' = c.add.new.self in
     let lt = c.requires.fits.vertex in
     let size = c.requires.inside.size in
-    let lines : part'.lines ≡ set part.lines v (Some l) = rw c.player.ensures at c.add.ensures.lines in
+    let lines : part'.lines ≡ set part.lines v (Some l) = rw c.player-owner.ensures at c.add.ensures.lines in
     let new : IsNewLine (held_line part) (held_line part') v l = new_line_set part part' v l lines (omega arith) c.requires.new in
     within_more part part' c.args.map.now c.args.notes.now v l new lt c.requires.fits.successors c.requires.some c.requires.inside
 
@@ -30,9 +30,9 @@ returns-clause-inside c =
     let part' = c.add.new.self in
     let lt = c.requires.fits.vertex in
     let size = c.requires.inside.size in
-    let lines : part'.lines ≡ set part.lines v (Some l) = rw c.player.ensures at c.add.ensures.lines in
+    let lines : part'.lines ≡ set part.lines v (Some l) = rw c.player-owner.ensures at c.add.ensures.lines in
     let new : IsNewLine (held_line part) (held_line part') v l = new_line_set part part' v l lines (omega arith) c.requires.new in
-    let noted : AreNotes (length c.args.map.now.measures) (held_line part') c.begin.new.self = notes_more (length c.args.map.now.measures) (held_line part) (held_line part') c.args.notes.now c.begin.new.self v l new c.begin.ensures.waits c.begin.ensures.best c.begin.ensures.there c.begin.ensures.more c.requires.inside.noted in
+    let noted : AreNotes (length c.args.map.now.measures) (held_line part') c.begin.new.self = notes_more (length c.args.map.now.measures) (held_line part) (held_line part') c.args.notes.now c.begin.new.self v l new c.begin.ensures.waits c.begin.ensures.best lt (rw c.player-owner.ensures at c.begin.ensures.labels) c.begin.ensures.there c.begin.ensures.more c.requires.inside.noted in
     worker_more part part' c.args.map.now c.args.notes.now c.begin.new.self c.look.new.notes v l new lt c.requires.fits.successors c.requires.some (ap length lines ∙ length-set part.lines v (Some l))
     c.add.ensures.edges c.begin.ensures.waits c.begin.ensures.best noted c.look.ensures.span c.look.ensures.kept c.look.ensures.others c.requires.inside
 
@@ -45,9 +45,9 @@ look-requires-clause-notes c =
     let part' = c.add.new.self in
     let lt = c.requires.fits.vertex in
     let size = c.requires.inside.size in
-    let lines : part'.lines ≡ set part.lines v (Some l) = rw c.player.ensures at c.add.ensures.lines in
+    let lines : part'.lines ≡ set part.lines v (Some l) = rw c.player-owner.ensures at c.add.ensures.lines in
     let new : IsNewLine (held_line part) (held_line part') v l = new_line_set part part' v l lines (omega arith) c.requires.new in
-    notes_more (length c.args.map.now.measures) (held_line part) (held_line part') c.args.notes.now c.begin.new.self v l new c.begin.ensures.waits c.begin.ensures.best c.begin.ensures.there c.begin.ensures.more c.requires.inside.noted
+    notes_more (length c.args.map.now.measures) (held_line part) (held_line part') c.args.notes.now c.begin.new.self v l new c.begin.ensures.waits c.begin.ensures.best lt (rw c.player-owner.ensures at c.begin.ensures.labels) c.begin.ensures.there c.begin.ensures.more c.requires.inside.noted
 
 pub returns-clause-note_first : goal.returns-clause-note_first
 returns-clause-note_first c = ap (λ (p : Span). p.first) c.look.ensures.span.span ∙ c.begin.ensures.first

@@ -2,7 +2,7 @@ use Rattle.std.proofs.Common.{◌≡◌, ◌<◌, ◌∙◌, length, get_or, set
 use Rattle.std.proofs.lemmas.List.{set-get_or}
 use Rattle.pg_worker.specs.Mirrors.Notes.{HasNote, waits_of}
 use Rattle.pg_worker.proofs.Stacks.{room_left}
-use Rattle.pg_worker.proofs.Noting.{IsAt, is_at, value_of, waits_size, waits_read, waits_set, noted_pushed, noted_swapped, not_on, not_off}
+use Rattle.pg_worker.proofs.Noting.{IsAt, is_at, value_of, waits_size, waits_read, waits_set, span_kept, noted_pushed, noted_swapped, not_on, not_off}
 use Rattle.pg_worker.proofs.notes.Notes.add.Goals as goal
 
 pub push_reserved-requires : goal.push_reserved-requires
@@ -62,3 +62,17 @@ returns-else-not-note-clause-waits c =
     let ws = waits_of w.vertices w.first w.notes.items in
     let on : get_or ws c.args.v false ≡ true = waits_read w.vertices w.first w.notes.items c.args.v c.place-at.result c.index-note.result.now p ∙ not_off _ c.if-not-note.false in
     rw (← c.self.view_is) (sym (ap (λ b. set ws c.args.v b) (sym on) ∙ set-get_or ws c.args.v false))
+
+pub returns-then-note-self-eq-LIFTS-clause-span : goal.returns-then-note-self-eq-LIFTS-clause-span
+returns-then-note-self-eq-LIFTS-clause-span c =
+    let w = c.self.inside in
+    let req : HasNote (value_of w.vertices w.first w.notes.items w.notes.cap).span c.args.v = rw (← c.self.view_is) at c.requires in
+    let p : IsAt w.vertices w.first w.notes.items c.args.v c.place-at.result c.index-note.result.now = is_at w.vertices w.first w.notes.items c.args.v c.place-at.result c.index-note.result.now c.place-at.ensures req.from req.before c.self.invariant.within c.index-note.ensures in
+    rw (← c.self.view_is) (span_kept w.vertices w.first w.notes.items w.notes.cap c.args.v c.place-at.result c.index-note.result.now _ p refl)
+
+pub returns-else-note-self-eq-LIFTS-clause-span : goal.returns-else-note-self-eq-LIFTS-clause-span
+returns-else-note-self-eq-LIFTS-clause-span c =
+    let w = c.self.inside in
+    let req : HasNote (value_of w.vertices w.first w.notes.items w.notes.cap).span c.args.v = rw (← c.self.view_is) at c.requires in
+    let p : IsAt w.vertices w.first w.notes.items c.args.v c.place-at.result c.index-note.result.now = is_at w.vertices w.first w.notes.items c.args.v c.place-at.result c.index-note.result.now c.place-at.ensures req.from req.before c.self.invariant.within c.index-note.ensures in
+    rw (← c.self.view_is) (span_kept w.vertices w.first w.notes.items w.notes.cap c.args.v c.place-at.result c.index-note.result.now _ p refl)

@@ -15,4 +15,4 @@ returns c =
     let w = c.self.inside in
     let req : HasNote (value_of w.vertices w.first w.notes.items w.notes.cap).span c.args.v = rw (← c.self.view_is) at c.requires in
     let p : IsAt w.vertices w.first w.notes.items c.args.v c.place-at.result c.index-note.result.now = is_at w.vertices w.first w.notes.items c.args.v c.place-at.result c.index-note.result.now c.place-at.ensures req.from req.before c.self.invariant.within c.index-note.ensures in
-    rw (← c.self.view_is) (value_kept w.vertices w.first w.notes.items w.notes.cap c.args.v c.place-at.result c.index-note.result.now _ p refl refl)
+    rw (← c.self.view_is) (value_kept w.vertices w.first w.notes.items w.notes.cap c.args.v c.place-at.result c.index-note.result.now _ p refl refl refl)

@@ -1,5 +1,6 @@
 use Rattle.std.proofs.Common.{length, ap, arith}
 use Rattle.pg_worker.specs.declared.note.Note.{Note}
+use Rattle.pg_worker.specs.Mirrors.Notes.{label_in}
 use Rattle.pg_worker.proofs.Noting.{noted_none, told_nothing}
 use Rattle.pg_worker.proofs.notes.Notes.new.Goals as goal
 
@@ -13,3 +14,6 @@ returns-clause-waits c = told_nothing (λ (m : Note). m.waits) c.args.count 0 c.
 
 pub returns-clause-best : goal.returns-clause-best
 returns-clause-best c = told_nothing (λ (m : Note). m.best) c.args.count 0 c.new.result.items (ap length c.new.ensures.items)
+
+pub returns-clause-labels : goal.returns-clause-labels
+returns-clause-labels c = told_nothing label_in c.args.count 0 c.new.result.items (ap length c.new.ensures.items)

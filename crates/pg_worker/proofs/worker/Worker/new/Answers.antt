@@ -1,4 +1,5 @@
-use Rattle.std.proofs.Common.{◌≡◌, ◌∙◌, length, ap, sym, arith, false, None}
+use Rattle.std.proofs.Common.{◌≡◌, ◌∙◌, ℕ, length, ap, sym, arith, false, None}
+use Rattle.std.specs.Prelude.{replicate}
 use Rattle.std.proofs.lemmas.List.{length-replicate}
 use Rattle.pg_measure.specs.Measures.{zeros}
 use Rattle.pg_worker.proofs.Working.{worker_empty, none_held_at, next_empty}
@@ -13,7 +14,7 @@ invariant_of-result c =
     let b : length c.in_ok-notes.notes.best ≡ length map.measures = ap length c.in_ok-notes.ensures.best ∙ (length-replicate n 0 ∙ sym m) in
     let none = none_held_at c.new-part.result n c.new-part.ensures.none in
     record {
-      inside = worker_empty c.new-part.result map c.in_ok-notes.notes none c.new-part.ensures.edges w b (ap length c.new-part.ensures.none ∙ (length-replicate n None ∙ sym m));
+      inside = worker_empty c.new-part.result map c.in_ok-notes.notes none c.new-part.ensures.edges w b (ap length c.new-part.ensures.none ∙ (length-replicate n None ∙ sym m)) (c.in_ok-notes.ensures.labels ∙ ap (λ (k : ℕ). replicate k None) (sym m));
       ready = record {
         size = let e = c.in_ok-edges.ensures.size in omega arith;
         few = let e = c.new-part.ensures.edges in omega arith;
