@@ -86,6 +86,14 @@ pub fn least_map_of_dual(alloc: Global, game: &Game) -> Result<MeasureMap, Arena
     Ok(least_map(alloc, &other)?)
 }
 
+/// The map of the dual of a game with zeros everywhere.
+pub fn zero_map_of_dual(alloc: Global, game: &Game) -> Result<MeasureMap, ArenaFault>
+    requires { HasPrioritiesUpTo 65535 game.now }
+{
+    let other = dual(alloc, game)?;
+    Ok(zero_map(alloc, &other)?)
+}
+
 /// The answer of `strategies`, if the maps are closed.
 fn solved(
     alloc: Global,

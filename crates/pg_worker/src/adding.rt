@@ -122,7 +122,7 @@ pub(crate) fn add_line(
     let v = Vertex(head.vertex);
     let owner = player(head.owner);
     part.add(v, head.priority, owner, successors);
-    notes.begin(v, head.priority, owner);
+    notes.hold(v, head.priority, owner);
     look(map, part, notes, v);
 }
 

@@ -1,6 +1,7 @@
 //! What a worker remembers of the vertices of its part, and which of them wait.
 
-ghost use Rattle.std.specs.Prelude.{◌≡◌, ◌↔◌, ℕ, ◌+◌, ◌-◌, ◌<◌, ◌≤◌, Some, None, true, false, length, replicate, slice_set, slice_index_or, IfOk, IfSome, IfNone, IsSome, IsTrue, OnOk, vec_capacity};
+ghost use Rattle.std.specs.Prelude.{◌≡◌, ◌↔◌, ℕ, ◌+◌, ◌-◌, ◌<◌, ◌≤◌, ◌++◌, ◌∷◌, [], List, Bool, Some, None, true, false, length, replicate, slice_set, slice_index_or, IfOk, IfSome, IfNone, IsSome, IsTrue, OnOk, vec_capacity};
+ghost use Rattle.pg_worker.specs.Mirrors.Worklists.{IsWorklist};
 ghost use Rattle.pg_worker.specs.Mirrors.Notes.{AreSameNotes, HasNote, HasRoom, no_note, label_of};
 
 use crate::note::Note;
@@ -65,6 +66,28 @@ fn lengthen(notes: &mut Vec<Note>, count: usize)
     }
 }
 
+/// Takes the last vertex of this generation; where none is left of it, the last of the next one, which begins then.
+#[inline(always)]
+fn take_last(
+    stack: &mut Vec<Vertex>,
+    next: &mut Vec<Vertex>,
+    generation: &mut u32,
+) -> Option<Vertex>
+    ensures some { (marked : List Bool)
+        → IsWorklist stack.old.items next.old.items marked stack.old.cap next.old.cap
+        → IfSome result (λ v. IsWorklist (stack.new.items ++ v ∷ []) next.new.items marked stack.new.cap next.new.cap) }
+    ensures none { IfNone result ((stack.old.items ≡ []) × (next.old.items ≡ [])) }
+    ensures left { (marked : List Bool)
+        → IsWorklist stack.old.items next.old.items marked stack.old.cap next.old.cap
+        → IfNone result (IsWorklist stack.new.items next.new.items marked stack.new.cap next.new.cap) }
+{
+    if stack.is_empty() {
+        mem::swap(stack, next);
+        *generation = generation.wrapping_add(LIFTS + 1);
+    }
+    stack.pop()
+}
+
 impl Notes {
     /// No notes, of vertices below `count`: none waits. The room for those that wait is taken here.
     pub fn new(alloc: Global, count: u32) -> Result<Notes, AllocError>
@@ -102,9 +125,46 @@ impl Notes {
         Ok(())
     }
 
-    /// Begins a note of a vertex, for which there is room: the vertex is of the part, and this is its label.
+    /// Makes a note of a vertex, for which there is room, if there is none.
     #[inline(always)]
-    pub fn begin(&mut self, v: Vertex, priority: u32, owner: Player)
+    fn begin(&mut self, v: Vertex)
+        requires v { v < length self.old.waits }
+        requires room { HasRoom self.old.span v }
+        ensures waits { self.new.waits ≡ self.old.waits }
+        ensures best { self.new.best ≡ self.old.best }
+        ensures there { HasNote self.new.span v }
+        ensures more { (w : ℕ) → HasNote self.old.span w → HasNote self.new.span w }
+        ensures first { self.new.span.first ≡ self.old.span.first }
+        ensures room { self.new.span.room ≡ self.old.span.room }
+        ensures labels { self.new.span.labels ≡ self.old.span.labels }
+    {
+        lengthen(&mut self.notes, place(self.first, v) + 1);
+    }
+
+    /// Says that a vertex is of the part, and gives its label.
+    #[inline(always)]
+    fn put_label(&mut self, v: Vertex, priority: u32, owner: Player)
+        requires { HasNote self.old.span v }
+        ensures waits { self.new.waits ≡ self.old.waits }
+        ensures best { self.new.best ≡ self.old.best }
+        ensures size { self.new.span.size ≡ self.old.span.size }
+        ensures first { self.new.span.first ≡ self.old.span.first }
+        ensures room { self.new.span.room ≡ self.old.span.room }
+        ensures labels { self.new.span.labels ≡ slice_set self.old.span.labels v (Some (label_of priority owner)) }
+    {
+        let at = place(self.first, v);
+        let note = self.notes[at];
+        self.notes[at] = Note {
+            priority,
+            owner,
+            is_held: true,
+            ..note
+        };
+    }
+
+    /// Adds a vertex to the part, for which there is room: it doesn't wait more than before, and this is its label.
+    #[inline(always)]
+    pub fn hold(&mut self, v: Vertex, priority: u32, owner: Player)
         requires v { v < length self.old.waits }
         requires room { HasRoom self.old.span v }
         ensures waits { self.new.waits ≡ self.old.waits }
@@ -115,15 +175,8 @@ impl Notes {
         ensures room { self.new.span.room ≡ self.old.span.room }
         ensures labels { self.new.span.labels ≡ slice_set self.old.span.labels v (Some (label_of priority owner)) }
     {
-        let at = place(self.first, v);
-        lengthen(&mut self.notes, at + 1);
-        let note = self.notes[at];
-        self.notes[at] = Note {
-            priority,
-            owner,
-            is_held: true,
-            ..note
-        };
+        self.begin(v);
+        self.put_label(v, priority, owner);
     }
 
     /// Whether a vertex is of the part.
@@ -241,11 +294,7 @@ impl Notes {
         ensures best { self.new.best ≡ self.old.best }
         ensures span { self.new.span ≡ self.old.span }
     {
-        if self.stack.is_empty() {
-            mem::swap(&mut self.stack, &mut self.next);
-            self.generation = self.generation.wrapping_add(LIFTS + 1);
-        }
-        let v = self.stack.pop()?;
+        let v = take_last(&mut self.stack, &mut self.next, &mut self.generation)?;
         let at = place(self.first, v);
         let note = self.notes[at];
         self.notes[at] = Note {

@@ -32,9 +32,9 @@ returns-clause-inside c =
     let size = c.requires.inside.size in
     let lines : part'.lines ≡ set part.lines v (Some l) = rw c.player-owner.ensures at c.add.ensures.lines in
     let new : IsNewLine (held_line part) (held_line part') v l = new_line_set part part' v l lines (omega arith) c.requires.new in
-    let noted : AreNotes (length c.args.map.now.measures) (held_line part') c.begin.new.self = notes_more (length c.args.map.now.measures) (held_line part) (held_line part') c.args.notes.now c.begin.new.self v l new c.begin.ensures.waits c.begin.ensures.best lt (rw c.player-owner.ensures at c.begin.ensures.labels) c.begin.ensures.there c.begin.ensures.more c.requires.inside.noted in
-    worker_more part part' c.args.map.now c.args.notes.now c.begin.new.self c.look.new.notes v l new lt c.requires.fits.successors c.requires.some (ap length lines ∙ length-set part.lines v (Some l))
-    c.add.ensures.edges c.begin.ensures.waits c.begin.ensures.best noted c.look.ensures.span c.look.ensures.kept c.look.ensures.others c.requires.inside
+    let noted : AreNotes (length c.args.map.now.measures) (held_line part') c.hold.new.self = notes_more (length c.args.map.now.measures) (held_line part) (held_line part') c.args.notes.now c.hold.new.self v l new c.hold.ensures.waits c.hold.ensures.best lt (rw c.player-owner.ensures at c.hold.ensures.labels) c.hold.ensures.there c.hold.ensures.more c.requires.inside.noted in
+    worker_more part part' c.args.map.now c.args.notes.now c.hold.new.self c.look.new.notes v l new lt c.requires.fits.successors c.requires.some (ap length lines ∙ length-set part.lines v (Some l))
+    c.add.ensures.edges c.hold.ensures.waits c.hold.ensures.best noted c.look.ensures.span c.look.ensures.kept c.look.ensures.others c.requires.inside
 
 pub look-requires-clause-notes : goal.look-requires-clause-notes
 look-requires-clause-notes c =
@@ -47,10 +47,10 @@ look-requires-clause-notes c =
     let size = c.requires.inside.size in
     let lines : part'.lines ≡ set part.lines v (Some l) = rw c.player-owner.ensures at c.add.ensures.lines in
     let new : IsNewLine (held_line part) (held_line part') v l = new_line_set part part' v l lines (omega arith) c.requires.new in
-    notes_more (length c.args.map.now.measures) (held_line part) (held_line part') c.args.notes.now c.begin.new.self v l new c.begin.ensures.waits c.begin.ensures.best lt (rw c.player-owner.ensures at c.begin.ensures.labels) c.begin.ensures.there c.begin.ensures.more c.requires.inside.noted
+    notes_more (length c.args.map.now.measures) (held_line part) (held_line part') c.args.notes.now c.hold.new.self v l new c.hold.ensures.waits c.hold.ensures.best lt (rw c.player-owner.ensures at c.hold.ensures.labels) c.hold.ensures.there c.hold.ensures.more c.requires.inside.noted
 
 pub returns-clause-note_first : goal.returns-clause-note_first
-returns-clause-note_first c = ap (λ (p : Span). p.first) c.look.ensures.span.span ∙ c.begin.ensures.first
+returns-clause-note_first c = ap (λ (p : Span). p.first) c.look.ensures.span.span ∙ c.hold.ensures.first
 
 pub returns-clause-note_room : goal.returns-clause-note_room
-returns-clause-note_room c = ap (λ (p : Span). p.room) c.look.ensures.span.span ∙ c.begin.ensures.room
+returns-clause-note_room c = ap (λ (p : Span). p.room) c.look.ensures.span.span ∙ c.hold.ensures.room
