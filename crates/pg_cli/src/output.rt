@@ -1,6 +1,6 @@
 //! Measures as text.
 
-ghost use Rattle.std.specs.Prelude.{◌≡◌, ◌++◌, Some, decimal, OnOk, OnSome, IfSome};
+ghost use Rattle.std.specs.Prelude.{◌≡◌, ◌++◌, Some, decimal, OnOk, OnSome};
 ghost use Rattle.std.specs.List.{flat_map};
 ghost use Rattle.std.specs.Io.KnownBytes.{Appends};
 ghost use Rattle.pg_measure.specs.Views.{measure_in};
@@ -56,19 +56,19 @@ fn add_numbers(line: &mut ShortLine, numbers: &[u32]) -> Option<()>
     }
 }
 
-/// The line of a vertex whose measure is a list of few components, if it is short.
-fn short_line(identifier: u32, components: &[u32]) -> Option<ShortLine>
-    ensures { IfSome result (λ line. line.items ≡ measure_line identifier (Some components.now)) }
+/// Appends the line of a vertex whose measure is a list of few components. None where there are none or many, and where the
+/// line doesn't fit.
+#[inline(always)]
+fn add_line(line: &mut ShortLine, identifier: u32, components: &[u32]) -> Option<()>
+    ensures { OnSome result (line.new.items ≡ line.old.items ++ measure_line identifier (Some components.now)) }
 {
     if components.is_empty() || components.len() > MOST {
         return None;
     }
-    let mut line = ArrayVec::new();
-    add_number(&mut line, identifier)?;
+    add_number(line, identifier)?;
     line.try_push(b' ').ok()?;
-    add_numbers(&mut line, components)?;
-    line.try_extend_from_slice(b";\n").ok()?;
-    Some(line)
+    add_numbers(line, components)?;
+    line.try_extend_from_slice(b";\n").ok()
 }
 
 /// Writes a measure: `T` for top, `-` for the list without components, and else the components with commas.
@@ -93,7 +93,8 @@ pub(crate) fn write_measure_line<W: Write>(
         (measure_line identifier (measure_in measure.entry))) }
 {
     if let View::List(components) = measure {
-        if let Some(line) = short_line(identifier, components) {
+        let mut line = ArrayVec::new();
+        if add_line(&mut line, identifier, components).is_some() {
             return writer.write_all(line.as_slice());
         }
     }
