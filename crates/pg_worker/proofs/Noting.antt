@@ -101,7 +101,8 @@ pub told_moved : {X : Type 0} (f : Note → X) (d : X) (n first first' : ℕ) (n
 told_moved f d n first first' notes none = told_same f d n first first' notes notes (λ v. ap f (nothing_in first' notes v none ∙ sym (nothing_in first notes v none)))
 
 -- the same notes; where there are none, they may begin elsewhere
-pub told_either : {X : Type 0} (f : Note → X) (d : X) (n first first' : ℕ) (notes notes' : List Note) → notes' ≡ notes → (length notes ≡ 0) ⊎ (first' ≡ first) → told_of f n first' notes' ≡ told_of f n first notes
+pub told_either : {X : Type 0} (f : Note → X) (d : X) (n first first' : ℕ) (notes notes' : List Note) → notes' ≡ notes
+    → (length notes ≡ 0) ⊎ (first' ≡ first) → told_of f n first' notes' ≡ told_of f n first notes
 told_either f d n first first' notes notes' e (inl none) = rw e (told_moved f d n first first' notes none)
 told_either f d n first first' notes notes' e (inr same) = rw (e, same) refl
 
@@ -194,6 +195,11 @@ value_of count first notes room = record {
   span = record { first = first; size = length notes; room = room; labels = labels_of count first notes };
 }
 
+-- the place of the note of a vertex that has one
+pub there_at : (count first : ℕ) (notes : List Note) (cap v at : ℕ) (r : Note) → at ≡ v - first → r ≡ get_or notes at r
+    → HasNote (value_of count first notes cap).span v → first + length notes ≤ count → IsAt count first notes v at r
+there_at count first notes cap v at r e read there within = is_at count first notes v at r e there.from there.before within read
+
 pub waits_set : (count first : ℕ) (notes : List Note) (v at : ℕ) (r m : Note) → IsAt count first notes v at r → waits_of count first (set notes at m) ≡ set (waits_of count first notes) v m.waits
 waits_set count first notes v at r m p = written (λ (k : Note). k.waits) false count first notes v at r m p
 
@@ -212,17 +218,21 @@ waits_read count first notes v at r p = told_read (λ (k : Note). k.waits) false
 pub best_read : (count first : ℕ) (notes : List Note) (v at : ℕ) (r : Note) → IsAt count first notes v at r → get_or (best_of count first notes) v 0 ≡ r.best
 best_read count first notes v at r p = told_read (λ (k : Note). k.best) 0 count first notes v at r p
 
-pub labels_set : (count first : ℕ) (notes : List Note) (v at : ℕ) (r m : Note) → IsAt count first notes v at r → labels_of count first (set notes at m) ≡ set (labels_of count first notes) v (label_in m)
+pub labels_set : (count first : ℕ) (notes : List Note) (v at : ℕ) (r m : Note) → IsAt count first notes v at r
+    → labels_of count first (set notes at m) ≡ set (labels_of count first notes) v (label_in m)
 labels_set count first notes v at r m p = written label_in None count first notes v at r m p
 
-pub labels_kept : (count first : ℕ) (notes : List Note) (v at : ℕ) (r m : Note) → IsAt count first notes v at r → label_in m ≡ label_in r → labels_of count first (set notes at m) ≡ labels_of count first notes
+pub labels_kept : (count first : ℕ) (notes : List Note) (v at : ℕ) (r m : Note) → IsAt count first notes v at r
+    → label_in m ≡ label_in r → labels_of count first (set notes at m) ≡ labels_of count first notes
 labels_kept count first notes v at r m p same = unwritten label_in None count first notes v at r m p same
 
-pub labels_read : (count first : ℕ) (notes : List Note) (v at : ℕ) (r : Note) → IsAt count first notes v at r → get_or (labels_of count first notes) v None ≡ label_in r
+pub labels_read : (count first : ℕ) (notes : List Note) (v at : ℕ) (r : Note) → IsAt count first notes v at r
+    → get_or (labels_of count first notes) v None ≡ label_in r
 labels_read count first notes v at r p = told_read label_in None count first notes v at r p
 
 -- notes of the same vertices, with the same labels
-pub span_kept : (count first : ℕ) (notes : List Note) (room v at : ℕ) (r m : Note) → IsAt count first notes v at r → label_in m ≡ label_in r → (value_of count first (set notes at m) room).span ≡ (value_of count first notes room).span
+pub span_kept : (count first : ℕ) (notes : List Note) (room v at : ℕ) (r m : Note) → IsAt count first notes v at r
+    → label_in m ≡ label_in r → (value_of count first (set notes at m) room).span ≡ (value_of count first notes room).span
 span_kept count first notes room v at r m p same =
     let new : List Note = set notes at m in
     ap (λ (n : ℕ). record { first = first; size = n; room = room; labels = labels_of count first new }) (length-set notes at m)
@@ -232,12 +242,18 @@ pub waits_size : (count first : ℕ) (notes : List Note) → length (waits_of co
 waits_size count first notes = told_size (λ (k : Note). k.waits) count first notes
 
 -- a note that tells the same
-pub value_kept : (count first : ℕ) (notes : List Note) (room v at : ℕ) (r m : Note) → IsAt count first notes v at r → m.waits ≡ r.waits → m.best ≡ r.best → label_in m ≡ label_in r → value_of count first (set notes at m) room ≡ value_of count first notes room
+pub value_kept : (count first : ℕ) (notes : List Note) (room v at : ℕ) (r m : Note) → IsAt count first notes v at r
+    → m.waits ≡ r.waits → m.best ≡ r.best → label_in m ≡ label_in r
+    → value_of count first (set notes at m) room ≡ value_of count first notes room
 value_kept count first notes room v at r m p waits best label =
     let new : List Note = set notes at m in
-    ap (λ (ws : List Bool). record { waits = ws; best = best_of count first new; span = (value_of count first new room).span }) (waits_kept count first notes v at r m p waits)
-    ∙ (ap (λ (bs : List ℕ). record { waits = waits_of count first notes; best = bs; span = (value_of count first new room).span }) (best_kept count first notes v at r m p best)
-    ∙ ap (λ (s : Span). record { waits = waits_of count first notes; best = best_of count first notes; span = s }) (span_kept count first notes room v at r m p label))
+    let span = (value_of count first new room).span in
+    ap (λ (ws : List Bool). record { waits = ws; best = best_of count first new; span = span })
+      (waits_kept count first notes v at r m p waits)
+    ∙ (ap (λ (bs : List ℕ). record { waits = waits_of count first notes; best = bs; span = span })
+      (best_kept count first notes v at r m p best)
+    ∙ ap (λ (s : Span). record { waits = waits_of count first notes; best = best_of count first notes; span = s })
+      (span_kept count first notes room v at r m p label))
 
 -- ---- and the vertices that wait
 

@@ -1,32 +1,48 @@
 use Rattle.std.proofs.Common.{refl}
 use Rattle.pg_worker.specs.Mirrors.Notes.{HasNote}
-use Rattle.pg_worker.proofs.Noting.{IsAt, is_at, value_of, noted_kept, waits_kept, best_kept, labels_set}
+use Rattle.pg_worker.proofs.Noting.{value_of, there_at, noted_kept, waits_kept, best_kept, labels_set}
 use Rattle.pg_worker.proofs.notes.Notes.put_label.Goals as goal
 
 pub invariant_of-self : goal.invariant_of-self
 invariant_of-self c =
     let w = c.self.inside in
-    let req : HasNote (value_of w.vertices w.first w.notes.items w.notes.cap).span c.args.v = rw (← c.self.view_is) at c.requires in
-    let p : IsAt w.vertices w.first w.notes.items c.args.v c.place-at.result c.index-note.result.now = is_at w.vertices w.first w.notes.items c.args.v c.place-at.result c.index-note.result.now c.place-at.ensures req.from req.before c.self.invariant.within c.index-note.ensures in
-    noted_kept w.vertices w.first w.notes.items w.stack.items w.next.items w.stack.cap w.next.cap c.args.v c.place-at.result c.index-note.result.now _ p refl c.self.invariant
+    let v = c.args.v in
+    let at = c.place-at.result in
+    let r = c.index-note.result.now in
+    let there : HasNote (value_of w.vertices w.first w.notes.items w.notes.cap).span v = rw (← c.self.view_is) at c.requires in
+    let p = there_at w.vertices w.first w.notes.items w.notes.cap v at r c.place-at.ensures c.index-note.ensures there
+        c.self.invariant.within in
+    noted_kept w.vertices w.first w.notes.items w.stack.items w.next.items w.stack.cap w.next.cap v at r _ p refl c.self.invariant
 
 pub returns-clause-waits : goal.returns-clause-waits
 returns-clause-waits c =
     let w = c.self.inside in
-    let req : HasNote (value_of w.vertices w.first w.notes.items w.notes.cap).span c.args.v = rw (← c.self.view_is) at c.requires in
-    let p : IsAt w.vertices w.first w.notes.items c.args.v c.place-at.result c.index-note.result.now = is_at w.vertices w.first w.notes.items c.args.v c.place-at.result c.index-note.result.now c.place-at.ensures req.from req.before c.self.invariant.within c.index-note.ensures in
-    rw (← c.self.view_is) (waits_kept w.vertices w.first w.notes.items c.args.v c.place-at.result c.index-note.result.now _ p refl)
+    let v = c.args.v in
+    let at = c.place-at.result in
+    let r = c.index-note.result.now in
+    let there : HasNote (value_of w.vertices w.first w.notes.items w.notes.cap).span v = rw (← c.self.view_is) at c.requires in
+    let p = there_at w.vertices w.first w.notes.items w.notes.cap v at r c.place-at.ensures c.index-note.ensures there
+        c.self.invariant.within in
+    rw (← c.self.view_is) (waits_kept w.vertices w.first w.notes.items v at r _ p refl)
 
 pub returns-clause-best : goal.returns-clause-best
 returns-clause-best c =
     let w = c.self.inside in
-    let req : HasNote (value_of w.vertices w.first w.notes.items w.notes.cap).span c.args.v = rw (← c.self.view_is) at c.requires in
-    let p : IsAt w.vertices w.first w.notes.items c.args.v c.place-at.result c.index-note.result.now = is_at w.vertices w.first w.notes.items c.args.v c.place-at.result c.index-note.result.now c.place-at.ensures req.from req.before c.self.invariant.within c.index-note.ensures in
-    rw (← c.self.view_is) (best_kept w.vertices w.first w.notes.items c.args.v c.place-at.result c.index-note.result.now _ p refl)
+    let v = c.args.v in
+    let at = c.place-at.result in
+    let r = c.index-note.result.now in
+    let there : HasNote (value_of w.vertices w.first w.notes.items w.notes.cap).span v = rw (← c.self.view_is) at c.requires in
+    let p = there_at w.vertices w.first w.notes.items w.notes.cap v at r c.place-at.ensures c.index-note.ensures there
+        c.self.invariant.within in
+    rw (← c.self.view_is) (best_kept w.vertices w.first w.notes.items v at r _ p refl)
 
 pub returns-clause-labels : goal.returns-clause-labels
 returns-clause-labels c =
     let w = c.self.inside in
-    let req : HasNote (value_of w.vertices w.first w.notes.items w.notes.cap).span c.args.v = rw (← c.self.view_is) at c.requires in
-    let p : IsAt w.vertices w.first w.notes.items c.args.v c.place-at.result c.index-note.result.now = is_at w.vertices w.first w.notes.items c.args.v c.place-at.result c.index-note.result.now c.place-at.ensures req.from req.before c.self.invariant.within c.index-note.ensures in
-    rw (← c.self.view_is) (labels_set w.vertices w.first w.notes.items c.args.v c.place-at.result c.index-note.result.now _ p)
+    let v = c.args.v in
+    let at = c.place-at.result in
+    let r = c.index-note.result.now in
+    let there : HasNote (value_of w.vertices w.first w.notes.items w.notes.cap).span v = rw (← c.self.view_is) at c.requires in
+    let p = there_at w.vertices w.first w.notes.items w.notes.cap v at r c.place-at.ensures c.index-note.ensures there
+        c.self.invariant.within in
+    rw (← c.self.view_is) (labels_set w.vertices w.first w.notes.items v at r _ p)
