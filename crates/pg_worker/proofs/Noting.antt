@@ -249,11 +249,11 @@ value_kept count first notes room v at r m p waits best label =
     let new : List Note = set notes at m in
     let span = (value_of count first new room).span in
     ap (λ (ws : List Bool). record { waits = ws; best = best_of count first new; span = span })
-      (waits_kept count first notes v at r m p waits)
+    (waits_kept count first notes v at r m p waits)
     ∙ (ap (λ (bs : List ℕ). record { waits = waits_of count first notes; best = bs; span = span })
-      (best_kept count first notes v at r m p best)
+    (best_kept count first notes v at r m p best)
     ∙ ap (λ (s : Span). record { waits = waits_of count first notes; best = best_of count first notes; span = s })
-      (span_kept count first notes room v at r m p label))
+    (span_kept count first notes room v at r m p label))
 
 -- ---- and the vertices that wait
 

@@ -8,5 +8,5 @@ returns c =
     let there : HasNote (value_of w.vertices w.first w.notes.items w.notes.cap).span c.args.v = rw (← c.self.view_is) at c.requires in
     let r = c.index.result.now in
     let p = there_at w.vertices w.first w.notes.items w.notes.cap c.args.v c.place.result r c.place.ensures c.index.ensures there
-        c.self.invariant.within in
+    c.self.invariant.within in
     rw (← c.self.view_is) (owner_by r.is_held r.priority r.owner _ (labels_read w.vertices w.first w.notes.items c.args.v c.place.result r p))

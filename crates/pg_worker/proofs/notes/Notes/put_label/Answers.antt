@@ -11,7 +11,7 @@ invariant_of-self c =
     let r = c.index-note.result.now in
     let there : HasNote (value_of w.vertices w.first w.notes.items w.notes.cap).span v = rw (← c.self.view_is) at c.requires in
     let p = there_at w.vertices w.first w.notes.items w.notes.cap v at r c.place-at.ensures c.index-note.ensures there
-        c.self.invariant.within in
+    c.self.invariant.within in
     noted_kept w.vertices w.first w.notes.items w.stack.items w.next.items w.stack.cap w.next.cap v at r _ p refl c.self.invariant
 
 pub returns-clause-waits : goal.returns-clause-waits
@@ -22,7 +22,7 @@ returns-clause-waits c =
     let r = c.index-note.result.now in
     let there : HasNote (value_of w.vertices w.first w.notes.items w.notes.cap).span v = rw (← c.self.view_is) at c.requires in
     let p = there_at w.vertices w.first w.notes.items w.notes.cap v at r c.place-at.ensures c.index-note.ensures there
-        c.self.invariant.within in
+    c.self.invariant.within in
     rw (← c.self.view_is) (waits_kept w.vertices w.first w.notes.items v at r _ p refl)
 
 pub returns-clause-best : goal.returns-clause-best
@@ -33,7 +33,7 @@ returns-clause-best c =
     let r = c.index-note.result.now in
     let there : HasNote (value_of w.vertices w.first w.notes.items w.notes.cap).span v = rw (← c.self.view_is) at c.requires in
     let p = there_at w.vertices w.first w.notes.items w.notes.cap v at r c.place-at.ensures c.index-note.ensures there
-        c.self.invariant.within in
+    c.self.invariant.within in
     rw (← c.self.view_is) (best_kept w.vertices w.first w.notes.items v at r _ p refl)
 
 pub returns-clause-labels : goal.returns-clause-labels
@@ -44,5 +44,5 @@ returns-clause-labels c =
     let r = c.index-note.result.now in
     let there : HasNote (value_of w.vertices w.first w.notes.items w.notes.cap).span v = rw (← c.self.view_is) at c.requires in
     let p = there_at w.vertices w.first w.notes.items w.notes.cap v at r c.place-at.ensures c.index-note.ensures there
-        c.self.invariant.within in
+    c.self.invariant.within in
     rw (← c.self.view_is) (labels_set w.vertices w.first w.notes.items v at r _ p)
