@@ -162,7 +162,7 @@ impl Notes {
         };
     }
 
-    /// Adds a vertex to the part, for which there is room: it doesn't wait more than before, and this is its label.
+    /// Notes that a vertex is of the part, with its label; there is room for its note. Whether it waits stays as it was.
     #[inline(always)]
     pub fn hold(&mut self, v: Vertex, priority: u32, owner: Player)
         requires v { v < length self.old.waits }
