@@ -51,6 +51,14 @@ def large_game(dice):
                             for v in range(count)})
 
 
+def calm_game(dice):
+    """The text of a game of which few vertices may rise, so that workers are told of these alone; without workers nobody is."""
+    count = dice.randint(40, 200)
+    return naive.game_text({v: (dice.choice((0, 0, 2, 4)) if dice.randint(0, 19) else dice.choice((1, 3)), dice.randint(0, 1),
+                                [dice.randrange(count) if dice.randint(0, 3) else (v + 1) % count
+                                 for _ in range(dice.randint(1, 3))]) for v in range(count)})
+
+
 def random_event(dice, game, script, made):
     """An event after so many updates; few of them are refused."""
     workers, v = script[0], dice.choice(sorted(game))
@@ -217,6 +225,8 @@ def cases(programs):
         for command in ("measure", "solve"):
             yield (f"{command} by every number of workers ({name})",
                    lambda p=program, c=command: workers_change_nothing(p, c, large_game))
+            yield (f"{command} where few vertices may rise, by every number of workers ({name})",
+                   lambda p=program, c=command: workers_change_nothing(p, c, calm_game))
         yield (f"synth by every number of workers ({name})", lambda p=program: workers_change_nothing(
             p, "synth", lambda dice: controllers.automaton_text(controllers.random_automaton(dice))))
         yield f"replay on random schedules ({name})", lambda p=program: replays_as_defined(p)

@@ -17,3 +17,5 @@ mod Replying
 mod Marking
 mod Sources
 mod Calm
+mod Heights
+mod Raising

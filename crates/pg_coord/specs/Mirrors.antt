@@ -12,3 +12,4 @@ pub mod Telling
 pub mod Marks
 pub mod Leading
 pub mod Alone
+pub mod Rising

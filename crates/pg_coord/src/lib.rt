@@ -16,6 +16,7 @@ mod memory;
 mod owner;
 mod pass;
 mod reach;
+mod rising;
 mod round;
 mod seat;
 mod sending;

@@ -121,7 +121,7 @@ fn push_line(
     Ok(())
 }
 
-/// Writes one frame of lines of a worker's part, those of the vertices from one on, until it has 64 kB of lines: the vertex
+/// Writes one frame of lines of a worker's part, those of the vertices from one on that may rise, until it has 64 kB of lines: the vertex
 /// after the last one that it passed, and whether it has a line.
 fn write_lines(
     task: &Task<'_>,
@@ -138,7 +138,7 @@ fn write_lines(
     let mut writer = VerticesWriter::begin(out)?;
     for number in first..task.game().len() {
         let v = Vertex(number as u32);
-        if task.cut().worker_of(v) != worker {
+        if task.cut().worker_of(v) != worker || !task.may_rise(v) {
             continue;
         }
         push_line(task, v, &mut writer, successors, out)?;
@@ -152,7 +152,7 @@ fn write_lines(
     Ok((task.game().len(), some))
 }
 
-/// Sends the lines of a worker's part.
+/// Sends the lines of a worker's part, but for vertices that never rise: no lift is looked for there.
 fn send_part<L: Link>(
     task: &Task<'_>,
     link: &mut L,

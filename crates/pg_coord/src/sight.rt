@@ -1,10 +1,11 @@
 //! Who has to know which vertex.
 
+use crate::rising::Rising;
 use pg_arena::{Game, Vertex};
 use pg_worker::Cut;
 use std::alloc::{AllocError, Global};
 
-/// For each vertex the workers that see it: those of whose vertices it is a successor. Workers whose numbers are the same
+/// For each vertex the workers that see it: those of whose vertices that may rise it is a successor. Workers whose numbers are the same
 /// modulo 16 are taken for one.
 #[derive(Drop)]
 pub struct Sight {
@@ -20,12 +21,15 @@ impl Sight {
     ghost use Rattle.std.specs.Prelude.{◌≡◌, length};
 
     /// Who sees what in a game that is cut so.
-    pub fn of(alloc: Global, game: &Game, cut: &Cut) -> Result<Sight, AllocError>
+    pub fn of(alloc: Global, game: &Game, cut: &Cut, rising: &Rising) -> Result<Sight, AllocError>
         requires { length cut.now.numbers ≡ length game.now }
     {
         let mut masks = vec![in alloc; 0; game.len()]?;
         for number in 0..game.len() {
             let v = Vertex(number as u32);
+            if !rising.may_rise(v) {
+                continue;
+            }
             let bit = bit(cut.worker_of(v));
             for w in game.successors(v) {
                 if let Some(mask) = masks.get_mut(w.0 as usize) {

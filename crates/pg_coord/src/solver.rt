@@ -210,7 +210,7 @@ pub fn solve<L: Link>(
     if !fits(cut, game, links.len()) {
         return Err(CoordFault::CutMismatch);
     }
-    let task = Task::new(alloc, game, cut, budget)?;
+    let task = Task::new(alloc, game, cut, budget, &[])?;
     match work(&task, links, &[], u64::MAX) {
         Ok(solved) => Ok(solved),
         // so many measures never rise
@@ -250,7 +250,7 @@ pub fn solve_within<L: Link>(
     if !fits(cut, game, links.len()) {
         return Err(CoordFault::CutMismatch);
     }
-    let task = Task::new(alloc, game, cut, budget)?;
+    let task = Task::new(alloc, game, cut, budget, tops)?;
     match work(&task, links, tops, most_rises) {
         Ok(solved) => Ok(Some(solved)),
         Err(Stop::Limit) => Ok(None),

@@ -2,8 +2,9 @@
 
 ghost use Rattle.std.specs.Prelude.{◌≡◌, ◌≤◌, length, IfOk};
 
+use crate::rising::Rising;
 use crate::sight::Sight;
-use pg_arena::Game;
+use pg_arena::{Game, Vertex};
 use pg_measure::Bounds;
 use pg_worker::Cut;
 use std::alloc::{AllocError, Global};
@@ -16,8 +17,25 @@ pub struct Task<'a> {
     game: &'a Game,
     cut: &'a Cut,
     bounds: Bounds,
+    rising: Rising,
     sight: Sight,
     budget: u32,
+}
+
+/// Which vertices may rise, if there is a worker who could lift them.
+fn rising(
+    alloc: Global,
+    game: &Game,
+    cut: &Cut,
+    bounds: &Bounds,
+    tops: &[Vertex],
+) -> Result<Rising, AllocError>
+    requires { length bounds.now ≤ 32768 }
+{
+    if cut.workers() == 0 {
+        return Ok(Rising::none(alloc));
+    }
+    Rising::of(alloc, game, bounds, tops)
 }
 
 impl<'a> Model for Task<'a> {
@@ -33,12 +51,13 @@ impl<'a> Model for Task<'a> {
 impl<'a> Task<'a> {
     ghost use Rattle.pg_coord.specs.Mirrors.Tasks.{IsTask};
 
-    /// The game, cut so.
+    /// The game, cut so; some of its vertices are at top at first.
     pub fn new(
         alloc: Global,
         game: &'a Game,
         cut: &'a Cut,
         budget: u32,
+        tops: &[Vertex],
     ) -> Result<Task<'a>, AllocError>
         requires { length cut.now.numbers ≡ length game.now }
         ensures game { IfOk result (λ t. t.game ≡ game.now) }
@@ -49,12 +68,14 @@ impl<'a> Task<'a> {
         pg_map::laws::game_lines();
         let _vertices = game.len();
         let bounds = Bounds::of(alloc, game)?;
-        let sight = Sight::of(alloc, game, cut)?;
+        let rising = rising(alloc, game, cut, &bounds, tops)?;
+        let sight = Sight::of(alloc, game, cut, &rising)?;
         Ok(Task {
             alloc,
             game,
             cut,
             bounds,
+            rising,
             sight,
             budget,
         })
@@ -96,6 +117,11 @@ impl<'a> Task<'a> {
     {
         pg_wire::laws::few_bounds();
         self.bounds.pairs().len() as u32
+    }
+
+    /// Whether a worker has to hold a vertex of its part: if it may rise.
+    pub fn may_rise(&self, v: Vertex) -> bool {
+        self.rising.may_rise(v)
     }
 
     /// Who has to know which vertex.

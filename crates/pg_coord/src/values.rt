@@ -29,10 +29,11 @@ pub struct Recipient {
 fn is_for(to: Recipient, task: &Task<'_>, v: Vertex) -> bool
     requires { v < length task.now.game }
 {
+    let sees = task.sight().sees(to.worker, v);
     if task.cut().worker_of(v) == to.worker {
-        to.own
+        to.own && (sees || task.may_rise(v))
     } else {
-        task.sight().sees(to.worker, v)
+        sees
     }
 }
 

@@ -10,6 +10,8 @@ mod failing;
 #[cfg(test)]
 mod hostile;
 #[cfg(test)]
+mod rising;
+#[cfg(test)]
 mod solving;
 #[cfg(test)]
 mod told;

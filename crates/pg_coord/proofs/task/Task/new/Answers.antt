@@ -23,3 +23,7 @@ returns-clause-task c =
       bounds = c.in_ok-bounds.ensures;
       well = setup_is_well c.args.game.now c.in_ok-bounds.bounds 2 _ c.bounds_are_few.ensures game.game game.limits game.priorities c.in_ok-bounds.ensures (omega arith, omega arith) refl;
     }
+
+pub rising-requires : goal.rising-requires
+rising-requires c =
+    (c.bounds_are_few.ensures c.args.game.now c.in_ok-bounds.bounds c.in_ok-bounds.ensures c.len-vertices.ensures.priorities).0

@@ -1,0 +1,41 @@
+//! Solving a game of which few vertices may rise: workers are told of these, and lift them in one round.
+
+use pg_arena::{Game, GameBuilder, Player, Vertex};
+use pg_coord::{MemoryLink, Solved, solve};
+use pg_map::View;
+use pg_worker::Cut;
+use std::alloc::Global;
+use std::test::Fail;
+
+/// `parity 7; 0 1 0 0,1; 1 0 0 1; 2 0 1 0,1;` and five vertices of priority 2 that Even owns and that lead to vertex 1. The
+/// measure of vertex 0 rises to `1`, and so does that of vertex 2; the others stay at `0`.
+fn calm_game(alloc: Global) -> Result<Game, Fail> {
+    let mut builder = GameBuilder::new(alloc);
+    builder.add(0, 1, Player::Even, &[0, 1], None)?;
+    builder.add(1, 0, Player::Even, &[1], None)?;
+    builder.add(2, 0, Player::Odd, &[0, 1], None)?;
+    for vertex in 3..8 {
+        builder.add(vertex, 2, Player::Even, &[1], None)?;
+    }
+    Ok(builder.finish()?)
+}
+
+/// Whether the measures are `1`, `0`, `1` and then `0`, found in so many rounds.
+fn is_found(solved: &Solved, rounds: u64) -> bool {
+    let map = &solved.map;
+    solved.rounds == rounds
+        && map.len() == 8
+        && (0..8).all(|v| map.get(Vertex(v)) == View::List(&[u32::from(v == 0 || v == 2)]))
+}
+
+#[test]
+fn vertices_that_may_rise_are_told(rt: HostRuntime) -> Result<(), Fail> {
+    let alloc = rt.alloc();
+    let game = calm_game(alloc)?;
+    assert!(rt; game.len() == 8);
+    let cut = Cut::even(alloc, 8, 2)?;
+    let mut links = [MemoryLink::new(alloc)?, MemoryLink::new(alloc)?];
+    let solved = solve(alloc, &game, &mut links, &cut, 4096)?;
+    assert!(rt; is_found(&solved, 2));
+    Ok(())
+}
