@@ -48,9 +48,13 @@ fn enough(bounds: &Bounds, priority: u32, over: u16) -> u16
     requires { length bounds.now ≤ 32768 }
     ensures { (h : ℕ) → IsEnough bounds.now priority over h ↔ (result ≤ h) }
 {
+    let is_odd = priority % 2 == 1;
+    if over == 0 && !is_odd {
+        return 0;
+    }
     let components = bounds.pairs().len();
     let below = (components - bounds.width_from(priority)) as u16;
-    if priority % 2 == 1 {
+    if is_odd {
         over.max(below).min(components as u16) + 1
     } else if over > below {
         over
@@ -138,8 +142,9 @@ fn in_turn(falling: bool, count: usize, number: usize) -> usize
     if falling { count - 1 - number } else { number }
 }
 
-/// Raises each vertex once, from the last to the first or from the first to the last: how many rose.
-fn raise_all(game: &Game, bounds: &Bounds, heights: &mut [u16], falling: bool) -> usize
+/// Raises each vertex once, from the last to the first or from the first to the last, but stops where more than `most` rose:
+/// how many rose.
+fn raise_all(game: &Game, bounds: &Bounds, heights: &mut [u16], falling: bool, most: usize) -> usize
     requires size { length heights.old ≡ length game.now }
     requires few { length bounds.now ≤ 32768 }
     ensures size { length heights.new ≡ length heights.old }
@@ -151,11 +156,15 @@ fn raise_all(game: &Game, bounds: &Bounds, heights: &mut [u16], falling: bool) -
         if raise(game, bounds, heights, v) {
             count += 1;
         }
+        if count > most {
+            return count;
+        }
     }
     count
 }
 
-/// Raises vertices until none rises any more. Where that isn't reached soon, or many rise, each may rise.
+/// Raises vertices until none rises any more. Where that isn't reached soon, a quarter of them rises at once, or more rise than
+/// just before, each may rise.
 fn settle(game: &Game, bounds: &Bounds, heights: &mut [u16])
     requires game { IsGame game.now }
     requires bounds { AreBounds bounds.now }
@@ -164,14 +173,16 @@ fn settle(game: &Game, bounds: &Bounds, heights: &mut [u16])
     ensures size { length heights.new ≡ length heights.old }
     ensures heights { AreHeights game.now bounds.now heights.new }
 {
+    let mut most = game.len() / 4;
     for pass in 0..PASSES {
-        let rose = raise_all(game, bounds, heights, pass.is_multiple_of(2));
+        let rose = raise_all(game, bounds, heights, pass.is_multiple_of(2), most);
         if rose == 0 {
             return;
         }
-        if rose > game.len() / 4 {
+        if rose > most {
             break;
         }
+        most = rose;
     }
     heights.fill(1);
 }
