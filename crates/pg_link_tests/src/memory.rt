@@ -1,6 +1,6 @@
 //! Links to workers in memory, on the game `parity 1; 0 1 0 0; 1 3 0 0;`, whose measures are top at both vertices.
 
-use pg_coord::{Link, LinkFault, MemoryLink};
+use pg_coord::{Link, LinkFault, MemoryLink, halt};
 use std::alloc::Global;
 use std::test::Fail;
 
@@ -140,6 +140,22 @@ fn a_restart_drops_what_waits_and_what_was_held(rt: HostRuntime) -> Result<(), F
 fn holds_nothing_after_halt(rt: HostRuntime) -> Result<(), Fail> {
     let steps = [SETUP, LINES, HALT, GO, ORDER, Nothing];
     assert!(rt; follows(rt.alloc(), 2, &steps)?);
+    Ok(())
+}
+
+#[test]
+fn halt_ends_each_worker(rt: HostRuntime) -> Result<(), Fail> {
+    let mut links = Vec::new(rt.alloc());
+    for _ in 0..2 {
+        links.push(MemoryLink::new(rt.alloc())?)?;
+    }
+    for link in links.iter_mut() {
+        assert!(rt; answers_each(rt.alloc(), link, &[SETUP, LINES])?);
+    }
+    halt(&mut links);
+    for link in links.iter_mut() {
+        assert!(rt; answers_each(rt.alloc(), link, &[GO, ORDER, Nothing])?);
+    }
     Ok(())
 }
 
