@@ -1,7 +1,8 @@
-//! Links that fail, and links that give fixed replies: what a coordinator has to bear. Of none but `Told` anything is promised,
-//! and of `Told` only what it tells.
+//! Links that fail, and links that give fixed replies: what a coordinator has to bear. Promised is of `Told` what it tells, and of
+//! `Broken` that each call fails; of the others nothing.
 
-ghost use Rattle.std.specs.Prelude.{◌≡◌, ◌++◌, Some, None, map, drop, replicate};
+ghost use Rattle.std.specs.Prelude.{◌≡◌, ◌++◌, Some, None, Err, map, drop, replicate};
+ghost use Rattle.pg_coord.specs.Links.{CountsFailure};
 
 use crate::link::{Link, LinkFault};
 use pg_wire::{Frame, WireFault, decode};
@@ -109,6 +110,16 @@ impl Broken {
     pub fn new() -> Broken {
         Broken { failures: 0 }
     }
+
+    /// Fails, and counts it.
+    fn fail(&mut self) -> Result<(), LinkFault>
+        ensures failed { result ≡ Err LinkFault.Failed }
+        ensures counted { CountsFailure self.old.failures self.new.failures result }
+    {
+        let failures = self.failures.saturating_add(1);
+        self.failures = failures;
+        Err(LinkFault::Failed)
+    }
 }
 
 impl Link for Broken {
@@ -120,19 +131,25 @@ impl Link for Broken {
 
     ghost told = { λ _. None };
 
-    fn send(&mut self, _frame: &[u8]) -> Result<(), LinkFault> {
-        self.failures = self.failures.saturating_add(1);
-        Err(LinkFault::Failed)
+    fn send(&mut self, _frame: &[u8]) -> Result<(), LinkFault>
+        ensures failed { result ≡ Err LinkFault.Failed }
+        ensures counted { CountsFailure self.old.failures self.new.failures result }
+    {
+        self.fail()
     }
 
-    fn receive(&mut self, _frame: &mut Vec<u8>) -> Result<(), LinkFault> {
-        self.failures = self.failures.saturating_add(1);
-        Err(LinkFault::Failed)
+    fn receive(&mut self, _frame: &mut Vec<u8>) -> Result<(), LinkFault>
+        ensures failed { result ≡ Err LinkFault.Failed }
+        ensures counted { CountsFailure self.old.failures self.new.failures result }
+    {
+        self.fail()
     }
 
-    fn restart(&mut self) -> Result<(), LinkFault> {
-        self.failures = self.failures.saturating_add(1);
-        Err(LinkFault::Failed)
+    fn restart(&mut self) -> Result<(), LinkFault>
+        ensures failed { result ≡ Err LinkFault.Failed }
+        ensures counted { CountsFailure self.old.failures self.new.failures result }
+    {
+        self.fail()
     }
 }
 
