@@ -1,5 +1,6 @@
 pub mod Tables
 pub mod Places
+pub mod Owning
 pub mod Sharing
 pub mod Bests
 pub mod Lifts

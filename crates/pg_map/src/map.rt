@@ -11,38 +11,42 @@ ghost use Rattle.pg_map.specs.Maps.{measure_at, IsMap, zero_map, update_map, Map
 ghost use Rattle.pg_map.specs.Weights.{map_weight};
 
 use crate::Lines;
-use crate::rows::Rows;
+use crate::own::OwnRows;
+use crate::shared::SharedRows;
+use crate::table::Table;
 use pg_arena::{Player, Vertex};
 use pg_measure::{Bounds, Measure, View, row};
 use std::alloc::{AllocError, Global};
 use std::marker::Model;
 
-/// A measure of the bounds for each vertex. Contracts see the bounds and the list of the measures. Each vertex has the
-/// place of its row: at first all share the row of zeros, all at top share another, and the others have rows of their
-/// own. After `zero` no call takes memory.
+/// Where measures have at most so many components each vertex has a row of its own: that takes hardly more memory than the
+/// place of a row which many share, and is found at once.
+const FEW: usize = 2;
+
+/// Either way to keep the rows of a map.
+#[derive(Drop)]
+enum AnyTable {
+    Own(OwnRows),
+    Shared(SharedRows),
+}
+
+/// A measure of the bounds for each vertex. Contracts see the bounds and the list of the measures. After `zero` no call takes
+/// memory.
 #[derive(Drop)]
 pub struct MeasureMap {
-    bounds: Bounds,
-    places: Vec<u32>,
-    rows: Rows,
+    table: AnyTable,
 }
 
 impl Model for MeasureMap {
     ghost use Rattle.pg_map.specs.Maps.{MapValue};
-    ghost use Rattle.pg_map.specs.Mirrors.Tables.{placed, IsTable};
+    ghost use Rattle.pg_map.specs.Mirrors.Kept.{kept, IsKept};
 
     ghost Value = { MapValue };
 
-    ghost view = { λ m. record { bounds = m.bounds; measures = placed m.rows.measures m.places.items } };
+    ghost view = { λ m. kept m.table };
 
-    ghost invariant = { λ m. IsTable m.bounds m.rows m.places.items };
+    ghost invariant = { λ m. IsKept m.table };
 }
-
-/// The place of the row of zeros.
-const ZERO: u32 = 0;
-
-/// The place of the row of top.
-const TOP: u32 = 1;
 
 impl MeasureMap {
     /// The map with zeros at each vertex. It takes all the memory that the map ever has, and is refused only for want
@@ -52,34 +56,39 @@ impl MeasureMap {
         ensures zeros { IfOk result (λ m. m.measures ≡ zero_map bounds.now vertices) }
     {
         let kept = Bounds::from_pairs(alloc, bounds.pairs())?;
-        let Some(last) = vertices.checked_add(1) else {
-            return Err(AllocError);
+        let table = if kept.pairs().len() <= FEW {
+            AnyTable::Own(OwnRows::zero(alloc, vertices, kept)?)
+        } else {
+            AnyTable::Shared(SharedRows::zero(alloc, vertices, kept)?)
         };
-        let rows = Rows::with_room(alloc, bounds.pairs().len() + 1, last as usize + 1)?;
-        let places = vec![in alloc; ZERO; vertices as usize]?;
-        Ok(MeasureMap {
-            bounds: kept,
-            places,
-            rows,
-        })
+        Ok(MeasureMap { table })
     }
 
     /// How many vertices the map has.
+    #[inline(always)]
     pub fn len(&self) -> u32
         ensures value { result ≡ length self.now.measures }
         ensures map { IsMap self.now.bounds result self.now.measures }
     {
-        self.places.len() as u32
+        match &self.table {
+            AnyTable::Own(rows) => rows.len(),
+            AnyTable::Shared(rows) => rows.len(),
+        }
     }
 
     /// The bounds of its measures.
+    #[inline(always)]
     pub fn bounds(&self) -> &Bounds
         ensures { result.now ≡ self.now.bounds }
     {
-        &self.bounds
+        match &self.table {
+            AnyTable::Own(rows) => rows.bounds(),
+            AnyTable::Shared(rows) => rows.bounds(),
+        }
     }
 
     /// The measure of a vertex.
+    #[inline(always)]
     pub fn get(&self, v: Vertex) -> View<'_>
         requires { v < length self.now.measures }
         ensures value { measure_in result ≡ measure_at self.now.measures v }
@@ -117,14 +126,13 @@ impl MeasureMap {
             (update_map self.old.bounds (length self.old.measures) v (measure_in m.entry)) self.new.measures }
     {
         let at = v.0 as usize;
-        let place = self.places[at];
-        if place == TOP {
+        if self.is_top(at) {
             return false;
         }
         match m {
-            View::Top => self.places[at] = TOP,
+            View::Top => self.put_top(at),
             View::List(list) => {
-                if !row::is_below(&self.rows.row(place)[1..], list) {
+                if !row::is_below(&self.row(at)[1..], list) {
                     return false;
                 }
                 self.write_list(at, list);
@@ -152,7 +160,7 @@ impl MeasureMap {
         ensures { IsTrue result ↔ Covers self.now.bounds priority
             (measure_at self.now.measures v) (measure_at self.now.measures w) }
     {
-        let front = self.bounds.width_from(priority);
+        let front = self.bounds().width_from(priority);
         self.covers(v.0 as usize, w.0 as usize, front, priority % 2 == 1)
     }
 
@@ -167,7 +175,7 @@ impl MeasureMap {
             (FrontAtMost (width_from self.now.bounds priority)
             (measure_at self.now.measures b) (measure_at self.now.measures a)) }
     {
-        let front = self.bounds.width_from(priority);
+        let front = self.bounds().width_from(priority);
         self.is_less(a.0 as usize, b.0 as usize, front)
     }
 
@@ -190,7 +198,7 @@ impl MeasureMap {
         ensures under { StaysUnder self.old.bounds (G.line lines.now) self.old.measures self.new.measures }
         ensures weight { map_weight self.old.bounds self.new.measures < map_weight self.old.bounds self.old.measures }
     {
-        let front = self.bounds.width_from(priority);
+        let front = self.bounds().width_from(priority);
         self.step(w.0 as usize, v.0 as usize, front, priority % 2 == 1);
     }
 
@@ -209,11 +217,11 @@ impl MeasureMap {
             (map_weight self.old.bounds self.new.measures < map_weight self.old.bounds self.old.measures) }
     {
         let at = v.0 as usize;
-        if self.places[at] == TOP {
+        if self.is_top(at) {
             return false;
         }
         let priority = lines.priority(v);
-        let front = self.bounds.width_from(priority);
+        let front = self.bounds().width_from(priority);
         let strict = priority % 2 == 1;
         if self.covers_successors(at, lines.owner(v), lines.successors(v), front, strict) {
             return false;
@@ -275,11 +283,11 @@ impl MeasureMap {
             (¬ (IsServed self.now.bounds (G.line lines.now) self.now.measures v)) }
     {
         let at = v.0 as usize;
-        if self.places[at] == TOP {
+        if self.is_top(at) {
             return true;
         }
         let priority = lines.priority(v);
-        let front = self.bounds.width_from(priority);
+        let front = self.bounds().width_from(priority);
         let strict = priority % 2 == 1;
         self.covers_successors(at, lines.owner(v), lines.successors(v), front, strict)
     }
@@ -290,8 +298,8 @@ impl MeasureMap {
         requires size { length self.now.measures ≡ length other.now.measures }
         ensures { IsTrue result ↔ MapAtMost self.now.measures other.now.measures }
     {
-        for number in 0..self.places.len() {
-            if !self.is_at_most_at(other, number) {
+        for number in 0..self.len() {
+            if !self.is_at_most_at(other, number as usize) {
                 return false;
             }
         }
@@ -313,13 +321,31 @@ impl MeasureMap {
     }
 
     /// The row of a vertex.
+    #[inline(always)]
     fn row(&self, v: usize) -> &[u32]
         requires { v < length self.now.measures }
         ensures length { length result.now ≡ length self.now.bounds + 1 }
         ensures value { measure_of result.now ≡ measure_at self.now.measures v }
         ensures fits { Fits self.now.bounds (measure_at self.now.measures v) }
     {
-        self.rows.row(self.places[v])
+        match &self.table {
+            AnyTable::Own(rows) => rows.row(v),
+            AnyTable::Shared(rows) => rows.row(v),
+        }
+    }
+
+    /// Whether a vertex is at top.
+    #[inline(always)]
+    fn is_top(&self, v: usize) -> bool
+        requires { v < length self.now.measures }
+        ensures top { MatchBool result (measure_at self.now.measures v ≡ None)
+            (¬ (measure_at self.now.measures v ≡ None)) }
+        ensures map { IsMap self.now.bounds (length self.now.measures) self.now.measures }
+    {
+        match &self.table {
+            AnyTable::Own(rows) => rows.is_top(v),
+            AnyTable::Shared(rows) => rows.is_top(v),
+        }
     }
 
     /// Whether the first `front` components of `a` are at most those of `b`; where both are at most each other, either
@@ -332,15 +358,10 @@ impl MeasureMap {
         ensures { MatchBool result (FrontAtMost front (measure_at self.now.measures a) (measure_at self.now.measures b))
             (FrontAtMost front (measure_at self.now.measures b) (measure_at self.now.measures a)) }
     {
-        let first = self.places[a];
-        let second = self.places[b];
-        if first == second || first == TOP || second == ZERO {
-            return false;
+        match &self.table {
+            AnyTable::Own(rows) => rows.is_less(a, b, front),
+            AnyTable::Shared(rows) => rows.is_less(a, b, front),
         }
-        if first == ZERO || second == TOP {
-            return true;
-        }
-        row::is_front_below(self.rows.row(first), self.rows.row(second), front)
     }
 
     /// Whether the measure of `v` covers that of `w` in the first `front` components.
@@ -353,24 +374,10 @@ impl MeasureMap {
             (CoversFront strict front (measure_at self.now.measures v) (measure_at self.now.measures w))
             (MissesFront strict front (measure_at self.now.measures v) (measure_at self.now.measures w)) }
     {
-        let first = self.places[v];
-        let second = self.places[w];
-        if first == TOP {
-            return true;
+        match &self.table {
+            AnyTable::Own(rows) => rows.covers(v, w, front, strict),
+            AnyTable::Shared(rows) => rows.covers(v, w, front, strict),
         }
-        if second == TOP {
-            return false;
-        }
-        if first == ZERO && strict {
-            return false;
-        }
-        if first == second {
-            return !strict;
-        }
-        if second == ZERO && !strict {
-            return true;
-        }
-        row::covers(self.rows.row(first), self.rows.row(second), front, strict)
     }
 
     /// Whether the measure of `v` covers those of some of the vertices, or of all: some for Even, all for Odd.
@@ -476,19 +483,27 @@ impl MeasureMap {
             (measure_at self.old.measures from) (measure_at self.new.measures to) }
         ensures others { self.new.measures ≡ slice_set self.old.measures to (measure_at self.new.measures to) }
     {
-        let source = self.places[from];
-        if source == TOP {
-            self.places[to] = TOP;
-            return;
+        match &mut self.table {
+            AnyTable::Own(rows) => rows.step(from, to, front, strict),
+            AnyTable::Shared(rows) => rows.step(from, to, front, strict),
         }
-        let place = self.rows.own(self.places[to]);
-        self.rows
-            .step(source, place, self.bounds.pairs(), front, strict);
-        let kept = if self.rows.is_top(place) { TOP } else { place };
-        self.places[to] = kept;
+    }
+
+    /// Gives a vertex top.
+    #[inline(always)]
+    fn put_top(&mut self, v: usize)
+        requires { v < length self.old.measures }
+        ensures bounds { self.new.bounds ≡ self.old.bounds }
+        ensures measures { self.new.measures ≡ slice_set self.old.measures v None }
+    {
+        match &mut self.table {
+            AnyTable::Own(rows) => rows.put_top(v),
+            AnyTable::Shared(rows) => rows.put_top(v),
+        }
     }
 
     /// Gives a vertex, which isn't at top, a list of the bounds.
+    #[inline(always)]
     fn write_list(&mut self, v: usize, list: &[u32])
         requires v { v < length self.old.measures }
         requires fits { Fits self.old.bounds (Some list.now) }
@@ -496,9 +511,10 @@ impl MeasureMap {
         ensures bounds { self.new.bounds ≡ self.old.bounds }
         ensures measures { self.new.measures ≡ slice_set self.old.measures v (Some list.now) }
     {
-        let place = self.rows.own(self.places[v]);
-        self.rows.set(place, list);
-        self.places[v] = place;
+        match &mut self.table {
+            AnyTable::Own(rows) => rows.write_list(v, list),
+            AnyTable::Shared(rows) => rows.write_list(v, list),
+        }
     }
 
     /// Whether the measure of a vertex is at most that in the other map.
@@ -508,15 +524,10 @@ impl MeasureMap {
         requires second { v < length other.now.measures }
         ensures { IsTrue result ↔ AtMost (measure_at self.now.measures v) (measure_at other.now.measures v) }
     {
-        let first = self.places[v];
-        let second = other.places[v];
-        if first == ZERO || second == TOP {
-            return true;
-        }
         row::covers(
-            other.rows.row(second),
-            self.rows.row(first),
-            self.bounds.pairs().len(),
+            other.row(v),
+            self.row(v),
+            self.bounds().pairs().len(),
             false,
         )
     }

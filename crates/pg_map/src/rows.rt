@@ -1,6 +1,6 @@
 //! Rows of numbers in one list, each of which holds a measure as `pg_measure::row` keeps it.
 
-ghost use Rattle.std.specs.Prelude.{◌≡◌, ℕ, List, [], ◌∷◌, ◌++◌, Some, None, ◌+◌, ◌-◌, ◌*◌, ◌<◌, ◌≤◌, ◌^◌, length, replicate, slice_set, All, IfOk, MatchBool};
+ghost use Rattle.std.specs.Prelude.{◌≡◌, ℕ, List, [], ◌∷◌, ◌++◌, Some, None, ◌+◌, ◌-◌, ◌*◌, ◌<◌, ◌≤◌, ◌^◌, length, replicate, slice_set, IfOk, MatchBool};
 ghost use Rattle.pg_measure.specs.Measures.{Fits};
 ghost use Rattle.pg_measure.specs.Mirrors.Rows.{measure_of, IsLeastCover};
 ghost use Rattle.pg_map.specs.Maps.{measure_at};
@@ -56,7 +56,35 @@ impl Rows {
         })
     }
 
+    /// So many rows of zeros, and no room for more. Refused only for want of memory, also where the size of the list can't
+    /// be had.
+    pub(crate) fn zeros(alloc: Global, width: usize, count: usize) -> Result<Rows, AllocError>
+        requires { 0 < width }
+        ensures width { IfOk result (λ r. r.width ≡ width) }
+        ensures zeros { IfOk result (λ r. r.measures ≡ replicate count (Some (replicate (width - 1) 0))) }
+    {
+        let Some(size) = count.checked_mul(width) else {
+            return Err(AllocError);
+        };
+        let cells = vec![in alloc; 0; size]?;
+        Ok(Rows {
+            width,
+            count,
+            room: count,
+            cells,
+        })
+    }
+
+    /// How many rows there are.
+    #[inline(always)]
+    pub(crate) fn len(&self) -> usize
+        ensures { result ≡ length self.now.measures }
+    {
+        self.count
+    }
+
     /// The row at a place.
+    #[inline(always)]
     pub(crate) fn row(&self, place: u32) -> &[u32]
         requires { place < length self.now.measures }
         ensures length { length result.now ≡ self.now.width }
@@ -67,6 +95,7 @@ impl Rows {
     }
 
     /// Whether the row at a place is that of top.
+    #[inline(always)]
     pub(crate) fn is_top(&self, place: u32) -> bool
         requires { place < length self.now.measures }
         ensures { MatchBool result (measure_at self.now.measures place ≡ None)
@@ -107,8 +136,8 @@ impl Rows {
         strict: bool,
     )
         requires width { self.old.width ≡ length bounds.now + 1 }
-        requires fits { All (Fits bounds.now) self.old.measures }
         requires source { source < length self.old.measures }
+        requires fits { Fits bounds.now (measure_at self.old.measures source) }
         requires place { place < length self.old.measures }
         requires front { front ≤ length bounds.now }
         ensures width { self.new.width ≡ self.old.width }
@@ -137,6 +166,16 @@ impl Rows {
         ensures measures { self.new.measures ≡ slice_set self.old.measures place (Some list.now) }
     {
         write_list(&mut self.cells, self.count, place as usize, list);
+    }
+
+    /// Makes the row at a place that of top.
+    pub(crate) fn set_top(&mut self, place: u32)
+        requires { place < length self.old.measures }
+        ensures width { self.new.width ≡ self.old.width }
+        ensures room { self.new.room ≡ self.old.room }
+        ensures measures { self.new.measures ≡ slice_set self.old.measures place None }
+    {
+        write_top(&mut self.cells, self.count, self.width, place as usize);
     }
 }
 
@@ -205,4 +244,24 @@ fn set_row(row: &mut [u32], list: &[u32])
 {
     row[0] = 0;
     row[1..].copy_from_slice(list);
+}
+
+/// Makes the row at `place` that of top.
+fn write_top(cells: &mut [u32], count: usize, width: usize, place: usize)
+    requires wide { 0 < width }
+    requires filled { length cells.old ≡ count * width }
+    requires place { place < count }
+    ensures { table count width cells.new ≡ slice_set (table count width cells.old) place None }
+{
+    let start = place * width;
+    mark_row(&mut cells[start..start + width]);
+}
+
+/// Marks a row as that of top.
+fn mark_row(row: &mut [u32])
+    requires { 0 < length row.old }
+    ensures length { length row.new ≡ length row.old }
+    ensures value { measure_of row.new ≡ None }
+{
+    row[0] = 1;
 }

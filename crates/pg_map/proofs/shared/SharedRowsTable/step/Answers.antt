@@ -1,8 +1,8 @@
-use Rattle.std.proofs.Common.{◌∙◌, inl, inr, arith}
+use Rattle.std.proofs.Common.{◌∙◌, None, inl, inr, arith}
 use Rattle.pg_map.specs.Maps.{measure_at}
 use Rattle.pg_map.proofs.Places.{place_of, own_of, room_of, put_top, put_own, top_cover, cover_of, map_bounds}
-use Rattle.pg_map.proofs.map.MeasureMap.step.Goals as goal
-use Rattle.pg_map.proofs.map.MeasureMap.step.Goals.{then-is_top, else-is_top}
+use Rattle.pg_map.proofs.shared.SharedRowsTable.step.Goals as goal
+use Rattle.pg_map.proofs.shared.SharedRowsTable.step.Goals.{then-is_top, else-is_top}
 
 pub invariant_of-self : goal.invariant_of-self
 invariant_of-self c = (put_top _ _ _ _ _ c.self.view_is c.requires.to c.self.invariant).table_is
@@ -24,7 +24,10 @@ own-place-requires-clause-room c = λ z. room_of _ _ _ _ c.args.to _ c.self.view
 pub step-requires-clause-fits : goal.step-requires-clause-fits
 step-requires-clause-fits c =
     let o = own_of _ _ _ _ _ c.args.to _ _ c.self.view_is c.self.invariant.shared c.requires.to c.requires.list c.index.ensures c.own-place.ensures.copied c.own-place.ensures.same in
-    rw c.pairs.ensures.value o.fits
+    let s = place_of _ _ _ _ _ _ c.self.view_is c.self.invariant.shared c.requires.from c.index-source.ensures in
+    let i = s.inside in
+    let l = o.longer in
+    rw c.pairs.ensures.value (o.fits _ None (omega arith))
 
 pub step-requires-clause-source : goal.step-requires-clause-source
 step-requires-clause-source c =

@@ -1,7 +1,7 @@
 use Rattle.std.proofs.Common.{inl, inr}
 use Rattle.pg_map.proofs.Places.{place_of}
 use Rattle.pg_map.proofs.Sharing.{front_by_place}
-use Rattle.pg_map.proofs.map.MeasureMap.is_less.Goals as goal
+use Rattle.pg_map.proofs.shared.SharedRowsTable.is_less.Goals as goal
 
 pub returns-then-first-second : goal.returns-then-first-second
 returns-then-first-second c =

@@ -1,6 +1,6 @@
 use Rattle.pg_map.proofs.Places.{place_of}
 use Rattle.pg_map.proofs.Sharing.{covers_same, covers_zero, misses_zero}
-use Rattle.pg_map.proofs.map.MeasureMap.covers.Goals as goal
+use Rattle.pg_map.proofs.shared.SharedRowsTable.covers.Goals as goal
 
 pub returns-then-first-second : goal.returns-then-first-second
 returns-then-first-second c =
