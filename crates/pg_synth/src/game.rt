@@ -7,11 +7,9 @@ ghost use Rattle.pg_synth.specs.Answers.{IsSynthGame, Refuses};
 use crate::fault::SynthFault;
 use crate::layout::layout_of;
 use crate::lines::{built, has_few_edges, identifiers_of};
-use pg_arena::{Game, Vertex};
+use pg_arena::{Game, MAX_VERTICES, Vertex};
 use pg_hoa::Automaton;
 use std::alloc::Global;
-
-const MAX_VERTICES: usize = 1_048_576;
 
 /// The game of an automaton, with the vertex where it begins.
 #[derive(Drop)]

@@ -12,11 +12,9 @@ ghost use Rattle.pg_synth.specs.declared.place.Place.TheVariants.{Answer};
 
 use crate::layout::Layout;
 use crate::place::Place;
-use pg_arena::{ArenaFault, Game, GameBuilder};
+use pg_arena::{ArenaFault, Game, GameBuilder, MAX_EDGES};
 use pg_hoa::{Automaton, Shape};
 use std::alloc::{AllocError, Global};
-
-const MAX_EDGES: usize = 8_388_608;
 
 /// The identifiers of all vertices, the least first.
 pub(crate) fn identifiers_of(

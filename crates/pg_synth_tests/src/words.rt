@@ -7,7 +7,7 @@ ghost use Rattle.pg_hoa.specs.Words.{IsWord};
 ghost use Rattle.pg_synth.specs.AutomatonGames.{IsGameOfAutomaton};
 ghost use Rattle.pg_synth.specs.Laws.{TracesOnePlay};
 
-use pg_synth::{InputWord, Word, laws};
+use pg_synth::{Word, laws};
 
 /// The word whose letters are all the same one, in which no proposition is true.
 struct Silent;
@@ -16,11 +16,7 @@ impl Word for Silent {
     ghost letter = { λ _ _. 0 };
 }
 
-impl InputWord for Silent {
-    ghost input = { λ _ _. 0 };
-}
-
-/// It traces one play in each game.
+/// It traces one play in each game. The test is that this is proved: the contract follows from the law's.
 fn traces(word: &Silent)
     ensures { (a : Automaton) (game : List GameVertex) → IsAutomaton a → IsGameOfAutomaton a game
         → IsWord a (λ t. 0) → TracesOnePlay a game (λ t. 0) }
@@ -31,15 +27,4 @@ fn traces(word: &Silent)
 #[test]
 fn the_silent_word(_rt: HostRuntime) {
     traces(&Silent);
-}
-
-#[test]
-fn each_law(_rt: HostRuntime) {
-    laws::joined_letters();
-    laws::word_and_play();
-    laws::worked_games();
-    laws::one_game();
-    laws::machine_accepted();
-    laws::unrealizable();
-    laws::machine_accepted_of(&Silent);
 }
