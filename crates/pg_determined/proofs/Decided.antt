@@ -1,5 +1,5 @@
 -- Each vertex has one winner, and least progress measures tell it.
-use Rattle.std.proofs.Common.{◌≡◌, ◌≢◌, ℕ, zero, suc, ◌<◌, ◌⊎◌, inl, inr, List, length, Some, None, arith, sym, subst, refl, ap, ◌∙◌, add-one}
+use Rattle.std.proofs.Common.{◌≡◌, ◌≢◌, ℕ, ◌<◌, ◌⊎◌, inl, inr, List, length, Some, None, arith, sym, subst, refl, ap, ◌∙◌}
 use Rattle.std.specs.Option.{IsSome}
 use Rattle.pg_arena.specs.declared.player.Player.{Player}
 use Rattle.pg_arena.specs.declared.player.Player.TheVariants.{Even, Odd}
@@ -19,10 +19,11 @@ use Rattle.pg_check.proofs.Recurring.{one_loser}
 use Rattle.pg_check.proofs.Cycles.{sound_from_safe, safe_from_sound}
 use Rattle.pg_check.proofs.Wins.{wins, player_cases, same_winner}
 use Rattle.pg_check.proofs.Listed.{lists_win, falls}
-use Rattle.pg_check.proofs.Winning.{sound_iff_wins}
 use Rattle.pg_determined.specs.Winners.{WinsFrom, HasSoundSolution, EachHasOneWinner, LeastTellsWinners, NeverUndecided}
 use Rattle.pg_determined.proofs.Heights.{winners_have_lists}
 use Rattle.pg_determined.proofs.Swapped.{swapped, dual_solutions, winner_swapped}
+use Rattle.pg_determined.proofs.Walks.{walk, walk_starts, walk_goes}
+use Rattle.pg_determined.proofs.OnePlayer.{one_player}
 use Rattle.pg_determined.proofs.Positional.{solution, is_solution, is_safe}
 
 is_sound : (game : List GameVertex) (is_game : IsGame game) → IsSound game (solution game is_game)
@@ -37,13 +38,9 @@ gives : (game : List GameVertex) (s : List Answer) → IsGame game → IsSolutio
 gives game s is_game is_s sound v player e = record {
   solution = s;
   is_solution = is_s;
-  wins = λ u lt. wins game s is_game sound u;
+  wins = wins game s is_game sound v;
   given = e;
 }
-
--- a solution by which the winners win is sound
-sound_by : (game : List GameVertex) (player : Player) (v : ℕ) → IsGame game → (w : WinsFrom game player v) → IsSound game w.solution
-sound_by game player v is_game w = (sound_iff_wins game w.solution is_game w.is_solution).1 w.wins
 
 pub each_has_one_winner : EachHasOneWinner
 each_has_one_winner game is_game v lt =
@@ -53,8 +50,8 @@ each_has_one_winner game is_game v lt =
     record {
       player = winner s v;
       wins = gives game s is_game is_s sound v (winner s v) refl;
-      only = λ other w. sym w.given
-          ∙ same_winner game w.solution s is_game w.is_solution is_s (sound_by game other v is_game w) sound v lt;
+      only = λ other w. one_player game is_game v lt other (winner s v) w
+          (gives game s is_game is_s sound v (winner s v) refl);
       given = λ other is_other other_sound. same_winner game other s is_game is_other is_s other_sound sound v lt;
     }
 
@@ -87,16 +84,19 @@ module _ (game : List GameVertex) (s : List Answer) (f : MapValue) (is_game : Is
   safe : IsSafe game s
   safe = safe_from_sound game s sound
 
+  -- by the solution and by the map
+  FollowsBoth : ℕ → ℕ → Type 0
+  FollowsBoth v w = Counts game s v w × GoesServed game f v w
+
   -- an edge that counts by the solution and serves in the map
-  next : (v : ℕ) → Contested v → (w : ℕ) × Counts game s v w × GoesServed game f v w × Contested w
+  next : (v : ℕ) → Contested v → (w : ℕ) × FollowsBoth v w × Contested w
+  unfolding FollowsBoth
   next v c = go (owner game v) refl
     where
-      on : (w : ℕ) → Counts game s v w → GoesServed game f v w
-          → (w : ℕ) × Counts game s v w × GoesServed game f v w × Contested w
+      on : (w : ℕ) → Counts game s v w → GoesServed game f v w → (w : ℕ) × FollowsBoth v w × Contested w
       on w counts goes = (
         w,
-        counts,
-        goes,
+        (counts, goes),
         record {
           in_game = is_game.in_range v w counts.0;
           odd = safe.none_leaves v w counts ∙ c.odd;
@@ -104,7 +104,7 @@ module _ (game : List GameVertex) (s : List Answer) (f : MapValue) (is_game : Is
         },
       )
 
-      go : (o : Player) → owner game v ≡ o → (w : ℕ) × Counts game s v w × GoesServed game f v w × Contested w
+      go : (o : Player) → owner game v ≡ o → (w : ℕ) × FollowsBoth v w × Contested w
       go Even e =
           let some = (lists_win game f is_game closed).goes_on v c.in_game in
           on some.0 (some.1.0, inl (e ∙ sym (ap opponent c.odd))) some.1
@@ -113,32 +113,18 @@ module _ (game : List GameVertex) (s : List Answer) (f : MapValue) (is_game : Is
           on chosen.0 (chosen.2, inr chosen.1) (chosen.2, λ even. absurd (cc (e, even)))
 
   not_contested : (v : ℕ) → Contested v → ⊥
-  not_contested v c = done
-    where
-      trace : ℕ → (u : ℕ) × Contested u
-      trace zero = (v, c)
-      trace (suc t) = let n = next (trace t).0 (trace t).1 in (n.0, n.3)
-
-      play : ℕ → ℕ
-      play t = (trace t).0
-
-      counts : IsPlay (Counts game s) play
-      counts t = subst (λ s'. Counts game s (play t) (play s')) (sym (add-one t)) (next (trace t).0 (trace t).1).1
-
-      goes : IsPlay (GoesServed game f) play
-      goes t = subst (λ s'. GoesServed game f (play t) (play s')) (sym (add-one t)) (next (trace t).0 (trace t).1).2
-
-      met : ℕ → ℕ
-      met t = priority game (play t)
-
-      even_wins : WinsPlay Even met
-      even_wins = (lists_win game f is_game closed).wins play goes c.listed
-
-      odd_wins : WinsPlay Odd met
-      odd_wins = subst (λ p. WinsPlay p met) c.odd (wins game s is_game sound v play refl counts).1
-
-      done : ⊥
-      done = let b = priority_bound game in (one_loser met b.0 (λ t. b.1 (play t))).not_neither (even_wins, odd_wins)
+  unfolding FollowsBoth
+  not_contested v c =
+      let play = walk FollowsBoth Contested next v c in
+      let start : play 0 ≡ v = walk_starts FollowsBoth Contested next v c in
+      let goes : IsPlay FollowsBoth play = walk_goes FollowsBoth Contested next v c in
+      let met : ℕ → ℕ = λ t. priority game (play t) in
+      let listed = subst (λ u. IsSome (measure_at f.measures u)) (sym start) c.listed in
+      let even_wins : WinsPlay Even met = (lists_win game f is_game closed).wins play (λ t. (goes t).1) listed in
+      let odd_wins : WinsPlay Odd met =
+      subst (λ p. WinsPlay p met) c.odd (wins game s is_game sound v play start (λ t. (goes t).0)).1 in
+      let bound = priority_bound game in
+      (one_loser met bound.0 (λ t. bound.1 (play t))).not_neither (even_wins, odd_wins)
 
 -- which player a measure tells
 
@@ -155,7 +141,7 @@ least_tells_winners game f is_game is_bounds size least = record {
     ],
     λ w. elim (list_or_top (measure_at f.measures v)) [
       | inl listed ↦ listed
-      | inr top ↦ absurd (no_top w.solution w.is_solution (sound_by game Even v is_game w) v lt w.given top)
+      | inr top ↦ absurd (no_top s is_s sound v lt (given v lt Even w) top)
     ],
   );
   odd = λ v lt. (
@@ -164,7 +150,7 @@ least_tells_winners game f is_game is_bounds size least = record {
       | inr e ↦ gives game s is_game is_s sound v Odd e
     ],
     λ w. elim (list_or_top (measure_at f.measures v)) [
-      | inl listed ↦ absurd (no_list w.solution w.is_solution (sound_by game Odd v is_game w) v lt w.given listed)
+      | inl listed ↦ absurd (no_list s is_s sound v lt (given v lt Odd w) listed)
       | inr top ↦ top
     ],
   );
@@ -178,6 +164,11 @@ least_tells_winners game f is_game is_bounds size least = record {
 
     sound : IsSound game s
     sound = is_sound game is_game
+
+    -- who wins is the winner that this solution gives
+    given : (v : ℕ) → v < length game → (player : Player) → WinsFrom game player v → winner s v ≡ player
+    given v lt player w =
+        one_player game is_game v lt (winner s v) player (gives game s is_game is_s sound v (winner s v) refl) w
 
     no_top : (s : List Answer) → IsSolution game s → IsSound game s → (v : ℕ) → v < length game → winner s v ≡ Even → measure_at f.measures v ≢ None
     no_top s is_s sound v lt e = least_has_list game s f.bounds f.measures is_game is_s sound is_bounds size least v lt e

@@ -11,12 +11,12 @@ use Rattle.pg_map.specs.Maps.{MapValue, IsLeastProgressMeasure, measure_at}
 use Rattle.pg_check.specs.Soundness.{IsSound, Wins}
 use Rattle.pg_check.specs.Strategies.{IsUndecided}
 
--- The player wins from v: a solution gives v to that player, and each winner that it gives wins every endless play that
--- follows it.
+-- The player wins from v: a solution gives v to that player, and every endless play from v that follows it stays at
+-- vertices that it gives to that player, and is won by that player. Nothing is asked of plays from other vertices.
 pub record WinsFrom (game : List GameVertex) (player : Player) (v : ℕ) : Type 0 where
   pub solution : List Answer
   pub is_solution : IsSolution game solution
-  pub wins : (u : ℕ) → u < length game → Wins game solution u
+  pub wins : Wins game solution v
   pub given : winner solution v ≡ player
 
 -- one player wins from v, and every sound solution gives v to that player

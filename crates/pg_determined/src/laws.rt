@@ -8,7 +8,8 @@ pub fn has_sound_solution()
     ensures { HasSoundSolution }
 {}
 
-/// From each vertex of a game one player wins, and every sound solution gives the vertex to that player.
+/// From each vertex of a game one player wins and the other doesn't, and every sound solution gives the vertex to the
+/// one who wins.
 pub fn each_has_one_winner()
     ensures { EachHasOneWinner }
 {}
