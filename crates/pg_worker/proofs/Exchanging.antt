@@ -4,13 +4,14 @@ use Rattle.std.specs.List.{flat_map}
 use Rattle.std.specs.Io.KnownBytes.{Consumes, Appends}
 use Rattle.std.proofs.lemmas.List.{append-nil}
 use Rattle.std.proofs.lemmas.List.Concat.{flat_map-cons}
+use Rattle.std.proofs.lemmas.List.Elements.{All-push}
 use Rattle.std.proofs.lemmas.Grind.{flat_map-append}
 use Rattle.pg_wire.specs.declared.fault.WireFault.TheVariants as wire
 use Rattle.pg_wire.specs.declared.frame.Frame.{Frame}
 use Rattle.pg_wire.specs.Spelling.{spelling}
-use Rattle.pg_wire.specs.Bytes.{IsWhole}
+use Rattle.pg_wire.specs.Bytes.{Spells, IsWhole}
 use Rattle.pg_wire.proofs.Append.{then}
-use Rattle.pg_wire.proofs.Consumed.{consumes_then, refused_known}
+use Rattle.pg_wire.proofs.Consumed.{consumes_then, got, refused_known}
 use Rattle.pg_worker.specs.declared.fault.WorkerFault.{WorkerFault}
 use Rattle.pg_worker.specs.declared.fault.WorkerFault.TheVariants.{OutOfMemory, Wire}
 use Rattle.pg_worker.specs.Turns.{HeldValue, Turn, RefusesBytes}
@@ -27,6 +28,7 @@ exchanges_more i i' i'' o o' o'' fs f held held' e a =
     sym (flat_map-append spelling fs (f ∷ []) ∙ ap (λ (bs : List ℕ). flat_map spelling fs ++ bs) (flat_map-cons spelling f [] ∙ append-nil (spelling f))) in
     record {
       bytes = e.bytes ++ a.reply;
+      well = All-push (λ (g : Frame). Spells g (spelling g)) fs f e.well a.well;
       replies = replies_more _ fs held e.bytes f held' a.reply e.replies a.turn;
       read = subst (λ (bs : List ℕ). Consumes i i'' bs) spelled (consumes_then i i' i'' (flat_map spelling fs) (spelling f) e.read a.read);
       written = then o o' o'' e.bytes a.reply e.written a.written;
@@ -57,5 +59,7 @@ broken_off e fault input left output before before' output' fs held x (inr w) (i
 pub refused_at : (input input' : Option (List ℕ)) (bytes : List ℕ) (held : Option HeldValue) (e : WorkerFault) → IsWhole bytes → Consumes input input' bytes
     → (e ≡ OutOfMemory) ⊎ RefusesBytes 2 held bytes e → IsFaultAt input held e
 refused_at input input' bytes held e w p (inl memory) = inl memory
-refused_at input input' bytes held e w p (inr (inl s)) = inr (inr (inl (s.fault, s.why_is, refused_known input input' bytes s.fault p w s.none s.too_long.0 s.truncated.0)))
-refused_at input input' bytes held e w p (inr (inr r)) = inr (inr (inr (r.0, input', subst (Consumes input input') r.1.spelled p, r.2)))
+refused_at input input' bytes held e w p (inr (inl s)) = inr (inr (inl (s.fault, s.why_is, s.of_bytes, refused_known input input' bytes s.fault p w s.none s.too_long.0 s.truncated.0)))
+refused_at input input' bytes held e w p (inr (inr r)) =
+    let read = got input input' bytes r.0 p r.1 in
+    inr (inr (inr (r.0, input', read.0, read.1, r.2)))

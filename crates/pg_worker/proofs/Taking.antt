@@ -151,13 +151,15 @@ memory_or wire.Version = inr (λ e. absurd cc, refl)
 
 -- what `decode` refuses
 pub refuses_none : (highest : ℕ) (held : Option HeldValue) (bytes : List ℕ) (fault : WireFault) (why : WorkerFault) → why ≡ own_fault fault → ((f : Frame) → Spells f bytes → (failed fault ≡ Ok f) ⊎ (failed fault ≡ failed wire.OutOfMemory))
-    → (failed fault ≡ failed wire.TooLong ↔ IsTooLong bytes) → (failed fault ≡ failed wire.Truncated ↔ IsTruncated bytes) → (why ≡ OutOfMemory) ⊎ RefusesBytes highest held bytes why
-refuses_none highest held bytes fault why is all long short =
+    → (failed fault ≡ failed wire.TooLong ↔ IsTooLong bytes) → (failed fault ≡ failed wire.Truncated ↔ IsTruncated bytes) → (fault ≢ wire.Read) × (fault ≢ wire.Write)
+    → (why ≡ OutOfMemory) ⊎ RefusesBytes highest held bytes why
+refuses_none highest held bytes fault why is all long short stream =
     elim (memory_or fault) [
       | inl memory ↦ inl (is ∙ ap own_fault memory)
       | inr other ↦ inr (inl (record {
         fault = fault;
         why_is = is ∙ other.1;
+        of_bytes = (other.0, stream.0, stream.1);
         none = λ f s. elim (all f s) [ inl ok ↦ absurd cc | inr memory ↦ other.0 (fault_is fault wire.OutOfMemory memory) ];
         too_long = (λ e. long.0 (ap failed e), λ t. fault_is fault wire.TooLong (long.1 t));
         truncated = (λ e. short.0 (ap failed e), λ t. fault_is fault wire.Truncated (short.1 t));

@@ -7,13 +7,13 @@ use Rattle.pg_wire.specs.declared.fault.WireFault.TheVariants as wire
 use Rattle.pg_wire.specs.declared.frame.Frame.{Frame}
 use Rattle.pg_wire.specs.declared.frame.Frame.TheVariants as frames
 use Rattle.pg_wire.specs.Spelling.{spelling}
-use Rattle.pg_wire.specs.Bytes.{IsReadFrom}
+use Rattle.pg_wire.specs.Bytes.{Spells, IsReadFrom}
 use Rattle.pg_worker.specs.declared.fault.WorkerFault.{WorkerFault}
 use Rattle.pg_worker.specs.declared.fault.WorkerFault.TheVariants.{OutOfMemory, Wire}
 use Rattle.pg_worker.specs.declared.served.Served.{Served}
 use Rattle.pg_worker.specs.declared.served.Served.TheVariants.{Halted, InputEnded, Bound}
 use Rattle.pg_worker.specs.Faults.{code_of}
-use Rattle.pg_worker.specs.Turns.{HeldValue, Turn, Refuses, report}
+use Rattle.pg_worker.specs.Turns.{HeldValue, Turn, Refuses, IsOfBytes, report}
 
 -- the replies to some frames, one turn after the other
 abbrev pub Replies : Option HeldValue → List Frame → Option HeldValue → List ℕ → Type 0
@@ -22,16 +22,19 @@ Replies before (f ∷ fs) after bytes =
     (held : Option HeldValue) × (reply : List ℕ) × (rest : List ℕ)
     × Turn before f held reply × Replies held fs after rest × (bytes ≡ reply ++ rest)
 
--- from a new session on, these frames were read and the replies to them were written
-pub record Exchanges (input input' output output' : Option (List ℕ)) (fs : List Frame) (held : Option HeldValue) : Type 0 where
+-- from a new session on, these frames, each a well one, were read and the replies to them were written
+pub record Exchanges (input input' output output' : Option (List ℕ)) (fs : List Frame) (held : Option HeldValue)
+    : Type 0 where
   pub bytes : List ℕ
+  pub well : All (λ f. Spells f (spelling f)) fs
   pub replies : Replies None fs held bytes
   pub read : Consumes input input' (flat_map spelling fs)
   pub written : Appends output output' bytes
 
 -- after these frames it ended: with Halt, where the input ended, or with the last frame that may be counted
 abbrev pub EndsAfter : Served → List Frame → Option (List ℕ) → Type 0
-EndsAfter (Halted n) fs left = (n ≡ length fs) × (front : List Frame) × (fs ≡ front ++ frames.Halt ∷ []) × All (λ f. f ≢ frames.Halt) front
+EndsAfter (Halted n) fs left =
+    (n ≡ length fs) × (front : List Frame) × (fs ≡ front ++ frames.Halt ∷ []) × All (λ f. f ≢ frames.Halt) front
 EndsAfter (InputEnded n) fs left = (n ≡ length fs) × All (λ f. f ≢ frames.Halt) fs × IsAtEnd left
 EndsAfter Bound fs left = (length fs ≡ 4294967295) × All (λ f. f ≢ frames.Halt) fs
 
@@ -55,12 +58,14 @@ told (Wire wire.Write) = []
 told (Wire wire.Truncated) = []
 told e = report 2 (code_of e)
 
--- why no turn was done with what is left: memory, a read that failed, bytes that are no frame, or a frame that is refused
+-- why no turn was done with what is left: memory, a read that failed, bytes that are no frame, or a well frame that is
+-- refused
 abbrev pub IsFaultAt : Option (List ℕ) → Option HeldValue → WorkerFault → Type 0
 IsFaultAt left held e =
     (e ≡ OutOfMemory) ⊎ (e ≡ Wire wire.Read)
-    ⊎ ((fault : WireFault) × (e ≡ Wire fault) × IfSome left (λ bytes. IsReadFrom bytes (Err fault)))
-    ⊎ ((f : Frame) × (rest : Option (List ℕ)) × Consumes left rest (spelling f) × Refuses 2 held f e)
+    ⊎ ((fault : WireFault) × (e ≡ Wire fault) × IsOfBytes fault × IfSome left (λ bytes. IsReadFrom bytes (Err fault)))
+    ⊎ ((f : Frame) × (rest : Option (List ℕ)) × Spells f (spelling f) × Consumes left rest (spelling f)
+    × Refuses 2 held f e)
 
 -- the frames before the fault were answered, and the fault was told
 pub record Breaks (e : WorkerFault) (input output output' : Option (List ℕ)) : Type 0 where

@@ -5,6 +5,7 @@ use Rattle.pg_measure.specs.Measures.{MeasureValue, AtMost}
 use Rattle.pg_map.specs.Maps.{measure_at, MapAtMost}
 use Rattle.pg_wire.specs.declared.fault.WireFault.{WireFault}
 use Rattle.pg_wire.specs.declared.fault.WireFault.TheVariants.{Version, TooLong, Truncated}
+use Rattle.pg_wire.specs.declared.fault.WireFault.TheVariants as wire
 use Rattle.pg_wire.specs.declared.frame.Setup.{Setup}
 use Rattle.pg_wire.specs.declared.frame.VertexLine.{VertexLine}
 use Rattle.pg_wire.specs.declared.frame.Frame.{Frame}
@@ -18,7 +19,8 @@ use Rattle.pg_worker.specs.declared.fault.WorkerFault.{WorkerFault}
 use Rattle.pg_worker.specs.declared.fault.WorkerFault.TheVariants.{BadUpdate, Order, Wire}
 use Rattle.pg_worker.specs.Workers.{WorkerValue, new_worker, with_lines, AreAbove, FitsGame, RefusesLines, CanTake, IsListedTurn}
 
--- what a session holds from a set-up on: the kind of frames in which values go, whether values or a Go came, and its worker
+-- what a session holds from a set-up on: the kind of frames in which values go, whether values or a Go came, and its
+-- worker
 pub record HeldValue : Type 0 where
   pub kind : ValueKind
   pub is_started : Bool
@@ -30,12 +32,16 @@ pub record HeldValue : Type 0 where
 abbrev pub kind_of : ℕ → ValueKind
 kind_of version = if version == 2 then Sparse else Dense
 
+-- what a set-up leaves: a new worker, and no values or Go yet
 abbrev pub fresh : Setup → HeldValue
 fresh s = record { kind = kind_of s.version; is_started = false; worker = new_worker s.bounds s.vertices }
 
+-- the lines are added to the worker's part
 abbrev pub with_part : HeldValue → List VertexLine → HeldValue
-with_part h ls = record { kind = h.kind; is_started = h.is_started; worker = record h.worker { lines = with_lines h.worker.lines ls } }
+with_part h ls =
+    record { kind = h.kind; is_started = h.is_started; worker = record h.worker { lines = with_lines h.worker.lines ls } }
 
+-- values or a Go came, and left this worker
 abbrev pub started : HeldValue → WorkerValue → HeldValue
 started h w = record { kind = h.kind; is_started = true; worker = w }
 
@@ -63,7 +69,8 @@ pub record AreInTurn (h : HeldValue) (kind : ValueKind) (width : ℕ) (ms : List
   pub fit : CanTakeAll h.worker ms
 
 -- the values are joined to the worker's map
-pub record TakesValues (h : HeldValue) (kind : ValueKind) (width : ℕ) (ms : List Measured) (after : Option HeldValue) : Type 0 where
+pub record TakesValues (h : HeldValue) (kind : ValueKind) (width : ℕ) (ms : List Measured) (after : Option HeldValue)
+    : Type 0 where
   pub in_turn : AreInTurn h kind width ms
   pub map : List MeasureValue
   pub joins : Joins h.worker.map ms map
@@ -77,6 +84,7 @@ RefusesValues h kind width ms why =
 
 -- ---- replies
 
+-- the bytes of a report of this status and code
 abbrev pub report : ℕ → ℕ → List ℕ
 report status code = spelling (frames.Report (record { status = status; code = code }))
 
@@ -122,17 +130,19 @@ pub record LiftsAndTells (h : HeldValue) (budget : ℕ) (after : Option HeldValu
 
 -- ---- turns
 
--- One turn that isn't refused: what is held before, the frame, what is held after it, and the reply. A set-up or Halt may come
--- at any time, vertices only before the first values or Go, and values only in the kind of the version.
+-- One turn that isn't refused: what is held before, the frame, what is held after it, and the reply. A set-up or Halt
+-- may come at any time, vertices only before the first values or Go, and values only in the kind of the version.
 abbrev pub Turn : Option HeldValue → Frame → Option HeldValue → List ℕ → Type 0
 Turn before (frames.Setup s) after reply = (after ≡ Some (fresh s)) × (reply ≡ greeting s.version)
 Turn before frames.Halt after reply = (after ≡ None) × (reply ≡ [])
 Turn None frame after reply = ⊥
 Turn (Some h) (frames.Vertices v) after reply =
-    (h.is_started ≡ false) × AreAbove h.worker.lines v.lines × All (FitsGame h.worker.bounds (length h.worker.map)) v.lines
+    (h.is_started ≡ false) × AreAbove h.worker.lines v.lines
+    × All (FitsGame h.worker.bounds (length h.worker.map)) v.lines
     × (after ≡ Some (with_part h v.lines)) × (reply ≡ [])
 Turn (Some h) (frames.Values v) after reply = TakesValues h Dense v.width (told_values v.values) after × (reply ≡ [])
-Turn (Some h) (frames.Sparse v) after reply = TakesValues h Sparse v.width (told_sparse v.width v.values) after × (reply ≡ [])
+Turn (Some h) (frames.Sparse v) after reply =
+    TakesValues h Sparse v.width (told_sparse v.width v.values) after × (reply ≡ [])
 Turn (Some h) (frames.Go g) after reply = LiftsAndTells h g.budget after reply
 Turn (Some h) (frames.Report r) after reply = ⊥
 
@@ -165,21 +175,28 @@ abbrev pub SpellsRows : List ℕ → Type 0
 SpellsRows bytes = (f : Frame) × HasRows f × Spells f bytes
 
 -- one turn of the frame that the bytes spell, which halts or not
-pub record DoesTurn (highest : ℕ) (before : Option HeldValue) (bytes : List ℕ) (after : Option HeldValue) (halts : Bool) (reply : List ℕ) : Type 0 where
+pub record DoesTurn (highest : ℕ) (before : Option HeldValue) (bytes : List ℕ) (after : Option HeldValue) (halts : Bool)
+    (reply : List ℕ) : Type 0 where
   pub frame : Frame
   pub spells : Spells frame bytes
   pub version : IsUpTo highest frame
   pub halt : IsTrue halts ↔ (frame ≡ frames.Halt)
   pub turn : Turn before frame after reply
 
+-- a fault that bytes may have: not want of memory, nor a read or a write that failed
+abbrev pub IsOfBytes : WireFault → Type 0
+IsOfBytes fault = (fault ≢ wire.OutOfMemory) × (fault ≢ wire.Read) × (fault ≢ wire.Write)
+
 -- why bytes that spell no frame are refused
 pub record SpellsNone (bytes : List ℕ) (why : WorkerFault) : Type 0 where
   pub fault : WireFault
   pub why_is : why ≡ Wire fault
+  pub of_bytes : IsOfBytes fault
   pub none : (f : Frame) → ¬ (Spells f bytes)
   pub too_long : (fault ≡ TooLong) ↔ IsTooLong bytes
   pub truncated : (fault ≡ Truncated) ↔ IsTruncated bytes
 
 -- why a session refuses bytes, want of memory aside
 abbrev pub RefusesBytes : ℕ → Option HeldValue → List ℕ → WorkerFault → Type 0
-RefusesBytes highest before bytes why = SpellsNone bytes why ⊎ ((f : Frame) × Spells f bytes × Refuses highest before f why)
+RefusesBytes highest before bytes why =
+    SpellsNone bytes why ⊎ ((f : Frame) × Spells f bytes × Refuses highest before f why)

@@ -4,18 +4,24 @@ use Rattle.std.specs.Io.KnownBytes.{Consumes, Appends, IsAtEnd}
 use Rattle.pg_wire.specs.declared.frame.Frame.{Frame}
 use Rattle.pg_wire.specs.declared.frame.Frame.TheVariants as frames
 use Rattle.pg_wire.specs.Spelling.{spelling}
+use Rattle.pg_wire.specs.Bytes.{Spells}
 use Rattle.pg_worker.specs.declared.step.Step.{Step}
 use Rattle.pg_worker.specs.declared.step.Step.TheVariants as steps
 use Rattle.pg_worker.specs.Turns.{HeldValue, Turn}
 
--- a frame was read and answered
-pub record Answers (f : Frame) (held held' : Option HeldValue) (input input' output output' : Option (List ℕ)) : Type 0 where
+-- a well frame was read and answered
+pub record Answers (f : Frame) (held held' : Option HeldValue) (input input' output output' : Option (List ℕ))
+    : Type 0 where
+  pub well : Spells f (spelling f)
   pub reply : List ℕ
   pub turn : Turn held f held' reply
   pub read : Consumes input input' (spelling f)
   pub written : Appends output output' reply
 
-abbrev pub IsStep : Step → Option HeldValue → Option HeldValue → Option (List ℕ) → Option (List ℕ) → Option (List ℕ) → Option (List ℕ) → Type 0
+-- what a step did: to what is held, to the bytes that are left to read, and to those that were written
+abbrev pub IsStep : Step → Option HeldValue → Option HeldValue → Option (List ℕ) → Option (List ℕ)
+    → Option (List ℕ) → Option (List ℕ) → Type 0
 IsStep steps.Ended held held' input input' output output' = IsAtEnd input × (held' ≡ held) × (output' ≡ output)
 IsStep steps.Halted held held' input input' output output' = Answers frames.Halt held held' input input' output output'
-IsStep steps.Answered held held' input input' output output' = (f : Frame) × (f ≢ frames.Halt) × Answers f held held' input input' output output'
+IsStep steps.Answered held held' input input' output output' =
+    (f : Frame) × (f ≢ frames.Halt) × Answers f held held' input input' output output'

@@ -17,7 +17,7 @@ returns-then-branch-clause-turn c =
     ([], does, sym (append-nil c.args.out.now.items))
 
 pub returns-in-Err-clause-refused : goal.returns-in-Err-clause-refused
-returns-in-Err-clause-refused c = refuses_none c.args.highest c.args.held.now c.args.bytes.now c.in-Err.fault c.own.result c.own.ensures c.in-Err.ensures.all c.in-Err.ensures.too_long c.in-Err.ensures.truncated
+returns-in-Err-clause-refused c = refuses_none c.args.highest c.args.held.now c.args.bytes.now c.in-Err.fault c.own.result c.own.ensures c.in-Err.ensures.all c.in-Err.ensures.too_long c.in-Err.ensures.truncated c.in-Err.ensures.no_stream
 
 pub returns-in_err-turn-clause-refused : goal.returns-in_err-turn-clause-refused
 returns-in_err-turn-clause-refused c =
