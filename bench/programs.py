@@ -10,8 +10,8 @@ coded.
     bench/programs.py game_speed        game_of on such automata
 
 A program is a crate of one file, `NAME.rt.txt`; it is built in a copy of the repository's crates, with what was proved of
-them, so that no more than the program and what isn't proved yet is proved. A folder as a second word keeps the copy for the
-next run.
+them, so that no more than the program and what isn't proved yet is proved. The copy is removed at the end; where a folder is
+named as a second word, it is made there and kept for the next run.
 """
 import pathlib
 import random
@@ -64,14 +64,23 @@ def inputs(name):
             ("random identifiers", text(sparse, ""))]
 
 
-def main():
-    if len(sys.argv) < 2 or sys.argv[1] not in STANDS_ON:
-        sys.exit(__doc__)
-    program = build(sys.argv[1], pathlib.Path(sys.argv[2] if len(sys.argv) > 2 else tempfile.mkdtemp()))
-    for what, given in inputs(sys.argv[1]):
+def measure(name, copy):
+    """Builds the program in this folder, and runs it three times on each input."""
+    program = build(name, pathlib.Path(copy))
+    for what, given in inputs(name):
         print(f"-- {what}", flush=True)
         for _ in range(3):
             subprocess.run([program], input=given, check=True)
+
+
+def main():
+    if len(sys.argv) not in (2, 3) or sys.argv[1] not in STANDS_ON:
+        sys.exit(__doc__)
+    if len(sys.argv) == 3:
+        measure(sys.argv[1], sys.argv[2])
+    else:
+        with tempfile.TemporaryDirectory() as copy:
+            measure(sys.argv[1], copy)
 
 
 main()

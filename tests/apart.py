@@ -115,15 +115,16 @@ def says(program, command, text, path, status, output, errors=""):
         return str(run), run.make(folder) or run.differs(status, output, errors)
 
 
-def wins_or_is_undecided(program, text):
+def wins_or_is_undecided(program, text, seed):
     """Whatever measures the programs make up, a solution that is printed is sound."""
     run = Run(program, "solve", text, "random_values", 2)
+    name = f"{run}, seed {seed} on {text!r}"
     with tempfile.TemporaryDirectory() as folder:
-        why = run.make(folder)
+        why = run.make(folder, PARSOLVE_SEED=str(seed))
     if why is not None or run.status == 3 and not run.output and run.errors.startswith("parsolve: undecided at "):
-        return str(run), why
+        return name, why
     checked = subprocess.run([program, "check"], input=f"{text}--\n{run.output}", capture_output=True, text=True)
-    return str(run), None if checked.stdout == "WINS\n" else f"{run.output!r}: {checked.stdout!r}"
+    return name, None if checked.stdout == "WINS\n" else f"{run.output!r}: {checked.stdout!r}"
 
 
 def killed_at_each_frame(program, command, text):
@@ -224,8 +225,8 @@ def cases(program, is_first):
     yield says, program, "measure", "0 0 0 9;\n", "never_connects", 1, "", (
         "parsolve: vertex 0 has successor 9, which no line defines\n")
     for text in (TWO, THREE, TOPS):
-        for _ in range(5):
-            yield wins_or_is_undecided, program, text
+        for seed in range(5):
+            yield wins_or_is_undecided, program, text, seed
     yield killed_at_each_frame, program, "measure", TOPS
     yield killed_at_each_frame, program, "solve", THREE
     yield starts_anew, program

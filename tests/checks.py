@@ -1,7 +1,9 @@
-"""Checks of the built programs that are no rows: random small games and schedules against the definitions, want of
-memory."""
+"""Checks of the built programs that are no rows: random small games and schedules against the definitions, examples in the
+help, want of memory."""
 import os
 import random
+import re
+import shlex
 import shutil
 import subprocess
 import tempfile
@@ -10,6 +12,10 @@ import controllers
 import naive
 
 top = os.path.dirname(os.path.dirname(os.path.abspath(__file__)))
+
+
+class Skipped(Exception):
+    """What a check raises that can't be made here."""
 
 
 def random_game(dice, priorities=range(5)):
@@ -117,8 +123,7 @@ def controllers_as_defined(program, count=120):
 def circuits_are_read(program):
     """An outside tool, where it is installed, reads the circuits of the examples."""
     if shutil.which("yosys") is None:
-        print("circuits of the examples: skipped, yosys is not installed")
-        return None
+        raise Skipped("yosys is not installed")
     with tempfile.TemporaryDirectory() as folder:
         for name in ("request-grant", "owl-arbiter", "delay"):
             with open(os.path.join(top, "examples", f"{name}.hoa"), "rb") as file:
@@ -130,6 +135,21 @@ def circuits_are_read(program):
             if line != b"REALIZABLE" or ran.returncode != 0:
                 return f"{name}: {line!r}, {ran.stdout!r}, {ran.stderr!r}"
     return None
+
+
+def example_in_help(program, words):
+    """The example in the help of a command, run at the top of the repository, is answered, and by what the help says."""
+    shown = subprocess.run([program, *words, "--help"], capture_output=True, text=True, timeout=60).stdout
+    found = re.search(r"^Example: (.*?)(?:^prints (.*?))?\Z", shown, re.M | re.S)
+    if found is None:
+        return f"no example: {shown!r}"
+    line, said = found.groups()
+    line = re.sub(r"\bparsolve\b", lambda _: shlex.quote(program), line)
+    ran = subprocess.run(["sh", "-c", line], cwd=top, capture_output=True, text=True, timeout=60)
+    if ran.returncode != 0 or ran.stderr or not ran.stdout:
+        return f"{line!r}: status {ran.returncode}, {ran.stdout!r}, {ran.stderr!r}"
+    wanted = "".join(f"{it}\n" for it in re.findall("`([^`]*)`", said or ""))
+    return None if said is None or ran.stdout == wanted else f"{line!r}: {ran.stdout!r}, the help says {wanted!r}"
 
 
 def refuser(folder):
@@ -233,6 +253,9 @@ def cases(programs):
         yield f"solutions of the examples ({name})", lambda p=program: solutions_win(p)
         yield f"synth on random automata ({name})", lambda p=program: controllers_as_defined(p)
         yield f"solve on long rows ({name})", lambda p=program: long_rows_as_worked_out(p)
+        for words in ([], ["measure"], ["solve"], ["check"], ["replay"], ["game"], ["synth"]):
+            yield (f"the example in {' '.join([*words, '--help'])} ({name})",
+                   lambda p=program, w=words: example_in_help(p, w))
     yield "circuits of the examples", lambda: circuits_are_read(programs[0])
     # the program as LLVM builds it takes its memory by malloc and realloc alone
     for command, text, wanted in (("measure", game, b"0 1,1;\n1 1,0;\n2 0,0;\n"), ("solve", three, solution),
@@ -244,14 +267,21 @@ def cases(programs):
 
 
 def run(programs):
-    """Runs every check; answers how many passed and failed."""
-    passed = failed = 0
+    """Runs every check; answers how many passed and failed. One that is skipped did neither."""
+    passed = failed = skipped = 0
     for name, check in cases(programs):
-        why = check()
+        try:
+            why = check()
+        except Skipped as missing:
+            skipped += 1
+            print(f"{name}: skipped, {missing}")
+            continue
         if why is None:
             passed += 1
         else:
             failed += 1
             print(f"{name}: {why}")
+    if skipped:
+        print(f"checks: {skipped} skipped")
     print(f"checks: {passed} passed, {failed} failed")
     return passed, failed

@@ -15,6 +15,7 @@ Whoever wants to believe what is proved reads the believed modules: the files of
     tests/layout.py --write    first mends both documents as far as that needs no words: numbers of lines, files that are
                                gone or new (with their first line), the file of a definition that has moved
 """
+import argparse
 import pathlib
 import re
 import sys
@@ -242,8 +243,14 @@ def run():
     return passed, failed
 
 
+def options():
+    words = argparse.ArgumentParser(description=__doc__, formatter_class=argparse.RawDescriptionHelpFormatter)
+    words.add_argument("--write", action="store_true", help="mend docs/map.md and docs/definitions.md first")
+    return words.parse_args()
+
+
 if __name__ == "__main__":
-    if "--write" in sys.argv[1:]:
+    if options().write:
         write_map()
         write_definitions()
     sys.exit(1 if run()[1] else 0)

@@ -1,6 +1,7 @@
 #!/usr/bin/env python3
 """Programs that pretend to be a worker: each is this file under the name of what it does, started as `NAME worker --port P`.
-The variable PARSOLVE_PROGRAM names the program that is tested, and PARSOLVE_FOLDER a folder for what they note.
+The variable PARSOLVE_PROGRAM names the program that is tested, PARSOLVE_FOLDER a folder for what they note, and PARSOLVE_SEED
+what the values are made of that look random.
 """
 import os
 import random
@@ -86,7 +87,7 @@ class Worker:
 
     def __init__(self, reply, first=QUIET, report=QUIET):
         self.reply, self.first, self.report = reply, first, report
-        self.version, self.vertices, self.bounds, self.part = 0, 0, [], []
+        self.version, self.vertices, self.bounds, self.part, self.dice = 0, 0, [], [], None
 
     def serve(self, port):
         stream = connect(port)
@@ -112,8 +113,8 @@ def top_everywhere(worker):
 
 
 def random_values(worker):
-    """Measures that fit, of some vertices of the part."""
-    dice = random.Random(os.getpid() * 1000 + time.monotonic_ns() % 1000)
+    """Measures that fit, of some vertices of the part: the same for the same seed and first part."""
+    dice = worker.dice = worker.dice or random.Random(f"{os.environ['PARSOLVE_SEED']} {worker.part}")
     some = [vertex for vertex in worker.part if dice.randint(0, 3) == 0]
     lists = [None if dice.randint(0, 9) == 0 else [dice.randint(0, most) for _, most in worker.bounds] for _ in some]
     return values_frame(worker.version, len(worker.bounds), list(zip(some, lists)))

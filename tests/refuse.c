@@ -1,5 +1,5 @@
-/* Loaded before a program: refuses its growth number REFUSE_AT (a malloc, calloc or realloc that asks for memory) by
-   answering NULL, once, and then makes the file REFUSE_MET. */
+/* Loaded before a program: refuses its growth number REFUSE_AT (a malloc or realloc) by answering NULL, once, and then makes
+   the file REFUSE_MET. */
 #define _GNU_SOURCE
 #include <dlfcn.h>
 #include <fcntl.h>

@@ -6,6 +6,7 @@
     stdin      the input (or stdin_hex, or stdin_file: a file of the repository)
     blanks     how many blanks stand before the input; absent: none
     stdout     the whole output (or stdout_file); absent: nothing
+    stdout_has a text that the output has somewhere, in place of the whole
     stderr     the whole error stream; absent: anything
     status     the exit status; absent: 0
     output_to  where the output goes in place of a pipe: a path, or "closed"
@@ -58,7 +59,10 @@ def failure(program, row):
     status, output, errors = run_row(program, row)
     if status != row.get("status", 0):
         return f"status {status}, wanted {row.get('status', 0)}; {errors[-300:]!r}"
-    if output is not None and output != bytes_of(row, "stdout"):
+    if output is not None and "stdout_has" in row:
+        if row["stdout_has"].encode() not in output:
+            return f"output {output[:300]!r}, wanted {row['stdout_has']!r} in it"
+    elif output is not None and output != bytes_of(row, "stdout"):
         return f"output {output[:300]!r}, wanted {bytes_of(row, 'stdout')[:300]!r}"
     if "stderr" in row and errors != row["stderr"].encode():
         return f"error stream {errors[:300]!r}, wanted {row['stderr']!r}"
