@@ -1,5 +1,11 @@
 //! Laws over the definitions. Their functions take no memory and do nothing: their contracts are what they are for.
 
+ghost use Rattle.std.specs.Prelude.{List};
+ghost use Rattle.pg_arena.specs.Games.{GameVertex};
+ghost use Rattle.pg_hoa.specs.Automata.{Automaton, IsAutomaton};
+ghost use Rattle.pg_hoa.specs.Words.{IsWord};
+ghost use Rattle.pg_synth.specs.AutomatonGames.{IsGameOfAutomaton};
+ghost use Rattle.pg_synth.specs.Laws.{TracesOnePlay};
 ghost use Rattle.pg_cli.specs.Controllers.{CircuitAccepted, NoneAccepted, OneVerdict};
 ghost use Rattle.pg_cli.specs.Laws.{PrintedWinnersWin, LeastIsClosed, OneAnswer};
 
@@ -23,7 +29,7 @@ pub fn least_is_closed()
 
 /// By least progress measures `measure` has one answer to an input, and so have `solve`, `replay` and `game`; where `solve` has
 /// one it isn't undecided; where `replay` has one no event is refused, and where one is it is at one place and for one fault;
-/// where `game` has one it isn't too large. So what `run` writes is a function of what it reads.
+/// where `game` has one it isn't too large. So what `run` writes for these four is a function of what it reads.
 pub fn one_answer()
     ensures { OneAnswer }
 {
@@ -34,6 +40,14 @@ pub fn one_answer()
     pg_world::laws::same_taken();
     pg_measure::laws::order_is_total();
     pg_hoa::laws::one_reading();
+}
+
+/// An endless word traces one play of the game of an automaton, and the automaton accepts it exactly if Even wins that play.
+pub fn word_and_play<W: Word>(word: &W)
+    ensures { (a : Automaton) (game : List GameVertex) → IsAutomaton a → IsGameOfAutomaton a game
+        → IsWord a (W.letter word.now) → TracesOnePlay a game (W.letter word.now) }
+{
+    pg_synth::laws::word_and_play_of(word);
 }
 
 /// What `synth` prints behind `REALIZABLE` spells a circuit, whatever the links answer. For every endless word of input letters

@@ -68,8 +68,8 @@ fn answer<L: Link, W: Write>(
 
 /// Reads the whole input, and writes the answer to it and nothing else. Hand it a buffered writer, and flush that.
 ///
-/// Where the command solves a game, as many workers in this process solve it as the command says, or none; the answer is the
-/// same for every number of them.
+/// Where the command solves a game, as many workers in this process solve it as the command says, or none; what the clauses
+/// say of the answer is the same for every number of them.
 ///
 /// Refuses, in this order: `Read`; `InputTooLong` for more than 268,435,456 bytes, of which it reads the first one over
 /// the limit at most; `NoSeparator` where two texts are wanted and no line `--` parts them; `Text` for a text that

@@ -36,6 +36,7 @@ fn solved<L: Link>(
     ensures unwritten { result ≢ Err CliFault.Write }
 {
     let game = read_game(alloc, &text)?;
+    // asked for what its contract says of the game
     let _vertices = game.len();
     drop(text);
     let solution = solution_of(alloc, &game, links)?;

@@ -170,6 +170,7 @@ fn game_first<L: Link>(
     ensures refused { IfErr result (λ fault. fault ≡ CliFault.OutOfMemory) }
 {
     pg_check::laws::no_list_in_both();
+    // asked for what its contract says of the game
     let _vertices = game.len();
     let Some(half) = half_within(alloc, game, links, &[], most_rises)? else {
         return Ok(None);
@@ -193,6 +194,7 @@ fn dual_first<L: Link>(
     ensures refused { IfErr result (λ fault. fault ≡ CliFault.OutOfMemory) }
 {
     pg_check::laws::no_list_in_both();
+    // asked for what its contract says of the game
     let _vertices = game.len();
     let Some(odd) = dual_within(alloc, game, links, &[], most_rises)? else {
         return Ok(None);

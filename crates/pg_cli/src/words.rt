@@ -46,9 +46,11 @@ automata in HOA v1.
 
 Exit status:
   0  an answer was printed
-  1  the input was refused, or memory ran out, or reading or writing failed; the error stream has one line that says why
+  1  the input was refused, or memory ran out, or reading or writing failed, or no port was left for workers; the error
+     stream has one line that says why
   2  the command line names no command, or has a word that doesn't belong there
-  3  undecided: the least progress measures of the game and of its dual are both top at the vertex that is named
+  3  undecided: the measures of the game and of its dual are both top at the vertex that is named; only workers that are
+     other programs than this one can bring that about
 
 Example: parsolve solve < examples/two.pg";
 
@@ -201,7 +203,7 @@ fn worker<'a>(alloc: Global) -> Result<Program<'a>, Error> {
     Ok(
         Program::new(alloc, WORKER)
             .about(
-                "Lifts vertices for a solver that has started it; `--apart` of the other commands does",
+                "Lifts vertices for a solver that has started it; `--apart` of measure, solve and synth does",
             )
             .after_help(WORKER_MORE)
             .arg(port_option(alloc))?,

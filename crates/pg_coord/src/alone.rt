@@ -77,6 +77,7 @@ pub fn finish(task: &Task<'_>, board: &mut Board, before: u64) -> Result<u64, Al
         board.begin();
         pass_marked(board, task.game(), &mut marks, &leading);
         if !board.rose {
+            // asked for what its contract says of the map
             let _map = board.map.len();
             return Ok(rounds);
         }

@@ -12,6 +12,7 @@ use std::alloc::AllocError;
 /// Why a call of a link was refused.
 #[derive(Clone, Copy, Debug, PartialEq, Eq)]
 pub enum LinkFault {
+    /// The allocator refused a growth.
     OutOfMemory,
     /// The worker can't be reached, or nothing came back. The link counts these.
     Failed,

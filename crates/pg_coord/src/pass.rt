@@ -22,6 +22,7 @@ pub fn pass(board: &mut Board, game: &Game)
         → IsClosed board.new.map.bounds (game_line game.now) board.new.map.measures }
 {
     pg_map::laws::game_lines();
+    // asked for what its contract says of the map
     let _map = board.map.len();
     for number in 0..game.len() {
         board.lift(game, Vertex(number as u32));

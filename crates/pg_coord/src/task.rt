@@ -66,6 +66,7 @@ impl<'a> Task<'a> {
     {
         pg_measure::laws::bounds_are_few();
         pg_map::laws::game_lines();
+        // asked for what its contract says of the game
         let _vertices = game.len();
         let bounds = Bounds::of(alloc, game)?;
         let rising = rising(alloc, game, cut, &bounds, tops)?;

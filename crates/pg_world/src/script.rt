@@ -146,6 +146,7 @@ pub fn read_script(alloc: Global, game: &Game, bytes: &[u8]) -> Result<Script, S
         → MatchResult result (λ script. (script.cut ≡ cut) × (script.events.items ≡ events))
         (λ fault. fault ≡ OutOfMemory) }
 {
+    // asked for what its contract says of the game
     let _vertices = game.len();
     let (cut, rest) = read_head(alloc, game, bytes)?;
     let events = read_events(alloc, game, bytes.len(), rest)?;

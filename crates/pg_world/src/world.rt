@@ -212,6 +212,7 @@ impl World {
         make_room(&mut self.updates, &mut self.taken, 0)?;
         let update = &self.updates[number];
         self.coordinator.raise(update.vertex, update.measure.view());
+        // asked for what its contract says of the map
         let _vertices = self.coordinator.len();
         note(&mut self.taken, 0, number);
         Ok(())
@@ -229,6 +230,7 @@ impl World {
         make_room(&mut self.updates, &mut self.taken, place)?;
         let worker = &mut self.workers[place - 1];
         let _rose = worker.take(&self.updates[number]);
+        // asked for what its contract says of the worker
         let _vertices = worker.len();
         note(&mut self.taken, place, number);
         Ok(())

@@ -69,8 +69,6 @@ fn the_coordinator_may_be_alone(rt: HostRuntime) {
 
 #[test]
 fn a_last_line_needs_no_newline(rt: HostRuntime) {
-    let text = b"workers 1;\nrestart 1;\nlift1 3";
-    assert!(rt; !is_read(rt.alloc(), text, 1, [1, 1, 1], &[Restart(1)]));
     let text = b"workers 1;\nrestart 1;\nlift1 3;";
     assert!(rt;
         is_read(
