@@ -7,3 +7,11 @@ returns-clause-told g c =
     let e = c.in_ok-solved.ensures in
     over_told g.L.Link.told c.args.links.now c.args.game.now solved.map c.in_ok-cut.cut solved.rounds
     (record { bounds = e.bounds; fits = e.map; closed = e.closed }) c.in_ok-cut.ensures e.rounds.0 e.told
+
+pub returns-clause-found : goal.returns-clause-found
+returns-clause-found g c =
+    let e = c.in_ok-solved.ensures in
+    record {
+      closed = record { bounds = e.bounds; fits = e.map; closed = e.closed };
+      least = λ honest. record { bounds = e.bounds; size = e.map.size; least = e.least honest };
+    }
