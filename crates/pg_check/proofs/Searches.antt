@@ -1,6 +1,6 @@
 -- A search by breadth from a vertex: what is reached, and why no cycle from that vertex escapes it.
 use Rattle.std.proofs.Common.{◌≡◌, ◌≢◌, ◌↔◌, ℕ, ◌+◌, ◌<◌, ◌≤◌, inl, inr, Bool, true, false, List, [], ◌∷◌, ◌++◌, length, get_or, set, replicate, arith, sym, subst, refl, ◌∙◌}
-use Rattle.std.specs.List.{All, AllPairs, Contains}
+use Rattle.std.specs.List.{All, Contains}
 use Rattle.std.proofs.lemmas.Bool.{cases_lt, cases_eq, eqb-true}
 use Rattle.std.proofs.lemmas.Bool.Decides.{Decides-eqb}
 use Rattle.std.proofs.lemmas.List.{get_or_default, get_or_past, get_or_append_left, get_or_push, get_or-set_same, get_or-set_other, length-append, length-set, get_or-replicate, length-replicate}
@@ -13,22 +13,9 @@ use Rattle.pg_arena.specs.Games.{GameVertex, IsPath, priority}
 use Rattle.pg_text.specs.declared.answer.Answer.{Answer}
 use Rattle.pg_check.specs.Soundness.{Counts}
 use Rattle.pg_check.specs.Mirrors.Cycles.{HasNoCycle, IsTrail}
+use Rattle.pg_check.specs.Mirrors.Searches.{IsSearched, IsTaken, AreTaken, IsExplored}
 use Rattle.pg_check.proofs.Leaving.{all_passed}
 use Rattle.pg_check.proofs.Sifting.{here_too}
-
--- what a search from v has reached, in order
-pub record IsSearched (game : List GameVertex) (solution : List Answer) (v : ℕ) (reached before : List ℕ) (flags : List Bool) : Type 0 where
-  pub first : get_or reached 0 0 ≡ v
-  pub some : 0 < length reached
-  pub as_long : length before ≡ length reached
-  pub whole : length flags ≡ length game
-  pub distinct : AllPairs (λ x y. x ≢ y) reached
-  pub within : All (λ w. w < length game) reached
-  pub greatest : All (λ w. priority game w ≤ priority game v) reached
-  pub flagged : All (λ w. get_or flags w false ≡ true) reached
-  pub has_flagged : (w : ℕ) → get_or flags w false ≡ true → Contains reached w
-  pub steps : (k : ℕ) → 0 < k → k < length reached
-      → (get_or before k 0 < k) × Counts game solution (get_or reached (get_or before k 0) 0) (get_or reached k 0)
 
 pub search_begins : (game : List GameVertex) (solution : List Answer) (v : ℕ) → v < length game
     → IsSearched game solution v (v ∷ []) (0 ∷ []) (set (replicate (length game) false) v true)
@@ -134,17 +121,8 @@ trail_of game solution v reached before flags at s here counts = record {
   closes = counts;
 }
 
--- w doesn't close a cycle, and is reached if it may stand on one
-abbrev pub IsTaken : List GameVertex → ℕ → List ℕ → ℕ → Type 0
-IsTaken game v reached w = (w ≢ v) × (priority game w ≤ priority game v → Contains reached w)
-
 pub taken_more : (game : List GameVertex) (v : ℕ) (reached : List ℕ) (x w : ℕ) → IsTaken game v reached w → IsTaken game v (reached ++ x ∷ []) w
 taken_more game v reached x w t = (t.0, λ low. Contains-append_left reached (x ∷ []) w (t.1 low))
-
--- each edge that counts from a place before `at` is taken
-abbrev pub AreTaken : List GameVertex → List Answer → ℕ → List ℕ → ℕ → Type 0
-AreTaken game solution v reached at =
-    (k w : ℕ) → k < at → k < length reached → Counts game solution (get_or reached k 0) w → IsTaken game v reached w
 
 pub taken_still : (game : List GameVertex) (solution : List Answer) (v : ℕ) (reached : List ℕ) (at x : ℕ) → at ≤ length reached
     → AreTaken game solution v reached at → AreTaken game solution v (reached ++ x ∷ []) at
@@ -152,6 +130,17 @@ taken_still game solution v reached at x upto taken k w lt inside counts =
     let here : k < length reached = omega arith in
     taken_more game v reached x w (taken k w lt here
     (subst (λ u. Counts game solution u w) (get_or_append_left reached (x ∷ []) 0 k here) counts))
+
+-- a search begins with v reached and no edge taken
+pub explored_begins : (game : List GameVertex) (solution : List Answer) (v count : ℕ) (reached before : List ℕ) (flags : List Bool)
+    → v < length game → count ≡ length game → reached ≡ v ∷ [] → before ≡ 0 ∷ [] → flags ≡ set (replicate count false) v true
+    → IsExplored game solution v reached before flags 0
+explored_begins game solution v count reached before flags lt all e f g =
+    rw (e, f, g, all) (record {
+      searched = search_begins game solution v lt;
+      upto = omega arith;
+      taken = λ k w below. absurd (omega arith);
+    })
 
 -- a search that took every edge finds that v has no cycle
 pub no_cycle : (game : List GameVertex) (solution : List Answer) (v : ℕ) (reached before : List ℕ) (flags : List Bool) (at : ℕ)

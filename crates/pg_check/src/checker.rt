@@ -4,7 +4,7 @@ ghost use Rattle.std.specs.Prelude.{◌≡◌, ◌↔◌, ℕ, ◌<◌, length, 
 ghost use Rattle.pg_arena.specs.Games.{IsGame};
 ghost use Rattle.pg_text.specs.Solutions.{IsSolution};
 ghost use Rattle.pg_check.specs.Soundness.{IsSound};
-ghost use Rattle.pg_check.specs.Mirrors.Cycles.{IsLost, HasNoCycle, HasNoBadCycle};
+ghost use Rattle.pg_check.specs.Mirrors.Cycles.{IsLost, HasNoCycle, HasNoBadCycle, AreLeft};
 ghost use Rattle.pg_check.specs.Verdicts.{IsSimpleBadCycle, IsWins, Refutes};
 ghost use Rattle.pg_check.specs.declared.fault.CheckFault.TheVariants.{OutOfMemory};
 
@@ -66,6 +66,75 @@ fn search_each(
     Ok(None)
 }
 
+/// A bad cycle through the suspect if there is one, and else by a search from each vertex.
+fn bad_cycle_from(
+    alloc: Global,
+    game: &Game,
+    solution: &Solution,
+    suspect: Option<Vertex>,
+) -> Result<Option<Vec<Vertex>>, AllocError>
+    requires whole { length solution.now ≡ length game.now }
+    requires within { IfSome suspect (λ v. v < length game.now) }
+    ensures none { IfOk result (λ found. IfNone found (HasNoBadCycle game.now solution.now)) }
+    ensures some { IfOk result (λ found. IfSome found (λ cycle. IsSimpleBadCycle game.now solution.now cycle.items)) }
+{
+    if let Some(v) = suspect {
+        if let Some(cycle) = bad_cycle_through(alloc, game, solution, v)? {
+            return Ok(Some(cycle));
+        }
+    }
+    search_each(alloc, game, solution)
+}
+
+/// Leaves out the vertices that no bad cycle goes through, as far as the numbers and limits of their components tell.
+/// Those that are left are new again.
+fn sift_out(
+    alloc: Global,
+    game: &Game,
+    solution: &Solution,
+    vertices: &mut Vec<Vertex>,
+    numbers: &mut [u32],
+    limits: &[u32],
+) -> Result<(), AllocError>
+    requires game { IsGame game.now }
+    requires whole { length solution.now ≡ length game.now }
+    requires numbered { length numbers.old ≡ length game.now }
+    requires left { AreLeft game.now solution.now vertices.old.items }
+    ensures { AreLeft game.now solution.now vertices.new.items }
+{
+    let Some(kept) = sift(alloc, game, solution, vertices, numbers, limits)? else {
+        return Ok(());
+    };
+    mark(numbers, vertices, OUT);
+    mark(numbers, &kept, NEW);
+    *vertices = kept;
+    Ok(())
+}
+
+/// Numbers the components of the vertices that are left. Gives a suspect if one has it, and else leaves out the
+/// vertices that no bad cycle goes through, as far as the components tell.
+fn leave_out(
+    alloc: Global,
+    game: &Game,
+    solution: &Solution,
+    vertices: &mut Vec<Vertex>,
+    numbers: &mut [u32],
+) -> Result<Option<Vertex>, AllocError>
+    requires game { IsGame game.now }
+    requires whole { length solution.now ≡ length game.now }
+    requires numbered { length numbers.old ≡ length game.now }
+    requires left { AreLeft game.now solution.now vertices.old.items }
+    ensures left { AreLeft game.now solution.now vertices.new.items }
+    ensures within { IfOk result (λ suspect. IfSome suspect (λ v. v < length game.now)) }
+{
+    let components = find_components(alloc, game, solution, vertices, numbers)?;
+    if components.suspect.is_some() {
+        return Ok(components.suspect);
+    }
+    sift_out(alloc, game, solution, vertices, numbers, &components.limits)?;
+    Ok(None)
+}
+
 /// A bad cycle, by strongly connected components of the edges that count. Each turn of the loop numbers the components
 /// of the vertices that are left, in time linear in their edges. Where the greatest priority of a component with an
 /// edge is of a lost vertex, a bad cycle goes through that vertex. Else the vertices over the component's greatest lost
@@ -87,27 +156,10 @@ fn bad_cycle(
     let mut numbers = vec![in alloc; NEW; game.len()]?;
     let mut vertices = all_vertices(alloc, game)?;
     'left: while !vertices.is_empty() {
-        let components = find_components(alloc, game, solution, &vertices, &mut numbers)?;
-        if let Some(v) = components.suspect {
-            return match bad_cycle_through(alloc, game, solution, v)? {
-                Some(cycle) => Ok(Some(cycle)),
-                None => search_each(alloc, game, solution),
-            };
-        }
-        match sift(
-            alloc,
-            game,
-            solution,
-            &vertices,
-            &numbers,
-            &components.limits,
-        )? {
-            Some(kept) if kept.len() < vertices.len() => {
-                mark(&mut numbers, &vertices, OUT);
-                mark(&mut numbers, &kept, NEW);
-                vertices = kept;
-            }
-            _ => return search_each(alloc, game, solution),
+        let count = vertices.len();
+        let suspect = leave_out(alloc, game, solution, &mut vertices, &mut numbers)?;
+        if suspect.is_some() || vertices.len() >= count {
+            return bad_cycle_from(alloc, game, solution, suspect);
         }
     }
     Ok(None)

@@ -1,8 +1,9 @@
 //! Strongly connected components of the edges that count, by one search through their depth. What it finds is a
 //! proposal: its contract says only that it is safe, and `sift` judges the numbers.
 
-ghost use Rattle.std.specs.Prelude.{◌≡◌, ◌<◌, ◌≤◌, length, [], All, IfOk, IfSome};
+ghost use Rattle.std.specs.Prelude.{◌≡◌, ℕ, ◌<◌, ◌≤◌, length, All, IfOk, IfSome};
 ghost use Rattle.pg_arena.specs.Games.{IsGame};
+ghost use Rattle.pg_check.specs.Mirrors.Components.{IsWithin};
 
 use crate::cycle::is_lost;
 use crate::edges::counted;
@@ -150,9 +151,9 @@ struct Search {
 }
 
 impl Search {
+    #[tactic(auto, unfolding(crate::specs::Mirrors::Components::IsWithin))]
     fn new(alloc: Global) -> Result<Search, AllocError>
-        ensures path { IfOk result (λ search. search.path.items ≡ []) }
-        ensures unclosed { IfOk result (λ search. search.unclosed.items ≡ []) }
+        ensures { IfOk result (λ search. (n : ℕ) → IsWithin n search.path.items search.unclosed.items) }
     {
         Ok(Search {
             path: Vec::new(alloc),
@@ -163,21 +164,75 @@ impl Search {
         })
     }
 
+    /// Puts a vertex at the end of the way.
+    #[inline(always)]
+    #[tactic(auto, unfolding(crate::specs::Mirrors::Components::IsWithin))]
+    fn push(&mut self, frame: Frame) -> Result<(), AllocError>
+        ensures { (n : ℕ) → frame.vertex < n → IsWithin n self.old.path.items self.old.unclosed.items
+            → IsWithin n self.new.path.items self.new.unclosed.items }
+    {
+        self.path.push(frame)?;
+        Ok(())
+    }
+
     /// Meets a new vertex.
     fn enter(&mut self, numbers: &mut [u32], w: Vertex) -> Result<(), AllocError>
-        requires within { w < length numbers.old }
-        requires path { All (λ f. f.vertex < length numbers.old) self.old.path.items }
-        ensures path { All (λ f. f.vertex < length numbers.old) self.new.path.items }
-        ensures unclosed { self.new.unclosed.items ≡ self.old.unclosed.items }
+        requires numbered { w < length numbers.old }
+        ensures within { (n : ℕ) → w < n → IsWithin n self.old.path.items self.old.unclosed.items
+            → IsWithin n self.new.path.items self.new.unclosed.items }
     {
         self.turn = self.turn.saturating_add(1);
         numbers[w.0 as usize] = self.turn;
-        self.path.push(Frame::new(w, self.turn))?;
-        Ok(())
+        self.push(Frame::new(w, self.turn))
+    }
+
+    /// Takes the vertex at the end of the way.
+    #[inline(always)]
+    #[tactic(auto, unfolding(crate::specs::Mirrors::Components::IsWithin))]
+    fn pop(&mut self) -> Option<Frame>
+        ensures within { (n : ℕ) → IsWithin n self.old.path.items self.old.unclosed.items
+            → IsWithin n self.new.path.items self.new.unclosed.items }
+        ensures frame { IfSome result (λ frame. (n : ℕ)
+            → IsWithin n self.old.path.items self.old.unclosed.items → frame.vertex < n) }
+    {
+        self.path.pop()
+    }
+
+    /// Closes the component of the vertices that were met from this one on. Perhaps it has a suspect.
+    #[tactic(auto, unfolding(crate::specs::Mirrors::Components::IsWithin))]
+    fn close_from(
+        &mut self,
+        game: &Game,
+        solution: &Solution,
+        numbers: &mut [u32],
+        frame: Frame,
+    ) -> Result<Option<Vertex>, AllocError>
+        requires game { IsGame game.now }
+        requires whole { length solution.now ≡ length game.now }
+        requires numbered { length numbers.old ≡ length game.now }
+        requires frame { frame.vertex < length game.now }
+        requires within { IsWithin (length game.now) self.old.path.items self.old.unclosed.items }
+        ensures within { IsWithin (length game.now) self.new.path.items self.new.unclosed.items }
+        ensures suspect { IfOk result (λ suspect. IfSome suspect (λ v. v < length game.now)) }
+    {
+        let start = component_start(numbers, &self.unclosed, frame.turn);
+        self.number = self.number.saturating_sub(1);
+        let component = close(
+            game,
+            solution,
+            numbers,
+            &self.unclosed[start..],
+            frame.vertex,
+            self.number,
+        );
+        self.unclosed.truncate(start);
+        self.limits.push(component.limit)?;
+        Ok(component.suspect)
     }
 
     /// Is done with a vertex. Where it leads back to none before it, its component is closed, and perhaps has a
     /// suspect.
+    #[tactic(auto, unfolding(crate::specs::Mirrors::Components::IsWithin))]
     fn leave(
         &mut self,
         game: &Game,
@@ -188,10 +243,9 @@ impl Search {
         requires game { IsGame game.now }
         requires whole { length solution.now ≡ length game.now }
         requires numbered { length numbers.old ≡ length game.now }
-        requires within { frame.vertex < length game.now }
-        requires unclosed { All (λ v. v < length game.now) self.old.unclosed.items }
-        ensures unclosed { All (λ v. v < length game.now) self.new.unclosed.items }
-        ensures path { self.new.path.items ≡ self.old.path.items }
+        requires frame { frame.vertex < length game.now }
+        requires within { IsWithin (length game.now) self.old.path.items self.old.unclosed.items }
+        ensures within { IsWithin (length game.now) self.new.path.items self.new.unclosed.items }
         ensures suspect { IfOk result (λ suspect. IfSome suspect (λ v. v < length game.now)) }
     {
         let v = frame.vertex;
@@ -200,19 +254,33 @@ impl Search {
         if frame.low < frame.turn {
             return Ok(None);
         }
-        let start = component_start(numbers, &self.unclosed, frame.turn);
-        self.number = self.number.saturating_sub(1);
-        let component = close(
-            game,
-            solution,
-            numbers,
-            &self.unclosed[start..],
-            v,
-            self.number,
-        );
-        self.unclosed.truncate(start);
-        self.limits.push(component.limit)?;
-        Ok(component.suspect)
+        self.close_from(game, solution, numbers, frame)
+    }
+
+    /// Goes on from a vertex that was taken from the end of the way: meets the next new vertex that it leads to, or is
+    /// done with it. Gives the suspect of a component that this closes.
+    #[inline(always)]
+    fn step(
+        &mut self,
+        game: &Game,
+        solution: &Solution,
+        numbers: &mut [u32],
+        mut frame: Frame,
+    ) -> Result<Option<Vertex>, AllocError>
+        requires game { IsGame game.now }
+        requires whole { length solution.now ≡ length game.now }
+        requires numbered { length numbers.old ≡ length game.now }
+        requires frame { frame.vertex < length game.now }
+        requires within { IsWithin (length game.now) self.old.path.items self.old.unclosed.items }
+        ensures within { IsWithin (length game.now) self.new.path.items self.new.unclosed.items }
+        ensures suspect { IfOk result (λ suspect. IfSome suspect (λ v. v < length game.now)) }
+    {
+        let Some(w) = next_new(game, solution, numbers, &mut frame) else {
+            return self.leave(game, solution, numbers, frame);
+        };
+        self.push(frame)?;
+        self.enter(numbers, w)?;
+        Ok(None)
     }
 
     /// Meets all that can be reached from a new vertex, up to the first suspect.
@@ -226,23 +294,43 @@ impl Search {
         requires game { IsGame game.now }
         requires whole { length solution.now ≡ length game.now }
         requires numbered { length numbers.old ≡ length game.now }
-        requires within { root < length game.now }
-        requires path { All (λ f. f.vertex < length game.now) self.old.path.items }
-        requires unclosed { All (λ v. v < length game.now) self.old.unclosed.items }
-        ensures path { All (λ f. f.vertex < length game.now) self.new.path.items }
-        ensures unclosed { All (λ v. v < length game.now) self.new.unclosed.items }
+        requires root { root < length game.now }
+        requires within { IsWithin (length game.now) self.old.path.items self.old.unclosed.items }
+        ensures within { IsWithin (length game.now) self.new.path.items self.new.unclosed.items }
         ensures suspect { IfOk result (λ suspect. IfSome suspect (λ v. v < length game.now)) }
     {
         self.enter(numbers, root)?;
         'descend: for _ in 0..u64::MAX {
-            let Some(mut frame) = self.path.pop() else {
-                break
-            };
-            if let Some(w) = next_new(game, solution, numbers, &mut frame) {
-                self.path.push(frame)?;
-                self.enter(numbers, w)?;
-            } else if let Some(suspect) = self.leave(game, solution, numbers, frame)? {
-                return Ok(Some(suspect));
+            let Some(frame) = self.pop() else { break };
+            let suspect = self.step(game, solution, numbers, frame)?;
+            if suspect.is_some() {
+                return Ok(suspect);
+            }
+        }
+        Ok(None)
+    }
+
+    /// Runs from each of the vertices that is still new, up to the first suspect.
+    fn run_from_each(
+        &mut self,
+        game: &Game,
+        solution: &Solution,
+        vertices: &[Vertex],
+        numbers: &mut [u32],
+    ) -> Result<Option<Vertex>, AllocError>
+        requires game { IsGame game.now }
+        requires whole { length solution.now ≡ length game.now }
+        requires numbered { length numbers.old ≡ length game.now }
+        requires vertices { All (λ v. v < length game.now) vertices.now }
+        requires within { IsWithin (length game.now) self.old.path.items self.old.unclosed.items }
+        ensures { IfOk result (λ suspect. IfSome suspect (λ v. v < length game.now)) }
+    {
+        for root in vertices {
+            if numbers[root.0 as usize] == NEW {
+                let suspect = self.run(game, solution, numbers, *root)?;
+                if suspect.is_some() {
+                    return Ok(suspect);
+                }
             }
         }
         Ok(None)
@@ -265,15 +353,7 @@ pub(crate) fn find_components(
     ensures { IfOk result (λ components. IfSome components.suspect (λ v. v < length game.now)) }
 {
     let mut search = Search::new(alloc)?;
-    let mut suspect = None;
-    for root in vertices {
-        if numbers[root.0 as usize] == NEW {
-            suspect = search.run(game, solution, numbers, *root)?;
-            if suspect.is_some() {
-                break;
-            }
-        }
-    }
+    let suspect = search.run_from_each(game, solution, vertices, numbers)?;
     Ok(Components {
         limits: search.limits,
         suspect,

@@ -9,6 +9,20 @@ ghost use Rattle.pg_check.specs.Verdicts.{IsLeastLeaving};
 use pg_arena::{Game, Vertex};
 use pg_text::Solution;
 
+/// The part of the vertices that is `chosen` alone, or nothing where it isn't among them.
+#[inline(always)]
+fn only<'a>(vertices: &'a [Vertex], chosen: Vertex) -> &'a [Vertex]
+    ensures chosen { (w : ℕ) → Contains result.now w ↔ (Contains vertices.now w × w ≡ chosen) }
+    ensures rising { IsStrictlyIncreasing result.now }
+{
+    for (place, w) in vertices.iter().enumerate() {
+        if *w == chosen {
+            return &vertices[place..place + 1];
+        }
+    }
+    &vertices[..0]
+}
+
 /// Where the edges that count lead from `v`, rising: to all successors if the loser owns `v`, and else to the choice.
 pub(crate) fn counted<'a>(game: &'a Game, solution: &Solution, v: Vertex) -> &'a [Vertex]
     requires whole { length solution.now ≡ length game.now }
@@ -20,15 +34,10 @@ pub(crate) fn counted<'a>(game: &'a Game, solution: &Solution, v: Vertex) -> &'a
     if game.owner(v) != solution.winner(v) {
         return successors;
     }
-    let Some(chosen) = solution.choice(v) else {
-        return &successors[..0];
-    };
-    for (place, w) in successors.iter().enumerate() {
-        if *w == chosen {
-            return &successors[place..place + 1];
-        }
+    match solution.choice(v) {
+        Some(chosen) => only(successors, chosen),
+        None => &successors[..0],
     }
-    &successors[..0]
 }
 
 /// The least edge that counts and joins vertices with different winners.

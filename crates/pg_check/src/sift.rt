@@ -1,9 +1,9 @@
 //! Which vertices a bad cycle may still go through, judged by numbers that don't fall along edges that count.
 
-ghost use Rattle.std.specs.Prelude.{◌≡◌, ◌<◌, length, All, IfOk, IfSome};
+ghost use Rattle.std.specs.Prelude.{◌≡◌, ◌<◌, length, IfOk, IfSome};
 ghost use Rattle.std.specs.Bool.{OnFalse};
 ghost use Rattle.pg_arena.specs.Games.{IsGame};
-ghost use Rattle.pg_check.specs.Mirrors.Cycles.{HoldsCycles, RisesFrom, StaysNowhere, limit_of, IsNumbered, IsRuledOut};
+ghost use Rattle.pg_check.specs.Mirrors.Cycles.{AreLeft, RisesFrom, StaysNowhere, limit_of, IsNumbered, IsRuledOut};
 
 use crate::cycle::is_lost;
 use crate::edges::counted;
@@ -84,10 +84,8 @@ pub(crate) fn sift(
     requires game { IsGame game.now }
     requires whole { length solution.now ≡ length game.now }
     requires numbered { length numbers.now ≡ length game.now }
-    requires within { All (λ v. v < length game.now) vertices.now }
-    requires before { HoldsCycles game.now solution.now vertices.now }
-    ensures within { IfOk result (λ sifted. IfSome sifted (λ kept. All (λ v. v < length game.now) kept.items)) }
-    ensures holds { IfOk result (λ sifted. IfSome sifted (λ kept. HoldsCycles game.now solution.now kept.items)) }
+    requires left { AreLeft game.now solution.now vertices.now }
+    ensures { IfOk result (λ sifted. IfSome sifted (λ kept. AreLeft game.now solution.now kept.items)) }
 {
     let mut kept = Vec::new(alloc);
     for v in vertices {

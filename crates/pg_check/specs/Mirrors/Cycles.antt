@@ -32,6 +32,11 @@ HoldsCycles game solution vertices =
     (v : ℕ) (rest : List ℕ) → IsLost game solution v → IsCycleFrom game solution v rest
     → All (Contains vertices) (v ∷ rest)
 
+-- vertices of the game that hold each cycle from a lost vertex
+pub record AreLeft (game : List GameVertex) (solution : List Answer) (vertices : List ℕ) : Type 0 where
+  pub within : All (λ v. v < length game) vertices
+  pub holds : HoldsCycles game solution vertices
+
 -- no edge that counts leads from v to a smaller number
 abbrev pub RisesFrom : List GameVertex → List Answer → List ℕ → ℕ → Type 0
 RisesFrom game solution numbers v =

@@ -5,11 +5,14 @@ use Rattle.pg_check.proofs.Sifting.{IsSifted, sifted_holds, sieve_keeps, sieve_d
 use Rattle.pg_check.proofs.sift.sift.Goals as goal
 use Rattle.pg_check.proofs.sift.sift.Goals.{then-stays+in_ok-push, else-stays}
 
-pub returns-clause-holds : goal.returns-clause-holds
-returns-clause-holds c =
-    sifted_holds c.args.game.now c.args.solution.now c.args.vertices.now c.args.numbers.now c.args.limits.now c.loop-v.kept.items c.requires.before
-    (λ v inside. all_passed (IsSifted c.args.game.now c.args.solution.now c.args.numbers.now c.args.limits.now c.loop-v.kept.items) c.args.vertices.now
-    c.loop-v.v-index v c.loop-v-test.false c.loop-v.invariant.sifted inside)
+pub returns : goal.returns
+returns c = record {
+  within = c.loop-v.invariant.within;
+  holds = sifted_holds c.args.game.now c.args.solution.now c.args.vertices.now c.args.numbers.now c.args.limits.now c.loop-v.kept.items
+      c.requires.left.holds
+      (λ v inside. all_passed (IsSifted c.args.game.now c.args.solution.now c.args.numbers.now c.args.limits.now c.loop-v.kept.items) c.args.vertices.now
+      c.loop-v.v-index v c.loop-v-test.false c.loop-v.invariant.sifted inside);
+}
 
 pub loop-v-preserved : goal.loop-v-preserved
 loop-v-preserved c =
