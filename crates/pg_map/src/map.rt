@@ -6,6 +6,7 @@ ghost use Rattle.pg_measure.specs.Measures.{Fits, AtMost, IsBelow, Covers, Cover
 ghost use Rattle.pg_measure.specs.Mirrors.Rows.{measure_of, FrontAtMost, MissesFront, IsLeastCover};
 ghost use Rattle.pg_measure.specs.Views.{measure_in};
 ghost use Rattle.pg_map.specs.Lines.{AreWithin, line_at};
+ghost use Rattle.pg_map.specs.Mirrors.Kept.{kept, IsKept};
 ghost use Rattle.pg_map.specs.Mirrors.Tables.{IsBetter, IsBest};
 ghost use Rattle.pg_map.specs.Maps.{measure_at, IsMap, zero_map, update_map, MapAtMost, SomeOrAll, IsServedBy, IsServed, IsClosed, IsLifted, StaysUnder, CoversSuccessors, IsLeastClosedFrom, IsJoin};
 ghost use Rattle.pg_map.specs.Weights.{map_weight};
@@ -28,6 +29,20 @@ const FEW: usize = 2;
 enum AnyTable {
     Own(OwnRows),
     Shared(SharedRows),
+}
+
+impl AnyTable {
+    /// The table with zeros at each vertex, kept in the way that suits the bounds.
+    fn zero(alloc: Global, vertices: u32, bounds: Bounds) -> Result<AnyTable, AllocError>
+        ensures bounds { IfOk result (λ t. (kept t).bounds ≡ bounds) }
+        ensures zeros { IfOk result (λ t. (kept t).measures ≡ zero_map bounds vertices) }
+        ensures fits { IfOk result IsKept }
+    {
+        if bounds.pairs().len() <= FEW {
+            return Ok(AnyTable::Own(OwnRows::zero(alloc, vertices, bounds)?));
+        }
+        Ok(AnyTable::Shared(SharedRows::zero(alloc, vertices, bounds)?))
+    }
 }
 
 /// A measure of the bounds for each vertex. Contracts see the bounds and the list of the measures. After `zero` no call takes
@@ -56,11 +71,7 @@ impl MeasureMap {
         ensures zeros { IfOk result (λ m. m.measures ≡ zero_map bounds.now vertices) }
     {
         let kept = Bounds::from_pairs(alloc, bounds.pairs())?;
-        let table = if kept.pairs().len() <= FEW {
-            AnyTable::Own(OwnRows::zero(alloc, vertices, kept)?)
-        } else {
-            AnyTable::Shared(SharedRows::zero(alloc, vertices, kept)?)
-        };
+        let table = AnyTable::zero(alloc, vertices, kept)?;
         Ok(MeasureMap { table })
     }
 
