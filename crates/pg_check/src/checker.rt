@@ -8,7 +8,7 @@ ghost use Rattle.pg_check.specs.Mirrors.Cycles.{IsLost, HasNoCycle, HasNoBadCycl
 ghost use Rattle.pg_check.specs.Verdicts.{IsSimpleBadCycle, IsWins, Refutes};
 ghost use Rattle.pg_check.specs.declared.fault.CheckFault.TheVariants.{OutOfMemory};
 
-use crate::components::{NEW, OUT, find_components, mark};
+use crate::components::{Components, NEW, OUT, find_components, mark};
 use crate::cycle::{cycle_through, is_lost};
 use crate::edges::first_leaving;
 use crate::fault::CheckFault;
@@ -86,29 +86,34 @@ fn bad_cycle_from(
     search_each(alloc, game, solution)
 }
 
-/// Leaves out the vertices that no bad cycle goes through, as far as the numbers and limits of their components tell.
-/// Those that are left are new again.
+/// Gives the suspect of the components if there is one, and else leaves out the vertices that no bad cycle goes
+/// through, as far as the numbers and limits tell. Those that are left are new again.
 fn sift_out(
     alloc: Global,
     game: &Game,
     solution: &Solution,
     vertices: &mut Vec<Vertex>,
     numbers: &mut [u32],
-    limits: &[u32],
-) -> Result<(), AllocError>
+    components: &Components,
+) -> Result<Option<Vertex>, AllocError>
     requires game { IsGame game.now }
     requires whole { length solution.now ≡ length game.now }
     requires numbered { length numbers.old ≡ length game.now }
     requires left { AreLeft game.now solution.now vertices.old.items }
-    ensures { AreLeft game.now solution.now vertices.new.items }
+    requires within { IfSome components.now.suspect (λ v. v < length game.now) }
+    ensures left { AreLeft game.now solution.now vertices.new.items }
+    ensures within { IfOk result (λ suspect. IfSome suspect (λ v. v < length game.now)) }
 {
-    let Some(kept) = sift(alloc, game, solution, vertices, numbers, limits)? else {
-        return Ok(());
+    if components.suspect.is_some() {
+        return Ok(components.suspect);
+    }
+    let Some(kept) = sift(alloc, game, solution, vertices, numbers, &components.limits)? else {
+        return Ok(None);
     };
     mark(numbers, vertices, OUT);
     mark(numbers, &kept, NEW);
     *vertices = kept;
-    Ok(())
+    Ok(None)
 }
 
 /// Numbers the components of the vertices that are left. Gives a suspect if one has it, and else leaves out the
@@ -128,11 +133,7 @@ fn leave_out(
     ensures within { IfOk result (λ suspect. IfSome suspect (λ v. v < length game.now)) }
 {
     let components = find_components(alloc, game, solution, vertices, numbers)?;
-    if components.suspect.is_some() {
-        return Ok(components.suspect);
-    }
-    sift_out(alloc, game, solution, vertices, numbers, &components.limits)?;
-    Ok(None)
+    sift_out(alloc, game, solution, vertices, numbers, &components)
 }
 
 /// A bad cycle, by strongly connected components of the edges that count. Each turn of the loop numbers the components
@@ -143,6 +144,31 @@ fn leave_out(
 /// That the components are strongly connected isn't proved, nor needed: `sift` rules out only what it may. Should the
 /// components not be what they ought to be, the plain search from each vertex decides; with true components it never
 /// runs.
+fn bad_cycle_among(
+    alloc: Global,
+    game: &Game,
+    solution: &Solution,
+    vertices: &mut Vec<Vertex>,
+    numbers: &mut [u32],
+) -> Result<Option<Vec<Vertex>>, AllocError>
+    requires game { IsGame game.now }
+    requires whole { length solution.now ≡ length game.now }
+    requires numbered { length numbers.old ≡ length game.now }
+    requires left { AreLeft game.now solution.now vertices.old.items }
+    ensures none { IfOk result (λ found. IfNone found (HasNoBadCycle game.now solution.now)) }
+    ensures some { IfOk result (λ found. IfSome found (λ cycle. IsSimpleBadCycle game.now solution.now cycle.items)) }
+{
+    'left: while !vertices.is_empty() {
+        let count = vertices.len();
+        let suspect = leave_out(alloc, game, solution, vertices, numbers)?;
+        if suspect.is_some() || vertices.len() >= count {
+            return bad_cycle_from(alloc, game, solution, suspect);
+        }
+    }
+    Ok(None)
+}
+
+/// A bad cycle of the game.
 fn bad_cycle(
     alloc: Global,
     game: &Game,
@@ -155,14 +181,7 @@ fn bad_cycle(
 {
     let mut numbers = vec![in alloc; NEW; game.len()]?;
     let mut vertices = all_vertices(alloc, game)?;
-    'left: while !vertices.is_empty() {
-        let count = vertices.len();
-        let suspect = leave_out(alloc, game, solution, &mut vertices, &mut numbers)?;
-        if suspect.is_some() || vertices.len() >= count {
-            return bad_cycle_from(alloc, game, solution, suspect);
-        }
-    }
-    Ok(None)
+    bad_cycle_among(alloc, game, solution, &mut vertices, &mut numbers)
 }
 
 /// Whether a solution is sound. `Wins` if it is. `Leaves` where an edge that counts joins vertices with different
