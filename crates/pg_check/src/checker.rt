@@ -136,10 +136,10 @@ fn leave_out(
     sift_out(alloc, game, solution, vertices, numbers, &components)
 }
 
-/// A bad cycle, by strongly connected components of the edges that count. Each turn of the loop numbers the components
-/// of the vertices that are left, in time linear in their edges. Where the greatest priority of a component with an
-/// edge is of a lost vertex, a bad cycle goes through that vertex. Else the vertices over the component's greatest lost
-/// priority are left out, and those that no edge keeps in their component.
+/// A bad cycle among the vertices that are left, by strongly connected components of the edges that count. Each turn of
+/// the loop numbers the components of these vertices, in time linear in their edges. Where the greatest priority of a
+/// component with an edge is of a lost vertex, a bad cycle goes through that vertex. Else the vertices over the
+/// component's greatest lost priority are left out, and those that no edge keeps in their component.
 ///
 /// That the components are strongly connected isn't proved, nor needed: `sift` rules out only what it may. Should the
 /// components not be what they ought to be, the plain search from each vertex decides; with true components it never
@@ -168,7 +168,7 @@ fn bad_cycle_among(
     Ok(None)
 }
 
-/// A bad cycle of the game.
+/// A bad cycle, searched for among all vertices.
 fn bad_cycle(
     alloc: Global,
     game: &Game,
