@@ -1,6 +1,10 @@
 -- Buffers to which bytes are appended.
-use Rattle.std.proofs.Common.{◌≡◌, ℕ, List, [], ◌++◌, length, take, refl, sym, ap, ◌∙◌, arith}
-use Rattle.std.proofs.lemmas.List.{take_at, take-take, length-append, append-nil}
+use Rattle.std.proofs.Common.{◌≡◌, ℕ, ◌+◌, ◌<◌, List, [], ◌∷◌, ◌++◌, length, take, get_or, append_assoc, refl, sym, ap, ◌∙◌, arith}
+use Rattle.std.proofs.lemmas.List.{take_at, take_more, take-take, length-append, append-nil}
+use Rattle.std.specs.List.{flat_map}
+use Rattle.std.proofs.lemmas.List.Concat.{flat_map-cons}
+use Rattle.std.proofs.lemmas.Grind.{flat_map-append}
+use Rattle.pg_wire.specs.Spelling.{word}
 use Rattle.pg_wire.specs.Mirrors.Buffers.{Extends}
 
 pub extends_by : (a b x : List ℕ) → b ≡ a ++ x → Extends a b
@@ -13,3 +17,13 @@ pub extends_then : (a b c x : List ℕ) → b ≡ a ++ x → Extends b c → Ext
 extends_then a b c x e h =
     sym (take-take (length a) (length b) c (omega (arith, ap length e, length-append a x)))
     ∙ ap (take (length a)) h ∙ extends_by a b x e
+
+-- one number more at the end of a buffer
+pub one_word : (ns before now after : List ℕ) (i : ℕ) → i < length ns → now ≡ before ++ flat_map word (take i ns) → after ≡ now ++ word (get_or ns i 0)
+    → after ≡ before ++ flat_map word (take (i + 1) ns)
+one_word ns before now after i lt e f =
+    let n = get_or ns i 0 in
+    let spelt : flat_map word (take (i + 1) ns) ≡ flat_map word (take i ns) ++ word n =
+    ap (flat_map word) (take_more ns i 0 lt) ∙ flat_map-append word (take i ns) (n ∷ [])
+    ∙ ap (λ (t : List ℕ). flat_map word (take i ns) ++ t) (flat_map-cons word n [] ∙ append-nil (word n)) in
+    f ∙ ap (λ (t : List ℕ). t ++ word n) e ∙ append_assoc before (flat_map word (take i ns)) (word n) ∙ ap (λ (t : List ℕ). before ++ t) (sym spelt)

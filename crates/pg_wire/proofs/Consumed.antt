@@ -37,6 +37,18 @@ filled_all a b buffer n size len le within p =
     let P : List ℕ → Type 0 = λ t. Consumes a b t in
     subst P (ap (λ (k : ℕ). take k buffer) n_is ∙ take_all (length buffer) buffer (omega arith)) p
 
+-- a buffer that was made longer, and whose new places were filled
+pub filled_after : (items resized buffer after more zeros : List ℕ) (start size len : ℕ) → start ≡ length items → resized ≡ take (start + size) items ++ zeros
+    → length buffer ≡ size → len ≡ start + size
+    → take len ((take start resized ++ (buffer ++ after)) ++ more) ≡ items ++ buffer
+filled_after items resized buffer after more zeros start size len at made filled long =
+    let all : take (start + size) items ≡ items = take_all (start + size) items (omega (arith, at)) in
+    let front : take start resized ≡ items = ap (take start) (made ∙ ap (λ (t : List ℕ). t ++ zeros) all) ∙ take_at items zeros start (sym at) in
+    let parts : (take start resized ++ (buffer ++ after)) ++ more ≡ (items ++ buffer) ++ (after ++ more) =
+    ap (λ (t : List ℕ). (t ++ (buffer ++ after)) ++ more) front ∙ ap (λ (t : List ℕ). t ++ more) (sym (append_assoc items buffer after))
+    ∙ append_assoc (items ++ buffer) after more in
+    ap (take len) parts ∙ take_at (items ++ buffer) (after ++ more) len (omega (arith, length-append items buffer, at, filled, long))
+
 -- fewer bytes were left than were asked for
 pub fell_short : (a b c : Option (List ℕ)) (bytes more : List ℕ) (len : ℕ) → Consumes a b bytes → Consumes b c more → IsAtEnd c → length bytes + length more < len → IfSome a (λ xs. length xs < len)
 fell_short None b c bytes more len p q e lt = tt
@@ -126,6 +138,25 @@ short (Some xs) (Some ys) front p len within fewer =
     let P : List ℕ → Type 0 = λ zs. IsReadFrom zs (Err Truncated) in
     subst P (sym p) (short_is front ys len within fewer)
 
+-- nothing was left to read
+pub none_read : (a b : Option (List ℕ)) (bytes : List ℕ) → Consumes a b bytes → bytes ≡ [] → IsAtEnd b → IsAtEnd a
+none_read None b bytes p none e = tt
+none_read (Some xs) None bytes p none e = absurd p
+none_read (Some xs) (Some ys) bytes p none e = p ∙ ap (λ (t : List ℕ). t ++ ys) none ∙ e
+
+-- a fault of reading a frame's bytes where these are left, if they are known
+abbrev IsFault : Option (List ℕ) → WireFault → Type 0
+IsFault known e = (e ≡ Read) ⊎ ((e ≡ OutOfMemory) ⊎ (((e ≡ TooLong) ⊎ (e ≡ Truncated)) × IfSome known (λ xs. IsReadFrom xs (Err e))))
+
+-- the length was read, and the bytes that it counts weren't
+pub body_fault : (a b : Option (List ℕ)) (front : List ℕ) (e : WireFault) → Consumes a b front → length front ≡ 4 → from_be_bytes w32 front ≤ longest
+    → (e ≡ Truncated) ⊎ ((e ≡ OutOfMemory) ⊎ (e ≡ Read)) → ((e ≡ Truncated) → IfSome b (λ ys. length ys < from_be_bytes w32 front)) → IsFault a e
+body_fault a b front e p len within (inl cut_off) fewer =
+    let P : WireFault → Type 0 = λ d. IfSome a (λ xs. IsReadFrom xs (Err d)) in
+    inr (inr (inr cut_off, subst P (sym cut_off) (short a b front p len within (fewer cut_off))))
+body_fault a b front e p len within (inr (inl memory)) fewer = inr (inl memory)
+body_fault a b front e p len within (inr (inr read)) fewer = inl read
+
 -- ---- bytes that their length cuts
 
 too_short : (bytes : List ℕ) → IsWhole bytes → IsTruncated bytes → ⊥
@@ -141,6 +172,15 @@ joined front rest len size within =
     let field = field_is front rest len in
     let all = length-append front rest in
     record { whole = omega arith; within = omega arith; size = omega arith }
+
+-- the length was read, and then as many bytes as it counts
+pub read_whole : (a b c : Option (List ℕ)) (start front bytes : List ℕ) (size : ℕ) → Consumes a b front → length front ≡ 4 → size ≡ from_be_bytes w32 front
+    → size ≤ longest → start ≡ front
+    → (rest : List ℕ) × (bytes ≡ start ++ rest) × (length rest ≡ size) × Consumes b c rest → IsWhole bytes × Consumes a c bytes
+read_whole a b c start front bytes size p len is_size within same read =
+    let P : List ℕ → Type 0 = λ t. IsWhole t × Consumes a c t in
+    let is : bytes ≡ front ++ read.0 = read.1 ∙ ap (λ (t : List ℕ). t ++ read.0) same in
+    subst P (sym is) (joined front read.0 len (read.2 ∙ is_size) (omega (arith, is_size, within)), consumes_then a b c front read.0 p read.3)
 
 -- a spelling at the front of what follows is all of the bytes
 spelled_whole : (bytes more after : List ℕ) (f : Frame) → IsWhole bytes → Spells f (spelling f) → bytes ++ more ≡ spelling f ++ after → Spells f bytes

@@ -4,3 +4,4 @@ pub mod Ordered
 pub mod Buffers
 pub mod Skipping
 pub mod Lines
+pub mod Lengths

@@ -14,7 +14,7 @@ use crate::fault::FieldFault;
 use crate::fields::WORDS;
 use crate::frame::LineHead;
 use crate::reader::{number, tag};
-use crate::reading::LONGEST;
+use crate::reading::after_length;
 use std::alloc::AllocError;
 
 /// The lines of a frame of vertices that are left.
@@ -122,15 +122,7 @@ impl<'a> VerticesReader<'a> {
         ensures found { IfSome result (λ r. (ls : List VertexLine) × Spells (frame_with ls) bytes.now × AreLeft r ls) }
         ensures all { (ls : List VertexLine) → Spells (frame_with ls) bytes.now → result ≢ None }
     {
-        if bytes.len() < 4 {
-            return None;
-        }
-        let (front, body) = bytes.split_at(4);
-        let length = u32::from_be_bytes([front[0], front[1], front[2], front[3]]);
-        if length > LONGEST || body.len() != length as usize {
-            return None;
-        }
-        match body {
+        match after_length(bytes)? {
             [] => None,
             [kind, rest @ ..] => {
                 if *kind != 2 {

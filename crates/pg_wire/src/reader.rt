@@ -12,7 +12,7 @@ ghost use Rattle.pg_wire.specs.Mirrors.Skipping.{Yields, skipped, numbers_at, pa
 use crate::fault::FieldFault;
 use crate::fields::WORDS;
 use crate::kind::ValueKind;
-use crate::reading::LONGEST;
+use crate::reading::after_length;
 
 /// The measures of a frame that are left.
 #[derive(Clone, Copy, Debug)]
@@ -273,15 +273,7 @@ impl<'a> ValuesReader<'a> {
             × IsLeft r ms) }
         ensures all { (f : Frame) → TellsMeasures f → Spells f bytes.now → result ≢ None }
     {
-        if bytes.len() < 4 {
-            return None;
-        }
-        let (front, body) = bytes.split_at(4);
-        let length = u32::from_be_bytes([front[0], front[1], front[2], front[3]]);
-        if length > LONGEST || body.len() != length as usize {
-            return None;
-        }
-        match body {
+        match after_length(bytes)? {
             [] => None,
             [number, rest @ ..] => {
                 let kind = kind_of(*number)?;

@@ -1,6 +1,7 @@
 //! Reads frames from bytes.
-ghost use Rattle.std.specs.Prelude.{◌≡◌, ◌≢◌, ◌⊎◌, Ok, Err, IfOk, IfErr, ◌↔◌};
-ghost use Rattle.pg_wire.specs.Mirrors.Reading.{Gives, setup_at, vertices_at, values_at, sparse_at, go_at, report_at, frame_at, body_at};
+ghost use Rattle.std.specs.Prelude.{◌≡◌, ◌≢◌, ◌⊎◌, Ok, Err, IfOk, IfErr, IfSome, IfNone, ◌↔◌};
+ghost use Rattle.pg_wire.specs.Mirrors.Reading.{Gives, made, setup_at, vertices_at, values_at, sparse_at, go_at, report_at, frame_at, body_at};
+ghost use Rattle.pg_wire.specs.Mirrors.Lengths.{IsCounted};
 ghost use Rattle.pg_wire.specs.Spelling.{body};
 ghost use Rattle.pg_wire.specs.Well.{IsWell};
 ghost use Rattle.pg_wire.specs.Bytes.{Spells, IsTooLong, IsTruncated};
@@ -17,64 +18,78 @@ use std::alloc::Global;
 /// The limit of a frame's length, which counts the bytes after it.
 pub const LONGEST: u32 = 16_777_216;
 
+/// The bytes after the length, where it counts all of them and is within the limit.
+pub fn after_length(bytes: &[u8]) -> Option<&[u8]>
+    ensures found { IfSome result (λ rest. IsCounted bytes.now rest.now) }
+    ensures none { IfNone result ((f : Frame) → Spells f bytes.now → ⊥) }
+{
+    if bytes.len() < 4 {
+        return None;
+    }
+    let (front, rest) = bytes.split_at(4);
+    let length = u32::from_be_bytes([front[0], front[1], front[2], front[3]]);
+    if length > LONGEST || rest.len() != length as usize {
+        return None;
+    }
+    Some(rest)
+}
+
 #[tactic(auto, unfolding(crate::specs::Mirrors::Reading::setup_at))]
-fn setup(alloc: Global, bytes: &[u8]) -> Result<(Setup, &[u8]), ReadFault>
-    ensures { Gives (λ x. (x.0, x.1.now)) result (setup_at bytes.now) }
+fn setup(alloc: Global, bytes: &[u8]) -> Result<(Frame, &[u8]), ReadFault>
+    ensures { Gives (λ x. (x.0, x.1.now)) result (made Frame.Setup setup_at bytes.now) }
 {
     let (version, rest) = version(bytes)?;
     let (vertices, rest) = within(1, 1_048_577, rest)?;
     let (bounds, rest) = counted::<BoundForm>(alloc, 0, 0, WORDS, 65_536, rest)?;
-    Ok((
-        Setup {
-            version,
-            vertices,
-            bounds,
-        },
-        rest,
-    ))
+    let setup = Setup {
+        version,
+        vertices,
+        bounds,
+    };
+    Ok((Frame::Setup(setup), rest))
 }
 
 #[tactic(auto, unfolding(crate::specs::Mirrors::Reading::vertices_at))]
-fn vertices(alloc: Global, bytes: &[u8]) -> Result<(Vertices, &[u8]), ReadFault>
-    ensures { Gives (λ x. (x.0, x.1.now)) result (vertices_at bytes.now) }
+fn vertices(alloc: Global, bytes: &[u8]) -> Result<(Frame, &[u8]), ReadFault>
+    ensures { Gives (λ x. (x.0, x.1.now)) result (made Frame.Vertices vertices_at bytes.now) }
 {
     let (lines, rest) = counted::<LineForm>(alloc, 0, 0, WORDS, 0, bytes)?;
-    Ok((Vertices { lines }, rest))
+    Ok((Frame::Vertices(Vertices { lines }), rest))
 }
 
 #[tactic(auto, unfolding(crate::specs::Mirrors::Reading::values_at))]
-fn values(alloc: Global, bytes: &[u8]) -> Result<(Values, &[u8]), ReadFault>
-    ensures { Gives (λ x. (x.0, x.1.now)) result (values_at bytes.now) }
+fn values(alloc: Global, bytes: &[u8]) -> Result<(Frame, &[u8]), ReadFault>
+    ensures { Gives (λ x. (x.0, x.1.now)) result (made Frame.Values values_at bytes.now) }
 {
     let (width, rest) = within(0, 32_769, bytes)?;
     let (values, rest) = counted::<ValueForm>(alloc, width, 0, WORDS, 0, rest)?;
-    Ok((Values { width, values }, rest))
+    Ok((Frame::Values(Values { width, values }), rest))
 }
 
 #[tactic(auto, unfolding(crate::specs::Mirrors::Reading::sparse_at))]
-fn sparse(alloc: Global, bytes: &[u8]) -> Result<(Sparse, &[u8]), ReadFault>
-    ensures { Gives (λ x. (x.0, x.1.now)) result (sparse_at bytes.now) }
+fn sparse(alloc: Global, bytes: &[u8]) -> Result<(Frame, &[u8]), ReadFault>
+    ensures { Gives (λ x. (x.0, x.1.now)) result (made Frame.Sparse sparse_at bytes.now) }
 {
     let (width, rest) = within(0, 32_769, bytes)?;
     let (values, rest) = counted::<SparseValueForm>(alloc, width, 0, WORDS, 0, rest)?;
-    Ok((Sparse { width, values }, rest))
+    Ok((Frame::Sparse(Sparse { width, values }), rest))
 }
 
 #[tactic(auto, unfolding(crate::specs::Mirrors::Reading::go_at))]
-fn go(bytes: &[u8]) -> Result<(Go, &[u8]), ReadFault>
-    ensures { Gives (λ x. (x.0, x.1.now)) result (go_at bytes.now) }
+fn go(bytes: &[u8]) -> Result<(Frame, &[u8]), ReadFault>
+    ensures { Gives (λ x. (x.0, x.1.now)) result (made Frame.Go go_at bytes.now) }
 {
     let (budget, rest) = within(0, WORDS, bytes)?;
-    Ok((Go { budget }, rest))
+    Ok((Frame::Go(Go { budget }), rest))
 }
 
 #[tactic(auto, unfolding(crate::specs::Mirrors::Reading::report_at))]
-fn report(bytes: &[u8]) -> Result<(Report, &[u8]), ReadFault>
-    ensures { Gives (λ x. (x.0, x.1.now)) result (report_at bytes.now) }
+fn report(bytes: &[u8]) -> Result<(Frame, &[u8]), ReadFault>
+    ensures { Gives (λ x. (x.0, x.1.now)) result (made Frame.Report report_at bytes.now) }
 {
     let (status, rest) = byte(3, bytes)?;
     let (code, rest) = code(status, rest)?;
-    Ok((Report { status, code }, rest))
+    Ok((Frame::Report(Report { status, code }), rest))
 }
 
 #[tactic(auto, unfolding(crate::specs::Mirrors::Reading::frame_at))]
@@ -82,31 +97,13 @@ fn frame(alloc: Global, kind: u8, bytes: &[u8]) -> Result<(Frame, &[u8]), ReadFa
     ensures { Gives (λ x. (x.0, x.1.now)) result (frame_at kind bytes.now) }
 {
     match kind {
-        1 => {
-            let (f, rest) = setup(alloc, bytes)?;
-            Ok((Frame::Setup(f), rest))
-        }
-        2 => {
-            let (f, rest) = vertices(alloc, bytes)?;
-            Ok((Frame::Vertices(f), rest))
-        }
-        3 => {
-            let (f, rest) = values(alloc, bytes)?;
-            Ok((Frame::Values(f), rest))
-        }
-        4 => {
-            let (f, rest) = go(bytes)?;
-            Ok((Frame::Go(f), rest))
-        }
-        5 => {
-            let (f, rest) = report(bytes)?;
-            Ok((Frame::Report(f), rest))
-        }
+        1 => setup(alloc, bytes),
+        2 => vertices(alloc, bytes),
+        3 => values(alloc, bytes),
+        4 => go(bytes),
+        5 => report(bytes),
         6 => Ok((Frame::Halt, bytes)),
-        7 => {
-            let (f, rest) = sparse(alloc, bytes)?;
-            Ok((Frame::Sparse(f), rest))
-        }
+        7 => sparse(alloc, bytes),
         _ => Err(ReadFault::Field(FieldFault::Kind)),
     }
 }

@@ -8,7 +8,7 @@ ghost use Rattle.pg_wire.specs.Mirrors.Reading.{HasBytes};
 ghost use Rattle.pg_wire.specs.declared.fault.WireFault.TheVariants.{TooLong, OutOfMemory};
 
 use crate::fault::WireFault;
-use crate::frame::{Frame, SparseValue, Value, VertexLine};
+use crate::frame::{Frame, Report, Setup, SparseValue, Value, VertexLine};
 use crate::reading::LONGEST;
 use byteorder::{BigEndian, WriteBytesExt};
 use std::alloc::Global;
@@ -224,41 +224,58 @@ fn body_len(frame: &Frame) -> Option<u32>
     Some(room - left?)
 }
 
-#[tactic(auto, using(crate::proofs::Append::then))]
+/// The kind of a frame, and then a number.
+fn put_kind_and_word<W: Write>(kind: u8, n: u32, out: &mut W) -> Result<(), WireFault>
+    ensures ok { OnOk result (Appends (W.contents out.old) (W.contents out.new) (kind ∷ word n)) }
+    ensures fault { IfErr result (λ e. e ≡ WireFault.Write) }
+{
+    put_byte(kind, out)?;
+    put_word(n, out)
+}
+
+/// The body of a frame of set-up.
+fn put_setup<W: Write>(setup: &Setup, out: &mut W) -> Result<(), WireFault>
+    requires { length (body (Frame.Setup setup.now)) ≤ longest }
+    ensures ok { OnOk result (Appends (W.contents out.old) (W.contents out.new) (body (Frame.Setup setup.now))) }
+    ensures fault { IfErr result (λ e. e ≡ WireFault.Write) }
+{
+    put_byte(1, out)?;
+    put_byte(setup.version, out)?;
+    put_word(setup.vertices, out)?;
+    put_counted(setup.bounds.as_slice(), out)
+}
+
+/// The body of a frame that reports.
+fn put_report<W: Write>(report: &Report, out: &mut W) -> Result<(), WireFault>
+    ensures ok { OnOk result (Appends (W.contents out.old) (W.contents out.new) (body (Frame.Report report.now))) }
+    ensures fault { IfErr result (λ e. e ≡ WireFault.Write) }
+{
+    put_byte(5, out)?;
+    put_byte(report.status, out)?;
+    put_byte(report.code, out)
+}
+
+/// The body of a frame, all that stands after its length.
 fn put_body<W: Write>(frame: &Frame, out: &mut W) -> Result<(), WireFault>
     requires { length (body frame.now) ≤ longest }
     ensures ok { OnOk result (Appends (W.contents out.old) (W.contents out.new) (body frame.now)) }
     ensures fault { IfErr result (λ e. e ≡ WireFault.Write) }
 {
     match frame {
-        Frame::Setup(s) => {
-            put_byte(1, out)?;
-            put_byte(s.version, out)?;
-            put_word(s.vertices, out)?;
-            put_counted(s.bounds.as_slice(), out)
-        }
+        Frame::Setup(s) => put_setup(s, out),
         Frame::Vertices(v) => {
             put_byte(2, out)?;
             put_counted(v.lines.as_slice(), out)
         }
         Frame::Values(v) => {
-            put_byte(3, out)?;
-            put_word(v.width, out)?;
+            put_kind_and_word(3, v.width, out)?;
             put_counted(v.values.as_slice(), out)
         }
-        Frame::Go(g) => {
-            put_byte(4, out)?;
-            put_word(g.budget, out)
-        }
-        Frame::Report(r) => {
-            put_byte(5, out)?;
-            put_byte(r.status, out)?;
-            put_byte(r.code, out)
-        }
+        Frame::Go(g) => put_kind_and_word(4, g.budget, out),
+        Frame::Report(r) => put_report(r, out),
         Frame::Halt => put_byte(6, out),
         Frame::Sparse(s) => {
-            put_byte(7, out)?;
-            put_word(s.width, out)?;
+            put_kind_and_word(7, s.width, out)?;
             put_counted(s.values.as_slice(), out)
         }
     }

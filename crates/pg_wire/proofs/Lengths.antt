@@ -1,0 +1,73 @@
+-- The bytes after a length that counts them all, and the frames that they give.
+use Rattle.std.proofs.Common.{◌≡◌, ℕ, ◌-◌, ◌<◌, ◌≤◌, List, [], ◌∷◌, ◌++◌, length, take, drop, get_or, refl, sym, ap, subst, ◌∙◌, arith}
+use Rattle.std.specs.Int.{w32, from_be_bytes}
+use Rattle.std.proofs.lemmas.List.{drop_at, take_all, length-append}
+use Rattle.std.proofs.lemmas.Nat.{be_bytes_4}
+use Rattle.pg_wire.specs.declared.frame.Frame.{Frame}
+use Rattle.pg_wire.specs.declared.frame.Frame.TheVariants as frames
+use Rattle.pg_wire.specs.Measured.{TellsMeasures}
+use Rattle.pg_wire.specs.Spelling.{word, body, longest}
+use Rattle.pg_wire.specs.Well.{IsWell}
+use Rattle.pg_wire.specs.Bytes.{Spells}
+use Rattle.pg_wire.specs.Mirrors.Lengths.{IsCounted}
+use Rattle.pg_wire.proofs.Grammar.{IsBytes, IsBytes-take}
+use Rattle.pg_wire.proofs.Bodies.{spelling_split}
+
+pub counted_by : (bytes front rest : List ℕ) (n : ℕ) → IsBytes bytes → front ≡ take 4 bytes → bytes ≡ front ++ rest → length front ≡ 4
+    → n ≡ from_be_bytes w32 front → length rest ≡ n → n ≤ longest → IsCounted bytes rest
+counted_by bytes front rest n fits taken e len is size within =
+    let small : IsBytes front = subst IsBytes (sym taken) (IsBytes-take 4 bytes fits) in
+    let first : word (length rest) ≡ front = ap word size ∙ be_bytes_4 front n len small is in
+    record { within = omega arith; whole = e ∙ ap (λ (t : List ℕ). t ++ rest) (sym first) }
+
+-- too few bytes for a length
+pub too_few : (bytes : List ℕ) (f : Frame) → length bytes < 4 → Spells f bytes → ⊥
+too_few bytes f few s = absurd (omega (arith, ap length s.spelled, length-append (word (length (body f))) (body f)))
+
+-- a length that is over the limit, or doesn't count the bytes
+pub miscounted : (bytes front rest : List ℕ) (n : ℕ) (f : Frame) → bytes ≡ front ++ rest → length front ≡ 4 → n ≡ from_be_bytes w32 front
+    → ((length rest ≡ n) → n ≤ longest → ⊥) → Spells f bytes → ⊥
+miscounted bytes front rest n f e len is other s =
+    let split = spelling_split bytes front rest f e len s in
+    let size : length rest ≡ n = sym (is ∙ split.size) in
+    other size (omega (arith, size, split.within))
+
+-- the bytes after the length are the body of the frame that is spelled
+pub counted_body : (bytes rest : List ℕ) (f : Frame) → IsCounted bytes rest → Spells f bytes → rest ≡ body f
+counted_body bytes rest f c s =
+    sym (drop_at (word (length rest)) rest 4 refl) ∙ ap (drop 4) (sym c.whole ∙ s.spelled) ∙ drop_at (word (length (body f))) (body f) 4 refl
+
+-- the body of a well frame after its length
+pub counted_spells : (bytes rest : List ℕ) (f : Frame) → IsCounted bytes rest → rest ≡ body f → IsWell f → Spells f bytes
+counted_spells bytes rest f c is well = record {
+  well = well;
+  within = subst (λ (t : List ℕ). length t ≤ longest) is c.within;
+  spelled = subst (λ (t : List ℕ). bytes ≡ word (length t) ++ t) is c.whole;
+}
+
+-- the bytes after a kind
+abbrev pub after_kind : List ℕ → List ℕ
+after_kind rest = take (length rest - 1) (drop 1 rest)
+
+kind_and_after : (rest : List ℕ) (kind : ℕ) → 1 ≤ length rest → get_or rest 0 0 ≡ kind → (kind ∷ after_kind rest) ≡ rest
+kind_and_after [] kind some is = absurd (omega arith)
+kind_and_after (k ∷ fields) kind some is =
+    let size : length (k ∷ fields) - 1 ≡ length fields = omega arith in
+    ap (λ (n : ℕ). n ∷ take (length (k ∷ fields) - 1) fields) (sym is) ∙ ap (λ (n : ℕ). k ∷ take n fields) size
+    ∙ ap (λ (t : List ℕ). k ∷ t) (take_all (length fields) fields (omega arith))
+
+-- the kind and the fields of the frame that is spelled
+pub kinded_body : (bytes rest : List ℕ) (kind : ℕ) (f : Frame) → IsCounted bytes rest → 1 ≤ length rest → get_or rest 0 0 ≡ kind → Spells f bytes
+    → (kind ∷ after_kind rest) ≡ body f
+kinded_body bytes rest kind f c some is s = kind_and_after rest kind some is ∙ counted_body bytes rest f c s
+
+-- a kind and the fields of a well frame
+pub kinded_spells : (bytes rest : List ℕ) (kind : ℕ) (f : Frame) → IsCounted bytes rest → 1 ≤ length rest → get_or rest 0 0 ≡ kind
+    → (kind ∷ after_kind rest) ≡ body f → IsWell f → Spells f bytes
+kinded_spells bytes rest kind f c some is whole well = counted_spells bytes rest f c (sym (kind_and_after rest kind some is) ∙ whole) well
+
+-- a frame of measures has a body
+pub no_measures : (f : Frame) → TellsMeasures f → length (body f) < 1 → ⊥
+no_measures (frames.Values v) tells few = absurd (omega arith)
+no_measures (frames.Sparse s) tells few = absurd (omega arith)
+no_measures f tells few = absurd tells
