@@ -1,20 +1,23 @@
 -- One more line: what it does to the parts, and which reason there is against it.
-use Rattle.std.proofs.Common.{◌≡◌, ℕ, zero, suc, append-nil, ◌+◌, ◌-◌, ◌≤◌, ◌<◌, true, false, eqb, List, [], ◌∷◌, ◌++◌, length, take, drop, map, Option, Some, None, refl, sym, ap, subst, ◌∙◌, arith, All}
-use Rattle.std.specs.Prelude.{slice_range, slice_get, option_map, option_to_list, IfSome, ◌||◌}
+use Rattle.std.proofs.Common.{◌≡◌, ℕ, zero, suc, append-nil, ◌+◌, ◌-◌, ◌≤◌, ◌<◌, Bool, true, false, eqb, cond, List, [], ◌∷◌, ◌++◌, length, take, drop, map, get_or, replicate, Option, Some, None, refl, sym, ap, subst, ◌∙◌, arith, inl, inr, All, Bor}
+use Rattle.std.specs.Prelude.{slice_range, slice_get, option_map, option_to_list, option_copied, is_some, IsSome, IfSome, Result, Ok, Err, OnErr, ◌||◌}
 use Rattle.std.specs.List.{list_any, flat_map, IsDistinct}
 use Rattle.std.specs.List.Sorted.{IsStrictlyIncreasing}
 use Rattle.std.specs.declared.vec.Vec.{Vec}
 use Rattle.std.specs.declared.alloc.Global.{Global}
 use Rattle.std.specs.Cmp.{nat_eq_equiv}
 use Rattle.std.proofs.lemmas.Map.Keys.{IsDistinct-push}
-use Rattle.std.proofs.lemmas.Bool.{lt-ltb, le-ltb, le-leb, lt-leb, ne_eqb}
-use Rattle.std.proofs.lemmas.List.{drop-append-le, take-append-le, take_all, drop_at, length-append, length-drop, map-append, length-map}
+use Rattle.std.proofs.lemmas.Bool.{cases_lt, lt-ltb, le-ltb, le-leb, lt-leb, ne_eqb, eqb-false, ltb-false, leb-false}
+use Rattle.std.proofs.lemmas.List.{drop-append-le, take-append-le, take_all, drop_at, length-append, length-drop, length-take, length-replicate, get_or-append_right, get_or-replicate, get_or_past, map-append, length-map}
+use Rattle.std.proofs.Math.ListN.{get_or-append}
+use Rattle.std.proofs.Math.Seq.{get_or-append_seam}
 use Rattle.std.proofs.lemmas.List.Concat.{length-flat_map, flat_map-append}
 use Rattle.std.proofs.lemmas.List.Elements.{All-nil, All-head, All-tail, All-push, All-weaker}
 use Rattle.pg_arena.specs.declared.player.Player.{Player}
-use Rattle.pg_arena.specs.declared.fault.ArenaFault.TheVariants.{DuplicateVertex, TooManyVertices, TooManyEdges}
+use Rattle.pg_arena.specs.declared.fault.ArenaFault.{ArenaFault}
+use Rattle.pg_arena.specs.declared.fault.ArenaFault.TheVariants.{OutOfMemory, DuplicateVertex, NoSuccessor, TooManyVertices, TooManyEdges, PriorityTooLarge}
 use Rattle.pg_arena.specs.Games.{edge_count}
-use Rattle.pg_arena.specs.Lines.{Line, is_named, add_fault}
+use Rattle.pg_arena.specs.Lines.{Line, is_named, add_fault, Answers}
 use Rattle.pg_arena.specs.declared.entry.Entry.{Entry}
 use Rattle.pg_arena.specs.Mirrors.Entries.{Row, row_of, rows_in, place_at, name_in, vertex_in, vertices_in, AreWithin, AreNamed, IsOrderly, AreKept, AreKeptIn}
 use Rattle.pg_arena.proofs.Beside.{rows_long, rows_more}
@@ -126,6 +129,13 @@ pub record Passes (line : Line) : Type 0 where
   pub priority : line.priority ≤ 65535
   pub some : 0 < length line.successors
 
+pub names_priority : (lines : List Line) (line : Line) → 65535 < line.priority → add_fault lines line ≡ Some (PriorityTooLarge line.identifier line.priority)
+names_priority lines line large = rw (lt-ltb 65535 line.priority large) refl
+
+pub names_none_after : (lines : List Line) (line : Line) → line.priority ≤ 65535 → length line.successors ≡ 0
+    → add_fault lines line ≡ Some (NoSuccessor line.identifier)
+names_none_after lines line small none = rw (le-ltb 65535 line.priority small, none) refl
+
 pub names_duplicate : (lines : List Line) (line : Line) → Passes line → is_named lines (line.identifier) ≡ true
     → add_fault lines line ≡ Some (DuplicateVertex (line.identifier))
 names_duplicate lines line p named = rw (le-ltb 65535 (line.priority) (p.priority), ne_eqb (length (line.successors)) 0 (omega (arith, p.some)), named) refl
@@ -158,6 +168,72 @@ names_none lines line p named few fits =
           (length lines) few,
       le-ltb 8388608 (edge_count lines + length (line.successors)) fits,
     ) refl
+
+-- a line against which there is no reason
+pub record IsAccepted (lines : List Line) (line : Line) : Type 0 where
+  pub passes : Passes line
+  pub unnamed : is_named lines line.identifier ≡ false
+  pub few : length lines < 1048576
+  pub fits : edge_count lines + length line.successors ≤ 8388608
+
+not_given : (test : Bool) (fault : ArenaFault) (rest : Option ArenaFault) → cond test (Some fault) rest ≡ None → (test ≡ false) × (rest ≡ None)
+not_given true fault rest h = absurd cc
+not_given false fault rest h = (refl, h)
+
+positive : (n : ℕ) → eqb n 0 ≡ false → 0 < n
+positive n h = omega (arith, eqb-false n 0 h)
+
+accepted : (lines : List Line) (line : Line) → add_fault lines line ≡ None → IsAccepted lines line
+accepted lines line h =
+    let priority = not_given _ _ _ h in
+    let some = not_given _ _ _ priority.1 in
+    let named = not_given _ _ _ some.1 in
+    let few = not_given _ _ _ named.1 in
+    let fits = not_given _ _ _ few.1 in
+    record {
+      passes = record {
+        priority = ltb-false 65535 line.priority priority.0;
+        some = positive (length line.successors) some.0;
+      };
+      unnamed = named.0;
+      few = leb-false 1048576 (length lines) few.0;
+      fits = ltb-false 8388608 (edge_count lines + length line.successors) fits.0;
+    }
+
+-- the same in the parts
+pub record IsNew (ids targets : List ℕ) (entries : List Entry) (line : Line) : Type 0 where
+  pub passes : Passes line
+  pub unnamed : list_any (eqb line.identifier) ids ≡ false
+  pub few : length entries < 1048576
+  pub fits : length targets + length line.successors ≤ 8388608
+
+pub accepted_in : {ids targets : List ℕ} {names : Names} {places : List (Option ℕ)} {entries : List Entry} (lines : List Line) (line : Line)
+    → AreKeptIn ids targets names places entries
+    → vertices_in targets names (rows_in ids places entries) ≡ lines → add_fault lines line ≡ None → IsNew ids targets entries line
+accepted_in {ids} {targets} {names} {places} {entries} lines line kept are h =
+    let ok = accepted lines line h in
+    record {
+      passes = ok.passes;
+      unnamed = sym (named_by line.identifier kept.kept) ∙ ap (λ (ls : List Line). is_named ls line.identifier) are ∙ ok.unnamed;
+      few = omega (arith, ok.few, ap length are, lines_in kept);
+      fits = omega (arith, ok.fits, ap edge_count are, edges_by kept.kept);
+    }
+
+pub few_names : {ids targets : List ℕ} {names : Names} {places : List (Option ℕ)} {entries : List Entry} → AreKeptIn ids targets names places entries
+    → length entries < 1048576 → length names < 1048576
+few_names {ids} {targets} {names} {places} {entries} kept few = omega (arith, kept.kept.few_names, rows_long ids places entries kept.as_many, kept.as_many, few)
+
+-- a copy of a name is there only if the name is
+pub named_copy : (name : Option (Bor (List ℕ))) (copy : Option (Vec ℕ Global)) (named : Bool) → named ≡ is_some name
+    → option_map (λ n. n.items) copy ≡ option_copied name → IsSome copy → named ≡ true
+named_copy name None named e f some = absurd cc
+named_copy None (Some n) named e f some = absurd cc
+named_copy (Some m) (Some n) named e f some = e
+
+-- a reason answers for a line
+pub answers_for : (fault : ArenaFault) (reason : Option ArenaFault) → Some fault ≡ reason → Answers {T = Unit {0}} (Err fault) reason
+answers_for OutOfMemory reason e = tt
+answers_for fault reason e = sym e
 
 -- ---- what is kept
 
@@ -277,3 +353,56 @@ kept_added {ids} {targets} {names} {places} {entries} other identifier priority 
           (sym (rows_added other identifier priority owner more new kept placed))
           (kept_more ids targets names (rows_in ids places entries) identifier priority owner more new kept.kept unknown rows_few fits small some rise);
     }
+
+-- ---- where a name's place is noted
+
+-- the places of lines without a name
+abbrev pub nowhere : ℕ → List (Option ℕ)
+nowhere n = replicate n None
+
+-- places, those of lines without a name, and one more
+abbrev pub noted : List (Option ℕ) → ℕ → Option ℕ → List (Option ℕ)
+noted places line place = (take line places ++ nowhere (line - length places)) ++ place ∷ []
+
+pub noted_by : (places resized after : List (Option ℕ)) (line n : ℕ) (place : Option ℕ) → n ≡ length places → resized ≡ take line places ++ nowhere (line - n)
+    → after ≡ resized ++ place ∷ [] → after ≡ noted places line place
+noted_by places resized after line n place len made added =
+    added ∙ ap (λ (ps : List (Option ℕ)). ps ++ place ∷ []) (made ∙ ap (λ (k : ℕ). take line places ++ nowhere (line - k)) len)
+
+front_long : (places : List (Option ℕ)) (line : ℕ) → length places ≤ line → length (take line places ++ nowhere (line - length places)) ≡ line
+front_long places line few =
+    omega (
+      arith,
+      length-append (take line places) (nowhere (line - length places)),
+      length-take line places,
+      length-replicate {A = Option ℕ}
+          (line - length places) None,
+    )
+
+pub noted_long : (places : List (Option ℕ)) (line : ℕ) (place : Option ℕ) → length places ≤ line → length (noted places line place) ≡ line + 1
+noted_long places line place few =
+    omega (arith, front_long places line few, length-append (take line places ++ nowhere (line - length places)) (place ∷ []))
+
+pub noted_here : (places : List (Option ℕ)) (line : ℕ) (place : Option ℕ) → length places ≤ line → place_at (noted places line place) line ≡ place
+noted_here places line place few =
+    let front = take line places ++ nowhere (line - length places) in
+    subst (λ (i : ℕ). place_at (front ++ place ∷ []) i ≡ place) (front_long places line few) (get_or-append_seam front place [] None)
+
+pub noted_before : (places : List (Option ℕ)) (line : ℕ) (place : Option ℕ) → length places ≤ line → (v : ℕ) → v < line
+    → place_at (noted places line place) v ≡ place_at places v
+noted_before places line place few v lt =
+    let rest = nowhere (line - length places) in
+    let all : take line places ≡ places = take_all line places few in
+    get_or-append (take line places ++ rest) (place ∷ []) None v (omega (arith, front_long places line few, lt))
+    ∙ ap (λ (ps : List (Option ℕ)). get_or (ps ++ rest) v None) all
+    ∙ elim (cases_lt v (length places)) [
+      | inl low ↦ get_or-append places rest None v low
+      | inr high ↦ get_or-append_right places rest (length places) v None refl high
+          ∙ get_or-replicate (line - length places) (v - length places) None None (omega arith)
+          ∙ sym (get_or_past places v None high)
+    ]
+
+-- what holds anyway holds after an error
+pub after_error : {T E : Type 0} (r : Result T E) (P : Type 0) → P → OnErr r P
+after_error (Ok x) P p = tt
+after_error (Err e) P p = p

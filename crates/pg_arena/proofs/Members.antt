@@ -1,10 +1,12 @@
 -- Whether a number stands among rising ones.
-use Rattle.std.proofs.Common.{◌≡◌, ℕ, suc, ◌-◌, ◌≤◌, ◌<◌, false, List, [], ◌∷◌, length, get_or, Result, Ok, Err, refl, sym, ◌∙◌, arith, inl, inr}
+use Rattle.std.proofs.Common.{◌≡◌, ℕ, suc, ◌+◌, ◌-◌, ◌≤◌, ◌<◌, false, List, [], ◌∷◌, ◌++◌, length, get_or, Result, Ok, Err, refl, sym, ap, ◌∙◌, arith, inl, inr}
 use Rattle.std.specs.Prelude.{MatchResult, is_ok, Some, slice_get}
 use Rattle.std.specs.List.Sorted.{IsStrictlyIncreasing, IsBinarySearchResult}
 use Rattle.std.specs.Ordering.{nat_cmp}
 use Rattle.std.proofs.lemmas.Bool.{ne_eqb, cases_lt}
-use Rattle.std.proofs.lemmas.List.{get_or_default}
+use Rattle.std.proofs.lemmas.List.{get_or_default, length-append}
+use Rattle.std.proofs.Math.ListN.{get_or-append}
+use Rattle.std.proofs.Math.Seq.{get_or-append_seam}
 use Rattle.std.proofs.lemmas.Option.{get_or_from_slice_get}
 use Rattle.std.proofs.lemmas.List.Sorted.{searched}
 use Rattle.std.proofs.lemmas.Map.Keys.{sorted_from_strictly_increasing, non_decreasing_from_sorted}
@@ -37,3 +39,25 @@ below_least xs n least up is lt = has_none n xs (λ k within e.
 
 pub search_misses : (q : ℕ) (xs : List ℕ) (i : ℕ) → IsStrictlyIncreasing xs → (let r : Result ℕ ℕ = Err i in IsBinarySearchResult (λ y. nat_cmp y q) xs r) → has q xs ≡ false
 search_misses q xs i up h = sym (search_finds q xs (Err i) up h)
+
+-- a number above the last of those that rise
+pub rises_more : (xs : List ℕ) (n last : ℕ) → IsStrictlyIncreasing xs → Some last ≡ slice_get xs (length xs - 1) → last < n
+    → IsStrictlyIncreasing (xs ++ n ∷ [])
+rises_more xs n last up is above = λ k within.
+    let long = length-append xs (n ∷ []) in
+    elim (cases_lt (k + 1) (length xs)) [
+      | inl low ↦
+          let here = get_or-append xs (n ∷ []) 0 k (omega arith) in
+          let next = get_or-append xs (n ∷ []) 0 (k + 1) low in
+          omega (arith, here, next, up k low)
+      | inr high ↦
+          let end : k + 1 ≡ length xs = omega (arith, long, within, high) in
+          let here = get_or-append xs (n ∷ []) 0 k (omega arith) in
+          let place : k ≡ length xs - 1 = omega arith in
+          let top : get_or xs k 0 ≡ last = ap (λ (i : ℕ). get_or xs i 0) place ∙ get_or_from_slice_get xs (length xs - 1) last 0 (sym is) in
+          let new : get_or (xs ++ n ∷ []) (k + 1) 0 ≡ n = ap (λ (i : ℕ). get_or (xs ++ n ∷ []) i 0) end ∙ get_or-append_seam xs n [] 0 in
+          omega (arith, here, top, new, above)
+    ]
+
+pub one_rises : (xs : List ℕ) (n : ℕ) → length xs ≤ 0 → IsStrictlyIncreasing (xs ++ n ∷ [])
+one_rises xs n none = λ k within. absurd (omega (arith, length-append xs (n ∷ [])))

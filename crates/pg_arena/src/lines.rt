@@ -1,6 +1,6 @@
 //! Lines whose successors rise, and the game that they make.
 
-ghost use Rattle.std.specs.Prelude.{◌≡◌, ℕ, ◌+◌, ◌++◌, ◌∷◌, [], ◌<◌, ◌≤◌, IsTrue, OnOk, OnErr, IfOk, IfErr, IsSome, option_map, option_copied, option_to_list, length, vec_len, vec_capacity};
+ghost use Rattle.std.specs.Prelude.{◌≡◌, ℕ, ◌+◌, ◌++◌, ◌∷◌, [], ◌<◌, ◌≤◌, IsTrue, OnOk, OnErr, IfOk, IfErr, IsSome, None, option_map, option_copied, option_to_list, length, vec_len, vec_capacity};
 ghost use Rattle.std.specs.List.Sorted.{IsStrictlyIncreasing};
 ghost use Rattle.pg_arena.specs.Games.{HasPrioritiesUpTo};
 ghost use Rattle.pg_arena.specs.Lines.{Line, add_fault, Answers, IsGameOf, FinishFails};
@@ -87,31 +87,76 @@ impl Lines {
             in OnOk result (self.new ≡ self.old ++ line ∷ []) }
         ensures err { OnErr result (self.new ≡ self.old) }
     {
+        if let Some(fault) = self.fault_of(identifier, priority, successors) {
+            return Err(fault);
+        }
+        self.put(identifier, priority, owner, successors, name)?;
+        Ok(())
+    }
+
+    /// The first reason against a line, if there is one.
+    #[inline(always)]
+    fn fault_of(&self, identifier: u32, priority: u32, successors: &[u32]) -> Option<ArenaFault>
+        ensures { (line : Line) → line.identifier ≡ identifier → line.priority ≡ priority
+            → line.successors ≡ successors.now → result ≡ add_fault self.now line }
+    {
         if priority > MAX_PRIORITY {
-            return Err(ArenaFault::PriorityTooLarge(identifier, priority));
+            return Some(ArenaFault::PriorityTooLarge(identifier, priority));
         }
         if successors.is_empty() {
-            return Err(ArenaFault::NoSuccessor(identifier));
+            return Some(ArenaFault::NoSuccessor(identifier));
         }
         if self.identifiers.contains(identifier) {
-            return Err(ArenaFault::DuplicateVertex(identifier));
+            return Some(ArenaFault::DuplicateVertex(identifier));
         }
         if self.entries.len() >= MAX_VERTICES {
-            return Err(ArenaFault::TooManyVertices);
+            return Some(ArenaFault::TooManyVertices);
         }
-        let from = self.targets.len();
-        if successors.len() > MAX_EDGES - from {
-            return Err(ArenaFault::TooManyEdges);
+        if successors.len() > MAX_EDGES - self.targets.len() {
+            return Some(ArenaFault::TooManyEdges);
         }
-        let to = from + successors.len();
-        let name = copied(self.alloc, name)?;
+        None
+    }
+
+    /// Adds a line against which there is no reason.
+    #[inline(always)]
+    fn put(
+        &mut self,
+        identifier: u32,
+        priority: u32,
+        owner: Player,
+        successors: &[u32],
+        name: Option<&[u8]>,
+    ) -> Result<(), AllocError>
+        requires rising { IsStrictlyIncreasing successors.now }
+        requires accepted { let line : Line = record {
+          identifier = identifier;
+          priority = priority;
+          owner = owner;
+          successors = successors.now;
+          name = option_copied name;
+        }
+            in add_fault self.old line ≡ None }
+        ensures ok { let line : Line = record {
+          identifier = identifier;
+          priority = priority;
+          owner = owner;
+          successors = successors.now;
+          name = option_copied name.entry;
+        }
+            in OnOk result (self.new ≡ self.old ++ line ∷ []) }
+        ensures err { OnErr result (self.new ≡ self.old) }
+    {
         let line = self.entries.len();
         make_room(&mut self.names, &mut self.places, line, name.is_some())?;
         self.targets.reserve(successors.len())?;
         self.entries.reserve(1)?;
+        let name = copied(self.alloc, name)?;
         self.identifiers.push(identifier)?;
-        put_all(&mut self.targets, successors);
         keep(&mut self.names, &mut self.places, line, name);
+        let from = self.targets.len();
+        let to = from + successors.len();
+        put_all(&mut self.targets, successors);
         let entry = Entry {
             priority,
             owner,
