@@ -10,6 +10,15 @@
     stderr     the whole error stream; absent: anything
     status     the exit status; absent: 0
     output_to  where the output goes in place of a pipe: a path, or "closed"
+
+A table has many inputs of one answer, each of which is a row:
+
+    name, args as in a row
+    head, tail what stands before each text, and behind it; absent: nothing
+    texts      the texts. A mark `^` is a place in the text, which is without it
+    told       the line on the error stream, behind `parsolve: `, with status 1 and no output; `{at}` is the place of the mark, in
+               bytes from the beginning of the input
+    has        in place of `told`: a text that the output has somewhere, with status 0
 """
 import glob
 import os
@@ -54,6 +63,20 @@ def run_row(program, row):
     return ran.returncode, None, ran.stderr
 
 
+def rows_of(table):
+    """The rows that a table stands for."""
+    for text in table["texts"]:
+        before, mark, behind = text.partition("^")
+        given = table.get("head", "") + before
+        row = {"name": f"{table['name']}: {text!r}", "args": table["args"], "stdin": given + behind + table.get("tail", "")}
+        if "told" in table:
+            told = table["told"].replace("{at}", str(len(given.encode()))) if mark else table["told"]
+            row |= {"status": 1, "stderr": f"parsolve: {told}\n"}
+        else:
+            row |= {"stdout_has": table["has"]}
+        yield row
+
+
 def failure(program, row):
     """Why the program fails the row, or None."""
     status, output, errors = run_row(program, row)
@@ -74,7 +97,8 @@ def run(programs):
     passed = failed = 0
     for path in sorted(glob.glob(os.path.join(top, "rows", "*.toml"))):
         with open(path, "rb") as file:
-            rows = tomllib.load(file)["row"]
+            found = tomllib.load(file)
+        rows = found.get("row", []) + [row for table in found.get("table", []) for row in rows_of(table)]
         for program in programs:
             for row in rows:
                 why = failure(program, row)

@@ -6,7 +6,7 @@ use std::alloc::Global;
 
 /// Scripts of two games, and the text of the world after their events. In the first game, by single lifts, vertex 0
 /// goes through `0,1`, `1,0`, `1,1` to top; the other game has the one odd priority 1.
-const WORLDS: [(&[u8], &[u8]); 3] = [
+static WORLDS: [(&[u8], &[u8]); 3] = [
     (
         b"parity 1;\n0 1 0 0;\n1 3 0 0;\n--\nworkers 2;\nlift 1 0;\nlift 2 1;\ndeliver 0 0;\ndeliver 0 1;\n\
         deliver 1 1;\ndeliver 2 0;\ndeliver 2 0;\n",
@@ -27,7 +27,7 @@ const WORLDS: [(&[u8], &[u8]); 3] = [
 ];
 
 /// Inputs that are refused, and the line that is told of it.
-const REFUSED: [(&[u8], &[u8]); 6] = [
+static REFUSED: [(&[u8], &[u8]); 6] = [
     (
         b"0 1 0 0;\n1 3 0 0;\n--\nworkers 1;\ndeliver 0 0;\n",
         b"parsolve: event 0: update 0 was never made\n",
@@ -69,14 +69,14 @@ fn refuses(alloc: Global, input: &[u8], line: &[u8]) -> bool {
 
 #[test]
 fn worlds_are_printed(rt: HostRuntime) {
-    for (input, world) in WORLDS {
+    for (input, world) in &WORLDS {
         assert!(rt; answers(rt.alloc(), Command::Replay, input, world));
     }
 }
 
 #[test]
 fn refusals_are_told_and_nothing_is_printed(rt: HostRuntime) {
-    for (input, line) in REFUSED {
+    for (input, line) in &REFUSED {
         assert!(rt; refuses(rt.alloc(), input, line));
     }
 }

@@ -1,11 +1,12 @@
 //! Texts that spell an automaton, each with what it spells, and conditions with their shapes.
 
-use crate::texts::{joined, spelt, wrong_spellings};
-use pg_hoa::{Shape, read_automaton};
+use crate::texts::{has_sets, joined, spelt, target_of, wrong_spellings};
+use pg_hoa::{Automaton, Shape, read_automaton};
+use std::alloc::Global;
 use std::test::Fail;
 
 /// Headers in any order and headers that are skipped, names of propositions, comments, white space, and counts of states.
-const WHOLE: [(&str, &str); 46] = [
+static WHOLE: [(&str, &str); 46] = [
     (
         "HOA: v1 Start: 1 AP: 2 \"a\" \"b\" States: 2 Acceptance: 2 Fin(0) & Inf(1) controllable-AP: 0 --BODY-- --END--",
         "2 states from 1, a*, b, 2 sets, MinOdd:",
@@ -193,7 +194,7 @@ const WHOLE: [(&str, &str); 46] = [
 ];
 
 /// Sets stand on states and on edges.
-const SETS: [(&str, &str); 9] = [
+static SETS: [(&str, &str); 9] = [
     ("State: 0 [t] 1 --END--", " 0.0>1[]"),
     ("State: 0 {} [t] 1 {} --END--", " 0.0>1[]"),
     ("State: 0 {2} [t] 1 --END--", " 0.0>1[2]"),
@@ -216,7 +217,7 @@ const SETS: [(&str, &str); 9] = [
 
 /// `!` binds more than `&`, and `&` more than `|`. Of edges that match and agree, on the target and on the greatest set, the first
 /// counts.
-const LABELS: [(&str, &str); 25] = [
+static LABELS: [(&str, &str); 25] = [
     (
         "State: 0 [0] 1 {0} [0] 1 {0} [!0] 0 [0] 1 {0} [!0] 0 --END--",
         " 0.0>0[] 0.1>1[0] 0.2>0[] 0.3>1[0]",
@@ -275,7 +276,7 @@ const LABELS: [(&str, &str); 25] = [
 ];
 
 /// Labels over three propositions.
-const GROUPS: [(&str, &str); 11] = [
+static GROUPS: [(&str, &str); 11] = [
     (
         "0 | 1 & 2] 0 --END--",
         " 0.1>0[] 0.3>0[] 0.5>0[] 0.6>0[] 0.7>0[]",
@@ -308,7 +309,7 @@ const GROUPS: [(&str, &str); 11] = [
 ];
 
 /// Where the least set counts, edges agree that do not agree on the greatest.
-const LEAST_SETS: [(&str, &str); 4] = [
+static LEAST_SETS: [(&str, &str); 4] = [
     (
         "2 Inf(0) | Fin(1) --BODY-- State: 0 [t] 0 {0 1} [0] 0 {0} --END--",
         "1 states from 0, a, 2 sets, MinEven: 0.0>0[0, 1] 0.1>0[0, 1]",
@@ -328,7 +329,7 @@ const LEAST_SETS: [(&str, &str); 4] = [
 ];
 
 /// Conditions and their shapes.
-const SHAPES: [(&str, &str); 49] = [
+static SHAPES: [(&str, &str); 49] = [
     ("0 t", "1 states from 0, 0 sets, Always:"),
     ("0 f", "1 states from 0, 0 sets, Never:"),
     ("0 ((t))", "1 states from 0, 0 sets, Always:"),
@@ -470,48 +471,9 @@ const SHAPES: [(&str, &str); 49] = [
     ),
 ];
 
-/// Conditions of no shape.
-const NO_SHAPE: [&str; 35] = [
-    "0 t | t",
-    "0 f & f",
-    "0 f | t",
-    "1 t",
-    "1 f",
-    "1 Inf(0) & t",
-    "1 Inf(0) | f",
-    "1 Inf(0) | Inf(0)",
-    "1 Fin(0) & Fin(0)",
-    "2 t",
-    "2 Inf(0)",
-    "2 Inf(1)",
-    "2 Inf(0) & Inf(1)",
-    "2 Inf(0) | Inf(1)",
-    "2 Fin(0) & Fin(1)",
-    "2 Fin(0) | Fin(1)",
-    "2 Inf(1) | Fin(1)",
-    "2 Inf(0) & Fin(0)",
-    "2 Fin(1) & Inf(0) & Inf(0)",
-    "2 Fin(1) & Inf(0) & Fin(1)",
-    "2 Inf(0) | (Fin(1) & t)",
-    "2 Fin(1) & (Inf(0) | f)",
-    "3 Fin(1) & Inf(0)",
-    "3 Inf(2) | Fin(1) | Inf(0)",
-    "3 (Inf(2) | Fin(1)) & Inf(0)",
-    "3 Inf(2) | (Fin(0) & Inf(1))",
-    "3 Fin(2) & Inf(1) | Fin(0)",
-    "3 Fin(0) & Inf(1) | Fin(2)",
-    "3 Fin(0) & Inf(1) & Fin(2)",
-    "3 Inf(2) | (Fin(1) | Inf(0))",
-    "3 Inf(0) | (Fin(1) & Fin(2))",
-    "3 Inf(1) | (Fin(2) & Inf(0))",
-    "3 Inf(2) & (Fin(1) & Inf(0))",
-    "4 (Inf(0) & Fin(1)) | (Inf(2) & Fin(3))",
-    "4 Fin(3) & (Inf(2) | (Fin(1) & Inf(2)))",
-];
-
 /// As `autfilt` writes it. From some point on, a request has to be followed by a grant at once: state 1 is where one is due,
 /// and set 1 is met where it doesn't come.
-const REQUEST_GRANT: ([&str; 20], &str) = (
+static REQUEST_GRANT: ([&str; 20], &str) = (
     [
         "HOA: v1\n",
         "name: \"FG(request -> Xgrant)\"\n",
@@ -539,7 +501,7 @@ const REQUEST_GRANT: ([&str; 20], &str) = (
 
 /// As Owl writes it. Requests without end need grants without end, and the two grants exclude each other: state 1 is where they
 /// haven't.
-const ARBITER: ([&str; 21], &str) = (
+static ARBITER: ([&str; 21], &str) = (
     [
         "HOA: v1\n",
         "tool: \"owl ltl2dpa\" \"21.0\"\n",
@@ -567,7 +529,7 @@ const ARBITER: ([&str; 21], &str) = (
 );
 
 /// The standard's Rabin automaton for `a U b`, whose condition is of a parity shape.
-const UNTIL: ([&str; 13], &str) = (
+static UNTIL: ([&str; 13], &str) = (
     [
         "HOA: v1\n",
         "States: 2\n",
@@ -586,6 +548,18 @@ const UNTIL: ([&str; 13], &str) = (
     "2 states from 0, a, b, 2 sets, MinOdd: 0.1>0[0] 0.2>1[0] 0.3>1[0] 1.0>1[1] 1.1>1[1] 1.2>1[1] 1.3>1[1]",
 );
 
+/// Whether each reader says what the text has.
+fn reads_head(automaton: &Automaton) -> bool {
+    automaton.states() == 3
+        && automaton.start() == 2
+        && automaton.sets() == 2
+        && automaton.shape() == Shape::MaxEven
+        && automaton.propositions() == 2
+        && automaton.proposition(1) == b"b c".as_slice()
+        && !automaton.controllable(0)
+        && automaton.controllable(1)
+}
+
 #[test]
 fn each_reader(rt: HostRuntime) -> Result<(), Fail> {
     let text = joined(
@@ -596,18 +570,33 @@ fn each_reader(rt: HostRuntime) -> Result<(), Fail> {
         ],
     )?;
     let automaton = read_automaton(rt.alloc(), &text)?;
-    assert_eq!(rt; automaton.states(), 3);
-    assert_eq!(rt; automaton.start(), 2);
-    assert_eq!(rt; automaton.sets(), 2);
-    assert_eq!(rt; automaton.shape(), Shape::MaxEven);
-    assert_eq!(rt; automaton.propositions(), 2);
-    assert_eq!(rt; automaton.proposition(1), b"b c".as_slice());
-    assert!(rt; !automaton.controllable(0));
-    assert!(rt; automaton.controllable(1));
+    assert!(rt; reads_head(&automaton));
     Ok(())
 }
 
-/// Letters without a step, and states and letters that there are not.
+/// Letters with and without a step, and states and letters that there are not: each with the target.
+static STEPS: [(u32, u32, Option<u32>); 9] = [
+    (1, 1, Some(0)),
+    (1, 0, None),
+    (1, 2, None),
+    (1, 3, None),
+    (0, 1, None),
+    (2, 1, None),
+    (1, 4, None),
+    (0, 5, None),
+    (4_294_967_295, 4_294_967_295, None),
+];
+
+/// The first of the steps that the automaton doesn't have.
+fn wrong_step(automaton: &Automaton) -> Option<(u32, u32)> {
+    for (state, letter, target) in &STEPS {
+        if target_of(automaton, *state, *letter) != *target {
+            return Some((*state, *letter));
+        }
+    }
+    None
+}
+
 #[test]
 fn next_steps(rt: HostRuntime) -> Result<(), Fail> {
     let text = joined(
@@ -618,102 +607,92 @@ fn next_steps(rt: HostRuntime) -> Result<(), Fail> {
         ],
     )?;
     let automaton = read_automaton(rt.alloc(), &text)?;
-    for (state, letter, target) in [
-        (1, 1, Some(0)),
-        (1, 0, None),
-        (1, 2, None),
-        (1, 3, None),
-        (0, 1, None),
-        (2, 1, None),
-        (1, 4, None),
-        (0, 5, None),
-        (4_294_967_295, 4_294_967_295, None),
-    ] {
-        let step = automaton.next(state, letter);
-        assert_eq!(rt; step.map(|step| step.0), target, "{state} {letter}");
-    }
-    let Some((_, sets)) = automaton.next(1, 1) else {
-        panic!(rt; "no step");
-    };
-    assert_eq!(rt; sets, [0, 1].as_slice());
+    let wrong = wrong_step(&automaton);
+    let is_joined = has_sets(&automaton, 1, 1, &[0, 1]);
+    assert_eq!(rt; wrong, None);
+    assert!(rt; is_joined);
     Ok(())
 }
 
 #[test]
-fn spellings(rt: HostRuntime) -> Result<(), Fail> {
-    let two =
+fn whole_texts(rt: HostRuntime) -> Result<(), Fail> {
+    let wrong = wrong_spellings(rt.alloc(), "", "", "", &WHOLE)?;
+    assert_eq!(rt; wrong.as_str(), "");
+    Ok(())
+}
+
+#[test]
+fn sets_of_states_and_edges(rt: HostRuntime) -> Result<(), Fail> {
+    let head =
+        "HOA: v1 States: 2 Start: 0 Acceptance: 4 Fin(3) & (Inf(2) | Fin(1) & Inf(0)) --BODY-- ";
+    let wrong = wrong_spellings(
+        rt.alloc(),
+        head,
+        "",
+        "2 states from 0, 4 sets, MaxEven:",
+        &SETS,
+    )?;
+    assert_eq!(rt; wrong.as_str(), "");
+    Ok(())
+}
+
+#[test]
+fn labels(rt: HostRuntime) -> Result<(), Fail> {
+    let head =
         "HOA: v1 States: 2 Start: 0 AP: 2 \"a\" \"b\" Acceptance: 2 Fin(1) & Inf(0) --BODY-- ";
-    for (head, tail, before, rows) in [
-        ("", "", "", WHOLE.as_slice()),
-        (
-            "HOA: v1 States: 2 Start: 0 Acceptance: 4 Fin(3) & (Inf(2) | Fin(1) & Inf(0)) --BODY-- ",
-            "",
-            "2 states from 0, 4 sets, MaxEven:",
-            SETS.as_slice(),
-        ),
-        (
-            two,
-            "",
-            "2 states from 0, a, b, 2 sets, MaxEven:",
-            LABELS.as_slice(),
-        ),
-        (
-            "HOA: v1 Start: 0 AP: 3 \"a\" \"b\" \"c\" Acceptance: 0 t --BODY-- State: 0 [",
-            "",
-            "1 states from 0, a, b, c, 0 sets, Always:",
-            GROUPS.as_slice(),
-        ),
-        (
-            "HOA: v1 States: 1 Start: 0 AP: 1 \"a\" Acceptance: ",
-            "",
-            "",
-            LEAST_SETS.as_slice(),
-        ),
-        (
-            "HOA: v1 Start: 0 Acceptance: ",
-            " --BODY-- --END--",
-            "",
-            SHAPES.as_slice(),
-        ),
-    ] {
-        let wrong = wrong_spellings(rt.alloc(), head, tail, before, rows)?;
-        assert_eq!(rt; wrong.as_str(), "");
-    }
+    let wrong = wrong_spellings(
+        rt.alloc(),
+        head,
+        "",
+        "2 states from 0, a, b, 2 sets, MaxEven:",
+        &LABELS,
+    )?;
+    assert_eq!(rt; wrong.as_str(), "");
     Ok(())
 }
 
 #[test]
-fn conditions_of_no_shape(rt: HostRuntime) -> Result<(), Fail> {
-    for condition in NO_SHAPE {
-        let text = joined(
-            rt.alloc(),
-            &[
-                "HOA: v1 Start: 0 Acceptance: ",
-                condition,
-                " --BODY-- --END--",
-            ],
-        )?;
-        let found = spelt(rt.alloc(), &text)?;
-        assert_eq!(rt;
-            found.as_str(),
-            "acceptance is not a supported parity condition",
-            "{condition}"
-        );
-    }
+fn groups_of_operands(rt: HostRuntime) -> Result<(), Fail> {
+    let head = "HOA: v1 Start: 0 AP: 3 \"a\" \"b\" \"c\" Acceptance: 0 t --BODY-- State: 0 [";
+    let wrong = wrong_spellings(
+        rt.alloc(),
+        head,
+        "",
+        "1 states from 0, a, b, c, 0 sets, Always:",
+        &GROUPS,
+    )?;
+    assert_eq!(rt; wrong.as_str(), "");
     Ok(())
+}
+
+#[test]
+fn least_sets(rt: HostRuntime) -> Result<(), Fail> {
+    let head = "HOA: v1 States: 1 Start: 0 AP: 1 \"a\" Acceptance: ";
+    let wrong = wrong_spellings(rt.alloc(), head, "", "", &LEAST_SETS)?;
+    assert_eq!(rt; wrong.as_str(), "");
+    Ok(())
+}
+
+#[test]
+fn shapes(rt: HostRuntime) -> Result<(), Fail> {
+    let head = "HOA: v1 Start: 0 Acceptance: ";
+    let wrong = wrong_spellings(rt.alloc(), head, " --BODY-- --END--", "", &SHAPES)?;
+    assert_eq!(rt; wrong.as_str(), "");
+    Ok(())
+}
+
+/// Whether the lines spell what stands beside them.
+fn is_spelt(alloc: Global, lines: &[&str], want: &str) -> Result<bool, Fail> {
+    let text = joined(alloc, lines)?;
+    let found = spelt(alloc, &text)?;
+    Ok(found.as_str() == want)
 }
 
 /// Automata as tools write them, and one in the form of the standard's own examples.
 #[test]
 fn examples(rt: HostRuntime) -> Result<(), Fail> {
-    for (lines, want) in [
-        (REQUEST_GRANT.0.as_slice(), REQUEST_GRANT.1),
-        (ARBITER.0.as_slice(), ARBITER.1),
-        (UNTIL.0.as_slice(), UNTIL.1),
-    ] {
-        let text = joined(rt.alloc(), lines)?;
-        let found = spelt(rt.alloc(), &text)?;
-        assert_eq!(rt; found.as_str(), want);
-    }
+    assert!(rt; is_spelt(rt.alloc(), &REQUEST_GRANT.0, REQUEST_GRANT.1)?);
+    assert!(rt; is_spelt(rt.alloc(), &ARBITER.0, ARBITER.1)?);
+    assert!(rt; is_spelt(rt.alloc(), &UNTIL.0, UNTIL.1)?);
     Ok(())
 }

@@ -4,10 +4,6 @@
 #[cfg(test)]
 mod accepted;
 #[cfg(test)]
-mod faults;
-#[cfg(test)]
 mod limits;
-#[cfg(test)]
-mod messages;
 #[cfg(test)]
 mod texts;

@@ -1,7 +1,7 @@
 //! Texts at a limit and just over it.
 
-use crate::texts::{answer, joined, wrong_answers};
-use pg_hoa::{Shape, read_automaton};
+use crate::texts::{answer, has_sets, joined, target_of, wrong_answers};
+use pg_hoa::{Automaton, Shape, read_automaton};
 use std::alloc::{AllocError, Global};
 use std::test::Fail;
 
@@ -13,7 +13,7 @@ const SIXTEEN: &str =
 const LABEL: &str = "HOA: v1 Start: 0 Acceptance: 0 t --BODY-- State: 0 [";
 
 /// Counts and numbers at the limit, and states over it.
-const COUNTS: [(&str, &str); 13] = [
+static COUNTS: [(&str, &str); 13] = [
     (
         "States: 65535 Start: 0 Acceptance: 0 t --BODY-- --END--",
         "accepted",
@@ -67,7 +67,7 @@ const COUNTS: [(&str, &str); 13] = [
 
 /// At most 16,777,216 states times letters, counted behind the end and before two edges are compared. The least letter of the
 /// last row has propositions 0, 7, 10 and 15.
-const TABLES: [(&str, &str); 11] = [
+static TABLES: [(&str, &str); 11] = [
     ("Start: 0 --BODY-- --END--", "accepted"),
     ("Start: 0 controllable-AP: 15 --BODY-- --END--", "accepted"),
     ("States: 256 Start: 0 --BODY--  --END--", "accepted"),
@@ -99,7 +99,7 @@ const TABLES: [(&str, &str); 11] = [
 /// What stands before, what opens and how often, what stands in the middle, what closes and how often, what stands behind, and
 /// the answer. What stands side by side doesn't add up, a `!` counts round its operand alone, the bracket behind `Inf` or `Fin`
 /// is no level, and a comment nested too deep is refused as such where it doesn't end, too.
-const NESTED: [(&str, &str, u32, &str, &str, u32, &str, &str); 22] = [
+static NESTED: [(&str, &str, u32, &str, &str, u32, &str, &str); 22] = [
     (LABEL, "(", 8192, "t", ")", 8192, "] 0 --END--", "accepted"),
     (
         LABEL,
@@ -304,34 +304,44 @@ fn nested(
 
 #[test]
 fn counts(rt: HostRuntime) -> Result<(), Fail> {
-    for (head, rows) in [
-        ("HOA: v1 ", COUNTS.as_slice()),
-        (SIXTEEN, TABLES.as_slice()),
-    ] {
-        let wrong = wrong_answers(rt.alloc(), head, rows)?;
-        assert_eq!(rt; wrong.as_str(), "");
-    }
+    let wrong = wrong_answers(rt.alloc(), "HOA: v1 ", &COUNTS)?;
+    assert_eq!(rt; wrong.as_str(), "");
+    Ok(())
+}
+
+#[test]
+fn tables(rt: HostRuntime) -> Result<(), Fail> {
+    let wrong = wrong_answers(rt.alloc(), SIXTEEN, &TABLES)?;
+    assert_eq!(rt; wrong.as_str(), "");
     Ok(())
 }
 
 #[test]
 fn nesting(rt: HostRuntime) -> Result<(), Fail> {
-    for (before, open, opened, middle, close, closed, after, want) in NESTED {
+    for (before, open, opened, middle, close, closed, after, want) in &NESTED {
         let text = nested(
             rt.alloc(),
             before,
-            (open, opened),
+            (open, *opened),
             middle,
-            (close, closed),
+            (close, *closed),
             after,
         )?;
         let found = answer(rt.alloc(), &text)?;
-        assert_eq!(rt; found.as_str(), want, "{open} {opened} {middle} {closed}");
+        assert_eq!(rt; found.as_str(), *want, "{open} {opened} {middle} {closed}");
     }
     Ok(())
 }
 
-/// The last slot of the greatest table.
+/// Whether the last slot of the greatest table has a step, and neither the slots beside it nor those behind it.
+fn has_last_step(automaton: &Automaton) -> bool {
+    target_of(automaton, 255, 65_535) == Some(7)
+        && automaton.next(255, 65_534).is_none()
+        && automaton.next(254, 65_535).is_none()
+        && automaton.next(255, 65_536).is_none()
+        && automaton.next(256, 0).is_none()
+}
+
 #[test]
 fn last_state_and_letter(rt: HostRuntime) -> Result<(), Fail> {
     let all = "0&1&2&3&4&5&6&7&8&9&10&11&12&13&14&15";
@@ -343,40 +353,43 @@ fn last_state_and_letter(rt: HostRuntime) -> Result<(), Fail> {
     ];
     let text = joined(rt.alloc(), &parts)?;
     let automaton = read_automaton(rt.alloc(), &text)?;
-    assert_eq!(rt; automaton.next(255, 65_535).map(|step| step.0), Some(7));
-    assert!(rt; automaton.next(255, 65_534).is_none());
-    assert!(rt; automaton.next(254, 65_535).is_none());
-    assert!(rt; automaton.next(255, 65_536).is_none());
-    assert!(rt; automaton.next(256, 0).is_none());
+    assert!(rt; has_last_step(&automaton));
     Ok(())
 }
 
-/// Propositions on which sixty-four letters in a row agree.
+/// Labels over propositions on which sixty-four letters in a row agree, each with a letter and its target.
+static HIGH: [(&str, u32, Option<u32>); 11] = [
+    ("6", 63, None),
+    ("6", 64, Some(0)),
+    ("6", 127, Some(0)),
+    ("6", 128, None),
+    ("7 & !6", 128, Some(0)),
+    ("7 & !6", 192, None),
+    ("15", 32_767, None),
+    ("15", 32_768, Some(0)),
+    ("14 & 5 & !0", 16_416, Some(0)),
+    ("14 & 5 & !0", 16_417, None),
+    ("14 & 5 & !0", 32, None),
+];
+
+/// Where the letter leads by an edge with the label.
+fn target_by(alloc: Global, label: &str, letter: u32) -> Result<Option<u32>, Fail> {
+    let parts = [
+        SIXTEEN,
+        "Start: 0 --BODY-- State: 0 [",
+        label,
+        "] 0 --END--",
+    ];
+    let text = joined(alloc, &parts)?;
+    let automaton = read_automaton(alloc, &text)?;
+    Ok(target_of(&automaton, 0, letter))
+}
+
 #[test]
 fn high_propositions(rt: HostRuntime) -> Result<(), Fail> {
-    for (label, letter, target) in [
-        ("6", 63, None),
-        ("6", 64, Some(0)),
-        ("6", 127, Some(0)),
-        ("6", 128, None),
-        ("7 & !6", 128, Some(0)),
-        ("7 & !6", 192, None),
-        ("15", 32_767, None),
-        ("15", 32_768, Some(0)),
-        ("14 & 5 & !0", 16_416, Some(0)),
-        ("14 & 5 & !0", 16_417, None),
-        ("14 & 5 & !0", 32, None),
-    ] {
-        let parts = [
-            SIXTEEN,
-            "Start: 0 --BODY-- State: 0 [",
-            label,
-            "] 0 --END--",
-        ];
-        let text = joined(rt.alloc(), &parts)?;
-        let automaton = read_automaton(rt.alloc(), &text)?;
-        let step = automaton.next(0, letter);
-        assert_eq!(rt; step.map(|step| step.0), target, "{label} {letter}");
+    for (label, letter, target) in &HIGH {
+        let found = target_by(rt.alloc(), label, *letter)?;
+        assert_eq!(rt; found, *target, "{label} {letter}");
     }
     Ok(())
 }
@@ -395,23 +408,28 @@ fn greatest_condition(alloc: Global, rest: &str) -> Result<Vec<u8>, Fail> {
     Ok(text)
 }
 
+/// Whether it has the greatest number of sets, and its one step meets the first and the last of them.
+fn has_each_set(automaton: &Automaton) -> bool {
+    automaton.sets() == 4096
+        && automaton.shape() == Shape::MaxEven
+        && target_of(automaton, 0, 0) == Some(0)
+        && has_sets(automaton, 0, 0, &[0, 4095])
+}
+
 #[test]
 fn greatest_number_of_sets(rt: HostRuntime) -> Result<(), Fail> {
     let rest = " --BODY-- State: 0 {4095} [t] 0 {0} --END--";
     let text = greatest_condition(rt.alloc(), rest)?;
     let automaton = read_automaton(rt.alloc(), &text)?;
-    assert_eq!(rt; automaton.sets(), 4096);
-    assert_eq!(rt; automaton.shape(), Shape::MaxEven);
-    let Some((target, sets)) = automaton.next(0, 0) else {
-        panic!(rt; "no step");
-    };
-    assert_eq!(rt; target, 0);
-    assert_eq!(rt; sets, [0, 4095].as_slice());
+    assert!(rt; has_each_set(&automaton));
+    Ok(())
+}
+
+#[test]
+fn greatest_condition_of_no_shape(rt: HostRuntime) -> Result<(), Fail> {
     let text = greatest_condition(rt.alloc(), " & t --BODY-- --END--")?;
     let found = answer(rt.alloc(), &text)?;
-    assert_eq!(rt;
-        found.as_str(),
-        "acceptance is not a supported parity condition"
-    );
+    let want = "acceptance is not a supported parity condition";
+    assert_eq!(rt; found.as_str(), want);
     Ok(())
 }

@@ -13,20 +13,6 @@ pub fn joined(alloc: Global, parts: &[&str]) -> Result<Vec<u8>, AllocError> {
     Ok(text)
 }
 
-/// The head and then the row without its mark `^`, and where that stands.
-fn unmarked(alloc: Global, head: &str, row: &str) -> Result<(Vec<u8>, usize), AllocError> {
-    let mut text = Vec::from_slice(alloc, head.as_bytes())?;
-    let mut at = 0;
-    for byte in row.as_bytes() {
-        if *byte == b'^' {
-            at = text.len();
-        } else {
-            text.push(*byte)?;
-        }
-    }
-    Ok((text, at))
-}
-
 /// Why the text is refused, or that it is accepted.
 pub fn answer(alloc: Global, text: &[u8]) -> Result<String, AllocError> {
     match read_automaton(alloc, text) {
@@ -47,6 +33,19 @@ fn head_of(alloc: Global, automaton: &Automaton) -> Result<String, Fail> {
         head = format!(in alloc; "{head} {name}{star},")?;
     }
     Ok(format!(in alloc; "{head} {} sets, {:?}", automaton.sets(), automaton.shape())?)
+}
+
+/// Where the letter leads from the state.
+pub fn target_of(automaton: &Automaton, state: u32, letter: u32) -> Option<u32> {
+    automaton.next(state, letter).map(|step| step.0)
+}
+
+/// Whether the letter leads on from the state, and meets these sets.
+pub fn has_sets(automaton: &Automaton, state: u32, letter: u32, sets: &[u32]) -> bool {
+    match automaton.next(state, letter) {
+        Some((_, met)) => met == sets,
+        None => false,
+    }
 }
 
 /// The steps of the state, one after the other, as `0.2>1[0, 3]`: from state 0 the letter 2 leads to state 1, and the sets 0
@@ -75,25 +74,6 @@ pub fn spelt(alloc: Global, text: &[u8]) -> Result<String, Fail> {
         }
         Err(fault) => Ok(format!(in alloc; "{fault}")?),
     }
-}
-
-/// The rows to which the answer isn't the fault whose words stand round the place of the mark. The head stands before each.
-pub fn wrong_places(
-    alloc: Global,
-    head: &str,
-    fault: (&str, &str),
-    rows: &[&str],
-) -> Result<String, AllocError> {
-    let mut wrong = String::new(alloc);
-    for row in rows {
-        let (text, at) = unmarked(alloc, head, row)?;
-        let want = format!(in alloc; "{}{at}{}", fault.0, fault.1)?;
-        let found = answer(alloc, &text)?;
-        if found.as_str() != want.as_str() {
-            wrong = format!(in alloc; "{wrong}{row}: {found}\n")?;
-        }
-    }
-    Ok(wrong)
 }
 
 /// The rows to which the answer isn't the one that stands beside them.

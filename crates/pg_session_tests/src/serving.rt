@@ -44,33 +44,35 @@ fn serves(
     Ok(answer == end && output.as_slice() == reply.as_slice())
 }
 
+/// A set-up, a budget and the reply, with the lines of one vertex between the two frames.
+static TURNS: [(&str, &str, &str); 5] = [
+    (
+        SETUP,
+        "00000005 04 00001000",
+        "0000000e 03 00000002 00000001 00000000 01 00000003 05 01 00",
+    ),
+    (
+        SETUP,
+        "00000005 04 00000002",
+        "00000016 03 00000002 00000001 00000000 00 00000001 00000000 00000003 05 00 00",
+    ),
+    (SETUP, "00000005 04 00000000", "00000003 05 00 00"),
+    (
+        SETUP_2,
+        "00000005 04 00001000",
+        "00000003 05 01 00 0000000e 07 00000002 00000001 00000000 01 00000003 05 01 00",
+    ),
+    (
+        SETUP_2,
+        "00000005 04 00000002",
+        "00000003 05 01 00 0000001a 07 00000002 00000001 00000000 00 00000001 00000000 00000001 00000003 05 00 00",
+    ),
+];
+
 #[test]
 fn answers_a_go(rt: HostRuntime) -> Result<(), Fail> {
-    let rows = [
-        (
-            SETUP,
-            "00000005 04 00001000",
-            "0000000e 03 00000002 00000001 00000000 01 00000003 05 01 00",
-        ),
-        (
-            SETUP,
-            "00000005 04 00000002",
-            "00000016 03 00000002 00000001 00000000 00 00000001 00000000 00000003 05 00 00",
-        ),
-        (SETUP, "00000005 04 00000000", "00000003 05 00 00"),
-        (
-            SETUP_2,
-            "00000005 04 00001000",
-            "00000003 05 01 00 0000000e 07 00000002 00000001 00000000 01 00000003 05 01 00",
-        ),
-        (
-            SETUP_2,
-            "00000005 04 00000002",
-            "00000003 05 01 00 0000001a 07 00000002 00000001 00000000 00 00000001 00000000 00000001 00000003 05 00 00",
-        ),
-    ];
-    for (setup, go, reply) in rows {
-        let parts = [setup, LINES, go, HALT];
+    for (setup, go, reply) in &TURNS {
+        let parts = [*setup, LINES, *go, HALT];
         assert!(rt;
             serves(rt.alloc(), &parts, reply, Ok(Served::Halted(4)))?,
             "{go}"
@@ -79,77 +81,90 @@ fn answers_a_go(rt: HostRuntime) -> Result<(), Fail> {
     Ok(())
 }
 
+/// A frame without values, of either kind, and the report of a frame out of turn.
+const NO_VALUES: &str = "00000009 03 00000002 00000000";
+
+const NO_SPARSE: &str = "00000009 07 00000002 00000000";
+
+const ORDER: &str = "00000003 05 02 04";
+
+/// Frames of which one is out of turn, and the reply.
+static OUT_OF_TURN: [([&str; 3], &str); 8] = [
+    (["00000005 04 00001000", HALT, HALT], ORDER),
+    ([LINES, HALT, HALT], ORDER),
+    (["00000003 05 01 00", HALT, HALT], ORDER),
+    ([SETUP, NO_SPARSE, HALT], ORDER),
+    (
+        [SETUP_2, NO_VALUES, HALT],
+        "00000003 05 01 00 00000003 05 02 04",
+    ),
+    ([SETUP, NO_VALUES, LINES], ORDER),
+    ([SETUP, LINES, LINES], ORDER),
+    ([SETUP, "00000003 05 01 00", HALT], ORDER),
+];
+
 #[test]
 fn refuses_a_frame_out_of_turn(rt: HostRuntime) -> Result<(), Fail> {
-    let values = "00000009 03 00000002 00000000";
-    let sparse = "00000009 07 00000002 00000000";
-    let order = "00000003 05 02 04";
-    let rows = [
-        (["00000005 04 00001000", HALT, HALT], order),
-        ([LINES, HALT, HALT], order),
-        (["00000003 05 01 00", HALT, HALT], order),
-        ([SETUP, sparse, HALT], order),
-        (
-            [SETUP_2, values, HALT],
-            "00000003 05 01 00 00000003 05 02 04",
-        ),
-        ([SETUP, values, LINES], order),
-        ([SETUP, LINES, LINES], order),
-        ([SETUP, "00000003 05 01 00", HALT], order),
-    ];
-    for (frames, reply) in rows {
+    for (frames, reply) in &OUT_OF_TURN {
         let end = Err(WorkerFault::Order);
-        assert!(rt; serves(rt.alloc(), &frames, reply, end)?, "{frames:?}");
+        assert!(rt; serves(rt.alloc(), frames, reply, end)?, "{frames:?}");
     }
     Ok(())
 }
+
+/// Frames of values and of vertices that don't fit the set-up.
+static MISFITS: [&str; 6] = [
+    "00000016 03 00000002 00000001 00000000 00 00000000 00000002",
+    "0000000e 03 00000002 00000001 00000002 01",
+    "00000009 03 00000001 00000000",
+    "00000016 02 00000001 00000002 00000001 00 00000001 00000000",
+    "00000016 02 00000001 00000000 00000001 00 00000001 00000002",
+    "00000016 02 00000001 00000000 00000005 00 00000001 00000000",
+];
 
 #[test]
 fn refuses_what_does_not_fit(rt: HostRuntime) -> Result<(), Fail> {
-    let rows = [
-        "00000016 03 00000002 00000001 00000000 00 00000000 00000002",
-        "0000000e 03 00000002 00000001 00000002 01",
-        "00000009 03 00000001 00000000",
-        "00000016 02 00000001 00000002 00000001 00 00000001 00000000",
-        "00000016 02 00000001 00000000 00000001 00 00000001 00000002",
-        "00000016 02 00000001 00000000 00000005 00 00000001 00000000",
-    ];
-    for frame in rows {
+    for frame in &MISFITS {
         let (reply, end) = ("00000003 05 02 03", Err(WorkerFault::BadUpdate));
-        assert!(rt; serves(rt.alloc(), &[SETUP, frame], reply, end)?, "{frame}");
+        assert!(rt;
+            serves(rt.alloc(), &[SETUP, *frame], reply, end)?,
+            "{frame}"
+        );
     }
     Ok(())
 }
 
+/// Bytes, the reply, and how serving ends.
+static ENDS: [(&[&str], &str, Result<Served, WorkerFault>); 7] = [
+    (
+        &["01000001"],
+        "00000003 05 02 0c",
+        Err(WorkerFault::Wire(WireFault::TooLong)),
+    ),
+    (&["0000"], "", Err(WorkerFault::Wire(WireFault::Truncated))),
+    (
+        &["00000001 08"],
+        "00000003 05 02 0e",
+        Err(WorkerFault::Wire(WireFault::BadKind)),
+    ),
+    (
+        &["00000002 06 00"],
+        "00000003 05 02 0f",
+        Err(WorkerFault::Wire(WireFault::BadField(5))),
+    ),
+    (
+        &["0000000a 01 03 00000002 00000000"],
+        "00000003 05 02 12",
+        Err(WorkerFault::Wire(WireFault::Version)),
+    ),
+    (&[], "", Ok(Served::InputEnded(0))),
+    (&[SETUP], "", Ok(Served::InputEnded(1))),
+];
+
 #[test]
 fn tells_a_frame_that_can_not_be_read(rt: HostRuntime) -> Result<(), Fail> {
-    let rows: [(&[&str], &str, Result<Served, WorkerFault>); 7] = [
-        (
-            &["01000001"],
-            "00000003 05 02 0c",
-            Err(WorkerFault::Wire(WireFault::TooLong)),
-        ),
-        (&["0000"], "", Err(WorkerFault::Wire(WireFault::Truncated))),
-        (
-            &["00000001 08"],
-            "00000003 05 02 0e",
-            Err(WorkerFault::Wire(WireFault::BadKind)),
-        ),
-        (
-            &["00000002 06 00"],
-            "00000003 05 02 0f",
-            Err(WorkerFault::Wire(WireFault::BadField(5))),
-        ),
-        (
-            &["0000000a 01 03 00000002 00000000"],
-            "00000003 05 02 12",
-            Err(WorkerFault::Wire(WireFault::Version)),
-        ),
-        (&[], "", Ok(Served::InputEnded(0))),
-        (&[SETUP], "", Ok(Served::InputEnded(1))),
-    ];
-    for (parts, reply, end) in rows {
-        assert!(rt; serves(rt.alloc(), parts, reply, end)?, "{parts:?}");
+    for (parts, reply, end) in &ENDS {
+        assert!(rt; serves(rt.alloc(), parts, reply, *end)?, "{parts:?}");
     }
     Ok(())
 }
@@ -356,24 +371,26 @@ fn a_failed_write_ends_serving(rt: HostRuntime) -> Result<(), Fail> {
     Ok(())
 }
 
+/// Faults and their codes.
+static CODES: [(WorkerFault, u8); 12] = [
+    (WorkerFault::OutOfMemory, 1),
+    (WorkerFault::NotMine, 2),
+    (WorkerFault::BadUpdate, 3),
+    (WorkerFault::Order, 4),
+    (WorkerFault::Wire(WireFault::OutOfMemory), 11),
+    (WorkerFault::Wire(WireFault::TooLong), 12),
+    (WorkerFault::Wire(WireFault::Truncated), 13),
+    (WorkerFault::Wire(WireFault::BadKind), 14),
+    (WorkerFault::Wire(WireFault::BadField(9)), 15),
+    (WorkerFault::Wire(WireFault::Read), 16),
+    (WorkerFault::Wire(WireFault::Write), 17),
+    (WorkerFault::Wire(WireFault::Version), 18),
+];
+
 /// In the order of the format's list of codes; frames' faults are told by ten more than their numbers.
 #[test]
 fn each_fault_has_its_code(rt: HostRuntime) {
-    let rows = [
-        (WorkerFault::OutOfMemory, 1u8),
-        (WorkerFault::NotMine, 2),
-        (WorkerFault::BadUpdate, 3),
-        (WorkerFault::Order, 4),
-        (WorkerFault::Wire(WireFault::OutOfMemory), 11),
-        (WorkerFault::Wire(WireFault::TooLong), 12),
-        (WorkerFault::Wire(WireFault::Truncated), 13),
-        (WorkerFault::Wire(WireFault::BadKind), 14),
-        (WorkerFault::Wire(WireFault::BadField(9)), 15),
-        (WorkerFault::Wire(WireFault::Read), 16),
-        (WorkerFault::Wire(WireFault::Write), 17),
-        (WorkerFault::Wire(WireFault::Version), 18),
-    ];
-    for (fault, code) in rows {
-        assert_eq!(rt; fault.code(), code);
+    for (fault, code) in &CODES {
+        assert_eq!(rt; fault.code(), *code);
     }
 }

@@ -5,7 +5,7 @@ use pg_text::TextFault::{self, Arena, NumberTooLarge, Syntax};
 use pg_text::read_game;
 use std::alloc::Global;
 
-const TABLE: [(&[u8], TextFault); 48] = [
+static TABLE: [(&[u8], TextFault); 48] = [
     // nothing is defined
     (b"", Arena(NoVertex)),
     (b" \n", Arena(NoVertex)),
@@ -74,7 +74,7 @@ pub(crate) fn game_fault(alloc: Global, text: &[u8]) -> Option<TextFault> {
 
 #[test]
 fn texts_that_are_refused(rt: HostRuntime) {
-    for (text, fault) in TABLE {
-        assert_eq!(rt; game_fault(rt.alloc(), text), Some(fault));
+    for (text, fault) in &TABLE {
+        assert_eq!(rt; game_fault(rt.alloc(), text), Some(*fault));
     }
 }

@@ -9,7 +9,7 @@ use std::test::Fail;
 const TOO_LARGE: &[u8] = b"4294967296";
 
 /// Numbers, words, marks, a string, a string without its second quote, a byte with which no token begins, and the end.
-const TOKENS: [&[u8]; 13] = [
+static TOKENS: [&[u8]; 13] = [
     b"0",
     b"7",
     TOO_LARGE,
@@ -26,7 +26,7 @@ const TOKENS: [&[u8]; 13] = [
 ];
 
 /// What stands in front in a text of a game, and the tokens that may follow.
-const OF_A_GAME: [(&[u8], &[&[u8]]); 16] = [
+static OF_A_GAME: [(&[u8], &[&[u8]]); 16] = [
     (b"", &[b"parity", b"start", b"0", b"7", b""]),
     (b"parity", &[b"0", b"7"]),
     (b"parity 1", &[b";"]),
@@ -46,7 +46,7 @@ const OF_A_GAME: [(&[u8], &[&[u8]]); 16] = [
 ];
 
 /// The same of a solution of the game of two vertices.
-const OF_A_SOLUTION: [(&[u8], &[&[u8]]); 9] = [
+static OF_A_SOLUTION: [(&[u8], &[&[u8]]); 9] = [
     (b"", &[b"paritysol", b"0", b"7", b""]),
     (b"paritysol", &[b"0", b"7"]),
     (b"paritysol 1", &[b";"]),
@@ -87,8 +87,8 @@ fn misplaced(
 
 #[test]
 fn each_place_of_a_game(rt: HostRuntime) -> Result<(), Fail> {
-    for (front, may_follow) in OF_A_GAME {
-        for token in TOKENS {
+    for (front, may_follow) in &OF_A_GAME {
+        for token in &TOKENS {
             if !stands_in(may_follow, token) {
                 let (text, fault) = misplaced(rt.alloc(), front, token)?;
                 assert_eq!(rt; game_fault(rt.alloc(), &text), Some(fault));
@@ -100,8 +100,8 @@ fn each_place_of_a_game(rt: HostRuntime) -> Result<(), Fail> {
 
 #[test]
 fn each_place_of_a_solution(rt: HostRuntime) -> Result<(), Fail> {
-    for (front, may_follow) in OF_A_SOLUTION {
-        for token in TOKENS {
+    for (front, may_follow) in &OF_A_SOLUTION {
+        for token in &TOKENS {
             if !stands_in(may_follow, token) {
                 let (text, fault) = misplaced(rt.alloc(), front, token)?;
                 assert_eq!(rt; solution_fault(rt.alloc(), &text), Some(fault));

@@ -6,7 +6,7 @@ use pg_text::{read_game, read_solution};
 use std::alloc::Global;
 
 /// Texts that spell no solution of the game of two vertices.
-const TABLE: [(&[u8], TextFault); 64] = [
+static TABLE: [(&[u8], TextFault); 64] = [
     // the least vertex without an answer, at the end
     (b"", Missing(0)),
     (b" \n", Missing(0)),
@@ -97,7 +97,7 @@ pub(crate) fn solution_fault(alloc: Global, text: &[u8]) -> Option<TextFault> {
 
 #[test]
 fn texts_that_are_refused(rt: HostRuntime) {
-    for (text, fault) in TABLE {
-        assert_eq!(rt; solution_fault(rt.alloc(), text), Some(fault));
+    for (text, fault) in &TABLE {
+        assert_eq!(rt; solution_fault(rt.alloc(), text), Some(*fault));
     }
 }

@@ -33,7 +33,7 @@ fn is_read_and_spelled(alloc: Global, text: &str) -> Result<bool, Fail> {
 
 #[test]
 fn spells_what_it_reads(rt: HostRuntime) -> Result<(), Fail> {
-    for text in FRAMES {
+    for text in &FRAMES {
         assert!(rt; is_read_and_spelled(rt.alloc(), text)?, "{text}");
     }
     laws::no_front();
@@ -62,23 +62,25 @@ fn is_set_up_well(
     Ok(frame.is_well())
 }
 
+/// Set-ups by version, number of vertices and bounds, and whether they are well.
+static SET_UPS: [(u8, u32, &[(u32, u32)], bool); 10] = [
+    (2, 1_048_576, &[(3, 1), (1, 2)], true),
+    (0, 2, &[], false),
+    (3, 2, &[], false),
+    (1, 0, &[], false),
+    (1, 1_048_577, &[], false),
+    (1, 2, &[(65_535, 4_294_967_295)], true),
+    (1, 2, &[(2, 1)], false),
+    (1, 2, &[(65_537, 1)], false),
+    (1, 2, &[(1, 0)], false),
+    (1, 2, &[(3, 1), (3, 1)], false),
+];
+
 #[test]
 fn tells_which_set_ups_are_well(rt: HostRuntime) -> Result<(), Fail> {
-    let rows = [
-        (2, 1_048_576, [(3, 1), (1, 2)].as_slice(), true),
-        (0, 2, [].as_slice(), false),
-        (3, 2, [].as_slice(), false),
-        (1, 0, [].as_slice(), false),
-        (1, 1_048_577, [].as_slice(), false),
-        (1, 2, [(65_535, 4_294_967_295)].as_slice(), true),
-        (1, 2, [(2, 1)].as_slice(), false),
-        (1, 2, [(65_537, 1)].as_slice(), false),
-        (1, 2, [(1, 0)].as_slice(), false),
-        (1, 2, [(3, 1), (3, 1)].as_slice(), false),
-    ];
-    for (version, vertices, bounds, is_well) in rows {
-        let answer = is_set_up_well(rt.alloc(), version, vertices, bounds)?;
-        assert_eq!(rt; answer, is_well, "{version} {vertices} {bounds:?}");
+    for (version, vertices, bounds, is_well) in &SET_UPS {
+        let answer = is_set_up_well(rt.alloc(), *version, *vertices, bounds)?;
+        assert_eq!(rt; answer, *is_well, "{version} {vertices} {bounds:?}");
     }
     Ok(())
 }
@@ -94,19 +96,21 @@ fn is_line_well(alloc: Global, priority: u32, owner: u8, successors: &[u32]) -> 
     Ok(Frame::Vertices(Vertices { lines }).is_well())
 }
 
+/// Lines by priority, owner and successors.
+static LINES: [(u32, u8, &[u32], bool); 6] = [
+    (65_536, 1, &[0, 4_294_967_295], true),
+    (65_537, 1, &[0], false),
+    (1, 2, &[0], false),
+    (1, 1, &[], false),
+    (1, 1, &[5, 5], false),
+    (1, 1, &[5, 4], false),
+];
+
 #[test]
 fn tells_which_lines_are_well(rt: HostRuntime) -> Result<(), Fail> {
-    let rows = [
-        (65_536, 1, [0, 4_294_967_295].as_slice(), true),
-        (65_537, 1, [0].as_slice(), false),
-        (1, 2, [0].as_slice(), false),
-        (1, 1, [].as_slice(), false),
-        (1, 1, [5, 5].as_slice(), false),
-        (1, 1, [5, 4].as_slice(), false),
-    ];
-    for (priority, owner, successors, is_well) in rows {
-        let answer = is_line_well(rt.alloc(), priority, owner, successors)?;
-        assert_eq!(rt; answer, is_well, "{priority} {owner} {successors:?}");
+    for (priority, owner, successors, is_well) in &LINES {
+        let answer = is_line_well(rt.alloc(), *priority, *owner, successors)?;
+        assert_eq!(rt; answer, *is_well, "{priority} {owner} {successors:?}");
     }
     Ok(())
 }
@@ -120,18 +124,20 @@ fn is_list_well(alloc: Global, width: u32, numbers: &[u32]) -> Result<bool, Fail
     Ok(Frame::Values(Values { width, values }).is_well())
 }
 
+/// Lists by width and numbers.
+static LISTS: [(u32, &[u32], bool); 5] = [
+    (2, &[7, 0], true),
+    (2, &[7], false),
+    (0, &[], true),
+    (0, &[7], false),
+    (32_769, &[], false),
+];
+
 #[test]
 fn tells_which_lists_are_well(rt: HostRuntime) -> Result<(), Fail> {
-    let rows = [
-        (2, [7, 0].as_slice(), true),
-        (2, [7].as_slice(), false),
-        (0, [].as_slice(), true),
-        (0, [7].as_slice(), false),
-        (32_769, [].as_slice(), false),
-    ];
-    for (width, numbers, is_well) in rows {
-        let answer = is_list_well(rt.alloc(), width, numbers)?;
-        assert_eq!(rt; answer, is_well, "{width} {numbers:?}");
+    for (width, numbers, is_well) in &LISTS {
+        let answer = is_list_well(rt.alloc(), *width, numbers)?;
+        assert_eq!(rt; answer, *is_well, "{width} {numbers:?}");
     }
     Ok(())
 }
@@ -145,19 +151,21 @@ fn are_pairs_well(alloc: Global, width: u32, pairs: &[(u32, u32)]) -> Result<boo
     Ok(Frame::Sparse(Sparse { width, values }).is_well())
 }
 
+/// Pairs by width, with places and numbers.
+static PAIRS: [(u32, &[(u32, u32)], bool); 6] = [
+    (2, &[(0, 1), (1, 1)], true),
+    (2, &[(1, 1), (0, 1)], false),
+    (2, &[(1, 1), (1, 1)], false),
+    (2, &[(1, 0)], false),
+    (2, &[(2, 1)], false),
+    (32_769, &[], false),
+];
+
 #[test]
 fn tells_which_pairs_are_well(rt: HostRuntime) -> Result<(), Fail> {
-    let rows = [
-        (2, [(0, 1), (1, 1)].as_slice(), true),
-        (2, [(1, 1), (0, 1)].as_slice(), false),
-        (2, [(1, 1), (1, 1)].as_slice(), false),
-        (2, [(1, 0)].as_slice(), false),
-        (2, [(2, 1)].as_slice(), false),
-        (32_769, [].as_slice(), false),
-    ];
-    for (width, pairs, is_well) in rows {
-        let answer = are_pairs_well(rt.alloc(), width, pairs)?;
-        assert_eq!(rt; answer, is_well, "{width} {pairs:?}");
+    for (width, pairs, is_well) in &PAIRS {
+        let answer = are_pairs_well(rt.alloc(), *width, pairs)?;
+        assert_eq!(rt; answer, *is_well, "{width} {pairs:?}");
     }
     Ok(())
 }
@@ -166,26 +174,28 @@ fn is_report_well(status: u8, code: u8) -> bool {
     Frame::Report(Report { status, code }).is_well()
 }
 
+/// Reports by status and code.
+static REPORTS: [(u8, u8, bool); 12] = [
+    (0, 0, true),
+    (1, 0, true),
+    (1, 1, false),
+    (2, 0, false),
+    (2, 1, true),
+    (2, 4, true),
+    (2, 5, false),
+    (2, 10, false),
+    (2, 11, true),
+    (2, 18, true),
+    (2, 19, false),
+    (3, 0, false),
+];
+
 #[test]
 fn tells_which_short_frames_are_well(rt: HostRuntime) {
     assert!(rt; Frame::Go(Go { budget: 0 }).is_well());
     assert!(rt; Frame::Halt.is_well());
-    let rows = [
-        (0, 0, true),
-        (1, 0, true),
-        (1, 1, false),
-        (2, 0, false),
-        (2, 1, true),
-        (2, 4, true),
-        (2, 5, false),
-        (2, 10, false),
-        (2, 11, true),
-        (2, 18, true),
-        (2, 19, false),
-        (3, 0, false),
-    ];
-    for (status, code, is_well) in rows {
-        assert_eq!(rt; is_report_well(status, code), is_well, "{status} {code}");
+    for (status, code, is_well) in &REPORTS {
+        assert_eq!(rt; is_report_well(*status, *code), *is_well, "{status} {code}");
     }
 }
 

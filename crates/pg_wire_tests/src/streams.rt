@@ -63,7 +63,7 @@ impl Read for Interrupted<'_> {
 
 fn all_frames(alloc: Global) -> Result<Vec<u8>, Fail> {
     let mut all = Vec::new(alloc);
-    for text in FRAMES {
+    for text in &FRAMES {
         all.extend_from_slice(&bytes_of(alloc, text)?)?;
     }
     Ok(all)
@@ -99,7 +99,7 @@ fn reads_one_frame_after_the_other(rt: HostRuntime) -> Result<(), Fail> {
     let all = all_frames(rt.alloc())?;
     let mut left = all.len();
     let mut input = all.as_slice();
-    for text in FRAMES {
+    for text in &FRAMES {
         left = left.saturating_sub(length_of(rt.alloc(), text)?);
         let is_read = is_next(rt.alloc(), &mut input, text)? && input.len() == left;
         assert!(rt; is_read, "{text}");
@@ -115,7 +115,7 @@ fn reads_one_byte_at_a_time(rt: HostRuntime) -> Result<(), Fail> {
     let mut input = Slow {
         rest: all.as_slice(),
     };
-    for text in FRAMES {
+    for text in &FRAMES {
         left = left.saturating_sub(length_of(rt.alloc(), text)?);
         let is_read = is_next(rt.alloc(), &mut input, text)? && input.rest.len() == left;
         assert!(rt; is_read, "{text}");
@@ -134,7 +134,7 @@ fn reads_on_where_it_was_interrupted(rt: HostRuntime) -> Result<(), Fail> {
         bytes,
         is_next: false,
     };
-    for text in FRAMES {
+    for text in &FRAMES {
         assert!(rt; is_next(rt.alloc(), &mut input, text)?, "{text}");
     }
     assert!(rt; is_at_end(rt.alloc(), &mut input)?);
@@ -153,7 +153,7 @@ fn is_truncated_within(alloc: Global, bytes: &[u8]) -> bool {
 
 #[test]
 fn refuses_an_input_that_ends_within_a_frame(rt: HostRuntime) -> Result<(), Fail> {
-    for text in FRAMES {
+    for text in &FRAMES {
         let bytes = bytes_of(rt.alloc(), text)?;
         assert!(rt; is_truncated_within(rt.alloc(), &bytes), "{text}");
     }
@@ -184,7 +184,7 @@ fn tells_each_read_that_failed(alloc: Global, bytes: &[u8], kind: ErrorKind) -> 
 
 #[test]
 fn tells_a_read_that_failed(rt: HostRuntime) -> Result<(), Fail> {
-    for text in FRAMES {
+    for text in &FRAMES {
         let bytes = bytes_of(rt.alloc(), text)?;
         for kind in [ErrorKind::Other, ErrorKind::UnexpectedEof] {
             assert!(rt;

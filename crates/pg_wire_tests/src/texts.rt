@@ -4,7 +4,7 @@ use std::alloc::Global;
 use std::test::Fail;
 
 /// A frame of each kind, and a set-up of each version.
-pub const FRAMES: [&str; 9] = [
+pub static FRAMES: [&str; 9] = [
     "0000001a 01 01 00000002 00000002 00000003 00000001 00000001 00000001",
     "0000000a 01 02 00000002 00000000",
     "00000016 02 00000001 00000000 00000001 00 00000001 00000000",

@@ -8,7 +8,7 @@ use std::alloc::Global;
 use std::test::Fail;
 
 /// Texts that spell no script for the game, whose vertices have the identifiers 3, 7 and 9.
-const TABLE: [(&[u8], ScriptFault); 42] = [
+static TABLE: [(&[u8], ScriptFault); 42] = [
     // the first line
     (b"", Syntax(0)),
     (b" \n", Syntax(2)),

@@ -10,7 +10,7 @@ use std::alloc::Global;
 pub(crate) const GAME: &[u8] = b"9 1 0 3;7 3 0 3;3 1 1 3,7;";
 
 /// Texts without events, how many workers they name, and the worker of each vertex.
-const CUTS: [(&[u8], u32, [u32; 3]); 8] = [
+static CUTS: [(&[u8], u32, [u32; 3]); 8] = [
     (b"workers 0;", 0, [0, 0, 0]),
     (b"workers 1;\n", 1, [1, 1, 1]),
     (b"workers 2;", 2, [1, 1, 2]),
@@ -43,8 +43,8 @@ fn is_read(alloc: Global, text: &[u8], workers: u32, numbers: [u32; 3], events: 
 
 #[test]
 fn cuts_are_read(rt: HostRuntime) {
-    for (text, workers, numbers) in CUTS {
-        assert!(rt; is_read(rt.alloc(), text, workers, numbers, &[]));
+    for (text, workers, numbers) in &CUTS {
+        assert!(rt; is_read(rt.alloc(), text, *workers, *numbers, &[]));
     }
 }
 
