@@ -27,6 +27,10 @@ workers_of (Synth workers) = Some workers
 abbrev pub HasFewWorkers : Command → Type 0
 HasFewWorkers command = IfSome (workers_of command) (λ workers. workers ≤ 16)
 
+-- there are none
+abbrev pub HasNoWorkers : Command → Type 0
+HasNoWorkers command = IfSome (workers_of command) (λ workers. workers ≡ 0)
+
 -- a number by which a port can be named
 abbrev pub IsPort : ℕ → Type 0
 IsPort port = (1 ≤ port) × (port ≤ 65535)

@@ -1,11 +1,11 @@
 //! Commands whose games are solved by programs.
 
-ghost use Rattle.std.specs.Prelude.{◌≡◌, ◌≢◌, ◌+◌, ◌⊎◌, ℕ, List, length, IfOk, OnOk, IfSome, IfErr};
+ghost use Rattle.std.specs.Prelude.{◌≡◌, ◌≢◌, ◌+◌, ◌<◌, ◌⊎◌, ℕ, List, length, IfOk, OnOk, IfSome, IfErr};
 ghost use Rattle.std.specs.Io.KnownBytes.{Appends};
 ghost use Rattle.pg_cli.specs.Input.{StaysWithin};
 ghost use Rattle.pg_cli.specs.Measuring.{IsClosedMapOf};
-ghost use Rattle.pg_cli.specs.Answers.{PrintsBy, RefusesBy};
-ghost use Rattle.pg_cli.specs.Words.{HasFewWorkers};
+ghost use Rattle.pg_cli.specs.Answers.{PrintsBy, RefusesBy, Prints, Refuses};
+ghost use Rattle.pg_cli.specs.Words.{HasFewWorkers, HasNoWorkers};
 
 use crate::command::Command;
 use crate::fault::CliFault;
@@ -23,7 +23,7 @@ fn program_links<R: Reach>(
     count: u32,
 ) -> Result<Vec<SocketLink<R>>, CliFault>
     ensures ok { IfOk result (λ links. length links.items ≡ count) }
-    ensures fault { IfErr result (λ e. (e ≡ CliFault.OutOfMemory) ⊎ (e ≡ CliFault.Listen)) }
+    ensures fault { IfErr result (λ e. (e ≡ CliFault.OutOfMemory) ⊎ ((e ≡ CliFault.Listen) × (0 < count))) }
 {
     let mut links = Vec::new(alloc);
     for _ in 0..count {
@@ -56,6 +56,7 @@ fn end<R: Reach>(mut links: Vec<SocketLink<R>>) {
 /// its dual, as for `run_with`.
 ///
 /// Refuses what `run` does, in the same order, and before all else `Listen` where no port of 127.0.0.1 can be listened at.
+/// Where the command asks for no workers, or solves nothing, no program is wanted, and the answer or refusal is that of `run`.
 pub fn run_apart<S: Reach, R: Read, W: Write>(
     rt: &S,
     alloc: Global,
@@ -70,6 +71,11 @@ pub fn run_apart<S: Reach, R: Read, W: Write>(
         × Appends (W.contents writer.old) (W.contents writer.new) output)) }
     ensures refused { IfErr result (λ fault. (fault ≡ CliFault.Listen)
         ⊎ IfSome (R.remaining reader.old) (λ input. RefusesBy IsClosedMapOf command input fault)) }
+    ensures alone_answer { HasNoWorkers command → OnOk result (IfSome (R.remaining reader.old) (λ input.
+        (output : List ℕ) × Prints command input output
+        × Appends (W.contents writer.old) (W.contents writer.new) output)) }
+    ensures alone_refused { HasNoWorkers command → IfErr result (λ fault. IfSome (R.remaining reader.old)
+        (λ input. Refuses command input fault)) }
     // Whatever comes of it, no byte behind the first one over the limit is read.
     ensures no_further { StaysWithin (R.remaining reader.old) (R.remaining reader.new) (MOST_BYTES + 1) }
     ensures untouched { IfErr result (λ fault. fault ≢ CliFault.Write → writer.new ≡ writer.old) }

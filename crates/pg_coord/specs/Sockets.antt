@@ -16,7 +16,7 @@ idle_link = record { has_program = false; is_connected = false; failures = 0 }
 -- ---- what is received: what the program sent, cut by the lengths in it
 
 -- the bytes are a length within the limit, and as many bytes as it says
-pub record IsWhole (bytes : List ℕ) : Type 0 where
+pub record IsFramed (bytes : List ℕ) : Type 0 where
   pub some : 1 ≤ length_field bytes
   pub within : length_field bytes ≤ longest
   pub all : length bytes ≡ 4 + length_field bytes
@@ -27,4 +27,4 @@ pub record IsNoLength (bytes : List ℕ) : Type 0 where
   pub beyond : (length_field bytes ≡ 0) ⊎ (longest < length_field bytes)
 
 abbrev pub IsCutByLength : List ℕ → Type 0
-IsCutByLength bytes = IsWhole bytes ⊎ IsNoLength bytes
+IsCutByLength bytes = IsFramed bytes ⊎ IsNoLength bytes

@@ -8,6 +8,7 @@ use thiserror::Error;
 /// Why a frame can't be read or written.
 #[derive(Clone, Copy, Debug, PartialEq, Eq, Error)]
 pub enum WireFault {
+    /// A growth was refused.
     #[error("out of memory")]
     OutOfMemory,
     /// More than 16,777,216 bytes after the length.
@@ -23,8 +24,10 @@ pub enum WireFault {
     /// the last field. Offsets count bytes from the first one of the length.
     #[error("bad field at byte {0}")]
     BadField(usize),
+    /// The reader failed.
     #[error("cannot read a frame")]
     Read,
+    /// The writer failed.
     #[error("cannot write a frame")]
     Write,
     /// A set-up of a version that isn't 1 or 2.
@@ -55,14 +58,18 @@ impl WireFault {
 pub enum FieldFault {
     /// So many bytes were left where the field begins.
     At(usize),
+    /// It names no version of the format.
     Version,
+    /// It names no kind of frame.
     Kind,
 }
 
 /// Why a field wasn't read.
 #[derive(Clone, Copy, Debug, PartialEq, Eq)]
 pub enum ReadFault {
+    /// A growth was refused.
     Memory,
+    /// The field is bad.
     Field(FieldFault),
 }
 

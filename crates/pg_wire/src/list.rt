@@ -40,6 +40,8 @@ impl<T> Rows<T> {
     }
 }
 
+/// Numbers, as the components of a value or the successors of a vertex.
 pub type Numbers = Rows<u32>;
 
+/// Pairs of numbers: odd priorities with their bounds, or places of components with the numbers there.
 pub type Pairs = Rows<(u32, u32)>;
