@@ -6,7 +6,7 @@ use Rattle.pg_hoa.specs.Lexemes.{Lexeme, header, body}
 use Rattle.pg_hoa.specs.Mirrors.Scan.{first}
 use Rattle.pg_hoa.specs.Mirrors.Steps.{◌>>=◌, Fails}
 use Rattle.pg_hoa.specs.Mirrors.Kept.{KeptHead}
-use Rattle.pg_hoa.specs.Mirrors.HeaderScan.{header_at, headers_within, headers_from, opening_at, version_at, empty_head, headers_at}
+use Rattle.pg_hoa.specs.Mirrors.HeaderScan.{header_at, headers_within, headers_from}
 use Rattle.pg_hoa.proofs.Steps.{none_is_some}
 use Rattle.pg_hoa.proofs.Turning.{first_end, first_token}
 use Rattle.pg_hoa.proofs.HeaderLaws.{header_shorter}
@@ -69,19 +69,3 @@ headers_refused h ts after None e other = rw (first_end ts after e).0 refl
 headers_refused h ts after (Some body) e other = absurd other
 headers_refused h ts after (Some (header name)) e other = absurd other
 headers_refused h ts after (Some t) e other = rw (first_token ts t after e) refl
-
--- ---- before them
-
-pub opening_fails : (refusal : Refusal) (ts : List Lexeme) → Fails refusal (opening_at ts) → Fails refusal (headers_at ts)
-unfolding headers_at
-opening_fails Memory ts f = tt
-opening_fails (Wrong fault) ts f = rw f refl
-
-pub version_fails : (refusal : Refusal) (ts named : List Lexeme) → opening_at ts ≡ Some named → Fails refusal (version_at named) → Fails refusal (headers_at ts)
-unfolding headers_at
-version_fails Memory ts named e f = tt
-version_fails (Wrong fault) ts named e f = rw (e, f) refl
-
-pub headers_begin : (ts named rest : List Lexeme) → opening_at ts ≡ Some named → version_at named ≡ Some rest → headers_from empty_head rest ≡ headers_at ts
-unfolding headers_at
-headers_begin ts named rest e f = rw (e, f) refl

@@ -12,7 +12,7 @@ use crate::token::{Token, next_token, unexpected};
 use std::alloc::Global;
 
 /// An edge as it is read: its label, where it leads, and the sets that stand behind it.
-#[derive(Clone, Debug, Drop, PartialEq, Eq, PartialOrd, Ord)]
+#[derive(Clone, Drop, PartialEq, Eq, PartialOrd, Ord)]
 pub struct Edge {
     pub label: Vec<Op>,
     pub target: u32,
@@ -20,7 +20,7 @@ pub struct Edge {
 }
 
 /// A state as it is read: its number, its own sets, and the edges that leave it.
-#[derive(Debug, Drop)]
+#[derive(Drop)]
 pub struct Line {
     pub state: u32,
     pub sets: Vec<u32>,
@@ -28,7 +28,7 @@ pub struct Line {
 }
 
 /// How many states, propositions and sets there may be: a number in the body is below its count.
-#[derive(Clone, Copy, Debug)]
+#[derive(Clone, Copy)]
 pub struct Ranges {
     /// What `States:` says, and 65,535 without it.
     pub states: u32,

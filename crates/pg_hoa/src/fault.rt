@@ -106,7 +106,7 @@ impl Error for HoaFault {}
 
 /// What is wrong with a part of a text, where the text before it isn't known: in place of an offset stands how many bytes
 /// are left from the token at fault on. The names are those of `HoaFault`.
-#[derive(Clone, Copy, Debug, PartialEq, Eq)]
+#[derive(Clone, Copy)]
 pub enum PartFault {
     Syntax(usize),
     LeftOut(LeftOutName, usize),
@@ -137,7 +137,7 @@ impl PartFault {
 }
 
 /// Why a part of a text is refused.
-#[derive(Clone, Copy, Debug, PartialEq, Eq)]
+#[derive(Clone, Copy)]
 pub enum Refusal {
     /// A growth was refused.
     Memory,
@@ -176,7 +176,7 @@ impl<T: Drop> From<AllocFailed<T>> for Refusal {
 }
 
 /// Why no table of steps is made.
-#[derive(Clone, Copy, Debug, PartialEq, Eq)]
+#[derive(Clone, Copy)]
 pub enum Conflict {
     /// A growth was refused.
     Memory,

@@ -11,14 +11,14 @@ use crate::token::{Token, next_token, unexpected};
 use std::alloc::Global;
 
 /// A label over so many propositions, or a condition over so many sets.
-#[derive(Clone, Copy, Debug, PartialEq, Eq)]
+#[derive(Clone, Copy)]
 pub enum Kind {
     Label(u32),
     Condition(u32),
 }
 
 /// An operand, or an operator on what stands before it.
-#[derive(Clone, Copy, Debug, PartialEq, Eq, PartialOrd, Ord)]
+#[derive(Clone, Copy, PartialEq, Eq, PartialOrd, Ord)]
 pub enum Op {
     Yes,
     No,
@@ -31,7 +31,7 @@ pub enum Op {
 }
 
 /// What stands before the operand that is due, within one bracket.
-#[derive(Clone, Copy, Debug)]
+#[derive(Clone, Copy)]
 pub struct Frame {
     /// Whether an operand of `|` waits for the other one.
     sum: bool,
@@ -44,7 +44,7 @@ pub struct Frame {
 }
 
 /// What may come next.
-#[derive(Clone, Copy, Debug)]
+#[derive(Clone, Copy)]
 pub enum Mode {
     Operand,
     /// The bracket behind `Inf` or `Fin`.
@@ -57,7 +57,7 @@ pub enum Mode {
 }
 
 /// A formula that is being read.
-#[derive(Debug, Drop)]
+#[derive(Drop)]
 pub struct Reading {
     mode: Mode,
     top: Frame,

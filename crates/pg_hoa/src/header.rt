@@ -4,8 +4,8 @@ ghost use Rattle.std.specs.Prelude.{◌≡◌, [], IfOk, option_map, map};
 ghost use Rattle.pg_hoa.specs.Mirrors.Steps.{Gives};
 ghost use Rattle.pg_hoa.specs.Mirrors.Scan.{characters, lex, lexeme};
 ghost use Rattle.pg_hoa.specs.AutomatonText.{character_code};
-ghost use Rattle.pg_hoa.specs.Mirrors.Kept.{kept_head};
-ghost use Rattle.pg_hoa.specs.Mirrors.HeaderScan.{numeral_of, numeral_at, alone_at, numbers_from, is_value, skipped_from, code_at, is_name_byte, is_name, name_of, quoted_of, quoted_at, names_from, states_at, start_at, names_at, acceptance_at, controls_at, begins_low, other_at, header_at, is_header, is_word, opening_at, version_at, headers_at};
+ghost use Rattle.pg_hoa.specs.Mirrors.Kept.{KeptHead, kept_head};
+ghost use Rattle.pg_hoa.specs.Mirrors.HeaderScan.{numeral_of, numeral_at, alone_at, numbers_from, is_value, skipped_from, code_at, is_name_byte, is_name, name_of, quoted_of, quoted_at, names_from, states_at, start_at, names_at, acceptance_at, controls_at, begins_low, other_at, header_at, is_header, is_word, opening_at, version_at, headers_from, headers_at};
 
 use crate::fault::{LeftOutName, PartFault, Refusal};
 use crate::formula::{Kind, Op, read_formula};
@@ -13,7 +13,7 @@ use crate::token::{Token, next_token, unexpected};
 use std::alloc::{AllocError, Global};
 
 /// What the headers say. A number that may be out of range stands with how many bytes are left from it on.
-#[derive(Debug, Drop)]
+#[derive(Drop)]
 pub struct Head {
     pub states: Option<u32>,
     pub start: Option<(u32, usize)>,
@@ -233,10 +233,10 @@ fn read_names(alloc: Global, count: u32, bytes: &[u8]) -> Result<(Vec<Vec<u8>>, 
     Ok((names, rest))
 }
 
-/// The head with what stands behind `States:`, a name `left` bytes before the end, and the bytes behind that.
+/// Puts what stands behind `States:`, a name `left` bytes before the end, into the head: the bytes behind that.
 #[tactic(auto, unfolding(crate::specs::Mirrors::HeaderScan::states_at))]
-fn states(mut head: Head, left: usize, bytes: &[u8]) -> Result<(Head, &[u8]), Refusal>
-    ensures { Gives (λ x. (kept_head x.0, lex x.1.now)) result (states_at (kept_head head) (lex bytes.now)) }
+fn states<'a>(head: &mut Head, left: usize, bytes: &'a [u8]) -> Result<&'a [u8], Refusal>
+    ensures { Gives (λ x. (kept_head head.new, lex x.now)) result (states_at (kept_head head.old) (lex bytes.now)) }
 {
     if head.states.is_some() {
         return Err(Refusal::Wrong(PartFault::Syntax(left)));
@@ -246,13 +246,13 @@ fn states(mut head: Head, left: usize, bytes: &[u8]) -> Result<(Head, &[u8]), Re
         return Err(Refusal::Wrong(PartFault::TooLarge));
     }
     head.states = Some(count);
-    Ok((head, rest))
+    Ok(rest)
 }
 
 /// Likewise behind `Start:`.
 #[tactic(auto, unfolding(crate::specs::Mirrors::HeaderScan::start_at))]
-fn start(mut head: Head, left: usize, bytes: &[u8]) -> Result<(Head, &[u8]), Refusal>
-    ensures { Gives (λ x. (kept_head x.0, lex x.1.now)) result (start_at (kept_head head) (lex bytes.now)) }
+fn start<'a>(head: &mut Head, left: usize, bytes: &'a [u8]) -> Result<&'a [u8], Refusal>
+    ensures { Gives (λ x. (kept_head head.new, lex x.now)) result (start_at (kept_head head.old) (lex bytes.now)) }
 {
     if head.start.is_some() {
         return Err(Refusal::Wrong(PartFault::LeftOut(LeftOutName::SeveralStarts, left)));
@@ -263,13 +263,18 @@ fn start(mut head: Head, left: usize, bytes: &[u8]) -> Result<(Head, &[u8]), Ref
     }
     let rest = alone(rest)?;
     head.start = Some((state, place));
-    Ok((head, rest))
+    Ok(rest)
 }
 
 /// Likewise behind `AP:`.
 #[tactic(auto, unfolding(crate::specs::Mirrors::HeaderScan::names_at))]
-fn names(alloc: Global, mut head: Head, left: usize, bytes: &[u8]) -> Result<(Head, &[u8]), Refusal>
-    ensures { Gives (λ x. (kept_head x.0, lex x.1.now)) result (names_at (kept_head head) (lex bytes.now)) }
+fn names<'a>(
+    alloc: Global,
+    head: &mut Head,
+    left: usize,
+    bytes: &'a [u8],
+) -> Result<&'a [u8], Refusal>
+    ensures { Gives (λ x. (kept_head head.new, lex x.now)) result (names_at (kept_head head.old) (lex bytes.now)) }
 {
     if head.names.is_some() {
         return Err(Refusal::Wrong(PartFault::Syntax(left)));
@@ -280,18 +285,18 @@ fn names(alloc: Global, mut head: Head, left: usize, bytes: &[u8]) -> Result<(He
     }
     let (names, rest) = read_names(alloc, count, rest)?;
     head.names = Some(names);
-    Ok((head, rest))
+    Ok(rest)
 }
 
 /// Likewise behind `Acceptance:`.
 #[tactic(auto, unfolding(crate::specs::Mirrors::HeaderScan::acceptance_at))]
-fn acceptance(
+fn acceptance<'a>(
     alloc: Global,
-    mut head: Head,
+    head: &mut Head,
     left: usize,
-    bytes: &[u8],
-) -> Result<(Head, &[u8]), Refusal>
-    ensures { Gives (λ x. (kept_head x.0, lex x.1.now)) result (acceptance_at (kept_head head) (lex bytes.now)) }
+    bytes: &'a [u8],
+) -> Result<&'a [u8], Refusal>
+    ensures { Gives (λ x. (kept_head head.new, lex x.now)) result (acceptance_at (kept_head head.old) (lex bytes.now)) }
 {
     if head.acceptance.is_some() {
         return Err(Refusal::Wrong(PartFault::Syntax(left)));
@@ -302,25 +307,25 @@ fn acceptance(
     }
     let (ops, rest) = read_formula(alloc, Kind::Condition(sets), rest)?;
     head.acceptance = Some((sets, ops));
-    Ok((head, rest))
+    Ok(rest)
 }
 
 /// Likewise behind `controllable-AP:`.
 #[tactic(auto, unfolding(crate::specs::Mirrors::HeaderScan::controls_at))]
-fn controls(
+fn controls<'a>(
     alloc: Global,
-    mut head: Head,
+    head: &mut Head,
     left: usize,
-    bytes: &[u8],
-) -> Result<(Head, &[u8]), Refusal>
-    ensures { Gives (λ x. (kept_head x.0, lex x.1.now)) result (controls_at (kept_head head) (lex bytes.now)) }
+    bytes: &'a [u8],
+) -> Result<&'a [u8], Refusal>
+    ensures { Gives (λ x. (kept_head head.new, lex x.now)) result (controls_at (kept_head head.old) (lex bytes.now)) }
 {
     if head.controls.is_some() {
         return Err(Refusal::Wrong(PartFault::Syntax(left)));
     }
     let (controls, rest) = read_numbers(alloc, bytes)?;
     head.controls = Some(controls);
-    Ok((head, rest))
+    Ok(rest)
 }
 
 /// Whether the name begins with a lower-case letter or `_`.
@@ -333,19 +338,13 @@ fn begins_low(name: &[u8]) -> bool
     }
 }
 
-/// Likewise behind any other name: a header is skipped with its values, or refused.
+/// The bytes behind any other name and its values: such a header is skipped, or refused.
 #[tactic(auto, unfolding(crate::specs::Mirrors::HeaderScan::other_at))]
-fn other<'a>(
-    head: Head,
-    name: &[u8],
-    left: usize,
-    bytes: &'a [u8],
-) -> Result<(Head, &'a [u8]), Refusal>
-    ensures { Gives (λ x. (kept_head x.0, lex x.1.now)) result (other_at (kept_head head) name.now (lex bytes.now)) }
+fn other<'a>(name: &[u8], left: usize, bytes: &'a [u8]) -> Result<&'a [u8], Refusal>
+    ensures { (h : KeptHead) → Gives (λ x. (h, lex x.now)) result (other_at h name.now (lex bytes.now)) }
 {
     if begins_low(name) {
-        let rest = skip_values(bytes)?;
-        Ok((head, rest))
+        skip_values(bytes)
     } else if name == b"Alias".as_slice() {
         Err(Refusal::Wrong(PartFault::LeftOut(LeftOutName::Alias, left)))
     } else {
@@ -353,16 +352,17 @@ fn other<'a>(
     }
 }
 
-/// The head with one header more, of this name, which stands `left` bytes before the end, and the bytes behind it.
+/// Puts what a header of this name says, `left` bytes before the end, into the head: the bytes behind it.
 #[tactic(auto, unfolding(crate::specs::Mirrors::HeaderScan::header_at))]
 fn header<'a>(
     alloc: Global,
-    head: Head,
+    head: &mut Head,
     name: &[u8],
     left: usize,
     bytes: &'a [u8],
-) -> Result<(Head, &'a [u8]), Refusal>
-    ensures { Gives (λ x. (kept_head x.0, lex x.1.now)) result (header_at (kept_head head) name.now (lex bytes.now)) }
+) -> Result<&'a [u8], Refusal>
+    ensures { Gives (λ x. (kept_head head.new, lex x.now)) result
+        (header_at (kept_head head.old) name.now (lex bytes.now)) }
 {
     if name == b"States".as_slice() {
         states(head, left, bytes)
@@ -375,7 +375,7 @@ fn header<'a>(
     } else if name == b"controllable-AP".as_slice() {
         controls(alloc, head, left, bytes)
     } else {
-        other(head, name, left, bytes)
+        other(name, left, bytes)
     }
 }
 
@@ -405,12 +405,37 @@ fn version(bytes: &[u8]) -> Result<&[u8], Refusal>
     }
 }
 
+/// Puts what the headers say, up to `--BODY--`, into the head: how many bytes are left from `--BODY--` on, and the
+/// bytes behind it.
+fn headers<'a>(
+    alloc: Global,
+    head: &mut Head,
+    bytes: &'a [u8],
+) -> Result<(usize, &'a [u8]), Refusal>
+    ensures { Gives (λ x. (kept_head head.new, lex x.1.now)) result
+        (headers_from (kept_head head.old) (lex bytes.now)) }
+{
+    let mut rest = bytes;
+    'headers: loop {
+        let (found, left, after) = next_token(rest)?;
+        match found {
+            Some(token) => match token {
+                Token::Body => return Ok((left, after)),
+                Token::Header(name) => rest = header(alloc, head, name, left, after)?,
+                _ => return Err(Refusal::Wrong(unexpected(token, left))),
+            },
+            None => return Err(Refusal::Wrong(PartFault::Syntax(left))),
+        }
+    }
+}
+
 /// From the first byte up to `--BODY--`: what the headers say, how many bytes are left from `--BODY--` on, and the bytes
 /// behind it.
+#[tactic(auto, unfolding(crate::specs::Mirrors::HeaderScan::headers_at))]
 pub fn read_headers(alloc: Global, bytes: &[u8]) -> Result<(Head, usize, &[u8]), Refusal>
     ensures { Gives (λ x. (kept_head x.0, lex x.2.now)) result (headers_at (lex bytes.now)) }
 {
-    let mut rest = version(opening(bytes)?)?;
+    let first = version(opening(bytes)?)?;
     let mut head = Head {
         states: None,
         start: None,
@@ -418,19 +443,6 @@ pub fn read_headers(alloc: Global, bytes: &[u8]) -> Result<(Head, usize, &[u8]),
         controls: None,
         acceptance: None,
     };
-    'headers: loop {
-        let (found, left, after) = next_token(rest)?;
-        match found {
-            Some(token) => match token {
-                Token::Body => return Ok((head, left, after)),
-                Token::Header(name) => {
-                    let (more, behind) = header(alloc, head, name, left, after)?;
-                    head = more;
-                    rest = behind;
-                }
-                _ => return Err(Refusal::Wrong(unexpected(token, left))),
-            },
-            None => return Err(Refusal::Wrong(PartFault::Syntax(left))),
-        }
-    }
+    let (left, rest) = headers(alloc, &mut head, first)?;
+    Ok((head, left, rest))
 }

@@ -10,14 +10,14 @@ use crate::letters::word_of;
 use std::alloc::AllocError;
 
 /// Bits of a letter: those of `care`, where the letter has what `value` has.
-#[derive(Clone, Copy, Debug)]
+#[derive(Clone, Copy)]
 pub struct Bits {
     care: u32,
     value: u32,
 }
 
 /// Bits of each letter at which the answer is yes, and of each at which it is no.
-#[derive(Clone, Copy, Debug)]
+#[derive(Clone, Copy)]
 pub struct Need {
     yes: Bits,
     no: Bits,

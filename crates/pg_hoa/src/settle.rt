@@ -12,7 +12,7 @@ use std::alloc::{AllocError, Global};
 
 /// What the headers say together: a count of states where one is given, the start, the names of propositions, for each of
 /// them whether the controller sets it, the count of sets and the shape of the condition.
-#[derive(Debug, Drop)]
+#[derive(Drop)]
 pub struct Settled {
     pub states: Option<u32>,
     pub start: u32,

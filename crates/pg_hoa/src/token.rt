@@ -9,7 +9,7 @@ ghost use Rattle.pg_hoa.specs.Mirrors.Scan.{lexeme, gap_from, gap_step, number_a
 use crate::fault::{LeftOutName, PartFault, Refusal};
 
 /// A token, which borrows the text.
-#[derive(Clone, Copy, Debug)]
+#[derive(Clone, Copy)]
 pub enum Token<'a> {
     /// Decimal digits.
     Number(u32),

@@ -1,6 +1,6 @@
 use Rattle.std.proofs.Common.{◌≡◌, ◌∙◌, true, Bool, List, [], ◌∷◌, sym, refl, ap}
 use Rattle.std.specs.Cmp.Lexicographic.{pointwise}
-use Rattle.std.proofs.lemmas.Bool.{eqb-true}
+use Rattle.std.proofs.lemmas.Bool.{eqb-true, false≢true}
 use Rattle.pg_hoa.specs.declared.formula.Op.{Op}
 use Rattle.pg_hoa.specs.declared.formula.Op.TheVariants.{Yes, No, Proposition, Inf, Fin, Not, Both, Either}
 use Rattle.pg_hoa.specs.contracts.formula.OpPartialEq.TheImpl as derived
@@ -24,7 +24,7 @@ same_op (Fin a) (Fin b) e = ap Fin (eqb-true a b e)
 same_op Not Not e = refl
 same_op Both Both e = refl
 same_op Either Either e = refl
-same_op x y e = absurd cc
+same_op x y e = absurd (false≢true e)
 
 pub returns : goal.returns
 returns c = λ e. same_items _ same_op c.args.a.now c.args.b.now (sym c.eq.ensures ∙ e)

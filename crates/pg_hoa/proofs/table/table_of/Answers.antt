@@ -1,12 +1,74 @@
-use Rattle.std.proofs.Common.{◌≡◌, ◌∙◌, ◌+◌, ◌*◌, ◌%◌, ◌/◌, ◌^◌, ℕ, map, take, length, sym, refl, ap, subst, arith}
+use Rattle.std.proofs.Common.{◌≡◌, ◌∙◌, ◌+◌, ◌*◌, ◌%◌, ◌/◌, ◌^◌, ◌<◌, ◌≤◌, ℕ, map, take, length, get_or, replicate, List, Fits, w32, w64, sym, refl, ap, subst, arith}
 use Rattle.std.proofs.lemmas.Nat.{one_shl, pow_pos}
-use Rattle.std.proofs.lemmas.List.{take_all}
+use Rattle.std.proofs.lemmas.List.{take_all, length-replicate}
+use Rattle.std.proofs.lemmas.List.Elements.{All-get_or}
+use Rattle.std.proofs.Math.Pow.{pow_mono}
+use Rattle.std.proofs.Math.Nat.{mod-le, div-le_self, mul-le-mul_right}
+use Rattle.std.specs.List.{All}
+use Rattle.pg_hoa.specs.declared.body.Line.{Line}
 use Rattle.pg_hoa.specs.Mirrors.Kept.{kept_line}
 use Rattle.pg_hoa.specs.Mirrors.Tables.{stage, at_line, at_lines, IsFirstConflict}
 use Rattle.pg_hoa.proofs.TableFilling.{adds_then}
 use Rattle.pg_hoa.proofs.TablePlaces.{more_lines, more_items}
 use Rattle.pg_hoa.proofs.TableAnswers.{found_table, first_conflict, all_filled}
 use Rattle.pg_hoa.proofs.table.table_of.Goals as goal
+
+-- the letters and the slots are as many as there are, without a bit lost
+letters_few : (p : ℕ) → p ≤ 16 → 1 * 2 ^ p % 18446744073709551616 ≤ 65536
+letters_few p h = subst (λ n. n ≤ 65536) (sym (one_shl p 64 (omega arith))) (pow_mono {i = p} {j = 16} h)
+
+slots_few : (states p : ℕ) → p ≤ 16 → states * 2 ^ p ≤ 16777216 → states * (1 * 2 ^ p % 18446744073709551616) ≤ 16777216
+slots_few states p h few = subst (λ n. states * n ≤ 16777216) (sym (one_shl p 64 (omega arith))) few
+
+fits_32 : (n m slots : ℕ) → n ≤ m → m < slots → slots ≤ 16777216 → Fits w32 n
+fits_32 n m slots h k few = omega arith
+
+fits_letters : (n : ℕ) → n ≤ 65536 → Fits w32 n
+fits_letters n h = omega arith
+
+fits_64 : (n : ℕ) → n ≤ 16777216 → Fits w64 n
+fits_64 n h = omega arith
+
+within : (state states n m : ℕ) → state < states → m ≡ states * n → state * n + n ≤ m
+within state states n m h e =
+    let most : (state + 1) * n ≤ states * n = mul-le-mul_right n (omega arith) in
+    grind arith
+
+-- the slots of a state below the count stand within those of all
+slots_within :
+    (lines : List Line) (states p at : ℕ) (line : Line) (slots zeros : List ℕ)
+    → p ≤ 16 → All (λ l. l.state < states) lines → at < length lines → line ≡ get_or lines at line
+    → length slots ≡ length zeros → zeros ≡ replicate (states * (1 * 2 ^ p % 18446744073709551616)) 0
+    → line.state * 2 ^ p + 2 ^ p ≤ length slots
+slots_within lines states p at line slots zeros few below h is same made =
+    let n : ℕ = 2 ^ p in
+    let letters : 1 * 2 ^ p % 18446744073709551616 ≡ n = one_shl p 64 (omega arith) in
+    let all : length slots ≡ states * n = same ∙ ap length made ∙ length-replicate _ 0 ∙ ap (λ m. states * m) letters in
+    let state : line.state < states = subst (λ (l : Line). l.state < states) (sym is) (All-get_or (λ (l : Line). l.state < states) lines at line h below) in
+    within line.state states n (length slots) state all
+
+pub overflow_mul-total : goal.overflow_mul-total
+overflow_mul-total c =
+    fits_64 _ (slots_few c.args.states c.args.propositions c.requires.few_propositions c.requires.few_steps)
+
+pub add_line-requires-clause-within : goal.add_line-requires-clause-within
+add_line-requires-clause-within c =
+    slots_within c.args.lines.now c.args.states c.args.propositions c.loop-line.line-index c.line-item.result
+    c.loop-line.filling.slots.items _ c.requires.few_propositions c.requires.below c.loop-line-test.true c.line-item.is
+    c.loop-line.invariant.as_many (c.in_ok-vec.ensures.items_if_clones_equal (λ y same. same))
+
+pub overflow_cast-state : goal.overflow_cast-state
+overflow_cast-state c =
+    fits_32 _ c.loop-line.filling.conflict _ (div-le_self c.loop-line.filling.conflict _) c.if-filling-total.true
+    (slots_few c.args.states c.args.propositions c.requires.few_propositions c.requires.few_steps)
+
+pub overflow_cast-letter : goal.overflow_cast-letter
+overflow_cast-letter c =
+    fits_32 _ c.loop-line.filling.conflict _ (mod-le c.loop-line.filling.conflict _) c.if-filling-total.true
+    (slots_few c.args.states c.args.propositions c.requires.few_propositions c.requires.few_steps)
+
+pub overflow_cast-result : goal.overflow_cast-result
+overflow_cast-result c = fits_letters _ (letters_few c.args.propositions c.requires.few_propositions)
 
 pub loop-line-preserved : goal.loop-line-preserved
 loop-line-preserved c =

@@ -6,8 +6,8 @@ use Rattle.pg_hoa.specs.declared.token.Token.TheVariants as tokens
 use Rattle.pg_hoa.specs.Lexemes.{Lexeme, header, body}
 use Rattle.pg_hoa.specs.Mirrors.Scan.{lex, lexeme, first}
 use Rattle.pg_hoa.specs.Mirrors.Kept.{kept_head}
-use Rattle.pg_hoa.proofs.HeaderSteps.{IsElse, headers_fail, headers_end, headers_more, header_fails, fewer, headers_refused, opening_fails, version_fails, headers_begin}
-use Rattle.pg_hoa.proofs.header.read_headers.Goals as goal
+use Rattle.pg_hoa.proofs.HeaderSteps.{IsElse, headers_fail, headers_end, headers_more, header_fails, fewer, headers_refused}
+use Rattle.pg_hoa.proofs.header.headers.Goals as goal
 
 -- the token that was found
 found_token : (found : Option Token) (token : Token) (ts after : List Lexeme) → first ts ≡ Some (option_map lexeme found, after) → found ≡ Some token → first ts ≡ Some (Some (lexeme token), after)
@@ -21,22 +21,9 @@ is_else (tokens.Header name) no_header no_body = absurd (no_header name refl)
 is_else tokens.Body no_header no_body = absurd (no_body refl)
 is_else _ no_header no_body = tt
 
-pub returns-in_err-opening : goal.returns-in_err-opening
-returns-in_err-opening c =
-    let p = err_from_is_err_and c.from_residual.result c.from_residual.ensures.1 in
-    rw (p.1, p.2) (opening_fails c.in_err-opening.field-0.0 (lex c.args.bytes.now) c.in_err-opening.ensures)
-
-pub returns-in_err-rest : goal.returns-in_err-rest
-returns-in_err-rest c =
-    let p = err_from_is_err_and c.from_residual-in_err-rest.result c.from_residual-in_err-rest.ensures.1 in
-    rw (p.1, p.2) (version_fails c.in_err-rest.field-0.0 (lex c.args.bytes.now) (lex c.in_ok-opening.field-0.now) c.in_ok-opening.ensures c.in_err-rest.ensures)
-
-pub headers-init : goal.headers-init
-headers-init c = headers_begin (lex c.args.bytes.now) (lex c.in_ok-opening.field-0.now) (lex c.in_ok-rest.rest.now) c.in_ok-opening.ensures c.in_ok-rest.ensures
-
 pub returns-in_err-found : goal.returns-in_err-found
 returns-in_err-found c =
-    let p = err_from_is_err_and c.from_residual-in_err-found.result c.from_residual-in_err-found.ensures.1 in
+    let p = err_from_is_err_and c.from_residual.result c.from_residual.ensures.1 in
     rw (p.1, p.2, ← c.headers.invariant) (headers_fail c.in_err-found.field-0.0 (kept_head c.headers.head) (lex c.headers.rest.now) c.in_err-found.ensures)
 
 pub returns-in-Body : goal.returns-in-Body
@@ -45,24 +32,24 @@ returns-in-Body c =
     let b = token_is c.in-Some.token body (lex c.headers.rest.now) (lex c.in_ok-found.after.now) t (ap lexeme c.in-Body.is) in
     sym c.headers.invariant ∙ headers_end (kept_head c.headers.head) (lex c.headers.rest.now) (lex c.in_ok-found.after.now) b
 
-pub returns-in_err-more-in-Header : goal.returns-in_err-more-in-Header
-returns-in_err-more-in-Header c =
-    let p = err_from_is_err_and c.from_residual-in_err-more-in-Header.result c.from_residual-in_err-more-in-Header.ensures.1 in
+pub returns-in_err-rest-in-Header : goal.returns-in_err-rest-in-Header
+returns-in_err-rest-in-Header c =
+    let p = err_from_is_err_and c.from_residual-in_err-rest-in-Header.result c.from_residual-in_err-rest-in-Header.ensures.1 in
     let t = found_token c.in_ok-found.found c.in-Some.token (lex c.headers.rest.now) (lex c.in_ok-found.after.now) c.in_ok-found.ensures c.in-Some.is in
     let b = token_is c.in-Some.token (header c.in-Header.name.now) (lex c.headers.rest.now) (lex c.in_ok-found.after.now) t (ap lexeme c.in-Header.is) in
-    rw (p.1, p.2, ← c.headers.invariant) (header_fails c.in_err-more-in-Header.field-0.0 (kept_head c.headers.head) c.in-Header.name.now (lex c.headers.rest.now) (lex c.in_ok-found.after.now) b c.in_err-more-in-Header.ensures)
+    rw (p.1, p.2, ← c.headers.invariant) (header_fails c.in_err-rest-in-Header.field-0.0 (kept_head c.headers.head) c.in-Header.name.now (lex c.headers.rest.now) (lex c.in_ok-found.after.now) b c.in_err-rest-in-Header.ensures)
 
 pub headers-smaller : goal.headers-smaller
 headers-smaller c =
     let t = found_token c.in_ok-found.found c.in-Some.token (lex c.headers.rest.now) (lex c.in_ok-found.after.now) c.in_ok-found.ensures c.in-Some.is in
     let b = token_is c.in-Some.token (header c.in-Header.name.now) (lex c.headers.rest.now) (lex c.in_ok-found.after.now) t (ap lexeme c.in-Header.is) in
-    fewer (kept_head c.headers.head) c.in-Header.name.now (lex c.headers.rest.now) (lex c.in_ok-found.after.now) (kept_head c.in_ok-more-in-Header.more, lex c.in_ok-more-in-Header.behind.now) b c.in_ok-more-in-Header.ensures
+    fewer (kept_head c.headers.head) c.in-Header.name.now (lex c.headers.rest.now) (lex c.in_ok-found.after.now) (kept_head c.header.new.head, lex c.in_ok-rest-in-Header.rest.now) b c.in_ok-rest-in-Header.ensures
 
 pub headers-preserved : goal.headers-preserved
 headers-preserved c =
     let t = found_token c.in_ok-found.found c.in-Some.token (lex c.headers.rest.now) (lex c.in_ok-found.after.now) c.in_ok-found.ensures c.in-Some.is in
     let b = token_is c.in-Some.token (header c.in-Header.name.now) (lex c.headers.rest.now) (lex c.in_ok-found.after.now) t (ap lexeme c.in-Header.is) in
-    sym (headers_more (kept_head c.headers.head) c.in-Header.name.now (lex c.headers.rest.now) (lex c.in_ok-found.after.now) (kept_head c.in_ok-more-in-Header.more, lex c.in_ok-more-in-Header.behind.now) b c.in_ok-more-in-Header.ensures) ∙ c.headers.invariant
+    sym (headers_more (kept_head c.headers.head) c.in-Header.name.now (lex c.headers.rest.now) (lex c.in_ok-found.after.now) (kept_head c.header.new.head, lex c.in_ok-rest-in-Header.rest.now) b c.in_ok-rest-in-Header.ensures) ∙ c.headers.invariant
 
 pub returns-in_default : goal.returns-in_default
 returns-in_default c =
