@@ -7,7 +7,7 @@ use crate::limits::MAX_PRIORITY;
 use crate::player::Player;
 
 /// A vertex but for its identifier and its name. Its successors stand from `from` to `to` in a list of all.
-#[derive(Clone, Copy, Debug)]
+#[derive(Clone, Copy)]
 pub(crate) struct Entry {
     pub priority: u32,
     pub owner: Player,
