@@ -16,8 +16,7 @@ width_at bounds widths w q are is h (inr l) =
 widths_more : (bounds : BoundList) (widths more : List ℕ) (w p : ℕ) → length widths ≡ p → AreWidths bounds widths → more ≡ widths ++ w ∷ [] → w ≡ width_from bounds p → (length more ≡ p + 1) × AreWidths bounds more
 widths_more bounds widths more w p as_many are grown is =
     let one_more : length more ≡ length widths + 1 = ap length grown ∙ length_push widths w in
-    let here : w ≡ width_from bounds (length widths) = is ∙ ap (width_from bounds) (sym as_many) in
-    (
+    let here : w ≡ width_from bounds (length widths) = is ∙ ap (width_from bounds) (sym as_many) in (
       one_more ∙ ap (λ n. n + 1) as_many,
       λ q h. subst (λ (l : List ℕ). slice_index l q ≡ width_from bounds q) (sym grown) (width_at bounds widths w q are here (omega arith) (cases_lt q (length widths))),
     )
