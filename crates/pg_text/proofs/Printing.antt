@@ -1,17 +1,17 @@
 -- What is written piece by piece is the layout.
 use Rattle.std.proofs.Common.{◌≡◌, ℕ, zero, suc, ◌-◌, ◌+◌, ◌<◌, ◌*◌, ◌≤◌, List, [], ◌∷◌, ◌++◌, length, map, take, drop, replicate, get_or, arith, Option, refl, sym, ap, subst, ◌∙◌, take-append-drop}
-use Rattle.std.specs.Prelude.{All}
+use Rattle.std.specs.Prelude.{All, codes, decimal}
 use Rattle.std.specs.List.{flat_map, take-map}
 use Rattle.std.specs.Io.KnownBytes.{Appends}
 use Rattle.std.proofs.KnownBytes.{Appends-trans}
-use Rattle.std.proofs.lemmas.List.{take_more, take_at, map-append, flat_map_more, length-append, replicate-append-replicate}
+use Rattle.std.proofs.lemmas.List.{take_more, take_at, take_all, length-map, map-append, flat_map_more, length-append, replicate-append-replicate}
 use Rattle.std.proofs.lemmas.List.Concat.{flat_map-append}
 use Rattle.std.proofs.lemmas.Fmt.{decimal_digit}
 use Rattle.std.proofs.lemmas.List.Elements.{Contains-get_or}
-use Rattle.pg_arena.specs.Games.{GameVertex, IsGame, successors, vertex_at, nowhere}
+use Rattle.pg_arena.specs.Games.{GameVertex, IsGame, identifier, successors, vertex_at, nowhere}
 use Rattle.pg_arena.specs.Lines.{Line, line_of, lines_of}
 use Rattle.pg_text.specs.Numbers.{comma_number}
-use Rattle.pg_text.specs.GameLayout.{line_text}
+use Rattle.pg_text.specs.GameLayout.{line_text, game_text}
 
 -- successors are vertices
 pub successors_within : (game : List GameVertex) (v : ℕ) → IsGame game → All (λ w. w < length game) (successors game v)
@@ -24,6 +24,19 @@ line_push a b c game v lt so_far more =
     let longer : take (v + 1) (lines_of game) ≡ take v (lines_of game) ++ line_of game x ∷ [] =
     take-map (line_of game) (v + 1) game ∙ ap (map (line_of game)) (take_more game v nowhere lt) ∙ map-append (line_of game) (take v game) (x ∷ []) ∙ ap (λ (ls : List Line). ls ++ line_of game x ∷ []) (sym (take-map (line_of game) v game)) in
     subst (Appends a c) (flat_map_more line_text [] (take v (lines_of game)) (line_of game x) ∙ ap (flat_map line_text) (sym longer)) (Appends-trans a b c _ _ so_far more)
+
+-- the header, and then all lines
+pub game_written : (a b c d e : Option (List ℕ)) (game : List GameVertex) (len n v : ℕ)
+    → len ≡ length game → n ≡ identifier game (len - 1) → len ≤ v
+    → Appends a b (codes "parity ") → Appends b c (decimal n) → Appends c d (codes ";\n")
+    → Appends d e (flat_map line_text (take v (lines_of game))) → Appends a e (game_text game)
+game_written a b c d e game len n v is number whole word greatest closing lines =
+    let many : length (lines_of game) ≡ length game = length-map game (line_of game) in
+    let all : take v (lines_of game) ≡ lines_of game = take_all v (lines_of game) (omega arith) in
+    let last : n ≡ identifier game (length game - 1) = number ∙ ap (λ (k : ℕ). identifier game (k - 1)) is in
+    let behind : Appends c e (codes ";\n" ++ flat_map line_text (lines_of game)) = Appends-trans c d e _ _ closing (subst (λ (ls : List Line). Appends d e (flat_map line_text ls)) all lines) in
+    let numbered : Appends b c (decimal (identifier game (length game - 1))) = subst (λ (k : ℕ). Appends b c (decimal k)) last greatest in
+    Appends-trans a b e _ _ word (Appends-trans b c e _ _ numbered behind)
 
 -- ---- numbers behind commas
 

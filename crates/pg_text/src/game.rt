@@ -14,12 +14,12 @@ use std::alloc::Global;
 fn builder_of(alloc: Global, bytes: &[u8]) -> Result<GameBuilder, TextFault>
     ensures { BuildsLines bytes.now result }
 {
-    let mut builder = GameBuilder::new(alloc);
-    let mut successors = Vec::new(alloc);
     let mut rest = match body(bytes) {
         Ok(rest) => rest,
         Err(fault) => return Err(fault.in_text(bytes.len())),
     };
+    let mut builder = GameBuilder::new(alloc);
+    let mut successors = Vec::new(alloc);
     'lines: loop {
         match item(&mut successors, rest) {
             Ok((Some(line), after)) => {

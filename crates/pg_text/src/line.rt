@@ -9,7 +9,7 @@ use crate::tokens::{TokenFault, after_byte, after_space};
 use pg_arena::Player;
 
 /// A line as it stands in the text, but for its successors.
-#[derive(Clone, Copy, Debug)]
+#[derive(Clone, Copy)]
 pub(crate) struct TextLine<'a> {
     pub(crate) identifier: u32,
     pub(crate) priority: u32,

@@ -11,7 +11,7 @@ use pg_arena::Player;
 
 /// A line as it stands in the text: who wins at the vertex with this identifier, and the identifier of the vertex to
 /// which the winner goes, where a strategy stands.
-#[derive(Clone, Copy, Debug)]
+#[derive(Clone, Copy)]
 pub(crate) struct SolutionLine {
     pub(crate) identifier: u32,
     pub(crate) winner: Player,

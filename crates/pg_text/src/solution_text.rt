@@ -18,7 +18,7 @@ use pg_arena::{Game, Player, Vertex};
 use std::alloc::Global;
 
 /// Why a line of a solution can't be taken.
-#[derive(Clone, Copy, Debug)]
+#[derive(Clone, Copy)]
 pub(crate) enum Misfit {
     /// It names no vertex of the game, or a strategy that counts and is no successor.
     NotOfGame,
