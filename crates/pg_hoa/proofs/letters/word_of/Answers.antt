@@ -1,5 +1,6 @@
-use Rattle.std.proofs.Common.{◌∙◌, ap, refl, arith}
-use Rattle.pg_hoa.specs.Mirrors.Saying.{run}
+use Rattle.std.proofs.Common.{◌∙◌, Bool, List, ap, refl, sym, arith}
+use Rattle.std.proofs.lemmas.List.{drop_all}
+use Rattle.pg_hoa.specs.Mirrors.Saying.{run, top}
 use Rattle.pg_hoa.specs.Mirrors.Letters.{on_at, truths}
 use Rattle.pg_hoa.proofs.TableWords.{truths_none, step_run}
 use Rattle.pg_hoa.proofs.letters.word_of.Goals as goal
@@ -12,3 +13,7 @@ loop-op-preserved c = λ j h.
     let e = c.answer-word.ensures j h in
     let f = c.in_ok-push.ensures.items in
     step_run c.args.label.now c.loop-op.op-index j _ _ (on_at c.args.block j) c.loop-op.stack.items c.answer-word.new.stack.items c.push.new.self.items c.answer-word.result (omega arith) refl e f ∙ c.loop-op.invariant j h
+
+pub returns : goal.returns
+returns c = λ j h.
+    c.pop.ensures.top j ∙ ap (λ (stack : List Bool). top stack) (ap (λ ops. run ops (on_at c.args.block j) (truths j c.loop-op.stack.items)) (sym (drop_all c.loop-op.op-index c.args.label.now c.loop-op-test.false)) ∙ c.loop-op.invariant j h)
