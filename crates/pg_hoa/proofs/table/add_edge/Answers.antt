@@ -1,10 +1,22 @@
-use Rattle.std.proofs.Common.{◌≡◌, ℕ, ◌∙◌, ◌+◌, ◌*◌, ◌++◌, sym, ap, arith}
+use Rattle.std.proofs.Common.{◌≡◌, ℕ, ◌∙◌, ◌+◌, ◌*◌, ◌<◌, ◌≤◌, ◌++◌, sym, ap, arith}
+use Rattle.std.proofs.Math.Nat.{mul-le-mul_right}
 use Rattle.std.proofs.lemmas.List.{append-nil}
 use Rattle.pg_hoa.specs.Mirrors.Tables.{stage, way_step, at_word, at_letters}
 use Rattle.pg_hoa.proofs.TableFilling.{adds_none, adds_same, adds_then}
 use Rattle.pg_hoa.proofs.TablePlaces.{no_letters, more_letters, empty_word}
 use Rattle.pg_hoa.proofs.table.add_edge.Goals as goal
 use Rattle.pg_hoa.proofs.table.add_edge.Goals.{then-word-ne0+in_ok-number, else-word-ne0}
+
+-- the slots of a block stand within those of all letters
+block_within : (first block blocks width letters slots more : ℕ) → block < blocks → blocks * width ≡ letters → first + letters ≤ slots → more ≡ slots → first + block * width + width ≤ more
+block_within first block blocks width letters slots more h split within same =
+    let most : (block + 1) * width ≤ blocks * width = mul-le-mul_right width (omega arith) in
+    grind arith
+
+pub place_word-requires-clause-within : goal.place_word-requires-clause-within
+place_word-requires-clause-within c =
+    block_within c.args.first c.loop-block.block c.blocks_of-blocks.result.0 c.blocks_of-blocks.result.1 _ _ _
+    c.loop-block-test.true c.blocks_of-blocks.ensures.all c.requires.within c.loop-block.invariant.adds.as_many
 
 pub loop-block-init : goal.loop-block-init
 loop-block-init c =
