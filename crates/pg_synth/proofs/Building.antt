@@ -1,5 +1,6 @@
 -- The builder takes each line of the game, if these are within its limits.
-use Rattle.std.proofs.Common.{◌≡◌, ℕ, ◌<◌, ◌≤◌, false, eqb, List, [], ◌∷◌, length, map, get_or, take, Option, Some, None, Err, arith, refl, sym, ap, subst, ◌∙◌, ◌||◌}
+use Rattle.std.proofs.Common.{◌≡◌, ℕ, ◌<◌, ◌≤◌, false, eqb, List, [], ◌∷◌, length, map, get_or, take, Option, Some, None, Result, Ok, Err, arith, refl, sym, ap, subst, ◌∙◌, ◌||◌}
+use Rattle.std.specs.Prelude.{IfErr}
 use Rattle.std.specs.List.{Contains, sum_by}
 use Rattle.std.specs.List.Sorted.{IsStrictlyIncreasing}
 use Rattle.std.proofs.lemmas.List.{length-map, length-take, get_or-take}
@@ -96,6 +97,10 @@ memory_only T TooManyEdges reason e h = absurd (let w = sym h ∙ e in cc w)
 memory_only T (PriorityTooLarge n p) reason e h = absurd (let w = sym h ∙ e in cc w)
 memory_only T NoVertex reason e h = absurd (let w = sym h ∙ e in cc w)
 
+pub memory_result : (T : Type 0) (r : Result T ArenaFault) (reason : Option ArenaFault) → reason ≡ None → Answers r reason → IfErr r (λ fault. fault ≡ OutOfMemory)
+memory_result T (Ok x) reason e h = tt
+memory_result T (Err fault) reason e h = memory_only T fault reason e h
+
 -- ---- what is added is the line
 
 pub place_at : (a : Automaton) (layout : Layout) (sets n : ℕ) (x : Place) → IsLayoutOf a layout → sets ≡ a.sets → x ≡ place_with sets layout.width n → x ≡ place_in a n
@@ -106,6 +111,9 @@ pub is_place : (a : Automaton) (layout : Layout) (ids : List ℕ) (sets k : ℕ)
 is_place a layout ids sets k x laid e lt s h =
     subst (IsPlaceOf a) (sym (place_at a layout sets (get_or ids k 0) x laid s h))
     (place_listed a (get_or ids k 0) laid.automaton (subst (λ (xs : List ℕ). Contains xs (get_or ids k 0)) e (Contains-get_or ids k 0 lt)))
+
+pub listed_place : (a : Automaton) (ids : List ℕ) (k : ℕ) → IsAutomaton a → ids ≡ game_identifiers a → k < length ids → IsPlaceOf a (place_in a (get_or ids k 0))
+listed_place a ids k is e lt = place_listed a (get_or ids k 0) is (subst (λ (xs : List ℕ). Contains xs (get_or ids k 0)) e (Contains-get_or ids k 0 lt))
 
 pub line_is : (a : Automaton) (n priority : ℕ) (owner : Player) (successors : List ℕ) (name : Option (List ℕ)) (x : Place) → x ≡ place_in a n
     → priority ≡ place_priority a.shape a.sets x → owner ≡ place_owner x → successors ≡ leads a x → name ≡ Some (place_name x)

@@ -6,7 +6,7 @@ ghost use Rattle.pg_arena.specs.declared.fault.ArenaFault.TheVariants.{OutOfMemo
 ghost use Rattle.pg_arena.specs.Lines.{add_fault, each_once, IsGameOf};
 ghost use Rattle.pg_hoa.specs.Automata.{deciding, letters};
 ghost use Rattle.pg_synth.specs.AutomatonGames.{IsPlaceOf, input_letters, place_identifier};
-ghost use Rattle.pg_synth.specs.Mirrors.GameLines.{target, leads, edges_of, line_at, game_identifiers, game_lines};
+ghost use Rattle.pg_synth.specs.Mirrors.GameLines.{place_in, target, leads, edges_of, line_at, game_identifiers, game_lines};
 ghost use Rattle.pg_synth.specs.Mirrors.Layouts.{IsLayoutOf};
 ghost use Rattle.pg_synth.specs.declared.place.Place.TheVariants.{Answer};
 
@@ -79,19 +79,39 @@ pub(crate) fn built(
     let mut successors = Vec::new(alloc);
     let mut name = Vec::new(alloc);
     for identifier in identifiers {
-        let place = Place::with_identifier(*identifier, automaton.sets(), layout.width);
-        put_leads(&mut successors, automaton, layout, place)?;
-        place.put_name(&mut name)?;
-        let priority = place.priority(automaton.shape(), automaton.sets());
-        builder.add(
+        add_vertex(
+            &mut builder,
+            &mut successors,
+            &mut name,
+            automaton,
+            layout,
             *identifier,
-            priority,
-            place.owner(),
-            &successors,
-            Some(&name),
         )?;
     }
     builder.finish()
+}
+
+/// Adds the vertex with an identifier, whose successors and name are made in vectors that are kept, in place of what they
+/// held. Refuses for memory only.
+fn add_vertex(
+    builder: &mut GameBuilder,
+    successors: &mut Vec<u32>,
+    name: &mut Vec<u8>,
+    automaton: &Automaton,
+    layout: &Layout,
+    identifier: u32,
+) -> Result<(), ArenaFault>
+    requires laid { IsLayoutOf automaton.now layout.now }
+    requires place { IsPlaceOf automaton.now (place_in automaton.now identifier) }
+    requires follows { add_fault builder.old (line_at automaton.now identifier) ≡ None }
+    ensures added { OnOk result (builder.new ≡ builder.old ++ line_at automaton.now identifier ∷ []) }
+    ensures memory { IfErr result (λ fault. fault ≡ OutOfMemory) }
+{
+    let place = Place::with_identifier(identifier, automaton.sets(), layout.width);
+    put_leads(successors, automaton, layout, place)?;
+    place.put_name(name)?;
+    let priority = place.priority(automaton.shape(), automaton.sets());
+    builder.add(identifier, priority, place.owner(), successors, Some(name))
 }
 
 /// Makes the list that of the identifiers of the places to which a place leads, letter by letter.
