@@ -1,26 +1,16 @@
 -- A worker gets the lines of its vertices, one after another.
-use Rattle.std.proofs.Common.{◌≡◌, ◌≢◌, ℕ, ◌+◌, ◌<◌, ◌≤◌, Bool, true, false, Some, None, List, [], ◌∷◌, length, get_or, set, refl, ap, sym, ◌∙◌, ◌⊎◌, inl, inr, arith, subst, cond}
-use Rattle.std.specs.Prelude.{◌==◌, Option, All, AllPairs, slice_get}
+use Rattle.std.proofs.Common.{◌≡◌, ◌≢◌, ℕ, ◌+◌, ◌<◌, ◌≤◌, Bool, true, false, Some, None, List, length, set, refl, ap, sym, ◌∙◌, ◌⊎◌, inl, inr, arith, subst, cond}
+use Rattle.std.specs.Prelude.{◌==◌, Option}
 use Rattle.std.proofs.lemmas.Bool.{cases_eq, cases_lt}
-use Rattle.std.proofs.lemmas.List.{get_or-set_other, get_or-set_same, get_or_past, length-set}
+use Rattle.std.proofs.lemmas.List.{get_or-set_other, get_or-set_same, length-set}
 use Rattle.std.proofs.lemmas.Option.{slice_get-get_or, slice_get_past}
 use Rattle.pg_arena.specs.Games.{GameVertex, nowhere, vertex_at}
 use Rattle.pg_measure.specs.Measures.{BoundList}
 use Rattle.pg_map.specs.Lines.{Line, vertex_line, game_line}
 use Rattle.pg_map.specs.Maps.{zero_map}
 use Rattle.pg_worker.specs.Cuts.{CutValue, worker_of}
-use Rattle.std.specs.Prelude.{Result, Ok, Err, OnOk, is_err}
-use Rattle.pg_wire.specs.declared.frame.VertexLine.{VertexLine}
-use Rattle.pg_worker.specs.Workers.{WorkerValue, part_line, told_line, with_lines}
-use Rattle.pg_world.specs.Mirrors.Kept.{line_of_part, IsNewReplica}
-
--- x has the lines of the vertices before i, zeros, and room for a line of each vertex
-pub record IsPartBelow (game : List GameVertex) (bounds : BoundList) (cut : CutValue) (r i : ℕ) (x : WorkerValue) : Type 0 where
-  pub bounds_are : x.bounds ≡ bounds
-  pub map : x.map ≡ zero_map bounds (length game)
-  pub size : length x.lines ≡ length game
-  pub below : (v : ℕ) → v < i → part_line x.lines v ≡ line_of_part game cut r v
-  pub above : (v : ℕ) → i ≤ v → part_line x.lines v ≡ None
+use Rattle.pg_worker.specs.Workers.{WorkerValue, part_line}
+use Rattle.pg_world.specs.Mirrors.Kept.{line_of_part, IsNewReplica, IsPartBelow, with_vertex}
 
 line_of_vertex : (game : List GameVertex) (v : ℕ) → v < length game → game_line game v ≡ Some (vertex_line (vertex_at game v))
 line_of_vertex game v l = rw (slice_get-get_or game v nowhere l) refl
@@ -32,18 +22,21 @@ not_mine : (game : List GameVertex) (cut : CutValue) (r v : ℕ) → (worker_of 
 not_mine game cut r v e = ap (λ (b : Bool). cond b (game_line game v) None) e
 
 -- the vertex i is the worker's
-pub part_takes : (game : List GameVertex) (bounds : BoundList) (cut : CutValue) (r i : ℕ) (x y : WorkerValue) (line : Line) → IsPartBelow game bounds cut r i x → i < length game → (worker_of cut i == r) ≡ true → line ≡ vertex_line (vertex_at game i) → y ≡ record x { lines = set x.lines i (Some line) } → IsPartBelow game bounds cut r (i + 1) y
-part_takes game bounds cut r i x y line p l e same made = subst (IsPartBelow game bounds cut r (i + 1)) (sym made) (record {
+pub part_takes : (game : List GameVertex) (bounds : BoundList) (cut : CutValue) (r i : ℕ) (x y : WorkerValue) → IsPartBelow game bounds cut r i x → i < length game → (worker_of cut i == r) ≡ true → y ≡ with_vertex game i x → IsPartBelow game bounds cut r (i + 1) y
+part_takes game bounds cut r i x y p l e made = subst (IsPartBelow game bounds cut r (i + 1)) (sym made) (record {
   bounds_are = p.bounds_are;
   map = p.map;
-  size = length-set x.lines i (Some line) ∙ p.size;
+  size = length-set x.lines i here ∙ p.size;
   below = λ v k. below v k (cases_eq v i);
-  above = λ v k. (let other : v ≢ i = omega arith in get_or-set_other x.lines i v (Some line) None other ∙ p.above v (omega arith));
+  above = λ v k. (let other : v ≢ i = omega arith in get_or-set_other x.lines i v here None other ∙ p.above v (omega arith));
 })
   where
-    below : (v : ℕ) → v < i + 1 → (v ≡ i) ⊎ (v ≢ i) → part_line (set x.lines i (Some line)) v ≡ line_of_part game cut r v
-    below v k (inl at) = let within : i < length x.lines = omega (arith, p.size) in rw at (get_or-set_same x.lines i (Some line) None within ∙ (ap Some same ∙ sym (mine game cut r i l e)))
-    below v k (inr ne) = get_or-set_other x.lines i v (Some line) None ne ∙ p.below v (omega arith)
+    here : Option Line
+    here = Some (vertex_line (vertex_at game i))
+
+    below : (v : ℕ) → v < i + 1 → (v ≡ i) ⊎ (v ≢ i) → part_line (set x.lines i here) v ≡ line_of_part game cut r v
+    below v k (inl at) = let within : i < length x.lines = omega (arith, p.size) in rw at (get_or-set_same x.lines i here None within ∙ sym (mine game cut r i l e))
+    below v k (inr ne) = get_or-set_other x.lines i v here None ne ∙ p.below v (omega arith)
 
 -- it is another worker's
 pub part_passes : (game : List GameVertex) (bounds : BoundList) (cut : CutValue) (r i : ℕ) (x : WorkerValue) → IsPartBelow game bounds cut r i x → (worker_of cut i == r) ≡ false → IsPartBelow game bounds cut r (i + 1) x
@@ -75,13 +68,12 @@ part_is_whole game bounds cut r n x e p = record {
     at v (inl l) = p.below v l
     at v (inr l) = p.above v l ∙ sym (past v l (worker_of cut v == r))
 
--- the worker was told of its vertex i
-pub part_is_told : (game : List GameVertex) (bounds : BoundList) (cut : CutValue) (r i : ℕ) (x y : WorkerValue) (line : VertexLine) → IsPartBelow game bounds cut r i x → i < length game → (worker_of cut i == r) ≡ true → line.vertex ≡ i → told_line line ≡ vertex_line (vertex_at game i) → y ≡ record x { lines = with_lines x.lines (line ∷ []) } → IsPartBelow game bounds cut r (i + 1) y
-part_is_told game bounds cut r i x y line p l e at same made =
-    part_takes game bounds cut r i x y (told_line line) p l e same
-    (made ∙ ap (λ (k : ℕ). record x { lines = set x.lines k (Some (told_line line)) }) at)
-
--- what holds where a call succeeded that didn't fail
-pub unless_err : {A E : Type 0} (r : Result A E) (P : Type 0) → false ≡ is_err r → OnOk r P → P
-unless_err (Ok a) P e h = h
-unless_err (Err x) P e h = absurd (cc)
+-- a worker without vertices
+pub idle_part : (game : List GameVertex) (bounds : BoundList) (cut : CutValue) (r : ℕ) (x : WorkerValue) → x.bounds ≡ bounds → x.map ≡ zero_map bounds (length game) → length x.lines ≡ length game → ((v : ℕ) → part_line x.lines v ≡ None) → IsPartBelow game x.bounds cut r 0 x
+idle_part game bounds cut r x same zeros size none = record {
+  bounds_are = refl;
+  map = zeros ∙ ap (λ (b : BoundList). zero_map b (length game)) (sym same);
+  size = size;
+  below = λ v k. absurd (omega arith);
+  above = λ v k. none v;
+}

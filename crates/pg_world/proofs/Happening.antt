@@ -1,7 +1,7 @@
 -- What the calls of replicas say of the world that they stand in.
 use Rattle.std.proofs.Common.{◌≡◌, ◌≢◌, ℕ, zero, suc, ◌+◌, ◌-◌, ◌<◌, ◌≤◌, Bool, true, false, Some, None, List, [], ◌∷◌, ◌++◌, length, get_or, set, replicate, refl, ap, sym, ◌∙◌, ◌⊎◌, inl, inr, arith, subst}
 use Rattle.std.specs.Prelude.{All, Option, IsSome, Result, Ok, Err, IsOk, IfOk, map}
-use Rattle.std.proofs.lemmas.List.{get_or-set_same, get_or_default, get_or-map, length-map, length-set, map-append}
+use Rattle.std.proofs.lemmas.List.{set-get_or, get_or-set_same, get_or_default, get_or-map, length-map, length-set, map-append}
 use Rattle.std.proofs.lemmas.List.Elements.{All-set}
 use Rattle.std.specs.declared.vec.Vec.{Vec}
 use Rattle.std.specs.declared.alloc.Global.{Global}
@@ -31,6 +31,12 @@ alike game bounds cut us us' ts ts' e f = cc
 
 pub view_same : (game : List GameVertex) (bounds : BoundList) (cut : CutValue) (us us' : List Update) (ts ts' : List Numbers) → us' ≡ us → map items ts' ≡ map items ts → viewed game bounds cut us' ts' ≡ viewed game bounds cut us ts
 view_same game bounds cut us us' ts ts' e f = alike game bounds cut (map update_value us') (map update_value us) (map items ts') (map items ts) (ap (λ (x : List Update). map update_value x) e) f
+
+-- nothing came of a call
+pub replicas_stay : (game : List GameVertex) (bounds : BoundList) (cut : CutValue) (us us' : List Update) (ts ts' : List Numbers) (c : MapValue) (ws : List WorkerValue) (k : ℕ) (x : WorkerValue) → us' ≡ us → map items ts' ≡ map items ts → x ≡ worker_at ws k → AreReplicas (viewed game bounds cut us ts) c ws → AreReplicas (viewed game bounds cut us' ts') c (set ws k x)
+replicas_stay game bounds cut us us' ts ts' c ws k x e f h i =
+    subst (λ (y : WorldValue). AreReplicas y c (set ws k x)) (sym (view_same game bounds cut us us' ts ts' e f))
+    (subst (λ (ys : List WorkerValue). AreReplicas (viewed game bounds cut us ts) c ys) (sym (ap (λ (y : WorkerValue). set ws k y) h ∙ set-get_or ws k _)) i)
 
 noted : (ts t1 t2 : List (List ℕ)) (r n m : ℕ) → t1 ≡ ts → n ≡ m → t2 ≡ set t1 r (get_or t1 r [] ++ n ∷ []) → t2 ≡ set ts r (get_or ts r [] ++ m ∷ [])
 noted ts t1 t2 r n m e f h = h ∙ (ap (λ (x : List (List ℕ)). set x r (get_or x r [] ++ n ∷ [])) e ∙ ap (λ (x : ℕ). set ts r (get_or ts r [] ++ x ∷ [])) f)

@@ -3,6 +3,7 @@
 ghost use Rattle.std.specs.Prelude.{◌≡◌, ◌<◌, ◌∷◌, ◌++◌, [], OnOk, IfSome, length, map, vec_len, vec_capacity, slice_get, slice_set, slice_index_or};
 
 use pg_map::Update;
+use pg_worker::Worker;
 use std::alloc::AllocError;
 
 /// Room for one more update, and for its number among those that the replica r took.
@@ -47,4 +48,12 @@ pub(crate) fn forget(taken: &mut Vec<Vec<usize>>, r: usize)
     ensures { map (λ t. t.items) taken.new.items ≡ slice_set (map (λ t. t.items) taken.old.items) r [] }
 {
     taken[r].clear();
+}
+
+/// Puts a worker in place of the one at k.
+pub(crate) fn replace(workers: &mut Vec<Worker>, k: usize, worker: Worker)
+    requires { k < length workers.old.items }
+    ensures { workers.new.items ≡ slice_set workers.old.items k worker }
+{
+    workers[k] = worker;
 }

@@ -2,14 +2,14 @@
 
 ghost use Rattle.std.specs.Prelude.{◌≡◌, Option, option_map};
 ghost use Rattle.pg_text.specs.Mirrors.Steps.{Reads, Gives};
-ghost use Rattle.pg_world.specs.Mirrors.ScriptScan.{one_at, two_at, line_at, next_line_at, workers_at, cut_at};
+ghost use Rattle.pg_world.specs.Mirrors.ScriptScan.{one_at, two_at, lift_at, deliver_at, restart_at, central_at, line_at, next_line_at, workers_at, cut_at};
 
 use pg_text::reading::{Refusal, clause, end, natural, numbers, semicolon, unexpected, word};
 use pg_text::tokens::TokenFault;
 use std::alloc::Global;
 
 /// A line as it stands in the text: a vertex is named by its identifier.
-#[derive(Clone, Copy, Debug)]
+#[derive(Clone, Copy)]
 pub(crate) enum ScriptLine {
     Lift(u32, u32),
     Deliver(u32, u32),
@@ -37,23 +37,51 @@ fn two(bytes: &[u8]) -> Result<(u32, u32, &[u8]), TokenFault>
     Ok((first, second, rest))
 }
 
+/// A line behind the word `lift`.
+fn lift(rest: &[u8]) -> Result<(ScriptLine, &[u8]), TokenFault>
+    ensures { Reads (λ x. (x.0, x.1.now)) result (lift_at rest.now) }
+{
+    let (worker, identifier, rest) = two(rest)?;
+    Ok((ScriptLine::Lift(worker, identifier), rest))
+}
+
+/// A line behind the word `deliver`.
+fn deliver(rest: &[u8]) -> Result<(ScriptLine, &[u8]), TokenFault>
+    ensures { Reads (λ x. (x.0, x.1.now)) result (deliver_at rest.now) }
+{
+    let (replica, number, rest) = two(rest)?;
+    Ok((ScriptLine::Deliver(replica, number), rest))
+}
+
+/// A line behind the word `restart`.
+fn restart(rest: &[u8]) -> Result<(ScriptLine, &[u8]), TokenFault>
+    ensures { Reads (λ x. (x.0, x.1.now)) result (restart_at rest.now) }
+{
+    let (worker, rest) = one(rest)?;
+    Ok((ScriptLine::Restart(worker), rest))
+}
+
+/// A line behind the word `central`.
+fn central(rest: &[u8]) -> Result<(ScriptLine, &[u8]), TokenFault>
+    ensures { Reads (λ x. (x.0, x.1.now)) result (central_at rest.now) }
+{
+    let (identifier, rest) = one(rest)?;
+    Ok((ScriptLine::Central(identifier), rest))
+}
+
 /// The line whose word was read; `front` begins with that word, and `rest` is behind it.
 #[tactic(auto, unfolding(crate::specs::Mirrors::ScriptScan::line_at))]
 fn line<'a>(front: &[u8], name: &[u8], rest: &'a [u8]) -> Result<(ScriptLine, &'a [u8]), TokenFault>
     ensures { Reads (λ x. (x.0, x.1.now)) result (line_at front.now name.now rest.now) }
 {
     if name == b"lift".as_slice() {
-        let (worker, identifier, rest) = two(rest)?;
-        Ok((ScriptLine::Lift(worker, identifier), rest))
+        lift(rest)
     } else if name == b"deliver".as_slice() {
-        let (replica, number, rest) = two(rest)?;
-        Ok((ScriptLine::Deliver(replica, number), rest))
+        deliver(rest)
     } else if name == b"restart".as_slice() {
-        let (worker, rest) = one(rest)?;
-        Ok((ScriptLine::Restart(worker), rest))
+        restart(rest)
     } else if name == b"central".as_slice() {
-        let (identifier, rest) = one(rest)?;
-        Ok((ScriptLine::Central(identifier), rest))
+        central(rest)
     } else {
         Err(unexpected(front))
     }

@@ -6,15 +6,16 @@ ghost use Rattle.pg_measure.specs.Games.{IsBoundsOf};
 ghost use Rattle.pg_measure.specs.Views.{measure_in};
 ghost use Rattle.pg_map.specs.Maps.{measure_at, IsNeverAbove};
 ghost use Rattle.pg_map.specs.Lines.{game_line};
+ghost use Rattle.pg_worker.specs.Cuts.{worker_of};
 ghost use Rattle.pg_world.specs.Updates.{update_value};
 ghost use Rattle.pg_world.specs.Worlds.{new_world, taken_of, IsMapOf, Lifts, Steps, taking, forgetting, cut_fault, refusal, IsRefusedBy, IsEventOf, Runs, StopsAt};
-ghost use Rattle.pg_world.specs.Mirrors.Kept.{IsNewReplica, worker_at};
+ghost use Rattle.pg_world.specs.Mirrors.Kept.{IsNewReplica, AreNewReplicas, worker_at};
 
 use crate::event::Event;
 use crate::fault::WorldFault;
 use crate::laws;
 use crate::part::part_of;
-use crate::room::{forget, make_room, note, push_in_room};
+use crate::room::{forget, make_room, note, push_in_room, replace};
 use pg_arena::{Game, Vertex};
 use pg_map::{MeasureMap, Update, View};
 use pg_measure::{Bounds, Measure};
@@ -35,6 +36,14 @@ pub struct World {
     taken: Vec<Vec<usize>>,
     coordinator: MeasureMap,
     workers: Vec<Worker>,
+}
+
+/// The replicas of a world, with what they took.
+#[derive(Drop)]
+struct Replicas {
+    coordinator: MeasureMap,
+    workers: Vec<Worker>,
+    taken: Vec<Vec<usize>>,
 }
 
 impl Model for World {
@@ -61,18 +70,16 @@ impl World {
         }
         laws::of_maps();
         let bounds = Bounds::of(alloc, &game)?;
-        let coordinator = MeasureMap::zero(alloc, game.len() as u32, &bounds)?;
-        let workers = workers_of(alloc, &game, &bounds, &cut)?;
-        let taken = nothing_taken(alloc, workers.len() + 1)?;
+        let replicas = replicas_of(alloc, &game, &bounds, &cut)?;
         Ok(World {
             alloc,
             game,
             bounds,
             cut,
             updates: Vec::new(alloc),
-            taken,
-            coordinator,
-            workers,
+            taken: replicas.taken,
+            coordinator: replicas.coordinator,
+            workers: replicas.workers,
         })
     }
 
@@ -168,6 +175,18 @@ impl World {
         if self.cut.worker_of(v) != worker {
             return Err(WorldFault::NotMine(worker, self.game.identifier(v)));
         }
+        self.lift_own(worker, v)
+    }
+
+    /// A worker lifts a vertex of its part.
+    fn lift_own(&mut self, worker: u32, v: Vertex) -> Result<(), WorldFault>
+        requires v { v < length self.old.game }
+        requires worker { (0 < worker) × (worker ≤ self.old.cut.workers) }
+        requires own { worker_of self.old.cut v ≡ worker }
+        ensures ok { OnOk result (Lifts self.old worker v self.new) }
+        ensures memory { IfErr result (λ fault. fault ≡ WorldFault.OutOfMemory) }
+        ensures same { OnErr result (self.new ≡ self.old) }
+    {
         laws::of_maps();
         let place = worker as usize;
         make_room(&mut self.updates, &mut self.taken, place)?;
@@ -248,7 +267,8 @@ impl World {
         }
         laws::of_maps();
         let place = worker as usize;
-        self.workers[place - 1] = part_of(self.alloc, &self.game, &self.bounds, &self.cut, worker)?;
+        let fresh = part_of(self.alloc, &self.game, &self.bounds, &self.cut, worker)?;
+        replace(&mut self.workers, place - 1, fresh);
         forget(&mut self.taken, place);
         Ok(())
     }
@@ -270,6 +290,28 @@ impl World {
         }
         Ok(())
     }
+}
+
+/// The replicas before anything happened.
+fn replicas_of(
+    alloc: Global,
+    game: &Game,
+    bounds: &Bounds,
+    cut: &Cut,
+) -> Result<Replicas, WorldFault>
+    requires bounds { IsBoundsOf game.now bounds.now }
+    requires cut { length cut.now.numbers ≡ length game.now }
+    ensures new { IfOk result (AreNewReplicas game.now bounds.now cut.now) }
+    ensures memory { IfErr result (λ fault. fault ≡ WorldFault.OutOfMemory) }
+{
+    let taken = nothing_taken(alloc, cut.workers() as usize + 1)?;
+    let workers = workers_of(alloc, game, bounds, cut)?;
+    let coordinator = MeasureMap::zero(alloc, game.len() as u32, bounds)?;
+    Ok(Replicas {
+        coordinator,
+        workers,
+        taken,
+    })
 }
 
 /// The workers with their parts.

@@ -1,15 +1,16 @@
 -- What a world keeps true of its replicas.
-use Rattle.std.specs.Prelude.{◌≡◌, ℕ, suc, ◌+◌, ◌<◌, ◌==◌, List, [], All, map, length, Option, None, slice_index_or, if◌then◌else◌}
-use Rattle.pg_arena.specs.Games.{GameVertex, IsGame}
+use Rattle.std.specs.Prelude.{◌≡◌, ℕ, suc, ◌+◌, ◌<◌, ◌≤◌, ◌==◌, List, [], All, map, length, set, replicate, Option, None, Some, slice_index_or, if◌then◌else◌}
+use Rattle.pg_arena.specs.Games.{GameVertex, IsGame, vertex_at}
 use Rattle.pg_measure.specs.Measures.{BoundList, Fits, AtMost}
 use Rattle.pg_measure.specs.Games.{IsBoundsOf}
-use Rattle.pg_map.specs.Lines.{Line, game_line}
+use Rattle.pg_map.specs.Lines.{Line, vertex_line, game_line}
 use Rattle.pg_map.specs.Maps.{MapValue, measure_at, zero_map, IsMap, IsClosed}
 use Rattle.pg_worker.specs.Cuts.{CutValue, worker_of}
 use Rattle.pg_worker.specs.Workers.{WorkerValue, new_worker, part_line}
 use Rattle.pg_map.specs.declared.update.Update.{Update}
 use Rattle.std.specs.declared.vec.Vec.{Vec}
 use Rattle.std.specs.declared.alloc.Global.{Global}
+use Rattle.pg_world.specs.declared.world.Replicas.{Replicas}
 use Rattle.pg_world.specs.Updates.{UpdateValue, update_value}
 use Rattle.pg_world.specs.Worlds.{WorldValue, taken_of, IsMapOf}
 
@@ -42,6 +43,18 @@ pub record IsNewReplica (game : List GameVertex) (bounds : BoundList) (cut : Cut
   pub lines : (v : ℕ) → part_line x.lines v ≡ line_of_part game cut r v
   pub map : x.map ≡ zero_map bounds (length game)
 
+-- x has the lines of the vertices before i, zeros, and room for a line of each vertex
+pub record IsPartBelow (game : List GameVertex) (bounds : BoundList) (cut : CutValue) (r i : ℕ) (x : WorkerValue) : Type 0 where
+  pub bounds_are : x.bounds ≡ bounds
+  pub map : x.map ≡ zero_map bounds (length game)
+  pub size : length x.lines ≡ length game
+  pub below : (v : ℕ) → v < i → part_line x.lines v ≡ line_of_part game cut r v
+  pub above : (v : ℕ) → i ≤ v → part_line x.lines v ≡ None
+
+-- the worker x, told of the vertex v of the game
+abbrev pub with_vertex : List GameVertex → ℕ → WorkerValue → WorkerValue
+with_vertex game v x = record x { lines = set x.lines v (Some (vertex_line (vertex_at game v))) }
+
 -- x holds the part and the map of the worker r
 pub record IsReplica (w : WorldValue) (r : ℕ) (x : WorkerValue) : Type 0 where
   pub bounds : x.bounds ≡ w.bounds
@@ -59,3 +72,11 @@ pub record AreReplicas (w : WorldValue) (coordinator : MapValue) (workers : List
   pub bounds : coordinator.bounds ≡ w.bounds
   pub map : IsMapOf w 0 coordinator.measures
   pub each : (k : ℕ) → k < length workers → IsReplica w (suc k) (worker_at workers k)
+
+-- the replicas of a world before anything happened
+pub record AreNewReplicas (game : List GameVertex) (bounds : BoundList) (cut : CutValue) (r : Replicas) : Type 0 where
+  pub count : length r.workers.items ≡ cut.workers
+  pub each : (k : ℕ) → k < length r.workers.items → IsNewReplica game bounds cut (suc k) (worker_at r.workers.items k)
+  pub bounds_are : r.coordinator.bounds ≡ bounds
+  pub zeros : r.coordinator.measures ≡ zero_map bounds (length game)
+  pub taken : map (λ t. t.items) r.taken.items ≡ replicate (1 + cut.workers) []

@@ -26,13 +26,26 @@ two_at bytes = do
   b ← one_at a.1
   Ok (a.0, b.0, b.1)
 
+-- what stands behind each word
+abbrev pub lift_at : List ℕ → Read (ScriptLine × List ℕ)
+lift_at rest = two_at rest >>= λ x. Ok (Lift x.0 x.1, x.2)
+
+abbrev pub deliver_at : List ℕ → Read (ScriptLine × List ℕ)
+deliver_at rest = two_at rest >>= λ x. Ok (Deliver x.0 x.1, x.2)
+
+abbrev pub restart_at : List ℕ → Read (ScriptLine × List ℕ)
+restart_at rest = one_at rest >>= λ x. Ok (Restart x.0, x.1)
+
+abbrev pub central_at : List ℕ → Read (ScriptLine × List ℕ)
+central_at rest = one_at rest >>= λ x. Ok (Central x.0, x.1)
+
 -- a line behind its word
 unfoldable pub line_at : List ℕ → List ℕ → List ℕ → Read (ScriptLine × List ℕ)
 line_at front name rest =
-    if bytes_eq name (codes "lift") then (two_at rest >>= λ x. Ok (Lift x.0 x.1, x.2))
-    else (if bytes_eq name (codes "deliver") then (two_at rest >>= λ x. Ok (Deliver x.0 x.1, x.2))
-    else (if bytes_eq name (codes "restart") then (one_at rest >>= λ x. Ok (Restart x.0, x.1))
-    else (if bytes_eq name (codes "central") then (one_at rest >>= λ x. Ok (Central x.0, x.1))
+    if bytes_eq name (codes "lift") then lift_at rest
+    else (if bytes_eq name (codes "deliver") then deliver_at rest
+    else (if bytes_eq name (codes "restart") then restart_at rest
+    else (if bytes_eq name (codes "central") then central_at rest
     else Err (unexpected front))))
 
 abbrev pub end_or : TokenFault → List ℕ → Read (Unit {0}) → Read (Option ScriptLine × List ℕ)

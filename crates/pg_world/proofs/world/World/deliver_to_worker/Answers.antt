@@ -11,7 +11,7 @@ use Rattle.pg_world.specs.Worlds.{WorldValue, IsMapOf, taking, forgetting}
 use Rattle.pg_world.specs.Mirrors.Kept.{viewed, IsReplica, IsNewReplica, AreReplicas, worker_at}
 use Rattle.pg_world.proofs.Running.{Laws, map_known, runs_more}
 use Rattle.pg_world.proofs.Replicas.{new_replicas, worker_forgets, map_shown}
-use Rattle.pg_world.proofs.Happening.{coordinator_delivered, worker_delivered, made_is, taken_is, view_taken, view_forgot, view_new}
+use Rattle.pg_world.proofs.Happening.{view_same, coordinator_delivered, worker_delivered, made_is, taken_is, view_taken, view_forgot, view_new}
 use Rattle.pg_world.proofs.world.World.deliver_to_worker.Goals as goal
 
 pub invariant_of-self-2 : goal.invariant_of-self-2
@@ -39,3 +39,9 @@ invariant_of-self-2 c =
     let view = view_taken c.self.inside.game c.self.inside.bounds c.self.inside.cut c.self.inside.updates.items us c.self.inside.taken.items c.make_room.new.taken.items c.note.new.taken.items c.args.worker c.args.number
     same_us c.in_ok-make_room.ensures.taken c.note.ensures in
     subst (λ (o : WorldValue). AreReplicas o c.self.inside.coordinator (set c.self.inside.workers.items k c.take-rose.new.self)) (sym view) kept
+
+pub invariant_of-self : goal.invariant_of-self
+invariant_of-self c =
+    let same = view_same c.self.inside.game c.self.inside.bounds c.self.inside.cut c.self.inside.updates.items c.make_room.new.updates.items
+    c.self.inside.taken.items c.make_room.new.taken.items c.in_err-make_room.ensures.updates c.in_err-make_room.ensures.taken in
+    subst (λ (o : WorldValue). AreReplicas o c.self.inside.coordinator c.self.inside.workers.items) (sym same) c.self.invariant

@@ -20,8 +20,9 @@ invariant_of-self c =
     let k : ℕ = c.args.worker - 1 in
     let within : k < length c.self.inside.workers.items = omega (arith, c.self.invariant.count, c.workers.ensures) in
     let at : c.args.worker ≡ suc k = omega arith in
-    let new : WorkerValue = c.in_ok-self-inside.field-0 in
-    let fresh : IsNewReplica w.game w.bounds w.cut (suc k) new = subst (λ (r : ℕ). IsNewReplica w.game w.bounds w.cut r new) at c.in_ok-self-inside.ensures in
+    let new : WorkerValue = c.in_ok-fresh.fresh in
+    let fresh : IsNewReplica w.game w.bounds w.cut (suc k) new = subst (λ (r : ℕ). IsNewReplica w.game w.bounds w.cut r new) at c.in_ok-fresh.ensures in
     let kept = worker_forgets c.of_maps.ensures.zero w c.self.inside.coordinator c.self.inside.workers.items k new c.self.invariant within fresh in
     let view = view_forgot c.self.inside.game c.self.inside.bounds c.self.inside.cut c.self.inside.updates.items c.self.inside.taken.items c.forget.new.taken.items c.args.worker c.forget.ensures in
-    subst (λ (o : WorldValue). AreReplicas o c.self.inside.coordinator (set c.self.inside.workers.items k new)) (sym (view ∙ ap (λ (r : ℕ). forgetting w r) at)) kept
+    subst (λ (ws : List WorkerValue). AreReplicas (viewed w.game w.bounds w.cut c.self.inside.updates.items c.forget.new.taken.items) c.self.inside.coordinator ws) (sym c.replace.ensures)
+    (subst (λ (o : WorldValue). AreReplicas o c.self.inside.coordinator (set c.self.inside.workers.items k new)) (sym (view ∙ ap (λ (r : ℕ). forgetting w r) at)) kept)
