@@ -1,6 +1,6 @@
 //! Vertices that are added to a part.
 
-ghost use Rattle.std.specs.Prelude.{◌≡◌, ◌↔◌, ℕ, true, ◌+◌, ◌^◌, ◌<◌, ◌≤◌, Some, length, sum_by, slice_set, All, AllPairs, IsSome, IfSome, IsTrue};
+ghost use Rattle.std.specs.Prelude.{◌≡◌, ◌↔◌, ℕ, true, ◌+◌, ◌^◌, ◌<◌, ◌≤◌, Some, length, sum_by, slice_set, All, AllPairs, IsSome, IfSome, IsTrue, OnOk, OnErr};
 ghost use Rattle.pg_arena.specs.declared.player.Player.TheVariants.{Odd};
 ghost use Rattle.pg_measure.specs.Measures.{width_from};
 ghost use Rattle.pg_wire.specs.Lines.{line_with};
@@ -12,15 +12,17 @@ ghost use Rattle.pg_worker.specs.Mirrors.Parts.{HasPlace, held_line};
 ghost use Rattle.pg_map.specs.Mirrors.Tables.{IsBest};
 ghost use Rattle.pg_worker.specs.Mirrors.Keeps.{Keeps, KeepsAt, AreSameBut, nothing};
 ghost use Rattle.pg_worker.specs.Mirrors.Notes.{AreNotes, HasRoom, IsSameSpan};
-ghost use Rattle.pg_worker.specs.Mirrors.Insides.{IsInside, IsNext, edge_count};
+ghost use Rattle.pg_worker.specs.Mirrors.Insides.{IsInside, IsNext, AreAsBefore, HaveRoom, edge_count};
 
 use crate::asked::{is_front_below, owner, priority, serves};
+use crate::edges::Edges;
 use crate::notes::Notes;
 use crate::part::Part;
 use pg_arena::{Player, Vertex};
 use pg_map::{Lines, MeasureMap};
 use pg_measure::Bounds;
 use pg_wire::{LineHead, VertexLine};
+use std::alloc::AllocError;
 
 /// The successor whose measure is greatest in the components of priorities at least that of the vertex.
 #[inline(always)]
@@ -160,6 +162,29 @@ pub(crate) fn add_lines(
         add_line(map, part, notes, head, line.successors.as_slice());
         *next = u64::from(line.vertex) + 1;
     }
+}
+
+/// Makes room for lines of vertices from the one to the other, with so many successors in all.
+pub(crate) fn make_room(
+    edges: &mut Edges,
+    notes: &mut Notes,
+    part: &mut Part,
+    from: u32,
+    to: u32,
+    count: usize,
+) -> Result<(), AllocError>
+    requires first { part.old.first ≤ from }
+    requires from { from < length part.old.lines }
+    requires note_first { 0 < notes.old.span.size → notes.old.span.first ≤ from }
+    requires note_from { from < length notes.old.waits }
+    ensures same { AreAsBefore part.old part.new edges.old edges.new notes.old notes.new }
+    ensures first { OnErr result (part.new.first ≡ part.old.first) }
+    ensures room { OnOk result (HaveRoom part.new edges.new notes.new from to count) }
+{
+    let all = part.edges().checked_add(count).ok_or(AllocError)?;
+    edges.reserve(all)?;
+    notes.reserve(from, to)?;
+    part.reserve(from, to, count)
 }
 
 /// How many edges the lines have; none where a number can't hold it.

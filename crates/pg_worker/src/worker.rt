@@ -13,7 +13,7 @@ ghost use Rattle.pg_worker.specs.Mirrors.Insides.{AreReady};
 ghost use Rattle.pg_worker.specs.Mirrors.Parts.{held_line};
 ghost use Rattle.pg_worker.specs.Workers.{part_line, new_worker, with_lines, AreAbove, FitsGame, IsWorker, RefusesLines, CanTake, Takes, Lifts, IsTurn, IsListedTurn, sparse_measure};
 
-use crate::adding::{add_line, add_lines, are_from, count_edges, fit_game, fits_line};
+use crate::adding::{add_line, add_lines, are_from, count_edges, fit_game, fits_line, make_room};
 use crate::edges::Edges;
 use crate::lifting::{lift_one, lift_some, lift_turn, receive};
 use crate::listing::Listing;
@@ -132,10 +132,14 @@ impl Worker {
         let from = lines[0].vertex;
         let to = lines[lines.len() - 1].vertex;
         let count = count_edges(lines).ok_or(AllocError)?;
-        let all = self.part.edges().checked_add(count).ok_or(AllocError)?;
-        self.edges.reserve(all)?;
-        self.notes.reserve(from, to)?;
-        self.part.reserve(from, to, count)?;
+        make_room(
+            &mut self.edges,
+            &mut self.notes,
+            &mut self.part,
+            from,
+            to,
+            count,
+        )?;
         self.edges.is_gathered = false;
         add_lines(
             &self.map,
@@ -172,10 +176,14 @@ impl Worker {
             return Err(WorkerFault::BadUpdate);
         }
         let count = successors.len();
-        let all = self.part.edges().checked_add(count).ok_or(AllocError)?;
-        self.edges.reserve(all)?;
-        self.notes.reserve(vertex, vertex)?;
-        self.part.reserve(vertex, vertex, count)?;
+        make_room(
+            &mut self.edges,
+            &mut self.notes,
+            &mut self.part,
+            vertex,
+            vertex,
+            count,
+        )?;
         self.edges.is_gathered = false;
         add_line(&self.map, &mut self.part, &mut self.notes, head, successors);
         self.next = u64::from(vertex) + 1;

@@ -4,9 +4,9 @@ use Rattle.pg_map.specs.Lines.{AreWithin}
 use Rattle.pg_map.specs.Maps.{MapValue}
 use Rattle.pg_wire.specs.declared.frame.VertexLine.{VertexLine}
 use Rattle.pg_worker.specs.declared.edges.Edges.{Edges}
-use Rattle.pg_worker.specs.Mirrors.Parts.{PartValue, held_line}
+use Rattle.pg_worker.specs.Mirrors.Parts.{PartValue, HasPlace, held_line}
 use Rattle.pg_worker.specs.Mirrors.Keeps.{IsKept}
-use Rattle.pg_worker.specs.Mirrors.Notes.{NotesValue, AreNotes}
+use Rattle.pg_worker.specs.Mirrors.Notes.{NotesValue, AreNotes, AreSameNotes, HasRoom}
 use Rattle.pg_worker.specs.Mirrors.Edges.{IsRight, edges_of}
 
 pub record IsInside (part : PartValue) (map : MapValue) (notes : NotesValue) : Type 0 where
@@ -41,3 +41,21 @@ pub record IsWhole (part : PartValue) (map : MapValue) (edges : Edges) (notes : 
   pub note_first : 0 < notes.span.size → notes.span.first ≤ next
   pub listed : listings ≡ length map.measures
   pub clear : row ≡ replicate (length map.bounds) 0
+
+-- a part, edges and notes that were given room hold what they held
+pub record AreAsBefore (part part' : PartValue) (edges edges' : Edges) (notes notes' : NotesValue) : Type 0 where
+  pub lines : part'.lines ≡ part.lines
+  pub count : part'.edges ≡ part.edges
+  pub starts : edges'.starts.items ≡ edges.starts.items
+  pub sources : edges'.sources.items ≡ edges.sources.items
+  pub gathered : edges'.is_gathered ≡ edges.is_gathered
+  pub more : vec_capacity edges.sources ≤ vec_capacity edges'.sources
+  pub noted : AreSameNotes notes notes'
+
+-- there is room for lines of vertices from the one to the other, with so many successors in all
+pub record HaveRoom (part : PartValue) (edges : Edges) (notes : NotesValue) (from to count : ℕ) : Type 0 where
+  pub few : part.edges + count < 2 ^ 32
+  pub sources : part.edges + count ≤ vec_capacity edges.sources
+  pub targets : part.edges + count ≤ part.room
+  pub places : (v : ℕ) → from ≤ v → v ≤ to → HasPlace part v
+  pub labels : (v : ℕ) → from ≤ v → v ≤ to → HasRoom notes.span v

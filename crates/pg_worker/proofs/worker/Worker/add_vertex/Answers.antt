@@ -1,4 +1,4 @@
-use Rattle.std.proofs.Common.{rules, ◌<◌, ◌≤◌, ◌+◌, ◌∷◌, [], ◌∙◌, length, refl, ap, arith}
+use Rattle.std.proofs.Common.{rules, ◌<◌, ◌≤◌, ◌+◌, ◌∷◌, [], ◌∙◌, length, ap, arith}
 use Rattle.pg_wire.specs.declared.frame.VertexLine.{VertexLine}
 use Rattle.pg_wire.specs.Lines.{line_with}
 use Rattle.pg_worker.specs.Workers.{told_line, FitsGame}
@@ -7,29 +7,23 @@ use Rattle.pg_worker.proofs.Working.{above_next, next_above, next_after, whole_s
 use Rattle.pg_worker.proofs.Growing.{only}
 use Rattle.pg_worker.proofs.worker.Worker.add_vertex.Goals as goal
 
-pub invariant_of-self-in_err-reserve-2 : goal.invariant_of-self-in_err-reserve-2
-invariant_of-self-in_err-reserve-2 c =
+pub invariant_of-self : goal.invariant_of-self
+invariant_of-self c =
     let w = c.self.inside in
-    let e = c.reserve.ensures in
-    whole_same w.part w.part w.map w.edges c.reserve.new.self w.notes c.reserve-2.new.self w.next w.lifted.count w.row.items refl refl refl e.starts e.sources e.gathered e.more c.in_err-reserve-2.ensures.same c.self.invariant
-
-pub invariant_of-self-in_err-reserve-3 : goal.invariant_of-self-in_err-reserve-3
-invariant_of-self-in_err-reserve-3 c =
-    let w = c.self.inside in
-    let e = c.reserve.ensures in
-    whole_same w.part c.reserve-3.new.self w.map w.edges c.reserve.new.self w.notes c.reserve-2.new.self w.next w.lifted.count w.row.items c.reserve-3.ensures.lines c.reserve-3.ensures.edges c.in_err-reserve-3.ensures.first
-    e.starts e.sources e.gathered e.more c.reserve-2.ensures.same c.self.invariant
+    let e = c.make_room.ensures.same in
+    whole_same w.part c.make_room.new.part w.map w.edges c.make_room.new.edges w.notes c.make_room.new.notes w.next w.lifted.count w.row.items e.lines e.count c.in_err-make_room.ensures.first
+    e.starts e.sources e.gathered e.more e.noted c.self.invariant
 
 pub add_line-requires-clause-inside : goal.add_line-requires-clause-inside
 add_line-requires-clause-inside c =
     let w = c.self.inside in
-    inside_same w.part c.reserve-3.new.self w.map w.notes c.reserve-2.new.self c.reserve-3.ensures.lines c.reserve-3.ensures.edges c.reserve-2.ensures.same c.self.invariant.inside
+    inside_same w.part c.make_room.new.part w.map w.notes c.make_room.new.notes c.make_room.ensures.same.lines c.make_room.ensures.same.count c.make_room.ensures.same.noted c.self.invariant.inside
 
 pub add_line-requires-clause-place : goal.add_line-requires-clause-place
-add_line-requires-clause-place c = c.in_ok-reserve-3.ensures.places c.args.head.vertex (omega arith) (omega arith)
+add_line-requires-clause-place c = c.in_ok-make_room.ensures.room.places c.args.head.vertex (omega arith) (omega arith)
 
 pub add_line-requires-clause-note : goal.add_line-requires-clause-note
-add_line-requires-clause-note c = c.in_ok-reserve-2.ensures.room c.args.head.vertex (omega arith) (omega arith)
+add_line-requires-clause-note c = c.in_ok-make_room.ensures.room.labels c.args.head.vertex (omega arith) (omega arith)
 
 pub returns-then-from-self-clause-refused : goal.returns-then-from-self-clause-refused
 returns-then-from-self-clause-refused c = λ above.
@@ -59,15 +53,15 @@ invariant_of-self-2 c =
     let w = c.self.inside in
     let l = line_with c.args.head c.args.successors.now in
     let v = c.args.head.vertex in
-    let part = c.reserve-3.new.self in
+    let part = c.make_room.new.part in
     let part' = c.add_line.new.part in
     let from : w.next ≤ v = let a = c.if-from-self.false in let b = c.from.ensures in omega arith in
     let fit : FitsGame c.bounds.result.now c.len-count.result l = c.fits_line.ensures.0 c.if-not-fits_line.false in
-    let lt : v < length part.lines = let a = fit.vertex in let b = c.len-count.ensures.value in let s = c.self.invariant.inside.size in let e = ap length c.reserve-3.ensures.lines in omega arith in
-    let next : IsNext part' (v + 1) = next_after part part' v w.next (told_line l) c.add_line.ensures.lines lt from (next_same w.part part w.next c.reserve-3.ensures.lines c.self.invariant.above) in
-    let place = c.in_ok-reserve-3.ensures.places v (omega arith) (omega arith) in
-    let room = c.in_ok-reserve-2.ensures.room v (omega arith) (omega arith) in
-    let e = c.reserve.ensures in
+    let lt : v < length part.lines = let a = fit.vertex in let b = c.len-count.ensures.value in let s = c.self.invariant.inside.size in let e = ap length c.make_room.ensures.same.lines in omega arith in
+    let next : IsNext part' (v + 1) = next_after part part' v w.next (told_line l) c.add_line.ensures.lines lt from (next_same w.part part w.next c.make_room.ensures.same.lines c.self.invariant.above) in
+    let place = c.in_ok-make_room.ensures.room.places v (omega arith) (omega arith) in
+    let room = c.in_ok-make_room.ensures.room.labels v (omega arith) (omega arith) in
+    let e = c.make_room.ensures.same in
     rw c.from-2.ensures record {
       inside = c.add_line.ensures.inside;
       ready = record {

@@ -1,4 +1,4 @@
-use Rattle.std.proofs.Common.{◌≡◌, ◌<◌, ◌≤◌, ◌+◌, ◌-◌, ℕ, List, length, get_or, ap, refl, inl, inr, arith}
+use Rattle.std.proofs.Common.{rules, ◌≡◌, ◌<◌, ◌≤◌, ◌+◌, ◌-◌, ◌∙◌, ℕ, List, length, get_or, ap, inl, inr, arith}
 use Rattle.std.specs.Prelude.{AllPairs}
 use Rattle.std.proofs.lemmas.Bool.{cases_eq}
 use Rattle.std.proofs.lemmas.List.{get_or_default}
@@ -12,26 +12,20 @@ returns-then-not-are_from-clause-refused c = λ above.
     let all = above_next w.part w.next c.args.lines.now c.self.invariant.above (rw (← c.self.view_is) at above) in
     absurd (cc (c.if-not-are_from.true, c.are_from.ensures.1 all))
 
-pub invariant_of-self-in_err-reserve-2 : goal.invariant_of-self-in_err-reserve-2
-invariant_of-self-in_err-reserve-2 c =
+pub invariant_of-self : goal.invariant_of-self
+invariant_of-self c =
     let w = c.self.inside in
-    let e = c.reserve.ensures in
-    whole_same w.part w.part w.map w.edges c.reserve.new.self w.notes c.reserve-2.new.self w.next w.lifted.count w.row.items refl refl refl e.starts e.sources e.gathered e.more c.in_err-reserve-2.ensures.same c.self.invariant
-
-pub invariant_of-self-in_err-reserve-3 : goal.invariant_of-self-in_err-reserve-3
-invariant_of-self-in_err-reserve-3 c =
-    let w = c.self.inside in
-    let e = c.reserve.ensures in
-    whole_same w.part c.reserve-3.new.self w.map w.edges c.reserve.new.self w.notes c.reserve-2.new.self w.next w.lifted.count w.row.items c.reserve-3.ensures.lines c.reserve-3.ensures.edges c.in_err-reserve-3.ensures.first
-    e.starts e.sources e.gathered e.more c.reserve-2.ensures.same c.self.invariant
+    let e = c.make_room.ensures.same in
+    whole_same w.part c.make_room.new.part w.map w.edges c.make_room.new.edges w.notes c.make_room.new.notes w.next w.lifted.count w.row.items e.lines e.count c.in_err-make_room.ensures.first
+    e.starts e.sources e.gathered e.more e.noted c.self.invariant
 
 pub add_lines-requires-clause-inside : goal.add_lines-requires-clause-inside
 add_lines-requires-clause-inside c =
     let w = c.self.inside in
-    inside_same w.part c.reserve-3.new.self w.map w.notes c.reserve-2.new.self c.reserve-3.ensures.lines c.reserve-3.ensures.edges c.reserve-2.ensures.same c.self.invariant.inside
+    inside_same w.part c.make_room.new.part w.map w.notes c.make_room.new.notes c.make_room.ensures.same.lines c.make_room.ensures.same.count c.make_room.ensures.same.noted c.self.invariant.inside
 
 pub add_lines-requires-clause-next : goal.add_lines-requires-clause-next
-add_lines-requires-clause-next c = next_same c.self.inside.part c.reserve-3.new.self c.self.inside.next c.reserve-3.ensures.lines c.self.invariant.above
+add_lines-requires-clause-next c = next_same c.self.inside.part c.make_room.new.part c.self.inside.next c.make_room.ensures.same.lines c.self.invariant.above
 
 -- lines that rise are from the first to the last
 from_first : (ls : List VertexLine) (d e : VertexLine) (k : ℕ) → AllPairs (λ l m. l.vertex < m.vertex) ls → k < length ls → (get_or ls 0 e).vertex ≤ (get_or ls k d).vertex
@@ -53,13 +47,33 @@ to_last ls d e k n rising lt size =
 pub add_lines-requires-clause-places : goal.add_lines-requires-clause-places
 add_lines-requires-clause-places c = λ k d lt.
     let ls = c.args.lines.now in
-    c.in_ok-reserve-3.ensures.places (get_or ls k d).vertex
+    c.in_ok-make_room.ensures.room.places (get_or ls k d).vertex
     (from_first ls d c.index-lines-0.result k c.requires.rising lt)
     (to_last ls d c.index-lines-lines.result k (length ls - 1) c.requires.rising lt (omega arith))
 
 pub add_lines-requires-clause-notes : goal.add_lines-requires-clause-notes
 add_lines-requires-clause-notes c = λ k d lt.
     let ls = c.args.lines.now in
-    c.in_ok-reserve-2.ensures.room (get_or ls k d).vertex
+    c.in_ok-make_room.ensures.room.labels (get_or ls k d).vertex
     (from_first ls d c.index-lines-0.result k c.requires.rising lt)
     (to_last ls d c.index-lines-lines.result k (length ls - 1) c.requires.rising lt (omega arith))
+
+pub invariant_of-self-2 : goal.invariant_of-self-2
+invariant_of-self-2 c =
+    let e = c.make_room.ensures.same in
+    let added = c.add_lines.ensures in
+    let some : 0 < length c.args.lines.now = search rules in
+    record {
+      inside = added.inside;
+      ready = record {
+        size = ap length e.starts ∙ c.self.invariant.ready.size;
+        few = search rules;
+        room = search rules;
+        right = λ q. absurd (cc q);
+      };
+      above = added.next;
+      first = added.first some;
+      note_first = λ has. added.note_first some;
+      listed = c.self.invariant.listed;
+      clear = c.self.invariant.clear;
+    }
