@@ -165,6 +165,7 @@ pub(crate) fn add_lines(
 }
 
 /// Makes room for lines of vertices from the one to the other, with so many successors in all.
+#[inline(always)]
 pub(crate) fn make_room(
     edges: &mut Edges,
     notes: &mut Notes,
