@@ -1,4 +1,4 @@
-use Rattle.std.proofs.Common.{◌≡◌, ◌≤◌, ◌⊎◌, ℕ, arith, inr, Option, Some, None, IfSome, Result, Ok, Err, IfErr, unwrap_or}
+use Rattle.std.proofs.Common.{◌≡◌, ◌≤◌, ◌⊎◌, ℕ, List, [], ◌∷◌, All, length, arith, absurd, refl, inr, Option, Some, None, IfSome, Result, Ok, Err, IfErr, unwrap_or}
 use Rattle.pg_cli.specs.declared.fault.CliFault.{CliFault}
 use Rattle.pg_cli.specs.declared.fault.CliFault.TheVariants.{Listen}
 use Rattle.pg_cli.specs.Measuring.{IsClosedMapOf}
@@ -6,9 +6,17 @@ use Rattle.pg_cli.specs.Answers.{RefusesBy}
 use Rattle.pg_cli.specs.Words.{workers_of}
 use Rattle.pg_cli.proofs.apart.run_apart.Goals as goal
 
-few_or : (workers : Option ℕ) (other : ℕ) → other ≤ 16 → IfSome workers (λ n. n ≤ 16) → unwrap_or workers other ≤ 16
-few_or None other is few = is
-few_or (Some n) other is few = few
+few_or_none : (workers : Option ℕ) → IfSome workers (λ n. n ≤ 16) → unwrap_or workers 0 ≤ 16
+few_or_none None few = omega arith
+few_or_none (Some n) few = few
+
+none_or_none : (workers : Option ℕ) → IfSome workers (λ n. n ≡ 0) → unwrap_or workers 0 ≡ 0
+none_or_none None none = refl
+none_or_none (Some n) none = none
+
+all_of_none : {X : Type 0} (P : X → Type 0) (xs : List X) → length xs ≡ 0 → All P xs
+all_of_none P [] none = tt
+all_of_none P (x ∷ xs) none = absurd (omega arith)
 
 or_listening : (P : CliFault → Type 0) (result : Result (Unit {0}) CliFault) → IfErr result P
     → IfErr result (λ fault. (fault ≡ Listen) ⊎ P fault)
@@ -17,8 +25,20 @@ or_listening P (Err fault) why = inr why
 
 pub run_with-ran-requires : goal.run_with-ran-requires
 run_with-ran-requires g c =
-    let few : c.unwrap_or.result ≤ 16 = rw c.unwrap_or.ensures (rw c.workers.ensures (few_or (workers_of c.args.command) _ (omega arith) c.requires)) in
+    let few : c.unwrap_or.result ≤ 16 = rw c.unwrap_or.ensures (rw c.workers.ensures (few_or_none (workers_of c.args.command) c.requires)) in
     rw c.as_mut_slice.ensures.value (rw c.in_ok-links.ensures.ok few)
+
+pub returns-clause-alone_answer : goal.returns-clause-alone_answer
+returns-clause-alone_answer g c = λ none.
+    let zero : c.unwrap_or.result ≡ 0 = rw c.unwrap_or.ensures (rw c.workers.ensures (none_or_none (workers_of c.args.command) none)) in
+    c.run_with-ran.ensures.honest_answer
+    (all_of_none _ _ (rw c.as_mut_slice.ensures.value (rw c.in_ok-links.ensures.ok zero)))
+
+pub returns-clause-alone_refused : goal.returns-clause-alone_refused
+returns-clause-alone_refused g c = λ none.
+    let zero : c.unwrap_or.result ≡ 0 = rw c.unwrap_or.ensures (rw c.workers.ensures (none_or_none (workers_of c.args.command) none)) in
+    c.run_with-ran.ensures.honest_refused
+    (all_of_none _ _ (rw c.as_mut_slice.ensures.value (rw c.in_ok-links.ensures.ok zero)))
 
 pub returns-clause-refused : goal.returns-clause-refused
 returns-clause-refused g c =
