@@ -1,6 +1,6 @@
 //! Whose a connection is, by the tables of the system.
 
-use std::alloc::Global;
+use std::alloc::{AllocError, Global};
 use std::fs::{self, Files};
 use std::io::{self, BufRead, BufReader, ErrorKind};
 
@@ -10,22 +10,47 @@ const MOST_PROGRAMS: usize = 64;
 /// How many descriptors of a program are looked at.
 const MOST_DESCRIPTORS: u32 = 1024;
 
-/// The name of the socket at the port `from` of 127.0.0.1 that is connected to the port `to` there, if there is one.
-fn socket_of<R: Files>(rt: &R, alloc: Global, from: u16, to: u16) -> io::Result<Option<String>> {
-    let local = format!(in alloc; "0100007F:{from:04X}")?;
-    let remote = format!(in alloc; "0100007F:{to:04X}")?;
+/// The address and the port that a row of the table has for a port of 127.0.0.1.
+fn end_at(alloc: Global, port: u16) -> Result<String, AllocError> {
+    format!(in alloc; "0100007F:{port:04X}")
+}
+
+/// Whether a row of the table is that of the socket between these two ends.
+fn is_between(row: &str, local: &str, remote: &str) -> bool {
+    let mut fields = row.split_ascii_whitespace().skip(1);
+    fields.next() == Some(local) && fields.next() == Some(remote)
+}
+
+/// The name of the socket that a row of the table is of, if the row has one.
+fn name_in(alloc: Global, row: &str) -> Result<Option<String>, AllocError> {
+    match row.split_ascii_whitespace().nth(9) {
+        Some(number) => Ok(Some(format!(in alloc; "socket:[{number}]")?)),
+        None => Ok(None),
+    }
+}
+
+/// The name of the socket between these two ends, if there is one.
+fn socket_between<R: Files>(
+    rt: &R,
+    alloc: Global,
+    local: &str,
+    remote: &str,
+) -> io::Result<Option<String>> {
     let table = BufReader::new(alloc, fs::open(rt, "/proc/net/tcp")?)?;
     for line in table.lines(alloc) {
         let line = line?;
-        let mut fields = line.as_str().split_ascii_whitespace().skip(1);
-        if fields.next() == Some(local.as_str()) && fields.next() == Some(remote.as_str()) {
-            let Some(number) = fields.nth(6) else {
-                return Ok(None);
-            };
-            return Ok(Some(format!(in alloc; "socket:[{number}]")?));
+        if is_between(line.as_str(), local, remote) {
+            return Ok(name_in(alloc, line.as_str())?);
         }
     }
     Ok(None)
+}
+
+/// The name of the socket at the port `from` of 127.0.0.1 that is connected to the port `to` there, if there is one.
+fn socket_of<R: Files>(rt: &R, alloc: Global, from: u16, to: u16) -> io::Result<Option<String>> {
+    let local = end_at(alloc, from)?;
+    let remote = end_at(alloc, to)?;
+    socket_between(rt, alloc, local.as_str(), remote.as_str())
 }
 
 /// Whether a program holds the socket.

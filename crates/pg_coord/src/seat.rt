@@ -3,7 +3,7 @@
 use pg_wire::ValueKind;
 
 /// What the coordinator keeps of a link.
-#[derive(Clone, Copy, Debug, PartialEq, Eq)]
+#[derive(Clone, Copy)]
 pub struct Seat {
     /// Whether the link takes part.
     pub in_use: bool,

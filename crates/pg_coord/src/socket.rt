@@ -80,23 +80,53 @@ impl<R: Reach> SocketLink<R> {
         self.program.is_some()
     }
 
+    /// The listener that no program has connected to yet, or a new one.
+    fn take_listener(&mut self) -> io::Result<R::Listener>
+        ensures { self.new ≡ self.old }
+    {
+        match self.listener.take() {
+            Some(listener) => Ok(listener),
+            None => listen_anywhere(&self.rt),
+        }
+    }
+
+    /// Takes the stream to the program that was just started.
+    fn connect(&mut self, accepted: io::Result<R::Stream>) -> io::Result<()>
+        ensures ok { OnOk result (self.new ≡ record self.old { is_connected = true }) }
+        ensures program { self.new.has_program ≡ self.old.has_program }
+        ensures failures { self.new.failures ≡ self.old.failures }
+    {
+        let alloc = *self.path.allocator();
+        let clock = self.rt.clone()?;
+        self.connection = Some(Connection::new(alloc, clock, accepted?)?);
+        Ok(())
+    }
+
+    /// Starts the program, which is to connect to the listener.
+    fn spawn_for(&self, listener: &R::Listener) -> io::Result<Child<R::Started>> {
+        let port = listener.local_addr()?.port();
+        spawn(&self.rt, *self.path.allocator(), self.path.as_str(), port)
+    }
+
+    /// Starts the program, which is to connect to the listener, and waits for that.
+    fn start_for(&mut self, listener: &R::Listener) -> io::Result<()>
+        ensures ok { OnOk result (self.new ≡ record self.old { has_program = true; is_connected = true }) }
+        ensures failures { self.new.failures ≡ self.old.failures }
+    {
+        let alloc = *self.path.allocator();
+        let mut program = self.spawn_for(listener)?;
+        let accepted = accept_from(&self.rt, alloc, listener, &mut program);
+        self.program = Some(program);
+        self.connect(accepted)
+    }
+
     /// Starts the program, and waits for its connection.
     fn start(&mut self) -> io::Result<()>
         ensures ok { OnOk result (self.new ≡ record self.old { has_program = true; is_connected = true }) }
         ensures failures { self.new.failures ≡ self.old.failures }
     {
-        let alloc = *self.path.allocator();
-        let listener = match self.listener.take() {
-            Some(listener) => listener,
-            None => listen_anywhere(&self.rt)?,
-        };
-        let port = listener.local_addr()?.port();
-        let mut program = spawn(&self.rt, alloc, self.path.as_str(), port)?;
-        let accepted = accept_from(&self.rt, alloc, &listener, &mut program);
-        self.program = Some(program);
-        let clock = self.rt.clone()?;
-        self.connection = Some(Connection::new(alloc, clock, accepted?)?);
-        Ok(())
+        let listener = self.take_listener()?;
+        self.start_for(&listener)
     }
 
     /// Kills the program, if there is one that runs, and waits for it. The connection stays.

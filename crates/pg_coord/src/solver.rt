@@ -130,6 +130,89 @@ fn make_rounds<L: Link>(
     }
 }
 
+/// Sets the links up and makes rounds over them, as `make_rounds` does.
+fn seat_and_run<L: Link>(
+    task: &Task<'_>,
+    links: &mut [L],
+    seats: &mut [Seat],
+    board: &mut Board,
+    row: &mut [u32],
+    most_rises: u64,
+) -> Result<u64, Stop>
+    requires seats { length seats.old ≡ length links.old }
+    requires few { length links.old < 2 ^ 32 }
+    requires bounds { board.old.map.bounds ≡ task.now.bounds }
+    requires size { length board.old.map.measures ≡ length task.now.game }
+    requires row { length row.old ≡ length task.now.bounds }
+    ensures bounds { board.new.map.bounds ≡ task.now.bounds }
+    ensures map { OnOk result (IsMap board.new.map.bounds (length task.now.game) board.new.map.measures) }
+    ensures closed { OnOk result (IsClosed board.new.map.bounds (game_line task.now.game) board.new.map.measures) }
+    ensures rounds { IfOk result (λ n. (1 ≤ n)
+        × (n ≤ 1 + map_weight board.old.map.bounds board.old.map.measures)) }
+    ensures least { OnOk result (All L.is_honest links.old
+        → ((h : MapValue) → IsClosedMap task.now h → MapAtMost board.old.map.measures h.measures)
+        → (h : MapValue) → IsClosedMap task.now h → MapAtMost board.new.map.measures h.measures) }
+    ensures honest { OnOk result (All L.is_honest links.old → All L.is_honest links.new) }
+    ensures limit { result ≡ Err Stop.Limit → All L.is_honest links.old → All L.is_honest links.new }
+    ensures limited { result ≡ Err Stop.Limit → most_rises + 1 < 2 ^ 64 }
+    ensures told { IfOk result (λ n. (replies : ℕ → List Reply)
+        → TellReplies L.told task.now.bounds task.now.cut links.old replies
+        → ((h : MapValue) → IsClosedMap task.now h → MapAtMost board.old.map.measures h.measures)
+        → IsLeastOverReplies (game_line task.now.game) n (length links.old) replies board.new.map) }
+{
+    let mut buffer = Vec::new(task.alloc());
+    seat_all(task, links, seats, &mut buffer)?;
+    make_rounds(task, links, seats, board, &mut buffer, row, most_rises)
+}
+
+/// How many rounds, restarts of links and links given up there were.
+#[derive(Drop)]
+struct Counts {
+    rounds: u64,
+    restarts: u64,
+    abandoned: u64,
+}
+
+/// Makes rounds over links that weren't set up yet, as `make_rounds` does.
+fn run<L: Link>(
+    task: &Task<'_>,
+    links: &mut [L],
+    board: &mut Board,
+    most_rises: u64,
+) -> Result<Counts, Stop>
+    requires few { length links.old < 2 ^ 32 }
+    requires bounds { board.old.map.bounds ≡ task.now.bounds }
+    requires size { length board.old.map.measures ≡ length task.now.game }
+    ensures bounds { board.new.map.bounds ≡ task.now.bounds }
+    ensures map { OnOk result (IsMap board.new.map.bounds (length task.now.game) board.new.map.measures) }
+    ensures closed { OnOk result (IsClosed board.new.map.bounds (game_line task.now.game) board.new.map.measures) }
+    ensures rounds { IfOk result (λ c. (1 ≤ c.rounds)
+        × (c.rounds ≤ 1 + map_weight board.old.map.bounds board.old.map.measures)) }
+    ensures least { OnOk result (All L.is_honest links.old
+        → ((h : MapValue) → IsClosedMap task.now h → MapAtMost board.old.map.measures h.measures)
+        → (h : MapValue) → IsClosedMap task.now h → MapAtMost board.new.map.measures h.measures) }
+    ensures honest { OnOk result (All L.is_honest links.old → All L.is_honest links.new) }
+    ensures limit { result ≡ Err Stop.Limit → All L.is_honest links.old → All L.is_honest links.new }
+    ensures limited { result ≡ Err Stop.Limit → most_rises + 1 < 2 ^ 64 }
+    ensures told { IfOk result (λ c. (replies : ℕ → List Reply)
+        → TellReplies L.told task.now.bounds task.now.cut links.old replies
+        → ((h : MapValue) → IsClosedMap task.now h → MapAtMost board.old.map.measures h.measures)
+        → IsLeastOverReplies (game_line task.now.game) c.rounds (length links.old) replies board.new.map) }
+{
+    let mut cells = vec![in task.alloc(); 0; task.width() as usize]?;
+    let row = cells.as_mut_slice();
+    let mut places = vec![in task.alloc(); EMPTY; links.len()]?;
+    let seats = places.as_mut_slice();
+    match seat_and_run(task, links, seats, board, row, most_rises) {
+        Ok(rounds) => Ok(Counts {
+            rounds,
+            restarts: restarts(seats),
+            abandoned: abandoned(seats),
+        }),
+        Err(stop) => Err(stop),
+    }
+}
+
 /// Solves a task over links, where it is known that each closed map has top at some vertices.
 fn work<L: Link>(
     task: &Task<'_>,
@@ -154,18 +237,12 @@ fn work<L: Link>(
 {
     let mut board = Board::new(task)?;
     start_at(&mut board, tops);
-    let mut buffer = Vec::new(task.alloc());
-    let mut cells = vec![in task.alloc(); 0; task.width() as usize]?;
-    let row = cells.as_mut_slice();
-    let mut places = vec![in task.alloc(); EMPTY; links.len()]?;
-    let seats = places.as_mut_slice();
-    seat_all(task, links, seats, &mut buffer)?;
-    match make_rounds(task, links, seats, &mut board, &mut buffer, row, most_rises) {
-        Ok(rounds) => Ok(Solved {
+    match run(task, links, &mut board, most_rises) {
+        Ok(counts) => Ok(Solved {
             map: board.map,
-            rounds,
-            restarts: restarts(seats),
-            abandoned: abandoned(seats),
+            rounds: counts.rounds,
+            restarts: counts.restarts,
+            abandoned: counts.abandoned,
         }),
         Err(stop) => Err(stop),
     }

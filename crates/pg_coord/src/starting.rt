@@ -27,6 +27,20 @@ pub fn listen_anywhere<R: Reach>(rt: &R) -> io::Result<R::Listener> {
     Ok(listener)
 }
 
+/// Gives a command the words `worker --port P`.
+fn give_words(command: &mut Command, port: &str) -> io::Result<()> {
+    command.arg("worker")?.arg("--port")?.arg(port)?;
+    Ok(())
+}
+
+/// The command `PATH worker --port P`.
+fn worker_command(alloc: Global, path: &str, port: u16) -> io::Result<Command> {
+    let port = port.to_string(alloc)?;
+    let mut command = Command::new(alloc, path)?;
+    give_words(&mut command, port.as_str())?;
+    Ok(command)
+}
+
 /// Starts `PATH worker --port P`. It reads nothing, and what it prints goes nowhere.
 pub fn spawn<R: Reach>(
     rt: &R,
@@ -34,9 +48,7 @@ pub fn spawn<R: Reach>(
     path: &str,
     port: u16,
 ) -> io::Result<Child<R::Started>> {
-    let port = port.to_string(alloc)?;
-    let mut command = Command::new(alloc, path)?;
-    command.arg("worker")?.arg("--port")?.arg(port.as_str())?;
+    let mut command = worker_command(alloc, path, port)?;
     command
         .stdin(Stdio::null())
         .stdout(Stdio::null())

@@ -3,7 +3,7 @@
 use std::alloc::AllocError;
 
 /// Why rounds end while the map isn't closed.
-#[derive(Clone, Copy, Debug, PartialEq, Eq)]
+#[derive(Clone, Copy)]
 pub enum Stop {
     /// A growth was refused, here or in a link.
     OutOfMemory,

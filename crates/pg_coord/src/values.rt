@@ -16,7 +16,7 @@ use pg_wire::{ValueKind, ValuesWriter};
 use std::alloc::AllocError;
 
 /// A worker to which values are sent.
-#[derive(Clone, Copy, Debug)]
+#[derive(Clone, Copy)]
 pub struct Recipient {
     pub worker: u32,
     /// In which frames it takes values.

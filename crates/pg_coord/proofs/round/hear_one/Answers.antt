@@ -1,4 +1,5 @@
 use Rattle.std.proofs.Common.{◌≡◌, true, false, [], ap}
+use Rattle.std.proofs.lemmas.Result.{IfOk-from_err}
 use Rattle.pg_coord.specs.declared.board.Board.{Board}
 use Rattle.pg_map.specs.Lemmas.Orders.{map_transitive}
 use Rattle.pg_coord.proofs.Moving.{moves_none}
@@ -43,3 +44,60 @@ returns-in_ok-mend-in-Err-Failed-clause-told g c = λ rs h asked.
     let ended = c.in-Err-Failed.ensures.ended is in
     let mended = c.in_ok-mend-in-Err-Failed.ensures.told [] ended.0 dense in
     (mended.0, mended.1, ap (λ (b : Board). b.map.measures) ended.2))
+
+pub returns-then-not-seat-clause-honest : goal.returns-then-not-seat-clause-honest
+returns-then-not-seat-clause-honest g c = λ h. h
+
+pub returns-then-not-seat-clause-seated : goal.returns-then-not-seat-clause-seated
+returns-then-not-seat-clause-seated g c = λ ho s. s
+
+pub returns-then-not-seat-clause-least : goal.returns-then-not-seat-clause-least
+returns-then-not-seat-clause-least g c = λ ho s h closed le. le
+
+pub returns-in-Ok-clause-honest : goal.returns-in-Ok-clause-honest
+returns-in-Ok-clause-honest g c = c.hear.ensures.honest
+
+pub returns-in-Ok-clause-moves : goal.returns-in-Ok-clause-moves
+returns-in-Ok-clause-moves g c = c.hear.ensures.moves
+
+pub returns-in-Ok-clause-least : goal.returns-in-Ok-clause-least
+returns-in-Ok-clause-least g c = λ ho s h closed le. c.hear.ensures.least ho h (s c.if-not-seat.false h closed le) le
+
+pub returns-in-Err-OutOfMemory-clause-honest : goal.returns-in-Err-OutOfMemory-clause-honest
+returns-in-Err-OutOfMemory-clause-honest g c = c.hear.ensures.honest
+
+pub returns-in-Err-OutOfMemory-clause-moves : goal.returns-in-Err-OutOfMemory-clause-moves
+returns-in-Err-OutOfMemory-clause-moves g c = c.hear.ensures.moves
+
+pub returns-in-Err-OutOfMemory-clause-seated : goal.returns-in-Err-OutOfMemory-clause-seated
+returns-in-Err-OutOfMemory-clause-seated g c = tt
+
+pub returns-in-Err-OutOfMemory-clause-least : goal.returns-in-Err-OutOfMemory-clause-least
+returns-in-Err-OutOfMemory-clause-least g c = λ ho s h closed le. c.hear.ensures.least ho h (s c.if-not-seat.false h closed le) le
+
+pub returns-in-Err-OutOfMemory-clause-told : goal.returns-in-Err-OutOfMemory-clause-told
+returns-in-Err-OutOfMemory-clause-told g c = λ rs h asked. tt
+
+pub returns-in_err-mend-in-Err-Failed-clause-honest : goal.returns-in_err-mend-in-Err-Failed-clause-honest
+returns-in_err-mend-in-Err-Failed-clause-honest g c = λ ho. c.mend.ensures.honest (c.hear.ensures.honest ho)
+
+pub returns-in_err-mend-in-Err-Failed-clause-moves : goal.returns-in_err-mend-in-Err-Failed-clause-moves
+returns-in_err-mend-in-Err-Failed-clause-moves g c = c.hear.ensures.moves
+
+pub returns-in_err-mend-in-Err-Failed-clause-least : goal.returns-in_err-mend-in-Err-Failed-clause-least
+returns-in_err-mend-in-Err-Failed-clause-least g c = λ ho s h closed le. c.hear.ensures.least ho h (s c.if-not-seat.false h closed le) le
+
+pub returns-in_ok-mend-in-Err-Failed-clause-honest : goal.returns-in_ok-mend-in-Err-Failed-clause-honest
+returns-in_ok-mend-in-Err-Failed-clause-honest g c = λ ho. c.mend.ensures.honest (c.hear.ensures.honest ho)
+
+pub returns-in_ok-mend-in-Err-Failed-clause-moves : goal.returns-in_ok-mend-in-Err-Failed-clause-moves
+returns-in_ok-mend-in-Err-Failed-clause-moves g c = c.hear.ensures.moves
+
+pub returns-in_ok-mend-in-Err-Failed-clause-least : goal.returns-in_ok-mend-in-Err-Failed-clause-least
+returns-in_ok-mend-in-Err-Failed-clause-least g c = λ ho s h closed le. c.hear.ensures.least ho h (s c.if-not-seat.false h closed le) le
+
+pub returns-in_err-mend-in-Err-Failed-clause-seated : goal.returns-in_err-mend-in-Err-Failed-clause-seated
+returns-in_err-mend-in-Err-Failed-clause-seated g c = IfOk-from_err c.from_residual.result _ c.from_residual.ensures.0
+
+pub returns-in_err-mend-in-Err-Failed-clause-told : goal.returns-in_err-mend-in-Err-Failed-clause-told
+returns-in_err-mend-in-Err-Failed-clause-told g c = λ rs h asked. IfOk-from_err c.from_residual.result _ c.from_residual.ensures.0

@@ -1,4 +1,4 @@
-use Rattle.std.proofs.Common.{rules, length, ap, sym, ◌∙◌, ◌≡◌, Some, refl, subst, arith, inl, inr}
+use Rattle.std.proofs.Common.{length, ap, sym, ◌∙◌, ◌≡◌, Some, refl, subst, arith, inl, inr}
 use Rattle.std.specs.Prelude.{IsErr}
 use Rattle.pg_wire.specs.declared.frame.Report.{Report}
 use Rattle.pg_wire.specs.declared.frame.Frame.TheVariants as frames
@@ -15,7 +15,7 @@ use Rattle.pg_coord.proofs.turn.hear.Goals as goal
 pub frames-init : goal.frames-init
 frames-init g c = record {
   size = c.requires.size;
-  row = search rules;
+  row = c.requires.row ∙ sym (ap length c.requires.bounds);
   honest_still = λ h. h;
   under_still = λ h m u. u;
   moves = moves_none c.args.board.now;
@@ -122,3 +122,37 @@ returns-clause-reply g c = λ r left is reply dense.
 
 pub returns-clause-ended : goal.returns-clause-ended
 returns-clause-ended g c = λ is. let e = c.frames.invariant.ended is in (e.0, refl, e.1)
+
+pub hear_frame-requires-clause-size : goal.hear_frame-requires-clause-size
+hear_frame-requires-clause-size g c = c.frames.invariant.size
+
+pub hear_frame-requires-clause-row : goal.hear_frame-requires-clause-row
+hear_frame-requires-clause-row g c = c.frames.invariant.row
+
+pub returns-in-Ok-Some-clause-honest : goal.returns-in-Ok-Some-clause-honest
+returns-in-Ok-Some-clause-honest g c = λ h. c.hear_frame.ensures.honest (c.frames.invariant.honest_still h)
+
+pub returns-in-Ok-Some-clause-under : goal.returns-in-Ok-Some-clause-under
+returns-in-Ok-Some-clause-under g c = λ h m u.
+    let inv = c.frames.invariant in
+    c.hear_frame.ensures.under (inv.honest_still h) m (inv.under_still h m u)
+
+pub returns-in-Err-clause-honest : goal.returns-in-Err-clause-honest
+returns-in-Err-clause-honest g c = λ h. c.hear_frame.ensures.honest (c.frames.invariant.honest_still h)
+
+pub returns-in-Err-clause-under : goal.returns-in-Err-clause-under
+returns-in-Err-clause-under g c = λ h m u.
+    let inv = c.frames.invariant in
+    c.hear_frame.ensures.under (inv.honest_still h) m (inv.under_still h m u)
+
+pub returns-clause-honest : goal.returns-clause-honest
+returns-clause-honest g c = c.frames.invariant.honest_still
+
+pub returns-clause-under : goal.returns-clause-under
+returns-clause-under g c = c.frames.invariant.under_still
+
+pub returns-clause-moves : goal.returns-clause-moves
+returns-clause-moves g c = c.frames.invariant.moves
+
+pub returns-clause-least : goal.returns-clause-least
+returns-clause-least g c = c.frames.invariant.least

@@ -75,3 +75,57 @@ returns-in-Err-clause-report g c = λ r next left is s.
       | inl e ↦ absurd (cc)
       | inr e ↦ absurd (let bad : ⊥ = search rules in bad)
     ]
+
+pub returns-in_err-receive-clause-honest : goal.returns-in_err-receive-clause-honest
+returns-in_err-receive-clause-honest g c = c.receive.ensures.honest
+
+pub returns-in_err-receive-clause-under : goal.returns-in_err-receive-clause-under
+returns-in_err-receive-clause-under g c = c.receive.ensures.under
+
+pub returns-in_err-receive-clause-least : goal.returns-in_err-receive-clause-least
+returns-in_err-receive-clause-least g c = λ ho h u le. le
+
+pub returns-then-joined-clause-honest : goal.returns-then-joined-clause-honest
+returns-then-joined-clause-honest g c = c.receive.ensures.honest
+
+pub returns-then-joined-clause-under : goal.returns-then-joined-clause-under
+returns-then-joined-clause-under g c = c.receive.ensures.under
+
+pub returns-then-joined-clause-moves : goal.returns-then-joined-clause-moves
+returns-then-joined-clause-moves g c = c.join_frame-joined.ensures.moves
+
+pub returns-else-joined-clause-honest : goal.returns-else-joined-clause-honest
+returns-else-joined-clause-honest g c = c.receive.ensures.honest
+
+pub returns-else-joined-clause-under : goal.returns-else-joined-clause-under
+returns-else-joined-clause-under g c = c.receive.ensures.under
+
+pub returns-else-joined-clause-moves : goal.returns-else-joined-clause-moves
+returns-else-joined-clause-moves g c = c.join_frame-joined.ensures.moves
+
+pub returns-in-Ok-clause-honest : goal.returns-in-Ok-clause-honest
+returns-in-Ok-clause-honest g c = c.receive.ensures.honest
+
+pub returns-in-Ok-clause-under : goal.returns-in-Ok-clause-under
+returns-in-Ok-clause-under g c = c.receive.ensures.under
+
+pub returns-in-Ok-clause-least : goal.returns-in-Ok-clause-least
+returns-in-Ok-clause-least g c = λ ho h u le. le
+
+pub returns-in-Err-OutOfMemory-clause-honest : goal.returns-in-Err-OutOfMemory-clause-honest
+returns-in-Err-OutOfMemory-clause-honest g c = c.receive.ensures.honest
+
+pub returns-in-Err-OutOfMemory-clause-under : goal.returns-in-Err-OutOfMemory-clause-under
+returns-in-Err-OutOfMemory-clause-under g c = c.receive.ensures.under
+
+pub returns-in-Err-OutOfMemory-clause-least : goal.returns-in-Err-OutOfMemory-clause-least
+returns-in-Err-OutOfMemory-clause-least g c = λ ho h u le. le
+
+pub returns-in-Err-clause-honest : goal.returns-in-Err-clause-honest
+returns-in-Err-clause-honest g c = c.receive.ensures.honest
+
+pub returns-in-Err-clause-under : goal.returns-in-Err-clause-under
+returns-in-Err-clause-under g c = c.receive.ensures.under
+
+pub returns-in-Err-clause-least : goal.returns-in-Err-clause-least
+returns-in-Err-clause-least g c = λ ho h u le. le
