@@ -1,4 +1,4 @@
-use Rattle.std.proofs.Common.{◌≡◌, ◌≤◌, ◌⊎◌, ℕ, List, [], ◌∷◌, All, length, arith, absurd, refl, inr, Option, Some, None, IfSome, Result, Ok, Err, IfErr, unwrap_or}
+use Rattle.std.proofs.Common.{◌≡◌, ◌<◌, ◌≤◌, ◌⊎◌, ℕ, arith, refl, inr, Option, Some, None, IfSome, Result, Ok, Err, IfErr, unwrap_or}
 use Rattle.pg_cli.specs.declared.fault.CliFault.{CliFault}
 use Rattle.pg_cli.specs.declared.fault.CliFault.TheVariants.{Listen}
 use Rattle.pg_cli.specs.Measuring.{IsClosedMapOf}
@@ -14,9 +14,8 @@ none_or_none : (workers : Option ℕ) → IfSome workers (λ n. n ≡ 0) → unw
 none_or_none None none = refl
 none_or_none (Some n) none = none
 
-all_of_none : {X : Type 0} (P : X → Type 0) (xs : List X) → length xs ≡ 0 → All P xs
-all_of_none P [] none = tt
-all_of_none P (x ∷ xs) none = absurd (omega arith)
+no_place : (n k : ℕ) → k < n → n ≡ 0 → ⊥
+no_place n k inside none = omega (arith, inside, none)
 
 or_listening : (P : CliFault → Type 0) (result : Result (Unit {0}) CliFault) → IfErr result P
     → IfErr result (λ fault. (fault ≡ Listen) ⊎ P fault)
@@ -32,13 +31,13 @@ pub returns-clause-alone_answer : goal.returns-clause-alone_answer
 returns-clause-alone_answer g c = λ none.
     let zero : c.unwrap_or.result ≡ 0 = rw c.unwrap_or.ensures (rw c.workers.ensures (none_or_none (workers_of c.args.command) none)) in
     c.run_with-ran.ensures.honest_answer
-    (all_of_none _ _ (rw c.as_mut_slice.ensures.value (rw c.in_ok-links.ensures.ok zero)))
+    (λ k d inside. absurd (no_place _ k inside (rw c.as_mut_slice.ensures.value (rw c.in_ok-links.ensures.ok zero))))
 
 pub returns-clause-alone_refused : goal.returns-clause-alone_refused
 returns-clause-alone_refused g c = λ none.
     let zero : c.unwrap_or.result ≡ 0 = rw c.unwrap_or.ensures (rw c.workers.ensures (none_or_none (workers_of c.args.command) none)) in
     c.run_with-ran.ensures.honest_refused
-    (all_of_none _ _ (rw c.as_mut_slice.ensures.value (rw c.in_ok-links.ensures.ok zero)))
+    (λ k d inside. absurd (no_place _ k inside (rw c.as_mut_slice.ensures.value (rw c.in_ok-links.ensures.ok zero))))
 
 pub returns-clause-refused : goal.returns-clause-refused
 returns-clause-refused g c =
