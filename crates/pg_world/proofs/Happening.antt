@@ -1,21 +1,19 @@
 -- What the calls of replicas say of the world that they stand in.
-use Rattle.std.proofs.Common.{◌≡◌, ◌≢◌, ℕ, zero, suc, ◌+◌, ◌-◌, ◌<◌, ◌≤◌, Bool, true, false, Some, None, List, [], ◌∷◌, ◌++◌, length, get_or, set, replicate, refl, ap, sym, ◌∙◌, ◌⊎◌, inl, inr, arith, subst}
-use Rattle.std.specs.Prelude.{All, Option, IsSome, Result, Ok, Err, IsOk, IfOk, map}
-use Rattle.std.proofs.lemmas.List.{set-get_or, get_or-set_same, get_or_default, get_or-map, length-map, length-set, map-append}
+use Rattle.std.proofs.Common.{◌≡◌, ℕ, suc, ◌+◌, ◌<◌, Bool, List, [], ◌∷◌, ◌++◌, length, get_or, set, replicate, refl, ap, sym, ◌∙◌, inl, inr, arith, subst}
+use Rattle.std.specs.Prelude.{Option, Result, Ok, Err, IsOk, IfOk, map}
+use Rattle.std.proofs.lemmas.List.{set-get_or, get_or-map, length-map, length-set, map-append}
 use Rattle.std.proofs.lemmas.List.Elements.{All-set}
-use Rattle.std.specs.declared.vec.Vec.{Vec}
-use Rattle.std.specs.declared.alloc.Global.{Global}
 use Rattle.pg_arena.specs.Games.{GameVertex}
 use Rattle.pg_measure.specs.Measures.{BoundList, MeasureValue, OwnedMeasure, Fits, owned, zeros}
 use Rattle.pg_map.specs.declared.update.Update.{Update}
-use Rattle.pg_map.specs.Lines.{Line, line_at, game_line, vertex_line}
+use Rattle.pg_map.specs.Lines.{Line, line_at, game_line}
 use Rattle.pg_map.specs.Maps.{MapValue, measure_at, IsMap, IsJoin, IsServed, IsLifted, update_map}
 use Rattle.pg_worker.specs.Cuts.{CutValue, worker_of}
 use Rattle.pg_worker.specs.Workers.{WorkerValue, part_line, Takes}
 use Rattle.pg_worker.specs.Workers as workers
 use Rattle.pg_world.specs.Updates.{UpdateValue, update_value, update_at, map_of_update}
-use Rattle.pg_world.specs.Worlds.{WorldValue, new_world, IsMapOf, taking, forgetting, making, Lifts, LiftsIn}
-use Rattle.pg_world.specs.Mirrors.Kept.{viewed, IsMade, IsWorld, IsReplica, AreReplicas, worker_at}
+use Rattle.pg_world.specs.Worlds.{WorldValue, new_world, IsMapOf, taking, forgetting, making, Lifts}
+use Rattle.pg_world.specs.Mirrors.Kept.{viewed, IsMade, IsReplica, AreReplicas, worker_at}
 use Rattle.pg_world.proofs.Joining.{as_map, lift_joins}
 use Rattle.pg_world.proofs.Noting.{Numbers, items}
 use Rattle.pg_world.proofs.Replicas.{count, worker_makes, worker_takes, coordinator_makes, coordinator_takes, made_at, line_is, least_same, served_same}

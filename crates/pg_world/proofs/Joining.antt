@@ -1,6 +1,6 @@
 -- Joins of the updates that were taken.
-use Rattle.std.proofs.Common.{◌≡◌, ◌≢◌, ℕ, ◌+◌, ◌<◌, ◌≤◌, Some, None, List, [], ◌∷◌, ◌++◌, length, get_or, set, replicate, refl, ap, sym, ◌∙◌, ◌⊎◌, inl, inr, arith, subst}
-use Rattle.std.specs.Prelude.{All, Contains, Option, IsSome}
+use Rattle.std.proofs.Common.{◌≡◌, ◌≢◌, ℕ, ◌<◌, None, List, [], ◌∷◌, ◌++◌, length, get_or, set, sym, ◌∙◌, ◌⊎◌, inl, inr, arith, subst}
+use Rattle.std.specs.Prelude.{All, Option}
 use Rattle.std.proofs.lemmas.Bool.{cases_eq}
 use Rattle.std.proofs.lemmas.List.{get_or-set_other, get_or-set_same, length-replicate, get_or_append_left, length-append, length-set}
 use Rattle.std.proofs.lemmas.List.Elements.{All-nil, All-push, All-set, All-weaker, All-contains, Contains-get_or}
@@ -10,7 +10,7 @@ use Rattle.pg_measure.specs.Laws.{OrderIsTotal}
 use Rattle.pg_map.specs.Lines.{Line}
 use Rattle.pg_map.specs.Maps.{measure_at, IsMap, zero_map, update_map, MapAtMost, IsJoin, IsLifted}
 use Rattle.pg_map.specs.Laws.{ZeroMapIsLeast}
-use Rattle.pg_map.specs.Lemmas.Orders.{maps_same, map_reflexive, map_transitive, measure_reflexive}
+use Rattle.pg_map.specs.Lemmas.Orders.{maps_same, map_transitive}
 use Rattle.pg_world.specs.Updates.{UpdateValue, update_at, map_of_update, IsJoinOf}
 use Rattle.pg_world.specs.Laws.{AreTakenToo}
 

@@ -1,6 +1,6 @@
 -- What a world keeps of its replicas, event by event.
-use Rattle.std.proofs.Common.{◌≡◌, ◌≢◌, ℕ, zero, suc, ◌+◌, ◌<◌, ◌≤◌, Bool, cond, replicate, Some, None, List, [], ◌∷◌, ◌++◌, length, get_or, set, refl, ap, sym, ◌∙◌, ◌⊎◌, inl, inr, arith, subst}
-use Rattle.std.specs.Prelude.{All, Option, IsSome, map}
+use Rattle.std.proofs.Common.{◌≡◌, ◌≢◌, ℕ, suc, ◌+◌, ◌<◌, ◌≤◌, Bool, cond, replicate, None, List, [], ◌∷◌, ◌++◌, length, set, refl, ap, sym, ◌∙◌, ◌⊎◌, inl, inr, arith, subst}
+use Rattle.std.specs.Prelude.{Option}
 use Rattle.std.proofs.lemmas.Bool.{cases_eq, cases_lt, eq-eqb}
 use Rattle.std.proofs.lemmas.List.{get_or-set_other, get_or-set_same, get_or_append_left, length-append, length-set}
 use Rattle.std.proofs.Math.Seq.{get_or-append_seam}
@@ -8,13 +8,13 @@ use Rattle.pg_arena.specs.Games.{GameVertex, IsGame}
 use Rattle.pg_measure.specs.Games.{IsBoundsOf}
 use Rattle.pg_measure.specs.Measures.{BoundList, MeasureValue, Covers, zeros}
 use Rattle.pg_map.specs.Lines.{Line, line_at, game_line}
-use Rattle.pg_map.specs.Maps.{MapValue, measure_at, IsMap, IsJoin, IsServed, IsServedBy, IsLeastServing, SomeOrAll, zero_map}
+use Rattle.pg_map.specs.Maps.{MapValue, measure_at, IsMap, IsJoin, IsServed, IsLeastServing, SomeOrAll, zero_map}
 use Rattle.pg_map.specs.Laws.{ZeroMapIsLeast}
 use Rattle.pg_worker.specs.Cuts.{CutValue, worker_of}
 use Rattle.pg_worker.specs.Workers.{WorkerValue, part_line}
 use Rattle.pg_world.specs.Updates.{UpdateValue, update_at, map_of_update}
 use Rattle.pg_world.specs.Worlds.{WorldValue, new_world, taken_of, IsMapOf, taking, forgetting, making}
-use Rattle.pg_world.specs.Mirrors.Kept.{IsMade, IsWorld, IsReplica, IsNewReplica, AreReplicas, worker_at, line_of_part}
+use Rattle.pg_world.specs.Mirrors.Kept.{IsMade, IsReplica, IsNewReplica, AreReplicas, worker_at}
 use Rattle.pg_world.proofs.Joining.{as_map, one_join}
 use Rattle.pg_world.proofs.Keeping.{new_is_world, new_map, taking_is_world, making_is_world, forgetting_is_world, map_after_taking, map_after_making, map_besides_making, map_besides_taking, map_besides_forgetting, map_after_forgetting}
 

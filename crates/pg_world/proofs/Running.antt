@@ -1,21 +1,21 @@
 -- What is true of a world after any list of events.
-use Rattle.std.proofs.Common.{◌≡◌, ◌≢◌, ℕ, ◌+◌, ◌<◌, ◌≤◌, Some, None, List, [], ◌∷◌, ◌++◌, length, get_or, set, take, refl, ap, sym, ◌∙◌, ◌⊎◌, inl, inr, arith, subst}
+use Rattle.std.proofs.Common.{◌≡◌, ◌≢◌, ℕ, ◌+◌, ◌<◌, ◌≤◌, None, List, [], ◌∷◌, ◌++◌, length, get_or, set, take, refl, ap, sym, ◌∙◌, ◌⊎◌, inl, inr, arith, subst}
 use Rattle.std.specs.Prelude.{All, Option, IsSome}
 use Rattle.std.proofs.lemmas.Bool.{cases_eq}
-use Rattle.std.proofs.lemmas.List.{get_or-set_other, get_or-set_same, length-set, take_more}
+use Rattle.std.proofs.lemmas.List.{get_or-set_same, length-set, take_more}
 use Rattle.std.proofs.lemmas.List.Elements.{All-head, All-tail, All-set}
 use Rattle.pg_arena.specs.Games.{GameVertex, IsGame}
 use Rattle.pg_measure.specs.Measures.{BoundList, MeasureValue, Fits, zeros, AtMost, IsBelow}
 use Rattle.pg_measure.specs.Games.{IsBoundsOf}
 use Rattle.pg_measure.specs.Laws.{OrderIsTotal}
 use Rattle.pg_map.specs.Lines.{Line, game_line}
-use Rattle.pg_map.specs.Maps.{measure_at, IsMap, zero_map, update_map, MapAtMost, IsClosed, IsNeverAbove, IsJoin, IsLifted, IsLeastServing}
+use Rattle.pg_map.specs.Maps.{measure_at, IsMap, zero_map, MapAtMost, IsClosed, IsNeverAbove, IsJoin, IsLifted, IsLeastServing}
 use Rattle.pg_map.specs.Laws.{GameLines, ZeroMapIsLeast, LiftStaysUnder}
 use Rattle.pg_worker.specs.Cuts.{CutValue}
 use Rattle.pg_world.specs.declared.event.Event.{Event}
 use Rattle.pg_world.specs.declared.event.Event.TheVariants.{Lift, Deliver, Restart, CoordinatorLift}
-use Rattle.pg_world.specs.Updates.{UpdateValue, update_at, map_of_update, IsJoinOf}
-use Rattle.pg_world.specs.Worlds.{WorldValue, new_world, taken_of, IsMapOf, taking, forgetting, making, LiftsIn, Lifts, Steps, refusal, IsEventOf, Runs}
+use Rattle.pg_world.specs.Updates.{UpdateValue, update_at, map_of_update}
+use Rattle.pg_world.specs.Worlds.{WorldValue, new_world, taken_of, IsMapOf, taking, forgetting, making, Lifts, Steps, refusal, IsEventOf, Runs}
 use Rattle.pg_world.specs.Mirrors.Kept.{IsMade, IsWorld}
 use Rattle.pg_world.proofs.Joining.{update_under, raise_joins}
 use Rattle.pg_world.proofs.Keeping.{new_map, new_is_world, taking_is_world, making_is_world, forgetting_is_world, map_after_taking, map_after_making, map_besides_making, map_besides_taking, map_besides_forgetting, map_after_forgetting}

@@ -1,4 +1,4 @@
-use Rattle.std.proofs.Common.{◌≡◌, ℕ, List, [], replicate}
+use Rattle.std.proofs.Common.{◌≡◌, [], replicate}
 use Rattle.std.specs.Prelude.{map}
 use Rattle.pg_world.proofs.world.nothing_taken.Given as goal
 

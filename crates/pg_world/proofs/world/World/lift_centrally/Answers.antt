@@ -1,8 +1,7 @@
-use Rattle.std.proofs.Common.{◌≡◌, ℕ, ◌<◌, length, sym, ◌∙◌, ap, subst, arith}
+use Rattle.std.proofs.Common.{ℕ, ◌<◌, length, sym, ◌∙◌, subst}
 use Rattle.pg_map.specs.Lines.{AreWithin, game_line}
 use Rattle.pg_map.specs.Maps.{measure_at}
 use Rattle.pg_world.specs.Worlds.{WorldValue, Lifts}
-use Rattle.pg_world.specs.Updates.{UpdateValue, update_value}
 use Rattle.pg_world.specs.Mirrors.Kept.{viewed, AreReplicas}
 use Rattle.pg_world.proofs.Running.{Laws}
 use Rattle.pg_world.proofs.Happening.{coordinator_lifted, coordinator_value, view_made}

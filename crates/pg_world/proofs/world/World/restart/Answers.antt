@@ -1,17 +1,9 @@
-use Rattle.std.proofs.Common.{◌≡◌, ℕ, suc, ◌+◌, ◌-◌, ◌<◌, ◌≤◌, None, List, [], ◌∷◌, length, set, refl, sym, ◌∙◌, ap, subst, arith}
-use Rattle.std.specs.Prelude.{map}
-use Rattle.std.proofs.lemmas.List.{get_or_default, length-map}
-use Rattle.pg_measure.specs.Measures.{BoundList, MeasureValue, Fits}
-use Rattle.pg_measure.specs.Views.{measure_in}
-use Rattle.pg_map.specs.Maps.{measure_at, IsJoin, update_map}
-use Rattle.pg_map.specs.declared.update.Update.{Update}
-use Rattle.pg_worker.specs.Workers.{WorkerValue, Takes}
-use Rattle.pg_world.specs.Updates.{UpdateValue, update_value}
-use Rattle.pg_world.specs.Worlds.{WorldValue, IsMapOf, taking, forgetting}
-use Rattle.pg_world.specs.Mirrors.Kept.{viewed, IsReplica, IsNewReplica, AreReplicas, worker_at}
-use Rattle.pg_world.proofs.Running.{Laws, map_known, runs_more}
-use Rattle.pg_world.proofs.Replicas.{new_replicas, worker_forgets, map_shown}
-use Rattle.pg_world.proofs.Happening.{coordinator_delivered, worker_delivered, made_is, taken_is, view_taken, view_forgot, view_new}
+use Rattle.std.proofs.Common.{◌≡◌, ℕ, suc, ◌-◌, ◌<◌, List, length, set, sym, ◌∙◌, ap, subst, arith}
+use Rattle.pg_worker.specs.Workers.{WorkerValue}
+use Rattle.pg_world.specs.Worlds.{WorldValue, forgetting}
+use Rattle.pg_world.specs.Mirrors.Kept.{viewed, IsNewReplica, AreReplicas}
+use Rattle.pg_world.proofs.Replicas.{worker_forgets}
+use Rattle.pg_world.proofs.Happening.{view_forgot}
 use Rattle.pg_world.proofs.world.World.restart.Goals as goal
 
 pub invariant_of-self : goal.invariant_of-self
