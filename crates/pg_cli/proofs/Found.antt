@@ -1,7 +1,7 @@
 -- Maps that are found over links, and answers by them.
 use Rattle.std.proofs.Common.{◌≡◌, ℕ, ◌<◌, ◌≤◌, List, length, Option, Some, None, Result, Ok, Err, inl, inr, sym, ap₂, subst, ◌∙◌, arith}
 use Rattle.std.proofs.lemmas.List.{same_lists, get_or_default}
-use Rattle.std.specs.Prelude.{IfSome, IfErr, OnOk}
+use Rattle.std.specs.Prelude.{IfSome, IfErr, OnOk, ⊤}
 use Rattle.std.specs.Io.KnownBytes.{Appends}
 use Rattle.pg_arena.specs.declared.player.Player.{Player}
 use Rattle.std.proofs.Common.{All, IsSome, get_or, refl, []}
@@ -49,6 +49,10 @@ found_closed are_honest game map f = f.closed
 
 pub found_least : (are_honest : Type 0) → are_honest → (game : List GameVertex) (map : MapValue) → IsFoundIf are_honest game map → IsMeasureOf game map
 found_least are_honest honest game map f = f.least honest
+
+-- each link to a worker in this process is honest
+pub all_honest : {L : Type 0} (links : List L) → All (λ link. ⊤) links
+all_honest links k link lt = tt
 
 -- what was found over links that are honest if others are
 pub found_later : (are_honest later : Type 0) → (are_honest → later) → (game : List GameVertex) (map : MapValue) → IsFoundIf later game map

@@ -13,6 +13,7 @@ mod output;
 mod parts;
 mod program;
 mod replay;
+mod sharing;
 mod solve;
 mod solver;
 mod synth;

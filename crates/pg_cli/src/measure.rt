@@ -12,6 +12,7 @@ ghost use Rattle.pg_cli.specs.declared.command.Command.TheVariants.{Measure};
 use crate::fault::CliFault;
 use crate::input::MOST_BYTES;
 use crate::output::write_measure_line;
+use crate::sharing::Sharing;
 use crate::solver::map_of;
 use pg_arena::{Game, Vertex};
 use pg_coord::Link;
@@ -38,19 +39,20 @@ fn measured<L: Link>(
     alloc: Global,
     text: Vec<u8>,
     links: &mut [L],
+    sharing: Sharing,
 ) -> Result<(Game, MeasureMap), CliFault>
     requires limit { length text.items ≤ MOST_BYTES }
     requires few { length links.old ≤ 16 }
     ensures spelt { IfOk result (λ x. IsGameText text.items x.0) }
     ensures found { IfOk result (λ x. IsFoundIf (All L.is_honest links.old) x.0 x.1) }
-    ensures told { IfOk result (λ x. IsLeastOverTold L.told links.old x.0 x.1) }
+    ensures told { sharing ≡ Sharing.Even → IfOk result (λ x. IsLeastOverTold L.told links.old x.0 x.1) }
     ensures refused { (workers : ℕ)
         → IfErr result (RefusesBy (IsFoundIf (All L.is_honest links.old)) (Measure workers) text.items) }
     ensures unwritten { result ≢ Err CliFault.Write }
 {
     let game = read_game(alloc, &text)?;
     drop(text);
-    let map = map_of(alloc, &game, links)?;
+    let map = map_of(alloc, &game, links, sharing)?;
     Ok((game, map))
 }
 
@@ -59,6 +61,7 @@ pub(crate) fn measure<L: Link, W: Write>(
     alloc: Global,
     text: Vec<u8>,
     links: &mut [L],
+    sharing: Sharing,
     writer: &mut W,
 ) -> Result<(), CliFault>
     requires limit { length text.items ≤ MOST_BYTES }
@@ -66,14 +69,14 @@ pub(crate) fn measure<L: Link, W: Write>(
     ensures answer { OnOk result ((workers : ℕ) → (output : List ℕ)
         × PrintsBy (IsFoundIf (All L.is_honest links.old)) (Measure workers) text.items output
         × Appends (W.contents writer.old) (W.contents writer.new) output) }
-    ensures told { OnOk result ((output : List ℕ)
+    ensures told { sharing ≡ Sharing.Even → OnOk result ((output : List ℕ)
         × IsMeasured (IsLeastOverTold L.told links.old) text.items output
         × Appends (W.contents writer.old) (W.contents writer.new) output) }
     ensures refused { (workers : ℕ)
         → IfErr result (RefusesBy (IsFoundIf (All L.is_honest links.old)) (Measure workers) text.items) }
     ensures untouched { IfErr result (λ fault. fault ≢ CliFault.Write → writer.new ≡ writer.old) }
 {
-    let (game, map) = measured(alloc, text, links)?;
+    let (game, map) = measured(alloc, text, links, sharing)?;
     match write_measures(&game, &map, writer) {
         Ok(()) => Ok(()),
         Err(_) => Err(CliFault::Write),

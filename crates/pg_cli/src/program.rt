@@ -16,6 +16,7 @@ use crate::game::game;
 use crate::input::{MOST_BYTES, read_all_limited};
 use crate::measure::measure;
 use crate::replay::replay;
+use crate::sharing::Sharing;
 use crate::solve::solve;
 use crate::synth::synth;
 use pg_coord::{Link, MemoryLink};
@@ -42,6 +43,7 @@ fn answer<L: Link, W: Write>(
     command: Command,
     text: Vec<u8>,
     links: &mut [L],
+    sharing: Sharing,
     writer: &mut W,
 ) -> Result<(), CliFault>
     requires limit { length text.items ≤ MOST_BYTES }
@@ -49,7 +51,8 @@ fn answer<L: Link, W: Write>(
     ensures answer { OnOk result ((output : List ℕ)
         × PrintsBy (IsFoundIf (All L.is_honest links.old)) command text.items output
         × Appends (W.contents writer.old) (W.contents writer.new) output) }
-    ensures told { (workers : ℕ) → command ≡ Command.Measure workers → OnOk result ((output : List ℕ)
+    ensures told { (workers : ℕ) → command ≡ Command.Measure workers → sharing ≡ Sharing.Even
+        → OnOk result ((output : List ℕ)
         × IsMeasured (IsLeastOverTold L.told links.old) text.items output
         × Appends (W.contents writer.old) (W.contents writer.new) output) }
     ensures refused { IfErr result (RefusesBy (IsFoundIf (All L.is_honest links.old)) command text.items) }
@@ -57,12 +60,12 @@ fn answer<L: Link, W: Write>(
     ensures unused { IsNone (workers_of command) → links.new ≡ links.old }
 {
     match command {
-        Command::Measure { .. } => measure(alloc, text, links, writer),
-        Command::Solve { .. } => solve(alloc, text, links, writer),
+        Command::Measure { .. } => measure(alloc, text, links, sharing, writer),
+        Command::Solve { .. } => solve(alloc, text, links, sharing, writer),
         Command::Check => check(alloc, text, writer),
         Command::Replay => replay(alloc, text, writer),
         Command::Game => game(alloc, text, writer),
-        Command::Synth { .. } => synth(alloc, text, links, writer),
+        Command::Synth { .. } => synth(alloc, text, links, sharing, writer),
     }
 }
 
@@ -95,7 +98,9 @@ pub fn run<R: Read, W: Write>(
     ensures untouched { IfErr result (λ fault. fault ≢ CliFault.Write → writer.new ≡ writer.old) }
 {
     let mut links = memory_links(alloc, command.workers().unwrap_or(0))?;
-    run_with(alloc, command, links.as_mut_slice(), reader, writer)
+    let workers = links.as_mut_slice();
+    let text = read_all_limited(alloc, reader)?;
+    answer(alloc, command, text, workers, Sharing::ByEdges, writer)
 }
 
 /// The same over the links that are given, at most 16: where the command solves a game, the game is cut evenly among them, and
@@ -137,5 +142,5 @@ pub fn run_with<L: Link, R: Read, W: Write>(
     ensures unused { IsNone (workers_of command) → links.new ≡ links.old }
 {
     let text = read_all_limited(alloc, reader)?;
-    answer(alloc, command, text, links, writer)
+    answer(alloc, command, text, links, Sharing::Even, writer)
 }

@@ -11,6 +11,7 @@ ghost use Rattle.pg_cli.specs.declared.command.Command.TheVariants.{Solve};
 
 use crate::fault::CliFault;
 use crate::input::MOST_BYTES;
+use crate::sharing::Sharing;
 use crate::solver::solution_of;
 use pg_arena::Game;
 use pg_coord::Link;
@@ -24,6 +25,7 @@ fn solved<L: Link>(
     alloc: Global,
     text: Vec<u8>,
     links: &mut [L],
+    sharing: Sharing,
 ) -> Result<(Game, Solution), CliFault>
     requires limit { length text.items ≤ MOST_BYTES }
     requires few { length links.old ≤ 16 }
@@ -39,7 +41,7 @@ fn solved<L: Link>(
     // asked for what its contract says of the game
     let _vertices = game.len();
     drop(text);
-    let solution = solution_of(alloc, &game, links)?;
+    let solution = solution_of(alloc, &game, links, sharing)?;
     Ok((game, solution))
 }
 
@@ -48,6 +50,7 @@ pub(crate) fn solve<L: Link, W: Write>(
     alloc: Global,
     text: Vec<u8>,
     links: &mut [L],
+    sharing: Sharing,
     writer: &mut W,
 ) -> Result<(), CliFault>
     requires limit { length text.items ≤ MOST_BYTES }
@@ -59,7 +62,7 @@ pub(crate) fn solve<L: Link, W: Write>(
         → IfErr result (RefusesBy (IsFoundIf (All L.is_honest links.old)) (Solve workers) text.items) }
     ensures untouched { IfErr result (λ fault. fault ≢ CliFault.Write → writer.new ≡ writer.old) }
 {
-    let (game, solution) = solved(alloc, text, links)?;
+    let (game, solution) = solved(alloc, text, links, sharing)?;
     match write_solution(&game, &solution, writer) {
         Ok(()) => Ok(()),
         Err(_) => Err(CliFault::Write),

@@ -6,7 +6,6 @@ ghost use Rattle.pg_arena.specs.Games.{HasPrioritiesUpTo, dual};
 ghost use Rattle.pg_map.specs.Maps.{measure_at};
 ghost use Rattle.pg_text.specs.Solutions.{IsSolution, winner};
 ghost use Rattle.pg_check.specs.Soundness.{IsSound};
-ghost use Rattle.pg_worker.specs.Cuts.{IsEvenCut};
 ghost use Rattle.pg_coord.specs.Solving.{AreTop};
 ghost use Rattle.pg_cli.specs.Linked.{IsLeastOverTold};
 ghost use Rattle.pg_cli.specs.Measuring.{IsClosedMapOf, IsMeasureOf};
@@ -14,38 +13,31 @@ ghost use Rattle.pg_cli.specs.Solving.{IsSolvedBy};
 ghost use Rattle.pg_cli.specs.Mirrors.Solver.{IsFoundIf, IsHalfOfFound, IsFoundAbove, AreHalves, IsUnsolved};
 
 use crate::fault::CliFault;
+use crate::sharing::{Sharing, cut_of};
 use pg_arena::{Game, Player, Vertex, dual};
 use pg_check::{even_half, with_odd_half};
 use pg_coord::{Link, solve, solve_within};
 use pg_map::{MeasureMap, View};
 use pg_text::Solution;
-use pg_worker::Cut;
 use std::alloc::{AllocError, Global};
 
 /// How many lifts a worker makes in a turn, at most.
 const BUDGET: u32 = 4_096;
 
-/// The even cut of a game among so many links.
-fn cut_of(alloc: Global, game: &Game, links: usize) -> Result<Cut, AllocError>
-    requires { links ≤ 16 }
-    ensures { IfOk result (IsEvenCut (length game.now) links) }
-{
-    Cut::even(alloc, game.len() as u32, links as u32)
-}
-
-/// A map of a game, solved over links among which the game is cut evenly.
+/// A map of a game, solved over links among which the game is shared out.
 pub(crate) fn map_of<L: Link>(
     alloc: Global,
     game: &Game,
     links: &mut [L],
+    sharing: Sharing,
 ) -> Result<MeasureMap, CliFault>
     requires { length links.old ≤ 16 }
     ensures found { IfOk result (IsFoundIf (All L.is_honest links.old) game.now) }
-    ensures told { IfOk result (IsLeastOverTold L.told links.old game.now) }
+    ensures told { sharing ≡ Sharing.Even → IfOk result (IsLeastOverTold L.told links.old game.now) }
     ensures honest { OnOk result (All L.is_honest links.old → All L.is_honest links.new) }
     ensures refused { IfErr result (λ fault. fault ≡ CliFault.OutOfMemory) }
 {
-    let cut = cut_of(alloc, game, links.len())?;
+    let cut = cut_of(alloc, game, links.len(), sharing)?;
     let solved = solve(alloc, game, links, &cut, BUDGET)?;
     Ok(solved.map)
 }
@@ -55,12 +47,13 @@ const RISES: u64 = 16;
 
 const FIRST_RISES: u64 = 4_096;
 
-/// A map of a game, solved over links among which the game is cut evenly, where it is known that each closed map has top at some
-/// vertices. None where more measures rose than `most_rises`.
+/// A map of a game, solved over links among which the game is shared out, where it is known that each closed map has top at
+/// some vertices. None where more measures rose than `most_rises`.
 fn map_within<L: Link>(
     alloc: Global,
     game: &Game,
     links: &mut [L],
+    sharing: Sharing,
     tops: &[Vertex],
     most_rises: u64,
 ) -> Result<Option<MeasureMap>, CliFault>
@@ -71,7 +64,7 @@ fn map_within<L: Link>(
     ensures honest { OnOk result (All L.is_honest links.old → All L.is_honest links.new) }
     ensures refused { IfErr result (λ fault. fault ≡ CliFault.OutOfMemory) }
 {
-    let shares = cut_of(alloc, game, links.len())?;
+    let shares = cut_of(alloc, game, links.len(), sharing)?;
     match solve_within(alloc, game, links, &shares, BUDGET, tops, most_rises)? {
         Some(solved) => Ok(Some(solved.map)),
         None => Ok(None),
@@ -114,6 +107,7 @@ fn half_within<L: Link>(
     alloc: Global,
     game: &Game,
     links: &mut [L],
+    sharing: Sharing,
     tops: &[Vertex],
     most_rises: u64,
 ) -> Result<Option<Solution>, CliFault>
@@ -125,7 +119,7 @@ fn half_within<L: Link>(
     ensures honest { OnOk result (All L.is_honest links.old → All L.is_honest links.new) }
     ensures refused { IfErr result (λ fault. fault ≡ CliFault.OutOfMemory) }
 {
-    match map_within(alloc, game, links, tops, most_rises)? {
+    match map_within(alloc, game, links, sharing, tops, most_rises)? {
         Some(even) => Ok(Some(even_half(alloc, game, &even)?)),
         None => Ok(None),
     }
@@ -136,6 +130,7 @@ fn dual_within<L: Link>(
     alloc: Global,
     game: &Game,
     links: &mut [L],
+    sharing: Sharing,
     tops: &[Vertex],
     most_rises: u64,
 ) -> Result<Option<MeasureMap>, CliFault>
@@ -150,7 +145,7 @@ fn dual_within<L: Link>(
     let Ok(dual) = dual(alloc, game) else {
         return Err(CliFault::OutOfMemory);
     };
-    map_within(alloc, &dual, links, tops, most_rises)
+    map_within(alloc, &dual, links, sharing, tops, most_rises)
 }
 
 /// The half of a solution by a map of a game, and then a map of its dual, both found over the same links. Where the first has a
@@ -160,6 +155,7 @@ fn game_first<L: Link>(
     alloc: Global,
     game: &Game,
     links: &mut [L],
+    sharing: Sharing,
     most_rises: u64,
 ) -> Result<Option<(Solution, MeasureMap)>, CliFault>
     requires priorities { HasPrioritiesUpTo 65535 game.now }
@@ -172,11 +168,11 @@ fn game_first<L: Link>(
     pg_check::laws::no_list_in_both();
     // asked for what its contract says of the game
     let _vertices = game.len();
-    let Some(half) = half_within(alloc, game, links, &[], most_rises)? else {
+    let Some(half) = half_within(alloc, game, links, sharing, &[], most_rises)? else {
         return Ok(None);
     };
     let tops = won_by_even(alloc, game, &half)?;
-    let odd = dual_within(alloc, game, links, &tops, u64::MAX)?.unwrap();
+    let odd = dual_within(alloc, game, links, sharing, &tops, u64::MAX)?.unwrap();
     Ok(Some((half, odd)))
 }
 
@@ -185,6 +181,7 @@ fn dual_first<L: Link>(
     alloc: Global,
     game: &Game,
     links: &mut [L],
+    sharing: Sharing,
     most_rises: u64,
 ) -> Result<Option<(Solution, MeasureMap)>, CliFault>
     requires priorities { HasPrioritiesUpTo 65535 game.now }
@@ -196,11 +193,11 @@ fn dual_first<L: Link>(
     pg_check::laws::no_list_in_both();
     // asked for what its contract says of the game
     let _vertices = game.len();
-    let Some(odd) = dual_within(alloc, game, links, &[], most_rises)? else {
+    let Some(odd) = dual_within(alloc, game, links, sharing, &[], most_rises)? else {
         return Ok(None);
     };
     let tops = listed(alloc, &odd)?;
-    let half = half_within(alloc, game, links, &tops, u64::MAX)?.unwrap();
+    let half = half_within(alloc, game, links, sharing, &tops, u64::MAX)?.unwrap();
     Ok(Some((half, odd)))
 }
 
@@ -211,6 +208,7 @@ fn halves_of<L: Link>(
     alloc: Global,
     game: &Game,
     links: &mut [L],
+    sharing: Sharing,
 ) -> Result<(Solution, MeasureMap), CliFault>
     requires priorities { HasPrioritiesUpTo 65535 game.now }
     requires few { length links.old ≤ 16 }
@@ -218,13 +216,13 @@ fn halves_of<L: Link>(
     ensures refused { IfErr result (λ fault. fault ≡ CliFault.OutOfMemory) }
 {
     let most_rises = FIRST_RISES.saturating_add(RISES.saturating_mul(game.len() as u64));
-    if let Some(halves) = game_first(alloc, game, links, most_rises)? {
+    if let Some(halves) = game_first(alloc, game, links, sharing, most_rises)? {
         return Ok(halves);
     }
-    if let Some(halves) = dual_first(alloc, game, links, most_rises)? {
+    if let Some(halves) = dual_first(alloc, game, links, sharing, most_rises)? {
         return Ok(halves);
     }
-    Ok(game_first(alloc, game, links, u64::MAX)?.unwrap())
+    Ok(game_first(alloc, game, links, sharing, u64::MAX)?.unwrap())
 }
 
 /// The solution of a map of a game and of one of its dual, both found over the same links, one after the other.
@@ -232,6 +230,7 @@ pub(crate) fn solution_of<L: Link>(
     alloc: Global,
     game: &Game,
     links: &mut [L],
+    sharing: Sharing,
 ) -> Result<Solution, CliFault>
     requires priorities { HasPrioritiesUpTo 65535 game.now }
     requires few { length links.old ≤ 16 }
@@ -240,6 +239,6 @@ pub(crate) fn solution_of<L: Link>(
     ensures sound { IfOk result (IsSound game.now) }
     ensures refused { IfErr result (IsUnsolved (IsFoundIf (All L.is_honest links.old)) game.now) }
 {
-    let (half, odd) = halves_of(alloc, game, links)?;
+    let (half, odd) = halves_of(alloc, game, links, sharing)?;
     Ok(with_odd_half(game, half, &odd)?)
 }

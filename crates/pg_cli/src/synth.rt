@@ -9,6 +9,7 @@ ghost use Rattle.pg_cli.specs.declared.command.Command.TheVariants.{Synth};
 
 use crate::fault::CliFault;
 use crate::input::MOST_BYTES;
+use crate::sharing::Sharing;
 use crate::solver::solution_of;
 use pg_aiger::{Circuit, circuit_of, write_circuit};
 use pg_coord::Link;
@@ -23,6 +24,7 @@ fn synthesised<L: Link>(
     alloc: Global,
     text: Vec<u8>,
     links: &mut [L],
+    sharing: Sharing,
 ) -> Result<(Automaton, Option<Circuit>), CliFault>
     requires limit { length text.items ≤ MOST_BYTES }
     requires few { length links.old ≤ 16 }
@@ -36,7 +38,7 @@ fn synthesised<L: Link>(
     // asked for what its contract says of the automaton
     let _states = automaton.states();
     let made = game_of(alloc, &automaton)?;
-    let solution = solution_of(alloc, &made.game, links)?;
+    let solution = solution_of(alloc, &made.game, links, sharing)?;
     let Some(machine) = mealy_of(alloc, &automaton, &made, &solution)? else {
         return Ok((automaton, None));
     };
@@ -52,6 +54,7 @@ pub(crate) fn synth<L: Link, W: Write>(
     alloc: Global,
     text: Vec<u8>,
     links: &mut [L],
+    sharing: Sharing,
     writer: &mut W,
 ) -> Result<(), CliFault>
     requires limit { length text.items ≤ MOST_BYTES }
@@ -63,7 +66,7 @@ pub(crate) fn synth<L: Link, W: Write>(
         → IfErr result (RefusesBy (IsFoundIf (All L.is_honest links.old)) (Synth workers) text.items) }
     ensures untouched { IfErr result (λ fault. fault ≢ CliFault.Write → writer.new ≡ writer.old) }
 {
-    let (automaton, circuit) = synthesised(alloc, text, links)?;
+    let (automaton, circuit) = synthesised(alloc, text, links, sharing)?;
     let Some(circuit) = circuit else {
         writer.write_all(b"UNREALIZABLE\n")?;
         return Ok(());

@@ -1,0 +1,92 @@
+//! How a game is shared out among workers.
+
+ghost use Rattle.std.specs.Prelude.{◌≡◌, ◌≤◌, ◌<◌, length, All, IfOk};
+ghost use Rattle.pg_worker.specs.Cuts.{IsEvenCut};
+
+use pg_arena::{Game, Vertex};
+use pg_worker::Cut;
+use std::alloc::{AllocError, Global};
+
+/// How a game is shared out among workers.
+#[derive(Clone, Copy)]
+pub(crate) enum Sharing {
+    /// In runs of like length.
+    Even,
+    /// As suits workers that take turns on one processor: in runs of like length where few edges lead from run to run, and
+    /// else the first worker gets the whole game. A value that climbs to and fro between workers is sent each time.
+    ByEdges,
+}
+
+/// Of about how many vertices the edges are looked at.
+const LOOKS: usize = 65_536;
+
+/// How many edges lead from a vertex, and how many of them to a vertex of another worker.
+#[derive(Clone, Copy)]
+struct Edges {
+    all: u64,
+    across: u64,
+}
+
+/// Counts the edges to some vertices too, from one of this worker.
+fn count(cut: &Cut, worker: u32, successors: &[Vertex], edges: Edges) -> Edges
+    requires { All (λ w. w < length cut.now.numbers) successors.now }
+{
+    let mut counted = edges;
+    for w in successors {
+        counted.all = counted.all.saturating_add(1);
+        if cut.worker_of(*w) != worker {
+            counted.across = counted.across.saturating_add(1);
+        }
+    }
+    counted
+}
+
+/// Whether at most a quarter of the edges lead from a vertex of one worker to one of another. In a large game the edges of
+/// every so many vertices stand for all.
+fn stays_within(game: &Game, cut: &Cut) -> bool
+    requires { length cut.now.numbers ≡ length game.now }
+{
+    let stride = game.len() / LOOKS + 1;
+    let mut edges = Edges { all: 0, across: 0 };
+    for look in 0..game.len() / stride {
+        let v = Vertex((look * stride) as u32);
+        edges = count(cut, cut.worker_of(v), game.successors(v), edges);
+    }
+    edges.across <= edges.all / 4
+}
+
+/// The cut that gives the first worker the whole game.
+fn whole(alloc: Global, game: &Game, workers: usize) -> Result<Cut, AllocError>
+    requires { workers ≤ 16 }
+    ensures { IfOk result (λ c. (c.workers ≡ workers) × (length c.numbers ≡ length game.now)) }
+{
+    let firsts = vec![in alloc; 1; game.len()]?;
+    match Cut::from_list(alloc, workers as u32, &firsts)? {
+        Some(cut) => Ok(cut),
+        // there is no first worker
+        None => Cut::even(alloc, game.len() as u32, workers as u32),
+    }
+}
+
+/// Which of so many workers each vertex of a game belongs to.
+pub(crate) fn cut_of(
+    alloc: Global,
+    game: &Game,
+    workers: usize,
+    sharing: Sharing,
+) -> Result<Cut, AllocError>
+    requires { workers ≤ 16 }
+    ensures fits { IfOk result (λ c. (c.workers ≡ workers) × (length c.numbers ≡ length game.now)) }
+    ensures even { sharing ≡ Sharing.Even → IfOk result (IsEvenCut (length game.now) workers) }
+{
+    let cut = Cut::even(alloc, game.len() as u32, workers as u32)?;
+    match sharing {
+        Sharing::Even => Ok(cut),
+        Sharing::ByEdges => {
+            if stays_within(game, &cut) {
+                return Ok(cut);
+            }
+            whole(alloc, game, workers)
+        }
+    }
+}
