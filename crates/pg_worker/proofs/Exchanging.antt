@@ -1,5 +1,6 @@
 -- Frames that are read and answered one after the other.
-use Rattle.std.proofs.Common.{◌≡◌, ℕ, ◌⊎◌, List, [], ◌∷◌, ◌++◌, Option, refl, sym, ap, ◌∙◌, subst, append_assoc, inl, inr}
+use Rattle.std.proofs.Common.{◌≡◌, ◌≢◌, ℕ, ◌<◌, ◌⊎◌, List, length, [], ◌∷◌, ◌++◌, Option, refl, sym, ap, ◌∙◌, subst, append_assoc, inl, inr}
+use Rattle.std.specs.Prelude.{All}
 use Rattle.std.specs.List.{flat_map}
 use Rattle.std.specs.Io.KnownBytes.{Consumes, Appends}
 use Rattle.std.proofs.lemmas.List.{append-nil}
@@ -8,6 +9,7 @@ use Rattle.std.proofs.lemmas.List.Elements.{All-push}
 use Rattle.std.proofs.lemmas.Grind.{flat_map-append}
 use Rattle.pg_wire.specs.declared.fault.WireFault.TheVariants as wire
 use Rattle.pg_wire.specs.declared.frame.Frame.{Frame}
+use Rattle.pg_wire.specs.declared.frame.Frame.TheVariants as frames
 use Rattle.pg_wire.specs.Spelling.{spelling}
 use Rattle.pg_wire.specs.Bytes.{Spells, IsWhole}
 use Rattle.pg_wire.proofs.Append.{then}
@@ -37,13 +39,13 @@ exchanges_more i i' i'' o o' o'' fs f held held' e a =
 abbrev write_fault : WorkerFault
 write_fault = Wire wire.Write
 
-pub broken_off : (e fault : WorkerFault) (input left output before before' output' : Option (List ℕ)) (fs : List Frame) (held : Option HeldValue) → Exchanges input left output before fs held
+pub broken_off : (e fault : WorkerFault) (input left output before before' output' : Option (List ℕ)) (fs : List Frame) (held : Option HeldValue) → Exchanges input left output before fs held → All (λ f. f ≢ frames.Halt) fs → length fs < 4294967295
     → (fault ≡ Wire wire.Write) ⊎ (IsFaultAt left held fault × (before' ≡ before)) → ((e ≡ fault) × Appends before' output' (told fault)) ⊎ (e ≡ Wire wire.Write)
     → (e ≡ Wire wire.Write) ⊎ Breaks e input output output'
-broken_off e fault input left output before before' output' fs held x (inl w) (inl t) = inl (t.0 ∙ w)
-broken_off e fault input left output before before' output' fs held x (inl w) (inr t) = inl t
-broken_off e fault input left output before before' output' fs held x (inr w) (inr t) = inl t
-broken_off e fault input left output before before' output' fs held x (inr w) (inl t) =
+broken_off e fault input left output before before' output' fs held x going few (inl w) (inl t) = inl (t.0 ∙ w)
+broken_off e fault input left output before before' output' fs held x going few (inl w) (inr t) = inl t
+broken_off e fault input left output before before' output' fs held x going few (inr w) (inr t) = inl t
+broken_off e fault input left output before before' output' fs held x going few (inr w) (inl t) =
     let back : fault ≡ e = sym t.0 in
     inr (record {
       fs = fs;
@@ -51,6 +53,8 @@ broken_off e fault input left output before before' output' fs held x (inr w) (i
       left = left;
       before = before;
       exchanges = x;
+      going = going;
+      few = few;
       fault = subst (IsFaultAt left held) back w.0;
       told_is = subst (λ (g : WorkerFault). Appends before output' (told g)) back (subst (λ (b : Option (List ℕ)). Appends b output' (told fault)) w.1 t.1);
     })

@@ -1,5 +1,5 @@
 -- What serving does: the frames that were read, the replies to them, and how it ended.
-use Rattle.std.specs.Prelude.{◌≡◌, ◌≢◌, ℕ, ◌⊎◌, List, [], ◌∷◌, ◌++◌, length, All, Option, None, Err, IfSome}
+use Rattle.std.specs.Prelude.{◌≡◌, ◌≢◌, ℕ, ◌<◌, ◌⊎◌, List, [], ◌∷◌, ◌++◌, length, All, Option, None, Err, IfSome}
 use Rattle.std.specs.List.{flat_map}
 use Rattle.std.specs.Io.KnownBytes.{Consumes, Appends, IsAtEnd}
 use Rattle.pg_wire.specs.declared.fault.WireFault.{WireFault}
@@ -67,12 +67,14 @@ IsFaultAt left held e =
     ⊎ ((f : Frame) × (rest : Option (List ℕ)) × Spells f (spelling f) × Consumes left rest (spelling f)
     × Refuses 2 held f e)
 
--- the frames before the fault were answered, and the fault was told
+-- the frames before the fault were answered, none of them Halt and fewer than may be counted, and the fault was told
 pub record Breaks (e : WorkerFault) (input output output' : Option (List ℕ)) : Type 0 where
   pub fs : List Frame
   pub held : Option HeldValue
   pub left : Option (List ℕ)
   pub before : Option (List ℕ)
   pub exchanges : Exchanges input left output before fs held
+  pub going : All (λ f. f ≢ frames.Halt) fs
+  pub few : length fs < 4294967295
   pub fault : IsFaultAt left held e
   pub told_is : Appends before output' (told e)

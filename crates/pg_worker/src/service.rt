@@ -96,7 +96,7 @@ fn serve_by<R: Read, W: Write>(
 }
 
 /// Serves frames: reads them one after the other, and writes the replies of a session to `output`. It ends after Halt, where
-/// the input ends before a frame, after 4,294,967,295 frames, or at a fault.
+/// the input ends before a frame, after 4,294,967,295 frames, or at a fault before that.
 ///
 /// Faults: those of a session; `Wire` of a frame that can't be read; `Wire(Write)` where a write fails, and then nothing is
 /// said of how much went out. Before it ends with another fault than `Wire(Read)` and `Wire(Truncated)` it writes the

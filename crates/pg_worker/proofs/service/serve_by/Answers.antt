@@ -26,7 +26,7 @@ pub returns-in-Err-clause-fault : goal.returns-in-Err-clause-fault
 returns-in-Err-clause-fault g c =
     let l = c.loop-frames.invariant in
     broken_off c.tell.result c.in-Err.fault (g.R.Read.remaining c.args.input.now) (g.R.Read.remaining c.loop-frames.input) (g.W.Write.contents c.args.output.now) (g.W.Write.contents c.loop-frames.output) (g.W.Write.contents c.step.new.output) (g.W.Write.contents c.tell.new.output)
-    l.fs c.loop-frames.session.held l.exchanges c.in-Err.ensures.fault c.tell.ensures
+    l.fs c.loop-frames.session.held l.exchanges l.going (omega (arith, l.count)) c.in-Err.ensures.fault c.tell.ensures
 
 pub loop-frames-preserved : goal.loop-frames-preserved
 loop-frames-preserved g c =
