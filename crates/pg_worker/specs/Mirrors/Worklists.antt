@@ -17,8 +17,3 @@ pub record IsListing (numbers : List ℕ) (marked : List Bool) (room : ℕ) : Ty
   pub size : length numbers ≡ count_by (λ b. b) marked
   pub each : (v : ℕ) → times v numbers ≡ cond (slice_index_or marked v false) 1 0
   pub fits : length marked ≤ room
-
--- the vertices listed, and for how many there is room
-pub record ListingValue : Type 0 where
-  pub vertices : List ℕ
-  pub count : ℕ
