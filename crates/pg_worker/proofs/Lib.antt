@@ -16,3 +16,4 @@ pub mod Exchanging
 pub mod Ranges
 pub mod Under
 pub mod Bounded
+pub mod Zeros

@@ -35,12 +35,13 @@ worker_after lines map map' notes notes' b s same kept w = record {
 
 -- gathered edges of the same part
 pub ready_after : (lines : PartValue) (map map' : MapValue) (edges edges' : Edges) → length map'.measures ≡ length map.measures → length edges'.starts.items ≡ length map.measures + 1
-    → vec_capacity edges'.sources ≡ vec_capacity edges.sources → AreEdges (held_line lines) edges'.starts.items edges'.sources.items → AreReady lines map edges → AreReady lines map' edges'
-ready_after lines map map' edges edges' s size room right r = record {
+    → vec_capacity edges'.sources ≡ vec_capacity edges.sources → AreEdges (held_line lines) edges'.starts.items edges'.sources.items → edges'.was_gathered ≡ true → AreReady lines map edges → AreReady lines map' edges'
+ready_after lines map map' edges edges' s size room right before r = record {
   size = omega arith;
   few = r.few;
   room = let a = r.room in omega arith;
   right = λ e. right;
+  zero = λ e. absurd (cc (before, e));
 }
 
 none_held : (o : Option Line) → o ≡ None → IsSome o → ⊥
@@ -211,13 +212,14 @@ inside_same p p' map notes notes' l e same i =
     subst (λ (ls : List (Option Line)). IsInside (record { lines = ls; edges = p'.edges; room = p'.room; first = p'.first; heads = p'.heads; owners = p'.owners }) map notes') (sym l) at
 
 pub ready_same : (p p' : PartValue) (map : MapValue) (edges edges' : Edges) → p'.lines ≡ p.lines → p'.edges ≡ p.edges → edges'.starts.items ≡ edges.starts.items → edges'.sources.items ≡ edges.sources.items
-    → edges'.is_gathered ≡ edges.is_gathered → vec_capacity edges.sources ≤ vec_capacity edges'.sources → AreReady p map edges → AreReady p' map edges'
-ready_same p p' map edges edges' l e starts sources g more r =
+    → edges'.is_gathered ≡ edges.is_gathered → edges'.was_gathered ≡ edges.was_gathered → vec_capacity edges.sources ≤ vec_capacity edges'.sources → AreReady p map edges → AreReady p' map edges'
+ready_same p p' map edges edges' l e starts sources g before more r =
     let at : AreReady (record { lines = p.lines; edges = p'.edges; room = p'.room; first = p'.first; heads = p'.heads; owners = p'.owners }) map edges' = record {
       size = ap length starts ∙ r.size;
       few = let a = r.few in omega arith;
       room = let a = r.room in omega arith;
       right = λ q. rw (starts, sources) (r.right (sym g ∙ q));
+      zero = λ q. r.zero (sym before ∙ q);
     } in
     subst (λ (ls : List (Option Line)). AreReady (record { lines = ls; edges = p'.edges; room = p'.room; first = p'.first; heads = p'.heads; owners = p'.owners }) map edges') (sym l) at
 
@@ -227,11 +229,11 @@ next_same p p' n l i =
     subst (λ (ls : List (Option Line)). IsNext (record { lines = ls; edges = p'.edges; room = p'.room; first = p'.first; heads = p'.heads; owners = p'.owners }) n) (sym l) at
 
 pub whole_same : (p p' : PartValue) (map : MapValue) (edges edges' : Edges) (notes notes' : NotesValue) (next listings : ℕ) (row : List ℕ) → p'.lines ≡ p.lines → p'.edges ≡ p.edges → p'.first ≡ p.first
-    → edges'.starts.items ≡ edges.starts.items → edges'.sources.items ≡ edges.sources.items → edges'.is_gathered ≡ edges.is_gathered → vec_capacity edges.sources ≤ vec_capacity edges'.sources
+    → edges'.starts.items ≡ edges.starts.items → edges'.sources.items ≡ edges.sources.items → edges'.is_gathered ≡ edges.is_gathered → edges'.was_gathered ≡ edges.was_gathered → vec_capacity edges.sources ≤ vec_capacity edges'.sources
     → AreSameNotes notes notes' → IsWhole p map edges notes next listings row → IsWhole p' map edges' notes' next listings row
-whole_same p p' map edges edges' notes notes' next listings row l e f starts sources g more same w = record {
+whole_same p p' map edges edges' notes notes' next listings row l e f starts sources g before more same w = record {
   inside = inside_same p p' map notes notes' l e same w.inside;
-  ready = ready_same p p' map edges edges' l e starts sources g more w.ready;
+  ready = ready_same p p' map edges edges' l e starts sources g before more w.ready;
   above = next_same p p' next l w.above;
   first = let a = w.first in omega arith;
   note_first = λ some.
@@ -268,11 +270,11 @@ next_above p n ls next all = λ v s i d lt. let a = next.above v s in let b = al
 -- after a call that changes the map
 pub whole_after : (lines : PartValue) (map map' : MapValue) (edges edges' : Edges) (notes notes' : NotesValue) (next listings : ℕ) (row : List ℕ)
     → map'.bounds ≡ map.bounds → length map'.measures ≡ length map.measures → length edges'.starts.items ≡ length map.measures + 1 → vec_capacity edges'.sources ≡ vec_capacity edges.sources
-    → AreEdges (held_line lines) edges'.starts.items edges'.sources.items → IsSameSpan notes notes'
+    → AreEdges (held_line lines) edges'.starts.items edges'.sources.items → edges'.was_gathered ≡ true → IsSameSpan notes notes'
     → IsKept map.bounds (held_line lines) map'.measures notes'.waits notes'.best → IsWhole lines map edges notes next listings row → IsWhole lines map' edges' notes' next listings row
-whole_after lines map map' edges edges' notes notes' next listings row b s size room right same kept w = record {
+whole_after lines map map' edges edges' notes notes' next listings row b s size room right before same kept w = record {
   inside = worker_after lines map map' notes notes' b s same kept w.inside;
-  ready = ready_after lines map map' edges edges' s size room right w.ready;
+  ready = ready_after lines map map' edges edges' s size room right before w.ready;
   above = w.above;
   first = w.first;
   note_first = subst (λ (p : Span). 0 < p.size → p.first ≤ next) (sym same.span) w.note_first;
@@ -283,9 +285,9 @@ whole_after lines map map' edges edges' notes notes' next listings row b s size 
 -- after edges were gathered
 pub whole_gathered : (lines : PartValue) (map : MapValue) (edges edges' : Edges) (notes : NotesValue) (next listings : ℕ) (row : List ℕ)
     → length edges'.starts.items ≡ length map.measures + 1 → vec_capacity edges'.sources ≡ vec_capacity edges.sources
-    → AreEdges (held_line lines) edges'.starts.items edges'.sources.items → IsWhole lines map edges notes next listings row → IsWhole lines map edges' notes next listings row
-whole_gathered lines map edges edges' notes next listings row size room right w =
-    whole_after lines map map edges edges' notes notes next listings row refl refl size room right (record { waits = refl; best = refl; span = refl }) w.inside.kept w
+    → AreEdges (held_line lines) edges'.starts.items edges'.sources.items → edges'.was_gathered ≡ true → IsWhole lines map edges notes next listings row → IsWhole lines map edges' notes next listings row
+whole_gathered lines map edges edges' notes next listings row size room right before w =
+    whole_after lines map map edges edges' notes notes next listings row refl refl size room right before (record { waits = refl; best = refl; span = refl }) w.inside.kept w
 
 abbrev worker_of : MapValue → List (Option Line) → List Update → List ℕ → WorkerValue
 worker_of m ls us vs = record { bounds = m.bounds; lines = ls; map = m.measures; kept = us; lifted = vs }

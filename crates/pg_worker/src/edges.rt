@@ -16,6 +16,8 @@ pub struct Edges {
     pub sources: Vec<Vertex>,
     /// Whether they are those of the lines as these are now.
     pub is_gathered: bool,
+    /// Whether they were ever gathered. Before, nothing was taken or lifted, and all measures are zero.
+    pub was_gathered: bool,
 }
 
 /// Counts how many of the lines lead to each vertex.
@@ -84,11 +86,13 @@ impl Edges {
     pub fn new(alloc: Global, count: u32) -> Result<Edges, AllocError>
         ensures size { IfOk result (λ e. length e.starts.items ≡ count + 1) }
         ensures none { IfOk result (λ e. e.is_gathered ≡ false) }
+        ensures never { IfOk result (λ e. e.was_gathered ≡ false) }
     {
         Ok(Edges {
             starts: vec![in alloc; 0; count as usize + 1]?,
             sources: Vec::new(alloc),
             is_gathered: false,
+            was_gathered: false,
         })
     }
 
@@ -98,6 +102,7 @@ impl Edges {
         ensures starts { self.new.starts.items ≡ self.old.starts.items }
         ensures sources { self.new.sources.items ≡ self.old.sources.items }
         ensures gathered { self.new.is_gathered ≡ self.old.is_gathered }
+        ensures before { self.new.was_gathered ≡ self.old.was_gathered }
         ensures more { vec_capacity self.old.sources ≤ vec_capacity self.new.sources }
         ensures few { OnOk result (count < 2 ^ 32) }
         ensures room { OnOk result (count ≤ vec_capacity self.new.sources) }
@@ -125,7 +130,9 @@ impl Edges {
         ensures size { length self.new.starts.items ≡ length self.old.starts.items }
         ensures room { vec_capacity self.new.sources ≡ vec_capacity self.old.sources }
         ensures edges { AreEdges (G.line lines.now) self.new.starts.items self.new.sources.items }
+        ensures before { self.new.was_gathered ≡ true }
     {
+        self.was_gathered = true;
         if self.is_gathered {
             return;
         }

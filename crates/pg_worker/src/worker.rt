@@ -1,6 +1,6 @@
 //! Workers.
 
-ghost use Rattle.std.specs.Prelude.{◌≡◌, ◌↔◌, ◌+◌, ◌<◌, ◌≤◌, ◌⊎◌, [], ◌∷◌, length, All, IfOk, IfErr, IfSome, IfNone, IsOk, OnOk, OnErr, IsTrue, IsSome, vec_capacity};
+ghost use Rattle.std.specs.Prelude.{◌≡◌, ◌↔◌, ◌+◌, ◌<◌, ◌≤◌, ◌⊎◌, [], ◌∷◌, true, length, All, IfOk, IfErr, IfSome, IfNone, IsOk, OnOk, OnErr, IsTrue, IsSome, vec_capacity};
 ghost use Rattle.std.specs.Option.{option_copied};
 ghost use Rattle.pg_wire.specs.Lines.{line_with};
 ghost use Rattle.pg_wire.specs.Well.{IsSetup, IsVertices, ArePlaces};
@@ -66,6 +66,7 @@ fn gather(edges: &mut Edges, part: &Part, map: &MeasureMap)
     ensures size { length edges.new.starts.items ≡ length map.now.measures + 1 }
     ensures room { vec_capacity edges.new.sources ≡ vec_capacity edges.old.sources }
     ensures edges { AreEdges (held_line part.now) edges.new.starts.items edges.new.sources.items }
+    ensures before { edges.new.was_gathered ≡ true }
 {
     edges.gather(part, map.len());
 }
@@ -147,6 +148,7 @@ impl Worker {
             &mut self.notes,
             &mut self.next,
             lines,
+            !self.edges.was_gathered,
         );
         Ok(())
     }
@@ -185,7 +187,14 @@ impl Worker {
             count,
         )?;
         self.edges.is_gathered = false;
-        add_line(&self.map, &mut self.part, &mut self.notes, head, successors);
+        add_line(
+            &self.map,
+            &mut self.part,
+            &mut self.notes,
+            head,
+            successors,
+            !self.edges.was_gathered,
+        );
         self.next = u64::from(vertex) + 1;
         Ok(())
     }

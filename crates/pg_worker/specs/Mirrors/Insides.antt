@@ -1,7 +1,7 @@
 -- What a worker remembers fits its part and its map.
-use Rattle.std.specs.Prelude.{◌≡◌, ℕ, ◌+◌, ◌^◌, ◌<◌, ◌≤◌, List, length, replicate, IsSome, vec_capacity}
+use Rattle.std.specs.Prelude.{◌≡◌, ℕ, ◌+◌, ◌^◌, ◌<◌, ◌≤◌, false, List, length, replicate, IsSome, vec_capacity}
 use Rattle.pg_map.specs.Lines.{AreWithin}
-use Rattle.pg_map.specs.Maps.{MapValue}
+use Rattle.pg_map.specs.Maps.{MapValue, zero_map}
 use Rattle.pg_wire.specs.declared.frame.VertexLine.{VertexLine}
 use Rattle.pg_worker.specs.declared.edges.Edges.{Edges}
 use Rattle.pg_worker.specs.Mirrors.Parts.{PartValue, HasPlace, held_line}
@@ -16,12 +16,18 @@ pub record IsInside (part : PartValue) (map : MapValue) (notes : NotesValue) : T
   pub kept : IsKept map.bounds (held_line part) map.measures notes.waits notes.best
   pub size : length part.lines ≡ length map.measures
 
--- there is room for the sources of all edges of the part, and they are right where they are gathered
+-- the measure of each vertex is zero
+abbrev pub IsAtZero : MapValue → Type 0
+IsAtZero map = map.measures ≡ zero_map map.bounds (length map.measures)
+
+-- there is room for the sources of all edges of the part, and they are right where they are gathered; before they are
+-- gathered for the first time no measure has risen
 pub record AreReady (part : PartValue) (map : MapValue) (edges : Edges) : Type 0 where
   pub size : length edges.starts.items ≡ length map.measures + 1
   pub few : part.edges < 2 ^ 32
   pub room : part.edges ≤ vec_capacity edges.sources
   pub right : IsRight (held_line part) edges
+  pub zero : edges.was_gathered ≡ false → IsAtZero map
 
 -- how many successors a line has
 abbrev pub edge_count : VertexLine → ℕ
@@ -49,6 +55,7 @@ pub record AreAsBefore (part part' : PartValue) (edges edges' : Edges) (notes no
   pub starts : edges'.starts.items ≡ edges.starts.items
   pub sources : edges'.sources.items ≡ edges.sources.items
   pub gathered : edges'.is_gathered ≡ edges.is_gathered
+  pub before : edges'.was_gathered ≡ edges.was_gathered
   pub more : vec_capacity edges.sources ≤ vec_capacity edges'.sources
   pub noted : AreSameNotes notes notes'
 

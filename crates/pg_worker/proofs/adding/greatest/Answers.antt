@@ -3,7 +3,8 @@ use Rattle.pg_arena.specs.declared.player.Player.TheVariants.{Odd}
 use Rattle.pg_measure.specs.Measures.{width_from}
 use Rattle.pg_map.specs.Lines.{line_at}
 use Rattle.pg_map.proofs.Bests.{taken, left}
-use Rattle.pg_worker.proofs.Keeping.{item_at}
+use Rattle.pg_worker.proofs.Keeping.{item_at, among_at}
+use Rattle.pg_worker.proofs.Zeros.{any_is_best}
 use Rattle.pg_worker.proofs.adding.greatest.Goals as goal
 use Rattle.pg_worker.proofs.adding.greatest.Goals.{then-is_front_below, else-is_front_below}
 
@@ -20,3 +21,15 @@ loop-w-preserved g c =
       | then-is_front_below w ↦ rw w.best-is (taken Odd (width_from bs l.priority) f l.successors i c.loop-w.best c.w-item.result lt (sym q) w.if-is_front_below.ensures c.loop-w.invariant)
       | else-is_front_below w ↦ rw w.best-is (left Odd (width_from bs l.priority) f l.successors i c.loop-w.best c.w-item.result lt (sym q) w.if-is_front_below.ensures c.loop-w.invariant)
     ]
+
+pub returns-then-is_zero : goal.returns-then-is_zero
+returns-then-is_zero g c =
+    let l = line_at (g.G.Lines.line c.args.lines.now) c.args.v in
+    let map = c.args.map.now in
+    let b = c.index-successors-0.result in
+    let some : 0 < length l.successors = c.requires.within.nonempty c.args.v c.requires.held in
+    let all = c.requires.within.successors c.args.v c.requires.held in
+    let read : 0 < length c.successors.result.now = subst (λ (t : List ℕ). 0 < length t) (sym c.successors.ensures) some in
+    let q : get_or l.successors 0 0 ≡ b = item_at c.successors.result.now l.successors 0 b c.successors.ensures read c.index-successors-0.is in
+    let lt : b < length map.measures = subst (λ (u : ℕ). u < length map.measures) q (all 0 0 some) in
+    any_is_best Odd (width_from map.bounds l.priority) map l.successors b (rw c.if-is_zero.true at c.requires.zero) all (among_at l.successors 0 0 b some q) lt

@@ -1,4 +1,4 @@
-use Rattle.std.proofs.Common.{rules, ◌<◌, ◌≤◌, ◌+◌, ◌∷◌, [], ◌∙◌, length, ap, arith}
+use Rattle.std.proofs.Common.{rules, sym, ◌<◌, ◌≤◌, ◌+◌, ◌∷◌, [], ◌∙◌, length, ap, arith}
 use Rattle.pg_wire.specs.declared.frame.VertexLine.{VertexLine}
 use Rattle.pg_wire.specs.Lines.{line_with}
 use Rattle.pg_worker.specs.Workers.{told_line, FitsGame}
@@ -12,7 +12,7 @@ invariant_of-self c =
     let w = c.self.inside in
     let e = c.make_room.ensures.same in
     whole_same w.part c.make_room.new.part w.map w.edges c.make_room.new.edges w.notes c.make_room.new.notes w.next w.lifted.count w.row.items e.lines e.count c.in_err-make_room.ensures.first
-    e.starts e.sources e.gathered e.more e.noted c.self.invariant
+    e.starts e.sources e.gathered e.before e.more e.noted c.self.invariant
 
 pub add_line-requires-clause-inside : goal.add_line-requires-clause-inside
 add_line-requires-clause-inside c =
@@ -69,6 +69,7 @@ invariant_of-self-2 c =
         few = search rules;
         room = search rules;
         right = λ q. absurd (cc q);
+        zero = λ q. c.self.invariant.ready.zero (sym e.before ∙ q);
       };
       above = next;
       first = let f = place.from in let s = c.add_line.ensures.first in omega arith;

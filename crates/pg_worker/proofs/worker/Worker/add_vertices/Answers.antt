@@ -1,4 +1,4 @@
-use Rattle.std.proofs.Common.{rules, ◌≡◌, ◌<◌, ◌≤◌, ◌+◌, ◌-◌, ◌∙◌, ℕ, List, length, get_or, ap, inl, inr, arith}
+use Rattle.std.proofs.Common.{rules, sym, ◌≡◌, ◌<◌, ◌≤◌, ◌+◌, ◌-◌, ◌∙◌, ℕ, List, length, get_or, ap, inl, inr, arith}
 use Rattle.std.specs.Prelude.{AllPairs}
 use Rattle.std.proofs.lemmas.Bool.{cases_eq}
 use Rattle.std.proofs.lemmas.List.{get_or_default}
@@ -17,7 +17,7 @@ invariant_of-self c =
     let w = c.self.inside in
     let e = c.make_room.ensures.same in
     whole_same w.part c.make_room.new.part w.map w.edges c.make_room.new.edges w.notes c.make_room.new.notes w.next w.lifted.count w.row.items e.lines e.count c.in_err-make_room.ensures.first
-    e.starts e.sources e.gathered e.more e.noted c.self.invariant
+    e.starts e.sources e.gathered e.before e.more e.noted c.self.invariant
 
 pub add_lines-requires-clause-inside : goal.add_lines-requires-clause-inside
 add_lines-requires-clause-inside c =
@@ -70,6 +70,7 @@ invariant_of-self-2 c =
         few = search rules;
         room = search rules;
         right = λ q. absurd (cc q);
+        zero = λ q. c.self.invariant.ready.zero (sym e.before ∙ q);
       };
       above = added.next;
       first = added.first some;

@@ -20,6 +20,7 @@ invariant_of-result c =
         few = let e = c.new-part.ensures.edges in omega arith;
         room = let e = c.new-part.ensures.edges in omega arith;
         right = λ e. let off = c.in_ok-edges.ensures.none in absurd (cc (off, e));
+        zero = λ e. rw (m, c.in_ok-map.ensures.bounds) c.in_ok-map.ensures.zeros;
       };
       first = let e = c.new-part.ensures.first in omega arith;
       note_first = λ some. let e = c.in_ok-notes.ensures.none in absurd (omega arith);

@@ -9,7 +9,7 @@ invariant_of-self c =
     let n = c.receive-answer.new in
     let e = c.receive-answer.ensures in
     let whole = whole_after w.part w.map n.map w.edges c.gather.new.edges w.notes n.notes w.next w.lifted.count w.row.items
-    e.bounds e.size c.gather.ensures.size c.gather.ensures.room c.gather.ensures.edges e.span e.kept c.self.invariant in
+    e.bounds e.size c.gather.ensures.size c.gather.ensures.room c.gather.ensures.edges c.gather.ensures.before e.span e.kept c.self.invariant in
     record {
       inside = whole.inside;
       ready = whole.ready;
