@@ -66,8 +66,8 @@ pub fn finish(task: &Task<'_>, board: &mut Board, before: u64) -> Result<u64, Al
     ensures under { StaysUnder board.old.map.bounds
         (game_line task.now.game) board.old.map.measures board.new.map.measures }
     ensures closed { OnOk result (IsClosed board.new.map.bounds (game_line task.now.game) board.new.map.measures) }
-    ensures rounds { IfOk result (λ n. (1 ≤ n)
-        × (n ≤ before + 1 + map_weight board.old.map.bounds board.old.map.measures)) }
+    ensures rounds { IfOk result (λ n. (1 ≤ n) × (n + map_weight board.new.map.bounds board.new.map.measures
+        ≤ before + 1 + map_weight board.old.map.bounds board.old.map.measures)) }
 {
     let leading = Leading::of(task.alloc(), task.game())?;
     let mut marks = Marks::all(task.alloc(), task.game().len())?;

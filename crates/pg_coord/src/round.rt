@@ -176,7 +176,7 @@ pub fn seat_all<L: Link>(
 ) -> Result<(), AllocError>
     requires seats { length seats.old ≡ length links.old }
     requires few { length links.old < 2 ^ 32 }
-    ensures honest { OnOk result (All L.is_honest links.old → All L.is_honest links.new) }
+    ensures honest { All L.is_honest links.old → All L.is_honest links.new }
     ensures seated { OnOk result (All L.is_honest links.old → (map : MapValue)
         → AllSeated L.is_under task.now map seats.new links.new) }
     ensures told { OnOk result ((replies : ℕ → List Reply) → TellReplies L.told task.now.bounds task.now.cut links.old replies
@@ -200,7 +200,7 @@ pub fn ask_all<L: Link>(
     requires few { length links.old < 2 ^ 32 }
     requires bounds { board.now.map.bounds ≡ task.now.bounds }
     requires size { length board.now.map.measures ≡ length task.now.game }
-    ensures honest { OnOk result (All L.is_honest links.old → All L.is_honest links.new) }
+    ensures honest { All L.is_honest links.old → All L.is_honest links.new }
     ensures seated { OnOk result (All L.is_honest links.old → AllSeated L.is_under task.now board.now.map seats.old links.old
         → AllSeated L.is_under task.now board.now.map seats.new links.new) }
     ensures told { OnOk result ((replies : ℕ → List Reply) → AllTell L.told task.now seats.old links.old replies
@@ -233,7 +233,7 @@ pub fn hear_all<L: Link>(
     requires bounds { board.old.map.bounds ≡ task.now.bounds }
     requires size { length board.old.map.measures ≡ length task.now.game }
     requires row { length row.old ≡ length task.now.bounds }
-    ensures honest { OnOk result (All L.is_honest links.old → All L.is_honest links.new) }
+    ensures honest { All L.is_honest links.old → All L.is_honest links.new }
     ensures moves { Moves board.old board.new }
     ensures seated { OnOk result (All L.is_honest links.old → AllSeated L.is_under task.now board.old.map seats.old links.old
         → AllSeated L.is_under task.now board.new.map seats.new links.new) }

@@ -9,7 +9,7 @@ ghost use Rattle.pg_map.specs.Weights.{map_weight};
 ghost use Rattle.pg_coord.specs.Solving.{IsMismatch, AreTop, most_rounds};
 ghost use Rattle.pg_coord.specs.Told.{Reply, TellReplies, IsLeastOverReplies};
 ghost use Rattle.pg_coord.specs.Mirrors.Boards.{Moves};
-ghost use Rattle.pg_coord.specs.Mirrors.Tasks.{IsClosedMap};
+ghost use Rattle.pg_coord.specs.Mirrors.Tasks.{IsTask, IsClosedMap};
 ghost use Rattle.pg_coord.specs.Mirrors.Seats.{AllSeated};
 ghost use Rattle.pg_coord.specs.Mirrors.Telling.{AllTell};
 ghost use Rattle.pg_coord.specs.declared.fault.CoordFault.TheVariants.{CutMismatch};
@@ -97,13 +97,12 @@ fn make_rounds<L: Link>(
     ensures bounds { board.new.map.bounds ≡ task.now.bounds }
     ensures map { OnOk result (IsMap board.new.map.bounds (length task.now.game) board.new.map.measures) }
     ensures closed { OnOk result (IsClosed board.new.map.bounds (game_line task.now.game) board.new.map.measures) }
-    ensures rounds { IfOk result (λ n. (1 ≤ n)
-        × (n ≤ 1 + map_weight board.old.map.bounds board.old.map.measures)) }
+    ensures rounds { IfOk result (λ n. (1 ≤ n) × (n + map_weight board.new.map.bounds board.new.map.measures
+        ≤ 1 + map_weight board.old.map.bounds board.old.map.measures)) }
     ensures least { OnOk result (All L.is_honest links.old → AllSeated L.is_under task.now board.old.map seats.old links.old
         → ((h : MapValue) → IsClosedMap task.now h → MapAtMost board.old.map.measures h.measures)
         → (h : MapValue) → IsClosedMap task.now h → MapAtMost board.new.map.measures h.measures) }
-    ensures honest { OnOk result (All L.is_honest links.old → All L.is_honest links.new) }
-    ensures limit { result ≡ Err Stop.Limit → All L.is_honest links.old → All L.is_honest links.new }
+    ensures honest { All L.is_honest links.old → All L.is_honest links.new }
     ensures limited { result ≡ Err Stop.Limit → most_rises + 1 < 2 ^ 64 }
     ensures told { IfOk result (λ n. (replies : ℕ → List Reply) → AllTell L.told task.now seats.old links.old replies
         → ((h : MapValue) → IsClosedMap task.now h → MapAtMost board.old.map.measures h.measures)
@@ -147,13 +146,12 @@ fn seat_and_run<L: Link>(
     ensures bounds { board.new.map.bounds ≡ task.now.bounds }
     ensures map { OnOk result (IsMap board.new.map.bounds (length task.now.game) board.new.map.measures) }
     ensures closed { OnOk result (IsClosed board.new.map.bounds (game_line task.now.game) board.new.map.measures) }
-    ensures rounds { IfOk result (λ n. (1 ≤ n)
-        × (n ≤ 1 + map_weight board.old.map.bounds board.old.map.measures)) }
+    ensures rounds { IfOk result (λ n. (1 ≤ n) × (n + map_weight board.new.map.bounds board.new.map.measures
+        ≤ 1 + map_weight board.old.map.bounds board.old.map.measures)) }
     ensures least { OnOk result (All L.is_honest links.old
         → ((h : MapValue) → IsClosedMap task.now h → MapAtMost board.old.map.measures h.measures)
         → (h : MapValue) → IsClosedMap task.now h → MapAtMost board.new.map.measures h.measures) }
-    ensures honest { OnOk result (All L.is_honest links.old → All L.is_honest links.new) }
-    ensures limit { result ≡ Err Stop.Limit → All L.is_honest links.old → All L.is_honest links.new }
+    ensures honest { All L.is_honest links.old → All L.is_honest links.new }
     ensures limited { result ≡ Err Stop.Limit → most_rises + 1 < 2 ^ 64 }
     ensures told { IfOk result (λ n. (replies : ℕ → List Reply)
         → TellReplies L.told task.now.bounds task.now.cut links.old replies
@@ -186,13 +184,12 @@ fn run<L: Link>(
     ensures bounds { board.new.map.bounds ≡ task.now.bounds }
     ensures map { OnOk result (IsMap board.new.map.bounds (length task.now.game) board.new.map.measures) }
     ensures closed { OnOk result (IsClosed board.new.map.bounds (game_line task.now.game) board.new.map.measures) }
-    ensures rounds { IfOk result (λ c. (1 ≤ c.rounds)
-        × (c.rounds ≤ 1 + map_weight board.old.map.bounds board.old.map.measures)) }
+    ensures rounds { IfOk result (λ c. (1 ≤ c.rounds) × (c.rounds + map_weight board.new.map.bounds board.new.map.measures
+        ≤ 1 + map_weight board.old.map.bounds board.old.map.measures)) }
     ensures least { OnOk result (All L.is_honest links.old
         → ((h : MapValue) → IsClosedMap task.now h → MapAtMost board.old.map.measures h.measures)
         → (h : MapValue) → IsClosedMap task.now h → MapAtMost board.new.map.measures h.measures) }
-    ensures honest { OnOk result (All L.is_honest links.old → All L.is_honest links.new) }
-    ensures limit { result ≡ Err Stop.Limit → All L.is_honest links.old → All L.is_honest links.new }
+    ensures honest { All L.is_honest links.old → All L.is_honest links.new }
     ensures limited { result ≡ Err Stop.Limit → most_rises + 1 < 2 ^ 64 }
     ensures told { IfOk result (λ c. (replies : ℕ → List Reply)
         → TellReplies L.told task.now.bounds task.now.cut links.old replies
@@ -225,11 +222,11 @@ fn work<L: Link>(
     ensures bounds { IfOk result (λ s. s.map.bounds ≡ task.now.bounds) }
     ensures map { IfOk result (λ s. IsMap s.map.bounds (length task.now.game) s.map.measures) }
     ensures closed { IfOk result (λ s. IsClosed s.map.bounds (game_line task.now.game) s.map.measures) }
-    ensures rounds { IfOk result (λ s. (1 ≤ s.rounds) × (s.rounds ≤ most_rounds (length task.now.game) task.now.bounds)) }
+    ensures rounds { IfOk result (λ s. (1 ≤ s.rounds)
+        × (s.rounds + map_weight s.map.bounds s.map.measures ≤ most_rounds (length task.now.game) task.now.bounds)) }
     ensures least { IfOk result (λ s. All L.is_honest links.old → AreTop task.now.game task.now.bounds tops.now
         → IsLeastProgressMeasure s.map.bounds (game_line task.now.game) s.map.measures) }
-    ensures honest { OnOk result (All L.is_honest links.old → All L.is_honest links.new) }
-    ensures limit { result ≡ Err Stop.Limit → All L.is_honest links.old → All L.is_honest links.new }
+    ensures honest { All L.is_honest links.old → All L.is_honest links.new }
     ensures limited { result ≡ Err Stop.Limit → most_rises + 1 < 2 ^ 64 }
     ensures told { IfOk result (λ s. AreTop task.now.game task.now.bounds tops.now → (replies : ℕ → List Reply)
         → TellReplies L.told task.now.bounds task.now.cut links.old replies
@@ -256,6 +253,27 @@ fn fits(cut: &Cut, game: &Game, links: usize) -> bool
     cut.vertices() == game.len() && cut.workers() as usize == links
 }
 
+/// The game, cut so, if the cut fits; some of its vertices are at top at first.
+fn task_of<'a>(
+    alloc: Global,
+    game: &'a Game,
+    cut: &'a Cut,
+    links: usize,
+    budget: u32,
+    tops: &[Vertex],
+) -> Result<Task<'a>, CoordFault>
+    ensures game { IfOk result (λ t. t.game ≡ game.now) }
+    ensures cut { IfOk result (λ t. t.cut ≡ cut.now) }
+    ensures task { IfOk result IsTask }
+    ensures few { OnOk result (links < 2 ^ 32) }
+    ensures mismatch { result ≡ Err CutMismatch ↔ IsMismatch (length game.now) links cut.now }
+{
+    if !fits(cut, game, links) {
+        return Err(CoordFault::CutMismatch);
+    }
+    Ok(Task::new(alloc, game, cut, budget, tops)?)
+}
+
 /// Solves a game over links: worker k + 1 of the cut is behind link k, and makes at most `budget` lifts in a turn.
 ///
 /// In a round each link in use is sent values and a Go; then the replies are read, and their values joined. Only where no value
@@ -265,7 +283,8 @@ fn fits(cut: &Cut, game: &Game, links: usize) -> bool
 ///
 /// A link that fails is restarted and set up again, at most three times; then it is abandoned, and its part is lifted here.
 ///
-/// Faults: `CutMismatch` where the cut isn't over the game's vertices and as many workers as links; `OutOfMemory`.
+/// Faults: `CutMismatch` where the cut isn't over the game's vertices and as many workers as links, which then are as they were;
+/// `OutOfMemory`. Links that are honest stay so, whatever comes.
 pub fn solve<L: Link>(
     alloc: Global,
     game: &Game,
@@ -276,18 +295,17 @@ pub fn solve<L: Link>(
     ensures bounds { IfOk result (λ s. IsBoundsOf game.now s.map.bounds) }
     ensures map { IfOk result (λ s. IsMap s.map.bounds (length game.now) s.map.measures) }
     ensures closed { IfOk result (λ s. IsClosed s.map.bounds (game_line game.now) s.map.measures) }
-    ensures rounds { IfOk result (λ s. (1 ≤ s.rounds) × (s.rounds ≤ most_rounds (length game.now) s.map.bounds)) }
+    ensures rounds { IfOk result (λ s. (1 ≤ s.rounds)
+        × (s.rounds + map_weight s.map.bounds s.map.measures ≤ most_rounds (length game.now) s.map.bounds)) }
     ensures least { IfOk result (λ s. All L.is_honest links.old
         → IsLeastProgressMeasure s.map.bounds (game_line game.now) s.map.measures) }
     ensures told { IfOk result (λ s. (replies : ℕ → List Reply) → TellReplies L.told s.map.bounds cut.now links.old replies
         → IsLeastOverReplies (game_line game.now) s.rounds (length links.old) replies s.map) }
-    ensures honest { OnOk result (All L.is_honest links.old → All L.is_honest links.new) }
+    ensures honest { All L.is_honest links.old → All L.is_honest links.new }
     ensures mismatch { result ≡ Err CutMismatch ↔ IsMismatch (length game.now) (length links.old) cut.now }
+    ensures same { result ≡ Err CutMismatch → links.new ≡ links.old }
 {
-    if !fits(cut, game, links.len()) {
-        return Err(CoordFault::CutMismatch);
-    }
-    let task = Task::new(alloc, game, cut, budget, &[])?;
+    let task = task_of(alloc, game, cut, links.len(), budget, &[])?;
     match work(&task, links, &[], u64::MAX) {
         Ok(solved) => Ok(solved),
         // so many measures never rise
@@ -317,17 +335,15 @@ pub fn solve_within<L: Link>(
     ensures map { IfOk result (λ o. IfSome o (λ s. IsMap s.map.bounds (length game.now) s.map.measures)) }
     ensures closed { IfOk result (λ o. IfSome o (λ s. IsClosed s.map.bounds (game_line game.now) s.map.measures)) }
     ensures rounds { IfOk result (λ o. IfSome o (λ s. (1 ≤ s.rounds)
-        × (s.rounds ≤ most_rounds (length game.now) s.map.bounds))) }
+        × (s.rounds + map_weight s.map.bounds s.map.measures ≤ most_rounds (length game.now) s.map.bounds))) }
     ensures least { IfOk result (λ o. IfSome o (λ s. All L.is_honest links.old → AreTop game.now s.map.bounds tops.now
         → IsLeastProgressMeasure s.map.bounds (game_line game.now) s.map.measures)) }
     ensures limited { IfOk result (λ o. IfNone o (most_rises + 1 < 2 ^ 64)) }
-    ensures honest { OnOk result (All L.is_honest links.old → All L.is_honest links.new) }
+    ensures honest { All L.is_honest links.old → All L.is_honest links.new }
     ensures mismatch { result ≡ Err CutMismatch ↔ IsMismatch (length game.now) (length links.old) cut.now }
+    ensures same { result ≡ Err CutMismatch → links.new ≡ links.old }
 {
-    if !fits(cut, game, links.len()) {
-        return Err(CoordFault::CutMismatch);
-    }
-    let task = Task::new(alloc, game, cut, budget, tops)?;
+    let task = task_of(alloc, game, cut, links.len(), budget, tops)?;
     match work(&task, links, tops, most_rises) {
         Ok(solved) => Ok(Some(solved)),
         Err(Stop::Limit) => Ok(None),

@@ -38,3 +38,10 @@ returns-clause-told g c = λ replies tell.
     let same = c.loop-i.invariant.same_count in
     let past = c.loop-i-test.false in
     ((λ k d e lt. ((done k d e lt).0 (omega arith)).0), λ k d e lt. ((done k d e lt).0 (omega arith)).1)
+
+pub returns-in_err-ask_one-clause-honest : goal.returns-in_err-ask_one-clause-honest
+returns-in_err-ask_one-clause-honest g c = λ h.
+    let inv = c.loop-i.invariant in
+    let within : c.loop-i.i < length c.loop-i.links = search rules in
+    All-set g.L.Link.is_honest c.loop-i.links c.loop-i.i c.ask_one.new.link
+    (c.ask_one.ensures.honest (inv.honest_still h c.loop-i.i _ within)) (inv.honest_still h)

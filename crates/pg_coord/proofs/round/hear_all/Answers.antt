@@ -64,3 +64,10 @@ returns-clause-told g c = λ replies tell asked.
       (λ k d e lt. (done.0 k d e lt).0 (omega arith)),
       subst (λ (n : ℕ). JoinsEach c.args.board.now.map.measures n (λ k. measures_of (take 1 (replies k))) c.loop-i.board.map.measures) all done.1,
     )
+
+pub returns-in_err-hear_one-clause-honest : goal.returns-in_err-hear_one-clause-honest
+returns-in_err-hear_one-clause-honest g c = λ h.
+    let inv = c.loop-i.invariant in
+    let within : c.loop-i.i < length c.loop-i.links = search rules in
+    All-set g.L.Link.is_honest c.loop-i.links c.loop-i.i c.hear_one.new.link
+    (c.hear_one.ensures.honest (inv.honest_still h c.loop-i.i _ within)) (inv.honest_still h)

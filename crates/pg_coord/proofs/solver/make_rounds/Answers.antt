@@ -5,7 +5,7 @@ use Rattle.pg_map.specs.Maps.{MapValue, IsClosed, StaysUnder}
 use Rattle.pg_map.specs.Weights.{map_weight}
 use Rattle.pg_coord.proofs.Moving.{moves_more}
 use Rattle.pg_coord.proofs.Seating.{all_seated_above}
-use Rattle.pg_coord.proofs.Rounds.{weight_less, lifts_under}
+use Rattle.pg_coord.proofs.Rounds.{weight_less, weight_stays, lifts_under}
 use Rattle.pg_coord.proofs.Taken.{none_taken, round_taken, ended, least_over}
 use Rattle.pg_coord.proofs.solver.make_rounds.Goals as goal
 
@@ -46,7 +46,7 @@ rounds-preserved g c =
       rounds = (let w = weight_less begun after moves c.begin.ensures.rose c.if-not-board.false in
           let e : map_weight begun.map.bounds begun.map.measures ≡ map_weight before.map.bounds before.map.measures = ap (λ (m : MapValue). map_weight m.bounds m.measures) same in
           let k = inv.rounds in omega arith);
-      honest_still = λ h. c.in_ok-hear_all.ensures.honest (c.in_ok-ask_all.ensures.honest (inv.honest_still h));
+      honest_still = λ h. c.hear_all.ensures.honest (c.ask_all.ensures.honest (inv.honest_still h));
       taken = λ replies tell.
           let h = inv.taken replies tell in
           let left = λ (k : ℕ). drop h.taken (replies k) in
@@ -62,11 +62,11 @@ rounds-preserved g c =
           first.above second.above (first.bounds ∙ begun_bounds) (first.size ∙ begun_size) lifted;
       seated = λ h s.
           let asked = c.in_ok-ask_all.ensures.seated (inv.honest_still h) (inv.seated h s) in
-          all_seated_above under task heard.map after.map _ _ second.above (c.in_ok-hear_all.ensures.seated (c.in_ok-ask_all.ensures.honest (inv.honest_still h)) (rw same asked));
+          all_seated_above under task heard.map after.map _ _ second.above (c.in_ok-hear_all.ensures.seated (c.ask_all.ensures.honest (inv.honest_still h)) (rw same asked));
       least = λ h s l m closed.
           let asked = c.in_ok-ask_all.ensures.seated (inv.honest_still h) (inv.seated h s) in
           lifts_under task heard.map after.map m (first.bounds ∙ begun_bounds) (first.size ∙ begun_size) lifted closed
-          (c.in_ok-hear_all.ensures.least (c.in_ok-ask_all.ensures.honest (inv.honest_still h)) (rw same asked) m closed (rw same (inv.least h s l m closed)));
+          (c.in_ok-hear_all.ensures.least (c.ask_all.ensures.honest (inv.honest_still h)) (rw same asked) m closed (rw same (inv.least h s l m closed)));
     }
 
 pub rounds-smaller : goal.rounds-smaller
@@ -78,7 +78,7 @@ rounds-smaller g c =
     subst (λ (n : ℕ). map_weight c.settle.new.board.map.bounds c.settle.new.board.map.measures < n) e w
 
 pub returns-then-not-board-clause-honest : goal.returns-then-not-board-clause-honest
-returns-then-not-board-clause-honest g c = λ h. c.in_ok-hear_all.ensures.honest (c.in_ok-ask_all.ensures.honest (c.rounds.invariant.honest_still h))
+returns-then-not-board-clause-honest g c = λ h. c.hear_all.ensures.honest (c.ask_all.ensures.honest (c.rounds.invariant.honest_still h))
 
 pub returns-then-not-board-clause-told : goal.returns-then-not-board-clause-told
 returns-then-not-board-clause-told g c = λ replies tell under.
@@ -114,7 +114,21 @@ returns-then-not-board-clause-told g c = λ replies tell under.
 
 pub returns-then-are_abandoned-clause-honest : goal.returns-then-are_abandoned-clause-honest
 returns-then-are_abandoned-clause-honest g c =
-    λ h. c.in_ok-hear_all.ensures.honest (c.in_ok-ask_all.ensures.honest (c.rounds.invariant.honest_still h))
+    λ h. c.hear_all.ensures.honest (c.ask_all.ensures.honest (c.rounds.invariant.honest_still h))
+
+pub returns-then-not-board-clause-rounds : goal.returns-then-not-board-clause-rounds
+returns-then-not-board-clause-rounds g c =
+    let before = c.rounds.board in
+    let begun = c.begin.new.self in
+    let after = c.settle.new.board in
+    let moves = moves_more begun c.hear_all.new.board after c.hear_all.ensures.moves c.settle.ensures.moves in
+    let w = weight_stays begun after moves in
+    let e : map_weight begun.map.bounds begun.map.measures ≡ map_weight before.map.bounds before.map.measures =
+    ap (λ (m : MapValue). map_weight m.bounds m.measures) c.begin.ensures.map in
+    let k = c.rounds.invariant.rounds in
+    let s : c.saturating_add-rounds.result ≤ c.rounds.rounds + 1 = omega arith in
+    let one : 1 ≤ c.saturating_add-rounds.result = omega arith in
+    (one, omega (arith, w, e, k, s))
 
 pub returns-then-are_abandoned-clause-rounds : goal.returns-then-are_abandoned-clause-rounds
 returns-then-are_abandoned-clause-rounds g c =
@@ -147,7 +161,7 @@ returns-then-are_abandoned-clause-least g c =
     λ h s l m closed.
     let asked = c.in_ok-ask_all.ensures.seated (inv.honest_still h) (inv.seated h s) in
     let round = lifts_under task heard.map after.map m (first.bounds ∙ begun_bounds) (first.size ∙ begun_size) lifted closed
-    (c.in_ok-hear_all.ensures.least (c.in_ok-ask_all.ensures.honest (inv.honest_still h)) (rw same asked) m closed (rw same (inv.least h s l m closed))) in
+    (c.in_ok-hear_all.ensures.least (c.ask_all.ensures.honest (inv.honest_still h)) (rw same asked) m closed (rw same (inv.least h s l m closed))) in
     lifts_under task after.map end.map m (second.bounds ∙ first.bounds ∙ begun_bounds) (second.size ∙ first.size ∙ begun_size) c.in_ok-finish.ensures.under closed round
 
 pub returns-then-are_abandoned-clause-told : goal.returns-then-are_abandoned-clause-told
@@ -190,9 +204,13 @@ returns-then-are_abandoned-clause-told g c =
     c.args.board.now.map.measures end.map over count (c.in_ok-finish.ensures.bounds ∙ after_bounds)
     c.in_ok-finish.ensures.map.size c.in_ok-finish.ensures.closed under
 
-pub returns-then-rises-most_rises-clause-limit : goal.returns-then-rises-most_rises-clause-limit
-returns-then-rises-most_rises-clause-limit g c = λ is h.
-    c.in_ok-hear_all.ensures.honest (c.in_ok-ask_all.ensures.honest (c.rounds.invariant.honest_still h))
+pub returns-then-rises-most_rises-clause-honest : goal.returns-then-rises-most_rises-clause-honest
+returns-then-rises-most_rises-clause-honest g c = λ h.
+    c.hear_all.ensures.honest (c.ask_all.ensures.honest (c.rounds.invariant.honest_still h))
+
+pub returns-in_err-finish-clause-honest : goal.returns-in_err-finish-clause-honest
+returns-in_err-finish-clause-honest g c = λ h.
+    c.hear_all.ensures.honest (c.ask_all.ensures.honest (c.rounds.invariant.honest_still h))
 
 pub ask_all-requires-clause-seats : goal.ask_all-requires-clause-seats
 ask_all-requires-clause-seats g c = c.rounds.invariant.same_len
@@ -243,7 +261,7 @@ returns-then-not-board-clause-least g c =
     λ h s l m closed.
     let asked = c.in_ok-ask_all.ensures.seated (inv.honest_still h) (inv.seated h s) in
     lifts_under task heard.map after.map m (first.bounds ∙ begun_bounds) (first.size ∙ begun_size) lifted closed
-    (c.in_ok-hear_all.ensures.least (c.in_ok-ask_all.ensures.honest (inv.honest_still h)) (rw same asked) m closed (rw same (inv.least h s l m closed)))
+    (c.in_ok-hear_all.ensures.least (c.ask_all.ensures.honest (inv.honest_still h)) (rw same asked) m closed (rw same (inv.least h s l m closed)))
 
 pub returns-then-are_abandoned-clause-bounds : goal.returns-then-are_abandoned-clause-bounds
 returns-then-are_abandoned-clause-bounds g c =
@@ -280,7 +298,7 @@ pub returns-in_err-ask_all-clause-least : goal.returns-in_err-ask_all-clause-lea
 returns-in_err-ask_all-clause-least g c = IfOk-from_err c.from_residual.result _ c.from_residual.ensures.0
 
 pub returns-in_err-ask_all-clause-honest : goal.returns-in_err-ask_all-clause-honest
-returns-in_err-ask_all-clause-honest g c = IfOk-from_err c.from_residual.result _ c.from_residual.ensures.0
+returns-in_err-ask_all-clause-honest g c = λ h. c.ask_all.ensures.honest (c.rounds.invariant.honest_still h)
 
 pub returns-in_err-ask_all-clause-told : goal.returns-in_err-ask_all-clause-told
 returns-in_err-ask_all-clause-told g c = IfOk-from_err c.from_residual.result _ c.from_residual.ensures.0
@@ -298,7 +316,8 @@ pub returns-in_err-hear_all-clause-least : goal.returns-in_err-hear_all-clause-l
 returns-in_err-hear_all-clause-least g c = IfOk-from_err c.from_residual-in_err-hear_all.result _ c.from_residual-in_err-hear_all.ensures.0
 
 pub returns-in_err-hear_all-clause-honest : goal.returns-in_err-hear_all-clause-honest
-returns-in_err-hear_all-clause-honest g c = IfOk-from_err c.from_residual-in_err-hear_all.result _ c.from_residual-in_err-hear_all.ensures.0
+returns-in_err-hear_all-clause-honest g c = λ h.
+    c.hear_all.ensures.honest (c.ask_all.ensures.honest (c.rounds.invariant.honest_still h))
 
 pub returns-in_err-hear_all-clause-told : goal.returns-in_err-hear_all-clause-told
 returns-in_err-hear_all-clause-told g c = IfOk-from_err c.from_residual-in_err-hear_all.result _ c.from_residual-in_err-hear_all.ensures.0

@@ -13,7 +13,7 @@ pub returns-in-Ok-clause-least : goal.returns-in-Ok-clause-least
 returns-in-Ok-clause-least g c = c.in-Ok.ensures.least
 
 pub returns-in-Ok-clause-honest : goal.returns-in-Ok-clause-honest
-returns-in-Ok-clause-honest g c = c.in-Ok.ensures.honest
+returns-in-Ok-clause-honest g c = c.seat_and_run.ensures.honest
 
 pub returns-in-Ok-clause-told : goal.returns-in-Ok-clause-told
 returns-in-Ok-clause-told g c = c.in-Ok.ensures.told

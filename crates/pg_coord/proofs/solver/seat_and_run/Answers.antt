@@ -40,15 +40,11 @@ returns-clause-rounds g c = c.make_rounds.ensures.rounds
 pub returns-clause-least : goal.returns-clause-least
 returns-clause-least g c =
     on_ok_weaker c.make_rounds.result
-    (λ least honest under. least (c.in_ok-seat_all.ensures.honest honest) (c.in_ok-seat_all.ensures.seated honest c.args.board.now.map) under)
+    (λ least honest under. least (c.seat_all.ensures.honest honest) (c.in_ok-seat_all.ensures.seated honest c.args.board.now.map) under)
     c.make_rounds.ensures.least
 
 pub returns-clause-honest : goal.returns-clause-honest
-returns-clause-honest g c =
-    on_ok_weaker c.make_rounds.result (λ still honest. still (c.in_ok-seat_all.ensures.honest honest)) c.make_rounds.ensures.honest
-
-pub returns-clause-limit : goal.returns-clause-limit
-returns-clause-limit g c = λ is honest. c.make_rounds.ensures.limit is (c.in_ok-seat_all.ensures.honest honest)
+returns-clause-honest g c = λ honest. c.make_rounds.ensures.honest (c.seat_all.ensures.honest honest)
 
 pub returns-clause-limited : goal.returns-clause-limited
 returns-clause-limited g c = c.make_rounds.ensures.limited

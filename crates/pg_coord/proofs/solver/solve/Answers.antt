@@ -1,10 +1,11 @@
-use Rattle.std.proofs.Common.{◌≡◌, ◌≤◌, length, List, [], None, sym, subst}
+use Rattle.std.proofs.Common.{◌≡◌, ◌+◌, ◌≤◌, length, List, [], None, sym, subst}
 use Rattle.std.proofs.lemmas.List.Elements.{All-nil}
 use Rattle.pg_arena.specs.Games.{GameVertex}
 use Rattle.pg_measure.specs.Measures.{BoundList}
 use Rattle.pg_measure.specs.Games.{IsBoundsOf}
 use Rattle.pg_map.specs.Lines.{game_line}
 use Rattle.pg_map.specs.Maps.{measure_at, IsMap, IsClosed, IsLeastProgressMeasure}
+use Rattle.pg_map.specs.Weights.{map_weight}
 use Rattle.pg_worker.specs.Cuts.{CutValue}
 use Rattle.pg_coord.specs.Solving.{AreTop, most_rounds}
 use Rattle.pg_coord.specs.Told.{TellReplies, IsLeastOverReplies}
@@ -41,12 +42,14 @@ returns-in-Ok-clause-closed g c =
 pub returns-in-Ok-clause-rounds : goal.returns-in-Ok-clause-rounds
 returns-in-Ok-clause-rounds g c =
     let n = c.in-Ok.solved.rounds in
+    let left = map_weight c.in-Ok.solved.map.bounds c.in-Ok.solved.map.measures in
     let bounds = c.in_ok-task.task.bounds in
-    let each = subst (λ (x : List GameVertex). (1 ≤ n) × (n ≤ most_rounds (length x) bounds)) c.in_ok-task.ensures.game c.in-Ok.ensures.rounds in
-    subst (λ (bs : BoundList). (1 ≤ n) × (n ≤ most_rounds (length c.args.game.now) bs)) (sym c.in-Ok.ensures.bounds) each
+    let each = subst (λ (x : List GameVertex). (1 ≤ n) × (n + left ≤ most_rounds (length x) bounds)) c.in_ok-task.ensures.game
+    c.in-Ok.ensures.rounds in
+    subst (λ (bs : BoundList). (1 ≤ n) × (n + left ≤ most_rounds (length c.args.game.now) bs)) (sym c.in-Ok.ensures.bounds) each
 
 pub returns-in-Ok-clause-honest : goal.returns-in-Ok-clause-honest
-returns-in-Ok-clause-honest g c = c.in-Ok.ensures.honest
+returns-in-Ok-clause-honest g c = c.work.ensures.honest
 
 pub returns-in-Ok-clause-least : goal.returns-in-Ok-clause-least
 returns-in-Ok-clause-least g c = λ honest.

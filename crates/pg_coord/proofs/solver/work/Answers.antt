@@ -14,8 +14,8 @@ begun_under : (t : TaskValue) (zero begun : Board) (tops : List ℕ) → zero.ma
 begun_under t zero begun tops is least top h closed =
     least h.measures (zero_under t zero.map h is closed) (top h.measures closed.map closed.closed)
 
-few_rounds : (n a b p : ℕ) → n ≤ 1 + a → a ≤ b → b ≡ p → n ≤ 1 + p
-few_rounds n a b p few le is = omega (arith, few, le, is)
+few_rounds : (n w a b p : ℕ) → n + w ≤ 1 + a → a ≤ b → b ≡ p → n + w ≤ 1 + p
+few_rounds n w a b p few le is = omega (arith, few, le, is)
 
 pub start_at-requires : goal.start_at-requires
 start_at-requires g c = λ k d within.
@@ -28,7 +28,7 @@ returns-in-Ok-clause-rounds g c =
     let w = zero_weight c.in_ok-board.board.map task.bounds (length task.game) c.in_ok-board.ensures.bounds c.in_ok-board.ensures.zeros in
     let less = weight_stays c.in_ok-board.board c.start_at.new.board c.start_at.ensures.moves in
     let r = c.in-Ok.ensures.rounds in
-    (r.0, few_rounds c.in-Ok.counts.rounds _ _ _ r.1 less w)
+    (r.0, few_rounds c.in-Ok.counts.rounds _ _ _ _ r.1 less w)
 
 pub returns-in-Ok-clause-least : goal.returns-in-Ok-clause-least
 returns-in-Ok-clause-least g c = λ honest top.
@@ -39,7 +39,7 @@ returns-in-Ok-clause-least g c = λ honest top.
     (begun_under task c.in_ok-board.board c.start_at.new.board c.args.tops.now c.in_ok-board.ensures.zeros c.start_at.ensures.least top))
 
 pub returns-in-Ok-clause-honest : goal.returns-in-Ok-clause-honest
-returns-in-Ok-clause-honest g c = c.in-Ok.ensures.honest
+returns-in-Ok-clause-honest g c = c.run.ensures.honest
 
 pub returns-in-Ok-clause-told : goal.returns-in-Ok-clause-told
 returns-in-Ok-clause-told g c = λ top replies tell.
