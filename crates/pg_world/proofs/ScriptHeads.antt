@@ -70,7 +70,7 @@ same_workers bytes x y p q = ok_is x y (sym p ∙ q)
 same_cut_line : (bytes : List ℕ) (x y : Option (List ℕ) × List ℕ) → cut_at bytes ≡ Ok x → cut_at bytes ≡ Ok y → x ≡ y
 same_cut_line bytes x y p q = ok_is x y (sym p ∙ q)
 
-pub fails_many : (bytes : List ℕ) (game : List GameVertex) (workers : ℕ) (mid : List ℕ) → IsGame game → workers_at bytes ≡ Ok (workers, mid) → MAX_WORKERS < workers → (cut : CutValue) (events : List Event) → ¬ IsScriptText bytes game cut events
+pub fails_many : (bytes : List ℕ) (game : List GameVertex) (workers : ℕ) (mid : List ℕ) → IsGame game → workers_at bytes ≡ Ok (workers, mid) → 16 < workers → (cut : CutValue) (events : List Event) → ¬ IsScriptText bytes game cut events
 fails_many bytes game workers mid well read many = λ cut events t.
     let h = head_read bytes game cut events well t in
     let same : cut.workers ≡ workers = ap (λ (p : ℕ × List ℕ). p.0) (same_workers bytes (cut.workers, h.mid) (workers, mid) h.workers_read read) in
@@ -135,11 +135,12 @@ only_head bytes game workers mid numbers rest cut well read cut_read same is = �
 
 -- ---- the whole
 
-pub whole : (bytes : List ℕ) (game : List GameVertex) (cut : CutValue) (rest : List ℕ) (events : List Event) → IsHead bytes game cut rest → AreEvents rest game events → IsScriptText bytes game cut events
-whole bytes game cut rest events h a = record {
+pub whole : (bytes : List ℕ) (game : List GameVertex) (cut : CutValue) (rest : List ℕ) (events : List Event) → IsHead bytes game cut rest → cut.workers ≤ 16
+    → AreEvents rest game events → IsScriptText bytes game cut events
+whole bytes game cut rest events h few a = record {
   numbers = h.numbers;
   text = spells_append (head_lexemes cut.workers h.numbers) (events_lexemes game events) bytes rest [] h.spelt a.spelt;
-  few = h.few;
+  few = few;
   cut_is = h.cut_is;
   vertices = a.vertices;
 }

@@ -7,7 +7,6 @@ use Rattle.pg_text.specs.Numbers.{numbers_lexemes}
 use Rattle.pg_worker.specs.Cuts.{CutValue, IsEvenCut, NameWorkers}
 use Rattle.pg_world.specs.declared.event.Event.{Event}
 use Rattle.pg_world.specs.declared.event.Event.TheVariants.{Lift, Deliver, Restart, CoordinatorLift}
-use Rattle.pg_world.specs.declared.script.TheConstants.{MAX_WORKERS}
 use Rattle.pg_world.specs.Worlds.{IsEventOf}
 
 -- `cut`, numbers with commas between, and a semicolon; or nothing
@@ -44,6 +43,6 @@ pub record IsScriptText (bytes : List ℕ) (game : List GameVertex) (cut : CutVa
     : Type 0 where
   pub numbers : Option (List ℕ)
   pub text : Spells bytes (head_lexemes cut.workers numbers ++ events_lexemes game events) []
-  pub few : cut.workers ≤ MAX_WORKERS
+  pub few : cut.workers ≤ 16
   pub cut_is : IsCutOf game numbers cut
   pub vertices : All (IsEventOf game) events

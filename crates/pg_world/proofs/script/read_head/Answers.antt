@@ -1,3 +1,4 @@
+use Rattle.std.proofs.Common.{◌<◌, arith}
 use Rattle.std.specs.Prelude.{option_map}
 use Rattle.pg_world.proofs.ScriptHeads.{fails_workers, fails_many, fails_cut, fails_misfit, head, only_head, some_holds, none_holds}
 use Rattle.pg_world.proofs.script.read_head.Goals as goal
@@ -7,7 +8,9 @@ returns-in-Err-clause-refused c = λ other. fails_workers c.args.bytes.now c.arg
 
 pub returns-then-workers-gt-MAX_WORKERS-clause-refused : goal.returns-then-workers-gt-MAX_WORKERS-clause-refused
 returns-then-workers-gt-MAX_WORKERS-clause-refused c = λ other.
-    fails_many c.args.bytes.now c.args.game.now c.in-Ok.read.0 c.in-Ok.read.1.now c.requires c.in-Ok.ensures c.if-workers-gt-MAX_WORKERS.true
+    let more = c.if-workers-gt-MAX_WORKERS.true in
+    let many : 16 < c.in-Ok.read.0 = omega arith in
+    fails_many c.args.bytes.now c.args.game.now c.in-Ok.read.0 c.in-Ok.read.1.now c.requires c.in-Ok.ensures many
 
 pub returns-in-Err-cut_numbers-clause-refused : goal.returns-in-Err-cut_numbers-clause-refused
 returns-in-Err-cut_numbers-clause-refused c =

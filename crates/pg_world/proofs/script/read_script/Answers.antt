@@ -13,7 +13,9 @@ returns-in_err-events-clause-only c = λ cut events text.
     rw (p.1, p.2) (is_memory c.in_err-events.field-0.0 (λ other. c.in_err-events.ensures.refused other events (c.in_ok-cut.ensures.only cut events text).1))
 
 pub returns-clause-found : goal.returns-clause-found
-returns-clause-found c = whole c.args.bytes.now c.args.game.now c.in_ok-cut.cut c.in_ok-cut.rest.now c.in_ok-events.events.items c.in_ok-cut.ensures.head c.in_ok-events.ensures.read
+returns-clause-found c =
+    let head = c.in_ok-cut.ensures.head in
+    whole c.args.bytes.now c.args.game.now c.in_ok-cut.cut c.in_ok-cut.rest.now c.in_ok-events.events.items head head.few c.in_ok-events.ensures.read
 
 pub returns-clause-only : goal.returns-clause-only
 returns-clause-only c = only_whole c.args.bytes.now c.args.game.now c.in_ok-cut.cut c.in_ok-cut.rest.now c.in_ok-events.events.items c.len-vertices.ensures.game c.in_ok-cut.ensures.only c.in_ok-events.ensures.read
