@@ -1,12 +1,16 @@
 //! Worker programs.
 
-ghost use Rattle.std.specs.Prelude.{IfErr};
-ghost use Rattle.pg_cli.specs.Serving.{RefusesWork};
+ghost use Rattle.std.specs.Prelude.{◌≡◌, IfErr, OnOk};
+ghost use Rattle.pg_worker.specs.declared.fault.WorkerFault.{WorkerFault};
+ghost use Rattle.pg_worker.specs.declared.served.Served.{Served};
+ghost use Rattle.pg_worker.specs.Serving.{Serves};
+ghost use Rattle.pg_cli.specs.Faults.{worker_fault};
+ghost use Rattle.pg_cli.specs.Serving.{EndsServing, RefusesWork};
 
 use crate::fault::CliFault;
 use pg_worker::serve;
 use std::alloc::Global;
-use std::io::{self, BufReader};
+use std::io::{self, BufReader, Read, Write};
 use std::net::{Ipv4Addr, Net, OpenStream, TcpStream};
 
 /// How many bytes are read ahead.
@@ -17,6 +21,21 @@ fn connect<R: Net>(rt: &R, port: u16) -> io::Result<(R::Stream, R::Stream)> {
     let output = TcpStream::connect(rt, (Ipv4Addr::LOCALHOST, port))?;
     output.set_nodelay(true)?;
     Ok((output.try_clone()?, output))
+}
+
+/// Serves as a worker between a reader and a writer, and tells what serving ended with as a fault of the program.
+fn serve_between<R: Read, W: Write>(
+    alloc: Global,
+    input: &mut R,
+    output: &mut W,
+) -> Result<(), CliFault>
+    ensures served { OnOk result ((served : Served) × Serves served (R.remaining input.old) (R.remaining input.new)
+        (W.contents output.old) (W.contents output.new)) }
+    ensures fault { IfErr result (λ fault. (ended : WorkerFault) × (fault ≡ worker_fault ended)
+        × EndsServing ended (R.remaining input.old) (W.contents output.old) (W.contents output.new)) }
+{
+    serve(alloc, input, output)?;
+    Ok(())
 }
 
 /// Connects to a port of 127.0.0.1, and serves whoever listens there as a worker, until Halt comes or the input ends. A reply
@@ -32,6 +51,5 @@ pub fn work<R: Net>(rt: &R, alloc: Global, port: u16) -> Result<(), CliFault>
     let mut input = BufReader::with_capacity(alloc, ROOM, input).map_err(
         |_| CliFault::OutOfMemory,
     )?;
-    serve(alloc, &mut input, &mut output)?;
-    Ok(())
+    serve_between(alloc, &mut input, &mut output)
 }
