@@ -3,7 +3,7 @@
 ghost use Rattle.std.specs.Prelude.{◌≡◌, OnOk};
 ghost use Rattle.std.specs.Io.KnownBytes.{Appends};
 ghost use Rattle.pg_cli.specs.Faults.{status_of};
-ghost use Rattle.pg_cli.specs.FaultTexts.{fault_line, worker_number};
+ghost use Rattle.pg_cli.specs.FaultTexts.{fault_line};
 
 use pg_aiger::AigerFault;
 use pg_check::CheckFault;
@@ -11,6 +11,7 @@ use pg_coord::CoordFault;
 use pg_hoa::HoaFault;
 use pg_synth::SynthFault;
 use pg_text::TextFault;
+use pg_wire::WireFault;
 use pg_worker::WorkerFault;
 use pg_world::{ScriptFault, WorldFault};
 use std::alloc::AllocError;
@@ -18,7 +19,8 @@ use std::error::Error;
 use std::fmt;
 use std::io::{self, Write};
 
-/// Why a command gives no answer. Its text is what the program prints on the error stream after `parsolve: `.
+/// Why a command gives no answer. Its text is what the program prints on the error stream after `parsolve: `. That of any want
+/// of memory is `out of memory`, also of one in the fault of a lower layer, which no command answers.
 #[derive(Debug, Drop)]
 pub enum CliFault {
     /// A growth was refused.
@@ -56,19 +58,6 @@ pub enum CliFault {
     Worker(WorkerFault),
 }
 
-/// The number of a worker's fault, from 1 on in their order.
-fn number_of(fault: WorkerFault) -> u8
-    ensures { result ≡ worker_number fault }
-{
-    match fault {
-        WorkerFault::OutOfMemory => 1,
-        WorkerFault::NotMine => 2,
-        WorkerFault::BadUpdate => 3,
-        WorkerFault::Order => 4,
-        WorkerFault::Wire(_) => 5,
-    }
-}
-
 impl fmt::Display for CliFault {
     ghost use Rattle.std.specs.Prelude.{Some};
     ghost use Rattle.pg_cli.specs.FaultTexts.{fault_text};
@@ -85,7 +74,7 @@ impl fmt::Display for CliFault {
             CliFault::Text(fault) => write!(f, "{fault}"),
             CliFault::Script(fault) => write!(f, "{fault}"),
             CliFault::World(place, fault) => match fault {
-                WorldFault::OutOfMemory => write!(f, "event {place}: out of memory"),
+                WorldFault::OutOfMemory => f.write_str("out of memory"),
                 WorldFault::NoSuchReplica(n) => write!(f, "event {place}: no replica {n}"),
                 WorldFault::NotMine(worker, id) => {
                     write!(f, "event {place}: vertex {id} is not of worker {worker}")
@@ -94,9 +83,7 @@ impl fmt::Display for CliFault {
                     f,
                     "event {place}: update {n} was never made"
                 ),
-                WorldFault::CutMismatch => {
-                    write!(f, "event {place}: the cut does not fit the game")
-                }
+                WorldFault::CutMismatch => f.write_str("the cut does not fit the game"),
             },
             CliFault::CutMismatch => f.write_str("the cut does not fit the game"),
             CliFault::Undecided(id) => write!(f, "undecided at {id}"),
@@ -105,10 +92,14 @@ impl fmt::Display for CliFault {
             CliFault::Aiger(fault) => write!(f, "{fault}"),
             CliFault::Listen => f.write_str("cannot listen on 127.0.0.1"),
             CliFault::Connect(port) => write!(f, "cannot connect to port {port}"),
-            CliFault::Worker(fault) => {
-                let number = number_of(*fault);
-                write!(f, "worker fault {number}")
-            }
+            CliFault::Worker(fault) => match fault {
+                WorkerFault::OutOfMemory => f.write_str("out of memory"),
+                WorkerFault::NotMine => f.write_str("worker fault 2"),
+                WorkerFault::BadUpdate => f.write_str("worker fault 3"),
+                WorkerFault::Order => f.write_str("worker fault 4"),
+                WorkerFault::Wire(WireFault::OutOfMemory) => f.write_str("out of memory"),
+                WorkerFault::Wire(_) => f.write_str("worker fault 5"),
+            },
         }
     }
 }
