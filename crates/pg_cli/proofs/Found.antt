@@ -179,7 +179,7 @@ module _ (Found Other : Finding) (is_other : (game : List GameVertex) (map : Map
   undecided_at_too input id u = record { game = u.game; spelt = u.spelt; undecided = undecided_in_too u.game id u.undecided }
 
   undecided_for_too : (input : List ℕ) (id : ℕ) → IsUndecidedFor Found input id → IsUndecidedFor Other input id
-  undecided_for_too input id u = record { game = u.game; made = u.made; undecided = undecided_in_too u.game id u.undecided }
+  undecided_for_too input id u = record { game = u.game; made = u.made; limits = u.limits; undecided = undecided_in_too u.game id u.undecided }
 
   won_too : (input : List ℕ) (player : Player) → IsWonFor Found input player → IsWonFor Other input player
   won_too input player w = record {
@@ -187,6 +187,7 @@ module _ (Found Other : Finding) (is_other : (game : List GameVertex) (map : Map
     spelt = w.spelt;
     is_automaton = w.is_automaton;
     game = w.game;
+    limits = w.limits;
     initial = w.initial;
     solution = w.solution;
     solved = solved_by_too w.game w.solution w.solved;
@@ -201,6 +202,7 @@ module _ (Found Other : Finding) (is_other : (game : List GameVertex) (map : Map
       even = won_too input _ r.realized.even;
       machine = r.realized.machine;
       follows = r.realized.follows;
+      within = r.realized.within;
       circuit_of = r.realized.circuit_of;
     };
     printed = r.printed;

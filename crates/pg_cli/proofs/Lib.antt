@@ -13,4 +13,5 @@ pub mod One
 pub mod Won
 pub mod Made
 pub mod Realized
+pub mod Within
 pub mod Synthesised

@@ -128,7 +128,7 @@ module _ (one_bounds : OneListOfBounds) (least : ClosedIsLeast) where
       (subst (λ (g : MapValue). IsLeastUndecided game q.even g second) (sym odd) q.undecided))
 
 -- an input has one game
-one_made : OneReading → (input : List ℕ) (game other : List GameVertex) → IsGameFor input game → IsGameFor input other → game ≡ other
+pub one_made : OneReading → (input : List ℕ) (game other : List GameVertex) → IsGameFor input game → IsGameFor input other → game ≡ other
 one_made reading input game other p q =
     let same : q.automaton ≡ p.automaton = (reading input).automaton q.automaton p.automaton q.spelt p.spelt in
     synth.one_game p.automaton game other p.game_of

@@ -14,6 +14,8 @@ use Rattle.pg_synth.proofs.OneGame.{one_game}
 use Rattle.pg_synth.proofs.Trace.{one_vertex}
 use Rattle.pg_aiger.specs.CircuitLayout.{symbols_of, circuit_text}
 use Rattle.pg_aiger.specs.Laws.{CircuitFollows, CircuitReadsBack}
+use Rattle.pg_cli.specs.Measuring.{Finding, IsClosedMapOf}
+use Rattle.pg_cli.specs.Synthesising.{IsWonFor}
 use Rattle.pg_cli.specs.Controllers.{CircuitAccepted, NoneAccepted, OneVerdict}
 
 pub circuit_accepted : CircuitFollows → CircuitReadsBack → MachineAccepted → (letters : ℕ → ℕ) → CircuitAccepted letters
@@ -53,10 +55,9 @@ none_accepted unrealizable word input output answer play is_word traces chosen =
     unrealizable o.automaton o.game o.initial o.solution o.spelt.says.condition word play o.is_automaton o.spelt.says.shape.fits
     o.won is_word traces chosen
 
-pub one_verdict : OneReading → OneWinner → OneVerdict
-one_verdict reading one_winner input first second p q =
-    let e = p.realized.even in
-    let o = q.odd in
+-- not both players win
+pub one_player : OneReading → OneWinner → (Found : Finding) (input : List ℕ) → IsWonFor Found input Even → ¬ IsWonFor Found input Odd
+one_player reading one_winner Found input e o =
     let a = e.automaton in
     let same : o.automaton ≡ a = (reading input).automaton o.automaton a o.spelt e.spelt in
     let won : IsWonBy a o.game o.initial o.solution Odd =
@@ -71,3 +72,6 @@ one_verdict reading one_winner input first second p q =
     e.initial e.won.begins.in_game in
     let bad : Even ≡ Odd = sym e.won.wins ∙ winners ∙ ap (winner o.solution) (sym start) ∙ there.wins in
     cc bad
+
+pub one_verdict : OneReading → OneWinner → OneVerdict
+one_verdict reading one_winner input first second p q = one_player reading one_winner IsClosedMapOf input p.realized.even q.odd

@@ -2,7 +2,7 @@
 use Rattle.std.proofs.Common.{◌≡◌, ◌≢◌, ℕ, ◌≤◌, List, ◌++◌, length, Option, Some, None, refl, sym, ap, inl, inr}
 use Rattle.pg_arena.specs.declared.player.Player.{Player}
 use Rattle.pg_arena.specs.declared.player.Player.TheVariants.{Even, Odd}
-use Rattle.pg_arena.specs.Games.{GameVertex}
+use Rattle.pg_arena.specs.Games.{GameVertex, IsWithinLimits}
 use Rattle.pg_text.specs.declared.answer.Answer.{Answer}
 use Rattle.pg_text.specs.Solutions.{winner, IsSolution}
 use Rattle.pg_check.specs.Soundness.{IsSound}
@@ -58,23 +58,23 @@ refuses_large Found workers input a limit spelt fault why =
     game_refused (RefusesBy Found (Synth workers) input) input a spelt fault tt (λ over. (limit, over)) why
 
 pub refuses_unsolved : (Found : Finding) (workers : ℕ) (input : List ℕ) (game : List GameVertex) → length input ≤ MOST_BYTES → IsGameFor input game
-    → (fault : CliFault) → IsUnsolved Found game fault → RefusesBy Found (Synth workers) input fault
-refuses_unsolved Found workers input game limit made cli.OutOfMemory why = tt
-refuses_unsolved Found workers input game limit made (cli.Undecided id) why = (limit, record { game = game; made = made; undecided = why })
-refuses_unsolved Found workers input game limit made cli.Read why = tt
-refuses_unsolved Found workers input game limit made cli.Write why = absurd why
-refuses_unsolved Found workers input game limit made cli.InputTooLong why = absurd why
-refuses_unsolved Found workers input game limit made cli.NoSeparator why = absurd why
-refuses_unsolved Found workers input game limit made (cli.Text fault) why = absurd why
-refuses_unsolved Found workers input game limit made (cli.Script fault) why = absurd why
-refuses_unsolved Found workers input game limit made (cli.World place fault) why = absurd why
-refuses_unsolved Found workers input game limit made cli.CutMismatch why = absurd why
-refuses_unsolved Found workers input game limit made (cli.Hoa fault) why = absurd why
-refuses_unsolved Found workers input game limit made (cli.Synth fault) why = absurd why
-refuses_unsolved Found workers input game limit made (cli.Aiger fault) why = absurd why
-refuses_unsolved Found workers input game limit made cli.Listen why = absurd why
-refuses_unsolved Found workers input game limit made (cli.Connect port) why = absurd why
-refuses_unsolved Found workers input game limit made (cli.Worker fault) why = absurd why
+    → IsWithinLimits game → (fault : CliFault) → IsUnsolved Found game fault → RefusesBy Found (Synth workers) input fault
+refuses_unsolved Found workers input game limit made limits cli.OutOfMemory why = tt
+refuses_unsolved Found workers input game limit made limits (cli.Undecided id) why = (limit, record { game = game; made = made; limits = limits; undecided = why })
+refuses_unsolved Found workers input game limit made limits cli.Read why = tt
+refuses_unsolved Found workers input game limit made limits cli.Write why = absurd why
+refuses_unsolved Found workers input game limit made limits cli.InputTooLong why = absurd why
+refuses_unsolved Found workers input game limit made limits cli.NoSeparator why = absurd why
+refuses_unsolved Found workers input game limit made limits (cli.Text fault) why = absurd why
+refuses_unsolved Found workers input game limit made limits (cli.Script fault) why = absurd why
+refuses_unsolved Found workers input game limit made limits (cli.World place fault) why = absurd why
+refuses_unsolved Found workers input game limit made limits cli.CutMismatch why = absurd why
+refuses_unsolved Found workers input game limit made limits (cli.Hoa fault) why = absurd why
+refuses_unsolved Found workers input game limit made limits (cli.Synth fault) why = absurd why
+refuses_unsolved Found workers input game limit made limits (cli.Aiger fault) why = absurd why
+refuses_unsolved Found workers input game limit made limits cli.Listen why = absurd why
+refuses_unsolved Found workers input game limit made limits (cli.Connect port) why = absurd why
+refuses_unsolved Found workers input game limit made limits (cli.Worker fault) why = absurd why
 
 pub refuses_circuit : (Found : Finding) (workers : ℕ) (input : List ℕ) → length input ≤ MOST_BYTES → (fault : AigerFault) → fault ≢ aiger.Write
     → (fault ≡ aiger.TooLarge → HasLargeMachine Found input) → RefusesBy Found (Synth workers) input (aiger_fault fault)
@@ -92,6 +92,7 @@ won_by Found input a game initial solution player spelt is of solved whole sound
   spelt = spelt;
   is_automaton = is;
   game = game;
+  limits = of.limits;
   initial = initial;
   solution = solution;
   solved = solved;
@@ -110,13 +111,14 @@ pub record IsKnown (Found : Finding) (input : List ℕ) (a : Automaton) (game : 
   pub machine_of : synth_answers.IsMealyOf a game initial solution (Some machine)
 
 pub realized_by : (Found : Finding) (input : List ℕ) (a : Automaton) (game : List GameVertex) (initial : ℕ) (solution : List Answer) (machine : Machine)
-    (circuit : Circuit) → IsKnown Found input a game initial solution machine → IsCircuitOf machine circuit
-    → (r : IsRealizedBy Found input circuit) × (r.even.automaton ≡ a)
-realized_by Found input a game initial solution machine circuit k of = (
+    (circuit : Circuit) → IsKnown Found input a game initial solution machine → ¬ IsTooLarge machine
+    → IsCircuitOf machine circuit → (r : IsRealizedBy Found input circuit) × (r.even.automaton ≡ a)
+realized_by Found input a game initial solution machine circuit k within of = (
   record {
     even = won_by Found input a game initial solution Even k.spelt k.is_automaton k.game_of k.solved k.whole k.sound k.machine_of.0;
     machine = machine;
     follows = k.machine_of.1;
+    within = within;
     circuit_of = of;
   },
   refl,

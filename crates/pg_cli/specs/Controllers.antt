@@ -8,8 +8,9 @@ use Rattle.pg_synth.specs.Machines.{IsInputWord, HasChosenInputs}
 use Rattle.pg_aiger.specs.Circuits.{Circuit}
 use Rattle.pg_aiger.specs.Runs.{HasOneRun, IsWordOf}
 use Rattle.pg_aiger.specs.CircuitText.{Symbol, IsCircuitText}
-use Rattle.pg_cli.specs.Measuring.{IsClosedMapOf}
-use Rattle.pg_cli.specs.Synthesising.{realizable, IsRealized, IsUnrealized}
+use Rattle.pg_cli.specs.Measuring.{IsMeasureOf, IsClosedMapOf}
+use Rattle.pg_cli.specs.Making.{IsTooLarge}
+use Rattle.pg_cli.specs.Synthesising.{realizable, IsRealized, IsUnrealized, IsSynthesised, HasLargeMachine}
 
 -- the circuit has one word for the input word, and it is accepted by the condition that the input spells
 pub record IsAcceptedWord (input : List ℕ) (a : Automaton) (spelt : Spelt input a) (circuit : Circuit) (letters : ℕ → ℕ)
@@ -47,3 +48,9 @@ NoneAccepted word = (input output : List ℕ) (answer : IsUnrealized IsClosedMap
 -- no input has both answers
 abbrev pub OneVerdict : Type 0
 OneVerdict = (input first second : List ℕ) → IsRealized IsClosedMapOf input first → ¬ IsUnrealized IsClosedMapOf input second
+
+-- An input that has an answer is none that is refused for the limits: its game isn't too large and, by least progress
+-- measures, nor is the machine that Even wins by.
+pub record AnswersWithinLimits : Type 0 where
+  pub game : (input output : List ℕ) → IsSynthesised IsClosedMapOf input output → ¬ IsTooLarge input
+  pub machine : (input output : List ℕ) → IsSynthesised IsMeasureOf input output → ¬ HasLargeMachine IsMeasureOf input

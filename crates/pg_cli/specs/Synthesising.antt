@@ -2,7 +2,7 @@
 use Rattle.std.specs.Prelude.{◌≡◌, ℕ, List, ◌++◌, ◌⊎◌, codes}
 use Rattle.pg_arena.specs.declared.player.Player.{Player}
 use Rattle.pg_arena.specs.declared.player.Player.TheVariants.{Even, Odd}
-use Rattle.pg_arena.specs.Games.{GameVertex}
+use Rattle.pg_arena.specs.Games.{GameVertex, IsWithinLimits}
 use Rattle.pg_text.specs.declared.answer.Answer.{Answer}
 use Rattle.pg_hoa.specs.Automata.{Automaton, IsAutomaton}
 use Rattle.pg_hoa.specs.AutomatonText.{Spelt}
@@ -20,23 +20,25 @@ use Rattle.pg_cli.specs.Making.{IsGameFor, IsNoAutomaton}
 use Rattle.pg_cli.specs.declared.fault.CliFault.{CliFault}
 use Rattle.pg_cli.specs.declared.fault.CliFault.TheVariants.{Hoa, Synth, Aiger, Undecided}
 
--- The input spells an automaton. By the solution of a map that is found of its game and one that is found of the dual, which is
--- sound, the player wins where the game begins.
+-- The input spells an automaton, whose game is within the limits. By the solution of a map that is found of this game and
+-- one that is found of the dual, which is sound, the player wins where the game begins.
 pub record IsWonFor (Found : Finding) (input : List ℕ) (player : Player) : Type 0 where
   pub automaton : Automaton
   pub spelt : Spelt input automaton
   pub is_automaton : IsAutomaton automaton
   pub game : List GameVertex
+  pub limits : IsWithinLimits game
   pub initial : ℕ
   pub solution : List Answer
   pub solved : IsSolvedBy Found game solution
   pub won : IsWonBy automaton game initial solution player
 
--- Even wins, and this is the circuit of a machine that follows the solution
+-- Even wins, and this is the circuit of a machine that follows the solution and isn't too large
 pub record IsRealizedBy (Found : Finding) (input : List ℕ) (circuit : Circuit) : Type 0 where
   pub even : IsWonFor Found input Even
   pub machine : Machine
   pub follows : Follows even.automaton even.game even.solution machine
+  pub within : ¬ IsTooLarge machine
   pub circuit_of : IsCircuitOf machine circuit
 
 -- the line ahead of the circuit
@@ -60,11 +62,12 @@ pub record IsUnrealized (Found : Finding) (input output : List ℕ) : Type 0 whe
 abbrev pub IsSynthesised : Finding → List ℕ → List ℕ → Type 0
 IsSynthesised Found input output = IsRealized Found input output ⊎ IsUnrealized Found input output
 
--- The input spells an automaton, and of its game the vertex with this identifier is the least at which the map that is found of
--- the game and the one of its dual are both top.
+-- The input spells an automaton, whose game is within the limits. The vertex with this identifier is the least at which the
+-- map that is found of this game and the one of its dual are both top.
 pub record IsUndecidedFor (Found : Finding) (input : List ℕ) (id : ℕ) : Type 0 where
   pub game : List GameVertex
   pub made : IsGameFor input game
+  pub limits : IsWithinLimits game
   pub undecided : IsUndecidedIn Found game id
 
 -- the input spells an automaton, and a machine that Even wins by is too large for a circuit

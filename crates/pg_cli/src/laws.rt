@@ -6,7 +6,7 @@ ghost use Rattle.pg_hoa.specs.Automata.{Automaton, IsAutomaton};
 ghost use Rattle.pg_hoa.specs.Words.{IsWord};
 ghost use Rattle.pg_synth.specs.AutomatonGames.{IsGameOfAutomaton};
 ghost use Rattle.pg_synth.specs.Laws.{TracesOnePlay};
-ghost use Rattle.pg_cli.specs.Controllers.{CircuitAccepted, NoneAccepted, OneVerdict};
+ghost use Rattle.pg_cli.specs.Controllers.{CircuitAccepted, NoneAccepted, OneVerdict, AnswersWithinLimits};
 ghost use Rattle.pg_cli.specs.Laws.{PrintedWinnersWin, LeastIsClosed, OneAnswer};
 
 use pg_synth::{InputWord, Word};
@@ -74,4 +74,16 @@ pub fn one_verdict()
 {
     pg_hoa::laws::one_reading();
     pg_check::laws::one_winner();
+}
+
+/// An input that `synth` answers is none that it refuses for the limits: the game of its automaton isn't too large, whatever
+/// the links answer, and by least progress measures, as `run` answers, nor is the machine that Even wins by.
+pub fn answers_within_limits()
+    ensures { AnswersWithinLimits }
+{
+    pg_hoa::laws::one_reading();
+    pg_check::laws::one_winner();
+    pg_measure::laws::one_list_of_bounds();
+    pg_map::laws::closed_is_least();
+    pg_synth::laws::one_machine();
 }

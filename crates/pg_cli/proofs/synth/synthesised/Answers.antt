@@ -67,4 +67,5 @@ returns-clause-circuit g c =
       sound = c.in_ok-solution.ensures.sound;
       machine_of = subst (IsMealyOf a made.game made.initial solution) c.in-Some.is c.in_ok-machine.ensures.machine;
     } in
-    realized_by Found bytes a made.game made.initial solution machine c.in_ok-circuit.circuit known c.in_ok-circuit.ensures.circuit
+    realized_by Found bytes a made.game made.initial solution machine c.in_ok-circuit.circuit known
+    (λ over. absurd (cc (c.in_ok-circuit.was, c.circuit_of.ensures.too_large.1 over))) c.in_ok-circuit.ensures.circuit
