@@ -1,8 +1,11 @@
-//! Tests of the commands: workers and links, streams that fail, worlds that are replayed, and the words of the command line.
+//! Tests of the commands: workers and links, streams that fail, lines of faults, worlds that are replayed, and the words of
+//! the command line.
 #![tactic(auto)]
 
 #[cfg(test)]
 mod failures;
+#[cfg(test)]
+mod faults;
 #[cfg(test)]
 mod links;
 #[cfg(test)]

@@ -34,6 +34,14 @@ const TOP: &[u8] = &[
     0, 0, 0, 19, 3, 0, 0, 0, 1, 0, 0, 0, 2, 0, 0, 0, 0, 1, 0, 0, 0, 1, 1,
 ];
 
+/// Each vertex leads to itself alone; Even wins at the first two, and Odd at the third. The width is 1, in the dual too.
+const LOOPS: &[u8] = b"parity 9;\n3 2 0 3;\n5 2 0 5;\n9 1 0 9;\n";
+
+/// A frame of values of width 1: top for the vertices 1 and 2.
+const LATER: &[u8] = &[
+    0, 0, 0, 19, 3, 0, 0, 0, 1, 0, 0, 0, 2, 0, 0, 0, 1, 1, 0, 0, 0, 2, 1,
+];
+
 /// A frame of values of width 1: the list `1` for the vertex 2.
 const ONE: &[u8] = &[
     0, 0, 0, 18, 3, 0, 0, 0, 1, 0, 0, 0, 1, 0, 0, 0, 2, 0, 0, 0, 0, 1,
@@ -74,15 +82,18 @@ fn answers_over<L: Link>(
     done.is_ok() && output.as_slice() == expected
 }
 
-/// Whether `solve` leaves vertex 0 of a game undecided over these links: it tells so, writes nothing, and ends with status 3.
-fn leaves_undecided<L: Link>(alloc: Global, text: &[u8], links: &mut [L]) -> bool
+/// Whether `solve` leaves the vertex with this identifier undecided over these links: it tells so, writes nothing, and ends
+/// with status 3.
+fn leaves_undecided<L: Link>(alloc: Global, text: &[u8], links: &mut [L], identifier: u32) -> bool
     requires { length links.old ≤ 16 }
 {
     let (done, output) = answer(alloc, Command::Solve { workers: 0 }, text, links);
     match &done {
         Ok(()) => false,
         Err(fault) => {
-            matches!(fault, CliFault::Undecided(0)) && exit_code(fault) == 3 && output.is_empty()
+            matches!(fault, CliFault::Undecided(id) if *id == identifier)
+                && exit_code(fault) == 3
+                && output.is_empty()
         }
     }
 }
@@ -175,7 +186,20 @@ fn a_link_that_tells_no_values_leaves_the_lifting(rt: HostRuntime) -> Result<(),
 fn where_both_maps_are_top_nothing_is_solved(rt: HostRuntime) -> Result<(), Fail> {
     let alloc = rt.alloc();
     let mut links = [sends(alloc, TOP)?];
-    assert!(rt; leaves_undecided(alloc, TWO, &mut links));
+    assert!(rt; leaves_undecided(alloc, TWO, &mut links, 0));
+    Ok(())
+}
+
+/// The first vertex stays at zero in the game, and goes to top in the dual alone. The second one is told to be at top in the
+/// game, and goes there in the dual. The third one goes to top in the game, and in the dual it is told to be there by the link
+/// that tells the same in each turn; the other one tells nothing in the dual.
+#[test]
+fn the_least_vertex_where_both_maps_are_top_is_named(rt: HostRuntime) -> Result<(), Fail> {
+    let alloc = rt.alloc();
+    let mut sending = [sends(alloc, LATER)?];
+    assert!(rt; leaves_undecided(alloc, LOOPS, &mut sending, 5));
+    let mut telling = [Told::new(alloc, frames(alloc, LATER, QUIET)?)];
+    assert!(rt; leaves_undecided(alloc, LOOPS, &mut telling, 5));
     Ok(())
 }
 
