@@ -107,9 +107,10 @@ pub fn run<R: Read, W: Write>(
 /// then its dual. How many workers the command says is of no account, and a command that solves nothing leaves the links alone.
 ///
 /// Whatever the links answer, what is printed goes by a closed map of the game and one of its dual, so that the printed winners
-/// win and the printed circuit is accepted; `Undecided` then names the least vertex at which both are top. Over honest links the
-/// answers and refusals are those of `run`. Over links that tell their replies, none of them a failure, `measure` prints the
-/// least closed map that is at least every value in the replies that were taken: of each link at least one, or all.
+/// win and the printed circuit is accepted. Over honest links the answers and refusals are those of `run`, and `Undecided` never
+/// comes; over others it names a vertex that is the least at which some closed map of the game and some closed map of its dual
+/// are both top. Over links that tell their replies, none of them a failure, `measure` prints the least closed map that is at
+/// least every value in the replies that were taken: of each link at least one, or all.
 ///
 /// Refuses what `run` does, in the same order.
 pub fn run_with<L: Link, R: Read, W: Write>(
