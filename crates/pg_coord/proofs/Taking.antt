@@ -1,5 +1,5 @@
 -- What is taken of links that tell their replies.
-use Rattle.std.proofs.Common.{◌≡◌, ◌≢◌, ℕ, true, map, Result, Ok, Err, List, ◌∷◌, Option, Some, refl, sym, ◌∙◌, ap, subst, arith, rules, inl, inr}
+use Rattle.std.proofs.Common.{◌≡◌, ◌≢◌, ℕ, true, map, drop, Result, Ok, Err, List, [], ◌∷◌, Option, Some, None, refl, sym, ◌∙◌, ap, subst, arith, rules, inl, inr}
 use Rattle.std.specs.Prelude.{OnOk, IsErr, ◌==◌, if◌then◌else◌}
 use Rattle.std.proofs.lemmas.Bool.{cases_Bool}
 use Rattle.pg_measure.specs.Measures.{BoundList}
@@ -50,6 +50,19 @@ taken_frame old new r next left f h is s =
 pub handed_over : (old new : Option (List (List ℕ))) (r : Result (Unit {0}) LinkFault) (bytes next : List ℕ) (left : List (List ℕ))
     → HandsOver old new r bytes → old ≡ Some (next ∷ left) → (r ≢ Err Failed) × OnOk r ((bytes ≡ next) × (new ≡ Some left))
 handed_over old new r bytes next left h is = subst (λ (o : Option (List (List ℕ))). HandsOver o new r bytes) is h
+
+-- a receive takes one frame away
+pub one_taken : (old new : Option (List (List ℕ))) (u : Unit {0}) (bytes : List ℕ) (left : List (List ℕ))
+    → HandsOver old new (Ok u) bytes → old ≡ Some left → new ≡ Some (drop 1 left)
+one_taken None new u bytes left h is = absurd (cc)
+one_taken (Some []) new u bytes left h is = absurd (let no = h.0 in cc)
+one_taken (Some (next ∷ rest)) new u bytes left h is =
+    let same : next ∷ rest ≡ left = (let e = is in cc) in
+    h.1.1 ∙ ap (λ (l : List (List ℕ)). Some (drop 1 l)) same
+
+pub ok_if_so : {T : Type 0} (r : Result T LinkFault) (P : Type 0) → P → OnOk r P
+ok_if_so (Ok x) P p = p
+ok_if_so (Err x) P p = tt
 
 pub judged_well : {T : Type 0} (r : Result T LinkFault) (P Q : Type 0) → (IsErr r → ⊥) → P → Q → ((r ≢ Err Failed) × OnOk r P) × OnOk r Q
 judged_well (Ok x) P Q fails p q = (((λ e. cc), p), q)

@@ -1,5 +1,6 @@
-use Rattle.std.proofs.Common.{length, ap, sym, ◌∙◌, ◌≡◌, Some, refl, subst, arith, inl, inr}
+use Rattle.std.proofs.Common.{ℕ, ◌+◌, ◌≤◌, List, drop, length, ap, sym, ◌∙◌, ◌≡◌, Some, refl, subst, arith, inl, inr}
 use Rattle.std.specs.Prelude.{IsErr}
+use Rattle.std.proofs.lemmas.List.{drop-drop}
 use Rattle.pg_wire.specs.declared.frame.Report.{Report}
 use Rattle.pg_wire.specs.declared.frame.Frame.TheVariants as frames
 use Rattle.pg_wire.specs.declared.kind.ValueKind.TheVariants.{Dense}
@@ -9,7 +10,7 @@ use Rattle.pg_coord.specs.declared.board.Board.{Board}
 use Rattle.pg_coord.specs.Replies.{AreOfPart}
 use Rattle.pg_coord.proofs.Moving.{moves_none, moves_more}
 use Rattle.pg_coord.proofs.Hearing.{heard_none, heard_few, next_frame}
-use Rattle.pg_coord.proofs.Taking.{judged_well}
+use Rattle.pg_coord.proofs.Taking.{judged_well, ok_if_so}
 use Rattle.pg_coord.proofs.turn.hear.Goals as goal
 
 pub frames-init : goal.frames-init
@@ -21,6 +22,7 @@ frames-init g c = record {
   moves = moves_none c.args.board.now;
   least = λ h m u le. le;
   heard = λ r left is reply dense. heard_none r left (g.L.Link.told c.args.link.now) c.args.board.now.map.measures is;
+  taken = λ left is. is;
   ended = λ is. (is, refl);
 }
 
@@ -50,6 +52,9 @@ frames-preserved g c =
                 let taken = c.in-Ok-None.ensures.report r.report (spelling (frames.Report r.report)) left n.told_is n.spells in
                 absurd (let no = taken.0.1.0 in let none = c.in-Ok-None.field-0-is in cc)
           ];
+      taken = λ left is.
+          c.in-Ok-None.ensures.one (drop c.frames.counter left) (inv.taken left is)
+          ∙ ap (λ (l : List (List ℕ)). Some l) (drop-drop 1 c.frames.counter left);
       ended = λ is. let no = (c.in-Ok-None.ensures.ended (inv.ended is).0).1 in absurd (cc);
     }
 
@@ -156,3 +161,17 @@ returns-clause-moves g c = c.frames.invariant.moves
 
 pub returns-clause-least : goal.returns-clause-least
 returns-clause-least g c = c.frames.invariant.least
+
+pub returns-in-Ok-Some-clause-most : goal.returns-in-Ok-Some-clause-most
+returns-in-Ok-Some-clause-most g c = λ left is.
+    let one : g.L.Link.told c.hear_frame.new.link ≡ Some (drop (c.frames.counter + 1) left) =
+    c.in-Ok-Some.ensures.one (drop c.frames.counter left) (c.frames.invariant.taken left is)
+    ∙ ap (λ (l : List (List ℕ)). Some l) (drop-drop 1 c.frames.counter left) in
+    let few : c.frames.counter + 1 ≤ 65536 = omega arith in
+    ok_if_so c.judged.result _ (c.frames.counter + 1, few, one)
+
+pub returns-in-Err-clause-most : goal.returns-in-Err-clause-most
+returns-in-Err-clause-most g c = λ left is. tt
+
+pub returns-clause-most : goal.returns-clause-most
+returns-clause-most g c = λ left is. tt

@@ -1,4 +1,4 @@
-use Rattle.std.proofs.Common.{◌≡◌, ◌++◌, ℕ, List, [], Some, map, length}
+use Rattle.std.proofs.Common.{◌≡◌, ◌++◌, ℕ, List, [], Some, map, drop, length}
 use Rattle.pg_map.specs.Maps.{MapValue, MapAtMost}
 use Rattle.pg_wire.specs.declared.kind.ValueKind.TheVariants.{Dense}
 use Rattle.pg_wire.specs.Spelling.{spelling}
@@ -22,5 +22,6 @@ invariant-frames g l =
       heard : (r : Reply) (left : List (List ℕ)) → told l.fn.link ≡ Some (map spelling (frames_in r) ++ left) → IsReply l.task.bounds l.task.cut l.worker r
           → l.kind ≡ Dense
           → HasHeard r left l.counter (told l.link) l.fn.board.map.measures l.board.map.measures;
+      taken : (left : List (List ℕ)) → told l.fn.link ≡ Some left → told l.link ≡ Some (drop l.counter left);
       ended : told l.fn.link ≡ Some [] → (told l.link ≡ Some []) × (l.board ≡ l.fn.board);
     }

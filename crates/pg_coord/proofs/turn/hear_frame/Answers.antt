@@ -1,8 +1,9 @@
 use Rattle.std.proofs.Common.{rules, ◌∙◌, Ok, sym, subst, refl, inl, inr}
+use Rattle.std.proofs.lemmas.Result.{IfOk-from_err}
 use Rattle.pg_wire.specs.declared.frame.Frame.TheVariants as frames
 use Rattle.pg_wire.specs.Bytes.{Spells}
 use Rattle.pg_wire.specs.Measured.{frame_of}
-use Rattle.pg_coord.proofs.Taking.{handed_over, found_dense, part_again, frame_joins}
+use Rattle.pg_coord.proofs.Taking.{handed_over, one_taken, ok_if_so, found_dense, part_again, frame_joins}
 use Rattle.pg_coord.proofs.Moving.{moves_none}
 use Rattle.pg_coord.proofs.Measuring.{found_at_least}
 use Rattle.pg_coord.proofs.turn.hear_frame.Goals as goal
@@ -129,3 +130,26 @@ returns-in-Err-clause-under g c = c.receive.ensures.under
 
 pub returns-in-Err-clause-least : goal.returns-in-Err-clause-least
 returns-in-Err-clause-least g c = λ ho h u le. le
+
+pub returns-in_err-receive-clause-one : goal.returns-in_err-receive-clause-one
+returns-in_err-receive-clause-one g c = λ left is. IfOk-from_err c.from_residual.result _ c.from_residual.ensures.0
+
+pub returns-then-joined-clause-one : goal.returns-then-joined-clause-one
+returns-then-joined-clause-one g c = λ left is.
+    let told = g.L.Link.told in
+    one_taken (told c.args.link.now) (told c.receive.new.self) c.in_ok-receive.field-0 c.receive.new.frame.items left c.in_ok-receive.ensures.told is
+
+pub returns-else-joined-clause-one : goal.returns-else-joined-clause-one
+returns-else-joined-clause-one g c = λ left is. tt
+
+pub returns-in-Ok-clause-one : goal.returns-in-Ok-clause-one
+returns-in-Ok-clause-one g c = λ left is.
+    let told = g.L.Link.told in
+    ok_if_so c.last.result _
+    (one_taken (told c.args.link.now) (told c.receive.new.self) c.in_ok-receive.field-0 c.receive.new.frame.items left c.in_ok-receive.ensures.told is)
+
+pub returns-in-Err-OutOfMemory-clause-one : goal.returns-in-Err-OutOfMemory-clause-one
+returns-in-Err-OutOfMemory-clause-one g c = λ left is. tt
+
+pub returns-in-Err-clause-one : goal.returns-in-Err-clause-one
+returns-in-Err-clause-one g c = λ left is. tt
