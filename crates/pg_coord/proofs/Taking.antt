@@ -1,5 +1,6 @@
 -- What is taken of links that tell their replies.
-use Rattle.std.proofs.Common.{◌≡◌, ◌≢◌, ℕ, true, map, drop, Result, Ok, Err, List, [], ◌∷◌, Option, Some, None, refl, sym, ◌∙◌, ap, subst, arith, rules, inl, inr}
+use Rattle.std.proofs.Common.{◌≡◌, ◌≢◌, ℕ, true, map, drop, Result, Ok, Err, List, [], ◌∷◌}
+use Rattle.std.proofs.Common.{Option, Some, None, refl, sym, ◌∙◌, ap, subst, arith, rules, inl, inr}
 use Rattle.std.specs.Prelude.{OnOk, IsErr, ◌==◌, if◌then◌else◌}
 use Rattle.std.proofs.lemmas.Bool.{cases_Bool}
 use Rattle.pg_measure.specs.Measures.{BoundList}

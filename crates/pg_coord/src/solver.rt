@@ -184,7 +184,8 @@ fn run<L: Link>(
     ensures bounds { board.new.map.bounds ≡ task.now.bounds }
     ensures map { OnOk result (IsMap board.new.map.bounds (length task.now.game) board.new.map.measures) }
     ensures closed { OnOk result (IsClosed board.new.map.bounds (game_line task.now.game) board.new.map.measures) }
-    ensures rounds { IfOk result (λ c. (1 ≤ c.rounds) × (c.rounds + map_weight board.new.map.bounds board.new.map.measures
+    ensures rounds { IfOk result (λ c. (1 ≤ c.rounds)
+        × (c.rounds + map_weight board.new.map.bounds board.new.map.measures
         ≤ 1 + map_weight board.old.map.bounds board.old.map.measures)) }
     ensures least { OnOk result (All L.is_honest links.old
         → ((h : MapValue) → IsClosedMap task.now h → MapAtMost board.old.map.measures h.measures)
@@ -283,8 +284,8 @@ fn task_of<'a>(
 ///
 /// A link that fails is restarted and set up again, at most three times; then it is abandoned, and its part is lifted here.
 ///
-/// Faults: `CutMismatch` where the cut isn't over the game's vertices and as many workers as links, which then are as they were;
-/// `OutOfMemory`. Links that are honest stay so, whatever comes.
+/// Faults: `CutMismatch` where the cut isn't over the game's vertices and as many workers as links, which then are as they
+/// were; `OutOfMemory`. Links that are honest stay so, whatever comes.
 pub fn solve<L: Link>(
     alloc: Global,
     game: &Game,

@@ -1,6 +1,7 @@
 //! A turn of one link: it is asked, and then heard.
 
-ghost use Rattle.std.specs.Prelude.{◌↔◌, IfErr, ◌≡◌, ◌∷◌, ◌++◌, ◌<◌, ◌≤◌, ℕ, List, [], Some, None, Ok, length, map, drop, All, IfOk, IsErr, OnOk};
+ghost use Rattle.std.specs.Prelude.{◌≡◌, ◌↔◌, ◌<◌, ◌≤◌, ◌∷◌, ◌++◌, ℕ, List, [], length, map, drop, All};
+ghost use Rattle.std.specs.Prelude.{Some, None, Ok, IfOk, IfErr, IsErr, OnOk};
 ghost use Rattle.pg_map.specs.Maps.{MapValue, MapAtMost};
 ghost use Rattle.pg_wire.specs.declared.frame.Values.{Values};
 ghost use Rattle.pg_wire.specs.declared.frame.Frame.TheVariants as frames;
@@ -138,7 +139,8 @@ fn hear_frame<L: Link>(
         → Spells (frames.Report r) next
         → AnswersAfter (Some r) left (L.told link.new) result × (board.new ≡ board.old) }
     ensures ended { L.told link.old ≡ Some [] → (L.told link.new ≡ Some []) × IsErr result × (board.new ≡ board.old) }
-    ensures one { (left : List (List ℕ)) → L.told link.old ≡ Some left → OnOk result (L.told link.new ≡ Some (drop 1 left)) }
+    ensures one { (left : List (List ℕ)) → L.told link.old ≡ Some left
+        → OnOk result (L.told link.new ≡ Some (drop 1 left)) }
 {
     link.receive(buffer)?;
     if let Some(values) = ValuesReader::open(buffer) {
