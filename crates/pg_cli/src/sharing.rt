@@ -20,6 +20,9 @@ pub(crate) enum Sharing {
 /// Of about how many vertices the edges are looked at.
 const LOOKS: usize = 65_536;
 
+/// Of as many edges one may lead from run to run.
+const FEW: u64 = 10;
+
 /// How many edges lead from a vertex, and how many of them to a vertex of another worker.
 #[derive(Clone, Copy)]
 struct Edges {
@@ -41,8 +44,8 @@ fn count(cut: &Cut, worker: u32, successors: &[Vertex], edges: Edges) -> Edges
     counted
 }
 
-/// Whether at most a quarter of the edges lead from a vertex of one worker to one of another. In a large game the edges of
-/// every so many vertices stand for all.
+/// Whether few edges lead from a vertex of one worker to one of another. In a large game the edges of every so many vertices
+/// stand for all.
 fn stays_within(game: &Game, cut: &Cut) -> bool
     requires { length cut.now.numbers ≡ length game.now }
 {
@@ -52,7 +55,7 @@ fn stays_within(game: &Game, cut: &Cut) -> bool
         let v = Vertex((look * stride) as u32);
         edges = count(cut, cut.worker_of(v), game.successors(v), edges);
     }
-    edges.across <= edges.all / 4
+    edges.across <= edges.all / FEW
 }
 
 /// The cut that gives the first worker the whole game.
