@@ -6,7 +6,6 @@ use Rattle.pg_cli.specs.Checking.{IsChecked, RefusesCheck}
 use Rattle.pg_cli.specs.Replaying.{IsReplayed, RefusesReplay}
 use Rattle.pg_cli.specs.Making.{IsMade, RefusesGame}
 use Rattle.pg_cli.specs.Synthesising.{IsSynthesised, RefusesSynth}
-use Rattle.pg_cli.specs.declared.input.TheConstants.{MOST_BYTES}
 use Rattle.pg_cli.specs.declared.command.Command.{Command}
 use Rattle.pg_cli.specs.declared.command.Command.TheVariants.{Measure, Solve, Check, Replay, Game, Synth}
 use Rattle.pg_cli.specs.declared.fault.CliFault.{CliFault}
@@ -32,7 +31,7 @@ HasNoAnswer Found (Synth workers) input fault = RefusesSynth Found input fault
 
 -- The command prints the output: the input keeps the limit, and the output is the answer to it.
 pub record PrintsBy (Found : Finding) (command : Command) (input output : List ℕ) : Type 0 where
-  pub limit : length input ≤ MOST_BYTES
+  pub limit : length input ≤ 268435456
   pub answer : IsAnswer Found command input output
 
 -- Why a command prints no answer. The writer can only fail on an answer; of want of memory and of the reader nothing is
@@ -40,9 +39,9 @@ pub record PrintsBy (Found : Finding) (command : Command) (input output : List �
 abbrev pub RefusesBy : Finding → Command → List ℕ → CliFault → Type 0
 RefusesBy Found command input OutOfMemory = Unit {0}
 RefusesBy Found command input Read = Unit {0}
-RefusesBy Found command input InputTooLong = MOST_BYTES < length input
+RefusesBy Found command input InputTooLong = 268435456 < length input
 RefusesBy Found command input Write = (output : List ℕ) × PrintsBy Found command input output
-RefusesBy Found command input fault = (length input ≤ MOST_BYTES) × HasNoAnswer Found command input fault
+RefusesBy Found command input fault = (length input ≤ 268435456) × HasNoAnswer Found command input fault
 
 -- by least progress measures
 abbrev pub Prints : Command → List ℕ → List ℕ → Type 0
