@@ -13,7 +13,8 @@ pub(crate) enum Sharing {
     /// In runs of like length.
     Even,
     /// As suits workers that take turns on one processor: in runs of like length where few edges lead from run to run, and
-    /// else the first worker gets the whole game. A value that climbs to and fro between workers is sent each time.
+    /// else the first worker gets the whole game, and the others aren't asked. A value that climbs to and fro between workers
+    /// is sent each time.
     ByEdges,
 }
 
@@ -58,20 +59,8 @@ fn stays_within(game: &Game, cut: &Cut) -> bool
     edges.across <= edges.all / FEW
 }
 
-/// The cut that gives the first worker the whole game.
-fn whole(alloc: Global, game: &Game, workers: usize) -> Result<Cut, AllocError>
-    requires { workers ≤ 16 }
-    ensures { IfOk result (λ c. (c.workers ≡ workers) × (length c.numbers ≡ length game.now)) }
-{
-    let firsts = vec![in alloc; 1; game.len()]?;
-    match Cut::from_list(alloc, workers as u32, &firsts)? {
-        Some(cut) => Ok(cut),
-        // there is no first worker
-        None => Cut::even(alloc, game.len() as u32, workers as u32),
-    }
-}
-
-/// Which of so many workers each vertex of a game belongs to.
+/// Which worker each vertex of a game belongs to, by an even cut among these workers or, where that suits them better, the
+/// first of them alone.
 pub(crate) fn cut_of(
     alloc: Global,
     game: &Game,
@@ -79,17 +68,17 @@ pub(crate) fn cut_of(
     sharing: Sharing,
 ) -> Result<Cut, AllocError>
     requires { workers ≤ 16 }
-    ensures fits { IfOk result (λ c. (c.workers ≡ workers) × (length c.numbers ≡ length game.now)) }
-    ensures even { sharing ≡ Sharing.Even → IfOk result (IsEvenCut (length game.now) workers) }
+    ensures cut { IfOk result (λ c. (c.workers ≤ workers) × IsEvenCut (length game.now) c.workers c) }
+    ensures even { sharing ≡ Sharing.Even → IfOk result (λ c. c.workers ≡ workers) }
 {
     let cut = Cut::even(alloc, game.len() as u32, workers as u32)?;
     match sharing {
         Sharing::Even => Ok(cut),
         Sharing::ByEdges => {
-            if stays_within(game, &cut) {
+            if workers < 2 || stays_within(game, &cut) {
                 return Ok(cut);
             }
-            whole(alloc, game, workers)
+            Cut::even(alloc, game.len() as u32, 1)
         }
     }
 }

@@ -38,7 +38,8 @@ pub(crate) fn map_of<L: Link>(
     ensures refused { IfErr result (λ fault. fault ≡ CliFault.OutOfMemory) }
 {
     let cut = cut_of(alloc, game, links.len(), sharing)?;
-    let solved = solve(alloc, game, links, &cut, BUDGET)?;
+    let sharers = &mut links[..cut.workers() as usize];
+    let solved = solve(alloc, game, sharers, &cut, BUDGET)?;
     Ok(solved.map)
 }
 
@@ -65,7 +66,8 @@ fn map_within<L: Link>(
     ensures refused { IfErr result (λ fault. fault ≡ CliFault.OutOfMemory) }
 {
     let shares = cut_of(alloc, game, links.len(), sharing)?;
-    match solve_within(alloc, game, links, &shares, BUDGET, tops, most_rises)? {
+    let sharers = &mut links[..shares.workers() as usize];
+    match solve_within(alloc, game, sharers, &shares, BUDGET, tops, most_rises)? {
         Some(solved) => Ok(Some(solved.map)),
         None => Ok(None),
     }

@@ -1,3 +1,4 @@
+use Rattle.std.proofs.lemmas.List.Elements.{All-take}
 use Rattle.pg_cli.proofs.solver.map_within.Goals as goal
 
 pub returns-in-Some-clause-found : goal.returns-in-Some-clause-found
@@ -10,6 +11,6 @@ returns-in-Some-clause-found g c =
       least = λ honest tops. record {
         bounds = bounds;
         size = map.size;
-        least = (rw c.in-Some.is at e.least) honest tops;
+        least = (rw c.in-Some.is at e.least) (All-take g.L.Link.is_honest c.workers.result c.args.links.now honest) tops;
       };
     }
