@@ -17,3 +17,4 @@ pub mod Ranges
 pub mod Under
 pub mod Bounded
 pub mod Zeros
+pub mod Wholes

@@ -20,7 +20,7 @@ lifts_under bs lines n f g h (u ∷ us) r s m c le =
     let size : length k ≡ n = ap length r.1.lifted.others ∙ (length-set f u.vertex (measure_at k u.vertex) ∙ s) in
     lifts_under bs lines n k g h us r.2 size m c (lift_stays_under bs lines f k u.vertex r.1.mine r.1.lifted h m' c le)
 
-update_under : (bs : BoundList) (n v u : ℕ) (m : MeasureValue) (h : List MeasureValue) → v < n → IsMap bs n h → AtMost m (measure_at h v) → AtMost (measure_at (update_map bs n v m) u) (measure_at h u)
+pub update_under : (bs : BoundList) (n v u : ℕ) (m : MeasureValue) (h : List MeasureValue) → v < n → IsMap bs n h → AtMost m (measure_at h v) → AtMost (measure_at (update_map bs n v m) u) (measure_at h u)
 update_under bs n v u m h lt map le =
     let size : length (zero_map bs n) ≡ n = length-replicate n (zeros bs) in
     elim (cases_eq u v) [

@@ -118,7 +118,13 @@ fn serves_first<G: Lines>(
 /// Looks at a new vertex: it waits where its first choice doesn't serve it. In this generation it is looked at again only
 /// if its priority is the greatest odd one.
 #[inline(always)]
-fn look<G: Lines>(map: &MeasureMap, lines: &G, notes: &mut Notes, v: Vertex, is_zero: bool)
+pub(crate) fn look<G: Lines>(
+    map: &MeasureMap,
+    lines: &G,
+    notes: &mut Notes,
+    v: Vertex,
+    is_zero: bool,
+)
     requires zero { OnTrue is_zero (IsAtZero map.now) }
     requires held { IsSome (G.line lines.now v) }
     requires within { AreWithin (length map.now.measures) (G.line lines.now) }

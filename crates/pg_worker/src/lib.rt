@@ -28,6 +28,7 @@ mod step;
 mod telling;
 mod touch;
 mod turn;
+mod whole;
 mod worker;
 
 pub use cut::Cut;
@@ -38,4 +39,5 @@ pub use served::Served;
 pub use service::serve;
 pub use session::Session;
 pub use telling::{fill_line, line_of, setup_of};
+pub use whole::solve_whole;
 pub use worker::Worker;

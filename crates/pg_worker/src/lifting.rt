@@ -6,6 +6,7 @@ ghost use Rattle.pg_measure.specs.Measures.{Fits, AtMost, IsBelow};
 ghost use Rattle.pg_measure.specs.Views.{measure_in};
 ghost use Rattle.pg_map.specs.Lines.{AreWithin};
 ghost use Rattle.pg_map.specs.Maps.{measure_at, update_map, IsJoin, IsServed, IsLifted, IsClosed, StaysUnder};
+ghost use Rattle.pg_map.specs.Weights.{map_weight};
 ghost use Rattle.pg_worker.specs.Mirrors.Edges.{AreEdges};
 ghost use Rattle.pg_worker.specs.Mirrors.Keeps.{IsKept, IsReady, AreListedLifts};
 ghost use Rattle.pg_worker.specs.Mirrors.Notes.{AreNotes, IsSameSpan};
@@ -80,6 +81,7 @@ pub(crate) fn lift_ready<G: Lines>(
     ensures lifted { IsLifted map.old.bounds (G.line lines.now) map.old.measures map.new.measures v }
     ensures under { StaysUnder map.old.bounds (G.line lines.now) map.old.measures map.new.measures }
     ensures kept { IsKept map.old.bounds (G.line lines.now) map.new.measures notes.new.waits notes.new.best }
+    ensures weight { map_weight map.old.bounds map.new.measures < map_weight map.old.bounds map.old.measures }
 {
     map.lift_over(lines, priority(map, lines, notes, v), v, notes.best(v));
     notes.lifted(v);

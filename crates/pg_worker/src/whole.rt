@@ -1,0 +1,167 @@
+//! Games that are solved in one piece, with no frames between.
+
+ghost use Rattle.std.specs.Prelude.{◌≡◌, ◌+◌, ◌<◌, ◌≤◌, ◌^◌, ℕ, List, Some, None, true, false, length, replicate, All, IsTrue, IsFalse, IfOk, IfSome, IfNone};
+ghost use Rattle.pg_measure.specs.Measures.{MeasureValue};
+ghost use Rattle.pg_measure.specs.Games.{IsBoundsOf};
+ghost use Rattle.pg_map.specs.Lines.{AreWithin, game_line};
+ghost use Rattle.pg_map.specs.Maps.{IsMap, IsClosed, MapAtMost, StaysUnder, measure_at};
+ghost use Rattle.pg_worker.specs.Wholes.{HasTops, IsLeastWithTops};
+ghost use Rattle.pg_worker.specs.Mirrors.Edges.{AreEdges, edges_of};
+ghost use Rattle.pg_worker.specs.Mirrors.Insides.{IsAtZero};
+ghost use Rattle.pg_worker.specs.Mirrors.Keeps.{IsKept};
+ghost use Rattle.pg_worker.specs.Mirrors.Notes.{AreNotes, HasRoom, IsSameSpan};
+
+use crate::adding::look;
+use crate::edges::Edges;
+use crate::lifting::{lift_ready, take};
+use crate::notes::Notes;
+use crate::settle::next_ready;
+use pg_arena::{Game, Vertex};
+use pg_map::{Lines, MeasureMap, View};
+use pg_measure::Bounds;
+use std::alloc::{AllocError, Global};
+
+/// How many edges the lines have; none where a number can't hold it.
+fn count_edges<G: Lines>(lines: &G, vertices: u32) -> Option<usize>
+    ensures { IfSome result (λ n. n ≡ edges_of (G.line lines.now) vertices) }
+{
+    let mut count = 0usize;
+    for number in 0..vertices {
+        let v = Vertex(number);
+        if lines.holds(v) {
+            count = count.checked_add(lines.successors(v).len())?;
+        }
+    }
+    Some(count)
+}
+
+/// Makes a note of each line, for which there is room.
+fn note_all<G: Lines>(lines: &G, vertices: u32, notes: &mut Notes)
+    requires within { AreWithin vertices (G.line lines.now) }
+    requires waits { notes.old.waits ≡ replicate vertices false }
+    requires best { length notes.old.best ≡ vertices }
+    requires labels { notes.old.span.labels ≡ replicate vertices None }
+    requires room { (v : ℕ) → v < vertices → HasRoom notes.old.span v }
+    ensures notes { AreNotes vertices (G.line lines.now) notes.new }
+{
+    for number in 0..vertices {
+        let v = Vertex(number);
+        if lines.holds(v) {
+            notes.hold(v, lines.priority(v), lines.owner(v));
+        }
+    }
+}
+
+/// Looks at each line, where all measures are zero.
+fn look_at_all<G: Lines>(map: &MeasureMap, lines: &G, notes: &mut Notes)
+    requires zero { IsAtZero map.now }
+    requires within { AreWithin (length map.now.measures) (G.line lines.now) }
+    requires notes { AreNotes (length map.now.measures) (G.line lines.now) notes.old }
+    ensures span { IsSameSpan notes.old notes.new }
+    ensures kept { IsKept map.now.bounds (G.line lines.now) map.now.measures notes.new.waits notes.new.best }
+{
+    for number in 0..map.len() {
+        let v = Vertex(number);
+        if lines.holds(v) {
+            look(map, lines, notes, v, true);
+        }
+    }
+}
+
+/// Raises vertices to top.
+fn raise_to_top<G: Lines>(
+    map: &mut MeasureMap,
+    lines: &G,
+    edges: &Edges,
+    notes: &mut Notes,
+    tops: &[Vertex],
+)
+    requires tops { All (λ v. v < length map.old.measures) tops.now }
+    requires within { AreWithin (length map.old.measures) (G.line lines.now) }
+    requires edges { AreEdges (G.line lines.now) edges.now.starts.items edges.now.sources.items }
+    requires targets { length edges.now.starts.items ≡ length map.old.measures + 1 }
+    requires notes { AreNotes (length map.old.measures) (G.line lines.now) notes.old }
+    requires kept { IsKept map.old.bounds (G.line lines.now) map.old.measures notes.old.waits notes.old.best }
+    ensures bounds { map.new.bounds ≡ map.old.bounds }
+    ensures size { length map.new.measures ≡ length map.old.measures }
+    ensures span { IsSameSpan notes.old notes.new }
+    ensures kept { IsKept map.old.bounds (G.line lines.now) map.new.measures notes.new.waits notes.new.best }
+    ensures tops { HasTops tops.now map.new.measures }
+    ensures least { (h : List MeasureValue) → IsMap map.old.bounds (length map.old.measures) h
+        → MapAtMost map.old.measures h → HasTops tops.now h → MapAtMost map.new.measures h }
+{
+    for v in tops {
+        take(map, lines, edges, notes, *v, View::Top);
+    }
+}
+
+/// Lifts until no vertex can be lifted, and says so; but stops where there are more lifts than `most`.
+fn lift_all<G: Lines>(
+    map: &mut MeasureMap,
+    lines: &G,
+    edges: &Edges,
+    notes: &mut Notes,
+    most: u64,
+) -> bool
+    requires within { AreWithin (length map.old.measures) (G.line lines.now) }
+    requires edges { AreEdges (G.line lines.now) edges.now.starts.items edges.now.sources.items }
+    requires targets { length edges.now.starts.items ≡ length map.old.measures + 1 }
+    requires notes { AreNotes (length map.old.measures) (G.line lines.now) notes.old }
+    requires kept { IsKept map.old.bounds (G.line lines.now) map.old.measures notes.old.waits notes.old.best }
+    ensures map { IsMap map.old.bounds (length map.old.measures) map.new.measures }
+    ensures bounds { map.new.bounds ≡ map.old.bounds }
+    ensures above { MapAtMost map.old.measures map.new.measures }
+    ensures under { StaysUnder map.old.bounds (G.line lines.now) map.old.measures map.new.measures }
+    ensures closed { IsTrue result → IsClosed map.old.bounds (G.line lines.now) map.new.measures }
+    ensures limited { IsFalse result → most + 1 < 2 ^ 64 }
+{
+    let mut count = 0u64;
+    while let Some(v) = next_ready(map, lines, notes) {
+        lift_ready(map, lines, edges, notes, v);
+        count = count.saturating_add(1);
+        if count > most {
+            let _count = map.len();
+            return false;
+        }
+    }
+    let _count = map.len();
+    true
+}
+
+/// Solves a game, where it is known that each closed map has top at some vertices: the map is the least of the closed ones
+/// that have top there, and with no such vertices the least progress measure. It is given up where more than `most_lifts`
+/// lifts are made, and then there is no answer; never where `most_lifts` is `u64::MAX`.
+///
+/// It makes the lifts that a worker makes whose part is the whole game, but on the game itself: nothing is copied or sent.
+/// It is refused for want of memory only, also where the game has 2^32 edges or more.
+pub fn solve_whole(
+    alloc: Global,
+    game: &Game,
+    tops: &[Vertex],
+    most_lifts: u64,
+) -> Result<Option<MeasureMap>, AllocError>
+    requires { All (λ v. v < length game.now) tops.now }
+    ensures bounds { IfOk result (λ o. IfSome o (λ m. IsBoundsOf game.now m.bounds)) }
+    ensures size { IfOk result (λ o. IfSome o (λ m. length m.measures ≡ length game.now)) }
+    ensures least { IfOk result (λ o. IfSome o
+        (λ m. IsLeastWithTops m.bounds (game_line game.now) tops.now m.measures)) }
+    ensures limited { IfOk result (λ o. IfNone o (most_lifts + 1 < 2 ^ 64)) }
+{
+    pg_map::laws::game_lines();
+    let vertices = game.len() as u32;
+    let bounds = Bounds::of(alloc, game)?;
+    let mut map = MeasureMap::zero(alloc, vertices, &bounds)?;
+    let mut notes = Notes::new(alloc, vertices)?;
+    notes.reserve(0, vertices - 1)?;
+    let mut edges = Edges::new(alloc, vertices)?;
+    edges.reserve(count_edges(game, vertices).ok_or(AllocError)?)?;
+    note_all(game, vertices, &mut notes);
+    look_at_all(&map, game, &mut notes);
+    edges.gather(game, vertices);
+    raise_to_top(&mut map, game, &edges, &mut notes, tops);
+    if lift_all(&mut map, game, &edges, &mut notes, most_lifts) {
+        Ok(Some(map))
+    } else {
+        Ok(None)
+    }
+}
