@@ -1,7 +1,7 @@
 -- Maps that are found over links, and answers by them.
 use Rattle.std.proofs.Common.{◌≡◌, ℕ, ◌<◌, ◌≤◌, List, length, Option, Some, None, Result, Ok, Err, inl, inr, sym, ap₂, subst, ◌∙◌, arith}
 use Rattle.std.proofs.lemmas.List.{same_lists, get_or_default}
-use Rattle.std.specs.Prelude.{IfSome, IfErr, OnOk, ⊤}
+use Rattle.std.specs.Prelude.{IfOk, IfSome, IfErr, OnOk, ⊤}
 use Rattle.std.specs.Io.KnownBytes.{Appends}
 use Rattle.pg_arena.specs.declared.player.Player.{Player}
 use Rattle.std.proofs.Common.{All, IsSome, get_or, refl, []}
@@ -10,11 +10,13 @@ use Rattle.pg_arena.specs.declared.player.Player.TheVariants.{Even}
 use Rattle.pg_arena.specs.Games.{GameVertex, IsGame, dual}
 use Rattle.pg_measure.specs.Measures.{BoundList, MeasureValue}
 use Rattle.pg_map.specs.Lines.{Line, game_line}
-use Rattle.pg_map.specs.Maps.{MapValue, IsClosed, measure_at}
+use Rattle.pg_map.specs.Maps.{MapValue, IsMap, IsClosed, measure_at}
 use Rattle.pg_text.specs.Solutions.{winner}
 use Rattle.pg_check.specs.Strategies.{NoListInBoth}
 use Rattle.pg_coord.specs.Solving.{AreTop}
 use Rattle.pg_worker.specs.Cuts.{CutValue, IsEvenCut}
+use Rattle.pg_worker.specs.Wholes.{IsLeastWithTops}
+use Rattle.pg_measure.specs.Games.{IsBoundsOf}
 use Rattle.pg_text.specs.declared.answer.Answer.{Answer}
 use Rattle.pg_aiger.specs.declared.fault.AigerFault.TheVariants as aiger
 use Rattle.pg_synth.specs.declared.fault.SynthFault.TheVariants as synth
@@ -53,6 +55,34 @@ found_least are_honest honest game map f = f.least honest
 -- each link to a worker in this process is honest
 pub all_honest : {L : Type 0} (links : List L) → All (λ link. ⊤) links
 all_honest links k link lt = tt
+
+whole_measure : (game : List GameVertex) (tops : List ℕ) (map : MapValue) → IsBoundsOf game map.bounds → length map.measures ≡ length game
+    → IsLeastWithTops map.bounds (game_line game) tops map.measures → AreTop game map.bounds tops → IsMeasureOf game map
+whole_measure game tops map bounds size found are_top = record {
+  bounds = bounds;
+  size = size;
+  least = record {
+    fits = found.fits;
+    closed = found.closed;
+    least = λ h is closed. found.least h is closed (are_top h (subst (λ (n : ℕ). IsMap map.bounds n h) size is) closed);
+  };
+}
+
+-- what is found of a game in one piece is the least progress measure, where each closed map has top at these vertices
+pub whole_least : (game : List GameVertex) (tops : List ℕ) (found : Option MapValue) → IfSome found (λ map. IsBoundsOf game map.bounds)
+    → IfSome found (λ map. length map.measures ≡ length game)
+    → IfSome found (λ map. IsLeastWithTops map.bounds (game_line game) tops map.measures)
+    → IfSome found (λ map. AreTop game map.bounds tops → IsMeasureOf game map)
+whole_least game tops None bounds size least = tt
+whole_least game tops (Some map) bounds size least = whole_measure game tops map bounds size least
+
+-- and so it is what is found over any links
+pub whole_found : (are_honest : Type 0) (game : List GameVertex) (tops : List ℕ) (found : Result (Option MapValue) CliFault)
+    → IfOk found (λ o. IfSome o (IsClosedMapOf game)) → IfOk found (λ o. IfSome o (λ map. AreTop game map.bounds tops → IsMeasureOf game map))
+    → IfOk found (λ o. IfSome o (IsFoundAbove are_honest game tops))
+whole_found are_honest game tops (Err fault) closed least = tt
+whole_found are_honest game tops (Ok None) closed least = tt
+whole_found are_honest game tops (Ok (Some map)) closed least = record { closed = closed; least = λ honest are_top. least are_top }
 
 -- what was found over links that are honest if others are
 pub found_later : (are_honest later : Type 0) → (are_honest → later) → (game : List GameVertex) (map : MapValue) → IsFoundIf later game map

@@ -1,6 +1,6 @@
 //! How a game is shared out among workers.
 
-ghost use Rattle.std.specs.Prelude.{◌≡◌, ◌≤◌, ◌<◌, length, All, IfOk};
+ghost use Rattle.std.specs.Prelude.{◌≡◌, ◌≤◌, ◌<◌, length, All, IfOk, IfSome, IsSome};
 ghost use Rattle.pg_worker.specs.Cuts.{IsEvenCut};
 
 use pg_arena::{Game, Vertex};
@@ -13,8 +13,8 @@ pub(crate) enum Sharing {
     /// In runs of like length.
     Even,
     /// As suits workers that take turns on one processor: in runs of like length where few edges lead from run to run, and
-    /// else the first worker gets the whole game, and the others aren't asked. A value that climbs to and fro between workers
-    /// is sent each time.
+    /// else not at all. A value that climbs to and fro between workers is sent each time. Nor is a game shared out where
+    /// there is one worker, who would get the whole of it.
     ByEdges,
 }
 
@@ -59,26 +59,24 @@ fn stays_within(game: &Game, cut: &Cut) -> bool
     edges.across <= edges.all / FEW
 }
 
-/// Which worker each vertex of a game belongs to, by an even cut among these workers or, where that suits them better, the
-/// first of them alone.
+/// Which worker each vertex of a game belongs to: an even cut among these workers. None where the game is better solved in one
+/// piece.
 pub(crate) fn cut_of(
     alloc: Global,
     game: &Game,
     workers: usize,
     sharing: Sharing,
-) -> Result<Cut, AllocError>
+) -> Result<Option<Cut>, AllocError>
     requires { workers ≤ 16 }
-    ensures cut { IfOk result (λ c. (c.workers ≤ workers) × IsEvenCut (length game.now) c.workers c) }
-    ensures even { sharing ≡ Sharing.Even → IfOk result (λ c. c.workers ≡ workers) }
+    ensures cut { IfOk result (λ o. IfSome o (λ c. (c.workers ≡ workers) × IsEvenCut (length game.now) workers c)) }
+    ensures even { sharing ≡ Sharing.Even → IfOk result IsSome }
 {
     let cut = Cut::even(alloc, game.len() as u32, workers as u32)?;
     match sharing {
-        Sharing::Even => Ok(cut),
+        Sharing::Even => Ok(Some(cut)),
         Sharing::ByEdges => {
-            if workers < 2 || stays_within(game, &cut) {
-                return Ok(cut);
-            }
-            Cut::even(alloc, game.len() as u32, 1)
+            let is_shared = workers == 0 || workers > 1 && stays_within(game, &cut);
+            Ok(is_shared.then_some(cut))
         }
     }
 }

@@ -19,12 +19,31 @@ use pg_check::{even_half, with_odd_half};
 use pg_coord::{Link, solve, solve_within};
 use pg_map::{MeasureMap, View};
 use pg_text::Solution;
+use pg_worker::solve_whole;
 use std::alloc::{AllocError, Global};
 
 /// How many lifts a worker makes in a turn, at most.
 const BUDGET: u32 = 4_096;
 
-/// A map of a game, solved over links among which the game is shared out.
+/// A map of a game that is solved in one piece, where it is known that each closed map has top at some vertices. None where there
+/// were more lifts than `most_rises`.
+fn whole_map(
+    alloc: Global,
+    game: &Game,
+    tops: &[Vertex],
+    most_rises: u64,
+) -> Result<Option<MeasureMap>, CliFault>
+    requires { All (λ v. v < length game.now) tops.now }
+    ensures closed { IfOk result (λ o. IfSome o (IsClosedMapOf game.now)) }
+    ensures least { IfOk result (λ o. IfSome o
+        (λ map. AreTop game.now map.bounds tops.now → IsMeasureOf game.now map)) }
+    ensures limited { IfOk result (λ o. IfNone o (most_rises + 1 < 2 ^ 64)) }
+    ensures refused { IfErr result (λ fault. fault ≡ CliFault.OutOfMemory) }
+{
+    Ok(solve_whole(alloc, game, tops, most_rises)?)
+}
+
+/// A map of a game, solved over links where the game is shared out among them.
 pub(crate) fn map_of<L: Link>(
     alloc: Global,
     game: &Game,
@@ -37,9 +56,10 @@ pub(crate) fn map_of<L: Link>(
     ensures honest { OnOk result (All L.is_honest links.old → All L.is_honest links.new) }
     ensures refused { IfErr result (λ fault. fault ≡ CliFault.OutOfMemory) }
 {
-    let cut = cut_of(alloc, game, links.len(), sharing)?;
-    let sharers = &mut links[..cut.workers() as usize];
-    let solved = solve(alloc, game, sharers, &cut, BUDGET)?;
+    let Some(cut) = cut_of(alloc, game, links.len(), sharing)? else {
+        return Ok(whole_map(alloc, game, &[], u64::MAX)?.unwrap());
+    };
+    let solved = solve(alloc, game, links, &cut, BUDGET)?;
     Ok(solved.map)
 }
 
@@ -65,9 +85,10 @@ fn map_within<L: Link>(
     ensures honest { OnOk result (All L.is_honest links.old → All L.is_honest links.new) }
     ensures refused { IfErr result (λ fault. fault ≡ CliFault.OutOfMemory) }
 {
-    let shares = cut_of(alloc, game, links.len(), sharing)?;
-    let sharers = &mut links[..shares.workers() as usize];
-    match solve_within(alloc, game, sharers, &shares, BUDGET, tops, most_rises)? {
+    let Some(cut) = cut_of(alloc, game, links.len(), sharing)? else {
+        return whole_map(alloc, game, tops, most_rises);
+    };
+    match solve_within(alloc, game, links, &cut, BUDGET, tops, most_rises)? {
         Some(solved) => Ok(Some(solved.map)),
         None => Ok(None),
     }
