@@ -1,6 +1,6 @@
 //! Growth ahead of a change, so that the change can't fail half way.
 
-ghost use Rattle.std.specs.Prelude.{◌≡◌, ◌<◌, ◌∷◌, ◌++◌, [], OnOk, IfSome, length, map, vec_len, vec_capacity, slice_get, slice_set, slice_index_or};
+ghost use Rattle.std.specs.Prelude.{◌≡◌, ◌<◌, ◌∷◌, ◌++◌, [], OnOk, IfSome, IsTrue, length, map, vec_len, vec_capacity, slice_get, slice_set, slice_index_or};
 
 use pg_map::Update;
 use pg_worker::Worker;
@@ -40,6 +40,14 @@ pub(crate) fn note(taken: &mut Vec<Vec<usize>>, r: usize, number: usize)
         (slice_index_or (map (λ t. t.items) taken.old.items) r [] ++ number ∷ []) }
 {
     let _pushed = taken[r].push(number);
+}
+
+/// Whether the replica r has taken nothing, so that it has nothing to forget.
+pub(crate) fn has_nothing(taken: &[Vec<usize>], r: usize) -> bool
+    requires { r < length taken.now }
+    ensures { IsTrue result → slice_set (map (λ t. t.items) taken.now) r [] ≡ map (λ t. t.items) taken.now }
+{
+    taken[r].is_empty()
 }
 
 /// The replica r has taken nothing.

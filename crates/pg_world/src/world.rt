@@ -15,7 +15,7 @@ use crate::event::Event;
 use crate::fault::WorldFault;
 use crate::laws;
 use crate::part::part_of;
-use crate::room::{forget, make_room, note, push_in_room, replace};
+use crate::room::{forget, has_nothing, make_room, note, push_in_room, replace};
 use pg_arena::{Game, Vertex};
 use pg_map::{MeasureMap, Update, View};
 use pg_measure::{Bounds, Measure};
@@ -265,8 +265,11 @@ impl World {
         if worker == 0 || worker > self.cut.workers() {
             return Err(WorldFault::NoSuchReplica(worker));
         }
-        laws::of_maps();
         let place = worker as usize;
+        if has_nothing(&self.taken, place) {
+            return Ok(());
+        }
+        laws::of_maps();
         let fresh = part_of(self.alloc, &self.game, &self.bounds, &self.cut, worker)?;
         replace(&mut self.workers, place - 1, fresh);
         forget(&mut self.taken, place);
