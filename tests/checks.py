@@ -65,6 +65,14 @@ def calm_game(dice):
                                  for _ in range(dice.randint(1, 3))]) for v in range(count)})
 
 
+def near_game(dice):
+    """The text of a game whose edges lead to vertices nearby, so that workers in one process share it: of games with edges to
+    everywhere they get none, since these are solved in one piece. In every other one few vertices may rise."""
+    count, priorities = dice.randint(60, 200), dice.choice([(0, 1, 2, 3, 4, 5), (0,) * 9 + (1, 2, 3)])
+    return naive.game_text({v: (dice.choice(priorities), dice.randint(0, 1),
+                                dice.sample(range(max(v - 2, 0), min(v + 3, count)), dice.randint(1, 3))) for v in range(count)})
+
+
 def random_event(dice, game, script, made):
     """An event after so many updates; few of them are refused."""
     workers, v = script[0], dice.choice(sorted(game))
@@ -247,6 +255,8 @@ def cases(programs):
                    lambda p=program, c=command: workers_change_nothing(p, c, large_game))
             yield (f"{command} where few vertices may rise, by every number of workers ({name})",
                    lambda p=program, c=command: workers_change_nothing(p, c, calm_game))
+            yield (f"{command} where edges lead to vertices nearby, by every number of workers ({name})",
+                   lambda p=program, c=command: workers_change_nothing(p, c, near_game))
         yield (f"synth by every number of workers ({name})", lambda p=program: workers_change_nothing(
             p, "synth", lambda dice: controllers.automaton_text(controllers.random_automaton(dice))))
         yield f"replay on random schedules ({name})", lambda p=program: replays_as_defined(p)
@@ -257,11 +267,15 @@ def cases(programs):
             yield (f"the example in {' '.join([*words, '--help'])} ({name})",
                    lambda p=program, w=words: example_in_help(p, w))
     yield "circuits of the examples", lambda: circuits_are_read(programs[0])
+    # a row that two workers share: all go to the last vertex, which Odd wins
+    row = "".join(f"{v} {1 if v == 23 else 0} 0 {min(v + 1, 23)};\n" for v in range(24)).encode()
     # the program as LLVM builds it takes its memory by malloc and realloc alone
     for command, text, wanted in (("measure", game, b"0 1,1;\n1 1,0;\n2 0,0;\n"), ("solve", three, solution),
+                                  ("measure", row, b"".join(b"%d T;\n" % v for v in range(24))),
                                   ("check", three + b"--\n" + solution, b"WINS\n"), ("replay", odd + script, world),
                                   ("game", automaton, automaton_game), ("synth", delay, circuit)):
-        yield f"want of memory in {command}", lambda c=command, t=text, w=wanted: survives_want_of_memory(programs[0], [c], t, w)
+        name = f"want of memory in {command}" + " by two workers" * (text == row)
+        yield name, lambda c=command, t=text, w=wanted: survives_want_of_memory(programs[0], [c], t, w)
     apart = ["measure", "--workers", "1", "--apart", "/proc/self/exe"]
     yield "want of memory with --apart", lambda: survives_want_of_memory(programs[0], apart, game, b"0 1,1;\n1 1,0;\n2 0,0;\n")
 
