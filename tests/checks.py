@@ -66,10 +66,10 @@ def calm_game(dice):
 
 
 def near_game(dice):
-    """The text of a game whose edges lead to vertices nearby, so that workers in one process share it: of games with edges to
-    everywhere they get none, since these are solved in one piece. In every other one few vertices may rise."""
-    count, priorities = dice.randint(60, 200), dice.choice([(0, 1, 2, 3, 4, 5), (0,) * 9 + (1, 2, 3)])
-    return naive.game_text({v: (dice.choice(priorities), dice.randint(0, 1),
+    """The text of a large game whose edges lead to vertices nearby, so that workers in one process share it: smaller games, and
+    those with edges to everywhere, they solve in one piece. Few vertices have an odd priority, since measures climb far."""
+    count = dice.randint(4096, 5000)
+    return naive.game_text({v: (dice.choice((0,) * 200 + (1, 2, 3)), dice.randint(0, 1),
                                 dice.sample(range(max(v - 2, 0), min(v + 3, count)), dice.randint(1, 3))) for v in range(count)})
 
 
@@ -256,7 +256,7 @@ def cases(programs):
             yield (f"{command} where few vertices may rise, by every number of workers ({name})",
                    lambda p=program, c=command: workers_change_nothing(p, c, calm_game))
             yield (f"{command} where edges lead to vertices nearby, by every number of workers ({name})",
-                   lambda p=program, c=command: workers_change_nothing(p, c, near_game))
+                   lambda p=program, c=command: workers_change_nothing(p, c, near_game, count=5))
         yield (f"synth by every number of workers ({name})", lambda p=program: workers_change_nothing(
             p, "synth", lambda dice: controllers.automaton_text(controllers.random_automaton(dice))))
         yield f"replay on random schedules ({name})", lambda p=program: replays_as_defined(p)
@@ -268,10 +268,10 @@ def cases(programs):
                    lambda p=program, w=words: example_in_help(p, w))
     yield "circuits of the examples", lambda: circuits_are_read(programs[0])
     # a row that two workers share: all go to the last vertex, which Odd wins
-    row = "".join(f"{v} {1 if v == 23 else 0} 0 {min(v + 1, 23)};\n" for v in range(24)).encode()
+    row = "".join(f"{v} {1 if v == 4999 else 0} 0 {min(v + 1, 4999)};\n" for v in range(5000)).encode()
     # the program as LLVM builds it takes its memory by malloc and realloc alone
     for command, text, wanted in (("measure", game, b"0 1,1;\n1 1,0;\n2 0,0;\n"), ("solve", three, solution),
-                                  ("measure", row, b"".join(b"%d T;\n" % v for v in range(24))),
+                                  ("measure", row, b"".join(b"%d T;\n" % v for v in range(5000))),
                                   ("check", three + b"--\n" + solution, b"WINS\n"), ("replay", odd + script, world),
                                   ("game", automaton, automaton_game), ("synth", delay, circuit)):
         name = f"want of memory in {command}" + " by two workers" * (text == row)

@@ -13,8 +13,8 @@ pub(crate) enum Sharing {
     /// In runs of like length.
     Even,
     /// As suits workers that take turns on one processor: in runs of like length where few edges lead from run to run, and
-    /// else not at all. A value that climbs to and fro between workers is sent each time. Nor is a game shared out where
-    /// there is one worker, who would get the whole of it.
+    /// else not at all. A value that climbs to and fro between workers is sent each time. Nor is a small game shared out, nor
+    /// one where there is one worker, who would get the whole of it.
     ByEdges,
 }
 
@@ -23,6 +23,9 @@ const LOOKS: usize = 65_536;
 
 /// Of as many edges one may lead from run to run.
 const FEW: u64 = 10;
+
+/// A game of fewer vertices is small.
+const SMALL: usize = 4_096;
 
 /// How many edges lead from a vertex, and how many of them to a vertex of another worker.
 #[derive(Clone, Copy)]
@@ -75,8 +78,8 @@ pub(crate) fn cut_of(
     match sharing {
         Sharing::Even => Ok(Some(cut)),
         Sharing::ByEdges => {
-            let is_shared = workers == 0 || workers > 1 && stays_within(game, &cut);
-            Ok(is_shared.then_some(cut))
+            let is_shared = workers > 1 && game.len() >= SMALL && stays_within(game, &cut);
+            Ok((workers == 0 || is_shared).then_some(cut))
         }
     }
 }
