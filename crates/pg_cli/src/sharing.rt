@@ -12,17 +12,21 @@ use std::alloc::{AllocError, Global};
 pub(crate) enum Sharing {
     /// In runs of like length.
     Even,
-    /// As suits workers that take turns on one processor: in runs of like length where few edges lead from run to run, and
-    /// else not at all. A value that climbs to and fro between workers is sent each time. Nor is a small game shared out, nor
-    /// one where there is one worker, who would get the whole of it.
+    /// As suits workers that take turns on one processor: in runs of like length where few edges lead from run to run, or
+    /// few priorities are odd, and else not at all. A value that climbs to and fro between workers is sent each time, but
+    /// nobody is told of vertices that can't rise. Nor is a small game shared out, nor one where there is one worker, who
+    /// would get the whole of it.
     ByEdges,
 }
 
-/// Of about how many vertices the edges are looked at.
+/// About how many vertices are looked at.
 const LOOKS: usize = 65_536;
 
 /// Of as many edges one may lead from run to run.
 const FEW: u64 = 10;
+
+/// Of as many vertices one may have an odd priority.
+const RARE: usize = 64;
 
 /// A game of fewer vertices is small.
 const SMALL: usize = 4_096;
@@ -48,18 +52,21 @@ fn count(cut: &Cut, worker: u32, successors: &[Vertex], edges: Edges) -> Edges
     counted
 }
 
-/// Whether few edges lead from a vertex of one worker to one of another. In a large game the edges of every so many vertices
-/// stand for all.
+/// Whether few edges lead from a vertex of one worker to one of another, or few vertices have an odd priority. In a large game
+/// every so many vertices stand for all.
 fn stays_within(game: &Game, cut: &Cut) -> bool
     requires { length cut.now.numbers ≡ length game.now }
 {
     let stride = game.len() / LOOKS + 1;
+    let looks = game.len() / stride;
     let mut edges = Edges { all: 0, across: 0 };
-    for look in 0..game.len() / stride {
+    let mut odd = 0usize;
+    for look in 0..looks {
         let v = Vertex((look * stride) as u32);
         edges = count(cut, cut.worker_of(v), game.successors(v), edges);
+        odd = odd.saturating_add((game.priority(v) % 2) as usize);
     }
-    edges.across <= edges.all / FEW
+    edges.across <= edges.all / FEW || odd <= looks / RARE
 }
 
 /// Which worker each vertex of a game belongs to: an even cut among these workers. None where the game is better solved in one
