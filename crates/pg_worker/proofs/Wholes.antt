@@ -5,7 +5,7 @@ use Rattle.std.proofs.lemmas.List.{get_or-set_same, length-replicate}
 use Rattle.pg_measure.specs.Measures.{BoundList, MeasureValue, Fits, AtMost, zeros}
 use Rattle.pg_map.specs.Lines.{Line}
 use Rattle.pg_map.specs.Maps.{MapValue, measure_at, IsMap, IsClosed, MapAtMost, StaysUnder, zero_map, update_map}
-use Rattle.pg_map.proofs.Joins.{zero_map_least}
+use Rattle.pg_map.proofs.Joins.{zero_map_least, zero_map_is}
 use Rattle.pg_worker.specs.Wholes.{HasTops, IsLeastWithTops}
 
 -- what is at least top is top
@@ -43,4 +43,16 @@ least_found lines n first raised found tops zero rb rs rt rl fb fm above under c
       let least : MapAtMost first.measures h =
       subst (λ (f : List MeasureValue). MapAtMost f h) (sym zero) (zero_map_least first.bounds n h from_zero) in
       under h from_raised (subst (λ (bs : BoundList). IsClosed bs lines h) fb is) (rl h from_first least at_tops);
+}
+
+-- the zero map where it is closed and there are no such vertices
+pub quiet_found : (lines : ℕ → Option Line) (bs : BoundList) (n : ℕ) (f : List MeasureValue) (tops : List ℕ)
+    → f ≡ zero_map bs n → IsClosed bs lines f → length tops ≡ 0 → IsLeastWithTops bs lines tops f
+quiet_found lines bs n f tops zero closed none = record {
+  fits = subst (λ (g : List MeasureValue). All (Fits bs) g) (sym zero) (zero_map_is bs n).fits;
+  closed = closed;
+  at_tops = λ j d lt. let no : ⊥ = omega (arith, lt, none) in absurd no;
+  least = λ h map is at_tops.
+      let from_zero : IsMap bs n h = record { size = map.size ∙ (ap length zero ∙ length-replicate n (zeros bs)); fits = map.fits } in
+      subst (λ (g : List MeasureValue). MapAtMost g h) (sym zero) (zero_map_least bs n h from_zero);
 }

@@ -89,7 +89,7 @@ pub(crate) fn lift_ready<G: Lines>(
 }
 
 /// Whether no vertex of the part can be lifted.
-fn is_quiet<G: Lines>(map: &MeasureMap, lines: &G, notes: &mut Notes) -> bool
+pub(crate) fn is_quiet<G: Lines>(map: &MeasureMap, lines: &G, notes: &mut Notes) -> bool
     requires within { AreWithin (length map.now.measures) (G.line lines.now) }
     requires notes { AreNotes (length map.now.measures) (G.line lines.now) notes.old }
     requires kept { IsKept map.now.bounds (G.line lines.now) map.now.measures notes.old.waits notes.old.best }

@@ -13,7 +13,7 @@ ghost use Rattle.pg_worker.specs.Mirrors.Notes.{AreNotes, HasRoom, IsSameSpan};
 
 use crate::adding::look;
 use crate::edges::Edges;
-use crate::lifting::{lift_ready, take};
+use crate::lifting::{is_quiet, lift_ready, take};
 use crate::notes::Notes;
 use crate::settle::next_ready;
 use pg_arena::{Game, Vertex};
@@ -132,7 +132,8 @@ fn lift_all<G: Lines>(
 /// that have top there, and with no such vertices the least progress measure. It is given up where more than `most_lifts`
 /// lifts are made, and then there is no answer; never where `most_lifts` is `u64::MAX`.
 ///
-/// It makes the lifts that a worker makes whose part is the whole game, but on the game itself: nothing is copied or sent.
+/// It makes the lifts that a worker makes whose part is the whole game, but on the game itself: nothing is copied or sent. Where
+/// the zero map is the answer, no edges are gathered.
 /// It is refused for want of memory only, also where the game has 2^32 edges or more.
 pub fn solve_whole(
     alloc: Global,
@@ -153,10 +154,13 @@ pub fn solve_whole(
     let mut map = MeasureMap::zero(alloc, vertices, &bounds)?;
     let mut notes = Notes::new(alloc, vertices)?;
     notes.reserve(0, vertices - 1)?;
-    let mut edges = Edges::new(alloc, vertices)?;
-    edges.reserve(count_edges(game, vertices).ok_or(AllocError)?)?;
     note_all(game, vertices, &mut notes);
     look_at_all(&map, game, &mut notes);
+    if is_quiet(&map, game, &mut notes) && tops.is_empty() {
+        return Ok(Some(map));
+    }
+    let mut edges = Edges::new(alloc, vertices)?;
+    edges.reserve(count_edges(game, vertices).ok_or(AllocError)?)?;
     edges.gather(game, vertices);
     raise_to_top(&mut map, game, &edges, &mut notes, tops);
     if lift_all(&mut map, game, &edges, &mut notes, most_lifts) {
