@@ -1,5 +1,5 @@
 -- Solving over links.
-use Rattle.std.specs.Prelude.{◌≡◌, ◌≢◌, ℕ, ◌+◌, ◌*◌, ◌⊎◌, List, length, All, None}
+use Rattle.std.specs.Prelude.{◌≡◌, ◌≢◌, ◌<◌, ℕ, ◌+◌, ◌*◌, ◌^◌, ◌⊎◌, List, length, All, None}
 use Rattle.pg_arena.specs.Games.{GameVertex}
 use Rattle.pg_measure.specs.Measures.{BoundList, MeasureValue}
 use Rattle.pg_map.specs.Lines.{game_line}
@@ -21,3 +21,7 @@ abbrev pub AreTop : List GameVertex → BoundList → List ℕ → Type 0
 AreTop game bounds vertices =
     (h : List MeasureValue) → IsMap bounds (length game) h → IsClosed bounds (game_line game) h
     → All (λ v. measure_at h v ≡ None) vertices
+
+-- a limit on rises or on rounds is set: it isn't the largest number
+abbrev pub IsLimited : ℕ → ℕ → Type 0
+IsLimited rises rounds = (rises + 1 < 2 ^ 64) ⊎ (rounds + 1 < 2 ^ 64)

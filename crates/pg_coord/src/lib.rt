@@ -10,6 +10,7 @@ mod fault;
 mod joining;
 mod leading;
 mod limited;
+mod limits;
 mod link;
 mod marks;
 mod memory;
@@ -34,6 +35,7 @@ mod waiting;
 
 pub use ending::halt;
 pub use fault::CoordFault;
+pub use limits::Limits;
 pub use link::{Link, LinkFault};
 pub use memory::MemoryLink;
 pub use reach::Reach;

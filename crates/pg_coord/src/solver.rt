@@ -6,7 +6,7 @@ ghost use Rattle.pg_measure.specs.Games.{IsBoundsOf};
 ghost use Rattle.pg_map.specs.Lines.{game_line};
 ghost use Rattle.pg_map.specs.Maps.{MapValue, MapAtMost, IsMap, IsClosed, IsLeastProgressMeasure, measure_at};
 ghost use Rattle.pg_map.specs.Weights.{map_weight};
-ghost use Rattle.pg_coord.specs.Solving.{IsMismatch, AreTop, most_rounds};
+ghost use Rattle.pg_coord.specs.Solving.{IsMismatch, IsLimited, AreTop, most_rounds};
 ghost use Rattle.pg_coord.specs.Told.{Reply, TellReplies, IsLeastOverReplies};
 ghost use Rattle.pg_coord.specs.Mirrors.Boards.{Moves};
 ghost use Rattle.pg_coord.specs.Mirrors.Tasks.{IsTask, IsClosedMap};
@@ -17,6 +17,7 @@ ghost use Rattle.pg_coord.specs.declared.fault.CoordFault.TheVariants.{CutMismat
 use crate::alone::finish;
 use crate::board::Board;
 use crate::fault::CoordFault;
+use crate::limits::Limits;
 use crate::link::Link;
 use crate::pass::settle;
 use crate::round::{ask_all, hear_all, seat_all};
@@ -79,7 +80,7 @@ fn start_at(board: &mut Board, tops: &[Vertex])
 }
 
 /// Makes rounds until nothing rises in one, by a row of as many places as there are bounds: how many. They stop before that
-/// where more measures rose than `most_rises`, but not where no link is in use.
+/// where a limit is passed, but not where no link is in use.
 fn make_rounds<L: Link>(
     task: &Task<'_>,
     links: &mut [L],
@@ -87,7 +88,7 @@ fn make_rounds<L: Link>(
     board: &mut Board,
     buffer: &mut Vec<u8>,
     row: &mut [u32],
-    most_rises: u64,
+    limits: Limits,
 ) -> Result<u64, Stop>
     requires seats { length seats.old ≡ length links.old }
     requires few { length links.old < 2 ^ 32 }
@@ -103,7 +104,7 @@ fn make_rounds<L: Link>(
         → ((h : MapValue) → IsClosedMap task.now h → MapAtMost board.old.map.measures h.measures)
         → (h : MapValue) → IsClosedMap task.now h → MapAtMost board.new.map.measures h.measures) }
     ensures honest { All L.is_honest links.old → All L.is_honest links.new }
-    ensures limited { result ≡ Err Stop.Limit → most_rises + 1 < 2 ^ 64 }
+    ensures limited { result ≡ Err Stop.Limit → IsLimited limits.rises limits.rounds }
     ensures told { IfOk result (λ n. (replies : ℕ → List Reply) → AllTell L.told task.now seats.old links.old replies
         → ((h : MapValue) → IsClosedMap task.now h → MapAtMost board.old.map.measures h.measures)
         → IsLeastOverReplies (game_line task.now.game) n (length links.old) replies board.new.map) }
@@ -123,7 +124,7 @@ fn make_rounds<L: Link>(
             return Ok(finish(task, board, rounds)?);
         }
         rises = rises.saturating_add(board.risen.as_slice().len() as u64);
-        if rises > most_rises {
+        if limits.are_passed(rises, rounds) {
             return Err(Stop::Limit);
         }
     }
@@ -136,7 +137,7 @@ fn seat_and_run<L: Link>(
     seats: &mut [Seat],
     board: &mut Board,
     row: &mut [u32],
-    most_rises: u64,
+    limits: Limits,
 ) -> Result<u64, Stop>
     requires seats { length seats.old ≡ length links.old }
     requires few { length links.old < 2 ^ 32 }
@@ -152,7 +153,7 @@ fn seat_and_run<L: Link>(
         → ((h : MapValue) → IsClosedMap task.now h → MapAtMost board.old.map.measures h.measures)
         → (h : MapValue) → IsClosedMap task.now h → MapAtMost board.new.map.measures h.measures) }
     ensures honest { All L.is_honest links.old → All L.is_honest links.new }
-    ensures limited { result ≡ Err Stop.Limit → most_rises + 1 < 2 ^ 64 }
+    ensures limited { result ≡ Err Stop.Limit → IsLimited limits.rises limits.rounds }
     ensures told { IfOk result (λ n. (replies : ℕ → List Reply)
         → TellReplies L.told task.now.bounds task.now.cut links.old replies
         → ((h : MapValue) → IsClosedMap task.now h → MapAtMost board.old.map.measures h.measures)
@@ -160,7 +161,7 @@ fn seat_and_run<L: Link>(
 {
     let mut buffer = Vec::new(task.alloc());
     seat_all(task, links, seats, &mut buffer)?;
-    make_rounds(task, links, seats, board, &mut buffer, row, most_rises)
+    make_rounds(task, links, seats, board, &mut buffer, row, limits)
 }
 
 /// How many rounds, restarts of links and links given up there were.
@@ -176,7 +177,7 @@ fn run<L: Link>(
     task: &Task<'_>,
     links: &mut [L],
     board: &mut Board,
-    most_rises: u64,
+    limits: Limits,
 ) -> Result<Counts, Stop>
     requires few { length links.old < 2 ^ 32 }
     requires bounds { board.old.map.bounds ≡ task.now.bounds }
@@ -191,7 +192,7 @@ fn run<L: Link>(
         → ((h : MapValue) → IsClosedMap task.now h → MapAtMost board.old.map.measures h.measures)
         → (h : MapValue) → IsClosedMap task.now h → MapAtMost board.new.map.measures h.measures) }
     ensures honest { All L.is_honest links.old → All L.is_honest links.new }
-    ensures limited { result ≡ Err Stop.Limit → most_rises + 1 < 2 ^ 64 }
+    ensures limited { result ≡ Err Stop.Limit → IsLimited limits.rises limits.rounds }
     ensures told { IfOk result (λ c. (replies : ℕ → List Reply)
         → TellReplies L.told task.now.bounds task.now.cut links.old replies
         → ((h : MapValue) → IsClosedMap task.now h → MapAtMost board.old.map.measures h.measures)
@@ -201,7 +202,7 @@ fn run<L: Link>(
     let row = cells.as_mut_slice();
     let mut places = vec![in task.alloc(); EMPTY; links.len()]?;
     let seats = places.as_mut_slice();
-    match seat_and_run(task, links, seats, board, row, most_rises) {
+    match seat_and_run(task, links, seats, board, row, limits) {
         Ok(rounds) => Ok(Counts {
             rounds,
             restarts: restarts(seats),
@@ -216,7 +217,7 @@ fn work<L: Link>(
     task: &Task<'_>,
     links: &mut [L],
     tops: &[Vertex],
-    most_rises: u64,
+    limits: Limits,
 ) -> Result<Solved, Stop>
     requires few { length links.old < 2 ^ 32 }
     requires within { All (λ v. v < length task.now.game) tops.now }
@@ -228,14 +229,14 @@ fn work<L: Link>(
     ensures least { IfOk result (λ s. All L.is_honest links.old → AreTop task.now.game task.now.bounds tops.now
         → IsLeastProgressMeasure s.map.bounds (game_line task.now.game) s.map.measures) }
     ensures honest { All L.is_honest links.old → All L.is_honest links.new }
-    ensures limited { result ≡ Err Stop.Limit → most_rises + 1 < 2 ^ 64 }
+    ensures limited { result ≡ Err Stop.Limit → IsLimited limits.rises limits.rounds }
     ensures told { IfOk result (λ s. AreTop task.now.game task.now.bounds tops.now → (replies : ℕ → List Reply)
         → TellReplies L.told task.now.bounds task.now.cut links.old replies
         → IsLeastOverReplies (game_line task.now.game) s.rounds (length links.old) replies s.map) }
 {
     let mut board = Board::new(task)?;
     start_at(&mut board, tops);
-    match run(task, links, &mut board, most_rises) {
+    match run(task, links, &mut board, limits) {
         Ok(counts) => Ok(Solved {
             map: board.map,
             rounds: counts.rounds,
@@ -307,16 +308,16 @@ pub fn solve<L: Link>(
     ensures same { result ≡ Err CutMismatch → links.new ≡ links.old }
 {
     let task = task_of(alloc, game, cut, links.len(), budget, &[])?;
-    match work(&task, links, &[], u64::MAX) {
+    match work(&task, links, &[], Limits::none()) {
         Ok(solved) => Ok(solved),
-        // so many measures never rise
+        // no limit is passed
         Err(_) => Err(CoordFault::OutOfMemory),
     }
 }
 
 /// Solves a game as `solve` does, where it is known that each closed map has top at some vertices: the map begins with top
-/// there. It is given up where more than `most_rises` measures rose in rounds over links and the map isn't closed yet; then
-/// there is no answer, and the links may be used again. It is never given up where `most_rises` is `u64::MAX`.
+/// there. It is given up where a limit is passed in rounds over links and the map isn't closed yet; then there is no answer, and
+/// the links may be used again. It is never given up where both limits are `u64::MAX`.
 ///
 /// The map is closed whatever the links answer, and also where a closed map has a list at one of these vertices; over honest links
 /// it is the least progress measure, if none has.
@@ -329,7 +330,7 @@ pub fn solve_within<L: Link>(
     cut: &Cut,
     budget: u32,
     tops: &[Vertex],
-    most_rises: u64,
+    limits: Limits,
 ) -> Result<Option<Solved>, CoordFault>
     requires { All (λ v. v < length game.now) tops.now }
     ensures bounds { IfOk result (λ o. IfSome o (λ s. IsBoundsOf game.now s.map.bounds)) }
@@ -339,13 +340,13 @@ pub fn solve_within<L: Link>(
         × (s.rounds + map_weight s.map.bounds s.map.measures ≤ most_rounds (length game.now) s.map.bounds))) }
     ensures least { IfOk result (λ o. IfSome o (λ s. All L.is_honest links.old → AreTop game.now s.map.bounds tops.now
         → IsLeastProgressMeasure s.map.bounds (game_line game.now) s.map.measures)) }
-    ensures limited { IfOk result (λ o. IfNone o (most_rises + 1 < 2 ^ 64)) }
+    ensures limited { IfOk result (λ o. IfNone o (IsLimited limits.rises limits.rounds)) }
     ensures honest { All L.is_honest links.old → All L.is_honest links.new }
     ensures mismatch { result ≡ Err CutMismatch ↔ IsMismatch (length game.now) (length links.old) cut.now }
     ensures same { result ≡ Err CutMismatch → links.new ≡ links.old }
 {
     let task = task_of(alloc, game, cut, links.len(), budget, tops)?;
-    match work(&task, links, tops, most_rises) {
+    match work(&task, links, tops, limits) {
         Ok(solved) => Ok(Some(solved)),
         Err(Stop::Limit) => Ok(None),
         Err(Stop::OutOfMemory) => Err(CoordFault::OutOfMemory),

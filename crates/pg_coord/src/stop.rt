@@ -7,7 +7,7 @@ use std::alloc::AllocError;
 pub enum Stop {
     /// A growth was refused, here or in a link.
     OutOfMemory,
-    /// More measures rose than were to rise.
+    /// There were more rises or rounds than there may be.
     Limit,
 }
 

@@ -1,7 +1,7 @@
 //! The game, and calls that test what `solve` answers.
 
 use pg_arena::{Game, GameBuilder, Player, Vertex};
-use pg_coord::{CoordFault, Link, Solved, solve, solve_within};
+use pg_coord::{CoordFault, Limits, Link, Solved, solve, solve_within};
 use pg_map::View;
 use pg_worker::Cut;
 use std::alloc::Global;
@@ -57,12 +57,28 @@ pub fn solves<L: Link>(
     solves_game(alloc, &game(alloc)?, links, budget)
 }
 
-/// Solves the game over these links, where the map begins with top at the first vertex, and gives up where more measures rose:
+/// The limit of so many rises.
+pub fn rises(rises: u64) -> Limits {
+    Limits {
+        rises,
+        rounds: u64::MAX,
+    }
+}
+
+/// The limit of so many rounds.
+pub fn rounds(rounds: u64) -> Limits {
+    Limits {
+        rises: u64::MAX,
+        rounds,
+    }
+}
+
+/// Solves the game over these links, where the map begins with top at the first vertex, and gives up where a limit is passed:
 /// how many rounds, restarts and links given up there were, where that gives top at both vertices.
 pub fn solves_within<L: Link>(
     alloc: Global,
     links: &mut [L],
-    most_rises: u64,
+    limits: Limits,
 ) -> Result<Option<(u64, u64, u64)>, Fail> {
     let game = game(alloc)?;
     if game.len() != 2 {
@@ -70,7 +86,7 @@ pub fn solves_within<L: Link>(
     }
     let cut = Cut::even(alloc, 2, u32::try_from(links.len())?)?;
     let tops = [Vertex(0)];
-    match solve_within(alloc, &game, links, &cut, 4096, &tops, most_rises)? {
+    match solve_within(alloc, &game, links, &cut, 4096, &tops, limits)? {
         Some(solved) => Ok(counts(&solved)),
         None => Ok(None),
     }

@@ -204,8 +204,8 @@ returns-then-are_abandoned-clause-told g c =
     c.args.board.now.map.measures end.map over count (c.in_ok-finish.ensures.bounds ∙ after_bounds)
     c.in_ok-finish.ensures.map.size c.in_ok-finish.ensures.closed under
 
-pub returns-then-rises-most_rises-clause-honest : goal.returns-then-rises-most_rises-clause-honest
-returns-then-rises-most_rises-clause-honest g c = λ h.
+pub returns-then-are_passed-clause-honest : goal.returns-then-are_passed-clause-honest
+returns-then-are_passed-clause-honest g c = λ h.
     c.hear_all.ensures.honest (c.ask_all.ensures.honest (c.rounds.invariant.honest_still h))
 
 pub returns-in_err-finish-clause-honest : goal.returns-in_err-finish-clause-honest
@@ -274,8 +274,8 @@ returns-then-are_abandoned-clause-map g c = c.in_ok-finish.ensures.map
 pub returns-then-are_abandoned-clause-closed : goal.returns-then-are_abandoned-clause-closed
 returns-then-are_abandoned-clause-closed g c = c.in_ok-finish.ensures.closed
 
-pub returns-then-rises-most_rises-clause-bounds : goal.returns-then-rises-most_rises-clause-bounds
-returns-then-rises-most_rises-clause-bounds g c =
+pub returns-then-are_passed-clause-bounds : goal.returns-then-are_passed-clause-bounds
+returns-then-are_passed-clause-bounds g c =
     c.settle.ensures.moves.bounds ∙ c.hear_all.ensures.moves.bounds ∙ ap (λ (m : MapValue). m.bounds) c.begin.ensures.map ∙ c.rounds.invariant.bounds
 
 pub returns-in_err-ask_all-clause-bounds : goal.returns-in_err-ask_all-clause-bounds
