@@ -10,7 +10,8 @@ ghost use Rattle.pg_cli.specs.Words.{HasFewWorkers, HasNoWorkers};
 use crate::command::Command;
 use crate::fault::CliFault;
 use crate::input::MOST_BYTES;
-use crate::program::run_with;
+use crate::program::run_shared;
+use crate::sharing::Sharing;
 use pg_coord::{Link, LinkFault, Reach, SocketLink, halt};
 use std::alloc::{AllocError, Global};
 use std::io::{Read, Write};
@@ -53,7 +54,7 @@ fn end<R: Reach>(mut links: Vec<SocketLink<R>>) {
 /// started runs when this returns.
 ///
 /// Whatever the programs do, and also where none can be started, what is printed goes by a closed map of the game and one of
-/// its dual, as for `run_with`.
+/// its dual, as for `run_with`. Where the programs come to no end in some rounds, the game is solved here in one piece.
 ///
 /// Refuses what `run` does, in the same order, and before all else `Listen` where no port of 127.0.0.1 can be listened at.
 /// Where the command asks for no workers, or solves nothing, no program is wanted, and the answer or refusal is that of `run`.
@@ -81,7 +82,8 @@ pub fn run_apart<S: Reach, R: Read, W: Write>(
     ensures untouched { IfErr result (λ fault. fault ≢ CliFault.Write → writer.new ≡ writer.old) }
 {
     let mut links = program_links(rt, alloc, path, command.workers().unwrap_or(0))?;
-    let ran = run_with(alloc, command, links.as_mut_slice(), reader, writer);
+    let workers = links.as_mut_slice();
+    let ran = run_shared(alloc, command, workers, Sharing::Apart, reader, writer);
     end(links);
     ran
 }

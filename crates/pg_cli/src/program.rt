@@ -103,6 +103,41 @@ pub fn run<R: Read, W: Write>(
     answer(alloc, command, text, workers, Sharing::ByEdges, writer)
 }
 
+/// Reads the whole input, and writes the answer to it and nothing else; games are shared out so among the links that are given.
+pub(crate) fn run_shared<L: Link, R: Read, W: Write>(
+    alloc: Global,
+    command: Command,
+    links: &mut [L],
+    sharing: Sharing,
+    reader: &mut R,
+    writer: &mut W,
+) -> Result<(), CliFault>
+    requires { length links.old ≤ 16 }
+    ensures answer { OnOk result (IfSome (R.remaining reader.old) (λ input.
+        (output : List ℕ) × PrintsBy IsClosedMapOf command input output
+        × Appends (W.contents writer.old) (W.contents writer.new) output)) }
+    ensures refused { IfErr result (λ fault. IfSome (R.remaining reader.old)
+        (λ input. RefusesBy IsClosedMapOf command input fault)) }
+
+    ensures honest_answer { All L.is_honest links.old → OnOk result (IfSome (R.remaining reader.old) (λ input.
+        (output : List ℕ) × Prints command input output
+        × Appends (W.contents writer.old) (W.contents writer.new) output)) }
+    ensures honest_refused { All L.is_honest links.old → IfErr result (λ fault. IfSome (R.remaining reader.old)
+        (λ input. Refuses command input fault)) }
+    ensures told { (workers : ℕ) → command ≡ Command.Measure workers → sharing ≡ Sharing.Even
+        → OnOk result (IfSome (R.remaining reader.old) (λ input.
+        (output : List ℕ) × IsMeasured (IsLeastOverTold L.told links.old) input output
+        × Appends (W.contents writer.old) (W.contents writer.new) output)) }
+
+    // Whatever comes of it, no byte behind the first one over the limit is read.
+    ensures no_further { StaysWithin (R.remaining reader.old) (R.remaining reader.new) (MOST_BYTES + 1) }
+    ensures untouched { IfErr result (λ fault. fault ≢ CliFault.Write → writer.new ≡ writer.old) }
+    ensures unused { IsNone (workers_of command) → links.new ≡ links.old }
+{
+    let text = read_all_limited(alloc, reader)?;
+    answer(alloc, command, text, links, sharing, writer)
+}
+
 /// The same over the links that are given, at most 16: where the command solves a game, the game is cut evenly among them, and
 /// then its dual. How many workers the command says is of no account, and a command that solves nothing leaves the links alone.
 ///
@@ -142,6 +177,5 @@ pub fn run_with<L: Link, R: Read, W: Write>(
     ensures untouched { IfErr result (λ fault. fault ≢ CliFault.Write → writer.new ≡ writer.old) }
     ensures unused { IsNone (workers_of command) → links.new ≡ links.old }
 {
-    let text = read_all_limited(alloc, reader)?;
-    answer(alloc, command, text, links, Sharing::Even, writer)
+    run_shared(alloc, command, links, Sharing::Even, reader, writer)
 }

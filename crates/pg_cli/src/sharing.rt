@@ -12,21 +12,20 @@ use std::alloc::{AllocError, Global};
 pub(crate) enum Sharing {
     /// In runs of like length.
     Even,
-    /// As suits workers that take turns on one processor: in runs of like length where few edges lead from run to run, or
-    /// few priorities are odd, and else not at all. A value that climbs to and fro between workers is sent each time, but
-    /// nobody is told of vertices that can't rise. Nor is a small game shared out, nor one where there is one worker, who
-    /// would get the whole of it.
+    /// In runs of like length too, but where workers come to no end in some rounds the game is solved in one piece: as suits
+    /// programs, for which each round is dear.
+    Apart,
+    /// As suits workers that take turns on one processor: in runs of like length where few edges lead from run to run, and
+    /// else not at all, since a value that climbs to and fro between workers is sent each time. Nor is a small game shared
+    /// out, nor one where there is one worker, who would get the whole of it.
     ByEdges,
 }
 
-/// About how many vertices are looked at.
+/// Of about how many vertices the edges are looked at.
 const LOOKS: usize = 65_536;
 
 /// Of as many edges one may lead from run to run.
 const FEW: u64 = 10;
-
-/// Of as many vertices one may have an odd priority.
-const RARE: usize = 64;
 
 /// A game of fewer vertices is small.
 const SMALL: usize = 4_096;
@@ -52,21 +51,18 @@ fn count(cut: &Cut, worker: u32, successors: &[Vertex], edges: Edges) -> Edges
     counted
 }
 
-/// Whether few edges lead from a vertex of one worker to one of another, or few vertices have an odd priority. In a large game
-/// every so many vertices stand for all.
+/// Whether few edges lead from a vertex of one worker to one of another. In a large game the edges of every so many vertices
+/// stand for all.
 fn stays_within(game: &Game, cut: &Cut) -> bool
     requires { length cut.now.numbers ≡ length game.now }
 {
     let stride = game.len() / LOOKS + 1;
-    let looks = game.len() / stride;
     let mut edges = Edges { all: 0, across: 0 };
-    let mut odd = 0usize;
-    for look in 0..looks {
+    for look in 0..game.len() / stride {
         let v = Vertex((look * stride) as u32);
         edges = count(cut, cut.worker_of(v), game.successors(v), edges);
-        odd = odd.saturating_add((game.priority(v) % 2) as usize);
     }
-    edges.across <= edges.all / FEW || odd <= looks / RARE
+    edges.across <= edges.all / FEW
 }
 
 /// Which worker each vertex of a game belongs to: an even cut among these workers. None where the game is better solved in one
@@ -83,7 +79,7 @@ pub(crate) fn cut_of(
 {
     let cut = Cut::even(alloc, game.len() as u32, workers as u32)?;
     match sharing {
-        Sharing::Even => Ok(Some(cut)),
+        Sharing::Even | Sharing::Apart => Ok(Some(cut)),
         Sharing::ByEdges => {
             let is_shared = workers > 1 && game.len() >= SMALL && stays_within(game, &cut);
             Ok((workers == 0 || is_shared).then_some(cut))

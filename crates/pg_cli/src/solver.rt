@@ -6,6 +6,7 @@ ghost use Rattle.pg_arena.specs.Games.{HasPrioritiesUpTo, dual};
 ghost use Rattle.pg_map.specs.Maps.{measure_at};
 ghost use Rattle.pg_text.specs.Solutions.{IsSolution, winner};
 ghost use Rattle.pg_check.specs.Soundness.{IsSound};
+ghost use Rattle.pg_worker.specs.Cuts.{IsEvenCut};
 ghost use Rattle.pg_coord.specs.Solving.{AreTop};
 ghost use Rattle.pg_cli.specs.Linked.{IsLeastOverTold};
 ghost use Rattle.pg_cli.specs.Measuring.{IsClosedMapOf, IsMeasureOf};
@@ -16,10 +17,10 @@ use crate::fault::CliFault;
 use crate::sharing::{Sharing, cut_of};
 use pg_arena::{Game, Player, Vertex, dual};
 use pg_check::{even_half, with_odd_half};
-use pg_coord::{Link, solve, solve_within};
+use pg_coord::{Limits, Link, solve, solve_within};
 use pg_map::{MeasureMap, View};
 use pg_text::Solution;
-use pg_worker::solve_whole;
+use pg_worker::{Cut, solve_whole};
 use std::alloc::{AllocError, Global};
 
 /// How many lifts a worker makes in a turn, at most.
@@ -43,6 +44,38 @@ fn whole_map(
     Ok(solve_whole(alloc, game, tops, most_rises)?)
 }
 
+/// How many rounds are made over programs before the game is solved in one piece: for each game, and for each so many vertices.
+const FIRST_ROUNDS: u64 = 128;
+
+const VERTICES_A_ROUND: u64 = 512;
+
+/// A map of a game, solved over links that each round is dear for, where it is known that each closed map has top at some
+/// vertices. Where there are too many rounds the game is solved in one piece. None where more measures rose than `most_rises`.
+fn map_apart<L: Link>(
+    alloc: Global,
+    game: &Game,
+    links: &mut [L],
+    cut: &Cut,
+    tops: &[Vertex],
+    most_rises: u64,
+) -> Result<Option<MeasureMap>, CliFault>
+    requires cut { (cut.now.workers ≡ length links.old) × IsEvenCut (length game.now) (length links.old) cut.now }
+    requires within { All (λ v. v < length game.now) tops.now }
+    ensures found { IfOk result (λ o. IfSome o (IsFoundAbove (All L.is_honest links.old) game.now tops.now)) }
+    ensures limited { IfOk result (λ o. IfNone o (most_rises + 1 < 2 ^ 64)) }
+    ensures honest { OnOk result (All L.is_honest links.old → All L.is_honest links.new) }
+    ensures refused { IfErr result (λ fault. fault ≡ CliFault.OutOfMemory) }
+{
+    let limits = Limits {
+        rises: most_rises,
+        rounds: FIRST_ROUNDS.saturating_add(game.len() as u64 / VERTICES_A_ROUND),
+    };
+    match solve_within(alloc, game, links, cut, BUDGET, tops, limits)? {
+        Some(solved) => Ok(Some(solved.map)),
+        None => whole_map(alloc, game, tops, most_rises),
+    }
+}
+
 /// A map of a game, solved over links where the game is shared out among them.
 pub(crate) fn map_of<L: Link>(
     alloc: Global,
@@ -59,6 +92,9 @@ pub(crate) fn map_of<L: Link>(
     let Some(cut) = cut_of(alloc, game, links.len(), sharing)? else {
         return Ok(whole_map(alloc, game, &[], u64::MAX)?.unwrap());
     };
+    if let Sharing::Apart = sharing {
+        return Ok(map_apart(alloc, game, links, &cut, &[], u64::MAX)?.unwrap());
+    }
     let solved = solve(alloc, game, links, &cut, BUDGET)?;
     Ok(solved.map)
 }
@@ -88,7 +124,14 @@ fn map_within<L: Link>(
     let Some(cut) = cut_of(alloc, game, links.len(), sharing)? else {
         return whole_map(alloc, game, tops, most_rises);
     };
-    match solve_within(alloc, game, links, &cut, BUDGET, tops, most_rises)? {
+    if let Sharing::Apart = sharing {
+        return map_apart(alloc, game, links, &cut, tops, most_rises);
+    }
+    let limits = Limits {
+        rises: most_rises,
+        rounds: u64::MAX,
+    };
+    match solve_within(alloc, game, links, &cut, BUDGET, tops, limits)? {
         Some(solved) => Ok(Some(solved.map)),
         None => Ok(None),
     }

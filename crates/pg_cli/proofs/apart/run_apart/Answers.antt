@@ -22,24 +22,24 @@ or_listening : (P : CliFault → Type 0) (result : Result (Unit {0}) CliFault) �
 or_listening P (Ok x) why = tt
 or_listening P (Err fault) why = inr why
 
-pub run_with-ran-requires : goal.run_with-ran-requires
-run_with-ran-requires g c =
+pub run_shared-ran-requires : goal.run_shared-ran-requires
+run_shared-ran-requires g c =
     let few : c.unwrap_or.result ≤ 16 = rw c.unwrap_or.ensures (rw c.workers.ensures (few_or_none (workers_of c.args.command) c.requires)) in
-    rw c.as_mut_slice.ensures.value (rw c.in_ok-links.ensures.ok few)
+    rw c.as_mut_slice-workers.ensures.value (rw c.in_ok-links.ensures.ok few)
 
 pub returns-clause-alone_answer : goal.returns-clause-alone_answer
 returns-clause-alone_answer g c = λ none.
     let zero : c.unwrap_or.result ≡ 0 = rw c.unwrap_or.ensures (rw c.workers.ensures (none_or_none (workers_of c.args.command) none)) in
-    c.run_with-ran.ensures.honest_answer
-    (λ k d inside. absurd (no_place _ k inside (rw c.as_mut_slice.ensures.value (rw c.in_ok-links.ensures.ok zero))))
+    c.run_shared-ran.ensures.honest_answer
+    (λ k d inside. absurd (no_place _ k inside (rw c.as_mut_slice-workers.ensures.value (rw c.in_ok-links.ensures.ok zero))))
 
 pub returns-clause-alone_refused : goal.returns-clause-alone_refused
 returns-clause-alone_refused g c = λ none.
     let zero : c.unwrap_or.result ≡ 0 = rw c.unwrap_or.ensures (rw c.workers.ensures (none_or_none (workers_of c.args.command) none)) in
-    c.run_with-ran.ensures.honest_refused
-    (λ k d inside. absurd (no_place _ k inside (rw c.as_mut_slice.ensures.value (rw c.in_ok-links.ensures.ok zero))))
+    c.run_shared-ran.ensures.honest_refused
+    (λ k d inside. absurd (no_place _ k inside (rw c.as_mut_slice-workers.ensures.value (rw c.in_ok-links.ensures.ok zero))))
 
 pub returns-clause-refused : goal.returns-clause-refused
 returns-clause-refused g c =
     or_listening (λ fault. IfSome (g.R.Read.remaining c.args.reader.now) (λ input. RefusesBy IsClosedMapOf c.args.command input fault))
-    c.run_with-ran.result c.run_with-ran.ensures.refused
+    c.run_shared-ran.result c.run_shared-ran.ensures.refused

@@ -1,5 +1,15 @@
-use Rattle.pg_cli.proofs.Found.{over_told}
+use Rattle.std.specs.Prelude.{All, []}
+use Rattle.pg_cli.specs.Mirrors.Solver.{IsFoundAbove}
+use Rattle.pg_cli.proofs.Found.{at_some, found_above, over_told, top_at_none}
 use Rattle.pg_cli.proofs.solver.map_of.Goals as goal
+
+pub returns-in-Apart-clause-found : goal.returns-in-Apart-clause-found
+returns-in-Apart-clause-found g c =
+    let honest = All g.L.Link.is_honest c.args.links.now in
+    let game = c.args.game.now in
+    let map = c.unwrap-in-Apart.result in
+    let found = at_some c.in_ok-map_apart.field-0 map (IsFoundAbove honest game []) c.unwrap-in-Apart.ensures c.in_ok-map_apart.ensures.found in
+    found_above honest honest (λ x. x) game [] map found (top_at_none game map.bounds)
 
 pub returns-clause-told : goal.returns-clause-told
 returns-clause-told g c = λ even.

@@ -1,6 +1,15 @@
-use Rattle.std.specs.Prelude.{All}
+use Rattle.std.proofs.Common.{◌<◌, ◌≡◌, ◌+◌, ◌^◌, ◌⊎◌, ℕ, All, arith, inl, inr, refl}
 use Rattle.pg_cli.proofs.Found.{whole_found}
 use Rattle.pg_cli.proofs.solver.map_within.Goals as goal
+
+-- only rises have a limit
+limit_of_rises : (rises rounds : ℕ) → rounds ≡ 18446744073709551615 → (rises + 1 < 2 ^ 64) ⊎ (rounds + 1 < 2 ^ 64) → rises + 1 < 2 ^ 64
+limit_of_rises rises rounds most (inl limit) = limit
+limit_of_rises rises rounds most (inr limit) = let no : ⊥ = omega (arith, most, limit) in absurd no
+
+pub returns-clause-limited : goal.returns-clause-limited
+returns-clause-limited g c =
+    limit_of_rises c.args.most_rises 18446744073709551615 refl (rw c.in-None.is at c.in_ok-solved.ensures.limited)
 
 pub returns-in_default-clause-found : goal.returns-in_default-clause-found
 returns-in_default-clause-found g c =

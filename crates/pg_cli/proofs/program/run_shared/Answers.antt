@@ -3,7 +3,7 @@ use Rattle.pg_cli.specs.Measuring.{IsClosedMapOf, IsMeasureOf}
 use Rattle.pg_cli.specs.Mirrors.Solver.{IsFoundIf}
 use Rattle.pg_cli.proofs.Found.{found_closed, found_least, answers_too, refusals_too}
 use Rattle.pg_cli.proofs.Printing.{answered_known, refused_known}
-use Rattle.pg_cli.proofs.program.run_with.Goals as goal
+use Rattle.pg_cli.proofs.program.run_shared.Goals as goal
 
 pub returns-clause-answer : goal.returns-clause-answer
 returns-clause-answer g c =
