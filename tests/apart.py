@@ -115,6 +115,16 @@ def says(program, command, text, path, status, output, errors=""):
         return str(run), run.make(folder) or run.differs(status, output, errors)
 
 
+def ends_where_values_go_to_and_fro(program, count=400):
+    """Each vertex but the last has the next as its successor, which is in the other program's part: in a round each measure rises
+    by one, until it is how many vertices come behind. The programs are given up before that, and the answer is the same."""
+    order = [v // 2 + v % 2 * (count // 2) for v in range(count)]
+    lines = [f"{v} 1 0 {w};\n" for v, w in zip(order, order[1:])] + [f"{order[-1]} 2 0 {order[-1]};\n"]
+    behind = {v: count - 1 - place for place, v in enumerate(order)}
+    run = Run(program, "measure", "".join(sorted(lines, key=lambda line: int(line.split()[0]))), "/proc/self/exe", 2)
+    return f"{run}, to and fro", run.answers("".join(f"{v} {behind[v]};\n" for v in range(count)))
+
+
 def wins_or_is_undecided(program, text, seed):
     """Whatever measures the programs make up, a solution that is printed is sound."""
     run = Run(program, "solve", text, "random_values", 2)
@@ -231,6 +241,7 @@ def cases(program, is_first):
     yield killed_at_each_frame, program, "solve", THREE
     yield starts_anew, program
     yield others_stay_out, program
+    yield ends_where_values_go_to_and_fro, program
     for row in SERVED:
         yield serves, program, *row
 

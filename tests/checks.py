@@ -65,14 +65,12 @@ def calm_game(dice):
                                  for _ in range(dice.randint(1, 3))]) for v in range(count)})
 
 
-def shared_game(dice):
-    """The text of a large game that workers in one process share: its edges lead to vertices nearby, or few vertices have an odd
-    priority. Other games they solve in one piece."""
-    count, is_near = dice.randint(4096, 5000), dice.randint(0, 1)
-    priorities = (0,) * 20 + (1, 2) if is_near else (0,) * 200 + (1, 2, 3)
-    return naive.game_text({v: (dice.choice(priorities), dice.randint(0, 1),
-                                dice.sample(range(max(v - 2, 0), min(v + 3, count)) if is_near else range(count),
-                                            dice.randint(1, 3))) for v in range(count)})
+def near_game(dice):
+    """The text of a large game whose edges lead to vertices nearby, so that workers in one process share it: smaller games, and
+    those with edges to everywhere, they solve in one piece. Few vertices have an odd priority, since measures climb far."""
+    count = dice.randint(4096, 5000)
+    return naive.game_text({v: (dice.choice((0,) * 200 + (1, 2, 3)), dice.randint(0, 1),
+                                dice.sample(range(max(v - 2, 0), min(v + 3, count)), dice.randint(1, 3))) for v in range(count)})
 
 
 def random_event(dice, game, script, made):
@@ -257,8 +255,8 @@ def cases(programs):
                    lambda p=program, c=command: workers_change_nothing(p, c, large_game))
             yield (f"{command} where few vertices may rise, by every number of workers ({name})",
                    lambda p=program, c=command: workers_change_nothing(p, c, calm_game))
-            yield (f"{command} of games that are shared, by every number of workers ({name})",
-                   lambda p=program, c=command: workers_change_nothing(p, c, shared_game, count=6))
+            yield (f"{command} where edges lead to vertices nearby, by every number of workers ({name})",
+                   lambda p=program, c=command: workers_change_nothing(p, c, near_game, count=5))
         yield (f"synth by every number of workers ({name})", lambda p=program: workers_change_nothing(
             p, "synth", lambda dice: controllers.automaton_text(controllers.random_automaton(dice))))
         yield f"replay on random schedules ({name})", lambda p=program: replays_as_defined(p)
