@@ -147,6 +147,32 @@ fn is_below_top(measure: &mut Measure, top: &Measure, bounds: &Bounds) -> bool {
     is_below && measure.list().is_none()
 }
 
+/// The bounds of a game with a vertex of each of five odd priorities.
+fn five_bounds(alloc: Global) -> Result<Bounds, Fail> {
+    let mut builder = GameBuilder::new(alloc);
+    for (vertex, priority) in [(0, 5), (1, 9), (2, 1), (3, 7), (4, 3)] {
+        builder.add(vertex, priority, Player::Odd, &[0], None)?;
+    }
+    Ok(Bounds::of(alloc, &builder.finish()?)?)
+}
+
+/// Whether a list of five zeros that is set to another is that one.
+fn is_set(alloc: Global, list: &[u32; 5]) -> Result<bool, AllocError> {
+    let mut measure = Measure::from_list(alloc, &[0, 0, 0, 0, 0])?;
+    measure.set(View::List(list));
+    Ok(measure.view() == View::List(list))
+}
+
+#[test]
+fn long_measures_step_and_are_set(rt: HostRuntime) -> Result<(), Fail> {
+    let bounds = five_bounds(rt.alloc())?;
+    let carried = View::List(&[0, 0, 1, 0, 0]);
+    assert!(rt; steps_to(rt.alloc(), &bounds, &[0, 0, 0, 1, 1], 1, carried)?);
+    assert!(rt; steps_to(rt.alloc(), &bounds, &[1, 1, 1, 1, 1], 1, View::Top)?);
+    assert!(rt; is_set(rt.alloc(), &[1, 0, 1, 0, 1])?);
+    Ok(())
+}
+
 #[test]
 fn top_is_above(rt: HostRuntime) -> Result<(), Fail> {
     let bounds = bounds(rt.alloc())?;

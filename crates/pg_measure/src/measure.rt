@@ -1,20 +1,34 @@
 //! Measures that own their components.
 
-ghost use Rattle.std.specs.Prelude.{◌≡◌, ◌↔◌, ℕ, List, Some, None, length, option_map, IfOk, IsTrue};
+ghost use Rattle.std.specs.Prelude.{◌≡◌, ◌↔◌, ℕ, List, Some, None, length, option_map, replicate, IfOk, IsTrue};
 ghost use Rattle.std.specs.Ordering.{MatchOrdering};
 ghost use Rattle.pg_measure.specs.Measures.{Fits, IsLeastStep, IsBelow, zeros, measure_from, owned, IsOwned};
 ghost use Rattle.pg_measure.specs.Views.{measure_in};
 
 use crate::{Bounds, View, row};
+use smallvec::SmallVec;
 use std::alloc::{AllocError, Global};
 use std::cmp::Ordering;
 use std::marker::Model;
+
+/// A row of so many numbers, the mark among them, stands in the measure itself, and a longer one in memory of its own.
+const INLINE: usize = 4;
 
 /// Top, or a list of components. Contracts see the measure as `value`, and as `width` how many components it has room
 /// for, also at top.
 #[derive(Drop)]
 pub struct Measure {
-    row: Vec<u32>,
+    row: SmallVec<u32, INLINE>,
+}
+
+/// A row with a number so many times.
+fn row_of(alloc: Global, number: u32, count: usize) -> Result<SmallVec<u32, INLINE>, AllocError>
+    ensures { IfOk result (λ r. r.items ≡ replicate count number) }
+{
+    if count <= INLINE {
+        return Ok(SmallVec::from_buf_and_len(alloc, [number; INLINE], count));
+    }
+    Ok(SmallVec::from_vec(vec![in alloc; number; count]?))
 }
 
 impl Model for Measure {
@@ -34,7 +48,7 @@ impl Measure {
     pub fn zero(alloc: Global, bounds: &Bounds) -> Result<Measure, AllocError>
         ensures { IfOk result (λ m. m ≡ owned (zeros bounds.now) (length bounds.now)) }
     {
-        let row = vec![in alloc; 0; bounds.pairs().len() + 1]?;
+        let row = row_of(alloc, 0, bounds.pairs().len() + 1)?;
         Ok(Measure { row })
     }
 
@@ -42,7 +56,7 @@ impl Measure {
     pub fn top(alloc: Global, bounds: &Bounds) -> Result<Measure, AllocError>
         ensures { IfOk result (λ m. m ≡ owned None (length bounds.now)) }
     {
-        let row = vec![in alloc; 1; bounds.pairs().len() + 1]?;
+        let row = row_of(alloc, 1, bounds.pairs().len() + 1)?;
         Ok(Measure { row })
     }
 
@@ -50,7 +64,8 @@ impl Measure {
     pub fn from_list(alloc: Global, list: &[u32]) -> Result<Measure, AllocError>
         ensures { IfOk result (λ m. m ≡ owned (Some list.now) (length list.now)) }
     {
-        let mut row = vec![in alloc; 0; 1]?;
+        let mut row = SmallVec::new(alloc);
+        row.push_reserved(0);
         row.extend_from_slice(list)?;
         Ok(Measure { row })
     }
@@ -60,11 +75,8 @@ impl Measure {
         ensures value { option_map (λ r. r.now) result ≡ self.now.value }
         ensures width { IsOwned self.now }
     {
-        if self.row[0] != 0 {
-            None
-        } else {
-            Some(&self.row[1..])
-        }
+        let row = self.row.as_slice();
+        if row[0] != 0 { None } else { Some(&row[1..]) }
     }
 
     /// The measure, lent.
@@ -83,11 +95,12 @@ impl Measure {
         requires { (xs : List ℕ) → measure_in m ≡ Some xs → length xs ≡ self.old.width }
         ensures { self.new ≡ owned (measure_in m.entry) self.old.width }
     {
+        let row = self.row.as_mut_slice();
         match m {
-            View::Top => self.row[0] = 1,
+            View::Top => row[0] = 1,
             View::List(list) => {
-                self.row[0] = 0;
-                self.row[1..].copy_from_slice(list);
+                row[0] = 0;
+                row[1..].copy_from_slice(list);
             }
         }
     }
@@ -137,9 +150,10 @@ impl Measure {
         ensures least { IfOk result (λ m. IsLeastStep bounds.now p self.now.value m.value) }
         ensures width { IfOk result (λ m. m.width ≡ self.now.width) }
     {
-        let mut row = self.row.clone()?;
-        if row[0] == 0 {
-            row::step(&mut row, bounds.pairs(), bounds.width_from(p), p % 2 == 1);
+        let mut row = SmallVec::from_slice(*self.row.allocator(), self.row.as_slice())?;
+        let numbers = row.as_mut_slice();
+        if numbers[0] == 0 {
+            row::step(numbers, bounds.pairs(), bounds.width_from(p), p % 2 == 1);
         }
         Ok(Measure { row })
     }
