@@ -8,7 +8,7 @@ use Rattle.std.proofs.lemmas.List.Sums.{count_by-le-length, sum_by_more, sum_by-
 use Rattle.pg_map.specs.Lines.{Line, AreWithin, line_at, vertex_line}
 use Rattle.pg_worker.specs.Mirrors.Keeps.{IsAmong}
 use Rattle.pg_worker.specs.Mirrors.Worklists.{times}
-use Rattle.pg_worker.specs.Mirrors.Edges.{AreEdges, ArePut, ArePutBefore, ArePutUpTo, LeadsTo, IsListed, IsFrom, sum_below, edges_of, leads, begin_of}
+use Rattle.pg_worker.specs.Mirrors.Edges.{AreEdges, ArePut, ArePutBefore, ArePutUpTo, LeadsTo, IsListed, IsBefore, sum_below, edges_of, leads, begin_of}
 
 -- ---- sums
 
@@ -381,7 +381,7 @@ part_listed starts sources part x j rise within e h =
     let q : get_or part j 0 ≡ get_or sources (s + j) 0 = ap (λ (l : List ℕ). get_or l j 0) e ∙ (get_or-take (t - s) (drop s sources) j 0 m ∙ get_or-drop s sources j 0) in
     record { place = s + j; from_on = omega arith; before = omega arith; source = sym q }
 
-pub listed_part : (starts sources part : List ℕ) (x u : ℕ) → get_or starts x 0 ≤ get_or starts (x + 1) 0 → get_or starts (x + 1) 0 ≤ length sources → part ≡ take (get_or starts (x + 1) 0 - get_or starts x 0) (drop (get_or starts x 0) sources) → IsListed starts sources x u → IsFrom part 0 u
+pub listed_part : (starts sources part : List ℕ) (x u : ℕ) → get_or starts x 0 ≤ get_or starts (x + 1) 0 → get_or starts (x + 1) 0 ≤ length sources → part ≡ take (get_or starts (x + 1) 0 - get_or starts x 0) (drop (get_or starts x 0) sources) → IsListed starts sources x u → IsBefore part (length part) u
 listed_part starts sources part x u rise within e h =
     let s = get_or starts x 0 in
     let t = get_or starts (x + 1) 0 in
@@ -390,7 +390,7 @@ listed_part starts sources part x u rise within e h =
     let size : length part ≡ t - s = let k = ap length e in let l = length-take (t - s) (drop s sources) in let d = length-drop s sources in omega (arith, h.from_on, h.before) in
     let back : s + j ≡ h.place = omega (arith, h.from_on) in
     let q : get_or part j 0 ≡ get_or sources (s + j) 0 = ap (λ (l : List ℕ). get_or l j 0) e ∙ (get_or-take (t - s) (drop s sources) j 0 m ∙ get_or-drop s sources j 0) in
-    (j, omega arith, omega arith, q ∙ (ap (λ (i : ℕ). get_or sources i 0) back ∙ h.source))
+    (j, omega arith, q ∙ (ap (λ (i : ℕ). get_or sources i 0) back ∙ h.source))
 
 -- sums of the counts of edges
 pub counts_sum : (lines : ℕ → Option Line) (n m : ℕ) (counts : List ℕ) → ((w : ℕ) → w < length counts → get_or counts w 0 ≡ leads lines n w) → m ≤ length counts → sum_below (λ w. get_or counts w 0) m ≡ begin_of lines n m

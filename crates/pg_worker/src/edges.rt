@@ -2,7 +2,7 @@
 
 ghost use Rattle.std.specs.Prelude.{◌≡◌, ℕ, ◌+◌, ◌^◌, ◌<◌, ◌≤◌, true, false, length, IfOk, OnOk, slice_index, slice_index_or, vec_capacity};
 ghost use Rattle.pg_map.specs.Lines.{AreWithin};
-ghost use Rattle.pg_worker.specs.Mirrors.Edges.{AreEdges, AreSums, ArePut, ArePutBefore, IsRight, IsListed, IsFrom, LeadsTo, edges_of, leads, begin_of, sum_below};
+ghost use Rattle.pg_worker.specs.Mirrors.Edges.{AreEdges, AreSums, ArePut, ArePutBefore, IsRight, IsListed, IsBefore, LeadsTo, edges_of, leads, begin_of, sum_below};
 
 use pg_arena::Vertex;
 use pg_map::Lines;
@@ -152,7 +152,8 @@ impl Edges {
         requires within { slice_index self.now.starts.items (x + 1) ≤ length self.now.sources.items }
         ensures lead { (j : ℕ) → j < length result.now
             → IsListed self.now.starts.items self.now.sources.items x (slice_index_or result.now j 0) }
-        ensures all { (u : ℕ) → IsListed self.now.starts.items self.now.sources.items x u → IsFrom result.now 0 u }
+        ensures all { (u : ℕ) → IsListed self.now.starts.items self.now.sources.items x u
+            → IsBefore result.now (length result.now) u }
     {
         let at = x.0 as usize;
         &self.sources[self.starts[at] as usize..self.starts[at + 1] as usize]

@@ -11,7 +11,7 @@ use std::marker::Model;
 use std::mem;
 
 /// How often a vertex is lifted in a generation before it has to wait for the next one.
-const LIFTS: u32 = 4;
+const LIFTS: u32 = 16;
 
 /// Notes of the vertices from the first of a part to the last, and the vertices that wait, each once: those of this
 /// generation, of which the last comes first, and those of the next generation, which were lifted often in this one. So a

@@ -44,7 +44,8 @@ pub(crate) fn touch<G: Lines>(map: &MeasureMap, lines: &G, notes: &mut Notes, u:
     }
 }
 
-/// Looks at each vertex that x, which has risen, is a successor of.
+/// Looks at each vertex that x, which has risen, is a successor of, from the least to the greatest: the last that waits is
+/// the first to be lifted.
 #[inline(always)]
 pub(crate) fn touch_all<G: Lines>(
     map: &MeasureMap,
@@ -63,7 +64,8 @@ pub(crate) fn touch_all<G: Lines>(
     ensures span { IsSameSpan notes.old notes.new }
     ensures kept { IsKept map.now.bounds (G.line lines.now) map.now.measures notes.new.waits notes.new.best }
 {
-    for u in edges.to(x) {
-        touch(map, lines, notes, *u, x);
+    let sources = edges.to(x);
+    for at in (0..sources.len()).rev() {
+        touch(map, lines, notes, sources[at], x);
     }
 }

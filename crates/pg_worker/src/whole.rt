@@ -52,7 +52,8 @@ fn note_all<G: Lines>(lines: &G, vertices: u32, notes: &mut Notes)
     }
 }
 
-/// Looks at each line, where all measures are zero.
+/// Looks at each line, where all measures are zero, from the last to the first: of those that wait the first is the
+/// first to be lifted.
 fn look_at_all<G: Lines>(map: &MeasureMap, lines: &G, notes: &mut Notes)
     requires zero { IsAtZero map.now }
     requires within { AreWithin (length map.now.measures) (G.line lines.now) }
@@ -60,7 +61,7 @@ fn look_at_all<G: Lines>(map: &MeasureMap, lines: &G, notes: &mut Notes)
     ensures span { IsSameSpan notes.old notes.new }
     ensures kept { IsKept map.now.bounds (G.line lines.now) map.now.measures notes.new.waits notes.new.best }
 {
-    for number in 0..map.len() {
+    for number in (0..map.len()).rev() {
         let v = Vertex(number);
         if lines.holds(v) {
             look(map, lines, notes, v, true);

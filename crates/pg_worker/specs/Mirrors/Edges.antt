@@ -21,9 +21,9 @@ pub record Stands (from to : ℕ) (sources : List ℕ) (v : ℕ) : Type 0 where
 abbrev pub IsListed : List ℕ → List ℕ → ℕ → ℕ → Type 0
 IsListed starts sources x v = Stands (slice_index starts x) (slice_index starts (x + 1)) sources v
 
--- v is one of the vertices from place n on
-abbrev pub IsFrom : List ℕ → ℕ → ℕ → Type 0
-IsFrom vertices n v = (j : ℕ) × (n ≤ j) × (j < length vertices) × (slice_index_or vertices j 0 ≡ v)
+-- v is one of the first n vertices
+abbrev pub IsBefore : List ℕ → ℕ → ℕ → Type 0
+IsBefore vertices n v = (j : ℕ) × (j < n) × (slice_index_or vertices j 0 ≡ v)
 
 -- the sources of each vertex are those that lead to it
 pub record AreEdges (lines : ℕ → Option Line) (starts sources : List ℕ) : Type 0 where
