@@ -62,6 +62,15 @@ begin_alike (suc n) (x ∷ xs) [] r l e h = absurd (omega arith)
 begin_alike (suc n) (x ∷ xs) (y ∷ ys) r l e h =
     one_alike x y xs ys r (e zero (omega arith)) (begin_alike n xs ys r (omega arith) (λ k m. e (suc k) (omega arith)) h)
 
+-- lists of the same numbers are at most each other
+pub all_alike : (n : ℕ) (xs ys : List ℕ) → length xs ≡ length ys → n ≡ length xs → ((k : ℕ) → k < n → get_or xs k 0 ≡ get_or ys k 0) → ListAtMost ys xs
+all_alike n [] [] l m e = tt
+all_alike n [] (y ∷ ys) l m e = absurd (omega arith)
+all_alike n (x ∷ xs) [] l m e = absurd (omega arith)
+all_alike zero (x ∷ xs) (y ∷ ys) l m e = absurd (omega arith)
+all_alike (suc n) (x ∷ xs) (y ∷ ys) l m e =
+    one_alike x y xs ys false (e zero (omega arith)) (all_alike n xs ys (omega arith) (omega arith) (λ k o. e (suc k) (omega arith)))
+
 -- what is behind n numbers, as a slice up to the end
 pub rest_whole : (n : ℕ) (xs : List ℕ) → take (length xs - n) (drop n xs) ≡ drop n xs
 rest_whole n xs = grind (arith, common_steps)

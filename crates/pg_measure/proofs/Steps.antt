@@ -1,9 +1,9 @@
 -- What a step of one row leaves.
-use Rattle.std.proofs.Common.{◌≡◌, ℕ, zero, suc, ◌+◌, ◌-◌, ◌<◌, ◌≤◌, Bool, true, false, Some, None, List, [], ◌∷◌, length, get_or, take, drop, set, replicate, refl, sym, ◌∙◌, arith, add-one, subst, append-nil, length-take, length-drop, ◌⊎◌, inl, inr}
+use Rattle.std.proofs.Common.{◌≡◌, ℕ, zero, suc, ◌+◌, ◌-◌, ◌<◌, ◌≤◌, Bool, true, false, Some, None, List, [], ◌∷◌, length, get_or, take, drop, set, replicate, refl, sym, ◌∙◌, arith, add-one, subst, ap, append-nil, length-take, length-drop, ◌⊎◌, inl, inr}
 use Rattle.std.proofs.lemmas.Grind.{common_steps}
 use Rattle.std.proofs.lemmas.Bool.{cases_lt}
 use borrow.Rule.Slice.PartMut.{put_mid}
-use Rattle.pg_measure.specs.Measures.{BoundList, MeasureValue, Fits, ListFits, AtMost, CoversFront, width_from, is_odd, IsLeastStep}
+use Rattle.pg_measure.specs.Measures.{BoundList, MeasureValue, Fits, ListFits, AtMost, CoversFront}
 use Rattle.pg_measure.specs.Mirrors.Rows.{IsLeastCover, measure_of, cleared}
 use Rattle.pg_measure.proofs.Rows.{cleared-is, raised, raised-is, same_length, cleared_fits, raised_fits, cleared_covers, raised_covers, cleared_least, raised_least, none_above}
 
@@ -13,6 +13,12 @@ clear_put a xs ys h e =
     let f : ys ≡ replicate (length xs - a) 0 = rw l at e in
     let none : drop (length xs - a) (drop a xs) ≡ [] = grind (arith, common_steps) in
     rw (f, none, append-nil) (cleared-is a xs)
+
+-- where nothing is behind it, nothing is cleared
+pub clear_none : (a : ℕ) (xs : List ℕ) → length xs ≤ a → xs ≡ cleared a xs
+clear_none a [] h = refl
+clear_none zero (x ∷ xs) h = absurd (omega arith)
+clear_none (suc a) (x ∷ xs) h = ap (λ t. x ∷ t) (clear_none a xs (omega arith))
 
 none_least : (bs : BoundList) (strict : Bool) (w : ℕ) (n : MeasureValue) → CoversFront strict w n None → AtMost None n
 none_least bs strict w None h = tt
@@ -70,26 +76,6 @@ row_length bs (zero ∷ xs) m n e f l a b =
     let g : ListFits bs xs = rw (← e) at f in
     let s = same_length bs xs g in omega arith
 row_length bs (suc k ∷ xs) m n e f l a b = absurd (omega arith)
-
--- the least cover in the components of priorities at least p is the least step
-pub least_step_by : (bs : BoundList) (p w : ℕ) (ks : BoundList) (m r n : MeasureValue) (strict : Bool) → ks ≡ bs → w ≡ width_from bs p → strict ≡ is_odd p → m ≡ n → IsLeastCover ks strict w m r → IsLeastStep bs p n r
-least_step_by bs p w ks m r n strict a b d e h =
-    let i : IsLeastCover bs (is_odd p) (width_from bs p) n r = rw (a, b, d, e) at h in record { fits = i.fits; covers = i.covers; least = i.least }
-
-top_by : (bs : BoundList) (p : ℕ) (m n : MeasureValue) → m ≡ None → m ≡ n → IsLeastStep bs p n m
-top_by bs p m n e d =
-    let i = top_stays bs (is_odd p) (width_from bs p) in
-    let f : n ≡ None = sym d ∙ e in
-    rw (e, f) record { fits = i.fits; covers = i.covers; least = i.least }
-
-marked_top : (row : List ℕ) (n : ℕ) → 0 < length row → n ≡ get_or row 0 n → (n ≡ 0 → ⊥) → measure_of row ≡ None
-marked_top [] n l e h = refl
-marked_top (zero ∷ xs) n l e h = absurd (h e)
-marked_top (suc k ∷ xs) n l e h = refl
-
--- a row that is marked as top is its own least step
-pub top_step : (bs : BoundList) (p n : ℕ) (row : List ℕ) (m : MeasureValue) → 0 < length row → n ≡ get_or row 0 n → (n ≡ 0 → ⊥) → measure_of row ≡ m → IsLeastStep bs p m (measure_of row)
-top_step bs p n row m l e h v = top_by bs p (measure_of row) m (marked_top row n l e h) v
 
 -- the last of the first w components that has room, or none has
 

@@ -48,7 +48,9 @@ pub fn clear_from(row: &mut [u32], from: usize)
     requires { from ≤ length row.old }
     ensures { row.new ≡ cleared from row.old }
 {
-    row[from..].fill(0);
+    if from < row.len() {
+        row[from..].fill(0);
+    }
 }
 
 /// Makes the row the least measure of the bounds that covers it in the first `width` components.
@@ -82,6 +84,9 @@ pub fn is_below(a: &[u32], b: &[u32]) -> bool
         if a[i] != b[i] {
             return a[i] < b[i];
         }
+    }
+    if near == a.len() {
+        return false;
     }
     a[near..].cmp(&b[near..]).is_lt()
 }

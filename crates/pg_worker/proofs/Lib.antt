@@ -10,6 +10,7 @@ pub mod Gathering
 pub mod Packing
 pub mod Joining
 pub mod Taking
+pub mod Touching
 pub mod Growing
 pub mod Listed
 pub mod Exchanging

@@ -44,8 +44,9 @@ pub(crate) fn touch<G: Lines>(map: &MeasureMap, lines: &G, notes: &mut Notes, u:
     }
 }
 
-/// Looks at each vertex that x, which has risen, is a successor of, from the least to the greatest: the last that waits is
-/// the first to be lifted.
+/// Looks at each vertex that x, which has risen, is a successor of, from the least to the greatest, and then at x itself if
+/// it is one: the last that waits is the first to be lifted, and a vertex that leads to itself is to climb before others
+/// follow it.
 #[inline(always)]
 pub(crate) fn touch_all<G: Lines>(
     map: &MeasureMap,
@@ -65,7 +66,16 @@ pub(crate) fn touch_all<G: Lines>(
     ensures kept { IsKept map.now.bounds (G.line lines.now) map.now.measures notes.new.waits notes.new.best }
 {
     let sources = edges.to(x);
+    let mut follows_itself = false;
     for at in (0..sources.len()).rev() {
-        touch(map, lines, notes, sources[at], x);
+        let u = sources[at];
+        if u == x {
+            follows_itself = true;
+        } else {
+            touch(map, lines, notes, u, x);
+        }
+    }
+    if follows_itself {
+        touch(map, lines, notes, x, x);
     }
 }

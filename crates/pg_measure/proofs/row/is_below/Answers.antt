@@ -1,5 +1,5 @@
 use Rattle.std.proofs.Common.{get_or, drop, arith}
-use Rattle.pg_measure.proofs.Compare.{slice_cmp_tells, tells_below, begin_alike, differ_at, lesser_tells, rest_whole}
+use Rattle.pg_measure.proofs.Compare.{slice_cmp_tells, tells_below, begin_alike, all_alike, differ_at, lesser_tells, rest_whole}
 use Rattle.pg_measure.proofs.row.is_below.Goals as goal
 
 pub returns-then-a-i : goal.returns-then-a-i
@@ -8,6 +8,10 @@ returns-then-a-i c =
     let ys = c.args.b.now in
     differ_at c.loop-i.i xs ys _ c.requires (omega arith) c.loop-i.invariant
     (lesser_tells (get_or xs c.loop-i.i 0) (get_or ys c.loop-i.i 0) c.if-a-i.true)
+
+pub returns-then-near-a : goal.returns-then-near-a
+returns-then-near-a c =
+    all_alike c.min-near.result c.args.a.now c.args.b.now c.requires c.if-near-a.true (λ k l. c.loop-i.invariant k (omega arith))
 
 pub returns : goal.returns
 returns c =
