@@ -66,11 +66,18 @@ def calm_game(dice):
 
 
 def near_game(dice):
-    """The text of a large game whose edges lead to vertices nearby, so that workers in one process share it: smaller games, and
-    those with edges to everywhere, they solve in one piece. Few vertices have an odd priority, since measures climb far."""
+    """The text of a large game whose edges lead to vertices nearby, mostly to later ones, and of which few have an odd priority.
+    In most such games few vertices may rise, and workers in one process share them; others they solve in one piece."""
     count = dice.randint(4096, 5000)
-    return naive.game_text({v: (dice.choice((0,) * 200 + (1, 2, 3)), dice.randint(0, 1),
-                                dice.sample(range(max(v - 2, 0), min(v + 3, count)), dice.randint(1, 3))) for v in range(count)})
+    game = {}
+    for v in range(count):
+        priority = dice.choice((0,) * 60 + (1, 2, 3)) if v + 1 < count else 0
+        later = range(v + priority % 2, min(v + 3, count))
+        successors = dice.sample(later, min(dice.randint(1, 3), len(later)))
+        if v and dice.randrange(200) == 0:
+            successors.append(v - 1)
+        game[v] = priority, dice.randint(0, 1), successors
+    return naive.game_text(game)
 
 
 def random_event(dice, game, script, made):
@@ -267,14 +274,18 @@ def cases(programs):
             yield (f"the example in {' '.join([*words, '--help'])} ({name})",
                    lambda p=program, w=words: example_in_help(p, w))
     yield "circuits of the examples", lambda: circuits_are_read(programs[0])
-    # a row that two workers share: all go to the last vertex, which Odd wins
-    row = "".join(f"{v} {1 if v == 4999 else 0} 0 {min(v + 1, 4999)};\n" for v in range(5000)).encode()
+    # 5,000 vertices of Even's, with these in a row whose last vertex Odd wins, and the others alone: two workers share the game
+    # where half of a short row is of each of them; where all vertices may rise it is solved in one piece
+    shared, whole = range(2000, 3000), range(5000)
+    rows = {it: "".join(f"{v} {1 if v == it[-1] else 0} 0 {min(v + 1, it[-1]) if v in it else v};\n" for v in range(5000)).encode()
+            for it in (shared, whole)}
+    tops = {it: b"".join(b"%d %s;\n" % (v, b"T" if v in it else b"0") for v in range(5000)) for it in (shared, whole)}
     # the program as LLVM builds it takes its memory by malloc and realloc alone
     for command, text, wanted in (("measure", game, b"0 1,1;\n1 1,0;\n2 0,0;\n"), ("solve", three, solution),
-                                  ("measure", row, b"".join(b"%d T;\n" % v for v in range(5000))),
+                                  ("measure", rows[shared], tops[shared]), ("measure", rows[whole], tops[whole]),
                                   ("check", three + b"--\n" + solution, b"WINS\n"), ("replay", odd + script, world),
                                   ("game", automaton, automaton_game), ("synth", delay, circuit)):
-        name = f"want of memory in {command}" + " by two workers" * (text == row)
+        name = f"want of memory in {command}" + " by two workers" * (text == rows[shared]) + " of a long row" * (text == rows[whole])
         yield name, lambda c=command, t=text, w=wanted: survives_want_of_memory(programs[0], [c], t, w)
     apart = ["measure", "--workers", "1", "--apart", "/proc/self/exe"]
     yield "want of memory with --apart", lambda: survives_want_of_memory(programs[0], apart, game, b"0 1,1;\n1 1,0;\n2 0,0;\n")

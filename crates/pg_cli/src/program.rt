@@ -99,8 +99,13 @@ pub fn run<R: Read, W: Write>(
 {
     let mut links = memory_links(alloc, command.workers().unwrap_or(0))?;
     let workers = links.as_mut_slice();
+    let sharing = if workers.is_empty() {
+        Sharing::Even
+    } else {
+        Sharing::InTurns
+    };
     let text = read_all_limited(alloc, reader)?;
-    answer(alloc, command, text, workers, Sharing::ByEdges, writer)
+    answer(alloc, command, text, workers, sharing, writer)
 }
 
 /// Reads the whole input, and writes the answer to it and nothing else; games are shared out so among the links that are given.

@@ -15,10 +15,11 @@ pub(crate) enum Sharing {
     /// In runs of like length too, but where workers come to no end in some rounds the game is solved in one piece: as suits
     /// programs, for which each round is dear.
     Apart,
-    /// As suits workers that take turns on one processor: in runs of like length where few edges lead from run to run, and
-    /// else not at all, since a value that climbs to and fro between workers is sent each time. Nor is a small game shared
-    /// out, nor one where there is one worker, who would get the whole of it.
-    ByEdges,
+    /// As suits workers that take turns on one processor: in runs of like length where few edges lead from run to run and few
+    /// vertices may rise, and else not at all, since a value that climbs to and fro between workers is sent each time, and
+    /// each vertex that may rise has to be told. Nor is a small game shared out, nor one where there is one worker, who would
+    /// get the whole of it.
+    InTurns,
 }
 
 /// Of about how many vertices the edges are looked at.
@@ -80,9 +81,9 @@ pub(crate) fn cut_of(
     let cut = Cut::even(alloc, game.len() as u32, workers as u32)?;
     match sharing {
         Sharing::Even | Sharing::Apart => Ok(Some(cut)),
-        Sharing::ByEdges => {
+        Sharing::InTurns => {
             let is_shared = workers > 1 && game.len() >= SMALL && stays_within(game, &cut);
-            Ok((workers == 0 || is_shared).then_some(cut))
+            Ok(is_shared.then_some(cut))
         }
     }
 }

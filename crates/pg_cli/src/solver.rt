@@ -49,13 +49,44 @@ const FIRST_ROUNDS: u64 = 128;
 
 const VERTICES_A_ROUND: u64 = 512;
 
-/// A map of a game, solved over links that each round is dear for, where it is known that each closed map has top at some
-/// vertices. Where there are too many rounds the game is solved in one piece. None where more measures rose than `most_rises`.
-fn map_apart<L: Link>(
+/// Of so many vertices one may have to be told to workers that take turns.
+const TOLD: u64 = 4;
+
+/// When solving over links among which a game is shared out is given up.
+fn limits_of(game: &Game, sharing: Sharing, most_rises: u64) -> Limits
+    ensures rises { result.rises ≡ most_rises }
+    ensures rounds { sharing ≡ Sharing.Even → result.rounds ≡ 18446744073709551615 }
+    ensures told { sharing ≡ Sharing.Even → result.told ≡ 18446744073709551615 }
+{
+    let vertices = game.len() as u64;
+    match sharing {
+        Sharing::Even => Limits {
+            rises: most_rises,
+            rounds: u64::MAX,
+            told: u64::MAX,
+        },
+        Sharing::Apart => Limits {
+            rises: most_rises,
+            rounds: FIRST_ROUNDS.saturating_add(vertices / VERTICES_A_ROUND),
+            told: u64::MAX,
+        },
+        Sharing::InTurns => Limits {
+            rises: most_rises,
+            rounds: u64::MAX,
+            told: vertices / TOLD,
+        },
+    }
+}
+
+/// A map of a game that is cut among links, where it is known that each closed map has top at some vertices. Where solving over
+/// the links is given up, the game is solved in one piece if its sharing allows that. None where more measures rose than
+/// `most_rises`.
+fn shared_map<L: Link>(
     alloc: Global,
     game: &Game,
     links: &mut [L],
     cut: &Cut,
+    sharing: Sharing,
     tops: &[Vertex],
     most_rises: u64,
 ) -> Result<Option<MeasureMap>, CliFault>
@@ -66,13 +97,13 @@ fn map_apart<L: Link>(
     ensures honest { OnOk result (All L.is_honest links.old → All L.is_honest links.new) }
     ensures refused { IfErr result (λ fault. fault ≡ CliFault.OutOfMemory) }
 {
-    let limits = Limits {
-        rises: most_rises,
-        rounds: FIRST_ROUNDS.saturating_add(game.len() as u64 / VERTICES_A_ROUND),
-    };
-    match solve_within(alloc, game, links, cut, BUDGET, tops, limits)? {
-        Some(solved) => Ok(Some(solved.map)),
-        None => whole_map(alloc, game, tops, most_rises),
+    let limits = limits_of(game, sharing, most_rises);
+    if let Some(solved) = solve_within(alloc, game, links, cut, BUDGET, tops, limits)? {
+        return Ok(Some(solved.map));
+    }
+    match sharing {
+        Sharing::Even => Ok(None),
+        Sharing::Apart | Sharing::InTurns => whole_map(alloc, game, tops, most_rises),
     }
 }
 
@@ -92,11 +123,11 @@ pub(crate) fn map_of<L: Link>(
     let Some(cut) = cut_of(alloc, game, links.len(), sharing)? else {
         return Ok(whole_map(alloc, game, &[], u64::MAX)?.unwrap());
     };
-    if let Sharing::Apart = sharing {
-        return Ok(map_apart(alloc, game, links, &cut, &[], u64::MAX)?.unwrap());
+    if let Sharing::Even = sharing {
+        let solved = solve(alloc, game, links, &cut, BUDGET)?;
+        return Ok(solved.map);
     }
-    let solved = solve(alloc, game, links, &cut, BUDGET)?;
-    Ok(solved.map)
+    Ok(shared_map(alloc, game, links, &cut, sharing, &[], u64::MAX)?.unwrap())
 }
 
 /// How many measures rise before the other side is tried: for each vertex, and for each game.
@@ -121,19 +152,9 @@ fn map_within<L: Link>(
     ensures honest { OnOk result (All L.is_honest links.old → All L.is_honest links.new) }
     ensures refused { IfErr result (λ fault. fault ≡ CliFault.OutOfMemory) }
 {
-    let Some(cut) = cut_of(alloc, game, links.len(), sharing)? else {
-        return whole_map(alloc, game, tops, most_rises);
-    };
-    if let Sharing::Apart = sharing {
-        return map_apart(alloc, game, links, &cut, tops, most_rises);
-    }
-    let limits = Limits {
-        rises: most_rises,
-        rounds: u64::MAX,
-    };
-    match solve_within(alloc, game, links, &cut, BUDGET, tops, limits)? {
-        Some(solved) => Ok(Some(solved.map)),
-        None => Ok(None),
+    match cut_of(alloc, game, links.len(), sharing)? {
+        Some(cut) => shared_map(alloc, game, links, &cut, sharing, tops, most_rises),
+        None => whole_map(alloc, game, tops, most_rises),
     }
 }
 

@@ -22,6 +22,6 @@ AreTop game bounds vertices =
     (h : List MeasureValue) → IsMap bounds (length game) h → IsClosed bounds (game_line game) h
     → All (λ v. measure_at h v ≡ None) vertices
 
--- a limit on rises or on rounds is set: it isn't the largest number
-abbrev pub IsLimited : ℕ → ℕ → Type 0
-IsLimited rises rounds = (rises + 1 < 2 ^ 64) ⊎ (rounds + 1 < 2 ^ 64)
+-- a limit on rises, on rounds or on vertices that are told is set: it isn't the largest number
+abbrev pub IsLimited : ℕ → ℕ → ℕ → Type 0
+IsLimited rises rounds told = (rises + 1 < 2 ^ 64) ⊎ ((rounds + 1 < 2 ^ 64) ⊎ (told + 1 < 2 ^ 64))

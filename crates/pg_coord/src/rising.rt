@@ -231,6 +231,17 @@ impl Rising {
         Ok(Rising { heights: places })
     }
 
+    /// How many vertices may rise.
+    pub fn count(&self) -> u64 {
+        let mut count = 0u64;
+        for height in self.heights.as_slice() {
+            if *height > 0 {
+                count = count.saturating_add(1);
+            }
+        }
+        count
+    }
+
     /// Whether a vertex may rise.
     pub fn may_rise(&self, v: Vertex) -> bool
         ensures { IsTrue result ↔ (0 < slice_index self.now v) }

@@ -104,7 +104,7 @@ fn make_rounds<L: Link>(
         → ((h : MapValue) → IsClosedMap task.now h → MapAtMost board.old.map.measures h.measures)
         → (h : MapValue) → IsClosedMap task.now h → MapAtMost board.new.map.measures h.measures) }
     ensures honest { All L.is_honest links.old → All L.is_honest links.new }
-    ensures limited { result ≡ Err Stop.Limit → IsLimited limits.rises limits.rounds }
+    ensures limited { result ≡ Err Stop.Limit → IsLimited limits.rises limits.rounds limits.told }
     ensures told { IfOk result (λ n. (replies : ℕ → List Reply) → AllTell L.told task.now seats.old links.old replies
         → ((h : MapValue) → IsClosedMap task.now h → MapAtMost board.old.map.measures h.measures)
         → IsLeastOverReplies (game_line task.now.game) n (length links.old) replies board.new.map) }
@@ -153,7 +153,7 @@ fn seat_and_run<L: Link>(
         → ((h : MapValue) → IsClosedMap task.now h → MapAtMost board.old.map.measures h.measures)
         → (h : MapValue) → IsClosedMap task.now h → MapAtMost board.new.map.measures h.measures) }
     ensures honest { All L.is_honest links.old → All L.is_honest links.new }
-    ensures limited { result ≡ Err Stop.Limit → IsLimited limits.rises limits.rounds }
+    ensures limited { result ≡ Err Stop.Limit → IsLimited limits.rises limits.rounds limits.told }
     ensures told { IfOk result (λ n. (replies : ℕ → List Reply)
         → TellReplies L.told task.now.bounds task.now.cut links.old replies
         → ((h : MapValue) → IsClosedMap task.now h → MapAtMost board.old.map.measures h.measures)
@@ -192,7 +192,7 @@ fn run<L: Link>(
         → ((h : MapValue) → IsClosedMap task.now h → MapAtMost board.old.map.measures h.measures)
         → (h : MapValue) → IsClosedMap task.now h → MapAtMost board.new.map.measures h.measures) }
     ensures honest { All L.is_honest links.old → All L.is_honest links.new }
-    ensures limited { result ≡ Err Stop.Limit → IsLimited limits.rises limits.rounds }
+    ensures limited { result ≡ Err Stop.Limit → IsLimited limits.rises limits.rounds limits.told }
     ensures told { IfOk result (λ c. (replies : ℕ → List Reply)
         → TellReplies L.told task.now.bounds task.now.cut links.old replies
         → ((h : MapValue) → IsClosedMap task.now h → MapAtMost board.old.map.measures h.measures)
@@ -229,7 +229,7 @@ fn work<L: Link>(
     ensures least { IfOk result (λ s. All L.is_honest links.old → AreTop task.now.game task.now.bounds tops.now
         → IsLeastProgressMeasure s.map.bounds (game_line task.now.game) s.map.measures) }
     ensures honest { All L.is_honest links.old → All L.is_honest links.new }
-    ensures limited { result ≡ Err Stop.Limit → IsLimited limits.rises limits.rounds }
+    ensures limited { result ≡ Err Stop.Limit → IsLimited limits.rises limits.rounds limits.told }
     ensures told { IfOk result (λ s. AreTop task.now.game task.now.bounds tops.now → (replies : ℕ → List Reply)
         → TellReplies L.told task.now.bounds task.now.cut links.old replies
         → IsLeastOverReplies (game_line task.now.game) s.rounds (length links.old) replies s.map) }
@@ -316,8 +316,9 @@ pub fn solve<L: Link>(
 }
 
 /// Solves a game as `solve` does, where it is known that each closed map has top at some vertices: the map begins with top
-/// there. It is given up where a limit is passed in rounds over links and the map isn't closed yet; then there is no answer, and
-/// the links may be used again. It is never given up where both limits are `u64::MAX`.
+/// there. It is given up where a limit is passed: that on vertices before anything is sent, the others in rounds over links
+/// after which the map isn't closed yet. Then there is no answer, and the links may be used again. It is never given up where
+/// all limits are `u64::MAX`.
 ///
 /// The map is closed whatever the links answer, and also where a closed map has a list at one of these vertices; over honest links
 /// it is the least progress measure, if none has.
@@ -340,12 +341,15 @@ pub fn solve_within<L: Link>(
         × (s.rounds + map_weight s.map.bounds s.map.measures ≤ most_rounds (length game.now) s.map.bounds))) }
     ensures least { IfOk result (λ o. IfSome o (λ s. All L.is_honest links.old → AreTop game.now s.map.bounds tops.now
         → IsLeastProgressMeasure s.map.bounds (game_line game.now) s.map.measures)) }
-    ensures limited { IfOk result (λ o. IfNone o (IsLimited limits.rises limits.rounds)) }
+    ensures limited { IfOk result (λ o. IfNone o (IsLimited limits.rises limits.rounds limits.told)) }
     ensures honest { All L.is_honest links.old → All L.is_honest links.new }
     ensures mismatch { result ≡ Err CutMismatch ↔ IsMismatch (length game.now) (length links.old) cut.now }
     ensures same { result ≡ Err CutMismatch → links.new ≡ links.old }
 {
     let task = task_of(alloc, game, cut, links.len(), budget, tops)?;
+    if task.told() > limits.told {
+        return Ok(None);
+    }
     match work(&task, links, tops, limits) {
         Ok(solved) => Ok(Some(solved)),
         Err(Stop::Limit) => Ok(None),

@@ -125,6 +125,11 @@ impl<'a> Task<'a> {
         self.rising.may_rise(v)
     }
 
+    /// How many vertices workers are told of: those that may rise.
+    pub fn told(&self) -> u64 {
+        self.rising.count()
+    }
+
     /// Who has to know which vertex.
     pub fn sight(&self) -> &Sight {
         &self.sight

@@ -62,6 +62,7 @@ pub fn rises(rises: u64) -> Limits {
     Limits {
         rises,
         rounds: u64::MAX,
+        told: u64::MAX,
     }
 }
 
@@ -70,6 +71,16 @@ pub fn rounds(rounds: u64) -> Limits {
     Limits {
         rises: u64::MAX,
         rounds,
+        told: u64::MAX,
+    }
+}
+
+/// The limit of so many vertices that are told.
+pub fn told(told: u64) -> Limits {
+    Limits {
+        rises: u64::MAX,
+        rounds: u64::MAX,
+        told,
     }
 }
 

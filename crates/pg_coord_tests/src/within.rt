@@ -1,6 +1,6 @@
 //! Solving where vertices are known to be top, and giving up.
 
-use crate::tools::{rises, rounds, solves, solves_within};
+use crate::tools::{rises, rounds, solves, solves_within, told};
 use pg_coord::MemoryLink;
 use pg_coord::stand_ins::Broken;
 use std::test::Fail;
@@ -32,5 +32,13 @@ fn gives_up_after_so_many_rounds(rt: HostRuntime) -> Result<(), Fail> {
     let mut links = [MemoryLink::new(rt.alloc())?];
     assert!(rt; solves_within(rt.alloc(), &mut links, rounds(0))? == None);
     assert!(rt; solves_within(rt.alloc(), &mut links, rounds(1))? == Some((2, 0, 0)));
+    Ok(())
+}
+
+#[test]
+fn gives_up_where_too_many_are_to_be_told(rt: HostRuntime) -> Result<(), Fail> {
+    let mut links = [MemoryLink::new(rt.alloc())?];
+    assert!(rt; solves_within(rt.alloc(), &mut links, told(0))? == None);
+    assert!(rt; solves_within(rt.alloc(), &mut links, told(1))? == Some((2, 0, 0)));
     Ok(())
 }
