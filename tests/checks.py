@@ -274,11 +274,12 @@ def cases(programs):
             yield (f"the example in {' '.join([*words, '--help'])} ({name})",
                    lambda p=program, w=words: example_in_help(p, w))
     yield "circuits of the examples", lambda: circuits_are_read(programs[0])
-    # 5,000 vertices of Even's, with these in a row whose last vertex Odd wins, and the others alone: two workers share the game
-    # where half of a short row is of each of them; where all vertices may rise it is solved in one piece
+    # 5,000 vertices of Even's, with these in a row, of which one in 40 has an odd priority, the last, which Odd wins, among them,
+    # and the others alone: two workers share the game where the row is short, half of it of each of them; where all vertices may
+    # rise it is solved in one piece
     shared, whole = range(2000, 3000), range(5000)
-    rows = {it: "".join(f"{v} {1 if v == it[-1] else 0} 0 {min(v + 1, it[-1]) if v in it else v};\n" for v in range(5000)).encode()
-            for it in (shared, whole)}
+    rows = {it: "".join(f"{v} {int(v in it and v % 40 == 39)} 0 {min(v + 1, it[-1]) if v in it else v};\n"
+                        for v in range(5000)).encode() for it in (shared, whole)}
     tops = {it: b"".join(b"%d %s;\n" % (v, b"T" if v in it else b"0") for v in range(5000)) for it in (shared, whole)}
     # the program as LLVM builds it takes its memory by malloc and realloc alone
     for command, text, wanted in (("measure", game, b"0 1,1;\n1 1,0;\n2 0,0;\n"), ("solve", three, solution),

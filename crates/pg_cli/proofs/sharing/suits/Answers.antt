@@ -1,10 +1,10 @@
 use Rattle.std.proofs.lemmas.List.{get_or_default}
 use Rattle.std.proofs.Common.{◌+◌, ◌*◌, ◌/◌, get_or}
 use Rattle.pg_arena.specs.Games.{successors}
-use Rattle.pg_cli.proofs.sharing.stays_within.Goals as goal
+use Rattle.pg_cli.proofs.sharing.suits.Goals as goal
 
-pub count-edges-requires : goal.count-edges-requires
-count-edges-requires c =
+pub count-looks-requires : goal.count-looks-requires
+count-looks-requires c =
     let v = c.loop-look.look * (c.len.result / 65536 + 1) in
     let targets = successors c.args.game.now v in
     rw (c.successors.ensures, c.requires)
