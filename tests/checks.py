@@ -274,16 +274,17 @@ def cases(programs):
             yield (f"the example in {' '.join([*words, '--help'])} ({name})",
                    lambda p=program, w=words: example_in_help(p, w))
     yield "circuits of the examples", lambda: circuits_are_read(programs[0])
-    # 5,000 vertices of Even's, with these in a row, of which one in 40 has an odd priority, the last, which Odd wins, among them,
-    # and the others alone: two workers share the game where the row is short, half of it of each of them; where all vertices may
-    # rise it is solved in one piece
+    # 5,000 vertices of Even's, with these in a row and the others alone; from the last of the row Even wins, and one in 40 of those
+    # before it has priority 1: so a measure is how many of these are ahead. Two workers share the game where the row is short,
+    # half of it of each of them; where all vertices may rise it is solved in one piece
     shared, whole = range(2000, 3000), range(5000)
-    rows = {it: "".join(f"{v} {int(v in it and v % 40 == 39)} 0 {min(v + 1, it[-1]) if v in it else v};\n"
+    rows = {it: "".join(f"{v} {int(v in it[:-1] and v % 40 == 39)} 0 {min(v + 1, it[-1]) if v in it else v};\n"
                         for v in range(5000)).encode() for it in (shared, whole)}
-    tops = {it: b"".join(b"%d %s;\n" % (v, b"T" if v in it else b"0") for v in range(5000)) for it in (shared, whole)}
+    counts = {it: b"".join(b"%d %d;\n" % (v, len(range(v + (39 - v) % 40, it[-1], 40)) if v in it else 0)
+                           for v in range(5000)) for it in (shared, whole)}
     # the program as LLVM builds it takes its memory by malloc and realloc alone
     for command, text, wanted in (("measure", game, b"0 1,1;\n1 1,0;\n2 0,0;\n"), ("solve", three, solution),
-                                  ("measure", rows[shared], tops[shared]), ("measure", rows[whole], tops[whole]),
+                                  ("measure", rows[shared], counts[shared]), ("measure", rows[whole], counts[whole]),
                                   ("check", three + b"--\n" + solution, b"WINS\n"), ("replay", odd + script, world),
                                   ("game", automaton, automaton_game), ("synth", delay, circuit)):
         name = f"want of memory in {command}" + " by two workers" * (text == rows[shared]) + " of a long row" * (text == rows[whole])
