@@ -15,6 +15,11 @@ abbrev pub HasParityOf : Player → ℕ → Type 0
 HasParityOf Even p = p % 2 ≡ 0
 HasParityOf Odd p = p % 2 ≡ 1
 
+-- p is the greatest of these priorities
+pub record IsGreatest (p : ℕ) (priorities : List ℕ) : Type 0 where
+  pub occurs : Contains priorities p
+  pub above_all : All (λ q. q ≤ p) priorities
+
 -- What is said of one vertex. In a game a successor is the number of a vertex: its place in the game, from 0.
 pub record GameVertex : Type 0 where
   pub identifier : ℕ

@@ -14,7 +14,8 @@ use Rattle.pg_measure.specs.Measures.{BoundList, MeasureValue, ListBelow, ListAt
 use Rattle.pg_map.specs.Lines.{Line, vertex_line, game_line, line_at}
 use Rattle.pg_map.specs.Maps.{MapValue, measure_at, IsServedBy, IsClosed, SomeOrAll}
 use Rattle.pg_check.specs.Plays.{IsPlay, stretch}
-use Rattle.pg_check.specs.Soundness.{Counts, IsGreatest, IsSound}
+use Rattle.pg_arena.specs.Games.{IsGreatest}
+use Rattle.pg_check.specs.Soundness.{Counts, IsSound}
 use Rattle.pg_check.specs.Strategies.{game_of, map_of, HasList, IsServedFor, AreClosed, IsSolutionOf, IsCertifiedFor, Certifies}
 use Rattle.pg_check.proofs.Recurring.{parity_of}
 use Rattle.pg_check.proofs.Paths.{IsWay, way_later, path_upto, path_keeps, all_front, all_later, repeat_or_few}

@@ -8,7 +8,7 @@ use Rattle.pg_arena.specs.Games.{IsPath}
 use Rattle.pg_measure.specs.Measures.{BoundList, ListBelow, ListAtMost, width_from, is_odd}
 use Rattle.pg_measure.proofs.Rows.{at_most_itself}
 use Rattle.pg_measure.proofs.Order.{at_most_trans, below_at_most, below_then, then_below, never_both}
-use Rattle.pg_check.specs.Soundness.{IsGreatest}
+use Rattle.pg_arena.specs.Games.{IsGreatest}
 use Rattle.pg_check.proofs.Cycles.{all_unmap}
 
 -- fewer components are compared

@@ -10,7 +10,8 @@ use Rattle.pg_arena.specs.Games.{GameVertex, IsGame, priority, owner, successors
 use Rattle.pg_map.specs.Lines.{game_line}
 use Rattle.pg_map.specs.Maps.{MapValue, measure_at, IsServedBy, IsClosed}
 use Rattle.pg_check.specs.Plays.{IsPlay, WinsPlay, stretch}
-use Rattle.pg_check.specs.Soundness.{IsGreatest, KeepsCount}
+use Rattle.pg_arena.specs.Games.{IsGreatest}
+use Rattle.pg_check.specs.Soundness.{KeepsCount}
 use Rattle.pg_check.specs.Strategies.{GoesServed, ListsWin}
 use Rattle.pg_check.proofs.Paths.{IsWay, way_later, path_upto, all_front, all_later, Repeat, repeat_or_few}
 use Rattle.pg_check.proofs.Cycles.{all_unmap, edge_from}

@@ -1,7 +1,7 @@
 -- Sound solutions: which edges a solution lets count, which paths and cycles speak against it, and who wins by it.
 use Rattle.std.specs.Prelude.{◌≡◌, ℕ, ◌<◌, ◌≤◌, ◌==◌, ◌⊎◌, List, [], ◌∷◌, ◌++◌, Some, length, map, All, Contains, count_by}
 use Rattle.pg_arena.specs.declared.player.Player.{Player}
-use Rattle.pg_arena.specs.Games.{opponent, HasParityOf, GameVertex, priority, owner, IsEdge, IsPath}
+use Rattle.pg_arena.specs.Games.{opponent, HasParityOf, GameVertex, priority, owner, IsEdge, IsPath, IsGreatest}
 use Rattle.pg_text.specs.declared.answer.Answer.{Answer}
 use Rattle.pg_text.specs.Solutions.{winner, loser, choice}
 use Rattle.pg_check.specs.Plays.{IsPlay, WinsPlay}
@@ -17,11 +17,6 @@ Wins game solution v =
     (play : ℕ → ℕ) → play 0 ≡ v → IsPlay (Counts game solution) play
     → ((t : ℕ) → winner solution (play t) ≡ winner solution v)
     × WinsPlay (winner solution v) (λ t. priority game (play t))
-
--- p is the greatest of these priorities
-pub record IsGreatest (p : ℕ) (priorities : List ℕ) : Type 0 where
-  pub occurs : Contains priorities p
-  pub above_all : All (λ q. q ≤ p) priorities
 
 -- how many of these vertices have the priority p
 abbrev pub meetings : List GameVertex → ℕ → List ℕ → ℕ
