@@ -1,5 +1,5 @@
 -- The bounds of a game, from a table of how many vertices have each priority.
-use Rattle.std.proofs.Common.{◌≡◌, ◌≢◌, ℕ, zero, suc, ◌+◌, ◌-◌, ◌%◌, ◌<◌, ◌≤◌, true, false, List, [], ◌∷◌, ◌++◌, length, get_or, take, set, refl, ap, sym, ◌∙◌, ◌⊎◌, inl, inr, arith, length-append}
+use Rattle.std.proofs.Common.{◌≡◌, ◌≢◌, ℕ, zero, suc, ◌+◌, ◌-◌, ◌%◌, ◌<◌, ◌≤◌, true, false, cond, List, [], ◌∷◌, ◌++◌, length, get_or, take, set, refl, ap, sym, ◌∙◌, ◌⊎◌, inl, inr, arith, length-append}
 use Rattle.std.specs.Prelude.{AllPairs, All, Contains, ◌==◌}
 use Rattle.std.proofs.lemmas.Grind.{common_steps}
 use Rattle.std.proofs.lemmas.Bool.{cases_lt, cases_eq}
@@ -7,7 +7,8 @@ use Rattle.std.proofs.lemmas.Bool.Decides.{nat_tests}
 use Rattle.std.proofs.lemmas.List.{get_or_default, get_or-set_same, get_or-set_other, get_or_append_left}
 use Rattle.std.proofs.lemmas.List.Quantifiers.{all_pairs_push}
 use Rattle.std.proofs.lemmas.List.Sums.{sum_by-cons, count_by_more_no, count_by_more_yes, count_by-le-length}
-use Rattle.pg_arena.specs.Games.{GameVertex, HasPrioritiesUpTo, priority, nowhere}
+use Rattle.pg_arena.specs.Games.{GameVertex, HasPrioritiesUpTo, priority, dual, dual_vertex, nowhere}
+use Rattle.pg_arena.specs.Lemmas.Duals.{length_dual, priority_dual}
 use Rattle.pg_measure.specs.Measures.{BoundList, AreBounds}
 use Rattle.pg_measure.specs.Games.{vertices_of, IsBoundsOf}
 use Rattle.pg_measure.specs.Mirrors.Counts.{IsCount}
@@ -43,6 +44,12 @@ none_of (x ∷ game) n p l h =
 
 equal_yes : (i p : ℕ) → i ≡ p → (i == p) ≡ true
 equal_yes i p e = grind (arith, nat_tests)
+
+raised_equal : (i p : ℕ) → (i + 1 == suc p) ≡ (i == p)
+raised_equal i p = elim (cases_eq i p) [
+  | inl e ↦ (let up : i + 1 ≡ suc p = omega arith in equal_yes (i + 1) (suc p) up ∙ sym (equal_yes i p e))
+  | inr ne ↦ (let up : i + 1 ≢ suc p = omega arith in differs (i + 1) (suc p) up ∙ sym (differs i p ne))
+]
 
 counted_at : (game : List GameVertex) (counts : List ℕ) (i q n p : ℕ) → i < length game → q ≡ priority game i → ((p : ℕ) → p < length counts → get_or counts p 0 ≡ vertices_of (take i game) p) → q < length counts → n ≡ get_or counts q n → p < length counts → (p ≡ q) ⊎ (p ≢ q) → get_or (set counts q (n + 1)) p 0 ≡ vertices_of (take (i + 1) game) p
 counted_at game counts i q n p l e h m d k (inl s) =
@@ -192,3 +199,32 @@ bounds_are_few game bounds i h =
     let odd : All (λ b. b.0 % 2 ≡ 1) bounds = λ k d l. (let b = get_or bounds k d in ((i.exact b.0 b.1).0 (k, l, get_or_default bounds k b d l)).0) in
     let few = few_falling bounds 65535 i.falling odd small in
     (omega arith, small)
+
+-- no vertex of a dual has the priority 0, and each other priority has the vertices of the one below it
+vertices_dual : (game : List GameVertex) (p : ℕ) → vertices_of (dual game) (suc p) ≡ vertices_of game p
+vertices_dual [] p = refl
+vertices_dual (x ∷ game) p =
+    let h = vertices_dual game p in
+    let same : (x.priority + 1 == suc p) ≡ (x.priority == p) = raised_equal x.priority p in
+    rw (sum_by-cons (λ (y : GameVertex). cond (y.priority == suc p) 1 0) (dual_vertex x) (dual game), sum_by-cons (λ (y : GameVertex). cond (y.priority == p) 1 0) x game, same) (omega arith)
+
+none_at_zero : (game : List GameVertex) → vertices_of (dual game) 0 ≡ 0
+none_at_zero [] = refl
+none_at_zero (x ∷ game) =
+    let h = none_at_zero game in
+    let differ : (x.priority + 1 == 0) ≡ false = differs (x.priority + 1) 0 (omega arith) in
+    rw (sum_by-cons, differ) (omega arith)
+
+-- so the dual's are counted by the same table with a 0 before it
+pub counted_dual : (game : List GameVertex) (counts : List ℕ) → IsCount game counts → IsCount (dual game) (0 ∷ counts)
+counted_dual game counts c = record { each = each; whole = whole }
+  where
+    each : (p : ℕ) → p < length (0 ∷ counts) → get_or (0 ∷ counts) p 0 ≡ vertices_of (dual game) p
+    each zero l = sym (none_at_zero game)
+    each (suc p) l = c.each p (omega arith) ∙ sym (vertices_dual game p)
+
+    whole : (v : ℕ) → v < length (dual game) → priority (dual game) v < length (0 ∷ counts)
+    whole v l =
+        let lt : v < length game = omega (arith, length_dual game, l) in
+        let most = c.whole v lt in
+        omega (arith, priority_dual game v lt, most)

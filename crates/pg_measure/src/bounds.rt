@@ -1,11 +1,11 @@
 //! Bounds of the components of measures.
 
-ghost use Rattle.std.specs.Prelude.{◌≡◌, ℕ, ◌<◌, ◌≤◌, ◌^◌, length, IfOk};
+ghost use Rattle.std.specs.Prelude.{◌≡◌, ℕ, ◌<◌, ◌≤◌, ◌^◌, List, length, IfOk};
 ghost use Rattle.pg_measure.specs.Measures.{AreBounds, width_from};
 ghost use Rattle.pg_measure.specs.Games.{IsBoundsOf};
 ghost use Rattle.pg_measure.specs.Mirrors.Counts.{IsCount};
 ghost use Rattle.pg_measure.specs.Mirrors.Widths.{AreWidths};
-ghost use Rattle.pg_arena.specs.Games.{priority};
+ghost use Rattle.pg_arena.specs.Games.{GameVertex, priority, dual};
 
 use crate::row;
 use pg_arena::{Game, Vertex};
@@ -39,6 +39,24 @@ impl Bounds {
         ensures { IfOk result (λ b. IsBoundsOf game.now b) }
     {
         let counts = priority_counts(alloc, game)?;
+        Bounds::of_counts(alloc, &counts)
+    }
+
+    /// The bounds of the dual of a game, which isn't made: no vertex of a dual has the priority 0, and each other priority
+    /// has the vertices that have the one below it in the game.
+    pub fn of_dual(alloc: Global, game: &Game) -> Result<Bounds, AllocError>
+        ensures { IfOk result (λ b. IsBoundsOf (dual game.now) b) }
+    {
+        let mut counts = priority_counts(alloc, game)?;
+        counts.insert(0, 0)?;
+        Bounds::of_counts(alloc, &counts)
+    }
+
+    /// The bounds of each game whose vertices are counted so.
+    fn of_counts(alloc: Global, counts: &[u32]) -> Result<Bounds, AllocError>
+        requires { length counts.now ≤ 2 ^ 32 }
+        ensures { (game : List GameVertex) → IsCount game counts.now → IfOk result (λ b. IsBoundsOf game b) }
+    {
         let mut pairs = Vec::new(alloc);
         let mut priority = counts.len();
         while priority > 0 {
@@ -106,7 +124,7 @@ fn first_widths(alloc: Global, pairs: &[(u32, u32)]) -> Result<Vec<usize>, Alloc
 /// How many vertices have each priority, up to the greatest.
 fn priority_counts(alloc: Global, game: &Game) -> Result<Vec<u32>, AllocError>
     ensures counts { IfOk result (λ c. IsCount game.now c.items) }
-    ensures few { IfOk result (λ c. length c.items ≤ 2 ^ 32) }
+    ensures few { IfOk result (λ c. length c.items ≤ 65537) }
 {
     let mut counts = vec![in alloc; 0; greatest_priority(game) as usize + 1]?;
     for number in 0..game.len() {
@@ -118,7 +136,8 @@ fn priority_counts(alloc: Global, game: &Game) -> Result<Vec<u32>, AllocError>
 
 /// The greatest priority that occurs.
 fn greatest_priority(game: &Game) -> u32
-    ensures { (v : ℕ) → v < length game.now → priority game.now v ≤ result }
+    ensures above_all { (v : ℕ) → v < length game.now → priority game.now v ≤ result }
+    ensures within { result ≤ 65536 }
 {
     let mut greatest = 0;
     for number in 0..game.len() {
