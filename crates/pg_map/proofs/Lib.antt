@@ -13,3 +13,8 @@ pub mod Orderings
 pub mod Passes
 pub mod Overs
 pub mod Existing
+pub mod Paths
+pub mod Falls
+pub mod Rounds
+pub mod Duals
+pub mod Parting
