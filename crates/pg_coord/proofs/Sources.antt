@@ -5,7 +5,7 @@ use Rattle.std.proofs.lemmas.Bool.{cases_eq, cases_lt, cases_order, eq-eqb, ne_e
 use Rattle.std.proofs.lemmas.List.{get_or-set_same, get_or-set_other, get_or-take, get_or-drop, get_or_default, get_or_push, get_or_past, get_or_append_left, length_push, take_all, length-take-le, length-drop}
 use Rattle.std.proofs.lemmas.List.Sums.{sum_by_more, sum_by-take-le, sum_by-cons, count_by-le-length}
 use Rattle.pg_arena.specs.Games.{GameVertex, IsGame, IsWithinLimits, IsEdge, successors, edge_count, nowhere}
-use Rattle.pg_worker.specs.Mirrors.Worklists.{times}
+use Rattle.pg_lift.specs.Mirrors.Worklists.{times}
 use Rattle.pg_coord.specs.Mirrors.Leading.{leads, AreStarts, Stands, AreSources, HaveRoom}
 
 -- ---- counts

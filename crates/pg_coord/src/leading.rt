@@ -2,7 +2,7 @@
 
 ghost use Rattle.std.specs.Prelude.{◌≡◌, ◌≢◌, ℕ, ◌+◌, ◌<◌, ◌≤◌, ◌^◌, List, length, slice_index, All, Contains, IfOk};
 ghost use Rattle.pg_arena.specs.Games.{GameVertex, IsEdge};
-ghost use Rattle.pg_worker.specs.Mirrors.Worklists.{times};
+ghost use Rattle.pg_lift.specs.Mirrors.Worklists.{times};
 ghost use Rattle.pg_coord.specs.Mirrors.Leading.{leads, AreStarts, Stands, StandsIn, AreSources, HaveRoom};
 
 use pg_arena::{Game, Vertex};

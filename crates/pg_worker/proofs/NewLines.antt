@@ -1,16 +1,10 @@
 -- Lines, when one more is there.
-use Rattle.std.proofs.Common.{◌≡◌, ◌≢◌, ℕ, zero, suc, ◌+◌, ◌<◌, ◌≤◌, Bool, List, length, refl, ap, subst, ◌∙◌, arith, inl, inr, None}
+use Rattle.std.proofs.Common.{◌≡◌, ◌≢◌, ℕ, zero, suc, ◌+◌, ◌<◌, ◌≤◌, length, refl, ap, subst, ◌∙◌, arith, inl, inr, None}
 use Rattle.std.specs.Prelude.{Option, Some, IsSome, unwrap_or}
 use Rattle.std.proofs.lemmas.Bool.{cases_eq}
-use Rattle.pg_measure.specs.Measures.{BoundList, MeasureValue}
 use Rattle.pg_arena.specs.Games.{nowhere}
 use Rattle.pg_map.specs.Lines.{Line, line_at, vertex_line}
-use Rattle.pg_worker.specs.Mirrors.Keeps.{IsKeptBut}
-use Rattle.pg_worker.specs.Mirrors.Edges.{edges_of}
-
--- fewer are left
-pub kept_less : (bs : BoundList) (lines : ℕ → Option Line) (f : List MeasureValue) (marked : List Bool) (best : List ℕ) (x : ℕ) (left left' : ℕ → Type 0) → ((v : ℕ) → left v → left' v) → IsKeptBut bs lines f marked best x left → IsKeptBut bs lines f marked best x left'
-kept_less bs lines f marked best x left left' on kept = λ v s. ((kept v s).0, λ none. (kept v s).1 (λ h. none (on v h)))
+use Rattle.pg_lift.specs.Mirrors.Edges.{edges_of}
 
 -- lines that differ at v alone
 pub record IsNewLine (lines lines' : ℕ → Option Line) (v : ℕ) (l : Line) : Type 0 where

@@ -10,7 +10,7 @@ use Rattle.pg_map.specs.Lines.{Line}
 use Rattle.pg_map.specs.Maps.{measure_at, IsLifted}
 use Rattle.pg_map.specs.declared.update.Update.{Update}
 use Rattle.pg_worker.specs.Workers.{IsLiftBy, AreLifts}
-use Rattle.pg_worker.specs.Mirrors.Keeps.{AreListedLifts}
+use Rattle.pg_worker.specs.Mirrors.Lifts.{AreListedLifts}
 
 -- a lift more
 pub lifts_more : (bs : BoundList) (lines : ℕ → Option Line) (f g h : List MeasureValue) (us : List Update) (u : Update) → AreLifts bs lines f us g → IsLiftBy bs lines g u h → AreLifts bs lines f (us ++ u ∷ []) h

@@ -10,18 +10,18 @@ use Rattle.pg_measure.specs.Measures.{BoundList, MeasureValue, width_from}
 use Rattle.pg_arena.specs.Games.{nowhere}
 use Rattle.pg_map.specs.Lines.{Line, AreWithin, line_at, vertex_line}
 use Rattle.pg_map.specs.Maps.{MapValue, measure_at}
-use Rattle.pg_worker.specs.declared.edges.Edges.{Edges}
+use Rattle.pg_lift.specs.declared.edges.Edges.{Edges}
 use Rattle.pg_worker.specs.Mirrors.Parts.{PartValue, held_line}
-use Rattle.pg_worker.specs.Mirrors.Keeps.{IsKept, Keeps, KeepsAt, IsForemost, AreSameBut, nothing}
-use Rattle.pg_worker.specs.Mirrors.Edges.{AreEdges, edges_of}
+use Rattle.pg_lift.specs.Mirrors.Keeps.{IsKept, Keeps, KeepsAt, IsForemost, AreSameBut, nothing}
+use Rattle.pg_lift.specs.Mirrors.Edges.{AreEdges, edges_of}
 use Rattle.pg_worker.proofs.NewLines.{IsNewLine, line_same, some_back, edges_more, no_edges}
-use Rattle.pg_worker.proofs.Keeping.{same_keeps, never}
+use Rattle.pg_lift.proofs.Keeping.{same_keeps, never}
 use Rattle.pg_wire.specs.declared.frame.VertexLine.{VertexLine}
 use Rattle.pg_worker.specs.Workers.{WorkerValue, told_line, with_lines, AreAbove}
 use Rattle.pg_map.specs.declared.update.Update.{Update}
 use Rattle.pg_worker.specs.Mirrors.Insides.{IsInside, AreReady, IsNext, IsWhole}
-use Rattle.pg_worker.specs.Mirrors.Notes.{Span, Label, line_label, NotesValue, HasNote, AreNotes, IsSameSpan, AreSameNotes}
-use Rattle.pg_worker.proofs.Noting.{notes_on, same_notes}
+use Rattle.pg_lift.specs.Mirrors.Notes.{Span, Label, line_label, NotesValue, HasNote, AreNotes, IsSameSpan, AreSameNotes}
+use Rattle.pg_lift.proofs.Noting.{notes_on, same_notes}
 
 pub worker_after : (lines : PartValue) (map map' : MapValue) (notes notes' : NotesValue) → map'.bounds ≡ map.bounds → length map'.measures ≡ length map.measures → IsSameSpan notes notes'
     → IsKept map.bounds (held_line lines) map'.measures notes'.waits notes'.best → IsInside lines map notes → IsInside lines map' notes'

@@ -3,9 +3,7 @@
 #![tactic(auto)]
 
 mod adding;
-mod asked;
 mod cut;
-mod edges;
 mod fault;
 mod head;
 mod held;
@@ -15,18 +13,14 @@ mod lifted;
 mod lifting;
 mod lines;
 mod listing;
-mod note;
-mod notes;
 mod part;
 mod reply;
 mod served;
 mod service;
 mod session;
-mod settle;
 mod sparse;
 mod step;
 mod telling;
-mod touch;
 mod turn;
 mod whole;
 mod worker;

@@ -18,7 +18,7 @@ pub struct Listing {
 impl Model for Listing {
     ghost use Rattle.std.specs.Prelude.{length};
     ghost use Rattle.pg_worker.specs.Listings.{ListingValue};
-    ghost use Rattle.pg_worker.specs.Mirrors.Worklists.{IsListing};
+    ghost use Rattle.pg_lift.specs.Mirrors.Worklists.{IsListing};
 
     ghost Value = { ListingValue };
 

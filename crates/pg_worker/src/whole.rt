@@ -1,73 +1,22 @@
 //! Games that are solved in one piece, with no frames between.
 
-ghost use Rattle.std.specs.Prelude.{◌≡◌, ◌+◌, ◌<◌, ◌≤◌, ◌^◌, ℕ, List, Some, None, true, false, length, replicate, All, IsTrue, IsFalse, IfOk, IfSome, IfNone};
+ghost use Rattle.std.specs.Prelude.{◌≡◌, ◌+◌, ◌<◌, ◌^◌, List, Some, None, true, false, length, All, IsTrue, IsFalse, IfOk, IfSome, IfNone};
 ghost use Rattle.pg_measure.specs.Measures.{MeasureValue};
 ghost use Rattle.pg_measure.specs.Games.{IsBoundsOf};
 ghost use Rattle.pg_map.specs.Lines.{AreWithin, game_line};
-ghost use Rattle.pg_map.specs.Maps.{IsMap, IsClosed, MapAtMost, StaysUnder, measure_at};
+ghost use Rattle.pg_map.specs.Maps.{IsMap, IsClosed, MapAtMost, StaysUnder};
 ghost use Rattle.pg_worker.specs.Wholes.{HasTops, IsLeastWithTops};
-ghost use Rattle.pg_worker.specs.Mirrors.Edges.{AreEdges, edges_of};
-ghost use Rattle.pg_worker.specs.Mirrors.Insides.{IsAtZero};
-ghost use Rattle.pg_worker.specs.Mirrors.Keeps.{IsKept};
-ghost use Rattle.pg_worker.specs.Mirrors.Notes.{AreNotes, HasRoom, IsSameSpan};
+ghost use Rattle.pg_lift.specs.Mirrors.Edges.{AreEdges};
+ghost use Rattle.pg_lift.specs.Mirrors.Keeps.{IsKept};
+ghost use Rattle.pg_lift.specs.Mirrors.Notes.{AreNotes, IsSameSpan};
 
-use crate::adding::look;
-use crate::edges::Edges;
-use crate::lifting::{is_quiet, lift_ready, take};
-use crate::notes::Notes;
-use crate::settle::next_ready;
 use pg_arena::{Game, Vertex};
+use pg_lift::{
+    Edges, Notes, count_edges, is_quiet, lift_ready, look_at_all, next_ready, note_all, take,
+};
 use pg_map::{Lines, MeasureMap, View};
 use pg_measure::Bounds;
 use std::alloc::{AllocError, Global};
-
-/// How many edges the lines have; none where a number can't hold it.
-fn count_edges<G: Lines>(lines: &G, vertices: u32) -> Option<usize>
-    ensures { IfSome result (λ n. n ≡ edges_of (G.line lines.now) vertices) }
-{
-    let mut count = 0usize;
-    for number in 0..vertices {
-        let v = Vertex(number);
-        if lines.holds(v) {
-            count = count.checked_add(lines.successors(v).len())?;
-        }
-    }
-    Some(count)
-}
-
-/// Makes a note of each line, for which there is room.
-fn note_all<G: Lines>(lines: &G, vertices: u32, notes: &mut Notes)
-    requires within { AreWithin vertices (G.line lines.now) }
-    requires waits { notes.old.waits ≡ replicate vertices false }
-    requires best { length notes.old.best ≡ vertices }
-    requires labels { notes.old.span.labels ≡ replicate vertices None }
-    requires room { (v : ℕ) → v < vertices → HasRoom notes.old.span v }
-    ensures notes { AreNotes vertices (G.line lines.now) notes.new }
-{
-    for number in 0..vertices {
-        let v = Vertex(number);
-        if lines.holds(v) {
-            notes.hold(v, lines.priority(v), lines.owner(v));
-        }
-    }
-}
-
-/// Looks at each line, where all measures are zero, from the last to the first: of those that wait the first is the
-/// first to be lifted.
-fn look_at_all<G: Lines>(map: &MeasureMap, lines: &G, notes: &mut Notes)
-    requires zero { IsAtZero map.now }
-    requires within { AreWithin (length map.now.measures) (G.line lines.now) }
-    requires notes { AreNotes (length map.now.measures) (G.line lines.now) notes.old }
-    ensures span { IsSameSpan notes.old notes.new }
-    ensures kept { IsKept map.now.bounds (G.line lines.now) map.now.measures notes.new.waits notes.new.best }
-{
-    for number in (0..map.len()).rev() {
-        let v = Vertex(number);
-        if lines.holds(v) {
-            look(map, lines, notes, v, true);
-        }
-    }
-}
 
 /// Raises vertices to top.
 fn raise_to_top<G: Lines>(

@@ -2,7 +2,7 @@
 use Rattle.std.specs.Prelude.{◌≡◌, ℕ, ◌+◌, ◌<◌, ◌≤◌, List, length, slice_index, All}
 use Rattle.std.specs.List.{sum_by}
 use Rattle.pg_arena.specs.Games.{GameVertex, IsEdge}
-use Rattle.pg_worker.specs.Mirrors.Worklists.{times}
+use Rattle.pg_lift.specs.Mirrors.Worklists.{times}
 
 -- how many edges of the game lead to w
 abbrev pub leads : List GameVertex → ℕ → ℕ

@@ -1,13 +1,14 @@
 -- What a worker remembers fits its part and its map.
 use Rattle.std.specs.Prelude.{◌≡◌, ℕ, ◌+◌, ◌^◌, ◌<◌, ◌≤◌, false, List, length, replicate, IsSome, vec_capacity}
 use Rattle.pg_map.specs.Lines.{AreWithin}
-use Rattle.pg_map.specs.Maps.{MapValue, zero_map}
+use Rattle.pg_map.specs.Maps.{MapValue}
 use Rattle.pg_wire.specs.declared.frame.VertexLine.{VertexLine}
-use Rattle.pg_worker.specs.declared.edges.Edges.{Edges}
+use Rattle.pg_lift.specs.declared.edges.Edges.{Edges}
 use Rattle.pg_worker.specs.Mirrors.Parts.{PartValue, HasPlace, held_line}
-use Rattle.pg_worker.specs.Mirrors.Keeps.{IsKept}
-use Rattle.pg_worker.specs.Mirrors.Notes.{NotesValue, AreNotes, AreSameNotes, HasRoom}
-use Rattle.pg_worker.specs.Mirrors.Edges.{IsRight, edges_of}
+use Rattle.pg_lift.specs.Mirrors.Keeps.{IsKept}
+use Rattle.pg_lift.specs.Mirrors.Notes.{NotesValue, AreNotes, AreSameNotes, HasRoom}
+use Rattle.pg_lift.specs.Mirrors.Edges.{IsRight, edges_of}
+use Rattle.pg_lift.specs.Mirrors.Zeros.{IsAtZero}
 
 pub record IsInside (part : PartValue) (map : MapValue) (notes : NotesValue) : Type 0 where
   pub within : AreWithin (length map.measures) (held_line part)
@@ -15,10 +16,6 @@ pub record IsInside (part : PartValue) (map : MapValue) (notes : NotesValue) : T
   pub noted : AreNotes (length map.measures) (held_line part) notes
   pub kept : IsKept map.bounds (held_line part) map.measures notes.waits notes.best
   pub size : length part.lines ≡ length map.measures
-
--- the measure of each vertex is zero
-abbrev pub IsAtZero : MapValue → Type 0
-IsAtZero map = map.measures ≡ zero_map map.bounds (length map.measures)
 
 -- there is room for the sources of all edges of the part, and they are right where they are gathered; before they are
 -- gathered for the first time no measure has risen

@@ -1,5 +1,5 @@
 use Rattle.std.proofs.Common.{◌≡◌, ℕ, ◌+◌, ◌<◌, ◌≤◌, length, get_or, take}
-use Rattle.pg_worker.specs.Mirrors.Worklists.{times}
+use Rattle.pg_lift.specs.Mirrors.Worklists.{times}
 use Rattle.pg_coord.proofs.leading.count.Given as goal
 
 abbrev pub invariant-loop-w : goal.invariant-loop-w

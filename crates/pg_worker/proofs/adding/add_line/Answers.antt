@@ -3,7 +3,7 @@ use Rattle.std.proofs.lemmas.List.{length-set}
 use Rattle.pg_wire.specs.Lines.{line_with}
 use Rattle.pg_worker.specs.Workers.{told_line}
 use Rattle.pg_worker.specs.Mirrors.Parts.{held_line}
-use Rattle.pg_worker.specs.Mirrors.Notes.{Span, AreNotes}
+use Rattle.pg_lift.specs.Mirrors.Notes.{Span, AreNotes}
 use Rattle.pg_worker.proofs.NewLines.{IsNewLine}
 use Rattle.pg_worker.proofs.Working.{worker_more, within_more, notes_more, new_line_set}
 use Rattle.pg_worker.proofs.adding.add_line.Goals as goal

@@ -7,8 +7,8 @@ use Rattle.pg_wire.specs.declared.frame.VertexLine.{VertexLine}
 use Rattle.pg_wire.specs.Well.{IsVertexLine}
 use Rattle.pg_worker.specs.Workers.{told_line, with_lines, FitsGame}
 use Rattle.pg_worker.specs.Mirrors.Parts.{HasPlace}
-use Rattle.pg_worker.specs.Mirrors.Notes.{HasRoom}
-use Rattle.pg_worker.proofs.Noting.{room_still}
+use Rattle.pg_lift.specs.Mirrors.Notes.{HasRoom}
+use Rattle.pg_lift.proofs.Noting.{room_still}
 use Rattle.pg_worker.specs.Mirrors.Insides.{IsNext, edge_count}
 use Rattle.pg_worker.proofs.Working.{next_after, with_lines_more}
 use Rattle.pg_worker.proofs.adding.add_lines.Goals as goal

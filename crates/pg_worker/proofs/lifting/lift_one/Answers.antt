@@ -2,10 +2,10 @@ use Rattle.std.proofs.Common.{◌≡◌, ◌∙◌, ℕ, Bool, true, false, List
 use Rattle.std.proofs.lemmas.List.{get_or-set_other}
 use Rattle.pg_map.specs.Lines.{line_at}
 use Rattle.pg_map.specs.Maps.{measure_at}
-use Rattle.pg_worker.specs.Mirrors.Keeps.{Keeps, nothing}
-use Rattle.pg_worker.proofs.Keeping.{served_keeps, kept_change, same_keeps, set_others, mark_is}
-use Rattle.pg_worker.proofs.Noting.{notes_on}
-use Rattle.pg_worker.proofs.Stacks.{marked_below}
+use Rattle.pg_lift.specs.Mirrors.Keeps.{Keeps, nothing}
+use Rattle.pg_lift.proofs.Keeping.{served_keeps, kept_change, same_keeps, set_others, mark_is}
+use Rattle.pg_lift.proofs.Noting.{notes_on}
+use Rattle.pg_lift.proofs.Stacks.{marked_below}
 use Rattle.pg_worker.proofs.lifting.lift_one.Goals as goal
 
 pub returns-then-not-waits-clause-served : goal.returns-then-not-waits-clause-served

@@ -3,7 +3,7 @@ use Rattle.pg_measure.specs.Measures.{owned}
 use Rattle.pg_map.specs.Maps.{IsLifted, StaysUnder, measure_at}
 use Rattle.pg_map.specs.declared.update.Update.{Update}
 use Rattle.pg_map.proofs.Above.{stays_trans}
-use Rattle.pg_worker.proofs.Noting.{notes_still, same_span, span_marked}
+use Rattle.pg_lift.proofs.Noting.{notes_still, same_span, span_marked}
 use Rattle.pg_worker.specs.Workers.{IsLiftBy}
 use Rattle.pg_worker.proofs.Runs.{lifts_more}
 use Rattle.pg_worker.proofs.lifting.lift_some.Goals as goal

@@ -1,8 +1,8 @@
 use Rattle.std.proofs.Common.{◌≡◌, length}
 use Rattle.pg_map.specs.Maps.{StaysUnder}
-use Rattle.pg_worker.specs.Mirrors.Notes.{IsSameSpan}
+use Rattle.pg_lift.specs.Mirrors.Notes.{IsSameSpan}
 use Rattle.pg_worker.specs.Workers.{AreLifts}
-use Rattle.pg_worker.specs.Mirrors.Keeps.{IsKept}
+use Rattle.pg_lift.specs.Mirrors.Keeps.{IsKept}
 use Rattle.pg_worker.proofs.lifting.lift_some.Given as goal
 
 abbrev pub invariant-loop : goal.invariant-loop

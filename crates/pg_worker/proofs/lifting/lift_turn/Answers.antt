@@ -1,7 +1,7 @@
 use Rattle.std.proofs.Common.{◌∙◌, length}
 use Rattle.pg_map.specs.Maps.{IsLifted, StaysUnder}
 use Rattle.pg_map.proofs.Above.{stays_trans}
-use Rattle.pg_worker.proofs.Noting.{notes_still, same_span}
+use Rattle.pg_lift.proofs.Noting.{notes_still, same_span}
 use Rattle.pg_worker.proofs.Runs.{listed_more}
 use Rattle.pg_worker.proofs.lifting.lift_turn.Goals as goal
 

@@ -1,7 +1,8 @@
 use Rattle.std.proofs.Common.{◌≡◌, length}
 use Rattle.pg_map.specs.Maps.{StaysUnder}
-use Rattle.pg_worker.specs.Mirrors.Notes.{IsSameSpan}
-use Rattle.pg_worker.specs.Mirrors.Keeps.{IsKept, AreListedLifts}
+use Rattle.pg_lift.specs.Mirrors.Notes.{IsSameSpan}
+use Rattle.pg_worker.specs.Mirrors.Lifts.{AreListedLifts}
+use Rattle.pg_lift.specs.Mirrors.Keeps.{IsKept}
 use Rattle.pg_worker.proofs.lifting.lift_turn.Given as goal
 
 abbrev pub invariant-loop : goal.invariant-loop

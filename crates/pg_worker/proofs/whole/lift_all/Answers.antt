@@ -2,8 +2,8 @@ use Rattle.std.proofs.Common.{◌<◌, ◌∙◌, length, arith, rules}
 use Rattle.pg_map.specs.Maps.{IsLifted, StaysUnder}
 use Rattle.pg_map.specs.Lemmas.Orders.{map_reflexive, map_transitive}
 use Rattle.pg_map.proofs.Above.{stays_trans}
-use Rattle.pg_worker.proofs.Keeping.{lifted_is}
-use Rattle.pg_worker.proofs.Noting.{same_span}
+use Rattle.pg_lift.proofs.Keeping.{lifted_is}
+use Rattle.pg_lift.proofs.Noting.{same_span}
 use Rattle.pg_worker.proofs.whole.lift_all.Goals as goal
 
 pub loop-v-init : goal.loop-v-init

@@ -1,8 +1,8 @@
 use Rattle.std.proofs.Common.{◌≡◌, length}
 use Rattle.pg_map.specs.Maps.{MapAtMost, StaysUnder}
 use Rattle.pg_map.specs.Weights.{map_weight}
-use Rattle.pg_worker.specs.Mirrors.Keeps.{IsKept}
-use Rattle.pg_worker.specs.Mirrors.Notes.{IsSameSpan}
+use Rattle.pg_lift.specs.Mirrors.Keeps.{IsKept}
+use Rattle.pg_lift.specs.Mirrors.Notes.{IsSameSpan}
 use Rattle.pg_worker.proofs.whole.lift_all.Given as goal
 
 abbrev pub invariant-loop-v : goal.invariant-loop-v

@@ -3,7 +3,7 @@ use Rattle.std.proofs.lemmas.Bool.{cases_eq}
 use Rattle.std.proofs.lemmas.List.{get_or_default}
 use Rattle.pg_measure.specs.Measures.{MeasureValue, AtMost}
 use Rattle.pg_map.specs.Maps.{measure_at, update_map, IsJoin}
-use Rattle.pg_worker.proofs.Noting.{same_span}
+use Rattle.pg_lift.proofs.Noting.{same_span}
 use Rattle.pg_worker.proofs.Steps.{update_under}
 use Rattle.pg_worker.proofs.Wholes.{top_is, update_top}
 use Rattle.pg_worker.proofs.whole.raise_to_top.Goals as goal

@@ -2,8 +2,8 @@ use Rattle.std.proofs.Common.{◌≡◌, ◌<◌, ℕ, List, length, get_or, Non
 use Rattle.pg_measure.specs.Measures.{MeasureValue}
 use Rattle.pg_map.specs.Maps.{measure_at, IsMap, MapAtMost}
 use Rattle.pg_worker.specs.Wholes.{HasTops}
-use Rattle.pg_worker.specs.Mirrors.Keeps.{IsKept}
-use Rattle.pg_worker.specs.Mirrors.Notes.{IsSameSpan}
+use Rattle.pg_lift.specs.Mirrors.Keeps.{IsKept}
+use Rattle.pg_lift.specs.Mirrors.Notes.{IsSameSpan}
 use Rattle.pg_worker.proofs.whole.raise_to_top.Given as goal
 
 abbrev pub invariant-loop-v : goal.invariant-loop-v

@@ -3,8 +3,8 @@ use Rattle.std.proofs.lemmas.List.{length-replicate}
 use Rattle.pg_measure.specs.Measures.{BoundList, zeros}
 use Rattle.pg_map.specs.Lines.{AreWithin, game_line}
 use Rattle.pg_map.specs.Maps.{zero_map}
-use Rattle.pg_worker.specs.Mirrors.Notes.{AreNotes}
-use Rattle.pg_worker.proofs.Noting.{notes_on}
+use Rattle.pg_lift.specs.Mirrors.Notes.{AreNotes}
+use Rattle.pg_lift.proofs.Noting.{notes_on}
 use Rattle.pg_worker.proofs.Wholes.{least_found, quiet_found}
 use Rattle.pg_worker.proofs.whole.solve_whole.Goals as goal
 

@@ -1,6 +1,6 @@
 use Rattle.std.proofs.Common.{◌≡◌, ◌<◌, ◌+◌, ◌∙◌, ℕ, List, length, get_or, sym, subst, below_more, arith}
 use Rattle.pg_arena.specs.Games.{IsEdge, successors}
-use Rattle.pg_worker.specs.Mirrors.Worklists.{times}
+use Rattle.pg_lift.specs.Mirrors.Worklists.{times}
 use Rattle.pg_coord.specs.Mirrors.Leading.{Stands, HaveRoom}
 use Rattle.pg_coord.proofs.Sources.{filling, fill_room, filled_more, stands_more, filled, edges_below}
 use Rattle.pg_coord.proofs.leading.Leading.fill.Goals as goal

@@ -1,6 +1,6 @@
 use Rattle.std.proofs.Common.{◌≡◌, ℕ, ◌+◌, ◌<◌, ◌≤◌, length, get_or, take}
 use Rattle.std.specs.Prelude.{All}
-use Rattle.pg_worker.specs.Mirrors.Worklists.{times}
+use Rattle.pg_lift.specs.Mirrors.Worklists.{times}
 use Rattle.pg_coord.specs.Mirrors.Leading.{Stands}
 use Rattle.pg_coord.proofs.leading.Leading.put.Given as goal
 

@@ -1,8 +1,8 @@
 use Rattle.std.proofs.Common.{◌∷◌, ◌++◌, [], ap, subst, ◌∙◌, arith}
 use Rattle.std.proofs.lemmas.List.{length-set}
 use Rattle.std.specs.Option.{option_to_list}
-use Rattle.pg_worker.specs.Mirrors.Worklists.{IsListing}
-use Rattle.pg_worker.proofs.Stacks.{unlisted, last_below}
+use Rattle.pg_lift.specs.Mirrors.Worklists.{IsListing}
+use Rattle.pg_lift.proofs.Stacks.{unlisted, last_below}
 use Rattle.pg_worker.proofs.listing.Listing.clear.Goals as goal
 
 pub index_mut-requires : goal.index_mut-requires

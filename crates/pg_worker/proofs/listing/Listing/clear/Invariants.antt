@@ -1,6 +1,6 @@
 use Rattle.std.proofs.Common.{◌≡◌, length}
 use Rattle.std.specs.Prelude.{vec_len}
-use Rattle.pg_worker.specs.Mirrors.Worklists.{IsListing}
+use Rattle.pg_lift.specs.Mirrors.Worklists.{IsListing}
 use Rattle.pg_worker.proofs.listing.Listing.clear.Given as goal
 
 abbrev pub invariant-loop-v : goal.invariant-loop-v

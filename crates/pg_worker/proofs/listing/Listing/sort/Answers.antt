@@ -1,8 +1,8 @@
 use Rattle.std.proofs.Common.{◌≡◌, ◌+◌, ℕ, get_or, ◌∙◌, arith}
 use Rattle.std.proofs.lemmas.Map.Keys.{ge_from_not_lt}
 use Rattle.std.proofs.lemmas.List.Sorted.{sum_by-IsPermutation}
-use Rattle.pg_worker.specs.Mirrors.Worklists.{times}
-use Rattle.pg_worker.proofs.Stacks.{rising_by, contains_times, times_contains}
+use Rattle.pg_lift.specs.Mirrors.Worklists.{times}
+use Rattle.pg_lift.proofs.Stacks.{rising_by, contains_times, times_contains}
 use Rattle.pg_worker.proofs.listing.Listing.sort.Goals as goal
 use Rattle.pg_worker.proofs.listing.Listing.sort.Goals.{After-sort_unstable}
 

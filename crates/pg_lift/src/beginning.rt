@@ -1,0 +1,61 @@
+//! What is made before the first lift, where every line is known from the beginning.
+
+ghost use Rattle.std.specs.Prelude.{◌≡◌, ◌<◌, ℕ, None, true, false, length, replicate, IfSome};
+ghost use Rattle.pg_map.specs.Lines.{AreWithin};
+ghost use Rattle.pg_lift.specs.Mirrors.Edges.{edges_of};
+ghost use Rattle.pg_lift.specs.Mirrors.Keeps.{IsKept};
+ghost use Rattle.pg_lift.specs.Mirrors.Notes.{AreNotes, HasRoom, IsSameSpan};
+ghost use Rattle.pg_lift.specs.Mirrors.Zeros.{IsAtZero};
+
+use crate::looking::look;
+use crate::notes::Notes;
+use pg_arena::Vertex;
+use pg_map::{Lines, MeasureMap};
+
+/// How many edges the lines have; none where a number can't hold it.
+pub fn count_edges<G: Lines>(lines: &G, vertices: u32) -> Option<usize>
+    ensures { IfSome result (λ n. n ≡ edges_of (G.line lines.now) vertices) }
+{
+    let mut count = 0usize;
+    for number in 0..vertices {
+        let v = Vertex(number);
+        if lines.holds(v) {
+            count = count.checked_add(lines.successors(v).len())?;
+        }
+    }
+    Some(count)
+}
+
+/// Makes a note of each line, for which there is room.
+pub fn note_all<G: Lines>(lines: &G, vertices: u32, notes: &mut Notes)
+    requires within { AreWithin vertices (G.line lines.now) }
+    requires waits { notes.old.waits ≡ replicate vertices false }
+    requires best { length notes.old.best ≡ vertices }
+    requires labels { notes.old.span.labels ≡ replicate vertices None }
+    requires room { (v : ℕ) → v < vertices → HasRoom notes.old.span v }
+    ensures notes { AreNotes vertices (G.line lines.now) notes.new }
+{
+    for number in 0..vertices {
+        let v = Vertex(number);
+        if lines.holds(v) {
+            notes.hold(v, lines.priority(v), lines.owner(v));
+        }
+    }
+}
+
+/// Looks at each line, where all measures are zero, from the last to the first: of those that wait the first is the
+/// first to be lifted.
+pub fn look_at_all<G: Lines>(map: &MeasureMap, lines: &G, notes: &mut Notes)
+    requires zero { IsAtZero map.now }
+    requires within { AreWithin (length map.now.measures) (G.line lines.now) }
+    requires notes { AreNotes (length map.now.measures) (G.line lines.now) notes.old }
+    ensures span { IsSameSpan notes.old notes.new }
+    ensures kept { IsKept map.now.bounds (G.line lines.now) map.now.measures notes.new.waits notes.new.best }
+{
+    for number in (0..map.len()).rev() {
+        let v = Vertex(number);
+        if lines.holds(v) {
+            look(map, lines, notes, v, true);
+        }
+    }
+}

@@ -1,6 +1,0 @@
-use Rattle.std.proofs.Common.{◌≡◌}
-use Rattle.pg_worker.specs.Mirrors.Edges.{edges_of}
-use Rattle.pg_worker.proofs.whole.count_edges.Given as goal
-
-abbrev pub invariant-loop-number : goal.invariant-loop-number
-invariant-loop-number g l = l.count ≡ edges_of (g.G.Lines.line l.lines) l.number
