@@ -49,9 +49,9 @@ abbrev pub IsUnderReaching : BoundList → List ℕ → ℕ → MeasureValue →
 IsUnderReaching bounds set p m f g =
     (h : List MeasureValue) → IsMap bounds (length f) h → MapAtMost f h → Reaches bounds set p m h → MapAtMost g h
 
--- What shows that the cycles are odd: each vertex of the set has a place and an end. Inside edges lead from it to places before its
--- end. If its own place is before its end then its priority is odd, and of those that stand from its place on before its end
--- none has a greater priority, or a later end.
+-- What shows that the cycles are odd: each vertex of the set has a place and an end. Inside edges lead from it to places
+-- before its end. If its own place is before its end then its priority is odd, and of those that stand from its place on
+-- before its end none has a greater priority, or a later end.
 pub record OrdersCycles (lines : ℕ → Option Line) (set : List ℕ) (choice place end : ℕ → ℕ) : Type 0 where
   pub leads : (v w : ℕ) → GoesInside lines set choice v w → place w < end v
   pub odd : (v : ℕ) → Contains set v → place v < end v → line_priority lines v % 2 ≡ 1
