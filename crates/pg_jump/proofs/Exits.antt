@@ -1,10 +1,9 @@
 -- Sets, the tables of their places, and what is found of them.
-use Rattle.std.proofs.Common.{false, ◌≡◌, ℕ, ◌<◌, ◌≤◌, inl, inr, Some, None, List, length, get_or, arith, sym, subst, refl, ◌∙◌, ap}
+use Rattle.std.proofs.Common.{false, ◌≡◌, ℕ, ◌<◌, inl, inr, Some, None, List, length, get_or, sym, subst, refl, ◌∙◌, ap}
 use Rattle.std.specs.List.{Contains}
 use Rattle.std.specs.Prelude.{IsTrue, Option}
-use Rattle.std.specs.Option.{IsSome}
 use Rattle.std.proofs.lemmas.List.{get_or_default}
-use Rattle.std.proofs.lemmas.List.Elements.{All-contains, Contains-get_or}
+use Rattle.std.proofs.lemmas.List.Elements.{Contains-get_or}
 use Rattle.pg_arena.specs.declared.player.Player.TheVariants.{Even, Odd}
 use Rattle.pg_measure.specs.Measures.{BoundList, MeasureValue, AtMostFrom}
 use Rattle.pg_map.specs.Lines.{Line, line_at}
