@@ -24,9 +24,6 @@ contains_stands set places w placed (k, lt, is) =
       subst (λ j. get_or set j w ≡ w) here is,
     )
 
-pub stands_contains : (set places : List ℕ) (w : ℕ) → StandsIn set places w → Contains set w
-stands_contains set places w h = (place_in places w, h.0, h.1)
-
 -- what reaches more reaches less
 pub reaches_less : (bounds : BoundList) (f : List MeasureValue) (set : List ℕ) (p : ℕ) (m n : MeasureValue) (w : ℕ)
     → AtMostFrom bounds p m n → StaysOrReaches bounds f set p n w → StaysOrReaches bounds f set p m w
