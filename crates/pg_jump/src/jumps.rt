@@ -1,14 +1,15 @@
 //! Jumps of a map while it is lifted to the end.
 
-ghost use Rattle.std.specs.Prelude.{◌≡◌, ℕ, ◌+◌, ◌<◌, ◌≤◌, List, length, All, IfSome};
+ghost use Rattle.std.specs.Prelude.{◌≡◌, ℕ, ◌+◌, ◌<◌, ◌≤◌, List, length, All, OnOk};
 ghost use Rattle.pg_measure.specs.Measures.{MeasureValue, Fits, AtMost};
 ghost use Rattle.pg_measure.specs.Views.{measure_in};
+ghost use Rattle.pg_measure.specs.Mirrors.Rows.{cleared};
 ghost use Rattle.pg_map.specs.Lines.{AreWithin};
 ghost use Rattle.pg_map.specs.Maps.{measure_at, IsMap, MapAtMost, StaysUnder};
 ghost use Rattle.pg_lift.specs.Mirrors.Edges.{AreEdges};
 ghost use Rattle.pg_lift.specs.Mirrors.Keeps.{IsKept};
 ghost use Rattle.pg_lift.specs.Mirrors.Notes.{AreNotes, IsSameSpan};
-ghost use Rattle.pg_jump.specs.Jumps.{Reaches, IsUnderReaching};
+ghost use Rattle.pg_jump.specs.Jumps.{IsUnderReaching};
 
 use crate::growing::Growing;
 use crate::{Proposal, Reach, reach_of};
@@ -63,6 +64,17 @@ fn raise_all<G: Lines>(
     }
 }
 
+/// Makes a row of the first numbers of a list, so many, and of zeros in place of the others.
+fn cut(list: &[u32], front: usize, row: &mut Vec<u32>) -> Result<(), AllocError>
+    requires { front ≤ length list.now }
+    ensures { OnOk result (row.new.items ≡ cleared front list.now) }
+{
+    row.clear();
+    row.extend_from_slice(list)?;
+    row::clear_from(row.as_mut_slice(), front);
+    Ok(())
+}
+
 /// Raises the set of a proposal to the measure of an exit, in the components of priorities at least this one. The row is for that
 /// measure.
 fn raise_to_exit<G: Lines>(
@@ -93,10 +105,7 @@ fn raise_to_exit<G: Lines>(
     match map.get(exit) {
         View::Top => raise_all(map, lines, edges, notes, set, View::Top),
         View::List(list) => {
-            row.clear();
-            row.extend_from_slice(list)?;
-            let front = map.bounds().width_from(priority);
-            row::clear_from(row, front);
+            cut(list, map.bounds().width_from(priority), row)?;
             raise_all(map, lines, edges, notes, set, View::List(row));
         }
     }
