@@ -1,34 +1,27 @@
 -- What two maps certify is sound; so is the solution of closed maps, of which none has a list where the other has one.
-use Rattle.std.proofs.Common.{◌≡◌, ℕ, zero, suc, ◌+◌, ◌%◌, ◌<◌, ◌≤◌, ◌⊎◌, inl, inr, true, List, [], ◌∷◌, ◌++◌, Some, None, take, length, map, get_or, arith, sym, subst, refl, ap, ◌∙◌, add-one, MatchBool}
-use Rattle.std.specs.List.{count_by, All, Any, Contains}
+use Rattle.std.proofs.Common.{◌≡◌, ℕ, ◌+◌, ◌%◌, ◌<◌, ◌⊎◌, inl, inr, List, [], ◌∷◌, ◌++◌, Some, length, map, get_or, arith, sym, subst, refl, ap, ◌∙◌}
+use Rattle.std.specs.List.{All, Any, Contains}
 use Rattle.std.specs.Option.{IsSome}
-use Rattle.std.proofs.lemmas.Bool.{cases_lt}
-use Rattle.std.proofs.lemmas.List.Elements.{All-nil, All-cons, All-head, All-tail, All-map}
 use Rattle.pg_arena.specs.declared.player.Player.{Player}
 use Rattle.pg_arena.specs.declared.player.Player.TheVariants.{Even, Odd}
-use Rattle.pg_arena.specs.Games.{GameVertex, IsGame, IsEdge, IsPath, HasParityOf, opponent, priority, owner, successors, vertex_at, dual}
+use Rattle.pg_arena.specs.Games.{GameVertex, IsGame, IsEdge, IsPath, HasParityOf, opponent, priority, owner, successors, vertex_at, dual, IsGreatest}
 use Rattle.pg_arena.specs.Lemmas.Duals.{length_dual, successors_dual, priority_dual, owner_dual}
 use Rattle.pg_text.specs.declared.answer.Answer.{Answer}
 use Rattle.pg_text.specs.Solutions.{winner, loser, choice}
-use Rattle.pg_measure.specs.Measures.{BoundList, MeasureValue, ListBelow, ListAtMost, Covers, width_from, is_odd}
+use Rattle.pg_measure.specs.Measures.{Covers}
 use Rattle.pg_map.specs.Lines.{Line, vertex_line, game_line, line_at}
 use Rattle.pg_map.specs.Maps.{MapValue, measure_at, IsServedBy, IsClosed, SomeOrAll}
-use Rattle.pg_check.specs.Plays.{IsPlay, stretch}
-use Rattle.pg_arena.specs.Games.{IsGreatest}
 use Rattle.pg_check.specs.Soundness.{Counts, IsSound}
 use Rattle.pg_check.specs.Strategies.{game_of, map_of, HasList, IsServedFor, AreClosed, IsSolutionOf, IsCertifiedFor, Certifies}
-use Rattle.pg_check.proofs.Recurring.{parity_of}
-use Rattle.pg_check.proofs.Paths.{IsWay, way_later, path_upto, path_keeps, all_front, all_later, repeat_or_few}
-use Rattle.pg_check.proofs.Cycles.{all_unmap, count-cons, edge_from, sound_from_safe}
-use Rattle.pg_check.proofs.Wins.{all_stretch, stretch_path, player_cases}
-use Rattle.pg_check.proofs.Falls.{Falls, no_odd_cycle}
+use Rattle.pg_map.proofs.GameLines.{game_line_at, game_line_some}
+use Rattle.pg_map.proofs.Paths.{path_keeps, all_front}
+use Rattle.pg_map.proofs.Falls.{Falls, lists, covers_falls, no_odd_cycle}
+use Rattle.pg_map.proofs.Rounds.{path_map, greatest_raised}
+use Rattle.pg_map.proofs.Parting.{none_both}
+use Rattle.pg_check.proofs.Cycles.{edge_from, sound_from_safe}
+use Rattle.pg_check.proofs.Wins.{player_cases}
 
 -- lines of a game and of its dual
-
-pub line_is : (game : List GameVertex) (v : ℕ) → line_at (game_line game) v ≡ vertex_line (vertex_at game v)
-line_is [] v = refl
-line_is (x ∷ game) zero = refl
-line_is (x ∷ game) (suc v) = line_is game v
 
 same_edges : (player : Player) (game : List GameVertex) (v : ℕ) → successors (game_of player game) v ≡ successors game v
 same_edges Even game v = refl
@@ -53,66 +46,28 @@ all_served Odd P successors e h = h
 
 -- steps that a player's map serves
 
-list_of : MeasureValue → List ℕ
-list_of None = []
-list_of (Some xs) = xs
-
-pub lists : MapValue → ℕ → List ℕ
-lists m v = list_of (measure_at m.measures v)
-
 abbrev pub FallsFor : Player → List GameVertex → MapValue → MapValue → ℕ → ℕ → Type 0
-FallsFor player game f g = let m = map_of player f g in Falls m.bounds (priority (game_of player game)) (lists m)
-
-covers_falls : (bounds : BoundList) (p : ℕ) (m n : MeasureValue) → IsSome m → Covers bounds p m n
-    → IsSome n × MatchBool (is_odd p)
-    (ListBelow (take (width_from bounds p) (list_of n)) (take (width_from bounds p) (list_of m)))
-    (ListAtMost (take (width_from bounds p) (list_of n)) (take (width_from bounds p) (list_of m)))
-unfolding list_of
-covers_falls bounds p None n s h = absurd (cc s)
-covers_falls bounds p (Some xs) None s h = absurd h
-covers_falls bounds p (Some xs) (Some ys) s h = (refl, h)
+FallsFor player game f g = let m = map_of player f g in Falls m.bounds (priority (game_of player game)) (lists m.measures)
 
 pub map_falls : (game : List GameVertex) (m : MapValue) (v w : ℕ) → IsSome (measure_at m.measures v)
     → IsServedBy m.bounds (game_line game) m.measures v w
-    → IsSome (measure_at m.measures w) × Falls m.bounds (priority game) (lists m) v w
-unfolding lists
+    → IsSome (measure_at m.measures w) × Falls m.bounds (priority game) (lists m.measures) v w
 map_falls game m v w s h =
     covers_falls m.bounds (priority game v) (measure_at m.measures v) (measure_at m.measures w) s
-    (subst (λ (l : Line). Covers m.bounds l.priority (measure_at m.measures v) (measure_at m.measures w)) (line_is game v) h)
+    (subst (λ (l : Line). Covers m.bounds l.priority (measure_at m.measures v) (measure_at m.measures w)) (game_line_at game v) h)
 
 pub served_falls : (player : Player) (game : List GameVertex) (f g : MapValue) (v w : ℕ) → HasList player f g v
     → IsServedFor player game f g v w → HasList player f g w × FallsFor player game f g v w
 served_falls player game f g v w s h = map_falls (game_of player game) (map_of player f g) v w s h
 
 -- a priority of the opponent's parity is odd in the player's game
-occurs_raised : (f h : ℕ → ℕ) (p : ℕ) (xs : List ℕ) → All (λ v. h v ≡ f v + 1) xs → (k : ℕ) → k < length (map f xs)
-    → get_or (map f xs) k p ≡ p → Contains (map h xs) (p + 1)
-occurs_raised f h p [] raised k lt e = absurd (omega arith)
-occurs_raised f h p (x ∷ xs) raised zero lt e =
-    (0, omega arith, (let here : h x ≡ f x + 1 = All-head (λ v. h v ≡ f v + 1) x xs raised in omega arith))
-occurs_raised f h p (x ∷ xs) raised (suc k) lt e =
-    let c = occurs_raised f h p xs (All-tail (λ v. h v ≡ f v + 1) x xs raised) k (omega arith) e in
-    (suc c.0, omega (arith, c.1), c.2)
-
-above_raised : (f h : ℕ → ℕ) (p : ℕ) (xs : List ℕ) → All (λ v. h v ≡ f v + 1) xs → All (λ v. f v ≤ p) xs → All (λ v. h v ≤ p + 1) xs
-above_raised f h p [] raised above = All-nil (λ v. h v ≤ p + 1)
-above_raised f h p (x ∷ xs) raised above =
-    let here : h x ≡ f x + 1 = All-head (λ v. h v ≡ f v + 1) x xs raised in
-    let le : f x ≤ p = All-head (λ v. f v ≤ p) x xs above in
-    All-cons (λ v. h v ≤ p + 1) x xs (omega arith)
-    (above_raised f h p xs (All-tail (λ v. h v ≡ f v + 1) x xs raised) (All-tail (λ v. f v ≤ p) x xs above))
-
 odd_greatest : (player : Player) (game : List GameVertex) (p : ℕ) (xs : List ℕ) → All (λ v. v < length game) xs
     → IsGreatest p (map (priority game) xs) → HasParityOf (opponent player) p
     → (q : ℕ) × IsGreatest q (map (priority (game_of player game)) xs) × (q % 2 ≡ 1)
 odd_greatest Even game p xs within greatest parity = (p, greatest, parity)
 odd_greatest Odd game p xs within greatest parity = (
   p + 1,
-  record {
-    occurs = occurs_raised (priority game) (priority (dual game)) p xs raised greatest.occurs.0 greatest.occurs.1 greatest.occurs.2;
-    above_all = All-map (λ q. q ≤ p + 1) (priority (dual game)) xs
-        (above_raised (priority game) (priority (dual game)) p xs raised (all_unmap (priority game) (λ q. q ≤ p) xs greatest.above_all));
-  },
+  greatest_raised (priority game) (priority (dual game)) p xs raised greatest,
   (let even : p % 2 ≡ 0 = parity in omega arith),
 )
   where
@@ -125,13 +80,7 @@ pub no_lost_cycle : (player : Player) (game : List GameVertex) (f g : MapValue) 
     → IsGreatest p (map (priority game) (v ∷ rest)) → HasParityOf (opponent player) p → ⊥
 no_lost_cycle player game f g v rest p within path greatest parity =
     let o = odd_greatest player game p (v ∷ rest) within greatest parity in
-    no_odd_cycle (map_of player f g).bounds (priority (game_of player game)) (lists (map_of player f g)) v rest o.0 path o.1 o.2
-
-pub path_map : (Step Step' : ℕ → ℕ → Type 0) → (Q : ℕ → Type 0) → ((v w : ℕ) → Q v → Step v w → Step' v w × Q w)
-    → (v : ℕ) (rest : List ℕ) → Q v → IsPath Step v rest → IsPath Step' v rest
-path_map Step Step' Q f v [] q h = tt
-path_map Step Step' Q f v (w ∷ rest) q h =
-    let k = f v w q h.0 in (k.0, path_map Step Step' Q f w rest k.1 h.1)
+    no_odd_cycle (map_of player f g).bounds (priority (game_of player game)) (lists (map_of player f g).measures) v rest o.0 path o.1 o.2
 
 -- closed maps serve the winner, by some edge where it owns the vertex and by all where it doesn't
 
@@ -140,29 +89,24 @@ pub closed_for : (player : Player) (game : List GameVertex) (f g : MapValue) →
 closed_for Even game f g closed = closed.game_map
 closed_for Odd game f g closed = closed.dual_map
 
-pub in_line : (game : List GameVertex) (v : ℕ) → v < length game → IsSome (game_line game v)
-in_line [] v lt = absurd (omega arith)
-in_line (x ∷ game) zero lt = refl
-in_line (x ∷ game) (suc v) lt = in_line game v (omega arith)
-
 same_length : (player : Player) (game : List GameVertex) (v : ℕ) → v < length game → v < length (game_of player game)
 same_length Even game v lt = lt
 same_length Odd game v lt = omega (arith, length_dual game, lt)
 
 pub has_line : (player : Player) (game : List GameVertex) (v : ℕ) → v < length game → IsSome (game_line (game_of player game) v)
-has_line player game v lt = in_line (game_of player game) v (same_length player game v lt)
+has_line player game v lt = game_line_some (game_of player game) v (same_length player game v lt)
 
 pub some_serves : (player : Player) (game : List GameVertex) (m : MapValue) → IsClosed m.bounds (game_line (game_of player game)) m.measures
     → (v : ℕ) → v < length game → owner game v ≡ player
     → Any (IsServedBy m.bounds (game_line (game_of player game)) m.measures v) (line_at (game_line (game_of player game)) v).successors
 some_serves player game m closed v lt e =
     let line : Line = line_at (game_line (game_of player game)) v in
-    let is : line ≡ vertex_line (vertex_at (game_of player game) v) = line_is (game_of player game) v in
+    let is : line ≡ vertex_line (vertex_at (game_of player game) v) = game_line_at (game_of player game) v in
     some_served line.owner (IsServedBy m.bounds (game_line (game_of player game)) m.measures v) line.successors
     (ap Line.owner is ∙ owner_is player game v lt e) (closed v (has_line player game v lt))
 
 pub line_edges : (player : Player) (game : List GameVertex) (v : ℕ) → (line_at (game_line (game_of player game)) v).successors ≡ successors game v
-line_edges player game v = ap Line.successors (line_is (game_of player game) v) ∙ same_edges player game v
+line_edges player game v = ap Line.successors (game_line_at (game_of player game) v) ∙ same_edges player game v
 
 -- in a closed map some edge from a vertex of Even serves it, and each edge from a vertex of Odd does
 
@@ -170,18 +114,18 @@ pub some_edge_serves : (game : List GameVertex) (m : MapValue) → IsClosed m.bo
     → owner game v ≡ Even → (w : ℕ) × IsEdge game v w × IsServedBy m.bounds (game_line game) m.measures v w
 some_edge_serves game m closed v lt e =
     let line : Line = line_at (game_line game) v in
-    let is : line ≡ vertex_line (vertex_at game v) = line_is game v in
+    let is : line ≡ vertex_line (vertex_at game v) = game_line_at game v in
     let any = some_served line.owner (IsServedBy m.bounds (game_line game) m.measures v) line.successors (ap Line.owner is ∙ e)
-    (closed v (in_line game v lt)) in
+    (closed v (game_line_some game v lt)) in
     (any.1, subst (λ ws. Contains ws any.1) (ap Line.successors is) (any.0, any.2, any.3), any.4)
 
 pub each_edge_serves : (game : List GameVertex) (m : MapValue) → IsClosed m.bounds (game_line game) m.measures → (v w : ℕ) → v < length game
     → owner game v ≡ Odd → IsEdge game v w → IsServedBy m.bounds (game_line game) m.measures v w
 each_edge_serves game m closed v w lt e edge =
     let line : Line = line_at (game_line game) v in
-    let is : line ≡ vertex_line (vertex_at game v) = line_is game v in
+    let is : line ≡ vertex_line (vertex_at game v) = game_line_at game v in
     let all = all_served line.owner (IsServedBy m.bounds (game_line game) m.measures v) line.successors (ap Line.owner is ∙ e)
-    (closed v (in_line game v lt)) in
+    (closed v (game_line_some game v lt)) in
     let edge' : Contains line.successors w = subst (λ ws. Contains ws w) (sym (ap Line.successors is)) edge in
     subst (λ u. IsServedBy m.bounds (game_line game) m.measures v u) edge'.2 (all edge'.0 w edge'.1)
 
@@ -270,48 +214,16 @@ certifies_from_closed game f g solution is_game closed is v lt = record { listed
 
 -- no vertex has two lists
 
-count_everything : (play : ℕ → ℕ) (from count : ℕ) → count_by (λ _. true) (stretch play from count) ≡ count
-count_everything play from zero = refl
-count_everything play from (suc count) =
-    let e = count_everything play (from + 1) count in
-    rw (count-cons (λ _. true) (play from) (stretch play (from + 1) count)) (omega (arith, e))
-
-greatest_of : (x : ℕ) (xs : List ℕ) → (p : ℕ) × IsGreatest p (x ∷ xs)
-greatest_of x [] = (x, record { occurs = (0, omega arith, refl); above_all = All-cons (λ q. q ≤ x) x [] (omega arith) (All-nil (λ q. q ≤ x)) })
-greatest_of x (y ∷ ys) = go (greatest_of y ys)
-  where
-    weaker : (p q : ℕ) → p ≤ q → (zs : List ℕ) → All (λ z. z ≤ p) zs → All (λ z. z ≤ q) zs
-    weaker p q le zs h k d lt = let here : get_or zs k d ≤ p = h k d lt in omega arith
-
-    go : (p : ℕ) × IsGreatest p (y ∷ ys) → (p : ℕ) × IsGreatest p (x ∷ y ∷ ys)
-    go (p, g) = elim (cases_lt p x) [
-      | inl lt ↦ (
-        x,
-        record {
-          occurs = (0, omega arith, refl);
-          above_all = All-cons (λ q. q ≤ x) x (y ∷ ys) (omega arith) (weaker p x (omega arith) (y ∷ ys) g.above_all);
-        },
-      )
-      | inr le ↦ (
-        p,
-        record {
-          occurs = (suc g.occurs.0, (let l : g.occurs.0 < length (y ∷ ys) = g.occurs.1 in omega arith), g.occurs.2);
-          above_all = All-cons (λ q. q ≤ p) x (y ∷ ys) le g.above_all;
-        },
-      )
-    ]
-
 module _ (game : List GameVertex) (f g : MapValue) (is_game : IsGame game) (closed : AreClosed game f g) where
   pub record HasBoth (v : ℕ) : Type 0 where
     pub within : v < length game
     pub lists : (player : Player) → HasList player f g v
 
-  abbrev BothFall : ℕ → ℕ → Type 0
-  BothFall v w = (player : Player) → FallsFor player game f g v w
-
-  next_both : (v : ℕ) → HasBoth v → (w : ℕ) × BothFall v w × HasBoth w
-  next_both v d =
-      let lt = d.within in
+  -- whoever owns the vertex, one edge serves it in both maps
+  serve : (v : ℕ) → v < length game → (w : ℕ) × (w < length game)
+      × Covers f.bounds (priority game v) (measure_at f.measures v) (measure_at f.measures w)
+      × Covers g.bounds (priority game v + 1) (measure_at g.measures v) (measure_at g.measures w)
+  serve v lt =
       let c = closed_some (owner game v) game f g closed v lt refl in
       let w = c.0 in
       let each : (player : Player) → IsServedFor player game f g v w = λ player.
@@ -321,54 +233,13 @@ module _ (game : List GameVertex) (f g : MapValue) (is_game : IsGame game) (clos
       ]
       in (
         w,
-        (λ player. (served_falls player game f g v w (d.lists player) (each player)).1),
-        record {
-          within = is_game.in_range v w c.1;
-          lists = λ player. (served_falls player game f g v w (d.lists player) (each player)).0;
-        },
+        is_game.in_range v w c.1,
+        subst (λ p. Covers f.bounds p (measure_at f.measures v) (measure_at f.measures w)) (ap Line.priority (game_line_at game v)) (each Even),
+        subst (λ p. Covers g.bounds p (measure_at g.measures v) (measure_at g.measures w))
+            (ap Line.priority (game_line_at (dual game) v) ∙ priority_dual game v lt) (each Odd),
       )
 
-  no_cycle : (v : ℕ) (rest : List ℕ) → All (λ u. u < length game) (v ∷ rest) → IsPath BothFall v (rest ++ v ∷ []) → ⊥
-  no_cycle v rest within h =
-      let m = greatest_of (priority game v) (map (priority game) rest) in
-      let lost : (player : Player) → HasParityOf (opponent player) m.0 → ⊥ = λ player parity.
-      no_lost_cycle player game f g v rest m.0 within
-      (path_map BothFall (FallsFor player game f g) (λ _. Unit {0}) (λ v w q s. (s player, tt)) v (rest ++ v ∷ []) tt h)
-      m.1 parity
-      in elim (parity_of m.0) [ inl even ↦ lost Odd even | inr odd ↦ lost Even odd ]
-
   pub no_both : (v : ℕ) → HasBoth v → ⊥
-  no_both v d = done
-    where
-      trace : ℕ → (u : ℕ) × HasBoth u
-      trace zero = (v, d)
-      trace (suc t) = let n = next_both (trace t).0 (trace t).1 in (n.0, n.2)
-
-      play : ℕ → ℕ
-      play t = (trace t).0
-
-      falls : IsPlay BothFall play
-      falls t = subst (λ s. BothFall (play t) (play s)) (sym (add-one t)) (next_both (trace t).0 (trace t).1).1
-
-      part : List ℕ
-      part = stretch play 0 (suc (length game))
-
-      within : All (λ u. u < length game) part
-      within = all_stretch (λ u. u < length game) play 0 (suc (length game)) (λ s le. (trace s).1.within)
-
-      way : IsWay BothFall part
-      way = stretch_path BothFall play falls 0 (length game)
-
-      done : ⊥
-      done = elim (repeat_or_few (length game) (λ _. true) part within) [
-        | inl r ↦
-            let cycle = r.twice ∷ (r.between ++ r.twice ∷ r.after) in
-            let inside : All (λ u. u < length game) cycle =
-            all_later (λ u. u < length game) r.before cycle (subst (All (λ u. u < length game)) r.splits within)
-            in no_cycle r.twice r.between (all_front (λ u. u < length game) (r.twice ∷ r.between) (r.twice ∷ r.after) inside)
-            (path_upto BothFall r.twice r.between r.twice r.after
-            (way_later BothFall r.before cycle (subst (IsWay BothFall) r.splits way)))
-        | inr le ↦
-            let e = count_everything play 0 (suc (length game)) in
-            omega (arith, le, e)
-      ]
+  no_both v d =
+      none_both f.bounds g.bounds (priority game) f.measures g.measures (length game) (λ u. u < length game) (λ u lt. lt) serve v
+      (record { held = d.within; first = d.lists Even; second = d.lists Odd })

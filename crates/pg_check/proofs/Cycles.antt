@@ -9,15 +9,11 @@ use Rattle.pg_arena.specs.Games.{GameVertex, IsGame, IsEdge, IsPath, HasParityOf
 use Rattle.pg_text.specs.declared.answer.Answer.{Answer}
 use Rattle.pg_text.specs.Solutions.{winner, loser}
 use Rattle.pg_check.specs.Soundness.{Counts, IsSound, NoneLeaves, IsSafe, IsBadCycle}
-use Rattle.pg_check.proofs.Paths.{IsWay, way_part, way_later, path_keeps, path_upto, path_join, all_front, all_later, all_part, Repeat, repeat_or_few}
+use Rattle.pg_map.proofs.Paths.{IsWay, way_part, way_later, path_keeps, path_upto, path_join, all_front, all_later, all_part, Repeat, repeat_or_few}
+use Rattle.pg_map.proofs.Falls.{all_unmap}
 
 pub count-cons : (test : ℕ → Bool) (x : ℕ) (xs : List ℕ) → count_by test (x ∷ xs) ≡ cond (test x) 1 0 + count_by test xs
 count-cons test x xs = sum_by-cons (λ y. cond (test y) 1 0) x xs
-
-pub all_unmap : (f : ℕ → ℕ) (P : ℕ → Type 0) (xs : List ℕ) → All P (map f xs) → All (λ x. P (f x)) xs
-all_unmap f P [] h = All-nil (λ x. P (f x))
-all_unmap f P (x ∷ xs) h =
-    All-cons (λ y. P (f y)) x xs (All-head P (f x) (map f xs) h) (all_unmap f P xs (All-tail P (f x) (map f xs) h))
 
 -- a priority that occurs is met at least once
 pub met_once : (f : ℕ → ℕ) (p : ℕ) (xs : List ℕ) (k : ℕ) → k < length (map f xs) → get_or (map f xs) k p ≡ p

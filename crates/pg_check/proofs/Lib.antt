@@ -1,5 +1,4 @@
 pub mod Recurring
-pub mod Paths
 pub mod Cycles
 pub mod Wins
 pub mod Leaving
@@ -7,7 +6,6 @@ pub mod Searches
 pub mod Trails
 pub mod Sifting
 pub mod Checking
-pub mod Falls
 pub mod Certified
 pub mod Chosen
 pub mod Halved

@@ -6,25 +6,24 @@ use Rattle.std.proofs.lemmas.Bool.{eqb-true}
 use Rattle.std.proofs.lemmas.List.Elements.{All-map, Contains-get_or}
 use Rattle.pg_arena.specs.declared.player.Player.{Player}
 use Rattle.pg_arena.specs.declared.player.Player.TheVariants.{Even, Odd}
-use Rattle.pg_arena.specs.Games.{GameVertex, IsGame, priority, owner, successors}
+use Rattle.pg_arena.specs.Games.{GameVertex, IsGame, priority, owner, successors, IsGreatest}
 use Rattle.pg_map.specs.Lines.{game_line}
 use Rattle.pg_map.specs.Maps.{MapValue, measure_at, IsServedBy, IsClosed}
 use Rattle.pg_check.specs.Plays.{IsPlay, WinsPlay, stretch}
-use Rattle.pg_arena.specs.Games.{IsGreatest}
 use Rattle.pg_check.specs.Soundness.{KeepsCount}
 use Rattle.pg_check.specs.Strategies.{GoesServed, ListsWin}
-use Rattle.pg_check.proofs.Paths.{IsWay, way_later, path_upto, all_front, all_later, Repeat, repeat_or_few}
-use Rattle.pg_check.proofs.Cycles.{all_unmap, edge_from}
+use Rattle.pg_map.proofs.Paths.{IsWay, way_later, path_upto, all_front, all_later, Repeat, repeat_or_few}
+use Rattle.pg_check.proofs.Cycles.{edge_from}
 use Rattle.pg_check.proofs.Wins.{all_stretch, stretch_path, play_keeps, not_lost}
-use Rattle.pg_check.proofs.Falls.{Falls, no_odd_cycle}
-use Rattle.pg_check.proofs.Certified.{lists, map_falls, some_edge_serves, each_edge_serves}
+use Rattle.pg_map.proofs.Falls.{Falls, all_unmap, lists, no_odd_cycle}
+use Rattle.pg_check.proofs.Certified.{map_falls, some_edge_serves, each_edge_serves}
 
 module _ (game : List GameVertex) (f : MapValue) (is_game : IsGame game) (closed : IsClosed f.bounds (game_line game) f.measures) where
   abbrev pub HasListAt : ℕ → Type 0
   HasListAt v = IsSome (measure_at f.measures v)
 
   abbrev pub FallsHere : ℕ → ℕ → Type 0
-  FallsHere = Falls f.bounds (priority game) (lists f)
+  FallsHere = Falls f.bounds (priority game) (lists f.measures)
 
   -- whoever owns the vertex, the edge serves it
   serves : (v w : ℕ) → GoesServed game f v w → IsServedBy f.bounds (game_line game) f.measures v w
@@ -66,7 +65,7 @@ module _ (game : List GameVertex) (f : MapValue) (is_game : IsGame game) (closed
           above_all = All-map (λ q. q ≤ p) (priority game) (r.twice ∷ r.between)
               (all_front (λ x. priority game x ≤ p) (r.twice ∷ r.between) (r.twice ∷ r.after) above_cycle);
         } in
-        no_odd_cycle f.bounds (priority game) (lists f) r.twice r.between p
+        no_odd_cycle f.bounds (priority game) (lists f.measures) r.twice r.between p
         (path_upto FallsHere r.twice r.between r.twice r.after (way_later FallsHere r.before cycle (subst (IsWay FallsHere) r.splits way)))
         greatest odd
 

@@ -9,7 +9,8 @@ use Rattle.pg_text.specs.Solutions.{winner, IsSolution}
 use Rattle.pg_check.specs.Plays.{IsPlay, Loses}
 use Rattle.pg_check.specs.Soundness.{Counts, IsBadCycle, NoneLeaves, Wins}
 use Rattle.pg_check.specs.Laws.{SoundIffWins}
-use Rattle.pg_check.proofs.Cycles.{all_unmap, edge_from, sound_from_safe}
+use Rattle.pg_map.proofs.Falls.{all_unmap}
+use Rattle.pg_check.proofs.Cycles.{edge_from, sound_from_safe}
 use Rattle.pg_check.proofs.Wins.{wins, player_cases}
 
 -- along a cycle for ever

@@ -1,5 +1,5 @@
 -- Sound solutions: which edges a solution lets count, which paths and cycles speak against it, and who wins by it.
-use Rattle.std.specs.Prelude.{◌≡◌, ℕ, ◌<◌, ◌≤◌, ◌==◌, ◌⊎◌, List, [], ◌∷◌, ◌++◌, Some, length, map, All, Contains, count_by}
+use Rattle.std.specs.Prelude.{◌≡◌, ℕ, ◌<◌, ◌≤◌, ◌==◌, ◌⊎◌, List, [], ◌∷◌, ◌++◌, Some, length, map, All, count_by}
 use Rattle.pg_arena.specs.declared.player.Player.{Player}
 use Rattle.pg_arena.specs.Games.{opponent, HasParityOf, GameVertex, priority, owner, IsEdge, IsPath, IsGreatest}
 use Rattle.pg_text.specs.declared.answer.Answer.{Answer}

@@ -9,12 +9,11 @@ ghost use Rattle.pg_check.specs.declared.fault.CheckFault.TheVariants.{OutOfMemo
 ghost use Rattle.pg_check.specs.Strategies.{IsCertifiedBy, Certifies};
 
 use crate::checker::check;
-use crate::dual::Dual;
 use crate::edges::counted;
 use crate::fault::CheckFault;
 use crate::verdict::Verdict;
 use pg_arena::{Game, Player, Vertex};
-use pg_map::{Lines, MeasureMap, View};
+use pg_map::{Dual, Lines, MeasureMap, View};
 use pg_text::Solution;
 use std::alloc::Global;
 
@@ -30,7 +29,7 @@ pub fn certifies(game: &Game, solution: &Solution, even: &MeasureMap, odd: &Meas
     ensures sound { IsTrue result → IsSound game.now solution.now }
 {
     let count = game.len() as u32;
-    let dual = Dual { game };
+    let dual = Dual::of(game);
     for number in 0..count {
         let v = Vertex(number);
         let is_certified = match solution.winner(v) {

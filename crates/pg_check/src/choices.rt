@@ -10,10 +10,9 @@ ghost use Rattle.pg_check.specs.Strategies.{AreClosed, IsSolutionOf, StrategiesF
 ghost use Rattle.pg_check.specs.Halves.{IsHalfOf, ForEachMapOf};
 ghost use Rattle.pg_check.specs.declared.fault.CheckFault.{CheckFault};
 
-use crate::dual::Dual;
 use crate::fault::CheckFault;
 use pg_arena::{Game, Player, Vertex};
-use pg_map::{Lines, MeasureMap, View};
+use pg_map::{Dual, Lines, MeasureMap, View};
 use pg_text::Solution;
 use std::alloc::{AllocError, Global};
 
@@ -77,7 +76,7 @@ pub fn with_odd_half(game: &Game, half: Solution, odd: &MeasureMap) -> Result<So
         (λ fault. ForEachMapOf game.now half odd.now (λ f. StrategiesFail game.now f odd.now fault)) }
     ensures memory { IfErr result (λ fault. fault ≢ CheckFault.OutOfMemory) }
 {
-    let dual = Dual { game };
+    let dual = Dual::of(game);
     let mut solution = half;
     for number in 0..game.len() as u32 {
         let v = Vertex(number);

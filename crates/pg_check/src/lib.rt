@@ -7,7 +7,6 @@ mod checker;
 mod choices;
 mod components;
 mod cycle;
-mod dual;
 mod edges;
 mod fault;
 pub mod laws;

@@ -9,7 +9,7 @@ use Rattle.std.proofs.lemmas.List.Elements.{All-cons}
 use Rattle.pg_arena.specs.Games.{GameVertex, IsGame, IsEdge, IsPath, successors, nowhere}
 use Rattle.pg_text.specs.declared.answer.Answer.{Answer}
 use Rattle.pg_check.specs.Soundness.{Counts, IsBadCycle}
-use Rattle.pg_check.proofs.Paths.{path_front}
+use Rattle.pg_map.proofs.Paths.{path_front}
 use Rattle.pg_check.specs.Verdicts.{Refutes, IsSimpleBadCycle}
 use Rattle.pg_check.specs.declared.verdict.Verdict.{Verdict}
 use Rattle.pg_check.specs.declared.verdict.Verdict.TheVariants.{Wins, Leaves, BadCycle}

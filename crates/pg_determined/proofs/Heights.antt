@@ -18,13 +18,12 @@ use Rattle.pg_measure.proofs.Widths.{width_none, width_in}
 use Rattle.pg_measure.proofs.OneList.{falls_after}
 use Rattle.pg_map.specs.Lines.{Line, game_line}
 use Rattle.pg_map.specs.Maps.{IsMap, IsClosed, SomeOrAll, measure_at}
-use Rattle.pg_map.proofs.GameLines.{game_line_below}
+use Rattle.pg_map.proofs.GameLines.{game_line_at, game_line_below}
+use Rattle.pg_map.proofs.Paths.{path_keeps, repeat_or_distinct, Repeat}
 use Rattle.pg_check.specs.Soundness.{Counts, IsSafe, meetings}
 use Rattle.pg_check.proofs.Recurring.{not_not_decided}
-use Rattle.pg_check.proofs.Paths.{path_keeps, repeat_or_distinct, Repeat}
 use Rattle.pg_check.proofs.Cycles.{count-cons, edge_from, cycle_from_repeat, bad_cycle_from}
 use Rattle.pg_check.proofs.Wins.{player_cases}
-use Rattle.pg_check.proofs.Certified.{line_is}
 use Rattle.pg_determined.proofs.Places.{few_places, some_place}
 
 -- under a double negation, the greatest of numbers up to a bound, and a list of what each number below n has
@@ -273,7 +272,7 @@ module _ (game : List GameVertex) (solution : List Answer) where
       closed : IsClosed bounds (game_line game) h
       closed v some =
           let lt = game_line_below game v some in
-          subst (λ (l : Line). SomeOrAll l.owner (λ w. Covers bounds l.priority (measure_at h v) (measure_at h w)) l.successors) (sym (line_is game v))
+          subst (λ (l : Line). SomeOrAll l.owner (λ w. Covers bounds l.priority (measure_at h v) (measure_at h w)) l.successors) (sym (game_line_at game v))
           (serves v (owner game v) lt refl (player_cases (winner solution v) Even))
 
       is_map : IsMap bounds (length game) h

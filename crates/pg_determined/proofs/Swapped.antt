@@ -10,10 +10,11 @@ use Rattle.pg_arena.specs.Lemmas.Duals.{length_dual, successors_dual, priority_d
 use Rattle.pg_text.specs.declared.answer.Answer.{Answer}
 use Rattle.pg_text.specs.Solutions.{unanswered, answer_at, winner, loser, choice, IsSolution}
 use Rattle.pg_check.specs.Soundness.{Counts, NoneLeaves, IsSafe, IsBadCycle}
-use Rattle.pg_check.proofs.Paths.{path_keeps, all_front}
-use Rattle.pg_check.proofs.Cycles.{all_unmap, edge_from}
+use Rattle.pg_map.proofs.Paths.{path_keeps, all_front}
+use Rattle.pg_map.proofs.Falls.{all_unmap}
+use Rattle.pg_check.proofs.Cycles.{edge_from}
 use Rattle.pg_check.proofs.Wins.{opponent_twice}
-use Rattle.pg_check.proofs.Certified.{path_map}
+use Rattle.pg_map.proofs.Rounds.{path_map}
 
 abbrev pub swapped_answer : Answer → Answer
 swapped_answer a = record a { winner = opponent a.winner }

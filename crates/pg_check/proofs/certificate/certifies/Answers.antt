@@ -1,8 +1,10 @@
 use Rattle.std.proofs.Common.{◌≡◌, inl, inr, arith, sym, subst, ◌∙◌}
 use Rattle.std.proofs.lemmas.Bool.{cases_lt}
 use Rattle.pg_arena.specs.declared.player.Player.TheVariants.{Even, Odd}
+use Rattle.pg_arena.specs.Games.{dual}
 use Rattle.pg_text.specs.Solutions.{winner}
-use Rattle.pg_check.specs.Strategies.{IsCertifiedFor}
+use Rattle.pg_map.specs.Lines.{game_line}
+use Rattle.pg_check.specs.Strategies.{IsCertifiedBy, IsCertifiedFor}
 use Rattle.pg_check.proofs.Certified.{sound_from_certificate}
 use Rattle.pg_check.proofs.certificate.certifies.Goals.{in-Even, in-Odd}
 use Rattle.pg_check.proofs.certificate.certifies.Goals as goal
@@ -21,7 +23,8 @@ loop-number-preserved c v lt = elim (cases_lt v c.loop-number.number) [
         | in-Odd w ↦
             let won : Odd ≡ winner c.args.solution.now c.loop-number.number = let e = w.in-Odd.is in cc in
             subst (λ p. IsCertifiedFor p c.args.game.now c.args.even.now c.args.odd.now c.args.solution.now c.loop-number.number) won
-            (w.is_certified_by-is_certified-in-Odd.ensures.0 (sym w.is_certified-is ∙ c.if-not-is_certified.false))
+            (subst (λ game. IsCertifiedBy c.args.odd.now.bounds (game_line (dual game)) c.args.odd.now.measures c.args.game.now c.args.solution.now c.loop-number.number)
+            c.of-dual.ensures (w.is_certified_by-is_certified-in-Odd.ensures.0 (sym w.is_certified-is ∙ c.if-not-is_certified.false)))
       ])
 ]
 

@@ -1,6 +1,13 @@
-use Rattle.std.proofs.Common.{◌<◌, length, IsSome, arith, sym, subst, refl, ◌∙◌}
+use Rattle.std.proofs.Common.{ℕ, ◌<◌, length, IsSome, arith, sym, subst, refl, ◌∙◌}
+use Rattle.std.specs.List.{Contains}
+use Rattle.std.specs.List.Sorted.{IsStrictlyIncreasing}
+use Rattle.std.specs.Option.{IfSome, IfNone}
 use Rattle.pg_arena.specs.declared.player.Player.TheVariants.{Even, Odd}
+use Rattle.pg_arena.specs.Games.{dual}
 use Rattle.pg_text.specs.Solutions.{answer_at}
+use Rattle.pg_map.specs.Lines.{game_line, line_at, AreWithin}
+use Rattle.pg_map.specs.Maps.{IsServedBy}
+use Rattle.pg_check.specs.Strategies.{IsFirstServing}
 use Rattle.pg_check.proofs.Certified.{has_line, certifies_from_closed, sound_from_certificate}
 use Rattle.pg_check.proofs.Chosen.{lines_within, lines_rise, answer_with, is_solution}
 use Rattle.pg_check.proofs.Halved.{stands_for_even, stands_for_odd, still_won, filled_same, filled_with, solution_from_filled, least_from_filled}
@@ -13,15 +20,19 @@ returns-in-Odd-Top-default-clause-fault c =
     c.loop-number.invariant (sym c.winner.ensures ∙ c.in-Odd-Top-default.is-0) (sym c.in-Odd-Top-default.ensures'.value) c.identifier.ensures
 
 pub first_serving-requires-clause-held : goal.first_serving-requires-clause-held
-first_serving-requires-clause-held c = has_line Odd c.args.game.now c.loop-number.number (omega arith)
+first_serving-requires-clause-held c =
+    subst (λ game. IsSome (game_line (dual game) c.loop-number.number)) (sym c.of-dual.ensures)
+    (has_line Odd c.args.game.now c.loop-number.number (omega arith))
 
 pub first_serving-requires-clause-within : goal.first_serving-requires-clause-within
 first_serving-requires-clause-within c =
-    lines_within Odd c.args.game.now (length c.args.odd.now.measures) c.len-number-end.ensures.game c.requires.odd_size
+    subst (λ game. AreWithin (length c.args.odd.now.measures) (game_line (dual game))) (sym c.of-dual.ensures)
+    (lines_within Odd c.args.game.now (length c.args.odd.now.measures) c.len-number-end.ensures.game c.requires.odd_size)
 
 pub first_serving-requires-clause-rising : goal.first_serving-requires-clause-rising
 first_serving-requires-clause-rising c =
-    lines_rise Odd c.args.game.now c.len-number-end.ensures.game c.loop-number.number (omega arith)
+    subst (λ game. IsStrictlyIncreasing (line_at (game_line (dual game)) c.loop-number.number).successors) (sym c.of-dual.ensures)
+    (lines_rise Odd c.args.game.now c.len-number-end.ensures.game c.loop-number.number (omega arith))
 
 pub loop-number-preserved : goal.loop-number-preserved
 loop-number-preserved c =
@@ -46,7 +57,10 @@ loop-number-preserved c =
       | in-Odd-List-Odd w ↦
           filled_with game half g before c.match-winner.solution v w.first_serving.result lt c.loop-number.invariant (w.solution-is ∙ w.set.ensures)
           (λ f is_half closed. answer_with game f g is_game closed v lt Odd (subst IsSome w.in-Odd-List-Odd.ensures'.value refl)
-          (sym c.owner.ensures ∙ w.in-Odd-List-Odd.is-2) w.first_serving.result w.first_serving.ensures.first w.first_serving.ensures.none)
+          (sym c.owner.ensures ∙ w.in-Odd-List-Odd.is-2) w.first_serving.result
+          (subst (λ game. IfSome w.first_serving.result (IsFirstServing g.bounds (game_line (dual game)) g.measures v)) c.of-dual.ensures w.first_serving.ensures.first)
+          (subst (λ game. IfNone w.first_serving.result ((u : ℕ) → Contains (line_at (game_line (dual game)) v).successors u
+          → ¬ IsServedBy g.bounds (game_line (dual game)) g.measures v u)) c.of-dual.ensures w.first_serving.ensures.none))
     ]
 
 pub returns-clause-choices : goal.returns-clause-choices
