@@ -1,9 +1,10 @@
-//! Games that are solved in one piece: a game and its dual are lifted in turns, with jumps, and what one side has settled helps
-//! the other.
+//! Games that are solved in one piece: a game and its dual are lifted in turns, with jumps, and what one side has settled is
+//! top on the other.
 #![tactic(auto)]
 
 mod part;
 mod side;
 mod solver;
+mod turns;
 
-pub use solver::{measure, solve};
+pub use solver::{Measures, measure, solve};

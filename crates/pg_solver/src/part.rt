@@ -1,19 +1,27 @@
-//! What one side has settled.
+//! What one side of a game has settled.
+
+ghost use Rattle.std.specs.Prelude.{◌≡◌, ℕ, ◌<◌, List, None, length, OnOk};
+ghost use Rattle.pg_measure.specs.Measures.{MeasureValue};
+ghost use Rattle.pg_map.specs.Lines.{AreWithin};
+ghost use Rattle.pg_map.specs.Maps.{measure_at, IsClosed};
+ghost use Rattle.pg_jump.specs.Parts.{IsIn};
+ghost use Rattle.pg_solver.specs.Mirrors.Sides.{IsSide, AreEdgesOf, AreOpposite};
 
 use crate::side::Side;
 use pg_arena::{Player, Vertex};
 use pg_jump::is_closed_part;
-use pg_lift::{Edges, take};
+use pg_lift::Edges;
 use pg_map::{Lines, MeasureMap, View};
 use std::alloc::{AllocError, Global};
 
-/// A set of vertices that one side may have settled, as a table, and what is kept to find it.
+/// A set of vertices that one side may have settled, as a table, and what is kept to find it. Nothing is promised of the set: it
+/// is looked at before it is believed.
 #[derive(Drop)]
 pub(crate) struct Part {
     is_in: Vec<bool>,
-    /// Of each vertex of the set how many successors serve it in the set.
+    /// Of each vertex how many successors serve it in the set.
     serving: Vec<u32>,
-    /// Vertices that were taken out, while their predecessors weren't looked at.
+    /// Vertices that were taken out, whose predecessors weren't looked at.
     out: Vec<Vertex>,
 }
 
@@ -27,7 +35,7 @@ impl Part {
         }
     }
 
-    /// All vertices with lists.
+    /// Begins with all vertices that have lists.
     fn take_lists(&mut self, map: &MeasureMap) -> Result<(), AllocError> {
         self.is_in.clear();
         for number in 0..map.len() {
@@ -37,7 +45,7 @@ impl Part {
         Ok(())
     }
 
-    /// Takes a vertex out.
+    /// Takes a vertex out of the set, if it is in.
     fn take_out(&mut self, v: Vertex) -> Result<(), AllocError> {
         let at = v.0 as usize;
         if at < self.is_in.len() && self.is_in[at] {
@@ -48,69 +56,64 @@ impl Part {
     }
 
     /// Counts for each vertex the successors that serve it, and takes out those that aren't served.
-    fn count<G: Lines>(&mut self, map: &MeasureMap, lines: &G) -> Result<(), AllocError> {
+    fn count<G: Lines>(&mut self, map: &MeasureMap, lines: &G) -> Result<(), AllocError>
+        requires { AreWithin (length map.now.measures) (G.line lines.now) }
+    {
         self.serving.clear();
         self.out.clear();
         for number in 0..map.len() {
             let v = Vertex(number);
-            let mut serving = 0u32;
-            let mut is_served = false;
-            if lines.holds(v) {
-                let successors = lines.successors(v);
-                for w in successors {
-                    if map.serves(lines, v, *w) {
-                        serving = serving.saturating_add(1);
-                    }
-                }
-                is_served = match lines.owner(v) {
-                    Player::Even => serving > 0,
-                    Player::Odd => serving as usize == successors.len(),
-                };
-            }
+            let serving = count_serving(map, lines, v);
             self.serving.push(serving)?;
-            if !is_served {
+            if serving == 0 || !lines.holds(v) || is_short(lines, v, serving) {
                 self.take_out(v)?;
             }
         }
         Ok(())
     }
 
-    /// Takes out of the set what isn't served inside, until nothing is left of it.
+    /// Takes out of the set what isn't served within, until nothing is left of that.
     fn shrink<G: Lines>(
         &mut self,
         map: &MeasureMap,
         lines: &G,
         edges: &Edges,
-    ) -> Result<(), AllocError> {
+    ) -> Result<(), AllocError>
+        requires { AreEdgesOf (G.line lines.now) (length map.now.measures) edges.now }
+    {
         self.count(map, lines)?;
         for _ in 0..u64::MAX {
             let Some(w) = self.out.pop() else {
                 break;
             };
-            for u in edges.to(w) {
-                self.lose(map, lines, *u, w)?;
+            if w.0 < map.len() {
+                for u in edges.to(w) {
+                    self.lose(map, lines, *u, w)?;
+                }
             }
         }
         Ok(())
     }
 
-    /// The vertex u lost its successor w.
+    /// Looks at the vertex u, whose successor w was taken out.
     fn lose<G: Lines>(
         &mut self,
         map: &MeasureMap,
         lines: &G,
         u: Vertex,
         w: Vertex,
-    ) -> Result<(), AllocError> {
+    ) -> Result<(), AllocError>
+        requires within { AreWithin (length map.now.measures) (G.line lines.now) }
+        requires w { w < length map.now.measures }
+    {
         let at = u.0 as usize;
         if at >= self.serving.len() || !lines.holds(u) {
             return Ok(());
         }
         if let Player::Even = lines.owner(u) {
-            if !map.serves(lines, u, w) {
-                return Ok(());
+            if map.serves(lines, u, w) {
+                self.serving[at] = self.serving[at].saturating_sub(1);
             }
-            self.serving[at] = self.serving[at].saturating_sub(1);
             if self.serving[at] > 0 {
                 return Ok(());
             }
@@ -118,7 +121,8 @@ impl Part {
         self.take_out(u)
     }
 
-    /// Raises what one side has settled to top on the other side, and tells whether something rose there.
+    /// Raises what one side has settled to top on the other side: all its lists where it is quiet, and else the greatest part
+    /// in which each vertex is served. True exactly if something rose there.
     pub fn share<G: Lines, H: Lines>(
         &mut self,
         side: &Side,
@@ -126,30 +130,64 @@ impl Part {
         other: &mut Side,
         other_lines: &H,
         edges: &Edges,
-    ) -> Result<bool, AllocError> {
+    ) -> Result<bool, AllocError>
+        requires opposite { AreOpposite (G.line lines.now) (H.line other_lines.now) }
+        requires size { length other.old.map.measures ≡ length side.now.map.measures }
+        requires edges { AreEdgesOf (G.line lines.now) (length side.now.map.measures) edges.now }
+        requires other_edges { AreEdgesOf (H.line other_lines.now) (length other.old.map.measures) edges.now }
+        requires other { IsSide other.old.map.bounds (H.line other_lines.now) (length other.old.map.measures) other.old }
+        ensures other { OnOk result
+            (IsSide other.old.map.bounds (H.line other_lines.now) (length other.old.map.measures) other.new) }
+    {
+        pg_jump::laws::closed_part_is_top();
         self.take_lists(&side.map)?;
         if !side.is_quiet {
             self.shrink(&side.map, lines, edges)?;
         }
-        if !is_closed_part(&side.map, lines, &self.is_in) {
+        let part = self.is_in.as_slice();
+        if part.len() != side.map.len() as usize || !is_closed_part(&side.map, lines, part) {
             return Ok(false);
         }
-        let mut rose = false;
-        for number in 0..other.map.len() {
-            if self.is_in[number as usize] {
-                rose |= take(
-                    &mut other.map,
-                    other_lines,
-                    edges,
-                    &mut other.notes,
-                    Vertex(number),
-                    View::Top,
-                );
+        Ok(raise_part(other, other_lines, edges, part))
+    }
+}
+
+/// How many successors serve a vertex.
+fn count_serving<G: Lines>(map: &MeasureMap, lines: &G, v: Vertex) -> u32
+    requires { AreWithin (length map.now.measures) (G.line lines.now) }
+{
+    let mut serving = 0u32;
+    if lines.holds(v) {
+        for w in lines.successors(v) {
+            if map.serves(lines, v, *w) {
+                serving = serving.saturating_add(1);
             }
         }
-        if rose {
-            other.is_quiet = false;
-        }
-        Ok(rose)
     }
+    serving
+}
+
+/// Whether fewer successors serve a vertex of Odd than it has.
+fn is_short<G: Lines>(lines: &G, v: Vertex, serving: u32) -> bool {
+    lines.holds(v)
+        && lines.owner(v) == Player::Odd
+        && (serving as usize) < lines.successors(v).len()
+}
+
+/// Raises the vertices of a part to top. True exactly if one rose.
+fn raise_part<G: Lines>(side: &mut Side, lines: &G, edges: &Edges, part: &[bool]) -> bool
+    requires part { length part.now ≡ length side.old.map.measures }
+    requires edges { AreEdgesOf (G.line lines.now) (length side.old.map.measures) edges.now }
+    requires side { IsSide side.old.map.bounds (G.line lines.now) (length side.old.map.measures) side.old }
+    requires tops { (h : List MeasureValue) → IsClosed side.old.map.bounds (G.line lines.now) h
+        → (v : ℕ) → IsIn part.now v → measure_at h v ≡ None }
+    ensures side { IsSide side.old.map.bounds (G.line lines.now) (length side.old.map.measures) side.new }
+{
+    let mut rose = false;
+    for number in 0..side.map.len() {
+        if part[number as usize] {
+            rose |= side.raise_to_top(lines, edges, Vertex(number));
+        }
+    }
+    rose
 }

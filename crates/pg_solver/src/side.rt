@@ -1,34 +1,58 @@
 //! One side of a game: the game itself or its dual.
 
+ghost use Rattle.std.specs.Prelude.{◌≡◌, ◌<◌, List, None, true, length, IfOk, OnOk};
+ghost use Rattle.std.specs.Bool.{OnTrue, OnFalse};
+ghost use Rattle.pg_measure.specs.Measures.{MeasureValue};
+ghost use Rattle.pg_map.specs.Lines.{AreWithin};
+ghost use Rattle.pg_map.specs.Maps.{measure_at, IsClosed};
+ghost use Rattle.pg_map.specs.Weights.{map_weight};
+ghost use Rattle.pg_lift.specs.Mirrors.Notes.{AreNotes};
+ghost use Rattle.pg_solver.specs.Mirrors.Sides.{IsSide, AreEdgesOf};
+
+use pg_arena::Vertex;
 use pg_jump::Jumps;
-use pg_lift::{Edges, Notes, is_quiet, lift_ready, look_at_all, next_ready, note_all};
-use pg_map::{Lines, MeasureMap};
+use pg_lift::{Edges, Notes, is_quiet, lift_ready, look_at_all, next_ready, note_all, take};
+use pg_map::{Lines, MeasureMap, View};
 use pg_measure::Bounds;
 use std::alloc::{AllocError, Global};
 
-/// A map of some lines that is lifted, and what is remembered of its vertices.
+/// A map that is lifted, and what is remembered of its vertices.
 #[derive(Drop)]
 pub(crate) struct Side {
     pub map: MeasureMap,
     pub notes: Notes,
     /// How many lifts were made.
     pub lifts: u64,
-    /// Whether no vertex can be lifted.
+    /// Whether it is known that no vertex can be lifted.
     pub is_quiet: bool,
 }
 
+/// Notes of all lines.
+fn notes_of<G: Lines>(alloc: Global, lines: &G, vertices: u32) -> Result<Notes, AllocError>
+    requires some { 0 < vertices }
+    requires within { AreWithin vertices (G.line lines.now) }
+    ensures notes { IfOk result (AreNotes vertices (G.line lines.now)) }
+{
+    let mut notes = Notes::new(alloc, vertices)?;
+    notes.reserve(0, vertices - 1)?;
+    note_all(lines, vertices, &mut notes);
+    Ok(notes)
+}
+
 impl Side {
-    /// The zero map, with each vertex looked at.
+    /// The zero map of the bounds, with each vertex looked at.
     pub fn new<G: Lines>(
         alloc: Global,
         lines: &G,
         vertices: u32,
         bounds: &Bounds,
-    ) -> Result<Side, AllocError> {
+    ) -> Result<Side, AllocError>
+        requires some { 0 < vertices }
+        requires within { AreWithin vertices (G.line lines.now) }
+        ensures side { IfOk result (IsSide bounds.now (G.line lines.now) vertices) }
+    {
         let map = MeasureMap::zero(alloc, vertices, bounds)?;
-        let mut notes = Notes::new(alloc, vertices)?;
-        notes.reserve(0, vertices - 1)?;
-        note_all(lines, vertices, &mut notes);
+        let mut notes = notes_of(alloc, lines, vertices)?;
         look_at_all(&map, lines, &mut notes);
         let is_quiet = is_quiet(&map, lines, &mut notes);
         Ok(Side {
@@ -39,27 +63,89 @@ impl Side {
         })
     }
 
-    /// Lifts until no vertex can be lifted, but stops after `most` lifts.
+    /// Lifts a vertex, and tries to jump from it if it was lifted often. False where no vertex can be lifted.
+    fn lift_one<G: Lines>(
+        &mut self,
+        lines: &G,
+        edges: &Edges,
+        jumps: &mut Jumps,
+    ) -> Result<bool, AllocError>
+        requires edges { AreEdgesOf (G.line lines.now) (length self.old.map.measures) edges.now }
+        requires side { IsSide self.old.map.bounds (G.line lines.now) (length self.old.map.measures) self.old }
+        ensures side { OnOk result
+            (IsSide self.old.map.bounds (G.line lines.now) (length self.old.map.measures) self.new) }
+        ensures quiet { IfOk result (λ lifted. OnFalse lifted (self.new.is_quiet ≡ true)) }
+        ensures weight { IfOk result (λ lifted. OnTrue lifted
+            (map_weight self.old.map.bounds self.new.map.measures
+            < map_weight self.old.map.bounds self.old.map.measures)) }
+    {
+        let Some(v) = next_ready(&self.map, lines, &mut self.notes) else {
+            self.is_quiet = true;
+            return Ok(false);
+        };
+        let is_often = lift_ready(&mut self.map, lines, edges, &mut self.notes, v);
+        self.lifts = self.lifts.saturating_add(1);
+        self.is_quiet = false;
+        if is_often {
+            jumps.jump(&mut self.map, lines, edges, &mut self.notes, v, self.lifts)?;
+            // asked for what its contract says of the map
+            let _vertices = self.map.len();
+        }
+        Ok(true)
+    }
+
+    /// Makes at most so many lifts.
     pub fn lift<G: Lines>(
         &mut self,
         lines: &G,
         edges: &Edges,
         jumps: &mut Jumps,
         most: u64,
-    ) -> Result<(), AllocError> {
-        let stop = self.lifts.saturating_add(most);
-        while let Some(v) = next_ready(&self.map, lines, &mut self.notes) {
-            if self.lifts >= stop {
-                self.notes.add(v);
-                return Ok(());
-            }
-            let often = lift_ready(&mut self.map, lines, edges, &mut self.notes, v);
-            self.lifts = self.lifts.saturating_add(1);
-            if often {
-                jumps.jump(&mut self.map, lines, edges, &mut self.notes, v, self.lifts)?;
+    ) -> Result<(), AllocError>
+        requires edges { AreEdgesOf (G.line lines.now) (length self.old.map.measures) edges.now }
+        requires side { IsSide self.old.map.bounds (G.line lines.now) (length self.old.map.measures) self.old }
+        ensures side { OnOk result
+            (IsSide self.old.map.bounds (G.line lines.now) (length self.old.map.measures) self.new) }
+    {
+        for _ in 0..most {
+            if !self.lift_one(lines, edges, jumps)? {
+                break;
             }
         }
-        self.is_quiet = true;
         Ok(())
+    }
+
+    /// Lifts until no vertex can be lifted.
+    pub fn lift_to_end<G: Lines>(
+        &mut self,
+        lines: &G,
+        edges: &Edges,
+        jumps: &mut Jumps,
+    ) -> Result<(), AllocError>
+        requires edges { AreEdgesOf (G.line lines.now) (length self.old.map.measures) edges.now }
+        requires side { IsSide self.old.map.bounds (G.line lines.now) (length self.old.map.measures) self.old }
+        ensures side { OnOk result
+            (IsSide self.old.map.bounds (G.line lines.now) (length self.old.map.measures) self.new) }
+        ensures quiet { OnOk result (self.new.is_quiet ≡ true) }
+    {
+        'lifts: while self.lift_one(lines, edges, jumps)? {}
+        Ok(())
+    }
+
+    /// Raises a vertex to top, where each closed map has top at it. True exactly if it rose.
+    pub fn raise_to_top<G: Lines>(&mut self, lines: &G, edges: &Edges, v: Vertex) -> bool
+        requires v { v < length self.old.map.measures }
+        requires edges { AreEdgesOf (G.line lines.now) (length self.old.map.measures) edges.now }
+        requires side { IsSide self.old.map.bounds (G.line lines.now) (length self.old.map.measures) self.old }
+        requires top { (h : List MeasureValue) → IsClosed self.old.map.bounds (G.line lines.now) h
+            → measure_at h v ≡ None }
+        ensures side { IsSide self.old.map.bounds (G.line lines.now) (length self.old.map.measures) self.new }
+    {
+        let map = &mut self.map;
+        let rose = take(map, lines, edges, &mut self.notes, v, View::Top);
+        if rose {
+            self.is_quiet = false;
+        }
+        rose
     }
 }

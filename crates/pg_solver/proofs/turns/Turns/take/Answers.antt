@@ -1,0 +1,1 @@
+use Rattle.pg_solver.proofs.turns.Turns.take.Goals as goal
