@@ -1,5 +1,5 @@
-"""Checks of the built programs that are no rows: random small games and schedules against the definitions, examples in the
-help, want of memory."""
+"""Checks of the built programs that are no rows: random small games and schedules against the definitions, hard games against
+plain lifting and a look at each edge, examples in the help, want of memory."""
 import os
 import random
 import re
@@ -8,6 +8,7 @@ import shutil
 import subprocess
 import tempfile
 
+import closed
 import controllers
 import naive
 
@@ -18,22 +19,45 @@ class Skipped(Exception):
     """What a check raises that can't be made here."""
 
 
-def random_game(dice, priorities=range(5)):
-    """A game of up to six vertices with identifiers that needn't be contiguous."""
-    identifiers = dice.sample(range(12), dice.randint(1, 6))
+def random_game(dice, priorities=range(5), most=6):
+    """A game of so many vertices at most, with identifiers that needn't be contiguous."""
+    identifiers = dice.sample(range(12), dice.randint(1, most))
     return {v: (dice.choice(priorities), dice.randint(0, 1), dice.sample(identifiers, dice.randint(1, min(3, len(identifiers)))))
             for v in identifiers}
 
 
-def answers_as_defined(program, command, text_of, count=150):
-    """The program's answers on random games, by random numbers of workers, are those of the definitions."""
+def hard_game(dice, count):
+    """A game of many priorities and few edges, to vertices nearby or anywhere, on which measures climb far."""
+    most, degree, is_local = dice.choice((count // 4, count // 2, count, 2 * count)), dice.randint(2, 3), dice.randint(0, 1)
+    return {v: (dice.randint(0, most), dice.randint(0, 1),
+                [(v + dice.randint(-4, 4)) % count if is_local else dice.randrange(count) for _ in range(dice.randint(1, degree))])
+            for v in range(count)}
+
+
+def answers_as_defined(program, command, text_of, make_game=random_game, count=150):
+    """The program's answers on random games, by random numbers of workers, are those of the definitions. A game of which there
+    is no such answer is left out, and counts for nothing."""
     dice = random.Random(1)
-    for _ in range(count):
-        game, workers = random_game(dice), dice.choice([[], ["--workers", str(dice.randint(0, 16))]])
+    while count > 0:
+        game, workers = make_game(dice), dice.choice([[], ["--workers", str(dice.randint(0, 16))]])
+        wanted = text_of(game)
+        if wanted is None:
+            continue
+        count -= 1
         ran = subprocess.run([program, command, *workers], input=naive.game_text(game).encode(), capture_output=True, timeout=60)
-        if ran.returncode != 0 or ran.stdout.decode() != text_of(game):
-            return f"{command} {workers} on {naive.game_text(game)!r}: {ran.stdout!r}, wanted {text_of(game)!r}"
+        if ran.returncode != 0 or ran.stdout.decode() != wanted:
+            return f"{command} {workers} on {naive.game_text(game)!r}: {ran.stdout!r}, wanted {wanted!r}"
     return None
+
+
+def climbed_text(command, game, most=20_000):
+    """What a command prints of a game, by so many lifts of each side at most; None where these don't do."""
+    try:
+        if command == "measure":
+            return naive.measures_text(naive.climbed(game, most))
+        return naive.winners_text(naive.solution_of(game, lambda played: naive.climbed(played, most)))
+    except naive.TooFar:
+        return None
 
 
 def workers_change_nothing(program, command, random_text, count=25):
@@ -203,14 +227,32 @@ def example_game(program, name):
     return text
 
 
+def solution_loses(program, game):
+    """Why `check` doesn't call sound what `solve` prints of a game, if so."""
+    solved = subprocess.run([program, "solve"], input=game, capture_output=True, timeout=60)
+    checked = subprocess.run([program, "check"], input=game + b"--\n" + solved.stdout, capture_output=True, timeout=60)
+    is_won = solved.returncode == 0 and checked.stdout == b"WINS\n"
+    return None if is_won else f"status {solved.returncode}, {checked.stdout!r}, {checked.stderr!r}"
+
+
 def solutions_win(program):
     """What `solve` prints of each example `check` calls sound."""
     for name in ("two.pg", "mutex.pg", "grid.pg", "request-grant.hoa", "owl-arbiter.hoa"):
-        game = example_game(program, name)
-        solved = subprocess.run([program, "solve"], input=game, capture_output=True, timeout=60)
-        checked = subprocess.run([program, "check"], input=game + b"--\n" + solved.stdout, capture_output=True, timeout=60)
-        if solved.returncode != 0 or checked.stdout != b"WINS\n":
-            return f"{name}: status {solved.returncode}, {checked.stdout!r}, {checked.stderr!r}"
+        why = solution_loses(program, example_game(program, name))
+        if why is not None:
+            return f"{name}: {why}"
+    return None
+
+
+def hard_games_are_solved(program, size, count=5):
+    """What is printed of hard games of so many vertices: the measures are closed maps, of which one has a list at each vertex, and
+    the solution is sound."""
+    dice = random.Random(4)
+    for number in range(count):
+        game = hard_game(dice, size)
+        why = closed.check(program, game) or solution_loses(program, naive.game_text(game).encode())
+        if why is not None:
+            return f"hard game {number}: {why}"
     return None
 
 
@@ -258,6 +300,16 @@ def cases(programs):
         yield f"measure on random games ({name})", lambda p=program: answers_as_defined(p, "measure", naive.measure_text)
         yield f"solve on random games ({name})", lambda p=program: answers_as_defined(p, "solve", naive.solution_text)
         for command in ("measure", "solve"):
+            text_of = naive.measure_text if command == "measure" else naive.solution_text
+            yield (f"{command} on random games of many priorities ({name})", lambda p=program, c=command, t=text_of:
+                   answers_as_defined(p, c, t, lambda dice: random_game(dice, range(13), 8)))
+            yield (f"{command} on hard games on which plain lifting ends ({name})", lambda p=program, c=command:
+                   answers_as_defined(p, c, lambda game: climbed_text(c, game),
+                                      lambda dice: hard_game(dice, dice.randint(20, 50)), count=60))
+            for size in (100, 300, 1000):
+                yield (f"{command} on hard games of {size} vertices, by every number of workers ({name})",
+                       lambda p=program, c=command, n=size: workers_change_nothing(
+                           p, c, lambda dice: naive.game_text(hard_game(dice, n)), count=3))
             yield (f"{command} by every number of workers ({name})",
                    lambda p=program, c=command: workers_change_nothing(p, c, large_game))
             yield (f"{command} where few vertices may rise, by every number of workers ({name})",
@@ -268,6 +320,8 @@ def cases(programs):
             p, "synth", lambda dice: controllers.automaton_text(controllers.random_automaton(dice))))
         yield f"replay on random schedules ({name})", lambda p=program: replays_as_defined(p)
         yield f"solutions of the examples ({name})", lambda p=program: solutions_win(p)
+        for size in (100, 300, 1000):
+            yield f"hard games of {size} vertices ({name})", lambda p=program, n=size: hard_games_are_solved(p, n)
         yield f"synth on random automata ({name})", lambda p=program: controllers_as_defined(p)
         yield f"solve on long rows ({name})", lambda p=program: long_rows_as_worked_out(p)
         for words in ([], ["measure"], ["solve"], ["check"], ["replay"], ["game"], ["synth"]):
@@ -289,6 +343,11 @@ def cases(programs):
                                   ("game", automaton, automaton_game), ("synth", delay, circuit)):
         name = f"want of memory in {command}" + " by two workers" * (text == rows[shared]) + " of a long row" * (text == rows[whole])
         yield name, lambda c=command, t=text, w=wanted: survives_want_of_memory(programs[0], [c], t, w)
+    # a game that takes some 60,000 plain lifts, and of which jumps are made in the game and in its dual
+    hard = hard_game(random.Random(167), 60)
+    for command in ("measure", "solve"):
+        yield f"want of memory in {command} of a hard game", lambda c=command: survives_want_of_memory(
+            programs[0], [c], naive.game_text(hard).encode(), climbed_text(c, hard, most=200_000).encode())
     apart = ["measure", "--workers", "1", "--apart", "/proc/self/exe"]
     yield "want of memory with --apart", lambda: survives_want_of_memory(programs[0], apart, game, b"0 1,1;\n1 1,0;\n2 0,0;\n")
 

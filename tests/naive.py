@@ -7,6 +7,10 @@ of the workers of the vertices, by rising identifier, or None, and an event a wo
 TOP = None
 
 
+class TooFar(Exception):
+    """What is raised where measures climb too far for the lifts that are allowed."""
+
+
 def bounds_of(game):
     """The odd priorities that occur, falling, each with the number of its vertices."""
     odd = sorted({p for p, _, _ in game.values() if p % 2 == 1}, reverse=True)
@@ -62,21 +66,60 @@ def least_progress_measure(game):
     return f
 
 
+def least_step(bounds, p, m):
+    """The least measure that covers m at p, without a look at others: the components that count, of which the last one that may
+    rise rises where p is odd."""
+    if m is TOP:
+        return TOP
+    front = m[:sum(1 for q, _ in bounds if q >= p)]
+    if p % 2 == 1:
+        while front and front[-1] == bounds[len(front) - 1][1]:
+            front.pop()
+        if not front:
+            return TOP
+        front[-1] += 1
+    return front + [0] * (len(bounds) - len(front))
+
+
+def climbed(game, most):
+    """The least progress measure by lifts alone, each of a vertex that waits, for games of more vertices; it is given up after so
+    many lifts."""
+    bounds, f, lifts = bounds_of(game), zeros(game), 0
+    sources = {v: [u for u in game if v in game[u][2]] for v in game}
+    waiting = dict.fromkeys(game)
+    while waiting:
+        v, _ = waiting.popitem()
+        p, owner, successors = game[v]
+        steps = sorted((least_step(bounds, p, f[w]) for w in successors), key=lambda m: (m is TOP, m or []))
+        least = steps[0 if owner == 0 else -1]
+        if not at_most(least, f[v]):
+            f[v], lifts = least, lifts + 1
+            waiting.update(dict.fromkeys(sources[v]))
+        if lifts > most:
+            raise TooFar
+    return f
+
+
 def dual(game):
     return {v: (p + 1, 1 - owner, successors) for v, (p, owner, successors) in game.items()}
 
 
-def solution(game):
-    """Winner and choice of each vertex, from the least measures of the game and of its dual."""
+def solution_of(game, measure_of):
+    """Winner and choice of each vertex, from such measures of the game and of its dual."""
     answer = {}
     for player, played in ((0, game), (1, dual(game))):
-        bounds, f = bounds_of(played), least_progress_measure(played)
+        bounds, f = bounds_of(played), measure_of(played)
         for v, (p, _, successors) in played.items():
             if f[v] is not TOP:
                 mine = game[v][1] == player
                 choice = min(w for w in successors if covers(bounds, p, f[v], f[w])) if mine else None
                 answer[v] = (player, choice)
     return answer
+
+
+def solution(game):
+    """The solution of the least measures."""
+    return solution_of(game, least_progress_measure)
 
 
 def shown(m):
@@ -96,9 +139,13 @@ def measure_text(game):
     return measures_text(least_progress_measure(game))
 
 
+def winners_text(answer):
+    lines = [f"{v} {w};\n" if c is None else f"{v} {w} {c};\n" for v, (w, c) in sorted(answer.items())]
+    return f"paritysol {max(answer)};\n" + "".join(lines)
+
+
 def solution_text(game):
-    lines = [f"{v} {w};\n" if c is None else f"{v} {w} {c};\n" for v, (w, c) in sorted(solution(game).items())]
-    return f"paritysol {max(game)};\n" + "".join(lines)
+    return winners_text(solution(game))
 
 
 def worker_of(game, script, v):
