@@ -21,7 +21,7 @@ here = os.path.dirname(os.path.abspath(__file__))
 # workers and events of the scripts of `replay`
 SCHEDULE = ["6", "200000"]
 
-# command, family and sizes
+# command, family and sizes, and perhaps a seed
 CASES = """
 measure settled 1000000 4
 measure sparse 10000 20
@@ -57,6 +57,27 @@ game automaton 60000 3 2
 game automaton 200 12 2
 synth automaton 2000 3 2
 synth automaton 300 6 4
+measure hard 40 0 2
+measure hard 100 0 2
+measure hard 300 0 2
+measure hard 1000 0 2
+measure hard 5000 0 2
+solve hard 40 0 2
+solve hard 100 0 2
+solve hard 300 0 2
+solve hard 1000 0 2
+solve hard 5000 0 2
+solve jurdzinski 30 30
+solve recladder 2000 0
+solve random 200000 100
+solve random 1000000 30
+solve random 20000 20000
+synth automaton 500 4 8
+synth automaton 500 4 12
+synth automaton 500 4 20
+synth automaton 2000 4 8
+synth automaton 2000 4 12
+synth automaton 2000 4 20
 """
 
 

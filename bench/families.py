@@ -26,6 +26,9 @@ class Dice:
     def one_in(self, n):
         return self.below(n) == 0
 
+    def choice(self, some):
+        return some[self.below(len(some))]
+
 
 # Each family yields vertices as (priority, owner, successors), by rising identifiers from 0.
 
@@ -169,8 +172,17 @@ def loops(a, b, dice):
         yield 2 * dice.below(b) + 1, 1, [i, dice.below(a), dice.below(a)]
 
 
+def hard(a, b, dice):
+    """a vertices of up to twice as many priorities, each with one to three successors, all nearby or anywhere: measures climb"""
+    most = dice.choice([a, a // 2, a // 4 + 1, 2 * a])
+    degree, is_local = dice.between(2, 3), dice.one_in(2)
+    for i in range(a):
+        successors = [(i + dice.between(-4, 4)) % a if is_local else dice.below(a) for _ in range(dice.between(1, degree))]
+        yield dice.below(min(most, 65_534) + 1), dice.below(2), successors
+
+
 FAMILIES = {it.__name__: it for it in (settled, climb, climbers, jurdzinski, ladder, clique, recladder, elevator, sparse, random,
-                                       chain, grid, wide, hubs, loops)}
+                                       chain, grid, wide, hubs, loops, hard)}
 
 
 def write(out, family, a, b, seed=1):
