@@ -306,10 +306,10 @@ def cases(programs):
             yield (f"{command} on hard games on which plain lifting ends ({name})", lambda p=program, c=command:
                    answers_as_defined(p, c, lambda game: climbed_text(c, game),
                                       lambda dice: hard_game(dice, dice.randint(20, 50)), count=60))
-            for size in (100, 300, 1000):
+            for size, count in ((100, 3), (300, 2), (1000, 1)):
                 yield (f"{command} on hard games of {size} vertices, by every number of workers ({name})",
-                       lambda p=program, c=command, n=size: workers_change_nothing(
-                           p, c, lambda dice: naive.game_text(hard_game(dice, n)), count=3))
+                       lambda p=program, c=command, n=size, count=count: workers_change_nothing(
+                           p, c, lambda dice: naive.game_text(hard_game(dice, n)), count))
             yield (f"{command} by every number of workers ({name})",
                    lambda p=program, c=command: workers_change_nothing(p, c, large_game))
             yield (f"{command} where few vertices may rise, by every number of workers ({name})",
