@@ -1,7 +1,7 @@
 -- Maps that are found over links, and answers by them.
 use Rattle.std.proofs.Common.{◌≡◌, ℕ, ◌<◌, ◌≤◌, List, length, Option, Some, None, Result, Ok, Err, inl, inr, sym, ap₂, subst, ◌∙◌, arith}
 use Rattle.std.proofs.lemmas.List.{same_lists, get_or_default}
-use Rattle.std.specs.Prelude.{IfOk, IfSome, IfErr, OnOk, ⊤}
+use Rattle.std.specs.Prelude.{IfSome, IfErr, OnOk, ⊤}
 use Rattle.std.specs.Io.KnownBytes.{Appends}
 use Rattle.pg_arena.specs.declared.player.Player.{Player}
 use Rattle.std.proofs.Common.{All, IsSome, get_or, refl, []}
@@ -10,13 +10,11 @@ use Rattle.pg_arena.specs.declared.player.Player.TheVariants.{Even}
 use Rattle.pg_arena.specs.Games.{GameVertex, IsGame, dual}
 use Rattle.pg_measure.specs.Measures.{BoundList, MeasureValue}
 use Rattle.pg_map.specs.Lines.{Line, game_line}
-use Rattle.pg_map.specs.Maps.{MapValue, IsMap, IsClosed, measure_at}
+use Rattle.pg_map.specs.Maps.{MapValue, IsClosed, measure_at}
 use Rattle.pg_text.specs.Solutions.{winner}
 use Rattle.pg_check.specs.Strategies.{NoListInBoth}
 use Rattle.pg_coord.specs.Solving.{AreTop}
 use Rattle.pg_worker.specs.Cuts.{CutValue, IsEvenCut}
-use Rattle.pg_worker.specs.Wholes.{IsLeastWithTops}
-use Rattle.pg_measure.specs.Games.{IsBoundsOf}
 use Rattle.pg_text.specs.declared.answer.Answer.{Answer}
 use Rattle.pg_aiger.specs.declared.fault.AigerFault.TheVariants as aiger
 use Rattle.pg_synth.specs.declared.fault.SynthFault.TheVariants as synth
@@ -56,51 +54,11 @@ found_least are_honest honest game map f = f.least honest
 pub all_honest : {L : Type 0} (links : List L) → All (λ link. ⊤) links
 all_honest links k link lt = tt
 
-whole_measure : (game : List GameVertex) (tops : List ℕ) (map : MapValue) → IsBoundsOf game map.bounds → length map.measures ≡ length game
-    → IsLeastWithTops map.bounds (game_line game) tops map.measures → AreTop game map.bounds tops → IsMeasureOf game map
-whole_measure game tops map bounds size found are_top = record {
-  bounds = bounds;
-  size = size;
-  least = record {
-    fits = found.fits;
-    closed = found.closed;
-    least = λ h is closed. found.least h is closed (are_top h (subst (λ (n : ℕ). IsMap map.bounds n h) size is) closed);
-  };
-}
-
--- what is found of a game in one piece is the least progress measure, where each closed map has top at these vertices
-pub whole_least : (game : List GameVertex) (tops : List ℕ) (found : Option MapValue) → IfSome found (λ map. IsBoundsOf game map.bounds)
-    → IfSome found (λ map. length map.measures ≡ length game)
-    → IfSome found (λ map. IsLeastWithTops map.bounds (game_line game) tops map.measures)
-    → IfSome found (λ map. AreTop game map.bounds tops → IsMeasureOf game map)
-whole_least game tops None bounds size least = tt
-whole_least game tops (Some map) bounds size least = whole_measure game tops map bounds size least
-
--- and so it is what is found over any links
-pub whole_found : (are_honest : Type 0) (game : List GameVertex) (tops : List ℕ) (found : Result (Option MapValue) CliFault)
-    → IfOk found (λ o. IfSome o (IsClosedMapOf game)) → IfOk found (λ o. IfSome o (λ map. AreTop game map.bounds tops → IsMeasureOf game map))
-    → IfOk found (λ o. IfSome o (IsFoundAbove are_honest game tops))
-whole_found are_honest game tops (Err fault) closed least = tt
-whole_found are_honest game tops (Ok None) closed least = tt
-whole_found are_honest game tops (Ok (Some map)) closed least = record { closed = closed; least = λ honest are_top. least are_top }
-
--- what was found over links that are honest if others are
-pub found_later : (are_honest later : Type 0) → (are_honest → later) → (game : List GameVertex) (map : MapValue) → IsFoundIf later game map
-    → IsFoundIf are_honest game map
-found_later are_honest later kept game map f = record { closed = f.closed; least = λ honest. f.least (kept honest) }
-
 -- what is so of each map that the half may be of is so of the one that was found
 pub of_half : (are_honest : Type 0) (game : List GameVertex) (half : List Answer) (odd : MapValue)
     → (h : AreHalves (IsFoundIf are_honest) game (half, odd)) → (P : MapValue → Type 0) → ForEachMapOf game half odd P → P h.half.even
 of_half are_honest game half odd h P each =
     each h.half.even h.half.half_of (record { game_map = h.half.found.closed.closed; dual_map = h.odd.closed.closed })
-
-pub halves_later : (are_honest later : Type 0) → (are_honest → later) → (game : List GameVertex) (halves : List Answer × MapValue)
-    → AreHalves (IsFoundIf later) game halves → AreHalves (IsFoundIf are_honest) game halves
-halves_later are_honest later kept game halves h = record {
-  half = record { even = h.half.even; found = found_later are_honest later kept game h.half.even h.half.found; half_of = h.half.half_of };
-  odd = found_later are_honest later kept (dual game) halves.1 h.odd;
-}
 
 pub at_some : {X : Type 0} (o : Option X) (x : X) (P : X → Type 0) → o ≡ Some x → IfSome o P → P x
 at_some {X} o x P is p = subst (λ (it : Option X). IfSome it P) is p
@@ -120,15 +78,6 @@ top_in_dual neither game even half bounds tops is closed half_of within won h ma
     let listed = (half_of.answers v (within k d lt)).wins.0 (won k d lt) in
     top_unless (measure_at h v) (λ also. neither game even (record { bounds = bounds; measures = h }) is
     (record { game_map = closed; dual_map = dual_closed }) v (within k d lt) (listed, also))
-
--- where a closed map of the dual has a list
-pub top_in_game : NoListInBoth → (game : List GameVertex) (odd : MapValue) (bounds : BoundList) (tops : List ℕ)
-    → IsGame game → IsClosed odd.bounds (game_line (dual game)) odd.measures
-    → All (λ v. v < length game) tops → All (λ v. IsSome (measure_at odd.measures v)) tops → AreTop game bounds tops
-top_in_game neither game odd bounds tops is closed within listed h map game_closed k d lt =
-    let v = get_or tops k d in
-    top_unless (measure_at h v) (λ also. neither game (record { bounds = bounds; measures = h }) odd is
-    (record { game_map = game_closed; dual_map = closed }) v (within k d lt) (also, listed k d lt))
 
 pub top_at_none : (game : List GameVertex) (bounds : BoundList) → AreTop game bounds []
 top_at_none game bounds h map closed = All-nil (λ v. measure_at h v ≡ None)

@@ -54,7 +54,7 @@ fn end<R: Reach>(mut links: Vec<SocketLink<R>>) {
 /// started runs when this returns.
 ///
 /// Whatever the programs do, and also where none can be started, what is printed goes by a closed map of the game and one of
-/// its dual, as for `run_with`. Where the programs come to no end in some rounds, the game is solved here in one piece.
+/// its dual, as for `run_with`. Where the programs come to no end in some rounds or rises, the game is solved here in one piece.
 ///
 /// Refuses what `run` does, in the same order, and before all else `Listen` where no port of 127.0.0.1 can be listened at.
 /// Where the command asks for no workers, or solves nothing, no program is wanted, and the answer or refusal is that of `run`.

@@ -71,8 +71,8 @@ fn answer<L: Link, W: Write>(
 
 /// Reads the whole input, and writes the answer to it and nothing else. Hand it a buffered writer, and flush that.
 ///
-/// Where the command solves a game, as many workers in this process solve it as the command says, or none; what the clauses
-/// say of the answer is the same for every number of them.
+/// Where the command solves a game, as many workers in this process share it as the command says; a game that they don't share,
+/// or come to no end on, is solved in one piece. What the clauses say of the answer is the same for every number of them.
 ///
 /// Refuses, in this order: `Read`; `InputTooLong` for more than 268,435,456 bytes, of which it reads the first one over
 /// the limit at most; `NoSeparator` where two texts are wanted and no line `--` parts them; `Text` for a text that
@@ -99,13 +99,8 @@ pub fn run<R: Read, W: Write>(
 {
     let mut links = memory_links(alloc, command.workers().unwrap_or(0))?;
     let workers = links.as_mut_slice();
-    let sharing = if workers.is_empty() {
-        Sharing::Even
-    } else {
-        Sharing::InTurns
-    };
     let text = read_all_limited(alloc, reader)?;
-    answer(alloc, command, text, workers, sharing, writer)
+    answer(alloc, command, text, workers, Sharing::InTurns, writer)
 }
 
 /// Reads the whole input, and writes the answer to it and nothing else; games are shared out so among the links that are given.
@@ -145,6 +140,7 @@ pub(crate) fn run_shared<L: Link, R: Read, W: Write>(
 
 /// The same over the links that are given, at most 16: where the command solves a game, the game is cut evenly among them, and
 /// then its dual. How many workers the command says is of no account, and a command that solves nothing leaves the links alone.
+/// Where more measures rise than a limit, `solve` and `synth` solve the game here in one piece; `measure` has no such limit.
 ///
 /// Whatever the links answer, what is printed goes by a closed map of the game and one of its dual, so that the printed winners
 /// win and the printed circuit is accepted. Over honest links the answers and refusals are those of `run`, and `Undecided` never

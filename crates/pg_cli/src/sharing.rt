@@ -13,12 +13,12 @@ pub(crate) enum Sharing {
     /// In runs of like length.
     Even,
     /// In runs of like length too, but where workers come to no end in some rounds the game is solved in one piece: as suits
-    /// programs, for which each round is dear.
+    /// programs, for which each round is dear. Without workers it isn't shared out.
     Apart,
     /// As suits workers that take turns on one processor: in runs of like length where few edges lead from run to run and few
     /// vertices may rise, and else not at all, since a value that climbs to and fro between workers is sent each time, and
     /// each vertex that may rise has to be told. Nor is a game shared out that is small or has next to nothing to lift, nor one
-    /// where there is one worker, who would get the whole of it.
+    /// where there is one worker, who would get the whole of it, or none.
     InTurns,
 }
 
@@ -93,7 +93,8 @@ pub(crate) fn cut_of(
 {
     let cut = Cut::even(alloc, game.len() as u32, workers as u32)?;
     match sharing {
-        Sharing::Even | Sharing::Apart => Ok(Some(cut)),
+        Sharing::Even => Ok(Some(cut)),
+        Sharing::Apart => Ok((workers > 0).then_some(cut)),
         Sharing::InTurns => {
             let is_shared = workers > 1 && game.len() >= SMALL && suits(game, &cut);
             Ok(is_shared.then_some(cut))

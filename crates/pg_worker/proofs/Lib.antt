@@ -12,4 +12,3 @@ pub mod Exchanging
 pub mod Ranges
 pub mod Under
 pub mod Bounded
-pub mod Wholes

@@ -1,6 +1,5 @@
 pub mod Faults
 pub mod Cuts
-pub mod Wholes
 pub mod Workers
 pub mod Listings
 pub mod Turns

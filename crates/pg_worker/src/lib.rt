@@ -22,7 +22,6 @@ mod sparse;
 mod step;
 mod telling;
 mod turn;
-mod whole;
 mod worker;
 
 pub use cut::Cut;
@@ -33,5 +32,4 @@ pub use served::Served;
 pub use service::serve;
 pub use session::Session;
 pub use telling::{fill_line, line_of, setup_of};
-pub use whole::solve_whole;
 pub use worker::Worker;

@@ -9,6 +9,4 @@ mod telling;
 #[cfg(test)]
 mod tools;
 #[cfg(test)]
-mod wholes;
-#[cfg(test)]
 mod workers;
