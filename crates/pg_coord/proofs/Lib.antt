@@ -14,8 +14,5 @@ mod Taken
 mod Taking
 mod Hearing
 mod Replying
-mod Marking
-mod Sources
-mod Calm
 mod Heights
 mod Raising

@@ -1,9 +1,7 @@
 -- What is taken of links that tell their replies, round by round.
 use Rattle.std.proofs.Common.{◌≡◌, ℕ, ◌+◌, ◌<◌, ◌≤◌, List, [], ◌∷◌, ◌++◌, take, drop, length, get_or, slice_index_or, Option, sym, ◌∙◌, ap, subst, arith, inl, inr}
 use Rattle.std.proofs.lemmas.Bool.{cases_lt}
-use Rattle.std.specs.Prelude.{All, false}
-use Rattle.pg_wire.specs.declared.kind.ValueKind.TheVariants.{Dense}
-use Rattle.std.proofs.lemmas.List.{append-nil, length-drop, take_all, drop_all, take_more, drop_more, drop-drop}
+use Rattle.std.proofs.lemmas.List.{append-nil, take_all, drop_all, take_more, drop_more, drop-drop}
 use Rattle.std.proofs.lemmas.List.Concat.{flat_map-append}
 use Rattle.std.proofs.lemmas.List.Elements.{All-append}
 use Rattle.pg_measure.specs.Measures.{BoundList, MeasureValue, AtMost}
@@ -128,39 +126,3 @@ least_over told t replies rounds seats links count f g h same bounds size closed
       } in
       h.least other one (first other one) (λ k lt. each k (omega arith));
 }
-
-some_of : {L : Type 0} (links : List L) (k : ℕ) → k < length links → L
-some_of [] k lt = absurd (omega arith)
-some_of (link ∷ links) k lt = link
-
--- where no link is in use all replies were taken, however many rounds are made after that
-pub ended : {L : Type 0} (told : L → Option (List (List ℕ))) (t : TaskValue) (replies : ℕ → List Reply) (rounds rounds' : ℕ) (seats : List Seat)
-    (links : List L) (f : List MeasureValue) (g g' : MapValue) → HasTaken told t replies rounds seats links f g.measures → length seats ≡ length links
-    → All (λ seat. seat.in_use ≡ false) seats → MapAtMost g.measures g'.measures → g.bounds ≡ t.bounds → length g.measures ≡ length t.game
-    → StaysUnder g.bounds (game_line t.game) g.measures g'.measures → HasTaken told t replies rounds' seats links f g'.measures
-ended told t replies rounds rounds' seats links f g g' h same unused rises bounds size under =
-    let n = h.taken in
-    let m = rounds' + n in
-    let empty_seat : Seat = record { in_use = false; asked = false; behind = false; kind = Dense; restarts = 0 } in
-    let left : (k : ℕ) → k < length links → drop n (replies k) ≡ [] = λ k lt.
-    (h.tell k (some_of links k lt) empty_seat lt).until_end (unused k empty_seat (omega (arith, same))) in
-    let all : (k : ℕ) → k < length links → length (replies k) ≤ n = λ k lt.
-    let none : length (drop n (replies k)) ≡ 0 = ap length (left k lt) in
-    omega (arith, none, length-drop n (replies k)) in
-    let taken : (k : ℕ) → k < length links → take m (replies k) ≡ take n (replies k) = λ k lt.
-    let few = all k lt in
-    take_all m (replies k) (omega arith) ∙ sym (take_all n (replies k) few) in
-    record {
-      taken = m;
-      enough = omega arith;
-      tell = λ k d e lt.
-          let few = all k lt in
-          subst (λ (rs : List Reply). Tells t (k + 1) rs (slice_index_or seats k e) (told (slice_index_or links k d)))
-          (left k lt ∙ sym (drop_all m (replies k) (omega arith))) (h.tell k d e lt);
-      above = λ k lt.
-          subst (λ (rs : List Reply). IsAtLeast g'.measures (measures_of rs)) (sym (taken k lt))
-          (at_least_after g.measures g'.measures (measures_of (take n (replies k))) rises (h.above k lt));
-      least = λ o closed le each.
-          lifts_under t g g' o bounds size under closed
-          (h.least o closed le (λ k lt. subst (λ (rs : List Reply). IsAtLeast o.measures (measures_of rs)) (taken k lt) (each k lt)));
-    }

@@ -9,7 +9,4 @@ pub mod Seats
 pub mod Takes
 pub mod Cutting
 pub mod Telling
-pub mod Marks
-pub mod Leading
-pub mod Alone
 pub mod Rising

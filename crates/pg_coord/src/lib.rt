@@ -1,18 +1,15 @@
 //! The coordinator: it solves a game over links to workers, whatever they answer.
 #![tactic(auto)]
 
-mod alone;
 mod board;
 mod connection;
 mod cutting;
 mod ending;
 mod fault;
 mod joining;
-mod leading;
 mod limited;
 mod limits;
 mod link;
-mod marks;
 mod memory;
 mod owner;
 mod pass;

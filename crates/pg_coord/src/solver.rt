@@ -14,7 +14,6 @@ ghost use Rattle.pg_coord.specs.Mirrors.Seats.{AllSeated};
 ghost use Rattle.pg_coord.specs.Mirrors.Telling.{AllTell};
 ghost use Rattle.pg_coord.specs.declared.fault.CoordFault.TheVariants.{CutMismatch};
 
-use crate::alone::finish;
 use crate::board::Board;
 use crate::fault::CoordFault;
 use crate::limits::Limits;
@@ -120,11 +119,8 @@ fn make_rounds<L: Link>(
         if !board.rose {
             return Ok(rounds);
         }
-        if are_abandoned(seats) {
-            return Ok(finish(task, board, rounds)?);
-        }
         rises = rises.saturating_add(board.risen.as_slice().len() as u64);
-        if limits.are_passed(rises, rounds) {
+        if limits.are_passed(rises, rounds) && !are_abandoned(seats) {
             return Err(Stop::Limit);
         }
     }

@@ -6,7 +6,7 @@ use Rattle.pg_map.specs.Weights.{map_weight}
 use Rattle.pg_coord.proofs.Moving.{moves_more}
 use Rattle.pg_coord.proofs.Seating.{all_seated_above}
 use Rattle.pg_coord.proofs.Rounds.{weight_less, weight_stays, lifts_under}
-use Rattle.pg_coord.proofs.Taken.{none_taken, round_taken, ended, least_over}
+use Rattle.pg_coord.proofs.Taken.{none_taken, round_taken, least_over}
 use Rattle.pg_coord.proofs.solver.make_rounds.Goals as goal
 
 pub rounds-init : goal.rounds-init
@@ -112,10 +112,6 @@ returns-then-not-board-clause-told g c = λ replies tell under.
     c.args.board.now.map.measures after.map all
     count (second.bounds ∙ first.bounds ∙ begun_bounds) (second.size ∙ first.size ∙ begun_size) closed under
 
-pub returns-then-are_abandoned-clause-honest : goal.returns-then-are_abandoned-clause-honest
-returns-then-are_abandoned-clause-honest g c =
-    λ h. c.hear_all.ensures.honest (c.ask_all.ensures.honest (c.rounds.invariant.honest_still h))
-
 pub returns-then-not-board-clause-rounds : goal.returns-then-not-board-clause-rounds
 returns-then-not-board-clause-rounds g c =
     let before = c.rounds.board in
@@ -130,86 +126,8 @@ returns-then-not-board-clause-rounds g c =
     let one : 1 ≤ c.saturating_add-rounds.result = omega arith in
     (one, omega (arith, w, e, k, s))
 
-pub returns-then-are_abandoned-clause-rounds : goal.returns-then-are_abandoned-clause-rounds
-returns-then-are_abandoned-clause-rounds g c =
-    let before = c.rounds.board in
-    let begun = c.begin.new.self in
-    let after = c.settle.new.board in
-    let moves = moves_more begun c.hear_all.new.board after c.hear_all.ensures.moves c.settle.ensures.moves in
-    let w = weight_less begun after moves c.begin.ensures.rose c.if-not-board.false in
-    let e : map_weight begun.map.bounds begun.map.measures ≡ map_weight before.map.bounds before.map.measures = ap (λ (m : MapValue). map_weight m.bounds m.measures) c.begin.ensures.map in
-    let k = c.rounds.invariant.rounds in
-    let s : c.saturating_add-rounds.result ≤ c.rounds.rounds + 1 = omega arith in
-    let r = c.in_ok-finish.ensures.rounds in
-    (r.0, let few = r.1 in omega (arith, few, w, e, k, s))
-
-pub returns-then-are_abandoned-clause-least : goal.returns-then-are_abandoned-clause-least
-returns-then-are_abandoned-clause-least g c =
-    let inv = c.rounds.invariant in
-    let task = c.args.task.now in
-    let before = c.rounds.board in
-    let begun = c.begin.new.self in
-    let heard = c.hear_all.new.board in
-    let after = c.settle.new.board in
-    let end = c.finish.new.board in
-    let same : begun.map ≡ before.map = c.begin.ensures.map in
-    let first = c.hear_all.ensures.moves in
-    let second = c.settle.ensures.moves in
-    let begun_bounds : begun.map.bounds ≡ task.bounds = ap (λ (m : MapValue). m.bounds) same ∙ inv.bounds in
-    let begun_size : length begun.map.measures ≡ length task.game = ap (λ (m : MapValue). length m.measures) same ∙ inv.size in
-    let lifted : StaysUnder heard.map.bounds (game_line task.game) heard.map.measures after.map.measures = rw (← c.game.ensures.value) c.settle.ensures.under in
-    λ h s l m closed.
-    let asked = c.in_ok-ask_all.ensures.seated (inv.honest_still h) (inv.seated h s) in
-    let round = lifts_under task heard.map after.map m (first.bounds ∙ begun_bounds) (first.size ∙ begun_size) lifted closed
-    (c.in_ok-hear_all.ensures.least (c.ask_all.ensures.honest (inv.honest_still h)) (rw same asked) m closed (rw same (inv.least h s l m closed))) in
-    lifts_under task after.map end.map m (second.bounds ∙ first.bounds ∙ begun_bounds) (second.size ∙ first.size ∙ begun_size) c.in_ok-finish.ensures.under closed round
-
-pub returns-then-are_abandoned-clause-told : goal.returns-then-are_abandoned-clause-told
-returns-then-are_abandoned-clause-told g c =
-    λ replies tell under.
-    let n = c.in_ok-finish.field-0 in
-    let inv = c.rounds.invariant in
-    let task = c.args.task.now in
-    let before = c.rounds.board in
-    let begun = c.begin.new.self in
-    let heard = c.hear_all.new.board in
-    let after = c.settle.new.board in
-    let same : begun.map ≡ before.map = c.begin.ensures.map in
-    let first = c.hear_all.ensures.moves in
-    let second = c.settle.ensures.moves in
-    let begun_bounds : begun.map.bounds ≡ task.bounds = ap (λ (m : MapValue). m.bounds) same ∙ inv.bounds in
-    let begun_size : length begun.map.measures ≡ length task.game = ap (λ (m : MapValue). length m.measures) same ∙ inv.size in
-    let lifted : StaysUnder heard.map.bounds (game_line task.game) heard.map.measures after.map.measures = rw (← c.game.ensures.value) c.settle.ensures.under in
-    let h = inv.taken replies tell in
-    let left = λ (k : ℕ). drop h.taken (replies k) in
-    let asked = c.in_ok-ask_all.ensures.told left h.tell in
-    let joined = c.in_ok-hear_all.ensures.told left asked.0 asked.1 in
-    let few : c.saturating_add-rounds.result ≤ c.rounds.rounds + 1 = search rules in
-    let asked_count : length c.ask_all.new.links ≡ length c.rounds.links = c.ask_all.auto.links in
-    let heard_count : length c.hear_all.new.links ≡ length c.rounds.links = c.hear_all.auto.links ∙ c.ask_all.auto.links in
-    let count : length c.hear_all.new.links ≡ length c.args.links.now = heard_count ∙ inv.same_count in
-    let all = round_taken g.L.Link.told task replies c.rounds.rounds c.saturating_add-rounds.result c.rounds.seats c.hear_all.new.seats c.rounds.links
-    c.hear_all.new.links
-    (length c.ask_all.new.links) c.args.board.now.map.measures begun.map before.map heard.map after.map h few asked_count heard_count same joined.0 joined.1
-    first.above second.above (first.bounds ∙ begun_bounds) (first.size ∙ begun_size) lifted in
-    let seat_count : length c.hear_all.new.seats ≡ length c.hear_all.new.links =
-    c.hear_all.auto.seats ∙ c.ask_all.auto.seats ∙ inv.same_len ∙ sym (c.hear_all.auto.links ∙ c.ask_all.auto.links) in
-    let after_bounds : after.map.bounds ≡ task.bounds = second.bounds ∙ first.bounds ∙ begun_bounds in
-    let after_size : length after.map.measures ≡ length task.game = second.size ∙ first.size ∙ begun_size in
-    let unused = c.are_abandoned.ensures.0 c.if-are_abandoned.true in
-    let end = c.finish.new.board in
-    let over = ended g.L.Link.told task replies c.saturating_add-rounds.result n c.hear_all.new.seats c.hear_all.new.links c.args.board.now.map.measures
-    after.map end.map all seat_count unused c.in_ok-finish.ensures.above after_bounds after_size c.in_ok-finish.ensures.under in
-    least_over g.L.Link.told task replies n c.hear_all.new.seats c.hear_all.new.links (length c.args.links.now)
-    c.args.board.now.map.measures end.map over count (c.in_ok-finish.ensures.bounds ∙ after_bounds)
-    c.in_ok-finish.ensures.map.size c.in_ok-finish.ensures.closed under
-
-pub returns-then-are_passed-clause-honest : goal.returns-then-are_passed-clause-honest
-returns-then-are_passed-clause-honest g c = λ h.
-    c.hear_all.ensures.honest (c.ask_all.ensures.honest (c.rounds.invariant.honest_still h))
-
-pub returns-in_err-finish-clause-honest : goal.returns-in_err-finish-clause-honest
-returns-in_err-finish-clause-honest g c = λ h.
+pub returns-then-not-are_abandoned-clause-honest : goal.returns-then-not-are_abandoned-clause-honest
+returns-then-not-are_abandoned-clause-honest g c = λ h.
     c.hear_all.ensures.honest (c.ask_all.ensures.honest (c.rounds.invariant.honest_still h))
 
 pub ask_all-requires-clause-seats : goal.ask_all-requires-clause-seats
@@ -263,19 +181,8 @@ returns-then-not-board-clause-least g c =
     lifts_under task heard.map after.map m (first.bounds ∙ begun_bounds) (first.size ∙ begun_size) lifted closed
     (c.in_ok-hear_all.ensures.least (c.ask_all.ensures.honest (inv.honest_still h)) (rw same asked) m closed (rw same (inv.least h s l m closed)))
 
-pub returns-then-are_abandoned-clause-bounds : goal.returns-then-are_abandoned-clause-bounds
-returns-then-are_abandoned-clause-bounds g c =
-    c.in_ok-finish.ensures.bounds
-    ∙ c.settle.ensures.moves.bounds ∙ c.hear_all.ensures.moves.bounds ∙ ap (λ (m : MapValue). m.bounds) c.begin.ensures.map ∙ c.rounds.invariant.bounds
-
-pub returns-then-are_abandoned-clause-map : goal.returns-then-are_abandoned-clause-map
-returns-then-are_abandoned-clause-map g c = c.in_ok-finish.ensures.map
-
-pub returns-then-are_abandoned-clause-closed : goal.returns-then-are_abandoned-clause-closed
-returns-then-are_abandoned-clause-closed g c = c.in_ok-finish.ensures.closed
-
-pub returns-then-are_passed-clause-bounds : goal.returns-then-are_passed-clause-bounds
-returns-then-are_passed-clause-bounds g c =
+pub returns-then-not-are_abandoned-clause-bounds : goal.returns-then-not-are_abandoned-clause-bounds
+returns-then-not-are_abandoned-clause-bounds g c =
     c.settle.ensures.moves.bounds ∙ c.hear_all.ensures.moves.bounds ∙ ap (λ (m : MapValue). m.bounds) c.begin.ensures.map ∙ c.rounds.invariant.bounds
 
 pub returns-in_err-ask_all-clause-bounds : goal.returns-in_err-ask_all-clause-bounds
