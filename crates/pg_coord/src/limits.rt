@@ -3,7 +3,8 @@
 ghost use Rattle.std.specs.Prelude.{◌≡◌, IsTrue};
 ghost use Rattle.pg_coord.specs.Solving.{IsLimited};
 
-/// When solving over links is given up, though the map isn't closed yet. A limit of `u64::MAX` is none.
+/// When solving over links is given up, though the map isn't closed yet. A limit of `u64::MAX` is none. Where there is a limit, it
+/// is given up too as soon as no link is left.
 #[derive(Clone, Copy)]
 pub struct Limits {
     /// It is given up where more measures rose than these.
@@ -28,10 +29,21 @@ impl Limits {
         }
     }
 
-    /// Whether so many rises or rounds are more than there may be.
-    pub(crate) fn are_passed(self, rises: u64, rounds: u64) -> bool
+    /// Whether there is a limit.
+    fn are_set(self) -> bool
         ensures { IsTrue result → IsLimited self.rises self.rounds self.told }
     {
+        self.rises < u64::MAX || self.rounds < u64::MAX || self.told < u64::MAX
+    }
+
+    /// Whether rounds are given up after so many rises and rounds: where these are more than there may be, and where no link is left
+    /// though there is a limit.
+    pub(crate) fn are_passed(self, rises: u64, rounds: u64, is_abandoned: bool) -> bool
+        ensures { IsTrue result → IsLimited self.rises self.rounds self.told }
+    {
+        if is_abandoned {
+            return self.are_set();
+        }
         rises > self.rises || rounds > self.rounds
     }
 }

@@ -120,7 +120,7 @@ fn make_rounds<L: Link>(
             return Ok(rounds);
         }
         rises = rises.saturating_add(board.risen.as_slice().len() as u64);
-        if limits.are_passed(rises, rounds) && !are_abandoned(seats) {
+        if limits.are_passed(rises, rounds, are_abandoned(seats)) {
             return Err(Stop::Limit);
         }
     }

@@ -126,8 +126,8 @@ returns-then-not-board-clause-rounds g c =
     let one : 1 ≤ c.saturating_add-rounds.result = omega arith in
     (one, omega (arith, w, e, k, s))
 
-pub returns-then-not-are_abandoned-clause-honest : goal.returns-then-not-are_abandoned-clause-honest
-returns-then-not-are_abandoned-clause-honest g c = λ h.
+pub returns-then-are_passed-clause-honest : goal.returns-then-are_passed-clause-honest
+returns-then-are_passed-clause-honest g c = λ h.
     c.hear_all.ensures.honest (c.ask_all.ensures.honest (c.rounds.invariant.honest_still h))
 
 pub ask_all-requires-clause-seats : goal.ask_all-requires-clause-seats
@@ -181,8 +181,8 @@ returns-then-not-board-clause-least g c =
     lifts_under task heard.map after.map m (first.bounds ∙ begun_bounds) (first.size ∙ begun_size) lifted closed
     (c.in_ok-hear_all.ensures.least (c.ask_all.ensures.honest (inv.honest_still h)) (rw same asked) m closed (rw same (inv.least h s l m closed)))
 
-pub returns-then-not-are_abandoned-clause-bounds : goal.returns-then-not-are_abandoned-clause-bounds
-returns-then-not-are_abandoned-clause-bounds g c =
+pub returns-then-are_passed-clause-bounds : goal.returns-then-are_passed-clause-bounds
+returns-then-are_passed-clause-bounds g c =
     c.settle.ensures.moves.bounds ∙ c.hear_all.ensures.moves.bounds ∙ ap (λ (m : MapValue). m.bounds) c.begin.ensures.map ∙ c.rounds.invariant.bounds
 
 pub returns-in_err-ask_all-clause-bounds : goal.returns-in_err-ask_all-clause-bounds
