@@ -117,9 +117,9 @@ fn a_chain_falls_against_the_order(rt: HostRuntime) -> Result<(), Fail> {
 }
 
 #[test]
-fn chains_of_several_words_are_solved_as_by_passes(rt: HostRuntime) -> Result<(), Fail> {
+fn chains_are_solved_as_by_passes(rt: HostRuntime) -> Result<(), Fail> {
     let alloc = rt.alloc();
-    for last in [0, 1, 62, 63, 64, 127, 128, 4199] {
+    for last in [0, 1, 2, 64, 127] {
         assert!(rt; is_as_by_passes(alloc, &chain(alloc, last)?)?);
     }
     Ok(())

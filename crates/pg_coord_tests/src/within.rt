@@ -42,3 +42,10 @@ fn gives_up_where_too_many_are_to_be_told(rt: HostRuntime) -> Result<(), Fail> {
     assert!(rt; solves_within(rt.alloc(), &mut links, told(1))? == Some((2, 0, 0)));
     Ok(())
 }
+
+#[test]
+fn never_gives_up_without_links(rt: HostRuntime) -> Result<(), Fail> {
+    let mut links: [Broken; 0] = [];
+    assert!(rt; solves_within(rt.alloc(), &mut links, rounds(0))? == Some((2, 0, 0)));
+    Ok(())
+}
