@@ -44,8 +44,9 @@ fn gives_up_where_too_many_are_to_be_told(rt: HostRuntime) -> Result<(), Fail> {
 }
 
 #[test]
-fn never_gives_up_without_links(rt: HostRuntime) -> Result<(), Fail> {
+fn gives_up_without_links_where_there_is_a_limit(rt: HostRuntime) -> Result<(), Fail> {
     let mut links: [Broken; 0] = [];
-    assert!(rt; solves_within(rt.alloc(), &mut links, rounds(0))? == Some((2, 0, 0)));
+    assert!(rt; solves_within(rt.alloc(), &mut links, rounds(1))? == None);
+    assert!(rt; solves_within(rt.alloc(), &mut links, rounds(u64::MAX))? == Some((2, 0, 0)));
     Ok(())
 }
