@@ -1,0 +1,193 @@
+#!/usr/bin/env python3
+"""Checks what tools/draw writes: texts for Graphviz, pictures, refusals, and tables of schedules.
+
+The texts for Graphviz of docs/pictures/ have to be those that the tool writes; the pictures beside them depend on the version
+of `dot`, and aren't compared.
+
+    tests/drawing.py            prints what it finds; the status is 1 if something is wrong
+    tests/drawing.py --write    first makes docs/pictures/ anew, for which `dot` has to be installed
+"""
+import pathlib
+import shutil
+import subprocess
+import sys
+import tempfile
+
+TOP = pathlib.Path(__file__).resolve().parent.parent
+PICTURES = {"two": ["examples/two.pg"], "mutex": ["examples/mutex.pg", "examples/mutex.solution"],
+            "request-grant": ["examples/request-grant.hoa"]}
+NAMES, WINS = ("IDENTIFIER: PRIORITY of each vertex, diamonds are Even's, boxes are Odd's",
+               "Even wins from the blue ones, Odd from the orange ones, by the heavy edges")
+
+GAME = b'start 7; 7 2 0 7,3,7 "seven \\ & &lt; \xc3\xa9\xff";\n3 65535\n1 7\n;'
+GAME_GRAPH = f"""digraph game {{
+    graph [label="{NAMES}", nslimit=1, nslimit1=1];
+    3 [label="3: 65535", shape=box];
+    7 [label="7: 2\\nseven \\\\ & &amp;lt; \u00e9\ufffd", shape=diamond];
+    3 -> 7;
+    7 -> 3;
+    7 -> 7;
+}}
+"""
+THREE = b'parity 2;\n0 0 1 0,1;\n1 1 1 1,2 "odd";\n2 2 0 0,2;\n'
+SOLUTION = b"paritysol 2;\n2 0 2;\n0 1 1;\n1 1 1;\n"
+SOLVED_GRAPH = f"""digraph game {{
+    graph [label="{NAMES}\\n{WINS}", nslimit=1, nslimit1=1];
+    0 [label="0: 0", shape=box, style=filled, fillcolor="#e69f00"];
+    1 [label="1: 1\\nodd", shape=box, style=filled, fillcolor="#e69f00"];
+    2 [label="2: 2", shape=diamond, style=filled, fillcolor="#a6d8f5"];
+    0 -> 0;
+    0 -> 1 [penwidth=4];
+    1 -> 1 [penwidth=4];
+    1 -> 2;
+    2 -> 0;
+    2 -> 2 [penwidth=4];
+}}
+"""
+AUTOMATON = b"""/* a /* nested */ comment */ HOA: v1
+Start: 1 AP: 2 "a" "b \\"c\\"" properties: complete properties: deterministic
+Acceptance: 2 Fin(1)&(Inf(0)) controllable-AP: 1
+--BODY--
+State: 1 "\xc3\xa9" {0 1} [!0&!(1|0)] 2 {1} [t]/**/1
+State: 0
+--END--
+"""
+AUTOMATON_GRAPH = """digraph automaton {
+    graph [label="Acceptance: 2 Fin(1) & (Inf(0))\\nControllable: \\"b \\"c\\"\\"", nslimit=1, nslimit1=1];
+    start [shape=point];
+    start -> 1;
+    0 [label="0"];
+    1 [label="1\\n\u00e9\\n{0 1}"];
+    2 [label="2"];
+    1 -> 2 [label="!a & !(\\"b \\"c\\"\\" | a)\\n{1}"];
+    1 -> 1 [label="t"];
+}
+"""
+CHAIN = b"".join(b"%d 0 0 %d;" % (vertex, vertex) for vertex in range(201))
+STATES = b'HOA: v1 States: %d Start: 0 Acceptance: 0 t --BODY-- --END--'
+HEAD = b"HOA: v1 Start: 0 Acceptance: 1 Inf(0) "
+REFUSED = [
+    ("many: more than 200 vertices, too many for a picture", {"many": CHAIN}),
+    ("states: more than 200 states, too many for a picture", {"states": STATES % 201}),
+    ("states: more than 200 states, too many for a picture", {"states": HEAD + b"--BODY-- State: 200 --END--"}),
+    ("empty: no vertex", {"empty": b" \n"}),
+    ("damaged: syntax error at byte 8", {"damaged": b"0 0 0 0 1;"}),
+    ("damaged: syntax error at byte 8", {"damaged": b'0 0 0 0 "name;'}),
+    ("damaged: number out of range at byte 4", {"damaged": b"0 0 2 0;"}),
+    ("damaged: number out of range at byte 2", {"damaged": b"0 65536 0 0;"}),
+    ("damaged: number too large at byte 0", {"damaged": b"9" * 5000}),
+    ("damaged: vertex 4 is defined twice", {"damaged": b"4 0 0 4;4 0 0 4;"}),
+    ("damaged: vertex 0 has successor 9, which no line defines", {"damaged": b"0 0 0 0,9;"}),
+    ("other: line of vertex 3 does not fit the game", {"game": THREE, "other": SOLUTION + b"3 0;"}),
+    ("other: line of vertex 0 does not fit the game", {"game": THREE, "other": b"0 1 2;1 1 1;2 0 2;"}),
+    ("other: vertex 2 has no answer", {"game": THREE, "other": b"0 1 1;1 1 1;2 0;"}),
+    ("other: vertex 1 has no answer", {"game": THREE, "other": b"0 1 1;"}),
+    ("other: vertex 0 is answered twice", {"game": THREE, "other": b"0 1 1;0 1 1;"}),
+    ("automaton is an automaton, which has no solution", {"automaton": AUTOMATON, "solution": SOLUTION}),
+    ("damaged: missing header Acceptance at byte 17", {"damaged": b"HOA: v1 Start: 0 --BODY-- --END--"}),
+    ("damaged: header Alias at byte 38 can't stand there", {"damaged": HEAD + b"Alias: @a 0"}),
+    ("damaged: header Start at byte 38 can't stand there", {"damaged": HEAD + b"Start: 1"}),
+    ("damaged: the values of header AP don't fit before byte 48", {"damaged": HEAD + b'AP: 2 "a" --BODY--'}),
+    ("damaged: number out of range at byte 57", {"damaged": HEAD + b"--BODY-- State: 0 [0] 0 --END--"}),
+    ("damaged: syntax error at byte 60", {"damaged": HEAD + b"--BODY-- State: 0 [(t ] 0 --END--"}),
+    ("damaged: syntax error at byte 38", {"damaged": HEAD + b"/* /* */"}),
+    ("nothing: No such file or directory", {"nothing": None}),
+]
+TWO = b"parity 1;\n0 1 0 0,1;\n1 2 1 0;\n"
+SCRIPT = b"workers 02;cut 1,2;\nlift 1 0;deliver2 0;\n\ndeliver 0 0; restart 1;lift 2 1;"
+TABLE = """event          update  replica 0  replica 1  replica 2
+at first       -       -          -          -
+0 lift 1 0     0: 0 1  -          0 1        -
+1 deliver 2 0  -       -          0 1        0 1
+2 deliver 0 0  -       0 1        0 1        0 1
+3 restart 1    -       0 1        -          0 1
+4 lift 2 1     -       0 1        -          0 1
+"""
+FAULTS = {SCRIPT + b"lift 1 1;": "script: event 5: vertex 1 is not of worker 1",
+          b"workers 1;lift 1;": "script: syntax error at byte 16"}
+
+
+def drawn(words, texts=None):
+    """(status, output, error stream) of the tool on files with these names and texts; without a text there is no file."""
+    with tempfile.TemporaryDirectory() as folder:
+        for name, text in (texts or {}).items():
+            if text is not None:
+                pathlib.Path(folder, name).write_bytes(text)
+        command = [sys.executable, str(TOP / "tools/draw"), *words, *(texts or {})]
+        ran = subprocess.run(command, cwd=folder if texts else TOP, capture_output=True, timeout=120)
+    return ran.returncode, ran.stdout.decode(), ran.stderr.decode()
+
+
+def graphs():
+    """(what is checked, what came out, what has to) for each text for Graphviz."""
+    yield "a game", drawn(["--dot"], {"game": GAME}), (0, GAME_GRAPH, "")
+    yield "a solution", drawn(["--dot"], {"game": THREE, "solution": SOLUTION}), (0, SOLVED_GRAPH, "")
+    yield "an automaton", drawn(["--dot"], {"automaton": AUTOMATON}), (0, AUTOMATON_GRAPH, "")
+    for name, files in PICTURES.items():
+        graph = (TOP / f"docs/pictures/{name}.dot").read_text()
+        yield f"docs/pictures/{name}.dot", drawn(["--dot", *files]), (0, graph, "")
+    for text in (CHAIN[:CHAIN.rindex(b"200 0")], STATES % 200):
+        yield "200 are drawn", drawn(["--dot"], {"many": text})[::2], (0, "")
+
+
+def refusals():
+    """The same for what is refused: with files, and by the command line."""
+    for told, texts in REFUSED:
+        yield told, drawn(["--dot"], texts), (1, "", f"draw: {told}\n")
+    for words in ([], ["--line"], ["--replay", "a"], ["--program", "x", "a"], ["-", "-"], ["--replay", "--dot", "a", "b"]):
+        yield f"the words {words}", drawn(words)[:2], (2, "")
+
+
+def pictures():
+    """The same for a picture, where `dot` is installed."""
+    if not shutil.which("dot"):
+        print("drawing: dot isn't installed, so no picture is made")
+        return
+    status, output, errors = drawn(PICTURES["two"])
+    yield "a picture", (status, "<svg" in output and output.endswith("</svg>\n"), errors), (0, True, "")
+
+
+def tables(program):
+    """The same for tables, which the program is asked for."""
+    words = ["--replay", "--program", program]
+    yield "a table", drawn(words, {"game": TWO, "script": SCRIPT}), (0, TABLE, "")
+    for script, told in FAULTS.items():
+        yield told, drawn(words, {"game": TWO, "script": script}), (1, "", f"draw: {told}\n")
+
+
+def counted(checks):
+    """How many of the checks passed and failed."""
+    passed = failed = 0
+    for what, found, wanted in checks:
+        if found == wanted:
+            passed += 1
+        else:
+            failed += 1
+            print(f"drawing: {what}: {found!r}, and not {wanted!r}")
+    print(f"drawing: {passed} passed, {failed} failed")
+    return passed, failed
+
+
+def run():
+    """Makes every check that needs no program; answers how many passed and failed."""
+    return counted(check for part in (graphs, refusals, pictures) for check in part())
+
+
+def run_tables(program):
+    """The same for those that need one."""
+    return counted(tables(program))
+
+
+def write():
+    for name, files in PICTURES.items():
+        for kind, words in (("dot", ["--dot"]), ("svg", [])):
+            status, output, errors = drawn([*words, *files])
+            if status:
+                sys.exit(errors)
+            (TOP / f"docs/pictures/{name}.{kind}").write_text(output)
+
+
+if __name__ == "__main__":
+    if sys.argv[1:] == ["--write"]:
+        write()
+    sys.exit(1 if run()[1] else 0)
