@@ -89,7 +89,3 @@ match_more v s first j number negation e =
   where
     mod_below : (a b : ℕ) → 0 < b → a % b < b
     mod_below a b h = grind arith
-
-pub and_true_end : (s : Bool) → s ≡ (s && true)
-and_true_end true = refl
-and_true_end false = refl

@@ -112,6 +112,3 @@ mean_push n a b meanings old new place l x e len m lit mean = subst (MeanEach b 
 
     at_end : (i : ℕ) → length old ≤ i → i < length (old ++ l ∷ []) → get_or (old ++ l ∷ []) i 0 ≡ l
     at_end i k h = subst (λ j. get_or (old ++ l ∷ []) j 0 ≡ l) (sym (is_end i k h)) (get_or-append_seam old l [] 0)
-
-pub mean_none : (a : Drafted) (meanings : ℕ → Valuation → Bool) → MeanEach a meanings []
-mean_none a meanings = record { literal = λ i h. absurd (omega arith); meaning = λ i h. absurd (omega arith) }

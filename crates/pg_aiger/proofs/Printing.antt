@@ -11,7 +11,7 @@ use Rattle.std.proofs.lemmas.List.FromFn.{map-range_with_len_more}
 use Rattle.pg_hoa.specs.Automata.{Automaton, IsAutomaton}
 use Rattle.pg_aiger.specs.declared.gate.Gate.{Gate}
 use Rattle.pg_aiger.specs.Circuits.{Circuit, Latch}
-use Rattle.pg_aiger.specs.CircuitText.{Kind, input, output, Symbol, Row, header, symbol}
+use Rattle.pg_aiger.specs.CircuitText.{Kind, input, output, Row, header, symbol}
 use Rattle.pg_aiger.specs.CircuitLayout.{row_text, symbols_from, input_names, output_names, circuit_text}
 use Rattle.pg_aiger.specs.Mirrors.Layouts.{named, literal_row, latch_row, gate_row, names_until, symbol_rows}
 use Rattle.pg_aiger.specs.Mirrors.Views.{literals_from, latches_from, viewed}

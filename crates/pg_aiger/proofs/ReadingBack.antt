@@ -6,7 +6,7 @@ use Rattle.std.proofs.lemmas.Fmt.{digits_decimal, digits_value-decimal, decimal_
 use Rattle.std.proofs.lemmas.Bool.{cases_eq, ne_eqb}
 use Rattle.std.proofs.lemmas.List.{append-nil, map-append, get_or_default}
 use Rattle.std.proofs.lemmas.Str.Parse.{IsNumeralModel, numerals_by_fold}
-use Rattle.pg_text.specs.Lexemes.{Each, is_digit, value_of}
+use Rattle.pg_lists.specs.Bytes.{Each, is_digit, value_of}
 use Rattle.pg_hoa.specs.Automata.{Automaton, IsAutomaton, IsNameByte, IsPropositionName}
 use Rattle.pg_synth.specs.Letters.{inputs, outputs}
 use Rattle.pg_aiger.specs.declared.gate.Gate.{Gate}
@@ -78,8 +78,7 @@ numbers_inner (n ∷ ns) smalls =
 
 kind_inner : (kind : Kind) → Each is_inner (kind_text kind)
 kind_inner input = (refl, tt)
-kind_inner latch = (refl, tt)
-kind_inner output = (refl, tt)
+kind_inner _ = (refl, tt)
 
 inner : (row : Row) → IsPrintable row → Each is_inner (row_line row)
 inner (header ns) is = each_append is_inner (codes "aag ") (spaced ns) (refl, (refl, (refl, (refl, tt)))) (numbers_inner ns is.1)

@@ -1,5 +1,6 @@
 -- One more line: what it does to the parts, and which reason there is against it.
 use Rattle.std.proofs.Common.{◌≡◌, ℕ, zero, suc, append-nil, ◌+◌, ◌-◌, ◌≤◌, ◌<◌, Bool, true, false, eqb, cond, List, [], ◌∷◌, ◌++◌, length, take, drop, map, get_or, replicate, Option, Some, None, refl, sym, ap, subst, ◌∙◌, arith, inl, inr, All, Bor}
+use Rattle.std.proofs.lemmas.Bool.Decides.{nat_tests}
 use Rattle.std.specs.Prelude.{slice_range, slice_get, option_map, option_to_list, option_copied, is_some, IsSome, IfSome, Result, Ok, Err, OnErr, ◌||◌}
 use Rattle.std.specs.List.{list_any, flat_map, IsDistinct}
 use Rattle.std.specs.List.Sorted.{IsStrictlyIncreasing}
@@ -7,7 +8,7 @@ use Rattle.std.specs.declared.vec.Vec.{Vec}
 use Rattle.std.specs.declared.alloc.Global.{Global}
 use Rattle.std.specs.Cmp.{nat_eq_equiv}
 use Rattle.std.proofs.lemmas.Map.Keys.{IsDistinct-push}
-use Rattle.std.proofs.lemmas.Bool.{cases_lt, lt-ltb, le-ltb, le-leb, lt-leb, ne_eqb, eqb-false, ltb-false, leb-false}
+use Rattle.std.proofs.lemmas.Bool.{cases_lt, eqb-false, ltb-false, leb-false}
 use Rattle.std.proofs.lemmas.List.{drop-append-le, take-append-le, take_all, drop_at, length-append, length-drop, length-take, length-replicate, get_or-append_right, get_or-replicate, get_or_past, map-append, length-map}
 use Rattle.std.proofs.Math.ListN.{get_or-append}
 use Rattle.std.proofs.Math.Seq.{get_or-append_seam}
@@ -15,7 +16,7 @@ use Rattle.std.proofs.lemmas.List.Concat.{length-flat_map, flat_map-append}
 use Rattle.std.proofs.lemmas.List.Elements.{All-nil, All-head, All-tail, All-push, All-weaker}
 use Rattle.pg_arena.specs.declared.player.Player.{Player}
 use Rattle.pg_arena.specs.declared.fault.ArenaFault.{ArenaFault}
-use Rattle.pg_arena.specs.declared.fault.ArenaFault.TheVariants.{OutOfMemory, DuplicateVertex, NoSuccessor, TooManyVertices, TooManyEdges, PriorityTooLarge}
+use Rattle.pg_arena.specs.declared.fault.ArenaFault.TheVariants.{OutOfMemory}
 use Rattle.pg_arena.specs.Games.{edge_count}
 use Rattle.pg_arena.specs.Lines.{Line, is_named, add_fault, Answers}
 use Rattle.pg_arena.specs.declared.entry.Entry.{Entry}
@@ -83,9 +84,7 @@ lines_stay targets more names extra (e ∷ rows) within named =
     rw (same, called, rest) refl
 
 range_new : (targets more : List ℕ) → slice_range (targets ++ more) (length targets) (length targets + length more) ≡ more
-range_new targets more =
-    let n : length targets + length more - length targets ≡ length more = omega arith in
-    rw (n, drop_at targets more (length targets) refl) (take_all (length more) more (omega arith))
+range_new targets more = grind (arith, nat_tests, drop_at targets more (length targets) refl, take_all (length more) more (omega arith))
 
 -- the place that a new name gets, and the name there
 abbrev pub place_of_new : Names → Option (Vec ℕ Global) → Option ℕ
@@ -101,10 +100,6 @@ new_entry targets priority owner more = record { priority = priority; owner = ow
 
 abbrev new_row : List ℕ → Names → ℕ → ℕ → Player → List ℕ → Option (Vec ℕ Global) → Row
 new_row targets names identifier priority owner more new = row_of identifier (place_of_new names new) (new_entry targets priority owner more)
-
-pub entry_is : (targets : List ℕ) (priority : ℕ) (owner : Player) (more : List ℕ) (from to : ℕ) → from ≡ length targets → to ≡ length targets + length more
-    → (let e : Entry = record { priority = priority; owner = owner; from = from; to = to } in e) ≡ new_entry targets priority owner more
-entry_is targets priority owner more from to f t = rw (f, t) refl
 
 abbrev pub new_line : ℕ → ℕ → Player → List ℕ → Option (Vec ℕ Global) → Line
 new_line identifier priority owner more new =
@@ -129,46 +124,6 @@ pub record Passes (line : Line) : Type 0 where
   pub priority : line.priority ≤ 65535
   pub some : 0 < length line.successors
 
-pub names_priority : (lines : List Line) (line : Line) → 65535 < line.priority → add_fault lines line ≡ Some (PriorityTooLarge line.identifier line.priority)
-names_priority lines line large = rw (lt-ltb 65535 line.priority large) refl
-
-pub names_none_after : (lines : List Line) (line : Line) → line.priority ≤ 65535 → length line.successors ≡ 0
-    → add_fault lines line ≡ Some (NoSuccessor line.identifier)
-names_none_after lines line small none = rw (le-ltb 65535 line.priority small, none) refl
-
-pub names_duplicate : (lines : List Line) (line : Line) → Passes line → is_named lines (line.identifier) ≡ true
-    → add_fault lines line ≡ Some (DuplicateVertex (line.identifier))
-names_duplicate lines line p named = rw (le-ltb 65535 (line.priority) (p.priority), ne_eqb (length (line.successors)) 0 (omega (arith, p.some)), named) refl
-
-pub names_vertices : (lines : List Line) (line : Line) → Passes line → is_named lines (line.identifier) ≡ false → 1048576 ≤ length lines
-    → add_fault lines line ≡ Some TooManyVertices
-names_vertices lines line p named many =
-    rw (le-ltb 65535 (line.priority) (p.priority), ne_eqb (length (line.successors)) 0 (omega (arith, p.some)), named, le-leb 1048576 (length lines) many) refl
-
-pub names_edges : (lines : List Line) (line : Line) → Passes line → is_named lines (line.identifier) ≡ false → length lines < 1048576
-    → 8388608 < edge_count lines + length (line.successors) → add_fault lines line ≡ Some TooManyEdges
-names_edges lines line p named few many =
-    rw (
-      le-ltb 65535 (line.priority) (p.priority),
-      ne_eqb (length (line.successors)) 0 (omega (arith, p.some)),
-      named,
-      lt-leb 1048576
-          (length lines) few,
-      lt-ltb 8388608 (edge_count lines + length (line.successors)) many,
-    ) refl
-
-pub names_none : (lines : List Line) (line : Line) → Passes line → is_named lines (line.identifier) ≡ false → length lines < 1048576
-    → edge_count lines + length (line.successors) ≤ 8388608 → add_fault lines line ≡ None
-names_none lines line p named few fits =
-    rw (
-      le-ltb 65535 (line.priority) (p.priority),
-      ne_eqb (length (line.successors)) 0 (omega (arith, p.some)),
-      named,
-      lt-leb 1048576
-          (length lines) few,
-      le-ltb 8388608 (edge_count lines + length (line.successors)) fits,
-    ) refl
-
 -- a line against which there is no reason
 pub record IsAccepted (lines : List Line) (line : Line) : Type 0 where
   pub passes : Passes line
@@ -183,7 +138,7 @@ not_given false fault rest h = (refl, h)
 positive : (n : ℕ) → eqb n 0 ≡ false → 0 < n
 positive n h = omega (arith, eqb-false n 0 h)
 
-accepted : (lines : List Line) (line : Line) → add_fault lines line ≡ None → IsAccepted lines line
+pub accepted : (lines : List Line) (line : Line) → add_fault lines line ≡ None → IsAccepted lines line
 accepted lines line h =
     let priority = not_given _ _ _ h in
     let some = not_given _ _ _ priority.1 in
@@ -210,14 +165,7 @@ pub record IsNew (ids targets : List ℕ) (entries : List Entry) (line : Line) :
 pub accepted_in : {ids targets : List ℕ} {names : Names} {places : List (Option ℕ)} {entries : List Entry} (lines : List Line) (line : Line)
     → AreKeptIn ids targets names places entries
     → vertices_in targets names (rows_in ids places entries) ≡ lines → add_fault lines line ≡ None → IsNew ids targets entries line
-accepted_in {ids} {targets} {names} {places} {entries} lines line kept are h =
-    let ok = accepted lines line h in
-    record {
-      passes = ok.passes;
-      unnamed = sym (named_by line.identifier kept.kept) ∙ ap (λ (ls : List Line). is_named ls line.identifier) are ∙ ok.unnamed;
-      few = omega (arith, ok.few, ap length are, lines_in kept);
-      fits = omega (arith, ok.fits, ap edge_count are, edges_by kept.kept);
-    }
+accepted_in {ids} {targets} {names} {places} {entries} lines line kept are h = grind (arith, nat_tests, accepted lines line h, named_by line.identifier kept.kept, lines_in kept, edges_by kept.kept)
 
 pub few_names : {ids targets : List ℕ} {names : Names} {places : List (Option ℕ)} {entries : List Entry} → AreKeptIn ids targets names places entries
     → length entries < 1048576 → length names < 1048576
@@ -331,9 +279,7 @@ pub lines_added : {ids targets : List ℕ} {names : Names} {places : List (Optio
     → vertices_in (targets ++ more) (names ++ option_to_list new)
     (rows_in (ids ++ identifier ∷ []) other (entries ++ new_entry targets priority owner more ∷ [])) ≡ vertices_in targets names
     (rows_in ids places entries) ++ new_line identifier priority owner more new ∷ []
-lines_added {ids} {targets} {names} {places} {entries} other identifier priority owner more new kept placed =
-    ap (vertices_in (targets ++ more) (names ++ option_to_list new)) (rows_added other identifier priority owner more new kept placed)
-    ∙ line_more targets names (rows_in ids places entries) identifier priority owner more new kept.kept.ranges kept.kept.named
+lines_added {ids} {targets} {names} {places} {entries} other identifier priority owner more new kept placed = grind (arith, nat_tests, rows_added other identifier priority owner more new kept placed, line_more targets names (rows_in ids places entries) identifier priority owner more new kept.kept.ranges kept.kept.named)
 
 pub kept_added : {ids targets : List ℕ} {names : Names} {places : List (Option ℕ)} {entries : List Entry} (other : List (Option ℕ)) (identifier priority : ℕ)
     (owner : Player) (more : List ℕ) (new : Option (Vec ℕ Global)) → AreKeptIn ids targets names places entries
@@ -370,23 +316,7 @@ noted_by places resized after line n place len made added =
     added ∙ ap (λ (ps : List (Option ℕ)). ps ++ place ∷ []) (made ∙ ap (λ (k : ℕ). take line places ++ nowhere (line - k)) len)
 
 front_long : (places : List (Option ℕ)) (line : ℕ) → length places ≤ line → length (take line places ++ nowhere (line - length places)) ≡ line
-front_long places line few =
-    omega (
-      arith,
-      length-append (take line places) (nowhere (line - length places)),
-      length-take line places,
-      length-replicate {A = Option ℕ}
-          (line - length places) None,
-    )
-
-pub noted_long : (places : List (Option ℕ)) (line : ℕ) (place : Option ℕ) → length places ≤ line → length (noted places line place) ≡ line + 1
-noted_long places line place few =
-    omega (arith, front_long places line few, length-append (take line places ++ nowhere (line - length places)) (place ∷ []))
-
-pub noted_here : (places : List (Option ℕ)) (line : ℕ) (place : Option ℕ) → length places ≤ line → place_at (noted places line place) line ≡ place
-noted_here places line place few =
-    let front = take line places ++ nowhere (line - length places) in
-    subst (λ (i : ℕ). place_at (front ++ place ∷ []) i ≡ place) (front_long places line few) (get_or-append_seam front place [] None)
+front_long places line few = grind (arith, nat_tests, length-append (take line places) (nowhere (line - length places)), length-take line places, length-replicate {A = Option ℕ} (line - length places) None)
 
 pub noted_before : (places : List (Option ℕ)) (line : ℕ) (place : Option ℕ) → length places ≤ line → (v : ℕ) → v < line
     → place_at (noted places line place) v ≡ place_at places v
@@ -401,8 +331,3 @@ noted_before places line place few v lt =
           ∙ get_or-replicate (line - length places) (v - length places) None None (omega arith)
           ∙ sym (get_or_past places v None high)
     ]
-
--- what holds anyway holds after an error
-pub after_error : {T E : Type 0} (r : Result T E) (P : Type 0) → P → OnErr r P
-after_error (Ok x) P p = tt
-after_error (Err e) P p = p

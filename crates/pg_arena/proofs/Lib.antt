@@ -1,5 +1,4 @@
 pub mod Beside
-pub mod Rising
 pub mod Members
 pub mod Adding
 pub mod Finishing

@@ -1,16 +1,14 @@
 -- Steps of the loops that write a list from its front on: so far it is as wanted, and behind that as it was.
 use Rattle.std.proofs.Common.{◌≡◌, ◌∙◌, ◌<◌, ◌+◌, ◌++◌, ◌∷◌, [], ℕ, List, length, map, take, drop, sym, ap, subst, arith}
-use Rattle.std.specs.Prelude.{get_or, set, slice_index, All}
+use Rattle.std.proofs.lemmas.Bool.Decides.{nat_tests}
+use Rattle.std.specs.Prelude.{set, slice_index, All}
 use Rattle.std.proofs.lemmas.List.{get_or-drop, drop-drop, drop-set-lt, take_more, take_more_set, map-append}
 use Rattle.std.proofs.lemmas.List.Elements.{All-push}
 use Rattle.pg_arena.specs.Mirrors.Links.{AreLinked}
 
 -- what isn't reached yet is read as it was
 pub read_left : (old now : List ℕ) (k : ℕ) → drop k now ≡ drop k old → slice_index now k ≡ slice_index old k
-read_left old now k left =
-    let here : k + 0 ≡ k = omega arith in
-    subst (λ (i : ℕ). get_or now i 0 ≡ get_or old i 0) here
-    (sym (get_or-drop k now 0 0) ∙ ap (λ (l : List ℕ). get_or l 0 0) left ∙ get_or-drop k old 0 0)
+read_left old now k left = grind (arith, nat_tests, get_or-drop k now 0 0, get_or-drop k old 0 0)
 
 -- and the rest stays so when the next one is written
 pub left_next : (old now : List ℕ) (k y : ℕ) → drop k now ≡ drop k old → drop (k + 1) (set now k y) ≡ drop (k + 1) old

@@ -10,7 +10,7 @@ use Rattle.std.proofs.Math.Seq.{get_or-append_seam}
 use Rattle.std.proofs.lemmas.Option.{get_or_from_slice_get}
 use Rattle.std.proofs.lemmas.List.Sorted.{searched}
 use Rattle.std.proofs.lemmas.Map.Keys.{sorted_from_strictly_increasing, non_decreasing_from_sorted}
-use Rattle.pg_arena.proofs.Rising.{has, has_from}
+use Rattle.pg_lists.proofs.Rising.{has, has_contained}
 
 pub has_none : (q : ℕ) (xs : List ℕ) → ((k : ℕ) → k < length xs → get_or xs k 0 ≡ q → ⊥) → has q xs ≡ false
 has_none q [] h = refl
@@ -22,7 +22,7 @@ above_last xs n last up is lt = has_none n xs (λ k within e.
     omega (arith, get_or_from_slice_get xs (length xs - 1) last 0 (sym is)))
 
 found : (q : ℕ) (xs : List ℕ) (r : Result ℕ ℕ) → MatchResult r (λ i. (i < length xs) × (get_or xs i 0 ≡ q)) (λ i. (i ≤ length xs) × ((k : ℕ) → k < i → get_or xs k 0 < q) × ((k : ℕ) → i ≤ k → k < length xs → q < get_or xs k 0)) → is_ok r ≡ has q xs
-found q xs (Ok i) h = sym (has_from q xs i (h.0) (get_or_default xs i q 0 (h.0) ∙ h.1))
+found q xs (Ok i) h = sym (has_contained q xs (i, h.0, get_or_default xs i q 0 h.0 ∙ h.1))
 found q xs (Err i) h = sym (has_none q xs (λ k lt e.
     elim (cases_lt k i) [
       | inl low ↦ (let below = h.1 k low in omega arith)

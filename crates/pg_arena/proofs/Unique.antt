@@ -1,54 +1,24 @@
 -- One list of lines has one game, and lines with a game have no reason against it.
-use Rattle.std.proofs.Common.{◌≡◌, ℕ, ◌<◌, true, false, eqb, List, [], ◌∷◌, length, get_or, map, Option, Result, Ok, Err, refl, sym, ap, subst, ◌∙◌, arith, inl, inr, All}
+use Rattle.std.proofs.Common.{◌≡◌, ℕ, ◌<◌, true, false, eqb, List, [], ◌∷◌, length, get_or, map, Result, Ok, Err, refl, sym, ap, subst, ◌∙◌, arith, inl, inr, All}
+use Rattle.std.proofs.lemmas.Bool.Decides.{nat_tests}
 use Rattle.std.specs.Prelude.{slice_index, ◌||◌, Contains, IfOk, IfErr, MatchResult}
-use Rattle.std.specs.List.Sorted.{IsPermutation, IsStrictlyIncreasing}
+use Rattle.std.specs.List.{AllPairs}
+use Rattle.std.specs.List.Sorted.{IsStrictlyIncreasing}
 use Rattle.std.proofs.lemmas.Bool.{cases_lt}
 use Rattle.std.proofs.lemmas.List.{length-map, get_or_default}
 use Rattle.std.proofs.lemmas.List.Elements.{All-head, All-tail, All-from_get_or, Contains-get_or}
-use Rattle.std.proofs.lemmas.List.Sorted.{IsPermutation-sym, IsPermutation-trans, length_permutation, Contains-permutation, list_any-IsPermutation}
+use Rattle.std.proofs.lemmas.List.Sorted.{IsPermutation-sym, length_permutation, Contains-permutation, list_any-IsPermutation}
 use Rattle.std.proofs.lemmas.Map.Keys.{sorted_from_strictly_increasing, below_from_sorted}
-use Rattle.std.proofs.Math.ListN.{get_or-map as get_or-map_at}
-use Rattle.pg_arena.specs.declared.player.Player.{Player}
 use Rattle.pg_arena.specs.declared.fault.ArenaFault.{ArenaFault}
-use Rattle.pg_arena.specs.declared.fault.ArenaFault.TheVariants.{OutOfMemory, DuplicateVertex, NoSuccessor, UnknownSuccessor, TooManyVertices, TooManyEdges, PriorityTooLarge, NoVertex}
+use Rattle.pg_arena.specs.declared.fault.ArenaFault.TheVariants.{OutOfMemory, UnknownSuccessor, NoVertex}
 use Rattle.pg_arena.specs.Games.{GameVertex, IsGame, identifiers, identifier, successors, vertex_at, nowhere, IsEdge}
 use Rattle.pg_arena.specs.Lines.{Line, IsGameOf, line_of, lines_of, IsUnknown, is_named, FinishFails}
-use Rattle.pg_arena.proofs.Rising.{has, has_contained, Up, up_sorted}
+use Rattle.pg_lists.proofs.Contained.{contains_map, contains_mapped, pairs_by, same_order}
+use Rattle.pg_lists.proofs.Rising.{has, has_contained}
 use Rattle.pg_arena.proofs.Finishing.{map_same, identifier_is}
-use Rattle.pg_arena.proofs.Unknown.{contains_cases, contains_here, contains_later, all_contained}
-
--- ---- lists of lines that rise by identifier
 
 abbrev id : Line → ℕ
 id line = line.identifier
-
-has_line : (lines : List Line) (line : Line) → Contains lines line → Contains (map id lines) (line.identifier)
-has_line lines line (k, lt, is) = (k, omega (arith, length-map lines id), get_or-map_at id lines k line ∙ ap id is)
-
--- two orders of the same lines that rise by identifier are one
-one_order : (xs ys : List Line) → Up (map id xs) → Up (map id ys) → ((line : Line) → Contains xs line → Contains ys line) → ((line : Line) → Contains ys line → Contains xs line) → xs ≡ ys
-one_order [] [] u v f g = refl
-one_order [] (y ∷ ys) u v f g = let c = g y (contains_here y ys) in let lt = c.1 in absurd (omega arith)
-one_order (x ∷ xs) [] u v f g = let c = f x (contains_here x xs) in let lt = c.1 in absurd (omega arith)
-one_order (x ∷ xs) (y ∷ ys) u v f g =
-    let same : x ≡ y = first x xs y ys u v (f x (contains_here x xs)) (g y (contains_here y ys)) in
-    let rest = one_order xs ys (u.1) (v.1) (λ line c. later x xs y ys line u same c (f line (contains_later x xs line c))) (λ line c. later y ys x xs line v (sym same) c (g line (contains_later y ys line c))) in
-    rw (same, rest) refl
-  where
-    first : (x : Line) (xs : List Line) (y : Line) (ys : List Line) → Up (map id (x ∷ xs)) → Up (map id (y ∷ ys)) → Contains (y ∷ ys) x → Contains (x ∷ xs) y → x ≡ y
-    first x xs y ys u v c d = elim (contains_cases y ys x c) [
-      | inl e ↦ e
-      | inr deep ↦ elim (contains_cases x xs y d) [
-        | inl e ↦ sym e
-        | inr other ↦ (let a : y.identifier < x.identifier = all_contained (λ n. y.identifier < n) (map id ys) (x.identifier) (v.0) (has_line ys x deep) in let b : x.identifier < y.identifier = all_contained (λ n. x.identifier < n) (map id xs) (y.identifier) (u.0) (has_line xs y other) in absurd (omega arith))
-      ]
-    ]
-
-    later : (x : Line) (xs : List Line) (y : Line) (ys : List Line) (line : Line) → Up (map id (x ∷ xs)) → x ≡ y → Contains xs line → Contains (y ∷ ys) line → Contains ys line
-    later x xs y ys line u same c d = elim (contains_cases y ys line d) [
-      | inl e ↦ (let lt : x.identifier < line.identifier = all_contained (λ n. x.identifier < n) (map id xs) (line.identifier) (u.0) (has_line xs line c) in let eq : line.identifier ≡ x.identifier = ap id (e ∙ sym same) in absurd (omega arith))
-      | inr deep ↦ deep
-    ]
 
 -- ---- the lines of a game
 
@@ -56,13 +26,14 @@ lines_named : (game xs : List GameVertex) → map id (map (line_of game) xs) ≡
 lines_named game [] = refl
 lines_named game (x ∷ xs) = ap (λ (ids : List ℕ). x.identifier ∷ ids) (lines_named game xs)
 
-up_lines : (game : List GameVertex) → IsGame game → Up (map id (lines_of game))
-up_lines game well = subst Up (sym (lines_named game game)) (up_sorted (identifiers game) (sorted_from_strictly_increasing (identifiers game) well.rising))
-
 same_lines_of : (lines : List Line) (game other : List GameVertex) → IsGameOf lines game → IsGameOf lines other → lines_of game ≡ lines_of other
 same_lines_of lines game other g o =
-    let moved : IsPermutation (lines_of game) (lines_of other) = IsPermutation-trans (lines_of game) lines (lines_of other) (IsPermutation-sym lines (lines_of game) g.same) o.same in
-    one_order (lines_of game) (lines_of other) (up_lines game g.well) (up_lines other o.well) (λ line c. Contains-permutation (lines_of game) (lines_of other) line moved c) (λ line c. Contains-permutation (lines_of other) (lines_of game) line (IsPermutation-sym (lines_of game) (lines_of other) moved) c)
+    same_order (λ x y. x.identifier < y.identifier) (lines_of game) (lines_of other) (λ x y a b. omega arith) (up game g.well) (up other o.well)
+    (λ line c. Contains-permutation lines (lines_of other) line o.same (Contains-permutation (lines_of game) lines line (IsPermutation-sym lines (lines_of game) g.same) c))
+    (λ line c. Contains-permutation lines (lines_of game) line g.same (Contains-permutation (lines_of other) lines line (IsPermutation-sym lines (lines_of other) o.same) c))
+  where
+    up : (game : List GameVertex) → IsGame game → AllPairs (λ x y. x.identifier < y.identifier) (lines_of game)
+    up game well = pairs_by id (lines_of game) (subst IsStrictlyIncreasing (sym (lines_named game game)) well.rising)
 
 -- successors with the same identifiers are the same
 same_successors : (ids xs ys : List ℕ) → IsStrictlyIncreasing ids → All (λ v. v < length ids) xs → All (λ v. v < length ids) ys → map (slice_index ids) xs ≡ map (slice_index ids) ys → xs ≡ ys
@@ -84,13 +55,8 @@ same_successors ids (x ∷ xs) (y ∷ ys) up a b h =
       ]
     ]
 
-same_vertex : (x y : GameVertex) → x.identifier ≡ y.identifier → x.priority ≡ y.priority → x.owner ≡ y.owner → x.successors ≡ y.successors → x.name ≡ y.name → x ≡ y
-same_vertex x y i p o s n =
-    ap (λ (i : ℕ). let v : GameVertex = record x { identifier = i } in v) i
-    ∙ ap (λ (p : ℕ). let v : GameVertex = record x { identifier = y.identifier; priority = p } in v) p
-    ∙ ap (λ (o : Player). let v : GameVertex = record x { identifier = y.identifier; priority = y.priority; owner = o } in v) o
-    ∙ ap (λ (s : List ℕ). let v : GameVertex = record x { identifier = y.identifier; priority = y.priority; owner = y.owner; successors = s } in v) s
-    ∙ ap (λ (n : Option (List ℕ)). let v : GameVertex = record y { name = n } in v) n
+pub same_vertex : (x y : GameVertex) → x.identifier ≡ y.identifier → x.priority ≡ y.priority → x.owner ≡ y.owner → x.successors ≡ y.successors → x.name ≡ y.name → x ≡ y
+same_vertex x y i p o s n = grind (arith, nat_tests)
 
 abbrev AllIn : ℕ → List GameVertex → Type 0
 AllIn n xs = All (λ x. All (λ v. v < n) x.successors) xs
@@ -129,13 +95,6 @@ one_game lines game other g o =
 
 -- ---- lines with a game have no unknown successor
 
-contains_map : {X Y : Type 0} (f : X → Y) (xs : List X) (y : Y) → Contains (map f xs) y → (x : X) × Contains xs x × (f x ≡ y)
-contains_map f [] y (k, lt, is) = absurd (omega arith)
-contains_map f (x ∷ xs) y c = elim (contains_cases (f x) (map f xs) y c) [
-  | inl same ↦ (x, contains_here x xs, sym same)
-  | inr later ↦ (let p = contains_map f xs y later in (p.0, contains_later x xs (p.0) (p.1), p.2))
-]
-
 named_by_ids : (lines : List Line) (q : ℕ) → is_named lines q ≡ has q (map id lines)
 named_by_ids [] q = refl
 named_by_ids (line ∷ lines) q = ap (λ b. eqb q (line.identifier) || b) (named_by_ids lines q)
@@ -145,7 +104,7 @@ named_vertex lines game v g lt =
     let q : ℕ = identifier game v in
     list_any-IsPermutation (λ (line : Line). eqb q line.identifier) lines (lines_of game) g.same
     ∙ named_by_ids (lines_of game) q ∙ ap (has q) (lines_named game game)
-    ∙ has_contained q (identifiers game) (has_line game (vertex_at game v) (contains_vertex game v lt))
+    ∙ has_contained q (identifiers game) (contains_mapped (λ (x : GameVertex). x.identifier) game (vertex_at game v) (contains_vertex game v lt))
 
 pub no_unknown : (lines : List Line) (game : List GameVertex) (i s : ℕ) → IsGameOf lines game → IsUnknown lines i s → ⊥
 no_unknown lines game i s g u =
@@ -168,11 +127,7 @@ only_memory : (lines : List Line) (game : List GameVertex) (e : ArenaFault) → 
 only_memory lines game OutOfMemory g f = refl
 only_memory lines game NoVertex g f = absurd (no_lines lines game g f)
 only_memory lines game (UnknownSuccessor i s) g f = absurd (no_unknown lines game i s g f.unknown)
-only_memory lines game (DuplicateVertex i) g f = absurd f
-only_memory lines game (NoSuccessor i) g f = absurd f
-only_memory lines game (PriorityTooLarge i p) g f = absurd f
-only_memory lines game TooManyVertices g f = absurd f
-only_memory lines game TooManyEdges g f = absurd f
+only_memory lines game _ g f = absurd f
 
 pub only : (lines : List Line) (r : Result (List GameVertex) ArenaFault) → IfOk r (IsGameOf lines) → IfErr r (FinishFails lines) → (game : List GameVertex) → IsGameOf lines game → MatchResult r (λ g. g ≡ game) (λ e. e ≡ OutOfMemory)
 only lines (Ok g) ok err game is = one_game lines g game ok is

@@ -1,53 +1,40 @@
 -- The first unknown successor of sorted entries is the least of the lines.
-use Rattle.std.proofs.Common.{◌≡◌, ℕ, zero, suc, ◌≤◌, ◌<◌, true, false, not, cond, eqb, List, [], ◌∷◌, length, get_or, ◌+◌, map, drop, Option, Some, None, refl, sym, ap, subst, ◌∙◌, ◌⊎◌, arith, inl, inr, All}
+use Rattle.std.proofs.Common.{◌≡◌, ℕ, ◌≤◌, ◌<◌, true, false, not, cond, eqb, List, [], ◌∷◌, length, get_or, ◌+◌, drop, Option, Some, None, refl, sym, ap, subst, ◌∙◌, ◌⊎◌, arith, inl, inr, All}
+use Rattle.std.proofs.lemmas.Bool.Decides.{nat_tests}
 use Rattle.std.specs.Prelude.{slice_range, Contains, IsSome, option_map}
 use Rattle.std.specs.Option.{option_or}
-use Rattle.std.specs.List.{flat_map, AllByRecursion}
+use Rattle.std.specs.List.{AllPairs}
+use Rattle.std.specs.List.Sorted.{IsStrictlyIncreasing}
 use Rattle.std.specs.declared.vec.Vec.{Vec}
 use Rattle.std.specs.declared.alloc.Global.{Global}
 use Rattle.std.proofs.lemmas.List.{drop_more, drop_all}
 use Rattle.std.proofs.lemmas.Option.{some_pair_parts}
-use Rattle.std.proofs.lemmas.List.Elements.{All-head, All-tail, Contains-append_cases}
+use Rattle.std.proofs.lemmas.List.Elements.{All-head, All-tail}
 use Rattle.std.proofs.lemmas.List.Sorted.{Contains-permutation, IsPermutation-sym, list_any-IsPermutation}
-use Rattle.std.proofs.lemmas.Map.Keys.{sorted_from_strictly_increasing}
+use Rattle.std.proofs.lemmas.List.Kept.{AllPairs-from_increasing}
 use Rattle.pg_arena.specs.declared.entry.Entry.{Entry}
 use Rattle.pg_arena.specs.Lines.{Line, is_named, IsUnknown, IsLeastUnknown}
 use Rattle.pg_arena.specs.Mirrors.Entries.{Row, row_of, rows_in, entry_at, vertex_in, vertices_in, IsOrderly}
 use Rattle.pg_arena.specs.Mirrors.Links.{HasUnknown, unknown_in, first_unknown_in}
-use Rattle.pg_arena.proofs.Rising.{has, Up, up_sorted}
+use Rattle.pg_lists.proofs.Contained.{Rises, contains_cases, contains_here, contains_later, contains_flat, pairs_head, pairs_tail, pairs_by}
+use Rattle.pg_lists.proofs.Rising.{has}
 use Rattle.pg_arena.proofs.Beside.{rows_long, row_at}
 use Rattle.pg_arena.proofs.Adding.{named_is}
-use Rattle.pg_arena.proofs.Finishing.{IsReady}
+use Rattle.pg_arena.proofs.Finishing.{IsReady, identifiers_are}
 
 abbrev Names : Type 0
 Names = List (Vec ℕ Global)
-
--- ---- membership, the first element apart
-
-pub contains_cases : {X : Type 0} (x : X) (xs : List X) (y : X) → Contains (x ∷ xs) y → (y ≡ x) ⊎ Contains xs y
-contains_cases x xs y (zero, lt, is) = inl (sym is)
-contains_cases x xs y (suc k, lt, is) = inr (k, omega arith, is)
-
-pub contains_here : {X : Type 0} (x : X) (xs : List X) → Contains (x ∷ xs) x
-contains_here x xs = (0, omega arith, refl)
-
-pub contains_later : {X : Type 0} (x : X) (xs : List X) (y : X) → Contains xs y → Contains (x ∷ xs) y
-contains_later x xs y (k, lt, is) = (suc k, omega arith, is)
-
-pub all_contained : (P : ℕ → Type 0) (xs : List ℕ) (y : ℕ) → AllByRecursion P xs → Contains xs y → P y
-all_contained P [] y all (k, lt, is) = absurd (omega arith)
-all_contained P (x ∷ xs) y all c = elim (contains_cases x xs y c) [ inl same ↦ subst P (sym same) (all.0) | inr later ↦ all_contained P xs y (all.1) later ]
 
 -- ---- one entry's successors
 
 abbrev IsLeastOf : List ℕ → List ℕ → ℕ → Type 0
 IsLeastOf ids ns n = Contains ns n × (has n ids ≡ false) × ((a : ℕ) → Contains ns a → has a ids ≡ false → n ≤ a)
 
-found_least : (ids ns : List ℕ) (n : ℕ) → Up ns → unknown_in ids ns ≡ Some n → IsLeastOf ids ns n
+found_least : (ids ns : List ℕ) (n : ℕ) → Rises ns → unknown_in ids ns ≡ Some n → IsLeastOf ids ns n
 found_least ids [] n up h = absurd cc
 found_least ids (m ∷ ms) n up h =
     elim (has m ids) as (λ b. has m ids ≡ b → cond (not b) (Some m) (unknown_in ids ms) ≡ Some n → IsLeastOf ids (m ∷ ms) n) [
-      | true ↦ λ known h. (let rest = found_least ids ms n (up.1) h in (
+      | true ↦ λ known h. (let rest = found_least ids ms n (pairs_tail (λ x y. x < y) m ms up) h in (
         contains_later m ms n (rest.0),
         rest.1,
         λ a c none. elim
@@ -60,7 +47,7 @@ found_least ids (m ∷ ms) n up h =
         subst (Contains (m ∷ ms)) same (contains_here m ms),
         subst (λ (k : ℕ). has k ids ≡ false) same none,
         λ a c other. elim
-            (contains_cases m ms a c) [ inl e ↦ omega arith | inr later ↦ (let lt : m < a = all_contained (λ y. m < y) ms a (up.0) later in omega arith) ],
+            (contains_cases m ms a c) [ inl e ↦ omega arith | inr later ↦ (let lt : m < a = pairs_head (λ x y. x < y) m ms a up later in omega arith) ],
       ))
     ] refl h
 
@@ -92,25 +79,16 @@ record IsLeastBy (ids : List ℕ) (lines : List Line) (identifier successor : �
 
 unknown_cases : (ids : List ℕ) (line : Line) (lines : List Line) (i s : ℕ) → IsUnknownBy ids (line ∷ lines) i s
     → ((line.identifier ≡ i) × Contains (line.successors) s × (has s ids ≡ false)) ⊎ IsUnknownBy ids lines i s
-unknown_cases ids line lines i s u = elim (contains_cases line lines u.line u.given) [
-  | inl same ↦ inl (ap (λ (l : Line). l.identifier) (sym same) ∙ u.of, subst (λ (l : Line). Contains (l.successors) s) same u.leads, u.undefined)
-  | inr later ↦ inr (record { line = u.line; given = later; of = u.of; leads = u.leads; undefined = u.undefined })
-]
+unknown_cases ids line lines i s u = grind (arith, nat_tests, contains_cases line lines u.line u.given)
 
 unknown_later : (ids : List ℕ) (line : Line) (lines : List Line) (i s : ℕ) → IsUnknownBy ids lines i s → IsUnknownBy ids (line ∷ lines) i s
 unknown_later ids line lines i s u =
     record { line = u.line; given = contains_later line lines u.line u.given; of = u.of; leads = u.leads; undefined = u.undefined }
 
--- an unknown successor's line stands among later identifiers
-above : (ids targets : List ℕ) (names : Names) (rows : List Row) (low i s : ℕ) → AllByRecursion (λ y. low < y) (map (λ e. e.identifier) rows)
-    → IsUnknownBy ids (vertices_in targets names rows) i s → low < i
-above ids targets names [] low i s all u = let lt = u.given.1 in absurd (omega arith)
-above ids targets names (e ∷ rows) low i s all u = elim (unknown_cases ids (vertex_in targets names e) (vertices_in targets names rows) i s u) [
-  | inl here ↦ omega (arith, here.0, all.0)
-  | inr later ↦ above ids targets names rows low i s (all.1) later
-]
+abbrev Before : Line → Line → Type 0
+Before x y = x.identifier < y.identifier
 
-least_by : (ids targets : List ℕ) (names : Names) (rows : List Row) (i s : ℕ) → Up (map (λ e. e.identifier) rows)
+least_by : (ids targets : List ℕ) (names : Names) (rows : List Row) (i s : ℕ) → AllPairs Before (vertices_in targets names rows)
     → All IsOrderly (vertices_in targets names rows) → first_unknown_in ids targets rows ≡ Some (i, s) → IsLeastBy ids (vertices_in targets names rows) i s
 least_by ids targets names [] i s up orderly h = absurd cc
 least_by ids targets names (e ∷ rows) i s up orderly h =
@@ -122,7 +100,7 @@ least_by ids targets names (e ∷ rows) i s up orderly h =
     elim (unknown_in ids ns) as (λ o. unknown_in ids ns ≡ o
     → option_or (option_map (λ n. (e.identifier, n)) o) (first_unknown_in ids targets rows) ≡ Some (i, s) → IsLeastBy ids (line ∷ lines) i s) [
       | Some n ↦ λ is h. (let p = some_pair_parts (e.identifier) i n s h in
-          let f = found_least ids ns n (up_sorted ns (sorted_from_strictly_increasing ns first.rise)) is in
+          let f = found_least ids ns n (AllPairs-from_increasing ns first.rise) is in
           record {
             unknown = record {
               line = line;
@@ -134,14 +112,14 @@ least_by ids targets names (e ∷ rows) i s up orderly h =
             };
             least_identifier = λ o a u. elim (unknown_cases ids line lines o a u) [
               | inl here ↦ omega (arith, here.0, p.0)
-              | inr later ↦ (let lt = above ids targets names rows (e.identifier) o a (up.0) later in omega (arith, p.0))
+              | inr later ↦ (let lt : Before line later.line = pairs_head Before line lines later.line up later.given in omega (arith, p.0, later.of))
             ];
             least_successor = λ a u. elim (unknown_cases ids line lines i a u) [
               | inl here ↦ omega (arith, f.2 a (here.1) (here.2), p.1)
-              | inr later ↦ (let lt = above ids targets names rows (e.identifier) i a (up.0) later in absurd (omega (arith, p.0)))
+              | inr later ↦ (let lt : Before line later.line = pairs_head Before line lines later.line up later.given in absurd (omega (arith, p.0, later.of)))
             ];
           })
-      | None ↦ λ is h. (let r = least_by ids targets names rows i s (up.1) rest h in
+      | None ↦ λ is h. (let r = least_by ids targets names rows i s (pairs_tail Before line lines up) rest h in
           record {
             unknown = unknown_later ids line lines i s r.unknown;
             least_identifier = λ o a u. elim (unknown_cases ids line lines o a u) [
@@ -202,9 +180,7 @@ pub unknown_same : (all targets ids : List ℕ) (places other : List (Option ℕ
     → first_unknown_in all targets (rows_in ids places entries) ≡ first_unknown_in all targets (rows_in ids other entries)
 unknown_same all targets [] places other entries = refl
 unknown_same all targets (i ∷ ids) places other [] = refl
-unknown_same all targets (i ∷ ids) places other (e ∷ entries) =
-    ap (option_or (option_map (λ n. (i, n)) (unknown_in all (slice_range targets (e.from) (e.to)))))
-    (unknown_same all targets ids (drop 1 places) (drop 1 other) entries)
+unknown_same all targets (i ∷ ids) places other (e ∷ entries) = grind (arith, nat_tests, unknown_same all targets ids (drop 1 places) (drop 1 other) entries)
 
 -- ---- and so of the lines
 
@@ -216,33 +192,17 @@ named_same {lines} {ids} {targets} {names} {sorted} q r =
 
 to_lines : {lines : List Line} {ids targets : List ℕ} {names : Names} {sorted : List Row} (i s : ℕ) → IsReady lines ids targets names sorted
     → IsUnknownBy ids (vertices_in targets names sorted) i s → IsUnknown lines i s
-to_lines {lines} {ids} {targets} {names} {sorted} i s r u =
-    record {
-      line = u.line;
-      given =
-          Contains-permutation (vertices_in targets names sorted) lines u.line (IsPermutation-sym lines (vertices_in targets names sorted) r.same) u.given;
-      of =
-          u.of;
-      leads = u.leads;
-      undefined = named_same s r ∙ u.undefined;
-    }
+to_lines {lines} {ids} {targets} {names} {sorted} i s r u = grind (arith, nat_tests, Contains-permutation (vertices_in targets names sorted) lines u.line (IsPermutation-sym lines (vertices_in targets names sorted) r.same) u.given, named_same s r)
 
 from_lines : {lines : List Line} {ids targets : List ℕ} {names : Names} {sorted : List Row} (i s : ℕ) → IsReady lines ids targets names sorted
     → IsUnknown lines i s → IsUnknownBy ids (vertices_in targets names sorted) i s
-from_lines {lines} {ids} {targets} {names} {sorted} i s r u =
-    record {
-      line = u.line;
-      given = Contains-permutation lines (vertices_in targets names sorted) u.line r.same u.given;
-      of = u.of;
-      leads = u.leads;
-      undefined =
-          sym (named_same s r) ∙ u.undefined;
-    }
+from_lines {lines} {ids} {targets} {names} {sorted} i s r u = grind (arith, nat_tests, Contains-permutation lines (vertices_in targets names sorted) u.line r.same u.given, named_same s r)
 
 pub least_unknown : {lines : List Line} {ids targets : List ℕ} {names : Names} {sorted : List Row} (i s : ℕ) → IsReady lines ids targets names sorted
     → first_unknown_in ids targets sorted ≡ Some (i, s) → IsLeastUnknown lines i s
 least_unknown {lines} {ids} {targets} {names} {sorted} i s r h =
-    let up : Up (map (λ (e : Row). e.identifier) sorted) = subst Up r.listed (up_sorted ids (sorted_from_strictly_increasing ids r.rising)) in
+    let up : AllPairs Before (vertices_in targets names sorted) = pairs_by (λ line. line.identifier) (vertices_in targets names sorted)
+    (subst IsStrictlyIncreasing (r.listed ∙ sym (identifiers_are targets names sorted)) r.rising) in
     let l = least_by ids targets names sorted i s up r.orderly h in
     record {
       unknown = to_lines i s r l.unknown;
@@ -250,18 +210,10 @@ least_unknown {lines} {ids} {targets} {names} {sorted} i s r h =
       least_successor = λ a u. l.least_successor a (from_lines i a r u);
     }
 
-in_line : (lines : List Line) (n : ℕ) → Contains (flat_map (λ line. line.successors) lines) n
-    → (line : Line) × Contains lines line × Contains (line.successors) n
-in_line [] n (k, lt, is) = absurd (omega arith)
-in_line (line ∷ lines) n c = elim (Contains-append_cases (line.successors) (flat_map (λ (l : Line). l.successors) lines) n c) [
-  | inl here ↦ (line, contains_here line lines, here)
-  | inr later ↦ (let p = in_line lines n later in (p.0, contains_later line lines (p.0) (p.1), p.2))
-]
-
 pub some_unknown : {lines : List Line} {ids targets : List ℕ} {names : Names} {sorted : List Row} → IsReady lines ids targets names sorted
     → HasUnknown ids targets → IsSome (first_unknown_in ids targets sorted)
 some_unknown {lines} {ids} {targets} {names} {sorted} r (n, there, none) =
-    let l = in_line lines n (subst (λ (ts : List ℕ). Contains ts n) r.laid there) in
+    let l = contains_flat (λ (line : Line). line.successors) lines n (subst (λ (ts : List ℕ). Contains ts n) r.laid there) in
     let u : IsUnknown lines ((l.0).identifier) n = record { line = l.0; given = l.1; of = refl; leads = l.2; undefined = named_same n r ∙ none } in
     elim (first_unknown_in ids targets sorted) as (λ o. first_unknown_in ids targets sorted ≡ o → IsSome o) [
       | Some p ↦ λ is. refl

@@ -1,5 +1,6 @@
 -- The vertex of an identifier, by its place among the identifiers.
 use Rattle.std.proofs.Common.{◌≡◌, ℕ, ◌≤◌, ◌<◌, true, false, List, [], length, get_or, Option, Some, sym, ap, subst, ◌∙◌, arith, inl, inr}
+use Rattle.std.proofs.lemmas.Bool.Decides.{nat_tests}
 use Rattle.std.specs.Prelude.{slice_index, Contains, All, ◌^◌}
 use Rattle.std.specs.List.Sorted.{IsStrictlyIncreasing}
 use Rattle.std.specs.declared.vec.Vec.{Vec}
@@ -12,7 +13,7 @@ use Rattle.pg_arena.specs.declared.entry.Entry.{Entry}
 use Rattle.pg_arena.specs.Games.{GameVertex, identifiers, identifier, vertex_at, nowhere}
 use Rattle.pg_arena.specs.Mirrors.Entries.{Row, row_of, rows_in, place_at, entry_at, vertex_in, vertices_in, IsBuilt, IsBuiltIn}
 use Rattle.pg_arena.proofs.Beside.{rows_long, row_at}
-use Rattle.pg_arena.proofs.Rising.{has, has_contained}
+use Rattle.pg_lists.proofs.Rising.{has, has_contained}
 use Rattle.pg_arena.proofs.Finishing.{identifiers_are, identifier_is}
 
 pub record IsListed (ids : List ℕ) (game : List GameVertex) : Type 0 where
@@ -21,12 +22,7 @@ pub record IsListed (ids : List ℕ) (game : List GameVertex) : Type 0 where
 
 pub listed_by : {ids targets : List ℕ} {names : List (Vec ℕ Global)} {rows : List Row} (game : List GameVertex) → IsBuilt ids targets names rows
     → vertices_in targets names rows ≡ game → IsListed ids game
-listed_by {ids} {targets} {names} {rows} game b view =
-    let listed : ids ≡ identifiers game = b.named ∙ sym (identifiers_are targets names rows) ∙ ap identifiers view in
-    record {
-      listed = listed;
-      rising = subst IsStrictlyIncreasing (sym (b.named ∙ sym (identifiers_are targets names rows))) b.game.rising;
-    }
+listed_by {ids} {targets} {names} {rows} game b view = grind (arith, nat_tests, identifiers_are targets names rows)
 
 at_place : (ids : List ℕ) (game : List GameVertex) (v : ℕ) → IsListed ids game → slice_index ids v ≡ identifier game v
 at_place ids game v l = ap (λ (is : List ℕ). slice_index is v) l.listed ∙ sym (identifier_is game v)

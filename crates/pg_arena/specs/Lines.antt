@@ -1,7 +1,10 @@
 -- A game as it is given, a line for each vertex, and the game that the lines make.
-use Rattle.std.specs.Prelude.{◌≡◌, ℕ, ◌+◌, ◌≤◌, Bool, false, List, [], ◌∷◌, ◌++◌, length, map, Option, Some, None, Result, Ok, Err, ◌==◌, nat_lt, nat_le, if◌then◌else◌, Contains}
+use Rattle.std.specs.Prelude.{◌≡◌, ℕ, ◌+◌, ◌≤◌, Bool, false, List, [], ◌∷◌, ◌++◌, length, map, Option, Some, None, option_copied, Result, Ok, Err, ◌==◌, nat_lt, nat_le, if◌then◌else◌, Contains}
+use Rattle.std.specs.Borrow.{Bor}
 use Rattle.std.specs.List.{list_any}
 use Rattle.std.specs.List.Sorted.{IsPermutation}
+use Rattle.pg_lists.specs.Rising.{rising}
+use Rattle.pg_arena.specs.declared.player.Player.{Player}
 use Rattle.pg_arena.specs.declared.fault.ArenaFault.{ArenaFault}
 use Rattle.pg_arena.specs.declared.fault.ArenaFault.TheVariants.{OutOfMemory, DuplicateVertex, NoSuccessor, UnknownSuccessor, TooManyVertices, TooManyEdges, PriorityTooLarge, NoVertex}
 use Rattle.pg_arena.specs.declared.limits.TheConstants.{MAX_PRIORITY, MAX_VERTICES, MAX_EDGES}
@@ -11,19 +14,14 @@ use Rattle.pg_arena.specs.Games.{GameVertex, IsGame, identifier, edge_count}
 abbrev pub Line : Type 0
 Line = GameVertex
 
--- a number put in its place, unless it is there
-abbrev pub put : ℕ → List ℕ → List ℕ
-put n [] = n ∷ []
-put n (m ∷ ms) = if nat_lt n m then n ∷ m ∷ ms else (if n == m then m ∷ ms else m ∷ put n ms)
-
--- each number once, the least first
-abbrev pub each_once : List ℕ → List ℕ
-each_once [] = []
-each_once (n ∷ ns) = put n (each_once ns)
+-- the line of these parts
+abbrev pub line_with : ℕ → ℕ → Player → List ℕ → Option (Bor (List ℕ)) → Line
+line_with identifier priority owner successors name =
+    record { identifier = identifier; priority = priority; owner = owner; successors = successors; name = option_copied name }
 
 -- a repeated successor counts once
 abbrev pub counted : Line → Line
-counted line = record line { successors = each_once line.successors }
+counted line = record line { successors = rising line.successors }
 
 -- some line has this identifier
 abbrev pub is_named : List Line → ℕ → Bool

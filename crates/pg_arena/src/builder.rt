@@ -4,12 +4,13 @@ ghost use Rattle.std.specs.Prelude.{◌≡◌, ◌++◌, ◌∷◌, [], IsTrue, 
 ghost use Rattle.std.specs.List.Sorted.{IsStrictlyIncreasing};
 ghost use Rattle.pg_arena.specs.declared.fault.ArenaFault.TheVariants.{OutOfMemory};
 ghost use Rattle.pg_arena.specs.Games.{GameVertex, HasPrioritiesUpTo};
-ghost use Rattle.pg_arena.specs.Lines.{Line, counted, each_once, add_fault, Answers, IsGameOf, FinishFails};
+ghost use Rattle.pg_arena.specs.Lines.{Line, line_with, counted, add_fault, Answers, IsGameOf, FinishFails};
+ghost use Rattle.pg_lists.specs.Rising.{rising};
 
 use crate::fault::ArenaFault;
 use crate::game::Game;
 use crate::limits::MAX_PRIORITY;
-use crate::lines::Lines;
+use crate::lines::GivenLines;
 use crate::player::Player;
 use std::alloc::{AllocError, Global};
 use std::marker::Model;
@@ -17,7 +18,7 @@ use std::marker::Model;
 /// Takes the lines of a game one after another, each the whole of a vertex. Contracts see the lines that it took.
 #[derive(Drop)]
 pub struct GameBuilder {
-    lines: Lines,
+    lines: GivenLines,
     buffer: Vec<u32>,
 }
 
@@ -36,7 +37,7 @@ impl GameBuilder {
         ensures { result ≡ [] }
     {
         GameBuilder {
-            lines: Lines::new(alloc),
+            lines: GivenLines::new(alloc),
             buffer: Vec::new(alloc),
         }
     }
@@ -57,22 +58,8 @@ impl GameBuilder {
         successors: &[u32],
         name: Option<&[u8]>,
     ) -> Result<(), ArenaFault>
-        ensures answer { let line : Line = record {
-          identifier = identifier;
-          priority = priority;
-          owner = owner;
-          successors = successors.now;
-          name = option_copied name.entry;
-        }
-            in Answers result (add_fault self.old (counted line)) }
-        ensures ok { let line : Line = record {
-          identifier = identifier;
-          priority = priority;
-          owner = owner;
-          successors = successors.now;
-          name = option_copied name.entry;
-        }
-            in OnOk result (self.new ≡ self.old ++ counted line ∷ []) }
+        ensures answer { Answers result (add_fault self.old (counted (line_with identifier priority owner successors.now name.entry))) }
+        ensures ok { OnOk result (self.new ≡ self.old ++ counted (line_with identifier priority owner successors.now name.entry) ∷ []) }
         ensures err { OnErr result (self.new ≡ self.old) }
     {
         if rise(successors) {
@@ -111,7 +98,7 @@ fn rise(numbers: &[u32]) -> bool
 
 /// Makes the list that of the numbers, each once, the least first.
 fn put_each_once(list: &mut Vec<u32>, numbers: &[u32]) -> Result<(), AllocError>
-    ensures { OnOk result (list.new.items ≡ each_once numbers.now) }
+    ensures { OnOk result (list.new.items ≡ rising numbers.now) }
 {
     list.clear();
     list.extend_from_slice(numbers)?;

@@ -10,7 +10,7 @@ use crate::fault::ArenaFault;
 use crate::limits::MAX_PRIORITY;
 use crate::place::place_of;
 use crate::player::Player;
-use crate::rows::{Rows, place_at};
+use crate::rows::{SortedLines, place_at};
 use crate::vertex::Vertex;
 use std::alloc::{AllocError, Global};
 use std::marker::Model;
@@ -51,7 +51,7 @@ impl Game {
 
     pub(crate) fn from_parts(
         alloc: Global,
-        rows: Rows,
+        rows: SortedLines,
         targets: Vec<Vertex>,
         names: Vec<Vec<u8>>,
     ) -> Result<Game, ArenaFault>
@@ -60,7 +60,7 @@ impl Game {
             (rows_in rows.identifiers.items rows.places.items rows.entries.items)) }
         ensures fault { IfErr result (λ e. e ≡ OutOfMemory) }
     {
-        let Rows {
+        let SortedLines {
             identifiers,
             entries,
             places,

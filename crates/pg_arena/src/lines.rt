@@ -3,7 +3,7 @@
 ghost use Rattle.std.specs.Prelude.{◌≡◌, ℕ, ◌+◌, ◌++◌, ◌∷◌, [], ◌<◌, ◌≤◌, IsTrue, OnOk, OnErr, IfOk, IfErr, IsSome, None, option_map, option_copied, option_to_list, length, vec_len, vec_capacity};
 ghost use Rattle.std.specs.List.Sorted.{IsStrictlyIncreasing};
 ghost use Rattle.pg_arena.specs.Games.{HasPrioritiesUpTo};
-ghost use Rattle.pg_arena.specs.Lines.{Line, add_fault, Answers, IsGameOf, FinishFails};
+ghost use Rattle.pg_arena.specs.Lines.{Line, line_with, add_fault, Answers, IsGameOf, FinishFails};
 ghost use Rattle.pg_arena.specs.Mirrors.Entries.{place_at};
 
 use crate::entry::Entry;
@@ -22,7 +22,7 @@ use std::marker::Model;
 /// line stands in the list of names, and where it does in the list of places, which ends with the last line that has a
 /// name.
 #[derive(Drop)]
-pub(crate) struct Lines {
+pub(crate) struct GivenLines {
     identifiers: Identifiers,
     entries: Vec<Entry>,
     targets: Vec<Vertex>,
@@ -31,7 +31,7 @@ pub(crate) struct Lines {
     alloc: Global,
 }
 
-impl Model for Lines {
+impl Model for GivenLines {
     ghost use Rattle.std.specs.Prelude.{List};
     ghost use Rattle.pg_arena.specs.Lines.{Line};
     ghost use Rattle.pg_arena.specs.Mirrors.Entries.{vertices_in, rows_in, AreKeptIn};
@@ -44,11 +44,11 @@ impl Model for Lines {
     ghost invariant = { λ l. AreKeptIn l.identifiers l.targets.items l.names.items l.places.items l.entries.items };
 }
 
-impl Lines {
-    pub fn new(alloc: Global) -> Lines
+impl GivenLines {
+    pub fn new(alloc: Global) -> GivenLines
         ensures { result ≡ [] }
     {
-        Lines {
+        GivenLines {
             identifiers: Identifiers::new(alloc),
             entries: Vec::new(alloc),
             targets: Vec::new(alloc),
@@ -69,22 +69,8 @@ impl Lines {
         name: Option<&[u8]>,
     ) -> Result<(), ArenaFault>
         requires { IsStrictlyIncreasing successors.now }
-        ensures answer { let line : Line = record {
-          identifier = identifier;
-          priority = priority;
-          owner = owner;
-          successors = successors.now;
-          name = option_copied name.entry;
-        }
-            in Answers result (add_fault self.old line) }
-        ensures ok { let line : Line = record {
-          identifier = identifier;
-          priority = priority;
-          owner = owner;
-          successors = successors.now;
-          name = option_copied name.entry;
-        }
-            in OnOk result (self.new ≡ self.old ++ line ∷ []) }
+        ensures answer { Answers result (add_fault self.old (line_with identifier priority owner successors.now name.entry)) }
+        ensures ok { OnOk result (self.new ≡ self.old ++ line_with identifier priority owner successors.now name.entry ∷ []) }
         ensures err { OnErr result (self.new ≡ self.old) }
     {
         if let Some(fault) = self.fault_of(identifier, priority, successors) {
@@ -129,22 +115,8 @@ impl Lines {
         name: Option<&[u8]>,
     ) -> Result<(), AllocError>
         requires rising { IsStrictlyIncreasing successors.now }
-        requires accepted { let line : Line = record {
-          identifier = identifier;
-          priority = priority;
-          owner = owner;
-          successors = successors.now;
-          name = option_copied name;
-        }
-            in add_fault self.old line ≡ None }
-        ensures ok { let line : Line = record {
-          identifier = identifier;
-          priority = priority;
-          owner = owner;
-          successors = successors.now;
-          name = option_copied name.entry;
-        }
-            in OnOk result (self.new ≡ self.old ++ line ∷ []) }
+        requires accepted { add_fault self.old (line_with identifier priority owner successors.now name) ≡ None }
+        ensures ok { OnOk result (self.new ≡ self.old ++ line_with identifier priority owner successors.now name.entry ∷ []) }
         ensures err { OnErr result (self.new ≡ self.old) }
     {
         let line = self.entries.len();
@@ -173,7 +145,7 @@ impl Lines {
         ensures priorities { IfOk result (HasPrioritiesUpTo MAX_PRIORITY) }
         ensures fault { IfErr result (λ fault. FinishFails self fault) }
     {
-        let Lines {
+        let GivenLines {
             identifiers,
             entries,
             mut targets,

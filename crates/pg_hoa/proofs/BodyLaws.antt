@@ -3,10 +3,10 @@ use Rattle.std.proofs.Common.{◌≡◌, ℕ, suc, zero, ◌≤◌, ◌<◌, Boo
 use Rattle.std.specs.Prelude.{map, codes, Contains, ◌==◌, ◌||◌, nat_lt}
 use Rattle.std.specs.List.{AllByRecursion, flat_map}
 use Rattle.std.specs.Str.{bytes_eq}
-use Rattle.std.proofs.lemmas.Bool.{ltb-true, lt-ltb, eq-eqb}
+use Rattle.std.proofs.lemmas.Bool.{lt-ltb, eq-eqb}
 use Rattle.std.proofs.lemmas.List.{length-append}
-use Rattle.std.proofs.lemmas.List.Elements.{All-nil, All-cons, All-head, All-tail, All-from_recursion, All-map, All-contains, Contains-append_left, Contains-append_right, Contains-push}
-use Rattle.std.proofs.lemmas.Bool.Decides.{eqb_tells}
+use Rattle.std.proofs.lemmas.List.Elements.{All-cons, All-head, All-tail, All-from_recursion, All-map, All-contains, Contains-append_left, Contains-append_right, Contains-push}
+use Rattle.std.proofs.lemmas.Bool.Decides.{eqb_tells, nat_tests}
 use Rattle.std.proofs.lemmas.Slice.Eq.{bytes_eq-Decides}
 use Rattle.pg_hoa.specs.declared.formula.Kind.TheVariants.{Label}
 use Rattle.pg_hoa.specs.declared.formula.Op.{Op}
@@ -19,7 +19,8 @@ use Rattle.pg_hoa.specs.AutomatonText.{Edge, StateLine, sets_lexemes, name_lexem
 use Rattle.pg_hoa.specs.Mirrors.Kept.{KeptEdge, KeptLine, edge_kept, line_kept}
 use Rattle.pg_hoa.specs.Mirrors.BodyScan.{due, state_of, new_state, set_in, behind_set, sets_at, sets_before, sets_if, bracket_first, behind_label, single, target_at, edge_at, begins_edge, edges_within, edges_at, name_first, behind_name, line_at, begins_line, is_seen, lines_within, body_at}
 use Rattle.pg_hoa.proofs.Lists.{all_of_both}
-use Rattle.pg_hoa.proofs.Steps.{bind_some, chosen, some, some_is, none_is_some}
+use Rattle.pg_hoa.proofs.Steps.{bind_some}
+use Rattle.pg_lists.proofs.Steps.{chosen, some, some_is, none_is_some}
 use Rattle.pg_hoa.proofs.FormulaLaws.{number_tokens, ReadsFormula, ops_take, ops_again, formula_tokens}
 
 -- ---- tokens one by one
@@ -32,11 +33,7 @@ due_is (t ∷ rest) x e = ap (λ (y : Lexeme × List Lexeme). y.0 ∷ y.1) (some
 
 state_of_takes : (states : ℕ) (t : Lexeme) (n : ℕ) → state_of states t ≡ Some n → (t ≡ number n) × (n < states)
 unfolding state_of
-state_of_takes states (number m) n e =
-    elim (chosen (nat_lt m states) (some m) None (some n) e) [
-      | inl c ↦ (ap number (some_is m n c.1), subst (λ (k : ℕ). k < states) (some_is m n c.1) (ltb-true m states c.0))
-      | inr c ↦ absurd (none_is_some n c.1)
-    ]
+state_of_takes states (number m) n e = grind (arith, nat_tests, chosen (nat_lt m states) (some m) None (some n) e)
 state_of_takes states t n e = absurd (none_is_some n e)
 
 state_of_again : (states n : ℕ) → n < states → state_of states (number n) ≡ Some n
@@ -47,22 +44,12 @@ state_of_again states n h = rw (lt-ltb n states h) refl
 
 set_in_takes : (sets : ℕ) (t : Lexeme) (n : ℕ) → set_in sets t ≡ Some (Some n) → (t ≡ number n) × (n < sets)
 unfolding set_in
-set_in_takes sets (number m) n e =
-    elim (chosen (nat_lt m sets) (some (some m)) None (some (some n)) e) [
-      | inl c ↦
-          let same = some_is m n (some_is (some m) (some n) c.1) in
-          (ap number same, subst (λ (k : ℕ). k < sets) same (ltb-true m sets c.0))
-      | inr c ↦ absurd (none_is_some (some n) c.1)
-    ]
+set_in_takes sets (number m) n e = grind (arith, nat_tests, chosen (nat_lt m sets) (some (some m)) None (some (some n)) e)
 set_in_takes sets t n e = absurd cc
 
 set_in_ends : (sets : ℕ) (t : Lexeme) → set_in sets t ≡ Some None → t ≡ right_brace
 unfolding set_in
-set_in_ends sets (number m) e =
-    elim (chosen (nat_lt m sets) (some (some m)) None (some None) e) [
-      | inl c ↦ absurd (none_is_some m (sym (some_is (some m) None c.1)))
-      | inr c ↦ absurd (none_is_some None c.1)
-    ]
+set_in_ends sets (number m) e = grind (arith, nat_tests, chosen (nat_lt m sets) (some (some m)) None (some None) e)
 set_in_ends sets right_brace e = refl
 set_in_ends sets t e = absurd cc
 
@@ -72,9 +59,7 @@ record ReadSets (sets : ℕ) (tokens : List Lexeme) (x : List ℕ × List Lexeme
   is : tokens ≡ map number x.0 ++ (right_brace ∷ x.1)
 
 one_set : (sets : ℕ) (t : Lexeme) (rest : List Lexeme) (o : Option ℕ) (x : List ℕ × List Lexeme) → ((y : List ℕ × List Lexeme) → sets_at sets rest ≡ Some y → ReadSets sets rest y) → set_in sets t ≡ Some o → behind_set (sets_at sets rest) rest o ≡ Some x → ReadSets sets (t ∷ rest) x
-one_set sets t rest None x more a h =
-    let same : ([], rest) ≡ x = some_is ([], rest) x h in
-    subst (ReadSets sets (t ∷ rest)) same (record { below = All-nil (λ n. n < sets); is = ap (λ (u : Lexeme). u ∷ rest) (set_in_ends sets t a) })
+one_set sets t rest None x more a h = grind (arith, nat_tests, some_is ([], rest) x h, set_in_ends sets t a)
 one_set sets t rest (Some n) x more a h =
     let b = bind_some (sets_at sets rest) (λ y. some (n ∷ y.0, y.1)) x h in
     let others = more b.0 b.1 in
@@ -106,9 +91,7 @@ sets_before_take : (sets : ℕ) (t : Lexeme) (rest : List Lexeme) (x : List ℕ 
 sets_before_take sets left_brace rest x e =
     let read = sets_take sets rest x e in
     record { written = Some x.0; below = read.below; is = rw read.is (simp append_assoc); kept = refl }
-sets_before_take sets t rest x e =
-    let same : ([], t ∷ rest) ≡ x = some_is ([], t ∷ rest) x e in
-    subst (ReadSetsIf sets (t ∷ rest)) same (record { written = None; below = All-nil (λ n. n < sets); is = refl; kept = refl })
+sets_before_take sets t rest x e = grind (arith, nat_tests, some_is ([], t ∷ rest) x e)
 
 sets_if_takes : (sets : ℕ) (tokens : List Lexeme) (x : List ℕ × List Lexeme) → sets_if sets tokens ≡ Some x → ReadSetsIf sets tokens x
 unfolding sets_if
@@ -212,13 +195,7 @@ edge_shorter states propositions sets tokens x e =
 
 edge_again : (states propositions sets : ℕ) (e : Edge) (rest : List Lexeme) → EdgeFits states propositions sets e → Opens rest → edge_at states propositions sets (inner_edge e ++ rest) ≡ Some (edge_kept e, rest)
 unfolding edge_at behind_label due
-edge_again states propositions sets e rest h o =
-    rw (
-      append_assoc (formula_lexemes e.letter) (right_bracket ∷ number e.target ∷ sets_lexemes e.sets) rest,
-      ops_again (Label propositions) e.letter (right_bracket ∷ number e.target ∷ (sets_lexemes e.sets ++ rest)) h.letter tt,
-      target_again states e.target e.sets rest h.target o,
-      sets_if_again sets e.sets rest h.own_sets o,
-    ) refl
+edge_again states propositions sets e rest h o = grind (arith, nat_tests, append_assoc (formula_lexemes e.letter) (right_bracket ∷ number e.target ∷ sets_lexemes e.sets) rest, ops_again (Label propositions) e.letter (right_bracket ∷ number e.target ∷ (sets_lexemes e.sets ++ rest)) h.letter tt, target_again states e.target e.sets rest h.target o, sets_if_again sets e.sets rest h.own_sets o)
 
 -- ---- the edges of a line
 
@@ -401,20 +378,12 @@ line_again states propositions sets seen l rest h new o =
 
 line_begins : (t : Lexeme) (more : Bool) → begins_line t ≡ Some more → more ≡ true → t ≡ header (codes "State")
 unfolding begins_line
-line_begins (header w) more e is =
-    elim (chosen (bytes_eq w (codes "State")) (some true) None (some more) e) [
-      | inl c ↦ ap header ((bytes_eq-Decides w (codes "State")).0 c.0)
-      | inr c ↦ absurd (none_is_some more c.1)
-    ]
+line_begins (header w) more e is = grind (arith, nat_tests, chosen (bytes_eq w (codes "State")) (some true) None (some more) e, bytes_eq-Decides w (codes "State"))
 line_begins t more e is = absurd cc
 
 ends_body : (t : Lexeme) (more : Bool) → begins_line t ≡ Some more → more ≡ false → t ≡ end
 unfolding begins_line
-ends_body (header w) more e is =
-    elim (chosen (bytes_eq w (codes "State")) (some true) None (some more) e) [
-      | inl c ↦ let wrong = some_is true more c.1 in absurd cc
-      | inr c ↦ absurd (none_is_some more c.1)
-    ]
+ends_body (header w) more e is = grind (arith, nat_tests, chosen (bytes_eq w (codes "State")) (some true) None (some more) e)
 ends_body end more e is = refl
 ends_body t more e is = absurd cc
 
@@ -430,10 +399,7 @@ neither false b e = (refl, e)
 
 fresh_rest : (n : ℕ) (seen : List ℕ) (lines : List StateLine) → Fresh (n ∷ seen) lines → Apart n lines × Fresh seen lines
 fresh_rest n seen [] h = (tt, tt)
-fresh_rest n seen (l ∷ lines) h =
-    let one = neither (n == l.state) (is_seen seen l.state) h.0 in
-    let more = fresh_rest n seen lines h.1 in
-    ((one.0, more.0), (one.1, more.1))
+fresh_rest n seen (l ∷ lines) h = grind (arith, nat_tests, neither (n == l.state) (is_seen seen l.state) h.0, fresh_rest n seen lines h.1)
 
 fresh_more : (n : ℕ) (seen : List ℕ) (lines : List StateLine) → Apart n lines → Fresh seen lines → Fresh (n ∷ seen) lines
 fresh_more n seen [] a h = tt
@@ -489,8 +455,7 @@ one_line states propositions sets seen tokens t x y all is first one more same =
     })
 
 no_lines : (states propositions sets : ℕ) (seen : List ℕ) (tokens : List Lexeme) (t : Lexeme × List Lexeme) (all : List KeptLine × List Lexeme) → tokens ≡ t.0 ∷ t.1 → t.0 ≡ end → ([], t.1) ≡ all → ReadLines states propositions sets seen tokens all
-no_lines states propositions sets seen tokens t all is last same =
-    subst (ReadLines states propositions sets seen tokens) same (record { lines = []; is = is ∙ ap (λ (u : Lexeme). u ∷ t.1) last; kept = refl; fit = tt; distinct = tt; fresh = tt })
+no_lines states propositions sets seen tokens t all is last same = grind (arith, nat_tests)
 
 lines_take : (n states propositions sets : ℕ) (seen : List ℕ) (tokens : List Lexeme) (x : List KeptLine × List Lexeme) → lines_within n states propositions sets seen tokens ≡ Some x → ReadLines states propositions sets seen tokens x
 unfolding lines_within
@@ -543,9 +508,7 @@ body_takes states propositions sets tokens x e =
 
 pub body_again : (states propositions sets : ℕ) (lines : List StateLine) (rest : List Lexeme) → AllByRecursion (LineFits states propositions sets) lines → IsDistinct (map (λ l. l.state) lines) → body_at states propositions sets (flat_map state_lexemes lines ++ (end ∷ rest)) ≡ Some (map line_kept lines, rest)
 unfolding body_at
-body_again states propositions sets lines rest h distinct =
-    let enough : length (flat_map state_lexemes lines ++ (end ∷ rest)) < suc (length (flat_map state_lexemes lines ++ (end ∷ rest))) = omega arith in
-    lines_again (suc (length (flat_map state_lexemes lines ++ (end ∷ rest)))) states propositions sets [] lines rest h distinct (fresh_all lines) enough
+body_again states propositions sets lines rest h distinct = grind (arith, nat_tests, lines_again (suc (length (flat_map state_lexemes lines ++ (end ∷ rest)))) states propositions sets, fresh_all lines)
 
 -- ---- no token of a body is `stray`
 
@@ -559,12 +522,7 @@ name_tokens (Some s) = (tt, tt)
 
 edge_tokens : (es : List Edge) → AllByRecursion IsToken (flat_map edge_lexemes es)
 edge_tokens [] = tt
-edge_tokens (e ∷ es) = (
-  tt,
-  all_of_both IsToken (inner_edge e) (flat_map edge_lexemes es)
-      (all_of_both IsToken (formula_lexemes e.letter) (right_bracket ∷ number e.target ∷ sets_lexemes e.sets) (formula_tokens e.letter) (tt, (tt, set_tokens e.sets)))
-      (edge_tokens es),
-)
+edge_tokens (e ∷ es) = grind (arith, nat_tests, all_of_both IsToken (inner_edge e) (flat_map edge_lexemes es) (all_of_both IsToken (formula_lexemes e.letter) (right_bracket ∷ number e.target ∷ sets_lexemes e.sets) (formula_tokens e.letter) (tt, (tt, set_tokens e.sets))) (edge_tokens es))
 
 pub line_tokens : (lines : List StateLine) → AllByRecursion IsToken (flat_map state_lexemes lines)
 line_tokens [] = tt

@@ -1,9 +1,9 @@
 -- Token by token through a body.
-use Rattle.std.proofs.Common.{◌≡◌, ℕ, suc, zero, ◌≤◌, ◌<◌, Bool, true, false, cond, List, [], ◌∷◌, ◌++◌, length, get_or, Option, Some, None, refl, sym, ap, subst, ◌∙◌, arith, append_assoc, inl, inr}
-use Rattle.std.specs.Prelude.{nat_lt, ◌||◌}
+use Rattle.std.proofs.Common.{◌≡◌, ℕ, suc, zero, ◌≤◌, ◌<◌, Bool, true, false, List, [], ◌∷◌, ◌++◌, length, get_or, Option, Some, None, refl, sym, ap, subst, ◌∙◌, arith, append_assoc, inl, inr}
+use Rattle.std.specs.Prelude.{◌||◌}
 use Rattle.std.proofs.Math.ListN.{set, replicate}
 use Rattle.std.proofs.lemmas.Bool.{ltb-true}
-use Rattle.std.proofs.lemmas.Bool.Decides.{eqb_tells}
+use Rattle.std.proofs.lemmas.Bool.Decides.{eqb_tells, nat_tests}
 use Rattle.std.proofs.lemmas.List.{append-nil, length-set, length-replicate, get_or-replicate, get_or-set_same, get_or-set_other}
 use Rattle.pg_hoa.specs.declared.fault.Refusal.{Refusal}
 use Rattle.pg_hoa.specs.declared.fault.Refusal.TheVariants.{Memory, Wrong}
@@ -64,11 +64,7 @@ pub record EdgesLeft (states propositions sets : ℕ) (done : List KeptEdge) (to
 
 pub edges_start : (states propositions sets : ℕ) (tokens : List Lexeme) → EdgesLeft states propositions sets [] tokens (edges_at states propositions sets tokens)
 unfolding edges_at
-edges_start states propositions sets tokens = record {
-  turns = length tokens;
-  enough = omega arith;
-  same = ahead_none (edges_within (suc (length tokens)) states propositions sets tokens);
-}
+edges_start states propositions sets tokens = grind (arith, nat_tests, ahead_none (edges_within (suc (length tokens)) states propositions sets tokens))
 
 pub edges_unread : (refusal : Refusal) (states propositions sets : ℕ) (done : List KeptEdge) (tokens : List Lexeme) (all : Option (List KeptEdge × List Lexeme)) → EdgesLeft states propositions sets done tokens all → Fails refusal (due tokens) → Fails refusal all
 unfolding edges_within
@@ -124,11 +120,7 @@ one_mark states seen numbers i size below marks n h =
 
 same_state : (states : ℕ) (seen : List Bool) (numbers : List ℕ) → Marks states seen numbers → (t : Lexeme) → new_state states (λ n. get_or seen n false) t ≡ new_state states (is_seen numbers) t
 unfolding new_state state_of
-same_state states seen numbers marks (number n) = below (nat_lt n states) (ltb-true n states)
-  where
-    below : (b : Bool) → (b ≡ true → n < states) → ((cond b (Some n) None) >>= λ n. cond (get_or seen n false) None (Some n)) ≡ ((cond b (Some n) None) >>= λ n. cond (is_seen numbers n) None (Some n))
-    below true h = ap (λ (b : Bool). cond b None (Some n)) (marks n (h refl))
-    below false h = refl
+same_state states seen numbers marks (number n) = grind (arith, nat_tests, ltb-true n states)
 same_state states seen numbers marks t = refl
 
 -- behind the number of a line
@@ -181,9 +173,7 @@ lines_end states propositions sets seen done tokens rest t all left e h = sym le
 pub line_fails : (refusal : Refusal) (states propositions sets : ℕ) (seen : List Bool) (done : List KeptLine) (tokens rest : List Lexeme) (t : Lexeme) (all : Option (List KeptLine × List Lexeme)) → LinesLeft states propositions sets seen done tokens all → due tokens ≡ Some (t, rest) → begins_line t ≡ Some true → Fails refusal (line_at states propositions sets (λ n. get_or seen n false) rest) → Fails refusal all
 unfolding lines_within
 line_fails Memory states propositions sets seen done tokens rest t all left e first h = tt
-line_fails (Wrong fault) states propositions sets seen done tokens rest t all left e first h =
-    let line = sym (same_line states propositions sets seen left.numbers rest left.marks) ∙ h in
-    sym left.same ∙ rw (e, first, line) refl
+line_fails (Wrong fault) states propositions sets seen done tokens rest t all left e first h = grind (arith, nat_tests, same_line states propositions sets seen left.numbers rest left.marks)
 
 pub lines_more : (states propositions sets : ℕ) (seen : List Bool) (done : List KeptLine) (tokens rest : List Lexeme) (t : Lexeme) (x : KeptLine × List Lexeme) (all : Option (List KeptLine × List Lexeme)) → LinesLeft states propositions sets seen done tokens all → due tokens ≡ Some (t, rest) → begins_line t ≡ Some true → line_at states propositions sets (λ n. get_or seen n false) rest ≡ Some x → x.0.state < states → LinesLeft states propositions sets (set seen x.0.state true) (done ++ (x.0 ∷ [])) x.1 all
 unfolding lines_within

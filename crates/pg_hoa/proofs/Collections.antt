@@ -1,7 +1,7 @@
 -- Of finitely many facts a test that holds of just the true ones exists, doubly negated.
-use Rattle.std.proofs.Common.{◌≡◌, ◌≢◌, ◌↔◌, ℕ, zero, suc, ◌<◌, Bool, true, false, cond, eqb, inl, inr, ◌⊎◌, refl, sym, subst, arith}
+use Rattle.std.proofs.Common.{◌↔◌, ℕ, zero, suc, ◌<◌, Bool, true, false, cond, eqb, inl, inr, ◌⊎◌, refl, arith}
 use Rattle.std.specs.Prelude.{IsTrue}
-use Rattle.std.proofs.lemmas.Bool.Decides.{eqb_tells}
+use Rattle.std.proofs.lemmas.Bool.Decides.{eqb_tells, nat_tests}
 
 not_not_decided : (A : Type 0) → ¬ ¬ (A ⊎ ¬ A)
 not_not_decided A k = k (inr (λ a. k (inl a)))
@@ -11,10 +11,7 @@ Collects P n on = (s : ℕ) → s < n → IsTrue (on s) ↔ P s
 
 -- with the fact of one number more
 one_more : (P : ℕ → Type 0) (n : ℕ) (on : ℕ → Bool) (b : Bool) → Collects P n on → (IsTrue b ↔ P n) → Collects P (suc n) (λ s. cond (eqb s n) b (on s))
-one_more P n on b below here s lt = elim (eqb_tells s n) [
-  | inl h ↦ let same : s ≡ n = h.1 in rw h.0 (subst (λ (m : ℕ). IsTrue b ↔ P m) (sym same) here)
-  | inr h ↦ let other : s ≢ n = h.1 in rw h.0 (below s (omega arith))
-]
+one_more P n on b below here s lt = grind (arith, nat_tests, eqb_tells s n)
 
 pub not_not_collected : (P : ℕ → Type 0) (n : ℕ) → ¬ ¬ ((on : ℕ → Bool) × Collects P n on)
 not_not_collected P zero none = none ((λ _. false), λ s lt. absurd (omega arith))

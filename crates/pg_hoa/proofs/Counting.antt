@@ -5,10 +5,11 @@ use Rattle.std.proofs.lemmas.Bool.Decides.{nat_tests}
 use Rattle.pg_hoa.specs.declared.shape.Shape.{Shape}
 use Rattle.pg_hoa.specs.declared.shape.Shape.TheVariants.{MaxEven, MaxOdd, MinEven, MinOdd, Always, Never}
 use Rattle.pg_hoa.specs.Automata.{first, last, deciding}
-use Rattle.pg_hoa.specs.AutomatonText.{put, rising}
+use Rattle.pg_lists.specs.Rising.{put, rising}
 use Rattle.pg_hoa.specs.Mirrors.Tables.{with_set}
-use Rattle.pg_hoa.proofs.Steps.{some, some_is}
-use Rattle.pg_hoa.proofs.Rising.{Up, up_rising, rising_put}
+use Rattle.pg_lists.proofs.Steps.{some, some_is}
+use Rattle.pg_lists.proofs.Rising.{rising_pairs, rising_put}
+use Rattle.pg_lists.proofs.Contained.{Rises, pairs_tail}
 
 three_ways : (a b : ℕ) → (a < b) ⊎ ((a ≡ b) ⊎ (b < a))
 three_ways zero zero = inr (inl refl)
@@ -37,57 +38,34 @@ last_at (x ∷ y ∷ xs) =
 pub decides_last : (shape : Shape) (xs : List ℕ) (o : Option ℕ) → (shape ≢ MinEven) → (shape ≢ MinOdd) → o ≡ slice_get xs (length xs - 1) → o ≡ deciding shape xs
 decides_last MinEven xs o a b e = absurd (a refl)
 decides_last MinOdd xs o a b e = absurd (b refl)
-decides_last MaxEven xs o a b e = e ∙ last_at xs
-decides_last MaxOdd xs o a b e = e ∙ last_at xs
-decides_last Always xs o a b e = e ∙ last_at xs
-decides_last Never xs o a b e = e ∙ last_at xs
+decides_last _ xs o a b e = e ∙ last_at xs
 
 -- ---- one more set
 
 first_put : (n m : ℕ) (ms : List ℕ) → first (put n (m ∷ ms)) ≡ Some (min m n)
-first_put n m ms = elim (three_ways n m) [
-  | inl h ↦ ap first (put_below n m ms h) ∙ ap some (omega arith)
-  | inr k ↦ elim k [
-    | inl e ↦ ap first (put_here n m ms e) ∙ ap some (omega arith)
-    | inr h ↦ ap first (put_behind n m ms h) ∙ ap some (omega arith)
-  ]
-]
+first_put n m ms = grind (arith, nat_tests, three_ways n m)
 
 last_some : (m : ℕ) (ms : List ℕ) → (k : ℕ) × (last (m ∷ ms) ≡ Some k)
 last_some m [] = (m, refl)
 last_some m (n ∷ ms) = last_some n ms
 
-least_is_first : (m : ℕ) (ms : List ℕ) (k : ℕ) → Up (m ∷ ms) → last (m ∷ ms) ≡ Some k → m ≤ k
+least_is_first : (m : ℕ) (ms : List ℕ) (k : ℕ) → Rises (m ∷ ms) → last (m ∷ ms) ≡ Some k → m ≤ k
 least_is_first m [] k up e = let same = some_is m k e in omega arith
-least_is_first m (n ∷ ms) k up e = let below : m < n = up.0.0 in let rest = least_is_first n ms k up.1 e in omega arith
+least_is_first m (n ∷ ms) k up e = let below : m < n = up 0 1 0 (omega arith) (omega arith) in let rest = least_is_first n ms k (pairs_tail (λ x y. x < y) m (n ∷ ms) up) e in omega arith
 
 last_behind : (m n : ℕ) (xs : List ℕ) → last (m ∷ put n xs) ≡ last (put n xs)
 last_behind m n [] = refl
-last_behind m n (x ∷ xs) = elim (three_ways n x) [
-  | inl h ↦ ap (λ l. last (m ∷ l)) (put_below n x xs h) ∙ sym (ap last (put_below n x xs h))
-  | inr k ↦ elim k [
-    | inl e ↦ ap (λ l. last (m ∷ l)) (put_here n x xs e) ∙ sym (ap last (put_here n x xs e))
-    | inr h ↦ ap (λ l. last (m ∷ l)) (put_behind n x xs h) ∙ sym (ap last (put_behind n x xs h))
-  ]
-]
+last_behind m n (x ∷ xs) = grind (arith, nat_tests, three_ways n x)
 
-last_put : (n m : ℕ) (ms : List ℕ) (k : ℕ) → Up (m ∷ ms) → last (m ∷ ms) ≡ Some k → last (put n (m ∷ ms)) ≡ Some (max k n)
-last_put n m [] k up e =
-    let same = some_is m k e in
-    elim (three_ways n m) [
-      | inl h ↦ ap last (put_below n m [] h) ∙ ap some (omega arith)
-      | inr j ↦ elim j [
-        | inl is ↦ ap last (put_here n m [] is) ∙ ap some (omega arith)
-        | inr h ↦ ap last (put_behind n m [] h) ∙ ap some (omega arith)
-      ]
-    ]
+last_put : (n m : ℕ) (ms : List ℕ) (k : ℕ) → Rises (m ∷ ms) → last (m ∷ ms) ≡ Some k → last (put n (m ∷ ms)) ≡ Some (max k n)
+last_put n m [] k up e = grind (arith, nat_tests, some_is m k e, three_ways n m, put_below n m, put_here n m, put_behind n m)
 last_put n m (x ∷ ms) k up e =
     let low = least_is_first m (x ∷ ms) k up e in
     elim (three_ways n m) [
       | inl h ↦ ap last (put_below n m (x ∷ ms) h) ∙ e ∙ ap some (omega arith)
       | inr j ↦ elim j [
         | inl is ↦ ap last (put_here n m (x ∷ ms) is) ∙ e ∙ ap some (omega arith)
-        | inr h ↦ ap last (put_behind n m (x ∷ ms) h) ∙ last_behind m n (x ∷ ms) ∙ last_put n x ms k up.1 e
+        | inr h ↦ ap last (put_behind n m (x ∷ ms) h) ∙ last_behind m n (x ∷ ms) ∙ last_put n x ms k (pairs_tail (λ x y. x < y) m (x ∷ ms) up) e
       ]
     ]
 
@@ -95,7 +73,7 @@ abbrev greater : Option ℕ → ℕ → Option ℕ
 greater None n = Some n
 greater (Some k) n = Some (max k n)
 
-last_more : (n : ℕ) (ys : List ℕ) → Up ys → greater (last ys) n ≡ last (put n ys)
+last_more : (n : ℕ) (ys : List ℕ) → Rises ys → greater (last ys) n ≡ last (put n ys)
 last_more n [] up = refl
 last_more n (m ∷ ms) up = let k = last_some m ms in ap (λ o. greater o n) k.1 ∙ sym (last_put n m ms k.0 up k.1)
 
@@ -111,17 +89,14 @@ with_greater : (shape : Shape) (o : Option ℕ) (n : ℕ) → (shape ≢ MinEven
 with_greater shape None n a b = refl
 with_greater MinEven (Some k) n a b = absurd (a refl)
 with_greater MinOdd (Some k) n a b = absurd (b refl)
-with_greater MaxEven (Some k) n a b = refl
-with_greater MaxOdd (Some k) n a b = refl
-with_greater Always (Some k) n a b = refl
-with_greater Never (Some k) n a b = refl
+with_greater _ (Some k) n a b = refl
 
 with_less : (shape : Shape) (o : Option ℕ) (n : ℕ) → (shape ≡ MinEven) ⊎ (shape ≡ MinOdd) → with_set shape o n ≡ less o n
 with_less shape None n is = refl
 with_less shape (Some k) n (inl e) = ap (λ s. with_set s (some k) n) e
 with_less shape (Some k) n (inr e) = ap (λ s. with_set s (some k) n) e
 
-deciding_put : (shape : Shape) (n : ℕ) (ys : List ℕ) → Up ys → with_set shape (deciding shape ys) n ≡ deciding shape (put n ys)
+deciding_put : (shape : Shape) (n : ℕ) (ys : List ℕ) → Rises ys → with_set shape (deciding shape ys) n ≡ deciding shape (put n ys)
 deciding_put MinEven n ys up = with_less MinEven (first ys) n (inl refl) ∙ first_more n ys
 deciding_put MinOdd n ys up = with_less MinOdd (first ys) n (inr refl) ∙ first_more n ys
 deciding_put MaxEven n ys up = with_greater MaxEven (last ys) n (λ e. absurd cc) (λ e. absurd cc) ∙ last_more n ys up
@@ -130,12 +105,8 @@ deciding_put Always n ys up = with_greater Always (last ys) n (λ e. absurd cc) 
 deciding_put Never n ys up = with_greater Never (last ys) n (λ e. absurd cc) (λ e. absurd cc) ∙ last_more n ys up
 
 pub one_more_counts : (shape : Shape) (xs : List ℕ) (n : ℕ) → with_set shape (deciding shape (rising xs)) n ≡ deciding shape (rising (xs ++ (n ∷ [])))
-one_more_counts shape xs n = deciding_put shape n (rising xs) (up_rising xs) ∙ ap (deciding shape) (rising_put xs n)
+one_more_counts shape xs n = deciding_put shape n (rising xs) (rising_pairs xs) ∙ ap (deciding shape) (rising_put xs n)
 
 pub none_counts : (shape : Shape) → None ≡ deciding shape []
 none_counts MaxEven = refl
-none_counts MaxOdd = refl
-none_counts MinEven = refl
-none_counts MinOdd = refl
-none_counts Always = refl
-none_counts Never = refl
+none_counts _ = refl

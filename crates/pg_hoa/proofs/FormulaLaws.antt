@@ -1,7 +1,6 @@
 -- What the reader of labels and conditions gives is written there, and what is written there it gives.
-use Rattle.std.proofs.Common.{◌≡◌, ◌<◌, ℕ, List, [], ◌∷◌, ◌++◌, map, length, Some, sym, ap, ◌∙◌, arith}
+use Rattle.std.proofs.Common.{◌≡◌, ℕ, List, [], ◌∷◌, ◌++◌, map, Some, sym, ap, ◌∙◌}
 use Rattle.std.specs.List.{AllByRecursion}
-use Rattle.std.proofs.lemmas.List.{length-append}
 use Rattle.pg_hoa.specs.declared.formula.Kind.{Kind}
 use Rattle.pg_hoa.specs.declared.formula.Op.{Op}
 use Rattle.pg_hoa.specs.Lexemes.{Lexeme, number, right_paren, ampersand, bar}
@@ -10,7 +9,8 @@ use Rattle.pg_hoa.specs.Formulas.{Formula, yes, no, proposition, inf, fin, not, 
 use Rattle.pg_hoa.specs.Mirrors.FormulaRun.{postfix, ops_at}
 use Rattle.pg_hoa.specs.Mirrors.FormulaScan.{formula_at}
 use Rattle.pg_hoa.proofs.Lists.{all_of_both}
-use Rattle.pg_hoa.proofs.Steps.{bind_some, some, some_is}
+use Rattle.pg_hoa.proofs.Steps.{bind_some}
+use Rattle.pg_lists.proofs.Steps.{some, some_is}
 use Rattle.pg_hoa.proofs.FormulasTake.{formula_takes}
 use Rattle.pg_hoa.proofs.FormulasAgain.{Ends, formula_again}
 use Rattle.pg_hoa.proofs.Keeping.{as_ops, formula_keeps}
@@ -53,21 +53,3 @@ formula_tokens (not f) = (tt, formula_tokens f)
 formula_tokens (both f g) = all_of_both IsToken (formula_lexemes f) (ampersand ∷ formula_lexemes g) (formula_tokens f) (tt, formula_tokens g)
 formula_tokens (either f g) = all_of_both IsToken (formula_lexemes f) (bar ∷ formula_lexemes g) (formula_tokens f) (tt, formula_tokens g)
 formula_tokens (bracket f) = (tt, all_of_both IsToken (formula_lexemes f) (right_paren ∷ []) (formula_tokens f) (tt, tt))
-
-pub some_tokens : (f : Formula) → 0 < length (formula_lexemes f)
-some_tokens yes = omega arith
-some_tokens no = omega arith
-some_tokens (proposition a) = omega arith
-some_tokens (inf s) = omega arith
-some_tokens (fin s) = omega arith
-some_tokens (not f) = omega arith
-some_tokens (both f g) = omega (arith, length-append (formula_lexemes f) (ampersand ∷ formula_lexemes g))
-some_tokens (either f g) = omega (arith, length-append (formula_lexemes f) (bar ∷ formula_lexemes g))
-some_tokens (bracket f) = omega arith
-
--- a formula has a token at least
-pub ops_shorter : (k : Kind) (tokens : List Lexeme) (x : List Op × List Lexeme) → ops_at k tokens ≡ Some x → length x.1 < length tokens
-ops_shorter k tokens x e =
-    let read = ops_take k tokens x e in
-    let longer = some_tokens read.formula in
-    omega (arith, ap length read.is, length-append (formula_lexemes read.formula) x.1)

@@ -1,11 +1,12 @@
 -- A formula that is written is read.
-use Rattle.std.proofs.Common.{◌≡◌, ℕ, suc, zero, ◌+◌, ◌≤◌, ◌<◌, List, [], ◌∷◌, ◌++◌, Option, Some, None, refl, sym, ap, ◌∙◌, arith, append_assoc}
+use Rattle.std.proofs.Common.{◌≡◌, ℕ, suc, zero, ◌+◌, ◌≤◌, ◌<◌, List, [], ◌∷◌, ◌++◌, Option, Some, None, refl, ap, ◌∙◌, arith, append_assoc}
+use Rattle.std.proofs.lemmas.Bool.Decides.{nat_tests}
 use Rattle.std.proofs.lemmas.Bool.{lt-ltb}
 use Rattle.pg_hoa.specs.Lexemes.{Lexeme, right_paren, ampersand, bar, stray}
 use Rattle.pg_hoa.specs.declared.formula.Kind.{Kind}
 use Rattle.pg_hoa.specs.declared.formula.Kind.TheVariants.{Label, Condition}
 use Rattle.pg_hoa.specs.Formulas.{Formula, yes, no, proposition, inf, fin, not, both, either, bracket, formula_lexemes, rank, IsGrouped, nesting, IsOf, IsWritten}
-use Rattle.pg_hoa.specs.Mirrors.FormulaScan.{Frame, fresh, State, operand, operator, summed, multiplied, negated, completes, formula_from, formula_at}
+use Rattle.pg_hoa.specs.Mirrors.FormulaScan.{Frame, fresh, State, operand, operator, summed, completes, formula_from, formula_at}
 
 abbrev starting : Option Formula → Frame
 starting sum = record { sum = sum; product = None; nots = 0 }
@@ -33,30 +34,17 @@ add_none : (n : ℕ) → n + 0 ≡ n
 add_none n = omega arith
 
 product_of : (k : Kind) (f : Formula) → Operand k f → Product k f
-product_of k f op room sum outer rest n =
-    op room (starting sum) outer rest n ∙ ap (λ (r : ℕ). formula_from k (operator r sum f outer) rest) (add_none room)
+product_of k f op room sum outer rest n = grind (arith, nat_tests, add_none room)
 
 of_operand : (k : Kind) (f : Formula) → Operand k f → ((room : ℕ) (outer : List Frame) → whole room f outer ≡ operator room None f outer) → Again k f
-of_operand k f op plain = record {
-  as_operand = λ _. op;
-  as_product = λ _. product_of k f op;
-  as_sum = λ room outer rest n. product_of k f op room None outer rest n ∙ ap (λ (s : State). formula_from k s rest) (sym (plain room outer));
-}
+of_operand k f op plain = grind (arith, nat_tests, product_of k f op)
 
 both_product : (k : Kind) (f g : Formula) → Product k f → Operand k g → Product k (both f g)
 unfolding formula_from
-both_product k f g pf og room sum outer rest n =
-    ap (λ (ts : List Lexeme). formula_from k (operand room (starting sum) outer) ts) (append_assoc (formula_lexemes f) (ampersand ∷ formula_lexemes g) rest)
-    ∙ pf room sum outer (ampersand ∷ (formula_lexemes g ++ rest)) (omega arith)
-    ∙ og room (record { sum = sum; product = Some f; nots = 0 }) outer rest (omega arith)
-    ∙ ap (λ (r : ℕ). formula_from k (operator r sum (both f g) outer) rest) (add_none room)
+both_product k f g pf og room sum outer rest n = grind (arith, nat_tests, append_assoc (formula_lexemes f) (ampersand ∷ formula_lexemes g) rest, add_none room)
 
 of_both : (k : Kind) (f g : Formula) → Product k f → Operand k g → Again k (both f g)
-of_both k f g pf og = record {
-  as_operand = λ high. absurd (omega arith);
-  as_product = λ _. both_product k f g pf og;
-  as_sum = λ room outer rest n. both_product k f g pf og room None outer rest n;
-}
+of_both k f g pf og = grind (arith, nat_tests, both_product k f g pf og)
 
 -- a bar behind a whole formula
 bar_next : (k : Kind) (f : Formula) (room : ℕ) (outer : List Frame) (rest : List Lexeme) → formula_from k (whole room f outer) (bar ∷ rest) ≡ formula_from k (operand room (starting (Some f)) outer) rest
@@ -84,21 +72,13 @@ of_either k f g sf pg = record {
 not_operand : (n : ℕ) (f : Formula) → Operand (Label n) f → Operand (Label n) (not f)
 unfolding formula_from
 not_operand n f op zero top outer rest deep = absurd (omega arith)
-not_operand n f op (suc room) top outer rest deep =
-    op room (record { sum = top.sum; product = top.product; nots = suc top.nots }) outer rest (omega arith)
-    ∙ ap (λ (r : ℕ). formula_from (Label n) (operator r top.sum (multiplied top.product (negated top.nots (not f))) outer) rest) (omega arith)
+not_operand n f op (suc room) top outer rest deep = grind (arith, nat_tests)
 
 bracket_operand : (k : Kind) (f : Formula) → Sum k f → Operand k (bracket f)
 unfolding formula_from
 bracket_operand k f sf zero top outer rest n = absurd (omega arith)
-bracket_operand (Label n) f sf (suc room) top outer rest deep =
-    ap (λ (ts : List Lexeme). formula_from (Label n) (operand room fresh (top ∷ outer)) ts) (append_assoc (formula_lexemes f) (right_paren ∷ []) rest)
-    ∙ sf room (top ∷ outer) (right_paren ∷ rest) (omega arith)
-    ∙ closes (Label n) f room top outer rest
-bracket_operand (Condition n) f sf (suc room) top outer rest deep =
-    ap (λ (ts : List Lexeme). formula_from (Condition n) (operand room fresh (top ∷ outer)) ts) (append_assoc (formula_lexemes f) (right_paren ∷ []) rest)
-    ∙ sf room (top ∷ outer) (right_paren ∷ rest) (omega arith)
-    ∙ closes (Condition n) f room top outer rest
+bracket_operand (Label n) f sf (suc room) top outer rest deep = grind (arith, nat_tests, append_assoc (formula_lexemes f) (right_paren ∷ []) rest, closes (Label n) f room top outer rest)
+bracket_operand (Condition n) f sf (suc room) top outer rest deep = grind (arith, nat_tests, append_assoc (formula_lexemes f) (right_paren ∷ []) rest, closes (Condition n) f room top outer rest)
 
 yes_operand : (k : Kind) → Operand k yes
 unfolding formula_from

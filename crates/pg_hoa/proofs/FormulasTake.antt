@@ -1,17 +1,18 @@
 -- A formula that is read is written there.
 use Rattle.std.proofs.Common.{◌≡◌, ℕ, suc, zero, ◌+◌, ◌≤◌, ◌<◌, Bool, cond, List, [], ◌∷◌, ◌++◌, Option, Some, None, refl, sym, ap, subst, ◌∙◌, arith, append_assoc, true, false, inl, inr}
+use Rattle.std.proofs.lemmas.Bool.Decides.{nat_tests}
 use Rattle.std.specs.Prelude.{codes, nat_lt}
 use Rattle.std.specs.Str.{bytes_eq}
 use Rattle.std.proofs.lemmas.Slice.Eq.{bytes_eq-Decides}
 use Rattle.std.proofs.lemmas.List.{append-nil}
-use Rattle.std.proofs.lemmas.Bool.{ltb-true}
 use Rattle.pg_hoa.specs.Lexemes.{Lexeme, number, identifier, left_paren, right_paren, bang, ampersand, bar}
 use Rattle.pg_hoa.specs.declared.formula.Kind.{Kind}
 use Rattle.pg_hoa.specs.declared.formula.Kind.TheVariants.{Label, Condition}
 use Rattle.pg_hoa.specs.Formulas.{Formula, yes, no, proposition, inf, fin, not, bracket, formula_lexemes, rank, IsGrouped, nesting, IsOf, IsWritten}
 use Rattle.pg_hoa.specs.Mirrors.Steps.{◌>>=◌}
 use Rattle.pg_hoa.specs.Mirrors.FormulaScan.{Frame, fresh, State, operand, opening, naming, closing, operator, summed, multiplied, negated, limited, completes, deeper, word_step, operand_step, opening_step, naming_step, closing_step, operator_step, step, finish, stops, formula_from, formula_at}
-use Rattle.pg_hoa.proofs.Steps.{bind_some, chosen, some, some_is, none_is_some}
+use Rattle.pg_hoa.proofs.Steps.{bind_some}
+use Rattle.pg_lists.proofs.Steps.{chosen, some, some_is, none_is_some}
 
 -- ---- the tokens read so far
 
@@ -103,11 +104,6 @@ negated_fits (Label m) n room f e h = negated_label m n room f h
 negated_fits (Condition m) zero room f e h = record { grouped = h.grouped; of_kind = h.of_kind; nested = let n = h.nested in omega arith; low = h.low }
 negated_fits (Condition m) (suc n) room f e h = absurd (omega arith)
 
-multiplied_fits : (k : Kind) (room : ℕ) (p : Option Formula) (f : Formula) → FitsIf k room 1 p → Fits k room 0 f → Fits k room 1 (multiplied p f)
-multiplied_fits k room None f p h = record { grouped = h.grouped; of_kind = h.of_kind; nested = h.nested; low = let l = h.low in omega arith }
-multiplied_fits (Label n) room (Some g) f p h = let a = p.nested in let b = h.nested in record { grouped = (p.low, h.low, p.grouped, h.grouped); of_kind = (p.of_kind, h.of_kind); nested = omega arith; low = omega arith }
-multiplied_fits (Condition n) room (Some g) f p h = let a = p.nested in let b = h.nested in record { grouped = (p.low, h.low, p.grouped, h.grouped); of_kind = (p.of_kind, h.of_kind); nested = omega arith; low = omega arith }
-
 summed_fits : (k : Kind) (room : ℕ) (s : Option Formula) (f : Formula) → FitsIf k room 2 s → Fits k room 1 f → Fits k room 2 (summed s f)
 summed_fits k room None f p h = record { grouped = h.grouped; of_kind = h.of_kind; nested = h.nested; low = let l = h.low in omega arith }
 summed_fits (Label n) room (Some g) f p h = let a = p.nested in let b = h.nested in record { grouped = (h.low, p.grouped, h.grouped); of_kind = (p.of_kind, h.of_kind); nested = omega arith; low = omega arith }
@@ -129,12 +125,7 @@ record Reads (k : Kind) (s : State) (tokens : List Lexeme) : Type 0 where
   is : so_far s ≡ tokens
 
 completes_reads : (k : Kind) (room : ℕ) (top : Frame) (outer : List Frame) (f : Formula) → Within k room top outer → Fits k room 0 f → Reads k (completes room top outer f) (outer_lexemes outer ++ (frame_lexemes top ++ formula_lexemes f))
-completes_reads k room top outer f w h =
-    let inner = negated_fits k top.nots room f w.top_fits.nots h in
-    record {
-      sound = (w.top_fits.sum, multiplied_fits k (room + top.nots) top.product (negated top.nots f) w.top_fits.product inner, w.outer_fit);
-      is = rw (multiplied_lexemes top.product (negated top.nots f), negated_lexemes top.nots f) (simp append_assoc);
-    }
+completes_reads k room top outer f w h = grind (arith, nat_tests, negated_fits k top.nots room f w.top_fits.nots h, multiplied_lexemes top.product (negated top.nots f), negated_lexemes top.nots f, append_assoc)
 
 abbrev Next : Kind → State → Lexeme → Option State → Type 0
 Next k s t found = (s2 : State) → found ≡ Some s2 → Reads k s2 (so_far s ++ (t ∷ []))
@@ -146,9 +137,7 @@ some_next : (k : Kind) (s : State) (t : Lexeme) (found : State) → Reads k foun
 some_next k s t found r s2 e = subst (λ (x : State). Reads k x (so_far s ++ (t ∷ []))) (some_is found s2 e) r
 
 completed : (k : Kind) (room : ℕ) (top : Frame) (outer : List Frame) (f : Formula) (t : Lexeme) → Within k room top outer → Fits k room 0 f → formula_lexemes f ≡ t ∷ [] → Next k (operand room top outer) t (Some (completes room top outer f))
-completed k room top outer f t w h one =
-    some_next k (operand room top outer) t (completes room top outer f)
-    (subst (Reads k (completes room top outer f)) (rw one (sym (append_assoc (outer_lexemes outer) (frame_lexemes top) (t ∷ [])))) (completes_reads k room top outer f w h))
+completed k room top outer f t w h one = grind (arith, nat_tests, some_next k (operand room top outer) t (completes room top outer f) (subst (Reads k (completes room top outer f)) (rw one (sym (append_assoc (outer_lexemes outer) (frame_lexemes top) (t ∷ [])))) (completes_reads k room top outer f w h)))
 
 plain : (k : Kind) (f : Formula) (room : ℕ) → IsGrouped f → IsOf k f → nesting f ≡ 0 → rank f ≡ 0 → Fits k room 0 f
 plain k f room g o n r = record { grouped = g; of_kind = o; nested = omega arith; low = omega arith }
@@ -159,63 +148,31 @@ one_more (suc n) = ap (λ (l : List Lexeme). bang ∷ l) (one_more n)
 
 bang_next : (n room : ℕ) (top : Frame) (outer : List Frame) → Within (Label n) room top outer → Next (Label n) (operand room top outer) bang (deeper room (λ r. operand r (record { sum = top.sum; product = top.product; nots = suc top.nots }) outer))
 bang_next n zero top outer w = none_next (Label n) (operand zero top outer) bang
-bang_next n (suc room) top outer w =
-    let same : suc room + top.nots ≡ room + suc top.nots = omega arith in
-    let fits = subst (λ (r : ℕ). FrameFits (Label n) r top) same w.top_fits in
-    some_next (Label n) (operand (suc room) top outer) bang (operand room (record { sum = top.sum; product = top.product; nots = suc top.nots }) outer)
-    (record {
-      sound = record { top_fits = record { sum = fits.sum; product = fits.product; nots = tt }; outer_fit = subst (λ (r : ℕ). OuterFits (Label n) r outer) same w.outer_fit };
-      is = rw (← one_more top.nots) (simp append_assoc);
-    })
+bang_next n (suc room) top outer w = grind (arith, nat_tests, one_more top.nots, append_assoc)
 
 paren_next : (k : Kind) (room : ℕ) (top : Frame) (outer : List Frame) → Within k room top outer → Next k (operand room top outer) left_paren (deeper room (λ r. operand r fresh (top ∷ outer)))
 paren_next k zero top outer w = none_next k (operand zero top outer) left_paren
-paren_next k (suc room) top outer w =
-    let same : suc room + top.nots ≡ suc (room + 0) + top.nots = omega arith in
-    some_next k (operand (suc room) top outer) left_paren (operand room fresh (top ∷ outer))
-    (record {
-      sound = record { top_fits = record { sum = tt; product = tt; nots = no_nots k }; outer_fit = (subst (λ (r : ℕ). FrameFits k r top) same w.top_fits, subst (λ (r : ℕ). OuterFits k r outer) same w.outer_fit) };
-      is = simp (append-nil, append_assoc);
-    })
-  where
-    no_nots : (k : Kind) → NotsFit k 0
-    no_nots (Label n) = tt
-    no_nots (Condition n) = refl
+paren_next k (suc room) top outer w = grind (arith, nat_tests, append-nil, append_assoc)
 
 abbrev Words : Kind → List ℕ → ℕ → Frame → List Frame → Option State → Type 0
 Words k w room top outer found = Next k (operand room top outer) (identifier w) found
 
 tested : (k : Kind) (w name : List ℕ) (room : ℕ) (top : Frame) (outer : List Frame) (yes_state : State) (otherwise : Option State) → Words k name room top outer (Some yes_state) → Words k w room top outer otherwise → Words k w room top outer (cond (bytes_eq w name) (Some yes_state) otherwise)
-tested k w name room top outer yes_state otherwise there else_there s2 e =
-    elim (chosen (bytes_eq w name) (some yes_state) otherwise (some s2) e) [
-      | inl c ↦ subst (λ (v : List ℕ). Reads k s2 (so_far (operand room top outer) ++ (identifier v ∷ []))) (sym ((bytes_eq-Decides w name).0 c.0)) (there s2 c.1)
-      | inr c ↦ else_there s2 c.1
-    ]
+tested k w name room top outer yes_state otherwise there else_there s2 e = grind (arith, nat_tests, chosen (bytes_eq w name) (some yes_state) otherwise (some s2) e, bytes_eq-Decides w name)
 
 opened : (n : ℕ) (b : Bool) (w : List ℕ) (room : ℕ) (top : Frame) (outer : List Frame) → identifier w ≡ limit_word b → Within (Condition n) room top outer → Words (Condition n) w room top outer (Some (opening b room top outer))
-opened n b w room top outer e h =
-    some_next (Condition n) (operand room top outer) (identifier w) (opening b room top outer)
-    (record { sound = h; is = rw e (sym (append_assoc (outer_lexemes outer) (frame_lexemes top) (limit_word b ∷ []))) })
+opened n b w room top outer e h = grind (arith, nat_tests, append_assoc (outer_lexemes outer) (frame_lexemes top) (limit_word b ∷ []))
 
 word_next : (k : Kind) (w : List ℕ) (room : ℕ) (top : Frame) (outer : List Frame) → Within k room top outer → Words k w room top outer (word_step k w room top outer)
 word_next (Label n) w room top outer h =
     tested (Label n) w (codes "t") room top outer (completes room top outer yes) _ (completed (Label n) room top outer yes (identifier (codes "t")) h (plain (Label n) yes room tt tt refl refl) refl)
     (tested (Label n) w (codes "f") room top outer (completes room top outer no) None (completed (Label n) room top outer no (identifier (codes "f")) h (plain (Label n) no room tt tt refl refl) refl)
     (none_next (Label n) (operand room top outer) (identifier w)))
-word_next (Condition n) w room top outer h =
-    tested (Condition n) w (codes "t") room top outer (completes room top outer yes) _ (completed (Condition n) room top outer yes (identifier (codes "t")) h (plain (Condition n) yes room tt tt refl refl) refl)
-    (tested (Condition n) w (codes "f") room top outer (completes room top outer no) _ (completed (Condition n) room top outer no (identifier (codes "f")) h (plain (Condition n) no room tt tt refl refl) refl)
-    (tested (Condition n) w (codes "Inf") room top outer (opening true room top outer) _ (opened n true (codes "Inf") room top outer refl h)
-    (tested (Condition n) w (codes "Fin") room top outer (opening false room top outer) None (opened n false (codes "Fin") room top outer refl h)
-    (none_next (Condition n) (operand room top outer) (identifier w)))))
+word_next (Condition n) w room top outer h = grind (arith, nat_tests, tested (Condition n) w (codes "t") room top outer (completes room top outer yes) _ (completed (Condition n) room top outer yes (identifier (codes "t")) h (plain (Condition n) yes room tt tt refl refl) refl) (tested (Condition n) w (codes "f") room top outer (completes room top outer no) _ (completed (Condition n) room top outer no (identifier (codes "f")) h (plain (Condition n) no room tt tt refl refl) refl) (tested (Condition n) w (codes "Inf") room top outer (opening true room top outer) _ (opened n true (codes "Inf") room top outer refl h) (tested (Condition n) w (codes "Fin") room top outer (opening false room top outer) None (opened n false (codes "Fin") room top outer refl h) (none_next (Condition n) (operand room top outer) (identifier w))))))
 
 -- a number that is below its bound
 below_next : (k : Kind) (s : State) (t : Lexeme) (a n : ℕ) (found : State) → (a < n → Next k s t (Some found)) → Next k s t (cond (nat_lt a n) (Some found) None)
-below_next k s t a n found below s2 e =
-    elim (chosen (nat_lt a n) (some found) None (some s2) e) [
-      | inl c ↦ below (ltb-true a n c.0) s2 c.1
-      | inr c ↦ absurd (none_is_some s2 c.1)
-    ]
+below_next k s t a n found below s2 e = grind (arith, nat_tests, chosen (nat_lt a n) (some found) None (some s2) e)
 
 operand_next : (k : Kind) (room : ℕ) (top : Frame) (outer : List Frame) (t : Lexeme) → Within k room top outer → Next k (operand room top outer) t (operand_step k room top outer t)
 operand_next (Label n) room top outer bang h = bang_next n room top outer h
@@ -233,15 +190,8 @@ limited_lexemes : (b : Bool) (s : ℕ) → closing_lexemes (limited b s) ≡ lim
 limited_lexemes true s = refl
 limited_lexemes false s = refl
 
-limit_is : (n : ℕ) (b : Bool) (s : ℕ) → s < n → IsOf (Condition n) (limited b s)
-limit_is n true s h = h
-limit_is n false s h = h
-
 naming_next : (k : Kind) (b : Bool) (room : ℕ) (top : Frame) (outer : List Frame) (t : Lexeme) → Sound k (naming b room top outer) → Next k (naming b room top outer) t (naming_step k b room top outer t)
-naming_next (Condition n) b room top outer (number s) h =
-    below_next (Condition n) (naming b room top outer) (number s) s n (closing b s room top outer)
-    (λ low. some_next (Condition n) (naming b room top outer) (number s) (closing b s room top outer)
-    (record { sound = (h, limit_is n b s low); is = rw (limited_lexemes b s) (simp append_assoc) }))
+naming_next (Condition n) b room top outer (number s) h = grind (arith, nat_tests, limited_lexemes b s, append_assoc)
 naming_next (Condition n) b room top outer t h = none_next (Condition n) (naming b room top outer) t
 naming_next (Label n) b room top outer t h = none_next (Label n) (naming b room top outer) t
 
@@ -254,10 +204,7 @@ limit_closed true s = refl
 limit_closed false s = refl
 
 closing_next : (k : Kind) (b : Bool) (s room : ℕ) (top : Frame) (outer : List Frame) (t : Lexeme) → Sound k (closing b s room top outer) → Next k (closing b s room top outer) t (closing_step b s room top outer t)
-closing_next k b s room top outer right_paren h =
-    let fits = limit_fits k b s room h.1 in
-    some_next k (closing b s room top outer) right_paren (completes room top outer (limited b s))
-    (subst (Reads k (completes room top outer (limited b s))) (rw (limit_closed b s) (simp append_assoc)) (completes_reads k room top outer (limited b s) h.0 fits))
+closing_next k b s room top outer right_paren h = grind (arith, nat_tests, limit_fits k b s room h.1, limit_closed b s, append_assoc)
 closing_next k b s room top outer t h = none_next k (closing b s room top outer) t
 
 bracket_fits : (k : Kind) (room : ℕ) (f : Formula) → Fits k room 2 f → Fits k (suc room) 0 (bracket f)
@@ -269,12 +216,8 @@ started (Label n) room sum product outer s p o = let same : room ≡ room + 0 = 
 started (Condition n) room sum product outer s p o = let same : room ≡ room + 0 = omega arith in record { top_fits = subst (λ (r : ℕ). FrameFits (Condition n) r (record { sum = sum; product = product; nots = 0 })) same (record { sum = s; product = p; nots = refl }); outer_fit = subst (λ (r : ℕ). OuterFits (Condition n) r outer) same o }
 
 operator_next : (k : Kind) (room : ℕ) (sum : Option Formula) (product : Formula) (outer : List Frame) (t : Lexeme) → Sound k (operator room sum product outer) → Next k (operator room sum product outer) t (operator_step room sum product outer t)
-operator_next k room sum product outer ampersand h =
-    some_next k (operator room sum product outer) ampersand (operand room (record { sum = sum; product = Some product; nots = 0 }) outer)
-    (record { sound = started k room sum (Some product) outer h.0 h.1 h.2; is = simp (append-nil, append_assoc) })
-operator_next k room sum product outer bar h =
-    some_next k (operator room sum product outer) bar (operand room (record { sum = Some (summed sum product); product = None; nots = 0 }) outer)
-    (record { sound = started k room (Some (summed sum product)) None outer (summed_fits k room sum product h.0 h.1) tt h.2; is = rw (summed_lexemes sum product) (simp (append-nil, append_assoc)) })
+operator_next k room sum product outer ampersand h = grind (arith, nat_tests, started k room sum (Some product) outer h.0 h.1 h.2, append-nil, append_assoc)
+operator_next k room sum product outer bar h = grind (arith, nat_tests, started k room (Some (summed sum product)) None outer (summed_fits k room sum product h.0 h.1) tt h.2, summed_lexemes sum product, append-nil, append_assoc)
 operator_next k room sum product (top ∷ outer) right_paren h =
     let within : Within k (suc room) top outer = record { top_fits = h.2.0; outer_fit = h.2.1 } in
     some_next k (operator room sum product (top ∷ outer)) right_paren (completes (suc room) top outer (bracket (summed sum product)))
@@ -299,16 +242,9 @@ pub record Taken (k : Kind) (tokens : List Lexeme) (found : Formula × List Lexe
   pub is : tokens ≡ formula_lexemes found.0 ++ found.1
 
 finish_takes : (k : Kind) (s : State) (rest : List Lexeme) (y : Formula × List Lexeme) → Sound k s → finish s rest ≡ Some y → Taken k (so_far s ++ rest) y
-finish_takes k (operator room sum product []) rest y h e =
-    let f = summed_fits k room sum product h.0 h.1 in
-    let nested : nesting (summed sum product) ≤ 8192 = let n = f.nested in let r = h.2 in omega arith in
-    subst (Taken k ((before bar sum ++ formula_lexemes product) ++ rest)) (some_is (summed sum product, rest) y e)
-    (record { written = record { grouped = f.grouped; of_kind = f.of_kind; nested = nested }; is = rw (summed_lexemes sum product) refl })
+finish_takes k (operator room sum product []) rest y h e = grind (arith, nat_tests, summed_fits k room sum product h.0 h.1, some_is (summed sum product, rest) y e, summed_lexemes sum product)
 finish_takes k (operator room sum product (top ∷ outer)) rest y h e = absurd (none_is_some y e)
-finish_takes k (operand room top outer) rest y h e = absurd (none_is_some y e)
-finish_takes k (opening b room top outer) rest y h e = absurd (none_is_some y e)
-finish_takes k (naming b room top outer) rest y h e = absurd (none_is_some y e)
-finish_takes k (closing b s room top outer) rest y h e = absurd (none_is_some y e)
+finish_takes k _ rest y h e = absurd (none_is_some y e)
 
 from_takes : (k : Kind) (s : State) (tokens : List Lexeme) (y : Formula × List Lexeme) → Sound k s → formula_from k s tokens ≡ Some y → Taken k (so_far s ++ tokens) y
 unfolding formula_from

@@ -1,13 +1,11 @@
 -- White space and comments, as a loop skips them.
-use Rattle.std.proofs.Common.{◌≡◌, ℕ, zero, suc, ◌+◌, ◌-◌, ◌≤◌, ◌<◌, List, [], ◌∷◌, length, Option, Some, None, refl, subst, arith, inl, inr, eqb, ltb}
-use Rattle.std.specs.Prelude.{◌&&◌}
-use Rattle.std.proofs.lemmas.Bool.{ltb-true}
-use Rattle.pg_hoa.specs.Lexemes.{is_space}
+use Rattle.std.proofs.Common.{◌≡◌, ℕ, zero, suc, ◌≤◌, ◌<◌, List, [], ◌∷◌, length, Option, Some, None, refl, subst, arith, eqb}
+use Rattle.std.proofs.lemmas.Bool.Decides.{nat_tests}
 use Rattle.pg_hoa.specs.Mirrors.Steps.{◌>>=◌, Fails}
 use Rattle.pg_hoa.specs.Mirrors.Scan.{gap_step, behind_blank, gap_within, gap_from}
 use Rattle.pg_hoa.specs.declared.fault.Refusal.{Refusal}
 use Rattle.pg_hoa.specs.declared.fault.Refusal.TheVariants.{Memory, Wrong}
-use Rattle.pg_hoa.proofs.Steps.{chosen, some, some_is, none, none_is_some}
+use Rattle.pg_lists.proofs.Steps.{chosen, some, some_is, none, none_is_some}
 
 -- a byte at least is taken, and no more comments are open than may be
 pub record Takes (deep : ℕ) (bytes : List ℕ) (x : ℕ × List ℕ) : Type 0 where
@@ -25,36 +23,9 @@ ended x e = absurd (none_is_some x (some_is (none {A = ℕ × List ℕ}) (some x
 
 pub gap_takes : (deep : ℕ) (bytes : List ℕ) (x : ℕ × List ℕ) → gap_step deep bytes ≡ Some (Some x) → Takes deep bytes x
 unfolding gap_step
-gap_takes deep [] x e =
-    elim (chosen (eqb deep 0) (some none) none (some (some x)) e) [ inl c ↦ ended x c.1 | inr c ↦ refused x c.1 ]
-gap_takes deep (b ∷ []) x e =
-    elim (chosen (eqb deep 0) _ none (some (some x)) e) [
-      | inl c ↦ elim (chosen (is_space b) (some (some (0, []))) (some none) (some (some x)) c.1) [
-        | inl d ↦ taken deep (b ∷ []) 0 [] x d.1 (omega arith) (λ _. omega arith)
-        | inr d ↦ ended x d.1
-      ]
-      | inr c ↦ refused x c.1
-    ]
-gap_takes deep (b ∷ c ∷ bytes) x e =
-    elim (chosen (eqb deep 0) _ _ (some (some x)) e) [
-      | inl p ↦ elim (chosen (is_space b) (some (some (0, c ∷ bytes))) _ (some (some x)) p.1) [
-        | inl d ↦ taken deep (b ∷ c ∷ bytes) 0 (c ∷ bytes) x d.1 (omega arith) (λ _. omega arith)
-        | inr d ↦ elim (chosen (eqb b 47 && eqb c 42) (some (some (1, bytes))) (some none) (some (some x)) d.1) [
-          | inl f ↦ taken deep (b ∷ c ∷ bytes) 1 bytes x f.1 (omega arith) (λ _. omega arith)
-          | inr f ↦ ended x f.1
-        ]
-      ]
-      | inr p ↦ elim (chosen (eqb b 47 && eqb c 42) _ _ (some (some x)) p.1) [
-        | inl d ↦ elim (chosen (ltb deep 8192) (some (some (deep + 1, bytes))) none (some (some x)) d.1) [
-          | inl f ↦ let lt : deep < 8192 = ltb-true deep 8192 f.0 in taken deep (b ∷ c ∷ bytes) (deep + 1) bytes x f.1 (omega arith) (λ _. omega arith)
-          | inr f ↦ refused x f.1
-        ]
-        | inr d ↦ elim (chosen (eqb b 42 && eqb c 47) (some (some (deep - 1, bytes))) (some (some (deep, c ∷ bytes))) (some (some x)) d.1) [
-          | inl f ↦ taken deep (b ∷ c ∷ bytes) (deep - 1) bytes x f.1 (omega arith) (λ h. omega arith)
-          | inr f ↦ taken deep (b ∷ c ∷ bytes) deep (c ∷ bytes) x f.1 (omega arith) (λ h. h)
-        ]
-      ]
-    ]
+gap_takes deep [] x e = grind (arith, nat_tests, chosen (eqb deep 0) (some none) none (some (some x)) e)
+gap_takes deep (b ∷ []) x e = grind (arith, nat_tests)
+gap_takes deep (b ∷ c ∷ bytes) x e = grind (arith, nat_tests)
 
 -- how many steps may be made doesn't matter where they are enough
 enough : (n m deep : ℕ) (bytes : List ℕ) → length bytes < n → length bytes < m → gap_within n deep bytes ≡ gap_within m deep bytes

@@ -1,12 +1,13 @@
 -- The steps of lines whose numbers are in range are in range.
-use Rattle.std.proofs.Common.{◌≡◌, ℕ, ◌<◌, Bool, true, false, eqb, List, [], ◌∷◌, ◌++◌, map, Some, refl, sym, subst}
+use Rattle.std.proofs.Common.{◌≡◌, ℕ, ◌<◌, Bool, true, false, eqb, List, [], ◌∷◌, ◌++◌, map, Some, refl, subst, arith}
+use Rattle.std.proofs.lemmas.Bool.Decides.{nat_tests}
 use Rattle.std.specs.List.{AllByRecursion, filter}
 use Rattle.std.proofs.lemmas.List.Elements.{All-append}
 use Rattle.pg_hoa.specs.Automata.{Step, IsStepOf}
 use Rattle.pg_hoa.specs.AutomatonText.{Edge, StateLine, set_list, edge_steps, steps_of, head, EachBelow, EdgeFits, LineFits}
 use Rattle.pg_hoa.specs.Mirrors.Kept.{KeptLine, line_kept}
 use Rattle.pg_hoa.specs.Mirrors.Tables.{kept_steps}
-use Rattle.pg_hoa.proofs.Rising.{rising_below, rising_rises}
+use Rattle.pg_lists.proofs.Rising.{rising_below, rising_rises}
 use Rattle.pg_hoa.proofs.Lists.{all_of_both}
 use Rattle.pg_hoa.proofs.TableLaws.{written_step, kept_steps_are}
 
@@ -34,14 +35,10 @@ line_good states propositions sets state letter l fits = go (eqb l.state state) 
 
 lines_good : (states propositions sets state letter : ℕ) (lines : List StateLine) → AllByRecursion (LineFits states propositions sets) lines → AllByRecursion (IsStepOf states sets) (steps_of lines state letter)
 lines_good states propositions sets state letter [] fits = tt
-lines_good states propositions sets state letter (l ∷ lines) fits =
-    all_of_both (IsStepOf states sets) (edge_steps state letter l) (steps_of lines state letter)
-    (line_good states propositions sets state letter l fits.0) (lines_good states propositions sets state letter lines fits.1)
+lines_good states propositions sets state letter (l ∷ lines) fits = grind (arith, nat_tests, all_of_both (IsStepOf states sets) (edge_steps state letter l) (steps_of lines state letter) (line_good states propositions sets state letter l fits.0) (lines_good states propositions sets state letter lines fits.1))
 
 pub kept_good : (states propositions sets state letter : ℕ) (lines : List StateLine) (kept : List KeptLine) → map line_kept lines ≡ kept → AllByRecursion (LineFits states propositions sets) lines → AllByRecursion (IsStepOf states sets) (kept_steps kept state letter)
-kept_good states propositions sets state letter lines kept e fits =
-    subst (λ (ls : List KeptLine). AllByRecursion (IsStepOf states sets) (kept_steps ls state letter)) e
-    (subst (AllByRecursion (IsStepOf states sets)) (sym (kept_steps_are lines state letter)) (lines_good states propositions sets state letter lines fits))
+kept_good states propositions sets state letter lines kept e fits = grind (arith, nat_tests, kept_steps_are lines state letter, lines_good states propositions sets state letter lines fits)
 
 pub first_good : (states sets : ℕ) (steps : List Step) (s : Step) → AllByRecursion (IsStepOf states sets) steps → head steps ≡ Some s → IsStepOf states sets s
 first_good states sets [] s all e = absurd cc

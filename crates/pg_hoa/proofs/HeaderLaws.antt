@@ -1,10 +1,11 @@
 -- What the reader of headers gives is written there, and what is written there it gives.
 use Rattle.std.proofs.Common.{◌≡◌, ◌≢◌, ℕ, suc, zero, ◌≤◌, ◌<◌, true, false, ltb, List, [], ◌∷◌, ◌++◌, length, map, Option, Some, None, refl, sym, ap, subst, ◌∙◌, arith, append_assoc, inl, inr}
+use Rattle.std.proofs.lemmas.Bool.Decides.{nat_tests}
 use Rattle.std.specs.Prelude.{codes, IfSome, if◌then◌else◌}
 use Rattle.std.specs.Str.{bytes_eq}
 use Rattle.std.specs.List.{flat_map, AllByRecursion}
 use Rattle.std.proofs.lemmas.List.{length-append, length-map, map-append}
-use Rattle.std.proofs.lemmas.Bool.{ltb-false, le-ltb}
+use Rattle.std.proofs.lemmas.Bool.{le-ltb}
 use Rattle.std.proofs.lemmas.Slice.Eq.{bytes_eq-Decides}
 use Rattle.pg_hoa.specs.declared.formula.Op.{Op}
 use Rattle.pg_hoa.specs.declared.formula.Kind.TheVariants.{Condition}
@@ -19,10 +20,10 @@ use Rattle.pg_hoa.specs.AutomatonText as text
 use Rattle.pg_hoa.specs.Mirrors.Kept.{KeptHead}
 use Rattle.pg_hoa.specs.Mirrors.HeaderScan.{numeral_at, alone_at, numbers_from, skipped_from, names_from, once, at_most, states_at, start_at, names_at, acceptance_at, controls_at, begins_low, other_at, header_at, empty_head, headers_within, headers_from, opening_at, version_at, headers_at}
 use Rattle.pg_hoa.proofs.Lists.{all_of_both}
-use Rattle.pg_hoa.proofs.Steps.{bind_some, chosen, some, some_is, none, none_is_some}
+use Rattle.pg_hoa.proofs.Steps.{bind_some}
+use Rattle.pg_lists.proofs.Steps.{chosen, some, some_is, none, none_is_some}
 use Rattle.pg_hoa.proofs.FormulasAgain.{Ends}
 use Rattle.pg_hoa.proofs.FormulaLaws.{number_tokens, ops_take, ops_again, formula_tokens}
-use Rattle.pg_hoa.proofs.HeaderTurns.{true_is_false}
 use Rattle.pg_hoa.proofs.HeaderValues.{Follows, numeral_take, numeral_again, alone_take, alone_again, numbers_take, numbers_again, skipped_take, skipped_again, names_take, names_again}
 use Rattle.pg_hoa.proofs.HeaderParts.{option_list, Adds, IsWithin, adds_states, adds_start, adds_names, adds_controls, adds_acceptance, adds_nothing, adds_none, adds_more, first_states, first_start, first_names, first_controls, first_acceptance, none_first, all_said}
 
@@ -41,11 +42,7 @@ once_is None next y e = (refl, e)
 once_is (Some x) next y e = absurd (none_is_some y e)
 
 at_most_is : {B : Type 0} (bound n : ℕ) (next : Option B) (y : B) → at_most bound n next ≡ Some y → (n ≤ bound) × (next ≡ Some y)
-at_most_is bound n next y e =
-    elim (chosen (ltb bound n) none next (some y) e) [
-      | inl c ↦ absurd (none_is_some y c.1)
-      | inr c ↦ (ltb-false bound n c.0, c.1)
-    ]
+at_most_is bound n next y e = grind (arith, nat_tests, chosen (ltb bound n) none next (some y) e)
 
 states_take : (h : KeptHead) (tokens : List Lexeme) (x : KeptHead × List Lexeme) → states_at h tokens ≡ Some x → TakesHeader h (codes "States") tokens x
 unfolding states_at
@@ -155,11 +152,7 @@ other_take h name tokens x other e =
 
 -- a test of the name
 named : (h : KeptHead) (name word : List ℕ) (tokens : List Lexeme) (x : KeptHead × List Lexeme) (there otherwise : Option (KeptHead × List Lexeme)) → (there ≡ Some x → TakesHeader h word tokens x) → (name ≢ word → otherwise ≡ Some x → TakesHeader h name tokens x) → (if bytes_eq name word then there else otherwise) ≡ Some x → TakesHeader h name tokens x
-named h name word tokens x there otherwise same other e =
-    elim (chosen (bytes_eq name word) there otherwise (some x) e) [
-      | inl c ↦ subst (λ (w : List ℕ). TakesHeader h w tokens x) (sym ((bytes_eq-Decides name word).0 c.0)) (same c.1)
-      | inr c ↦ other (λ is. true_is_false (sym ((bytes_eq-Decides name word).1 is) ∙ c.0)) c.1
-    ]
+named h name word tokens x there otherwise same other e = grind (arith, nat_tests, chosen (bytes_eq name word) there otherwise (some x) e, bytes_eq-Decides name word)
 
 pub header_take : (h : KeptHead) (name : List ℕ) (tokens : List Lexeme) (x : KeptHead × List Lexeme) → header_at h name tokens ≡ Some x → TakesHeader h name tokens x
 unfolding header_at
@@ -179,11 +172,7 @@ header_shorter h name tokens x e =
   where
     some_lexemes : (one : Header) → 0 < length (header_lexemes one)
     some_lexemes (text.states n) = omega arith
-    some_lexemes (text.start q) = omega arith
-    some_lexemes (text.propositions ns) = omega arith
-    some_lexemes (text.acceptance n f) = omega arith
-    some_lexemes (text.controllable ns) = omega arith
-    some_lexemes (text.skipped name values) = omega arith
+    some_lexemes _ = omega arith
 
 -- ---- one header that is written
 
@@ -205,11 +194,7 @@ header_values (text.skipped name values) = map value_lexeme values
 
 named_values : (one : Header) → header_lexemes one ≡ header (header_name one) ∷ header_values one
 named_values (text.states n) = refl
-named_values (text.start q) = refl
-named_values (text.propositions ns) = refl
-named_values (text.acceptance n f) = refl
-named_values (text.controllable ns) = refl
-named_values (text.skipped name values) = refl
+named_values _ = refl
 
 -- the reader goes on behind the header, towards what all headers say
 pub record ReadsOne (h : KeptHead) (one : Header) (hs : List Header) (k : KeptHead) (rest : List Lexeme) : Type 0 where
@@ -225,37 +210,15 @@ within_bound bound n next h = rw (le-ltb bound n h) refl
 
 states_again : (h k : KeptHead) (n : ℕ) (hs : List Header) (rest : List Lexeme) → Adds h (text.states n ∷ hs) k → IsWithin k → ReadsOne h (text.states n) hs k rest
 unfolding header_at states_at
-states_again h k n hs rest a w =
-    let f = first_states h k n hs a in
-    let few : n ≤ 65535 = said_within k.states n (λ m. m ≤ 65535) f.is w.states in
-    record {
-      more = record h { states = Some n };
-      reads = rw (f.unsaid_before, numeral_again n rest) (within_bound 65535 n _ few);
-      others = f.others;
-    }
+states_again h k n hs rest a w = grind (arith, nat_tests, first_states h k n hs a, numeral_again n rest)
 
 start_again : (h k : KeptHead) (q : ℕ) (hs : List Header) (rest : List Lexeme) → Adds h (text.start q ∷ hs) k → IsWithin k → Follows rest → ReadsOne h (text.start q) hs k rest
 unfolding header_at start_at
-start_again h k q hs rest a w follows =
-    let f = first_start h k q hs a in
-    let few : q ≤ 65534 = said_within k.start q (λ m. m ≤ 65534) f.is w.start in
-    record {
-      more = record h { start = Some q };
-      reads = rw (f.unsaid_before, numeral_again q rest, alone_again rest follows) (within_bound 65534 q _ few);
-      others = f.others;
-    }
+start_again h k q hs rest a w follows = grind (arith, nat_tests, first_start h k q hs a, numeral_again q rest, alone_again rest follows)
 
 names_header_again : (h k : KeptHead) (ns : List (List Character)) (hs : List Header) (rest : List Lexeme) → Adds h (text.propositions ns ∷ hs) k → IsWithin k → ReadsOne h (text.propositions ns) hs k rest
 unfolding header_at names_at
-names_header_again h k ns hs rest a w =
-    let f = first_names h k ns hs a in
-    let few : length ns ≤ 16 = omega (arith, said_within k.names (map (map character_code) ns) (λ names. length names ≤ 16) f.is w.few_names, length-map ns (map character_code)) in
-    let good = said_within k.names (map (map character_code) ns) (λ names. AllByRecursion IsPropositionName names) f.is w.good_names in
-    record {
-      more = record h { names = Some (map (map character_code) ns) };
-      reads = rw (f.unsaid_before, numeral_again (length ns) (map string ns ++ rest), names_again ns [] rest good) (within_bound 16 (length ns) _ few);
-      others = f.others;
-    }
+names_header_again h k ns hs rest a w = grind (arith, nat_tests, first_names h k ns hs a, length-map ns (map character_code), numeral_again (length ns) (map string ns ++ rest), names_again ns)
 
 acceptance_again : (h k : KeptHead) (n : ℕ) (c : Formula) (hs : List Header) (rest : List Lexeme) → IsWritten (Condition n) c → Adds h (text.acceptance n c ∷ hs) k → IsWithin k → Follows rest → ReadsOne h (text.acceptance n c) hs k rest
 unfolding header_at acceptance_at
@@ -275,21 +238,11 @@ acceptance_again h k n c hs rest written a w follows =
 
 controls_again : (h k : KeptHead) (ns : List ℕ) (hs : List Header) (rest : List Lexeme) → Adds h (text.controllable ns ∷ hs) k → Follows rest → ReadsOne h (text.controllable ns) hs k rest
 unfolding header_at controls_at
-controls_again h k ns hs rest a follows =
-    let f = first_controls h k ns hs a in
-    record {
-      more = record h { controls = Some ns };
-      reads = rw (f.unsaid_before, numbers_again ns [] rest follows) refl;
-      others = f.others;
-    }
+controls_again h k ns hs rest a follows = grind (arith, nat_tests, first_controls h k ns hs a, numbers_again ns, follows)
 
 -- a name that begins low is none that begins with an upper-case letter
 is_other : (name word : List ℕ) → begins_low name ≡ true → begins_low word ≡ false → bytes_eq name word ≡ false
-is_other name word low high =
-    elim (bytes_eq name word) as (λ v. bytes_eq name word ≡ v → bytes_eq name word ≡ false) [
-      | true ↦ λ e. true_is_false (sym low ∙ ap begins_low ((bytes_eq-Decides name word).0 e) ∙ high)
-      | false ↦ λ e. e
-    ] refl
+is_other name word low high = grind (arith, nat_tests, bytes_eq-Decides name word)
 
 skipped_header_again : (h k : KeptHead) (name : List ℕ) (values : List text.Value) (hs : List Header) (rest : List Lexeme) → IsHeader (text.skipped name values) → Adds h (text.skipped name values ∷ hs) k → Follows rest → ReadsOne h (text.skipped name values) hs k rest
 unfolding header_at other_at
@@ -328,13 +281,7 @@ no_more : (h : KeptHead) (rest : List Lexeme) (x : KeptHead × List Lexeme) → 
 no_more h rest x e = subst (TakesHeaders h (body ∷ rest)) (some_is (h, rest) x e) (record { headers = []; is = refl; good = tt; adds = adds_none h; within = λ w. w })
 
 one_more : (h : KeptHead) (name : List ℕ) (rest : List Lexeme) (y x : KeptHead × List Lexeme) → TakesHeader h name rest y → TakesHeaders y.0 y.1 x → TakesHeaders h (header name ∷ rest) x
-one_more h name rest y x t more = record {
-  headers = t.one ∷ more.headers;
-  is = t.is ∙ ap (λ (ts : List Lexeme). header_lexemes t.one ++ ts) more.is ∙ sym (append_assoc (header_lexemes t.one) (flat_map header_lexemes more.headers) (body ∷ x.1));
-  good = (t.good, more.good);
-  adds = adds_more h y.0 x.0 t.one more.headers t.adds more.adds;
-  within = λ w. more.within (t.within w);
-}
+one_more h name rest y x t more = grind (arith, nat_tests, append_assoc (header_lexemes t.one) (flat_map header_lexemes more.headers) (body ∷ x.1), adds_more h y.0 x.0 t.one more.headers t.adds more.adds)
 
 headers_within_take : (n : ℕ) (h : KeptHead) (tokens : List Lexeme) (x : KeptHead × List Lexeme) → headers_within n h tokens ≡ Some x → TakesHeaders h tokens x
 unfolding headers_within
@@ -359,9 +306,7 @@ abbrev pub all_lexemes : List Header → List Lexeme → List Lexeme
 all_lexemes hs rest = flat_map header_lexemes hs ++ (body ∷ rest)
 
 first_apart : (one : Header) (hs : List Header) (rest : List Lexeme) → all_lexemes (one ∷ hs) rest ≡ header (header_name one) ∷ (header_values one ++ all_lexemes hs rest)
-first_apart one hs rest =
-    append_assoc (header_lexemes one) (flat_map header_lexemes hs) (body ∷ rest)
-    ∙ ap (λ (ts : List Lexeme). ts ++ all_lexemes hs rest) (named_values one)
+first_apart one hs rest = grind (arith, nat_tests, append_assoc (header_lexemes one) (flat_map header_lexemes hs) (body ∷ rest), named_values one)
 
 headers_within_again : (n : ℕ) (hs : List Header) (h k : KeptHead) (rest : List Lexeme) → AllByRecursion IsHeader hs → Adds h hs k → IsWithin k → length (all_lexemes hs rest) < n → headers_within n h (all_lexemes hs rest) ≡ Some (k, rest)
 unfolding headers_within
@@ -425,20 +370,12 @@ empty_within = record { states = tt; start = tt; few_names = tt; good_names = tt
 
 opening_take : (tokens rest : List Lexeme) → opening_at tokens ≡ Some rest → tokens ≡ header (codes "HOA") ∷ rest
 unfolding opening_at
-opening_take (header w ∷ ts) rest e =
-    elim (chosen (bytes_eq w (codes "HOA")) (some ts) none (some rest) e) [
-      | inl c ↦ let name = (bytes_eq-Decides w (codes "HOA")).0 c.0 in let same : ts ≡ rest = some_is ts rest c.1 in rw (name, same) refl
-      | inr c ↦ absurd (none_is_some rest c.1)
-    ]
+opening_take (header w ∷ ts) rest e = grind (arith, nat_tests, chosen (bytes_eq w (codes "HOA")) (some ts) none (some rest) e, bytes_eq-Decides w (codes "HOA"))
 opening_take _ rest e = absurd (none_is_some rest e)
 
 version_take : (tokens rest : List Lexeme) → version_at tokens ≡ Some rest → tokens ≡ identifier (codes "v1") ∷ rest
 unfolding version_at
-version_take (identifier w ∷ ts) rest e =
-    elim (chosen (bytes_eq w (codes "v1")) (some ts) none (some rest) e) [
-      | inl c ↦ let name = (bytes_eq-Decides w (codes "v1")).0 c.0 in let same : ts ≡ rest = some_is ts rest c.1 in rw (name, same) refl
-      | inr c ↦ absurd (none_is_some rest c.1)
-    ]
+version_take (identifier w ∷ ts) rest e = grind (arith, nat_tests, chosen (bytes_eq w (codes "v1")) (some ts) none (some rest) e, bytes_eq-Decides w (codes "v1"))
 version_take _ rest e = absurd (none_is_some rest e)
 
 pub headers_take : (tokens : List Lexeme) (x : KeptHead × List Lexeme) → headers_at tokens ≡ Some x → ReadHeaders tokens x
@@ -454,13 +391,13 @@ headers_take tokens x e =
       says = says_them t.headers x.0 t.adds (t.within empty_within);
     }
 
+-- ---- the tokens of headers
+
 pub headers_again : (hs : List Header) (h : KeptHead) (rest : List Lexeme) → AllByRecursion IsHeader hs → SaysHeaders hs h → headers_at (header (codes "HOA") ∷ identifier (codes "v1") ∷ (flat_map header_lexemes hs ++ (body ∷ rest))) ≡ Some (h, rest)
 unfolding headers_at opening_at version_at headers_from
 headers_again hs h rest good s =
     let said = said_them hs h s in
     headers_within_again (suc (length (all_lexemes hs rest))) hs empty_head h rest good said.0 said.1 (omega arith)
-
--- ---- the tokens of headers
 
 string_tokens : (ns : List (List Character)) → AllByRecursion IsToken (map string ns)
 string_tokens [] = tt

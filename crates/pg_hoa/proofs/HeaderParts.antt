@@ -1,5 +1,6 @@
 -- What headers say, one after another.
-use Rattle.std.proofs.Common.{◌≡◌, ℕ, ◌≤◌, List, [], ◌∷◌, ◌++◌, length, map, Option, Some, None, refl, sym, ap, ◌∙◌, append_assoc}
+use Rattle.std.proofs.Common.{◌≡◌, ℕ, ◌≤◌, List, [], ◌∷◌, ◌++◌, length, map, Option, Some, None, refl, sym, ap, ◌∙◌, append_assoc, arith}
+use Rattle.std.proofs.lemmas.Bool.Decides.{nat_tests}
 use Rattle.std.specs.Prelude.{IfSome}
 use Rattle.std.specs.List.{flat_map, AllByRecursion}
 use Rattle.std.proofs.lemmas.List.{append-nil}
@@ -73,13 +74,7 @@ joined : {A : Type 0} (f : Header → List A) (a b c : List A) (one : Header) (h
 joined {A = A} f a b c one hs p q = q ∙ ap (λ (l : List A). l ++ flat_map f hs) p ∙ simp (append-nil, append_assoc)
 
 pub adds_more : (h k m : KeptHead) (one : Header) (hs : List Header) → Adds h (one ∷ []) k → Adds k hs m → Adds h (one ∷ hs) m
-adds_more h k m one hs p q = record {
-  states = joined state_counts _ _ _ one hs p.states q.states;
-  start = joined starts _ _ _ one hs p.start q.start;
-  names = joined read_names _ _ _ one hs p.names q.names;
-  controls = joined controls _ _ _ one hs p.controls q.controls;
-  acceptance = joined read_acceptances _ _ _ one hs p.acceptance q.acceptance;
-}
+adds_more h k m one hs p q = grind (arith, nat_tests, joined state_counts _ _ _ one hs p.states q.states, joined starts _ _ _ one hs p.start q.start, joined read_names _ _ _ one hs p.names q.names, joined controls _ _ _ one hs p.controls q.controls, joined read_acceptances _ _ _ one hs p.acceptance q.acceptance)
 
 -- ---- one header less
 
@@ -101,29 +96,19 @@ pub record FirstOf {A : Type 0} (before after : Option A) (x : A) (h : KeptHead)
   pub others : Adds h hs k
 
 pub first_states : (h k : KeptHead) (n : ℕ) (hs : List Header) → Adds h (text.states n ∷ hs) k → FirstOf h.states k.states n (record h { states = Some n }) hs k
-first_states h k n hs a =
-    let s = says_first k.states h.states n (flat_map state_counts hs) a.states in
-    record { unsaid_before = s.unsaid_before; is = s.is; others = record { states = s.left; start = a.start; names = a.names; controls = a.controls; acceptance = a.acceptance } }
+first_states h k n hs a = grind (arith, nat_tests, says_first k.states h.states n (flat_map state_counts hs) a.states)
 
 pub first_start : (h k : KeptHead) (q : ℕ) (hs : List Header) → Adds h (text.start q ∷ hs) k → FirstOf h.start k.start q (record h { start = Some q }) hs k
-first_start h k q hs a =
-    let s = says_first k.start h.start q (flat_map starts hs) a.start in
-    record { unsaid_before = s.unsaid_before; is = s.is; others = record { states = a.states; start = s.left; names = a.names; controls = a.controls; acceptance = a.acceptance } }
+first_start h k q hs a = grind (arith, nat_tests, says_first k.start h.start q (flat_map starts hs) a.start)
 
 pub first_names : (h k : KeptHead) (ns : List (List Character)) (hs : List Header) → Adds h (text.propositions ns ∷ hs) k → FirstOf h.names k.names (map (map character_code) ns) (record h { names = Some (map (map character_code) ns) }) hs k
-first_names h k ns hs a =
-    let s = says_first k.names h.names (map (map character_code) ns) (flat_map read_names hs) a.names in
-    record { unsaid_before = s.unsaid_before; is = s.is; others = record { states = a.states; start = a.start; names = s.left; controls = a.controls; acceptance = a.acceptance } }
+first_names h k ns hs a = grind (arith, nat_tests, says_first k.names h.names (map (map character_code) ns) (flat_map read_names hs) a.names)
 
 pub first_controls : (h k : KeptHead) (ns : List ℕ) (hs : List Header) → Adds h (text.controllable ns ∷ hs) k → FirstOf h.controls k.controls ns (record h { controls = Some ns }) hs k
-first_controls h k ns hs a =
-    let s = says_first k.controls h.controls ns (flat_map controls hs) a.controls in
-    record { unsaid_before = s.unsaid_before; is = s.is; others = record { states = a.states; start = a.start; names = a.names; controls = s.left; acceptance = a.acceptance } }
+first_controls h k ns hs a = grind (arith, nat_tests, says_first k.controls h.controls ns (flat_map controls hs) a.controls)
 
 pub first_acceptance : (h k : KeptHead) (n : ℕ) (f : Formula) (hs : List Header) → Adds h (text.acceptance n f ∷ hs) k → FirstOf h.acceptance k.acceptance (n, postfix f) (record h { acceptance = Some (n, postfix f) }) hs k
-first_acceptance h k n f hs a =
-    let s = says_first k.acceptance h.acceptance (n, postfix f) (flat_map read_acceptances hs) a.acceptance in
-    record { unsaid_before = s.unsaid_before; is = s.is; others = record { states = a.states; start = a.start; names = a.names; controls = a.controls; acceptance = s.left } }
+first_acceptance h k n f hs a = grind (arith, nat_tests, says_first k.acceptance h.acceptance (n, postfix f) (flat_map read_acceptances hs) a.acceptance)
 
 pub none_first : (h k : KeptHead) (name : List ℕ) (values : List text.Value) (hs : List Header) → Adds h (text.skipped name values ∷ hs) k → Adds h hs k
 none_first h k name values hs a = record { states = a.states; start = a.start; names = a.names; controls = a.controls; acceptance = a.acceptance }
@@ -142,10 +127,4 @@ same_head states states2 start start2 names names2 controls controls2 acceptance
 
 -- where no header is left the heads are the same
 pub all_said : (h k : KeptHead) → Adds h [] k → h ≡ k
-all_said h k a =
-    same_head h.states k.states h.start k.start h.names k.names h.controls k.controls h.acceptance k.acceptance
-    (option_same h.states k.states a.states)
-    (option_same h.start k.start a.start)
-    (option_same h.names k.names a.names)
-    (option_same h.controls k.controls a.controls)
-    (option_same h.acceptance k.acceptance a.acceptance)
+all_said h k a = grind (arith, nat_tests, same_head h.states k.states h.start k.start h.names k.names h.controls k.controls h.acceptance k.acceptance (option_same h.states k.states a.states) (option_same h.start k.start a.start) (option_same h.names k.names a.names) (option_same h.controls k.controls a.controls) (option_same h.acceptance k.acceptance a.acceptance))

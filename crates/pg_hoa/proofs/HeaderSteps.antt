@@ -1,5 +1,6 @@
 -- Header by header.
 use Rattle.std.proofs.Common.{◌≡◌, ℕ, suc, zero, ◌<◌, List, ◌∷◌, length, Option, Some, None, refl, sym, arith}
+use Rattle.std.proofs.lemmas.Bool.Decides.{nat_tests}
 use Rattle.pg_hoa.specs.declared.fault.Refusal.{Refusal}
 use Rattle.pg_hoa.specs.declared.fault.Refusal.TheVariants.{Memory, Wrong}
 use Rattle.pg_hoa.specs.Lexemes.{Lexeme, header, body}
@@ -7,7 +8,7 @@ use Rattle.pg_hoa.specs.Mirrors.Scan.{first}
 use Rattle.pg_hoa.specs.Mirrors.Steps.{◌>>=◌, Fails}
 use Rattle.pg_hoa.specs.Mirrors.Kept.{KeptHead}
 use Rattle.pg_hoa.specs.Mirrors.HeaderScan.{header_at, headers_within, headers_from}
-use Rattle.pg_hoa.proofs.Steps.{none_is_some}
+use Rattle.pg_lists.proofs.Steps.{none_is_some}
 use Rattle.pg_hoa.proofs.Turning.{first_end, first_token}
 use Rattle.pg_hoa.proofs.HeaderLaws.{header_shorter}
 
@@ -53,9 +54,7 @@ header_fails Memory h name ts after e f = tt
 header_fails (Wrong fault) h name ts after e f = rw (first_token ts (header name) after e, f) refl
 
 pub fewer : (h : KeptHead) (name : List ℕ) (ts after : List Lexeme) (x : KeptHead × List Lexeme) → first ts ≡ Some (Some (header name), after) → header_at h name after ≡ Some x → length x.1 < length ts
-fewer h name ts after x e f =
-    let shorter = header_shorter h name after x f in
-    rw (first_token ts (header name) after e) (omega arith)
+fewer h name ts after x e f = grind (arith, nat_tests, header_shorter h name after x f, first_token ts (header name) after e)
 
 -- what may stand there is a header or the end of the headers
 abbrev pub IsElse : Option Lexeme → Type 0

@@ -1,5 +1,6 @@
 -- Token by token through the values of headers.
-use Rattle.std.proofs.Common.{◌≡◌, ℕ, suc, ◌<◌, Bool, true, false, eqb, List, [], ◌∷◌, ◌++◌, length, map, Option, Some, None, refl, sym, subst, arith, inl, inr}
+use Rattle.std.proofs.Common.{◌≡◌, ℕ, suc, ◌<◌, Bool, true, false, eqb, List, [], ◌∷◌, ◌++◌, length, map, Option, Some, None, refl, sym, subst, arith}
+use Rattle.std.proofs.lemmas.Bool.Decides.{nat_tests}
 use Rattle.std.specs.List.{list_all}
 use Rattle.pg_hoa.specs.declared.fault.Refusal.{Refusal}
 use Rattle.pg_hoa.specs.declared.fault.Refusal.TheVariants.{Memory, Wrong}
@@ -7,16 +8,13 @@ use Rattle.pg_hoa.specs.Lexemes.{Lexeme, number, identifier, string, stray}
 use Rattle.pg_hoa.specs.Mirrors.Scan.{first, characters}
 use Rattle.pg_hoa.specs.AutomatonText.{character_code}
 use Rattle.pg_hoa.specs.Mirrors.Steps.{Fails}
-use Rattle.pg_hoa.specs.Mirrors.HeaderScan.{numeral_of, numbers_from, is_value, skipped_from, code_at, is_name_byte, is_name, quoted_at, names_from}
-use Rattle.pg_hoa.proofs.Steps.{chosen, some, some_is, none, none_is_some}
+use Rattle.pg_hoa.specs.Mirrors.HeaderScan.{numeral_of, numbers_from, is_value, skipped_from, is_name_byte, is_name, quoted_at, names_from}
+use Rattle.pg_lists.proofs.Steps.{some, some_is, none_is_some}
 use Rattle.pg_hoa.proofs.Turning.{first_end, first_token}
 
 -- no token begins with what can't be read
 pub first_good : {T : Type 0} (ts rest : List Lexeme) → first ts ≡ Some (Some stray, rest) → T
-first_good ts rest e =
-    let tok = first_token ts stray rest e in
-    let f : first (stray ∷ rest) ≡ Some (Some stray, rest) = subst (λ (l : List Lexeme). first l ≡ Some (Some stray, rest)) tok e in
-    absurd (none_is_some (some stray, rest) f)
+first_good ts rest e = grind (arith, nat_tests, first_token ts stray rest e)
 
 -- ---- numbers
 
@@ -94,24 +92,6 @@ pub record Begun (content : List ℕ) (x : ℕ × List ℕ) : Type 0 where
 
 begun : (content : List ℕ) (b : ℕ) (rest : List ℕ) (x : ℕ × List ℕ) → some (b, rest) ≡ some x → Begun content (b, rest) → Begun content x
 begun content b rest x e h = subst (Begun content) (some_is (b, rest) x e) h
-
-pub character_begins : (content : List ℕ) (x : ℕ × List ℕ) → code_at content ≡ Some x → Begun content x
-character_begins [] x e = absurd (none_is_some x e)
-character_begins (b ∷ []) x e = begun (b ∷ []) b [] x e (record { is = refl; shorter = omega arith })
-character_begins (b ∷ c ∷ rest) x e =
-    elim (chosen (eqb b 92) (some (c, rest)) (some (b, c ∷ rest)) (some x) e) [
-      | inl h ↦ begun (b ∷ c ∷ rest) c rest x h.1 (record { is = rw h.0 refl; shorter = omega arith })
-      | inr h ↦ begun (b ∷ c ∷ rest) b (c ∷ rest) x h.1 (record { is = rw h.0 refl; shorter = omega arith })
-    ]
-
-pub characters_end : (content : List ℕ) → code_at content ≡ None → map character_code (characters content) ≡ []
-characters_end [] e = refl
-characters_end (b ∷ []) e = absurd (none_is_some (b, []) (sym e))
-characters_end (b ∷ c ∷ rest) e =
-    elim (chosen (eqb b 92) (some (c, rest)) (some (b, c ∷ rest)) none e) [
-      | inl h ↦ absurd (none_is_some (c, rest) (sym h.1))
-      | inr h ↦ absurd (none_is_some (b, c ∷ rest) (sym h.1))
-    ]
 
 pub name_is : (r : Bool) (name : List ℕ) → eqb (length name) 0 ≡ false → r ≡ list_all is_name_byte name → r ≡ is_name name
 name_is r [] e f = true_is_false e

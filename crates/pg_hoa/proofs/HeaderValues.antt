@@ -1,18 +1,16 @@
 -- The values of headers: what is read is written there, and what is written there is read.
-use Rattle.std.proofs.Common.{◌≡◌, ℕ, suc, zero, ◌≤◌, Bool, true, false, eqb, List, [], ◌∷◌, ◌++◌, length, map, Option, Some, refl, sym, ap, subst, ◌∙◌, arith, append_assoc, inl, inr}
+use Rattle.std.proofs.Common.{◌≡◌, ℕ, suc, zero, Bool, true, false, List, [], ◌∷◌, ◌++◌, length, map, Some, refl, sym, ap, subst, ◌∙◌, arith, append_assoc, inl, inr}
 use Rattle.std.specs.Prelude.{nat_le, if◌then◌else◌, ◌==◌}
 use Rattle.std.specs.List.{list_all, AllByRecursion}
 use Rattle.std.proofs.lemmas.List.{append-nil}
-use Rattle.std.proofs.lemmas.Bool.{eq-eqb}
 use Rattle.std.proofs.lemmas.Bool.Decides.{nat_tests}
 use Rattle.pg_hoa.specs.Lexemes.{Lexeme, number, identifier, header, string, body, ampersand, stray, Character}
-use Rattle.pg_hoa.specs.Mirrors.Steps.{◌>>=◌}
 use Rattle.pg_hoa.specs.Automata.{IsPropositionName, IsNameByte}
 use Rattle.pg_hoa.specs.AutomatonText.{Value, numeral, word, quoted, value_lexeme, character_code}
 use Rattle.pg_hoa.specs.Mirrors.HeaderScan.{numeral_at, alone_at, numbers_from, skipped_from, is_name_byte, is_name, name_of, quoted_at, names_from}
 use Rattle.pg_hoa.proofs.Lists.{both_true}
-use Rattle.pg_hoa.proofs.Steps.{bind_some, chosen, some, some_is, none, none_is_some}
-use Rattle.pg_hoa.proofs.HeaderTurns.{true_is_false}
+use Rattle.pg_hoa.proofs.Steps.{bind_some}
+use Rattle.pg_lists.proofs.Steps.{chosen, some, some_is, none, none_is_some}
 
 -- another header or the end of all stands at the front
 abbrev pub Follows : List Lexeme → Type 0
@@ -50,9 +48,7 @@ pub record TakesNumbers (before : List ℕ) (tokens : List Lexeme) (x : List ℕ
   pub added : x.0 ≡ before ++ numbers
 
 no_numbers : (before : List ℕ) (tokens : List Lexeme) (x : List ℕ × List Lexeme) → some (before, tokens) ≡ some x → TakesNumbers before tokens x
-no_numbers before tokens x e =
-    let same = some_is (before, tokens) x e in
-    record { numbers = []; is = ap (λ (y : List ℕ × List Lexeme). y.1) same; added = sym (ap (λ (y : List ℕ × List Lexeme). y.0) same) ∙ sym (append-nil before) }
+no_numbers before tokens x e = grind (arith, nat_tests, some_is (before, tokens) x e, append-nil before)
 
 pub numbers_take : (tokens : List Lexeme) (before : List ℕ) (x : List ℕ × List Lexeme) → numbers_from before tokens ≡ Some x → TakesNumbers before tokens x
 unfolding numbers_from
@@ -68,8 +64,7 @@ unfolding numbers_from
 numbers_again [] before (header w ∷ rest) f = ap (λ (ns : List ℕ). some (ns, header w ∷ rest)) (sym (append-nil before))
 numbers_again [] before (body ∷ rest) f = ap (λ (ns : List ℕ). some (ns, body ∷ rest)) (sym (append-nil before))
 numbers_again [] before _ f = absurd f
-numbers_again (n ∷ ns) before rest f =
-    numbers_again ns (before ++ (n ∷ [])) rest f ∙ ap (λ (ms : List ℕ). some (ms, rest)) (append_assoc before (n ∷ []) ns)
+numbers_again (n ∷ ns) before rest f = grind (arith, nat_tests, numbers_again ns (before ++ (n ∷ [])) rest f, append_assoc before (n ∷ []) ns)
 
 -- ---- the values of a header that is skipped
 
@@ -106,17 +101,10 @@ isnt true e = absurd cc
 isnt false e = refl
 
 name_byte : (b : ℕ) → is_name_byte b ≡ true → IsNameByte b
-name_byte b e =
-    let p = both_true (nat_le 32 b) (if b == 127 then false else true) e in
-    let low : 32 ≤ b = grind (arith, nat_tests, p.0) in
-    let other : eqb b 127 ≡ false = isnt (eqb b 127) p.1 in
-    (low, λ same. true_is_false (sym (eq-eqb b 127 same) ∙ other))
+name_byte b e = grind (arith, nat_tests, both_true (nat_le 32 b) (if b == 127 then false else true) e)
 
 name_byte_again : (b : ℕ) → IsNameByte b → is_name_byte b ≡ true
-name_byte_again b h =
-    let low : nat_le 32 b ≡ true = grind (arith, nat_tests, h.0) in
-    let other : eqb b 127 ≡ false = grind (arith, nat_tests, h.1) in
-    rw (low, other) refl
+name_byte_again b h = grind (arith, nat_tests)
 
 name_bytes : (name : List ℕ) → list_all is_name_byte name ≡ true → AllByRecursion IsNameByte name
 name_bytes [] e = tt
@@ -164,9 +152,7 @@ pub record TakesNames (n : ℕ) (before : List (List ℕ)) (tokens : List Lexeme
 
 pub names_take : (n : ℕ) (before : List (List ℕ)) (tokens : List Lexeme) (x : List (List ℕ) × List Lexeme) → names_from n before tokens ≡ Some x → TakesNames n before tokens x
 unfolding names_from
-names_take zero before tokens x e =
-    let same = some_is (before, tokens) x e in
-    record { names = []; count = refl; is = ap (λ (y : List (List ℕ) × List Lexeme). y.1) same; added = sym (ap (λ (y : List (List ℕ) × List Lexeme). y.0) same) ∙ sym (append-nil before); good = tt }
+names_take zero before tokens x e = grind (arith, nat_tests, some_is (before, tokens) x e, append-nil before)
 names_take (suc n) before tokens x e =
     let found = bind_some (quoted_at tokens) (λ (y : List ℕ × List Lexeme). names_from n (before ++ (y.0 ∷ [])) y.1) x e in
     let one = quoted_take tokens found.0 found.1 in
@@ -182,7 +168,4 @@ names_take (suc n) before tokens x e =
 pub names_again : (names : List (List Character)) (before : List (List ℕ)) (rest : List Lexeme) → AllByRecursion IsPropositionName (map (map character_code) names) → names_from (length names) before (map string names ++ rest) ≡ Some (before ++ map (map character_code) names, rest)
 unfolding names_from
 names_again [] before rest h = ap (λ (ns : List (List ℕ)). some (ns, rest)) (sym (append-nil before))
-names_again (s ∷ names) before rest h =
-    ap (λ (o : Option (List ℕ × List Lexeme)). o >>= λ x. names_from (length names) (before ++ (x.0 ∷ [])) x.1) (quoted_again s (map string names ++ rest) h.0)
-    ∙ names_again names (before ++ (map character_code s ∷ [])) rest h.1
-    ∙ ap (λ (ns : List (List ℕ)). some (ns, rest)) (append_assoc before (map character_code s ∷ []) (map (map character_code) names))
+names_again (s ∷ names) before rest h = grind (arith, nat_tests, quoted_again s (map string names ++ rest) h.0, names_again names (before ++ (map character_code s ∷ [])) rest h.1, append_assoc before (map character_code s ∷ []) (map (map character_code) names))

@@ -1,5 +1,6 @@
 -- The operations that are kept are those of the formula that is read.
-use Rattle.std.proofs.Common.{◌≡◌, ℕ, suc, zero, ◌+◌, ◌-◌, Bool, true, false, cond, ltb, List, [], ◌∷◌, ◌++◌, Option, Some, None, refl, sym, ◌∙◌, arith, append_assoc}
+use Rattle.std.proofs.Common.{◌≡◌, ℕ, suc, zero, ◌+◌, Bool, true, false, cond, ltb, List, [], ◌∷◌, ◌++◌, Option, Some, None, refl, sym, ◌∙◌, arith, append_assoc}
+use Rattle.std.proofs.lemmas.Bool.Decides.{nat_tests}
 use Rattle.std.specs.Prelude.{codes, nat_lt}
 use Rattle.std.specs.Str.{bytes_eq}
 use Rattle.std.proofs.lemmas.List.{append-nil}
@@ -63,8 +64,7 @@ summed_ops (Some g) f = sym (append_assoc (postfix g) (postfix f) (ops.Either �
 -- an operand whose operations were kept is complete
 pub completed_keeps : (room : ℕ) (top : Frame) (outer : List Frame) (f : Formula) (r : Kept) → r.top ≡ kept_frame room top → r.outer ≡ kept_outer (room + top.nots) outer → r.ops ≡ (outer_ops outer ++ frame_ops top) ++ postfix f → completed_at r ≡ Some (keep (completes room top outer f))
 unfolding completed_at
-completed_keeps room top outer f r et eo ep =
-    rw (et, eo, ep, multiplied_ops top.product (negated top.nots f), negated_ops top.nots f) (simp append_assoc)
+completed_keeps room top outer f r et eo ep = grind (arith, nat_tests, multiplied_ops top.product (negated top.nots f), negated_ops top.nots f, append_assoc)
 
 -- ---- each step of the formula is a turn of what is kept
 
@@ -89,18 +89,12 @@ kept_if found = found >>= λ s. Some (keep s)
 bang_keeps : (room : ℕ) (top : Frame) (outer : List Frame) → negated_at (keep (operand room top outer)) ≡ kept_if (deeper room (λ r. operand r (record { sum = top.sum; product = top.product; nots = suc top.nots }) outer))
 unfolding negated_at
 bang_keeps zero top outer = rw (deeper_none top) refl
-bang_keeps (suc room) top outer =
-    let a : top.nots + 1 ≡ suc top.nots = omega arith in
-    let b : suc room + top.nots ≡ room + suc top.nots = omega arith in
-    rw (deeper_some room top, a, b) refl
+bang_keeps (suc room) top outer = grind (arith, nat_tests, deeper_some room top)
 
 paren_keeps : (room : ℕ) (top : Frame) (outer : List Frame) → opened_at (keep (operand room top outer)) ≡ kept_if (deeper room (λ r. operand r fresh (top ∷ outer)))
 unfolding opened_at
 paren_keeps zero top outer = rw (deeper_none top) refl
-paren_keeps (suc room) top outer =
-    let a : suc room + top.nots - top.nots - 1 ≡ room = omega arith in
-    let b : room + 0 ≡ room = omega arith in
-    rw (deeper_some room top, a, b) (simp append-nil)
+paren_keeps (suc room) top outer = grind (arith, nat_tests, deeper_some room top, append-nil)
 
 tested_keeps : (b : Bool) (x y : Option Kept) (u v : Option State) → x ≡ kept_if u → y ≡ kept_if v → cond b x y ≡ kept_if (cond b u v)
 tested_keeps true x y u v p q = p
@@ -111,11 +105,7 @@ unfolding word_at limit_at
 word_keeps (Label n) w room top outer =
     tested_keeps (bytes_eq w (codes "t")) _ _ (Some (completes room top outer yes)) _ (operand_keeps room top outer yes ops.Yes modes.Operand refl)
     (tested_keeps (bytes_eq w (codes "f")) _ _ (Some (completes room top outer no)) None (operand_keeps room top outer no ops.No modes.Operand refl) refl)
-word_keeps (Condition n) w room top outer =
-    tested_keeps (bytes_eq w (codes "t")) _ _ (Some (completes room top outer yes)) _ (operand_keeps room top outer yes ops.Yes modes.Operand refl)
-    (tested_keeps (bytes_eq w (codes "f")) _ _ (Some (completes room top outer no)) _ (operand_keeps room top outer no ops.No modes.Operand refl)
-    (tested_keeps (bytes_eq w (codes "Inf")) _ _ (Some (opening true room top outer)) _ refl
-    (tested_keeps (bytes_eq w (codes "Fin")) _ _ (Some (opening false room top outer)) None refl refl)))
+word_keeps (Condition n) w room top outer = grind (arith, nat_tests, tested_keeps (bytes_eq w (codes "t")) _ _ (Some (completes room top outer yes)) _ (operand_keeps room top outer yes ops.Yes modes.Operand refl) (tested_keeps (bytes_eq w (codes "f")) _ _ (Some (completes room top outer no)) _ (operand_keeps room top outer no ops.No modes.Operand refl) (tested_keeps (bytes_eq w (codes "Inf")) _ _ (Some (opening true room top outer)) _ refl (tested_keeps (bytes_eq w (codes "Fin")) _ _ (Some (opening false room top outer)) None refl refl))))
 
 operand_turns : (k : Kind) (room : ℕ) (top : Frame) (outer : List Frame) (t : Lexeme) → operand_turn k (keep (operand room top outer)) t ≡ kept_if (operand_step k room top outer t)
 unfolding operand_turn
@@ -123,8 +113,7 @@ operand_turns (Label n) room top outer bang = bang_keeps room top outer
 operand_turns (Label n) room top outer (number a) = tested_keeps (nat_lt a n) _ None (Some (completes room top outer (proposition a))) None (operand_keeps room top outer (proposition a) (ops.Proposition a) modes.Operand refl) refl
 operand_turns k room top outer left_paren = paren_keeps room top outer
 operand_turns k room top outer (identifier w) = word_keeps k w room top outer
-operand_turns (Label n) room top outer t = refl
-operand_turns (Condition n) room top outer t = refl
+operand_turns _ room top outer t = refl
 
 limit_keeps : (b : Bool) (s : ℕ) → postfix (limited b s) ≡ limit_op b s ∷ []
 limit_keeps true s = refl
@@ -168,9 +157,7 @@ snoc_goes (g ∷ fs) f t = refl
 
 inside_goes : (room : ℕ) (sum : Option Formula) (product : Formula) (top : Frame) (outer : List Frame) (t : Lexeme) → stops (operator room sum product (top ∷ outer)) t ≡ false
 inside_goes room sum product top outer ampersand = refl
-inside_goes room sum product top outer bar = refl
-inside_goes room sum product top outer stray = refl
-inside_goes room sum product top outer t = refl
+inside_goes room sum product top outer _ = refl
 
 abbrev negation : Bool → Bool
 negation true = false

@@ -9,7 +9,7 @@ use Rattle.pg_hoa.specs.declared.fault.Refusal.TheVariants.{Memory, Wrong}
 use Rattle.pg_hoa.specs.declared.token.Token.{Token}
 use Rattle.pg_hoa.specs.declared.token.Token.TheVariants as tokens
 use Rattle.pg_hoa.specs.Mirrors.Scan.{lexeme, gap_step, gap_within, gap_from, solid_at, behind_token, behind_gap, lex_within, lex, first}
-use Rattle.pg_hoa.proofs.Steps.{none_is_some}
+use Rattle.pg_lists.proofs.Steps.{none_is_some}
 use Rattle.pg_hoa.proofs.SpellingBlanks.{gap_written}
 use Rattle.pg_hoa.proofs.SpellingTokens.{solid_takes, spelt_some}
 
@@ -70,22 +70,7 @@ lex_more bytes b mid t rest e h =
 
 pub first_lexeme : (t : Token) (rest : List Lexeme) → first (lexeme t ∷ rest) ≡ Some (Some (lexeme t), rest)
 first_lexeme (tokens.Number n) rest = refl
-first_lexeme (tokens.Identifier w) rest = refl
-first_lexeme (tokens.Header w) rest = refl
-first_lexeme (tokens.String s) rest = refl
-first_lexeme (tokens.Alias w) rest = refl
-first_lexeme tokens.Body rest = refl
-first_lexeme tokens.End rest = refl
-first_lexeme tokens.Abort rest = refl
-first_lexeme tokens.LeftBracket rest = refl
-first_lexeme tokens.RightBracket rest = refl
-first_lexeme tokens.LeftBrace rest = refl
-first_lexeme tokens.RightBrace rest = refl
-first_lexeme tokens.LeftParen rest = refl
-first_lexeme tokens.RightParen rest = refl
-first_lexeme tokens.Bang rest = refl
-first_lexeme tokens.Ampersand rest = refl
-first_lexeme tokens.Bar rest = refl
+first_lexeme _ rest = refl
 
 pub gap_unread : (refusal : Refusal) (bytes : List ℕ) → Fails refusal (gap_from 0 bytes) → Fails refusal (first (lex bytes))
 gap_unread Memory bytes h = tt

@@ -18,7 +18,6 @@ pub mod HeaderValues
 pub mod Keeping
 pub mod Lexing
 pub mod Lists
-pub mod Numbers
 pub mod OneReading
 pub mod ReadCan
 pub mod ReadParts
@@ -26,9 +25,7 @@ pub mod ReadSpelt
 pub mod ReadSpeltHeads
 pub mod ReadSpeltLines
 pub mod Refusing
-pub mod Rising
 pub mod Rows
-pub mod Runs
 pub mod Saying
 pub mod Settles
 pub mod ShapeFinds

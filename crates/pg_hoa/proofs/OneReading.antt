@@ -1,12 +1,13 @@
 -- One text has one reading.
 use Rattle.std.proofs.Common.{◌≡◌, ◌∙◌, ◌<◌, ◌+◌, ◌^◌, ℕ, zero, suc, Bool, List, ◌∷◌, map, length, Option, refl, sym, ap, subst, inl, inr, ◌⊎◌, arith}
+use Rattle.std.proofs.lemmas.Bool.Decides.{nat_tests}
 use Rattle.std.specs.List.{range_with_len}
 use Rattle.std.proofs.lemmas.Bool.{cases_order}
 use Rattle.pg_hoa.specs.declared.shape.Shape.{Shape}
 use Rattle.pg_hoa.specs.Automata.{Step, Automaton, letters, rows, next}
-use Rattle.pg_hoa.specs.AutomatonText.{Spelt, IsUndetermined, IsDeterministicAt, head}
+use Rattle.pg_hoa.specs.AutomatonText.{Spelt, IsUndetermined, head}
 use Rattle.pg_hoa.specs.Laws.{HasOneReading}
-use Rattle.pg_hoa.proofs.SpeltReads.{said_once, determined_once, letters_below, undetermined_spell_none}
+use Rattle.pg_hoa.proofs.SpeltReads.{said_once, letters_below, undetermined_spell_none}
 
 map_below : {A : Type 0} (f g : ℕ → A) (first count : ℕ) → ((k : ℕ) → k < first + count → f k ≡ g k) → map f (range_with_len first count) ≡ map g (range_with_len first count)
 map_below f g first zero same = refl
@@ -40,12 +41,7 @@ one_automaton bytes a b s t =
 
 -- of two first conflicts none comes before the other
 not_before : (bytes : List ℕ) (state letter q l : ℕ) → IsUndetermined bytes state letter → IsUndetermined bytes q l → (state < q) ⊎ ((state ≡ q) × (letter < l)) → ⊥
-not_before bytes state letter q l u v earlier =
-    let o = said_once bytes u.written v.written u.automaton v.automaton u.text v.text u.says v.says in
-    u.fails (determined_once u.written v.written u.automaton v.automaton state letter o (elim earlier [
-      | inl before ↦ v.before_state state letter before (letters_below u.written v.written u.automaton v.automaton letter o u.letter_below)
-      | inr before ↦ subst (λ (n : ℕ). IsDeterministicAt v.automaton v.written.lines n letter) (sym before.0) (v.before_letter letter before.1)
-    ]))
+not_before bytes state letter q l u v earlier = grind (arith, nat_tests, said_once bytes u.written v.written u.automaton v.automaton u.text v.text u.says v.says)
 
 one_conflict : (bytes : List ℕ) (state letter q l : ℕ) → IsUndetermined bytes state letter → IsUndetermined bytes q l → (state ≡ q) × (letter ≡ l)
 one_conflict bytes state letter q l u v =

@@ -1,5 +1,6 @@
 -- Headers, lines and end, read one after another.
 use Rattle.std.proofs.Common.{◌≡◌, ◌∙◌, ◌≤◌, ℕ, List, [], ◌∷◌, map, length, Option, Some, None, refl, sym, ap, subst, arith}
+use Rattle.std.proofs.lemmas.Bool.Decides.{nat_tests}
 use Rattle.std.specs.Prelude.{IfSome, ◌==◌}
 use Rattle.std.specs.List.{AllByRecursion, list_any, flat_map}
 use Rattle.std.proofs.lemmas.List.FromFn.{length-map-range_with_len}
@@ -19,7 +20,7 @@ use Rattle.pg_hoa.specs.Mirrors.HeaderScan.{headers_at}
 use Rattle.pg_hoa.specs.Mirrors.BodyScan.{body_at}
 use Rattle.pg_hoa.specs.Mirrors.Settling.{Settled, IsSettled, HasCondition, NeverSettled, StartsBelow, listed, nothing_at}
 use Rattle.pg_hoa.specs.Mirrors.Readings.{bound, states_in, Reads, NeverReads, CanAssemble}
-use Rattle.pg_hoa.proofs.Steps.{some, some_is, none_is_some}
+use Rattle.pg_lists.proofs.Steps.{some, some_is, none_is_some}
 use Rattle.pg_hoa.proofs.HeaderParts.{option_list}
 use Rattle.pg_hoa.proofs.HeaderLaws.{headers_take}
 use Rattle.pg_hoa.proofs.BodyLaws.{body_takes}
@@ -106,17 +107,7 @@ settle_never (Wrong fault) tokens behind h e never = λ k s lines r. never s (se
 
 -- whatever is read has these lines in its body
 same_body : (tokens behind : List Lexeme) (h k : KeptHead) (s t : Settled) (lines : List KeptLine) → headers_at tokens ≡ Some (h, behind) → IsSettled h s → Reads tokens k t lines → body_at (bound s.states) (length s.names) s.sets behind ≡ some (lines, [])
-same_body tokens behind h k s t lines e i r =
-    let once = settled_once h s t i (settled_too tokens behind h k t lines e r) in
-    let states : s.states ≡ t.states = once.states in
-    let names : s.names ≡ t.names = once.names in
-    let sets : s.sets ≡ t.sets = once.sets in
-    let rest : r.behind ≡ behind = (same_head tokens behind r.behind h k e r.headers).1 in
-    ap (λ (o : Option ℕ). body_at (bound o) (length s.names) s.sets behind) states
-    ∙ ap (λ (ns : List (List ℕ)). body_at (bound t.states) (length ns) s.sets behind) names
-    ∙ ap (λ (n : ℕ). body_at (bound t.states) (length t.names) n behind) sets
-    ∙ ap (body_at (bound t.states) (length t.names) t.sets) (sym rest)
-    ∙ r.body
+same_body tokens behind h k s t lines e i r = grind (arith, nat_tests, settled_once h s t i (settled_too tokens behind h k t lines e r), same_head tokens behind r.behind h k e r.headers)
 
 pub body_never : (refusal : Refusal) (tokens behind : List Lexeme) (h : KeptHead) (s : Settled) → headers_at tokens ≡ Some (h, behind) → IsSettled h s → Fails refusal (body_at (bound s.states) (length s.names) s.sets behind) → NeverReads tokens refusal
 body_never Memory tokens behind h s e i f = tt
@@ -124,10 +115,7 @@ body_never (Wrong fault) tokens behind h s e i f = λ k t lines r. none_is_some 
 
 pub end_never : (refusal : Refusal) (tokens behind rest : List Lexeme) (h : KeptHead) (s : Settled) (lines : List KeptLine) → headers_at tokens ≡ Some (h, behind) → IsSettled h s → body_at (bound s.states) (length s.names) s.sets behind ≡ Some (lines, rest) → Fails refusal (nothing_at rest) → NeverReads tokens refusal
 end_never Memory tokens behind rest h s lines e i b f = tt
-end_never (Wrong fault) tokens behind rest h s lines e i b f = λ k t others r.
-    let pair = some_is (others, []) (lines, rest) (sym (same_body tokens behind h k s t others e i r) ∙ b) in
-    let ended : [] ≡ rest = ap (λ (x : List KeptLine × List Lexeme). x.1) pair in
-    none_is_some 0 (sym f ∙ ap nothing_at (sym ended))
+end_never (Wrong fault) tokens behind rest h s lines e i b f = grind (arith, nat_tests)
 
 -- ---- where all is read
 
@@ -136,12 +124,7 @@ nothing_left [] e = refl
 nothing_left (t ∷ rest) e = absurd (none_is_some 0 e)
 
 pub all_read : (tokens behind rest : List Lexeme) (h : KeptHead) (s : Settled) (lines : List KeptLine) → headers_at tokens ≡ Some (h, behind) → IsSettled h s → body_at (bound s.states) (length s.names) s.sets behind ≡ Some (lines, rest) → nothing_at rest ≡ Some 0 → Reads tokens h s lines
-all_read tokens behind rest h s lines e i b n = record {
-  behind = behind;
-  headers = e;
-  settled = i;
-  body = b ∙ ap (λ (left : List Lexeme). some (lines, left)) (nothing_left rest n);
-}
+all_read tokens behind rest h s lines e i b n = grind (arith, nat_tests, nothing_left rest n)
 
 if_some : {A : Type 0} (P : A → Type 0) (o : Option A) (x : A) → o ≡ Some x → IfSome o P → P x
 if_some {A = A} P o x e p = subst (λ (q : Option A). IfSome q P) e p

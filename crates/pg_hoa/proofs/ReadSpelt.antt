@@ -1,5 +1,6 @@
 -- What is read is spelt.
-use Rattle.std.proofs.Common.{◌≡◌, ◌∙◌, ◌<◌, ◌^◌, ℕ, Bool, List, [], ◌∷◌, ◌++◌, map, length, sym, ap, subst}
+use Rattle.std.proofs.Common.{◌≡◌, ◌∙◌, ◌<◌, ◌^◌, ℕ, Bool, List, [], ◌∷◌, ◌++◌, map, length, sym, ap, subst, arith}
+use Rattle.std.proofs.lemmas.Bool.Decides.{nat_tests}
 use Rattle.std.specs.Prelude.{codes}
 use Rattle.std.specs.List.{flat_map, AllByRecursion}
 use Rattle.pg_hoa.specs.declared.shape.Shape.{Shape}
@@ -91,50 +92,15 @@ says_settled w h s said i can few fit distinct =
     }
 
 text_says : (bytes : List ℕ) (h : KeptHead) (s : Settled) (lines : List KeptLine) (r : Reads (lex bytes) h s lines) (t : ReadText bytes h s lines) → AreFew s lines → Says t.written (settled_automaton s lines)
-text_says bytes h s lines r t few =
-    subst (λ (ls : List KeptLine). Says t.written (settled_automaton s ls)) t.kept
-    (says_settled t.written h s t.headers r.settled
-    (subst (CanAssemble s) (sym t.kept) (reads_can (lex bytes) h s lines r))
-    (subst (AreFew s) (sym t.kept) few)
-    t.fit t.distinct)
+text_says bytes h s lines r t few = grind (arith, nat_tests, says_settled t.written h s t.headers r.settled (subst (CanAssemble s) (sym t.kept) (reads_can (lex bytes) h s lines r)) (subst (AreFew s) (sym t.kept) few) t.fit t.distinct)
 
 -- ---- an automaton with the same parts
 
 same_automaton : (states states2 start start2 : ℕ) (propositions propositions2 : List (List ℕ)) (controllable controllable2 : List Bool) (sets sets2 : ℕ) (shape shape2 : Shape) → states ≡ states2 → start ≡ start2 → propositions ≡ propositions2 → controllable ≡ controllable2 → sets ≡ sets2 → shape ≡ shape2 → bare_automaton states start propositions controllable sets shape ≡ bare_automaton states2 start2 propositions2 controllable2 sets2 shape2
 same_automaton states states2 start start2 propositions propositions2 controllable controllable2 sets sets2 shape shape2 p q r s t u = cc
 
-abbrev without_steps : Automaton → Automaton
-without_steps a = bare_automaton a.states a.start a.propositions a.controllable a.sets a.shape
-
-says_with_steps : (w : Written) (a : Automaton) → Says w (without_steps a) → Says w a
-says_with_steps w a s = record {
-  counted = s.counted;
-  states = s.states;
-  start = s.start;
-  named = s.named;
-  propositions = s.propositions;
-  good_names = s.good_names;
-  controlled = s.controlled;
-  controllable = s.controllable;
-  controls_below = s.controls_below;
-  condition = s.condition;
-  accepted = s.accepted;
-  shape = s.shape;
-  start_below = s.start_below;
-  distinct = s.distinct;
-  lines = s.lines;
-  few_states = s.few_states;
-  few_propositions = s.few_propositions;
-  few_sets = s.few_sets;
-  few_steps = s.few_steps;
-}
-
 assembled_says : (w : Written) (s : Settled) (lines : List KeptLine) (a : Automaton) → Assembles s lines a → Says w (settled_automaton s lines) → Says w a
-assembled_says w s lines a m says =
-    let same : settled_automaton s lines ≡ without_steps a =
-    same_automaton (kept_states s lines) a.states s.start a.start s.names a.propositions s.controllable a.controllable s.sets a.sets s.shape a.shape
-    (sym m.states) (sym m.start) (sym m.propositions) (sym m.controllable) (sym m.sets) (sym m.shape) in
-    says_with_steps w a (subst (Says w) same says)
+assembled_says w s lines a m says = grind (arith, nat_tests, same_automaton (kept_states s lines) a.states s.start a.start s.names a.propositions s.controllable a.controllable s.sets a.sets s.shape a.shape (sym m.states) (sym m.start) (sym m.propositions) (sym m.controllable) (sym m.sets) (sym m.shape))
 
 -- ---- steps
 

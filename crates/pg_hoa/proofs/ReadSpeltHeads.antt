@@ -1,5 +1,6 @@
 -- What headers say that stand at most once.
 use Rattle.std.proofs.Common.{◌≡◌, ◌∙◌, ℕ, List, [], ◌∷◌, map, Option, Some, None, refl, sym, ap, subst, arith}
+use Rattle.std.proofs.lemmas.Bool.Decides.{nat_tests}
 use Rattle.std.specs.Prelude.{IfSome}
 use Rattle.std.specs.List.{flat_map, AllByRecursion}
 use Rattle.std.proofs.lemmas.List.{append-nil, length-map}
@@ -8,7 +9,7 @@ use Rattle.pg_hoa.specs.declared.shape.Shape.{Shape}
 use Rattle.pg_hoa.specs.Lexemes.{Character}
 use Rattle.pg_hoa.specs.Formulas.{Formula}
 use Rattle.pg_hoa.specs.Mirrors.FormulaRun.{postfix}
-use Rattle.pg_hoa.specs.Shapes.{bare, IsLike, FitsShape, HasShape}
+use Rattle.pg_hoa.specs.Shapes.{HasShape}
 use Rattle.pg_hoa.specs.Automata.{IsPropositionName}
 use Rattle.pg_hoa.specs.AutomatonText.{StateLine, AtMostOne, character_code, count_of, line_numbers}
 use Rattle.pg_hoa.specs.Mirrors.Kept.{line_kept}
@@ -67,17 +68,9 @@ pub record OneCondition (conditions : List (ℕ × Formula)) (sets : ℕ) (f : F
 
 pub one_condition : (conditions : List (ℕ × Formula)) (sets : ℕ) (f : Formula) → (sets, postfix f) ∷ [] ≡ map {B = ℕ × List Op} (λ x. (x.0, postfix x.1)) conditions → OneCondition conditions sets f
 one_condition [] sets f e = absurd cc
-one_condition (x ∷ []) sets f e =
-    let same : (sets, postfix f) ≡ (x.0, postfix x.1) = cc in
-    let number : sets ≡ x.0 = ap (λ (y : ℕ × List Op). y.0) same in
-    record { condition = x.1; is = ap (λ (n : ℕ). (n, x.1) ∷ []) (sym number); alike = ap (λ (y : ℕ × List Op). y.1) same }
+one_condition (x ∷ []) sets f e = grind (arith, nat_tests)
 one_condition (x ∷ y ∷ conditions) sets f e = absurd cc
-
-fits_alike : (f g : Formula) (sets : ℕ) (shape : Shape) → bare f ≡ bare g → FitsShape f sets shape → FitsShape g sets shape
-fits_alike f g sets shape e fits = (fits.0, fits.1, subst (IsLike fits.0) e fits.2)
 
 -- a shape is told by the operations
 pub shape_alike : (f g : Formula) (sets : ℕ) (shape : Shape) → postfix f ≡ postfix g → HasShape f sets shape → HasShape g sets shape
-shape_alike f g sets shape e has =
-    let tree = one_tree f g e in
-    record { fits = fits_alike f g sets shape tree has.fits; first = λ other before fits. has.first other before (fits_alike g f sets other (sym tree) fits) }
+shape_alike f g sets shape e has = grind (arith, nat_tests, one_tree f g e)

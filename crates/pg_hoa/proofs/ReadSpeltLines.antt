@@ -1,5 +1,6 @@
 -- Each number that the lines name is below the count of states.
-use Rattle.std.proofs.Common.{◌<◌, ℕ, List, [], ◌∷◌, map, Option, Some, None, sym, subst}
+use Rattle.std.proofs.Common.{◌<◌, ℕ, List, [], ◌∷◌, map, Option, Some, None, sym, subst, arith}
+use Rattle.std.proofs.lemmas.Bool.Decides.{nat_tests}
 use Rattle.std.specs.List.{flat_map, AllByRecursion}
 use Rattle.pg_hoa.specs.AutomatonText.{Edge, StateLine, EdgeFits, LineFits, line_numbers, count_of}
 use Rattle.pg_hoa.specs.Mirrors.Kept.{line_kept}
@@ -11,10 +12,7 @@ use Rattle.pg_hoa.proofs.TableLaws.{kept_count_is}
 
 edges_fit : (states high propositions sets : ℕ) (edges : List Edge) → AllByRecursion (EdgeFits high propositions sets) edges → AllByRecursion (λ n. n < states) (map (λ e. e.target) edges) → AllByRecursion (EdgeFits states propositions sets) edges
 edges_fit states high propositions sets [] fit below = tt
-edges_fit states high propositions sets (e ∷ edges) fit below = (
-  record { letter = fit.0.letter; target = below.0; own_sets = fit.0.own_sets },
-  edges_fit states high propositions sets edges fit.1 below.1,
-)
+edges_fit states high propositions sets (e ∷ edges) fit below = grind (arith, nat_tests, edges_fit states high propositions sets edges fit.1 below.1)
 
 lines_fit : (states high propositions sets : ℕ) (lines : List StateLine) → AllByRecursion (LineFits high propositions sets) lines → AllByRecursion (λ n. n < states) (flat_map line_numbers lines) → AllByRecursion (LineFits states propositions sets) lines
 lines_fit states high propositions sets [] fit below = tt

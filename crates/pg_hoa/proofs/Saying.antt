@@ -1,5 +1,6 @@
 -- The operations of a formula say what the formula says.
-use Rattle.std.proofs.Common.{◌≡◌, ℕ, Bool, List, [], ◌∷◌, ◌++◌, refl, ap, ◌∙◌}
+use Rattle.std.proofs.Common.{◌≡◌, ℕ, Bool, List, [], ◌∷◌, ◌++◌, refl, ap, ◌∙◌, arith}
+use Rattle.std.proofs.lemmas.Bool.Decides.{nat_tests}
 use Rattle.pg_hoa.specs.declared.formula.Op.{Op}
 use Rattle.pg_hoa.specs.declared.formula.Op.TheVariants as ops
 use Rattle.pg_hoa.specs.Formulas.{Formula, yes, no, proposition, inf, fin, not, both, either, bracket, holds}
@@ -12,11 +13,7 @@ run_append (op ∷ a) b on stack = run_append a b on (perform op on stack)
 
 -- two operands and their operator
 run_two : (f g : Formula) (op : Op) (on : ℕ → Bool) (stack : List Bool) → run (postfix f) on stack ≡ holds f on ∷ stack → run (postfix g) on (holds f on ∷ stack) ≡ holds g on ∷ holds f on ∷ stack → run (postfix f ++ (postfix g ++ (op ∷ []))) on stack ≡ perform op on (holds g on ∷ holds f on ∷ stack)
-run_two f g op on stack hf hg =
-    run_append (postfix f) (postfix g ++ (op ∷ [])) on stack
-    ∙ run_append (postfix g) (op ∷ []) on (run (postfix f) on stack)
-    ∙ ap (λ (s : List Bool). perform op on (run (postfix g) on s)) hf
-    ∙ ap (perform op on) hg
+run_two f g op on stack hf hg = grind (arith, nat_tests, run_append (postfix f) (postfix g ++ (op ∷ [])) on stack, run_append (postfix g) (op ∷ []) on (run (postfix f) on stack))
 
 -- a formula leaves its truth on the stack
 pub postfix_runs : (f : Formula) (on : ℕ → Bool) (stack : List Bool) → run (postfix f) on stack ≡ holds f on ∷ stack

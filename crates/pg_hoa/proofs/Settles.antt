@@ -11,7 +11,7 @@ use Rattle.pg_hoa.specs.Mirrors.FormulaRun.{postfix}
 use Rattle.pg_hoa.specs.Shapes.{FitsShape}
 use Rattle.pg_hoa.specs.Mirrors.Kept.{KeptHead, option_with}
 use Rattle.pg_hoa.specs.Mirrors.Settling.{Settled, IsSettled, listed}
-use Rattle.pg_hoa.proofs.Steps.{some_is}
+use Rattle.pg_lists.proofs.Steps.{some_is}
 
 -- the list that stands in, where there is none, is empty
 pub opened : {V B : Type 0} (view : V → List B) (o : Option V) (v d : V) → v ≡ unwrap_or o d → view d ≡ [] → view v ≡ listed (option_with view o)

@@ -1,5 +1,6 @@
 -- The finder of shapes gives the first shape that fits, if there is one.
 use Rattle.std.proofs.Common.{◌≡◌, ℕ, suc, zero, ◌+◌, ◌-◌, ◌<◌, ◌%◌, ◌==◌, Bool, true, false, cond, List, [], ◌∷◌, Option, Some, None, refl, sym, ap, subst, ◌∙◌, arith}
+use Rattle.std.proofs.lemmas.Bool.Decides.{nat_tests}
 use Rattle.std.specs.Prelude.{IfSome, IfNone}
 use Rattle.pg_hoa.specs.declared.formula.Op.{Op}
 use Rattle.pg_hoa.specs.declared.formula.Op.TheVariants.{Yes, No}
@@ -7,9 +8,9 @@ use Rattle.pg_hoa.specs.declared.shape.Shape.{Shape}
 use Rattle.pg_hoa.specs.declared.shape.Shape.TheVariants.{MaxEven, MaxOdd, MinEven, MinOdd, Always, Never}
 use Rattle.pg_hoa.specs.Formulas.{Formula, yes, no}
 use Rattle.pg_hoa.specs.Mirrors.FormulaRun.{postfix}
-use Rattle.pg_hoa.specs.Shapes.{is_even, decides, leaf, max_even, max_odd, min_even, min_odd, condition_of, bare, IsLike, FitsShape, HasShape, place}
+use Rattle.pg_hoa.specs.Shapes.{is_even, decides, max_even, max_odd, min_even, min_odd, condition_of, bare, IsLike, FitsShape, HasShape, place}
 use Rattle.pg_hoa.specs.Mirrors.ShapeRun.{set_at, wanted_at, nests_at, fits_at, constant_at, nested_at}
-use Rattle.pg_hoa.proofs.Steps.{some, some_is, none_is_some}
+use Rattle.pg_lists.proofs.Steps.{some, some_is, none_is_some}
 use Rattle.pg_hoa.proofs.ShapeTrees.{one_tree, bare_postfix}
 use Rattle.pg_hoa.proofs.ShapeNests.{nested, nests_tree, tree_nests, AllDiffer}
 
@@ -30,41 +31,30 @@ max_odd_nested sets zero = refl
 max_odd_nested sets (suc k) = ap (λ (b : Bool). decides b (suc k) (max_odd k)) (sym (two_more k)) ∙ ap (decides (is_even (suc (suc k))) (suc k)) (max_odd_nested sets k)
 
 min_even_nested : (sets k more : ℕ) → sets ≡ suc (k + more) → min_even k more ≡ nested_in MinEven sets more
-min_even_nested sets k zero e =
-    let at : k ≡ sets - 1 - 0 = omega arith in
-    ap (λ (s : ℕ). leaf (is_even s) s) at
-min_even_nested sets k (suc more) e =
-    let at : k ≡ sets - 1 - suc more = omega arith in
-    ap (decides (is_even k) k) (min_even_nested sets (suc k) more (omega arith)) ∙ ap (λ (s : ℕ). decides (is_even s) s (nested_in MinEven sets more)) at
+min_even_nested sets k zero e = grind (arith, nat_tests)
+min_even_nested sets k (suc more) e = grind (arith, nat_tests, min_even_nested sets (suc k) more (omega arith))
 
 min_odd_nested : (sets k more : ℕ) → sets ≡ suc (k + more) → min_odd k more ≡ nested_in MinOdd sets more
-min_odd_nested sets k zero e =
-    let at : k ≡ sets - 1 - 0 = omega arith in
-    ap (λ (s : ℕ). leaf (is_even (suc s)) s) at
-min_odd_nested sets k (suc more) e =
-    let at : k ≡ sets - 1 - suc more = omega arith in
-    ap (decides (is_even (suc k)) k) (min_odd_nested sets (suc k) more (omega arith)) ∙ ap (λ (s : ℕ). decides (is_even (suc s)) s (nested_in MinOdd sets more)) at
+min_odd_nested sets k zero e = grind (arith, nat_tests)
+min_odd_nested sets k (suc more) e = grind (arith, nat_tests, min_odd_nested sets (suc k) more (omega arith))
 
 pub condition_nested : (shape : Shape) (k : ℕ) → place shape < 4 → condition_of shape (suc k) ≡ Some (nested_in shape (suc k) k)
 condition_nested MaxEven k h = ap some (max_even_nested (suc k) k)
 condition_nested MaxOdd k h = ap some (max_odd_nested (suc k) k)
 condition_nested MinEven k h = ap some (min_even_nested (suc k) 0 k (omega arith))
 condition_nested MinOdd k h = ap some (min_odd_nested (suc k) 0 k (omega arith))
-condition_nested Always k h = absurd (omega arith)
-condition_nested Never k h = absurd (omega arith)
+condition_nested _ k h = absurd (omega arith)
 
 pub no_constant : (shape : Shape) (k : ℕ) (f : Formula) → FitsShape f (suc k) shape → place shape < 4
 no_constant MaxEven k f fits = omega arith
 no_constant MaxOdd k f fits = omega arith
 no_constant MinEven k f fits = omega arith
 no_constant MinOdd k f fits = omega arith
-no_constant Always k f fits = absurd (none_is_some fits.0 fits.1)
-no_constant Never k f fits = absurd (none_is_some fits.0 fits.1)
+no_constant _ k f fits = absurd (none_is_some fits.0 fits.1)
 
 each_differs : (shape : Shape) (k : ℕ) → AllDiffer (set_at shape (suc k)) k
 each_differs MinEven k = record { differ = λ i j lt le e. omega arith }
-each_differs MinOdd k = record { differ = λ i j lt le e. omega arith }
-each_differs shape k = record { differ = λ i j lt le e. omega arith }
+each_differs _ k = record { differ = λ i j lt le e. omega arith }
 
 -- ---- one shape
 
@@ -138,34 +128,22 @@ four_finds f k false false false false ta tb td te = record { found = tt; none =
 
 pub nested_finds : (f : Formula) (sets : ℕ) (ops : List Op) (answer : Option Shape) → (sets ≡ 0 → ⊥) → postfix f ≡ ops → answer ≡ nested_at sets ops → Finds f sets answer
 nested_finds f zero ops answer some_sets e is = absurd (some_sets refl)
-nested_finds f (suc k) ops answer some_sets e is =
-    subst (Finds f (suc k)) (ap (nested_at (suc k)) e ∙ sym is)
-    (four_finds f k (fits_at MaxEven (suc k) (postfix f)) (fits_at MaxOdd (suc k) (postfix f)) (fits_at MinEven (suc k) (postfix f)) (fits_at MinOdd (suc k) (postfix f))
-    (fits_tells f k MaxEven (omega arith)) (fits_tells f k MaxOdd (omega arith)) (fits_tells f k MinEven (omega arith)) (fits_tells f k MinOdd (omega arith)))
+nested_finds f (suc k) ops answer some_sets e is = grind (arith, nat_tests, four_finds f k (fits_at MaxEven (suc k) (postfix f)) (fits_at MaxOdd (suc k) (postfix f)) (fits_at MinEven (suc k) (postfix f)) (fits_at MinOdd (suc k) (postfix f)) (fits_tells f k MaxEven (omega arith)) (fits_tells f k MaxOdd (omega arith)) (fits_tells f k MinEven (omega arith)) (fits_tells f k MinOdd (omega arith)))
 
 -- ---- no set
 
 always_is : (f : Formula) → FitsShape f 0 Always → postfix f ≡ Yes ∷ []
-always_is f fits =
-    let form : yes ≡ fits.0 = some_is yes fits.0 fits.1 in
-    let P : Formula → Type 0 = λ g. IsLike g (bare f) in
-    let is : bare f ≡ yes = subst P (sym form) fits.2 in
-    sym (bare_postfix f) ∙ ap postfix is
+always_is f fits = grind (arith, nat_tests, some_is yes fits.0 fits.1, bare_postfix f)
 
 never_is : (f : Formula) → FitsShape f 0 Never → postfix f ≡ No ∷ []
-never_is f fits =
-    let form : no ≡ fits.0 = some_is no fits.0 fits.1 in
-    let P : Formula → Type 0 = λ g. IsLike g (bare f) in
-    let is : bare f ≡ no = subst P (sym form) fits.2 in
-    sym (bare_postfix f) ∙ ap postfix is
+never_is f fits = grind (arith, nat_tests, some_is no fits.0 fits.1, bare_postfix f)
 
 no_set : (f : Formula) (shape : Shape) → place shape < 4 → FitsShape f 0 shape → ⊥
 no_set f MaxEven h fits = none_is_some fits.0 fits.1
 no_set f MaxOdd h fits = none_is_some fits.0 fits.1
 no_set f MinEven h fits = none_is_some fits.0 fits.1
 no_set f MinOdd h fits = none_is_some fits.0 fits.1
-no_set f Always h fits = omega arith
-no_set f Never h fits = omega arith
+no_set f _ h fits = omega arith
 
 first_never : (f : Formula) → (FitsShape f 0 Always → ⊥) → (other : Shape) → place other < 5 → FitsShape f 0 other → ⊥
 first_never f a Always h fits = a fits

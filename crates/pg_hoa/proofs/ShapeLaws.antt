@@ -1,13 +1,13 @@
 -- The order of operands and brackets do not change what a condition says.
-use Rattle.std.proofs.Common.{◌≡◌, ℕ, suc, zero, Bool, true, false, Some, refl, sym, ap, ◌∙◌, inl, inr}
+use Rattle.std.proofs.Common.{◌≡◌, ℕ, suc, zero, Bool, true, false, refl, sym, ap, ◌∙◌, inl, inr}
 use Rattle.std.specs.Prelude.{◌&&◌, ◌||◌, ◌↔◌, IsTrue}
 use Rattle.std.proofs.lemmas.Bool.{cases_order}
 use Rattle.pg_hoa.specs.declared.shape.Shape.{Shape}
 use Rattle.pg_hoa.specs.declared.shape.Shape.TheVariants.{MaxEven, MaxOdd, MinEven, MinOdd, Always, Never}
 use Rattle.pg_hoa.specs.Formulas.{Formula, yes, no, proposition, inf, fin, not, both, either, bracket, holds}
-use Rattle.pg_hoa.specs.Shapes.{bare, IsLike, FitsShape, HasShape, Accepts, condition_of, place}
+use Rattle.pg_hoa.specs.Shapes.{bare, IsLike, FitsShape, HasShape, Accepts, place}
 use Rattle.pg_hoa.specs.Mirrors.ShapeRun.{set_at, wanted_at}
-use Rattle.pg_hoa.proofs.Steps.{some_is, none_is_some}
+use Rattle.pg_lists.proofs.Steps.{some_is, none_is_some}
 use Rattle.pg_hoa.proofs.ShapeFinds.{nested_in, condition_nested, no_constant}
 use Rattle.pg_hoa.proofs.ShapeSays.{nested_decided, decided_nested, to_accepts, from_accepts}
 
@@ -110,19 +110,3 @@ one_shape {f = f} {sets = sets} {s = s} {t = t} a b =
         | inr lt ↦ absurd (a.first t lt b.fits)
       ]
     ]
-
--- a small case of each shape
-max_even_two : condition_of MaxEven 2 ≡ Some (both (fin 1) (inf 0))
-max_even_two = refl
-
-max_odd_two : condition_of MaxOdd 2 ≡ Some (either (inf 1) (fin 0))
-max_odd_two = refl
-
-min_even_two : condition_of MinEven 2 ≡ Some (either (inf 0) (fin 1))
-min_even_two = refl
-
-min_odd_three : condition_of MinOdd 3 ≡ Some (both (fin 0) (either (inf 1) (fin 2)))
-min_odd_three = refl
-
-max_even_three : condition_of MaxEven 3 ≡ Some (either (inf 2) (both (fin 1) (inf 0)))
-max_even_three = refl

@@ -1,11 +1,13 @@
 -- The operations of a nested condition nest, and what nests is one.
 use Rattle.std.proofs.Common.{◌≡◌, ℕ, suc, zero, ◌<◌, ◌≤◌, Bool, true, false, cond, List, [], ◌∷◌, ◌++◌, Option, Some, None, refl, sym, ap, ◌∙◌, ◌⊎◌, inl, inr, arith, append_assoc}
+use Rattle.std.proofs.lemmas.Bool.Decides.{nat_tests}
 use Rattle.pg_hoa.specs.declared.formula.Op.{Op}
 use Rattle.pg_hoa.specs.Formulas.{Formula}
 use Rattle.pg_hoa.specs.Mirrors.FormulaRun.{postfix, limit_op}
 use Rattle.pg_hoa.specs.Shapes.{leaf, decides, bare, IsLike}
 use Rattle.pg_hoa.specs.Mirrors.ShapeRun.{is_leaf, is_join, last_op, leaf_last, without_leaf, inner_at, only_leaf, passes, nests_at}
-use Rattle.pg_hoa.proofs.Steps.{chosen, bind_some, some, some_is, none, none_is_some}
+use Rattle.pg_hoa.proofs.Steps.{bind_some}
+use Rattle.pg_lists.proofs.Steps.{chosen, some, some_is, none, none_is_some}
 use Rattle.pg_hoa.proofs.ShapeSteps.{join_op, last_parts, leaf_is, leaf_again, leaf_other, join_is, join_again, leaf_first, takes_behind, takes_before, inner_is}
 use Rattle.pg_hoa.proofs.ShapeTrees.{joined, postfix_leaf, postfix_joined, bare_leaf, bare_joined, like_leaf, like_leaf_is, like_before, like_behind, like_parts}
 
@@ -64,18 +66,10 @@ pub record IsTreeOf (form : Formula) (ops : List Op) (f : Formula) : Type 0 wher
   pub no_bracket : bare f ≡ f
 
 tree_before : (wanted : Bool) (set : ℕ) (others f : Formula) (ops inner : List Op) → IsTreeOf others inner f → ops ≡ limit_op wanted set ∷ (inner ++ (join_op wanted ∷ [])) → IsTreeOf (decides wanted set others) ops (joined wanted (leaf wanted set) f)
-tree_before wanted set others f ops inner t e = record {
-  ops_are = postfix_joined wanted (leaf wanted set) f ∙ ap (λ (l : List Op). l ++ (postfix f ++ (join_op wanted ∷ []))) (postfix_leaf wanted set) ∙ ap (λ (l : List Op). limit_op wanted set ∷ (l ++ (join_op wanted ∷ []))) t.ops_are ∙ sym e;
-  like = like_before wanted set others f t.like;
-  no_bracket = bare_joined wanted (leaf wanted set) f (bare_leaf wanted set) t.no_bracket;
-}
+tree_before wanted set others f ops inner t e = grind (arith, nat_tests, postfix_joined wanted (leaf wanted set) f, join_op wanted, postfix_leaf wanted set, like_before wanted set others f t.like, bare_joined wanted (leaf wanted set) f (bare_leaf wanted set) t.no_bracket)
 
 tree_behind : (wanted : Bool) (set : ℕ) (others f : Formula) (ops inner : List Op) → IsTreeOf others inner f → ops ≡ inner ++ (limit_op wanted set ∷ join_op wanted ∷ []) → IsTreeOf (decides wanted set others) ops (joined wanted f (leaf wanted set))
-tree_behind wanted set others f ops inner t e = record {
-  ops_are = postfix_joined wanted f (leaf wanted set) ∙ ap (λ (l : List Op). postfix f ++ (l ++ (join_op wanted ∷ []))) (postfix_leaf wanted set) ∙ ap (λ (l : List Op). l ++ (limit_op wanted set ∷ join_op wanted ∷ [])) t.ops_are ∙ sym e;
-  like = like_behind wanted set others f t.like;
-  no_bracket = bare_joined wanted f (leaf wanted set) t.no_bracket (bare_leaf wanted set);
-}
+tree_behind wanted set others f ops inner t e = grind (arith, nat_tests, postfix_joined wanted f (leaf wanted set), join_op wanted, postfix_leaf wanted set, like_behind wanted set others f t.like, bare_joined wanted f (leaf wanted set) t.no_bracket (bare_leaf wanted set))
 
 pub nests_tree : (set : ℕ → ℕ) (wanted : ℕ → Bool) (inside : ℕ) (ops : List Op) → nests_at set wanted inside ops ≡ true → (f : Formula) × IsTreeOf (nested set wanted inside) ops f
 unfolding nests_at
@@ -104,16 +98,10 @@ first_other set wanted (suc inside) h good s more l differ =
     ]
 
 inner_before : (wanted : Bool) (set : ℕ) (f : Formula) → inner_at wanted set (postfix (joined wanted (leaf wanted set) f)) ≡ Some (postfix f)
-inner_before wanted set f =
-    ap (inner_at wanted set) (postfix_joined wanted (leaf wanted set) f ∙ ap (λ (l : List Op). l ++ (postfix f ++ (join_op wanted ∷ []))) (postfix_leaf wanted set))
-    ∙ inner_is wanted set (limit_op wanted set ∷ postfix f) (join_op wanted) (join_again wanted)
-    ∙ takes_behind wanted set (limit_op wanted set) (postfix f) (leaf_again wanted set)
+inner_before wanted set f = grind (arith, nat_tests, postfix_joined wanted (leaf wanted set) f, join_op wanted, postfix_leaf wanted set, inner_is wanted set (limit_op wanted set ∷ postfix f) (join_op wanted) (join_again wanted), takes_behind wanted set (limit_op wanted set) (postfix f) (leaf_again wanted set))
 
 inner_behind : (wanted : Bool) (set : ℕ) (f : Formula) → leaf_first wanted set (postfix f ++ (limit_op wanted set ∷ [])) ≡ false → inner_at wanted set (postfix (joined wanted f (leaf wanted set))) ≡ Some (postfix f)
-inner_behind wanted set f other =
-    ap (inner_at wanted set) (postfix_joined wanted f (leaf wanted set) ∙ ap (λ (l : List Op). postfix f ++ (l ++ (join_op wanted ∷ []))) (postfix_leaf wanted set) ∙ sym (append_assoc (postfix f) (limit_op wanted set ∷ []) (join_op wanted ∷ [])))
-    ∙ inner_is wanted set (postfix f ++ (limit_op wanted set ∷ [])) (join_op wanted) (join_again wanted)
-    ∙ takes_before wanted set (postfix f) (limit_op wanted set) other (leaf_again wanted set)
+inner_behind wanted set f other = grind (arith, nat_tests, postfix_joined wanted f (leaf wanted set), join_op wanted, postfix_leaf wanted set, append_assoc (postfix f) (limit_op wanted set ∷ []) (join_op wanted ∷ []), inner_is wanted set (postfix f ++ (limit_op wanted set ∷ [])) (join_op wanted) (join_again wanted), takes_before wanted set (postfix f) (limit_op wanted set) other (leaf_again wanted set))
 
 -- the sets differ, from the innermost up to the outermost
 pub record AllDiffer (set : ℕ → ℕ) (outermost : ℕ) : Type 0 where

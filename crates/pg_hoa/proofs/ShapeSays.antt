@@ -1,10 +1,11 @@
 -- A nested condition is decided by the outermost of the sets that recur.
-use Rattle.std.proofs.Common.{◌≡◌, ℕ, suc, zero, ◌-◌, ◌<◌, ◌≤◌, ◌%◌, Bool, true, false, cond, refl, sym, ap, ◌∙◌, ◌⊎◌, inl, inr, arith}
+use Rattle.std.proofs.Common.{◌≡◌, ℕ, suc, zero, ◌-◌, ◌<◌, ◌≤◌, ◌%◌, Bool, true, false, refl, sym, ap, ◌∙◌, ◌⊎◌, inl, inr, arith}
+use Rattle.std.proofs.lemmas.Bool.Decides.{nat_tests}
 use Rattle.std.proofs.lemmas.Bool.{eqb-true, eqb-false, eq-eqb, ne_eqb, cases_lt, cases_Bool}
 use Rattle.pg_hoa.specs.declared.shape.Shape.{Shape}
 use Rattle.pg_hoa.specs.declared.shape.Shape.TheVariants.{MaxEven, MaxOdd, MinEven, MinOdd, Always, Never}
 use Rattle.pg_hoa.specs.Formulas.{Formula, holds}
-use Rattle.pg_hoa.specs.Shapes.{is_even, leaf, decides, NoneRecurs, IsGreatest, IsLeast, Accepts, place}
+use Rattle.pg_hoa.specs.Shapes.{is_even, decides, NoneRecurs, IsGreatest, IsLeast, Accepts, place}
 use Rattle.pg_hoa.specs.Mirrors.ShapeRun.{set_at, wanted_at}
 use Rattle.pg_hoa.proofs.ShapeNests.{nested}
 
@@ -22,14 +23,6 @@ NoneInside set on inside = (i : ℕ) → i ≤ inside → on (set i) ≡ false
 abbrev pub IsDecided : (ℕ → ℕ) → (ℕ → Bool) → (ℕ → Bool) → ℕ → Type 0
 IsDecided set wanted on inside = ((j : ℕ) × IsOutermost set on inside j × (wanted j ≡ true)) ⊎ (NoneInside set on inside × (wanted 0 ≡ false))
 
-leaf_recurs : (wanted : Bool) (set : ℕ) (on : ℕ → Bool) → on set ≡ true → holds (leaf wanted set) on ≡ wanted
-leaf_recurs true set on e = e
-leaf_recurs false set on e = rw e refl
-
-leaf_does_not : (wanted : Bool) (set : ℕ) (on : ℕ → Bool) → on set ≡ false → holds (leaf wanted set) on ≡ cond wanted false true
-leaf_does_not true set on e = e
-leaf_does_not false set on e = rw e refl
-
 recurs_decides : (wanted : Bool) (set : ℕ) (others : Formula) (on : ℕ → Bool) → on set ≡ true → holds (decides wanted set others) on ≡ wanted
 recurs_decides true set others on e = rw e refl
 recurs_decides false set others on e = rw e refl
@@ -45,54 +38,22 @@ outermost_recurs : (set : ℕ → ℕ) (wanted : ℕ → Bool) (on : ℕ → Boo
 outermost_recurs set wanted on inside e good = inl (inside, record { within = omega arith; recurs = e; further = λ i gt le. absurd (omega arith) }, good)
 
 outermost_wanted : (set : ℕ → ℕ) (wanted : ℕ → Bool) (on : ℕ → Bool) (inside : ℕ) → on (set inside) ≡ true → IsDecided set wanted on inside → wanted inside ≡ true
-outermost_wanted set wanted on inside e (inl p) =
-    elim (cases_lt p.0 inside) [
-      | inl below ↦ absurd (clash (on (set inside)) e (p.1.further inside below (omega arith)))
-      | inr above ↦ let le : p.0 ≤ inside = p.1.within in let same : p.0 ≡ inside = omega arith in ap wanted (sym same) ∙ p.2
-    ]
+outermost_wanted set wanted on inside e (inl p) = grind (arith, nat_tests, cases_lt p.0 inside)
 outermost_wanted set wanted on inside e (inr p) = absurd (clash (on (set inside)) e (p.0 inside (omega arith)))
 
 one_further : (set : ℕ → ℕ) (on : ℕ → Bool) (inside i : ℕ) → on (set (suc inside)) ≡ false → (i ≤ inside → on (set i) ≡ false) → i ≤ suc inside → on (set i) ≡ false
-one_further set on inside i e below le =
-    elim (cases_lt inside i) [
-      | inl above ↦ let same : i ≡ suc inside = omega arith in ap (λ (j : ℕ). on (set j)) same ∙ e
-      | inr within ↦ below within
-    ]
+one_further set on inside i e below le = grind (arith, nat_tests, cases_lt inside i)
 
 decided_further : (set : ℕ → ℕ) (wanted : ℕ → Bool) (on : ℕ → Bool) (inside : ℕ) → on (set (suc inside)) ≡ false → IsDecided set wanted on inside → IsDecided set wanted on (suc inside)
-decided_further set wanted on inside e (inl p) =
-    let le : p.0 ≤ inside = p.1.within in
-    inl (p.0, record { within = omega arith; recurs = p.1.recurs; further = λ i gt le. one_further set on inside i e (p.1.further i gt) le }, p.2)
+decided_further set wanted on inside e (inl p) = grind (arith, nat_tests)
 decided_further set wanted on inside e (inr p) = inr (λ i le. one_further set on inside i e (p.0 i) le, p.1)
 
 decided_inside : (set : ℕ → ℕ) (wanted : ℕ → Bool) (on : ℕ → Bool) (inside : ℕ) → on (set (suc inside)) ≡ false → IsDecided set wanted on (suc inside) → IsDecided set wanted on inside
-decided_inside set wanted on inside e (inl p) =
-    elim (cases_lt inside p.0) [
-      | inl above ↦ let le : p.0 ≤ suc inside = p.1.within in let same : p.0 ≡ suc inside = omega arith in absurd (clash (on (set p.0)) p.1.recurs (ap (λ (i : ℕ). on (set i)) same ∙ e))
-      | inr below ↦ inl (p.0, record { within = below; recurs = p.1.recurs; further = λ i gt le. p.1.further i gt (omega arith) }, p.2)
-    ]
+decided_inside set wanted on inside e (inl p) = grind (arith, nat_tests, cases_lt inside p.0)
 decided_inside set wanted on inside e (inr p) = inr (λ i le. p.0 i (omega arith), p.1)
 
-innermost_not : (wanted : Bool) → cond wanted false true ≡ true → wanted ≡ false
-innermost_not true e = absurd cc
-innermost_not false e = refl
-
-innermost_empty : (set : ℕ → ℕ) (on : ℕ → Bool) → on (set 0) ≡ false → NoneInside set on 0
-innermost_empty set on e i le = let same : i ≡ 0 = omega arith in ap (λ (j : ℕ). on (set j)) same ∙ e
-
-innermost_decided : (set : ℕ → ℕ) (wanted : ℕ → Bool) (on : ℕ → Bool) → on (set 0) ≡ false → IsDecided set wanted on 0 → cond (wanted 0) false true ≡ true
-innermost_decided set wanted on e (inl p) =
-    let le : p.0 ≤ 0 = p.1.within in
-    let same : p.0 ≡ 0 = omega arith in
-    absurd (clash (on (set p.0)) p.1.recurs (ap (λ (i : ℕ). on (set i)) same ∙ e))
-innermost_decided set wanted on e (inr p) = rw p.1 refl
-
 pub nested_decided : (set : ℕ → ℕ) (wanted : ℕ → Bool) (on : ℕ → Bool) (inside : ℕ) → holds (nested set wanted inside) on ≡ true → IsDecided set wanted on inside
-nested_decided set wanted on zero h =
-    elim (cases_Bool (on (set 0))) [
-      | inl e ↦ outermost_recurs set wanted on 0 e (sym (leaf_recurs (wanted 0) (set 0) on e) ∙ h)
-      | inr e ↦ inr (innermost_empty set on e, innermost_not (wanted 0) (sym (leaf_does_not (wanted 0) (set 0) on e) ∙ h))
-    ]
+nested_decided set wanted on zero h = grind (arith, nat_tests, cases_Bool (on (set 0)))
 nested_decided set wanted on (suc inside) h =
     let others = nested set wanted inside in
     elim (cases_Bool (on (set (suc inside)))) [
@@ -101,11 +62,7 @@ nested_decided set wanted on (suc inside) h =
     ]
 
 pub decided_nested : (set : ℕ → ℕ) (wanted : ℕ → Bool) (on : ℕ → Bool) (inside : ℕ) → IsDecided set wanted on inside → holds (nested set wanted inside) on ≡ true
-decided_nested set wanted on zero d =
-    elim (cases_Bool (on (set 0))) [
-      | inl e ↦ leaf_recurs (wanted 0) (set 0) on e ∙ outermost_wanted set wanted on 0 e d
-      | inr e ↦ leaf_does_not (wanted 0) (set 0) on e ∙ innermost_decided set wanted on e d
-    ]
+decided_nested set wanted on zero d = grind (arith, nat_tests, cases_Bool (on (set 0)))
 decided_nested set wanted on (suc inside) d =
     let others = nested set wanted inside in
     elim (cases_Bool (on (set (suc inside)))) [
@@ -155,9 +112,7 @@ to_least on k j o =
     record { below = omega arith; recurs = o.recurs; first = λ i lt. sym (at_up on k i (omega arith)) ∙ o.further (k - i) (omega arith) (omega arith) }
 
 from_least : (on : ℕ → Bool) (k m : ℕ) → IsLeast on (suc k) m → IsOutermost (up k) on k (k - m)
-from_least on k m l =
-    let lt : m < suc k = l.below in
-    record { within = omega arith; recurs = at_up on k m (omega arith) ∙ l.recurs; further = λ i gt le. l.first (up k i) (omega arith) }
+from_least on k m l = grind (arith, nat_tests, at_up on k m (omega arith))
 
 to_none_up : (on : ℕ → Bool) (k : ℕ) → NoneInside (up k) on k → NoneRecurs on (suc k)
 to_none_up on k empty i lt = sym (at_up on k i (omega arith)) ∙ empty (k - i) (omega arith)

@@ -1,12 +1,14 @@
 -- How operations come apart.
-use Rattle.std.proofs.Common.{◌≡◌, ℕ, suc, zero, ◌-◌, ◌<◌, Bool, true, false, List, [], ◌∷◌, ◌++◌, Option, Some, None, refl, sym, ap, ◌∙◌, arith}
+use Rattle.std.proofs.Common.{◌≡◌, ℕ, suc, zero, ◌-◌, ◌<◌, Bool, true, false, List, [], ◌∷◌, ◌++◌, Option, Some, None, refl, ap, ◌∙◌, arith}
+use Rattle.std.proofs.lemmas.Bool.Decides.{nat_tests}
 use Rattle.std.proofs.lemmas.Bool.{eqb-true, eq-eqb, ne_eqb}
 use Rattle.pg_hoa.specs.declared.formula.Op.{Op}
 use Rattle.pg_hoa.specs.declared.formula.Op.TheVariants.{Inf, Fin, Both, Either}
 use Rattle.pg_hoa.specs.Mirrors.FormulaRun.{limit_op}
 use Rattle.pg_hoa.specs.declared.shape.Shape.{Shape}
 use Rattle.pg_hoa.specs.Mirrors.ShapeRun.{set_at, is_wanted, wanted_at, is_leaf, is_join, last_op, without_leaf, inner_at, only_leaf, passes, nests_at}
-use Rattle.pg_hoa.proofs.Steps.{bind_some, some_is}
+use Rattle.pg_hoa.proofs.Steps.{bind_some}
+use Rattle.pg_lists.proofs.Steps.{some_is}
 
 abbrev pub join_op : Bool → Op
 join_op true = Either
@@ -94,12 +96,7 @@ nests_turn set wanted (suc inside) ops h = let same : suc inside - 1 ≡ inside 
 
 -- the same for what the steps of a turn gave
 pub fits_turn : (shape : Shape) (sets inside set : ℕ) (wanted : Bool) (ops : List Op) (inner : Option (List Op)) → 0 < inside → set ≡ set_at shape sets inside → wanted ≡ is_wanted shape set → inner ≡ inner_at wanted set ops → passes (nests_at (set_at shape sets) (wanted_at shape sets) (inside - 1)) inner ≡ nests_at (set_at shape sets) (wanted_at shape sets) inside ops
-fits_turn shape sets inside set wanted ops inner h at good found =
-    let test = passes (nests_at (set_at shape sets) (wanted_at shape sets) (inside - 1)) in
-    let placed : wanted ≡ wanted_at shape sets inside = good ∙ ap (is_wanted shape) at in
-    ap test (found ∙ ap (λ (b : Bool). inner_at b set ops) placed ∙ ap (λ (s : ℕ). inner_at (wanted_at shape sets inside) s ops) at) ∙ sym (nests_turn (set_at shape sets) (wanted_at shape sets) inside ops h)
+fits_turn shape sets inside set wanted ops inner h at good found = grind (arith, nat_tests, nests_turn (set_at shape sets) (wanted_at shape sets) inside ops h)
 
 pub fits_innermost : (shape : Shape) (sets inside set : ℕ) (wanted : Bool) (ops : List Op) → inside ≡ 0 → set ≡ set_at shape sets 0 → wanted ≡ is_wanted shape set → only_leaf wanted set ops ≡ nests_at (set_at shape sets) (wanted_at shape sets) inside ops
-fits_innermost shape sets inside set wanted ops none at good =
-    let placed : wanted ≡ wanted_at shape sets 0 = good ∙ ap (is_wanted shape) at in
-    ap (λ (b : Bool). only_leaf b set ops) placed ∙ ap (λ (s : ℕ). only_leaf (wanted_at shape sets 0) s ops) at ∙ sym (nests_innermost (set_at shape sets) (wanted_at shape sets) inside ops none)
+fits_innermost shape sets inside set wanted ops none at good = grind (arith, nat_tests, nests_innermost (set_at shape sets) (wanted_at shape sets) inside ops none)

@@ -1,5 +1,6 @@
 -- The conditions that the finder of shapes tells apart, and the operations that they are computed by.
-use Rattle.std.proofs.Common.{◌≡◌, ℕ, Bool, true, false, cond, List, [], ◌∷◌, ◌++◌, refl, sym, ap, ◌∙◌, ◌⊎◌, inl, inr, append_assoc}
+use Rattle.std.proofs.Common.{◌≡◌, ℕ, Bool, true, false, cond, List, [], ◌∷◌, ◌++◌, refl, sym, ap, ◌∙◌, ◌⊎◌, inl, inr, append_assoc, arith}
+use Rattle.std.proofs.lemmas.Bool.Decides.{nat_tests}
 use Rattle.pg_hoa.specs.declared.formula.Op.{Op}
 use Rattle.pg_hoa.specs.declared.formula.Op.TheVariants.{Yes, No, Proposition, Inf, Fin, Not, Both, Either}
 use Rattle.pg_hoa.specs.Formulas.{Formula, yes, no, proposition, inf, fin, not, both, either, bracket}
@@ -94,13 +95,5 @@ pub record Joins (wanted : Bool) (set : ℕ) (others h f : Formula) : Type 0 whe
   pub where_is : (h ≡ joined wanted (leaf wanted set) f) ⊎ (h ≡ joined wanted f (leaf wanted set))
 
 pub like_parts : (wanted : Bool) (set : ℕ) (others h : Formula) → IsLike (decides wanted set others) h → (f : Formula) × Joins wanted set others h f
-like_parts true set others h l =
-    elim (l.3) as (λ _. (f : Formula) × Joins true set others h f) [
-      | inl p ↦ (l.1, record { like = p.1; where_is = inl (l.2 ∙ ap (λ (a : Formula). either a l.1) p.0) })
-      | inr p ↦ (l.0, record { like = p.1; where_is = inr (l.2 ∙ ap (λ (b : Formula). either l.0 b) p.0) })
-    ]
-like_parts false set others h l =
-    elim (l.3) as (λ _. (f : Formula) × Joins false set others h f) [
-      | inl p ↦ (l.1, record { like = p.1; where_is = inl (l.2 ∙ ap (λ (a : Formula). both a l.1) p.0) })
-      | inr p ↦ (l.0, record { like = p.1; where_is = inr (l.2 ∙ ap (λ (b : Formula). both l.0 b) p.0) })
-    ]
+like_parts true set others h l = grind (arith, nat_tests)
+like_parts false set others h l = grind (arith, nat_tests)

@@ -1,10 +1,11 @@
 -- The tokens of bytes that spell them: `lex` gives them, and gives no others.
-use Rattle.std.proofs.Common.{◌≡◌, ℕ, List, [], ◌∷◌, ◌++◌, Some, None, refl, ap, subst, ◌∙◌}
+use Rattle.std.proofs.Common.{◌≡◌, ℕ, List, [], ◌∷◌, ◌++◌, Some, None, refl, ap, subst, ◌∙◌, arith}
+use Rattle.std.proofs.lemmas.Bool.Decides.{nat_tests}
 use Rattle.std.specs.List.{flat_map, AllByRecursion}
 use Rattle.std.proofs.lemmas.List.{append-nil}
 use Rattle.pg_hoa.specs.Lexemes.{Lexeme, stray, Blank, blank_bytes, IsBlank, Begins, Spells}
 use Rattle.pg_hoa.specs.Mirrors.Scan.{gap_step, gap_from, solid_at, lex, IsToken}
-use Rattle.pg_hoa.proofs.Steps.{none, none_is_some}
+use Rattle.pg_lists.proofs.Steps.{none, none_is_some}
 use Rattle.pg_hoa.proofs.Lexing.{lex_fails, lex_ends, lex_wrong, lex_more}
 use Rattle.pg_hoa.proofs.SpellingBlanks.{gap_written, gap_again}
 use Rattle.pg_hoa.proofs.SpellingTokens.{solid_takes, token_again}
@@ -35,10 +36,7 @@ seen bytes =
     ] refl
 
 begins : (bytes mid rest : List ℕ) (t : Lexeme) → gap_from 0 bytes ≡ Some mid → solid_at mid ≡ Some (t, rest) → Begins bytes t rest
-begins bytes mid rest t e h =
-    let g = gap_written bytes mid e in
-    let w = solid_takes mid (t, rest) h in
-    record { gap = g.gap; text = w.text; parts = g.parts ∙ ap (λ (l : List ℕ). flat_map blank_bytes g.gap ++ l) w.parts; blank = g.blank; spelt = w.spelt }
+begins bytes mid rest t e h = grind (arith, nat_tests, gap_written bytes mid e, solid_takes mid (t, rest) h)
 
 ended_spelt : (bytes : List ℕ) (tokens : List Lexeme) → Seen bytes tokens → tokens ≡ [] → Spells bytes []
 ended_spelt bytes [] (ended e) none = let g = gap_written bytes [] e in (g.gap, rw append-nil at g.parts, g.blank)

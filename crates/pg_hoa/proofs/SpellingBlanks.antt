@@ -1,5 +1,6 @@
 -- White space and comments: what is skipped is written, and what is written is skipped.
-use Rattle.std.proofs.Common.{◌≡◌, ℕ, zero, suc, ◌-◌, ◌<◌, Bool, true, false, eqb, ltb, List, [], ◌∷◌, ◌++◌, length, Some, None, refl, sym, ap, subst, ◌∙◌, arith, inl, inr, append_assoc, add-one, length-append}
+use Rattle.std.proofs.Common.{◌≡◌, ℕ, zero, suc, ◌-◌, ◌<◌, Bool, true, false, eqb, ltb, List, [], ◌∷◌, ◌++◌, length, Some, None, refl, sym, ap, ◌∙◌, arith, inl, inr, append_assoc, add-one, length-append}
+use Rattle.std.proofs.lemmas.Bool.Decides.{nat_tests}
 use Rattle.std.specs.Prelude.{◌&&◌}
 use Rattle.std.specs.List.{flat_map, AllByRecursion}
 use Rattle.std.proofs.Math.Dec.{eqb-suc-zero}
@@ -7,7 +8,8 @@ use Rattle.std.proofs.lemmas.Bool.{cases_Bool, and_parts, eqb-true}
 use Rattle.pg_hoa.specs.Lexemes.{is_space, after_comments, Blank, space, comment, blank_bytes, IsBlank}
 use Rattle.pg_hoa.specs.Mirrors.Steps.{◌>>=◌}
 use Rattle.pg_hoa.specs.Mirrors.Scan.{gap_step, gap_from}
-use Rattle.pg_hoa.proofs.Steps.{bind_some, some, some_is, none_is_some}
+use Rattle.pg_hoa.proofs.Steps.{bind_some}
+use Rattle.pg_lists.proofs.Steps.{some, some_is, none_is_some}
 use Rattle.pg_hoa.proofs.Gaps.{gap_next, gap_ends, gap_none}
 
 -- ---- comments, one step at a time
@@ -102,9 +104,7 @@ wider deep more b bytes rest r more_is = record { inside = b ∷ r.inside; parts
 
 ends_within : (deep b c : ℕ) (bytes rest inside : List ℕ) → opens b c ≡ false → closes b c ≡ false → c ∷ bytes ≡ inside ++ rest → after_comments (suc deep) inside ≡ Some [] → after_comments (suc deep) (b ∷ inside) ≡ Some []
 ends_within deep b c bytes rest [] p q e whole = absurd (none_is_some [] whole)
-ends_within deep b c bytes rest (d ∷ inside) p q e whole =
-    let same : c ≡ d = cc in
-    one_within deep b d inside (subst (λ (d : ℕ). opens b d ≡ false) same p) (subst (λ (d : ℕ). closes b d ≡ false) same q) ∙ whole
+ends_within deep b c bytes rest (d ∷ inside) p q e whole = grind (arith, nat_tests)
 
 comments_end : (deep : ℕ) (bytes rest : List ℕ) → after_comments deep bytes ≡ Some rest → Ends deep bytes rest
 comments_end zero bytes rest e = record { inside = []; parts = some_is bytes rest e; whole = refl }

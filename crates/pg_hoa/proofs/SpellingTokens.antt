@@ -9,10 +9,12 @@ use Rattle.std.proofs.lemmas.List.{take-append-drop}
 use Rattle.std.proofs.lemmas.Slice.Eq.{bytes_eq-Decides}
 use Rattle.std.proofs.Math.Dec.{eqb-suc-zero}
 use Rattle.std.proofs.Math.Seq.{take-append_seam, drop-append-add}
-use Rattle.pg_hoa.specs.Lexemes.{Lexeme, number, identifier, header, string, alias, body, end, abort, left_bracket, right_bracket, left_brace, right_brace, left_paren, right_paren, bang, ampersand, bar, stray, Character, plain, escaped, is_space, is_digit, is_letter, is_inner, is_colon, Each, Stops, IsName, value_of, character_bytes, IsCharacter, IsSpelt}
+use Rattle.pg_hoa.specs.Lexemes.{Lexeme, number, identifier, header, string, alias, body, end, abort, left_bracket, right_bracket, left_brace, right_brace, left_paren, right_paren, bang, ampersand, bar, stray, Character, plain, escaped, is_space, is_letter, is_inner, is_colon, IsName, character_bytes, IsCharacter, IsSpelt}
+use Rattle.pg_lists.specs.Bytes.{is_digit, Each, Stops, value_of}
 use Rattle.pg_hoa.specs.Mirrors.Scan.{characters, gap_step, number_at, name_before, name_at, string_len, string_at, alias_at, mark_at, sign_at, solid_at}
-use Rattle.pg_hoa.proofs.Steps.{bind_some, chosen, some, some_is, none, none_is_some}
-use Rattle.pg_hoa.proofs.Runs.{run_first, run_some, run_each, run_stops, run_parts, run_is, run_again, rest_again}
+use Rattle.pg_hoa.proofs.Steps.{bind_some}
+use Rattle.pg_lists.proofs.Steps.{chosen, some, some_is, none, none_is_some}
+use Rattle.pg_lists.proofs.Runs.{run_first, run_some, run_each, run_stops, run_parts, run_is, run_again, rest_again}
 use Rattle.pg_hoa.proofs.Strings.{further}
 use Rattle.pg_hoa.proofs.SpellingBlanks.{Stands}
 
@@ -73,11 +75,7 @@ number_again n (b ∷ text) rest h =
 -- ---- names
 
 name_start : (b : ℕ) → is_letter b || eqb b 95 ≡ true → is_inner b ≡ true
-name_start b h =
-    elim (is_letter b) as (λ v. (v || eqb b 95 ≡ true) → (v || is_digit b || eqb b 95 || eqb b 45 ≡ true)) [
-      | true ↦ λ h. refl
-      | false ↦ λ h. elim (is_digit b) as (λ v. v || eqb b 95 || eqb b 45 ≡ true) [ true ↦ refl | false ↦ rw h refl ]
-    ] h
+name_start b h = grind (arith, nat_tests)
 
 name_first : (b : ℕ) → is_letter b || eqb b 95 ≡ true → (is_digit b ≡ false) × (is_space b ≡ false) × (eqb b 47 ≡ false)
 name_first b h = (grind (arith, nat_tests), grind (arith, nat_tests), grind (arith, nat_tests))
@@ -238,14 +236,10 @@ solid_alias bytes = refl
 alias_read : (w rest : List ℕ) → w ≢ [] → Each is_inner w → Stops is_inner rest → alias_at (w ++ rest) ≡ Some (alias w, rest)
 unfolding alias_at
 alias_read [] rest some_byte each stops = absurd (some_byte refl)
-alias_read (b ∷ w) rest some_byte each stops =
-    let len = run_is is_inner (b ∷ w) rest each stops in
-    let more : eqb (prefix_len is_inner (b ∷ w ++ rest)) 0 ≡ false = rw len (eqb-suc-zero (length w)) in
-    rw (more, run_again is_inner (b ∷ w) rest each stops, rest_again is_inner (b ∷ w) rest each stops) refl
+alias_read (b ∷ w) rest some_byte each stops = grind (arith, nat_tests, run_is is_inner (b ∷ w) rest each stops, eqb-suc-zero (length w), run_again is_inner (b ∷ w) rest each stops, rest_again is_inner (b ∷ w) rest each stops)
 
 alias_again : (w text rest : List ℕ) → IsSpelt (alias w) text rest → Reads (text ++ rest) (alias w) rest
-alias_again w text rest h =
-    rw h.3 (record { stands = stands_from 64 (w ++ rest) refl refl; read = solid_alias (w ++ rest) ∙ alias_read w rest h.0 h.1 h.2 })
+alias_again w text rest h = grind (arith, nat_tests, stands_from 64 (w ++ rest) refl refl, solid_alias (w ++ rest), alias_read w rest h.0 h.1 h.2)
 
 -- ---- marks
 

@@ -13,7 +13,7 @@ use Rattle.pg_hoa.specs.Mirrors.BodyScan.{body_at}
 use Rattle.pg_hoa.specs.Mirrors.Settling.{Settled, IsSettled}
 use Rattle.pg_hoa.specs.Mirrors.Tables.{kept_steps}
 use Rattle.pg_hoa.specs.Mirrors.Readings.{Reads, NeverReads, AreFew, bound, kept_states, kept_letters}
-use Rattle.pg_hoa.proofs.Steps.{some_is}
+use Rattle.pg_lists.proofs.Steps.{some_is}
 use Rattle.pg_hoa.proofs.Spelling.{spelt_lex}
 use Rattle.pg_hoa.proofs.HeaderLaws.{headers_again}
 use Rattle.pg_hoa.proofs.HeaderHead.{first_said, said_head, says_head}

@@ -1,5 +1,6 @@
 -- What the headers and lines of a text that says an automaton come to.
 use Rattle.std.proofs.Common.{◌≡◌, ◌<◌, ◌≤◌, ℕ, List, [], ◌∷◌, map, length, Some, refl, ap, subst, arith, ◌∙◌}
+use Rattle.std.proofs.lemmas.Bool.Decides.{nat_tests}
 use Rattle.std.specs.List.{All, AllByRecursion, flat_map}
 use Rattle.std.proofs.lemmas.List.{append-nil}
 use Rattle.pg_hoa.specs.declared.formula.Op.{Op}
@@ -71,12 +72,8 @@ says_settled w a s =
 
 edges_fit : (few many propositions sets : ℕ) (edges : List Edge) → few ≤ many → AllByRecursion (EdgeFits few propositions sets) edges → AllByRecursion (EdgeFits many propositions sets) edges
 edges_fit few many propositions sets [] h fit = tt
-edges_fit few many propositions sets (e ∷ edges) h fit =
-    let below : e.target < many = omega (arith, fit.0.target) in
-    (record { letter = fit.0.letter; target = below; own_sets = fit.0.own_sets }, edges_fit few many propositions sets edges h fit.1)
+edges_fit few many propositions sets (e ∷ edges) h fit = grind (arith, nat_tests, edges_fit few many propositions sets edges h fit.1)
 
 pub lines_fit : (few many propositions sets : ℕ) (lines : List StateLine) → few ≤ many → AllByRecursion (LineFits few propositions sets) lines → AllByRecursion (LineFits many propositions sets) lines
 lines_fit few many propositions sets [] h fit = tt
-lines_fit few many propositions sets (l ∷ lines) h fit =
-    let below : l.state < many = omega (arith, fit.0.state) in
-    (record { state = below; own_sets = fit.0.own_sets; edges = edges_fit few many propositions sets l.edges h fit.0.edges }, lines_fit few many propositions sets lines h fit.1)
+lines_fit few many propositions sets (l ∷ lines) h fit = grind (arith, nat_tests, edges_fit few many propositions sets l.edges h fit.0.edges, lines_fit few many propositions sets lines h fit.1)

@@ -1,16 +1,13 @@
 -- The bytes of a string, counted one character after another.
-use Rattle.std.proofs.Common.{◌≡◌, ℕ, ◌+◌, ◌<◌, eqb, List, [], ◌∷◌, length, Option, Some, None, refl, sym, ap, subst, arith, inl, inr}
+use Rattle.std.proofs.Common.{◌≡◌, ℕ, ◌+◌, ◌<◌, eqb, List, [], ◌∷◌, length, Option, Some, None, refl, ap, subst, arith, inl, inr}
+use Rattle.std.proofs.lemmas.Bool.Decides.{nat_tests}
 use Rattle.pg_hoa.specs.Mirrors.Steps.{◌>>=◌}
 use Rattle.pg_hoa.specs.Mirrors.Scan.{character_at, string_len}
-use Rattle.pg_hoa.proofs.Steps.{chosen, some, some_is, none, none_is_some}
+use Rattle.pg_lists.proofs.Steps.{chosen, some, some_is, none, none_is_some}
 
 -- so many bytes were counted before
 abbrev pub further : ℕ → Option ℕ → Option ℕ
 further n found = found >>= λ m. Some (m + n)
-
-pub further_none : (found : Option ℕ) → further 0 found ≡ found
-further_none None = refl
-further_none (Some m) = ap (λ (n : ℕ). some n) (omega arith)
 
 pub further_more : (n k : ℕ) (found : Option ℕ) → further n (further k found) ≡ further (n + k) found
 further_more n k None = refl
@@ -28,14 +25,7 @@ at bytes n rest x e r = subst (Characters bytes) (some_is (n, rest) x (some_is (
 pub character_takes : (bytes : List ℕ) (x : ℕ × List ℕ) → character_at bytes ≡ Some (Some x) → Characters bytes x
 unfolding character_at string_len
 character_takes [] x e = absurd (none_is_some (some x) e)
-character_takes (b ∷ []) x e =
-    elim (chosen (eqb b 34) (some none) _ (some (some x)) e) [
-      | inl c ↦ absurd (none_is_some x (some_is (none {A = ℕ × List ℕ}) (some x) c.1))
-      | inr c ↦ elim (chosen (eqb b 92) none (some (some (1, []))) (some (some x)) c.1) [
-        | inl d ↦ absurd (none_is_some (some x) d.1)
-        | inr d ↦ at (b ∷ []) 1 [] x d.1 (record { len = omega arith; some_bytes = omega arith; counted = rw c.0 refl })
-      ]
-    ]
+character_takes (b ∷ []) x e = grind (arith, nat_tests, chosen (eqb b 34) (some none) _ (some (some x)) e)
 character_takes (b ∷ c ∷ bytes) x e =
     elim (chosen (eqb b 34) (some none) _ (some (some x)) e) [
       | inl p ↦ absurd (none_is_some x (some_is (none {A = ℕ × List ℕ}) (some x) p.1))
@@ -49,25 +39,10 @@ pub string_fails : (bytes : List ℕ) → character_at bytes ≡ None → string
 unfolding character_at string_len
 string_fails [] e = refl
 string_fails (b ∷ []) e = elim (chosen (eqb b 34) (some none) _ none e) [ inl c ↦ absurd cc | inr c ↦ rw c.0 refl ]
-string_fails (b ∷ c ∷ bytes) e =
-    elim (chosen (eqb b 34) (some none) _ none e) [
-      | inl p ↦ absurd cc
-      | inr p ↦ elim (chosen (eqb b 92) (some (some (2, bytes))) (some (some (1, c ∷ bytes))) none p.1) [ inl d ↦ absurd cc | inr d ↦ absurd cc ]
-    ]
+string_fails (b ∷ c ∷ bytes) e = grind (arith, nat_tests, chosen (eqb b 34) (some none) _ none e)
 
 pub string_ends : (bytes : List ℕ) → character_at bytes ≡ Some None → (string_len bytes ≡ Some 0) × (0 < length bytes)
 unfolding character_at string_len
 string_ends [] e = absurd cc
-string_ends (b ∷ []) e =
-    elim (chosen (eqb b 34) (some none) _ (some none) e) [
-      | inl c ↦ (rw c.0 refl, omega arith)
-      | inr c ↦ elim (chosen (eqb b 92) none (some (some (1, []))) (some none) c.1) [ inl d ↦ absurd cc | inr d ↦ absurd (none_is_some (1, []) (sym (some_is (some (1, [])) none d.1))) ]
-    ]
-string_ends (b ∷ c ∷ bytes) e =
-    elim (chosen (eqb b 34) (some none) _ (some none) e) [
-      | inl p ↦ (rw p.0 refl, omega arith)
-      | inr p ↦ elim (chosen (eqb b 92) (some (some (2, bytes))) (some (some (1, c ∷ bytes))) (some none) p.1) [
-        | inl d ↦ absurd (none_is_some (2, bytes) (sym (some_is (some (2, bytes)) none d.1)))
-        | inr d ↦ absurd (none_is_some (1, c ∷ bytes) (sym (some_is (some (1, c ∷ bytes)) none d.1)))
-      ]
-    ]
+string_ends (b ∷ []) e = grind (arith, nat_tests, chosen (eqb b 34) (some none) _ (some none) e)
+string_ends (b ∷ c ∷ bytes) e = grind (arith, nat_tests, chosen (eqb b 34) (some none) _ (some none) e)

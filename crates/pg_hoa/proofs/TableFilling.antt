@@ -1,17 +1,17 @@
 -- What one more step does to a table that is being filled.
-use Rattle.std.proofs.Common.{◌≡◌, ℕ, ◌<◌, ◌≤◌, Bool, true, false, ◌&&◌, ◌==◌, List, [], ◌∷◌, ◌++◌, length, get_or, set, Option, Some, None, refl, sym, ap, subst, ◌∙◌, arith, append_assoc, inl, inr, ◌⊎◌}
+use Rattle.std.proofs.Common.{◌≡◌, ℕ, ◌<◌, ◌≤◌, Bool, true, false, ◌==◌, List, [], ◌∷◌, ◌++◌, length, get_or, set, Option, Some, None, refl, sym, ap, subst, ◌∙◌, arith, append_assoc, inl, inr, ◌⊎◌}
 use Rattle.std.specs.Prelude.{option_map}
 use Rattle.std.specs.List.{All}
 use Rattle.std.proofs.lemmas.List.{append-nil, get_or-set_same, get_or-set_other, length-set}
 use Rattle.std.proofs.lemmas.List.Elements.{All-nil, All-cons, All-head, All-tail, All-push, All-weaker}
 use Rattle.std.proofs.lemmas.Bool.{false≢true}
-use Rattle.std.proofs.lemmas.Bool.Decides.{Decides-eqb}
+use Rattle.std.proofs.lemmas.Bool.Decides.{Decides-eqb, nat_tests}
 use Rattle.pg_hoa.specs.declared.shape.Shape.{Shape}
 use Rattle.pg_hoa.specs.Automata.{Step, deciding}
 use Rattle.pg_hoa.specs.AutomatonText.{Agree}
 use Rattle.pg_hoa.specs.Mirrors.Tables.{Stage, numbered, same_set, agree, Leads, Extends, IsFilled, Adds, when, at_slot}
 use Rattle.pg_hoa.proofs.Lists.{both_true}
-use Rattle.pg_hoa.proofs.Steps.{some, some_is, none_is_some}
+use Rattle.pg_lists.proofs.Steps.{some_is, none_is_some}
 
 -- ---- steps that agree
 
@@ -52,25 +52,15 @@ agree_less shape steps t h =
 agree_last : (shape : Shape) (s t : Step) (steps : List Step) → Agree shape ((s ∷ steps) ++ (t ∷ [])) → SameKey shape s t
 agree_last shape s t steps h = last_of_all (SameKey shape s) (s ∷ steps) t (All-head (λ x. All (SameKey shape x) ((s ∷ steps) ++ (t ∷ []))) s (steps ++ (t ∷ [])) h)
 
-same_set_is : (a b : Option ℕ) → same_set a b ≡ true → a ≡ b
-same_set_is None None e = refl
-same_set_is (Some a) (Some b) e = ap some ((Decides-eqb a b).0 e)
-same_set_is None (Some b) e = absurd (false≢true e)
-same_set_is (Some a) None e = absurd (false≢true e)
-
 same_set_refl : (a : Option ℕ) → same_set a a ≡ true
 same_set_refl None = refl
 same_set_refl (Some a) = (Decides-eqb a a).1 refl
 
 agree_key : (shape : Shape) (s t : Step) → agree shape s t ≡ true → SameKey shape s t
-agree_key shape s t e =
-    let p = both_true (s.target == t.target) (same_set (deciding shape s.sets) (deciding shape t.sets)) e in
-    ((Decides-eqb s.target t.target).0 p.0, same_set_is (deciding shape s.sets) (deciding shape t.sets) p.1)
+agree_key shape s t e = grind (arith, nat_tests, both_true (s.target == t.target) (same_set (deciding shape s.sets) (deciding shape t.sets)) e, Decides-eqb s.target t.target)
 
 key_agrees : (shape : Shape) (s t : Step) → SameKey shape s t → agree shape s t ≡ true
-key_agrees shape s t k =
-    ap (λ b. b && same_set (deciding shape s.sets) (deciding shape t.sets)) ((Decides-eqb s.target t.target).1 k.0)
-    ∙ ap (λ d. same_set d (deciding shape t.sets)) k.1 ∙ same_set_refl (deciding shape t.sets)
+key_agrees shape s t k = grind (arith, nat_tests, Decides-eqb s.target t.target, same_set_refl (deciding shape t.sets))
 
 -- ---- a slot
 
@@ -88,11 +78,7 @@ leads_some t n [] x h e = absurd (none_is_some x (sym (ap (numbered t.steps t.li
 leads_some t n (s ∷ steps) x h e = (steps, ap (λ y. y ∷ steps) (some_is s x (sym h ∙ e)))
 
 slot_cases : (P : List Step → Type 0) (steps : List Step) (slot i : ℕ) (s : Step) → ((i ≡ slot → ⊥) → P steps) → (i ≡ slot → P (steps ++ (s ∷ []))) → P (steps ++ at_slot slot s i)
-slot_cases P steps slot i s other same =
-    elim (i == slot) as (λ v. i == slot ≡ v → P (steps ++ when v s)) [
-      | true ↦ λ e. same ((Decides-eqb i slot).0 e)
-      | false ↦ λ e. subst P (sym (append-nil steps)) (other (λ is. false≢true (sym e ∙ (Decides-eqb i slot).1 is)))
-    ] refl
+slot_cases P steps slot i s other same = grind (arith, nat_tests, Decides-eqb i slot, append-nil steps)
 
 mapped_some : {A B : Type 0} (f : A → B) (o : Option A) (y : B) → option_map f o ≡ Some y → (x : A) × (o ≡ Some x) × (f x ≡ y)
 mapped_some f None y e = absurd (none_is_some y e)
@@ -108,13 +94,7 @@ abbrev Compares : Shape → Stage → ℕ → Step → Option Bool → Type 0
 Compares shape t slot s answer = option_map (λ x. agree shape x s) (numbered t.steps t.lists (get_or t.slots slot 0)) ≡ answer
 
 full_leads : (shape : Shape) (t : Stage) (given : ℕ → List Step) (slot : ℕ) (s : Step) (answer : Bool) → IsFilled shape t given → Compares shape t slot s (Some answer) → (i : ℕ) → i < length t.slots → Leads t (get_or t.slots i 0) (given i ++ at_slot slot s i)
-full_leads shape t given slot s answer f e i h =
-    let x = mapped_some (λ x. agree shape x s) (numbered t.steps t.lists (get_or t.slots slot 0)) answer e in
-    slot_cases (Leads t (get_or t.slots i 0)) (given i) slot i s (λ _. f.leads i h)
-    (λ is.
-    let there : numbered t.steps t.lists (get_or t.slots i 0) ≡ Some x.0 = ap (λ i. numbered t.steps t.lists (get_or t.slots i 0)) is ∙ x.1 in
-    let y = leads_some t (get_or t.slots i 0) (given i) x.0 (f.leads i h) there in
-    subst (λ (l : List Step). Leads t (get_or t.slots i 0) (l ++ (s ∷ []))) (sym y.1) there)
+full_leads shape t given slot s answer f e i h = grind (arith, nat_tests)
 
 -- what was there, with the first that is there
 first_there : (shape : Shape) (t : Stage) (given : ℕ → List Step) (slot : ℕ) (s : Step) (answer : Bool) → slot < length t.slots → IsFilled shape t given → Compares shape t slot s (Some answer) → (x : Step) × (rest : List Step) × (given slot ≡ x ∷ rest) × (agree shape x s ≡ answer)
@@ -194,12 +174,7 @@ adds_first shape t u v slot n s h e x there is = subst (Adds shape (at_slot slot
 -- ---- one after another
 
 refilled : (shape : Shape) (t : Stage) (f g : ℕ → List Step) → IsFilled shape t f → ((i : ℕ) → i < length t.slots → f i ≡ g i) → IsFilled shape t g
-refilled shape t f g h e = record {
-  leads = λ i k. subst (Leads t (get_or t.slots i 0)) (e i k) (h.leads i k);
-  conflict_within = h.conflict_within;
-  agree_before = λ i k. let in_range : i < length t.slots = omega (arith, h.conflict_within) in subst (Agree shape) (e i in_range) (h.agree_before i k);
-  not_there = λ k a. h.not_there k (subst (Agree shape) (sym (e t.conflict k)) a);
-}
+refilled shape t f g h e = grind (arith, nat_tests)
 
 pub adds_none : (shape : Shape) (more : ℕ → List Step) (t : Stage) → ((i : ℕ) → i < length t.slots → more i ≡ []) → Adds shape more t t
 adds_none shape more t e = record {
@@ -265,9 +240,4 @@ adds_repeated shape more b s t u a has = record {
 -- ---- the first stage
 
 pub nothing_yet : (shape : Shape) (t : Stage) → ((i : ℕ) → i < length t.slots → get_or t.slots i 0 ≡ 0) → t.conflict ≡ length t.slots → IsFilled shape t (λ i. [])
-nothing_yet shape t zeros c = record {
-  leads = zeros;
-  conflict_within = omega arith;
-  agree_before = λ i k. agree_none shape;
-  not_there = λ k a. absurd (omega arith);
-}
+nothing_yet shape t zeros c = grind (arith, nat_tests, agree_none shape)

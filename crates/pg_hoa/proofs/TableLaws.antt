@@ -4,7 +4,8 @@ use Rattle.std.specs.List.{filter, flat_map}
 use Rattle.std.specs.Int.{bit_at}
 use Rattle.pg_hoa.specs.Automata.{Step, step}
 use Rattle.pg_hoa.specs.Formulas.{holds}
-use Rattle.pg_hoa.specs.AutomatonText.{Edge, StateLine, set_list, rising, line_numbers, count_of, edge_steps, steps_of}
+use Rattle.pg_hoa.specs.AutomatonText.{Edge, StateLine, set_list, line_numbers, count_of, edge_steps, steps_of}
+use Rattle.pg_lists.specs.Rising.{rising}
 use Rattle.pg_hoa.specs.Mirrors.Kept.{KeptEdge, edge_kept, line_kept}
 use Rattle.pg_hoa.specs.Mirrors.Tables.{says_at, edge_step, kept_edge_steps, kept_steps, kept_numbers, kept_count}
 use Rattle.pg_hoa.proofs.Saying.{postfix_says}

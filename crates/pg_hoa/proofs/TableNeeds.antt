@@ -1,10 +1,9 @@
 -- Letters that fit what a label needs.
-use Rattle.std.proofs.Common.{◌≡◌, ℕ, ◌+◌, ◌*◌, ◌/◌, ◌^◌, ◌<◌, min, max, Bool, true, false, ◌&&◌, ◌||◌, ◌==◌, List, [], ◌∷◌, ◌++◌, length, drop, get_or, refl, sym, ap, subst, ◌∙◌, arith}
+use Rattle.std.proofs.Common.{◌≡◌, ℕ, ◌+◌, ◌*◌, ◌/◌, ◌^◌, ◌<◌, min, max, Bool, true, false, List, [], ◌∷◌, ◌++◌, length, drop, get_or, refl, sym, ap, subst, ◌∙◌, arith}
 use Rattle.std.specs.Prelude.{bit_and}
 use Rattle.std.specs.Int.{bit_at}
 use Rattle.std.specs.Int.RustNames.{bit_or}
-use Rattle.std.proofs.lemmas.Bool.{false≢true}
-use Rattle.std.proofs.lemmas.Bool.Decides.{Decides-eqb}
+use Rattle.std.proofs.lemmas.Bool.Decides.{Decides-eqb, nat_tests}
 use Rattle.std.proofs.lemmas.Nat.{and_shr, shr_high}
 use Rattle.std.proofs.lemmas.Nat.Bits.{bit_at_and, bit_at_or, bit_at-lt, and_pow, same_from_bits}
 use Rattle.std.proofs.lemmas.List.{reverse-append, at_drop_more}
@@ -29,21 +28,12 @@ and_of_or l a b = same_from_bits (bit_and l (bit_or a b)) (bit_or (bit_and l a) 
 pub fits_both : (letter : ℕ) (a b : Bits) → Fits letter a → Fits letter b → bit_and letter (bit_or a.care b.care) ≡ bit_or a.value b.value
 fits_both letter a b p q = and_of_or letter a.care b.care ∙ ap (λ x. bit_or x (bit_and letter b.care)) p ∙ ap (bit_or a.value) q
 
-zero_or_one : (a : ℕ) → a < 2 → (a ≡ 1 → ⊥) → a ≡ 0
-zero_or_one a h n = omega arith
-
 pub literal_allows : (letter a w : ℕ) → w ≡ 2 ^ a → Allows letter (record { yes = record { care = w; value = w }; no = record { care = w; value = 0 } }) (on_letter letter a)
-literal_allows letter a w h =
-    elim (bit_at letter a == 1) as (λ v. bit_at letter a == 1 ≡ v → Allows letter (record { yes = record { care = w; value = w }; no = record { care = w; value = 0 } }) v) [
-      | true ↦ λ e. (let same : 1 * 2 ^ a ≡ w = omega (arith, h) in ap (bit_and letter) h ∙ and_pow letter a ∙ ap (λ b. b * 2 ^ a) ((Decides-eqb (bit_at letter a) 1).0 e) ∙ same)
-      | false ↦ λ e. (let none : 0 * 2 ^ a ≡ 0 = omega arith in
-          ap (bit_and letter) h ∙ and_pow letter a ∙ ap (λ b. b * 2 ^ a) (zero_or_one (bit_at letter a) (bit_at-lt letter a) (λ is. false≢true (sym e ∙ (Decides-eqb (bit_at letter a) 1).1 is))) ∙ none)
-    ] refl
+literal_allows letter a w h = grind (arith, nat_tests, and_pow letter a, Decides-eqb (bit_at letter a) 1, bit_at-lt letter a)
 
 -- a letter of a block has the block's number above its low six bits
 pub none_fits : (block : ℕ) (bits : Bits) → (bit_and block (bits.care / 2 ^ 6) ≡ bits.value / 2 ^ 6 → ⊥) → (j : ℕ) → j < 64 → Fits (block * 64 + j) bits → ⊥
-none_fits block bits n j h fit =
-    n (ap (λ b. bit_and b (bits.care / 2 ^ 6)) (sym (shr_high block 6 j h)) ∙ sym (and_shr (block * 64 + j) bits.care 6) ∙ ap (λ x. x / 2 ^ 6) fit)
+none_fits block bits n j h fit = grind (arith, nat_tests, shr_high block 6 j h, and_shr (block * 64 + j) bits.care 6)
 
 says_none : (b : Bool) → (b ≡ true → ⊥) → false ≡ b
 says_none true n = absurd (n refl)
@@ -70,16 +60,6 @@ pub any_allows : (letter : ℕ) (n : Need) (answer : Bool) → Fits letter n.yes
 any_allows letter n true p q = p
 any_allows letter n false p q = q
 
-pub allows_both : (letter : ℕ) (l r n : Need) (a b : Bool) → (Fits letter l.yes → Fits letter r.yes → Fits letter n.yes) → (Fits letter l.no → Fits letter n.no) → (Fits letter r.no → Fits letter n.no) → Allows letter l a → Allows letter r b → Allows letter n (a && b)
-allows_both letter l r n true true join left right p q = join p q
-allows_both letter l r n true false join left right p q = right q
-allows_both letter l r n false b join left right p q = left p
-
-pub allows_either : (letter : ℕ) (l r n : Need) (a b : Bool) → (Fits letter l.no → Fits letter r.no → Fits letter n.no) → (Fits letter l.yes → Fits letter n.yes) → (Fits letter r.yes → Fits letter n.yes) → Allows letter l a → Allows letter r b → Allows letter n (a || b)
-allows_either letter l r n false false join left right p q = join p q
-allows_either letter l r n false true join left right p q = right q
-allows_either letter l r n true b join left right p q = left p
-
 -- ---- the loop
 
 -- answers that the needs allow, from which what is left of the label says what it says
@@ -99,6 +79,4 @@ one_more letter label i op d needs left pushed n lt is step p way = record {
 }
 
 pub arrived : (letter : ℕ) (label left : List Op) (needs : List Need) (n : Need) (rest : List Need) → left ≡ [] → IsOnTheWay letter label left needs → ((answers : List Bool) → AllowsStack letter needs answers → Allows letter n (top answers) × AllowsStack letter rest (under answers)) → says label (on_letter letter) ≡ true → Fits letter n.yes
-arrived letter label left needs n rest e way popped said =
-    let here : top way.answers ≡ true = ap top (sym (ap (λ l. run l (on_letter letter) way.answers) e) ∙ way.same) ∙ said in
-    subst (Allows letter n) here (popped way.answers way.allowed).0
+arrived letter label left needs n rest e way popped said = grind (arith, nat_tests)

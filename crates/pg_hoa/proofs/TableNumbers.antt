@@ -1,11 +1,13 @@
 -- Steps by their numbers, while more are stored.
-use Rattle.std.proofs.Common.{◌≡◌, ℕ, suc, zero, ◌<◌, List, [], ◌∷◌, ◌++◌, length, Option, Some, refl, ap, ◌∙◌, arith}
+use Rattle.std.proofs.Common.{◌≡◌, ℕ, suc, zero, ◌<◌, List, [], ◌∷◌, ◌++◌, length, Some, refl, ap, ◌∙◌, arith}
+use Rattle.std.proofs.lemmas.Bool.Decides.{nat_tests}
 use Rattle.std.specs.Prelude.{slice_get}
 use Rattle.pg_hoa.specs.declared.table.Stored.{Stored}
 use Rattle.pg_hoa.specs.Automata.{Step, step}
 use Rattle.pg_hoa.specs.Mirrors.Steps.{◌>>=◌}
 use Rattle.pg_hoa.specs.Mirrors.Tables.{Stage, numbered, Extends, MayNumber}
-use Rattle.pg_hoa.proofs.Steps.{bind_some, some, none_is_some}
+use Rattle.pg_hoa.proofs.Steps.{bind_some}
+use Rattle.pg_lists.proofs.Steps.{some, none_is_some}
 
 slice_get_more : {X : Type 0} (xs ys : List X) (k : ℕ) (x : X) → slice_get xs k ≡ Some x → slice_get (xs ++ ys) k ≡ Some x
 slice_get_more [] ys k x e = absurd (none_is_some x e)
@@ -18,8 +20,7 @@ slice_get_last (z ∷ xs) x = slice_get_last xs x
 
 -- what a number stands for, from its parts
 pub numbered_is : (steps : List Stored) (lists : List (List ℕ)) (k : ℕ) (s : Stored) (sets : List ℕ) → slice_get steps k ≡ Some s → slice_get lists s.list ≡ Some sets → numbered steps lists (suc k) ≡ Some (step s.target sets)
-numbered_is steps lists k s sets a b =
-    ap (λ (o : Option Stored). o >>= λ s. slice_get lists s.list >>= λ sets. Some (step s.target sets)) a ∙ ap (λ (o : Option (List ℕ)). o >>= λ sets. some (step s.target sets)) b
+numbered_is steps lists k s sets a b = grind (arith, nat_tests)
 
 pub numbered_more : (steps : List Stored) (lists : List (List ℕ)) (new_steps : List Stored) (new_lists : List (List ℕ)) (n : ℕ) (s : Step) → numbered steps lists n ≡ Some s → numbered (steps ++ new_steps) (lists ++ new_lists) n ≡ Some s
 numbered_more steps lists new_steps new_lists zero s e = absurd (none_is_some s e)
@@ -39,11 +40,7 @@ extends_by t u new_steps new_lists a b c d = record {
 }
 
 pub extends_then : (t u v : Stage) → Extends t u → Extends u v → Extends t v
-extends_then t u v a b = record {
-  slots = b.slots ∙ a.slots;
-  conflict = b.conflict ∙ a.conflict;
-  numbers = λ n s e. b.numbers n s (a.numbers n s e);
-}
+extends_then t u v a b = grind (arith, nat_tests)
 
 pub numbers_more : (t : Stage) (n : ℕ) (s : Step) → 0 < n → MayNumber t n s → numbered t.steps t.lists n ≡ Some s
 numbers_more t zero s h m = absurd (omega arith)

@@ -3,14 +3,14 @@ use Rattle.std.proofs.Common.{◌≡◌, ℕ, zero, suc, ◌+◌, ◌-◌, ◌*�
 use Rattle.std.specs.List.{filter}
 use Rattle.std.specs.Int.{bit_at, trailing_zeros, w64}
 use Rattle.std.proofs.lemmas.Bool.{false≢true}
-use Rattle.std.proofs.lemmas.Bool.Decides.{Decides-eqb, Decides-ltb, Decides-and, leb_tells}
-use Rattle.std.proofs.lemmas.Nat.{div-mul-add, div-add-mod', mod_below, pow-add, pow_pos, pow_below, shr-shr, shr_le}
+use Rattle.std.proofs.lemmas.Bool.Decides.{Decides-eqb, Decides-ltb, Decides-and, leb_tells, nat_tests}
+use Rattle.std.proofs.lemmas.Nat.{div-add-mod', mod_below, pow-add, pow_pos, pow_below, shr-shr, shr_le}
 use Rattle.std.proofs.lemmas.Nat.Bits.{bit_at-zero, bit_at-trailing_zeros}
 use Rattle.std.proofs.lemmas.List.{map-append, flat_map_more, take_more}
 use Rattle.std.proofs.lemmas.List.Elements.{filter-append}
 use Rattle.pg_hoa.specs.declared.formula.Op.{Op}
 use Rattle.pg_hoa.specs.Automata.{Step, step}
-use Rattle.pg_hoa.specs.AutomatonText.{rising}
+use Rattle.pg_lists.specs.Rising.{rising}
 use Rattle.pg_hoa.specs.Mirrors.Kept.{KeptEdge, KeptLine}
 use Rattle.pg_hoa.specs.Mirrors.Saying.{says}
 use Rattle.pg_hoa.specs.Mirrors.Letters.{truth, on_at}
@@ -19,13 +19,6 @@ use Rattle.pg_hoa.proofs.TableFilling.{Has, adds_same, adds_repeated}
 use Rattle.pg_hoa.specs.Mirrors.Tables.{Stage, Adds, when, within, at_slot, at_word, at_letters, at_line, at_lines, IsSplit, says_at, edge_step, kept_edge_steps}
 
 -- ---- tests
-
-when_split : (b c d : Bool) (s : Step) (P Q R : Type 0) → Decides b P → Decides c Q → Decides d R → (P → Q → ⊥) → (P → R) → (Q → R) → (R → P ⊎ Q) → when b s ++ when c s ≡ when d s
-when_split true true d s P Q R p q r apart a b back = absurd (apart (p.0 refl) (q.0 refl))
-when_split true false d s P Q R p q r apart a b back = ap (λ d. when d s) (sym (r.1 (a (p.0 refl))))
-when_split false true d s P Q R p q r apart a b back = ap (λ d. when d s) (sym (r.1 (b (q.0 refl))))
-when_split false false true s P Q R p q r apart a b back = elim (back (r.0 refl)) [ inl h ↦ absurd (false≢true (p.1 h)) | inr h ↦ absurd (false≢true (q.1 h)) ]
-when_split false false false s P Q R p q r apart a b back = refl
 
 when_same : (b d : Bool) (s : Step) (P R : Type 0) → Decides b P → Decides d R → (P → R) → (R → P) → when b s ≡ when d s
 when_same true d s P R p r a back = ap (λ d. when d s) (sym (r.1 (a (p.0 refl))))
@@ -63,35 +56,17 @@ pub no_bits : (first word : ℕ) (s : Step) (i : ℕ) → at_word first 0 word s
 no_bits first word s i = when_none (within first 0 i && (bit_at word (i - first) == 1)) s (AtBit first 0 word i) (decides_bit first 0 word i) (λ p. absurd (omega (arith, p.0.0, p.0.1)))
 
 pub set_bit : (first j word : ℕ) (s : Step) (i : ℕ) → bit_at word j ≡ 1 → at_word first j word s i ++ at_slot (first + j) s i ≡ at_word first (j + 1) word s i
-set_bit first j word s i bit =
-    when_split (within first j i && (bit_at word (i - first) == 1)) (i == first + j) (within first (j + 1) i && (bit_at word (i - first) == 1)) s
-    (AtBit first j word i) (i ≡ first + j) (AtBit first (j + 1) word i)
-    (decides_bit first j word i) (Decides-eqb i (first + j)) (decides_bit first (j + 1) word i)
-    (λ p q. omega (arith, p.0.1, q))
-    (λ p. ((p.0.0, omega (arith, p.0.1)), p.1))
-    (λ q. let place : i - first ≡ j = omega (arith, q) in ((omega (arith, q), omega (arith, q)), ap (bit_at word) place ∙ bit))
-    (λ r. elim (before_or_behind i (first + j)) [ inl h ↦ inl ((r.0.0, h), r.1) | inr h ↦ inr (omega (arith, r.0.1, h)) ])
+set_bit first j word s i bit = grind (arith, nat_tests, decides_bit first j word i, Decides-eqb i (first + j), decides_bit first (j + 1) word i, before_or_behind i (first + j))
 
 pub unset_bits : (first a b word : ℕ) (s : Step) (i : ℕ) → a ≤ b → ((k : ℕ) → a ≤ k → k < b → bit_at word k ≡ 1 → ⊥) → at_word first a word s i ≡ at_word first b word s i
-unset_bits first a b word s i h none =
-    when_same (within first a i && (bit_at word (i - first) == 1)) (within first b i && (bit_at word (i - first) == 1)) s
-    (AtBit first a word i) (AtBit first b word i) (decides_bit first a word i) (decides_bit first b word i)
-    (λ p. ((p.0.0, omega (arith, p.0.1, h)), p.1))
-    (λ r. elim (before_or_behind i (first + a)) [
-      | inl less ↦ ((r.0.0, less), r.1)
-      | inr more ↦ absurd (none (i - first) (omega (arith, more)) (omega (arith, r.0.0, r.0.1)) r.1)
-    ])
+unset_bits first a b word s i h none = grind (arith, nat_tests, decides_bit first a word i, decides_bit first b word i, before_or_behind i (first + a))
 
 bit_of_rest : (word at k : ℕ) → at ≤ k → bit_at (word / 2 ^ at) (k - at) ≡ bit_at word k
-bit_of_rest word at k h =
-    let place : at + (k - at) ≡ k = omega (arith, h) in
-    ap (λ n. n % 2) (shr-shr word at (k - at)) ∙ ap (bit_at word) place
+bit_of_rest word at k h = grind (arith, nat_tests, shr-shr word at (k - at))
 
 -- the bits from one place on, where nothing is left
 pub none_left : (word at : ℕ) → word / 2 ^ at ≡ 0 → (k : ℕ) → at ≤ k → bit_at word k ≡ 1 → ⊥
-none_left word at none k h e =
-    let zero_there : bit_at word k ≡ 0 = sym (bit_of_rest word at k h) ∙ ap (λ n. bit_at n (k - at)) none ∙ bit_at-zero (k - at) in
-    omega (arith, sym zero_there ∙ e)
+none_left word at none k h e = grind (arith, nat_tests, bit_of_rest word at k h, bit_at-zero (k - at))
 
 -- the next bit, and none before it
 pub next_bit : (word at skip : ℕ) → word < 2 ^ 64 → (word / 2 ^ at ≡ 0 → ⊥) → skip ≡ trailing_zeros w64 (word / 2 ^ at) → (bit_at word (at + skip) ≡ 1) × ((k : ℕ) → at ≤ k → k < at + skip → bit_at word k ≡ 1 → ⊥)
@@ -119,37 +94,15 @@ decides_letter first width label i = Decides-and (within first width i) (says_be
 abbrev Tells : ℕ → List Op → ℕ → Type 0
 Tells word label block = (j : ℕ) → j < 64 → truth word j ≡ says label (on_at block j)
 
--- what a word says of a slot is what the label says
-word_tells : (word : ℕ) (label : List Op) (block first width i : ℕ) → Tells word label block → width ≤ 64 → block * width ≡ block * 64 → Within (first + block * width) width i → (bit_at word (i - (first + block * width)) == 1) ≡ says_behind label first i
-word_tells word label block first width i tells narrow whole h =
-    let inside : i - (first + block * width) < 64 = omega (arith, h.0, h.1) in
-    let place : block * 64 + (i - (first + block * width)) ≡ i - first = omega (arith, h.0, h.1, whole) in
-    tells (i - (first + block * width)) inside ∙ ap (λ m. says label (λ a. bit_at m a == 1)) place
-
 pub no_letters : (first : ℕ) (label : List Op) (s : Step) (i : ℕ) → at_letters first 0 label s i ≡ []
 no_letters first label s i = when_none (within first 0 i && says_behind label first i) s (AtLetter first 0 label i) (decides_letter first 0 label i) (λ p. absurd (omega (arith, p.0.0, p.0.1)))
 
 pub more_letters : (first block width word : ℕ) (label : List Op) (s : Step) (i : ℕ) → Tells word label block → width ≤ 64 → block * width ≡ block * 64 → at_letters first (block * width) label s i ++ at_word (first + block * width) width word s i ≡ at_letters first ((block + 1) * width) label s i
-more_letters first block width word label s i tells narrow whole =
-    let next : (block + 1) * width ≡ block * width + width = omega arith in
-    when_split (within first (block * width) i && says_behind label first i) (within (first + block * width) width i && (bit_at word (i - (first + block * width)) == 1)) (within first ((block + 1) * width) i && says_behind label first i) s
-    (AtLetter first (block * width) label i) (AtBit (first + block * width) width word i) (AtLetter first ((block + 1) * width) label i)
-    (decides_letter first (block * width) label i) (decides_bit (first + block * width) width word i) (decides_letter first ((block + 1) * width) label i)
-    (λ p q. omega (arith, p.0.1, q.0.0))
-    (λ p. ((p.0.0, omega (arith, p.0.1, next)), p.1))
-    (λ q. ((omega (arith, q.0.0), omega (arith, q.0.1, next)), sym (word_tells word label block first width i tells narrow whole q.0) ∙ (Decides-eqb (bit_at word (i - (first + block * width))) 1).1 q.1))
-    (λ r. elim (before_or_behind i (first + block * width)) [
-      | inl h ↦ inl ((r.0.0, h), r.1)
-      | inr h ↦ (let inside : Within (first + block * width) width i = (h, omega (arith, r.0.1, next)) in
-          inr (inside, (Decides-eqb (bit_at word (i - (first + block * width))) 1).0 (word_tells word label block first width i tells narrow whole inside ∙ r.1)))
-    ])
+more_letters first block width word label s i tells narrow whole = grind (arith, nat_tests, decides_letter first (block * width) label i, decides_bit (first + block * width) width word i, decides_letter first ((block + 1) * width) label i, Decides-eqb (bit_at word (i - (first + block * width))) 1, before_or_behind i (first + block * width))
 
 -- a word without bits gives nothing
 pub empty_word : (first width : ℕ) (s : Step) (i : ℕ) → at_word first width 0 s i ≡ []
-empty_word first width s i = when_none (within first width i && (bit_at 0 (i - first) == 1)) s (AtBit first width 0 i) (decides_bit first width 0 i) (λ p. none_set (i - first) p.1)
-  where
-    none_set : (j : ℕ) → bit_at 0 j ≡ 1 → ⊥
-    none_set j e = omega (arith, sym (bit_at-zero j) ∙ e)
+empty_word first width s i = grind (arith, nat_tests, decides_bit first width 0 i)
 
 -- ---- edges
 
@@ -157,15 +110,10 @@ abbrev pub line_of : ℕ → List ℕ → List KeptEdge → KeptLine
 line_of state own edges = record { state = state; sets = own; edges = edges }
 
 at_row : (letters state i : ℕ) → 0 < letters → i / letters ≡ state → Within (state * letters) letters i × (i - state * letters ≡ i % letters)
-at_row letters state i h e =
-    let whole : state * letters + i % letters ≡ i = ap (λ q. q * letters + i % letters) (sym e) ∙ div-add-mod' i letters in
-    let small = mod_below i letters h in
-    ((omega (arith, whole), omega (arith, whole, small)), omega (arith, whole))
+at_row letters state i h e = grind (arith, nat_tests, div-add-mod' i letters, mod_below i letters h)
 
 row_at : (letters state i : ℕ) → Within (state * letters) letters i → i / letters ≡ state
-row_at letters state i h =
-    let whole : state * letters + (i - state * letters) ≡ i = omega (arith, h.0) in
-    ap (λ i. i / letters) (sym whole) ∙ div-mul-add state letters (i - state * letters) (omega (arith, h.0, h.1))
+row_at letters state i h = grind (arith, nat_tests)
 
 -- the slots of a state, by its letters
 letters_at : (letters state i : ℕ) (own : List ℕ) (e : KeptEdge) → 0 < letters → at_letters (state * letters) letters e.label (edge_step own e) i ≡ when (state == i / letters && says_at (i % letters) e) (edge_step own e)
@@ -193,28 +141,18 @@ more_edges letters state own edges e i h = ap (λ l. at_line letters (line_of st
     by_state false = refl
 
 pub more_items : {A B : Type 0} (f : A → B) (xs : List A) (i : ℕ) (x : A) → i < length xs → x ≡ get_or xs i x → map f (take i xs) ++ (f x ∷ []) ≡ map f (take (i + 1) xs)
-more_items f xs i x h is =
-    sym (ap (map f) (take_more xs i x h) ∙ map-append f (take i xs) (get_or xs i x ∷ []) ∙ ap (λ y. map f (take i xs) ++ (f y ∷ [])) (sym is))
+more_items f xs i x h is = grind (arith, nat_tests, take_more xs i x h, map-append f (take i xs) (get_or xs i x ∷ []))
 
 -- an edge as it is given, with its sets put into those of the state
 pub edge_added : (letters state first : ℕ) (own : List ℕ) (edges more : List KeptEdge) (e : KeptEdge) (label : List Op) (sets : List ℕ) (i : ℕ) → 0 < letters → first ≡ state * letters → label ≡ e.label → sets ≡ rising (own ++ e.sets) → edges ++ (e ∷ []) ≡ more → at_line letters (line_of state own edges) i ++ at_letters first letters label (step e.target sets) i ≡ at_line letters (line_of state own more) i
-edge_added letters state first own edges more e label sets i h a b c d =
-    ap (λ f. at_line letters (line_of state own edges) i ++ at_letters f letters label (step e.target sets) i) a
-    ∙ ap (λ l. at_line letters (line_of state own edges) i ++ at_letters (state * letters) letters l (step e.target sets) i) b
-    ∙ ap (λ l. at_line letters (line_of state own edges) i ++ at_letters (state * letters) letters e.label (step e.target l) i) c
-    ∙ more_edges letters state own edges e i h ∙ ap (λ l. at_line letters (line_of state own l) i) d
+edge_added letters state first own edges more e label sets i h a b c d = grind (arith, nat_tests, more_edges letters state own edges e i h)
 
 -- ---- an edge that says what an earlier one says
 
 has_kept : (own : List ℕ) (test : KeptEdge → Bool) (edges : List KeptEdge) (k : ℕ) (e : KeptEdge) → k < length edges → get_or edges k e ≡ e → test e ≡ true → Has (edge_step own e) (map (edge_step own) (filter test edges))
 has_kept own test [] k e h is holds = absurd (omega arith)
-has_kept own test (x ∷ edges) zero e h is holds =
-    let passes : test x ≡ true = ap test is ∙ holds in rw passes (inl (ap (edge_step own) is))
-has_kept own test (x ∷ edges) (suc k) e h is holds = behind (test x) (has_kept own test edges k e (omega arith) is holds)
-  where
-    behind : (b : Bool) → Has (edge_step own e) (map (edge_step own) (filter test edges)) → Has (edge_step own e) (map (edge_step own) (cond b (x ∷ filter test edges) (filter test edges)))
-    behind true rest = inr rest
-    behind false rest = rest
+has_kept own test (x ∷ edges) zero e h is holds = grind (arith, nat_tests)
+has_kept own test (x ∷ edges) (suc k) e h is holds = grind (arith, nat_tests, has_kept own test edges k e (omega arith) is holds)
 
 pub edge_repeated : (shape : Shape) (letters state : ℕ) (own : List ℕ) (edges more : List KeptEdge) (e : KeptEdge) (k : ℕ) (t u : Stage) → 0 < letters → k < length edges → get_or edges k e ≡ e → edges ++ (e ∷ []) ≡ more
     → Adds shape (at_line letters (line_of state own edges)) t u → Adds shape (at_line letters (line_of state own more)) t u

@@ -18,16 +18,10 @@ below_two P p q (suc zero) h = q
 below_two P p q (suc (suc a)) h = absurd (omega arith)
 
 both_bits : (a b : ℕ) → a < 2 → b < 2 → (min a b == 1) ≡ ((a == 1) && (b == 1))
-both_bits a b h k =
-    below_two (λ a. (min a b == 1) ≡ ((a == 1) && (b == 1)))
-    (below_two (λ b. (min 0 b == 1) ≡ ((0 == 1) && (b == 1))) refl refl b k)
-    (below_two (λ b. (min 1 b == 1) ≡ ((1 == 1) && (b == 1))) refl refl b k) a h
+both_bits a b h k = grind (arith, nat_tests)
 
 either_bits : (a b : ℕ) → a < 2 → b < 2 → (max a b == 1) ≡ ((a == 1) || (b == 1))
-either_bits a b h k =
-    below_two (λ a. (max a b == 1) ≡ ((a == 1) || (b == 1)))
-    (below_two (λ b. (max 0 b == 1) ≡ ((0 == 1) || (b == 1))) refl refl b k)
-    (below_two (λ b. (max 1 b == 1) ≡ ((1 == 1) || (b == 1))) refl refl b k) a h
+either_bits a b h k = grind (arith, nat_tests)
 
 not_bit : (a : ℕ) → a < 2 → (1 - a == 1) ≡ cond (a == 1) false true
 not_bit a h = below_two (λ a. (1 - a == 1) ≡ cond (a == 1) false true) refl refl a h

@@ -1,5 +1,6 @@
 -- Token by token through a formula.
 use Rattle.std.proofs.Common.{◌≡◌, ℕ, suc, zero, ◌+◌, true, false, List, [], ◌∷◌, ◌++◌, Option, Some, None, refl, sym, ap, arith, append_assoc}
+use Rattle.std.proofs.lemmas.Bool.Decides.{nat_tests}
 use Rattle.pg_hoa.specs.declared.fault.Refusal.{Refusal}
 use Rattle.pg_hoa.specs.declared.fault.Refusal.TheVariants.{Memory, Wrong}
 use Rattle.pg_hoa.specs.declared.formula.Kind.{Kind}
@@ -13,7 +14,7 @@ use Rattle.pg_hoa.specs.Lexemes.{Lexeme, stray}
 use Rattle.pg_hoa.specs.Mirrors.Scan.{first}
 use Rattle.pg_hoa.specs.Mirrors.Steps.{◌>>=◌, Fails}
 use Rattle.pg_hoa.specs.Mirrors.FormulaRun.{Kept, not_ops, mode_goes_on, goes_on_at, mode_turn, operand_turn, operator_turn, opening_turn, naming_turn, closing_turn, turn_at, over_at, ops_from}
-use Rattle.pg_hoa.proofs.Steps.{some_is, none_is_some}
+use Rattle.pg_lists.proofs.Steps.{some_is, none_is_some}
 
 nots_more : (n : ℕ) → not_ops n ++ (Not ∷ []) ≡ not_ops (suc n)
 nots_more zero = refl
@@ -32,11 +33,7 @@ first_end (t ∷ ts) rest e = absurd (none_is_some t (sym (ap (λ (p : Option Le
 pub first_token : (ts : List Lexeme) (t : Lexeme) (rest : List Lexeme) → first ts ≡ Some (Some t, rest) → ts ≡ t ∷ rest
 first_token [] t rest e = absurd (none_is_some t (ap (λ (p : Option Lexeme × List Lexeme). p.0) (some_is (None, []) (Some t, rest) e)))
 first_token (stray ∷ ts) t rest e = absurd cc
-first_token (u ∷ ts) t rest e =
-    let p = some_is (Some u, ts) (Some t, rest) e in
-    let a : u ≡ t = some_is u t (ap (λ (p : Option Lexeme × List Lexeme). p.0) p) in
-    let b : ts ≡ rest = ap (λ (p : Option Lexeme × List Lexeme). p.1) p in
-    cc
+first_token (u ∷ ts) t rest e = grind (arith, nat_tests, some_is (Some u, ts) (Some t, rest) e)
 
 -- ---- the loop
 
@@ -55,8 +52,7 @@ stray_turn (Condition n) r Operand = refl
 stray_turn k r (Opening b) = refl
 stray_turn (Label n) r (Naming b) = refl
 stray_turn (Condition n) r (Naming b) = refl
-stray_turn k r (Closing op) = refl
-stray_turn k r Operator = refl
+stray_turn k r _ = refl
 
 pub first_none : (k : Kind) (r : Kept) (ts : List Lexeme) → first ts ≡ None → ops_from k r ts ≡ None
 unfolding ops_from goes_on_at turn_at

@@ -1,8 +1,9 @@
 -- What an automaton text is, by tokens, and the automaton that it spells.
-use Rattle.std.specs.Prelude.{◌≡◌, ◌≢◌, ℕ, suc, ◌*◌, ◌^◌, ◌<◌, ◌≤◌, true, ◌||◌, ◌==◌, nat_lt, nat_le, max, List, [], ◌∷◌, ◌++◌, length, map, Option, Some, None, codes, if◌then◌else◌, get_or, Contains}
+use Rattle.std.specs.Prelude.{◌≡◌, ◌≢◌, ℕ, suc, ◌*◌, ◌^◌, ◌<◌, ◌≤◌, true, ◌||◌, ◌==◌, nat_le, max, List, [], ◌∷◌, ◌++◌, length, map, Option, Some, None, codes, if◌then◌else◌, get_or, Contains}
 use Rattle.std.specs.List.{fold, flat_map, filter, list_any, AllByRecursion, All, range_with_len}
 use Rattle.std.specs.Int.{bit_at}
 use Rattle.pg_hoa.specs.Lexemes.{Lexeme, number, identifier, header, string, body, end, left_bracket, right_bracket, left_brace, right_brace, Character, plain, escaped, Spells}
+use Rattle.pg_lists.specs.Rising.{rising}
 use Rattle.pg_hoa.specs.declared.formula.Kind.TheVariants.{Label, Condition}
 use Rattle.pg_hoa.specs.Formulas.{Formula, IsWritten, formula_lexemes, holds}
 use Rattle.pg_hoa.specs.Shapes.{HasShape}
@@ -112,15 +113,6 @@ pub record IsText (bytes : List ℕ) (w : Written) : Type 0 where
 abbrev pub set_list : Option (List ℕ) → List ℕ
 set_list None = []
 set_list (Some sets) = sets
-
-abbrev pub put : ℕ → List ℕ → List ℕ
-put n [] = n ∷ []
-put n (m ∷ ms) = if nat_lt n m then n ∷ m ∷ ms else (if n == m then m ∷ ms else m ∷ put n ms)
-
--- each number once, the least first
-abbrev pub rising : List ℕ → List ℕ
-rising [] = []
-rising (n ∷ ns) = put n (rising ns)
 
 -- each backslash before another byte is taken away
 abbrev pub character_code : Character → ℕ

@@ -21,7 +21,7 @@ pub struct Edge {
 
 /// A state as it is read: its number, its own sets, and the edges that leave it.
 #[derive(Drop)]
-pub struct Line {
+pub struct ReadState {
     pub state: u32,
     pub sets: Vec<u32>,
     pub edges: Vec<Edge>,
@@ -247,7 +247,7 @@ fn read_line<'a>(
     ranges: Ranges,
     seen: &[bool],
     bytes: &'a [u8],
-) -> Result<(Line, &'a [u8]), Refusal>
+) -> Result<(ReadState, &'a [u8]), Refusal>
     requires few { ranges.states ≤ 65535 }
     requires all { length seen.now ≡ ranges.states }
     ensures value { Gives (λ x. (kept_line x.0, lex x.1.now)) result
@@ -260,7 +260,7 @@ fn read_line<'a>(
     let rest = behind_name(rest)?;
     let (sets, rest) = sets_if(alloc, ranges.sets, rest)?;
     let (edges, rest) = read_edges(alloc, ranges, rest)?;
-    Ok((Line { state, sets, edges }, rest))
+    Ok((ReadState { state, sets, edges }, rest))
 }
 
 /// Whether a line begins. Else the body ends there.
@@ -282,7 +282,11 @@ fn begins_line(token: Token<'_>, left: usize) -> Result<bool, Refusal>
 }
 
 /// Behind `--BODY--`: the lines in their order, and the bytes behind `--END--`.
-pub fn read_body(alloc: Global, ranges: Ranges, bytes: &[u8]) -> Result<(Vec<Line>, &[u8]), Refusal>
+pub fn read_body(
+    alloc: Global,
+    ranges: Ranges,
+    bytes: &[u8],
+) -> Result<(Vec<ReadState>, &[u8]), Refusal>
     requires { ranges.states ≤ 65535 }
     ensures { Gives (λ x. (map kept_line x.0.items, lex x.1.now)) result
         (body_at ranges.states ranges.propositions ranges.sets (lex bytes.now)) }

@@ -9,7 +9,7 @@ ghost use Rattle.pg_hoa.specs.Mirrors.Settling.{settled as said, nothing_at};
 ghost use Rattle.pg_hoa.specs.Mirrors.Readings.{bound, kept_states, Reads, NeverReads, CanAssemble, Assembles, NeverAssembles};
 
 use crate::automaton::Automaton;
-use crate::body::{Line, Ranges, read_body};
+use crate::body::{Ranges, ReadState, read_body};
 use crate::fault::{HoaFault, LeftOutName, PartFault, Refusal};
 use crate::header::read_headers;
 use crate::settle::{Settled, settle};
@@ -38,7 +38,7 @@ pub fn read_automaton(alloc: Global, bytes: &[u8]) -> Result<Automaton, HoaFault
 }
 
 /// What the headers of a text say, and its lines.
-fn parts(alloc: Global, bytes: &[u8]) -> Result<(Settled, Vec<Line>), Refusal>
+fn parts(alloc: Global, bytes: &[u8]) -> Result<(Settled, Vec<ReadState>), Refusal>
     ensures found { IfOk result (λ x. (h : KeptHead) × Reads (lex bytes.now) h (said x.0) (map kept_line x.1.items)) }
     ensures refused { IfErr result (NeverReads (lex bytes.now)) }
 {
@@ -79,7 +79,7 @@ fn end(bytes: &[u8]) -> Result<(), Refusal>
 }
 
 /// How many states there are: so many as the headers say, or else one more than the greatest number that is named.
-fn states_of(settled: &Settled, lines: &[Line]) -> u32
+fn states_of(settled: &Settled, lines: &[ReadState]) -> u32
     ensures { kept_states (said settled.now) (map kept_line lines.now) < 2 ^ 32
         → result ≡ kept_states (said settled.now) (map kept_line lines.now) }
 {
@@ -98,7 +98,7 @@ fn are_few(states: u32, propositions: u32) -> bool
 }
 
 /// The automaton that headers and lines say, if it is small enough and deterministic.
-fn assembled(alloc: Global, settled: Settled, lines: &[Line]) -> Result<Automaton, HoaFault>
+fn assembled(alloc: Global, settled: Settled, lines: &[ReadState]) -> Result<Automaton, HoaFault>
     requires { CanAssemble (said settled) (map kept_line lines.now) }
     ensures found { IfOk result (Assembles (said settled) (map kept_line lines.now)) }
     ensures refused { IfErr result (NeverAssembles (said settled) (map kept_line lines.now)) }

@@ -3,11 +3,11 @@
 ghost use Rattle.std.specs.Prelude.{◌≡◌, ℕ, ◌+◌, ◌*◌, ◌^◌, ◌<◌, ◌≤◌, List, ◌++◌, map, length, get_or, max, slice_get, option_map, Some, IfSome, IfOk, OnOk, IfErr};
 ghost use Rattle.std.specs.List.{All, fold};
 ghost use Rattle.pg_hoa.specs.Automata.{deciding, step};
-ghost use Rattle.pg_hoa.specs.AutomatonText.{rising};
+ghost use Rattle.pg_lists.specs.Rising.{rising};
 ghost use Rattle.pg_hoa.specs.Mirrors.Kept.{kept_line};
 ghost use Rattle.pg_hoa.specs.Mirrors.Tables.{way_step, IsDecided, with_set, same_set, agree, Extends, IsSplit, numbered, next, stage, MayNumber, Adds, at_slot, at_word, at_letters, at_line, IsTableOf, IsConflictOf, kept_numbers, kept_count};
 
-use crate::body::Line;
+use crate::body::ReadState;
 use crate::fault::Conflict;
 use crate::formula::Op;
 use crate::needs::{Stacks, bits_of, fitting_word};
@@ -307,7 +307,7 @@ fn add_line(
     stacks: &mut Stacks,
     shape: Shape,
     propositions: u32,
-    line: &Line,
+    line: &ReadState,
 ) -> Result<(), AllocError>
     requires few { propositions ≤ 16 }
     requires within { line.now.state * 2 ^ propositions + 2 ^ propositions ≤ length filling.old.slots.items }
@@ -349,7 +349,7 @@ pub fn table_of(
     shape: Shape,
     states: u32,
     propositions: u32,
-    lines: &[Line],
+    lines: &[ReadState],
 ) -> Result<Table, Conflict>
     requires few_states { states ≤ 65535 }
     requires few_propositions { propositions ≤ 16 }
@@ -389,7 +389,7 @@ pub fn table_of(
 }
 
 /// One more than the greatest of the number and the states that the lines name, if it is below 2^32.
-pub fn states_named(lines: &[Line], start: u32) -> u32
+pub fn states_named(lines: &[ReadState], start: u32) -> u32
     ensures { kept_count start (map kept_line lines.now) < 2 ^ 32
         → result ≡ kept_count start (map kept_line lines.now) }
 {
@@ -401,7 +401,7 @@ pub fn states_named(lines: &[Line], start: u32) -> u32
 }
 
 /// The greatest of the number and the states that the line names.
-fn greatest_of(line: &Line, number: u32) -> u32
+fn greatest_of(line: &ReadState, number: u32) -> u32
     ensures { result ≡ fold max number (kept_numbers (kept_line line.now)) }
 {
     let mut greatest = number.max(line.state);

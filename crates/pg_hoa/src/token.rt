@@ -2,7 +2,8 @@
 
 ghost use Rattle.std.specs.Prelude.{◌≡◌, ◌<◌, ◌^◌, ◌≤◌, length, SomeIff, IfSome, option_map};
 ghost use Rattle.std.specs.List.{prefix_len};
-ghost use Rattle.pg_hoa.specs.Lexemes.{is_space, is_digit, is_letter, is_inner, value_of};
+ghost use Rattle.pg_hoa.specs.Lexemes.{is_space, is_letter, is_inner};
+ghost use Rattle.pg_lists.specs.Bytes.{is_digit, value_of};
 ghost use Rattle.pg_hoa.specs.Mirrors.Steps.{Gives};
 ghost use Rattle.pg_hoa.specs.Mirrors.Scan.{lexeme, gap_from, gap_step, number_at, name_at, character_at, string_len, string_at, alias_at, mark_at, sign_at, solid_at, lex, first};
 
@@ -89,7 +90,7 @@ fn value_of(digits: &[u8]) -> Option<u32>
 }
 
 /// The number whose digits stand in front, and what follows.
-#[tactic(auto, using(crate::proofs::Runs::run_within), unfolding(crate::specs::Mirrors::Scan::number_at))]
+#[tactic(auto, using(pg_lists::proofs::Runs::run_within), unfolding(crate::specs::Mirrors::Scan::number_at))]
 fn number(bytes: &[u8]) -> Result<(Token<'_>, &[u8]), Refusal>
     ensures { Gives (λ x. (lexeme x.0, x.1.now)) result (number_at bytes.now) }
 {
@@ -101,7 +102,7 @@ fn number(bytes: &[u8]) -> Result<(Token<'_>, &[u8]), Refusal>
 }
 
 /// The identifier in front, or the header name with its colon, and what follows.
-#[tactic(auto, using(crate::proofs::Runs::run_within), unfolding(crate::specs::Mirrors::Scan::name_at))]
+#[tactic(auto, using(pg_lists::proofs::Runs::run_within), unfolding(crate::specs::Mirrors::Scan::name_at))]
 fn name(bytes: &[u8]) -> Result<(Token<'_>, &[u8]), Refusal>
     ensures { Gives (λ x. (lexeme x.0, x.1.now)) result (name_at bytes.now) }
 {
@@ -113,7 +114,7 @@ fn name(bytes: &[u8]) -> Result<(Token<'_>, &[u8]), Refusal>
 }
 
 /// The alias whose `@` stands in front of `bytes`, with `left` bytes left from the `@` on, and what follows.
-#[tactic(auto, using(crate::proofs::Runs::run_within), unfolding(crate::specs::Mirrors::Scan::alias_at))]
+#[tactic(auto, using(pg_lists::proofs::Runs::run_within), unfolding(crate::specs::Mirrors::Scan::alias_at))]
 fn alias(bytes: &[u8], left: usize) -> Result<(Token<'_>, &[u8]), Refusal>
     ensures { Gives (λ x. (lexeme x.0, x.1.now)) result (alias_at bytes.now) }
 {

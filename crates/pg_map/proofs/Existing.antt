@@ -1,5 +1,6 @@
 -- There is a least progress measure: lifts from zeros come to an end.
 use Rattle.std.proofs.Common.{◌≡◌, ℕ, zero, suc, ◌+◌, ◌<◌, ◌≤◌, Some, None, List, length, take, get_or, set, refl, ap, sym, ◌∙◌, ◌⊎◌, inl, inr, arith, subst}
+use Rattle.std.proofs.lemmas.Bool.Decides.{nat_tests}
 use Rattle.std.specs.Prelude.{All, Option, IsSome, nat_le}
 use Rattle.std.proofs.lemmas.Bool.{cases_lt, cases_eq}
 use Rattle.std.proofs.lemmas.List.{get_or_default, get_or-set_same}
@@ -60,9 +61,7 @@ best_upto o front f ss some (suc i) le = go (best_upto o front f ss some i (omeg
         ]
 
 best_successor : (o : Player) (front : ℕ) (f : List MeasureValue) (ss : List ℕ) → 0 < length ss → (w : ℕ) × IsBest o front f ss w
-best_successor o front f ss some =
-    let found = best_upto o front f ss some (length ss) (omega arith) in
-    (found.0, record { among = found.1.among; best = λ k d l. found.1.best k d l })
+best_successor o front f ss some = grind (arith, nat_tests, best_upto o front f ss some (length ss) (omega arith))
 
 module _ (bs : BoundList) (lines : ℕ → Option Line) (n : ℕ) (within : AreWithin n lines) where
   -- the least measure that serves a vertex

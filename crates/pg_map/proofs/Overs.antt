@@ -1,11 +1,11 @@
 -- A lift over the best successor.
-use Rattle.std.proofs.Common.{◌≡◌, ℕ, ◌<◌, Bool, true, false, Some, None, List, get_or, set, take, refl, arith, inl, inr, subst}
-use Rattle.std.specs.Prelude.{Option, IsSome}
+use Rattle.std.proofs.Common.{◌≡◌, ℕ, Bool, true, false, Some, None, List, set, take, refl, inl, inr}
+use Rattle.std.specs.Prelude.{Option}
 use Rattle.pg_arena.specs.declared.player.Player.{Player}
 use Rattle.pg_measure.specs.Measures.{BoundList, MeasureValue, CoversFront, is_odd, width_from}
 use Rattle.pg_measure.specs.Mirrors.Rows.{MissesFront, IsLeastCover}
 use Rattle.pg_measure.proofs.Order.{below_or}
-use Rattle.pg_map.specs.Lines.{Line, AreWithin, line_at}
+use Rattle.pg_map.specs.Lines.{Line, line_at}
 use Rattle.pg_map.specs.Maps.{measure_at, IsServed, IsServedBy, IsLifted}
 use Rattle.pg_map.specs.Mirrors.Tables.{IsBest}
 use Rattle.pg_map.proofs.Lifts.{best_serves, lifted_by_step, lifted_line}
@@ -30,11 +30,3 @@ lifted_best bs ks lines f g v w p front o ss ep eo es ek ef best un c others =
     let l = line_at lines v in
     let best' : IsBest l.owner (width_from bs l.priority) f l.successors w = rw (ef, ek, ep, eo, es) at best in
     lifted_over bs ks lines f g v w p front ep ek ef best' (λ h. un (best_serves l.owner (is_odd l.priority) (width_from bs l.priority) f l.successors w (measure_at f v) best' h)) c others
-
-pub best_below : (lines : ℕ → Option Line) (bs : BoundList) (f : List MeasureValue) (v w n count : ℕ) → IsSome (lines v) → AreWithin n lines → IsBest (line_at lines v).owner (width_from bs (line_at lines v).priority) f (line_at lines v).successors w → n ≡ count → w < count
-best_below lines bs f v w n count h a best e =
-    let i = best.among in
-    let k : get_or (line_at lines v).successors i.0 i.1 < n = a.successors v h i.0 i.1 i.2 in
-    let p : i.1 < n = subst (λ (u : ℕ). u < n) i.3 k in
-    let q : w < n = subst (λ (u : ℕ). u < n) i.4 p in
-    omega arith

@@ -1,5 +1,6 @@
 -- Rows of which each vertex has one.
-use Rattle.std.proofs.Common.{◌≡◌, ℕ, ◌+◌, ◌-◌, ◌<◌, ◌^◌, Some, length, replicate, ap, ◌∙◌, arith}
+use Rattle.std.proofs.Common.{◌≡◌, ℕ, ◌+◌, ◌-◌, ◌<◌, ◌^◌, Some, length, replicate, arith}
+use Rattle.std.proofs.lemmas.Bool.Decides.{nat_tests}
 use Rattle.std.proofs.lemmas.List.{length-replicate}
 use Rattle.std.proofs.lemmas.List.Elements.{All-replicate}
 use Rattle.pg_measure.specs.Measures.{BoundList, Fits, zeros}
@@ -9,12 +10,4 @@ use Rattle.pg_map.specs.Mirrors.Tables.{RowsValue, AreOwn}
 -- rows of zeros
 pub own_zero : (bs : BoundList) (rows : RowsValue) (n w : ℕ) → w ≡ length bs + 1 → rows.width ≡ w → n < 2 ^ 32
     → rows.measures ≡ replicate n (Some (replicate (w - 1) 0)) → AreOwn bs rows
-own_zero bs rows n w e ew l g =
-    let z : w - 1 ≡ length bs = omega arith in
-    let g' : rows.measures ≡ replicate n (zeros bs) = rw z at g in
-    let k : length rows.measures ≡ n = ap length g' ∙ length-replicate n (zeros bs) in
-    record {
-      width_is = ew ∙ e;
-      fits = rw g' (All-replicate (Fits bs) n (zeros bs) (zeros_fit bs));
-      numbered = omega arith;
-    }
+own_zero bs rows n w e ew l g = grind (arith, nat_tests, length-replicate n (zeros bs), All-replicate (Fits bs) n (zeros bs) (zeros_fit bs))

@@ -1,18 +1,15 @@
 -- Places of rows: what the places of vertices show, and what a write leaves.
 use Rattle.std.proofs.Common.{◌≡◌, ◌≢◌, ℕ, zero, suc, ◌+◌, ◌<◌, ◌≤◌, Bool, Some, None, List, [], ◌∷◌, ◌++◌, ◌-◌, ◌^◌, length, get_or, set, map, replicate, refl, ap, sym, ◌∙◌, ◌⊎◌, inl, inr, arith, subst}
+use Rattle.std.proofs.lemmas.Bool.Decides.{nat_tests}
 use Rattle.std.proofs.lemmas.Bool.{cases_eq}
 use Rattle.std.proofs.lemmas.List.{get_or_default, get_or_append_left, length_push, length-map, length-set, length-replicate, get_or-replicate, get_or-map, map-set, get_or-set_same, get_or-set_other, ext_get_or}
 use Rattle.std.proofs.lemmas.List.Elements.{All-set, All-push}
 use Rattle.std.specs.Prelude.{All}
-use Rattle.pg_measure.specs.Measures.{BoundList, MeasureValue, Fits, AtMost, CoversFront, zeros}
+use Rattle.pg_measure.specs.Measures.{BoundList, MeasureValue, Fits, zeros}
 use Rattle.pg_measure.proofs.Rows.{zeros_fit}
 use Rattle.pg_measure.specs.Mirrors.Rows.{IsLeastCover}
 use Rattle.pg_map.specs.Maps.{MapValue, measure_at, IsMap}
 use Rattle.pg_map.specs.Mirrors.Tables.{RowsValue, vacant, placed, ArePlaces, IsTable}
-
-top_least : (strict : Bool) (k : ℕ) (n : MeasureValue) → CoversFront strict k n None → AtMost None n
-top_least strict k None h = tt
-top_least strict k (Some xs) h = absurd h
 
 -- the measure at a place
 pub measure_placed : (rows : List MeasureValue) (places : List ℕ) (v : ℕ) → v < length places → measure_at (placed rows places) v ≡ measure_at rows (get_or places v 0)
@@ -158,27 +155,14 @@ inside_at bs rows after places v p u m h s w l (inl e) = rw (e, get_or-set_same 
 inside_at bs rows after places v p u m h s w l (inr n) = rw (get_or-set_other places v u p 0 n) (let i = s.inside u l in let j = w.longer in omega arith)
 
 lists_at : (bs : BoundList) (rows after : List MeasureValue) (places : List ℕ) (v p u : ℕ) (m : MeasureValue) → v < length places → ArePlaces bs rows places → IsWritten rows after places v p m → u < length places → measure_at after (get_or (set places v p) u 0) ≡ None → (u ≡ v) ⊎ (u ≢ v) → get_or (set places v p) u 0 ≡ 1
-lists_at bs rows after places v p u m h s w l t (inl e) =
-    let k : get_or (set places v p) u 0 ≡ p = rw e (get_or-set_same places v p 0 h) in
-    k ∙ w.top (sym w.here ∙ (ap (measure_at after) (sym k) ∙ t))
-lists_at bs rows after places v p u m h s w l t (inr n) =
-    let k : get_or (set places v p) u 0 ≡ get_or places u 0 = get_or-set_other places v u p 0 n in
-    k ∙ s.lists u l (sym (kept_other bs rows after places v p u m h l n s w) ∙ (ap (measure_at after) (sym k) ∙ t))
+lists_at bs rows after places v p u m h s w l t (inl e) = grind (arith, nat_tests, get_or-set_same places v p 0 h)
+lists_at bs rows after places v p u m h s w l t (inr n) = grind (arith, nat_tests, get_or-set_other places v u p 0 n, kept_other bs rows after places v p u m h l n s w)
 
 own_at : (bs : BoundList) (rows after : List MeasureValue) (places : List ℕ) (v p a b : ℕ) (m : MeasureValue) → v < length places → ArePlaces bs rows places → IsWritten rows after places v p m → a < length places → b < length places → 2 ≤ get_or (set places v p) a 0 → get_or (set places v p) a 0 ≡ get_or (set places v p) b 0 → (a ≡ v) ⊎ (a ≢ v) → (b ≡ v) ⊎ (b ≢ v) → a ≡ b
 own_at bs rows after places v p a b m h s w l k t e (inl i) (inl j) = i ∙ sym j
-own_at bs rows after places v p a b m h s w l k t e (inl i) (inr j) =
-    let x : get_or (set places v p) a 0 ≡ p = rw i (get_or-set_same places v p 0 h) in
-    let y : get_or (set places v p) b 0 ≡ get_or places b 0 = get_or-set_other places v b p 0 j in
-    absurd (j (w.mine (omega arith) b k (sym y ∙ (sym e ∙ x))))
-own_at bs rows after places v p a b m h s w l k t e (inr i) (inl j) =
-    let x : get_or (set places v p) b 0 ≡ p = rw j (get_or-set_same places v p 0 h) in
-    let y : get_or (set places v p) a 0 ≡ get_or places a 0 = get_or-set_other places v a p 0 i in
-    absurd (i (w.mine (omega arith) a l (sym y ∙ (e ∙ x))))
-own_at bs rows after places v p a b m h s w l k t e (inr i) (inr j) =
-    let x : get_or (set places v p) b 0 ≡ get_or places b 0 = get_or-set_other places v b p 0 j in
-    let y : get_or (set places v p) a 0 ≡ get_or places a 0 = get_or-set_other places v a p 0 i in
-    s.own a b l k (omega arith) (sym y ∙ (e ∙ x))
+own_at bs rows after places v p a b m h s w l k t e (inl i) (inr j) = grind (arith, nat_tests, get_or-set_same places v p 0 h, get_or-set_other places v b p 0 j)
+own_at bs rows after places v p a b m h s w l k t e (inr i) (inl j) = grind (arith, nat_tests, get_or-set_same places v p 0 h, get_or-set_other places v a p 0 i)
+own_at bs rows after places v p a b m h s w l k t e (inr i) (inr j) = grind (arith, nat_tests, get_or-set_other places v b p 0 j, get_or-set_other places v a p 0 i)
 
 written_places : (bs : BoundList) (rows after : List MeasureValue) (places : List ℕ) (v p : ℕ) (m : MeasureValue) → v < length places → ArePlaces bs rows places → All (Fits bs) after → IsWritten rows after places v p m → ArePlaces bs after (set places v p)
 written_places bs rows after places v p m h s f w =
@@ -199,9 +183,7 @@ view_at bs rows after places v p u m h s w l (inl e) =
     let i : v < length (placed after places) = let n = length-map places (measure_at after) in omega arith in
     let j : v < length (placed rows places) = let n = length-map places (measure_at rows) in omega arith in
     rw (e, get_or-set_same (placed after places) v (measure_at after p) None i, get_or-set_same (placed rows places) v m None j) w.here
-view_at bs rows after places v p u m h s w l (inr n) =
-    rw (get_or-set_other (placed after places) v u (measure_at after p) None n, get_or-set_other (placed rows places) v u m None n)
-    (measure_placed after places u l ∙ (kept_other bs rows after places v p u m h l n s w ∙ sym (measure_placed rows places u l)))
+view_at bs rows after places v p u m h s w l (inr n) = grind (arith, nat_tests, get_or-set_other (placed after places) v u (measure_at after p) None n, get_or-set_other (placed rows places) v u m None n, measure_placed after places u l, kept_other bs rows after places v p u m h l n s w, measure_placed rows places u l)
 
 written_view : (bs : BoundList) (rows after : List MeasureValue) (places : List ℕ) (v p : ℕ) (m : MeasureValue) → v < length places → ArePlaces bs rows places → IsWritten rows after places v p m → placed after (set places v p) ≡ set (placed rows places) v m
 written_view bs rows after places v p m h s w =
@@ -232,9 +214,7 @@ put_is bs rows after places next f v m e h t w =
     }
 
 top_written : (bs : BoundList) (rows : List MeasureValue) (places : List ℕ) (v : ℕ) → ArePlaces bs rows places → IsWritten rows rows places v 1 None
-top_written bs rows places v s =
-    let t = s.two in
-    record { longer = omega arith; kept = λ q l k. refl; inside = omega arith; here = s.top; mine = λ l. absurd (omega arith); top = λ e. refl }
+top_written bs rows places v s = grind (arith, nat_tests)
 
 left_top : (rows : List MeasureValue) (places : List ℕ) (v room : ℕ) → v < length places → length rows + vacant places ≤ room → (get_or places v 0 ≡ 0) ⊎ (get_or places v 0 ≢ 0) → length rows + vacant (set places v 1) ≤ room
 left_top rows places v room h l (inl z) = let i = vacant_less places v 0 h z in omega arith
@@ -323,10 +303,6 @@ put_own bs rows more after places f v p r m d h t o ew er g e b =
     let fits : All (Fits bs) after.measures = rw e (All-set (Fits bs) more.measures p m g o.fits) in
     let table_is : IsTable bs after (set places v r) = record { width_is = ew ∙ t.width_is; shared = written_places bs rows.measures after.measures places v r m i t.shared fits w; left = omega arith; sized = rw (length-set, er) t.sized; numbered = omega arith } in
     put_is bs rows.measures after places (set places v r) f v m d h table_is (written_view bs rows.measures after.measures places v r m i t.shared w)
-
--- nothing but top covers top, and it is the least that does
-pub top_cover : (bs : BoundList) (strict : Bool) (k : ℕ) (m n : MeasureValue) → m ≡ None → n ≡ None → IsLeastCover bs strict k m n
-top_cover bs strict k m n e g = rw (e, g) record { fits = tt; covers = tt; least = λ o f h. top_least strict k o h }
 
 -- the least cover of a row is that of its vertex
 pub cover_of : (bs cs : BoundList) (strict : Bool) (k : ℕ) (a m b n : MeasureValue) → cs ≡ bs → a ≡ m → n ≡ b → IsLeastCover cs strict k a b → IsLeastCover bs strict k m n

@@ -1,6 +1,7 @@
 -- From a set of numbers that a step doesn't leave there is a cycle of steps; and where lists fall along a cycle, strictly at even
 -- priorities, its greatest priority is odd.
 use Rattle.std.proofs.Common.{◌≡◌, ℕ, zero, suc, ◌+◌, ◌%◌, ◌<◌, ◌≤◌, ◌⊎◌, inl, inr, true, cond, List, [], ◌∷◌, ◌++◌, length, map, get_or, arith, subst, refl}
+use Rattle.std.proofs.lemmas.Bool.Decides.{nat_tests}
 use Rattle.std.specs.List.{count_by, All, Contains}
 use Rattle.std.proofs.lemmas.Bool.{cases_lt}
 use Rattle.std.proofs.lemmas.List.Elements.{All-nil, All-cons, All-head, All-tail, All-map, All-weaker, All-contains}
@@ -140,11 +141,7 @@ occurs_raised met more p (x ∷ xs) raised (suc k) lt e =
 
 above_raised : (met more : ℕ → ℕ) (p : ℕ) (xs : List ℕ) → All (λ v. more v ≡ met v + 1) xs → All (λ v. met v ≤ p) xs → All (λ v. more v ≤ p + 1) xs
 above_raised met more p [] raised above = All-nil (λ v. more v ≤ p + 1)
-above_raised met more p (x ∷ xs) raised above =
-    let here : more x ≡ met x + 1 = All-head (λ v. more v ≡ met v + 1) x xs raised in
-    let le : met x ≤ p = All-head (λ v. met v ≤ p) x xs above in
-    All-cons (λ v. more v ≤ p + 1) x xs (omega arith)
-    (above_raised met more p xs (All-tail (λ v. more v ≡ met v + 1) x xs raised) (All-tail (λ v. met v ≤ p) x xs above))
+above_raised met more p (x ∷ xs) raised above = grind (arith, nat_tests)
 
 pub greatest_raised : (met more : ℕ → ℕ) (p : ℕ) (xs : List ℕ) → All (λ v. more v ≡ met v + 1) xs → IsGreatest p (map met xs)
     → IsGreatest (p + 1) (map more xs)

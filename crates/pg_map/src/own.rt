@@ -1,6 +1,6 @@
 //! Maps of few components, in which each vertex has a row of its own.
 
-use crate::rows::Rows;
+use crate::rows::RowTable;
 use crate::table::Table;
 use pg_measure::{Bounds, row};
 use std::alloc::{AllocError, Global};
@@ -10,7 +10,7 @@ use std::marker::Model;
 #[derive(Drop)]
 pub(crate) struct OwnRows {
     bounds: Bounds,
-    rows: Rows,
+    rows: RowTable,
 }
 
 impl Model for OwnRows {
@@ -28,7 +28,7 @@ impl Table for OwnRows {
     ghost map = { λ m. m };
 
     fn zero(alloc: Global, vertices: u32, bounds: Bounds) -> Result<OwnRows, AllocError> {
-        let rows = Rows::zeros(alloc, bounds.pairs().len() + 1, vertices as usize)?;
+        let rows = RowTable::zeros(alloc, bounds.pairs().len() + 1, vertices as usize)?;
         Ok(OwnRows { bounds, rows })
     }
 

@@ -13,14 +13,14 @@ use std::marker::Model;
 /// Rows of one width. Contracts see the measure in each, and how many there is room for: as long as there is room no
 /// call takes memory.
 #[derive(Drop)]
-pub(crate) struct Rows {
+pub(crate) struct RowTable {
     width: usize,
     count: usize,
     room: usize,
     cells: Vec<u32>,
 }
 
-impl Model for Rows {
+impl Model for RowTable {
     ghost use Rattle.pg_map.specs.Mirrors.Tables.{table, RowsValue, AreRows};
 
     ghost Value = { RowsValue };
@@ -30,10 +30,14 @@ impl Model for Rows {
     ghost invariant = { λ r. AreRows r.width r.count r.room r.cells.items r.cells.cap };
 }
 
-impl Rows {
+impl RowTable {
     /// A row of zeros and a row of top, with room for `room` rows. Refused only for want of memory, also where the
     /// size of the list can't be had.
-    pub(crate) fn with_room(alloc: Global, width: usize, room: usize) -> Result<Rows, AllocError>
+    pub(crate) fn with_room(
+        alloc: Global,
+        width: usize,
+        room: usize,
+    ) -> Result<RowTable, AllocError>
         requires { 0 < width }
         ensures width { IfOk result (λ r. r.width ≡ width) }
         ensures room { IfOk result (λ r. r.room ≡ room) }
@@ -48,7 +52,7 @@ impl Rows {
         let mut cells = Vec::with_capacity(alloc, size)?;
         cells.resize(shared, 0)?;
         cells[width] = 1;
-        Ok(Rows {
+        Ok(RowTable {
             width,
             count: 2,
             room,
@@ -58,7 +62,7 @@ impl Rows {
 
     /// So many rows of zeros, and no room for more. Refused only for want of memory, also where the size of the list can't
     /// be had.
-    pub(crate) fn zeros(alloc: Global, width: usize, count: usize) -> Result<Rows, AllocError>
+    pub(crate) fn zeros(alloc: Global, width: usize, count: usize) -> Result<RowTable, AllocError>
         requires { 0 < width }
         ensures width { IfOk result (λ r. r.width ≡ width) }
         ensures zeros { IfOk result (λ r. r.measures ≡ replicate count (Some (replicate (width - 1) 0))) }
@@ -67,7 +71,7 @@ impl Rows {
             return Err(AllocError);
         };
         let cells = vec![in alloc; 0; size]?;
-        Ok(Rows {
+        Ok(RowTable {
             width,
             count,
             room: count,

@@ -1,6 +1,6 @@
 //! Maps of many components, in which vertices may share rows.
 
-use crate::rows::Rows;
+use crate::rows::RowTable;
 use crate::table::Table;
 use pg_measure::{Bounds, row};
 use std::alloc::{AllocError, Global};
@@ -12,7 +12,7 @@ use std::marker::Model;
 pub(crate) struct SharedRows {
     bounds: Bounds,
     places: Vec<u32>,
-    rows: Rows,
+    rows: RowTable,
 }
 
 impl Model for SharedRows {
@@ -39,7 +39,7 @@ impl Table for SharedRows {
         let Some(last) = vertices.checked_add(1) else {
             return Err(AllocError);
         };
-        let rows = Rows::with_room(alloc, bounds.pairs().len() + 1, last as usize + 1)?;
+        let rows = RowTable::with_room(alloc, bounds.pairs().len() + 1, last as usize + 1)?;
         let places = vec![in alloc; ZERO; vertices as usize]?;
         Ok(SharedRows {
             bounds,

@@ -21,28 +21,6 @@ at_most_trans (x ∷ xs) (y ∷ ys) (z ∷ zs) (inl l) (inr m) = let e = m.0 in 
 at_most_trans (x ∷ xs) (y ∷ ys) (z ∷ zs) (inr l) (inl m) = let e = l.0 in inl (omega arith)
 at_most_trans (x ∷ xs) (y ∷ ys) (z ∷ zs) (inr l) (inr m) = inr (l.0 ∙ m.0, at_most_trans xs ys zs l.1 m.1)
 
-pub below_then : (xs ys zs : List ℕ) → ListBelow xs ys → ListAtMost ys zs → ListBelow xs zs
-below_then [] [] zs h k = absurd h
-below_then [] (y ∷ ys) [] h k = absurd k
-below_then [] (y ∷ ys) (z ∷ zs) h k = tt
-below_then (x ∷ xs) [] zs h k = absurd h
-below_then (x ∷ xs) (y ∷ ys) [] h k = absurd k
-below_then (x ∷ xs) (y ∷ ys) (z ∷ zs) (inl l) (inl m) = inl (omega arith)
-below_then (x ∷ xs) (y ∷ ys) (z ∷ zs) (inl l) (inr m) = let e = m.0 in inl (omega arith)
-below_then (x ∷ xs) (y ∷ ys) (z ∷ zs) (inr l) (inl m) = let e = l.0 in inl (omega arith)
-below_then (x ∷ xs) (y ∷ ys) (z ∷ zs) (inr l) (inr m) = inr (l.0 ∙ m.0, below_then xs ys zs l.1 m.1)
-
-pub then_below : (xs ys zs : List ℕ) → ListAtMost xs ys → ListBelow ys zs → ListBelow xs zs
-then_below [] [] zs h k = k
-then_below [] (y ∷ ys) [] h k = absurd k
-then_below [] (y ∷ ys) (z ∷ zs) h k = tt
-then_below (x ∷ xs) [] zs h k = absurd h
-then_below (x ∷ xs) (y ∷ ys) [] h k = absurd k
-then_below (x ∷ xs) (y ∷ ys) (z ∷ zs) (inl l) (inl m) = inl (omega arith)
-then_below (x ∷ xs) (y ∷ ys) (z ∷ zs) (inl l) (inr m) = let q = m.0 in inl (omega arith)
-then_below (x ∷ xs) (y ∷ ys) (z ∷ zs) (inr l) (inl m) = let q = l.0 in inl (omega arith)
-then_below (x ∷ xs) (y ∷ ys) (z ∷ zs) (inr l) (inr m) = inr (l.0 ∙ m.0, then_below xs ys zs l.1 m.1)
-
 pub never_both : (xs ys : List ℕ) → ListBelow xs ys → ListAtMost ys xs → ⊥
 never_both [] [] h k = h
 never_both [] (y ∷ ys) h k = k
@@ -72,6 +50,13 @@ below_or [] [] = inr tt
 below_or [] (y ∷ ys) = inl tt
 below_or (x ∷ xs) [] = inr tt
 below_or (x ∷ xs) (y ∷ ys) = below_or_first x y xs ys (cases_lt x y) (cases_lt y x) (below_or xs ys)
+
+-- one list below the other, and one at most the other
+pub below_then : (xs ys zs : List ℕ) → ListBelow xs ys → ListAtMost ys zs → ListBelow xs zs
+below_then xs ys zs h k = elim (below_or xs zs) [ inl l ↦ l | inr m ↦ absurd (never_both xs ys h (at_most_trans ys zs xs k m)) ]
+
+pub then_below : (xs ys zs : List ℕ) → ListAtMost xs ys → ListBelow ys zs → ListBelow xs zs
+then_below xs ys zs h k = elim (below_or xs zs) [ inl l ↦ l | inr m ↦ absurd (never_both ys zs k (at_most_trans zs xs ys m h)) ]
 
 -- what is less in front is less
 pub front_below : (k : ℕ) (xs ys : List ℕ) → ListBelow (take k xs) (take k ys) → ListBelow xs ys

@@ -12,9 +12,9 @@ use Rattle.pg_arena.specs.declared.fault.ArenaFault.{ArenaFault}
 use Rattle.pg_arena.specs.declared.fault.ArenaFault.TheVariants.{OutOfMemory, DuplicateVertex, NoSuccessor, UnknownSuccessor, TooManyVertices, TooManyEdges, PriorityTooLarge, NoVertex}
 use Rattle.pg_arena.specs.Games.{GameVertex, edge_count}
 use Rattle.pg_arena.specs.Lines.{counted, is_named, add_fault, Answers}
-use Rattle.pg_arena.proofs.Adding.{names_none}
+use Rattle.std.proofs.lemmas.Bool.Decides.{nat_tests}
 use Rattle.pg_arena.proofs.Members.{has_none}
-use Rattle.pg_arena.proofs.Rising.{has, each_once_rises, each_once_length}
+use Rattle.pg_lists.proofs.Rising.{has, rising_rises, rising_length}
 use Rattle.pg_hoa.specs.declared.shape.Shape.{Shape}
 use Rattle.pg_hoa.specs.declared.shape.Shape.TheVariants.{MaxEven, MaxOdd, MinEven, MinOdd, Always, Never}
 use Rattle.pg_hoa.specs.Automata.{Automaton, IsAutomaton}
@@ -30,19 +30,11 @@ use Rattle.pg_synth.proofs.Places.{IsWithin, within_game, place_listed, has_lead
 
 set_small : (shape : Shape) (n s : ℕ) → n ≤ 4096 → s < n → set_priority shape n s ≤ 65535
 set_small MaxEven n s h l = omega arith
-set_small MaxOdd n s h l = omega arith
-set_small MinEven n s h l = omega arith
-set_small MinOdd n s h l = omega arith
-set_small Always n s h l = omega arith
-set_small Never n s h l = omega arith
+set_small _ n s h l = omega arith
 
 none_small : (shape : Shape) (n : ℕ) → none_priority shape n ≤ 65535
 none_small MaxEven n = omega arith
-none_small MaxOdd n = omega arith
-none_small MinEven n = omega arith
-none_small MinOdd n = omega arith
-none_small Always n = omega arith
-none_small Never n = omega arith
+none_small _ n = omega arith
 
 priority_small : (a : Automaton) (x : Place) → IsAutomaton a → IsWithin a x → place_priority a.shape a.sets x ≤ 65535
 priority_small a Dead is h = omega arith
@@ -64,11 +56,17 @@ edges_so_far a (n ∷ ns) =
 pub may_follow : (a : Automaton) (ids : List ℕ) (k : ℕ) → IsAutomaton a → ids ≡ game_identifiers a → k < length ids → length ids ≤ 1048576
     → sum_by (edges_of a) ids ≤ 8388608 → add_fault (map (line_at a) (take k ids)) (line_at a (get_or ids k 0)) ≡ None
 may_follow a ids k is e lt vertices edges =
-    names_none (map (line_at a) before) (line_at a n)
-    (record { priority = priority_small a (place_in a n) is (within_game a (place_in a n) is place); some = each_once_length (leads a (place_in a n)) (has_leads a (place_in a n)) })
-    (named_is a before n ∙ new)
-    (omega (arith, length-map before (line_at a), length-take k ids))
-    (omega (arith, edges_so_far a before, sum_by_more_le (edges_of a) ids k 0 lt))
+    grind (
+      arith,
+      nat_tests,
+      priority_small a (place_in a n) is (within_game a (place_in a n) is place),
+      rising_length (leads a (place_in a n)) (has_leads a (place_in a n)),
+      named_is a before n ∙ new,
+      length-map before (line_at a),
+      length-take k ids,
+      edges_so_far a before,
+      sum_by_more_le (edges_of a) ids k 0 lt,
+    )
   where
     n : ℕ
     n = get_or ids k 0
@@ -83,19 +81,13 @@ may_follow a ids k is e lt vertices edges =
     new = has_none n before (λ j l same.
         let short = length-take k ids in
         let at : get_or (take k ids) j 0 ≡ get_or ids j 0 = get_or-take k ids j 0 (omega arith) in
-        let up = sorted_from_strictly_increasing ids (subst IsStrictlyIncreasing (sym e) (each_once_rises (all_identifiers a))) in
+        let up = sorted_from_strictly_increasing ids (subst IsStrictlyIncreasing (sym e) (rising_rises (all_identifiers a))) in
         let less = below_from_sorted ids j k 0 up (omega arith) lt in omega (arith, at, same, less))
 
 -- then only memory can be refused
 pub memory_only : (T : Type 0) (fault : ArenaFault) (reason : Option ArenaFault) → reason ≡ None → Answers {T = T} (Err fault) reason → fault ≡ OutOfMemory
 memory_only T OutOfMemory reason e h = refl
-memory_only T (DuplicateVertex n) reason e h = absurd (let w = sym h ∙ e in cc w)
-memory_only T (NoSuccessor n) reason e h = absurd (let w = sym h ∙ e in cc w)
-memory_only T (UnknownSuccessor n s) reason e h = absurd (let w = sym h ∙ e in cc w)
-memory_only T TooManyVertices reason e h = absurd (let w = sym h ∙ e in cc w)
-memory_only T TooManyEdges reason e h = absurd (let w = sym h ∙ e in cc w)
-memory_only T (PriorityTooLarge n p) reason e h = absurd (let w = sym h ∙ e in cc w)
-memory_only T NoVertex reason e h = absurd (let w = sym h ∙ e in cc w)
+memory_only T _ reason e h = absurd (let w = sym h ∙ e in cc w)
 
 pub memory_result : (T : Type 0) (r : Result T ArenaFault) (reason : Option ArenaFault) → reason ≡ None → Answers r reason → IfErr r (λ fault. fault ≡ OutOfMemory)
 memory_result T (Ok x) reason e h = tt

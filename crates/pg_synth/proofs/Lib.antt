@@ -5,8 +5,6 @@ pub mod Recurs
 pub mod Accepting
 pub mod Trace
 pub mod Deciding
-pub mod WorkedGame
-pub mod WorkedLeast
 pub mod OneGame
 pub mod Places
 pub mod Made

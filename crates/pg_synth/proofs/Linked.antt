@@ -11,15 +11,15 @@ use Rattle.std.proofs.lemmas.List.Sums.{sum_by-cons}
 use Rattle.std.proofs.lemmas.Map.Keys.{sorted_from_strictly_increasing, non_decreasing_from_sorted}
 use Rattle.pg_arena.specs.Games.{GameVertex, identifier, identifiers, edge_count}
 use Rattle.pg_arena.specs.Lines as lines
-use Rattle.pg_arena.specs.Lines.{Line, line_of, lines_of, each_once}
-use Rattle.pg_arena.proofs.Rising.{each_once_rises, each_once_length}
-use Rattle.pg_arena.proofs.Unknown.{contains_cases, contains_here, contains_later}
+use Rattle.pg_arena.specs.Lines.{Line, line_of, lines_of}
+use Rattle.pg_lists.specs.Rising.{rising}
+use Rattle.pg_lists.proofs.Rising.{rising_rises, rising_length, rising_contains}
+use Rattle.pg_lists.proofs.Contained.{contains_cases, contains_here, contains_later}
 use Rattle.pg_arena.proofs.Finishing.{IsSound, game_from_sound, identifier_is}
 use Rattle.pg_hoa.specs.Automata.{Automaton, IsAutomaton}
 use Rattle.pg_synth.specs.Mirrors.GameLines.{place_in, leads, edges_of, line_at, all_identifiers, game_identifiers, game_lines}
 use Rattle.pg_synth.specs.declared.place.Place.{Place}
 use Rattle.pg_synth.specs.declared.place.Place.TheVariants.{Dead}
-use Rattle.pg_synth.proofs.Lists.{contains_each}
 use Rattle.pg_synth.proofs.Places.{known, within_game, moved, listed, only_listed, led, has_leads}
 
 -- ---- the place of a number in a list
@@ -79,7 +79,7 @@ places_rise ids xs up rise h = λ k lt.
 -- ---- the game
 
 abbrev linked : Automaton → ℕ → GameVertex
-linked a n = record (line_at a n) { successors = map (place_among (game_identifiers a)) (each_once (leads a (place_in a n))) }
+linked a n = record (line_at a n) { successors = map (place_among (game_identifiers a)) (rising (leads a (place_in a n))) }
 
 abbrev pub linked_game : Automaton → List GameVertex
 linked_game a = map (linked a) (game_identifiers a)
@@ -90,23 +90,23 @@ identifiers_of a (n ∷ ns) = ap (λ (ms : List ℕ). n ∷ ms) (identifiers_of 
 
 -- successors are vertices
 leads_listed : (a : Automaton) (n q : ℕ) → IsAutomaton a → Contains (game_identifiers a) n
-    → Contains (each_once (leads a (place_in a n))) q → Contains (game_identifiers a) q
+    → Contains (rising (leads a (place_in a n))) q → Contains (game_identifiers a) q
 leads_listed a n q is c d =
     let x = only_listed a n c in
     let e : place_in a n ≡ x.0 = ap (place_in a) (sym x.2) ∙ known a x.0 (within_game a x.0 is x.1) in
-    let p = led a x.0 q (subst (λ (y : Place). Contains (leads a y) q) e (contains_each (leads a (place_in a n)) q d)) in
+    let p = led a x.0 q (subst (λ (y : Place). Contains (leads a y) q) e (rising_contains (leads a (place_in a n)) q d)) in
     subst (Contains (game_identifiers a)) p.2 (listed a p.0 (moved a x.0 p.0 is x.1 p.1))
 
 sound : (a : Automaton) (n : ℕ) → IsAutomaton a → Contains (game_identifiers a) n
     → IsSound (length (game_identifiers a)) (linked a n)
 sound a n is c =
-    let xs : List ℕ = each_once (leads a (place_in a n)) in
+    let xs : List ℕ = rising (leads a (place_in a n)) in
     let ids : List ℕ = game_identifiers a in
     record {
       goes_on = (
-          let some : 0 < length xs = each_once_length (leads a (place_in a n)) (has_leads a (place_in a n)) in
+          let some : 0 < length xs = rising_length (leads a (place_in a n)) (has_leads a (place_in a n)) in
           let long = length-map xs (place_among ids) in omega arith);
-      rise = places_rise ids xs (each_once_rises (all_identifiers a)) (each_once_rises (leads a (place_in a n))) (λ q d. leads_listed a n q is c d);
+      rise = places_rise ids xs (rising_rises (all_identifiers a)) (rising_rises (leads a (place_in a n))) (λ q d. leads_listed a n q is c d);
       within = places_below ids xs (λ q d. leads_listed a n q is c d);
     }
 
@@ -124,7 +124,7 @@ map_same f g (x ∷ xs) h = rw (h x, map_same f g xs h) refl
 line_back : (a : Automaton) (n : ℕ) → IsAutomaton a → Contains (game_identifiers a) n → line_of (linked_game a) (linked a n) ≡ line_at a n
 line_back a n is c =
     let ids : List ℕ = game_identifiers a in
-    let xs : List ℕ = each_once (leads a (place_in a n)) in
+    let xs : List ℕ = rising (leads a (place_in a n)) in
     let named : map (identifier (linked_game a)) (map (place_among ids) xs) ≡ map (slice_index ids) (map (place_among ids) xs) =
     map_same (identifier (linked_game a)) (slice_index ids) (map (place_among ids) xs)
     (λ v. identifier_is (linked_game a) v ∙ ap (λ (ms : List ℕ). slice_index ms v) (identifiers_of a ids)) in
@@ -144,7 +144,7 @@ linked_is a is =
     record {
       well = game_from_sound (linked_game a)
           (let c = listed a Dead tt in let l : c.0 < length ids = c.1 in omega arith)
-          (subst IsStrictlyIncreasing (sym (identifiers_of a ids)) (each_once_rises (all_identifiers a)))
+          (subst IsStrictlyIncreasing (sym (identifiers_of a ids)) (rising_rises (all_identifiers a)))
           (subst (λ (k : ℕ). All (IsSound k) (linked_game a)) (sym long) (all_sound a ids is (λ q c. c)));
       same = subst (IsPermutation (game_lines a)) (sym (lines_back a ids is (λ q c. c))) (IsPermutation-refl (game_lines a));
     }
@@ -154,7 +154,7 @@ linked_is a is =
 count_edges : (a : Automaton) (ns : List ℕ) → edge_count (map (linked a) ns) ≡ sum_by (edges_of a) ns
 count_edges a [] = refl
 count_edges a (n ∷ ns) =
-    omega (arith, sum_by-cons (λ (x : GameVertex). length x.successors) (linked a n) (map (linked a) ns), sum_by-cons (edges_of a) n ns, length-map (each_once (leads a (place_in a n))) (place_among (game_identifiers a)), count_edges a ns)
+    omega (arith, sum_by-cons (λ (x : GameVertex). length x.successors) (linked a n) (map (linked a) ns), sum_by-cons (edges_of a) n ns, length-map (rising (leads a (place_in a n))) (place_among (game_identifiers a)), count_edges a ns)
 
 pub vertices_are : (a : Automaton) → length (linked_game a) ≡ length (game_identifiers a)
 vertices_are a = length-map (game_identifiers a) (linked a)

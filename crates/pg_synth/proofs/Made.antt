@@ -6,12 +6,14 @@ use Rattle.std.proofs.lemmas.List.Elements.{Contains-get_or}
 use Rattle.std.proofs.lemmas.List.Sorted.{IsPermutation-sym, Contains-permutation}
 use Rattle.pg_arena.specs.Games.{GameVertex, IsEdge, identifier, successors, vertex_at, nowhere}
 use Rattle.pg_arena.specs.Lines as lines
-use Rattle.pg_arena.specs.Lines.{Line, line_of, lines_of, each_once}
+use Rattle.pg_arena.specs.Lines.{Line, line_of, lines_of}
+use Rattle.pg_lists.specs.Rising.{rising}
 use Rattle.pg_hoa.specs.Automata.{Automaton, IsAutomaton}
 use Rattle.pg_synth.specs.AutomatonGames.{place_identifier, IsPlaceOf, Moves, StandsFor, IsGameOfAutomaton}
 use Rattle.pg_synth.specs.Mirrors.GameLines.{leads, line_at, line_of_place, game_identifiers, game_lines}
 use Rattle.pg_synth.specs.declared.place.Place.{Place}
-use Rattle.pg_synth.proofs.Lists.{contains_map, contains_mapped, contains_each, each_contains}
+use Rattle.pg_lists.proofs.Rising.{rising_contains, contains_rising}
+use Rattle.pg_lists.proofs.Contained.{contains_map, contains_mapped}
 use Rattle.pg_synth.proofs.Places.{known, within_game, moved, listed, only_listed, led, leading}
 use Rattle.pg_synth.proofs.Trace.{one_number}
 
@@ -83,7 +85,7 @@ each_vertex a game is g v l =
 
 -- the identifiers of a vertex's successors
 successors_are : (a : Automaton) (game : List GameVertex) (v : ℕ) (x : Place) → IsAutomaton a → lines.IsGameOf (game_lines a) game
-    → StandsFor a game v x → map (identifier game) (successors game v) ≡ each_once (leads a x)
+    → StandsFor a game v x → map (identifier game) (successors game v) ≡ rising (leads a x)
 successors_are a game v x is g s =
     ap (λ (l : Line). l.successors) (same_line a game v x g s.in_game s.identified ∙ line_is a x is s.is_place)
 
@@ -91,14 +93,14 @@ edges : (a : Automaton) (game : List GameVertex) → IsAutomaton a → lines.IsG
     → (v w : ℕ) (x : Place) → StandsFor a game v x → IsEdge game v w ↔ ((y : Place) × Moves a x y × StandsFor a game w y)
 edges a game is g v w x s = (to, from)
   where
-    are : map (identifier game) (successors game v) ≡ each_once (leads a x)
+    are : map (identifier game) (successors game v) ≡ rising (leads a x)
     are = successors_are a game v x is g s
 
     to : IsEdge game v w → (y : Place) × Moves a x y × StandsFor a game w y
     to h =
-        let c : Contains (each_once (leads a x)) (identifier game w) =
+        let c : Contains (rising (leads a x)) (identifier game w) =
         subst (λ (ns : List ℕ). Contains ns (identifier game w)) are (contains_mapped (identifier game) (successors game v) w h) in
-        let p = led a x (identifier game w) (contains_each (leads a x) (identifier game w) c) in (
+        let p = led a x (identifier game w) (rising_contains (leads a x) (identifier game w) c) in (
           p.0,
           p.1,
           stands_by a game w p.0 is (moved a x p.0 is s.is_place p.1) g (g.well.in_range v w h) (sym p.2),
@@ -108,7 +110,7 @@ edges a game is g v w x s = (to, from)
     from (y, m, t) =
         let c : Contains (map (identifier game) (successors game v)) (place_identifier a y) =
         subst (λ (ns : List ℕ). Contains ns (place_identifier a y)) (sym are)
-        (each_contains (leads a x) (place_identifier a y) (leading a x y m)) in
+        (contains_rising (leads a x) (place_identifier a y) (leading a x y m)) in
         let p = contains_map (identifier game) (successors game v) (place_identifier a y) c in
         let same : p.0 ≡ w = one_number game g.well p.0 w (g.well.in_range v p.0 p.1) t.in_game (p.2 ∙ sym t.identified) in
         subst (Contains (successors game v)) same p.1

@@ -7,17 +7,12 @@ use Rattle.std.proofs.lemmas.List.{get_or_default}
 use Rattle.std.proofs.lemmas.List.Elements.{Contains-get_or}
 use Rattle.pg_arena.specs.declared.player.Player.{Player}
 use Rattle.pg_arena.specs.Games.{GameVertex, IsEdge, vertex_at, identifiers, successors}
-use Rattle.pg_arena.proofs.Rising.{contains_from, has_contained, up_sorted, up_same}
+use Rattle.pg_lists.proofs.Contained.{rising_same}
+use Rattle.pg_arena.proofs.Unique.{same_vertex}
 use Rattle.pg_hoa.specs.Automata.{Automaton}
 use Rattle.pg_synth.specs.AutomatonGames.{StandsFor, IsGameOfAutomaton}
 use Rattle.pg_synth.specs.declared.place.Place.{Place}
 use Rattle.pg_synth.proofs.Trace.{identifiers_long, identifier_at, one_number}
-
-same_rising : (xs ys : List ℕ) → IsStrictlyIncreasing xs → IsStrictlyIncreasing ys → ((q : ℕ) → Contains xs q → Contains ys q)
-    → ((q : ℕ) → Contains ys q → Contains xs q) → xs ≡ ys
-same_rising xs ys up up' to from =
-    up_same xs ys (up_sorted xs (sorted_from_strictly_increasing xs up)) (up_sorted ys (sorted_from_strictly_increasing ys up'))
-    (λ q h. has_contained q ys (to q (contains_from q xs h))) (λ q h. has_contained q xs (from q (contains_from q ys h)))
 
 same_list : (xs ys : List GameVertex) → length xs ≡ length ys → ((v : ℕ) → v < length xs → vertex_at xs v ≡ vertex_at ys v) → xs ≡ ys
 same_list [] [] long same = refl
@@ -27,14 +22,6 @@ same_list (x ∷ xs) (y ∷ ys) long same =
     let one : x ≡ y = same 0 (omega arith) in
     let others : xs ≡ ys = same_list xs ys (omega arith) (λ v l. same (suc v) (omega arith)) in
     rw (one, others) refl
-
-same_vertex : (x y : GameVertex) → x.identifier ≡ y.identifier → x.priority ≡ y.priority → x.owner ≡ y.owner → x.successors ≡ y.successors → x.name ≡ y.name → x ≡ y
-same_vertex x y i p o s n =
-    ap (λ (i : ℕ). let v : GameVertex = record x { identifier = i } in v) i
-    ∙ ap (λ (p : ℕ). let v : GameVertex = record x { identifier = y.identifier; priority = p } in v) p
-    ∙ ap (λ (o : Player). let v : GameVertex = record x { identifier = y.identifier; priority = y.priority; owner = o } in v) o
-    ∙ ap (λ (s : List ℕ). let v : GameVertex = record x { identifier = y.identifier; priority = y.priority; owner = y.owner; successors = s } in v) s
-    ∙ ap (λ (n : Option (List ℕ)). let v : GameVertex = record y { name = n } in v) n
 
 -- a number of the one is a number of the other
 passes : (a : Automaton) (game other : List GameVertex) → IsGameOfAutomaton a game → IsGameOfAutomaton a other → (q : ℕ)
@@ -54,7 +41,7 @@ passes a game other g o q (v, l, e) =
 
 same_identifiers : (a : Automaton) (game other : List GameVertex) → IsGameOfAutomaton a game → IsGameOfAutomaton a other → identifiers game ≡ identifiers other
 same_identifiers a game other g o =
-    same_rising (identifiers game) (identifiers other) g.is_game.rising o.is_game.rising
+    rising_same (identifiers game) (identifiers other) g.is_game.rising o.is_game.rising
     (passes a game other g o) (passes a other game o g)
 
 -- what a vertex stands for in the one it stands for in the other
@@ -89,6 +76,6 @@ one_game a first second g o =
     let t = also a first second g o v x.0 s in
     same_vertex (vertex_at first v) (vertex_at second v) (s.identified ∙ sym t.identified) (s.prioritised ∙ sym t.prioritised)
     (s.owned ∙ sym t.owned)
-    (same_rising (successors first v) (successors second v) (g.is_game.successors_rise v) (o.is_game.successors_rise v)
+    (rising_same (successors first v) (successors second v) (g.is_game.successors_rise v) (o.is_game.successors_rise v)
     (λ w h. same_edges a first second g o v w l h) (λ w h. same_edges a second first o g v w t.in_game h))
     (s.named ∙ sym t.named))

@@ -6,7 +6,7 @@ use Rattle.std.proofs.lemmas.Bool.{ne_eqb, le-leb, lt-leb}
 use Rattle.std.proofs.lemmas.Nat.{div-mul-add, mod-mul-add, pow_pos}
 use Rattle.std.proofs.lemmas.List.FromFn.{length-map-range_with_len}
 use Rattle.std.proofs.lemmas.List.Elements.{All-contains, Contains-append_left, Contains-append_right, Contains-append_cases}
-use Rattle.pg_arena.proofs.Unknown.{contains_cases, contains_here, contains_later}
+use Rattle.pg_lists.proofs.Contained.{contains_cases, contains_here, contains_later, contains_flat, contains_flattened}
 use Rattle.pg_hoa.specs.declared.shape.Shape.{Shape}
 use Rattle.pg_hoa.specs.Automata.{Step, Automaton, IsAutomaton, letters, next, deciding}
 use Rattle.pg_synth.specs.Letters.{joined, inputs, outputs}
@@ -15,7 +15,8 @@ use Rattle.pg_synth.specs.Mirrors.GameLines.{place_within, place_with, place_in,
 use Rattle.pg_synth.specs.declared.place.Place.{Place}
 use Rattle.pg_synth.specs.declared.place.Place.TheVariants.{Dead, Arrival, Answer}
 use Rattle.pg_synth.proofs.Letters.{joined_in}
-use Rattle.pg_synth.proofs.Lists.{contains_flat, contains_flattened, in_range, range_contains, contains_from_range, range_contained, contains_each, each_contains}
+use Rattle.pg_synth.proofs.Lists.{in_range, range_contains, contains_from_range, range_contained}
+use Rattle.pg_lists.proofs.Rising.{rising_contains, contains_rising}
 use Rattle.pg_synth.proofs.Ranks.{deciding_cases}
 
 -- ---- an identifier names one place
@@ -110,7 +111,7 @@ moved a (Answer q i) y is h (o, l, e) =
 -- ---- the listed identifiers are those of the places
 
 pub listed : (a : Automaton) (x : Place) → IsPlaceOf a x → Contains (game_identifiers a) (place_identifier a x)
-listed a x h = each_contains (all_identifiers a) (place_identifier a x) (go x h)
+listed a x h = contains_rising (all_identifiers a) (place_identifier a x) (go x h)
   where
     start : ℕ
     start = place_identifier a (Arrival a.start None)
@@ -139,7 +140,7 @@ abbrev pub IsOf : Automaton → ℕ → Type 0
 IsOf a n = (x : Place) × IsPlaceOf a x × (place_identifier a x ≡ n)
 
 pub only_listed : (a : Automaton) (n : ℕ) → Contains (game_identifiers a) n → IsOf a n
-only_listed a n c = elim (contains_cases 0 (start ∷ others) n (contains_each (all_identifiers a) n c)) [
+only_listed a n c = elim (contains_cases 0 (start ∷ others) n (rising_contains (all_identifiers a) n c)) [
   | inl e ↦ (Dead, tt, sym e)
   | inr c' ↦ elim (contains_cases start others n c') [
     | inl e ↦ (Arrival a.start None, inl refl, sym e)

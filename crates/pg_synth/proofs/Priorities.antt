@@ -13,19 +13,11 @@ use Rattle.pg_synth.proofs.Places.{within_game}
 
 none_low : (shape : Shape) (n : ℕ) → none_priority shape n ≤ 2
 none_low MaxEven n = omega arith
-none_low MaxOdd n = omega arith
-none_low MinEven n = omega arith
-none_low MinOdd n = omega arith
-none_low Always n = omega arith
-none_low Never n = omega arith
+none_low _ n = omega arith
 
 set_low : (shape : Shape) (n s : ℕ) → s < n → set_priority shape n s ≤ 2 * n + 3
 set_low MaxEven n s lt = omega arith
-set_low MaxOdd n s lt = omega arith
-set_low MinEven n s lt = omega arith
-set_low MinOdd n s lt = omega arith
-set_low Always n s lt = omega arith
-set_low Never n s lt = omega arith
+set_low _ n s lt = omega arith
 
 place_low : (a : Automaton) (x : Place) → IsAutomaton a → IsPlaceOf a x → place_priority a.shape a.sets x ≤ 65535
 place_low a Dead is at = omega arith

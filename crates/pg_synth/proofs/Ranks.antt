@@ -1,6 +1,8 @@
 -- Sets are ranked by the priorities of their arrivals, as the shape looks at them.
 use Rattle.std.proofs.Common.{◌≡◌, ◌↔◌, ℕ, zero, suc, ◌+◌, ◌%◌, ◌<◌, ◌≤◌, ◌⊎◌, inl, inr, Bool, true, false, List, [], ◌∷◌, Some, None, length, arith, refl, sym, subst, ◌∙◌}
 use Rattle.std.specs.List.{Contains, slice_index}
+use Rattle.std.proofs.lemmas.List.Kept.{AllPairs-from_increasing}
+use Rattle.pg_lists.proofs.Contained.{Rises, contains_none, contains_here, contains_later, contains_cases, pairs_head, pairs_tail}
 use Rattle.std.specs.List.Sorted.{IsStrictlyIncreasing}
 use Rattle.std.proofs.lemmas.Bool.{cases_lt}
 use Rattle.pg_arena.specs.declared.player.Player.{Player}
@@ -17,8 +19,7 @@ HasSets MaxEven n = 0 < n
 HasSets MaxOdd n = 0 < n
 HasSets MinEven n = 0 < n
 HasSets MinOdd n = 0 < n
-HasSets Always n = n ≡ 0
-HasSets Never n = n ≡ 0
+HasSets _ n = n ≡ 0
 
 -- of two sets the shape looks at the greater, or at the less
 abbrev pub IsNoFurther : Shape → ℕ → ℕ → Type 0
@@ -26,16 +27,14 @@ IsNoFurther MaxEven s r = s ≤ r
 IsNoFurther MaxOdd s r = s ≤ r
 IsNoFurther MinEven s r = r ≤ s
 IsNoFurther MinOdd s r = r ≤ s
-IsNoFurther Always s r = s ≤ r
-IsNoFurther Never s r = s ≤ r
+IsNoFurther _ s r = s ≤ r
 
 abbrev pub parity : Shape → Player
 parity MaxEven = Even
 parity MaxOdd = Odd
 parity MinEven = Even
 parity MinOdd = Odd
-parity Always = Even
-parity Never = Even
+parity _ = Even
 
 -- the set that the shape looks at: the greatest, or the least
 pub record IsForemost (shape : Shape) (n : ℕ) (c : ℕ → Bool) (s : ℕ) : Type 0 where
@@ -61,77 +60,47 @@ IsMet shape n c =
 
 pub no_further_trans : (shape : Shape) (a b c : ℕ) → IsNoFurther shape a b → IsNoFurther shape b c → IsNoFurther shape a c
 no_further_trans MaxEven a b c h k = omega arith
-no_further_trans MaxOdd a b c h k = omega arith
-no_further_trans MinEven a b c h k = omega arith
-no_further_trans MinOdd a b c h k = omega arith
-no_further_trans Always a b c h k = omega arith
-no_further_trans Never a b c h k = omega arith
+no_further_trans _ a b c h k = omega arith
 
 pub no_further_self : (shape : Shape) (a : ℕ) → IsNoFurther shape a a
 no_further_self MaxEven a = omega arith
-no_further_self MaxOdd a = omega arith
-no_further_self MinEven a = omega arith
-no_further_self MinOdd a = omega arith
-no_further_self Always a = omega arith
-no_further_self Never a = omega arith
+no_further_self _ a = omega arith
 
 pub no_further_total : (shape : Shape) (s r : ℕ) → IsNoFurther shape r s ⊎ IsNoFurther shape s r
 no_further_total MaxEven s r = elim (cases_lt s r) [ inl h ↦ inr (omega arith) | inr h ↦ inl (omega arith) ]
 no_further_total MaxOdd s r = elim (cases_lt s r) [ inl h ↦ inr (omega arith) | inr h ↦ inl (omega arith) ]
 no_further_total MinEven s r = elim (cases_lt s r) [ inl h ↦ inl (omega arith) | inr h ↦ inr (omega arith) ]
 no_further_total MinOdd s r = elim (cases_lt s r) [ inl h ↦ inl (omega arith) | inr h ↦ inr (omega arith) ]
-no_further_total Always s r = elim (cases_lt s r) [ inl h ↦ inr (omega arith) | inr h ↦ inl (omega arith) ]
-no_further_total Never s r = elim (cases_lt s r) [ inl h ↦ inr (omega arith) | inr h ↦ inl (omega arith) ]
+no_further_total _ s r = elim (cases_lt s r) [ inl h ↦ inr (omega arith) | inr h ↦ inl (omega arith) ]
 
 pub record IsFirstOf (shape : Shape) (xs : List ℕ) (s : ℕ) : Type 0 where
   pub occurs : Contains xs s
   pub first : (r : ℕ) → Contains xs r → IsNoFurther shape r s
 
-contains_later : (x : ℕ) (xs : List ℕ) (s : ℕ) → Contains xs s → Contains (x ∷ xs) s
-contains_later x xs s h = (suc h.0, (let l : h.0 < length xs = h.1 in omega arith), h.2)
-
-contains_cases : (x : ℕ) (xs : List ℕ) (s : ℕ) → Contains (x ∷ xs) s → (x ≡ s) ⊎ Contains xs s
-contains_cases x xs s (zero, l, e) = inl e
-contains_cases x xs s (suc k, l, e) = inr (k, omega arith, e)
-
-rising_tail : (x : ℕ) (xs : List ℕ) → IsStrictlyIncreasing (x ∷ xs) → IsStrictlyIncreasing xs
-rising_tail x xs inc k h =
-    let e : suc k + 1 ≡ suc (k + 1) = omega arith in
-    subst (λ i. slice_index (x ∷ xs) (suc k) < slice_index (x ∷ xs) i) e (inc (suc k) (omega arith))
-
-least_first : (x : ℕ) (xs : List ℕ) → IsStrictlyIncreasing (x ∷ xs) → (r : ℕ) → Contains (x ∷ xs) r → x ≤ r
-least_first x [] inc r h = elim (contains_cases x [] r h) [
+least_first : (x : ℕ) (xs : List ℕ) → Rises (x ∷ xs) → (r : ℕ) → Contains (x ∷ xs) r → x ≤ r
+least_first x xs up r h = elim (contains_cases x xs r h) [
   | inl e ↦ omega arith
-  | inr k ↦ (let l : k.0 < 0 = k.1 in absurd (omega arith))
-]
-least_first x (y ∷ ys) inc r h = elim (contains_cases x (y ∷ ys) r h) [
-  | inl e ↦ omega arith
-  | inr k ↦
-      let a : y ≤ r = least_first y ys (rising_tail x (y ∷ ys) inc) r k in
-      let b : x < y = inc 0 (omega arith) in omega arith
+  | inr later ↦ (let lt : x < r = pairs_head (λ x y. x < y) x xs r up later in omega arith)
 ]
 
-greatest_last : (x : ℕ) (xs : List ℕ) → IsStrictlyIncreasing (x ∷ xs)
+greatest_last : (x : ℕ) (xs : List ℕ) → Rises (x ∷ xs)
     → (s : ℕ) × (last (x ∷ xs) ≡ Some s) × Contains (x ∷ xs) s × ((r : ℕ) → Contains (x ∷ xs) r → r ≤ s)
-greatest_last x [] inc = (
+greatest_last x [] up = (
   x,
   refl,
-  (0, omega arith, refl),
-  λ r h. elim (contains_cases x [] r h) [
-    | inl e ↦ omega arith
-    | inr k ↦ (let l : k.0 < 0 = k.1 in absurd (omega arith))
-  ],
+  contains_here x [],
+  λ r h. elim (contains_cases x [] r h) [ inl e ↦ omega arith | inr later ↦ absurd (contains_none r later) ],
 )
-greatest_last x (y ∷ ys) inc =
-    let t = greatest_last y ys (rising_tail x (y ∷ ys) inc) in (
+greatest_last x (y ∷ ys) up =
+    let t = greatest_last y ys (pairs_tail (λ x y. x < y) x (y ∷ ys) up) in (
       t.0,
       t.1,
       contains_later x (y ∷ ys) t.0 t.2,
       λ r h. elim (contains_cases x (y ∷ ys) r h) [
         | inl e ↦
-            let a : y ≤ t.0 = t.3 y (0, omega arith, refl) in
-            let b : x < y = inc 0 (omega arith) in omega arith
-        | inr k ↦ t.3 r k
+            let a : y ≤ t.0 = t.3 y (contains_here y ys) in
+            let b : x < y = up 0 1 0 (omega arith) (omega arith) in omega arith
+        | inr later ↦ t.3 r later
       ],
     )
 
@@ -143,39 +112,26 @@ deciding_cases shape [] inc = inl (none shape, λ s h. (let l : h.0 < 0 = h.1 in
   where
     none : (shape : Shape) → deciding shape [] ≡ None
     none MaxEven = refl
-    none MaxOdd = refl
-    none MinEven = refl
-    none MinOdd = refl
-    none Always = refl
-    none Never = refl
+    none _ = refl
 deciding_cases shape (x ∷ xs) inc = inr (go shape)
   where
     g : (s : ℕ) × (last (x ∷ xs) ≡ Some s) × Contains (x ∷ xs) s × ((r : ℕ) → Contains (x ∷ xs) r → r ≤ s)
-    g = greatest_last x xs inc
+    g = greatest_last x xs (AllPairs-from_increasing (x ∷ xs) inc)
 
     go : (shape : Shape) → (s : ℕ) × (deciding shape (x ∷ xs) ≡ Some s) × IsFirstOf shape (x ∷ xs) s
     go MaxEven = (g.0, g.1, record { occurs = g.2; first = g.3 })
     go MaxOdd = (g.0, g.1, record { occurs = g.2; first = g.3 })
-    go MinEven = (x, refl, record { occurs = (0, omega arith, refl); first = least_first x xs inc })
-    go MinOdd = (x, refl, record { occurs = (0, omega arith, refl); first = least_first x xs inc })
-    go Always = (g.0, g.1, record { occurs = g.2; first = g.3 })
-    go Never = (g.0, g.1, record { occurs = g.2; first = g.3 })
+    go MinEven = (x, refl, record { occurs = (0, omega arith, refl); first = least_first x xs (AllPairs-from_increasing (x ∷ xs) inc) })
+    go MinOdd = (x, refl, record { occurs = (0, omega arith, refl); first = least_first x xs (AllPairs-from_increasing (x ∷ xs) inc) })
+    go _ = (g.0, g.1, record { occurs = g.2; first = g.3 })
 
 pub rank_rises : (shape : Shape) (n r s : ℕ) → r < n → s < n → IsNoFurther shape r s → set_priority shape n r ≤ set_priority shape n s
 rank_rises MaxEven n r s a b h = omega arith
-rank_rises MaxOdd n r s a b h = omega arith
-rank_rises MinEven n r s a b h = omega arith
-rank_rises MinOdd n r s a b h = omega arith
-rank_rises Always n r s a b h = omega arith
-rank_rises Never n r s a b h = omega arith
+rank_rises _ n r s a b h = omega arith
 
 pub none_lowest : (shape : Shape) (n s : ℕ) → s < n → none_priority shape n < set_priority shape n s
 none_lowest MaxEven n s a = omega arith
-none_lowest MaxOdd n s a = omega arith
-none_lowest MinEven n s a = omega arith
-none_lowest MinOdd n s a = omega arith
-none_lowest Always n s a = omega arith
-none_lowest Never n s a = omega arith
+none_lowest _ n s a = omega arith
 
 -- the priority of a set is even exactly if the set has the shape's parity
 pub rank_parity : (shape : Shape) (n s : ℕ) → HasSets shape n → s < n → (set_priority shape n s % 2 ≡ 0) ↔ HasParityOf (parity shape) s
@@ -183,8 +139,7 @@ rank_parity MaxEven n s h l = ((λ e. omega arith), (λ e. omega arith))
 rank_parity MaxOdd n s h l = ((λ e. omega arith), (λ e. omega arith))
 rank_parity MinEven n s h l = ((λ e. omega arith), (λ e. omega arith))
 rank_parity MinOdd n s h l = ((λ e. omega arith), (λ e. omega arith))
-rank_parity Always n s h l = absurd (omega arith)
-rank_parity Never n s h l = absurd (omega arith)
+rank_parity _ n s h l = absurd (omega arith)
 
 pub none_parity : (shape : Shape) (n : ℕ) → HasSets shape n → (none_priority shape n % 2 ≡ 0) ↔ AcceptsNone shape n
 none_parity MaxEven n h = ((λ e. omega arith), (λ e. absurd e))
@@ -249,8 +204,4 @@ find_foremost shape c (suc n) = go (c n) refl (find_foremost shape c n)
 
 pub rank_same : (shape : Shape) (n r s : ℕ) → r < n → s < n → set_priority shape n r ≡ set_priority shape n s → r ≡ s
 rank_same MaxEven n r s a b h = omega arith
-rank_same MaxOdd n r s a b h = omega arith
-rank_same MinEven n r s a b h = omega arith
-rank_same MinOdd n r s a b h = omega arith
-rank_same Always n r s a b h = omega arith
-rank_same Never n r s a b h = omega arith
+rank_same _ n r s a b h = omega arith

@@ -17,7 +17,6 @@ use Rattle.pg_synth.specs.Tracing.{Traces}
 use Rattle.pg_synth.specs.Answers.{IsSynthGame, IsMealyOf}
 use Rattle.pg_synth.specs.Machines.{Machine, machine_word, IsMachineOf, Follows, IsInputWord, HasChosenInputs}
 use Rattle.pg_synth.specs.declared.place.Place.TheVariants.{Dead, Arrival}
-use Rattle.pg_synth.specs.Worked.{agreeing, game_of_agreeing, choosing, game_of_choosing}
 
 abbrev pub JoinedLetters : Type 0
 JoinedLetters = (controllable : List Bool) → JoinsBack controllable
@@ -42,9 +41,6 @@ abbrev pub OneGame : Type 0
 OneGame =
     (a : Automaton) → IsAutomaton a
     → (game : List GameVertex) × IsGameOfAutomaton a game × ((other : List GameVertex) → IsGameOfAutomaton a other → other ≡ game)
-
-abbrev pub WorkedGames : Type 0
-WorkedGames = IsGameOfAutomaton agreeing game_of_agreeing × IsGameOfAutomaton choosing game_of_choosing
 
 -- The solution is sound, and the player wins by it where the game begins.
 pub record IsWonBy (a : Automaton) (game : List GameVertex) (initial : ℕ) (solution : List Answer) (player : Player) : Type 0 where

@@ -4,6 +4,5 @@ pub mod Tracing
 pub mod Machines
 pub mod Answers
 pub mod FaultTexts
-pub mod Worked
 pub mod Laws
 pub mod Mirrors

@@ -5,7 +5,7 @@ ghost use Rattle.pg_arena.specs.Games.{GameVertex};
 ghost use Rattle.pg_hoa.specs.Automata.{Automaton, IsAutomaton};
 ghost use Rattle.pg_hoa.specs.Words.{IsWord};
 ghost use Rattle.pg_synth.specs.AutomatonGames.{IsGameOfAutomaton};
-ghost use Rattle.pg_synth.specs.Laws.{AnswerHolds, JoinedLetters, MachineAccepted, OneGame, OneMachine, TracesOnePlay, Unrealizable, WordAndPlay, WorkedGames};
+ghost use Rattle.pg_synth.specs.Laws.{AnswerHolds, JoinedLetters, MachineAccepted, OneGame, OneMachine, TracesOnePlay, Unrealizable, WordAndPlay};
 
 use crate::word::{InputWord, Word};
 
@@ -23,11 +23,6 @@ pub fn word_and_play()
 pub fn word_and_play_of<W: Word>(word: &W)
     ensures { (a : Automaton) (game : List GameVertex) → IsAutomaton a → IsGameOfAutomaton a game
         → IsWord a (W.letter word.now) → TracesOnePlay a game (W.letter word.now) }
-{}
-
-/// Two automata and their games, one under each way to look at sets.
-pub fn worked_games()
-    ensures { WorkedGames }
 {}
 
 /// An automaton has one game.

@@ -3,7 +3,8 @@
 ghost use Rattle.std.specs.Prelude.{◌≡◌, ◌↔◌, ◌≤◌, ◌<◌, ◌++◌, ◌∷◌, [], map, length, IsTrue, None, OnOk, IfOk, IfErr, Contains};
 ghost use Rattle.std.specs.List.{range_with_len, sum_by};
 ghost use Rattle.pg_arena.specs.declared.fault.ArenaFault.TheVariants.{OutOfMemory};
-ghost use Rattle.pg_arena.specs.Lines.{add_fault, each_once, IsGameOf};
+ghost use Rattle.pg_arena.specs.Lines.{add_fault, IsGameOf};
+ghost use Rattle.pg_lists.specs.Rising.{rising};
 ghost use Rattle.pg_hoa.specs.Automata.{deciding, letters};
 ghost use Rattle.pg_synth.specs.AutomatonGames.{IsPlaceOf, input_letters, place_identifier};
 ghost use Rattle.pg_synth.specs.Mirrors.GameLines.{place_in, target, leads, edges_of, line_at, game_identifiers, game_lines};
@@ -217,7 +218,7 @@ fn deciding(shape: Shape, sets: &[u32]) -> Option<u32>
 
 /// Sorts the list and leaves each number once.
 fn put_each_once(list: &mut Vec<u32>)
-    ensures { list.new.items ≡ each_once list.old.items }
+    ensures { list.new.items ≡ rising list.old.items }
 {
     list.sort_unstable();
     list.dedup();

@@ -1,5 +1,6 @@
 -- The vertices of a game by their identifiers, and what one line says of them.
-use Rattle.std.proofs.Common.{◌≡◌, ◌≢◌, ℕ, ◌<◌, Bool, false, List, length, get_or, Some, Result, Err, sym, ap, subst, ◌∙◌, arith, inl, inr}
+use Rattle.std.proofs.Common.{◌≡◌, ◌≢◌, ℕ, ◌<◌, Bool, false, List, length, get_or, Result, Err, sym, ap, subst, ◌∙◌, arith, inl, inr}
+use Rattle.std.proofs.lemmas.Bool.Decides.{nat_tests}
 use Rattle.std.specs.Prelude.{Contains}
 use Rattle.std.specs.List.Sorted.{IsStrictlyIncreasing, IsBinarySearchResult}
 use Rattle.std.specs.Ordering.{nat_cmp}
@@ -10,16 +11,14 @@ use Rattle.std.proofs.lemmas.List.Sorted.{searched}
 use Rattle.std.proofs.lemmas.Map.Keys.{sorted_from_strictly_increasing, non_decreasing_from_sorted}
 use Rattle.pg_arena.specs.Games.{GameVertex, nowhere, identifiers, identifier, successors, IsEdge, IsGame}
 use Rattle.pg_text.specs.declared.solution_line.SolutionLine.{SolutionLine}
-use Rattle.pg_text.specs.SolutionText.{counting_strategy, Fits, IsUnknown}
+use Rattle.pg_text.specs.SolutionText.{Fits, IsUnknown}
 use Rattle.pg_text.specs.Mirrors.SolutionReading.{is_seen, LeadsNowhere, IsUnmarked}
 
 identifier_at : (game : List GameVertex) (v : ℕ) → v < length game → get_or (identifiers game) v 0 ≡ identifier game v
 identifier_at game v within = get_or-map (λ (x : GameVertex). x.identifier) game v nowhere 0 within
 
 identifier_rises : (game : List GameVertex) (v u : ℕ) → IsGame game → u < length game → v < u → identifier game v < identifier game u
-identifier_rises game v u well within lt =
-    let pairs : get_or (identifiers game) v 0 < get_or (identifiers game) u 0 = AllPairs-from_increasing (identifiers game) well.rising v u 0 lt (rw length-map within) in
-    omega (arith, identifier_at game v (omega arith), identifier_at game u within)
+identifier_rises game v u well within lt = grind (arith, nat_tests, AllPairs-from_increasing (identifiers game) well.rising v u 0 lt (rw length-map within), identifier_at game v (omega arith), identifier_at game u within)
 
 -- no two vertices have one identifier
 pub same_vertex : (game : List GameVertex) (v u : ℕ) → IsGame game → v < length game → u < length game → identifier game v ≡ identifier game u → v ≡ u
@@ -51,10 +50,7 @@ no_successor game v w i n well within named h = λ u edge e.
 
 -- a strategy that leads nowhere doesn't fit
 pub unfit : (game : List GameVertex) (line : SolutionLine) (v : ℕ) → IsGame game → v < length game → identifier game v ≡ line.identifier → LeadsNowhere game line v → ¬ Fits game line
-unfit game line v well within named nowhere f =
-    let same : v ≡ f.v = same_vertex game v f.v well within f.within (named ∙ f.named) in
-    let leads = f.leads nowhere.n (subst (λ (t : ℕ). counting_strategy game line t ≡ Some nowhere.n) same nowhere.counts) in
-    nowhere.absent leads.0 (subst (λ (t : ℕ). IsEdge game t leads.0) (sym same) leads.1) leads.2
+unfit game line v well within named nowhere f = grind (arith, nat_tests, same_vertex game v f.v well within f.within (named ∙ f.named))
 
 -- no marked vertex has the identifier of one that isn't marked
 pub unmarked_here : (game : List GameVertex) (n v : ℕ) (seen : List Bool) → IsGame game → v < length game → n ≡ identifier game v → is_seen seen v ≡ false → IsUnmarked game n seen

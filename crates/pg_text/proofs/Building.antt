@@ -15,14 +15,15 @@ use Rattle.pg_text.specs.declared.reading.Refusal.TheVariants.{Memory, Token}
 use Rattle.pg_text.specs.declared.tokens.TokenFault.{TokenFault}
 use Rattle.pg_text.specs.declared.tokens.TokenFault.TheVariants.{Syntax, NumberTooLarge}
 use Rattle.pg_text.specs.Mirrors.Refusals.{arena_fault, token_fault_of, fault_of}
-use Rattle.pg_text.specs.Lexemes.{Lexeme, number, word, semicolon, comma, quoted, end, Begins, Spells, after_space, IsToldAt, clause_lexemes}
+use Rattle.pg_text.specs.Lexemes.{Lexeme, word, Begins, Spells, after_space, IsToldAt, clause_lexemes}
 use Rattle.pg_text.specs.Places.{Place, at_front, behind_parity, behind_parity_number, behind_header, behind_start, behind_start_number, behind_line, to_line, after, part_place}
 use Rattle.pg_text.specs.GameText.{line_lexemes, IsText, IsMisplaced, HasBadLine}
 use Rattle.pg_text.specs.Mirrors.Steps.{◌>>=◌, Fails, item, stop, items_at}
 use Rattle.pg_text.specs.Mirrors.Parts.{clause_at}
 use Rattle.pg_text.specs.Mirrors.GameScan.{item_at, body_at, lines_at}
 use Rattle.pg_text.specs.Mirrors.Building.{BuildsLines}
-use Rattle.pg_text.proofs.Steps.{bind_ok, ok, ok_is, err_is_ok, none_is_some}
+use Rattle.pg_text.proofs.Steps.{bind_ok, ok, ok_is, err_is_ok}
+use Rattle.pg_lists.proofs.Steps.{none_is_some}
 use Rattle.pg_text.proofs.Items.{with_front, nothing_yet, goes_on, ends, items_err}
 use Rattle.pg_text.proofs.Spelling.{spells_append}
 use Rattle.pg_text.proofs.Parts.{clause_takes}
@@ -152,19 +153,11 @@ word_is name bytes w rest absent b = false_from_ne_true (bytes_eq w name) (λ e.
 
 no_start : (bytes : List ℕ) → ((mid : List ℕ) → ¬ Begins bytes (word (codes "start")) mid) → (token : Lexeme) (rest : List ℕ) → Begins bytes token rest → after behind_header token ≡ to_line token
 no_start bytes absent (word w) rest b = rw (word_is (codes "start") bytes w rest absent b) refl
-no_start bytes absent (number n) rest b = refl
-no_start bytes absent semicolon rest b = refl
-no_start bytes absent comma rest b = refl
-no_start bytes absent (quoted s) rest b = refl
-no_start bytes absent end rest b = refl
+no_start bytes absent _ rest b = refl
 
 no_header : (bytes : List ℕ) → ((mid : List ℕ) → ¬ Begins bytes (word (codes "parity")) mid) → ((mid : List ℕ) → ¬ Begins bytes (word (codes "start")) mid) → (token : Lexeme) (rest : List ℕ) → Begins bytes token rest → after at_front token ≡ to_line token
 no_header bytes no_parity absent (word w) rest b = rw (word_is (codes "parity") bytes w rest no_parity b, word_is (codes "start") bytes w rest absent b) refl
-no_header bytes no_parity absent (number n) rest b = refl
-no_header bytes no_parity absent semicolon rest b = refl
-no_header bytes no_parity absent comma rest b = refl
-no_header bytes no_parity absent (quoted s) rest b = refl
-no_header bytes no_parity absent end rest b = refl
+no_header bytes no_parity absent _ rest b = refl
 
 -- without the clause nothing is taken
 nothing_taken : (name bytes rest : List ℕ) → clause_at name bytes ≡ Ok (None, rest) → bytes ≡ rest
@@ -273,13 +266,7 @@ refusing f = Err f
 
 named : (T : Type 0) (f : ArenaFault) (bytes : List ℕ) (reason : Option ArenaFault) → Answers (refusing {T = T} f) reason → ((reason ≡ Some f) → HasBadLine bytes f × ((lines : List Line) → IsText bytes lines → Accepts [] lines → ⊥)) → BuildsLines bytes (Err (arena_fault f))
 named T arena.OutOfMemory bytes reason h k = tt
-named T (arena.DuplicateVertex n) bytes reason h k = k h
-named T (arena.NoSuccessor n) bytes reason h k = k h
-named T (arena.UnknownSuccessor n m) bytes reason h k = k h
-named T arena.TooManyVertices bytes reason h k = k h
-named T arena.TooManyEdges bytes reason h k = k h
-named T (arena.PriorityTooLarge n m) bytes reason h k = k h
-named T arena.NoVertex bytes reason h k = k h
+named T _ bytes reason h k = k h
 
 pub fails_add : {T : Type 0} (r : Result T ArenaFault) (f : ArenaFault) (bytes : List ℕ) (built : List Line) (rest after : List ℕ) (line : Line) → r ≡ Err f → Built bytes built rest → item_at rest ≡ Ok (item line, after) → Answers r (add_fault built (counted line)) → BuildsLines bytes (Err (arena_fault f))
 fails_add {T} r f bytes built rest after line was b e h =

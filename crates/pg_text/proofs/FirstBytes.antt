@@ -1,19 +1,22 @@
 -- The first byte behind white space says which token stands there.
 use Rattle.std.proofs.Common.{◌≡◌, ◌≢◌, ℕ, ◌≤◌, Bool, true, false, eqb, get_or, List, [], ◌∷◌, ◌++◌, length, Option, None, Result, Ok, Err, IfErr, Bor, refl, sym, ap, subst, ◌∙◌, arith}
+use Rattle.std.proofs.lemmas.Bool.Decides.{nat_tests}
 use Rattle.std.specs.Prelude.{option_map}
 use Rattle.std.specs.Result.{result_ok}
 use Rattle.pg_arena.specs.Lines.{Line}
-use Rattle.pg_text.specs.Lexemes.{Lexeme, number, semicolon, comma, quoted, end, is_space, is_digit, Each, Stops, IsSpelt, after_space}
+use Rattle.pg_text.specs.Lexemes.{Lexeme, number, semicolon, comma, quoted, end, is_space, IsSpelt, after_space}
+use Rattle.pg_lists.specs.Bytes.{is_digit, Each, Stops}
 use Rattle.pg_text.specs.declared.tokens.TokenFault.{TokenFault}
-use Rattle.pg_text.specs.declared.tokens.TokenFault.TheVariants.{Syntax, NumberTooLarge}
+use Rattle.pg_text.specs.declared.tokens.TokenFault.TheVariants.{NumberTooLarge}
 use Rattle.pg_text.specs.declared.reading.Refusal.{Refusal}
 use Rattle.pg_text.specs.declared.reading.Refusal.TheVariants.{Memory, Token}
 use Rattle.pg_text.specs.Mirrors.Scan.{number_at, solid_at, lexeme_at, or_fault, token_at}
 use Rattle.pg_text.specs.Mirrors.Steps.{◌>>=◌, Read, Reads, Fails, Step, item, stop}
 use Rattle.pg_text.specs.Mirrors.Parts.{misplaced_in, misplaced, number_in, natural_at, string_in, string_at, semicolon_in, semicolon_at, further_in, further_at}
 use Rattle.pg_text.specs.Mirrors.GameScan.{ending_in, ending_at, line_at, item_in, item_at}
-use Rattle.pg_text.proofs.Steps.{ok, err, some}
-use Rattle.pg_text.proofs.Runs.{run_stops, none_more}
+use Rattle.pg_text.proofs.Steps.{ok, err}
+use Rattle.pg_lists.proofs.Steps.{some}
+use Rattle.pg_lists.proofs.Runs.{run_stops}
 use Rattle.pg_text.proofs.Lexing.{solid_digit, solid_again, token_fronts}
 
 -- ---- digits
@@ -61,21 +64,12 @@ natural_of_others bytes front is other = go (token_at bytes) refl
     go (Ok (_, rest)) h = refl
 
 pub after_space-again : (bytes : List ℕ) → after_space (after_space bytes) ≡ after_space bytes
-after_space-again bytes = unspaced (after_space bytes) (run_stops is_space bytes)
-  where
-    unspaced : (front : List ℕ) → Stops is_space front → after_space front ≡ front
-    unspaced [] stops = refl
-    unspaced (b ∷ front) stops = rw (none_more is_space b front stops) refl
+after_space-again bytes = grind (arith, nat_tests, run_stops is_space bytes)
 
 -- white space in front makes no difference
 natural_behind : (bytes : List ℕ) → natural_at (after_space bytes) ≡ natural_at bytes
 unfolding natural_at token_at lexeme_at
-natural_behind bytes = rw (after_space-again bytes) (go (token_at bytes))
-  where
-    go : (o : Read (Lexeme × List ℕ)) → (o >>= number_in (after_space bytes)) ≡ (o >>= number_in bytes)
-    go (Err e) = refl
-    go (Ok (number n, rest)) = refl
-    go (Ok (_, rest)) = ap (λ (front : List ℕ). err (Syntax (length front))) (after_space-again bytes)
+natural_behind bytes = grind (arith, nat_tests, after_space-again bytes)
 
 -- ---- semicolons and commas
 
@@ -89,10 +83,7 @@ unfolding semicolon_at
 semicolon_of_byte bytes rest is = rw (token_of_byte bytes 59 semicolon rest is refl) refl
 
 no_semicolon : (bytes rest : List ℕ) → Stops (λ b. eqb b 59) (after_space bytes) → token_at bytes ≡ Ok (semicolon, rest) → ⊥
-no_semicolon bytes rest other e =
-    let token = token_fronts bytes (semicolon, rest) e in
-    let same : true ≡ false = subst (Stops (λ b. eqb b 59)) (token.parts ∙ ap (λ (text : List ℕ). text ++ rest) token.spelt) other in
-    cc
+no_semicolon bytes rest other e = grind (arith, nat_tests, token_fronts bytes (semicolon, rest) e)
 
 pub semicolon_of_others : (bytes : List ℕ) → Stops (λ b. eqb b 59) (after_space bytes) → semicolon_at bytes ≡ Err (misplaced bytes)
 unfolding semicolon_at misplaced

@@ -1,17 +1,20 @@
 -- A token that is read is spelt at the front, and a token that is spelt there is read.
-use Rattle.std.proofs.Common.{◌≡◌, ◌≢◌, ℕ, ◌+◌, ◌^◌, ◌<◌, ◌≤◌, Bool, true, false, ltb, eqb, get_or, List, [], ◌∷◌, ◌++◌, length, drop, Option, Some, None, Result, Ok, Err, IfOk, IfErr, IsOkAnd, Bor, refl, sym, ap, subst, ◌∙◌, inl, inr, arith, append_assoc}
+use Rattle.std.proofs.Common.{◌≡◌, ◌≢◌, ℕ, ◌+◌, ◌^◌, ◌<◌, ◌≤◌, Bool, true, false, ltb, eqb, get_or, List, [], ◌∷◌, ◌++◌, length, drop, Some, Result, Ok, Err, IfOk, IfErr, IsOkAnd, Bor, refl, sym, ap, subst, ◌∙◌, inl, inr, arith, append_assoc}
+use Rattle.std.proofs.lemmas.Bool.Decides.{nat_tests}
 use Rattle.std.specs.Prelude.{nat_le}
 use Rattle.std.specs.List.{prefix_len, take_while}
 use Rattle.std.proofs.lemmas.Bool.{ltb-true, lt-ltb, eqb-true, leb-true, lt-leb, ne_eqb, and_parts, and_right}
 use Rattle.std.proofs.lemmas.List.{drop_at, length-append, drop-drop, drop_more}
 use Rattle.std.proofs.lemmas.List.Sums.{prefix_len_stops}
-use Rattle.pg_text.specs.Lexemes.{Lexeme, lexeme, number, word, semicolon, comma, quoted, end, is_space, is_digit, is_letter, is_plain, Each, Stops, value_of, IsSpelt, Begins, after_space, token_fault}
+use Rattle.pg_text.specs.Lexemes.{Lexeme, lexeme, number, word, semicolon, comma, quoted, end, is_space, is_letter, is_plain, IsSpelt, Begins, after_space, token_fault}
+use Rattle.pg_lists.specs.Bytes.{is_digit, Each, Stops, value_of}
 use Rattle.pg_text.specs.declared.tokens.Token.{Token}
 use Rattle.pg_text.specs.declared.tokens.TokenFault.{TokenFault}
-use Rattle.pg_text.specs.Mirrors.Scan.{number_at, word_at, quoted_at, solid_at, lexeme_at, or_fault, token_at}
+use Rattle.pg_text.specs.Mirrors.Scan.{number_at, word_at, quoted_at, solid_at, lexeme_at, token_at}
 use Rattle.pg_text.specs.Mirrors.Steps.{Reads}
-use Rattle.pg_text.proofs.Steps.{chosen, some, some_is, none, none_is_some, ok_is, err_is_ok}
-use Rattle.pg_text.proofs.Runs.{run_each, run_stops, run_parts, run_again, rest_again, run_is, one_more}
+use Rattle.pg_text.proofs.Steps.{ok_is, err_is_ok}
+use Rattle.pg_lists.proofs.Steps.{chosen, some, some_is, none, none_is_some}
+use Rattle.pg_lists.proofs.Runs.{run_each, run_stops, run_parts, run_again, rest_again, run_is, one_more}
 
 -- a token at the very front
 pub record Fronts (bytes : List ℕ) (token : Lexeme) (rest : List ℕ) : Type 0 where
@@ -91,9 +94,7 @@ solid_fronts (b ∷ bytes) x e =
 
 pub lexeme_takes : (bytes : List ℕ) (x : Lexeme × List ℕ) → lexeme_at bytes ≡ Some x → Begins bytes x.0 x.1
 unfolding lexeme_at
-lexeme_takes bytes x e =
-    let front = solid_fronts (after_space bytes) x e in
-    record { gap = take_while is_space bytes; text = front.text; parts = run_parts is_space bytes ∙ ap (λ (t : List ℕ). take_while is_space bytes ++ t) front.parts; blank = run_each is_space bytes; spelt = front.spelt }
+lexeme_takes bytes x e = grind (arith, nat_tests, solid_fronts (after_space bytes) x e, run_parts is_space bytes, run_each is_space bytes)
 
 -- ---- what is spelt is read
 
@@ -118,10 +119,7 @@ digits_again n text rest h =
 
 letters_again : (w text rest : List ℕ) → IsSpelt (word w) text rest → word_at (text ++ rest) ≡ Some (word w, rest)
 unfolding word_at
-letters_again w text rest h =
-    let run = run_again is_letter text rest h.1 h.2 in
-    let behind = rest_again is_letter text rest h.1 h.2 in
-    rw (run, behind, h.3) refl
+letters_again w text rest h = grind (arith, nat_tests, run_again is_letter text rest h.1 h.2, rest_again is_letter text rest h.1 h.2)
 
 number_again : (n : ℕ) (text rest : List ℕ) → IsSpelt (number n) text rest → solid_at (text ++ rest) ≡ Some (number n, rest)
 number_again n [] rest h = absurd (h.0 refl)
@@ -167,9 +165,7 @@ solid_stops end text rest h = rw (h.0, h.1) tt
 
 pub lexeme_again : (bytes : List ℕ) (token : Lexeme) (rest : List ℕ) → Begins bytes token rest → lexeme_at bytes ≡ Some (token, rest)
 unfolding lexeme_at
-lexeme_again bytes token rest h =
-    let gap = rest_again is_space h.gap (h.text ++ rest) h.blank (solid_stops token h.text rest h.spelt) in
-    rw (h.parts, gap) (solid_again token h.text rest h.spelt)
+lexeme_again bytes token rest h = grind (arith, nat_tests, rest_again is_space h.gap (h.text ++ rest) h.blank (solid_stops token h.text rest h.spelt), solid_again token h.text rest h.spelt)
 
 -- ---- what is read of a text, with the fault where no token is read
 
@@ -178,11 +174,7 @@ seen x = (lexeme x.0, x.1.now)
 
 token_lexeme : (bytes : List ℕ) (x : Lexeme × List ℕ) → token_at bytes ≡ Ok x → lexeme_at bytes ≡ Some x
 unfolding token_at
-token_lexeme bytes x e = read (lexeme_at bytes) e
-  where
-    read : (o : Option (Lexeme × List ℕ)) → or_fault o (token_fault bytes) ≡ Ok x → o ≡ Some x
-    read (Some y) h = ap some (ok_is y x h)
-    read None h = absurd (err_is_ok (token_fault bytes) x h)
+token_lexeme bytes x e = grind (arith, nat_tests)
 
 pub token_takes : (bytes : List ℕ) (x : Lexeme × List ℕ) → token_at bytes ≡ Ok x → Begins bytes x.0 x.1
 token_takes bytes x e = lexeme_takes bytes x (token_lexeme bytes x e)
@@ -199,11 +191,7 @@ token_again bytes token rest b = rw (lexeme_again bytes token rest b) refl
 -- where no token is read the fault is that of the text
 pub token_err : (bytes : List ℕ) (fault : TokenFault) → token_at bytes ≡ Err fault → fault ≡ token_fault bytes
 unfolding token_at
-token_err bytes fault e = go (lexeme_at bytes) e
-  where
-    go : (o : Option (Lexeme × List ℕ)) → or_fault o (token_fault bytes) ≡ Err fault → fault ≡ token_fault bytes
-    go (Some y) h = absurd (err_is_ok fault y (sym h))
-    go None h = cc
+token_err bytes fault e = grind (arith, nat_tests)
 
 -- ---- what a function that reads a token answers
 
@@ -212,9 +200,7 @@ read_spelt (Ok x) bytes e = token_takes bytes (seen x) e
 read_spelt (Err f) bytes e = tt
 
 pub read_only : (r : Result (Token × Bor (List ℕ)) TokenFault) (bytes : List ℕ) (token : Lexeme) (rest : List ℕ) → Reads seen r (token_at bytes) → Begins bytes token rest → IsOkAnd r (λ x. (lexeme x.0 ≡ token) × (x.1.now ≡ rest))
-read_only (Ok x) bytes token rest e b =
-    let same : seen x ≡ (token, rest) = ok_is (seen x) (token, rest) (sym e ∙ token_again bytes token rest b) in
-    (ap (λ (p : Lexeme × List ℕ). p.0) same, ap (λ (p : Lexeme × List ℕ). p.1) same)
+read_only (Ok x) bytes token rest e b = grind (arith, nat_tests, ok_is (seen x) (token, rest) (sym e ∙ token_again bytes token rest b))
 read_only (Err f) bytes token rest e b = absurd (err_is_ok f (token, rest) (sym e ∙ token_again bytes token rest b))
 
 pub read_fault : (r : Result (Token × Bor (List ℕ)) TokenFault) (bytes : List ℕ) → Reads seen r (token_at bytes) → IfErr r (λ e. e ≡ token_fault bytes)

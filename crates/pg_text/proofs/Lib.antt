@@ -1,4 +1,3 @@
-pub mod Runs
 pub mod Numbers
 pub mod Steps
 pub mod Lexing

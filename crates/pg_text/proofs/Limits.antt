@@ -1,20 +1,22 @@
 -- Lines are accepted one after another exactly if they are within the limits.
-use Rattle.std.proofs.Common.{◌≡◌, ◌≢◌, ℕ, ◌+◌, ◌-◌, ◌≤◌, ◌<◌, true, false, eqb, ltb, leb, List, [], ◌∷◌, ◌++◌, length, map, None, refl, sym, ap, subst, ◌∙◌, arith, inl, inr, append_assoc}
+use Rattle.std.proofs.Common.{◌≡◌, ◌≢◌, ℕ, ◌+◌, ◌-◌, ◌≤◌, ◌<◌, true, false, eqb, List, [], ◌∷◌, ◌++◌, length, map, None, refl, sym, ap, subst, ◌∙◌, arith, append_assoc}
 use Rattle.std.specs.Prelude.{Contains}
 use Rattle.std.specs.List.{list_any, AllByRecursion, IsDistinct}
-use Rattle.std.proofs.lemmas.Bool.{ltb-false, leb-false, eqb-false, ne_eqb}
-use Rattle.std.proofs.lemmas.List.{length-append, length-map, get_or-map, map-append, append-nil}
+use Rattle.std.proofs.lemmas.Bool.Decides.{nat_tests}
+use Rattle.std.proofs.lemmas.Bool.{eqb-false, ne_eqb}
+use Rattle.std.proofs.lemmas.List.{length-append, map-append, append-nil}
 use Rattle.std.proofs.lemmas.List.Sums.{sum_by-append, sum_by-cons}
 use Rattle.std.proofs.lemmas.List.Elements.{recursion_from_All, All-from_recursion}
 use Rattle.std.proofs.lemmas.Cmp.{nat_eq_equiv}
 use Rattle.std.proofs.lemmas.Map.Keys.{IsDistinct-push, IsDistinct-head, IsDistinct-tail}
 use Rattle.pg_arena.specs.Games.{GameVertex, identifiers, edge_count}
-use Rattle.pg_arena.specs.Lines.{Line, counted, each_once, add_fault, is_named, Accepts, IsGameOf}
-use Rattle.pg_arena.proofs.Rising.{each_once_length, has_each_once, has_contained, contains_from}
+use Rattle.pg_arena.specs.Lines.{Line, counted, add_fault, is_named, Accepts, IsGameOf}
+use Rattle.pg_lists.specs.Rising.{rising}
+use Rattle.pg_lists.proofs.Contained.{contains_mapped}
+use Rattle.pg_lists.proofs.Rising.{rising_length, contains_rising}
 use Rattle.pg_arena.proofs.Unique.{no_unknown}
-use Rattle.pg_arena.proofs.Adding.{names_none}
+use Rattle.pg_arena.proofs.Adding.{accepted as line_accepted}
 use Rattle.pg_text.specs.Limits.{AreWithinLimits}
-use Rattle.pg_text.proofs.Steps.{chosen, none, none_is_some}
 
 abbrev size : Line → ℕ
 size line = length line.successors
@@ -41,40 +43,6 @@ apart (x ∷ xs) y ys d =
     seam [] each = each.0
     seam (z ∷ zs) each = seam zs each.1
 
--- ---- one line
-
-record Passes (before : List Line) (line : Line) : Type 0 where
-  priority : line.priority ≤ 65535
-  some : line.successors ≢ []
-  fresh : list_any (eqb line.identifier) (identifiers before) ≡ false
-  few : length before < 1048576
-  fits : edge_count before + size (counted line) ≤ 8388608
-
-passes : (before : List Line) (line : Line) → add_fault before (counted line) ≡ None → Passes before line
-passes before line e =
-    elim (chosen (ltb 65535 line.priority) _ _ none e) [
-      | inl w ↦ absurd (none_is_some _ (sym w.1))
-      | inr a ↦ elim (chosen (eqb (size (counted line)) 0) _ _ none a.1) [
-        | inl w ↦ absurd (none_is_some _ (sym w.1))
-        | inr b ↦ elim (chosen (is_named before line.identifier) _ _ none b.1) [
-          | inl w ↦ absurd (none_is_some _ (sym w.1))
-          | inr c ↦ elim (chosen (leb 1048576 (length before)) _ _ none c.1) [
-            | inl w ↦ absurd (none_is_some _ (sym w.1))
-            | inr d ↦ elim (chosen (ltb 8388608 (edge_count before + size (counted line))) _ _ none d.1) [
-              | inl w ↦ absurd (none_is_some _ (sym w.1))
-              | inr f ↦ record {
-                priority = let h = ltb-false 65535 line.priority a.0 in omega (arith, h);
-                some = λ none. eqb-false (size (counted line)) 0 b.0 (ap (λ (ns : List ℕ). length (each_once ns)) none);
-                fresh = sym (named_among before line.identifier) ∙ c.0;
-                few = let h = leb-false 1048576 (length before) d.0 in omega (arith, h);
-                fits = let h = ltb-false 8388608 (edge_count before + size (counted line)) f.0 in omega (arith, h);
-              }
-            ]
-          ]
-        ]
-      ]
-    ]
-
 -- ---- the lines behind others
 
 abbrev IsFair : Line → Type 0
@@ -98,12 +66,13 @@ regroup before line rest = append_assoc before (line ∷ []) rest
 accepted : (before lines : List Line) → IsDistinct eqb (identifiers before) → Accepts before lines → AreWithin before lines
 accepted before [] d a = record { distinct = subst (λ (ls : List Line). IsDistinct eqb (identifiers ls)) (sym (append-nil before)) d; fair = tt; few = omega arith; fits = omega arith }
 accepted before (line ∷ lines) d a =
-    let p = passes before line a.0 in
-    let more = subst (IsDistinct eqb) (sym (push_identifiers before (counted line))) (IsDistinct-push nat_eq_equiv (identifiers before) line.identifier d p.fresh) in
+    let p = line_accepted before (counted line) a.0 in
+    let fresh = sym (named_among before line.identifier) ∙ p.unnamed in
+    let more = subst (IsDistinct eqb) (sym (push_identifiers before (counted line))) (IsDistinct-push nat_eq_equiv (identifiers before) line.identifier d fresh) in
     let later = accepted (before ++ counted line ∷ []) lines more a.1 in
     record {
       distinct = subst (λ (ls : List Line). IsDistinct eqb (identifiers ls)) (regroup before (counted line) (map counted lines)) later.distinct;
-      fair = ((p.priority, p.some), later.fair);
+      fair = ((p.passes.priority, λ none. omega (arith, p.passes.some, ap (λ (ns : List ℕ). length (rising ns)) none)), later.fair);
       few = omega (arith, later.few, p.few, length-append before (counted line ∷ []));
       fits = omega (arith, later.fits, p.fits, push_edges before (counted line), sum_by-cons size (counted line) (map counted lines));
     }
@@ -113,8 +82,8 @@ accepts before [] d fair few fits = tt
 accepts before (line ∷ lines) d fair few fits =
     let edges = sum_by-cons size (counted line) (map counted lines) in
     let fresh : is_named before line.identifier ≡ false = named_among before line.identifier ∙ apart (identifiers before) line.identifier (identifiers (map counted lines)) (subst (IsDistinct eqb) (map-append (λ (l : Line). l.identifier) before (map counted (line ∷ lines))) d) in
-    let some = each_once_length line.successors (long line.successors fair.0.1) in
-    let here = names_none before (counted line) (record { priority = fair.0.0; some = some }) fresh (omega arith) (omega (arith, edges, fits)) in (
+    let some = rising_length line.successors (long line.successors fair.0.1) in
+    let here : add_fault before (counted line) ≡ None = grind (arith, nat_tests, fair.0.0, some, fresh, few, edges, fits) in (
       here,
       accepts (before ++ counted line ∷ []) lines (subst (λ (ls : List Line). IsDistinct eqb (identifiers ls)) (sym (regroup before (counted line) (map counted lines))) d) fair.1
           (omega (arith, few, length-append before (counted line ∷ []))) (omega (arith, fits, edges, push_edges before (counted line))),
@@ -161,21 +130,15 @@ are_accepted lines w =
 
 -- ---- successors
 
-contains_mapped : (lines : List Line) (line : Line) → Contains lines line → Contains (map counted lines) (counted line)
-contains_mapped lines line h = (h.0, omega (arith, h.1, length-map lines counted), get_or-map counted lines h.0 line (counted line) h.1 ∙ ap counted h.2)
-
 pub successors_named : (lines : List Line) (game : List GameVertex) (line : Line) (n : ℕ) → IsGameOf (map counted lines) game → Contains lines line → Contains line.successors n → is_named lines n ≡ true
 successors_named lines game line n made given leads =
     elim (is_named lines n) as (λ b. is_named lines n ≡ b → b ≡ true) [
       | true ↦ λ e. refl
       | false ↦ λ e. absurd (no_unknown (map counted lines) game line.identifier n made (record {
         line = counted line;
-        given = contains_mapped lines line given;
+        given = contains_mapped counted lines line given;
         of = refl;
-        leads = once line.successors leads;
+        leads = contains_rising line.successors n leads;
         undefined = named_among (map counted lines) n ∙ ap (list_any (eqb n)) (counted_identifiers lines) ∙ sym (named_among lines n) ∙ e;
       }))
     ] refl
-  where
-    once : (ns : List ℕ) → Contains ns n → Contains (each_once ns) n
-    once ns h = contains_from n (each_once ns) (has_each_once n ns ∙ has_contained n ns h)

@@ -1,5 +1,6 @@
 -- Lines taken one after another into a solution, with a mark for each vertex that one of them names.
 use Rattle.std.proofs.Common.{◌≡◌, ◌≢◌, ℕ, ◌+◌, ◌≤◌, ◌<◌, Bool, true, false, cond, eqb, List, [], ◌∷◌, ◌++◌, length, Option, Some, None, refl, sym, ap, subst, ◌∙◌, arith, inl, inr}
+use Rattle.std.proofs.lemmas.Bool.Decides.{nat_tests}
 use Rattle.std.specs.Prelude.{◌&&◌, ◌||◌, is_some, option_map, replicate, slice_set}
 use Rattle.std.specs.List.{list_any, AllByRecursion}
 use Rattle.std.proofs.lemmas.Bool.{eqb-true, eq-eqb, ne_eqb, cases_eq, cases_Bool}
@@ -7,13 +8,13 @@ use Rattle.std.proofs.lemmas.List.{get_or-set_same, get_or-set_other, get_or-rep
 use Rattle.std.proofs.lemmas.List.Sums.{sum_by-append, sum_by-cons}
 use Rattle.pg_arena.specs.declared.player.Player.{Player}
 use Rattle.pg_arena.specs.declared.player.Player.TheVariants.{Even, Odd}
-use Rattle.pg_arena.specs.Games.{GameVertex, identifier, owner, IsEdge, IsGame}
+use Rattle.pg_arena.specs.Games.{GameVertex, identifier, IsEdge, IsGame}
 use Rattle.pg_text.specs.declared.answer.Answer.{Answer}
 use Rattle.pg_text.specs.declared.solution_line.SolutionLine.{SolutionLine}
 use Rattle.pg_text.specs.Solutions.{unanswered, answer_at, winner, choice, IsSolution}
 use Rattle.pg_text.specs.SolutionText.{is_same, owns, counting_strategy, line_count, Says, Fits, AreTaken, has_line, answers, AreLines, IsSolutionText}
 use Rattle.pg_text.specs.Mirrors.SolutionReading.{is_seen, Puts, State, is_complete}
-use Rattle.pg_text.proofs.Steps.{some, some_is, none, none_is_some, chosen}
+use Rattle.pg_lists.proofs.Steps.{some, some_is, none, none_is_some, chosen}
 use Rattle.pg_text.proofs.Answering.{same_vertex}
 
 -- ---- players
@@ -95,14 +96,7 @@ nothing_read game = record {
 
 -- what is said at another vertex stays
 says_kept : (game : List GameVertex) (solution : List Answer) (a : Answer) (line : SolutionLine) (v u : ℕ) → u ≢ v → Says game solution line u → Says game (slice_set solution v a) line u
-says_kept game solution a line v u other says =
-    let same : answer_at (slice_set solution v a) u ≡ answer_at solution u = get_or-set_other solution v u a unanswered other in
-    record {
-      within = says.within;
-      named = says.named;
-      won = ap (λ (b : Answer). b.winner) same ∙ says.won;
-      chosen = ap (λ (b : Answer). option_map (identifier game) b.choice) same ∙ says.chosen;
-    }
+says_kept game solution a line v u other says = grind (arith, nat_tests, get_or-set_other solution v u a unanswered other, chosen)
 
 -- where no line names v, all of them are said after the answer at v was changed
 all_kept : (game : List GameVertex) (solution : List Answer) (a : Answer) (v : ℕ) (lines : List SolutionLine) → line_count game lines v ≡ 0 → AllByRecursion (IsSaid game solution) lines → AllByRecursion (IsSaid game (slice_set solution v a)) lines
@@ -216,16 +210,12 @@ or_and true false true = refl
 or_and true false false = refl
 or_and false true true = refl
 or_and false true false = refl
-or_and false false true = refl
-or_and false false false = refl
+or_and false false _ = refl
 
 any_answers : (game : List GameVertex) (solution : List Answer) (v : ℕ) (lines : List SolutionLine) → IsGame game → v < length game → AllByRecursion (IsSaid game solution) lines
     → list_any (answers game v) lines ≡ (list_any (names game v) lines && is_chosen game solution v)
 any_answers game solution v [] well within all = refl
-any_answers game solution v (line ∷ lines) well within all =
-    let first = answers_is game solution v all.0.0 line well within all.0.1 in
-    let later = any_answers game solution v lines well within all.1 in
-    ap (λ (b : Bool). b || list_any (answers game v) lines) first ∙ ap (λ (b : Bool). (names game v line && is_chosen game solution v) || b) later ∙ or_and (names game v line) (list_any (names game v) lines) (is_chosen game solution v)
+any_answers game solution v (line ∷ lines) well within all = grind (arith, nat_tests, answers_is game solution v all.0.0 line well within all.0.1, any_answers game solution v lines well within all.1, or_and (names game v line) (list_any (names game v) lines) (is_chosen game solution v))
 
 -- the lines answer for v exactly if it is marked and has the choice that it needs
 pub answered_is : (game : List GameVertex) (lines : List SolutionLine) (solution : List Answer) (seen : List Bool) (v : ℕ) → IsGame game → v < length game → State game lines solution seen
@@ -236,33 +226,16 @@ answered_is game lines solution seen v well within s =
 -- ---- what a text of these lines says
 
 owned_chosen : (game : List GameVertex) (solution : List Answer) (v : ℕ) → v < length game → IsSolution game solution → is_chosen game solution v ≡ true
-owned_chosen game solution v within whole =
-    elim (cases_Bool (owns game (winner solution v) v)) [
-      | inl holds ↦
-          let c = whole.chosen v within (sym (same_player (winner solution v) (owner game v) holds)) in
-          let has : is_some (choice solution v) ≡ true = ap (λ (o : Option ℕ). is_some o) c.1 in
-          rw (holds, has) refl
-      | inr fails ↦ rw fails refl
-    ]
+owned_chosen game solution v within whole = grind (arith, nat_tests, cases_Bool (owns game (winner solution v) v))
 
 -- every vertex is answered for by lines that spell a solution
 pub all_answered : (bytes : List ℕ) (game : List GameVertex) (solution : List Answer) (v : ℕ) → IsGame game → v < length game → (t : IsSolutionText bytes game solution) → list_any (answers game v) t.lines ≡ true
 all_answered bytes game solution v well within t =
     any_answers game solution v t.lines well within t.said ∙ ap (λ (b : Bool). b && is_chosen game solution v) (named_if game v t.lines true (t.one_each v within)) ∙ owned_chosen game solution v within t.whole
 
-none_mapped : (f : ℕ → ℕ) (o : Option ℕ) (w : ℕ) → option_map f o ≡ none → o ≡ some w → ⊥
-none_mapped f None w e is = none_is_some w is
-none_mapped f (Some x) w e is = none_is_some (f x) (sym e)
-
 -- a choice that a line says is a successor
 pub said_edge : (game : List GameVertex) (solution : List Answer) (line : SolutionLine) (v w : ℕ) → IsSolution game solution → Says game solution line v → choice solution v ≡ Some w → IsEdge game v w
-said_edge game solution line v w whole says is =
-    elim (cases_Bool (owns game line.winner v)) [
-      | inl holds ↦
-          let c = whole.chosen v says.within (sym (same_player line.winner (owner game v) holds) ∙ sym says.won) in
-          subst (λ (t : ℕ). IsEdge game v t) (some_is c.0 w (sym c.1 ∙ is)) c.2
-      | inr fails ↦ (let nothing : option_map (identifier game) (choice solution v) ≡ none = says.chosen ∙ ap (λ (b : Bool). cond b line.strategy none) fails in absurd (none_mapped (identifier game) (choice solution v) w nothing is))
-    ]
+said_edge game solution line v w whole says is = grind (arith, nat_tests, cases_Bool (owns game line.winner v))
 
 mapped_some : (f : ℕ → ℕ) (o : Option ℕ) (n : ℕ) → option_map f o ≡ some n → (w : ℕ) × (o ≡ some w) × (f w ≡ n)
 mapped_some f None n e = absurd (none_is_some n e)
@@ -270,12 +243,7 @@ mapped_some f (Some x) n e = (x, refl, some_is (f x) n e)
 
 -- a line that is said with a successor as its choice fits
 pub said_fits : (game : List GameVertex) (solution : List Answer) (line : SolutionLine) (v : ℕ) → ((w : ℕ) → choice solution v ≡ Some w → IsEdge game v w) → Says game solution line v → Fits game line
-said_fits game solution line v edges says = record {
-  v = v;
-  within = says.within;
-  named = says.named;
-  leads = λ n counts. let m = mapped_some (identifier game) (choice solution v) n (says.chosen ∙ counts) in (m.0, edges m.0 m.1, m.2);
-}
+said_fits game solution line v edges says = grind (arith, nat_tests)
 
 pub text_fits : (bytes : List ℕ) (game : List GameVertex) (solution : List Answer) (t : IsSolutionText bytes game solution) → AllByRecursion (Fits game) t.lines
 text_fits bytes game solution t = all_map (IsSaid game solution) (Fits game) (λ line s. said_fits game solution line s.0 (λ w is. said_edge game solution line s.0 w t.whole s.1 is) s.1) t.lines t.said
@@ -310,11 +278,7 @@ no_line game (line ∷ lines) n fits none =
 
 -- two lines for one vertex are one too many
 pub one_too_many : (game : List GameVertex) (before : List SolutionLine) (line : SolutionLine) (after : List SolutionLine) (v : ℕ) → line.identifier ≡ identifier game v → line_count game before v ≡ 1 → line_count game (before ++ line ∷ after) v ≡ 1 → ⊥
-one_too_many game before line after v named one total =
-    let this : one_if (names game v line) ≡ 1 = ap one_if (eq-eqb line.identifier (identifier game v) named) in
-    let counts = count_append game before (line ∷ after) v in
-    let rest = count_cons game line after v in
-    absurd (omega arith)
+one_too_many game before line after v named one total = grind (arith, nat_tests, eq-eqb line.identifier (identifier game v) named, count_append game before (line ∷ after) v, count_cons game line after v)
 
 -- ---- the solution that is read
 

@@ -13,7 +13,8 @@ use Rattle.pg_text.specs.Mirrors.Parts.{natural_at}
 use Rattle.pg_text.specs.Mirrors.GameScan.{owner_at}
 use Rattle.pg_text.specs.SolutionText.{owns, strategy_lexemes, answer_lexemes, Fits, StartsLine, IsUnknown, IsNoMove, BeginsUnfit}
 use Rattle.pg_text.specs.Mirrors.SolutionReading.{is_seen, IsLost, IsUnmarked, IsMisfit, BeginsMisfit, BeginsWell}
-use Rattle.pg_text.proofs.Steps.{some, some_is, none, none_is_some, ok_is, err_is_ok}
+use Rattle.pg_text.proofs.Steps.{ok_is, err_is_ok}
+use Rattle.pg_lists.proofs.Steps.{some, some_is, none, none_is_some}
 use Rattle.pg_text.proofs.Lexing.{token_again}
 use Rattle.pg_text.proofs.Parts.{natural_again}
 use Rattle.pg_text.proofs.Takes.{owner_again}

@@ -1,16 +1,17 @@
 -- Where reading a game fails, no token stands that may stand there.
 use Rattle.std.proofs.Common.{◌≡◌, ◌≢◌, ℕ, zero, suc, ◌^◌, ◌<◌, true, false, cond, ltb, List, [], ◌∷◌, length, Option, Some, None, Ok, Err, refl, sym, ap, subst, ◌∙◌, inl, inr, ◌⊎◌, arith}
+use Rattle.std.proofs.lemmas.Bool.Decides.{nat_tests}
 use Rattle.std.specs.Prelude.{option_and_then}
 use Rattle.std.specs.Str.{bytes_eq}
 use Rattle.std.specs.List.{flat_map, AllByRecursion, take_while}
-use Rattle.std.proofs.lemmas.Bool.{ltb-true, ltb-false}
 use Rattle.std.proofs.lemmas.Slice.Eq.{bytes_eq-Decides}
 use Rattle.pg_arena.specs.declared.player.Player.{Player}
 use Rattle.pg_arena.specs.declared.player.Player.TheVariants.{Even, Odd}
 use Rattle.pg_arena.specs.Lines.{Line}
 use Rattle.pg_text.specs.declared.tokens.TokenFault.{TokenFault}
 use Rattle.pg_text.specs.declared.tokens.TokenFault.TheVariants.{Syntax, NumberTooLarge}
-use Rattle.pg_text.specs.Lexemes.{Lexeme, number, word, semicolon, comma, quoted, end, is_digit, value_of, Begins, Spells, after_space, fault_at, token_fault, IsTooLarge, IsToldAt}
+use Rattle.pg_text.specs.Lexemes.{Lexeme, number, word, semicolon, comma, quoted, end, Begins, Spells, after_space, fault_at, token_fault, IsTooLarge, IsToldAt}
+use Rattle.pg_lists.specs.Bytes.{is_digit, value_of}
 use Rattle.pg_text.specs.Numbers.{comma_number_lexemes, numbers_lexemes}
 use Rattle.pg_text.specs.Places.{IsInner, Place, behind_line, behind_identifier, behind_priority, behind_owner, behind_successor, behind_comma, behind_name, to_number, to_semicolon, to_player, to_line, after, after_all}
 use Rattle.pg_text.specs.GameText.{player_number}
@@ -18,8 +19,9 @@ use Rattle.pg_text.specs.Mirrors.Steps.{◌>>=◌, Read, Step, item, stop, unexp
 use Rattle.pg_text.specs.Mirrors.Scan.{number_at, solid_at, lexeme_at, or_fault, token_at}
 use Rattle.pg_text.specs.Mirrors.Parts.{number_in, natural_at, semicolon_in, semicolon_at, clause_in, clause_at, further_in, further_at, numbers_at}
 use Rattle.pg_text.specs.Mirrors.GameScan.{player_in, owner_at, ending_in, ending_at, line_at, item_in, item_at}
-use Rattle.pg_text.proofs.Steps.{chosen, bind_ok, ok, err, ok_is, err_is_ok, some, some_is, none, none_is_some}
-use Rattle.pg_text.proofs.Runs.{none_more}
+use Rattle.pg_text.proofs.Steps.{bind_ok, ok, err, ok_is, err_is_ok}
+use Rattle.pg_lists.proofs.Steps.{chosen, some, some_is, none, none_is_some}
+use Rattle.pg_lists.proofs.Runs.{none_more}
 use Rattle.pg_text.proofs.Lexing.{solid_digit, token_takes, token_again}
 use Rattle.pg_text.proofs.Spelling.{items_take}
 use Rattle.pg_text.proofs.Parts.{natural_takes, further_takes, further_exact, further_shrinks, numbers_take}
@@ -29,24 +31,14 @@ use Rattle.pg_text.proofs.Takes.{owner_takes}
 
 number_some : (bytes : List ℕ) (x : Lexeme × List ℕ) → number_at bytes ≡ Some x → ¬ IsTooLarge bytes
 unfolding number_at
-number_some bytes x e large =
-    elim (chosen (ltb (value_of (take_while is_digit bytes)) (2 ^ 32)) _ _ (some x) e) [
-      | inl w ↦ let small = ltb-true (value_of (take_while is_digit bytes)) (2 ^ 32) w.0 in omega (arith, small, large)
-      | inr w ↦ none_is_some x w.1
-    ]
+number_some bytes x e large = grind (arith, nat_tests, chosen (ltb (value_of (take_while is_digit bytes)) (2 ^ 32)) _ _ (some x) e)
 
 number_none : (bytes : List ℕ) → number_at bytes ≡ None → IsTooLarge bytes
 unfolding number_at
-number_none bytes e =
-    elim (chosen (ltb (value_of (take_while is_digit bytes)) (2 ^ 32)) _ _ none e) [
-      | inl w ↦ absurd (none_is_some _ (sym w.1))
-      | inr w ↦ ltb-false (value_of (take_while is_digit bytes)) (2 ^ 32) w.0
-    ]
+number_none bytes e = grind (arith, nat_tests, chosen (ltb (value_of (take_while is_digit bytes)) (2 ^ 32)) _ _ none e)
 
 no_number : (b : ℕ) (bytes : List ℕ) → is_digit b ≡ false → ¬ IsTooLarge (b ∷ bytes)
-no_number b bytes h large =
-    let zero_is : value_of (take_while is_digit (b ∷ bytes)) ≡ 0 = rw (none_more is_digit b bytes h) refl in
-    omega (arith, large, zero_is)
+no_number b bytes h large = grind (arith, nat_tests, none_more is_digit b bytes h)
 
 solid_some : (bytes : List ℕ) (x : Lexeme × List ℕ) → solid_at bytes ≡ Some x → ¬ IsTooLarge bytes
 solid_some [] x e = λ large. omega (arith, large)
@@ -259,14 +251,7 @@ onward (token ∷ tokens) place next bytes mid fault s inner e stuck = go (λ p 
 
 further_stops : (bytes : List ℕ) (u : Unit {0}) (rest mid : List ℕ) → further_at bytes ≡ Ok (stop u, rest) → ¬ Begins bytes comma mid
 unfolding further_at
-further_stops bytes u rest mid e b = go (natural_at mid) (rw (token_again bytes comma mid b) at e)
-  where
-    go : (o : Read (ℕ × List ℕ)) → (o >>= λ n. let y : Step ℕ (Unit {0}) × List ℕ = (item n.0, n.1) in ok y) ≡ Ok (stop u, rest) → ⊥
-    go (Err f) k = absurd cc
-    go (Ok n) k =
-        let y : Step ℕ (Unit {0}) × List ℕ = (item n.0, n.1) in
-        let same = ap (λ (p : Step ℕ (Unit {0}) × List ℕ). p.0) (ok_is y (stop u, rest) k) in
-        absurd cc
+further_stops bytes u rest mid e b = grind (arith, nat_tests, token_again bytes comma mid b)
 
 -- no comma stands behind numbers that are read
 numbers_stop : (bytes : List ℕ) (y : List ℕ × List ℕ) → numbers_at bytes ≡ Ok y → (mid : List ℕ) → ¬ Begins y.1 comma mid
@@ -384,14 +369,4 @@ clause_stuck name place p q r bytes fault is_word is_number is_semicolon e = go 
 -- where no clause is read its word doesn't stand
 pub no_word : (name bytes rest mid : List ℕ) → clause_at name bytes ≡ Ok (None, rest) → ¬ Begins bytes (word name) mid
 unfolding clause_at
-no_word name bytes rest mid e b =
-    let same : bytes_eq name name ≡ true = (bytes_eq-Decides name name).1 refl in
-    go (natural_at mid) (rw (token_again bytes (word name) mid b, same) at e)
-  where
-    go : (o : Read (ℕ × List ℕ)) → (o >>= λ n. semicolon_at n.1 >>= λ behind. let y : Option ℕ × List ℕ = (some n.0, behind) in ok y) ≡ Ok (None, rest) → ⊥
-    go (Err f) k = absurd cc
-    go (Ok n) k =
-        let s = bind_ok (semicolon_at n.1) (λ behind. let y : Option ℕ × List ℕ = (some n.0, behind) in ok y) (None, rest) k in
-        let y : Option ℕ × List ℕ = (some n.0, s.0) in
-        let pair = ap (λ (p : Option ℕ × List ℕ). p.0) (ok_is y (None, rest) s.2) in
-        absurd cc
+no_word name bytes rest mid e b = grind (arith, nat_tests, bytes_eq-Decides name name, token_again bytes (word name) mid b)

@@ -1,19 +1,12 @@
 -- Digits, read one after another.
-use Rattle.std.proofs.Common.{◌≡◌, ℕ, ◌+◌, ◌-◌, ◌*◌, ◌^◌, ◌≤◌, ◌<◌, true, false, List, [], ◌∷◌, take, drop, Some, None, length, get_or, arith, refl, ap, ◌∙◌, sym, subst, ltb}
-use Rattle.std.specs.List.{fold, prefix_len, take_while}
-use Rattle.std.proofs.lemmas.Bool.{lt-ltb, le-ltb}
+use Rattle.std.proofs.Common.{◌≡◌, ℕ, ◌+◌, ◌-◌, ◌*◌, ◌^◌, ◌≤◌, ◌<◌, true, false, List, [], ◌∷◌, take, drop, Some, None, length, get_or, arith, refl, sym, subst}
+use Rattle.std.proofs.lemmas.Bool.Decides.{nat_tests}
+use Rattle.std.specs.List.{prefix_len, take_while}
 use Rattle.std.proofs.lemmas.List.{take_rest}
-use Rattle.pg_text.specs.Lexemes.{number, is_digit, value_of}
+use Rattle.pg_text.specs.Lexemes.{number}
+use Rattle.pg_lists.specs.Bytes.{is_digit, value_of}
 use Rattle.pg_text.specs.Mirrors.Scan.{number_at}
-use Rattle.pg_text.proofs.Runs.{one_more, none_more}
-
--- the value of digits behind others of value n
-abbrev pub value_from : ℕ → List ℕ → ℕ
-value_from n digits = fold (λ n b. 10 * n + (b - 48)) n digits
-
-pub value_grows : (n : ℕ) (digits : List ℕ) → n ≤ value_from n digits
-value_grows n [] = omega arith
-value_grows n (b ∷ digits) = let more : 10 * n + (b - 48) ≤ value_from (10 * n + (b - 48)) digits = value_grows (10 * n + (b - 48)) digits in omega arith
+use Rattle.pg_lists.proofs.Runs.{one_more, none_more, value_from, value_grows}
 
 -- of the number at the front of the bytes digits of this value are read, and this is the rest
 pub record IsReading (bytes : List ℕ) (value : ℕ) (rest : List ℕ) : Type 0 where
@@ -21,10 +14,7 @@ pub record IsReading (bytes : List ℕ) (value : ℕ) (rest : List ℕ) : Type 0
   pub behind : drop (prefix_len is_digit rest) rest ≡ drop (prefix_len is_digit bytes) bytes
 
 one_digit : (bytes : List ℕ) (value b : ℕ) (rest : List ℕ) → is_digit b ≡ true → IsReading bytes value (b ∷ rest) → IsReading bytes (10 * value + (b - 48)) rest
-one_digit bytes value b rest holds r = record {
-  whole = ap (λ (n : ℕ). value_from value (take n (b ∷ rest))) (sym (one_more is_digit b rest holds)) ∙ r.whole;
-  behind = ap (λ (n : ℕ). drop n (b ∷ rest)) (sym (one_more is_digit b rest holds)) ∙ r.behind;
-}
+one_digit bytes value b rest holds r = grind (arith, nat_tests, one_more is_digit b rest holds)
 
 -- one digit more
 pub reads_digit : (bytes : List ℕ) (value : ℕ) (rest : List ℕ) → 1 ≤ length rest → is_digit (get_or rest 0 0) ≡ true → IsReading bytes value rest → IsReading bytes (10 * value + (get_or rest 0 0 - 48)) (take (length rest - 1) (drop 1 rest))
@@ -38,17 +28,9 @@ no_digits (b ∷ bytes) h = none_more is_digit b bytes (h (omega arith))
 -- the digits end here
 pub number_ends : (bytes : List ℕ) (value : ℕ) (rest : List ℕ) → (1 ≤ length rest → is_digit (get_or rest 0 0) ≡ false) → value < 2 ^ 32 → IsReading bytes value rest → number_at bytes ≡ Some (number value, rest)
 unfolding number_at
-number_ends bytes value rest ends small r =
-    let none = no_digits rest ends in
-    let is : value_of (take_while is_digit bytes) ≡ value = sym r.whole ∙ ap (λ (n : ℕ). value_from value (take n rest)) none in
-    let behind : drop (prefix_len is_digit bytes) bytes ≡ rest = sym r.behind ∙ ap (λ (n : ℕ). drop n rest) none in
-    let test : ltb (value_of (take_while is_digit bytes)) (2 ^ 32) ≡ true = lt-ltb _ _ (omega (arith, is)) in
-    rw (test, is, behind) refl
+number_ends bytes value rest ends small r = grind (arith, nat_tests, no_digits rest ends)
 
 -- the digits so far write a number that is too large
 pub number_over : (bytes : List ℕ) (value : ℕ) (rest : List ℕ) → 2 ^ 32 ≤ value → IsReading bytes value rest → number_at bytes ≡ None
 unfolding number_at
-number_over bytes value rest large r =
-    let grows = value_grows value (take_while is_digit rest) in
-    let test : ltb (value_of (take_while is_digit bytes)) (2 ^ 32) ≡ false = le-ltb _ _ (omega (arith, grows, r.whole)) in
-    rw test refl
+number_over bytes value rest large r = grind (arith, nat_tests, value_grows value (take_while is_digit rest))

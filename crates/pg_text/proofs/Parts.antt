@@ -1,9 +1,9 @@
 -- The parts of texts: what is read is spelt, and what is spelt is read.
-use Rattle.std.proofs.Common.{◌≡◌, ◌≢◌, ℕ, true, false, List, [], ◌∷◌, ◌++◌, Option, Some, None, Ok, Err, ◌∙◌, refl, sym, ap, subst, arith, inl, inr}
+use Rattle.std.proofs.Common.{◌≡◌, ◌≢◌, ℕ, List, [], ◌∷◌, ◌++◌, Option, Some, None, Ok, Err, ◌∙◌, refl, sym, ap, subst, arith, inl, inr}
+use Rattle.std.proofs.lemmas.Bool.Decides.{nat_tests}
 use Rattle.std.specs.Str.{bytes_eq}
 use Rattle.std.specs.List.{flat_map, AllByRecursion}
 use Rattle.std.proofs.lemmas.Slice.Eq.{bytes_eq-Decides}
-use Rattle.std.proofs.lemmas.Bool.{false_from_ne_true}
 use Rattle.pg_text.specs.Lexemes.{Lexeme, number, word, semicolon, comma, end, Begins, Spells, clause_lexemes}
 use Rattle.pg_text.specs.Numbers.{comma_number_lexemes, numbers_lexemes}
 use Rattle.pg_text.specs.declared.tokens.TokenFault.{TokenFault}
@@ -11,7 +11,8 @@ use Rattle.pg_text.specs.declared.reading.Refusal.TheVariants.{Token}
 use Rattle.pg_text.specs.Mirrors.Steps.{◌>>=◌, Read, Step, item, stop, items_at}
 use Rattle.pg_text.specs.Mirrors.Scan.{token_at}
 use Rattle.pg_text.specs.Mirrors.Parts.{number_in, natural_at, word_in, name_at, semicolon_in, semicolon_at, end_in, end_at, further_in, further_at, numbers_at, clause_in, clause_at}
-use Rattle.pg_text.proofs.Steps.{bind_ok, chosen, ok, ok_is, some}
+use Rattle.pg_text.proofs.Steps.{bind_ok, ok, ok_is}
+use Rattle.pg_lists.proofs.Steps.{chosen, some}
 use Rattle.pg_text.proofs.Lexing.{token_takes, token_again}
 use Rattle.pg_text.proofs.Items.{Shrinks, with_front, goes_on, ends, fails}
 use Rattle.pg_text.proofs.Spelling.{begins_shorter, spells_within, IsExact, items_take, items_again}
@@ -98,15 +99,11 @@ clause_takes name bytes y e =
 
 pub clause_there : (name : List ℕ) (n : ℕ) (bytes rest : List ℕ) → Spells bytes (clause_lexemes name (Some n)) rest → clause_at name bytes ≡ Ok (Some n, rest)
 unfolding clause_at
-clause_there name n bytes rest s =
-    let same : bytes_eq name name ≡ true = (bytes_eq-Decides name name).1 refl in
-    rw (token_again bytes (word name) s.0 s.1, same, natural_again s.0 n s.2.0 s.2.1, semicolon_again s.2.0 s.2.2.0 s.2.2.1, s.2.2.2) refl
+clause_there name n bytes rest s = grind (arith, nat_tests, bytes_eq-Decides name name, token_again bytes (word name) s.0 s.1, natural_again s.0 n s.2.0 s.2.1, semicolon_again s.2.0 s.2.2.0 s.2.2.1)
 
 -- another token than the word
 clause_in_other : (name bytes : List ℕ) (token : Lexeme) (mid : List ℕ) → (token ≡ word name → ⊥) → clause_in name bytes (token, mid) ≡ Ok (None, bytes)
-clause_in_other name bytes (word w) mid h =
-    let other : bytes_eq w name ≡ false = false_from_ne_true (bytes_eq w name) (λ e. h (ap (λ (v : List ℕ). word v) ((bytes_eq-Decides w name).0 e))) in
-    rw other refl
+clause_in_other name bytes (word w) mid h = grind (arith, nat_tests, bytes_eq-Decides w name)
 clause_in_other name bytes _ mid h = refl
 
 pub clause_absent : (name bytes : List ℕ) (token : Lexeme) (mid : List ℕ) → (token ≡ word name → ⊥) → Begins bytes token mid → clause_at name bytes ≡ Ok (None, bytes)

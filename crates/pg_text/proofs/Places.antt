@@ -13,7 +13,7 @@ use Rattle.pg_text.specs.Places.{Place, at_front, behind_parity, behind_parity_n
 use Rattle.pg_text.specs.declared.solution_line.SolutionLine.{SolutionLine}
 use Rattle.pg_text.specs.SolutionText.{strategy_lexemes, answer_lexemes, solution_lexemes}
 use Rattle.pg_text.specs.PlaceLaws.{HaveSuccessors}
-use Rattle.pg_text.proofs.Steps.{some_is, none_is_some}
+use Rattle.pg_lists.proofs.Steps.{some_is, none_is_some}
 use Rattle.pg_text.proofs.Misplaced.{others_lead}
 
 -- what stands behind tokens that lead to a place goes on from there

@@ -1,5 +1,6 @@
 -- What is written piece by piece is the layout.
 use Rattle.std.proofs.Common.{◌≡◌, ℕ, zero, suc, ◌-◌, ◌+◌, ◌<◌, ◌*◌, ◌≤◌, List, [], ◌∷◌, ◌++◌, length, map, take, drop, replicate, get_or, arith, Option, refl, sym, ap, subst, ◌∙◌, take-append-drop}
+use Rattle.std.proofs.lemmas.Bool.Decides.{nat_tests}
 use Rattle.std.specs.Prelude.{All, codes, decimal}
 use Rattle.std.specs.List.{flat_map, take-map}
 use Rattle.std.specs.Io.KnownBytes.{Appends}
@@ -57,9 +58,7 @@ completes_rest old a b all rest k so_far more =
 -- zeros take two bytes each
 zeros_long : (n : ℕ) → length (flat_map comma_number (replicate n 0)) ≡ 2 * n
 zeros_long zero = refl
-zeros_long (suc n) =
-    let more = length-append (comma_number 0) (flat_map comma_number (replicate n 0)) in
-    omega (arith, more, ap length (decimal_digit 0 (omega arith)), zeros_long n)
+zeros_long (suc n) = grind (arith, nat_tests, length-append (comma_number 0) (flat_map comma_number (replicate n 0)), decimal_digit 0 (omega arith), zeros_long n)
 
 -- the bytes of fewer zeros stand in front of those of more
 pub zeros_text : (n m : ℕ) → n ≤ m → take (2 * n) (flat_map comma_number (replicate m 0)) ≡ flat_map comma_number (replicate n 0)

@@ -1,5 +1,6 @@
 -- The text of a game spells that game.
-use Rattle.std.proofs.Common.{◌≡◌, ◌≢◌, ℕ, zero, suc, ◌+◌, ◌-◌, ◌<◌, ◌≤◌, ◌^◌, eqb, List, [], ◌∷◌, ◌++◌, length, get_or, map, Some, None, IfSome, refl, sym, ap, subst, ◌∙◌, arith}
+use Rattle.std.proofs.Common.{◌≡◌, ◌≢◌, ℕ, zero, suc, ◌+◌, ◌-◌, ◌<◌, ◌≤◌, ◌^◌, eqb, List, [], ◌∷◌, ◌++◌, length, get_or, map, Some, None, IfSome, refl, ap, subst, ◌∙◌, arith}
+use Rattle.std.proofs.lemmas.Bool.Decides.{nat_tests}
 use Rattle.std.specs.Prelude.{decimal, codes}
 use Rattle.std.specs.List.{flat_map, AllByRecursion, IsDistinct}
 use Rattle.std.specs.List.Sorted.{IsStrictlyIncreasing}
@@ -12,10 +13,11 @@ use Rattle.std.proofs.lemmas.List.Kept.{AllPairs-from_increasing}
 use Rattle.std.proofs.lemmas.Map.Keys.{IsDistinct-from_apart}
 use Rattle.pg_arena.specs.Games.{GameVertex, IsGame, IsWithinLimits, vertex_at, nowhere, identifier, identifiers, successors, edge_count}
 use Rattle.pg_arena.specs.Lines.{Line, counted, Accepts, line_of, lines_of, IsGameOf}
-use Rattle.pg_arena.proofs.Rising.{each_once_same}
+use Rattle.pg_lists.proofs.Rising.{rises_already}
 use Rattle.pg_arena.proofs.Adding.{Passes}
 use Rattle.pg_arena.proofs.Unique.{one_game}
-use Rattle.pg_text.specs.Lexemes.{number, word, semicolon, end, is_plain, Each, Begins}
+use Rattle.pg_text.specs.Lexemes.{number, word, semicolon, end, is_plain, Begins}
+use Rattle.pg_lists.specs.Bytes.{Each}
 use Rattle.pg_text.specs.GameText.{line_lexemes, IsText, IsGameText}
 use Rattle.pg_text.specs.GameLayout.{line_text, game_text}
 use Rattle.pg_text.specs.ReadBack.{IsPrintable}
@@ -28,17 +30,11 @@ use Rattle.pg_text.proofs.Limits.{are_accepted}
 
 rising_from : (xs : List ℕ) → IsStrictlyIncreasing xs → (i k : ℕ) → i + suc k < length xs → get_or xs i 0 < get_or xs (i + suc k) 0
 rising_from xs rise i zero lt = rise i lt
-rising_from xs rise i (suc k) lt =
-    let before : get_or xs i 0 < get_or xs (i + suc k) 0 = rising_from xs rise i k (omega arith) in
-    let same : i + suc (suc k) ≡ i + suc k + 1 = omega arith in
-    let step : get_or xs (i + suc k) 0 < get_or xs (i + suc k + 1) 0 = rise (i + suc k) (omega arith) in
-    rw same (omega arith)
+rising_from xs rise i (suc k) lt = grind (arith, nat_tests, rising_from xs rise i k (omega arith))
 
 -- a greater place has a greater number
 rising_lt : (xs : List ℕ) → IsStrictlyIncreasing xs → (i j : ℕ) → i < j → j < length xs → get_or xs i 0 < get_or xs j 0
-rising_lt xs rise i j lt within =
-    let same : i + suc (j - i - 1) ≡ j = omega arith in
-    subst (λ (n : ℕ). get_or xs i 0 < get_or xs n 0) same (rising_from xs rise i (j - i - 1) (omega arith))
+rising_lt xs rise i j lt within = grind (arith, nat_tests, rising_from xs rise i (j - i - 1) (omega arith))
 
 identifier_is : (game : List GameVertex) (v : ℕ) → v < length game → get_or (identifiers game) v 0 ≡ identifier game v
 identifier_is game v lt = get_or-map (λ (x : GameVertex). x.identifier) game v nowhere 0 lt
@@ -96,7 +92,7 @@ have_successors (line ∷ lines) each = (each.0.printable.some, have_successors 
 
 -- the successors of a fair line stand once each
 counted_same : (line : Line) → IsFair line → counted line ≡ line
-counted_same line f = ap (λ (s : List ℕ). let l : Line = record line { successors = s } in l) (each_once_same line.successors f.rise)
+counted_same line f = ap (λ (s : List ℕ). let l : Line = record line { successors = s } in l) (rises_already line.successors f.rise)
 
 all_counted : (lines : List Line) → AllByRecursion IsFair lines → map counted lines ≡ lines
 all_counted [] each = refl
@@ -158,14 +154,7 @@ text_spelt game well printable =
     record { header = Some greatest; start = None; spelt = (behind_word, header, (59 ∷ 10 ∷ body, n, (10 ∷ body, mark, lines_read))); successors = have_successors lines each }
 
 pub reads_back : (game : List GameVertex) → IsGame game → IsWithinLimits game → IsPrintable game → IsGameText (game_text game) game
-reads_back game well limits printable =
-    let made : IsGameOf (lines_of game) game = record { well = well; same = IsPermutation-refl (lines_of game) } in
-    record {
-      lines = lines_of game;
-      text = text_spelt game well printable;
-      limits = accepts_game game well limits printable;
-      game_of = subst (λ (ls : List Line). IsGameOf ls game) (sym (all_counted (lines_of game) (fair game well printable))) made;
-    }
+reads_back game well limits printable = grind (arith, nat_tests, IsPermutation-refl (lines_of game), text_spelt game well printable, accepts_game game well limits printable, all_counted (lines_of game) (fair game well printable))
 
 -- bytes spell one game at most
 pub spell_one : (bytes : List ℕ) (game other : List GameVertex) → IsGameText bytes game → IsGameText bytes other → other ≡ game

@@ -1,5 +1,6 @@
 -- The lines of a solution text: what is read is spelt, and what is spelt is read.
 use Rattle.std.proofs.Common.{◌≡◌, ℕ, List, [], ◌∷◌, ◌++◌, Option, Some, None, Ok, refl, sym, ap, subst, ◌∙◌, arith, append_assoc}
+use Rattle.std.proofs.lemmas.Bool.Decides.{nat_tests}
 use Rattle.std.specs.Prelude.{codes}
 use Rattle.std.specs.List.{flat_map, AllByRecursion}
 use Rattle.std.proofs.lemmas.List.{append-nil}
@@ -14,7 +15,8 @@ use Rattle.pg_text.specs.Mirrors.Parts.{semicolon_at, clause_at}
 use Rattle.pg_text.specs.Mirrors.GameScan.{owner_at}
 use Rattle.pg_text.specs.SolutionText.{strategy_lexemes, answer_lexemes, solution_lexemes, BeginsWithLines, AreLines}
 use Rattle.pg_text.specs.Mirrors.SolutionScan.{strategy_in, strategy_at, answer_at, answer_in, next_answer_at, answers_at}
-use Rattle.pg_text.proofs.Steps.{bind_ok, ok, ok_is, some, none}
+use Rattle.pg_text.proofs.Steps.{bind_ok, ok, ok_is}
+use Rattle.pg_lists.proofs.Steps.{some, none}
 use Rattle.pg_text.proofs.Lexing.{token_takes, token_again}
 use Rattle.pg_text.proofs.Items.{Shrinks}
 use Rattle.pg_text.proofs.Spelling.{spells_append, spells_parts, begins_shorter, spells_within, IsExact, items_again}
@@ -135,9 +137,7 @@ begins_more bytes lines mid line rest b s =
 
 -- nothing but white space follows
 pub lines_end : (bytes : List ℕ) (lines : List SolutionLine) (mid rest : List ℕ) → BeginsWithLines bytes lines mid → next_answer_at mid ≡ Ok (stop tt, rest) → AreLines bytes lines
-lines_end bytes lines mid rest b e =
-    let last : Begins mid end rest = next_takes mid (stop tt, rest) e in
-    record { rest = mid; begins = b; ends = (rest, last, last.spelt.1) }
+lines_end bytes lines mid rest b e = grind (arith, nat_tests, next_takes mid (stop tt, rest) e)
 
 -- without a header another token stands in front
 no_header : (lines : List SolutionLine) (bytes rest : List ℕ) → Spells bytes (flat_map answer_lexemes lines) rest → Spells rest (end ∷ []) [] → clause_at (codes "paritysol") bytes ≡ Ok (None, bytes)

@@ -18,7 +18,8 @@ use Rattle.pg_text.specs.Mirrors.Scan.{token_at}
 use Rattle.pg_text.specs.Mirrors.Parts.{semicolon_at, clause_at}
 use Rattle.pg_text.specs.Mirrors.GameScan.{owner_at}
 use Rattle.pg_text.specs.Mirrors.SolutionScan.{strategy_in, strategy_at, answer_at, answer_in, next_answer_at}
-use Rattle.pg_text.proofs.Steps.{ok, err, err_is_ok, some}
+use Rattle.pg_text.proofs.Steps.{ok, err, err_is_ok}
+use Rattle.pg_lists.proofs.Steps.{some}
 use Rattle.pg_text.proofs.Lexing.{token_takes}
 use Rattle.pg_text.proofs.Parts.{clause_takes}
 use Rattle.pg_text.proofs.Takes.{owner_takes}
@@ -88,10 +89,7 @@ no_header bytes absent (word w) rest b =
     let other : bytes_eq w (codes "paritysol") ≡ false = false_from_ne_true (bytes_eq w (codes "paritysol")) (λ e. absent rest (subst (λ (v : List ℕ). Begins bytes (word v) rest) ((bytes_eq-Decides w (codes "paritysol")).0 e) b)) in
     rw other refl
 no_header bytes absent (number n) rest b = refl
-no_header bytes absent semicolon rest b = refl
-no_header bytes absent comma rest b = refl
-no_header bytes absent (quoted s) rest b = refl
-no_header bytes absent end rest b = refl
+no_header bytes absent _ rest b = refl
 
 place_next : (bytes start : List ℕ) (header : Option ℕ) (lines : List SolutionLine) (rest : List ℕ) → clause_at (codes "paritysol") bytes ≡ Ok (header, start) → Spells start (flat_map answer_lexemes lines) rest
     → (token : Lexeme) (behind : List ℕ) → Begins rest token behind → after (answer_place header lines) token ≡ to_answer token

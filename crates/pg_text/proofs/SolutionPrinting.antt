@@ -9,10 +9,10 @@ use Rattle.std.proofs.lemmas.List.FromFn.{get_or-map-range_with_len, length-map-
 use Rattle.pg_arena.specs.Games.{GameVertex, IsGame, identifier, owner}
 use Rattle.pg_text.specs.declared.answer.Answer.{Answer}
 use Rattle.pg_text.specs.declared.solution_line.SolutionLine.{SolutionLine}
-use Rattle.pg_text.specs.SolutionLayout.{told_at, printed_line, printed_lines, answer_text, solution_text}
+use Rattle.pg_text.specs.SolutionLayout.{printed_answer, printed_line, printed_lines, answer_text, solution_text}
 use Rattle.pg_text.specs.Solutions.{winner, choice, IsSolution}
 use Rattle.pg_text.specs.SolutionText.{owns}
-use Rattle.pg_text.proofs.Steps.{chosen, some, some_is, none, none_is_some}
+use Rattle.pg_lists.proofs.Steps.{chosen, some, some_is, none, none_is_some}
 use Rattle.pg_text.proofs.Marking.{same_player}
 
 -- a line more
@@ -33,7 +33,7 @@ whole_text a b c d e game solution n all word number ending lines =
     Appends-trans a b e _ _ word (Appends-trans b c e _ _ number (Appends-trans c d e _ _ ending body))
 
 -- a choice that is told is a vertex
-pub told_within : (game : List GameVertex) (solution : List Answer) (v w : ℕ) → IsGame game → IsSolution game solution → v < length game → (told_at game solution v).choice ≡ Some w → w < length game
+pub told_within : (game : List GameVertex) (solution : List Answer) (v w : ℕ) → IsGame game → IsSolution game solution → v < length game → (printed_answer game solution v).choice ≡ Some w → w < length game
 told_within game solution v w well whole within e =
     elim (chosen (owns game (winner solution v) v) (choice solution v) none (some w) e) [
       | inl h ↦

@@ -1,5 +1,6 @@
 -- The text of a solution spells that solution, without choices on vertices that the winner doesn't own.
 use Rattle.std.proofs.Common.{◌≡◌, ◌≢◌, ℕ, zero, suc, ◌+◌, ◌-◌, ◌<◌, ◌≤◌, ◌^◌, Bool, true, false, cond, List, [], ◌∷◌, ◌++◌, length, map, Option, Some, None, IfSome, refl, sym, ap, subst, ◌∙◌, inl, inr, arith, append_assoc}
+use Rattle.std.proofs.lemmas.Bool.Decides.{nat_tests}
 use Rattle.std.specs.Prelude.{All, decimal, codes, option_map}
 use Rattle.std.specs.List.{flat_map, range_with_len, AllByRecursion}
 use Rattle.std.proofs.lemmas.Bool.{eq-eqb, ne_eqb, cases_eq}
@@ -10,12 +11,14 @@ use Rattle.pg_arena.specs.declared.player.Player.TheVariants.{Even, Odd}
 use Rattle.pg_arena.specs.Games.{GameVertex, IsGame, nowhere, identifier, owner}
 use Rattle.pg_text.specs.declared.answer.Answer.{Answer}
 use Rattle.pg_text.specs.declared.solution_line.SolutionLine.{SolutionLine}
-use Rattle.pg_text.specs.Lexemes.{number, word, semicolon, end, is_space, is_digit, Each, Stops, Begins, Spells}
+use Rattle.pg_text.specs.Lexemes.{number, word, semicolon, end, is_space, Begins, Spells}
+use Rattle.pg_lists.specs.Bytes.{is_digit, Each, Stops}
 use Rattle.pg_text.specs.GameText.{player_number}
 use Rattle.pg_text.specs.Solutions.{unanswered, answer_at, winner, choice, IsSolution}
 use Rattle.pg_text.specs.SolutionText.{strategy_lexemes, answer_lexemes, owns, is_same, line_count, Says, AreLines, IsSolutionText}
-use Rattle.pg_text.specs.SolutionLayout.{told_at, told, printed_line, printed_lines, strategy_text, answer_text, solution_text}
-use Rattle.pg_text.proofs.Steps.{none, ok_is}
+use Rattle.pg_text.specs.SolutionLayout.{printed_answer, printed_answers, printed_line, printed_lines, strategy_text, answer_text, solution_text}
+use Rattle.pg_text.proofs.Steps.{ok_is}
+use Rattle.pg_lists.proofs.Steps.{none}
 use Rattle.pg_text.proofs.Spelling.{spells_append}
 use Rattle.pg_text.proofs.Spelt.{number_begins}
 use Rattle.pg_text.proofs.Answering.{same_vertex}
@@ -75,7 +78,7 @@ mapped_small f (Some w) h = h w refl
 printable_at : (game : List GameVertex) (solution : List Answer) → IsGame game → All (λ x. x.identifier < 2 ^ 32) game → IsSolution game solution → (v : ℕ) → v < length game → IsPrintable (printed_line game solution v)
 printable_at game solution well small whole v within = record {
   identifier = All-get_or (λ (x : GameVertex). x.identifier < 2 ^ 32) game v nowhere within small;
-  strategy = mapped_small (identifier game) (told_at game solution v).choice (λ w e. All-get_or (λ (x : GameVertex). x.identifier < 2 ^ 32) game w nowhere (told_within game solution v w well whole within e) small);
+  strategy = mapped_small (identifier game) (printed_answer game solution v).choice (λ w e. All-get_or (λ (x : GameVertex). x.identifier < 2 ^ 32) game w nowhere (told_within game solution v w well whole within e) small);
 }
 
 text_spelt : (game : List GameVertex) (solution : List Answer) → IsGame game → All (λ x. x.identifier < 2 ^ 32) game → IsSolution game solution → AreLines (solution_text game solution) (printed_lines game solution)
@@ -124,24 +127,19 @@ one_between game solution v a (suc k) well within fits low high =
 
 -- ---- what the lines say
 
-told_is : (game : List GameVertex) (solution : List Answer) (v : ℕ) → v < length game → answer_at (told game solution) v ≡ told_at game solution v
-told_is game solution v within = get_or-map-range_with_len (told_at game solution) 0 (length game) v v unanswered within (omega arith)
+told_is : (game : List GameVertex) (solution : List Answer) (v : ℕ) → v < length game → answer_at (printed_answers game solution) v ≡ printed_answer game solution v
+told_is game solution v within = get_or-map-range_with_len (printed_answer game solution) 0 (length game) v v unanswered within (omega arith)
 
 counts_once : (f : ℕ → ℕ) (b : Bool) (o : Option ℕ) → option_map f (cond b o none) ≡ cond b (option_map f (cond b o none)) none
 counts_once f true o = refl
 counts_once f false o = refl
 
-line_says : (game : List GameVertex) (solution : List Answer) (v : ℕ) → v < length game → Says game (told game solution) (printed_line game solution v) v
-line_says game solution v within = record {
-  within = within;
-  named = refl;
-  won = ap (λ (a : Answer). a.winner) (told_is game solution v within);
-  chosen = ap (λ (a : Answer). option_map (identifier game) a.choice) (told_is game solution v within) ∙ counts_once (identifier game) (owns game (winner solution v) v) (choice solution v);
-}
+line_says : (game : List GameVertex) (solution : List Answer) (v : ℕ) → v < length game → Says game (printed_answers game solution) (printed_line game solution v) v
+line_says game solution v within = grind (arith, nat_tests, told_is game solution v within, counts_once (identifier game) (owns game (winner solution v) v) (choice solution v))
 
-told_solution : (game : List GameVertex) (solution : List Answer) → IsSolution game solution → IsSolution game (told game solution)
+told_solution : (game : List GameVertex) (solution : List Answer) → IsSolution game solution → IsSolution game (printed_answers game solution)
 told_solution game solution whole = record {
-  whole = length-map-range_with_len (told_at game solution) 0 (length game);
+  whole = length-map-range_with_len (printed_answer game solution) 0 (length game);
   chosen = λ v within owned.
       let is = told_is game solution v within in
       let mine : owner game v ≡ winner solution v = owned ∙ ap (λ (a : Answer). a.winner) is in
@@ -150,12 +148,12 @@ told_solution game solution whole = record {
       (c.0, ap (λ (a : Answer). a.choice) is ∙ ap (λ (b : Bool). cond b (choice solution v) none) holds ∙ c.1, c.2);
 }
 
-pub spells_told : (game : List GameVertex) (solution : List Answer) → IsGame game → All (λ x. x.identifier < 2 ^ 32) game → IsSolution game solution → IsSolutionText (solution_text game solution) game (told game solution)
+pub spells_told : (game : List GameVertex) (solution : List Answer) → IsGame game → All (λ x. x.identifier < 2 ^ 32) game → IsSolution game solution → IsSolutionText (solution_text game solution) game (printed_answers game solution)
 spells_told game solution well small whole = record {
   lines = printed_lines game solution;
   text = text_spelt game solution well small whole;
   one_each = λ v within. one_between game solution v 0 (length game) well within (omega arith) (omega arith) (omega arith);
-  said = each_line (IsSaid game (told game solution)) (printed_line game solution) (length game) (λ v within. (v, line_says game solution v within));
+  said = each_line (IsSaid game (printed_answers game solution)) (printed_line game solution) (length game) (λ v within. (v, line_says game solution v within));
   whole = told_solution game solution whole;
 }
 

@@ -1,5 +1,6 @@
 -- A solution text read line by line.
-use Rattle.std.proofs.Common.{◌≡◌, ◌≢◌, ℕ, ◌-◌, ◌<◌, Bool, true, false, cond, eqb, List, [], ◌∷◌, ◌++◌, length, Option, None, Ok, Err, refl, sym, ap, subst, ◌∙◌, arith, inl, inr, append_assoc}
+use Rattle.std.proofs.Common.{◌≡◌, ℕ, ◌-◌, ◌<◌, Bool, true, false, cond, eqb, List, [], ◌∷◌, ◌++◌, length, Option, None, Ok, Err, refl, sym, ap, subst, ◌∙◌, arith, inl, inr, append_assoc}
+use Rattle.std.proofs.lemmas.Bool.Decides.{nat_tests}
 use Rattle.std.specs.Prelude.{codes, replicate}
 use Rattle.std.specs.List.{list_any, flat_map, AllByRecursion}
 use Rattle.std.proofs.lemmas.List.{append-nil}
@@ -19,7 +20,7 @@ use Rattle.pg_text.specs.Places.{after_all, answer_place}
 use Rattle.pg_text.specs.Mirrors.Steps.{◌>>=◌, Read, Step, item, stop, items_at}
 use Rattle.pg_text.specs.Mirrors.Parts.{clause_at}
 use Rattle.pg_text.specs.Solutions.{unanswered}
-use Rattle.pg_text.specs.SolutionText.{answer_lexemes, BeginsWithLines, AreLines, Fits, line_count, answers, IsSolutionText, SpellsNoSolution, has_line, StartsLine, BeginsUnfit, IsFirstMissing, IsNoText, RefusesSolution}
+use Rattle.pg_text.specs.SolutionText.{answer_lexemes, BeginsWithLines, AreLines, Fits, line_count, answers, IsSolutionText, SpellsNoSolution, has_line, StartsLine, BeginsUnfit, IsFirstMissing, IsNoText}
 use Rattle.pg_text.specs.Mirrors.SolutionScan.{next_answer_at, answers_at}
 use Rattle.pg_text.specs.Mirrors.SolutionReading.{Puts, State, IsMarked, IsUnmarked, IsMisfit, BeginsMisfit, BeginsWell, HasRead, IsRefused, is_complete, misfit_fault}
 use Rattle.pg_text.proofs.Steps.{bind_ok, ok, ok_is, err_is_ok}
@@ -59,9 +60,7 @@ starts bytes game solution seen header start read s m = record {
 
 -- one line more behind others
 lines_more : (start : List ℕ) (front : List SolutionLine) (rest : List ℕ) (line : SolutionLine) (after : List ℕ) → Spells start (flat_map answer_lexemes front) rest → Spells rest (answer_lexemes line) after → Spells start (flat_map answer_lexemes (front ++ line ∷ [])) after
-lines_more start front rest line after s t =
-    let one : flat_map answer_lexemes (front ++ line ∷ []) ≡ flat_map answer_lexemes front ++ answer_lexemes line = flat_map-append answer_lexemes front (line ∷ []) ∙ ap (λ (l : List Lexeme). flat_map answer_lexemes front ++ l) (append-nil (answer_lexemes line)) in
-    subst (λ (tokens : List Lexeme). Spells start tokens after) (sym one) (spells_append (flat_map answer_lexemes front) (answer_lexemes line) start rest after s t)
+lines_more start front rest line after s t = grind (arith, nat_tests, flat_map-append answer_lexemes front (line ∷ []), append-nil (answer_lexemes line), spells_append (flat_map answer_lexemes front) (answer_lexemes line) start rest after s t)
 
 pub goes : (bytes : List ℕ) (game : List GameVertex) (solution : List Answer) (seen : List Bool) (rest : List ℕ) (line : SolutionLine) (after : List ℕ) (solution' : List Answer) (seen' : List Bool)
     → IsGame game → Reading bytes game solution seen rest → next_answer_at rest ≡ Ok (item line, after) → Puts game line solution seen solution' seen' → Reading bytes game solution' seen' after
@@ -205,17 +204,7 @@ second_spoils bytes game solution seen rest n r s m = λ other t.
 
 pub fails_front : (bytes : List ℕ) (game : List GameVertex) (solution : List Answer) (seen : List Bool) (rest : List ℕ) (n : ℕ) (misfit : Misfit)
     → IsGame game → Reading bytes game solution seen rest → BeginsMisfit game seen rest n misfit → IsRefused bytes game (misfit_fault misfit n (length bytes - length (after_space rest)))
-fails_front bytes game solution seen rest n NotOfGame well r m = (
-  unfit_spoils bytes game solution seen rest n well r m.0,
-  record {
-    before = r.front;
-    here = rest;
-    begins = r.begins;
-    taken = read_taken game r.front solution seen r.state;
-    new = unnamed game r.front n solution seen r.state m.1;
-    unfit = m.0;
-  },
-)
+fails_front bytes game solution seen rest n NotOfGame well r m = grind (arith, nat_tests, unfit_spoils bytes game solution seen rest n well r m.0, read_taken game r.front solution seen r.state, unnamed game r.front n solution seen r.state m.1)
 fails_front bytes game solution seen rest n Repeated well r m = (
   second_spoils bytes game solution seen rest n r m.0 m.1,
   inl (record {
@@ -271,18 +260,4 @@ missing bytes game solution seen v well h within lacks first =
 -- nothing else is spelt where the bytes are refused
 pub refused_only : (bytes : List ℕ) (game : List GameVertex) (fault : TextFault) (spelt : List Answer) → IsRefused bytes game fault → IsSolutionText bytes game spelt → fault ≡ text.OutOfMemory
 refused_only bytes game text.OutOfMemory spelt h t = refl
-refused_only bytes game (text.Syntax n) spelt h t = absurd (h.0 spelt t)
-refused_only bytes game (text.NumberTooLarge n) spelt h t = absurd (h.0 spelt t)
-refused_only bytes game (text.Arena f) spelt h t = absurd (h.0 spelt t)
-refused_only bytes game (text.NotOfGame n) spelt h t = absurd (h.0 spelt t)
-refused_only bytes game (text.Missing n) spelt h t = absurd (h.0 spelt t)
-refused_only bytes game text.Write spelt h t = absurd (h.0 spelt t)
-
-pub refused_why : (bytes : List ℕ) (game : List GameVertex) (fault : TextFault) → IsRefused bytes game fault → fault ≢ text.OutOfMemory → RefusesSolution bytes game fault
-refused_why bytes game text.OutOfMemory h other = absurd (other refl)
-refused_why bytes game (text.Syntax n) h other = h.1
-refused_why bytes game (text.NumberTooLarge n) h other = h.1
-refused_why bytes game (text.Arena f) h other = h.1
-refused_why bytes game (text.NotOfGame n) h other = h.1
-refused_why bytes game (text.Missing n) h other = h.1
-refused_why bytes game text.Write h other = h.1
+refused_only bytes game _ spelt h t = absurd (h.0 spelt t)

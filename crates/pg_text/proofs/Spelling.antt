@@ -1,5 +1,6 @@
 -- Tokens one after another.
 use Rattle.std.proofs.Common.{◌≡◌, ℕ, zero, suc, ◌≤◌, ◌<◌, List, [], ◌∷◌, ◌++◌, length, Ok, refl, sym, ap, subst, ◌∙◌, arith}
+use Rattle.std.proofs.lemmas.Bool.Decides.{nat_tests}
 use Rattle.std.specs.List.{flat_map, AllByRecursion}
 use Rattle.std.proofs.lemmas.List.{length-append}
 use Rattle.pg_text.specs.Lexemes.{Lexeme, number, word, semicolon, comma, quoted, end, Begins, Spells, IsSpelt}
@@ -13,9 +14,7 @@ spells_append (x ∷ xs) ys bytes mid rest p q = (p.0, p.1, spells_append xs ys 
 
 pub spells_parts : (xs ys : List Lexeme) (bytes rest : List ℕ) → Spells bytes (xs ++ ys) rest → (mid : List ℕ) × Spells bytes xs mid × Spells mid ys rest
 spells_parts [] ys bytes rest p = (bytes, refl, p)
-spells_parts (x ∷ xs) ys bytes rest p =
-    let later = spells_parts xs ys (p.0) rest (p.2) in
-    (later.0, (p.0, p.1, later.1), later.2)
+spells_parts (x ∷ xs) ys bytes rest p = grind (arith, nat_tests, spells_parts xs ys (p.0) rest (p.2))
 
 pub begins_within : (bytes : List ℕ) (token : Lexeme) (rest : List ℕ) → Begins bytes token rest → length rest ≤ length bytes
 begins_within bytes token rest b = omega (arith, ap length (b.parts), length-append (b.gap) (b.text ++ rest), length-append (b.text) rest)
@@ -31,9 +30,7 @@ spelt_long (quoted q) text rest h s = omega (arith, ap length (s.1))
 spelt_long end text rest h s = absurd (h refl)
 
 pub begins_shorter : (bytes : List ℕ) (token : Lexeme) (rest : List ℕ) → (token ≡ end → ⊥) → Begins bytes token rest → length rest < length bytes
-begins_shorter bytes token rest h b =
-    let long = spelt_long token (b.text) rest h (b.spelt) in
-    omega (arith, long, ap length (b.parts), length-append (b.gap) (b.text ++ rest), length-append (b.text) rest)
+begins_shorter bytes token rest h b = grind (arith, nat_tests, spelt_long token (b.text) rest h (b.spelt), length-append (b.gap) (b.text ++ rest), length-append (b.text) rest)
 
 pub spells_within : (tokens : List Lexeme) (bytes rest : List ℕ) → Spells bytes tokens rest → length rest ≤ length bytes
 spells_within [] bytes rest p = omega (arith, ap length p)

@@ -1,5 +1,6 @@
 -- The printed layout of lines is spelt by their tokens.
-use Rattle.std.proofs.Common.{◌≡◌, ◌≢◌, ℕ, ◌<◌, ◌^◌, List, [], ◌∷◌, ◌++◌, length, Option, Some, None, IfSome, refl, sym, ap, subst, arith, rules, append_assoc}
+use Rattle.std.proofs.Common.{◌≡◌, ◌≢◌, ℕ, ◌<◌, ◌^◌, List, [], ◌∷◌, ◌++◌, Option, Some, None, IfSome, refl, sym, ap, subst, arith, rules, append_assoc}
+use Rattle.std.proofs.lemmas.Bool.Decides.{nat_tests}
 use Rattle.std.specs.Prelude.{decimal}
 use Rattle.std.specs.List.{flat_map, AllByRecursion}
 use Rattle.std.proofs.lemmas.Fmt.{digits_decimal, digits_value-decimal, decimal_nonempty}
@@ -7,20 +8,19 @@ use Rattle.std.proofs.lemmas.Str.Parse.{IsNumeralModel, numerals_by_fold}
 use Rattle.pg_arena.specs.declared.player.Player.{Player}
 use Rattle.pg_arena.specs.declared.player.Player.TheVariants.{Even, Odd}
 use Rattle.pg_arena.specs.Lines.{Line}
-use Rattle.pg_text.specs.Lexemes.{number, semicolon, comma, is_space, is_digit, is_plain, Each, Stops, IsSpelt, Begins, Spells}
+use Rattle.pg_text.specs.Lexemes.{number, semicolon, comma, is_space, is_plain, IsSpelt, Begins, Spells}
+use Rattle.pg_lists.specs.Bytes.{is_digit, Each, Stops}
 use Rattle.pg_text.specs.GameText.{player_number, name_lexemes, line_lexemes}
 use Rattle.pg_text.specs.Numbers.{comma_number_lexemes, numbers_lexemes, comma_number, numbers_text}
 use Rattle.pg_text.specs.GameLayout.{name_text, line_text}
-use Rattle.pg_text.proofs.Numbers.{value_from}
+use Rattle.pg_lists.proofs.Runs.{value_from}
 use Rattle.pg_text.proofs.Spelling.{spells_append}
 
 numerals : IsNumeralModel (Each is_digit) (value_from 0)
 numerals = numerals_by_fold (Each is_digit) (search rules) value_from (search rules)
 
 pub number_spelt : (n : ℕ) (rest : List ℕ) → n < 2 ^ 32 → Stops is_digit rest → IsSpelt (number n) (decimal n) rest
-number_spelt n rest small stops =
-    let long = decimal_nonempty n (omega arith) in
-    (λ e. absurd (omega (arith, long, ap length e)), digits_decimal numerals n (omega arith), stops, digits_value-decimal numerals n (omega arith), small)
+number_spelt n rest small stops = grind (arith, nat_tests, decimal_nonempty n (omega arith), digits_decimal numerals n (omega arith), digits_value-decimal numerals n (omega arith))
 
 -- a number behind a gap
 pub number_begins : (gap : List ℕ) (n : ℕ) (rest : List ℕ) → Each is_space gap → n < 2 ^ 32 → Stops is_digit rest → Begins (gap ++ (decimal n ++ rest)) (number n) rest

@@ -10,7 +10,8 @@ use Rattle.pg_text.specs.Mirrors.Steps.{◌>>=◌, Step, item, stop}
 use Rattle.pg_text.specs.Mirrors.Scan.{token_at}
 use Rattle.pg_text.specs.Mirrors.Parts.{natural_at, semicolon_at, numbers_at}
 use Rattle.pg_text.specs.Mirrors.GameScan.{player_in, owner_at, ending_in, ending_at, line_at, item_in, item_at}
-use Rattle.pg_text.proofs.Steps.{bind_ok, ok, ok_is, some, none}
+use Rattle.pg_text.proofs.Steps.{bind_ok, ok, ok_is}
+use Rattle.pg_lists.proofs.Steps.{some, none}
 use Rattle.pg_text.proofs.Lexing.{token_takes, token_again}
 use Rattle.pg_text.proofs.Items.{Shrinks}
 use Rattle.pg_text.proofs.Spelling.{spells_append, spells_parts, begins_shorter, spells_within, IsExact}

@@ -1,6 +1,7 @@
 -- The tokens of a text in the PGSolver format, and the bytes that spell them.
-use Rattle.std.specs.Prelude.{◌≡◌, ◌≢◌, ℕ, ◌+◌, ◌-◌, ◌*◌, ◌^◌, ◌<◌, ◌≤◌, Bool, true, false, ◌||◌, ◌&&◌, ◌==◌, nat_le, List, [], ◌∷◌, ◌++◌, length, drop, Option, Some, None, if◌then◌else◌}
-use Rattle.std.specs.List.{fold, prefix_len, take_while, AllByRecursion}
+use Rattle.std.specs.Prelude.{◌≡◌, ◌≢◌, ℕ, ◌^◌, ◌<◌, ◌≤◌, Bool, true, false, ◌||◌, ◌&&◌, ◌==◌, nat_le, List, [], ◌∷◌, ◌++◌, length, drop, Option, Some, None, if◌then◌else◌}
+use Rattle.std.specs.List.{prefix_len, take_while}
+use Rattle.pg_lists.specs.Bytes.{is_digit, Each, Stops, value_of}
 use Rattle.pg_text.specs.declared.tokens.Token.{Token}
 use Rattle.pg_text.specs.declared.tokens.Token.TheVariants as tokens
 use Rattle.pg_text.specs.declared.tokens.TokenFault.{TokenFault}
@@ -27,10 +28,6 @@ lexeme tokens.End = end
 abbrev pub is_space : ℕ → Bool
 is_space b = (nat_le 9 b && nat_le b 13) || b == 32
 
--- '0' to '9'
-abbrev pub is_digit : ℕ → Bool
-is_digit b = nat_le 48 b && nat_le b 57
-
 -- 'a' to 'z'
 abbrev pub is_letter : ℕ → Bool
 is_letter b = nat_le 97 b && nat_le b 122
@@ -38,19 +35,6 @@ is_letter b = nat_le 97 b && nat_le b 122
 -- any byte but a quote
 abbrev pub is_plain : ℕ → Bool
 is_plain b = if b == 34 then false else true
-
--- each byte passes the test
-abbrev pub Each : (ℕ → Bool) → List ℕ → Type 0
-Each test bytes = AllByRecursion (λ b. test b ≡ true) bytes
-
--- the first byte, if there is one, fails the test
-abbrev pub Stops : (ℕ → Bool) → List ℕ → Type 0
-Stops test [] = Unit {0}
-Stops test (b ∷ bytes) = test b ≡ false
-
--- the number that decimal digits write
-abbrev pub value_of : List ℕ → ℕ
-value_of digits = fold (λ n b. 10 * n + (b - 48)) 0 digits
 
 -- The bytes of one token, and what may stand behind it: a run of digits or of letters is a longest one.
 abbrev pub IsSpelt : Lexeme → List ℕ → List ℕ → Type 0

@@ -1,7 +1,8 @@
 -- A printed game reads back.
 use Rattle.std.specs.Prelude.{◌≡◌, ◌^◌, ◌<◌, List, All, IfSome}
 use Rattle.pg_arena.specs.Games.{GameVertex, IsGame, IsWithinLimits, HasPrioritiesUpTo}
-use Rattle.pg_text.specs.Lexemes.{Each, is_plain}
+use Rattle.pg_text.specs.Lexemes.{is_plain}
+use Rattle.pg_lists.specs.Bytes.{Each}
 use Rattle.pg_text.specs.GameText.{IsGameText}
 use Rattle.pg_text.specs.GameLayout.{game_text}
 

@@ -9,22 +9,22 @@ use Rattle.pg_text.specs.GameText.{player_number}
 use Rattle.pg_text.specs.SolutionText.{owns}
 
 -- the answer at v, without a choice where the winner doesn't own v
-abbrev pub told_at : List GameVertex → List Answer → ℕ → Answer
-told_at game solution v = record {
+abbrev pub printed_answer : List GameVertex → List Answer → ℕ → Answer
+printed_answer game solution v = record {
   winner = winner solution v;
   choice = if owns game (winner solution v) v then choice solution v else None;
 }
 
 -- the solution without the choices on vertices that the winner doesn't own
-abbrev pub told : List GameVertex → List Answer → List Answer
-told game solution = map (told_at game solution) (range_with_len 0 (length game))
+abbrev pub printed_answers : List GameVertex → List Answer → List Answer
+printed_answers game solution = map (printed_answer game solution) (range_with_len 0 (length game))
 
 -- the line of v: a strategy stands exactly where the winner owns v
 abbrev pub printed_line : List GameVertex → List Answer → ℕ → SolutionLine
 printed_line game solution v = record {
   identifier = identifier game v;
   winner = winner solution v;
-  strategy = option_map (identifier game) (told_at game solution v).choice;
+  strategy = option_map (identifier game) (printed_answer game solution v).choice;
 }
 
 -- a line for each vertex, by rising identifier

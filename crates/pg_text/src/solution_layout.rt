@@ -5,7 +5,7 @@ ghost use Rattle.std.specs.Io.KnownBytes.{Appends};
 ghost use Rattle.pg_arena.specs.Games.{IsGame, identifier};
 ghost use Rattle.pg_text.specs.GameText.{player_number};
 ghost use Rattle.pg_text.specs.Solutions.{IsSolution};
-ghost use Rattle.pg_text.specs.SolutionLayout.{told_at, printed_line, strategy_text, answer_text, solution_text};
+ghost use Rattle.pg_text.specs.SolutionLayout.{printed_answer, printed_line, strategy_text, answer_text, solution_text};
 
 use crate::fault::TextFault;
 use crate::solution::Solution;
@@ -41,7 +41,7 @@ fn write_strategy<W: Write>(game: &Game, choice: Option<Vertex>, out: &mut W) ->
 fn told_choice(game: &Game, solution: &Solution, v: Vertex) -> Option<Vertex>
     requires whole { length solution.now ≡ length game.now }
     requires vertex { v < length game.now }
-    ensures { result ≡ (told_at game.now solution.now v).choice }
+    ensures { result ≡ (printed_answer game.now solution.now v).choice }
 {
     if is_owned(game, solution.winner(v), v) {
         solution.choice(v)

@@ -15,7 +15,7 @@ use Rattle.pg_wire.specs.declared.frame.Go.{Go}
 use Rattle.pg_wire.specs.declared.frame.Report.{Report}
 use Rattle.pg_wire.specs.Spelling.{word, counted, tagged, pair, line, value, sparse_value}
 use Rattle.pg_wire.specs.Well.{IsWord, IsBound, IsSetup, IsVertexLine, IsVertices, IsComponents, IsValue, IsValues, IsPlace, ArePlaces, IsSparseValue, IsSparse, IsFaultCode, IsReport}
-use Rattle.pg_wire.specs.Mirrors.Ordered.{AreOrdered}
+use Rattle.pg_wire.specs.Mirrors.Ordered.{AreOrdered, rising, falling, in_any_order}
 use Rattle.pg_wire.specs.Mirrors.Reading.{both, within_at, word_at, odd_at, byte_at, version_at, items_at, counted_at, tagged_at, bound_at, place_at, line_of, line_at, value_of, value_at, sparse_value_of, sparse_value_at, setup_of, setup_at, vertices_of, vertices_at, values_of, values_at, sparse_of, sparse_at, go_of, go_at, is_code, code_at, report_of, report_at}
 use Rattle.pg_wire.proofs.Grammar.{IsForm, IsKind, Takes, Within, bind_ok, test_ok, both_form, made_form, said_form, within_form, odd_form, byte_form, version_form, items_form, counted_form, tagged_form}
 
@@ -27,14 +27,14 @@ word_form low = said_form word (Within low (2 ^ 32)) (λ n. (low ≤ n) × IsWor
 pub successor_kind : IsKind word (λ at n. at ≤ n) IsWord (λ m n. m < n) (λ n. n + 1) word_at (2 ^ 32)
 successor_kind = record {
   form = λ at le. word_form at;
-  steps = record { forth = λ x y h. omega arith; back = λ x y h. omega arith; later = λ at x y h k. omega arith };
+  steps = rising (λ (n : ℕ). n);
   low = λ x h. omega arith;
 }
 
 pub component_kind : IsKind word (λ _ _. ⊤) IsWord (λ _ _. ⊤) (λ _. 0) (λ _. word_at 0) (2 ^ 32)
 component_kind = record {
   form = λ at le. said_form word (λ n. (0 ≤ n) × IsWord n) (λ n. ⊤ × IsWord n) (word_at 0) (word_form 0) (λ n h. (tt, h.1)) (λ n h. (omega arith, h.1));
-  steps = record { forth = λ x y h. tt; back = λ x y h. tt; later = λ at x y h k. tt };
+  steps = in_any_order;
   low = λ x h. omega arith;
 }
 
@@ -48,7 +48,7 @@ bound_form high le = said_form pair (λ p. (Within 1 high p.0 × (p.0 % 2 ≡ 1)
 pub bound_kind : IsKind pair (λ at p. p.0 < at) IsBound (λ p q. q.0 < p.0) (λ p. p.0) bound_at 65536
 bound_kind = record {
   form = bound_form;
-  steps = record { forth = λ x y h. h; back = λ x y h. h; later = λ at x y h k. omega arith };
+  steps = falling (λ (p : ℕ × ℕ). p.0);
   low = λ x h. omega (arith, h.priority);
 }
 
@@ -62,7 +62,7 @@ place_form width small low = said_form pair (λ p. Within low width p.0 × ((1 �
 pub place_kind : (width : ℕ) → width < 2 ^ 32 → IsKind pair (λ at p. at ≤ p.0) (IsPlace width) (λ p q. p.0 < q.0) (λ p. p.0 + 1) (place_at width) (2 ^ 32)
 place_kind width small = record {
   form = λ at le. place_form width small at;
-  steps = record { forth = λ x y h. omega arith; back = λ x y h. omega arith; later = λ at x y h k. omega arith };
+  steps = rising (λ (p : ℕ × ℕ). p.0);
   low = λ x h. omega (arith, h.place);
 }
 
@@ -101,7 +101,7 @@ line_form low =
 pub line_kind : IsKind line (λ at l. at ≤ l.vertex) IsVertexLine (λ l m. l.vertex < m.vertex) (λ l. l.vertex + 1) line_at (2 ^ 32)
 line_kind = record {
   form = λ at le. line_form at;
-  steps = record { forth = λ x y h. omega arith; back = λ x y h. omega arith; later = λ at x y h k. omega arith };
+  steps = rising (λ (l : VertexLine). l.vertex);
   low = λ x h. omega (arith, h.vertex);
 }
 
@@ -128,7 +128,7 @@ value_form width low =
 pub value_kind : (width : ℕ) → IsKind value (λ at v. at ≤ v.vertex) (IsValue width) (λ x y. x.vertex < y.vertex) (λ v. v.vertex + 1) (value_at width) (2 ^ 32)
 value_kind width = record {
   form = λ at le. value_form width at;
-  steps = record { forth = λ x y h. omega arith; back = λ x y h. omega arith; later = λ at x y h k. omega arith };
+  steps = rising (λ (v : Value). v.vertex);
   low = λ x h. omega (arith, h.vertex);
 }
 
@@ -155,7 +155,7 @@ sparse_value_form width small low =
 pub sparse_value_kind : (width : ℕ) → width < 2 ^ 32 → IsKind sparse_value (λ at v. at ≤ v.vertex) (IsSparseValue width) (λ x y. x.vertex < y.vertex) (λ v. v.vertex + 1) (sparse_value_at width) (2 ^ 32)
 sparse_value_kind width small = record {
   form = λ at le. sparse_value_form width small at;
-  steps = record { forth = λ x y h. omega arith; back = λ x y h. omega arith; later = λ at x y h k. omega arith };
+  steps = rising (λ (v : SparseValue). v.vertex);
   low = λ x h. omega (arith, h.vertex);
 }
 

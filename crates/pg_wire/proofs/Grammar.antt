@@ -10,9 +10,9 @@ use Rattle.std.proofs.lemmas.Nat.{be_bytes_4, from_be_bytes-to_be_bytes_4}
 use Rattle.pg_wire.specs.declared.fault.FieldFault.{FieldFault}
 use Rattle.pg_wire.specs.declared.fault.FieldFault.TheVariants.{At, Version}
 use Rattle.pg_wire.specs.Spelling.{word, counted, tagged}
-use Rattle.pg_wire.specs.Mirrors.Ordered.{AreOrdered}
+use Rattle.pg_wire.specs.Mirrors.Ordered.{Steps, AreOrdered}
 use Rattle.pg_wire.specs.Mirrors.Reading.{◌>>=◌, Reader, both, made, number_at, within_at, odd_at, byte_at, version_at, items_at, counted_at, tagged_at}
-use Rattle.pg_wire.proofs.Orders.{Steps, Follow, ordered, follow}
+use Rattle.pg_wire.proofs.Orders.{Follow, ordered, follow}
 
 abbrev pub IsBytes : List ℕ → Type 0
 IsBytes bytes = (i : ℕ) → get_or bytes i 0 < 256

@@ -1,11 +1,7 @@
 -- The lines of a frame of vertices, one after the other.
-use Rattle.std.proofs.Common.{◌≡◌, ℕ, suc, ◌+◌, ◌*◌, ◌/◌, ◌^◌, ◌<◌, ◌≤◌, List, [], ◌∷◌, ◌++◌, length, set, take, drop, Some, None, Result, Ok, Err, Bor, refl, sym, ap, subst, ◌∙◌, append_assoc, arith}
-use Rattle.std.specs.Prelude.{All}
+use Rattle.std.proofs.Common.{◌≡◌, ℕ, suc, ◌+◌, ◌*◌, ◌/◌, ◌^◌, ◌<◌, ◌≤◌, List, [], ◌∷◌, ◌++◌, length, drop, Some, None, Result, Ok, Err, Bor, refl, sym, ap, ◌∙◌, arith}
 use Rattle.std.specs.List.{flat_map}
-use Rattle.std.proofs.lemmas.List.{append-nil, take_at, drop_at, take-append-drop, take_more_set, length-append}
-use Rattle.std.specs.Int.{w32, from_be_bytes}
-use Rattle.std.proofs.lemmas.Nat.{be_bytes_4}
-use Rattle.std.proofs.lemmas.Grind.{flat_map-append}
+use Rattle.std.proofs.lemmas.List.{append-nil, length-append}
 use Rattle.std.proofs.lemmas.List.Concat.{flat_map-cons}
 use Rattle.pg_wire.specs.declared.fault.FieldFault.{FieldFault}
 use Rattle.pg_wire.specs.declared.frame.LineHead.{LineHead}
@@ -16,10 +12,11 @@ use Rattle.pg_wire.specs.Spelling.{word, counted, line, body}
 use Rattle.pg_wire.specs.Well.{IsWord, IsVertexLine, IsWell}
 use Rattle.pg_wire.specs.Lines.{head_of, frame_with}
 use Rattle.pg_wire.specs.LinesLeft.{AreLeft, IsNextLine}
-use Rattle.pg_wire.specs.Mirrors.Reading.{◌>>=◌, Reader, both, made, within_at, word_at, byte_at, items_at, counted_at, line_of, line_at, vertices_at}
+use Rattle.pg_wire.specs.Mirrors.Reading.{◌>>=◌, both, made, within_at, word_at, byte_at, counted_at, line_of, line_at, vertices_at}
 use Rattle.pg_wire.specs.Mirrors.Skipping.{skipped}
+use Rattle.pg_wire.specs.Mirrors.Skipping.{numbers_at}
 use Rattle.pg_wire.specs.Mirrors.Lines.{Counted, head_at, counted_as, successors_at, lines_at, after_line, AreLines}
-use Rattle.pg_wire.proofs.Grammar.{IsForm, IsBytes, IsBytes-drop, IsBytes-take, Within, ok_is, both_form, within_form, byte_form, items_form}
+use Rattle.pg_wire.proofs.Grammar.{IsForm, IsBytes, Within, ok_is, both_form, within_form, byte_form, items_form}
 use Rattle.pg_wire.proofs.FrameParts.{word_form, line_kind, components_form, vertices_form}
 use Rattle.pg_wire.proofs.Orders.{pairs_tail}
 use Rattle.pg_wire.proofs.Skip.{skipped_ok, skipped_err, not_read}
@@ -116,15 +113,6 @@ pub words_size : (ns : List ℕ) → length (flat_map word ns) ≡ 4 * length ns
 words_size [] = omega arith
 words_size (n ∷ ns) = omega (arith, ap length (flat_map-cons word n ns), length-append (word n) (flat_map word ns), words_size ns)
 
-words_same : (xs ys : List ℕ) → All IsWord xs → All IsWord ys → length xs ≡ length ys → flat_map word xs ≡ flat_map word ys → xs ≡ ys
-words_same xs ys p q size same =
-    let read : Reader (List ℕ) = items_at (λ _. word_at 0) (λ _. 0) (length ys) 0 in
-    let first : read (flat_map word xs ++ []) ≡ Ok (xs, []) = (components_form (length ys)).again xs [] (record { size = size; numbers = p }) in
-    let second : read (flat_map word ys ++ []) ≡ Ok (ys, []) = (components_form (length ys)).again ys [] (record { size = refl; numbers = q }) in
-    let this : List ℕ × List ℕ = (xs, []) in
-    let that : List ℕ × List ℕ = (ys, []) in
-    ap (λ (y : List ℕ × List ℕ). y.0) (ok_is this that (sym first ∙ ap (λ (bs : List ℕ). read (bs ++ [])) same ∙ second))
-
 abbrev counted_of : VertexLine → Counted
 counted_of l = counted_as (head_of l) (length l.successors)
 
@@ -159,36 +147,24 @@ cut_left (l ∷ ls) r row head count rest h read few =
     let size : length rest ≡ length (flat_map word l.successors ++ flat_map line ls) = ap (λ (y : Counted × List ℕ). length y.1) same in
     absurd (omega (arith, n, size, few, length-append (flat_map word l.successors) (flat_map line ls), words_size l.successors))
 
-pub next_left : (ls : List VertexLine) (r : VerticesReader) (row : List ℕ) (head : LineHead) (count : ℕ) (rest words : List ℕ) (after : Bor (List ℕ)) → AreLeft r ls → head_at 0 r.bytes.now ≡ Ok (counted_as head count, rest)
-    → words ≡ take (4 * count) rest → after.now ≡ drop (4 * count) rest → words ≡ flat_map word row → length row ≡ count → All IsWord row → IsNextLine ls (record { bytes = after }) row (Some head)
-next_left [] r row head count rest words after h read front back spelt size fits = absurd (none_empty r (counted_as head count, rest) h read)
-next_left (l ∷ ls) r row head count rest words after h read front back spelt size fits =
+pub next_left : (ls : List VertexLine) (r : VerticesReader) (row : List ℕ) (head : LineHead) (count : ℕ) (rest : List ℕ) (after : Bor (List ℕ)) → AreLeft r ls → head_at 0 r.bytes.now ≡ Ok (counted_as head count, rest)
+    → numbers_at count rest ≡ Ok (row, after.now) → IsNextLine ls (record { bytes = after }) row (Some head)
+next_left [] r row head count rest after h read numbers = absurd (none_empty r (counted_as head count, rest) h read)
+next_left (l ∷ ls) r row head count rest after h read numbers =
     let is = h.lines 0 l (omega arith) in
     let x : Counted × List ℕ = (counted_as head count, rest) in
     let same = same_read r l ls x h read in
     let n : count ≡ length l.successors = ap (λ (y : Counted × List ℕ). y.0.1.1.1) same in
     let whole : rest ≡ flat_map word l.successors ++ flat_map line ls = ap (λ (y : Counted × List ℕ). y.1) same in
-    let len : length (flat_map word l.successors) ≡ 4 * count = omega (arith, n, words_size l.successors) in
-    let text : flat_map word row ≡ flat_map word l.successors = sym spelt ∙ front ∙ ap (take (4 * count)) whole ∙ take_at (flat_map word l.successors) (flat_map line ls) (4 * count) len in (
+    let again : numbers_at count rest ≡ Ok (l.successors, flat_map line ls) = ap (numbers_at count) whole ∙ (components_form count).again l.successors (flat_map line ls) (record { size = sym n; numbers = is.successors }) in
+    let found : List ℕ × List ℕ = (row, after.now) in
+    let wanted : List ℕ × List ℕ = (l.successors, flat_map line ls) in
+    let parts = ok_is found wanted (sym numbers ∙ again) in (
       ap (λ (y : Counted × List ℕ). Some (record { vertex = y.0.0; priority = y.0.1.0; owner = y.0.1.1.0 })) same,
-      words_same row l.successors fits is.successors (size ∙ n) text,
+      ap (λ (y : List ℕ × List ℕ). y.0) parts,
       record {
         lines = λ i d lt. h.lines (suc i) d (omega arith);
         rising = pairs_tail (λ l m. l.vertex < m.vertex) l ls h.rising;
-        spelled = back ∙ ap (drop (4 * count)) whole ∙ drop_at (flat_map word l.successors) (flat_map line ls) (4 * count) len;
+        spelled = ap (λ (y : List ℕ × List ℕ). y.1) parts;
       },
     )
-
--- one more number that was read
-pub words_more : (row rest bytes front after : List ℕ) (i n : ℕ) → i < length row → IsBytes bytes → front ≡ take 4 rest → after ≡ drop 4 rest → length front ≡ 4 → n ≡ from_be_bytes w32 front
-    → flat_map word (take i row) ++ rest ≡ bytes → flat_map word (take (i + 1) (set row i n)) ++ after ≡ bytes
-words_more row rest bytes front after i n lt fits first back size is so_far =
-    let done = flat_map word (take i row) in
-    let left : drop (length done) bytes ≡ rest = ap (drop (length done)) (sym so_far) ∙ drop_at done rest (length done) refl in
-    let rest_fits : IsBytes rest = subst IsBytes left (IsBytes-drop (length done) bytes fits) in
-    let small : IsBytes front = subst IsBytes (sym first) (IsBytes-take 4 rest rest_fits) in
-    let spelt : word n ≡ front = be_bytes_4 front n size small is in
-    let parts : rest ≡ front ++ after = sym (take-append-drop 4 rest) ∙ ap (λ (bs : List ℕ). bs ++ drop 4 rest) (sym first) ∙ ap (λ (bs : List ℕ). front ++ bs) (sym back) in
-    let more : flat_map word (take (i + 1) (set row i n)) ≡ flat_map word (take i row) ++ front =
-    ap (flat_map word) (take_more_set row i n lt) ∙ flat_map-append word (take i row) (n ∷ []) ∙ ap (λ (bs : List ℕ). flat_map word (take i row) ++ bs) (append-nil (word n) ∙ spelt) in
-    ap (λ (bs : List ℕ). bs ++ after) more ∙ append_assoc (flat_map word (take i row)) front after ∙ ap (λ (bs : List ℕ). flat_map word (take i row) ++ bs) (sym parts) ∙ so_far

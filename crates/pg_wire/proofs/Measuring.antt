@@ -7,7 +7,7 @@ use Rattle.pg_wire.specs.declared.kind.ValueKind.TheVariants.{Dense, Sparse}
 use Rattle.pg_wire.specs.Spelling.{word, counted, tagged, pair}
 use Rattle.pg_wire.specs.Well.{IsWord, IsComponents, ArePlaces}
 use Rattle.pg_wire.specs.Measured.{Measured, IsMeasured, nonzero, filled, spelled_as}
-use Rattle.pg_wire.specs.Mirrors.Ordered.{AreOrdered}
+use Rattle.pg_wire.specs.Mirrors.Ordered.{AreOrdered, rising}
 use Rattle.pg_wire.specs.Mirrors.Reading.{Reader, both, within_at, word_at, counted_at, tagged_at}
 use Rattle.pg_wire.specs.Mirrors.Skipping.{pairs_at, list_at, measured_at, after_measured, fields_at}
 use Rattle.pg_wire.proofs.Grammar.{IsForm, IsKind, Takes, Within, both_form, made_form, said_form, within_form, counted_form, tagged_form}
@@ -50,7 +50,7 @@ measured_form kind width small low =
 pub measured_kind : (kind : ValueKind) (width : ℕ) → width < 2 ^ 32 → IsKind (spelled_as kind) (λ at m. at ≤ m.0) (IsMeasured width) (λ x y. x.0 < y.0) after_measured (measured_at kind width) (2 ^ 32)
 measured_kind kind width small = record {
   form = λ at le. measured_form kind width small at;
-  steps = record { forth = λ x y h. omega arith; back = λ x y h. omega arith; later = λ at x y h k. omega arith };
+  steps = rising (λ (m : Measured). m.0);
   low = λ x h. omega (arith, h.vertex);
 }
 

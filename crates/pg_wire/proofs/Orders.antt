@@ -6,13 +6,7 @@ use Rattle.std.specs.List.{AllPairs}
 use Rattle.std.proofs.lemmas.List.{drop_more}
 use Rattle.std.proofs.lemmas.List.Elements.{All-cons}
 use Rattle.std.proofs.lemmas.List.Kept.{AllPairs-cons}
-use Rattle.pg_wire.specs.Mirrors.Ordered.{AreOrdered}
-
--- how the items of a kind follow each other
-pub record Steps {A : Type 0} (Stands : ℕ → A → Type 0) (Precedes : A → A → Type 0) (next : A → ℕ) : Type 0 where
-  pub forth : (x y : A) → Stands (next x) y → Precedes x y
-  pub back : (x y : A) → Precedes x y → Stands (next x) y
-  pub later : (at : ℕ) (x y : A) → Stands at x → Precedes x y → Stands at y
+use Rattle.pg_wire.specs.Mirrors.Ordered.{Steps, AreOrdered}
 
 -- each item fits at the place that the one before it sets
 abbrev pub Follow : {A : Type 0} → (ℕ → A → Type 0) → (A → Type 0) → (A → ℕ) → ℕ → List A → Type 0

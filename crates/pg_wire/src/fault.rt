@@ -82,3 +82,13 @@ impl From<AllocError> for ReadFault {
         ReadFault::Memory
     }
 }
+
+impl From<FieldFault> for ReadFault {
+    ghost use Rattle.pg_wire.specs.declared.fault.ReadFault.TheVariants.{Field};
+
+    ghost from_gives = { λ f e. e ≡ Field f };
+
+    fn from(fault: FieldFault) -> ReadFault {
+        ReadFault::Field(fault)
+    }
+}

@@ -1,66 +1,61 @@
 //! Reads the fields that are a number.
-ghost use Rattle.std.specs.Prelude.{◌≡◌, ◌+◌, ◌≤◌, length, IfOk};
-ghost use Rattle.pg_wire.specs.Mirrors.Reading.{Gives, number_at, within_at, odd_at, byte_at, version_at, code_at};
+ghost use Rattle.std.specs.Prelude.{◌≡◌, ◌+◌, ◌≤◌, ◌<◌, ◌^◌, length, IfOk, OnErr};
+ghost use Rattle.pg_wire.specs.Mirrors.Reading.{Yields, within_at, odd_at, byte_at, version_at, code_at};
 
-use crate::fault::{FieldFault, ReadFault};
+use crate::fault::FieldFault;
 
 /// One more than the greatest number of four bytes.
 pub const WORDS: u64 = 4_294_967_296;
 
-fn number(bytes: &[u8]) -> Result<(u32, &[u8]), ReadFault>
-    ensures read { Gives (λ x. (x.0, x.1.now)) result (number_at bytes.now) }
-    ensures size { IfOk result (λ x. 4 + length x.1.now ≡ length bytes.now) }
-{
-    if bytes.len() < 4 {
-        return Err(ReadFault::Field(FieldFault::At(bytes.len())));
-    }
-    let (front, rest) = bytes.split_at(4);
-    let number = u32::from_be_bytes([front[0], front[1], front[2], front[3]]);
-    Ok((number, rest))
-}
-
 /// A number from `low` on, below `high`.
 #[tactic(auto, unfolding(crate::specs::Mirrors::Reading::within_at))]
-pub fn within(low: u64, high: u64, bytes: &[u8]) -> Result<(u32, &[u8]), ReadFault>
-    ensures read { Gives (λ x. (x.0, x.1.now)) result (within_at low high bytes.now) }
+#[inline(always)]
+pub fn within(low: u64, high: u64, bytes: &[u8]) -> Result<(u32, &[u8]), FieldFault>
+    ensures read { Yields (λ x. (x.0, x.1.now)) result (within_at low high bytes.now) }
     ensures size { IfOk result (λ x. 4 + length x.1.now ≡ length bytes.now) }
-    ensures least { IfOk result (λ x. low ≤ x.0) }
+    ensures range { IfOk result (λ x. (low ≤ x.0) × (x.0 < high)) }
+    ensures cut { low ≡ 0 → high ≡ 2 ^ 32 → OnErr result (length bytes.now < 4) }
 {
-    let (n, rest) = number(bytes)?;
+    if bytes.len() < 4 {
+        return Err(FieldFault::At(bytes.len()));
+    }
+    let (front, rest) = bytes.split_at(4);
+    let n = u32::from_be_bytes([front[0], front[1], front[2], front[3]]);
     if low <= n as u64 && (n as u64) < high {
         Ok((n, rest))
     } else {
-        Err(ReadFault::Field(FieldFault::At(bytes.len())))
+        Err(FieldFault::At(bytes.len()))
     }
 }
 
 /// An odd number below `high`.
 #[tactic(auto, unfolding(crate::specs::Mirrors::Reading::odd_at))]
-pub fn odd(high: u64, bytes: &[u8]) -> Result<(u32, &[u8]), ReadFault>
-    ensures read { Gives (λ x. (x.0, x.1.now)) result (odd_at high bytes.now) }
+pub fn odd(high: u64, bytes: &[u8]) -> Result<(u32, &[u8]), FieldFault>
+    ensures read { Yields (λ x. (x.0, x.1.now)) result (odd_at high bytes.now) }
     ensures size { IfOk result (λ x. 4 + length x.1.now ≡ length bytes.now) }
 {
     let (n, rest) = within(1, high, bytes)?;
     if n % 2 == 1 {
         Ok((n, rest))
     } else {
-        Err(ReadFault::Field(FieldFault::At(bytes.len())))
+        Err(FieldFault::At(bytes.len()))
     }
 }
 
 /// A byte below `high`.
 #[tactic(auto, unfolding(crate::specs::Mirrors::Reading::byte_at))]
-pub fn byte(high: u8, bytes: &[u8]) -> Result<(u8, &[u8]), ReadFault>
-    ensures read { Gives (λ x. (x.0, x.1.now)) result (byte_at high bytes.now) }
+#[inline(always)]
+pub fn byte(high: u8, bytes: &[u8]) -> Result<(u8, &[u8]), FieldFault>
+    ensures read { Yields (λ x. (x.0, x.1.now)) result (byte_at high bytes.now) }
     ensures size { IfOk result (λ x. 1 + length x.1.now ≡ length bytes.now) }
 {
     match bytes {
-        [] => Err(ReadFault::Field(FieldFault::At(0))),
+        [] => Err(FieldFault::At(0)),
         [b, rest @ ..] => {
             if *b < high {
                 Ok((*b, rest))
             } else {
-                Err(ReadFault::Field(FieldFault::At(bytes.len())))
+                Err(FieldFault::At(bytes.len()))
             }
         }
     }
@@ -68,16 +63,16 @@ pub fn byte(high: u8, bytes: &[u8]) -> Result<(u8, &[u8]), ReadFault>
 
 /// The version of a set-up, 1 or 2.
 #[tactic(auto, unfolding(crate::specs::Mirrors::Reading::version_at))]
-pub fn version(bytes: &[u8]) -> Result<(u8, &[u8]), ReadFault>
-    ensures { Gives (λ x. (x.0, x.1.now)) result (version_at bytes.now) }
+pub fn version(bytes: &[u8]) -> Result<(u8, &[u8]), FieldFault>
+    ensures { Yields (λ x. (x.0, x.1.now)) result (version_at bytes.now) }
 {
     match bytes {
-        [] => Err(ReadFault::Field(FieldFault::At(0))),
+        [] => Err(FieldFault::At(0)),
         [b, rest @ ..] => {
             if 1 <= *b && *b < 3 {
                 Ok((*b, rest))
             } else {
-                Err(ReadFault::Field(FieldFault::Version))
+                Err(FieldFault::Version)
             }
         }
     }
@@ -85,8 +80,8 @@ pub fn version(bytes: &[u8]) -> Result<(u8, &[u8]), ReadFault>
 
 /// The code of a report with this status.
 #[tactic(auto, unfolding(crate::specs::Mirrors::Reading::code_at))]
-pub fn code(status: u8, bytes: &[u8]) -> Result<(u8, &[u8]), ReadFault>
-    ensures { Gives (λ x. (x.0, x.1.now)) result (code_at status bytes.now) }
+pub fn code(status: u8, bytes: &[u8]) -> Result<(u8, &[u8]), FieldFault>
+    ensures { Yields (λ x. (x.0, x.1.now)) result (code_at status bytes.now) }
 {
     let (code, rest) = byte(19, bytes)?;
     let fits = if status < 2 {
@@ -97,6 +92,6 @@ pub fn code(status: u8, bytes: &[u8]) -> Result<(u8, &[u8]), ReadFault>
     if fits {
         Ok((code, rest))
     } else {
-        Err(ReadFault::Field(FieldFault::At(bytes.len())))
+        Err(FieldFault::At(bytes.len()))
     }
 }

@@ -1,11 +1,11 @@
 //! Lists of items that are spelled one after the other.
 ghost use Rattle.std.specs.Prelude.{◌≡◌, ℕ, ◌+◌, ◌*◌, ◌≤◌, ◌↔◌, List, Result, IsTrue, IfOk, length, vec_capacity};
 ghost use Rattle.pg_wire.specs.Mirrors.Reading.{Gives, Reader, items_at, counted_at};
-ghost use Rattle.pg_wire.specs.Mirrors.Ordered.{AreOrdered};
+ghost use Rattle.pg_wire.specs.Mirrors.Ordered.{Steps, AreOrdered};
 
 use crate::fault::ReadFault;
 use crate::fields::within;
-use crate::list::Rows;
+use crate::list::Items;
 use std::alloc::Global;
 
 /// A kind of item. Each stands at a place, which the one before it sets.
@@ -49,11 +49,7 @@ pub trait Form {
 
     ghost some: { 1 ≤ SIZE };
 
-    ghost next: { (x y : Self.Item) → Stands (place_after x) y → Precedes x y };
-
-    ghost next_back: { (x y : Self.Item) → Precedes x y → Stands (place_after x) y };
-
-    ghost later: { (at : ℕ) (x y : Self.Item) → Stands at x → Precedes x y → Stands at y };
+    ghost steps: { Steps Stands Precedes place_after };
 }
 
 /// So many items. It takes memory for no more of them than the bytes can spell.
@@ -90,13 +86,13 @@ pub fn counted<F: Form>(
     high: u64,
     place: u64,
     bytes: &[u8],
-) -> Result<(Rows<F::Item>, &[u8]), ReadFault>
+) -> Result<(Items<F::Item>, &[u8]), ReadFault>
     ensures read { Gives (λ x. (x.0, x.1.now)) result (counted_at (F.item_at width) F.place_after least high place bytes.now) }
     ensures size { IfOk result (λ x. 4 + F.SIZE * least + length x.1.now ≤ length bytes.now) }
 {
     let (count, rest) = within(least, high, bytes)?;
     let (items, rest) = items::<F>(alloc, width, count, place, rest)?;
-    Ok((Rows::new(items), rest))
+    Ok((Items::new(items), rest))
 }
 
 /// Whether each item is in its ranges, and the first one stands at the place, and each other one

@@ -7,7 +7,7 @@ use crate::fault::ReadFault;
 use crate::fields::{WORDS, byte, odd, within};
 use crate::form::{Form, are_ordered, counted, items};
 use crate::frame::{SparseValue, Value, VertexLine};
-use crate::list::{Numbers, Pairs, Rows};
+use crate::list::{Items, Numbers, Pairs};
 use std::alloc::Global;
 
 /// The successors of a vertex, which rise.
@@ -16,6 +16,7 @@ pub struct SuccessorForm;
 impl Form for SuccessorForm {
     ghost use Rattle.std.specs.Prelude.{◌+◌, ◌≤◌, ◌<◌};
     ghost use Rattle.std.proofs.Common.{arith};
+    ghost use Rattle.pg_wire.specs.Mirrors.Ordered.{rising};
     ghost use Rattle.pg_wire.specs.Mirrors.Reading.{word_at};
     ghost use Rattle.pg_wire.specs.Well.{IsWord};
 
@@ -36,7 +37,7 @@ impl Form for SuccessorForm {
     ghost IsItem = { λ _. IsWord };
 
     fn read(_: Global, _: u32, place: u64, bytes: &[u8]) -> Result<(u32, &[u8]), ReadFault> {
-        within(place, WORDS, bytes)
+        Ok(within(place, WORDS, bytes)?)
     }
 
     fn place_after_item(successor: &u32) -> u64 {
@@ -49,11 +50,7 @@ impl Form for SuccessorForm {
 
     ghost some = { Prim.omega arith };
 
-    ghost next = { λ x y h. Prim.omega arith };
-
-    ghost next_back = { λ x y h. Prim.omega arith };
-
-    ghost later = { λ at x y h k. Prim.omega arith };
+    ghost steps = { rising (λ n. n) };
 }
 
 /// Priorities that fall, each with its bound.
@@ -62,6 +59,7 @@ pub struct BoundForm;
 impl Form for BoundForm {
     ghost use Rattle.std.specs.Prelude.{◌+◌, ◌≤◌, ◌<◌};
     ghost use Rattle.std.proofs.Common.{arith};
+    ghost use Rattle.pg_wire.specs.Mirrors.Ordered.{falling};
     ghost use Rattle.pg_wire.specs.Mirrors.Reading.{bound_at};
     ghost use Rattle.pg_wire.specs.Well.{IsBound};
 
@@ -99,11 +97,7 @@ impl Form for BoundForm {
 
     ghost some = { Prim.omega arith };
 
-    ghost next = { λ x y h. h };
-
-    ghost next_back = { λ x y h. h };
-
-    ghost later = { λ at x y h k. Prim.omega arith };
+    ghost steps = { falling (λ p. p.0) };
 }
 
 /// The components of a measure.
@@ -112,6 +106,7 @@ pub struct ComponentForm;
 impl Form for ComponentForm {
     ghost use Rattle.std.specs.Prelude.{⊤};
     ghost use Rattle.std.proofs.Common.{arith};
+    ghost use Rattle.pg_wire.specs.Mirrors.Ordered.{in_any_order};
     ghost use Rattle.pg_wire.specs.Mirrors.Reading.{word_at};
     ghost use Rattle.pg_wire.specs.Well.{IsWord};
 
@@ -132,7 +127,7 @@ impl Form for ComponentForm {
     ghost IsItem = { λ _. IsWord };
 
     fn read(_: Global, _: u32, _: u64, bytes: &[u8]) -> Result<(u32, &[u8]), ReadFault> {
-        within(0, WORDS, bytes)
+        Ok(within(0, WORDS, bytes)?)
     }
 
     fn place_after_item(_: &u32) -> u64 {
@@ -146,11 +141,7 @@ impl Form for ComponentForm {
 
     ghost some = { Prim.omega arith };
 
-    ghost next = { λ x y h. tt };
-
-    ghost next_back = { λ x y h. tt };
-
-    ghost later = { λ at x y h k. tt };
+    ghost steps = { in_any_order };
 }
 
 /// Places below the width, which rise, each with its number.
@@ -159,6 +150,7 @@ pub struct PlaceForm;
 impl Form for PlaceForm {
     ghost use Rattle.std.specs.Prelude.{◌+◌, ◌≤◌, ◌<◌};
     ghost use Rattle.std.proofs.Common.{arith};
+    ghost use Rattle.pg_wire.specs.Mirrors.Ordered.{rising};
     ghost use Rattle.pg_wire.specs.Mirrors.Reading.{place_at};
     ghost use Rattle.pg_wire.specs.Well.{IsPlace};
 
@@ -201,11 +193,7 @@ impl Form for PlaceForm {
 
     ghost some = { Prim.omega arith };
 
-    ghost next = { λ x y h. Prim.omega arith };
-
-    ghost next_back = { λ x y h. Prim.omega arith };
-
-    ghost later = { λ at x y h k. Prim.omega arith };
+    ghost steps = { rising (λ p. p.0) };
 }
 
 /// The lines of vertices, which rise.
@@ -214,6 +202,7 @@ pub struct LineForm;
 impl Form for LineForm {
     ghost use Rattle.std.specs.Prelude.{◌+◌, ◌≤◌, ◌<◌};
     ghost use Rattle.std.proofs.Common.{arith};
+    ghost use Rattle.pg_wire.specs.Mirrors.Ordered.{rising};
     ghost use Rattle.pg_wire.specs.Mirrors.Reading.{line_at};
     ghost use Rattle.pg_wire.specs.Well.{IsVertexLine};
 
@@ -271,11 +260,7 @@ impl Form for LineForm {
 
     ghost some = { Prim.omega arith };
 
-    ghost next = { λ x y h. Prim.omega arith };
-
-    ghost next_back = { λ x y h. Prim.omega arith };
-
-    ghost later = { λ at x y h k. Prim.omega arith };
+    ghost steps = { rising (λ l. l.vertex) };
 }
 
 /// The list behind a tag, 0, in a frame of this width; behind 1 there is none.
@@ -293,7 +278,7 @@ fn components(
         return Ok((None, rest));
     }
     let (numbers, rest) = items::<ComponentForm>(alloc, 0, width, 0, rest)?;
-    Ok((Some(Rows::new(numbers)), rest))
+    Ok((Some(Items::new(numbers)), rest))
 }
 
 /// Whether a list has a number for each place of the width.
@@ -309,6 +294,7 @@ pub struct ValueForm;
 impl Form for ValueForm {
     ghost use Rattle.std.specs.Prelude.{◌+◌, ◌≤◌, ◌<◌};
     ghost use Rattle.std.proofs.Common.{arith};
+    ghost use Rattle.pg_wire.specs.Mirrors.Ordered.{rising};
     ghost use Rattle.pg_wire.specs.Mirrors.Reading.{value_at};
     ghost use Rattle.pg_wire.specs.Well.{IsValue};
 
@@ -354,11 +340,7 @@ impl Form for ValueForm {
 
     ghost some = { Prim.omega arith };
 
-    ghost next = { λ x y h. Prim.omega arith };
-
-    ghost next_back = { λ x y h. Prim.omega arith };
-
-    ghost later = { λ at x y h k. Prim.omega arith };
+    ghost steps = { rising (λ v. v.vertex) };
 }
 
 /// The pairs behind a tag, 0, in a frame of this width; behind 1 there are none.
@@ -388,6 +370,7 @@ pub struct SparseValueForm;
 impl Form for SparseValueForm {
     ghost use Rattle.std.specs.Prelude.{◌+◌, ◌≤◌, ◌<◌};
     ghost use Rattle.std.proofs.Common.{arith};
+    ghost use Rattle.pg_wire.specs.Mirrors.Ordered.{rising};
     ghost use Rattle.pg_wire.specs.Mirrors.Reading.{sparse_value_at};
     ghost use Rattle.pg_wire.specs.Well.{IsSparseValue};
 
@@ -433,9 +416,5 @@ impl Form for SparseValueForm {
 
     ghost some = { Prim.omega arith };
 
-    ghost next = { λ x y h. Prim.omega arith };
-
-    ghost next_back = { λ x y h. Prim.omega arith };
-
-    ghost later = { λ at x y h k. Prim.omega arith };
+    ghost steps = { rising (λ v. v.vertex) };
 }

@@ -1,6 +1,6 @@
 //! The frames.
 
-use crate::list::{Numbers, Pairs, Rows};
+use crate::list::{Items, Numbers, Pairs};
 
 /// Starts a worker anew.
 #[derive(Debug, Drop)]
@@ -38,7 +38,7 @@ pub struct LineHead {
 /// Vertices for a worker's part, strictly rising.
 #[derive(Debug, Drop)]
 pub struct Vertices {
-    pub lines: Rows<VertexLine>,
+    pub lines: Items<VertexLine>,
 }
 
 /// A vertex and its measure; no list is top.
@@ -54,7 +54,7 @@ pub struct Value {
 pub struct Values {
     /// At most 32,768.
     pub width: u32,
-    pub values: Rows<Value>,
+    pub values: Items<Value>,
 }
 
 /// A vertex and its measure by the components that aren't 0; no pairs is top.
@@ -70,7 +70,7 @@ pub struct SparseValue {
 pub struct Sparse {
     /// At most 32,768.
     pub width: u32,
-    pub values: Rows<SparseValue>,
+    pub values: Items<SparseValue>,
 }
 
 /// Lets a worker lift.

@@ -25,7 +25,7 @@ pub use frame::{
 pub use kind::ValueKind;
 pub use lines_reader::VerticesReader;
 pub use lines_writer::VerticesWriter;
-pub use list::{Numbers, Pairs, Rows};
+pub use list::{Items, Numbers, Pairs};
 pub use reader::ValuesReader;
 pub use reading::decode;
 pub use stream::{read_frame, read_frame_bytes};

@@ -1,19 +1,18 @@
 //! Reads the lines of a frame of vertices one after the other, from its bytes.
-ghost use Rattle.std.specs.Prelude.{◌≡◌, ◌≢◌, ◌+◌, ◌*◌, ◌<◌, ◌∷◌, List, None, IfSome, IfOk, IfNone, OnErr, All, length};
-ghost use Rattle.std.specs.List.{flat_map};
+ghost use Rattle.std.specs.Prelude.{◌≡◌, ◌≢◌, ◌<◌, ◌∷◌, List, None, IfSome, IfOk, IfNone, OnErr, length};
 ghost use Rattle.pg_wire.specs.declared.frame.VertexLine.{VertexLine};
-ghost use Rattle.pg_wire.specs.Spelling.{word, body};
-ghost use Rattle.pg_wire.specs.Well.{IsWell, IsWord};
+ghost use Rattle.pg_wire.specs.Spelling.{body};
+ghost use Rattle.pg_wire.specs.Well.{IsWell};
 ghost use Rattle.pg_wire.specs.Bytes.{Spells};
-ghost use Rattle.pg_wire.specs.Mirrors.Reading.{made, line_at};
+ghost use Rattle.pg_wire.specs.Mirrors.Reading.{Yields, made, line_at};
 ghost use Rattle.pg_wire.specs.Lines.{frame_with};
-ghost use Rattle.pg_wire.specs.Mirrors.Skipping.{Yields, skipped};
+ghost use Rattle.pg_wire.specs.Mirrors.Skipping.{skipped};
 ghost use Rattle.pg_wire.specs.Mirrors.Lines.{head_at, counted_as, successors_at, lines_at, after_line, AreLines};
 
 use crate::fault::FieldFault;
-use crate::fields::WORDS;
+use crate::fields::{WORDS, byte, within};
 use crate::frame::LineHead;
-use crate::reader::{number, tag};
+use crate::reader::read_numbers;
 use crate::reading::after_length;
 use std::alloc::AllocError;
 
@@ -31,10 +30,10 @@ fn head(place: u64, bytes: &[u8]) -> Result<(LineHead, u32, &[u8]), FieldFault>
     ensures read { Yields (λ x. (counted_as x.0 x.1, x.2.now)) result (head_at place bytes.now) }
     ensures less { IfOk result (λ x. length x.2.now < length bytes.now) }
 {
-    let (vertex, rest) = number(place, WORDS, bytes)?;
-    let (priority, rest) = number(0, 65_537, rest)?;
-    let (owner, rest) = tag(rest)?;
-    let (count, rest) = number(1, WORDS, rest)?;
+    let (vertex, rest) = within(place, WORDS, bytes)?;
+    let (priority, rest) = within(0, 65_537, rest)?;
+    let (owner, rest) = byte(2, rest)?;
+    let (count, rest) = within(1, WORDS, rest)?;
     let head = LineHead {
         vertex,
         priority,
@@ -50,7 +49,7 @@ fn skip_successors(count: u32, bytes: &[u8]) -> Result<&[u8], FieldFault>
     let mut rest = bytes;
     let mut at = 0;
     for _ in 0..count {
-        let (successor, after) = number(at, WORDS, rest)?;
+        let (successor, after) = within(at, WORDS, rest)?;
         at = successor as u64 + 1;
         rest = after;
     }
@@ -87,7 +86,7 @@ fn lines(bytes: &[u8]) -> Option<&[u8]>
     ensures all { (ls : List VertexLine) → IsWell (frame_with ls) → (2 ∷ bytes.now) ≡ body (frame_with ls)
         → result ≢ None }
 {
-    let Ok((count, lines)) = number(0, WORDS, bytes) else {
+    let Ok((count, lines)) = within(0, WORDS, bytes) else {
         return None;
     };
     let Ok(rest) = skip_lines(count, lines) else {
@@ -97,20 +96,6 @@ fn lines(bytes: &[u8]) -> Option<&[u8]>
         return None;
     }
     Some(lines)
-}
-
-/// The numbers that the bytes spell, written into the row.
-fn read_words(bytes: &[u8], row: &mut [u32])
-    requires { length bytes.now ≡ 4 * length row.old }
-    ensures spelled { bytes.now ≡ flat_map word row.new }
-    ensures words { All IsWord row.new }
-{
-    let mut rest = bytes;
-    for place in row.iter_mut() {
-        let (front, after) = rest.split_at(4);
-        *place = u32::from_be_bytes([front[0], front[1], front[2], front[3]]);
-        rest = after;
-    }
 }
 
 impl<'a> VerticesReader<'a> {
@@ -153,8 +138,9 @@ impl<'a> VerticesReader<'a> {
             return Ok(None);
         }
         successors.resize(count, 0)?;
-        let (words, rest) = rest.split_at(4 * count);
-        read_words(words, successors.as_mut_slice());
+        let Ok(rest) = read_numbers(rest, successors.as_mut_slice()) else {
+            return Ok(None);
+        };
         self.bytes = rest;
         Ok(Some(head))
     }

@@ -5,11 +5,11 @@ use std::marker::Model;
 
 /// Items in a row. Contracts see the list of them.
 #[derive(Debug, Drop)]
-pub struct Rows<T> {
+pub struct Items<T> {
     items: Vec<T>,
 }
 
-impl<T> Model for Rows<T> {
+impl<T> Model for Items<T> {
     ghost use Rattle.std.specs.Prelude.{List};
 
     ghost Value = { List T };
@@ -17,12 +17,12 @@ impl<T> Model for Rows<T> {
     ghost view = { λ r. r.items.items };
 }
 
-impl<T> Rows<T> {
+impl<T> Items<T> {
     /// The items of a vector, in order.
-    pub fn new(items: Vec<T>) -> Rows<T>
+    pub fn new(items: Vec<T>) -> Items<T>
         ensures { result ≡ items.items }
     {
-        Rows { items }
+        Items { items }
     }
 
     /// The items, in order.
@@ -41,7 +41,7 @@ impl<T> Rows<T> {
 }
 
 /// Numbers, as the components of a value or the successors of a vertex.
-pub type Numbers = Rows<u32>;
+pub type Numbers = Items<u32>;
 
 /// Pairs of numbers: odd priorities with their bounds, or places of components with the numbers there.
-pub type Pairs = Rows<(u32, u32)>;
+pub type Pairs = Items<(u32, u32)>;

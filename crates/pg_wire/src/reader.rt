@@ -1,16 +1,16 @@
 //! Reads the measures of a frame one after the other, from its bytes and without memory.
-ghost use Rattle.std.specs.Prelude.{◌≡◌, ◌≢◌, ◌+◌, ◌≤◌, ◌<◌, ◌∷◌, List, Some, None, IfSome, IfOk, length, cond, true};
+ghost use Rattle.std.specs.Prelude.{◌≡◌, ◌≢◌, ◌+◌, ◌*◌, ◌≤◌, ◌<◌, ◌∷◌, List, Some, None, IfSome, IfOk, OnErr, length, cond, true};
 ghost use Rattle.pg_wire.specs.declared.kind.ValueKind.{ValueKind};
 ghost use Rattle.pg_wire.specs.declared.frame.Frame.{Frame};
 ghost use Rattle.pg_wire.specs.Spelling.{body};
 ghost use Rattle.pg_wire.specs.Well.{IsWell};
 ghost use Rattle.pg_wire.specs.Bytes.{Spells};
 ghost use Rattle.pg_wire.specs.Measured.{Measured, filled, kind_number, frame_of, TellsMeasures};
-ghost use Rattle.pg_wire.specs.Mirrors.Reading.{made, within_at, byte_at, items_at, place_at};
-ghost use Rattle.pg_wire.specs.Mirrors.Skipping.{Yields, skipped, numbers_at, pairs_at, list_at, measured_at, after_measured, AreFields};
+ghost use Rattle.pg_wire.specs.Mirrors.Reading.{Yields, made, items_at, place_at};
+ghost use Rattle.pg_wire.specs.Mirrors.Skipping.{skipped, numbers_at, pairs_at, list_at, measured_at, after_measured, AreFields};
 
 use crate::fault::FieldFault;
-use crate::fields::WORDS;
+use crate::fields::{WORDS, byte, within};
 use crate::kind::ValueKind;
 use crate::reading::after_length;
 
@@ -22,45 +22,6 @@ pub struct ValuesReader<'a> {
     bytes: &'a [u8],
 }
 
-/// A number from `low` on, below `high`.
-#[tactic(auto, unfolding(crate::specs::Mirrors::Reading::within_at))]
-#[inline(always)]
-pub fn number(low: u64, high: u64, bytes: &[u8]) -> Result<(u32, &[u8]), FieldFault>
-    ensures read { Yields (λ x. (x.0, x.1.now)) result (within_at low high bytes.now) }
-    ensures range { IfOk result (λ x. (low ≤ x.0) × (x.0 < high)) }
-    ensures less { IfOk result (λ x. length x.1.now < length bytes.now) }
-{
-    if bytes.len() < 4 {
-        return Err(FieldFault::At(bytes.len()));
-    }
-    let (front, rest) = bytes.split_at(4);
-    let n = u32::from_be_bytes([front[0], front[1], front[2], front[3]]);
-    if low <= n as u64 && (n as u64) < high {
-        Ok((n, rest))
-    } else {
-        Err(FieldFault::At(bytes.len()))
-    }
-}
-
-/// The tag of a list, 0, or of top, 1.
-#[tactic(auto, unfolding(crate::specs::Mirrors::Reading::byte_at))]
-#[inline(always)]
-pub fn tag(bytes: &[u8]) -> Result<(u8, &[u8]), FieldFault>
-    ensures read { Yields (λ x. (x.0, x.1.now)) result (byte_at 2 bytes.now) }
-    ensures less { IfOk result (λ x. length x.1.now < length bytes.now) }
-{
-    match bytes {
-        [] => Err(FieldFault::At(0)),
-        [b, rest @ ..] => {
-            if *b < 2 {
-                Ok((*b, rest))
-            } else {
-                Err(FieldFault::At(bytes.len()))
-            }
-        }
-    }
-}
-
 /// A place from `at` on, below the width, and the number there, which isn't 0.
 #[tactic(auto, unfolding(crate::specs::Mirrors::Reading::place_at))]
 fn pair(width: u32, at: u64, bytes: &[u8]) -> Result<(u32, u32, &[u8]), FieldFault>
@@ -68,8 +29,8 @@ fn pair(width: u32, at: u64, bytes: &[u8]) -> Result<(u32, u32, &[u8]), FieldFau
     ensures range { IfOk result (λ x. (at ≤ x.0) × (x.0 < width)) }
     ensures less { IfOk result (λ x. length x.2.now < length bytes.now) }
 {
-    let (place, rest) = number(at, width as u64, bytes)?;
-    let (n, rest) = number(1, WORDS, rest)?;
+    let (place, rest) = within(at, width as u64, bytes)?;
+    let (n, rest) = within(1, WORDS, rest)?;
     Ok((place, n, rest))
 }
 
@@ -79,7 +40,7 @@ fn skip_numbers(width: u32, bytes: &[u8]) -> Result<&[u8], FieldFault>
 {
     let mut rest = bytes;
     for _ in 0..width {
-        let (_, after) = number(0, WORDS, rest)?;
+        let (_, after) = within(0, WORDS, rest)?;
         rest = after;
     }
     Ok(rest)
@@ -107,7 +68,7 @@ fn skip_list(kind: ValueKind, width: u32, bytes: &[u8]) -> Result<&[u8], FieldFa
     match kind {
         ValueKind::Dense => skip_numbers(width, bytes),
         ValueKind::Sparse => {
-            let (count, rest) = number(0, width as u64 + 1, bytes)?;
+            let (count, rest) = within(0, width as u64 + 1, bytes)?;
             skip_places(width, count, rest)
         }
     }
@@ -123,8 +84,8 @@ fn skip_value(
 ) -> Result<(u64, &[u8]), FieldFault>
     ensures { Yields (λ x. (x.0, x.1.now)) result (made after_measured (measured_at kind width place) bytes.now) }
 {
-    let (vertex, rest) = number(place, WORDS, bytes)?;
-    let (tag, rest) = tag(rest)?;
+    let (vertex, rest) = within(place, WORDS, bytes)?;
+    let (tag, rest) = byte(2, rest)?;
     if tag != 0 {
         return Ok((vertex as u64 + 1, rest));
     }
@@ -152,10 +113,10 @@ fn fields(kind: ValueKind, bytes: &[u8]) -> Option<(u32, &[u8])>
     ensures found { IfSome result (λ x. AreFields bytes.now kind x.0 x.1.now) }
     ensures all { (f : Frame) → IsWell f → (kind_number kind ∷ bytes.now) ≡ body f → result ≢ None }
 {
-    let Ok((width, list)) = number(0, 32_769, bytes) else {
+    let Ok((width, list)) = within(0, 32_769, bytes) else {
         return None;
     };
-    let Ok((count, values)) = number(0, WORDS, list) else {
+    let Ok((count, values)) = within(0, WORDS, list) else {
         return None;
     };
     let Ok(rest) = skip_values(kind, width, count, values) else {
@@ -168,13 +129,14 @@ fn fields(kind: ValueKind, bytes: &[u8]) -> Option<(u32, &[u8])>
 }
 
 /// The next numbers, written into the row.
-fn read_numbers<'a>(bytes: &'a [u8], row: &mut [u32]) -> Result<&'a [u8], FieldFault>
+pub fn read_numbers<'a>(bytes: &'a [u8], row: &mut [u32]) -> Result<&'a [u8], FieldFault>
     ensures read { Yields (λ x. (row.new, x.now)) result (numbers_at (length row.old) bytes.now) }
     ensures less { IfOk result (λ x. length x.now ≤ length bytes.now) }
+    ensures cut { OnErr result (length bytes.now < 4 * length row.old) }
 {
     let mut rest = bytes;
     for place in row.iter_mut() {
-        let (n, after) = number(0, WORDS, rest)?;
+        let (n, after) = within(0, WORDS, rest)?;
         *place = n;
         rest = after;
     }
@@ -221,7 +183,7 @@ fn read_list<'a>(
     match kind {
         ValueKind::Dense => read_numbers(bytes, row),
         ValueKind::Sparse => {
-            let (count, rest) = number(0, width as u64 + 1, bytes)?;
+            let (count, rest) = within(0, width as u64 + 1, bytes)?;
             read_places(width, count, rest, row)
         }
     }
@@ -242,8 +204,8 @@ fn read_value<'a>(
     ensures kept { IfOk result (λ x. x.1 ≡ true → row.new ≡ row.old) }
     ensures less { IfOk result (λ x. length x.2.now < length bytes.now) }
 {
-    let (vertex, rest) = number(0, WORDS, bytes)?;
-    let (tag, rest) = tag(rest)?;
+    let (vertex, rest) = within(0, WORDS, bytes)?;
+    let (tag, rest) = byte(2, rest)?;
     if tag != 0 {
         return Ok((vertex, true, rest));
     }

@@ -110,7 +110,7 @@ fn frame(alloc: Global, kind: u8, bytes: &[u8]) -> Result<(Frame, &[u8]), ReadFa
 
 /// The frame that all of the bytes after a length give.
 #[tactic(auto, unfolding(crate::specs::Mirrors::Reading::body_at))]
-fn whole(alloc: Global, bytes: &[u8]) -> Result<Frame, ReadFault>
+fn frame_of_body(alloc: Global, bytes: &[u8]) -> Result<Frame, ReadFault>
     ensures { Gives (λ x. x) result (body_at bytes.now) }
 {
     match bytes {
@@ -134,7 +134,7 @@ fn from_body(alloc: Global, bytes: &[u8]) -> Result<Frame, WireFault>
     ensures not_short { result ≢ Err Truncated }
     ensures no_stream { IfErr result (λ e. (e ≢ WireFault.Read) × (e ≢ WireFault.Write)) }
 {
-    match whole(alloc, bytes) {
+    match frame_of_body(alloc, bytes) {
         Ok(f) => Ok(f),
         Err(ReadFault::Memory) => Err(WireFault::OutOfMemory),
         Err(ReadFault::Field(FieldFault::At(left))) => {

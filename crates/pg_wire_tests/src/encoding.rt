@@ -1,6 +1,6 @@
 use crate::texts::{FRAMES, bytes_of};
 use pg_wire::{
-    Frame, Go, Report, Rows, Setup, Sparse, SparseValue, Value, Values, VertexLine, Vertices,
+    Frame, Go, Items, Report, Setup, Sparse, SparseValue, Value, Values, VertexLine, Vertices,
     WireFault, decode, encode, laws, write_frame,
 };
 use std::alloc::Global;
@@ -41,10 +41,10 @@ fn spells_what_it_reads(rt: HostRuntime) -> Result<(), Fail> {
     Ok(())
 }
 
-fn one_row<T: Drop>(alloc: Global, item: T) -> Result<Rows<T>, Fail> {
+fn one_row<T: Drop>(alloc: Global, item: T) -> Result<Items<T>, Fail> {
     let mut items = Vec::new(alloc);
     items.push(item)?;
-    Ok(Rows::new(items))
+    Ok(Items::new(items))
 }
 
 fn is_set_up_well(
@@ -53,7 +53,7 @@ fn is_set_up_well(
     vertices: u32,
     bounds: &[(u32, u32)],
 ) -> Result<bool, Fail> {
-    let bounds = Rows::new(bounds.to_vec(alloc)?);
+    let bounds = Items::new(bounds.to_vec(alloc)?);
     let frame = Frame::Setup(Setup {
         version,
         vertices,
@@ -90,7 +90,7 @@ fn is_line_well(alloc: Global, priority: u32, owner: u8, successors: &[u32]) -> 
         vertex: 0,
         priority,
         owner,
-        successors: Rows::new(successors.to_vec(alloc)?),
+        successors: Items::new(successors.to_vec(alloc)?),
     };
     let lines = one_row(alloc, line)?;
     Ok(Frame::Vertices(Vertices { lines }).is_well())
@@ -118,7 +118,7 @@ fn tells_which_lines_are_well(rt: HostRuntime) -> Result<(), Fail> {
 fn is_list_well(alloc: Global, width: u32, numbers: &[u32]) -> Result<bool, Fail> {
     let value = Value {
         vertex: 0,
-        list: Some(Rows::new(numbers.to_vec(alloc)?)),
+        list: Some(Items::new(numbers.to_vec(alloc)?)),
     };
     let values = one_row(alloc, value)?;
     Ok(Frame::Values(Values { width, values }).is_well())
@@ -145,7 +145,7 @@ fn tells_which_lists_are_well(rt: HostRuntime) -> Result<(), Fail> {
 fn are_pairs_well(alloc: Global, width: u32, pairs: &[(u32, u32)]) -> Result<bool, Fail> {
     let value = SparseValue {
         vertex: 0,
-        pairs: Some(Rows::new(pairs.to_vec(alloc)?)),
+        pairs: Some(Items::new(pairs.to_vec(alloc)?)),
     };
     let values = one_row(alloc, value)?;
     Ok(Frame::Sparse(Sparse { width, values }).is_well())
@@ -206,7 +206,7 @@ fn large(alloc: Global, tops: u32) -> Result<Frame, Fail> {
         let numbers = vec![in alloc; 1u32; 32_767]?;
         values.push(Value {
             vertex,
-            list: Some(Rows::new(numbers)),
+            list: Some(Items::new(numbers)),
         })?;
     }
     for vertex in 124..tops.saturating_add(124) {
@@ -214,7 +214,7 @@ fn large(alloc: Global, tops: u32) -> Result<Frame, Fail> {
     }
     Ok(Frame::Values(Values {
         width: 32_767,
-        values: Rows::new(values),
+        values: Items::new(values),
     }))
 }
 

@@ -8,7 +8,8 @@ use Rattle.pg_text.specs.declared.tokens.TokenFault.{TokenFault}
 use Rattle.pg_text.specs.declared.reading.Refusal.{Refusal}
 use Rattle.pg_text.specs.declared.reading.Refusal.TheVariants.{Memory, Token}
 use Rattle.pg_text.specs.Mirrors.Steps.{Fails}
-use Rattle.pg_text.proofs.Steps.{ok_is, err_is_ok, some_is}
+use Rattle.pg_text.proofs.Steps.{ok_is, err_is_ok}
+use Rattle.pg_lists.proofs.Steps.{some_is}
 use Rattle.pg_text.proofs.Spelling.{spells_append, spells_parts}
 use Rattle.pg_worker.specs.Cuts.{CutValue, even_worker}
 use Rattle.pg_world.specs.declared.event.Event.{Event}

@@ -6,7 +6,8 @@ use Rattle.std.proofs.lemmas.Slice.Eq.{bytes_eq-Decides}
 use Rattle.pg_text.specs.Lexemes.{Lexeme, number, word, semicolon, end, Begins, Spells, clause_lexemes}
 use Rattle.pg_text.specs.Mirrors.Steps.{◌>>=◌, Read, unexpected}
 use Rattle.pg_text.specs.Mirrors.Parts.{natural_at, name_at, semicolon_at, end_at, numbers_at, clause_at}
-use Rattle.pg_text.proofs.Steps.{bind_ok, chosen, ok, ok_is, err_is_ok, some}
+use Rattle.pg_text.proofs.Steps.{bind_ok, ok, ok_is, err_is_ok}
+use Rattle.pg_lists.proofs.Steps.{chosen, some}
 use Rattle.pg_text.proofs.Lexing.{token_again}
 use Rattle.pg_text.proofs.Spelling.{spells_append, spells_parts, begins_shorter, spells_within}
 use Rattle.pg_text.proofs.Parts.{natural_takes, natural_again, name_takes, name_again, semicolon_takes, semicolon_again, end_takes, end_again, clause_takes, clause_there, numbers_take, numbers_again}

@@ -8,7 +8,8 @@ use Rattle.std.proofs.lemmas.Grind.{flat_map-append}
 use Rattle.pg_arena.specs.Games.{GameVertex, identifier, IsGame}
 use Rattle.pg_text.specs.Lexemes.{Lexeme, end, Spells}
 use Rattle.pg_text.specs.declared.tokens.TokenFault.{TokenFault}
-use Rattle.pg_text.proofs.Steps.{ok_is, err_is_ok, some, some_is, none_is_some}
+use Rattle.pg_text.proofs.Steps.{ok_is, err_is_ok}
+use Rattle.pg_lists.proofs.Steps.{some, some_is, none_is_some}
 use Rattle.pg_text.proofs.Spelling.{spells_append, spells_parts}
 use Rattle.pg_text.proofs.Answering.{same_vertex}
 use Rattle.pg_world.specs.declared.event.Event.{Event}

@@ -2,7 +2,7 @@
 use Rattle.std.specs.Prelude.{ℕ, List, map, Option, Some, None}
 use Rattle.pg_hoa.specs.declared.formula.Op.{Op}
 use Rattle.pg_hoa.specs.declared.body.Edge as read_edge
-use Rattle.pg_hoa.specs.declared.body.Line as read_line
+use Rattle.pg_hoa.specs.declared.body.ReadState as read_line
 use Rattle.pg_hoa.specs.declared.header.Head as read_head
 use Rattle.pg_hoa.specs.Mirrors.FormulaRun.{postfix}
 use Rattle.pg_hoa.specs.AutomatonText.{Edge, StateLine, set_list}
@@ -20,7 +20,7 @@ pub record KeptLine : Type 0 where
 abbrev pub kept_edge : read_edge.Edge → KeptEdge
 kept_edge e = record { label = e.label.items; target = e.target; sets = e.sets.items }
 
-abbrev pub kept_line : read_line.Line → KeptLine
+abbrev pub kept_line : read_line.ReadState → KeptLine
 kept_line l = record { state = l.state; sets = l.sets.items; edges = map kept_edge l.edges.items }
 
 -- what is kept of an edge and a line as they are written

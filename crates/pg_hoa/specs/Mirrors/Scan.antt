@@ -5,7 +5,8 @@ use Rattle.std.specs.List.{prefix_len, take_while}
 use Rattle.pg_hoa.specs.declared.token.Token.{Token}
 use Rattle.pg_hoa.specs.declared.token.Token.TheVariants as tokens
 use Rattle.pg_hoa.specs.Mirrors.Steps.{◌>>=◌}
-use Rattle.pg_hoa.specs.Lexemes.{Lexeme, number, identifier, header, string, alias, body, end, abort, left_bracket, right_bracket, left_brace, right_brace, left_paren, right_paren, bang, ampersand, bar, stray, Character, plain, escaped, is_space, is_digit, is_letter, is_inner, is_colon, value_of}
+use Rattle.pg_hoa.specs.Lexemes.{Lexeme, number, identifier, header, string, alias, body, end, abort, left_bracket, right_bracket, left_brace, right_brace, left_paren, right_paren, bang, ampersand, bar, stray, Character, plain, escaped, is_space, is_letter, is_inner, is_colon}
+use Rattle.pg_lists.specs.Bytes.{is_digit, value_of}
 
 -- the characters of a string's content
 abbrev pub characters : List ℕ → List Character

@@ -14,7 +14,8 @@ use Rattle.pg_hoa.specs.declared.table.Table.{Table}
 use Rattle.pg_hoa.specs.declared.formula.Op.{Op}
 use Rattle.pg_hoa.specs.Mirrors.Steps.{◌>>=◌}
 use Rattle.pg_hoa.specs.Automata.{Step, deciding, step}
-use Rattle.pg_hoa.specs.AutomatonText.{Agree, head, rising}
+use Rattle.pg_hoa.specs.AutomatonText.{Agree, head}
+use Rattle.pg_lists.specs.Rising.{rising}
 use Rattle.pg_hoa.specs.Mirrors.Kept.{KeptEdge, KeptLine, kept_edge}
 use Rattle.pg_hoa.specs.Mirrors.Saying.{says}
 

@@ -1,7 +1,8 @@
 -- The lines of which the game of an automaton is made.
 use Rattle.std.specs.Prelude.{ℕ, ◌-◌, ◌/◌, ◌%◌, ◌<◌, ◌==◌, nat_le, if◌then◌else◌, List, [], ◌∷◌, ◌++◌, map, length, Some, None}
 use Rattle.std.specs.List.{flat_map, range_with_len}
-use Rattle.pg_arena.specs.Lines.{Line, each_once}
+use Rattle.pg_arena.specs.Lines.{Line}
+use Rattle.pg_lists.specs.Rising.{rising}
 use Rattle.pg_hoa.specs.Automata.{Automaton, letters, next}
 use Rattle.pg_synth.specs.Letters.{joined}
 use Rattle.pg_synth.specs.AutomatonGames.{input_letters, output_letters, width, place_identifier, place_owner, place_priority, place_name, arrival_of}
@@ -41,18 +42,18 @@ all_identifiers a =
     0 ∷ place_identifier a (Arrival a.start None) ∷ flat_map (added_by a) (range_with_len 0 a.states)
 
 abbrev pub game_identifiers : Automaton → List ℕ
-game_identifiers a = each_once (all_identifiers a)
+game_identifiers a = rising (all_identifiers a)
 
 -- how many edges the vertex with an identifier has
 abbrev pub edges_of : Automaton → ℕ → ℕ
-edges_of a n = length (each_once (leads a (place_in a n)))
+edges_of a n = length (rising (leads a (place_in a n)))
 
 abbrev pub line_of_place : Automaton → ℕ → Place → Line
 line_of_place a n x = record {
   identifier = n;
   priority = place_priority a.shape a.sets x;
   owner = place_owner x;
-  successors = each_once (leads a x);
+  successors = rising (leads a x);
   name = Some (place_name x);
 }
 

@@ -22,7 +22,12 @@ abbrev pub ◌>>=◌ : {A B : Type 0} → Result A FieldFault → (A → Result 
 (Ok x) >>= f = f x
 (Err e) >>= f = Err e
 
--- what a function returned is what the reader gives, unless memory ran out
+-- what a function returned is what the reader gives
+abbrev pub Yields : {X Y : Type 0} → (X → Y) → Result X FieldFault → Result Y FieldFault → Type 0
+Yields view (Ok x) read = read ≡ Ok (view x)
+Yields view (Err e) read = read ≡ Err e
+
+-- the same, unless memory ran out
 abbrev pub Fails : {Y : Type 0} → ReadFault → Result Y FieldFault → Type 0
 Fails faults.Memory read = Unit {0}
 Fails (faults.Field f) read = read ≡ Err f

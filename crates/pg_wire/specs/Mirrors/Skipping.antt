@@ -1,5 +1,5 @@
 -- The private readers of measures, and those that keep nothing of what they pass over.
-use Rattle.std.specs.Prelude.{◌≡◌, ℕ, ◌+◌, ◌^◌, ◌≤◌, List, ◌∷◌, Result, Ok, Err, All}
+use Rattle.std.specs.Prelude.{◌≡◌, ℕ, ◌+◌, ◌^◌, ◌≤◌, List, ◌∷◌, Result, Ok, All}
 use Rattle.std.specs.List.{flat_map}
 use Rattle.pg_wire.specs.declared.fault.FieldFault.{FieldFault}
 use Rattle.pg_wire.specs.declared.kind.ValueKind.{ValueKind}
@@ -8,11 +8,6 @@ use Rattle.pg_wire.specs.Spelling.{body}
 use Rattle.pg_wire.specs.Well.{IsWell}
 use Rattle.pg_wire.specs.Measured.{Measured, IsMeasured, filled, spelled_as, kind_number, frame_of}
 use Rattle.pg_wire.specs.Mirrors.Reading.{◌>>=◌, Reader, both, made, within_at, word_at, items_at, counted_at, tagged_at, place_at}
-
--- what a function returned is what the reader gives
-abbrev pub Yields : {X Y : Type 0} → (X → Y) → Result X FieldFault → Result Y FieldFault → Type 0
-Yields view (Ok x) read = read ≡ Ok (view x)
-Yields view (Err e) read = read ≡ Err e
 
 -- the bytes after what is read
 abbrev pub skipped : {A : Type 0} → Reader A → List ℕ → Result (List ℕ) FieldFault

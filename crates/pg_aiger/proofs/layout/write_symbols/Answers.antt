@@ -1,6 +1,6 @@
 use Rattle.std.proofs.Common.{◌≡◌, ◌+◌, ◌<◌, ◌∷◌, [], ◌++◌, length, zero-add, arith, ap, subst, ◌∙◌, length-append}
 use Rattle.std.specs.Io.KnownBytes.{Appends}
-use Rattle.pg_aiger.specs.CircuitText.{Symbol, symbol}
+use Rattle.pg_aiger.specs.CircuitText.{symbol}
 use Rattle.pg_aiger.specs.CircuitLayout.{row_text, symbols_from}
 use Rattle.pg_aiger.specs.Mirrors.Layouts.{kind_of, named, names_until}
 use Rattle.pg_aiger.proofs.Printing.{row_push, symbols_push, names_taken, names_left, few_names}

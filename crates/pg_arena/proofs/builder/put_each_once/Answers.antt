@@ -1,10 +1,10 @@
 use Rattle.std.proofs.Common.{◌∙◌, eqb, List, ℕ, subst, rules}
 use Rattle.std.specs.List.Sorted.{IsPermutation}
 use Rattle.std.proofs.lemmas.List.Filters.{dedup_is}
-use Rattle.pg_arena.proofs.Rising.{dedup_each_once}
+use Rattle.pg_lists.proofs.Rising.{dedup_rising}
 use Rattle.pg_arena.proofs.builder.put_each_once.Goals as goal
 
 pub returns : goal.returns
 returns c =
     let same : IsPermutation c.args.numbers.now c.sort_unstable.new.self.items = subst (λ (xs : List ℕ). IsPermutation xs c.sort_unstable.new.self.items) (search rules) c.sort_unstable.ensures.permutation in
-    dedup_is eqb c.sort_unstable.new.self.items c.dedup.new.self.items c.dedup.ensures.filtered ∙ dedup_each_once c.args.numbers.now c.sort_unstable.new.self.items same c.sort_unstable.ensures.sorted
+    dedup_is eqb c.sort_unstable.new.self.items c.dedup.new.self.items c.dedup.ensures.filtered ∙ dedup_rising c.args.numbers.now c.sort_unstable.new.self.items same c.sort_unstable.ensures.sorted

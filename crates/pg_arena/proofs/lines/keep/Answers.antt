@@ -1,5 +1,6 @@
-use Rattle.std.proofs.Common.{ℕ, List, Option, Some, ap, ◌∙◌, arith}
-use Rattle.pg_arena.proofs.Adding.{noted_by, noted_long, noted_here, noted_before}
+use Rattle.std.proofs.Common.{ℕ, List, Option, Some, arith}
+use Rattle.std.proofs.lemmas.Bool.Decides.{nat_tests}
+use Rattle.pg_arena.proofs.Adding.{noted_by, noted_before}
 use Rattle.pg_arena.proofs.lines.keep.Goals as goal
 
 pub returns-in-Some-clause-names : goal.returns-in-Some-clause-names
@@ -14,17 +15,7 @@ returns-in-Some-clause-same c = λ v lt.
     rw are (noted_before places c.args.line place c.requires.few_places v lt)
 
 pub returns-in-Some-clause-place : goal.returns-in-Some-clause-place
-returns-in-Some-clause-place c =
-    let places : List (Option ℕ) = c.args.places.now.items in
-    let place : Option ℕ = Some c.len-place.result in
-    let are = noted_by places c.resize.new.self.items c.push-in-Some.new.self.items c.args.line c.args.places.now.len place c.args.places.now.ok.0
-    (rw c.unwrap-in-Some.ensures at c.resize.ensures.items) (rw c.unwrap-in-Some-2.ensures at c.push-in-Some.ensures.items) in
-    rw (are, c.in-Some.is) (noted_here places c.args.line place c.requires.few_places ∙ ap (λ (n : ℕ). Some n) (c.len-place.ensures ∙ c.args.names.now.ok.0))
+returns-in-Some-clause-place c = grind (arith, nat_tests)
 
 pub returns-in-Some-clause-few_places : goal.returns-in-Some-clause-few_places
-returns-in-Some-clause-few_places c =
-    let places : List (Option ℕ) = c.args.places.now.items in
-    let place : Option ℕ = Some c.len-place.result in
-    let are = noted_by places c.resize.new.self.items c.push-in-Some.new.self.items c.args.line c.args.places.now.len place c.args.places.now.ok.0
-    (rw c.unwrap-in-Some.ensures at c.resize.ensures.items) (rw c.unwrap-in-Some-2.ensures at c.push-in-Some.ensures.items) in
-    rw are (omega (arith, noted_long places c.args.line place c.requires.few_places))
+returns-in-Some-clause-few_places c = grind (arith, nat_tests)

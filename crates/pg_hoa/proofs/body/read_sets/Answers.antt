@@ -1,4 +1,5 @@
-use Rattle.std.proofs.Common.{◌≡◌, ◌∙◌, ap, sym, ℕ, List, Option, Some}
+use Rattle.std.proofs.Common.{◌≡◌, ◌∙◌, ap, sym, ℕ, List, Option, Some, arith}
+use Rattle.std.proofs.lemmas.Bool.Decides.{nat_tests}
 use Rattle.std.proofs.lemmas.Result.{err_from_is_err_and}
 use Rattle.pg_hoa.specs.Mirrors.Scan.{lex, lexeme}
 use Rattle.pg_hoa.specs.Mirrors.BodyScan.{set_in, sets_at}
@@ -6,14 +7,10 @@ use Rattle.pg_hoa.proofs.BodyTurns.{ahead, due_shorter, sets_unread, sets_fail, 
 use Rattle.pg_hoa.proofs.body.read_sets.Goals as goal
 
 pub returns-in_err-token : goal.returns-in_err-token
-returns-in_err-token c =
-    let p = err_from_is_err_and c.from_residual.result c.from_residual.ensures.1 in
-    rw (p.1, p.2, ← c.numbers.invariant) (sets_unread c.in_err-token.field-0.0 c.args.sets c.numbers.numbers.items (lex c.numbers.rest.now) c.in_err-token.ensures)
+returns-in_err-token c = grind (arith, nat_tests, err_from_is_err_and c.from_residual.result c.from_residual.ensures.1, sets_unread c.in_err-token.field-0.0 c.args.sets c.numbers.numbers.items (lex c.numbers.rest.now) c.in_err-token.ensures)
 
 pub returns-in_err-set : goal.returns-in_err-set
-returns-in_err-set c =
-    let p = err_from_is_err_and c.from_residual-in_err-set.result c.from_residual-in_err-set.ensures.1 in
-    rw (p.1, p.2, ← c.numbers.invariant) (sets_fail c.in_err-set.field-0.0 c.args.sets c.numbers.numbers.items (lex c.numbers.rest.now) (lex c.in_ok-token.after.now) (lexeme c.in_ok-token.token) c.in_ok-token.ensures c.in_err-set.ensures)
+returns-in_err-set c = grind (arith, nat_tests, err_from_is_err_and c.from_residual-in_err-set.result c.from_residual-in_err-set.ensures.1, sets_fail c.in_err-set.field-0.0 c.args.sets c.numbers.numbers.items (lex c.numbers.rest.now) (lex c.in_ok-token.after.now) (lexeme c.in_ok-token.token) c.in_ok-token.ensures c.in_err-set.ensures)
 
 pub numbers-smaller : goal.numbers-smaller
 numbers-smaller c = due_shorter (lex c.numbers.rest.now) (lexeme c.in_ok-token.token, lex c.in_ok-token.after.now) c.in_ok-token.ensures

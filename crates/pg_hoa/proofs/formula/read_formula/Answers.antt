@@ -1,4 +1,5 @@
-use Rattle.std.proofs.Common.{◌≡◌, ◌∙◌, ap, sym, Some, Option, List, [], ◌∷◌, refl, true, false}
+use Rattle.std.proofs.Common.{◌≡◌, ◌∙◌, ap, sym, Some, Option, List, [], ◌∷◌, refl, true, false, arith}
+use Rattle.std.proofs.lemmas.Bool.Decides.{nat_tests}
 use Rattle.std.proofs.lemmas.Result.{err_from_is_err_and}
 use Rattle.std.specs.Prelude.{option_map}
 use Rattle.pg_hoa.specs.declared.token.Token.{Token}
@@ -7,7 +8,7 @@ use Rattle.pg_hoa.specs.Lexemes.{Lexeme}
 use Rattle.pg_hoa.specs.Mirrors.Scan.{lex, lexeme}
 use Rattle.pg_hoa.specs.Mirrors.Steps.{◌>>=◌}
 use Rattle.pg_hoa.specs.Mirrors.FormulaRun.{view, ops_at, ops_from, goes_on_at}
-use Rattle.pg_hoa.proofs.Turning.{first_end, first_token, first_fails, turns, turn_fails, ends_there, ends_last, over_fails}
+use Rattle.pg_hoa.proofs.Turning.{first_token, first_fails, turns, turn_fails, ends_there, ends_last, over_fails}
 use Rattle.pg_hoa.proofs.formula.read_formula.Goals as goal
 
 abbrev none_left : List Lexeme
@@ -18,20 +19,13 @@ unfolding ops_at
 tokens-init c = rw (c.new.ensures.items, c.new-2.ensures.items) refl
 
 pub returns-in_err-found : goal.returns-in_err-found
-returns-in_err-found c =
-    let p = err_from_is_err_and c.from_residual.result c.from_residual.ensures.1 in
-    rw (p.1, p.2, ← c.tokens.invariant) (first_fails c.in_err-found.field-0.0 c.args.kind (view c.tokens.reading) (lex c.tokens.rest.now) c.in_err-found.ensures)
+returns-in_err-found c = grind (arith, nat_tests, err_from_is_err_and c.from_residual.result c.from_residual.ensures.1, first_fails c.in_err-found.field-0.0 c.args.kind (view c.tokens.reading) (lex c.tokens.rest.now) c.in_err-found.ensures)
 
 pub returns-in_err-over-in-None : goal.returns-in_err-over-in-None
-returns-in_err-over-in-None c =
-    let p = err_from_is_err_and c.from_residual-in_err-over-in-None.result c.from_residual-in_err-over-in-None.ensures.1 in
-    let nil = (first_end (lex c.tokens.rest.now) (lex c.in_ok-found.after.now) (c.in_ok-found.ensures ∙ ap (λ (o : Option Token). Some (option_map lexeme o, lex c.in_ok-found.after.now)) c.in-None.is)).0 in
-    rw (p.1, p.2, ← c.tokens.invariant, nil, ends_last c.args.kind (view c.tokens.reading)) (over_fails c.in_err-over-in-None.field-0.0 (view c.tokens.reading) [] c.in_err-over-in-None.ensures)
+returns-in_err-over-in-None c = grind (arith, nat_tests, err_from_is_err_and c.from_residual-in_err-over-in-None.result c.from_residual-in_err-over-in-None.ensures.1, ends_last c.args.kind (view c.tokens.reading), over_fails c.in_err-over-in-None.field-0.0 (view c.tokens.reading))
 
 pub returns-in-None : goal.returns-in-None
-returns-in-None c =
-    let nil = (first_end (lex c.tokens.rest.now) (lex c.in_ok-found.after.now) (c.in_ok-found.ensures ∙ ap (λ (o : Option Token). Some (option_map lexeme o, lex c.in_ok-found.after.now)) c.in-None.is)).0 in
-    sym c.tokens.invariant ∙ ap (ops_from c.args.kind (view c.tokens.reading)) nil ∙ ends_last c.args.kind (view c.tokens.reading) ∙ ap (λ (o : Option (List Op)). o >>= λ ops. Some (ops, none_left)) c.in_ok-over-in-None.ensures ∙ ap (λ (ts : List Lexeme). Some (c.in_ok-over-in-None.field-0.items, ts)) (sym nil)
+returns-in-None c = grind (arith, nat_tests, ends_last c.args.kind (view c.tokens.reading))
 
 pub returns-in_err-reading-in-Some : goal.returns-in_err-reading-in-Some
 returns-in_err-reading-in-Some c =

@@ -1,4 +1,5 @@
-use Rattle.std.proofs.Common.{◌≡◌, ◌∙◌, ap, sym, Option, Some, None, ℕ, List, refl, Bor}
+use Rattle.std.proofs.Common.{◌≡◌, ◌∙◌, ap, sym, Option, Some, None, ℕ, List, refl, Bor, arith}
+use Rattle.std.proofs.lemmas.Bool.Decides.{nat_tests}
 use Rattle.std.proofs.lemmas.Result.{err_from_is_err_and}
 use Rattle.std.specs.Prelude.{option_map}
 use Rattle.pg_hoa.specs.declared.token.Token.{Token}
@@ -22,9 +23,7 @@ is_else tokens.Body no_header no_body = absurd (no_body refl)
 is_else _ no_header no_body = tt
 
 pub returns-in_err-found : goal.returns-in_err-found
-returns-in_err-found c =
-    let p = err_from_is_err_and c.from_residual.result c.from_residual.ensures.1 in
-    rw (p.1, p.2, ← c.headers.invariant) (headers_fail c.in_err-found.field-0.0 (kept_head c.headers.head) (lex c.headers.rest.now) c.in_err-found.ensures)
+returns-in_err-found c = grind (arith, nat_tests, err_from_is_err_and c.from_residual.result c.from_residual.ensures.1, headers_fail c.in_err-found.field-0.0 (kept_head c.headers.head) (lex c.headers.rest.now) c.in_err-found.ensures)
 
 pub returns-in-Body : goal.returns-in-Body
 returns-in-Body c =

@@ -1,4 +1,5 @@
 use Rattle.std.proofs.Common.{◌∙◌, ◌-◌, ◌+◌, sym, ap, map, List, [], ◌∷◌, ℕ, arith, Vec, Global}
+use Rattle.std.proofs.lemmas.Bool.Decides.{nat_tests}
 use Rattle.std.proofs.lemmas.List.{map-append}
 use Rattle.std.proofs.lemmas.Result.{err_from_is_err_and}
 use Rattle.pg_hoa.specs.Mirrors.Scan.{lex}
@@ -10,9 +11,7 @@ abbrev bytes_of : List (Vec ℕ Global) → List (List ℕ)
 bytes_of names = map (λ name. name.items) names
 
 pub returns-in_err-name : goal.returns-in_err-name
-returns-in_err-name c =
-    let p = err_from_is_err_and c.from_residual.result c.from_residual.ensures.1 in
-    rw (p.1, p.2, ← c.names.invariant) (names_fail c.in_err-name.field-0.0 (c.args.count - c.names.proposition) (c.args.count - (c.names.proposition + 1)) (bytes_of c.names.names.items) (lex c.names.rest.now) (omega arith) c.in_err-name.ensures)
+returns-in_err-name c = grind (arith, nat_tests, err_from_is_err_and c.from_residual.result c.from_residual.ensures.1, names_fail c.in_err-name.field-0.0 (c.args.count - c.names.proposition) (c.args.count - (c.names.proposition + 1)) (bytes_of c.names.names.items) (lex c.names.rest.now) (omega arith) c.in_err-name.ensures)
 
 pub names-preserved : goal.names-preserved
 names-preserved c =

@@ -1,4 +1,5 @@
-use Rattle.std.proofs.Common.{◌∙◌, sym}
+use Rattle.std.proofs.Common.{◌∙◌, sym, arith}
+use Rattle.std.proofs.lemmas.Bool.Decides.{nat_tests}
 use Rattle.std.proofs.lemmas.Result.{err_from_is_err_and}
 use Rattle.std.specs.Prelude.{option_map}
 use Rattle.pg_hoa.specs.Mirrors.Scan.{lex, lexeme}
@@ -6,9 +7,7 @@ use Rattle.pg_hoa.proofs.HeaderTurns.{skipped_fail, skipped_more, skipped_end, v
 use Rattle.pg_hoa.proofs.header.skip_values.Goals as goal
 
 pub returns-in_err-found : goal.returns-in_err-found
-returns-in_err-found c =
-    let p = err_from_is_err_and c.from_residual.result c.from_residual.ensures.1 in
-    rw (p.1, p.2, ← c.values.invariant) (skipped_fail c.in_err-found.field-0.0 (lex c.values.rest.now) c.in_err-found.ensures)
+returns-in_err-found c = grind (arith, nat_tests, err_from_is_err_and c.from_residual.result c.from_residual.ensures.1, skipped_fail c.in_err-found.field-0.0 (lex c.values.rest.now) c.in_err-found.ensures)
 
 pub returns-then-not-is_value : goal.returns-then-not-is_value
 returns-then-not-is_value c =

@@ -1,6 +1,7 @@
-use Rattle.std.proofs.Common.{◌∙◌, Bool, List, ap, refl, sym, arith}
+use Rattle.std.proofs.Common.{◌∙◌, ap, refl, arith}
+use Rattle.std.proofs.lemmas.Bool.Decides.{nat_tests}
 use Rattle.std.proofs.lemmas.List.{drop_all}
-use Rattle.pg_hoa.specs.Mirrors.Saying.{run, top}
+use Rattle.pg_hoa.specs.Mirrors.Saying.{run}
 use Rattle.pg_hoa.specs.Mirrors.Letters.{on_at, truths}
 use Rattle.pg_hoa.proofs.TableWords.{truths_none, step_run}
 use Rattle.pg_hoa.proofs.letters.word_of.Goals as goal
@@ -15,5 +16,4 @@ loop-op-preserved c = λ j h.
     step_run c.args.label.now c.loop-op.op-index j _ _ (on_at c.args.block j) c.loop-op.stack.items c.answer-word.new.stack.items c.push.new.self.items c.answer-word.result (omega arith) refl e f ∙ c.loop-op.invariant j h
 
 pub returns : goal.returns
-returns c = λ j h.
-    c.pop.ensures.top j ∙ ap (λ (stack : List Bool). top stack) (ap (λ ops. run ops (on_at c.args.block j) (truths j c.loop-op.stack.items)) (sym (drop_all c.loop-op.op-index c.args.label.now c.loop-op-test.false)) ∙ c.loop-op.invariant j h)
+returns c = grind (arith, nat_tests, drop_all c.loop-op.op-index c.args.label.now c.loop-op-test.false)

@@ -1,4 +1,5 @@
 use Rattle.std.proofs.Common.{◌≡◌, ◌∙◌, sym, subst, ℕ, List, map, length, arith}
+use Rattle.std.proofs.lemmas.Bool.Decides.{nat_tests}
 use Rattle.std.proofs.lemmas.List.{length-map}
 use Rattle.std.proofs.lemmas.Result.{err_from_is_err_and}
 use Rattle.pg_hoa.specs.Lexemes.{Lexeme}
@@ -27,9 +28,7 @@ read_body-requires c =
     rw c.ranges-2.ensures.states few
 
 pub returns-in_err-head-clause-refused : goal.returns-in_err-head-clause-refused
-returns-in_err-head-clause-refused c =
-    let p = err_from_is_err_and c.from_residual.result c.from_residual.ensures.1 in
-    rw (p.1, p.2) (headers_never c.in_err-head.field-0.0 (lex c.args.bytes.now) c.in_err-head.ensures)
+returns-in_err-head-clause-refused c = grind (arith, nat_tests, err_from_is_err_and c.from_residual.result c.from_residual.ensures.1, headers_never c.in_err-head.field-0.0 (lex c.args.bytes.now) c.in_err-head.ensures)
 
 pub returns-in_err-settled-clause-refused : goal.returns-in_err-settled-clause-refused
 returns-in_err-settled-clause-refused c =

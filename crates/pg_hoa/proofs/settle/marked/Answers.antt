@@ -1,4 +1,5 @@
 use Rattle.std.proofs.Common.{◌≡◌, ◌+◌, ◌==◌, ◌∙◌, ℕ, Bool, List, [], ◌∷◌, ◌++◌, map, ap, refl, arith}
+use Rattle.std.proofs.lemmas.Bool.Decides.{nat_tests}
 use Rattle.std.specs.List.{list_any}
 use Rattle.std.proofs.lemmas.List.FromFn.{map-range_with_len_more}
 use Rattle.pg_hoa.specs.Mirrors.Settling.{marked}
@@ -15,7 +16,4 @@ more controls p =
     ∙ ap (λ (b : Bool). marked (map {A = ℕ × ℕ} {B = ℕ} (λ x. x.0) controls) p ++ (b ∷ [])) (any_map p controls)
 
 pub loop-proposition-preserved : goal.loop-proposition-preserved
-loop-proposition-preserved c =
-    let e = more c.args.controls.now c.loop-proposition.proposition in
-    let pushed = c.in_ok-push.ensures.items in
-    cc
+loop-proposition-preserved c = grind (arith, nat_tests, more c.args.controls.now c.loop-proposition.proposition)

@@ -1,4 +1,5 @@
 use Rattle.std.proofs.Common.{◌≡◌, ℕ, ◌∙◌, ◌+◌, ◌*◌, ◌<◌, ◌≤◌, ◌++◌, sym, ap, arith}
+use Rattle.std.proofs.lemmas.Bool.Decides.{nat_tests}
 use Rattle.std.proofs.Math.Nat.{mul-le-mul_right}
 use Rattle.std.proofs.lemmas.List.{append-nil}
 use Rattle.pg_hoa.specs.Mirrors.Tables.{stage, way_step, at_word, at_letters}
@@ -14,9 +15,7 @@ block_within first block blocks width letters slots more h split within same =
     grind arith
 
 pub place_word-requires-clause-within : goal.place_word-requires-clause-within
-place_word-requires-clause-within c =
-    block_within c.args.first c.loop-block.block c.blocks_of-blocks.result.0 c.blocks_of-blocks.result.1 _ _ _
-    c.loop-block-test.true c.blocks_of-blocks.ensures.all c.requires.within c.loop-block.invariant.adds.as_many
+place_word-requires-clause-within c = grind (arith, nat_tests, block_within c.args.first c.loop-block.block c.blocks_of-blocks.result.0 c.blocks_of-blocks.result.1 _ _ _ c.loop-block-test.true c.blocks_of-blocks.ensures.all c.requires.within c.loop-block.invariant.adds.as_many)
 
 pub loop-block-init : goal.loop-block-init
 loop-block-init c =

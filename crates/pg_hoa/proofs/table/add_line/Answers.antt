@@ -1,7 +1,8 @@
 use Rattle.std.proofs.Common.{◌≡◌, ◌∙◌, ℕ, [], ◌∷◌, sym, subst, ◌+◌, ◌*◌, ◌%◌, ◌++◌, ◌^◌, ◌<◌, map, take, get_or, length, refl, ap, arith}
+use Rattle.std.proofs.lemmas.Bool.Decides.{nat_tests}
 use Rattle.std.proofs.lemmas.Nat.{shl_whole, pow_pos}
 use Rattle.std.proofs.lemmas.List.{take_all}
-use Rattle.pg_hoa.specs.AutomatonText.{rising}
+use Rattle.pg_lists.specs.Rising.{rising}
 use Rattle.pg_hoa.specs.Mirrors.Kept.{kept_edge}
 use Rattle.pg_hoa.specs.Mirrors.Tables.{stage, Adds, Repeats, at_line, at_letters}
 use Rattle.pg_hoa.specs.Automata.{step}
@@ -15,10 +16,7 @@ pub loop-index-init : goal.loop-index-init
 loop-index-init c = adds_none c.args.shape _ (stage c.args.filling.now) (λ i h. no_edges (2 ^ c.args.propositions) c.args.line.now.state c.args.line.now.sets.items i)
 
 pub add_edge-requires-clause-within : goal.add_edge-requires-clause-within
-add_edge-requires-clause-within c =
-    let first : c.args.line.now.state * 2 ^ c.args.propositions % 18446744073709551616 ≡ c.args.line.now.state * 2 ^ c.args.propositions = shl_whole c.args.line.now.state 32 c.args.propositions 64 (omega arith) (omega arith) in
-    let many : length c.loop-index.filling.slots.items ≡ length c.args.filling.now.slots.items = c.loop-index.invariant.as_many in
-    omega (arith, first, many)
+add_edge-requires-clause-within c = grind (arith, nat_tests, shl_whole c.args.line.now.state 32 c.args.propositions 64 (omega arith) (omega arith))
 
 pub add_edge-requires-clause-decided : goal.add_edge-requires-clause-decided
 add_edge-requires-clause-decided c =

@@ -1,6 +1,6 @@
 use Rattle.std.proofs.Common.{◌≡◌, ℕ, List, ◌++◌, take}
 use Rattle.pg_hoa.specs.Automata.{deciding}
-use Rattle.pg_hoa.specs.AutomatonText.{rising}
+use Rattle.pg_lists.specs.Rising.{rising}
 use Rattle.pg_hoa.proofs.table.counts_with.Given as goal
 
 -- the sets so far are counted

@@ -1,11 +1,12 @@
 use Rattle.std.proofs.Common.{◌≡◌, ◌∙◌, ◌+◌, ◌*◌, ◌%◌, ◌/◌, ◌^◌, ◌<◌, ◌≤◌, ℕ, map, take, length, get_or, replicate, List, Fits, w32, w64, sym, refl, ap, subst, arith}
+use Rattle.std.proofs.lemmas.Bool.Decides.{nat_tests}
 use Rattle.std.proofs.lemmas.Nat.{one_shl, pow_pos}
 use Rattle.std.proofs.lemmas.List.{take_all, length-replicate}
 use Rattle.std.proofs.lemmas.List.Elements.{All-get_or}
 use Rattle.std.proofs.Math.Pow.{pow_mono}
 use Rattle.std.proofs.Math.Nat.{mod-le, div-le_self, mul-le-mul_right}
 use Rattle.std.specs.List.{All}
-use Rattle.pg_hoa.specs.declared.body.Line.{Line}
+use Rattle.pg_hoa.specs.declared.body.ReadState.{ReadState}
 use Rattle.pg_hoa.specs.Mirrors.Kept.{kept_line}
 use Rattle.pg_hoa.specs.Mirrors.Tables.{stage, at_line, at_lines, IsFirstConflict}
 use Rattle.pg_hoa.proofs.TableFilling.{adds_then}
@@ -36,7 +37,7 @@ within state states n m h e =
 
 -- the slots of a state below the count stand within those of all
 slots_within :
-    (lines : List Line) (states p at : ℕ) (line : Line) (slots zeros : List ℕ)
+    (lines : List ReadState) (states p at : ℕ) (line : ReadState) (slots zeros : List ℕ)
     → p ≤ 16 → All (λ l. l.state < states) lines → at < length lines → line ≡ get_or lines at line
     → length slots ≡ length zeros → zeros ≡ replicate (states * (1 * 2 ^ p % 18446744073709551616)) 0
     → line.state * 2 ^ p + 2 ^ p ≤ length slots
@@ -44,18 +45,14 @@ slots_within lines states p at line slots zeros few below h is same made =
     let n : ℕ = 2 ^ p in
     let letters : 1 * 2 ^ p % 18446744073709551616 ≡ n = one_shl p 64 (omega arith) in
     let all : length slots ≡ states * n = same ∙ ap length made ∙ length-replicate _ 0 ∙ ap (λ m. states * m) letters in
-    let state : line.state < states = subst (λ (l : Line). l.state < states) (sym is) (All-get_or (λ (l : Line). l.state < states) lines at line h below) in
+    let state : line.state < states = subst (λ (l : ReadState). l.state < states) (sym is) (All-get_or (λ (l : ReadState). l.state < states) lines at line h below) in
     within line.state states n (length slots) state all
 
 pub overflow_mul-total : goal.overflow_mul-total
-overflow_mul-total c =
-    fits_64 _ (slots_few c.args.states c.args.propositions c.requires.few_propositions c.requires.few_steps)
+overflow_mul-total c = grind (arith, nat_tests, fits_64 _ (slots_few c.args.states c.args.propositions c.requires.few_propositions c.requires.few_steps))
 
 pub add_line-requires-clause-within : goal.add_line-requires-clause-within
-add_line-requires-clause-within c =
-    slots_within c.args.lines.now c.args.states c.args.propositions c.loop-line.line-index c.line-item.result
-    c.loop-line.filling.slots.items _ c.requires.few_propositions c.requires.below c.loop-line-test.true c.line-item.is
-    c.loop-line.invariant.as_many (c.in_ok-vec.ensures.items_if_clones_equal (λ y same. same))
+add_line-requires-clause-within c = grind (arith, nat_tests)
 
 pub overflow_cast-state : goal.overflow_cast-state
 overflow_cast-state c =

@@ -1,4 +1,5 @@
-use Rattle.std.proofs.Common.{◌≡◌, ◌∙◌, sym, ap, Some, Option, ℕ, List}
+use Rattle.std.proofs.Common.{◌≡◌, ◌∙◌, sym, ap, Some, Option, ℕ, List, arith}
+use Rattle.std.proofs.lemmas.Bool.Decides.{nat_tests}
 use Rattle.std.proofs.lemmas.Result.{err_from_is_err_and}
 use Rattle.std.specs.Prelude.{option_map}
 use Rattle.std.specs.Borrow.{Bor}
@@ -7,9 +8,7 @@ use Rattle.pg_hoa.proofs.Gaps.{gap_takes, gap_next, gap_ends, gap_fails}
 use Rattle.pg_hoa.proofs.token.blanks.Goals as goal
 
 pub returns-in_err-blank : goal.returns-in_err-blank
-returns-in_err-blank c =
-    let p = err_from_is_err_and c.from_residual.result c.from_residual.ensures.1 in
-    rw (p.1, p.2, ← c.bytes.invariant.rest) (gap_fails c.in_err-blank.field-0.0 c.bytes.deep c.bytes.rest.now c.in_err-blank.ensures)
+returns-in_err-blank c = grind (arith, nat_tests, err_from_is_err_and c.from_residual.result c.from_residual.ensures.1, gap_fails c.in_err-blank.field-0.0 c.bytes.deep c.bytes.rest.now c.in_err-blank.ensures)
 
 pub returns-in-None : goal.returns-in-None
 returns-in-None c =

@@ -1,6 +1,6 @@
 use Rattle.std.proofs.Common.{◌≡◌, get_or, length, arith, ap, ◌∙◌}
 use Rattle.std.proofs.lemmas.List.Sums.{sum_by_more_le}
-use Rattle.pg_arena.specs.Lines.{each_once}
+use Rattle.pg_lists.specs.Rising.{rising}
 use Rattle.pg_synth.specs.Mirrors.GameLines.{leads, edges_of}
 use Rattle.pg_synth.proofs.Building.{is_place, place_at}
 use Rattle.pg_synth.proofs.lines.has_few_edges.Goals as goal
@@ -18,5 +18,5 @@ returns-then-edges-gt-MAX_EDGES c =
     let le = sum_by_more_le (edges_of a) ids k 0 c.loop-identifier-test.true in
     let x = place_at a c.args.layout.now c.sets.result (get_or ids k 0) c.with_identifier-place.result c.requires.laid c.sets.ensures c.with_identifier-place.ensures in
     let n : length c.put_each_once.new.list.items ≡ edges_of a (get_or ids k 0) =
-    ap length (c.put_each_once.ensures ∙ ap each_once (c.in_ok-put_leads.ensures ∙ ap (leads a) x)) in
+    ap length (c.put_each_once.ensures ∙ ap rising (c.in_ok-put_leads.ensures ∙ ap (leads a) x)) in
     ((λ e. absurd cc), (λ h. absurd (omega (arith, le, n, c.len-edges.ensures, c.put_each_once.new.list.ok.0, c.loop-identifier.invariant.counted, c.if-edges-gt-MAX_EDGES.true))))

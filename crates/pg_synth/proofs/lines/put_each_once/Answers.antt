@@ -1,9 +1,9 @@
 use Rattle.std.proofs.Common.{◌∙◌, eqb}
 use Rattle.std.proofs.lemmas.List.Filters.{dedup_is}
-use Rattle.pg_arena.proofs.Rising.{dedup_each_once}
+use Rattle.pg_lists.proofs.Rising.{dedup_rising}
 use Rattle.pg_synth.proofs.lines.put_each_once.Goals as goal
 
 pub returns : goal.returns
 returns c =
     dedup_is eqb c.sort_unstable.new.self.items c.dedup.new.self.items c.dedup.ensures.filtered
-    ∙ dedup_each_once c.args.list.now.items c.sort_unstable.new.self.items c.sort_unstable.ensures.permutation c.sort_unstable.ensures.sorted
+    ∙ dedup_rising c.args.list.now.items c.sort_unstable.new.self.items c.sort_unstable.ensures.permutation c.sort_unstable.ensures.sorted

@@ -1,7 +1,8 @@
 use Rattle.std.proofs.Common.{◌∙◌, ap, refl, ℕ, List}
 use Rattle.std.proofs.lemmas.Result.{err_from_is_err_and}
 use Rattle.pg_text.specs.Mirrors.Steps.{◌>>=◌, Read}
-use Rattle.pg_text.proofs.Steps.{ok, some}
+use Rattle.pg_text.proofs.Steps.{ok}
+use Rattle.pg_lists.proofs.Steps.{some}
 use Rattle.pg_text.proofs.FirstBytes.{named, ending_of_byte, ending_of_others}
 use Rattle.pg_text.proofs.line.ending.Goals as goal
 

@@ -1,5 +1,6 @@
 use Rattle.std.proofs.Common.{◌≡◌, ◌≤◌, length, get_or, false, sym, refl, arith}
-use Rattle.pg_text.specs.Lexemes.{is_digit}
+use Rattle.std.proofs.lemmas.Bool.Decides.{nat_tests}
+use Rattle.pg_lists.specs.Bytes.{is_digit}
 use Rattle.pg_text.proofs.Numbers.{number_over, number_ends, reads_digit}
 use Rattle.pg_text.proofs.tokens.digits.Goals as goal
 use Rattle.pg_text.proofs.tokens.digits.Goals.{in_default-via-then-rest-lt1, in_default-via-in-len1-up+else-is_digit}
@@ -13,10 +14,7 @@ returns-then-value-from-clause-token c =
     sym (number_over c.args.bytes.now _ _ (omega arith) r)
 
 pub digits-preserved : goal.digits-preserved
-digits-preserved c = record {
-  small = omega arith;
-  reading = rw (c.from.ensures, c.saturating_sub.ensures) (reads_digit c.args.bytes.now c.digits.value c.digits.rest.now c.in-len1-up.len_at_least (cc) c.digits.invariant.reading);
-}
+digits-preserved c = grind (arith, nat_tests, reads_digit c.args.bytes.now c.digits.value c.digits.rest.now c.in-len1-up.len_at_least (cc) c.digits.invariant.reading)
 
 pub returns-in_default-clause-token : goal.returns-in_default-clause-token
 returns-in_default-clause-token c =

@@ -1,11 +1,10 @@
 use Rattle.std.proofs.Common.{refl, sym, ◌∙◌}
-use Rattle.pg_wire.proofs.Orders.{Steps, ordered, follow, goes_on, stops, past}
+use Rattle.pg_wire.proofs.Orders.{ordered, follow, goes_on, stops, past}
 use Rattle.pg_wire.proofs.form.are_ordered.Goals as goal
 
 pub returns-then-not-fits : goal.returns-then-not-fits
 returns-then-not-fits g c =
-    let t = g.met.F.Form in
-    let steps : Steps g.F.Form.Stands g.F.Form.Precedes g.F.Form.place_after = record { forth = t.next; back = t.next_back; later = t.later } in (
+    let steps = g.met.F.Form.steps in (
       λ no. absurd cc,
       λ h.
           let all = follow g.F.Form.Stands (g.F.Form.IsItem c.args.width) g.F.Form.Precedes g.F.Form.place_after steps c.args.place c.args.items.now h in
@@ -19,8 +18,7 @@ loop-item-preserved g c =
 
 pub returns : goal.returns
 returns g c =
-    let t = g.met.F.Form in
-    let steps : Steps g.F.Form.Stands g.F.Form.Precedes g.F.Form.place_after = record { forth = t.next; back = t.next_back; later = t.later } in (
+    let steps = g.met.F.Form.steps in (
       λ yes. ordered g.F.Form.Stands (g.F.Form.IsItem c.args.width) g.F.Form.Precedes g.F.Form.place_after steps c.args.place c.args.items.now (c.loop-item.invariant.whole (past g.F.Form.Stands (g.F.Form.IsItem c.args.width) g.F.Form.place_after c.loop-item.at c.loop-item.item-index c.args.items.now c.loop-item-test.false)),
       λ h. refl,
     )

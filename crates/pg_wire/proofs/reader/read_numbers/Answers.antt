@@ -1,4 +1,4 @@
-use Rattle.std.proofs.Common.{◌<◌, ◌≤◌, ◌-◌, ◌+◌, length, take, List, ℕ, Ok, ap, ◌∙◌, arith}
+use Rattle.std.proofs.Common.{◌<◌, ◌≤◌, ◌-◌, ◌+◌, length, take, List, ℕ, Ok, refl, ap, ◌∙◌, arith}
 use Rattle.std.proofs.lemmas.List.{take_all, take_more_set}
 use Rattle.std.proofs.lemmas.Result.{err_from_is_err_and}
 use Rattle.pg_wire.specs.Mirrors.Reading.{word_at, items_at}
@@ -13,6 +13,7 @@ returns-in_err-n c =
     rw (p.1, p.2) (record {
       read = list_ends (λ _. word_at 0) (λ _. 0) _ (take c.loop-place.place-index c.loop-place.row) (length c.args.row.now) c.loop-place.place-index 0 c.loop-place.rest.now (numbers_at (length c.args.row.now) c.args.bytes.now) c.loop-place-test.true c.in_err-n.ensures.read c.loop-place.invariant.read;
       less = tt;
+      cut = omega (arith, c.in_err-n.ensures.cut refl refl, c.loop-place.invariant.less, c.loop-place-test.true);
     })
 
 pub loop-place-preserved : goal.loop-place-preserved
@@ -23,7 +24,7 @@ loop-place-preserved c =
     record {
       read = ap (λ (front : List ℕ). with_front front after) (take_more_set c.loop-place.row i c.in_ok-n.n lt)
           ∙ goes_on (λ _. word_at 0) (λ _. 0) (take i c.loop-place.row) (length c.args.row.now) i 0 c.loop-place.rest.now c.in_ok-n.n c.in_ok-n.after.now (numbers_at (length c.args.row.now) c.args.bytes.now) c.loop-place-test.true c.in_ok-n.ensures.read c.loop-place.invariant.read;
-      less = omega (arith, c.in_ok-n.ensures.less, c.loop-place.invariant.less);
+      less = omega (arith, c.in_ok-n.ensures.size, c.loop-place.invariant.less);
     }
 
 pub returns : goal.returns
@@ -32,5 +33,6 @@ returns c =
     record {
       read = is_done (λ _. word_at 0) (λ _. 0) (take c.loop-place.place-index c.loop-place.row) (length c.args.row.now) c.loop-place.place-index 0 c.loop-place.rest.now (numbers_at (length c.args.row.now) c.args.bytes.now) c.loop-place-test.false c.loop-place.invariant.read
           ∙ ap (λ (xs : List ℕ). Ok (xs, c.loop-place.rest.now)) (take_all c.loop-place.place-index c.loop-place.row all);
-      less = c.loop-place.invariant.less;
+      less = omega (arith, c.loop-place.invariant.less);
+      cut = tt;
     }

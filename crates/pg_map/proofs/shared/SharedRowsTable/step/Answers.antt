@@ -1,6 +1,7 @@
-use Rattle.std.proofs.Common.{◌∙◌, None, inl, inr, arith}
+use Rattle.std.proofs.Common.{◌∙◌, inl, inr, arith}
+use Rattle.std.proofs.lemmas.Bool.Decides.{nat_tests}
 use Rattle.pg_map.specs.Maps.{measure_at}
-use Rattle.pg_map.proofs.Places.{place_of, own_of, room_of, put_top, put_own, top_cover, cover_of, map_bounds}
+use Rattle.pg_map.proofs.Places.{place_of, own_of, room_of, put_top, put_own, cover_of, map_bounds}
 use Rattle.pg_map.proofs.shared.SharedRowsTable.step.Goals as goal
 use Rattle.pg_map.proofs.shared.SharedRowsTable.step.Goals.{then-is_top, else-is_top}
 
@@ -11,9 +12,7 @@ pub returns-then-source-eq-TOP-clause-map : goal.returns-then-source-eq-TOP-clau
 returns-then-source-eq-TOP-clause-map c = (put_top _ _ _ _ _ c.self.view_is c.requires.to c.self.invariant).map
 
 pub returns-then-source-eq-TOP-clause-step : goal.returns-then-source-eq-TOP-clause-step
-returns-then-source-eq-TOP-clause-step c =
-    let s = place_of _ _ _ _ _ _ c.self.view_is c.self.invariant.shared c.requires.from c.index-source.ensures in
-    top_cover _ _ _ _ _ (s.top c.if-source-eq-TOP.true) (put_top _ _ _ _ _ c.self.view_is c.requires.to c.self.invariant).here
+returns-then-source-eq-TOP-clause-step c = grind (arith, nat_tests, place_of _ _ _ _ _ _ c.self.view_is c.self.invariant.shared c.requires.from c.index-source.ensures, put_top _ _ _ _ _ c.self.view_is c.requires.to c.self.invariant)
 
 pub returns-then-source-eq-TOP-clause-others : goal.returns-then-source-eq-TOP-clause-others
 returns-then-source-eq-TOP-clause-others c = (put_top _ _ _ _ _ c.self.view_is c.requires.to c.self.invariant).others
@@ -22,20 +21,10 @@ pub own-place-requires-clause-room : goal.own-place-requires-clause-room
 own-place-requires-clause-room c = λ z. room_of _ _ _ _ c.args.to _ c.self.view_is c.self.invariant c.requires.to c.index.ensures z
 
 pub step-requires-clause-fits : goal.step-requires-clause-fits
-step-requires-clause-fits c =
-    let o = own_of _ _ _ _ _ c.args.to _ _ c.self.view_is c.self.invariant.shared c.requires.to c.requires.list c.index.ensures c.own-place.ensures.copied c.own-place.ensures.same in
-    let s = place_of _ _ _ _ _ _ c.self.view_is c.self.invariant.shared c.requires.from c.index-source.ensures in
-    let i = s.inside in
-    let l = o.longer in
-    rw c.pairs.ensures.value (o.fits _ None (omega arith))
+step-requires-clause-fits c = grind (arith, nat_tests, own_of _ _ _ _ _ c.args.to _ _ c.self.view_is c.self.invariant.shared c.requires.to c.requires.list c.index.ensures c.own-place.ensures.copied c.own-place.ensures.same, place_of _ _ _ _ _ _ c.self.view_is c.self.invariant.shared c.requires.from c.index-source.ensures)
 
 pub step-requires-clause-source : goal.step-requires-clause-source
-step-requires-clause-source c =
-    let s = place_of _ _ _ _ _ _ c.self.view_is c.self.invariant.shared c.requires.from c.index-source.ensures in
-    let o = own_of _ _ _ _ _ c.args.to _ _ c.self.view_is c.self.invariant.shared c.requires.to c.requires.list c.index.ensures c.own-place.ensures.copied c.own-place.ensures.same in
-    let i = s.inside in
-    let l = o.longer in
-    omega arith
+step-requires-clause-source c = grind (arith, nat_tests, place_of _ _ _ _ _ _ c.self.view_is c.self.invariant.shared c.requires.from c.index-source.ensures, own_of _ _ _ _ _ c.args.to _ _ c.self.view_is c.self.invariant.shared c.requires.to c.requires.list c.index.ensures c.own-place.ensures.copied c.own-place.ensures.same)
 
 pub step-requires-clause-place : goal.step-requires-clause-place
 step-requires-clause-place c = (own_of _ _ _ _ _ c.args.to _ _ c.self.view_is c.self.invariant.shared c.requires.to c.requires.list c.index.ensures c.own-place.ensures.copied c.own-place.ensures.same).inside

@@ -1,4 +1,5 @@
-use Rattle.std.proofs.Common.{◌∙◌, Some, ap, length, inr, refl, arith}
+use Rattle.std.proofs.Common.{◌∙◌, Some, inr, refl, arith}
+use Rattle.std.proofs.lemmas.Bool.Decides.{nat_tests}
 use Rattle.pg_map.proofs.Places.{own_of, room_of, put_own, map_bounds}
 use Rattle.pg_map.proofs.Orderings.{seen_length}
 use Rattle.pg_map.proofs.shared.SharedRowsTable.write_list.Goals as goal
@@ -7,12 +8,7 @@ pub own-place-requires-clause-room : goal.own-place-requires-clause-room
 own-place-requires-clause-room c = λ z. room_of _ _ _ _ c.args.v _ c.self.view_is c.self.invariant c.requires.v c.index.ensures z
 
 pub set-requires-clause-width : goal.set-requires-clause-width
-set-requires-clause-width c =
-    let n = seen_length c.args.self.now.bounds (Some c.args.list.now) c.args.list.now c.requires.fits refl in
-    let b = ap length (map_bounds _ _ _ _ c.self.view_is) in
-    let w = c.self.invariant.width_is in
-    let e = c.own-place.ensures.width in
-    omega arith
+set-requires-clause-width c = grind (arith, nat_tests, seen_length c.args.self.now.bounds (Some c.args.list.now) c.args.list.now c.requires.fits refl, map_bounds _ _ _ _ c.self.view_is)
 
 pub set-requires-clause-place : goal.set-requires-clause-place
 set-requires-clause-place c = (own_of _ _ _ _ _ c.args.v _ _ c.self.view_is c.self.invariant.shared c.requires.v c.requires.list c.index.ensures c.own-place.ensures.copied c.own-place.ensures.same).inside

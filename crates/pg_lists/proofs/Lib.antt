@@ -1,0 +1,4 @@
+pub mod Contained
+pub mod Rising
+pub mod Runs
+pub mod Steps
