@@ -90,12 +90,6 @@ pub record FilledUpto (game : List GameVertex) (half : List Answer) (g : MapValu
   pub filled : AnswersUpto game (λ u answer. ForEachMapOf game half g (λ f. IsAnswerOf game f g u answer)) solution i
   pub later : (u : ℕ) → i ≤ u → answer_at solution u ≡ answer_at half u
 
-pub filled_none : (game : List GameVertex) (half : List Answer) (g : MapValue) → length half ≡ length game → FilledUpto game half g half 0
-filled_none game half g whole = record {
-  filled = record { whole = whole; answers = λ u lt. absurd (omega arith) };
-  later = λ u le. refl;
-}
-
 pub filled_more : (game : List GameVertex) (half : List Answer) (g : MapValue) (solution : List Answer) (v : ℕ) → v < length game
     → FilledUpto game half g solution v → (answer : Answer) → ForEachMapOf game half g (λ f. IsAnswerOf game f g v answer)
     → FilledUpto game half g (slice_set solution v answer) (v + 1)

@@ -1,7 +1,7 @@
 -- The way back along a trail: a cycle that names no vertex twice.
 use Rattle.std.proofs.Common.{◌≡◌, ◌≢◌, ℕ, ◌<◌, ◌≤◌, List, [], ◌∷◌, ◌++◌, length, get_or, arith, sym, subst, refl, ◌∙◌}
 use Rattle.std.specs.List.{All, AllPairs}
-use Rattle.std.proofs.lemmas.List.Elements.{All-nil, All-cons, All-weaker}
+use Rattle.std.proofs.lemmas.List.Elements.{All-cons, All-weaker}
 use Rattle.std.proofs.lemmas.List.Kept.{AllPairs-cons}
 use Rattle.pg_arena.specs.Games.{GameVertex, IsPath, priority}
 use Rattle.pg_text.specs.declared.answer.Answer.{Answer}
@@ -18,15 +18,6 @@ pub record IsWayBack (game : List GameVertex) (solution : List Answer) (v : ℕ)
   pub closes : IsPath (Counts game solution) (get_or reached place 0) (back ++ v ∷ [])
   pub later : All (StandsAfter reached place) back
   pub distinct : AllPairs (λ x y. x ≢ y) back
-
-pub way_begins : (game : List GameVertex) (solution : List Answer) (v : ℕ) (reached before : List ℕ) (end : ℕ)
-    → IsTrail game solution v reached before end → IsWayBack game solution v reached [] end
-way_begins game solution v reached before end t = record {
-  inside = t.inside;
-  closes = (t.closes, tt);
-  later = All-nil (StandsAfter reached end);
-  distinct = λ i j d lt inside. absurd (omega arith);
-}
 
 -- the vertex at the place differs from those after it
 apart : (game : List GameVertex) (solution : List Answer) (v : ℕ) (reached before : List ℕ) (end place : ℕ) (back : List ℕ)

@@ -198,38 +198,6 @@ impl Search {
         self.path.pop()
     }
 
-    /// Closes the component of the vertices that were met from this one on. Perhaps it has a suspect.
-    #[tactic(auto, unfolding(crate::specs::Mirrors::Components::IsWithin))]
-    fn close_from(
-        &mut self,
-        game: &Game,
-        solution: &Solution,
-        numbers: &mut [u32],
-        frame: Frame,
-    ) -> Result<Option<Vertex>, AllocError>
-        requires game { IsGame game.now }
-        requires whole { length solution.now ≡ length game.now }
-        requires numbered { length numbers.old ≡ length game.now }
-        requires frame { frame.vertex < length game.now }
-        requires within { IsWithin (length game.now) self.old.path.items self.old.unclosed.items }
-        ensures within { IsWithin (length game.now) self.new.path.items self.new.unclosed.items }
-        ensures suspect { IfOk result (λ suspect. IfSome suspect (λ v. v < length game.now)) }
-    {
-        let start = component_start(numbers, &self.unclosed, frame.turn);
-        self.number = self.number.saturating_sub(1);
-        let component = close(
-            game,
-            solution,
-            numbers,
-            &self.unclosed[start..],
-            frame.vertex,
-            self.number,
-        );
-        self.unclosed.truncate(start);
-        self.limits.push(component.limit)?;
-        Ok(component.suspect)
-    }
-
     /// Is done with a vertex. Where it leads back to none before it, its component is closed, and perhaps has a
     /// suspect.
     #[tactic(auto, unfolding(crate::specs::Mirrors::Components::IsWithin))]
@@ -254,7 +222,19 @@ impl Search {
         if frame.low < frame.turn {
             return Ok(None);
         }
-        self.close_from(game, solution, numbers, frame)
+        let start = component_start(numbers, &self.unclosed, frame.turn);
+        self.number = self.number.saturating_sub(1);
+        let component = close(
+            game,
+            solution,
+            numbers,
+            &self.unclosed[start..],
+            v,
+            self.number,
+        );
+        self.unclosed.truncate(start);
+        self.limits.push(component.limit)?;
+        Ok(component.suspect)
     }
 
     /// Goes on from a vertex that was taken from the end of the way: meets the next new vertex that it leads to, or is

@@ -1,4 +1,4 @@
--- Edges that are gathered by their targets.
+-- Predecessors that are gathered by their targets.
 use Rattle.std.proofs.Common.{◌≡◌, ◌≢◌, ℕ, zero, suc, ◌+◌, ◌-◌, ◌<◌, ◌≤◌, ◌⊎◌, Bool, List, [], ◌∷◌, length, take, drop, get_or, set, refl, sym, ap, subst, ◌∙◌, arith, inl, inr, add-one, cond}
 use Rattle.std.specs.Prelude.{nat_eq, Option, None, Some, IsSome, unwrap_or}
 use Rattle.pg_arena.specs.Games.{nowhere}
@@ -8,7 +8,7 @@ use Rattle.std.proofs.lemmas.List.Sums.{count_by-le-length, sum_by_more, sum_by-
 use Rattle.pg_map.specs.Lines.{Line, AreWithin, line_at, vertex_line}
 use Rattle.pg_lift.specs.Mirrors.Keeps.{IsAmong}
 use Rattle.pg_lift.specs.Mirrors.Worklists.{times}
-use Rattle.pg_lift.specs.Mirrors.Edges.{AreEdges, ArePut, ArePutBefore, ArePutUpTo, LeadsTo, IsListed, IsBefore, sum_below, edges_of, leads, begin_of}
+use Rattle.pg_lift.specs.Mirrors.Predecessors.{ArePredecessors, ArePut, ArePutBefore, ArePutUpTo, LeadsTo, IsListed, IsBefore, sum_below, edges_of, leads, begin_of}
 
 -- ---- sums
 
@@ -92,9 +92,6 @@ leads_more lines n x = sum_more (λ v. times x (line_at lines v).successors) n
 pub leads_rise : (lines : ℕ → Option Line) (m n x : ℕ) → m ≤ n → leads lines m x ≤ leads lines n x
 leads_rise lines m n x le = sum_rises (λ v. times x (line_at lines v).successors) m n le
 
-pub edges_rise : (lines : ℕ → Option Line) (m n : ℕ) → m ≤ n → edges_of lines m ≤ edges_of lines n
-edges_rise lines m n le = sum_rises (λ v. length (line_at lines v).successors) m n le
-
 -- ---- counts
 
 times_more : (w : ℕ) (xs : List ℕ) (i x : ℕ) → i < length xs → x ≡ get_or xs i x → times w (take (i + 1) xs) ≡ times w (take i xs) + one (nat_eq x w)
@@ -116,24 +113,6 @@ times_other w xs i x lt is ne =
 
 pub times_few : (w : ℕ) (xs : List ℕ) (i : ℕ) → times w (take i xs) ≤ times w xs
 times_few w xs i = sum_by-take-le (λ y. one (nat_eq y w)) xs i
-
--- one edge more is counted
-pub count_step : (counts xs : List ℕ) (before : ℕ → ℕ) (i x : ℕ) → i < length xs → x ≡ get_or xs i x → x < length counts
-    → ((w : ℕ) → w < length counts → get_or counts w 0 ≡ before w + times w (take i xs))
-    → (w : ℕ) → w < length counts → get_or (set counts x (get_or counts x 0 + 1)) w 0 ≡ before w + times w (take (i + 1) xs)
-count_step counts xs before i x lt is at c w h =
-    elim (cases_eq w x) [
-      | inl e ↦
-          let t = times_same w xs i x lt is e in
-          let k = c w h in
-          let s : get_or (set counts x (get_or counts x 0 + 1)) w 0 ≡ get_or counts w 0 + 1 = rw (e, get_or-set_same counts x (get_or counts x 0 + 1) 0 at) refl in
-          omega (arith, t, k, s)
-      | inr ne ↦
-          let t = times_other w xs i x lt is ne in
-          let k = c w h in
-          let s : get_or (set counts x (get_or counts x 0 + 1)) w 0 ≡ get_or counts w 0 = get_or-set_other counts x w (get_or counts x 0 + 1) 0 ne in
-          omega (arith, t, k, s)
-    ]
 
 -- ---- runs that are filled from their ends down
 
@@ -238,7 +217,7 @@ put_same lines n done done' P P' starts sources e on a = record {
 }
 
 -- all are put
-pub put_edges : (lines : ℕ → Option Line) (n : ℕ) (starts sources : List ℕ) → AreWithin n lines → ArePutBefore lines n n starts sources → AreEdges lines starts sources
+pub put_edges : (lines : ℕ → Option Line) (n : ℕ) (starts sources : List ℕ) → AreWithin n lines → ArePutBefore lines n n starts sources → ArePredecessors lines starts sources
 put_edges lines n starts sources w a =
     let begin : (x : ℕ) → x < n + 1 → get_or starts x 0 ≡ begin_of lines n x = λ x lt. let l = a.left x lt in let b = sum_more (leads lines n) x in omega arith in
     record {
@@ -289,6 +268,14 @@ put_room lines n i k x ss w held lt e less is =
     let m = leads_more lines i x in
     let r = leads_rise lines (i + 1) n x (omega arith) in
     (omega arith, omega arith)
+
+-- a place is free for it
+pub put_free : (lines : ℕ → Option Line) (n i k x : ℕ) (ss starts sources : List ℕ) → AreWithin n lines → IsSome (lines i) → i < n → ss ≡ (line_at lines i).successors → k < length ss → x ≡ get_or ss k x → ArePutUpTo lines n i k starts sources
+    → (1 ≤ get_or starts x 0) × (get_or starts x 0 - 1 < length sources)
+put_free lines n i k x ss starts sources w held lt e less is a =
+    let r = put_room lines n i k x ss w held lt e less is in
+    let f = free lines n _ _ starts sources x a r.0 r.1 in
+    (f.0, f.2)
 
 -- it is put
 pub put_edge : (lines : ℕ → Option Line) (n i k x : ℕ) (ss starts sources : List ℕ) → AreWithin n lines → IsSome (lines i) → i < n → ss ≡ (line_at lines i).successors → k < length ss → x ≡ get_or ss k x → ArePutUpTo lines n i k starts sources
@@ -347,14 +334,6 @@ put_none lines n i starts sources none a =
       | inl before ↦ (before, h.1)
       | inr late ↦ let q : v ≡ i = let b = h.0 in omega arith in absurd (none (subst (λ (z : ℕ). IsSome (lines z)) q h.1.0))
     ])
-    a
-
--- no edge is put
-pub put_begin : (lines : ℕ → Option Line) (n i : ℕ) (starts sources : List ℕ) → ArePutBefore lines n i starts sources → ArePutUpTo lines n i 0 starts sources
-put_begin lines n i starts sources a =
-    put_same lines n (leads lines i) (λ y. leads lines i y + times y (take 0 (line_at lines i).successors)) (λ v y. (v < i) × LeadsTo lines v y)
-    (λ v y. ((v < i) × LeadsTo lines v y) ⊎ ((v ≡ i) × ((j : ℕ) × (j < 0) × (get_or (line_at lines i).successors j 0 ≡ y)))) starts sources
-    (λ y. omega arith) (λ v y h. elim h [ inl old ↦ old | inr new ↦ let b = new.1.1 in absurd (omega arith) ])
     a
 
 -- the counts stand in the places of the ends

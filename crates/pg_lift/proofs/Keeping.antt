@@ -2,7 +2,7 @@
 use Rattle.std.proofs.Common.{◌≡◌, ◌≢◌, ℕ, ◌<◌, ◌⊎◌, Bool, true, false, List, length, take, get_or, set, refl, sym, ap, subst, ◌∙◌, inl, inr, None}
 use Rattle.std.specs.Prelude.{All, Option, Some, IsSome}
 use Rattle.std.proofs.lemmas.Bool.{cases_eq}
-use Rattle.std.proofs.lemmas.List.{get_or_default, get_or-set_same, get_or-set_other, set-set}
+use Rattle.std.proofs.lemmas.List.{get_or_default, get_or-set_same, get_or-set_other, set-set, set-get_or}
 use Rattle.pg_arena.specs.declared.player.Player.{Player}
 use Rattle.pg_arena.specs.declared.player.Player.TheVariants.{Even, Odd}
 use Rattle.pg_measure.specs.Measures.{BoundList, MeasureValue, AtMost, IsBelow, Covers, CoversFront, is_odd, width_from}
@@ -103,44 +103,6 @@ keeps_more bs l f x m q b h = record {
 pub never : (P : Type 0) → true ≡ false → P
 never P e = absurd (cc e)
 
--- Even owns it, and x was remembered: it waits
-pub touched_even : (bs : BoundList) (l : Line) (f : List MeasureValue) (x : ℕ) (m : MeasureValue) (q : Bool) (b : ℕ) → l.owner ≡ Even → Keeps bs l f (just x) m q b → Keeps bs l f nothing m true b
-touched_even bs l f x m q b o h = record {
-  among = h.among;
-  rest = λ e. never _ e;
-  foremost = subst (λ (o : Player). IsForemost o bs l.priority f nothing l.successors m b) (sym o) tt;
-}
-
--- Even owns it, and another was remembered
-pub untouched_even : (bs : BoundList) (l : Line) (f : List MeasureValue) (x : ℕ) (m : MeasureValue) (q : Bool) (b : ℕ) → l.owner ≡ Even → b ≢ x → Keeps bs l f (just x) m q b → Keeps bs l f nothing m q b
-untouched_even bs l f x m q b o ne h = record {
-  among = h.among;
-  rest = λ e.
-      let k : (b ≡ x) ⊎ Covers bs l.priority m (measure_at f b) = subst (λ (o : Player). IsAtRest o bs l.priority f (just x) l.successors m b) o (h.rest e) in
-      subst (λ (o : Player). IsAtRest o bs l.priority f nothing l.successors m b) (sym o) (elim k [ inl s ↦ absurd (ne s) | inr c ↦ inr c ]);
-  foremost = subst (λ (o : Player). IsForemost o bs l.priority f nothing l.successors m b) (sym o) tt;
-}
-
-serve_too : (bs : BoundList) (p : ℕ) (f : List MeasureValue) (w x : ℕ) (m : MeasureValue) → Covers bs p m (measure_at f x) → (w ≡ x) ⊎ Covers bs p m (measure_at f w) → Covers bs p m (measure_at f w)
-serve_too bs p f w x m c (inl e) = subst (λ (u : ℕ). Covers bs p m (measure_at f u)) (sym e) c
-serve_too bs p f w x m c (inr h) = h
-
-foremost_too : (bs : BoundList) (p : ℕ) (f : List MeasureValue) (w x b : ℕ) (m : MeasureValue) → Covers bs p m (measure_at f x) → (w ≡ x) ⊎ (Covers bs p m (measure_at f w) ⊎ FrontAtMost (width_from bs p) (measure_at f w) (measure_at f b)) → Covers bs p m (measure_at f w) ⊎ FrontAtMost (width_from bs p) (measure_at f w) (measure_at f b)
-foremost_too bs p f w x b m c (inl e) = inl (subst (λ (u : ℕ). Covers bs p m (measure_at f u)) (sym e) c)
-foremost_too bs p f w x b m c (inr h) = h
-
--- Odd owns it, and x serves it still
-pub untouched_odd : (bs : BoundList) (l : Line) (f : List MeasureValue) (x : ℕ) (m : MeasureValue) (q : Bool) (b : ℕ) → l.owner ≡ Odd → Covers bs l.priority m (measure_at f x) → Keeps bs l f (just x) m q b → Keeps bs l f nothing m q b
-untouched_odd bs l f x m q b o c h = record {
-  among = h.among;
-  rest = λ e.
-      let k : IsAtRest Odd bs l.priority f (just x) l.successors m b = subst (λ (o : Player). IsAtRest o bs l.priority f (just x) l.successors m b) o (h.rest e) in
-      subst (λ (o : Player). IsAtRest o bs l.priority f nothing l.successors m b) (sym o) (λ i d lt. inr (serve_too bs l.priority f (get_or l.successors i d) x m c (k i d lt)));
-  foremost =
-      let k : IsForemost Odd bs l.priority f (just x) l.successors m b = subst (λ (o : Player). IsForemost o bs l.priority f (just x) l.successors m b) o h.foremost in
-      subst (λ (o : Player). IsForemost o bs l.priority f nothing l.successors m b) (sym o) (λ i d lt. inr (foremost_too bs l.priority f (get_or l.successors i d) x b m c (k i d lt)));
-}
-
 first_too : (bs : BoundList) (p : ℕ) (f : List MeasureValue) (w x : ℕ) (m : MeasureValue) → (w ≡ x) ⊎ Covers bs p m (measure_at f w) → Covers bs p m (measure_at f w) ⊎ FrontAtMost (width_from bs p) (measure_at f w) (measure_at f x)
 first_too bs p f w x m (inl e) = inr (subst (λ (u : ℕ). FrontAtMost (width_from bs p) (measure_at f u) (measure_at f x)) (sym e) (front_itself (width_from bs p) (measure_at f x)))
 first_too bs p f w x m (inr h) = inl h
@@ -173,10 +135,6 @@ touched_above bs l f x m q b c o a s t h = record {
 -- Odd owns it, and x is at least what was remembered
 pub touched_more : (bs : BoundList) (l : Line) (f : List MeasureValue) (x : ℕ) (m : MeasureValue) (q : Bool) (b : ℕ) → l.owner ≡ Odd → IsAmong x l.successors → FrontAtMost (width_from bs l.priority) (measure_at f b) (measure_at f x) → Keeps bs l f (just x) m q b → Keeps bs l f nothing m true x
 touched_more bs l f x m q b o a t h = touched_above bs l f x m q b x o a (front_itself (width_from bs l.priority) (measure_at f x)) t h
-
--- Odd owns it, and x is at most what was remembered
-pub touched_less : (bs : BoundList) (l : Line) (f : List MeasureValue) (x : ℕ) (m : MeasureValue) (q : Bool) (b : ℕ) → l.owner ≡ Odd → FrontAtMost (width_from bs l.priority) (measure_at f x) (measure_at f b) → Keeps bs l f (just x) m q b → Keeps bs l f nothing m true b
-touched_less bs l f x m q b o s h = touched_above bs l f x m q b b o h.among s (front_itself (width_from bs l.priority) (measure_at f b)) h
 
 -- a vertex that is raised from outside
 pub raised_is : (f g : List MeasureValue) (x : ℕ) (m : MeasureValue) → x < length f → IsBelow (measure_at f x) m → g ≡ set f x m → IsRise f g x
@@ -270,14 +228,6 @@ keeps_served bs l f m b c h = record {
 pub keeps_marked : (bs : BoundList) (l : Line) (f : List MeasureValue) (m : MeasureValue) (q : Bool) (b : ℕ) → Keeps bs l f nothing m false b → Keeps bs l f nothing m q b
 keeps_marked bs l f m q b h = record { among = h.among; rest = λ e. h.rest refl; foremost = h.foremost }
 
--- Even owns it, and another successor is remembered
-pub keeps_even : (bs : BoundList) (l : Line) (f : List MeasureValue) (m : MeasureValue) (b : ℕ) → l.owner ≡ Even → IsAmong b l.successors → Keeps bs l f nothing m true b
-keeps_even bs l f m b o a = record {
-  among = a;
-  rest = λ e. never _ e;
-  foremost = subst (λ (o : Player). IsForemost o bs l.priority f nothing l.successors m b) (sym o) tt;
-}
-
 -- what doesn't cover n covers only what is at most n
 missed_above : (strict : Bool) (k : ℕ) (m n o : MeasureValue) → MissesFront strict k m n → CoversFront strict k m o → FrontAtMost k o n
 missed_above strict k None n o h c = absurd h
@@ -316,11 +266,6 @@ kept_change bs lines f marked marked' best best' v others here kept = λ u s.
 rest_is : (o : Player) (bs : BoundList) (p : ℕ) (f : List MeasureValue) (ss : List ℕ) (m : MeasureValue) (b : ℕ) → IsAmong b ss → IsAtRest o bs p f nothing ss m b → SomeOrAll o (λ w. Covers bs p m (measure_at f w)) ss
 rest_is Even bs p f ss m b a h = (a.0, a.1, a.2, a.3, subst (λ (w : ℕ). Covers bs p m (measure_at f w)) (sym a.4) (none_or (Covers bs p m (measure_at f b)) h))
 rest_is Odd bs p f ss m b a h = λ i d lt. none_or (Covers bs p m (measure_at f (get_or ss i d))) (h i d lt)
-
-pub closed_is : (bs : BoundList) (lines : ℕ → Option Line) (f : List MeasureValue) (marked : List Bool) (best : List ℕ) → ((v : ℕ) → get_or marked v false ≡ false) → IsKept bs lines f marked best → IsClosed bs lines f
-closed_is bs lines f marked best none kept = λ v s.
-    let k = kept v s in
-    rest_is (line_at lines v).owner bs (line_at lines v).priority f (line_at lines v).successors (measure_at f v) (get_or best v 0) k.among (k.rest (none v))
 
 -- the same of one vertex
 pub served_keeps : (bs : BoundList) (lines : ℕ → Option Line) (f : List MeasureValue) (v b : ℕ) → Keeps bs (line_at lines v) f nothing (measure_at f v) false b → IsServed bs lines f v
@@ -378,8 +323,13 @@ set_mark marked marked' best v q e = λ u ne. (ap (λ (t : List Bool). get_or t 
 pub mark_is : (marked marked' : List Bool) (v : ℕ) (q : Bool) → v < length marked → marked' ≡ set marked v q → get_or marked' v false ≡ q
 mark_is marked marked' v q lt e = ap (λ (t : List Bool). get_or t v false) e ∙ get_or-set_same marked v q false lt
 
-pub set_again : (marked marked' : List Bool) (v : ℕ) (q r : Bool) → marked' ≡ set marked v q → set marked' v r ≡ set marked v r
-set_again marked marked' v q r e = ap (λ (t : List Bool). set t v r) e ∙ set-set marked v q r
+-- v waits, as before
+pub set_back : (marked marked' : List Bool) (v : ℕ) (q : Bool) → get_or marked v false ≡ true → marked' ≡ set marked v q → set marked' v true ≡ marked
+set_back marked marked' v q on e = ap (λ (t : List Bool). set t v true) e ∙ (set-set marked v q true ∙ (ap (set marked v) (sym on) ∙ set-get_or marked v false))
 
-pub read_item : (ss : List ℕ) (i d u : ℕ) → i < length ss → get_or ss i 0 ≡ u → get_or ss i d ≡ u
-read_item ss i d u lt e = get_or_default ss i d 0 lt ∙ e
+-- another successor of v, which waits, is remembered
+pub kept_remembered : (bs : BoundList) (lines : ℕ → Option Line) (f : List MeasureValue) (marked : List Bool) (best best' : List ℕ) (v : ℕ) → get_or marked v false ≡ true
+    → best' ≡ set best v (get_or best' v 0) → Keeps bs (line_at lines v) f nothing (measure_at f v) true (get_or best' v 0) → IsKept bs lines f marked best → IsKept bs lines f marked best'
+kept_remembered bs lines f marked best best' v on e here kept =
+    kept_change bs lines f marked marked best best' v (λ u ne. (refl, ap (λ (t : List ℕ). get_or t u 0) e ∙ get_or-set_other best v u (get_or best' v 0) 0 ne))
+    (λ s. same_keeps bs (line_at lines v) f nothing (measure_at f v) true (get_or marked v false) (get_or best' v 0) (get_or best' v 0) on refl here) kept

@@ -2,5 +2,5 @@ pub mod Stacks
 pub mod Noting
 pub mod Keeping
 pub mod Gathering
-pub mod Touching
+pub mod Risen
 pub mod Zeros

@@ -7,10 +7,12 @@ use Rattle.std.proofs.lemmas.List.Sums.{sum_by-cons}
 use Rattle.std.proofs.lemmas.List.{get_or_default, get_or_past, get_or-set_same, get_or-set_other, get_or-replicate, length-replicate, length-set}
 use Rattle.pg_arena.specs.declared.player.Player.{Player}
 use Rattle.pg_map.specs.Lines.{Line}
+use Rattle.pg_map.specs.Maps.{MapValue}
 use Rattle.pg_lift.specs.declared.note.Note.{Note}
+use Rattle.pg_lift.specs.Mirrors.Keeps.{IsKeeping, IsDue}
 use Rattle.pg_lift.specs.Mirrors.Worklists.{IsWorklist}
 use Rattle.pg_lift.specs.Mirrors.Notes.{NotesValue, Span, HasNote, HasRoom, AreNotes, AreNoted, IsSameSpan, AreSameNotes, Label, label_of, line_label, label_in, no_note, note_in, told_of, waits_of, best_of, labels_of}
-use Rattle.pg_lift.proofs.Stacks.{pushed, swapped, popped, top_marked, none_marked}
+use Rattle.pg_lift.proofs.Stacks.{pushed, swapped, popped, top_marked, room_left}
 
 -- ---- vertices that have notes
 
@@ -56,6 +58,14 @@ room_still p q v first room h =
 -- a vertex waits, or does no longer
 pub span_marked : (notes notes' : NotesValue) (v : ℕ) (b : Bool) → notes'.waits ≡ set notes.waits v b → notes'.best ≡ notes.best → notes'.span ≡ notes.span → IsSameSpan notes notes'
 span_marked notes notes' v b waits best span = record { waits = ap length waits ∙ length-set notes.waits v b; best = ap length best; span = span }
+
+-- a vertex that was taken to be lifted waits again
+pub waits_again : (lines : ℕ → Option Line) (map : MapValue) (notes notes' : NotesValue) (v : ℕ) → notes'.waits ≡ set notes.waits v true
+    → notes'.best ≡ notes.best → notes'.span ≡ notes.span → IsDue lines map notes v → IsKeeping lines map notes'
+waits_again lines map notes notes' v waits best span due = record {
+  noted = notes_on (length map.measures) lines notes notes' (span_marked notes notes' v true waits best span) due.noted;
+  kept = rw (waits, best) due.kept;
+}
 
 -- ---- the note of a vertex
 
@@ -168,8 +178,8 @@ pub record IsAt (count first : ℕ) (notes : List Note) (v at : ℕ) (r : Note) 
   pub below : v < count
   pub read : note_at notes (v - first) ≡ r
 
-pub is_at : (count first : ℕ) (notes : List Note) (v at : ℕ) (r : Note) → at ≡ v - first → first ≤ v → v < first + length notes → first + length notes ≤ count → r ≡ get_or notes at r → IsAt count first notes v at r
-is_at count first notes v at r e from before within read =
+pub is_at : {count first : ℕ} {notes : List Note} {v at : ℕ} {r : Note} → at ≡ v - first → first ≤ v → v < first + length notes → first + length notes ≤ count → r ≡ get_or notes at r → IsAt count first notes v at r
+is_at {count} {first} {notes} {v} {at} {r} e from before within read =
     let place : v - first < length notes = omega arith in
     record {
       at_is = e;
@@ -179,14 +189,14 @@ is_at count first notes v at r e from before within read =
       read = get_or_default notes (v - first) no_note r place ∙ (ap (λ (i : ℕ). get_or notes i r) (sym e) ∙ sym read);
     }
 
-written : {X : Type 0} (f : Note → X) (d : X) (count first : ℕ) (notes : List Note) (v at : ℕ) (r m : Note) → IsAt count first notes v at r → told_of f count first (set notes at m) ≡ set (told_of f count first notes) v (f m)
-written f d count first notes v at r m p = ap (λ (i : ℕ). told_of f count first (set notes i m)) p.at_is ∙ told_set f d count first notes v m p.from p.place p.below
+written : {X : Type 0} (f : Note → X) (d : X) {count first : ℕ} {notes : List Note} {v at : ℕ} {r : Note} (m : Note) → IsAt count first notes v at r → told_of f count first (set notes at m) ≡ set (told_of f count first notes) v (f m)
+written f d {count} {first} {notes} {v} m p = ap (λ (i : ℕ). told_of f count first (set notes i m)) p.at_is ∙ told_set f d count first notes v m p.from p.place p.below
 
-unwritten : {X : Type 0} (f : Note → X) (d : X) (count first : ℕ) (notes : List Note) (v at : ℕ) (r m : Note) → IsAt count first notes v at r → f m ≡ f r → told_of f count first (set notes at m) ≡ told_of f count first notes
-unwritten f d count first notes v at r m p same = ap (λ (i : ℕ). told_of f count first (set notes i m)) p.at_is ∙ told_kept f d count first notes v m p.from p.place (same ∙ ap f (sym p.read))
+unwritten : {X : Type 0} (f : Note → X) (d : X) {count first : ℕ} {notes : List Note} {v at : ℕ} {r : Note} (m : Note) → IsAt count first notes v at r → f m ≡ f r → told_of f count first (set notes at m) ≡ told_of f count first notes
+unwritten f d {count} {first} {notes} {v} m p same = ap (λ (i : ℕ). told_of f count first (set notes i m)) p.at_is ∙ told_kept f d count first notes v m p.from p.place (same ∙ ap f (sym p.read))
 
-told_read : {X : Type 0} (f : Note → X) (d : X) (count first : ℕ) (notes : List Note) (v at : ℕ) (r : Note) → IsAt count first notes v at r → get_or (told_of f count first notes) v d ≡ f r
-told_read f d count first notes v at r p = told_at f d count first notes v p.from p.below ∙ ap f p.read
+told_read : {X : Type 0} (f : Note → X) (d : X) {count first : ℕ} {notes : List Note} {v at : ℕ} {r : Note} → IsAt count first notes v at r → get_or (told_of f count first notes) v d ≡ f r
+told_read f d {count} {first} {notes} {v} p = told_at f d count first notes v p.from p.below ∙ ap f p.read
 
 abbrev pub value_of : ℕ → ℕ → List Note → ℕ → NotesValue
 value_of count first notes room = record {
@@ -196,118 +206,107 @@ value_of count first notes room = record {
 }
 
 -- the place of the note of a vertex that has one
-pub there_at : (count first : ℕ) (notes : List Note) (cap v at : ℕ) (r : Note) → at ≡ v - first → r ≡ get_or notes at r
+pub there_at : {count first : ℕ} {notes : List Note} (cap : ℕ) {v at : ℕ} {r : Note} → at ≡ v - first → r ≡ get_or notes at r
     → HasNote (value_of count first notes cap).span v → first + length notes ≤ count → IsAt count first notes v at r
-there_at count first notes cap v at r e read there within = is_at count first notes v at r e there.from there.before within read
+there_at cap e read there within = is_at e there.from there.before within read
 
-pub waits_set : (count first : ℕ) (notes : List Note) (v at : ℕ) (r m : Note) → IsAt count first notes v at r → waits_of count first (set notes at m) ≡ set (waits_of count first notes) v m.waits
-waits_set count first notes v at r m p = written (λ (k : Note). k.waits) false count first notes v at r m p
+pub waits_set : {count first : ℕ} {notes : List Note} {v at : ℕ} {r : Note} (m : Note) → IsAt count first notes v at r → waits_of count first (set notes at m) ≡ set (waits_of count first notes) v m.waits
+waits_set m p = written (λ (k : Note). k.waits) false m p
 
-pub best_set : (count first : ℕ) (notes : List Note) (v at : ℕ) (r m : Note) → IsAt count first notes v at r → best_of count first (set notes at m) ≡ set (best_of count first notes) v m.best
-best_set count first notes v at r m p = written (λ (k : Note). k.best) 0 count first notes v at r m p
+pub best_set : {count first : ℕ} {notes : List Note} {v at : ℕ} {r : Note} (m : Note) → IsAt count first notes v at r → best_of count first (set notes at m) ≡ set (best_of count first notes) v m.best
+best_set m p = written (λ (k : Note). k.best) 0 m p
 
-pub waits_kept : (count first : ℕ) (notes : List Note) (v at : ℕ) (r m : Note) → IsAt count first notes v at r → m.waits ≡ r.waits → waits_of count first (set notes at m) ≡ waits_of count first notes
-waits_kept count first notes v at r m p same = unwritten (λ (k : Note). k.waits) false count first notes v at r m p same
+pub labels_set : {count first : ℕ} {notes : List Note} {v at : ℕ} {r : Note} (m : Note) → IsAt count first notes v at r → labels_of count first (set notes at m) ≡ set (labels_of count first notes) v (label_in m)
+labels_set m p = written label_in None m p
 
-pub best_kept : (count first : ℕ) (notes : List Note) (v at : ℕ) (r m : Note) → IsAt count first notes v at r → m.best ≡ r.best → best_of count first (set notes at m) ≡ best_of count first notes
-best_kept count first notes v at r m p same = unwritten (λ (k : Note). k.best) 0 count first notes v at r m p same
+pub waits_kept : {count first : ℕ} {notes : List Note} {v at : ℕ} {r : Note} (m : Note) → IsAt count first notes v at r → m.waits ≡ r.waits → waits_of count first (set notes at m) ≡ waits_of count first notes
+waits_kept m p same = unwritten (λ (k : Note). k.waits) false m p same
 
-pub waits_read : (count first : ℕ) (notes : List Note) (v at : ℕ) (r : Note) → IsAt count first notes v at r → get_or (waits_of count first notes) v false ≡ r.waits
-waits_read count first notes v at r p = told_read (λ (k : Note). k.waits) false count first notes v at r p
+pub best_kept : {count first : ℕ} {notes : List Note} {v at : ℕ} {r : Note} (m : Note) → IsAt count first notes v at r → m.best ≡ r.best → best_of count first (set notes at m) ≡ best_of count first notes
+best_kept m p same = unwritten (λ (k : Note). k.best) 0 m p same
 
-pub best_read : (count first : ℕ) (notes : List Note) (v at : ℕ) (r : Note) → IsAt count first notes v at r → get_or (best_of count first notes) v 0 ≡ r.best
-best_read count first notes v at r p = told_read (λ (k : Note). k.best) 0 count first notes v at r p
+pub waits_read : {count first : ℕ} {notes : List Note} {v at : ℕ} {r : Note} → IsAt count first notes v at r → get_or (waits_of count first notes) v false ≡ r.waits
+waits_read p = told_read (λ (k : Note). k.waits) false p
 
-pub labels_set : (count first : ℕ) (notes : List Note) (v at : ℕ) (r m : Note) → IsAt count first notes v at r
-    → labels_of count first (set notes at m) ≡ set (labels_of count first notes) v (label_in m)
-labels_set count first notes v at r m p = written label_in None count first notes v at r m p
+pub best_read : {count first : ℕ} {notes : List Note} {v at : ℕ} {r : Note} → IsAt count first notes v at r → get_or (best_of count first notes) v 0 ≡ r.best
+best_read p = told_read (λ (k : Note). k.best) 0 p
 
-pub labels_kept : (count first : ℕ) (notes : List Note) (v at : ℕ) (r m : Note) → IsAt count first notes v at r
-    → label_in m ≡ label_in r → labels_of count first (set notes at m) ≡ labels_of count first notes
-labels_kept count first notes v at r m p same = unwritten label_in None count first notes v at r m p same
-
-pub labels_read : (count first : ℕ) (notes : List Note) (v at : ℕ) (r : Note) → IsAt count first notes v at r
-    → get_or (labels_of count first notes) v None ≡ label_in r
-labels_read count first notes v at r p = told_read label_in None count first notes v at r p
+pub labels_read : {count first : ℕ} {notes : List Note} {v at : ℕ} {r : Note} → IsAt count first notes v at r → get_or (labels_of count first notes) v None ≡ label_in r
+labels_read p = told_read label_in None p
 
 -- notes of the same vertices, with the same labels
-pub span_kept : (count first : ℕ) (notes : List Note) (room v at : ℕ) (r m : Note) → IsAt count first notes v at r
+pub span_kept : {count first : ℕ} {notes : List Note} (room : ℕ) {v at : ℕ} {r : Note} (m : Note) → IsAt count first notes v at r
     → label_in m ≡ label_in r → (value_of count first (set notes at m) room).span ≡ (value_of count first notes room).span
-span_kept count first notes room v at r m p same =
+span_kept {count} {first} {notes} room {at = at} m p same =
     let new : List Note = set notes at m in
     ap (λ (n : ℕ). record { first = first; size = n; room = room; labels = labels_of count first new }) (length-set notes at m)
-    ∙ ap (λ (ls : List (Option Label)). record { first = first; size = length notes; room = room; labels = ls }) (labels_kept count first notes v at r m p same)
+    ∙ ap (λ (ls : List (Option Label)). record { first = first; size = length notes; room = room; labels = ls }) (unwritten label_in None m p same)
 
 pub waits_size : (count first : ℕ) (notes : List Note) → length (waits_of count first notes) ≡ count
 waits_size count first notes = told_size (λ (k : Note). k.waits) count first notes
 
 -- a note that tells the same
-pub value_kept : (count first : ℕ) (notes : List Note) (room v at : ℕ) (r m : Note) → IsAt count first notes v at r
+pub value_kept : {count first : ℕ} {notes : List Note} (room : ℕ) {v at : ℕ} {r : Note} (m : Note) → IsAt count first notes v at r
     → m.waits ≡ r.waits → m.best ≡ r.best → label_in m ≡ label_in r
     → value_of count first (set notes at m) room ≡ value_of count first notes room
-value_kept count first notes room v at r m p waits best label =
+value_kept {count} {first} {notes} room {at = at} m p waits best label =
     let new : List Note = set notes at m in
     let span = (value_of count first new room).span in
-    ap (λ (ws : List Bool). record { waits = ws; best = best_of count first new; span = span })
-    (waits_kept count first notes v at r m p waits)
-    ∙ (ap (λ (bs : List ℕ). record { waits = waits_of count first notes; best = bs; span = span })
-    (best_kept count first notes v at r m p best)
-    ∙ ap (λ (s : Span). record { waits = waits_of count first notes; best = best_of count first notes; span = s })
-    (span_kept count first notes room v at r m p label))
+    ap (λ (ws : List Bool). record { waits = ws; best = best_of count first new; span = span }) (waits_kept m p waits)
+    ∙ (ap (λ (bs : List ℕ). record { waits = waits_of count first notes; best = bs; span = span }) (best_kept m p best)
+    ∙ ap (λ (s : Span). record { waits = waits_of count first notes; best = best_of count first notes; span = s }) (span_kept room m p label))
 
 -- ---- and the vertices that wait
 
-pub noted_kept : (count first : ℕ) (notes : List Note) (stack next : List ℕ) (room next_room v at : ℕ) (r m : Note) → IsAt count first notes v at r → m.waits ≡ r.waits
+pub noted_kept : {count first : ℕ} {notes : List Note} {stack next : List ℕ} {room next_room v at : ℕ} {r : Note} (m : Note) → IsAt count first notes v at r → m.waits ≡ r.waits
     → AreNoted count first notes stack next room next_room → AreNoted count first (set notes at m) stack next room next_room
-noted_kept count first notes stack next room next_room v at r m p same a = record {
+noted_kept {notes = notes} {stack = stack} {next = next} {room = room} {next_room = next_room} {at = at} m p same a = record {
   within = let s = length-set notes at m in let w = a.within in omega arith;
-  work = subst (λ (ws : List Bool). IsWorklist stack next ws room next_room) (sym (waits_kept count first notes v at r m p same)) a.work;
+  work = subst (λ (ws : List Bool). IsWorklist stack next ws room next_room) (sym (waits_kept m p same)) a.work;
 }
 
-pub noted_swapped : (count first : ℕ) (notes : List Note) (stack next : List ℕ) (room next_room : ℕ) → AreNoted count first notes stack next room next_room → AreNoted count first notes next stack next_room room
-noted_swapped count first notes stack next room next_room a = record { within = a.within; work = swapped stack next (waits_of count first notes) room next_room a.work }
+pub noted_swapped : {count first : ℕ} {notes : List Note} {stack next : List ℕ} {room next_room : ℕ} → AreNoted count first notes stack next room next_room → AreNoted count first notes next stack next_room room
+noted_swapped {count} {first} {notes} {stack} {next} {room} {next_room} a = record { within = a.within; work = swapped stack next (waits_of count first notes) room next_room a.work }
 
-pub noted_pushed : (count first : ℕ) (notes : List Note) (stack next : List ℕ) (room room' next_room v at : ℕ) (r m : Note) → IsAt count first notes v at r → r.waits ≡ false → m.waits ≡ true → room ≤ room'
+-- the note of a vertex that doesn't wait has it wait, on a stack with room for it
+pub noted_pushed : {count first : ℕ} {notes : List Note} {stack next : List ℕ} {room room' next_room v at : ℕ} {r : Note} (m : Note) → IsAt count first notes v at r → r.waits ≡ false → m.waits ≡ true → room ≤ room'
     → AreNoted count first notes stack next room next_room → AreNoted count first (set notes at m) (stack ++ v ∷ []) next room' next_room
-noted_pushed count first notes stack next room room' next_room v at r m p off on le a =
+noted_pushed {count} {first} {notes} {stack} {next} {room} {room'} {next_room} {v} {at} m p off on le a =
     let ws = waits_of count first notes in
-    let is : waits_of count first (set notes at m) ≡ set ws v true = waits_set count first notes v at r m p ∙ ap (λ (b : Bool). set ws v b) on in
+    let is : waits_of count first (set notes at m) ≡ set ws v true = waits_set m p ∙ ap (λ (b : Bool). set ws v b) on in
     let lt : v < length ws = let s = waits_size count first notes in let b = p.below in omega arith in
     record {
       within = let s = length-set notes at m in let w = a.within in omega arith;
       work =
           subst (λ (xs : List Bool). IsWorklist (stack ++ v ∷ []) next xs room' next_room) (sym is)
-          (pushed stack next ws room room' next_room v a.work lt (waits_read count first notes v at r p ∙ off) le);
+          (pushed stack next ws room room' next_room v a.work lt (waits_read p ∙ off) le);
     }
 
--- the last of this generation is noted
-pub last_noted : (count first : ℕ) (notes : List Note) (stack next : List ℕ) (room next_room v : ℕ) → AreNoted count first notes (stack ++ v ∷ []) next room next_room → IsNoted first notes v
-last_noted count first notes stack next room next_room v a = noted_by count first notes v (top_marked stack next (waits_of count first notes) room next_room v a.work)
-
-pub last_waits : (count first : ℕ) (notes : List Note) (stack next : List ℕ) (room next_room v : ℕ) → AreNoted count first notes (stack ++ v ∷ []) next room next_room → get_or (waits_of count first notes) v false ≡ true
-last_waits count first notes stack next room next_room v a = top_marked stack next (waits_of count first notes) room next_room v a.work
-
-pub last_at : (count first : ℕ) (notes : List Note) (stack next : List ℕ) (room next_room v at : ℕ) (r : Note) → at ≡ v - first → r ≡ get_or notes at r → AreNoted count first notes (stack ++ v ∷ []) next room next_room
-    → IsAt count first notes v at r
-last_at count first notes stack next room next_room v at r e read a =
-    let n = last_noted count first notes stack next room next_room v a in
-    let from = n.from in
-    let place = n.place in
-    is_at count first notes v at r e from (omega arith) a.within read
-
-pub noted_popped : (count first : ℕ) (notes : List Note) (stack next : List ℕ) (room room' next_room v at : ℕ) (r m : Note) → IsAt count first notes v at r → m.waits ≡ false → room ≤ room'
-    → AreNoted count first notes (stack ++ v ∷ []) next room next_room → AreNoted count first (set notes at m) stack next room' next_room
-noted_popped count first notes stack next room room' next_room v at r m p off le a =
+-- and there is room for it on both stacks
+pub room_to_wait : {count first : ℕ} {notes : List Note} {stack next : List ℕ} {room next_room v at : ℕ} {r : Note} → IsAt count first notes v at r → r.waits ≡ false
+    → AreNoted count first notes stack next room next_room → (length stack < room) × (length next < next_room)
+room_to_wait {count} {first} {notes} {v = v} p off a =
     let ws = waits_of count first notes in
-    let is : waits_of count first (set notes at m) ≡ set ws v false = waits_set count first notes v at r m p ∙ ap (λ (b : Bool). set ws v b) off in
+    let lt : v < length ws = let s = waits_size count first notes in let b = p.below in omega arith in
+    let left = room_left ws v lt (waits_read p ∙ off) in
+    (omega (arith, left, a.work.size, a.work.fits), omega (arith, left, a.work.size, a.work.next_fits))
+
+-- the last of this generation waits, so it is noted
+pub last_waits : {count first : ℕ} {notes : List Note} (stack : List ℕ) {next : List ℕ} {room next_room : ℕ} (v : ℕ) → AreNoted count first notes (stack ++ v ∷ []) next room next_room → get_or (waits_of count first notes) v false ≡ true
+last_waits {count} {first} {notes} stack {next} {room} {next_room} v a = top_marked stack next (waits_of count first notes) room next_room v a.work
+
+pub last_noted : {count first : ℕ} {notes : List Note} (stack : List ℕ) {next : List ℕ} {room next_room v : ℕ} → AreNoted count first notes (stack ++ v ∷ []) next room next_room → IsNoted first notes v
+last_noted {count} {first} {notes} stack {v = v} a = noted_by count first notes v (last_waits stack v a)
+
+pub noted_popped : {count first : ℕ} {notes : List Note} {stack next : List ℕ} {room room' next_room v at : ℕ} {r : Note} (m : Note) → IsAt count first notes v at r → m.waits ≡ false → room ≤ room'
+    → AreNoted count first notes (stack ++ v ∷ []) next room next_room → AreNoted count first (set notes at m) stack next room' next_room
+noted_popped {count} {first} {notes} {stack} {next} {room} {room'} {next_room} {v} {at} m p off le a =
+    let ws = waits_of count first notes in
+    let is : waits_of count first (set notes at m) ≡ set ws v false = waits_set m p ∙ ap (λ (b : Bool). set ws v b) off in
     record {
       within = let s = length-set notes at m in let w = a.within in omega arith;
       work = subst (λ (xs : List Bool). IsWorklist stack next xs room' next_room) (sym is) (popped stack next ws room room' next_room v a.work le);
     }
-
--- where neither stack has one none waits
-pub none_waits : (count first : ℕ) (notes : List Note) (stack next : List ℕ) (room next_room : ℕ) → stack ≡ [] → next ≡ [] → AreNoted count first notes stack next room next_room → (v : ℕ) → get_or (waits_of count first notes) v false ≡ false
-none_waits count first notes stack next room next_room s n a = λ v. none_marked stack next (waits_of count first notes) room next_room v s n a.work
 
 -- more notes that tell nothing, and another first vertex of none
 pub noted_longer : (count first : ℕ) (notes notes' : List Note) (stack next : List ℕ) (room next_room : ℕ) → ((i : ℕ) → note_at notes' i ≡ note_at notes i) → first + length notes' ≤ count
@@ -362,9 +361,6 @@ not_on false e = refl
 pub not_off : (b : Bool) → not b ≡ false → b ≡ true
 not_off true e = refl
 not_off false e = cc
-
-pub notes_still : (n m : ℕ) (lines : ℕ → Option Line) (notes notes' : NotesValue) → m ≡ n → IsSameSpan notes notes' → AreNotes n lines notes → AreNotes m lines notes'
-notes_still n m lines notes notes' e same a = rw e (notes_on n lines notes notes' same a)
 
 -- ---- what a label says
 

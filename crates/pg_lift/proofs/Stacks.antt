@@ -1,12 +1,12 @@
 -- A number more, and a number less.
-use Rattle.std.proofs.Common.{◌≡◌, ◌≢◌, ℕ, zero, suc, ◌+◌, ◌<◌, ◌≤◌, Bool, true, false, cond, List, [], ◌∷◌, ◌++◌, length, get_or, set, refl, sym, ap, subst, ◌∙◌, arith, inl, inr, length-append}
+use Rattle.std.proofs.Common.{◌≡◌, ◌≢◌, ℕ, zero, suc, ◌+◌, ◌<◌, ◌≤◌, Bool, true, false, cond, List, [], ◌∷◌, ◌++◌, length, get_or, set, refl, sym, ap, subst, ◌∙◌, arith, ◌⊎◌, inl, inr, length-append}
 use Rattle.std.specs.Prelude.{count_by, nat_eq}
 use Rattle.std.specs.List.{Contains}
 use Rattle.std.proofs.lemmas.Bool.{cases_lt, cases_eq, eq-eqb, ne_eqb}
 use Rattle.std.proofs.lemmas.List.Kept.{AllPairs-from_increasing}
 use Rattle.std.proofs.lemmas.List.{append-nil, get_or-set_same, get_or-set_other, get_or_past, length-set}
 use Rattle.std.proofs.lemmas.List.Sums.{sum_by-set, sum_by-cons, sum_by_push, count_by-le-length}
-use Rattle.pg_lift.specs.Mirrors.Worklists.{times, IsWorklist, IsListing}
+use Rattle.pg_lift.specs.Mirrors.Worklists.{times, IsWorklist, IsVertexSet}
 
 abbrev one : Bool → ℕ
 one b = cond b 1 0
@@ -61,35 +61,22 @@ room_left marked v lt off =
     let c : length (set marked v true) ≡ length marked = simp length-set in
     omega arith
 
+-- the mark of v is set or unset, and the others stay
+changed_at : (marked : List Bool) (v u : ℕ) (b : Bool) → v < length marked
+    → ((same u v ≡ 1) × (one (get_or (set marked v b) u false) ≡ one b) × (one (get_or marked u false) ≡ one (get_or marked v false)))
+    ⊎ ((same u v ≡ 0) × (one (get_or (set marked v b) u false) ≡ one (get_or marked u false)))
+changed_at marked v u b lt = elim (cases_eq u v) [
+  | inl s ↦ rw s (inl (same_is v v refl, ap one (get_or-set_same marked v b false lt), refl))
+  | inr ne ↦ inr (same_not u v (λ q. ne (sym q)), ap one (get_or-set_other marked v u b false ne))
+]
+
 -- how often a number is there, after one more
 more_at : (marked : List Bool) (v u n : ℕ) → v < length marked → get_or marked v false ≡ false → n ≡ one (get_or marked u false) → n + same u v ≡ one (get_or (set marked v true) u false)
-more_at marked v u n lt off e =
-    elim (cases_eq v u) [
-      | inl s ↦
-          let a : same u v ≡ 1 = same_is u v s in
-          let b : one (get_or (set marked v true) u false) ≡ 1 = ap one (subst (λ (w : ℕ). get_or (set marked v true) w false ≡ true) s (get_or-set_same marked v true false lt)) in
-          let c : one (get_or marked u false) ≡ 0 = ap one (subst (λ (w : ℕ). get_or marked w false ≡ false) s off) in
-          omega arith
-      | inr ne ↦
-          let a : same u v ≡ 0 = same_not u v ne in
-          let b : one (get_or (set marked v true) u false) ≡ one (get_or marked u false) = ap one (get_or-set_other marked v u true false (λ q. ne (sym q))) in
-          omega arith
-    ]
+more_at marked v u n lt off e = let z : one (get_or marked v false) ≡ 0 = ap one off in elim (changed_at marked v u true lt) [ inl h ↦ omega (arith, h.0, h.1, h.2) | inr h ↦ omega (arith, h.0, h.1) ]
 
 -- and after one less
 less_at : (marked : List Bool) (v u n : ℕ) → v < length marked → get_or marked v false ≡ true → n + same u v ≡ one (get_or marked u false) → n ≡ one (get_or (set marked v false) u false)
-less_at marked v u n lt on e =
-    elim (cases_eq v u) [
-      | inl s ↦
-          let a : same u v ≡ 1 = same_is u v s in
-          let b : one (get_or (set marked v false) u false) ≡ 0 = ap one (subst (λ (w : ℕ). get_or (set marked v false) w false ≡ false) s (get_or-set_same marked v false false lt)) in
-          let c : one (get_or marked u false) ≡ 1 = ap one (subst (λ (w : ℕ). get_or marked w false ≡ true) s on) in
-          omega arith
-      | inr ne ↦
-          let a : same u v ≡ 0 = same_not u v ne in
-          let b : one (get_or (set marked v false) u false) ≡ one (get_or marked u false) = ap one (get_or-set_other marked v u false false (λ q. ne (sym q))) in
-          omega arith
-    ]
+less_at marked v u n lt on e = let z : one (get_or marked v false) ≡ 1 = ap one on in elim (changed_at marked v u false lt) [ inl h ↦ omega (arith, h.0, h.1, h.2) | inr h ↦ omega (arith, h.0, h.1) ]
 
 pub pushed : (stack next : List ℕ) (marked : List Bool) (room room' next_room v : ℕ) → IsWorklist stack next marked room next_room → v < length marked → get_or marked v false ≡ false → room ≤ room' → IsWorklist (stack ++ v ∷ []) next (set marked v true) room' next_room
 pushed stack next marked room room' next_room v w lt off le = record {
@@ -124,9 +111,6 @@ popped stack next marked room room' next_room v w le =
       next_fits = simp length-set w.next_fits;
     }
 
-pub none_marked : (stack next : List ℕ) (marked : List Bool) (room next_room v : ℕ) → stack ≡ [] → next ≡ [] → IsWorklist stack next marked room next_room → get_or marked v false ≡ false
-none_marked stack next marked room next_room v s n w = off_by (get_or marked v false) (let e = w.each v in let a : times v stack ≡ 0 = ap (times v) s in let b : times v next ≡ 0 = ap (times v) n in omega arith)
-
 -- what is listed comes up at least once
 pub contains_times : (xs : List ℕ) (v i d : ℕ) → i < length xs → get_or xs i d ≡ v → 1 ≤ times v xs
 contains_times [] v i d lt e = absurd (omega arith)
@@ -159,20 +143,20 @@ one_most false = omega arith
 pub apart_by : (xs : List ℕ) (marked : List Bool) (i j d : ℕ) → ((v : ℕ) → times v xs ≡ one (get_or marked v false)) → i < j → j < length xs → get_or xs i d ≢ get_or xs j d
 apart_by xs marked i j d each lt below e = let t = times_twice xs (get_or xs j d) i j d lt below e refl in let n = each (get_or xs j d) in let m = one_most (get_or marked (get_or xs j d) false) in absurd (omega arith)
 
-pub listed : (xs : List ℕ) (marked : List Bool) (room room' v : ℕ) → IsListing xs marked room → v < length marked → get_or marked v false ≡ false → room ≤ room' → IsListing (xs ++ v ∷ []) (set marked v true) room'
+pub listed : (xs : List ℕ) (marked : List Bool) (room room' v : ℕ) → IsVertexSet xs marked room → v < length marked → get_or marked v false ≡ false → room ≤ room' → IsVertexSet (xs ++ v ∷ []) (set marked v true) room'
 listed xs marked room room' v w lt off le = record {
   size = omega (arith, count_more marked v lt off, length-append xs (v ∷ []), w.size);
   each = λ u. let e = w.each u in let p = times_push u xs v in let m = more_at marked v u (times u xs) lt off e in omega arith;
   fits = simp length-set (omega (arith, w.fits));
 }
 
-last_listed : (xs : List ℕ) (marked : List Bool) (room v : ℕ) → IsListing (xs ++ v ∷ []) marked room → get_or marked v false ≡ true
+last_listed : (xs : List ℕ) (marked : List Bool) (room v : ℕ) → IsVertexSet (xs ++ v ∷ []) marked room → get_or marked v false ≡ true
 last_listed xs marked room v w = on_by (get_or marked v false) (let e = w.each v in let p = times_push v xs v in let s = same_is v v refl in omega arith)
 
-pub last_below : (xs : List ℕ) (marked : List Bool) (room v : ℕ) → IsListing (xs ++ v ∷ []) marked room → v < length marked
+pub last_below : (xs : List ℕ) (marked : List Bool) (room v : ℕ) → IsVertexSet (xs ++ v ∷ []) marked room → v < length marked
 last_below xs marked room v w = marked_below marked v (last_listed xs marked room v w)
 
-pub unlisted : (xs : List ℕ) (marked : List Bool) (room room' v : ℕ) → IsListing (xs ++ v ∷ []) marked room → room ≤ room' → IsListing xs (set marked v false) room'
+pub unlisted : (xs : List ℕ) (marked : List Bool) (room room' v : ℕ) → IsVertexSet (xs ++ v ∷ []) marked room → room ≤ room' → IsVertexSet xs (set marked v false) room'
 unlisted xs marked room room' v w le =
     let on = last_listed xs marked room v w in
     let lt = marked_below marked v on in
@@ -183,16 +167,8 @@ unlisted xs marked room room' v w le =
     }
 
 -- the one that is marked is there
-pub marked_listed : (xs : List ℕ) (marked : List Bool) (room v : ℕ) → IsListing xs marked room → get_or marked v false ≡ true → Contains xs v
+pub marked_listed : (xs : List ℕ) (marked : List Bool) (room v : ℕ) → IsVertexSet xs marked room → get_or marked v false ≡ true → Contains xs v
 marked_listed xs marked room v w on = times_contains xs v (let e = w.each v in let o : one (get_or marked v false) ≡ 1 = ap one on in omega arith)
-
--- another order of the same
-pub reordered : (xs ys : List ℕ) (marked : List Bool) (room room' : ℕ) → length ys ≡ length xs → ((v : ℕ) → times v ys ≡ times v xs) → room ≤ room' → IsListing xs marked room → IsListing ys marked room'
-reordered xs ys marked room room' size each le w = record {
-  size = size ∙ w.size;
-  each = λ v. each v ∙ w.each v;
-  fits = omega (arith, w.fits);
-}
 
 -- this generation has ended
 pub turned : (stack stack' next : List ℕ) (marked : List Bool) (room room' next_room : ℕ) → stack ≡ stack' ++ [] → room ≤ room' → IsWorklist stack next marked room next_room → IsWorklist next stack' marked next_room room'

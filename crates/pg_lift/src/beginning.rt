@@ -1,13 +1,14 @@
 //! What is made before the first lift, where every line is known from the beginning.
 
 ghost use Rattle.std.specs.Prelude.{◌≡◌, ◌<◌, ℕ, None, true, false, length, replicate, IfSome};
+ghost use Rattle.std.specs.Bool.{OnTrue};
 ghost use Rattle.pg_map.specs.Lines.{AreWithin};
-ghost use Rattle.pg_lift.specs.Mirrors.Edges.{edges_of};
-ghost use Rattle.pg_lift.specs.Mirrors.Keeps.{IsKept};
-ghost use Rattle.pg_lift.specs.Mirrors.Notes.{AreNotes, HasRoom, IsSameSpan};
+ghost use Rattle.pg_lift.specs.Mirrors.Predecessors.{edges_of};
+ghost use Rattle.pg_lift.specs.Mirrors.Keeps.{IsKeeping};
+ghost use Rattle.pg_lift.specs.Mirrors.Notes.{AreNotes, HasRoom};
 ghost use Rattle.pg_lift.specs.Mirrors.Zeros.{IsAtZero};
 
-use crate::looking::look;
+use crate::examining::examine;
 use crate::notes::Notes;
 use pg_arena::Vertex;
 use pg_map::{Lines, MeasureMap};
@@ -43,19 +44,19 @@ pub fn note_all<G: Lines>(lines: &G, vertices: u32, notes: &mut Notes)
     }
 }
 
-/// Looks at each line, where all measures are zero, from the last to the first: of those that wait the first is the
-/// first to be lifted.
-pub fn look_at_all<G: Lines>(map: &MeasureMap, lines: &G, notes: &mut Notes)
-    requires zero { IsAtZero map.now }
+/// Looks at each line, from the last to the first: of those that wait the first is the first to be lifted. `is_zero` tells
+/// that all measures are zero.
+pub fn examine_all<G: Lines>(map: &MeasureMap, lines: &G, notes: &mut Notes, is_zero: bool)
+    requires zero { OnTrue is_zero (IsAtZero map.now) }
     requires within { AreWithin (length map.now.measures) (G.line lines.now) }
     requires notes { AreNotes (length map.now.measures) (G.line lines.now) notes.old }
-    ensures span { IsSameSpan notes.old notes.new }
-    ensures kept { IsKept map.now.bounds (G.line lines.now) map.now.measures notes.new.waits notes.new.best }
+    ensures span { notes.new.span ≡ notes.old.span }
+    ensures kept { IsKeeping (G.line lines.now) map.now notes.new }
 {
     for number in (0..map.len()).rev() {
         let v = Vertex(number);
         if lines.holds(v) {
-            look(map, lines, notes, v, true);
+            examine(map, lines, notes, v, is_zero);
         }
     }
 }

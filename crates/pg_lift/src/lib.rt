@@ -4,17 +4,17 @@
 
 mod asked;
 mod beginning;
-mod edges;
+mod examining;
 mod lifting;
-mod looking;
 mod note;
 mod notes;
-mod settling;
-mod touch;
+mod predecessors;
+mod serving;
+mod updating;
 
-pub use beginning::{count_edges, look_at_all, note_all};
-pub use edges::Edges;
+pub use beginning::{count_edges, examine_all, note_all};
+pub use examining::examine;
 pub use lifting::{is_quiet, lift_ready, take};
-pub use looking::look;
 pub use notes::Notes;
-pub use settling::{next_ready, settle};
+pub use predecessors::Predecessors;
+pub use serving::{find_serving, next_ready};

@@ -1,21 +1,20 @@
 //! Values that are taken, and lifts.
 
-ghost use Rattle.std.specs.Prelude.{◌≡◌, ◌+◌, ◌<◌, true, length, slice_set, MatchBool};
+ghost use Rattle.std.specs.Prelude.{◌≡◌, ◌<◌, length, slice_set, MatchBool};
 ghost use Rattle.std.specs.Bool.{OnTrue, OnFalse};
 ghost use Rattle.pg_measure.specs.Measures.{Fits, AtMost, IsBelow};
 ghost use Rattle.pg_measure.specs.Views.{measure_in};
 ghost use Rattle.pg_map.specs.Lines.{AreWithin};
 ghost use Rattle.pg_map.specs.Maps.{measure_at, update_map, IsJoin, IsLifted, IsClosed, StaysUnder};
 ghost use Rattle.pg_map.specs.Weights.{map_weight};
-ghost use Rattle.pg_lift.specs.Mirrors.Edges.{AreEdges};
-ghost use Rattle.pg_lift.specs.Mirrors.Keeps.{IsKept, IsReady};
-ghost use Rattle.pg_lift.specs.Mirrors.Notes.{AreNotes, IsSameSpan};
+ghost use Rattle.pg_lift.specs.Mirrors.Predecessors.{ArePredecessorsOf};
+ghost use Rattle.pg_lift.specs.Mirrors.Keeps.{IsKeeping, IsDue};
 
 use crate::asked::priority;
-use crate::edges::Edges;
 use crate::notes::Notes;
-use crate::settling::next_ready;
-use crate::touch::touch_all;
+use crate::predecessors::Predecessors;
+use crate::serving::next_ready;
+use crate::updating::update_predecessors;
 use pg_arena::Vertex;
 use pg_map::{Lines, MeasureMap, View};
 
@@ -24,22 +23,19 @@ use pg_map::{Lines, MeasureMap, View};
 pub fn take<G: Lines>(
     map: &mut MeasureMap,
     lines: &G,
-    edges: &Edges,
+    predecessors: &Predecessors,
     notes: &mut Notes,
     v: Vertex,
     m: View,
 ) -> bool
     requires v { v < length map.old.measures }
     requires fits { Fits map.old.bounds (measure_in m) }
-    requires within { AreWithin (length map.old.measures) (G.line lines.now) }
-    requires edges { AreEdges (G.line lines.now) edges.now.starts.items edges.now.sources.items }
-    requires targets { length edges.now.starts.items ≡ length map.old.measures + 1 }
-    requires notes { AreNotes (length map.old.measures) (G.line lines.now) notes.old }
-    requires kept { IsKept map.old.bounds (G.line lines.now) map.old.measures notes.old.waits notes.old.best }
+    requires predecessors { ArePredecessorsOf (G.line lines.now) (length map.old.measures) predecessors.now }
+    requires kept { IsKeeping (G.line lines.now) map.old notes.old }
     ensures bounds { map.new.bounds ≡ map.old.bounds }
     ensures size { length map.new.measures ≡ length map.old.measures }
-    ensures span { IsSameSpan notes.old notes.new }
-    ensures kept { IsKept map.old.bounds (G.line lines.now) map.new.measures notes.new.waits notes.new.best }
+    ensures span { notes.new.span ≡ notes.old.span }
+    ensures kept { IsKeeping (G.line lines.now) map.new notes.new }
     ensures rose { OnTrue result (IsBelow (measure_at map.old.measures v) (measure_in m.entry)
         × (map.new.measures ≡ slice_set map.old.measures v (measure_in m.entry))) }
     ensures stays { OnFalse result (AtMost (measure_in m.entry) (measure_at map.old.measures v)) }
@@ -49,49 +45,43 @@ pub fn take<G: Lines>(
 {
     let rose = map.raise(v, m);
     if rose {
-        touch_all(map, lines, edges, notes, v);
+        update_predecessors(map, lines, predecessors, notes, v);
     }
     rose
 }
 
-/// Lifts a vertex that `settle` said to be ready. True where the vertex was lifted often in this generation: then a jump is
+/// Lifts a vertex that `next_ready` said to be ready. True where the vertex was lifted often in this generation: then a jump is
 /// worth a try.
 #[inline(always)]
 pub fn lift_ready<G: Lines>(
     map: &mut MeasureMap,
     lines: &G,
-    edges: &Edges,
+    predecessors: &Predecessors,
     notes: &mut Notes,
     v: Vertex,
 ) -> bool
-    requires within { AreWithin (length map.old.measures) (G.line lines.now) }
-    requires edges { AreEdges (G.line lines.now) edges.now.starts.items edges.now.sources.items }
-    requires targets { length edges.now.starts.items ≡ length map.old.measures + 1 }
-    requires notes { AreNotes (length map.old.measures) (G.line lines.now) notes.old }
-    requires ready { IsReady map.old.bounds (G.line lines.now) map.old.measures notes.old.best v }
-    requires kept { IsKept map.old.bounds (G.line lines.now) map.old.measures
-        (slice_set notes.old.waits v true) notes.old.best }
+    requires predecessors { ArePredecessorsOf (G.line lines.now) (length map.old.measures) predecessors.now }
+    requires due { IsDue (G.line lines.now) map.old notes.old v }
     ensures bounds { map.new.bounds ≡ map.old.bounds }
     ensures size { length map.new.measures ≡ length map.old.measures }
-    ensures span { IsSameSpan notes.old notes.new }
+    ensures span { notes.new.span ≡ notes.old.span }
     ensures lifted { IsLifted map.old.bounds (G.line lines.now) map.old.measures map.new.measures v }
     ensures under { StaysUnder map.old.bounds (G.line lines.now) map.old.measures map.new.measures }
-    ensures kept { IsKept map.old.bounds (G.line lines.now) map.new.measures notes.new.waits notes.new.best }
+    ensures kept { IsKeeping (G.line lines.now) map.new notes.new }
     ensures weight { map_weight map.old.bounds map.new.measures < map_weight map.old.bounds map.old.measures }
 {
     map.lift_over(lines, priority(map, lines, notes, v), v, notes.best(v));
     let was_often = notes.lifted(v);
-    touch_all(map, lines, edges, notes, v);
+    update_predecessors(map, lines, predecessors, notes, v);
     was_often
 }
 
 /// Whether no vertex of the part can be lifted.
 pub fn is_quiet<G: Lines>(map: &MeasureMap, lines: &G, notes: &mut Notes) -> bool
     requires within { AreWithin (length map.now.measures) (G.line lines.now) }
-    requires notes { AreNotes (length map.now.measures) (G.line lines.now) notes.old }
-    requires kept { IsKept map.now.bounds (G.line lines.now) map.now.measures notes.old.waits notes.old.best }
-    ensures span { IsSameSpan notes.old notes.new }
-    ensures kept { IsKept map.now.bounds (G.line lines.now) map.now.measures notes.new.waits notes.new.best }
+    requires kept { IsKeeping (G.line lines.now) map.now notes.old }
+    ensures span { notes.new.span ≡ notes.old.span }
+    ensures kept { IsKeeping (G.line lines.now) map.now notes.new }
     ensures quiet { MatchBool result (IsClosed map.now.bounds (G.line lines.now) map.now.measures)
         (¬ (IsClosed map.now.bounds (G.line lines.now) map.now.measures)) }
 {

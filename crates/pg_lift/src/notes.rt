@@ -257,7 +257,7 @@ impl Notes {
     }
 
     /// Keeps a vertex that is added in this generation for the next.
-    pub fn put_off(&mut self, v: Vertex)
+    pub fn defer(&mut self, v: Vertex)
         requires { HasNote self.old.span v }
         ensures { self.new ≡ self.old }
     {

@@ -1,4 +1,4 @@
-use pg_wire::{Frame, Go, Rows, Setup, VertexLine, Vertices};
+use pg_wire::{Frame, Go, Items, Setup, VertexLine, Vertices};
 use pg_worker::Session;
 use std::alloc::Global;
 use std::test::Fail;
@@ -11,11 +11,11 @@ fn lines(alloc: Global, from: u32, to: u32, priority: u32, successor: u32) -> Re
             vertex,
             priority,
             owner: 0,
-            successors: Rows::new(vec![in alloc; successor; 1]?),
+            successors: Items::new(vec![in alloc; successor; 1]?),
         })?;
     }
     Ok(Frame::Vertices(Vertices {
-        lines: Rows::new(lines),
+        lines: Items::new(lines),
     }))
 }
 
@@ -28,7 +28,7 @@ fn setup(alloc: Global, vertices: u32, bounds: u32) -> Result<Frame, Fail> {
     Ok(Frame::Setup(Setup {
         version: 1,
         vertices,
-        bounds: Rows::new(pairs),
+        bounds: Items::new(pairs),
     }))
 }
 

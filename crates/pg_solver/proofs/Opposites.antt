@@ -1,12 +1,12 @@
 -- Lines and those of the dual lead to the same vertices.
 use Rattle.std.proofs.Common.{◌≡◌, ℕ, ◌<◌, List, length, ap, sym, subst}
 use Rattle.std.specs.Prelude.{All, Option, IsSome}
-use Rattle.pg_map.specs.Lines.{Line, AreWithin, AreDual, line_at, dual_line}
+use Rattle.pg_arena.specs.Games.{GameVertex, dual}
+use Rattle.pg_map.specs.Lines.{Line, AreWithin, AreDual, line_at, game_line}
 use Rattle.pg_map.proofs.Duals.{dual_held, held_dual, dual_at}
-use Rattle.pg_lift.specs.declared.edges.Edges.{Edges}
-use Rattle.pg_lift.specs.Mirrors.Edges.{AreEdges, LeadsTo, IsListed}
+use Rattle.pg_lift.specs.declared.predecessors.Predecessors.{Predecessors}
+use Rattle.pg_lift.specs.Mirrors.Predecessors.{ArePredecessors, ArePredecessorsOf}
 use Rattle.pg_lift.specs.Mirrors.Keeps.{IsAmong}
-use Rattle.pg_solver.specs.Mirrors.Sides.{AreEdgesOf}
 
 same_successors : (lines other : ℕ → Option Line) (v : ℕ) → AreDual lines other → IsSome (lines v)
     → (line_at other v).successors ≡ (line_at lines v).successors
@@ -24,7 +24,7 @@ dual_within lines other n dual w = record {
 }
 
 dual_gathered : (lines other : ℕ → Option Line) (starts sources : List ℕ) → AreDual lines other
-    → AreEdges lines starts sources → AreEdges other starts sources
+    → ArePredecessors lines starts sources → ArePredecessors other starts sources
 dual_gathered lines other starts sources dual e = record {
   rise = e.rise;
   within = e.within;
@@ -36,11 +36,13 @@ dual_gathered lines other starts sources dual e = record {
       e.all u x (held, subst (IsAmong x) (same_successors lines other u dual held) leads.1);
 }
 
--- the edges of lines are those of the dual
-pub dual_edges : (lines other : ℕ → Option Line) (n : ℕ) (edges : Edges) → AreDual lines other
-    → AreEdgesOf lines n edges → AreEdgesOf other n edges
-dual_edges lines other n edges dual e = record {
-  within = dual_within lines other n dual e.within;
-  gathered = dual_gathered lines other edges.starts.items edges.sources.items dual e.gathered;
-  targets = e.targets;
-}
+-- the edges of a game are those of its dual
+pub dual_edges : (game g : List GameVertex) (n m : ℕ) (predecessors : Predecessors) → g ≡ game → m ≡ n
+    → AreDual (game_line game) (game_line (dual game)) → ArePredecessorsOf (game_line game) n predecessors
+    → ArePredecessorsOf (game_line (dual g)) m predecessors
+dual_edges game g n m predecessors same size dual_lines e =
+    rw (same, size) (record {
+      within = dual_within (game_line game) (game_line (dual game)) n dual_lines e.within;
+      gathered = dual_gathered (game_line game) (game_line (dual game)) predecessors.starts.items predecessors.sources.items dual_lines e.gathered;
+      targets = e.targets;
+    })

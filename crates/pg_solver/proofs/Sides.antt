@@ -1,57 +1,48 @@
 -- Sides that are lifted, raised and told what the other has settled.
-use Rattle.std.proofs.Common.{◌≡◌, ◌∙◌, ℕ, ◌<◌, ◌≤◌, ◌+◌, ◌⊎◌, inl, inr, true, List, [], ◌∷◌, length, arith, refl, sym, subst, ap, zero, suc}
-use Rattle.std.specs.Prelude.{All, Option, Some, None, IsSome}
+use Rattle.std.proofs.Common.{◌≡◌, ◌∙◌, ℕ, ◌<◌, ◌≤◌, inl, inr, true, List, [], ◌∷◌, length, arith, refl, sym, subst, ap, suc}
+use Rattle.std.specs.Prelude.{All, Option, IsSome}
 use Rattle.std.proofs.lemmas.List.Sums.{sum_by-cons}
-use Rattle.pg_measure.specs.Measures.{BoundList, MeasureValue, Fits, AtMost, IsBelow}
+use Rattle.pg_measure.specs.Measures.{BoundList, MeasureValue, Fits, AtMost, zeros}
 use Rattle.pg_map.specs.Lines.{Line, AreWithin}
-use Rattle.pg_map.specs.Maps.{MapValue, measure_at, IsMap, IsClosed, IsNeverAbove, IsLeastProgressMeasure, MapAtMost, StaysUnder}
-use Rattle.pg_measure.proofs.Order.{below_or_at_most, at_most_same_value}
+use Rattle.pg_map.specs.Maps.{MapValue, measure_at, zero_map, IsClosed, IsLifted, IsLeastProgressMeasure, IsLeastClosedFrom, MapAtMost, StaysUnder}
+use Rattle.pg_measure.proofs.Order.{below_or_at_most, at_most_same, at_most_same_value}
 use Rattle.pg_map.specs.Weights.{weight, map_weight}
 use Rattle.pg_map.proofs.Weights.{measure_falls}
-use Rattle.pg_lift.specs.Mirrors.Keeps.{IsKept}
-use Rattle.pg_lift.specs.Mirrors.Notes.{NotesValue, AreNotes, IsSameSpan}
-use Rattle.pg_lift.proofs.Noting.{notes_on}
+use Rattle.pg_map.proofs.Above.{stays_trans}
+use Rattle.pg_map.proofs.Least.{least_from_zero}
+use Rattle.std.proofs.lemmas.List.{length-replicate}
+use Rattle.pg_map.specs.Lemmas.Orders.{map_transitive}
+use Rattle.pg_lift.proofs.Keeping.{lifted_is}
 use Rattle.pg_solver.specs.declared.side.Side.{Side}
-use Rattle.pg_lift.specs.declared.edges.Edges.{Edges}
-use Rattle.pg_solver.specs.Mirrors.Sides.{IsSide, AreEdgesOf}
+use Rattle.pg_solver.specs.Mirrors.Sides.{IsSide, IsRaised, IsLeastFrom}
 
--- what stays under every closed map is never above
-pub never_above_on : (bs : BoundList) (lines : ℕ → Option Line) (f g : List MeasureValue) → length g ≡ length f
-    → IsNeverAbove bs lines f → StaysUnder bs lines f g → IsNeverAbove bs lines g
-never_above_on bs lines f g size never under = λ h is closed.
-    let is_map : IsMap bs (length f) h = record { size = is.size ∙ size; fits = is.fits } in
-    under h is_map closed (never h is_map closed)
-
--- a side whose map stays under, and whose notes are kept
-pub side_on : (bs : BoundList) (lines : ℕ → Option Line) (n : ℕ) (old new : Side) → IsSide bs lines n old
-    → new.map.bounds ≡ old.map.bounds → length new.map.measures ≡ length old.map.measures
-    → IsSameSpan old.notes new.notes → IsKept bs lines new.map.measures new.notes.waits new.notes.best
-    → StaysUnder bs lines old.map.measures new.map.measures
-    → (new.is_quiet ≡ true → IsClosed bs lines new.map.measures) → IsSide bs lines n new
-side_on bs lines n old new s bounds size span kept under quiet = record {
-  over = bounds ∙ s.over;
-  size = size ∙ s.size;
-  noted = notes_on n lines old.notes new.notes span s.noted;
-  kept = kept;
-  least = never_above_on bs lines old.map.measures new.map.measures size s.least under;
-  quiet = quiet;
+-- what is raised is raised further
+pub raised_itself : (lines : ℕ → Option Line) (f : MapValue) → IsRaised lines f f
+raised_itself lines f = record {
+  bounds = refl;
+  size = refl;
+  above = λ v. at_most_same (measure_at f.measures v);
+  under = λ h is closed le. le;
 }
 
--- what is known of a side by what it is itself
-pub side_as : (bs : BoundList) (lines : ℕ → Option Line) (n : ℕ) (s : Side) → IsSide bs lines n s
-    → IsSide s.map.bounds lines (length s.map.measures) s
-side_as bs lines n s i =
-    subst (λ (b : BoundList). IsSide b lines (length s.map.measures) s) (sym i.over) (subst (λ (k : ℕ). IsSide bs lines k s) (sym i.size) i)
+pub raised_on : (lines : ℕ → Option Line) (f g h : MapValue) → IsRaised lines f g → IsRaised lines g h → IsRaised lines f h
+raised_on lines f g h a b = record {
+  bounds = b.bounds ∙ a.bounds;
+  size = b.size ∙ a.size;
+  above = map_transitive f.measures g.measures h.measures a.above b.above;
+  under = stays_trans f.bounds lines f.measures g.measures h.measures a.size a.under
+      (subst (λ (bs : BoundList). StaysUnder bs lines g.measures h.measures) a.bounds b.under);
+}
 
--- and by what a side was before
-pub side_from : (bs : BoundList) (lines : ℕ → Option Line) (n : ℕ) (old new : Side) → IsSide bs lines n old
-    → IsSide old.map.bounds lines (length old.map.measures) new → IsSide bs lines n new
-side_from bs lines n old new o i =
-    subst (λ (b : BoundList). IsSide b lines n new) o.over (subst (λ (k : ℕ). IsSide old.map.bounds lines k new) o.size i)
-
-pub edges_as : (bs : BoundList) (lines : ℕ → Option Line) (n : ℕ) (s : Side) (edges : Edges) → IsSide bs lines n s
-    → AreEdgesOf lines n edges → AreEdgesOf lines (length s.map.measures) edges
-edges_as bs lines n s edges i are = subst (λ (k : ℕ). AreEdgesOf lines k edges) (sym i.size) are
+pub raised_by_lift : (lines : ℕ → Option Line) (f g : MapValue) (v : ℕ) → AreWithin (length f.measures) lines → IsSome (lines v)
+    → g.bounds ≡ f.bounds → length g.measures ≡ length f.measures → IsLifted f.bounds lines f.measures g.measures v
+    → StaysUnder f.bounds lines f.measures g.measures → IsRaised lines f g
+raised_by_lift lines f g v within held bounds size lifted under = record {
+  bounds = bounds;
+  size = size;
+  above = (lifted_is f.bounds lines f.measures g.measures v (within.numbers v held) lifted).above;
+  under = under;
+}
 
 -- what rises weighs no more
 weight_at_most : (bs : BoundList) (m n : MeasureValue) → Fits bs n → AtMost m n → weight bs n ≤ weight bs m
@@ -74,13 +65,29 @@ pub falls_further : (bs : BoundList) (f g h : List MeasureValue) → map_weight 
     → All (Fits bs) h → MapAtMost g h → map_weight bs h < map_weight bs f
 falls_further bs f g h falls size fits le = let w = map_weight_at_most bs g h size fits le in omega arith
 
--- the map of a side that is at its end is the least progress measure
-pub least_of_side : (bs : BoundList) (lines : ℕ → Option Line) (n : ℕ) (s : Side) (map : MapValue) → IsSide bs lines n s
-    → s.is_quiet ≡ true → map ≡ s.map → All (Fits map.bounds) map.measures → IsLeastProgressMeasure map.bounds lines map.measures
-least_of_side bs lines n s map i quiet is fits = record {
-  fits = fits;
-  closed = subst (λ (m : MapValue). IsClosed m.bounds lines m.measures) (sym is)
-      (subst (λ (b : BoundList). IsClosed b lines s.map.measures) (sym i.over) (i.quiet quiet));
-  least = subst (λ (m : MapValue). IsNeverAbove m.bounds lines m.measures) (sym is)
-      (subst (λ (b : BoundList). IsNeverAbove b lines s.map.measures) (sym i.over) i.least);
-}
+-- the map of a side that is at its end is the least closed one
+pub least_of_side : (lines : ℕ → Option Line) (from : MapValue) (begun s : Side) (map : MapValue) → begun.map ≡ from → IsSide lines s
+    → IsRaised lines begun.map s.map → s.is_quiet ≡ true → map ≡ s.map → All (Fits map.bounds) map.measures → IsLeastFrom lines from map
+least_of_side lines from begun s map begins i raised quiet is fits =
+    let r : IsRaised lines from s.map = subst (λ (m : MapValue). IsRaised lines m s.map) begins raised in
+    let ended : All (Fits s.map.bounds) s.map.measures = subst (λ (m : MapValue). All (Fits m.bounds) m.measures) is fits in
+    subst (λ (m : MapValue). IsLeastFrom lines from m) (sym is) (record {
+      bounds = r.bounds;
+      size = r.size;
+      least = record {
+        fits = subst (λ (bs : BoundList). All (Fits bs) s.map.measures) r.bounds ended;
+        above = r.above;
+        closed = subst (λ (bs : BoundList). IsClosed bs lines s.map.measures) r.bounds (i.quiet quiet);
+        least = r.under;
+      };
+    })
+
+-- from zeros on it is the least progress measure
+pub least_from_zeros : (lines : ℕ → Option Line) (n : ℕ) (from map : MapValue) → from.measures ≡ zero_map from.bounds n
+    → IsLeastFrom lines from map → IsLeastProgressMeasure map.bounds lines map.measures
+least_from_zeros lines n from map same e =
+    let least : IsLeastClosedFrom from.bounds lines (zero_map from.bounds n) map.measures =
+    subst (λ (f : List MeasureValue). IsLeastClosedFrom from.bounds lines f map.measures) same e.least in
+    subst (λ (bs : BoundList). IsLeastProgressMeasure bs lines map.measures) (sym e.bounds)
+    (least_from_zero from.bounds lines n map.measures
+    (e.size ∙ (ap length same ∙ length-replicate n (zeros from.bounds))) least)

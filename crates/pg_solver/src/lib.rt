@@ -7,4 +7,4 @@ mod side;
 mod solver;
 mod turns;
 
-pub use solver::{Measures, measure, solve};
+pub use solver::{Measures, measure, measure_from, solve, solve_from};

@@ -5,12 +5,13 @@ ghost use Rattle.pg_measure.specs.Measures.{MeasureValue};
 ghost use Rattle.pg_map.specs.Lines.{AreWithin};
 ghost use Rattle.pg_map.specs.Maps.{measure_at, IsClosed};
 ghost use Rattle.pg_jump.specs.Parts.{IsIn};
-ghost use Rattle.pg_solver.specs.Mirrors.Sides.{IsSide, AreEdgesOf, AreOpposite};
+ghost use Rattle.pg_lift.specs.Mirrors.Predecessors.{ArePredecessorsOf};
+ghost use Rattle.pg_solver.specs.Mirrors.Sides.{IsSide, IsRaised, AreOpposite};
 
 use crate::side::Side;
 use pg_arena::{Player, Vertex};
 use pg_jump::is_closed_part;
-use pg_lift::Edges;
+use pg_lift::Predecessors;
 use pg_map::{Lines, MeasureMap, View};
 use std::alloc::{AllocError, Global};
 
@@ -77,9 +78,9 @@ impl Part {
         &mut self,
         map: &MeasureMap,
         lines: &G,
-        edges: &Edges,
+        predecessors: &Predecessors,
     ) -> Result<(), AllocError>
-        requires { AreEdgesOf (G.line lines.now) (length map.now.measures) edges.now }
+        requires { ArePredecessorsOf (G.line lines.now) (length map.now.measures) predecessors.now }
     {
         self.count(map, lines)?;
         for _ in 0..u64::MAX {
@@ -87,7 +88,7 @@ impl Part {
                 break;
             };
             if w.0 < map.len() {
-                for u in edges.to(w) {
+                for u in predecessors.of(w) {
                     self.lose(map, lines, *u, w)?;
                 }
             }
@@ -129,26 +130,26 @@ impl Part {
         lines: &G,
         other: &mut Side,
         other_lines: &H,
-        edges: &Edges,
+        predecessors: &Predecessors,
     ) -> Result<bool, AllocError>
         requires opposite { AreOpposite (G.line lines.now) (H.line other_lines.now) }
         requires size { length other.old.map.measures ≡ length side.now.map.measures }
-        requires edges { AreEdgesOf (G.line lines.now) (length side.now.map.measures) edges.now }
-        requires other_edges { AreEdgesOf (H.line other_lines.now) (length other.old.map.measures) edges.now }
-        requires other { IsSide other.old.map.bounds (H.line other_lines.now) (length other.old.map.measures) other.old }
-        ensures other { OnOk result
-            (IsSide other.old.map.bounds (H.line other_lines.now) (length other.old.map.measures) other.new) }
+        requires predecessors { ArePredecessorsOf (G.line lines.now) (length side.now.map.measures) predecessors.now }
+        requires other_edges { ArePredecessorsOf (H.line other_lines.now) (length other.old.map.measures) predecessors.now }
+        requires other { IsSide (H.line other_lines.now) other.old }
+        ensures other { OnOk result (IsSide (H.line other_lines.now) other.new) }
+        ensures raised { OnOk result (IsRaised (H.line other_lines.now) other.old.map other.new.map) }
     {
         pg_jump::laws::closed_part_is_top();
         self.take_lists(&side.map)?;
         if !side.is_quiet {
-            self.shrink(&side.map, lines, edges)?;
+            self.shrink(&side.map, lines, predecessors)?;
         }
         let part = self.is_in.as_slice();
         if part.len() != side.map.len() as usize || !is_closed_part(&side.map, lines, part) {
             return Ok(false);
         }
-        Ok(raise_part(other, other_lines, edges, part))
+        Ok(raise_part(other, other_lines, predecessors, part))
     }
 }
 
@@ -175,18 +176,24 @@ fn is_short<G: Lines>(lines: &G, v: Vertex, serving: u32) -> bool {
 }
 
 /// Raises the vertices of a part to top. True exactly if one rose.
-fn raise_part<G: Lines>(side: &mut Side, lines: &G, edges: &Edges, part: &[bool]) -> bool
+fn raise_part<G: Lines>(
+    side: &mut Side,
+    lines: &G,
+    predecessors: &Predecessors,
+    part: &[bool],
+) -> bool
     requires part { length part.now ≡ length side.old.map.measures }
-    requires edges { AreEdgesOf (G.line lines.now) (length side.old.map.measures) edges.now }
-    requires side { IsSide side.old.map.bounds (G.line lines.now) (length side.old.map.measures) side.old }
+    requires predecessors { ArePredecessorsOf (G.line lines.now) (length side.old.map.measures) predecessors.now }
+    requires side { IsSide (G.line lines.now) side.old }
     requires tops { (h : List MeasureValue) → IsClosed side.old.map.bounds (G.line lines.now) h
         → (v : ℕ) → IsIn part.now v → measure_at h v ≡ None }
-    ensures side { IsSide side.old.map.bounds (G.line lines.now) (length side.old.map.measures) side.new }
+    ensures side { IsSide (G.line lines.now) side.new }
+    ensures raised { IsRaised (G.line lines.now) side.old.map side.new.map }
 {
     let mut rose = false;
     for number in 0..side.map.len() {
         if part[number as usize] {
-            rose |= side.raise_to_top(lines, edges, Vertex(number));
+            rose |= side.raise_to_top(lines, predecessors, Vertex(number));
         }
     }
     rose

@@ -7,13 +7,14 @@ ghost use Rattle.pg_map.specs.Lines.{AreWithin};
 ghost use Rattle.pg_map.specs.Maps.{measure_at, IsClosed};
 ghost use Rattle.pg_map.specs.Weights.{map_weight};
 ghost use Rattle.pg_lift.specs.Mirrors.Notes.{AreNotes};
-ghost use Rattle.pg_solver.specs.Mirrors.Sides.{IsSide, AreEdgesOf};
+ghost use Rattle.pg_lift.specs.Mirrors.Predecessors.{ArePredecessorsOf};
+ghost use Rattle.pg_lift.specs.Mirrors.Zeros.{IsAtZero};
+ghost use Rattle.pg_solver.specs.Mirrors.Sides.{IsSide, IsRaised};
 
 use pg_arena::Vertex;
 use pg_jump::Jumps;
-use pg_lift::{Edges, Notes, is_quiet, lift_ready, look_at_all, next_ready, note_all, take};
+use pg_lift::{Notes, Predecessors, examine_all, is_quiet, lift_ready, next_ready, note_all, take};
 use pg_map::{Lines, MeasureMap, View};
-use pg_measure::Bounds;
 use std::alloc::{AllocError, Global};
 
 /// A map that is lifted, and what is remembered of its vertices.
@@ -40,20 +41,23 @@ fn notes_of<G: Lines>(alloc: Global, lines: &G, vertices: u32) -> Result<Notes, 
 }
 
 impl Side {
-    /// The zero map of the bounds, with each vertex looked at.
+    /// A map that is to be lifted, with each vertex looked at. `is_zero` tells that all its measures are zero.
     pub fn new<G: Lines>(
         alloc: Global,
         lines: &G,
         vertices: u32,
-        bounds: &Bounds,
+        map: MeasureMap,
+        is_zero: bool,
     ) -> Result<Side, AllocError>
         requires some { 0 < vertices }
         requires within { AreWithin vertices (G.line lines.now) }
-        ensures side { IfOk result (IsSide bounds.now (G.line lines.now) vertices) }
+        requires size { length map.measures ≡ vertices }
+        requires zero { OnTrue is_zero (IsAtZero map) }
+        ensures map { IfOk result (λ s. s.map ≡ map) }
+        ensures side { IfOk result (IsSide (G.line lines.now)) }
     {
-        let map = MeasureMap::zero(alloc, vertices, bounds)?;
         let mut notes = notes_of(alloc, lines, vertices)?;
-        look_at_all(&map, lines, &mut notes);
+        examine_all(&map, lines, &mut notes, is_zero);
         let is_quiet = is_quiet(&map, lines, &mut notes);
         Ok(Side {
             map,
@@ -67,13 +71,13 @@ impl Side {
     fn lift_one<G: Lines>(
         &mut self,
         lines: &G,
-        edges: &Edges,
+        predecessors: &Predecessors,
         jumps: &mut Jumps,
     ) -> Result<bool, AllocError>
-        requires edges { AreEdgesOf (G.line lines.now) (length self.old.map.measures) edges.now }
-        requires side { IsSide self.old.map.bounds (G.line lines.now) (length self.old.map.measures) self.old }
-        ensures side { OnOk result
-            (IsSide self.old.map.bounds (G.line lines.now) (length self.old.map.measures) self.new) }
+        requires predecessors { ArePredecessorsOf (G.line lines.now) (length self.old.map.measures) predecessors.now }
+        requires side { IsSide (G.line lines.now) self.old }
+        ensures side { OnOk result (IsSide (G.line lines.now) self.new) }
+        ensures raised { OnOk result (IsRaised (G.line lines.now) self.old.map self.new.map) }
         ensures quiet { IfOk result (λ lifted. OnFalse lifted (self.new.is_quiet ≡ true)) }
         ensures weight { IfOk result (λ lifted. OnTrue lifted
             (map_weight self.old.map.bounds self.new.map.measures
@@ -83,11 +87,18 @@ impl Side {
             self.is_quiet = true;
             return Ok(false);
         };
-        let is_often = lift_ready(&mut self.map, lines, edges, &mut self.notes, v);
+        let is_often = lift_ready(&mut self.map, lines, predecessors, &mut self.notes, v);
         self.lifts = self.lifts.saturating_add(1);
         self.is_quiet = false;
         if is_often {
-            jumps.jump(&mut self.map, lines, edges, &mut self.notes, v, self.lifts)?;
+            jumps.jump(
+                &mut self.map,
+                lines,
+                predecessors,
+                &mut self.notes,
+                v,
+                self.lifts,
+            )?;
             // asked for what its contract says of the map
             let _vertices = self.map.len();
         }
@@ -98,17 +109,17 @@ impl Side {
     pub fn lift<G: Lines>(
         &mut self,
         lines: &G,
-        edges: &Edges,
+        predecessors: &Predecessors,
         jumps: &mut Jumps,
         most: u64,
     ) -> Result<(), AllocError>
-        requires edges { AreEdgesOf (G.line lines.now) (length self.old.map.measures) edges.now }
-        requires side { IsSide self.old.map.bounds (G.line lines.now) (length self.old.map.measures) self.old }
-        ensures side { OnOk result
-            (IsSide self.old.map.bounds (G.line lines.now) (length self.old.map.measures) self.new) }
+        requires predecessors { ArePredecessorsOf (G.line lines.now) (length self.old.map.measures) predecessors.now }
+        requires side { IsSide (G.line lines.now) self.old }
+        ensures side { OnOk result (IsSide (G.line lines.now) self.new) }
+        ensures raised { OnOk result (IsRaised (G.line lines.now) self.old.map self.new.map) }
     {
         for _ in 0..most {
-            if !self.lift_one(lines, edges, jumps)? {
+            if !self.lift_one(lines, predecessors, jumps)? {
                 break;
             }
         }
@@ -119,33 +130,36 @@ impl Side {
     pub fn lift_to_end<G: Lines>(
         &mut self,
         lines: &G,
-        edges: &Edges,
+        predecessors: &Predecessors,
         jumps: &mut Jumps,
     ) -> Result<(), AllocError>
-        requires edges { AreEdgesOf (G.line lines.now) (length self.old.map.measures) edges.now }
-        requires side { IsSide self.old.map.bounds (G.line lines.now) (length self.old.map.measures) self.old }
-        ensures side { OnOk result
-            (IsSide self.old.map.bounds (G.line lines.now) (length self.old.map.measures) self.new) }
+        requires predecessors { ArePredecessorsOf (G.line lines.now) (length self.old.map.measures) predecessors.now }
+        requires side { IsSide (G.line lines.now) self.old }
+        ensures side { OnOk result (IsSide (G.line lines.now) self.new) }
+        ensures raised { OnOk result (IsRaised (G.line lines.now) self.old.map self.new.map) }
         ensures quiet { OnOk result (self.new.is_quiet ≡ true) }
     {
-        'lifts: while self.lift_one(lines, edges, jumps)? {}
+        'lifts: while self.lift_one(lines, predecessors, jumps)? {}
         Ok(())
     }
 
     /// Raises a vertex to top, where each closed map has top at it. True exactly if it rose.
-    pub fn raise_to_top<G: Lines>(&mut self, lines: &G, edges: &Edges, v: Vertex) -> bool
+    pub fn raise_to_top<G: Lines>(
+        &mut self,
+        lines: &G,
+        predecessors: &Predecessors,
+        v: Vertex,
+    ) -> bool
         requires v { v < length self.old.map.measures }
-        requires edges { AreEdgesOf (G.line lines.now) (length self.old.map.measures) edges.now }
-        requires side { IsSide self.old.map.bounds (G.line lines.now) (length self.old.map.measures) self.old }
+        requires predecessors { ArePredecessorsOf (G.line lines.now) (length self.old.map.measures) predecessors.now }
+        requires side { IsSide (G.line lines.now) self.old }
         requires top { (h : List MeasureValue) → IsClosed self.old.map.bounds (G.line lines.now) h
             → measure_at h v ≡ None }
-        ensures side { IsSide self.old.map.bounds (G.line lines.now) (length self.old.map.measures) self.new }
+        ensures side { IsSide (G.line lines.now) self.new }
+        ensures raised { IsRaised (G.line lines.now) self.old.map self.new.map }
     {
+        // a quiet side is closed, so that it has top at the vertex already
         let map = &mut self.map;
-        let rose = take(map, lines, edges, &mut self.notes, v, View::Top);
-        if rose {
-            self.is_quiet = false;
-        }
-        rose
+        take(map, lines, predecessors, &mut self.notes, v, View::Top)
     }
 }

@@ -17,7 +17,7 @@ use Rattle.pg_wire.proofs.Consumed.{consumes_then, got, refused_known}
 use Rattle.pg_worker.specs.declared.fault.WorkerFault.{WorkerFault}
 use Rattle.pg_worker.specs.declared.fault.WorkerFault.TheVariants.{OutOfMemory, Wire}
 use Rattle.pg_worker.specs.Turns.{HeldValue, Turn, RefusesBytes}
-use Rattle.pg_worker.specs.Serving.{Replies, Exchanges, IsFaultAt, Breaks, told}
+use Rattle.pg_worker.specs.Serving.{Replies, Exchanges, IsFaultAt, Breaks, report_bytes}
 use Rattle.pg_worker.specs.Mirrors.Steps.{Answers}
 
 replies_more : (a : Option HeldValue) (fs : List Frame) (b : Option HeldValue) (bytes : List ℕ) (f : Frame) (c : Option HeldValue) (reply : List ℕ) → Replies a fs b bytes → Turn b f c reply → Replies a (fs ++ f ∷ []) c (bytes ++ reply)
@@ -40,7 +40,7 @@ abbrev write_fault : WorkerFault
 write_fault = Wire wire.Write
 
 pub broken_off : (e fault : WorkerFault) (input left output before before' output' : Option (List ℕ)) (fs : List Frame) (held : Option HeldValue) → Exchanges input left output before fs held → All (λ f. f ≢ frames.Halt) fs → length fs < 4294967295
-    → (fault ≡ Wire wire.Write) ⊎ (IsFaultAt left held fault × (before' ≡ before)) → ((e ≡ fault) × Appends before' output' (told fault)) ⊎ (e ≡ Wire wire.Write)
+    → (fault ≡ Wire wire.Write) ⊎ (IsFaultAt left held fault × (before' ≡ before)) → ((e ≡ fault) × Appends before' output' (report_bytes fault)) ⊎ (e ≡ Wire wire.Write)
     → (e ≡ Wire wire.Write) ⊎ Breaks e input output output'
 broken_off e fault input left output before before' output' fs held x going few (inl w) (inl t) = inl (t.0 ∙ w)
 broken_off e fault input left output before before' output' fs held x going few (inl w) (inr t) = inl t
@@ -56,7 +56,7 @@ broken_off e fault input left output before before' output' fs held x going few 
       going = going;
       few = few;
       fault = subst (IsFaultAt left held) back w.0;
-      told_is = subst (λ (g : WorkerFault). Appends before output' (told g)) back (subst (λ (b : Option (List ℕ)). Appends b output' (told fault)) w.1 t.1);
+      told_is = subst (λ (g : WorkerFault). Appends before output' (report_bytes g)) back (subst (λ (b : Option (List ℕ)). Appends b output' (report_bytes fault)) w.1 t.1);
     })
 
 -- a session refused the bytes that were read

@@ -1,21 +1,19 @@
 -- Lines that are read from a frame and added to a part, and the turns that they make.
-use Rattle.std.proofs.Common.{◌≡◌, ◌∙◌, ℕ, zero, suc, ◌<◌, ◌++◌, false, List, [], ◌∷◌, Option, Some, None, length, set, refl, sym, ap, subst, append_assoc, inl, inr, arith}
+use Rattle.std.proofs.Common.{◌≡◌, ◌∙◌, ℕ, zero, suc, ◌<◌, ◌++◌, List, [], ◌∷◌, Option, Some, None, length, set, refl, sym, ap, subst, append_assoc, inl, inr, arith}
 use Rattle.std.specs.Prelude.{All, AllPairs, IsSome}
 use Rattle.std.proofs.lemmas.Bool.{cases_eq}
-use Rattle.std.proofs.lemmas.List.{append-nil, get_or-set_other}
+use Rattle.std.proofs.lemmas.List.{get_or-set_other}
 use Rattle.std.proofs.lemmas.List.Elements.{All-cons, All-append, All-push}
 use Rattle.pg_wire.specs.declared.frame.LineHead.{LineHead}
 use Rattle.pg_wire.specs.declared.frame.VertexLine.{VertexLine}
 use Rattle.pg_wire.specs.declared.lines_reader.VerticesReader.{VerticesReader}
-use Rattle.pg_wire.specs.Bytes.{Spells}
 use Rattle.pg_wire.specs.Well.{IsVertexLine}
-use Rattle.pg_wire.specs.Lines.{head_of, line_with, frame_with}
+use Rattle.pg_wire.specs.Lines.{head_of, line_with}
 use Rattle.pg_wire.specs.LinesLeft.{AreLeft, IsNextLine}
 use Rattle.pg_map.specs.Lines.{Line}
 use Rattle.pg_worker.specs.declared.fault.WorkerFault.{WorkerFault}
 use Rattle.pg_worker.specs.declared.fault.WorkerFault.TheVariants.{OutOfMemory, NotMine, BadUpdate, Order, Wire}
 use Rattle.pg_worker.specs.Workers.{WorkerValue, told_line, part_line, with_lines, AreAbove, FitsGame, RefusesLines}
-use Rattle.pg_worker.specs.Turns.{HeldValue, Turn, DoesTurn}
 use Rattle.pg_worker.proofs.Working.{with_lines_more}
 use Rattle.pg_worker.proofs.Taking.{some_is, all_mid}
 
@@ -38,9 +36,6 @@ pub record Added (w : WorkerValue) (ls : List VertexLine) (u : WorkerValue) (r :
   pub added : u ≡ adding w front
   pub above : AreAbove w.lines front
   pub fit : Fit w front
-
-pub added_none : (w : WorkerValue) (ls : List VertexLine) (r : VerticesReader) → AreLeft r ls → Added w ls w r
-added_none w ls r h = record { front = []; back = ls; parts = refl; left = h; added = refl; above = λ v s i d lt. absurd (omega arith); fit = λ i d lt. absurd (omega arith) }
 
 -- ---- the line that was read
 
@@ -154,12 +149,6 @@ added_more w ls u u' r r' row head next new above fits j =
       fit = All-push (FitsGame w.bounds (length w.map)) j.front l j.fit fit;
     }
 
-pub added_all : (w : WorkerValue) (ls : List VertexLine) (u : WorkerValue) (r r' : VerticesReader) (row : List ℕ) → Reads r r' row None → Added w ls u r → (u ≡ adding w ls) × AreAbove w.lines ls × Fit w ls
-added_all w ls u r r' row next j =
-    let none : j.back ≡ [] = none_left j.back r' row (next j.back j.left) in
-    let all : j.front ≡ ls = sym (j.parts ∙ ap (λ (ks : List VertexLine). j.front ++ ks) none ∙ append-nil j.front) in
-    (j.added ∙ ap (adding w) all, subst (AreAbove w.lines) all j.above, subst (Fit w) all j.fit)
-
 refused_whole : (w : WorkerValue) (front : List VertexLine) (l : VertexLine) (rest : List VertexLine) (why : WorkerFault) → Rise (front ++ l ∷ rest) → AreAbove w.lines front → RefusesLines (adding w front) (l ∷ []) why → RefusesLines w (front ++ l ∷ rest) why
 refused_whole w front l rest OutOfMemory rise above h = h
 refused_whole w front l rest NotMine rise above h = h
@@ -176,18 +165,3 @@ added_not w ls u start r r' row head why next refused h j =
     let parts : ls ≡ j.front ++ l ∷ f.rest = j.parts ∙ ap (λ (ks : List VertexLine). j.front ++ ks) f.parts in
     let one : RefusesLines (adding w j.front) (l ∷ []) why = subst (λ (x : WorkerValue). RefusesLines x (l ∷ []) why) j.added refused in
     subst (λ (ks : List VertexLine). RefusesLines w ks why) (sym parts) (refused_whole w j.front l f.rest why (subst Rise parts h.rising) j.above one)
-
--- ---- turns
-
--- what `open` finds
-abbrev pub OpensLines : VerticesReader → List ℕ → Type 0
-OpensLines r bytes = (ls : List VertexLine) × Spells (frame_with ls) bytes × AreLeft r ls
-
-pub does_lines : (highest : ℕ) (h : HeldValue) (bytes : List ℕ) (r : VerticesReader) (after : Option HeldValue) → (o : OpensLines r bytes) → Turn (Some h) (frame_with o.0) after [] → DoesTurn highest (Some h) bytes after false []
-does_lines highest h bytes r after o t = record {
-  frame = frame_with o.0;
-  spells = o.1;
-  version = tt;
-  halt = (λ t. absurd cc, λ e. absurd cc);
-  turn = t;
-}

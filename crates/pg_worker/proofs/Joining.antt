@@ -1,8 +1,8 @@
 -- Measures that are joined to a map one after the other.
-use Rattle.std.proofs.Common.{◌≡◌, ℕ, ◌+◌, ◌<◌, Bool, true, false, List, [], ◌∷◌, ◌++◌, length, map, take, get_or, None, refl, sym, ap, ◌∙◌, subst, inl, inr, arith}
+use Rattle.std.proofs.Common.{◌≡◌, ℕ, ◌<◌, Bool, true, false, List, [], ◌∷◌, ◌++◌, length, None, refl, ap, ◌∙◌, subst, inl, inr, arith}
 use Rattle.std.specs.Prelude.{All, MatchBool, slice_set}
 use Rattle.std.proofs.lemmas.Bool.{cases_eq}
-use Rattle.std.proofs.lemmas.List.{get_or-map, map_more, length-map, get_or-set_same, get_or-set_other, get_or_append_left, get_or_push, length-append}
+use Rattle.std.proofs.lemmas.List.{get_or-set_same, get_or-set_other, get_or_append_left, get_or_push, length-append}
 use Rattle.std.proofs.lemmas.List.Elements.{All-push}
 use Rattle.pg_measure.specs.Measures.{MeasureValue, AtMost, IsBelow}
 use Rattle.pg_measure.proofs.Order.{at_most_same, at_most_all}
@@ -12,13 +12,6 @@ use Rattle.pg_wire.specs.Measured.{Measured}
 use Rattle.pg_worker.specs.Workers.{WorkerValue, CanTake, Takes}
 use Rattle.pg_worker.specs.Turns.{Joins}
 use Rattle.pg_worker.specs.Mirrors.Joins.{JoinsAll}
-
-pub all_at : {A : Type 0} (f : A → Measured) (P : Measured → Type 0) (xs : List A) (i : ℕ) (x : A) → i < length xs → x ≡ get_or xs i x → All P (map f xs) → P (f x)
-all_at f P xs i x lt e h =
-    subst P (get_or-map f xs i x (f x) lt ∙ ap f (sym e)) (h i (f x) (omega (arith, length-map xs f)))
-
-pub told_more : {A : Type 0} (f : A → Measured) (xs : List A) (i : ℕ) (x : A) → i < length xs → x ≡ get_or xs i x → map f (take (i + 1) xs) ≡ map f (take i xs) ++ f x ∷ []
-told_more f xs i x lt e = map_more f xs i x lt ∙ ap (λ (y : Measured). map f (take i xs) ++ y ∷ []) (ap f (sym e))
 
 pub all_none : (P : Measured → Type 0) → All P []
 all_none P = λ i d lt. absurd (omega arith)

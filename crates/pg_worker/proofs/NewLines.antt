@@ -4,7 +4,7 @@ use Rattle.std.specs.Prelude.{Option, Some, IsSome, unwrap_or}
 use Rattle.std.proofs.lemmas.Bool.{cases_eq}
 use Rattle.pg_arena.specs.Games.{nowhere}
 use Rattle.pg_map.specs.Lines.{Line, line_at, vertex_line}
-use Rattle.pg_lift.specs.Mirrors.Edges.{edges_of}
+use Rattle.pg_lift.specs.Mirrors.Predecessors.{edges_of}
 
 -- lines that differ at v alone
 pub record IsNewLine (lines lines' : ℕ → Option Line) (v : ℕ) (l : Line) : Type 0 where

@@ -1,16 +1,16 @@
 -- Lines in flat lists, when one more is added.
-use Rattle.std.proofs.Common.{◌≡◌, ◌≢◌, ℕ, zero, suc, ◌+◌, ◌-◌, ◌<◌, ◌≤◌, List, [], ◌∷◌, ◌++◌, length, take, drop, get_or, set, refl, sym, ap, subst, ◌∙◌, inl, inr, arith, cond}
+use Rattle.std.proofs.Common.{◌≡◌, ◌≢◌, ℕ, zero, suc, ◌+◌, ◌-◌, ◌<◌, ◌≤◌, List, ◌++◌, length, take, drop, get_or, set, refl, sym, ap, subst, ◌∙◌, inl, inr, arith, cond}
 use Rattle.std.specs.Prelude.{replicate, Option, Some, None, IsSome, unwrap_or, nat_lt, IsTrue, ◌↔◌}
 use Rattle.std.proofs.lemmas.Bool.{cases_lt, cases_eq, lt-ltb, le-ltb, ltb-true}
 use Rattle.std.proofs.lemmas.List.Elements.{All-set}
 use Rattle.std.proofs.lemmas.List.FromFn.{length-map-range_with_len, get_or-map-range_with_len, fill_by_all}
-use Rattle.std.proofs.lemmas.List.{take-append-le, drop-append-le, take_all, length-drop, length-append, length-set, get_or_default, get_or_past, get_or_push, get_or_append_left, get_or-set_same, get_or-set_other, get_or-replicate, length-replicate}
+use Rattle.std.proofs.lemmas.List.{take-append-le, drop-append-le, take_all, length-drop, length-append, length-set, get_or_default, get_or_past, get_or-set_same, get_or-set_other, get_or-replicate, length-replicate}
 use Rattle.std.proofs.Math.Seq.{drop-append_seam}
 use Rattle.pg_arena.specs.declared.player.Player.{Player}
 use Rattle.pg_arena.specs.declared.player.Player.TheVariants.{Even}
 use Rattle.pg_arena.specs.Games.{nowhere}
 use Rattle.pg_map.specs.Lines.{Line, line_of, line_at, vertex_line}
-use Rattle.pg_worker.specs.declared.head.Head.{Head}
+use Rattle.pg_worker.specs.declared.part.Head.{Head}
 use Rattle.pg_worker.specs.Mirrors.Parts.{line_from, head_line, line_in, lines_of, AreHeld, IsSpan, no_head}
 
 no_some : (o : Option Line) → o ≡ None → IsSome o → ⊥
@@ -185,21 +185,6 @@ no_lines n first heads owners ts none =
       | inl before ↦ before_first first heads owners ts k before
       | inr from ↦ past_last first heads owners ts k from (omega arith)
     ])))
-
--- another first vertex of no lines
-pub lines_moved : (n first first' : ℕ) (heads : List Head) (owners : List Player) (ts : List ℕ) → length heads ≡ 0 → lines_of n first' heads owners ts ≡ lines_of n first heads owners ts
-lines_moved n first first' heads owners ts none = no_lines n first' heads owners ts none ∙ sym (no_lines n first heads owners ts none)
-
--- a head or an owner that is the default
-pub pushed_same : {X : Type 0} (xs : List X) (d : X) (i : ℕ) → get_or (xs ++ d ∷ []) i d ≡ get_or xs i d
-pushed_same xs d i =
-    elim (cases_lt i (length xs)) [
-      | inl lt ↦ get_or_append_left xs (d ∷ []) d i lt
-      | inr le ↦ elim (cases_eq i (length xs)) [
-        | inl e ↦ get_or_push xs d d i (sym e) ∙ sym (get_or_past xs i d le)
-        | inr ne ↦ get_or_past (xs ++ d ∷ []) i d (let s = length-append xs (d ∷ []) in omega arith) ∙ sym (get_or_past xs i d le)
-      ]
-    ]
 
 pub lines_size : (n first : ℕ) (heads : List Head) (owners : List Player) (ts : List ℕ) → length (lines_of n first heads owners ts) ≡ n
 lines_size n first heads owners ts = length-map-range_with_len (line_in first heads owners ts) 0 n

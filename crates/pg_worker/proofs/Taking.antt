@@ -1,6 +1,6 @@
 -- Measures that are read from a frame and joined, and the turns that they make.
 use Rattle.std.proofs.Common.{◌≡◌, ◌≢◌, ℕ, suc, ◌++◌, ◌↔◌, ◌⊎◌, IsTrue, Bool, false, cond, List, [], ◌∷◌, Option, Some, None, Result, Ok, Err, refl, sym, ap, subst, ◌∙◌, append_assoc, inl, inr, arith}
-use Rattle.std.specs.Prelude.{All}
+use Rattle.std.specs.Prelude.{All, IfOk, IfErr, OnOk}
 use Rattle.std.proofs.lemmas.List.{append-nil}
 use Rattle.std.proofs.lemmas.List.Elements.{All-push}
 use Rattle.pg_wire.specs.declared.reader.ValuesReader.{ValuesReader}
@@ -13,6 +13,7 @@ use Rattle.pg_wire.specs.declared.frame.Frame.{Frame}
 use Rattle.pg_wire.specs.Bytes.{Spells, IsTooLong, IsTruncated}
 use Rattle.pg_wire.specs.Left.{IsLeft, IsNext, row_of, is_top}
 use Rattle.pg_wire.specs.Measured.{Measured, IsMeasured, frame_of}
+use Rattle.pg_wire.proofs.Bodies.{one_frame}
 use Rattle.pg_wire.proofs.Tells.{dense_told, sparse_told}
 use Rattle.pg_measure.specs.Measures.{MeasureValue}
 use Rattle.pg_worker.specs.declared.fault.WorkerFault.{WorkerFault}
@@ -132,6 +133,31 @@ does_turn highest h bytes r after o t = record {
 
 pub refuses_bytes : (highest : ℕ) (h : HeldValue) (bytes : List ℕ) (r : ValuesReader) (why : WorkerFault) → (o : Opens r bytes) → RefusesValues h r.kind r.width o.0 why → RefusesBytes highest (Some h) bytes why
 refuses_bytes highest h bytes r why o t = inr (frame_of r.kind r.width o.0, o.1, refuses_measures r.kind highest h r.width o.0 why o.2.measures t)
+
+-- what is said of bytes is said of the frame that they spell, and back
+pub frame_turn : (f : Frame) (highest : ℕ) (before : Option HeldValue) (bytes : List ℕ) (after : Option HeldValue) (out out' : List ℕ) (r : Result Bool WorkerFault) → Spells f bytes
+    → IfOk r (λ halts. (reply : List ℕ) × DoesTurn highest before bytes after halts reply × (out' ≡ out ++ reply)) → OnOk r ((reply : List ℕ) × Turn before f after reply × (out' ≡ out ++ reply))
+frame_turn f highest before bytes after out out' (Ok halts) s d = (d.0, subst (λ (g : Frame). Turn before g after d.0) (one_frame d.1.frame f bytes d.1.spells s) d.1.turn, d.2)
+frame_turn f highest before bytes after out out' (Err e) s d = tt
+
+pub frame_refused : (f : Frame) (highest : ℕ) (before : Option HeldValue) (bytes : List ℕ) (r : Result Bool WorkerFault) → Spells f bytes
+    → IfErr r (λ e. (e ≡ OutOfMemory) ⊎ RefusesBytes highest before bytes e) → IfErr r (λ e. (e ≡ OutOfMemory) ⊎ Refuses highest before f e)
+frame_refused f highest before bytes (Ok halts) s d = tt
+frame_refused f highest before bytes (Err e) s (inl memory) = inl memory
+frame_refused f highest before bytes (Err e) s (inr (inl none)) = absurd (none.none f s)
+frame_refused f highest before bytes (Err e) s (inr (inr k)) = inr (subst (λ (g : Frame). Refuses highest before g e) (one_frame k.0 f bytes k.1 s) k.2)
+
+pub bytes_turn : (f : Frame) (highest : ℕ) (before : Option HeldValue) (bytes : List ℕ) (after : Option HeldValue) (out out' : List ℕ) (r : Result Bool WorkerFault) → Spells f bytes → OnOk r (IsUpTo highest f)
+    → IfOk r (λ halts. IsTrue halts ↔ (f ≡ frames.Halt)) → OnOk r ((reply : List ℕ) × Turn before f after reply × (out' ≡ out ++ reply))
+    → IfOk r (λ halts. (reply : List ℕ) × DoesTurn highest before bytes after halts reply × (out' ≡ out ++ reply))
+bytes_turn f highest before bytes after out out' (Ok halts) s version halt t = (t.0, record { frame = f; spells = s; version = version; halt = halt; turn = t.1 }, t.2)
+bytes_turn f highest before bytes after out out' (Err e) s version halt t = tt
+
+pub bytes_refused : (f : Frame) (highest : ℕ) (before : Option HeldValue) (bytes : List ℕ) (r : Result Bool WorkerFault) → Spells f bytes
+    → IfErr r (λ e. (e ≡ OutOfMemory) ⊎ Refuses highest before f e) → IfErr r (λ e. (e ≡ OutOfMemory) ⊎ RefusesBytes highest before bytes e)
+bytes_refused f highest before bytes (Ok halts) s d = tt
+bytes_refused f highest before bytes (Err e) s (inl memory) = inl memory
+bytes_refused f highest before bytes (Err e) s (inr k) = inr (inr (f, s, k))
 
 abbrev failed : WireFault → Result Frame WireFault
 failed fault = Err fault

@@ -1,48 +1,24 @@
 -- What a worker remembers after a call.
-use Rattle.std.proofs.Common.{◌≡◌, ◌≢◌, ◌∙◌, ℕ, zero, suc, ◌+◌, ◌<◌, ◌≤◌, Bool, true, false, List, [], ◌∷◌, ◌++◌, length, get_or, set, subst, sym, refl, ap, arith, inl, inr, Some, None}
-use Rattle.std.specs.Prelude.{vec_capacity, All, Option, IsSome, IfSome, IfNone, option_map, unwrap_or, replicate}
+use Rattle.std.proofs.Common.{◌≡◌, ◌≢◌, ◌∙◌, ℕ, zero, suc, ◌+◌, ◌<◌, ◌≤◌, Bool, false, List, [], ◌∷◌, ◌++◌, length, get_or, set, subst, sym, refl, ap, arith, inl, inr, Some, None}
+use Rattle.std.specs.Prelude.{All, Option, IsSome, IfSome, IfNone, option_map, unwrap_or, replicate}
 use Rattle.std.proofs.lemmas.Bool.{cases_eq}
 use Rattle.std.proofs.lemmas.List.{get_or-set_same, get_or-set_other, length-set, length-replicate}
-use Rattle.pg_map.specs.Mirrors.Tables.{IsBest}
-use Rattle.pg_arena.specs.declared.player.Player.{Player}
-use Rattle.pg_arena.specs.declared.player.Player.TheVariants.{Odd}
-use Rattle.pg_measure.specs.Measures.{BoundList, MeasureValue, width_from}
+use Rattle.pg_measure.specs.Measures.{BoundList, MeasureValue}
 use Rattle.pg_arena.specs.Games.{nowhere}
 use Rattle.pg_map.specs.Lines.{Line, AreWithin, line_at, vertex_line}
 use Rattle.pg_map.specs.Maps.{MapValue, measure_at}
-use Rattle.pg_lift.specs.declared.edges.Edges.{Edges}
+use Rattle.pg_lift.specs.declared.predecessors.Predecessors.{Predecessors}
 use Rattle.pg_worker.specs.Mirrors.Parts.{PartValue, held_line}
-use Rattle.pg_lift.specs.Mirrors.Keeps.{IsKept, Keeps, KeepsAt, IsForemost, AreSameBut, nothing}
-use Rattle.pg_lift.specs.Mirrors.Edges.{AreEdges, edges_of}
+use Rattle.pg_lift.specs.Mirrors.Keeps.{IsKept, Keeps, KeepsAt, AreSameBut, nothing}
+use Rattle.pg_lift.specs.Mirrors.Predecessors.{edges_of}
 use Rattle.pg_worker.proofs.NewLines.{IsNewLine, line_same, some_back, edges_more, no_edges}
-use Rattle.pg_lift.proofs.Keeping.{same_keeps, never}
+use Rattle.pg_lift.proofs.Keeping.{same_keeps}
 use Rattle.pg_wire.specs.declared.frame.VertexLine.{VertexLine}
 use Rattle.pg_worker.specs.Workers.{WorkerValue, told_line, with_lines, AreAbove}
 use Rattle.pg_map.specs.declared.update.Update.{Update}
-use Rattle.pg_worker.specs.Mirrors.Insides.{IsInside, AreReady, IsNext, IsWhole}
-use Rattle.pg_lift.specs.Mirrors.Notes.{Span, Label, line_label, NotesValue, HasNote, AreNotes, IsSameSpan, AreSameNotes}
+use Rattle.pg_worker.specs.Mirrors.Insides.{IsInside, AreReady, IsNext, IsWhole, AreAsBefore}
+use Rattle.pg_lift.specs.Mirrors.Notes.{Label, line_label, NotesValue, HasNote, AreNotes, IsSameSpan}
 use Rattle.pg_lift.proofs.Noting.{notes_on, same_notes}
-
-pub worker_after : (lines : PartValue) (map map' : MapValue) (notes notes' : NotesValue) → map'.bounds ≡ map.bounds → length map'.measures ≡ length map.measures → IsSameSpan notes notes'
-    → IsKept map.bounds (held_line lines) map'.measures notes'.waits notes'.best → IsInside lines map notes → IsInside lines map' notes'
-worker_after lines map map' notes notes' b s same kept w = record {
-  within = subst (λ (n : ℕ). AreWithin n (held_line lines)) (sym s) w.within;
-  count = subst (λ (n : ℕ). edges_of (held_line lines) n ≡ lines.edges) (sym s) w.count;
-  noted = subst (λ (n : ℕ). AreNotes n (held_line lines) notes') (sym s) (notes_on (length map.measures) (held_line lines) notes notes' same w.noted);
-  size = w.size ∙ sym s;
-  kept = subst (λ (bs : BoundList). IsKept bs (held_line lines) map'.measures notes'.waits notes'.best) (sym b) kept;
-}
-
--- gathered edges of the same part
-pub ready_after : (lines : PartValue) (map map' : MapValue) (edges edges' : Edges) → length map'.measures ≡ length map.measures → length edges'.starts.items ≡ length map.measures + 1
-    → vec_capacity edges'.sources ≡ vec_capacity edges.sources → AreEdges (held_line lines) edges'.starts.items edges'.sources.items → edges'.was_gathered ≡ true → AreReady lines map edges → AreReady lines map' edges'
-ready_after lines map map' edges edges' s size room right before r = record {
-  size = omega arith;
-  few = r.few;
-  room = let a = r.room in omega arith;
-  right = λ e. right;
-  zero = λ e. absurd (cc (before, e));
-}
 
 none_held : (o : Option Line) → o ≡ None → IsSome o → ⊥
 none_held None e s = cc
@@ -78,15 +54,17 @@ worker_empty lines map notes held edges b c d e = record {
     nonempty = λ v s. absurd (none_held (held_line lines v) (held v) s);
   };
   count = no_edges_at_all (held_line lines) (length map.measures) held ∙ sym edges;
-  noted = record {
-    waits = b;
-    best = c;
-    noted = λ v s. absurd (none_held (held_line lines v) (held v) s);
-    labelled = ap length e ∙ length-replicate (length map.measures) None;
-    labels = λ v. ap (λ (ls : List (Option Label)). get_or ls v None) e ∙ (no_label (length map.measures) v ∙ sym (ap (option_map line_label) (held v)));
+  kept = record {
+    noted = record {
+      waits = b;
+      best = c;
+      noted = λ v s. absurd (none_held (held_line lines v) (held v) s);
+      labelled = ap length e ∙ length-replicate (length map.measures) None;
+      labels = λ v. ap (λ (ls : List (Option Label)). get_or ls v None) e ∙ (no_label (length map.measures) v ∙ sym (ap (option_map line_label) (held v)));
+    };
+    kept = λ v s. absurd (none_held (held_line lines v) (held v) s);
   };
   size = d;
-  kept = λ v s. absurd (none_held (held_line lines v) (held v) s);
 }
 
 pub new_line : (lines lines' : PartValue) (v : ℕ) (l : Line) → held_line lines v ≡ None → held_line lines' v ≡ Some l → ((u : ℕ) → u ≢ v → held_line lines' u ≡ held_line lines u) → IsNewLine (held_line lines) (held_line lines') v l
@@ -108,13 +86,6 @@ within_after lines lines' v n l new lt ss ne a = record {
     | inl e ↦ subst (λ (w : ℕ). 0 < length (line_at lines' w).successors) (sym e) (subst (λ (k : Line). 0 < length k.successors) (sym new.line) ne)
     | inr d ↦ subst (λ (k : Line). 0 < length k.successors) (sym (line_same lines lines' v l u new d)) (a.nonempty u (some_back lines lines' v l u new d s))
   ];
-}
-
-pub keeps_first : (bs : BoundList) (l : Line) (f : List MeasureValue) (m : MeasureValue) (b : ℕ) → l.owner ≡ Odd → IsBest Odd (width_from bs l.priority) f l.successors b → Keeps bs l f nothing m true b
-keeps_first bs l f m b o best = record {
-  among = best.among;
-  rest = λ q. never _ q;
-  foremost = subst (λ (w : Player). IsForemost w bs l.priority f nothing l.successors m b) (sym o) (λ i d lt. inr (inr (best.best i d lt)));
 }
 
 kept_after : (bs : BoundList) (lines lines' : ℕ → Option Line) (v : ℕ) (l : Line) (f : List MeasureValue) (marked marked' : List Bool) (best best' : List ℕ) → IsNewLine lines lines' v l
@@ -164,11 +135,11 @@ pub worker_more : (lines lines' : PartValue) (map : MapValue) (notes notes' note
 worker_more lines lines' map notes notes' notes'' v l new lt ss ne size edges m b noted same here others w = record {
   within = within_more lines lines' map notes v l new lt ss ne w;
   count = let a = edges_more (held_line lines) (held_line lines') v l (length map.measures) new lt in let q = w.count in omega arith;
-  noted = notes_on (length map.measures) (held_line lines') notes' notes'' same noted;
   size = size ∙ w.size;
-  kept =
-      kept_after map.bounds (held_line lines) (held_line lines') v l map.measures notes'.waits notes''.waits notes'.best notes''.best new here others
-      (rw (m, b) w.kept);
+  kept = record {
+    noted = notes_on (length map.measures) (held_line lines') notes' notes'' same noted;
+    kept = kept_after map.bounds (held_line lines) (held_line lines') v l map.measures notes'.waits notes''.waits notes'.best notes''.best new here others (rw (m, b) w.kept.kept);
+  };
 }
 
 none_is : (o : Option Line) → (IsSome o → ⊥) → o ≡ None
@@ -200,49 +171,42 @@ with_lines_more ls [] y = refl
 with_lines_more ls (x ∷ xs) y = with_lines_more (set ls x.vertex (Some (told_line x))) xs y
 
 -- more room, and the same lines and notes
-pub inside_same : (p p' : PartValue) (map : MapValue) (notes notes' : NotesValue) → p'.lines ≡ p.lines → p'.edges ≡ p.edges → AreSameNotes notes notes' → IsInside p map notes → IsInside p' map notes'
-inside_same p p' map notes notes' l e same i =
-    let at : IsInside (record { lines = p.lines; edges = p'.edges; room = p'.room; first = p'.first; heads = p'.heads; owners = p'.owners }) map notes' = record {
-      within = i.within;
-      count = i.count ∙ sym e;
-      noted = same_notes (length map.measures) (held_line p) notes notes' same i.noted;
-      kept = rw (same.waits, same.best) i.kept;
-      size = i.size;
-    } in
-    subst (λ (ls : List (Option Line)). IsInside (record { lines = ls; edges = p'.edges; room = p'.room; first = p'.first; heads = p'.heads; owners = p'.owners }) map notes') (sym l) at
+pub inside_same : (p p' : PartValue) (map : MapValue) (edges edges' : Predecessors) (notes notes' : NotesValue) → AreAsBefore p p' edges edges' notes notes' → IsInside p map notes → IsInside p' map notes'
+inside_same p p' map edges edges' notes notes' e i = record {
+  within = rw e.lines i.within;
+  count = rw e.lines (i.count ∙ sym e.count);
+  kept = record {
+    noted = rw e.lines (same_notes (length map.measures) (held_line p) notes notes' e.noted i.kept.noted);
+    kept = rw (e.lines, e.noted.waits, e.noted.best) i.kept.kept;
+  };
+  size = rw e.lines i.size;
+}
 
-pub ready_same : (p p' : PartValue) (map : MapValue) (edges edges' : Edges) → p'.lines ≡ p.lines → p'.edges ≡ p.edges → edges'.starts.items ≡ edges.starts.items → edges'.sources.items ≡ edges.sources.items
-    → edges'.is_gathered ≡ edges.is_gathered → edges'.was_gathered ≡ edges.was_gathered → vec_capacity edges.sources ≤ vec_capacity edges'.sources → AreReady p map edges → AreReady p' map edges'
-ready_same p p' map edges edges' l e starts sources g before more r =
-    let at : AreReady (record { lines = p.lines; edges = p'.edges; room = p'.room; first = p'.first; heads = p'.heads; owners = p'.owners }) map edges' = record {
-      size = ap length starts ∙ r.size;
-      few = let a = r.few in omega arith;
-      room = let a = r.room in omega arith;
-      right = λ q. rw (starts, sources) (r.right (sym g ∙ q));
-      zero = λ q. r.zero (sym before ∙ q);
-    } in
-    subst (λ (ls : List (Option Line)). AreReady (record { lines = ls; edges = p'.edges; room = p'.room; first = p'.first; heads = p'.heads; owners = p'.owners }) map edges') (sym l) at
+ready_same : (p p' : PartValue) (map : MapValue) (edges edges' : Predecessors) (notes notes' : NotesValue) → AreAsBefore p p' edges edges' notes notes' → AreReady p map edges → AreReady p' map edges'
+ready_same p p' map edges edges' notes notes' e r = record {
+  size = ap length e.starts ∙ r.size;
+  few = omega (arith, e.count, r.few);
+  room = omega (arith, e.count, e.more, r.room);
+  right = λ q. rw (e.lines, e.starts, e.sources) (r.right (sym e.gathered ∙ q));
+  zero = λ q. r.zero (sym e.before ∙ q);
+}
 
 pub next_same : (p p' : PartValue) (n : ℕ) → p'.lines ≡ p.lines → IsNext p n → IsNext p' n
-next_same p p' n l i =
-    let at : IsNext (record { lines = p.lines; edges = p'.edges; room = p'.room; first = p'.first; heads = p'.heads; owners = p'.owners }) n = record { above = i.above; least = i.least } in
-    subst (λ (ls : List (Option Line)). IsNext (record { lines = ls; edges = p'.edges; room = p'.room; first = p'.first; heads = p'.heads; owners = p'.owners }) n) (sym l) at
+next_same p p' n l i = record { above = rw l i.above; least = rw l i.least }
 
-pub whole_same : (p p' : PartValue) (map : MapValue) (edges edges' : Edges) (notes notes' : NotesValue) (next listings : ℕ) (row : List ℕ) → p'.lines ≡ p.lines → p'.edges ≡ p.edges → p'.first ≡ p.first
-    → edges'.starts.items ≡ edges.starts.items → edges'.sources.items ≡ edges.sources.items → edges'.is_gathered ≡ edges.is_gathered → edges'.was_gathered ≡ edges.was_gathered → vec_capacity edges.sources ≤ vec_capacity edges'.sources
-    → AreSameNotes notes notes' → IsWhole p map edges notes next listings row → IsWhole p' map edges' notes' next listings row
-whole_same p p' map edges edges' notes notes' next listings row l e f starts sources g before more same w = record {
-  inside = inside_same p p' map notes notes' l e same w.inside;
-  ready = ready_same p p' map edges edges' l e starts sources g before more w.ready;
-  above = next_same p p' next l w.above;
+pub whole_same : (p p' : PartValue) (map : MapValue) (edges edges' : Predecessors) (notes notes' : NotesValue) (next listings : ℕ) → AreAsBefore p p' edges edges' notes notes' → p'.first ≡ p.first
+    → IsWhole p map edges notes next listings → IsWhole p' map edges' notes' next listings
+whole_same p p' map edges edges' notes notes' next listings e f w = record {
+  inside = inside_same p p' map edges edges' notes notes' e w.inside;
+  ready = ready_same p p' map edges edges' notes notes' e w.ready;
+  above = next_same p p' next e.lines w.above;
   first = let a = w.first in omega arith;
   note_first = λ some.
-      let old : 0 < notes.span.size = let s = same.size in omega arith in
+      let old : 0 < notes.span.size = let s = e.noted.size in omega arith in
       let a = w.note_first old in
-      let b = same.first old in
+      let b = e.noted.first old in
       omega arith;
   listed = w.listed;
-  clear = w.clear;
 }
 
 none_at : (n v : ℕ) → get_or {A = Option Line} (replicate n None) v None ≡ None
@@ -266,28 +230,6 @@ above_next p n ls next above = λ i d lt. next.least (get_or ls i d).vertex (λ 
 
 pub next_above : (p : PartValue) (n : ℕ) (ls : List VertexLine) → IsNext p n → All (λ l. n ≤ l.vertex) ls → AreAbove p.lines ls
 next_above p n ls next all = λ v s i d lt. let a = next.above v s in let b = all i d lt in omega arith
-
--- after a call that changes the map
-pub whole_after : (lines : PartValue) (map map' : MapValue) (edges edges' : Edges) (notes notes' : NotesValue) (next listings : ℕ) (row : List ℕ)
-    → map'.bounds ≡ map.bounds → length map'.measures ≡ length map.measures → length edges'.starts.items ≡ length map.measures + 1 → vec_capacity edges'.sources ≡ vec_capacity edges.sources
-    → AreEdges (held_line lines) edges'.starts.items edges'.sources.items → edges'.was_gathered ≡ true → IsSameSpan notes notes'
-    → IsKept map.bounds (held_line lines) map'.measures notes'.waits notes'.best → IsWhole lines map edges notes next listings row → IsWhole lines map' edges' notes' next listings row
-whole_after lines map map' edges edges' notes notes' next listings row b s size room right before same kept w = record {
-  inside = worker_after lines map map' notes notes' b s same kept w.inside;
-  ready = ready_after lines map map' edges edges' s size room right before w.ready;
-  above = w.above;
-  first = w.first;
-  note_first = subst (λ (p : Span). 0 < p.size → p.first ≤ next) (sym same.span) w.note_first;
-  listed = w.listed ∙ sym s;
-  clear = w.clear ∙ ap (λ (bs : BoundList). replicate (length bs) 0) (sym b);
-}
-
--- after edges were gathered
-pub whole_gathered : (lines : PartValue) (map : MapValue) (edges edges' : Edges) (notes : NotesValue) (next listings : ℕ) (row : List ℕ)
-    → length edges'.starts.items ≡ length map.measures + 1 → vec_capacity edges'.sources ≡ vec_capacity edges.sources
-    → AreEdges (held_line lines) edges'.starts.items edges'.sources.items → edges'.was_gathered ≡ true → IsWhole lines map edges notes next listings row → IsWhole lines map edges' notes next listings row
-whole_gathered lines map edges edges' notes next listings row size room right before w =
-    whole_after lines map map edges edges' notes notes next listings row refl refl size room right before (record { waits = refl; best = refl; span = refl }) w.inside.kept w
 
 abbrev worker_of : MapValue → List (Option Line) → List Update → List ℕ → WorkerValue
 worker_of m ls us vs = record { bounds = m.bounds; lines = ls; map = m.measures; kept = us; lifted = vs }

@@ -1,7 +1,7 @@
 pub mod Faults
 pub mod Cuts
 pub mod Workers
-pub mod Listings
+pub mod VertexSets
 pub mod Turns
 pub mod Serving
 pub mod Laws

@@ -52,11 +52,11 @@ pub record Serves (served : Served) (input input' output output' : Option (List 
   pub left_is : IsLeft served left input'
 
 -- the report of a fault; none where the input or the output failed or was cut short
-abbrev pub told : WorkerFault → List ℕ
-told (Wire wire.Read) = []
-told (Wire wire.Write) = []
-told (Wire wire.Truncated) = []
-told e = report 2 (code_of e)
+abbrev pub report_bytes : WorkerFault → List ℕ
+report_bytes (Wire wire.Read) = []
+report_bytes (Wire wire.Write) = []
+report_bytes (Wire wire.Truncated) = []
+report_bytes e = report 2 (code_of e)
 
 -- why no turn was done with what is left: memory, a read that failed, bytes that are no frame, or a well frame that is
 -- refused
@@ -77,4 +77,4 @@ pub record Breaks (e : WorkerFault) (input output output' : Option (List ℕ)) :
   pub going : All (λ f. f ≢ frames.Halt) fs
   pub few : length fs < 4294967295
   pub fault : IsFaultAt left held e
-  pub told_is : Appends before output' (told e)
+  pub told_is : Appends before output' (report_bytes e)

@@ -1,6 +1,6 @@
 -- Workers: the part that one holds, its map, and what its calls make of them.
 use Rattle.std.proofs.Common.{zero, suc}
-use Rattle.std.specs.Prelude.{◌≡◌, ℕ, ◌%◌, ◌<◌, ◌≤◌, Bool, false, List, [], ◌∷◌, length, replicate, All, AllPairs, Any, Option, Some, None, IsSome, MatchBool, slice_index_or, slice_set, option_map}
+use Rattle.std.specs.Prelude.{◌≡◌, ℕ, ◌%◌, ◌<◌, ◌≤◌, Bool, false, List, [], ◌∷◌, length, replicate, All, AllPairs, Any, Option, Some, None, IsSome, MatchBool, slice_index_or, slice_set}
 use Rattle.std.specs.List.{Contains}
 use Rattle.pg_arena.specs.declared.player.Player.{Player}
 use Rattle.pg_arena.specs.declared.player.Player.TheVariants.{Even, Odd}
@@ -9,7 +9,6 @@ use Rattle.pg_map.specs.Lines.{Line, AreWithin, line_of}
 use Rattle.pg_map.specs.Maps.{measure_at, IsMap, zero_map, update_map, IsClosed, IsJoin, IsLifted, StaysUnder}
 use Rattle.pg_map.specs.declared.update.Update.{Update}
 use Rattle.pg_wire.specs.declared.frame.VertexLine.{VertexLine}
-use Rattle.pg_wire.specs.Measured.{filled}
 use Rattle.pg_worker.specs.declared.fault.WorkerFault.{WorkerFault}
 use Rattle.pg_worker.specs.declared.fault.WorkerFault.TheVariants.{OutOfMemory, NotMine, BadUpdate, Order, Wire}
 
@@ -131,7 +130,3 @@ pub record IsListedTurn (old new : WorkerValue) (budget : ℕ) (quiet : Bool) : 
   pub turn : IsTurn old new budget quiet updates
   pub lifted : AreVerticesOf updates new.lifted
   pub kept : new.kept ≡ old.kept
-
--- a measure by the components that aren't 0; no pairs is top
-abbrev pub sparse_measure : ℕ → Option (List (ℕ × ℕ)) → MeasureValue
-sparse_measure width pairs = option_map (filled width) pairs

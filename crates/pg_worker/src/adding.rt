@@ -12,7 +12,7 @@ ghost use Rattle.pg_lift.specs.Mirrors.Zeros.{IsAtZero};
 
 use crate::part::Part;
 use pg_arena::{Player, Vertex};
-use pg_lift::{Edges, Notes, look};
+use pg_lift::{Notes, Predecessors, examine};
 use pg_map::MeasureMap;
 use pg_measure::Bounds;
 use pg_wire::{LineHead, VertexLine};
@@ -62,7 +62,7 @@ pub(crate) fn add_line(
     let owner = player(head.owner);
     part.add(v, head.priority, owner, successors);
     notes.hold(v, head.priority, owner);
-    look(map, part, notes, v, is_zero);
+    examine(map, part, notes, v, is_zero);
 }
 
 /// Adds vertices, which rise from `next` on, and for which there is room. `is_zero` tells that all measures are zero.
@@ -106,7 +106,7 @@ pub(crate) fn add_lines(
 /// Makes room for lines of vertices from the one to the other, with so many successors in all.
 #[inline(always)]
 pub(crate) fn make_room(
-    edges: &mut Edges,
+    predecessors: &mut Predecessors,
     notes: &mut Notes,
     part: &mut Part,
     from: u32,
@@ -117,12 +117,12 @@ pub(crate) fn make_room(
     requires from { from < length part.old.lines }
     requires note_first { 0 < notes.old.span.size → notes.old.span.first ≤ from }
     requires note_from { from < length notes.old.waits }
-    ensures same { AreAsBefore part.old part.new edges.old edges.new notes.old notes.new }
+    ensures same { AreAsBefore part.old part.new predecessors.old predecessors.new notes.old notes.new }
     ensures first { OnErr result (part.new.first ≡ part.old.first) }
-    ensures room { OnOk result (HaveRoom part.new edges.new notes.new from to count) }
+    ensures room { OnOk result (HaveRoom part.new predecessors.new notes.new from to count) }
 {
     let all = part.edges().checked_add(count).ok_or(AllocError)?;
-    edges.reserve(all)?;
+    predecessors.reserve(all)?;
     notes.reserve(from, to)?;
     part.reserve(from, to, count)
 }

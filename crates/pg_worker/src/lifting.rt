@@ -1,23 +1,28 @@
 //! Values that a worker takes, and the lifts that it makes.
 
-ghost use Rattle.std.specs.Prelude.{◌≡◌, ◌↔◌, ◌+◌, ◌<◌, ◌≤◌, true, false, [], ◌∷◌, length, slice_set, IsSome, IfSome, IfNone, IfOk, IfErr, IsOk, OnOk, OnErr, IsTrue, MatchBool, vec_len, vec_capacity};
+ghost use Rattle.std.specs.Prelude.{◌≡◌, ◌↔◌, ◌<◌, ◌≤◌, false, [], ◌∷◌, length, slice_set, IsSome, IfSome, IfNone, IfOk, IfErr, IsOk, OnOk, OnErr, IsTrue, MatchBool, vec_len, vec_capacity};
 ghost use Rattle.pg_measure.specs.Measures.{Fits, AtMost, IsBelow};
 ghost use Rattle.pg_measure.specs.Views.{measure_in};
-ghost use Rattle.pg_map.specs.Lines.{AreWithin};
 ghost use Rattle.pg_map.specs.Maps.{measure_at, update_map, IsJoin, IsServed, IsClosed, StaysUnder};
-ghost use Rattle.pg_lift.specs.Mirrors.Edges.{AreEdges};
+ghost use Rattle.pg_lift.specs.Mirrors.Predecessors.{ArePredecessorsOf};
 ghost use Rattle.pg_worker.specs.Mirrors.Lifts.{AreListedLifts};
-ghost use Rattle.pg_lift.specs.Mirrors.Keeps.{IsKept};
-ghost use Rattle.pg_lift.specs.Mirrors.Notes.{AreNotes, IsSameSpan};
+ghost use Rattle.pg_lift.specs.Mirrors.Keeps.{IsKeeping};
 ghost use Rattle.pg_worker.specs.Workers.{AreLifts};
 
 use crate::WorkerFault;
-use crate::listing::Listing;
+use crate::vertex_set::VertexSet;
 use pg_arena::Vertex;
-use pg_lift::{Edges, Notes, is_quiet, lift_ready, next_ready, settle, take};
+use pg_lift::{Notes, Predecessors, find_serving, is_quiet, lift_ready, next_ready, take};
 use pg_map::{Lines, MeasureMap, Update, View};
 use pg_measure::{Bounds, Measure, row};
 use std::alloc::{AllocError, Global};
+
+/// The updates of a run of lifts, in the order in which they were made, and whether no vertex of the part can be lifted now.
+#[derive(Drop)]
+pub struct Lifted {
+    pub quiet: bool,
+    pub updates: Vec<Update>,
+}
 
 /// Makes room for one update more, and takes the memory for its measure.
 fn room_for_update(updates: &mut Vec<Update>, bounds: &Bounds) -> Result<Measure, AllocError>
@@ -34,21 +39,18 @@ fn room_for_update(updates: &mut Vec<Update>, bounds: &Bounds) -> Result<Measure
 pub(crate) fn lift_some<G: Lines>(
     map: &mut MeasureMap,
     lines: &G,
-    edges: &Edges,
+    predecessors: &Predecessors,
     notes: &mut Notes,
     updates: &mut Vec<Update>,
     budget: u32,
 ) -> Result<bool, AllocError>
-    requires within { AreWithin (length map.old.measures) (G.line lines.now) }
-    requires edges { AreEdges (G.line lines.now) edges.now.starts.items edges.now.sources.items }
-    requires targets { length edges.now.starts.items ≡ length map.old.measures + 1 }
-    requires notes { AreNotes (length map.old.measures) (G.line lines.now) notes.old }
-    requires kept { IsKept map.old.bounds (G.line lines.now) map.old.measures notes.old.waits notes.old.best }
+    requires predecessors { ArePredecessorsOf (G.line lines.now) (length map.old.measures) predecessors.now }
+    requires kept { IsKeeping (G.line lines.now) map.old notes.old }
     requires none { updates.old.items ≡ [] }
     ensures bounds { map.new.bounds ≡ map.old.bounds }
     ensures size { length map.new.measures ≡ length map.old.measures }
-    ensures span { IsSameSpan notes.old notes.new }
-    ensures kept { IsKept map.old.bounds (G.line lines.now) map.new.measures notes.new.waits notes.new.best }
+    ensures span { notes.new.span ≡ notes.old.span }
+    ensures kept { IsKeeping (G.line lines.now) map.new notes.new }
     ensures lifts { AreLifts map.old.bounds (G.line lines.now) map.old.measures updates.new.items map.new.measures }
     ensures under { StaysUnder map.old.bounds (G.line lines.now) map.old.measures map.new.measures }
     ensures few { length updates.new.items ≤ budget }
@@ -69,7 +71,7 @@ pub(crate) fn lift_some<G: Lines>(
                 return Err(failed);
             }
         };
-        lift_ready(map, lines, edges, notes, v);
+        lift_ready(map, lines, predecessors, notes, v);
         map.copy_to(v, &mut measure);
         updates.push_reserved(Update { vertex: v, measure });
     }
@@ -80,22 +82,19 @@ pub(crate) fn lift_some<G: Lines>(
 pub(crate) fn lift_turn<G: Lines>(
     map: &mut MeasureMap,
     lines: &G,
-    edges: &Edges,
+    predecessors: &Predecessors,
     notes: &mut Notes,
-    lifted: &mut Listing,
+    lifted: &mut VertexSet,
     budget: u32,
 ) -> bool
-    requires within { AreWithin (length map.old.measures) (G.line lines.now) }
-    requires edges { AreEdges (G.line lines.now) edges.now.starts.items edges.now.sources.items }
-    requires targets { length edges.now.starts.items ≡ length map.old.measures + 1 }
-    requires notes { AreNotes (length map.old.measures) (G.line lines.now) notes.old }
-    requires kept { IsKept map.old.bounds (G.line lines.now) map.old.measures notes.old.waits notes.old.best }
+    requires predecessors { ArePredecessorsOf (G.line lines.now) (length map.old.measures) predecessors.now }
+    requires kept { IsKeeping (G.line lines.now) map.old notes.old }
     requires room { lifted.old.count ≡ length map.old.measures }
     requires none { lifted.old.vertices ≡ [] }
     ensures bounds { map.new.bounds ≡ map.old.bounds }
     ensures size { length map.new.measures ≡ length map.old.measures }
-    ensures span { IsSameSpan notes.old notes.new }
-    ensures kept { IsKept map.old.bounds (G.line lines.now) map.new.measures notes.new.waits notes.new.best }
+    ensures span { notes.new.span ≡ notes.old.span }
+    ensures kept { IsKeeping (G.line lines.now) map.new notes.new }
     ensures room { lifted.new.count ≡ lifted.old.count }
     ensures under { StaysUnder map.old.bounds (G.line lines.now) map.old.measures map.new.measures }
     ensures quiet { MatchBool result (IsClosed map.old.bounds (G.line lines.now) map.new.measures)
@@ -109,7 +108,7 @@ pub(crate) fn lift_turn<G: Lines>(
             Some(v) => v,
             None => return true,
         };
-        lift_ready(map, lines, edges, notes, v);
+        lift_ready(map, lines, predecessors, notes, v);
         lifted.add(v);
     }
     is_quiet(map, lines, notes)
@@ -119,21 +118,18 @@ pub(crate) fn lift_turn<G: Lines>(
 pub(crate) fn lift_one<G: Lines>(
     map: &mut MeasureMap,
     lines: &G,
-    edges: &Edges,
+    predecessors: &Predecessors,
     notes: &mut Notes,
     alloc: Global,
     v: Vertex,
 ) -> Result<Option<Update>, AllocError>
     requires held { IsSome (G.line lines.now v) }
-    requires within { AreWithin (length map.old.measures) (G.line lines.now) }
-    requires edges { AreEdges (G.line lines.now) edges.now.starts.items edges.now.sources.items }
-    requires targets { length edges.now.starts.items ≡ length map.old.measures + 1 }
-    requires notes { AreNotes (length map.old.measures) (G.line lines.now) notes.old }
-    requires kept { IsKept map.old.bounds (G.line lines.now) map.old.measures notes.old.waits notes.old.best }
+    requires predecessors { ArePredecessorsOf (G.line lines.now) (length map.old.measures) predecessors.now }
+    requires kept { IsKeeping (G.line lines.now) map.old notes.old }
     ensures bounds { map.new.bounds ≡ map.old.bounds }
     ensures size { length map.new.measures ≡ length map.old.measures }
-    ensures span { IsSameSpan notes.old notes.new }
-    ensures kept { IsKept map.old.bounds (G.line lines.now) map.new.measures notes.new.waits notes.new.best }
+    ensures span { notes.new.span ≡ notes.old.span }
+    ensures kept { IsKeeping (G.line lines.now) map.new notes.new }
     ensures lifted { IfOk result (λ o. IfSome o (λ u. (u.vertex ≡ v)
         × AreLifts map.old.bounds (G.line lines.now) map.old.measures (u ∷ []) map.new.measures
         × StaysUnder map.old.bounds (G.line lines.now) map.old.measures map.new.measures)) }
@@ -144,17 +140,17 @@ pub(crate) fn lift_one<G: Lines>(
     if !notes.waits(v) {
         return Ok(None);
     }
-    if settle(map, lines, notes, v) {
+    if find_serving(map, lines, notes, v) {
         return Ok(None);
     }
     let mut measure = Measure::zero(alloc, map.bounds())?;
-    lift_ready(map, lines, edges, notes, v);
+    lift_ready(map, lines, predecessors, notes, v);
     map.copy_to(v, &mut measure);
     Ok(Some(Update { vertex: v, measure }))
 }
 
 /// Whether a measure that is lent is one of the bounds.
-fn fits(measure: View, bounds: &Bounds) -> bool
+pub fn fits(measure: View, bounds: &Bounds) -> bool
     ensures { IsTrue result ↔ Fits bounds.now (measure_in measure.entry) }
 {
     match measure {
@@ -168,20 +164,17 @@ fn fits(measure: View, bounds: &Bounds) -> bool
 pub(crate) fn receive<G: Lines>(
     map: &mut MeasureMap,
     lines: &G,
-    edges: &Edges,
+    predecessors: &Predecessors,
     notes: &mut Notes,
     vertex: u32,
     measure: View,
 ) -> Result<bool, WorkerFault>
-    requires within { AreWithin (length map.old.measures) (G.line lines.now) }
-    requires edges { AreEdges (G.line lines.now) edges.now.starts.items edges.now.sources.items }
-    requires targets { length edges.now.starts.items ≡ length map.old.measures + 1 }
-    requires notes { AreNotes (length map.old.measures) (G.line lines.now) notes.old }
-    requires kept { IsKept map.old.bounds (G.line lines.now) map.old.measures notes.old.waits notes.old.best }
+    requires predecessors { ArePredecessorsOf (G.line lines.now) (length map.old.measures) predecessors.now }
+    requires kept { IsKeeping (G.line lines.now) map.old notes.old }
     ensures bounds { map.new.bounds ≡ map.old.bounds }
     ensures size { length map.new.measures ≡ length map.old.measures }
-    ensures span { IsSameSpan notes.old notes.new }
-    ensures kept { IsKept map.old.bounds (G.line lines.now) map.new.measures notes.new.waits notes.new.best }
+    ensures span { notes.new.span ≡ notes.old.span }
+    ensures kept { IsKeeping (G.line lines.now) map.new notes.new }
     ensures ok { IsOk result ↔ ((vertex < length map.old.measures) × Fits map.old.bounds (measure_in measure.entry)) }
     ensures refused { IfErr result (λ e. e ≡ WorkerFault.BadUpdate) }
     ensures same { OnErr result (map.new ≡ map.old) }
@@ -196,5 +189,5 @@ pub(crate) fn receive<G: Lines>(
     if vertex >= map.len() || !fits(measure, map.bounds()) {
         return Err(WorkerFault::BadUpdate);
     }
-    Ok(take(map, lines, edges, notes, Vertex(vertex), measure))
+    Ok(take(map, lines, predecessors, notes, Vertex(vertex), measure))
 }

@@ -5,11 +5,18 @@ ghost use Rattle.pg_arena.specs.declared.player.Player.TheVariants.{Even};
 ghost use Rattle.pg_map.specs.Lines.{line_of};
 ghost use Rattle.pg_worker.specs.Mirrors.Parts.{HasPlace, no_head};
 
-use crate::head::Head;
 use pg_arena::{Player, Vertex};
 use pg_map::Lines;
 use std::alloc::{AllocError, Global};
 use std::marker::Model;
+
+/// The priority of a vertex, and where its successors stand; a vertex without successors isn't of the part.
+#[derive(Clone, Copy)]
+struct Head {
+    priority: u32,
+    start: u32,
+    count: u32,
+}
 
 /// The lines of a part in flat lists. Heads and owners are of the vertices from the first of the part to the last.
 #[derive(Drop)]

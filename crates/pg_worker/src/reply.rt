@@ -24,7 +24,9 @@ pub fn put_report(status: u8, code: u8, out: &mut Vec<u8>) -> Result<(), AllocEr
     out.extend_from_slice(&[0, 0, 0, 3, 5, status, code])
 }
 
-fn push(
+/// Appends the measure of a vertex to a frame; false where the frame would be longer than a frame may be. Where it answers false
+/// or memory runs out, all is as before.
+pub fn push(
     writer: &mut ValuesWriter,
     v: Vertex,
     measure: View,

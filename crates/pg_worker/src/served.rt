@@ -1,4 +1,4 @@
-//! How serving ended.
+//! How serving ended, and what each of its steps did.
 
 /// How serving ended, and how many frames were read, Halt included.
 #[derive(Clone, Copy, Debug, PartialEq, Eq)]
@@ -9,4 +9,14 @@ pub enum Served {
     InputEnded(u32),
     /// 4,294,967,295 frames were read.
     Bound,
+}
+
+/// What one step of serving did.
+pub enum Step {
+    /// There was no frame left.
+    Ended,
+    /// The frame was Halt.
+    Halted,
+    /// The frame was answered.
+    Answered,
 }

@@ -6,14 +6,13 @@ ghost use Rattle.pg_wire.specs.declared.fault.WireFault.TheVariants.{Write};
 ghost use Rattle.pg_worker.specs.declared.fault.WorkerFault.TheVariants.{Wire};
 ghost use Rattle.pg_worker.specs.Faults.{code_of};
 ghost use Rattle.pg_worker.specs.Turns.{report};
-ghost use Rattle.pg_worker.specs.Serving.{Serves, Breaks, told, IsFaultAt};
+ghost use Rattle.pg_worker.specs.Serving.{Serves, Breaks, report_bytes, IsFaultAt};
 ghost use Rattle.pg_worker.specs.Mirrors.Steps.{IsStep};
 
 use crate::WorkerFault;
 use crate::fault::own;
-use crate::served::Served;
+use crate::served::{Served, Step};
 use crate::session::Session;
-use crate::step::Step;
 use pg_wire::{Frame, Report, WireFault, read_frame_bytes, write_frame};
 use std::alloc::Global;
 use std::io::{Read, Write};
@@ -51,7 +50,7 @@ fn step<R: Read, W: Write>(
 
 /// Writes the report of a fault, if it has one, and gives the fault that serving ends with.
 fn tell<W: Write>(fault: WorkerFault, output: &mut W) -> WorkerFault
-    ensures { ((result ≡ fault) × Appends (W.contents output.old) (W.contents output.new) (told fault))
+    ensures { ((result ≡ fault) × Appends (W.contents output.old) (W.contents output.new) (report_bytes fault))
         ⊎ (result ≡ Wire Write) }
 {
     match fault {

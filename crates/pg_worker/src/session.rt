@@ -7,8 +7,8 @@ ghost use Rattle.pg_worker.specs.Turns.{Turn, IsUpTo, Refuses, DoesTurn, SpellsR
 
 use crate::WorkerFault;
 use crate::held::{Held, hold};
-use crate::turn::{turn, turn_of, turn_of_rows};
-use pg_wire::Frame;
+use crate::turn::{turn_of, turn_of_rows};
+use pg_wire::{Frame, encode};
 use std::alloc::Global;
 
 /// A worker that is told what to do by frames, and answers by frames. Before a set-up, after Halt and after a refusal it holds
@@ -49,8 +49,8 @@ impl Session {
     /// lifted, each once, rising, and a report.
     ///
     /// Faults: `Wire(Version)` for a set-up of a version above the session's highest; `Order` for a frame out of turn, and for
-    /// vertices that don't rise; `BadUpdate` for lines, a width or values that don't fit the game; `OutOfMemory`. After a fault
-    /// `out` is as before, and the session holds nothing.
+    /// vertices that don't rise; `BadUpdate` for lines, a width or values that don't fit the game; `OutOfMemory`, also for a frame
+    /// that is too long to be spelled. After a fault `out` is as before, and the session holds nothing.
     pub fn frame(&mut self, frame: &Frame, out: &mut Vec<u8>) -> Result<bool, WorkerFault>
         requires { IsWell frame.now }
         ensures highest { self.new.highest ≡ self.old.highest }
@@ -63,15 +63,11 @@ impl Session {
         ensures same { OnErr result (out.new.items ≡ out.old.items) }
         ensures empty { OnErr result (self.new.held ≡ None) }
     {
-        let len = out.len();
-        match turn(self.alloc, self.highest, &mut self.held, frame, out) {
-            Ok(()) => Ok(matches!(frame, Frame::Halt)),
-            Err(fault) => {
-                hold(&mut self.held, None);
-                out.truncate(len);
-                Err(fault)
-            }
-        }
+        let Ok(bytes) = encode(self.alloc, frame) else {
+            hold(&mut self.held, None);
+            return Err(WorkerFault::OutOfMemory);
+        };
+        self.frame_from(&bytes, out)
     }
 
     /// As `frame`, for the frame that the bytes spell, all of them. Measures are read from the bytes, one after the other and

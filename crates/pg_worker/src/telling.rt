@@ -10,7 +10,7 @@ ghost use Rattle.pg_worker.specs.Workers.{told_line};
 
 use pg_arena::{Game, Player, Vertex};
 use pg_measure::Bounds;
-use pg_wire::{LineHead, Rows, Setup, VertexLine};
+use pg_wire::{Items, LineHead, Setup, VertexLine};
 use std::alloc::{AllocError, Global};
 
 /// What sets a worker up for a game with these bounds, by version 1 or 2 of the wire format.
@@ -33,7 +33,7 @@ pub fn setup_of(
     Ok(Setup {
         version,
         vertices,
-        bounds: Rows::new(pairs),
+        bounds: Items::new(pairs),
     })
 }
 
@@ -83,6 +83,6 @@ pub fn line_of(alloc: Global, game: &Game, v: Vertex) -> Result<VertexLine, Allo
         vertex: head.vertex,
         priority: head.priority,
         owner: head.owner,
-        successors: Rows::new(successors),
+        successors: Items::new(successors),
     })
 }

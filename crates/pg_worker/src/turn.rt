@@ -1,23 +1,20 @@
 //! The turn of each kind of frame.
 
 ghost use Rattle.std.specs.Prelude.{◌≡◌, ◌≤◌, ◌↔◌, ℕ, ◌++◌, ◌⊎◌, IsTrue, false, List, [], None, Some, length, MatchBool, OnErr, OnOk, IfOk, IfErr};
-ghost use Rattle.pg_wire.specs.Well.{IsWell, IsSetup, IsVertices, IsSparse};
-ghost use Rattle.pg_wire.specs.declared.kind.ValueKind.TheVariants.{Dense, Sparse};
+ghost use Rattle.pg_wire.specs.Well.{IsWell, IsSetup};
 ghost use Rattle.pg_wire.specs.declared.frame.Frame.TheVariants as frames;
 ghost use Rattle.pg_wire.specs.Mirrors.Buffers.{Extends};
-ghost use Rattle.pg_worker.specs.Turns.{Turn, IsUpTo, Refuses, TakesValues, RefusesValues, LiftsAndTells, kind_of, fresh, greeting, DoesTurn, SpellsRows, RefusesBytes};
+ghost use Rattle.pg_worker.specs.Turns.{Turn, IsUpTo, Refuses, TakesValues, RefusesValues, LiftsAndTells, kind_of, fresh, greeting, DoesTurn, HasRows, SpellsRows, RefusesBytes};
 ghost use Rattle.pg_wire.specs.Left.{IsLeft};
-ghost use Rattle.pg_wire.specs.Measured.{Measured, told_values, told_sparse};
+ghost use Rattle.pg_wire.specs.Measured.{Measured};
 
 use crate::fault::own;
 use crate::held::{Held, hold};
-use crate::joins::{join_read, join_sparse, join_values};
+use crate::joins::join_read;
 use crate::lines::add_read_lines;
 use crate::reply::{put_lifted, put_report};
 use crate::{Worker, WorkerFault};
-use pg_wire::{
-    Frame, Setup, ValueKind, Values, ValuesReader, Vertices, VerticesReader, WireFault, decode,
-};
+use pg_wire::{Frame, Setup, ValueKind, ValuesReader, VerticesReader, WireFault, decode};
 use std::alloc::Global;
 
 /// Answers a set-up, and tells the kind of frames in which values go under its version.
@@ -57,55 +54,7 @@ fn set_up(alloc: Global, highest: u8, setup: &Setup, out: &mut Vec<u8>) -> Resul
     })
 }
 
-fn add_lines(held: &mut Held, vertices: &Vertices) -> Result<(), WorkerFault>
-    requires { IsVertices vertices.now }
-    ensures turn { OnOk result (Turn (Some held.old) (frames.Vertices vertices.now) (Some held.new) []) }
-    ensures refused { IfErr result (λ e. (e ≡ WorkerFault.OutOfMemory)
-        ⊎ Refuses 0 (Some held.old) (frames.Vertices vertices.now) e) }
-{
-    if held.is_started {
-        return Err(WorkerFault::Order);
-    }
-    held.worker.add_vertices(vertices.lines.as_slice())?;
-    Ok(())
-}
-
-fn take_values(held: &mut Held, frame: &Values) -> Result<(), WorkerFault>
-    ensures turn { OnOk result (TakesValues held.old Dense frame.now.width (told_values frame.now.values)
-        (Some held.new)) }
-    ensures refused { IfErr result (λ e. RefusesValues held.old Dense frame.now.width
-        (told_values frame.now.values) e) }
-{
-    if held.kind != ValueKind::Dense {
-        return Err(WorkerFault::Order);
-    }
-    if held.worker.bounds().pairs().len() != frame.width as usize {
-        return Err(WorkerFault::BadUpdate);
-    }
-    join_values(&mut held.worker, frame.values.as_slice())?;
-    held.is_started = true;
-    Ok(())
-}
-
-fn take_sparse(held: &mut Held, frame: &pg_wire::Sparse) -> Result<(), WorkerFault>
-    requires { IsSparse frame.now }
-    ensures turn { OnOk result (TakesValues held.old Sparse frame.now.width
-        (told_sparse frame.now.width frame.now.values) (Some held.new)) }
-    ensures refused { IfErr result (λ e. RefusesValues held.old Sparse frame.now.width
-        (told_sparse frame.now.width frame.now.values) e) }
-{
-    if held.kind != ValueKind::Sparse {
-        return Err(WorkerFault::Order);
-    }
-    if held.worker.bounds().pairs().len() != frame.width as usize {
-        return Err(WorkerFault::BadUpdate);
-    }
-    join_sparse(&mut held.worker, frame.values.as_slice())?;
-    held.is_started = true;
-    Ok(())
-}
-
-/// As `take_values` and `take_sparse`, of the measures that are left of a frame.
+/// Joins the worker's map with the measures that are left of a frame.
 fn take_read(held: &mut Held, values: ValuesReader) -> Result<(), WorkerFault>
     ensures turn { (ms : List Measured) → IsLeft values.entry ms
         → OnOk result (TakesValues held.old values.entry.kind values.entry.width ms (Some held.new)) }
@@ -137,19 +86,21 @@ fn lift(held: &mut Held, budget: u32, out: &mut Vec<u8>) -> Result<(), WorkerFau
     Ok(())
 }
 
-/// Does the turn of a frame on what is held; the reply is appended. After a fault some of it may stand in `out`, and nothing
-/// is said of what is held.
-pub fn turn(
+/// Does the turn of a frame that has no rows on what is held, and tells whether it is Halt; the reply is appended. After a fault
+/// some of it may stand in `out`, and nothing is said of what is held.
+fn turn(
     alloc: Global,
     highest: u8,
     held: &mut Option<Held>,
     frame: &Frame,
     out: &mut Vec<u8>,
-) -> Result<(), WorkerFault>
-    requires { IsWell frame.now }
+) -> Result<bool, WorkerFault>
+    requires well { IsWell frame.now }
+    requires no_rows { ¬ (HasRows frame.now) }
     ensures version { OnOk result (IsUpTo highest frame.now) }
     ensures turn { OnOk result ((reply : List ℕ) × Turn held.old frame.now held.new reply
         × (out.new.items ≡ out.old.items ++ reply)) }
+    ensures halt { IfOk result (λ halts. IsTrue halts ↔ (frame.now ≡ frames.Halt)) }
     ensures refused { IfErr result (λ e. (e ≡ WorkerFault.OutOfMemory) ⊎ Refuses highest held.old frame.now e) }
     ensures kept { Extends out.old.items out.new.items }
 {
@@ -158,37 +109,20 @@ pub fn turn(
             // its memory is there for the new worker
             hold(held, None);
             hold(held, Some(set_up(alloc, highest, setup, out)?));
-            Ok(())
+            Ok(false)
         }
         Frame::Halt => {
             hold(held, None);
-            Ok(())
-        }
-        Frame::Vertices(vertices) => {
-            let Some(held) = held else {
-                return Err(WorkerFault::Order);
-            };
-            add_lines(held, vertices)
-        }
-        Frame::Values(values) => {
-            let Some(held) = held else {
-                return Err(WorkerFault::Order);
-            };
-            take_values(held, values)
-        }
-        Frame::Sparse(values) => {
-            let Some(held) = held else {
-                return Err(WorkerFault::Order);
-            };
-            take_sparse(held, values)
+            Ok(true)
         }
         Frame::Go(go) => {
             let Some(held) = held else {
                 return Err(WorkerFault::Order);
             };
-            lift(held, go.budget, out)
+            lift(held, go.budget, out)?;
+            Ok(false)
         }
-        Frame::Report(_) => Err(WorkerFault::Order),
+        _ => Err(WorkerFault::Order),
     }
 }
 
@@ -242,11 +176,8 @@ pub fn turn_of(
     if turn_of_rows(alloc, held, bytes)? {
         return Ok(false);
     }
-    let frame = match decode(alloc, bytes) {
-        Ok(frame) => frame,
-        Err(fault) => return Err(own(fault)),
-    };
-    let halts = matches!(frame, Frame::Halt);
-    turn(alloc, highest, held, &frame, out)?;
-    Ok(halts)
+    match decode(alloc, bytes) {
+        Ok(frame) => turn(alloc, highest, held, &frame, out),
+        Err(fault) => Err(own(fault)),
+    }
 }

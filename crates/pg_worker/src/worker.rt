@@ -1,26 +1,24 @@
 //! Workers.
 
 ghost use Rattle.std.specs.Prelude.{◌≡◌, ◌↔◌, ◌+◌, ◌<◌, ◌≤◌, ◌⊎◌, [], ◌∷◌, true, length, All, IfOk, IfErr, IfSome, IfNone, IsOk, OnOk, OnErr, IsTrue, IsSome, vec_capacity};
-ghost use Rattle.std.specs.Option.{option_copied};
 ghost use Rattle.pg_wire.specs.Lines.{line_with};
-ghost use Rattle.pg_wire.specs.Well.{IsSetup, IsVertices, ArePlaces};
+ghost use Rattle.pg_wire.specs.Well.{IsSetup, IsVertices};
 ghost use Rattle.pg_measure.specs.Measures.{Fits};
 ghost use Rattle.pg_measure.specs.Views.{measure_in};
 ghost use Rattle.pg_map.specs.Maps.{measure_at, zero_map, IsServed};
 ghost use Rattle.pg_map.specs.Lines.{AreWithin};
-ghost use Rattle.pg_lift.specs.Mirrors.Edges.{AreEdges, edges_of};
+ghost use Rattle.pg_lift.specs.Mirrors.Predecessors.{ArePredecessorsOf, edges_of};
 ghost use Rattle.pg_worker.specs.Mirrors.Insides.{AreReady};
 ghost use Rattle.pg_worker.specs.Mirrors.Parts.{held_line};
-ghost use Rattle.pg_worker.specs.Workers.{part_line, new_worker, with_lines, AreAbove, FitsGame, IsWorker, RefusesLines, CanTake, Takes, Lifts, IsTurn, IsListedTurn, sparse_measure};
+ghost use Rattle.pg_worker.specs.Workers.{part_line, new_worker, with_lines, AreAbove, FitsGame, IsWorker, RefusesLines, CanTake, Takes, Lifts, IsTurn, IsListedTurn};
 
 use crate::adding::{add_line, add_lines, are_from, count_edges, fit_game, fits_line, make_room};
 use crate::lifting::{lift_one, lift_some, lift_turn, receive};
-use crate::listing::Listing;
 use crate::part::Part;
-use crate::sparse::fill;
+use crate::vertex_set::VertexSet;
 use crate::{Lifted, WorkerFault};
 use pg_arena::Vertex;
-use pg_lift::{Edges, Notes};
+use pg_lift::{Notes, Predecessors};
 use pg_map::{Lines, MeasureMap, Update, View};
 use pg_measure::Bounds;
 use pg_wire::{LineHead, Setup, VertexLine};
@@ -34,15 +32,13 @@ use std::mem;
 pub struct Worker {
     map: MeasureMap,
     part: Part,
-    edges: Edges,
+    predecessors: Predecessors,
     /// What is remembered of the vertices of the part, and which of them have to be looked at; the others are served.
     notes: Notes,
     /// One more than the greatest vertex of the part, or 0.
     next: u64,
-    /// A measure's components, all 0 between calls.
-    row: Vec<u32>,
     kept: Vec<Update>,
-    lifted: Listing,
+    lifted: VertexSet,
 }
 
 impl Model for Worker {
@@ -54,20 +50,19 @@ impl Model for Worker {
 
     ghost view = { λ w. record { bounds = w.map.bounds; lines = w.part.lines; map = w.map.measures; kept = w.kept.items; lifted = w.lifted.vertices } };
 
-    ghost invariant = { λ w. IsWhole w.part w.map w.edges w.notes w.next w.lifted.count w.row.items };
+    ghost invariant = { λ w. IsWhole w.part w.map w.predecessors w.notes w.next w.lifted.count };
 }
 
 /// Gathers the edges of a part.
-fn gather(edges: &mut Edges, part: &Part, map: &MeasureMap)
+fn gather(predecessors: &mut Predecessors, part: &Part, map: &MeasureMap)
     requires within { AreWithin (length map.now.measures) (held_line part.now) }
     requires count { edges_of (held_line part.now) (length map.now.measures) ≡ part.now.edges }
-    requires ready { AreReady part.now map.now edges.old }
-    ensures size { length edges.new.starts.items ≡ length map.now.measures + 1 }
-    ensures room { vec_capacity edges.new.sources ≡ vec_capacity edges.old.sources }
-    ensures edges { AreEdges (held_line part.now) edges.new.starts.items edges.new.sources.items }
-    ensures before { edges.new.was_gathered ≡ true }
+    requires ready { AreReady part.now map.now predecessors.old }
+    ensures room { vec_capacity predecessors.new.sources ≡ vec_capacity predecessors.old.sources }
+    ensures predecessors { ArePredecessorsOf (held_line part.now) (length map.now.measures) predecessors.new }
+    ensures before { predecessors.new.was_gathered ≡ true }
 {
-    edges.gather(part, map.len());
+    predecessors.gather(part, map.len());
 }
 
 /// The map of a new worker.
@@ -89,19 +84,17 @@ impl Worker {
         ensures memory { IfErr result (λ e. e ≡ WorkerFault.OutOfMemory) }
     {
         let vertices = setup.vertices;
-        let row = vec![in alloc; 0; setup.bounds.as_slice().len()]?;
-        let lifted = Listing::new(alloc, vertices)?;
-        let edges = Edges::new(alloc, vertices)?;
+        let lifted = VertexSet::new(alloc, vertices)?;
+        let predecessors = Predecessors::new(alloc, vertices)?;
         let notes = Notes::new(alloc, vertices)?;
         let map = zeros(alloc, setup)?;
         let part = Part::new(alloc, vertices);
         Ok(Worker {
             map,
             part,
-            edges,
+            predecessors,
             notes,
             next: 0,
-            row,
             kept: Vec::new(alloc),
             lifted,
         })
@@ -133,31 +126,27 @@ impl Worker {
         let to = lines[lines.len() - 1].vertex;
         let count = count_edges(lines).ok_or(AllocError)?;
         make_room(
-            &mut self.edges,
+            &mut self.predecessors,
             &mut self.notes,
             &mut self.part,
             from,
             to,
             count,
         )?;
-        self.edges.is_gathered = false;
+        self.predecessors.is_gathered = false;
         add_lines(
             &self.map,
             &mut self.part,
             &mut self.notes,
             &mut self.next,
             lines,
-            !self.edges.was_gathered,
+            !self.predecessors.was_gathered,
         );
         Ok(())
     }
 
     /// As `add_vertices`, of one vertex by its head and its successors.
-    pub(crate) fn add_vertex(
-        &mut self,
-        head: LineHead,
-        successors: &[u32],
-    ) -> Result<(), WorkerFault>
+    pub fn add_vertex(&mut self, head: LineHead, successors: &[u32]) -> Result<(), WorkerFault>
         requires { 0 < length successors.now }
         ensures added { OnOk result (self.new ≡ record self.old {
           lines = with_lines self.old.lines (line_with head successors.now ∷ []);
@@ -178,21 +167,21 @@ impl Worker {
         }
         let count = successors.len();
         make_room(
-            &mut self.edges,
+            &mut self.predecessors,
             &mut self.notes,
             &mut self.part,
             vertex,
             vertex,
             count,
         )?;
-        self.edges.is_gathered = false;
+        self.predecessors.is_gathered = false;
         add_line(
             &self.map,
             &mut self.part,
             &mut self.notes,
             head,
             successors,
-            !self.edges.was_gathered,
+            !self.predecessors.was_gathered,
         );
         self.next = u64::from(vertex) + 1;
         Ok(())
@@ -216,46 +205,15 @@ impl Worker {
         ensures refused { IfErr result (λ e. e ≡ WorkerFault.BadUpdate) }
         ensures same { OnErr result (self.new ≡ self.old) }
     {
-        gather(&mut self.edges, &self.part, &self.map);
+        gather(&mut self.predecessors, &self.part, &self.map);
         receive(
             &mut self.map,
             &self.part,
-            &self.edges,
+            &self.predecessors,
             &mut self.notes,
             vertex,
             measure,
         )
-    }
-
-    /// As `take`, with a vertex number and the components that aren't 0: each place with the number there. No pairs is top.
-    pub fn take_sparse(
-        &mut self,
-        vertex: u32,
-        pairs: Option<&[(u32, u32)]>,
-    ) -> Result<bool, WorkerFault>
-        requires { IfSome (option_copied pairs) (ArePlaces (length self.old.bounds)) }
-        ensures taken { IfOk result (Takes self.old self.new vertex
-            (sparse_measure (length self.old.bounds) (option_copied pairs.entry))) }
-        ensures ok { IsOk result ↔ CanTake self.old vertex
-            (sparse_measure (length self.old.bounds) (option_copied pairs.entry)) }
-        ensures refused { IfErr result (λ e. e ≡ WorkerFault.BadUpdate) }
-        ensures same { OnErr result (self.new ≡ self.old) }
-    {
-        let Some(pairs) = pairs else {
-            return self.take_value(vertex, View::Top);
-        };
-        gather(&mut self.edges, &self.part, &self.map);
-        fill(&mut self.row, pairs);
-        let answer = receive(
-            &mut self.map,
-            &self.part,
-            &self.edges,
-            &mut self.notes,
-            vertex,
-            View::List(&self.row),
-        );
-        self.row.fill(0);
-        answer
     }
 
     /// Lifts a vertex of the part. None if it is served. It is refused by NotMine exactly outside the part, and else for want
@@ -270,7 +228,7 @@ impl Worker {
             ⊎ ((e ≡ WorkerFault.NotMine) × ¬ (IsSome (part_line self.old.lines v)))) }
         ensures same { OnErr result (self.new ≡ self.old) }
     {
-        gather(&mut self.edges, &self.part, &self.map);
+        gather(&mut self.predecessors, &self.part, &self.map);
         if !self.part.holds(v) {
             return Err(WorkerFault::NotMine);
         }
@@ -278,7 +236,7 @@ impl Worker {
         let update = lift_one(
             &mut self.map,
             &self.part,
-            &self.edges,
+            &self.predecessors,
             &mut self.notes,
             alloc,
             v,
@@ -295,12 +253,12 @@ impl Worker {
         ensures broken_off { OnErr result (Lifts self.old self.new self.new.kept × (length self.new.kept ≤ budget)) }
         ensures lifted { self.new.lifted ≡ self.old.lifted }
     {
-        gather(&mut self.edges, &self.part, &self.map);
+        gather(&mut self.predecessors, &self.part, &self.map);
         self.kept.clear();
         let quiet = lift_some(
             &mut self.map,
             &self.part,
-            &self.edges,
+            &self.predecessors,
             &mut self.notes,
             &mut self.kept,
             budget,
@@ -315,12 +273,12 @@ impl Worker {
     pub fn lift_turn(&mut self, budget: u32) -> bool
         ensures { IsListedTurn self.old self.new budget result }
     {
-        gather(&mut self.edges, &self.part, &self.map);
+        gather(&mut self.predecessors, &self.part, &self.map);
         self.lifted.clear();
         let quiet = lift_turn(
             &mut self.map,
             &self.part,
-            &self.edges,
+            &self.predecessors,
             &mut self.notes,
             &mut self.lifted,
             budget,

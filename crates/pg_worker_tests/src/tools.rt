@@ -3,7 +3,7 @@
 use pg_arena::Vertex;
 use pg_map::{Update, View};
 use pg_measure::Measure;
-use pg_wire::{Frame, Numbers, Pairs, Rows, Setup, VertexLine, Vertices, WireFault};
+use pg_wire::{Frame, Items, Numbers, Pairs, Setup, VertexLine, Vertices, WireFault};
 use pg_worker::{Lifted, Worker, WorkerFault};
 use std::alloc::{AllocError, Global};
 use std::test::Fail;
@@ -34,7 +34,7 @@ fn vertices(alloc: Global, vertices: &[(u32, u32)]) -> Result<Frame, AllocError>
         lines.push(line(alloc, *vertex, *priority)?)?;
     }
     Ok(Frame::Vertices(Vertices {
-        lines: Rows::new(lines),
+        lines: Items::new(lines),
     }))
 }
 
@@ -181,12 +181,4 @@ pub fn stays(worker: &mut Worker, v: u32, to: View) -> bool {
 /// Whether this measure is refused by BadUpdate.
 pub fn is_bad(worker: &mut Worker, v: u32, to: View) -> bool {
     worker.take_value(v, to) == Err(WorkerFault::BadUpdate)
-}
-
-/// Takes the measure of a vertex whose last component alone isn't 0. True exactly if it rose.
-pub fn take_last(worker: &mut Worker, v: u32, number: u32) -> Result<bool, WorkerFault> {
-    if worker.bounds().pairs().len() != 2 || number == 0 {
-        return Err(WorkerFault::Order);
-    }
-    worker.take_sparse(v, Some(&[(1, number)]))
 }

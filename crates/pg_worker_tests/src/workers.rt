@@ -2,7 +2,7 @@
 
 use crate::tools::{
     add, are, has, idle, is_bad, is_foreign, is_served, lifts_to, lifts_twice, passes, refuses,
-    rests, rises, stays, take_last, take_top, turns,
+    rests, rises, stays, take_top, turns,
 };
 use pg_arena::Vertex;
 use pg_map::View;
@@ -110,21 +110,6 @@ fn takes_what_fits(worker: &mut Worker) -> bool {
 #[test]
 fn values_that_do_not_fit_are_refused(rt: HostRuntime) -> Result<(), Fail> {
     assert!(rt; passes(rt.alloc(), &[(0, 1), (1, 3)], takes_what_fits)?);
-    Ok(())
-}
-
-/// Whether values are taken that are given by the components that aren't 0.
-fn takes_sparse_values(worker: &mut Worker) -> bool {
-    take_last(worker, 1, 2) == Err(WorkerFault::BadUpdate)
-        && take_last(worker, 1, 1) == Ok(true)
-        && take_last(worker, 1, 1) == Ok(false)
-        && worker.take_sparse(0, None) == Ok(true)
-        && are(worker, View::Top, View::List(&[0, 1]))
-}
-
-#[test]
-fn sparse_values_are_taken(rt: HostRuntime) -> Result<(), Fail> {
-    assert!(rt; passes(rt.alloc(), &[(0, 1)], takes_sparse_values)?);
     Ok(())
 }
 

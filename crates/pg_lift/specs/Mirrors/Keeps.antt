@@ -1,12 +1,13 @@
 -- What a worker remembers of its vertices: a successor of each, and which vertices wait to be looked at.
-use Rattle.std.specs.Prelude.{◌≡◌, ◌≢◌, ℕ, ◌⊎◌, Bool, false, List, All, Any, Option, IsSome, slice_index_or}
+use Rattle.std.specs.Prelude.{◌≡◌, ◌≢◌, ℕ, ◌⊎◌, Bool, true, false, List, length, All, Any, Option, IsSome, slice_index_or, slice_set}
 use Rattle.pg_arena.specs.declared.player.Player.{Player}
 use Rattle.pg_arena.specs.declared.player.Player.TheVariants.{Even, Odd}
 use Rattle.pg_measure.specs.Measures.{BoundList, MeasureValue, Covers, width_from}
 use Rattle.pg_measure.specs.Mirrors.Rows.{FrontAtMost}
 use Rattle.pg_map.specs.Lines.{Line, line_at}
-use Rattle.pg_map.specs.Maps.{measure_at, IsServedBy}
+use Rattle.pg_map.specs.Maps.{MapValue, measure_at, IsServedBy}
 use Rattle.pg_map.specs.Mirrors.Tables.{IsBest}
+use Rattle.pg_lift.specs.Mirrors.Notes.{NotesValue, AreNotes}
 
 -- u is one of the vertices
 abbrev pub IsAmong : ℕ → List ℕ → Type 0
@@ -63,3 +64,14 @@ pub record IsReady (bounds : BoundList) (lines : ℕ → Option Line) (f : List 
   pub held : IsSome (lines v)
   pub foremost : IsBest (line_at lines v).owner (width_from bounds (line_at lines v).priority) f (line_at lines v).successors (slice_index_or kept v 0)
   pub unserved : ¬ (IsServedBy bounds lines f v (slice_index_or kept v 0))
+
+-- the notes are those of the lines, and all is kept of them
+pub record IsKeeping (lines : ℕ → Option Line) (map : MapValue) (notes : NotesValue) : Type 0 where
+  pub noted : AreNotes (length map.measures) lines notes
+  pub kept : IsKept map.bounds lines map.measures notes.waits notes.best
+
+-- the same, if v, which is ready, waited again
+pub record IsDue (lines : ℕ → Option Line) (map : MapValue) (notes : NotesValue) (v : ℕ) : Type 0 where
+  pub noted : AreNotes (length map.measures) lines notes
+  pub ready : IsReady map.bounds lines map.measures notes.best v
+  pub kept : IsKept map.bounds lines map.measures (slice_set notes.waits v true) notes.best

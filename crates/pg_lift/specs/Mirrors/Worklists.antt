@@ -13,7 +13,7 @@ pub record IsWorklist (stack next : List ℕ) (marked : List Bool) (room next_ro
   pub next_fits : length marked ≤ next_room
 
 -- the numbers are apart, those that are marked, and there is room for all
-pub record IsListing (numbers : List ℕ) (marked : List Bool) (room : ℕ) : Type 0 where
+pub record IsVertexSet (numbers : List ℕ) (marked : List Bool) (room : ℕ) : Type 0 where
   pub size : length numbers ≡ count_by (λ b. b) marked
   pub each : (v : ℕ) → times v numbers ≡ cond (slice_index_or marked v false) 1 0
   pub fits : length marked ≤ room

@@ -6,7 +6,7 @@ use Rattle.pg_arena.specs.declared.player.Player.{Player}
 use Rattle.pg_arena.specs.declared.player.Player.TheVariants.{Even}
 use Rattle.pg_map.specs.Lines.{Line, line_of}
 use Rattle.pg_worker.specs.Workers.{part_line}
-use Rattle.pg_worker.specs.declared.head.Head.{Head}
+use Rattle.pg_worker.specs.declared.part.Head.{Head}
 
 -- the lines by vertex, how many successors they have in all, and for how many there is room; and for how many vertices from
 -- `first` on there is room for a head and for an owner

@@ -5,8 +5,8 @@ use Rattle.pg_wire.specs.declared.frame.Frame.{Frame}
 use Rattle.pg_wire.specs.declared.frame.Frame.TheVariants as frames
 use Rattle.pg_wire.specs.Spelling.{spelling}
 use Rattle.pg_wire.specs.Bytes.{Spells}
-use Rattle.pg_worker.specs.declared.step.Step.{Step}
-use Rattle.pg_worker.specs.declared.step.Step.TheVariants as steps
+use Rattle.pg_worker.specs.declared.served.Step.{Step}
+use Rattle.pg_worker.specs.declared.served.Step.TheVariants as steps
 use Rattle.pg_worker.specs.Turns.{HeldValue, Turn}
 
 -- a well frame was read and answered

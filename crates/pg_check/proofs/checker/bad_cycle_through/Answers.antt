@@ -1,4 +1,4 @@
-use Rattle.std.proofs.Common.{rules, ℕ, List, Option, Some, None, Result, Ok, Err, IfOk, IfSome}
+use Rattle.std.proofs.Common.{rules, ℕ, List, Option, Some, Result, Ok, IfOk, IfSome}
 use Rattle.std.specs.declared.vec.Vec.{Vec}
 use Rattle.std.specs.declared.alloc.Global.{Global}
 use Rattle.std.specs.declared.alloc.AllocError.{AllocError}
@@ -13,8 +13,7 @@ found_bad : (game : List GameVertex) (solution : List Answer) (v : ℕ) (r : Res
     → IfOk r (λ found. IfSome found (λ cycle. IsSimpleCycle game solution v cycle.items))
     → IfOk r (λ found. IfSome found (λ cycle. IsSimpleBadCycle game solution cycle.items))
 found_bad game solution v (Ok (Some cycle)) lost h = bad_cycle_of game solution v cycle.items lost h
-found_bad game solution v (Ok None) lost h = tt
-found_bad game solution v (Err e) lost h = tt
+found_bad game solution v _ lost h = tt
 
 pub returns-clause-some : goal.returns-clause-some
 returns-clause-some c =

@@ -1,20 +1,14 @@
-use Rattle.std.proofs.Common.{◌≡◌, ◌<◌, get_or, ap, sym, subst, arith, ◌∙◌, inl, inr}
+use Rattle.std.proofs.Common.{◌<◌, sym, subst, arith, inl, inr}
 use Rattle.std.proofs.lemmas.Bool.{cases_eq}
-use Rattle.std.proofs.lemmas.List.{get_or_default}
 use Rattle.pg_jump.specs.Mirrors.Checks.{ServesInside}
-use Rattle.pg_jump.proofs.Exits.{false_not_true}
+use Rattle.pg_jump.proofs.Exits.{false_not_true, read_item}
 use Rattle.pg_jump.proofs.part.one_serves.Goals as goal
 
 pub loop-w-preserved : goal.loop-w-preserved
 loop-w-preserved g c = λ k d lt h.
-    let ss = c.args.successors.now in
-    let i = c.loop-w.w-index in
-    let w = c.w-item.result in
     let P = ServesInside c.args.map.now.bounds (g.G.Lines.line c.args.lines.now) c.args.map.now.measures c.args.part.now c.args.v in
-    elim (cases_eq k i) [
-      | inl e ↦
-          let here : get_or ss k d ≡ w = ap (λ j. get_or ss j d) e ∙ (get_or_default ss i d w c.loop-w-test.true ∙ sym c.w-item.is) in
-          false_not_true (c.if-serves_inside.ensures.1 (subst P here h))
+    elim (cases_eq k c.loop-w.w-index) [
+      | inl e ↦ false_not_true (c.if-serves_inside.ensures.1 (subst P (read_item c.args.successors.now k c.loop-w.w-index d c.w-item.result e c.loop-w-test.true c.w-item.is) h))
       | inr ne ↦ c.loop-w.invariant k d (omega (arith, ne)) h
     ]
 

@@ -1,10 +1,12 @@
 use Rattle.std.proofs.Common.{length}
+use Rattle.std.proofs.lemmas.Result.{IfOk-weaker}
 use Rattle.pg_map.specs.Lines.{game_line}
-use Rattle.pg_solver.proofs.Sides.{least_of_side}
+use Rattle.pg_map.specs.Maps.{MapValue}
+use Rattle.pg_solver.proofs.Sides.{least_from_zeros}
 use Rattle.pg_solver.proofs.solver.measure.Goals as goal
 
 pub returns-clause-least : goal.returns-clause-least
 returns-clause-least c =
     let game = c.args.game.now in
-    least_of_side c.in_ok-side.side.map.bounds (game_line game) (length game) c.lift_game.new.side c.map_at_end.result
-    c.in_ok-lift_game.ensures.side c.in_ok-lift_game.ensures.quiet c.map_at_end.ensures.map c.map_at_end.ensures.fits
+    IfOk-weaker c.lift_from.result _ _ (λ (m : MapValue) e. least_from_zeros (game_line game) (length game) c.in_ok-zero.zero m c.in_ok-zero.ensures.zeros e)
+    c.lift_from.ensures

@@ -1,5 +1,5 @@
-use Rattle.std.proofs.Common.{ℕ, List, ◌≡◌, ◌<◌, ◌∷◌, ◌++◌, [], ◌+◌, ◌∙◌, length, take, drop, get_or, set, ◌≤◌, sym, ap, subst, arith, Some}
-use Rattle.std.specs.Prelude.{sum_by}
+use Rattle.std.proofs.Common.{◌≡◌, ◌<◌, ◌∷◌, ◌++◌, [], ◌+◌, ◌∙◌, length, take, drop, get_or, set, ◌≤◌, sym, ap, subst, arith, Some}
+use Rattle.std.specs.Prelude.{All, sum_by}
 use Rattle.std.proofs.lemmas.List.{get_or_default, drop_all}
 use Rattle.std.proofs.lemmas.Grind.{take_at_read}
 use Rattle.std.proofs.lemmas.List.Sums.{sum_by-drop_more}
@@ -12,9 +12,32 @@ use Rattle.pg_lift.proofs.Noting.{room_still}
 use Rattle.pg_worker.specs.Mirrors.Insides.{IsNext, edge_count}
 use Rattle.pg_worker.proofs.Working.{next_after, with_lines_more}
 use Rattle.pg_worker.proofs.adding.add_lines.Goals as goal
+use Rattle.pg_worker.proofs.adding.add_lines.Goals.{After-as_slice}
+
+-- what is asked of each line, of this one
+of_line : (c : After-as_slice) (P : VertexLine → Type 0) → All P c.args.lines.now → P c.line-item.result
+of_line c P all = subst P (sym c.line-item.is) (all c.loop-line.line-index c.line-item.result c.loop-line-test.true)
+
+fit : (c : After-as_slice) → FitsGame c.args.map.now.bounds (length c.args.map.now.measures) c.line-item.result
+fit c = of_line c (FitsGame c.args.map.now.bounds (length c.args.map.now.measures)) c.requires.fit
+
+place : (c : After-as_slice) → HasPlace c.loop-line.part c.line-item.result.vertex
+place c = c.loop-line.invariant.places c.line-item.result.vertex (of_line c (λ (y : VertexLine). HasPlace c.args.part.now y.vertex) c.requires.places)
+
+room : (c : After-as_slice) → HasRoom c.args.notes.now.span c.line-item.result.vertex
+room c = of_line c (λ (y : VertexLine). HasRoom c.args.notes.now.span y.vertex) c.requires.notes
+
+-- the edges that are to come are this line's and those of the others
+edges_left : (c : After-as_slice) → sum_by edge_count (drop c.loop-line.line-index c.args.lines.now) ≡ length c.as_slice.result.now + sum_by edge_count (drop (c.loop-line.line-index + 1) c.args.lines.now)
+edges_left c =
+    let sum = sum_by-drop_more edge_count c.args.lines.now c.loop-line.line-index c.line-item.result c.loop-line-test.true in
+    let count = ap edge_count c.line-item.is in
+    let size = ap length c.as_slice.ensures in
+    omega arith
 
 pub loop-line-preserved : goal.loop-line-preserved
 loop-line-preserved c =
+    let k = (goal.at.loop-line-preserved c).After-as_slice in
     let i = c.loop-line.line-index in
     let xs = c.args.lines.now in
     let x = c.line-item.result in
@@ -22,38 +45,31 @@ loop-line-preserved c =
     let lt = c.loop-line-test.true in
     let part = c.loop-line.part in
     let part' = c.add_line.new.part in
-    let fit : FitsGame c.args.map.now.bounds (length c.args.map.now.measures) x = subst (λ y. FitsGame c.args.map.now.bounds (length c.args.map.now.measures) y) (sym c.line-item.is) (c.requires.fit i x lt) in
     let size : length part.lines ≡ length c.args.map.now.measures = inv.inside.size in
-    let below : x.vertex < length part.lines = omega (arith, fit.vertex) in
+    let below : x.vertex < length part.lines = omega (arith, (fit k).vertex) in
     let here : (d : VertexLine) → get_or xs i d ≡ x = λ d. get_or_default xs i d x lt ∙ sym c.line-item.is in
     let from : c.loop-line.next ≤ x.vertex = subst (λ (y : VertexLine). c.loop-line.next ≤ y.vertex) (here x) (inv.above i x (omega arith) lt) in
     let lines : part'.lines ≡ set part.lines x.vertex (Some (told_line x)) = rw c.as_slice.ensures at c.add_line.ensures.lines in
-    let edges : part'.edges ≡ part.edges + length x.successors = c.add_line.ensures.edges ∙ ap (λ (ns : List ℕ). part.edges + length ns) c.as_slice.ensures in
+    let edges = c.add_line.ensures.edges in
+    let left = edges_left k in
     let next : IsNext part' (x.vertex + 1) = next_after part part' x.vertex c.loop-line.next (told_line x) lines below from inv.next in
     let taken : take (i + 1) xs ≡ take i xs ++ x ∷ [] = (take_at_read xs i x lt).1 ∙ ap (λ y. take i xs ++ y ∷ []) (here x) in
-    let sum = sum_by-drop_more edge_count xs i x lt in
-    let count : edge_count (get_or xs i x) ≡ edge_count x = ap edge_count (here x) in
-    let place : HasPlace part x.vertex = inv.places x.vertex (subst (λ (y : VertexLine). HasPlace c.args.part.now y.vertex) (sym c.line-item.is) (c.requires.places i x lt)) in
-    let room : HasRoom c.args.notes.now.span x.vertex = subst (λ (y : VertexLine). HasRoom c.args.notes.now.span y.vertex) (sym c.line-item.is) (c.requires.notes i x lt) in
     record {
       inside = c.add_line.ensures.inside;
       next = rw c.from.ensures next;
       above = λ j d le less. let r = subst (λ (y : VertexLine). y.vertex < (get_or xs j d).vertex) (here d) (c.requires.rising i j d (omega arith) less) in let f = c.from.ensures in omega arith;
       lines = lines ∙ (ap (λ ls. set ls x.vertex (Some (told_line x))) inv.lines ∙ (sym (with_lines_more c.args.part.now.lines (take i xs) x) ∙ ap (with_lines c.args.part.now.lines) (sym taken)));
-      room = omega (arith, inv.room, edges, c.add_line.ensures.room);
-      edges = omega (arith, inv.edges, edges);
+      room = omega (arith, inv.room, c.add_line.ensures.room);
+      edges = omega (arith, inv.edges);
       places = λ v h. c.add_line.ensures.places v (inv.places v h);
       note_first = c.add_line.ensures.note_first ∙ inv.note_first;
       note_room = c.add_line.ensures.note_room ∙ inv.note_room;
-      noted = λ some. let f = c.from.ensures in let p = room.from in let a = inv.note_first in let b = c.add_line.ensures.note_first in omega arith;
-      first = λ some. let f = c.from.ensures in let p = place.from in let s = c.add_line.ensures.first in omega arith;
+      noted = λ some. let f = c.from.ensures in let p = (room k).from in let a = inv.note_first in let b = c.add_line.ensures.note_first in omega arith;
+      first = λ some. let f = c.from.ensures in let p = (place k).from in let s = c.add_line.ensures.first in omega arith;
     }
 
 pub add_line-requires-clause-place : goal.add_line-requires-clause-place
-add_line-requires-clause-place c =
-    let i = c.loop-line.line-index in
-    let x = c.line-item.result in
-    c.loop-line.invariant.places x.vertex (subst (λ (y : VertexLine). HasPlace c.args.part.now y.vertex) (sym c.line-item.is) (c.requires.places i x c.loop-line-test.true))
+add_line-requires-clause-place c = place (goal.at.add_line-requires-clause-place c).After-as_slice
 
 pub returns-clause-edges : goal.returns-clause-edges
 returns-clause-edges c =
@@ -65,60 +81,20 @@ returns-clause-edges c =
 
 pub add_line-requires-clause-note : goal.add_line-requires-clause-note
 add_line-requires-clause-note c =
-    let i = c.loop-line.line-index in
-    let x = c.line-item.result in
-    let room : HasRoom c.args.notes.now.span x.vertex = subst (λ (y : VertexLine). HasRoom c.args.notes.now.span y.vertex) (sym c.line-item.is) (c.requires.notes i x c.loop-line-test.true) in
-    room_still c.args.notes.now.span c.loop-line.notes.span x.vertex c.loop-line.invariant.note_first c.loop-line.invariant.note_room room
+    room_still c.args.notes.now.span c.loop-line.notes.span c.line-item.result.vertex c.loop-line.invariant.note_first c.loop-line.invariant.note_room (room (goal.at.add_line-requires-clause-note c).After-as_slice)
 
 pub add_line-requires-clause-fits : goal.add_line-requires-clause-fits
-add_line-requires-clause-fits c =
-    let i = c.loop-line.line-index in
-    let xs = c.args.lines.now in
-    let x = c.line-item.result in
-    let inv = c.loop-line.invariant in
-    let lt = c.loop-line-test.true in
-    let here : (d : VertexLine) → get_or xs i d ≡ x = λ d. get_or_default xs i d x lt ∙ sym c.line-item.is in
-    let fit : FitsGame c.args.map.now.bounds (length c.args.map.now.measures) x = subst (λ y. FitsGame c.args.map.now.bounds (length c.args.map.now.measures) y) (sym c.line-item.is) (c.requires.fit i x lt) in
-    rw c.as_slice.ensures fit
+add_line-requires-clause-fits c = rw c.as_slice.ensures (fit (goal.at.add_line-requires-clause-fits c).After-as_slice)
 
 pub add_line-requires-clause-some : goal.add_line-requires-clause-some
 add_line-requires-clause-some c =
-    let i = c.loop-line.line-index in
-    let xs = c.args.lines.now in
-    let x = c.line-item.result in
-    let inv = c.loop-line.invariant in
-    let lt = c.loop-line-test.true in
-    let here : (d : VertexLine) → get_or xs i d ≡ x = λ d. get_or_default xs i d x lt ∙ sym c.line-item.is in
-    let line : IsVertexLine x = subst (λ (y : VertexLine). IsVertexLine y) (sym c.line-item.is) (c.requires.lines i x lt) in
+    let line = of_line (goal.at.add_line-requires-clause-some c).After-as_slice IsVertexLine c.requires.lines in
     let some = line.some in
     let size = ap length c.as_slice.ensures in
     omega arith
 
 pub add_line-requires-clause-few : goal.add_line-requires-clause-few
-add_line-requires-clause-few c =
-    let i = c.loop-line.line-index in
-    let xs = c.args.lines.now in
-    let x = c.line-item.result in
-    let inv = c.loop-line.invariant in
-    let lt = c.loop-line-test.true in
-    let here : (d : VertexLine) → get_or xs i d ≡ x = λ d. get_or_default xs i d x lt ∙ sym c.line-item.is in
-    let sum = sum_by-drop_more edge_count xs i x lt in
-    let count : edge_count (get_or xs i x) ≡ edge_count x = ap edge_count (here x) in
-    let size = ap length c.as_slice.ensures in
-    let edges = inv.edges in
-    let few = c.requires.few in
-    omega arith
+add_line-requires-clause-few c = omega (arith, edges_left (goal.at.add_line-requires-clause-few c).After-as_slice, c.loop-line.invariant.edges, c.requires.few)
 
 pub add_line-requires-clause-room : goal.add_line-requires-clause-room
-add_line-requires-clause-room c =
-    let i = c.loop-line.line-index in
-    let xs = c.args.lines.now in
-    let x = c.line-item.result in
-    let inv = c.loop-line.invariant in
-    let lt = c.loop-line-test.true in
-    let here : (d : VertexLine) → get_or xs i d ≡ x = λ d. get_or_default xs i d x lt ∙ sym c.line-item.is in
-    let sum = sum_by-drop_more edge_count xs i x lt in
-    let count : edge_count (get_or xs i x) ≡ edge_count x = ap edge_count (here x) in
-    let size = ap length c.as_slice.ensures in
-    let room = inv.room in
-    omega arith
+add_line-requires-clause-room c = omega (arith, edges_left (goal.at.add_line-requires-clause-room c).After-as_slice, c.loop-line.invariant.room)

@@ -1,9 +1,9 @@
-use Rattle.std.proofs.Common.{◌≡◌, ◌∷◌, ◌++◌, [], ◌∙◌, ap, true, arith, length, length-append}
+use Rattle.std.proofs.Common.{◌≡◌, ◌∷◌, ◌++◌, [], ◌∙◌, ap, arith, length, length-append}
 use Rattle.pg_measure.specs.Measures.{owned}
 use Rattle.pg_map.specs.Maps.{IsLifted, StaysUnder, measure_at}
 use Rattle.pg_map.specs.declared.update.Update.{Update}
 use Rattle.pg_map.proofs.Above.{stays_trans}
-use Rattle.pg_lift.proofs.Noting.{notes_still, same_span, span_marked}
+use Rattle.pg_lift.proofs.Noting.{waits_again}
 use Rattle.pg_worker.specs.Workers.{IsLiftBy}
 use Rattle.pg_worker.proofs.Runs.{lifts_more}
 use Rattle.pg_worker.proofs.lifting.lift_some.Goals as goal
@@ -20,13 +20,13 @@ loop-preserved g c =
     let width : c.in-Ok.measure.width ≡ length bs = c.in-Ok.ensures.width ∙ (ap length c.bounds.ensures ∙ ap length i.bounds) in
     let measure : c.copy_to.new.measure ≡ owned (measure_at h c.in-Some.v) (length bs) = c.copy_to.ensures ∙ ap (owned (measure_at h c.in-Some.v)) width in
     let lifted : IsLifted bs lines c.loop.map.measures h c.in-Some.v = rw i.bounds at c.lift_ready.ensures.lifted in
-    let by : IsLiftBy bs lines c.loop.map.measures u h = record { mine = c.in-Some.ensures.ready.held; lifted = lifted; measure = measure } in
+    let by : IsLiftBy bs lines c.loop.map.measures u h = record { mine = c.in-Some.ensures.due.ready.held; lifted = lifted; measure = measure } in
     let under : StaysUnder bs lines c.loop.map.measures h = rw i.bounds at c.lift_ready.ensures.under in
     record {
       bounds = c.lift_ready.ensures.bounds ∙ i.bounds;
       size = c.lift_ready.ensures.size ∙ i.size;
-      span = same_span c.args.notes.now c.loop.notes c.lift_ready.new.notes i.span (same_span c.loop.notes c.next_ready.new.notes c.lift_ready.new.notes c.in-Some.ensures.span c.lift_ready.ensures.span);
-      kept = rw i.bounds at c.lift_ready.ensures.kept;
+      span = c.lift_ready.ensures.span ∙ (c.in-Some.ensures.span ∙ i.span);
+      kept = c.lift_ready.ensures.kept;
       lifts = rw items (lifts_more bs lines f c.loop.map.measures h c.loop.updates.items u i.lifts by);
       under = stays_trans bs lines f c.loop.map.measures h i.size i.under under;
       lifted = rw items (omega (arith, length-append c.loop.updates.items (u ∷ []), i.lifted));
@@ -35,29 +35,7 @@ loop-preserved g c =
 pub returns-clause-quiet : goal.returns-clause-quiet
 returns-clause-quiet g c = rw c.loop.invariant.bounds at c.is_quiet.ensures.quiet
 
-pub next_ready-requires-clause-notes : goal.next_ready-requires-clause-notes
-next_ready-requires-clause-notes g c = notes_still (length c.args.map.now.measures) (length c.loop.map.measures) (g.G.Lines.line c.args.lines.now) c.args.notes.now c.loop.notes c.loop.invariant.size c.loop.invariant.span c.requires.notes
-
-pub lift_ready-requires-clause-notes : goal.lift_ready-requires-clause-notes
-lift_ready-requires-clause-notes g c =
-    notes_still (length c.args.map.now.measures) (length c.loop.map.measures) (g.G.Lines.line c.args.lines.now) c.args.notes.now c.next_ready.new.notes c.loop.invariant.size (same_span c.args.notes.now c.loop.notes c.next_ready.new.notes c.loop.invariant.span c.in-Some.ensures.span) c.requires.notes
-
-pub is_quiet-requires-clause-notes : goal.is_quiet-requires-clause-notes
-is_quiet-requires-clause-notes g c = notes_still (length c.args.map.now.measures) (length c.loop.map.measures) (g.G.Lines.line c.args.lines.now) c.args.notes.now c.loop.notes c.loop.invariant.size c.loop.invariant.span c.requires.notes
-
-pub returns-in-None-clause-span : goal.returns-in-None-clause-span
-returns-in-None-clause-span g c = same_span c.args.notes.now c.loop.notes c.next_ready.new.notes c.loop.invariant.span c.in-None.ensures.span
-
-pub returns-clause-span : goal.returns-clause-span
-returns-clause-span g c = same_span c.args.notes.now c.loop.notes c.is_quiet.new.notes c.loop.invariant.span c.is_quiet.ensures.span
-
-pub add-requires : goal.add-requires
-add-requires g c =
-    let n = notes_still (length c.args.map.now.measures) (length c.loop.map.measures) (g.G.Lines.line c.args.lines.now) c.args.notes.now c.next_ready.new.notes c.loop.invariant.size (same_span c.args.notes.now c.loop.notes c.next_ready.new.notes c.loop.invariant.span c.in-Some.ensures.span) c.requires.notes in
-    n.noted c.in-Some.v c.in-Some.ensures.ready.held
-
-pub returns-in-Err-clause-span : goal.returns-in-Err-clause-span
-returns-in-Err-clause-span g c =
+pub returns-in-Err-clause-kept : goal.returns-in-Err-clause-kept
+returns-in-Err-clause-kept g c =
     let a = c.add.ensures in
-    same_span c.args.notes.now c.next_ready.new.notes c.add.new.self (same_span c.args.notes.now c.loop.notes c.next_ready.new.notes c.loop.invariant.span c.in-Some.ensures.span)
-    (span_marked c.next_ready.new.notes c.add.new.self c.in-Some.v true a.waits a.best a.span)
+    waits_again (g.G.Lines.line c.args.lines.now) c.loop.map c.next_ready.new.notes c.add.new.self c.in-Some.v a.waits a.best a.span c.in-Some.ensures.due

@@ -1,16 +1,15 @@
 use Rattle.std.proofs.Common.{◌≡◌, length}
 use Rattle.pg_map.specs.Maps.{StaysUnder}
-use Rattle.pg_lift.specs.Mirrors.Notes.{IsSameSpan}
 use Rattle.pg_worker.specs.Workers.{AreLifts}
-use Rattle.pg_lift.specs.Mirrors.Keeps.{IsKept}
+use Rattle.pg_lift.specs.Mirrors.Keeps.{IsKeeping}
 use Rattle.pg_worker.proofs.lifting.lift_some.Given as goal
 
 abbrev pub invariant-loop : goal.invariant-loop
 invariant-loop g l = record {
   bounds : l.map.bounds ≡ l.initial.map.bounds;
   size : length l.map.measures ≡ length l.initial.map.measures;
-  span : IsSameSpan l.initial.notes l.notes;
-  kept : IsKept l.initial.map.bounds (g.G.Lines.line l.lines) l.map.measures l.notes.waits l.notes.best;
+  span : l.notes.span ≡ l.initial.notes.span;
+  kept : IsKeeping (g.G.Lines.line l.lines) l.map l.notes;
   lifts : AreLifts l.initial.map.bounds (g.G.Lines.line l.lines) l.initial.map.measures l.updates.items l.map.measures;
   under : StaysUnder l.initial.map.bounds (g.G.Lines.line l.lines) l.initial.map.measures l.map.measures;
   lifted : length l.updates.items ≡ l.counter;

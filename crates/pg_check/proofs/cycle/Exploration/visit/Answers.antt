@@ -4,15 +4,22 @@ use Rattle.pg_arena.specs.Games.{priority}
 use Rattle.pg_check.specs.Soundness.{Counts}
 use Rattle.pg_check.proofs.Searches.{search_ends, trail_of, edge_here, taken_next, exploring_passes, exploring_reaches}
 use Rattle.pg_check.proofs.cycle.Exploration.visit.Goals as goal
-use Rattle.pg_check.proofs.cycle.Exploration.visit.Goals.{then-not-index+then-priority+in_ok-reach, else-not-index}
+use Rattle.pg_check.proofs.cycle.Exploration.visit.Goals.{After-w-item, then-not-index+then-priority+in_ok-reach, else-not-index}
 use Rattle.pg_check.proofs.cycle.Exploration.visit.Goals.{else-not-index-via-then-not-index+else-priority, else-not-index-via-else-not-index}
+
+-- the edge that is looked at counts
+counted : (c : After-w-item) → Counts c.args.game.now c.args.solution.now (get_or c.loop-w.self.reached.items c.args.at 0) c.w-item.result
+counted c = edge_here c.args.game.now c.args.solution.now c.loop-w.self.reached.items c.args.self.now.reached.items c.counted-w-items.result.now
+    c.args.at c.index-u.result.now c.loop-w.w-index c.w-item.result c.loop-w.invariant.same c.requires.at c.index-u.ensures
+    c.counted-w-items.ensures.counted c.loop-w-test.true c.w-item.is
+
+below : (c : After-w-item) → c.w-item.result < length c.args.game.now
+below c = c.requires.game.in_range (get_or c.loop-w.self.reached.items c.args.at 0) c.w-item.result (counted c).0
 
 pub returns-then-eq-clause-closes : goal.returns-then-eq-clause-closes
 returns-then-eq-clause-closes c =
     let i = c.loop-w.invariant in
-    let counts = edge_here c.args.game.now c.args.solution.now c.loop-w.self.reached.items c.args.self.now.reached.items c.counted-w-items.result.now
-    c.args.at c.index-u.result.now c.loop-w.w-index c.w-item.result i.same c.requires.at c.index-u.ensures
-    c.counted-w-items.ensures.counted c.loop-w-test.true c.w-item.is in
+    let counts = counted (goal.at.returns-then-eq-clause-closes c).After-w-item in
     let same : c.w-item.result ≡ c.args.v = search rules in
     trail_of c.args.game.now c.args.solution.now c.args.v c.loop-w.self.reached.items c.loop-w.self.before.items c.loop-w.self.is_reached.items c.args.at
     i.searched i.here (subst (λ x. Counts c.args.game.now c.args.solution.now (get_or c.loop-w.self.reached.items c.args.at 0) x) same counts)
@@ -20,29 +27,19 @@ returns-then-eq-clause-closes c =
 pub index-requires : goal.index-requires
 index-requires c =
     let i = c.loop-w.invariant in
-    let counts = edge_here c.args.game.now c.args.solution.now c.loop-w.self.reached.items c.args.self.now.reached.items c.counted-w-items.result.now
-    c.args.at c.index-u.result.now c.loop-w.w-index c.w-item.result i.same c.requires.at c.index-u.ensures
-    c.counted-w-items.ensures.counted c.loop-w-test.true c.w-item.is in
-    let below : c.w-item.result < length c.args.game.now = c.requires.game.in_range (get_or c.loop-w.self.reached.items c.args.at 0) c.w-item.result counts.0 in
+    let is_below = below (goal.at.index-requires c).After-w-item in
     omega (arith, i.searched.whole, c.w.view_is)
 
 pub priority-requires : goal.priority-requires
 priority-requires c =
-    let i = c.loop-w.invariant in
-    let counts = edge_here c.args.game.now c.args.solution.now c.loop-w.self.reached.items c.args.self.now.reached.items c.counted-w-items.result.now
-    c.args.at c.index-u.result.now c.loop-w.w-index c.w-item.result i.same c.requires.at c.index-u.ensures
-    c.counted-w-items.ensures.counted c.loop-w-test.true c.w-item.is in
-    let below = c.requires.game.in_range (get_or c.loop-w.self.reached.items c.args.at 0) c.w-item.result counts.0 in
-    subst (λ w. w < length c.args.game.now) (sym c.w.view_is) below
+    let is_below = below (goal.at.priority-requires c).After-w-item in
+    subst (λ w. w < length c.args.game.now) (sym c.w.view_is) is_below
 
 pub reach-requires-clause-within : goal.reach-requires-clause-within
 reach-requires-clause-within c =
     let i = c.loop-w.invariant in
-    let counts = edge_here c.args.game.now c.args.solution.now c.loop-w.self.reached.items c.args.self.now.reached.items c.counted-w-items.result.now
-    c.args.at c.index-u.result.now c.loop-w.w-index c.w-item.result i.same c.requires.at c.index-u.ensures
-    c.counted-w-items.ensures.counted c.loop-w-test.true c.w-item.is in
-    let below : c.w-item.result < length c.args.game.now = c.requires.game.in_range (get_or c.loop-w.self.reached.items c.args.at 0) c.w-item.result counts.0 in
-    rw i.searched.whole (subst (λ w. w < length c.args.game.now) (sym c.w.view_is) below)
+    let is_below = below (goal.at.reach-requires-clause-within c).After-w-item in
+    rw i.searched.whole (subst (λ w. w < length c.args.game.now) (sym c.w.view_is) is_below)
 
 pub reach-requires-clause-few : goal.reach-requires-clause-few
 reach-requires-clause-few c =
@@ -53,10 +50,8 @@ reach-requires-clause-few c =
 pub loop-w-preserved : goal.loop-w-preserved
 loop-w-preserved c =
     let i = c.loop-w.invariant in
-    let counts = edge_here c.args.game.now c.args.solution.now c.loop-w.self.reached.items c.args.self.now.reached.items c.counted-w-items.result.now
-    c.args.at c.index-u.result.now c.loop-w.w-index c.w-item.result i.same c.requires.at c.index-u.ensures
-    c.counted-w-items.ensures.counted c.loop-w-test.true c.w-item.is in
-    let below : c.w-item.result < length c.args.game.now = c.requires.game.in_range (get_or c.loop-w.self.reached.items c.args.at 0) c.w-item.result counts.0 in
+    let counts = counted (goal.at.loop-w-preserved c).After-w-item in
+    let is_below = below (goal.at.loop-w-preserved c).After-w-item in
     let other : c.w-item.result ≢ c.args.v = search rules in
     elim c.if-not-index.branch [
       | then-not-index+then-priority+in_ok-reach w ↦
@@ -70,7 +65,7 @@ loop-w-preserved c =
           let low : priority c.args.game.now c.w-item.result ≤ priority c.args.game.now c.args.v = search rules in
           rw (e, f, g) (exploring_reaches c.args.game.now c.args.solution.now c.args.v c.loop-w.self.reached.items c.loop-w.self.before.items
           c.loop-w.self.is_reached.items c.args.self.now.reached.items c.counted-w-items.result.now c.args.at c.loop-w.w-index c.w-item.result i
-          c.loop-w-test.true c.w-item.is other counts unset low below)
+          c.loop-w-test.true c.w-item.is other counts unset low is_below)
       | else-not-index w ↦
           let known : priority c.args.game.now c.w-item.result ≤ priority c.args.game.now c.args.v
           → get_or c.loop-w.self.is_reached.items c.w-item.result false ≡ true =

@@ -1,32 +1,17 @@
 use Rattle.std.proofs.Common.{refl}
-use Rattle.pg_lift.specs.Mirrors.Notes.{HasNote}
-use Rattle.pg_lift.proofs.Noting.{IsAt, is_at, value_of, noted_kept, waits_kept, best_set, span_kept}
+use Rattle.pg_lift.proofs.Noting.{IsAt, there_at, noted_kept, waits_kept, best_set, span_kept}
 use Rattle.pg_lift.proofs.notes.Notes.remember.Goals as goal
+use Rattle.pg_lift.proofs.notes.Notes.remember.Goals.{After-self-1}
+
+placed : (c : After-self-1) → IsAt c.self.inside.vertices c.self.inside.first c.self.inside.notes.items c.args.v c.place-at.result c.index-note.result.now
+placed c = there_at c.self.inside.notes.cap c.place-at.ensures c.index-note.ensures (rw (← c.self.view_is) at c.requires) c.self.invariant.within
 
 pub invariant_of-self : goal.invariant_of-self
-invariant_of-self c =
-    let w = c.self.inside in
-    let req : HasNote (value_of w.vertices w.first w.notes.items w.notes.cap).span c.args.v = rw (← c.self.view_is) at c.requires in
-    let p : IsAt w.vertices w.first w.notes.items c.args.v c.place-at.result c.index-note.result.now = is_at w.vertices w.first w.notes.items c.args.v c.place-at.result c.index-note.result.now c.place-at.ensures req.from req.before c.self.invariant.within c.index-note.ensures in
-    noted_kept w.vertices w.first w.notes.items w.stack.items w.next.items w.stack.cap w.next.cap c.args.v c.place-at.result c.index-note.result.now _ p refl c.self.invariant
+invariant_of-self c = noted_kept _ (placed c) refl c.self.invariant
 
-pub returns-clause-waits : goal.returns-clause-waits
-returns-clause-waits c =
-    let w = c.self.inside in
-    let req : HasNote (value_of w.vertices w.first w.notes.items w.notes.cap).span c.args.v = rw (← c.self.view_is) at c.requires in
-    let p : IsAt w.vertices w.first w.notes.items c.args.v c.place-at.result c.index-note.result.now = is_at w.vertices w.first w.notes.items c.args.v c.place-at.result c.index-note.result.now c.place-at.ensures req.from req.before c.self.invariant.within c.index-note.ensures in
-    rw (← c.self.view_is) (waits_kept w.vertices w.first w.notes.items c.args.v c.place-at.result c.index-note.result.now _ p refl)
-
-pub returns-clause-best : goal.returns-clause-best
-returns-clause-best c =
-    let w = c.self.inside in
-    let req : HasNote (value_of w.vertices w.first w.notes.items w.notes.cap).span c.args.v = rw (← c.self.view_is) at c.requires in
-    let p : IsAt w.vertices w.first w.notes.items c.args.v c.place-at.result c.index-note.result.now = is_at w.vertices w.first w.notes.items c.args.v c.place-at.result c.index-note.result.now c.place-at.ensures req.from req.before c.self.invariant.within c.index-note.ensures in
-    rw (← c.self.view_is) (best_set w.vertices w.first w.notes.items c.args.v c.place-at.result c.index-note.result.now _ p)
-
-pub returns-clause-span : goal.returns-clause-span
-returns-clause-span c =
-    let w = c.self.inside in
-    let req : HasNote (value_of w.vertices w.first w.notes.items w.notes.cap).span c.args.v = rw (← c.self.view_is) at c.requires in
-    let p : IsAt w.vertices w.first w.notes.items c.args.v c.place-at.result c.index-note.result.now = is_at w.vertices w.first w.notes.items c.args.v c.place-at.result c.index-note.result.now c.place-at.ensures req.from req.before c.self.invariant.within c.index-note.ensures in
-    rw (← c.self.view_is) (span_kept w.vertices w.first w.notes.items w.notes.cap c.args.v c.place-at.result c.index-note.result.now _ p refl)
+pub returns : goal.returns
+returns c = record {
+  waits = rw (← c.self.view_is) (waits_kept _ (placed c) refl);
+  best = rw (← c.self.view_is) (best_set _ (placed c));
+  span = rw (← c.self.view_is) (span_kept _ _ (placed c) refl);
+}

@@ -1,7 +1,8 @@
-use Rattle.std.proofs.Common.{length}
-use Rattle.pg_solver.specs.Mirrors.Sides.{IsSide}
+use Rattle.pg_solver.specs.Mirrors.Sides.{IsSide, IsRaised}
 use Rattle.pg_solver.proofs.side.Side.lift.Given as goal
 
 abbrev pub invariant-loop : goal.invariant-loop
-invariant-loop g l =
-    IsSide l.initial.self.map.bounds (g.G.Lines.line l.lines) (length l.initial.self.map.measures) l.self
+invariant-loop g l = record {
+  side : IsSide (g.G.Lines.line l.lines) l.self;
+  raised : IsRaised (g.G.Lines.line l.lines) l.initial.self.map l.self.map;
+}

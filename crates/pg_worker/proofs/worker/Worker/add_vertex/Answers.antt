@@ -10,14 +10,12 @@ use Rattle.pg_worker.proofs.worker.Worker.add_vertex.Goals as goal
 pub invariant_of-self : goal.invariant_of-self
 invariant_of-self c =
     let w = c.self.inside in
-    let e = c.make_room.ensures.same in
-    whole_same w.part c.make_room.new.part w.map w.edges c.make_room.new.edges w.notes c.make_room.new.notes w.next w.lifted.count w.row.items e.lines e.count c.in_err-make_room.ensures.first
-    e.starts e.sources e.gathered e.before e.more e.noted c.self.invariant
+    whole_same w.part c.make_room.new.part w.map w.predecessors c.make_room.new.predecessors w.notes c.make_room.new.notes w.next w.lifted.count c.make_room.ensures.same c.in_err-make_room.ensures.first c.self.invariant
 
 pub add_line-requires-clause-inside : goal.add_line-requires-clause-inside
 add_line-requires-clause-inside c =
     let w = c.self.inside in
-    inside_same w.part c.make_room.new.part w.map w.notes c.make_room.new.notes c.make_room.ensures.same.lines c.make_room.ensures.same.count c.make_room.ensures.same.noted c.self.invariant.inside
+    inside_same w.part c.make_room.new.part w.map w.predecessors c.make_room.new.predecessors w.notes c.make_room.new.notes c.make_room.ensures.same c.self.invariant.inside
 
 pub add_line-requires-clause-place : goal.add_line-requires-clause-place
 add_line-requires-clause-place c = c.in_ok-make_room.ensures.room.places c.args.head.vertex (omega arith) (omega arith)
@@ -75,5 +73,4 @@ invariant_of-self-2 c =
       first = let f = place.from in let s = c.add_line.ensures.first in omega arith;
       note_first = λ some. let f = room.from in let s = c.add_line.ensures.note_first in omega arith;
       listed = c.self.invariant.listed;
-      clear = c.self.invariant.clear;
     }

@@ -15,14 +15,12 @@ returns-then-not-are_from-clause-refused c = λ above.
 pub invariant_of-self : goal.invariant_of-self
 invariant_of-self c =
     let w = c.self.inside in
-    let e = c.make_room.ensures.same in
-    whole_same w.part c.make_room.new.part w.map w.edges c.make_room.new.edges w.notes c.make_room.new.notes w.next w.lifted.count w.row.items e.lines e.count c.in_err-make_room.ensures.first
-    e.starts e.sources e.gathered e.before e.more e.noted c.self.invariant
+    whole_same w.part c.make_room.new.part w.map w.predecessors c.make_room.new.predecessors w.notes c.make_room.new.notes w.next w.lifted.count c.make_room.ensures.same c.in_err-make_room.ensures.first c.self.invariant
 
 pub add_lines-requires-clause-inside : goal.add_lines-requires-clause-inside
 add_lines-requires-clause-inside c =
     let w = c.self.inside in
-    inside_same w.part c.make_room.new.part w.map w.notes c.make_room.new.notes c.make_room.ensures.same.lines c.make_room.ensures.same.count c.make_room.ensures.same.noted c.self.invariant.inside
+    inside_same w.part c.make_room.new.part w.map w.predecessors c.make_room.new.predecessors w.notes c.make_room.new.notes c.make_room.ensures.same c.self.invariant.inside
 
 pub add_lines-requires-clause-next : goal.add_lines-requires-clause-next
 add_lines-requires-clause-next c = next_same c.self.inside.part c.make_room.new.part c.self.inside.next c.make_room.ensures.same.lines c.self.invariant.above
@@ -76,5 +74,4 @@ invariant_of-self-2 c =
       first = added.first some;
       note_first = λ has. added.note_first some;
       listed = c.self.invariant.listed;
-      clear = c.self.invariant.clear;
     }

@@ -1,5 +1,4 @@
 use Rattle.std.proofs.Common.{◌≡◌, refl, ap}
-use Rattle.pg_worker.proofs.Working.{whole_after}
 use Rattle.std.proofs.lemmas.Result.{err_from_is_err_and}
 use Rattle.pg_worker.proofs.worker.Worker.lift_some.Goals as goal
 
@@ -29,9 +28,3 @@ returns-clause-turn c =
       fewer = e.fewer;
       rest = rw e.bounds e.quiet;
     }
-
-pub invariant_of-self-2 : goal.invariant_of-self-2
-invariant_of-self-2 c =
-    let w = c.self.inside in
-    let n = c.lift_some.new in
-    whole_after w.part w.map n.map w.edges c.gather.new.edges w.notes n.notes w.next w.lifted.count w.row.items c.lift_some.ensures.bounds c.lift_some.ensures.size c.gather.ensures.size c.gather.ensures.room c.gather.ensures.edges c.gather.ensures.before c.lift_some.ensures.span c.lift_some.ensures.kept c.self.invariant

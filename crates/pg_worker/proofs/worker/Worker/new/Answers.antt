@@ -16,15 +16,14 @@ invariant_of-result c =
     record {
       inside = worker_empty c.new-part.result map c.in_ok-notes.notes none c.new-part.ensures.edges w b (ap length c.new-part.ensures.none ∙ (length-replicate n None ∙ sym m)) (c.in_ok-notes.ensures.labels ∙ ap (λ (k : ℕ). replicate k None) (sym m));
       ready = record {
-        size = let e = c.in_ok-edges.ensures.size in omega arith;
+        size = let e = c.in_ok-predecessors.ensures.size in omega arith;
         few = let e = c.new-part.ensures.edges in omega arith;
         room = let e = c.new-part.ensures.edges in omega arith;
-        right = λ e. let off = c.in_ok-edges.ensures.none in absurd (cc (off, e));
+        right = λ e. let off = c.in_ok-predecessors.ensures.none in absurd (cc (off, e));
         zero = λ e. rw (m, c.in_ok-map.ensures.bounds) c.in_ok-map.ensures.zeros;
       };
       first = let e = c.new-part.ensures.first in omega arith;
       note_first = λ some. let e = c.in_ok-notes.ensures.none in absurd (omega arith);
       above = next_empty c.new-part.result none;
       listed = c.in_ok-lifted.ensures.count ∙ sym m;
-      clear = rw (c.in_ok-map.ensures.bounds, ← c.as_slice.ensures) (c.in_ok-row.ensures.items_if_clones_equal (λ y e. e));
     }

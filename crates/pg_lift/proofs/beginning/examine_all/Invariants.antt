@@ -1,0 +1,13 @@
+use Rattle.std.proofs.Common.{◌≡◌, ◌<◌, ◌≤◌, ℕ, length}
+use Rattle.std.specs.Prelude.{IsSome}
+use Rattle.pg_lift.specs.Mirrors.Keeps.{KeepsAt, nothing}
+use Rattle.pg_lift.specs.Mirrors.Notes.{AreNotes}
+use Rattle.pg_lift.proofs.beginning.examine_all.Given as goal
+
+abbrev pub invariant-loop-number : goal.invariant-loop-number
+invariant-loop-number g l = record {
+  span : l.notes.span ≡ l.initial.notes.span;
+  noted : AreNotes (length l.map.measures) (g.G.Lines.line l.lines) l.notes;
+  kept : (v : ℕ) → l.number ≤ v → v < length l.map.measures → IsSome (g.G.Lines.line l.lines v)
+      → KeepsAt l.map.bounds (g.G.Lines.line l.lines) l.map.measures nothing l.notes.waits l.notes.best v;
+}

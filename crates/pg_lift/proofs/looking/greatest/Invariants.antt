@@ -1,8 +1,0 @@
-use Rattle.pg_arena.specs.declared.player.Player.TheVariants.{Odd}
-use Rattle.pg_measure.specs.Measures.{width_from}
-use Rattle.pg_map.specs.Lines.{line_at}
-use Rattle.pg_map.proofs.Bests.{BestSoFar}
-use Rattle.pg_lift.proofs.looking.greatest.Given as goal
-
-abbrev pub invariant-loop-w : goal.invariant-loop-w
-invariant-loop-w g l = BestSoFar Odd (width_from l.map.bounds (line_at (g.G.Lines.line l.lines) l.v).priority) l.map.measures (line_at (g.G.Lines.line l.lines) l.v).successors l.w-index l.best

@@ -1,0 +1,99 @@
+//! Which vertices that wait are served, and by which successor.
+
+ghost use Rattle.std.specs.Prelude.{◌≡◌, ◌<◌, true, false, length, IsSome, IfSome, IfNone, slice_index_or, slice_set};
+ghost use Rattle.std.specs.Bool.{OnTrue, OnFalse};
+ghost use Rattle.pg_arena.specs.declared.player.Player.TheVariants.{Even};
+ghost use Rattle.pg_measure.specs.Measures.{width_from};
+ghost use Rattle.pg_map.specs.Lines.{AreWithin, line_at};
+ghost use Rattle.pg_map.specs.Maps.{measure_at, IsServedBy, IsClosed};
+ghost use Rattle.pg_map.specs.Mirrors.Tables.{IsBest};
+ghost use Rattle.pg_lift.specs.Mirrors.Keeps.{IsAmong, Keeps, IsKeeping, IsDue, IsReady, nothing};
+ghost use Rattle.pg_lift.specs.Mirrors.Notes.{AreNotes, IsSameSpan};
+
+use crate::asked::{holds, is_front_below, owner, serves};
+use crate::notes::Notes;
+use pg_arena::{Player, Vertex};
+use pg_map::{Lines, MeasureMap};
+
+/// A successor that serves the vertex, and true; if none does, the least of them, and false. The one that is given doesn't
+/// serve it, so that only those below the least so far may.
+#[inline(always)]
+fn choose<G: Lines>(
+    map: &MeasureMap,
+    lines: &G,
+    notes: &Notes,
+    v: Vertex,
+    given: Vertex,
+) -> (Vertex, bool)
+    requires among { IsAmong given (line_at (G.line lines.now) v).successors }
+    requires unserved { ¬ (IsServedBy map.now.bounds (G.line lines.now) map.now.measures v given) }
+    requires held { IsSome (G.line lines.now v) }
+    requires within { AreWithin (length map.now.measures) (G.line lines.now) }
+    requires notes { AreNotes (length map.now.measures) (G.line lines.now) notes.now }
+    ensures among { IsAmong result.0 (line_at (G.line lines.now) v).successors }
+    ensures serves { OnTrue result.1 (IsServedBy map.now.bounds (G.line lines.now) map.now.measures v result.0) }
+    ensures best { OnFalse result.1 (IsBest Even
+        (width_from map.now.bounds (line_at (G.line lines.now) v).priority) map.now.measures
+        (line_at (G.line lines.now) v).successors result.0) }
+    ensures unserved { OnFalse result.1 (¬ (IsServedBy map.now.bounds (G.line lines.now) map.now.measures v result.0)) }
+{
+    let mut least = given;
+    for w in lines.successors(v) {
+        if is_front_below(map, lines, notes, v, *w, least) {
+            if serves(map, lines, notes, v, *w) {
+                return (*w, true);
+            }
+            least = *w;
+        }
+    }
+    (least, false)
+}
+
+/// Whether a vertex that waits is served. What is remembered of it is then what serves it, or else its best successor.
+#[inline(always)]
+pub fn find_serving<G: Lines>(map: &MeasureMap, lines: &G, notes: &mut Notes, v: Vertex) -> bool
+    requires held { IsSome (G.line lines.now v) }
+    requires within { AreWithin (length map.now.measures) (G.line lines.now) }
+    requires notes { AreNotes (length map.now.measures) (G.line lines.now) notes.old }
+    requires kept { Keeps map.now.bounds (line_at (G.line lines.now) v) map.now.measures nothing
+        (measure_at map.now.measures v) true (slice_index_or notes.old.best v 0) }
+    ensures span { IsSameSpan notes.old notes.new }
+    ensures waits { notes.new.waits ≡ notes.old.waits }
+    ensures others { notes.new.best ≡ slice_set notes.old.best v (slice_index_or notes.new.best v 0) }
+    ensures kept { Keeps map.now.bounds (line_at (G.line lines.now) v) map.now.measures nothing
+        (measure_at map.now.measures v) true (slice_index_or notes.new.best v 0) }
+    ensures served { OnTrue result (Keeps map.now.bounds (line_at (G.line lines.now) v) map.now.measures nothing
+        (measure_at map.now.measures v) false (slice_index_or notes.new.best v 0)) }
+    ensures ready { OnFalse result (IsReady map.now.bounds (G.line lines.now) map.now.measures notes.new.best v) }
+{
+    let remembered = notes.best(v);
+    if serves(map, lines, notes, v, remembered) {
+        return true;
+    }
+    match owner(map, lines, notes, v) {
+        Player::Even => {
+            let (w, serves) = choose(map, lines, notes, v, remembered);
+            notes.remember(v, w);
+            serves
+        }
+        Player::Odd => false,
+    }
+}
+
+/// Takes from the list until a vertex isn't served. That one no longer waits, and is to be lifted or to wait again.
+#[inline(always)]
+pub fn next_ready<G: Lines>(map: &MeasureMap, lines: &G, notes: &mut Notes) -> Option<Vertex>
+    requires within { AreWithin (length map.now.measures) (G.line lines.now) }
+    requires kept { IsKeeping (G.line lines.now) map.now notes.old }
+    ensures span { notes.new.span ≡ notes.old.span }
+    ensures due { IfSome result (IsDue (G.line lines.now) map.now notes.new) }
+    ensures quiet { IfNone result (IsKeeping (G.line lines.now) map.now notes.new) }
+    ensures closed { IfNone result (IsClosed map.now.bounds (G.line lines.now) map.now.measures) }
+{
+    while let Some(v) = notes.pop() {
+        if holds(map, lines, notes, v) && !find_serving(map, lines, notes, v) {
+            return Some(v);
+        }
+    }
+    None
+}
