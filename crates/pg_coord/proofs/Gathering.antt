@@ -4,7 +4,7 @@ use Rattle.std.specs.Prelude.{All, AllPairs}
 use Rattle.std.specs.List.{flat_map}
 use Rattle.std.proofs.lemmas.List.{length-append, append-nil}
 use Rattle.std.proofs.lemmas.List.Concat.{flat_map-cons}
-use Rattle.std.proofs.lemmas.List.Elements.{All-nil, All-push, All-weaker, Contains-get_or}
+use Rattle.std.proofs.lemmas.List.Elements.{All-push, All-weaker, Contains-get_or}
 use Rattle.std.proofs.lemmas.List.Quantifiers.{all_pairs_push}
 use Rattle.std.proofs.lemmas.Grind.{flat_map-append}
 use Rattle.pg_arena.specs.Games.{GameVertex, IsGame, successors, vertex_at}
@@ -50,9 +50,6 @@ few_successors game l g few well is =
     let most = rising_few l.successors 0 (length game) well.rising (λ k d lt. omega arith) below in
     omega arith
 
-pub no_lines : (t : TaskValue) (next : ℕ) → AreLines t next []
-no_lines t next = record { lines = All-nil (IsLineOf t next); rising = λ i j d a b. absurd (omega arith) }
-
 later : (t : TaskValue) (next more : ℕ) (l : VertexLine) → next ≤ more → IsLineOf t next l → IsLineOf t more l
 later t next more l le i = record { vertex = i.vertex; below = (let b = i.below in omega arith); well = i.well; line = i.line }
 
@@ -70,9 +67,6 @@ lines_more t v ls l at lt well told a =
     }
 
 -- ---- a frame that is being written
-
-pub written_later : (t : TaskValue) (w : VerticesWriter) (next more : ℕ) (ls : List VertexLine) (buffer : List ℕ) → next ≤ more → AreWritten t w next ls buffer → AreWritten t w more ls buffer
-written_later t w next more ls buffer le h = record { writing = h.writing; lines = lines_later t next more ls le h.lines }
 
 -- the frame's front, and then the lines
 pub written_size : (w : VerticesWriter) (ls : List VertexLine) (buffer : List ℕ) → AreWriting w [] ls buffer → length buffer ≡ 9 + length (flat_map line ls)

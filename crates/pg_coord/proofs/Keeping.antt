@@ -11,7 +11,7 @@ use Rattle.pg_wire.specs.Bytes.{Spells}
 use Rattle.pg_worker.specs.declared.fault.WorkerFault.{WorkerFault}
 use Rattle.pg_worker.specs.declared.fault.WorkerFault.TheVariants.{OutOfMemory}
 use Rattle.pg_worker.specs.Turns.{HeldValue, Turn, IsUpTo, Refuses, DoesTurn, HasRows, SpellsRows, RefusesBytes}
-use Rattle.pg_worker.specs.Serving.{told}
+use Rattle.pg_worker.specs.Serving.{report_bytes}
 use Rattle.pg_coord.specs.Memory.{MemoryValue, still_waiting, Sends, Reports, AreFrames}
 use Rattle.pg_coord.specs.Mirrors.Sessions.{IsKept}
 use Rattle.pg_coord.proofs.Queues.{frames_then, frames_less, first_frame, IsParted, parted}
@@ -42,13 +42,13 @@ kept_turn highest s s' next held held' has_refused bytes bytes' reply f k same w
 -- the report of a fault
 pub kept_report : (highest s next : ℕ) (held : Option HeldValue) (has_refused : Bool) (bytes bytes' : List ℕ) (why : WorkerFault)
     → IsKept highest s held has_refused next bytes
-    → bytes' ≡ bytes ++ told why → IsKept highest s held has_refused next bytes'
+    → bytes' ≡ bytes ++ report_bytes why → IsKept highest s held has_refused next bytes'
 kept_report highest s next held has_refused bytes bytes' why k e = record {
   highest_is = k.highest_is;
   small = k.small;
   empty = k.empty;
-  within = omega (arith, k.within, ap length e, length-append bytes (told why));
-  frames = more_frames next bytes (told why) bytes' k.within e k.frames (fault_frames (λ m. Unit {0}) why);
+  within = omega (arith, k.within, ap length e, length-append bytes (report_bytes why));
+  frames = more_frames next bytes (report_bytes why) bytes' k.within e k.frames (fault_frames (λ m. Unit {0}) why);
 }
 
 pub some_left : (bytes rest : List ℕ) (next n : ℕ) → next ≤ length bytes → next ≢ n → n ≡ length bytes → rest ≡ drop next bytes → 1 ≤ length rest

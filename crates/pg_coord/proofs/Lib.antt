@@ -8,11 +8,9 @@ mod Moving
 mod Joins
 mod Gathering
 mod Measuring
-mod Seating
-mod Rounds
+mod LinkStates
+mod Ends
 mod Taken
 mod Taking
 mod Hearing
 mod Replying
-mod Heights
-mod Raising

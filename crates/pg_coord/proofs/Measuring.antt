@@ -1,39 +1,28 @@
 -- Frames of measures of the coordinator's map.
-use Rattle.std.proofs.Common.{◌≡◌, ℕ, Bool, true, false, ◌+◌, ◌^◌, ◌<◌, ◌≤◌, List, [], ◌∷◌, ◌++◌, length, get_or, Some, None, suc, refl, sym, ap, ◌∙◌, subst, arith}
-use Rattle.std.specs.Prelude.{All, IfSome}
+use Rattle.std.proofs.Common.{◌≡◌, ℕ, Bool, true, false, ◌+◌, ◌^◌, ◌<◌, ◌≤◌, List, [], ◌∷◌, ◌++◌, length, get_or, refl, sym, ap, ◌∙◌, subst, arith}
+use Rattle.std.specs.Prelude.{All}
 use Rattle.std.proofs.lemmas.List.{length-append}
-use Rattle.std.proofs.lemmas.List.Elements.{All-nil, All-cons, All-push}
+use Rattle.std.proofs.lemmas.List.Elements.{All-push}
 use Rattle.std.proofs.lemmas.List.Quantifiers.{all_pairs_push}
-use Rattle.pg_measure.specs.Measures.{BoundList, MeasureValue, Fits, ListFits, AtMost}
-use Rattle.pg_measure.proofs.Rows.{same_length}
+use Rattle.pg_measure.specs.Measures.{MeasureValue, Fits, AtMost}
 use Rattle.pg_map.specs.Maps.{MapValue, measure_at, MapAtMost}
 use Rattle.pg_wire.specs.declared.frame.Frame.{Frame}
 use Rattle.pg_wire.specs.declared.kind.ValueKind.{ValueKind}
 use Rattle.pg_wire.specs.declared.kind.ValueKind.TheVariants.{Dense, Sparse}
-use Rattle.pg_wire.specs.Well.{IsWord, IsBound, IsComponents, IsWell}
+use Rattle.pg_wire.specs.Well.{IsBound, IsWell}
 use Rattle.pg_wire.specs.declared.writer.ValuesWriter.{ValuesWriter}
 use Rattle.pg_wire.specs.declared.reader.ValuesReader.{ValuesReader}
 use Rattle.pg_wire.specs.Left.{IsLeft}
 use Rattle.pg_wire.specs.Spelling.{spelling}
 use Rattle.pg_wire.specs.Bytes.{Spells}
 use Rattle.pg_wire.specs.Written.{IsAdded}
-use Rattle.pg_wire.specs.Measured.{Measured, frame_of}
+use Rattle.pg_wire.specs.Measured.{Measured, IsMeasured, frame_of}
+use Rattle.pg_wire.proofs.Tells.{well_of}
 use Rattle.pg_worker.specs.Turns.{IsAtLeast}
 use Rattle.pg_coord.specs.Links.{measures_in, IsUnderAfter}
 use Rattle.pg_coord.specs.Mirrors.Sent.{AreSent, IsWritten, SpellsMeasures}
-use Rattle.pg_coord.proofs.Telling.{IsTold, frame_well, frame_tells}
-
--- components are words
-components : (bounds : BoundList) (xs : List ℕ) → All IsBound bounds → ListFits bounds xs → All IsWord xs
-components [] [] are fits = All-nil IsWord
-components [] (x ∷ xs) are fits = absurd fits
-components (b ∷ bounds) [] are fits = absurd fits
-components (b ∷ bounds) (x ∷ xs) are fits =
-    All-cons IsWord x xs (let w = (are 0 b (omega arith)).bound in let l = fits.0 in omega arith) (components bounds xs (λ k d lt. are (suc k) d (omega arith)) fits.1)
-
-value_of : (bounds : BoundList) (m : MeasureValue) → All IsBound bounds → Fits bounds m → IfSome m (IsComponents (length bounds))
-value_of bounds None are fits = tt
-value_of bounds (Some xs) are fits = record { size = same_length bounds xs fits; numbers = components bounds xs are fits }
+use Rattle.pg_coord.proofs.Replies.{components_fit}
+use Rattle.pg_coord.proofs.Telling.{frame_tells}
 
 -- a link stays under a map that is at least what it was sent
 pub under_values : (kind : ValueKind) (width : ℕ) (ms : List Measured) (h : MapValue) (before : Type 0) → IsAtLeast h.measures (measures_in (frame_of kind width ms)) → before → IsUnderAfter (frame_of kind width ms) h before
@@ -45,17 +34,6 @@ pub map_at_least : (f h : List MeasureValue) (ms : List Measured) → MapAtMost 
 map_at_least f h ms le of = λ k d lt. let m = get_or ms k d in subst (λ (n : MeasureValue). AtMost n (measure_at h m.0)) (sym (of k d lt)) (le m.0)
 
 -- ---- one measure more
-
-pub none_sent : (map : MapValue) → AreSent map 0 []
-none_sent map = record {
-  of_map = All-nil (λ m. m.1 ≡ measure_at map.measures m.0);
-  fits = All-nil (λ m. Fits map.bounds m.1);
-  within = All-nil (λ m. m.0 < length map.measures);
-  below = All-nil (λ m. m.0 < 0);
-  rising = λ i j d a b. absurd (omega arith);
-  few = omega arith;
-  bound = omega arith;
-}
 
 one_sent : (map : MapValue) (next v : ℕ) (m : MeasureValue) (ms : List Measured) → next ≤ v → v < length map.measures → m ≡ measure_at map.measures v → Fits map.bounds m → AreSent map next ms → AreSent map (v + 1) (ms ++ (v, m) ∷ [])
 one_sent map next v m ms le lt is fits a = record {
@@ -79,9 +57,9 @@ pub frame_spelled : (map : MapValue) (kind : ValueKind) (w : ValuesWriter) (next
     → IsWritten map w next ms buffer → out ≡ spelling (frame_of w.kind w.width ms) → (IsWell (frame_of w.kind w.width ms) → Spells (frame_of w.kind w.width ms) (spelling (frame_of w.kind w.width ms))) → SpellsMeasures kind map out
 frame_spelled map kind w next ms buffer out k d few are size h is spells =
     let width = length map.bounds in
-    let each : All (IsTold width) ms = λ i d l. record { vertex = (let within = h.sent.within i d l in omega arith); list = value_of map.bounds (get_or ms i d).1 are (h.sent.fits i d l) } in
+    let each : All (IsMeasured width) ms = λ i d l. record { vertex = (let within = h.sent.within i d l in omega arith); list = components_fit map.bounds (get_or ms i d).1 (h.sent.fits i d l) (λ k b lt. (are k b lt).bound) } in
     let same : frame_of w.kind w.width ms ≡ frame_of kind width ms = ap (λ (j : ValueKind). frame_of j w.width ms) k ∙ ap (λ (n : ℕ). frame_of kind n ms) d in
-    let well : IsWell (frame_of kind width ms) = frame_well kind width ms few (let a = h.sent.few in let b = h.sent.bound in omega arith) each h.sent.rising in
+    let well : IsWell (frame_of kind width ms) = well_of kind width ms (record { within = few; countable = (let a = h.sent.few in let b = h.sent.bound in omega arith); each = each; rising = h.sent.rising }) in
     let spelled : Spells (frame_of kind width ms) (spelling (frame_of kind width ms)) = subst (λ (f : Frame). Spells f (spelling f)) same (spells (subst IsWell (sym same) well)) in
     record {
       measures = ms;
@@ -93,5 +71,5 @@ frame_spelled map kind w next ms buffer out k d few are size h is spells =
 -- what a reader finds in a frame is what the frame tells
 pub found_at_least : (f : List MeasureValue) (r : ValuesReader) (ms : List Measured) → IsLeft r ms → IsAtLeast f (measures_in (frame_of r.kind r.width ms)) → IsAtLeast f ms
 found_at_least f r ms left h =
-    let each : All (IsTold r.width) ms = λ i d l. let m = left.measures i d l in record { vertex = m.vertex; list = m.list } in
+    let each : All (IsMeasured r.width) ms = λ i d l. let m = left.measures i d l in record { vertex = m.vertex; list = m.list } in
     subst (IsAtLeast f) (frame_tells r.kind r.width ms each) h

@@ -12,10 +12,10 @@ use Rattle.pg_map.specs.Lemmas.Orders.{measure_reflexive, map_reflexive, map_tra
 use Rattle.pg_map.specs.Weights.{weight, map_weight}
 use Rattle.pg_map.proofs.Weights.{measure_falls}
 use Rattle.pg_map.proofs.Passes.{IsPassed, closed_after}
-use Rattle.pg_coord.specs.declared.board.Board.{Board}
-use Rattle.pg_coord.specs.Mirrors.Boards.{Moves}
+use Rattle.pg_coord.specs.declared.rounds.coordinator_map.CoordinatorMap.{CoordinatorMap}
+use Rattle.pg_coord.specs.Mirrors.CoordinatorMaps.{Moves, Hears}
 
-pub moves_none : (b : Board) → Moves b b
+pub moves_none : (b : CoordinatorMap) → Moves b b
 moves_none b = record {
   bounds = refl;
   size = refl;
@@ -29,7 +29,7 @@ falls_through : (x y z : Bool) (p q r : ℕ) → (y ≡ false → x ≡ false) �
 falls_through x true z p q r k a b f g e h = let i = f e refl in omega arith
 falls_through x false z p q r k a b f g e h = let i = g refl h in omega arith
 
-pub moves_more : (a b c : Board) → Moves a b → Moves b c → Moves a c
+pub moves_more : (a b c : CoordinatorMap) → Moves a b → Moves b c → Moves a c
 moves_more a b c m n =
     let less : map_weight a.map.bounds c.map.measures ≤ map_weight a.map.bounds b.map.measures = subst (λ (bs : BoundList). map_weight bs c.map.measures ≤ map_weight bs b.map.measures) m.bounds n.weight in
     record {
@@ -74,7 +74,7 @@ same_by : (rose : Bool) (P : Type 0) → OnFalse rose P → rose ≡ false → P
 same_by true P s e = cc
 same_by false P s e = s
 
-pub moves_step : (old new : Board) (rose : Bool) → StepsTo old.map new.map rose → new.rose ≡ (old.rose || rose) → Moves old new
+pub moves_step : (old new : CoordinatorMap) (rose : Bool) → StepsTo old.map new.map rose → new.rose ≡ (old.rose || rose) → Moves old new
 moves_step old new rose s is = record {
   bounds = s.bounds;
   size = s.size;
@@ -111,12 +111,28 @@ raise_above old new true v m l t k s = rw (t.1, get_or-set_same old.measures v m
 raise_above old new false v m l t k s = rw s k
 
 -- a pass, in which nothing had risen before
-pub passed_moves : (lines : ℕ → Option Line) (old new : Board) (n : ℕ) → old.rose ≡ false → IsPassed lines old.map new.map new.rose n → Moves old new
+pub passed_moves : (lines : ℕ → Option Line) (old new : CoordinatorMap) (n : ℕ) → old.rose ≡ false → IsPassed lines old.map new.map new.rose n → Moves old new
 passed_moves lines old new n none p = moves_step old new new.rose (record { bounds = p.bounds; size = p.map.size; above = p.above; falls = p.weight; same = p.same }) (sym (ap (λ b. b || new.rose) none))
 
 closed_same : (lines : ℕ → Option Line) (old new : MapValue) (rose : Bool) → OnFalse rose (new ≡ old) → OnFalse rose (IsClosed old.bounds lines old.measures) → rose ≡ false → IsClosed new.bounds lines new.measures
 closed_same lines old new true s h e = cc
 closed_same lines old new false s h e = rw s h
 
-pub passed_closed : (lines : ℕ → Option Line) (old : MapValue) (new : Board) (count n : ℕ) → IsPassed lines old new.map new.rose n → AreWithin count lines → count ≤ n → new.rose ≡ false → IsClosed new.map.bounds lines new.map.measures
+pub passed_closed : (lines : ℕ → Option Line) (old : MapValue) (new : CoordinatorMap) (count n : ℕ) → IsPassed lines old new.map new.rose n → AreWithin count lines → count ≤ n → new.rose ≡ false → IsClosed new.map.bounds lines new.map.measures
 passed_closed lines old new count n p within le stays = closed_same lines old new.map new.rose p.same (closed_after lines old new.map new.rose count n p within le) stays
+
+-- ---- a link is heard
+
+pub hears_none : {L : Type 0} (is_honest : L → Type 0) (is_under : L → MapValue → Type 0) (old new : L) (f : CoordinatorMap) → (is_honest old → is_honest new)
+    → (is_honest old → (h : MapValue) → is_under old h → is_under new h) → Hears is_honest is_under old new f f
+hears_none is_honest is_under old new f honest under =
+    record { honest = honest; under = under; moves = moves_none f; least = λ ho h u le. le }
+
+pub hears_more : {L : Type 0} (is_honest : L → Type 0) (is_under : L → MapValue → Type 0) (old mid new : L) (f g h : CoordinatorMap)
+    → Hears is_honest is_under old mid f g → Hears is_honest is_under mid new g h → Hears is_honest is_under old new f h
+hears_more is_honest is_under old mid new f g h a b = record {
+  honest = λ ho. b.honest (a.honest ho);
+  under = λ ho m u. b.under (a.honest ho) m (a.under ho m u);
+  moves = moves_more f g h a.moves b.moves;
+  least = λ ho m u le. b.least (a.honest ho) m (a.under ho m u) (a.least ho m u le);
+}

@@ -5,7 +5,7 @@ use Rattle.std.specs.List.{flat_map}
 use Rattle.std.proofs.lemmas.Bool.{cases_eq, cases_lt}
 use Rattle.std.proofs.lemmas.List.{get_or-set_other, get_or_past}
 use Rattle.std.proofs.lemmas.List.Concat.{flat_map-cons}
-use Rattle.std.proofs.lemmas.List.Elements.{All-cons, All-head, All-tail}
+use Rattle.std.proofs.lemmas.List.Elements.{All-cons, All-head, All-tail, All-map}
 use Rattle.pg_measure.specs.Measures.{BoundList, MeasureValue, Fits, ListFits}
 use Rattle.pg_measure.proofs.Rows.{same_length}
 use Rattle.pg_map.specs.Lines.{Line}
@@ -17,7 +17,8 @@ use Rattle.pg_wire.specs.declared.frame.Frame.{Frame}
 use Rattle.pg_wire.specs.declared.frame.Frame.TheVariants as frames
 use Rattle.pg_wire.specs.Spelling.{spelling, longest}
 use Rattle.pg_wire.specs.Well.{IsWord, IsComponents, IsWell}
-use Rattle.pg_wire.specs.Measured.{Measured, spelled_as, frame_of}
+use Rattle.pg_wire.specs.Measured.{Measured, spelled_as, frame_of, IsMeasured}
+use Rattle.pg_wire.proofs.Tells.{well_of}
 use Rattle.pg_wire.proofs.Append.{few}
 use Rattle.pg_wire.proofs.Frames.{fields, body_size}
 use Rattle.pg_wire.specs.Mirrors.Reading.{HasBytes}
@@ -27,7 +28,7 @@ use Rattle.pg_coord.specs.Links.{measures_in}
 use Rattle.pg_coord.specs.Memory.{AreFrames}
 use Rattle.pg_coord.specs.Mirrors.Sessions.{IsSmall}
 use Rattle.pg_coord.proofs.Queues.{no_frames, one_frame, frames_then}
-use Rattle.pg_coord.proofs.Telling.{IsTold, all_map, pairs_map, all_left, all_right, pairs_left, pairs_right, frame_well, frame_tells}
+use Rattle.pg_coord.proofs.Telling.{pairs_map, all_left, all_right, pairs_left, pairs_right, frame_tells}
 
 -- ---- the measures of vertices that were lifted fit
 
@@ -67,7 +68,7 @@ words_fit (b ∷ bs) (x ∷ xs) fits w =
     let bound : IsWord b.1 = All-head (λ (c : ℕ × ℕ). IsWord c.1) b bs w in
     All-cons IsWord x xs (omega (arith, fits.0, bound)) (words_fit bs xs fits.1 (All-tail (λ (c : ℕ × ℕ). IsWord c.1) b bs w))
 
-components_fit : (bs : BoundList) (m : MeasureValue) → Fits bs m → All (λ (b : ℕ × ℕ). IsWord b.1) bs → IfSome m (IsComponents (length bs))
+pub components_fit : (bs : BoundList) (m : MeasureValue) → Fits bs m → All (λ (b : ℕ × ℕ). IsWord b.1) bs → IfSome m (IsComponents (length bs))
 components_fit bs None fits w = tt
 components_fit bs (Some xs) fits w = record { size = same_length bs xs fits; numbers = words_fit bs xs fits w }
 
@@ -81,11 +82,11 @@ part_within lines v s =
     ]
 
 pub lifted_told : (h : HeldValue) (budget : ℕ) (after : Option HeldValue) (reply : List ℕ) (t : LiftsAndTells h budget after reply) → IsSmall h
-    → All (IsTold (length h.worker.bounds)) (lifted_measures t.worker)
+    → All (IsMeasured (length h.worker.bounds)) (lifted_measures t.worker)
 lifted_told h budget after reply t small =
     let w = t.worker in
     let bs = h.worker.bounds in
-    all_map (IsTold (length bs)) (λ v. (v, measure_at w.map v)) w.lifted (λ i d lt.
+    All-map (IsMeasured (length bs)) (λ v. (v, measure_at w.map v)) w.lifted (λ i d lt.
     let a = t.turn.lifted.only i d lt in
     let v = get_or w.lifted i d in
     let good : IsGood bs (part_line h.worker.lines) w.map a.1.vertex =
@@ -107,11 +108,11 @@ abbrev pub Tells : (Measured → Type 0) → Frame → Type 0
 Tells Q f = All Q (measures_in f)
 
 one_group : (Q : Measured → Type 0) (kind : ValueKind) (width : ℕ) (ms : List Measured) → width ≤ 32768 → frame_size kind width ms ≤ longest
-    → All (IsTold width) ms → AllPairs (λ m n. m.0 < n.0) ms → All Q ms → AreFrames (Tells Q) (spelling (frame_of kind width ms))
+    → All (IsMeasured width) ms → AllPairs (λ m n. m.0 < n.0) ms → All Q ms → AreFrames (Tells Q) (spelling (frame_of kind width ms))
 one_group Q kind width ms narrow within told rising holds =
     let count : length ms ≤ length (fields kind ms) = few (spelled_as kind) ms (has_bytes kind) in
     let word : IsWord (length ms) = omega (arith, count, body_size kind width ms, within) in
-    one_frame (Tells Q) (frame_of kind width ms) (record { well = frame_well kind width ms narrow word told rising; within = within; spelled = refl })
+    one_frame (Tells Q) (frame_of kind width ms) (record { well = well_of kind width ms (record { within = narrow; countable = word; each = told; rising = rising }); within = within; spelled = refl })
     (rw (frame_tells kind width ms told) holds)
 
 abbrev same_list : List Measured → List Measured
@@ -119,19 +120,19 @@ same_list group = group
 
 groups_tell : (Q : Measured → Type 0) (kind : ValueKind) (width : ℕ) (groups : List (List Measured)) (ms : List Measured) → flat_map same_list groups ≡ ms
     → ArePacked kind width groups → width ≤ 32768
-    → All (IsTold width) ms → AllPairs (λ m n. m.0 < n.0) ms → All Q ms → AreFrames (Tells Q) (flat_map (λ group. spelling (frame_of kind width group)) groups)
+    → All (IsMeasured width) ms → AllPairs (λ m n. m.0 < n.0) ms → All Q ms → AreFrames (Tells Q) (flat_map (λ group. spelling (frame_of kind width group)) groups)
 groups_tell Q kind width [] ms e packed narrow told rising holds = no_frames (Tells Q)
 groups_tell Q kind width (g ∷ gs) ms e packed narrow told rising holds =
     let rest = flat_map same_list gs in
     let parts : ms ≡ g ++ rest = sym e ∙ flat_map-cons same_list g gs in
     let R : Measured → Measured → Type 0 = λ m n. m.0 < n.0 in
-    let told' : All (IsTold width) (g ++ rest) = subst (All (IsTold width)) parts told in
+    let told' : All (IsMeasured width) (g ++ rest) = subst (All (IsMeasured width)) parts told in
     let rising' : AllPairs R (g ++ rest) = subst (AllPairs R) parts rising in
     let holds' : All Q (g ++ rest) = subst (All Q) parts holds in
     rw (flat_map-cons (λ group. spelling (frame_of kind width group)) g gs)
     (frames_then (Tells Q) (spelling (frame_of kind width g)) (flat_map (λ group. spelling (frame_of kind width group)) gs)
-    (one_group Q kind width g narrow packed.1 (all_left (IsTold width) g rest told') (pairs_left R g rest rising') (all_left Q g rest holds'))
-    (groups_tell Q kind width gs rest refl packed.3 narrow (all_right (IsTold width) g rest told') (pairs_right R g rest rising') (all_right Q g rest holds')))
+    (one_group Q kind width g narrow packed.1 (all_left (IsMeasured width) g rest told') (pairs_left R g rest rising') (all_left Q g rest holds'))
+    (groups_tell Q kind width gs rest refl packed.3 narrow (all_right (IsMeasured width) g rest told') (pairs_right R g rest rising') (all_right Q g rest holds')))
 
 -- ---- reports
 
@@ -153,8 +154,8 @@ pub go_tells : (Q : Measured → Type 0) (h : HeldValue) (budget : ℕ) (after :
 go_tells Q h budget after reply t small holds =
     let w = t.worker in
     let width : length w.bounds ≡ length h.worker.bounds = ap length t.turn.turn.lifts.part.bounds in
-    let told : All (IsTold (length w.bounds)) (lifted_measures w) =
-    subst (λ (n : ℕ). All (IsTold n) (lifted_measures w)) (sym width) (lifted_told h budget after reply t small) in
+    let told : All (IsMeasured (length w.bounds)) (lifted_measures w) =
+    subst (λ (n : ℕ). All (IsMeasured n) (lifted_measures w)) (sym width) (lifted_told h budget after reply t small) in
     let rising : AllPairs (λ m n. m.0 < n.0) (lifted_measures w) =
     pairs_map (λ (m n : Measured). m.0 < n.0) (λ v. (v, measure_at w.map v)) w.lifted t.turn.lifted.rising in
     let values : AreFrames (Tells Q) t.measures =

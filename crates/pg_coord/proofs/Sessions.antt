@@ -22,7 +22,7 @@ use Rattle.pg_worker.specs.declared.fault.WorkerFault.TheVariants as faults
 use Rattle.pg_wire.specs.declared.fault.WireFault.TheVariants as wire
 use Rattle.pg_worker.specs.Workers.{part_line, told_line, with_lines}
 use Rattle.pg_worker.specs.Turns.{HeldValue, fresh, with_part, Turn, TakesValues, LiftsAndTells, IsAtLeast, greeting, lifted_measures}
-use Rattle.pg_worker.specs.Serving.{told}
+use Rattle.pg_worker.specs.Serving.{report_bytes}
 use Rattle.pg_worker.proofs.Under.{told_stay_under}
 use Rattle.pg_coord.specs.Links.{measures_in, IsClosedAt, IsUnderAfter}
 use Rattle.pg_coord.specs.Memory.{AreFrames, IsAboveSession}
@@ -100,7 +100,7 @@ turn_tells Q (Some h) (frames.Report r) after reply t small l = absurd t
 
 -- ---- the report of a fault
 
-pub fault_frames : (Q : Measured → Type 0) (why : WorkerFault) → AreFrames (Tells Q) (told why)
+pub fault_frames : (Q : Measured → Type 0) (why : WorkerFault) → AreFrames (Tells Q) (report_bytes why)
 fault_frames Q faults.OutOfMemory = report_frame Q 2 1 (inr (refl, inl (omega arith, omega arith)))
 fault_frames Q faults.NotMine = report_frame Q 2 2 (inr (refl, inl (omega arith, omega arith)))
 fault_frames Q faults.BadUpdate = report_frame Q 2 3 (inr (refl, inl (omega arith, omega arith)))

@@ -4,17 +4,17 @@ use Rattle.std.proofs.lemmas.Bool.{cases_lt}
 use Rattle.std.proofs.lemmas.List.{append-nil, take_all, drop_all, take_more, drop_more, drop-drop}
 use Rattle.std.proofs.lemmas.List.Concat.{flat_map-append}
 use Rattle.std.proofs.lemmas.List.Elements.{All-append}
-use Rattle.pg_measure.specs.Measures.{BoundList, MeasureValue, AtMost}
+use Rattle.pg_measure.specs.Measures.{MeasureValue, AtMost}
 use Rattle.pg_map.specs.Lines.{game_line}
-use Rattle.pg_map.specs.Maps.{MapValue, MapAtMost, IsMap, IsClosed, StaysUnder, measure_at}
+use Rattle.pg_map.specs.Maps.{MapValue, MapAtMost, IsClosed, IsNeverAbove, measure_at}
 use Rattle.pg_wire.specs.Measured.{Measured}
 use Rattle.pg_worker.specs.Turns.{IsAtLeast}
-use Rattle.pg_coord.specs.declared.seat.Seat.{Seat}
+use Rattle.pg_coord.specs.declared.rounds.link_state.LinkState.{LinkState}
 use Rattle.pg_coord.specs.Told.{Reply, measures_of, IsLeastOverReplies}
 use Rattle.pg_coord.specs.Mirrors.Tasks.{TaskValue, IsClosedMap}
-use Rattle.pg_coord.specs.Mirrors.Telling.{reply_measures, Tells, AllTell, JoinsEach}
+use Rattle.pg_coord.specs.Mirrors.Telling.{reply_measures, Tells, AllTell, IsRoundOver}
 use Rattle.pg_coord.proofs.Joins.{at_least_after}
-use Rattle.pg_coord.proofs.Rounds.{lifts_under}
+use Rattle.pg_coord.proofs.Ends.{closed_map}
 use Rattle.pg_coord.proofs.Telling.{all_left, all_right}
 
 no_reply : Reply
@@ -37,21 +37,21 @@ taken_more n rs =
 
 -- After so many rounds at least so many replies were taken of each link, or all. The map is at least the measures in these, and
 -- at most every closed map that is at least the first map and these.
-pub record HasTaken {L : Type 0} (told : L → Option (List (List ℕ))) (t : TaskValue) (replies : ℕ → List Reply) (rounds : ℕ) (seats : List Seat)
+pub record HasTaken {L : Type 0} (told : L → Option (List (List ℕ))) (t : TaskValue) (replies : ℕ → List Reply) (rounds : ℕ) (states : List LinkState)
     (links : List L)
     (f g : List MeasureValue) : Type 0 where
   pub taken : ℕ
   pub enough : rounds ≤ taken
-  pub tell : AllTell told t seats links (λ k. drop taken (replies k))
+  pub tell : AllTell told t states links (λ k. drop taken (replies k))
   pub above : (k : ℕ) → k < length links → IsAtLeast g (measures_of (take taken (replies k)))
   pub least : (h : MapValue) → IsClosedMap t h → MapAtMost f h.measures
       → ((k : ℕ) → k < length links → IsAtLeast h.measures (measures_of (take taken (replies k))))
       → MapAtMost g h.measures
 
-pub none_taken : {L : Type 0} (told : L → Option (List (List ℕ))) (t : TaskValue) (replies : ℕ → List Reply) (seats : List Seat) (links : List L)
+pub none_taken : {L : Type 0} (told : L → Option (List (List ℕ))) (t : TaskValue) (replies : ℕ → List Reply) (states : List LinkState) (links : List L)
     (f : List MeasureValue)
-    → AllTell told t seats links replies → HasTaken told t replies 0 seats links f f
-none_taken told t replies seats links f tell = record {
+    → AllTell told t states links replies → HasTaken told t replies 0 states links f f
+none_taken told t replies states links f tell = record {
   taken = 0;
   enough = omega arith;
   tell = tell;
@@ -74,55 +74,42 @@ under_less h n rs a =
       all_right Under (measures_of (take n rs)) (measures_of (take 1 (drop n rs))) both,
     )
 
--- a round takes one reply more of each link, or none; then vertices are lifted
-pub round_taken : {L : Type 0} (told : L → Option (List (List ℕ))) (t : TaskValue) (replies : ℕ → List Reply) (rounds rounds' : ℕ) (seats seats' : List Seat)
-    (links links' : List L) (count : ℕ) (f : List MeasureValue) (b g g' g'' : MapValue) (taken : HasTaken told t replies rounds seats links f g.measures)
-    → rounds' ≤ rounds + 1 → count ≡ length links → length links' ≡ length links → b ≡ g
-    → AllTell told t seats' links' (λ k. drop 1 (drop taken.taken (replies k)))
-    → JoinsEach b.measures count (λ k. measures_of (take 1 (drop taken.taken (replies k)))) g'.measures → MapAtMost b.measures g'.measures
-    → MapAtMost g'.measures g''.measures → g'.bounds ≡ t.bounds → length g'.measures ≡ length t.game
-    → StaysUnder g'.bounds (game_line t.game) g'.measures g''.measures
-    → HasTaken told t replies rounds' seats' links' f g''.measures
-round_taken told t replies rounds rounds' seats seats' links links' count f b g g' g'' h few counted same begun tell joined risen lifts bounds size under =
+-- a round takes one reply more of each link, or none
+pub round_taken : {L : Type 0} (told : L → Option (List (List ℕ))) (t : TaskValue) (replies : ℕ → List Reply) (rounds rounds' : ℕ) (states states' : List LinkState)
+    (links links' : List L) (f g g' : List MeasureValue) (taken : HasTaken told t replies rounds states links f g)
+    → rounds' ≤ rounds + 1 → length links' ≡ length links → MapAtMost g g'
+    → AllTell told t states' links' (λ k. drop 1 (drop taken.taken (replies k)))
+    → IsRoundOver t g (length links) (λ k. measures_of (take 1 (drop taken.taken (replies k)))) g'
+    → HasTaken told t replies rounds' states' links' f g'
+round_taken told t replies rounds rounds' states states' links links' f g g' h few same risen tell over =
     let n = h.taken in
-    let joins = subst (λ (m : MapValue). JoinsEach m.measures count (λ k. measures_of (take 1 (drop n (replies k)))) g'.measures) begun joined in
-    let rises : MapAtMost g.measures g'.measures = subst (λ (m : MapValue). MapAtMost m.measures g'.measures) begun risen in
     record {
       taken = n + 1;
       enough = (let e = h.enough in omega arith);
       tell = λ k d e lt.
-          subst (λ (rs : List Reply). Tells t (k + 1) rs (slice_index_or seats' k e) (told (slice_index_or links' k d))) (drop-drop 1 n (replies k))
+          subst (λ (rs : List Reply). Tells t (k + 1) rs (slice_index_or states' k e) (told (slice_index_or links' k d))) (drop-drop 1 n (replies k))
           (tell k d e lt);
       above = λ k lt.
           let old : k < length links = omega arith in
-          let before = at_least_after g.measures g'.measures (measures_of (take n (replies k))) rises (h.above k old) in
-          at_least_after g'.measures g''.measures (measures_of (take (n + 1) (replies k))) lifts
-          (under_more g'.measures n (replies k) before (joins.above k (omega arith)));
+          under_more g' n (replies k) (at_least_after g g' (measures_of (take n (replies k))) risen (h.above k old)) (over.above k old);
       least = λ m closed le each.
           let at : (k : ℕ) → k < length links → IsAtLeast m.measures (measures_of (take (n + 1) (replies k))) = λ k lt. each k (omega arith) in
-          let before = h.least m closed le (λ k lt. (under_less m.measures n (replies k) (at k lt)).0) in
-          lifts_under t g' g'' m bounds size under closed
-          (joins.least m.measures before (λ k lt. (under_less m.measures n (replies k) (at k (omega arith))).1));
+          over.least m closed (h.least m closed le (λ k lt. (under_less m.measures n (replies k) (at k lt)).0))
+          (λ k lt. (under_less m.measures n (replies k) (at k lt)).1);
     }
 
 -- the least closed map that is at least what was taken
-pub least_over : {L : Type 0} (told : L → Option (List (List ℕ))) (t : TaskValue) (replies : ℕ → List Reply) (rounds : ℕ) (seats : List Seat) (links : List L)
-    (count : ℕ) (f : List MeasureValue) (g : MapValue) → HasTaken told t replies rounds seats links f g.measures → length links ≡ count → g.bounds ≡ t.bounds
-    → length g.measures ≡ length t.game → IsClosed g.bounds (game_line t.game) g.measures → ((h : MapValue) → IsClosedMap t h → MapAtMost f h.measures)
-    → IsLeastOverReplies (game_line t.game) rounds count replies g
-least_over told t replies rounds seats links count f g h same bounds size closed first = record {
+pub least_over : {L : Type 0} (told : L → Option (List (List ℕ))) (t : TaskValue) (replies : ℕ → List Reply) (rounds : ℕ) (states : List LinkState) (links : List L)
+    (count : ℕ) (f g : MapValue) → HasTaken told t replies rounds states links f.measures g.measures → length links ≡ count → f.bounds ≡ t.bounds
+    → length f.measures ≡ length t.game → g.bounds ≡ f.bounds → length g.measures ≡ length t.game → IsClosed g.bounds (game_line t.game) g.measures
+    → IsNeverAbove f.bounds (game_line t.game) f.measures → IsLeastOverReplies (game_line t.game) rounds count replies g
+least_over told t replies rounds states links count f g h same bounds size stay width closed first = record {
   taken = λ k. h.taken;
   enough = λ k lt. inl h.enough;
   closed = closed;
   above = λ k lt. h.above k (omega arith);
   least = λ m is at each.
-      let other : MapValue = record { bounds = g.bounds; measures = m } in
-      let map : IsMap t.bounds (length t.game) m = subst (λ (bs : BoundList). IsMap bs (length t.game) m) bounds
-      (subst (λ (n : ℕ). IsMap g.bounds n m) size is) in
-      let one : IsClosedMap t other = record {
-        bounds = bounds;
-        map = map;
-        closed = subst (λ (bs : BoundList). IsClosed bs (game_line t.game) m) bounds at;
-      } in
-      h.least other one (first other one) (λ k lt. each k (omega arith));
+      let one = closed_map t g m (stay ∙ bounds) width is at in
+      h.least (record { bounds = t.bounds; measures = m }) one (first m (rw (bounds, size) one.map) (rw bounds one.closed))
+      (λ k lt. each k (omega arith));
 }

@@ -5,7 +5,6 @@ use Rattle.std.specs.Prelude.{OnOk, IsErr, ◌==◌, if◌then◌else◌}
 use Rattle.std.proofs.lemmas.Bool.{cases_Bool}
 use Rattle.pg_measure.specs.Measures.{BoundList}
 use Rattle.pg_wire.specs.declared.frame.Values.{Values}
-use Rattle.pg_wire.specs.declared.frame.Report.{Report}
 use Rattle.pg_wire.specs.declared.frame.Frame.{Frame}
 use Rattle.pg_wire.specs.declared.frame.Frame.TheVariants as frames
 use Rattle.pg_wire.specs.declared.kind.ValueKind.{ValueKind}
@@ -17,22 +16,17 @@ use Rattle.pg_wire.proofs.Bodies.{one_frame}
 use Rattle.pg_wire.proofs.Tells.{dense_told}
 use Rattle.pg_worker.specs.Cuts.{CutValue}
 use Rattle.pg_worker.specs.Turns.{kind_of, Joins}
-use Rattle.pg_coord.specs.declared.board.Board.{Board}
+use Rattle.pg_coord.specs.declared.rounds.coordinator_map.CoordinatorMap.{CoordinatorMap}
 use Rattle.pg_coord.specs.declared.link.LinkFault.{LinkFault}
 use Rattle.pg_coord.specs.declared.link.LinkFault.TheVariants.{Failed}
 use Rattle.pg_coord.specs.Links.{refusal, SendsTold, RestartsTold, HandsOver}
 use Rattle.pg_coord.specs.Replies.{AreOfPart}
-use Rattle.pg_coord.specs.Mirrors.Boards.{Moves}
+use Rattle.pg_coord.specs.Mirrors.CoordinatorMaps.{Moves}
 use Rattle.pg_coord.specs.Mirrors.Joined.{JoinsFrame}
 use Rattle.pg_coord.specs.Mirrors.Takes.{TakesFrame}
 use Rattle.pg_coord.specs.Mirrors.Telling.{TellsAfter, AnswersAfter, told_with}
 
 -- ---- one call
-
--- another call's fault is handed on
-pub handed_on : {T U : Type 0} (P : Type 0) (s : Result T LinkFault) (r : Result U LinkFault) (e : LinkFault) → s ≡ Err e → s ≢ Err Failed → r ≡ Err e
-    → (r ≢ Err Failed) × OnOk r P
-handed_on P s r e was k is = rw is ((λ no. k (cc)), tt)
 
 pub answered_by : {T : Type 0} (r : Result T LinkFault) (x : T) (left : List (List ℕ)) (new : Option (List (List ℕ))) → r ≡ Ok x → new ≡ Some left
     → AnswersAfter x left new r
@@ -93,22 +87,12 @@ pub found_dense : (kind : ValueKind) (width : ℕ) (ms : List Measured) (v : Val
 found_dense kind width ms v bytes next found same s =
     is_dense kind width ms v (one_frame (frame_of kind width ms) (frames.Values v) next (subst (Spells (frame_of kind width ms)) same found) s)
 
-no_report : (kind : ValueKind) (width : ℕ) (ms : List Measured) (r : Report) → frame_of kind width ms ≡ frames.Report r → ⊥
-no_report Dense width ms r e = absurd (cc)
-no_report Sparse width ms r e = absurd (cc)
-
-pub found_no_report : (kind : ValueKind) (width : ℕ) (ms : List Measured) (r : Report) (bytes next : List ℕ) → Spells (frame_of kind width ms) bytes
-    → bytes ≡ next
-    → Spells (frames.Report r) next → ⊥
-found_no_report kind width ms r bytes next found same s =
-    no_report kind width ms r (one_frame (frame_of kind width ms) (frames.Report r) next (subst (Spells (frame_of kind width ms)) same found) s)
-
 pub part_again : (agreed kind : ValueKind) (bounds : BoundList) (cut cut' : CutValue) (worker width : ℕ) (ms : List Measured) (v : Values)
     → IsDense kind width ms v
     → agreed ≡ Dense → cut' ≡ cut → AreOfPart Dense bounds cut worker Dense v.width (told_values v.values) → AreOfPart agreed bounds cut' worker kind width ms
 part_again agreed kind bounds cut cut' worker width ms v d a c p = rw (a, c, d.kind_is, d.width_is, d.measures) p
 
-pub frame_joins : (agreed kind : ValueKind) (cut : CutValue) (worker width : ℕ) (old new : Board) (ms : List Measured) (v : Values) → IsDense kind width ms v
+pub frame_joins : (agreed kind : ValueKind) (cut : CutValue) (worker width : ℕ) (old new : CoordinatorMap) (ms : List Measured) (v : Values) → IsDense kind width ms v
     → Moves old new → JoinsFrame agreed cut worker old new kind width ms true → Joins old.map.measures (told_values v.values) new.map.measures
 frame_joins agreed kind cut worker width old new ms v d m j =
     let all : Joins old.map.measures ms new.map.measures = record { size = m.size; above = m.above; each = j.above refl; least = j.least } in

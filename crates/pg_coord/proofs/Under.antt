@@ -8,7 +8,7 @@ use Rattle.pg_wire.specs.declared.frame.Frame.TheVariants as frames
 use Rattle.pg_wire.specs.Bytes.{Spells}
 use Rattle.pg_wire.proofs.Bodies.{one_frame}
 use Rattle.pg_worker.specs.Turns.{IsAtLeast}
-use Rattle.pg_worker.specs.Serving.{told}
+use Rattle.pg_worker.specs.Serving.{report_bytes}
 use Rattle.pg_coord.specs.Links.{measures_in, IsUnderAfter}
 use Rattle.pg_coord.specs.Memory.{MemoryValue, still_waiting, Answers, RefusesFrame, Drops, Sends, AreFrames, IsAboveLink}
 use Rattle.pg_coord.specs.Mirrors.Sessions.{IsSmall}
@@ -42,7 +42,7 @@ refused : (old new : MemoryValue) (f : Frame) (h : MapValue) → RefusesFrame f 
 refused old new f h r u =
     record {
       session = rw r.2.held tt;
-      waiting = rw r.2.waiting (frames_then (AtMostMap h) (still_waiting f old.waiting) (told r.0)
+      waiting = rw r.2.waiting (frames_then (AtMostMap h) (still_waiting f old.waiting) (report_bytes r.0)
           (still_above (AtMostMap h) (IsAboveLink old h) h f old.waiting u (λ b. b.waiting))
           (fault_frames (λ m. AtMost m.1 (measure_at h.measures m.0)) r.0));
     }

@@ -12,7 +12,7 @@ use Rattle.pg_worker.specs.declared.fault.WorkerFault.{WorkerFault}
 use Rattle.pg_worker.specs.declared.fault.WorkerFault.TheVariants.{Wire}
 use Rattle.pg_worker.specs.Workers.{part_line}
 use Rattle.pg_worker.specs.Turns.{HeldValue, Turn, IsUpTo, Refuses, IsAtLeast}
-use Rattle.pg_worker.specs.Serving.{told}
+use Rattle.pg_worker.specs.Serving.{report_bytes}
 use Rattle.pg_coord.specs.declared.link.LinkFault.{LinkFault}
 use Rattle.pg_coord.specs.declared.link.LinkFault.TheVariants.{OutOfMemory, Failed}
 use Rattle.pg_coord.specs.Links.{measures_in}
@@ -54,7 +54,7 @@ pub record Answers (f : Frame) (old new : MemoryValue) : Type 0 where
 -- the session holds nothing any more, and the report of the fault waits behind what waits on
 pub record Reports (why : WorkerFault) (before : List ℕ) (new : MemoryValue) : Type 0 where
   pub held : new.held ≡ None
-  pub waiting : new.waiting ≡ before ++ told why
+  pub waiting : new.waiting ≡ before ++ report_bytes why
   pub refused : new.has_refused ≡ true
 
 -- the session refuses the frame, and reports why

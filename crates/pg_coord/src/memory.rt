@@ -82,7 +82,7 @@ impl MemoryLink {
     }
 
     /// Takes away so many bytes of what waits, which are whole frames.
-    fn pass(&mut self, count: usize)
+    fn skip(&mut self, count: usize)
         requires within { count ≤ length self.old.waiting }
         requires frames { AreFrames (λ f. Unit {0}) (drop count self.old.waiting) }
         ensures { self.new ≡ record self.old { waiting = drop count self.old.waiting } }
@@ -227,7 +227,7 @@ impl Link for MemoryLink {
         frame.clear();
         frame.extend_from_slice(next)?;
         let count = next.len();
-        self.pass(count);
+        self.skip(count);
         Ok(())
     }
 

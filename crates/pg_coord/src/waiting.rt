@@ -4,7 +4,7 @@ ghost use Rattle.std.specs.Prelude.{◌≡◌, ◌≤◌, ◌++◌, ℕ, List, l
 ghost use Rattle.pg_wire.specs.declared.frame.Frame.{Frame};
 ghost use Rattle.pg_wire.specs.Spelling.{spelling};
 ghost use Rattle.pg_wire.specs.Bytes.{Spells};
-ghost use Rattle.pg_worker.specs.Serving.{told};
+ghost use Rattle.pg_worker.specs.Serving.{report_bytes};
 ghost use Rattle.pg_coord.specs.Memory.{AreFrames};
 
 use pg_wire::WireFault;
@@ -13,7 +13,7 @@ use std::alloc::AllocError;
 
 /// Appends the report of a fault, if it has one.
 pub fn put_fault(fault: WorkerFault, out: &mut Vec<u8>) -> Result<(), AllocError>
-    ensures ok { OnOk result (out.new.items ≡ out.old.items ++ told fault) }
+    ensures ok { OnOk result (out.new.items ≡ out.old.items ++ report_bytes fault) }
     ensures err { OnErr result (out.new.items ≡ out.old.items) }
 {
     match fault {

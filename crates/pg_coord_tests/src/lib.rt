@@ -8,6 +8,8 @@ mod alone;
 #[cfg(test)]
 mod failing;
 #[cfg(test)]
+mod going_on;
+#[cfg(test)]
 mod hostile;
 #[cfg(test)]
 mod rising;
@@ -17,5 +19,3 @@ mod solving;
 mod told;
 #[cfg(test)]
 mod tools;
-#[cfg(test)]
-mod within;

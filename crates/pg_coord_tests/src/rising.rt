@@ -1,4 +1,4 @@
-//! Solving a game of which few vertices may rise: workers are told of these, and lift them in one round.
+//! Solving a game of which few vertices rise: workers lift these in one round.
 
 use pg_arena::{Game, GameBuilder, Player, Vertex};
 use pg_coord::{MemoryLink, Solved, solve};
@@ -29,7 +29,7 @@ fn is_found(solved: &Solved, rounds: u64) -> bool {
 }
 
 #[test]
-fn vertices_that_may_rise_are_told(rt: HostRuntime) -> Result<(), Fail> {
+fn the_vertices_that_rise_do_so_in_one_round(rt: HostRuntime) -> Result<(), Fail> {
     let alloc = rt.alloc();
     let game = calm_game(alloc)?;
     assert!(rt; game.len() == 8);

@@ -1,8 +1,12 @@
-//! The game, and calls that test what `solve` answers.
+//! The game, and calls that test what `solve` and `solve_from` answer.
+
+ghost use Rattle.std.specs.Prelude.{◌≡◌, length, IfOk};
+ghost use Rattle.pg_measure.specs.Games.{IsBoundsOf};
 
 use pg_arena::{Game, GameBuilder, Player, Vertex};
-use pg_coord::{CoordFault, Limits, Link, Solved, solve, solve_within};
-use pg_map::View;
+use pg_coord::{CoordFault, Link, Outcome, Solved, solve, solve_from};
+use pg_map::{MeasureMap, View};
+use pg_measure::Bounds;
 use pg_worker::Cut;
 use std::alloc::Global;
 use std::test::Fail;
@@ -57,49 +61,44 @@ pub fn solves<L: Link>(
     solves_game(alloc, &game(alloc)?, links, budget)
 }
 
-/// The limit of so many rises.
-pub fn rises(rises: u64) -> Limits {
-    Limits {
-        rises,
-        rounds: u64::MAX,
-        told: u64::MAX,
+/// The map of the game that has top at the first vertex, and zeros at the other.
+pub fn top_at_first(alloc: Global, game: &Game) -> Result<MeasureMap, Fail>
+    ensures bounds { IfOk result (λ m. IsBoundsOf game.now m.bounds) }
+    ensures size { IfOk result (λ m. length m.measures ≡ length game.now) }
+{
+    let bounds = Bounds::of(alloc, game)?;
+    let mut map = MeasureMap::zero(alloc, game.len() as u32, &bounds)?;
+    if map.len() > 0 {
+        map.raise(Vertex(0), View::Top);
     }
+    Ok(map)
 }
 
-/// The limit of so many rounds.
-pub fn rounds(rounds: u64) -> Limits {
-    Limits {
-        rises: u64::MAX,
-        rounds,
-        told: u64::MAX,
-    }
-}
-
-/// The limit of so many vertices that are told.
-pub fn told(told: u64) -> Limits {
-    Limits {
-        rises: u64::MAX,
-        rounds: u64::MAX,
-        told,
-    }
-}
-
-/// Solves the game over these links, where the map begins with top at the first vertex, and gives up where a limit is passed:
-/// how many rounds, restarts and links given up there were, where that gives top at both vertices.
-pub fn solves_within<L: Link>(
+/// Solves the game over these links, from top at the first vertex on.
+pub fn solves_on<L: Link>(
     alloc: Global,
     links: &mut [L],
-    limits: Limits,
-) -> Result<Option<(u64, u64, u64)>, Fail> {
+    most_rounds: u64,
+) -> Result<Outcome, Fail> {
     let game = game(alloc)?;
-    if game.len() != 2 {
-        return Ok(None);
-    }
     let cut = Cut::even(alloc, 2, u32::try_from(links.len())?)?;
-    let tops = [Vertex(0)];
-    match solve_within(alloc, &game, links, &cut, 4096, &tops, limits)? {
-        Some(solved) => Ok(counts(&solved)),
-        None => Ok(None),
+    let from = top_at_first(alloc, &game)?;
+    Ok(solve_from(alloc, &game, links, &cut, 4096, from, most_rounds)?)
+}
+
+/// How many rounds, restarts and links given up there were, where the map is closed and top at both vertices.
+pub fn closes(outcome: &Outcome) -> Option<(u64, u64, u64)> {
+    match outcome {
+        Outcome::Closed(solved) => counts(solved),
+        Outcome::Stopped(_) => None,
+    }
+}
+
+/// Whether rounds were given up, and left top at the first vertex.
+pub fn stops(outcome: &Outcome) -> bool {
+    match outcome {
+        Outcome::Closed(_) => false,
+        Outcome::Stopped(map) => map.len() == 2 && map.get(Vertex(0)) == View::Top,
     }
 }
 

@@ -2,7 +2,7 @@
 use Rattle.std.specs.Prelude.{◌≡◌, ◌≢◌, ℕ, ◌+◌, ◌<◌, true, false, List, [], ◌∷◌, ◌++◌, map, length, All, Option, Some, Result, Ok, Err, OnOk, slice_index_or}
 use Rattle.std.specs.List.{flat_map}
 use Rattle.pg_measure.specs.Measures.{MeasureValue}
-use Rattle.pg_map.specs.Maps.{MapAtMost}
+use Rattle.pg_map.specs.Maps.{MapValue, MapAtMost}
 use Rattle.pg_wire.specs.declared.frame.Values.{Values}
 use Rattle.pg_wire.specs.declared.frame.Report.{Report}
 use Rattle.pg_wire.specs.declared.frame.Frame.TheVariants as frames
@@ -13,10 +13,10 @@ use Rattle.pg_wire.specs.Measured.{Measured, told_values}
 use Rattle.pg_worker.specs.Turns.{IsAtLeast}
 use Rattle.pg_coord.specs.declared.link.LinkFault.{LinkFault}
 use Rattle.pg_coord.specs.declared.link.LinkFault.TheVariants.{Failed}
-use Rattle.pg_coord.specs.declared.seat.Seat.{Seat}
+use Rattle.pg_coord.specs.declared.rounds.link_state.LinkState.{LinkState}
 use Rattle.pg_coord.specs.Links.{refusal}
 use Rattle.pg_coord.specs.Told.{Reply, IsReply, spelled_replies}
-use Rattle.pg_coord.specs.Mirrors.Tasks.{TaskValue}
+use Rattle.pg_coord.specs.Mirrors.Tasks.{TaskValue, IsClosedMap}
 
 -- ---- one call
 
@@ -47,28 +47,34 @@ reply_measures r = flat_map (λ v. told_values v.values) r.values
 abbrev pub told_reply : List Values → Report → List (List ℕ) → List (List ℕ)
 told_reply vs report left = map spelling (map frames.Values vs ++ frames.Report report ∷ []) ++ left
 
--- ---- links and their seats
+-- ---- links and their states
 
 -- A link will still tell these replies, none of them a failure. As long as one is left the link is in use, and values go dense.
-pub record Tells (t : TaskValue) (worker : ℕ) (rs : List Reply) (seat : Seat) (told : Option (List (List ℕ))) : Type 0 where
+pub record Tells (t : TaskValue) (worker : ℕ) (rs : List Reply) (state : LinkState) (told : Option (List (List ℕ))) : Type 0 where
   pub told_is : told ≡ Some (spelled_replies rs)
   pub replies : All (IsReply t.bounds t.cut worker) rs
-  pub until_end : seat.in_use ≡ false → rs ≡ []
-  pub kind : seat.kind ≡ Dense
+  pub until_end : state.in_use ≡ false → rs ≡ []
+  pub kind : state.kind ≡ Dense
 
 -- a link in use was asked
-abbrev pub IsAsked : Seat → Type 0
-IsAsked seat = seat.in_use ≡ true → seat.asked ≡ true
+abbrev pub IsAsked : LinkState → Type 0
+IsAsked state = state.in_use ≡ true → state.asked ≡ true
 
 -- each link will still tell the replies of its own
-abbrev pub AllTell : {L : Type 0} → (L → Option (List (List ℕ))) → TaskValue → List Seat → List L → (ℕ → List Reply) → Type 0
-AllTell {L} told t seats links replies =
-    (k : ℕ) (d : L) (e : Seat) → k < length links
-    → Tells t (k + 1) (replies k) (slice_index_or seats k e) (told (slice_index_or links k d))
+abbrev pub AllTell : {L : Type 0} → (L → Option (List (List ℕ))) → TaskValue → List LinkState → List L → (ℕ → List Reply) → Type 0
+AllTell {L} told t states links replies =
+    (k : ℕ) (d : L) (e : LinkState) → k < length links
+    → Tells t (k + 1) (replies k) (slice_index_or states k e) (told (slice_index_or links k d))
 
 -- each link in use was asked
-abbrev pub AllAsked : {L : Type 0} → List Seat → List L → Type 0
-AllAsked {L} seats links = (k : ℕ) (d : L) (e : Seat) → k < length links → IsAsked (slice_index_or seats k e)
+abbrev pub AllAsked : {L : Type 0} → List LinkState → List L → Type 0
+AllAsked {L} states links = (k : ℕ) (d : L) (e : LinkState) → k < length links → IsAsked (slice_index_or states k e)
+
+-- g is at least each measure in so many lists, and at most every closed map that is at least f and each of these
+pub record IsRoundOver (t : TaskValue) (f : List MeasureValue) (count : ℕ) (measures : ℕ → List Measured) (g : List MeasureValue) : Type 0 where
+  pub above : (k : ℕ) → k < count → IsAtLeast g (measures k)
+  pub least : (h : MapValue) → IsClosedMap t h → MapAtMost f h.measures
+      → ((k : ℕ) → k < count → IsAtLeast h.measures (measures k)) → MapAtMost g h.measures
 
 -- g is the least map that is at least f and each measure in the first of so many lists
 pub record JoinsEach (f : List MeasureValue) (count : ℕ) (measures : ℕ → List Measured) (g : List MeasureValue) : Type 0 where

@@ -1,31 +1,21 @@
+use Rattle.std.proofs.Common.{◌<◌, ◌^◌, ◌∙◌, ℕ, sym, subst}
+use Rattle.std.proofs.lemmas.Result.{IfOk-weaker}
+use Rattle.pg_coord.proofs.Ends.{ends_weaker}
 use Rattle.pg_coord.proofs.solver.run.Goals as goal
 
-pub returns-in-Ok-clause-map : goal.returns-in-Ok-clause-map
-returns-in-Ok-clause-map g c = c.in-Ok.ensures.map
+pub make_rounds-requires-clause-states : goal.make_rounds-requires-clause-states
+make_rounds-requires-clause-states g c = c.set_up_all.auto.states ∙ c.requires.states ∙ sym c.set_up_all.auto.links
 
-pub returns-in-Ok-clause-closed : goal.returns-in-Ok-clause-closed
-returns-in-Ok-clause-closed g c = c.in-Ok.ensures.closed
+pub make_rounds-requires-clause-few : goal.make_rounds-requires-clause-few
+make_rounds-requires-clause-few g c = subst (λ (n : ℕ). n < 2 ^ 32) (sym c.set_up_all.auto.links) c.requires.few
 
-pub returns-in-Ok-clause-rounds : goal.returns-in-Ok-clause-rounds
-returns-in-Ok-clause-rounds g c = c.in-Ok.ensures.rounds
+pub returns-clause-honest : goal.returns-clause-honest
+returns-clause-honest g c = λ honest. c.make_rounds.ensures.honest (c.set_up_all.ensures.honest honest)
 
-pub returns-in-Ok-clause-least : goal.returns-in-Ok-clause-least
-returns-in-Ok-clause-least g c = c.in-Ok.ensures.least
-
-pub returns-in-Ok-clause-honest : goal.returns-in-Ok-clause-honest
-returns-in-Ok-clause-honest g c = c.seat_and_run.ensures.honest
-
-pub returns-in-Ok-clause-told : goal.returns-in-Ok-clause-told
-returns-in-Ok-clause-told g c = c.in-Ok.ensures.told
-
-pub returns-in-Ok-clause-bounds : goal.returns-in-Ok-clause-bounds
-returns-in-Ok-clause-bounds g c = c.seat_and_run.ensures.bounds
-
-pub seat_and_run-requires-clause-few : goal.seat_and_run-requires-clause-few
-seat_and_run-requires-clause-few g c = c.requires.few
-
-pub seat_and_run-requires-clause-bounds : goal.seat_and_run-requires-clause-bounds
-seat_and_run-requires-clause-bounds g c = c.requires.bounds
-
-pub seat_and_run-requires-clause-size : goal.seat_and_run-requires-clause-size
-seat_and_run-requires-clause-size g c = c.requires.size
+pub returns-clause-ends : goal.returns-clause-ends
+returns-clause-ends g c =
+    let in_step = c.in_ok-set_up_all.ensures in
+    IfOk-weaker c.make_rounds.result _ _
+    (λ rounds. ends_weaker _ _ _ _ _ _ _ _ _ _ rounds
+    (λ honest. (c.set_up_all.ensures.honest honest, in_step.in_step honest c.args.coordinator.now.map)) in_step.told c.set_up_all.auto.links)
+    c.make_rounds.ensures.ends

@@ -16,8 +16,8 @@ split_at-requires-2 c =
     let some : 1 ≤ length rest = some_left items rest inside.next c.len.result c.self.invariant.within c.if-self-len.false len e in
     first_within Any rest c.first_len.result some (rw e c.self.invariant.frames) c.first_len.ensures
 
-pub pass-requires-clause-frames : goal.pass-requires-clause-frames
-pass-requires-clause-frames c =
+pub skip-requires-clause-frames : goal.skip-requires-clause-frames
+skip-requires-clause-frames c =
     let inside = c.self.inside in
     let items = inside.waiting.items in
     let rest = c.split_at.result.1.now in
@@ -44,7 +44,7 @@ returns-clause-under c = λ h under.
     let part : IsParted (AtMostMap h) front (drop (length front) c.args.self.now.waiting) =
     first_waiting (AtMostMap h) c.args.self.now.waiting rest front c.split_at-2.result.1.now c.first_len.result some same under.waiting
     c.first_len.ensures c.split_at-2.ensures.front_len c.split_at-2.ensures.by_index.0 c.split_at-2.ensures.back in
-    subst (λ (m : MemoryValue). IsAboveLink m h) (sym c.pass.ensures) (record { session = under.session; waiting = part.others })
+    subst (λ (m : MemoryValue). IsAboveLink m h) (sym c.skip.ensures) (record { session = under.session; waiting = part.others })
 
 pub returns-clause-values : goal.returns-clause-values
 returns-clause-values c = λ h under f s.

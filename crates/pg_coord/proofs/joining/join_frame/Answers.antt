@@ -1,8 +1,0 @@
-use Rattle.pg_coord.proofs.Moving.{moves_none}
-use Rattle.pg_coord.proofs.joining.join_frame.Goals as goal
-
-pub returns-then-ne-clause-moves : goal.returns-then-ne-clause-moves
-returns-then-ne-clause-moves c = moves_none c.args.board.now
-
-pub returns-then-not-is_as_wide-clause-moves : goal.returns-then-not-is_as_wide-clause-moves
-returns-then-not-is_as_wide-clause-moves c = moves_none c.args.board.now

@@ -1,0 +1,6 @@
+use Rattle.std.proofs.lemmas.Result.{on_ok_weaker}
+use Rattle.pg_coord.proofs.rounds.round.ask_one.Goals as goal
+
+pub returns-in-Err-Failed-clause-in_step : goal.returns-in-Err-Failed-clause-in_step
+returns-in-Err-Failed-clause-in_step g c =
+    on_ok_weaker c.mend.result (λ mended ho s. mended (c.ask.ensures.honest ho) c.args.coordinator.now.map) c.mend.ensures.in_step

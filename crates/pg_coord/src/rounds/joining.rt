@@ -1,0 +1,90 @@
+//! Joins the measures of frames into the coordinator's map.
+
+ghost use Rattle.std.specs.Prelude.{◌≡◌, ◌↔◌, ◌∷◌, [], IsTrue, length, List};
+ghost use Rattle.pg_measure.specs.Views.{measure_in};
+ghost use Rattle.pg_wire.specs.Measured.{Measured};
+ghost use Rattle.pg_wire.specs.Left.{IsLeft};
+ghost use Rattle.pg_coord.specs.Replies.{IsOfPart};
+ghost use Rattle.pg_coord.specs.Mirrors.CoordinatorMaps.{Moves};
+ghost use Rattle.pg_coord.specs.Mirrors.Joined.{JoinsPart, JoinsFrame};
+
+use crate::rounds::coordinator_map::CoordinatorMap;
+use pg_arena::Vertex;
+use pg_map::View;
+use pg_measure::Bounds;
+use pg_wire::{ValueKind, ValuesReader};
+use pg_worker::{Cut, fits, lent_row};
+
+/// Whether a measure is one of the bounds, at a vertex of the worker's part.
+fn is_of_part(bounds: &Bounds, cut: &Cut, worker: u32, vertex: u32, m: View) -> bool
+    ensures { IsTrue result ↔ IsOfPart bounds.now cut.now worker (vertex, measure_in m.entry) }
+{
+    (vertex as usize) < cut.vertices() && cut.worker_of(Vertex(vertex)) == worker && fits(m, bounds)
+}
+
+/// Joins a measure. False where the vertex isn't of the worker's part or the measure doesn't fit.
+fn join_one(coordinator: &mut CoordinatorMap, cut: &Cut, worker: u32, vertex: u32, m: View) -> bool
+    requires { length cut.now.numbers ≡ length coordinator.old.map.measures }
+    ensures { JoinsPart cut.now worker coordinator.old coordinator.new ((vertex, measure_in m.entry) ∷ []) result }
+{
+    if !is_of_part(coordinator.map.bounds(), cut, worker, vertex, m) {
+        return false;
+    }
+    coordinator.raise(Vertex(vertex), m);
+    true
+}
+
+/// Joins the measures that are left of a frame, by a row of as many places as it is wide, up to the first that isn't of the
+/// worker's part.
+fn join_read(
+    coordinator: &mut CoordinatorMap,
+    cut: &Cut,
+    worker: u32,
+    mut values: ValuesReader,
+    row: &mut [u32],
+) -> bool
+    requires cut { length cut.now.numbers ≡ length coordinator.old.map.measures }
+    requires row { length row.old ≡ values.width }
+    ensures moves { Moves coordinator.old coordinator.new }
+    ensures joins { (ms : List Measured) → IsLeft values.entry ms
+        → JoinsPart cut.now worker coordinator.old coordinator.new ms result }
+{
+    'each: while let Some((vertex, is_top)) = values.next(row) {
+        if !join_one(coordinator, cut, worker, vertex, lent_row(is_top, row)) {
+            return false;
+        }
+    }
+    true
+}
+
+/// Whether a frame is as wide as the bounds.
+fn is_as_wide(width: u32, bounds: &Bounds) -> bool
+    ensures { IsTrue result ↔ (width ≡ length bounds.now) }
+{
+    width as usize == bounds.pairs().len()
+}
+
+/// Joins the measures of a frame, by a row of as many places as there are bounds. False exactly where the frame isn't of the
+/// kind that was agreed on, or a measure isn't of the worker's part; what came before the first such measure is joined.
+pub fn join_frame(
+    coordinator: &mut CoordinatorMap,
+    cut: &Cut,
+    worker: u32,
+    kind: ValueKind,
+    values: ValuesReader,
+    row: &mut [u32],
+) -> bool
+    requires cut { length cut.now.numbers ≡ length coordinator.old.map.measures }
+    requires row { length row.old ≡ length coordinator.old.map.bounds }
+    ensures moves { Moves coordinator.old coordinator.new }
+    ensures joins { (ms : List Measured) → IsLeft values.entry ms
+        → JoinsFrame kind cut.now worker coordinator.old coordinator.new values.entry.kind values.entry.width ms result }
+{
+    if values.kind() != kind {
+        return false;
+    }
+    if !is_as_wide(values.width(), coordinator.map.bounds()) {
+        return false;
+    }
+    join_read(coordinator, cut, worker, values, row)
+}
