@@ -5,7 +5,7 @@ use Rattle.pg_map.specs.Lines.{game_line}
 use Rattle.pg_map.specs.Maps.{MapValue}
 use Rattle.pg_worker.specs.Cuts.{CutValue, IsEvenCut}
 use Rattle.pg_coord.specs.Told.{Reply, TellReplies, IsLeastOverReplies}
-use Rattle.pg_cli.specs.Measuring.{IsClosedMapOf}
+use Rattle.pg_command.specs.Measuring.{IsClosedMapOf}
 
 -- The map is closed for the game. If the links tell replies, none a failure by the even cut of the game among them, then of the
 -- replies of each link at least one was taken, or all, and the map is the least closed map that is at least every measure in

@@ -1,6 +1,3 @@
 -- What mirrors code: contracts of private functions cite it, and no definition that a reader has to believe does.
-pub mod Reading
-pub mod Naming
-pub mod Solver
-pub mod Synthesised
+pub mod Finding
 pub mod Asked

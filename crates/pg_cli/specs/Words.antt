@@ -1,27 +1,9 @@
 -- What a command line asks for.
-use Rattle.std.specs.Prelude.{◌≡◌, ◌≤◌, ℕ, List, Option, Some, None, IfSome, codes, slice_get}
-use Rattle.pg_cli.specs.declared.command.Command.{Command}
-use Rattle.pg_cli.specs.declared.command.Command.TheVariants.{Measure, Solve, Check, Replay, Game, Synth}
+use Rattle.std.specs.Prelude.{◌≡◌, ◌≤◌, ℕ, List, Some, IfSome, codes, slice_get}
+use Rattle.pg_command.specs.declared.command.Command.{Command}
+use Rattle.pg_command.specs.Commands.{command_name, workers_of}
 use Rattle.pg_cli.specs.declared.words.Line.{Line}
 use Rattle.pg_cli.specs.declared.words.Line.TheVariants.{Run, Work}
-
--- the word that names a command
-abbrev pub command_name : Command → List ℕ
-command_name (Measure workers) = codes "measure"
-command_name (Solve workers) = codes "solve"
-command_name Check = codes "check"
-command_name Replay = codes "replay"
-command_name Game = codes "game"
-command_name (Synth workers) = codes "synth"
-
--- how many workers solve for a command; none is asked for where nothing is solved
-abbrev pub workers_of : Command → Option ℕ
-workers_of (Measure workers) = Some workers
-workers_of (Solve workers) = Some workers
-workers_of Check = None
-workers_of Replay = None
-workers_of Game = None
-workers_of (Synth workers) = Some workers
 
 -- there are at most 16 of them
 abbrev pub HasFewWorkers : Command → Type 0

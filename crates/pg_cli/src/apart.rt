@@ -2,16 +2,14 @@
 
 ghost use Rattle.std.specs.Prelude.{◌≡◌, ◌≢◌, ◌+◌, ◌<◌, ◌⊎◌, ℕ, List, length, IfOk, OnOk, IfSome, IfErr};
 ghost use Rattle.std.specs.Io.KnownBytes.{Appends};
-ghost use Rattle.pg_cli.specs.Input.{StaysWithin};
-ghost use Rattle.pg_cli.specs.Measuring.{IsClosedMapOf};
-ghost use Rattle.pg_cli.specs.Answers.{PrintsBy, RefusesBy, Prints, Refuses};
+ghost use Rattle.pg_command.specs.Input.{StaysWithin};
+ghost use Rattle.pg_command.specs.Measuring.{IsClosedMapOf};
+ghost use Rattle.pg_command.specs.Answers.{PrintsBy, RefusesBy, Prints, Refuses};
 ghost use Rattle.pg_cli.specs.Words.{HasFewWorkers, HasNoWorkers};
 
-use crate::command::Command;
-use crate::fault::CliFault;
-use crate::input::MOST_BYTES;
-use crate::program::run_shared;
-use crate::sharing::Sharing;
+use crate::over_links::Rounds;
+use crate::program::run_over;
+use pg_command::{CliFault, Command, MOST_BYTES};
 use pg_coord::{Link, LinkFault, Reach, SocketLink, halt};
 use std::alloc::{AllocError, Global};
 use std::io::{Read, Write};
@@ -54,7 +52,8 @@ fn end<R: Reach>(mut links: Vec<SocketLink<R>>) {
 /// started runs when this returns.
 ///
 /// Whatever the programs do, and also where none can be started, what is printed goes by a closed map of the game and one of
-/// its dual, as for `run_with`. Where the programs come to no end in some rounds or rises, the game is solved here in one piece.
+/// its dual, as for `run_with`. After a number of rounds that the size of the game sets, or where no program is left, the work
+/// goes on in this process.
 ///
 /// Refuses what `run` does, in the same order, and before all else `Listen` where no port of 127.0.0.1 can be listened at.
 /// Where the command asks for no workers, or solves nothing, no program is wanted, and the answer or refusal is that of `run`.
@@ -83,7 +82,7 @@ pub fn run_apart<S: Reach, R: Read, W: Write>(
 {
     let mut links = program_links(rt, alloc, path, command.workers().unwrap_or(0))?;
     let workers = links.as_mut_slice();
-    let ran = run_shared(alloc, command, workers, Sharing::Apart, reader, writer);
+    let ran = run_over(alloc, command, workers, Rounds::BySize, reader, writer);
     end(links);
     ran
 }

@@ -2,23 +2,15 @@
 
 ghost use Rattle.std.specs.Prelude.{◌≡◌, ◌≢◌, ◌+◌, ◌≤◌, ℕ, List, length, All, IfOk, OnOk, IfSome, IsNone, IfErr};
 ghost use Rattle.std.specs.Io.KnownBytes.{Appends};
-ghost use Rattle.pg_cli.specs.Input.{StaysWithin};
-ghost use Rattle.pg_cli.specs.Measuring.{IsClosedMapOf, IsMeasured};
+ghost use Rattle.pg_command.specs.Input.{StaysWithin};
+ghost use Rattle.pg_command.specs.Measuring.{IsClosedMapOf, IsMeasured};
+ghost use Rattle.pg_command.specs.Answers.{PrintsBy, RefusesBy, Prints, Refuses};
+ghost use Rattle.pg_command.specs.Commands.{workers_of};
 ghost use Rattle.pg_cli.specs.Linked.{IsLeastOverTold};
-ghost use Rattle.pg_cli.specs.Answers.{PrintsBy, RefusesBy, Prints, Refuses};
-ghost use Rattle.pg_cli.specs.Words.{workers_of, HasFewWorkers};
-ghost use Rattle.pg_cli.specs.Mirrors.Solver.{IsFoundIf};
+ghost use Rattle.pg_cli.specs.Words.{HasFewWorkers};
 
-use crate::check::check;
-use crate::command::Command;
-use crate::fault::CliFault;
-use crate::game::game;
-use crate::input::{MOST_BYTES, read_all_limited};
-use crate::measure::measure;
-use crate::replay::replay;
-use crate::sharing::Sharing;
-use crate::solve::solve;
-use crate::synth::synth;
+use crate::over_links::{OverLinks, Rounds};
+use pg_command::{CliFault, Command, MOST_BYTES, run_by};
 use pg_coord::{Link, MemoryLink};
 use std::alloc::{AllocError, Global};
 use std::io::{Read, Write};
@@ -37,42 +29,11 @@ fn memory_links(alloc: Global, count: u32) -> Result<Vec<MemoryLink>, AllocError
     Ok(links)
 }
 
-/// Writes the answer to a text. Games are solved over the links.
-fn answer<L: Link, W: Write>(
-    alloc: Global,
-    command: Command,
-    text: Vec<u8>,
-    links: &mut [L],
-    sharing: Sharing,
-    writer: &mut W,
-) -> Result<(), CliFault>
-    requires limit { length text.items ≤ MOST_BYTES }
-    requires few { length links.old ≤ 16 }
-    ensures answer { OnOk result ((output : List ℕ)
-        × PrintsBy (IsFoundIf (All L.is_honest links.old)) command text.items output
-        × Appends (W.contents writer.old) (W.contents writer.new) output) }
-    ensures told { (workers : ℕ) → command ≡ Command.Measure workers → sharing ≡ Sharing.Even
-        → OnOk result ((output : List ℕ)
-        × IsMeasured (IsLeastOverTold L.told links.old) text.items output
-        × Appends (W.contents writer.old) (W.contents writer.new) output) }
-    ensures refused { IfErr result (RefusesBy (IsFoundIf (All L.is_honest links.old)) command text.items) }
-    ensures untouched { IfErr result (λ fault. fault ≢ CliFault.Write → writer.new ≡ writer.old) }
-    ensures unused { IsNone (workers_of command) → links.new ≡ links.old }
-{
-    match command {
-        Command::Measure { .. } => measure(alloc, text, links, sharing, writer),
-        Command::Solve { .. } => solve(alloc, text, links, sharing, writer),
-        Command::Check => check(alloc, text, writer),
-        Command::Replay => replay(alloc, text, writer),
-        Command::Game => game(alloc, text, writer),
-        Command::Synth { .. } => synth(alloc, text, links, sharing, writer),
-    }
-}
-
 /// Reads the whole input, and writes the answer to it and nothing else. Hand it a buffered writer, and flush that.
 ///
-/// Where the command solves a game, as many workers in this process share it as the command says; a game that they don't share,
-/// or come to no end on, is solved in one piece. What the clauses say of the answer is the same for every number of them.
+/// Where the command solves a game of at most 256 vertices, as many workers in this process share it as the command says, for
+/// 8 rounds at most; from there on, and larger games from the start, it is solved in one piece. What the clauses say of the
+/// answer is the same for every number of them.
 ///
 /// Refuses, in this order: `Read`; `InputTooLong` for more than 268,435,456 bytes, of which it reads the first one over
 /// the limit at most; `NoSeparator` where two texts are wanted and no line `--` parts them; `Text` for a text that
@@ -99,20 +60,18 @@ pub fn run<R: Read, W: Write>(
 {
     let mut links = memory_links(alloc, command.workers().unwrap_or(0))?;
     let workers = links.as_mut_slice();
-    let text = read_all_limited(alloc, reader)?;
-    answer(alloc, command, text, workers, Sharing::InTurns, writer)
+    run_over(alloc, command, workers, Rounds::Few, reader, writer)
 }
 
-/// Reads the whole input, and writes the answer to it and nothing else; games are shared out so among the links that are given.
-pub(crate) fn run_shared<L: Link, R: Read, W: Write>(
+/// The same over the links that are given, by so many rounds.
+pub(crate) fn run_over<L: Link, R: Read, W: Write>(
     alloc: Global,
     command: Command,
     links: &mut [L],
-    sharing: Sharing,
+    rounds: Rounds,
     reader: &mut R,
     writer: &mut W,
 ) -> Result<(), CliFault>
-    requires { length links.old ≤ 16 }
     ensures answer { OnOk result (IfSome (R.remaining reader.old) (λ input.
         (output : List ℕ) × PrintsBy IsClosedMapOf command input output
         × Appends (W.contents writer.old) (W.contents writer.new) output)) }
@@ -124,7 +83,7 @@ pub(crate) fn run_shared<L: Link, R: Read, W: Write>(
         × Appends (W.contents writer.old) (W.contents writer.new) output)) }
     ensures honest_refused { All L.is_honest links.old → IfErr result (λ fault. IfSome (R.remaining reader.old)
         (λ input. Refuses command input fault)) }
-    ensures told { (workers : ℕ) → command ≡ Command.Measure workers → sharing ≡ Sharing.Even
+    ensures told { (workers : ℕ) → command ≡ Command.Measure workers → rounds ≡ Rounds.Any
         → OnOk result (IfSome (R.remaining reader.old) (λ input.
         (output : List ℕ) × IsMeasured (IsLeastOverTold L.told links.old) input output
         × Appends (W.contents writer.old) (W.contents writer.new) output)) }
@@ -134,13 +93,14 @@ pub(crate) fn run_shared<L: Link, R: Read, W: Write>(
     ensures untouched { IfErr result (λ fault. fault ≢ CliFault.Write → writer.new ≡ writer.old) }
     ensures unused { IsNone (workers_of command) → links.new ≡ links.old }
 {
-    let text = read_all_limited(alloc, reader)?;
-    answer(alloc, command, text, links, sharing, writer)
+    let mut finder = OverLinks { links, rounds };
+    run_by(alloc, command, &mut finder, reader, writer)
 }
 
 /// The same over the links that are given, at most 16: where the command solves a game, the game is cut evenly among them, and
 /// then its dual. How many workers the command says is of no account, and a command that solves nothing leaves the links alone.
-/// Where more measures rise than a limit, `solve` and `synth` solve the game here in one piece; `measure` has no such limit.
+/// After a number of rounds that the size of the game sets, or where no link is left, `solve` and `synth` go on in this process;
+/// `measure` makes as many rounds as it takes.
 ///
 /// Whatever the links answer, what is printed goes by a closed map of the game and one of its dual, so that the printed winners
 /// win and the printed circuit is accepted. Over honest links the answers and refusals are those of `run`, and `Undecided` never
@@ -178,5 +138,5 @@ pub fn run_with<L: Link, R: Read, W: Write>(
     ensures untouched { IfErr result (λ fault. fault ≢ CliFault.Write → writer.new ≡ writer.old) }
     ensures unused { IsNone (workers_of command) → links.new ≡ links.old }
 {
-    run_shared(alloc, command, links, Sharing::Even, reader, writer)
+    run_over(alloc, command, links, Rounds::Any, reader, writer)
 }

@@ -4,9 +4,9 @@ ghost use Rattle.std.specs.Prelude.{◌≤◌, map, IfOk, IfSome};
 ghost use Rattle.pg_cli.specs.Words.{AsksFor, IsPort};
 ghost use Rattle.pg_cli.specs.Mirrors.Asked.{IsLineOf};
 
-use crate::command::Command;
 use clap::error::ErrorKind;
 use clap::{Arg, ArgAction, ArgMatches, Command as Program, Error};
+use pg_command::Command;
 use std::alloc::Global;
 
 /// What a command line asks for.

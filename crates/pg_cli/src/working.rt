@@ -4,10 +4,10 @@ ghost use Rattle.std.specs.Prelude.{◌≡◌, IfErr, OnOk};
 ghost use Rattle.pg_worker.specs.declared.fault.WorkerFault.{WorkerFault};
 ghost use Rattle.pg_worker.specs.declared.served.Served.{Served};
 ghost use Rattle.pg_worker.specs.Serving.{Serves};
-ghost use Rattle.pg_cli.specs.Faults.{worker_fault};
+ghost use Rattle.pg_command.specs.Faults.{worker_fault};
 ghost use Rattle.pg_cli.specs.Serving.{EndsServing, RefusesWork};
 
-use crate::fault::CliFault;
+use pg_command::CliFault;
 use pg_worker::serve;
 use std::alloc::Global;
 use std::io::{self, BufReader, Read, Write};

@@ -2,7 +2,8 @@
 use Rattle.std.specs.Prelude.{◌≡◌, ℕ, List, codes}
 use Rattle.pg_cli.specs.declared.words.Line.{Line}
 use Rattle.pg_cli.specs.declared.words.Line.TheVariants.{Run, Work}
-use Rattle.pg_cli.specs.Words.{command_name, HasFewWorkers, IsPort}
+use Rattle.pg_command.specs.Commands.{command_name}
+use Rattle.pg_cli.specs.Words.{HasFewWorkers, IsPort}
 
 -- the word is that of the line's command, or `worker`
 abbrev pub IsLineOf : List ℕ → Line → Type 0

@@ -1,6 +1,0 @@
-use Rattle.pg_cli.proofs.Made.{prints_game}
-use Rattle.pg_cli.proofs.game.game.Goals as goal
-
-pub returns-clause-refused : goal.returns-clause-refused
-returns-clause-refused g c =
-    prints_game c.args.text.items c.in_ok-game.game c.requires c.in_ok-game.ensures.found c.in_ok-game.ensures.limits

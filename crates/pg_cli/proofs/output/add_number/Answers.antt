@@ -1,8 +1,0 @@
-use Rattle.std.proofs.Common.{◌≡◌, ℕ, ◌++◌, List, OnSome, rules, sym, subst, of_calls}
-use Rattle.std.proofs.lemmas.Fmt.{decimal_digit}
-use Rattle.pg_cli.proofs.output.add_number.Goals as goal
-
-pub returns-then-number-lt10 : goal.returns-then-number-lt10
-returns-then-number-lt10 c =
-    subst (λ (digits : List ℕ). OnSome c.ok.result (c.try_push.new.self.items ≡ c.args.line.now.items ++ digits))
-    (sym (decimal_digit c.args.number c.if-number-lt10.true)) (search (rules, of_calls))

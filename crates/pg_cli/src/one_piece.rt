@@ -1,0 +1,36 @@
+//! Games that are solved in this process, in one piece.
+
+use pg_arena::Game;
+use pg_command::{Finder, Maps};
+use pg_map::MeasureMap;
+use std::alloc::{AllocError, Global};
+
+/// Lifts a game and its dual in turns, in this process.
+#[derive(Clone, Copy)]
+pub(crate) struct InOnePiece;
+
+impl Finder for InOnePiece {
+    ghost use Rattle.pg_command.specs.Measuring.{IsMeasureOf};
+
+    ghost finds = { λ _. IsMeasureOf };
+
+    ghost measures = { λ _. IsMeasureOf };
+
+    fn measure(&mut self, alloc: Global, game: &Game) -> Result<MeasureMap, AllocError> {
+        pg_solver::measure(alloc, game)
+    }
+
+    fn solve(&mut self, alloc: Global, game: &Game) -> Result<Maps, AllocError> {
+        let measures = pg_solver::solve(alloc, game)?;
+        Ok(Maps {
+            of_game: measures.of_game,
+            of_dual: measures.of_dual,
+        })
+    }
+
+    ghost closed = { λ _ game map m. record {
+      bounds = m.bounds;
+      fits = record { size = m.size; fits = m.least.fits };
+      closed = m.least.closed;
+    } };
+}

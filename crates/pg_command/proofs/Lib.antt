@@ -1,0 +1,17 @@
+pub mod Parting
+pub mod Writing
+pub mod WorldTexts
+pub mod Refusing
+pub mod Found
+pub mod Verdicts
+pub mod Printed
+pub mod Printing
+pub mod Ran
+pub mod Replaying
+pub mod OneWorld
+pub mod One
+pub mod Won
+pub mod Made
+pub mod Realized
+pub mod Within
+pub mod Synthesised

@@ -1,0 +1,65 @@
+-- What a refusal of a lower layer says of the input.
+use Rattle.std.proofs.Common.{◌≡◌, ◌≢◌, ℕ, List, [], ◌∷◌, ◌++◌, length, take, drop, Result, Ok, Err, subst, sym, ap, ◌∙◌, arith, refl}
+use Rattle.std.proofs.Math.Seq.{drop-append_seam, take-append_seam}
+use Rattle.std.specs.Prelude.{IfErr, IsErrAnd}
+use Rattle.pg_arena.specs.Games.{GameVertex}
+use Rattle.pg_text.specs.GameText.{IsGameText, Refuses}
+use Rattle.pg_text.specs.SolutionText.{IsSolutionText, RefusesSolution}
+use Rattle.pg_text.specs.declared.answer.Answer.{Answer}
+use Rattle.pg_text.specs.declared.fault.TextFault.{TextFault}
+use Rattle.pg_text.specs.declared.fault.TextFault.TheVariants as text
+use Rattle.pg_command.specs.declared.fault.CliFault.{CliFault}
+use Rattle.pg_command.specs.declared.fault.CliFault.TheVariants as cli
+use Rattle.pg_command.specs.Faults.{text_fault}
+use Rattle.pg_command.specs.Parts.{separator, IsParted}
+use Rattle.pg_command.specs.Texts.{IsNoGame, IsNoSolution}
+
+-- what is so of a fault is so of each result that has it
+pub refused_by : {X : Type 0} (P : CliFault → Type 0) (result : Result X CliFault) (fault : CliFault) → IsErrAnd result (λ e. e ≡ fault) → P fault → IfErr result P
+refused_by P (Ok x) fault is why = tt
+refused_by P (Err e) fault is why = subst P (sym is) why
+
+-- What is so of want of memory, and of what a text says, is so of each fault of a reader; none of them is the writer's.
+pub told_so : (P : CliFault → Type 0) (fault : TextFault) → P cli.OutOfMemory → (fault ≢ text.OutOfMemory → (fault ≢ text.Write) × P (cli.Text fault))
+    → P (text_fault fault)
+told_so P text.OutOfMemory memory said = memory
+told_so P text.Write memory said = absurd ((said (λ e. (cc))).0 refl)
+told_so P (text.Syntax n) memory said = (said (λ e. (cc))).1
+told_so P (text.NumberTooLarge n) memory said = (said (λ e. (cc))).1
+told_so P (text.Arena fault) memory said = (said (λ e. (cc))).1
+told_so P (text.NotOfGame n) memory said = (said (λ e. (cc))).1
+told_so P (text.Missing n) memory said = (said (λ e. (cc))).1
+
+-- memory aside, the reader of games tells nothing of a writer, and refuses what spells no game
+pub no_game : (bytes : List ℕ) (fault : TextFault) → ((game : List GameVertex) → IsGameText bytes game → fault ≡ text.OutOfMemory)
+    → (fault ≢ text.OutOfMemory → Refuses bytes fault) → fault ≢ text.OutOfMemory → (fault ≢ text.Write) × IsNoGame bytes fault
+no_game bytes fault only why memory =
+    (λ e. subst (Refuses bytes) e (why memory), (λ game spelt. memory (only game spelt), why memory))
+
+-- so does that of solutions
+pub no_solution : (bytes : List ℕ) (game : List GameVertex) (fault : TextFault)
+    → ((solution : List Answer) → IsSolutionText bytes game solution → fault ≡ text.OutOfMemory)
+    → (fault ≢ text.OutOfMemory → RefusesSolution bytes game fault) → fault ≢ text.OutOfMemory
+    → (fault ≢ text.Write) × IsNoSolution bytes game fault
+no_solution bytes game fault only why memory =
+    (λ e. subst (RefusesSolution bytes game) e (why memory), (λ solution spelt. memory (only solution spelt), why memory))
+
+-- no input has two first separators
+same_front : (input : List ℕ) (first second first' second' : List ℕ) (p : IsParted input first second) (q : IsParted input first' second')
+    → length p.front ≡ length q.front
+same_front input first second first' second' p q =
+    let a = p.earliest q.front second' q.whole in
+    let b = q.earliest p.front second p.whole in
+    omega arith
+
+pub parted_once : (input first second first' second' : List ℕ) → IsParted input first second → IsParted input first' second'
+    → (first ≡ first') × (second ≡ second')
+parted_once input first second first' second' p q =
+    let size = same_front input first second first' second' p q in
+    let fronts : p.front ≡ q.front =
+    sym (take-append_seam p.front (separator ++ second)) ∙ ap (take (length p.front)) (sym p.whole ∙ q.whole)
+    ∙ ap (λ n. take n (q.front ++ (separator ++ second'))) size ∙ take-append_seam q.front (separator ++ second') in
+    let rests : separator ++ second ≡ separator ++ second' =
+    sym (drop-append_seam p.front (separator ++ second)) ∙ ap (drop (length p.front)) (sym p.whole ∙ q.whole)
+    ∙ ap (λ n. drop n (q.front ++ (separator ++ second'))) size ∙ drop-append_seam q.front (separator ++ second') in
+    (p.newline ∙ ap (λ l. l ++ 10 ∷ []) fronts ∙ sym q.newline, ap (drop 4) rests)

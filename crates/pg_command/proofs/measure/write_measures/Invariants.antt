@@ -1,0 +1,10 @@
+use Rattle.std.proofs.Common.{take}
+use Rattle.std.specs.List.{flat_map, zip}
+use Rattle.std.specs.Io.KnownBytes.{Appends}
+use Rattle.pg_command.proofs.Writing.{pair_line}
+use Rattle.pg_command.proofs.measure.write_measures.Given as goal
+
+abbrev pub invariant-loop-number : goal.invariant-loop-number
+invariant-loop-number g l =
+    let contents = g.W.Write.contents in
+    Appends (contents l.fn.writer) (contents l.writer) (flat_map pair_line (take l.number (zip l.game l.map.measures)))

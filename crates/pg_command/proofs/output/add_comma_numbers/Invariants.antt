@@ -1,0 +1,8 @@
+use Rattle.std.proofs.Common.{◌≡◌, ◌++◌, take}
+use Rattle.std.specs.List.{flat_map}
+use Rattle.pg_text.specs.Numbers.{comma_number}
+use Rattle.pg_command.proofs.output.add_comma_numbers.Given as goal
+
+-- the numbers so far stand behind what stood there
+abbrev pub invariant-loop-number : goal.invariant-loop-number
+invariant-loop-number l = l.line.items ≡ l.fn.line.items ++ flat_map comma_number (take l.number-index l.numbers)

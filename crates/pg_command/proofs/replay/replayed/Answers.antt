@@ -1,0 +1,30 @@
+use Rattle.pg_command.specs.Answers.{RefusesBy}
+use Rattle.pg_command.specs.Mirrors.Solver.{NoMap}
+use Rattle.pg_command.specs.Faults.{event_fault}
+use Rattle.pg_command.specs.declared.command.Command.TheVariants.{Replay}
+use Rattle.pg_command.proofs.Refusing.{refused_by}
+use Rattle.pg_command.proofs.Replaying.{refuses_event, maps_after}
+use Rattle.pg_command.proofs.replay.replayed.Goals as goal
+
+pub returns-in_err-game-clause-refused : goal.returns-in_err-game-clause-refused
+returns-in_err-game-clause-refused c =
+    refused_by (RefusesBy NoMap Replay c.args.text.items) c.from_residual.result c.in_err-game.field-0.0 c.from_residual.ensures.1
+    (rw (← c.deref.ensures.value) c.in_err-game.ensures.refused)
+
+pub returns-in_err-run-clause-refused : goal.returns-in_err-run-clause-refused
+returns-in_err-run-clause-refused c =
+    let bytes = c.args.text.items in
+    let refused = c.in_err-run.field-0.0 in
+    let texts = rw c.deref.ensures.value at c.in_ok-game.ensures.found in
+    let stops = rw c.deref-2.ensures.value at c.in_err-run.ensures.stops in
+    refused_by (RefusesBy NoMap Replay bytes) c.from_residual-in_err-run.result (event_fault refused.0 refused.1) c.from_residual-in_err-run.ensures.1
+    (refuses_event bytes c.in_ok-game.game c.in_ok-game.script.cut c.in_ok-game.script.events.items c.in-Ok.world c.run.new.self refused.0 refused.1 c.requires
+    texts c.in-Ok.ensures.new stops)
+
+pub returns-clause-maps : goal.returns-clause-maps
+returns-clause-maps c =
+    let bytes = c.args.text.items in
+    let texts = rw c.deref.ensures.value at c.in_ok-game.ensures.found in
+    let runs = rw c.deref-2.ensures.value at c.in_ok-run.ensures.ok in
+    maps_after c.never_above.ensures bytes c.in_ok-game.game c.in_ok-game.script.cut c.in_ok-game.script.events.items c.in-Ok.world c.run.new.self
+    texts c.in-Ok.ensures.new runs

@@ -1,0 +1,10 @@
+use Rattle.std.proofs.Common.{take}
+use Rattle.std.specs.List.{flat_map}
+use Rattle.std.specs.Io.KnownBytes.{Appends}
+use Rattle.pg_text.specs.Numbers.{comma_number}
+use Rattle.pg_command.proofs.world_output.write_comma_places.Given as goal
+
+abbrev pub invariant-loop-place : goal.invariant-loop-place
+invariant-loop-place g l =
+    let contents = g.W.Write.contents in
+    Appends (contents l.fn.writer) (contents l.writer) (flat_map comma_number (take l.place-index l.places))

@@ -1,0 +1,64 @@
+-- What `check` prints.
+use Rattle.std.specs.Prelude.{◌≡◌, ◌↔◌, ◌⊎◌, ℕ, List, [], ◌∷◌, ◌++◌, map, max, codes, decimal}
+use Rattle.pg_arena.specs.Games.{GameVertex, identifier, priority}
+use Rattle.pg_text.specs.Numbers.{identifiers_text}
+use Rattle.pg_text.specs.GameText.{IsGameText}
+use Rattle.pg_text.specs.SolutionText.{IsSolutionText}
+use Rattle.pg_text.specs.declared.answer.Answer.{Answer}
+use Rattle.pg_text.specs.declared.fault.TextFault.{TextFault}
+use Rattle.pg_check.specs.Soundness.{IsSound}
+use Rattle.pg_check.specs.Verdicts.{IsWins, Refutes}
+use Rattle.pg_check.specs.declared.verdict.Verdict.{Verdict}
+use Rattle.pg_check.specs.declared.verdict.Verdict.TheVariants.{Wins, Leaves, BadCycle}
+use Rattle.pg_command.specs.Parts.{IsParted}
+use Rattle.pg_command.specs.Texts.{IsNoSolution, FailsFirst}
+use Rattle.pg_command.specs.declared.fault.CliFault.{CliFault}
+use Rattle.pg_command.specs.declared.fault.CliFault.TheVariants.{Text, NoSeparator}
+
+-- the greatest of these numbers
+abbrev pub greatest : List ℕ → ℕ
+greatest [] = 0
+greatest (n ∷ ns) = max n (greatest ns)
+
+-- `WINS`; `LEAVES` and an edge; `CYCLE`, the greatest priority of the cycle and the cycle; and a newline
+abbrev pub verdict_text : List GameVertex → Verdict → List ℕ
+verdict_text game Wins = codes "WINS\n"
+verdict_text game (Leaves v w) =
+    codes "LEAVES " ++ (decimal (identifier game v) ++ (codes " " ++ (decimal (identifier game w) ++ codes "\n")))
+verdict_text game (BadCycle cycle) =
+    codes "CYCLE " ++ (decimal (greatest (map (priority game) cycle.items)) ++ (codes " "
+    ++ (identifiers_text game cycle.items ++ codes "\n")))
+
+-- An input of a game, a line `--` and a solution of the game, and a verdict on it: `Wins` exactly if the solution is
+-- sound, and else what speaks against it.
+pub record IsCheckedBy (input : List ℕ) (game : List GameVertex) (verdict : Verdict) : Type 0 where
+  pub first : List ℕ
+  pub second : List ℕ
+  pub parted : IsParted input first second
+  pub spelt : IsGameText first game
+  pub solution : List Answer
+  pub answered : IsSolutionText second game solution
+  pub wins : IsWins verdict ↔ IsSound game solution
+  pub refutes : Refutes game solution verdict
+
+-- The output is the text of such a verdict.
+pub record IsChecked (input output : List ℕ) : Type 0 where
+  pub game : List GameVertex
+  pub verdict : Verdict
+  pub checked : IsCheckedBy input game verdict
+  pub printed : output ≡ verdict_text game verdict
+
+-- the first text spells a game, and the second no solution of it
+pub record FailsSecond (input : List ℕ) (fault : TextFault) : Type 0 where
+  pub first : List ℕ
+  pub second : List ℕ
+  pub parted : IsParted input first second
+  pub game : List GameVertex
+  pub spelt : IsGameText first game
+  pub none : IsNoSolution second game fault
+
+-- why an input has no such output: no line `--` parts it, or the first text fails, or the second one
+abbrev pub RefusesCheck : List ℕ → CliFault → Type 0
+RefusesCheck input NoSeparator = (first second : List ℕ) → ¬ IsParted input first second
+RefusesCheck input (Text fault) = FailsFirst input fault ⊎ FailsSecond input fault
+RefusesCheck input _ = ⊥

@@ -1,0 +1,17 @@
+pub mod Input
+pub mod Parts
+pub mod Texts
+pub mod Measuring
+pub mod Solving
+pub mod Checking
+pub mod Replaying
+pub mod Making
+pub mod Synthesising
+pub mod Answers
+pub mod Faults
+pub mod FaultTexts
+pub mod Commands
+pub mod Laws
+pub mod Winners
+pub mod Controllers
+pub mod Mirrors

@@ -1,0 +1,40 @@
+//! Methods of solving.
+
+ghost use Rattle.std.specs.Prelude.{List, IfOk};
+ghost use Rattle.pg_arena.specs.Games.{GameVertex, HasPrioritiesUpTo, dual};
+ghost use Rattle.pg_map.specs.Maps.{MapValue};
+ghost use Rattle.pg_command.specs.Measuring.{Finding, IsClosedMapOf};
+
+use pg_arena::Game;
+use pg_map::MeasureMap;
+use std::alloc::{AllocError, Global};
+
+/// A map of a game, and one of its dual.
+#[derive(Drop)]
+pub struct Maps {
+    pub of_game: MeasureMap,
+    pub of_dual: MeasureMap,
+}
+
+/// What finds maps of games: a method of solving.
+pub trait Finder {
+    /// Which maps may be found of a game. They are closed.
+    ghost finds: { Self → Finding };
+
+    /// What is known besides of the map that `measure` finds.
+    ghost measures: { Self → Finding };
+
+    /// A map of a game.
+    fn measure(&mut self, alloc: Global, game: &Game) -> Result<MeasureMap, AllocError>
+        ensures found { IfOk result (finds self.old game.now) }
+        ensures measured { IfOk result (measures self.old game.now) };
+
+    /// A map of a game, and one of its dual.
+    fn solve(&mut self, alloc: Global, game: &Game) -> Result<Maps, AllocError>
+        requires priorities { HasPrioritiesUpTo 65535 game.now }
+        ensures of_game { IfOk result (λ maps. finds self.old game.now maps.of_game) }
+        ensures of_dual { IfOk result (λ maps. finds self.old (dual game.now) maps.of_dual) };
+
+    ghost closed: { (finder : Self) (game : List GameVertex) (map : MapValue) → finds finder game map
+        → IsClosedMapOf game map };
+}

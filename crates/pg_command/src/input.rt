@@ -1,0 +1,64 @@
+//! Reads a whole input, up to a limit.
+ghost use Rattle.std.specs.Prelude.{◌≡◌, ◌+◌, ◌-◌, ◌≤◌, ◌<◌, ◌⊎◌, IfOk, OnOk, IfErr, IfSome, length, true, false};
+ghost use Rattle.std.specs.Io.KnownBytes.{IsAtEnd};
+ghost use Rattle.pg_command.specs.Input.{StaysWithin};
+ghost use Rattle.pg_command.specs.Mirrors.Reading.{Keeps, IsOver};
+
+use crate::fault::CliFault;
+use std::alloc::Global;
+use std::io::{ErrorKind, Read};
+
+/// The most bytes that an input may have.
+pub const MOST_BYTES: usize = 268_435_456;
+
+/// How many bytes are asked for at once.
+const CHUNK: usize = 65_536;
+
+/// Reads once and adds what came. It tells whether more may come.
+fn read_some<R: Read>(reader: &mut R, text: &mut Vec<u8>) -> Result<bool, CliFault>
+    requires { length text.old.items ≤ MOST_BYTES }
+    ensures within { OnOk result (length text.new.items ≤ MOST_BYTES) }
+    ensures bytes { OnOk result
+        (Keeps (R.remaining reader.old) text.old.items (R.remaining reader.new) text.new.items) }
+    ensures end { result ≡ Ok false → IsAtEnd (R.remaining reader.new) }
+    ensures no_further { StaysWithin (R.remaining reader.old) (R.remaining reader.new)
+        (MOST_BYTES + 1 - length text.old.items) }
+    ensures too_long { result ≡ Err CliFault.InputTooLong
+        → IsOver (R.remaining reader.old) (MOST_BYTES - length text.old.items) }
+    ensures causes { IfErr result (λ fault. (fault ≡ CliFault.OutOfMemory) ⊎ ((fault ≡ CliFault.Read)
+        ⊎ (fault ≡ CliFault.InputTooLong))) }
+{
+    let mut buf = [0u8; CHUNK];
+    let room = (MOST_BYTES + 1 - text.len()).min(CHUNK);
+    match reader.read(&mut buf[..room]) {
+        Ok(0) => Ok(false),
+        Ok(n) => {
+            if n > MOST_BYTES - text.len() {
+                return Err(CliFault::InputTooLong);
+            }
+            text.extend_from_slice(&buf[..n])?;
+            Ok(true)
+        }
+        Err(e) if e.kind() == ErrorKind::Interrupted => Ok(true),
+        Err(_) => Err(CliFault::Read),
+    }
+}
+
+/// Reads to the end. It reads no further than the first byte over the limit.
+pub(crate) fn read_all_limited<R: Read>(alloc: Global, reader: &mut R) -> Result<Vec<u8>, CliFault>
+    ensures bytes { IfOk result (λ text. IfSome (R.remaining reader.old) (λ input. text.items ≡ input)) }
+    ensures end { OnOk result (IsAtEnd (R.remaining reader.new)) }
+    ensures limit { IfOk result (λ text. length text.items ≤ MOST_BYTES) }
+    ensures no_further { StaysWithin (R.remaining reader.old) (R.remaining reader.new) (MOST_BYTES + 1) }
+    ensures too_long { result ≡ Err CliFault.InputTooLong → IsOver (R.remaining reader.old) MOST_BYTES }
+    ensures causes { IfErr result (λ fault. (fault ≡ CliFault.OutOfMemory) ⊎ ((fault ≡ CliFault.Read)
+        ⊎ (fault ≡ CliFault.InputTooLong))) }
+{
+    let mut text = Vec::new(alloc);
+    'reads: for _ in 0..u64::MAX {
+        if !read_some(reader, &mut text)? {
+            return Ok(text);
+        }
+    }
+    Err(CliFault::Read)
+}

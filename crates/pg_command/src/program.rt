@@ -1,0 +1,85 @@
+//! A command from its input to its answer.
+
+ghost use Rattle.std.specs.Prelude.{◌≡◌, ◌≢◌, ◌+◌, ◌≤◌, ℕ, List, length, OnOk, IfSome, IsNone, IfErr};
+ghost use Rattle.std.specs.Io.KnownBytes.{Appends};
+ghost use Rattle.pg_command.specs.Input.{StaysWithin};
+ghost use Rattle.pg_command.specs.Measuring.{IsMeasured};
+ghost use Rattle.pg_command.specs.Answers.{PrintsBy, RefusesBy};
+ghost use Rattle.pg_command.specs.Commands.{workers_of};
+
+use crate::check::check;
+use crate::command::Command;
+use crate::fault::CliFault;
+use crate::finder::Finder;
+use crate::game::game;
+use crate::input::{MOST_BYTES, read_all_limited};
+use crate::measure::measure;
+use crate::replay::replay;
+use crate::solve::solve;
+use crate::synth::synth;
+use std::alloc::Global;
+use std::io::{Read, Write};
+
+/// Writes the answer to a text. Games are solved by the finder.
+fn answer<F: Finder, W: Write>(
+    alloc: Global,
+    command: Command,
+    text: Vec<u8>,
+    finder: &mut F,
+    writer: &mut W,
+) -> Result<(), CliFault>
+    requires limit { length text.items ≤ MOST_BYTES }
+    ensures answer { OnOk result ((output : List ℕ) × PrintsBy (F.finds finder.old) command text.items output
+        × Appends (W.contents writer.old) (W.contents writer.new) output) }
+    ensures measured { (workers : ℕ) → command ≡ Command.Measure workers
+        → OnOk result ((output : List ℕ) × IsMeasured (F.measures finder.old) text.items output
+        × Appends (W.contents writer.old) (W.contents writer.new) output) }
+    ensures refused { IfErr result (RefusesBy (F.finds finder.old) command text.items) }
+    ensures untouched { IfErr result (λ fault. fault ≢ CliFault.Write → writer.new ≡ writer.old) }
+    ensures unused { IsNone (workers_of command) → finder.new ≡ finder.old }
+{
+    match command {
+        Command::Measure { .. } => measure(alloc, text, finder, writer),
+        Command::Solve { .. } => solve(alloc, text, finder, writer),
+        Command::Check => check(alloc, text, writer),
+        Command::Replay => replay(alloc, text, writer),
+        Command::Game => game(alloc, text, writer),
+        Command::Synth { .. } => synth(alloc, text, finder, writer),
+    }
+}
+
+/// Reads the whole input, and writes the answer to it and nothing else. Hand it a buffered writer, and flush that. Games are
+/// solved by the finder; a command that solves nothing leaves it alone. How many workers the command says is of no account.
+///
+/// Refuses, in this order: `Read`; `InputTooLong` for more than 268,435,456 bytes, of which it reads the first one over
+/// the limit at most; `NoSeparator` where two texts are wanted and no line `--` parts them; `Text` for a text that
+/// doesn't spell what it has to, the first text's fault before the second's, `Script` for a second text that spells no
+/// script for the game, or `Hoa` for one that spells no automaton; `Undecided`, of `solve` and `synth`; `World`, of `replay`
+/// alone, at the first event that is refused; `Synth`, of `game` and `synth`, for an automaton whose game is too large;
+/// `Aiger`, of `synth` alone, for a controller whose circuit is; `Write`, after which nothing is said of how much went out.
+/// `OutOfMemory` may come at any growth. Nothing is written before the work is done, so after another fault than `Write`
+/// nothing was written.
+pub fn run_by<F: Finder, R: Read, W: Write>(
+    alloc: Global,
+    command: Command,
+    finder: &mut F,
+    reader: &mut R,
+    writer: &mut W,
+) -> Result<(), CliFault>
+    ensures answer { OnOk result (IfSome (R.remaining reader.old) (λ input.
+        (output : List ℕ) × PrintsBy (F.finds finder.old) command input output
+        × Appends (W.contents writer.old) (W.contents writer.new) output)) }
+    ensures measured { (workers : ℕ) → command ≡ Command.Measure workers
+        → OnOk result (IfSome (R.remaining reader.old) (λ input.
+        (output : List ℕ) × IsMeasured (F.measures finder.old) input output
+        × Appends (W.contents writer.old) (W.contents writer.new) output)) }
+    ensures refused { IfErr result (λ fault. IfSome (R.remaining reader.old)
+        (λ input. RefusesBy (F.finds finder.old) command input fault)) }
+    // Whatever comes of it, no byte behind the first one over the limit is read.
+    ensures no_further { StaysWithin (R.remaining reader.old) (R.remaining reader.new) (MOST_BYTES + 1) }
+    ensures untouched { IfErr result (λ fault. fault ≢ CliFault.Write → writer.new ≡ writer.old) }
+    ensures unused { IsNone (workers_of command) → finder.new ≡ finder.old }
+{
+    let text = read_all_limited(alloc, reader)?;
+    answer(alloc, command, text, finder, writer)
+}
