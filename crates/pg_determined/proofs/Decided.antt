@@ -63,12 +63,12 @@ top_above None (Some ys) h e s = h
 top_above (Some xs) n h e s = cc
 
 least_has_list : (game : List GameVertex) (s : List Answer) (bounds : BoundList) (f : List MeasureValue)
-    → IsGame game → IsSolution game s → IsSound game s → IsBoundsOf game bounds → length f ≡ length game
-    → IsLeastProgressMeasure bounds (game_line game) f
+    → IsGame game → IsSolution game s → IsSound game s → IsBoundsOf game bounds
+    → IsLeastProgressMeasure bounds (length game) (game_line game) f
     → (v : ℕ) → v < length game → winner s v ≡ Even → measure_at f v ≢ None
-least_has_list game s bounds f is_game is_s sound is_bounds size least v lt e top =
+least_has_list game s bounds f is_game is_s sound is_bounds least v lt e top =
     winners_have_lists game s bounds is_game is_s (safe_from_sound game s sound) is_bounds (λ (h, is_map, closed, lists).
-    let is_map' : IsMap bounds (length f) h = subst (λ n. IsMap bounds n h) (sym size) is_map in
+    let is_map' : IsMap bounds (length f) h = subst (λ n. IsMap bounds n h) (sym least.map.size) is_map in
     top_above (measure_at f v) (measure_at h v) (least.least h is_map' closed v) top (lists v lt e))
 
 -- a closed map has no list where Odd wins
@@ -133,7 +133,7 @@ list_or_top None = inr refl
 list_or_top (Some xs) = inl refl
 
 pub least_tells_winners : LeastTellsWinners
-least_tells_winners game f is_game is_bounds size least = record {
+least_tells_winners game f is_game is_bounds least = record {
   even = λ v lt. (
     λ listed. elim (player_cases (winner s v) Even) [
       | inl e ↦ gives game s is_game is_s sound v Even e
@@ -171,23 +171,23 @@ least_tells_winners game f is_game is_bounds size least = record {
         one_player game is_game v lt (winner s v) player (gives game s is_game is_s sound v (winner s v) refl) w
 
     no_top : (s : List Answer) → IsSolution game s → IsSound game s → (v : ℕ) → v < length game → winner s v ≡ Even → measure_at f.measures v ≢ None
-    no_top s is_s sound v lt e = least_has_list game s f.bounds f.measures is_game is_s sound is_bounds size least v lt e
+    no_top s is_s sound v lt e = least_has_list game s f.bounds f.measures is_game is_s sound is_bounds least v lt e
 
     no_list : (s : List Answer) → IsSolution game s → IsSound game s → (v : ℕ) → v < length game → winner s v ≡ Odd → IsSome (measure_at f.measures v) → ⊥
     no_list s is_s sound v lt e listed =
         not_contested game s f is_game is_s sound least.closed v record { in_game = lt; odd = e; listed = listed }
 
 pub never_undecided : NeverUndecided
-never_undecided game f g is_game bounds_f bounds_g size_f size_g least_f least_g v undecided =
+never_undecided game f g is_game bounds_f bounds_g least_f least_g v undecided =
     elim (player_cases (winner s v) Even) [
-      | inl e ↦ least_has_list game s f.bounds f.measures is_game (is_solution game is_game) (is_sound game is_game) bounds_f size_f least_f
+      | inl e ↦ least_has_list game s f.bounds f.measures is_game (is_solution game is_game) (is_sound game is_game) bounds_f least_f
           v undecided.within e undecided.game_map
       | inr e ↦
           let d = dual_solutions game s is_game (is_solution game is_game) (is_safe game is_game) in
           let whole = (is_solution game is_game).whole in
           let lt : v < length game = undecided.within in
           least_has_list (dual game) (swapped s) g.bounds g.measures (game_dual game is_game) d.0
-          (sound_from_safe (dual game) (swapped s) (game_dual game is_game) d.1) bounds_g (size_g ∙ sym (length_dual game)) least_g
+          (sound_from_safe (dual game) (swapped s) (game_dual game is_game) d.1) bounds_g least_g
           v (omega (arith, length_dual game)) (winner_swapped s v (omega (arith, whole)) ∙ ap opponent e) undecided.dual_map
     ]
   where

@@ -41,14 +41,13 @@ EachHasOneWinner = (game : List GameVertex) → IsGame game → (v : ℕ) → v 
 
 abbrev pub LeastTellsWinners : Type 0
 LeastTellsWinners =
-    (game : List GameVertex) (f : MapValue) → IsGame game → IsBoundsOf game f.bounds → length f.measures ≡ length game
-    → IsLeastProgressMeasure f.bounds (game_line game) f.measures → TellsWinners game f
+    (game : List GameVertex) (f : MapValue) → IsGame game → IsBoundsOf game f.bounds
+    → IsLeastProgressMeasure f.bounds (length game) (game_line game) f.measures → TellsWinners game f
 
 -- the least progress measures of a game and of its dual aren't both top at a vertex
 abbrev pub NeverUndecided : Type 0
 NeverUndecided =
     (game : List GameVertex) (f g : MapValue) → IsGame game → IsBoundsOf game f.bounds → IsBoundsOf (dual game) g.bounds
-    → length f.measures ≡ length game → length g.measures ≡ length game
-    → IsLeastProgressMeasure f.bounds (game_line game) f.measures
-    → IsLeastProgressMeasure g.bounds (game_line (dual game)) g.measures
+    → IsLeastProgressMeasure f.bounds (length game) (game_line game) f.measures
+    → IsLeastProgressMeasure g.bounds (length (dual game)) (game_line (dual game)) g.measures
     → (v : ℕ) → ¬ IsUndecided game f g v

@@ -134,7 +134,7 @@ module _ (bs : BoundList) (lines : ℕ → Option Line) (n : ℕ) (within : AreW
   closed_itself : (f : List MeasureValue) → All (Fits bs) f → ((v : ℕ) → v < n → IsSome (lines v) → IsServed bs lines f v)
       → IsLeastClosedFrom bs lines f f
   closed_itself f fits served = record {
-    fits = fits;
+    map = record { size = refl; fits = fits };
     above = λ v. at_most_same (measure_at f v);
     closed = λ v some. served v (within.numbers v some) some;
     least = λ h m c under. under;
@@ -144,7 +144,7 @@ module _ (bs : BoundList) (lines : ℕ → Option Line) (n : ℕ) (within : AreW
   after_lift : (f g h : List MeasureValue) (v : ℕ) → IsSome (lines v) → IsLifted bs lines f g v → IsLeastClosedFrom bs lines g h
       → IsLeastClosedFrom bs lines f h
   after_lift f g h v some lifted l = record {
-    fits = l.fits;
+    map = record { size = l.map.size ∙ lifted_length bs lines f g v lifted; fits = l.map.fits };
     above = map_transitive f g h (λ u. lifted_above bs lines f g v u lifted (cases_eq u v)) l.above;
     closed = l.closed;
     least = stays_trans bs lines f g h (lifted_length bs lines f g v lifted) (lift_stays_under bs lines f g v some lifted) l.least;
@@ -155,25 +155,25 @@ module _ (bs : BoundList) (lines : ℕ → Option Line) (n : ℕ) (within : AreW
 
   -- lifts come to an end, since each lowers the weight
   lifted_to_end : (k : ℕ) (f : List MeasureValue) → map_weight bs f ≤ k → length f ≡ n → All (Fits bs) f
-      → (g : List MeasureValue) × (length g ≡ n) × IsLeastClosedFrom bs lines f g
+      → (g : List MeasureValue) × IsLeastClosedFrom bs lines f g
   lifted_to_end zero f le size fits = elim (all_served_or_lifted f size fits n) [
-    | inl served ↦ (f, size, closed_itself f fits served)
+    | inl served ↦ (f, closed_itself f fits served)
     | inr (v, some, (g, lifted)) ↦
         let lt : v < length f = let k : v < n = within.numbers v some in omega arith in
         let falls = lift_falls bs lines f g v lt lifted in
         absurd (omega arith)
   ]
   lifted_to_end (suc k) f le size fits = elim (all_served_or_lifted f size fits n) [
-    | inl served ↦ (f, size, closed_itself f fits served)
+    | inl served ↦ (f, closed_itself f fits served)
     | inr (v, some, (g, lifted)) ↦
         let lt : v < length f = let k : v < n = within.numbers v some in omega arith in
         let falls = lift_falls bs lines f g v lt lifted in
         let r = lifted_to_end k g (omega arith) (lifted_length bs lines f g v lifted ∙ size) (lifted_fits f g v lifted fits) in
-        (r.0, r.1, after_lift f g r.0 v some lifted r.2)
+        (r.0, after_lift f g r.0 v some lifted r.1)
   ]
 
 pub has_least_progress_measure : HasLeastProgressMeasure
 has_least_progress_measure bs lines n within =
     let zeros = zero_map_is bs n in
     let found = lifted_to_end bs lines n within (map_weight bs (zero_map bs n)) (zero_map bs n) (omega arith) zeros.size zeros.fits in
-    (found.0, found.1, least_from_zero bs lines n found.0 found.1 found.2)
+    (found.0, least_from_zero bs lines n found.0 found.1)

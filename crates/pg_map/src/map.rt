@@ -549,7 +549,6 @@ impl MeasureMap {
 pub fn lift_to_end<G: Lines>(map: &mut MeasureMap, lines: &G)
     requires { AreWithin (length map.old.measures) (G.line lines.now) }
     ensures bounds { map.new.bounds ≡ map.old.bounds }
-    ensures size { length map.new.measures ≡ length map.old.measures }
     ensures least { IsLeastClosedFrom map.old.bounds (G.line lines.now) map.old.measures map.new.measures }
 {
     while map.lift_each(lines) {}

@@ -55,7 +55,7 @@ fn orders(
 ) -> Result<(Ordering, Ordering), AllocError> {
     let first = Measure::from_list(alloc, first)?;
     let second = Measure::from_list(alloc, second)?;
-    Ok((first.order(&second), first.order_from(&second, p, bounds)))
+    Ok((first.cmp(&second), first.order_from(&second, p, bounds)))
 }
 
 /// Whether the least step of each list at its priority is its measure.
@@ -141,8 +141,7 @@ fn measures_are_ordered(rt: HostRuntime) -> Result<(), Fail> {
 
 /// Whether the measure is below top, even where no component counts, and is no list once it is set to top.
 fn is_below_top(measure: &mut Measure, top: &Measure, bounds: &Bounds) -> bool {
-    let is_below = measure.order(top) == Ordering::Less
-        && top.order_from(measure, 4, bounds) == Ordering::Greater;
+    let is_below = *measure < *top && top.order_from(measure, 4, bounds) == Ordering::Greater;
     measure.set(View::Top);
     is_below && measure.list().is_none()
 }
@@ -179,5 +178,21 @@ fn top_is_above(rt: HostRuntime) -> Result<(), Fail> {
     let mut measure = Measure::from_list(rt.alloc(), &[1, 2])?;
     let top = Measure::top(rt.alloc(), &bounds)?;
     assert!(rt; is_below_top(&mut measure, &top, &bounds));
+    Ok(())
+}
+
+/// Whether tops of different bounds are equal, and above a list that is longer than one of them has room for.
+fn are_tops_alike(alloc: Global, few: &Bounds, many: &Bounds) -> Result<bool, AllocError> {
+    let top = Measure::top(alloc, few)?;
+    let roomy = Measure::top(alloc, many)?;
+    let list = Measure::from_list(alloc, &[9, 0, 0])?;
+    Ok(top == roomy && top > list && top.max(list) == roomy)
+}
+
+#[test]
+fn top_is_one(rt: HostRuntime) -> Result<(), Fail> {
+    let few = bounds(rt.alloc())?;
+    let many = five_bounds(rt.alloc())?;
+    assert!(rt; are_tops_alike(rt.alloc(), &few, &many)?);
     Ok(())
 }

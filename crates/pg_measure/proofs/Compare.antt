@@ -1,16 +1,16 @@
 -- What comparing lists tells.
 use Rattle.std.proofs.lemmas.Bool.Decides.{nat_tests}
 use Rattle.std.proofs.lemmas.Grind.{common_steps}
-use Rattle.std.proofs.Common.{nat_lt, ◌-◌, ◌≡◌, ℕ, zero, suc, ◌<◌, Bool, true, false, List, [], ◌∷◌, Some, length, get_or, take, drop, refl, ap, sym, inl, inr, subst, arith}
+use Rattle.std.proofs.Common.{true≢false, nat_lt, ◌-◌, ◌≡◌, ℕ, zero, suc, ◌<◌, Bool, true, false, List, [], ◌∷◌, Some, None, length, get_or, take, drop, refl, ap, sym, ◌∙◌, inl, inr, subst, arith}
 use Rattle.std.specs.declared.cmp.Ordering.{Ordering}
 use Rattle.std.specs.declared.cmp.Ordering.TheVariants.{Less, Equal, Greater}
-use Rattle.std.specs.Ordering.{MatchOrdering, nat_cmp, ordering_then, is_lt}
+use Rattle.std.specs.Ordering.{MatchOrdering, nat_cmp, ordering_then, is_eq, is_lt, is_le}
 use Rattle.std.specs.Cmp.Lexicographic.{slice_cmp}
 use Rattle.std.proofs.lemmas.Cmp.{ranked}
 use Rattle.std.specs.Prelude.{MatchBool}
-use Rattle.pg_measure.specs.Measures.{BoundList, MeasureValue, ListBelow, ListAtMost, IsBelow, width_from, measure_from}
+use Rattle.pg_measure.specs.Measures.{BoundList, MeasureValue, ListBelow, ListAtMost, AtMost, IsBelow, measure_cmp, width_from, measure_from}
 use Rattle.pg_measure.proofs.Rows.{at_most_itself}
-use Rattle.pg_measure.proofs.Order.{below_at_most}
+use Rattle.pg_measure.proofs.Order.{below_at_most, below_is, below_not, at_most_same}
 
 cons_tells : (x y : ℕ) (xs ys : List ℕ) (o r : Ordering) → MatchOrdering o (x < y) (x ≡ y) (y < x) → MatchOrdering r (ListBelow xs ys) (xs ≡ ys) (ListBelow ys xs) → MatchOrdering (ordering_then o r) (ListBelow (x ∷ xs) (y ∷ ys)) (x ∷ xs ≡ y ∷ ys) (ListBelow (y ∷ ys) (x ∷ xs))
 cons_tells x y xs ys Less r h k = inl h
@@ -35,15 +35,42 @@ pub cmp_tells : (xs ys : List ℕ) (r : Ordering) → r ≡ slice_cmp nat_cmp xs
 cmp_tells xs ys r e =
     tells_some xs ys r (subst (λ (o : Ordering). MatchOrdering o (ListBelow xs ys) (xs ≡ ys) (ListBelow ys xs)) (sym e) (slice_cmp_tells xs ys))
 
+-- and on two measures
+pub measure_cmp_tells : (m n : MeasureValue) → MatchOrdering (measure_cmp m n) (IsBelow m n) (m ≡ n) (IsBelow n m)
+measure_cmp_tells None None = refl
+measure_cmp_tells None (Some ys) = tt
+measure_cmp_tells (Some xs) None = tt
+measure_cmp_tells (Some xs) (Some ys) = cmp_tells xs ys (slice_cmp nat_cmp xs ys) refl
+
 -- and on the components of priorities at least p of two measures
 pub order_tells : (bs : BoundList) (p w : ℕ) (m n : MeasureValue) (xs ys us vs : List ℕ) (r : Ordering) → Some xs ≡ m → Some ys ≡ n → w ≡ width_from bs p → us ≡ take w xs → vs ≡ take w ys → r ≡ slice_cmp nat_cmp us vs → MatchOrdering r (IsBelow (measure_from bs p m) (measure_from bs p n)) (measure_from bs p m ≡ measure_from bs p n) (IsBelow (measure_from bs p n) (measure_from bs p m))
 order_tells bs p w m n xs ys us vs r a b e f g h = rw (← a, ← b, ← e, ← f, ← g) (cmp_tells us vs r h)
 
--- and on two measures
-pub measures_tell : (m n : MeasureValue) (xs ys : List ℕ) (r : Ordering) → Some xs ≡ m → Some ys ≡ n → r ≡ slice_cmp nat_cmp xs ys → MatchOrdering r (IsBelow m n) (m ≡ n) (IsBelow n m)
-measures_tell m n xs ys r a b h = rw (← a, ← b) (cmp_tells xs ys r h)
+-- and whether they are equal
+pub equal_tells : (m n : MeasureValue) (r : Ordering) (b : Bool) → b ≡ is_eq r → MatchOrdering r (IsBelow m n) (m ≡ n) (IsBelow n m) → (b ≡ true → m ≡ n) × (m ≡ n → b ≡ true)
+equal_tells m n Less b e h = (λ t. absurd (true≢false (sym t ∙ e)), λ same. absurd (below_not m n h (subst (λ o. AtMost o m) same (at_most_same m))))
+equal_tells m n Equal b e h = (λ _. h, λ _. e)
+equal_tells m n Greater b e h = (λ t. absurd (true≢false (sym t ∙ e)), λ same. absurd (below_not n m h (subst (λ o. AtMost m o) same (at_most_same m))))
 
--- and whether it is less
+-- and whether the first is at most the second
+at_most_told : (m n : MeasureValue) (r : Ordering) (b : Bool) → b ≡ is_le r → MatchOrdering r (IsBelow m n) (m ≡ n) (IsBelow n m) → (b ≡ true → AtMost m n) × (AtMost m n → b ≡ true)
+at_most_told m n Less b e h = (λ _. below_is m n h, λ _. e)
+at_most_told m n Equal b e h = (λ _. subst (λ o. AtMost m o) h (at_most_same m), λ _. e)
+at_most_told m n Greater b e h = (λ t. absurd (true≢false (sym t ∙ e)), λ le. absurd (below_not n m h le))
+
+pub at_most_tells : (m n : MeasureValue) (b : Bool) → b ≡ is_le (measure_cmp m n) → (b ≡ true → AtMost m n) × (AtMost m n → b ≡ true)
+at_most_tells m n b e = at_most_told m n (measure_cmp m n) b e (measure_cmp_tells m n)
+
+-- and whether the first is below the second
+below_told : (m n : MeasureValue) (r : Ordering) (b : Bool) → b ≡ is_lt r → MatchOrdering r (IsBelow m n) (m ≡ n) (IsBelow n m) → MatchBool b (IsBelow m n) (AtMost n m)
+below_told m n Less b e h = rw e h
+below_told m n Equal b e h = rw e (subst (λ o. AtMost o m) h (at_most_same m))
+below_told m n Greater b e h = rw e (below_is n m h)
+
+pub below_tells : (m n : MeasureValue) (b : Bool) → b ≡ is_lt (measure_cmp m n) → MatchBool b (IsBelow m n) (AtMost n m)
+below_tells m n b e = below_told m n (measure_cmp m n) b e (measure_cmp_tells m n)
+
+-- and whether a list is less
 pub tells_below : (xs ys : List ℕ) (r : Ordering) → MatchOrdering r (ListBelow xs ys) (xs ≡ ys) (ListBelow ys xs) → MatchBool (is_lt r) (ListBelow xs ys) (ListAtMost ys xs)
 tells_below xs ys Less h = h
 tells_below xs ys Equal h = subst (λ zs. ListAtMost zs xs) h (at_most_itself xs)

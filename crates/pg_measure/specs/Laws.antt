@@ -1,7 +1,8 @@
 -- What is proved of measures, over the definitions alone.
 use Rattle.std.specs.Prelude.{◌≡◌, ℕ, ◌≤◌, nat_le, ◌⊎◌, List, [], ◌∷◌, length, if◌then◌else◌, All}
+use Rattle.std.specs.Ordering.{MatchOrdering}
 use Rattle.pg_arena.specs.Games.{GameVertex, HasPrioritiesUpTo}
-use Rattle.pg_measure.specs.Measures.{BoundList, AreBounds, MeasureValue, Fits, zeros, AtMost, IsBelow, components_from, IsLeastStep}
+use Rattle.pg_measure.specs.Measures.{BoundList, AreBounds, MeasureValue, Fits, zeros, AtMost, IsBelow, measure_cmp, components_from, IsLeastStep}
 use Rattle.pg_measure.specs.Games.{IsBoundsOf}
 
 -- the order of measures is total, and below is at most and different
@@ -11,6 +12,11 @@ pub record OrderIsTotal : Type 0 where
   pub antisymmetric : (m n : MeasureValue) → AtMost m n → AtMost n m → m ≡ n
   pub total : (m n : MeasureValue) → IsBelow m n ⊎ AtMost n m
   pub strict : (m n : MeasureValue) → IsBelow m n → AtMost m n × (AtMost n m → ⊥)
+
+-- comparing two measures tells how they are ordered
+abbrev pub ComparingTellsOrder : Type 0
+ComparingTellsOrder =
+    (m n : MeasureValue) → MatchOrdering (measure_cmp m n) (IsBelow m n) (m ≡ n) (IsBelow n m)
 
 -- zeros are the least measure of the bounds
 abbrev pub ZerosAreLeast : Type 0

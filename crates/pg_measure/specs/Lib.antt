@@ -3,3 +3,4 @@ pub mod Games
 pub mod Views
 pub mod Laws
 pub mod Mirrors
+pub mod Lemmas

@@ -1,5 +1,9 @@
 -- Progress measures over bounds: their order, and when one covers another.
 use Rattle.std.specs.Prelude.{◌≡◌, ℕ, ◌%◌, ◌<◌, ◌≤◌, Bool, ◌==◌, nat_le, ◌⊎◌, List, [], ◌∷◌, length, replicate, take, count_by, All, AllPairs, Option, Some, None, MatchBool, option_map}
+use Rattle.std.specs.declared.cmp.Ordering.{Ordering}
+use Rattle.std.specs.declared.cmp.Ordering.TheVariants.{Less, Equal, Greater}
+use Rattle.std.specs.Ordering.{nat_cmp}
+use Rattle.std.specs.Cmp.Lexicographic.{slice_cmp}
 
 -- Bounds: each odd priority that occurs, the greatest first, with the number of vertices that have it.
 abbrev pub BoundList : Type 0
@@ -55,6 +59,13 @@ AtMost None None = Unit {0}
 AtMost None (Some ys) = ⊥
 AtMost (Some xs) None = Unit {0}
 AtMost (Some xs) (Some ys) = ListAtMost xs ys
+
+-- how two measures compare: lists in lexicographic order, and top above every list
+abbrev pub measure_cmp : MeasureValue → MeasureValue → Ordering
+measure_cmp None None = Equal
+measure_cmp None (Some ys) = Greater
+measure_cmp (Some xs) None = Less
+measure_cmp (Some xs) (Some ys) = slice_cmp nat_cmp xs ys
 
 -- how many bounds are of a priority at least p
 abbrev pub width_from : BoundList → ℕ → ℕ

@@ -1,10 +1,15 @@
 //! What is proved of measures: each function's contract is a law, and its body does nothing.
 
-ghost use Rattle.pg_measure.specs.Laws.{OrderIsTotal, ZerosAreLeast, ComponentsAreFirst, OneLeastStep, HasBounds, OneListOfBounds, BoundsAreFew};
+ghost use Rattle.pg_measure.specs.Laws.{OrderIsTotal, ComparingTellsOrder, ZerosAreLeast, ComponentsAreFirst, OneLeastStep, HasBounds, OneListOfBounds, BoundsAreFew};
 
 /// The order of measures is total.
 pub fn order_is_total()
     ensures { OrderIsTotal }
+{}
+
+/// Comparing two measures, by `cmp` and by `<` and the like, tells how they are ordered.
+pub fn comparing_tells_order()
+    ensures { ComparingTellsOrder }
 {}
 
 /// Zeros are the least measure of any bounds.

@@ -6,6 +6,7 @@
 mod bounds;
 pub mod laws;
 mod measure;
+mod ordering;
 pub mod row;
 mod view;
 

@@ -115,19 +115,6 @@ impl Measure {
         }
     }
 
-    /// How the two compare in lexicographic order. Top is above every list.
-    pub fn order(&self, other: &Measure) -> Ordering
-        ensures { MatchOrdering result (IsBelow self.now.value other.now.value) (self.now.value ≡ other.now.value)
-            (IsBelow other.now.value self.now.value) }
-    {
-        match (self.list(), other.list()) {
-            (None, None) => Ordering::Equal,
-            (None, Some(_)) => Ordering::Greater,
-            (Some(_), None) => Ordering::Less,
-            (Some(a), Some(b)) => a.cmp(b),
-        }
-    }
-
     /// How the components of priorities at least `p` compare in lexicographic order. Top is above every list.
     pub fn order_from(&self, other: &Measure, p: u32, bounds: &Bounds) -> Ordering
         ensures { MatchOrdering result (IsBelow (measure_from bounds.now p self.now.value)

@@ -2,7 +2,7 @@
 use Rattle.std.proofs.Common.{◌≡◌, ◌∙◌, ℕ, ◌<◌, ◌≤◌, inl, inr, true, List, [], ◌∷◌, length, arith, refl, sym, subst, ap, suc}
 use Rattle.std.specs.Prelude.{All, Option, IsSome}
 use Rattle.std.proofs.lemmas.List.Sums.{sum_by-cons}
-use Rattle.pg_measure.specs.Measures.{BoundList, MeasureValue, Fits, AtMost, zeros}
+use Rattle.pg_measure.specs.Measures.{BoundList, MeasureValue, Fits, AtMost}
 use Rattle.pg_map.specs.Lines.{Line, AreWithin}
 use Rattle.pg_map.specs.Maps.{MapValue, measure_at, zero_map, IsClosed, IsLifted, IsLeastProgressMeasure, IsLeastClosedFrom, MapAtMost, StaysUnder}
 use Rattle.pg_measure.proofs.Order.{below_or_at_most, at_most_same, at_most_same_value}
@@ -10,7 +10,6 @@ use Rattle.pg_map.specs.Weights.{weight, map_weight}
 use Rattle.pg_map.proofs.Weights.{measure_falls}
 use Rattle.pg_map.proofs.Above.{stays_trans}
 use Rattle.pg_map.proofs.Least.{least_from_zero}
-use Rattle.std.proofs.lemmas.List.{length-replicate}
 use Rattle.pg_map.specs.Lemmas.Orders.{map_transitive}
 use Rattle.pg_lift.proofs.Keeping.{lifted_is}
 use Rattle.pg_solver.specs.declared.side.Side.{Side}
@@ -73,9 +72,8 @@ least_of_side lines from begun s map begins i raised quiet is fits =
     let ended : All (Fits s.map.bounds) s.map.measures = subst (λ (m : MapValue). All (Fits m.bounds) m.measures) is fits in
     subst (λ (m : MapValue). IsLeastFrom lines from m) (sym is) (record {
       bounds = r.bounds;
-      size = r.size;
       least = record {
-        fits = subst (λ (bs : BoundList). All (Fits bs) s.map.measures) r.bounds ended;
+        map = record { size = r.size; fits = subst (λ (bs : BoundList). All (Fits bs) s.map.measures) r.bounds ended };
         above = r.above;
         closed = subst (λ (bs : BoundList). IsClosed bs lines s.map.measures) r.bounds (i.quiet quiet);
         least = r.under;
@@ -84,10 +82,9 @@ least_of_side lines from begun s map begins i raised quiet is fits =
 
 -- from zeros on it is the least progress measure
 pub least_from_zeros : (lines : ℕ → Option Line) (n : ℕ) (from map : MapValue) → from.measures ≡ zero_map from.bounds n
-    → IsLeastFrom lines from map → IsLeastProgressMeasure map.bounds lines map.measures
+    → IsLeastFrom lines from map → IsLeastProgressMeasure map.bounds n lines map.measures
 least_from_zeros lines n from map same e =
     let least : IsLeastClosedFrom from.bounds lines (zero_map from.bounds n) map.measures =
     subst (λ (f : List MeasureValue). IsLeastClosedFrom from.bounds lines f map.measures) same e.least in
-    subst (λ (bs : BoundList). IsLeastProgressMeasure bs lines map.measures) (sym e.bounds)
-    (least_from_zero from.bounds lines n map.measures
-    (e.size ∙ (ap length same ∙ length-replicate n (zeros from.bounds))) least)
+    subst (λ (bs : BoundList). IsLeastProgressMeasure bs n lines map.measures) (sym e.bounds)
+    (least_from_zero from.bounds lines n map.measures least)

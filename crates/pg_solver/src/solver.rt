@@ -258,7 +258,6 @@ pub fn measure_from(alloc: Global, game: &Game, from: MeasureMap) -> Result<Meas
     requires bounds { IsBoundsOf game.now from.bounds }
     requires size { length from.measures ≡ length game.now }
     ensures bounds { IfOk result (λ m. m.bounds ≡ from.bounds) }
-    ensures size { IfOk result (λ m. length m.measures ≡ length game.now) }
     ensures least { IfOk result (λ m. IsLeastClosedFrom from.bounds (game_line game.now) from.measures m.measures) }
 {
     lift_from(alloc, game, from, false)
@@ -272,11 +271,9 @@ pub fn solve_from(alloc: Global, game: &Game, from: Measures) -> Result<Measures
     requires dual_bounds { IsBoundsOf (dual game.now) from.of_dual.bounds }
     requires dual_size { length from.of_dual.measures ≡ length game.now }
     ensures bounds { IfOk result (λ m. m.of_game.bounds ≡ from.of_game.bounds) }
-    ensures size { IfOk result (λ m. length m.of_game.measures ≡ length game.now) }
     ensures least { IfOk result
         (λ m. IsLeastClosedFrom from.of_game.bounds (game_line game.now) from.of_game.measures m.of_game.measures) }
     ensures dual_bounds { IfOk result (λ m. m.of_dual.bounds ≡ from.of_dual.bounds) }
-    ensures dual_size { IfOk result (λ m. length m.of_dual.measures ≡ length game.now) }
     ensures dual_least { IfOk result
         (λ m. IsLeastClosedFrom from.of_dual.bounds (game_line (dual game.now)) from.of_dual.measures m.of_dual.measures) }
 {
@@ -287,8 +284,7 @@ pub fn solve_from(alloc: Global, game: &Game, from: Measures) -> Result<Measures
 /// The least progress measure of a game. It is refused for want of memory only.
 pub fn measure(alloc: Global, game: &Game) -> Result<MeasureMap, AllocError>
     ensures bounds { IfOk result (λ m. IsBoundsOf game.now m.bounds) }
-    ensures size { IfOk result (λ m. length m.measures ≡ length game.now) }
-    ensures least { IfOk result (λ m. IsLeastProgressMeasure m.bounds (game_line game.now) m.measures) }
+    ensures least { IfOk result (λ m. IsLeastProgressMeasure m.bounds (length game.now) (game_line game.now) m.measures) }
 {
     let zero = zero_of_game(alloc, game)?;
     lift_from(alloc, game, zero, true)
@@ -297,13 +293,11 @@ pub fn measure(alloc: Global, game: &Game) -> Result<MeasureMap, AllocError>
 /// The least progress measures of a game and of its dual. It is refused for want of memory only.
 pub fn solve(alloc: Global, game: &Game) -> Result<Measures, AllocError>
     ensures bounds { IfOk result (λ m. IsBoundsOf game.now m.of_game.bounds) }
-    ensures size { IfOk result (λ m. length m.of_game.measures ≡ length game.now) }
     ensures least { IfOk result
-        (λ m. IsLeastProgressMeasure m.of_game.bounds (game_line game.now) m.of_game.measures) }
+        (λ m. IsLeastProgressMeasure m.of_game.bounds (length game.now) (game_line game.now) m.of_game.measures) }
     ensures dual_bounds { IfOk result (λ m. IsBoundsOf (dual game.now) m.of_dual.bounds) }
-    ensures dual_size { IfOk result (λ m. length m.of_dual.measures ≡ length game.now) }
-    ensures dual_least { IfOk result
-        (λ m. IsLeastProgressMeasure m.of_dual.bounds (game_line (dual game.now)) m.of_dual.measures) }
+    ensures dual_least { IfOk result (λ m. IsLeastProgressMeasure m.of_dual.bounds (length (dual game.now))
+        (game_line (dual game.now)) m.of_dual.measures) }
 {
     let mut turns = Turns::new(alloc, game)?;
     let of_game = zero_of_game(alloc, game)?;

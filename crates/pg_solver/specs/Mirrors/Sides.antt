@@ -20,7 +20,6 @@ pub record IsRaised (lines : ℕ → Option Line) (from map : MapValue) : Type 0
 -- and it is closed
 pub record IsLeastFrom (lines : ℕ → Option Line) (from map : MapValue) : Type 0 where
   pub bounds : map.bounds ≡ from.bounds
-  pub size : length map.measures ≡ length from.measures
   pub least : IsLeastClosedFrom from.bounds lines from.measures map.measures
 
 -- one of the two is the dual of the other

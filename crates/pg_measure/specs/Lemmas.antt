@@ -1,0 +1,2 @@
+-- Lemmas that ghost members cite, which have to stand with the definitions.
+pub mod Orders
