@@ -1,7 +1,8 @@
 #!/usr/bin/env python3
 """Families of games of any size, the same on every machine.
 
-    bench/families.py FAMILY A B [SEED]      prints a game; what A and B are, the families below say
+    bench/families.py FAMILY A B [SEED]         prints a game; what A and B are, the families below say
+    bench/families.py --solution FAMILY A B     prints a solution of the game, for a family that Even wins without a choice
 """
 import sys
 
@@ -181,8 +182,33 @@ def hard(a, b, dice):
         yield dice.below(min(most, 65_534) + 1), dice.below(2), successors
 
 
+def priorities(a, b, dice):
+    """a vertices of Odd and b priorities, won by Even: of an odd priority one vertex of the next follows, of others two anywhere.
+    Without those of the greatest priorities most of the others are still one component"""
+    for i in range(a):
+        p = i % b
+        if p % 2 == 0:
+            yield p, 1, [dice.below(a), dice.below(a)]
+        elif p + 1 < b:
+            yield p, 1, [dice.below(a // b) * b + p + 1]
+        else:
+            yield 0, 1, [dice.below(a)]
+
+
+def steps(a, b, dice):
+    """a vertices of Odd, each of a priority of its own, won by Even: a step up from each, and two down from those of even priority"""
+    for i in range(a):
+        if i + 1 == a:
+            yield i + i % 2, 1, [max(i - 2, 0)]
+        else:
+            yield i, 1, [i + 1] if i % 2 == 1 or i < 2 else [i - 2, i + 1]
+
+
 FAMILIES = {it.__name__: it for it in (settled, climb, climbers, jurdzinski, ladder, clique, recladder, elevator, sparse, random,
-                                       chain, grid, wide, hubs, loops, hard)}
+                                       chain, grid, wide, hubs, loops, hard, priorities, steps)}
+
+# those that Even wins without a choice
+WON_BY_EVEN = ("priorities", "steps")
 
 
 def write(out, family, a, b, seed=1):
@@ -193,7 +219,16 @@ def write(out, family, a, b, seed=1):
         out.write(f"{v} {priority} {owner} {','.join(map(str, successors))};\n")
 
 
+def write_solution(out, a):
+    """Writes a solution in which Even wins a vertices and chooses nothing."""
+    out.write(f"paritysol {a - 1};\n" + "".join(f"{v} 0;\n" for v in range(a)))
+
+
 if __name__ == "__main__":
-    if len(sys.argv) not in (4, 5) or sys.argv[1] not in FAMILIES:
+    words = sys.argv[1:]
+    if len(words) == 4 and words[0] == "--solution" and words[1] in WON_BY_EVEN:
+        write_solution(sys.stdout, int(words[2]))
+    elif len(words) in (3, 4) and words[0] in FAMILIES:
+        write(sys.stdout, words[0], *map(int, words[1:]))
+    else:
         sys.exit(__doc__ + "\n" + "\n".join(f"{name:12} {it.__doc__}" for name, it in FAMILIES.items()))
-    write(sys.stdout, sys.argv[1], *map(int, sys.argv[2:]))

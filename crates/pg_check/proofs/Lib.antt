@@ -12,3 +12,4 @@ pub mod Halved
 pub mod Listed
 pub mod Winning
 pub mod Deciding
+pub mod Ordered

@@ -2,3 +2,5 @@
 pub mod Cycles
 pub mod Components
 pub mod Searches
+pub mod Orders
+pub mod Proposals

@@ -12,6 +12,8 @@ use crate::components::{Components, NEW, OUT, find_components, mark};
 use crate::cycle::{cycle_through, is_lost};
 use crate::edges::first_leaving;
 use crate::fault::CheckFault;
+use crate::order::is_order;
+use crate::proposal::{Proposal, propose};
 use crate::sift::sift;
 use crate::verdict::Verdict;
 use pg_arena::{Game, Vertex};
@@ -136,10 +138,47 @@ fn leave_out(
     sift_out(alloc, game, solution, vertices, numbers, &components)
 }
 
+/// A bad cycle among the vertices that are left, by what is proposed of them: an order shows that there is none, or a round is made
+/// in which one shows. Should the order not hold, the plain search from each vertex decides.
+#[tactic(auto, using(crate::proofs::Ordered::ordered_has_none))]
+fn bad_cycle_left(
+    alloc: Global,
+    game: &Game,
+    solution: &Solution,
+    vertices: &[Vertex],
+    numbers: &mut [u32],
+) -> Result<Option<Vec<Vertex>>, AllocError>
+    requires game { IsGame game.now }
+    requires whole { length solution.now ≡ length game.now }
+    requires numbered { length numbers.old ≡ length game.now }
+    requires left { AreLeft game.now solution.now vertices.now }
+    ensures none { IfOk result (λ found. IfNone found (HasNoBadCycle game.now solution.now)) }
+    ensures some { IfOk result (λ found. IfSome found (λ cycle. IsSimpleBadCycle game.now solution.now cycle.items)) }
+{
+    match propose(alloc, game, solution, vertices)? {
+        Proposal::Order(order) => {
+            if is_order(game, solution, vertices, &order) {
+                return Ok(None);
+            }
+            search_each(alloc, game, solution)
+        }
+        Proposal::Left(left) => {
+            mark(numbers, vertices, OUT);
+            mark(numbers, &left, NEW);
+            let components = find_components(alloc, game, solution, &left, numbers)?;
+            bad_cycle_from(alloc, game, solution, components.suspect)
+        }
+    }
+}
+
+/// How many rounds are made before an order of what is left is proposed.
+const ROUNDS: u32 = 4;
+
 /// A bad cycle among the vertices that are left, by strongly connected components of the edges that count. Each turn of
-/// the loop numbers the components of these vertices, in time linear in their edges. Where the greatest priority of a
-/// component with an edge is of a lost vertex, a bad cycle goes through that vertex. Else the vertices over the
-/// component's greatest lost priority are left out, and those that no edge keeps in their component.
+/// the loop is a round: it numbers the components of these vertices, in time linear in their edges. Where the greatest priority of
+/// a component with an edge is of a lost vertex, a bad cycle goes through that vertex. Else the vertices over the
+/// component's greatest lost priority are left out, and those that no edge keeps in their component. For what is left after the last
+/// round an order is proposed, so that the time doesn't grow with the number of priorities.
 ///
 /// That the components are strongly connected isn't proved, nor needed: `sift` rules out only what it may. Should the
 /// components not be what they ought to be, the plain search from each vertex decides; with true components it never
@@ -158,14 +197,17 @@ fn bad_cycle_among(
     ensures none { IfOk result (λ found. IfNone found (HasNoBadCycle game.now solution.now)) }
     ensures some { IfOk result (λ found. IfSome found (λ cycle. IsSimpleBadCycle game.now solution.now cycle.items)) }
 {
-    'left: while !vertices.is_empty() {
+    'left: for _ in 0..ROUNDS {
+        if vertices.is_empty() {
+            return Ok(None);
+        }
         let count = vertices.len();
         let suspect = leave_out(alloc, game, solution, vertices, numbers)?;
         if suspect.is_some() || vertices.len() >= count {
             return bad_cycle_from(alloc, game, solution, suspect);
         }
     }
-    Ok(None)
+    bad_cycle_left(alloc, game, solution, vertices, numbers)
 }
 
 /// A bad cycle, searched for among all vertices.
@@ -187,8 +229,8 @@ fn bad_cycle(
 /// Whether a solution is sound. `Wins` if it is. `Leaves` where an edge that counts joins vertices with different
 /// winners: the least, by where it comes from and then where it leads. `BadCycle` else.
 ///
-/// Takes time linear in the edges for each priority that it looks at, and room for a few numbers for each vertex.
-/// Refuses for want of memory only, with `OutOfMemory`.
+/// Takes time linear in the edges, times at most the logarithm of the number of priorities; and room for a few numbers for each
+/// vertex, and where few rounds don't do for each edge. Refuses for want of memory only, with `OutOfMemory`.
 pub fn check(alloc: Global, game: &Game, solution: &Solution) -> Result<Verdict, CheckFault>
     requires { IsSolution game.now solution.now }
     ensures wins { IfOk result (λ verdict. IsWins verdict ↔ IsSound game.now solution.now) }

@@ -2,15 +2,23 @@
 //! is made from measures and checked.
 #![tactic(auto)]
 
+mod arranging;
 mod certificate;
+mod chains;
 mod checker;
 mod choices;
 mod components;
 mod cycle;
 mod edges;
 mod fault;
+mod heights;
 pub mod laws;
+mod links;
+mod numbers;
+mod order;
 mod play;
+mod proposal;
+mod rounds;
 mod sift;
 mod verdict;
 

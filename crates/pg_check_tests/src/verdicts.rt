@@ -174,16 +174,16 @@ fn loops(alloc: Global, count: u32, back: u32) -> Result<Game, ArenaFault> {
 
 #[test]
 fn loops_in_loops_are_looked_at_from_the_outside(rt: HostRuntime) -> Result<(), Fail> {
-    let good = loops(rt.alloc(), 2_001, 0)?;
+    let good = loops(rt.alloc(), 4_001, 0)?;
     let solution = Solution::new(rt.alloc(), &good)?;
     assert!(rt; is_solution(&good, &solution));
     assert!(rt; matches!(check(rt.alloc(), &good, &solution)?, Verdict::Wins));
-    let bad = loops(rt.alloc(), 2_001, 1_001)?;
+    let bad = loops(rt.alloc(), 4_001, 2_001)?;
     let solution = Solution::new(rt.alloc(), &bad)?;
     assert!(rt; is_solution(&bad, &solution));
     let verdict = check(rt.alloc(), &bad, &solution)?;
     assert!(rt;
-        matches!(&verdict, Verdict::BadCycle(cycle) if cycle.len() == 1_002 && cycle.contains(&Vertex(1_001)))
+        matches!(&verdict, Verdict::BadCycle(cycle) if cycle.len() == 2_002 && cycle.contains(&Vertex(2_001)))
     );
     Ok(())
 }

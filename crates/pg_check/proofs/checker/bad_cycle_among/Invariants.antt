@@ -1,9 +1,5 @@
-use Rattle.std.proofs.Common.{length}
 use Rattle.pg_check.specs.Mirrors.Cycles.{AreLeft}
 use Rattle.pg_check.proofs.checker.bad_cycle_among.Given as goal
 
 abbrev pub invariant-left : goal.invariant-left
 invariant-left l = AreLeft l.game l.solution l.vertices.items
-
-abbrev pub decreases-left : goal.decreases-left
-decreases-left l = length l.vertices.items
