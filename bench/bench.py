@@ -1,6 +1,7 @@
 #!/usr/bin/env python3
 """Times the program on generated inputs: the size of the text, and the seconds (of the clock and of processors) and the peak
-memory of the quickest run. `check` gets a solution too, and `replay` a script of 200,000 events with 6 workers.
+memory of the quickest run, and its processor milliseconds for each megabyte of the text. `check` gets a solution too, and `replay`
+a script of 200,000 events with 6 workers.
 
     bench/bench.py [PROGRAM] [--only WORD] [--repeats N] [--limit SECONDS] [--words WORDS] [--beside OTHER]
 
@@ -15,6 +16,8 @@ import subprocess
 import sys
 import tempfile
 import time
+
+from families import WON_BY_EVEN
 
 here = os.path.dirname(os.path.abspath(__file__))
 
@@ -52,6 +55,13 @@ solve hubs 100000 10
 solve hubs 1000000 20
 check hubs 100000 10
 check hubs 1000000 20
+check priorities 4096 2048
+check priorities 16384 8192
+check priorities 65536 32768
+check priorities 700000 128
+check priorities 700000 8192
+check steps 9000 0
+check steps 36000 0
 replay loops 10000 4
 game automaton 60000 3 2
 game automaton 200 12 2
@@ -126,12 +136,15 @@ def prepare(source, command, sizes, given):
         with open(source, "ab") as out:
             out.write(b"--\n")
             out.flush()
-            schedule = [sys.executable, os.path.join(here, "schedules.py"), sizes[1], *SCHEDULE]
+            schedule = [sys.executable, os.path.join(here, "schedules.py"), "mixed", sizes[1], *SCHEDULE]
             subprocess.run(schedule, stdout=out, check=True)
     if command != "check":
         return True
+    words = ["timeout", str(given.limit), given.program, "solve"]
+    if family in WON_BY_EVEN:
+        words = [sys.executable, os.path.join(here, "families.py"), "--solution", *sizes]
     with open(source, "rb") as game, open(source + ".solution", "wb") as out:
-        solved = subprocess.run(["timeout", str(given.limit), given.program, "solve"], stdin=game, stdout=out)
+        solved = subprocess.run(words, stdin=game, stdout=out)
     with open(source, "ab") as out:
         out.write(b"--\n")
         out.flush()
@@ -146,6 +159,10 @@ def figures(ran):
     return f"{used:8.2f} {seconds:8.2f} {peak:8.1f}"
 
 
+def for_a_megabyte(ran, size):
+    return f"{'-':>8}" if ran is None else f"{1000 * ran[0] / size:8.1f}"
+
+
 def beside(ran, other):
     if ran is None or other is None:
         return figures(other)
@@ -155,7 +172,7 @@ def beside(ran, other):
 def main():
     given = options()
     columns = f"{'proc. s':>8} {'seconds':>8} {'peak MB':>8}"
-    print(f"{'case':28} {'text MB':>8} {columns}" + (f" | {columns} {'times':>6} {'memory':>6}" if given.beside else ""))
+    print(f"{'case':28} {'text MB':>8} {columns} {'ms a MB':>8}" + (f" | {columns} {'times':>6} {'memory':>6}" if given.beside else ""))
     with tempfile.TemporaryDirectory() as folder:
         source = os.path.join(folder, "input")
         for case in CASES.strip().split("\n"):
@@ -165,7 +182,7 @@ def main():
             is_ready = prepare(source, command, sizes, given)
             size = os.path.getsize(source) / 1e6
             ran = best([given.program, command, *given.words.split()], source, given) if is_ready else None
-            line = f"{case:28} {size:8.2f} {figures(ran)}"
+            line = f"{case:28} {size:8.2f} {figures(ran)} {for_a_megabyte(ran, size)}"
             if given.beside:
                 line += " | " + beside(ran, best([given.beside, command], source, given))
             print(line, flush=True)

@@ -1,14 +1,13 @@
 -- Joins of the updates that were taken.
 use Rattle.std.proofs.Common.{◌≡◌, ◌≢◌, ℕ, ◌<◌, None, List, [], ◌∷◌, ◌++◌, length, get_or, set, sym, ◌∙◌, ◌⊎◌, inl, inr, arith, subst}
-use Rattle.std.specs.Prelude.{All, Option}
+use Rattle.std.specs.Prelude.{All}
 use Rattle.std.proofs.lemmas.Bool.{cases_eq}
 use Rattle.std.proofs.lemmas.List.{get_or-set_other, get_or-set_same, length-replicate, get_or_append_left, length-append, length-set}
 use Rattle.std.proofs.lemmas.List.Elements.{All-nil, All-push, All-set, All-weaker, All-contains, Contains-get_or}
 use Rattle.std.proofs.Math.Seq.{get_or-append_seam}
 use Rattle.pg_measure.specs.Measures.{BoundList, MeasureValue, Fits, zeros, AtMost, IsBelow}
 use Rattle.pg_measure.specs.Laws.{OrderIsTotal}
-use Rattle.pg_map.specs.Lines.{Line}
-use Rattle.pg_map.specs.Maps.{measure_at, IsMap, zero_map, update_map, MapAtMost, IsJoin, IsLifted}
+use Rattle.pg_map.specs.Maps.{measure_at, IsMap, zero_map, update_map, MapAtMost, IsJoin}
 use Rattle.pg_map.specs.Laws.{ZeroMapIsLeast}
 use Rattle.pg_map.specs.Lemmas.Orders.{maps_same, map_transitive}
 use Rattle.pg_world.specs.Updates.{UpdateValue, update_at, map_of_update, IsJoinOf}
@@ -95,12 +94,6 @@ raise_joins o z bs n f v m w fits l b = record {
     under : (k : List MeasureValue) → MapAtMost f k → MapAtMost (update_map bs n v m) k → (u : ℕ) → (u ≡ v) ⊎ (u ≢ v) → AtMost (measure_at (set f v m) u) (measure_at k u)
     under k p q u (inl e) = rw (e, here) (update_at_vertex bs n v m k l q)
     under k p q u (inr ne) = rw (get_or-set_other f v u m None ne) (p u)
-
--- a lift is the join with the update that it makes
-pub lift_joins : OrderIsTotal → ZeroMapIsLeast → (bs : BoundList) (lines : ℕ → Option Line) (n : ℕ) (f g : List MeasureValue) (v : ℕ) → IsMap bs n f → v < n → IsLifted bs lines f g v → IsJoin f (update_map bs n v (measure_at g v)) g
-lift_joins o z bs lines n f g v m l i =
-    subst (λ (h : List MeasureValue). IsJoin f (update_map bs n v (measure_at g v)) h) (sym i.others)
-    (raise_joins o z bs n f v (measure_at g v) m i.least.fits l i.above)
 
 above_too : (bs : BoundList) (n : ℕ) (us vs : List UpdateValue) (ks js : List ℕ) (g : List MeasureValue) → AreTakenToo bs us ks vs js → All (λ k. MapAtMost (as_map bs n vs k) g) js → All (λ k. MapAtMost (as_map bs n us k) g) ks
 above_too bs n us vs ks js g t a = λ i d l.

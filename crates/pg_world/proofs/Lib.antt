@@ -3,7 +3,8 @@ pub mod Keeping
 pub mod Refusing
 pub mod Running
 pub mod Happening
-pub mod Building
+pub mod Showing
+pub mod Lifting
 pub mod Noting
 pub mod Replicas
 pub mod ScriptLines

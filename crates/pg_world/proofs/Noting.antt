@@ -1,9 +1,9 @@
 -- One list of numbers among those of all replicas is changed.
-use Rattle.std.proofs.Common.{◌≡◌, ℕ, ◌<◌, Bool, true, false, Some, List, [], ◌∷◌, ◌++◌, length, get_or, set, ap, sym, ◌∙◌, arith, subst}
+use Rattle.std.proofs.Common.{◌≡◌, ℕ, ◌+◌, ◌<◌, ◌≤◌, Bool, true, false, Some, List, [], ◌∷◌, ◌++◌, length, get_or, set, ap, sym, ◌∙◌, arith, subst}
 use Rattle.std.specs.Prelude.{map, Option, IfSome, slice_get, vec_len, vec_capacity, if◌then◌else◌}
 use Rattle.std.specs.declared.vec.Vec.{Vec}
 use Rattle.std.specs.declared.alloc.Global.{Global}
-use Rattle.std.proofs.lemmas.List.{map-set, get_or-set_same, length-set, get_or-map}
+use Rattle.std.proofs.lemmas.List.{map-set, get_or-set_same, length-set, length-map, get_or-map}
 use Rattle.std.proofs.lemmas.Option.{slice_get-get_or}
 use Rattle.std.proofs.Math.Seq.{map-set_same}
 
@@ -37,3 +37,17 @@ items_noted ts r n t d b l here e h =
     let same : t.items ≡ d.items ++ n ∷ [] = added b (d.items ++ n ∷ []) d.items t.items e h in
     let was : get_or (map items ts) r [] ≡ d.items = get_or-map items ts r d [] l ∙ sym (ap items here) in
     map-set items ts r t ∙ ap (λ (x : List ℕ). set (map items ts) r x) (same ∙ ap (λ (x : List ℕ). x ++ n ∷ []) (sym was))
+
+-- a number was put into the list in its place
+pub items_set : (ts : List Numbers) (r v n : ℕ) (t d : Numbers) → r < length ts → d ≡ get_or ts r d → t.items ≡ set d.items v n → map items (set ts r t) ≡ set (map items ts) r (set (get_or (map items ts) r []) v n)
+items_set ts r v n t d l here e =
+    let was : get_or (map items ts) r [] ≡ d.items = get_or-map items ts r d [] l ∙ sym (ap items here) in
+    map-set items ts r t ∙ ap (λ (x : List ℕ). set (map items ts) r x) (e ∙ ap (λ (x : List ℕ). set x v n) (sym was))
+
+-- the list in a place
+pub item_at : (ts : List Numbers) (r : ℕ) (t : Numbers) → r < length ts → t ≡ get_or ts r t → get_or (map items ts) r [] ≡ t.items
+item_at ts r t l here = get_or-map items ts r t [] l ∙ ap items (sym here)
+
+-- there is a list for each replica
+pub has_place : (ts : List Numbers) (r n : ℕ) → length (map items ts) ≡ 1 + n → r ≤ n → r < length ts
+has_place ts r n e l = omega (arith, length-map ts items)

@@ -1,175 +1,260 @@
 -- What a world keeps of its replicas, event by event.
-use Rattle.std.proofs.Common.{◌≡◌, ◌≢◌, ℕ, suc, ◌+◌, ◌<◌, ◌≤◌, Bool, cond, replicate, None, List, [], ◌∷◌, ◌++◌, length, set, refl, ap, sym, ◌∙◌, ◌⊎◌, inl, inr, arith, subst}
-use Rattle.std.specs.Prelude.{Option}
-use Rattle.std.proofs.lemmas.Bool.{cases_eq, cases_lt, eq-eqb}
-use Rattle.std.proofs.lemmas.List.{get_or-set_other, get_or-set_same, get_or_append_left, length-append, length-set}
+use Rattle.std.proofs.Common.{◌≡◌, ◌≢◌, ℕ, Bool, true, false, ◌+◌, ◌<◌, ◌≤◌, replicate, List, [], ◌∷◌, ◌++◌, length, get_or, set, refl, ap, sym, ◌∙◌, ◌⊎◌, inl, inr, arith, subst}
+use Rattle.std.specs.Prelude.{MatchBool}
+use Rattle.std.proofs.lemmas.Bool.{cases_eq}
+use Rattle.std.proofs.lemmas.List.{get_or-set_other, get_or-set_same, get_or-replicate, get_or_default, length-set, length-replicate, length-append}
+use Rattle.std.proofs.lemmas.List.Elements.{All-set}
 use Rattle.std.proofs.Math.Seq.{get_or-append_seam}
 use Rattle.pg_arena.specs.Games.{GameVertex, IsGame}
 use Rattle.pg_measure.specs.Games.{IsBoundsOf}
-use Rattle.pg_measure.specs.Measures.{BoundList, MeasureValue, Covers, zeros}
-use Rattle.pg_map.specs.Lines.{Line, line_at, game_line}
-use Rattle.pg_map.specs.Maps.{MapValue, measure_at, IsMap, IsJoin, IsServed, IsLeastServing, SomeOrAll, zero_map}
-use Rattle.pg_map.specs.Laws.{ZeroMapIsLeast}
-use Rattle.pg_worker.specs.Cuts.{CutValue, worker_of}
-use Rattle.pg_worker.specs.Workers.{WorkerValue, part_line}
-use Rattle.pg_world.specs.Updates.{UpdateValue, update_at, map_of_update}
+use Rattle.pg_measure.specs.Measures.{BoundList, MeasureValue, OwnedMeasure, Fits, AtMost, IsBelow, zeros}
+use Rattle.pg_map.specs.Lines.{game_line}
+use Rattle.pg_worker.specs.Cuts.{CutValue}
+use Rattle.pg_map.specs.Maps.{measure_at, IsMap, IsJoin, IsLeastServing, zero_map}
+use Rattle.pg_world.specs.declared.replica.TheConstants.{NO_UPDATE}
+use Rattle.pg_world.specs.Updates.{UpdateValue, update_at}
 use Rattle.pg_world.specs.Worlds.{WorldValue, new_world, taken_of, IsMapOf, taking, forgetting, making}
-use Rattle.pg_world.specs.Mirrors.Kept.{IsMade, IsReplica, IsNewReplica, AreReplicas, worker_at}
-use Rattle.pg_world.proofs.Joining.{as_map, one_join}
+use Rattle.pg_world.specs.Mirrors.Kept.{IsMade, shown, ComeFrom, IsReplica, AreReplicas, LiftsTo, Raises, IsCovered}
+use Rattle.pg_world.proofs.Joining.{as_map, one_join, raise_joins, update_under, last_at}
 use Rattle.pg_world.proofs.Keeping.{new_is_world, new_map, taking_is_world, making_is_world, forgetting_is_world, map_after_taking, map_after_making, map_besides_making, map_besides_taking, map_besides_forgetting, map_after_forgetting}
+use Rattle.pg_world.proofs.Running.{Laws, lift_makes}
+use Rattle.pg_world.proofs.Showing.{shown_set, length-shown, shown_longer, nothing_shown, come_from_none, come_from_more, come_from_longer, come_from_set}
 
 abbrev pub count : WorldValue → ℕ
 count w = length w.game
 
--- one worker is replaced, and all of them are those of another world
-replaced : (w : WorldValue) (ws : List WorkerValue) (k : ℕ) (x : WorkerValue) → k < length ws → IsReplica w (suc k) x → ((q : ℕ) → q ≢ k → q < length ws → IsReplica w (suc q) (worker_at ws q)) → (q : ℕ) → q < length (set ws k x) → IsReplica w (suc q) (worker_at (set ws k x) q)
-replaced w ws k x l here others q within = at (cases_eq q k)
+-- the numbers of the replica r
+abbrev pub greatest_of : List (List ℕ) → ℕ → List ℕ
+greatest_of gs r = get_or gs r []
+
+-- the map of the replica r
+abbrev pub map_in : WorldValue → List (List ℕ) → ℕ → List MeasureValue
+map_in w gs r = shown w.bounds w.updates (greatest_of gs r)
+
+-- the numbers of one replica are replaced
+replaced : (w : WorldValue) (gs : List (List ℕ)) (r k : ℕ) (g : List ℕ) → r < length gs → IsReplica w r g → ((q : ℕ) → q ≢ r → q ≤ k → IsReplica w q (greatest_of gs q)) → (q : ℕ) → q ≤ k → IsReplica w q (greatest_of (set gs r g) q)
+replaced w gs r k g l here others q within = at (cases_eq q r)
   where
-    at : (q ≡ k) ⊎ (q ≢ k) → IsReplica w (suc q) (worker_at (set ws k x) q)
-    at (inl e) = rw (e, get_or-set_same ws k x _ l) here
-    at (inr ne) = rw (get_or-set_other ws k q x _ ne) (others q ne (omega (arith, length-set ws k x)))
+    at : (q ≡ r) ⊎ (q ≢ r) → IsReplica w q (greatest_of (set gs r g) q)
+    at (inl e) = rw (e, get_or-set_same gs r g [] l) here
+    at (inr ne) = rw (get_or-set_other gs r q g [] ne) (others q ne within)
+
+pub greatest_size : (w : WorldValue) (z : OwnedMeasure) (gs : List (List ℕ)) (r : ℕ) → AreReplicas w z gs → r ≤ w.cut.workers → length (greatest_of gs r) ≡ count w
+greatest_size w z gs r i l = sym (length-shown w.bounds w.updates (greatest_of gs r)) ∙ (i.each r l).map.map.size
+
+-- an update that was made stands for one of the game, within the bounds
+pub made_at : (w : WorldValue) (z : OwnedMeasure) (gs : List (List ℕ)) (n : ℕ) → AreReplicas w z gs → n < length w.updates → IsMade w.bounds (game_line w.game) (count w) (update_at w.bounds w.updates n)
+made_at w z gs n i l = i.world.made n (record { vertex = 0; measure = zeros w.bounds }) l
+
+-- a map with a greater measure in its place
+raised_map : (bs : BoundList) (n : ℕ) (f : List MeasureValue) (v : ℕ) (m : MeasureValue) → IsMap bs n f → Fits bs m → IsMap bs n (set f v m)
+raised_map bs n f v m i fits = record { size = length-set f v m ∙ i.size; fits = All-set (Fits bs) f v m fits i.fits }
 
 -- ---- an update is taken
 
-pub coordinator_takes : (w : WorldValue) (c new : MapValue) (ws : List WorkerValue) (n : ℕ) → AreReplicas w c ws → n < length w.updates → new.bounds ≡ w.bounds → IsMap w.bounds (count w) new.measures → IsJoin c.measures (as_map w.bounds (count w) w.updates n) new.measures → AreReplicas (taking w 0 n) new ws
-coordinator_takes w c new ws n i l b m j = record {
-  world = taking_is_world w 0 n i.world l;
-  cut = i.cut;
-  count = i.count;
-  bounds = b;
-  map = map_after_taking w 0 n c.measures new.measures i.world (omega arith) i.map m j;
-  each = λ k within. (let x = i.each k within in record { bounds = x.bounds; lines = x.lines; map = map_besides_taking w 0 (suc k) n (worker_at ws k).map (omega arith) x.map });
+taken_others : (w : WorldValue) (z : OwnedMeasure) (gs : List (List ℕ)) (r n q : ℕ) → AreReplicas w z gs → q ≢ r → q ≤ w.cut.workers → IsReplica (taking w r n) q (greatest_of gs q)
+taken_others w z gs r n q i ne l = let x = i.each q l in record {
+  map = map_besides_taking w r q n (map_in w gs q) ne x.map;
+  from = subst (λ (t : List ℕ). ComeFrom w.updates t (greatest_of gs q)) (sym (get_or-set_other w.taken r q (taken_of w r ++ n ∷ []) [] ne)) x.from;
 }
 
-pub worker_takes : (w : WorldValue) (c : MapValue) (ws : List WorkerValue) (k n : ℕ) (new : WorkerValue) → AreReplicas w c ws → k < length ws → n < length w.updates → new.bounds ≡ (worker_at ws k).bounds → new.lines ≡ (worker_at ws k).lines → IsMap w.bounds (count w) new.map → IsJoin (worker_at ws k).map (as_map w.bounds (count w) w.updates n) new.map → AreReplicas (taking w (suc k) n) c (set ws k new)
-worker_takes w c ws k n new i l below b e m j = record {
-  world = taking_is_world w (suc k) n i.world below;
+taken_now : (w : WorldValue) (z : OwnedMeasure) (gs : List (List ℕ)) (r n : ℕ) → AreReplicas w z gs → r ≤ w.cut.workers → taken_of (taking w r n) r ≡ taken_of w r ++ n ∷ []
+taken_now w z gs r n i l = let within : r < length w.taken = omega (arith, i.world.size) in get_or-set_same w.taken r (taken_of w r ++ n ∷ []) [] within
+
+-- and is above what was there
+pub takes_rising : Laws → (w : WorldValue) (z : OwnedMeasure) (gs : List (List ℕ)) (r n : ℕ) → AreReplicas w z gs → r ≤ w.cut.workers → n < length w.updates → IsBelow (measure_at (map_in w gs r) (update_at w.bounds w.updates n).vertex) (update_at w.bounds w.updates n).measure → AreReplicas (taking w r n) z (set gs r (set (greatest_of gs r) (update_at w.bounds w.updates n).vertex n))
+takes_rising laws w z gs r n i l below rises = record {
+  world = taking_is_world w r n i.world below;
   cut = i.cut;
-  count = length-set ws k new ∙ i.count;
-  bounds = i.bounds;
-  map = map_besides_taking w (suc k) 0 n c.measures (omega arith) i.map;
-  each = replaced (taking w (suc k) n) ws k new l here others;
+  zero_is = i.zero_is;
+  few = i.few;
+  count = length-set gs r g ∙ i.count;
+  each = replaced (taking w r n) gs r w.cut.workers g (omega (arith, i.count)) here (λ q ne lq. taken_others w z gs r n q i ne lq);
 }
   where
-    here : IsReplica (taking w (suc k) n) (suc k) new
-    here = let x = i.each k l in record {
-      bounds = b ∙ x.bounds;
-      lines = λ v. (ap (λ (ls : List (Option Line)). part_line ls v) e ∙ x.lines v);
-      map = map_after_taking w (suc k) n (worker_at ws k).map new.map i.world (omega (arith, i.count)) x.map m j;
+    u : UpdateValue
+    u = update_at w.bounds w.updates n
+
+    g : List ℕ
+    g = set (greatest_of gs r) (update_at w.bounds w.updates n).vertex n
+
+    made : IsMade w.bounds (game_line w.game) (count w) (update_at w.bounds w.updates n)
+    made = made_at w z gs n i below
+
+    was : IsReplica w r (greatest_of gs r)
+    was = i.each r l
+
+    new_map : IsMapOf (taking w r n) r (set (map_in w gs r) (update_at w.bounds w.updates n).vertex (update_at w.bounds w.updates n).measure)
+    new_map = map_after_taking w r n (map_in w gs r) (set (map_in w gs r) (update_at w.bounds w.updates n).vertex (update_at w.bounds w.updates n).measure) i.world l was.map
+        (raised_map w.bounds (count w) (map_in w gs r) (update_at w.bounds w.updates n).vertex (update_at w.bounds w.updates n).measure was.map.map made.fits)
+        (raise_joins laws.order laws.zero w.bounds (count w) (map_in w gs r) (update_at w.bounds w.updates n).vertex (update_at w.bounds w.updates n).measure was.map.map made.fits made.within rises)
+
+    own : (d : UpdateValue) → (get_or w.updates n d).vertex ≡ (update_at w.bounds w.updates n).vertex
+    own d = ap (λ (x : UpdateValue). x.vertex) (get_or_default w.updates n d (record { vertex = 0; measure = zeros w.bounds }) below)
+
+    within : (update_at w.bounds w.updates n).vertex < length (greatest_of gs r)
+    within = omega (arith, made.within, greatest_size w z gs r i l)
+
+    here : IsReplica (taking w r n) r (set (greatest_of gs r) (update_at w.bounds w.updates n).vertex n)
+    here = record {
+      map = subst (IsMapOf (taking w r n) r) (sym (shown_set w.bounds w.updates (greatest_of gs r) (update_at w.bounds w.updates n).vertex n)) new_map;
+      from = subst (λ (t : List ℕ). ComeFrom w.updates t (set (greatest_of gs r) (update_at w.bounds w.updates n).vertex n)) (sym (taken_now w z gs r n i l)) (come_from_set w.updates (taken_of w r) (greatest_of gs r) (update_at w.bounds w.updates n).vertex n own within was.from);
     }
 
-    others : (q : ℕ) → q ≢ k → q < length ws → IsReplica (taking w (suc k) n) (suc q) (worker_at ws q)
-    others q ne within = let x = i.each q within in record { bounds = x.bounds; lines = x.lines; map = map_besides_taking w (suc k) (suc q) n (worker_at ws q).map (omega arith) x.map }
+-- and is at most what was there
+pub takes_covered : Laws → (w : WorldValue) (z : OwnedMeasure) (gs : List (List ℕ)) (r n : ℕ) → AreReplicas w z gs → r ≤ w.cut.workers → n < length w.updates → AtMost (update_at w.bounds w.updates n).measure (measure_at (map_in w gs r) (update_at w.bounds w.updates n).vertex) → AreReplicas (taking w r n) z gs
+takes_covered laws w z gs r n i l below covered = record {
+  world = taking_is_world w r n i.world below;
+  cut = i.cut;
+  zero_is = i.zero_is;
+  few = i.few;
+  count = i.count;
+  each = λ q lq. at q lq (cases_eq q r);
+}
+  where
+    made : IsMade w.bounds (game_line w.game) (count w) (update_at w.bounds w.updates n)
+    made = made_at w z gs n i below
+
+    was : IsReplica w r (greatest_of gs r)
+    was = i.each r l
+
+    joins : IsJoin (map_in w gs r) (as_map w.bounds (count w) w.updates n) (map_in w gs r)
+    joins = record {
+      first = λ v. laws.order.reflexive (measure_at (map_in w gs r) v);
+      second = update_under laws.zero w.bounds (count w) (update_at w.bounds w.updates n).vertex (update_at w.bounds w.updates n).measure (map_in w gs r) made.within was.map.map covered;
+      least = λ k p q. p;
+    }
+
+    here : IsReplica (taking w r n) r (greatest_of gs r)
+    here = record {
+      map = map_after_taking w r n (map_in w gs r) (map_in w gs r) i.world l was.map was.map.map joins;
+      from = subst (λ (t : List ℕ). ComeFrom w.updates t (greatest_of gs r)) (sym (taken_now w z gs r n i l)) (come_from_more w.updates (taken_of w r) (greatest_of gs r) n was.from);
+    }
+
+    at : (q : ℕ) → q ≤ w.cut.workers → (q ≡ r) ⊎ (q ≢ r) → IsReplica (taking w r n) q (greatest_of gs q)
+    at q lq (inl e) = subst (λ (x : ℕ). IsReplica (taking w r n) x (greatest_of gs x)) (sym e) here
+    at q lq (inr ne) = taken_others w z gs r n q i ne lq
 
 -- ---- an update is made
 
-pub coordinator_makes : (w : WorldValue) (c new : MapValue) (ws : List WorkerValue) (u : UpdateValue) → AreReplicas w c ws → IsMade w.bounds (game_line w.game) (count w) u → new.bounds ≡ w.bounds → IsMap w.bounds (count w) new.measures → IsJoin c.measures (map_of_update w.bounds (count w) u) new.measures → AreReplicas (making w 0 u) new ws
-coordinator_makes w c new ws u i made b m j = record {
-  world = making_is_world w 0 u i.world made;
-  cut = i.cut;
-  count = i.count;
-  bounds = b;
-  map = map_after_making w 0 u c.measures new.measures i.world (omega arith) i.map m j;
-  each = λ k within. (let x = i.each k within in record { bounds = x.bounds; lines = x.lines; map = map_besides_making w 0 (suc k) u (worker_at ws k).map i.world (omega arith) x.map });
+made_others : (w : WorldValue) (z : OwnedMeasure) (gs : List (List ℕ)) (r q : ℕ) (u : UpdateValue) → AreReplicas w z gs → length w.updates < NO_UPDATE → q ≢ r → q ≤ w.cut.workers → IsReplica (making w r u) q (greatest_of gs q)
+made_others w z gs r q u i few ne l = let x = i.each q l in record {
+  map = subst (IsMapOf (making w r u) q) (sym (shown_longer w.bounds w.updates u (taken_of w q) (greatest_of gs q) few (i.world.taken q) x.from)) (map_besides_making w r q u (map_in w gs q) i.world ne x.map);
+  from = subst (λ (t : List ℕ). ComeFrom (w.updates ++ u ∷ []) t (greatest_of gs q)) (sym (get_or-set_other w.taken r q (taken_of w r ++ length w.updates ∷ []) [] ne)) (come_from_longer w.updates u (taken_of w q) (greatest_of gs q) (i.world.taken q) x.from);
 }
 
-pub worker_makes : (w : WorldValue) (c : MapValue) (ws : List WorkerValue) (k : ℕ) (u : UpdateValue) (new : WorkerValue) → AreReplicas w c ws → k < length ws → IsMade w.bounds (game_line w.game) (count w) u → new.bounds ≡ (worker_at ws k).bounds → new.lines ≡ (worker_at ws k).lines → IsMap w.bounds (count w) new.map → IsJoin (worker_at ws k).map (map_of_update w.bounds (count w) u) new.map → AreReplicas (making w (suc k) u) c (set ws k new)
-worker_makes w c ws k u new i l made b e m j = record {
-  world = making_is_world w (suc k) u i.world made;
+pub makes : Laws → (w : WorldValue) (z : OwnedMeasure) (gs : List (List ℕ)) (r : ℕ) (u : UpdateValue) → AreReplicas w z gs → r ≤ w.cut.workers → length w.updates < NO_UPDATE → u.vertex < count w → LiftsTo w r u → AreReplicas (making w r u) z (set gs r (set (greatest_of gs r) u.vertex (length w.updates)))
+makes laws w z gs r u i l few lv lifts = record {
+  world = making_is_world w r u i.world made;
   cut = i.cut;
-  count = length-set ws k new ∙ i.count;
-  bounds = i.bounds;
-  map = map_besides_making w (suc k) 0 u c.measures i.world (omega arith) i.map;
-  each = replaced (making w (suc k) u) ws k new l here others;
+  zero_is = i.zero_is;
+  few = omega (arith, length-append w.updates (u ∷ []));
+  count = length-set gs r (set (greatest_of gs r) u.vertex (length w.updates)) ∙ i.count;
+  each = replaced (making w r u) gs r w.cut.workers (set (greatest_of gs r) u.vertex (length w.updates)) (omega (arith, i.count)) here (λ q ne lq. made_others w z gs r q u i few ne lq);
 }
   where
-    here : IsReplica (making w (suc k) u) (suc k) new
-    here = let x = i.each k l in record {
-      bounds = b ∙ x.bounds;
-      lines = λ v. (ap (λ (ls : List (Option Line)). part_line ls v) e ∙ x.lines v);
-      map = map_after_making w (suc k) u (worker_at ws k).map new.map i.world (omega (arith, i.count)) x.map m j;
-    }
+    was : IsReplica w r (greatest_of gs r)
+    was = i.each r l
 
-    others : (q : ℕ) → q ≢ k → q < length ws → IsReplica (making w (suc k) u) (suc q) (worker_at ws q)
-    others q ne within = let x = i.each q within in record { bounds = x.bounds; lines = x.lines; map = map_besides_making w (suc k) (suc q) u (worker_at ws q).map i.world (omega arith) x.map }
+    lift : IsLeastServing w.bounds (game_line w.game) (map_in w gs r) u.vertex u.measure × IsBelow (measure_at (map_in w gs r) u.vertex) u.measure
+    lift = lifts (map_in w gs r) was.map
 
--- ---- a worker starts anew
+    made : IsMade w.bounds (game_line w.game) (count w) u
+    made = lift_makes laws w r u.vertex (map_in w gs r) u.measure i.world lv was.map lift.0 lift.1
 
-pub worker_forgets : ZeroMapIsLeast → (w : WorldValue) (c : MapValue) (ws : List WorkerValue) (k : ℕ) (new : WorkerValue) → AreReplicas w c ws → k < length ws → IsNewReplica w.game w.bounds w.cut (suc k) new → AreReplicas (forgetting w (suc k)) c (set ws k new)
-worker_forgets z w c ws k new i l x = record {
-  world = forgetting_is_world w (suc k) i.world;
-  cut = i.cut;
-  count = length-set ws k new ∙ i.count;
-  bounds = i.bounds;
-  map = map_besides_forgetting w (suc k) 0 c.measures (omega arith) i.map;
-  each = replaced (forgetting w (suc k)) ws k new l here others;
-}
-  where
-    here : IsReplica (forgetting w (suc k)) (suc k) new
+    new_map : IsMapOf (making w r u) r (set (map_in w gs r) u.vertex u.measure)
+    new_map = map_after_making w r u (map_in w gs r) (set (map_in w gs r) u.vertex u.measure) i.world l was.map
+        (raised_map w.bounds (count w) (map_in w gs r) u.vertex u.measure was.map.map made.fits)
+        (raise_joins laws.order laws.zero w.bounds (count w) (map_in w gs r) u.vertex u.measure was.map.map made.fits lv lift.1)
+
+    shows : shown w.bounds (w.updates ++ u ∷ []) (set (greatest_of gs r) u.vertex (length w.updates)) ≡ set (map_in w gs r) u.vertex u.measure
+    shows = shown_set w.bounds (w.updates ++ u ∷ []) (greatest_of gs r) u.vertex (length w.updates)
+        ∙ (ap (λ (m : MeasureValue). set (shown w.bounds (w.updates ++ u ∷ []) (greatest_of gs r)) u.vertex m) (ap (λ (x : UpdateValue). x.measure) (last_at w.bounds w.updates u))
+        ∙ ap (λ (f : List MeasureValue). set f u.vertex u.measure) (shown_longer w.bounds w.updates u (taken_of w r) (greatest_of gs r) few (i.world.taken r) was.from))
+
+    own : (d : UpdateValue) → (get_or (w.updates ++ u ∷ []) (length w.updates) d).vertex ≡ u.vertex
+    own d = ap (λ (x : UpdateValue). x.vertex) (get_or-append_seam w.updates u [] d)
+
+    within : u.vertex < length (greatest_of gs r)
+    within = omega (arith, greatest_size w z gs r i l)
+
+    taken : taken_of (making w r u) r ≡ taken_of w r ++ length w.updates ∷ []
+    taken = let inside : r < length w.taken = omega (arith, i.world.size) in get_or-set_same w.taken r (taken_of w r ++ length w.updates ∷ []) [] inside
+
+    here : IsReplica (making w r u) r (set (greatest_of gs r) u.vertex (length w.updates))
     here = record {
-      bounds = x.bounds_are;
-      lines = x.lines;
-      map = subst (IsMapOf (forgetting w (suc k)) (suc k)) (sym x.map) (map_after_forgetting z w (suc k) i.world (omega (arith, i.count)));
+      map = subst (IsMapOf (making w r u) r) (sym shows) new_map;
+      from = subst (λ (t : List ℕ). ComeFrom (w.updates ++ u ∷ []) t (set (greatest_of gs r) u.vertex (length w.updates))) (sym taken)
+          (come_from_set (w.updates ++ u ∷ []) (taken_of w r) (greatest_of gs r) u.vertex (length w.updates) own within (come_from_longer w.updates u (taken_of w r) (greatest_of gs r) (i.world.taken r) was.from));
     }
 
-    others : (q : ℕ) → q ≢ k → q < length ws → IsReplica (forgetting w (suc k)) (suc q) (worker_at ws q)
-    others q ne within = let y = i.each q within in record { bounds = y.bounds; lines = y.lines; map = map_besides_forgetting w (suc k) (suc q) (worker_at ws q).map (omega arith) y.map }
+-- ---- a replica starts anew
 
--- ---- a worker's lines are those of the game at its vertices
-
-pub least_same : (bs : BoundList) (lines lines' : ℕ → Option Line) (f : List MeasureValue) (v : ℕ) (m : MeasureValue) → line_at lines v ≡ line_at lines' v → IsLeastServing bs lines f v m → IsLeastServing bs lines' f v m
-least_same bs lines lines' f v m e i = record {
-  fits = i.fits;
-  covers = subst (λ (l : Line). SomeOrAll l.owner (λ w. Covers bs l.priority m (measure_at f w)) l.successors) e i.covers;
-  least = λ n fits covers. i.least n fits (subst (λ (l : Line). SomeOrAll l.owner (λ w. Covers bs l.priority n (measure_at f w)) l.successors) (sym e) covers);
+pub forgets : Laws → (w : WorldValue) (z : OwnedMeasure) (gs : List (List ℕ)) (r : ℕ) → AreReplicas w z gs → r ≤ w.cut.workers → AreReplicas (forgetting w r) z (set gs r (replicate (length (greatest_of gs r)) NO_UPDATE))
+forgets laws w z gs r i l = record {
+  world = forgetting_is_world w r i.world;
+  cut = i.cut;
+  zero_is = i.zero_is;
+  few = i.few;
+  count = length-set gs r g ∙ i.count;
+  each = replaced (forgetting w r) gs r w.cut.workers g (omega (arith, i.count)) here others;
 }
+  where
+    g : List ℕ
+    g = replicate (length (greatest_of gs r)) NO_UPDATE
 
-pub served_same : (bs : BoundList) (lines lines' : ℕ → Option Line) (f : List MeasureValue) (v : ℕ) → line_at lines v ≡ line_at lines' v → IsServed bs lines f v → IsServed bs lines' f v
-served_same bs lines lines' f v e i = subst (λ (l : Line). SomeOrAll l.owner (λ w. Covers bs l.priority (measure_at f v) (measure_at f w)) l.successors) e i
+    zeros_there : shown w.bounds w.updates (replicate (length (greatest_of gs r)) NO_UPDATE) ≡ zero_map w.bounds (count w)
+    zeros_there = nothing_shown w.bounds w.updates (length (greatest_of gs r)) i.few ∙ ap (zero_map w.bounds) (greatest_size w z gs r i l)
+
+    here : IsReplica (forgetting w r) r (replicate (length (greatest_of gs r)) NO_UPDATE)
+    here = record {
+      map = subst (IsMapOf (forgetting w r) r) (sym zeros_there) (map_after_forgetting laws.zero w r i.world l);
+      from = come_from_none w.updates (taken_of (forgetting w r) r) (length (greatest_of gs r));
+    }
+
+    others : (q : ℕ) → q ≢ r → q ≤ w.cut.workers → IsReplica (forgetting w r) q (greatest_of gs q)
+    others q ne lq = let x = i.each q lq in record {
+      map = map_besides_forgetting w r q (map_in w gs q) ne x.map;
+      from = subst (λ (t : List ℕ). ComeFrom w.updates t (greatest_of gs q)) (sym (get_or-set_other w.taken r q [] [] ne)) x.from;
+    }
 
 -- ---- a new world
 
--- what holds of each worker, and of one more
-pub workers_more : (P : ℕ → WorkerValue → Type 0) (ws : List WorkerValue) (x : WorkerValue) → ((k : ℕ) → k < length ws → P k (worker_at ws k)) → P (length ws) x → (k : ℕ) → k < length (ws ++ x ∷ []) → P k (worker_at (ws ++ x ∷ []) k)
-workers_more P ws x each one k l = at (cases_lt k (length ws))
-  where
-    at : (k < length ws) ⊎ (length ws ≤ k) → P k (worker_at (ws ++ x ∷ []) k)
-    at (inl below) = subst (P k) (sym (get_or_append_left ws (x ∷ []) _ k below)) (each k below)
-    at (inr past) =
-        let e : k ≡ length ws = omega (arith, length-append ws (x ∷ [])) in
-        subst (λ (q : ℕ). P q (worker_at (ws ++ x ∷ []) q)) (sym e) (subst (P (length ws)) (sym (get_or-append_seam ws x [] _)) one)
+pub new_replicas : Laws → (game : List GameVertex) (bounds : BoundList) (cut : CutValue) (z : OwnedMeasure) → IsGame game → IsBoundsOf game bounds → length cut.numbers ≡ length game → z.value ≡ zeros bounds → AreReplicas (new_world game bounds cut) z (replicate (1 + cut.workers) (replicate (length game) NO_UPDATE))
+new_replicas laws game bounds cut z g b size zero = record {
+  world = new_is_world game bounds cut g b;
+  cut = size;
+  zero_is = zero;
+  few = omega arith;
+  count = length-replicate (1 + cut.workers) (replicate (length game) NO_UPDATE);
+  each = λ r l. (let within : r < 1 + cut.workers = omega arith in
+      subst (IsReplica (new_world game bounds cut) r) (sym (get_or-replicate {A = List ℕ} (1 + cut.workers) r (replicate (length game) NO_UPDATE) [] within)) (record {
+        map = subst (IsMapOf (new_world game bounds cut) r) (sym (nothing_shown bounds [] (length game) (omega arith))) (new_map laws.zero game bounds cut r l);
+        from = come_from_none [] (taken_of (new_world game bounds cut) r) (length game);
+      }));
+}
 
-pub new_replicas : ZeroMapIsLeast → (game : List GameVertex) (bounds : BoundList) (cut : CutValue) (taken : List (List ℕ)) (c : MapValue) (ws : List WorkerValue) (m n : ℕ) → IsGame game → IsBoundsOf game bounds → length cut.numbers ≡ length game → length ws ≡ cut.workers → ((k : ℕ) → k < length ws → IsNewReplica game bounds cut (suc k) (worker_at ws k)) → c.bounds ≡ bounds → c.measures ≡ zero_map bounds n → n ≡ length game → taken ≡ replicate m [] → m ≡ 1 + cut.workers → AreReplicas (record { game = game; bounds = bounds; cut = cut; updates = []; taken = taken }) c ws
-new_replicas z game bounds cut taken c ws m n g b size same each cb cm ne te me =
-    subst (λ (t : List (List ℕ)). AreReplicas (record { game = game; bounds = bounds; cut = cut; updates = []; taken = t }) c ws) (sym whole) (record {
-      world = new_is_world game bounds cut g b;
-      cut = size;
-      count = same;
-      bounds = cb;
-      map = subst (IsMapOf (new_world game bounds cut) 0) (sym zeros) (new_map z game bounds cut 0 (omega arith));
-      each = λ k l. (let x = each k l in record { bounds = x.bounds_are; lines = x.lines; map = subst (IsMapOf (new_world game bounds cut) (suc k)) (sym x.map) (new_map z game bounds cut (suc k) (omega (arith, same))) });
-    })
-  where
-    whole : taken ≡ replicate (1 + cut.workers) []
-    whole = te ∙ ap (λ (k : ℕ). replicate k []) me
+-- ---- the map of a replica
 
-    zeros : c.measures ≡ zero_map bounds (length game)
-    zeros = cm ∙ ap (λ (k : ℕ). zero_map bounds k) ne
-
--- ---- what a worker's call says of the world
-
--- an update that was made stands for one of the game, within the bounds
-pub made_at : (w : WorldValue) (c : MapValue) (ws : List WorkerValue) (n : ℕ) → AreReplicas w c ws → n < length w.updates → IsMade w.bounds (game_line w.game) (count w) (update_at w.bounds w.updates n)
-made_at w c ws n i l = i.world.made n (record { vertex = 0; measure = zeros w.bounds }) l
-
--- the map of a replica is the one
+-- a replica has one map
 pub map_is : (w : WorldValue) (r : ℕ) (f g : List MeasureValue) → IsMapOf w r f → IsMapOf w r g → f ≡ g
 map_is w r f g i j = one_join w.bounds (length w.game) w.updates w.updates (taken_of w r) (taken_of w r) f g (λ n k. (n, k, refl)) (λ n k. (n, k, refl)) i j
 
--- the line of a worker's vertex is that of the game
-pub line_is : (w : WorldValue) (k v : ℕ) (x : WorkerValue) → IsReplica w (suc k) x → worker_of w.cut v ≡ suc k → part_line x.lines v ≡ game_line w.game v
-line_is w k v x i e = i.lines v ∙ ap (λ (b : Bool). cond b (game_line w.game v) None) (eq-eqb (worker_of w.cut v) (suc k) e)
+-- what a replica lends is its map, of the game's size
+pub map_lent : (w o : WorldValue) (z : OwnedMeasure) (gs : List (List ℕ)) (r : ℕ) (g : List ℕ) → w ≡ o → AreReplicas w z gs → r ≤ o.cut.workers → greatest_of gs r ≡ g → IsMapOf o r (shown w.bounds w.updates g) × (length g ≡ length o.game)
+map_lent w o z gs r g same i l e =
+    let few : r ≤ w.cut.workers = subst (λ (x : WorldValue). r ≤ x.cut.workers) (sym same) l in (
+      subst (λ (x : WorldValue). IsMapOf x r (shown w.bounds w.updates g)) same (subst (λ (x : List ℕ). IsMapOf w r (shown w.bounds w.updates x)) e (i.each r few).map),
+      subst (λ (x : WorldValue). length g ≡ length x.game) same (subst (λ (x : List ℕ). length x ≡ length w.game) e (greatest_size w z gs r i few)),
+    )
 
--- a replica has one map
-pub map_shown : (w o : WorldValue) (r q : ℕ) (g f : List MeasureValue) → w ≡ o → r ≡ q → IsMapOf w q g → IsMapOf o r f → g ≡ f
-map_shown w o r q g f same at i j = map_is o r g f (subst (λ (n : ℕ). IsMapOf o n g) (sym at) (subst (λ (x : WorldValue). IsMapOf x q g) same i)) j
+-- what is said of a lift in one map of a replica is said of it in each, for there is one
+pub lifts_to : (w : WorldValue) (r : ℕ) (f : List MeasureValue) (bs : BoundList) (game : List GameVertex) (v : ℕ) (m : MeasureValue) → IsMapOf w r f → bs ≡ w.bounds → game ≡ w.game → IsLeastServing bs (game_line game) f v m → IsBelow (measure_at f v) m → LiftsTo w r (record { vertex = v; measure = m })
+lifts_to w r f bs game v m i eb eg least below = λ g j.
+    let least' : IsLeastServing w.bounds (game_line w.game) f v m = subst (λ (b : BoundList). IsLeastServing b (game_line w.game) f v m) eb (subst (λ (x : List GameVertex). IsLeastServing bs (game_line x) f v m) eg least) in
+    subst (λ (h : List MeasureValue). IsLeastServing w.bounds (game_line w.game) h v m × IsBelow (measure_at h v) m) (map_is w r f g i j) (least', below)
+
+-- and so is what is said of an update
+pub raises_or : (w : WorldValue) (r : ℕ) (f : List MeasureValue) (b : Bool) (u : UpdateValue) → IsMapOf w r f → MatchBool b (IsBelow (measure_at f u.vertex) u.measure) (AtMost u.measure (measure_at f u.vertex)) → MatchBool b (Raises w r u) (IsCovered w r u)
+raises_or w r f true u i h = λ g j. subst (λ (x : List MeasureValue). IsBelow (measure_at x u.vertex) u.measure) (map_is w r f g i j) h
+raises_or w r f false u i h = λ g j. subst (λ (x : List MeasureValue). AtMost u.measure (measure_at x u.vertex)) (map_is w r f g i j) h

@@ -195,14 +195,6 @@ runs_never_above laws game bounds cut es w r g b a l s =
     let f = k.maps r within in
     (f.0, f.1, subst (λ (x : BoundList). IsNeverAbove x (game_line game) f.0) k.bounds_is (subst (λ (x : List GameVertex). IsNeverAbove w.bounds (game_line x) f.0) k.game_is (map_never_above laws w r f.0 k.world f.1)))
 
--- and that is never above
-pub map_known : Laws → (w o : WorldValue) (r q : ℕ) (f : List MeasureValue) → w ≡ o → r ≡ q → IsWorld w → IsMapOf w q f → (g : List MeasureValue) × IsMapOf o r g × IsNeverAbove o.bounds (game_line o.game) g
-map_known laws w o r q f same at i j = (
-  f,
-  subst (λ (n : ℕ). IsMapOf o n f) (sym at) (subst (λ (x : WorldValue). IsMapOf x q f) same j),
-  subst (λ (x : WorldValue). IsNeverAbove x.bounds (game_line x.game) f) same (map_never_above laws w q f i j),
-)
-
 lift_game : (w new : WorldValue) (r v : ℕ) → Lifts w r v new → new.game ≡ w.game
 lift_game w new r v (f, j, inl same) = ap (λ (x : WorldValue). x.game) same.1
 lift_game w new r v (f, j, inr made) = ap (λ (x : WorldValue). x.game) made.3

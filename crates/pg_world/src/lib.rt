@@ -4,7 +4,7 @@
 mod event;
 mod fault;
 pub mod laws;
-mod part;
+mod replica;
 mod room;
 mod script;
 mod script_fault;

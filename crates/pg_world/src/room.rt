@@ -1,9 +1,8 @@
 //! Growth ahead of a change, so that the change can't fail half way.
 
-ghost use Rattle.std.specs.Prelude.{◌≡◌, ◌<◌, ◌∷◌, ◌++◌, [], OnOk, IfSome, IsTrue, length, map, vec_len, vec_capacity, slice_get, slice_set, slice_index_or};
+ghost use Rattle.std.specs.Prelude.{◌≡◌, ◌<◌, ◌∷◌, ◌++◌, [], OnOk, IfSome, length, map, vec_len, vec_capacity, slice_get, slice_set, slice_index_or};
 
 use pg_map::Update;
-use pg_worker::Worker;
 use std::alloc::AllocError;
 
 /// Room for one more update, and for its number among those that the replica r took.
@@ -42,26 +41,10 @@ pub(crate) fn note(taken: &mut Vec<Vec<usize>>, r: usize, number: usize)
     let _pushed = taken[r].push(number);
 }
 
-/// Whether the replica r has taken nothing, so that it has nothing to forget.
-pub(crate) fn has_nothing(taken: &[Vec<usize>], r: usize) -> bool
-    requires { r < length taken.now }
-    ensures { IsTrue result → slice_set (map (λ t. t.items) taken.now) r [] ≡ map (λ t. t.items) taken.now }
-{
-    taken[r].is_empty()
-}
-
 /// The replica r has taken nothing.
 pub(crate) fn forget(taken: &mut Vec<Vec<usize>>, r: usize)
     requires { r < length taken.old.items }
     ensures { map (λ t. t.items) taken.new.items ≡ slice_set (map (λ t. t.items) taken.old.items) r [] }
 {
     taken[r].clear();
-}
-
-/// Puts a worker in place of the one at k.
-pub(crate) fn replace(workers: &mut Vec<Worker>, k: usize, worker: Worker)
-    requires { k < length workers.old.items }
-    ensures { workers.new.items ≡ slice_set workers.old.items k worker }
-{
-    workers[k] = worker;
 }

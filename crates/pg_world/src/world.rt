@@ -1,52 +1,44 @@
 //! Worlds.
 
-ghost use Rattle.std.specs.Prelude.{◌≡◌, ◌≤◌, ◌<◌, ℕ, suc, [], List, Option, None, length, map, replicate, All, IfOk, IfErr, OnOk, OnErr};
+ghost use Rattle.std.specs.Prelude.{◌≡◌, ◌≤◌, ◌<◌, ℕ, [], List, Option, None, length, map, replicate, All, IfOk, IfErr, OnOk, OnErr, MatchBool};
 ghost use Rattle.pg_measure.specs.Measures.{Fits};
 ghost use Rattle.pg_measure.specs.Games.{IsBoundsOf};
 ghost use Rattle.pg_measure.specs.Views.{measure_in};
 ghost use Rattle.pg_map.specs.Maps.{measure_at, IsNeverAbove};
 ghost use Rattle.pg_map.specs.Lines.{game_line};
-ghost use Rattle.pg_worker.specs.Cuts.{worker_of};
-ghost use Rattle.pg_world.specs.Updates.{update_value};
-ghost use Rattle.pg_world.specs.Worlds.{new_world, taken_of, IsMapOf, Lifts, Steps, taking, forgetting, cut_fault, refusal, IsRefusedBy, IsEventOf, Runs, StopsAt};
-ghost use Rattle.pg_world.specs.Mirrors.Kept.{IsNewReplica, AreNewReplicas, worker_at};
+ghost use Rattle.pg_world.specs.Updates.{update_value, update_at};
+ghost use Rattle.pg_world.specs.Worlds.{new_world, taken_of, IsMapOf, Lifts, Steps, taking, forgetting, making, cut_fault, refusal, IsRefusedBy, IsEventOf, Runs, StopsAt};
+ghost use Rattle.pg_world.specs.Mirrors.Kept.{shown_by, HasZero, IsWorld, LiftsTo, Raises, IsCovered};
 
 use crate::event::Event;
 use crate::fault::WorldFault;
 use crate::laws;
-use crate::part::part_of;
-use crate::room::{forget, has_nothing, make_room, note, push_in_room, replace};
+use crate::replica::{ReplicaMap, clear, no_updates, set_greatest};
+use crate::room::{forget, make_room, note, push_in_room};
 use pg_arena::{Game, Vertex};
-use pg_map::{MeasureMap, Update, View};
+use pg_map::{Update, View};
 use pg_measure::{Bounds, Measure};
-use pg_worker::{Cut, Worker};
+use pg_worker::Cut;
 use std::alloc::Global;
 use std::marker::Model;
 
 /// A game cut among workers, with a coordinator: what each of these replicas lifted, and took of what others lifted.
 /// Contracts see the game, its bounds, the cut, the updates ever made, and the numbers of those that each replica took
-/// since its last restart; its map is the join of them.
+/// since its last restart; its map is the join of them. Measures are totally ordered, so that the map has at each vertex the
+/// greatest update of it that was taken: `greatest` has its number, for each replica and vertex.
 #[derive(Drop)]
 pub struct World {
-    alloc: Global,
     game: Game,
     bounds: Bounds,
     cut: Cut,
+    zero: Measure,
     updates: Vec<Update>,
     taken: Vec<Vec<usize>>,
-    coordinator: MeasureMap,
-    workers: Vec<Worker>,
-}
-
-/// The replicas of a world, with what they took.
-#[derive(Drop)]
-struct Replicas {
-    coordinator: MeasureMap,
-    workers: Vec<Worker>,
-    taken: Vec<Vec<usize>>,
+    greatest: Vec<Vec<usize>>,
 }
 
 impl Model for World {
+    ghost use Rattle.std.specs.Prelude.{map};
     ghost use Rattle.pg_world.specs.Worlds.{WorldValue};
     ghost use Rattle.pg_world.specs.Mirrors.Kept.{viewed, AreReplicas};
 
@@ -54,7 +46,8 @@ impl Model for World {
 
     ghost view = { λ w. viewed w.game w.bounds w.cut w.updates.items w.taken.items };
 
-    ghost invariant = { λ w. AreReplicas (viewed w.game w.bounds w.cut w.updates.items w.taken.items) w.coordinator w.workers.items };
+    ghost invariant = { λ w. AreReplicas (viewed w.game w.bounds w.cut w.updates.items w.taken.items) w.zero
+        (map (λ g. g.items) w.greatest.items) };
 }
 
 impl World {
@@ -70,16 +63,18 @@ impl World {
         }
         laws::of_maps();
         let bounds = Bounds::of(alloc, &game)?;
-        let replicas = replicas_of(alloc, &game, &bounds, &cut)?;
+        let zero = Measure::zero(alloc, &bounds)?;
+        let replicas = cut.workers() as usize + 1;
+        let taken = nothing_taken(alloc, replicas)?;
+        let greatest = no_updates(alloc, replicas, game.len())?;
         Ok(World {
-            alloc,
             game,
             bounds,
             cut,
+            zero,
             updates: Vec::new(alloc),
-            taken: replicas.taken,
-            coordinator: replicas.coordinator,
-            workers: replicas.workers,
+            taken,
+            greatest,
         })
     }
 
@@ -108,11 +103,7 @@ impl World {
         ensures fits { Fits self.now.bounds (measure_in result) }
     {
         laws::of_maps();
-        if replica == 0 {
-            self.coordinator.get(v)
-        } else {
-            self.workers[replica as usize - 1].get(v)
-        }
+        self.map(replica).measure(v).view()
     }
 
     /// The numbers of the updates that a replica took since its last restart, in order: its own are among them, and one that
@@ -143,7 +134,7 @@ impl World {
             Event::Lift(worker, v) => self.lift(worker, v),
             Event::Deliver(replica, number) => self.deliver(replica, number),
             Event::Restart(worker) => self.restart(worker),
-            Event::CoordinatorLift(v) => self.lift_centrally(v),
+            Event::CoordinatorLift(v) => self.lift_in(0, v),
         }
     }
 
@@ -162,6 +153,24 @@ impl World {
         Ok(())
     }
 
+    /// The map of a replica.
+    fn map(&self, replica: u32) -> ReplicaMap<'_>
+        requires { replica ≤ self.now.cut.workers }
+        ensures bounds { result.bounds.now ≡ self.now.bounds }
+        ensures updates { map update_value result.updates.now ≡ self.now.updates }
+        ensures zero { HasZero result }
+        ensures map { IsMapOf self.now replica (shown_by result) }
+        ensures size { length result.greatest.now ≡ length self.now.game }
+        ensures world { IsWorld self.now }
+    {
+        ReplicaMap {
+            bounds: &self.bounds,
+            zero: &self.zero,
+            updates: &self.updates,
+            greatest: &self.greatest[replica as usize],
+        }
+    }
+
     /// The worker lifts a vertex.
     fn lift(&mut self, worker: u32, v: Vertex) -> Result<(), WorldFault>
         requires { v < length self.old.game }
@@ -175,30 +184,40 @@ impl World {
         if self.cut.worker_of(v) != worker {
             return Err(WorldFault::NotMine(worker, self.game.identifier(v)));
         }
-        self.lift_own(worker, v)
+        self.lift_in(worker, v)
     }
 
-    /// A worker lifts a vertex of its part.
-    fn lift_own(&mut self, worker: u32, v: Vertex) -> Result<(), WorldFault>
+    /// A replica lifts a vertex in its map.
+    fn lift_in(&mut self, replica: u32, v: Vertex) -> Result<(), WorldFault>
         requires v { v < length self.old.game }
-        requires worker { (0 < worker) × (worker ≤ self.old.cut.workers) }
-        requires own { worker_of self.old.cut v ≡ worker }
-        ensures ok { OnOk result (Lifts self.old worker v self.new) }
+        requires replica { replica ≤ self.old.cut.workers }
+        ensures ok { OnOk result (Lifts self.old replica v self.new) }
+        ensures memory { IfErr result (λ fault. fault ≡ WorldFault.OutOfMemory) }
+        ensures same { OnErr result (self.new ≡ self.old) }
+    {
+        match self.map(replica).lift(&self.game, v)? {
+            Some(measure) => self.make(replica, Update { vertex: v, measure }),
+            None => Ok(()),
+        }
+    }
+
+    /// A replica makes an update by a lift, and takes it.
+    fn make(&mut self, replica: u32, update: Update) -> Result<(), WorldFault>
+        requires replica { replica ≤ self.old.cut.workers }
+        requires v { update.vertex < length self.old.game }
+        requires lifts { LiftsTo self.old replica (update_value update) }
+        ensures ok { OnOk result (self.new ≡ making self.old replica (update_value update)) }
         ensures memory { IfErr result (λ fault. fault ≡ WorldFault.OutOfMemory) }
         ensures same { OnErr result (self.new ≡ self.old) }
     {
         laws::of_maps();
-        let place = worker as usize;
+        let place = replica as usize;
         make_room(&mut self.updates, &mut self.taken, place)?;
-        match self.workers[place - 1].lift(v) {
-            Ok(None) => Ok(()),
-            Ok(Some(update)) => {
-                note(&mut self.taken, place, self.updates.len());
-                push_in_room(&mut self.updates, update);
-                Ok(())
-            }
-            Err(_) => Err(WorldFault::OutOfMemory),
-        }
+        let made = self.updates.len();
+        set_greatest(&mut self.greatest, place, update.vertex, made);
+        note(&mut self.taken, place, made);
+        push_in_room(&mut self.updates, update);
+        Ok(())
     }
 
     /// A replica takes an update.
@@ -214,45 +233,39 @@ impl World {
         if number >= self.updates.len() {
             return Err(WorldFault::NoSuchUpdate(number));
         }
-        if replica == 0 {
-            self.deliver_to_coordinator(number)
-        } else {
-            self.deliver_to_worker(replica, number)
-        }
+        self.take(replica, number)
     }
 
-    /// The coordinator takes an update that was made.
-    fn deliver_to_coordinator(&mut self, number: usize) -> Result<(), WorldFault>
-        requires { number < length self.old.updates }
-        ensures ok { OnOk result (self.new ≡ taking self.old 0 number) }
-        ensures memory { IfErr result (λ fault. fault ≡ WorldFault.OutOfMemory) }
-        ensures same { OnErr result (self.new ≡ self.old) }
-    {
-        make_room(&mut self.updates, &mut self.taken, 0)?;
-        let update = &self.updates[number];
-        self.coordinator.raise(update.vertex, update.measure.view());
-        // asked for what its contract says of the map
-        let _vertices = self.coordinator.len();
-        note(&mut self.taken, 0, number);
-        Ok(())
-    }
-
-    /// A worker takes an update that was made.
-    fn deliver_to_worker(&mut self, worker: u32, number: usize) -> Result<(), WorldFault>
-        requires worker { (0 < worker) × (worker ≤ self.old.cut.workers) }
+    /// A replica takes an update that was made.
+    fn take(&mut self, replica: u32, number: usize) -> Result<(), WorldFault>
+        requires replica { replica ≤ self.old.cut.workers }
         requires number { number < length self.old.updates }
-        ensures ok { OnOk result (self.new ≡ taking self.old worker number) }
+        ensures ok { OnOk result (self.new ≡ taking self.old replica number) }
         ensures memory { IfErr result (λ fault. fault ≡ WorldFault.OutOfMemory) }
         ensures same { OnErr result (self.new ≡ self.old) }
     {
-        let place = worker as usize;
+        laws::of_maps();
+        let place = replica as usize;
+        let v = self.updates[number].vertex;
+        let rises = self.raises(replica, number);
         make_room(&mut self.updates, &mut self.taken, place)?;
-        let worker = &mut self.workers[place - 1];
-        let _rose = worker.take(&self.updates[number]);
-        // asked for what its contract says of the worker
-        let _vertices = worker.len();
         note(&mut self.taken, place, number);
+        if rises {
+            set_greatest(&mut self.greatest, place, v, number);
+        }
         Ok(())
+    }
+
+    /// Whether an update is above what a replica has at its vertex.
+    fn raises(&self, replica: u32, number: usize) -> bool
+        requires replica { replica ≤ self.now.cut.workers }
+        requires number { number < length self.now.updates }
+        ensures { let update = update_at self.now.bounds self.now.updates number in
+            MatchBool result (Raises self.now replica update) (IsCovered self.now replica update) }
+    {
+        let update = &self.updates[number];
+        let here = self.map(replica).measure(update.vertex);
+        here.cmp(&update.measure).is_lt()
     }
 
     /// A worker starts anew.
@@ -265,77 +278,12 @@ impl World {
         if worker == 0 || worker > self.cut.workers() {
             return Err(WorldFault::NoSuchReplica(worker));
         }
-        let place = worker as usize;
-        if has_nothing(&self.taken, place) {
-            return Ok(());
-        }
         laws::of_maps();
-        let fresh = part_of(self.alloc, &self.game, &self.bounds, &self.cut, worker)?;
-        replace(&mut self.workers, place - 1, fresh);
+        let place = worker as usize;
+        clear(&mut self.greatest[place], &self.updates, &self.taken[place]);
         forget(&mut self.taken, place);
         Ok(())
     }
-
-    /// The coordinator lifts a vertex.
-    fn lift_centrally(&mut self, v: Vertex) -> Result<(), WorldFault>
-        requires { v < length self.old.game }
-        ensures ok { OnOk result (Lifts self.old 0 v self.new) }
-        ensures memory { IfErr result (λ fault. fault ≡ WorldFault.OutOfMemory) }
-        ensures same { OnErr result (self.new ≡ self.old) }
-    {
-        laws::of_maps();
-        let mut measure = Measure::zero(self.alloc, &self.bounds)?;
-        make_room(&mut self.updates, &mut self.taken, 0)?;
-        if self.coordinator.lift(&self.game, v) {
-            self.coordinator.copy_to(v, &mut measure);
-            note(&mut self.taken, 0, self.updates.len());
-            push_in_room(&mut self.updates, Update { vertex: v, measure });
-        }
-        Ok(())
-    }
-}
-
-/// The replicas before anything happened.
-fn replicas_of(
-    alloc: Global,
-    game: &Game,
-    bounds: &Bounds,
-    cut: &Cut,
-) -> Result<Replicas, WorldFault>
-    requires bounds { IsBoundsOf game.now bounds.now }
-    requires cut { length cut.now.numbers ≡ length game.now }
-    ensures new { IfOk result (AreNewReplicas game.now bounds.now cut.now) }
-    ensures memory { IfErr result (λ fault. fault ≡ WorldFault.OutOfMemory) }
-{
-    let taken = nothing_taken(alloc, cut.workers() as usize + 1)?;
-    let workers = workers_of(alloc, game, bounds, cut)?;
-    let coordinator = MeasureMap::zero(alloc, game.len() as u32, bounds)?;
-    Ok(Replicas {
-        coordinator,
-        workers,
-        taken,
-    })
-}
-
-/// The workers with their parts.
-fn workers_of(
-    alloc: Global,
-    game: &Game,
-    bounds: &Bounds,
-    cut: &Cut,
-) -> Result<Vec<Worker>, WorldFault>
-    requires bounds { IsBoundsOf game.now bounds.now }
-    requires cut { length cut.now.numbers ≡ length game.now }
-    ensures count { IfOk result (λ ws. length ws.items ≡ cut.now.workers) }
-    ensures each { IfOk result (λ ws. (k : ℕ) → k < length ws.items
-        → IsNewReplica game.now bounds.now cut.now (suc k) (worker_at ws.items k)) }
-    ensures memory { IfErr result (λ fault. fault ≡ WorldFault.OutOfMemory) }
-{
-    let mut workers = Vec::new(alloc);
-    for k in 0..cut.workers() {
-        workers.push(part_of(alloc, game, bounds, cut, k + 1)?)?;
-    }
-    Ok(workers)
 }
 
 /// For so many replicas, that they have taken nothing.

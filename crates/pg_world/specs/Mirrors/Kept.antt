@@ -1,17 +1,17 @@
 -- What a world keeps true of its replicas.
-use Rattle.std.specs.Prelude.{◌≡◌, ℕ, suc, ◌+◌, ◌<◌, ◌≤◌, ◌==◌, List, [], All, map, length, set, replicate, Option, None, Some, slice_index_or, if◌then◌else◌}
-use Rattle.pg_arena.specs.Games.{GameVertex, IsGame, vertex_at}
-use Rattle.pg_measure.specs.Measures.{BoundList, Fits, AtMost}
-use Rattle.pg_measure.specs.Games.{IsBoundsOf}
-use Rattle.pg_map.specs.Lines.{Line, vertex_line, game_line}
-use Rattle.pg_map.specs.Maps.{MapValue, measure_at, zero_map, IsMap, IsClosed}
-use Rattle.pg_worker.specs.Cuts.{CutValue, worker_of}
-use Rattle.pg_worker.specs.Workers.{WorkerValue, new_worker, part_line}
-use Rattle.pg_map.specs.declared.update.Update.{Update}
+use Rattle.std.specs.Prelude.{◌≡◌, ◌⊎◌, ℕ, ◌+◌, ◌<◌, ◌≤◌, List, [], All, Contains, map, length, Option, slice_index_or}
 use Rattle.std.specs.declared.vec.Vec.{Vec}
 use Rattle.std.specs.declared.alloc.Global.{Global}
-use Rattle.pg_world.specs.declared.world.Replicas.{Replicas}
-use Rattle.pg_world.specs.Updates.{UpdateValue, update_value}
+use Rattle.pg_arena.specs.Games.{GameVertex, IsGame}
+use Rattle.pg_measure.specs.Measures.{BoundList, MeasureValue, OwnedMeasure, Fits, zeros, AtMost, IsBelow}
+use Rattle.pg_measure.specs.Games.{IsBoundsOf}
+use Rattle.pg_map.specs.Lines.{Line, game_line}
+use Rattle.pg_map.specs.Maps.{measure_at, IsMap, IsClosed, IsLeastServing}
+use Rattle.pg_map.specs.declared.update.Update.{Update}
+use Rattle.pg_worker.specs.Cuts.{CutValue}
+use Rattle.pg_world.specs.declared.replica.ReplicaMap.{ReplicaMap}
+use Rattle.pg_world.specs.declared.replica.TheConstants.{NO_UPDATE}
+use Rattle.pg_world.specs.Updates.{UpdateValue, update_value, update_at}
 use Rattle.pg_world.specs.Worlds.{WorldValue, taken_of, IsMapOf}
 
 -- what contracts see of a world
@@ -33,50 +33,48 @@ pub record IsWorld (w : WorldValue) : Type 0 where
   pub made : All (IsMade w.bounds (game_line w.game) (length w.game)) w.updates
   pub taken : (r : ℕ) → All (λ n. n < length w.updates) (taken_of w r)
 
--- the lines of the worker r: those of its vertices
-abbrev pub line_of_part : List GameVertex → CutValue → ℕ → ℕ → Option Line
-line_of_part game cut r v = if worker_of cut v == r then game_line game v else None
+-- the map that shows at each vertex the measure of the update with its number, or zeros where no update has it
+abbrev pub shown : BoundList → List UpdateValue → List ℕ → List MeasureValue
+shown bounds updates greatest = map (λ n. (update_at bounds updates n).measure) greatest
 
--- x is the worker r before anything happened
-pub record IsNewReplica (game : List GameVertex) (bounds : BoundList) (cut : CutValue) (r : ℕ) (x : WorkerValue) : Type 0 where
-  pub bounds_are : x.bounds ≡ bounds
-  pub lines : (v : ℕ) → part_line x.lines v ≡ line_of_part game cut r v
-  pub map : x.map ≡ zero_map bounds (length game)
+-- the map that is lent
+abbrev pub shown_by : ReplicaMap → List MeasureValue
+shown_by m = shown m.bounds.now (map update_value m.updates.now) m.greatest.now
 
--- x has the lines of the vertices before i, zeros, and room for a line of each vertex
-pub record IsPartBelow (game : List GameVertex) (bounds : BoundList) (cut : CutValue) (r i : ℕ) (x : WorkerValue) : Type 0 where
-  pub bounds_are : x.bounds ≡ bounds
-  pub map : x.map ≡ zero_map bounds (length game)
-  pub size : length x.lines ≡ length game
-  pub below : (v : ℕ) → v < i → part_line x.lines v ≡ line_of_part game cut r v
-  pub above : (v : ℕ) → i ≤ v → part_line x.lines v ≡ None
+-- the measure for vertices without an update is zeros
+abbrev pub HasZero : ReplicaMap → Type 0
+HasZero m = m.zero.now.value ≡ zeros m.bounds.now
 
--- the worker x, told of the vertex v of the game
-abbrev pub with_vertex : List GameVertex → ℕ → WorkerValue → WorkerValue
-with_vertex game v x = record x { lines = set x.lines v (Some (vertex_line (vertex_at game v))) }
+-- each vertex has no update, or one of its own among those that were taken
+abbrev pub ComeFrom : List UpdateValue → List ℕ → List ℕ → Type 0
+ComeFrom updates taken greatest =
+    (v : ℕ) → let n = slice_index_or greatest v NO_UPDATE in
+    (n ≡ NO_UPDATE) ⊎ (Contains taken n × ((d : UpdateValue) → (slice_index_or updates n d).vertex ≡ v))
 
--- x holds the part and the map of the worker r
-pub record IsReplica (w : WorldValue) (r : ℕ) (x : WorkerValue) : Type 0 where
-  pub bounds : x.bounds ≡ w.bounds
-  pub lines : (v : ℕ) → part_line x.lines v ≡ line_of_part w.game w.cut r v
-  pub map : IsMapOf w r x.map
+-- for each vertex these are the greatest updates that the replica r took
+pub record IsReplica (w : WorldValue) (r : ℕ) (greatest : List ℕ) : Type 0 where
+  pub map : IsMapOf w r (shown w.bounds w.updates greatest)
+  pub from : ComeFrom w.updates (taken_of w r) greatest
 
-abbrev pub worker_at : List WorkerValue → ℕ → WorkerValue
-worker_at workers k = slice_index_or workers k (new_worker [] 0)
-
--- the coordinator's map and the workers are those of the world
-pub record AreReplicas (w : WorldValue) (coordinator : MapValue) (workers : List WorkerValue) : Type 0 where
+-- the world holds the greatest updates of each replica
+pub record AreReplicas (w : WorldValue) (zero : OwnedMeasure) (greatest : List (List ℕ)) : Type 0 where
   pub world : IsWorld w
   pub cut : length w.cut.numbers ≡ length w.game
-  pub count : length workers ≡ w.cut.workers
-  pub bounds : coordinator.bounds ≡ w.bounds
-  pub map : IsMapOf w 0 coordinator.measures
-  pub each : (k : ℕ) → k < length workers → IsReplica w (suc k) (worker_at workers k)
+  pub zero_is : zero.value ≡ zeros w.bounds
+  pub few : length w.updates ≤ NO_UPDATE
+  pub count : length greatest ≡ 1 + w.cut.workers
+  pub each : (r : ℕ) → r ≤ w.cut.workers → IsReplica w r (slice_index_or greatest r [])
 
--- the replicas of a world before anything happened
-pub record AreNewReplicas (game : List GameVertex) (bounds : BoundList) (cut : CutValue) (r : Replicas) : Type 0 where
-  pub count : length r.workers.items ≡ cut.workers
-  pub each : (k : ℕ) → k < length r.workers.items → IsNewReplica game bounds cut (suc k) (worker_at r.workers.items k)
-  pub bounds_are : r.coordinator.bounds ≡ bounds
-  pub zeros : r.coordinator.measures ≡ zero_map bounds (length game)
-  pub taken : map (λ t. t.items) r.taken.items ≡ replicate (1 + cut.workers) []
+-- the update is what a lift of its vertex in the map of the replica r makes
+abbrev pub LiftsTo : WorldValue → ℕ → UpdateValue → Type 0
+LiftsTo w r u =
+    (f : List MeasureValue) → IsMapOf w r f
+    → IsLeastServing w.bounds (game_line w.game) f u.vertex u.measure × IsBelow (measure_at f u.vertex) u.measure
+
+-- the update is above what the replica r has at its vertex
+abbrev pub Raises : WorldValue → ℕ → UpdateValue → Type 0
+Raises w r u = (f : List MeasureValue) → IsMapOf w r f → IsBelow (measure_at f u.vertex) u.measure
+
+-- it is at most that
+abbrev pub IsCovered : WorldValue → ℕ → UpdateValue → Type 0
+IsCovered w r u = (f : List MeasureValue) → IsMapOf w r f → AtMost u.measure (measure_at f u.vertex)

@@ -1,21 +1,28 @@
-use Rattle.std.proofs.Common.{◌+◌, List, length, refl, sym, subst, arith}
+use Rattle.std.proofs.Common.{◌≡◌, ◌+◌, ◌∙◌, ℕ, List, length, replicate, ap, sym, subst, arith}
 use Rattle.std.specs.Prelude.{map}
-use Rattle.pg_map.specs.declared.update.Update.{Update}
+use Rattle.pg_world.specs.declared.replica.TheConstants.{NO_UPDATE}
+use Rattle.pg_world.specs.Worlds.{WorldValue}
 use Rattle.pg_world.specs.Mirrors.Kept.{viewed, AreReplicas}
+use Rattle.pg_world.proofs.Noting.{items}
+use Rattle.pg_world.proofs.Running.{Laws}
 use Rattle.pg_world.proofs.Replicas.{new_replicas}
 use Rattle.pg_world.proofs.Happening.{view_new}
 use Rattle.pg_world.proofs.world.World.new.Goals as goal
 
 pub invariant_of-result : goal.invariant_of-result
 invariant_of-result c =
-    let r = c.in_ok-replicas.ensures.new in
-    subst (λ (us : List Update). AreReplicas (viewed c.args.game c.in_ok-bounds.bounds c.args.cut us c.in_ok-replicas.replicas.taken.items) c.in_ok-replicas.replicas.coordinator c.in_ok-replicas.replicas.workers.items) (sym c.new.ensures.items)
-    (new_replicas c.of_maps.ensures.zero c.args.game c.in_ok-bounds.bounds c.args.cut (map (λ t. t.items) c.in_ok-replicas.replicas.taken.items) c.in_ok-replicas.replicas.coordinator c.in_ok-replicas.replicas.workers.items
-    (1 + c.args.cut.workers) (length c.args.game) c.len.ensures.game c.in_ok-bounds.ensures (omega (arith, c.vertices.ensures, c.len.ensures.value)) r.count r.each
-    r.bounds_are r.zeros refl r.taken refl)
+    let laws : Laws = record { order = c.of_maps.ensures.order; zero = c.of_maps.ensures.zero; lines = c.of_maps.ensures.lines; under = c.of_maps.ensures.under } in
+    let made = new_replicas laws c.args.game c.in_ok-bounds.bounds c.args.cut c.in_ok-zero.zero c.len.ensures.game c.in_ok-bounds.ensures (omega (arith, c.vertices.ensures, c.len.ensures.value)) (ap (λ x. x.value) c.in_ok-zero.ensures) in
+    let view = view_new c.args.game c.in_ok-bounds.bounds c.args.cut c.new.result.items c.in_ok-taken.taken.items (c.workers.result + 1) c.new.ensures.items c.in_ok-taken.ensures.taken (omega (arith, c.workers.ensures)) in
+    let replicas : c.workers.result + 1 ≡ 1 + c.args.cut.workers = omega (arith, c.workers.ensures) in
+    let greatest : map items c.in_ok-greatest.greatest.items ≡ replicate (1 + c.args.cut.workers) (replicate (length c.args.game) NO_UPDATE) =
+    c.in_ok-greatest.ensures ∙ (ap (λ (n : ℕ). replicate (c.workers.result + 1) (replicate n NO_UPDATE)) c.len-2.ensures.value
+    ∙ ap (λ (n : ℕ). replicate n (replicate (length c.args.game) NO_UPDATE)) replicas) in
+    subst (λ (g : List (List ℕ)). AreReplicas (viewed c.args.game c.in_ok-bounds.bounds c.args.cut c.new.result.items c.in_ok-taken.taken.items) c.in_ok-zero.zero g) (sym greatest)
+    (subst (λ (o : WorldValue). AreReplicas o c.in_ok-zero.zero (replicate (1 + c.args.cut.workers) (replicate (length c.args.game) NO_UPDATE))) (sym view) made)
 
 pub returns-clause-new : goal.returns-clause-new
 returns-clause-new c = (
   c.in_ok-bounds.ensures,
-  view_new c.args.game c.in_ok-bounds.bounds c.args.cut c.new.result.items c.in_ok-replicas.replicas.taken.items (1 + c.args.cut.workers) c.new.ensures.items c.in_ok-replicas.ensures.new.taken refl,
+  view_new c.args.game c.in_ok-bounds.bounds c.args.cut c.new.result.items c.in_ok-taken.taken.items (c.workers.result + 1) c.new.ensures.items c.in_ok-taken.ensures.taken (omega (arith, c.workers.ensures)),
 )
