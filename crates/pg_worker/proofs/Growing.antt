@@ -1,5 +1,5 @@
 -- Lines that are read from a frame and added to a part, and the turns that they make.
-use Rattle.std.proofs.Common.{◌≡◌, ◌∙◌, ℕ, zero, suc, ◌<◌, ◌++◌, List, [], ◌∷◌, Option, Some, None, length, set, refl, sym, ap, subst, append_assoc, inl, inr, arith}
+use Rattle.std.proofs.Common.{◌≡◌, ◌∙◌, ℕ, zero, suc, ◌<◌, ◌++◌, ◌⊎◌, List, [], ◌∷◌, Option, Some, None, length, set, refl, sym, ap, subst, append_assoc, inl, inr, arith}
 use Rattle.std.specs.Prelude.{All, AllPairs, IsSome}
 use Rattle.std.proofs.lemmas.Bool.{cases_eq}
 use Rattle.std.proofs.lemmas.List.{get_or-set_other}
@@ -157,11 +157,18 @@ refused_whole w front l rest BadUpdate rise above h =
 refused_whole w front l rest Order rise above h = λ all. h (above_one w.lines front l rest rise all)
 refused_whole w front l rest (Wire f) rise above h = h
 
-pub added_not : (w : WorkerValue) (ls : List VertexLine) (u : WorkerValue) (start r r' : VerticesReader) (row : List ℕ) (head : LineHead) (why : WorkerFault) → Reads r r' row (Some head) → RefusesLines u (line_with head row ∷ []) why
-    → AreLeft start ls → Added w ls u r → RefusesLines w ls why
+added_not : (w : WorkerValue) (ls : List VertexLine) (u : WorkerValue) (start r r' : VerticesReader) (row : List ℕ) (head : LineHead) (why : WorkerFault)
+    → Reads r r' row (Some head) → RefusesLines u (line_with head row ∷ []) why → AreLeft start ls → Added w ls u r → RefusesLines w ls why
 added_not w ls u start r r' row head why next refused h j =
     let f = first_line j.back r' row head (next j.back j.left) in
     let l : VertexLine = line_with head row in
     let parts : ls ≡ j.front ++ l ∷ f.rest = j.parts ∙ ap (λ (ks : List VertexLine). j.front ++ ks) f.parts in
     let one : RefusesLines (adding w j.front) (l ∷ []) why = subst (λ (x : WorkerValue). RefusesLines x (l ∷ []) why) j.added refused in
     subst (λ (ks : List VertexLine). RefusesLines w ks why) (sym parts) (refused_whole w j.front l f.rest why (subst Rise parts h.rising) j.above one)
+
+-- why the lines are refused, or want of memory
+pub not_added : (w : WorkerValue) (ls : List VertexLine) (u : WorkerValue) (start r r' : VerticesReader) (row : List ℕ) (head : LineHead) (why : WorkerFault)
+    → Reads r r' row (Some head) → (why ≡ OutOfMemory) ⊎ RefusesLines u (line_with head row ∷ []) why → AreLeft start ls → Added w ls u r
+    → (why ≡ OutOfMemory) ⊎ RefusesLines w ls why
+not_added w ls u start r r' row head why next (inl memory) h j = inl memory
+not_added w ls u start r r' row head why next (inr refused) h j = inr (added_not w ls u start r r' row head why next refused h j)

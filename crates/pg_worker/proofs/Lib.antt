@@ -12,3 +12,7 @@ pub mod Exchanging
 pub mod Ranges
 pub mod Under
 pub mod Bounded
+pub mod Lists
+pub mod Framing
+pub mod Replies
+pub mod Sessions

@@ -1,11 +1,17 @@
 -- What is proved of workers and sessions, over the definitions alone.
-use Rattle.std.specs.Prelude.{◌≡◌, ℕ, ◌<◌, List, [], ◌∷◌, length, Option}
+use Rattle.std.specs.Prelude.{◌≡◌, ◌≢◌, ℕ, ◌<◌, List, [], ◌∷◌, length, All, Option}
 use Rattle.pg_measure.specs.Measures.{BoundList, MeasureValue, AtMost}
 use Rattle.pg_map.specs.Lines.{Line}
-use Rattle.pg_map.specs.Maps.{measure_at, IsMap, zero_map, update_map, MapAtMost, IsClosed, IsJoin}
+use Rattle.pg_map.specs.Maps.{MapValue, measure_at, IsMap, zero_map, update_map, MapAtMost, IsClosed, IsJoin}
 use Rattle.pg_map.specs.declared.update.Update.{Update}
+use Rattle.pg_wire.specs.declared.frame.Setup.{Setup}
+use Rattle.pg_wire.specs.declared.frame.Frame.{Frame}
+use Rattle.pg_wire.specs.declared.frame.Frame.TheVariants as frames
+use Rattle.pg_wire.specs.Well.{IsSetup}
 use Rattle.pg_worker.specs.Workers.{part_line, AreLifts}
 use Rattle.pg_worker.specs.Turns.{HeldValue, IsAtLeast, lifted_measures, LiftsAndTells}
+use Rattle.pg_worker.specs.Serving.{Replies}
+use Rattle.pg_worker.specs.Above.{AreFrames, measures_in, IsAboveFrames}
 
 -- what changes a worker's map once its part is complete: a value is taken, or lifts make updates
 pub data Step : Type 0 where
@@ -39,3 +45,12 @@ ToldStayUnder =
     (h : HeldValue) (budget : ℕ) (after : Option HeldValue) (reply : List ℕ) (k : List MeasureValue) (t : LiftsAndTells h budget after reply)
     → IsMap h.worker.bounds (length h.worker.map) k → IsClosed h.worker.bounds (part_line h.worker.lines) k → MapAtMost h.worker.map k
     → IsAtLeast k (lifted_measures t.worker)
+
+-- What a session replies to a set-up and to the frames after it, none of which is another set-up, is frames. Each measure in
+-- them is at most every map over the set-up's bounds and vertices that is closed at each vertex told and at least each value
+-- sent.
+abbrev pub RepliesStayUnder : Type 0
+RepliesStayUnder =
+    (s : Setup) (fs : List Frame) (before after : Option HeldValue) (replies : List ℕ) (h : MapValue)
+    → IsSetup s → All (λ f. (t : Setup) → f ≢ frames.Setup t) fs → Replies before (frames.Setup s ∷ fs) after replies
+    → IsAboveFrames s fs h → AreFrames (λ f. IsAtLeast h.measures (measures_in f)) replies

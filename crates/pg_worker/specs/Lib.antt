@@ -4,5 +4,6 @@ pub mod Workers
 pub mod VertexSets
 pub mod Turns
 pub mod Serving
+pub mod Above
 pub mod Laws
 pub mod Mirrors

@@ -6,3 +6,4 @@ pub mod Replies
 pub mod Joins
 pub mod Steps
 pub mod Faults
+pub mod Sessions

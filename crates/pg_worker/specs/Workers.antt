@@ -10,7 +10,7 @@ use Rattle.pg_map.specs.Maps.{measure_at, IsMap, zero_map, update_map, IsClosed,
 use Rattle.pg_map.specs.declared.update.Update.{Update}
 use Rattle.pg_wire.specs.declared.frame.VertexLine.{VertexLine}
 use Rattle.pg_worker.specs.declared.fault.WorkerFault.{WorkerFault}
-use Rattle.pg_worker.specs.declared.fault.WorkerFault.TheVariants.{OutOfMemory, NotMine, BadUpdate, Order, Wire}
+use Rattle.pg_worker.specs.declared.fault.WorkerFault.TheVariants.{BadUpdate, Order}
 
 -- A worker: the bounds of its measures, for each vertex its line if it is of the part, and the measure of each vertex.
 -- `kept` has the updates of a run of lifts that was broken off, `lifted` the vertices of the last turn.
@@ -63,13 +63,11 @@ pub record FitsGame (bounds : BoundList) (count : ℕ) (l : VertexLine) : Type 0
   pub successors : All (λ w. w < count) l.successors
   pub bound : HasBound bounds l.priority
 
--- why lines are refused: Order comes before BadUpdate
+-- why lines are refused, want of memory aside: Order comes before BadUpdate
 abbrev pub RefusesLines : WorkerValue → List VertexLine → WorkerFault → Type 0
-RefusesLines w ls OutOfMemory = Unit {0}
-RefusesLines w ls NotMine = ⊥
-RefusesLines w ls BadUpdate = AreAbove w.lines ls × ¬ (All (FitsGame w.bounds (length w.map)) ls)
 RefusesLines w ls Order = ¬ (AreAbove w.lines ls)
-RefusesLines w ls (Wire f) = ⊥
+RefusesLines w ls BadUpdate = AreAbove w.lines ls × ¬ (All (FitsGame w.bounds (length w.map)) ls)
+RefusesLines w ls why = ⊥
 
 -- the vertex is below the count, and the measure fits the bounds
 abbrev pub CanTake : WorkerValue → ℕ → MeasureValue → Type 0

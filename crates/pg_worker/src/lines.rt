@@ -25,7 +25,8 @@ fn add_read(
     ensures above { (ls : List VertexLine) → AreLeft lines.entry ls → OnOk result (AreAbove worker.old.lines ls) }
     ensures fit { (ls : List VertexLine) → AreLeft lines.entry ls
         → OnOk result (All (FitsGame worker.old.bounds (length worker.old.map)) ls) }
-    ensures refused { (ls : List VertexLine) → AreLeft lines.entry ls → IfErr result (RefusesLines worker.old ls) }
+    ensures refused { (ls : List VertexLine) → AreLeft lines.entry ls
+        → IfErr result (λ e. (e ≡ WorkerFault.OutOfMemory) ⊎ RefusesLines worker.old ls e) }
     ensures bounds { worker.new.bounds ≡ worker.old.bounds }
 {
     'each: while let Some(head) = lines.next(successors)? {

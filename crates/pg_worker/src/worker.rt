@@ -110,7 +110,7 @@ impl Worker {
         ensures added { OnOk result (self.new ≡ record self.old { lines = with_lines self.old.lines lines.now }) }
         ensures above { OnOk result (AreAbove self.old.lines lines.now) }
         ensures fit { OnOk result (All (FitsGame self.old.bounds (length self.old.map)) lines.now) }
-        ensures refused { IfErr result (RefusesLines self.old lines.now) }
+        ensures refused { IfErr result (λ e. (e ≡ WorkerFault.OutOfMemory) ⊎ RefusesLines self.old lines.now e) }
         ensures same { OnErr result (self.new ≡ self.old) }
     {
         if !are_from(self.next, lines) {
@@ -154,7 +154,8 @@ impl Worker {
         ensures above { OnOk result (AreAbove self.old.lines (line_with head successors.now ∷ [])) }
         ensures fit { OnOk result (All (FitsGame self.old.bounds (length self.old.map))
             (line_with head successors.now ∷ [])) }
-        ensures refused { IfErr result (RefusesLines self.old (line_with head successors.now ∷ [])) }
+        ensures refused { IfErr result (λ e. (e ≡ WorkerFault.OutOfMemory)
+            ⊎ RefusesLines self.old (line_with head successors.now ∷ []) e) }
         ensures same { OnErr result (self.new ≡ self.old) }
     {
         let vertex = head.vertex;

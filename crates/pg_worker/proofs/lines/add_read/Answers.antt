@@ -1,7 +1,7 @@
 use Rattle.std.proofs.Common.{◌∙◌, ap, arith, length, Some}
 use Rattle.std.proofs.lemmas.Result.{err_from_is_err_and}
 use Rattle.pg_worker.specs.Workers.{WorkerValue}
-use Rattle.pg_worker.proofs.Growing.{Reads, is_line, added_more, added_not}
+use Rattle.pg_worker.proofs.Growing.{Reads, is_line, added_more, not_added}
 use Rattle.pg_worker.proofs.lines.add_read.Goals as goal
 
 pub add_vertex-requires : goal.add_vertex-requires
@@ -29,7 +29,9 @@ returns-in_err-add_vertex-clause-refused c = λ ls h.
     let p = err_from_is_err_and c.from_residual-in_err-add_vertex.result c.from_residual-in_err-add_vertex.ensures.1 in
     let next : Reads c.each.lines c.next.new.self c.next.new.successors.items (Some c.in-Some.head) = λ back left. rw c.in-Some.is at (c.in_ok-head.ensures.next back left) in
     let refused = rw c.deref.ensures.value at c.in_err-add_vertex.ensures.refused in
-    rw (p.1, p.2) (added_not c.args.worker.now ls c.each.worker c.args.lines c.each.lines c.next.new.self c.next.new.successors.items c.in-Some.head _ next refused h (c.each.invariant.added ls h))
+    rw (p.1, p.2)
+    (not_added c.args.worker.now ls c.each.worker c.args.lines c.each.lines c.next.new.self c.next.new.successors.items c.in-Some.head _ next refused h
+    (c.each.invariant.added ls h))
 
 pub returns-in_err-add_vertex-clause-bounds : goal.returns-in_err-add_vertex-clause-bounds
 returns-in_err-add_vertex-clause-bounds c = rw c.in_err-add_vertex.ensures.same c.each.invariant.bounds

@@ -1,4 +1,4 @@
-use Rattle.std.proofs.Common.{rules, sym, ◌<◌, ◌≤◌, ◌+◌, ◌∷◌, [], ◌∙◌, length, ap, arith}
+use Rattle.std.proofs.Common.{rules, sym, ◌<◌, ◌≤◌, ◌+◌, ◌∷◌, [], ◌∙◌, length, ap, inr, arith}
 use Rattle.pg_wire.specs.declared.frame.VertexLine.{VertexLine}
 use Rattle.pg_wire.specs.Lines.{line_with}
 use Rattle.pg_worker.specs.Workers.{told_line, FitsGame}
@@ -24,27 +24,27 @@ pub add_line-requires-clause-note : goal.add_line-requires-clause-note
 add_line-requires-clause-note c = c.in_ok-make_room.ensures.room.labels c.args.head.vertex (omega arith) (omega arith)
 
 pub returns-then-from-self-clause-refused : goal.returns-then-from-self-clause-refused
-returns-then-from-self-clause-refused c = λ above.
+returns-then-from-self-clause-refused c = inr (λ above.
     let w = c.self.inside in
     let l = line_with c.args.head c.args.successors.now in
     let all = above_next w.part w.next (l ∷ []) c.self.invariant.above (rw (← c.self.view_is) at above) in
     let first = all 0 l (omega arith) in
     let less = c.if-from-self.true in
     let same = c.from.ensures in
-    absurd (omega arith)
+    absurd (omega arith))
 
 pub returns-then-not-fits_line-clause-refused : goal.returns-then-not-fits_line-clause-refused
 returns-then-not-fits_line-clause-refused c =
     let w = c.self.inside in
     let l = line_with c.args.head c.args.successors.now in
     let from : w.next ≤ c.args.head.vertex = let a = c.if-from-self.false in let b = c.from.ensures in omega arith in
-    rw (← c.self.view_is) (
+    rw (← c.self.view_is) (inr (
       next_above w.part w.next (l ∷ []) c.self.invariant.above (only (λ (k : VertexLine). w.next ≤ k.vertex) l from),
       λ all.
           let fit : FitsGame w.map.bounds (length w.map.measures) l = all 0 l (omega arith) in
           let told : FitsGame c.bounds.result.now c.len-count.result l = rw (c.bounds.ensures, c.len-count.ensures.value) fit in
           absurd (cc (c.if-not-fits_line.true, c.fits_line.ensures.1 told)),
-    )
+    ))
 
 pub invariant_of-self-2 : goal.invariant_of-self-2
 invariant_of-self-2 c =

@@ -7,10 +7,10 @@ use Rattle.pg_worker.proofs.Working.{above_next, whole_same, inside_same, next_s
 use Rattle.pg_worker.proofs.worker.Worker.add_vertices.Goals as goal
 
 pub returns-then-not-are_from-clause-refused : goal.returns-then-not-are_from-clause-refused
-returns-then-not-are_from-clause-refused c = λ above.
+returns-then-not-are_from-clause-refused c = inr (λ above.
     let w = c.self.inside in
     let all = above_next w.part w.next c.args.lines.now c.self.invariant.above (rw (← c.self.view_is) at above) in
-    absurd (cc (c.if-not-are_from.true, c.are_from.ensures.1 all))
+    absurd (cc (c.if-not-are_from.true, c.are_from.ensures.1 all)))
 
 pub invariant_of-self : goal.invariant_of-self
 invariant_of-self c =
