@@ -21,8 +21,9 @@ use Rattle.pg_wire.specs.Lines.{frame_with}
 use Rattle.pg_wire.specs.LinesWritten.{AreWriting, IsLineAdded}
 use Rattle.pg_wire.proofs.Nonzero.{words_size}
 use Rattle.pg_worker.specs.Workers.{told_line}
+use Rattle.pg_worker.specs.Above.{IsClosedAt}
 use Rattle.pg_coord.specs.declared.link.LinkFault.{LinkFault}
-use Rattle.pg_coord.specs.Links.{IsClosedAt, SendsTold}
+use Rattle.pg_coord.specs.Links.{SendsTold}
 use Rattle.pg_coord.specs.Mirrors.Tasks.{TaskValue, IsTask, IsClosedMap}
 use Rattle.pg_coord.specs.Mirrors.Telling.{TellsAfter}
 use Rattle.pg_coord.specs.Mirrors.Lines.{IsLineOf, AreLines, AreWritten, SpellsLines}

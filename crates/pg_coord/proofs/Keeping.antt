@@ -12,11 +12,13 @@ use Rattle.pg_worker.specs.declared.fault.WorkerFault.{WorkerFault}
 use Rattle.pg_worker.specs.declared.fault.WorkerFault.TheVariants.{OutOfMemory}
 use Rattle.pg_worker.specs.Turns.{HeldValue, Turn, IsUpTo, Refuses, DoesTurn, HasRows, SpellsRows, RefusesBytes}
 use Rattle.pg_worker.specs.Serving.{report_bytes}
-use Rattle.pg_coord.specs.Memory.{MemoryValue, still_waiting, Sends, Reports, AreFrames}
+use Rattle.pg_worker.specs.Above.{AreFrames}
+use Rattle.pg_worker.proofs.Framing.{frames_then, frames_less}
+use Rattle.pg_worker.proofs.Replies.{Tells}
+use Rattle.pg_worker.proofs.Sessions.{turn_small, turn_tells, fault_frames}
+use Rattle.pg_coord.specs.Memory.{MemoryValue, still_waiting, Sends, Reports}
 use Rattle.pg_coord.specs.Mirrors.Sessions.{IsKept}
-use Rattle.pg_coord.proofs.Queues.{frames_then, frames_less, first_frame, IsParted, parted}
-use Rattle.pg_coord.proofs.Replies.{Tells}
-use Rattle.pg_coord.proofs.Sessions.{turn_small, turn_tells, fault_frames}
+use Rattle.pg_coord.proofs.Queues.{first_frame, IsParted, parted}
 
 abbrev pub Any : Frame → Type 0
 Any f = Unit {0}
@@ -32,7 +34,7 @@ pub kept_turn : (highest s s' next : ℕ) (held held' : Option HeldValue) (has_r
     → IsWell f → Turn held f held' reply → bytes' ≡ bytes ++ reply → has_refused ≡ false → IsKept highest s' held' has_refused next bytes'
 kept_turn highest s s' next held held' has_refused bytes bytes' reply f k same well turn e hears = record {
   highest_is = same ∙ k.highest_is;
-  small = turn_small held f held' reply turn well k.small;
+  small = turn_small held f held' reply turn (λ s is. subst IsWell is well) k.small;
   empty = λ r. let no : true ≡ false = sym r ∙ hears in absurd cc;
   within = omega (arith, k.within, ap length e, length-append bytes reply);
   frames = more_frames next bytes reply bytes' k.within e k.frames

@@ -1,7 +1,4 @@
 mod Queues
-mod Telling
-mod Replies
-mod Sessions
 mod Keeping
 mod Under
 mod Moving

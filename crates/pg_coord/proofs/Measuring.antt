@@ -19,10 +19,10 @@ use Rattle.pg_wire.specs.Written.{IsAdded}
 use Rattle.pg_wire.specs.Measured.{Measured, IsMeasured, frame_of}
 use Rattle.pg_wire.proofs.Tells.{well_of}
 use Rattle.pg_worker.specs.Turns.{IsAtLeast}
-use Rattle.pg_coord.specs.Links.{measures_in, IsUnderAfter}
+use Rattle.pg_worker.specs.Above.{measures_in}
+use Rattle.pg_worker.proofs.Replies.{components_fit, frame_tells}
+use Rattle.pg_coord.specs.Links.{IsUnderAfter}
 use Rattle.pg_coord.specs.Mirrors.Sent.{AreSent, IsWritten, SpellsMeasures}
-use Rattle.pg_coord.proofs.Replies.{components_fit}
-use Rattle.pg_coord.proofs.Telling.{frame_tells}
 
 -- a link stays under a map that is at least what it was sent
 pub under_values : (kind : ValueKind) (width : ℕ) (ms : List Measured) (h : MapValue) (before : Type 0) → IsAtLeast h.measures (measures_in (frame_of kind width ms)) → before → IsUnderAfter (frame_of kind width ms) h before

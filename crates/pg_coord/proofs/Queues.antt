@@ -1,36 +1,15 @@
--- Bytes that are frames, one after the other.
+-- The first of the frames that wait.
 use Rattle.std.proofs.Common.{◌≡◌, ℕ, ◌≤◌, List, [], ◌∷◌, ◌++◌, length, take, drop, refl, sym, ap, ◌∙◌, arith}
 use Rattle.std.specs.Prelude.{All}
 use Rattle.std.specs.List.{flat_map}
-use Rattle.std.proofs.lemmas.List.{append-nil, take_at, drop_at}
+use Rattle.std.proofs.lemmas.List.{take_at, drop_at}
 use Rattle.std.proofs.lemmas.List.Concat.{flat_map-cons}
-use Rattle.std.proofs.lemmas.List.Elements.{All-append, All-cons, All-head, All-tail}
-use Rattle.std.proofs.lemmas.Grind.{flat_map-append}
+use Rattle.std.proofs.lemmas.List.Elements.{All-head, All-tail}
 use Rattle.pg_wire.specs.declared.frame.Frame.{Frame}
 use Rattle.pg_wire.specs.Spelling.{spelling}
 use Rattle.pg_wire.specs.Bytes.{Spells}
-use Rattle.pg_coord.specs.Memory.{AreFrames}
-
-abbrev Whole : (Frame → Type 0) → Frame → Type 0
-Whole P f = Spells f (spelling f) × P f
-
-pub no_frames : (P : Frame → Type 0) → AreFrames P []
-no_frames P = record { fs = []; spelled = refl; each = λ i d lt. absurd (omega arith) }
-
-pub one_frame : (P : Frame → Type 0) (f : Frame) → Spells f (spelling f) → P f → AreFrames P (spelling f)
-one_frame P f s p = record {
-  fs = f ∷ [];
-  spelled = sym (flat_map-cons spelling f [] ∙ append-nil (spelling f));
-  each = All-cons (Whole P) f [] (s, p) (λ i d lt. absurd (omega arith));
-}
-
--- frames behind frames
-pub frames_then : (P : Frame → Type 0) (xs ys : List ℕ) → AreFrames P xs → AreFrames P ys → AreFrames P (xs ++ ys)
-frames_then P xs ys a b = record {
-  fs = a.fs ++ b.fs;
-  spelled = ap (λ (zs : List ℕ). zs ++ ys) a.spelled ∙ ap (λ (zs : List ℕ). flat_map spelling a.fs ++ zs) b.spelled ∙ sym (flat_map-append spelling a.fs b.fs);
-  each = All-append (Whole P) a.fs b.fs a.each b.each;
-}
+use Rattle.pg_worker.specs.Above.{AreFrames}
+use Rattle.pg_worker.proofs.Framing.{Whole}
 
 -- the first of the frames
 pub record HasFirst (P : Frame → Type 0) (bytes : List ℕ) : Type 0 where
@@ -80,10 +59,3 @@ parted P bytes first rest some a parts size =
       is = h.is;
       others = rw left h.others;
     }
-
-pub frames_less : (P Q : Frame → Type 0) (bytes : List ℕ) → ((f : Frame) → P f → Q f) → AreFrames P bytes → AreFrames Q bytes
-frames_less P Q bytes less a = record {
-  fs = a.fs;
-  spelled = a.spelled;
-  each = λ i d lt. let e = a.each i d lt in (e.0, less _ e.1);
-}

@@ -1,5 +1,6 @@
 -- What is taken of links that tell their replies, round by round.
-use Rattle.std.proofs.Common.{◌≡◌, ℕ, ◌+◌, ◌<◌, ◌≤◌, List, [], ◌∷◌, ◌++◌, take, drop, length, get_or, slice_index_or, Option, sym, ◌∙◌, ap, subst, arith, inl, inr}
+use Rattle.std.proofs.Common.{◌≡◌, ℕ, ◌+◌, ◌-◌, ◌^◌, min, ◌<◌, List, [], ◌∷◌, ◌++◌}
+use Rattle.std.proofs.Common.{take, drop, length, get_or, slice_index_or, Option, refl, sym, ◌∙◌, ap, subst, arith, inl, inr}
 use Rattle.std.proofs.lemmas.Bool.{cases_lt}
 use Rattle.std.proofs.lemmas.List.{append-nil, take_all, drop_all, take_more, drop_more, drop-drop}
 use Rattle.std.proofs.lemmas.List.Concat.{flat_map-append}
@@ -10,15 +11,15 @@ use Rattle.pg_map.specs.Maps.{MapValue, MapAtMost, IsClosed, IsNeverAbove, measu
 use Rattle.pg_wire.specs.Measured.{Measured}
 use Rattle.pg_worker.specs.Turns.{IsAtLeast}
 use Rattle.pg_coord.specs.declared.rounds.link_state.LinkState.{LinkState}
-use Rattle.pg_coord.specs.Told.{Reply, measures_of, IsLeastOverReplies}
+use Rattle.pg_coord.specs.Told.{Reply, missing, measures_of, heard, IsLeastOverReplies}
 use Rattle.pg_coord.specs.Mirrors.Tasks.{TaskValue, IsClosedMap}
 use Rattle.pg_coord.specs.Mirrors.Telling.{reply_measures, Tells, AllTell, IsRoundOver}
 use Rattle.pg_coord.proofs.Joins.{at_least_after}
 use Rattle.pg_coord.proofs.Ends.{closed_map}
-use Rattle.pg_coord.proofs.Telling.{all_left, all_right}
+use Rattle.pg_worker.proofs.Lists.{all_left, all_right}
 
 no_reply : Reply
-no_reply = record { values = []; report = record { status = 0; code = 0 } }
+no_reply = record { values = []; ending = missing }
 
 -- one reply more, or none
 pub taken_more : (n : ℕ) (rs : List Reply) → measures_of (take (n + 1) rs) ≡ measures_of (take n rs) ++ measures_of (take 1 (drop n rs))
@@ -35,13 +36,13 @@ taken_more n rs =
           ∙ ap (λ (qs : List Reply). measures_of (take n rs) ++ measures_of qs) (sym none)
     ]
 
--- After so many rounds at least so many replies were taken of each link, or all. The map is at least the measures in these, and
+-- Of the replies of each link that are heard one was taken in each round, while there was one left. The map is at least the measures in these, and
 -- at most every closed map that is at least the first map and these.
 pub record HasTaken {L : Type 0} (told : L → Option (List (List ℕ))) (t : TaskValue) (replies : ℕ → List Reply) (rounds : ℕ) (states : List LinkState)
     (links : List L)
     (f g : List MeasureValue) : Type 0 where
   pub taken : ℕ
-  pub enough : rounds ≤ taken
+  pub counted : rounds ≡ min taken (2 ^ 64 - 1)
   pub tell : AllTell told t states links (λ k. drop taken (replies k))
   pub above : (k : ℕ) → k < length links → IsAtLeast g (measures_of (take taken (replies k)))
   pub least : (h : MapValue) → IsClosedMap t h → MapAtMost f h.measures
@@ -53,7 +54,7 @@ pub none_taken : {L : Type 0} (told : L → Option (List (List ℕ))) (t : TaskV
     → AllTell told t states links replies → HasTaken told t replies 0 states links f f
 none_taken told t replies states links f tell = record {
   taken = 0;
-  enough = omega arith;
+  counted = refl;
   tell = tell;
   above = λ k lt i d l. absurd (omega arith);
   least = λ h closed le each. le;
@@ -77,15 +78,15 @@ under_less h n rs a =
 -- a round takes one reply more of each link, or none
 pub round_taken : {L : Type 0} (told : L → Option (List (List ℕ))) (t : TaskValue) (replies : ℕ → List Reply) (rounds rounds' : ℕ) (states states' : List LinkState)
     (links links' : List L) (f g g' : List MeasureValue) (taken : HasTaken told t replies rounds states links f g)
-    → rounds' ≤ rounds + 1 → length links' ≡ length links → MapAtMost g g'
+    → rounds' ≡ min (rounds + 1) (2 ^ 64 - 1) → length links' ≡ length links → MapAtMost g g'
     → AllTell told t states' links' (λ k. drop 1 (drop taken.taken (replies k)))
     → IsRoundOver t g (length links) (λ k. measures_of (take 1 (drop taken.taken (replies k)))) g'
     → HasTaken told t replies rounds' states' links' f g'
-round_taken told t replies rounds rounds' states states' links links' f g g' h few same risen tell over =
+round_taken told t replies rounds rounds' states states' links links' f g g' h count same risen tell over =
     let n = h.taken in
     record {
       taken = n + 1;
-      enough = (let e = h.enough in omega arith);
+      counted = (let before = h.counted in omega arith);
       tell = λ k d e lt.
           subst (λ (rs : List Reply). Tells t (k + 1) rs (slice_index_or states' k e) (told (slice_index_or links' k d))) (drop-drop 1 n (replies k))
           (tell k d e lt);
@@ -100,12 +101,12 @@ round_taken told t replies rounds rounds' states states' links links' f g g' h f
 
 -- the least closed map that is at least what was taken
 pub least_over : {L : Type 0} (told : L → Option (List (List ℕ))) (t : TaskValue) (replies : ℕ → List Reply) (rounds : ℕ) (states : List LinkState) (links : List L)
-    (count : ℕ) (f g : MapValue) → HasTaken told t replies rounds states links f.measures g.measures → length links ≡ count → f.bounds ≡ t.bounds
+    (count : ℕ) (f g : MapValue) → HasTaken told t (λ k. heard 3 (replies k)) rounds states links f.measures g.measures → length links ≡ count → f.bounds ≡ t.bounds
     → length f.measures ≡ length t.game → g.bounds ≡ f.bounds → length g.measures ≡ length t.game → IsClosed g.bounds (game_line t.game) g.measures
     → IsNeverAbove f.bounds (game_line t.game) f.measures → IsLeastOverReplies (game_line t.game) rounds count replies g
 least_over told t replies rounds states links count f g h same bounds size stay width closed first = record {
-  taken = λ k. h.taken;
-  enough = λ k lt. inl h.enough;
+  made = h.taken;
+  counted = h.counted;
   closed = closed;
   above = λ k lt. h.above k (omega arith);
   least = λ m is at each.

@@ -1,9 +1,9 @@
 -- What is taken of links that tell their replies.
-use Rattle.std.proofs.Common.{◌≡◌, ◌≢◌, ℕ, true, map, drop, Result, Ok, Err, List, [], ◌∷◌}
+use Rattle.std.proofs.Common.{◌≡◌, ◌≢◌, ℕ, map, Result, Ok, Err, List, [], ◌∷◌}
 use Rattle.std.proofs.Common.{Option, Some, None, refl, sym, ◌∙◌, ap, subst, arith, rules, inl, inr}
-use Rattle.std.specs.Prelude.{OnOk, IsErr, ◌==◌, if◌then◌else◌}
+use Rattle.std.specs.Prelude.{All, OnOk, ◌==◌, if◌then◌else◌}
 use Rattle.std.proofs.lemmas.Bool.{cases_Bool}
-use Rattle.pg_measure.specs.Measures.{BoundList}
+use Rattle.pg_measure.specs.Measures.{BoundList, MeasureValue}
 use Rattle.pg_wire.specs.declared.frame.Values.{Values}
 use Rattle.pg_wire.specs.declared.frame.Frame.{Frame}
 use Rattle.pg_wire.specs.declared.frame.Frame.TheVariants as frames
@@ -16,13 +16,11 @@ use Rattle.pg_wire.proofs.Bodies.{one_frame}
 use Rattle.pg_wire.proofs.Tells.{dense_told}
 use Rattle.pg_worker.specs.Cuts.{CutValue}
 use Rattle.pg_worker.specs.Turns.{kind_of, Joins}
-use Rattle.pg_coord.specs.declared.rounds.coordinator_map.CoordinatorMap.{CoordinatorMap}
 use Rattle.pg_coord.specs.declared.link.LinkFault.{LinkFault}
 use Rattle.pg_coord.specs.declared.link.LinkFault.TheVariants.{Failed}
 use Rattle.pg_coord.specs.Links.{refusal, SendsTold, RestartsTold, HandsOver}
-use Rattle.pg_coord.specs.Replies.{AreOfPart}
-use Rattle.pg_coord.specs.Mirrors.CoordinatorMaps.{Moves}
-use Rattle.pg_coord.specs.Mirrors.Joined.{JoinsFrame}
+use Rattle.pg_coord.specs.Replies.{IsOfPart, AreOfPart}
+use Rattle.pg_coord.specs.Told.{FailsLink}
 use Rattle.pg_coord.specs.Mirrors.Takes.{TakesFrame}
 use Rattle.pg_coord.specs.Mirrors.Telling.{TellsAfter, AnswersAfter, told_with}
 
@@ -45,23 +43,6 @@ taken_frame old new r next left f h is s =
 pub handed_over : (old new : Option (List (List ℕ))) (r : Result (Unit {0}) LinkFault) (bytes next : List ℕ) (left : List (List ℕ))
     → HandsOver old new r bytes → old ≡ Some (next ∷ left) → (r ≢ Err Failed) × OnOk r ((bytes ≡ next) × (new ≡ Some left))
 handed_over old new r bytes next left h is = subst (λ (o : Option (List (List ℕ))). HandsOver o new r bytes) is h
-
--- a receive takes one frame away
-pub one_taken : (old new : Option (List (List ℕ))) (u : Unit {0}) (bytes : List ℕ) (left : List (List ℕ))
-    → HandsOver old new (Ok u) bytes → old ≡ Some left → new ≡ Some (drop 1 left)
-one_taken None new u bytes left h is = absurd (cc)
-one_taken (Some []) new u bytes left h is = absurd (let no = h.0 in cc)
-one_taken (Some (next ∷ rest)) new u bytes left h is =
-    let same : next ∷ rest ≡ left = (let e = is in cc) in
-    h.1.1 ∙ ap (λ (l : List (List ℕ)). Some (drop 1 l)) same
-
-pub ok_if_so : {T : Type 0} (r : Result T LinkFault) (P : Type 0) → P → OnOk r P
-ok_if_so (Ok x) P p = p
-ok_if_so (Err x) P p = tt
-
-pub judged_well : {T : Type 0} (r : Result T LinkFault) (P Q : Type 0) → (IsErr r → ⊥) → P → Q → ((r ≢ Err Failed) × OnOk r P) × OnOk r Q
-judged_well (Ok x) P Q fails p q = (((λ e. cc), p), q)
-judged_well (Err x) P Q fails p q = absurd (fails refl)
 
 -- ---- values
 
@@ -92,11 +73,22 @@ pub part_again : (agreed kind : ValueKind) (bounds : BoundList) (cut cut' : CutV
     → agreed ≡ Dense → cut' ≡ cut → AreOfPart Dense bounds cut worker Dense v.width (told_values v.values) → AreOfPart agreed bounds cut' worker kind width ms
 part_again agreed kind bounds cut cut' worker width ms v d a c p = rw (a, c, d.kind_is, d.width_is, d.measures) p
 
-pub frame_joins : (agreed kind : ValueKind) (cut : CutValue) (worker width : ℕ) (old new : CoordinatorMap) (ms : List Measured) (v : Values) → IsDense kind width ms v
-    → Moves old new → JoinsFrame agreed cut worker old new kind width ms true → Joins old.map.measures (told_values v.values) new.map.measures
-frame_joins agreed kind cut worker width old new ms v d m j =
-    let all : Joins old.map.measures ms new.map.measures = record { size = m.size; above = m.above; each = j.above refl; least = j.least } in
-    subst (λ (ns : List Measured). Joins old.map.measures ns new.map.measures) d.measures all
+pub frame_joins : (kind : ValueKind) (width : ℕ) (ms : List Measured) (v : Values) (f g : List MeasureValue) → IsDense kind width ms v → Joins f ms g
+    → Joins f (told_values v.values) g
+frame_joins kind width ms v f g d j = subst (λ (ns : List Measured). Joins f ns g) d.measures j
+
+-- a frame of measures of the part doesn't fail its link
+pub part_well : (agreed kind : ValueKind) (bounds : BoundList) (cut cut' : CutValue) (worker width : ℕ) (ms : List Measured) (bytes next : List ℕ)
+    → Spells (frame_of kind width ms) bytes → bytes ≡ next → agreed ≡ Dense → cut' ≡ cut → AreOfPart agreed bounds cut' worker kind width ms
+    → FailsLink bounds cut worker next → ⊥
+part_well agreed Dense bounds cut cut' worker width ms bytes next s same dense cut_is part fails =
+    let told : told_values (map dense_value ms) ≡ ms = dense_told ms in
+    fails.values (record { width = width; values = map dense_value ms }) (subst (Spells (frame_of Dense width ms)) same s) (record {
+      kind_is = refl;
+      width_is = part.width_is;
+      measures = subst (All (IsOfPart bounds cut worker)) (sym told) (subst (λ (c : CutValue). All (IsOfPart bounds c worker) ms) cut_is part.measures);
+    })
+part_well agreed Sparse bounds cut cut' worker width ms bytes next s same dense cut_is part fails = absurd (let k = part.kind_is in cc)
 
 pub sent_values : (kind : ValueKind) (width : ℕ) (ms : List Measured) (old new : Option (List (List ℕ))) (r : Result (Unit {0}) LinkFault)
     (left : List (List ℕ))

@@ -1,32 +1,16 @@
 -- Links to workers: which maps a link is under, and the replies that it tells ahead.
 use Rattle.std.specs.Prelude.{◌≡◌, ◌≢◌, ℕ, ◌^◌, ◌-◌, ◌<◌, ◌⊎◌, ◌==◌, if◌then◌else◌, List, [], ◌∷◌, Option, Result, None, Some, Err, OnOk, All}
-use Rattle.pg_map.specs.Lines.{only}
-use Rattle.pg_map.specs.Maps.{MapValue, IsMap, IsServed}
-use Rattle.pg_wire.specs.declared.frame.VertexLine.{VertexLine}
+use Rattle.pg_map.specs.Maps.{MapValue, IsMap}
 use Rattle.pg_wire.specs.declared.frame.Frame.{Frame}
 use Rattle.pg_wire.specs.declared.frame.Frame.TheVariants as frames
 use Rattle.pg_wire.specs.Spelling.{spelling}
-use Rattle.pg_wire.specs.Measured.{Measured, told_values, told_sparse}
-use Rattle.pg_worker.specs.Workers.{told_line}
+use Rattle.pg_wire.specs.Measured.{told_values, told_sparse}
 use Rattle.pg_worker.specs.Turns.{IsAtLeast}
+use Rattle.pg_worker.specs.Above.{IsClosedAt}
 use Rattle.pg_coord.specs.declared.link.LinkFault.{LinkFault}
 use Rattle.pg_coord.specs.declared.link.LinkFault.TheVariants.{Failed}
 
 -- ---- what is sent, and the maps that a link is under
-
--- the measures in a frame
-abbrev pub measures_in : Frame → List Measured
-measures_in (frames.Values v) = told_values v.values
-measures_in (frames.Sparse s) = told_sparse s.width s.values
-measures_in (frames.Setup s) = []
-measures_in (frames.Vertices v) = []
-measures_in (frames.Go g) = []
-measures_in (frames.Report r) = []
-measures_in frames.Halt = []
-
--- the map is closed at the vertex of a line
-abbrev pub IsClosedAt : MapValue → VertexLine → Type 0
-IsClosedAt h l = IsServed h.bounds (only (told_line l)) h.measures l.vertex
 
 -- Whether a link is under a map once a frame was sent, from whether it was before. A set-up puts it under every map over
 -- those bounds and vertices; of the maps that it was under, vertices leave those that are closed at them, and values those

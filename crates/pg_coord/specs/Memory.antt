@@ -1,21 +1,18 @@
 -- Links to workers in the same process.
-use Rattle.std.specs.Prelude.{◌≡◌, ◌≢◌, ◌↔◌, ◌⊎◌, ℕ, ◌+◌, ◌-◌, ◌^◌, min, Bool, true, false, List, [], ◌++◌, length, All, Option, None, IfSome, Result, Ok, Err, MatchBool}
-use Rattle.std.specs.List.{flat_map}
-use Rattle.pg_map.specs.Maps.{MapValue, MapAtMost, IsMap, IsClosed}
+use Rattle.std.specs.Prelude.{◌≡◌, ◌≢◌, ◌↔◌, ◌⊎◌, ℕ, ◌+◌, ◌-◌, ◌^◌, min, Bool, true, false, List, [], ◌++◌, Option, None, IfSome, Result, Ok, Err, MatchBool}
+use Rattle.pg_map.specs.Maps.{MapValue}
 use Rattle.pg_wire.specs.declared.fault.WireFault.{WireFault}
 use Rattle.pg_wire.specs.declared.fault.WireFault.TheVariants as wire
 use Rattle.pg_wire.specs.declared.frame.Frame.{Frame}
 use Rattle.pg_wire.specs.declared.frame.Frame.TheVariants as frames
-use Rattle.pg_wire.specs.Spelling.{spelling}
 use Rattle.pg_wire.specs.Bytes.{Spells, IsTooLong, IsTruncated}
 use Rattle.pg_worker.specs.declared.fault.WorkerFault.{WorkerFault}
 use Rattle.pg_worker.specs.declared.fault.WorkerFault.TheVariants.{Wire}
-use Rattle.pg_worker.specs.Workers.{part_line}
 use Rattle.pg_worker.specs.Turns.{HeldValue, Turn, IsUpTo, Refuses, IsAtLeast}
 use Rattle.pg_worker.specs.Serving.{report_bytes}
+use Rattle.pg_worker.specs.Above.{AreFrames, measures_in, IsAboveSession}
 use Rattle.pg_coord.specs.declared.link.LinkFault.{LinkFault}
 use Rattle.pg_coord.specs.declared.link.LinkFault.TheVariants.{OutOfMemory, Failed}
-use Rattle.pg_coord.specs.Links.{measures_in}
 
 -- A link: the highest version that its session takes, what the session holds, whether it refused a frame since it was started
 -- and so drops what is sent, the bytes of the frames that wait, and how many calls were Failed.
@@ -104,19 +101,6 @@ count_after (Err OutOfMemory) failures = failures
 count_after (Err Failed) failures = min (failures + 1) (2 ^ 64 - 1)
 
 -- ---- the maps that a link is under
-
--- the map is over the session's bounds and vertices, closed at its lines, and at least its map
-pub record IsAboveSession (h : MapValue) (held : HeldValue) : Type 0 where
-  pub bounds : h.bounds ≡ held.worker.bounds
-  pub map : IsMap held.worker.bounds (length held.worker.map) h.measures
-  pub closed : IsClosed held.worker.bounds (part_line held.worker.lines) h.measures
-  pub above : MapAtMost held.worker.map h.measures
-
--- the bytes are frames with this property, one after the other
-pub record AreFrames (P : Frame → Type 0) (bytes : List ℕ) : Type 0 where
-  pub fs : List Frame
-  pub spelled : bytes ≡ flat_map spelling fs
-  pub each : All (λ f. Spells f (spelling f) × P f) fs
 
 -- the map is at least what the session holds, and at least the values that wait
 pub record IsAboveLink (link : MemoryValue) (h : MapValue) : Type 0 where

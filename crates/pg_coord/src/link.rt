@@ -5,7 +5,8 @@ ghost use Rattle.pg_map.specs.Maps.{MapValue};
 ghost use Rattle.pg_wire.specs.Bytes.{Spells};
 ghost use Rattle.pg_wire.specs.declared.frame.Frame.{Frame};
 ghost use Rattle.pg_worker.specs.Turns.{IsAtLeast};
-ghost use Rattle.pg_coord.specs.Links.{measures_in, IsUnderAfter, CountsFailure, SendsTold, RestartsTold, HandsOver};
+ghost use Rattle.pg_worker.specs.Above.{measures_in};
+ghost use Rattle.pg_coord.specs.Links.{IsUnderAfter, CountsFailure, SendsTold, RestartsTold, HandsOver};
 
 use std::alloc::AllocError;
 

@@ -6,8 +6,9 @@ ghost use Rattle.pg_wire.specs.declared.frame.Frame.{Frame};
 ghost use Rattle.pg_wire.specs.Well.{IsWell};
 ghost use Rattle.pg_wire.specs.Bytes.{Spells};
 ghost use Rattle.pg_worker.specs.Turns.{IsAtLeast};
-ghost use Rattle.pg_coord.specs.Links.{measures_in, IsUnderAfter, CountsFailure};
-ghost use Rattle.pg_coord.specs.Memory.{started_link, still_waiting, Reports, Sends, SendsNoFrame, Empties, BreaksOff, count_after, AreFrames, IsAboveLink};
+ghost use Rattle.pg_worker.specs.Above.{AreFrames, measures_in};
+ghost use Rattle.pg_coord.specs.Links.{IsUnderAfter, CountsFailure};
+ghost use Rattle.pg_coord.specs.Memory.{started_link, still_waiting, Reports, Sends, SendsNoFrame, Empties, BreaksOff, count_after, IsAboveLink};
 
 use crate::link::{Link, LinkFault};
 use crate::waiting::{first_len, put_fault};
@@ -146,7 +147,7 @@ impl MemoryLink {
 
 impl MemoryLink {
     ghost use Rattle.std.specs.Prelude.{IfOk, IfSome, MatchBool};
-    ghost use Rattle.pg_coord.specs.Mirrors.Sessions.{IsSmall};
+    ghost use Rattle.pg_worker.specs.Mirrors.Sessions.{IsSmall};
 
     /// Lets the session do the turn of the frame of vertices or of values that the bytes spell, unless it has refused
     /// one. False where they spell no such frame, and then nothing has changed.

@@ -6,7 +6,7 @@ ghost use Rattle.pg_map.specs.Lines.{game_line};
 ghost use Rattle.pg_map.specs.Maps.{zero_map, IsMap, IsClosed, IsNeverAbove, IsLeastProgressMeasure};
 ghost use Rattle.pg_map.specs.Weights.{map_weight};
 ghost use Rattle.pg_coord.specs.Solving.{IsMismatch, most_rounds, AreRounds, IsFoundFrom, map_in, IfClosed, IfStopped};
-ghost use Rattle.pg_coord.specs.Told.{Reply, TellReplies, IsLeastOverReplies};
+ghost use Rattle.pg_coord.specs.Told.{Reply, TellReplies, IsLeastOverReplies, heard};
 ghost use Rattle.pg_coord.specs.Mirrors.LinkStates.{AllInStep};
 ghost use Rattle.pg_coord.specs.Mirrors.Telling.{AllTell};
 ghost use Rattle.pg_coord.specs.Mirrors.Rounds.{Ends, rounds_in};
@@ -90,7 +90,8 @@ fn make_rounds<L: Link>(
     ensures honest { All L.is_honest links.old → All L.is_honest links.new }
     ensures ends { IfOk result (Ends task.now.game
         (All L.is_honest links.old × AllInStep L.is_under task.now coordinator.old.map states.old links.old)
-        (AllTell L.told task.now states.old links.old) (length links.old) most_rounds coordinator.old.map coordinator.new.map) }
+        (λ replies. AllTell L.told task.now states.old links.old (λ k. heard 3 (replies k)))
+        (length links.old) most_rounds coordinator.old.map coordinator.new.map) }
 {
     let mut rounds = 0u64;
     'rounds: while coordinator.rose {
@@ -116,6 +117,7 @@ fn run<L: Link>(
     requires bounds { coordinator.old.map.bounds ≡ task.now.bounds }
     requires map { IsMap coordinator.old.map.bounds (length task.now.game) coordinator.old.map.measures }
     requires rose { coordinator.old.rose ≡ true }
+    requires unset { All (λ s. s.restarts ≡ 0) states.old }
     ensures honest { All L.is_honest links.old → All L.is_honest links.new }
     ensures ends { IfOk result (Ends task.now.game (All L.is_honest links.old)
         (TellReplies L.told task.now.bounds task.now.cut links.old) (length links.old) most_rounds coordinator.old.map coordinator.new.map) }
@@ -188,7 +190,8 @@ fn zero_of(alloc: Global, game: &Game, cut: &Cut, links: usize) -> Result<Measur
 /// In a round each link in use is sent values and a Go; then the replies are read, and their values joined. Only where no value
 /// rose, each vertex that can be lifted is lifted here, from 0 up, and where none can be, the map is the answer. It is closed
 /// whatever the links answer; over honest links it is the least progress measure; and over links that tell their replies it is
-/// the least closed map that is at least every value in the replies that were taken.
+/// the least closed map that is at least every value in the replies that were taken, one of each link in each round while it had
+/// one left and had failed three times at most.
 ///
 /// A link that fails is restarted and set up again, at most three times; then it is abandoned, and its part is lifted here.
 ///
@@ -207,7 +210,7 @@ pub fn solve<L: Link>(
     ensures rounds { IfOk result (λ s. (1 ≤ s.rounds)
         × (s.rounds + map_weight s.map.bounds s.map.measures ≤ most_rounds (length game.now) s.map.bounds)) }
     ensures least { IfOk result (λ s. All L.is_honest links.old
-        → IsLeastProgressMeasure s.map.bounds (game_line game.now) s.map.measures) }
+        → IsLeastProgressMeasure s.map.bounds (length game.now) (game_line game.now) s.map.measures) }
     ensures told { IfOk result (λ s. (replies : ℕ → List Reply) → TellReplies L.told s.map.bounds cut.now links.old replies
         → IsLeastOverReplies (game_line game.now) s.rounds (length links.old) replies s.map) }
     ensures honest { All L.is_honest links.old → All L.is_honest links.new }

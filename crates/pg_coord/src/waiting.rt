@@ -5,7 +5,7 @@ ghost use Rattle.pg_wire.specs.declared.frame.Frame.{Frame};
 ghost use Rattle.pg_wire.specs.Spelling.{spelling};
 ghost use Rattle.pg_wire.specs.Bytes.{Spells};
 ghost use Rattle.pg_worker.specs.Serving.{report_bytes};
-ghost use Rattle.pg_coord.specs.Memory.{AreFrames};
+ghost use Rattle.pg_worker.specs.Above.{AreFrames};
 
 use pg_wire::WireFault;
 use pg_worker::WorkerFault;

@@ -7,7 +7,7 @@ use Rattle.pg_wire.specs.declared.writer.ValuesWriter.{ValuesWriter}
 use Rattle.pg_wire.specs.Bytes.{Spells}
 use Rattle.pg_wire.specs.Written.{IsWriting}
 use Rattle.pg_wire.specs.Measured.{Measured, frame_of}
-use Rattle.pg_coord.specs.Links.{measures_in}
+use Rattle.pg_worker.specs.Above.{measures_in}
 
 -- the bytes spell a frame of measures that vertices have in the map
 pub record SpellsMeasures (kind : ValueKind) (map : MapValue) (bytes : List ℕ) : Type 0 where

@@ -1,13 +1,8 @@
 -- What holds of the session and of the bytes that a link keeps.
-use Rattle.std.specs.Prelude.{◌≡◌, ◌<◌, ◌≤◌, ◌^◌, ℕ, Bool, true, List, length, drop, All, Option, None, IfSome}
+use Rattle.std.specs.Prelude.{◌≡◌, ◌≤◌, ℕ, Bool, true, List, length, drop, Option, None, IfSome}
 use Rattle.pg_worker.specs.Turns.{HeldValue}
-use Rattle.pg_coord.specs.Memory.{AreFrames}
-
--- vertices and bounds are few, and four bytes hold each bound
-pub record IsSmall (h : HeldValue) : Type 0 where
-  pub vertices : length h.worker.lines ≤ 1048576
-  pub bounds : length h.worker.bounds ≤ 32768
-  pub words : All (λ (b : ℕ × ℕ). b.1 < 2 ^ 32) h.worker.bounds
+use Rattle.pg_worker.specs.Above.{AreFrames}
+use Rattle.pg_worker.specs.Mirrors.Sessions.{IsSmall}
 
 -- what a link knows of its session, and of the bytes that wait behind those that were handed over
 pub record IsKept (highest session_highest : ℕ) (held : Option HeldValue) (has_refused : Bool) (next : ℕ)

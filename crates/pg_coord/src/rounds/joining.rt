@@ -1,12 +1,14 @@
 //! Joins the measures of frames into the coordinator's map.
 
-ghost use Rattle.std.specs.Prelude.{◌≡◌, ◌↔◌, ◌∷◌, [], IsTrue, length, List};
+ghost use Rattle.std.specs.Prelude.{◌≡◌, ◌↔◌, ◌<◌, IsTrue, length, List, All};
+ghost use Rattle.pg_measure.specs.Measures.{Fits};
 ghost use Rattle.pg_measure.specs.Views.{measure_in};
 ghost use Rattle.pg_wire.specs.Measured.{Measured};
 ghost use Rattle.pg_wire.specs.Left.{IsLeft};
+ghost use Rattle.pg_worker.specs.Turns.{Joins};
 ghost use Rattle.pg_coord.specs.Replies.{IsOfPart};
 ghost use Rattle.pg_coord.specs.Mirrors.CoordinatorMaps.{Moves};
-ghost use Rattle.pg_coord.specs.Mirrors.Joined.{JoinsPart, JoinsFrame};
+ghost use Rattle.pg_coord.specs.Mirrors.Joined.{JoinsFrame};
 
 use crate::rounds::coordinator_map::CoordinatorMap;
 use pg_arena::Vertex;
@@ -22,39 +24,36 @@ fn is_of_part(bounds: &Bounds, cut: &Cut, worker: u32, vertex: u32, m: View) -> 
     (vertex as usize) < cut.vertices() && cut.worker_of(Vertex(vertex)) == worker && fits(m, bounds)
 }
 
-/// Joins a measure. False where the vertex isn't of the worker's part or the measure doesn't fit.
-fn join_one(coordinator: &mut CoordinatorMap, cut: &Cut, worker: u32, vertex: u32, m: View) -> bool
-    requires { length cut.now.numbers ≡ length coordinator.old.map.measures }
-    ensures { JoinsPart cut.now worker coordinator.old coordinator.new ((vertex, measure_in m.entry) ∷ []) result }
-{
-    if !is_of_part(coordinator.map.bounds(), cut, worker, vertex, m) {
-        return false;
-    }
-    coordinator.raise(Vertex(vertex), m);
-    true
-}
-
-/// Joins the measures that are left of a frame, by a row of as many places as it is wide, up to the first that isn't of the
-/// worker's part.
-fn join_read(
-    coordinator: &mut CoordinatorMap,
+/// Whether the measures that are left of a frame are of the worker's part, by a row of as many places as it is wide.
+fn are_of_part(
+    bounds: &Bounds,
     cut: &Cut,
     worker: u32,
     mut values: ValuesReader,
     row: &mut [u32],
 ) -> bool
-    requires cut { length cut.now.numbers ≡ length coordinator.old.map.measures }
-    requires row { length row.old ≡ values.width }
-    ensures moves { Moves coordinator.old coordinator.new }
-    ensures joins { (ms : List Measured) → IsLeft values.entry ms
-        → JoinsPart cut.now worker coordinator.old coordinator.new ms result }
+    requires { length row.old ≡ values.width }
+    ensures { (ms : List Measured) → IsLeft values.entry ms → IsTrue result ↔ All (IsOfPart bounds.now cut.now worker) ms }
 {
     'each: while let Some((vertex, is_top)) = values.next(row) {
-        if !join_one(coordinator, cut, worker, vertex, lent_row(is_top, row)) {
+        if !is_of_part(bounds, cut, worker, vertex, lent_row(is_top, row)) {
             return false;
         }
     }
     true
+}
+
+/// Joins the measures that are left of a frame, by a row of as many places as it is wide.
+fn join_read(coordinator: &mut CoordinatorMap, mut values: ValuesReader, row: &mut [u32])
+    requires row { length row.old ≡ values.width }
+    requires fit { (ms : List Measured) × IsLeft values ms
+        × All (λ m. (m.0 < length coordinator.old.map.measures) × Fits coordinator.old.map.bounds m.1) ms }
+    ensures moves { Moves coordinator.old coordinator.new }
+    ensures joins { (ms : List Measured) → IsLeft values.entry ms → Joins coordinator.old.map.measures ms coordinator.new.map.measures }
+{
+    'each: while let Some((vertex, is_top)) = values.next(row) {
+        coordinator.raise(Vertex(vertex), lent_row(is_top, row));
+    }
 }
 
 /// Whether a frame is as wide as the bounds.
@@ -65,7 +64,7 @@ fn is_as_wide(width: u32, bounds: &Bounds) -> bool
 }
 
 /// Joins the measures of a frame, by a row of as many places as there are bounds. False exactly where the frame isn't of the
-/// kind that was agreed on, or a measure isn't of the worker's part; what came before the first such measure is joined.
+/// kind that was agreed on, or a measure isn't of the worker's part; then none is joined.
 pub fn join_frame(
     coordinator: &mut CoordinatorMap,
     cut: &Cut,
@@ -76,6 +75,7 @@ pub fn join_frame(
 ) -> bool
     requires cut { length cut.now.numbers ≡ length coordinator.old.map.measures }
     requires row { length row.old ≡ length coordinator.old.map.bounds }
+    requires left { (ms : List Measured) × IsLeft values ms }
     ensures moves { Moves coordinator.old coordinator.new }
     ensures joins { (ms : List Measured) → IsLeft values.entry ms
         → JoinsFrame kind cut.now worker coordinator.old coordinator.new values.entry.kind values.entry.width ms result }
@@ -86,5 +86,9 @@ pub fn join_frame(
     if !is_as_wide(values.width(), coordinator.map.bounds()) {
         return false;
     }
-    join_read(coordinator, cut, worker, values, row)
+    if !are_of_part(coordinator.map.bounds(), cut, worker, values, row) {
+        return false;
+    }
+    join_read(coordinator, values, row);
+    true
 }

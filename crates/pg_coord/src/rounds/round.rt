@@ -6,11 +6,11 @@ ghost use Rattle.pg_map.specs.Maps.{MapValue, MapAtMost, IsClosed};
 ghost use Rattle.pg_map.specs.Weights.{map_weight};
 ghost use Rattle.pg_worker.specs.Turns.{Joins};
 ghost use Rattle.pg_coord.specs.Solving.{IsFoundFrom};
-ghost use Rattle.pg_coord.specs.Told.{Reply, IsReply, TellReplies, spelled_replies, measures_of};
+ghost use Rattle.pg_coord.specs.Told.{Reply, AreReplies, TellReplies, spelled_replies, measures_of, heard};
 ghost use Rattle.pg_coord.specs.Mirrors.Tasks.{IsClosedMap};
 ghost use Rattle.pg_coord.specs.Mirrors.CoordinatorMaps.{Moves};
 ghost use Rattle.pg_coord.specs.Mirrors.LinkStates.{IsInStep, AllInStep};
-ghost use Rattle.pg_coord.specs.Mirrors.Telling.{TellsDense, Tells, IsAsked, AllTell, AllAsked, JoinsEach, IsRoundOver};
+ghost use Rattle.pg_coord.specs.Mirrors.Telling.{TellsDense, Tells, IsMended, IsAsked, AllTell, AllAsked, JoinsEach, IsRoundOver};
 
 use crate::link::{Link, LinkFault};
 use crate::rounds::coordinator_map::CoordinatorMap;
@@ -53,7 +53,7 @@ fn mend<L: Link>(
     ensures honest { L.is_honest link.old → L.is_honest link.new }
     ensures in_step { OnOk result (L.is_honest link.old → (map : MapValue) → IsInStep L.is_under task.now map state.new link.new) }
     ensures told { (left : List (List ℕ)) → L.told link.old ≡ Some left → state.old.kind ≡ ValueKind.Dense
-        → OnOk result ((L.told link.new ≡ Some left) × (state.new.kind ≡ ValueKind.Dense)) }
+        → OnOk result ((L.told link.new ≡ Some left) × (state.new.kind ≡ ValueKind.Dense) × IsMended state.old.restarts state.new) }
 {
     state.in_use = false;
     state.asked = false;
@@ -80,11 +80,12 @@ fn set_up_one<L: Link>(
     state: &mut LinkState,
     buffer: &mut Vec<u8>,
 ) -> Result<(), AllocError>
+    requires { state.old.restarts ≡ 0 }
     ensures honest { L.is_honest link.old → L.is_honest link.new }
     ensures in_step { OnOk result (L.is_honest link.old → (map : MapValue) → IsInStep L.is_under task.now map state.new link.new) }
     ensures told { (replies : List Reply) → L.told link.old ≡ Some (spelled_replies replies)
-        → All (IsReply task.now.bounds task.now.cut worker) replies
-        → OnOk result (Tells task.now worker replies state.new (L.told link.new)) }
+        → AreReplies task.now.bounds task.now.cut worker replies
+        → OnOk result (Tells task.now worker (heard 3 replies) state.new (L.told link.new)) }
 {
     match set_up(task, link, worker, &mut state.kind, buffer) {
         Ok(()) => {
@@ -171,11 +172,12 @@ pub fn set_up_all<L: Link>(
 ) -> Result<(), AllocError>
     requires states { length states.old ≡ length links.old }
     requires few { length links.old < 2 ^ 32 }
+    requires unset { All (λ s. s.restarts ≡ 0) states.old }
     ensures honest { All L.is_honest links.old → All L.is_honest links.new }
     ensures in_step { OnOk result (All L.is_honest links.old → (map : MapValue)
         → AllInStep L.is_under task.now map states.new links.new) }
     ensures told { OnOk result ((replies : ℕ → List Reply) → TellReplies L.told task.now.bounds task.now.cut links.old replies
-        → AllTell L.told task.now states.new links.new replies) }
+        → AllTell L.told task.now states.new links.new (λ k. heard 3 (replies k))) }
 {
     for i in 0..links.len() {
         set_up_one(task, &mut links[i], i as u32 + 1, &mut states[i], buffer)?;

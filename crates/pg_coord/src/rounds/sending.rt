@@ -5,7 +5,8 @@ ghost use Rattle.pg_map.specs.Maps.{MapValue};
 ghost use Rattle.pg_wire.specs.Spelling.{body, longest};
 ghost use Rattle.pg_wire.specs.Well.{IsWell};
 ghost use Rattle.pg_worker.specs.Turns.{IsAtLeast};
-ghost use Rattle.pg_coord.specs.Links.{measures_in, IsUnderAfter, told_after};
+ghost use Rattle.pg_worker.specs.Above.{measures_in};
+ghost use Rattle.pg_coord.specs.Links.{IsUnderAfter, told_after};
 ghost use Rattle.pg_coord.specs.Mirrors.Takes.{TakesFrame};
 
 use crate::link::{Link, LinkFault};

@@ -1,19 +1,19 @@
 //! A turn of one link: it is asked, and then heard.
 
-ghost use Rattle.std.specs.Prelude.{◌≡◌, ◌↔◌, ◌<◌, ◌≤◌, ◌∷◌, ◌++◌, ℕ, List, [], length, map, drop, All};
-ghost use Rattle.std.specs.Prelude.{Some, None, Ok, IfOk, IfErr, IsErr, OnOk};
+ghost use Rattle.std.specs.Prelude.{◌≡◌, ◌≢◌, ◌<◌, ◌∷◌, ◌++◌, ℕ, List, [], length, All, true, false};
+ghost use Rattle.std.specs.Prelude.{Some, Ok, IfOk, IfErr, OnOk};
 ghost use Rattle.pg_map.specs.Maps.{MapValue, MapAtMost};
 ghost use Rattle.pg_wire.specs.declared.frame.Values.{Values};
+ghost use Rattle.pg_wire.specs.declared.frame.Report.{Report};
 ghost use Rattle.pg_wire.specs.declared.frame.Frame.TheVariants as frames;
 ghost use Rattle.pg_wire.specs.declared.kind.ValueKind.TheVariants.{Dense};
-ghost use Rattle.pg_wire.specs.Spelling.{spelling};
 ghost use Rattle.pg_wire.specs.Bytes.{Spells};
 ghost use Rattle.pg_wire.specs.Measured.{told_values};
 ghost use Rattle.pg_worker.specs.Turns.{Joins};
 ghost use Rattle.pg_coord.specs.Replies.{AreOfPart};
-ghost use Rattle.pg_coord.specs.Told.{Reply, IsReply, frames_in};
+ghost use Rattle.pg_coord.specs.Told.{Reply, FailsLink, IsReply, spelled_reply};
 ghost use Rattle.pg_coord.specs.Mirrors.CoordinatorMaps.{Hears};
-ghost use Rattle.pg_coord.specs.Mirrors.Telling.{TellsAfter, AnswersAfter, reply_measures};
+ghost use Rattle.pg_coord.specs.Mirrors.Telling.{TellsAfter, AnswersAfter, FailsAfter, HearsReply};
 
 use crate::link::{Link, LinkFault};
 use crate::rounds::coordinator_map::CoordinatorMap;
@@ -24,7 +24,7 @@ use crate::rounds::task::Task;
 use crate::rounds::values::{Recipient, send_values};
 use pg_arena::Vertex;
 use pg_map::{MeasureMap, View};
-use pg_wire::{Frame, Go, Report, ValueKind, ValuesReader, WireFault, decode};
+use pg_wire::{Frame, Go, ValueKind, ValuesReader, WireFault, decode};
 use std::alloc::{AllocError, Global};
 
 /// How many frames a reply has at most.
@@ -110,17 +110,20 @@ pub fn ask<L: Link>(
     send_frame(link, &Frame::Go(go), buffer)
 }
 
-/// The report that a reply ends with; no other frame ends one.
-fn last(frame: &Frame) -> Result<Option<Report>, LinkFault>
-    ensures { (r : Report) → frame.now ≡ frames.Report r → result ≡ Ok (Some r) }
+/// Whether a reply ends with this frame: that is a report, and not that of a refusal. Any other frame fails its link.
+fn end(frame: &Frame) -> Result<(), LinkFault>
+    ensures ends { (r : Report) → frame.now ≡ frames.Report r → r.status ≢ 2 → result ≡ Ok tt }
+    ensures fails { IfErr result (λ e. e ≡ LinkFault.Failed) }
+    ensures report { OnOk result ((r : Report) × (frame.now ≡ frames.Report r) × (r.status ≢ 2)) }
 {
     match frame {
-        Frame::Report(report) => Ok(Some(*report)),
+        Frame::Report(report) if report.status != 2 => Ok(()),
         _ => Err(LinkFault::Failed),
     }
 }
 
-/// Reads one frame of a reply and joins its measures, by a row of as many places as there are bounds. A report is answered.
+/// Reads one frame of a reply and joins its measures, by a row of as many places as there are bounds. True where the reply ends
+/// with it.
 fn hear_frame<L: Link>(
     task: &Task<'_>,
     link: &mut L,
@@ -129,51 +132,44 @@ fn hear_frame<L: Link>(
     coordinator: &mut CoordinatorMap,
     buffer: &mut Vec<u8>,
     row: &mut [u32],
-) -> Result<Option<Report>, LinkFault>
+) -> Result<bool, LinkFault>
     requires size { length coordinator.old.map.measures ≡ length task.now.game }
     requires row { length row.old ≡ length coordinator.old.map.bounds }
     ensures heard { Hears L.is_honest L.is_under link.old link.new coordinator.old coordinator.new }
     ensures values { (v : Values) (next : List ℕ) (left : List (List ℕ)) → L.told link.old ≡ Some (next ∷ left)
         → Spells (frames.Values v) next → kind ≡ Dense
         → AreOfPart Dense coordinator.old.map.bounds task.now.cut worker Dense v.width (told_values v.values)
-        → AnswersAfter None left (L.told link.new) result
+        → AnswersAfter false left (L.told link.new) result
         × OnOk result (Joins coordinator.old.map.measures (told_values v.values) coordinator.new.map.measures) }
     ensures report { (r : Report) (next : List ℕ) (left : List (List ℕ)) → L.told link.old ≡ Some (next ∷ left)
-        → Spells (frames.Report r) next
-        → AnswersAfter (Some r) left (L.told link.new) result × (coordinator.new ≡ coordinator.old) }
-    ensures ended { L.told link.old ≡ Some [] → (L.told link.new ≡ Some []) × IsErr result × (coordinator.new ≡ coordinator.old) }
-    ensures one { (left : List (List ℕ)) → L.told link.old ≡ Some left
-        → OnOk result (L.told link.new ≡ Some (drop 1 left)) }
+        → Spells (frames.Report r) next → r.status ≢ 2
+        → AnswersAfter true left (L.told link.new) result × (coordinator.new ≡ coordinator.old) }
+    ensures failing { (next : List ℕ) (left : List (List ℕ)) → L.told link.old ≡ Some (next ∷ left)
+        → FailsLink coordinator.old.map.bounds task.now.cut worker next → kind ≡ Dense
+        → FailsAfter left (L.told link.new) result × (coordinator.new ≡ coordinator.old) }
+    ensures ended { L.told link.old ≡ Some [] → FailsAfter [] (L.told link.new) result × (coordinator.new ≡ coordinator.old) }
 {
     link.receive(buffer)?;
     if let Some(values) = ValuesReader::open(buffer) {
         let joined = join_frame(coordinator, task.cut(), worker, kind, values, row);
         return if joined {
-            Ok(None)
+            Ok(false)
         } else {
             Err(LinkFault::Failed)
         };
     }
     match decode(task.alloc(), buffer) {
-        Ok(frame) => last(&frame),
+        Ok(frame) => {
+            end(&frame)?;
+            Ok(true)
+        }
         Err(WireFault::OutOfMemory) => Err(LinkFault::OutOfMemory),
         Err(_) => Err(LinkFault::Failed),
     }
 }
 
-/// What a report says of its link: that of a refusal is a failure.
-fn judged(report: &Report) -> Result<(), LinkFault>
-    ensures failed { IsErr result ↔ (report.now.status ≡ 2) }
-    ensures fault { IfErr result (λ e. e ≡ LinkFault.Failed) }
-{
-    if report.status == 2 {
-        return Err(LinkFault::Failed);
-    }
-    Ok(())
-}
-
-/// Reads a reply to its report and joins its values, by a row of as many places as there are bounds. After a fault those that
-/// came before it stay joined.
+/// Reads a reply to its end and joins its values, by a row of as many places as there are bounds. Where a frame fails the link, and
+/// where the reply is longer than it may be, the frames before stay joined.
 pub fn hear<L: Link>(
     task: &Task<'_>,
     link: &mut L,
@@ -187,18 +183,14 @@ pub fn hear<L: Link>(
     requires size { length coordinator.old.map.measures ≡ length task.now.game }
     requires row { length row.old ≡ length task.now.bounds }
     ensures heard { Hears L.is_honest L.is_under link.old link.new coordinator.old coordinator.new }
-    ensures reply { (r : Reply) (left : List (List ℕ)) → L.told link.old ≡ Some (map spelling (frames_in r) ++ left)
-        → IsReply task.now.bounds task.now.cut worker r → kind ≡ Dense
-        → TellsAfter left (L.told link.new) result
-        × OnOk result (Joins coordinator.old.map.measures (reply_measures r) coordinator.new.map.measures) }
-    ensures ended { L.told link.old ≡ Some [] → (L.told link.new ≡ Some []) × IsErr result × (coordinator.new ≡ coordinator.old) }
-    ensures most { (left : List (List ℕ)) → L.told link.old ≡ Some left
-        → OnOk result ((n : ℕ) × (n ≤ 65536) × (L.told link.new ≡ Some (drop n left))) }
+    ensures reply { (r : Reply) (left : List (List ℕ)) → L.told link.old ≡ Some (spelled_reply r ++ left)
+        → IsReply task.now.bounds task.now.cut worker r left → kind ≡ Dense
+        → HearsReply r left coordinator.old.map.measures coordinator.new.map.measures (L.told link.new) result }
 {
     'frames: for _ in 0..MOST_FRAMES {
         match hear_frame(task, link, worker, kind, coordinator, buffer, row) {
-            Ok(Some(report)) => return judged(&report),
-            Ok(None) => {}
+            Ok(true) => return Ok(()),
+            Ok(false) => {}
             Err(fault) => return Err(fault),
         }
     }

@@ -1,6 +1,7 @@
 use Rattle.std.proofs.Common.{◌≡◌, ◌+◌, ◌<◌, ◌≤◌, ◌^◌, ℕ, Bool, true, false, cond, length, drop, rules, refl, ap, sym, subst, ◌∙◌, arith}
 use Rattle.pg_map.specs.Maps.{MapValue}
 use Rattle.pg_map.specs.Weights.{map_weight}
+use Rattle.pg_coord.specs.Told.{heard}
 use Rattle.pg_coord.proofs.Ends.{found_none, found_more}
 use Rattle.pg_coord.proofs.Taken.{none_taken, round_taken, least_over}
 use Rattle.pg_coord.proofs.solver.make_rounds.Goals as goal
@@ -39,7 +40,8 @@ rounds-preserved g c =
           let h = inv.taken replies tell in
           let over = e.told (λ k. drop h.taken (replies k)) h.tell in
           round_taken g.L.Link.told c.args.task.now replies c.rounds.rounds c.saturating_add-rounds.result c.rounds.states c.make_round.new.states c.rounds.links
-          c.make_round.new.links c.args.coordinator.now.map.measures c.rounds.coordinator.map.measures c.make_round.new.coordinator.map.measures h few
+          c.make_round.new.links c.args.coordinator.now.map.measures c.rounds.coordinator.map.measures c.make_round.new.coordinator.map.measures h
+          c.saturating_add-rounds.ensures
           c.make_round.auto.links e.found.above over.0 over.1;
       rising = λ rose. let w = e.falls rose in omega arith;
       quiet = λ still.
@@ -75,7 +77,7 @@ returns-clause-ends g c =
         rounds = quiet.0;
         told = λ replies tell first.
             least_over g.L.Link.told c.args.task.now replies c.rounds.rounds c.rounds.states c.rounds.links (length c.args.links.now) c.args.coordinator.now.map
-            c.rounds.coordinator.map (inv.taken replies tell) inv.same_count c.requires.bounds c.requires.map.size inv.found.bounds inv.found.map.size quiet.1 first;
+            c.rounds.coordinator.map (inv.taken (λ k. heard 3 (replies k)) tell) inv.same_count c.requires.bounds c.requires.map.size inv.found.bounds inv.found.map.size quiet.1 first;
       };
       limited = tt;
     }

@@ -21,7 +21,7 @@ returns g c =
       map = found.map;
       closed = closed;
       rounds = (rounds.0, rw found.bounds (omega (arith, rw found.bounds at rounds.1, zero_weight zero.zero (length c.args.game.now) zero.ensures.zeros)));
-      least = λ honest. record { fits = found.map.fits; closed = closed; least = least_from _ c.args.game.now zero.zero map found size honest first };
+      least = λ honest. record { map = found.map; closed = closed; least = least_from _ c.args.game.now zero.zero map found size honest first };
       told = λ replies tell. told replies (rw found.bounds at tell) first;
       honest = c.solve_from.ensures.honest;
       mismatch = ((λ err. absurd (cc)), λ is. absurd (let err = e.mismatch.1 is in cc));

@@ -6,3 +6,6 @@ returns-then-ne-clause-moves c = moves_none c.args.coordinator.now
 
 pub returns-then-not-is_as_wide-clause-moves : goal.returns-then-not-is_as_wide-clause-moves
 returns-then-not-is_as_wide-clause-moves c = moves_none c.args.coordinator.now
+
+pub returns-then-not-are_of_part-clause-moves : goal.returns-then-not-are_of_part-clause-moves
+returns-then-not-are_of_part-clause-moves c = moves_none c.args.coordinator.now

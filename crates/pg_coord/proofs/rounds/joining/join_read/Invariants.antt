@@ -1,16 +1,17 @@
 use Rattle.std.proofs.Common.{◌≡◌, List, length}
 use Rattle.pg_wire.specs.Left.{IsLeft}
 use Rattle.pg_wire.specs.Measured.{Measured}
+use Rattle.pg_worker.specs.Turns.{Joins}
 use Rattle.pg_coord.specs.Mirrors.CoordinatorMaps.{Moves}
-use Rattle.pg_coord.proofs.Joins.{JoinsFront}
+use Rattle.pg_coord.proofs.Joins.{HasRead}
 use Rattle.pg_coord.proofs.rounds.joining.join_read.Given as goal
 
 abbrev pub invariant-each : goal.invariant-each
 invariant-each l = record {
-  cut : length l.cut.numbers ≡ length l.coordinator.map.measures;
   size : length l.row ≡ l.values.width;
   moves : Moves l.fn.coordinator l.coordinator;
-  joined : (ms : List Measured) → IsLeft l.fn.values ms → JoinsFront l.cut l.worker l.fn.coordinator l.coordinator ms l.values;
+  joined : (ms : List Measured) → IsLeft l.fn.values ms
+      → HasRead (λ front. Joins l.fn.coordinator.map.measures front l.coordinator.map.measures) ms l.values;
 }
 
 abbrev pub decreases-each : goal.decreases-each

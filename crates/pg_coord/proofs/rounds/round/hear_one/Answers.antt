@@ -1,9 +1,8 @@
-use Rattle.std.proofs.Common.{◌≡◌, true, false, [], ap}
+use Rattle.std.proofs.Common.{◌≡◌, true, false}
 use Rattle.std.proofs.lemmas.Result.{on_ok_weaker}
-use Rattle.pg_coord.specs.declared.rounds.coordinator_map.CoordinatorMap.{CoordinatorMap}
 use Rattle.pg_map.specs.Lemmas.Orders.{map_transitive}
 use Rattle.pg_coord.proofs.Moving.{moves_none}
-use Rattle.pg_coord.proofs.Replying.{not_heard, reply_heard, none_heard}
+use Rattle.pg_coord.proofs.Replying.{not_heard, reply_heard, failure_heard}
 use Rattle.pg_coord.proofs.rounds.round.hear_one.Goals as goal
 use Rattle.pg_coord.proofs.rounds.round.hear_one.Goals.{then-not-state-via-then-not-state, then-not-state-via-else-not-state+then-not-state-2}
 
@@ -35,9 +34,7 @@ returns-in-Ok g c =
       least = λ ho s h closed le. heard.least ho h (s used h closed le) le;
       told = λ rs h asked.
           reply_heard c.args.task.now c.args.worker rs c.args.state.now (told c.args.link.now) (told c.hear.new.link) c.args.coordinator.now.map.measures
-          c.hear.new.coordinator.map.measures h used
-          (λ is. let bad = (c.in-Ok.ensures.ended is).1 in absurd (cc))
-          (λ r left is reply dense. let taken = c.in-Ok.ensures.reply r left is reply dense in (taken.0.1, taken.1));
+          c.hear.new.coordinator.map.measures h used (λ r left is reply. c.in-Ok.ensures.reply r left is reply h.kind);
     }
 
 pub returns-in-Err-OutOfMemory : goal.returns-in-Err-OutOfMemory
@@ -61,10 +58,8 @@ returns-in-Err-Failed g c =
       in_step = on_ok_weaker c.mend.result (λ mended ho s. mended (heard.honest ho) c.hear.new.coordinator.map) c.mend.ensures.in_step;
       least = λ ho s h closed le. heard.least ho h (s c.if-not-state.false h closed le) le;
       told = λ rs h asked.
-          none_heard c.args.task.now c.args.worker rs c.args.state.now c.mend.new.state (told c.args.link.now) (told c.mend.new.link) c.args.coordinator.now.map.measures
-          c.hear.new.coordinator.map.measures c.mend.result h
-          (λ r left is reply dense. (c.in-Err-Failed.ensures.reply r left is reply dense).0.0 (let f = c.in-Err-Failed.field-0-is in cc))
-          (λ is dense.
-          let ended = c.in-Err-Failed.ensures.ended is in
-          on_ok_weaker c.mend.result (λ mended. (mended.0, mended.1, ap (λ (b : CoordinatorMap). b.map.measures) ended.2)) (c.mend.ensures.told [] ended.0 dense));
+          failure_heard c.args.task.now c.args.worker rs c.args.state.now c.mend.new.state (told c.args.link.now) (told c.hear.new.link) (told c.mend.new.link)
+          c.args.coordinator.now.map.measures c.hear.new.coordinator.map.measures c.mend.result h c.if-not-state.false
+          (λ r left is reply. rw c.in-Err-Failed.field-0-is at c.in-Err-Failed.ensures.reply r left is reply h.kind)
+          (λ left is dense. c.mend.ensures.told left is dense);
     }

@@ -7,7 +7,8 @@ invariant-loop-state g l =
     record {
       honest_still : honest l.fn.link → honest l.link;
       unused : l.state.in_use ≡ false;
-      told_still : (left : List (List ℕ)) → g.L.Link.told l.fn.link ≡ Some left → (g.L.Link.told l.link ≡ Some left) × (l.state.kind ≡ l.fn.state.kind);
+      told_still : (left : List (List ℕ)) → g.L.Link.told l.fn.link ≡ Some left → (g.L.Link.told l.link ≡ Some left) × (l.state.kind ≡ l.fn.state.kind)
+          × (l.state.restarts ≡ l.fn.state.restarts);
     }
 
 abbrev pub decreases-loop-state : goal.decreases-loop-state

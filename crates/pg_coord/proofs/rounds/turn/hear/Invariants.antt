@@ -1,7 +1,6 @@
-use Rattle.std.proofs.Common.{◌≡◌, ◌++◌, ℕ, List, [], Some, map, drop, length}
+use Rattle.std.proofs.Common.{◌≡◌, ◌++◌, ℕ, List, Some, length}
 use Rattle.pg_wire.specs.declared.kind.ValueKind.TheVariants.{Dense}
-use Rattle.pg_wire.specs.Spelling.{spelling}
-use Rattle.pg_coord.specs.Told.{Reply, IsReply, frames_in}
+use Rattle.pg_coord.specs.Told.{Reply, IsReply, spelled_reply}
 use Rattle.pg_coord.specs.Mirrors.CoordinatorMaps.{Hears}
 use Rattle.pg_coord.proofs.Hearing.{HasHeard}
 use Rattle.pg_coord.proofs.rounds.turn.hear.Given as goal
@@ -13,9 +12,6 @@ invariant-frames g l =
       size : length l.coordinator.map.measures ≡ length l.task.game;
       row : length l.row ≡ length l.coordinator.map.bounds;
       heard : Hears g.L.Link.is_honest g.L.Link.is_under l.fn.link l.link l.fn.coordinator l.coordinator;
-      told_so_far : (r : Reply) (left : List (List ℕ)) → told l.fn.link ≡ Some (map spelling (frames_in r) ++ left) → IsReply l.task.bounds l.task.cut l.worker r
-          → l.kind ≡ Dense
-          → HasHeard r left l.counter (told l.link) l.fn.coordinator.map.measures l.coordinator.map.measures;
-      taken : (left : List (List ℕ)) → told l.fn.link ≡ Some left → told l.link ≡ Some (drop l.counter left);
-      ended : told l.fn.link ≡ Some [] → (told l.link ≡ Some []) × (l.coordinator ≡ l.fn.coordinator);
+      told_so_far : (r : Reply) (left : List (List ℕ)) → told l.fn.link ≡ Some (spelled_reply r ++ left) → IsReply l.task.bounds l.task.cut l.worker r left
+          → l.kind ≡ Dense → HasHeard r left l.counter (told l.link) l.fn.coordinator.map.measures l.coordinator.map.measures;
     }
