@@ -8,11 +8,13 @@ use Rattle.pg_synth.specs.Machines.{Machine, IsMachine, machine_state, machine_o
 use Rattle.pg_aiger.specs.Circuits.{Circuit, Latch, no_latch, latch_at}
 use Rattle.pg_aiger.specs.Runs.{Valuation, value, bit, IsRun, IsWordOf, current, number_of}
 use Rattle.pg_aiger.specs.Machines.{IsWidth, RunsAs, IsCircuitOf}
-use Rattle.pg_aiger.specs.Laws.{FollowsMachine}
+use Rattle.pg_aiger.specs.Construction.{made_circuit}
+use Rattle.pg_aiger.specs.Laws.{FollowsMachine, OneCircuit}
 use Rattle.pg_aiger.specs.Mirrors.Drafts.{number_at}
 use Rattle.pg_aiger.specs.Mirrors.Tables.{IsAt, IsBuiltFor}
 use Rattle.pg_aiger.proofs.Runs.{of_input, of_latch, has_one}
 use Rattle.pg_aiger.proofs.Numbers.{number_is}
+use Rattle.pg_aiger.proofs.Made.{one_width}
 
 -- variables with the bits of a number spell it
 spells_low : (v : Valuation) (first n count : ℕ) → ((j : ℕ) → j < count → v (first + j) ≡ bit n j) → number_at v first count ≡ n % 2 ^ count
@@ -110,16 +112,25 @@ runs_as machine circuit input count run is enough built letters r = record {
 }
 
 pub circuit_of_machine : (machine : Machine) (circuit : Circuit) → IsMachine machine → IsWidth machine.states (length circuit.latches)
-    → circuit.greatest ≤ 1073741823 → IsBuiltFor machine circuit → IsCircuitOf machine circuit
-circuit_of_machine machine circuit is width within built = record {
+    → circuit.greatest ≤ 1073741823 → circuit ≡ made_circuit machine (length circuit.latches) → IsBuiltFor machine circuit
+    → IsCircuitOf machine circuit
+circuit_of_machine machine circuit is width within made built = record {
   numbered = built.numbered;
   within = within;
   inputs = built.inputs;
   outputs = built.outputs;
   latches = width;
+  made = made;
   one_run = λ input. has_one circuit input built.numbered;
   runs_as = λ input count run letters r. runs_as machine circuit input count run is width.enough built letters r;
 }
+
+pub one_circuit : OneCircuit
+one_circuit machine first second p q =
+    let le = one_width machine.states (length first.latches) (length second.latches) p.latches q.latches in
+    let ge = one_width machine.states (length second.latches) (length first.latches) q.latches p.latches in
+    let same : length first.latches ≡ length second.latches = omega (arith, le, ge) in
+    p.made ∙ ap (made_circuit machine) same ∙ sym q.made
 
 pub circuit_follows : (controllable : List Bool) (machine : Machine) (circuit : Circuit) (input : ℕ → ℕ) → machine.inputs ≡ inputs controllable
     → IsCircuitOf machine circuit → ((t : ℕ) → input t < 2 ^ inputs controllable) → FollowsMachine controllable machine circuit input

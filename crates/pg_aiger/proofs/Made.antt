@@ -192,7 +192,7 @@ pub room_third : (base gates gates' p k b m bound : ℕ) → base ≡ 1 + k + b 
 room_third base gates gates' p k b m bound e a c room = grind (arith, e, a, c, room)
 
 -- only one number of latches is the least
-one_width : (states a b : ℕ) → IsWidth states a → IsWidth states b → a ≤ b
+pub one_width : (states a b : ℕ) → IsWidth states a → IsWidth states b → a ≤ b
 one_width states a b first second = elim (cases_lt b a) [
   | inl l ↦ absurd (let more = first.least b l in let enough = second.enough in omega (arith, more, enough))
   | inr l ↦ l

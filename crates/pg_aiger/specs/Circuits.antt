@@ -1,5 +1,6 @@
 -- Circuits of gates and latches, as the AIGER format has them.
-use Rattle.std.specs.Prelude.{◌≡◌, ℕ, suc, ◌+◌, ◌*◌, ◌<◌, ◌≤◌, List, [], ◌∷◌, length, slice_index_or}
+use Rattle.std.specs.Prelude.{◌≡◌, ℕ, suc, ◌+◌, ◌*◌, ◌<◌, ◌≤◌, List, [], ◌∷◌, length, map, slice_index_or}
+use Rattle.std.specs.List.{range_with_len}
 use Rattle.pg_aiger.specs.declared.gate.Gate.{Gate}
 
 -- a latch's line: its literal, and the literal that it takes over in the next step
@@ -15,6 +16,26 @@ pub record Circuit : Type 0 where
   pub latches : List Latch
   pub outputs : List ℕ
   pub gates : List Gate
+
+-- the literals of variables one after another
+abbrev pub literals_from : ℕ → ℕ → List ℕ
+literals_from first count = map (λ variable. 2 * variable) (range_with_len first count)
+
+-- latches of variables one after another, and what each takes over
+abbrev pub latches_from : ℕ → List ℕ → List Latch
+latches_from first [] = []
+latches_from first (next ∷ rest) = record { literal = 2 * first; next = next } ∷ latches_from (suc first) rest
+
+-- The circuit of these inputs, literals that latches take over, outputs and gates: its variables from 1 on are the inputs, then
+-- the latches, and then the gates.
+abbrev pub circuit_in_order : ℕ → List ℕ → List ℕ → List Gate → Circuit
+circuit_in_order inputs nexts outputs gates = record {
+  greatest = inputs + length nexts + length gates;
+  inputs = literals_from 1 inputs;
+  latches = latches_from (1 + inputs) nexts;
+  outputs = outputs;
+  gates = gates;
+}
 
 abbrev pub no_latch : Latch
 no_latch = record { literal = 0; next = 0 }

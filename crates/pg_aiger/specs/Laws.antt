@@ -35,6 +35,11 @@ CircuitFollows =
     → machine.inputs ≡ inputs controllable → IsCircuitOf machine circuit
     → ((t : ℕ) → input t < 2 ^ inputs controllable) → FollowsMachine controllable machine circuit input
 
+-- a machine has one circuit
+abbrev pub OneCircuit : Type 0
+OneCircuit =
+    (machine : Machine) (first second : Circuit) → IsCircuitOf machine first → IsCircuitOf machine second → first ≡ second
+
 -- The text of a circuit within the limit spells it with the names of the automaton's propositions, and nothing else.
 abbrev pub CircuitReadsBack : Type 0
 CircuitReadsBack =

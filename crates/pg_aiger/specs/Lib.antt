@@ -1,5 +1,6 @@
 pub mod Circuits
 pub mod Runs
+pub mod Construction
 pub mod Machines
 pub mod CircuitText
 pub mod CircuitLayout

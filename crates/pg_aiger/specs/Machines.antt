@@ -2,6 +2,7 @@
 use Rattle.std.specs.Prelude.{◌≡◌, ℕ, ◌+◌, ◌*◌, ◌^◌, ◌<◌, ◌≤◌, length}
 use Rattle.pg_synth.specs.Machines.{Machine, machine_state, machine_output}
 use Rattle.pg_aiger.specs.Circuits.{Circuit, IsNumbered}
+use Rattle.pg_aiger.specs.Construction.{made_circuit}
 use Rattle.pg_aiger.specs.Runs.{Valuation, current, number_of, IsRun, HasOneRun}
 
 -- the least number of latches that can tell so many states apart
@@ -26,14 +27,15 @@ pub record RunsAs (machine : Machine) (circuit : Circuit) (input : ℕ → ℕ) 
   pub states : (t : ℕ) → t < count → number_of (run t) (current circuit) ≡ machine_state machine input t
   pub outputs : (t : ℕ) → t < count → number_of (run t) circuit.outputs ≡ machine_output machine input t
 
--- The circuit is within the limit, and has as many inputs and outputs as the machine, and as few latches as there can be. For every list of input letters
--- it has exactly one run, which runs as the machine.
+-- The circuit is the one that is made of the machine, with as few latches as there can be. It is within the limit, and has as
+-- many inputs and outputs as the machine. For every list of input letters it has exactly one run, which runs as the machine.
 pub record IsCircuitOf (machine : Machine) (circuit : Circuit) : Type 0 where
   pub numbered : IsNumbered circuit
   pub within : circuit.greatest ≤ 1073741823
   pub inputs : length circuit.inputs ≡ machine.inputs
   pub outputs : length circuit.outputs ≡ machine.outputs
   pub latches : IsWidth machine.states (length circuit.latches)
+  pub made : circuit ≡ made_circuit machine (length circuit.latches)
   pub one_run : (input : ℕ → ℕ) → HasOneRun circuit input
   pub runs_as : (input : ℕ → ℕ) (count : ℕ) (run : ℕ → Valuation) → ((t : ℕ) → t < count → input t < 2 ^ machine.inputs)
       → IsRun circuit input count run → RunsAs machine circuit input count run

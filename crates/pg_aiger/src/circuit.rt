@@ -1,7 +1,8 @@
 //! Circuits: how they are made, and what a step of one gives.
 
 ghost use Rattle.std.specs.Prelude.{◌≡◌, ◌≢◌, ◌↔◌, ◌+◌, ◌*◌, ◌^◌, ◌<◌, ◌≤◌, Err, length, All, IfOk, IfErr, OnErr};
-ghost use Rattle.pg_aiger.specs.Circuits.{AreGatesFrom};
+ghost use Rattle.pg_aiger.specs.Circuits.{AreGatesFrom, circuit_in_order};
+ghost use Rattle.pg_aiger.specs.Construction.{made_circuit};
 ghost use Rattle.pg_aiger.specs.Runs.{Valuation, value, number_of, Steps, GoesOn};
 ghost use Rattle.pg_aiger.specs.Machines.{IsWidth, IsTooLarge, IsCircuitOf, count_ahead};
 ghost use Rattle.pg_aiger.specs.Mirrors.Steps.{Agrees, IsValued};
@@ -149,6 +150,8 @@ fn columns_of(
     requires room { count_ahead machine.now latches < 2 ^ 30 }
     ensures latches { IfOk result (λ lists. length lists.0.items ≡ latches) }
     ensures columns { IfOk result (λ lists. AreColumns machine.now lists.0.items lists.1.items lists.2.items) }
+    ensures made { IfOk result (λ lists. circuit_in_order machine.now.inputs lists.0.items lists.1.items lists.2.items
+        ≡ made_circuit machine.now latches) }
 {
     let inputs = machine.inputs();
     let places = places_of(machine);

@@ -2,7 +2,8 @@
 
 ghost use Rattle.std.specs.Prelude.{◌≡◌, ◌+◌, ◌^◌, ◌<◌, ◌≤◌, ◌/◌, ◌%◌, ◌==◌, ◌&&◌, ◌||◌, not, [], IfOk};
 ghost use Rattle.pg_aiger.specs.Runs.{Valuation, value};
-ghost use Rattle.pg_aiger.specs.Mirrors.Drafts.{IsDraft, IsLiteral, HasRoom, Extends, Means, number_at};
+ghost use Rattle.pg_aiger.specs.Construction.{negation, new_gate, conjunction, disjunction, spelling};
+ghost use Rattle.pg_aiger.specs.Mirrors.Drafts.{IsDraft, IsLiteral, HasRoom, Extends, Means, number_at, conjunction_with};
 
 use crate::gate::Gate;
 use std::alloc::{AllocError, Global};
@@ -46,24 +47,16 @@ impl Draft {
         self.gates
     }
 
-    /// The conjunction of two literals: a new gate, unless one of them is constant.
-    pub fn and(&mut self, x: u32, y: u32) -> Result<u32, AllocError>
+    /// A new gate: the conjunction of two literals.
+    fn gate(&mut self, x: u32, y: u32) -> Result<u32, AllocError>
         requires x_in { IsLiteral self.old x }
         requires y_in { IsLiteral self.old y }
         requires room { HasRoom self.old 1 }
         ensures extends { Extends 1 self.old self.new }
         ensures literal { IfOk result (λ l. IsLiteral self.new l) }
         ensures meaning { IfOk result (λ l. Means self.new l (λ v. value v x && value v y)) }
+        ensures made { IfOk result (λ l. new_gate self.old x y ≡ (self.new, l)) }
     {
-        if x == 0 || y == 0 {
-            return Ok(0);
-        }
-        if x == 1 {
-            return Ok(y);
-        }
-        if y == 1 {
-            return Ok(x);
-        }
         let lhs = 2 * (self.base + self.gates.len() as u32);
         let gate = Gate {
             lhs,
@@ -74,6 +67,29 @@ impl Draft {
         Ok(lhs)
     }
 
+    /// The conjunction of two literals: a new gate, unless one of them is constant.
+    #[tactic(auto, using(crate::proofs::Exact::conjunctions))]
+    pub fn and(&mut self, x: u32, y: u32) -> Result<u32, AllocError>
+        requires x_in { IsLiteral self.old x }
+        requires y_in { IsLiteral self.old y }
+        requires room { HasRoom self.old 1 }
+        ensures extends { Extends 1 self.old self.new }
+        ensures literal { IfOk result (λ l. IsLiteral self.new l) }
+        ensures meaning { IfOk result (λ l. Means self.new l (λ v. value v x && value v y)) }
+        ensures made { IfOk result (λ l. conjunction self.old x y ≡ (self.new, l)) }
+    {
+        if x == 0 || y == 0 {
+            return Ok(0);
+        }
+        if x == 1 {
+            return Ok(y);
+        }
+        if y == 1 {
+            return Ok(x);
+        }
+        self.gate(x, y)
+    }
+
     /// The disjunction of two literals.
     pub fn or(&mut self, x: u32, y: u32) -> Result<u32, AllocError>
         requires x_in { IsLiteral self.old x }
@@ -82,6 +98,7 @@ impl Draft {
         ensures extends { Extends 1 self.old self.new }
         ensures literal { IfOk result (λ l. IsLiteral self.new l) }
         ensures meaning { IfOk result (λ l. Means self.new l (λ v. value v x || value v y)) }
+        ensures made { IfOk result (λ l. disjunction self.old x y ≡ (self.new, l)) }
     {
         let literal = self.and(negated(x), negated(y))?;
         Ok(negated(literal))
@@ -103,6 +120,7 @@ impl Draft {
         ensures literal { IfOk result (λ l. IsLiteral self.new l) }
         ensures meaning { IfOk result (λ l. Means self.new l
             (λ v. value v start && (number_at v first count == number % 2 ^ count))) }
+        ensures made { IfOk result (λ l. conjunction_with self.old start (spelling first count number) ≡ (self.new, l)) }
     {
         let mut literal = start;
         for j in 0..count {
@@ -115,6 +133,7 @@ impl Draft {
 
 /// The negation of a literal.
 fn negated(x: u32) -> u32
+    ensures literal { result ≡ negation x }
     ensures variable { result / 2 ≡ x / 2 }
     ensures value { (v : Valuation) → value v result ≡ not (value v x) }
 {

@@ -5,7 +5,7 @@ ghost use Rattle.pg_synth.specs.Letters.{inputs};
 ghost use Rattle.pg_aiger.specs.Circuits.{Circuit};
 ghost use Rattle.pg_aiger.specs.Machines.{IsCircuitOf};
 ghost use Rattle.pg_synth.specs.Machines.{Machine};
-ghost use Rattle.pg_aiger.specs.Laws.{OneRun, OneStep, CircuitFollows, FollowsMachine, CircuitReadsBack};
+ghost use Rattle.pg_aiger.specs.Laws.{OneRun, OneStep, OneCircuit, CircuitFollows, FollowsMachine, CircuitReadsBack};
 
 use pg_synth::InputWord;
 
@@ -17,6 +17,11 @@ pub fn one_run()
 /// A circuit in its order has exactly one valuation for each step.
 pub fn one_step()
     ensures { OneStep }
+{}
+
+/// A machine has one circuit.
+pub fn one_circuit()
+    ensures { OneCircuit }
 {}
 
 /// The circuit of a machine has exactly one run for each endless input word, and the word of that run is the machine's.

@@ -1,8 +1,9 @@
 //! The gates of a table, which has a place for each state and input letter: input letters rising, for one state after another.
 
 ghost use Rattle.std.specs.Prelude.{◌≡◌, ℕ, ◌+◌, ◌*◌, ◌^◌, ◌<◌, ◌≤◌, length, IfOk, slice_index};
+ghost use Rattle.pg_aiger.specs.Construction.{conjunction_of, disjunction_of, each_made, having, bit_columns};
 ghost use Rattle.pg_aiger.specs.Mirrors.Drafts.{IsLiteral, HasRoom, Extends, Means};
-ghost use Rattle.pg_aiger.specs.Mirrors.Tables.{is_minterm, MeanEach, column_bit};
+ghost use Rattle.pg_aiger.specs.Mirrors.Tables.{is_minterm, MeanEach, column_bit, minterm_at, minterms_below};
 
 use crate::draft::Draft;
 use std::alloc::{AllocError, Global};
@@ -16,6 +17,7 @@ fn minterm(draft: &mut Draft, inputs: u32, latches: u32, place: u32) -> Result<u
     ensures extends { Extends (inputs + latches) draft.old draft.new }
     ensures literal { IfOk result (λ l. IsLiteral draft.new l) }
     ensures meaning { IfOk result (λ l. Means draft.new l (is_minterm inputs latches place)) }
+    ensures made { IfOk result (λ l. conjunction_of draft.old (minterm_at inputs latches place) ≡ (draft.new, l)) }
 {
     let of_state = draft.matching(1, 1 + inputs, latches, place >> inputs)?;
     draft.matching(of_state, 1, inputs, place)
@@ -33,6 +35,7 @@ fn column(draft: &mut Draft, literals: &[u32], values: &[u32], bit: u32) -> Resu
     ensures extends { Extends (length literals.now) draft.old draft.new }
     ensures literal { IfOk result (λ l. IsLiteral draft.new l) }
     ensures meaning { IfOk result (λ l. Means draft.new l (column_bit literals.now values.now bit)) }
+    ensures made { IfOk result (λ l. disjunction_of draft.old (having bit values.now literals.now) ≡ (draft.new, l)) }
 {
     let mut literal = 0;
     for place in 0..literals.len() {
@@ -58,6 +61,8 @@ pub(crate) fn minterms(
     ensures extends { Extends (count * (inputs + latches)) draft.old draft.new }
     ensures length { IfOk result (λ l. length l.items ≡ count) }
     ensures meanings { IfOk result (λ l. MeanEach draft.new (is_minterm inputs latches) l.items) }
+    ensures made { IfOk result (λ l. each_made conjunction_of draft.old (minterms_below inputs latches count)
+        ≡ (draft.new, l.items)) }
 {
     let mut literals = Vec::new(alloc);
     for place in 0..count {
@@ -85,6 +90,8 @@ pub(crate) fn columns(
     ensures extends { Extends (width * length literals.now) draft.old draft.new }
     ensures length { IfOk result (λ l. length l.items ≡ width) }
     ensures meanings { IfOk result (λ l. MeanEach draft.new (column_bit literals.now values.now) l.items) }
+    ensures made { IfOk result (λ l. each_made disjunction_of draft.old (bit_columns width values.now literals.now)
+        ≡ (draft.new, l.items)) }
 {
     let mut made = Vec::new(alloc);
     for bit in 0..width {

@@ -1,13 +1,9 @@
 -- Gates while they are being made.
-use Rattle.std.specs.Prelude.{◌≡◌, ℕ, zero, suc, ◌+◌, ◌*◌, ◌^◌, ◌<◌, ◌≤◌, Bool, false, List, length, cond}
-use Rattle.pg_aiger.specs.declared.gate.Gate.{Gate}
+use Rattle.std.specs.Prelude.{◌≡◌, ℕ, zero, suc, ◌+◌, ◌*◌, ◌^◌, ◌<◌, ◌≤◌, Bool, false, List, length, cond, fold}
 use Rattle.pg_aiger.specs.Circuits.{AreGatesFrom}
 use Rattle.pg_aiger.specs.Runs.{Valuation, value, Satisfies}
-
--- `base` is the first gate's variable
-pub record Drafted : Type 0 where
-  pub base : ℕ
-  pub gates : List Gate
+pub use Rattle.pg_aiger.specs.Construction.{Drafted}
+use Rattle.pg_aiger.specs.Construction.{Made, conjunction}
 
 pub record IsDraft (draft : Drafted) : Type 0 where
   pub positive : 0 < draft.base
@@ -36,3 +32,7 @@ Means draft literal meaning = (v : Valuation) → v 0 ≡ false → Satisfies v 
 abbrev pub number_at : Valuation → ℕ → ℕ → ℕ
 number_at v first zero = 0
 number_at v first (suc count) = number_at v first count + cond (v (first + count)) (2 ^ count) 0
+
+-- the conjunction of a literal and those of a list, from the left
+abbrev pub conjunction_with : Drafted → ℕ → List ℕ → Made
+conjunction_with draft start literals = fold (λ (so_far : Made) literal. conjunction so_far.0 so_far.1 literal) (draft, start) literals

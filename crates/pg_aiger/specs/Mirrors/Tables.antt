@@ -6,6 +6,7 @@ use Rattle.pg_synth.specs.declared.mealy.Reply.{Reply}
 use Rattle.pg_aiger.specs.declared.gate.Gate.{Gate}
 use Rattle.pg_aiger.specs.Circuits.{Circuit, IsNumbered, latch_at, output_at}
 use Rattle.pg_aiger.specs.Runs.{Valuation, value, bit, Satisfies}
+use Rattle.pg_aiger.specs.Construction.{minterm_literals}
 use Rattle.pg_aiger.specs.Mirrors.Drafts.{Drafted, IsDraft, IsLiteral, Extends, Means, number_at}
 
 -- the reply at a place
@@ -39,6 +40,13 @@ pub record IsBuiltFor (machine : Machine) (circuit : Circuit) : Type 0 where
 -- the minterm of a place
 abbrev pub is_minterm : ℕ → ℕ → ℕ → Valuation → Bool
 is_minterm k b place v = (number_at v (1 + k) b == place / 2 ^ k) && (number_at v 1 k == place % 2 ^ k)
+
+-- what the minterm of a place is the conjunction of
+abbrev pub minterm_at : ℕ → ℕ → ℕ → List ℕ
+minterm_at inputs latches place = minterm_literals inputs latches (place / 2 ^ inputs) (place % 2 ^ inputs)
+
+abbrev pub minterms_below : ℕ → ℕ → ℕ → List (List ℕ)
+minterms_below inputs latches places = map (minterm_at inputs latches) (range_with_len 0 places)
 
 -- the literals have these meanings, in their order
 pub record MeanEach (draft : Drafted) (meanings : ℕ → Valuation → Bool) (literals : List ℕ) : Type 0 where

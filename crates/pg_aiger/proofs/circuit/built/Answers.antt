@@ -1,5 +1,6 @@
-use Rattle.std.proofs.Common.{◌≡◌, ℕ, ◌+◌, length, arith, sym, subst, ◌∙◌}
+use Rattle.std.proofs.Common.{◌≡◌, ℕ, ◌+◌, length, arith, sym, subst, ap, ◌∙◌}
 use Rattle.pg_aiger.specs.Machines.{IsWidth, IsCircuitOf}
+use Rattle.pg_aiger.specs.Construction.{made_circuit}
 use Rattle.pg_aiger.specs.Mirrors.Views.{viewed, IsKept}
 use Rattle.pg_aiger.proofs.Made.{kept, built_for, length_latches}
 use Rattle.pg_aiger.proofs.Follows.{circuit_of_machine}
@@ -28,5 +29,5 @@ returns c =
     let within = (keeps c).within in
     subst (λ (k : ℕ). IsCircuitOf c.args.machine.now (viewed k ns c.in_ok-nexts.outputs.items c.in_ok-nexts.gates.items)) (sym c.inputs.ensures)
     (circuit_of_machine c.args.machine.now circuit c.requires.machine (subst (IsWidth c.args.machine.now.states) (sym count) c.requires.width)
-    (omega (arith, within))
+    (omega (arith, within)) (c.in_ok-nexts.ensures.made ∙ ap (made_circuit c.args.machine.now) (sym count))
     (built_for c.args.machine.now ns c.in_ok-nexts.outputs.items c.in_ok-nexts.gates.items c.in_ok-nexts.ensures.columns))

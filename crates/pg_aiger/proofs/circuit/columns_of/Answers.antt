@@ -1,6 +1,8 @@
 use Rattle.std.proofs.Common.{◌≡◌, ℕ, ◌+◌, ◌*◌, ◌^◌, ◌≤◌, length, arith, sym, subst, ap, ◌∙◌}
-use Rattle.pg_aiger.specs.Mirrors.Tables.{is_minterm, MeanEach, column_bit}
+use Rattle.pg_aiger.specs.Mirrors.Tables.{is_minterm, MeanEach, column_bit, outputs_below, minterms_below}
+use Rattle.pg_aiger.specs.Construction.{conjunction_of, disjunction_of, each_made, bit_columns}
 use Rattle.pg_aiger.proofs.Made.{rows_fit, room_first, room_second, room_third, length_outputs, length_nexts}
+use Rattle.pg_aiger.proofs.Exact.{empty_draft, parts_made}
 use Rattle.pg_aiger.proofs.circuit.columns_of.Goals as goal
 
 pub minterms-requires-clause-count_in : goal.minterms-requires-clause-count_in
@@ -98,3 +100,29 @@ returns-clause-columns c =
           c.in_ok-outputs.ensures.meanings);
       width = c.in_ok-outputs.ensures.length ∙ c.outputs.ensures;
     }
+
+pub returns-clause-made : goal.returns-clause-made
+returns-clause-made c =
+    let machine = c.args.machine.now in
+    let places = machine.states * 2 ^ machine.inputs in
+    let minterms = c.in_ok-literals.literals.items in
+    parts_made machine c.args.latches c.requires.machine c.new-draft.result c.minterms.new.draft c.columns.new.draft c.columns-2.new.draft
+    minterms c.in_ok-nexts.nexts.items c.in_ok-outputs.outputs.items c.into_gates.result.items
+    (empty_draft c.new-draft.result (1 + machine.inputs + c.args.latches)
+    (c.new-draft.ensures.base ∙ ap (λ (k : ℕ). 1 + k + c.args.latches) c.inputs-inputs.ensures) c.new-draft.ensures.gates)
+    (subst (λ (n : ℕ). each_made conjunction_of c.new-draft.result (minterms_below machine.inputs c.args.latches n) ≡ (c.minterms.new.draft, minterms))
+    c.places_of-places.ensures.count
+    (subst (λ (k : ℕ). each_made conjunction_of c.new-draft.result (minterms_below k c.args.latches c.places_of-places.result)
+    ≡ (c.minterms.new.draft, minterms)) c.inputs-inputs.ensures c.in_ok-literals.ensures.made))
+    (subst (λ l. each_made disjunction_of c.minterms.new.draft (bit_columns c.args.latches l minterms) ≡ (c.columns.new.draft, c.in_ok-nexts.nexts.items))
+    (c.deref-2.ensures.value ∙ c.in_ok-letters.ensures.nexts)
+    (subst (λ l. each_made disjunction_of c.minterms.new.draft (bit_columns c.args.latches c.deref-2.result.now l)
+    ≡ (c.columns.new.draft, c.in_ok-nexts.nexts.items)) c.deref.ensures.value c.in_ok-nexts.ensures.made))
+    (subst (λ (m : ℕ). each_made disjunction_of c.columns.new.draft (bit_columns m (outputs_below machine places) minterms)
+    ≡ (c.columns-2.new.draft, c.in_ok-outputs.outputs.items)) c.outputs.ensures
+    (subst (λ l. each_made disjunction_of c.columns.new.draft (bit_columns c.outputs.result l minterms)
+    ≡ (c.columns-2.new.draft, c.in_ok-outputs.outputs.items))
+    (c.deref-4.ensures.value ∙ c.in_ok-letters.ensures.outputs)
+    (subst (λ l. each_made disjunction_of c.columns.new.draft (bit_columns c.outputs.result c.deref-4.result.now l)
+    ≡ (c.columns-2.new.draft, c.in_ok-outputs.outputs.items)) c.deref-3.ensures.value c.in_ok-outputs.ensures.made)))
+    c.into_gates.ensures.gates

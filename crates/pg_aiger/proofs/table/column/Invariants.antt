@@ -1,3 +1,5 @@
+use Rattle.std.proofs.Common.{◌≡◌, take}
+use Rattle.pg_aiger.specs.Construction.{disjunction_of, having}
 use Rattle.pg_aiger.specs.Mirrors.Drafts.{IsLiteral, Extends, Means}
 use Rattle.pg_aiger.specs.Mirrors.Tables.{any_below}
 use Rattle.pg_aiger.proofs.table.column.Given as goal
@@ -7,3 +9,4 @@ invariant-loop-place l =
     Extends l.place l.fn.draft l.draft
     × IsLiteral l.draft l.literal
     × Means l.draft l.literal (λ v. any_below v l.literals l.values l.bit l.place)
+    × (disjunction_of l.fn.draft (having l.bit (take l.place l.values) (take l.place l.literals)) ≡ (l.draft, l.literal))

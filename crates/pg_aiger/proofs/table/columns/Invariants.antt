@@ -1,4 +1,5 @@
 use Rattle.std.proofs.Common.{◌≡◌, ◌*◌, length}
+use Rattle.pg_aiger.specs.Construction.{disjunction_of, each_made, bit_columns}
 use Rattle.pg_aiger.specs.Mirrors.Drafts.{Extends}
 use Rattle.pg_aiger.specs.Mirrors.Tables.{MeanEach, column_bit}
 use Rattle.pg_aiger.proofs.table.columns.Given as goal
@@ -8,3 +9,4 @@ invariant-loop-bit l =
     Extends (l.bit * length l.literals) l.fn.draft l.draft
     × (length l.made.items ≡ l.bit)
     × MeanEach l.draft (column_bit l.literals l.values) l.made.items
+    × (each_made disjunction_of l.fn.draft (bit_columns l.bit l.values l.literals) ≡ (l.draft, l.made.items))

@@ -1,10 +1,12 @@
-use Rattle.std.proofs.Common.{◌+◌, ◌/◌, ◌%◌, ◌^◌, not, eqb, ◌&&◌, arith, ap, ◌∙◌}
+use Rattle.std.proofs.Common.{◌≡◌, ◌+◌, ◌/◌, ◌%◌, ◌^◌, not, eqb, ◌&&◌, arith, ap, ◌∙◌}
 use Rattle.std.proofs.lemmas.Result.{IfOk-weaker}
 use Rattle.pg_aiger.specs.Runs.{value}
-use Rattle.pg_aiger.specs.Mirrors.Drafts.{Means, number_at}
-use Rattle.pg_aiger.specs.Mirrors.Tables.{is_minterm}
+use Rattle.pg_aiger.specs.Mirrors.Drafts.{Means, number_at, conjunction_with}
+use Rattle.pg_aiger.specs.Construction.{conjunction_of, spelling}
+use Rattle.pg_aiger.specs.Mirrors.Tables.{is_minterm, minterm_at}
 use Rattle.pg_aiger.proofs.Matches.{extends_more}
 use Rattle.pg_aiger.proofs.Places.{whole_quotient}
+use Rattle.pg_aiger.proofs.Exact.{minterm_made}
 use Rattle.pg_aiger.proofs.table.minterm.Goals as goal
 
 pub returns-clause-extends : goal.returns-clause-extends
@@ -23,3 +25,11 @@ returns-clause-meaning c = IfOk-weaker c.matching-2.result
     ∙ ap (λ b. not b && eqb (number_at v (1 + c.args.inputs) c.args.latches) (c.args.place / 2 ^ c.args.inputs % 2 ^ c.args.latches)) constant
     ∙ ap (λ i. eqb (number_at v (1 + c.args.inputs) c.args.latches) i) (whole_quotient c.args.place c.args.inputs c.args.latches c.requires.place_in)))
     c.matching-2.ensures.meaning
+
+pub returns-clause-made : goal.returns-clause-made
+returns-clause-made c = IfOk-weaker c.matching-2.result
+    (λ l. conjunction_with c.matching.new.self c.in_ok-of_state.of_state (spelling 1 c.args.inputs c.args.place) ≡ (c.matching-2.new.self, l))
+    (λ l. conjunction_of c.args.draft.now (minterm_at c.args.inputs c.args.latches c.args.place) ≡ (c.matching-2.new.self, l))
+    (λ l e. minterm_made c.args.draft.now c.matching.new.self c.matching-2.new.self c.args.inputs c.args.latches c.args.place
+    c.in_ok-of_state.of_state l c.in_ok-of_state.ensures.made e)
+    c.matching-2.ensures.made

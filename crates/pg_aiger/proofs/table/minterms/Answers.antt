@@ -1,6 +1,9 @@
-use Rattle.std.proofs.Common.{rules, ◌+◌}
-use Rattle.pg_aiger.specs.Mirrors.Tables.{is_minterm}
+use Rattle.std.proofs.Common.{rules, ◌+◌, arith, sym, ap, ◌∙◌}
+use Rattle.std.proofs.lemmas.List.FromFn.{map-range_with_len_more}
+use Rattle.pg_aiger.specs.Construction.{conjunction_of, each_made}
+use Rattle.pg_aiger.specs.Mirrors.Tables.{is_minterm, minterm_at, minterms_below}
 use Rattle.pg_aiger.proofs.Places.{extends_times, extends_within, mean_push}
+use Rattle.pg_aiger.proofs.Exact.{each_more}
 use Rattle.pg_aiger.proofs.table.minterms.Goals as goal
 
 pub returns-in_err-literal-clause-extends : goal.returns-in_err-literal-clause-extends
@@ -22,4 +25,10 @@ loop-place-preserved c = (
       c.loop-place.literals.items c.push.new.self.items c.loop-place.place c.in_ok-literal.literal c.minterm.ensures.extends
       c.in_ok-push.ensures.items c.loop-place.invariant.1 c.loop-place.invariant.2
       c.in_ok-literal.ensures.literal c.in_ok-literal.ensures.meaning,
+  ap (each_made conjunction_of c.args.draft.now)
+      (map-range_with_len_more (minterm_at c.args.inputs c.args.latches) 0 c.loop-place.place c.loop-place.place (omega arith))
+      ∙ each_more conjunction_of c.args.draft.now c.loop-place.draft c.minterm.new.draft
+      (minterms_below c.args.inputs c.args.latches c.loop-place.place) c.loop-place.literals.items
+      (minterm_at c.args.inputs c.args.latches c.loop-place.place) c.in_ok-literal.literal c.loop-place.invariant.3 c.in_ok-literal.ensures.made
+      ∙ ap (λ l. (c.minterm.new.draft, l)) (sym c.in_ok-push.ensures.items),
 )

@@ -3,6 +3,9 @@ use Rattle.std.proofs.lemmas.Bool.{eq-eqb, ne_eqb}
 use Rattle.pg_aiger.specs.Runs.{value}
 use Rattle.pg_aiger.specs.Mirrors.Drafts.{Drafted, Extends, number_at}
 use Rattle.pg_aiger.proofs.Matches.{extends_more, match_more}
+use Rattle.pg_aiger.specs.Construction.{spelling}
+use Rattle.pg_aiger.specs.Mirrors.Drafts.{conjunction_with}
+use Rattle.pg_aiger.proofs.Exact.{spelling_more, conjunction_more}
 use Rattle.pg_aiger.proofs.draft.Draft.matching.Goals.{then-number-j-eq1, else-number-j-eq1}
 use Rattle.pg_aiger.proofs.draft.Draft.matching.Goals as goal
 
@@ -29,4 +32,9 @@ loop-j-preserved c =
           (c.loop-j.invariant.2 v constant (c.and.ensures.extends.kept v s))
           ∙ match_more v (value v c.args.start) c.args.first c.loop-j.j c.args.number c.if-number-j-eq1.negation negation
           ∙ ap (λ i. value v c.args.start && eqb (number_at v c.args.first i) (c.args.number % 2 ^ i)) (sym (add-one c.loop-j.j)),
+      ap (conjunction_with c.args.self.now c.args.start)
+          (spelling_more c.args.first c.loop-j.j c.args.number c.if-number-j-eq1.negation negation)
+          ∙ conjunction_more c.args.self.now c.loop-j.self c.and.new.self c.args.start c.loop-j.literal c.in_ok-literal.literal
+          (spelling c.args.first c.loop-j.j c.args.number) c.loop-j.invariant.3
+          (2 * (c.args.first + c.loop-j.j) + c.if-number-j-eq1.negation) c.in_ok-literal.ensures.made,
     )

@@ -1,7 +1,8 @@
 use Rattle.std.proofs.Common.{rules, ◌≡◌, ◌+◌, ◌*◌, length, arith, sym, subst, refl}
 use Rattle.pg_aiger.specs.Mirrors.Drafts.{IsLiteral, HasRoom, Extends}
 use Rattle.pg_aiger.proofs.Pushes.{pushed_draft, pushed_extends, pushed_means}
-use Rattle.pg_aiger.proofs.draft.Draft.and.Goals as goal
+use Rattle.pg_aiger.proofs.Exact.{gate_made}
+use Rattle.pg_aiger.proofs.draft.Draft.gate.Goals as goal
 
 pub invariant_of-self-2 : goal.invariant_of-self-2
 invariant_of-self-2 c =
@@ -27,3 +28,8 @@ returns-clause-meaning c v constant s =
     (record { lhs = 2 * (c.self.inside.base + c.len.result); rhs0 = c.max.result; rhs1 = c.min.result })
     c.args.x c.args.y (2 * (c.self.inside.base + c.len.result))
     c.in_ok-push.ensures.items (search rules) (search rules) refl v s
+
+pub returns-clause-made : goal.returns-clause-made
+returns-clause-made c =
+    gate_made c.args.self.now c.args.x c.args.y c.self.inside.base c.len.result c.max.result c.min.result c.self.inside.gates.items
+    c.push.new.self.items c.self.view_is (search rules) (search rules) (search rules) c.in_ok-push.ensures.items
