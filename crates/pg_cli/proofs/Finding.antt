@@ -1,5 +1,5 @@
 -- Maps that are found over links.
-use Rattle.std.proofs.Common.{◌≡◌, ℕ, ◌<◌, ◌≤◌, List, length, Option, Some, None, Result, Ok, Err, IsSome, All, inl, inr, sym, ap, ap₂, subst, refl, ◌∙◌, arith}
+use Rattle.std.proofs.Common.{◌≡◌, ℕ, ◌<◌, ◌≤◌, List, length, Option, Some, None, Result, Ok, Err, IsSome, All, sym, ap, ap₂, subst, refl, ◌∙◌, arith}
 use Rattle.std.proofs.lemmas.List.{same_lists, get_or_default}
 use Rattle.std.specs.Prelude.{⊤, IfOk, IfSome, OnOk}
 use Rattle.std.specs.Io.KnownBytes.{Appends}
@@ -8,7 +8,7 @@ use Rattle.pg_arena.specs.Lemmas.Duals.{length_dual}
 use Rattle.pg_measure.specs.Measures.{BoundList, MeasureValue, AtMost, Fits}
 use Rattle.pg_measure.specs.Games.{IsBoundsOf}
 use Rattle.pg_measure.proofs.Order.{at_most_same}
-use Rattle.pg_map.specs.Lines.{Line, game_line}
+use Rattle.pg_map.specs.Lines.{game_line}
 use Rattle.pg_map.specs.Maps.{MapValue, IsClosed, IsJoin, IsLeastClosedFrom, IsMap, measure_at, update_map, zero_map}
 use Rattle.pg_map.proofs.Joins.{zero_map_is, zero_map_least}
 use Rattle.pg_check.specs.Strategies.{NoListInBoth}
@@ -71,8 +71,7 @@ found_by are_honest game map u fits closed = record {
   closed = record { bounds = u.bounds; fits = record { size = u.size; fits = fits }; closed = closed };
   least = λ honest. record {
     bounds = u.bounds;
-    size = u.size;
-    least = record { fits = fits; closed = closed; least = u.under honest };
+    least = record { map = record { size = u.size; fits = fits }; closed = closed; least = u.under honest };
   };
 }
 
@@ -85,10 +84,10 @@ outcome_is are_honest game from (Stopped m) u f closed = found_under are_honest 
 pub found_from : (are_honest : Type 0) (game : List GameVertex) (from map : MapValue) → IsUnderIf are_honest game from → IsLeastFrom game from map
     → IsFoundIf are_honest game map
 found_from are_honest game from map u l =
-    let fits = subst (λ (bs : BoundList). All (Fits bs) map.measures) (sym l.bounds) l.least.fits in
+    let fits = subst (λ (bs : BoundList). All (Fits bs) map.measures) (sym l.bounds) l.least.map.fits in
     let found : IsFoundFrom are_honest game from map = record {
       bounds = l.bounds;
-      map = record { size = l.size; fits = fits };
+      map = record { size = l.least.map.size ∙ u.size; fits = fits };
       above = l.least.above;
       least = λ honest. l.least.least;
     } in
@@ -106,8 +105,7 @@ found_is_under are_honest game map f = record {
 pub closed_stays : (game : List GameVertex) (map : MapValue) → IsClosedMapOf game map → IsLeastFrom game map map
 closed_stays game map c = record {
   bounds = refl;
-  size = c.fits.size;
-  least = record { fits = c.fits.fits; above = λ v. at_most_same (measure_at map.measures v); closed = c.closed; least = λ h is_map closed above. above };
+  least = record { map = record { size = refl; fits = c.fits.fits }; above = λ v. at_most_same (measure_at map.measures v); closed = c.closed; least = λ h is_map closed above. above };
 }
 
 -- ---- maps in results
@@ -124,11 +122,11 @@ all_kept are_honest later game part (Ok maps) kept f = record { closed = f.close
 all_kept are_honest later game part (Err fault) kept f = tt
 
 pub map_found : {E : Type 0} (are_honest : Type 0) (game : List GameVertex) (from : MapValue) (result : Result MapValue E) → IsUnderIf are_honest game from
-    → IfOk result (λ map. map.bounds ≡ from.bounds) → IfOk result (λ map. length map.measures ≡ length game)
+    → IfOk result (λ map. map.bounds ≡ from.bounds)
     → IfOk result (λ map. IsLeastClosedFrom from.bounds (game_line game) from.measures map.measures) → IfOk result (IsFoundIf are_honest game)
-map_found are_honest game from (Ok map) u bounds size least =
-    found_from are_honest game from map u (record { bounds = bounds; size = size; least = least })
-map_found are_honest game from (Err fault) u bounds size least = tt
+map_found are_honest game from (Ok map) u bounds least =
+    found_from are_honest game from map u (record { bounds = bounds; least = least })
+map_found are_honest game from (Err fault) u bounds least = tt
 
 -- each closed map of the dual has top where a closed map of the game has a list, so that top may be put there
 pub top_under : NoListInBoth → (game : List GameVertex) (of_game old new : MapValue) (v : ℕ) → IsGame game → IsClosedMapOf game of_game
@@ -156,17 +154,6 @@ top_under neither game of_game old new v is closed lt listed u bounds size join 
 
 -- ---- links that tell their replies
 
--- after so many rounds one was made
-first_round : (lines : ℕ → Option Line) (rounds links : ℕ) (replies : ℕ → List Reply) (map : MapValue) → 1 ≤ rounds
-    → IsLeastOverReplies lines rounds links replies map → IsLeastOverReplies lines 1 links replies map
-first_round lines rounds links replies map some l = record {
-  taken = l.taken;
-  enough = λ k lt. elim (l.enough k lt) [ inl more ↦ inl (omega arith) | inr all ↦ inr all ];
-  closed = l.closed;
-  above = l.above;
-  least = l.least;
-}
-
 -- there is one even cut
 one_even_cut : (vertices workers : ℕ) (c d : CutValue) → IsEvenCut vertices workers c → IsEvenCut vertices workers d → c ≡ d
 one_even_cut vertices workers c d p q =
@@ -183,10 +170,11 @@ pub over_told : {L : Type 0} (told : L → Option (List (List ℕ))) (links : Li
     → IsLeastOverTold told links game map
 over_told told links game map cut rounds closed even some least = record {
   closed = closed;
+  rounds = rounds;
+  some = some;
   least = λ other replies is_even tells.
       let same : other ≡ cut = one_even_cut (length game) (length links) other cut is_even even in
-      first_round (game_line game) rounds (length links) replies map some
-      (least replies (subst (λ (x : CutValue). TellReplies told map.bounds x links replies) same tells));
+      least replies (subst (λ (x : CutValue). TellReplies told map.bounds x links replies) same tells);
 }
 
 -- what is measured by maps of one kind is so by those of another, if each is of that kind

@@ -1,5 +1,5 @@
 -- What is found over links that tell their replies.
-use Rattle.std.specs.Prelude.{ℕ, List, Option, length}
+use Rattle.std.specs.Prelude.{ℕ, ◌≤◌, List, Option, length}
 use Rattle.pg_arena.specs.Games.{GameVertex}
 use Rattle.pg_map.specs.Lines.{game_line}
 use Rattle.pg_map.specs.Maps.{MapValue}
@@ -7,11 +7,13 @@ use Rattle.pg_worker.specs.Cuts.{CutValue, IsEvenCut}
 use Rattle.pg_coord.specs.Told.{Reply, TellReplies, IsLeastOverReplies}
 use Rattle.pg_command.specs.Measuring.{IsClosedMapOf}
 
--- The map is closed for the game. If the links tell replies, none a failure by the even cut of the game among them, then of the
--- replies of each link at least one was taken, or all, and the map is the least closed map that is at least every measure in
--- these.
+-- The map is closed for the game, and was found in one round or more. If the links tell replies, by the even cut of the game among
+-- them, then each round took one reply of each link, while the link had one left and had failed three times at most, and the map
+-- is the least closed map that is at least every measure in these.
 pub record IsLeastOverTold {L : Type 0} (told : L → Option (List (List ℕ))) (links : List L) (game : List GameVertex)
     (map : MapValue) : Type 0 where
   pub closed : IsClosedMapOf game map
+  pub rounds : ℕ
+  pub some : 1 ≤ rounds
   pub least : (cut : CutValue) (replies : ℕ → List Reply) → IsEvenCut (length game) (length links) cut
-      → TellReplies told map.bounds cut links replies → IsLeastOverReplies (game_line game) 1 (length links) replies map
+      → TellReplies told map.bounds cut links replies → IsLeastOverReplies (game_line game) rounds (length links) replies map

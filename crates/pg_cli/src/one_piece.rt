@@ -30,7 +30,7 @@ impl Finder for InOnePiece {
 
     ghost closed = { λ _ game map m. record {
       bounds = m.bounds;
-      fits = record { size = m.size; fits = m.least.fits };
+      fits = m.least.map;
       closed = m.least.closed;
     } };
 }

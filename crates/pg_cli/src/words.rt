@@ -21,7 +21,7 @@ pub enum Line {
 
 const NAME: &str = "parsolve";
 
-const VERSION: &str = "0.1.0";
+const VERSION: &str = "0.1.0 (proved with rattle-kit-13f logic dac8208d650f15bf)";
 
 /// The option that says how many workers solve.
 const WORKERS: &str = "workers";

@@ -22,7 +22,7 @@ use Rattle.pg_command.specs.declared.fault.CliFault.TheVariants as cli
 pub least_closed : (game : List GameVertex) (map : MapValue) → IsMeasureOf game map → IsClosedMapOf game map
 least_closed game map m = record {
   bounds = m.bounds;
-  fits = record { size = m.size; fits = m.least.fits };
+  fits = m.least.map;
   closed = m.least.closed;
 }
 

@@ -1,4 +1,4 @@
--- The answers of `measure`, of `solve`, of `replay` and of `game` are functions of the input.
+-- The answers of `measure`, `solve`, `synth`, `replay` and `game` are functions of the input.
 use Rattle.std.proofs.Common.{◌≡◌, ◌⊎◌, ℕ, ◌<◌, ◌≤◌, List, length, Option, Some, None, refl, sym, ap, ap₂, subst, inl, inr, ◌∙◌, arith}
 use Rattle.std.specs.Prelude.{IsSome}
 use Rattle.std.proofs.lemmas.List.{same_lists, get_or_default}
@@ -18,6 +18,7 @@ use Rattle.pg_check.specs.Strategies.{HasList, IsChoiceFor, IsAnswerOf, IsSoluti
 use Rattle.pg_command.specs.Measuring.{IsMeasureOf, IsMeasured, measures_text}
 use Rattle.pg_command.specs.Solving.{IsSolvedBy, IsUndecidedIn}
 use Rattle.pg_command.specs.Making.{IsGameFor}
+use Rattle.pg_command.specs.Synthesising.{IsSynthesised}
 use Rattle.pg_command.specs.Laws.{OneAnswer}
 use Rattle.pg_command.proofs.OneWorld as world
 use Rattle.pg_hoa.specs.Automata.{Automaton}
@@ -32,10 +33,9 @@ module _ (one_bounds : OneListOfBounds) (least : ClosedIsLeast) where
   one_map game other f g same of of_other =
       let of' : IsMeasureOf game g = subst (λ (x : List GameVertex). IsMeasureOf x g) (sym same) of_other in
       let bounds : f.bounds ≡ g.bounds = one_bounds game f.bounds g.bounds of.bounds of'.bounds in
-      let is_least : IsLeastProgressMeasure f.bounds (game_line game) g.measures =
-      subst (λ (b : BoundList). IsLeastProgressMeasure b (game_line game) g.measures) (sym bounds) of'.least in
-      let measures : f.measures ≡ g.measures =
-      least.one f.bounds (game_line game) f.measures g.measures (of.size ∙ sym of'.size) of.least is_least in
+      let is_least : IsLeastProgressMeasure f.bounds (length game) (game_line game) g.measures =
+      subst (λ (b : BoundList). IsLeastProgressMeasure b (length game) (game_line game) g.measures) (sym bounds) of'.least in
+      let measures : f.measures ≡ g.measures = least.one f.bounds (game_line game) (length game) f.measures g.measures of.least is_least in
       ap₂ (λ (b : BoundList) (m : List MeasureValue). record { bounds = b; measures = m }) bounds measures
 
   pub one_measured : SpellsOneGame → (input first second : List ℕ) → IsMeasured IsMeasureOf input first → IsMeasured IsMeasureOf input second → first ≡ second
@@ -134,8 +134,10 @@ one_made reading input game other p q =
     synth.one_game p.automaton game other p.game_of
     (subst (λ (a : Automaton). IsGameOfAutomaton a other) same q.game_of)
 
-pub one_answer : SpellsOneGame → OneListOfBounds → ClosedIsLeast → OneReading → world.Laws → OneAnswer
-one_answer one_game one_bounds least reading laws = record {
+pub one_answer : SpellsOneGame → OneListOfBounds → ClosedIsLeast → OneReading → world.Laws
+    → ((input first second : List ℕ) → IsSynthesised IsMeasureOf input first → IsSynthesised IsMeasureOf input second → first ≡ second)
+    → OneAnswer
+one_answer one_game one_bounds least reading laws synthesised = record {
   measured = one_measured one_bounds least one_game;
   solved = λ input first second p q.
       let same : p.game ≡ q.game = one_game input q.game p.game q.spelt p.spelt in
@@ -151,6 +153,7 @@ one_answer one_game one_bounds least reading laws = record {
       let same : p.game ≡ q.game = one_game input q.game p.game q.spelt p.spelt in
       one_undecided_in one_bounds least p.game first second p.undecided
       (subst (λ (x : List GameVertex). IsUndecidedIn IsMeasureOf x second) (sym same) q.undecided);
+  synthesised = synthesised;
   replayed = world.one_replayed laws;
   unrefused = world.unrefused laws;
   stopped = world.one_stop laws;

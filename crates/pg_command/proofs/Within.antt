@@ -1,5 +1,5 @@
--- What `synth` answers is within its limits.
-use Rattle.std.proofs.Common.{◌≡◌, List, ℕ, subst, inl, inr}
+-- What `synth` answers is within its limits and, by least progress measures, one for an input.
+use Rattle.std.proofs.Common.{◌≡◌, List, ℕ, ◌++◌, subst, sym, ap₂, ◌∙◌, inl, inr}
 use Rattle.pg_arena.specs.declared.player.Player.{Player}
 use Rattle.pg_arena.specs.declared.player.Player.TheVariants.{Even}
 use Rattle.pg_arena.specs.Games.{GameVertex, IsWithinLimits}
@@ -9,15 +9,18 @@ use Rattle.pg_measure.specs.Laws.{OneListOfBounds}
 use Rattle.pg_map.specs.Laws.{ClosedIsLeast}
 use Rattle.pg_hoa.specs.Automata.{Automaton}
 use Rattle.pg_hoa.specs.Laws.{OneReading}
-use Rattle.pg_synth.specs.Machines.{Follows}
+use Rattle.pg_synth.specs.Machines.{Machine, Follows}
 use Rattle.pg_synth.specs.Laws.{OneMachine}
 use Rattle.pg_synth.proofs.OneGame.{one_game}
 use Rattle.pg_synth.specs.AutomatonGames.{IsGameOfAutomaton}
+use Rattle.pg_aiger.specs.Circuits.{Circuit}
 use Rattle.pg_aiger.specs.Machines as circuit
+use Rattle.pg_aiger.specs.CircuitLayout.{circuit_text}
+use Rattle.pg_aiger.specs.Laws.{OneCircuit}
 use Rattle.pg_command.specs.Measuring.{Finding, IsMeasureOf, IsClosedMapOf}
 use Rattle.pg_command.specs.Solving.{IsSolvedBy}
 use Rattle.pg_command.specs.Making.{IsTooLarge}
-use Rattle.pg_command.specs.Synthesising.{IsWonFor, IsRealized, IsSynthesised, HasLargeMachine}
+use Rattle.pg_command.specs.Synthesising.{realizable, IsWonFor, IsRealized, IsSynthesised, HasLargeMachine}
 use Rattle.pg_command.specs.Controllers.{AnswersWithinLimits}
 use Rattle.pg_command.proofs.One.{one_made, one_solved}
 use Rattle.pg_command.proofs.Realized.{one_player}
@@ -33,24 +36,51 @@ answered_within : OneReading → (Found : Finding) (input output : List ℕ) →
 answered_within reading Found input output (inl r) = won_within reading Found input Even r.realized.even
 answered_within reading Found input output (inr u) = won_within reading Found input _ u.odd
 
--- there is one machine that Even wins by, so it isn't too large where one has a circuit
+-- there is one machine that Even wins by, and so one circuit of it
 module _ (reading : OneReading) (one_bounds : OneListOfBounds) (least : ClosedIsLeast) (one_machine : OneMachine) where
-  realized_within : (input output : List ℕ) → IsRealized IsMeasureOf input output → ¬ HasLargeMachine IsMeasureOf input
-  realized_within input output r large =
-      let e = r.realized.even in
-      let l = large.even in
+  same_machine : (input : List ℕ) (e l : IsWonFor IsMeasureOf input Even) (machine other : Machine)
+      → Follows e.automaton e.game e.solution machine → Follows l.automaton l.game l.solution other → other ≡ machine
+  same_machine input e l machine other follows other_follows =
       let automaton : l.automaton ≡ e.automaton = (reading input).automaton l.automaton e.automaton l.spelt e.spelt in
       let of_other : IsGameOfAutomaton e.automaton l.game = subst (λ (a : Automaton). IsGameOfAutomaton a l.game) automaton l.won.game_of in
       let game : l.game ≡ e.game = one_game e.automaton l.game e.game of_other e.won.game_of in
       let solved : IsSolvedBy IsMeasureOf e.game l.solution = subst (λ (g : List GameVertex). IsSolvedBy IsMeasureOf g l.solution) game l.solved in
       let solution : l.solution ≡ e.solution = one_solved one_bounds least e.game l.solution e.solution solved e.solved in
-      let follows : Follows e.automaton e.game e.solution large.machine =
-      subst (λ (s : List Answer). Follows e.automaton e.game s large.machine) solution
-      (subst (λ (g : List GameVertex). Follows e.automaton g l.solution large.machine) game
-      (subst (λ (a : Automaton). Follows a l.game l.solution large.machine) automaton large.follows)) in
-      let machine : large.machine ≡ r.realized.machine =
-      one_machine e.automaton e.game e.initial e.solution r.realized.machine large.machine e.is_automaton e.won r.realized.follows follows in
-      r.realized.within (subst circuit.IsTooLarge machine large.over)
+      let moved : Follows e.automaton e.game e.solution other =
+      subst (λ (s : List Answer). Follows e.automaton e.game s other) solution
+      (subst (λ (g : List GameVertex). Follows e.automaton g l.solution other) game
+      (subst (λ (a : Automaton). Follows a l.game l.solution other) automaton other_follows)) in
+      one_machine e.automaton e.game e.initial e.solution machine other e.is_automaton e.won follows moved
+
+  -- so it isn't too large where it has a circuit
+  realized_within : (input output : List ℕ) → IsRealized IsMeasureOf input output → ¬ HasLargeMachine IsMeasureOf input
+  realized_within input output r large =
+      r.realized.within (subst circuit.IsTooLarge
+      (same_machine input r.realized.even large.even r.realized.machine large.machine r.realized.follows large.follows) large.over)
+
+  one_realized : OneCircuit → (input first second : List ℕ) → IsRealized IsMeasureOf input first → IsRealized IsMeasureOf input second
+      → first ≡ second
+  one_realized one_circuit input first second p q =
+      let e = p.realized.even in
+      let l = q.realized.even in
+      let automaton : l.automaton ≡ e.automaton = (reading input).automaton l.automaton e.automaton l.spelt e.spelt in
+      let machine : q.realized.machine ≡ p.realized.machine =
+      same_machine input e l p.realized.machine q.realized.machine p.realized.follows q.realized.follows in
+      let same : q.circuit ≡ p.circuit =
+      one_circuit p.realized.machine q.circuit p.circuit
+      (subst (λ (m : Machine). circuit.IsCircuitOf m q.circuit) machine q.realized.circuit_of) p.realized.circuit_of in
+      p.printed ∙ sym (ap₂ (λ (c : Circuit) (a : Automaton). realizable ++ circuit_text c a) same automaton) ∙ sym q.printed
+
+-- an input has one answer
+pub one_synthesised : OneReading → OneWinner → OneListOfBounds → ClosedIsLeast → OneMachine → OneCircuit → (input first second : List ℕ)
+    → IsSynthesised IsMeasureOf input first → IsSynthesised IsMeasureOf input second → first ≡ second
+one_synthesised reading one_winner one_bounds least one_machine one_circuit input first second (inl p) (inl q) =
+    one_realized reading one_bounds least one_machine one_circuit input first second p q
+one_synthesised reading one_winner one_bounds least one_machine one_circuit input first second (inl p) (inr q) =
+    absurd (one_player reading one_winner IsMeasureOf input p.realized.even q.odd)
+one_synthesised reading one_winner one_bounds least one_machine one_circuit input first second (inr p) (inl q) =
+    absurd (one_player reading one_winner IsMeasureOf input q.realized.even p.odd)
+one_synthesised reading one_winner one_bounds least one_machine one_circuit input first second (inr p) (inr q) = p.printed ∙ sym q.printed
 
 pub answers_within_limits : OneReading → OneWinner → OneListOfBounds → ClosedIsLeast → OneMachine → AnswersWithinLimits
 answers_within_limits reading one_winner one_bounds least one_machine = record {

@@ -1,5 +1,5 @@
 -- What the commands' answers say of who wins.
-use Rattle.std.proofs.Common.{◌≡◌, ℕ, zero, suc, ◌<◌, List, [], ◌∷◌, ◌++◌, length, map, get_or, arith, subst, refl, ◌∙◌}
+use Rattle.std.proofs.Common.{◌≡◌, ℕ, zero, suc, ◌<◌, List, [], ◌∷◌, ◌++◌, length, map, get_or, arith, subst, refl}
 use Rattle.std.specs.Prelude.{All, Contains, ◌^◌, codes}
 use Rattle.std.specs.List.{flat_map}
 use Rattle.std.proofs.lemmas.List.{get_or-map, length-map}
@@ -7,7 +7,7 @@ use Rattle.std.proofs.lemmas.List.Elements.{All-map, Contains-append_left, Conta
 use Rattle.std.proofs.lemmas.List.Sorted.{All-permutation}
 use Rattle.pg_arena.specs.Games.{GameVertex, IsGame, dual}
 use Rattle.pg_arena.specs.Lines.{Line, counted, line_of, lines_of}
-use Rattle.pg_arena.specs.Lemmas.Duals.{length_dual, game_dual}
+use Rattle.pg_arena.specs.Lemmas.Duals.{game_dual}
 use Rattle.pg_text.specs.Lexemes.{Lexeme, number, end, clause_lexemes, IsSpelt, Spells}
 use Rattle.pg_text.specs.GameText.{IsGameText, line_lexemes}
 use Rattle.pg_text.specs.SolutionLayout.{solution_text}
@@ -23,13 +23,13 @@ use Rattle.pg_command.specs.Winners.{MeasuresTellWinners, NoneUndecided, GamesHa
 pub measures_tell_winners : LeastTellsWinners → MeasuresTellWinners
 measures_tell_winners tells input output measured =
     let m = measured.found in
-    tells measured.game measured.map measured.spelt.game_of.well m.bounds m.size m.least
+    tells measured.game measured.map measured.spelt.game_of.well m.bounds m.least
 
 -- the measures of a game and of its dual leave no vertex undecided
 none_at : NeverUndecided → (game : List GameVertex) (even odd : MapValue) → IsGame game → IsMeasureOf game even → IsMeasureOf (dual game) odd
     → (v : ℕ) → IsUndecided game even odd v → ⊥
 none_at never game even odd is_game e o v undecided =
-    never game even odd is_game e.bounds o.bounds e.size (o.size ∙ length_dual game) e.least o.least v undecided
+    never game even odd is_game e.bounds o.bounds e.least o.least v undecided
 
 pub none_in : NeverUndecided → (game : List GameVertex) → IsGame game → (id : ℕ) → ¬ IsUndecidedIn IsMeasureOf game id
 none_in never game is_game id u =
@@ -45,7 +45,7 @@ measure_of : HasBounds → GameLines → HasLeastProgressMeasure → (game : Lis
 measure_of bounded lines least game is_game =
     let bounds = bounded game in
     let found = least bounds.0 _ (length game) (lines game is_game).0 in
-    (record { bounds = bounds.0; measures = found.0 }, record { bounds = bounds.1; size = found.1; least = found.2 })
+    (record { bounds = bounds.0; measures = found.0 }, record { bounds = bounds.1; least = found.1 })
 
 -- a number that is spelt has 32 bits
 

@@ -9,6 +9,7 @@ use Rattle.pg_check.specs.Soundness.{IsSound, Wins}
 use Rattle.pg_world.specs.declared.fault.WorldFault.{WorldFault}
 use Rattle.pg_command.specs.Measuring.{IsMeasured, IsMeasureOf, IsClosedMapOf}
 use Rattle.pg_command.specs.Solving.{IsSolved, IsUndecidedAt}
+use Rattle.pg_command.specs.Synthesising.{IsSynthesised}
 use Rattle.pg_command.specs.Replaying.{IsReplayed, IsStopped}
 use Rattle.pg_command.specs.Making.{IsMade, IsTooLarge}
 use Rattle.pg_command.specs.Answers.{PrintsBy}
@@ -36,8 +37,8 @@ LeastIsClosed =
     → PrintsBy IsClosedMapOf command input output
 
 -- By least progress measures the output is a function of the input: `measure` has one answer to an input, and so have `solve`,
--- `replay` and `game`; where `solve` has one it isn't undecided, and where it is it names one vertex; where `replay` has one no
--- event is refused, and where one is it is at one place and for one fault; where `game` has one it isn't too large.
+-- `synth`, `replay` and `game`; where `solve` has one it isn't undecided, and where it is it names one vertex; where `replay` has
+-- one no event is refused, and where one is it is at one place and for one fault; where `game` has one it isn't too large.
 pub record OneAnswer : Type 0 where
   pub measured : (input first second : List ℕ) → IsMeasured IsMeasureOf input first → IsMeasured IsMeasureOf input second
       → first ≡ second
@@ -46,6 +47,8 @@ pub record OneAnswer : Type 0 where
   pub decided : (input output : List ℕ) (id : ℕ) → IsSolved IsMeasureOf input output → ¬ IsUndecidedAt IsMeasureOf input id
   pub undecided : (input : List ℕ) (first second : ℕ) → IsUndecidedAt IsMeasureOf input first
       → IsUndecidedAt IsMeasureOf input second → first ≡ second
+  pub synthesised : (input first second : List ℕ) → IsSynthesised IsMeasureOf input first
+      → IsSynthesised IsMeasureOf input second → first ≡ second
   pub replayed : (input first second : List ℕ) → IsReplayed input first → IsReplayed input second → first ≡ second
   pub unrefused : (input output : List ℕ) (place : ℕ) (fault : WorldFault)
       → IsReplayed input output → ¬ IsStopped input place fault

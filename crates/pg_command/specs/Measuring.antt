@@ -35,8 +35,7 @@ pub record IsClosedMapOf (game : List GameVertex) (map : MapValue) : Type 0 wher
 -- the map is the least progress measure of the game, over the game's bounds
 pub record IsMeasureOf (game : List GameVertex) (map : MapValue) : Type 0 where
   pub bounds : IsBoundsOf game map.bounds
-  pub size : length map.measures ≡ length game
-  pub least : IsLeastProgressMeasure map.bounds (game_line game) map.measures
+  pub least : IsLeastProgressMeasure map.bounds (length game) (game_line game) map.measures
 
 -- which maps may be found of a game: the least progress measure alone, or each closed map
 abbrev pub Finding : Type 1

@@ -63,6 +63,7 @@ fn checked(alloc: Global, text: &[u8]) -> Result<(Game, Verdict), CliFault>
     ensures found { IfOk result (λ x. IsCheckedBy text.now x.0 x.1) }
     ensures within { IfOk result (λ x. IsWithin x.0 x.1) }
     ensures refused { IfErr result (RefusesBy NoMap Check text.now) }
+    ensures unread { result ≢ Err CliFault.Read }
     ensures unwritten { result ≢ Err CliFault.Write }
 {
     match part(text) {
@@ -82,6 +83,7 @@ pub(crate) fn check<W: Write>(alloc: Global, text: Vec<u8>, writer: &mut W) -> R
     ensures answer { OnOk result ((output : List ℕ) × PrintsBy NoMap Check text.items output
         × Appends (W.contents writer.old) (W.contents writer.new) output) }
     ensures refused { IfErr result (RefusesBy NoMap Check text.items) }
+    ensures unread { result ≢ Err CliFault.Read }
     ensures untouched { IfErr result (λ fault. fault ≢ CliFault.Write → writer.new ≡ writer.old) }
 {
     let (game, verdict) = checked(alloc, &text)?;

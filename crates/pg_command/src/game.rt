@@ -23,6 +23,7 @@ fn made(alloc: Global, text: Vec<u8>) -> Result<Game, CliFault>
     ensures found { IfOk result (IsGameFor text.items) }
     ensures limits { IfOk result IsWithinLimits }
     ensures refused { IfErr result (RefusesBy NoMap command.Game text.items) }
+    ensures unread { result ≢ Err CliFault.Read }
     ensures unwritten { result ≢ Err CliFault.Write }
 {
     let automaton = read_automaton(alloc, &text)?;
@@ -37,6 +38,7 @@ pub(crate) fn game<W: Write>(alloc: Global, text: Vec<u8>, writer: &mut W) -> Re
     ensures answer { OnOk result ((output : List ℕ) × PrintsBy NoMap command.Game text.items output
         × Appends (W.contents writer.old) (W.contents writer.new) output) }
     ensures refused { IfErr result (RefusesBy NoMap command.Game text.items) }
+    ensures unread { result ≢ Err CliFault.Read }
     ensures untouched { IfErr result (λ fault. fault ≢ CliFault.Write → writer.new ≡ writer.old) }
 {
     let game = made(alloc, text)?;

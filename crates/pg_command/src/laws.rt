@@ -27,9 +27,9 @@ pub fn least_is_closed()
     ensures { LeastIsClosed }
 {}
 
-/// By least progress measures `measure` has one answer to an input, and so have `solve`, `replay` and `game`; where `solve` has
-/// one it isn't undecided; where `replay` has one no event is refused, and where one is it is at one place and for one fault;
-/// where `game` has one it isn't too large. So what these four write is a function of what they read.
+/// By least progress measures `measure` has one answer to an input, and so have `solve`, `synth`, `replay` and `game`; where
+/// `solve` has one it isn't undecided; where `replay` has one no event is refused, and where one is it is at one place and for
+/// one fault; where `game` has one it isn't too large. So what these five write is a function of what they read.
 pub fn one_answer()
     ensures { OneAnswer }
 {
@@ -40,6 +40,9 @@ pub fn one_answer()
     pg_world::laws::same_taken();
     pg_measure::laws::order_is_total();
     pg_hoa::laws::one_reading();
+    pg_check::laws::one_winner();
+    pg_synth::laws::one_machine();
+    pg_aiger::laws::one_circuit();
 }
 
 /// An endless word traces one play of the game of an automaton, and the automaton accepts it exactly if Even wins that play.

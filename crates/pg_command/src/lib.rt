@@ -24,4 +24,4 @@ pub use command::Command;
 pub use fault::{CliFault, exit_code, write_fault};
 pub use finder::{Finder, Maps};
 pub use input::MOST_BYTES;
-pub use program::run_by;
+pub use program::{answer, run_by};

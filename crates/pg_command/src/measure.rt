@@ -42,6 +42,7 @@ fn measured<F: Finder>(
     ensures measured { IfOk result (λ x. F.measures finder.old x.0 x.1) }
     ensures refused { (workers : ℕ)
         → IfErr result (RefusesBy (F.finds finder.old) (Measure workers) text.items) }
+    ensures unread { result ≢ Err CliFault.Read }
     ensures unwritten { result ≢ Err CliFault.Write }
 {
     let game = read_game(alloc, &text)?;
@@ -66,6 +67,7 @@ pub(crate) fn measure<F: Finder, W: Write>(
         × Appends (W.contents writer.old) (W.contents writer.new) output) }
     ensures refused { (workers : ℕ)
         → IfErr result (RefusesBy (F.finds finder.old) (Measure workers) text.items) }
+    ensures unread { result ≢ Err CliFault.Read }
     ensures untouched { IfErr result (λ fault. fault ≢ CliFault.Write → writer.new ≡ writer.old) }
 {
     let (game, map) = measured(alloc, text, finder)?;

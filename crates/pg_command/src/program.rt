@@ -20,8 +20,9 @@ use crate::synth::synth;
 use std::alloc::Global;
 use std::io::{Read, Write};
 
-/// Writes the answer to a text. Games are solved by the finder.
-fn answer<F: Finder, W: Write>(
+/// Writes the answer to a text, and nothing else: what `run_by` does once it has read its input. Refuses what `run_by` does
+/// from `NoSeparator` on, in the same order; never `Read` and never `InputTooLong`.
+pub fn answer<F: Finder, W: Write>(
     alloc: Global,
     command: Command,
     text: Vec<u8>,
@@ -35,6 +36,7 @@ fn answer<F: Finder, W: Write>(
         → OnOk result ((output : List ℕ) × IsMeasured (F.measures finder.old) text.items output
         × Appends (W.contents writer.old) (W.contents writer.new) output) }
     ensures refused { IfErr result (RefusesBy (F.finds finder.old) command text.items) }
+    ensures unread { result ≢ Err CliFault.Read }
     ensures untouched { IfErr result (λ fault. fault ≢ CliFault.Write → writer.new ≡ writer.old) }
     ensures unused { IsNone (workers_of command) → finder.new ≡ finder.old }
 {

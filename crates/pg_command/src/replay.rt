@@ -27,6 +27,7 @@ fn scripted(alloc: Global, text: &[u8]) -> Result<(Game, Script), CliFault>
     ensures found { IfOk result (λ x. (first : List ℕ) × (second : List ℕ) × IsParted text.now first second
         × IsGameText first x.0 × IsScriptText second x.0 x.1.cut x.1.events.items) }
     ensures refused { IfErr result (RefusesBy NoMap Replay text.now) }
+    ensures unread { result ≢ Err CliFault.Read }
     ensures unwritten { result ≢ Err CliFault.Write }
 {
     match part(text) {
@@ -46,6 +47,7 @@ fn replayed(alloc: Global, text: Vec<u8>) -> Result<World, CliFault>
     ensures maps { IfOk result (λ w. (maps : List (List MeasureValue)) × AreMapsOf w maps) }
     ensures vertices { IfOk result (λ w. All (λ u. u.vertex < length w.game) w.updates) }
     ensures refused { IfErr result (RefusesBy NoMap Replay text.items) }
+    ensures unread { result ≢ Err CliFault.Read }
     ensures unwritten { result ≢ Err CliFault.Write }
 {
     let (game, script) = scripted(alloc, &text)?;
@@ -65,6 +67,7 @@ pub(crate) fn replay<W: Write>(alloc: Global, text: Vec<u8>, writer: &mut W) -> 
     ensures answer { OnOk result ((output : List ℕ) × PrintsBy NoMap Replay text.items output
         × Appends (W.contents writer.old) (W.contents writer.new) output) }
     ensures refused { IfErr result (RefusesBy NoMap Replay text.items) }
+    ensures unread { result ≢ Err CliFault.Read }
     ensures untouched { IfErr result (λ fault. fault ≢ CliFault.Write → writer.new ≡ writer.old) }
 {
     let world = replayed(alloc, text)?;

@@ -31,6 +31,7 @@ fn solved<F: Finder>(
     ensures identifiers { IfOk result (λ x. All (λ y. y.identifier < 2 ^ 32) x.0) }
     ensures refused { (workers : ℕ)
         → IfErr result (RefusesBy (F.finds finder.old) (Solve workers) text.items) }
+    ensures unread { result ≢ Err CliFault.Read }
     ensures unwritten { result ≢ Err CliFault.Write }
 {
     let game = read_game(alloc, &text)?;
@@ -54,6 +55,7 @@ pub(crate) fn solve<F: Finder, W: Write>(
         × Appends (W.contents writer.old) (W.contents writer.new) output) }
     ensures refused { (workers : ℕ)
         → IfErr result (RefusesBy (F.finds finder.old) (Solve workers) text.items) }
+    ensures unread { result ≢ Err CliFault.Read }
     ensures untouched { IfErr result (λ fault. fault ≢ CliFault.Write → writer.new ≡ writer.old) }
 {
     let (game, solution) = solved(alloc, text, finder)?;

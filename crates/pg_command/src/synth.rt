@@ -27,6 +27,7 @@ fn synthesised<F: Finder>(
     ensures circuit { IfOk result (λ x. IsOutcome (F.finds finder.old) text.items x.0 x.1) }
     ensures refused { (workers : ℕ)
         → IfErr result (RefusesBy (F.finds finder.old) (Synth workers) text.items) }
+    ensures unread { result ≢ Err CliFault.Read }
     ensures unwritten { result ≢ Err CliFault.Write }
 {
     let automaton = read_automaton(alloc, &text)?;
@@ -58,6 +59,7 @@ pub(crate) fn synth<F: Finder, W: Write>(
         × Appends (W.contents writer.old) (W.contents writer.new) output) }
     ensures refused { (workers : ℕ)
         → IfErr result (RefusesBy (F.finds finder.old) (Synth workers) text.items) }
+    ensures unread { result ≢ Err CliFault.Read }
     ensures untouched { IfErr result (λ fault. fault ≢ CliFault.Write → writer.new ≡ writer.old) }
 {
     let (automaton, circuit) = synthesised(alloc, text, finder)?;

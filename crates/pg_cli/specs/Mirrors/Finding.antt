@@ -26,5 +26,4 @@ IsOutcomeIf are_honest game (Stopped map) = IsUnderIf are_honest game map
 -- the map is the least closed map of the game that is at least another one
 pub record IsLeastFrom (game : List GameVertex) (from map : MapValue) : Type 0 where
   pub bounds : map.bounds ≡ from.bounds
-  pub size : length map.measures ≡ length game
   pub least : IsLeastClosedFrom from.bounds (game_line game) from.measures map.measures

@@ -8,4 +8,4 @@ returns-in-Stopped g c =
     let honest = All g.L.Link.is_honest c.args.links.now in
     let game = c.args.game.now in
     map_found honest game c.in-Stopped.map c.measure_from.result (subst (IsOutcomeIf honest game) c.in-Stopped.is c.in_ok-solved.ensures.outcome)
-    c.measure_from.ensures.bounds c.measure_from.ensures.size c.measure_from.ensures.least
+    c.measure_from.ensures.bounds c.measure_from.ensures.least
