@@ -198,22 +198,25 @@ def refuser(folder):
     return path
 
 
-def survives_want_of_memory(program, args, text, wanted):
+def survives_want_of_memory(program, name, args, text, wanted):
     """The N-th growth is refused, N rising until a run meets no refusal: each earlier run ends with status 1, no output
-    and `out of memory`, or (where it could do without) with the right answer."""
+    and `out of memory`, or, where it could do without, with the right answer. Tells how many could, and without which growths.
+    """
+    spared = []
     with tempfile.TemporaryDirectory() as folder:
         preload = refuser(folder)
         for n in range(1, 10_000):
-            met = os.path.join(folder, "met")
-            if os.path.exists(met):
-                os.remove(met)
+            met = os.path.join(folder, f"met-{n}")
             ran = subprocess.run([program, *args], input=text, capture_output=True, timeout=60,
                                  env={**os.environ, "LD_PRELOAD": preload, "REFUSE_AT": str(n), "REFUSE_MET": met})
             if ran.returncode == 0 and ran.stdout == wanted:
                 if not os.path.exists(met):
+                    print(f"{name}: {n - 1} growths refused in turn, {len(spared)} of them done without"
+                          + f": {', '.join(spared)}" * bool(spared))
                     return None if n > 1 else "no growth was refused"
-                continue
-            if (ran.returncode, ran.stdout, ran.stderr) != (1, b"", b"parsolve: out of memory\n"):
+                with open(met) as file:
+                    spared.append(f"number {n} of {' and '.join(file.read().split())} bytes")
+            elif (ran.returncode, ran.stdout, ran.stderr) != (1, b"", b"parsolve: out of memory\n"):
                 return f"growth {n} refused: status {ran.returncode}, {ran.stdout!r}, {ran.stderr!r}"
     return "no run met no refusal"
 
@@ -328,28 +331,29 @@ def cases(programs):
             yield (f"the example in {' '.join([*words, '--help'])} ({name})",
                    lambda p=program, w=words: example_in_help(p, w))
     yield "circuits of the examples", lambda: circuits_are_read(programs[0])
-    # 5,000 vertices of Even's, with these in a row and the others alone; from the last of the row Even wins, and one in 40 of those
-    # before it has priority 1: so a measure is how many of these are ahead. Two workers share the game where the row is short,
-    # half of it of each of them; where all vertices may rise it is solved in one piece
-    shared, whole = range(2000, 3000), range(5000)
-    rows = {it: "".join(f"{v} {int(v in it[:-1] and v % 40 == 39)} 0 {min(v + 1, it[-1]) if v in it else v};\n"
-                        for v in range(5000)).encode() for it in (shared, whole)}
-    counts = {it: b"".join(b"%d %d;\n" % (v, len(range(v + (39 - v) % 40, it[-1], 40)) if v in it else 0)
-                           for v in range(5000)) for it in (shared, whole)}
+    # vertices of Even's in a row; Even wins from the last one, and one in 40 of those before it has priority 1: so a measure is how
+    # many of these are ahead. Two workers share the game of 250 vertices, half of it each; that of 5,000 is solved in one piece
+    rows = {count: "".join(f"{v} {int(v % 40 == 39 and v < count - 1)} 0 {min(v + 1, count - 1)};\n"
+                           for v in range(count)).encode() for count in (250, 5000)}
+    counts = {count: b"".join(b"%d %d;\n" % (v, len(range(v + (39 - v) % 40, count - 1, 40))) for v in range(count))
+              for count in rows}
     # the program as LLVM builds it takes its memory by malloc and realloc alone
-    for command, text, wanted in (("measure", game, b"0 1,1;\n1 1,0;\n2 0,0;\n"), ("solve", three, solution),
-                                  ("measure", rows[shared], counts[shared]), ("measure", rows[whole], counts[whole]),
-                                  ("check", three + b"--\n" + solution, b"WINS\n"), ("replay", odd + script, world),
-                                  ("game", automaton, automaton_game), ("synth", delay, circuit)):
-        name = f"want of memory in {command}" + " by two workers" * (text == rows[shared]) + " of a long row" * (text == rows[whole])
-        yield name, lambda c=command, t=text, w=wanted: survives_want_of_memory(programs[0], [c], t, w)
+    for what, text, wanted in (("measure", game, b"0 1,1;\n1 1,0;\n2 0,0;\n"), ("solve", three, solution),
+                               ("measure of a row by two workers", rows[250], counts[250]),
+                               ("measure of a long row", rows[5000], counts[5000]),
+                               ("check", three + b"--\n" + solution, b"WINS\n"), ("replay", odd + script, world),
+                               ("game", automaton, automaton_game), ("synth", delay, circuit)):
+        name = f"want of memory in {what}"
+        yield name, lambda it=name, c=what.split()[0], t=text, w=wanted: survives_want_of_memory(programs[0], it, [c], t, w)
     # a game that takes some 60,000 plain lifts, and of which jumps are made in the game and in its dual
     hard = hard_game(random.Random(167), 60)
     for command in ("measure", "solve"):
-        yield f"want of memory in {command} of a hard game", lambda c=command: survives_want_of_memory(
-            programs[0], [c], naive.game_text(hard).encode(), climbed_text(c, hard, most=200_000).encode())
+        name = f"want of memory in {command} of a hard game"
+        yield name, lambda it=name, c=command: survives_want_of_memory(
+            programs[0], it, [c], naive.game_text(hard).encode(), climbed_text(c, hard, most=200_000).encode())
     apart = ["measure", "--workers", "1", "--apart", "/proc/self/exe"]
-    yield "want of memory with --apart", lambda: survives_want_of_memory(programs[0], apart, game, b"0 1,1;\n1 1,0;\n2 0,0;\n")
+    name = "want of memory with --apart"
+    yield name, lambda: survives_want_of_memory(programs[0], name, apart, game, b"0 1,1;\n1 1,0;\n2 0,0;\n")
 
 
 def run(programs):

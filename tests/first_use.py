@@ -164,7 +164,7 @@ def no_toolchain(copy):
         (copy.kit / name).symlink_to(shutil.which(name))
     (copy.kit / "python3").symlink_to(sys.executable)
     status, output, errors, _ = copy.use(PATH=str(copy.kit))
-    return (status, output) == (1, "") and "rt isn't on the path" in errors
+    return (status, output) == (1, "") and all(it in errors for it in ("rt isn't on the path", "Rattle kit", "rt version"))
 
 
 def run():

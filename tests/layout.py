@@ -8,8 +8,8 @@ Whoever wants to believe what is proved reads the believed modules: the files of
 - docs/map.md lists each believed module once, with the number of its lines, and the public calls whose contracts name a
   mirror all the same;
 - each name of docs/definitions.md is defined in the file that stands beside it;
-- each call and law that the README and docs/promises.md name is there, and so is each clause, definition and must-fail
-  edit of the latter.
+- each call and law that the README and the pages of docs/ name is there, and so is each clause, definition and must-fail
+  edit of docs/promises.md.
 
     tests/layout.py            prints what it finds; the status is 1 if something is wrong
     tests/layout.py --write    first mends both documents as far as that needs no words: numbers of lines, files that are
@@ -156,8 +156,8 @@ def exceptions():
 
 
 def calls():
-    """The same for each call, type and law of the README and of docs/promises.md, as `pg_check::laws::one_winner`."""
-    for document in (README, PROMISES):
+    """The same for each call, type and law that a page names, as `pg_check::laws::one_winner`."""
+    for document in (README, *sorted((TOP / "docs").glob("*.md"))):
         for crate, name in re.findall(r"`(pg_\w+)::(?:\w+::)*(\w+)`", document.read_text()):
             item = re.compile(rf"(?:\bpub (?:fn|struct|trait|mod)|^    fn) {name}\b", re.M)
             is_there = any(item.search(path.read_text()) for path in (CRATES / crate / "src").rglob("*.rt"))

@@ -1,4 +1,9 @@
-"""Runs programs over the rows of rows/*.toml. A row has
+#!/usr/bin/env python3
+"""Runs programs over the rows of rows/*.toml.
+
+    tests/rows.py [PROGRAM..]    prints which rows fail; the status is 1 if one does
+
+A row has
 
     name       what it shows
     args       the words after the program's name; {program} stands for the program's own path
@@ -23,6 +28,7 @@ A table has many inputs of one answer, each of which is a row:
 import glob
 import os
 import subprocess
+import sys
 import tomllib
 
 top = os.path.dirname(os.path.dirname(os.path.abspath(__file__)))
@@ -109,3 +115,7 @@ def run(programs):
                     print(f"{os.path.basename(path)}: {row['name']} ({os.path.basename(program)}): {why}")
     print(f"rows: {passed} passed, {failed} failed")
     return passed, failed
+
+
+if __name__ == "__main__":
+    sys.exit(1 if run(sys.argv[1:] or [os.path.join(top, "crates/parsolve/out/parsolve")])[1] else 0)

@@ -1,0 +1,119 @@
+#!/usr/bin/env python3
+"""Makes printed circuits small with yosys and ABC, as docs/commands.md shows, and checks that each small circuit does the same.
+
+ABC compares the two circuits, and a plain reader runs both on random inputs; ABC also has to tell a circuit apart in which an
+output is negated. Where yosys or ABC isn't installed nothing is checked.
+
+    tests/circuits.py [PROGRAM]    prints what it finds; the status is 1 if something is wrong
+"""
+import pathlib
+import random
+import shutil
+import subprocess
+import sys
+import tempfile
+
+import controllers
+
+TOP = pathlib.Path(__file__).resolve().parent.parent
+TOOLS = ["yosys", "berkeley-abc"]
+EXAMPLES = ["arbiter", "request-grant", "owl-arbiter", "delay"]
+STEPS = 500
+
+
+def printed(program, name):
+    """The circuit that is printed for an example, as text."""
+    ran = subprocess.run([program, "synth"], stdin=open(TOP / f"examples/{name}.hoa", "rb"), capture_output=True, text=True, timeout=120)
+    line, _, circuit = ran.stdout.partition("\n")
+    if line != "REALIZABLE":
+        raise ValueError(f"synth printed {line!r} {ran.stderr!r}")
+    return circuit
+
+
+def call(folder, *words):
+    """What a tool prints; a fault of it is raised."""
+    ran = subprocess.run(words, cwd=folder, stdout=subprocess.PIPE, stderr=subprocess.STDOUT, text=True, timeout=120)
+    if ran.returncode != 0:
+        raise ValueError(f"{' '.join(words)}: {ran.stdout!r}")
+    return ran.stdout
+
+
+def make_small(folder):
+    """From printed.aag makes printed.aig, and small.aig and small.aag, which are small."""
+    call(folder, "yosys", "-q", "-p", "read_aiger printed.aag; write_aiger -symbols printed.aig")
+    call(folder, "berkeley-abc", "-q", "read printed.aig; strash; scorr; dc2; dc2; write_aiger -s small.aig")
+    call(folder, "yosys", "-q", "-p", "read_aiger small.aig; simplemap; write_aiger -ascii -symbols small.aag")
+
+
+def is_equivalent(folder, name, latches):
+    """Whether ABC says that a circuit does what the printed one does, which has so many latches; `dsec` wants one at least."""
+    command = "dsec" if latches else "cec"
+    return "Networks are equivalent" in call(folder, "berkeley-abc", "-q", f"{command} printed.aig {name}")
+
+
+def names(circuit, kind):
+    """The names of the inputs (`i`) or outputs (`o`), in their order."""
+    symbols = circuit.symbols[:circuit.symbols.index("c")] if "c" in circuit.symbols else circuit.symbols
+    return [line.partition(" ")[2] for line in symbols if line.startswith(kind)]
+
+
+def run_of(circuit, words):
+    """The outputs by name in each step, for inputs by name in each step."""
+    bits, found = 0, []
+    for word in words:
+        letter = sum(word[name] << place for place, name in enumerate(names(circuit, "i")))
+        outputs, bits = circuit.step(bits, letter)
+        found.append({name: outputs >> place & 1 for place, name in enumerate(names(circuit, "o"))})
+    return found
+
+
+def negated(text):
+    """The circuit with its first output negated."""
+    lines = text.split("\n")
+    place = 1 + sum(map(int, lines[0].split()[2:4]))
+    lines[place] = str(int(lines[place]) ^ 1)
+    return "\n".join(lines)
+
+
+def why_wrong(program, name):
+    """Why the small circuit of an example isn't what it has to be, or None."""
+    with tempfile.TemporaryDirectory() as made:
+        folder, text = pathlib.Path(made), printed(program, name)
+        (folder / "printed.aag").write_text(text)
+        make_small(folder)
+        first, second = controllers.Circuit(text), controllers.Circuit((folder / "small.aag").read_text())
+        if not is_equivalent(folder, "small.aig", len(first.latches)):
+            return "ABC says that it does something else"
+        dice = random.Random(1)
+        words = [{it: dice.randint(0, 1) for it in names(first, "i")} for _ in range(STEPS)]
+        if run_of(first, words) != run_of(second, words):
+            return "it answers otherwise to some inputs"
+        if len(second.gates) > len(first.gates):
+            return f"it has {len(second.gates)} gates, the printed one {len(first.gates)}"
+        (folder / "other.aag").write_text(negated(text))
+        call(folder, "yosys", "-q", "-p", "read_aiger other.aag; write_aiger -symbols other.aig")
+        return "ABC doesn't tell another circuit apart" if is_equivalent(folder, "other.aig", len(first.latches)) else None
+
+
+def run(program):
+    """Makes every check; answers how many passed and failed."""
+    missing = [it for it in TOOLS if shutil.which(it) is None]
+    if missing:
+        print(f"circuits: {' and '.join(missing)} isn't installed, so no circuit is made small")
+        return 0, 0
+    passed = failed = 0
+    sys.setrecursionlimit(100_000)  # the plain reader goes down a chain of gates
+    for name in EXAMPLES:
+        try:
+            why = why_wrong(program, name)
+        except ValueError as fault:
+            why = str(fault)
+        passed, failed = passed + (why is None), failed + (why is not None)
+        if why is not None:
+            print(f"circuits: {name}: {why}")
+    print(f"circuits: {passed} passed, {failed} failed")
+    return passed, failed
+
+
+if __name__ == "__main__":
+    sys.exit(1 if run(sys.argv[1] if len(sys.argv) > 1 else str(TOP / "crates/parsolve/out/parsolve"))[1] else 0)

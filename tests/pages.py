@@ -1,0 +1,89 @@
+#!/usr/bin/env python3
+"""Checks the pages: links and paths lead to files, lines are short, no decision is long, and code that is shown is that of the
+sources; that the examples which scripts make are what these print;
+and that the README names the kit that `--version` says.
+
+    tests/pages.py    prints what it finds; the status is 1 if something is wrong
+"""
+import pathlib
+import re
+import subprocess
+import sys
+
+TOP = pathlib.Path(__file__).resolve().parent.parent
+PAGES = [*sorted(TOP.glob("*.md")), *sorted(TOP.glob("docs/*.md")), TOP / "examples/README.md"]
+FOLDERS = "docs|tests|examples|tools|bench|rows|share"
+LONGEST_LINE, MOST_WORDS = 160, 80
+MADE = {"mutex.pg": "make_mutex.py", "grid.pg": "make_grid.py", "arbiter.hoa": "make_arbiter.py"}
+
+
+def shown(path):
+    return str(path.relative_to(TOP))
+
+
+def links():
+    """(what is checked, what is wrong with it or None) for each link of a page to a file, and each path in its text."""
+    for page in PAGES:
+        text = page.read_text()
+        for target in sorted(set(re.findall(r"\]\(([^)#:]+)(?:#[^)]*)?\)", text))):
+            yield f"{shown(page)}: {target}", None if (page.parent / target).exists() else "a link that leads nowhere"
+        for path in sorted(set(re.findall(rf"(?<![\w/.-])(?:{FOLDERS})/[\w./-]*\w", text))):
+            yield f"{shown(page)}: {path}", None if (TOP / path).exists() else "there is no such file"
+
+
+def lines():
+    """The same for the lines of each page; a row of a table is one line, however long."""
+    for page in PAGES:
+        long = [number for number, line in enumerate(page.read_text().splitlines(), 1)
+                if len(line) > LONGEST_LINE and not line.startswith("| ")]
+        yield f"{shown(page)}: lines", f"over {LONGEST_LINE} columns: {long}" if long else None
+
+
+def decisions():
+    """The same for each row of docs/DECISIONS.md."""
+    for row in re.findall(r"^\| .*", (TOP / "docs/DECISIONS.md").read_text(), re.M):
+        words = len(row.replace("|", " ").split())
+        yield f"docs/DECISIONS.md: {row[2:60]}..", f"{words} words, over {MOST_WORDS}" if words > MOST_WORDS else None
+
+
+def shown_code():
+    """The same for the function that docs/first_change.md changes, and the edit that it mends: both are as the page has them."""
+    text = (TOP / "docs/first_change.md").read_text()
+    function = re.search(r"^    pub fn (?:.*\n)*?    }\n", text, re.M)[0]
+    source = (TOP / "crates/pg_arena/src/player.rt").read_text()
+    yield "docs/first_change.md: the function", None if function in source else "isn't what the source has"
+    edit = TOP / "crates/pg_arena/must-fail" / re.search(r"`(\w+\.edit)`", text)[1]
+    is_there = edit.is_file() and edit.read_text().splitlines()[1].removeprefix("old: ") in function
+    yield f"docs/first_change.md: {edit.name}", None if is_there else "doesn't change a line of the function"
+
+
+def examples():
+    """The same for each example that a script makes."""
+    for name, script in MADE.items():
+        printed = subprocess.run([sys.executable, TOP / "examples" / script], capture_output=True, text=True, timeout=60).stdout
+        yield f"examples/{name}", None if printed == (TOP / "examples" / name).read_text() else f"isn't what {script} prints"
+
+
+def kit():
+    """The same for the kit that the README names: `--version` says the same one."""
+    said = re.search(r'^const VERSION: &str = ".*?with (.*)\)";$', (TOP / "crates/pg_cli/src/words.rt").read_text(), re.M)
+    is_named = said and f"Proved with `{said[1]}`" in (TOP / "README.md").read_text()
+    yield "README.md: the kit", None if is_named else "isn't the one that --version says"
+
+
+def run():
+    """Makes every check; answers how many passed and failed."""
+    passed = failed = 0
+    for part in (links, lines, decisions, shown_code, examples, kit):
+        for what, why in part():
+            if why is None:
+                passed += 1
+            else:
+                failed += 1
+                print(f"{what}: {why}")
+    print(f"pages: {passed} passed, {failed} failed")
+    return passed, failed
+
+
+if __name__ == "__main__":
+    sys.exit(1 if run()[1] else 0)
