@@ -1,5 +1,6 @@
 -- One more line: what it does to the parts, and which reason there is against it.
-use Rattle.std.proofs.Common.{◌≡◌, ℕ, zero, suc, append-nil, ◌+◌, ◌-◌, ◌≤◌, ◌<◌, Bool, true, false, eqb, cond, List, [], ◌∷◌, ◌++◌, length, take, drop, map, get_or, replicate, Option, Some, None, refl, sym, ap, subst, ◌∙◌, arith, inl, inr, All, Bor}
+use Rattle.std.proofs.Common.{◌≡◌, ℕ, zero, suc, append-nil, ◌+◌, ◌-◌, ◌≤◌, ◌<◌, Bool, true, false, eqb, cond, List, [], ◌∷◌, ◌++◌, length}
+use Rattle.std.proofs.Common.{take, drop, map, get_or, replicate, Option, Some, None, refl, sym, ap, subst, ◌∙◌, arith, inl, inr, All, Bor}
 use Rattle.std.proofs.lemmas.Bool.Decides.{nat_tests}
 use Rattle.std.specs.Prelude.{slice_range, slice_get, option_map, option_to_list, option_copied, is_some, IsSome, IfSome, Result, Ok, Err, OnErr, ◌||◌}
 use Rattle.std.specs.List.{list_any, flat_map, IsDistinct}
@@ -9,7 +10,8 @@ use Rattle.std.specs.declared.alloc.Global.{Global}
 use Rattle.std.specs.Cmp.{nat_eq_equiv}
 use Rattle.std.proofs.lemmas.Map.Keys.{IsDistinct-push}
 use Rattle.std.proofs.lemmas.Bool.{cases_lt, eqb-false, ltb-false, leb-false}
-use Rattle.std.proofs.lemmas.List.{drop-append-le, take-append-le, take_all, drop_at, length-append, length-drop, length-take, length-replicate, get_or-append_right, get_or-replicate, get_or_past, map-append, length-map}
+use Rattle.std.proofs.lemmas.List.{drop-append-le, take-append-le, take_all, drop_at, length-append, length-drop, length-take}
+use Rattle.std.proofs.lemmas.List.{length-replicate, get_or-append_right, get_or-replicate, get_or_past, map-append, length-map}
 use Rattle.std.proofs.Math.ListN.{get_or-append}
 use Rattle.std.proofs.Math.Seq.{get_or-append_seam}
 use Rattle.std.proofs.lemmas.List.Concat.{length-flat_map, flat_map-append}
@@ -165,7 +167,8 @@ pub record IsNew (ids targets : List ℕ) (entries : List Entry) (line : Line) :
 pub accepted_in : {ids targets : List ℕ} {names : Names} {places : List (Option ℕ)} {entries : List Entry} (lines : List Line) (line : Line)
     → AreKeptIn ids targets names places entries
     → vertices_in targets names (rows_in ids places entries) ≡ lines → add_fault lines line ≡ None → IsNew ids targets entries line
-accepted_in {ids} {targets} {names} {places} {entries} lines line kept are h = grind (arith, nat_tests, accepted lines line h, named_by line.identifier kept.kept, lines_in kept, edges_by kept.kept)
+accepted_in {ids} {targets} {names} {places} {entries} lines line kept are h =
+    grind (arith, nat_tests, accepted lines line h, named_by line.identifier kept.kept, lines_in kept, edges_by kept.kept)
 
 pub few_names : {ids targets : List ℕ} {names : Names} {places : List (Option ℕ)} {entries : List Entry} → AreKeptIn ids targets names places entries
     → length entries < 1048576 → length names < 1048576
@@ -279,7 +282,13 @@ pub lines_added : {ids targets : List ℕ} {names : Names} {places : List (Optio
     → vertices_in (targets ++ more) (names ++ option_to_list new)
     (rows_in (ids ++ identifier ∷ []) other (entries ++ new_entry targets priority owner more ∷ [])) ≡ vertices_in targets names
     (rows_in ids places entries) ++ new_line identifier priority owner more new ∷ []
-lines_added {ids} {targets} {names} {places} {entries} other identifier priority owner more new kept placed = grind (arith, nat_tests, rows_added other identifier priority owner more new kept placed, line_more targets names (rows_in ids places entries) identifier priority owner more new kept.kept.ranges kept.kept.named)
+lines_added {ids} {targets} {names} {places} {entries} other identifier priority owner more new kept placed =
+    grind (
+      arith,
+      nat_tests,
+      rows_added other identifier priority owner more new kept placed,
+      line_more targets names (rows_in ids places entries) identifier priority owner more new kept.kept.ranges kept.kept.named,
+    )
 
 pub kept_added : {ids targets : List ℕ} {names : Names} {places : List (Option ℕ)} {entries : List Entry} (other : List (Option ℕ)) (identifier priority : ℕ)
     (owner : Player) (more : List ℕ) (new : Option (Vec ℕ Global)) → AreKeptIn ids targets names places entries
@@ -316,7 +325,13 @@ noted_by places resized after line n place len made added =
     added ∙ ap (λ (ps : List (Option ℕ)). ps ++ place ∷ []) (made ∙ ap (λ (k : ℕ). take line places ++ nowhere (line - k)) len)
 
 front_long : (places : List (Option ℕ)) (line : ℕ) → length places ≤ line → length (take line places ++ nowhere (line - length places)) ≡ line
-front_long places line few = grind (arith, nat_tests, length-append (take line places) (nowhere (line - length places)), length-take line places, length-replicate {A = Option ℕ} (line - length places) None)
+front_long places line few = grind (
+  arith,
+  nat_tests,
+  length-append (take line places) (nowhere (line - length places)),
+  length-take line places,
+  length-replicate {A = Option ℕ} (line - length places) None,
+)
 
 pub noted_before : (places : List (Option ℕ)) (line : ℕ) (place : Option ℕ) → length places ≤ line → (v : ℕ) → v < line
     → place_at (noted places line place) v ≡ place_at places v

@@ -43,7 +43,13 @@ dual_built ids targets names rows small b =
 pub dual_built_in : {ids targets : List ℕ} {names : Names} {places : List (Option ℕ)} {entries : List Entry}
     → HasPrioritiesUpTo 65535 (vertices_in targets names (rows_in ids places entries)) → IsBuiltIn ids targets names places entries
     → IsBuiltIn ids targets names places (map dual_entry entries)
-dual_built_in {ids} {targets} {names} {places} {entries} small b = grind (arith, nat_tests, length-map entries dual_entry, rows_dual ids places entries, dual_built ids targets names (rows_in ids places entries) small b.built)
+dual_built_in {ids} {targets} {names} {places} {entries} small b = grind (
+  arith,
+  nat_tests,
+  length-map entries dual_entry,
+  rows_dual ids places entries,
+  dual_built ids targets names (rows_in ids places entries) small b.built,
+)
 
 pub dual_vertices_in : (ids targets : List ℕ) (names : Names) (places : List (Option ℕ)) (entries : List Entry)
     → vertices_in targets names (rows_in ids places (map dual_entry entries)) ≡ dual (vertices_in targets names (rows_in ids places entries))
@@ -64,4 +70,10 @@ small_entries (i ∷ ids) targets names places (e ∷ entries) long small =
 pub small_vertices : (targets vertices : List ℕ) (names : Names) (rows : List Row) → All IsOrderly (vertices_in targets names rows)
     → HasPrioritiesUpTo 65535 (vertices_in vertices names rows)
 small_vertices targets vertices names [] orderly = All-nil (λ (x : GameVertex). x.priority ≤ 65535)
-small_vertices targets vertices names (e ∷ rows) orderly = grind (arith, nat_tests, All-head IsOrderly (vertex_in targets names e) (vertices_in targets names rows) orderly, small_vertices targets vertices names rows (All-tail IsOrderly (vertex_in targets names e) (vertices_in targets names rows) orderly))
+small_vertices targets vertices names (e ∷ rows) orderly =
+    grind (
+      arith,
+      nat_tests,
+      All-head IsOrderly (vertex_in targets names e) (vertices_in targets names rows) orderly,
+      small_vertices targets vertices names rows (All-tail IsOrderly (vertex_in targets names e) (vertices_in targets names rows) orderly),
+    )

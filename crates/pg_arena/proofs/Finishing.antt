@@ -1,5 +1,6 @@
 -- The game that sorted entries make is the game of the lines.
-use Rattle.std.proofs.Common.{Option, ◌≡◌, ℕ, ◌+◌, ◌-◌, ◌≤◌, ◌<◌, List, [], ◌∷◌, length, get_or, take, drop, map, refl, sym, ap, subst, ◌∙◌, arith, inl, inr, All}
+use Rattle.std.proofs.Common.{Option, ◌≡◌, ℕ, ◌+◌, ◌-◌, ◌≤◌, ◌<◌, List, [], ◌∷◌, length, get_or, take, drop, map, refl, sym, ap, subst, ◌∙◌}
+use Rattle.std.proofs.Common.{arith, inl, inr, All}
 use Rattle.std.proofs.lemmas.Bool.Decides.{nat_tests}
 use Rattle.std.specs.Prelude.{slice_range, slice_index, Contains}
 use Rattle.std.specs.List.{flat_map}
@@ -59,13 +60,26 @@ pub ready_in : {lines : List Line} {before targets : List ℕ} {names : Names} {
     → AreKeptIn before targets names places entries → IsPermutation (rows_in before places entries) (rows_in ids other sorted) → length ids ≡ length sorted
     → IsStrictlyIncreasing ids
     → IsReady lines ids targets names (rows_in ids other sorted)
-ready_in {lines} {before} {targets} {names} {places} {entries} ids other sorted view kept order long rising = grind (arith, nat_tests, ready lines before ids targets names (rows_in before places entries) (rows_in ids other sorted) view kept.kept order (sym (rows_named ids other sorted long)) rising)
+ready_in {lines} {before} {targets} {names} {places} {entries} ids other sorted view kept order long rising =
+    grind (
+      arith,
+      nat_tests,
+      ready lines before ids targets names (rows_in before places entries)
+          (rows_in ids other sorted) view kept.kept order (sym (rows_named ids other sorted long)) rising,
+    )
 
 -- no vertex is lost
 pub as_many_ids : {before targets : List ℕ} {names : Names} {places : List (Option ℕ)} {entries : List Entry} (ids : List ℕ) (other : List (Option ℕ))
     (sorted : List Entry) → AreKeptIn before targets names places entries → IsPermutation (rows_in before places entries) (rows_in ids other sorted)
     → length ids ≡ length sorted → length ids ≡ length entries
-as_many_ids {before} {targets} {names} {places} {entries} ids other sorted kept order long = grind (arith, nat_tests, length_permutation (rows_in before places entries) (rows_in ids other sorted) order, rows_long before places entries kept.as_many, rows_long ids other sorted long)
+as_many_ids {before} {targets} {names} {places} {entries} ids other sorted kept order long =
+    grind (
+      arith,
+      nat_tests,
+      length_permutation (rows_in before places entries) (rows_in ids other sorted) order,
+      rows_long before places entries kept.as_many,
+      rows_long ids other sorted long,
+    )
 
 -- ---- linked successors
 

@@ -18,10 +18,13 @@ has_none q (x ∷ xs) h = rw (ne_eqb q x (λ e. h 0 (omega arith) (sym e)), has_
 
 pub above_last : (xs : List ℕ) (n last : ℕ) → IsStrictlyIncreasing xs → Some last ≡ slice_get xs (length xs - 1) → last < n → has n xs ≡ false
 above_last xs n last up is lt = has_none n xs (λ k within e.
-    let order : get_or xs k 0 ≤ get_or xs (length xs - 1) 0 = non_decreasing_from_sorted xs (sorted_from_strictly_increasing xs up) k (length xs - 1) 0 (omega arith) (omega arith) in
+    let order : get_or xs k 0 ≤ get_or xs (length xs - 1) 0 = non_decreasing_from_sorted xs (sorted_from_strictly_increasing xs up) k
+    (length xs - 1) 0 (omega arith) (omega arith) in
     omega (arith, get_or_from_slice_get xs (length xs - 1) last 0 (sym is)))
 
-found : (q : ℕ) (xs : List ℕ) (r : Result ℕ ℕ) → MatchResult r (λ i. (i < length xs) × (get_or xs i 0 ≡ q)) (λ i. (i ≤ length xs) × ((k : ℕ) → k < i → get_or xs k 0 < q) × ((k : ℕ) → i ≤ k → k < length xs → q < get_or xs k 0)) → is_ok r ≡ has q xs
+found : (q : ℕ) (xs : List ℕ) (r : Result ℕ ℕ)
+    → MatchResult r (λ i. (i < length xs) × (get_or xs i 0 ≡ q)) (λ i. (i ≤ length xs) × ((k : ℕ) → k < i → get_or xs k 0 < q) × ((k : ℕ) → i ≤ k → k < length xs → q < get_or xs k 0))
+    → is_ok r ≡ has q xs
 found q xs (Ok i) h = sym (has_contained q xs (i, h.0, get_or_default xs i q 0 h.0 ∙ h.1))
 found q xs (Err i) h = sym (has_none q xs (λ k lt e.
     elim (cases_lt k i) [
@@ -37,7 +40,8 @@ below_least xs n least up is lt = has_none n xs (λ k within e.
     let order : get_or xs 0 0 ≤ get_or xs k 0 = non_decreasing_from_sorted xs (sorted_from_strictly_increasing xs up) 0 k 0 (omega arith) within in
     omega (arith, get_or_from_slice_get xs 0 least 0 (sym is)))
 
-pub search_misses : (q : ℕ) (xs : List ℕ) (i : ℕ) → IsStrictlyIncreasing xs → (let r : Result ℕ ℕ = Err i in IsBinarySearchResult (λ y. nat_cmp y q) xs r) → has q xs ≡ false
+pub search_misses : (q : ℕ) (xs : List ℕ) (i : ℕ) → IsStrictlyIncreasing xs
+    → (let r : Result ℕ ℕ = Err i in IsBinarySearchResult (λ y. nat_cmp y q) xs r) → has q xs ≡ false
 search_misses q xs i up h = sym (search_finds q xs (Err i) up h)
 
 -- a number above the last of those that rise

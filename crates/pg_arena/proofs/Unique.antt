@@ -1,5 +1,6 @@
 -- One list of lines has one game, and lines with a game have no reason against it.
-use Rattle.std.proofs.Common.{◌≡◌, ℕ, ◌<◌, true, false, eqb, List, [], ◌∷◌, length, get_or, map, Result, Ok, Err, refl, sym, ap, subst, ◌∙◌, arith, inl, inr, All}
+use Rattle.std.proofs.Common.{◌≡◌, ℕ, ◌<◌, true, false, eqb, List, [], ◌∷◌, length, get_or, map, Result, Ok, Err, refl, sym, ap, subst, ◌∙◌}
+use Rattle.std.proofs.Common.{arith, inl, inr, All}
 use Rattle.std.proofs.lemmas.Bool.Decides.{nat_tests}
 use Rattle.std.specs.Prelude.{slice_index, ◌||◌, Contains, IfOk, IfErr, MatchResult}
 use Rattle.std.specs.List.{AllPairs}
@@ -29,14 +30,17 @@ lines_named game (x ∷ xs) = ap (λ (ids : List ℕ). x.identifier ∷ ids) (li
 same_lines_of : (lines : List Line) (game other : List GameVertex) → IsGameOf lines game → IsGameOf lines other → lines_of game ≡ lines_of other
 same_lines_of lines game other g o =
     same_order (λ x y. x.identifier < y.identifier) (lines_of game) (lines_of other) (λ x y a b. omega arith) (up game g.well) (up other o.well)
-    (λ line c. Contains-permutation lines (lines_of other) line o.same (Contains-permutation (lines_of game) lines line (IsPermutation-sym lines (lines_of game) g.same) c))
-    (λ line c. Contains-permutation lines (lines_of game) line g.same (Contains-permutation (lines_of other) lines line (IsPermutation-sym lines (lines_of other) o.same) c))
+    (λ line c. Contains-permutation lines (lines_of other) line o.same
+    (Contains-permutation (lines_of game) lines line (IsPermutation-sym lines (lines_of game) g.same) c))
+    (λ line c. Contains-permutation lines (lines_of game) line g.same
+    (Contains-permutation (lines_of other) lines line (IsPermutation-sym lines (lines_of other) o.same) c))
   where
     up : (game : List GameVertex) → IsGame game → AllPairs (λ x y. x.identifier < y.identifier) (lines_of game)
     up game well = pairs_by id (lines_of game) (subst IsStrictlyIncreasing (sym (lines_named game game)) well.rising)
 
 -- successors with the same identifiers are the same
-same_successors : (ids xs ys : List ℕ) → IsStrictlyIncreasing ids → All (λ v. v < length ids) xs → All (λ v. v < length ids) ys → map (slice_index ids) xs ≡ map (slice_index ids) ys → xs ≡ ys
+same_successors : (ids xs ys : List ℕ) → IsStrictlyIncreasing ids → All (λ v. v < length ids) xs → All (λ v. v < length ids) ys
+    → map (slice_index ids) xs ≡ map (slice_index ids) ys → xs ≡ ys
 same_successors ids [] [] up a b h = refl
 same_successors ids [] (y ∷ ys) up a b h = absurd cc
 same_successors ids (x ∷ xs) [] up a b h = absurd cc
@@ -55,13 +59,15 @@ same_successors ids (x ∷ xs) (y ∷ ys) up a b h =
       ]
     ]
 
-pub same_vertex : (x y : GameVertex) → x.identifier ≡ y.identifier → x.priority ≡ y.priority → x.owner ≡ y.owner → x.successors ≡ y.successors → x.name ≡ y.name → x ≡ y
+pub same_vertex : (x y : GameVertex) → x.identifier ≡ y.identifier → x.priority ≡ y.priority → x.owner ≡ y.owner
+    → x.successors ≡ y.successors → x.name ≡ y.name → x ≡ y
 same_vertex x y i p o s n = grind (arith, nat_tests)
 
 abbrev AllIn : ℕ → List GameVertex → Type 0
 AllIn n xs = All (λ x. All (λ v. v < n) x.successors) xs
 
-same_vertices : (ids : List ℕ) (game other xs ys : List GameVertex) → IsStrictlyIncreasing ids → identifiers game ≡ ids → identifiers other ≡ ids → AllIn (length ids) xs → AllIn (length ids) ys → map (line_of game) xs ≡ map (line_of other) ys → xs ≡ ys
+same_vertices : (ids : List ℕ) (game other xs ys : List GameVertex) → IsStrictlyIncreasing ids → identifiers game ≡ ids
+    → identifiers other ≡ ids → AllIn (length ids) xs → AllIn (length ids) ys → map (line_of game) xs ≡ map (line_of other) ys → xs ≡ ys
 same_vertices ids game other [] [] up g o a b h = refl
 same_vertices ids game other [] (y ∷ ys) up g o a b h = absurd cc
 same_vertices ids game other (x ∷ xs) [] up g o a b h = absurd cc
@@ -70,23 +76,29 @@ same_vertices ids game other (x ∷ xs) (y ∷ ys) up g o a b h =
     let tail : map (line_of game) xs ≡ map (line_of other) ys = cc in
     let P = λ (x : GameVertex). All (λ v. v < length ids) (x.successors) in
     let named : map (identifier game) (x.successors) ≡ map (identifier other) (y.successors) = ap (λ (l : Line). l.successors) head in
-    let mine : map (identifier game) (x.successors) ≡ map (slice_index ids) (x.successors) = map_same (identifier game) (slice_index ids) (x.successors) (λ v. identifier_is game v ∙ ap (λ (i : List ℕ). slice_index i v) g) in
-    let theirs : map (identifier other) (y.successors) ≡ map (slice_index ids) (y.successors) = map_same (identifier other) (slice_index ids) (y.successors) (λ v. identifier_is other v ∙ ap (λ (i : List ℕ). slice_index i v) o) in
+    let mine : map (identifier game) (x.successors) ≡ map (slice_index ids) (x.successors) =
+    map_same (identifier game) (slice_index ids) (x.successors) (λ v. identifier_is game v ∙ ap (λ (i : List ℕ). slice_index i v) g) in
+    let theirs : map (identifier other) (y.successors) ≡ map (slice_index ids) (y.successors) =
+    map_same (identifier other) (slice_index ids) (y.successors) (λ v. identifier_is other v ∙ ap
+    (λ (i : List ℕ). slice_index i v) o) in
     let leads = same_successors ids (x.successors) (y.successors) up (All-head P x xs a) (All-head P y ys b) (sym mine ∙ named ∙ theirs) in
-    let same = same_vertex x y (ap (λ (l : Line). l.identifier) head) (ap (λ (l : Line). l.priority) head) (ap (λ (l : Line). l.owner) head) leads (ap (λ (l : Line). l.name) head) in
+    let same = same_vertex x y (ap (λ (l : Line). l.identifier) head) (ap (λ (l : Line). l.priority) head)
+    (ap (λ (l : Line). l.owner) head) leads (ap (λ (l : Line). l.name) head) in
     rw (same, same_vertices ids game other xs ys up g o (All-tail P x xs a) (All-tail P y ys b) tail) refl
 
 contains_vertex : (game : List GameVertex) (v : ℕ) → v < length game → Contains game (vertex_at game v)
 contains_vertex game v lt = Contains-get_or game v nowhere lt
 
 all_in : (game : List GameVertex) → IsGame game → AllIn (length game) game
-all_in game well = All-from_get_or (λ (x : GameVertex). All (λ v. v < length game) (x.successors)) game nowhere (λ i lt. λ k e within. well.in_range i (get_or (successors game i) k e) (Contains-get_or (successors game i) k e within))
+all_in game well = All-from_get_or (λ (x : GameVertex). All (λ v. v < length game) (x.successors)) game nowhere
+    (λ i lt. λ k e within. well.in_range i (get_or (successors game i) k e) (Contains-get_or (successors game i) k e within))
 
 pub one_game : (lines : List Line) (game other : List GameVertex) → IsGameOf lines game → IsGameOf lines other → game ≡ other
 one_game lines game other g o =
     let same = same_lines_of lines game other g o in
     let named : identifiers other ≡ identifiers game = sym (lines_named other other) ∙ ap (map id) (sym same) ∙ lines_named game game in
-    let count : length other ≡ length game = sym (length-map other (λ (x : GameVertex). x.identifier)) ∙ ap length named ∙ length-map game (λ (x : GameVertex). x.identifier) in
+    let count : length other ≡ length game = sym (length-map other (λ (x : GameVertex). x.identifier)) ∙ ap length named
+    ∙ length-map game (λ (x : GameVertex). x.identifier) in
     let mine : length (identifiers game) ≡ length game = length-map game (λ (x : GameVertex). x.identifier) in
     same_vertices (identifiers game) game other game other g.well.rising refl named
     (subst (λ (n : ℕ). AllIn n game) (sym mine) (all_in game g.well))
@@ -129,6 +141,7 @@ only_memory lines game NoVertex g f = absurd (no_lines lines game g f)
 only_memory lines game (UnknownSuccessor i s) g f = absurd (no_unknown lines game i s g f.unknown)
 only_memory lines game _ g f = absurd f
 
-pub only : (lines : List Line) (r : Result (List GameVertex) ArenaFault) → IfOk r (IsGameOf lines) → IfErr r (FinishFails lines) → (game : List GameVertex) → IsGameOf lines game → MatchResult r (λ g. g ≡ game) (λ e. e ≡ OutOfMemory)
+pub only : (lines : List Line) (r : Result (List GameVertex) ArenaFault) → IfOk r (IsGameOf lines) → IfErr r (FinishFails lines)
+    → (game : List GameVertex) → IsGameOf lines game → MatchResult r (λ g. g ≡ game) (λ e. e ≡ OutOfMemory)
 only lines (Ok g) ok err game is = one_game lines g game ok is
 only lines (Err e) ok err game is = only_memory lines game e is err

@@ -1,5 +1,6 @@
 -- The first unknown successor of sorted entries is the least of the lines.
-use Rattle.std.proofs.Common.{◌≡◌, ℕ, ◌≤◌, ◌<◌, true, false, not, cond, eqb, List, [], ◌∷◌, length, get_or, ◌+◌, drop, Option, Some, None, refl, sym, ap, subst, ◌∙◌, ◌⊎◌, arith, inl, inr, All}
+use Rattle.std.proofs.Common.{◌≡◌, ℕ, ◌≤◌, ◌<◌, true, false, not, cond, eqb, List, [], ◌∷◌, length, get_or, ◌+◌, drop, Option, Some, None}
+use Rattle.std.proofs.Common.{refl, sym, ap, subst, ◌∙◌, ◌⊎◌, arith, inl, inr, All}
 use Rattle.std.proofs.lemmas.Bool.Decides.{nat_tests}
 use Rattle.std.specs.Prelude.{slice_range, Contains, IsSome, option_map}
 use Rattle.std.specs.Option.{option_or}
@@ -192,11 +193,19 @@ named_same {lines} {ids} {targets} {names} {sorted} q r =
 
 to_lines : {lines : List Line} {ids targets : List ℕ} {names : Names} {sorted : List Row} (i s : ℕ) → IsReady lines ids targets names sorted
     → IsUnknownBy ids (vertices_in targets names sorted) i s → IsUnknown lines i s
-to_lines {lines} {ids} {targets} {names} {sorted} i s r u = grind (arith, nat_tests, Contains-permutation (vertices_in targets names sorted) lines u.line (IsPermutation-sym lines (vertices_in targets names sorted) r.same) u.given, named_same s r)
+to_lines {lines} {ids} {targets} {names} {sorted} i s r u =
+    grind (
+      arith,
+      nat_tests,
+      Contains-permutation (vertices_in targets names sorted) lines u.line
+          (IsPermutation-sym lines (vertices_in targets names sorted) r.same) u.given,
+      named_same s r,
+    )
 
 from_lines : {lines : List Line} {ids targets : List ℕ} {names : Names} {sorted : List Row} (i s : ℕ) → IsReady lines ids targets names sorted
     → IsUnknown lines i s → IsUnknownBy ids (vertices_in targets names sorted) i s
-from_lines {lines} {ids} {targets} {names} {sorted} i s r u = grind (arith, nat_tests, Contains-permutation lines (vertices_in targets names sorted) u.line r.same u.given, named_same s r)
+from_lines {lines} {ids} {targets} {names} {sorted} i s r u =
+    grind (arith, nat_tests, Contains-permutation lines (vertices_in targets names sorted) u.line r.same u.given, named_same s r)
 
 pub least_unknown : {lines : List Line} {ids targets : List ℕ} {names : Names} {sorted : List Row} (i s : ℕ) → IsReady lines ids targets names sorted
     → first_unknown_in ids targets sorted ≡ Some (i, s) → IsLeastUnknown lines i s

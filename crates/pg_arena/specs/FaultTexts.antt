@@ -1,7 +1,8 @@
 -- The texts of faults.
 use Rattle.std.specs.Prelude.{ℕ, List, ◌++◌, codes, decimal}
 use Rattle.pg_arena.specs.declared.fault.ArenaFault.{ArenaFault}
-use Rattle.pg_arena.specs.declared.fault.ArenaFault.TheVariants.{OutOfMemory, DuplicateVertex, NoSuccessor, UnknownSuccessor, TooManyVertices, TooManyEdges, PriorityTooLarge, NoVertex}
+use Rattle.pg_arena.specs.declared.fault.ArenaFault.TheVariants.{OutOfMemory, DuplicateVertex, NoSuccessor, UnknownSuccessor}
+use Rattle.pg_arena.specs.declared.fault.ArenaFault.TheVariants.{TooManyVertices, TooManyEdges, PriorityTooLarge, NoVertex}
 
 abbrev pub fault_text : ArenaFault → List ℕ
 fault_text OutOfMemory = codes "out of memory"

@@ -1,12 +1,14 @@
 -- A game as it is given, a line for each vertex, and the game that the lines make.
-use Rattle.std.specs.Prelude.{◌≡◌, ℕ, ◌+◌, ◌≤◌, Bool, false, List, [], ◌∷◌, ◌++◌, length, map, Option, Some, None, option_copied, Result, Ok, Err, ◌==◌, nat_lt, nat_le, if◌then◌else◌, Contains}
+use Rattle.std.specs.Prelude.{◌≡◌, ℕ, ◌+◌, ◌≤◌, Bool, false, List, [], ◌∷◌, ◌++◌, length, map, Option, Some, None, option_copied, Result}
+use Rattle.std.specs.Prelude.{Ok, Err, ◌==◌, nat_lt, nat_le, if◌then◌else◌, Contains}
 use Rattle.std.specs.Borrow.{Bor}
 use Rattle.std.specs.List.{list_any}
 use Rattle.std.specs.List.Sorted.{IsPermutation}
 use Rattle.pg_lists.specs.Rising.{rising}
 use Rattle.pg_arena.specs.declared.player.Player.{Player}
 use Rattle.pg_arena.specs.declared.fault.ArenaFault.{ArenaFault}
-use Rattle.pg_arena.specs.declared.fault.ArenaFault.TheVariants.{OutOfMemory, DuplicateVertex, NoSuccessor, UnknownSuccessor, TooManyVertices, TooManyEdges, PriorityTooLarge, NoVertex}
+use Rattle.pg_arena.specs.declared.fault.ArenaFault.TheVariants.{OutOfMemory, DuplicateVertex, NoSuccessor, UnknownSuccessor}
+use Rattle.pg_arena.specs.declared.fault.ArenaFault.TheVariants.{TooManyVertices, TooManyEdges, PriorityTooLarge, NoVertex}
 use Rattle.pg_arena.specs.declared.limits.TheConstants.{MAX_PRIORITY, MAX_VERTICES, MAX_EDGES}
 use Rattle.pg_arena.specs.Games.{GameVertex, IsGame, identifier, edge_count}
 

@@ -1,5 +1,6 @@
 -- The first byte behind white space says which token stands there.
-use Rattle.std.proofs.Common.{◌≡◌, ◌≢◌, ℕ, ◌≤◌, Bool, true, false, eqb, get_or, List, [], ◌∷◌, ◌++◌, length, Option, None, Result, Ok, Err, IfErr, Bor, refl, sym, ap, subst, ◌∙◌, arith}
+use Rattle.std.proofs.Common.{◌≡◌, ◌≢◌, ℕ, ◌≤◌, Bool, true, false, eqb, get_or, List, [], ◌∷◌, ◌++◌, length, Option, None, Result, Ok, Err}
+use Rattle.std.proofs.Common.{IfErr, Bor, refl, sym, ap, subst, ◌∙◌, arith}
 use Rattle.std.proofs.lemmas.Bool.Decides.{nat_tests}
 use Rattle.std.specs.Prelude.{option_map}
 use Rattle.std.specs.Result.{result_ok}
@@ -8,11 +9,10 @@ use Rattle.pg_text.specs.Lexemes.{Lexeme, number, semicolon, comma, quoted, end,
 use Rattle.pg_lists.specs.Bytes.{is_digit, Each, Stops}
 use Rattle.pg_text.specs.declared.tokens.TokenFault.{TokenFault}
 use Rattle.pg_text.specs.declared.tokens.TokenFault.TheVariants.{NumberTooLarge}
-use Rattle.pg_text.specs.declared.reading.Refusal.{Refusal}
-use Rattle.pg_text.specs.declared.reading.Refusal.TheVariants.{Memory, Token}
 use Rattle.pg_text.specs.Mirrors.Scan.{number_at, solid_at, lexeme_at, or_fault, token_at}
-use Rattle.pg_text.specs.Mirrors.Steps.{◌>>=◌, Read, Reads, Fails, Step, item, stop}
-use Rattle.pg_text.specs.Mirrors.Parts.{misplaced_in, misplaced, number_in, natural_at, string_in, string_at, semicolon_in, semicolon_at, further_in, further_at}
+use Rattle.pg_text.specs.Mirrors.Steps.{◌>>=◌, Read, Reads, Step, item, stop}
+use Rattle.pg_text.specs.Mirrors.Parts.{misplaced_in, misplaced, number_in, natural_at, string_in, string_at, semicolon_in, semicolon_at}
+use Rattle.pg_text.specs.Mirrors.Parts.{further_in, further_at}
 use Rattle.pg_text.specs.Mirrors.GameScan.{ending_in, ending_at, line_at, item_in, item_at}
 use Rattle.pg_text.proofs.Steps.{ok, err}
 use Rattle.pg_lists.proofs.Steps.{some}
@@ -165,8 +165,3 @@ item_of_fault bytes front fault is some e = item_is_line bytes front is some ∙
 pub item_of_line : (bytes front : List ℕ) (n : ℕ) (rest : List ℕ) → front ≡ after_space bytes → 1 ≤ length front
     → natural_at front ≡ Ok (n, rest) → item_at bytes ≡ line_of (n, rest)
 item_of_line bytes front n rest is some e = item_is_line bytes front is some ∙ ap (λ (r : Read (ℕ × List ℕ)). r >>= line_of) e
-
-pub item_fails : (refusal : Refusal) (bytes : List ℕ) (n : ℕ) (rest : List ℕ) → item_at bytes ≡ line_of (n, rest)
-    → Fails refusal (line_at n rest) → Fails refusal (item_at bytes)
-item_fails Memory bytes n rest is f = tt
-item_fails (Token e) bytes n rest is f = is ∙ ap (λ (r : Read (Line × List ℕ)). r >>= λ l. ok (item l.0, l.1)) f

@@ -21,7 +21,8 @@ found_game bytes built game b made = record { lines = b.0; text = b.1; limits = 
 
 -- what the bytes spell is a game of the lines built
 pub spelt_game : (bytes : List ℕ) (built : List Line) (game : List GameVertex) → BuildsLines bytes (Ok built) → IsGameText bytes game → IsGameOf built game
-spelt_game bytes built game b spelt = subst (λ (ls : List Line). IsGameOf ls game) (ap (map counted) (one_text bytes spelt.lines b.0 spelt.text b.1) ∙ sym b.2) spelt.game_of
+spelt_game bytes built game b spelt =
+    subst (λ (ls : List Line). IsGameOf ls game) (ap (map counted) (one_text bytes spelt.lines b.0 spelt.text b.1) ∙ sym b.2) spelt.game_of
 
 pub only_memory : (fault : TextFault) (bytes : List ℕ) (game : List GameVertex) → BuildsLines bytes (Err fault) → IsGameText bytes game → fault ≡ OutOfMemory
 only_memory OutOfMemory bytes game b spelt = refl
@@ -42,7 +43,8 @@ refuses_lines _ bytes b other = b
 no_game : (bytes : List ℕ) (built : List Line) (fault : ArenaFault) → BuildsLines bytes (Ok built) → FinishFails built fault → HasNoGame bytes fault
 no_game bytes built fault b fails = record { lines = b.0; text = b.1; limits = b.3; refused = subst (λ (ls : List Line). FinishFails ls fault) b.2 fails }
 
-pub refuses_game : (fault : ArenaFault) (bytes : List ℕ) (built : List Line) → BuildsLines bytes (Ok built) → FinishFails built fault → arena_fault fault ≢ OutOfMemory → Refuses bytes (arena_fault fault)
+pub refuses_game : (fault : ArenaFault) (bytes : List ℕ) (built : List Line) → BuildsLines bytes (Ok built) → FinishFails built fault
+    → arena_fault fault ≢ OutOfMemory → Refuses bytes (arena_fault fault)
 refuses_game arena.OutOfMemory bytes built b fails other = absurd (other refl)
 refuses_game (arena.DuplicateVertex n) bytes built b fails other = inr (no_game bytes built (arena.DuplicateVertex n) b fails)
 refuses_game (arena.NoSuccessor n) bytes built b fails other = inr (no_game bytes built (arena.NoSuccessor n) b fails)

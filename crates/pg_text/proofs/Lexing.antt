@@ -1,12 +1,14 @@
 -- A token that is read is spelt at the front, and a token that is spelt there is read.
-use Rattle.std.proofs.Common.{◌≡◌, ◌≢◌, ℕ, ◌+◌, ◌^◌, ◌<◌, ◌≤◌, Bool, true, false, ltb, eqb, get_or, List, [], ◌∷◌, ◌++◌, length, drop, Some, Result, Ok, Err, IfOk, IfErr, IsOkAnd, Bor, refl, sym, ap, subst, ◌∙◌, inl, inr, arith, append_assoc}
+use Rattle.std.proofs.Common.{◌≡◌, ◌≢◌, ℕ, ◌+◌, ◌^◌, ◌<◌, ◌≤◌, Bool, true, false, ltb, eqb, get_or, List, [], ◌∷◌, ◌++◌, length, drop, Some}
+use Rattle.std.proofs.Common.{Result, Ok, Err, IfOk, IfErr, IsOkAnd, Bor, refl, sym, ap, subst, ◌∙◌, inl, inr, arith, append_assoc}
 use Rattle.std.proofs.lemmas.Bool.Decides.{nat_tests}
 use Rattle.std.specs.Prelude.{nat_le}
 use Rattle.std.specs.List.{prefix_len, take_while}
 use Rattle.std.proofs.lemmas.Bool.{ltb-true, lt-ltb, eqb-true, leb-true, lt-leb, ne_eqb, and_parts, and_right}
 use Rattle.std.proofs.lemmas.List.{drop_at, length-append, drop-drop, drop_more}
 use Rattle.std.proofs.lemmas.List.Sums.{prefix_len_stops}
-use Rattle.pg_text.specs.Lexemes.{Lexeme, lexeme, number, word, semicolon, comma, quoted, end, is_space, is_letter, is_plain, IsSpelt, Begins, after_space, token_fault}
+use Rattle.pg_text.specs.Lexemes.{Lexeme, lexeme, number, word, semicolon, comma, quoted, end, is_space, is_letter, is_plain, IsSpelt}
+use Rattle.pg_text.specs.Lexemes.{Begins, after_space, token_fault}
 use Rattle.pg_lists.specs.Bytes.{is_digit, Each, Stops, value_of}
 use Rattle.pg_text.specs.declared.tokens.Token.{Token}
 use Rattle.pg_text.specs.declared.tokens.TokenFault.{TokenFault}
@@ -34,8 +36,15 @@ number_fronts : (b : ℕ) (bytes : List ℕ) (x : Lexeme × List ℕ) → is_dig
 unfolding number_at
 number_fronts b bytes x holds e =
     let all = b ∷ bytes in
-    elim (chosen (ltb (value_of (take_while is_digit all)) (2 ^ 32)) (some (number (value_of (take_while is_digit all)), drop (prefix_len is_digit all) all)) none (some x) e) [
-      | inl w ↦ subst (IsFront all) (some_is _ x w.1) (record { text = take_while is_digit all; parts = run_parts is_digit all; spelt = (starts is_digit b bytes holds, run_each is_digit all, run_stops is_digit all, refl, ltb-true _ _ w.0) })
+    elim (chosen (ltb (value_of (take_while is_digit all)) (2 ^ 32))
+    (some (number (value_of (take_while is_digit all)), drop (prefix_len is_digit all) all)) none (some x) e) [
+      | inl w ↦ subst (IsFront all) (some_is _ x w.1)
+          (record {
+            text = take_while is_digit all;
+            parts = run_parts is_digit all;
+            spelt =
+                (starts is_digit b bytes holds, run_each is_digit all, run_stops is_digit all, refl, ltb-true _ _ w.0);
+          })
       | inr w ↦ absurd (none_is_some x w.1)
     ]
 
@@ -43,13 +52,20 @@ word_fronts : (b : ℕ) (bytes : List ℕ) (x : Lexeme × List ℕ) → is_lette
 unfolding word_at
 word_fronts b bytes x holds e =
     let all = b ∷ bytes in
-    subst (IsFront all) (some_is _ x e) (record { text = take_while is_letter all; parts = run_parts is_letter all; spelt = (starts is_letter b bytes holds, run_each is_letter all, run_stops is_letter all, refl) })
+    subst (IsFront all) (some_is _ x e)
+    (record {
+      text = take_while is_letter all;
+      parts = run_parts is_letter all;
+      spelt =
+          (starts is_letter b bytes holds, run_each is_letter all, run_stops is_letter all, refl);
+    })
 
 unplain : (b : ℕ) → is_plain b ≡ false → b ≡ 34
 unplain b h = elim (chosen (eqb b 34) false true false h) [ inl w ↦ eqb-true b 34 w.0 | inr w ↦ absurd cc ]
 
 -- where a run stops before the end, the byte there fails the test
-quote_stands : (bytes : List ℕ) → prefix_len is_plain bytes < length bytes → bytes ≡ take_while is_plain bytes ++ 34 ∷ drop (prefix_len is_plain bytes + 1) bytes
+quote_stands : (bytes : List ℕ) → prefix_len is_plain bytes < length bytes
+    → bytes ≡ take_while is_plain bytes ++ 34 ∷ drop (prefix_len is_plain bytes + 1) bytes
 quote_stands bytes lt =
     let n = prefix_len is_plain bytes in
     let more : drop n bytes ≡ get_or bytes n 0 ∷ drop (n + 1) bytes = drop_more bytes n 0 lt in
@@ -59,15 +75,24 @@ quote_stands bytes lt =
 quoted_fronts : (bytes : List ℕ) (x : Lexeme × List ℕ) → quoted_at bytes ≡ Some x → IsFront (34 ∷ bytes) x
 unfolding quoted_at
 quoted_fronts bytes x e =
-    elim (chosen (ltb (prefix_len is_plain bytes) (length bytes)) (some (quoted (take_while is_plain bytes), drop (prefix_len is_plain bytes + 1) bytes)) none (some x) e) [
+    elim (chosen (ltb (prefix_len is_plain bytes) (length bytes))
+    (some (quoted (take_while is_plain bytes), drop (prefix_len is_plain bytes + 1) bytes)) none (some x) e) [
       | inl w ↦
           let whole = quote_stands bytes (ltb-true _ _ w.0) in
           subst (IsFront (34 ∷ bytes)) (some_is _ x w.1)
-          (record { text = 34 ∷ (take_while is_plain bytes ++ 34 ∷ []); parts = ap (λ (t : List ℕ). 34 ∷ t) (whole ∙ sym (append_assoc (take_while is_plain bytes) (34 ∷ []) (drop (prefix_len is_plain bytes + 1) bytes))); spelt = (run_each is_plain bytes, refl) })
+          (record {
+            text = 34 ∷ (take_while is_plain bytes ++ 34 ∷ []);
+            parts =
+                ap (λ (t : List ℕ). 34 ∷ t) (whole
+                ∙ sym (append_assoc (take_while is_plain bytes) (34 ∷ []) (drop (prefix_len is_plain bytes + 1) bytes)));
+            spelt =
+                (run_each is_plain bytes, refl);
+          })
       | inr w ↦ absurd (none_is_some x w.1)
     ]
 
-one_byte : (b c : ℕ) (t : Lexeme) (bytes : List ℕ) (x : Lexeme × List ℕ) → ((c ∷ []) ≡ (c ∷ []) → IsSpelt t (c ∷ []) bytes) → eqb b c ≡ true → some (t, bytes) ≡ some x → IsFront (b ∷ bytes) x
+one_byte : (b c : ℕ) (t : Lexeme) (bytes : List ℕ) (x : Lexeme × List ℕ) → ((c ∷ []) ≡ (c ∷ []) → IsSpelt t (c ∷ []) bytes) → eqb b c ≡ true
+    → some (t, bytes) ≡ some x → IsFront (b ∷ bytes) x
 one_byte b c t bytes x spelt same e =
     subst (IsFront (b ∷ bytes)) (some_is _ x e) (record { text = c ∷ []; parts = ap (λ (n : ℕ). n ∷ bytes) (eqb-true b c same); spelt = spelt refl })
 
@@ -99,7 +124,8 @@ lexeme_takes bytes x e = grind (arith, nat_tests, solid_fronts (after_space byte
 -- ---- what is spelt is read
 
 letter_no_digit : (b : ℕ) → is_letter b ≡ true → is_digit b ≡ false
-letter_no_digit b h = let p = and_parts (nat_le 97 b) (nat_le b 122) h in let low : 97 ≤ b = leb-true 97 b p.0 in and_right (nat_le 48 b) (nat_le b 57) (lt-leb b 57 (omega arith))
+letter_no_digit b h = let p = and_parts (nat_le 97 b) (nat_le b 122) h in let low : 97 ≤ b = leb-true 97 b p.0 in
+    and_right (nat_le 48 b) (nat_le b 57) (lt-leb b 57 (omega arith))
 
 pub solid_digit : (b : ℕ) (bytes : List ℕ) → is_digit b ≡ true → solid_at (b ∷ bytes) ≡ number_at (b ∷ bytes)
 unfolding solid_at
@@ -135,7 +161,8 @@ quoted_again s rest each =
     let run = run_again is_plain s (34 ∷ rest) each refl in
     let len = run_is is_plain s (34 ∷ rest) each refl in
     let short : ltb (length s) (length (s ++ 34 ∷ rest)) ≡ true = lt-ltb _ _ (omega (arith, length-append s (34 ∷ rest))) in
-    let behind : drop (length s + 1) (s ++ 34 ∷ rest) ≡ rest = sym (drop-drop 1 (length s) (s ++ 34 ∷ rest)) ∙ ap (drop 1) (drop_at s (34 ∷ rest) (length s) refl) in
+    let behind : drop (length s + 1) (s ++ 34 ∷ rest) ≡ rest = sym (drop-drop 1 (length s) (s ++ 34 ∷ rest))
+    ∙ ap (drop 1) (drop_at s (34 ∷ rest) (length s) refl) in
     rw (run, len, short, behind) refl
 
 pub solid_again : (token : Lexeme) (text rest : List ℕ) → IsSpelt token text rest → solid_at (text ++ rest) ≡ Some (token, rest)
@@ -148,10 +175,12 @@ solid_again (quoted s) text rest h = rw (h.1, append_assoc s (34 ∷ []) rest) (
 solid_again end text rest h = rw (h.0, h.1) refl
 
 digit_no_space : (b : ℕ) → is_digit b ≡ true → is_space b ≡ false
-digit_no_space b h = let p = and_parts (nat_le 48 b) (nat_le b 57) h in let low : 48 ≤ b = leb-true 48 b p.0 in rw (and_right (nat_le 9 b) (nat_le b 13) (lt-leb b 13 (omega arith))) (ne_eqb b 32 (omega arith))
+digit_no_space b h = let p = and_parts (nat_le 48 b) (nat_le b 57) h in let low : 48 ≤ b = leb-true 48 b p.0 in
+    rw (and_right (nat_le 9 b) (nat_le b 13) (lt-leb b 13 (omega arith))) (ne_eqb b 32 (omega arith))
 
 letter_no_space : (b : ℕ) → is_letter b ≡ true → is_space b ≡ false
-letter_no_space b h = let p = and_parts (nat_le 97 b) (nat_le b 122) h in let low : 97 ≤ b = leb-true 97 b p.0 in rw (and_right (nat_le 9 b) (nat_le b 13) (lt-leb b 13 (omega arith))) (ne_eqb b 32 (omega arith))
+letter_no_space b h = let p = and_parts (nat_le 97 b) (nat_le b 122) h in let low : 97 ≤ b = leb-true 97 b p.0 in
+    rw (and_right (nat_le 9 b) (nat_le b 13) (lt-leb b 13 (omega arith))) (ne_eqb b 32 (omega arith))
 
 solid_stops : (token : Lexeme) (text rest : List ℕ) → IsSpelt token text rest → Stops is_space (text ++ rest)
 solid_stops (number n) [] rest h = absurd (h.0 refl)
@@ -165,7 +194,13 @@ solid_stops end text rest h = rw (h.0, h.1) tt
 
 pub lexeme_again : (bytes : List ℕ) (token : Lexeme) (rest : List ℕ) → Begins bytes token rest → lexeme_at bytes ≡ Some (token, rest)
 unfolding lexeme_at
-lexeme_again bytes token rest h = grind (arith, nat_tests, rest_again is_space h.gap (h.text ++ rest) h.blank (solid_stops token h.text rest h.spelt), solid_again token h.text rest h.spelt)
+lexeme_again bytes token rest h =
+    grind (
+      arith,
+      nat_tests,
+      rest_again is_space h.gap (h.text ++ rest) h.blank (solid_stops token h.text rest h.spelt),
+      solid_again token h.text rest h.spelt,
+    )
 
 -- ---- what is read of a text, with the fault where no token is read
 
@@ -195,11 +230,13 @@ token_err bytes fault e = grind (arith, nat_tests)
 
 -- ---- what a function that reads a token answers
 
-pub read_spelt : (r : Result (Token × Bor (List ℕ)) TokenFault) (bytes : List ℕ) → Reads seen r (token_at bytes) → IfOk r (λ x. Begins bytes (lexeme x.0) x.1.now)
+pub read_spelt : (r : Result (Token × Bor (List ℕ)) TokenFault) (bytes : List ℕ) → Reads seen r (token_at bytes)
+    → IfOk r (λ x. Begins bytes (lexeme x.0) x.1.now)
 read_spelt (Ok x) bytes e = token_takes bytes (seen x) e
 read_spelt (Err f) bytes e = tt
 
-pub read_only : (r : Result (Token × Bor (List ℕ)) TokenFault) (bytes : List ℕ) (token : Lexeme) (rest : List ℕ) → Reads seen r (token_at bytes) → Begins bytes token rest → IsOkAnd r (λ x. (lexeme x.0 ≡ token) × (x.1.now ≡ rest))
+pub read_only : (r : Result (Token × Bor (List ℕ)) TokenFault) (bytes : List ℕ) (token : Lexeme) (rest : List ℕ)
+    → Reads seen r (token_at bytes) → Begins bytes token rest → IsOkAnd r (λ x. (lexeme x.0 ≡ token) × (x.1.now ≡ rest))
 read_only (Ok x) bytes token rest e b = grind (arith, nat_tests, ok_is (seen x) (token, rest) (sym e ∙ token_again bytes token rest b))
 read_only (Err f) bytes token rest e b = absurd (err_is_ok f (token, rest) (sym e ∙ token_again bytes token rest b))
 

@@ -6,6 +6,7 @@ pub mod Items
 pub mod Spelling
 pub mod Parts
 pub mod Takes
+pub mod Counting
 pub mod Misplaced
 pub mod Places
 pub mod SolutionMisplaced

@@ -1,5 +1,6 @@
 -- Lines are accepted one after another exactly if they are within the limits.
-use Rattle.std.proofs.Common.{◌≡◌, ◌≢◌, ℕ, ◌+◌, ◌-◌, ◌≤◌, ◌<◌, true, false, eqb, List, [], ◌∷◌, ◌++◌, length, map, None, refl, sym, ap, subst, ◌∙◌, arith, append_assoc}
+use Rattle.std.proofs.Common.{◌≡◌, ◌≢◌, ℕ, ◌+◌, ◌-◌, ◌≤◌, ◌<◌, true, false, eqb, List, [], ◌∷◌, ◌++◌, length, map, None, refl, sym, ap}
+use Rattle.std.proofs.Common.{subst, ◌∙◌, arith, append_assoc}
 use Rattle.std.specs.Prelude.{Contains}
 use Rattle.std.specs.List.{list_any, AllByRecursion, IsDistinct}
 use Rattle.std.proofs.lemmas.Bool.Decides.{nat_tests}
@@ -64,11 +65,17 @@ regroup : (before : List Line) (line : Line) (rest : List Line) → (before ++ l
 regroup before line rest = append_assoc before (line ∷ []) rest
 
 accepted : (before lines : List Line) → IsDistinct eqb (identifiers before) → Accepts before lines → AreWithin before lines
-accepted before [] d a = record { distinct = subst (λ (ls : List Line). IsDistinct eqb (identifiers ls)) (sym (append-nil before)) d; fair = tt; few = omega arith; fits = omega arith }
+accepted before [] d a = record {
+  distinct = subst (λ (ls : List Line). IsDistinct eqb (identifiers ls)) (sym (append-nil before)) d;
+  fair = tt;
+  few = omega arith;
+  fits = omega arith;
+}
 accepted before (line ∷ lines) d a =
     let p = line_accepted before (counted line) a.0 in
     let fresh = sym (named_among before line.identifier) ∙ p.unnamed in
-    let more = subst (IsDistinct eqb) (sym (push_identifiers before (counted line))) (IsDistinct-push nat_eq_equiv (identifiers before) line.identifier d fresh) in
+    let more = subst (IsDistinct eqb) (sym (push_identifiers before (counted line)))
+    (IsDistinct-push nat_eq_equiv (identifiers before) line.identifier d fresh) in
     let later = accepted (before ++ counted line ∷ []) lines more a.1 in
     record {
       distinct = subst (λ (ls : List Line). IsDistinct eqb (identifiers ls)) (regroup before (counted line) (map counted lines)) later.distinct;
@@ -77,15 +84,19 @@ accepted before (line ∷ lines) d a =
       fits = omega (arith, later.fits, p.fits, push_edges before (counted line), sum_by-cons size (counted line) (map counted lines));
     }
 
-accepts : (before lines : List Line) → IsDistinct eqb (identifiers (before ++ map counted lines)) → AllByRecursion IsFair lines → length before + length lines ≤ 1048576 → edge_count before + edge_count (map counted lines) ≤ 8388608 → Accepts before lines
+accepts : (before lines : List Line) → IsDistinct eqb (identifiers (before ++ map counted lines)) → AllByRecursion IsFair lines
+    → length before + length lines ≤ 1048576 → edge_count before + edge_count (map counted lines) ≤ 8388608 → Accepts before lines
 accepts before [] d fair few fits = tt
 accepts before (line ∷ lines) d fair few fits =
     let edges = sum_by-cons size (counted line) (map counted lines) in
-    let fresh : is_named before line.identifier ≡ false = named_among before line.identifier ∙ apart (identifiers before) line.identifier (identifiers (map counted lines)) (subst (IsDistinct eqb) (map-append (λ (l : Line). l.identifier) before (map counted (line ∷ lines))) d) in
+    let fresh : is_named before line.identifier ≡ false = named_among before line.identifier
+    ∙ apart (identifiers before) line.identifier (identifiers (map counted lines))
+    (subst (IsDistinct eqb) (map-append (λ (l : Line). l.identifier) before (map counted (line ∷ lines))) d) in
     let some = rising_length line.successors (long line.successors fair.0.1) in
     let here : add_fault before (counted line) ≡ None = grind (arith, nat_tests, fair.0.0, some, fresh, few, edges, fits) in (
       here,
-      accepts (before ++ counted line ∷ []) lines (subst (λ (ls : List Line). IsDistinct eqb (identifiers ls)) (sym (regroup before (counted line) (map counted lines))) d) fair.1
+      accepts (before ++ counted line ∷ []) lines (subst (λ (ls : List Line). IsDistinct eqb (identifiers ls))
+          (sym (regroup before (counted line) (map counted lines))) d) fair.1
           (omega (arith, few, length-append before (counted line ∷ []))) (omega (arith, fits, edges, push_edges before (counted line))),
     )
   where
@@ -95,7 +106,8 @@ accepts before (line ∷ lines) d fair few fits =
 
 -- ---- all lines
 
-fair_of : (lines : List Line) → AllByRecursion (λ (l : Line). l.priority ≤ 65535) lines → AllByRecursion (λ (l : Line). l.successors ≢ []) lines → AllByRecursion IsFair lines
+fair_of : (lines : List Line) → AllByRecursion (λ (l : Line). l.priority ≤ 65535) lines
+    → AllByRecursion (λ (l : Line). l.successors ≢ []) lines → AllByRecursion IsFair lines
 fair_of [] p s = tt
 fair_of (line ∷ lines) p s = ((p.0, s.0), fair_of lines p.1 s.1)
 
@@ -125,12 +137,14 @@ within_limits lines a =
 pub are_accepted : (lines : List Line) → AreWithinLimits lines → Accepts [] lines
 are_accepted lines w =
     accepts [] lines (subst (IsDistinct eqb) (sym (counted_identifiers lines)) w.distinct)
-    (fair_of lines (recursion_from_All (λ (l : Line). l.priority ≤ 65535) lines w.priorities) (recursion_from_All (λ (l : Line). l.successors ≢ []) lines w.successors))
+    (fair_of lines (recursion_from_All (λ (l : Line). l.priority ≤ 65535) lines w.priorities)
+    (recursion_from_All (λ (l : Line). l.successors ≢ []) lines w.successors))
     (omega (arith, w.vertices)) (omega (arith, w.edges))
 
 -- ---- successors
 
-pub successors_named : (lines : List Line) (game : List GameVertex) (line : Line) (n : ℕ) → IsGameOf (map counted lines) game → Contains lines line → Contains line.successors n → is_named lines n ≡ true
+pub successors_named : (lines : List Line) (game : List GameVertex) (line : Line) (n : ℕ) → IsGameOf (map counted lines) game
+    → Contains lines line → Contains line.successors n → is_named lines n ≡ true
 successors_named lines game line n made given leads =
     elim (is_named lines n) as (λ b. is_named lines n ≡ b → b ≡ true) [
       | true ↦ λ e. refl

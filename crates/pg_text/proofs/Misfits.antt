@@ -1,5 +1,6 @@
 -- Lines that can't be taken, known by the tokens with which they begin.
-use Rattle.std.proofs.Common.{◌≡◌, ◌≢◌, ℕ, ◌<◌, Bool, true, false, cond, List, [], ◌∷◌, ◌++◌, length, Option, Some, None, Err, refl, sym, ap, subst, ◌∙◌, inl, inr}
+use Rattle.std.proofs.Common.{◌≡◌, ◌≢◌, ℕ, ◌<◌, Bool, true, false, cond, List, [], ◌∷◌, ◌++◌, length, Option, Some, None, Err, refl, sym}
+use Rattle.std.proofs.Common.{ap, subst, ◌∙◌, inl, inr}
 use Rattle.pg_arena.specs.declared.player.Player.{Player}
 use Rattle.pg_arena.specs.declared.player.Player.TheVariants.{Even, Odd}
 use Rattle.pg_arena.specs.Games.{GameVertex, identifier, IsEdge, IsGame}
@@ -37,42 +38,57 @@ player_is Even Odd e = absurd cc
 player_is Odd Even e = absurd cc
 
 -- a line has the number with which it starts
-pub starts_with : (here : List ℕ) (n : ℕ) (tokens : List Lexeme) (mid : List ℕ) (line : SolutionLine) (after : List ℕ) → Spells here (number n ∷ tokens) mid → Spells here (answer_lexemes line) after → line.identifier ≡ n
+pub starts_with : (here : List ℕ) (n : ℕ) (tokens : List Lexeme) (mid : List ℕ) (line : SolutionLine) (after : List ℕ)
+    → Spells here (number n ∷ tokens) mid → Spells here (answer_lexemes line) after → line.identifier ≡ n
 starts_with here n tokens mid line after p q = number_is line.identifier n (same_token here (number line.identifier) (number n) q.0 p.0 q.1 p.1).0
 
-strategy_is : (bytes : List ℕ) (m : ℕ) (mid : List ℕ) (strategy : Option ℕ) (after : List ℕ) → Begins bytes (number m) mid → Spells bytes (strategy_lexemes strategy ++ semicolon ∷ []) after → strategy ≡ some m
+strategy_is : (bytes : List ℕ) (m : ℕ) (mid : List ℕ) (strategy : Option ℕ) (after : List ℕ) → Begins bytes (number m) mid
+    → Spells bytes (strategy_lexemes strategy ++ semicolon ∷ []) after → strategy ≡ some m
 strategy_is bytes m mid None after b s = absurd (let same : semicolon ≡ number m = (same_token bytes semicolon (number m) s.0 mid s.1 b).0 in cc)
 strategy_is bytes m mid (Some k) after b s = ap (λ (n : ℕ). some n) (number_is k m (same_token bytes (number k) (number m) s.0 mid s.1 b).0)
 
 -- the winner and the strategy of a line of which the first three tokens are known
 front_is : (here : List ℕ) (n : ℕ) (winner : Player) (m : ℕ) (mid : List ℕ) (line : SolutionLine) (after : List ℕ)
-    → Spells here (number n ∷ number (player_number winner) ∷ number m ∷ []) mid → Spells here (answer_lexemes line) after → (line.winner ≡ winner) × (line.strategy ≡ some m)
+    → Spells here (number n ∷ number (player_number winner) ∷ number m ∷ []) mid → Spells here (answer_lexemes line) after
+    → (line.winner ≡ winner) × (line.strategy ≡ some m)
 front_is here n winner m mid line after p q =
     let one = same_token here (number line.identifier) (number n) q.0 p.0 q.1 p.1 in
-    let second : Begins p.0 (number (player_number line.winner)) q.2.0 = subst (λ (b : List ℕ). Begins b (number (player_number line.winner)) q.2.0) one.1 q.2.1 in
+    let second : Begins p.0 (number (player_number line.winner)) q.2.0 =
+    subst (λ (b : List ℕ). Begins b (number (player_number line.winner)) q.2.0) one.1 q.2.1 in
     let two = same_token p.0 (number (player_number line.winner)) (number (player_number winner)) q.2.0 p.2.0 second p.2.1 in
-    let third : Begins q.2.0 (number m) p.2.2.0 = subst (λ (b : List ℕ). Begins b (number m) p.2.2.0) (sym two.1) p.2.2.1 in
-    (player_is line.winner winner (number_is (player_number line.winner) (player_number winner) two.0), strategy_is q.2.0 m p.2.2.0 line.strategy after third q.2.2)
+    let third : Begins q.2.0 (number m) p.2.2.0 = subst (λ (b : List ℕ). Begins b (number m) p.2.2.0) (sym two.1) p.2.2.1 in (
+      player_is line.winner winner (number_is (player_number line.winner) (player_number winner) two.0),
+      strategy_is q.2.0 m p.2.2.0 line.strategy after third q.2.2,
+    )
 
 -- ---- what begins so is no line that fits
 
 pub unknown_unfit : (game : List GameVertex) (n : ℕ) (line : SolutionLine) → line.identifier ≡ n → IsUnknown game n → ¬ Fits game line
 unknown_unfit game n line named unknown f = unknown f.v f.within (sym f.named ∙ named)
 
-pub no_move_unfit : (game : List GameVertex) (here : List ℕ) (n : ℕ) (line : SolutionLine) (after : List ℕ) → IsGame game → IsNoMove game here n → Spells here (answer_lexemes line) after → ¬ Fits game line
+pub no_move_unfit : (game : List GameVertex) (here : List ℕ) (n : ℕ) (line : SolutionLine) (after : List ℕ) → IsGame game
+    → IsNoMove game here n → Spells here (answer_lexemes line) after → ¬ Fits game line
 no_move_unfit game here n line after well m s =
     let front = front_is here n m.winner m.strategy m.rest line after m.stands s in
-    let named : identifier game m.v ≡ line.identifier = sym (starts_with here n (number (player_number m.winner) ∷ number m.strategy ∷ []) m.rest line after m.stands s ∙ m.named) in
+    let named : identifier game m.v ≡ line.identifier =
+    sym (starts_with here n (number (player_number m.winner) ∷ number m.strategy ∷ []) m.rest line after m.stands s ∙ m.named) in
     let owned : owns game line.winner m.v ≡ true = ap (λ (p : Player). owns game p m.v) front.0 ∙ m.owned in
-    unfit game line m.v well m.within named (record { n = m.strategy; counts = ap (λ (b : Bool). cond b line.strategy none) owned ∙ front.1; absent = m.absent })
+    unfit game line m.v well m.within named
+    (record { n = m.strategy; counts = ap (λ (b : Bool). cond b line.strategy none) owned ∙ front.1; absent = m.absent })
 
-pub unfit_front : (game : List GameVertex) (here : List ℕ) (n : ℕ) (line : SolutionLine) (after : List ℕ) → IsGame game → BeginsUnfit game here n → Spells here (answer_lexemes line) after → ¬ Fits game line
+pub unfit_front : (game : List GameVertex) (here : List ℕ) (n : ℕ) (line : SolutionLine) (after : List ℕ) → IsGame game
+    → BeginsUnfit game here n → Spells here (answer_lexemes line) after → ¬ Fits game line
 unfit_front game here n line after well (inl u) s = unknown_unfit game n line (starts_with here n (u.0.token ∷ []) u.0.rest line after u.0.stands s) u.1
 unfit_front game here n line after well (inr m) s = no_move_unfit game here n line after well m s
 
 pub front_starts : (game : List GameVertex) (here : List ℕ) (n : ℕ) → BeginsUnfit game here n → StartsLine here n
 front_starts game here n (inl u) = u.0
-front_starts game here n (inr m) = record { token = number (player_number m.winner); rest = m.stands.2.0; stands = (m.stands.0, m.stands.1, (m.stands.2.0, m.stands.2.1, refl)) }
+front_starts game here n (inr m) = record {
+  token = number (player_number m.winner);
+  rest = m.stands.2.0;
+  stands =
+      (m.stands.0, m.stands.1, (m.stands.2.0, m.stands.2.1, refl));
+}
 
 -- ---- a whole line begins so too
 
@@ -84,11 +100,13 @@ counts_is : (b : Bool) (strategy : Option ℕ) (n : ℕ) → cond b strategy non
 counts_is true strategy n e = (refl, e)
 counts_is false strategy n e = absurd (none_is_some n e)
 
-strategy_stands : (bytes : List ℕ) (strategy : Option ℕ) (m : ℕ) (after : List ℕ) → strategy ≡ some m → Spells bytes (strategy_lexemes strategy ++ semicolon ∷ []) after → (mid : List ℕ) × Begins bytes (number m) mid
+strategy_stands : (bytes : List ℕ) (strategy : Option ℕ) (m : ℕ) (after : List ℕ) → strategy ≡ some m
+    → Spells bytes (strategy_lexemes strategy ++ semicolon ∷ []) after → (mid : List ℕ) × Begins bytes (number m) mid
 strategy_stands bytes None m after e s = absurd (none_is_some m e)
 strategy_stands bytes (Some k) m after e s = (s.0, subst (λ (n : ℕ). Begins bytes (number n) s.0) (some_is k m e) s.1)
 
-lost_front : (game : List GameVertex) (here : List ℕ) (line : SolutionLine) (after : List ℕ) → Spells here (answer_lexemes line) after → IsLost game line → IsNoMove game here line.identifier
+lost_front : (game : List GameVertex) (here : List ℕ) (line : SolutionLine) (after : List ℕ) → Spells here (answer_lexemes line) after
+    → IsLost game line → IsNoMove game here line.identifier
 lost_front game here line after s l =
     let c = counts_is (owns game line.winner l.v) line.strategy l.nowhere.n l.nowhere.counts in
     let third = strategy_stands s.2.0 line.strategy l.nowhere.n after c.1 s.2.2 in
@@ -104,7 +122,8 @@ lost_front game here line after s l =
       absent = l.nowhere.absent;
     }
 
-pub line_front : (game : List GameVertex) (seen : List Bool) (here : List ℕ) (line : SolutionLine) (after : List ℕ) (misfit : Misfit) → Spells here (answer_lexemes line) after → IsMisfit game line seen misfit → BeginsMisfit game seen here line.identifier misfit
+pub line_front : (game : List GameVertex) (seen : List Bool) (here : List ℕ) (line : SolutionLine) (after : List ℕ) (misfit : Misfit)
+    → Spells here (answer_lexemes line) after → IsMisfit game line seen misfit → BeginsMisfit game seen here line.identifier misfit
 line_front game seen here line after NotOfGame s (inl unknown, unmarked) = (inl (line_starts here line after s, unknown), unmarked)
 line_front game seen here line after NotOfGame s (inr lost, unmarked) = (inr (lost_front game here line after s lost), unmarked)
 line_front game seen here line after Repeated s m = (line_starts here line after s, m)
@@ -118,20 +137,25 @@ well_unstarted game seen here none = record {
 }
 
 -- no number stands here
-pub well_numberless : (game : List GameVertex) (seen : List Bool) (here : List ℕ) → ((n : ℕ) (mid : List ℕ) → ¬ Begins here (number n) mid) → BeginsWell game seen here
+pub well_numberless : (game : List GameVertex) (seen : List Bool) (here : List ℕ) → ((n : ℕ) (mid : List ℕ) → ¬ Begins here (number n) mid)
+    → BeginsWell game seen here
 well_numberless game seen here none = well_unstarted game seen here (λ n s. none n s.stands.0 s.stands.1)
 
 -- no token stands behind the identifier
-pub well_cut : (game : List GameVertex) (seen : List Bool) (here : List ℕ) (n : ℕ) (mid : List ℕ) → Begins here (number n) mid → ((token : Lexeme) (rest : List ℕ) → ¬ Begins mid token rest) → BeginsWell game seen here
+pub well_cut : (game : List GameVertex) (seen : List Bool) (here : List ℕ) (n : ℕ) (mid : List ℕ) → Begins here (number n) mid
+    → ((token : Lexeme) (rest : List ℕ) → ¬ Begins mid token rest) → BeginsWell game seen here
 well_cut game seen here n mid first none = well_unstarted game seen here (λ k s.
     let same = same_token here (number k) (number n) s.stands.0 mid s.stands.1 first in
     none s.token s.stands.2.0 (subst (λ (b : List ℕ). Begins b s.token s.stands.2.0) same.1 s.stands.2.1))
 
 -- at this vertex no strategy that counts and is no successor stands behind the identifier
 abbrev pub HasMove : List GameVertex → ℕ → List ℕ → Type 0
-HasMove game v mid = (player : Player) (m : ℕ) (rest : List ℕ) → Spells mid (number (player_number player) ∷ number m ∷ []) rest → owns game player v ≡ true → ((w : ℕ) → IsEdge game v w → identifier game w ≢ m) → ⊥
+HasMove game v mid = (player : Player) (m : ℕ) (rest : List ℕ) → Spells mid (number (player_number player) ∷ number m ∷ []) rest
+    → owns game player v ≡ true → ((w : ℕ) → IsEdge game v w → identifier game w ≢ m) → ⊥
 
-pub well_here : (game : List GameVertex) (seen : List Bool) (here : List ℕ) (n : ℕ) (mid : List ℕ) (v : ℕ) → IsGame game → Begins here (number n) mid → v < length game → n ≡ identifier game v → is_seen seen v ≡ false → HasMove game v mid → BeginsWell game seen here
+pub well_here : (game : List GameVertex) (seen : List Bool) (here : List ℕ) (n : ℕ) (mid : List ℕ) (v : ℕ) → IsGame game
+    → Begins here (number n) mid → v < length game → n ≡ identifier game v → is_seen seen v ≡ false → HasMove game v mid
+    → BeginsWell game seen here
 well_here game seen here n mid v well first within named unmarked moves = record { fresh = fresh; no_unfit = no_unfit }
   where
     fresh : (k : ℕ) → StartsLine here k → IsUnmarked game k seen
@@ -155,18 +179,21 @@ pub moves_unwon : (game : List GameVertex) (v : ℕ) (mid : List ℕ) (fault : T
 moves_unwon game v mid fault e = λ player m rest s owned absent. err_is_ok fault _ (sym e ∙ owner_again mid player s.0 s.1)
 
 -- no strategy stands there
-pub moves_unnamed : (game : List GameVertex) (v : ℕ) (mid : List ℕ) (winner : Player) (after : List ℕ) → Begins mid (number (player_number winner)) after → ((n : ℕ) (rest : List ℕ) → ¬ Begins after (number n) rest) → HasMove game v mid
+pub moves_unnamed : (game : List GameVertex) (v : ℕ) (mid : List ℕ) (winner : Player) (after : List ℕ)
+    → Begins mid (number (player_number winner)) after → ((n : ℕ) (rest : List ℕ) → ¬ Begins after (number n) rest) → HasMove game v mid
 moves_unnamed game v mid winner after won none = λ player m rest s owned absent.
     let same = same_token mid (number (player_number player)) (number (player_number winner)) s.0 after s.1 won in
     none m s.2.0 (subst (λ (b : List ℕ). Begins b (number m) s.2.0) same.1 s.2.1)
 
 -- this winner and this strategy stand there, and they don't refuse the line
-pub moves_named : (game : List GameVertex) (v : ℕ) (mid : List ℕ) (winner : Player) (after : List ℕ) (n : ℕ) (rest : List ℕ) → Begins mid (number (player_number winner)) after → Begins after (number n) rest
+pub moves_named : (game : List GameVertex) (v : ℕ) (mid : List ℕ) (winner : Player) (after : List ℕ) (n : ℕ) (rest : List ℕ)
+    → Begins mid (number (player_number winner)) after → Begins after (number n) rest
     → (owns game winner v ≡ true → ((w : ℕ) → IsEdge game v w → identifier game w ≢ n) → ⊥) → HasMove game v mid
 moves_named game v mid winner after n rest won named holds = λ player m end s owned absent.
     let same = same_token mid (number (player_number player)) (number (player_number winner)) s.0 after s.1 won in
     let who : player ≡ winner = player_is player winner (number_is (player_number player) (player_number winner) same.0) in
-    let what : m ≡ n = number_is m n (same_token after (number m) (number n) s.2.0 rest (subst (λ (b : List ℕ). Begins b (number m) s.2.0) same.1 s.2.1) named).0 in
+    let what : m ≡ n = number_is m n (same_token after (number m) (number n) s.2.0 rest
+    (subst (λ (b : List ℕ). Begins b (number m) s.2.0) same.1 s.2.1) named).0 in
     holds (subst (λ (p : Player). owns game p v ≡ true) who owned) (subst (λ (k : ℕ). (w : ℕ) → IsEdge game v w → identifier game w ≢ k) what absent)
 
 -- ---- what isn't read doesn't stand there

@@ -1,5 +1,6 @@
 -- Where reading a game fails, no token stands that may stand there.
-use Rattle.std.proofs.Common.{◌≡◌, ◌≢◌, ℕ, zero, suc, ◌^◌, ◌<◌, true, false, cond, ltb, List, [], ◌∷◌, length, Option, Some, None, Ok, Err, refl, sym, ap, subst, ◌∙◌, inl, inr, ◌⊎◌, arith}
+use Rattle.std.proofs.Common.{◌≡◌, ◌≢◌, ℕ, zero, suc, ◌^◌, ◌<◌, true, false, cond, ltb, List, [], ◌∷◌, length, Option, Some, None, Ok, Err}
+use Rattle.std.proofs.Common.{refl, sym, ap, subst, ◌∙◌, inl, inr, ◌⊎◌, arith}
 use Rattle.std.proofs.lemmas.Bool.Decides.{nat_tests}
 use Rattle.std.specs.Prelude.{option_and_then}
 use Rattle.std.specs.Str.{bytes_eq}
@@ -13,7 +14,8 @@ use Rattle.pg_text.specs.declared.tokens.TokenFault.TheVariants.{Syntax, NumberT
 use Rattle.pg_text.specs.Lexemes.{Lexeme, number, word, semicolon, comma, quoted, end, Begins, Spells, after_space, fault_at, token_fault, IsTooLarge, IsToldAt}
 use Rattle.pg_lists.specs.Bytes.{is_digit, value_of}
 use Rattle.pg_text.specs.Numbers.{comma_number_lexemes, numbers_lexemes}
-use Rattle.pg_text.specs.Places.{IsInner, Place, behind_line, behind_identifier, behind_priority, behind_owner, behind_successor, behind_comma, behind_name, to_number, to_semicolon, to_player, to_line, after, after_all}
+use Rattle.pg_text.specs.Places.{IsInner, Place, behind_line, behind_identifier, behind_priority, behind_owner, behind_successor}
+use Rattle.pg_text.specs.Places.{behind_comma, behind_name, to_number, to_semicolon, to_player, to_line, after, after_all}
 use Rattle.pg_text.specs.GameText.{player_number}
 use Rattle.pg_text.specs.Mirrors.Steps.{◌>>=◌, Read, Step, item, stop, unexpected, after_step, items_within, items_at}
 use Rattle.pg_text.specs.Mirrors.Scan.{number_at, solid_at, lexeme_at, or_fault, token_at}
@@ -72,7 +74,8 @@ token_told : (bytes : List ℕ) (x : Lexeme × List ℕ) → token_at bytes ≡ 
 unfolding token_at lexeme_at
 token_told bytes x e = go (solid_at (after_space bytes)) refl e
   where
-    go : (o : Option (Lexeme × List ℕ)) → solid_at (after_space bytes) ≡ o → or_fault o (token_fault bytes) ≡ Ok x → IsToldAt (after_space bytes) (unexpected bytes)
+    go : (o : Option (Lexeme × List ℕ)) → solid_at (after_space bytes) ≡ o → or_fault o (token_fault bytes) ≡ Ok x
+        → IsToldAt (after_space bytes) (unexpected bytes)
     go (Some y) h k = (refl, solid_some (after_space bytes) y h)
     go None h k = absurd (err_is_ok (token_fault bytes) x k)
 
@@ -101,7 +104,8 @@ token_stuck place bytes fault e = record {
 }
 
 -- this token may not stand there
-pub wrong : (place : Place) (bytes : List ℕ) (token : Lexeme) (rest : List ℕ) (fault : TokenFault) → token_at bytes ≡ Ok (token, rest) → after place token ≡ None → (let r : Read ℕ = Err (unexpected bytes) in r) ≡ Err fault → Stuck place bytes fault
+pub wrong : (place : Place) (bytes : List ℕ) (token : Lexeme) (rest : List ℕ) (fault : TokenFault) → token_at bytes ≡ Ok (token, rest)
+    → after place token ≡ None → (let r : Read ℕ = Err (unexpected bytes) in r) ≡ Err fault → Stuck place bytes fault
 wrong place bytes token rest fault e refused same = subst (Stuck place bytes) (err_same (unexpected bytes) fault same) (record {
   tokens = [];
   rest = bytes;
@@ -110,13 +114,15 @@ wrong place bytes token rest fault e refused same = subst (Stuck place bytes) (e
   inner = tt;
   leads = refl;
   none = λ other behind b.
-      let pair : (let r : Lexeme × List ℕ = (token, rest) in r) ≡ (other, behind) = ok_is (token, rest) (other, behind) (sym e ∙ token_again bytes other behind b) in
+      let pair : (let r : Lexeme × List ℕ = (token, rest) in r) ≡ (other, behind) =
+      ok_is (token, rest) (other, behind) (sym e ∙ token_again bytes other behind b) in
       subst (λ (t : Lexeme). after place t ≡ None) (ap (λ (p : Lexeme × List ℕ). p.0) pair) refused;
   told = token_told bytes (token, rest) e;
 })
 
 -- a token that may stand there
-pub step : (place next : Place) (bytes : List ℕ) (token : Lexeme) (mid : List ℕ) (fault : TokenFault) → Begins bytes token mid → IsInner token → after place token ≡ Some next → Stuck next mid fault → Stuck place bytes fault
+pub step : (place next : Place) (bytes : List ℕ) (token : Lexeme) (mid : List ℕ) (fault : TokenFault) → Begins bytes token mid
+    → IsInner token → after place token ≡ Some next → Stuck next mid fault → Stuck place bytes fault
 step place next bytes token mid fault b inner e s = record {
   tokens = token ∷ s.tokens;
   rest = s.rest;
@@ -132,13 +138,15 @@ pub number_inner : (n : ℕ) → IsInner (number n)
 number_inner n = (λ e. cc, λ e. cc)
 
 -- which of two steps failed
-pub bind_err : {A B : Type 0} (o : Read A) (f : A → Read B) (fault : TokenFault) → (o >>= f) ≡ Err fault → (o ≡ Err fault) ⊎ ((x : A) × (o ≡ Ok x) × (f x ≡ Err fault))
+pub bind_err : {A B : Type 0} (o : Read A) (f : A → Read B) (fault : TokenFault) → (o >>= f) ≡ Err fault
+    → (o ≡ Err fault) ⊎ ((x : A) × (o ≡ Ok x) × (f x ≡ Err fault))
 bind_err (Err g) f fault e = inl (ap (λ (h : TokenFault). err h) (err_same g fault e))
 bind_err (Ok x) f fault e = inr (x, refl, e)
 
 -- ---- parts
 
-pub natural_stuck : (place next : Place) (bytes : List ℕ) (fault : TokenFault) → ((token : Lexeme) → after place token ≡ to_number next token) → natural_at bytes ≡ Err fault → Stuck place bytes fault
+pub natural_stuck : (place next : Place) (bytes : List ℕ) (fault : TokenFault)
+    → ((token : Lexeme) → after place token ≡ to_number next token) → natural_at bytes ≡ Err fault → Stuck place bytes fault
 unfolding natural_at
 natural_stuck place next bytes fault is e = go (token_at bytes) refl e
   where
@@ -151,7 +159,8 @@ natural_stuck place next bytes fault is e = go (token_at bytes) refl e
     go (Ok (quoted s, rest)) h k = wrong place bytes (quoted s) rest fault h (is (quoted s)) cc
     go (Ok (end, rest)) h k = wrong place bytes end rest fault h (is end) cc
 
-pub semicolon_stuck : (place next : Place) (bytes : List ℕ) (fault : TokenFault) → ((token : Lexeme) → after place token ≡ to_semicolon next token) → semicolon_at bytes ≡ Err fault → Stuck place bytes fault
+pub semicolon_stuck : (place next : Place) (bytes : List ℕ) (fault : TokenFault)
+    → ((token : Lexeme) → after place token ≡ to_semicolon next token) → semicolon_at bytes ≡ Err fault → Stuck place bytes fault
 unfolding semicolon_at
 semicolon_stuck place next bytes fault is e = go (token_at bytes) refl e
   where
@@ -164,7 +173,8 @@ semicolon_stuck place next bytes fault is e = go (token_at bytes) refl e
     go (Ok (quoted s, rest)) h k = wrong place bytes (quoted s) rest fault h (is (quoted s)) cc
     go (Ok (end, rest)) h k = wrong place bytes end rest fault h (is end) cc
 
-pub owner_stuck : (place next : Place) (bytes : List ℕ) (fault : TokenFault) → ((token : Lexeme) → after place token ≡ to_player next token) → owner_at bytes ≡ Err fault → Stuck place bytes fault
+pub owner_stuck : (place next : Place) (bytes : List ℕ) (fault : TokenFault) → ((token : Lexeme) → after place token ≡ to_player next token)
+    → owner_at bytes ≡ Err fault → Stuck place bytes fault
 unfolding owner_at natural_at
 owner_stuck place next bytes fault is e = go (token_at bytes) refl e
   where
@@ -189,7 +199,8 @@ further_stuck bytes fault e = go (token_at bytes) refl e
     go (Err f) h k = token_stuck behind_successor bytes fault (h ∙ ap (λ (g : TokenFault). err g) (err_same f fault k))
     go (Ok (comma, rest)) h k =
         elim (bind_err (natural_at rest) (λ n. ok (item n.0, n.1)) fault k) [
-          | inl n ↦ step behind_successor behind_comma bytes comma rest fault (token_takes bytes (comma, rest) h) (λ e. cc, λ e. cc) refl (natural_stuck behind_comma behind_successor rest fault (λ t. refl) n)
+          | inl n ↦ step behind_successor behind_comma bytes comma rest fault (token_takes bytes (comma, rest) h) (λ e. cc, λ e. cc) refl
+              (natural_stuck behind_comma behind_successor rest fault (λ t. refl) n)
           | inr n ↦ absurd (err_is_ok fault _ (sym n.2))
         ]
     go (Ok (number n, rest)) h k = absurd cc
@@ -198,7 +209,8 @@ further_stuck bytes fault e = go (token_at bytes) refl e
     go (Ok (quoted s, rest)) h k = absurd cc
     go (Ok (end, rest)) h k = absurd cc
 
-others_stuck : (n : ℕ) (bytes : List ℕ) (fault : TokenFault) → length bytes < n → items_within further_at n bytes ≡ Err fault → Stuck behind_successor bytes fault
+others_stuck : (n : ℕ) (bytes : List ℕ) (fault : TokenFault) → length bytes < n → items_within further_at n bytes ≡ Err fault
+    → Stuck behind_successor bytes fault
 unfolding items_within
 others_stuck zero bytes fault lt e = absurd (omega arith)
 others_stuck (suc n) bytes fault lt e =
@@ -207,7 +219,9 @@ others_stuck (suc n) bytes fault lt e =
       | inr f ↦ go (λ rest less later. others_stuck n rest fault less later) f.0.0 f.0.1 f.1 f.2
     ]
   where
-    go : ((rest : List ℕ) → length rest < n → items_within further_at n rest ≡ Err fault → Stuck behind_successor rest fault) → (o : Step ℕ (Unit {0})) (rest : List ℕ) → further_at bytes ≡ Ok (o, rest) → after_step (items_within further_at n) (o, rest) ≡ Err fault → Stuck behind_successor bytes fault
+    go : ((rest : List ℕ) → length rest < n → items_within further_at n rest ≡ Err fault → Stuck behind_successor rest fault)
+        → (o : Step ℕ (Unit {0})) (rest : List ℕ) → further_at bytes ≡ Ok (o, rest)
+        → after_step (items_within further_at n) (o, rest) ≡ Err fault → Stuck behind_successor bytes fault
     go again (stop u) rest h k = absurd (err_is_ok fault _ (sym k))
     go again (item x) rest h k =
         elim (bind_err (items_within further_at n rest) (λ others. ok (x ∷ others.0, others.1, others.2)) fault k) [
@@ -226,7 +240,8 @@ numbers_stuck bytes fault e =
     elim (bind_err (natural_at bytes) (λ first. items_at further_at first.1 >>= λ others. ok (first.0 ∷ others.0, others.2)) fault e) [
       | inl f ↦ natural_stuck behind_owner behind_successor bytes fault (λ t. refl) f
       | inr f ↦ elim (bind_err (items_at further_at f.0.1) (λ others. ok (f.0.0 ∷ others.0, others.2)) fault f.2) [
-        | inl g ↦ step behind_owner behind_successor bytes (number f.0.0) f.0.1 fault (natural_takes bytes f.0 f.1) (number_inner f.0.0) refl (others_stuck (suc (length f.0.1)) f.0.1 fault (omega arith) g)
+        | inl g ↦ step behind_owner behind_successor bytes (number f.0.0) f.0.1 fault (natural_takes bytes f.0 f.1)
+            (number_inner f.0.0) refl (others_stuck (suc (length f.0.1)) f.0.1 fault (omega arith) g)
         | inr g ↦ absurd (err_is_ok fault _ (sym g.2))
       ]
     ]
@@ -241,11 +256,15 @@ others_inner [] = tt
 others_inner (n ∷ ns) = ((λ e. cc, λ e. cc), (number_inner n, others_inner ns))
 
 -- tokens that may stand there
-onward : (tokens : List Lexeme) (place next : Place) (bytes mid : List ℕ) (fault : TokenFault) → Spells bytes tokens mid → AllByRecursion IsInner tokens → after_all tokens place ≡ Some next → Stuck next mid fault → Stuck place bytes fault
-onward [] place next bytes mid fault s inner e stuck = subst (λ (b : List ℕ). Stuck place b fault) (sym s) (subst (λ (p : Place). Stuck p mid fault) (sym (some_is place next e)) stuck)
-onward (token ∷ tokens) place next bytes mid fault s inner e stuck = go (λ p k. onward tokens p next s.0 mid fault s.2 inner.1 k stuck) (after place token) refl e
+onward : (tokens : List Lexeme) (place next : Place) (bytes mid : List ℕ) (fault : TokenFault) → Spells bytes tokens mid
+    → AllByRecursion IsInner tokens → after_all tokens place ≡ Some next → Stuck next mid fault → Stuck place bytes fault
+onward [] place next bytes mid fault s inner e stuck = subst (λ (b : List ℕ). Stuck place b fault) (sym s)
+    (subst (λ (p : Place). Stuck p mid fault) (sym (some_is place next e)) stuck)
+onward (token ∷ tokens) place next bytes mid fault s inner e stuck = go (λ p k. onward tokens p next s.0 mid fault s.2 inner.1 k stuck)
+    (after place token) refl e
   where
-    go : ((p : Place) → after_all tokens p ≡ Some next → Stuck p s.0 fault) → (o : Option Place) → after place token ≡ o → option_and_then (after_all tokens) o ≡ Some next → Stuck place bytes fault
+    go : ((p : Place) → after_all tokens p ≡ Some next → Stuck p s.0 fault) → (o : Option Place) → after place token ≡ o
+        → option_and_then (after_all tokens) o ≡ Some next → Stuck place bytes fault
     go again None h k = absurd (none_is_some next k)
     go again (Some p) h k = step place p bytes token s.0 fault s.1 inner.0 h (again p k)
 
@@ -266,7 +285,8 @@ numbers_stop bytes y e mid b =
 
 -- ---- a line
 
-ending_stuck : (bytes : List ℕ) (fault : TokenFault) → ((mid : List ℕ) → ¬ Begins bytes comma mid) → ending_at bytes ≡ Err fault → Stuck behind_successor bytes fault
+ending_stuck : (bytes : List ℕ) (fault : TokenFault) → ((mid : List ℕ) → ¬ Begins bytes comma mid) → ending_at bytes ≡ Err fault
+    → Stuck behind_successor bytes fault
 unfolding ending_at
 ending_stuck bytes fault no_comma e = go (token_at bytes) refl e
   where
@@ -274,7 +294,8 @@ ending_stuck bytes fault no_comma e = go (token_at bytes) refl e
     go (Err f) h k = token_stuck behind_successor bytes fault (h ∙ ap (λ (g : TokenFault). err g) (err_same f fault k))
     go (Ok (quoted s, rest)) h k =
         elim (bind_err (semicolon_at rest) (λ behind. ok (some s, behind)) fault k) [
-          | inl n ↦ step behind_successor behind_name bytes (quoted s) rest fault (token_takes bytes (quoted s, rest) h) (λ e. cc, λ e. cc) refl (semicolon_stuck behind_name behind_line rest fault (λ t. refl) n)
+          | inl n ↦ step behind_successor behind_name bytes (quoted s) rest fault (token_takes bytes (quoted s, rest) h)
+              (λ e. cc, λ e. cc) refl (semicolon_stuck behind_name behind_line rest fault (λ t. refl) n)
           | inr n ↦ absurd (err_is_ok fault _ (sym n.2))
         ]
     go (Ok (semicolon, rest)) h k = absurd cc
@@ -287,12 +308,15 @@ owner_leads : (player : Player) → after behind_priority (number (player_number
 owner_leads Even = refl
 owner_leads Odd = refl
 
-numbers_onward : (ns : List ℕ) (bytes mid : List ℕ) (fault : TokenFault) → ns ≢ [] → Spells bytes (numbers_lexemes ns) mid → Stuck behind_successor mid fault → Stuck behind_owner bytes fault
+numbers_onward : (ns : List ℕ) (bytes mid : List ℕ) (fault : TokenFault) → ns ≢ [] → Spells bytes (numbers_lexemes ns) mid
+    → Stuck behind_successor mid fault → Stuck behind_owner bytes fault
 numbers_onward [] bytes mid fault h s stuck = absurd (h refl)
-numbers_onward (n ∷ ns) bytes mid fault h s stuck = onward (numbers_lexemes (n ∷ ns)) behind_owner behind_successor bytes mid fault s (number_inner n, others_inner ns) (others_lead ns) stuck
+numbers_onward (n ∷ ns) bytes mid fault h s stuck = onward (numbers_lexemes (n ∷ ns)) behind_owner behind_successor bytes mid fault s
+    (number_inner n, others_inner ns) (others_lead ns) stuck
 
 abbrev made_line : ℕ → ℕ → Player → List ℕ → Option (List ℕ) × List ℕ → Read (Line × List ℕ)
-made_line identifier priority owner successors ending = Ok (record { identifier = identifier; priority = priority; owner = owner; successors = successors; name = ending.0 }, ending.1)
+made_line identifier priority owner successors ending =
+    Ok (record { identifier = identifier; priority = priority; owner = owner; successors = successors; name = ending.0 }, ending.1)
 
 line_stuck : (identifier : ℕ) (bytes : List ℕ) (fault : TokenFault) → line_at identifier bytes ≡ Err fault → Stuck behind_identifier bytes fault
 unfolding line_at
@@ -303,7 +327,8 @@ line_stuck identifier bytes fault e =
       | inr a ↦ step behind_identifier behind_priority bytes (number a.0.0) a.0.1 fault (natural_takes bytes a.0 a.1) (number_inner a.0.0) refl
           (elim (bind_err (owner_at a.0.1) (λ o. numbers_at o.1 >>= λ s. ending_at s.1 >>= λ n. made a.0.0 o.0 s.0 n) fault a.2) [
             | inl f ↦ owner_stuck behind_priority behind_owner a.0.1 fault (λ t. refl) f
-            | inr b ↦ step behind_priority behind_owner a.0.1 (number (player_number b.0.0)) b.0.1 fault (owner_takes a.0.1 b.0 b.1) (number_inner (player_number b.0.0)) (owner_leads b.0.0)
+            | inr b ↦ step behind_priority behind_owner a.0.1 (number (player_number b.0.0)) b.0.1 fault (owner_takes a.0.1 b.0 b.1)
+                (number_inner (player_number b.0.0)) (owner_leads b.0.0)
                 (elim (bind_err (numbers_at b.0.1) (λ s. ending_at s.1 >>= λ n. made a.0.0 b.0.0 s.0 n) fault b.2) [
                   | inl f ↦ numbers_stuck b.0.1 fault f
                   | inr c ↦
@@ -318,7 +343,9 @@ line_stuck identifier bytes fault e =
     ]
 
 -- a line, or the end: at a place where no word may stand that stands there
-pub item_stuck : (place : Place) (bytes : List ℕ) (fault : TokenFault) → ((token : Lexeme) (rest : List ℕ) → Begins bytes token rest → after place token ≡ to_line token) → item_at bytes ≡ Err fault → Stuck place bytes fault
+pub item_stuck : (place : Place) (bytes : List ℕ) (fault : TokenFault)
+    → ((token : Lexeme) (rest : List ℕ) → Begins bytes token rest → after place token ≡ to_line token) → item_at bytes ≡ Err fault
+    → Stuck place bytes fault
 unfolding item_at
 item_stuck place bytes fault is e = go (token_at bytes) refl e
   where
@@ -338,7 +365,9 @@ item_stuck place bytes fault is e = go (token_at bytes) refl e
 
 -- ---- header and start
 
-pub clause_stuck : (name : List ℕ) (place p q r : Place) (bytes : List ℕ) (fault : TokenFault) → after place (word name) ≡ Some p → ((t : Lexeme) → after p t ≡ to_number q t) → ((t : Lexeme) → after q t ≡ to_semicolon r t) → clause_at name bytes ≡ Err fault → Stuck place bytes fault
+pub clause_stuck : (name : List ℕ) (place p q r : Place) (bytes : List ℕ) (fault : TokenFault) → after place (word name) ≡ Some p
+    → ((t : Lexeme) → after p t ≡ to_number q t) → ((t : Lexeme) → after q t ≡ to_semicolon r t) → clause_at name bytes ≡ Err fault
+    → Stuck place bytes fault
 unfolding clause_at
 clause_stuck name place p q r bytes fault is_word is_number is_semicolon e = go (token_at bytes) refl e
   where

@@ -10,7 +10,8 @@ use Rattle.pg_text.specs.declared.tokens.TokenFault.{TokenFault}
 use Rattle.pg_text.specs.declared.reading.Refusal.TheVariants.{Token}
 use Rattle.pg_text.specs.Mirrors.Steps.{◌>>=◌, Read, Step, item, stop, items_at}
 use Rattle.pg_text.specs.Mirrors.Scan.{token_at}
-use Rattle.pg_text.specs.Mirrors.Parts.{number_in, natural_at, word_in, name_at, semicolon_in, semicolon_at, end_in, end_at, further_in, further_at, numbers_at, clause_in, clause_at}
+use Rattle.pg_text.specs.Mirrors.Parts.{number_in, natural_at, word_in, name_at, semicolon_in, semicolon_at, end_in, end_at, further_in}
+use Rattle.pg_text.specs.Mirrors.Parts.{further_at, numbers_at, clause_in, clause_at}
 use Rattle.pg_text.proofs.Steps.{bind_ok, ok, ok_is}
 use Rattle.pg_lists.proofs.Steps.{chosen, some}
 use Rattle.pg_text.proofs.Lexing.{token_takes, token_again}
@@ -78,7 +79,8 @@ end_again bytes s = rw (token_again bytes end s.0 s.1) refl
 
 -- ---- a word, a number and a semicolon
 
-clause_in_is : (name bytes : List ℕ) (x : Lexeme × List ℕ) (y : Option ℕ × List ℕ) → Begins bytes x.0 x.1 → clause_in name bytes x ≡ Ok y → Spells bytes (clause_lexemes name y.0) y.1
+clause_in_is : (name bytes : List ℕ) (x : Lexeme × List ℕ) (y : Option ℕ × List ℕ) → Begins bytes x.0 x.1 → clause_in name bytes x ≡ Ok y
+    → Spells bytes (clause_lexemes name y.0) y.1
 clause_in_is name bytes (word w, mid) y begins e =
     elim (chosen (bytes_eq w name) (natural_at mid >>= λ n. semicolon_at n.1 >>= λ after. ok (some n.0, after)) (ok (None, bytes)) (ok y) e) [
       | inl c ↦
@@ -99,14 +101,22 @@ clause_takes name bytes y e =
 
 pub clause_there : (name : List ℕ) (n : ℕ) (bytes rest : List ℕ) → Spells bytes (clause_lexemes name (Some n)) rest → clause_at name bytes ≡ Ok (Some n, rest)
 unfolding clause_at
-clause_there name n bytes rest s = grind (arith, nat_tests, bytes_eq-Decides name name, token_again bytes (word name) s.0 s.1, natural_again s.0 n s.2.0 s.2.1, semicolon_again s.2.0 s.2.2.0 s.2.2.1)
+clause_there name n bytes rest s = grind (
+  arith,
+  nat_tests,
+  bytes_eq-Decides name name,
+  token_again bytes (word name) s.0 s.1,
+  natural_again s.0 n s.2.0 s.2.1,
+  semicolon_again s.2.0 s.2.2.0 s.2.2.1,
+)
 
 -- another token than the word
 clause_in_other : (name bytes : List ℕ) (token : Lexeme) (mid : List ℕ) → (token ≡ word name → ⊥) → clause_in name bytes (token, mid) ≡ Ok (None, bytes)
 clause_in_other name bytes (word w) mid h = grind (arith, nat_tests, bytes_eq-Decides w name)
 clause_in_other name bytes _ mid h = refl
 
-pub clause_absent : (name bytes : List ℕ) (token : Lexeme) (mid : List ℕ) → (token ≡ word name → ⊥) → Begins bytes token mid → clause_at name bytes ≡ Ok (None, bytes)
+pub clause_absent : (name bytes : List ℕ) (token : Lexeme) (mid : List ℕ) → (token ≡ word name → ⊥) → Begins bytes token mid
+    → clause_at name bytes ≡ Ok (None, bytes)
 unfolding clause_at
 clause_absent name bytes token mid h b = rw (token_again bytes token mid b) (clause_in_other name bytes token mid h)
 
@@ -169,11 +179,13 @@ all_units [] = tt
 all_units (n ∷ ns) = (tt, all_units ns)
 
 -- the token behind the last number is no comma
-pub numbers_again : (ns : List ℕ) (bytes rest : List ℕ) (token : Lexeme) (mid : List ℕ) → ns ≢ [] → Spells bytes (numbers_lexemes ns) rest → token ≢ comma → Begins rest token mid → numbers_at bytes ≡ Ok (ns, rest)
+pub numbers_again : (ns : List ℕ) (bytes rest : List ℕ) (token : Lexeme) (mid : List ℕ) → ns ≢ [] → Spells bytes (numbers_lexemes ns) rest
+    → token ≢ comma → Begins rest token mid → numbers_at bytes ≡ Ok (ns, rest)
 unfolding numbers_at
 numbers_again [] bytes rest token mid h s other b = absurd (h refl)
 numbers_again (n ∷ ns) bytes rest token mid h s other b =
-    let others : items_at further_at s.0 ≡ Ok (ns, tt, rest) = items_again further_at comma_number_lexemes (λ _. Unit {0}) further_exact further_shrinks ns s.0 rest tt rest (all_units ns) s.2 (further_absent rest token mid other b) in
+    let others : items_at further_at s.0 ≡ Ok (ns, tt, rest) = items_again further_at comma_number_lexemes
+    (λ _. Unit {0}) further_exact further_shrinks ns s.0 rest tt rest (all_units ns) s.2 (further_absent rest token mid other b) in
     rw (natural_again bytes n s.0 s.1, others) refl
 
 -- ---- as a loop reads them
@@ -182,14 +194,20 @@ numbers_again (n ∷ ns) bytes rest token mid h s other b =
 abbrev pub HaveCome : List ℕ → List ℕ → Read (List ℕ × List ℕ) → Type 0
 HaveCome front rest all = (with_front front (items_at further_at rest) >>= λ x. ok (x.0, x.2)) ≡ all
 
-pub one_comes : (front rest : List ℕ) (n : ℕ) (after : List ℕ) (all : Read (List ℕ × List ℕ)) → further_at rest ≡ Ok (item n, after) → HaveCome front rest all → HaveCome (front ++ n ∷ []) after all
+pub one_comes : (front rest : List ℕ) (n : ℕ) (after : List ℕ) (all : Read (List ℕ × List ℕ)) → further_at rest ≡ Ok (item n, after)
+    → HaveCome front rest all → HaveCome (front ++ n ∷ []) after all
 one_comes front rest n after all e so_far =
-    ap (λ (r : Read (List ℕ × Unit {0} × List ℕ)). r >>= λ x. ok (x.0, x.2)) (goes_on further_at further_shrinks front rest n after (with_front front (items_at further_at rest)) e refl) ∙ so_far
+    ap (λ (r : Read (List ℕ × Unit {0} × List ℕ)). r >>= λ x. ok (x.0, x.2))
+    (goes_on further_at further_shrinks front rest n after (with_front front (items_at further_at rest)) e refl) ∙ so_far
 
-pub all_came : (front rest : List ℕ) (u : Unit {0}) (after : List ℕ) (all : Read (List ℕ × List ℕ)) → further_at rest ≡ Ok (stop u, after) → HaveCome front rest all → all ≡ Ok (front, after)
+pub all_came : (front rest : List ℕ) (u : Unit {0}) (after : List ℕ) (all : Read (List ℕ × List ℕ)) → further_at rest ≡ Ok (stop u, after)
+    → HaveCome front rest all → all ≡ Ok (front, after)
 all_came front rest u after all e so_far =
-    sym so_far ∙ ap (λ (r : Read (List ℕ × Unit {0} × List ℕ)). r >>= λ x. ok (x.0, x.2)) (ends further_at front rest u after (with_front front (items_at further_at rest)) e refl)
+    sym so_far ∙ ap (λ (r : Read (List ℕ × Unit {0} × List ℕ)). r >>= λ x. ok (x.0, x.2))
+    (ends further_at front rest u after (with_front front (items_at further_at rest)) e refl)
 
-pub none_comes : (front rest : List ℕ) (fault : TokenFault) (all : Read (List ℕ × List ℕ)) → further_at rest ≡ Err fault → HaveCome front rest all → all ≡ Err fault
+pub none_comes : (front rest : List ℕ) (fault : TokenFault) (all : Read (List ℕ × List ℕ)) → further_at rest ≡ Err fault
+    → HaveCome front rest all → all ≡ Err fault
 none_comes front rest fault all e so_far =
-    sym so_far ∙ ap (λ (r : Read (List ℕ × Unit {0} × List ℕ)). r >>= λ x. ok (x.0, x.2)) (fails further_at (Token fault) front rest (with_front front (items_at further_at rest)) e refl)
+    sym so_far ∙ ap (λ (r : Read (List ℕ × Unit {0} × List ℕ)). r >>= λ x. ok (x.0, x.2))
+    (fails further_at (Token fault) front rest (with_front front (items_at further_at rest)) e refl)

@@ -1,5 +1,6 @@
 -- What is written piece by piece is the layout.
-use Rattle.std.proofs.Common.{◌≡◌, ℕ, zero, suc, ◌-◌, ◌+◌, ◌<◌, ◌*◌, ◌≤◌, List, [], ◌∷◌, ◌++◌, length, map, take, drop, replicate, get_or, arith, Option, refl, sym, ap, subst, ◌∙◌, take-append-drop}
+use Rattle.std.proofs.Common.{◌≡◌, ℕ, zero, suc, ◌-◌, ◌+◌, ◌<◌, ◌*◌, ◌≤◌, List, [], ◌∷◌, ◌++◌, length, map, take, drop, replicate, get_or}
+use Rattle.std.proofs.Common.{arith, Option, refl, sym, ap, subst, ◌∙◌, take-append-drop}
 use Rattle.std.proofs.lemmas.Bool.Decides.{nat_tests}
 use Rattle.std.specs.Prelude.{All, codes, decimal}
 use Rattle.std.specs.List.{flat_map, take-map}
@@ -19,12 +20,17 @@ pub successors_within : (game : List GameVertex) (v : ℕ) → IsGame game → A
 successors_within game v is_game = λ i d lt. is_game.in_range v (get_or (successors game v) i d) (Contains-get_or (successors game v) i d lt)
 
 -- a line more
-pub line_push : (a b c : Option (List ℕ)) (game : List GameVertex) (v : ℕ) → v < length game → Appends a b (flat_map line_text (take v (lines_of game))) → Appends b c (line_text (line_of game (vertex_at game v))) → Appends a c (flat_map line_text (take (v + 1) (lines_of game)))
+pub line_push : (a b c : Option (List ℕ)) (game : List GameVertex) (v : ℕ) → v < length game
+    → Appends a b (flat_map line_text (take v (lines_of game))) → Appends b c (line_text (line_of game (vertex_at game v)))
+    → Appends a c (flat_map line_text (take (v + 1) (lines_of game)))
 line_push a b c game v lt so_far more =
     let x = vertex_at game v in
     let longer : take (v + 1) (lines_of game) ≡ take v (lines_of game) ++ line_of game x ∷ [] =
-    take-map (line_of game) (v + 1) game ∙ ap (map (line_of game)) (take_more game v nowhere lt) ∙ map-append (line_of game) (take v game) (x ∷ []) ∙ ap (λ (ls : List Line). ls ++ line_of game x ∷ []) (sym (take-map (line_of game) v game)) in
-    subst (Appends a c) (flat_map_more line_text [] (take v (lines_of game)) (line_of game x) ∙ ap (flat_map line_text) (sym longer)) (Appends-trans a b c _ _ so_far more)
+    take-map (line_of game) (v + 1) game ∙ ap (map (line_of game)) (take_more game v nowhere lt)
+    ∙ map-append (line_of game) (take v game) (x ∷ []) ∙ ap (λ (ls : List Line). ls ++ line_of game x ∷ [])
+    (sym (take-map (line_of game) v game)) in
+    subst (Appends a c) (flat_map_more line_text [] (take v (lines_of game)) (line_of game x) ∙ ap (flat_map line_text) (sym longer))
+    (Appends-trans a b c _ _ so_far more)
 
 -- the header, and then all lines
 pub game_written : (a b c d e : Option (List ℕ)) (game : List GameVertex) (len n v : ℕ)
@@ -35,7 +41,8 @@ game_written a b c d e game len n v is number whole word greatest closing lines 
     let many : length (lines_of game) ≡ length game = length-map game (line_of game) in
     let all : take v (lines_of game) ≡ lines_of game = take_all v (lines_of game) (omega arith) in
     let last : n ≡ identifier game (length game - 1) = number ∙ ap (λ (k : ℕ). identifier game (k - 1)) is in
-    let behind : Appends c e (codes ";\n" ++ flat_map line_text (lines_of game)) = Appends-trans c d e _ _ closing (subst (λ (ls : List Line). Appends d e (flat_map line_text ls)) all lines) in
+    let behind : Appends c e (codes ";\n" ++ flat_map line_text (lines_of game)) =
+    Appends-trans c d e _ _ closing (subst (λ (ls : List Line). Appends d e (flat_map line_text ls)) all lines) in
     let numbered : Appends b c (decimal (identifier game (length game - 1))) = subst (λ (k : ℕ). Appends b c (decimal k)) last greatest in
     Appends-trans a b e _ _ word (Appends-trans b c e _ _ numbered behind)
 
@@ -58,7 +65,13 @@ completes_rest old a b all rest k so_far more =
 -- zeros take two bytes each
 zeros_long : (n : ℕ) → length (flat_map comma_number (replicate n 0)) ≡ 2 * n
 zeros_long zero = refl
-zeros_long (suc n) = grind (arith, nat_tests, length-append (comma_number 0) (flat_map comma_number (replicate n 0)), decimal_digit 0 (omega arith), zeros_long n)
+zeros_long (suc n) = grind (
+  arith,
+  nat_tests,
+  length-append (comma_number 0) (flat_map comma_number (replicate n 0)),
+  decimal_digit 0 (omega arith),
+  zeros_long n,
+)
 
 -- the bytes of fewer zeros stand in front of those of more
 pub zeros_text : (n m : ℕ) → n ≤ m → take (2 * n) (flat_map comma_number (replicate m 0)) ≡ flat_map comma_number (replicate n 0)

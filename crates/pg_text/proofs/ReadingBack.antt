@@ -1,5 +1,6 @@
 -- The text of a game spells that game.
-use Rattle.std.proofs.Common.{◌≡◌, ◌≢◌, ℕ, zero, suc, ◌+◌, ◌-◌, ◌<◌, ◌≤◌, ◌^◌, eqb, List, [], ◌∷◌, ◌++◌, length, get_or, map, Some, None, IfSome, refl, ap, subst, ◌∙◌, arith}
+use Rattle.std.proofs.Common.{◌≡◌, ◌≢◌, ℕ, zero, suc, ◌+◌, ◌-◌, ◌<◌, ◌≤◌, ◌^◌, eqb, List, [], ◌∷◌, ◌++◌, length, get_or, map, Some, None}
+use Rattle.std.proofs.Common.{IfSome, refl, ap, subst, ◌∙◌, arith}
 use Rattle.std.proofs.lemmas.Bool.Decides.{nat_tests}
 use Rattle.std.specs.Prelude.{decimal, codes}
 use Rattle.std.specs.List.{flat_map, AllByRecursion, IsDistinct}
@@ -61,8 +62,11 @@ fair_at game well printable v lt =
     let same = length-map (successors game v) (identifier game) in
     let some : 0 < length numbers = omega (arith, same, well.goes_on v lt) in
     let low = All-get_or (λ (x : GameVertex). x.priority ≤ 65535) game v nowhere lt printable.priorities in
-    let small : AllByRecursion (λ n. n < 2 ^ 32) numbers = recursion_from_All (λ n. n < 2 ^ 32) numbers (All-map (λ n. n < 2 ^ 32) (identifier game) (successors game v)
-    (All-from_get_or (λ w. identifier game w < 2 ^ 32) (successors game v) 0 (λ i within. All-get_or (λ (x : GameVertex). x.identifier < 2 ^ 32) game (get_or (successors game v) i 0) nowhere (successor_in_range game well v i within) printable.identifiers))) in
+    let small : AllByRecursion (λ n. n < 2 ^ 32) numbers = recursion_from_All (λ n. n < 2 ^ 32) numbers
+    (All-map (λ n. n < 2 ^ 32) (identifier game) (successors game v)
+    (All-from_get_or (λ w. identifier game w < 2 ^ 32) (successors game v) 0
+    (λ i within. All-get_or (λ (x : GameVertex). x.identifier < 2 ^ 32) game (get_or (successors game v) i 0) nowhere
+    (successor_in_range game well v i within) printable.identifiers))) in
     record {
       printable = record {
         identifier = All-get_or (λ (x : GameVertex). x.identifier < 2 ^ 32) game v nowhere lt printable.identifiers;
@@ -74,13 +78,20 @@ fair_at game well printable v lt =
       passes = record { priority = low; some = some };
       rise = λ k within.
           let short : k + 1 < length (successors game v) = omega (arith, same) in
-          let up = identifiers_lt game well (get_or (successors game v) k 0) (get_or (successors game v) (k + 1) 0) (well.successors_rise v k short) (successor_in_range game well v (k + 1) short) in
-          omega (arith, up, get_or-map (identifier game) (successors game v) k 0 0 (omega arith), get_or-map (identifier game) (successors game v) (k + 1) 0 0 short);
+          let up = identifiers_lt game well (get_or (successors game v) k 0) (get_or (successors game v) (k + 1) 0)
+          (well.successors_rise v k short) (successor_in_range game well v (k + 1) short) in
+          omega (
+            arith,
+            up,
+            get_or-map (identifier game) (successors game v) k 0 0 (omega arith),
+            get_or-map (identifier game) (successors game v) (k + 1) 0 0 short,
+          );
     }
 
 fair : (game : List GameVertex) → IsGame game → IsPrintable game → AllByRecursion IsFair (lines_of game)
 fair game well printable =
-    recursion_from_All IsFair (lines_of game) (All-map IsFair (line_of game) game (All-from_get_or (λ x. IsFair (line_of game x)) game nowhere (fair_at game well printable)))
+    recursion_from_All IsFair (lines_of game)
+    (All-map IsFair (line_of game) game (All-from_get_or (λ x. IsFair (line_of game x)) game nowhere (fair_at game well printable)))
 
 printable_lines : (lines : List Line) → AllByRecursion IsFair lines → AllByRecursion IsPrintableLine lines
 printable_lines [] each = tt
@@ -96,7 +107,8 @@ counted_same line f = ap (λ (s : List ℕ). let l : Line = record line { succes
 
 all_counted : (lines : List Line) → AllByRecursion IsFair lines → map counted lines ≡ lines
 all_counted [] each = refl
-all_counted (line ∷ lines) each = ap (λ (l : Line). l ∷ map counted lines) (counted_same line each.0) ∙ ap (λ (ls : List Line). line ∷ ls) (all_counted lines each.1)
+all_counted (line ∷ lines) each = ap (λ (l : Line). l ∷ map counted lines) (counted_same line each.0)
+    ∙ ap (λ (ls : List Line). line ∷ ls) (all_counted lines each.1)
 
 -- ---- the lines keep the limits
 
@@ -111,7 +123,8 @@ same_edges : (game vertices : List GameVertex) → edge_count (map (line_of game
 same_edges game [] = refl
 same_edges game (x ∷ vertices) =
     let count = λ (l : Line). length l.successors in
-    let left : edge_count (map (line_of game) (x ∷ vertices)) ≡ length (map (identifier game) x.successors) + edge_count (map (line_of game) vertices) = sum_by-cons count (line_of game x) (map (line_of game) vertices) in
+    let left : edge_count (map (line_of game) (x ∷ vertices)) ≡ length (map (identifier game) x.successors) + edge_count
+    (map (line_of game) vertices) = sum_by-cons count (line_of game x) (map (line_of game) vertices) in
     let right : edge_count (x ∷ vertices) ≡ length x.successors + edge_count vertices = sum_by-cons count x vertices in
     omega (arith, left, right, same_edges game vertices, length-map x.successors (identifier game))
 
@@ -145,18 +158,40 @@ text_spelt game well printable =
     let last = All-get_or (λ (x : GameVertex). x.identifier < 2 ^ 32) game (length game - 1) nowhere (omega (arith, well.nonempty)) printable.identifiers in
     let body = flat_map line_text lines in
     let behind_word = 32 ∷ (decimal greatest ++ (59 ∷ 10 ∷ body)) in
-    let header : Begins (game_text game) (word (codes "parity")) behind_word = record { gap = []; text = codes "parity"; parts = refl; blank = tt; spelt = (λ e. cc, (refl, (refl, (refl, (refl, (refl, (refl, tt)))))), refl, refl) } in
+    let header : Begins (game_text game) (word (codes "parity")) behind_word =
+    record {
+      gap = [];
+      text = codes "parity";
+      parts = refl;
+      blank = tt;
+      spelt =
+          (λ e. cc, (refl, (refl, (refl, (refl, (refl, (refl, tt)))))), refl, refl);
+    } in
     let n : Begins behind_word (number greatest) (59 ∷ 10 ∷ body) = number_begins (32 ∷ []) greatest (59 ∷ 10 ∷ body) (refl, tt) last refl in
     let mark : Begins (59 ∷ 10 ∷ body) semicolon (10 ∷ body) = record { gap = []; text = 59 ∷ []; parts = refl; blank = tt; spelt = refl } in
     let closed : Begins (10 ∷ []) end [] = record { gap = 10 ∷ []; text = []; parts = refl; blank = (refl, tt); spelt = (refl, refl) } in
     let each = fair game well printable in
-    let lines_read = spells_append (flat_map line_lexemes lines) (end ∷ []) (10 ∷ body) (10 ∷ []) [] (lines_spelt lines (printable_lines lines each)) ([], closed, refl) in
-    record { header = Some greatest; start = None; spelt = (behind_word, header, (59 ∷ 10 ∷ body, n, (10 ∷ body, mark, lines_read))); successors = have_successors lines each }
+    let lines_read = spells_append (flat_map line_lexemes lines) (end ∷ []) (10 ∷ body) (10 ∷ []) []
+    (lines_spelt lines (printable_lines lines each)) ([], closed, refl) in
+    record {
+      header = Some greatest;
+      start = None;
+      spelt = (behind_word, header, (59 ∷ 10 ∷ body, n, (10 ∷ body, mark, lines_read)));
+      successors = have_successors lines each;
+    }
 
 pub reads_back : (game : List GameVertex) → IsGame game → IsWithinLimits game → IsPrintable game → IsGameText (game_text game) game
-reads_back game well limits printable = grind (arith, nat_tests, IsPermutation-refl (lines_of game), text_spelt game well printable, accepts_game game well limits printable, all_counted (lines_of game) (fair game well printable))
+reads_back game well limits printable = grind (
+  arith,
+  nat_tests,
+  IsPermutation-refl (lines_of game),
+  text_spelt game well printable,
+  accepts_game game well limits printable,
+  all_counted (lines_of game) (fair game well printable),
+)
 
 -- bytes spell one game at most
 pub spell_one : (bytes : List ℕ) (game other : List GameVertex) → IsGameText bytes game → IsGameText bytes other → other ≡ game
 spell_one bytes game other text another =
-    one_game (map counted text.lines) other game (subst (λ (ls : List Line). IsGameOf (map counted ls) other) (one_text bytes another.lines text.lines another.text text.text) another.game_of) text.game_of
+    one_game (map counted text.lines) other game (subst (λ (ls : List Line). IsGameOf (map counted ls) other)
+    (one_text bytes another.lines text.lines another.text text.text) another.game_of) text.game_of

@@ -41,7 +41,8 @@ strategy_takes bytes y e =
     let b = bind_ok (token_at bytes) (strategy_in bytes) y e in
     strategy_in_is bytes b.0 y (token_takes bytes b.0 b.1) b.2
 
-strategy_again : (strategy : Option ℕ) (bytes rest : List ℕ) → Spells bytes (strategy_lexemes strategy ++ semicolon ∷ []) rest → strategy_at bytes ≡ Ok (strategy, rest)
+strategy_again : (strategy : Option ℕ) (bytes rest : List ℕ) → Spells bytes (strategy_lexemes strategy ++ semicolon ∷ []) rest
+    → strategy_at bytes ≡ Ok (strategy, rest)
 unfolding strategy_at
 strategy_again None bytes rest s = rw (token_again bytes semicolon s.0 s.1, s.2) refl
 strategy_again (Some n) bytes rest s = rw (token_again bytes (number n) s.0 s.1, semicolon_again s.0 s.2.0 s.2.1, s.2.2) refl
@@ -57,7 +58,8 @@ IsLine n bytes y = Spells bytes (behind_lexemes y.0) y.1 × (y.0.identifier ≡ 
 answer_takes : (n : ℕ) (bytes : List ℕ) (y : SolutionLine × List ℕ) → answer_at n bytes ≡ Ok y → IsLine n bytes y
 unfolding answer_at
 answer_takes n bytes y e =
-    let a = bind_ok (owner_at bytes) (λ w. strategy_at w.1 >>= λ s. let line : SolutionLine = record { identifier = n; winner = w.0; strategy = s.0 } in ok (line, s.1)) y e in
+    let a = bind_ok (owner_at bytes) (λ w. strategy_at w.1 >>= λ s. let line : SolutionLine =
+    record { identifier = n; winner = w.0; strategy = s.0 } in ok (line, s.1)) y e in
     let b = bind_ok (strategy_at a.0.1) (λ s. let line : SolutionLine = record { identifier = n; winner = a.0.0; strategy = s.0 } in ok (line, s.1)) y a.2 in
     let line : SolutionLine = record { identifier = n; winner = a.0.0; strategy = b.0.0 } in
     subst (IsLine n bytes) (ok_is (line, b.0.1) y b.2) ((a.0.1, owner_takes bytes a.0 a.1, strategy_takes a.0.1 b.0 b.1), refl)
@@ -123,28 +125,46 @@ line_shrinks = record {
 -- ---- the header, and the whole
 
 -- the header is read, and the rest stands behind it
-abbrev pub header_takes : (bytes : List ℕ) (header : Option ℕ) (start : List ℕ) → clause_at (codes "paritysol") bytes ≡ Ok (header, start) → BeginsWithLines bytes [] start
+abbrev pub header_takes : (bytes : List ℕ) (header : Option ℕ) (start : List ℕ) → clause_at (codes "paritysol") bytes ≡ Ok (header, start)
+    → BeginsWithLines bytes [] start
 header_takes bytes header start e =
     let taken = clause_takes (codes "paritysol") bytes (header, start) e in
-    record { header = header; spelt = subst (λ (tokens : List Lexeme). Spells bytes tokens start) (sym (append-nil (clause_lexemes (codes "paritysol") header))) taken }
+    record {
+      header = header;
+      spelt = subst (λ (tokens : List Lexeme). Spells bytes tokens start)
+          (sym (append-nil (clause_lexemes (codes "paritysol") header))) taken;
+    }
 
 -- one line more
-abbrev pub begins_more : (bytes : List ℕ) (lines : List SolutionLine) (mid : List ℕ) (line : SolutionLine) (rest : List ℕ) → BeginsWithLines bytes lines mid → Spells mid (answer_lexemes line) rest → BeginsWithLines bytes (lines ++ line ∷ []) rest
+abbrev pub begins_more : (bytes : List ℕ) (lines : List SolutionLine) (mid : List ℕ) (line : SolutionLine) (rest : List ℕ)
+    → BeginsWithLines bytes lines mid → Spells mid (answer_lexemes line) rest → BeginsWithLines bytes (lines ++ line ∷ []) rest
 begins_more bytes lines mid line rest b s =
-    let one : flat_map answer_lexemes (lines ++ line ∷ []) ≡ flat_map answer_lexemes lines ++ answer_lexemes line = flat_map-append answer_lexemes lines (line ∷ []) ∙ ap (λ (t : List Lexeme). flat_map answer_lexemes lines ++ t) (flat_map-cons answer_lexemes line [] ∙ append-nil (answer_lexemes line)) in
-    let all : solution_lexemes b.header (lines ++ line ∷ []) ≡ solution_lexemes b.header lines ++ answer_lexemes line = ap (λ (t : List Lexeme). clause_lexemes (codes "paritysol") b.header ++ t) one ∙ sym (append_assoc (clause_lexemes (codes "paritysol") b.header) (flat_map answer_lexemes lines) (answer_lexemes line)) in
-    record { header = b.header; spelt = subst (λ (tokens : List Lexeme). Spells bytes tokens rest) (sym all) (spells_append (solution_lexemes b.header lines) (answer_lexemes line) bytes mid rest b.spelt s) }
+    let one : flat_map answer_lexemes (lines ++ line ∷ []) ≡ flat_map answer_lexemes lines ++ answer_lexemes line =
+    flat_map-append answer_lexemes lines (line ∷ []) ∙ ap (λ (t : List Lexeme). flat_map answer_lexemes lines ++ t)
+    (flat_map-cons answer_lexemes line [] ∙ append-nil (answer_lexemes line)) in
+    let all : solution_lexemes b.header (lines ++ line ∷ []) ≡ solution_lexemes b.header lines ++ answer_lexemes line =
+    ap (λ (t : List Lexeme). clause_lexemes (codes "paritysol") b.header ++ t) one
+    ∙ sym (append_assoc (clause_lexemes (codes "paritysol") b.header) (flat_map answer_lexemes lines) (answer_lexemes line)) in
+    record {
+      header = b.header;
+      spelt = subst (λ (tokens : List Lexeme). Spells bytes tokens rest) (sym all)
+          (spells_append (solution_lexemes b.header lines) (answer_lexemes line) bytes mid rest b.spelt s);
+    }
 
 -- nothing but white space follows
-pub lines_end : (bytes : List ℕ) (lines : List SolutionLine) (mid rest : List ℕ) → BeginsWithLines bytes lines mid → next_answer_at mid ≡ Ok (stop tt, rest) → AreLines bytes lines
+pub lines_end : (bytes : List ℕ) (lines : List SolutionLine) (mid rest : List ℕ) → BeginsWithLines bytes lines mid
+    → next_answer_at mid ≡ Ok (stop tt, rest) → AreLines bytes lines
 lines_end bytes lines mid rest b e = grind (arith, nat_tests, next_takes mid (stop tt, rest) e)
 
 -- without a header another token stands in front
-no_header : (lines : List SolutionLine) (bytes rest : List ℕ) → Spells bytes (flat_map answer_lexemes lines) rest → Spells rest (end ∷ []) [] → clause_at (codes "paritysol") bytes ≡ Ok (None, bytes)
-no_header [] bytes rest s ends = subst (λ (b : List ℕ). clause_at (codes "paritysol") b ≡ Ok (None, b)) (sym s) (clause_absent (codes "paritysol") rest end ends.0 (λ e. cc) ends.1)
+no_header : (lines : List SolutionLine) (bytes rest : List ℕ) → Spells bytes (flat_map answer_lexemes lines) rest
+    → Spells rest (end ∷ []) [] → clause_at (codes "paritysol") bytes ≡ Ok (None, bytes)
+no_header [] bytes rest s ends = subst (λ (b : List ℕ). clause_at (codes "paritysol") b ≡ Ok (None, b)) (sym s)
+    (clause_absent (codes "paritysol") rest end ends.0 (λ e. cc) ends.1)
 no_header (line ∷ lines) bytes rest s ends = clause_absent (codes "paritysol") bytes (number line.identifier) s.0 (λ e. cc) s.1
 
-header_again : (header : Option ℕ) (lines : List SolutionLine) (bytes rest : List ℕ) → Spells bytes (solution_lexemes header lines) rest → Spells rest (end ∷ []) []
+header_again : (header : Option ℕ) (lines : List SolutionLine) (bytes rest : List ℕ) → Spells bytes (solution_lexemes header lines) rest
+    → Spells rest (end ∷ []) []
     → (mid : List ℕ) × (read : Option ℕ) × (clause_at (codes "paritysol") bytes ≡ Ok (read, mid)) × Spells mid (flat_map answer_lexemes lines) rest
 header_again None lines bytes rest s ends = (bytes, None, no_header lines bytes rest s ends, s)
 header_again (Some n) lines bytes rest s ends =
@@ -156,5 +176,6 @@ unfolding answers_at
 answers_again bytes lines text =
     let header = header_again text.begins.header lines bytes text.rest text.begins.spelt text.ends in
     let closed : Begins text.rest end [] = subst (λ (r : List ℕ). Begins text.rest end r) text.ends.2 text.ends.1 in
-    let all = items_again next_answer_at answer_lexemes IsAny lines_exact line_shrinks lines header.0 text.rest tt [] (all_any lines) header.3 (end_again text.rest [] closed) in
+    let all = items_again next_answer_at answer_lexemes IsAny lines_exact line_shrinks lines header.0 text.rest tt []
+    (all_any lines) header.3 (end_again text.rest [] closed) in
     rw (header.2, all) refl

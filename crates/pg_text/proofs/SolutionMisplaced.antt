@@ -12,7 +12,8 @@ use Rattle.pg_text.specs.declared.tokens.TokenFault.{TokenFault}
 use Rattle.pg_text.specs.Lexemes.{Lexeme, number, word, semicolon, comma, quoted, end, Begins, Spells}
 use Rattle.pg_text.specs.GameText.{player_number}
 use Rattle.pg_text.specs.SolutionText.{answer_lexemes}
-use Rattle.pg_text.specs.Places.{Place, at_solution_front, behind_paritysol, behind_paritysol_number, behind_answer, behind_answer_identifier, behind_winner, behind_strategy, to_answer, after, answer_place}
+use Rattle.pg_text.specs.Places.{Place, at_solution_front, behind_paritysol, behind_paritysol_number, behind_answer}
+use Rattle.pg_text.specs.Places.{behind_answer_identifier, behind_winner, behind_strategy, to_answer, after, answer_place}
 use Rattle.pg_text.specs.Mirrors.Steps.{◌>>=◌, Read, item}
 use Rattle.pg_text.specs.Mirrors.Scan.{token_at}
 use Rattle.pg_text.specs.Mirrors.Parts.{semicolon_at, clause_at}
@@ -33,7 +34,8 @@ strategy_stuck bytes fault e = go (token_at bytes) refl e
     go (Err f) h k = token_stuck behind_winner bytes fault (h ∙ ap (λ (g : TokenFault). err g) (err_same f fault k))
     go (Ok (number n, rest)) h k =
         elim (bind_err (semicolon_at rest) (λ behind. ok (some n, behind)) fault k) [
-          | inl f ↦ step behind_winner behind_strategy bytes (number n) rest fault (token_takes bytes (number n, rest) h) (number_inner n) refl (semicolon_stuck behind_strategy behind_answer rest fault (λ t. refl) f)
+          | inl f ↦ step behind_winner behind_strategy bytes (number n) rest fault (token_takes bytes (number n, rest) h)
+              (number_inner n) refl (semicolon_stuck behind_strategy behind_answer rest fault (λ t. refl) f)
           | inr f ↦ absurd (err_is_ok fault _ (sym f.2))
         ]
     go (Ok (semicolon, rest)) h k = absurd cc
@@ -55,14 +57,17 @@ answer_stuck identifier bytes fault e =
     let made : Player → Option ℕ × List ℕ → Read (SolutionLine × List ℕ) = made_answer identifier in
     elim (bind_err (owner_at bytes) (λ w. strategy_at w.1 >>= λ s. made w.0 s) fault e) [
       | inl f ↦ owner_stuck behind_answer_identifier behind_winner bytes fault (λ t. refl) f
-      | inr w ↦ step behind_answer_identifier behind_winner bytes (number (player_number w.0.0)) w.0.1 fault (owner_takes bytes w.0 w.1) (number_inner (player_number w.0.0)) (winner_leads w.0.0)
+      | inr w ↦ step behind_answer_identifier behind_winner bytes (number (player_number w.0.0)) w.0.1 fault (owner_takes bytes w.0 w.1)
+          (number_inner (player_number w.0.0)) (winner_leads w.0.0)
           (elim (bind_err (strategy_at w.0.1) (λ s. made w.0.0 s) fault w.2) [
             | inl f ↦ strategy_stuck w.0.1 fault f
             | inr s ↦ absurd (err_is_ok fault _ (sym s.2))
           ])
     ]
 
-next_answer_stuck : (place : Place) (bytes : List ℕ) (fault : TokenFault) → ((token : Lexeme) (rest : List ℕ) → Begins bytes token rest → after place token ≡ to_answer token) → next_answer_at bytes ≡ Err fault → Stuck place bytes fault
+next_answer_stuck : (place : Place) (bytes : List ℕ) (fault : TokenFault)
+    → ((token : Lexeme) (rest : List ℕ) → Begins bytes token rest → after place token ≡ to_answer token) → next_answer_at bytes ≡ Err fault
+    → Stuck place bytes fault
 unfolding next_answer_at
 next_answer_stuck place bytes fault is e = go (token_at bytes) refl e
   where
@@ -82,16 +87,20 @@ next_answer_stuck place bytes fault is e = go (token_at bytes) refl e
 
 -- where the header fails
 pub header_stuck : (bytes : List ℕ) (fault : TokenFault) → clause_at (codes "paritysol") bytes ≡ Err fault → Stuck at_solution_front bytes fault
-header_stuck bytes fault e = clause_stuck (codes "paritysol") at_solution_front behind_paritysol behind_paritysol_number behind_answer bytes fault refl (λ t. refl) (λ t. refl) e
+header_stuck bytes fault e = clause_stuck
+    (codes "paritysol") at_solution_front behind_paritysol behind_paritysol_number behind_answer bytes fault refl (λ t. refl) (λ t. refl) e
 
-no_header : (bytes : List ℕ) → ((mid : List ℕ) → ¬ Begins bytes (word (codes "paritysol")) mid) → (token : Lexeme) (rest : List ℕ) → Begins bytes token rest → after at_solution_front token ≡ to_answer token
+no_header : (bytes : List ℕ) → ((mid : List ℕ) → ¬ Begins bytes (word (codes "paritysol")) mid) → (token : Lexeme) (rest : List ℕ)
+    → Begins bytes token rest → after at_solution_front token ≡ to_answer token
 no_header bytes absent (word w) rest b =
-    let other : bytes_eq w (codes "paritysol") ≡ false = false_from_ne_true (bytes_eq w (codes "paritysol")) (λ e. absent rest (subst (λ (v : List ℕ). Begins bytes (word v) rest) ((bytes_eq-Decides w (codes "paritysol")).0 e) b)) in
+    let other : bytes_eq w (codes "paritysol") ≡ false = false_from_ne_true (bytes_eq w (codes "paritysol"))
+    (λ e. absent rest (subst (λ (v : List ℕ). Begins bytes (word v) rest) ((bytes_eq-Decides w (codes "paritysol")).0 e) b)) in
     rw other refl
 no_header bytes absent (number n) rest b = refl
 no_header bytes absent _ rest b = refl
 
-place_next : (bytes start : List ℕ) (header : Option ℕ) (lines : List SolutionLine) (rest : List ℕ) → clause_at (codes "paritysol") bytes ≡ Ok (header, start) → Spells start (flat_map answer_lexemes lines) rest
+place_next : (bytes start : List ℕ) (header : Option ℕ) (lines : List SolutionLine) (rest : List ℕ)
+    → clause_at (codes "paritysol") bytes ≡ Ok (header, start) → Spells start (flat_map answer_lexemes lines) rest
     → (token : Lexeme) (behind : List ℕ) → Begins rest token behind → after (answer_place header lines) token ≡ to_answer token
 place_next bytes start (Some n) [] rest e s token behind b = refl
 place_next bytes start (Some n) (line ∷ lines) rest e s token behind b = refl
@@ -101,5 +110,7 @@ place_next bytes start None [] rest e s token behind b =
     no_header bytes (λ m. no_word (codes "paritysol") bytes start m e) token behind (subst (λ (l : List ℕ). Begins l token behind) (sym (same ∙ s)) b)
 
 -- where a line behind others fails
-pub line_stuck : (bytes start : List ℕ) (header : Option ℕ) (lines : List SolutionLine) (rest : List ℕ) (fault : TokenFault) → clause_at (codes "paritysol") bytes ≡ Ok (header, start) → Spells start (flat_map answer_lexemes lines) rest → next_answer_at rest ≡ Err fault → Stuck (answer_place header lines) rest fault
+pub line_stuck : (bytes start : List ℕ) (header : Option ℕ) (lines : List SolutionLine) (rest : List ℕ) (fault : TokenFault)
+    → clause_at (codes "paritysol") bytes ≡ Ok (header, start) → Spells start (flat_map answer_lexemes lines) rest
+    → next_answer_at rest ≡ Err fault → Stuck (answer_place header lines) rest fault
 line_stuck bytes start header lines rest fault e s h = next_answer_stuck (answer_place header lines) rest fault (place_next bytes start header lines rest e s) h

@@ -1,5 +1,6 @@
 -- The text of a solution spells that solution, without choices on vertices that the winner doesn't own.
-use Rattle.std.proofs.Common.{◌≡◌, ◌≢◌, ℕ, zero, suc, ◌+◌, ◌-◌, ◌<◌, ◌≤◌, ◌^◌, Bool, true, false, cond, List, [], ◌∷◌, ◌++◌, length, map, Option, Some, None, IfSome, refl, sym, ap, subst, ◌∙◌, inl, inr, arith, append_assoc}
+use Rattle.std.proofs.Common.{◌≡◌, ◌≢◌, ℕ, zero, suc, ◌+◌, ◌-◌, ◌<◌, ◌≤◌, ◌^◌, Bool, true, false, cond, List, [], ◌∷◌, ◌++◌, length, map}
+use Rattle.std.proofs.Common.{Option, Some, None, IfSome, refl, sym, ap, subst, ◌∙◌, inl, inr, arith, append_assoc}
 use Rattle.std.proofs.lemmas.Bool.Decides.{nat_tests}
 use Rattle.std.specs.Prelude.{All, decimal, codes, option_map}
 use Rattle.std.specs.List.{flat_map, range_with_len, AllByRecursion}
@@ -32,9 +33,14 @@ strategy_stops : (strategy : Option ℕ) (rest : List ℕ) → Stops is_digit (s
 strategy_stops None rest = refl
 strategy_stops (Some n) rest = refl
 
-strategy_spelt : (strategy : Option ℕ) (rest : List ℕ) → IfSome strategy (λ n. n < 2 ^ 32) → Spells (strategy_text strategy ++ 59 ∷ rest) (strategy_lexemes strategy ++ semicolon ∷ []) rest
+strategy_spelt : (strategy : Option ℕ) (rest : List ℕ) → IfSome strategy (λ n. n < 2 ^ 32)
+    → Spells (strategy_text strategy ++ 59 ∷ rest) (strategy_lexemes strategy ++ semicolon ∷ []) rest
 strategy_spelt None rest small = (rest, record { gap = []; text = 59 ∷ []; parts = refl; blank = tt; spelt = refl }, refl)
-strategy_spelt (Some n) rest small = (59 ∷ rest, number_begins (32 ∷ []) n (59 ∷ rest) (refl, tt) small refl, (rest, record { gap = []; text = 59 ∷ []; parts = refl; blank = tt; spelt = refl }, refl))
+strategy_spelt (Some n) rest small = (
+  59 ∷ rest,
+  number_begins (32 ∷ []) n (59 ∷ rest) (refl, tt) small refl,
+  (rest, record { gap = []; text = 59 ∷ []; parts = refl; blank = tt; spelt = refl }, refl),
+)
 
 -- a line that the format can say
 record IsPrintable (line : SolutionLine) : Type 0 where
@@ -45,21 +51,34 @@ player_small : (player : Player) → player_number player < 2 ^ 32
 player_small Even = omega arith
 player_small Odd = omega arith
 
-answer_regroup : (line : SolutionLine) (rest : List ℕ) → answer_text line ++ rest ≡ decimal line.identifier ++ (32 ∷ (decimal (player_number line.winner) ++ (strategy_text line.strategy ++ (59 ∷ 10 ∷ rest))))
+answer_regroup : (line : SolutionLine) (rest : List ℕ)
+    → answer_text line ++ rest ≡ decimal line.identifier ++ (32 ∷ (decimal (player_number line.winner) ++ (strategy_text line.strategy ++ (59 ∷ 10 ∷ rest))))
 answer_regroup line rest = simp append_assoc
 
-answer_spelt : (gap : List ℕ) (line : SolutionLine) (rest : List ℕ) → Each is_space gap → IsPrintable line → Spells (gap ++ (answer_text line ++ rest)) (answer_lexemes line) (10 ∷ rest)
+answer_spelt : (gap : List ℕ) (line : SolutionLine) (rest : List ℕ) → Each is_space gap → IsPrintable line
+    → Spells (gap ++ (answer_text line ++ rest)) (answer_lexemes line) (10 ∷ rest)
 answer_spelt gap line rest blank p =
     let ending = strategy_text line.strategy ++ (59 ∷ 10 ∷ rest) in
     let behind = 32 ∷ (decimal (player_number line.winner) ++ ending) in
-    subst (λ (bytes : List ℕ). Spells (gap ++ bytes) (answer_lexemes line) (10 ∷ rest)) (sym (answer_regroup line rest))
-    (behind, number_begins gap line.identifier behind blank p.identifier refl, (ending, number_begins (32 ∷ []) (player_number line.winner) ending (refl, tt) (player_small line.winner) (strategy_stops line.strategy (10 ∷ rest)), strategy_spelt line.strategy (10 ∷ rest) p.strategy))
+    subst (λ (bytes : List ℕ). Spells (gap ++ bytes) (answer_lexemes line) (10 ∷ rest)) (sym (answer_regroup line rest)) (
+      behind,
+      number_begins gap line.identifier behind blank p.identifier refl,
+      (
+        ending,
+        number_begins (32 ∷ []) (player_number line.winner) ending (refl, tt) (player_small line.winner)
+            (strategy_stops line.strategy (10 ∷ rest)),
+        strategy_spelt line.strategy (10 ∷ rest) p.strategy,
+      ),
+    )
 
 -- lines, each behind a newline
-lines_spelt : (lines : List SolutionLine) → AllByRecursion IsPrintable lines → Spells (10 ∷ flat_map answer_text lines) (flat_map answer_lexemes lines) (10 ∷ [])
+lines_spelt : (lines : List SolutionLine) → AllByRecursion IsPrintable lines
+    → Spells (10 ∷ flat_map answer_text lines) (flat_map answer_lexemes lines) (10 ∷ [])
 lines_spelt [] each = refl
 lines_spelt (line ∷ lines) each =
-    spells_append (answer_lexemes line) (flat_map answer_lexemes lines) (10 ∷ flat_map answer_text (line ∷ lines)) (10 ∷ flat_map answer_text lines) (10 ∷ []) (answer_spelt (10 ∷ []) line (flat_map answer_text lines) (refl, tt) each.0) (lines_spelt lines each.1)
+    spells_append (answer_lexemes line) (flat_map answer_lexemes lines) (10 ∷ flat_map answer_text (line ∷ lines))
+    (10 ∷ flat_map answer_text lines) (10 ∷ []) (answer_spelt (10 ∷ []) line (flat_map answer_text lines) (refl, tt) each.0)
+    (lines_spelt lines each.1)
 
 -- ---- the lines of a solution
 
@@ -75,48 +94,70 @@ mapped_small : (f : ℕ → ℕ) (o : Option ℕ) → ((w : ℕ) → o ≡ Some 
 mapped_small f None h = tt
 mapped_small f (Some w) h = h w refl
 
-printable_at : (game : List GameVertex) (solution : List Answer) → IsGame game → All (λ x. x.identifier < 2 ^ 32) game → IsSolution game solution → (v : ℕ) → v < length game → IsPrintable (printed_line game solution v)
+printable_at : (game : List GameVertex) (solution : List Answer) → IsGame game → All (λ x. x.identifier < 2 ^ 32) game
+    → IsSolution game solution → (v : ℕ) → v < length game → IsPrintable (printed_line game solution v)
 printable_at game solution well small whole v within = record {
   identifier = All-get_or (λ (x : GameVertex). x.identifier < 2 ^ 32) game v nowhere within small;
-  strategy = mapped_small (identifier game) (printed_answer game solution v).choice (λ w e. All-get_or (λ (x : GameVertex). x.identifier < 2 ^ 32) game w nowhere (told_within game solution v w well whole within e) small);
+  strategy = mapped_small (identifier game) (printed_answer game solution v).choice
+      (λ w e. All-get_or (λ (x : GameVertex). x.identifier < 2 ^ 32) game w nowhere
+      (told_within game solution v w well whole within e) small);
 }
 
-text_spelt : (game : List GameVertex) (solution : List Answer) → IsGame game → All (λ x. x.identifier < 2 ^ 32) game → IsSolution game solution → AreLines (solution_text game solution) (printed_lines game solution)
+text_spelt : (game : List GameVertex) (solution : List Answer) → IsGame game → All (λ x. x.identifier < 2 ^ 32) game
+    → IsSolution game solution → AreLines (solution_text game solution) (printed_lines game solution)
 text_spelt game solution well small whole =
     let lines = printed_lines game solution in
     let greatest = identifier game (length game - 1) in
     let last = All-get_or (λ (x : GameVertex). x.identifier < 2 ^ 32) game (length game - 1) nowhere (omega (arith, well.nonempty)) small in
     let body = flat_map answer_text lines in
     let behind_word = 32 ∷ (decimal greatest ++ (59 ∷ 10 ∷ body)) in
-    let header : Begins (solution_text game solution) (word (codes "paritysol")) behind_word = record { gap = []; text = codes "paritysol"; parts = refl; blank = tt; spelt = (λ e. cc, (refl, (refl, (refl, (refl, (refl, (refl, (refl, (refl, (refl, tt))))))))), refl, refl) } in
+    let header : Begins (solution_text game solution) (word (codes "paritysol")) behind_word =
+    record {
+      gap = [];
+      text = codes "paritysol";
+      parts = refl;
+      blank = tt;
+      spelt =
+          (λ e. cc, (refl, (refl, (refl, (refl, (refl, (refl, (refl, (refl, (refl, tt))))))))), refl, refl);
+    } in
     let n : Begins behind_word (number greatest) (59 ∷ 10 ∷ body) = number_begins (32 ∷ []) greatest (59 ∷ 10 ∷ body) (refl, tt) last refl in
     let mark : Begins (59 ∷ 10 ∷ body) semicolon (10 ∷ body) = record { gap = []; text = 59 ∷ []; parts = refl; blank = tt; spelt = refl } in
     let closed : Begins (10 ∷ []) end [] = record { gap = 10 ∷ []; text = []; parts = refl; blank = (refl, tt); spelt = (refl, refl) } in
     let read = lines_spelt lines (each_line IsPrintable (printed_line game solution) (length game) (printable_at game solution well small whole)) in
-    record { rest = 10 ∷ []; begins = record { header = Some greatest; spelt = (behind_word, header, (59 ∷ 10 ∷ body, n, (10 ∷ body, mark, read))) }; ends = ([], closed, refl) }
+    record {
+      rest = 10 ∷ [];
+      begins =
+          record { header = Some greatest; spelt = (behind_word, header, (59 ∷ 10 ∷ body, n, (10 ∷ body, mark, read))) };
+      ends =
+          ([], closed, refl);
+    }
 
 -- ---- each vertex has one line
 
 abbrev one_if : Bool → ℕ
 one_if b = cond b 1 0
 
-unnamed : (game : List GameVertex) (solution : List Answer) (a v : ℕ) → IsGame game → a < length game → v < length game → a ≢ v → one_if (names game v (printed_line game solution a)) ≡ 0
+unnamed : (game : List GameVertex) (solution : List Answer) (a v : ℕ) → IsGame game → a < length game → v < length game → a ≢ v
+    → one_if (names game v (printed_line game solution a)) ≡ 0
 unnamed game solution a v well a_in v_in other = ap one_if (ne_eqb (identifier game a) (identifier game v) (λ e. other (same_vertex game a v well a_in v_in e)))
 
-none_above : (game : List GameVertex) (solution : List Answer) (v a k : ℕ) → IsGame game → v < length game → a + k ≤ length game → v < a → line_count game (map (printed_line game solution) (range_with_len a k)) v ≡ 0
+none_above : (game : List GameVertex) (solution : List Answer) (v a k : ℕ) → IsGame game → v < length game → a + k ≤ length game → v < a
+    → line_count game (map (printed_line game solution) (range_with_len a k)) v ≡ 0
 none_above game solution v a zero well within fits lt = refl
 none_above game solution v a (suc k) well within fits lt =
     let here = unnamed game solution a v well (omega arith) within (λ e. absurd (omega arith)) in
     let later = none_above game solution v (a + 1) k well within (omega arith) (omega arith) in
     omega (arith, here, later, count_cons game (printed_line game solution a) (map (printed_line game solution) (range_with_len (a + 1) k)) v)
 
-one_between : (game : List GameVertex) (solution : List Answer) (v a k : ℕ) → IsGame game → v < length game → a + k ≤ length game → a ≤ v → v < a + k → line_count game (map (printed_line game solution) (range_with_len a k)) v ≡ 1
+one_between : (game : List GameVertex) (solution : List Answer) (v a k : ℕ) → IsGame game → v < length game → a + k ≤ length game → a ≤ v
+    → v < a + k → line_count game (map (printed_line game solution) (range_with_len a k)) v ≡ 1
 one_between game solution v a zero well within fits low high = absurd (omega arith)
 one_between game solution v a (suc k) well within fits low high =
     let count = count_cons game (printed_line game solution a) (map (printed_line game solution) (range_with_len (a + 1) k)) v in
     elim (cases_eq a v) [
       | inl same ↦
-          let here : one_if (names game v (printed_line game solution a)) ≡ 1 = ap one_if (eq-eqb (identifier game a) (identifier game v) (ap (identifier game) same)) in
+          let here : one_if (names game v (printed_line game solution a)) ≡ 1 =
+          ap one_if (eq-eqb (identifier game a) (identifier game v) (ap (identifier game) same)) in
           let later = none_above game solution v (a + 1) k well within (omega arith) (omega arith) in
           omega (arith, here, later, count)
       | inr other ↦
@@ -127,15 +168,24 @@ one_between game solution v a (suc k) well within fits low high =
 
 -- ---- what the lines say
 
-told_is : (game : List GameVertex) (solution : List Answer) (v : ℕ) → v < length game → answer_at (printed_answers game solution) v ≡ printed_answer game solution v
+told_is : (game : List GameVertex) (solution : List Answer) (v : ℕ) → v < length game
+    → answer_at (printed_answers game solution) v ≡ printed_answer game solution v
 told_is game solution v within = get_or-map-range_with_len (printed_answer game solution) 0 (length game) v v unanswered within (omega arith)
 
 counts_once : (f : ℕ → ℕ) (b : Bool) (o : Option ℕ) → option_map f (cond b o none) ≡ cond b (option_map f (cond b o none)) none
 counts_once f true o = refl
 counts_once f false o = refl
 
-line_says : (game : List GameVertex) (solution : List Answer) (v : ℕ) → v < length game → Says game (printed_answers game solution) (printed_line game solution v) v
-line_says game solution v within = grind (arith, nat_tests, told_is game solution v within, counts_once (identifier game) (owns game (winner solution v) v) (choice solution v))
+line_says : (game : List GameVertex) (solution : List Answer) (v : ℕ) → v < length game
+    → Says game (printed_answers game solution) (printed_line game solution v) v
+line_says game solution v within =
+    grind (
+      arith,
+      nat_tests,
+      told_is game solution v within,
+      counts_once (identifier game) (owns game (winner solution v) v)
+          (choice solution v),
+    )
 
 told_solution : (game : List GameVertex) (solution : List Answer) → IsSolution game solution → IsSolution game (printed_answers game solution)
 told_solution game solution whole = record {
@@ -148,7 +198,8 @@ told_solution game solution whole = record {
       (c.0, ap (λ (a : Answer). a.choice) is ∙ ap (λ (b : Bool). cond b (choice solution v) none) holds ∙ c.1, c.2);
 }
 
-pub spells_told : (game : List GameVertex) (solution : List Answer) → IsGame game → All (λ x. x.identifier < 2 ^ 32) game → IsSolution game solution → IsSolutionText (solution_text game solution) game (printed_answers game solution)
+pub spells_told : (game : List GameVertex) (solution : List Answer) → IsGame game → All (λ x. x.identifier < 2 ^ 32) game
+    → IsSolution game solution → IsSolutionText (solution_text game solution) game (printed_answers game solution)
 spells_told game solution well small whole = record {
   lines = printed_lines game solution;
   text = text_spelt game solution well small whole;
@@ -158,7 +209,11 @@ spells_told game solution well small whole = record {
 }
 
 -- bytes spell one solution of a game at most
-pub spells_one : (bytes : List ℕ) (game : List GameVertex) (solution other : List Answer) → IsGame game → IsSolutionText bytes game solution → IsSolutionText bytes game other → other ≡ solution
+pub spells_one : (bytes : List ℕ) (game : List GameVertex) (solution other : List Answer) → IsGame game → IsSolutionText bytes game solution
+    → IsSolutionText bytes game other → other ≡ solution
 spells_one bytes game solution other well t u =
     let same : t.lines ≡ u.lines = ok_is t.lines u.lines (sym (answers_again bytes t.lines t.text) ∙ answers_again bytes u.lines u.text) in
-    same_solution game u.lines other solution well u.whole.whole t.whole.whole u.said (subst (AllByRecursion (IsSaid game solution)) same t.said) u.one_each (λ line v w says is. said_edge game other line v w u.whole says is) (λ line v w says is. said_edge game solution line v w t.whole says is)
+    same_solution game u.lines other solution well u.whole.whole t.whole.whole u.said
+    (subst (AllByRecursion (IsSaid game solution)) same t.said) u.one_each
+    (λ line v w says is. said_edge game other line v w u.whole says is)
+    (λ line v w says is. said_edge game solution line v w t.whole says is)

@@ -1,5 +1,6 @@
 -- A solution text read line by line.
-use Rattle.std.proofs.Common.{◌≡◌, ℕ, ◌-◌, ◌<◌, Bool, true, false, cond, eqb, List, [], ◌∷◌, ◌++◌, length, Option, None, Ok, Err, refl, sym, ap, subst, ◌∙◌, arith, inl, inr, append_assoc}
+use Rattle.std.proofs.Common.{◌≡◌, ℕ, ◌-◌, ◌<◌, Bool, true, false, cond, eqb, List, [], ◌∷◌, ◌++◌, length, Option, None, Ok, Err, refl, sym}
+use Rattle.std.proofs.Common.{ap, subst, ◌∙◌, arith, inl, inr, append_assoc}
 use Rattle.std.proofs.lemmas.Bool.Decides.{nat_tests}
 use Rattle.std.specs.Prelude.{codes, replicate}
 use Rattle.std.specs.List.{list_any, flat_map, AllByRecursion}
@@ -20,9 +21,11 @@ use Rattle.pg_text.specs.Places.{after_all, answer_place}
 use Rattle.pg_text.specs.Mirrors.Steps.{◌>>=◌, Read, Step, item, stop, items_at}
 use Rattle.pg_text.specs.Mirrors.Parts.{clause_at}
 use Rattle.pg_text.specs.Solutions.{unanswered}
-use Rattle.pg_text.specs.SolutionText.{answer_lexemes, BeginsWithLines, AreLines, Fits, line_count, answers, IsSolutionText, SpellsNoSolution, has_line, StartsLine, BeginsUnfit, IsFirstMissing, IsNoText}
+use Rattle.pg_text.specs.SolutionText.{answer_lexemes, BeginsWithLines, AreLines, Fits, line_count, answers, IsSolutionText}
+use Rattle.pg_text.specs.SolutionText.{SpellsNoSolution, has_line, StartsLine, BeginsUnfit, IsFirstMissing, IsNoText}
 use Rattle.pg_text.specs.Mirrors.SolutionScan.{next_answer_at, answers_at}
-use Rattle.pg_text.specs.Mirrors.SolutionReading.{Puts, State, IsMarked, IsUnmarked, IsMisfit, BeginsMisfit, BeginsWell, HasRead, IsRefused, is_complete, misfit_fault}
+use Rattle.pg_text.specs.Mirrors.SolutionReading.{Puts, State, IsMarked, IsUnmarked, IsMisfit, BeginsMisfit, BeginsWell, HasRead, IsRefused}
+use Rattle.pg_text.specs.Mirrors.SolutionReading.{is_complete, misfit_fault}
 use Rattle.pg_text.proofs.Steps.{bind_ok, ok, ok_is, err_is_ok}
 use Rattle.pg_text.proofs.Items.{with_front, nothing_yet, goes_on, items_err}
 use Rattle.pg_text.proofs.Parts.{clause_absent}
@@ -30,7 +33,8 @@ use Rattle.pg_text.proofs.Spelling.{spells_append}
 use Rattle.pg_text.proofs.SolutionMisplaced.{header_stuck, line_stuck}
 use Rattle.pg_text.proofs.Misfits.{same_token, starts_with, unfit_front, front_starts, line_front}
 use Rattle.pg_text.proofs.SolutionLines.{line_takes, line_again, end_takes, end_again, line_shrinks, header_takes, begins_more, lines_end, answers_again}
-use Rattle.pg_text.proofs.Marking.{all_at, nothing_read, reads_more, named_if, answered_is, all_answered, text_fits, read_fits, read_taken, no_line, one_too_many, reads_same, reads_text}
+use Rattle.pg_text.proofs.Marking.{all_at, nothing_read, reads_more, named_if, answered_is, all_answered, text_fits, read_fits, read_taken}
+use Rattle.pg_text.proofs.Marking.{no_line, one_too_many, reads_same, reads_text}
 
 -- these lines were read, and the rest follows
 pub record Reading (bytes : List ℕ) (game : List GameVertex) (solution : List Answer) (seen : List Bool) (rest : List ℕ) : Type 0 where
@@ -44,7 +48,8 @@ pub record Reading (bytes : List ℕ) (game : List GameVertex) (solution : List 
   pub same_header : begins.header ≡ header
   pub state : State game front solution seen
 
-pub starts : (bytes : List ℕ) (game : List GameVertex) (solution : List Answer) (seen : List Bool) (header : Option ℕ) (start : List ℕ) → clause_at (codes "paritysol") bytes ≡ Ok (header, start)
+pub starts : (bytes : List ℕ) (game : List GameVertex) (solution : List Answer) (seen : List Bool) (header : Option ℕ) (start : List ℕ)
+    → clause_at (codes "paritysol") bytes ≡ Ok (header, start)
     → solution ≡ replicate (length game) unanswered → seen ≡ replicate (length game) false → Reading bytes game solution seen start
 starts bytes game solution seen header start read s m = record {
   start = start;
@@ -59,11 +64,21 @@ starts bytes game solution seen header start read s m = record {
 }
 
 -- one line more behind others
-lines_more : (start : List ℕ) (front : List SolutionLine) (rest : List ℕ) (line : SolutionLine) (after : List ℕ) → Spells start (flat_map answer_lexemes front) rest → Spells rest (answer_lexemes line) after → Spells start (flat_map answer_lexemes (front ++ line ∷ [])) after
-lines_more start front rest line after s t = grind (arith, nat_tests, flat_map-append answer_lexemes front (line ∷ []), append-nil (answer_lexemes line), spells_append (flat_map answer_lexemes front) (answer_lexemes line) start rest after s t)
+lines_more : (start : List ℕ) (front : List SolutionLine) (rest : List ℕ) (line : SolutionLine) (after : List ℕ)
+    → Spells start (flat_map answer_lexemes front) rest → Spells rest (answer_lexemes line) after
+    → Spells start (flat_map answer_lexemes (front ++ line ∷ [])) after
+lines_more start front rest line after s t = grind (
+  arith,
+  nat_tests,
+  flat_map-append answer_lexemes front (line ∷ []),
+  append-nil (answer_lexemes line),
+  spells_append (flat_map answer_lexemes front) (answer_lexemes line) start rest after s t,
+)
 
-pub goes : (bytes : List ℕ) (game : List GameVertex) (solution : List Answer) (seen : List Bool) (rest : List ℕ) (line : SolutionLine) (after : List ℕ) (solution' : List Answer) (seen' : List Bool)
-    → IsGame game → Reading bytes game solution seen rest → next_answer_at rest ≡ Ok (item line, after) → Puts game line solution seen solution' seen' → Reading bytes game solution' seen' after
+pub goes : (bytes : List ℕ) (game : List GameVertex) (solution : List Answer) (seen : List Bool) (rest : List ℕ) (line : SolutionLine)
+    (after : List ℕ) (solution' : List Answer) (seen' : List Bool)
+    → IsGame game → Reading bytes game solution seen rest → next_answer_at rest ≡ Ok (item line, after)
+    → Puts game line solution seen solution' seen' → Reading bytes game solution' seen' after
 goes bytes game solution seen rest line after solution' seen' well r e p = record {
   start = r.start;
   front = r.front ++ line ∷ [];
@@ -76,12 +91,15 @@ goes bytes game solution seen rest line after solution' seen' well r e p = recor
   state = reads_more game r.front line solution seen solution' seen' well r.state p;
 }
 
-pub finishes : (bytes : List ℕ) (game : List GameVertex) (solution : List Answer) (seen : List Bool) (rest after : List ℕ) → Reading bytes game solution seen rest → next_answer_at rest ≡ Ok (stop tt, after) → HasRead bytes game solution seen
+pub finishes : (bytes : List ℕ) (game : List GameVertex) (solution : List Answer) (seen : List Bool) (rest after : List ℕ)
+    → Reading bytes game solution seen rest → next_answer_at rest ≡ Ok (stop tt, after) → HasRead bytes game solution seen
 finishes bytes game solution seen rest after r e = record { lines = r.front; text = lines_end bytes r.front rest after r.begins e; state = r.state }
 
 -- no line that was read has the identifier of an unmarked vertex
-unnamed : (game : List GameVertex) (lines : List SolutionLine) (n : ℕ) (solution : List Answer) (seen : List Bool) → State game lines solution seen → IsUnmarked game n seen → has_line lines n ≡ false
-unnamed game lines n solution seen s unmarked = no_line game lines n (read_fits game lines solution seen s) (λ v within named. s.counted v within ∙ ap (λ (b : Bool). cond b 1 0) (unmarked v within named))
+unnamed : (game : List GameVertex) (lines : List SolutionLine) (n : ℕ) (solution : List Answer) (seen : List Bool)
+    → State game lines solution seen → IsUnmarked game n seen → has_line lines n ≡ false
+unnamed game lines n solution seen s unmarked = no_line game lines n (read_fits game lines solution seen s)
+    (λ v within named. s.counted v within ∙ ap (λ (b : Bool). cond b 1 0) (unmarked v within named))
 
 -- ---- no text
 
@@ -89,19 +107,24 @@ nothing_spelt : (bytes : List ℕ) (game : List GameVertex) (fault : TokenFault)
 nothing_spelt bytes game fault h = λ solution t. err_is_ok fault t.lines (sym h ∙ answers_again bytes t.lines t.text)
 
 refused : (bytes : List ℕ) (game : List GameVertex) (fault : TokenFault) (rest : List ℕ) → SpellsNoSolution bytes game → IsToldAt (after_space rest) fault
-    → ((offset : ℕ) → offset ≡ length bytes - length (after_space rest) → IsNoText bytes game offset rest) → IsRefused bytes game (token_fault_of (length bytes) fault)
-refused bytes game (tokens.Syntax left) rest none told no_text = (none, inr (rest, no_text (length bytes - left) (ap (λ (n : ℕ). length bytes - n) told.0), told.1))
-refused bytes game (tokens.NumberTooLarge left) rest none told no_text = (none, (rest, no_text (length bytes - left) (ap (λ (n : ℕ). length bytes - n) told.0), told.1))
+    → ((offset : ℕ) → offset ≡ length bytes - length (after_space rest) → IsNoText bytes game offset rest)
+    → IsRefused bytes game (token_fault_of (length bytes) fault)
+refused bytes game (tokens.Syntax left) rest none told no_text =
+    (none, inr (rest, no_text (length bytes - left) (ap (λ (n : ℕ). length bytes - n) told.0), told.1))
+refused bytes game (tokens.NumberTooLarge left) rest none told no_text =
+    (none, (rest, no_text (length bytes - left) (ap (λ (n : ℕ). length bytes - n) told.0), told.1))
 
 no_lines : (bytes : List ℕ) (fault : TokenFault) → clause_at (codes "paritysol") bytes ≡ Err fault → answers_at bytes ≡ Err fault
 unfolding answers_at
 no_lines bytes fault e = rw e refl
 
 -- where the header can't be read no token stands
-no_header : (bytes : List ℕ) (fault : TokenFault) (token : Lexeme) (rest : List ℕ) → (token ≡ word (codes "paritysol") → ⊥) → clause_at (codes "paritysol") bytes ≡ Err fault → ¬ Begins bytes token rest
+no_header : (bytes : List ℕ) (fault : TokenFault) (token : Lexeme) (rest : List ℕ) → (token ≡ word (codes "paritysol") → ⊥)
+    → clause_at (codes "paritysol") bytes ≡ Err fault → ¬ Begins bytes token rest
 no_header bytes fault token rest other e b = err_is_ok fault _ (sym e ∙ clause_absent (codes "paritysol") bytes token rest other b)
 
-pub fails_header : (bytes : List ℕ) (game : List GameVertex) (fault : TokenFault) → clause_at (codes "paritysol") bytes ≡ Err fault → IsRefused bytes game (token_fault_of (length bytes) fault)
+pub fails_header : (bytes : List ℕ) (game : List GameVertex) (fault : TokenFault) → clause_at (codes "paritysol") bytes ≡ Err fault
+    → IsRefused bytes game (token_fault_of (length bytes) fault)
 fails_header bytes game fault e =
     let s = header_stuck bytes fault e in
     refused bytes game fault s.rest (nothing_spelt bytes game fault (no_lines bytes fault e)) s.told (λ offset place. record {
@@ -122,14 +145,19 @@ fails_header bytes game fault e =
       told = place;
     })
 
-no_items : (bytes : List ℕ) (header : Option ℕ) (start : List ℕ) (fault : TokenFault) → clause_at (codes "paritysol") bytes ≡ Ok (header, start) → items_at next_answer_at start ≡ Err fault → answers_at bytes ≡ Err fault
+no_items : (bytes : List ℕ) (header : Option ℕ) (start : List ℕ) (fault : TokenFault)
+    → clause_at (codes "paritysol") bytes ≡ Ok (header, start) → items_at next_answer_at start ≡ Err fault → answers_at bytes ≡ Err fault
 unfolding answers_at
 no_items bytes header start fault e h = rw (e, h) refl
 
-unread : (bytes : List ℕ) (game : List GameVertex) (solution : List Answer) (seen : List Bool) (rest : List ℕ) (fault : TokenFault) → Reading bytes game solution seen rest → next_answer_at rest ≡ Err fault → answers_at bytes ≡ Err fault
-unread bytes game solution seen rest fault r e = no_items bytes r.header r.start fault r.header_read (sym r.so_far ∙ ap (with_front r.front) (items_err next_answer_at rest fault e))
+unread : (bytes : List ℕ) (game : List GameVertex) (solution : List Answer) (seen : List Bool) (rest : List ℕ) (fault : TokenFault)
+    → Reading bytes game solution seen rest → next_answer_at rest ≡ Err fault → answers_at bytes ≡ Err fault
+unread bytes game solution seen rest fault r e = no_items bytes r.header r.start fault r.header_read (sym r.so_far
+    ∙ ap (with_front r.front) (items_err next_answer_at rest fault e))
 
-pub fails_line : (bytes : List ℕ) (game : List GameVertex) (solution : List Answer) (seen : List Bool) (rest : List ℕ) (fault : TokenFault) → Reading bytes game solution seen rest → next_answer_at rest ≡ Err fault → BeginsWell game seen rest → IsRefused bytes game (token_fault_of (length bytes) fault)
+pub fails_line : (bytes : List ℕ) (game : List GameVertex) (solution : List Answer) (seen : List Bool) (rest : List ℕ) (fault : TokenFault)
+    → Reading bytes game solution seen rest → next_answer_at rest ≡ Err fault → BeginsWell game seen rest
+    → IsRefused bytes game (token_fault_of (length bytes) fault)
 fails_line bytes game solution seen rest fault r e well =
     let s = line_stuck bytes r.start r.header r.front rest fault r.header_read r.spelt e in
     refused bytes game fault s.rest (nothing_spelt bytes game fault (unread bytes game solution seen rest fault r e)) s.told (λ offset place. record {
@@ -156,17 +184,23 @@ abbrev Lines : Type 0
 Lines = List SolutionLine × Unit {0} × List ℕ
 
 -- the lines of a text that begins so
-text_lines : (bytes : List ℕ) (game : List GameVertex) (solution : List Answer) (seen : List Bool) (rest : List ℕ) (line : SolutionLine) (after : List ℕ) (lines : List SolutionLine)
-    → (r : Reading bytes game solution seen rest) → next_answer_at rest ≡ Ok (item line, after) → AreLines bytes lines → (later : List SolutionLine) × (lines ≡ r.front ++ line ∷ later)
+text_lines : (bytes : List ℕ) (game : List GameVertex) (solution : List Answer) (seen : List Bool) (rest : List ℕ) (line : SolutionLine)
+    (after : List ℕ) (lines : List SolutionLine)
+    → (r : Reading bytes game solution seen rest) → next_answer_at rest ≡ Ok (item line, after) → AreLines bytes lines
+    → (later : List SolutionLine) × (lines ≡ r.front ++ line ∷ later)
 unfolding answers_at
 text_lines bytes game solution seen rest line after lines r e spelt =
-    let total : with_front (r.front ++ line ∷ []) (items_at next_answer_at after) ≡ items_at next_answer_at r.start = goes_on next_answer_at line_shrinks r.front rest line after (items_at next_answer_at r.start) e r.so_far in
-    let a = bind_ok (clause_at (codes "paritysol") bytes) (λ header. items_at next_answer_at header.1 >>= λ x. ok x.0) lines (answers_again bytes lines spelt) in
+    let total : with_front (r.front ++ line ∷ []) (items_at next_answer_at after) ≡ items_at next_answer_at r.start =
+    goes_on next_answer_at line_shrinks r.front rest line after (items_at next_answer_at r.start) e r.so_far in
+    let a = bind_ok (clause_at (codes "paritysol") bytes) (λ header. items_at next_answer_at header.1 >>= λ x. ok x.0) lines
+    (answers_again bytes lines spelt) in
     let start : a.0.1 ≡ r.start = ap (λ (p : Option ℕ × List ℕ). p.1) (ok_is a.0 (r.header, r.start) (sym a.1 ∙ r.header_read)) in
     let b = bind_ok (items_at next_answer_at a.0.1) (λ x. ok x.0) lines a.2 in
-    let g = bind_ok (items_at next_answer_at after) (λ x. ok ((r.front ++ line ∷ []) ++ x.0, x.1, x.2)) b.0 (total ∙ ap (items_at next_answer_at) (sym start) ∙ b.1) in
+    let g = bind_ok (items_at next_answer_at after) (λ x. ok ((r.front ++ line ∷ []) ++ x.0, x.1, x.2)) b.0
+    (total ∙ ap (items_at next_answer_at) (sym start) ∙ b.1) in
     let whole : lines ≡ r.front ++ line ∷ g.0.0 =
-    sym (ok_is b.0.0 lines b.2) ∙ sym (ap (λ (p : Lines). p.0) (ok_is ((r.front ++ line ∷ []) ++ g.0.0, g.0.1, g.0.2) b.0 g.2)) ∙ append_assoc r.front (line ∷ []) g.0.0 in
+    sym (ok_is b.0.0 lines b.2) ∙ sym (ap (λ (p : Lines). p.0) (ok_is ((r.front ++ line ∷ []) ++ g.0.0, g.0.1, g.0.2) b.0 g.2))
+    ∙ append_assoc r.front (line ∷ []) g.0.0 in
     (g.0.0, whole)
 
 -- what begins with a number is a line, in a text
@@ -182,7 +216,8 @@ line_there bytes game solution seen rest n lines r s spelt = there (next_answer_
     there : (o : Read (Step SolutionLine (Unit {0}) × List ℕ)) → next_answer_at rest ≡ o → LineThere rest
     there (Err fault) e = absurd (err_is_ok fault lines (sym (unread bytes game solution seen rest fault r e) ∙ answers_again bytes lines spelt))
     there (Ok (item line, after)) e = record { line = line; after = after; read = e }
-    there (Ok (stop t, after)) e = absurd (let same : end ≡ number n = (same_token rest end (number n) after s.stands.0 (end_takes rest t after e) s.stands.1).0 in cc)
+    there (Ok (stop t, after)) e = absurd
+        (let same : end ≡ number n = (same_token rest end (number n) after s.stands.0 (end_takes rest t after e) s.stands.1).0 in cc)
 
 -- a line of a text fits
 unfit_spoils : (bytes : List ℕ) (game : List GameVertex) (solution : List Answer) (seen : List Bool) (rest : List ℕ) (n : ℕ)
@@ -199,12 +234,22 @@ second_spoils : (bytes : List ℕ) (game : List GameVertex) (solution : List Ans
 second_spoils bytes game solution seen rest n r s m = λ other t.
     let there = line_there bytes game solution seen rest n t.lines r s t.text in
     let l = text_lines bytes game solution seen rest there.line there.after t.lines r there.read t.text in
-    let named : there.line.identifier ≡ identifier game m.v = starts_with rest n (s.token ∷ []) s.rest there.line there.after s.stands (line_takes rest there.line there.after there.read) ∙ m.named in
-    one_too_many game r.front there.line l.0 m.v named (r.state.counted m.v m.within ∙ ap (λ (b : Bool). cond b 1 0) m.marked) (subst (λ (lines : List SolutionLine). line_count game lines m.v ≡ 1) l.1 (t.one_each m.v m.within))
+    let named : there.line.identifier ≡ identifier game m.v = starts_with rest n (s.token ∷ []) s.rest there.line there.after s.stands
+    (line_takes rest there.line there.after there.read) ∙ m.named in
+    one_too_many game r.front there.line l.0 m.v named (r.state.counted m.v m.within ∙ ap (λ (b : Bool). cond b 1 0) m.marked)
+    (subst (λ (lines : List SolutionLine). line_count game lines m.v ≡ 1) l.1 (t.one_each m.v m.within))
 
 pub fails_front : (bytes : List ℕ) (game : List GameVertex) (solution : List Answer) (seen : List Bool) (rest : List ℕ) (n : ℕ) (misfit : Misfit)
-    → IsGame game → Reading bytes game solution seen rest → BeginsMisfit game seen rest n misfit → IsRefused bytes game (misfit_fault misfit n (length bytes - length (after_space rest)))
-fails_front bytes game solution seen rest n NotOfGame well r m = grind (arith, nat_tests, unfit_spoils bytes game solution seen rest n well r m.0, read_taken game r.front solution seen r.state, unnamed game r.front n solution seen r.state m.1)
+    → IsGame game → Reading bytes game solution seen rest → BeginsMisfit game seen rest n misfit
+    → IsRefused bytes game (misfit_fault misfit n (length bytes - length (after_space rest)))
+fails_front bytes game solution seen rest n NotOfGame well r m =
+    grind (
+      arith,
+      nat_tests,
+      unfit_spoils bytes game solution seen rest n well r m.0,
+      read_taken game r.front solution seen r.state,
+      unnamed game r.front n solution seen r.state m.1,
+    )
 fails_front bytes game solution seen rest n Repeated well r m = (
   second_spoils bytes game solution seen rest n r m.0 m.1,
   inl (record {
@@ -214,32 +259,41 @@ fails_front bytes game solution seen rest n Repeated well r m = (
     taken = read_taken game r.front solution seen r.state;
     n = n;
     starts = m.0;
-    twice = subst (λ (k : ℕ). list_any (λ (other : SolutionLine). eqb other.identifier k) r.front ≡ true) (sym m.1.named) (named_if game m.1.v r.front true (r.state.counted m.1.v m.1.within ∙ ap (λ (b : Bool). cond b 1 0) m.1.marked));
+    twice = subst (λ (k : ℕ). list_any (λ (other : SolutionLine). eqb other.identifier k) r.front ≡ true) (sym m.1.named)
+        (named_if game m.1.v r.front true (r.state.counted m.1.v m.1.within ∙ ap (λ (b : Bool). cond b 1 0) m.1.marked));
     place = refl;
   }),
 )
 
-pub fails_misfit : (bytes : List ℕ) (game : List GameVertex) (solution : List Answer) (seen : List Bool) (rest : List ℕ) (line : SolutionLine) (after : List ℕ) (misfit : Misfit)
-    → IsGame game → Reading bytes game solution seen rest → next_answer_at rest ≡ Ok (item line, after) → IsMisfit game line seen misfit → IsRefused bytes game (misfit_fault misfit line.identifier (length bytes - length (after_space rest)))
-fails_misfit bytes game solution seen rest line after misfit well r e m = fails_front bytes game solution seen rest line.identifier misfit well r (line_front game seen rest line after misfit (line_takes rest line after e) m)
+pub fails_misfit : (bytes : List ℕ) (game : List GameVertex) (solution : List Answer) (seen : List Bool) (rest : List ℕ)
+    (line : SolutionLine) (after : List ℕ) (misfit : Misfit)
+    → IsGame game → Reading bytes game solution seen rest → next_answer_at rest ≡ Ok (item line, after) → IsMisfit game line seen misfit
+    → IsRefused bytes game (misfit_fault misfit line.identifier (length bytes - length (after_space rest)))
+fails_misfit bytes game solution seen rest line after misfit well r e m =
+    fails_front bytes game solution seen rest line.identifier misfit well r
+    (line_front game seen rest line after misfit (line_takes rest line after e) m)
 
 -- ---- the end
 
-pub found : (bytes : List ℕ) (game : List GameVertex) (solution : List Answer) (seen : List Bool) → HasRead bytes game solution seen → ((v : ℕ) → v < length game → is_complete game solution seen v ≡ true) → IsSolutionText bytes game solution
+pub found : (bytes : List ℕ) (game : List GameVertex) (solution : List Answer) (seen : List Bool) → HasRead bytes game solution seen
+    → ((v : ℕ) → v < length game → is_complete game solution seen v ≡ true) → IsSolutionText bytes game solution
 found bytes game solution seen h complete = reads_text bytes game h.lines solution seen h.text h.state complete
 
-pub found_only : (bytes : List ℕ) (game : List GameVertex) (solution : List Answer) (seen : List Bool) (spelt : List Answer) → IsGame game → HasRead bytes game solution seen → IsSolutionText bytes game spelt → solution ≡ spelt
+pub found_only : (bytes : List ℕ) (game : List GameVertex) (solution : List Answer) (seen : List Bool) (spelt : List Answer) → IsGame game
+    → HasRead bytes game solution seen → IsSolutionText bytes game spelt → solution ≡ spelt
 found_only bytes game solution seen spelt well h t =
     let same : h.lines ≡ t.lines = ok_is h.lines t.lines (sym (answers_again bytes h.lines h.text) ∙ answers_again bytes t.lines t.text) in
     reads_same bytes game solution seen spelt well t (subst (λ (lines : List SolutionLine). State game lines solution seen) same h.state)
 
-pub missing : (bytes : List ℕ) (game : List GameVertex) (solution : List Answer) (seen : List Bool) (v : ℕ) → IsGame game → HasRead bytes game solution seen → v < length game → is_complete game solution seen v ≡ false
+pub missing : (bytes : List ℕ) (game : List GameVertex) (solution : List Answer) (seen : List Bool) (v : ℕ) → IsGame game
+    → HasRead bytes game solution seen → v < length game → is_complete game solution seen v ≡ false
     → ((u : ℕ) → u < v → is_complete game solution seen u ≡ true) → SpellsNoSolution bytes game × IsFirstMissing bytes game (identifier game v)
 missing bytes game solution seen v well h within lacks first =
     let unanswered : list_any (answers game v) h.lines ≡ false = answered_is game h.lines solution seen v well within h.state ∙ lacks in (
       λ other t.
           let same : h.lines ≡ t.lines = ok_is h.lines t.lines (sym (answers_again bytes h.lines h.text) ∙ answers_again bytes t.lines t.text) in
-          let yet : list_any (answers game v) h.lines ≡ true = ap (λ (lines : List SolutionLine). list_any (answers game v) lines) same ∙ all_answered bytes game other v well within t in
+          let yet : list_any (answers game v) h.lines ≡ true = ap (λ (lines : List SolutionLine). list_any (answers game v) lines) same
+          ∙ all_answered bytes game other v well within t in
           absurd (differ (list_any (answers game v) h.lines) yet unanswered),
       record {
         lines = h.lines;
@@ -258,6 +312,7 @@ missing bytes game solution seen v well h within lacks first =
     differ false e f = absurd cc
 
 -- nothing else is spelt where the bytes are refused
-pub refused_only : (bytes : List ℕ) (game : List GameVertex) (fault : TextFault) (spelt : List Answer) → IsRefused bytes game fault → IsSolutionText bytes game spelt → fault ≡ text.OutOfMemory
+pub refused_only : (bytes : List ℕ) (game : List GameVertex) (fault : TextFault) (spelt : List Answer) → IsRefused bytes game fault
+    → IsSolutionText bytes game spelt → fault ≡ text.OutOfMemory
 refused_only bytes game text.OutOfMemory spelt h t = refl
 refused_only bytes game _ spelt h t = absurd (h.0 spelt t)

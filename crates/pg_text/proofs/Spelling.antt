@@ -30,7 +30,13 @@ spelt_long (quoted q) text rest h s = omega (arith, ap length (s.1))
 spelt_long end text rest h s = absurd (h refl)
 
 pub begins_shorter : (bytes : List ℕ) (token : Lexeme) (rest : List ℕ) → (token ≡ end → ⊥) → Begins bytes token rest → length rest < length bytes
-begins_shorter bytes token rest h b = grind (arith, nat_tests, spelt_long token (b.text) rest h (b.spelt), length-append (b.gap) (b.text ++ rest), length-append (b.text) rest)
+begins_shorter bytes token rest h b = grind (
+  arith,
+  nat_tests,
+  spelt_long token (b.text) rest h (b.spelt),
+  length-append (b.gap) (b.text ++ rest),
+  length-append (b.text) rest,
+)
 
 pub spells_within : (tokens : List Lexeme) (bytes rest : List ℕ) → Spells bytes tokens rest → length rest ≤ length bytes
 spells_within [] bytes rest p = omega (arith, ap length p)
@@ -44,7 +50,9 @@ pub record IsExact {A E : Type 0} (step : List ℕ → Read (Step A E × List �
 abbrev Taken : {A E : Type 0} → (List ℕ → Read (Step A E × List ℕ)) → (A → List Lexeme) → (A → Type 0) → List ℕ → List A × E × List ℕ → Type 0
 Taken step lexemes P bytes y = (mid : List ℕ) × Spells bytes (flat_map lexemes (y.0)) mid × (step mid ≡ Ok (stop (y.1), y.2)) × AllByRecursion P (y.0)
 
-within_take : {A E : Type 0} (step : List ℕ → Read (Step A E × List ℕ)) (lexemes : A → List Lexeme) (P : A → Type 0) → IsExact step lexemes P → (n : ℕ) (bytes : List ℕ) (y : List A × E × List ℕ) → items_within step n bytes ≡ Ok y → Taken step lexemes P bytes y
+within_take : {A E : Type 0} (step : List ℕ → Read (Step A E × List ℕ)) (lexemes : A → List Lexeme) (P : A → Type 0)
+    → IsExact step lexemes P → (n : ℕ) (bytes : List ℕ) (y : List A × E × List ℕ) → items_within step n bytes ≡ Ok y
+    → Taken step lexemes P bytes y
 unfolding items_within
 within_take step lexemes P exact zero bytes y e = absurd cc
 within_take {A} {E} step lexemes P exact (suc n) bytes y e =
@@ -61,12 +69,15 @@ within_take {A} {E} step lexemes P exact (suc n) bytes y e =
     ] in
     go (b.0.0) (b.0.1) (b.1) (b.2)
 
-pub items_take : {A E : Type 0} (step : List ℕ → Read (Step A E × List ℕ)) (lexemes : A → List Lexeme) (P : A → Type 0) → IsExact step lexemes P → (bytes : List ℕ) (y : List A × E × List ℕ) → items_at step bytes ≡ Ok y
+pub items_take : {A E : Type 0} (step : List ℕ → Read (Step A E × List ℕ)) (lexemes : A → List Lexeme) (P : A → Type 0)
+    → IsExact step lexemes P → (bytes : List ℕ) (y : List A × E × List ℕ) → items_at step bytes ≡ Ok y
     → (mid : List ℕ) × Spells bytes (flat_map lexemes (y.0)) mid × (step mid ≡ Ok (stop (y.1), y.2)) × AllByRecursion P (y.0)
 unfolding items_at
 items_take step lexemes P exact bytes y e = within_take step lexemes P exact (suc (length bytes)) bytes y e
 
-pub items_again : {A E : Type 0} (step : List ℕ → Read (Step A E × List ℕ)) (lexemes : A → List Lexeme) (P : A → Type 0) → IsExact step lexemes P → Shrinks step → (items : List A) (bytes mid : List ℕ) (z : E) (rest : List ℕ) → AllByRecursion P items → Spells bytes (flat_map lexemes items) mid → step mid ≡ Ok (stop z, rest) → items_at step bytes ≡ Ok (items, z, rest)
+pub items_again : {A E : Type 0} (step : List ℕ → Read (Step A E × List ℕ)) (lexemes : A → List Lexeme) (P : A → Type 0)
+    → IsExact step lexemes P → Shrinks step → (items : List A) (bytes mid : List ℕ) (z : E) (rest : List ℕ) → AllByRecursion P items
+    → Spells bytes (flat_map lexemes items) mid → step mid ≡ Ok (stop z, rest) → items_at step bytes ≡ Ok (items, z, rest)
 items_again step lexemes P exact shrinks [] bytes mid z rest each s e = items_end step bytes z rest (ap step s ∙ e)
 items_again step lexemes P exact shrinks (x ∷ items) bytes mid z rest each s e =
     let parts = spells_parts (lexemes x) (flat_map lexemes items) bytes mid s in

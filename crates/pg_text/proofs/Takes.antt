@@ -81,7 +81,8 @@ LineTaken bytes y = Spells bytes (behind_lexemes y.0) y.1 × (y.0.successors ≢
 pub line_takes : (identifier : ℕ) (bytes : List ℕ) (y : Line × List ℕ) → line_at identifier bytes ≡ Ok y → LineTaken bytes y × (y.0.identifier ≡ identifier)
 unfolding line_at
 line_takes identifier bytes y e =
-    let made = λ (p : ℕ) (o : Player) (s : List ℕ) (n : Option (List ℕ) × List ℕ). let line : Line = record { identifier = identifier; priority = p; owner = o; successors = s; name = n.0 } in ok (line, n.1) in
+    let made = λ (p : ℕ) (o : Player) (s : List ℕ) (n : Option (List ℕ) × List ℕ). let line : Line =
+    record { identifier = identifier; priority = p; owner = o; successors = s; name = n.0 } in ok (line, n.1) in
     let a = bind_ok (natural_at bytes) (λ p. owner_at p.1 >>= λ o. numbers_at o.1 >>= λ s. ending_at s.1 >>= λ n. made p.0 o.0 s.0 n) y e in
     let b = bind_ok (owner_at a.0.1) (λ o. numbers_at o.1 >>= λ s. ending_at s.1 >>= λ n. made a.0.0 o.0 s.0 n) y a.2 in
     let c = bind_ok (numbers_at b.0.1) (λ s. ending_at s.1 >>= λ n. made a.0.0 b.0.0 s.0 n) y b.2 in
@@ -89,15 +90,34 @@ line_takes identifier bytes y e =
     let numbers = numbers_take b.0.1 c.0 c.1 in
     let ending = ending_takes c.0.1 d.0 d.1 in
     let line : Line = record { identifier = identifier; priority = a.0.0; owner = b.0.0; successors = c.0.0; name = d.0.0 } in
-    subst (λ (y : Line × List ℕ). LineTaken bytes y × (y.0.identifier ≡ identifier)) (ok_is (line, d.0.1) y d.2)
-    (((a.0.1, natural_takes bytes a.0 a.1, (b.0.1, owner_takes a.0.1 b.0 b.1, spells_append (numbers_lexemes c.0.0) (name_lexemes d.0.0 ++ semicolon ∷ []) b.0.1 c.0.1 d.0.1 numbers.0 ending)), numbers.1), refl)
+    subst (λ (y : Line × List ℕ). LineTaken bytes y × (y.0.identifier ≡ identifier)) (ok_is (line, d.0.1) y d.2) (
+      (
+        (
+          a.0.1,
+          natural_takes bytes a.0 a.1,
+          (
+            b.0.1,
+            owner_takes a.0.1 b.0 b.1,
+            spells_append (numbers_lexemes c.0.0) (name_lexemes d.0.0 ++ semicolon ∷ []) b.0.1 c.0.1 d.0.1 numbers.0 ending,
+          ),
+        ),
+        numbers.1,
+      ),
+      refl,
+    )
 
-pub line_again : (line : Line) (bytes rest : List ℕ) → line.successors ≢ [] → Spells bytes (behind_lexemes line) rest → line_at line.identifier bytes ≡ Ok (line, rest)
+pub line_again : (line : Line) (bytes rest : List ℕ) → line.successors ≢ [] → Spells bytes (behind_lexemes line) rest
+    → line_at line.identifier bytes ≡ Ok (line, rest)
 unfolding line_at
 line_again line bytes rest h s =
     let parts = spells_parts (numbers_lexemes line.successors) (name_lexemes line.name ++ semicolon ∷ []) s.2.0 rest s.2.2 in
     let close = closes line.name parts.0 rest parts.2 in
-    rw (natural_again bytes line.priority s.0 s.1, owner_again s.0 line.owner s.2.0 s.2.1, numbers_again line.successors s.2.0 parts.0 close.token close.mid h parts.1 close.other close.begins, ending_again line.name parts.0 rest parts.2) refl
+    rw (
+      natural_again bytes line.priority s.0 s.1,
+      owner_again s.0 line.owner s.2.0 s.2.1,
+      numbers_again line.successors s.2.0 parts.0 close.token close.mid h parts.1 close.other close.begins,
+      ending_again line.name parts.0 rest parts.2,
+    ) refl
 
 -- ---- lines, up to the end
 

@@ -24,33 +24,47 @@ lines_head : (name : List ℕ) (lines : List Line) (bytes rest : List ℕ) → S
 lines_head name [] bytes rest s = record { token = end; mid = s.0; begins = s.1; other = λ e. cc }
 lines_head name (line ∷ lines) bytes rest s = record { token = number (line.identifier); mid = s.0; begins = s.1; other = λ e. cc }
 
-start_head : (start : Option ℕ) (lines : List Line) (bytes rest : List ℕ) → Spells bytes (clause_lexemes (codes "start") start ++ (flat_map line_lexemes lines ++ end ∷ [])) rest → Heads bytes (codes "parity")
+start_head : (start : Option ℕ) (lines : List Line) (bytes rest : List ℕ)
+    → Spells bytes (clause_lexemes (codes "start") start ++ (flat_map line_lexemes lines ++ end ∷ [])) rest → Heads bytes (codes "parity")
 start_head None lines bytes rest s = lines_head (codes "parity") lines bytes rest s
 start_head (Some n) lines bytes rest s = record { token = word (codes "start"); mid = s.0; begins = s.1; other = λ e. cc }
 
-start_again : (start : Option ℕ) (lines : List Line) (bytes : List ℕ) → Spells bytes (clause_lexemes (codes "start") start ++ (flat_map line_lexemes lines ++ end ∷ [])) [] → (mid : List ℕ) × (read : Option ℕ) × (clause_at (codes "start") bytes ≡ Ok (read, mid)) × Spells mid (flat_map line_lexemes lines ++ end ∷ []) []
-start_again None lines bytes s = let head = lines_head (codes "start") lines bytes [] s in (bytes, None, clause_absent (codes "start") bytes (head.token) (head.mid) (head.other) (head.begins), s)
+start_again : (start : Option ℕ) (lines : List Line) (bytes : List ℕ)
+    → Spells bytes (clause_lexemes (codes "start") start ++ (flat_map line_lexemes lines ++ end ∷ [])) []
+    → (mid : List ℕ) × (read : Option ℕ) × (clause_at (codes "start") bytes ≡ Ok (read, mid)) × Spells mid (flat_map line_lexemes lines ++ end ∷ []) []
+start_again None lines bytes s = let head = lines_head (codes "start") lines bytes [] s in
+    (bytes, None, clause_absent (codes "start") bytes (head.token) (head.mid) (head.other) (head.begins), s)
 start_again (Some n) lines bytes s =
     let parts = spells_parts (clause_lexemes (codes "start") (Some n)) (flat_map line_lexemes lines ++ end ∷ []) bytes [] s in
     (parts.0, Some n, clause_there (codes "start") n bytes (parts.0) (parts.1), parts.2)
 
-header_again : (header start : Option ℕ) (lines : List Line) (bytes : List ℕ) → Spells bytes (game_lexemes header start lines (end ∷ [])) [] → (mid : List ℕ) × (read : Option ℕ) × (clause_at (codes "parity") bytes ≡ Ok (read, mid)) × Spells mid (clause_lexemes (codes "start") start ++ (flat_map line_lexemes lines ++ end ∷ [])) []
-header_again None start lines bytes s = let head = start_head start lines bytes [] s in (bytes, None, clause_absent (codes "parity") bytes (head.token) (head.mid) (head.other) (head.begins), s)
+header_again : (header start : Option ℕ) (lines : List Line) (bytes : List ℕ) → Spells bytes (game_lexemes header start lines (end ∷ [])) []
+    → (mid : List ℕ) × (read : Option ℕ) × (clause_at (codes "parity") bytes ≡ Ok (read, mid)) × Spells mid (clause_lexemes (codes "start") start ++ (flat_map line_lexemes lines ++ end ∷ [])) []
+header_again None start lines bytes s = let head = start_head start lines bytes [] s in
+    (bytes, None, clause_absent (codes "parity") bytes (head.token) (head.mid) (head.other) (head.begins), s)
 header_again (Some n) start lines bytes s =
-    let parts = spells_parts (clause_lexemes (codes "parity") (Some n)) (clause_lexemes (codes "start") start ++ (flat_map line_lexemes lines ++ end ∷ [])) bytes [] s in
+    let parts = spells_parts (clause_lexemes (codes "parity") (Some n))
+    (clause_lexemes (codes "start") start ++ (flat_map line_lexemes lines ++ end ∷ [])) bytes [] s in
     (parts.0, Some n, clause_there (codes "parity") n bytes (parts.0) (parts.1), parts.2)
 
 -- ---- the whole
 
 -- what stands in front of the lines
-pub body_takes : (bytes body : List ℕ) → body_at bytes ≡ Ok body → (header : Option ℕ) × (start : Option ℕ) × ((tokens : List Lexeme) (rest : List ℕ) → Spells body tokens rest → Spells bytes (clause_lexemes (codes "parity") header ++ (clause_lexemes (codes "start") start ++ tokens)) rest)
+pub body_takes : (bytes body : List ℕ) → body_at bytes ≡ Ok body
+    → (header : Option ℕ) × (start : Option ℕ) × ((tokens : List Lexeme) (rest : List ℕ) → Spells body tokens rest → Spells bytes (clause_lexemes (codes "parity") header ++ (clause_lexemes (codes "start") start ++ tokens)) rest)
 unfolding body_at
 body_takes bytes body e =
     let h = bind_ok (clause_at (codes "parity") bytes) (λ header. clause_at (codes "start") header.1 >>= λ start. ok start.1) body e in
     let s = bind_ok (clause_at (codes "start") h.0.1) (λ start. ok start.1) body h.2 in
     let header = clause_takes (codes "parity") bytes h.0 h.1 in
-    let start = subst (λ (rest : List ℕ). Spells h.0.1 (clause_lexemes (codes "start") s.0.0) rest) (ok_is s.0.1 body s.2) (clause_takes (codes "start") h.0.1 s.0 s.1) in
-    (h.0.0, s.0.0, λ tokens rest t. spells_append (clause_lexemes (codes "parity") h.0.0) (clause_lexemes (codes "start") s.0.0 ++ tokens) bytes h.0.1 rest header (spells_append (clause_lexemes (codes "start") s.0.0) tokens h.0.1 body rest start t))
+    let start = subst (λ (rest : List ℕ). Spells h.0.1 (clause_lexemes (codes "start") s.0.0) rest) (ok_is s.0.1 body s.2)
+    (clause_takes (codes "start") h.0.1 s.0 s.1) in (
+      h.0.0,
+      s.0.0,
+      λ tokens rest t. spells_append (clause_lexemes (codes "parity") h.0.0)
+          (clause_lexemes (codes "start") s.0.0 ++ tokens) bytes h.0.1 rest header
+          (spells_append (clause_lexemes (codes "start") s.0.0) tokens h.0.1 body rest start t),
+    )
 
 pub lines_take : (bytes : List ℕ) (lines : List Line) → lines_at bytes ≡ Ok lines → IsText bytes lines
 unfolding lines_at
@@ -62,7 +76,14 @@ lines_take bytes lines e =
     let last = end_takes t.0 b.0.1 b.0.2 t.2 in
     let closed : Spells t.0 (end ∷ []) [] = (b.0.2, last, last.spelt.1) in
     let behind = spells_append (flat_map line_lexemes b.0.0) (end ∷ []) a.0 t.0 [] t.1 closed in
-    subst (IsText bytes) (ok_is b.0.0 lines b.2) (record { header = front.0; start = front.1; spelt = front.2 (flat_map line_lexemes b.0.0 ++ end ∷ []) [] behind; successors = t.3 })
+    subst (IsText bytes) (ok_is b.0.0 lines b.2)
+    (record {
+      header = front.0;
+      start = front.1;
+      spelt = front.2 (flat_map line_lexemes b.0.0 ++ end ∷ []) [] behind;
+      successors =
+          t.3;
+    })
 
 pub lines_again : (bytes : List ℕ) (lines : List Line) → IsText bytes lines → lines_at bytes ≡ Ok lines
 unfolding lines_at body_at
@@ -71,5 +92,6 @@ lines_again bytes lines text =
     let start = start_again text.start lines header.0 header.3 in
     let parts = spells_parts (flat_map line_lexemes lines) (end ∷ []) start.0 [] start.3 in
     let closed : Begins parts.0 end [] = subst (λ (r : List ℕ). Begins parts.0 end r) parts.2.2 parts.2.1 in
-    let all = items_again item_at line_lexemes HasSuccessors item_exact item_shrinks lines start.0 parts.0 tt [] text.successors parts.1 (end_again parts.0 [] closed) in
+    let all = items_again item_at line_lexemes HasSuccessors item_exact item_shrinks lines start.0 parts.0 tt [] text.successors parts.1
+    (end_again parts.0 [] closed) in
     rw (header.2, start.2, all) refl

@@ -1,12 +1,15 @@
 //! The lines of a game text.
 
 ghost use Rattle.std.specs.Prelude.{◌≡◌, option_copied};
+ghost use Rattle.pg_arena.specs.Lines.{counted};
+ghost use Rattle.pg_lists.specs.Rising.{rising};
 ghost use Rattle.pg_text.specs.Mirrors.Steps.{Reads, Gives};
-ghost use Rattle.pg_text.specs.Mirrors.GameScan.{line_seen, item_seen, owner_at, ending_at, line_at, item_at, body_at};
+ghost use Rattle.pg_text.specs.Mirrors.GameScan.{line_seen, item_seen, owner_at, ending_at, successors_at, counted_line_at, counted_step, counted_item_at, body_at};
 
-use crate::reading::{Refusal, clause, natural, numbers, semicolon, string, unexpected};
+use crate::reading::{Refusal, clause, further, natural, semicolon, string, unexpected};
 use crate::tokens::{TokenFault, after_byte, after_space};
 use pg_arena::Player;
+use std::alloc::AllocError;
 
 /// A line as it stands in the text, but for its successors.
 #[derive(Clone, Copy)]
@@ -41,18 +44,53 @@ fn ending(bytes: &[u8]) -> Result<(Option<&[u8]>, &[u8]), TokenFault>
     Ok((Some(name), semicolon(rest)?))
 }
 
-/// A line behind its identifier. Its successors take the place of what the buffer held.
-#[tactic(auto, unfolding(crate::specs::Mirrors::GameScan::line_at))]
+/// Makes room for one more number. Where there is none, repeats are taken away first, and there is room for as many numbers
+/// again then, so that a list is seldom sorted.
+fn make_room(list: &mut Vec<u32>) -> Result<(), AllocError>
+    ensures { rising list.new.items ≡ rising list.old.items }
+{
+    if list.len() < list.capacity() {
+        return Ok(());
+    }
+    list.sort_unstable();
+    list.dedup();
+    list.reserve(list.len())
+}
+
+/// One or more successors with commas between, in the place of what the list held. Repeats may be left out, and the order
+/// may change.
+#[tactic(auto, unfolding(crate::specs::Mirrors::GameScan::successors_at, crate::specs::Mirrors::Parts::numbers_at))]
+fn successors<'a>(list: &mut Vec<u32>, bytes: &'a [u8]) -> Result<&'a [u8], Refusal>
+    ensures { Gives (λ rest. (rising list.new.items, rest.now)) result (successors_at bytes.now) }
+{
+    let (first, mut rest) = natural(bytes)?;
+    list.clear();
+    list.push(first)?;
+    'successors: loop {
+        match further(rest)? {
+            Some((number, after)) => {
+                make_room(list)?;
+                list.push(number)?;
+                rest = after;
+            }
+            None => return Ok(rest),
+        }
+    }
+}
+
+/// A line behind its identifier. Its successors, of which repeats count once, take the place of what the buffer held.
+#[tactic(auto, unfolding(crate::specs::Mirrors::GameScan::counted_line_at))]
 fn line<'a>(
     buffer: &mut Vec<u32>,
     identifier: u32,
     bytes: &'a [u8],
 ) -> Result<(TextLine<'a>, &'a [u8]), Refusal>
-    ensures { Gives (λ x. (line_seen buffer.new.items x.0, x.1.now)) result (line_at identifier bytes.now) }
+    ensures { Gives (λ x. (counted (line_seen buffer.new.items x.0), x.1.now)) result
+        (counted_line_at identifier bytes.now) }
 {
     let (priority, rest) = natural(bytes)?;
     let (owner, rest) = player(rest)?;
-    let rest = numbers(buffer, rest)?;
+    let rest = successors(buffer, rest)?;
     let (name, rest) = ending(rest)?;
     let line = TextLine {
         identifier,
@@ -68,7 +106,7 @@ pub(crate) fn item<'a>(
     buffer: &mut Vec<u32>,
     bytes: &'a [u8],
 ) -> Result<(Option<TextLine<'a>>, &'a [u8]), Refusal>
-    ensures { Gives (λ x. (item_seen buffer.new.items x.0, x.1.now)) result (item_at bytes.now) }
+    ensures { Gives (λ x. (counted_step (item_seen buffer.new.items x.0), x.1.now)) result (counted_item_at bytes.now) }
 {
     let front = after_space(bytes);
     if front.is_empty() {

@@ -149,7 +149,7 @@ pub fn clause<'a>(name: &[u8], bytes: &'a [u8]) -> Result<(Option<u32>, &'a [u8]
 
 /// The number behind the comma in front, if one stands there.
 #[tactic(auto, unfolding(crate::specs::Mirrors::Parts::further_at))]
-fn further(bytes: &[u8]) -> Result<Option<(u32, &[u8])>, TokenFault>
+pub(crate) fn further(bytes: &[u8]) -> Result<Option<(u32, &[u8])>, TokenFault>
     ensures { Reads (further_seen bytes.now) result (further_at bytes.now) }
 {
     if let Some(rest) = after_byte(b',', bytes) {

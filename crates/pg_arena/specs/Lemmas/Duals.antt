@@ -5,7 +5,8 @@ use Rattle.std.specs.List.Sorted.{IsStrictlyIncreasing}
 use Rattle.std.proofs.lemmas.Bool.{cases_lt}
 use Rattle.std.proofs.lemmas.List.{length-map, get_or-map, get_or_past}
 use Rattle.std.proofs.lemmas.List.Sums.{sum_by-cons}
-use Rattle.pg_arena.specs.Games.{GameVertex, IsGame, IsWithinLimits, opponent, vertex_at, nowhere, identifier, priority, owner, successors, name, identifiers, edge_count, dual, dual_vertex}
+use Rattle.pg_arena.specs.Games.{GameVertex, IsGame, IsWithinLimits, opponent, vertex_at, nowhere, identifier, priority, owner, successors}
+use Rattle.pg_arena.specs.Games.{name, identifiers, edge_count, dual, dual_vertex}
 
 pub length_dual : (game : List GameVertex) → length (dual game) ≡ length game
 length_dual game = length-map game dual_vertex
@@ -14,7 +15,8 @@ vertex_dual : (game : List GameVertex) (v : ℕ) → v < length game → vertex_
 vertex_dual game v lt = get_or-map dual_vertex game v nowhere nowhere lt
 
 -- what a dual keeps, it keeps also past the last vertex
-kept : {A : Type 0} (field : GameVertex → A) → ((x : GameVertex) → field (dual_vertex x) ≡ field x) → (game : List GameVertex) (v : ℕ) → field (vertex_at (dual game) v) ≡ field (vertex_at game v)
+kept : {A : Type 0} (field : GameVertex → A) → ((x : GameVertex) → field (dual_vertex x) ≡ field x) → (game : List GameVertex) (v : ℕ)
+    → field (vertex_at (dual game) v) ≡ field (vertex_at game v)
 kept field keeps game v = elim (cases_lt v (length game)) [
   | inl lt ↦ ap field (vertex_dual game v lt) ∙ keeps (vertex_at game v)
   | inr past ↦ ap field (get_or_past (dual game) v nowhere (omega (arith, length_dual game))) ∙ sym (ap field (get_or_past game v nowhere past))
@@ -41,7 +43,12 @@ identifiers_dual (x ∷ game) = ap (λ (ids : List ℕ). x.identifier ∷ ids) (
 
 pub edges_dual : (game : List GameVertex) → edge_count (dual game) ≡ edge_count game
 edges_dual [] = refl
-edges_dual (x ∷ game) = omega (arith, sum_by-cons (λ (x : GameVertex). length x.successors) (dual_vertex x) (dual game), sum_by-cons (λ (x : GameVertex). length x.successors) x game, edges_dual game)
+edges_dual (x ∷ game) = omega (
+  arith,
+  sum_by-cons (λ (x : GameVertex). length x.successors) (dual_vertex x) (dual game),
+  sum_by-cons (λ (x : GameVertex). length x.successors) x game,
+  edges_dual game,
+)
 
 pub game_dual : (game : List GameVertex) → IsGame game → IsGame (dual game)
 game_dual game well = record {
@@ -49,7 +56,8 @@ game_dual game well = record {
   rising = subst IsStrictlyIncreasing (sym (identifiers_dual game)) well.rising;
   goes_on = λ v lt. subst (λ (s : List ℕ). 0 < length s) (sym (successors_dual game v)) (well.goes_on v (omega (arith, length_dual game)));
   successors_rise = λ v. subst IsStrictlyIncreasing (sym (successors_dual game v)) (well.successors_rise v);
-  in_range = λ v w edge. (let within = well.in_range v w (subst (λ (s : List ℕ). Contains s w) (successors_dual game v) edge) in omega (arith, length_dual game));
+  in_range = λ v w edge. (let within = well.in_range v w (subst (λ (s : List ℕ). Contains s w) (successors_dual game v) edge) in
+      omega (arith, length_dual game));
 }
 
 pub limits_dual : (game : List GameVertex) → IsWithinLimits game → IsWithinLimits (dual game)

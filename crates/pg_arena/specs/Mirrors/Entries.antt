@@ -1,6 +1,7 @@
 -- How games and builders keep their vertices: identifiers, entries and places of names side by side. The successors of
 -- all of them stand in one list, and so do the names.
-use Rattle.std.specs.Prelude.{◌≡◌, ℕ, ◌+◌, ◌<◌, ◌≤◌, ◌==◌, List, [], ◌∷◌, length, map, drop, Option, Some, None, slice_range, slice_get, slice_index_or, option_map, All, MatchOption, IfSome, nat_eq}
+use Rattle.std.specs.Prelude.{◌≡◌, ℕ, ◌+◌, ◌<◌, ◌≤◌, ◌==◌, List, [], ◌∷◌, length, map, drop, Option, Some, None, slice_range, slice_get}
+use Rattle.std.specs.Prelude.{slice_index_or, option_map, All, MatchOption, IfSome, nat_eq}
 use Rattle.std.specs.List.{list_any, flat_map, IsDistinct}
 use Rattle.std.specs.List.Sorted.{IsStrictlyIncreasing}
 use Rattle.std.specs.Ordering.{nat_cmp}

@@ -1,5 +1,6 @@
 -- How successors given by identifier become vertices.
-use Rattle.std.specs.Prelude.{◌≡◌, ℕ, ◌<◌, ◌==◌, Bool, not, false, List, [], ◌∷◌, length, map, Option, None, slice_range, slice_index, option_map, All, Contains}
+use Rattle.std.specs.Prelude.{◌≡◌, ℕ, ◌<◌, ◌==◌, Bool, not, false, List, [], ◌∷◌, length, map, Option, None, slice_range, slice_index}
+use Rattle.std.specs.Prelude.{option_map, All, Contains}
 use Rattle.std.specs.List.{list_any, find}
 use Rattle.std.specs.Option.{option_or}
 use Rattle.pg_arena.specs.Mirrors.Entries.{Row}

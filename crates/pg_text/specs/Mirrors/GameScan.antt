@@ -2,7 +2,8 @@
 use Rattle.std.specs.Prelude.{ℕ, suc, zero, List, Option, Some, None, Ok, Err, codes, option_copied}
 use Rattle.pg_arena.specs.declared.player.Player.{Player}
 use Rattle.pg_arena.specs.declared.player.Player.TheVariants.{Even, Odd}
-use Rattle.pg_arena.specs.Lines.{Line}
+use Rattle.pg_arena.specs.Lines.{Line, counted}
+use Rattle.pg_lists.specs.Rising.{rising}
 use Rattle.pg_text.specs.declared.line.TextLine.{TextLine}
 use Rattle.pg_text.specs.Lexemes.{Lexeme, number, semicolon, quoted, end}
 use Rattle.pg_text.specs.Mirrors.Steps.{◌>>=◌, Read, Step, item, stop, items_at, unexpected}
@@ -66,6 +67,35 @@ item_in bytes (_, rest) = Err (unexpected bytes)
 -- a line, or the end of the text
 unfoldable pub item_at : List ℕ → Read (Step Line (Unit {0}) × List ℕ)
 item_at bytes = token_at bytes >>= item_in bytes
+
+-- ---- lines of which a repeated successor counts once
+
+unfoldable pub successors_at : List ℕ → Read (List ℕ × List ℕ)
+successors_at bytes = numbers_at bytes >>= λ x. Ok (rising x.0, x.1)
+
+unfoldable pub counted_line_at : ℕ → List ℕ → Read (Line × List ℕ)
+counted_line_at identifier bytes = do
+  priority ← natural_at bytes
+  owner ← owner_at priority.1
+  successors ← successors_at owner.1
+  ending ← ending_at successors.1
+  Ok (
+    record {
+      identifier = identifier;
+      priority = priority.0;
+      owner = owner.0;
+      successors = successors.0;
+      name = ending.0;
+    },
+    ending.1,
+  )
+
+abbrev pub counted_step : Step Line (Unit {0}) → Step Line (Unit {0})
+counted_step (item line) = item (counted line)
+counted_step (stop u) = stop u
+
+unfoldable pub counted_item_at : List ℕ → Read (Step Line (Unit {0}) × List ℕ)
+counted_item_at bytes = item_at bytes >>= λ x. Ok (counted_step x.0, x.1)
 
 unfoldable pub body_at : List ℕ → Read (List ℕ)
 body_at bytes = do

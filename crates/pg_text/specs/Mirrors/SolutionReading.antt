@@ -1,5 +1,6 @@
 -- What is known while a solution's lines are read: helpers of proofs.
-use Rattle.std.specs.Prelude.{◌≡◌, ◌≢◌, ◌⊎◌, ℕ, ◌<◌, ◌&&◌, Bool, true, false, List, length, Option, Some, option_map, is_some, slice_index_or, slice_set, if◌then◌else◌}
+use Rattle.std.specs.Prelude.{◌≡◌, ◌≢◌, ◌⊎◌, ℕ, ◌<◌, ◌&&◌, Bool, true, false, List, length, Option, Some, option_map, is_some}
+use Rattle.std.specs.Prelude.{slice_index_or, slice_set, if◌then◌else◌}
 use Rattle.std.specs.List.{AllByRecursion}
 use Rattle.pg_arena.specs.Games.{GameVertex, identifier, IsEdge}
 use Rattle.pg_text.specs.declared.answer.Answer.{Answer}
@@ -9,7 +10,8 @@ use Rattle.pg_text.specs.declared.solution_text.Misfit.TheVariants.{NotOfGame, R
 use Rattle.pg_text.specs.declared.fault.TextFault.{TextFault}
 use Rattle.pg_text.specs.declared.fault.TextFault.TheVariants as text
 use Rattle.pg_text.specs.Solutions.{winner, choice}
-use Rattle.pg_text.specs.SolutionText.{owns, counting_strategy, line_count, Says, StartsLine, IsUnknown, BeginsUnfit, AreLines, SpellsNoSolution, RefusesSolution}
+use Rattle.pg_text.specs.SolutionText.{owns, counting_strategy, line_count, Says, StartsLine, IsUnknown, BeginsUnfit, AreLines}
+use Rattle.pg_text.specs.SolutionText.{SpellsNoSolution, RefusesSolution}
 
 -- whether v is marked
 abbrev pub is_seen : List Bool → ℕ → Bool

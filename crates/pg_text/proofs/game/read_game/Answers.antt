@@ -8,7 +8,8 @@ pub returns-clause-found : goal.returns-clause-found
 returns-clause-found c = found_game c.args.bytes.now c.in_ok-builder_of.field-0 c.in_ok-finish.field-0 c.in_ok-builder_of.ensures c.in_ok-finish.ensures.game
 
 pub returns-clause-only : goal.returns-clause-only
-returns-clause-only c = λ game spelt. c.in_ok-finish.ensures.only game (spelt_game c.args.bytes.now c.in_ok-builder_of.field-0 game c.in_ok-builder_of.ensures spelt)
+returns-clause-only c = λ game spelt. c.in_ok-finish.ensures.only game
+    (spelt_game c.args.bytes.now c.in_ok-builder_of.field-0 game c.in_ok-builder_of.ensures spelt)
 
 pub returns-in_err-builder_of-clause-only : goal.returns-in_err-builder_of-clause-only
 returns-in_err-builder_of-clause-only c = λ game spelt.
@@ -18,7 +19,8 @@ returns-in_err-builder_of-clause-only c = λ game spelt.
 pub returns-in_err-finish-clause-only : goal.returns-in_err-finish-clause-only
 returns-in_err-finish-clause-only c = λ game spelt.
     let p = err_from_is_err_and c.from_residual-in_err-finish.result c.from_residual-in_err-finish.ensures.1 in
-    rw (p.1, p.2) (ap arena_fault (c.in_err-finish.ensures.only game (spelt_game c.args.bytes.now c.in_ok-builder_of.field-0 game c.in_ok-builder_of.ensures spelt)))
+    rw (p.1, p.2) (ap arena_fault (c.in_err-finish.ensures.only game
+    (spelt_game c.args.bytes.now c.in_ok-builder_of.field-0 game c.in_ok-builder_of.ensures spelt)))
 
 pub returns-in_err-builder_of-clause-refused : goal.returns-in_err-builder_of-clause-refused
 returns-in_err-builder_of-clause-refused c =

@@ -11,7 +11,8 @@ use Rattle.pg_text.proofs.Printing.{successors_within}
 use Rattle.pg_text.proofs.layout.write_line.Goals as goal
 
 -- the owner's number between two spaces, and what follows
-between : (a b c : Option (List ℕ)) (number after : List ℕ) → Appends a b (codes " " ++ (number ++ codes " ")) → Appends b c after → Appends a c (codes " " ++ (number ++ (codes " " ++ after)))
+between : (a b c : Option (List ℕ)) (number after : List ℕ) → Appends a b (codes " " ++ (number ++ codes " ")) → Appends b c after
+    → Appends a c (codes " " ++ (number ++ (codes " " ++ after)))
 between a b c number after h k =
     subst (Appends a c) (ap (λ (l : List ℕ). codes " " ++ l) (append_assoc number (codes " ") after)) (Appends-trans a b c _ _ h k)
 
@@ -38,9 +39,12 @@ write_identifiers-requires g c = rw c.successors.ensures (successors_within c.ar
 pub returns : goal.returns
 returns g c =
     at_last c.write_all-2.result
-    (written (g.W.Write.contents c.args.out.now) (g.W.Write.contents c.write_number.new.out) (g.W.Write.contents c.write_all.new.self) (g.W.Write.contents c.write_number-2.new.out)
-    (g.W.Write.contents c.write_owner.new.out) (g.W.Write.contents c.write_identifiers.new.out) (g.W.Write.contents c.write_name.new.out) (g.W.Write.contents c.write_all-2.new.self)
+    (written (g.W.Write.contents c.args.out.now) (g.W.Write.contents c.write_number.new.out) (g.W.Write.contents c.write_all.new.self)
+    (g.W.Write.contents c.write_number-2.new.out)
+    (g.W.Write.contents c.write_owner.new.out) (g.W.Write.contents c.write_identifiers.new.out) (g.W.Write.contents c.write_name.new.out)
+    (g.W.Write.contents c.write_all-2.new.self)
     c.args.game.now _
     (rw (← c.identifier.ensures) c.in_ok-write_number.ensures) c.in_ok-write_all.ensures.bytes (rw (← c.priority.ensures) c.in_ok-write_number-2.ensures)
-    (rw (← c.owner.ensures) c.in_ok-write_owner.ensures) (rw (← c.successors.ensures) c.in_ok-write_identifiers.ensures) (rw (← c.name.ensures) c.in_ok-write_name.ensures))
+    (rw (← c.owner.ensures) c.in_ok-write_owner.ensures) (rw (← c.successors.ensures) c.in_ok-write_identifiers.ensures)
+    (rw (← c.name.ensures) c.in_ok-write_name.ensures))
     c.write_all-2.ensures.bytes

@@ -7,7 +7,12 @@ use Rattle.pg_text.proofs.reading.natural.Goals as goal
 use Rattle.pg_text.proofs.reading.natural.Goals.{in_default-via-then-front-lt1, in_default-via-in-len1-up+else-is_digit}
 
 pub returns-in-len1-up : goal.returns-in-len1-up
-returns-in-len1-up c = grind (arith, nat_tests, natural_of_digits c.digits.result c.args.bytes.now c.after_space-front.result.now c.after_space-front.ensures c.in-len1-up.len_at_least (cc) c.digits.ensures.token c.digits.ensures.fault)
+returns-in-len1-up c = grind (
+  arith,
+  nat_tests,
+  natural_of_digits c.digits.result c.args.bytes.now c.after_space-front.result.now c.after_space-front.ensures c.in-len1-up.len_at_least
+      (cc) c.digits.ensures.token c.digits.ensures.fault,
+)
 
 pub returns-in_default : goal.returns-in_default
 returns-in_default c =

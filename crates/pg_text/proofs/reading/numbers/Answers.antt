@@ -7,7 +7,8 @@ use Rattle.pg_text.proofs.reading.numbers.Goals as goal
 pub returns-in_err-number : goal.returns-in_err-number
 returns-in_err-number c =
     let p = err_from_is_err_and c.from_residual-in_err-number.result c.from_residual-in_err-number.ensures.1 in
-    rw (p.1, p.2) (none_comes c.numbers.list.items c.numbers.rest.now c.in_err-number.field-0.0 (numbers_at c.args.bytes.now) c.in_err-number.ensures c.numbers.invariant)
+    rw (p.1, p.2) (none_comes c.numbers.list.items c.numbers.rest.now c.in_err-number.field-0.0
+    (numbers_at c.args.bytes.now) c.in_err-number.ensures c.numbers.invariant)
 
 pub numbers-smaller : goal.numbers-smaller
 numbers-smaller c =

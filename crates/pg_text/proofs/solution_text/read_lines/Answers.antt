@@ -31,7 +31,10 @@ lines-smaller c = line_shrinks.shorter c.lines.rest.now c.in-Ok-Some-default.lin
 
 pub lines-preserved : goal.lines-preserved
 lines-preserved c =
-    let back : take c.lines.seen.len (c.take_line.new.seen ++ drop (length c.take_line.new.seen) c.lines.seen.items) ≡ c.take_line.new.seen = take_at c.take_line.new.seen (drop (length c.take_line.new.seen) c.lines.seen.items) c.lines.seen.len (c.take_line.auto.seen ∙ c.deref_mut.ensures.len) in
+    let back : take c.lines.seen.len (c.take_line.new.seen ++ drop
+    (length c.take_line.new.seen) c.lines.seen.items) ≡ c.take_line.new.seen =
+    take_at c.take_line.new.seen (drop (length c.take_line.new.seen) c.lines.seen.items) c.lines.seen.len
+    (c.take_line.auto.seen ∙ c.deref_mut.ensures.len) in
     subst (λ (seen : List Bool). Reading c.args.bytes.now c.args.game.now c.take_line.new.solution seen c.in-Ok-Some-default.after.now) (sym back)
     (goes c.args.bytes.now c.args.game.now c.lines.solution c.lines.seen.items c.lines.rest.now c.in-Ok-Some-default.line c.in-Ok-Some-default.after.now c.take_line.new.solution c.take_line.new.seen c.requires c.lines.invariant
     (c.in-Ok-Some-default.ensures ∙ ap (λ (o : Option SolutionLine). Ok (answer_seen o, c.in-Ok-Some-default.after.now)) c.in-Ok-Some-default.field-0-0-is)

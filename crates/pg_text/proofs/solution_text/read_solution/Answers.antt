@@ -19,7 +19,8 @@ returns-in-Some-clause-refused c = λ other.
 
 pub returns-in-None-clause-found : goal.returns-in-None-clause-found
 returns-in-None-clause-found c =
-    found c.args.bytes.now c.args.game.now c.in_ok-solution.solution c.in_ok-solution.seen.items c.in_ok-solution.ensures.read (rw (sym c.deref.ensures.value) c.in-None.ensures.none)
+    found c.args.bytes.now c.args.game.now c.in_ok-solution.solution c.in_ok-solution.seen.items c.in_ok-solution.ensures.read
+    (rw (sym c.deref.ensures.value) c.in-None.ensures.none)
 
 pub returns-in-None-clause-only : goal.returns-in-None-clause-only
 returns-in-None-clause-only c = λ solution text.

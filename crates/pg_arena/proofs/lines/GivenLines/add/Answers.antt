@@ -4,7 +4,8 @@ use Rattle.pg_arena.proofs.Adding.{answers_for}
 use Rattle.pg_arena.proofs.lines.GivenLines.add.Goals as goal
 use Rattle.pg_arena.proofs.lines.GivenLines.add.Goals.{After-fault_of}
 
-told : (c : After-fault_of) → c.fault_of.result ≡ add_fault c.args.self.now (line_with c.args.identifier c.args.priority c.args.owner c.args.successors.now c.args.name)
+told : (c : After-fault_of)
+    → c.fault_of.result ≡ add_fault c.args.self.now (line_with c.args.identifier c.args.priority c.args.owner c.args.successors.now c.args.name)
 told c = c.fault_of.ensures (line_with c.args.identifier c.args.priority c.args.owner c.args.successors.now c.args.name) refl refl refl
 
 pub returns-in-Some-clause-answer : goal.returns-in-Some-clause-answer

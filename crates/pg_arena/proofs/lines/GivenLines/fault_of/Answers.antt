@@ -24,9 +24,35 @@ returns-then-len-ge-MAX_VERTICES c = λ line i p s.
 pub returns-then-successors-len : goal.returns-then-successors-len
 returns-then-successors-len c = λ line i p s.
     let named = ap (λ (ls : List Line). is_named ls line.identifier) (sym c.self.view_is) ∙ named_by line.identifier c.self.invariant.kept in
-    grind (arith, nat_tests, ap length s, c.is_empty.ensures, named, c.contains.ensures, ap length c.self.view_is, lines_in c.self.invariant, c.len.ensures, ap edge_count c.self.view_is, edges_by c.self.invariant.kept, c.len-2.ensures)
+    grind (
+      arith,
+      nat_tests,
+      ap length s,
+      c.is_empty.ensures,
+      named,
+      c.contains.ensures,
+      ap length c.self.view_is,
+      lines_in c.self.invariant,
+      c.len.ensures,
+      ap edge_count c.self.view_is,
+      edges_by c.self.invariant.kept,
+      c.len-2.ensures,
+    )
 
 pub returns : goal.returns
 returns c = λ line i p s.
     let named = ap (λ (ls : List Line). is_named ls line.identifier) (sym c.self.view_is) ∙ named_by line.identifier c.self.invariant.kept in
-    grind (arith, nat_tests, ap length s, c.is_empty.ensures, named, c.contains.ensures, ap length c.self.view_is, lines_in c.self.invariant, c.len.ensures, ap edge_count c.self.view_is, edges_by c.self.invariant.kept, c.len-2.ensures)
+    grind (
+      arith,
+      nat_tests,
+      ap length s,
+      c.is_empty.ensures,
+      named,
+      c.contains.ensures,
+      ap length c.self.view_is,
+      lines_in c.self.invariant,
+      c.len.ensures,
+      ap edge_count c.self.view_is,
+      edges_by c.self.invariant.kept,
+      c.len-2.ensures,
+    )

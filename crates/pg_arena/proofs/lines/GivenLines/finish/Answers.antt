@@ -37,14 +37,19 @@ some_rows c = grind (arith, nat_tests, eqb-false (vec_len c.self.inside.entries)
 linked : (c : Then-link) → AreLinked c.in_ok-rows.rows.identifiers.items c.self.inside.targets.items c.link.new.targets
 linked c = rw (← c.deref.ensures.value, ← c.deref_mut.ensures.value) (c.if-link.ensures.linked refl)
 
-back : (c : Then-link) → take c.self.inside.targets.len (c.link.new.targets ++ drop (length c.link.new.targets) c.self.inside.targets.items) ≡ c.link.new.targets
+back : (c : Then-link)
+    → take c.self.inside.targets.len (c.link.new.targets ++ drop (length c.link.new.targets) c.self.inside.targets.items) ≡ c.link.new.targets
 back c = take_at c.link.new.targets (drop (length c.link.new.targets) c.self.inside.targets.items) c.self.inside.targets.len
     (omega (arith, c.link.auto.targets, ap length c.deref_mut.ensures.value, c.self.inside.targets.ok.0))
 
 pub from_parts-requires : goal.from_parts-requires
 from_parts-requires c =
     let at = goal.at.from_parts-requires c in
-    rw (back at.Then-link) (record { as_many = c.in_ok-rows.ensures.as_many; built = built c.link.new.targets (some_rows at.In_ok-rows) (ready at.In_ok-rows) (linked at.Then-link) })
+    rw (back at.Then-link) (record {
+      as_many = c.in_ok-rows.ensures.as_many;
+      built =
+          built c.link.new.targets (some_rows at.In_ok-rows) (ready at.In_ok-rows) (linked at.Then-link);
+    })
 
 pub returns-then-link-clause-game : goal.returns-then-link-clause-game
 returns-then-link-clause-game c =
@@ -59,27 +64,42 @@ returns-then-link-clause-priorities c =
     let at = goal.at.returns-then-link-clause-priorities c in
     let made : List GameVertex = vertices_in c.link.new.targets c.self.inside.names.items (rows at.In_ok-rows) in
     IfOk-weaker c.from_parts.result (λ game. game ≡ made) (HasPrioritiesUpTo 65535)
-    (λ game is. subst (HasPrioritiesUpTo 65535) (sym is) (small_vertices c.self.inside.targets.items c.link.new.targets c.self.inside.names.items (rows at.In_ok-rows) (ready at.In_ok-rows).orderly))
+    (λ game is. subst (HasPrioritiesUpTo 65535) (sym is)
+    (small_vertices c.self.inside.targets.items c.link.new.targets c.self.inside.names.items (rows at.In_ok-rows)
+    (ready at.In_ok-rows).orderly))
     (rw (back at.Then-link) at c.from_parts.ensures.game)
 
-unlinked : (c : Else-link) → take c.self.inside.targets.len (c.link.new.targets ++ drop (length c.link.new.targets) c.self.inside.targets.items) ≡ c.self.inside.targets.items
-unlinked c = grind (arith, nat_tests, take_at c.link.new.targets (drop (length c.link.new.targets) c.self.inside.targets.items) c.self.inside.targets.len (omega (arith, c.link.auto.targets, ap length c.deref_mut.ensures.value, c.self.inside.targets.ok.0)))
+unlinked : (c : Else-link)
+    → take c.self.inside.targets.len (c.link.new.targets ++ drop (length c.link.new.targets) c.self.inside.targets.items) ≡ c.self.inside.targets.items
+unlinked c = grind (
+  arith,
+  nat_tests,
+  take_at c.link.new.targets (drop (length c.link.new.targets) c.self.inside.targets.items) c.self.inside.targets.len
+      (omega (arith, c.link.auto.targets, ap length c.deref_mut.ensures.value, c.self.inside.targets.ok.0)),
+)
 
 pub first_unknown-first-requires-clause-within : goal.first_unknown-first-requires-clause-within
 first_unknown-first-requires-clause-within c =
     let at = goal.at.first_unknown-first-requires-clause-within c in
     rw (c.deref-3.ensures.value, c.deref-4.ensures.value, unlinked at.Else-link)
-    (have_ranges c.self.inside.targets.items (ids at.In_ok-rows) c.in_ok-rows.rows.places.items c.in_ok-rows.rows.entries.items c.in_ok-rows.ensures.as_many (ready at.In_ok-rows).ranges)
+    (have_ranges c.self.inside.targets.items
+    (ids at.In_ok-rows) c.in_ok-rows.rows.places.items c.in_ok-rows.rows.entries.items c.in_ok-rows.ensures.as_many
+    (ready at.In_ok-rows).ranges)
 
-first : (c : After-first_unknown-first) → take c.self.inside.targets.len (c.link.new.targets ++ drop (length c.link.new.targets) c.self.inside.targets.items) ≡ c.self.inside.targets.items
-    → c.first_unknown-first.result ≡ first_unknown_in c.in_ok-rows.rows.identifiers.items c.self.inside.targets.items (rows_in c.in_ok-rows.rows.identifiers.items c.in_ok-rows.rows.places.items c.in_ok-rows.rows.entries.items)
+first : (c : After-first_unknown-first)
+    → take c.self.inside.targets.len (c.link.new.targets ++ drop (length c.link.new.targets) c.self.inside.targets.items) ≡ c.self.inside.targets.items
+    → c.first_unknown-first.result ≡ first_unknown_in c.in_ok-rows.rows.identifiers.items c.self.inside.targets.items
+    (rows_in c.in_ok-rows.rows.identifiers.items c.in_ok-rows.rows.places.items c.in_ok-rows.rows.entries.items)
 first c back = c.first_unknown-first.ensures
-    ∙ rw (c.deref-2.ensures.value, c.deref-3.ensures.value, c.deref-4.ensures.value, back) (unknown_same c.in_ok-rows.rows.identifiers.items c.self.inside.targets.items c.in_ok-rows.rows.identifiers.items [] c.in_ok-rows.rows.places.items c.in_ok-rows.rows.entries.items)
+    ∙ rw (c.deref-2.ensures.value, c.deref-3.ensures.value, c.deref-4.ensures.value, back)
+    (unknown_same c.in_ok-rows.rows.identifiers.items c.self.inside.targets.items c.in_ok-rows.rows.identifiers.items
+    [] c.in_ok-rows.rows.places.items c.in_ok-rows.rows.entries.items)
 
 pub unwrap-identifier-requires : goal.unwrap-identifier-requires
 unwrap-identifier-requires c =
     let at = goal.at.unwrap-identifier-requires c in
-    let known : HasUnknown (ids at.In_ok-rows) c.self.inside.targets.items = rw (← c.deref.ensures.value, ← c.deref_mut.ensures.value) (c.if-link.ensures.unknown refl) in
+    let known : HasUnknown (ids at.In_ok-rows) c.self.inside.targets.items =
+    rw (← c.deref.ensures.value, ← c.deref_mut.ensures.value) (c.if-link.ensures.unknown refl) in
     rw (first at.After-first_unknown-first (unlinked at.Else-link)) (some_unknown (ready at.In_ok-rows) known)
 
 pub returns-clause-fault : goal.returns-clause-fault

@@ -50,7 +50,8 @@ names_are c = c.keep.ensures.names ∙ ap (λ (ns : List (Vec ℕ Global)). ns +
 entries_are : (c : After-push_reserved) → c.push_reserved.new.self.items ≡ c.self.inside.entries.items ++ entry c ∷ []
 entries_are c = grind (arith, nat_tests)
 
-placed : (c : After-push_reserved) → IsPlaced c.self.inside.names.items c.self.inside.places.items (length c.self.inside.entries.items) c.in_ok-name.name c.keep.new.places.items
+placed : (c : After-push_reserved)
+    → IsPlaced c.self.inside.names.items c.self.inside.places.items (length c.self.inside.entries.items) c.in_ok-name.name c.keep.new.places.items
 placed c = grind (arith, nat_tests)
 
 pub invariant_of-self-2 : goal.invariant_of-self-2
@@ -69,7 +70,13 @@ returns-clause-ok c =
     (lines_added c.keep.new.places.items c.args.identifier c.args.priority c.args.owner more c.in_ok-name.name c.self.invariant (placed after)
     ∙ ap (λ (ls : List Line). ls ++ new_line c.args.identifier c.args.priority c.args.owner more c.in_ok-name.name ∷ []) c.self.view_is
     ∙ ap (λ (name : Option (List ℕ)). c.args.self.now ++
-    (let given : Line = record { identifier = c.args.identifier; priority = c.args.priority; owner = c.args.owner; successors = more; name = name } in given) ∷ []) c.in_ok-name.ensures)
+    (let given : Line = record {
+      identifier = c.args.identifier;
+      priority = c.args.priority;
+      owner = c.args.owner;
+      successors = more;
+      name = name;
+    } in given) ∷ []) c.in_ok-name.ensures)
 
 pub keep-requires : goal.keep-requires
 keep-requires c =

@@ -1,0 +1,12 @@
+use Rattle.std.proofs.Common.{◌∙◌, eqb, ap}
+use Rattle.std.proofs.lemmas.List.Filters.{dedup_is}
+use Rattle.pg_lists.specs.Rising.{rising}
+use Rattle.pg_lists.proofs.Rising.{dedup_rising, rising_rises, rises_already}
+use Rattle.pg_text.proofs.line.make_room.Goals as goal
+
+pub returns : goal.returns
+returns c =
+    let sorted = c.sort_unstable.new.self.items in
+    let once = dedup_is eqb sorted c.dedup.new.self.items c.dedup.ensures.filtered
+    ∙ dedup_rising c.args.list.now.items sorted c.sort_unstable.ensures.permutation c.sort_unstable.ensures.sorted in
+    ap rising (c.reserve.ensures.items ∙ once) ∙ rises_already (rising c.args.list.now.items) (rising_rises c.args.list.now.items)

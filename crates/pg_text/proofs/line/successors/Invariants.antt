@@ -1,0 +1,10 @@
+use Rattle.std.proofs.Common.{length}
+use Rattle.pg_text.specs.Mirrors.Parts.{numbers_at}
+use Rattle.pg_text.proofs.Counting.{HaveGathered}
+use Rattle.pg_text.proofs.line.successors.Given as goal
+
+abbrev pub invariant-successors : goal.invariant-successors
+invariant-successors l = HaveGathered l.list.items l.rest (numbers_at l.bytes)
+
+abbrev pub decreases-successors : goal.decreases-successors
+decreases-successors l = length l.rest
