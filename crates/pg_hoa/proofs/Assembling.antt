@@ -24,11 +24,16 @@ map_same : {A B : Type 0} (f g : A → B) → ((x : A) → f x ≡ g x) → (xs 
 map_same f g e [] = refl
 map_same f g e (x ∷ xs) = ap (λ y. y ∷ map f xs) (e x) ∙ ap (λ ys. g x ∷ ys) (map_same f g e xs)
 
-pub few_are : (s : Settled) (lines : List KeptLine) (states propositions : ℕ) → states ≡ kept_states s lines → propositions ≡ length s.names → states * 2 ^ propositions ≤ 16777216 → AreFew s lines
+pub few_are : (s : Settled) (lines : List KeptLine) (states propositions : ℕ) → states ≡ kept_states s lines → propositions ≡ length s.names
+    → states * 2 ^ propositions ≤ 16777216 → AreFew s lines
 few_are s lines states propositions e p h = rw (← e, ← p) h
 
-pub table_assembles : (s : Settled) (lines : List KeptLine) (states propositions : ℕ) (t : Table) (a : Automaton) → states ≡ kept_states s lines → propositions ≡ length s.names → states * 2 ^ propositions ≤ 16777216 → IsTableOf s.shape lines states (2 ^ propositions) t → IsOf s t a → Assembles s lines a
+pub table_assembles : (s : Settled) (lines : List KeptLine) (states propositions : ℕ) (t : Table) (a : Automaton)
+    → states ≡ kept_states s lines → propositions ≡ length s.names → states * 2 ^ propositions ≤ 16777216
+    → IsTableOf s.shape lines states (2 ^ propositions) t → IsOf s t a → Assembles s lines a
 table_assembles s lines states propositions t a e p h table is = grind (arith, nat_tests, few_are s lines states propositions e p h)
 
-pub table_is_automaton : (s : Settled) (lines : List KeptLine) (states propositions : ℕ) (t : Table) (a : Automaton) → states ≡ kept_states s lines → propositions ≡ length s.names → states * 2 ^ propositions ≤ 16777216 → IsTableOf s.shape lines states (2 ^ propositions) t → CanAssemble s lines → IsOf s t a → IsAutomaton a
+pub table_is_automaton : (s : Settled) (lines : List KeptLine) (states propositions : ℕ) (t : Table) (a : Automaton)
+    → states ≡ kept_states s lines → propositions ≡ length s.names → states * 2 ^ propositions ≤ 16777216
+    → IsTableOf s.shape lines states (2 ^ propositions) t → CanAssemble s lines → IsOf s t a → IsAutomaton a
 table_is_automaton s lines states propositions t a e p h table can is = grind (arith, nat_tests)

@@ -1,11 +1,13 @@
 -- What the reader of a body gives is written there, and what is written there it gives.
-use Rattle.std.proofs.Common.{◌≡◌, ℕ, suc, zero, ◌≤◌, ◌<◌, Bool, true, false, cond, List, [], ◌∷◌, ◌++◌, length, Option, Some, None, refl, sym, ap, subst, ◌∙◌, arith, append_assoc, inl, inr}
+use Rattle.std.proofs.Common.{◌≡◌, ℕ, suc, zero, ◌≤◌, ◌<◌, Bool, true, false, cond, List, [], ◌∷◌, ◌++◌, length, Option, Some, None, refl}
+use Rattle.std.proofs.Common.{sym, ap, subst, ◌∙◌, arith, append_assoc, inl, inr}
 use Rattle.std.specs.Prelude.{map, codes, Contains, ◌==◌, ◌||◌, nat_lt}
 use Rattle.std.specs.List.{AllByRecursion, flat_map}
 use Rattle.std.specs.Str.{bytes_eq}
 use Rattle.std.proofs.lemmas.Bool.{lt-ltb, eq-eqb}
 use Rattle.std.proofs.lemmas.List.{length-append}
-use Rattle.std.proofs.lemmas.List.Elements.{All-cons, All-head, All-tail, All-from_recursion, All-map, All-contains, Contains-append_left, Contains-append_right, Contains-push}
+use Rattle.std.proofs.lemmas.List.Elements.{All-cons, All-head, All-tail, All-from_recursion, All-map, All-contains, Contains-append_left}
+use Rattle.std.proofs.lemmas.List.Elements.{Contains-append_right, Contains-push}
 use Rattle.std.proofs.lemmas.Bool.Decides.{eqb_tells, nat_tests}
 use Rattle.std.proofs.lemmas.Slice.Eq.{bytes_eq-Decides}
 use Rattle.pg_hoa.specs.declared.formula.Kind.TheVariants.{Label}
@@ -15,9 +17,13 @@ use Rattle.pg_hoa.specs.Formulas.{formula_lexemes}
 use Rattle.pg_hoa.specs.Mirrors.FormulaRun.{ops_at}
 use Rattle.pg_hoa.specs.Mirrors.Scan.{first, IsToken}
 use Rattle.pg_hoa.specs.Mirrors.Steps.{◌>>=◌}
-use Rattle.pg_hoa.specs.AutomatonText.{Edge, StateLine, sets_lexemes, name_lexemes, edge_lexemes, state_lexemes, set_list, EachBelow, IsDistinct, EdgeFits, LineFits}
-use Rattle.pg_hoa.specs.Mirrors.Kept.{KeptEdge, KeptLine, edge_kept, line_kept}
-use Rattle.pg_hoa.specs.Mirrors.BodyScan.{due, state_of, new_state, set_in, behind_set, sets_at, sets_before, sets_if, bracket_first, behind_label, single, target_at, edge_at, begins_edge, edges_within, edges_at, name_first, behind_name, line_at, begins_line, is_seen, lines_within, body_at}
+use Rattle.pg_hoa.specs.AutomatonText.{Edge, StateLine, sets_lexemes, name_lexemes, edge_lexemes, state_lexemes, set_list, EachBelow}
+use Rattle.pg_hoa.specs.AutomatonText.{IsDistinct, EdgeFits, LineFits}
+use Rattle.pg_hoa.specs.Mirrors.Kept.{KeptEdge, KeptLine, put_edges, edge_kept, line_kept}
+use Rattle.pg_hoa.specs.Mirrors.BodyScan.{due, state_of, new_state, set_in, behind_set, sets_at, rising_sets_at, sets_before, sets_if}
+use Rattle.pg_hoa.specs.Mirrors.BodyScan.{bracket_first, behind_label, single, target_at, edge_at, begins_edge, edges_within, edges_at}
+use Rattle.pg_hoa.specs.Mirrors.BodyScan.{kept_edges_at, name_first, behind_name, line_at, begins_line, is_seen, lines_within, body_at}
+use Rattle.pg_lists.specs.Rising.{rising}
 use Rattle.pg_hoa.proofs.Lists.{all_of_both}
 use Rattle.pg_hoa.proofs.Steps.{bind_some}
 use Rattle.pg_lists.proofs.Steps.{chosen, some, some_is, none_is_some}
@@ -58,13 +64,20 @@ record ReadSets (sets : ℕ) (tokens : List Lexeme) (x : List ℕ × List Lexeme
   below : EachBelow sets x.0
   is : tokens ≡ map number x.0 ++ (right_brace ∷ x.1)
 
-one_set : (sets : ℕ) (t : Lexeme) (rest : List Lexeme) (o : Option ℕ) (x : List ℕ × List Lexeme) → ((y : List ℕ × List Lexeme) → sets_at sets rest ≡ Some y → ReadSets sets rest y) → set_in sets t ≡ Some o → behind_set (sets_at sets rest) rest o ≡ Some x → ReadSets sets (t ∷ rest) x
+one_set : (sets : ℕ) (t : Lexeme) (rest : List Lexeme) (o : Option ℕ) (x : List ℕ × List Lexeme)
+    → ((y : List ℕ × List Lexeme) → sets_at sets rest ≡ Some y → ReadSets sets rest y) → set_in sets t ≡ Some o
+    → behind_set (sets_at sets rest) rest o ≡ Some x → ReadSets sets (t ∷ rest) x
 one_set sets t rest None x more a h = grind (arith, nat_tests, some_is ([], rest) x h, set_in_ends sets t a)
 one_set sets t rest (Some n) x more a h =
     let b = bind_some (sets_at sets rest) (λ y. some (n ∷ y.0, y.1)) x h in
     let others = more b.0 b.1 in
     let one = set_in_takes sets t n a in
-    subst (ReadSets sets (t ∷ rest)) (some_is (n ∷ b.0.0, b.0.1) x b.2) (record { below = All-cons (λ n. n < sets) n b.0.0 one.1 others.below; is = ap (λ (u : Lexeme). u ∷ rest) one.0 ∙ ap (λ (ts : List Lexeme). number n ∷ ts) others.is })
+    subst (ReadSets sets (t ∷ rest)) (some_is (n ∷ b.0.0, b.0.1) x b.2)
+    (record {
+      below = All-cons (λ n. n < sets) n b.0.0 one.1 others.below;
+      is = ap (λ (u : Lexeme). u ∷ rest) one.0
+          ∙ ap (λ (ts : List Lexeme). number n ∷ ts) others.is;
+    })
 
 sets_take : (sets : ℕ) (tokens : List Lexeme) (x : List ℕ × List Lexeme) → sets_at sets tokens ≡ Some x → ReadSets sets tokens x
 unfolding sets_at
@@ -85,12 +98,22 @@ record ReadSetsIf (sets : ℕ) (tokens : List Lexeme) (x : List ℕ × List Lexe
   written : Option (List ℕ)
   below : EachBelow sets (set_list written)
   is : tokens ≡ sets_lexemes written ++ x.1
-  kept : set_list written ≡ x.0
+  kept : rising (set_list written) ≡ x.0
 
-sets_before_take : (sets : ℕ) (t : Lexeme) (rest : List Lexeme) (x : List ℕ × List Lexeme) → sets_before sets (t ∷ rest) (t, rest) ≡ Some x → ReadSetsIf sets (t ∷ rest) x
+sets_before_take : (sets : ℕ) (t : Lexeme) (rest : List Lexeme) (x : List ℕ × List Lexeme) → sets_before sets (t ∷ rest) (t, rest) ≡ Some x
+    → ReadSetsIf sets (t ∷ rest) x
+unfolding rising_sets_at
 sets_before_take sets left_brace rest x e =
-    let read = sets_take sets rest x e in
-    record { written = Some x.0; below = read.below; is = rw read.is (simp append_assoc); kept = refl }
+    let b = bind_some (sets_at sets rest) (λ (y : List ℕ × List Lexeme). some (rising y.0, y.1)) x e in
+    let read = sets_take sets rest b.0 b.1 in
+    subst (ReadSetsIf sets (left_brace ∷ rest)) (some_is (rising b.0.0, b.0.1) x b.2)
+    (record {
+      written = Some b.0.0;
+      below = read.below;
+      is = ap (λ (ts : List Lexeme). left_brace ∷ ts) (read.is
+          ∙ sym (append_assoc (map number b.0.0) (right_brace ∷ []) b.0.1));
+      kept = refl;
+    })
 sets_before_take sets t rest x e = grind (arith, nat_tests, some_is ([], t ∷ rest) x e)
 
 sets_if_takes : (sets : ℕ) (tokens : List Lexeme) (x : List ℕ × List Lexeme) → sets_if sets tokens ≡ Some x → ReadSetsIf sets tokens x
@@ -98,7 +121,8 @@ unfolding sets_if
 sets_if_takes sets tokens x e =
     let b = bind_some (due tokens) (sets_before sets tokens) x e in
     let is = due_is tokens b.0 b.1 in
-    subst (λ (ts : List Lexeme). ReadSetsIf sets ts x) (sym is) (sets_before_take sets b.0.0 b.0.1 x (subst (λ (ts : List Lexeme). sets_before sets ts b.0 ≡ Some x) is b.2))
+    subst (λ (ts : List Lexeme). ReadSetsIf sets ts x) (sym is) (sets_before_take sets b.0.0 b.0.1 x
+    (subst (λ (ts : List Lexeme). sets_before sets ts b.0 ≡ Some x) is b.2))
 
 -- an edge, a line or the end stands first
 abbrev Opens : List Lexeme → Type 0
@@ -108,9 +132,12 @@ Opens (header w ∷ rest) = Unit {0}
 Opens (end ∷ rest) = Unit {0}
 Opens (t ∷ rest) = ⊥
 
-sets_if_again : (sets : ℕ) (written : Option (List ℕ)) (rest : List Lexeme) → EachBelow sets (set_list written) → Opens rest → sets_if sets (sets_lexemes written ++ rest) ≡ Some (set_list written, rest)
-unfolding sets_if due
-sets_if_again sets (Some ns) rest h o = ap (sets_at sets) (append_assoc (map number ns) (right_brace ∷ []) rest) ∙ sets_again sets ns rest h
+sets_if_again : (sets : ℕ) (written : Option (List ℕ)) (rest : List Lexeme) → EachBelow sets (set_list written) → Opens rest
+    → sets_if sets (sets_lexemes written ++ rest) ≡ Some (rising (set_list written), rest)
+unfolding sets_if rising_sets_at due
+sets_if_again sets (Some ns) rest h o =
+    ap (rising_sets_at sets) (append_assoc (map number ns) (right_brace ∷ []) rest)
+    ∙ ap (λ (o : Option (List ℕ × List Lexeme)). o >>= λ x. some (rising x.0, x.1)) (sets_again sets ns rest h)
 sets_if_again sets None [] h o = absurd o
 sets_if_again sets None (left_bracket ∷ rest) h o = refl
 sets_if_again sets None (header w ∷ rest) h o = refl
@@ -145,7 +172,8 @@ target_takes states tokens x e =
       subst (λ (y : ℕ × List Lexeme). y.0 < states) same one.1,
     )
 
-target_again : (states target : ℕ) (sets : Option (List ℕ)) (rest : List Lexeme) → target < states → Opens rest → target_at states (number target ∷ (sets_lexemes sets ++ rest)) ≡ Some (target, sets_lexemes sets ++ rest)
+target_again : (states target : ℕ) (sets : Option (List ℕ)) (rest : List Lexeme) → target < states → Opens rest
+    → target_at states (number target ∷ (sets_lexemes sets ++ rest)) ≡ Some (target, sets_lexemes sets ++ rest)
 unfolding target_at due
 target_again states target (Some ns) rest h o = rw (state_of_again states target h) refl
 target_again states target None [] h o = absurd o
@@ -164,38 +192,55 @@ record ReadEdge (states propositions sets : ℕ) (tokens : List Lexeme) (x : Kep
   is : tokens ≡ inner_edge edge ++ x.1
   kept : edge_kept edge ≡ x.0
 
-edge_takes : (states propositions sets : ℕ) (tokens : List Lexeme) (x : KeptEdge × List Lexeme) → edge_at states propositions sets tokens ≡ Some x → ReadEdge states propositions sets tokens x
+edge_takes : (states propositions sets : ℕ) (tokens : List Lexeme) (x : KeptEdge × List Lexeme)
+    → edge_at states propositions sets tokens ≡ Some x → ReadEdge states propositions sets tokens x
 unfolding edge_at
 edge_takes states propositions sets tokens x e =
-    let a = bind_some (ops_at (Label propositions) tokens) (λ x. behind_label x.1 >>= λ rest. target_at states rest >>= λ y. sets_if sets y.1 >>= λ z. some (kept x.0 y.0 z.0, z.1)) x e in
+    let a = bind_some (ops_at (Label propositions) tokens)
+    (λ x. behind_label x.1 >>= λ rest. target_at states rest >>= λ y. sets_if sets y.1 >>= λ z. some (kept x.0 y.0 z.0, z.1)) x e in
     let b = bind_some (behind_label a.0.1) (λ rest. target_at states rest >>= λ y. sets_if sets y.1 >>= λ z. some (kept a.0.0 y.0 z.0, z.1)) x a.2 in
     let c = bind_some (target_at states b.0) (λ y. sets_if sets y.1 >>= λ z. some (kept a.0.0 y.0 z.0, z.1)) x b.2 in
     let d = bind_some (sets_if sets c.0.1) (λ z. some (kept a.0.0 c.0.0 z.0, z.1)) x c.2 in
     let same = some_is (kept a.0.0 c.0.0 d.0.0, d.0.1) x d.2 in
-    read a.0 b.0 c.0 d.0 (ops_take (Label propositions) tokens a.0 a.1) (label_takes a.0.1 b.0 b.1) (target_takes states b.0 c.0 c.1) (sets_if_takes sets c.0.1 d.0 d.1) same
+    read a.0 b.0 c.0 d.0 (ops_take (Label propositions) tokens a.0 a.1) (label_takes a.0.1 b.0 b.1) (target_takes states b.0 c.0 c.1)
+    (sets_if_takes sets c.0.1 d.0 d.1) same
   where
     kept : List Op → ℕ → List ℕ → KeptEdge
     kept label target sets = record { label = label; target = target; sets = sets }
 
-    read : (a : List Op × List Lexeme) (b : List Lexeme) (c : ℕ × List Lexeme) (d : List ℕ × List Lexeme) → ReadsFormula (Label propositions) tokens a.0 a.1 → a.1 ≡ right_bracket ∷ b → (b ≡ number c.0 ∷ c.1) × (c.0 < states) → ReadSetsIf sets c.1 d → (record { label = a.0; target = c.0; sets = d.0 }, d.1) ≡ x → ReadEdge states propositions sets tokens x
+    read : (a : List Op × List Lexeme) (b : List Lexeme) (c : ℕ × List Lexeme) (d : List ℕ × List Lexeme)
+        → ReadsFormula (Label propositions) tokens a.0 a.1 → a.1 ≡ right_bracket ∷ b → (b ≡ number c.0 ∷ c.1) × (c.0 < states)
+        → ReadSetsIf sets c.1 d → (record { label = a.0; target = c.0; sets = d.0 }, d.1) ≡ x → ReadEdge states propositions sets tokens x
     read a b c d f l t s same =
         let edge : Edge = record { letter = f.formula; target = c.0; sets = s.written } in
-        let after : a.1 ≡ right_bracket ∷ number c.0 ∷ (sets_lexemes s.written ++ d.1) = l ∙ ap (λ (ts : List Lexeme). right_bracket ∷ ts) (t.0 ∙ ap (λ (ts : List Lexeme). number c.0 ∷ ts) s.is) in
+        let after : a.1 ≡ right_bracket ∷ number c.0 ∷ (sets_lexemes s.written ++ d.1) = l
+        ∙ ap (λ (ts : List Lexeme). right_bracket ∷ ts) (t.0 ∙ ap (λ (ts : List Lexeme). number c.0 ∷ ts) s.is) in
         subst (ReadEdge states propositions sets tokens) same (record {
           edge = edge;
           fits = record { letter = f.written; target = t.1; own_sets = s.below };
-          is = f.is ∙ ap (λ (ts : List Lexeme). formula_lexemes f.formula ++ ts) after ∙ sym (append_assoc (formula_lexemes f.formula) (right_bracket ∷ number c.0 ∷ sets_lexemes s.written) d.1);
-          kept = ap (λ (ops : List Op). kept ops c.0 (set_list s.written)) (sym f.computed) ∙ ap (kept a.0 c.0) s.kept;
+          is = f.is ∙ ap (λ (ts : List Lexeme). formula_lexemes f.formula ++ ts) after
+              ∙ sym (append_assoc (formula_lexemes f.formula) (right_bracket ∷ number c.0 ∷ sets_lexemes s.written) d.1);
+          kept = ap (λ (ops : List Op). kept ops c.0 (rising (set_list s.written))) (sym f.computed) ∙ ap (kept a.0 c.0) s.kept;
         })
 
-pub edge_shorter : (states propositions sets : ℕ) (tokens : List Lexeme) (x : KeptEdge × List Lexeme) → edge_at states propositions sets tokens ≡ Some x → length x.1 ≤ length tokens
+pub edge_shorter : (states propositions sets : ℕ) (tokens : List Lexeme) (x : KeptEdge × List Lexeme)
+    → edge_at states propositions sets tokens ≡ Some x → length x.1 ≤ length tokens
 edge_shorter states propositions sets tokens x e =
     let read = edge_takes states propositions sets tokens x e in
     omega (arith, ap length read.is, length-append (inner_edge read.edge) x.1)
 
-edge_again : (states propositions sets : ℕ) (e : Edge) (rest : List Lexeme) → EdgeFits states propositions sets e → Opens rest → edge_at states propositions sets (inner_edge e ++ rest) ≡ Some (edge_kept e, rest)
+edge_again : (states propositions sets : ℕ) (e : Edge) (rest : List Lexeme) → EdgeFits states propositions sets e → Opens rest
+    → edge_at states propositions sets (inner_edge e ++ rest) ≡ Some (edge_kept e, rest)
 unfolding edge_at behind_label due
-edge_again states propositions sets e rest h o = grind (arith, nat_tests, append_assoc (formula_lexemes e.letter) (right_bracket ∷ number e.target ∷ sets_lexemes e.sets) rest, ops_again (Label propositions) e.letter (right_bracket ∷ number e.target ∷ (sets_lexemes e.sets ++ rest)) h.letter tt, target_again states e.target e.sets rest h.target o, sets_if_again sets e.sets rest h.own_sets o)
+edge_again states propositions sets e rest h o =
+    grind (
+      arith,
+      nat_tests,
+      append_assoc (formula_lexemes e.letter) (right_bracket ∷ number e.target ∷ sets_lexemes e.sets) rest,
+      ops_again (Label propositions) e.letter (right_bracket ∷ number e.target ∷ (sets_lexemes e.sets ++ rest)) h.letter tt,
+      target_again states e.target e.sets rest h.target o,
+      sets_if_again sets e.sets rest h.own_sets o,
+    )
 
 -- ---- the edges of a line
 
@@ -211,7 +256,9 @@ record ReadEdges (states propositions sets : ℕ) (tokens : List Lexeme) (x : Li
   is : tokens ≡ flat_map edge_lexemes edges ++ x.1
   kept : map edge_kept edges ≡ x.0
 
-one_edge : (states propositions sets : ℕ) (tokens : List Lexeme) (t : Lexeme × List Lexeme) (x : KeptEdge × List Lexeme) (y all : List KeptEdge × List Lexeme) → tokens ≡ t.0 ∷ t.1 → t.0 ≡ left_bracket → ReadEdge states propositions sets t.1 x → ReadEdges states propositions sets x.1 y → (x.0 ∷ y.0, y.1) ≡ all → ReadEdges states propositions sets tokens all
+one_edge : (states propositions sets : ℕ) (tokens : List Lexeme) (t : Lexeme × List Lexeme) (x : KeptEdge × List Lexeme) (y all : List KeptEdge × List Lexeme)
+    → tokens ≡ t.0 ∷ t.1 → t.0 ≡ left_bracket → ReadEdge states propositions sets t.1 x → ReadEdges states propositions sets x.1 y
+    → (x.0 ∷ y.0, y.1) ≡ all → ReadEdges states propositions sets tokens all
 one_edge states propositions sets tokens t x y all is first one more same =
     subst (ReadEdges states propositions sets tokens) same (record {
       edges = one.edge ∷ more.edges;
@@ -223,10 +270,13 @@ one_edge states propositions sets tokens t x y all is first one more same =
       kept = ap (λ (e : KeptEdge). e ∷ map edge_kept more.edges) one.kept ∙ ap (λ (es : List KeptEdge). x.0 ∷ es) more.kept;
     })
 
-no_edges : (states propositions sets : ℕ) (tokens : List Lexeme) (all : List KeptEdge × List Lexeme) → ([], tokens) ≡ all → ReadEdges states propositions sets tokens all
-no_edges states propositions sets tokens all same = subst (ReadEdges states propositions sets tokens) same (record { edges = []; fit = tt; is = refl; kept = refl })
+no_edges : (states propositions sets : ℕ) (tokens : List Lexeme) (all : List KeptEdge × List Lexeme) → ([], tokens) ≡ all
+    → ReadEdges states propositions sets tokens all
+no_edges states propositions sets tokens all same = subst (ReadEdges states propositions sets tokens) same
+    (record { edges = []; fit = tt; is = refl; kept = refl })
 
-edges_take : (n states propositions sets : ℕ) (tokens : List Lexeme) (x : List KeptEdge × List Lexeme) → edges_within n states propositions sets tokens ≡ Some x → ReadEdges states propositions sets tokens x
+edges_take : (n states propositions sets : ℕ) (tokens : List Lexeme) (x : List KeptEdge × List Lexeme)
+    → edges_within n states propositions sets tokens ≡ Some x → ReadEdges states propositions sets tokens x
 unfolding edges_within
 edges_take zero states propositions sets tokens x e = absurd (none_is_some x e)
 edges_take (suc n) states propositions sets tokens x e =
@@ -237,7 +287,9 @@ edges_take (suc n) states propositions sets tokens x e =
       | inl c ↦
           let d = bind_some (edge_at states propositions sets a.0.1) (λ x. edges_within n states propositions sets x.1 >>= λ y. some (x.0 ∷ y.0, y.1)) x c.1 in
           let f = bind_some (edges_within n states propositions sets d.0.1) (λ y. some (d.0.0 ∷ y.0, y.1)) x d.2 in
-          one_edge states propositions sets tokens a.0 d.0 f.0 x (due_is tokens a.0 a.1) (edge_begins a.0.0 b.0 b.1 c.0) (edge_takes states propositions sets a.0.1 d.0 d.1) (edges_take n states propositions sets d.0.1 f.0 f.1) (some_is (d.0.0 ∷ f.0.0, f.0.1) x f.2)
+          one_edge states propositions sets tokens a.0 d.0 f.0 x (due_is tokens a.0 a.1) (edge_begins a.0.0 b.0 b.1 c.0)
+          (edge_takes states propositions sets a.0.1 d.0 d.1) (edges_take n states propositions sets d.0.1 f.0 f.1)
+          (some_is (d.0.0 ∷ f.0.0, f.0.1) x f.2)
       | inr c ↦ no_edges states propositions sets tokens x (some_is ([], tokens) x c.1)
     ]
 
@@ -262,12 +314,20 @@ edges_end n states propositions sets (header w ∷ rest) h = refl
 edges_end n states propositions sets (end ∷ rest) h = refl
 edges_end n states propositions sets (t ∷ rest) h = absurd h
 
-edges_again : (n states propositions sets : ℕ) (es : List Edge) (rest : List Lexeme) → AllByRecursion (EdgeFits states propositions sets) es → Leaves rest → length (flat_map edge_lexemes es ++ rest) < n → edges_within n states propositions sets (flat_map edge_lexemes es ++ rest) ≡ Some (map edge_kept es, rest)
+edges_again : (n states propositions sets : ℕ) (es : List Edge) (rest : List Lexeme) → AllByRecursion (EdgeFits states propositions sets) es
+    → Leaves rest → length (flat_map edge_lexemes es ++ rest) < n
+    → edges_within n states propositions sets (flat_map edge_lexemes es ++ rest) ≡ Some (map edge_kept es, rest)
 unfolding edges_within due begins_edge
 edges_again zero states propositions sets es rest h o enough = absurd (omega arith)
 edges_again (suc n) states propositions sets [] rest h o enough = edges_end n states propositions sets rest o
 edges_again (suc n) states propositions sets (e ∷ es) rest h o enough =
-    let fewer : length (flat_map edge_lexemes es ++ rest) < n = omega (arith, length-append (inner_edge e ++ flat_map edge_lexemes es) rest, length-append (inner_edge e) (flat_map edge_lexemes es), length-append (flat_map edge_lexemes es) rest) in
+    let fewer : length (flat_map edge_lexemes es ++ rest) < n =
+    omega (
+      arith,
+      length-append (inner_edge e ++ flat_map edge_lexemes es) rest,
+      length-append (inner_edge e) (flat_map edge_lexemes es),
+      length-append (flat_map edge_lexemes es) rest,
+    ) in
     rw (
       append_assoc (inner_edge e) (flat_map edge_lexemes es) rest,
       edge_again states propositions sets e (flat_map edge_lexemes es ++ rest) h.0 (opens_edges es rest o),
@@ -284,11 +344,13 @@ name_takes tokens rest e =
     let n = named b.0.0 b.0.1 b.2 in
     (n.0, is ∙ n.1 is)
   where
-    named : (t : Lexeme) (after : List Lexeme) → name_first tokens (t, after) ≡ Some rest → (name : Option (List Character)) × (tokens ≡ t ∷ after → t ∷ after ≡ name_lexemes name ++ rest)
+    named : (t : Lexeme) (after : List Lexeme) → name_first tokens (t, after) ≡ Some rest
+        → (name : Option (List Character)) × (tokens ≡ t ∷ after → t ∷ after ≡ name_lexemes name ++ rest)
     named (string s) after h = (Some s, λ is. ap (λ (ts : List Lexeme). string s ∷ ts) (some_is after rest h))
     named t after h = (None, λ is. sym is ∙ some_is tokens rest h)
 
-name_again : (name : Option (List Character)) (sets : Option (List ℕ)) (rest : List Lexeme) → Opens rest → behind_name (name_lexemes name ++ (sets_lexemes sets ++ rest)) ≡ Some (sets_lexemes sets ++ rest)
+name_again : (name : Option (List Character)) (sets : Option (List ℕ)) (rest : List Lexeme) → Opens rest
+    → behind_name (name_lexemes name ++ (sets_lexemes sets ++ rest)) ≡ Some (sets_lexemes sets ++ rest)
 unfolding behind_name due
 name_again (Some s) sets rest o = refl
 name_again None (Some ns) rest o = refl
@@ -321,47 +383,59 @@ record ReadLine (states propositions sets : ℕ) (seen : ℕ → Bool) (tokens :
   is : tokens ≡ inner_line line ++ x.1
   kept : line_kept line ≡ x.0
 
-inner_line_is : (l : StateLine) (rest : List Lexeme) → inner_line l ++ rest ≡ number l.state ∷ (name_lexemes l.name ++ (sets_lexemes l.sets ++ (flat_map edge_lexemes l.edges ++ rest)))
+inner_line_is : (l : StateLine) (rest : List Lexeme)
+    → inner_line l ++ rest ≡ number l.state ∷ (name_lexemes l.name ++ (sets_lexemes l.sets ++ (flat_map edge_lexemes l.edges ++ rest)))
 inner_line_is l rest = simp append_assoc
 
-line_takes : (states propositions sets : ℕ) (seen : ℕ → Bool) (tokens : List Lexeme) (x : KeptLine × List Lexeme) → line_at states propositions sets seen tokens ≡ Some x → ReadLine states propositions sets seen tokens x
-unfolding line_at edges_at
+line_takes : (states propositions sets : ℕ) (seen : ℕ → Bool) (tokens : List Lexeme) (x : KeptLine × List Lexeme)
+    → line_at states propositions sets seen tokens ≡ Some x → ReadLine states propositions sets seen tokens x
+unfolding line_at kept_edges_at edges_at
 line_takes states propositions sets seen tokens x e =
-    let with_edges = λ (n : ℕ) (y : List ℕ × List Lexeme). edges_at states propositions sets y.1 >>= λ z. some (kept n y.0 z.0, z.1) in
+    let with_edges = λ (n : ℕ) (y : List ℕ × List Lexeme). kept_edges_at states propositions sets y.1 >>= λ z. some (kept n y.0 z.0, z.1) in
     let with_sets = λ (n : ℕ) (rest : List Lexeme). sets_if sets rest >>= with_edges n in
     let with_name = λ (after : List Lexeme) (n : ℕ). behind_name after >>= with_sets n in
     let a = bind_some (due tokens) (λ t. new_state states seen t.0 >>= with_name t.1) x e in
     let b = bind_some (new_state states seen a.0.0) (with_name a.0.1) x a.2 in
     let c = bind_some (behind_name a.0.1) (with_sets b.0) x b.2 in
     let d = bind_some (sets_if sets c.0) (with_edges b.0) x c.2 in
-    let f = bind_some (edges_at states propositions sets d.0.1) (λ z. some (kept b.0 d.0.0 z.0, z.1)) x d.2 in
-    read a.0 b.0 c.0 d.0 f.0 (due_is tokens a.0 a.1) (new_state_takes states seen a.0.0 b.0 b.1) (name_takes a.0.1 c.0 c.1) (sets_if_takes sets c.0 d.0 d.1)
-    (edges_take (suc (length d.0.1)) states propositions sets d.0.1 f.0 f.1) (some_is (kept b.0 d.0.0 f.0.0, f.0.1) x f.2)
+    let f = bind_some (kept_edges_at states propositions sets d.0.1) (λ z. some (kept b.0 d.0.0 z.0, z.1)) x d.2 in
+    let g = bind_some (edges_at states propositions sets d.0.1) (λ (y : List KeptEdge × List Lexeme). some (put_edges [] y.0, y.1)) f.0 f.1 in
+    read a.0 b.0 c.0 d.0 g.0 (due_is tokens a.0 a.1) (new_state_takes states seen a.0.0 b.0 b.1) (name_takes a.0.1 c.0 c.1) (sets_if_takes sets c.0 d.0 d.1)
+    (edges_take (suc (length d.0.1)) states propositions sets d.0.1 g.0 g.1)
+    f.0 (some_is (put_edges [] g.0.0, g.0.1) f.0 g.2) (some_is (kept b.0 d.0.0 f.0.0, f.0.1) x f.2)
   where
     kept : ℕ → List ℕ → List KeptEdge → KeptLine
     kept state sets edges = record { state = state; sets = sets; edges = edges }
 
-    read : (a : Lexeme × List Lexeme) (n : ℕ) (c : List Lexeme) (d : List ℕ × List Lexeme) (f : List KeptEdge × List Lexeme) → tokens ≡ a.0 ∷ a.1 → (a.0 ≡ number n) × (n < states) × (seen n ≡ false) → ((name : Option (List Character)) × (a.1 ≡ name_lexemes name ++ c)) → ReadSetsIf sets c d → ReadEdges states propositions sets d.1 f → (kept n d.0 f.0, f.1) ≡ x → ReadLine states propositions sets seen tokens x
-    read a n c d f is one name own edges same =
+    read : (a : Lexeme × List Lexeme) (n : ℕ) (c : List Lexeme) (d : List ℕ × List Lexeme) (f : List KeptEdge × List Lexeme)
+        → tokens ≡ a.0 ∷ a.1 → (a.0 ≡ number n) × (n < states) × (seen n ≡ false)
+        → ((name : Option (List Character)) × (a.1 ≡ name_lexemes name ++ c)) → ReadSetsIf sets c d
+        → ReadEdges states propositions sets d.1 f → (g : List KeptEdge × List Lexeme) → (put_edges [] f.0, f.1) ≡ g
+        → (kept n d.0 g.0, g.1) ≡ x → ReadLine states propositions sets seen tokens x
+    read a n c d f is one name own edges g all same =
         let line : StateLine = record { state = n; name = name.0; sets = own.written; edges = edges.edges } in
-        subst (ReadLine states propositions sets seen tokens) same (record {
+        subst (ReadLine states propositions sets seen tokens) (ap (λ (z : List KeptEdge × List Lexeme). (kept n d.0 z.0, z.1)) all ∙ same) (record {
           line = line;
           fits = record { state = one.1; own_sets = own.below; edges = edges.fit };
           new = one.2;
           is =
               is ∙ ap (λ (t : Lexeme). t ∷ a.1) one.0
-              ∙ ap (λ (ts : List Lexeme). number n ∷ ts) (name.1 ∙ ap (λ (ts : List Lexeme). name_lexemes name.0 ++ ts) (own.is ∙ ap (λ (ts : List Lexeme). sets_lexemes own.written ++ ts) edges.is))
+              ∙ ap (λ (ts : List Lexeme). number n ∷ ts) (name.1 ∙ ap (λ (ts : List Lexeme). name_lexemes name.0 ++ ts)
+              (own.is ∙ ap (λ (ts : List Lexeme). sets_lexemes own.written ++ ts) edges.is))
               ∙ sym (inner_line_is line f.1);
-          kept = ap (λ (ns : List ℕ). kept n ns (map edge_kept edges.edges)) own.kept ∙ ap (kept n d.0) edges.kept;
+          kept = ap (λ (ns : List ℕ). kept n ns (put_edges [] (map edge_kept edges.edges))) own.kept
+              ∙ ap (λ (es : List KeptEdge). kept n d.0 (put_edges [] es)) edges.kept;
         })
 
-pub line_shorter : (states propositions sets : ℕ) (seen : ℕ → Bool) (tokens : List Lexeme) (x : KeptLine × List Lexeme) → line_at states propositions sets seen tokens ≡ Some x → length x.1 ≤ length tokens
+pub line_shorter : (states propositions sets : ℕ) (seen : ℕ → Bool) (tokens : List Lexeme) (x : KeptLine × List Lexeme)
+    → line_at states propositions sets seen tokens ≡ Some x → length x.1 ≤ length tokens
 line_shorter states propositions sets seen tokens x e =
     let read = line_takes states propositions sets seen tokens x e in
     omega (arith, ap length read.is, length-append (inner_line read.line) x.1)
 
-line_again : (states propositions sets : ℕ) (seen : ℕ → Bool) (l : StateLine) (rest : List Lexeme) → LineFits states propositions sets l → seen l.state ≡ false → Leaves rest → line_at states propositions sets seen (inner_line l ++ rest) ≡ Some (line_kept l, rest)
-unfolding line_at due new_state edges_at
+line_again : (states propositions sets : ℕ) (seen : ℕ → Bool) (l : StateLine) (rest : List Lexeme) → LineFits states propositions sets l
+    → seen l.state ≡ false → Leaves rest → line_at states propositions sets seen (inner_line l ++ rest) ≡ Some (line_kept l, rest)
+unfolding line_at due new_state kept_edges_at edges_at
 line_again states propositions sets seen l rest h new o =
     let enough : length (flat_map edge_lexemes l.edges ++ rest) < suc (length (flat_map edge_lexemes l.edges ++ rest)) = omega arith in
     let opens = opens_edges l.edges rest o in
@@ -378,7 +452,12 @@ line_again states propositions sets seen l rest h new o =
 
 line_begins : (t : Lexeme) (more : Bool) → begins_line t ≡ Some more → more ≡ true → t ≡ header (codes "State")
 unfolding begins_line
-line_begins (header w) more e is = grind (arith, nat_tests, chosen (bytes_eq w (codes "State")) (some true) None (some more) e, bytes_eq-Decides w (codes "State"))
+line_begins (header w) more e is = grind (
+  arith,
+  nat_tests,
+  chosen (bytes_eq w (codes "State")) (some true) None (some more) e,
+  bytes_eq-Decides w (codes "State"),
+)
 line_begins t more e is = absurd cc
 
 ends_body : (t : Lexeme) (more : Bool) → begins_line t ≡ Some more → more ≡ false → t ≡ end
@@ -438,7 +517,10 @@ record ReadLines (states propositions sets : ℕ) (seen : List ℕ) (tokens : Li
   distinct : IsDistinct (numbers lines)
   fresh : Fresh seen lines
 
-one_line : (states propositions sets : ℕ) (seen : List ℕ) (tokens : List Lexeme) (t : Lexeme × List Lexeme) (x : KeptLine × List Lexeme) (y all : List KeptLine × List Lexeme) → tokens ≡ t.0 ∷ t.1 → t.0 ≡ header (codes "State") → ReadLine states propositions sets (is_seen seen) t.1 x → ReadLines states propositions sets (x.0.state ∷ seen) x.1 y → (x.0 ∷ y.0, y.1) ≡ all → ReadLines states propositions sets seen tokens all
+one_line : (states propositions sets : ℕ) (seen : List ℕ) (tokens : List Lexeme) (t : Lexeme × List Lexeme) (x : KeptLine × List Lexeme) (y all : List KeptLine × List Lexeme)
+    → tokens ≡ t.0 ∷ t.1 → t.0 ≡ header (codes "State") → ReadLine states propositions sets (is_seen seen) t.1 x
+    → ReadLines states propositions sets (x.0.state ∷ seen) x.1 y → (x.0 ∷ y.0, y.1) ≡ all
+    → ReadLines states propositions sets seen tokens all
 one_line states propositions sets seen tokens t x y all is first one more same =
     let number_is : one.line.state ≡ x.0.state = ap (λ (l : KeptLine). l.state) one.kept in
     let split = fresh_rest x.0.state seen more.lines more.fresh in
@@ -454,22 +536,28 @@ one_line states propositions sets seen tokens t x y all is first one more same =
       fresh = (one.new, split.1);
     })
 
-no_lines : (states propositions sets : ℕ) (seen : List ℕ) (tokens : List Lexeme) (t : Lexeme × List Lexeme) (all : List KeptLine × List Lexeme) → tokens ≡ t.0 ∷ t.1 → t.0 ≡ end → ([], t.1) ≡ all → ReadLines states propositions sets seen tokens all
+no_lines : (states propositions sets : ℕ) (seen : List ℕ) (tokens : List Lexeme) (t : Lexeme × List Lexeme) (all : List KeptLine × List Lexeme)
+    → tokens ≡ t.0 ∷ t.1 → t.0 ≡ end → ([], t.1) ≡ all → ReadLines states propositions sets seen tokens all
 no_lines states propositions sets seen tokens t all is last same = grind (arith, nat_tests)
 
-lines_take : (n states propositions sets : ℕ) (seen : List ℕ) (tokens : List Lexeme) (x : List KeptLine × List Lexeme) → lines_within n states propositions sets seen tokens ≡ Some x → ReadLines states propositions sets seen tokens x
+lines_take : (n states propositions sets : ℕ) (seen : List ℕ) (tokens : List Lexeme) (x : List KeptLine × List Lexeme)
+    → lines_within n states propositions sets seen tokens ≡ Some x → ReadLines states propositions sets seen tokens x
 unfolding lines_within
 lines_take zero states propositions sets seen tokens x e = absurd (none_is_some x e)
 lines_take (suc n) states propositions sets seen tokens x e =
-    let one = λ (t : Lexeme × List Lexeme). line_at states propositions sets (is_seen seen) t.1 >>= λ x. lines_within n states propositions sets (x.0.state ∷ seen) x.1 >>= λ y. some (x.0 ∷ y.0, y.1) in
+    let one = λ (t : Lexeme × List Lexeme). line_at states propositions sets
+    (is_seen seen) t.1 >>= λ x. lines_within n states propositions sets (x.0.state ∷ seen) x.1 >>= λ y. some (x.0 ∷ y.0, y.1) in
     let a = bind_some (due tokens) (λ t. begins_line t.0 >>= λ more. cond more (one t) (some ([], t.1))) x e in
     let b = bind_some (begins_line a.0.0) (λ more. cond more (one a.0) (some ([], a.0.1))) x a.2 in
     let is = due_is tokens a.0 a.1 in
     elim (chosen b.0 (one a.0) (some ([], a.0.1)) (some x) b.2) [
       | inl c ↦
-          let d = bind_some (line_at states propositions sets (is_seen seen) a.0.1) (λ x. lines_within n states propositions sets (x.0.state ∷ seen) x.1 >>= λ y. some (x.0 ∷ y.0, y.1)) x c.1 in
+          let d = bind_some (line_at states propositions sets (is_seen seen) a.0.1)
+          (λ x. lines_within n states propositions sets (x.0.state ∷ seen) x.1 >>= λ y. some (x.0 ∷ y.0, y.1)) x c.1 in
           let f = bind_some (lines_within n states propositions sets (d.0.0.state ∷ seen) d.0.1) (λ y. some (d.0.0 ∷ y.0, y.1)) x d.2 in
-          one_line states propositions sets seen tokens a.0 d.0 f.0 x is (line_begins a.0.0 b.0 b.1 c.0) (line_takes states propositions sets (is_seen seen) a.0.1 d.0 d.1) (lines_take n states propositions sets (d.0.0.state ∷ seen) d.0.1 f.0 f.1) (some_is (d.0.0 ∷ f.0.0, f.0.1) x f.2)
+          one_line states propositions sets seen tokens a.0 d.0 f.0 x is (line_begins a.0.0 b.0 b.1 c.0)
+          (line_takes states propositions sets (is_seen seen) a.0.1 d.0 d.1)
+          (lines_take n states propositions sets (d.0.0.state ∷ seen) d.0.1 f.0 f.1) (some_is (d.0.0 ∷ f.0.0, f.0.1) x f.2)
       | inr c ↦ no_lines states propositions sets seen tokens a.0 x is (ends_body a.0.0 b.0 b.1 c.0) (some_is ([], a.0.1) x c.1)
     ]
 
@@ -477,12 +565,21 @@ leaves_lines : (lines : List StateLine) (rest : List Lexeme) → Leaves (flat_ma
 leaves_lines [] rest = tt
 leaves_lines (l ∷ lines) rest = tt
 
-lines_again : (n states propositions sets : ℕ) (seen : List ℕ) (lines : List StateLine) (rest : List Lexeme) → AllByRecursion (LineFits states propositions sets) lines → IsDistinct (numbers lines) → Fresh seen lines → length (flat_map state_lexemes lines ++ (end ∷ rest)) < n → lines_within n states propositions sets seen (flat_map state_lexemes lines ++ (end ∷ rest)) ≡ Some (map line_kept lines, rest)
+lines_again : (n states propositions sets : ℕ) (seen : List ℕ) (lines : List StateLine) (rest : List Lexeme)
+    → AllByRecursion (LineFits states propositions sets) lines → IsDistinct (numbers lines) → Fresh seen lines
+    → length (flat_map state_lexemes lines ++ (end ∷ rest)) < n
+    → lines_within n states propositions sets seen (flat_map state_lexemes lines ++ (end ∷ rest)) ≡ Some (map line_kept lines, rest)
 unfolding lines_within due begins_line
 lines_again zero states propositions sets seen lines rest h distinct fresh enough = absurd (omega arith)
 lines_again (suc n) states propositions sets seen [] rest h distinct fresh enough = refl
 lines_again (suc n) states propositions sets seen (l ∷ lines) rest h distinct fresh enough =
-    let fewer : length (flat_map state_lexemes lines ++ (end ∷ rest)) < n = omega (arith, length-append (inner_line l ++ flat_map state_lexemes lines) (end ∷ rest), length-append (inner_line l) (flat_map state_lexemes lines), length-append (flat_map state_lexemes lines) (end ∷ rest)) in
+    let fewer : length (flat_map state_lexemes lines ++ (end ∷ rest)) < n =
+    omega (
+      arith,
+      length-append (inner_line l ++ flat_map state_lexemes lines) (end ∷ rest),
+      length-append (inner_line l) (flat_map state_lexemes lines),
+      length-append (flat_map state_lexemes lines) (end ∷ rest),
+    ) in
     let fresher = fresh_more l.state seen lines (distinct_apart l.state lines distinct.0) fresh.1 in
     rw (
       append_assoc (inner_line l) (flat_map state_lexemes lines) (end ∷ rest),
@@ -500,15 +597,24 @@ pub record ReadBody (states propositions sets : ℕ) (tokens : List Lexeme) (x :
   pub fit : AllByRecursion (LineFits states propositions sets) lines
   pub distinct : IsDistinct (map (λ l. l.state) lines)
 
-pub body_takes : (states propositions sets : ℕ) (tokens : List Lexeme) (x : List KeptLine × List Lexeme) → body_at states propositions sets tokens ≡ Some x → ReadBody states propositions sets tokens x
+pub body_takes : (states propositions sets : ℕ) (tokens : List Lexeme) (x : List KeptLine × List Lexeme)
+    → body_at states propositions sets tokens ≡ Some x → ReadBody states propositions sets tokens x
 unfolding body_at
 body_takes states propositions sets tokens x e =
     let read = lines_take (suc (length tokens)) states propositions sets [] tokens x e in
     record { lines = read.lines; is = read.is; kept = read.kept; fit = read.fit; distinct = read.distinct }
 
-pub body_again : (states propositions sets : ℕ) (lines : List StateLine) (rest : List Lexeme) → AllByRecursion (LineFits states propositions sets) lines → IsDistinct (map (λ l. l.state) lines) → body_at states propositions sets (flat_map state_lexemes lines ++ (end ∷ rest)) ≡ Some (map line_kept lines, rest)
+pub body_again : (states propositions sets : ℕ) (lines : List StateLine) (rest : List Lexeme)
+    → AllByRecursion (LineFits states propositions sets) lines → IsDistinct (map (λ l. l.state) lines)
+    → body_at states propositions sets (flat_map state_lexemes lines ++ (end ∷ rest)) ≡ Some (map line_kept lines, rest)
 unfolding body_at
-body_again states propositions sets lines rest h distinct = grind (arith, nat_tests, lines_again (suc (length (flat_map state_lexemes lines ++ (end ∷ rest)))) states propositions sets, fresh_all lines)
+body_again states propositions sets lines rest h distinct =
+    grind (
+      arith,
+      nat_tests,
+      lines_again (suc (length (flat_map state_lexemes lines ++ (end ∷ rest)))) states propositions sets,
+      fresh_all lines,
+    )
 
 -- ---- no token of a body is `stray`
 
@@ -522,11 +628,21 @@ name_tokens (Some s) = (tt, tt)
 
 edge_tokens : (es : List Edge) → AllByRecursion IsToken (flat_map edge_lexemes es)
 edge_tokens [] = tt
-edge_tokens (e ∷ es) = grind (arith, nat_tests, all_of_both IsToken (inner_edge e) (flat_map edge_lexemes es) (all_of_both IsToken (formula_lexemes e.letter) (right_bracket ∷ number e.target ∷ sets_lexemes e.sets) (formula_tokens e.letter) (tt, (tt, set_tokens e.sets))) (edge_tokens es))
+edge_tokens (e ∷ es) = grind (
+  arith,
+  nat_tests,
+  all_of_both IsToken (inner_edge e) (flat_map edge_lexemes es)
+      (all_of_both IsToken (formula_lexemes e.letter) (right_bracket ∷ number e.target ∷ sets_lexemes e.sets) (formula_tokens e.letter)
+      (tt, (tt, set_tokens e.sets))) (edge_tokens es),
+)
 
 pub line_tokens : (lines : List StateLine) → AllByRecursion IsToken (flat_map state_lexemes lines)
 line_tokens [] = tt
 line_tokens (l ∷ lines) =
     let sets_and_edges = all_of_both IsToken (sets_lexemes l.sets) (flat_map edge_lexemes l.edges) (set_tokens l.sets) (edge_tokens l.edges) in
-    let inner : AllByRecursion IsToken (inner_line l) = (tt, all_of_both IsToken (name_lexemes l.name) (sets_lexemes l.sets ++ flat_map edge_lexemes l.edges) (name_tokens l.name) sets_and_edges) in
+    let inner : AllByRecursion IsToken (inner_line l) = (
+      tt,
+      all_of_both IsToken (name_lexemes l.name) (sets_lexemes l.sets ++ flat_map edge_lexemes l.edges)
+          (name_tokens l.name) sets_and_edges,
+    ) in
     (tt, all_of_both IsToken (inner_line l) (flat_map state_lexemes lines) inner (line_tokens lines))

@@ -1,5 +1,6 @@
 -- The set of a step that counts.
-use Rattle.std.proofs.Common.{◌≡◌, ◌≢◌, ◌∙◌, ℕ, suc, zero, ◌<◌, ◌≤◌, ◌-◌, min, max, List, [], ◌∷◌, ◌++◌, length, Option, Some, None, refl, sym, ap, arith, inl, inr, ◌⊎◌}
+use Rattle.std.proofs.Common.{◌≡◌, ◌≢◌, ◌∙◌, ℕ, suc, zero, ◌<◌, ◌≤◌, ◌-◌, min, max, List, [], ◌∷◌, ◌++◌, length, Option, Some, None, refl}
+use Rattle.std.proofs.Common.{sym, ap, arith, inl, inr, ◌⊎◌}
 use Rattle.std.specs.Prelude.{slice_get}
 use Rattle.std.proofs.lemmas.Bool.Decides.{nat_tests}
 use Rattle.pg_hoa.specs.declared.shape.Shape.{Shape}
@@ -15,7 +16,11 @@ three_ways : (a b : ℕ) → (a < b) ⊎ ((a ≡ b) ⊎ (b < a))
 three_ways zero zero = inr (inl refl)
 three_ways zero (suc b) = inl (omega arith)
 three_ways (suc a) zero = inr (inr (omega arith))
-three_ways (suc a) (suc b) = elim (three_ways a b) [ inl h ↦ inl (omega arith) | inr k ↦ elim k [ inl e ↦ inr (inl (ap suc e)) | inr h ↦ inr (inr (omega arith)) ] ]
+three_ways (suc a) (suc b) = elim (three_ways a b) [
+  | inl h ↦ inl (omega arith)
+  | inr k ↦ elim k
+      [ inl e ↦ inr (inl (ap suc e)) | inr h ↦ inr (inr (omega arith)) ]
+]
 
 put_below : (n m : ℕ) (ms : List ℕ) → n < m → put n (m ∷ ms) ≡ n ∷ m ∷ ms
 put_below n m ms h = grind (arith, nat_tests)
@@ -35,7 +40,8 @@ last_at (x ∷ y ∷ xs) =
     let here : length (x ∷ y ∷ xs) - 1 ≡ suc (length (y ∷ xs) - 1) = omega arith in
     ap (slice_get (x ∷ y ∷ xs)) here ∙ last_at (y ∷ xs)
 
-pub decides_last : (shape : Shape) (xs : List ℕ) (o : Option ℕ) → (shape ≢ MinEven) → (shape ≢ MinOdd) → o ≡ slice_get xs (length xs - 1) → o ≡ deciding shape xs
+pub decides_last : (shape : Shape) (xs : List ℕ) (o : Option ℕ) → (shape ≢ MinEven) → (shape ≢ MinOdd) → o ≡ slice_get xs (length xs - 1)
+    → o ≡ deciding shape xs
 decides_last MinEven xs o a b e = absurd (a refl)
 decides_last MinOdd xs o a b e = absurd (b refl)
 decides_last _ xs o a b e = e ∙ last_at xs
@@ -51,7 +57,8 @@ last_some m (n ∷ ms) = last_some n ms
 
 least_is_first : (m : ℕ) (ms : List ℕ) (k : ℕ) → Rises (m ∷ ms) → last (m ∷ ms) ≡ Some k → m ≤ k
 least_is_first m [] k up e = let same = some_is m k e in omega arith
-least_is_first m (n ∷ ms) k up e = let below : m < n = up 0 1 0 (omega arith) (omega arith) in let rest = least_is_first n ms k (pairs_tail (λ x y. x < y) m (n ∷ ms) up) e in omega arith
+least_is_first m (n ∷ ms) k up e = let below : m < n = up 0 1 0 (omega arith) (omega arith) in let rest =
+    least_is_first n ms k (pairs_tail (λ x y. x < y) m (n ∷ ms) up) e in omega arith
 
 last_behind : (m n : ℕ) (xs : List ℕ) → last (m ∷ put n xs) ≡ last (put n xs)
 last_behind m n [] = refl

@@ -5,7 +5,8 @@ use Rattle.std.proofs.lemmas.Bool.{lt-ltb}
 use Rattle.pg_hoa.specs.Lexemes.{Lexeme, right_paren, ampersand, bar, stray}
 use Rattle.pg_hoa.specs.declared.formula.Kind.{Kind}
 use Rattle.pg_hoa.specs.declared.formula.Kind.TheVariants.{Label, Condition}
-use Rattle.pg_hoa.specs.Formulas.{Formula, yes, no, proposition, inf, fin, not, both, either, bracket, formula_lexemes, rank, IsGrouped, nesting, IsOf, IsWritten}
+use Rattle.pg_hoa.specs.Formulas.{Formula, yes, no, proposition, inf, fin, not, both, either, bracket, formula_lexemes, rank, IsGrouped}
+use Rattle.pg_hoa.specs.Formulas.{nesting, IsOf, IsWritten}
 use Rattle.pg_hoa.specs.Mirrors.FormulaScan.{Frame, fresh, State, operand, operator, summed, completes, formula_from, formula_at}
 
 abbrev starting : Option Formula → Frame
@@ -17,13 +18,16 @@ whole room (either f g) outer = operator room (Some f) g outer
 whole room f outer = operator room None f outer
 
 abbrev Operand : Kind → Formula → Type 0
-Operand k f = (room : ℕ) (top : Frame) (outer : List Frame) (rest : List Lexeme) → nesting f ≤ room → formula_from k (operand room top outer) (formula_lexemes f ++ rest) ≡ formula_from k (completes room top outer f) rest
+Operand k f = (room : ℕ) (top : Frame) (outer : List Frame) (rest : List Lexeme) → nesting f ≤ room
+    → formula_from k (operand room top outer) (formula_lexemes f ++ rest) ≡ formula_from k (completes room top outer f) rest
 
 abbrev Product : Kind → Formula → Type 0
-Product k f = (room : ℕ) (sum : Option Formula) (outer : List Frame) (rest : List Lexeme) → nesting f ≤ room → formula_from k (operand room (starting sum) outer) (formula_lexemes f ++ rest) ≡ formula_from k (operator room sum f outer) rest
+Product k f = (room : ℕ) (sum : Option Formula) (outer : List Frame) (rest : List Lexeme) → nesting f ≤ room
+    → formula_from k (operand room (starting sum) outer) (formula_lexemes f ++ rest) ≡ formula_from k (operator room sum f outer) rest
 
 abbrev Sum : Kind → Formula → Type 0
-Sum k f = (room : ℕ) (outer : List Frame) (rest : List Lexeme) → nesting f ≤ room → formula_from k (operand room fresh outer) (formula_lexemes f ++ rest) ≡ formula_from k (whole room f outer) rest
+Sum k f = (room : ℕ) (outer : List Frame) (rest : List Lexeme) → nesting f ≤ room
+    → formula_from k (operand room fresh outer) (formula_lexemes f ++ rest) ≡ formula_from k (whole room f outer) rest
 
 record Again (k : Kind) (f : Formula) : Type 0 where
   as_operand : rank f ≤ 0 → Operand k f
@@ -47,13 +51,15 @@ of_both : (k : Kind) (f g : Formula) → Product k f → Operand k g → Again k
 of_both k f g pf og = grind (arith, nat_tests, both_product k f g pf og)
 
 -- a bar behind a whole formula
-bar_next : (k : Kind) (f : Formula) (room : ℕ) (outer : List Frame) (rest : List Lexeme) → formula_from k (whole room f outer) (bar ∷ rest) ≡ formula_from k (operand room (starting (Some f)) outer) rest
+bar_next : (k : Kind) (f : Formula) (room : ℕ) (outer : List Frame) (rest : List Lexeme)
+    → formula_from k (whole room f outer) (bar ∷ rest) ≡ formula_from k (operand room (starting (Some f)) outer) rest
 unfolding formula_from
 bar_next k (either f g) room outer rest = refl
 bar_next k _ room outer rest = refl
 
 -- a bracket behind a whole formula
-closes : (k : Kind) (f : Formula) (room : ℕ) (top : Frame) (outer : List Frame) (rest : List Lexeme) → formula_from k (whole room f (top ∷ outer)) (right_paren ∷ rest) ≡ formula_from k (completes (suc room) top outer (bracket f)) rest
+closes : (k : Kind) (f : Formula) (room : ℕ) (top : Frame) (outer : List Frame) (rest : List Lexeme)
+    → formula_from k (whole room f (top ∷ outer)) (right_paren ∷ rest) ≡ formula_from k (completes (suc room) top outer (bracket f)) rest
 unfolding formula_from
 closes k (either f g) room top outer rest = refl
 closes k _ room top outer rest = refl
@@ -77,8 +83,10 @@ not_operand n f op (suc room) top outer rest deep = grind (arith, nat_tests)
 bracket_operand : (k : Kind) (f : Formula) → Sum k f → Operand k (bracket f)
 unfolding formula_from
 bracket_operand k f sf zero top outer rest n = absurd (omega arith)
-bracket_operand (Label n) f sf (suc room) top outer rest deep = grind (arith, nat_tests, append_assoc (formula_lexemes f) (right_paren ∷ []) rest, closes (Label n) f room top outer rest)
-bracket_operand (Condition n) f sf (suc room) top outer rest deep = grind (arith, nat_tests, append_assoc (formula_lexemes f) (right_paren ∷ []) rest, closes (Condition n) f room top outer rest)
+bracket_operand (Label n) f sf (suc room) top outer rest deep =
+    grind (arith, nat_tests, append_assoc (formula_lexemes f) (right_paren ∷ []) rest, closes (Label n) f room top outer rest)
+bracket_operand (Condition n) f sf (suc room) top outer rest deep =
+    grind (arith, nat_tests, append_assoc (formula_lexemes f) (right_paren ∷ []) rest, closes (Condition n) f room top outer rest)
 
 yes_operand : (k : Kind) → Operand k yes
 unfolding formula_from
@@ -118,7 +126,8 @@ again (Condition n) (both f h) g o = of_both (Condition n) f h ((again (Conditio
 again (Label n) (either f h) g o = of_either (Label n) f h (again (Label n) f g.1 o.0).as_sum ((again (Label n) h g.2 o.1).as_product g.0)
 again (Condition n) (either f h) g o = of_either (Condition n) f h (again (Condition n) f g.1 o.0).as_sum ((again (Condition n) h g.2 o.1).as_product g.0)
 again (Label n) (bracket f) g o = of_operand (Label n) (bracket f) (bracket_operand (Label n) f (again (Label n) f g o).as_sum) (λ room outer. refl)
-again (Condition n) (bracket f) g o = of_operand (Condition n) (bracket f) (bracket_operand (Condition n) f (again (Condition n) f g o).as_sum) (λ room outer. refl)
+again (Condition n) (bracket f) g o =
+    of_operand (Condition n) (bracket f) (bracket_operand (Condition n) f (again (Condition n) f g o).as_sum) (λ room outer. refl)
 
 -- the token behind a formula is neither `&` nor `|`, and is one
 abbrev pub Ends : List Lexeme → Type 0
@@ -128,7 +137,8 @@ Ends (bar ∷ rest) = ⊥
 Ends (stray ∷ rest) = ⊥
 Ends (_ ∷ rest) = Unit {0}
 
-stops_there : (k : Kind) (room : ℕ) (sum : Option Formula) (f : Formula) (rest : List Lexeme) → Ends rest → formula_from k (operator room sum f []) rest ≡ Some (summed sum f, rest)
+stops_there : (k : Kind) (room : ℕ) (sum : Option Formula) (f : Formula) (rest : List Lexeme) → Ends rest
+    → formula_from k (operator room sum f []) rest ≡ Some (summed sum f, rest)
 unfolding formula_from
 stops_there k room sum f [] h = refl
 stops_there k room sum f (ampersand ∷ rest) h = absurd h

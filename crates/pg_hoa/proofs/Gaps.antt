@@ -12,7 +12,8 @@ pub record Takes (deep : ℕ) (bytes : List ℕ) (x : ℕ × List ℕ) : Type 0 
   pub shorter : length x.1 < length bytes
   pub few : deep ≤ 8192 → x.0 ≤ 8192
 
-abbrev taken : (deep : ℕ) (bytes : List ℕ) (n : ℕ) (rest : List ℕ) (x : ℕ × List ℕ) → some (some (n, rest)) ≡ some (some x) → length rest < length bytes → (deep ≤ 8192 → n ≤ 8192) → Takes deep bytes x
+abbrev taken : (deep : ℕ) (bytes : List ℕ) (n : ℕ) (rest : List ℕ) (x : ℕ × List ℕ) → some (some (n, rest)) ≡ some (some x)
+    → length rest < length bytes → (deep ≤ 8192 → n ≤ 8192) → Takes deep bytes x
 taken deep bytes n rest x e lt few = subst (Takes deep bytes) (some_is (n, rest) x (some_is (some (n, rest)) (some x) e)) (record { shorter = lt; few = few })
 
 abbrev refused : {T : Type 0} (x : ℕ × List ℕ) → none ≡ some (some x) → T
@@ -33,7 +34,8 @@ unfolding gap_within
 enough zero m deep bytes p q = absurd (omega arith)
 enough (suc n) zero deep bytes p q = absurd (omega arith)
 enough (suc n) (suc m) deep bytes p q =
-    let go : (o : Option (Option (ℕ × List ℕ))) → gap_step deep bytes ≡ o → (o >>= behind_blank (gap_within n) bytes) ≡ (o >>= behind_blank (gap_within m) bytes)
+    let go : (o : Option (Option (ℕ × List ℕ))) → gap_step deep bytes ≡ o
+    → (o >>= behind_blank (gap_within n) bytes) ≡ (o >>= behind_blank (gap_within m) bytes)
     = λ o. elim o as (λ o. gap_step deep bytes ≡ o → (o >>= behind_blank (gap_within n) bytes) ≡ (o >>= behind_blank (gap_within m) bytes)) [
       | None ↦ λ e. refl
       | Some i ↦ elim i as (λ i. gap_step deep bytes ≡ Some i → behind_blank (gap_within n) bytes i ≡ behind_blank (gap_within m) bytes i) [

@@ -10,6 +10,7 @@ use Rattle.pg_hoa.specs.Mirrors.FormulaRun.{postfix}
 use Rattle.pg_hoa.specs.Automata.{Automaton, IsPropositionName}
 use Rattle.pg_hoa.specs.AutomatonText.{Header, Written, Says, AtMostOne, count_of, character_code, state_counts, starts, names, acceptances, controls}
 use Rattle.pg_hoa.specs.Mirrors.Kept.{KeptHead}
+use Rattle.pg_hoa.specs.Mirrors.HeaderScan.{noted}
 use Rattle.pg_hoa.proofs.HeaderParts.{option_list}
 use Rattle.pg_hoa.proofs.HeaderLaws.{SaysHeaders}
 
@@ -23,7 +24,7 @@ said_head hs = record {
   states = first_said (flat_map state_counts hs);
   start = first_said (flat_map starts hs);
   names = first_said (map (map (map character_code)) (flat_map names hs));
-  controls = first_said (flat_map controls hs);
+  controls = first_said (map noted (flat_map controls hs));
   acceptance = first_said (map (λ x. (x.0, postfix x.1)) (flat_map acceptances hs));
 }
 
@@ -45,19 +46,22 @@ few_counted (m ∷ counts) named n is few = omega arith
 low : (xs : List ℕ) (q : ℕ) → xs ≡ q ∷ [] → q ≤ 65534 → IfSome (first_said xs) (λ m. m ≤ 65534)
 low xs q is h = rw is h
 
-few_sets : (xs : List (ℕ × Formula)) (n : ℕ) (f : Formula) → xs ≡ (n, f) ∷ [] → n ≤ 4096 → IfSome {T = ℕ × List Op} (first_said (map (λ (x : ℕ × Formula). (x.0, postfix x.1)) xs)) (λ x. x.0 ≤ 4096)
+few_sets : (xs : List (ℕ × Formula)) (n : ℕ) (f : Formula) → xs ≡ (n, f) ∷ [] → n ≤ 4096
+    → IfSome {T = ℕ × List Op} (first_said (map (λ (x : ℕ × Formula). (x.0, postfix x.1)) xs)) (λ x. x.0 ≤ 4096)
 few_sets xs n f is h = rw is h
 
 -- the names of propositions, where they are given once at most
 abbrev given : List (List (List Character)) → List (List ℕ)
 given lists = map (map character_code) (flat_map (λ x. x) lists)
 
-few_names : (lists : List (List (List Character))) → AtMostOne lists → length (given lists) ≤ 16 → IfSome (first_said (map (map (map character_code)) lists)) (λ ns. length ns ≤ 16)
+few_names : (lists : List (List (List Character))) → AtMostOne lists → length (given lists) ≤ 16
+    → IfSome (first_said (map (map (map character_code)) lists)) (λ ns. length ns ≤ 16)
 few_names [] one few = tt
 few_names (ns ∷ []) one few = rw (append-nil ns) at few
 few_names (ns ∷ ms ∷ lists) one few = absurd (omega arith)
 
-good_names : (lists : List (List (List Character))) → AtMostOne lists → AllByRecursion IsPropositionName (given lists) → IfSome (first_said (map (map (map character_code)) lists)) (λ ns. AllByRecursion IsPropositionName ns)
+good_names : (lists : List (List (List Character))) → AtMostOne lists → AllByRecursion IsPropositionName (given lists)
+    → IfSome (first_said (map (map (map character_code)) lists)) (λ ns. AllByRecursion IsPropositionName ns)
 good_names [] one good = tt
 good_names (ns ∷ []) one good = rw (append-nil ns) at good
 good_names (ns ∷ ms ∷ lists) one good = absurd (omega arith)
@@ -71,8 +75,9 @@ says_head w a s =
       states = all_said (flat_map state_counts hs) s.counted;
       start = all_said (flat_map starts hs) (one_at_most a.start (flat_map starts hs) s.start);
       names = all_said _ (same_many (map (map character_code)) (flat_map names hs) s.named);
-      controls = all_said (flat_map controls hs) s.controlled;
-      acceptance = all_said _ (same_many {B = ℕ × List Op} (λ (x : ℕ × Formula). (x.0, postfix x.1)) (flat_map acceptances hs) (one_at_most (a.sets, s.condition) (flat_map acceptances hs) s.accepted));
+      controls = all_said _ (same_many noted (flat_map controls hs) s.controlled);
+      acceptance = all_said _ (same_many {B = ℕ × List Op} (λ (x : ℕ × Formula). (x.0, postfix x.1)) (flat_map acceptances hs)
+          (one_at_most (a.sets, s.condition) (flat_map acceptances hs) s.accepted));
       few_states = few_counted (flat_map state_counts hs) _ a.states s.states s.few_states;
       low_start = low (flat_map starts hs) a.start s.start start_low;
       few_names = few_names (flat_map names hs) s.named few;

@@ -12,15 +12,19 @@ use Rattle.pg_hoa.specs.AutomatonText.{Header, state_counts, starts, names, acce
 use Rattle.pg_hoa.specs.AutomatonText as text
 use Rattle.pg_hoa.specs.Lexemes.{Character}
 use Rattle.pg_hoa.specs.Mirrors.Kept.{KeptHead}
+use Rattle.pg_hoa.specs.Mirrors.HeaderScan.{noted}
 
 -- nothing, or one
 abbrev pub option_list : {A : Type 0} → Option A → List A
 option_list None = []
 option_list (Some x) = x ∷ []
 
--- names without their backslashes, and conditions as operations
+-- names without their backslashes, numbers of propositions as they are noted, and conditions as operations
 abbrev pub read_names : Header → List (List (List ℕ))
 read_names h = map (map (map character_code)) (names h)
+
+abbrev pub read_controls : Header → List (List ℕ)
+read_controls h = map noted (controls h)
 
 abbrev pub read_acceptances : Header → List (ℕ × List Op)
 read_acceptances h = map (λ x. (x.0, postfix x.1)) (acceptances h)
@@ -30,7 +34,7 @@ pub record Adds (h : KeptHead) (hs : List Header) (k : KeptHead) : Type 0 where
   pub states : option_list k.states ≡ option_list h.states ++ flat_map state_counts hs
   pub start : option_list k.start ≡ option_list h.start ++ flat_map starts hs
   pub names : option_list k.names ≡ option_list h.names ++ flat_map read_names hs
-  pub controls : option_list k.controls ≡ option_list h.controls ++ flat_map controls hs
+  pub controls : option_list k.controls ≡ option_list h.controls ++ flat_map read_controls hs
   pub acceptance : option_list k.acceptance ≡ option_list h.acceptance ++ flat_map read_acceptances hs
 
 -- the limits that are checked as the headers are read
@@ -55,13 +59,22 @@ adds_states h n e = record { states = said h.states n e; start = unsaid _; names
 pub adds_start : (h : KeptHead) (q : ℕ) → h.start ≡ None → Adds h (text.start q ∷ []) (record h { start = Some q })
 adds_start h q e = record { states = unsaid _; start = said h.start q e; names = unsaid _; controls = unsaid _; acceptance = unsaid _ }
 
-pub adds_names : (h : KeptHead) (ns : List (List Character)) → h.names ≡ None → Adds h (text.propositions ns ∷ []) (record h { names = Some (map (map character_code) ns) })
-adds_names h ns e = record { states = unsaid _; start = unsaid _; names = said h.names (map (map character_code) ns) e; controls = unsaid _; acceptance = unsaid _ }
+pub adds_names : (h : KeptHead) (ns : List (List Character)) → h.names ≡ None
+    → Adds h (text.propositions ns ∷ []) (record h { names = Some (map (map character_code) ns) })
+adds_names h ns e = record {
+  states = unsaid _;
+  start = unsaid _;
+  names = said h.names (map (map character_code) ns) e;
+  controls =
+      unsaid _;
+  acceptance = unsaid _;
+}
 
-pub adds_controls : (h : KeptHead) (ns : List ℕ) → h.controls ≡ None → Adds h (text.controllable ns ∷ []) (record h { controls = Some ns })
-adds_controls h ns e = record { states = unsaid _; start = unsaid _; names = unsaid _; controls = said h.controls ns e; acceptance = unsaid _ }
+pub adds_controls : (h : KeptHead) (ns : List ℕ) → h.controls ≡ None → Adds h (text.controllable ns ∷ []) (record h { controls = Some (noted ns) })
+adds_controls h ns e = record { states = unsaid _; start = unsaid _; names = unsaid _; controls = said h.controls (noted ns) e; acceptance = unsaid _ }
 
-pub adds_acceptance : (h : KeptHead) (n : ℕ) (f : Formula) → h.acceptance ≡ None → Adds h (text.acceptance n f ∷ []) (record h { acceptance = Some (n, postfix f) })
+pub adds_acceptance : (h : KeptHead) (n : ℕ) (f : Formula) → h.acceptance ≡ None
+    → Adds h (text.acceptance n f ∷ []) (record h { acceptance = Some (n, postfix f) })
 adds_acceptance h n f e = record { states = unsaid _; start = unsaid _; names = unsaid _; controls = unsaid _; acceptance = said h.acceptance (n, postfix f) e }
 
 pub adds_nothing : (h : KeptHead) (name : List ℕ) (values : List text.Value) → Adds h (text.skipped name values ∷ []) h
@@ -70,11 +83,20 @@ adds_nothing h name values = record { states = unsaid _; start = unsaid _; names
 pub adds_none : (h : KeptHead) → Adds h [] h
 adds_none h = record { states = unsaid _; start = unsaid _; names = unsaid _; controls = unsaid _; acceptance = unsaid _ }
 
-joined : {A : Type 0} (f : Header → List A) (a b c : List A) (one : Header) (hs : List Header) → b ≡ a ++ flat_map f (one ∷ []) → c ≡ b ++ flat_map f hs → c ≡ a ++ flat_map f (one ∷ hs)
+joined : {A : Type 0} (f : Header → List A) (a b c : List A) (one : Header) (hs : List Header) → b ≡ a ++ flat_map f (one ∷ [])
+    → c ≡ b ++ flat_map f hs → c ≡ a ++ flat_map f (one ∷ hs)
 joined {A = A} f a b c one hs p q = q ∙ ap (λ (l : List A). l ++ flat_map f hs) p ∙ simp (append-nil, append_assoc)
 
 pub adds_more : (h k m : KeptHead) (one : Header) (hs : List Header) → Adds h (one ∷ []) k → Adds k hs m → Adds h (one ∷ hs) m
-adds_more h k m one hs p q = grind (arith, nat_tests, joined state_counts _ _ _ one hs p.states q.states, joined starts _ _ _ one hs p.start q.start, joined read_names _ _ _ one hs p.names q.names, joined controls _ _ _ one hs p.controls q.controls, joined read_acceptances _ _ _ one hs p.acceptance q.acceptance)
+adds_more h k m one hs p q = grind (
+  arith,
+  nat_tests,
+  joined state_counts _ _ _ one hs p.states q.states,
+  joined starts _ _ _ one hs p.start q.start,
+  joined read_names _ _ _ one hs p.names q.names,
+  joined read_controls _ _ _ one hs p.controls q.controls,
+  joined read_acceptances _ _ _ one hs p.acceptance q.acceptance,
+)
 
 -- ---- one header less
 
@@ -101,13 +123,16 @@ first_states h k n hs a = grind (arith, nat_tests, says_first k.states h.states 
 pub first_start : (h k : KeptHead) (q : ℕ) (hs : List Header) → Adds h (text.start q ∷ hs) k → FirstOf h.start k.start q (record h { start = Some q }) hs k
 first_start h k q hs a = grind (arith, nat_tests, says_first k.start h.start q (flat_map starts hs) a.start)
 
-pub first_names : (h k : KeptHead) (ns : List (List Character)) (hs : List Header) → Adds h (text.propositions ns ∷ hs) k → FirstOf h.names k.names (map (map character_code) ns) (record h { names = Some (map (map character_code) ns) }) hs k
+pub first_names : (h k : KeptHead) (ns : List (List Character)) (hs : List Header) → Adds h (text.propositions ns ∷ hs) k
+    → FirstOf h.names k.names (map (map character_code) ns) (record h { names = Some (map (map character_code) ns) }) hs k
 first_names h k ns hs a = grind (arith, nat_tests, says_first k.names h.names (map (map character_code) ns) (flat_map read_names hs) a.names)
 
-pub first_controls : (h k : KeptHead) (ns : List ℕ) (hs : List Header) → Adds h (text.controllable ns ∷ hs) k → FirstOf h.controls k.controls ns (record h { controls = Some ns }) hs k
-first_controls h k ns hs a = grind (arith, nat_tests, says_first k.controls h.controls ns (flat_map controls hs) a.controls)
+pub first_controls : (h k : KeptHead) (ns : List ℕ) (hs : List Header) → Adds h (text.controllable ns ∷ hs) k
+    → FirstOf h.controls k.controls (noted ns) (record h { controls = Some (noted ns) }) hs k
+first_controls h k ns hs a = grind (arith, nat_tests, says_first k.controls h.controls (noted ns) (flat_map read_controls hs) a.controls)
 
-pub first_acceptance : (h k : KeptHead) (n : ℕ) (f : Formula) (hs : List Header) → Adds h (text.acceptance n f ∷ hs) k → FirstOf h.acceptance k.acceptance (n, postfix f) (record h { acceptance = Some (n, postfix f) }) hs k
+pub first_acceptance : (h k : KeptHead) (n : ℕ) (f : Formula) (hs : List Header) → Adds h (text.acceptance n f ∷ hs) k
+    → FirstOf h.acceptance k.acceptance (n, postfix f) (record h { acceptance = Some (n, postfix f) }) hs k
 first_acceptance h k n f hs a = grind (arith, nat_tests, says_first k.acceptance h.acceptance (n, postfix f) (flat_map read_acceptances hs) a.acceptance)
 
 pub none_first : (h k : KeptHead) (name : List ℕ) (values : List text.Value) (hs : List Header) → Adds h (text.skipped name values ∷ hs) k → Adds h hs k
@@ -122,9 +147,17 @@ option_same (Some x) (Some q) e = cc
 abbrev head_of : Option ℕ → Option ℕ → Option (List (List ℕ)) → Option (List ℕ) → Option (ℕ × List Op) → KeptHead
 head_of states start names controls acceptance = record { states = states; start = start; names = names; controls = controls; acceptance = acceptance }
 
-same_head : (states states2 start start2 : Option ℕ) (names names2 : Option (List (List ℕ))) (controls controls2 : Option (List ℕ)) (acceptance acceptance2 : Option (ℕ × List Op)) → states ≡ states2 → start ≡ start2 → names ≡ names2 → controls ≡ controls2 → acceptance ≡ acceptance2 → head_of states start names controls acceptance ≡ head_of states2 start2 names2 controls2 acceptance2
+same_head : (states states2 start start2 : Option ℕ) (names names2 : Option (List (List ℕ))) (controls controls2 : Option (List ℕ)) (acceptance acceptance2 : Option (ℕ × List Op))
+    → states ≡ states2 → start ≡ start2 → names ≡ names2 → controls ≡ controls2 → acceptance ≡ acceptance2
+    → head_of states start names controls acceptance ≡ head_of states2 start2 names2 controls2 acceptance2
 same_head states states2 start start2 names names2 controls controls2 acceptance acceptance2 p q r s t = cc
 
 -- where no header is left the heads are the same
 pub all_said : (h k : KeptHead) → Adds h [] k → h ≡ k
-all_said h k a = grind (arith, nat_tests, same_head h.states k.states h.start k.start h.names k.names h.controls k.controls h.acceptance k.acceptance (option_same h.states k.states a.states) (option_same h.start k.start a.start) (option_same h.names k.names a.names) (option_same h.controls k.controls a.controls) (option_same h.acceptance k.acceptance a.acceptance))
+all_said h k a = grind (
+  arith,
+  nat_tests,
+  same_head h.states k.states h.start k.start h.names k.names h.controls k.controls h.acceptance k.acceptance
+      (option_same h.states k.states a.states) (option_same h.start k.start a.start) (option_same h.names k.names a.names)
+      (option_same h.controls k.controls a.controls) (option_same h.acceptance k.acceptance a.acceptance),
+)

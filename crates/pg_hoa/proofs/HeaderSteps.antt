@@ -42,18 +42,21 @@ pub headers_end : (h : KeptHead) (ts after : List Lexeme) → first ts ≡ Some 
 unfolding headers_from headers_within
 headers_end h ts after e = rw (first_token ts body after e) refl
 
-pub headers_more : (h : KeptHead) (name : List ℕ) (ts after : List Lexeme) (x : KeptHead × List Lexeme) → first ts ≡ Some (Some (header name), after) → header_at h name after ≡ Some x → headers_from h ts ≡ headers_from x.0 x.1
+pub headers_more : (h : KeptHead) (name : List ℕ) (ts after : List Lexeme) (x : KeptHead × List Lexeme)
+    → first ts ≡ Some (Some (header name), after) → header_at h name after ≡ Some x → headers_from h ts ≡ headers_from x.0 x.1
 unfolding headers_from headers_within
 headers_more h name ts after x e f =
     let shorter = header_shorter h name after x f in
     rw (first_token ts (header name) after e, f) (enough (suc (length after)) (suc (length x.1)) x.0 x.1 (omega arith) (omega arith))
 
-pub header_fails : (refusal : Refusal) (h : KeptHead) (name : List ℕ) (ts after : List Lexeme) → first ts ≡ Some (Some (header name), after) → Fails refusal (header_at h name after) → Fails refusal (headers_from h ts)
+pub header_fails : (refusal : Refusal) (h : KeptHead) (name : List ℕ) (ts after : List Lexeme) → first ts ≡ Some (Some (header name), after)
+    → Fails refusal (header_at h name after) → Fails refusal (headers_from h ts)
 unfolding headers_from headers_within
 header_fails Memory h name ts after e f = tt
 header_fails (Wrong fault) h name ts after e f = rw (first_token ts (header name) after e, f) refl
 
-pub fewer : (h : KeptHead) (name : List ℕ) (ts after : List Lexeme) (x : KeptHead × List Lexeme) → first ts ≡ Some (Some (header name), after) → header_at h name after ≡ Some x → length x.1 < length ts
+pub fewer : (h : KeptHead) (name : List ℕ) (ts after : List Lexeme) (x : KeptHead × List Lexeme)
+    → first ts ≡ Some (Some (header name), after) → header_at h name after ≡ Some x → length x.1 < length ts
 fewer h name ts after x e f = grind (arith, nat_tests, header_shorter h name after x f, first_token ts (header name) after e)
 
 -- what may stand there is a header or the end of the headers

@@ -1,5 +1,6 @@
 -- The values of headers: what is read is written there, and what is written there is read.
-use Rattle.std.proofs.Common.{◌≡◌, ℕ, suc, zero, Bool, true, false, List, [], ◌∷◌, ◌++◌, length, map, Some, refl, sym, ap, subst, ◌∙◌, arith, append_assoc, inl, inr}
+use Rattle.std.proofs.Common.{◌≡◌, ℕ, suc, zero, Bool, true, false, List, [], ◌∷◌, ◌++◌, length, map, Some, refl, sym, ap, subst, ◌∙◌}
+use Rattle.std.proofs.Common.{arith, append_assoc, inl, inr}
 use Rattle.std.specs.Prelude.{nat_le, if◌then◌else◌, ◌==◌}
 use Rattle.std.specs.List.{list_all, AllByRecursion}
 use Rattle.std.proofs.lemmas.List.{append-nil}
@@ -134,12 +135,14 @@ quoted_take (string s ∷ rest) x e =
     let name = map character_code s in
     let found = bind_some (if is_name name then some name else none) (λ (n : List ℕ). some (n, rest)) x e in
     elim (chosen (is_name name) (some name) none (some found.0) found.1) [
-      | inl c ↦ subst (TakesName (string s ∷ rest)) (ap (λ (n : List ℕ). (n, rest)) (some_is name found.0 c.1) ∙ some_is (found.0, rest) x found.2) (record { name = s; is = refl; said = refl; good = good_name name c.0 })
+      | inl c ↦ subst (TakesName (string s ∷ rest)) (ap (λ (n : List ℕ). (n, rest)) (some_is name found.0 c.1) ∙ some_is
+          (found.0, rest) x found.2) (record { name = s; is = refl; said = refl; good = good_name name c.0 })
       | inr c ↦ absurd (none_is_some found.0 c.1)
     ]
 quoted_take _ x e = absurd (none_is_some x e)
 
-quoted_again : (s : List Character) (rest : List Lexeme) → IsPropositionName (map character_code s) → quoted_at (string s ∷ rest) ≡ Some (map character_code s, rest)
+quoted_again : (s : List Character) (rest : List Lexeme) → IsPropositionName (map character_code s)
+    → quoted_at (string s ∷ rest) ≡ Some (map character_code s, rest)
 unfolding quoted_at name_of
 quoted_again s rest h = rw (good_name_again (map character_code s) h) refl
 
@@ -150,7 +153,8 @@ pub record TakesNames (n : ℕ) (before : List (List ℕ)) (tokens : List Lexeme
   pub added : x.0 ≡ before ++ map (map character_code) names
   pub good : AllByRecursion IsPropositionName (map (map character_code) names)
 
-pub names_take : (n : ℕ) (before : List (List ℕ)) (tokens : List Lexeme) (x : List (List ℕ) × List Lexeme) → names_from n before tokens ≡ Some x → TakesNames n before tokens x
+pub names_take : (n : ℕ) (before : List (List ℕ)) (tokens : List Lexeme) (x : List (List ℕ) × List Lexeme)
+    → names_from n before tokens ≡ Some x → TakesNames n before tokens x
 unfolding names_from
 names_take zero before tokens x e = grind (arith, nat_tests, some_is (before, tokens) x e, append-nil before)
 names_take (suc n) before tokens x e =
@@ -161,11 +165,20 @@ names_take (suc n) before tokens x e =
       names = one.name ∷ more.names;
       count = ap suc more.count;
       is = one.is ∙ ap (λ (ts : List Lexeme). string one.name ∷ ts) more.is;
-      added = more.added ∙ append_assoc before (found.0.0 ∷ []) (map (map character_code) more.names) ∙ ap (λ (name : List ℕ). before ++ (name ∷ map (map character_code) more.names)) one.said;
+      added = more.added ∙ append_assoc before (found.0.0 ∷ []) (map (map character_code) more.names)
+          ∙ ap (λ (name : List ℕ). before ++ (name ∷ map (map character_code) more.names)) one.said;
       good = (subst IsPropositionName one.said one.good, more.good);
     }
 
-pub names_again : (names : List (List Character)) (before : List (List ℕ)) (rest : List Lexeme) → AllByRecursion IsPropositionName (map (map character_code) names) → names_from (length names) before (map string names ++ rest) ≡ Some (before ++ map (map character_code) names, rest)
+pub names_again : (names : List (List Character)) (before : List (List ℕ)) (rest : List Lexeme)
+    → AllByRecursion IsPropositionName (map (map character_code) names)
+    → names_from (length names) before (map string names ++ rest) ≡ Some (before ++ map (map character_code) names, rest)
 unfolding names_from
 names_again [] before rest h = ap (λ (ns : List (List ℕ)). some (ns, rest)) (sym (append-nil before))
-names_again (s ∷ names) before rest h = grind (arith, nat_tests, quoted_again s (map string names ++ rest) h.0, names_again names (before ++ (map character_code s ∷ [])) rest h.1, append_assoc before (map character_code s ∷ []) (map (map character_code) names))
+names_again (s ∷ names) before rest h = grind (
+  arith,
+  nat_tests,
+  quoted_again s (map string names ++ rest) h.0,
+  names_again names (before ++ (map character_code s ∷ [])) rest h.1,
+  append_assoc before (map character_code s ∷ []) (map (map character_code) names),
+)

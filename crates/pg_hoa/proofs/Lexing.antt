@@ -1,5 +1,6 @@
 -- The tokens of the bytes, one after another.
-use Rattle.std.proofs.Common.{◌≡◌, ℕ, zero, suc, ◌≤◌, ◌<◌, true, false, eqb, List, [], ◌∷◌, length, length-append, Option, Some, None, refl, sym, ap, ◌∙◌, arith}
+use Rattle.std.proofs.Common.{◌≡◌, ℕ, zero, suc, ◌≤◌, ◌<◌, true, false, eqb, List, [], ◌∷◌, length, length-append, Option, Some, None, refl}
+use Rattle.std.proofs.Common.{sym, ap, ◌∙◌, arith}
 use Rattle.std.specs.List.{flat_map}
 use Rattle.std.proofs.lemmas.Bool.{eqb-true}
 use Rattle.pg_hoa.specs.Lexemes.{blank_bytes, Lexeme, stray}
@@ -32,10 +33,12 @@ unfolding lex_within
 enough zero m bytes p q = absurd (omega arith)
 enough (suc n) zero bytes p q = absurd (omega arith)
 enough (suc n) (suc m) bytes p q =
-    let token : (b : ℕ) (mid : List ℕ) → length (b ∷ mid) ≤ length bytes → (o : Option (Lexeme × List ℕ)) → solid_at (b ∷ mid) ≡ o → behind_token (lex_within n) o ≡ behind_token (lex_within m) o
+    let token : (b : ℕ) (mid : List ℕ) → length (b ∷ mid) ≤ length bytes → (o : Option (Lexeme × List ℕ)) → solid_at (b ∷ mid) ≡ o
+    → behind_token (lex_within n) o ≡ behind_token (lex_within m) o
     = λ b mid le o. elim o as (λ o. solid_at (b ∷ mid) ≡ o → behind_token (lex_within n) o ≡ behind_token (lex_within m) o) [
       | None ↦ λ e. refl
-      | Some x ↦ λ e. let lt = solid_shrinks (b ∷ mid) x e in ap (λ (ts : List Lexeme). x.0 ∷ ts) (enough n m x.1 (omega (arith, lt, le)) (omega (arith, lt, le)))
+      | Some x ↦ λ e. let lt = solid_shrinks (b ∷ mid) x e in ap (λ (ts : List Lexeme). x.0 ∷ ts)
+          (enough n m x.1 (omega (arith, lt, le)) (omega (arith, lt, le)))
     ] in
     let gap : (o : Option (List ℕ)) → gap_from 0 bytes ≡ o → behind_gap (lex_within n) o ≡ behind_gap (lex_within m) o
     = λ o. elim o as (λ o. gap_from 0 bytes ≡ o → behind_gap (lex_within n) o ≡ behind_gap (lex_within m) o) [
@@ -59,7 +62,8 @@ pub lex_wrong : (bytes : List ℕ) (b : ℕ) (mid : List ℕ) → gap_from 0 byt
 unfolding lex lex_within
 lex_wrong bytes b mid e h = rw (e, h) refl
 
-pub lex_more : (bytes : List ℕ) (b : ℕ) (mid : List ℕ) (t : Lexeme) (rest : List ℕ) → gap_from 0 bytes ≡ Some (b ∷ mid) → solid_at (b ∷ mid) ≡ Some (t, rest) → lex bytes ≡ t ∷ lex rest
+pub lex_more : (bytes : List ℕ) (b : ℕ) (mid : List ℕ) (t : Lexeme) (rest : List ℕ) → gap_from 0 bytes ≡ Some (b ∷ mid)
+    → solid_at (b ∷ mid) ≡ Some (t, rest) → lex bytes ≡ t ∷ lex rest
 unfolding lex lex_within
 lex_more bytes b mid t rest e h =
     let le = gap_shrinks bytes (b ∷ mid) e in
@@ -76,7 +80,8 @@ pub gap_unread : (refusal : Refusal) (bytes : List ℕ) → Fails refusal (gap_f
 gap_unread Memory bytes h = tt
 gap_unread (Wrong fault) bytes h = ap first (lex_fails bytes h)
 
-pub token_unread : (refusal : Refusal) (bytes mid : List ℕ) → gap_from 0 bytes ≡ Some mid → eqb (length mid) 0 ≡ false → Fails refusal (solid_at mid) → Fails refusal (first (lex bytes))
+pub token_unread : (refusal : Refusal) (bytes mid : List ℕ) → gap_from 0 bytes ≡ Some mid → eqb (length mid) 0 ≡ false
+    → Fails refusal (solid_at mid) → Fails refusal (first (lex bytes))
 token_unread refusal bytes [] e lt h = absurd cc
 token_unread Memory bytes (b ∷ mid) e lt h = tt
 token_unread (Wrong fault) bytes (b ∷ mid) e lt h = ap first (lex_wrong bytes b mid e h)
@@ -86,7 +91,8 @@ unfolding gap_from gap_within gap_step
 ended bytes [] e z = ap first (lex_ends bytes e) ∙ ap (λ (ts : List Lexeme). Some (None, ts)) (sym (lex_ends [] refl))
 ended bytes (b ∷ mid) e z = let y : length (b ∷ mid) ≡ 0 = eqb-true (length (b ∷ mid)) 0 z in absurd (omega arith)
 
-pub token_read : (bytes mid : List ℕ) (t : Token) (rest : List ℕ) → gap_from 0 bytes ≡ Some mid → solid_at mid ≡ Some (lexeme t, rest) → first (lex bytes) ≡ Some (Some (lexeme t), lex rest)
+pub token_read : (bytes mid : List ℕ) (t : Token) (rest : List ℕ) → gap_from 0 bytes ≡ Some mid → solid_at mid ≡ Some (lexeme t, rest)
+    → first (lex bytes) ≡ Some (Some (lexeme t), lex rest)
 unfolding solid_at
 token_read bytes [] t rest e h = absurd (none_is_some (lexeme t, rest) h)
 token_read bytes (b ∷ mid) t rest e h = ap first (lex_more bytes b mid (lexeme t) rest e h) ∙ first_lexeme t (lex rest)

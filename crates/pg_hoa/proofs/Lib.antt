@@ -1,3 +1,4 @@
+pub mod Acts
 pub mod Assembling
 pub mod BodyLaws
 pub mod BodyTurns
@@ -16,8 +17,10 @@ pub mod HeaderSteps
 pub mod HeaderTurns
 pub mod HeaderValues
 pub mod Keeping
+pub mod KeptEdges
 pub mod Lexing
 pub mod Lists
+pub mod Noting
 pub mod OneReading
 pub mod ReadCan
 pub mod ReadParts
@@ -27,6 +30,7 @@ pub mod ReadSpeltLines
 pub mod Refusing
 pub mod Rows
 pub mod Saying
+pub mod SetLists
 pub mod Settles
 pub mod ShapeFinds
 pub mod ShapeLaws

@@ -95,25 +95,38 @@ headers_never Memory tokens f = tt
 headers_never (Wrong fault) tokens f = λ h s lines r. none_is_some (h, r.behind) (sym f ∙ r.headers)
 
 -- there is one head, and the same tokens stand behind it
-same_head : (tokens behind more : List Lexeme) (h k : KeptHead) → headers_at tokens ≡ Some (h, behind) → headers_at tokens ≡ Some (k, more) → (k ≡ h) × (more ≡ behind)
-same_head tokens behind more h k e d = let pair = some_is (k, more) (h, behind) (sym d ∙ e) in (ap (λ (x : KeptHead × List Lexeme). x.0) pair, ap (λ (x : KeptHead × List Lexeme). x.1) pair)
+same_head : (tokens behind more : List Lexeme) (h k : KeptHead) → headers_at tokens ≡ Some (h, behind) → headers_at tokens ≡ Some (k, more)
+    → (k ≡ h) × (more ≡ behind)
+same_head tokens behind more h k e d = let pair = some_is (k, more) (h, behind) (sym d ∙ e) in
+    (ap (λ (x : KeptHead × List Lexeme). x.0) pair, ap (λ (x : KeptHead × List Lexeme). x.1) pair)
 
-settled_too : (tokens behind : List Lexeme) (h k : KeptHead) (s : Settled) (lines : List KeptLine) → headers_at tokens ≡ Some (h, behind) → Reads tokens k s lines → IsSettled h s
+settled_too : (tokens behind : List Lexeme) (h k : KeptHead) (s : Settled) (lines : List KeptLine) → headers_at tokens ≡ Some (h, behind)
+    → Reads tokens k s lines → IsSettled h s
 settled_too tokens behind h k s lines e r = subst (λ (g : KeptHead). IsSettled g s) (same_head tokens behind r.behind h k e r.headers).0 r.settled
 
-pub settle_never : (refusal : Refusal) (tokens behind : List Lexeme) (h : KeptHead) → headers_at tokens ≡ Some (h, behind) → NeverSettled h refusal → NeverReads tokens refusal
+pub settle_never : (refusal : Refusal) (tokens behind : List Lexeme) (h : KeptHead) → headers_at tokens ≡ Some (h, behind)
+    → NeverSettled h refusal → NeverReads tokens refusal
 settle_never Memory tokens behind h e never = tt
 settle_never (Wrong fault) tokens behind h e never = λ k s lines r. never s (settled_too tokens behind h k s lines e r)
 
 -- whatever is read has these lines in its body
-same_body : (tokens behind : List Lexeme) (h k : KeptHead) (s t : Settled) (lines : List KeptLine) → headers_at tokens ≡ Some (h, behind) → IsSettled h s → Reads tokens k t lines → body_at (bound s.states) (length s.names) s.sets behind ≡ some (lines, [])
-same_body tokens behind h k s t lines e i r = grind (arith, nat_tests, settled_once h s t i (settled_too tokens behind h k t lines e r), same_head tokens behind r.behind h k e r.headers)
+same_body : (tokens behind : List Lexeme) (h k : KeptHead) (s t : Settled) (lines : List KeptLine) → headers_at tokens ≡ Some (h, behind)
+    → IsSettled h s → Reads tokens k t lines → body_at (bound s.states) (length s.names) s.sets behind ≡ some (lines, [])
+same_body tokens behind h k s t lines e i r = grind (
+  arith,
+  nat_tests,
+  settled_once h s t i (settled_too tokens behind h k t lines e r),
+  same_head tokens behind r.behind h k e r.headers,
+)
 
-pub body_never : (refusal : Refusal) (tokens behind : List Lexeme) (h : KeptHead) (s : Settled) → headers_at tokens ≡ Some (h, behind) → IsSettled h s → Fails refusal (body_at (bound s.states) (length s.names) s.sets behind) → NeverReads tokens refusal
+pub body_never : (refusal : Refusal) (tokens behind : List Lexeme) (h : KeptHead) (s : Settled) → headers_at tokens ≡ Some (h, behind)
+    → IsSettled h s → Fails refusal (body_at (bound s.states) (length s.names) s.sets behind) → NeverReads tokens refusal
 body_never Memory tokens behind h s e i f = tt
 body_never (Wrong fault) tokens behind h s e i f = λ k t lines r. none_is_some (lines, []) (sym f ∙ same_body tokens behind h k s t lines e i r)
 
-pub end_never : (refusal : Refusal) (tokens behind rest : List Lexeme) (h : KeptHead) (s : Settled) (lines : List KeptLine) → headers_at tokens ≡ Some (h, behind) → IsSettled h s → body_at (bound s.states) (length s.names) s.sets behind ≡ Some (lines, rest) → Fails refusal (nothing_at rest) → NeverReads tokens refusal
+pub end_never : (refusal : Refusal) (tokens behind rest : List Lexeme) (h : KeptHead) (s : Settled) (lines : List KeptLine)
+    → headers_at tokens ≡ Some (h, behind) → IsSettled h s → body_at (bound s.states) (length s.names) s.sets behind ≡ Some (lines, rest)
+    → Fails refusal (nothing_at rest) → NeverReads tokens refusal
 end_never Memory tokens behind rest h s lines e i b f = tt
 end_never (Wrong fault) tokens behind rest h s lines e i b f = grind (arith, nat_tests)
 
@@ -123,7 +136,9 @@ nothing_left : (rest : List Lexeme) → nothing_at rest ≡ Some 0 → rest ≡ 
 nothing_left [] e = refl
 nothing_left (t ∷ rest) e = absurd (none_is_some 0 e)
 
-pub all_read : (tokens behind rest : List Lexeme) (h : KeptHead) (s : Settled) (lines : List KeptLine) → headers_at tokens ≡ Some (h, behind) → IsSettled h s → body_at (bound s.states) (length s.names) s.sets behind ≡ Some (lines, rest) → nothing_at rest ≡ Some 0 → Reads tokens h s lines
+pub all_read : (tokens behind rest : List Lexeme) (h : KeptHead) (s : Settled) (lines : List KeptLine)
+    → headers_at tokens ≡ Some (h, behind) → IsSettled h s → body_at (bound s.states) (length s.names) s.sets behind ≡ Some (lines, rest)
+    → nothing_at rest ≡ Some 0 → Reads tokens h s lines
 all_read tokens behind rest h s lines e i b n = grind (arith, nat_tests, nothing_left rest n)
 
 if_some : {A : Type 0} (P : A → Type 0) (o : Option A) (x : A) → o ≡ Some x → IfSome o P → P x
@@ -137,20 +152,24 @@ reads_can tokens h s lines r =
     let low : s.start ≤ 65534 = if_some (λ (q : ℕ). q ≤ 65534) h.start s.start i.start says.low_start in
     let below : StartsBelow s.start s.states = subst (StartsBelow s.start) (sym i.states) i.start_below in
     let few = few_states tokens (h, r.behind) s r.headers i in
-    let kept_few : AreCounted (states_in s.states s.start (map line_kept body.lines)) s.start (map line_kept body.lines) = are_counted s.states s.start (length s.names) s.sets body.lines few low below body.fit in
-    let all : AreCounted (states_in s.states s.start lines) s.start lines = subst (λ (ls : List KeptLine). AreCounted (states_in s.states s.start ls) s.start ls) body.kept kept_few in
+    let kept_few : AreCounted (states_in s.states s.start (map line_kept body.lines)) s.start (map line_kept body.lines) =
+    are_counted s.states s.start (length s.names) s.sets body.lines few low below body.fit in
+    let all : AreCounted (states_in s.states s.start lines) s.start lines =
+    subst (λ (ls : List KeptLine). AreCounted (states_in s.states s.start ls) s.start ls) body.kept kept_few in
     let controls = listed h.controls in
     record {
       start_below = all.start_below;
       few_states = all.few;
       few_propositions = few_names tokens (h, r.behind) s r.headers i;
       few_sets = if_some (λ (x : ℕ × List Op). x.0 ≤ 4096) h.acceptance (kept (s.sets, i.condition)) i.acceptance says.few_sets;
-      marks = ap length i.controllable ∙ length-map-range_with_len (λ (p : ℕ). list_any (λ (n : ℕ). n == p) controls) 0 (length (listed h.names)) ∙ ap length (sym i.names);
+      marks = ap length i.controllable ∙ length-map-range_with_len (λ (p : ℕ). list_any (λ (n : ℕ). n == p) controls) 0
+          (length (listed h.names)) ∙ ap length (sym i.names);
       low_start = omega arith;
       below = all.below;
       names = subst (λ (ns : List (List ℕ)). AllByRecursion IsPropositionName ns) (sym i.names) (good_names h.names says.good_names);
       condition = i.condition;
       shape = i.shape.fits;
       steps = λ state letter. kept_good (states_in s.states s.start lines) (length s.names) s.sets state letter body.lines lines body.kept
-          (subst (λ (ls : List KeptLine). AllByRecursion (LineFits (states_in s.states s.start ls) (length s.names) s.sets) body.lines) body.kept (states_fit s.states s.start (length s.names) s.sets body.lines body.fit));
+          (subst (λ (ls : List KeptLine). AllByRecursion (LineFits (states_in s.states s.start ls)
+          (length s.names) s.sets) body.lines) body.kept (states_fit s.states s.start (length s.names) s.sets body.lines body.fit));
     }

@@ -1,5 +1,5 @@
 -- What headers say that stand at most once.
-use Rattle.std.proofs.Common.{◌≡◌, ◌∙◌, ℕ, List, [], ◌∷◌, map, Option, Some, None, refl, sym, ap, subst, arith}
+use Rattle.std.proofs.Common.{◌≡◌, ◌∙◌, ℕ, List, [], ◌∷◌, map, Option, Some, None, refl, ap, subst, arith}
 use Rattle.std.proofs.lemmas.Bool.Decides.{nat_tests}
 use Rattle.std.specs.Prelude.{IfSome}
 use Rattle.std.specs.List.{flat_map, AllByRecursion}
@@ -13,6 +13,7 @@ use Rattle.pg_hoa.specs.Shapes.{HasShape}
 use Rattle.pg_hoa.specs.Automata.{IsPropositionName}
 use Rattle.pg_hoa.specs.AutomatonText.{StateLine, AtMostOne, character_code, count_of, line_numbers}
 use Rattle.pg_hoa.specs.Mirrors.Kept.{line_kept}
+use Rattle.pg_hoa.specs.Mirrors.HeaderScan.{noted}
 use Rattle.pg_hoa.specs.Mirrors.Settling.{listed}
 use Rattle.pg_hoa.specs.Mirrors.Readings.{states_in}
 use Rattle.pg_hoa.proofs.HeaderParts.{option_list}
@@ -31,16 +32,19 @@ mapped_once f o xs e = omega (arith, once o (map f xs) e, length-map xs f)
 
 -- ---- states
 
-counted_in : (states : Option ℕ) (start : ℕ) (lines : List StateLine) → states_in states start (map line_kept lines) ≡ count_of (option_list states) (start ∷ flat_map line_numbers lines)
+counted_in : (states : Option ℕ) (start : ℕ) (lines : List StateLine)
+    → states_in states start (map line_kept lines) ≡ count_of (option_list states) (start ∷ flat_map line_numbers lines)
 counted_in None start lines = kept_count_is start lines
 counted_in (Some n) start lines = refl
 
-pub states_are : (states : Option ℕ) (counts : List ℕ) (start : ℕ) (lines : List StateLine) → option_list states ≡ counts → states_in states start (map line_kept lines) ≡ count_of counts (start ∷ flat_map line_numbers lines)
+pub states_are : (states : Option ℕ) (counts : List ℕ) (start : ℕ) (lines : List StateLine) → option_list states ≡ counts
+    → states_in states start (map line_kept lines) ≡ count_of counts (start ∷ flat_map line_numbers lines)
 states_are states counts start lines e = counted_in states start lines ∙ ap (λ (ns : List ℕ). count_of ns (start ∷ flat_map line_numbers lines)) e
 
 -- ---- propositions
 
-pub names_are : (o : Option (List (List ℕ))) (lists : List (List (List Character))) → option_list o ≡ map (map (map character_code)) lists → listed o ≡ map (map character_code) (flat_map (λ x. x) lists)
+pub names_are : (o : Option (List (List ℕ))) (lists : List (List (List Character))) → option_list o ≡ map (map (map character_code)) lists
+    → listed o ≡ map (map character_code) (flat_map (λ x. x) lists)
 names_are None [] e = refl
 names_are None (ns ∷ lists) e = absurd cc
 names_are (Some names) [] e = absurd cc
@@ -51,12 +55,12 @@ pub good_names : (o : Option (List (List ℕ))) → IfSome o (λ ns. AllByRecurs
 good_names None good = tt
 good_names (Some names) good = good
 
-option_joined : {A : Type 0} (o : Option (List A)) → listed o ≡ flat_map (λ x. x) (option_list o)
-option_joined None = refl
-option_joined (Some xs) = sym (append-nil xs)
-
-pub listed_are : {A : Type 0} (o : Option (List A)) (lists : List (List A)) → option_list o ≡ lists → listed o ≡ flat_map (λ x. x) lists
-listed_are {A = A} o lists e = option_joined o ∙ ap (λ (ls : List (List A)). flat_map (λ x. x) ls) e
+pub controls_are : (o : Option (List ℕ)) (lists : List (List ℕ)) → option_list o ≡ map noted lists → listed o ≡ noted (flat_map (λ x. x) lists)
+controls_are None [] e = refl
+controls_are None (ns ∷ lists) e = absurd cc
+controls_are (Some kept) [] e = absurd cc
+controls_are (Some kept) (ns ∷ []) e = let same : kept ≡ noted ns = cc in rw (append-nil ns) same
+controls_are (Some kept) (ns ∷ ms ∷ lists) e = absurd cc
 
 -- ---- the condition
 
@@ -66,7 +70,8 @@ pub record OneCondition (conditions : List (ℕ × Formula)) (sets : ℕ) (f : F
   pub is : conditions ≡ (sets, condition) ∷ []
   pub alike : postfix f ≡ postfix condition
 
-pub one_condition : (conditions : List (ℕ × Formula)) (sets : ℕ) (f : Formula) → (sets, postfix f) ∷ [] ≡ map {B = ℕ × List Op} (λ x. (x.0, postfix x.1)) conditions → OneCondition conditions sets f
+pub one_condition : (conditions : List (ℕ × Formula)) (sets : ℕ) (f : Formula)
+    → (sets, postfix f) ∷ [] ≡ map {B = ℕ × List Op} (λ x. (x.0, postfix x.1)) conditions → OneCondition conditions sets f
 one_condition [] sets f e = absurd cc
 one_condition (x ∷ []) sets f e = grind (arith, nat_tests)
 one_condition (x ∷ y ∷ conditions) sets f e = absurd cc

@@ -34,7 +34,8 @@ pub refusal_refused : (bytes : List ℕ) (len : ℕ) (refusal : Refusal) → Nev
 refusal_refused bytes len Memory never = tt
 refusal_refused bytes len (Wrong fault) never = part_refused bytes len fault never
 
-refused : (bytes : List ℕ) (h : KeptHead) (s : Settled) (lines : List KeptLine) (fault : HoaFault) → Reads (lex bytes) h s lines → NeverAssembles s lines fault → IsRefused bytes fault
+refused : (bytes : List ℕ) (h : KeptHead) (s : Settled) (lines : List KeptLine) (fault : HoaFault) → Reads (lex bytes) h s lines
+    → NeverAssembles s lines fault → IsRefused bytes fault
 refused bytes h s lines faults.OutOfMemory r never = tt
 refused bytes h s lines (faults.NotDeterministic state letter) r never =
     let undetermined = reads_undetermined bytes h s lines state letter r never.0 never.1 in
@@ -47,10 +48,12 @@ refused bytes h s lines faults.NotParity r never = none_at_all bytes (many_say_n
 refused bytes h s lines faults.TooLarge r never = none_at_all bytes (many_say_none bytes h s lines r never)
 refused bytes h s lines (faults.BadName proposition) r never = none_at_all bytes (many_say_none bytes h s lines r never)
 
-pub whole_found : (bytes : List ℕ) (h : KeptHead) (s : Settled) (lines : List KeptLine) (answer : Result Automaton HoaFault) → Reads (lex bytes) h s lines → IfOk answer (Assembles s lines) → IfOk answer (Spelt bytes)
+pub whole_found : (bytes : List ℕ) (h : KeptHead) (s : Settled) (lines : List KeptLine) (answer : Result Automaton HoaFault)
+    → Reads (lex bytes) h s lines → IfOk answer (Assembles s lines) → IfOk answer (Spelt bytes)
 whole_found bytes h s lines (Ok a) r m = reads_spelt bytes h s lines a r m
 whole_found bytes h s lines (Err fault) r m = tt
 
-pub whole_refused : (bytes : List ℕ) (h : KeptHead) (s : Settled) (lines : List KeptLine) (answer : Result Automaton HoaFault) → Reads (lex bytes) h s lines → IfErr answer (NeverAssembles s lines) → IfErr answer (IsRefused bytes)
+pub whole_refused : (bytes : List ℕ) (h : KeptHead) (s : Settled) (lines : List KeptLine) (answer : Result Automaton HoaFault)
+    → Reads (lex bytes) h s lines → IfErr answer (NeverAssembles s lines) → IfErr answer (IsRefused bytes)
 whole_refused bytes h s lines (Ok a) r never = tt
 whole_refused bytes h s lines (Err fault) r never = refused bytes h s lines fault r never

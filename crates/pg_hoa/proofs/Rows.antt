@@ -36,7 +36,8 @@ next_viewed t q l =
       | true ↦ λ e.
           let p : q < t.states = ltb-true q t.states e in
           elim (ltb l t.letters) as (λ v. ltb l t.letters ≡ v → tables.next t q l ≡ get_or (get_or (rows (tables.next t) t.states t.letters) q []) l None) [
-            | false ↦ λ e. let h : t.letters ≤ l = ltb-false l t.letters e in beside t q l p h ∙ sym (rows_beside (tables.next t) t.states t.letters q l None p h)
+            | false ↦ λ e. let h : t.letters ≤ l = ltb-false l t.letters e in beside t q l p h
+                ∙ sym (rows_beside (tables.next t) t.states t.letters q l None p h)
             | true ↦ λ e. sym (rows_at (tables.next t) t.states t.letters q l None p (ltb-true l t.letters e))
           ] refl
     ] refl

@@ -12,8 +12,16 @@ run_append [] b on stack = refl
 run_append (op ∷ a) b on stack = run_append a b on (perform op on stack)
 
 -- two operands and their operator
-run_two : (f g : Formula) (op : Op) (on : ℕ → Bool) (stack : List Bool) → run (postfix f) on stack ≡ holds f on ∷ stack → run (postfix g) on (holds f on ∷ stack) ≡ holds g on ∷ holds f on ∷ stack → run (postfix f ++ (postfix g ++ (op ∷ []))) on stack ≡ perform op on (holds g on ∷ holds f on ∷ stack)
-run_two f g op on stack hf hg = grind (arith, nat_tests, run_append (postfix f) (postfix g ++ (op ∷ [])) on stack, run_append (postfix g) (op ∷ []) on (run (postfix f) on stack))
+run_two : (f g : Formula) (op : Op) (on : ℕ → Bool) (stack : List Bool) → run (postfix f) on stack ≡ holds f on ∷ stack
+    → run (postfix g) on (holds f on ∷ stack) ≡ holds g on ∷ holds f on ∷ stack
+    → run (postfix f ++ (postfix g ++ (op ∷ []))) on stack ≡ perform op on (holds g on ∷ holds f on ∷ stack)
+run_two f g op on stack hf hg = grind (
+  arith,
+  nat_tests,
+  run_append (postfix f) (postfix g ++ (op ∷ [])) on stack,
+  run_append (postfix g)
+      (op ∷ []) on (run (postfix f) on stack),
+)
 
 -- a formula leaves its truth on the stack
 pub postfix_runs : (f : Formula) (on : ℕ → Bool) (stack : List Bool) → run (postfix f) on stack ≡ holds f on ∷ stack

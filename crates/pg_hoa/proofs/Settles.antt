@@ -1,7 +1,7 @@
 -- What headers say together, as their lists may be absent.
-use Rattle.std.proofs.Common.{◌≡◌, ◌∙◌, ◌<◌, ℕ, List, [], map, length, Option, Some, None, sym, ap, subst, arith}
-use Rattle.std.specs.Prelude.{unwrap_or}
-use Rattle.std.specs.List.{All}
+use Rattle.std.proofs.Common.{◌≡◌, ◌∙◌, ◌<◌, ℕ, List, [], ◌∷◌, map, length, Option, Some, None, refl, sym, ap, subst, arith}
+use Rattle.std.specs.Prelude.{◌==◌, unwrap_or}
+use Rattle.std.specs.List.{All, list_any}
 use Rattle.std.proofs.Math.ListN.{get_or-map}
 use Rattle.std.proofs.lemmas.List.{length-map}
 use Rattle.pg_hoa.specs.declared.formula.Op.{Op}
@@ -18,8 +18,12 @@ pub opened : {V B : Type 0} (view : V → List B) (o : Option V) (v d : V) → v
 opened view None v d e h = ap view e ∙ h
 opened view (Some w) v d e h = ap view e
 
-abbrev numbers : List (ℕ × ℕ) → List ℕ
+abbrev pub numbers : List (ℕ × ℕ) → List ℕ
 numbers xs = map {A = ℕ × ℕ} {B = ℕ} (λ x. x.0) xs
+
+pub any_numbers : (p : ℕ) (xs : List (ℕ × ℕ)) → list_any (λ n. n == p) (numbers xs) ≡ list_any (λ (x : ℕ × ℕ). x.0 == p) xs
+any_numbers p [] = refl
+any_numbers p (x ∷ xs) = rw (any_numbers p xs) refl
 
 pub below_numbers : (xs : List (ℕ × ℕ)) (n : ℕ) → All (λ (x : ℕ × ℕ). x.0 < n) xs → All (λ (m : ℕ). m < n) (numbers xs)
 below_numbers xs n all k d lt =
@@ -35,7 +39,8 @@ abbrev kept : ℕ → List Op → Option (ℕ × List Op)
 kept n ops = Some (n, ops)
 
 -- where no shape fits, nothing is settled
-pub no_shape : (h : KeptHead) (sets : ℕ) (ops : List Op) → h.acceptance ≡ Some (sets, ops) → ((f : Formula) → postfix f ≡ ops → (shape : Shape) → FitsShape f sets shape → ⊥) → (s : Settled) → IsSettled h s → ⊥
+pub no_shape : (h : KeptHead) (sets : ℕ) (ops : List Op) → h.acceptance ≡ Some (sets, ops)
+    → ((f : Formula) → postfix f ≡ ops → (shape : Shape) → FitsShape f sets shape → ⊥) → (s : Settled) → IsSettled h s → ⊥
 no_shape h sets ops e none s i =
     let both : kept s.sets (postfix i.condition) ≡ kept sets ops = sym i.acceptance ∙ e in
     let pair = some_is (s.sets, postfix i.condition) (sets, ops) both in

@@ -1,5 +1,6 @@
 -- The finder of shapes gives the first shape that fits, if there is one.
-use Rattle.std.proofs.Common.{◌≡◌, ℕ, suc, zero, ◌+◌, ◌-◌, ◌<◌, ◌%◌, ◌==◌, Bool, true, false, cond, List, [], ◌∷◌, Option, Some, None, refl, sym, ap, subst, ◌∙◌, arith}
+use Rattle.std.proofs.Common.{◌≡◌, ℕ, suc, zero, ◌+◌, ◌-◌, ◌<◌, ◌%◌, ◌==◌, Bool, true, false, cond, List, [], ◌∷◌, Option, Some, None, refl}
+use Rattle.std.proofs.Common.{sym, ap, subst, ◌∙◌, arith}
 use Rattle.std.proofs.lemmas.Bool.Decides.{nat_tests}
 use Rattle.std.specs.Prelude.{IfSome, IfNone}
 use Rattle.pg_hoa.specs.declared.formula.Op.{Op}
@@ -28,7 +29,8 @@ max_even_nested sets (suc k) = ap (decides (is_even (suc k)) (suc k)) (max_even_
 
 max_odd_nested : (sets k : ℕ) → max_odd k ≡ nested_in MaxOdd sets k
 max_odd_nested sets zero = refl
-max_odd_nested sets (suc k) = ap (λ (b : Bool). decides b (suc k) (max_odd k)) (sym (two_more k)) ∙ ap (decides (is_even (suc (suc k))) (suc k)) (max_odd_nested sets k)
+max_odd_nested sets (suc k) = ap (λ (b : Bool). decides b (suc k) (max_odd k)) (sym (two_more k))
+    ∙ ap (decides (is_even (suc (suc k))) (suc k)) (max_odd_nested sets k)
 
 min_even_nested : (sets k more : ℕ) → sets ≡ suc (k + more) → min_even k more ≡ nested_in MinEven sets more
 min_even_nested sets k zero e = grind (arith, nat_tests)
@@ -81,7 +83,8 @@ fits_tells f k shape h =
       full = λ fits.
           let same : fits.0 ≡ form = some_is fits.0 form (sym fits.1 ∙ is) in
           let P : Formula → Type 0 = λ g. IsLike g (bare f) in
-          at ∙ ap (nests_at set wanted k) (sym (bare_postfix f)) ∙ tree_nests set wanted k k (bare f) (each_differs shape k) (omega arith) (subst P same fits.2);
+          at ∙ ap (nests_at set wanted k) (sym (bare_postfix f)) ∙ tree_nests set wanted k k (bare f) (each_differs shape k) (omega arith)
+          (subst P same fits.2);
     }
 
 -- ---- the first of four
@@ -93,18 +96,21 @@ first_max_odd : (f : Formula) (sets : ℕ) → (FitsShape f sets MaxEven → ⊥
 first_max_odd f sets a MaxEven h fits = a fits
 first_max_odd f sets a other h fits = omega arith
 
-first_min_even : (f : Formula) (sets : ℕ) → (FitsShape f sets MaxEven → ⊥) → (FitsShape f sets MaxOdd → ⊥) → (other : Shape) → place other < 2 → FitsShape f sets other → ⊥
+first_min_even : (f : Formula) (sets : ℕ) → (FitsShape f sets MaxEven → ⊥) → (FitsShape f sets MaxOdd → ⊥) → (other : Shape)
+    → place other < 2 → FitsShape f sets other → ⊥
 first_min_even f sets a b MaxEven h fits = a fits
 first_min_even f sets a b MaxOdd h fits = b fits
 first_min_even f sets a b other h fits = omega arith
 
-first_min_odd : (f : Formula) (sets : ℕ) → (FitsShape f sets MaxEven → ⊥) → (FitsShape f sets MaxOdd → ⊥) → (FitsShape f sets MinEven → ⊥) → (other : Shape) → place other < 3 → FitsShape f sets other → ⊥
+first_min_odd : (f : Formula) (sets : ℕ) → (FitsShape f sets MaxEven → ⊥) → (FitsShape f sets MaxOdd → ⊥) → (FitsShape f sets MinEven → ⊥)
+    → (other : Shape) → place other < 3 → FitsShape f sets other → ⊥
 first_min_odd f sets a b d MaxEven h fits = a fits
 first_min_odd f sets a b d MaxOdd h fits = b fits
 first_min_odd f sets a b d MinEven h fits = d fits
 first_min_odd f sets a b d other h fits = omega arith
 
-no_other : (f : Formula) (sets : ℕ) → (FitsShape f sets MaxEven → ⊥) → (FitsShape f sets MaxOdd → ⊥) → (FitsShape f sets MinEven → ⊥) → (FitsShape f sets MinOdd → ⊥) → (other : Shape) → place other < 4 → FitsShape f sets other → ⊥
+no_other : (f : Formula) (sets : ℕ) → (FitsShape f sets MaxEven → ⊥) → (FitsShape f sets MaxOdd → ⊥) → (FitsShape f sets MinEven → ⊥)
+    → (FitsShape f sets MinOdd → ⊥) → (other : Shape) → place other < 4 → FitsShape f sets other → ⊥
 no_other f sets a b d e MaxEven h fits = a fits
 no_other f sets a b d e MaxOdd h fits = b fits
 no_other f sets a b d e MinEven h fits = d fits
@@ -119,16 +125,32 @@ pub record Finds (f : Formula) (sets : ℕ) (answer : Option Shape) : Type 0 whe
   pub found : IfSome answer (λ shape. HasShape f sets shape)
   pub none : IfNone answer ((shape : Shape) → FitsShape f sets shape → ⊥)
 
-four_finds : (f : Formula) (k : ℕ) (a b d e : Bool) → Tells f (suc k) MaxEven a → Tells f (suc k) MaxOdd b → Tells f (suc k) MinEven d → Tells f (suc k) MinOdd e → Finds f (suc k) (first_of_four a b d e)
+four_finds : (f : Formula) (k : ℕ) (a b d e : Bool) → Tells f (suc k) MaxEven a → Tells f (suc k) MaxOdd b → Tells f (suc k) MinEven d
+    → Tells f (suc k) MinOdd e → Finds f (suc k) (first_of_four a b d e)
 four_finds f k true b d e ta tb td te = record { found = record { fits = ta.right refl; first = λ other h fits. omega arith }; none = tt }
 four_finds f k false true d e ta tb td te = record { found = record { fits = tb.right refl; first = first_max_odd f (suc k) (refuted ta) }; none = tt }
-four_finds f k false false true e ta tb td te = record { found = record { fits = td.right refl; first = first_min_even f (suc k) (refuted ta) (refuted tb) }; none = tt }
-four_finds f k false false false true ta tb td te = record { found = record { fits = te.right refl; first = first_min_odd f (suc k) (refuted ta) (refuted tb) (refuted td) }; none = tt }
-four_finds f k false false false false ta tb td te = record { found = tt; none = λ shape fits. no_other f (suc k) (refuted ta) (refuted tb) (refuted td) (refuted te) shape (no_constant shape k f fits) fits }
+four_finds f k false false true e ta tb td te =
+    record { found = record { fits = td.right refl; first = first_min_even f (suc k) (refuted ta) (refuted tb) }; none = tt }
+four_finds f k false false false true ta tb td te =
+    record { found = record { fits = te.right refl; first = first_min_odd f (suc k) (refuted ta) (refuted tb) (refuted td) }; none = tt }
+four_finds f k false false false false ta tb td te =
+    record {
+      found = tt;
+      none = λ shape fits. no_other f (suc k) (refuted ta) (refuted tb) (refuted td) (refuted te) shape
+          (no_constant shape k f fits) fits;
+    }
 
-pub nested_finds : (f : Formula) (sets : ℕ) (ops : List Op) (answer : Option Shape) → (sets ≡ 0 → ⊥) → postfix f ≡ ops → answer ≡ nested_at sets ops → Finds f sets answer
+pub nested_finds : (f : Formula) (sets : ℕ) (ops : List Op) (answer : Option Shape) → (sets ≡ 0 → ⊥) → postfix f ≡ ops
+    → answer ≡ nested_at sets ops → Finds f sets answer
 nested_finds f zero ops answer some_sets e is = absurd (some_sets refl)
-nested_finds f (suc k) ops answer some_sets e is = grind (arith, nat_tests, four_finds f k (fits_at MaxEven (suc k) (postfix f)) (fits_at MaxOdd (suc k) (postfix f)) (fits_at MinEven (suc k) (postfix f)) (fits_at MinOdd (suc k) (postfix f)) (fits_tells f k MaxEven (omega arith)) (fits_tells f k MaxOdd (omega arith)) (fits_tells f k MinEven (omega arith)) (fits_tells f k MinOdd (omega arith)))
+nested_finds f (suc k) ops answer some_sets e is =
+    grind (
+      arith,
+      nat_tests,
+      four_finds f k (fits_at MaxEven (suc k) (postfix f)) (fits_at MaxOdd (suc k) (postfix f))
+          (fits_at MinEven (suc k) (postfix f)) (fits_at MinOdd (suc k) (postfix f)) (fits_tells f k MaxEven (omega arith))
+          (fits_tells f k MaxOdd (omega arith)) (fits_tells f k MinEven (omega arith)) (fits_tells f k MinOdd (omega arith)),
+    )
 
 -- ---- no set
 
@@ -157,9 +179,21 @@ neither f a b other fits = no_set f other (omega arith) fits
 
 constant_tells : (f : Formula) (ops : List Op) → postfix f ≡ ops → Finds f 0 (constant_at ops)
 constant_tells f (Yes ∷ []) e = record { found = record { fits = (yes, refl, one_tree f yes e); first = λ other h fits. no_set f other h fits }; none = tt }
-constant_tells f (No ∷ []) e = record { found = record { fits = (no, refl, one_tree f no e); first = first_never f (λ fits. let is = sym (always_is f fits) ∙ e in absurd cc) }; none = tt }
-constant_tells f ops e = record { found = tt; none = neither f (λ fits. let is = sym (always_is f fits) ∙ e in absurd cc) (λ fits. let is = sym (never_is f fits) ∙ e in absurd cc) }
+constant_tells f (No ∷ []) e = record {
+  found = record {
+    fits = (no, refl, one_tree f no e);
+    first = first_never f (λ fits. let is = sym (always_is f fits) ∙ e in
+        absurd cc);
+  };
+  none = tt;
+}
+constant_tells f ops e = record {
+  found = tt;
+  none = neither f (λ fits. let is = sym (always_is f fits) ∙ e in absurd cc) (λ fits. let is =
+      sym (never_is f fits) ∙ e in absurd cc);
+}
 
-pub constant_finds : (f : Formula) (sets : ℕ) (ops : List Op) (answer : Option Shape) → sets ≡ 0 → postfix f ≡ ops → answer ≡ constant_at ops → Finds f sets answer
+pub constant_finds : (f : Formula) (sets : ℕ) (ops : List Op) (answer : Option Shape) → sets ≡ 0 → postfix f ≡ ops
+    → answer ≡ constant_at ops → Finds f sets answer
 constant_finds f zero ops answer no_sets e is = subst (Finds f 0) (sym is) (constant_tells f ops e)
 constant_finds f (suc k) ops answer no_sets e is = absurd (omega arith)

@@ -63,7 +63,11 @@ form_says f sets shape on fits = sym (bare_says f on) ∙ sym (like_says fits.0 
 
 says_nothing : (f : Formula) (shape : Shape) (on : ℕ → Bool) → FitsShape f 0 shape → (holds f on ≡ true) ↔ Accepts shape 0 on
 says_nothing f Always on fits = (λ e. tt, λ a. form_says f 0 Always on fits ∙ ap (λ (g : Formula). holds g on) (sym (some_is yes fits.0 fits.1)))
-says_nothing f Never on fits = (λ e. let never : true ≡ false = sym e ∙ form_says f 0 Never on fits ∙ ap (λ (g : Formula). holds g on) (sym (some_is no fits.0 fits.1)) in absurd cc, λ a. absurd a)
+says_nothing f Never on fits = (
+  λ e. let never : true ≡ false = sym e ∙ form_says f 0 Never on fits
+      ∙ ap (λ (g : Formula). holds g on) (sym (some_is no fits.0 fits.1)) in absurd cc,
+  λ a. absurd a,
+)
 says_nothing f MaxEven on fits = absurd (none_is_some fits.0 fits.1)
 says_nothing f MaxOdd on fits = absurd (none_is_some fits.0 fits.1)
 says_nothing f MinEven on fits = absurd (none_is_some fits.0 fits.1)

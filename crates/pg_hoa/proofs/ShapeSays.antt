@@ -34,40 +34,49 @@ others_decide false set others on e = rw e refl
 clash : (b : Bool) → b ≡ true → b ≡ false → ⊥
 clash b e d = absurd cc
 
-outermost_recurs : (set : ℕ → ℕ) (wanted : ℕ → Bool) (on : ℕ → Bool) (inside : ℕ) → on (set inside) ≡ true → wanted inside ≡ true → IsDecided set wanted on inside
+outermost_recurs : (set : ℕ → ℕ) (wanted : ℕ → Bool) (on : ℕ → Bool) (inside : ℕ) → on (set inside) ≡ true → wanted inside ≡ true
+    → IsDecided set wanted on inside
 outermost_recurs set wanted on inside e good = inl (inside, record { within = omega arith; recurs = e; further = λ i gt le. absurd (omega arith) }, good)
 
-outermost_wanted : (set : ℕ → ℕ) (wanted : ℕ → Bool) (on : ℕ → Bool) (inside : ℕ) → on (set inside) ≡ true → IsDecided set wanted on inside → wanted inside ≡ true
+outermost_wanted : (set : ℕ → ℕ) (wanted : ℕ → Bool) (on : ℕ → Bool) (inside : ℕ) → on (set inside) ≡ true → IsDecided set wanted on inside
+    → wanted inside ≡ true
 outermost_wanted set wanted on inside e (inl p) = grind (arith, nat_tests, cases_lt p.0 inside)
 outermost_wanted set wanted on inside e (inr p) = absurd (clash (on (set inside)) e (p.0 inside (omega arith)))
 
-one_further : (set : ℕ → ℕ) (on : ℕ → Bool) (inside i : ℕ) → on (set (suc inside)) ≡ false → (i ≤ inside → on (set i) ≡ false) → i ≤ suc inside → on (set i) ≡ false
+one_further : (set : ℕ → ℕ) (on : ℕ → Bool) (inside i : ℕ) → on (set (suc inside)) ≡ false → (i ≤ inside → on (set i) ≡ false)
+    → i ≤ suc inside → on (set i) ≡ false
 one_further set on inside i e below le = grind (arith, nat_tests, cases_lt inside i)
 
-decided_further : (set : ℕ → ℕ) (wanted : ℕ → Bool) (on : ℕ → Bool) (inside : ℕ) → on (set (suc inside)) ≡ false → IsDecided set wanted on inside → IsDecided set wanted on (suc inside)
+decided_further : (set : ℕ → ℕ) (wanted : ℕ → Bool) (on : ℕ → Bool) (inside : ℕ) → on (set (suc inside)) ≡ false
+    → IsDecided set wanted on inside → IsDecided set wanted on (suc inside)
 decided_further set wanted on inside e (inl p) = grind (arith, nat_tests)
 decided_further set wanted on inside e (inr p) = inr (λ i le. one_further set on inside i e (p.0 i) le, p.1)
 
-decided_inside : (set : ℕ → ℕ) (wanted : ℕ → Bool) (on : ℕ → Bool) (inside : ℕ) → on (set (suc inside)) ≡ false → IsDecided set wanted on (suc inside) → IsDecided set wanted on inside
+decided_inside : (set : ℕ → ℕ) (wanted : ℕ → Bool) (on : ℕ → Bool) (inside : ℕ) → on (set (suc inside)) ≡ false
+    → IsDecided set wanted on (suc inside) → IsDecided set wanted on inside
 decided_inside set wanted on inside e (inl p) = grind (arith, nat_tests, cases_lt inside p.0)
 decided_inside set wanted on inside e (inr p) = inr (λ i le. p.0 i (omega arith), p.1)
 
-pub nested_decided : (set : ℕ → ℕ) (wanted : ℕ → Bool) (on : ℕ → Bool) (inside : ℕ) → holds (nested set wanted inside) on ≡ true → IsDecided set wanted on inside
+pub nested_decided : (set : ℕ → ℕ) (wanted : ℕ → Bool) (on : ℕ → Bool) (inside : ℕ) → holds (nested set wanted inside) on ≡ true
+    → IsDecided set wanted on inside
 nested_decided set wanted on zero h = grind (arith, nat_tests, cases_Bool (on (set 0)))
 nested_decided set wanted on (suc inside) h =
     let others = nested set wanted inside in
     elim (cases_Bool (on (set (suc inside)))) [
       | inl e ↦ outermost_recurs set wanted on (suc inside) e (sym (recurs_decides (wanted (suc inside)) (set (suc inside)) others on e) ∙ h)
-      | inr e ↦ decided_further set wanted on inside e (nested_decided set wanted on inside (sym (others_decide (wanted (suc inside)) (set (suc inside)) others on e) ∙ h))
+      | inr e ↦ decided_further set wanted on inside e
+          (nested_decided set wanted on inside (sym (others_decide (wanted (suc inside)) (set (suc inside)) others on e) ∙ h))
     ]
 
-pub decided_nested : (set : ℕ → ℕ) (wanted : ℕ → Bool) (on : ℕ → Bool) (inside : ℕ) → IsDecided set wanted on inside → holds (nested set wanted inside) on ≡ true
+pub decided_nested : (set : ℕ → ℕ) (wanted : ℕ → Bool) (on : ℕ → Bool) (inside : ℕ) → IsDecided set wanted on inside
+    → holds (nested set wanted inside) on ≡ true
 decided_nested set wanted on zero d = grind (arith, nat_tests, cases_Bool (on (set 0)))
 decided_nested set wanted on (suc inside) d =
     let others = nested set wanted inside in
     elim (cases_Bool (on (set (suc inside)))) [
       | inl e ↦ recurs_decides (wanted (suc inside)) (set (suc inside)) others on e ∙ outermost_wanted set wanted on (suc inside) e d
-      | inr e ↦ others_decide (wanted (suc inside)) (set (suc inside)) others on e ∙ decided_nested set wanted on inside (decided_inside set wanted on inside e d)
+      | inr e ↦ others_decide (wanted (suc inside)) (set (suc inside)) others on e
+          ∙ decided_nested set wanted on inside (decided_inside set wanted on inside e d)
     ]
 
 -- ---- parity

@@ -32,8 +32,18 @@ built_again (proposition a) ops trees = refl
 built_again (inf s) ops trees = refl
 built_again (fin s) ops trees = refl
 built_again (not f) ops trees = rw (append_assoc (postfix f) (Not ∷ []) ops, built_again f (Not ∷ ops) trees) refl
-built_again (both f g) ops trees = rw (append_assoc (postfix f) (postfix g ++ (Both ∷ [])) ops, append_assoc (postfix g) (Both ∷ []) ops, built_again f (postfix g ++ (Both ∷ ops)) trees, built_again g (Both ∷ ops) (bare f ∷ trees)) refl
-built_again (either f g) ops trees = rw (append_assoc (postfix f) (postfix g ++ (Either ∷ [])) ops, append_assoc (postfix g) (Either ∷ []) ops, built_again f (postfix g ++ (Either ∷ ops)) trees, built_again g (Either ∷ ops) (bare f ∷ trees)) refl
+built_again (both f g) ops trees = rw (
+  append_assoc (postfix f) (postfix g ++ (Both ∷ [])) ops,
+  append_assoc (postfix g) (Both ∷ []) ops,
+  built_again f (postfix g ++ (Both ∷ ops)) trees,
+  built_again g (Both ∷ ops) (bare f ∷ trees),
+) refl
+built_again (either f g) ops trees = rw (
+  append_assoc (postfix f) (postfix g ++ (Either ∷ [])) ops,
+  append_assoc (postfix g) (Either ∷ []) ops,
+  built_again f (postfix g ++ (Either ∷ ops)) trees,
+  built_again g (Either ∷ ops) (bare f ∷ trees),
+) refl
 built_again (bracket f) ops trees = built_again f ops trees
 
 pub one_tree : (f g : Formula) → postfix f ≡ postfix g → bare f ≡ bare g

@@ -43,7 +43,8 @@ ended_spelt bytes [] (ended e) none = let g = gap_written bytes [] e in (g.gap, 
 ended_spelt bytes (stray ∷ []) failed none = absurd cc
 ended_spelt bytes (t ∷ tokens) (token mid rest e h) none = absurd cc
 
-token_spelt : (bytes : List ℕ) (found : List Lexeme) (t : Lexeme) (tokens : List Lexeme) → Seen bytes found → found ≡ t ∷ tokens → IsToken t → (rest : List ℕ) × Begins bytes t rest × (lex rest ≡ tokens)
+token_spelt : (bytes : List ℕ) (found : List Lexeme) (t : Lexeme) (tokens : List Lexeme) → Seen bytes found → found ≡ t ∷ tokens → IsToken t
+    → (rest : List ℕ) × Begins bytes t rest × (lex rest ≡ tokens)
 token_spelt bytes [] t tokens (ended e) is sound = absurd cc
 token_spelt bytes (stray ∷ []) t tokens failed is sound = let same : t ≡ stray = cc in absurd (subst IsToken same sound)
 token_spelt bytes (u ∷ later) t tokens (token mid rest e h) is sound =

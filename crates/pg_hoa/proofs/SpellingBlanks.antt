@@ -1,5 +1,6 @@
 -- White space and comments: what is skipped is written, and what is written is skipped.
-use Rattle.std.proofs.Common.{◌≡◌, ℕ, zero, suc, ◌-◌, ◌<◌, Bool, true, false, eqb, ltb, List, [], ◌∷◌, ◌++◌, length, Some, None, refl, sym, ap, ◌∙◌, arith, inl, inr, append_assoc, add-one, length-append}
+use Rattle.std.proofs.Common.{◌≡◌, ℕ, zero, suc, ◌-◌, ◌<◌, Bool, true, false, eqb, ltb, List, [], ◌∷◌, ◌++◌, length, Some, None, refl, sym}
+use Rattle.std.proofs.Common.{ap, ◌∙◌, arith, inl, inr, append_assoc, add-one, length-append}
 use Rattle.std.proofs.lemmas.Bool.Decides.{nat_tests}
 use Rattle.std.specs.Prelude.{◌&&◌}
 use Rattle.std.specs.List.{flat_map, AllByRecursion}
@@ -65,19 +66,23 @@ gap_comments (suc deep) (b ∷ []) = gap_none (suc deep) (b ∷ []) (step_unfini
 gap_comments (suc deep) (b ∷ c ∷ bytes) =
     elim (cases_Bool (opens b c)) [
       | inl p ↦ elim (cases_Bool (ltb (suc deep) 8192)) [
-        | inl q ↦ gap_next (suc deep) (b ∷ c ∷ bytes) (suc (suc deep), bytes) (step_opens deep b c bytes p q) ∙ rw (one_opens deep b c bytes p q) (gap_comments (suc (suc deep)) bytes)
+        | inl q ↦ gap_next (suc deep) (b ∷ c ∷ bytes) (suc (suc deep), bytes) (step_opens deep b c bytes p q)
+            ∙ rw (one_opens deep b c bytes p q) (gap_comments (suc (suc deep)) bytes)
         | inr q ↦ gap_none (suc deep) (b ∷ c ∷ bytes) (step_too_deep deep b c bytes p q) ∙ rw (one_too_deep deep b c bytes p q) refl
       ]
       | inr p ↦ elim (cases_Bool (closes b c)) [
-        | inl q ↦ gap_next (suc deep) (b ∷ c ∷ bytes) (deep, bytes) (step_closes deep b c bytes p q) ∙ rw (one_closes deep b c bytes p q) (gap_comments deep bytes)
-        | inr q ↦ gap_next (suc deep) (b ∷ c ∷ bytes) (suc deep, c ∷ bytes) (step_within deep b c bytes p q) ∙ rw (one_within deep b c bytes p q) (gap_comments (suc deep) (c ∷ bytes))
+        | inl q ↦ gap_next (suc deep) (b ∷ c ∷ bytes) (deep, bytes) (step_closes deep b c bytes p q)
+            ∙ rw (one_closes deep b c bytes p q) (gap_comments deep bytes)
+        | inr q ↦ gap_next (suc deep) (b ∷ c ∷ bytes) (suc deep, c ∷ bytes) (step_within deep b c bytes p q)
+            ∙ rw (one_within deep b c bytes p q) (gap_comments (suc deep) (c ∷ bytes))
       ]
     ]
 
 -- ---- the bytes of a comment
 
 -- what follows a comment doesn't matter to it
-comments_again : (deep : ℕ) (inside behind rest : List ℕ) → after_comments deep inside ≡ Some behind → after_comments deep (inside ++ rest) ≡ Some (behind ++ rest)
+comments_again : (deep : ℕ) (inside behind rest : List ℕ) → after_comments deep inside ≡ Some behind
+    → after_comments deep (inside ++ rest) ≡ Some (behind ++ rest)
 comments_again zero inside behind rest e = ap (λ (l : List ℕ). some (l ++ rest)) (some_is inside behind e)
 comments_again (suc deep) [] behind rest e = absurd (none_is_some behind e)
 comments_again (suc deep) (b ∷ []) behind rest e = absurd (none_is_some behind e)
@@ -99,10 +104,12 @@ record Ends (deep : ℕ) (bytes rest : List ℕ) : Type 0 where
   parts : bytes ≡ inside ++ rest
   whole : after_comments deep inside ≡ Some []
 
-abbrev wider : (deep more b : ℕ) (bytes rest : List ℕ) → Ends more bytes rest → ((inside : List ℕ) → after_comments more inside ≡ Some [] → after_comments deep (b ∷ inside) ≡ Some []) → Ends deep (b ∷ bytes) rest
+abbrev wider : (deep more b : ℕ) (bytes rest : List ℕ) → Ends more bytes rest
+    → ((inside : List ℕ) → after_comments more inside ≡ Some [] → after_comments deep (b ∷ inside) ≡ Some []) → Ends deep (b ∷ bytes) rest
 wider deep more b bytes rest r more_is = record { inside = b ∷ r.inside; parts = ap (λ (l : List ℕ). b ∷ l) r.parts; whole = more_is r.inside r.whole }
 
-ends_within : (deep b c : ℕ) (bytes rest inside : List ℕ) → opens b c ≡ false → closes b c ≡ false → c ∷ bytes ≡ inside ++ rest → after_comments (suc deep) inside ≡ Some [] → after_comments (suc deep) (b ∷ inside) ≡ Some []
+ends_within : (deep b c : ℕ) (bytes rest inside : List ℕ) → opens b c ≡ false → closes b c ≡ false → c ∷ bytes ≡ inside ++ rest
+    → after_comments (suc deep) inside ≡ Some [] → after_comments (suc deep) (b ∷ inside) ≡ Some []
 ends_within deep b c bytes rest [] p q e whole = absurd (none_is_some [] whole)
 ends_within deep b c bytes rest (d ∷ inside) p q e whole = grind (arith, nat_tests)
 
@@ -174,10 +181,13 @@ pub record Blanks (bytes rest : List ℕ) : Type 0 where
   pub parts : bytes ≡ flat_map blank_bytes gap ++ rest
   pub blank : AllByRecursion IsBlank gap
 
-remark_parts : (b c : ℕ) (bytes inside behind gap rest : List ℕ) → b ≡ 47 → c ≡ 42 → bytes ≡ inside ++ behind → behind ≡ gap ++ rest → b ∷ c ∷ bytes ≡ (47 ∷ 42 ∷ (inside ++ gap)) ++ rest
+remark_parts : (b c : ℕ) (bytes inside behind gap rest : List ℕ) → b ≡ 47 → c ≡ 42 → bytes ≡ inside ++ behind → behind ≡ gap ++ rest
+    → b ∷ c ∷ bytes ≡ (47 ∷ 42 ∷ (inside ++ gap)) ++ rest
 remark_parts b c bytes inside behind gap rest p q e f = rw (p, q, e, f, append_assoc inside gap rest) refl
 
-blanks_from : (n : ℕ) (bytes rest : List ℕ) → length bytes < suc n → ((bytes rest : List ℕ) → length bytes < n → gap_from 0 bytes ≡ Some rest → Blanks bytes rest) → Front bytes → gap_from 0 bytes ≡ Some rest → Blanks bytes rest
+blanks_from : (n : ℕ) (bytes rest : List ℕ) → length bytes < suc n
+    → ((bytes rest : List ℕ) → length bytes < n → gap_from 0 bytes ≡ Some rest → Blanks bytes rest) → Front bytes
+    → gap_from 0 bytes ≡ Some rest → Blanks bytes rest
 blanks_from n bytes rest lt later (solid h) e = record { gap = []; parts = some_is bytes rest (sym (gap_ends 0 bytes h) ∙ e); blank = tt }
 blanks_from n (b ∷ bytes) rest lt later (white h step) e =
     let r = later bytes rest (omega arith) (sym (gap_next 0 (b ∷ bytes) (0, bytes) step) ∙ e) in
@@ -188,7 +198,12 @@ blanks_from n (b ∷ c ∷ bytes) rest lt later (remark p q) e =
     let behind = bind_some (after_comments 1 bytes) (gap_from 0) rest (sym (gap_comments 1 bytes) ∙ within) in
     let ends = comments_end 1 bytes behind.0 behind.1 in
     let r = later behind.0 rest (omega (arith, ap length ends.parts, length-append ends.inside behind.0)) behind.2 in
-    record { gap = comment ends.inside ∷ r.gap; parts = remark_parts b c bytes ends.inside behind.0 (flat_map blank_bytes r.gap) rest p q ends.parts r.parts; blank = (ends.whole, r.blank) }
+    record {
+      gap = comment ends.inside ∷ r.gap;
+      parts = remark_parts b c bytes ends.inside behind.0
+          (flat_map blank_bytes r.gap) rest p q ends.parts r.parts;
+      blank = (ends.whole, r.blank);
+    }
 
 blanks_within : (n : ℕ) (bytes rest : List ℕ) → length bytes < n → gap_from 0 bytes ≡ Some rest → Blanks bytes rest
 blanks_within zero bytes rest lt e = absurd (omega arith)
@@ -199,9 +214,11 @@ gap_written bytes rest e = blanks_within (suc (length bytes)) bytes rest (omega 
 
 pub gap_again : (gap : List Blank) (rest : List ℕ) → AllByRecursion IsBlank gap → Stands rest → gap_from 0 (flat_map blank_bytes gap ++ rest) ≡ Some rest
 gap_again [] rest blank h = gap_ends 0 rest h
-gap_again (space b ∷ gap) rest blank h = gap_next 0 (b ∷ (flat_map blank_bytes gap ++ rest)) (0, flat_map blank_bytes gap ++ rest) (step_white b (flat_map blank_bytes gap ++ rest) blank.0) ∙ gap_again gap rest blank.1 h
+gap_again (space b ∷ gap) rest blank h = gap_next 0 (b ∷ (flat_map blank_bytes gap ++ rest)) (0, flat_map blank_bytes gap ++ rest)
+    (step_white b (flat_map blank_bytes gap ++ rest) blank.0) ∙ gap_again gap rest blank.1 h
 gap_again (comment inside ∷ gap) rest blank h =
     let later = flat_map blank_bytes gap ++ rest in
-    gap_next 0 (47 ∷ 42 ∷ ((inside ++ flat_map blank_bytes gap) ++ rest)) (1, (inside ++ flat_map blank_bytes gap) ++ rest) (step_remark ((inside ++ flat_map blank_bytes gap) ++ rest))
+    gap_next 0 (47 ∷ 42 ∷ ((inside ++ flat_map blank_bytes gap) ++ rest)) (1, (inside ++ flat_map blank_bytes gap) ++ rest)
+    (step_remark ((inside ++ flat_map blank_bytes gap) ++ rest))
     ∙ gap_comments 1 ((inside ++ flat_map blank_bytes gap) ++ rest)
     ∙ rw (append_assoc inside (flat_map blank_bytes gap) rest, comments_again 1 inside [] later blank.0) (gap_again gap rest blank.1 h)

@@ -1,5 +1,6 @@
 -- One token: what is read is spelt there, and what is spelt is read.
-use Rattle.std.proofs.Common.{◌≡◌, ◌≢◌, ℕ, ◌+◌, ◌^◌, ◌<◌, true, false, eqb, ltb, List, [], ◌∷◌, ◌++◌, length, take, drop, Some, refl, sym, ap, subst, ◌∙◌, arith, inl, inr, append_assoc, length-append}
+use Rattle.std.proofs.Common.{◌≡◌, ◌≢◌, ℕ, ◌+◌, ◌^◌, ◌<◌, true, false, eqb, ltb, List, [], ◌∷◌, ◌++◌, length, take, drop, Some, refl, sym}
+use Rattle.std.proofs.Common.{ap, subst, ◌∙◌, arith, inl, inr, append_assoc, length-append}
 use Rattle.std.specs.Prelude.{◌||◌, codes}
 use Rattle.std.specs.Str.{bytes_eq}
 use Rattle.std.specs.List.{prefix_len, take_while, flat_map, AllByRecursion}
@@ -9,7 +10,9 @@ use Rattle.std.proofs.lemmas.List.{take-append-drop}
 use Rattle.std.proofs.lemmas.Slice.Eq.{bytes_eq-Decides}
 use Rattle.std.proofs.Math.Dec.{eqb-suc-zero}
 use Rattle.std.proofs.Math.Seq.{take-append_seam, drop-append-add}
-use Rattle.pg_hoa.specs.Lexemes.{Lexeme, number, identifier, header, string, alias, body, end, abort, left_bracket, right_bracket, left_brace, right_brace, left_paren, right_paren, bang, ampersand, bar, stray, Character, plain, escaped, is_space, is_letter, is_inner, is_colon, IsName, character_bytes, IsCharacter, IsSpelt}
+use Rattle.pg_hoa.specs.Lexemes.{Lexeme, number, identifier, header, string, alias, body, end, abort, left_bracket, right_bracket}
+use Rattle.pg_hoa.specs.Lexemes.{left_brace, right_brace, left_paren, right_paren, bang, ampersand, bar, stray, Character, plain, escaped}
+use Rattle.pg_hoa.specs.Lexemes.{is_space, is_letter, is_inner, is_colon, IsName, character_bytes, IsCharacter, IsSpelt}
 use Rattle.pg_lists.specs.Bytes.{is_digit, Each, Stops, value_of}
 use Rattle.pg_hoa.specs.Mirrors.Scan.{characters, gap_step, number_at, name_before, name_at, string_len, string_at, alias_at, mark_at, sign_at, solid_at}
 use Rattle.pg_hoa.proofs.Steps.{bind_some}
@@ -24,7 +27,8 @@ pub record Written (bytes : List ℕ) (x : Lexeme × List ℕ) : Type 0 where
   pub parts : bytes ≡ text ++ x.1
   pub spelt : IsSpelt x.0 text x.1
 
-found : (bytes text : List ℕ) (t : Lexeme) (rest : List ℕ) (x : Lexeme × List ℕ) → some (t, rest) ≡ some x → bytes ≡ text ++ rest → IsSpelt t text rest → Written bytes x
+found : (bytes text : List ℕ) (t : Lexeme) (rest : List ℕ) (x : Lexeme × List ℕ) → some (t, rest) ≡ some x → bytes ≡ text ++ rest
+    → IsSpelt t text rest → Written bytes x
 found bytes text t rest x e parts spelt = subst (Written bytes) (some_is (t, rest) x e) (record { text = text; parts = parts; spelt = spelt })
 
 -- a token read at the front, where nothing blank stands
@@ -50,11 +54,13 @@ number_takes b bytes x h e =
     let rest = drop (prefix_len is_digit all) all in
     let some_digit : text ≢ [] = λ z. let first = run_first is_digit b bytes h in absurd cc in
     elim (chosen (ltb (value_of text) (2 ^ 32)) (some (number (value_of text), rest)) none (some x) e) [
-      | inl c ↦ found all text (number (value_of text)) rest x c.1 (run_parts is_digit all) (some_digit, run_each is_digit all, run_stops is_digit all, refl, ltb-true (value_of text) (2 ^ 32) c.0)
+      | inl c ↦ found all text (number (value_of text)) rest x c.1 (run_parts is_digit all)
+          (some_digit, run_each is_digit all, run_stops is_digit all, refl, ltb-true (value_of text) (2 ^ 32) c.0)
       | inr c ↦ absurd (none_is_some x c.1)
     ]
 
-number_read : (text rest : List ℕ) (n : ℕ) → Each is_digit text → Stops is_digit rest → value_of text ≡ n → n < 2 ^ 32 → number_at (text ++ rest) ≡ Some (number n, rest)
+number_read : (text rest : List ℕ) (n : ℕ) → Each is_digit text → Stops is_digit rest → value_of text ≡ n → n < 2 ^ 32
+    → number_at (text ++ rest) ≡ Some (number n, rest)
 unfolding number_at
 number_read text rest n each stops is lt =
     rw (run_again is_digit text rest each stops, rest_again is_digit text rest each stops, is, lt-ltb n (2 ^ 32) lt) refl
@@ -86,14 +92,17 @@ colon_behind w c rest h = rw h refl
 other_behind : (w : List ℕ) (c : ℕ) (rest : List ℕ) → is_colon c ≡ false → name_before w (c ∷ rest) ≡ (identifier w, c ∷ rest)
 other_behind w c rest h = rw h refl
 
-before_takes : (bytes w rest : List ℕ) (x : Lexeme × List ℕ) → IsName w → Stops is_inner rest → bytes ≡ w ++ rest → some (name_before w rest) ≡ some x → Written bytes x
+before_takes : (bytes w rest : List ℕ) (x : Lexeme × List ℕ) → IsName w → Stops is_inner rest → bytes ≡ w ++ rest
+    → some (name_before w rest) ≡ some x → Written bytes x
 before_takes bytes w [] x name stops parts e = found bytes w (identifier w) [] x e parts (name, tt, tt, refl)
 before_takes bytes w (c ∷ rest) x name stops parts e =
     elim (cases_Bool (is_colon c)) [
       | inl h ↦
           let colon : c ≡ 58 = eqb-true c 58 h in
-          found bytes (w ++ 58 ∷ []) (header w) rest x (ap (λ (y : Lexeme × List ℕ). some y) (sym (colon_behind w c rest h)) ∙ e) (parts ∙ rw (colon, append_assoc w (58 ∷ []) rest) refl) (name, refl)
-      | inr h ↦ found bytes w (identifier w) (c ∷ rest) x (ap (λ (y : Lexeme × List ℕ). some y) (sym (other_behind w c rest h)) ∙ e) parts (name, stops, h, refl)
+          found bytes (w ++ 58 ∷ []) (header w) rest x (ap (λ (y : Lexeme × List ℕ). some y) (sym (colon_behind w c rest h)) ∙ e)
+          (parts ∙ rw (colon, append_assoc w (58 ∷ []) rest) refl) (name, refl)
+      | inr h ↦ found bytes w (identifier w) (c ∷ rest) x (ap (λ (y : Lexeme × List ℕ). some y) (sym (other_behind w c rest h)) ∙ e) parts
+          (name, stops, h, refl)
     ]
 
 name_takes : (b : ℕ) (bytes : List ℕ) (x : Lexeme × List ℕ) → is_letter b || eqb b 95 ≡ true → name_at (b ∷ bytes) ≡ Some x → Written (b ∷ bytes) x
@@ -167,7 +176,12 @@ content_characters (escaped c ∷ s) h = ap (λ (s : List Character). escaped c 
 
 string_read : (s : List Character) (rest : List ℕ) → AllByRecursion IsCharacter s → string_at (string_bytes s ++ 34 ∷ rest) ≡ Some (string s, rest)
 unfolding string_at
-string_read s rest h = rw (content_len s rest h, take-append_seam (string_bytes s) (34 ∷ rest), drop-append-add (string_bytes s) (34 ∷ rest) 1, content_characters s h) refl
+string_read s rest h = rw (
+  content_len s rest h,
+  take-append_seam (string_bytes s) (34 ∷ rest),
+  drop-append-add (string_bytes s) (34 ∷ rest) 1,
+  content_characters s h,
+) refl
 
 -- a string's content, its quote, and the rest
 record Quoted (bytes : List ℕ) : Type 0 where
@@ -191,11 +205,23 @@ quoted (b ∷ c ∷ bytes) n e =
         | inl q ↦
             let m = bind_some (string_len bytes) (λ n. some (n + 2)) n q.1 in
             let r = quoted bytes m.0 m.1 in
-            record { content = escaped c ∷ r.content; rest = r.rest; parts = rw (eqb-true b 92 q.0) (ap (λ (l : List ℕ). 92 ∷ c ∷ l) r.parts); sound = (tt, r.sound) }
+            record {
+              content = escaped c ∷ r.content;
+              rest = r.rest;
+              parts =
+                  rw (eqb-true b 92 q.0) (ap (λ (l : List ℕ). 92 ∷ c ∷ l) r.parts);
+              sound = (tt, r.sound);
+            }
         | inr q ↦
             let m = bind_some (string_len (c ∷ bytes)) (λ n. some (n + 1)) n q.1 in
             let r = quoted (c ∷ bytes) m.0 m.1 in
-            record { content = plain b ∷ r.content; rest = r.rest; parts = ap (λ (l : List ℕ). b ∷ l) r.parts; sound = ((eqb-false b 34 p.0, eqb-false b 92 q.0), r.sound) }
+            record {
+              content = plain b ∷ r.content;
+              rest = r.rest;
+              parts = ap (λ (l : List ℕ). b ∷ l) r.parts;
+              sound =
+                  ((eqb-false b 34 p.0, eqb-false b 92 q.0), r.sound);
+            }
       ]
     ]
 
@@ -207,7 +233,9 @@ string_takes : (bytes : List ℕ) (x : Lexeme × List ℕ) → string_at bytes �
 string_takes bytes x e =
     let q = string_quoted bytes x e in
     let same : string_at (string_bytes q.content ++ 34 ∷ q.rest) ≡ Some x = rw (← q.parts) e in
-    found (34 ∷ bytes) (34 ∷ (string_bytes q.content ++ 34 ∷ [])) (string q.content) q.rest x (sym (string_read q.content q.rest q.sound) ∙ same) (ap (λ (l : List ℕ). 34 ∷ l) (q.parts ∙ sym (append_assoc (string_bytes q.content) (34 ∷ []) q.rest))) (q.sound, refl)
+    found (34 ∷ bytes) (34 ∷ (string_bytes q.content ++ 34 ∷ [])) (string q.content) q.rest x
+    (sym (string_read q.content q.rest q.sound) ∙ same)
+    (ap (λ (l : List ℕ). 34 ∷ l) (q.parts ∙ sym (append_assoc (string_bytes q.content) (34 ∷ []) q.rest))) (q.sound, refl)
 
 solid_string : (bytes : List ℕ) → solid_at (34 ∷ bytes) ≡ string_at bytes
 unfolding solid_at
@@ -215,7 +243,12 @@ solid_string bytes = refl
 
 string_again : (s : List Character) (text rest : List ℕ) → IsSpelt (string s) text rest → Reads (text ++ rest) (string s) rest
 string_again s text rest h =
-    rw (h.1, append_assoc (string_bytes s) (34 ∷ []) rest) (record { stands = stands_from 34 (string_bytes s ++ 34 ∷ rest) refl refl; read = solid_string (string_bytes s ++ 34 ∷ rest) ∙ string_read s rest h.0 })
+    rw (h.1, append_assoc (string_bytes s) (34 ∷ []) rest)
+    (record {
+      stands = stands_from 34 (string_bytes s ++ 34 ∷ rest) refl refl;
+      read = solid_string (string_bytes s ++ 34 ∷ rest)
+          ∙ string_read s rest h.0;
+    })
 
 -- ---- aliases
 
@@ -226,7 +259,8 @@ alias_takes bytes x e =
     let rest = drop (prefix_len is_inner bytes) bytes in
     elim (chosen (eqb (prefix_len is_inner bytes) 0) none (some (alias text, rest)) (some x) e) [
       | inl c ↦ absurd (none_is_some x c.1)
-      | inr c ↦ found (64 ∷ bytes) (64 ∷ text) (alias text) rest x c.1 (ap (λ (l : List ℕ). 64 ∷ l) (run_parts is_inner bytes)) (run_some is_inner bytes (eqb-false (prefix_len is_inner bytes) 0 c.0), run_each is_inner bytes, run_stops is_inner bytes, refl)
+      | inr c ↦ found (64 ∷ bytes) (64 ∷ text) (alias text) rest x c.1 (ap (λ (l : List ℕ). 64 ∷ l) (run_parts is_inner bytes))
+          (run_some is_inner bytes (eqb-false (prefix_len is_inner bytes) 0 c.0), run_each is_inner bytes, run_stops is_inner bytes, refl)
     ]
 
 solid_alias : (bytes : List ℕ) → solid_at (64 ∷ bytes) ≡ alias_at bytes
@@ -236,7 +270,14 @@ solid_alias bytes = refl
 alias_read : (w rest : List ℕ) → w ≢ [] → Each is_inner w → Stops is_inner rest → alias_at (w ++ rest) ≡ Some (alias w, rest)
 unfolding alias_at
 alias_read [] rest some_byte each stops = absurd (some_byte refl)
-alias_read (b ∷ w) rest some_byte each stops = grind (arith, nat_tests, run_is is_inner (b ∷ w) rest each stops, eqb-suc-zero (length w), run_again is_inner (b ∷ w) rest each stops, rest_again is_inner (b ∷ w) rest each stops)
+alias_read (b ∷ w) rest some_byte each stops = grind (
+  arith,
+  nat_tests,
+  run_is is_inner (b ∷ w) rest each stops,
+  eqb-suc-zero (length w),
+  run_again is_inner (b ∷ w) rest each stops,
+  rest_again is_inner (b ∷ w) rest each stops,
+)
 
 alias_again : (w text rest : List ℕ) → IsSpelt (alias w) text rest → Reads (text ++ rest) (alias w) rest
 alias_again w text rest h = grind (arith, nat_tests, stands_from 64 (w ++ rest) refl refl, solid_alias (w ++ rest), alias_read w rest h.0 h.1 h.2)
@@ -297,7 +338,8 @@ sign_takes b bytes x e =
                               | inr c ↦ elim (chosen (eqb b 38) (some (ampersand, bytes)) _ (some x) c.1) [
                                 | inl c ↦ sign_found 38 ampersand c.0 c.1 (λ e. e)
                                 | inr c ↦
-                                    elim (chosen (eqb b 124) (some (bar, bytes)) none (some x) c.1) [ inl c ↦ sign_found 124 bar c.0 c.1 (λ e. e) | inr c ↦ absurd (none_is_some x c.1) ]
+                                    elim (chosen (eqb b 124) (some (bar, bytes)) none (some x) c.1)
+                                    [ inl c ↦ sign_found 124 bar c.0 c.1 (λ e. e) | inr c ↦ absurd (none_is_some x c.1) ]
                               ]
                             ]
                       ]
@@ -324,7 +366,8 @@ solid_takes (b ∷ bytes) x e =
           | inl c ↦ rw (eqb-true b 34 c.0) (string_takes bytes x c.1)
           | inr c ↦ elim (chosen (eqb b 64) (alias_at bytes) _ (some x) c.1) [
             | inl c ↦ rw (eqb-true b 64 c.0) (alias_takes bytes x c.1)
-            | inr c ↦ elim (chosen (eqb b 45) (mark_at (b ∷ bytes)) (sign_at b bytes) (some x) c.1) [ inl c ↦ mark_takes (b ∷ bytes) x c.1 | inr c ↦ sign_takes b bytes x c.1 ]
+            | inr c ↦ elim (chosen (eqb b 45) (mark_at (b ∷ bytes)) (sign_at b bytes) (some x) c.1)
+                [ inl c ↦ mark_takes (b ∷ bytes) x c.1 | inr c ↦ sign_takes b bytes x c.1 ]
           ]
         ]
       ]

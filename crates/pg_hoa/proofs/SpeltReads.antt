@@ -6,7 +6,8 @@ use Rattle.pg_hoa.specs.declared.fault.Refusal.TheVariants.{Wrong}
 use Rattle.pg_hoa.specs.Lexemes.{Lexeme, end}
 use Rattle.pg_hoa.specs.Mirrors.Scan.{lex}
 use Rattle.pg_hoa.specs.Automata.{Automaton}
-use Rattle.pg_hoa.specs.AutomatonText.{Written, IsText, Says, IsUndetermined, IsDeterministicAt, SpellsNone, SaysNone, steps_of, state_counts, state_lexemes, text_lexemes}
+use Rattle.pg_hoa.specs.AutomatonText.{Written, IsText, Says, IsUndetermined, IsDeterministicAt, SpellsNone, SaysNone, steps_of}
+use Rattle.pg_hoa.specs.AutomatonText.{state_counts, state_lexemes, text_lexemes}
 use Rattle.pg_hoa.specs.Mirrors.Kept.{KeptHead, KeptLine, line_kept}
 use Rattle.pg_hoa.specs.Mirrors.HeaderScan.{headers_at}
 use Rattle.pg_hoa.specs.Mirrors.BodyScan.{body_at}
@@ -22,15 +23,19 @@ use Rattle.pg_hoa.proofs.TableLaws.{kept_steps_are}
 use Rattle.pg_hoa.proofs.ReadParts.{AreSettled, settled_once}
 use Rattle.pg_hoa.proofs.SpeltReadsHead.{said_settled, says_settled, states_are, within_bound, lines_fit}
 
-pub text_reads : (bytes : List ℕ) (w : Written) (a : Automaton) → IsText bytes w → Says w a → Reads (lex bytes) (said_head w.headers) (said_settled w a) (map line_kept w.lines)
+pub text_reads : (bytes : List ℕ) (w : Written) (a : Automaton) → IsText bytes w → Says w a
+    → Reads (lex bytes) (said_head w.headers) (said_settled w a) (map line_kept w.lines)
 text_reads bytes w a text s =
     let behind : List Lexeme = flat_map state_lexemes w.lines ++ (end ∷ []) in
-    let most : a.states ≤ bound (first_said (flat_map state_counts w.headers)) = within_bound (flat_map state_counts w.headers) _ a.states s.states s.few_states in
+    let most : a.states ≤ bound (first_said (flat_map state_counts w.headers)) =
+    within_bound (flat_map state_counts w.headers) _ a.states s.states s.few_states in
     record {
       behind = behind;
-      headers = ap headers_at (spelt_lex bytes (text_lexemes w) text.spelt) ∙ headers_again w.headers (said_head w.headers) behind text.headers (says_head w a s);
+      headers = ap headers_at (spelt_lex bytes (text_lexemes w) text.spelt)
+          ∙ headers_again w.headers (said_head w.headers) behind text.headers (says_head w a s);
       settled = says_settled w a s;
-      body = body_again (bound (first_said (flat_map state_counts w.headers))) (length a.propositions) a.sets w.lines [] (lines_fit a.states _ (length a.propositions) a.sets w.lines most s.lines) s.distinct;
+      body = body_again (bound (first_said (flat_map state_counts w.headers))) (length a.propositions) a.sets w.lines []
+          (lines_fit a.states _ (length a.propositions) a.sets w.lines most s.lines) s.distinct;
     }
 
 pub states_same : (w : Written) (a : Automaton) → Says w a → a.states ≡ kept_states (said_settled w a) (map line_kept w.lines)
@@ -48,13 +53,15 @@ record ReadOnce (s t : Settled) (lines more : List KeptLine) : Type 0 where
   settled : AreSettled s t
   lines_are : lines ≡ more
 
-read_once : (tokens : List Lexeme) (h k : KeptHead) (s t : Settled) (lines more : List KeptLine) → Reads tokens h s lines → Reads tokens k t more → ReadOnce s t lines more
+read_once : (tokens : List Lexeme) (h k : KeptHead) (s t : Settled) (lines more : List KeptLine) → Reads tokens h s lines
+    → Reads tokens k t more → ReadOnce s t lines more
 read_once tokens h k s t lines more r q =
     let both = some_is (h, r.behind) (k, q.behind) (sym r.headers ∙ q.headers) in
     let head_is : h ≡ k = ap (λ (x : KeptHead × List Lexeme). x.0) both in
     let behind_is : r.behind ≡ q.behind = ap (λ (x : KeptHead × List Lexeme). x.1) both in
     let settled = settled_once k s t (subst (λ (x : KeptHead). IsSettled x s) head_is r.settled) q.settled in
-    let body_is : body_at (bound s.states) (length s.names) s.sets r.behind ≡ body_at (bound t.states) (length t.names) t.sets q.behind = rw (settled.states, settled.names, settled.sets, behind_is) refl in
+    let body_is : body_at (bound s.states) (length s.names) s.sets r.behind ≡ body_at (bound t.states) (length t.names) t.sets q.behind =
+    rw (settled.states, settled.names, settled.sets, behind_is) refl in
     let lines_are = some_is (lines, []) (more, []) (sym r.body ∙ body_is ∙ q.body) in
     record { settled = settled; lines_are = ap (λ (x : List KeptLine × List Lexeme). x.0) lines_are }
 
@@ -73,7 +80,8 @@ few_said w a s = subst (λ (n : ℕ). n * kept_letters (said_settled w a) ≤ 16
 pub many_say_none : (bytes : List ℕ) (h : KeptHead) (s : Settled) (lines : List KeptLine) → Reads (lex bytes) h s lines → (AreFew s lines → ⊥) → SaysNone bytes
 many_say_none bytes h s lines r many = λ w a text says.
     let said = said_settled w a in
-    many (few_once s said lines (map line_kept w.lines) (read_once (lex bytes) h (said_head w.headers) s said lines (map line_kept w.lines) r (text_reads bytes w a text says)) (few_said w a says))
+    many (few_once s said lines (map line_kept w.lines) (read_once (lex bytes) h (said_head w.headers) s said lines
+    (map line_kept w.lines) r (text_reads bytes w a text says)) (few_said w a says))
 
 -- ---- what is said is said once
 
@@ -87,14 +95,17 @@ pub said_once : (bytes : List ℕ) (w x : Written) (a b : Automaton) → IsText 
 said_once bytes w x a b text other says more =
     let s = said_settled w a in
     let t = said_settled x b in
-    let once = read_once (lex bytes) (said_head w.headers) (said_head x.headers) s t (map line_kept w.lines) (map line_kept x.lines) (text_reads bytes w a text says) (text_reads bytes x b other more) in
+    let once = read_once (lex bytes) (said_head w.headers) (said_head x.headers) s t (map line_kept w.lines) (map line_kept x.lines)
+    (text_reads bytes w a text says) (text_reads bytes x b other more) in
     record {
       states = states_same w a says ∙ states_once s t (map line_kept w.lines) (map line_kept x.lines) once ∙ sym (states_same x b more);
       settled = once.settled;
-      steps = λ state letter. sym (kept_steps_are w.lines state letter) ∙ ap (λ (ls : List KeptLine). kept_steps ls state letter) once.lines_are ∙ kept_steps_are x.lines state letter;
+      steps = λ state letter. sym (kept_steps_are w.lines state letter)
+          ∙ ap (λ (ls : List KeptLine). kept_steps ls state letter) once.lines_are ∙ kept_steps_are x.lines state letter;
     }
 
-pub determined_once : (w x : Written) (a b : Automaton) (state letter : ℕ) → SaidOnce w x a b → IsDeterministicAt b x.lines state letter → IsDeterministicAt a w.lines state letter
+pub determined_once : (w x : Written) (a b : Automaton) (state letter : ℕ) → SaidOnce w x a b → IsDeterministicAt b x.lines state letter
+    → IsDeterministicAt a w.lines state letter
 determined_once w x a b state letter o agree = rw (o.settled.shape, o.steps state letter) agree
 
 pub letters_below : (w x : Written) (a b : Automaton) (letter : ℕ) → SaidOnce w x a b → letter < 2 ^ length a.propositions → letter < 2 ^ length b.propositions
@@ -104,4 +115,5 @@ pub undetermined_spell_none : (bytes : List ℕ) (state letter : ℕ) → IsUnde
 undetermined_spell_none bytes state letter u = λ a s.
     let o = said_once bytes u.written s.written u.automaton a u.text s.text u.says s.says in
     u.fails (determined_once u.written s.written u.automaton a state letter o
-    (s.deterministic state letter (subst (λ (n : ℕ). state < n) o.states u.state_below) (letters_below u.written s.written u.automaton a letter o u.letter_below)))
+    (s.deterministic state letter (subst (λ (n : ℕ). state < n) o.states u.state_below)
+    (letters_below u.written s.written u.automaton a letter o u.letter_below)))

@@ -1,5 +1,6 @@
 -- What a filled table answers.
-use Rattle.std.proofs.Common.{◌≡◌, ℕ, ◌+◌, ◌*◌, ◌/◌, ◌%◌, ◌<◌, ◌≤◌, true, cond, ◌&&◌, ltb, List, [], ◌∷◌, length, map, get_or, replicate, None, ap, subst, ◌∙◌, arith}
+use Rattle.std.proofs.Common.{◌≡◌, ℕ, ◌+◌, ◌*◌, ◌/◌, ◌%◌, ◌<◌, ◌≤◌, true, cond, ◌&&◌, ltb, List, [], ◌∷◌, length, map, get_or, replicate}
+use Rattle.std.proofs.Common.{None, ap, subst, ◌∙◌, arith}
 use Rattle.std.proofs.lemmas.Bool.Decides.{Decides-ltb}
 use Rattle.std.proofs.lemmas.Nat.{div-mul-add, mod-mul-add, mul-add-lt, div_below, mod_below, div-add-mod', mul-le}
 use Rattle.std.proofs.lemmas.List.{length-replicate, get_or-replicate}
@@ -16,10 +17,15 @@ leads_head t n [] h = ap (numbered t.steps t.lists) h
 leads_head t n (s ∷ steps) h = h
 
 -- what lines give at the slot of a state and letter
-at_place : {A : Type 0} (f : ℕ → ℕ → A) (state letters letter : ℕ) → letter < letters → f ((state * letters + letter) / letters) ((state * letters + letter) % letters) ≡ f state letter
-at_place f state letters letter h = ap (λ q. f q ((state * letters + letter) % letters)) (div-mul-add state letters letter h) ∙ ap (f state) (mod-mul-add state letters letter h)
+at_place : {A : Type 0} (f : ℕ → ℕ → A) (state letters letter : ℕ) → letter < letters
+    → f ((state * letters + letter) / letters) ((state * letters + letter) % letters) ≡ f state letter
+at_place f state letters letter h = ap (λ q. f q ((state * letters + letter) % letters)) (div-mul-add state letters letter h)
+    ∙ ap (f state) (mod-mul-add state letters letter h)
 
-pub found_table : (shape : Shape) (lines : List KeptLine) (states letters : ℕ) (t : Stage) (table : Table) → IsFilled shape t (at_lines letters lines) → length t.slots ≡ states * letters → length t.slots ≤ t.conflict → table.states ≡ states → table.letters ≡ letters → table.slots.items ≡ t.slots → table.steps.items ≡ t.steps → map (λ v. v.items) table.lists.items ≡ t.lists → IsTableOf shape lines states letters table
+pub found_table : (shape : Shape) (lines : List KeptLine) (states letters : ℕ) (t : Stage) (table : Table)
+    → IsFilled shape t (at_lines letters lines) → length t.slots ≡ states * letters → length t.slots ≤ t.conflict → table.states ≡ states
+    → table.letters ≡ letters → table.slots.items ≡ t.slots → table.steps.items ≡ t.steps → map (λ v. v.items) table.lists.items ≡ t.lists
+    → IsTableOf shape lines states letters table
 found_table shape lines states letters t table f many none a b c d e = record {
   states_are = a;
   letters_are = b;
@@ -27,13 +33,16 @@ found_table shape lines states letters t table f many none a b c d e = record {
       let place : state * letters + letter < length t.slots = omega (arith, many, mul-add-lt state letters letter states h k, mul_turned states letters) in
       let in_states : ltb state table.states ≡ true = (Decides-ltb state table.states).1 (omega (arith, h, a)) in
       let in_letters : ltb letter table.letters ≡ true = (Decides-ltb letter table.letters).1 (omega (arith, k, b)) in
-      ap (λ v. cond (v && ltb letter table.letters) (numbered table.steps.items (map (λ v. v.items) table.lists.items) (get_or table.slots.items (state * table.letters + letter) 0)) None) in_states
-      ∙ ap (λ v. cond v (numbered table.steps.items (map (λ v. v.items) table.lists.items) (get_or table.slots.items (state * table.letters + letter) 0)) None) in_letters
+      ap (λ v. cond (v && ltb letter table.letters) (numbered table.steps.items (map (λ v. v.items) table.lists.items)
+      (get_or table.slots.items (state * table.letters + letter) 0)) None) in_states
+      ∙ ap (λ v. cond v (numbered table.steps.items (map (λ v. v.items) table.lists.items)
+      (get_or table.slots.items (state * table.letters + letter) 0)) None) in_letters
       ∙ ap (λ l. numbered l (map (λ v. v.items) table.lists.items) (get_or table.slots.items (state * table.letters + letter) 0)) d
       ∙ ap (λ l. numbered t.steps l (get_or table.slots.items (state * table.letters + letter) 0)) e
       ∙ ap (λ l. numbered t.steps t.lists (get_or l (state * table.letters + letter) 0)) c
       ∙ ap (λ n. numbered t.steps t.lists (get_or t.slots (state * n + letter) 0)) b
-      ∙ leads_head t (get_or t.slots (state * letters + letter) 0) (at_lines letters lines (state * letters + letter)) (f.leads (state * letters + letter) place)
+      ∙ leads_head t (get_or t.slots (state * letters + letter) 0) (at_lines letters lines (state * letters + letter))
+      (f.leads (state * letters + letter) (omega (arith, place, none)))
       ∙ ap head (at_place (kept_steps lines) state letters letter k);
   agrees = λ state letter h k.
       let place : state * letters + letter < t.conflict = omega (arith, many, none, mul-add-lt state letters letter states h k, mul_turned states letters) in
@@ -43,7 +52,9 @@ found_table shape lines states letters t table f many none a b c d e = record {
     mul_turned : (a b : ℕ) → a * b ≡ b * a
     mul_turned a b = omega arith
 
-pub first_conflict : (shape : Shape) (lines : List KeptLine) (states letters : ℕ) (t : Stage) → IsFilled shape t (at_lines letters lines) → 0 < letters → length t.slots ≡ states * letters → t.conflict < length t.slots → IsFirstConflict shape lines states letters (t.conflict / letters) (t.conflict % letters)
+pub first_conflict : (shape : Shape) (lines : List KeptLine) (states letters : ℕ) (t : Stage) → IsFilled shape t (at_lines letters lines)
+    → 0 < letters → length t.slots ≡ states * letters → t.conflict < length t.slots
+    → IsFirstConflict shape lines states letters (t.conflict / letters) (t.conflict % letters)
 first_conflict shape lines states letters t f some many there = record {
   state_below = div_below t.conflict letters states some (omega (arith, many, there));
   letter_below = mod_below t.conflict letters some;
@@ -58,8 +69,11 @@ first_conflict shape lines states letters t f some many there = record {
       subst (Agree shape) (at_place (kept_steps lines) (t.conflict / letters) letters l k) (f.agree_before (t.conflict / letters * letters + l) place);
 }
 
-pub all_filled : (shape : Shape) (letters n : ℕ) (all lines : List KeptLine) (t u : Stage) → t.slots ≡ replicate n 0 → t.conflict ≡ n → lines ≡ all → Adds shape (at_lines letters lines) t u → IsFilled shape u (at_lines letters all) × (length u.slots ≡ n)
+pub all_filled : (shape : Shape) (letters n : ℕ) (all lines : List KeptLine) (t u : Stage) → t.slots ≡ replicate n 0 → t.conflict ≡ n
+    → lines ≡ all → Adds shape (at_lines letters lines) t u → IsFilled shape u (at_lines letters all) × (length u.slots ≡ n)
 all_filled shape letters n all lines t u zeros c is a =
     let many : length t.slots ≡ n = ap length zeros ∙ length-replicate n 0 in
-    let made : IsFilled shape u (at_lines letters lines) = a.fills (λ i. []) (nothing_yet shape t (λ i h. ap (λ l. get_or l i 0) zeros ∙ get_or-replicate n i 0 0 (omega arith)) (omega arith)) in
+    let made : IsFilled shape u (at_lines letters lines) =
+    a.fills (λ i. []) (nothing_yet shape t (λ i h. ap (λ l. get_or l i 0) zeros ∙ get_or-replicate n i 0 0 (omega arith))
+    (omega arith)) in
     (subst (λ l. IsFilled shape u (at_lines letters l)) is made, a.as_many ∙ many)

@@ -19,24 +19,30 @@ slice_get_last [] x = refl
 slice_get_last (z ∷ xs) x = slice_get_last xs x
 
 -- what a number stands for, from its parts
-pub numbered_is : (steps : List Stored) (lists : List (List ℕ)) (k : ℕ) (s : Stored) (sets : List ℕ) → slice_get steps k ≡ Some s → slice_get lists s.list ≡ Some sets → numbered steps lists (suc k) ≡ Some (step s.target sets)
+pub numbered_is : (steps : List Stored) (lists : List (List ℕ)) (k : ℕ) (s : Stored) (sets : List ℕ) → slice_get steps k ≡ Some s
+    → slice_get lists s.list ≡ Some sets → numbered steps lists (suc k) ≡ Some (step s.target sets)
 numbered_is steps lists k s sets a b = grind (arith, nat_tests)
 
-pub numbered_more : (steps : List Stored) (lists : List (List ℕ)) (new_steps : List Stored) (new_lists : List (List ℕ)) (n : ℕ) (s : Step) → numbered steps lists n ≡ Some s → numbered (steps ++ new_steps) (lists ++ new_lists) n ≡ Some s
+pub numbered_more : (steps : List Stored) (lists : List (List ℕ)) (new_steps : List Stored) (new_lists : List (List ℕ)) (n : ℕ) (s : Step)
+    → numbered steps lists n ≡ Some s → numbered (steps ++ new_steps) (lists ++ new_lists) n ≡ Some s
 numbered_more steps lists new_steps new_lists zero s e = absurd (none_is_some s e)
 numbered_more steps lists new_steps new_lists (suc k) s e =
     let a = bind_some (slice_get steps k) (λ s. slice_get lists s.list >>= λ sets. Some (step s.target sets)) s e in
     let b = bind_some (slice_get lists a.0.list) (λ sets. some (step a.0.target sets)) s a.2 in
-    numbered_is (steps ++ new_steps) (lists ++ new_lists) k a.0 b.0 (slice_get_more steps new_steps k a.0 a.1) (slice_get_more lists new_lists a.0.list b.0 b.1) ∙ b.2
+    numbered_is (steps ++ new_steps) (lists ++ new_lists) k a.0 b.0 (slice_get_more steps new_steps k a.0 a.1)
+    (slice_get_more lists new_lists a.0.list b.0 b.1) ∙ b.2
 
 pub extends_refl : (t : Stage) → Extends t t
-extends_refl t = record { slots = refl; conflict = refl; numbers = λ n s e. e }
+extends_refl t = record { slots = refl; conflict = refl; held = refl; numbers = λ n s e. e }
 
-pub extends_by : (t u : Stage) (new_steps : List Stored) (new_lists : List (List ℕ)) → u.slots ≡ t.slots → u.conflict ≡ t.conflict → u.steps ≡ t.steps ++ new_steps → u.lists ≡ t.lists ++ new_lists → Extends t u
-extends_by t u new_steps new_lists a b c d = record {
+pub extends_by : (t u : Stage) (new_steps : List Stored) (new_lists : List (List ℕ)) → u.slots ≡ t.slots → u.conflict ≡ t.conflict
+    → u.held ≡ t.held → u.steps ≡ t.steps ++ new_steps → u.lists ≡ t.lists ++ new_lists → Extends t u
+extends_by t u new_steps new_lists a b h c d = record {
   slots = a;
   conflict = b;
-  numbers = λ n s e. ap (λ l. numbered l u.lists n) c ∙ ap (λ l. numbered (t.steps ++ new_steps) l n) d ∙ numbered_more t.steps t.lists new_steps new_lists n s e;
+  held = h;
+  numbers = λ n s e. ap (λ l. numbered l u.lists n) c ∙ ap (λ l. numbered (t.steps ++ new_steps) l n) d
+      ∙ numbered_more t.steps t.lists new_steps new_lists n s e;
 }
 
 pub extends_then : (t u v : Stage) → Extends t u → Extends u v → Extends t v

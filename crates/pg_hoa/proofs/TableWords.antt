@@ -1,14 +1,14 @@
 -- Words of sixty-four bits, and what they say of letters.
-use Rattle.std.proofs.Common.{◌≡◌, ℕ, suc, zero, ◌+◌, ◌-◌, ◌*◌, ◌^◌, ◌<◌, ◌≤◌, min, max, Bool, true, false, cond, ◌&&◌, ◌||◌, ◌==◌, List, [], ◌∷◌, ◌++◌, map, length, drop, get_or, refl, sym, ap, ◌∙◌, arith}
+use Rattle.std.proofs.Common.{◌≡◌, ℕ, suc, zero, ◌+◌, ◌-◌, ◌*◌, ◌^◌, ◌<◌, ◌≤◌, min, max, Bool, true, false, cond, ◌&&◌, ◌||◌, ◌==◌, List}
+use Rattle.std.proofs.Common.{[], ◌∷◌, ◌++◌, map, length, get_or, set, replicate, refl, sym, ap, subst, inl, inr, ◌∙◌, arith}
 use Rattle.std.specs.Int.{bit_at, w64}
 use Rattle.std.specs.Int.RustNames.{bit_or}
 use Rattle.std.specs.Prelude.{bit_and}
 use Rattle.std.proofs.lemmas.Nat.Bits.{bit_at_and, bit_at_or, bit_at_not, bit_at-lt, bit_at_ones, bit_at-zero, bit_at_cat_low, bit_at_cat_high, bit_at_above}
-use Rattle.std.proofs.lemmas.Bool.Decides.{Decides-below_and, Decides-eqb, nat_tests}
-use Rattle.std.proofs.lemmas.List.{reverse-append, at_drop_more}
-use Rattle.pg_hoa.specs.declared.formula.Op.{Op}
-use Rattle.pg_hoa.specs.Mirrors.Saying.{top, under, perform, run}
-use Rattle.pg_hoa.specs.Mirrors.Letters.{truth, on_at, truths}
+use Rattle.std.proofs.lemmas.Bool.Decides.{Decides-below_and, Decides-eqb, leb_tells, nat_tests}
+use Rattle.std.proofs.lemmas.List.{reverse-append, get_or-replicate, get_or-set_same, get_or-set_other}
+use Rattle.pg_hoa.specs.Mirrors.Saying.{top, under}
+use Rattle.pg_hoa.specs.Mirrors.Letters.{truth, truth_in, on_at, truths}
 
 -- ---- bits
 
@@ -55,7 +55,9 @@ has_bits word a (suc n) = (bit_at word n == bit_at n a) && has_bits word a n
 
 pub mask_low : (word a block p : ℕ) → p ≡ a → a < 6 → has_bits word a 64 ≡ true → (j : ℕ) → j < 64 → truth word j ≡ on_at block j p
 mask_low word a block p is low e j h =
-    let same : bit_at word j ≡ bit_at j a = (Decides-below_and (λ j. bit_at word j == bit_at j a) (λ j. bit_at word j ≡ bit_at j a) (has_bits word a) (λ j. Decides-eqb (bit_at word j) (bit_at j a)) refl (λ n. refl) 64).0 e j h in
+    let same : bit_at word j ≡ bit_at j a =
+    (Decides-below_and (λ j. bit_at word j == bit_at j a) (λ j. bit_at word j ≡ bit_at j a) (has_bits word a)
+    (λ j. Decides-eqb (bit_at word j) (bit_at j a)) refl (λ n. refl) 64).0 e j h in
     ap (λ b. b == 1) (same ∙ sym (bit_at_cat_low block 6 j a low)) ∙ ap (on_at block j) (sym is)
 
 pub on_high : (block j a : ℕ) → 6 ≤ a → j < 64 → on_at block j a ≡ (bit_at block (a - 6) == 1)
@@ -66,28 +68,49 @@ on_above block j a few h high =
     let small : block * 64 + j < 65536 = omega arith in
     ap (λ b. b == 1) (bit_at_above (block * 64 + j) 16 a small high)
 
+-- ---- runs
+
+pub zeros_say : (n k j : ℕ) → k < n → truth_in (replicate n 0) k j ≡ false
+zeros_say n k j h = ap (λ w. truth w j) (get_or-replicate n k 0 0 h) ∙ truth_none j
+
+pub ones_say : (n k j : ℕ) → k < n → j < 64 → truth_in (replicate n 18446744073709551615) k j ≡ true
+ones_say n k j h small = ap (λ w. truth w j) (get_or-replicate n k 18446744073709551615 0 h) ∙ truth_all j small
+
+-- one word more, in a list of words
+pub one_more_word : (Says : ℕ → ℕ → Type 0) (words : List ℕ) (k w : ℕ) → k < length words → ((i : ℕ) → i < k → Says (get_or words i 0) i)
+    → Says w k → (i : ℕ) → i < k + 1 → Says (get_or (set words k w) i 0) i
+one_more_word Says words k w h before here i below = elim (leb_tells k i) [
+  | inl p ↦
+      let is : i ≡ k = omega (arith, below, p.1) in
+      let there : get_or (set words k w) i 0 ≡ w = ap (λ n. get_or (set words k w) n 0) is ∙ get_or-set_same words k w 0 h in
+      subst (λ n. Says (get_or (set words k w) i 0) n) (sym is) (subst (λ v. Says v k) (sym there) here)
+  | inr p ↦
+      let other : (i ≡ k → ⊥) = λ e. absurd (omega (arith, p.1, e)) in
+      subst (λ v. Says v i) (sym (get_or-set_other words k i w 0 other)) (before i (omega (arith, p.1)))
+]
+
+pub other_words : (words : List ℕ) (k w i : ℕ) → k + 1 ≤ i → get_or (set words k w) i 0 ≡ get_or words i 0
+other_words words k w i h = get_or-set_other words k i w 0 (λ e. absurd (omega (arith, h, e)))
+
 -- ---- stacks
 
-pub truths_push : (j : ℕ) (stack : List ℕ) (word : ℕ) → truths j (stack ++ (word ∷ [])) ≡ truth word j ∷ truths j stack
+pub truths_push : (k j : ℕ) (stack : List (List ℕ)) (words : List ℕ) → truths k j (stack ++ (words ∷ [])) ≡ truth_in words k j ∷ truths k j stack
 unfolding truths
-truths_push j stack word = ap (map (λ word. truth word j)) (reverse-append stack (word ∷ []))
+truths_push k j stack words = ap (map (λ words. truth_in words k j)) (reverse-append stack (words ∷ []))
 
-pub truths_none : (j : ℕ) → truths j [] ≡ []
+pub truths_none : (k j : ℕ) → truths k j [] ≡ []
 unfolding truths
-truths_none j = refl
+truths_none k j = refl
 
 -- ---- operations
 
-pub answers_not : (w j : ℕ) (x z : List Bool) → w < 2 ^ 64 → j < 64 → truth w j ≡ top x → z ≡ under x → truth (18446744073709551615 - w) j ∷ z ≡ cond (top x) false true ∷ under x
-answers_not w j x z h k a b = let e = truth_not w j h k in cc
+pub answers_not : (w v : Bool) (x z : List Bool) → v ≡ cond w false true → w ≡ top x → z ≡ under x → v ∷ z ≡ cond (top x) false true ∷ under x
+answers_not w v x z e a b = cc
 
-pub answers_both : (l r j : ℕ) (x y z : List Bool) → truth r j ≡ top x → y ≡ under x → truth l j ≡ top y → z ≡ under y → truth (bit_and l r) j ∷ z ≡ (top (under x) && top x) ∷ under (under x)
-answers_both l r j x y z a b c d = let e = truth_and l r j in cc
+pub answers_both : (l r v : Bool) (x y z : List Bool) → v ≡ (l && r) → r ≡ top x → y ≡ under x → l ≡ top y → z ≡ under y
+    → v ∷ z ≡ (top (under x) && top x) ∷ under (under x)
+answers_both l r v x y z e a b c d = cc
 
-pub answers_either : (l r j : ℕ) (x y z : List Bool) → truth r j ≡ top x → y ≡ under x → truth l j ≡ top y → z ≡ under y → truth (bit_or l r) j ∷ z ≡ (top (under x) || top x) ∷ under (under x)
-answers_either l r j x y z a b c d = let e = truth_or l r j in cc
-
--- one operation more
-pub step_run : (label : List Op) (i j : ℕ) (op d : Op) (on : ℕ → Bool) (stack above pushed : List ℕ) (word : ℕ) → i < length label → op ≡ get_or label i d → truth word j ∷ truths j above ≡ perform op on (truths j stack) → pushed ≡ above ++ (word ∷ []) → run (drop (i + 1) label) on (truths j pushed) ≡ run (drop i label) on (truths j stack)
-step_run label i j op d on stack above pushed word lt is e p =
-    ap (λ s. run (drop (i + 1) label) on (truths j s)) p ∙ ap (run (drop (i + 1) label) on) (truths_push j above word ∙ e) ∙ ap (λ o. run (drop (i + 1) label) on (perform o on (truths j stack))) is ∙ sym (at_drop_more (λ ops. run ops on (truths j stack)) label i d lt)
+pub answers_either : (l r v : Bool) (x y z : List Bool) → v ≡ (l || r) → r ≡ top x → y ≡ under x → l ≡ top y → z ≡ under y
+    → v ∷ z ≡ (top (under x) || top x) ∷ under (under x)
+answers_either l r v x y z e a b c d = cc

@@ -13,7 +13,8 @@ use Rattle.pg_hoa.specs.declared.formula.Mode.TheVariants.{Operand, Opening, Nam
 use Rattle.pg_hoa.specs.Lexemes.{Lexeme, stray}
 use Rattle.pg_hoa.specs.Mirrors.Scan.{first}
 use Rattle.pg_hoa.specs.Mirrors.Steps.{◌>>=◌, Fails}
-use Rattle.pg_hoa.specs.Mirrors.FormulaRun.{Kept, not_ops, mode_goes_on, goes_on_at, mode_turn, operand_turn, operator_turn, opening_turn, naming_turn, closing_turn, turn_at, over_at, ops_from}
+use Rattle.pg_hoa.specs.Mirrors.FormulaRun.{Kept, not_ops, mode_goes_on, goes_on_at, mode_turn, operand_turn, operator_turn, opening_turn}
+use Rattle.pg_hoa.specs.Mirrors.FormulaRun.{naming_turn, closing_turn, turn_at, over_at, ops_from}
 use Rattle.pg_lists.proofs.Steps.{some_is, none_is_some}
 
 nots_more : (n : ℕ) → not_ops n ++ (Not ∷ []) ≡ not_ops (suc n)
@@ -64,16 +65,19 @@ pub first_fails : (refusal : Refusal) (k : Kind) (r : Kept) (ts : List Lexeme) �
 first_fails Memory k r ts h = tt
 first_fails (Wrong fault) k r ts h = first_none k r ts h
 
-pub turns : (k : Kind) (r more : Kept) (t : Lexeme) (rest : List Lexeme) → goes_on_at r t ≡ true → turn_at k r t ≡ Some more → ops_from k r (t ∷ rest) ≡ ops_from k more rest
+pub turns : (k : Kind) (r more : Kept) (t : Lexeme) (rest : List Lexeme) → goes_on_at r t ≡ true → turn_at k r t ≡ Some more
+    → ops_from k r (t ∷ rest) ≡ ops_from k more rest
 unfolding ops_from
 turns k r more t rest g e = rw (g, e) refl
 
-pub turn_fails : (refusal : Refusal) (k : Kind) (r : Kept) (t : Lexeme) (rest : List Lexeme) → goes_on_at r t ≡ true → Fails refusal (turn_at k r t) → Fails refusal (ops_from k r (t ∷ rest))
+pub turn_fails : (refusal : Refusal) (k : Kind) (r : Kept) (t : Lexeme) (rest : List Lexeme) → goes_on_at r t ≡ true
+    → Fails refusal (turn_at k r t) → Fails refusal (ops_from k r (t ∷ rest))
 unfolding ops_from
 turn_fails Memory k r t rest g h = tt
 turn_fails (Wrong fault) k r t rest g h = rw (g, h) refl
 
-pub ends_there : (k : Kind) (r : Kept) (t : Lexeme) (rest : List Lexeme) → goes_on_at r t ≡ false → ops_from k r (t ∷ rest) ≡ (over_at r >>= λ ops. Some (ops, t ∷ rest))
+pub ends_there : (k : Kind) (r : Kept) (t : Lexeme) (rest : List Lexeme) → goes_on_at r t ≡ false
+    → ops_from k r (t ∷ rest) ≡ (over_at r >>= λ ops. Some (ops, t ∷ rest))
 unfolding ops_from
 ends_there k r t rest g = rw g refl
 
@@ -81,6 +85,7 @@ pub ends_last : (k : Kind) (r : Kept) → ops_from k r [] ≡ (over_at r >>= λ 
 unfolding ops_from
 ends_last k r = refl
 
-pub over_fails : (refusal : Refusal) (r : Kept) (rest : List Lexeme) → Fails refusal (over_at r) → Fails {Y = List Op × List Lexeme} refusal (over_at r >>= λ ops. Some (ops, rest))
+pub over_fails : (refusal : Refusal) (r : Kept) (rest : List Lexeme) → Fails refusal (over_at r)
+    → Fails {Y = List Op × List Lexeme} refusal (over_at r >>= λ ops. Some (ops, rest))
 over_fails Memory r rest h = tt
 over_fails (Wrong fault) r rest h = rw h refl

@@ -1,8 +1,10 @@
 -- What an automaton text is, by tokens, and the automaton that it spells.
-use Rattle.std.specs.Prelude.{◌≡◌, ◌≢◌, ℕ, suc, ◌*◌, ◌^◌, ◌<◌, ◌≤◌, true, ◌||◌, ◌==◌, nat_le, max, List, [], ◌∷◌, ◌++◌, length, map, Option, Some, None, codes, if◌then◌else◌, get_or, Contains}
+use Rattle.std.specs.Prelude.{◌≡◌, ◌≢◌, ℕ, suc, ◌*◌, ◌^◌, ◌<◌, ◌≤◌, true, ◌||◌, ◌==◌, nat_le, max, List, [], ◌∷◌, ◌++◌, length, map, Option}
+use Rattle.std.specs.Prelude.{Some, None, codes, if◌then◌else◌, get_or, Contains}
 use Rattle.std.specs.List.{fold, flat_map, filter, list_any, AllByRecursion, All, range_with_len}
 use Rattle.std.specs.Int.{bit_at}
-use Rattle.pg_hoa.specs.Lexemes.{Lexeme, number, identifier, header, string, body, end, left_bracket, right_bracket, left_brace, right_brace, Character, plain, escaped, Spells}
+use Rattle.pg_hoa.specs.Lexemes.{Lexeme, number, identifier, header, string, body, end, left_bracket, right_bracket, left_brace}
+use Rattle.pg_hoa.specs.Lexemes.{right_brace, Character, plain, escaped, Spells}
 use Rattle.pg_lists.specs.Rising.{rising}
 use Rattle.pg_hoa.specs.declared.formula.Kind.TheVariants.{Label, Condition}
 use Rattle.pg_hoa.specs.Formulas.{Formula, IsWritten, formula_lexemes, holds}
@@ -131,7 +133,8 @@ count_of [] named = suc (fold max 0 named)
 abbrev pub edge_steps : ℕ → ℕ → StateLine → List Step
 edge_steps state letter l =
     if l.state == state
-    then map (λ e. record { target = e.target; sets = rising (set_list l.sets ++ set_list e.sets) }) (filter (λ e. holds e.letter (λ a. bit_at letter a == 1)) l.edges)
+    then map (λ e. record { target = e.target; sets = rising (set_list l.sets ++ set_list e.sets) })
+    (filter (λ e. holds e.letter (λ a. bit_at letter a == 1)) l.edges)
     else []
 
 abbrev pub steps_of : List StateLine → ℕ → ℕ → List Step
@@ -176,7 +179,8 @@ pub record Says (w : Written) (a : Automaton) : Type 0 where
   pub propositions : a.propositions ≡ map (λ name. map character_code name) (flat_map (λ x. x) (flat_map names w.headers))
   pub good_names : AllByRecursion IsPropositionName a.propositions
   pub controlled : AtMostOne (flat_map controls w.headers)
-  pub controllable : a.controllable ≡ map (λ p. list_any (λ n. n == p) (flat_map (λ x. x) (flat_map controls w.headers))) (range_with_len 0 (length a.propositions))
+  pub controllable : a.controllable ≡ map (λ p. list_any (λ n. n == p) (flat_map (λ x. x) (flat_map controls w.headers)))
+      (range_with_len 0 (length a.propositions))
   pub controls_below : EachBelow (length a.propositions) (flat_map (λ x. x) (flat_map controls w.headers))
   pub condition : Formula
   pub accepted : flat_map acceptances w.headers ≡ (a.sets, condition) ∷ []

@@ -1,9 +1,11 @@
 -- The texts of faults.
 use Rattle.std.specs.Prelude.{ℕ, List, ◌++◌, codes, decimal}
 use Rattle.pg_hoa.specs.declared.fault.LeftOutName.{LeftOutName}
-use Rattle.pg_hoa.specs.declared.fault.LeftOutName.TheVariants.{Alias, StateLabel, ImplicitLabel, Universal, SeveralStarts, NoStart, NegatedSet, SeveralAutomata, Abort}
+use Rattle.pg_hoa.specs.declared.fault.LeftOutName.TheVariants.{Alias, StateLabel, ImplicitLabel, Universal, SeveralStarts, NoStart}
+use Rattle.pg_hoa.specs.declared.fault.LeftOutName.TheVariants.{NegatedSet, SeveralAutomata, Abort}
 use Rattle.pg_hoa.specs.declared.fault.HoaFault.{HoaFault}
-use Rattle.pg_hoa.specs.declared.fault.HoaFault.TheVariants.{OutOfMemory, Syntax, LeftOut, UnknownHeader, OutOfRange, NotParity, NotDeterministic, TooLarge, BadName}
+use Rattle.pg_hoa.specs.declared.fault.HoaFault.TheVariants.{OutOfMemory, Syntax, LeftOut, UnknownHeader, OutOfRange, NotParity}
+use Rattle.pg_hoa.specs.declared.fault.HoaFault.TheVariants.{NotDeterministic, TooLarge, BadName}
 
 abbrev pub left_out_text : LeftOutName → List ℕ
 left_out_text Alias = codes "alias"

@@ -1,4 +1,5 @@
 -- What mirrors code: contracts of private functions cite it, and no definition that a reader has to believe does.
+pub mod Acts
 pub mod BodyScan
 pub mod Faults
 pub mod FormulaRun

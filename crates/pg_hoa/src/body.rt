@@ -1,15 +1,17 @@
 //! The states and edges of a text.
 
-ghost use Rattle.std.specs.Prelude.{◌≡◌, ◌≤◌, ◌<◌, map, length, slice_index_or, IfOk, false};
+ghost use Rattle.std.specs.Prelude.{◌≡◌, ◌≤◌, ◌<◌, ◌&&◌, nat_lt, map, length, slice_index_or, IfOk, OnOk, false, if◌then◌else◌};
+ghost use Rattle.std.specs.List.Sorted.{IsStrictlyIncreasing};
+ghost use Rattle.pg_lists.specs.Rising.{put};
 ghost use Rattle.pg_hoa.specs.Mirrors.Steps.{Gives};
 ghost use Rattle.pg_hoa.specs.Mirrors.Scan.{lexeme, lex};
-ghost use Rattle.pg_hoa.specs.Mirrors.Kept.{kept_edge, kept_line};
-ghost use Rattle.pg_hoa.specs.Mirrors.BodyScan.{due, state_of, new_state, set_in, sets_at, sets_if, behind_label, target_at, edge_at, begins_edge, edges_at, behind_name, line_at, begins_line, body_at};
+ghost use Rattle.pg_hoa.specs.Mirrors.Kept.{kept_edge, kept_line, is_never, put_edge};
+ghost use Rattle.pg_hoa.specs.Mirrors.BodyScan.{due, state_of, new_state, set_in, rising_sets_at, sets_if, behind_label, target_at, edge_at, begins_edge, kept_edges_at, behind_name, line_at, begins_line, body_at};
 
 use crate::fault::{LeftOutName, PartFault, Refusal};
 use crate::formula::{Kind, Op, read_formula};
 use crate::token::{Token, next_token, unexpected};
-use std::alloc::Global;
+use std::alloc::{AllocError, Global};
 
 /// An edge as it is read: its label, where it leads, and the sets that stand behind it.
 #[derive(Clone, Drop, PartialEq, Eq, PartialOrd, Ord)]
@@ -112,9 +114,23 @@ fn set_in(sets: u32, token: Token<'_>, left: usize) -> Result<Option<u32>, Refus
     }
 }
 
-/// Behind `{`: the numbers up to `}`.
+/// Puts a number in its place among numbers that rise, unless it stands there.
+fn put(numbers: &mut Vec<u32>, number: u32) -> Result<(), AllocError>
+    requires { IsStrictlyIncreasing numbers.old.items }
+    ensures { OnOk result (numbers.new.items ≡ put number numbers.old.items) }
+{
+    match numbers.binary_search(&number) {
+        Ok(_) => Ok(()),
+        Err(place) => {
+            numbers.insert(place, number)?;
+            Ok(())
+        }
+    }
+}
+
+/// Behind `{`: the numbers up to `}`, each once, the least first.
 fn read_sets(alloc: Global, sets: u32, bytes: &[u8]) -> Result<(Vec<u32>, &[u8]), Refusal>
-    ensures { Gives (λ x. (x.0.items, lex x.1.now)) result (sets_at sets (lex bytes.now)) }
+    ensures { Gives (λ x. (x.0.items, lex x.1.now)) result (rising_sets_at sets (lex bytes.now)) }
 {
     let mut numbers = Vec::new(alloc);
     let mut rest = bytes;
@@ -122,7 +138,7 @@ fn read_sets(alloc: Global, sets: u32, bytes: &[u8]) -> Result<(Vec<u32>, &[u8])
         let (token, left, after) = due_token(rest)?;
         match set_in(sets, token, left)? {
             Some(set) => {
-                numbers.push(set)?;
+                put(&mut numbers, set)?;
                 rest = after;
             }
             None => return Ok((numbers, after)),
@@ -208,11 +224,52 @@ fn begins_edge(token: Token<'_>, left: usize) -> Result<bool, Refusal>
     }
 }
 
-/// The edges of one state, and the bytes behind them.
+/// Whether the label is the constant that no letter has.
+fn is_never(label: &[Op]) -> bool
+    ensures { result ≡ is_never label.now }
+{
+    match label {
+        [Op::No] => true,
+        _ => false,
+    }
+}
+
+/// Whether no letter has one of these edges.
+fn are_never(a: &Edge, b: &Edge) -> bool
+    ensures { result ≡ (is_never a.now.label.items && is_never b.now.label.items) }
+{
+    is_never(&a.label) && is_never(&b.label)
+}
+
+/// Of two edges one with the greater target.
+fn with_greater_target(a: Edge, b: Edge) -> Edge
+    ensures { kept_edge result ≡ (if nat_lt a.target b.target then kept_edge b else kept_edge a) }
+{
+    if a.target < b.target { b } else { a }
+}
+
+/// Puts an edge behind the others. Of edges in a row that no letter has one is kept, with the greatest target.
+fn put_edge(edges: &mut Vec<Edge>, edge: Edge) -> Result<(), AllocError>
+    ensures { OnOk result (map kept_edge edges.new.items ≡ put_edge (map kept_edge edges.old.items) (kept_edge edge)) }
+{
+    let Some(last) = edges.pop() else {
+        edges.push(edge)?;
+        return Ok(());
+    };
+    if are_never(&last, &edge) {
+        edges.push(with_greater_target(last, edge))?;
+        return Ok(());
+    }
+    edges.push(last)?;
+    edges.push(edge)?;
+    Ok(())
+}
+
+/// The edges of one state that are kept, and the bytes behind all.
 fn read_edges(alloc: Global, ranges: Ranges, bytes: &[u8]) -> Result<(Vec<Edge>, &[u8]), Refusal>
     requires { ranges.states ≤ 65535 }
     ensures { Gives (λ x. (map kept_edge x.0.items, lex x.1.now)) result
-        (edges_at ranges.states ranges.propositions ranges.sets (lex bytes.now)) }
+        (kept_edges_at ranges.states ranges.propositions ranges.sets (lex bytes.now)) }
 {
     let mut edges = Vec::new(alloc);
     let mut rest = bytes;
@@ -223,7 +280,7 @@ fn read_edges(alloc: Global, ranges: Ranges, bytes: &[u8]) -> Result<(Vec<Edge>,
             return Ok((edges, rest));
         }
         let (edge, behind) = read_edge(alloc, ranges, after)?;
-        edges.push(edge)?;
+        put_edge(&mut edges, edge)?;
         rest = behind;
     }
 }

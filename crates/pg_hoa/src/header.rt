@@ -1,11 +1,12 @@
 //! The headers of a text.
 
-ghost use Rattle.std.specs.Prelude.{◌≡◌, [], IfOk, option_map, map};
+ghost use Rattle.std.specs.Prelude.{◌≡◌, [], ◌==◌, IfOk, OnOk, option_map, map};
+ghost use Rattle.std.specs.List.{list_any};
 ghost use Rattle.pg_hoa.specs.Mirrors.Steps.{Gives};
 ghost use Rattle.pg_hoa.specs.Mirrors.Scan.{characters, lex, lexeme};
 ghost use Rattle.pg_hoa.specs.AutomatonText.{character_code};
 ghost use Rattle.pg_hoa.specs.Mirrors.Kept.{KeptHead, kept_head};
-ghost use Rattle.pg_hoa.specs.Mirrors.HeaderScan.{numeral_of, numeral_at, alone_at, numbers_from, is_value, skipped_from, code_at, is_name_byte, is_name, name_of, quoted_of, quoted_at, names_from, states_at, start_at, names_at, acceptance_at, controls_at, begins_low, other_at, header_at, is_header, is_word, opening_at, version_at, headers_from, headers_at};
+ghost use Rattle.pg_hoa.specs.Mirrors.HeaderScan.{numeral_of, numeral_at, alone_at, note, noted_at, is_value, skipped_from, code_at, is_name_byte, is_name, name_of, quoted_of, quoted_at, names_from, states_at, start_at, names_at, acceptance_at, controls_at, begins_low, other_at, header_at, is_header, is_word, opening_at, version_at, headers_from, headers_at};
 
 use crate::fault::{LeftOutName, PartFault, Refusal};
 use crate::formula::{Kind, Op, read_formula};
@@ -99,9 +100,29 @@ fn alone(bytes: &[u8]) -> Result<&[u8], Refusal>
     }
 }
 
-/// Numbers until another token, each with how many bytes are left from it on, and the bytes behind them.
+/// Whether the number stands in the list.
+pub fn is_noted(numbers: &[(u32, usize)], number: usize) -> bool
+    ensures { result ≡ list_any (λ x. x.0 == number) numbers.now }
+{
+    numbers.iter().any(|noted| noted.0 as usize == number)
+}
+
+/// Puts a number behind the others, unless it stands there. All from 16 on, which no proposition has, are noted as 16.
+fn note(numbers: &mut Vec<(u32, usize)>, number: u32, left: usize) -> Result<(), AllocError>
+    ensures { OnOk result (map (λ y. y.0) numbers.new.items ≡ note (map (λ y. y.0) numbers.old.items) number) }
+{
+    let number = number.min(16);
+    if is_noted(numbers, number as usize) {
+        return Ok(());
+    }
+    numbers.push((number, left))?;
+    Ok(())
+}
+
+/// Numbers until another token, as they are noted, each with how many bytes are left from where it stands first, and the
+/// bytes behind them.
 fn read_numbers(alloc: Global, bytes: &[u8]) -> Result<(Vec<(u32, usize)>, &[u8]), Refusal>
-    ensures { Gives (λ x. (map (λ y. y.0) x.0.items, lex x.1.now)) result (numbers_from [] (lex bytes.now)) }
+    ensures { Gives (λ x. (map (λ y. y.0) x.0.items, lex x.1.now)) result (noted_at (lex bytes.now)) }
 {
     let mut numbers = Vec::new(alloc);
     let mut rest = bytes;
@@ -109,7 +130,7 @@ fn read_numbers(alloc: Global, bytes: &[u8]) -> Result<(Vec<(u32, usize)>, &[u8]
         let (found, left, after) = next_token(rest)?;
         match number(found) {
             Some(n) => {
-                numbers.push((n, left))?;
+                note(&mut numbers, n, left)?;
                 rest = after;
             }
             None => return Ok((numbers, rest)),

@@ -1,14 +1,15 @@
-//! Which letters a label says yes to, sixty-four at a time.
+//! Which letters a label says yes to: a run of sixteen blocks of sixty-four letters at a time.
 
-ghost use Rattle.std.specs.Prelude.{◌≡◌, ℕ, ◌<◌, ◌≤◌, ◌∷◌, IfOk};
-ghost use Rattle.pg_hoa.specs.Mirrors.Saying.{top, under, perform, says};
-ghost use Rattle.pg_hoa.specs.Mirrors.Letters.{truth, on_at, truths};
+ghost use Rattle.std.specs.Prelude.{◌≡◌, ℕ, ◌+◌, ◌*◌, ◌<◌, ◌≤◌, ◌∷◌, Bool, ◌&&◌, ◌||◌, true, false, if◌then◌else◌, get_or, bit_and, IfOk};
+ghost use Rattle.pg_hoa.specs.Mirrors.Saying.{top, under};
+ghost use Rattle.pg_hoa.specs.Mirrors.Letters.{truth, truth_in, on_at, truths};
+ghost use Rattle.pg_hoa.specs.Mirrors.Acts.{fits, act, Speaks};
 
-use crate::formula::Op;
+use crate::terms::{Act, Term};
 use std::alloc::AllocError;
 
 /// In which letters of the block, of which there are sixty-four, the proposition holds.
-fn mask(block: u32, proposition: u32) -> u64
+pub fn mask(block: u32, proposition: u32) -> u64
     requires { block < 1024 }
     ensures { (j : ℕ) → j < 64 → truth result j ≡ on_at block j proposition }
 {
@@ -36,52 +37,109 @@ fn high_mask(block: u32, proposition: u32) -> u64
     if bit == 1 { u64::MAX } else { 0 }
 }
 
-/// The top word, or 0 where there is none.
-fn pop(stack: &mut Vec<u64>) -> u64
-    ensures top { (j : ℕ) → truth result j ≡ top (truths j stack.old.items) }
-    ensures under { (j : ℕ) → truths j stack.new.items ≡ under (truths j stack.old.items) }
+/// The letters of the block that fit the term.
+fn block_word(block: u32, term: Term) -> u64
+    ensures { (j : ℕ) → truth result j ≡ fits block j term }
+{
+    if block & u32::from(term.care) == u32::from(term.value) {
+        term.word
+    } else {
+        0
+    }
+}
+
+/// Whether a block of the run may have letters that fit.
+fn may_meet(run: u32, term: Term) -> bool
+    ensures { result ≡ false → (k : ℕ) → k < 16 → bit_and (run * 16 + k) term.care ≡ term.value → ⊥ }
+{
+    run & u32::from(term.care >> 4) == u32::from(term.value >> 4)
+}
+
+/// The letters of the run that fit the term.
+fn term_words(run: u32, term: Term) -> [u64; 16]
+    requires { run < 64 }
+    ensures { (k j : ℕ) → k < 16 → truth_in result k j ≡ fits (run * 16 + k) j term }
+{
+    let mut words = [0; 16];
+    if may_meet(run, term) {
+        for k in 0..16 {
+            words[k] = block_word(run * 16 + k as u32, term);
+        }
+    }
+    words
+}
+
+fn turned(mut words: [u64; 16]) -> [u64; 16]
+    ensures { (k j : ℕ) → k < 16 → j < 64 → truth_in result k j ≡ (if truth_in words k j then false else true) }
+{
+    for k in 0..16 {
+        words[k] = !words[k];
+    }
+    words
+}
+
+fn both(mut left: [u64; 16], right: [u64; 16]) -> [u64; 16]
+    ensures { (k j : ℕ) → k < 16 → truth_in result k j ≡ (truth_in left k j && truth_in right k j) }
+{
+    for k in 0..16 {
+        left[k] &= right[k];
+    }
+    left
+}
+
+fn either(mut left: [u64; 16], right: [u64; 16]) -> [u64; 16]
+    ensures { (k j : ℕ) → k < 16 → truth_in result k j ≡ (truth_in left k j || truth_in right k j) }
+{
+    for k in 0..16 {
+        left[k] |= right[k];
+    }
+    left
+}
+
+/// The top words, or zeros where there are none.
+fn pop(stack: &mut Vec<[u64; 16]>) -> [u64; 16]
+    ensures top { (k j : ℕ) → k < 16 → truth_in result k j ≡ top (truths k j stack.old.items) }
+    ensures under { (k j : ℕ) → truths k j stack.new.items ≡ under (truths k j stack.old.items) }
 {
     match stack.pop() {
-        Some(word) => word,
-        None => 0,
+        Some(words) => words,
+        None => [0; 16],
     }
 }
 
-/// What the operation leaves on top of the stack.
-fn answer(op: Op, block: u32, stack: &mut Vec<u64>) -> u64
-    requires { block < 1024 }
-    ensures { (j : ℕ) → j < 64 → truth result j ∷ truths j stack.new.items
-        ≡ perform op (on_at block j) (truths j stack.old.items) }
+/// What the act leaves on top of the stack.
+fn answer(step: Act, run: u32, stack: &mut Vec<[u64; 16]>) -> [u64; 16]
+    requires { run < 64 }
+    ensures { (k j : ℕ) → k < 16 → j < 64 → truth_in result k j ∷ truths k j stack.new.items
+        ≡ act step (run * 16 + k) j (truths k j stack.old.items) }
 {
-    match op {
-        Op::Yes => u64::MAX,
-        Op::No => 0,
-        Op::Proposition(a) => mask(block, a),
-        Op::Inf(a) => mask(block, a),
-        Op::Fin(a) => !mask(block, a),
-        Op::Not => !pop(stack),
-        Op::Both => {
+    match step {
+        Act::Put(term) => term_words(run, term),
+        Act::Not => turned(pop(stack)),
+        Act::Both => {
             let right = pop(stack);
             let left = pop(stack);
-            left & right
+            both(left, right)
         }
-        Op::Either => {
+        Act::Either => {
             let right = pop(stack);
             let left = pop(stack);
-            left | right
+            either(left, right)
         }
+        Act::BothTerm(term) => both(pop(stack), term_words(run, term)),
+        Act::EitherTerm(term) => either(pop(stack), term_words(run, term)),
     }
 }
 
-/// The letters of a block to which the label says yes. What the stack holds is lost.
-pub fn word_of(label: &[Op], block: u32, stack: &mut Vec<u64>) -> Result<u64, AllocError>
-    requires { block < 1024 }
-    ensures { IfOk result (λ word. (j : ℕ) → j < 64 → truth word j ≡ says label.now (on_at block j)) }
+/// The letters of a run at which the acts leave yes. What the stack holds is lost.
+pub fn words_of(acts: &[Act], run: u32, stack: &mut Vec<[u64; 16]>) -> Result<[u64; 16], AllocError>
+    requires { run < 64 }
+    ensures { IfOk result (Speaks acts.now run) }
 {
     stack.clear();
-    for op in label {
-        let word = answer(*op, block, stack);
-        stack.push(word)?;
+    for step in acts {
+        let words = answer(*step, run, stack);
+        stack.push(words)?;
     }
     Ok(pop(stack))
 }

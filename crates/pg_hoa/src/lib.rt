@@ -14,6 +14,7 @@ mod repeats;
 mod settle;
 mod shape;
 mod table;
+mod terms;
 mod token;
 
 pub use automaton::Automaton;

@@ -1,12 +1,14 @@
 //! Which letters a label can say yes to, by bits that such letters have.
 
-ghost use Rattle.std.specs.Prelude.{◌≡◌, ℕ, ◌+◌, ◌*◌, ◌<◌, Bool, ◌&&◌, ◌||◌, true, false, List, if◌then◌else◌, IfOk};
+ghost use Rattle.std.specs.Prelude.{◌≡◌, ℕ, ◌+◌, ◌*◌, ◌/◌, ◌%◌, ◌<◌, Bool, ◌&&◌, ◌||◌, true, false, List, if◌then◌else◌, IfOk, OnOk};
 ghost use Rattle.pg_hoa.specs.Mirrors.Saying.{top, under, perform, says};
-ghost use Rattle.pg_hoa.specs.Mirrors.Letters.{truth, on_at};
+ghost use Rattle.pg_hoa.specs.Mirrors.Letters.{truth};
+ghost use Rattle.pg_hoa.specs.Mirrors.Acts.{done, Speaks};
 ghost use Rattle.pg_hoa.specs.Mirrors.Needs.{on_letter, Fits, Allows, AllowsStack};
 
 use crate::formula::Op;
-use crate::letters::word_of;
+use crate::letters::words_of;
+use crate::terms::Act;
 use std::alloc::AllocError;
 
 /// Bits of a letter: those of `care`, where the letter has what `value` has.
@@ -27,7 +29,8 @@ pub struct Need {
 #[derive(Drop)]
 pub struct Stacks {
     pub needs: Vec<Need>,
-    pub words: Vec<u64>,
+    pub acts: Vec<Act>,
+    pub words: Vec<[u64; 16]>,
 }
 
 /// Each letter fits.
@@ -168,27 +171,47 @@ pub fn bits_of(label: &[Op], stack: &mut Vec<Need>) -> Result<Bits, AllocError>
     Ok(pop(stack).yes)
 }
 
-/// Whether a letter of the block, of which there are sixty-four, may fit.
-fn may_fit(block: u32, bits: Bits) -> bool
-    ensures { result ≡ false → (j : ℕ) → j < 64 → Fits (block * 64 + j) bits → ⊥ }
+/// Whether a letter of the run, of which there are 1,024, may fit.
+fn may_fit(run: u32, bits: Bits) -> bool
+    ensures { result ≡ false → (k j : ℕ) → k < 16 → j < 64 → Fits ((run * 16 + k) * 64 + j) bits → ⊥ }
 {
-    block & (bits.care >> 6) == bits.value >> 6
+    run & (bits.care >> 10) == bits.value >> 10
 }
 
-/// The letters of a block to which the label says yes, which all have the bits.
-pub fn fitting_word(
-    label: &[Op],
+/// The letters of a run at which the acts leave yes, which all have the bits.
+fn fitting_words(
+    acts: &[Act],
+    bits: Bits,
+    run: u32,
+    stack: &mut Vec<[u64; 16]>,
+) -> Result<[u64; 16], AllocError>
+    requires few { run < 64 }
+    requires fit { (b j : ℕ) → b < 1024 → j < 64 → top (done acts.now b j) ≡ true → Fits (b * 64 + j) bits }
+    ensures { IfOk result (Speaks acts.now run) }
+{
+    if may_fit(run, bits) {
+        words_of(acts, run, stack)
+    } else {
+        Ok([0; 16])
+    }
+}
+
+/// The letters of a block at which the acts leave yes. The words are those of the block's run, and are made where it begins.
+pub fn word_of(
+    acts: &[Act],
     bits: Bits,
     block: u32,
-    stack: &mut Vec<u64>,
+    words: &mut [u64; 16],
+    stack: &mut Vec<[u64; 16]>,
 ) -> Result<u64, AllocError>
     requires few { block < 1024 }
-    requires fit { (letter : ℕ) → says label.now (on_letter letter) ≡ true → Fits letter bits }
-    ensures { IfOk result (λ word. (j : ℕ) → j < 64 → truth word j ≡ says label.now (on_at block j)) }
+    requires fit { (b j : ℕ) → b < 1024 → j < 64 → top (done acts.now b j) ≡ true → Fits (b * 64 + j) bits }
+    requires begun { (block % 16 ≡ 0 → ⊥) → Speaks acts.now (block / 16) words.old }
+    ensures word { IfOk result (λ word. (j : ℕ) → j < 64 → truth word j ≡ top (done acts.now block j)) }
+    ensures words { OnOk result (Speaks acts.now (block / 16) words.new) }
 {
-    if may_fit(block, bits) {
-        word_of(label, block, stack)
-    } else {
-        Ok(0)
+    if block % 16 == 0 {
+        *words = fitting_words(acts, bits, block / 16, stack)?;
     }
+    Ok(words[(block % 16) as usize])
 }

@@ -1,12 +1,12 @@
 //! The headers of a text, once they are whole.
 
-ghost use Rattle.std.specs.Prelude.{◌≡◌, ◌<◌, ◌==◌, map, IfOk, IfErr, MatchOption, MatchBool};
-ghost use Rattle.std.specs.List.{All, list_any};
+ghost use Rattle.std.specs.Prelude.{◌≡◌, ◌<◌, map, IfOk, IfErr, MatchOption, MatchBool};
+ghost use Rattle.std.specs.List.{All};
 ghost use Rattle.pg_hoa.specs.Mirrors.Kept.{kept_head};
 ghost use Rattle.pg_hoa.specs.Mirrors.Settling.{settled, IsSettled, HasCondition, NeverSettled, StartsBelow, marked};
 
 use crate::fault::{LeftOutName, PartFault, Refusal};
-use crate::header::Head;
+use crate::header::{Head, is_noted};
 use crate::shape::{Shape, shape_of};
 use std::alloc::{AllocError, Global};
 
@@ -22,22 +22,13 @@ pub struct Settled {
     pub shape: Shape,
 }
 
-/// Whether the proposition's number stands in the list.
-fn is_marked(controls: &[(u32, usize)], proposition: usize) -> bool
-    ensures { result ≡ list_any (λ x. x.0 == proposition) controls.now }
-{
-    controls
-        .iter()
-        .any(|control| control.0 as usize == proposition)
-}
-
 /// For each proposition, whether its number stands in the list.
 fn marked(alloc: Global, controls: &[(u32, usize)], count: usize) -> Result<Vec<bool>, AllocError>
     ensures { IfOk result (λ v. v.items ≡ marked (map (λ x. x.0) controls.now) count) }
 {
     let mut marks = Vec::new(alloc);
     for proposition in 0..count {
-        marks.push(is_marked(controls, proposition))?;
+        marks.push(is_noted(controls, proposition))?;
     }
     Ok(marks)
 }

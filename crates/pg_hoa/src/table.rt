@@ -1,18 +1,20 @@
 //! The table of steps by state and letter.
 
-ghost use Rattle.std.specs.Prelude.{◌≡◌, ℕ, ◌+◌, ◌*◌, ◌^◌, ◌<◌, ◌≤◌, List, ◌++◌, map, length, get_or, max, slice_get, option_map, Some, IfSome, IfOk, OnOk, IfErr};
+ghost use Rattle.std.specs.Prelude.{◌≡◌, ℕ, true, [], ◌+◌, ◌*◌, ◌^◌, ◌<◌, ◌≤◌, List, ◌++◌, map, length, get_or, max, slice_get, option_map, Some, IfSome, IfOk, OnOk, IfErr};
 ghost use Rattle.std.specs.List.{All, fold};
 ghost use Rattle.pg_hoa.specs.Automata.{deciding, step};
 ghost use Rattle.pg_lists.specs.Rising.{rising};
 ghost use Rattle.pg_hoa.specs.Mirrors.Kept.{kept_line};
-ghost use Rattle.pg_hoa.specs.Mirrors.Tables.{way_step, IsDecided, with_set, same_set, agree, Extends, IsSplit, numbered, next, stage, MayNumber, Adds, at_slot, at_word, at_letters, at_line, IsTableOf, IsConflictOf, kept_numbers, kept_count};
+ghost use Rattle.pg_hoa.specs.Mirrors.Tables.{way_step, IsDecided, with_set, same_set, agree, Extends, IsSplit, numbered, next, stage, MayNumber, HasKey, AreHeld, Adds, at_slot, at_word, at_letters, at_line, IsTableOf, IsConflictOf, kept_numbers, kept_count};
+ghost use Rattle.pg_hoa.specs.Mirrors.Letters.{truth};
 
 use crate::body::ReadState;
 use crate::fault::Conflict;
 use crate::formula::Op;
-use crate::needs::{Stacks, bits_of, fitting_word};
+use crate::needs::{Stacks, bits_of, word_of};
 use crate::repeats::{is_repeated, is_same_list};
 use crate::shape::Shape;
+use crate::terms::acts_of;
 use std::alloc::{AllocError, Global};
 use std::collections::BTreeMap;
 
@@ -45,8 +47,18 @@ pub struct Way<'a> {
     more: &'a [u32],
 }
 
-/// A table that is being filled, where each list of sets is by its place, and the first slot whose steps don't agree,
-/// or how many slots there are.
+/// Slots known to hold steps that lead to this target, where this set counts: those at the bits of the word, from the first
+/// on.
+#[derive(Clone, Copy, Debug)]
+pub struct Held {
+    first: usize,
+    target: u32,
+    counts: Option<u32>,
+    word: u64,
+}
+
+/// A table that is being filled, where each list of sets is by its place, the first slot whose steps don't agree, or how
+/// many slots there are, and what is known of the slots before that one.
 #[derive(Drop)]
 pub struct Filling {
     slots: Vec<u32>,
@@ -54,7 +66,13 @@ pub struct Filling {
     lists: Vec<Vec<u32>>,
     known: BTreeMap<Vec<u32>, u32>,
     conflict: usize,
+    held: Vec<Held>,
 }
+
+/// For how many blocks of letters it is known what they hold, at four keys each.
+const HELD_BLOCKS: usize = 1024;
+
+const HELD: usize = 4096;
 
 /// The step with the number, counted from 1.
 fn numbered<'a>(steps: &[Stored], lists: &'a [Vec<u32>], number: u32) -> Option<(u32, &'a [u32])>
@@ -203,6 +221,8 @@ fn place(
     ensures adds { OnOk result (Adds way.now.shape (at_slot slot (way_step way.now)) (stage filling.old)
         (stage filling.new)) }
     ensures known { IfOk result (λ n. MayNumber (stage filling.new) n (way_step way.now)) }
+    ensures has { OnOk result (slot < filling.new.conflict
+        → HasKey way.now.shape (stage filling.new) slot way.now.target way.now.counts) }
 {
     match compared(filling, way, slot) {
         Some(true) => Ok(number),
@@ -242,6 +262,8 @@ fn place_word(
     ensures adds { OnOk result (Adds way.now.shape (at_word first width word (way_step way.now)) (stage filling.old)
         (stage filling.new)) }
     ensures known { IfOk result (λ n. MayNumber (stage filling.new) n (way_step way.now)) }
+    ensures has { OnOk result ((j : ℕ) → j < width → truth word j ≡ true → first + j < filling.new.conflict
+        → HasKey way.now.shape (stage filling.new) (first + j) way.now.target way.now.counts) }
 {
     let mut at: u32 = 0;
     'bits: while at < width {
@@ -257,6 +279,101 @@ fn place_word(
         at = next + 1;
     }
     Ok(number)
+}
+
+/// Where it is noted which slots of the block hold such a step.
+fn held_place(way: &Way<'_>, first: usize) -> usize {
+    let key = way.target ^ way.counts.unwrap_or(0);
+    (key % 4) as usize * HELD_BLOCKS + first / 64 % HELD_BLOCKS
+}
+
+/// The slots of the block that are noted there as holding such a step.
+fn held_word(filling: &Filling, way: &Way<'_>, first: usize, at: usize) -> u64
+    requires { AreHeld way.now.shape (stage filling.now) }
+    ensures { (j : ℕ) → j < 64 → truth result j ≡ true → first + j < filling.now.conflict
+        → HasKey way.now.shape (stage filling.now) (first + j) way.now.target way.now.counts }
+{
+    if at >= filling.held.len() {
+        return 0;
+    }
+    let held = filling.held[at];
+    if held.first == first && held.target == way.target && same_set(held.counts, way.counts) {
+        held.word
+    } else {
+        0
+    }
+}
+
+/// Notes there that the slots of the block that stand at the bits of the word hold such a step.
+fn note(filling: &mut Filling, way: &Way<'_>, first: usize, at: usize, word: u64)
+    requires { (j : ℕ) → j < 64 → truth word j ≡ true → first + j < filling.old.conflict
+        → HasKey way.now.shape (stage filling.old) (first + j) way.now.target way.now.counts }
+    ensures adds { Adds way.now.shape (λ i. []) (stage filling.old) (stage filling.new) }
+    ensures known { (n : ℕ) → MayNumber (stage filling.old) n (way_step way.now)
+        → MayNumber (stage filling.new) n (way_step way.now) }
+{
+    if at < filling.held.len() {
+        filling.held[at] = Held {
+            first,
+            target: way.target,
+            counts: way.counts,
+            word,
+        };
+    }
+}
+
+/// Gives the step to the slots of a whole block that stand at the bits of the word.
+fn place_block(
+    alloc: Global,
+    filling: &mut Filling,
+    way: &Way<'_>,
+    first: usize,
+    word: u64,
+    number: u32,
+) -> Result<u32, AllocError>
+    requires decided { IsDecided way.now }
+    requires held { AreHeld way.now.shape (stage filling.old) }
+    requires within { first + 64 ≤ length filling.old.slots.items }
+    requires known { MayNumber (stage filling.old) number (way_step way.now) }
+    ensures adds { OnOk result (Adds way.now.shape (at_word first 64 word (way_step way.now)) (stage filling.old)
+        (stage filling.new)) }
+    ensures known { IfOk result (λ n. MayNumber (stage filling.new) n (way_step way.now)) }
+{
+    let at = held_place(way, first);
+    let known = held_word(filling, way, first, at);
+    let rest = word & !known;
+    if rest == 0 {
+        return Ok(number);
+    }
+    let number = place_word(alloc, filling, way, first, 64, rest, number)?;
+    note(filling, way, first, at, known | rest);
+    Ok(number)
+}
+
+/// Gives the step to the slots of a block that stand at the bits of the word.
+fn place_letters(
+    alloc: Global,
+    filling: &mut Filling,
+    way: &Way<'_>,
+    first: usize,
+    width: u32,
+    word: u64,
+    number: u32,
+) -> Result<u32, AllocError>
+    requires decided { IsDecided way.now }
+    requires held { AreHeld way.now.shape (stage filling.old) }
+    requires within { first + width ≤ length filling.old.slots.items }
+    requires narrow { width ≤ 64 }
+    requires known { MayNumber (stage filling.old) number (way_step way.now) }
+    ensures adds { OnOk result (Adds way.now.shape (at_word first width word (way_step way.now)) (stage filling.old)
+        (stage filling.new)) }
+    ensures known { IfOk result (λ n. MayNumber (stage filling.new) n (way_step way.now)) }
+{
+    if width == 64 {
+        place_block(alloc, filling, way, first, word, number)
+    } else {
+        place_word(alloc, filling, way, first, width, word, number)
+    }
 }
 
 /// How many blocks of letters there are, and how many letters a block has.
@@ -282,6 +399,7 @@ fn add_edge(
     label: &[Op],
 ) -> Result<(), AllocError>
     requires decided { IsDecided way.now }
+    requires held { AreHeld way.now.shape (stage filling.old) }
     requires few { propositions ≤ 16 }
     requires within { first + 2 ^ propositions ≤ length filling.old.slots.items }
     ensures { OnOk result (Adds way.now.shape (at_letters first (2 ^ propositions) label.now (way_step way.now))
@@ -289,12 +407,18 @@ fn add_edge(
 {
     let (blocks, width) = blocks_of(propositions);
     let bits = bits_of(label, &mut stacks.needs)?;
+    acts_of(label, &mut stacks.acts)?;
+    let acts = stacks.acts.as_slice();
     let mut number = 0;
+    let mut words = [0; 16];
     for block in 0..blocks {
-        let word = fitting_word(label, bits, block, &mut stacks.words)?;
+        let at = first + (block * width) as usize;
+        if at >= filling.conflict {
+            return Ok(());
+        }
+        let word = word_of(acts, bits, block, &mut words, &mut stacks.words)?;
         if word != 0 {
-            let at = first + (block * width) as usize;
-            number = place_word(alloc, filling, way, at, width, word, number)?;
+            number = place_letters(alloc, filling, way, at, width, word, number)?;
         }
     }
     Ok(())
@@ -309,6 +433,7 @@ fn add_line(
     propositions: u32,
     line: &ReadState,
 ) -> Result<(), AllocError>
+    requires held { AreHeld shape (stage filling.old) }
     requires few { propositions ≤ 16 }
     requires within { line.now.state * 2 ^ propositions + 2 ^ propositions ≤ length filling.old.slots.items }
     ensures { OnOk result (Adds shape (at_line (2 ^ propositions) (kept_line line.now)) (stage filling.old)
@@ -366,9 +491,16 @@ pub fn table_of(
         lists: Vec::new(alloc),
         known: BTreeMap::new(alloc),
         conflict: total,
+        held: vec![in alloc; Held {
+            first: 0,
+            target: 0,
+            counts: None,
+            word: 0
+        }; HELD]?,
     };
     let mut stacks = Stacks {
         needs: Vec::new(alloc),
+        acts: Vec::new(alloc),
         words: Vec::new(alloc),
     };
     for line in lines {

@@ -2,12 +2,13 @@
 use Rattle.std.specs.Prelude.{ℕ, suc, zero, Bool, true, false, ◌==◌, nat_lt, List, [], ◌∷◌, length, Option, Some, None, codes, if◌then◌else◌}
 use Rattle.std.specs.List.{list_any}
 use Rattle.std.specs.Str.{bytes_eq}
+use Rattle.pg_lists.specs.Rising.{rising}
 use Rattle.pg_hoa.specs.Lexemes.{Lexeme, number, header, string, end, left_bracket, right_bracket, left_brace, right_brace, ampersand}
 use Rattle.pg_hoa.specs.Mirrors.Scan.{first}
 use Rattle.pg_hoa.specs.Mirrors.Steps.{◌>>=◌}
 use Rattle.pg_hoa.specs.declared.formula.Kind.TheVariants.{Label}
 use Rattle.pg_hoa.specs.Mirrors.FormulaRun.{ops_at}
-use Rattle.pg_hoa.specs.Mirrors.Kept.{KeptEdge, KeptLine}
+use Rattle.pg_hoa.specs.Mirrors.Kept.{KeptEdge, KeptLine, put_edges}
 
 -- the token that has to stand first, and what follows
 unfoldable pub due : List Lexeme → Option (Lexeme × List Lexeme)
@@ -39,8 +40,12 @@ unfoldable pub sets_at : ℕ → List Lexeme → Option (List ℕ × List Lexeme
 sets_at sets [] = None
 sets_at sets (t ∷ rest) = set_in sets t >>= behind_set (sets_at sets rest) rest
 
+-- the same, each once and the least first
+unfoldable pub rising_sets_at : ℕ → List Lexeme → Option (List ℕ × List Lexeme)
+rising_sets_at sets tokens = sets_at sets tokens >>= λ x. Some (rising x.0, x.1)
+
 abbrev pub sets_before : ℕ → List Lexeme → Lexeme × List Lexeme → Option (List ℕ × List Lexeme)
-sets_before sets tokens (left_brace, rest) = sets_at sets rest
+sets_before sets tokens (left_brace, rest) = rising_sets_at sets rest
 sets_before sets tokens (t, rest) = Some ([], tokens)
 
 -- the sets where a `{` stands, and else none
@@ -90,6 +95,10 @@ edges_within (suc n) states propositions sets tokens =
 unfoldable pub edges_at : ℕ → ℕ → ℕ → List Lexeme → Option (List KeptEdge × List Lexeme)
 edges_at states propositions sets tokens = edges_within (suc (length tokens)) states propositions sets tokens
 
+-- those of them that are kept
+unfoldable pub kept_edges_at : ℕ → ℕ → ℕ → List Lexeme → Option (List KeptEdge × List Lexeme)
+kept_edges_at states propositions sets tokens = edges_at states propositions sets tokens >>= λ x. Some (put_edges [] x.0, x.1)
+
 -- ---- lines
 
 abbrev pub name_first : List Lexeme → Lexeme × List Lexeme → Option (List Lexeme)
@@ -103,7 +112,7 @@ behind_name tokens = due tokens >>= name_first tokens
 -- behind `State:`
 unfoldable pub line_at : ℕ → ℕ → ℕ → (ℕ → Bool) → List Lexeme → Option (KeptLine × List Lexeme)
 line_at states propositions sets seen tokens =
-    due tokens >>= λ t. new_state states seen t.0 >>= λ n. behind_name t.1 >>= λ rest. sets_if sets rest >>= λ x. edges_at states propositions sets x.1 >>= λ y.
+    due tokens >>= λ t. new_state states seen t.0 >>= λ n. behind_name t.1 >>= λ rest. sets_if sets rest >>= λ x. kept_edges_at states propositions sets x.1 >>= λ y.
     Some (record { state = n; sets = x.0; edges = y.0 }, y.1)
 
 -- whether a line begins; else the body ends
@@ -120,7 +129,8 @@ lines_within zero states propositions sets seen tokens = None
 lines_within (suc n) states propositions sets seen tokens =
     due tokens >>= λ t. begins_line t.0 >>= λ more.
     if more
-    then (line_at states propositions sets (is_seen seen) t.1 >>= λ x. lines_within n states propositions sets (x.0.state ∷ seen) x.1 >>= λ y. Some (x.0 ∷ y.0, y.1))
+    then (line_at states propositions sets (is_seen seen) t.1 >>= λ x. lines_within n states propositions sets
+    (x.0.state ∷ seen) x.1 >>= λ y. Some (x.0 ∷ y.0, y.1))
     else Some ([], t.1)
 
 -- behind `--BODY--`, up to and with `--END--`

@@ -72,20 +72,42 @@ operand_at r op = completed_at (with_op r op)
 unfoldable pub negated_at : Kept → Option Kept
 negated_at r =
     if nat_lt r.top.nots r.top.room
-    then Some (record { mode = Operand; top = record { sum = r.top.sum; product = r.top.product; nots = r.top.nots + 1; room = r.top.room }; outer = r.outer; ops = r.ops })
+    then Some (record {
+      mode = Operand;
+      top = record {
+        sum = r.top.sum;
+        product = r.top.product;
+        nots = r.top.nots + 1;
+        room =
+            r.top.room;
+      };
+      outer = r.outer;
+      ops = r.ops;
+    })
     else None
 
 unfoldable pub opened_at : Kept → Option Kept
 opened_at r =
     if nat_lt r.top.nots r.top.room
-    then Some (record { mode = Operand; top = record { sum = false; product = false; nots = 0; room = r.top.room - r.top.nots - 1 }; outer = r.outer ++ (r.top ∷ []); ops = r.ops })
+    then Some (record {
+      mode = Operand;
+      top = record { sum = false; product = false; nots = 0; room = r.top.room - r.top.nots - 1 };
+      outer = r.outer ++ (r.top ∷ []);
+      ops = r.ops;
+    })
     else None
 
 unfoldable pub product_at : Kept → Option Kept
 product_at r = Some (record { mode = Operand; top = record { sum = r.top.sum; product = true; nots = 0; room = r.top.room }; outer = r.outer; ops = r.ops })
 
 unfoldable pub sum_at : Kept → Option Kept
-sum_at r = Some (record { mode = Operand; top = record { sum = true; product = false; nots = 0; room = r.top.room }; outer = r.outer; ops = r.ops ++ either_ops r.top.sum })
+sum_at r = Some (record {
+  mode = Operand;
+  top = record { sum = true; product = false; nots = 0; room = r.top.room };
+  outer = r.outer;
+  ops =
+      r.ops ++ either_ops r.top.sum;
+})
 
 unfoldable pub closed_at : Kept → Option Kept
 closed_at r = split_last r.outer >>= λ x. completed_at (record { mode = Operand; top = x.1; outer = x.0; ops = r.ops ++ either_ops r.top.sum })

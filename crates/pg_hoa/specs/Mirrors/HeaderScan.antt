@@ -1,7 +1,8 @@
 -- What the reader of headers does, token by token. The laws on it stand in proofs/.
-use Rattle.std.specs.Prelude.{ℕ, suc, zero, Bool, true, false, ◌&&◌, ◌||◌, ◌==◌, List, [], ◌∷◌, ◌++◌, length, map, Option, Some, None, codes, get_or, nat_lt, nat_le, if◌then◌else◌}
+use Rattle.std.specs.Prelude.{ℕ, suc, zero, Bool, true, false, ◌&&◌, ◌||◌, ◌==◌, List, [], ◌∷◌, ◌++◌, length, map, Option, Some, None}
+use Rattle.std.specs.Prelude.{codes, get_or, min, nat_lt, nat_le, if◌then◌else◌}
 use Rattle.std.specs.Str.{bytes_eq}
-use Rattle.std.specs.List.{list_all}
+use Rattle.std.specs.List.{list_all, list_any}
 use Rattle.pg_hoa.specs.declared.formula.Kind.TheVariants.{Condition}
 use Rattle.pg_hoa.specs.Lexemes.{Lexeme, number, identifier, header, string, body, ampersand, stray}
 use Rattle.pg_hoa.specs.Mirrors.Steps.{◌>>=◌}
@@ -34,6 +35,20 @@ numbers_from ns [] = Some (ns, [])
 numbers_from ns (number n ∷ rest) = numbers_from (ns ++ (n ∷ [])) rest
 numbers_from ns (stray ∷ rest) = None
 numbers_from ns (t ∷ rest) = Some (ns, t ∷ rest)
+
+-- a number behind others, unless it stands there; all from 16 on are noted as 16
+abbrev pub note : List ℕ → ℕ → List ℕ
+note kept n = if list_any (λ m. m == min n 16) kept then kept else kept ++ (min n 16 ∷ [])
+
+abbrev pub noted_behind : List ℕ → List ℕ → List ℕ
+noted_behind kept [] = kept
+noted_behind kept (n ∷ ns) = noted_behind (note kept n) ns
+
+abbrev pub noted : List ℕ → List ℕ
+noted ns = noted_behind [] ns
+
+unfoldable pub noted_at : List Lexeme → Option (List ℕ × List Lexeme)
+noted_at tokens = numbers_from [] tokens >>= λ x. Some (noted x.0, x.1)
 
 abbrev pub is_value : Option Lexeme → Bool
 is_value (Some (number n)) = true
@@ -108,7 +123,7 @@ acceptance_at h tokens =
     once h.acceptance (numeral_at tokens >>= λ x. at_most 4096 x.0 (ops_at (Condition x.0) x.1 >>= λ y. Some (record h { acceptance = Some (x.0, y.0) }, y.1)))
 
 unfoldable pub controls_at : KeptHead → List Lexeme → Option (KeptHead × List Lexeme)
-controls_at h tokens = once h.controls (numbers_from [] tokens >>= λ x. Some (record h { controls = Some x.0 }, x.1))
+controls_at h tokens = once h.controls (noted_at tokens >>= λ x. Some (record h { controls = Some x.0 }, x.1))
 
 -- a name that begins with a lower-case letter or `_`
 abbrev pub begins_low : List ℕ → Bool

@@ -1,11 +1,13 @@
 -- What the reader keeps of headers and of lines: labels and conditions as operations, and no names of states.
-use Rattle.std.specs.Prelude.{ℕ, List, map, Option, Some, None}
+use Rattle.std.specs.Prelude.{ℕ, Bool, true, false, ◌&&◌, nat_lt, List, [], ◌∷◌, map, Option, Some, None, if◌then◌else◌}
 use Rattle.pg_hoa.specs.declared.formula.Op.{Op}
+use Rattle.pg_hoa.specs.declared.formula.Op.TheVariants.{No}
 use Rattle.pg_hoa.specs.declared.body.Edge as read_edge
 use Rattle.pg_hoa.specs.declared.body.ReadState as read_line
 use Rattle.pg_hoa.specs.declared.header.Head as read_head
 use Rattle.pg_hoa.specs.Mirrors.FormulaRun.{postfix}
 use Rattle.pg_hoa.specs.AutomatonText.{Edge, StateLine, set_list}
+use Rattle.pg_lists.specs.Rising.{rising}
 
 pub record KeptEdge : Type 0 where
   pub label : List Op
@@ -23,12 +25,33 @@ kept_edge e = record { label = e.label.items; target = e.target; sets = e.sets.i
 abbrev pub kept_line : read_line.ReadState → KeptLine
 kept_line l = record { state = l.state; sets = l.sets.items; edges = map kept_edge l.edges.items }
 
+-- the label is the constant that no letter has
+abbrev pub is_never : List Op → Bool
+is_never (No ∷ []) = true
+is_never ops = false
+
+-- of two edges in a row that no letter has one is kept, with the greater target
+abbrev pub one_or_two : KeptEdge → KeptEdge → List KeptEdge
+one_or_two x e =
+    if is_never x.label && is_never e.label
+    then (if nat_lt x.target e.target then e ∷ [] else x ∷ [])
+    else x ∷ e ∷ []
+
+abbrev pub put_edge : List KeptEdge → KeptEdge → List KeptEdge
+put_edge [] e = e ∷ []
+put_edge (x ∷ []) e = one_or_two x e
+put_edge (x ∷ y ∷ edges) e = x ∷ put_edge (y ∷ edges) e
+
+abbrev pub put_edges : List KeptEdge → List KeptEdge → List KeptEdge
+put_edges kept [] = kept
+put_edges kept (e ∷ edges) = put_edges (put_edge kept e) edges
+
 -- what is kept of an edge and a line as they are written
 abbrev pub edge_kept : Edge → KeptEdge
-edge_kept e = record { label = postfix e.letter; target = e.target; sets = set_list e.sets }
+edge_kept e = record { label = postfix e.letter; target = e.target; sets = rising (set_list e.sets) }
 
 abbrev pub line_kept : StateLine → KeptLine
-line_kept l = record { state = l.state; sets = set_list l.sets; edges = map edge_kept l.edges }
+line_kept l = record { state = l.state; sets = rising (set_list l.sets); edges = put_edges [] (map edge_kept l.edges) }
 
 -- what each header says that stands at most once
 pub record KeptHead : Type 0 where

@@ -72,7 +72,8 @@ pub record Assembles (s : Settled) (lines : List KeptLine) (a : Automaton) : Typ
   pub sets : a.sets ≡ s.sets
   pub shape : a.shape ≡ s.shape
   pub few : AreFew s lines
-  pub steps : (state letter : ℕ) → state < kept_states s lines → letter < kept_letters s → (next a state letter ≡ head (kept_steps lines state letter)) × Agree s.shape (kept_steps lines state letter)
+  pub steps : (state letter : ℕ) → state < kept_states s lines → letter < kept_letters s
+      → (next a state letter ≡ head (kept_steps lines state letter)) × Agree s.shape (kept_steps lines state letter)
   pub all : a.steps ≡ rows (next a) a.states (letters a)
 
 -- there are too many states and letters, or else the steps don't agree

@@ -1,11 +1,14 @@
 -- What the scanner's functions compute, token by token. The laws on it stand in proofs/.
-use Rattle.std.specs.Prelude.{ℕ, suc, zero, ◌+◌, ◌-◌, ◌^◌, ◌==◌, ◌&&◌, ◌||◌, List, [], ◌∷◌, length, take, drop, Option, Some, None, nat_lt, if◌then◌else◌, codes}
+use Rattle.std.specs.Prelude.{ℕ, suc, zero, ◌+◌, ◌-◌, ◌^◌, ◌==◌, ◌&&◌, ◌||◌, List, [], ◌∷◌, length, take, drop, Option, Some, None, nat_lt}
+use Rattle.std.specs.Prelude.{if◌then◌else◌, codes}
 use Rattle.std.specs.Str.{bytes_eq}
 use Rattle.std.specs.List.{prefix_len, take_while}
 use Rattle.pg_hoa.specs.declared.token.Token.{Token}
 use Rattle.pg_hoa.specs.declared.token.Token.TheVariants as tokens
 use Rattle.pg_hoa.specs.Mirrors.Steps.{◌>>=◌}
-use Rattle.pg_hoa.specs.Lexemes.{Lexeme, number, identifier, header, string, alias, body, end, abort, left_bracket, right_bracket, left_brace, right_brace, left_paren, right_paren, bang, ampersand, bar, stray, Character, plain, escaped, is_space, is_letter, is_inner, is_colon}
+use Rattle.pg_hoa.specs.Lexemes.{Lexeme, number, identifier, header, string, alias, body, end, abort, left_bracket, right_bracket}
+use Rattle.pg_hoa.specs.Lexemes.{left_brace, right_brace, left_paren, right_paren, bang, ampersand, bar, stray, Character, plain, escaped}
+use Rattle.pg_hoa.specs.Lexemes.{is_space, is_letter, is_inner, is_colon}
 use Rattle.pg_lists.specs.Bytes.{is_digit, value_of}
 
 -- the characters of a string's content

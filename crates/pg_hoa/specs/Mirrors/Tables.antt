@@ -1,6 +1,7 @@
 -- The steps that the lines of a text give, and a table of them by state and letter.
-use Rattle.std.specs.Prelude.{◌≡◌, ℕ, zero, suc, ◌+◌, ◌-◌, ◌*◌, ◌/◌, ◌%◌, ◌^◌, ◌<◌, ◌≤◌, ◌==◌, nat_lt, nat_le, min, max, Bool, true, false, ◌&&◌, List, [], ◌∷◌, ◌++◌, map, length, get_or, slice_get, Option, Some, None, if◌then◌else◌}
-use Rattle.std.specs.List.{filter, flat_map, fold}
+use Rattle.std.specs.Prelude.{◌≡◌, ℕ, zero, suc, ◌+◌, ◌-◌, ◌*◌, ◌/◌, ◌%◌, ◌^◌, ◌<◌, ◌≤◌, ◌==◌, nat_lt, nat_le, min, max, Bool, true, false}
+use Rattle.std.specs.Prelude.{◌&&◌, List, [], ◌∷◌, ◌++◌, map, length, get_or, slice_get, Option, Some, None, if◌then◌else◌}
+use Rattle.std.specs.List.{All, filter, flat_map, fold}
 use Rattle.std.specs.Int.{bit_at}
 use Rattle.pg_hoa.specs.declared.shape.Shape.{Shape}
 use Rattle.pg_hoa.specs.declared.shape.Shape.TheVariants.{MinEven, MinOdd}
@@ -8,6 +9,7 @@ use Rattle.pg_hoa.specs.declared.body.Edge as read_edge
 use Rattle.pg_hoa.specs.declared.fault.Conflict.{Conflict}
 use Rattle.pg_hoa.specs.declared.fault.Conflict.TheVariants.{Memory, NotDeterministic}
 use Rattle.pg_hoa.specs.declared.table.Stored.{Stored}
+use Rattle.pg_hoa.specs.declared.table.Held.{Held}
 use Rattle.pg_hoa.specs.declared.table.Filling.{Filling}
 use Rattle.pg_hoa.specs.declared.table.Way.{Way}
 use Rattle.pg_hoa.specs.declared.table.Table.{Table}
@@ -18,6 +20,7 @@ use Rattle.pg_hoa.specs.AutomatonText.{Agree, head}
 use Rattle.pg_lists.specs.Rising.{rising}
 use Rattle.pg_hoa.specs.Mirrors.Kept.{KeptEdge, KeptLine, kept_edge}
 use Rattle.pg_hoa.specs.Mirrors.Saying.{says}
+use Rattle.pg_hoa.specs.Mirrors.Letters.{truth}
 
 -- ---- what lines give
 
@@ -68,15 +71,16 @@ next t state letter =
 
 -- ---- filling
 
--- a table that is being filled, and its first slot where steps don't agree, or how many slots there are
+-- a table that is being filled, its first slot where steps don't agree, or how many slots there are, and notes on slots
 pub record Stage : Type 0 where
   pub slots : List ℕ
   pub steps : List Stored
   pub lists : List (List ℕ)
   pub conflict : ℕ
+  pub held : List Held
 
 abbrev pub stage : Filling → Stage
-stage f = record { slots = f.slots.items; steps = f.steps.items; lists = map (λ v. v.items) f.lists.items; conflict = f.conflict }
+stage f = record { slots = f.slots.items; steps = f.steps.items; lists = map (λ v. v.items) f.lists.items; conflict = f.conflict; held = f.held.items }
 
 -- a number that is 0 or stands for the step
 abbrev pub MayNumber : Stage → ℕ → Step → Type 0
@@ -92,6 +96,7 @@ Leads t n (s ∷ steps) = numbered t.steps t.lists n ≡ Some s
 pub record Extends (t u : Stage) : Type 0 where
   pub slots : u.slots ≡ t.slots
   pub conflict : u.conflict ≡ t.conflict
+  pub held : u.held ≡ t.held
   pub numbers : (n : ℕ) (s : Step) → numbered t.steps t.lists n ≡ Some s → numbered u.steps u.lists n ≡ Some s
 
 abbrev pub same_set : Option ℕ → Option ℕ → Bool
@@ -110,9 +115,23 @@ way_step w = step w.target (rising (w.own.now ++ w.more.now))
 abbrev pub IsDecided : Way → Type 0
 IsDecided w = w.counts ≡ deciding w.shape (way_step w).sets
 
--- each slot has the first of its steps, and the conflict is the first slot whose steps don't agree
+-- the slot has a step that leads to the target, where this set counts
+pub record HasKey (shape : Shape) (t : Stage) (i target : ℕ) (counts : Option ℕ) : Type 0 where
+  pub there : Step
+  pub is_there : numbered t.steps t.lists (get_or t.slots i 0) ≡ Some there
+  pub to_target : there.target ≡ target
+  pub same_counts : deciding shape there.sets ≡ counts
+
+-- what is noted is so, of slots before the conflict
+abbrev pub IsHeld : Shape → Stage → Held → Type 0
+IsHeld shape t h = (j : ℕ) → j < 64 → truth h.word j ≡ true → h.first + j < t.conflict → HasKey shape t (h.first + j) h.target h.counts
+
+abbrev pub AreHeld : Shape → Stage → Type 0
+AreHeld shape t = All (IsHeld shape t) t.held
+
+-- each slot before the conflict has the first of its steps, and the conflict is the first slot whose steps don't agree
 pub record IsFilled (shape : Shape) (t : Stage) (given : ℕ → List Step) : Type 0 where
-  pub leads : (i : ℕ) → i < length t.slots → Leads t (get_or t.slots i 0) (given i)
+  pub leads : (i : ℕ) → i < t.conflict → Leads t (get_or t.slots i 0) (given i)
   pub conflict_within : t.conflict ≤ length t.slots
   pub agree_before : (i : ℕ) → i < t.conflict → Agree shape (given i)
   pub not_there : t.conflict < length t.slots → Agree shape (given t.conflict) → ⊥
@@ -120,6 +139,9 @@ pub record IsFilled (shape : Shape) (t : Stage) (given : ℕ → List Step) : Ty
 -- from one stage to another each slot was given these steps
 pub record Adds (shape : Shape) (more : ℕ → List Step) (t u : Stage) : Type 0 where
   pub as_many : length u.slots ≡ length t.slots
+  pub sinks : u.conflict ≤ t.conflict
+  pub keeps : (i target : ℕ) (counts : Option ℕ) → HasKey shape t i target counts → HasKey shape u i target counts
+  pub holds : AreHeld shape t → AreHeld shape u
   pub fills : (given : ℕ → List Step) → IsFilled shape t given → IsFilled shape u (λ i. given i ++ more i)
 
 abbrev pub when : Bool → Step → List Step

@@ -3,11 +3,12 @@ use Rattle.std.specs.Prelude.{map}
 use Rattle.pg_hoa.specs.Mirrors.Scan.{lex}
 use Rattle.pg_hoa.specs.Mirrors.Kept.{kept_edge}
 use Rattle.pg_hoa.specs.Mirrors.BodyScan.{edges_at}
-use Rattle.pg_hoa.proofs.BodyTurns.{EdgesLeft}
+use Rattle.pg_hoa.proofs.BodyTurns.{KeptLeft}
 use Rattle.pg_hoa.proofs.body.read_edges.Given as goal
 
 abbrev pub invariant-edges : goal.invariant-edges
-invariant-edges l = EdgesLeft l.ranges.states l.ranges.propositions l.ranges.sets (map kept_edge l.edges.items) (lex l.rest) (edges_at l.ranges.states l.ranges.propositions l.ranges.sets (lex l.bytes))
+invariant-edges l = KeptLeft l.ranges.states l.ranges.propositions l.ranges.sets (map kept_edge l.edges.items) (lex l.rest)
+    (edges_at l.ranges.states l.ranges.propositions l.ranges.sets (lex l.bytes))
 
 abbrev pub decreases-edges : goal.decreases-edges
 decreases-edges l = length (lex l.rest)

@@ -12,4 +12,5 @@ loop-op-preserved c = λ letter.
 
 pub returns : goal.returns
 returns c = λ letter said.
-    arrived letter c.args.label.now _ c.loop-op.stack.items c.pop.result c.pop.new.stack.items (drop_all c.loop-op.op-index c.args.label.now c.loop-op-test.false) (c.loop-op.invariant letter) (c.pop.ensures letter) said
+    arrived letter c.args.label.now _ c.loop-op.stack.items c.pop.result c.pop.new.stack.items
+    (drop_all c.loop-op.op-index c.args.label.now c.loop-op-test.false) (c.loop-op.invariant letter) (c.pop.ensures letter) said

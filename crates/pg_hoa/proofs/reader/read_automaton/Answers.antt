@@ -20,13 +20,15 @@ pub returns-in-Ok-clause-found : goal.returns-in-Ok-clause-found
 returns-in-Ok-clause-found c =
     let r = c.in-Ok.ensures.found in
     whole_found c.args.bytes.now r.0 (said c.in-Ok.settled) (map kept_line c.in-Ok.lines.items) c.assembled.result r.1
-    (subst (λ (lines : List ReadState). IfOk c.assembled.result (Assembles (said c.in-Ok.settled) (map kept_line lines))) c.deref.ensures.value c.assembled.ensures.found)
+    (subst (λ (lines : List ReadState). IfOk c.assembled.result (Assembles (said c.in-Ok.settled)
+    (map kept_line lines))) c.deref.ensures.value c.assembled.ensures.found)
 
 pub returns-in-Ok-clause-refused : goal.returns-in-Ok-clause-refused
 returns-in-Ok-clause-refused c =
     let r = c.in-Ok.ensures.found in
     whole_refused c.args.bytes.now r.0 (said c.in-Ok.settled) (map kept_line c.in-Ok.lines.items) c.assembled.result r.1
-    (subst (λ (lines : List ReadState). IfErr c.assembled.result (NeverAssembles (said c.in-Ok.settled) (map kept_line lines))) c.deref.ensures.value c.assembled.ensures.refused)
+    (subst (λ (lines : List ReadState). IfErr c.assembled.result (NeverAssembles (said c.in-Ok.settled)
+    (map kept_line lines))) c.deref.ensures.value c.assembled.ensures.refused)
 
 pub returns-in-Err-clause-refused : goal.returns-in-Err-clause-refused
 returns-in-Err-clause-refused c = grind (arith, nat_tests, refusal_refused c.args.bytes.now (length c.args.bytes.now) c.in-Err.refusal c.in-Err.ensures.refused)

@@ -1,19 +1,17 @@
-use Rattle.std.proofs.Common.{◌≡◌, ◌+◌, ◌==◌, ◌∙◌, ℕ, Bool, List, [], ◌∷◌, ◌++◌, map, ap, refl, arith}
+use Rattle.std.proofs.Common.{◌≡◌, ◌+◌, ◌==◌, ◌∙◌, ℕ, Bool, List, [], ◌∷◌, ◌++◌, map, ap, arith}
 use Rattle.std.proofs.lemmas.Bool.Decides.{nat_tests}
 use Rattle.std.specs.List.{list_any}
 use Rattle.std.proofs.lemmas.List.FromFn.{map-range_with_len_more}
 use Rattle.pg_hoa.specs.Mirrors.Settling.{marked}
+use Rattle.pg_hoa.proofs.Settles.{any_numbers}
 use Rattle.pg_hoa.proofs.settle.marked.Goals as goal
 
-any_map : (p : ℕ) (xs : List (ℕ × ℕ)) → list_any (λ n. n == p) (map {A = ℕ × ℕ} {B = ℕ} (λ x. x.0) xs) ≡ list_any (λ (x : ℕ × ℕ). x.0 == p) xs
-any_map p [] = refl
-any_map p (x ∷ xs) = rw (any_map p xs) refl
-
 -- one more mark
-more : (controls : List (ℕ × ℕ)) (p : ℕ) → marked (map {A = ℕ × ℕ} {B = ℕ} (λ x. x.0) controls) (p + 1) ≡ marked (map {A = ℕ × ℕ} {B = ℕ} (λ x. x.0) controls) p ++ (list_any (λ (x : ℕ × ℕ). x.0 == p) controls ∷ [])
+more : (controls : List (ℕ × ℕ)) (p : ℕ)
+    → marked (map {A = ℕ × ℕ} {B = ℕ} (λ x. x.0) controls) (p + 1) ≡ marked (map {A = ℕ × ℕ} {B = ℕ} (λ x. x.0) controls) p ++ (list_any (λ (x : ℕ × ℕ). x.0 == p) controls ∷ [])
 more controls p =
     map-range_with_len_more (λ q. list_any (λ n. n == q) (map {A = ℕ × ℕ} {B = ℕ} (λ x. x.0) controls)) 0 p p (omega arith)
-    ∙ ap (λ (b : Bool). marked (map {A = ℕ × ℕ} {B = ℕ} (λ x. x.0) controls) p ++ (b ∷ [])) (any_map p controls)
+    ∙ ap (λ (b : Bool). marked (map {A = ℕ × ℕ} {B = ℕ} (λ x. x.0) controls) p ++ (b ∷ [])) (any_numbers p controls)
 
 pub loop-proposition-preserved : goal.loop-proposition-preserved
 loop-proposition-preserved c = grind (arith, nat_tests, more c.args.controls.now c.loop-proposition.proposition)

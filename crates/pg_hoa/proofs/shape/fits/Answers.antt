@@ -18,7 +18,8 @@ loop-inside-preserved c =
     let left : 0 < c.loop-inside.inside = omega arith in
     record {
       within = omega arith;
-      same = fits_turn c.args.shape c.args.sets c.loop-inside.inside c.set_at-set.result c.is_wanted.result c.loop-inside.rest.now (Some c.in-Some.ops.now) left c.set_at-set.ensures c.is_wanted.ensures c.in-Some.ensures ∙ c.loop-inside.invariant.same;
+      same = fits_turn c.args.shape c.args.sets c.loop-inside.inside c.set_at-set.result c.is_wanted.result c.loop-inside.rest.now
+          (Some c.in-Some.ops.now) left c.set_at-set.ensures c.is_wanted.ensures c.in-Some.ensures ∙ c.loop-inside.invariant.same;
     }
 
 pub returns : goal.returns

@@ -6,7 +6,8 @@ use Rattle.pg_hoa.proofs.shape.fits.Given as goal
 abbrev pub invariant-loop-inside : goal.invariant-loop-inside
 invariant-loop-inside l = record {
   within : l.inside < l.sets;
-  same : nests_at (set_at l.shape l.sets) (wanted_at l.shape l.sets) l.inside l.rest ≡ nests_at (set_at l.shape l.sets) (wanted_at l.shape l.sets) (l.sets - 1) l.ops;
+  same : nests_at (set_at l.shape l.sets) (wanted_at l.shape l.sets) l.inside l.rest ≡ nests_at (set_at l.shape l.sets)
+      (wanted_at l.shape l.sets) (l.sets - 1) l.ops;
 }
 
 abbrev pub decreases-loop-inside : goal.decreases-loop-inside

@@ -5,4 +5,7 @@ use Rattle.pg_hoa.proofs.table.add_line.Given as goal
 
 -- the steps of the edges so far
 abbrev pub invariant-loop-index : goal.invariant-loop-index
-invariant-loop-index l = Adds l.shape (at_line (2 ^ l.propositions) (record { state = l.line.state; sets = l.line.sets.items; edges = map kept_edge (take l.index l.line.edges.items) })) (stage l.initial.filling) (stage l.filling)
+invariant-loop-index l = Adds l.shape
+    (at_line (2 ^ l.propositions)
+    (record { state = l.line.state; sets = l.line.sets.items; edges = map kept_edge (take l.index l.line.edges.items) }))
+    (stage l.initial.filling) (stage l.filling)

@@ -20,4 +20,5 @@ loop-set-preserved c = λ own e.
     ∙ ap (λ l. deciding c.args.shape (rising l)) (append_assoc own (take i xs) (item ∷ []) ∙ ap (λ l. own ++ l) more)
 
 pub returns : goal.returns
-returns c = λ own e. c.loop-set.invariant own e ∙ ap (λ xs. deciding c.args.shape (rising (own ++ xs))) (take_all c.loop-set.set-index c.args.sets.now c.loop-set-test.false)
+returns c = λ own e. c.loop-set.invariant own e ∙ ap (λ xs. deciding c.args.shape (rising (own ++ xs)))
+    (take_all c.loop-set.set-index c.args.sets.now c.loop-set-test.false)

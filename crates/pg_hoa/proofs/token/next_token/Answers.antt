@@ -5,7 +5,12 @@ use Rattle.pg_hoa.proofs.Lexing.{gap_unread, token_unread, ended, token_read}
 use Rattle.pg_hoa.proofs.token.next_token.Goals as goal
 
 pub returns-in_err-bytes : goal.returns-in_err-bytes
-returns-in_err-bytes c = grind (arith, nat_tests, err_from_is_err_and c.from_residual.result c.from_residual.ensures.1, gap_unread c.in_err-bytes.field-0.0 c.args.bytes.now c.in_err-bytes.ensures)
+returns-in_err-bytes c = grind (
+  arith,
+  nat_tests,
+  err_from_is_err_and c.from_residual.result c.from_residual.ensures.1,
+  gap_unread c.in_err-bytes.field-0.0 c.args.bytes.now c.in_err-bytes.ensures,
+)
 
 pub returns-then-is_empty : goal.returns-then-is_empty
 returns-then-is_empty c =

@@ -1,0 +1,195 @@
+-- Terms, and acts one behind another.
+use Rattle.std.proofs.Common.{◌≡◌, ℕ, ◌+◌, ◌-◌, ◌*◌, ◌/◌, ◌^◌, ◌<◌, ◌≤◌, Bool, true, false, cond, ◌&&◌, ◌||◌, ◌==◌, List, [], ◌∷◌, ◌++◌}
+use Rattle.std.proofs.Common.{length, drop, get_or, refl, sym, ap, ◌∙◌, arith}
+use Rattle.std.specs.Prelude.{bit_and}
+use Rattle.std.specs.Int.{bit_at}
+use Rattle.std.specs.Int.RustNames.{bit_or}
+use Rattle.std.proofs.lemmas.Nat.{and_assoc, and_comm, or_comm, and_or_self, and_shr, shr_high, pow_pos}
+use Rattle.std.proofs.lemmas.Nat.Bits.{and_pow, bit_at-lt, bit_at_cat_low}
+use Rattle.std.proofs.lemmas.Bool.{false≢true}
+use Rattle.std.proofs.lemmas.Bool.Decides.{Decides-eqb, nat_tests}
+use Rattle.std.proofs.lemmas.List.{at_drop_more}
+use Rattle.pg_hoa.specs.declared.formula.Op.{Op}
+use Rattle.pg_hoa.specs.declared.terms.Term.{Term}
+use Rattle.pg_hoa.specs.declared.terms.Act.{Act}
+use Rattle.pg_hoa.specs.declared.terms.Act.TheVariants.{Put, Not, BothTerm, EitherTerm}
+use Rattle.pg_hoa.specs.Mirrors.Saying.{top, under, perform, run}
+use Rattle.pg_hoa.specs.Mirrors.Letters.{truth, on_at}
+use Rattle.pg_hoa.specs.Mirrors.Acts.{fits, act, act_all, done}
+use Rattle.pg_hoa.proofs.TableNeeds.{and_of_or}
+use Rattle.pg_hoa.proofs.TableWords.{truth_and, truth_not, truth_all, on_high}
+
+-- ---- bits of a block's number
+
+same_test : (a b c d : ℕ) → (a ≡ b → c ≡ d) → (c ≡ d → a ≡ b) → (a == b) ≡ (c == d)
+same_test a b c d p q = grind (arith, nat_tests, Decides-eqb a b, Decides-eqb c d)
+
+and_both : (b c : Bool) → b ≡ true → (c && b) ≡ c
+and_both true true e = refl
+and_both true false e = refl
+and_both false c e = absurd (false≢true e)
+
+pub fits_whole : (b word j : ℕ) → (truth word j && (bit_and b 0 == 0)) ≡ truth word j
+fits_whole b word j = and_both (bit_and b 0 == 0) (truth word j) (ap (λ n. n == 0) (and_comm b 0))
+
+-- the test of one bit
+one_bit : (b p : ℕ) → (bit_and b (2 ^ p) == 2 ^ p) ≡ (bit_at b p == 1)
+one_bit b p = grind (arith, nat_tests, and_pow b p, Decides-eqb (bit_at b p) 1, bit_at-lt b p, pow_pos p)
+
+no_bit : (b p : ℕ) → (bit_and b (2 ^ p) == 0) ≡ cond (bit_at b p == 1) false true
+no_bit b p = grind (arith, nat_tests, and_pow b p, Decides-eqb (bit_at b p) 1, bit_at-lt b p, pow_pos p)
+
+pub fits_high : (b j a bit : ℕ) → 6 ≤ a → j < 64 → bit ≡ 2 ^ (a - 6) → (truth 18446744073709551615 j && (bit_and b bit == bit)) ≡ on_at b j a
+fits_high b j a bit high small is =
+    ap (λ t. t && (bit_and b bit == bit)) (truth_all j small) ∙ ap (λ n. bit_and b n == n) is ∙ one_bit b (a - 6) ∙ sym (on_high b j a high small)
+
+pub fits_there : (b j : ℕ) (t : Term) → bit_and b t.care ≡ t.value → truth t.word j ≡ fits b j t
+fits_there b j t e = sym (and_both (bit_and b t.care == t.value) (truth t.word j) ((Decides-eqb (bit_and b t.care) t.value).1 e))
+
+and_none : (b c : Bool) → (b ≡ true → ⊥) → false ≡ (c && b)
+and_none true c n = absurd (n refl)
+and_none false true n = refl
+and_none false false n = refl
+
+pub fits_none : (b j : ℕ) (t : Term) → (bit_and b t.care ≡ t.value → ⊥) → false ≡ fits b j t
+fits_none b j t n = and_none (bit_and b t.care == t.value) (truth t.word j) (λ e. n ((Decides-eqb (bit_and b t.care) t.value).0 e))
+
+-- a block of a run has the run's number above its low four bits
+pub none_meets : (run : ℕ) (t : Term) → (bit_and run (t.care / 2 ^ 4) ≡ t.value / 2 ^ 4 → ⊥) → (k : ℕ) → k < 16 → bit_and (run * 16 + k) t.care ≡ t.value → ⊥
+none_meets run t n k h e = grind (arith, nat_tests, shr_high run 4 k h, and_shr (run * 16 + k) t.care 4)
+
+-- ---- a term turned round
+
+pub turned_whole : (b word j : ℕ) (t : Term) → word ≡ t.word → t.care ≡ 0 → t.value ≡ 0 → word < 2 ^ 64 → j < 64
+    → truth (18446744073709551615 - word) j ≡ cond (fits b j t) false true
+turned_whole b word j t w c v h small =
+    truth_not word j h small ∙ ap (λ x. cond x false true)
+    (sym (ap (λ n. truth word j && (bit_and b n == t.value)) c ∙ ap (λ n. truth word j && (bit_and b 0 == n)) v ∙ fits_whole b word j)
+    ∙ ap (λ n. truth n j && (bit_and b t.care == t.value)) w)
+
+pub turned_high : (b j p : ℕ) (t : Term) → t.word ≡ 18446744073709551615 → t.care ≡ 2 ^ p → j < 64 → t.value ≡ t.care
+    → (truth t.word j && (bit_and b t.care == 0)) ≡ cond (fits b j t) false true
+turned_high b j p t w c small v =
+    ap (λ n. truth n j && (bit_and b t.care == 0)) w ∙ ap (λ x. x && (bit_and b t.care == 0)) (truth_all j small) ∙ ap (λ n. bit_and b n == 0) c ∙ no_bit b p
+    ∙ ap (λ x. cond x false true) (sym (ap (λ n. truth n j && (bit_and b t.care == t.value)) w ∙ ap
+    (λ x. x && (bit_and b t.care == t.value)) (truth_all j small) ∙ ap (λ n. bit_and b t.care == n) v ∙ ap (λ n. bit_and b n == n) c
+    ∙ one_bit b p))
+
+pub turned_low : (b j p : ℕ) (t : Term) → t.word ≡ 18446744073709551615 → t.care ≡ 2 ^ p → j < 64 → t.value ≡ 0
+    → (truth t.word j && (bit_and b t.care == t.care)) ≡ cond (fits b j t) false true
+turned_low b j p t w c small v =
+    ap (λ n. truth n j && (bit_and b t.care == t.care)) w ∙ ap (λ x. x && (bit_and b t.care == t.care)) (truth_all j small)
+    ∙ ap (λ n. bit_and b n == n) c ∙ one_bit b p ∙ twice (bit_at b p == 1)
+    ∙ ap (λ x. cond x false true) (sym (ap (λ n. truth n j && (bit_and b t.care == t.value)) w ∙ ap
+    (λ x. x && (bit_and b t.care == t.value)) (truth_all j small) ∙ ap (λ n. bit_and b t.care == n) v ∙ ap (λ n. bit_and b n == 0) c
+    ∙ no_bit b p))
+  where
+    twice : (x : Bool) → x ≡ cond (cond x false true) false true
+    twice true = refl
+    twice false = refl
+
+-- ---- two terms
+
+-- what both values say, the whole says
+part_of : (b c d v w : ℕ) → bit_and b (bit_or c d) ≡ v → bit_and v c ≡ w → bit_and b c ≡ w
+part_of b c d v w e f =
+    let all : bit_and (bit_or c d) c ≡ c = ap (λ n. bit_and n c) (or_comm c d) ∙ and_or_self c d in
+    ap (bit_and b) (sym all) ∙ sym (and_assoc c b (bit_or c d)) ∙ ap (λ n. bit_and n c) e ∙ f
+
+both_tests : (b c d v w : ℕ) → bit_and (bit_or v w) c ≡ v → bit_and (bit_or v w) d ≡ w
+    → (bit_and b (bit_or c d) == bit_or v w) ≡ ((bit_and b c == v) && (bit_and b d == w))
+both_tests b c d v w e f = grind (
+  arith,
+  nat_tests,
+  Decides-eqb (bit_and b (bit_or c d)) (bit_or v w),
+  Decides-eqb (bit_and b c) v,
+  Decides-eqb (bit_and b d) w,
+  there,
+  left,
+  right,
+)
+  where
+    there : bit_and b c ≡ v → bit_and b d ≡ w → bit_and b (bit_or c d) ≡ bit_or v w
+    there p q = and_of_or b c d ∙ ap (λ x. bit_or x (bit_and b d)) p ∙ ap (bit_or v) q
+
+    left : bit_and b (bit_or c d) ≡ bit_or v w → bit_and b c ≡ v
+    left h = part_of b c d (bit_or v w) v h e
+
+    right : bit_and b (bit_or c d) ≡ bit_or v w → bit_and b d ≡ w
+    right h = part_of b d c (bit_or v w) w (ap (bit_and b) (or_comm d c) ∙ h) f
+
+four : (a b c d : Bool) → ((a && b) && (c && d)) ≡ ((a && c) && (b && d))
+four true b true d = refl
+four true true false d = refl
+four true false false d = refl
+four false b c d = refl
+
+pub fits_joined : (b j : ℕ) (l r : Term) → bit_and (bit_or l.value r.value) l.care ≡ l.value → bit_and (bit_or l.value r.value) r.care ≡ r.value
+    → (truth (bit_and l.word r.word) j && (bit_and b (bit_or l.care r.care) == bit_or l.value r.value)) ≡ (fits b j l && fits b j r)
+fits_joined b j l r e f =
+    ap (λ x. x && (bit_and b (bit_or l.care r.care) == bit_or l.value r.value)) (truth_and l.word r.word j)
+    ∙ ap (λ x. (truth l.word j && truth r.word j) && x) (both_tests b l.care r.care l.value r.value e f)
+    ∙ four (truth l.word j) (truth r.word j) (bit_and b l.care == l.value) (bit_and b r.care == r.value)
+
+-- ---- acts
+
+act_all_more : (acts : List Act) (a : Act) (b j : ℕ) (stack : List Bool) → act_all (acts ++ (a ∷ [])) b j stack ≡ act a b j (act_all acts b j stack)
+act_all_more [] a b j stack = refl
+act_all_more (x ∷ acts) a b j stack = act_all_more acts a b j (act x b j stack)
+
+pub done_none : (b j : ℕ) → done [] b j ≡ []
+unfolding done
+done_none b j = refl
+
+pub done_more : (acts more : List Act) (a : Act) (b j : ℕ) → more ≡ acts ++ (a ∷ []) → done more b j ≡ act a b j (done acts b j)
+unfolding done
+done_more acts more a b j e = ap (λ l. act_all l b j []) e ∙ act_all_more acts a b j []
+
+pub plain : (a : Act) (old same new : List Act) (b j : ℕ) → same ≡ old → new ≡ same ++ (a ∷ []) → done new b j ≡ act a b j (done old b j)
+plain a old same new b j e n = done_more same new a b j n ∙ ap (λ l. act a b j (done l b j)) e
+
+pub not_term : (old rest new : List Act) (t u : Term) (b j : ℕ) → old ≡ rest ++ (Put t ∷ []) → new ≡ rest ++ (Put u ∷ [])
+    → fits b j u ≡ cond (fits b j t) false true → done new b j ≡ cond (top (done old b j)) false true ∷ under (done old b j)
+not_term old rest new t u b j o n e =
+    done_more rest new (Put u) b j n ∙ ap (λ x. x ∷ done rest b j) e ∙ sym (ap (λ s. cond (top s) false true ∷ under s) (done_more rest old (Put t) b j o))
+
+pub not_apart : (old rest mid new : List Act) (t : Term) (b j : ℕ) → old ≡ rest ++ (Put t ∷ []) → mid ≡ rest ++ (Put t ∷ [])
+    → new ≡ mid ++ (Not ∷ []) → done new b j ≡ cond (top (done old b j)) false true ∷ under (done old b j)
+not_apart old rest mid new t b j o m n = plain Not old mid new b j (m ∙ sym o) n
+
+pub both_term : (old rest new : List Act) (t : Term) (b j : ℕ) → old ≡ rest ++ (Put t ∷ []) → new ≡ rest ++ (BothTerm t ∷ [])
+    → done new b j ≡ (top (under (done old b j)) && top (done old b j)) ∷ under (under (done old b j))
+both_term old rest new t b j o n = done_more rest new (BothTerm t) b j n
+    ∙ sym (ap (λ s. (top (under s) && top s) ∷ under (under s)) (done_more rest old (Put t) b j o))
+
+pub both_joined : (old rest less new : List Act) (l r t : Term) (b j : ℕ) → old ≡ rest ++ (Put r ∷ []) → rest ≡ less ++ (Put l ∷ [])
+    → new ≡ less ++ (Put t ∷ []) → fits b j t ≡ (fits b j l && fits b j r)
+    → done new b j ≡ (top (under (done old b j)) && top (done old b j)) ∷ under (under (done old b j))
+both_joined old rest less new l r t b j o m n e =
+    done_more less new (Put t) b j n ∙ ap (λ x. x ∷ done less b j) e
+    ∙ sym (ap (λ s. (top (under s) && top s) ∷ under (under s)) (done_more rest old (Put r) b j o ∙ ap (λ s. fits b j r ∷ s)
+    (done_more less rest (Put l) b j m)))
+
+pub either_term : (old rest new : List Act) (t : Term) (b j : ℕ) → old ≡ rest ++ (Put t ∷ []) → new ≡ rest ++ (EitherTerm t ∷ [])
+    → done new b j ≡ (top (under (done old b j)) || top (done old b j)) ∷ under (under (done old b j))
+either_term old rest new t b j o n = done_more rest new (EitherTerm t) b j n
+    ∙ sym (ap (λ s. (top (under s) || top s) ∷ under (under s)) (done_more rest old (Put t) b j o))
+
+-- one operation more
+pub next_op : (label : List Op) (i : ℕ) (op d : Op) (on : ℕ → Bool) (stack more : List Bool) → i < length label → op ≡ get_or label i d
+    → more ≡ perform op on stack → run (drop (i + 1) label) on more ≡ run (drop i label) on stack
+next_op label i op d on stack more lt is e = ap (run (drop (i + 1) label) on) e
+    ∙ ap (λ o. run (drop (i + 1) label) on (perform o on stack)) is ∙ sym (at_drop_more (λ ops. run ops on stack) label i d lt)
+
+-- one act more
+pub next_act : (acts : List Act) (i : ℕ) (a d : Act) (b j : ℕ) (stack more : List Bool) → i < length acts → a ≡ get_or acts i d
+    → more ≡ act a b j stack → act_all (drop (i + 1) acts) b j more ≡ act_all (drop i acts) b j stack
+next_act acts i a d b j stack more lt is e = ap (act_all (drop (i + 1) acts) b j) e
+    ∙ ap (λ o. act_all (drop (i + 1) acts) b j (act o b j stack)) is ∙ sym (at_drop_more (λ l. act_all l b j stack) acts i d lt)
+
+pub all_done : (acts : List Act) (b j : ℕ) → act_all acts b j [] ≡ done acts b j
+unfolding done
+all_done acts b j = refl
+
+pub on_low : (b j a : ℕ) → a < 6 → on_at 0 j a ≡ on_at b j a
+on_low b j a low = ap (λ n. n == 1) (bit_at_cat_low 0 6 j a low ∙ sym (bit_at_cat_low b 6 j a low))
