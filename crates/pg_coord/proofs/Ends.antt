@@ -28,12 +28,16 @@ pub zero_weight : (f : MapValue) (n : ℕ) → f.measures ≡ zero_map f.bounds 
 zero_weight f n is = rw is (zero_map_weight f.bounds n)
 
 -- lifts stay under each closed map of the game
-pub lifts_under : (t : TaskValue) (f g h : MapValue) → f.bounds ≡ t.bounds → length f.measures ≡ length t.game → StaysUnder f.bounds (game_line t.game) f.measures g.measures → IsClosedMap t h → MapAtMost f.measures h.measures → MapAtMost g.measures h.measures
+pub lifts_under : (t : TaskValue) (f g h : MapValue) → f.bounds ≡ t.bounds → length f.measures ≡ length t.game
+    → StaysUnder f.bounds (game_line t.game) f.measures g.measures → IsClosedMap t h → MapAtMost f.measures h.measures
+    → MapAtMost g.measures h.measures
 lifts_under t f g h bounds size under closed le =
     under h.measures (rw (bounds, size) closed.map) (rw bounds closed.closed) le
 
 -- a map over the same bounds and vertices that is closed
-pub closed_map : (t : TaskValue) (f : MapValue) (h : List MeasureValue) → f.bounds ≡ t.bounds → length f.measures ≡ length t.game → IsMap f.bounds (length f.measures) h → IsClosed f.bounds (game_line t.game) h → IsClosedMap t (record { bounds = t.bounds; measures = h })
+pub closed_map : (t : TaskValue) (f : MapValue) (h : List MeasureValue) → f.bounds ≡ t.bounds → length f.measures ≡ length t.game
+    → IsMap f.bounds (length f.measures) h → IsClosed f.bounds (game_line t.game) h
+    → IsClosedMap t (record { bounds = t.bounds; measures = h })
 closed_map t f h bounds size is closed = record { bounds = refl; map = rw (bounds, size) at is; closed = rw bounds at closed }
 
 -- ---- maps that are found from others
@@ -41,7 +45,8 @@ closed_map t f h bounds size is closed = record { bounds = refl; map = rw (bound
 pub found_none : (A : Type 0) (game : List GameVertex) (f : MapValue) → IsMap f.bounds (length game) f.measures → IsFoundFrom A game f f
 found_none A game f is = record { bounds = refl; map = is; above = map_reflexive f.measures; least = λ a h at closed le. le }
 
-pub found_more : (A B : Type 0) (game : List GameVertex) (f g h : MapValue) → length f.measures ≡ length game → (A → B) → IsFoundFrom A game f g → IsFoundFrom B game g h → IsFoundFrom A game f h
+pub found_more : (A B : Type 0) (game : List GameVertex) (f g h : MapValue) → length f.measures ≡ length game → (A → B)
+    → IsFoundFrom A game f g → IsFoundFrom B game g h → IsFoundFrom A game f h
 found_more A B game f g h size also a b = record {
   bounds = b.bounds ∙ a.bounds;
   map = b.map;
@@ -68,7 +73,8 @@ closes_weaker game S T links links' f g (Some n) also same c =
 
 -- rounds end the same if what is known of the links follows from something else
 pub ends_weaker : (game : List GameVertex) (A B : Type 0) (S T : (ℕ → List Reply) → Type 0) (links links' most : ℕ) (f g : MapValue) (rounds : Option ℕ)
-    → (A → B) → ((replies : ℕ → List Reply) → S replies → T replies) → links' ≡ links → Ends game B T links' most f g rounds → Ends game A S links most f g rounds
+    → (A → B) → ((replies : ℕ → List Reply) → S replies → T replies) → links' ≡ links → Ends game B T links' most f g rounds
+    → Ends game A S links most f g rounds
 ends_weaker game A B S T links links' most f g rounds honest also same e = record {
   found = record { bounds = e.found.bounds; map = e.found.map; above = e.found.above; least = λ x. e.found.least (honest x) };
   closes = closes_weaker game S T links links' f g rounds also same e.closes;

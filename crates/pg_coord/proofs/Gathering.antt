@@ -1,5 +1,6 @@
 -- Lines that are written into one frame.
-use Rattle.std.proofs.Common.{◌≡◌, ℕ, Bool, true, false, suc, ◌+◌, ◌*◌, ◌-◌, ◌<◌, ◌≤◌, List, [], ◌∷◌, ◌++◌, length, get_or, Option, Some, Result, refl, sym, ap, ◌∙◌, subst, arith}
+use Rattle.std.proofs.Common.{◌≡◌, ℕ, Bool, true, false, suc, ◌+◌, ◌*◌, ◌-◌, ◌<◌, ◌≤◌, List, [], ◌∷◌, ◌++◌, length, get_or, Option, Some}
+use Rattle.std.proofs.Common.{Result, refl, sym, ap, ◌∙◌, subst, arith}
 use Rattle.std.specs.Prelude.{All, AllPairs}
 use Rattle.std.specs.List.{flat_map}
 use Rattle.std.proofs.lemmas.List.{length-append, append-nil}
@@ -43,7 +44,8 @@ rising_few (x ∷ xs) low n rising from below =
     (λ k d lt. let r = rising 0 (suc k) d (omega arith) (omega arith) in omega arith)
     (λ k d lt. below (suc k) d (omega arith)))
 
-pub few_successors : (game : List GameVertex) (l : VertexLine) → IsGame game → length game ≤ 1048576 → IsVertexLine l → told_line l ≡ vertex_line (vertex_at game l.vertex) → length l.successors ≤ 1048576
+pub few_successors : (game : List GameVertex) (l : VertexLine) → IsGame game → length game ≤ 1048576 → IsVertexLine l
+    → told_line l ≡ vertex_line (vertex_at game l.vertex) → length l.successors ≤ 1048576
 few_successors game l g few well is =
     let same : l.successors ≡ successors game l.vertex = ap (λ (x : Line). x.successors) is in
     let below : All (λ w. w < length game) l.successors = subst (λ (ws : List ℕ). All (λ w. w < length game) ws) (sym same)
@@ -55,12 +57,19 @@ later : (t : TaskValue) (next more : ℕ) (l : VertexLine) → next ≤ more →
 later t next more l le i = record { vertex = i.vertex; below = (let b = i.below in omega arith); well = i.well; line = i.line }
 
 pub lines_later : (t : TaskValue) (next more : ℕ) (ls : List VertexLine) → next ≤ more → AreLines t next ls → AreLines t more ls
-lines_later t next more ls le a = record { lines = All-weaker (IsLineOf t next) (IsLineOf t more) (λ l i. later t next more l le i) ls a.lines; rising = a.rising }
+lines_later t next more ls le a =
+    record { lines = All-weaker (IsLineOf t next) (IsLineOf t more) (λ l i. later t next more l le i) ls a.lines; rising = a.rising }
 
 pub lines_more : (t : TaskValue) (v : ℕ) (ls : List VertexLine) (l : VertexLine) → l.vertex ≡ v → v < length t.game → IsVertexLine l
     → told_line l ≡ vertex_line (vertex_at t.game v) → AreLines t v ls → AreLines t (v + 1) (ls ++ l ∷ [])
 lines_more t v ls l at lt well told a =
-    let new : IsLineOf t (v + 1) l = record { vertex = omega arith; below = omega arith; well = well; line = subst (λ (u : ℕ). told_line l ≡ vertex_line (vertex_at t.game u)) (sym at) told } in
+    let new : IsLineOf t (v + 1) l = record {
+      vertex = omega arith;
+      below = omega arith;
+      well = well;
+      line = subst
+          (λ (u : ℕ). told_line l ≡ vertex_line (vertex_at t.game u)) (sym at) told;
+    } in
     let front = lines_later t v (v + 1) ls (omega arith) a in
     record {
       lines = All-push (IsLineOf t (v + 1)) ls l front.lines new;
@@ -101,7 +110,8 @@ fewer_than_bytes : (ls : List VertexLine) → length ls ≤ length (flat_map lin
 fewer_than_bytes [] = omega arith
 fewer_than_bytes (l ∷ ls) = omega (arith, ap length (flat_map-cons line l ls), length-append (line l) (flat_map line ls), line_size l, fewer_than_bytes ls)
 
-lines_well : (t : TaskValue) (next : ℕ) (ls : List VertexLine) → length (body (frame_with ls)) ≤ longest → AreLines t next ls → IsVertices (record { lines = ls })
+lines_well : (t : TaskValue) (next : ℕ) (ls : List VertexLine) → length (body (frame_with ls)) ≤ longest → AreLines t next ls
+    → IsVertices (record { lines = ls })
 lines_well t next ls within a = record {
   countable = omega (arith, fewer_than_bytes ls, length-append (word (length ls)) (flat_map line ls), within);
   lines = All-weaker (IsLineOf t next) IsVertexLine (λ l i. i.well) ls a.lines;

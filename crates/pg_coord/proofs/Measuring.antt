@@ -25,7 +25,8 @@ use Rattle.pg_coord.specs.Links.{IsUnderAfter}
 use Rattle.pg_coord.specs.Mirrors.Sent.{AreSent, IsWritten, SpellsMeasures}
 
 -- a link stays under a map that is at least what it was sent
-pub under_values : (kind : ValueKind) (width : ℕ) (ms : List Measured) (h : MapValue) (before : Type 0) → IsAtLeast h.measures (measures_in (frame_of kind width ms)) → before → IsUnderAfter (frame_of kind width ms) h before
+pub under_values : (kind : ValueKind) (width : ℕ) (ms : List Measured) (h : MapValue) (before : Type 0)
+    → IsAtLeast h.measures (measures_in (frame_of kind width ms)) → before → IsUnderAfter (frame_of kind width ms) h before
 under_values Dense width ms h before least b = (b, least)
 under_values Sparse width ms h before least b = (b, least)
 
@@ -35,7 +36,8 @@ map_at_least f h ms le of = λ k d lt. let m = get_or ms k d in subst (λ (n : M
 
 -- ---- one measure more
 
-one_sent : (map : MapValue) (next v : ℕ) (m : MeasureValue) (ms : List Measured) → next ≤ v → v < length map.measures → m ≡ measure_at map.measures v → Fits map.bounds m → AreSent map next ms → AreSent map (v + 1) (ms ++ (v, m) ∷ [])
+one_sent : (map : MapValue) (next v : ℕ) (m : MeasureValue) (ms : List Measured) → next ≤ v → v < length map.measures
+    → m ≡ measure_at map.measures v → Fits map.bounds m → AreSent map next ms → AreSent map (v + 1) (ms ++ (v, m) ∷ [])
 one_sent map next v m ms le lt is fits a = record {
   of_map = All-push (λ n. n.1 ≡ measure_at map.measures n.0) ms (v, m) a.of_map is;
   fits = All-push (λ n. Fits map.bounds n.1) ms (v, m) a.fits fits;
@@ -47,20 +49,37 @@ one_sent map next v m ms le lt is fits a = record {
 }
 
 -- one measure more was written, or the frame is full and as before
-pub pushed : (fits : Bool) (map : MapValue) (w w' : ValuesWriter) (next next' v : ℕ) (m : MeasureValue) (ms : List Measured) (buffer buffer' : List ℕ) → next ≤ v → v < length map.measures → m ≡ measure_at map.measures v → Fits map.bounds m
-    → (fits ≡ true → next' ≡ v + 1) → (fits ≡ false → next' ≡ next) → IsWritten map w next ms buffer → IsAdded fits w w' [] ms (v, m) buffer buffer' → (more : List Measured) × IsWritten map w' next' more buffer'
-pushed true map w w' next next' v m ms buffer buffer' le lt is fits t f h a = (ms ++ (v, m) ∷ [], rw (t refl) record { writing = a; sent = one_sent map next v m ms le lt is fits h.sent })
+pub pushed : (fits : Bool) (map : MapValue) (w w' : ValuesWriter) (next next' v : ℕ) (m : MeasureValue) (ms : List Measured) (buffer buffer' : List ℕ)
+    → next ≤ v → v < length map.measures → m ≡ measure_at map.measures v → Fits map.bounds m
+    → (fits ≡ true → next' ≡ v + 1) → (fits ≡ false → next' ≡ next) → IsWritten map w next ms buffer
+    → IsAdded fits w w' [] ms (v, m) buffer buffer' → (more : List Measured) × IsWritten map w' next' more buffer'
+pushed true map w w' next next' v m ms buffer buffer' le lt is fits t f h a =
+    (ms ++ (v, m) ∷ [], rw (t refl) record { writing = a; sent = one_sent map next v m ms le lt is fits h.sent })
 pushed false map w w' next next' v m ms buffer buffer' le lt is fits t f h a = (ms, rw (f refl, a.1, a.2) record { writing = h.writing; sent = h.sent })
 
 -- the frame is finished
-pub frame_spelled : (map : MapValue) (kind : ValueKind) (w : ValuesWriter) (next : ℕ) (ms : List Measured) (buffer out : List ℕ) → w.kind ≡ kind → w.width ≡ length map.bounds → length map.bounds ≤ 32768 → All IsBound map.bounds → length map.measures < 2 ^ 32
-    → IsWritten map w next ms buffer → out ≡ spelling (frame_of w.kind w.width ms) → (IsWell (frame_of w.kind w.width ms) → Spells (frame_of w.kind w.width ms) (spelling (frame_of w.kind w.width ms))) → SpellsMeasures kind map out
+pub frame_spelled : (map : MapValue) (kind : ValueKind) (w : ValuesWriter) (next : ℕ) (ms : List Measured) (buffer out : List ℕ)
+    → w.kind ≡ kind → w.width ≡ length map.bounds → length map.bounds ≤ 32768 → All IsBound map.bounds → length map.measures < 2 ^ 32
+    → IsWritten map w next ms buffer → out ≡ spelling (frame_of w.kind w.width ms)
+    → (IsWell (frame_of w.kind w.width ms) → Spells (frame_of w.kind w.width ms) (spelling (frame_of w.kind w.width ms)))
+    → SpellsMeasures kind map out
 frame_spelled map kind w next ms buffer out k d few are size h is spells =
     let width = length map.bounds in
-    let each : All (IsMeasured width) ms = λ i d l. record { vertex = (let within = h.sent.within i d l in omega arith); list = components_fit map.bounds (get_or ms i d).1 (h.sent.fits i d l) (λ k b lt. (are k b lt).bound) } in
+    let each : All (IsMeasured width) ms = λ i d l. record {
+      vertex = (let within = h.sent.within i d l in omega arith);
+      list =
+          components_fit map.bounds (get_or ms i d).1 (h.sent.fits i d l) (λ k b lt. (are k b lt).bound);
+    } in
     let same : frame_of w.kind w.width ms ≡ frame_of kind width ms = ap (λ (j : ValueKind). frame_of j w.width ms) k ∙ ap (λ (n : ℕ). frame_of kind n ms) d in
-    let well : IsWell (frame_of kind width ms) = well_of kind width ms (record { within = few; countable = (let a = h.sent.few in let b = h.sent.bound in omega arith); each = each; rising = h.sent.rising }) in
-    let spelled : Spells (frame_of kind width ms) (spelling (frame_of kind width ms)) = subst (λ (f : Frame). Spells f (spelling f)) same (spells (subst IsWell (sym same) well)) in
+    let well : IsWell (frame_of kind width ms) =
+    well_of kind width ms (record {
+      within = few;
+      countable = (let a = h.sent.few in let b = h.sent.bound in omega arith);
+      each = each;
+      rising = h.sent.rising;
+    }) in
+    let spelled : Spells (frame_of kind width ms) (spelling (frame_of kind width ms)) =
+    subst (λ (f : Frame). Spells f (spelling f)) same (spells (subst IsWell (sym same) well)) in
     record {
       measures = ms;
       spelled = rw is (subst (λ (f : Frame). Spells (frame_of kind width ms) (spelling f)) (sym same) spelled);
@@ -69,7 +88,8 @@ frame_spelled map kind w next ms buffer out k d few are size h is spells =
     }
 
 -- what a reader finds in a frame is what the frame tells
-pub found_at_least : (f : List MeasureValue) (r : ValuesReader) (ms : List Measured) → IsLeft r ms → IsAtLeast f (measures_in (frame_of r.kind r.width ms)) → IsAtLeast f ms
+pub found_at_least : (f : List MeasureValue) (r : ValuesReader) (ms : List Measured) → IsLeft r ms
+    → IsAtLeast f (measures_in (frame_of r.kind r.width ms)) → IsAtLeast f ms
 found_at_least f r ms left h =
     let each : All (IsMeasured r.width) ms = λ i d l. let m = left.measures i d l in record { vertex = m.vertex; list = m.list } in
     subst (IsAtLeast f) (frame_tells r.kind r.width ms each) h

@@ -25,20 +25,23 @@ moves_none b = record {
   falls = λ e f. let no : false ≡ true = sym e ∙ f in cc;
 }
 
-falls_through : (x y z : Bool) (p q r : ℕ) → (y ≡ false → x ≡ false) → q ≤ p → r ≤ q → (x ≡ false → y ≡ true → q < p) → (y ≡ false → z ≡ true → r < q) → x ≡ false → z ≡ true → r < p
+falls_through : (x y z : Bool) (p q r : ℕ) → (y ≡ false → x ≡ false) → q ≤ p → r ≤ q → (x ≡ false → y ≡ true → q < p)
+    → (y ≡ false → z ≡ true → r < q) → x ≡ false → z ≡ true → r < p
 falls_through x true z p q r k a b f g e h = let i = f e refl in omega arith
 falls_through x false z p q r k a b f g e h = let i = g refl h in omega arith
 
 pub moves_more : (a b c : CoordinatorMap) → Moves a b → Moves b c → Moves a c
 moves_more a b c m n =
-    let less : map_weight a.map.bounds c.map.measures ≤ map_weight a.map.bounds b.map.measures = subst (λ (bs : BoundList). map_weight bs c.map.measures ≤ map_weight bs b.map.measures) m.bounds n.weight in
+    let less : map_weight a.map.bounds c.map.measures ≤ map_weight a.map.bounds b.map.measures =
+    subst (λ (bs : BoundList). map_weight bs c.map.measures ≤ map_weight bs b.map.measures) m.bounds n.weight in
     record {
       bounds = n.bounds ∙ m.bounds;
       size = n.size ∙ m.size;
       above = map_transitive a.map.measures b.map.measures c.map.measures m.above n.above;
       stays = λ e. let i = n.stays e in let j = m.stays i.0 in (j.0, i.1 ∙ j.1);
       weight = let k = m.weight in omega arith;
-      falls = λ e f. falls_through a.rose b.rose c.rose (map_weight a.map.bounds a.map.measures) (map_weight a.map.bounds b.map.measures) (map_weight a.map.bounds c.map.measures) (λ i. (m.stays i).0) m.weight less m.falls
+      falls = λ e f. falls_through a.rose b.rose c.rose (map_weight a.map.bounds a.map.measures) (map_weight a.map.bounds b.map.measures)
+          (map_weight a.map.bounds c.map.measures) (λ i. (m.stays i).0) m.weight less m.falls
           (λ i j. subst (λ (bs : BoundList). map_weight bs c.map.measures < map_weight bs b.map.measures) m.bounds (n.falls i j)) e f;
     }
 
@@ -47,7 +50,8 @@ or_false false false e = (refl, refl)
 or_false false true e = (refl, e)
 or_false true b e = (e, cc)
 
-pub raised_falls : (bs : BoundList) (f g : List MeasureValue) (v : ℕ) (m : MeasureValue) → v < length f → Fits bs m → IsBelow (measure_at f v) m → g ≡ set f v m → map_weight bs g < map_weight bs f
+pub raised_falls : (bs : BoundList) (f g : List MeasureValue) (v : ℕ) (m : MeasureValue) → v < length f → Fits bs m
+    → IsBelow (measure_at f v) m → g ≡ set f v m → map_weight bs g < map_weight bs f
 raised_falls bs f g v m h fits below is =
     let a = measure_falls bs (measure_at f v) m fits below in
     let b = sum_by-set (weight bs) f v m None h in
@@ -61,7 +65,8 @@ pub record StepsTo (old new : MapValue) (rose : Bool) : Type 0 where
   pub falls : OnTrue rose (map_weight old.bounds new.measures < map_weight old.bounds old.measures)
   pub same : OnFalse rose (new ≡ old)
 
-weight_by : (rose : Bool) (old new : MapValue) → OnTrue rose (map_weight old.bounds new.measures < map_weight old.bounds old.measures) → OnFalse rose (new ≡ old) → map_weight old.bounds new.measures ≤ map_weight old.bounds old.measures
+weight_by : (rose : Bool) (old new : MapValue) → OnTrue rose (map_weight old.bounds new.measures < map_weight old.bounds old.measures)
+    → OnFalse rose (new ≡ old) → map_weight old.bounds new.measures ≤ map_weight old.bounds old.measures
 weight_by true old new f s = omega (arith, f)
 weight_by false old new f s = rw s (omega arith)
 
@@ -85,11 +90,15 @@ moves_step old new rose s is = record {
 }
 
 -- a measure is raised
-raise_falls : (rose : Bool) (bs : BoundList) (f g : List MeasureValue) (v : ℕ) (m : MeasureValue) → v < length f → Fits bs m → OnTrue rose (IsBelow (measure_at f v) m × (g ≡ set f v m)) → OnTrue rose (map_weight bs g < map_weight bs f)
+raise_falls : (rose : Bool) (bs : BoundList) (f g : List MeasureValue) (v : ℕ) (m : MeasureValue) → v < length f → Fits bs m
+    → OnTrue rose (IsBelow (measure_at f v) m × (g ≡ set f v m)) → OnTrue rose (map_weight bs g < map_weight bs f)
 raise_falls true bs f g v m h fits t = raised_falls bs f g v m h fits t.0 t.1
 raise_falls false bs f g v m h fits t = t
 
-pub raise_steps : (old new : MapValue) (rose : Bool) (v : ℕ) (m : MeasureValue) → v < length old.measures → Fits old.bounds m → new.bounds ≡ old.bounds → length new.measures ≡ length old.measures → MapAtMost old.measures new.measures → OnTrue rose (IsBelow (measure_at old.measures v) m × (new.measures ≡ set old.measures v m)) → OnFalse rose (new ≡ old) → StepsTo old new rose
+pub raise_steps : (old new : MapValue) (rose : Bool) (v : ℕ) (m : MeasureValue) → v < length old.measures → Fits old.bounds m
+    → new.bounds ≡ old.bounds → length new.measures ≡ length old.measures → MapAtMost old.measures new.measures
+    → OnTrue rose (IsBelow (measure_at old.measures v) m × (new.measures ≡ set old.measures v m)) → OnFalse rose (new ≡ old)
+    → StepsTo old new rose
 raise_steps old new rose v m h fits bounds size above t s = record {
   bounds = bounds;
   size = size;
@@ -98,28 +107,38 @@ raise_steps old new rose v m h fits bounds size above t s = record {
   same = s;
 }
 
-at_most_either : (f h : List MeasureValue) (v u : ℕ) (m : MeasureValue) → v < length f → MapAtMost f h → AtMost m (measure_at h v) → (u ≡ v) ⊎ (u ≢ v) → AtMost (measure_at (set f v m) u) (measure_at h u)
+at_most_either : (f h : List MeasureValue) (v u : ℕ) (m : MeasureValue) → v < length f → MapAtMost f h → AtMost m (measure_at h v)
+    → (u ≡ v) ⊎ (u ≢ v) → AtMost (measure_at (set f v m) u) (measure_at h u)
 at_most_either f h v u m l le k (inl e) = subst (λ (u : ℕ). AtMost (measure_at (set f v m) u) (measure_at h u)) (sym e) (rw (get_or-set_same f v m None l) k)
 at_most_either f h v u m l le k (inr n) = rw (get_or-set_other f v u m None n) (le u)
 
-pub raise_least : (old new : MapValue) (rose : Bool) (v : ℕ) (m : MeasureValue) → v < length old.measures → OnTrue rose (IsBelow (measure_at old.measures v) m × (new.measures ≡ set old.measures v m)) → OnFalse rose (new ≡ old) → (h : List MeasureValue) → MapAtMost old.measures h → AtMost m (measure_at h v) → MapAtMost new.measures h
+pub raise_least : (old new : MapValue) (rose : Bool) (v : ℕ) (m : MeasureValue) → v < length old.measures
+    → OnTrue rose (IsBelow (measure_at old.measures v) m × (new.measures ≡ set old.measures v m)) → OnFalse rose (new ≡ old)
+    → (h : List MeasureValue) → MapAtMost old.measures h → AtMost m (measure_at h v) → MapAtMost new.measures h
 raise_least old new true v m l t s h le k = rw (t.1) (λ u. at_most_either old.measures h v u m l le k (cases_eq u v))
 raise_least old new false v m l t s h le k = rw s le
 
-pub raise_above : (old new : MapValue) (rose : Bool) (v : ℕ) (m : MeasureValue) → v < length old.measures → OnTrue rose (IsBelow (measure_at old.measures v) m × (new.measures ≡ set old.measures v m)) → OnFalse rose (AtMost m (measure_at old.measures v)) → OnFalse rose (new ≡ old) → AtMost m (measure_at new.measures v)
+pub raise_above : (old new : MapValue) (rose : Bool) (v : ℕ) (m : MeasureValue) → v < length old.measures
+    → OnTrue rose (IsBelow (measure_at old.measures v) m × (new.measures ≡ set old.measures v m))
+    → OnFalse rose (AtMost m (measure_at old.measures v)) → OnFalse rose (new ≡ old) → AtMost m (measure_at new.measures v)
 raise_above old new true v m l t k s = rw (t.1, get_or-set_same old.measures v m None l) (measure_reflexive m)
 raise_above old new false v m l t k s = rw s k
 
 -- a pass, in which nothing had risen before
 pub passed_moves : (lines : ℕ → Option Line) (old new : CoordinatorMap) (n : ℕ) → old.rose ≡ false → IsPassed lines old.map new.map new.rose n → Moves old new
-passed_moves lines old new n none p = moves_step old new new.rose (record { bounds = p.bounds; size = p.map.size; above = p.above; falls = p.weight; same = p.same }) (sym (ap (λ b. b || new.rose) none))
+passed_moves lines old new n none p =
+    moves_step old new new.rose (record { bounds = p.bounds; size = p.map.size; above = p.above; falls = p.weight; same = p.same })
+    (sym (ap (λ b. b || new.rose) none))
 
-closed_same : (lines : ℕ → Option Line) (old new : MapValue) (rose : Bool) → OnFalse rose (new ≡ old) → OnFalse rose (IsClosed old.bounds lines old.measures) → rose ≡ false → IsClosed new.bounds lines new.measures
+closed_same : (lines : ℕ → Option Line) (old new : MapValue) (rose : Bool) → OnFalse rose (new ≡ old)
+    → OnFalse rose (IsClosed old.bounds lines old.measures) → rose ≡ false → IsClosed new.bounds lines new.measures
 closed_same lines old new true s h e = cc
 closed_same lines old new false s h e = rw s h
 
-pub passed_closed : (lines : ℕ → Option Line) (old : MapValue) (new : CoordinatorMap) (count n : ℕ) → IsPassed lines old new.map new.rose n → AreWithin count lines → count ≤ n → new.rose ≡ false → IsClosed new.map.bounds lines new.map.measures
-passed_closed lines old new count n p within le stays = closed_same lines old new.map new.rose p.same (closed_after lines old new.map new.rose count n p within le) stays
+pub passed_closed : (lines : ℕ → Option Line) (old : MapValue) (new : CoordinatorMap) (count n : ℕ) → IsPassed lines old new.map new.rose n
+    → AreWithin count lines → count ≤ n → new.rose ≡ false → IsClosed new.map.bounds lines new.map.measures
+passed_closed lines old new count n p within le stays = closed_same lines old new.map new.rose p.same
+    (closed_after lines old new.map new.rose count n p within le) stays
 
 -- ---- a link is heard
 

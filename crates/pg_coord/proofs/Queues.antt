@@ -50,9 +50,11 @@ parted P bytes first rest some a parts size =
     let len : length first ≡ length (spelling h.f) = size h.f h.rest h.spells h.parts in
     let both : first ++ rest ≡ spelling h.f ++ h.rest = sym parts ∙ h.parts in
     let same : first ≡ spelling h.f =
-    sym (take_at first rest (length (spelling h.f)) len) ∙ ap (take (length (spelling h.f))) both ∙ take_at (spelling h.f) h.rest (length (spelling h.f)) refl in
+    sym (take_at first rest (length (spelling h.f)) len) ∙ ap (take (length (spelling h.f))) both
+    ∙ take_at (spelling h.f) h.rest (length (spelling h.f)) refl in
     let left : rest ≡ h.rest =
-    sym (drop_at first rest (length (spelling h.f)) len) ∙ ap (drop (length (spelling h.f))) both ∙ drop_at (spelling h.f) h.rest (length (spelling h.f)) refl in
+    sym (drop_at first rest (length (spelling h.f)) len) ∙ ap (drop (length (spelling h.f))) both
+    ∙ drop_at (spelling h.f) h.rest (length (spelling h.f)) refl in
     record {
       f = h.f;
       spells = rw same h.spells;

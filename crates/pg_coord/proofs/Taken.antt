@@ -76,7 +76,8 @@ under_less h n rs a =
     )
 
 -- a round takes one reply more of each link, or none
-pub round_taken : {L : Type 0} (told : L → Option (List (List ℕ))) (t : TaskValue) (replies : ℕ → List Reply) (rounds rounds' : ℕ) (states states' : List LinkState)
+pub round_taken : {L : Type 0} (told : L → Option (List (List ℕ))) (t : TaskValue) (replies : ℕ → List Reply) (rounds rounds' : ℕ)
+    (states states' : List LinkState)
     (links links' : List L) (f g g' : List MeasureValue) (taken : HasTaken told t replies rounds states links f g)
     → rounds' ≡ min (rounds + 1) (2 ^ 64 - 1) → length links' ≡ length links → MapAtMost g g'
     → AllTell told t states' links' (λ k. drop 1 (drop taken.taken (replies k)))
@@ -100,8 +101,10 @@ round_taken told t replies rounds rounds' states states' links links' f g g' h c
     }
 
 -- the least closed map that is at least what was taken
-pub least_over : {L : Type 0} (told : L → Option (List (List ℕ))) (t : TaskValue) (replies : ℕ → List Reply) (rounds : ℕ) (states : List LinkState) (links : List L)
-    (count : ℕ) (f g : MapValue) → HasTaken told t (λ k. heard 3 (replies k)) rounds states links f.measures g.measures → length links ≡ count → f.bounds ≡ t.bounds
+pub least_over : {L : Type 0} (told : L → Option (List (List ℕ))) (t : TaskValue) (replies : ℕ → List Reply) (rounds : ℕ)
+    (states : List LinkState) (links : List L)
+    (count : ℕ) (f g : MapValue) → HasTaken told t (λ k. heard 3 (replies k)) rounds states links f.measures g.measures
+    → length links ≡ count → f.bounds ≡ t.bounds
     → length f.measures ≡ length t.game → g.bounds ≡ f.bounds → length g.measures ≡ length t.game → IsClosed g.bounds (game_line t.game) g.measures
     → IsNeverAbove f.bounds (game_line t.game) f.measures → IsLeastOverReplies (game_line t.game) rounds count replies g
 least_over told t replies rounds states links count f g h same bounds size stay width closed first = record {

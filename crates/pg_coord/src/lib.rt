@@ -14,6 +14,7 @@ pub use fault::CoordFault;
 pub use link::{Link, LinkFault};
 pub use memory::MemoryLink;
 pub use rounds::sending::halt;
+pub use sockets::owner::is_orphaned;
 pub use sockets::socket::SocketLink;
 pub use sockets::starting::Reach;
 pub use solver::{Outcome, Solved, solve, solve_from};

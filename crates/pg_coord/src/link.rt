@@ -45,6 +45,11 @@ pub trait Link {
     /// The frames that the link will still hand over, where it tells.
     ghost told: { Self → Option (List (List ℕ)) };
 
+    /// Told before the link is set up, so that what takes time may begin. Nothing that is known of the link changes.
+    fn prepare(&mut self)
+        ensures { self.new ≡ self.old }
+    {}
+
     /// Sends the bytes of one frame.
     fn send(&mut self, frame: &[u8]) -> Result<(), LinkFault>
         ensures counted { CountsFailure (failures self.old) (failures self.new) result }

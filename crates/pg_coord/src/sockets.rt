@@ -3,6 +3,6 @@
 mod connection;
 mod cutting;
 mod deadline;
-mod owner;
+pub mod owner;
 pub mod socket;
 pub mod starting;

@@ -16,7 +16,7 @@ use crate::fault::CoordFault;
 use crate::link::Link;
 use crate::rounds::coordinator_map::CoordinatorMap;
 use crate::rounds::link_state::{LinkState, UNSET};
-use crate::rounds::round::{make_round, set_up_all};
+use crate::rounds::round::{make_round, prepare_all, set_up_all};
 use crate::rounds::task::Task;
 use pg_arena::Game;
 use pg_map::MeasureMap;
@@ -124,6 +124,7 @@ fn run<L: Link>(
 {
     let mut row = vec![in task.alloc(); 0; task.width() as usize]?;
     let mut buffer = Vec::new(task.alloc());
+    prepare_all(links);
     set_up_all(task, links, states, &mut buffer)?;
     make_rounds(
         task,

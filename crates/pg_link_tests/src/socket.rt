@@ -46,3 +46,29 @@ fn a_program_that_never_connects_fails_each_call(rt: HostRuntime) -> Result<(), 
     }
     Ok(())
 }
+
+#[test]
+fn a_link_whose_time_is_over_starts_nothing(rt: HostRuntime) -> Result<(), Fail> {
+    let Ok(mut link) = SocketLink::listen(rt, rt.alloc(), "/bin/true") else {
+        return Err("no port can be listened at".into());
+    };
+    link.limit(0);
+    assert!(rt; fails_each_call(rt.alloc(), &mut link, false));
+    link.close();
+    Ok(())
+}
+
+#[test]
+fn a_program_that_was_started_before_a_send_is_the_one_that_is_sent_to(
+    rt: HostRuntime,
+) -> Result<(), Fail> {
+    let Ok(mut link) = SocketLink::listen(rt, rt.alloc(), "/bin/true") else {
+        return Err("no port can be listened at".into());
+    };
+    link.limit(60);
+    link.prepare();
+    link.prepare();
+    assert!(rt; fails_each_call(rt.alloc(), &mut link, true));
+    link.close();
+    Ok(())
+}

@@ -163,6 +163,15 @@ fn hear_one<L: Link>(
     }
 }
 
+/// Prepares each link.
+pub fn prepare_all<L: Link>(links: &mut [L])
+    ensures { links.new ≡ links.old }
+{
+    for i in 0..links.len() {
+        links[i].prepare();
+    }
+}
+
 /// Sets each link up. Worker k + 1 is behind link k.
 pub fn set_up_all<L: Link>(
     task: &Task<'_>,

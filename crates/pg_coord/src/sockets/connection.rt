@@ -8,7 +8,7 @@ use crate::sockets::deadline::DeadlineStream;
 use std::alloc::Global;
 use std::io::{self, BufReader, Read, Write};
 use std::net::OpenStream;
-use std::time::Clock;
+use std::time::{Clock, Instant};
 
 /// How many bytes are read ahead, and how many may wait to be sent.
 const ROOM: usize = 65_536;
@@ -37,10 +37,15 @@ pub struct Connection<C: Clock, S: Read + OpenStream> {
 }
 
 impl<C: Clock + Drop, S: Read + Write + OpenStream + Drop> Connection<C, S> {
-    /// A connection over a stream that blocks.
-    pub fn new(alloc: Global, clock: C, stream: S) -> io::Result<Connection<C, S>> {
+    /// A connection over a stream that blocks. Behind the end, if there is one, nothing is waited for.
+    pub fn new(
+        alloc: Global,
+        clock: C,
+        stream: S,
+        end: Option<Instant>,
+    ) -> io::Result<Connection<C, S>> {
         stream.set_nodelay(true)?;
-        let limited = DeadlineStream::new(clock, stream)?;
+        let limited = DeadlineStream::new(clock, stream, end)?;
         Ok(Connection {
             stream: BufReader::with_capacity(alloc, ROOM, limited)?,
             waiting: Vec::new(alloc),

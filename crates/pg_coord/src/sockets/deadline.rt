@@ -4,41 +4,32 @@ use std::io::{self, ErrorKind, Read, Write};
 use std::net::OpenStream;
 use std::time::{Clock, Duration, Instant};
 
-/// A stream with a point in time: a read or a write that isn't done by then fails.
-#[derive(Drop)]
-pub struct DeadlineStream<C, S> {
-    clock: C,
-    stream: S,
+/// A span of time: it ends so long after a point in time, and no later than at another one, if there is one.
+#[derive(Clone, Copy)]
+pub struct Span {
     since: Instant,
     limit: Duration,
+    end: Option<Instant>,
 }
 
-impl<C: Clock, S> DeadlineStream<C, S> {
-    /// A stream that blocks, and whose time is over.
-    pub fn new(clock: C, stream: S) -> io::Result<DeadlineStream<C, S>>
-    where
-        C: Drop,
-        S: Drop,
-    {
-        Ok(DeadlineStream {
-            since: Instant::now(&clock)?,
-            clock,
-            stream,
-            limit: Duration::ZERO,
+impl Span {
+    /// So many seconds from now on, but no longer than to the end.
+    pub fn start<C: Clock>(clock: &C, seconds: u64, end: Option<Instant>) -> io::Result<Span> {
+        Ok(Span {
+            since: Instant::now(clock)?,
+            limit: Duration::from_secs(seconds),
+            end,
         })
     }
 
-    /// Gives the reads and the writes from now on so many seconds.
-    pub fn start(&mut self, seconds: u64) -> io::Result<()> {
-        self.since = Instant::now(&self.clock)?;
-        self.limit = Duration::from_secs(seconds);
-        Ok(())
-    }
-
-    /// What is left of the time.
-    fn left(&self) -> io::Result<Duration> {
-        let elapsed = self.since.elapsed(&self.clock)?;
-        let left = self.limit.saturating_sub(elapsed);
+    /// What is left of it. Fails where nothing is.
+    pub fn left<C: Clock>(&self, clock: &C) -> io::Result<Duration> {
+        let now = Instant::now(clock)?;
+        let of_limit = self.limit.saturating_sub(now.duration_since(self.since));
+        let left = match self.end {
+            Some(end) => of_limit.min(end.duration_since(now)),
+            None => of_limit,
+        };
         if left.is_zero() {
             return Err(io::Error::from(ErrorKind::TimedOut));
         }
@@ -46,9 +37,38 @@ impl<C: Clock, S> DeadlineStream<C, S> {
     }
 }
 
+/// A stream with a span of time: a read or a write that isn't done by its end fails.
+#[derive(Drop)]
+pub struct DeadlineStream<C, S> {
+    clock: C,
+    stream: S,
+    span: Span,
+}
+
+impl<C: Clock, S> DeadlineStream<C, S> {
+    /// A stream that blocks, and whose time is over. No time that it is given goes beyond the end, if there is one.
+    pub fn new(clock: C, stream: S, end: Option<Instant>) -> io::Result<DeadlineStream<C, S>>
+    where
+        C: Drop,
+        S: Drop,
+    {
+        Ok(DeadlineStream {
+            span: Span::start(&clock, 0, end)?,
+            clock,
+            stream,
+        })
+    }
+
+    /// Gives the reads and the writes from now on so many seconds.
+    pub fn start(&mut self, seconds: u64) -> io::Result<()> {
+        self.span = Span::start(&self.clock, seconds, self.span.end)?;
+        Ok(())
+    }
+}
+
 impl<C: Clock, S: Read + OpenStream> Read for DeadlineStream<C, S> {
     fn read(&mut self, buf: &mut [u8]) -> io::Result<usize> {
-        let left = self.left()?;
+        let left = self.span.left(&self.clock)?;
         self.stream.set_read_timeout(Some(left))?;
         self.stream.read(buf)
     }
@@ -56,7 +76,7 @@ impl<C: Clock, S: Read + OpenStream> Read for DeadlineStream<C, S> {
 
 impl<C: Clock, S: Write + OpenStream> Write for DeadlineStream<C, S> {
     fn write(&mut self, buf: &[u8]) -> io::Result<usize> {
-        let left = self.left()?;
+        let left = self.span.left(&self.clock)?;
         self.stream.set_write_timeout(Some(left))?;
         self.stream.write(buf)
     }

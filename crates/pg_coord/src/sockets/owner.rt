@@ -10,6 +10,10 @@ const MOST_PROGRAMS: usize = 64;
 /// How many descriptors of a program are looked at.
 const MOST_DESCRIPTORS: u32 = 1024;
 
+/// The name of a socket that no program holds any more. The table has it for a minute or so, and for as long as the other end hasn't
+/// taken what was sent.
+const ORPHAN: &str = "socket:[0]";
+
 /// The address and the port that a row of the table has for a port of 127.0.0.1.
 fn end_at(alloc: Global, port: u16) -> Result<String, AllocError> {
     format!(in alloc; "0100007F:{port:04X}")
@@ -51,6 +55,15 @@ fn socket_of<R: Files>(rt: &R, alloc: Global, from: u16, to: u16) -> io::Result<
     let local = end_at(alloc, from)?;
     let remote = end_at(alloc, to)?;
     socket_between(rt, alloc, local.as_str(), remote.as_str())
+}
+
+/// Whether the socket at the port `from` of 127.0.0.1 that is connected to the port `to` there is still in the system's table,
+/// and no program holds it. Fails where the table can't be read.
+pub fn is_orphaned<R: Files>(rt: &R, alloc: Global, from: u16, to: u16) -> io::Result<bool> {
+    match socket_of(rt, alloc, from, to)? {
+        Some(socket) => Ok(socket.as_str() == ORPHAN),
+        None => Ok(false),
+    }
 }
 
 /// Whether a program holds the socket.

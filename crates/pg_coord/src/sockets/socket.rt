@@ -6,27 +6,37 @@ ghost use Rattle.pg_coord.specs.Sockets.{idle_link, IsCutByLength};
 
 use crate::link::{Link, LinkFault};
 use crate::sockets::connection::Connection;
-use crate::sockets::starting::{Reach, accept_from, is_want_of_memory, listen_anywhere, spawn};
+use crate::sockets::starting::{Reach, Starting, is_want_of_memory, listen_anywhere};
 use std::alloc::Global;
-use std::io;
+use std::io::{self, ErrorKind};
 use std::marker::Model;
-use std::net::OpenListener;
-use std::process::Child;
+use std::process::{Child, OpenProcess};
+use std::time::{Duration, Instant};
 
-/// A link to a worker program: `PATH worker --port P`, started at the first send, which connects to the port P of 127.0.0.1.
+/// A link to a worker program: `PATH worker --port P`, started by `prepare` or at the first send, which connects to the port P of
+/// 127.0.0.1.
 ///
 /// What it answers, and whether it answers, is the program's matter: the link is neither honest by contract nor does it tell
-/// its replies. No call waits for the program without end: it has 10 seconds to connect and as many for its first reply, and 60
-/// seconds for each further reply and to take a frame. A link that is dropped without `close` leaves the program running.
+/// its replies. No call waits without end for a program that runs: it has 10 seconds to connect and as many for its first reply, and
+/// 60 seconds for each further reply and to take a frame. Where it neither connects in time nor ends, no other one is started. How
+/// long the system takes to start it isn't limited. A link that is dropped without `close` leaves the program running.
 #[derive(Drop)]
 pub struct SocketLink<R: Reach> {
     rt: R,
     path: String,
     /// Where the next program is to connect; closed once it has.
     listener: Option<R::Listener>,
+    /// The next program, if it was started and isn't waited for yet.
+    starting: Option<Starting<R>>,
     program: Option<Child<R::Started>>,
     connection: Option<Connection<R, R::Stream>>,
     failures: u64,
+    /// Whether a program neither connected in time nor ended.
+    is_given_up: bool,
+    /// The time in all that is still to begin, if there is a limit.
+    time: Option<Duration>,
+    /// When the time in all is over, once it has begun.
+    end: Option<Instant>,
 }
 
 impl<R: Reach> Model for SocketLink<R> {
@@ -51,6 +61,21 @@ fn fault_of(error: &io::Error) -> LinkFault {
     }
 }
 
+/// Whether a program neither connected in time nor ended.
+fn is_timed_out<S>(accepted: &io::Result<S>) -> bool {
+    match accepted {
+        Ok(_) => false,
+        Err(e) => e.kind() == ErrorKind::TimedOut,
+    }
+}
+
+/// Kills a program, and waits for it.
+fn kill<P: OpenProcess>(program: &mut Child<P>) {
+    if program.kill().is_ok() {
+        let _ended = program.wait();
+    }
+}
+
 impl<R: Reach> SocketLink<R> {
     /// A link that has started nothing yet. It listens on 127.0.0.1, at a port that the system picks.
     ///
@@ -64,12 +89,24 @@ impl<R: Reach> SocketLink<R> {
                 rt,
                 path,
                 listener: Some(listener),
+                starting: None,
                 program: None,
                 connection: None,
                 failures: 0,
+                is_given_up: false,
+                time: None,
+                end: None,
             }),
             Err(e) => Err(fault_of(&e)),
         }
+    }
+
+    /// Gives the link so many seconds in all, from where a program is first started. Behind these no program is started, nothing is
+    /// waited for, and what waits for the program isn't sent: calls are Failed at once.
+    pub fn limit(&mut self, seconds: u64)
+        ensures { self.new ≡ self.old }
+    {
+        self.time = Some(Duration::from_secs(seconds));
     }
 
     /// Whether there is a program, also one that has ended.
@@ -97,35 +134,39 @@ impl<R: Reach> SocketLink<R> {
     {
         let alloc = *self.path.allocator();
         let clock = self.rt.clone()?;
-        self.connection = Some(Connection::new(alloc, clock, accepted?)?);
+        self.connection = Some(Connection::new(alloc, clock, accepted?, self.end)?);
         Ok(())
     }
 
-    /// Starts the program, which is to connect to the listener.
-    fn spawn_for(&self, listener: &R::Listener) -> io::Result<Child<R::Started>> {
-        let port = listener.local_addr()?.port();
-        spawn(&self.rt, *self.path.allocator(), self.path.as_str(), port)
-    }
-
-    /// Starts the program, which is to connect to the listener, and waits for that.
-    fn start_for(&mut self, listener: &R::Listener) -> io::Result<()>
-        ensures ok { OnOk result (self.new ≡ record self.old { has_program = true; is_connected = true }) }
-        ensures failures { self.new.failures ≡ self.old.failures }
+    /// Starts a program, whose connection isn't waited for.
+    fn launch(&mut self) -> io::Result<Starting<R>>
+        ensures { self.new ≡ self.old }
     {
+        if self.is_given_up {
+            return Err(io::Error::from(ErrorKind::TimedOut));
+        }
+        if let Some(time) = self.time {
+            self.end = Instant::now(&self.rt)?.checked_add(time);
+            self.time = None;
+        }
+        let listener = self.take_listener()?;
         let alloc = *self.path.allocator();
-        let mut program = self.spawn_for(listener)?;
-        let accepted = accept_from(&self.rt, alloc, listener, &mut program);
-        self.program = Some(program);
-        self.connect(accepted)
+        Starting::new(&self.rt, alloc, self.path.as_str(), listener, self.end)
     }
 
-    /// Starts the program, and waits for its connection.
+    /// Starts the program, if that isn't done yet, and waits for its connection.
     fn start(&mut self) -> io::Result<()>
         ensures ok { OnOk result (self.new ≡ record self.old { has_program = true; is_connected = true }) }
         ensures failures { self.new.failures ≡ self.old.failures }
     {
-        let listener = self.take_listener()?;
-        self.start_for(&listener)
+        let mut starting = match self.starting.take() {
+            Some(starting) => starting,
+            None => self.launch()?,
+        };
+        let accepted = starting.accept(&self.rt, *self.path.allocator());
+        self.is_given_up = is_timed_out(&accepted);
+        self.program = Some(starting.program);
+        self.connect(accepted)
     }
 
     /// Kills the program, if there is one that runs, and waits for it. The connection stays.
@@ -133,9 +174,10 @@ impl<R: Reach> SocketLink<R> {
         ensures { self.new ≡ self.old }
     {
         if let Some(program) = &mut self.program {
-            if program.kill().is_ok() {
-                let _ended = program.wait();
-            }
+            kill(program);
+        }
+        if let Some(starting) = &mut self.starting {
+            kill(&mut starting.program);
         }
     }
 
@@ -146,6 +188,7 @@ impl<R: Reach> SocketLink<R> {
         self.connection = None;
         self.kill();
         self.program = None;
+        self.starting = None;
     }
 
     /// Closes the connection, kills the program and waits for it.
@@ -195,6 +238,14 @@ impl<R: Reach> Link for SocketLink<R> {
     ghost is_under = { λ _ _. ⊥ };
 
     ghost told = { λ _. None };
+
+    /// Starts the program, if there is none, and doesn't wait for it: so the programs of several links start side by side. Where
+    /// it can't be started, the first send tells.
+    fn prepare(&mut self) {
+        if self.program.is_none() && self.starting.is_none() {
+            self.starting = self.launch().ok();
+        }
+    }
 
     /// Sends a frame; where there is no program, one is started first. Failed where the program can't be started, doesn't
     /// connect or doesn't take the frame, and where there is a program without a connection.

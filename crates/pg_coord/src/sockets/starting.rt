@@ -1,5 +1,6 @@
 //! Starts programs that connect to this one.
 
+use crate::sockets::deadline::Span;
 use crate::sockets::owner::is_of_program;
 use std::alloc::Global;
 use std::fs::Files;
@@ -47,12 +48,7 @@ fn worker_command(alloc: Global, path: &str, port: u16) -> io::Result<Command> {
 }
 
 /// Starts `PATH worker --port P`. It reads nothing, and what it prints goes nowhere.
-pub fn spawn<R: Reach>(
-    rt: &R,
-    alloc: Global,
-    path: &str,
-    port: u16,
-) -> io::Result<Child<R::Started>> {
+fn spawn<R: Reach>(rt: &R, alloc: Global, path: &str, port: u16) -> io::Result<Child<R::Started>> {
     let mut command = worker_command(alloc, path, port)?;
     command
         .stdin(Stdio::null())
@@ -80,34 +76,54 @@ fn is_foreign<R: Reach>(
     }
 }
 
-/// Waits for the connection of a program that was just started, and drops those of others. Fails where the program ends
-/// first, and where it takes too long.
-pub fn accept_from<R: Reach>(
-    rt: &R,
-    alloc: Global,
-    listener: &R::Listener,
-    program: &mut Child<R::Started>,
-) -> io::Result<R::Stream> {
-    let port = listener.local_addr()?.port();
-    let start = Instant::now(rt)?;
-    for _ in 0..u64::MAX {
-        match listener.accept() {
-            Ok((stream, from)) => {
-                if !is_foreign(rt, alloc, program.id(), from, port)? {
-                    return Ok(stream);
-                }
-            }
-            Err(e) if e.kind() == ErrorKind::WouldBlock => {
-                if program.try_wait()?.is_some() {
-                    return Err(io::Error::from(ErrorKind::BrokenPipe));
-                }
-                thread::sleep(rt, Duration::from_millis(LOOK));
-            }
-            Err(e) => return Err(e),
-        }
-        if start.elapsed(rt)? >= Duration::from_secs(CONNECT) {
-            break;
-        }
+/// A program that was started, and the port that it is to connect to in its time.
+#[derive(Drop)]
+pub struct Starting<R: Reach> {
+    pub program: Child<R::Started>,
+    listener: R::Listener,
+    time: Span,
+}
+
+impl<R: Reach> Starting<R> {
+    /// Starts `PATH worker --port P`, which has 10 seconds to connect, but no longer than to the end, if there is one.
+    pub fn new(
+        rt: &R,
+        alloc: Global,
+        path: &str,
+        listener: R::Listener,
+        end: Option<Instant>,
+    ) -> io::Result<Starting<R>> {
+        let time = Span::start(rt, CONNECT, end)?;
+        time.left(rt)?;
+        let port = listener.local_addr()?.port();
+        Ok(Starting {
+            program: spawn(rt, alloc, path, port)?,
+            listener,
+            time,
+        })
     }
-    Err(io::Error::from(ErrorKind::TimedOut))
+
+    /// Waits for the connection of the program, and drops those of others. Fails where the program ends first, and
+    /// with `TimedOut` where it takes too long.
+    pub fn accept(&mut self, rt: &R, alloc: Global) -> io::Result<R::Stream> {
+        let port = self.listener.local_addr()?.port();
+        for _ in 0..u64::MAX {
+            match self.listener.accept() {
+                Ok((stream, from)) => {
+                    if !is_foreign(rt, alloc, self.program.id(), from, port)? {
+                        return Ok(stream);
+                    }
+                }
+                Err(e) if e.kind() == ErrorKind::WouldBlock => {
+                    if self.program.try_wait()?.is_some() {
+                        return Err(io::Error::from(ErrorKind::BrokenPipe));
+                    }
+                    thread::sleep(rt, Duration::from_millis(LOOK));
+                }
+                Err(e) => return Err(e),
+            }
+            self.time.left(rt)?;
+        }
+        Err(io::Error::from(ErrorKind::TimedOut))
+    }
 }

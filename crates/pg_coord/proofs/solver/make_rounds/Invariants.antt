@@ -18,7 +18,8 @@ invariant-rounds g l =
       same_count : length l.links ≡ length l.fn.links;
       found : IsFoundFrom (All honest l.fn.links × AllInStep under l.task l.fn.coordinator.map l.fn.states l.fn.links) l.task.game l.fn.coordinator.map l.coordinator.map;
       honest_still : All honest l.fn.links → All honest l.links;
-      in_step : All honest l.fn.links → AllInStep under l.task l.fn.coordinator.map l.fn.states l.fn.links → AllInStep under l.task l.coordinator.map l.states l.links;
+      in_step : All honest l.fn.links → AllInStep under l.task l.fn.coordinator.map l.fn.states l.fn.links
+          → AllInStep under l.task l.coordinator.map l.states l.links;
       taken : (replies : ℕ → List Reply) → AllTell g.L.Link.told l.task l.fn.states l.fn.links replies
           → HasTaken g.L.Link.told l.task replies l.rounds l.states l.links l.fn.coordinator.map.measures l.coordinator.map.measures;
       rising : l.coordinator.rose ≡ true

@@ -40,9 +40,11 @@ pub returns-clause-under : goal.returns-clause-under
 returns-clause-under c = c.loop-number.invariant.passed.under
 
 pub returns-clause-covers : goal.returns-clause-covers
-returns-clause-covers c = λ v lt. c.loop-number.invariant.passed.covered v (let past = c.loop-number-test.false in omega arith) (game_line_some c.args.game.now v lt)
+returns-clause-covers c = λ v lt. c.loop-number.invariant.passed.covered v (let past = c.loop-number-test.false in omega arith)
+    (game_line_some c.args.game.now v lt)
 
 pub returns-clause-closed : goal.returns-clause-closed
 returns-clause-closed c = λ stays.
     let within : AreWithin (length c.args.game.now) (game_line c.args.game.now) = (c.game_lines.ensures c.args.game.now c.len-number-end.ensures.game).0 in
-    passed_closed (game_line c.args.game.now) c.args.coordinator.now.map c.loop-number.coordinator (length c.args.game.now) c.loop-number.number c.loop-number.invariant.passed within (omega arith) stays
+    passed_closed (game_line c.args.game.now) c.args.coordinator.now.map c.loop-number.coordinator
+    (length c.args.game.now) c.loop-number.number c.loop-number.invariant.passed within (omega arith) stays

@@ -13,7 +13,8 @@ loop-i-preserved g c =
     record {
       same_len = search (rules, length-set);
       same_count = search (rules, length-set);
-      honest_still = λ h. All-set honest c.loop-i.links c.loop-i.i c.ask_one.new.link (c.ask_one.ensures.honest (inv.honest_still h c.loop-i.i _ within)) (inv.honest_still h);
+      honest_still = λ h. All-set honest c.loop-i.links c.loop-i.i c.ask_one.new.link
+          (c.ask_one.ensures.honest (inv.honest_still h c.loop-i.i _ within)) (inv.honest_still h);
       told_done = λ replies tell.
           let here : c.loop-i.i ≤ c.loop-i.i = omega arith in
           halves_step (TellsNext g.L.Link.told c.args.task.now replies) (IsAskedNext g.L.Link.told c.args.task.now replies) c.loop-i.i c.loop-i.states

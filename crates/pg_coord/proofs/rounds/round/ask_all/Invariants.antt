@@ -16,5 +16,6 @@ invariant-loop-i g l =
       honest_still : All honest l.fn.links → All honest l.links;
       told_done : (replies : ℕ → List Reply) → AllTell g.L.Link.told l.task l.fn.states l.fn.links replies
           → Halves (TellsNext g.L.Link.told l.task replies) (IsAskedNext g.L.Link.told l.task replies) l.i l.states l.links;
-      in_step : All honest l.fn.links → AllInStep under l.task l.coordinator.map l.fn.states l.fn.links → AllInStep under l.task l.coordinator.map l.states l.links;
+      in_step : All honest l.fn.links → AllInStep under l.task l.coordinator.map l.fn.states l.fn.links
+          → AllInStep under l.task l.coordinator.map l.states l.links;
     }

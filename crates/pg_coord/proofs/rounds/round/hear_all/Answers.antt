@@ -33,7 +33,8 @@ loop-i-preserved g c =
     record {
       same_len = search (rules, length-set);
       same_count = search (rules, length-set);
-      honest_still = λ h. All-set honest c.loop-i.links c.loop-i.i c.hear_one.new.link (c.hear_one.ensures.honest (inv.honest_still h c.loop-i.i _ within)) (inv.honest_still h);
+      honest_still = λ h. All-set honest c.loop-i.links c.loop-i.i c.hear_one.new.link
+          (c.hear_one.ensures.honest (inv.honest_still h c.loop-i.i _ within)) (inv.honest_still h);
       bounds = moves.bounds ∙ inv.bounds;
       size = moves.size ∙ inv.size;
       moves = moves_more _ _ _ inv.moves moves;
@@ -49,7 +50,8 @@ loop-i-preserved g c =
                 (λ k. measures_of (take 1 (replies k))) done.1 next.1,
           );
       in_step = λ h s. AllInStep-set under c.args.task.now c.hear_one.new.coordinator.map c.loop-i.states c.loop-i.links c.loop-i.i c.hear_one.new.state c.hear_one.new.link inv.same_len within (c.in_ok-hear_one.ensures.in_step (inv.honest_still h c.loop-i.i _ within) (inv.in_step h s c.loop-i.i _ _ within)) (all_in_step_above under c.args.task.now c.loop-i.coordinator.map c.hear_one.new.coordinator.map c.loop-i.states c.loop-i.links moves.above (inv.in_step h s));
-      least = λ h s m closed le. c.hear_one.ensures.least (inv.honest_still h c.loop-i.i _ within) (inv.in_step h s c.loop-i.i _ _ within) m closed (inv.least h s m closed le);
+      least = λ h s m closed le. c.hear_one.ensures.least (inv.honest_still h c.loop-i.i _ within)
+          (inv.in_step h s c.loop-i.i _ _ within) m closed (inv.least h s m closed le);
     }
 
 pub returns-in_err-hear_one-clause-moves : goal.returns-in_err-hear_one-clause-moves

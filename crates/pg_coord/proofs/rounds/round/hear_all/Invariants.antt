@@ -23,6 +23,8 @@ invariant-loop-i g l =
       told_done : (replies : ℕ → List Reply) → AllTell g.L.Link.told l.task l.fn.states l.fn.links replies → AllAsked l.fn.states l.fn.links
           → Halves (IsAskedNext g.L.Link.told l.task replies) (IsHeardNext g.L.Link.told l.task replies) l.i l.states l.links
           × JoinsEach l.fn.coordinator.map.measures l.i (λ k. measures_of (take 1 (replies k))) l.coordinator.map.measures;
-      in_step : All honest l.fn.links → AllInStep under l.task l.fn.coordinator.map l.fn.states l.fn.links → AllInStep under l.task l.coordinator.map l.states l.links;
-      least : All honest l.fn.links → AllInStep under l.task l.fn.coordinator.map l.fn.states l.fn.links → (h : MapValue) → IsClosedMap l.task h → MapAtMost l.fn.coordinator.map.measures h.measures → MapAtMost l.coordinator.map.measures h.measures;
+      in_step : All honest l.fn.links → AllInStep under l.task l.fn.coordinator.map l.fn.states l.fn.links
+          → AllInStep under l.task l.coordinator.map l.states l.links;
+      least : All honest l.fn.links → AllInStep under l.task l.fn.coordinator.map l.fn.states l.fn.links → (h : MapValue)
+          → IsClosedMap l.task h → MapAtMost l.fn.coordinator.map.measures h.measures → MapAtMost l.coordinator.map.measures h.measures;
     }

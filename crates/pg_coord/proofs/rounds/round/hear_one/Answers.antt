@@ -30,7 +30,8 @@ returns-in-Ok g c =
       honest = heard.honest;
       moves = heard.moves;
       in_step = λ ho s used h closed le.
-          heard.under ho h (s used h closed (map_transitive c.args.coordinator.now.map.measures c.hear.new.coordinator.map.measures h.measures heard.moves.above le));
+          heard.under ho h (s used h closed
+          (map_transitive c.args.coordinator.now.map.measures c.hear.new.coordinator.map.measures h.measures heard.moves.above le));
       least = λ ho s h closed le. heard.least ho h (s used h closed le) le;
       told = λ rs h asked.
           reply_heard c.args.task.now c.args.worker rs c.args.state.now (told c.args.link.now) (told c.hear.new.link) c.args.coordinator.now.map.measures

@@ -59,7 +59,8 @@ returns g c =
           let count : length c.ask_all.new.links ≡ length c.args.links.now = c.ask_all.auto.links in (
             heard_all.0,
             record {
-              above = λ k lt. at_least_after heard.map.measures after.map.measures (measures_of (take 1 (replies k))) last.moves.above (joined.above k (omega arith));
+              above = λ k lt. at_least_after heard.map.measures after.map.measures (measures_of (take 1 (replies k))) last.moves.above
+                  (joined.above k (omega arith));
               least = λ m closed le each. last.least m closed (joined.least m.measures (rw same le) (λ k lt. each k (omega arith)));
             },
           );

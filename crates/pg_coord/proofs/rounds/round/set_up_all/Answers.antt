@@ -26,7 +26,8 @@ loop-i-preserved g c =
     record {
       same_len = search (rules, length-set);
       same_count = search (rules, length-set);
-      honest_still = λ h. All-set honest c.loop-i.links c.loop-i.i c.set_up_one.new.link (c.set_up_one.ensures.honest (inv.honest_still h c.loop-i.i _ within)) (inv.honest_still h);
+      honest_still = λ h. All-set honest c.loop-i.links c.loop-i.i c.set_up_one.new.link
+          (c.set_up_one.ensures.honest (inv.honest_still h c.loop-i.i _ within)) (inv.honest_still h);
       unset = halves_step (λ k state link. state.restarts ≡ 0) (λ k state link. Unit {0}) c.loop-i.i c.loop-i.states c.loop-i.links c.set_up_one.new.state
           c.set_up_one.new.link inv.same_len within inv.unset tt;
       told_done = λ replies tell.
@@ -45,7 +46,8 @@ set_up_one-requires g c =
     (c.loop-i.invariant.unset c.loop-i.i c.index-links-i.result _ within).1 (omega arith)
 
 pub returns-clause-in_step : goal.returns-clause-in_step
-returns-clause-in_step g c = λ h map k d e lt. (c.loop-i.invariant.in_step h k d e lt).0 (let past = c.loop-i-test.false in let same = c.loop-i.invariant.same_count in omega arith) map
+returns-clause-in_step g c = λ h map k d e lt. (c.loop-i.invariant.in_step h k d e lt).0
+    (let past = c.loop-i-test.false in let same = c.loop-i.invariant.same_count in omega arith) map
 
 pub returns-clause-told : goal.returns-clause-told
 returns-clause-told g c = λ replies tell k d e lt.

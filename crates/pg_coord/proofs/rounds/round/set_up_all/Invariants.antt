@@ -17,5 +17,6 @@ invariant-loop-i g l =
       unset : Halves (λ k state link. state.restarts ≡ 0) (λ k state link. Unit {0}) l.i l.states l.links;
       told_done : (replies : ℕ → List Reply) → TellReplies g.L.Link.told l.task.bounds l.task.cut l.fn.links replies
           → Halves (TellsFirst g.L.Link.told l.task replies) (TellsNext g.L.Link.told l.task (λ k. heard 3 (replies k))) l.i l.states l.links;
-      in_step : All honest l.fn.links → Halves (λ k state link. Unit {0}) (λ k state link. (map : MapValue) → IsInStep under l.task map state link) l.i l.states l.links;
+      in_step : All honest l.fn.links
+          → Halves (λ k state link. Unit {0}) (λ k state link. (map : MapValue) → IsInStep under l.task map state link) l.i l.states l.links;
     }

@@ -9,5 +9,6 @@ loop-i-preserved g c =
     let within : c.loop-i.i < length c.loop-i.links = search rules in
     record {
       same_count = search (rules, length-set);
-      honest_still = λ h. All-set honest c.loop-i.links c.loop-i.i c.send-sent.new.self (c.send-sent.ensures.honest (inv.honest_still h c.loop-i.i _ within)) (inv.honest_still h);
+      honest_still = λ h. All-set honest c.loop-i.links c.loop-i.i c.send-sent.new.self
+          (c.send-sent.ensures.honest (inv.honest_still h c.loop-i.i _ within)) (inv.honest_still h);
     }

@@ -14,7 +14,8 @@ prove-unreachable-requires c =
     let written = c.requires.written in
     let told : told_line line ≡ vertex_line (vertex_at c.args.task.now.game c.args.v) =
     subst (λ (game : List GameVertex). told_line line ≡ vertex_line (vertex_at game c.args.v)) c.game.ensures.value head.ensures.line in
-    let added = subst (λ (ss : List ℕ). IsLineAdded c.in_ok-fits.fits c.args.writer.now c.push.new.self [] written.0 (line_with head.head ss) c.args.out.now.items c.push.new.out.items)
+    let added = subst (λ (ss : List ℕ). IsLineAdded c.in_ok-fits.fits c.args.writer.now c.push.new.self [] written.0
+    (line_with head.head ss) c.args.out.now.items c.push.new.out.items)
     c.as_slice.ensures.value (c.in_ok-fits.ensures.added [] written.0 written.1.writing) in
     let pushed = pushed_line c.args.task.now c.args.writer.now c.push.new.self c.args.v written.0 line c.args.out.now.items c.push.new.out.items c.in_ok-fits.fits
     c.game.ensures.task head.ensures.vertex c.requires.v head.ensures.well told written.1 c.requires.short added in
@@ -29,7 +30,8 @@ returns c =
     let written = c.requires.written in
     let told : told_line line ≡ vertex_line (vertex_at c.args.task.now.game c.args.v) =
     subst (λ (game : List GameVertex). told_line line ≡ vertex_line (vertex_at game c.args.v)) c.game.ensures.value head.ensures.line in
-    let added = subst (λ (ss : List ℕ). IsLineAdded c.in_ok-fits.fits c.args.writer.now c.push.new.self [] written.0 (line_with head.head ss) c.args.out.now.items c.push.new.out.items)
+    let added = subst (λ (ss : List ℕ). IsLineAdded c.in_ok-fits.fits c.args.writer.now c.push.new.self [] written.0
+    (line_with head.head ss) c.args.out.now.items c.push.new.out.items)
     c.as_slice.ensures.value (c.in_ok-fits.ensures.added [] written.0 written.1.writing) in
     let pushed = pushed_line c.args.task.now c.args.writer.now c.push.new.self c.args.v written.0 line c.args.out.now.items c.push.new.out.items c.in_ok-fits.fits
     c.game.ensures.task head.ensures.vertex c.requires.v head.ensures.well told written.1 c.requires.short added in

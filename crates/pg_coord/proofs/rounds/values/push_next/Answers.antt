@@ -11,5 +11,8 @@ pub returns-then-fits-clause-written : goal.returns-then-fits-clause-written
 returns-then-fits-clause-written c = λ ms h.
     let at : c.from.result ≡ c.args.v = c.from.ensures ∙ c.v.view_is in
     let past = c.if-from-next.false in
-    pushed c.in_ok-fits.fits c.args.map.now c.args.writer.now c.push.new.writer c.args.next.now (c.from-then-fits.result + 1) c.args.v (measure_in c.get.result) ms c.args.out.now.items c.push.new.out.items
-    (omega arith) c.requires.v c.get.ensures.value c.get.ensures.fits (λ e. ap (λ (n : ℕ). n + 1) (c.from-then-fits.ensures ∙ c.v-2.view_is)) (λ e. let no : true ≡ false = sym c.if-fits.true ∙ e in cc) h (c.in_ok-fits.ensures.added [] ms h.writing)
+    pushed c.in_ok-fits.fits c.args.map.now c.args.writer.now c.push.new.writer c.args.next.now (c.from-then-fits.result + 1) c.args.v
+    (measure_in c.get.result) ms c.args.out.now.items c.push.new.out.items
+    (omega arith) c.requires.v c.get.ensures.value c.get.ensures.fits
+    (λ e. ap (λ (n : ℕ). n + 1) (c.from-then-fits.ensures ∙ c.v-2.view_is))
+    (λ e. let no : true ≡ false = sym c.if-fits.true ∙ e in cc) h (c.in_ok-fits.ensures.added [] ms h.writing)

@@ -22,8 +22,10 @@ values-preserved g c =
                 let sent = w.in_ok-send.ensures.told (frame_of kind (length map.bounds) frame.measures) (rw bytes frame.spelled) in
                 (sent_values kind (length map.bounds) frame.measures (g.L.Link.told c.values.link) (g.L.Link.told w.send.new.self) _ left sent
                 (inv.told_still left is)).1;
-            under_still = λ h m le u. w.in_ok-send.ensures.under (inv.honest_still h) (frame_of kind (length map.bounds) frame.measures) (let bytes : w.as_slice.result.now ≡ c.write_frame.new.out.items = search rules in rw bytes frame.spelled) m
-                (under_values kind (length map.bounds) frame.measures m _ (rw frame.told (map_at_least map.measures m.measures frame.measures le frame.of_map)) (inv.under_still h m le u));
+            under_still = λ h m le u. w.in_ok-send.ensures.under (inv.honest_still h) (frame_of kind (length map.bounds) frame.measures)
+                (let bytes : w.as_slice.result.now ≡ c.write_frame.new.out.items = search rules in rw bytes frame.spelled) m
+                (under_values kind (length map.bounds) frame.measures m _
+                (rw frame.told (map_at_least map.measures m.measures frame.measures le frame.of_map)) (inv.under_still h m le u));
           }
       | else-some w ↦
           rw w.link-is record {

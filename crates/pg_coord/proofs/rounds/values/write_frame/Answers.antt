@@ -15,7 +15,8 @@ returns-then-not-branch-clause-frame c =
     let size : length map.measures < 2 ^ 32 = (let k = c.requires.size in let v = task.well.vertices.1 in omega arith) in
     let e = c.in_ok-push_next.ensures in
     let w = e.written inv.measures inv.written in
-    frame_spelled map c.args.to.kind c.push_next.new.writer c.push_next.new.next w.0 c.push_next.new.out.items c.finish.new.out.items (e.of.0 ∙ inv.kind) (e.of.1 ∙ inv.width) few are size w.1
+    frame_spelled map c.args.to.kind c.push_next.new.writer c.push_next.new.next w.0 c.push_next.new.out.items c.finish.new.out.items
+    (e.of.0 ∙ inv.kind) (e.of.1 ∙ inv.width) few are size w.1
     (c.finish.ensures.spelled [] w.0 w.1.writing) (c.finish.ensures.spells [] w.0 w.1.writing)
 
 pub returns-clause-frame : goal.returns-clause-frame

@@ -5,7 +5,8 @@ use Rattle.pg_coord.proofs.rounds.coordinator_map.CoordinatorMap.raise.Goals as 
 pub returns-clause-moves : goal.returns-clause-moves
 returns-clause-moves c =
     let e = c.raise-rose.ensures in
-    moves_step _ _ c.raise-rose.result (raise_steps _ _ c.raise-rose.result c.args.v _ c.requires.v c.requires.fits e.bounds e.size e.join.first e.rose e.same) refl
+    moves_step _ _ c.raise-rose.result
+    (raise_steps _ _ c.raise-rose.result c.args.v _ c.requires.v c.requires.fits e.bounds e.size e.join.first e.rose e.same) refl
 
 pub returns-clause-above : goal.returns-clause-above
 returns-clause-above c = let e = c.raise-rose.ensures in raise_above _ _ c.raise-rose.result c.args.v _ c.requires.v e.rose e.stays e.same

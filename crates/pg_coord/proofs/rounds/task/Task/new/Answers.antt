@@ -12,5 +12,6 @@ invariant_of-result c =
       lines = (c.game_lines.ensures c.args.game.now game.game).0;
       cut = c.requires.cut;
       bounds = is;
-      well = setup_is_well c.args.game.now c.in_ok-bounds.bounds 2 _ c.bounds_are_few.ensures game.game game.limits game.priorities is (omega arith, omega arith) refl;
+      well = setup_is_well c.args.game.now c.in_ok-bounds.bounds 2 _ c.bounds_are_few.ensures game.game game.limits game.priorities is
+          (omega arith, omega arith) refl;
     }
