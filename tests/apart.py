@@ -1,5 +1,6 @@
 """Runs commands whose workers are programs of their own: the program itself, programs that pretend to be a worker
-(pretender.py), programs that aren't there. Each run has to end with the right answer, in time, and leave no program behind."""
+(pretender.py), programs that aren't there. Each run has to end with the right answer, in time, and each program that it started has
+to have ended then; so has a worker whose solver was killed."""
 import ctypes
 import os
 import pathlib
@@ -14,7 +15,7 @@ from concurrent.futures import ProcessPoolExecutor
 import pretender
 
 PRETENDER = pathlib.Path(__file__).resolve().parent / "pretender.py"
-LIMIT = 150  # seconds after which a run is said to hang; the slowest waits four times for ten seconds, or once for sixty
+LIMIT = 90  # seconds after which a run is said to hang: a command gives its programs sixty in all
 
 TWO = "parity 1;\n0 1 0 0,1;\n1 2 1 0;\n"
 TOPS = "parity 1;\n0 1 0 0;\n1 3 0 0;\n"
@@ -35,7 +36,7 @@ FAILING = ["exits_at_once", "connects_and_exits", "half_a_frame_and_exits", "hal
            "length_at_the_limit", "unknown_kind", "setup_in_reply", "outside_its_part", "above_the_bounds", "another_width",
            "the_other_kind", "too_many_frames", "refuses", "refuses_to_lift", "quiet_at_once"]
 WAITING = ["never_connects", "connects_and_closes", "says_nothing", "half_a_frame_and_silence", "drips"]
-STARTING = ("killed_after", "nonsense_once", "starts_the_worker")  # these start a program in turn, which ends a little later
+STARTING = ("killed_after", "nonsense_once", "slow", "starts_the_worker")  # these start a program in turn, which ends a little later
 
 
 def begin():
@@ -54,9 +55,7 @@ def left_behind(grace):
         if found:
             count += grace == 0
         elif time.monotonic() >= until:
-            with open(f"/proc/self/task/{os.getpid()}/children") as file:
-                children = file.read().split()
-            for child in children:
+            for child in children_of(os.getpid()):
                 os.kill(int(child), 9)
                 os.waitpid(int(child), 0)
                 count += 1
@@ -102,10 +101,11 @@ class Run:
             return self.make(folder) or self.differs(0, output)
 
 
-def answers(program, command, text, path, workers=1):
-    """The right answer comes."""
-    run = Run(program, command, text, path, workers)
-    return str(run), run.answers(ANSWERS[command, text])
+def answers(program, command, text, path, workers=1, within=LIMIT):
+    """The right answer comes, within so many seconds."""
+    run, start = Run(program, command, text, path, workers), time.monotonic()
+    why, took = run.answers(ANSWERS[command, text]), time.monotonic() - start
+    return str(run), why or (f"took {took:.0f} seconds" if took > within else None)
 
 
 def says(program, command, text, path, status, output, errors=""):
@@ -115,14 +115,51 @@ def says(program, command, text, path, status, output, errors=""):
         return str(run), run.make(folder) or run.differs(status, output, errors)
 
 
-def ends_where_values_go_to_and_fro(program, count=400):
-    """Each vertex but the last has the next as its successor, which is in the other program's part: in a round each measure rises
-    by one, until it is how many vertices come behind. The programs are given up before that, and the answer is the same."""
+def to_and_fro(count):
+    """A game, and its measures. Each vertex but the last has the next as its successor, which is in the other one of two programs'
+    parts: in a round each measure rises by one, until it is how many vertices come behind."""
     order = [v // 2 + v % 2 * (count // 2) for v in range(count)]
     lines = [f"{v} 1 0 {w};\n" for v, w in zip(order, order[1:])] + [f"{order[-1]} 2 0 {order[-1]};\n"]
     behind = {v: count - 1 - place for place, v in enumerate(order)}
-    run = Run(program, "measure", "".join(sorted(lines, key=lambda line: int(line.split()[0]))), "/proc/self/exe", 2)
-    return f"{run}, to and fro", run.answers("".join(f"{v} {behind[v]};\n" for v in range(count)))
+    text = "".join(sorted(lines, key=lambda line: int(line.split()[0])))
+    return text, "".join(f"{v} {behind[v]};\n" for v in range(count))
+
+
+def ends_where_values_go_to_and_fro(program, path, count=400):
+    """The programs are given up before all measures have risen, for the number of rounds or for the time that these take, and the
+    answer is the same."""
+    text, measures = to_and_fro(count)
+    run = Run(program, "measure", text, path, 2)
+    return f"{run}, to and fro", run.answers(measures)
+
+
+def leaves_what_programs_start(program):
+    """Each program that the command starts has ended when it has, and what that one started in turn is left alone."""
+    run = Run(program, "measure", TWO, "leaves_another")
+    with tempfile.TemporaryDirectory() as folder:
+        why = run.make(folder)
+        return str(run), run.differs(0, ANSWERS["measure", TWO]) if why == "1 programs were left behind" else why or "none was left"
+
+
+def children_of(number):
+    """The programs that a process started and that haven't ended."""
+    with open(f"/proc/{number}/task/{number}/children") as file:
+        return file.read().split()
+
+
+def workers_end_when_the_command_is_killed(program, count=100_000):
+    """Worker programs whose solver is killed amid its rounds end by themselves."""
+    words = [program, "measure", "--workers", "4", "--apart", program]
+    ran = subprocess.Popen(words, stdin=subprocess.PIPE, stdout=subprocess.DEVNULL, text=True)
+    ran.stdin.write(to_and_fro(count)[0])
+    ran.stdin.close()
+    while ran.poll() is None and len(children_of(ran.pid)) < 4:
+        time.sleep(0.001)
+    time.sleep(0.2)
+    ran.kill()
+    ended, left = ran.wait(), left_behind(10)
+    why = f"it ended before it was killed: {ended}" if ended != -9 else f"{left} programs were left behind" if left else None
+    return f"measure --workers 4 --apart {program}, which is killed", why
 
 
 def wins_or_is_undecided(program, text, seed):
@@ -212,13 +249,34 @@ def serves(program, sent, reply, status, errors):
     return f"worker on {sent}", None if found == wanted else f"{found!r}, wanted {wanted!r}"
 
 
+def ends_amid_frames(program):
+    """A worker that has very many set-ups to read ends soon after its solver has gone."""
+    setup = bytes.fromhex("00000012 01 01 00100000 00000001 00000001 00100000")
+    with socket.create_server(("127.0.0.1", 0)) as listener:
+        words = [program, "worker", "--port", str(listener.getsockname()[1])]
+        ran = subprocess.Popen(words, stdin=subprocess.DEVNULL, stdout=subprocess.PIPE, stderr=subprocess.PIPE, text=True)
+        stream, _ = listener.accept()
+        with stream:
+            stream.setblocking(False)
+            stream.send(setup * 20_000)
+    try:
+        output, told = ran.communicate(timeout=10)
+    except subprocess.TimeoutExpired:
+        ran.kill()
+        output, told = ran.communicate()
+    found = (ran.returncode, output, told)
+    return "worker whose solver goes amid frames", None if found == (0, "", "") else f"{found!r}"
+
+
 def cases(program, is_first):
     """The checks of a program, the slow ones first, and those on the first program alone."""
     own, nowhere = [program, "/proc/self/exe"], ["/nonexistent/parsolve", "/dev/null", ""]
     if is_first:
         yield answers, program, "measure", TWO, "silent_once"
+        yield ends_where_values_go_to_and_fro, program, "slow"
         for name in WAITING:
             yield answers, program, "measure", TWO, name
+        yield answers, program, "solve", TWO, "never_connects", 16, 30
     for command, text in ANSWERS:
         for workers in (0, 1, 2, 16):
             yield answers, program, command, text, own[workers % 2], workers
@@ -241,9 +299,12 @@ def cases(program, is_first):
     yield killed_at_each_frame, program, "solve", THREE
     yield starts_anew, program
     yield others_stay_out, program
-    yield ends_where_values_go_to_and_fro, program
+    yield ends_where_values_go_to_and_fro, program, "/proc/self/exe"
+    yield leaves_what_programs_start, program
+    yield workers_end_when_the_command_is_killed, program
     for row in SERVED:
         yield serves, program, *row
+    yield ends_amid_frames, program
 
 
 def check(case):

@@ -13,7 +13,7 @@ import subprocess
 import sys
 import time
 
-HALT, SETUP, VERTICES, VALUES, GO, SPARSE = 6, 1, 2, 3, 4, 7
+HALT, SETUP, VERTICES, VALUES, GO, REPORT, SPARSE = 6, 1, 2, 3, 4, 5, 7
 QUIET, REFUSAL, NO_MEMORY = b"\0\0\0\3\5\1\0", b"\0\0\0\3\5\2\x12", b"\0\0\0\3\5\2\1"
 
 
@@ -223,6 +223,17 @@ def silent_once(port):
     Worker(lambda worker: keep_silent()).serve(port)
 
 
+def slow(port, seconds):
+    """Does its work, and stops for so many seconds behind each turn."""
+    relay(port, lambda whole: whole[4] == REPORT and time.sleep(seconds))
+
+
+def leaves_another(port):
+    """Starts a program that goes on, and does its work."""
+    subprocess.Popen(["sleep", "3600"])
+    become_worker(port)
+
+
 def after_another(port):
     """Another program connects to the port ahead of this one."""
     with connect(int(os.environ["PARSOLVE_OTHER"])) as other:
@@ -260,6 +271,8 @@ DOES = {
     "random_values": lambda port: Worker(random_values).serve(port),
     "nonsense_once": nonsense_once,
     "silent_once": silent_once,
+    "slow": lambda port: slow(port, 5),
+    "leaves_another": leaves_another,
     "after_another": after_another,
     "starts_the_worker": lambda port: subprocess.run([os.environ["PARSOLVE_PROGRAM"], "worker", "--port", str(port)]),
 }

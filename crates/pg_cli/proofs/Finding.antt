@@ -105,7 +105,13 @@ found_is_under are_honest game map f = record {
 pub closed_stays : (game : List GameVertex) (map : MapValue) → IsClosedMapOf game map → IsLeastFrom game map map
 closed_stays game map c = record {
   bounds = refl;
-  least = record { map = record { size = refl; fits = c.fits.fits }; above = λ v. at_most_same (measure_at map.measures v); closed = c.closed; least = λ h is_map closed above. above };
+  least = record {
+    map = record { size = refl; fits = c.fits.fits };
+    above = λ v. at_most_same (measure_at map.measures v);
+    closed =
+        c.closed;
+    least = λ h is_map closed above. above;
+  };
 }
 
 -- ---- maps in results

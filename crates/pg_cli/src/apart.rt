@@ -14,6 +14,9 @@ use pg_coord::{Link, LinkFault, Reach, SocketLink, halt};
 use std::alloc::{AllocError, Global};
 use std::io::{Read, Write};
 
+/// The seconds that the programs of a command have in all, from where they are first started.
+const SECONDS: u64 = 60;
+
 /// Links to so many programs that are still to be started.
 fn program_links<R: Reach>(
     rt: &R,
@@ -27,7 +30,10 @@ fn program_links<R: Reach>(
     let mut links = Vec::new(alloc);
     for _ in 0..count {
         match SocketLink::listen(rt.clone()?, alloc, path) {
-            Ok(link) => links.push(link).map_err(AllocError::from)?,
+            Ok(mut link) => {
+                link.limit(SECONDS);
+                links.push(link).map_err(AllocError::from)?;
+            }
             Err(LinkFault::OutOfMemory) => return Err(CliFault::OutOfMemory),
             Err(LinkFault::Failed) => return Err(CliFault::Listen),
         }
@@ -35,7 +41,7 @@ fn program_links<R: Reach>(
     Ok(links)
 }
 
-/// Tells the programs that were started to end, and sees to it that each has ended.
+/// Tells the programs that were started to end, and sees to it that each has ended. What these started in turn isn't known here.
 fn end<R: Reach>(mut links: Vec<SocketLink<R>>) {
     let started = links.as_mut_slice();
     for place in 0..started.len() {
@@ -48,12 +54,12 @@ fn end<R: Reach>(mut links: Vec<SocketLink<R>>) {
     }
 }
 
-/// As `run`, with the program `path` started as each worker: `path worker --port P`, which has to call `work`. Nothing that was
-/// started runs when this returns.
+/// As `run`, with the program `path` started as each worker: `path worker --port P`, which has to call `work`. Each program that
+/// was started has ended when this returns; what such a program started in turn may still run.
 ///
 /// Whatever the programs do, and also where none can be started, what is printed goes by a closed map of the game and one of
-/// its dual, as for `run_with`. After a number of rounds that the size of the game sets, or where no program is left, the work
-/// goes on in this process.
+/// its dual, as for `run_with`. After a number of rounds that the size of the game sets, after 60 seconds in all from where
+/// programs are first started, or where no program is left, the work goes on in this process.
 ///
 /// Refuses what `run` does, in the same order, and before all else `Listen` where no port of 127.0.0.1 can be listened at.
 /// Where the command asks for no workers, or solves nothing, no program is wanted, and the answer or refusal is that of `run`.

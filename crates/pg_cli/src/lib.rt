@@ -2,6 +2,7 @@
 #![tactic(auto)]
 
 mod apart;
+mod attended;
 mod one_piece;
 mod over_links;
 mod program;

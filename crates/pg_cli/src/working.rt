@@ -7,14 +7,14 @@ ghost use Rattle.pg_worker.specs.Serving.{Serves};
 ghost use Rattle.pg_command.specs.Faults.{worker_fault};
 ghost use Rattle.pg_cli.specs.Serving.{EndsServing, RefusesWork};
 
+use crate::attended::Attended;
 use pg_command::CliFault;
 use pg_worker::serve;
 use std::alloc::Global;
-use std::io::{self, BufReader, Read, Write};
+use std::fs::Files;
+use std::io::{self, Read, Write};
 use std::net::{Ipv4Addr, Net, OpenStream, TcpStream};
-
-/// How many bytes are read ahead.
-const ROOM: usize = 65_536;
+use std::time::Clock;
 
 /// Both ends of a connection to a port of 127.0.0.1: that to read from, and that to write to. What is written goes at once.
 fn connect<R: Net>(rt: &R, port: u16) -> io::Result<(R::Stream, R::Stream)> {
@@ -38,18 +38,17 @@ fn serve_between<R: Read, W: Write>(
     Ok(())
 }
 
-/// Connects to a port of 127.0.0.1, and serves whoever listens there as a worker, until Halt comes or the input ends. A reply
-/// goes by one write.
+/// Connects to a port of 127.0.0.1, and serves whoever listens there as a worker, until Halt comes or the input ends. It has
+/// ended, too, where nobody holds the other end any more, which is looked for once a second as long as there are frames to read.
+/// A reply goes by one write.
 ///
 /// Faults: `Connect` where nobody can be reached at the port; `Worker` with what serving ended with; `OutOfMemory`.
-pub fn work<R: Net>(rt: &R, alloc: Global, port: u16) -> Result<(), CliFault>
+pub fn work<R: Net + Files + Clock>(rt: &R, alloc: Global, port: u16) -> Result<(), CliFault>
     ensures { IfErr result (RefusesWork port) }
 {
     let Ok((input, mut output)) = connect(rt, port) else {
         return Err(CliFault::Connect(port));
     };
-    let mut input = BufReader::with_capacity(alloc, ROOM, input).map_err(
-        |_| CliFault::OutOfMemory,
-    )?;
+    let mut input = Attended::new(rt, alloc, input, port).map_err(|_| CliFault::OutOfMemory)?;
     serve_between(alloc, &mut input, &mut output)
 }
