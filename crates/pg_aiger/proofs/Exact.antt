@@ -1,5 +1,6 @@
 -- The gates that are made are those of the construction.
-use Rattle.std.proofs.Common.{◌≡◌, ℕ, zero, suc, ◌+◌, ◌*◌, ◌/◌, ◌%◌, ◌^◌, ◌<◌, ◌≤◌, ◌⊎◌, inl, inr, ◌||◌, Bool, true, false, cond, eqb, List, [], ◌∷◌, ◌++◌, length, map, take, get_or, refl, sym, ap, arith, ◌∙◌, add-one, append_assoc}
+use Rattle.std.proofs.Common.{◌≡◌, ℕ, zero, suc, ◌+◌, ◌*◌, ◌/◌, ◌%◌, ◌^◌, ◌<◌, ◌≤◌, ◌⊎◌, inl, inr, ◌||◌, Bool, true, false, cond, eqb, List}
+use Rattle.std.proofs.Common.{[], ◌∷◌, ◌++◌, length, map, take, get_or, refl, sym, ap, arith, ◌∙◌, add-one, append_assoc}
 use Rattle.std.specs.Prelude.{max, min}
 use Rattle.std.specs.List.{range_with_len, items_where_true, flat_map}
 use Rattle.std.proofs.lemmas.Bool.{eq-eqb, ne_eqb}
@@ -14,7 +15,8 @@ use Rattle.pg_synth.specs.declared.mealy.Reply.{Reply}
 use Rattle.pg_aiger.specs.declared.gate.Gate.{Gate}
 use Rattle.pg_aiger.specs.Circuits.{Circuit, circuit_in_order}
 use Rattle.pg_aiger.specs.Runs.{bit}
-use Rattle.pg_aiger.specs.Construction.{Drafted, Made, new_gate, negation, conjunction, disjunction, conjunction_of, disjunction_of, each_made, spelling, minterm_literals, all_minterms, having, bit_columns, made_circuit}
+use Rattle.pg_aiger.specs.Construction.{Drafted, Made, new_gate, negation, conjunction, disjunction, conjunction_of, disjunction_of}
+use Rattle.pg_aiger.specs.Construction.{each_made, spelling, minterm_literals, all_minterms, having, bit_columns, made_circuit}
 use Rattle.pg_aiger.specs.Mirrors.Drafts.{conjunction_with}
 use Rattle.pg_aiger.specs.Mirrors.Tables.{reply_of, outputs_below, nexts_below, minterm_at, minterms_below}
 

@@ -1,5 +1,6 @@
 -- Gates in order have one value each.
-use Rattle.std.proofs.Common.{◌≡◌, ℕ, suc, ◌+◌, ◌*◌, ◌/◌, ◌%◌, ◌<◌, inl, inr, true, false, cond, eqb, not, ◌&&◌, List, [], ◌∷◌, length, arith, refl, sym, subst, ap, ◌∙◌}
+use Rattle.std.proofs.Common.{◌≡◌, ℕ, suc, ◌+◌, ◌*◌, ◌/◌, ◌%◌, ◌<◌, inl, inr, true, false, cond, eqb, not, ◌&&◌, List, [], ◌∷◌, length}
+use Rattle.std.proofs.Common.{arith, refl, sym, subst, ap, ◌∙◌}
 use Rattle.std.proofs.lemmas.Bool.{cases_lt, eq-eqb, ne_eqb}
 use Rattle.pg_aiger.specs.declared.gate.Gate.{Gate}
 use Rattle.pg_aiger.specs.Circuits.{AreGatesFrom}

@@ -1,5 +1,6 @@
 -- The text of a circuit reads back.
-use Rattle.std.proofs.Common.{rules, ◌≡◌, ◌≢◌, ℕ, suc, ◌+◌, ◌-◌, ◌*◌, ◌^◌, ◌<◌, ◌≤◌, Bool, true, false, not, List, [], ◌∷◌, ◌++◌, length, map, refl, sym, ap, subst, arith, append_assoc, ◌∙◌, inl, inr, eqb}
+use Rattle.std.proofs.Common.{rules, ◌≡◌, ◌≢◌, ℕ, suc, ◌+◌, ◌-◌, ◌*◌, ◌^◌, ◌<◌, ◌≤◌, Bool, true, false, not, List, [], ◌∷◌, ◌++◌, length}
+use Rattle.std.proofs.Common.{map, refl, sym, ap, subst, arith, append_assoc, ◌∙◌, inl, inr, eqb}
 use Rattle.std.specs.Prelude.{All, decimal, codes}
 use Rattle.std.specs.List.{flat_map, fold, items_where_true, AllByRecursion}
 use Rattle.std.proofs.lemmas.Fmt.{digits_decimal, digits_value-decimal, decimal_nonempty}
@@ -11,7 +12,8 @@ use Rattle.pg_hoa.specs.Automata.{Automaton, IsAutomaton, IsNameByte, IsProposit
 use Rattle.pg_synth.specs.Letters.{inputs, outputs}
 use Rattle.pg_aiger.specs.declared.gate.Gate.{Gate}
 use Rattle.pg_aiger.specs.Circuits.{Circuit, Latch, no_latch, AreGatesFrom, IsNumbered}
-use Rattle.pg_aiger.specs.CircuitText.{Kind, input, latch, output, Symbol, Row, header, numbers, symbol, IsNumber, AreNumbers, kind_text, Says, is_inner, AreRows, rows_of, count_of, IsCircuitText}
+use Rattle.pg_aiger.specs.CircuitText.{Kind, input, latch, output, Symbol, Row, header, numbers, symbol, IsNumber, AreNumbers, kind_text}
+use Rattle.pg_aiger.specs.CircuitText.{Says, is_inner, AreRows, rows_of, count_of, IsCircuitText}
 use Rattle.pg_aiger.specs.CircuitLayout.{spaced_number, spaced, row_line, row_text, input_names, output_names, symbols_from, symbols_of, circuit_text}
 use Rattle.pg_aiger.specs.Mirrors.Layouts.{literal_row, latch_row, gate_row}
 

@@ -1,5 +1,6 @@
 -- The runs of a circuit, and the words that they make.
-use Rattle.std.specs.Prelude.{◌≡◌, ℕ, suc, ◌+◌, ◌*◌, ◌/◌, ◌%◌, ◌^◌, ◌<◌, ◌≤◌, Bool, false, not, ◌&&◌, nat_eq, List, [], ◌∷◌, length, map, slice_index_or, if◌then◌else◌}
+use Rattle.std.specs.Prelude.{◌≡◌, ℕ, suc, ◌+◌, ◌*◌, ◌/◌, ◌%◌, ◌^◌, ◌<◌, ◌≤◌, Bool, false, not, ◌&&◌, nat_eq, List, [], ◌∷◌, length, map}
+use Rattle.std.specs.Prelude.{slice_index_or, if◌then◌else◌}
 use Rattle.pg_synth.specs.Letters.{joined}
 use Rattle.pg_aiger.specs.declared.gate.Gate.{Gate}
 use Rattle.pg_aiger.specs.Circuits.{Latch, Circuit, latch_at}

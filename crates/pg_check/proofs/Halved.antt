@@ -1,5 +1,6 @@
 -- Halves of solutions, vertex by vertex, and what a map of the dual makes of them.
-use Rattle.std.proofs.Common.{◌≡◌, ◌≢◌, ℕ, ◌+◌, ◌<◌, ◌≤◌, inl, inr, List, Option, Some, None, length, slice_set, arith, sym, subst, refl, ◌∙◌, ap, get_or-set_other}
+use Rattle.std.proofs.Common.{◌≡◌, ◌≢◌, ℕ, ◌+◌, ◌<◌, ◌≤◌, inl, inr, List, Option, Some, None, length, slice_set, arith, sym, subst, refl}
+use Rattle.std.proofs.Common.{◌∙◌, ap, get_or-set_other}
 use Rattle.std.specs.List.{Contains}
 use Rattle.std.specs.Option.{IsSome, IfSome, IfNone}
 use Rattle.std.proofs.lemmas.Bool.{cases_lt}

@@ -115,7 +115,8 @@ module _ (game : List GameVertex) (solution : List Answer) (is_game : IsGame gam
       let g = bad.lost.1 in
       let k = g.occurs.0 in
       let play = cycled Step v rest bad.closes in
-      let inside : k < length (v ∷ rest) = let lt : k < length (map (priority game) (v ∷ rest)) = g.occurs.1 in omega (arith, length-map (v ∷ rest) (priority game)) in
+      let inside : k < length (v ∷ rest) = let lt : k < length (map (priority game) (v ∷ rest)) = g.occurs.1 in
+      omega (arith, length-map (v ∷ rest) (priority game)) in
       let is_p : priority game (get_or (v ∷ rest) k 0) ≡ p = sym (get_or-map (priority game) (v ∷ rest) k 0 p inside) ∙ g.occurs.2 in
       let lost : Loses (winner solution v) (λ t. priority game (play t)) = (
         p,

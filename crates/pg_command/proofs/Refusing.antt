@@ -15,7 +15,8 @@ use Rattle.pg_command.specs.Parts.{separator, IsParted}
 use Rattle.pg_command.specs.Texts.{IsNoGame, IsNoSolution}
 
 -- what is so of a fault is so of each result that has it
-pub refused_by : {X : Type 0} (P : CliFault → Type 0) (result : Result X CliFault) (fault : CliFault) → IsErrAnd result (λ e. e ≡ fault) → P fault → IfErr result P
+pub refused_by : {X : Type 0} (P : CliFault → Type 0) (result : Result X CliFault) (fault : CliFault) → IsErrAnd result (λ e. e ≡ fault)
+    → P fault → IfErr result P
 refused_by P (Ok x) fault is why = tt
 refused_by P (Err e) fault is why = subst P (sym is) why
 

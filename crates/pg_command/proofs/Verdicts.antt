@@ -21,7 +21,8 @@ greatest_append [] n = omega arith
 greatest_append (m ∷ ns) n = let e = greatest_append ns n in omega arith
 
 -- the greatest of the first i + 1 values
-pub greatest_more : (f : ℕ → ℕ) (vs : List ℕ) (i : ℕ) → i < length vs → greatest (map f (take (i + 1) vs)) ≡ max (greatest (map f (take i vs))) (f (get_or vs i 0))
+pub greatest_more : (f : ℕ → ℕ) (vs : List ℕ) (i : ℕ) → i < length vs
+    → greatest (map f (take (i + 1) vs)) ≡ max (greatest (map f (take i vs))) (f (get_or vs i 0))
 greatest_more f vs i lt =
     ap (λ l. greatest (map f l)) (take_more vs i 0 lt) ∙ ap greatest (map-append f (take i vs) (get_or vs i 0 ∷ []))
     ∙ greatest_append (map f (take i vs)) (f (get_or vs i 0))
@@ -37,7 +38,8 @@ edge_from game v w edge = elim (cases_lt v (length game)) [
       absurd (omega arith)
 ]
 
-path_within : (game : List GameVertex) (solution : List Answer) → IsGame game → (v : ℕ) (rest : List ℕ) → IsPath (Counts game solution) v rest → All (λ u. u < length game) rest
+path_within : (game : List GameVertex) (solution : List Answer) → IsGame game → (v : ℕ) (rest : List ℕ)
+    → IsPath (Counts game solution) v rest → All (λ u. u < length game) rest
 path_within game solution well v [] path = λ k d lt. absurd (omega arith)
 path_within game solution well v (w ∷ rest) path =
     All-cons (λ u. u < length game) w rest (well.in_range v w path.0.0) (path_within game solution well w rest path.1)
@@ -47,12 +49,14 @@ first_within : (game : List GameVertex) (solution : List Answer) (v : ℕ) (rest
 first_within game solution v [] path = edge_from game v v path.0.0
 first_within game solution v (w ∷ rest) path = edge_from game v w path.0.0
 
-cycle_within : (game : List GameVertex) (solution : List Answer) → IsGame game → (v : ℕ) (rest : List ℕ) → IsBadCycle game solution v rest → All (λ u. u < length game) (v ∷ rest)
+cycle_within : (game : List GameVertex) (solution : List Answer) → IsGame game → (v : ℕ) (rest : List ℕ) → IsBadCycle game solution v rest
+    → All (λ u. u < length game) (v ∷ rest)
 cycle_within game solution well v rest bad =
     All-cons (λ u. u < length game) v rest (first_within game solution v rest bad.closes)
     (path_within game solution well v rest (path_front (Counts game solution) v rest (v ∷ []) bad.closes))
 
-pub verdict_within : (game : List GameVertex) (solution : List Answer) → IsGame game → (verdict : Verdict) → Refutes game solution verdict → IsWithin game verdict
+pub verdict_within : (game : List GameVertex) (solution : List Answer) → IsGame game → (verdict : Verdict) → Refutes game solution verdict
+    → IsWithin game verdict
 verdict_within game solution well Wins refutes = tt
 verdict_within game solution well (Leaves v w) refutes =
     (edge_from game v w refutes.leaving.0.0, well.in_range v w refutes.leaving.0.0)

@@ -1,5 +1,6 @@
 -- What several writes append, and the lines of measures one after another.
-use Rattle.std.proofs.Common.{◌≡◌, ℕ, ◌+◌, ◌<◌, ◌≤◌, List, [], ◌∷◌, ◌++◌, length, take, get_or, Option, Some, None, sym, ap, subst, ◌∙◌, arith, append_assoc, append-nil}
+use Rattle.std.proofs.Common.{◌≡◌, ℕ, ◌+◌, ◌<◌, ◌≤◌, List, [], ◌∷◌, ◌++◌, length, take, get_or, Option, Some, None, sym, ap, subst, ◌∙◌}
+use Rattle.std.proofs.Common.{arith, append_assoc, append-nil}
 use Rattle.std.proofs.lemmas.List.{take_more, take_all}
 use Rattle.std.proofs.lemmas.Grind.{flat_map-append}
 use Rattle.std.proofs.lemmas.Slice.Zip.{get_or-zip, length-zip}
@@ -34,7 +35,8 @@ lines_more game f i lt same =
     ∙ ap (λ l. flat_map pair_line (take i (zip game f)) ++ l) last)
 
 -- when the lines of the first i vertices were written, and then the line of vertex i
-pub written_more : (game : List GameVertex) (f : List MeasureValue) (i n : ℕ) (m : MeasureValue) (a b c : Option (List ℕ)) → i < length game → length f ≡ length game
+pub written_more : (game : List GameVertex) (f : List MeasureValue) (i n : ℕ) (m : MeasureValue) (a b c : Option (List ℕ)) → i < length game
+    → length f ≡ length game
     → n ≡ identifier game i → m ≡ measure_at f i → Appends a b (flat_map pair_line (take i (zip game f))) → Appends b c (measure_line n m)
     → Appends a c (flat_map pair_line (take (i + 1) (zip game f)))
 written_more game f i n m a b c lt same is_n is_m before line =

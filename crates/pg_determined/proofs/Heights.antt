@@ -1,6 +1,7 @@
 -- Where Even wins by a safe solution, some closed map has a list: at each odd priority p the most vertices of priority
 -- p that a path meets on which nothing has a greater priority.
-use Rattle.std.proofs.Common.{◌≡◌, ℕ, zero, suc, ◌%◌, ◌<◌, ◌≤◌, ◌⊎◌, inl, inr, Bool, true, false, eqb, List, [], ◌∷◌, Some, None, length, take, get_or, arith, sym, subst, refl, ap, ◌∙◌, MatchBool}
+use Rattle.std.proofs.Common.{◌≡◌, ℕ, zero, suc, ◌%◌, ◌<◌, ◌≤◌, ◌⊎◌, inl, inr, Bool, true, false, eqb, List, [], ◌∷◌, Some, None, length}
+use Rattle.std.proofs.Common.{take, get_or, arith, sym, subst, refl, ap, ◌∙◌, MatchBool}
 use Rattle.std.specs.List.{IsDistinct, filter, All, AllPairs, Any}
 use Rattle.std.specs.Option.{IsSome}
 use Rattle.std.proofs.lemmas.Bool.{eqb-true, eq-eqb, cases_lt}
@@ -241,7 +242,8 @@ module _ (game : List GameVertex) (solution : List Answer) where
       some_of v m (inl (e, (xs, is, hs, fits))) won = subst IsSome (sym is) refl
       some_of v m (inr (e, is)) won = absurd (cc (e, won))
 
-      covers_of : (v w : ℕ) (m n : MeasureValue) → HasMeasure bounds v m → HasMeasure bounds w n → Counts game solution v w → Covers bounds (priority game v) m n
+      covers_of : (v w : ℕ) (m n : MeasureValue) → HasMeasure bounds v m → HasMeasure bounds w n → Counts game solution v w
+          → Covers bounds (priority game v) m n
       covers_of v w m n (inr (e, is)) hw c = subst (λ x. Covers bounds (priority game v) x n) (sym is) tt
       covers_of v w m n (inl (e, (xs, is, hs, fits))) (inr (f, is')) c = absurd (let s = safe.none_leaves v w c in cc)
       covers_of v w m n (inl (e, (xs, is, hs, fits))) (inl (f, (ys, is', hs', fits'))) c =

@@ -1,5 +1,6 @@
 -- The solution of the whole game as a list of answers: it is a solution, and safe.
-use Rattle.std.proofs.Common.{◌≡◌, ℕ, zero, suc, ◌<◌, ◌≤◌, ◌⊎◌, inl, inr, Bool, List, [], ◌∷◌, ◌++◌, Some, length, map, get_or, arith, sym, subst, refl, ap, ◌∙◌}
+use Rattle.std.proofs.Common.{◌≡◌, ℕ, zero, suc, ◌<◌, ◌≤◌, ◌⊎◌, inl, inr, Bool, List, [], ◌∷◌, ◌++◌, Some, length, map, get_or, arith, sym}
+use Rattle.std.proofs.Common.{subst, refl, ap, ◌∙◌}
 use Rattle.std.specs.List.{range_with_len, All, Contains}
 use Rattle.std.proofs.Math.Dec.{ltb}
 use Rattle.std.proofs.lemmas.Bool.{ltb-true, lt-ltb}
@@ -108,7 +109,8 @@ module _ (game : List GameVertex) (is_game : IsGame game) where
   no_cycle v rest r =
       let first = (starts (Counts game solution) v rest v r.closes).1 in
       solved.no_cycle v rest
-      (subst (λ w. HasParityOf (opponent w) (priority game v)) (winner_is v (edge_from game v (starts (Counts game solution) v rest v r.closes).0 first.0)) r.lost)
+      (subst (λ w. HasParityOf (opponent w) (priority game v))
+      (winner_is v (edge_from game v (starts (Counts game solution) v rest v r.closes).0 first.0)) r.lost)
       (up_to (priority game v) v rest v r.closes (omega arith) r.greatest (omega arith))
 
   pub is_safe : IsSafe game solution

@@ -104,7 +104,8 @@ dual_solutions game solution is_game is_solution safe = (
 
     lowered : (v : ℕ) (rest : List ℕ) → IsBadCycle (dual game) (swapped solution) v rest → IsBadCycle game solution v rest
     lowered v rest b =
-        let path = path_map (Counts (dual game) (swapped solution)) (Counts game solution) (λ _. Unit {0}) (λ v w q s. (counts v w s, tt)) v (rest ++ v ∷ []) tt b.closes in
+        let path = path_map (Counts (dual game) (swapped solution)) (Counts game solution) (λ _. Unit {0})
+        (λ v w q s. (counts v w s, tt)) v (rest ++ v ∷ []) tt b.closes in
         let l : v < length game = starts v rest path in
         let inside : All (λ u. u < length game) (v ∷ rest) = all_front (λ u. u < length game) (v ∷ rest) (v ∷ [])
         (path_keeps (Counts game solution) (λ u. u < length game) (λ u w h s. is_game.in_range u w s.0) v (rest ++ v ∷ []) path l) in

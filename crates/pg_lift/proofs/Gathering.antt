@@ -1,14 +1,17 @@
 -- Predecessors that are gathered by their targets.
-use Rattle.std.proofs.Common.{◌≡◌, ◌≢◌, ℕ, zero, suc, ◌+◌, ◌-◌, ◌<◌, ◌≤◌, ◌⊎◌, Bool, List, [], ◌∷◌, length, take, drop, get_or, set, refl, sym, ap, subst, ◌∙◌, arith, inl, inr, add-one, cond}
+use Rattle.std.proofs.Common.{◌≡◌, ◌≢◌, ℕ, zero, suc, ◌+◌, ◌-◌, ◌<◌, ◌≤◌, ◌⊎◌, Bool, List, [], ◌∷◌, length, take, drop, get_or, set, refl}
+use Rattle.std.proofs.Common.{sym, ap, subst, ◌∙◌, arith, inl, inr, add-one, cond}
 use Rattle.std.specs.Prelude.{nat_eq, Option, None, Some, IsSome, unwrap_or}
 use Rattle.pg_arena.specs.Games.{nowhere}
 use Rattle.std.proofs.lemmas.Bool.{cases_lt, cases_eq, cases_order, eq-eqb, ne_eqb}
-use Rattle.std.proofs.lemmas.List.{get_or_default, get_or-set_same, get_or-set_other, get_or_past, get_or-take, get_or-drop, length-set, length-take, length-drop, take_all}
+use Rattle.std.proofs.lemmas.List.{get_or_default, get_or-set_same, get_or-set_other, get_or_past, get_or-take, get_or-drop, length-set}
+use Rattle.std.proofs.lemmas.List.{length-take, length-drop, take_all}
 use Rattle.std.proofs.lemmas.List.Sums.{count_by-le-length, sum_by_more, sum_by-take-le, sum_by-cons}
 use Rattle.pg_map.specs.Lines.{Line, AreWithin, line_at, vertex_line}
 use Rattle.pg_lift.specs.Mirrors.Keeps.{IsAmong}
 use Rattle.pg_lift.specs.Mirrors.Worklists.{times}
-use Rattle.pg_lift.specs.Mirrors.Predecessors.{ArePredecessors, ArePut, ArePutBefore, ArePutUpTo, LeadsTo, IsListed, IsBefore, sum_below, edges_of, leads, begin_of}
+use Rattle.pg_lift.specs.Mirrors.Predecessors.{ArePredecessors, ArePut, ArePutBefore, ArePutUpTo, LeadsTo, IsListed, IsBefore, sum_below}
+use Rattle.pg_lift.specs.Mirrors.Predecessors.{edges_of, leads, begin_of}
 
 -- ---- sums
 
@@ -75,7 +78,8 @@ begin_few lines (suc n) m =
     let ss = (line_at lines n).successors in
     let b = times_below ss m in
     let c = sum_both (leads lines n) (λ x. times x ss) m in
-    let d : begin_of lines (suc n) m ≡ sum_below (λ x. leads lines n x + times x ss) m = sum_same (leads lines (suc n)) (λ x. leads lines n x + times x ss) m (λ x lt. refl) in
+    let d : begin_of lines (suc n) m ≡ sum_below (λ x. leads lines n x + times x ss) m =
+    sum_same (leads lines (suc n)) (λ x. leads lines n x + times x ss) m (λ x lt. refl) in
     let e : edges_of lines (suc n) ≡ edges_of lines n + length ss = refl in
     omega arith
 
@@ -116,7 +120,8 @@ times_few w xs i = sum_by-take-le (λ y. one (nat_eq y w)) xs i
 
 -- ---- runs that are filled from their ends down
 
-apart : (lines : ℕ → Option Line) (n : ℕ) (done : ℕ → ℕ) (P : ℕ → ℕ → Type 0) (starts sources : List ℕ) (x w j : ℕ) → ArePut lines n done P starts sources → x < n + 1 → w < n + 1 → w ≢ x → done x < leads lines n x
+apart : (lines : ℕ → Option Line) (n : ℕ) (done : ℕ → ℕ) (P : ℕ → ℕ → Type 0) (starts sources : List ℕ) (x w j : ℕ)
+    → ArePut lines n done P starts sources → x < n + 1 → w < n + 1 → w ≢ x → done x < leads lines n x
     → get_or starts w 0 ≤ j → j < begin_of lines n (w + 1) → j ≢ get_or starts x 0 - 1
 apart lines n done P starts sources x w j a lt less ne room from to same =
     let lx = a.left x lt in
@@ -131,7 +136,8 @@ apart lines n done P starts sources x w j a lt less ne room from to same =
     ]
 
 -- the place for one more
-pub free : (lines : ℕ → Option Line) (n : ℕ) (done : ℕ → ℕ) (P : ℕ → ℕ → Type 0) (starts sources : List ℕ) (x : ℕ) → ArePut lines n done P starts sources → x < n + 1 → done x < leads lines n x
+pub free : (lines : ℕ → Option Line) (n : ℕ) (done : ℕ → ℕ) (P : ℕ → ℕ → Type 0) (starts sources : List ℕ) (x : ℕ)
+    → ArePut lines n done P starts sources → x < n + 1 → done x < leads lines n x
     → (1 ≤ get_or starts x 0) × (begin_of lines n x ≤ get_or starts x 0 - 1) × (get_or starts x 0 - 1 < length sources)
 free lines n done P starts sources x a lt room =
     let l = a.left x lt in
@@ -141,7 +147,8 @@ free lines n done P starts sources x a lt room =
     (omega arith, omega arith, omega arith)
 
 -- one more is put
-pub put_more : (lines : ℕ → Option Line) (n : ℕ) (done done' : ℕ → ℕ) (P P' : ℕ → ℕ → Type 0) (starts sources : List ℕ) (u x : ℕ) → ArePut lines n done P starts sources → x < n + 1 → done x < leads lines n x
+pub put_more : (lines : ℕ → Option Line) (n : ℕ) (done done' : ℕ → ℕ) (P P' : ℕ → ℕ → Type 0) (starts sources : List ℕ) (u x : ℕ)
+    → ArePut lines n done P starts sources → x < n + 1 → done x < leads lines n x
     → done' x ≡ done x + 1 → ((w : ℕ) → w ≢ x → done' w ≡ done w) → LeadsTo lines u x → ((v w : ℕ) → P' v w → P v w ⊎ ((v ≡ u) × (w ≡ x)))
     → ArePut lines n done' P' (set starts x (get_or starts x 0 - 1)) (set sources (get_or starts x 0 - 1) u)
 put_more lines n done done' P P' starts sources u x a lt room more others edge was =
@@ -154,7 +161,8 @@ put_more lines n done done' P P' starts sources u x a lt room more others edge w
     let same : (w : ℕ) → w ≢ x → get_or starts' w 0 ≡ get_or starts w 0 = λ w ne. get_or-set_other starts x w p 0 ne in
     let put : get_or sources' p 0 ≡ u = get_or-set_same sources p u 0 f.2 in
     let stays : (j : ℕ) → j ≢ p → get_or sources' j 0 ≡ get_or sources j 0 = λ j ne. get_or-set_other sources p j u 0 ne in
-    let far : (w j : ℕ) → w < n + 1 → w ≢ x → get_or starts w 0 ≤ j → j < begin_of lines n (w + 1) → j ≢ p = λ w j less ne from to. apart lines n done P starts sources x w j a lt less ne room from to in
+    let far : (w j : ℕ) → w < n + 1 → w ≢ x → get_or starts w 0 ≤ j → j < begin_of lines n (w + 1) → j ≢ p =
+    λ w j less ne from to. apart lines n done P starts sources x w j a lt less ne room from to in
     record {
       size = length-set starts x p ∙ a.size;
       room = let r = a.room in let e = length-set sources p u in omega arith;
@@ -205,7 +213,8 @@ put_more lines n done done' P P' starts sources u x a lt room more others edge w
     }
 
 -- the same of other counts and another relation
-pub put_same : (lines : ℕ → Option Line) (n : ℕ) (done done' : ℕ → ℕ) (P P' : ℕ → ℕ → Type 0) (starts sources : List ℕ) → ((x : ℕ) → done' x ≡ done x) → ((u x : ℕ) → P' u x → P u x)
+pub put_same : (lines : ℕ → Option Line) (n : ℕ) (done done' : ℕ → ℕ) (P P' : ℕ → ℕ → Type 0) (starts sources : List ℕ)
+    → ((x : ℕ) → done' x ≡ done x) → ((u x : ℕ) → P' u x → P u x)
     → ArePut lines n done P starts sources → ArePut lines n done' P' starts sources
 put_same lines n done done' P P' starts sources e on a = record {
   size = a.size;
@@ -217,9 +226,11 @@ put_same lines n done done' P P' starts sources e on a = record {
 }
 
 -- all are put
-pub put_edges : (lines : ℕ → Option Line) (n : ℕ) (starts sources : List ℕ) → AreWithin n lines → ArePutBefore lines n n starts sources → ArePredecessors lines starts sources
+pub put_edges : (lines : ℕ → Option Line) (n : ℕ) (starts sources : List ℕ) → AreWithin n lines → ArePutBefore lines n n starts sources
+    → ArePredecessors lines starts sources
 put_edges lines n starts sources w a =
-    let begin : (x : ℕ) → x < n + 1 → get_or starts x 0 ≡ begin_of lines n x = λ x lt. let l = a.left x lt in let b = sum_more (leads lines n) x in omega arith in
+    let begin : (x : ℕ) → x < n + 1 → get_or starts x 0 ≡ begin_of lines n x = λ x lt. let l = a.left x lt in let b =
+    sum_more (leads lines n) x in omega arith in
     record {
       rise = λ x lt.
           let size = a.size in
@@ -256,7 +267,8 @@ put_edges lines n starts sources w a =
 -- ---- the edges of one line
 
 -- there is a place for the edge number k of i
-pub put_room : (lines : ℕ → Option Line) (n i k x : ℕ) (ss : List ℕ) → AreWithin n lines → IsSome (lines i) → i < n → ss ≡ (line_at lines i).successors → k < length ss → x ≡ get_or ss k x
+pub put_room : (lines : ℕ → Option Line) (n i k x : ℕ) (ss : List ℕ) → AreWithin n lines → IsSome (lines i) → i < n
+    → ss ≡ (line_at lines i).successors → k < length ss → x ≡ get_or ss k x
     → (x < n + 1) × (leads lines i x + times x (take k (line_at lines i).successors) < leads lines n x)
 put_room lines n i k x ss w held lt e less is =
     let us = (line_at lines i).successors in
@@ -270,7 +282,8 @@ put_room lines n i k x ss w held lt e less is =
     (omega arith, omega arith)
 
 -- a place is free for it
-pub put_free : (lines : ℕ → Option Line) (n i k x : ℕ) (ss starts sources : List ℕ) → AreWithin n lines → IsSome (lines i) → i < n → ss ≡ (line_at lines i).successors → k < length ss → x ≡ get_or ss k x → ArePutUpTo lines n i k starts sources
+pub put_free : (lines : ℕ → Option Line) (n i k x : ℕ) (ss starts sources : List ℕ) → AreWithin n lines → IsSome (lines i) → i < n
+    → ss ≡ (line_at lines i).successors → k < length ss → x ≡ get_or ss k x → ArePutUpTo lines n i k starts sources
     → (1 ≤ get_or starts x 0) × (get_or starts x 0 - 1 < length sources)
 put_free lines n i k x ss starts sources w held lt e less is a =
     let r = put_room lines n i k x ss w held lt e less is in
@@ -278,7 +291,8 @@ put_free lines n i k x ss starts sources w held lt e less is a =
     (f.0, f.2)
 
 -- it is put
-pub put_edge : (lines : ℕ → Option Line) (n i k x : ℕ) (ss starts sources : List ℕ) → AreWithin n lines → IsSome (lines i) → i < n → ss ≡ (line_at lines i).successors → k < length ss → x ≡ get_or ss k x → ArePutUpTo lines n i k starts sources
+pub put_edge : (lines : ℕ → Option Line) (n i k x : ℕ) (ss starts sources : List ℕ) → AreWithin n lines → IsSome (lines i) → i < n
+    → ss ≡ (line_at lines i).successors → k < length ss → x ≡ get_or ss k x → ArePutUpTo lines n i k starts sources
     → ArePutUpTo lines n i (k + 1) (set starts x (get_or starts x 0 - 1)) (set sources (get_or starts x 0 - 1) i)
 put_edge lines n i k x ss starts sources w held lt e less is a =
     let us = (line_at lines i).successors in
@@ -301,7 +315,8 @@ put_edge lines n i k x ss starts sources w held lt e less is a =
     ])
 
 -- all edges of i are put
-pub put_line : (lines : ℕ → Option Line) (n i k : ℕ) (ss starts sources : List ℕ) → ss ≡ (line_at lines i).successors → length ss ≤ k → ArePutUpTo lines n i k starts sources → ArePutBefore lines n (i + 1) starts sources
+pub put_line : (lines : ℕ → Option Line) (n i k : ℕ) (ss starts sources : List ℕ) → ss ≡ (line_at lines i).successors → length ss ≤ k
+    → ArePutUpTo lines n i k starts sources → ArePutBefore lines n (i + 1) starts sources
 put_line lines n i k ss starts sources e le a =
     let us = (line_at lines i).successors in
     let past : length us ≤ k = subst (λ (t : List ℕ). length t ≤ k) e le in
@@ -326,7 +341,8 @@ none_leads (Some l) x h = absurd (h refl)
 pub leads_none : (lines : ℕ → Option Line) (i x : ℕ) → (IsSome (lines i) → ⊥) → leads lines (i + 1) x ≡ leads lines i x
 leads_none lines i x none = let m = leads_more lines i x in let z = none_leads (lines i) x none in omega arith
 
-pub put_none : (lines : ℕ → Option Line) (n i : ℕ) (starts sources : List ℕ) → (IsSome (lines i) → ⊥) → ArePutBefore lines n i starts sources → ArePutBefore lines n (i + 1) starts sources
+pub put_none : (lines : ℕ → Option Line) (n i : ℕ) (starts sources : List ℕ) → (IsSome (lines i) → ⊥)
+    → ArePutBefore lines n i starts sources → ArePutBefore lines n (i + 1) starts sources
 put_none lines n i starts sources none a =
     put_same lines n (leads lines i) (leads lines (i + 1)) (λ v y. (v < i) × LeadsTo lines v y) (λ v y. (v < i + 1) × LeadsTo lines v y) starts sources
     (λ y. leads_none lines i y none)
@@ -337,7 +353,8 @@ put_none lines n i starts sources none a =
     a
 
 -- the counts stand in the places of the ends
-pub put_start : (lines : ℕ → Option Line) (n : ℕ) (starts sources : List ℕ) → length starts ≡ n + 1 → begin_of lines n (n + 1) ≤ length sources → ((x : ℕ) → x < n + 1 → get_or starts x 0 ≡ begin_of lines n (x + 1))
+pub put_start : (lines : ℕ → Option Line) (n : ℕ) (starts sources : List ℕ) → length starts ≡ n + 1
+    → begin_of lines n (n + 1) ≤ length sources → ((x : ℕ) → x < n + 1 → get_or starts x 0 ≡ begin_of lines n (x + 1))
     → ArePutBefore lines n 0 starts sources
 put_start lines n starts sources size room ends = record {
   size = size;
@@ -351,26 +368,35 @@ put_start lines n starts sources size room ends = record {
 -- ---- the places of one vertex
 
 -- a part of the sources
-pub part_listed : (starts sources part : List ℕ) (x j : ℕ) → get_or starts x 0 ≤ get_or starts (x + 1) 0 → get_or starts (x + 1) 0 ≤ length sources → part ≡ take (get_or starts (x + 1) 0 - get_or starts x 0) (drop (get_or starts x 0) sources) → j < length part
+pub part_listed : (starts sources part : List ℕ) (x j : ℕ) → get_or starts x 0 ≤ get_or starts (x + 1) 0
+    → get_or starts (x + 1) 0 ≤ length sources
+    → part ≡ take (get_or starts (x + 1) 0 - get_or starts x 0) (drop (get_or starts x 0) sources) → j < length part
     → IsListed starts sources x (get_or part j 0)
 part_listed starts sources part x j rise within e h =
     let s = get_or starts x 0 in
     let t = get_or starts (x + 1) 0 in
     let m : j < t - s = let k = ap length e in let l = length-take (t - s) (drop s sources) in omega arith in
-    let q : get_or part j 0 ≡ get_or sources (s + j) 0 = ap (λ (l : List ℕ). get_or l j 0) e ∙ (get_or-take (t - s) (drop s sources) j 0 m ∙ get_or-drop s sources j 0) in
+    let q : get_or part j 0 ≡ get_or sources (s + j) 0 = ap (λ (l : List ℕ). get_or l j 0) e
+    ∙ (get_or-take (t - s) (drop s sources) j 0 m ∙ get_or-drop s sources j 0) in
     record { place = s + j; from_on = omega arith; before = omega arith; source = sym q }
 
-pub listed_part : (starts sources part : List ℕ) (x u : ℕ) → get_or starts x 0 ≤ get_or starts (x + 1) 0 → get_or starts (x + 1) 0 ≤ length sources → part ≡ take (get_or starts (x + 1) 0 - get_or starts x 0) (drop (get_or starts x 0) sources) → IsListed starts sources x u → IsBefore part (length part) u
+pub listed_part : (starts sources part : List ℕ) (x u : ℕ) → get_or starts x 0 ≤ get_or starts (x + 1) 0
+    → get_or starts (x + 1) 0 ≤ length sources
+    → part ≡ take (get_or starts (x + 1) 0 - get_or starts x 0) (drop (get_or starts x 0) sources) → IsListed starts sources x u
+    → IsBefore part (length part) u
 listed_part starts sources part x u rise within e h =
     let s = get_or starts x 0 in
     let t = get_or starts (x + 1) 0 in
     let j = h.place - s in
     let m : j < t - s = omega (arith, h.from_on, h.before) in
-    let size : length part ≡ t - s = let k = ap length e in let l = length-take (t - s) (drop s sources) in let d = length-drop s sources in omega (arith, h.from_on, h.before) in
+    let size : length part ≡ t - s = let k = ap length e in let l = length-take (t - s) (drop s sources) in let d =
+    length-drop s sources in omega (arith, h.from_on, h.before) in
     let back : s + j ≡ h.place = omega (arith, h.from_on) in
-    let q : get_or part j 0 ≡ get_or sources (s + j) 0 = ap (λ (l : List ℕ). get_or l j 0) e ∙ (get_or-take (t - s) (drop s sources) j 0 m ∙ get_or-drop s sources j 0) in
+    let q : get_or part j 0 ≡ get_or sources (s + j) 0 = ap (λ (l : List ℕ). get_or l j 0) e
+    ∙ (get_or-take (t - s) (drop s sources) j 0 m ∙ get_or-drop s sources j 0) in
     (j, omega arith, q ∙ (ap (λ (i : ℕ). get_or sources i 0) back ∙ h.source))
 
 -- sums of the counts of edges
-pub counts_sum : (lines : ℕ → Option Line) (n m : ℕ) (counts : List ℕ) → ((w : ℕ) → w < length counts → get_or counts w 0 ≡ leads lines n w) → m ≤ length counts → sum_below (λ w. get_or counts w 0) m ≡ begin_of lines n m
+pub counts_sum : (lines : ℕ → Option Line) (n m : ℕ) (counts : List ℕ) → ((w : ℕ) → w < length counts → get_or counts w 0 ≡ leads lines n w)
+    → m ≤ length counts → sum_below (λ w. get_or counts w 0) m ≡ begin_of lines n m
 counts_sum lines n m counts e le = sum_same (λ w. get_or counts w 0) (leads lines n) m (λ w lt. e w (omega arith))

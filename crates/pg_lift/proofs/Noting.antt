@@ -1,5 +1,6 @@
 -- What notes tell after one is written.
-use Rattle.std.proofs.Common.{◌≡◌, ◌≢◌, ℕ, zero, suc, ◌+◌, ◌-◌, ◌<◌, ◌≤◌, ◌⊎◌, Bool, true, false, List, [], ◌∷◌, ◌++◌, length, cond, get_or, set, refl, sym, ap, subst, ◌∙◌, inl, inr, arith}
+use Rattle.std.proofs.Common.{◌≡◌, ◌≢◌, ℕ, zero, suc, ◌+◌, ◌-◌, ◌<◌, ◌≤◌, ◌⊎◌, Bool, true, false, List, [], ◌∷◌, ◌++◌, length, cond, get_or}
+use Rattle.std.proofs.Common.{set, refl, sym, ap, subst, ◌∙◌, inl, inr, arith}
 use Rattle.std.specs.Prelude.{◌↔◌, Option, Some, None, IsSome, IfSome, IsTrue, option_map, unwrap_or, count_by, replicate, not}
 use Rattle.std.proofs.lemmas.Bool.{cases_lt, cases_eq, lt-ltb, le-ltb}
 use Rattle.std.proofs.lemmas.List.FromFn.{length-map-range_with_len, get_or-map-range_with_len, fill_by_all}
@@ -11,7 +12,8 @@ use Rattle.pg_map.specs.Maps.{MapValue}
 use Rattle.pg_lift.specs.declared.note.Note.{Note}
 use Rattle.pg_lift.specs.Mirrors.Keeps.{IsKeeping, IsDue}
 use Rattle.pg_lift.specs.Mirrors.Worklists.{IsWorklist}
-use Rattle.pg_lift.specs.Mirrors.Notes.{NotesValue, Span, HasNote, HasRoom, AreNotes, AreNoted, IsSameSpan, AreSameNotes, Label, label_of, line_label, label_in, no_note, note_in, told_of, waits_of, best_of, labels_of}
+use Rattle.pg_lift.specs.Mirrors.Notes.{NotesValue, Span, HasNote, HasRoom, AreNotes, AreNoted, IsSameSpan, AreSameNotes, Label, label_of}
+use Rattle.pg_lift.specs.Mirrors.Notes.{line_label, label_in, no_note, note_in, told_of, waits_of, best_of, labels_of}
 use Rattle.pg_lift.proofs.Stacks.{pushed, swapped, popped, top_marked, room_left}
 
 -- ---- vertices that have notes
@@ -56,7 +58,8 @@ room_still p q v first room h =
     record { from = omega arith; before = omega arith }
 
 -- a vertex waits, or does no longer
-pub span_marked : (notes notes' : NotesValue) (v : ℕ) (b : Bool) → notes'.waits ≡ set notes.waits v b → notes'.best ≡ notes.best → notes'.span ≡ notes.span → IsSameSpan notes notes'
+pub span_marked : (notes notes' : NotesValue) (v : ℕ) (b : Bool) → notes'.waits ≡ set notes.waits v b → notes'.best ≡ notes.best
+    → notes'.span ≡ notes.span → IsSameSpan notes notes'
 span_marked notes notes' v b waits best span = record { waits = ap length waits ∙ length-set notes.waits v b; best = ap length best; span = span }
 
 -- a vertex that was taken to be lifted waits again
@@ -81,20 +84,25 @@ from_first first notes v le = ap (λ b. cond b no_note (note_at notes (v - first
 pub told_size : {X : Type 0} (f : Note → X) (n first : ℕ) (notes : List Note) → length (told_of f n first notes) ≡ n
 told_size f n first notes = length-map-range_with_len (λ v. f (note_in first notes v)) 0 n
 
-told_in : {X : Type 0} (f : Note → X) (d : X) (n first : ℕ) (notes : List Note) (v : ℕ) → v < n → get_or (told_of f n first notes) v d ≡ f (note_in first notes v)
+told_in : {X : Type 0} (f : Note → X) (d : X) (n first : ℕ) (notes : List Note) (v : ℕ) → v < n
+    → get_or (told_of f n first notes) v d ≡ f (note_in first notes v)
 told_in f d n first notes v lt = get_or-map-range_with_len (λ u. f (note_in first notes u)) 0 n v v d lt (omega arith)
 
 -- what the note of v tells
-pub told_at : {X : Type 0} (f : Note → X) (d : X) (n first : ℕ) (notes : List Note) (v : ℕ) → first ≤ v → v < n → get_or (told_of f n first notes) v d ≡ f (note_at notes (v - first))
+pub told_at : {X : Type 0} (f : Note → X) (d : X) (n first : ℕ) (notes : List Note) (v : ℕ) → first ≤ v → v < n
+    → get_or (told_of f n first notes) v d ≡ f (note_at notes (v - first))
 told_at f d n first notes v le lt = told_in f d n first notes v lt ∙ ap f (from_first first notes v le)
 
 -- the same, if each vertex's note tells the same
-pub told_same : {X : Type 0} (f : Note → X) (d : X) (n first first' : ℕ) (notes notes' : List Note) → ((v : ℕ) → f (note_in first' notes' v) ≡ f (note_in first notes v)) → told_of f n first' notes' ≡ told_of f n first notes
+pub told_same : {X : Type 0} (f : Note → X) (d : X) (n first first' : ℕ) (notes notes' : List Note)
+    → ((v : ℕ) → f (note_in first' notes' v) ≡ f (note_in first notes v)) → told_of f n first' notes' ≡ told_of f n first notes
 told_same f d n first first' notes notes' same =
-    sym (fill_by_all (λ v. f (note_in first' notes' v)) (told_of f n first notes) n d (told_size f n first notes) (λ k lt. told_in f d n first notes k lt ∙ sym (same k)))
+    sym (fill_by_all (λ v. f (note_in first' notes' v)) (told_of f n first notes) n d (told_size f n first notes)
+    (λ k lt. told_in f d n first notes k lt ∙ sym (same k)))
 
 -- more notes that tell nothing
-pub told_longer : {X : Type 0} (f : Note → X) (d : X) (n first : ℕ) (notes notes' : List Note) → ((i : ℕ) → note_at notes' i ≡ note_at notes i) → told_of f n first notes' ≡ told_of f n first notes
+pub told_longer : {X : Type 0} (f : Note → X) (d : X) (n first : ℕ) (notes notes' : List Note)
+    → ((i : ℕ) → note_at notes' i ≡ note_at notes i) → told_of f n first notes' ≡ told_of f n first notes
 told_longer f d n first notes notes' same = told_same f d n first first notes notes' (λ v. elim (cases_lt v first) [
   | inl lt ↦ ap f (before_first first notes' v lt ∙ sym (before_first first notes v lt))
   | inr le ↦ ap f (from_first first notes' v le ∙ (same (v - first) ∙ sym (from_first first notes v le)))
@@ -107,8 +115,10 @@ nothing_in first notes v none = elim (cases_lt v first) [
 ]
 
 -- no notes begin elsewhere
-pub told_moved : {X : Type 0} (f : Note → X) (d : X) (n first first' : ℕ) (notes : List Note) → length notes ≡ 0 → told_of f n first' notes ≡ told_of f n first notes
-told_moved f d n first first' notes none = told_same f d n first first' notes notes (λ v. ap f (nothing_in first' notes v none ∙ sym (nothing_in first notes v none)))
+pub told_moved : {X : Type 0} (f : Note → X) (d : X) (n first first' : ℕ) (notes : List Note) → length notes ≡ 0
+    → told_of f n first' notes ≡ told_of f n first notes
+told_moved f d n first first' notes none =
+    told_same f d n first first' notes notes (λ v. ap f (nothing_in first' notes v none ∙ sym (nothing_in first notes v none)))
 
 -- the same notes; where there are none, they may begin elsewhere
 pub told_either : {X : Type 0} (f : Note → X) (d : X) (n first first' : ℕ) (notes notes' : List Note) → notes' ≡ notes
@@ -137,10 +147,12 @@ told_set f d n first notes v m le place lt =
     ]))
 
 -- the note of v tells the same
-pub told_kept : {X : Type 0} (f : Note → X) (d : X) (n first : ℕ) (notes : List Note) (v : ℕ) (m : Note) → first ≤ v → v - first < length notes → f m ≡ f (note_at notes (v - first))
+pub told_kept : {X : Type 0} (f : Note → X) (d : X) (n first : ℕ) (notes : List Note) (v : ℕ) (m : Note) → first ≤ v
+    → v - first < length notes → f m ≡ f (note_at notes (v - first))
     → told_of f n first (set notes (v - first) m) ≡ told_of f n first notes
 told_kept f d n first notes v m le place same = told_same f d n first first notes (set notes (v - first) m) (λ u. elim (cases_eq u v) [
-  | inl e ↦ rw e (ap f (from_first first (set notes (v - first) m) v le ∙ get_or-set_same notes (v - first) m no_note place) ∙ (same ∙ ap f (sym (from_first first notes v le))))
+  | inl e ↦ rw e (ap f (from_first first (set notes (v - first) m) v le ∙ get_or-set_same notes (v - first) m no_note place)
+      ∙ (same ∙ ap f (sym (from_first first notes v le))))
   | inr ne ↦ ap f (set_in first notes v m u le ne)
 ])
 
@@ -158,14 +170,16 @@ noted_in first notes v on = elim (cases_lt v first) [
   | inl lt ↦ absurd (on_off (note_in first notes v).waits on (ap (λ (m : Note). m.waits) (before_first first notes v lt)))
   | inr le ↦ elim (cases_lt (v - first) (length notes)) [
     | inl inside ↦ record { from = le; place = inside }
-    | inr past ↦ absurd (on_off (note_in first notes v).waits on (ap (λ (m : Note). m.waits) (from_first first notes v le ∙ get_or_past notes (v - first) no_note past)))
+    | inr past ↦ absurd (on_off (note_in first notes v).waits on
+        (ap (λ (m : Note). m.waits) (from_first first notes v le ∙ get_or_past notes (v - first) no_note past)))
   ]
 ]
 
 pub noted_by : (n first : ℕ) (notes : List Note) (v : ℕ) → get_or (waits_of n first notes) v false ≡ true → IsNoted first notes v
 noted_by n first notes v on = elim (cases_lt v n) [
   | inl lt ↦ noted_in first notes v (sym (told_in (λ (m : Note). m.waits) false n first notes v lt) ∙ on)
-  | inr le ↦ absurd (on_off (get_or (waits_of n first notes) v false) on (get_or_past (waits_of n first notes) v false (let s = told_size (λ (m : Note). m.waits) n first notes in omega arith)))
+  | inr le ↦ absurd (on_off (get_or (waits_of n first notes) v false) on
+      (get_or_past (waits_of n first notes) v false (let s = told_size (λ (m : Note). m.waits) n first notes in omega arith)))
 ]
 
 -- ---- a note that is written
@@ -178,7 +192,8 @@ pub record IsAt (count first : ℕ) (notes : List Note) (v at : ℕ) (r : Note) 
   pub below : v < count
   pub read : note_at notes (v - first) ≡ r
 
-pub is_at : {count first : ℕ} {notes : List Note} {v at : ℕ} {r : Note} → at ≡ v - first → first ≤ v → v < first + length notes → first + length notes ≤ count → r ≡ get_or notes at r → IsAt count first notes v at r
+pub is_at : {count first : ℕ} {notes : List Note} {v at : ℕ} {r : Note} → at ≡ v - first → first ≤ v → v < first + length notes
+    → first + length notes ≤ count → r ≡ get_or notes at r → IsAt count first notes v at r
 is_at {count} {first} {notes} {v} {at} {r} e from before within read =
     let place : v - first < length notes = omega arith in
     record {
@@ -189,13 +204,18 @@ is_at {count} {first} {notes} {v} {at} {r} e from before within read =
       read = get_or_default notes (v - first) no_note r place ∙ (ap (λ (i : ℕ). get_or notes i r) (sym e) ∙ sym read);
     }
 
-written : {X : Type 0} (f : Note → X) (d : X) {count first : ℕ} {notes : List Note} {v at : ℕ} {r : Note} (m : Note) → IsAt count first notes v at r → told_of f count first (set notes at m) ≡ set (told_of f count first notes) v (f m)
-written f d {count} {first} {notes} {v} m p = ap (λ (i : ℕ). told_of f count first (set notes i m)) p.at_is ∙ told_set f d count first notes v m p.from p.place p.below
+written : {X : Type 0} (f : Note → X) (d : X) {count first : ℕ} {notes : List Note} {v at : ℕ} {r : Note} (m : Note)
+    → IsAt count first notes v at r → told_of f count first (set notes at m) ≡ set (told_of f count first notes) v (f m)
+written f d {count} {first} {notes} {v} m p = ap (λ (i : ℕ). told_of f count first (set notes i m)) p.at_is
+    ∙ told_set f d count first notes v m p.from p.place p.below
 
-unwritten : {X : Type 0} (f : Note → X) (d : X) {count first : ℕ} {notes : List Note} {v at : ℕ} {r : Note} (m : Note) → IsAt count first notes v at r → f m ≡ f r → told_of f count first (set notes at m) ≡ told_of f count first notes
-unwritten f d {count} {first} {notes} {v} m p same = ap (λ (i : ℕ). told_of f count first (set notes i m)) p.at_is ∙ told_kept f d count first notes v m p.from p.place (same ∙ ap f (sym p.read))
+unwritten : {X : Type 0} (f : Note → X) (d : X) {count first : ℕ} {notes : List Note} {v at : ℕ} {r : Note} (m : Note)
+    → IsAt count first notes v at r → f m ≡ f r → told_of f count first (set notes at m) ≡ told_of f count first notes
+unwritten f d {count} {first} {notes} {v} m p same = ap (λ (i : ℕ). told_of f count first (set notes i m)) p.at_is
+    ∙ told_kept f d count first notes v m p.from p.place (same ∙ ap f (sym p.read))
 
-told_read : {X : Type 0} (f : Note → X) (d : X) {count first : ℕ} {notes : List Note} {v at : ℕ} {r : Note} → IsAt count first notes v at r → get_or (told_of f count first notes) v d ≡ f r
+told_read : {X : Type 0} (f : Note → X) (d : X) {count first : ℕ} {notes : List Note} {v at : ℕ} {r : Note} → IsAt count first notes v at r
+    → get_or (told_of f count first notes) v d ≡ f r
 told_read f d {count} {first} {notes} {v} p = told_at f d count first notes v p.from p.below ∙ ap f p.read
 
 abbrev pub value_of : ℕ → ℕ → List Note → ℕ → NotesValue
@@ -210,28 +230,35 @@ pub there_at : {count first : ℕ} {notes : List Note} (cap : ℕ) {v at : ℕ} 
     → HasNote (value_of count first notes cap).span v → first + length notes ≤ count → IsAt count first notes v at r
 there_at cap e read there within = is_at e there.from there.before within read
 
-pub waits_set : {count first : ℕ} {notes : List Note} {v at : ℕ} {r : Note} (m : Note) → IsAt count first notes v at r → waits_of count first (set notes at m) ≡ set (waits_of count first notes) v m.waits
+pub waits_set : {count first : ℕ} {notes : List Note} {v at : ℕ} {r : Note} (m : Note) → IsAt count first notes v at r
+    → waits_of count first (set notes at m) ≡ set (waits_of count first notes) v m.waits
 waits_set m p = written (λ (k : Note). k.waits) false m p
 
-pub best_set : {count first : ℕ} {notes : List Note} {v at : ℕ} {r : Note} (m : Note) → IsAt count first notes v at r → best_of count first (set notes at m) ≡ set (best_of count first notes) v m.best
+pub best_set : {count first : ℕ} {notes : List Note} {v at : ℕ} {r : Note} (m : Note) → IsAt count first notes v at r
+    → best_of count first (set notes at m) ≡ set (best_of count first notes) v m.best
 best_set m p = written (λ (k : Note). k.best) 0 m p
 
-pub labels_set : {count first : ℕ} {notes : List Note} {v at : ℕ} {r : Note} (m : Note) → IsAt count first notes v at r → labels_of count first (set notes at m) ≡ set (labels_of count first notes) v (label_in m)
+pub labels_set : {count first : ℕ} {notes : List Note} {v at : ℕ} {r : Note} (m : Note) → IsAt count first notes v at r
+    → labels_of count first (set notes at m) ≡ set (labels_of count first notes) v (label_in m)
 labels_set m p = written label_in None m p
 
-pub waits_kept : {count first : ℕ} {notes : List Note} {v at : ℕ} {r : Note} (m : Note) → IsAt count first notes v at r → m.waits ≡ r.waits → waits_of count first (set notes at m) ≡ waits_of count first notes
+pub waits_kept : {count first : ℕ} {notes : List Note} {v at : ℕ} {r : Note} (m : Note) → IsAt count first notes v at r → m.waits ≡ r.waits
+    → waits_of count first (set notes at m) ≡ waits_of count first notes
 waits_kept m p same = unwritten (λ (k : Note). k.waits) false m p same
 
-pub best_kept : {count first : ℕ} {notes : List Note} {v at : ℕ} {r : Note} (m : Note) → IsAt count first notes v at r → m.best ≡ r.best → best_of count first (set notes at m) ≡ best_of count first notes
+pub best_kept : {count first : ℕ} {notes : List Note} {v at : ℕ} {r : Note} (m : Note) → IsAt count first notes v at r → m.best ≡ r.best
+    → best_of count first (set notes at m) ≡ best_of count first notes
 best_kept m p same = unwritten (λ (k : Note). k.best) 0 m p same
 
-pub waits_read : {count first : ℕ} {notes : List Note} {v at : ℕ} {r : Note} → IsAt count first notes v at r → get_or (waits_of count first notes) v false ≡ r.waits
+pub waits_read : {count first : ℕ} {notes : List Note} {v at : ℕ} {r : Note} → IsAt count first notes v at r
+    → get_or (waits_of count first notes) v false ≡ r.waits
 waits_read p = told_read (λ (k : Note). k.waits) false p
 
 pub best_read : {count first : ℕ} {notes : List Note} {v at : ℕ} {r : Note} → IsAt count first notes v at r → get_or (best_of count first notes) v 0 ≡ r.best
 best_read p = told_read (λ (k : Note). k.best) 0 p
 
-pub labels_read : {count first : ℕ} {notes : List Note} {v at : ℕ} {r : Note} → IsAt count first notes v at r → get_or (labels_of count first notes) v None ≡ label_in r
+pub labels_read : {count first : ℕ} {notes : List Note} {v at : ℕ} {r : Note} → IsAt count first notes v at r
+    → get_or (labels_of count first notes) v None ≡ label_in r
 labels_read p = told_read label_in None p
 
 -- notes of the same vertices, with the same labels
@@ -258,18 +285,22 @@ value_kept {count} {first} {notes} room {at = at} m p waits best label =
 
 -- ---- and the vertices that wait
 
-pub noted_kept : {count first : ℕ} {notes : List Note} {stack next : List ℕ} {room next_room v at : ℕ} {r : Note} (m : Note) → IsAt count first notes v at r → m.waits ≡ r.waits
+pub noted_kept : {count first : ℕ} {notes : List Note} {stack next : List ℕ} {room next_room v at : ℕ} {r : Note} (m : Note)
+    → IsAt count first notes v at r → m.waits ≡ r.waits
     → AreNoted count first notes stack next room next_room → AreNoted count first (set notes at m) stack next room next_room
 noted_kept {notes = notes} {stack = stack} {next = next} {room = room} {next_room = next_room} {at = at} m p same a = record {
   within = let s = length-set notes at m in let w = a.within in omega arith;
   work = subst (λ (ws : List Bool). IsWorklist stack next ws room next_room) (sym (waits_kept m p same)) a.work;
 }
 
-pub noted_swapped : {count first : ℕ} {notes : List Note} {stack next : List ℕ} {room next_room : ℕ} → AreNoted count first notes stack next room next_room → AreNoted count first notes next stack next_room room
-noted_swapped {count} {first} {notes} {stack} {next} {room} {next_room} a = record { within = a.within; work = swapped stack next (waits_of count first notes) room next_room a.work }
+pub noted_swapped : {count first : ℕ} {notes : List Note} {stack next : List ℕ} {room next_room : ℕ}
+    → AreNoted count first notes stack next room next_room → AreNoted count first notes next stack next_room room
+noted_swapped {count} {first} {notes} {stack} {next} {room} {next_room} a =
+    record { within = a.within; work = swapped stack next (waits_of count first notes) room next_room a.work }
 
 -- the note of a vertex that doesn't wait has it wait, on a stack with room for it
-pub noted_pushed : {count first : ℕ} {notes : List Note} {stack next : List ℕ} {room room' next_room v at : ℕ} {r : Note} (m : Note) → IsAt count first notes v at r → r.waits ≡ false → m.waits ≡ true → room ≤ room'
+pub noted_pushed : {count first : ℕ} {notes : List Note} {stack next : List ℕ} {room room' next_room v at : ℕ} {r : Note} (m : Note)
+    → IsAt count first notes v at r → r.waits ≡ false → m.waits ≡ true → room ≤ room'
     → AreNoted count first notes stack next room next_room → AreNoted count first (set notes at m) (stack ++ v ∷ []) next room' next_room
 noted_pushed {count} {first} {notes} {stack} {next} {room} {room'} {next_room} {v} {at} m p off on le a =
     let ws = waits_of count first notes in
@@ -283,7 +314,8 @@ noted_pushed {count} {first} {notes} {stack} {next} {room} {room'} {next_room} {
     }
 
 -- and there is room for it on both stacks
-pub room_to_wait : {count first : ℕ} {notes : List Note} {stack next : List ℕ} {room next_room v at : ℕ} {r : Note} → IsAt count first notes v at r → r.waits ≡ false
+pub room_to_wait : {count first : ℕ} {notes : List Note} {stack next : List ℕ} {room next_room v at : ℕ} {r : Note}
+    → IsAt count first notes v at r → r.waits ≡ false
     → AreNoted count first notes stack next room next_room → (length stack < room) × (length next < next_room)
 room_to_wait {count} {first} {notes} {v = v} p off a =
     let ws = waits_of count first notes in
@@ -292,13 +324,16 @@ room_to_wait {count} {first} {notes} {v = v} p off a =
     (omega (arith, left, a.work.size, a.work.fits), omega (arith, left, a.work.size, a.work.next_fits))
 
 -- the last of this generation waits, so it is noted
-pub last_waits : {count first : ℕ} {notes : List Note} (stack : List ℕ) {next : List ℕ} {room next_room : ℕ} (v : ℕ) → AreNoted count first notes (stack ++ v ∷ []) next room next_room → get_or (waits_of count first notes) v false ≡ true
+pub last_waits : {count first : ℕ} {notes : List Note} (stack : List ℕ) {next : List ℕ} {room next_room : ℕ} (v : ℕ)
+    → AreNoted count first notes (stack ++ v ∷ []) next room next_room → get_or (waits_of count first notes) v false ≡ true
 last_waits {count} {first} {notes} stack {next} {room} {next_room} v a = top_marked stack next (waits_of count first notes) room next_room v a.work
 
-pub last_noted : {count first : ℕ} {notes : List Note} (stack : List ℕ) {next : List ℕ} {room next_room v : ℕ} → AreNoted count first notes (stack ++ v ∷ []) next room next_room → IsNoted first notes v
+pub last_noted : {count first : ℕ} {notes : List Note} (stack : List ℕ) {next : List ℕ} {room next_room v : ℕ}
+    → AreNoted count first notes (stack ++ v ∷ []) next room next_room → IsNoted first notes v
 last_noted {count} {first} {notes} stack {v = v} a = noted_by count first notes v (last_waits stack v a)
 
-pub noted_popped : {count first : ℕ} {notes : List Note} {stack next : List ℕ} {room room' next_room v at : ℕ} {r : Note} (m : Note) → IsAt count first notes v at r → m.waits ≡ false → room ≤ room'
+pub noted_popped : {count first : ℕ} {notes : List Note} {stack next : List ℕ} {room room' next_room v at : ℕ} {r : Note} (m : Note)
+    → IsAt count first notes v at r → m.waits ≡ false → room ≤ room'
     → AreNoted count first notes (stack ++ v ∷ []) next room next_room → AreNoted count first (set notes at m) stack next room' next_room
 noted_popped {count} {first} {notes} {stack} {next} {room} {room'} {next_room} {v} {at} m p off le a =
     let ws = waits_of count first notes in
@@ -309,25 +344,30 @@ noted_popped {count} {first} {notes} {stack} {next} {room} {room'} {next_room} {
     }
 
 -- more notes that tell nothing, and another first vertex of none
-pub noted_longer : (count first : ℕ) (notes notes' : List Note) (stack next : List ℕ) (room next_room : ℕ) → ((i : ℕ) → note_at notes' i ≡ note_at notes i) → first + length notes' ≤ count
+pub noted_longer : (count first : ℕ) (notes notes' : List Note) (stack next : List ℕ) (room next_room : ℕ)
+    → ((i : ℕ) → note_at notes' i ≡ note_at notes i) → first + length notes' ≤ count
     → AreNoted count first notes stack next room next_room → AreNoted count first notes' stack next room next_room
 noted_longer count first notes notes' stack next room next_room same within a = record {
   within = within;
-  work = subst (λ (ws : List Bool). IsWorklist stack next ws room next_room) (sym (told_longer (λ (m : Note). m.waits) false count first notes notes' same)) a.work;
+  work = subst (λ (ws : List Bool). IsWorklist stack next ws room next_room)
+      (sym (told_longer (λ (m : Note). m.waits) false count first notes notes' same)) a.work;
 }
 
-pub noted_moved : (count first first' : ℕ) (notes notes' : List Note) (stack next : List ℕ) (room next_room : ℕ) → notes' ≡ notes → (length notes ≡ 0) ⊎ (first' ≡ first) → first' + length notes ≤ count
+pub noted_moved : (count first first' : ℕ) (notes notes' : List Note) (stack next : List ℕ) (room next_room : ℕ) → notes' ≡ notes
+    → (length notes ≡ 0) ⊎ (first' ≡ first) → first' + length notes ≤ count
     → AreNoted count first notes stack next room next_room → AreNoted count first' notes' stack next room next_room
 noted_moved count first first' notes notes' stack next room next_room e (inl none) within a = rw e record {
   within = within;
-  work = subst (λ (ws : List Bool). IsWorklist stack next ws room next_room) (sym (told_moved (λ (m : Note). m.waits) false count first first' notes none)) a.work;
+  work = subst (λ (ws : List Bool). IsWorklist stack next ws room next_room)
+      (sym (told_moved (λ (m : Note). m.waits) false count first first' notes none)) a.work;
 }
 noted_moved count first first' notes notes' stack next room next_room e (inr same) within a = rw (e, same) a
 
 -- no notes
 pub told_nothing : {X : Type 0} (f : Note → X) (n first : ℕ) (notes : List Note) → length notes ≡ 0 → told_of f n first notes ≡ replicate n (f no_note)
 told_nothing f n first notes none =
-    sym (fill_by_all (λ v. f (note_in first notes v)) (replicate n (f no_note)) n (f no_note) (length-replicate n (f no_note)) (λ k lt. get_or-replicate n k (f no_note) (f no_note) lt ∙ ap f (sym (nothing_in first notes k none))))
+    sym (fill_by_all (λ v. f (note_in first notes v)) (replicate n (f no_note)) n (f no_note) (length-replicate n (f no_note))
+    (λ k lt. get_or-replicate n k (f no_note) (f no_note) lt ∙ ap f (sym (nothing_in first notes k none))))
 
 none_counted : (n : ℕ) → count_by (λ b. b) (replicate n false) ≡ 0
 none_counted zero = refl
@@ -346,12 +386,14 @@ none_work n room next_room le next_le = record {
   next_fits = let s = length-replicate n false in omega arith;
 }
 
-pub noted_none : (count : ℕ) (notes : List Note) (stack next : List ℕ) (room next_room : ℕ) → notes ≡ [] → stack ≡ [] → next ≡ [] → count ≤ room → count ≤ next_room → AreNoted count 0 notes stack next room next_room
+pub noted_none : (count : ℕ) (notes : List Note) (stack next : List ℕ) (room next_room : ℕ) → notes ≡ [] → stack ≡ [] → next ≡ []
+    → count ≤ room → count ≤ next_room → AreNoted count 0 notes stack next room next_room
 noted_none count notes stack next room next_room e s n le next_le =
     let none : length notes ≡ 0 = ap length e in
     rw (s, n) record {
       within = omega arith;
-      work = subst (λ (ws : List Bool). IsWorklist [] [] ws room next_room) (sym (told_nothing (λ (m : Note). m.waits) count 0 notes none)) (none_work count room next_room le next_le);
+      work = subst (λ (ws : List Bool). IsWorklist [] [] ws room next_room) (sym (told_nothing (λ (m : Note). m.waits) count 0 notes none))
+          (none_work count room next_room le next_le);
     }
 
 pub not_on : (b : Bool) → not b ≡ true → b ≡ false
@@ -380,10 +422,12 @@ pub held_of : (o : Option Line) (m : Option Label) (b : Bool) → m ≡ option_m
 held_of None m b e h = rw e at h
 held_of (Some l) m b e h = rw e at h
 
-pub priority_of : (o : Option Line) (m : Option Label) (d : Line) (p : ℕ) → m ≡ option_map line_label o → IsSome o → IfSome m (λ l. p ≡ l.priority) → p ≡ (unwrap_or o d).priority
+pub priority_of : (o : Option Line) (m : Option Label) (d : Line) (p : ℕ) → m ≡ option_map line_label o → IsSome o
+    → IfSome m (λ l. p ≡ l.priority) → p ≡ (unwrap_or o d).priority
 priority_of None m d p e s h = cc
 priority_of (Some l) m d p e s h = rw e at h
 
-pub owner_of : (o : Option Line) (m : Option Label) (d : Line) (p : Player) → m ≡ option_map line_label o → IsSome o → IfSome m (λ l. p ≡ l.owner) → p ≡ (unwrap_or o d).owner
+pub owner_of : (o : Option Line) (m : Option Label) (d : Line) (p : Player) → m ≡ option_map line_label o → IsSome o
+    → IfSome m (λ l. p ≡ l.owner) → p ≡ (unwrap_or o d).owner
 owner_of None m d p e s h = cc
 owner_of (Some l) m d p e s h = rw e at h

@@ -48,5 +48,6 @@ unfolding Left
 all_left us n x v h = inl h
 
 -- fewer are left
-pub kept_less : (bs : BoundList) (lines : ℕ → Option Line) (f : List MeasureValue) (marked : List Bool) (best : List ℕ) (x : ℕ) (left left' : ℕ → Type 0) → ((v : ℕ) → left v → left' v) → IsKeptBut bs lines f marked best x left → IsKeptBut bs lines f marked best x left'
+pub kept_less : (bs : BoundList) (lines : ℕ → Option Line) (f : List MeasureValue) (marked : List Bool) (best : List ℕ) (x : ℕ) (left left' : ℕ → Type 0)
+    → ((v : ℕ) → left v → left' v) → IsKeptBut bs lines f marked best x left → IsKeptBut bs lines f marked best x left'
 kept_less bs lines f marked best x left left' on kept = λ v s. ((kept v s).0, λ none. (kept v s).1 (λ h. none (on v h)))

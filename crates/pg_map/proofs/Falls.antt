@@ -1,5 +1,6 @@
 -- On a cycle of steps by which measures fall, the greatest priority is even.
-use Rattle.std.proofs.Common.{◌≡◌, ℕ, zero, suc, ◌%◌, ◌<◌, ◌≤◌, inl, inr, Some, None, Bool, true, false, cond, leb, List, [], ◌∷◌, ◌++◌, take, length, map, get_or, arith, subst, refl, MatchBool}
+use Rattle.std.proofs.Common.{◌≡◌, ℕ, zero, suc, ◌%◌, ◌<◌, ◌≤◌, inl, inr, Some, None, Bool, true, false, cond, leb, List, [], ◌∷◌, ◌++◌}
+use Rattle.std.proofs.Common.{take, length, map, get_or, arith, subst, refl, MatchBool}
 use Rattle.std.specs.List.{All}
 use Rattle.std.specs.Option.{IsSome}
 use Rattle.std.proofs.lemmas.Bool.{eq-eqb, leb-true, le-leb}

@@ -18,3 +18,4 @@ pub mod Falls
 pub mod Rounds
 pub mod Duals
 pub mod Parting
+pub mod Firsts

@@ -154,6 +154,7 @@ greatest_raised met more p xs raised g = record {
 pub odd_if_falls : (bounds : BoundList) (met : ℕ → ℕ) (list : ℕ → List ℕ) (v : ℕ) (rest : List ℕ) (q : ℕ)
     → IsPath (Falls bounds (λ u. met u + 1) list) v (rest ++ v ∷ []) → IsGreatest q (map met (v ∷ rest)) → q % 2 ≡ 1
 odd_if_falls bounds met list v rest q path greatest = elim (even_or_odd q) [
-  | inl even ↦ absurd (no_odd_cycle bounds (λ u. met u + 1) list v rest (q + 1) path (greatest_raised met (λ u. met u + 1) q (v ∷ rest) (λ k d lt. refl) greatest) (omega arith))
+  | inl even ↦ absurd (no_odd_cycle bounds (λ u. met u + 1) list v rest (q + 1) path
+      (greatest_raised met (λ u. met u + 1) q (v ∷ rest) (λ k d lt. refl) greatest) (omega arith))
   | inr odd ↦ odd
 ]

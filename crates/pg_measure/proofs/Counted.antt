@@ -1,5 +1,6 @@
 -- The bounds of a game, from a table of how many vertices have each priority.
-use Rattle.std.proofs.Common.{◌≡◌, ◌≢◌, ℕ, zero, suc, ◌+◌, ◌-◌, ◌%◌, ◌<◌, ◌≤◌, true, false, cond, List, [], ◌∷◌, ◌++◌, length, get_or, take, set, refl, ap, sym, ◌∙◌, ◌⊎◌, inl, inr, arith, length-append}
+use Rattle.std.proofs.Common.{◌≡◌, ◌≢◌, ℕ, zero, suc, ◌+◌, ◌-◌, ◌%◌, ◌<◌, ◌≤◌, true, false, cond, List, [], ◌∷◌, ◌++◌, length, get_or, take}
+use Rattle.std.proofs.Common.{set, refl, ap, sym, ◌∙◌, ◌⊎◌, inl, inr, arith, length-append}
 use Rattle.std.specs.Prelude.{AllPairs, All, Contains, ◌==◌}
 use Rattle.std.proofs.lemmas.Grind.{common_steps}
 use Rattle.std.proofs.lemmas.Bool.{cases_lt, cases_eq}
@@ -51,17 +52,23 @@ raised_equal i p = elim (cases_eq i p) [
   | inr ne ↦ (let up : i + 1 ≢ suc p = omega arith in differs (i + 1) (suc p) up ∙ sym (differs i p ne))
 ]
 
-counted_at : (game : List GameVertex) (counts : List ℕ) (i q n p : ℕ) → i < length game → q ≡ priority game i → ((p : ℕ) → p < length counts → get_or counts p 0 ≡ vertices_of (take i game) p) → q < length counts → n ≡ get_or counts q n → p < length counts → (p ≡ q) ⊎ (p ≢ q) → get_or (set counts q (n + 1)) p 0 ≡ vertices_of (take (i + 1) game) p
+counted_at : (game : List GameVertex) (counts : List ℕ) (i q n p : ℕ) → i < length game → q ≡ priority game i
+    → ((p : ℕ) → p < length counts → get_or counts p 0 ≡ vertices_of (take i game) p) → q < length counts → n ≡ get_or counts q n
+    → p < length counts → (p ≡ q) ⊎ (p ≢ q) → get_or (set counts q (n + 1)) p 0 ≡ vertices_of (take (i + 1) game) p
 counted_at game counts i q n p l e h m d k (inl s) =
     let now : n ≡ vertices_of (take i game) q = d ∙ (get_or_default counts q n 0 m ∙ h q m) in
-    let more : vertices_of (take (i + 1) game) q ≡ vertices_of (take i game) q + 1 = count_by_more_yes (λ (x : GameVertex). x.priority == q) game i nowhere l (equal_yes (priority game i) q (sym e)) in
+    let more : vertices_of (take (i + 1) game) q ≡ vertices_of (take i game) q + 1 =
+    count_by_more_yes (λ (x : GameVertex). x.priority == q) game i nowhere l (equal_yes (priority game i) q (sym e)) in
     rw s (get_or-set_same counts q (n + 1) 0 m ∙ (ap (λ t. t + 1) now ∙ sym more))
 counted_at game counts i q n p l e h m d k (inr ne) =
-    let more : vertices_of (take (i + 1) game) p ≡ vertices_of (take i game) p = count_by_more_no (λ (x : GameVertex). x.priority == p) game i nowhere l (differs (priority game i) p (omega arith)) in
+    let more : vertices_of (take (i + 1) game) p ≡ vertices_of (take i game) p =
+    count_by_more_no (λ (x : GameVertex). x.priority == p) game i nowhere l (differs (priority game i) p (omega arith)) in
     get_or-set_other counts q p (n + 1) 0 ne ∙ (h p k ∙ sym more)
 
 -- one more vertex is counted
-pub counted_more : (game : List GameVertex) (counts : List ℕ) (i q n : ℕ) → i < length game → q ≡ priority game i → ((p : ℕ) → p < length counts → get_or counts p 0 ≡ vertices_of (take i game) p) → q < length counts → n ≡ get_or counts q n → (p : ℕ) → p < length counts → get_or (set counts q (n + 1)) p 0 ≡ vertices_of (take (i + 1) game) p
+pub counted_more : (game : List GameVertex) (counts : List ℕ) (i q n : ℕ) → i < length game → q ≡ priority game i
+    → ((p : ℕ) → p < length counts → get_or counts p 0 ≡ vertices_of (take i game) p) → q < length counts → n ≡ get_or counts q n → (p : ℕ)
+    → p < length counts → get_or (set counts q (n + 1)) p 0 ≡ vertices_of (take (i + 1) game) p
 counted_more game counts i q n l e h m d p k = counted_at game counts i q n p l e h m d k (cases_eq p q)
 
 pub counted_none : (counts : List ℕ) → CountedFrom counts (length counts) []
@@ -77,8 +84,11 @@ same_counted counts p a b e h = rw e h
 from_less : (counts : List ℕ) (p : ℕ) (b : ℕ × ℕ) → IsCounted counts (p + 1) b → IsCounted counts p b
 from_less counts p b h = record { from = (let k = h.from in omega arith); below = h.below; odd = h.odd; number = h.number; some = h.some }
 
-pushed_at : (counts : List ℕ) (p : ℕ) (pairs : BoundList) (y : ℕ × ℕ) (k : ℕ) (d : ℕ × ℕ) → ((k : ℕ) (d : ℕ × ℕ) → k < length pairs → IsCounted counts (p + 1) (get_or pairs k d)) → IsCounted counts p y → (k < length pairs) ⊎ (length pairs ≤ k) → k < length (pairs ++ y ∷ []) → IsCounted counts p (get_or (pairs ++ y ∷ []) k d)
-pushed_at counts p pairs y k d h c (inl l) m = same_counted counts p (get_or (pairs ++ y ∷ []) k d) (get_or pairs k d) (get_or_append_left pairs (y ∷ []) d k l) (from_less counts p (get_or pairs k d) (h k d l))
+pushed_at : (counts : List ℕ) (p : ℕ) (pairs : BoundList) (y : ℕ × ℕ) (k : ℕ) (d : ℕ × ℕ)
+    → ((k : ℕ) (d : ℕ × ℕ) → k < length pairs → IsCounted counts (p + 1) (get_or pairs k d)) → IsCounted counts p y
+    → (k < length pairs) ⊎ (length pairs ≤ k) → k < length (pairs ++ y ∷ []) → IsCounted counts p (get_or (pairs ++ y ∷ []) k d)
+pushed_at counts p pairs y k d h c (inl l) m = same_counted counts p (get_or (pairs ++ y ∷ []) k d) (get_or pairs k d)
+    (get_or_append_left pairs (y ∷ []) d k l) (from_less counts p (get_or pairs k d) (h k d l))
 pushed_at counts p pairs y k d h c (inr l) m =
     let size : length (pairs ++ y ∷ []) ≡ length pairs + 1 = length-append pairs (y ∷ []) in
     let e : k ≡ length pairs = omega arith in
@@ -95,24 +105,31 @@ last_in pairs y =
     let size : length (pairs ++ y ∷ []) ≡ length pairs + 1 = length-append pairs (y ∷ []) in
     (length pairs, omega arith, get_or_last pairs y y)
 
-whole_push : (counts : List ℕ) (p : ℕ) (pairs : BoundList) (n q : ℕ) → n ≡ get_or counts p 0 → CountedFrom counts (p + 1) pairs → (q ≡ p) ⊎ (q ≢ p) → p ≤ q → q < length counts → q % 2 ≡ 1 → 0 < get_or counts q 0 → Contains (pairs ++ (p, n) ∷ []) (q, get_or counts q 0)
+whole_push : (counts : List ℕ) (p : ℕ) (pairs : BoundList) (n q : ℕ) → n ≡ get_or counts p 0 → CountedFrom counts (p + 1) pairs
+    → (q ≡ p) ⊎ (q ≢ p) → p ≤ q → q < length counts → q % 2 ≡ 1 → 0 < get_or counts q 0
+    → Contains (pairs ++ (p, n) ∷ []) (q, get_or counts q 0)
 whole_push counts p pairs n q e h (inl s) l m o z = rw (s, ← e) (last_in pairs (p, n))
 whole_push counts p pairs n q e h (inr ne) l m o z = kept_in pairs (p, n) (q, get_or counts q 0) (h.whole q (omega arith) m o z)
 
 -- an odd priority that occurs is taken
-pub counted_push : (counts : List ℕ) (p : ℕ) (pairs : BoundList) (n : ℕ) → p < length counts → n ≡ get_or counts p 0 → p % 2 ≡ 1 → 0 < n → CountedFrom counts (p + 1) pairs → CountedFrom counts p (pairs ++ (p, n) ∷ [])
+pub counted_push : (counts : List ℕ) (p : ℕ) (pairs : BoundList) (n : ℕ) → p < length counts → n ≡ get_or counts p 0 → p % 2 ≡ 1 → 0 < n
+    → CountedFrom counts (p + 1) pairs → CountedFrom counts p (pairs ++ (p, n) ∷ [])
 counted_push counts p pairs n l e o z h = record {
   falling = all_pairs_push (λ (b c : ℕ × ℕ). c.0 < b.0) pairs (p, n) h.falling (λ k d m. let f = (h.sound k d m).from in omega arith);
-  sound = λ k d m. pushed_at counts p pairs (p, n) k d h.sound record { from = omega arith; below = l; odd = o; number = e; some = z } (cases_lt k (length pairs)) m;
+  sound = λ k d m. pushed_at counts p pairs (p, n) k d h.sound record { from = omega arith; below = l; odd = o; number = e; some = z }
+      (cases_lt k (length pairs)) m;
   whole = λ q a b c d. whole_push counts p pairs n q e h (cases_eq q p) a b c d;
 }
 
-whole_skip : (counts : List ℕ) (p : ℕ) (pairs : BoundList) (q : ℕ) → (p % 2 ≡ 1 → 0 < get_or counts p 0 → ⊥) → CountedFrom counts (p + 1) pairs → (q ≡ p) ⊎ (q ≢ p) → p ≤ q → q < length counts → q % 2 ≡ 1 → 0 < get_or counts q 0 → Contains pairs (q, get_or counts q 0)
+whole_skip : (counts : List ℕ) (p : ℕ) (pairs : BoundList) (q : ℕ) → (p % 2 ≡ 1 → 0 < get_or counts p 0 → ⊥)
+    → CountedFrom counts (p + 1) pairs → (q ≡ p) ⊎ (q ≢ p) → p ≤ q → q < length counts → q % 2 ≡ 1 → 0 < get_or counts q 0
+    → Contains pairs (q, get_or counts q 0)
 whole_skip counts p pairs q none h (inl s) l m o z = absurd (none (rw s at o) (rw s at z))
 whole_skip counts p pairs q none h (inr ne) l m o z = h.whole q (omega arith) m o z
 
 -- another is left
-pub counted_skip : (counts : List ℕ) (p : ℕ) (pairs : BoundList) → (p % 2 ≡ 1 → 0 < get_or counts p 0 → ⊥) → CountedFrom counts (p + 1) pairs → CountedFrom counts p pairs
+pub counted_skip : (counts : List ℕ) (p : ℕ) (pairs : BoundList) → (p % 2 ≡ 1 → 0 < get_or counts p 0 → ⊥)
+    → CountedFrom counts (p + 1) pairs → CountedFrom counts p pairs
 counted_skip counts p pairs none h = record {
   falling = h.falling;
   sound = λ k d m. from_less counts p (get_or pairs k d) (h.sound k d m);
@@ -126,11 +143,13 @@ counted_bounds counts pairs h = record {
   positive = λ k d l. (h.sound k d l).some;
 }
 
-occurs : (game : List GameVertex) (counts : List ℕ) (p : ℕ) → IsCount game counts → 0 < vertices_of game p → (p < length counts) ⊎ (length counts ≤ p) → p < length counts
+occurs : (game : List GameVertex) (counts : List ℕ) (p : ℕ) → IsCount game counts → 0 < vertices_of game p
+    → (p < length counts) ⊎ (length counts ≤ p) → p < length counts
 occurs game counts p c z (inl l) = l
 occurs game counts p c z (inr l) = let e = none_of game (length counts) p l c.whole in absurd (omega arith)
 
-bound_in : (game : List GameVertex) (counts : List ℕ) (pairs : BoundList) (p n : ℕ) → IsCount game counts → CountedFrom counts 0 pairs → p % 2 ≡ 1 → 0 < n → n ≡ vertices_of game p → Contains pairs (p, n)
+bound_in : (game : List GameVertex) (counts : List ℕ) (pairs : BoundList) (p n : ℕ) → IsCount game counts → CountedFrom counts 0 pairs
+    → p % 2 ≡ 1 → 0 < n → n ≡ vertices_of game p → Contains pairs (p, n)
 bound_in game counts pairs p n c h o z e =
     let some : 0 < vertices_of game p = omega arith in
     let l : p < length counts = occurs game counts p c some (cases_lt p (length counts)) in
@@ -138,7 +157,8 @@ bound_in game counts pairs p n c h o z e =
     let some' : 0 < get_or counts p 0 = omega arith in
     rw k at (h.whole p (omega arith) l o some')
 
-in_counted : (game : List GameVertex) (counts : List ℕ) (pairs : BoundList) (p n : ℕ) → IsCount game counts → CountedFrom counts 0 pairs → Contains pairs (p, n) → (p % 2 ≡ 1) × (0 < n) × (n ≡ vertices_of game p)
+in_counted : (game : List GameVertex) (counts : List ℕ) (pairs : BoundList) (p n : ℕ) → IsCount game counts → CountedFrom counts 0 pairs
+    → Contains pairs (p, n) → (p % 2 ≡ 1) × (0 < n) × (n ≡ vertices_of game p)
 in_counted game counts pairs p n c h i =
     let b : IsCounted counts 0 (p, n) = same_counted counts 0 (p, n) (get_or pairs i.0 (p, n)) (sym i.2) (h.sound i.0 (p, n) i.1) in
     (b.odd, b.some, b.number ∙ c.each p b.below)
@@ -150,7 +170,9 @@ counted_is game counts pairs c h = record {
 }
 
 -- there are no more than the vertices so far
-pub counted_at_most : (game : List GameVertex) (counts : List ℕ) (i q n : ℕ) → ((p : ℕ) → p < length counts → get_or counts p 0 ≡ vertices_of (take i game) p) → q < length counts → n ≡ get_or counts q n → n ≤ length game
+pub counted_at_most : (game : List GameVertex) (counts : List ℕ) (i q n : ℕ)
+    → ((p : ℕ) → p < length counts → get_or counts p 0 ≡ vertices_of (take i game) p) → q < length counts → n ≡ get_or counts q n
+    → n ≤ length game
 counted_at_most game counts i q n h m d =
     let e : n ≡ vertices_of (take i game) q = d ∙ (get_or_default counts q n 0 m ∙ h q m) in
     let a = count_by-le-length (λ (x : GameVertex). x.priority == q) (take i game) in
@@ -179,7 +201,8 @@ few_falling (b ∷ bs) p f o h =
     let ih = few_falling bs (b.0 - 2) (λ i j d l m. f (suc i) (suc j) d (omega arith) (omega arith)) (λ k d l. o (suc k) d (omega arith)) below in
     few_more (length bs) b.0 p hb ob ih
 
-bound_small : (game : List GameVertex) (bounds : BoundList) → IsBoundsOf game bounds → HasPrioritiesUpTo 65536 game → (k : ℕ) (d : ℕ × ℕ) → k < length bounds → ((get_or bounds k d).0 < 65537) ⊎ (65537 ≤ (get_or bounds k d).0) → (get_or bounds k d).0 ≤ 65535
+bound_small : (game : List GameVertex) (bounds : BoundList) → IsBoundsOf game bounds → HasPrioritiesUpTo 65536 game → (k : ℕ) (d : ℕ × ℕ)
+    → k < length bounds → ((get_or bounds k d).0 < 65537) ⊎ (65537 ≤ (get_or bounds k d).0) → (get_or bounds k d).0 ≤ 65535
 bound_small game bounds i h k d l (inl s) =
     let b = get_or bounds k d in
     let e = (i.exact b.0 b.1).0 (k, l, get_or_default bounds k b d l) in
@@ -193,7 +216,8 @@ bound_small game bounds i h k d l (inr g) =
     let none = none_of game 65537 b.0 g (λ v m. let q = h v nowhere m in omega arith) in
     absurd (omega arith)
 
-pub bounds_are_few : (game : List GameVertex) (bounds : BoundList) → IsBoundsOf game bounds → HasPrioritiesUpTo 65536 game → (length bounds ≤ 32768) × All (λ b. b.0 ≤ 65535) bounds
+pub bounds_are_few : (game : List GameVertex) (bounds : BoundList) → IsBoundsOf game bounds → HasPrioritiesUpTo 65536 game
+    → (length bounds ≤ 32768) × All (λ b. b.0 ≤ 65535) bounds
 bounds_are_few game bounds i h =
     let small : All (λ b. b.0 ≤ 65535) bounds = λ k d l. bound_small game bounds i h k d l (cases_lt (get_or bounds k d).0 65537) in
     let odd : All (λ b. b.0 % 2 ≡ 1) bounds = λ k d l. (let b = get_or bounds k d in ((i.exact b.0 b.1).0 (k, l, get_or_default bounds k b d l)).0) in
@@ -206,7 +230,11 @@ vertices_dual [] p = refl
 vertices_dual (x ∷ game) p =
     let h = vertices_dual game p in
     let same : (x.priority + 1 == suc p) ≡ (x.priority == p) = raised_equal x.priority p in
-    rw (sum_by-cons (λ (y : GameVertex). cond (y.priority == suc p) 1 0) (dual_vertex x) (dual game), sum_by-cons (λ (y : GameVertex). cond (y.priority == p) 1 0) x game, same) (omega arith)
+    rw (
+      sum_by-cons (λ (y : GameVertex). cond (y.priority == suc p) 1 0) (dual_vertex x) (dual game),
+      sum_by-cons (λ (y : GameVertex). cond (y.priority == p) 1 0) x game,
+      same,
+    ) (omega arith)
 
 none_at_zero : (game : List GameVertex) → vertices_of (dual game) 0 ≡ 0
 none_at_zero [] = refl

@@ -1,6 +1,7 @@
 -- The order of lists, of measures, and of rows.
 use Rattle.std.specs.Prelude.{MatchBool}
-use Rattle.std.proofs.Common.{◌≡◌, ℕ, zero, suc, ◌+◌, ◌<◌, ◌≤◌, Bool, true, false, Some, None, List, [], ◌∷◌, length, take, refl, ◌∙◌, ap, ◌⊎◌, inl, inr, arith, add-one}
+use Rattle.std.proofs.Common.{◌≡◌, ℕ, zero, suc, ◌+◌, ◌<◌, ◌≤◌, Bool, true, false, Some, None, List, [], ◌∷◌, length, take, refl, ◌∙◌, ap}
+use Rattle.std.proofs.Common.{◌⊎◌, inl, inr, arith, add-one}
 use Rattle.std.proofs.lemmas.Bool.{cases_lt}
 use Rattle.pg_measure.proofs.Rows.{at_most_itself}
 use Rattle.pg_measure.specs.Measures.{MeasureValue, ListBelow, ListAtMost, AtMost, IsBelow, CoversFront}
@@ -39,7 +40,8 @@ at_most_both (x ∷ xs) (y ∷ ys) (inl l) (inr m) = let q = m.0 in absurd (omeg
 at_most_both (x ∷ xs) (y ∷ ys) (inr l) (inl m) = let q = l.0 in absurd (omega arith)
 at_most_both (x ∷ xs) (y ∷ ys) (inr l) (inr m) = let q = l.0 in let r = at_most_both xs ys l.1 m.1 in cc
 
-below_or_first : (x y : ℕ) (xs ys : List ℕ) → (x < y) ⊎ (y ≤ x) → (y < x) ⊎ (x ≤ y) → ListBelow xs ys ⊎ ListAtMost ys xs → ListBelow (x ∷ xs) (y ∷ ys) ⊎ ListAtMost (y ∷ ys) (x ∷ xs)
+below_or_first : (x y : ℕ) (xs ys : List ℕ) → (x < y) ⊎ (y ≤ x) → (y < x) ⊎ (x ≤ y) → ListBelow xs ys ⊎ ListAtMost ys xs
+    → ListBelow (x ∷ xs) (y ∷ ys) ⊎ ListAtMost (y ∷ ys) (x ∷ xs)
 below_or_first x y xs ys (inl l) k h = inl (inl l)
 below_or_first x y xs ys (inr l) (inl k) h = inr (inl k)
 below_or_first x y xs ys (inr l) (inr k) (inl h) = inl (inr (omega arith, h))
@@ -86,10 +88,13 @@ front_suc k (suc m ∷ xs) (zero ∷ ys) (inl l) p q = omega arith
 front_suc k (suc m ∷ xs) (zero ∷ ys) (inr h) p q = let e = h.0 in omega arith
 front_suc k (suc m ∷ xs) (suc n ∷ ys) h p q = tt
 
-pub front_row : (k : ℕ) (a b : List ℕ) → ListAtMost (take (k + 1) a) (take (k + 1) b) → k < length a → k < length b → FrontAtMost k (measure_of a) (measure_of b)
+pub front_row : (k : ℕ) (a b : List ℕ) → ListAtMost (take (k + 1) a) (take (k + 1) b) → k < length a → k < length b
+    → FrontAtMost k (measure_of a) (measure_of b)
 front_row k a b h p q = front_suc k a b (rw add-one at h) p q
 
-pub front_rows : (r : Bool) (k : ℕ) (a b : List ℕ) → k < length a → k < length b → MatchBool r (ListBelow (take (k + 1) a) (take (k + 1) b)) (ListAtMost (take (k + 1) b) (take (k + 1) a)) → MatchBool r (FrontAtMost k (measure_of a) (measure_of b)) (FrontAtMost k (measure_of b) (measure_of a))
+pub front_rows : (r : Bool) (k : ℕ) (a b : List ℕ) → k < length a → k < length b
+    → MatchBool r (ListBelow (take (k + 1) a) (take (k + 1) b)) (ListAtMost (take (k + 1) b) (take (k + 1) a))
+    → MatchBool r (FrontAtMost k (measure_of a) (measure_of b)) (FrontAtMost k (measure_of b) (measure_of a))
 front_rows true k a b p q h = front_row k a b (below_at_most _ _ h) p q
 front_rows false k a b p q h = front_row k b a h q p
 

@@ -1,5 +1,6 @@
 -- Lists of components: clearing and raising them gives the least list.
-use Rattle.std.proofs.Common.{◌≡◌, ℕ, zero, suc, ◌+◌, ◌-◌, ◌<◌, ◌≤◌, List, [], ◌∷◌, ◌++◌, length, get_or, take, set, replicate, refl, ap, sym, ◌∙◌, ◌⊎◌, inl, inr, arith}
+use Rattle.std.proofs.Common.{◌≡◌, ℕ, zero, suc, ◌+◌, ◌-◌, ◌<◌, ◌≤◌, List, [], ◌∷◌, ◌++◌, length, get_or, take, set, replicate, refl, ap}
+use Rattle.std.proofs.Common.{sym, ◌∙◌, ◌⊎◌, inl, inr, arith}
 use Rattle.std.proofs.lemmas.Bool.{cases_lt}
 use Rattle.std.specs.Prelude.{Some, None}
 use Rattle.pg_measure.specs.Measures.{BoundList, MeasureValue, ListFits, Fits, zeros, ListBelow, ListAtMost, AtMost}
@@ -81,7 +82,8 @@ cleared_least (suc k) (x ∷ xs) (y ∷ ys) e (inl l) = inl l
 cleared_least (suc k) (x ∷ xs) (y ∷ ys) e (inr h) = inr (h.0, cleared_least k xs ys (omega arith) h.1)
 
 -- above full components there is nothing
-pub none_above : (k : ℕ) (bs : BoundList) (xs ys : List ℕ) → ListFits bs xs → ListFits bs ys → ((i : ℕ) → i < k → (get_or bs i (0, 0)).1 ≤ get_or xs i 0) → ListBelow (take k xs) (take k ys) → ⊥
+pub none_above : (k : ℕ) (bs : BoundList) (xs ys : List ℕ) → ListFits bs xs → ListFits bs ys
+    → ((i : ℕ) → i < k → (get_or bs i (0, 0)).1 ≤ get_or xs i 0) → ListBelow (take k xs) (take k ys) → ⊥
 none_above zero bs xs ys f g full h = h
 none_above (suc k) [] [] [] f g full h = h
 none_above (suc k) [] [] (y ∷ ys) f g full h = g
@@ -95,7 +97,8 @@ raised_step : (x y : ℕ) (xs ys : List ℕ) → (x + 1 < y) ⊎ (y ≤ x + 1) �
 raised_step x y xs ys (inl h) l e = inl h
 raised_step x y xs ys (inr h) l e = inr (omega arith, zeros_least xs ys e)
 
-pub raised_least : (j k : ℕ) (bs : BoundList) (xs ys : List ℕ) → ListFits bs xs → ListFits bs ys → ((i : ℕ) → j < i → i < k → (get_or bs i (0, 0)).1 ≤ get_or xs i 0) → ListBelow (take k xs) (take k ys) → ListAtMost (raised j xs) ys
+pub raised_least : (j k : ℕ) (bs : BoundList) (xs ys : List ℕ) → ListFits bs xs → ListFits bs ys
+    → ((i : ℕ) → j < i → i < k → (get_or bs i (0, 0)).1 ≤ get_or xs i 0) → ListBelow (take k xs) (take k ys) → ListAtMost (raised j xs) ys
 raised_least j k bs [] ys f g full h = tt
 raised_least j zero bs (x ∷ xs) ys f g full h = absurd h
 raised_least j (suc k) bs (x ∷ xs) [] f g full h = absurd h
@@ -103,9 +106,11 @@ raised_least j (suc k) [] (x ∷ xs) (y ∷ ys) f g full h = absurd f
 raised_least zero (suc k) (b ∷ bs) (x ∷ xs) (y ∷ ys) f g full (inl l) =
     let e : length xs ≡ length ys = same_length bs xs f.1 ∙ sym (same_length bs ys g.1) in
     raised_step x y xs ys (cases_lt (x + 1) y) l e
-raised_least zero (suc k) (b ∷ bs) (x ∷ xs) (y ∷ ys) f g full (inr h) = absurd (none_above k bs xs ys f.1 g.1 (λ i l. full (suc i) (omega arith) (omega arith)) h.1)
+raised_least zero (suc k) (b ∷ bs) (x ∷ xs) (y ∷ ys) f g full (inr h) =
+    absurd (none_above k bs xs ys f.1 g.1 (λ i l. full (suc i) (omega arith) (omega arith)) h.1)
 raised_least (suc j) (suc k) (b ∷ bs) (x ∷ xs) (y ∷ ys) f g full (inl l) = inl l
-raised_least (suc j) (suc k) (b ∷ bs) (x ∷ xs) (y ∷ ys) f g full (inr h) = inr (h.0, raised_least j k bs xs ys f.1 g.1 (λ i l m. full (suc i) (omega arith) (omega arith)) h.1)
+raised_least (suc j) (suc k) (b ∷ bs) (x ∷ xs) (y ∷ ys) f g full (inr h) =
+    inr (h.0, raised_least j k bs xs ys f.1 g.1 (λ i l m. full (suc i) (omega arith) (omega arith)) h.1)
 
 pub zeros_fit : (bs : BoundList) → ListFits bs (replicate (length bs) 0)
 zeros_fit [] = tt
@@ -123,7 +128,8 @@ zero_least bs None f = tt
 zero_least bs (Some ys) f = zeros_at_most bs ys f
 
 -- the list fits if each component is within its bound
-pub fits_each : (bs : BoundList) (xs : List ℕ) → length xs ≡ length bs → ((k : ℕ) (d : ℕ × ℕ) → k < length xs → get_or xs k 0 ≤ (get_or bs k d).1) → ListFits bs xs
+pub fits_each : (bs : BoundList) (xs : List ℕ) → length xs ≡ length bs
+    → ((k : ℕ) (d : ℕ × ℕ) → k < length xs → get_or xs k 0 ≤ (get_or bs k d).1) → ListFits bs xs
 fits_each [] [] e h = tt
 fits_each [] (x ∷ xs) e h = absurd (omega arith)
 fits_each (b ∷ bs) [] e h = absurd (omega arith)

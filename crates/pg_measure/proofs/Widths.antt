@@ -31,7 +31,9 @@ by_priority_none (b ∷ bs) p [] h = refl
 by_priority_none (b ∷ bs) p (x ∷ xs) h =
     rw (nat_le_no p b.0 (h 0 b (omega arith))) (by_priority_none bs p xs (λ k d l. h (suc k) d (omega arith)))
 
-first_by_priority : (b : ℕ × ℕ) (bs : BoundList) (p x : ℕ) (xs : List ℕ) → AllPairs (λ b c. c.0 < b.0) (b ∷ bs) → (p ≤ b.0) ⊎ (b.0 < p) → components_from bs p xs ≡ components_by_priority bs p xs → components_from (b ∷ bs) p (x ∷ xs) ≡ components_by_priority (b ∷ bs) p (x ∷ xs)
+first_by_priority : (b : ℕ × ℕ) (bs : BoundList) (p x : ℕ) (xs : List ℕ) → AllPairs (λ b c. c.0 < b.0) (b ∷ bs) → (p ≤ b.0) ⊎ (b.0 < p)
+    → components_from bs p xs ≡ components_by_priority bs p xs
+    → components_from (b ∷ bs) p (x ∷ xs) ≡ components_by_priority (b ∷ bs) p (x ∷ xs)
 first_by_priority b bs p x xs f (inl l) e = rw (width_in b bs p l, nat_le_yes p b.0 l) (ap (λ t. x ∷ t) e)
 first_by_priority b bs p x xs f (inr l) e =
     let below : All (λ c. c.0 < p) bs = λ k d m. let q = f 0 (suc k) d (omega arith) (omega arith) in omega arith in
@@ -53,7 +55,8 @@ components_are_first (b ∷ bs) p (x ∷ xs) f =
     (components_are_first bs p xs (λ i j d l m. f (suc i) (suc j) d (omega arith) (omega arith)))
 
 -- those before i are at least p, and the others are less
-pub width_is : (bs : BoundList) (p i : ℕ) → i ≤ length bs → ((k : ℕ) (d : ℕ × ℕ) → k < i → p ≤ (get_or bs k d).0) → ((k : ℕ) (d : ℕ × ℕ) → i ≤ k → k < length bs → (get_or bs k d).0 < p) → i ≡ width_from bs p
+pub width_is : (bs : BoundList) (p i : ℕ) → i ≤ length bs → ((k : ℕ) (d : ℕ × ℕ) → k < i → p ≤ (get_or bs k d).0)
+    → ((k : ℕ) (d : ℕ × ℕ) → i ≤ k → k < length bs → (get_or bs k d).0 < p) → i ≡ width_from bs p
 width_is [] p i l h n = omega arith
 width_is (b ∷ bs) p zero l h n = sym (width_none (b ∷ bs) p (λ k d m. n k d (omega arith) m))
 width_is (b ∷ bs) p (suc i) l h n =
@@ -67,7 +70,8 @@ at_least_from p q e = grind (arith, nat_tests)
 pub less_from : (p q : ℕ) → nat_le p q ≡ false → q < p
 less_from p q e = grind (arith, nat_tests)
 
-falls_within : (bs : BoundList) (p i j : ℕ) (d : ℕ × ℕ) → AllPairs (λ b c. c.0 < b.0) bs → (i < j) ⊎ (j ≤ i) → i ≤ j → j < length bs → nat_le p (get_or bs j d).0 ≡ true → nat_le p (get_or bs i d).0 ≡ true
+falls_within : (bs : BoundList) (p i j : ℕ) (d : ℕ × ℕ) → AllPairs (λ b c. c.0 < b.0) bs → (i < j) ⊎ (j ≤ i) → i ≤ j → j < length bs
+    → nat_le p (get_or bs j d).0 ≡ true → nat_le p (get_or bs i d).0 ≡ true
 falls_within bs p i j d f (inl h) l m t = let a = at_least_from p (get_or bs j d).0 t in let b = f i j d h m in nat_le_yes p (get_or bs i d).0 (omega arith)
 falls_within bs p i j d f (inr h) l m t = let e : j ≡ i = omega arith in rw e at t
 

@@ -1,5 +1,6 @@
 -- Progress measures over bounds: their order, and when one covers another.
-use Rattle.std.specs.Prelude.{◌≡◌, ℕ, ◌%◌, ◌<◌, ◌≤◌, Bool, ◌==◌, nat_le, ◌⊎◌, List, [], ◌∷◌, length, replicate, take, count_by, All, AllPairs, Option, Some, None, MatchBool, option_map}
+use Rattle.std.specs.Prelude.{◌≡◌, ℕ, ◌%◌, ◌<◌, ◌≤◌, Bool, ◌==◌, nat_le, ◌⊎◌, List, [], ◌∷◌, length, replicate, take, count_by, All}
+use Rattle.std.specs.Prelude.{AllPairs, Option, Some, None, MatchBool, option_map}
 use Rattle.std.specs.declared.cmp.Ordering.{Ordering}
 use Rattle.std.specs.declared.cmp.Ordering.TheVariants.{Less, Equal, Greater}
 use Rattle.std.specs.Ordering.{nat_cmp}

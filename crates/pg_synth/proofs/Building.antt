@@ -1,5 +1,6 @@
 -- The builder takes each line of the game, if these are within its limits.
-use Rattle.std.proofs.Common.{◌≡◌, ℕ, ◌<◌, ◌≤◌, false, eqb, List, [], ◌∷◌, length, map, get_or, take, Option, Some, None, Result, Ok, Err, arith, refl, sym, ap, subst, ◌∙◌, ◌||◌}
+use Rattle.std.proofs.Common.{◌≡◌, ℕ, ◌<◌, ◌≤◌, false, eqb, List, [], ◌∷◌, length, map, get_or, take, Option, Some, None, Result, Ok, Err}
+use Rattle.std.proofs.Common.{arith, refl, sym, ap, subst, ◌∙◌, ◌||◌}
 use Rattle.std.specs.Prelude.{IfErr}
 use Rattle.std.specs.List.{Contains, sum_by}
 use Rattle.std.specs.List.Sorted.{IsStrictlyIncreasing}
@@ -9,7 +10,8 @@ use Rattle.std.proofs.lemmas.List.Sums.{sum_by-cons, sum_by_more_le}
 use Rattle.std.proofs.lemmas.Map.Keys.{sorted_from_strictly_increasing, below_from_sorted}
 use Rattle.pg_arena.specs.declared.player.Player.{Player}
 use Rattle.pg_arena.specs.declared.fault.ArenaFault.{ArenaFault}
-use Rattle.pg_arena.specs.declared.fault.ArenaFault.TheVariants.{OutOfMemory, DuplicateVertex, NoSuccessor, UnknownSuccessor, TooManyVertices, TooManyEdges, PriorityTooLarge, NoVertex}
+use Rattle.pg_arena.specs.declared.fault.ArenaFault.TheVariants.{OutOfMemory, DuplicateVertex, NoSuccessor, UnknownSuccessor}
+use Rattle.pg_arena.specs.declared.fault.ArenaFault.TheVariants.{TooManyVertices, TooManyEdges, PriorityTooLarge, NoVertex}
 use Rattle.pg_arena.specs.Games.{GameVertex, edge_count}
 use Rattle.pg_arena.specs.Lines.{counted, is_named, add_fault, Answers}
 use Rattle.std.proofs.lemmas.Bool.Decides.{nat_tests}
@@ -89,22 +91,26 @@ pub memory_only : (T : Type 0) (fault : ArenaFault) (reason : Option ArenaFault)
 memory_only T OutOfMemory reason e h = refl
 memory_only T _ reason e h = absurd (let w = sym h ∙ e in cc w)
 
-pub memory_result : (T : Type 0) (r : Result T ArenaFault) (reason : Option ArenaFault) → reason ≡ None → Answers r reason → IfErr r (λ fault. fault ≡ OutOfMemory)
+pub memory_result : (T : Type 0) (r : Result T ArenaFault) (reason : Option ArenaFault) → reason ≡ None → Answers r reason
+    → IfErr r (λ fault. fault ≡ OutOfMemory)
 memory_result T (Ok x) reason e h = tt
 memory_result T (Err fault) reason e h = memory_only T fault reason e h
 
 -- ---- what is added is the line
 
-pub place_at : (a : Automaton) (layout : Layout) (sets n : ℕ) (x : Place) → IsLayoutOf a layout → sets ≡ a.sets → x ≡ place_with sets layout.width n → x ≡ place_in a n
+pub place_at : (a : Automaton) (layout : Layout) (sets n : ℕ) (x : Place) → IsLayoutOf a layout → sets ≡ a.sets
+    → x ≡ place_with sets layout.width n → x ≡ place_in a n
 place_at a layout sets n x laid e h = h ∙ ap (λ s. place_with s layout.width n) e ∙ ap (λ w. place_with a.sets w n) laid.width
 
-pub is_place : (a : Automaton) (layout : Layout) (ids : List ℕ) (sets k : ℕ) (x : Place) → IsLayoutOf a layout → ids ≡ game_identifiers a → k < length ids → sets ≡ a.sets
+pub is_place : (a : Automaton) (layout : Layout) (ids : List ℕ) (sets k : ℕ) (x : Place) → IsLayoutOf a layout → ids ≡ game_identifiers a
+    → k < length ids → sets ≡ a.sets
     → x ≡ place_with sets layout.width (get_or ids k 0) → IsPlaceOf a x
 is_place a layout ids sets k x laid e lt s h =
     subst (IsPlaceOf a) (sym (place_at a layout sets (get_or ids k 0) x laid s h))
     (place_listed a (get_or ids k 0) laid.automaton (subst (λ (xs : List ℕ). Contains xs (get_or ids k 0)) e (Contains-get_or ids k 0 lt)))
 
-pub listed_place : (a : Automaton) (ids : List ℕ) (k : ℕ) → IsAutomaton a → ids ≡ game_identifiers a → k < length ids → IsPlaceOf a (place_in a (get_or ids k 0))
+pub listed_place : (a : Automaton) (ids : List ℕ) (k : ℕ) → IsAutomaton a → ids ≡ game_identifiers a → k < length ids
+    → IsPlaceOf a (place_in a (get_or ids k 0))
 listed_place a ids k is e lt = place_listed a (get_or ids k 0) is (subst (λ (xs : List ℕ). Contains xs (get_or ids k 0)) e (Contains-get_or ids k 0 lt))
 
 pub line_is : (a : Automaton) (n priority : ℕ) (owner : Player) (successors : List ℕ) (name : Option (List ℕ)) (x : Place) → x ≡ place_in a n

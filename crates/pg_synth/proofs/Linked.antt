@@ -1,5 +1,6 @@
 -- Each automaton has a game: that of its lines, each identifier in them replaced by its place.
-use Rattle.std.proofs.Common.{◌≡◌, ℕ, suc, ◌+◌, ◌<◌, ◌≤◌, true, false, cond, eqb, List, [], ◌∷◌, length, map, get_or, arith, refl, sym, subst, ap, inl, inr, ◌∙◌, All}
+use Rattle.std.proofs.Common.{◌≡◌, ℕ, suc, ◌+◌, ◌<◌, ◌≤◌, true, false, cond, eqb, List, [], ◌∷◌, length, map, get_or, arith, refl, sym}
+use Rattle.std.proofs.Common.{subst, ap, inl, inr, ◌∙◌, All}
 use Rattle.std.specs.Prelude.{slice_index}
 use Rattle.std.specs.List.{Contains, sum_by}
 use Rattle.std.specs.List.Sorted.{IsStrictlyIncreasing, IsPermutation}
@@ -154,7 +155,13 @@ linked_is a is =
 count_edges : (a : Automaton) (ns : List ℕ) → edge_count (map (linked a) ns) ≡ sum_by (edges_of a) ns
 count_edges a [] = refl
 count_edges a (n ∷ ns) =
-    omega (arith, sum_by-cons (λ (x : GameVertex). length x.successors) (linked a n) (map (linked a) ns), sum_by-cons (edges_of a) n ns, length-map (rising (leads a (place_in a n))) (place_among (game_identifiers a)), count_edges a ns)
+    omega (
+      arith,
+      sum_by-cons (λ (x : GameVertex). length x.successors) (linked a n) (map (linked a) ns),
+      sum_by-cons (edges_of a) n ns,
+      length-map (rising (leads a (place_in a n))) (place_among (game_identifiers a)),
+      count_edges a ns,
+    )
 
 pub vertices_are : (a : Automaton) → length (linked_game a) ≡ length (game_identifiers a)
 vertices_are a = length-map (game_identifiers a) (linked a)

@@ -30,7 +30,8 @@ range_contained f n i lt = contains_mapped f (range_with_len 0 n) i (range_conta
 pub pushed : (f : ℕ → ℕ) (base before after : List ℕ) (i v : ℕ) → before ≡ base ++ map f (range_with_len 0 i) → after ≡ before ++ v ∷ [] → v ≡ f i
     → after ≡ base ++ map f (range_with_len 0 (i + 1))
 pushed f base before after i v e d is =
-    d ∙ rw (e, is) (append_assoc base (map f (range_with_len 0 i)) (f i ∷ []) ∙ ap (λ (xs : List ℕ). base ++ xs) (sym (map-range_with_len_more f 0 i i (omega arith))))
+    d ∙ rw (e, is) (append_assoc base (map f (range_with_len 0 i)) (f i ∷ [])
+    ∙ ap (λ (xs : List ℕ). base ++ xs) (sym (map-range_with_len_more f 0 i i (omega arith))))
 
 pub flat_more : (f : ℕ → List ℕ) (base before after : List ℕ) (i : ℕ) → before ≡ base ++ flat_map f (range_with_len 0 i) → after ≡ before ++ f i
     → after ≡ base ++ flat_map f (range_with_len 0 (i + 1))
@@ -38,4 +39,5 @@ flat_more f base before after i e d =
     d ∙ rw e (flat_map_more f base (range_with_len 0 i) i ∙ ap (λ (xs : List ℕ). base ++ flat_map f xs) (sym more))
   where
     more : range_with_len 0 (i + 1) ≡ range_with_len 0 i ++ i ∷ []
-    more = sym (map-id (range_with_len 0 (i + 1))) ∙ map-range_with_len_more (λ x. x) 0 i i (omega arith) ∙ ap (λ (xs : List ℕ). xs ++ i ∷ []) (map-id (range_with_len 0 i))
+    more = sym (map-id (range_with_len 0 (i + 1))) ∙ map-range_with_len_more (λ x. x) 0 i i (omega arith)
+        ∙ ap (λ (xs : List ℕ). xs ++ i ∷ []) (map-id (range_with_len 0 i))

@@ -1,5 +1,6 @@
 -- Identifiers tell places apart, and those of the game are the listed ones.
-use Rattle.std.proofs.Common.{◌≡◌, ℕ, ◌+◌, ◌*◌, ◌-◌, ◌/◌, ◌%◌, ◌^◌, ◌<◌, inl, inr, true, false, eqb, leb, List, [], ◌∷◌, map, length, Option, Some, None, arith, refl, sym, subst, ap, ◌∙◌}
+use Rattle.std.proofs.Common.{◌≡◌, ℕ, ◌+◌, ◌*◌, ◌-◌, ◌/◌, ◌%◌, ◌^◌, ◌<◌, inl, inr, true, false, eqb, leb, List, [], ◌∷◌, map, length}
+use Rattle.std.proofs.Common.{Option, Some, None, arith, refl, sym, subst, ap, ◌∙◌}
 use Rattle.std.specs.List.{Contains, All, flat_map, range_with_len}
 use Rattle.std.specs.List.Sorted.{IsStrictlyIncreasing}
 use Rattle.std.proofs.lemmas.Bool.{ne_eqb, le-leb, lt-leb}
@@ -130,10 +131,12 @@ listed a x h = contains_rising (all_identifiers a) (place_identifier a x) (go x 
         (contains_here start (flat_map (added_by a) (range_with_len 0 a.states))))
     go (Arrival q set) (inr (p, letter, lp, ll, e)) = subst (λ y. Contains (all_identifiers a) (place_identifier a y)) (sym e)
         (added p (target a p letter) lp
-        (Contains-append_left (map (target a p) (range_with_len 0 (letters a))) (map (λ i. place_identifier a (Answer p i)) (range_with_len 0 (input_letters a))) (target a p letter)
+        (Contains-append_left (map (target a p) (range_with_len 0 (letters a)))
+        (map (λ i. place_identifier a (Answer p i)) (range_with_len 0 (input_letters a))) (target a p letter)
         (range_contained (target a p) (letters a) letter ll)))
     go (Answer q i) h = added q (place_identifier a (Answer q i)) h.0
-        (Contains-append_right (map (target a q) (range_with_len 0 (letters a))) (map (λ i. place_identifier a (Answer q i)) (range_with_len 0 (input_letters a))) (place_identifier a (Answer q i))
+        (Contains-append_right (map (target a q) (range_with_len 0 (letters a)))
+        (map (λ i. place_identifier a (Answer q i)) (range_with_len 0 (input_letters a))) (place_identifier a (Answer q i))
         (range_contained (λ i. place_identifier a (Answer q i)) (input_letters a) i h.1))
 
 abbrev pub IsOf : Automaton → ℕ → Type 0
@@ -157,14 +160,15 @@ only_listed a n c = elim (contains_cases 0 (start ∷ others) n (rising_contains
     others = flat_map (added_by a) (range_with_len 0 a.states)
 
     from_state : (q : ℕ) → q < a.states → Contains (added_by a q) n → IsOf a n
-    from_state q l c = elim (Contains-append_cases (map (target a q) (range_with_len 0 (letters a))) (map (λ i. place_identifier a (Answer q i)) (range_with_len 0 (input_letters a))) n c) [
-      | inl h ↦
-          let p = contains_from_range (target a q) (letters a) n h in
-          (arrival_of a.shape (next a q p.0), reached a q p.0 l p.1, p.2)
-      | inr h ↦
-          let p = contains_from_range (λ i. place_identifier a (Answer q i)) (input_letters a) n h in
-          (Answer q p.0, (l, p.1), p.2)
-    ]
+    from_state q l c = elim (Contains-append_cases (map (target a q) (range_with_len 0 (letters a)))
+        (map (λ i. place_identifier a (Answer q i)) (range_with_len 0 (input_letters a))) n c) [
+          | inl h ↦
+              let p = contains_from_range (target a q) (letters a) n h in
+              (arrival_of a.shape (next a q p.0), reached a q p.0 l p.1, p.2)
+          | inr h ↦
+              let p = contains_from_range (λ i. place_identifier a (Answer q i)) (input_letters a) n h in
+              (Answer q p.0, (l, p.1), p.2)
+        ]
 
 -- ---- where places lead
 

@@ -1,5 +1,6 @@
 -- Sets are ranked by the priorities of their arrivals, as the shape looks at them.
-use Rattle.std.proofs.Common.{◌≡◌, ◌↔◌, ℕ, zero, suc, ◌+◌, ◌%◌, ◌<◌, ◌≤◌, ◌⊎◌, inl, inr, Bool, true, false, List, [], ◌∷◌, Some, None, length, arith, refl, sym, subst, ◌∙◌}
+use Rattle.std.proofs.Common.{◌≡◌, ◌↔◌, ℕ, zero, suc, ◌+◌, ◌%◌, ◌<◌, ◌≤◌, ◌⊎◌, inl, inr, Bool, true, false, List, [], ◌∷◌, Some, None}
+use Rattle.std.proofs.Common.{length, arith, refl, sym, subst, ◌∙◌}
 use Rattle.std.specs.List.{Contains, slice_index}
 use Rattle.std.proofs.lemmas.List.Kept.{AllPairs-from_increasing}
 use Rattle.pg_lists.proofs.Contained.{Rises, contains_none, contains_here, contains_later, contains_cases, pairs_head, pairs_tail}

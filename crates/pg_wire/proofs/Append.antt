@@ -1,5 +1,6 @@
 -- Bytes that are appended one after the other.
-use Rattle.std.proofs.Common.{◌≡◌, ℕ, ◌+◌, ◌^◌, ◌<◌, ◌≤◌, List, [], ◌∷◌, ◌++◌, length, take, get_or, refl, sym, ap, subst, ◌∙◌, Option, Some, None, append_assoc, arith}
+use Rattle.std.proofs.Common.{◌≡◌, ℕ, ◌+◌, ◌^◌, ◌<◌, ◌≤◌, List, [], ◌∷◌, ◌++◌, length, take, get_or, refl, sym, ap, subst, ◌∙◌, Option}
+use Rattle.std.proofs.Common.{Some, None, append_assoc, arith}
 use Rattle.std.specs.List.{flat_map}
 use Rattle.std.specs.Prelude.{Result, Ok, Err, OnOk}
 use Rattle.std.proofs.lemmas.List.{append-nil, take_more, length-append}
@@ -29,15 +30,20 @@ pub one_more : {T : Type 0} (spelled : T → List ℕ) (items : List T) (i : ℕ
     → Appends a b (flat_map spelled (take i items)) → Appends b c (spelled item) → Appends a c (flat_map spelled (take (i + 1) items))
 one_more {T} spelled items i item a b c lt e p q =
     let parts : take (i + 1) items ≡ take i items ++ item ∷ [] = take_more items i item lt ∙ ap (λ (t : T). take i items ++ t ∷ []) (sym e) in
-    let spelt : flat_map spelled (take (i + 1) items) ≡ flat_map spelled (take i items) ++ spelled item = ap (flat_map spelled) parts ∙ flat_map-append spelled (take i items) (item ∷ []) ∙ ap (λ (t : List ℕ). flat_map spelled (take i items) ++ t) (flat_map-cons spelled item [] ∙ append-nil (spelled item)) in
+    let spelt : flat_map spelled (take (i + 1) items) ≡ flat_map spelled (take i items) ++ spelled item = ap (flat_map spelled) parts
+    ∙ flat_map-append spelled (take i items) (item ∷ []) ∙ ap (λ (t : List ℕ). flat_map spelled (take i items) ++ t)
+    (flat_map-cons spelled item [] ∙ append-nil (spelled item)) in
     rw spelt (then a b c (flat_map spelled (take i items)) (spelled item) p q)
 
 -- room for one item more
 pub one_fits : {T : Type 0} (spelled : T → List ℕ) (items : List T) (i : ℕ) (item : T) (left left' room : ℕ) → i < length items → item ≡ get_or items i item
-    → left + length (flat_map spelled (take i items)) ≡ room → left' + length (spelled item) ≡ left → left' + length (flat_map spelled (take (i + 1) items)) ≡ room
+    → left + length (flat_map spelled (take i items)) ≡ room → left' + length (spelled item) ≡ left
+    → left' + length (flat_map spelled (take (i + 1) items)) ≡ room
 one_fits {T} spelled items i item left left' room lt e p q =
     let parts : take (i + 1) items ≡ take i items ++ item ∷ [] = take_more items i item lt ∙ ap (λ (t : T). take i items ++ t ∷ []) (sym e) in
-    let spelt : flat_map spelled (take (i + 1) items) ≡ flat_map spelled (take i items) ++ spelled item = ap (flat_map spelled) parts ∙ flat_map-append spelled (take i items) (item ∷ []) ∙ ap (λ (t : List ℕ). flat_map spelled (take i items) ++ t) (flat_map-cons spelled item [] ∙ append-nil (spelled item)) in
+    let spelt : flat_map spelled (take (i + 1) items) ≡ flat_map spelled (take i items) ++ spelled item = ap (flat_map spelled) parts
+    ∙ flat_map-append spelled (take i items) (item ∷ []) ∙ ap (λ (t : List ℕ). flat_map spelled (take i items) ++ t)
+    (flat_map-cons spelled item [] ∙ append-nil (spelled item)) in
     rw spelt (omega (arith, length-append (flat_map spelled (take i items)) (spelled item)))
 
 pub none_fits : {T : Type 0} (spelled : T → List ℕ) (items : List T) (i : ℕ) (item : T) (left room : ℕ) → i < length items → item ≡ get_or items i item
@@ -54,9 +60,16 @@ has_length (b ∷ bytes) h = omega arith
 -- no more items than bytes
 pub few : {T : Type 0} (spelled : T → List ℕ) (xs : List T) → ((x : T) → HasBytes (spelled x)) → length xs ≤ length (flat_map spelled xs)
 few spelled [] some = omega arith
-few spelled (x ∷ xs) some = omega (arith, has_length (spelled x) (some x), few spelled xs some, ap length (flat_map-cons spelled x xs), length-append (spelled x) (flat_map spelled xs))
+few spelled (x ∷ xs) some = omega (
+  arith,
+  has_length (spelled x) (some x),
+  few spelled xs some,
+  ap length (flat_map-cons spelled x xs),
+  length-append (spelled x) (flat_map spelled xs),
+)
 
-pub one_of : {T : Type 0} (spelled : T → List ℕ) (items : List T) (i : ℕ) (item : T) (most : ℕ) → i < length items → item ≡ get_or items i item → length (flat_map spelled items) < most → length (spelled item) < most
+pub one_of : {T : Type 0} (spelled : T → List ℕ) (items : List T) (i : ℕ) (item : T) (most : ℕ) → i < length items
+    → item ≡ get_or items i item → length (flat_map spelled items) < most → length (spelled item) < most
 one_of {T} spelled items i item most lt e p =
     let all = length-flat_map-take spelled items i item lt in
     let same : length (spelled (get_or items i item)) ≡ length (spelled item) = ap (λ (t : T). length (spelled t)) (sym e) in

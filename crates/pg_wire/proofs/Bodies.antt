@@ -1,5 +1,6 @@
 -- The bytes after a length give a frame exactly if they are its body and it is well.
-use Rattle.std.proofs.Common.{◌≡◌, ℕ, suc, ◌≤◌, cond, List, [], ◌∷◌, ◌++◌, length, take, drop, Result, Ok, Err, refl, sym, ap, subst, ◌∙◌, append_assoc, arith, inl, inr}
+use Rattle.std.proofs.Common.{◌≡◌, ℕ, suc, ◌≤◌, cond, List, [], ◌∷◌, ◌++◌, length, take, drop, Result, Ok, Err, refl, sym, ap, subst, ◌∙◌}
+use Rattle.std.proofs.Common.{append_assoc, arith, inl, inr}
 use Rattle.std.specs.Prelude.{◌==◌}
 use Rattle.std.specs.Int.{w32, from_be_bytes}
 use Rattle.std.proofs.lemmas.Bool.{eqb-true, cases_Bool}
@@ -27,7 +28,8 @@ abbrev end : Frame × List ℕ → Result Frame FieldFault
 end f = cond (length f.1 == 0) (Ok f.0) (Err (At (length f.1)))
 
 -- fields that fill the bytes
-fields_found : {A : Type 0} (spelled : A → List ℕ) (Fits : A → Type 0) (read : Reader A) (make : A → Frame) (bytes : List ℕ) (f : Frame) → IsForm spelled Fits read → IsBytes bytes
+fields_found : {A : Type 0} (spelled : A → List ℕ) (Fits : A → Type 0) (read : Reader A) (make : A → Frame) (bytes : List ℕ) (f : Frame)
+    → IsForm spelled Fits read → IsBytes bytes
     → (made make read bytes >>= end) ≡ Ok f → (a : A) × (make a ≡ f) × (bytes ≡ spelled a) × Fits a
 fields_found {A} spelled Fits read make bytes f form h e =
     let p = bind_ok (made make read bytes) end f e in
@@ -52,7 +54,8 @@ abbrev IsFound : ℕ → List ℕ → Frame → Type 0
 IsFound kind bytes f = ((kind ∷ bytes) ≡ body f) × IsWell f
 
 -- a frame with these fields
-found_as : {A : Type 0} (spelled : A → List ℕ) (Fits : A → Type 0) (make : A → Frame) (k kind : ℕ) (bytes : List ℕ) (f : Frame) → ((a : A) → body (make a) ≡ k ∷ spelled a) → ((a : A) → Fits a → IsWell (make a))
+found_as : {A : Type 0} (spelled : A → List ℕ) (Fits : A → Type 0) (make : A → Frame) (k kind : ℕ) (bytes : List ℕ) (f : Frame)
+    → ((a : A) → body (make a) ≡ k ∷ spelled a) → ((a : A) → Fits a → IsWell (make a))
     → kind ≡ k → (a : A) × (make a ≡ f) × (bytes ≡ spelled a) × Fits a → IsFound kind bytes f
 found_as spelled Fits make k kind bytes f spelt well is r =
     (ap (λ (n : ℕ). n ∷ bytes) is ∙ ap (λ (t : List ℕ). k ∷ t) r.2 ∙ sym (spelt r.0) ∙ ap body r.1, subst IsWell r.1 (well r.0 r.3))
@@ -70,22 +73,31 @@ frame_found kind bytes f h e =
     let from_3 : Reader Frame = cond (kind == 3) (made frames.Values values_at) from_4 in
     let from_2 : Reader Frame = cond (kind == 2) (made frames.Vertices vertices_at) from_3 in
     if_kind G kind 1 (made frames.Setup setup_at) from_2 bytes f
-    (λ is r. found_as (λ s. s.version ∷ (word s.vertices ++ counted pair s.bounds)) IsSetup frames.Setup 1 kind bytes f (λ a. refl) (λ a w. w) is (fields_found (λ s. s.version ∷ (word s.vertices ++ counted pair s.bounds)) IsSetup setup_at frames.Setup bytes f setup_form h r))
+    (λ is r. found_as (λ s. s.version ∷ (word s.vertices ++ counted pair s.bounds)) IsSetup frames.Setup 1 kind bytes f (λ a. refl)
+    (λ a w. w) is (fields_found (λ s. s.version ∷
+    (word s.vertices ++ counted pair s.bounds)) IsSetup setup_at frames.Setup bytes f setup_form h r))
     (λ r. if_kind G kind 2 (made frames.Vertices vertices_at) from_3 bytes f
-    (λ is s. found_as (λ (v : Vertices). counted line v.lines) IsVertices frames.Vertices 2 kind bytes f (λ a. refl) (λ a w. w) is (fields_found (λ (v : Vertices). counted line v.lines) IsVertices vertices_at frames.Vertices bytes f vertices_form h s))
+    (λ is s. found_as (λ (v : Vertices). counted line v.lines) IsVertices frames.Vertices 2 kind bytes f (λ a. refl) (λ a w. w) is
+    (fields_found (λ (v : Vertices). counted line v.lines) IsVertices vertices_at frames.Vertices bytes f vertices_form h s))
     (λ s. if_kind G kind 3 (made frames.Values values_at) from_4 bytes f
-    (λ is t. found_as (λ (v : Values). word v.width ++ counted value v.values) IsValues frames.Values 3 kind bytes f (λ a. refl) (λ a w. w) is (fields_found (λ (v : Values). word v.width ++ counted value v.values) IsValues values_at frames.Values bytes f values_form h t))
+    (λ is t. found_as (λ (v : Values). word v.width ++ counted value v.values) IsValues frames.Values 3 kind bytes f (λ a. refl)
+    (λ a w. w) is (fields_found (λ
+    (v : Values). word v.width ++ counted value v.values) IsValues values_at frames.Values bytes f values_form h t))
     (λ t. if_kind G kind 4 (made frames.Go go_at) from_5 bytes f
-    (λ is u. found_as (λ (g : Go). word g.budget) (λ (g : Go). IsWord g.budget) frames.Go 4 kind bytes f (λ a. refl) (λ a w. w) is (fields_found (λ (g : Go). word g.budget) (λ (g : Go). IsWord g.budget) go_at frames.Go bytes f go_form h u))
+    (λ is u. found_as (λ (g : Go). word g.budget) (λ (g : Go). IsWord g.budget) frames.Go 4 kind bytes f (λ a. refl) (λ a w. w) is
+    (fields_found (λ (g : Go). word g.budget) (λ (g : Go). IsWord g.budget) go_at frames.Go bytes f go_form h u))
     (λ u. if_kind G kind 5 (made frames.Report report_at) from_6 bytes f
-    (λ is v. found_as (λ (r : Report). r.status ∷ r.code ∷ []) IsReport frames.Report 5 kind bytes f (λ a. refl) (λ a w. w) is (fields_found (λ (r : Report). r.status ∷ r.code ∷ []) IsReport report_at frames.Report bytes f report_form h v))
+    (λ is v. found_as (λ (r : Report). r.status ∷ r.code ∷ []) IsReport frames.Report 5 kind bytes f (λ a. refl) (λ a w. w) is
+    (fields_found (λ (r : Report). r.status ∷ r.code ∷ []) IsReport report_at frames.Report bytes f report_form h v))
     (λ v. if_kind G kind 6 halt from_7 bytes f
     (λ is w.
     let g = test_ok (length bytes == 0) (At (length bytes)) frames.Halt f w in
     let empty : bytes ≡ [] = nil_from_length bytes (eqb-true _ _ g.0) in
     subst (IsFound kind bytes) g.1 (ap (λ (n : ℕ). n ∷ bytes) is ∙ ap (λ (t : List ℕ). 6 ∷ t) empty, tt))
     (λ w. if_kind G kind 7 (made frames.Sparse sparse_at) none bytes f
-    (λ is x. found_as (λ (s : Sparse). word s.width ++ counted sparse_value s.values) IsSparse frames.Sparse 7 kind bytes f (λ a. refl) (λ a w. w) is (fields_found (λ (s : Sparse). word s.width ++ counted sparse_value s.values) IsSparse sparse_at frames.Sparse bytes f sparse_form h x))
+    (λ is x. found_as (λ (s : Sparse). word s.width ++ counted sparse_value s.values) IsSparse frames.Sparse 7 kind bytes f (λ a. refl)
+    (λ a w. w) is (fields_found (λ
+    (s : Sparse). word s.width ++ counted sparse_value s.values) IsSparse sparse_at frames.Sparse bytes f sparse_form h x))
     (λ x. absurd cc)
     w)
     v)
@@ -100,7 +112,8 @@ unfolding body_at
 body_found [] f h e = absurd cc
 body_found (kind ∷ bytes) f h e = frame_found kind bytes f (λ i. h (suc i)) e
 
-fields_again : {A : Type 0} (spelled : A → List ℕ) (Fits : A → Type 0) (read : Reader A) (make : A → Frame) (a : A) → IsForm spelled Fits read → Fits a → (made make read (spelled a) >>= end) ≡ Ok (make a)
+fields_again : {A : Type 0} (spelled : A → List ℕ) (Fits : A → Type 0) (read : Reader A) (make : A → Frame) (a : A)
+    → IsForm spelled Fits read → Fits a → (made make read (spelled a) >>= end) ≡ Ok (make a)
 fields_again spelled Fits read make a form h =
     let r : read (spelled a) ≡ Ok (a, []) = ap read (sym (append-nil (spelled a))) ∙ form.again a [] h in
     rw r refl
@@ -122,7 +135,8 @@ pub length_is : (f : Frame) → length (body f) ≤ longest → from_be_bytes w3
 length_is f within = from_be_bytes-to_be_bytes_4 (length (body f)) (omega arith)
 
 -- a length, and as many bytes, which give a frame
-pub whole_found : (bytes front rest : List ℕ) (f : Frame) → bytes ≡ front ++ rest → length front ≡ 4 → IsBytes front → length rest ≡ from_be_bytes w32 front → length rest ≤ longest → (rest ≡ body f) × IsWell f → Spells f bytes
+pub whole_found : (bytes front rest : List ℕ) (f : Frame) → bytes ≡ front ++ rest → length front ≡ 4 → IsBytes front
+    → length rest ≡ from_be_bytes w32 front → length rest ≤ longest → (rest ≡ body f) × IsWell f → Spells f bytes
 whole_found bytes front rest f e len small n within r =
     let size : from_be_bytes w32 front ≡ length (body f) = sym n ∙ ap length r.0 in
     let first : word (length (body f)) ≡ front = ap word (sym size) ∙ be_bytes_4 front _ len small refl in
@@ -157,14 +171,23 @@ same_body f g p q same = ok_is f g (sym (body_again f p) ∙ ap body_at same ∙
 pub no_front : (f g : Frame) (front more : List ℕ) → Spells f front → Spells g (front ++ more) → more ≡ []
 no_front f g front more p q =
     let joined : (word (length (body f)) ++ body f) ++ more ≡ word (length (body g)) ++ body g = ap (λ (t : List ℕ). t ++ more) (sym p.spelled) ∙ q.spelled in
-    let first : word (length (body f)) ≡ word (length (body g)) = sym (take_at (word (length (body f))) (body f ++ more) 4 refl) ∙ ap (take 4) (sym (append_assoc (word (length (body f))) (body f) more) ∙ joined) ∙ take_at (word (length (body g))) (body g) 4 refl in
+    let first : word (length (body f)) ≡ word (length (body g)) = sym (take_at (word (length (body f))) (body f ++ more) 4 refl)
+    ∙ ap (take 4) (sym (append_assoc (word (length (body f))) (body f) more) ∙ joined)
+    ∙ take_at (word (length (body g))) (body g) 4 refl in
     let n : length (body f) ≡ length (body g) = sym (length_is f p.within) ∙ ap (from_be_bytes w32) first ∙ length_is g q.within in
-    nil_from_length more (omega (arith, ap length joined, length-append (word (length (body f)) ++ body f) more, length-append (word (length (body f))) (body f), length-append (word (length (body g))) (body g)))
+    nil_from_length more (omega (
+      arith,
+      ap length joined,
+      length-append (word (length (body f)) ++ body f) more,
+      length-append (word (length (body f))) (body f),
+      length-append (word (length (body g))) (body g),
+    ))
 
 pub one_frame : (f g : Frame) (bytes : List ℕ) → Spells f bytes → Spells g bytes → f ≡ g
 one_frame f g bytes p q =
     let joined : word (length (body f)) ++ body f ≡ word (length (body g)) ++ body g = sym p.spelled ∙ q.spelled in
-    let same : body f ≡ body g = sym (drop_at (word (length (body f))) (body f) 4 refl) ∙ ap (drop 4) joined ∙ drop_at (word (length (body g))) (body g) 4 refl in
+    let same : body f ≡ body g = sym (drop_at (word (length (body f))) (body f) 4 refl) ∙ ap (drop 4) joined
+    ∙ drop_at (word (length (body g))) (body g) 4 refl in
     same_body f g p.well q.well same
 
 -- bytes that a reader refused are the body of no well frame

@@ -1,5 +1,6 @@
 -- Bytes that were read one after the other, and what reading a frame answers by them.
-use Rattle.std.proofs.Common.{◌≡◌, ℕ, ◌+◌, ◌<◌, ◌≤◌, ◌⊎◌, List, [], ◌++◌, length, take, drop, refl, sym, ap, subst, ◌∙◌, Option, Some, None, IfSome, Result, Ok, Err, append_assoc, arith, inl, inr}
+use Rattle.std.proofs.Common.{◌≡◌, ℕ, ◌+◌, ◌<◌, ◌≤◌, ◌⊎◌, List, [], ◌++◌, length, take, drop, refl, sym, ap, subst, ◌∙◌, Option, Some, None}
+use Rattle.std.proofs.Common.{IfSome, Result, Ok, Err, append_assoc, arith, inl, inr}
 use Rattle.std.proofs.lemmas.List.{length-append, length-take, take_at, drop_at, take_all, take-append-le}
 use Rattle.std.proofs.Math.Seq.{take-append-add}
 use Rattle.std.specs.Int.{w32, from_be_bytes}
@@ -25,13 +26,15 @@ consumes_none (Some xs) = refl
 pub filled_more : (xs ys after : List ℕ) (a n : ℕ) → a ≤ length xs → n ≤ length ys → take (a + n) (take a xs ++ (ys ++ after)) ≡ take a xs ++ take n ys
 filled_more xs ys after a n le within =
     let len : length (take a xs) ≡ a = omega (arith, length-take a xs) in
-    subst (λ (k : ℕ). take (k + n) (take a xs ++ (ys ++ after)) ≡ take a xs ++ take n ys) len (take-append-add (take a xs) (ys ++ after) n ∙ ap (λ (t : List ℕ). take a xs ++ t) (take-append-le n ys after within))
+    subst (λ (k : ℕ). take (k + n) (take a xs ++ (ys ++ after)) ≡ take a xs ++ take n ys) len
+    (take-append-add (take a xs) (ys ++ after) n ∙ ap (λ (t : List ℕ). take a xs ++ t) (take-append-le n ys after within))
 
 pub filled_within : (xs ys after : List ℕ) (a n : ℕ) → a ≤ length xs → n ≤ length ys → a + n ≤ length (take a xs ++ (ys ++ after))
 filled_within xs ys after a n le within = omega (arith, length-append (take a xs) (ys ++ after), length-append ys after, length-take a xs)
 
 -- a buffer that was filled
-pub filled_all : (a b : Option (List ℕ)) (buffer : List ℕ) (n size : ℕ) → length buffer ≡ size → size ≤ n → n ≤ length buffer → Consumes a b (take n buffer) → Consumes a b buffer
+pub filled_all : (a b : Option (List ℕ)) (buffer : List ℕ) (n size : ℕ) → length buffer ≡ size → size ≤ n → n ≤ length buffer
+    → Consumes a b (take n buffer) → Consumes a b buffer
 filled_all a b buffer n size len le within p =
     let n_is : n ≡ length buffer = omega arith in
     let P : List ℕ → Type 0 = λ t. Consumes a b t in
@@ -50,22 +53,35 @@ filled_after items resized buffer after more zeros start size len at made filled
     ap (take len) parts ∙ take_at (items ++ buffer) (after ++ more) len (omega (arith, length-append items buffer, at, filled, long))
 
 -- fewer bytes were left than were asked for
-pub fell_short : (a b c : Option (List ℕ)) (bytes more : List ℕ) (len : ℕ) → Consumes a b bytes → Consumes b c more → IsAtEnd c → length bytes + length more < len → IfSome a (λ xs. length xs < len)
+pub fell_short : (a b c : Option (List ℕ)) (bytes more : List ℕ) (len : ℕ) → Consumes a b bytes → Consumes b c more → IsAtEnd c
+    → length bytes + length more < len → IfSome a (λ xs. length xs < len)
 fell_short None b c bytes more len p q e lt = tt
 fell_short (Some xs) None c bytes more len p q e lt = absurd p
 fell_short (Some xs) (Some ys) None bytes more len p q e lt = absurd q
-fell_short (Some xs) (Some ys) (Some zs) bytes more len p q e lt = omega (arith, ap length p, ap length q, ap length e, length-append bytes ys, length-append more zs)
+fell_short (Some xs) (Some ys) (Some zs) bytes more len p q e lt = omega (
+  arith,
+  ap length p,
+  ap length q,
+  ap length e,
+  length-append bytes ys,
+  length-append more zs,
+)
 
 -- ---- what is answered
 
 no_end : (front rest : List ℕ) → length front ≡ 4 → (front ++ rest) ≡ [] → ⊥
 no_end front rest len e = absurd (omega (arith, ap length e, length-append front rest))
 
-spelled_front : (front rest more : List ℕ) (f : Frame) → length front ≡ 4 → length (body f) ≤ longest → (front ++ rest) ≡ spelling f ++ more → (from_be_bytes w32 front ≡ length (body f)) × (rest ≡ body f ++ more)
+spelled_front : (front rest more : List ℕ) (f : Frame) → length front ≡ 4 → length (body f) ≤ longest → (front ++ rest) ≡ spelling f ++ more
+    → (from_be_bytes w32 front ≡ length (body f)) × (rest ≡ body f ++ more)
 spelled_front front rest more f len within e =
     let joined : front ++ rest ≡ word (length (body f)) ++ (body f ++ more) = e ∙ append_assoc (word (length (body f))) (body f) more in
-    let first : front ≡ word (length (body f)) = sym (take_at front rest 4 len) ∙ ap (take 4) joined ∙ take_at (word (length (body f))) (body f ++ more) 4 refl in
-    (ap (from_be_bytes w32) first ∙ length_is f within, sym (drop_at front rest 4 len) ∙ ap (drop 4) joined ∙ drop_at (word (length (body f))) (body f ++ more) 4 refl)
+    let first : front ≡ word (length (body f)) = sym (take_at front rest 4 len) ∙ ap (take 4) joined
+    ∙ take_at (word (length (body f))) (body f ++ more) 4 refl in (
+      ap (from_be_bytes w32) first ∙ length_is f within,
+      sym (drop_at front rest 4 len) ∙ ap (drop 4) joined
+          ∙ drop_at (word (length (body f))) (body f ++ more) 4 refl,
+    )
 
 field_is : (front rest : List ℕ) → length front ≡ 4 → length_field (front ++ rest) ≡ from_be_bytes w32 front
 field_is front rest len = ap (from_be_bytes w32) (take_at front rest 4 len)
@@ -95,7 +111,8 @@ cut_is xs some lt = record {
   frame = λ f rest s e. absurd (omega (arith, ap length e, length-append (spelling f) rest, length-append (word (length (body f))) (body f)));
 }
 
-pub cut : (a b : Option (List ℕ)) (bytes : List ℕ) → Consumes a b bytes → 0 < length bytes → length bytes < 4 → IsAtEnd b → IfSome a (λ xs. IsReadFrom xs (Err Truncated))
+pub cut : (a b : Option (List ℕ)) (bytes : List ℕ) → Consumes a b bytes → 0 < length bytes → length bytes < 4 → IsAtEnd b
+    → IfSome a (λ xs. IsReadFrom xs (Err Truncated))
 cut None b bytes p some lt e = tt
 cut (Some xs) None bytes p some lt e = absurd p
 cut (Some xs) (Some ys) bytes p some lt e =
@@ -113,14 +130,16 @@ long_is front rest len over =
       frame = λ f more s e. absurd (omega (arith, s.within, (spelled_front front rest more f len s.within e).0));
     }
 
-pub long : (a b : Option (List ℕ)) (front : List ℕ) → Consumes a b front → length front ≡ 4 → longest < from_be_bytes w32 front → IfSome a (λ xs. IsReadFrom xs (Err TooLong))
+pub long : (a b : Option (List ℕ)) (front : List ℕ) → Consumes a b front → length front ≡ 4 → longest < from_be_bytes w32 front
+    → IfSome a (λ xs. IsReadFrom xs (Err TooLong))
 long None b front p len over = tt
 long (Some xs) None front p len over = absurd p
 long (Some xs) (Some ys) front p len over =
     let P : List ℕ → Type 0 = λ zs. IsReadFrom zs (Err TooLong) in
     subst P (sym p) (long_is front ys len over)
 
-short_is : (front rest : List ℕ) → length front ≡ 4 → from_be_bytes w32 front ≤ longest → length rest < from_be_bytes w32 front → IsReadFrom (front ++ rest) (Err Truncated)
+short_is : (front rest : List ℕ) → length front ≡ 4 → from_be_bytes w32 front ≤ longest → length rest < from_be_bytes w32 front
+    → IsReadFrom (front ++ rest) (Err Truncated)
 short_is front rest len within fewer =
     let field = field_is front rest len in
     let all = length-append front rest in
@@ -131,7 +150,8 @@ short_is front rest len within fewer =
       frame = λ f more s e. let k = spelled_front front rest more f len s.within e in absurd (omega (arith, k.0, ap length k.1, length-append (body f) more));
     }
 
-pub short : (a b : Option (List ℕ)) (front : List ℕ) → Consumes a b front → length front ≡ 4 → from_be_bytes w32 front ≤ longest → IfSome b (λ ys. length ys < from_be_bytes w32 front) → IfSome a (λ xs. IsReadFrom xs (Err Truncated))
+pub short : (a b : Option (List ℕ)) (front : List ℕ) → Consumes a b front → length front ≡ 4 → from_be_bytes w32 front ≤ longest
+    → IfSome b (λ ys. length ys < from_be_bytes w32 front) → IfSome a (λ xs. IsReadFrom xs (Err Truncated))
 short None b front p len within fewer = tt
 short (Some xs) None front p len within fewer = absurd p
 short (Some xs) (Some ys) front p len within fewer =
@@ -204,12 +224,16 @@ whole_is bytes more w answer not_none not_long not_short all =
     record {
       ended = (λ e. absurd (omega (arith, ap length e, w.whole)), λ e. absurd (not_none e));
       too_long = (λ t. absurd (omega (arith, t.over, field, w.within)), λ e. absurd (not_long e));
-      truncated = (λ t. elim t.1 [ inl lt ↦ absurd (omega (arith, w.whole)) | inr k ↦ absurd (omega (arith, k.fewer, field, w.size)) ], λ e. absurd (not_short e));
+      truncated = (
+        λ t. elim t.1 [ inl lt ↦ absurd (omega (arith, w.whole)) | inr k ↦ absurd (omega (arith, k.fewer, field, w.size)) ],
+        λ e. absurd (not_short e),
+      );
       frame = λ f after s e. all f (spelled_whole bytes more after f w s e);
     }
 
 -- what reading answers where such bytes were read
-whole_known : (a c : Option (List ℕ)) (bytes : List ℕ) → Consumes a c bytes → IsWhole bytes → (answer : Answer) → ((answer ≡ Ok None) → ⊥) → ((answer ≡ Err TooLong) → ⊥) → ((answer ≡ Err Truncated) → ⊥)
+whole_known : (a c : Option (List ℕ)) (bytes : List ℕ) → Consumes a c bytes → IsWhole bytes → (answer : Answer) → ((answer ≡ Ok None) → ⊥)
+    → ((answer ≡ Err TooLong) → ⊥) → ((answer ≡ Err Truncated) → ⊥)
     → ((f : Frame) → Spells f bytes → answer ≡ Ok (Some f)) → IfSome a (λ xs. IsReadFrom xs answer)
 whole_known None c bytes p w answer not_none not_long not_short all = tt
 whole_known (Some xs) None bytes p w answer not_none not_long not_short all = absurd p
@@ -221,7 +245,8 @@ whole_known (Some xs) (Some zs) bytes p w answer not_none not_long not_short all
 pub got : (a c : Option (List ℕ)) (bytes : List ℕ) (f : Frame) → Consumes a c bytes → Spells f bytes → Spells f (spelling f) × Consumes a c (spelling f)
 got a c bytes f p s = (record { well = s.well; within = s.within; spelled = refl }, subst (Consumes a c) s.spelled p)
 
-pub got_known : (a c : Option (List ℕ)) (bytes : List ℕ) (f : Frame) → Consumes a c bytes → IsWhole bytes → Spells f bytes → IfSome a (λ xs. IsReadFrom xs (Ok (Some f)))
+pub got_known : (a c : Option (List ℕ)) (bytes : List ℕ) (f : Frame) → Consumes a c bytes → IsWhole bytes → Spells f bytes
+    → IfSome a (λ xs. IsReadFrom xs (Ok (Some f)))
 got_known a c bytes f p w s =
     whole_known a c bytes p w (Ok (Some f)) (λ e. absurd cc) (λ e. absurd cc) (λ e. absurd cc)
     (λ g t. ap (λ (h : Frame). Ok (Some h)) (one_frame f g bytes s t))
@@ -256,12 +281,15 @@ memory_or Version = inr (λ e. absurd cc)
 pub refused_known : (a c : Option (List ℕ)) (bytes : List ℕ) (fault : WireFault) → Consumes a c bytes → IsWhole bytes → ((f : Frame) → Spells f bytes → ⊥)
     → ((fault ≡ TooLong) → IsTooLong bytes) → ((fault ≡ Truncated) → IsTruncated bytes) → IfSome a (λ xs. IsReadFrom xs (Err fault))
 refused_known a c bytes fault p w none long short =
-    whole_known a c bytes p w (Err fault) (λ e. absurd cc) (λ e. too_long bytes w (long (answer_is fault TooLong e))) (λ e. too_short bytes w (short (answer_is fault Truncated e)))
+    whole_known a c bytes p w (Err fault) (λ e. absurd cc) (λ e. too_long bytes w (long (answer_is fault TooLong e)))
+    (λ e. too_short bytes w (short (answer_is fault Truncated e)))
     (λ f s. absurd (none f s))
 
 -- no frame is spelled by these bytes, or memory ran out
-pub failed_known : (a c : Option (List ℕ)) (bytes : List ℕ) (fault : WireFault) (read : Result Frame WireFault) → read ≡ Err fault → Consumes a c bytes → IsWhole bytes
-    → ((f : Frame) → Spells f bytes → (read ≡ Ok f) ⊎ (read ≡ Err OutOfMemory)) → ((read ≡ Err TooLong) → IsTooLong bytes) → ((read ≡ Err Truncated) → IsTruncated bytes)
+pub failed_known : (a c : Option (List ℕ)) (bytes : List ℕ) (fault : WireFault) (read : Result Frame WireFault) → read ≡ Err fault
+    → Consumes a c bytes → IsWhole bytes
+    → ((f : Frame) → Spells f bytes → (read ≡ Ok f) ⊎ (read ≡ Err OutOfMemory)) → ((read ≡ Err TooLong) → IsTooLong bytes)
+    → ((read ≡ Err Truncated) → IsTruncated bytes)
     → IsAnswer a (Err fault)
 failed_known a c bytes fault read is p w all long short =
     elim (memory_or fault) [

@@ -11,7 +11,8 @@ few_below top [] bounds falling below = omega arith
 few_below top (p ∷ ps) bounds falling below =
     let odd : p.0 % 2 ≡ 1 = (bounds 0 p (omega arith)).odd in
     let lt : p.0 < top = below 0 p (omega arith) in
-    let rest = few_below p.0 ps (λ i d lt. bounds (suc i) d (omega arith)) (pairs_tail (λ p q. q.0 < p.0) p ps falling) (pairs_head (λ p q. q.0 < p.0) p ps falling) in
+    let rest = few_below p.0 ps (λ i d lt. bounds (suc i) d (omega arith)) (pairs_tail (λ p q. q.0 < p.0) p ps falling)
+    (pairs_head (λ p q. q.0 < p.0) p ps falling) in
     omega arith
 
 pub few_bounds : (s : Setup) → IsSetup s → length s.bounds ≤ 32768

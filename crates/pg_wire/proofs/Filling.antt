@@ -1,5 +1,6 @@
 -- Lists and the pairs of their components that aren't 0: each is told by the other.
-use Rattle.std.proofs.Common.{◌≡◌, ◌≢◌, ℕ, zero, suc, ◌+◌, ◌<◌, ◌≤◌, cond, List, [], ◌∷◌, ◌++◌, length, map, get_or, set, refl, sym, ap, subst, ◌∙◌, arith, inl, inr}
+use Rattle.std.proofs.Common.{◌≡◌, ◌≢◌, ℕ, zero, suc, ◌+◌, ◌<◌, ◌≤◌, cond, List, [], ◌∷◌, ◌++◌, length, map, get_or, set, refl, sym, ap}
+use Rattle.std.proofs.Common.{subst, ◌∙◌, arith, inl, inr}
 use Rattle.std.specs.Prelude.{All, nat_eq, ◌==◌}
 use Rattle.std.specs.List.{range_with_len}
 use Rattle.std.proofs.lemmas.Bool.{cases_Bool, cases_eq, eq-eqb, ne_eqb, eqb-true, eqb-false}
@@ -15,7 +16,8 @@ abbrev pub Pair : Type 0
 Pair = ℕ × ℕ
 
 -- a number more, at a place that has none
-number_more : (ps : List Pair) (p : Pair) (k : ℕ) → ((i : ℕ) (d : Pair) → i < length ps → (get_or ps i d).0 ≢ p.0) → component_in (ps ++ p ∷ []) k ≡ cond (nat_eq p.0 k) p.1 (component_in ps k)
+number_more : (ps : List Pair) (p : Pair) (k : ℕ) → ((i : ℕ) (d : Pair) → i < length ps → (get_or ps i d).0 ≢ p.0)
+    → component_in (ps ++ p ∷ []) k ≡ cond (nat_eq p.0 k) p.1 (component_in ps k)
 number_more [] p k apart = refl
 number_more (q ∷ ps) p k apart =
     elim (cases_eq q.0 k) [
@@ -27,11 +29,15 @@ number_more (q ∷ ps) p k apart =
     ]
 
 -- the row after one number more
-pub filled_more : (row : List ℕ) (ps : List Pair) (p : Pair) → p.0 < length row → ((i : ℕ) (d : Pair) → i < length ps → (get_or ps i d).0 ≢ p.0) → ((k : ℕ) → k < length row → get_or row k 0 ≡ component_in ps k) → (k : ℕ) → k < length row → get_or (set row p.0 p.1) k 0 ≡ component_in (ps ++ p ∷ []) k
+pub filled_more : (row : List ℕ) (ps : List Pair) (p : Pair) → p.0 < length row
+    → ((i : ℕ) (d : Pair) → i < length ps → (get_or ps i d).0 ≢ p.0) → ((k : ℕ) → k < length row → get_or row k 0 ≡ component_in ps k)
+    → (k : ℕ) → k < length row → get_or (set row p.0 p.1) k 0 ≡ component_in (ps ++ p ∷ []) k
 filled_more row ps p below apart h k lt =
     elim (cases_eq p.0 k) [
-      | inl e ↦ subst (λ (n : ℕ). get_or (set row p.0 p.1) n 0 ≡ p.1) e (get_or-set_same row p.0 p.1 0 below) ∙ sym (number_more ps p k apart ∙ ap (λ b. cond b p.1 (component_in ps k)) (eq-eqb p.0 k e))
-      | inr ne ↦ get_or-set_other row p.0 k p.1 0 (λ s. ne (sym s)) ∙ (h k lt ∙ sym (number_more ps p k apart ∙ ap (λ b. cond b p.1 (component_in ps k)) (ne_eqb p.0 k ne)))
+      | inl e ↦ subst (λ (n : ℕ). get_or (set row p.0 p.1) n 0 ≡ p.1) e (get_or-set_same row p.0 p.1 0 below)
+          ∙ sym (number_more ps p k apart ∙ ap (λ b. cond b p.1 (component_in ps k)) (eq-eqb p.0 k e))
+      | inr ne ↦ get_or-set_other row p.0 k p.1 0 (λ s. ne (sym s))
+          ∙ (h k lt ∙ sym (number_more ps p k apart ∙ ap (λ b. cond b p.1 (component_in ps k)) (ne_eqb p.0 k ne)))
     ]
 
 -- places from `at` on that rise
@@ -39,7 +45,8 @@ abbrev Rise : ℕ → ℕ → List Pair → Type 0
 Rise width at ps = Follow (λ low (p : Pair). low ≤ p.0) (IsPlace width) (λ (p : Pair). p.0 + 1) at ps
 
 rise_of : (width : ℕ) (ps : List Pair) → ArePlaces width ps → Rise width 0 ps
-rise_of width ps h = follow (λ low (p : Pair). low ≤ p.0) (IsPlace width) (λ (p q : Pair). p.0 < q.0) (λ (p : Pair). p.0 + 1) (rising (λ (p : Pair). p.0)) 0 ps (record { stand = λ i d lt. omega arith; items = h.places; order = h.rising })
+rise_of width ps h = follow (λ low (p : Pair). low ≤ p.0) (IsPlace width) (λ (p q : Pair). p.0 < q.0) (λ (p : Pair). p.0 + 1)
+    (rising (λ (p : Pair). p.0)) 0 ps (record { stand = λ i d lt. omega arith; items = h.places; order = h.rising })
 
 none_before : (width at k : ℕ) (ps : List Pair) → Rise width at ps → k < at → component_in ps k ≡ 0
 none_before width at k [] h lt = refl
@@ -63,7 +70,9 @@ nonzero_filled_from width (suc n) at (p ∷ ps) e h =
       | inl same ↦
           let some : p.1 ≢ 0 = λ z. absurd (omega (arith, h.0.1.some, z)) in
           let next : Rise width (at + 1) ps = subst (λ (k : ℕ). Rise width (k + 1) ps) same h.1 in
-          let rest : nonzero_from (at + 1) (map (component_in (p ∷ ps)) (range_with_len (at + 1) n)) ≡ ps = ap (nonzero_from (at + 1)) (without p ps (at + 1) n (omega arith)) ∙ nonzero_filled_from width n (at + 1) ps (omega arith) next in
+          let rest : nonzero_from (at + 1) (map (component_in (p ∷ ps)) (range_with_len (at + 1) n)) ≡ ps =
+          ap (nonzero_from (at + 1)) (without p ps (at + 1) n (omega arith))
+          ∙ nonzero_filled_from width n (at + 1) ps (omega arith) next in
           rw (eq-eqb p.0 at same, ne_eqb p.1 0 some) (ap (λ (qs : List Pair). (at, p.1) ∷ qs) rest ∙ ap (λ (k : ℕ). (k, p.1) ∷ ps) (sym same))
       | inr other ↦
           let past : at + 1 ≤ p.0 = omega (arith, h.0.0, other) in
@@ -94,11 +103,13 @@ filled_nonzero_from at (n ∷ ns) =
     elim (cases_Bool (n == 0)) [
       | inl t ↦
           let same : nonzero_from at (n ∷ ns) ≡ more = rw t refl in
-          ap listed same ∙ ap (λ (k : ℕ). k ∷ map (component_in more) (range_with_len (at + 1) (length ns))) (none_from (at + 1) at ns (omega arith)) ∙ ap (λ (ms : List ℕ). 0 ∷ ms) rest ∙ ap (λ (k : ℕ). k ∷ ns) (sym (eqb-true n 0 t))
+          ap listed same ∙ ap (λ (k : ℕ). k ∷ map (component_in more) (range_with_len (at + 1) (length ns)))
+          (none_from (at + 1) at ns (omega arith)) ∙ ap (λ (ms : List ℕ). 0 ∷ ms) rest ∙ ap (λ (k : ℕ). k ∷ ns) (sym (eqb-true n 0 t))
       | inr t ↦
           let same : nonzero_from at (n ∷ ns) ≡ (at, n) ∷ more = rw t refl in
           let here : component_in ((at, n) ∷ more) at ≡ n = rw (eq-eqb at at refl) refl in
-          ap listed same ∙ ap (λ (k : ℕ). k ∷ map (component_in ((at, n) ∷ more)) (range_with_len (at + 1) (length ns))) here ∙ ap (λ (ms : List ℕ). n ∷ ms) (without (at, n) more (at + 1) (length ns) (omega arith) ∙ rest)
+          ap listed same ∙ ap (λ (k : ℕ). k ∷ map (component_in ((at, n) ∷ more)) (range_with_len (at + 1) (length ns))) here
+          ∙ ap (λ (ms : List ℕ). n ∷ ms) (without (at, n) more (at + 1) (length ns) (omega arith) ∙ rest)
     ]
 
 -- the list that the pairs of a list tell
@@ -131,7 +142,8 @@ few_from at (n ∷ ns) =
 
 pub places_nonzero : (width : ℕ) (ns : List ℕ) → IsComponents width ns → ArePlaces width (nonzero ns)
 places_nonzero width ns h =
-    let o = ordered (λ low (p : Pair). low ≤ p.0) (IsPlace width) (λ (p q : Pair). p.0 < q.0) (λ (p : Pair). p.0 + 1) (rising (λ (p : Pair). p.0)) 0 (nonzero ns) (rise_from width 0 ns h.numbers (omega (arith, h.size))) in
+    let o = ordered (λ low (p : Pair). low ≤ p.0) (IsPlace width) (λ (p q : Pair). p.0 < q.0) (λ (p : Pair). p.0 + 1)
+    (rising (λ (p : Pair). p.0)) 0 (nonzero ns) (rise_from width 0 ns h.numbers (omega (arith, h.size))) in
     record { size = omega (arith, h.size, few_from 0 ns); places = o.items; rising = o.order }
 
 word_in : (width : ℕ) (ps : List Pair) → All (IsPlace width) ps → (k : ℕ) → IsWord (component_in ps k)

@@ -1,5 +1,6 @@
 -- What a reader takes is spelled so and fits, and what fits and is spelled so is read.
-use Rattle.std.proofs.Common.{◌≡◌, ℕ, zero, suc, ◌+◌, ◌%◌, ◌^◌, ◌<◌, ◌≤◌, Bool, true, false, cond, ltb, List, [], ◌∷◌, ◌++◌, length, get_or, take, drop, Option, Some, None, Result, Ok, Err, refl, sym, ap, subst, ◌∙◌, append_assoc, arith, inl, inr}
+use Rattle.std.proofs.Common.{◌≡◌, ℕ, zero, suc, ◌+◌, ◌%◌, ◌^◌, ◌<◌, ◌≤◌, Bool, true, false, cond, ltb, List, [], ◌∷◌, ◌++◌, length, get_or}
+use Rattle.std.proofs.Common.{take, drop, Option, Some, None, Result, Ok, Err, refl, sym, ap, subst, ◌∙◌, append_assoc, arith, inl, inr}
 use Rattle.std.specs.Prelude.{IfSome, nat_le, nat_lt, ◌&&◌, ◌==◌}
 use Rattle.std.specs.List.{flat_map}
 use Rattle.std.specs.Int.{w32, from_be_bytes}
@@ -72,7 +73,8 @@ both_form {A} {B} sa FA ra sb FB rb fa fb = record {
       let P : (A × B) × List ℕ → Type 0 = λ y. Takes bytes (sa y.0.0 ++ sb y.0.1) y.1 × (FA y.0.0 × FB y.0.0 y.0.1) in
       subst P (ok_is made_is x q.2) (Takes-then bytes (sa p.0.0) p.0.1 (sb q.0.0) q.0.1 t.0 u.0, (t.1, u.1));
   again = λ x rest h.
-      let first : ra ((sa x.0 ++ sb x.1) ++ rest) ≡ Ok (x.0, sb x.1 ++ rest) = ap ra (append_assoc (sa x.0) (sb x.1) rest) ∙ fa.again x.0 (sb x.1 ++ rest) h.0 in
+      let first : ra ((sa x.0 ++ sb x.1) ++ rest) ≡ Ok (x.0, sb x.1 ++ rest) = ap ra (append_assoc (sa x.0) (sb x.1) rest)
+      ∙ fa.again x.0 (sb x.1 ++ rest) h.0 in
       rw (first, (fb x.0 h.0).again x.1 rest h.1) refl;
 }
 
@@ -93,7 +95,8 @@ made_form {A} {B} sa FA ra sb FB make parts fa spelt there back up down = record
 }
 
 -- the same reader, with the ranges said in other words
-pub said_form : {A : Type 0} (sa : A → List ℕ) (F G : A → Type 0) (ra : Reader A) → IsForm sa F ra → ((a : A) → F a → G a) → ((a : A) → G a → F a) → IsForm sa G ra
+pub said_form : {A : Type 0} (sa : A → List ℕ) (F G : A → Type 0) (ra : Reader A) → IsForm sa F ra → ((a : A) → F a → G a)
+    → ((a : A) → G a → F a) → IsForm sa G ra
 said_form sa F G ra fa up down = record {
   takes = λ bytes x h e. let t = fa.takes bytes x h e in (t.0, up x.0 t.1);
   again = λ a rest h. fa.again a rest (down a h);
@@ -175,7 +178,8 @@ version_takes [] x h e = absurd cc
 version_takes (b ∷ rest) x h e =
     let g = test_ok (nat_le 1 b && nat_lt b 3) Version (b, rest) x e in
     let k = and_both (nat_le 1 b) (nat_lt b 3) g.0 in
-    subst (λ (y : ℕ × List ℕ). Takes (b ∷ rest) (y.0 ∷ []) y.1 × Within 1 3 y.0) g.1 (record { parts = refl; rest_fits = λ i. h (suc i) }, record { from = leb-true _ _ k.0; below = ltb-true _ _ k.1 })
+    subst (λ (y : ℕ × List ℕ). Takes (b ∷ rest) (y.0 ∷ []) y.1 × Within 1 3 y.0) g.1
+    (record { parts = refl; rest_fits = λ i. h (suc i) }, record { from = leb-true _ _ k.0; below = ltb-true _ _ k.1 })
 
 pub version_form : IsForm (λ b. b ∷ []) (Within 1 3) version_at
 unfolding version_at
@@ -190,13 +194,16 @@ version_form = record {
 -- ---- lists
 
 -- a kind of list: how its items are spelled, read and ordered
-pub record IsKind {A : Type 0} (spelled : A → List ℕ) (Stands : ℕ → A → Type 0) (IsItem : A → Type 0) (Precedes : A → A → Type 0) (next : A → ℕ) (item : ℕ → Reader A) (limit : ℕ) : Type 0 where
+pub record IsKind {A : Type 0} (spelled : A → List ℕ) (Stands : ℕ → A → Type 0) (IsItem : A → Type 0) (Precedes : A → A → Type 0)
+    (next : A → ℕ) (item : ℕ → Reader A) (limit : ℕ) : Type 0 where
   pub form : (at : ℕ) → at ≤ limit → IsForm spelled (λ x. Stands at x × IsItem x) (item at)
   pub steps : Steps Stands Precedes next
   pub low : (x : A) → IsItem x → next x ≤ limit
 
-items_take : {A : Type 0} (spelled : A → List ℕ) (Stands : ℕ → A → Type 0) (IsItem : A → Type 0) (Precedes : A → A → Type 0) (next : A → ℕ) (item : ℕ → Reader A) (limit : ℕ) → IsKind spelled Stands IsItem Precedes next item limit
-    → (n at : ℕ) → at ≤ limit → (bytes : List ℕ) (x : List A × List ℕ) → IsBytes bytes → items_at item next n at bytes ≡ Ok x → Takes bytes (flat_map spelled x.0) x.1 × (length x.0 ≡ n) × Follow Stands IsItem next at x.0
+items_take : {A : Type 0} (spelled : A → List ℕ) (Stands : ℕ → A → Type 0) (IsItem : A → Type 0) (Precedes : A → A → Type 0) (next : A → ℕ) (item : ℕ → Reader A) (limit : ℕ)
+    → IsKind spelled Stands IsItem Precedes next item limit
+    → (n at : ℕ) → at ≤ limit → (bytes : List ℕ) (x : List A × List ℕ) → IsBytes bytes → items_at item next n at bytes ≡ Ok x
+    → Takes bytes (flat_map spelled x.0) x.1 × (length x.0 ≡ n) × Follow Stands IsItem next at x.0
 unfolding items_at
 items_take {A} spelled Stands IsItem Precedes next item limit kind zero at le bytes x h e =
     let none : List A × List ℕ = ([], bytes) in
@@ -212,26 +219,38 @@ items_take {A} spelled Stands IsItem Precedes next item limit kind (suc n) at le
     let P : List A × List ℕ → Type 0 = λ y. Takes bytes (flat_map spelled y.0) y.1 × (length y.0 ≡ suc n) × Follow Stands IsItem next at y.0 in
     subst P (ok_is made_is x q.2) (rw flat_map-cons text, ap suc u.1, (t.1, u.2))
 
-items_again : {A : Type 0} (spelled : A → List ℕ) (Stands : ℕ → A → Type 0) (IsItem : A → Type 0) (Precedes : A → A → Type 0) (next : A → ℕ) (item : ℕ → Reader A) (limit : ℕ) → IsKind spelled Stands IsItem Precedes next item limit
-    → (at : ℕ) → at ≤ limit → (xs : List A) (rest : List ℕ) → Follow Stands IsItem next at xs → items_at item next (length xs) at (flat_map spelled xs ++ rest) ≡ Ok (xs, rest)
+items_again : {A : Type 0} (spelled : A → List ℕ) (Stands : ℕ → A → Type 0) (IsItem : A → Type 0) (Precedes : A → A → Type 0) (next : A → ℕ) (item : ℕ → Reader A) (limit : ℕ)
+    → IsKind spelled Stands IsItem Precedes next item limit
+    → (at : ℕ) → at ≤ limit → (xs : List A) (rest : List ℕ) → Follow Stands IsItem next at xs
+    → items_at item next (length xs) at (flat_map spelled xs ++ rest) ≡ Ok (xs, rest)
 unfolding items_at
 items_again spelled Stands IsItem Precedes next item limit kind at le [] rest h = refl
 items_again {A} spelled Stands IsItem Precedes next item limit kind at le (x ∷ xs) rest h =
-    let regrouped : flat_map spelled (x ∷ xs) ++ rest ≡ spelled x ++ (flat_map spelled xs ++ rest) = ap (λ (s : List ℕ). s ++ rest) (flat_map-cons spelled x xs) ∙ append_assoc (spelled x) (flat_map spelled xs) rest in
-    ap (items_at item next (suc (length xs)) at) regrouped ∙ rw ((kind.form at le).again x (flat_map spelled xs ++ rest) h.0, items_again spelled Stands IsItem Precedes next item limit kind (next x) (kind.low x h.0.1) xs rest h.1) refl
+    let regrouped : flat_map spelled (x ∷ xs) ++ rest ≡ spelled x ++ (flat_map spelled xs ++ rest) =
+    ap (λ (s : List ℕ). s ++ rest) (flat_map-cons spelled x xs) ∙ append_assoc (spelled x) (flat_map spelled xs) rest in
+    ap (items_at item next (suc (length xs)) at) regrouped ∙ rw (
+      (kind.form at le).again x (flat_map spelled xs ++ rest) h.0,
+      items_again spelled Stands IsItem Precedes next item limit kind (next x) (kind.low x h.0.1) xs rest h.1,
+    ) refl
 
-pub items_form : {A : Type 0} (spelled : A → List ℕ) (Stands : ℕ → A → Type 0) (IsItem : A → Type 0) (Precedes : A → A → Type 0) (next : A → ℕ) (item : ℕ → Reader A) (limit : ℕ) → IsKind spelled Stands IsItem Precedes next item limit
+pub items_form : {A : Type 0} (spelled : A → List ℕ) (Stands : ℕ → A → Type 0) (IsItem : A → Type 0) (Precedes : A → A → Type 0) (next : A → ℕ) (item : ℕ → Reader A) (limit : ℕ)
+    → IsKind spelled Stands IsItem Precedes next item limit
     → (n at : ℕ) → at ≤ limit → IsForm (flat_map spelled) (λ xs. (length xs ≡ n) × AreOrdered (Stands at) IsItem Precedes xs) (items_at item next n at)
 items_form spelled Stands IsItem Precedes next item limit kind n at le = record {
   takes = λ bytes x h e.
       let r = items_take spelled Stands IsItem Precedes next item limit kind n at le bytes x h e in
       (r.0, (r.1, ordered Stands IsItem Precedes next kind.steps at x.0 r.2));
   again = λ xs rest h.
-      ap (λ (k : ℕ). items_at item next k at (flat_map spelled xs ++ rest)) (sym h.0) ∙ items_again spelled Stands IsItem Precedes next item limit kind at le xs rest (follow Stands IsItem Precedes next kind.steps at xs h.1);
+      ap (λ (k : ℕ). items_at item next k at (flat_map spelled xs ++ rest)) (sym h.0)
+      ∙ items_again spelled Stands IsItem Precedes next item limit kind at le xs rest
+      (follow Stands IsItem Precedes next kind.steps at xs h.1);
 }
 
-pub counted_form : {A : Type 0} (spelled : A → List ℕ) (Stands : ℕ → A → Type 0) (IsItem : A → Type 0) (Precedes : A → A → Type 0) (next : A → ℕ) (item : ℕ → Reader A) (limit : ℕ) → IsKind spelled Stands IsItem Precedes next item limit
-    → (least high at : ℕ) → high ≤ 2 ^ 32 → at ≤ limit → IsForm (counted spelled) (λ xs. Within least high (length xs) × AreOrdered (Stands at) IsItem Precedes xs) (counted_at item next least high at)
+pub counted_form : {A : Type 0} (spelled : A → List ℕ) (Stands : ℕ → A → Type 0) (IsItem : A → Type 0) (Precedes : A → A → Type 0) (next : A → ℕ) (item : ℕ → Reader A) (limit : ℕ)
+    → IsKind spelled Stands IsItem Precedes next item limit
+    → (least high at : ℕ) → high ≤ 2 ^ 32 → at ≤ limit
+    → IsForm (counted spelled) (λ xs. Within least high (length xs) × AreOrdered (Stands at) IsItem Precedes xs)
+    (counted_at item next least high at)
 unfolding counted_at
 counted_form {A} spelled Stands IsItem Precedes next item limit kind least high at small le = record {
   takes = λ bytes x h e.
@@ -242,12 +261,15 @@ counted_form {A} spelled Stands IsItem Precedes next item limit kind least high 
       let n : p.0.0 ≡ length x.0 = sym u.1.0 in
       (subst (λ (k : ℕ). Takes bytes (word k ++ flat_map spelled x.0) x.1) n text, (subst (Within least high) n t.1, u.1.1));
   again = λ xs rest h.
-      let first : within_at least high ((word (length xs) ++ flat_map spelled xs) ++ rest) ≡ Ok (length xs, flat_map spelled xs ++ rest) = ap (within_at least high) (append_assoc (word (length xs)) (flat_map spelled xs) rest) ∙ (within_form least high small).again (length xs) (flat_map spelled xs ++ rest) h.0 in
+      let first : within_at least high ((word (length xs) ++ flat_map spelled xs) ++ rest) ≡ Ok (length xs, flat_map spelled xs ++ rest) =
+      ap (within_at least high) (append_assoc (word (length xs)) (flat_map spelled xs) rest)
+      ∙ (within_form least high small).again (length xs) (flat_map spelled xs ++ rest) h.0 in
       rw first ((items_form spelled Stands IsItem Precedes next item limit kind (length xs) at le).again xs rest (refl, h.1));
 }
 
 tagged_takes : {A : Type 0} (spelled : A → List ℕ) (Fits : A → Type 0) (read : Reader A) → IsForm spelled Fits read
-    → (t : ℕ × List ℕ) (x : Option A × List ℕ) → IsBytes t.1 → t.0 < 2 → cond (t.0 == 0) (made Some read t.1) (Ok (None, t.1)) ≡ Ok x → Takes (t.0 ∷ t.1) (tagged spelled x.0) x.1 × IfSome x.0 Fits
+    → (t : ℕ × List ℕ) (x : Option A × List ℕ) → IsBytes t.1 → t.0 < 2 → cond (t.0 == 0) (made Some read t.1) (Ok (None, t.1)) ≡ Ok x
+    → Takes (t.0 ∷ t.1) (tagged spelled x.0) x.1 × IfSome x.0 Fits
 tagged_takes {A} spelled Fits read form (zero, bytes) x h lt e =
     let p = bind_ok (read bytes) (λ a. Ok (Some a.0, a.1)) x e in
     let t = form.takes bytes p.0 h p.1 in
@@ -266,7 +288,8 @@ unfolding tagged_at byte_at
 tagged_again spelled Fits read form None rest h = refl
 tagged_again spelled Fits read form (Some x) rest h = rw (form.again x rest h) refl
 
-pub tagged_form : {A : Type 0} (spelled : A → List ℕ) (Fits : A → Type 0) (read : Reader A) → IsForm spelled Fits read → IsForm (tagged spelled) (λ o. IfSome o Fits) (tagged_at read)
+pub tagged_form : {A : Type 0} (spelled : A → List ℕ) (Fits : A → Type 0) (read : Reader A) → IsForm spelled Fits read
+    → IsForm (tagged spelled) (λ o. IfSome o Fits) (tagged_at read)
 unfolding tagged_at
 tagged_form {A} spelled Fits read form = record {
   takes = λ bytes x h e.

@@ -10,22 +10,27 @@ use Rattle.pg_wire.specs.Left.{IsLeft, IsNext, row_of, is_top}
 use Rattle.pg_wire.proofs.Grammar.{ok_is}
 use Rattle.pg_wire.proofs.Measuring.{measured_form}
 
-first_read : (r : ValuesReader) (m : Measured) (ms : List Measured) → IsLeft r (m ∷ ms) → measured_at r.kind r.width 0 r.bytes.now ≡ Ok (m, flat_map (spelled_as r.kind) ms)
+first_read : (r : ValuesReader) (m : Measured) (ms : List Measured) → IsLeft r (m ∷ ms)
+    → measured_at r.kind r.width 0 r.bytes.now ≡ Ok (m, flat_map (spelled_as r.kind) ms)
 first_read r m ms h =
     let small : r.width < 2 ^ 32 = omega (arith, h.width) in
-    ap (measured_at r.kind r.width 0) (h.spelled ∙ flat_map-cons (spelled_as r.kind) m ms) ∙ (measured_form r.kind r.width small 0).again m (flat_map (spelled_as r.kind) ms) (omega arith, h.measures 0 m (omega arith))
+    ap (measured_at r.kind r.width 0) (h.spelled ∙ flat_map-cons (spelled_as r.kind) m ms)
+    ∙ (measured_form r.kind r.width small 0).again m (flat_map (spelled_as r.kind) ms) (omega arith, h.measures 0 m (omega arith))
 
 -- a measure that isn't read is none that was left
-pub none_left : (ms : List Measured) (r : ValuesReader) (row row' : List ℕ) (e : FieldFault) → IsLeft r ms → (r.bytes.now ≡ [] → ⊥) → measured_at r.kind r.width 0 r.bytes.now ≡ Err e → IsNext ms r row row' None
+pub none_left : (ms : List Measured) (r : ValuesReader) (row row' : List ℕ) (e : FieldFault) → IsLeft r ms → (r.bytes.now ≡ [] → ⊥)
+    → measured_at r.kind r.width 0 r.bytes.now ≡ Err e → IsNext ms r row row' None
 none_left [] r row row' e h some read = absurd (some h.spelled)
 none_left (m ∷ ms) r row row' e h some read = absurd (cc (sym (first_read r m ms h) ∙ read))
 
-kept_row : (top : Bool) (row row' : List ℕ) → (top ≡ true → row' ≡ row) → (top ≡ is_top (cond top None (Some row'))) × (row' ≡ row_of (cond top None (Some row')) row)
+kept_row : (top : Bool) (row row' : List ℕ) → (top ≡ true → row' ≡ row)
+    → (top ≡ is_top (cond top None (Some row'))) × (row' ≡ row_of (cond top None (Some row')) row)
 kept_row true row row' kept = (refl, kept refl)
 kept_row false row row' kept = (refl, refl)
 
 pub next_left : (ms : List Measured) (r : ValuesReader) (row row' : List ℕ) (n : ℕ) (top : Bool) (rest : Bor (List ℕ)) → IsLeft r ms → (r.bytes.now ≡ [] → ⊥)
-    → measured_at r.kind r.width 0 r.bytes.now ≡ Ok ((n, cond top None (Some row')), rest.now) → (top ≡ true → row' ≡ row) → IsNext ms (record { kind = r.kind; width = r.width; bytes = rest }) row row' (Some (n, top))
+    → measured_at r.kind r.width 0 r.bytes.now ≡ Ok ((n, cond top None (Some row')), rest.now) → (top ≡ true → row' ≡ row)
+    → IsNext ms (record { kind = r.kind; width = r.width; bytes = rest }) row row' (Some (n, top))
 next_left [] r row row' n top rest h some read kept = absurd (some h.spelled)
 next_left (m ∷ ms) r row row' n top rest h some read kept =
     let got : Measured × List ℕ = ((n, cond top None (Some row')), rest.now) in

@@ -16,16 +16,21 @@ regroup : {A : Type 0} (front : List A) (n : A) (read : Result (List A × List �
 regroup {A} front n (Ok x) = ap (λ (ns : List A). Ok (ns, x.1)) (simp append_assoc)
 regroup front n (Err f) = refl
 
-pub goes_on : {A : Type 0} (item : ℕ → Reader A) (next : A → ℕ) (front : List A) (count i at : ℕ) (bytes : List ℕ) (n : A) (after : List ℕ) (total : Result (List A × List ℕ) FieldFault)
+pub goes_on : {A : Type 0} (item : ℕ → Reader A) (next : A → ℕ) (front : List A) (count i at : ℕ) (bytes : List ℕ) (n : A) (after : List ℕ)
+    (total : Result (List A × List ℕ) FieldFault)
     → i < count → item at bytes ≡ Ok (n, after)
-    → with_front front (items_at item next (count - i) at bytes) ≡ total → with_front (front ++ n ∷ []) (items_at item next (count - (i + 1)) (next n) after) ≡ total
+    → with_front front (items_at item next (count - i) at bytes) ≡ total
+    → with_front (front ++ n ∷ []) (items_at item next (count - (i + 1)) (next n) after) ≡ total
 unfolding items_at
 goes_on item next front count i at bytes n after total lt h so_far =
     let k : count - i ≡ suc (count - (i + 1)) = omega arith in
-    let one : with_front front (items_at item next (count - i) at bytes) ≡ with_front (front ++ n ∷ []) (items_at item next (count - (i + 1)) (next n) after) = rw (k, h) (regroup front n (items_at item next (count - (i + 1)) (next n) after)) in
+    let one : with_front front (items_at item next (count - i) at bytes) ≡ with_front (front ++ n ∷ [])
+    (items_at item next (count - (i + 1)) (next n) after) =
+    rw (k, h) (regroup front n (items_at item next (count - (i + 1)) (next n) after)) in
     sym one ∙ so_far
 
-pub ends : {A : Type 0} (item : ℕ → Reader A) (next : A → ℕ) (e : ReadFault) (front : List A) (count i at : ℕ) (bytes : List ℕ) (total : Result (List A × List ℕ) FieldFault)
+pub ends : {A : Type 0} (item : ℕ → Reader A) (next : A → ℕ) (e : ReadFault) (front : List A) (count i at : ℕ) (bytes : List ℕ)
+    (total : Result (List A × List ℕ) FieldFault)
     → i < count → Fails e (item at bytes)
     → with_front front (items_at item next (count - i) at bytes) ≡ total → Fails e total
 unfolding items_at

@@ -13,7 +13,8 @@ pub nonzero-append : (at : ℕ) (xs ys : List ℕ) → nonzero_from at (xs ++ ys
 nonzero-append at [] ys = ap (λ (n : ℕ). nonzero_from n ys) (omega arith)
 nonzero-append at (x ∷ xs) ys =
     let k : at + 1 + length xs ≡ at + suc (length xs) = omega arith in
-    let rest : nonzero_from (at + 1) (xs ++ ys) ≡ nonzero_from (at + 1) xs ++ nonzero_from (at + suc (length xs)) ys = nonzero-append (at + 1) xs ys ∙ ap (λ (n : ℕ). nonzero_from (at + 1) xs ++ nonzero_from n ys) k in
+    let rest : nonzero_from (at + 1) (xs ++ ys) ≡ nonzero_from (at + 1) xs ++ nonzero_from (at + suc (length xs)) ys =
+    nonzero-append (at + 1) xs ys ∙ ap (λ (n : ℕ). nonzero_from (at + 1) xs ++ nonzero_from n ys) k in
     elim (cases_Bool (x == 0)) [
       | inl t ↦ rw t rest
       | inr t ↦ rw t (ap (λ (zs : List (ℕ × ℕ)). (at, x) ∷ zs) rest)
@@ -22,7 +23,8 @@ nonzero-append at (x ∷ xs) ys =
 more : (xs : List ℕ) (i : ℕ) → i < length xs → nonzero (take (i + 1) xs) ≡ nonzero (take i xs) ++ nonzero_from i (get_or xs i 0 ∷ [])
 more xs i lt =
     let len : length (take i xs) ≡ i = length-take-le i xs (omega arith) in
-    ap nonzero (take_more xs i 0 lt) ∙ nonzero-append 0 (take i xs) (get_or xs i 0 ∷ []) ∙ ap (λ (n : ℕ). nonzero (take i xs) ++ nonzero_from n (get_or xs i 0 ∷ [])) (omega arith)
+    ap nonzero (take_more xs i 0 lt) ∙ nonzero-append 0 (take i xs) (get_or xs i 0 ∷ [])
+    ∙ ap (λ (n : ℕ). nonzero (take i xs) ++ nonzero_from n (get_or xs i 0 ∷ [])) (omega arith)
 
 pub nonzero_zero : (xs : List ℕ) (i : ℕ) → i < length xs → get_or xs i 0 ≡ 0 → nonzero (take (i + 1) xs) ≡ nonzero (take i xs)
 nonzero_zero xs i lt zero = more xs i lt ∙ rw zero (append-nil (nonzero (take i xs)))
@@ -45,7 +47,8 @@ pub pairs_size : (ps : List (ℕ × ℕ)) → length (flat_map pair ps) ≡ 8 * 
 pairs_size [] = refl
 pairs_size (p ∷ ps) = ap length (flat_map-cons pair p ps) ∙ length-append (pair p) (flat_map pair ps) ∙ omega (arith, pairs_size ps)
 
-pub pairs_more : (xs : List ℕ) (i : ℕ) → i < length xs → get_or xs i 0 ≢ 0 → flat_map pair (nonzero (take (i + 1) xs)) ≡ flat_map pair (nonzero (take i xs)) ++ pair (i, get_or xs i 0)
+pub pairs_more : (xs : List ℕ) (i : ℕ) → i < length xs → get_or xs i 0 ≢ 0
+    → flat_map pair (nonzero (take (i + 1) xs)) ≡ flat_map pair (nonzero (take i xs)) ++ pair (i, get_or xs i 0)
 pairs_more xs i lt some =
     ap (flat_map pair) (nonzero_some xs i lt some) ∙ flat_map-append pair (nonzero (take i xs)) ((i, get_or xs i 0) ∷ [])
     ∙ ap (λ (bs : List ℕ). flat_map pair (nonzero (take i xs)) ++ bs) (flat_map-cons pair (i, get_or xs i 0) [] ∙ append-nil (pair (i, get_or xs i 0)))

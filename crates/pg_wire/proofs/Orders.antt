@@ -24,7 +24,12 @@ pairs_tail R x xs h = λ i j d lt within. h (suc i) (suc j) d (omega arith) (ome
 
 pub ordered : {A : Type 0} (Stands : ℕ → A → Type 0) (IsItem : A → Type 0) (Precedes : A → A → Type 0) (next : A → ℕ) → Steps Stands Precedes next
     → (at : ℕ) (xs : List A) → Follow Stands IsItem next at xs → AreOrdered (Stands at) IsItem Precedes xs
-ordered Stands IsItem Precedes next steps at [] h = record { stand = λ i d lt. absurd (omega arith); items = λ i d lt. absurd (omega arith); order = λ i j d lt within. absurd (omega arith) }
+ordered Stands IsItem Precedes next steps at [] h = record {
+  stand = λ i d lt. absurd (omega arith);
+  items =
+      λ i d lt. absurd (omega arith);
+  order = λ i j d lt within. absurd (omega arith);
+}
 ordered Stands IsItem Precedes next steps at (x ∷ xs) h =
     let rest = ordered Stands IsItem Precedes next steps (next x) xs h.1 in
     let after : All (Precedes x) xs = all_map (Stands (next x)) (Precedes x) xs (steps.forth x) rest.stand in
@@ -67,5 +72,6 @@ stops {A} Stands IsItem next place at i xs x lt e h f =
     let now : Follow Stands IsItem next at (x ∷ drop (i + 1) xs) = subst (Follow Stands IsItem next at) parts (h.rest f) in
     now.0
 
-pub past : {A : Type 0} (Stands : ℕ → A → Type 0) (IsItem : A → Type 0) (next : A → ℕ) (at i : ℕ) (xs : List A) → length xs ≤ i → Follow Stands IsItem next at (drop i xs)
+pub past : {A : Type 0} (Stands : ℕ → A → Type 0) (IsItem : A → Type 0) (next : A → ℕ) (at i : ℕ) (xs : List A) → length xs ≤ i
+    → Follow Stands IsItem next at (drop i xs)
 past Stands IsItem next at i xs le = rw (drop_of_length-le xs le) tt

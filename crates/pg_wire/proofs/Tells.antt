@@ -14,7 +14,8 @@ use Rattle.pg_wire.specs.declared.kind.ValueKind.{ValueKind}
 use Rattle.pg_wire.specs.declared.kind.ValueKind.TheVariants.{Dense, Sparse}
 use Rattle.pg_wire.specs.Spelling.{word, counted, value, sparse_value, body}
 use Rattle.pg_wire.specs.Well.{IsCountable, IsComponents, IsValue, ArePlaces, IsSparseValue, IsWell}
-use Rattle.pg_wire.specs.Measured.{Measured, IsMeasured, nonzero, filled, dense_value, sparse_form, told_values, told_sparse, spelled_as, kind_number, frame_of, TellsMeasures}
+use Rattle.pg_wire.specs.Measured.{Measured, IsMeasured, nonzero, filled, dense_value, sparse_form, told_values, told_sparse, spelled_as}
+use Rattle.pg_wire.specs.Measured.{kind_number, frame_of, TellsMeasures}
 use Rattle.pg_wire.proofs.Orders.{pairs_head, pairs_tail}
 use Rattle.pg_wire.proofs.Filling.{nonzero_filled, filled_nonzero, places_nonzero, components_filled}
 
@@ -34,7 +35,8 @@ pub record IsOf (kind : ValueKind) (f : Frame) : Type 0 where
 
 pairs_map : {A B : Type 0} (f : A → B) (R : B → B → Type 0) (xs : List A) → AllPairs (λ x y. R (f x) (f y)) xs → AllPairs R (map f xs)
 pairs_map f R [] h = λ i j d lt within. absurd (omega arith)
-pairs_map f R (x ∷ xs) h = AllPairs-cons R (f x) (map f xs) (All-map (R (f x)) f xs (pairs_head (λ y z. R (f y) (f z)) x xs h)) (pairs_map f R xs (pairs_tail (λ y z. R (f y) (f z)) x xs h))
+pairs_map f R (x ∷ xs) h = AllPairs-cons R (f x) (map f xs) (All-map (R (f x)) f xs (pairs_head (λ y z. R (f y) (f z)) x xs h))
+    (pairs_map f R xs (pairs_tail (λ y z. R (f y) (f z)) x xs h))
 
 -- ---- there and back
 
@@ -53,7 +55,8 @@ places_again width (Some ps) h = ap (λ (qs : List (ℕ × ℕ)). Some qs) (nonz
 sparse_again : (width : ℕ) (vs : List SparseValue) → All (IsSparseValue width) vs → map sparse_form (told_sparse width vs) ≡ vs
 sparse_again width [] h = refl
 sparse_again width (v ∷ vs) h =
-    ap (λ (o : Option (List (ℕ × ℕ))). record { vertex = v.vertex; pairs = o } ∷ map sparse_form (told_sparse width vs)) (places_again width v.pairs (h 0 v (omega arith)).pairs)
+    ap (λ (o : Option (List (ℕ × ℕ))). record { vertex = v.vertex; pairs = o } ∷ map sparse_form (told_sparse width vs))
+    (places_again width v.pairs (h 0 v (omega arith)).pairs)
     ∙ ap (λ (ws : List SparseValue). v ∷ ws) (sparse_again width vs (λ i d lt. h (suc i) d (omega arith)))
 
 components_again : (width : ℕ) (o : Option (List ℕ)) → IfSome o (IsComponents width) → option_map (filled width) (option_map nonzero o) ≡ o
@@ -98,7 +101,8 @@ measures_of Dense (frames.Values v) bytes well e = record {
   measures = record {
     within = well.width;
     countable = rw length-map well.countable;
-    each = All-map (IsMeasured v.width) (λ (x : Value). (x.vertex, x.list)) v.values (λ i d lt. record { vertex = (well.values i d lt).vertex; list = (well.values i d lt).list });
+    each = All-map (IsMeasured v.width) (λ (x : Value). (x.vertex, x.list)) v.values
+        (λ i d lt. record { vertex = (well.values i d lt).vertex; list = (well.values i d lt).list });
     rising = pairs_map (λ (x : Value). (x.vertex, x.list)) (λ x y. x.0 < y.0) v.values well.rising;
   };
   same = ap (λ (vs : List Value). frames.Values (record { width = v.width; values = vs })) (dense_again v.values);
@@ -109,14 +113,16 @@ measures_of Sparse (frames.Sparse s) bytes well e = record {
   measures = record {
     within = well.width;
     countable = rw length-map well.countable;
-    each = All-map (IsMeasured s.width) (λ (x : SparseValue). (x.vertex, option_map (filled s.width) x.pairs)) s.values (λ i d lt. record { vertex = (well.values i d lt).vertex; list = components_of s.width _ (well.values i d lt).pairs });
+    each = All-map (IsMeasured s.width) (λ (x : SparseValue). (x.vertex, option_map (filled s.width) x.pairs)) s.values
+        (λ i d lt. record { vertex = (well.values i d lt).vertex; list = components_of s.width _ (well.values i d lt).pairs });
     rising = pairs_map (λ (x : SparseValue). (x.vertex, option_map (filled s.width) x.pairs)) (λ x y. x.0 < y.0) s.values well.rising;
   };
   same = ap (λ (vs : List SparseValue). frames.Sparse (record { width = s.width; values = vs })) (sparse_again s.width s.values well.values);
 }
 measures_of kind f bytes well e = absurd (omega (arith, ap (λ (bs : List ℕ). get_or bs 0 0) e))
 
-pub body_is : (kind : ValueKind) (width : ℕ) (ms : List Measured) → body (frame_of kind width ms) ≡ kind_number kind ∷ (word width ++ counted (spelled_as kind) ms)
+pub body_is : (kind : ValueKind) (width : ℕ) (ms : List Measured)
+    → body (frame_of kind width ms) ≡ kind_number kind ∷ (word width ++ counted (spelled_as kind) ms)
 body_is Dense width ms = rw (flat_map-map value dense_value ms, length-map ms dense_value) refl
 body_is Sparse width ms = rw (flat_map-map sparse_value sparse_form ms, length-map ms sparse_form) refl
 
@@ -130,6 +136,7 @@ told_by width (frames.Values v) = told_values v.values
 told_by width (frames.Sparse s) = told_sparse width s.values
 told_by width f = []
 
-pub one_list : (kind : ValueKind) (width : ℕ) (ms ns : List Measured) → All (IsMeasured width) ms → All (IsMeasured width) ns → frame_of kind width ms ≡ frame_of kind width ns → ms ≡ ns
+pub one_list : (kind : ValueKind) (width : ℕ) (ms ns : List Measured) → All (IsMeasured width) ms → All (IsMeasured width) ns
+    → frame_of kind width ms ≡ frame_of kind width ns → ms ≡ ns
 one_list Dense width ms ns a b e = sym (dense_told ms) ∙ ap (told_by width) e ∙ dense_told ns
 one_list Sparse width ms ns a b e = sym (sparse_told width ms a) ∙ ap (told_by width) e ∙ sparse_told width ns b

@@ -5,7 +5,8 @@ use Rattle.std.proofs.lemmas.Bool.{cases_lt}
 use Rattle.pg_measure.specs.Measures.{BoundList, width_from}
 use Rattle.pg_measure.proofs.Widths.{width_is}
 
-before : (bs : BoundList) (p i k : ℕ) (d : ℕ × ℕ) → AllPairs (λ b c. c.0 < b.0) bs → i < length bs → ((d : ℕ × ℕ) → (get_or bs i d).0 ≡ p) → k < i + 1 → (k < i) ⊎ (i ≤ k) → p ≤ (get_or bs k d).0
+before : (bs : BoundList) (p i k : ℕ) (d : ℕ × ℕ) → AllPairs (λ b c. c.0 < b.0) bs → i < length bs → ((d : ℕ × ℕ) → (get_or bs i d).0 ≡ p)
+    → k < i + 1 → (k < i) ⊎ (i ≤ k) → p ≤ (get_or bs k d).0
 before bs p i k d f l e m (inl lt) = let a = f k i d lt l in let b = e d in omega arith
 before bs p i k d f l e m (inr ge) =
     let same : i ≡ k = omega arith in

@@ -20,11 +20,27 @@ use Rattle.pg_worker.specs.Turns.{HeldValue, Turn, RefusesBytes}
 use Rattle.pg_worker.specs.Serving.{Replies, Exchanges, IsFaultAt, Breaks, report_bytes}
 use Rattle.pg_worker.specs.Mirrors.Steps.{Answers}
 
-replies_more : (a : Option HeldValue) (fs : List Frame) (b : Option HeldValue) (bytes : List ℕ) (f : Frame) (c : Option HeldValue) (reply : List ℕ) → Replies a fs b bytes → Turn b f c reply → Replies a (fs ++ f ∷ []) c (bytes ++ reply)
-replies_more a [] b bytes f c reply r t = (c, reply, [], subst (λ (h : Option HeldValue). Turn h f c reply) r.0 t, (refl, refl), ap (λ (bs : List ℕ). bs ++ reply) r.1 ∙ sym (append-nil reply))
-replies_more a (g ∷ fs) b bytes f c reply r t = (r.0, r.1, r.2 ++ reply, r.3, replies_more r.0 fs b r.2 f c reply r.4 t, ap (λ (bs : List ℕ). bs ++ reply) r.5 ∙ append_assoc r.1 r.2 reply)
+replies_more : (a : Option HeldValue) (fs : List Frame) (b : Option HeldValue) (bytes : List ℕ) (f : Frame) (c : Option HeldValue) (reply : List ℕ)
+    → Replies a fs b bytes → Turn b f c reply → Replies a (fs ++ f ∷ []) c (bytes ++ reply)
+replies_more a [] b bytes f c reply r t = (
+  c,
+  reply,
+  [],
+  subst (λ (h : Option HeldValue). Turn h f c reply) r.0 t,
+  (refl, refl),
+  ap (λ (bs : List ℕ). bs ++ reply) r.1 ∙ sym (append-nil reply),
+)
+replies_more a (g ∷ fs) b bytes f c reply r t = (
+  r.0,
+  r.1,
+  r.2 ++ reply,
+  r.3,
+  replies_more r.0 fs b r.2 f c reply r.4 t,
+  ap (λ (bs : List ℕ). bs ++ reply) r.5 ∙ append_assoc r.1 r.2 reply,
+)
 
-pub exchanges_more : (i i' i'' o o' o'' : Option (List ℕ)) (fs : List Frame) (f : Frame) (held held' : Option HeldValue) → Exchanges i i' o o' fs held → Answers f held held' i' i'' o' o'' → Exchanges i i'' o o'' (fs ++ f ∷ []) held'
+pub exchanges_more : (i i' i'' o o' o'' : Option (List ℕ)) (fs : List Frame) (f : Frame) (held held' : Option HeldValue)
+    → Exchanges i i' o o' fs held → Answers f held held' i' i'' o' o'' → Exchanges i i'' o o'' (fs ++ f ∷ []) held'
 exchanges_more i i' i'' o o' o'' fs f held held' e a =
     let spelled : flat_map spelling fs ++ spelling f ≡ flat_map spelling (fs ++ f ∷ []) =
     sym (flat_map-append spelling fs (f ∷ []) ∙ ap (λ (bs : List ℕ). flat_map spelling fs ++ bs) (flat_map-cons spelling f [] ∙ append-nil (spelling f))) in
@@ -39,8 +55,10 @@ exchanges_more i i' i'' o o' o'' fs f held held' e a =
 abbrev write_fault : WorkerFault
 write_fault = Wire wire.Write
 
-pub broken_off : (e fault : WorkerFault) (input left output before before' output' : Option (List ℕ)) (fs : List Frame) (held : Option HeldValue) → Exchanges input left output before fs held → All (λ f. f ≢ frames.Halt) fs → length fs < 4294967295
-    → (fault ≡ Wire wire.Write) ⊎ (IsFaultAt left held fault × (before' ≡ before)) → ((e ≡ fault) × Appends before' output' (report_bytes fault)) ⊎ (e ≡ Wire wire.Write)
+pub broken_off : (e fault : WorkerFault) (input left output before before' output' : Option (List ℕ)) (fs : List Frame) (held : Option HeldValue)
+    → Exchanges input left output before fs held → All (λ f. f ≢ frames.Halt) fs → length fs < 4294967295
+    → (fault ≡ Wire wire.Write) ⊎ (IsFaultAt left held fault × (before' ≡ before))
+    → ((e ≡ fault) × Appends before' output' (report_bytes fault)) ⊎ (e ≡ Wire wire.Write)
     → (e ≡ Wire wire.Write) ⊎ Breaks e input output output'
 broken_off e fault input left output before before' output' fs held x going few (inl w) (inl t) = inl (t.0 ∙ w)
 broken_off e fault input left output before before' output' fs held x going few (inl w) (inr t) = inl t
@@ -56,14 +74,16 @@ broken_off e fault input left output before before' output' fs held x going few 
       going = going;
       few = few;
       fault = subst (IsFaultAt left held) back w.0;
-      told_is = subst (λ (g : WorkerFault). Appends before output' (report_bytes g)) back (subst (λ (b : Option (List ℕ)). Appends b output' (report_bytes fault)) w.1 t.1);
+      told_is = subst (λ (g : WorkerFault). Appends before output' (report_bytes g)) back
+          (subst (λ (b : Option (List ℕ)). Appends b output' (report_bytes fault)) w.1 t.1);
     })
 
 -- a session refused the bytes that were read
 pub refused_at : (input input' : Option (List ℕ)) (bytes : List ℕ) (held : Option HeldValue) (e : WorkerFault) → IsWhole bytes → Consumes input input' bytes
     → (e ≡ OutOfMemory) ⊎ RefusesBytes 2 held bytes e → IsFaultAt input held e
 refused_at input input' bytes held e w p (inl memory) = inl memory
-refused_at input input' bytes held e w p (inr (inl s)) = inr (inr (inl (s.fault, s.why_is, s.of_bytes, refused_known input input' bytes s.fault p w s.none s.too_long.0 s.truncated.0)))
+refused_at input input' bytes held e w p (inr (inl s)) =
+    inr (inr (inl (s.fault, s.why_is, s.of_bytes, refused_known input input' bytes s.fault p w s.none s.too_long.0 s.truncated.0)))
 refused_at input input' bytes held e w p (inr (inr r)) =
     let read = got input input' bytes r.0 p r.1 in
     inr (inr (inr (r.0, input', read.0, read.1, r.2)))

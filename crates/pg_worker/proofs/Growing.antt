@@ -1,5 +1,6 @@
 -- Lines that are read from a frame and added to a part, and the turns that they make.
-use Rattle.std.proofs.Common.{◌≡◌, ◌∙◌, ℕ, zero, suc, ◌<◌, ◌++◌, ◌⊎◌, List, [], ◌∷◌, Option, Some, None, length, set, refl, sym, ap, subst, append_assoc, inl, inr, arith}
+use Rattle.std.proofs.Common.{◌≡◌, ◌∙◌, ℕ, zero, suc, ◌<◌, ◌++◌, ◌⊎◌, List, [], ◌∷◌, Option, Some, None, length, set, refl, sym, ap, subst}
+use Rattle.std.proofs.Common.{append_assoc, inl, inr, arith}
 use Rattle.std.specs.Prelude.{All, AllPairs, IsSome}
 use Rattle.std.proofs.lemmas.Bool.{cases_eq}
 use Rattle.std.proofs.lemmas.List.{get_or-set_other}
@@ -45,7 +46,8 @@ pub record FirstLine (back : List VertexLine) (r : VerticesReader) (l : VertexLi
   pub parts : back ≡ l ∷ rest
   pub left : AreLeft r rest
 
-first_line : (back : List VertexLine) (r : VerticesReader) (row : List ℕ) (head : LineHead) → IsNextLine back r row (Some head) → FirstLine back r (line_with head row)
+first_line : (back : List VertexLine) (r : VerticesReader) (row : List ℕ) (head : LineHead) → IsNextLine back r row (Some head)
+    → FirstLine back r (line_with head row)
 first_line [] r row head h = absurd cc
 first_line (l ∷ ls) r row head h =
     let told : head ≡ head_of l = some_is head (head_of l) h.0 in
@@ -59,7 +61,8 @@ none_left (l ∷ ls) r row h = absurd cc
 abbrev pub Reads : VerticesReader → VerticesReader → List ℕ → Option LineHead → Type 0
 Reads r r' row answer = (back : List VertexLine) → AreLeft r back → IsNextLine back r' row answer
 
-pub is_line : (w : WorkerValue) (ls : List VertexLine) (u : WorkerValue) (r r' : VerticesReader) (row : List ℕ) (head : LineHead) → Reads r r' row (Some head) → Added w ls u r → IsVertexLine (line_with head row)
+pub is_line : (w : WorkerValue) (ls : List VertexLine) (u : WorkerValue) (r r' : VerticesReader) (row : List ℕ) (head : LineHead)
+    → Reads r r' row (Some head) → Added w ls u r → IsVertexLine (line_with head row)
 is_line w ls u r r' row head next j =
     let f = first_line j.back r' row head (next j.back j.left) in
     let all : All IsVertexLine (line_with head row ∷ f.rest) = subst (λ (ks : List VertexLine). All IsVertexLine ks) f.parts j.left.lines in
@@ -119,20 +122,23 @@ only P l p = All-cons P l [] p (λ i d lt. absurd (omega arith))
 above_grown : (lines : List (Option Line)) (front : List VertexLine) (l : VertexLine) → AreAbove (with_lines lines front) (l ∷ []) → AreBelow lines l.vertex
 above_grown lines front l h = λ v s. h v (all_stay lines front v s) 0 l (omega arith)
 
-above_whole : (lines : List (Option Line)) (front : List VertexLine) (l : VertexLine) (rest : List VertexLine) → Rise (front ++ l ∷ rest) → AreAbove lines front → AreAbove (with_lines lines front) (l ∷ []) → AreAbove lines (front ++ l ∷ rest)
+above_whole : (lines : List (Option Line)) (front : List VertexLine) (l : VertexLine) (rest : List VertexLine) → Rise (front ++ l ∷ rest)
+    → AreAbove lines front → AreAbove (with_lines lines front) (l ∷ []) → AreAbove lines (front ++ l ∷ rest)
 above_whole lines front l rest rise above one = λ v s.
     let here : v < l.vertex = above_grown lines front l one v s in
     let more : All (λ k. v < k.vertex) rest = λ i d lt. let a = rest_above front l rest rise i d lt in omega arith in
     All-append (λ (k : VertexLine). v < k.vertex) front (l ∷ rest) (above v s) (All-cons (λ (k : VertexLine). v < k.vertex) l rest here more)
 
-above_one : (lines : List (Option Line)) (front : List VertexLine) (l : VertexLine) (rest : List VertexLine) → Rise (front ++ l ∷ rest) → AreAbove lines (front ++ l ∷ rest) → AreAbove (with_lines lines front) (l ∷ [])
+above_one : (lines : List (Option Line)) (front : List VertexLine) (l : VertexLine) (rest : List VertexLine) → Rise (front ++ l ∷ rest)
+    → AreAbove lines (front ++ l ∷ rest) → AreAbove (with_lines lines front) (l ∷ [])
 above_one lines front l rest rise above = λ v s.
     let old : AreBelow lines l.vertex = λ u t. all_mid (λ (k : VertexLine). u < k.vertex) front l rest (above u t) in
     only (λ (k : VertexLine). v < k.vertex) l (all_below lines front l.vertex old (front_below front l rest rise) v s)
 
 -- ---- steps and ends
 
-pub added_more : (w : WorkerValue) (ls : List VertexLine) (u u' : WorkerValue) (r r' : VerticesReader) (row : List ℕ) (head : LineHead) → Reads r r' row (Some head) → u' ≡ adding u (line_with head row ∷ [])
+pub added_more : (w : WorkerValue) (ls : List VertexLine) (u u' : WorkerValue) (r r' : VerticesReader) (row : List ℕ) (head : LineHead)
+    → Reads r r' row (Some head) → u' ≡ adding u (line_with head row ∷ [])
     → AreAbove u.lines (line_with head row ∷ []) → Fit u (line_with head row ∷ []) → Added w ls u r → Added w ls u' r'
 added_more w ls u u' r r' row head next new above fits j =
     let f = first_line j.back r' row head (next j.back j.left) in
@@ -144,16 +150,21 @@ added_more w ls u u' r r' row head next new above fits j =
       back = f.rest;
       parts = j.parts ∙ ap (λ (ks : List VertexLine). j.front ++ ks) f.parts ∙ sym (append_assoc j.front (l ∷ []) f.rest);
       left = f.left;
-      added = new ∙ ap (λ (x : WorkerValue). adding x (l ∷ [])) j.added ∙ ap (λ (ks : List (Option Line)). record w { lines = ks }) (sym (with_lines_more w.lines j.front l));
+      added = new ∙ ap (λ (x : WorkerValue). adding x (l ∷ [])) j.added
+          ∙ ap (λ (ks : List (Option Line)). record w { lines = ks }) (sym (with_lines_more w.lines j.front l));
       above = λ v s. All-push (λ (k : VertexLine). v < k.vertex) j.front l (j.above v s) (above_grown w.lines j.front l one v s);
       fit = All-push (FitsGame w.bounds (length w.map)) j.front l j.fit fit;
     }
 
-refused_whole : (w : WorkerValue) (front : List VertexLine) (l : VertexLine) (rest : List VertexLine) (why : WorkerFault) → Rise (front ++ l ∷ rest) → AreAbove w.lines front → RefusesLines (adding w front) (l ∷ []) why → RefusesLines w (front ++ l ∷ rest) why
+refused_whole : (w : WorkerValue) (front : List VertexLine) (l : VertexLine) (rest : List VertexLine) (why : WorkerFault)
+    → Rise (front ++ l ∷ rest) → AreAbove w.lines front → RefusesLines (adding w front) (l ∷ []) why
+    → RefusesLines w (front ++ l ∷ rest) why
 refused_whole w front l rest OutOfMemory rise above h = h
 refused_whole w front l rest NotMine rise above h = h
-refused_whole w front l rest BadUpdate rise above h =
-    (above_whole w.lines front l rest rise above h.0, λ all. h.1 (only (FitsGame w.bounds (length w.map)) l (all_mid (FitsGame w.bounds (length w.map)) front l rest all)))
+refused_whole w front l rest BadUpdate rise above h = (
+  above_whole w.lines front l rest rise above h.0,
+  λ all. h.1 (only (FitsGame w.bounds (length w.map)) l (all_mid (FitsGame w.bounds (length w.map)) front l rest all)),
+)
 refused_whole w front l rest Order rise above h = λ all. h (above_one w.lines front l rest rise all)
 refused_whole w front l rest (Wire f) rise above h = h
 

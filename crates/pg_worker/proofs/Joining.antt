@@ -29,7 +29,8 @@ pub joins_none : (f : List MeasureValue) → Joins f [] f
 joins_none f = record { size = refl; above = map_reflexive f; each = all_none (λ m. AtMost m.1 (measure_at f m.0)); least = λ h above each. above }
 
 -- the new measure is at most the new map, and the new map at most each that is at least the old one and the measure
-rises : (g g' h : List MeasureValue) (v : ℕ) (m : MeasureValue) (rose : Bool) → v < length g → MatchBool rose (IsBelow (measure_at g v) m × (g' ≡ slice_set g v m)) (AtMost m (measure_at g v) × (g' ≡ g))
+rises : (g g' h : List MeasureValue) (v : ℕ) (m : MeasureValue) (rose : Bool) → v < length g
+    → MatchBool rose (IsBelow (measure_at g v) m × (g' ≡ slice_set g v m)) (AtMost m (measure_at g v) × (g' ≡ g))
     → AtMost m (measure_at g' v) × (MapAtMost g h → AtMost m (measure_at h v) → MapAtMost g' h)
 rises g g' h v m true lt c = (
   rw (c.1, get_or-set_same g v m None lt) (at_most_same m),
@@ -40,12 +41,15 @@ rises g g' h v m true lt c = (
 )
 rises g g' h v m false lt c = (rw c.1 c.0, λ below most. rw c.1 below)
 
-pub joins_more : (f g g' : List MeasureValue) (ms : List Measured) (v : ℕ) (m : MeasureValue) (rose : Bool) → Joins f ms g → v < length g → length g' ≡ length g → MapAtMost g g'
+pub joins_more : (f g g' : List MeasureValue) (ms : List Measured) (v : ℕ) (m : MeasureValue) (rose : Bool) → Joins f ms g → v < length g
+    → length g' ≡ length g → MapAtMost g g'
     → MatchBool rose (IsBelow (measure_at g v) m × (g' ≡ slice_set g v m)) (AtMost m (measure_at g v) × (g' ≡ g)) → Joins f (ms ++ (v, m) ∷ []) g'
 joins_more f g g' ms v m rose j lt size above c = record {
   size = size ∙ j.size;
   above = map_transitive f g g' j.above above;
-  each = All-push (λ n. AtMost n.1 (measure_at g' n.0)) ms (v, m) (all_map (λ n. AtMost n.1 (measure_at g n.0)) (λ n. AtMost n.1 (measure_at g' n.0)) ms (λ n h. at_most_all n.1 (measure_at g n.0) (measure_at g' n.0) h (above n.0)) j.each) (rises g g' g' v m rose lt c).0;
+  each = All-push (λ n. AtMost n.1 (measure_at g' n.0)) ms (v, m) (all_map (λ n. AtMost n.1 (measure_at g n.0))
+      (λ n. AtMost n.1 (measure_at g' n.0)) ms (λ n h. at_most_all n.1 (measure_at g n.0) (measure_at g' n.0) h (above n.0)) j.each)
+      (rises g g' g' v m rose lt c).0;
   least = λ h over each.
       let parts = all_front (λ n. AtMost n.1 (measure_at h n.0)) ms (v, m) each in
       (rises g g' h v m rose lt c).1 (j.least h over parts.0) parts.1;
@@ -57,10 +61,13 @@ same_worker w w' a b c d = rw (← a, ← b, ← c, ← d) refl
 pub all_joined_none : (w : WorkerValue) → JoinsAll w [] w
 all_joined_none w = record { joins = joins_none w.map; others = refl }
 
-pub all_joined_more : (w u u' : WorkerValue) (ms : List Measured) (v : ℕ) (m : MeasureValue) (rose : Bool) → JoinsAll w ms u → CanTake u v m → Takes u u' v m rose → JoinsAll w (ms ++ (v, m) ∷ []) u'
+pub all_joined_more : (w u u' : WorkerValue) (ms : List Measured) (v : ℕ) (m : MeasureValue) (rose : Bool) → JoinsAll w ms u → CanTake u v m
+    → Takes u u' v m rose → JoinsAll w (ms ++ (v, m) ∷ []) u'
 all_joined_more w u u' ms v m rose j can t = record {
   joins = joins_more w.map u.map u'.map ms v m rose j.joins can.0 t.part.size t.join.first t.change;
-  others = same_worker w u' (t.part.bounds ∙ ap (λ (x : WorkerValue). x.bounds) j.others) (t.part.lines ∙ ap (λ (x : WorkerValue). x.lines) j.others) (t.others.0 ∙ ap (λ (x : WorkerValue). x.kept) j.others) (t.others.1 ∙ ap (λ (x : WorkerValue). x.lifted) j.others);
+  others = same_worker w u' (t.part.bounds ∙ ap (λ (x : WorkerValue). x.bounds) j.others)
+      (t.part.lines ∙ ap (λ (x : WorkerValue). x.lines) j.others) (t.others.0 ∙ ap (λ (x : WorkerValue). x.kept) j.others)
+      (t.others.1 ∙ ap (λ (x : WorkerValue). x.lifted) j.others);
 }
 
 -- which values can be taken doesn't change

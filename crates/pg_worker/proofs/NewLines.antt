@@ -36,13 +36,15 @@ before_new lines lines' v l (suc n) new le =
     omega arith
 
 -- so many edges more
-pub edges_more : (lines lines' : ℕ → Option Line) (v : ℕ) (l : Line) (n : ℕ) → IsNewLine lines lines' v l → v < n → edges_of lines' n ≡ edges_of lines n + length l.successors
+pub edges_more : (lines lines' : ℕ → Option Line) (v : ℕ) (l : Line) (n : ℕ) → IsNewLine lines lines' v l → v < n
+    → edges_of lines' n ≡ edges_of lines n + length l.successors
 edges_more lines lines' v l zero new lt = absurd (omega arith)
 edges_more lines lines' v l (suc n) new lt =
     elim (cases_eq n v) [
       | inl e ↦
           let a = before_new lines lines' v l n new (omega arith) in
-          let b : length (line_at lines' n).successors ≡ length l.successors = ap (λ (w : ℕ). length (line_at lines' w).successors) e ∙ ap (λ (k : Line). length k.successors) new.line in
+          let b : length (line_at lines' n).successors ≡ length l.successors = ap (λ (w : ℕ). length (line_at lines' w).successors) e
+          ∙ ap (λ (k : Line). length k.successors) new.line in
           let c : length (line_at lines n).successors ≡ 0 = ap (λ (w : ℕ). length (line_at lines w).successors) e ∙ no_edges lines v new.none in
           omega arith
       | inr ne ↦

@@ -1,5 +1,6 @@
 -- The replies of a session are well frames, and tell the measures of the vertices that were lifted.
-use Rattle.std.proofs.Common.{◌≡◌, ℕ, zero, suc, ◌<◌, ◌≤◌, Bool, true, false, List, [], ◌∷◌, ◌++◌, length, get_or, Option, Some, None, refl, sym, ap, subst, ◌∙◌, arith, inl, inr}
+use Rattle.std.proofs.Common.{◌≡◌, ℕ, zero, suc, ◌<◌, ◌≤◌, Bool, true, false, List, [], ◌∷◌, ◌++◌, length, get_or, Option, Some, None, refl}
+use Rattle.std.proofs.Common.{sym, ap, subst, ◌∙◌, arith, inl, inr}
 use Rattle.std.specs.Prelude.{All, AllPairs, IfSome, IsSome, if◌then◌else◌}
 use Rattle.std.specs.List.{flat_map}
 use Rattle.std.proofs.lemmas.Bool.{cases_eq, cases_lt}
@@ -115,7 +116,13 @@ one_group : (Q : Measured → Type 0) (kind : ValueKind) (width : ℕ) (ms : Lis
 one_group Q kind width ms narrow within told rising holds =
     let count : length ms ≤ length (fields kind ms) = few (spelled_as kind) ms (has_bytes kind) in
     let word : IsWord (length ms) = omega (arith, count, body_size kind width ms, within) in
-    one_frame (Tells Q) (frame_of kind width ms) (record { well = well_of kind width ms (record { within = narrow; countable = word; each = told; rising = rising }); within = within; spelled = refl })
+    one_frame (Tells Q) (frame_of kind width ms)
+    (record {
+      well = well_of kind width ms (record { within = narrow; countable = word; each = told; rising = rising });
+      within =
+          within;
+      spelled = refl;
+    })
     (rw (frame_tells kind width ms told) holds)
 
 abbrev same_list : List Measured → List Measured
@@ -123,7 +130,8 @@ same_list group = group
 
 groups_tell : (Q : Measured → Type 0) (kind : ValueKind) (width : ℕ) (groups : List (List Measured)) (ms : List Measured) → flat_map same_list groups ≡ ms
     → ArePacked kind width groups → width ≤ 32768
-    → All (IsMeasured width) ms → AllPairs (λ m n. m.0 < n.0) ms → All Q ms → AreFrames (Tells Q) (flat_map (λ group. spelling (frame_of kind width group)) groups)
+    → All (IsMeasured width) ms → AllPairs (λ m n. m.0 < n.0) ms → All Q ms
+    → AreFrames (Tells Q) (flat_map (λ group. spelling (frame_of kind width group)) groups)
 groups_tell Q kind width [] ms e packed narrow told rising holds = no_frames (Tells Q)
 groups_tell Q kind width (g ∷ gs) ms e packed narrow told rising holds =
     let rest = flat_map same_list gs in
@@ -135,7 +143,8 @@ groups_tell Q kind width (g ∷ gs) ms e packed narrow told rising holds =
     rw (flat_map-cons (λ group. spelling (frame_of kind width group)) g gs)
     (frames_then (Tells Q) (spelling (frame_of kind width g)) (flat_map (λ group. spelling (frame_of kind width group)) gs)
     (one_group Q kind width g narrow packed.1 (all_left (IsMeasured width) g rest told') (pairs_left R g rest rising') (all_left Q g rest holds'))
-    (groups_tell Q kind width gs rest refl packed.3 narrow (all_right (IsMeasured width) g rest told') (pairs_right R g rest rising') (all_right Q g rest holds')))
+    (groups_tell Q kind width gs rest refl packed.3 narrow (all_right (IsMeasured width) g rest told') (pairs_right R g rest rising')
+    (all_right Q g rest holds')))
 
 -- ---- reports
 

@@ -13,14 +13,16 @@ use Rattle.pg_worker.specs.Workers.{IsLiftBy, AreLifts}
 use Rattle.pg_worker.specs.Mirrors.Lifts.{AreListedLifts}
 
 -- a lift more
-pub lifts_more : (bs : BoundList) (lines : ℕ → Option Line) (f g h : List MeasureValue) (us : List Update) (u : Update) → AreLifts bs lines f us g → IsLiftBy bs lines g u h → AreLifts bs lines f (us ++ u ∷ []) h
+pub lifts_more : (bs : BoundList) (lines : ℕ → Option Line) (f g h : List MeasureValue) (us : List Update) (u : Update)
+    → AreLifts bs lines f us g → IsLiftBy bs lines g u h → AreLifts bs lines f (us ++ u ∷ []) h
 lifts_more bs lines f g h [] u e l = (h, subst (λ (x : List MeasureValue). IsLiftBy bs lines x u h) e l, refl)
 lifts_more bs lines f g h (w ∷ ws) u r l = (r.0, r.1, lifts_more bs lines r.0 g h ws u r.2 l)
 
 abbrev pub update_of : BoundList → List MeasureValue → ℕ → Update
 update_of bs g v = record { vertex = v; measure = owned (measure_at g v) (length bs) }
 
-pub lift_by : (bs : BoundList) (lines : ℕ → Option Line) (f g : List MeasureValue) (v : ℕ) → IsSome (lines v) → IsLifted bs lines f g v → IsLiftBy bs lines f (update_of bs g v) g
+pub lift_by : (bs : BoundList) (lines : ℕ → Option Line) (f g : List MeasureValue) (v : ℕ) → IsSome (lines v) → IsLifted bs lines f g v
+    → IsLiftBy bs lines f (update_of bs g v) g
 lift_by bs lines f g v s l = record { mine = s; lifted = l; measure = refl }
 
 all_more : {X : Type 0} (P : X → Type 0) (xs : List X) (x : X) → All P xs → P x → All P (xs ++ x ∷ [])
@@ -49,6 +51,7 @@ listed_more bs lines f g h vs ws v n s lifted there more only a =
       each = all_more (λ (x : Update). Contains ws x.vertex) a.updates u (λ i d lt. more _ (a.each i d lt)) there;
       only = λ i d lt. elim (only (get_or ws i d) (i, lt, get_or_default ws i (get_or ws i d) d lt)) [
         | inl e ↦ any_last (λ (x : Update). x.vertex ≡ get_or ws i d) a.updates u (sym e)
-        | inr k ↦ any_more (λ (x : Update). x.vertex ≡ get_or ws i d) a.updates u (subst (λ (w : ℕ). Any (λ (x : Update). x.vertex ≡ w) a.updates) k.2 (a.only k.0 (get_or ws i d) k.1))
+        | inr k ↦ any_more (λ (x : Update). x.vertex ≡ get_or ws i d) a.updates u
+            (subst (λ (w : ℕ). Any (λ (x : Update). x.vertex ≡ w) a.updates) k.2 (a.only k.0 (get_or ws i d) k.1))
       ];
     }

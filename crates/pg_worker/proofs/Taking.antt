@@ -1,5 +1,6 @@
 -- Measures that are read from a frame and joined, and the turns that they make.
-use Rattle.std.proofs.Common.{◌≡◌, ◌≢◌, ℕ, suc, ◌++◌, ◌↔◌, ◌⊎◌, IsTrue, Bool, false, cond, List, [], ◌∷◌, Option, Some, None, Result, Ok, Err, refl, sym, ap, subst, ◌∙◌, append_assoc, inl, inr, arith}
+use Rattle.std.proofs.Common.{◌≡◌, ◌≢◌, ℕ, suc, ◌++◌, ◌↔◌, ◌⊎◌, IsTrue, Bool, false, cond, List, [], ◌∷◌, Option, Some, None, Result, Ok}
+use Rattle.std.proofs.Common.{Err, refl, sym, ap, subst, ◌∙◌, append_assoc, inl, inr, arith}
 use Rattle.std.specs.Prelude.{All, IfOk, IfErr, OnOk}
 use Rattle.std.proofs.lemmas.List.{append-nil}
 use Rattle.std.proofs.lemmas.List.Elements.{All-push}
@@ -53,7 +54,8 @@ pub record First (back : List Measured) (r : ValuesReader) (n : ℕ) (m : Measur
 pub some_is : {A : Type 0} (x y : A) → Some x ≡ Some y → x ≡ y
 some_is x y e = cc
 
-pub first_is : (back : List Measured) (r : ValuesReader) (row row' : List ℕ) (n : ℕ) (top : Bool) → IsNext back r row row' (Some (n, top)) → First back r n (in_row top row')
+pub first_is : (back : List Measured) (r : ValuesReader) (row row' : List ℕ) (n : ℕ) (top : Bool) → IsNext back r row row' (Some (n, top))
+    → First back r n (in_row top row')
 first_is [] r row row' n top h = absurd cc
 first_is (m ∷ ms) r row row' n top h =
     let read : ℕ × Bool = (n, top) in
@@ -64,7 +66,8 @@ first_is (m ∷ ms) r row row' n top h =
     let measure : in_row top row' ≡ m.1 = measure_is m.1 top row row' tag h.1 in
     record { rest = ms; parts = ap (λ (k : ℕ). (k, m.1) ∷ ms) (sym number) ∙ ap (λ (o : MeasureValue). (n, o) ∷ ms) (sym measure); left = h.2 }
 
-pub joined_more : (w : WorkerValue) (ms : List Measured) (u u' : WorkerValue) (r r' : ValuesReader) (row row' : List ℕ) (n : ℕ) (top rose : Bool) → ((back : List Measured) → IsLeft r back → IsNext back r' row row' (Some (n, top)))
+pub joined_more : (w : WorkerValue) (ms : List Measured) (u u' : WorkerValue) (r r' : ValuesReader) (row row' : List ℕ) (n : ℕ) (top rose : Bool)
+    → ((back : List Measured) → IsLeft r back → IsNext back r' row row' (Some (n, top)))
     → CanTake u n (in_row top row') → Takes u u' n (in_row top row') rose → Joined w ms u r → Joined w ms u' r'
 joined_more w ms u u' r r' row row' n top rose next can takes j =
     let f = first_is j.back r' row row' n top (next j.back j.left) in
@@ -82,7 +85,8 @@ pub none_left : (back : List Measured) (r : ValuesReader) (row row' : List ℕ) 
 none_left [] r row row' h = refl
 none_left (m ∷ ms) r row row' h = absurd cc
 
-pub joined_all : (w : WorkerValue) (ms : List Measured) (u : WorkerValue) (r r' : ValuesReader) (row row' : List ℕ) → ((back : List Measured) → IsLeft r back → IsNext back r' row row' None) → Joined w ms u r → JoinsAll w ms u × CanTakeAll w ms
+pub joined_all : (w : WorkerValue) (ms : List Measured) (u : WorkerValue) (r r' : ValuesReader) (row row' : List ℕ)
+    → ((back : List Measured) → IsLeft r back → IsNext back r' row row' None) → Joined w ms u r → JoinsAll w ms u × CanTakeAll w ms
 joined_all w ms u r r' row row' next j =
     let none : j.back ≡ [] = none_left j.back r' row row' (next j.back j.left) in
     let all : j.front ≡ ms = sym (j.parts ∙ ap (λ (ns : List Measured). j.front ++ ns) none ∙ append-nil j.front) in
@@ -92,7 +96,8 @@ pub all_mid : {X : Type 0} (P : X → Type 0) (front : List X) (m : X) (rest : L
 all_mid P [] m rest h = h 0 m (omega arith)
 all_mid P (x ∷ front) m rest h = all_mid P front m rest (λ i d lt. h (suc i) d (omega arith))
 
-pub joined_not : (w : WorkerValue) (ms : List Measured) (u : WorkerValue) (r r' : ValuesReader) (row row' : List ℕ) (n : ℕ) (top : Bool) → ((back : List Measured) → IsLeft r back → IsNext back r' row row' (Some (n, top)))
+pub joined_not : (w : WorkerValue) (ms : List Measured) (u : WorkerValue) (r r' : ValuesReader) (row row' : List ℕ) (n : ℕ) (top : Bool)
+    → ((back : List Measured) → IsLeft r back → IsNext back r' row row' (Some (n, top)))
     → (CanTake u n (in_row top row') → ⊥) → Joined w ms u r → CanTakeAll w ms → ⊥
 joined_not w ms u r r' row row' n top next refused j all =
     let f = first_is j.back r' row row' n top (next j.back j.left) in
@@ -102,11 +107,13 @@ joined_not w ms u r r' row row' n top next refused j all =
 
 -- ---- turns
 
-turn_measures : (kind : ValueKind) (h : HeldValue) (width : ℕ) (ms : List Measured) (after : Option HeldValue) → All (IsMeasured width) ms → TakesValues h kind width ms after → Turn (Some h) (frame_of kind width ms) after []
+turn_measures : (kind : ValueKind) (h : HeldValue) (width : ℕ) (ms : List Measured) (after : Option HeldValue) → All (IsMeasured width) ms
+    → TakesValues h kind width ms after → Turn (Some h) (frame_of kind width ms) after []
 turn_measures Dense h width ms after all t = (subst (λ (ns : List Measured). TakesValues h Dense width ns after) (sym (dense_told ms)) t, refl)
 turn_measures Sparse h width ms after all t = (subst (λ (ns : List Measured). TakesValues h Sparse width ns after) (sym (sparse_told width ms all)) t, refl)
 
-refuses_measures : (kind : ValueKind) (highest : ℕ) (h : HeldValue) (width : ℕ) (ms : List Measured) (why : WorkerFault) → All (IsMeasured width) ms → RefusesValues h kind width ms why → Refuses highest (Some h) (frame_of kind width ms) why
+refuses_measures : (kind : ValueKind) (highest : ℕ) (h : HeldValue) (width : ℕ) (ms : List Measured) (why : WorkerFault)
+    → All (IsMeasured width) ms → RefusesValues h kind width ms why → Refuses highest (Some h) (frame_of kind width ms) why
 refuses_measures Dense highest h width ms why all t = subst (λ (ns : List Measured). RefusesValues h Dense width ns why) (sym (dense_told ms)) t
 refuses_measures Sparse highest h width ms why all t = subst (λ (ns : List Measured). RefusesValues h Sparse width ns why) (sym (sparse_told width ms all)) t
 
@@ -122,7 +129,8 @@ no_halt Sparse width ms = (λ t. absurd cc, λ e. absurd cc)
 abbrev pub Opens : ValuesReader → List ℕ → Type 0
 Opens r bytes = (ms : List Measured) × Spells (frame_of r.kind r.width ms) bytes × IsLeft r ms
 
-pub does_turn : (highest : ℕ) (h : HeldValue) (bytes : List ℕ) (r : ValuesReader) (after : Option HeldValue) → (o : Opens r bytes) → TakesValues h r.kind r.width o.0 after → DoesTurn highest (Some h) bytes after false []
+pub does_turn : (highest : ℕ) (h : HeldValue) (bytes : List ℕ) (r : ValuesReader) (after : Option HeldValue) → (o : Opens r bytes)
+    → TakesValues h r.kind r.width o.0 after → DoesTurn highest (Some h) bytes after false []
 does_turn highest h bytes r after o t = record {
   frame = frame_of r.kind r.width o.0;
   spells = o.1;
@@ -131,13 +139,17 @@ does_turn highest h bytes r after o t = record {
   turn = turn_measures r.kind h r.width o.0 after o.2.measures t;
 }
 
-pub refuses_bytes : (highest : ℕ) (h : HeldValue) (bytes : List ℕ) (r : ValuesReader) (why : WorkerFault) → (o : Opens r bytes) → RefusesValues h r.kind r.width o.0 why → RefusesBytes highest (Some h) bytes why
+pub refuses_bytes : (highest : ℕ) (h : HeldValue) (bytes : List ℕ) (r : ValuesReader) (why : WorkerFault) → (o : Opens r bytes)
+    → RefusesValues h r.kind r.width o.0 why → RefusesBytes highest (Some h) bytes why
 refuses_bytes highest h bytes r why o t = inr (frame_of r.kind r.width o.0, o.1, refuses_measures r.kind highest h r.width o.0 why o.2.measures t)
 
 -- what is said of bytes is said of the frame that they spell, and back
-pub frame_turn : (f : Frame) (highest : ℕ) (before : Option HeldValue) (bytes : List ℕ) (after : Option HeldValue) (out out' : List ℕ) (r : Result Bool WorkerFault) → Spells f bytes
-    → IfOk r (λ halts. (reply : List ℕ) × DoesTurn highest before bytes after halts reply × (out' ≡ out ++ reply)) → OnOk r ((reply : List ℕ) × Turn before f after reply × (out' ≡ out ++ reply))
-frame_turn f highest before bytes after out out' (Ok halts) s d = (d.0, subst (λ (g : Frame). Turn before g after d.0) (one_frame d.1.frame f bytes d.1.spells s) d.1.turn, d.2)
+pub frame_turn : (f : Frame) (highest : ℕ) (before : Option HeldValue) (bytes : List ℕ) (after : Option HeldValue) (out out' : List ℕ) (r : Result Bool WorkerFault)
+    → Spells f bytes
+    → IfOk r (λ halts. (reply : List ℕ) × DoesTurn highest before bytes after halts reply × (out' ≡ out ++ reply))
+    → OnOk r ((reply : List ℕ) × Turn before f after reply × (out' ≡ out ++ reply))
+frame_turn f highest before bytes after out out' (Ok halts) s d =
+    (d.0, subst (λ (g : Frame). Turn before g after d.0) (one_frame d.1.frame f bytes d.1.spells s) d.1.turn, d.2)
 frame_turn f highest before bytes after out out' (Err e) s d = tt
 
 pub frame_refused : (f : Frame) (highest : ℕ) (before : Option HeldValue) (bytes : List ℕ) (r : Result Bool WorkerFault) → Spells f bytes
@@ -147,10 +159,12 @@ frame_refused f highest before bytes (Err e) s (inl memory) = inl memory
 frame_refused f highest before bytes (Err e) s (inr (inl none)) = absurd (none.none f s)
 frame_refused f highest before bytes (Err e) s (inr (inr k)) = inr (subst (λ (g : Frame). Refuses highest before g e) (one_frame k.0 f bytes k.1 s) k.2)
 
-pub bytes_turn : (f : Frame) (highest : ℕ) (before : Option HeldValue) (bytes : List ℕ) (after : Option HeldValue) (out out' : List ℕ) (r : Result Bool WorkerFault) → Spells f bytes → OnOk r (IsUpTo highest f)
+pub bytes_turn : (f : Frame) (highest : ℕ) (before : Option HeldValue) (bytes : List ℕ) (after : Option HeldValue) (out out' : List ℕ) (r : Result Bool WorkerFault)
+    → Spells f bytes → OnOk r (IsUpTo highest f)
     → IfOk r (λ halts. IsTrue halts ↔ (f ≡ frames.Halt)) → OnOk r ((reply : List ℕ) × Turn before f after reply × (out' ≡ out ++ reply))
     → IfOk r (λ halts. (reply : List ℕ) × DoesTurn highest before bytes after halts reply × (out' ≡ out ++ reply))
-bytes_turn f highest before bytes after out out' (Ok halts) s version halt t = (t.0, record { frame = f; spells = s; version = version; halt = halt; turn = t.1 }, t.2)
+bytes_turn f highest before bytes after out out' (Ok halts) s version halt t =
+    (t.0, record { frame = f; spells = s; version = version; halt = halt; turn = t.1 }, t.2)
 bytes_turn f highest before bytes after out out' (Err e) s version halt t = tt
 
 pub bytes_refused : (f : Frame) (highest : ℕ) (before : Option HeldValue) (bytes : List ℕ) (r : Result Bool WorkerFault) → Spells f bytes
@@ -176,8 +190,10 @@ memory_or wire.Write = inr (λ e. absurd cc, refl)
 memory_or wire.Version = inr (λ e. absurd cc, refl)
 
 -- what `decode` refuses
-pub refuses_none : (highest : ℕ) (held : Option HeldValue) (bytes : List ℕ) (fault : WireFault) (why : WorkerFault) → why ≡ own_fault fault → ((f : Frame) → Spells f bytes → (failed fault ≡ Ok f) ⊎ (failed fault ≡ failed wire.OutOfMemory))
-    → (failed fault ≡ failed wire.TooLong ↔ IsTooLong bytes) → (failed fault ≡ failed wire.Truncated ↔ IsTruncated bytes) → (fault ≢ wire.Read) × (fault ≢ wire.Write)
+pub refuses_none : (highest : ℕ) (held : Option HeldValue) (bytes : List ℕ) (fault : WireFault) (why : WorkerFault) → why ≡ own_fault fault
+    → ((f : Frame) → Spells f bytes → (failed fault ≡ Ok f) ⊎ (failed fault ≡ failed wire.OutOfMemory))
+    → (failed fault ≡ failed wire.TooLong ↔ IsTooLong bytes) → (failed fault ≡ failed wire.Truncated ↔ IsTruncated bytes)
+    → (fault ≢ wire.Read) × (fault ≢ wire.Write)
     → (why ≡ OutOfMemory) ⊎ RefusesBytes highest held bytes why
 refuses_none highest held bytes fault why is all long short stream =
     elim (memory_or fault) [

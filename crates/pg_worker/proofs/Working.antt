@@ -1,5 +1,6 @@
 -- What a worker remembers after a call.
-use Rattle.std.proofs.Common.{◌≡◌, ◌≢◌, ◌∙◌, ℕ, zero, suc, ◌+◌, ◌<◌, ◌≤◌, Bool, false, List, [], ◌∷◌, ◌++◌, length, get_or, set, subst, sym, refl, ap, arith, inl, inr, Some, None}
+use Rattle.std.proofs.Common.{◌≡◌, ◌≢◌, ◌∙◌, ℕ, zero, suc, ◌+◌, ◌<◌, ◌≤◌, Bool, false, List, [], ◌∷◌, ◌++◌, length, get_or, set, subst, sym}
+use Rattle.std.proofs.Common.{refl, ap, arith, inl, inr, Some, None}
 use Rattle.std.specs.Prelude.{All, Option, IsSome, IfSome, IfNone, option_map, unwrap_or, replicate}
 use Rattle.std.proofs.lemmas.Bool.{cases_eq}
 use Rattle.std.proofs.lemmas.List.{get_or-set_same, get_or-set_other, length-set, length-replicate}
@@ -67,7 +68,8 @@ worker_empty lines map notes held edges b c d e = record {
   size = d;
 }
 
-pub new_line : (lines lines' : PartValue) (v : ℕ) (l : Line) → held_line lines v ≡ None → held_line lines' v ≡ Some l → ((u : ℕ) → u ≢ v → held_line lines' u ≡ held_line lines u) → IsNewLine (held_line lines) (held_line lines') v l
+pub new_line : (lines lines' : PartValue) (v : ℕ) (l : Line) → held_line lines v ≡ None → held_line lines' v ≡ Some l
+    → ((u : ℕ) → u ≢ v → held_line lines' u ≡ held_line lines u) → IsNewLine (held_line lines) (held_line lines') v l
 new_line lines lines' v l none some others = record {
   none = λ s. none_held (held_line lines v) none s;
   some = some_held (held_line lines' v) l some;
@@ -75,12 +77,14 @@ new_line lines lines' v l none some others = record {
   others = others;
 }
 
-within_after : (lines lines' : ℕ → Option Line) (v n : ℕ) (l : Line) → IsNewLine lines lines' v l → v < n → All (λ w. w < n) l.successors → 0 < length l.successors → AreWithin n lines → AreWithin n lines'
+within_after : (lines lines' : ℕ → Option Line) (v n : ℕ) (l : Line) → IsNewLine lines lines' v l → v < n → All (λ w. w < n) l.successors
+    → 0 < length l.successors → AreWithin n lines → AreWithin n lines'
 within_after lines lines' v n l new lt ss ne a = record {
   numbers = λ u s. elim (cases_eq u v) [ inl e ↦ subst (λ (w : ℕ). w < n) (sym e) lt | inr d ↦ a.numbers u (some_back lines lines' v l u new d s) ];
   successors = λ u s. elim (cases_eq u v) [
     | inl e ↦ subst (λ (w : ℕ). All (λ x. x < n) (line_at lines' w).successors) (sym e) (subst (λ (k : Line). All (λ x. x < n) k.successors) (sym new.line) ss)
-    | inr d ↦ subst (λ (k : Line). All (λ x. x < n) k.successors) (sym (line_same lines lines' v l u new d)) (a.successors u (some_back lines lines' v l u new d s))
+    | inr d ↦ subst (λ (k : Line). All (λ x. x < n) k.successors) (sym (line_same lines lines' v l u new d))
+        (a.successors u (some_back lines lines' v l u new d s))
   ];
   nonempty = λ u s. elim (cases_eq u v) [
     | inl e ↦ subst (λ (w : ℕ). 0 < length (line_at lines' w).successors) (sym e) (subst (λ (k : Line). 0 < length k.successors) (sym new.line) ne)
@@ -88,19 +92,23 @@ within_after lines lines' v n l new lt ss ne a = record {
   ];
 }
 
-kept_after : (bs : BoundList) (lines lines' : ℕ → Option Line) (v : ℕ) (l : Line) (f : List MeasureValue) (marked marked' : List Bool) (best best' : List ℕ) → IsNewLine lines lines' v l
+kept_after : (bs : BoundList) (lines lines' : ℕ → Option Line) (v : ℕ) (l : Line) (f : List MeasureValue) (marked marked' : List Bool) (best best' : List ℕ)
+    → IsNewLine lines lines' v l
     → KeepsAt bs lines' f nothing marked' best' v → AreSameBut v marked marked' best best' → IsKept bs lines f marked best → IsKept bs lines' f marked' best'
 kept_after bs lines lines' v l f marked marked' best best' new here others kept = λ u s.
     elim (cases_eq u v) [
       | inl q ↦ subst (λ (w : ℕ). KeepsAt bs lines' f nothing marked' best' w) (sym q) here
       | inr d ↦
           let o = others u d in
-          same_keeps bs (line_at lines' u) f nothing (measure_at f u) (get_or marked u false) (get_or marked' u false) (get_or best u 0) (get_or best' u 0) o.0 o.1
-          (subst (λ (k : Line). Keeps bs k f nothing (measure_at f u) (get_or marked u false) (get_or best u 0)) (sym (line_same lines lines' v l u new d)) (kept u (some_back lines lines' v l u new d s)))
+          same_keeps bs (line_at lines' u) f nothing (measure_at f u) (get_or marked u false) (get_or marked' u false) (get_or best u 0)
+          (get_or best' u 0) o.0 o.1
+          (subst (λ (k : Line). Keeps bs k f nothing (measure_at f u) (get_or marked u false) (get_or best u 0))
+          (sym (line_same lines lines' v l u new d)) (kept u (some_back lines lines' v l u new d s)))
     ]
 
 -- lines with one more
-pub within_more : (lines lines' : PartValue) (map : MapValue) (notes : NotesValue) (v : ℕ) (l : Line) → IsNewLine (held_line lines) (held_line lines') v l → v < length map.measures
+pub within_more : (lines lines' : PartValue) (map : MapValue) (notes : NotesValue) (v : ℕ) (l : Line)
+    → IsNewLine (held_line lines) (held_line lines') v l → v < length map.measures
     → All (λ w. w < length map.measures) l.successors → 0 < length l.successors → IsInside lines map notes → AreWithin (length map.measures) (held_line lines')
 within_more lines lines' map notes v l new lt ss ne w = within_after (held_line lines) (held_line lines') v (length map.measures) l new lt ss ne w.within
 
@@ -109,7 +117,8 @@ line_is None d l s e = cc
 line_is (Some k) d l s e = ap Some e
 
 -- and a note of it
-pub notes_more : (n : ℕ) (lines lines' : ℕ → Option Line) (notes notes' : NotesValue) (v : ℕ) (l : Line) → IsNewLine lines lines' v l → notes'.waits ≡ notes.waits → notes'.best ≡ notes.best
+pub notes_more : (n : ℕ) (lines lines' : ℕ → Option Line) (notes notes' : NotesValue) (v : ℕ) (l : Line) → IsNewLine lines lines' v l
+    → notes'.waits ≡ notes.waits → notes'.best ≡ notes.best
     → v < n → notes'.span.labels ≡ set notes.span.labels v (Some (line_label l))
     → HasNote notes'.span v → ((w : ℕ) → HasNote notes.span w → HasNote notes'.span w) → AreNotes n lines notes → AreNotes n lines' notes'
 notes_more n lines lines' notes notes' v l new m b lt e here more a = record {
@@ -121,7 +130,8 @@ notes_more n lines lines' notes notes' v l new m b lt e here more a = record {
   ];
   labelled = ap length e ∙ (length-set notes.span.labels v (Some (line_label l)) ∙ a.labelled);
   labels = λ u. ap (λ (ls : List (Option Label)). get_or ls u None) e ∙ elim (cases_eq u v) [
-    | inl q ↦ rw q (let s = a.labelled in get_or-set_same notes.span.labels v (Some (line_label l)) None (omega arith) ∙ ap (option_map line_label) (sym (line_is (lines' v) _ l new.some new.line)))
+    | inl q ↦ rw q (let s = a.labelled in get_or-set_same notes.span.labels v (Some (line_label l)) None (omega arith)
+        ∙ ap (option_map line_label) (sym (line_is (lines' v) _ l new.some new.line)))
     | inr d ↦ get_or-set_other notes.span.labels v u (Some (line_label l)) None d ∙ (a.labels u ∙ ap (option_map line_label) (sym (new.others u d)))
   ];
 }
@@ -130,7 +140,8 @@ notes_more n lines lines' notes notes' v l new m b lt e here more a = record {
 pub worker_more : (lines lines' : PartValue) (map : MapValue) (notes notes' notes'' : NotesValue) (v : ℕ) (l : Line)
     → IsNewLine (held_line lines) (held_line lines') v l → v < length map.measures → All (λ w. w < length map.measures) l.successors → 0 < length l.successors
     → length lines'.lines ≡ length lines.lines → lines'.edges ≡ lines.edges + length l.successors → notes'.waits ≡ notes.waits → notes'.best ≡ notes.best
-    → AreNotes (length map.measures) (held_line lines') notes' → IsSameSpan notes' notes'' → KeepsAt map.bounds (held_line lines') map.measures nothing notes''.waits notes''.best v
+    → AreNotes (length map.measures) (held_line lines') notes' → IsSameSpan notes' notes''
+    → KeepsAt map.bounds (held_line lines') map.measures nothing notes''.waits notes''.best v
     → AreSameBut v notes'.waits notes''.waits notes'.best notes''.best → IsInside lines map notes → IsInside lines' map notes''
 worker_more lines lines' map notes notes' notes'' v l new lt ss ne size edges m b noted same here others w = record {
   within = within_more lines lines' map notes v l new lt ss ne w;
@@ -138,7 +149,8 @@ worker_more lines lines' map notes notes' notes'' v l new lt ss ne size edges m 
   size = size ∙ w.size;
   kept = record {
     noted = notes_on (length map.measures) (held_line lines') notes' notes'' same noted;
-    kept = kept_after map.bounds (held_line lines) (held_line lines') v l map.measures notes'.waits notes''.waits notes'.best notes''.best new here others (rw (m, b) w.kept.kept);
+    kept = kept_after map.bounds (held_line lines)
+        (held_line lines') v l map.measures notes'.waits notes''.waits notes'.best notes''.best new here others (rw (m, b) w.kept.kept);
   };
 }
 
@@ -147,14 +159,16 @@ none_is None h = refl
 none_is (Some l) h = absurd (h refl)
 
 -- the line of v was set
-pub new_line_set : (lines lines' : PartValue) (v : ℕ) (l : Line) → lines'.lines ≡ set lines.lines v (Some l) → v < length lines.lines → (IsSome (held_line lines v) → ⊥) → IsNewLine (held_line lines) (held_line lines') v l
+pub new_line_set : (lines lines' : PartValue) (v : ℕ) (l : Line) → lines'.lines ≡ set lines.lines v (Some l) → v < length lines.lines
+    → (IsSome (held_line lines v) → ⊥) → IsNewLine (held_line lines) (held_line lines') v l
 new_line_set lines lines' v l e lt none =
     new_line lines lines' v l (none_is (held_line lines v) none)
     (ap (λ (ls : List (Option Line)). get_or ls v None) e ∙ get_or-set_same lines.lines v (Some l) None lt)
     (λ u ne. ap (λ (ls : List (Option Line)). get_or ls u None) e ∙ get_or-set_other lines.lines v u (Some l) None ne)
 
 -- v is the greatest vertex now
-pub next_after : (lines lines' : PartValue) (v next : ℕ) (l : Line) → lines'.lines ≡ set lines.lines v (Some l) → v < length lines.lines → next ≤ v → IsNext lines next → IsNext lines' (v + 1)
+pub next_after : (lines lines' : PartValue) (v next : ℕ) (l : Line) → lines'.lines ≡ set lines.lines v (Some l) → v < length lines.lines
+    → next ≤ v → IsNext lines next → IsNext lines' (v + 1)
 next_after lines lines' v next l e lt le n =
     let new : IsNewLine (held_line lines) (held_line lines') v l = new_line_set lines lines' v l e lt (λ s. let k = n.above v s in absurd (omega arith)) in
     record {
@@ -166,12 +180,14 @@ next_after lines lines' v next l e lt le n =
     }
 
 -- a line more
-pub with_lines_more : (ls : List (Option Line)) (ys : List VertexLine) (y : VertexLine) → with_lines ls (ys ++ y ∷ []) ≡ set (with_lines ls ys) y.vertex (Some (told_line y))
+pub with_lines_more : (ls : List (Option Line)) (ys : List VertexLine) (y : VertexLine)
+    → with_lines ls (ys ++ y ∷ []) ≡ set (with_lines ls ys) y.vertex (Some (told_line y))
 with_lines_more ls [] y = refl
 with_lines_more ls (x ∷ xs) y = with_lines_more (set ls x.vertex (Some (told_line x))) xs y
 
 -- more room, and the same lines and notes
-pub inside_same : (p p' : PartValue) (map : MapValue) (edges edges' : Predecessors) (notes notes' : NotesValue) → AreAsBefore p p' edges edges' notes notes' → IsInside p map notes → IsInside p' map notes'
+pub inside_same : (p p' : PartValue) (map : MapValue) (edges edges' : Predecessors) (notes notes' : NotesValue)
+    → AreAsBefore p p' edges edges' notes notes' → IsInside p map notes → IsInside p' map notes'
 inside_same p p' map edges edges' notes notes' e i = record {
   within = rw e.lines i.within;
   count = rw e.lines (i.count ∙ sym e.count);
@@ -182,7 +198,8 @@ inside_same p p' map edges edges' notes notes' e i = record {
   size = rw e.lines i.size;
 }
 
-ready_same : (p p' : PartValue) (map : MapValue) (edges edges' : Predecessors) (notes notes' : NotesValue) → AreAsBefore p p' edges edges' notes notes' → AreReady p map edges → AreReady p' map edges'
+ready_same : (p p' : PartValue) (map : MapValue) (edges edges' : Predecessors) (notes notes' : NotesValue)
+    → AreAsBefore p p' edges edges' notes notes' → AreReady p map edges → AreReady p' map edges'
 ready_same p p' map edges edges' notes notes' e r = record {
   size = ap length e.starts ∙ r.size;
   few = omega (arith, e.count, r.few);
@@ -194,7 +211,8 @@ ready_same p p' map edges edges' notes notes' e r = record {
 pub next_same : (p p' : PartValue) (n : ℕ) → p'.lines ≡ p.lines → IsNext p n → IsNext p' n
 next_same p p' n l i = record { above = rw l i.above; least = rw l i.least }
 
-pub whole_same : (p p' : PartValue) (map : MapValue) (edges edges' : Predecessors) (notes notes' : NotesValue) (next listings : ℕ) → AreAsBefore p p' edges edges' notes notes' → p'.first ≡ p.first
+pub whole_same : (p p' : PartValue) (map : MapValue) (edges edges' : Predecessors) (notes notes' : NotesValue) (next listings : ℕ)
+    → AreAsBefore p p' edges edges' notes notes' → p'.first ≡ p.first
     → IsWhole p map edges notes next listings → IsWhole p' map edges' notes' next listings
 whole_same p p' map edges edges' notes notes' next listings e f w = record {
   inside = inside_same p p' map edges edges' notes notes' e w.inside;

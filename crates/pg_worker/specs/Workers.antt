@@ -1,6 +1,7 @@
 -- Workers: the part that one holds, its map, and what its calls make of them.
 use Rattle.std.proofs.Common.{zero, suc}
-use Rattle.std.specs.Prelude.{◌≡◌, ℕ, ◌%◌, ◌<◌, ◌≤◌, Bool, false, List, [], ◌∷◌, length, replicate, All, AllPairs, Any, Option, Some, None, IsSome, MatchBool, slice_index_or, slice_set}
+use Rattle.std.specs.Prelude.{◌≡◌, ℕ, ◌%◌, ◌<◌, ◌≤◌, Bool, false, List, [], ◌∷◌, length, replicate, All, AllPairs, Any, Option, Some, None}
+use Rattle.std.specs.Prelude.{IsSome, MatchBool, slice_index_or, slice_set}
 use Rattle.std.specs.List.{Contains}
 use Rattle.pg_arena.specs.declared.player.Player.{Player}
 use Rattle.pg_arena.specs.declared.player.Player.TheVariants.{Even, Odd}

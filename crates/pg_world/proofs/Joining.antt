@@ -26,14 +26,17 @@ join_none z bs n us = record {
 }
 
 -- one more is taken
-pub join_more : (bs : BoundList) (n : ℕ) (us : List UpdateValue) (ks : List ℕ) (k : ℕ) (f g : List MeasureValue) → IsJoinOf bs n us ks f → IsMap bs n g → IsJoin f (as_map bs n us k) g → IsJoinOf bs n us (ks ++ k ∷ []) g
+pub join_more : (bs : BoundList) (n : ℕ) (us : List UpdateValue) (ks : List ℕ) (k : ℕ) (f g : List MeasureValue) → IsJoinOf bs n us ks f
+    → IsMap bs n g → IsJoin f (as_map bs n us k) g → IsJoinOf bs n us (ks ++ k ∷ []) g
 join_more bs n us ks k f g j m i = record {
   map = m;
   above = All-push (λ x. MapAtMost (as_map bs n us x) g) ks k
-      (All-weaker (λ x. MapAtMost (as_map bs n us x) f) (λ x. MapAtMost (as_map bs n us x) g) (λ x a. map_transitive (as_map bs n us x) f g a i.first) ks j.above)
+      (All-weaker (λ x. MapAtMost (as_map bs n us x) f) (λ x. MapAtMost (as_map bs n us x) g)
+      (λ x a. map_transitive (as_map bs n us x) f g a i.first) ks j.above)
       i.second;
   least = λ h w a. i.least h
-      (j.least h w (λ x d l. subst (λ (y : ℕ). MapAtMost (as_map bs n us y) h) (get_or_append_left ks (k ∷ []) d x l) (a x d (omega (arith, length-append ks (k ∷ []))))))
+      (j.least h w (λ x d l. subst (λ (y : ℕ). MapAtMost (as_map bs n us y) h) (get_or_append_left ks (k ∷ []) d x l)
+      (a x d (omega (arith, length-append ks (k ∷ []))))))
       (subst (λ (y : ℕ). MapAtMost (as_map bs n us y) h) (get_or-append_seam ks k [] 0) (a (length ks) 0 (omega (arith, length-append ks (k ∷ [])))));
 }
 
@@ -45,7 +48,8 @@ pub last_at : (bs : BoundList) (us : List UpdateValue) (u : UpdateValue) → upd
 last_at bs us u = get_or-append_seam us u [] (record { vertex = 0; measure = zeros bs })
 
 -- a new update changes no join of those before it
-pub join_longer : (bs : BoundList) (n : ℕ) (us : List UpdateValue) (u : UpdateValue) (ks : List ℕ) (f : List MeasureValue) → All (λ k. k < length us) ks → IsJoinOf bs n us ks f → IsJoinOf bs n (us ++ u ∷ []) ks f
+pub join_longer : (bs : BoundList) (n : ℕ) (us : List UpdateValue) (u : UpdateValue) (ks : List ℕ) (f : List MeasureValue)
+    → All (λ k. k < length us) ks → IsJoinOf bs n us ks f → IsJoinOf bs n (us ++ u ∷ []) ks f
 join_longer bs n us u ks f b j = record {
   map = j.map;
   above = λ i d l. subst (λ (x : UpdateValue). MapAtMost (map_of_update bs n x) f) (sym (kept_at bs us u (get_or ks i d) (b i d l))) (j.above i d l);
@@ -59,7 +63,8 @@ update_other : (bs : BoundList) (n v u : ℕ) (m : MeasureValue) → u ≢ v →
 update_other bs n v u m ne = get_or-set_other (zero_map bs n) v u m None ne
 
 -- an update is at most a map that is at least its measure at its vertex
-pub update_under : ZeroMapIsLeast → (bs : BoundList) (n v : ℕ) (m : MeasureValue) (h : List MeasureValue) → v < n → IsMap bs n h → AtMost m (measure_at h v) → MapAtMost (update_map bs n v m) h
+pub update_under : ZeroMapIsLeast → (bs : BoundList) (n v : ℕ) (m : MeasureValue) (h : List MeasureValue) → v < n → IsMap bs n h
+    → AtMost m (measure_at h v) → MapAtMost (update_map bs n v m) h
 update_under z bs n v m h l w a = λ u. at u (cases_eq u v)
   where
     at : (u : ℕ) → (u ≡ v) ⊎ (u ≢ v) → AtMost (measure_at (update_map bs n v m) u) (measure_at h u)
@@ -67,11 +72,13 @@ update_under z bs n v m h l w a = λ u. at u (cases_eq u v)
     at u (inr ne) = rw (update_other bs n v u m ne) ((z bs n).1 h w u)
 
 -- the measure of an update is at most that of a map that the update is at most
-pub update_at_vertex : (bs : BoundList) (n v : ℕ) (m : MeasureValue) (h : List MeasureValue) → v < n → MapAtMost (update_map bs n v m) h → AtMost m (measure_at h v)
+pub update_at_vertex : (bs : BoundList) (n v : ℕ) (m : MeasureValue) (h : List MeasureValue) → v < n → MapAtMost (update_map bs n v m) h
+    → AtMost m (measure_at h v)
 update_at_vertex bs n v m h l a = subst (λ (x : MeasureValue). AtMost x (measure_at h v)) (update_here bs n v m l) (a v)
 
 -- a greater measure put in its place is the join with the update
-pub raise_joins : OrderIsTotal → ZeroMapIsLeast → (bs : BoundList) (n : ℕ) (f : List MeasureValue) (v : ℕ) (m : MeasureValue) → IsMap bs n f → Fits bs m → v < n → IsBelow (measure_at f v) m → IsJoin f (update_map bs n v m) (set f v m)
+pub raise_joins : OrderIsTotal → ZeroMapIsLeast → (bs : BoundList) (n : ℕ) (f : List MeasureValue) (v : ℕ) (m : MeasureValue) → IsMap bs n f
+    → Fits bs m → v < n → IsBelow (measure_at f v) m → IsJoin f (update_map bs n v m) (set f v m)
 raise_joins o z bs n f v m w fits l b = record {
   first = λ u. risen u (cases_eq u v);
   second = update_under z bs n v m (set f v m) l (set_is_map) (rw (here) (o.reflexive m));
@@ -91,17 +98,20 @@ raise_joins o z bs n f v m w fits l b = record {
     risen u (inl e) = rw (e, here) ((o.strict (measure_at f v) m b).0)
     risen u (inr ne) = rw (get_or-set_other f v u m None ne) (o.reflexive (measure_at f u))
 
-    under : (k : List MeasureValue) → MapAtMost f k → MapAtMost (update_map bs n v m) k → (u : ℕ) → (u ≡ v) ⊎ (u ≢ v) → AtMost (measure_at (set f v m) u) (measure_at k u)
+    under : (k : List MeasureValue) → MapAtMost f k → MapAtMost (update_map bs n v m) k → (u : ℕ) → (u ≡ v) ⊎ (u ≢ v)
+        → AtMost (measure_at (set f v m) u) (measure_at k u)
     under k p q u (inl e) = rw (e, here) (update_at_vertex bs n v m k l q)
     under k p q u (inr ne) = rw (get_or-set_other f v u m None ne) (p u)
 
-above_too : (bs : BoundList) (n : ℕ) (us vs : List UpdateValue) (ks js : List ℕ) (g : List MeasureValue) → AreTakenToo bs us ks vs js → All (λ k. MapAtMost (as_map bs n vs k) g) js → All (λ k. MapAtMost (as_map bs n us k) g) ks
+above_too : (bs : BoundList) (n : ℕ) (us vs : List UpdateValue) (ks js : List ℕ) (g : List MeasureValue) → AreTakenToo bs us ks vs js
+    → All (λ k. MapAtMost (as_map bs n vs k) g) js → All (λ k. MapAtMost (as_map bs n us k) g) ks
 above_too bs n us vs ks js g t a = λ i d l.
     let here = t (get_or ks i d) (Contains-get_or ks i d l) in
     subst (λ (x : UpdateValue). MapAtMost (map_of_update bs n x) g) here.2 (All-contains (λ k. MapAtMost (as_map bs n vs k) g) js here.0 a here.1)
 
 -- there is one join
-pub one_join : (bs : BoundList) (n : ℕ) (us vs : List UpdateValue) (ks js : List ℕ) (f g : List MeasureValue) → AreTakenToo bs us ks vs js → AreTakenToo bs vs js us ks → IsJoinOf bs n us ks f → IsJoinOf bs n vs js g → f ≡ g
+pub one_join : (bs : BoundList) (n : ℕ) (us vs : List UpdateValue) (ks js : List ℕ) (f g : List MeasureValue) → AreTakenToo bs us ks vs js
+    → AreTakenToo bs vs js us ks → IsJoinOf bs n us ks f → IsJoinOf bs n vs js g → f ≡ g
 one_join bs n us vs ks js f g a b i j =
     let size : length f ≡ length g = i.map.size ∙ sym (j.map.size) in
     maps_same f g size (i.least g j.map (above_too bs n us vs ks js g a j.above)) (j.least f i.map (above_too bs n vs us js ks f b i.above))

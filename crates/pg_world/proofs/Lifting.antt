@@ -23,14 +23,17 @@ more_these Even P Q ss f h = (h.0, h.1, h.2, h.3, f h.1 h.4)
 more_these Odd P Q ss f h = λ i d l. f (get_or ss i d) (h i d l)
 
 -- a measure that is at least the least serving one serves
-pub served_above : (bs : BoundList) (lines : ℕ → Option Line) (f : List MeasureValue) (v : ℕ) (m : MeasureValue) → IsLeastServing bs lines f v m → AtMost m (measure_at f v) → IsServed bs lines f v
+pub served_above : (bs : BoundList) (lines : ℕ → Option Line) (f : List MeasureValue) (v : ℕ) (m : MeasureValue)
+    → IsLeastServing bs lines f v m → AtMost m (measure_at f v) → IsServed bs lines f v
 served_above bs lines f v m i a =
     let l : Line = line_at lines v in
     more_these l.owner (λ w. Covers bs l.priority m (measure_at f w)) (λ w. Covers bs l.priority (measure_at f v) (measure_at f w)) l.successors
     (λ w c. more_covers (is_odd l.priority) (width_from bs l.priority) m (measure_at f w) (measure_at f v) c a) i.covers
 
 -- the least step over the best successor is the least measure that serves
-pub step_serves : (bs : BoundList) (lines : ℕ → Option Line) (f : List MeasureValue) (v w p : ℕ) (o : Player) (ss : List ℕ) (m : MeasureValue) → line_at lines v ≡ line_of p o ss → IsBest o (width_from bs p) f ss w → IsLeastStep bs p (measure_at f w) m → IsLeastServing bs lines f v m
+pub step_serves : (bs : BoundList) (lines : ℕ → Option Line) (f : List MeasureValue) (v w p : ℕ) (o : Player) (ss : List ℕ) (m : MeasureValue)
+    → line_at lines v ≡ line_of p o ss → IsBest o (width_from bs p) f ss w → IsLeastStep bs p (measure_at f w) m
+    → IsLeastServing bs lines f v m
 step_serves bs lines f v w p o ss m e best step = record {
   fits = least.fits;
   covers = subst (λ (l : Line). SomeOrAll l.owner (λ u. Covers bs l.priority m (measure_at f u)) l.successors) (sym e) least.covers;
@@ -51,12 +54,16 @@ front_of bs p (Some xs) (Some ys) h = h
 at_most_back : (m n : MeasureValue) → m ≡ n → AtMost n m
 at_most_back m n e = subst (λ (x : MeasureValue). AtMost n x) (sym e) (at_most_same n)
 
-pub better_for_even : (bs : BoundList) (p : ℕ) (m n : MeasureValue) (r : Ordering) → MatchOrdering r (IsBelow (measure_from bs p m) (measure_from bs p n)) (measure_from bs p m ≡ measure_from bs p n) (IsBelow (measure_from bs p n) (measure_from bs p m)) → MatchBool (is_lt r) (IsBetter Even (width_from bs p) m n) (IsBetter Even (width_from bs p) n m)
+pub better_for_even : (bs : BoundList) (p : ℕ) (m n : MeasureValue) (r : Ordering)
+    → MatchOrdering r (IsBelow (measure_from bs p m) (measure_from bs p n)) (measure_from bs p m ≡ measure_from bs p n) (IsBelow (measure_from bs p n) (measure_from bs p m))
+    → MatchBool (is_lt r) (IsBetter Even (width_from bs p) m n) (IsBetter Even (width_from bs p) n m)
 better_for_even bs p m n Less h = front_of bs p m n (below_is (measure_from bs p m) (measure_from bs p n) h)
 better_for_even bs p m n Equal h = front_of bs p n m (at_most_back (measure_from bs p m) (measure_from bs p n) h)
 better_for_even bs p m n Greater h = front_of bs p n m (below_is (measure_from bs p n) (measure_from bs p m) h)
 
-pub better_for_odd : (bs : BoundList) (p : ℕ) (m n : MeasureValue) (r : Ordering) → MatchOrdering r (IsBelow (measure_from bs p m) (measure_from bs p n)) (measure_from bs p m ≡ measure_from bs p n) (IsBelow (measure_from bs p n) (measure_from bs p m)) → MatchBool (is_gt r) (IsBetter Odd (width_from bs p) m n) (IsBetter Odd (width_from bs p) n m)
+pub better_for_odd : (bs : BoundList) (p : ℕ) (m n : MeasureValue) (r : Ordering)
+    → MatchOrdering r (IsBelow (measure_from bs p m) (measure_from bs p n)) (measure_from bs p m ≡ measure_from bs p n) (IsBelow (measure_from bs p n) (measure_from bs p m))
+    → MatchBool (is_gt r) (IsBetter Odd (width_from bs p) m n) (IsBetter Odd (width_from bs p) n m)
 better_for_odd bs p m n Less h = front_of bs p m n (below_is (measure_from bs p m) (measure_from bs p n) h)
 better_for_odd bs p m n Equal h = front_of bs p m n (at_most_back (measure_from bs p n) (measure_from bs p m) (sym h))
 better_for_odd bs p m n Greater h = front_of bs p n m (below_is (measure_from bs p n) (measure_from bs p m) h)
@@ -88,6 +95,13 @@ first_best o front f ss b d l e = record {
 -- ---- a lift
 
 -- the measure to which a lift raises a vertex, or none
-pub lift_found : (bs : BoundList) (lines : ℕ → Option Line) (f : List MeasureValue) (v : ℕ) (m : OwnedMeasure) (b : Bool) (o : Option OwnedMeasure) → IsLeastServing bs lines f v m.value → MatchBool b (IsBelow (measure_at f v) m.value) (AtMost m.value (measure_at f v)) → MatchBool b (o ≡ Some m) (o ≡ None) → MatchOption o (IsServed bs lines f v) (λ n. IsLeastServing bs lines f v n.value × IsBelow (measure_at f v) n.value)
-lift_found bs lines f v m true o least below e = subst (λ (x : Option OwnedMeasure). MatchOption x (IsServed bs lines f v) (λ n. IsLeastServing bs lines f v n.value × IsBelow (measure_at f v) n.value)) (sym e) (least, below)
-lift_found bs lines f v m false o least most e = subst (λ (x : Option OwnedMeasure). MatchOption x (IsServed bs lines f v) (λ n. IsLeastServing bs lines f v n.value × IsBelow (measure_at f v) n.value)) (sym e) (served_above bs lines f v m.value least most)
+pub lift_found : (bs : BoundList) (lines : ℕ → Option Line) (f : List MeasureValue) (v : ℕ) (m : OwnedMeasure) (b : Bool) (o : Option OwnedMeasure)
+    → IsLeastServing bs lines f v m.value → MatchBool b (IsBelow (measure_at f v) m.value) (AtMost m.value (measure_at f v))
+    → MatchBool b (o ≡ Some m) (o ≡ None)
+    → MatchOption o (IsServed bs lines f v) (λ n. IsLeastServing bs lines f v n.value × IsBelow (measure_at f v) n.value)
+lift_found bs lines f v m true o least below e =
+    subst (λ (x : Option OwnedMeasure). MatchOption x (IsServed bs lines f v)
+    (λ n. IsLeastServing bs lines f v n.value × IsBelow (measure_at f v) n.value)) (sym e) (least, below)
+lift_found bs lines f v m false o least most e =
+    subst (λ (x : Option OwnedMeasure). MatchOption x (IsServed bs lines f v)
+    (λ n. IsLeastServing bs lines f v n.value × IsBelow (measure_at f v) n.value)) (sym e) (served_above bs lines f v m.value least most)

@@ -18,7 +18,8 @@ use Rattle.pg_world.specs.Updates.{UpdateValue, update_at, map_of_update}
 use Rattle.pg_world.specs.Worlds.{WorldValue, new_world, taken_of, IsMapOf, taking, forgetting, making, Lifts, Steps, refusal, IsEventOf, Runs}
 use Rattle.pg_world.specs.Mirrors.Kept.{IsMade, IsWorld}
 use Rattle.pg_world.proofs.Joining.{update_under, raise_joins}
-use Rattle.pg_world.proofs.Keeping.{new_map, new_is_world, taking_is_world, making_is_world, forgetting_is_world, map_after_taking, map_after_making, map_besides_making, map_besides_taking, map_besides_forgetting, map_after_forgetting}
+use Rattle.pg_world.proofs.Keeping.{new_map, new_is_world, taking_is_world, making_is_world, forgetting_is_world, map_after_taking}
+use Rattle.pg_world.proofs.Keeping.{map_after_making, map_besides_making, map_besides_taking, map_besides_forgetting, map_after_forgetting}
 use Rattle.pg_world.proofs.Refusing.{delivers, lifts, restarts}
 
 -- the laws of measures and maps that the proofs use
@@ -35,14 +36,16 @@ map_never_above laws w r f i j = λ h m c.
     let map : IsMap w.bounds (length w.game) h = record { size = size; fits = m.fits } in
     j.least h map (λ k d l. under h map c (get_or (taken_of w r) k d) (i.taken r k d l))
   where
-    under : (h : List MeasureValue) → IsMap w.bounds (length w.game) h → IsClosed w.bounds (game_line w.game) h → (n : ℕ) → n < length w.updates → MapAtMost (map_of_update w.bounds (length w.game) (update_at w.bounds w.updates n)) h
+    under : (h : List MeasureValue) → IsMap w.bounds (length w.game) h → IsClosed w.bounds (game_line w.game) h → (n : ℕ)
+        → n < length w.updates → MapAtMost (map_of_update w.bounds (length w.game) (update_at w.bounds w.updates n)) h
     under h map c n l =
         let u : UpdateValue = update_at w.bounds w.updates n in
         let made : IsMade w.bounds (game_line w.game) (length w.game) u = i.made n (record { vertex = 0; measure = zeros w.bounds }) l in
         update_under laws.zero w.bounds (length w.game) u.vertex u.measure h made.within map (made.under h map c)
 
 -- the map with the least serving measure in its place is a lift
-pub as_lift : (bs : BoundList) (lines : ℕ → Option Line) (n : ℕ) (f : List MeasureValue) (v : ℕ) (m : MeasureValue) → IsMap bs n f → v < n → IsLeastServing bs lines f v m → IsBelow (measure_at f v) m → IsLifted bs lines f (set f v m) v
+pub as_lift : (bs : BoundList) (lines : ℕ → Option Line) (n : ℕ) (f : List MeasureValue) (v : ℕ) (m : MeasureValue) → IsMap bs n f → v < n
+    → IsLeastServing bs lines f v m → IsBelow (measure_at f v) m → IsLifted bs lines f (set f v m) v
 as_lift bs lines n f v m w l least below =
     let size : length f ≡ n = w.size in
     let within : v < length f = omega arith in
@@ -54,7 +57,9 @@ as_lift bs lines n f v m w l least below =
     }
 
 -- what a lift makes is at most that of each closed map
-pub lift_makes : Laws → (w : WorldValue) (r v : ℕ) (f : List MeasureValue) (m : MeasureValue) → IsWorld w → v < length w.game → IsMapOf w r f → IsLeastServing w.bounds (game_line w.game) f v m → IsBelow (measure_at f v) m → IsMade w.bounds (game_line w.game) (length w.game) (record { vertex = v; measure = m })
+pub lift_makes : Laws → (w : WorldValue) (r v : ℕ) (f : List MeasureValue) (m : MeasureValue) → IsWorld w → v < length w.game
+    → IsMapOf w r f → IsLeastServing w.bounds (game_line w.game) f v m → IsBelow (measure_at f v) m
+    → IsMade w.bounds (game_line w.game) (length w.game) (record { vertex = v; measure = m })
 lift_makes laws w r v f m i l j least below = record {
   within = l;
   fits = least.fits;
@@ -87,11 +92,21 @@ pub record Keeps (game : List GameVertex) (bounds : BoundList) (cut : CutValue) 
   pub maps : HasMaps w
 
 -- a join of a map and a measure at one vertex
-join_at : Laws → (bs : BoundList) (n : ℕ) (f : List MeasureValue) (u : UpdateValue) → IsMap bs n f → u.vertex < n → Fits bs u.measure → (g : List MeasureValue) × IsMap bs n g × IsJoin f (map_of_update bs n u) g
+join_at : Laws → (bs : BoundList) (n : ℕ) (f : List MeasureValue) (u : UpdateValue) → IsMap bs n f → u.vertex < n → Fits bs u.measure
+    → (g : List MeasureValue) × IsMap bs n g × IsJoin f (map_of_update bs n u) g
 join_at laws bs n f u w l fits = either (laws.order.total (measure_at f u.vertex) u.measure)
   where
-    either : IsBelow (measure_at f u.vertex) u.measure ⊎ AtMost u.measure (measure_at f u.vertex) → (g : List MeasureValue) × IsMap bs n g × IsJoin f (map_of_update bs n u) g
-    either (inl below) = (set f u.vertex u.measure, record { size = length-set f u.vertex u.measure ∙ w.size; fits = All-set (Fits bs) f u.vertex u.measure fits w.fits }, raise_joins laws.order laws.zero bs n f u.vertex u.measure w fits l below)
+    either : IsBelow (measure_at f u.vertex) u.measure ⊎ AtMost u.measure (measure_at f u.vertex)
+        → (g : List MeasureValue) × IsMap bs n g × IsJoin f (map_of_update bs n u) g
+    either (inl below) = (
+      set f u.vertex u.measure,
+      record {
+        size = length-set f u.vertex u.measure ∙ w.size;
+        fits =
+            All-set (Fits bs) f u.vertex u.measure fits w.fits;
+      },
+      raise_joins laws.order laws.zero bs n f u.vertex u.measure w fits l below,
+    )
     either (inr most) = (
       f,
       w,
@@ -102,7 +117,8 @@ join_at laws bs n f u w l fits = either (laws.order.total (measure_at f u.vertex
       },
     )
 
-deliver_keeps : Laws → (game : List GameVertex) (bounds : BoundList) (cut : CutValue) (w : WorldValue) (r n : ℕ) → Keeps game bounds cut w → r ≤ w.cut.workers → n < length w.updates → Keeps game bounds cut (taking w r n)
+deliver_keeps : Laws → (game : List GameVertex) (bounds : BoundList) (cut : CutValue) (w : WorldValue) (r n : ℕ) → Keeps game bounds cut w
+    → r ≤ w.cut.workers → n < length w.updates → Keeps game bounds cut (taking w r n)
 deliver_keeps laws game bounds cut w r n k l below = record {
   game_is = k.game_is;
   bounds_is = k.bounds_is;
@@ -124,7 +140,8 @@ deliver_keeps laws game bounds cut w r n k l below = record {
     at q within (inl e) = subst (λ (x : ℕ). (f : List MeasureValue) × IsMapOf (taking w r n) x f) (sym e) here
     at q within (inr ne) = let f = k.maps q within in (f.0, map_besides_taking w r q n f.0 ne f.1)
 
-restart_keeps : Laws → (game : List GameVertex) (bounds : BoundList) (cut : CutValue) (w : WorldValue) (r : ℕ) → Keeps game bounds cut w → r ≤ w.cut.workers → Keeps game bounds cut (forgetting w r)
+restart_keeps : Laws → (game : List GameVertex) (bounds : BoundList) (cut : CutValue) (w : WorldValue) (r : ℕ) → Keeps game bounds cut w
+    → r ≤ w.cut.workers → Keeps game bounds cut (forgetting w r)
 restart_keeps laws game bounds cut w r k l = record {
   game_is = k.game_is;
   bounds_is = k.bounds_is;
@@ -134,10 +151,14 @@ restart_keeps laws game bounds cut w r k l = record {
 }
   where
     at : (q : ℕ) → q ≤ w.cut.workers → (q ≡ r) ⊎ (q ≢ r) → (f : List MeasureValue) × IsMapOf (forgetting w r) q f
-    at q within (inl e) = subst (λ (x : ℕ). (f : List MeasureValue) × IsMapOf (forgetting w r) x f) (sym e) (zero_map w.bounds (length w.game), map_after_forgetting laws.zero w r k.world l)
+    at q within (inl e) = subst (λ (x : ℕ). (f : List MeasureValue) × IsMapOf (forgetting w r) x f) (sym e)
+        (zero_map w.bounds (length w.game), map_after_forgetting laws.zero w r k.world l)
     at q within (inr ne) = let f = k.maps q within in (f.0, map_besides_forgetting w r q f.0 ne f.1)
 
-make_keeps : Laws → (game : List GameVertex) (bounds : BoundList) (cut : CutValue) (w : WorldValue) (r v : ℕ) (f : List MeasureValue) (m : MeasureValue) → Keeps game bounds cut w → r ≤ w.cut.workers → v < length w.game → IsMapOf w r f → IsLeastServing w.bounds (game_line w.game) f v m → IsBelow (measure_at f v) m → Keeps game bounds cut (making w r (record { vertex = v; measure = m }))
+make_keeps : Laws
+    → (game : List GameVertex) (bounds : BoundList) (cut : CutValue) (w : WorldValue) (r v : ℕ) (f : List MeasureValue) (m : MeasureValue)
+    → Keeps game bounds cut w → r ≤ w.cut.workers → v < length w.game → IsMapOf w r f → IsLeastServing w.bounds (game_line w.game) f v m
+    → IsBelow (measure_at f v) m → Keeps game bounds cut (making w r (record { vertex = v; measure = m }))
 make_keeps laws game bounds cut w r v f m k l lv j least below = record {
   game_is = k.game_is;
   bounds_is = k.bounds_is;
@@ -161,24 +182,30 @@ make_keeps laws game bounds cut w r v f m k l lv j least below = record {
     at q within (inl e) = subst (λ (x : ℕ). (g : List MeasureValue) × IsMapOf (making w r (record { vertex = v; measure = m })) x g) (sym e) here
     at q within (inr ne) = let g = k.maps q within in (g.0, map_besides_making w r q (record { vertex = v; measure = m }) g.0 k.world ne g.1)
 
-lift_keeps : Laws → (game : List GameVertex) (bounds : BoundList) (cut : CutValue) (w new : WorldValue) (r v : ℕ) → Keeps game bounds cut w → r ≤ w.cut.workers → v < length w.game → Lifts w r v new → Keeps game bounds cut new
+lift_keeps : Laws → (game : List GameVertex) (bounds : BoundList) (cut : CutValue) (w new : WorldValue) (r v : ℕ) → Keeps game bounds cut w
+    → r ≤ w.cut.workers → v < length w.game → Lifts w r v new → Keeps game bounds cut new
 lift_keeps laws game bounds cut w new r v k l lv (f, j, inl same) = subst (Keeps game bounds cut) (sym same.1) k
 lift_keeps laws game bounds cut w new r v k l lv (f, j, inr made) =
     subst (Keeps game bounds cut) (sym made.3) (make_keeps laws game bounds cut w r v f made.0 k l lv j made.1 made.2)
 
-event_keeps : Laws → (game : List GameVertex) (bounds : BoundList) (cut : CutValue) (w new : WorldValue) (e : Event) → Keeps game bounds cut w → IsEventOf w.game e → refusal w e ≡ None → Steps w e new → Keeps game bounds cut new
+event_keeps : Laws → (game : List GameVertex) (bounds : BoundList) (cut : CutValue) (w new : WorldValue) (e : Event)
+    → Keeps game bounds cut w → IsEventOf w.game e → refusal w e ≡ None → Steps w e new → Keeps game bounds cut new
 event_keeps laws game bounds cut w new (Lift r v) k l h s = let t = lifts w r v h in lift_keeps laws game bounds cut w new r v k t.1 l s
-event_keeps laws game bounds cut w new (Deliver r n) k l h s = let t = delivers w r n h in subst (Keeps game bounds cut) (sym s) (deliver_keeps laws game bounds cut w r n k t.0 t.1)
-event_keeps laws game bounds cut w new (Restart r) k l h s = let t = restarts w r h in subst (Keeps game bounds cut) (sym s) (restart_keeps laws game bounds cut w r k t.1)
+event_keeps laws game bounds cut w new (Deliver r n) k l h s = let t = delivers w r n h in
+    subst (Keeps game bounds cut) (sym s) (deliver_keeps laws game bounds cut w r n k t.0 t.1)
+event_keeps laws game bounds cut w new (Restart r) k l h s = let t = restarts w r h in
+    subst (Keeps game bounds cut) (sym s) (restart_keeps laws game bounds cut w r k t.1)
 event_keeps laws game bounds cut w new (CoordinatorLift v) k l h s = lift_keeps laws game bounds cut w new 0 v k (omega arith) l s
 
-events_keep : Laws → (game : List GameVertex) (bounds : BoundList) (cut : CutValue) (w new : WorldValue) (es : List Event) → Keeps game bounds cut w → All (IsEventOf game) es → Runs w es new → Keeps game bounds cut new
+events_keep : Laws → (game : List GameVertex) (bounds : BoundList) (cut : CutValue) (w new : WorldValue) (es : List Event)
+    → Keeps game bounds cut w → All (IsEventOf game) es → Runs w es new → Keeps game bounds cut new
 events_keep laws game bounds cut w new [] k a s = subst (Keeps game bounds cut) (sym s) k
 events_keep laws game bounds cut w new (e ∷ es) k a s =
     let first : IsEventOf w.game e = subst (λ (g : List GameVertex). IsEventOf g e) (sym k.game_is) (All-head (IsEventOf game) e es a) in
     events_keep laws game bounds cut s.0 new es (event_keeps laws game bounds cut w s.0 e k first s.1 s.2) (All-tail (IsEventOf game) e es a) s.3
 
-pub new_keeps : Laws → (game : List GameVertex) (bounds : BoundList) (cut : CutValue) → IsGame game → IsBoundsOf game bounds → Keeps game bounds cut (new_world game bounds cut)
+pub new_keeps : Laws → (game : List GameVertex) (bounds : BoundList) (cut : CutValue) → IsGame game → IsBoundsOf game bounds
+    → Keeps game bounds cut (new_world game bounds cut)
 new_keeps laws game bounds cut g b = record {
   game_is = refl;
   bounds_is = refl;
@@ -188,12 +215,18 @@ new_keeps laws game bounds cut g b = record {
 }
 
 -- each replica has a map after any events, and that is never above
-pub runs_never_above : Laws → (game : List GameVertex) (bounds : BoundList) (cut : CutValue) (es : List Event) (w : WorldValue) (r : ℕ) → IsGame game → IsBoundsOf game bounds → All (IsEventOf game) es → r ≤ cut.workers → Runs (new_world game bounds cut) es w → (f : List MeasureValue) × IsMapOf w r f × IsNeverAbove bounds (game_line game) f
+pub runs_never_above : Laws → (game : List GameVertex) (bounds : BoundList) (cut : CutValue) (es : List Event) (w : WorldValue) (r : ℕ)
+    → IsGame game → IsBoundsOf game bounds → All (IsEventOf game) es → r ≤ cut.workers → Runs (new_world game bounds cut) es w
+    → (f : List MeasureValue) × IsMapOf w r f × IsNeverAbove bounds (game_line game) f
 runs_never_above laws game bounds cut es w r g b a l s =
     let k = events_keep laws game bounds cut (new_world game bounds cut) w es (new_keeps laws game bounds cut g b) a s in
     let within : r ≤ w.cut.workers = subst (λ (x : CutValue). r ≤ x.workers) (sym k.cut_is) l in
-    let f = k.maps r within in
-    (f.0, f.1, subst (λ (x : BoundList). IsNeverAbove x (game_line game) f.0) k.bounds_is (subst (λ (x : List GameVertex). IsNeverAbove w.bounds (game_line x) f.0) k.game_is (map_never_above laws w r f.0 k.world f.1)))
+    let f = k.maps r within in (
+      f.0,
+      f.1,
+      subst (λ (x : BoundList). IsNeverAbove x (game_line game) f.0) k.bounds_is
+          (subst (λ (x : List GameVertex). IsNeverAbove w.bounds (game_line x) f.0) k.game_is (map_never_above laws w r f.0 k.world f.1)),
+    )
 
 lift_game : (w new : WorldValue) (r v : ℕ) → Lifts w r v new → new.game ≡ w.game
 lift_game w new r v (f, j, inl same) = ap (λ (x : WorldValue). x.game) same.1
@@ -215,8 +248,10 @@ one_more : (old mid new : WorldValue) (es : List Event) (e : Event) → Runs old
 one_more old mid new [] e s h t = (new, subst (λ (x : WorldValue). refusal x e ≡ None) s h, subst (λ (x : WorldValue). Steps x e new) s t, refl)
 one_more old mid new (x ∷ es) e s h t = (s.0, s.1, s.2, one_more s.0 mid new es e s.3 h t)
 
-pub runs_more : (old mid new : WorldValue) (es : List Event) (i : ℕ) (e d : Event) → HasRun old mid (take i es) → i < length es → e ≡ get_or es i d → refusal mid e ≡ None → Steps mid e new → HasRun old new (take (i + 1) es)
+pub runs_more : (old mid new : WorldValue) (es : List Event) (i : ℕ) (e d : Event) → HasRun old mid (take i es) → i < length es
+    → e ≡ get_or es i d → refusal mid e ≡ None → Steps mid e new → HasRun old new (take (i + 1) es)
 runs_more old mid new es i e d k l here h t = record {
-  runs = subst (λ (xs : List Event). Runs old xs new) (sym (take_more es i d l ∙ ap (λ (x : Event). take i es ++ x ∷ []) (sym here))) (one_more old mid new (take i es) e k.runs h t);
+  runs = subst (λ (xs : List Event). Runs old xs new) (sym (take_more es i d l ∙ ap (λ (x : Event). take i es ++ x ∷ []) (sym here)))
+      (one_more old mid new (take i es) e k.runs h t);
   game = step_game mid new e t ∙ k.game;
 }

@@ -41,12 +41,14 @@ no_cut_at_events bytes game (e ∷ es) a =
 numbers_there : (game : List GameVertex) (ns : List ℕ) → IsGame game → length ns ≡ length game → ns ≢ []
 numbers_there game ns well size e = (let full = well.nonempty in omega (arith, size, ap length e, full))
 
-cut_again : (bytes : List ℕ) (game : List GameVertex) (numbers : Option (List ℕ)) (cut : CutValue) (events : List Event) (rest : List ℕ) → IsGame game → IsCutOf game numbers cut
+cut_again : (bytes : List ℕ) (game : List GameVertex) (numbers : Option (List ℕ)) (cut : CutValue) (events : List Event) (rest : List ℕ)
+    → IsGame game → IsCutOf game numbers cut
     → Spells bytes (cut_lexemes numbers) rest → AreEvents rest game events → cut_at bytes ≡ Ok (numbers, rest)
 cut_again bytes game None cut events rest well is s a = subst (λ (b : List ℕ). cut_at b ≡ Ok (None, rest)) (sym s) (no_cut_at_events rest game events a)
 cut_again bytes game (Some ns) cut events rest well is s a = cut_there bytes ns rest (numbers_there game ns well is.1) s
 
-head_read : (bytes : List ℕ) (game : List GameVertex) (cut : CutValue) (events : List Event) → IsGame game → (t : IsScriptText bytes game cut events) → HeadRead bytes game cut.workers t.numbers events
+head_read : (bytes : List ℕ) (game : List GameVertex) (cut : CutValue) (events : List Event) → IsGame game
+    → (t : IsScriptText bytes game cut events) → HeadRead bytes game cut.workers t.numbers events
 head_read bytes game cut events well t =
     let parts = spells_parts (head_lexemes cut.workers t.numbers) (events_lexemes game events) bytes [] t.text in
     let head = spells_parts (clause_lexemes (codes "workers") (Some cut.workers)) (cut_lexemes t.numbers) bytes parts.0 parts.1 in
@@ -61,7 +63,8 @@ head_read bytes game cut events well t =
 
 -- ---- why there is no script
 
-pub fails_workers : (bytes : List ℕ) (game : List GameVertex) (fault : TokenFault) → IsGame game → workers_at bytes ≡ Err fault → (cut : CutValue) (events : List Event) → ¬ IsScriptText bytes game cut events
+pub fails_workers : (bytes : List ℕ) (game : List GameVertex) (fault : TokenFault) → IsGame game → workers_at bytes ≡ Err fault
+    → (cut : CutValue) (events : List Event) → ¬ IsScriptText bytes game cut events
 fails_workers bytes game fault well read = λ cut events t. (let h = head_read bytes game cut events well t in err_is_ok fault _ (sym read ∙ h.workers_read))
 
 -- the head of a text is what was read
@@ -71,13 +74,15 @@ same_workers bytes x y p q = ok_is x y (sym p ∙ q)
 same_cut_line : (bytes : List ℕ) (x y : Option (List ℕ) × List ℕ) → cut_at bytes ≡ Ok x → cut_at bytes ≡ Ok y → x ≡ y
 same_cut_line bytes x y p q = ok_is x y (sym p ∙ q)
 
-pub fails_many : (bytes : List ℕ) (game : List GameVertex) (workers : ℕ) (mid : List ℕ) → IsGame game → workers_at bytes ≡ Ok (workers, mid) → 16 < workers → (cut : CutValue) (events : List Event) → ¬ IsScriptText bytes game cut events
+pub fails_many : (bytes : List ℕ) (game : List GameVertex) (workers : ℕ) (mid : List ℕ) → IsGame game → workers_at bytes ≡ Ok (workers, mid)
+    → 16 < workers → (cut : CutValue) (events : List Event) → ¬ IsScriptText bytes game cut events
 fails_many bytes game workers mid well read many = λ cut events t.
     let h = head_read bytes game cut events well t in
     let same : cut.workers ≡ workers = ap (λ (p : ℕ × List ℕ). p.0) (same_workers bytes (cut.workers, h.mid) (workers, mid) h.workers_read read) in
     omega (arith, t.few, same, many)
 
-pub fails_cut : (bytes : List ℕ) (game : List GameVertex) (workers : ℕ) (mid : List ℕ) (refusal : Refusal) (len : ℕ) → IsGame game → workers_at bytes ≡ Ok (workers, mid) → Fails refusal (cut_at mid) → IsNoScript bytes game (refusal_in len refusal)
+pub fails_cut : (bytes : List ℕ) (game : List GameVertex) (workers : ℕ) (mid : List ℕ) (refusal : Refusal) (len : ℕ) → IsGame game
+    → workers_at bytes ≡ Ok (workers, mid) → Fails refusal (cut_at mid) → IsNoScript bytes game (refusal_in len refusal)
 fails_cut bytes game workers mid Memory len well read fails = λ other. absurd (other refl)
 fails_cut bytes game workers mid (Token fault) len well read fails = λ other cut events t.
     let h = head_read bytes game cut events well t in
@@ -85,25 +90,29 @@ fails_cut bytes game workers mid (Token fault) len well read fails = λ other cu
     err_is_ok fault _ (sym fails ∙ subst (λ (b : List ℕ). cut_at b ≡ Ok (t.numbers, h.after)) same h.cut_read)
 
 -- what a text of the same bytes says before its events
-pub record SameHead (bytes : List ℕ) (game : List GameVertex) (workers : ℕ) (numbers : Option (List ℕ)) (rest : List ℕ) (cut : CutValue) (events : List Event) : Type 0 where
+pub record SameHead (bytes : List ℕ) (game : List GameVertex) (workers : ℕ) (numbers : Option (List ℕ)) (rest : List ℕ) (cut : CutValue)
+    (events : List Event) : Type 0 where
   pub workers_are : cut.workers ≡ workers
   pub cut_is : IsCutOf game numbers cut
   pub later : AreEvents rest game events
 
-pub same_head : (bytes : List ℕ) (game : List GameVertex) (workers : ℕ) (mid : List ℕ) (numbers : Option (List ℕ)) (rest : List ℕ) → IsGame game → workers_at bytes ≡ Ok (workers, mid) → cut_at mid ≡ Ok (numbers, rest)
+pub same_head : (bytes : List ℕ) (game : List GameVertex) (workers : ℕ) (mid : List ℕ) (numbers : Option (List ℕ)) (rest : List ℕ)
+    → IsGame game → workers_at bytes ≡ Ok (workers, mid) → cut_at mid ≡ Ok (numbers, rest)
     → (cut : CutValue) (events : List Event) → IsScriptText bytes game cut events → SameHead bytes game workers numbers rest cut events
 same_head bytes game workers mid numbers rest well read cut_read = λ cut events t.
     let h = head_read bytes game cut events well t in
     let first = same_workers bytes (cut.workers, h.mid) (workers, mid) h.workers_read read in
     let same : h.mid ≡ mid = ap (λ (p : ℕ × List ℕ). p.1) first in
-    let second : (t.numbers, h.after) ≡ (numbers, rest) = same_cut_line mid (t.numbers, h.after) (numbers, rest) (subst (λ (b : List ℕ). cut_at b ≡ Ok (t.numbers, h.after)) same h.cut_read) cut_read in
+    let second : (t.numbers, h.after) ≡ (numbers, rest) = same_cut_line mid (t.numbers, h.after) (numbers, rest)
+    (subst (λ (b : List ℕ). cut_at b ≡ Ok (t.numbers, h.after)) same h.cut_read) cut_read in
     record {
       workers_are = ap (λ (p : ℕ × List ℕ). p.0) first;
       cut_is = subst (λ (ns : Option (List ℕ)). IsCutOf game ns cut) (ap (λ (p : Option (List ℕ) × List ℕ). p.0) second) t.cut_is;
       later = subst (λ (b : List ℕ). AreEvents b game events) (ap (λ (p : Option (List ℕ) × List ℕ). p.1) second) h.later;
     }
 
-pub fails_misfit : (bytes : List ℕ) (game : List GameVertex) (workers : ℕ) (mid : List ℕ) (numbers : Option (List ℕ)) (rest : List ℕ) → IsGame game → workers_at bytes ≡ Ok (workers, mid) → cut_at mid ≡ Ok (numbers, rest)
+pub fails_misfit : (bytes : List ℕ) (game : List GameVertex) (workers : ℕ) (mid : List ℕ) (numbers : Option (List ℕ)) (rest : List ℕ)
+    → IsGame game → workers_at bytes ≡ Ok (workers, mid) → cut_at mid ≡ Ok (numbers, rest)
     → ((cut : CutValue) → cut.workers ≡ workers → ¬ IsCutOf game numbers cut) → (cut : CutValue) (events : List Event) → ¬ IsScriptText bytes game cut events
 fails_misfit bytes game workers mid numbers rest well read cut_read none = λ cut events t.
     let s = same_head bytes game workers mid numbers rest well read cut_read cut events t in
@@ -111,10 +120,14 @@ fails_misfit bytes game workers mid numbers rest well read cut_read none = λ cu
 
 -- ---- the head that was read
 
-pub head : (bytes : List ℕ) (game : List GameVertex) (workers : ℕ) (mid : List ℕ) (numbers : Option (List ℕ)) (rest : List ℕ) (cut : CutValue) → workers_at bytes ≡ Ok (workers, mid) → cut_at mid ≡ Ok (numbers, rest) → workers ≤ MAX_WORKERS → cut.workers ≡ workers → IsCutOf game numbers cut → IsHead bytes game cut rest
+pub head : (bytes : List ℕ) (game : List GameVertex) (workers : ℕ) (mid : List ℕ) (numbers : Option (List ℕ)) (rest : List ℕ) (cut : CutValue)
+    → workers_at bytes ≡ Ok (workers, mid) → cut_at mid ≡ Ok (numbers, rest) → workers ≤ MAX_WORKERS → cut.workers ≡ workers
+    → IsCutOf game numbers cut → IsHead bytes game cut rest
 head bytes game workers mid numbers rest cut read cut_read few same is = record {
   numbers = numbers;
-  spelt = subst (λ (n : ℕ). Spells bytes (head_lexemes n numbers) rest) (sym same) (spells_append (clause_lexemes (codes "workers") (Some workers)) (cut_lexemes numbers) bytes mid rest (workers_take bytes (workers, mid) read) (cut_takes mid (numbers, rest) cut_read));
+  spelt = subst (λ (n : ℕ). Spells bytes (head_lexemes n numbers) rest) (sym same)
+      (spells_append (clause_lexemes (codes "workers") (Some workers)) (cut_lexemes numbers) bytes mid rest
+      (workers_take bytes (workers, mid) read) (cut_takes mid (numbers, rest) cut_read));
   few = subst (λ (n : ℕ). n ≤ MAX_WORKERS) (sym same) few;
   cut_is = is;
 }
@@ -122,14 +135,18 @@ head bytes game workers mid numbers rest cut read cut_read few same is = record 
 cut_eta : (a b : CutValue) → a.workers ≡ b.workers → a.numbers ≡ b.numbers → a ≡ b
 cut_eta a b p q = rw (p, q) refl
 
-pub same_cut : (game : List GameVertex) (numbers : Option (List ℕ)) (a b : CutValue) → a.workers ≡ b.workers → IsCutOf game numbers a → IsCutOf game numbers b → a ≡ b
+pub same_cut : (game : List GameVertex) (numbers : Option (List ℕ)) (a b : CutValue) → a.workers ≡ b.workers → IsCutOf game numbers a
+    → IsCutOf game numbers b → a ≡ b
 same_cut game None a b same p q =
     let size : length a.numbers ≡ length b.numbers = p.size ∙ sym q.size in
-    let each = λ (k : ℕ) (l : k < length a.numbers). p.each k (subst (λ (n : ℕ). k < n) p.size l) ∙ ap (λ (w : ℕ). even_worker (length game) w k) same ∙ sym (q.each k (subst (λ (n : ℕ). k < n) p.size l)) in
+    let each = λ (k : ℕ) (l : k < length a.numbers). p.each k (subst (λ (n : ℕ). k < n) p.size l)
+    ∙ ap (λ (w : ℕ). even_worker (length game) w k) same ∙ sym (q.each k (subst (λ (n : ℕ). k < n) p.size l)) in
     cut_eta a b same (ext_get_or 0 a.numbers b.numbers size each)
 same_cut game (Some ns) a b same p q = cut_eta a b same (p.0 ∙ sym q.0)
 
-pub only_head : (bytes : List ℕ) (game : List GameVertex) (workers : ℕ) (mid : List ℕ) (numbers : Option (List ℕ)) (rest : List ℕ) (cut : CutValue) → IsGame game → workers_at bytes ≡ Ok (workers, mid) → cut_at mid ≡ Ok (numbers, rest) → cut.workers ≡ workers → IsCutOf game numbers cut → IsOnlyHead bytes game cut rest
+pub only_head : (bytes : List ℕ) (game : List GameVertex) (workers : ℕ) (mid : List ℕ) (numbers : Option (List ℕ)) (rest : List ℕ) (cut : CutValue)
+    → IsGame game → workers_at bytes ≡ Ok (workers, mid) → cut_at mid ≡ Ok (numbers, rest) → cut.workers ≡ workers
+    → IsCutOf game numbers cut → IsOnlyHead bytes game cut rest
 only_head bytes game workers mid numbers rest cut well read cut_read same is = λ other events t.
     let s = same_head bytes game workers mid numbers rest well read cut_read other events t in
     (same_cut game numbers other cut (s.workers_are ∙ sym same) s.cut_is is, s.later)
@@ -146,7 +163,8 @@ whole bytes game cut rest events h few a = record {
   vertices = a.vertices;
 }
 
-pub only_whole : (bytes : List ℕ) (game : List GameVertex) (cut : CutValue) (rest : List ℕ) (events : List Event) → IsGame game → IsOnlyHead bytes game cut rest → AreEvents rest game events
+pub only_whole : (bytes : List ℕ) (game : List GameVertex) (cut : CutValue) (rest : List ℕ) (events : List Event) → IsGame game
+    → IsOnlyHead bytes game cut rest → AreEvents rest game events
     → (other : CutValue) (others : List Event) → IsScriptText bytes game other others → (cut ≡ other) × (events ≡ others)
 only_whole bytes game cut rest events well only a other others t = (let o = only other others t in (sym o.0, same_events game rest events others well a o.1))
 
@@ -170,7 +188,8 @@ none_holds Q (Some y) e h = absurd cc
 
 -- ---- one text, one script
 
-pub one_script : (bytes : List ℕ) (game : List GameVertex) (cut other : CutValue) (events others : List Event) → IsGame game → IsScriptText bytes game cut events → IsScriptText bytes game other others → (other ≡ cut) × (others ≡ events)
+pub one_script : (bytes : List ℕ) (game : List GameVertex) (cut other : CutValue) (events others : List Event) → IsGame game
+    → IsScriptText bytes game cut events → IsScriptText bytes game other others → (other ≡ cut) × (others ≡ events)
 one_script bytes game cut other events others well t u =
     let h = head_read bytes game cut events well t in
     let s = same_head bytes game cut.workers h.mid t.numbers h.after well h.workers_read h.cut_read other others u in

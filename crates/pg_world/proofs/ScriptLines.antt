@@ -10,7 +10,8 @@ use Rattle.pg_text.proofs.Steps.{bind_ok, ok, ok_is, err_is_ok}
 use Rattle.pg_lists.proofs.Steps.{chosen, some}
 use Rattle.pg_text.proofs.Lexing.{token_again}
 use Rattle.pg_text.proofs.Spelling.{spells_append, spells_parts, begins_shorter, spells_within}
-use Rattle.pg_text.proofs.Parts.{natural_takes, natural_again, name_takes, name_again, semicolon_takes, semicolon_again, end_takes, end_again, clause_takes, clause_there, numbers_take, numbers_again}
+use Rattle.pg_text.proofs.Parts.{natural_takes, natural_again, name_takes, name_again, semicolon_takes, semicolon_again, end_takes}
+use Rattle.pg_text.proofs.Parts.{end_again, clause_takes, clause_there, numbers_take, numbers_again}
 use Rattle.pg_world.specs.declared.script_line.ScriptLine.{ScriptLine}
 use Rattle.pg_world.specs.declared.script_line.ScriptLine.TheVariants.{Lift, Deliver, Restart, Central}
 use Rattle.pg_world.specs.ScriptText.{cut_lexemes}
@@ -50,7 +51,8 @@ line_lexemes (Deliver replica n) = word (codes "deliver") ∷ number replica ∷
 line_lexemes (Restart worker) = word (codes "restart") ∷ number worker ∷ semicolon ∷ []
 line_lexemes (Central id) = word (codes "central") ∷ number id ∷ semicolon ∷ []
 
-one_line : (bytes name rest w : List ℕ) (make : ℕ → ScriptLine) (y : ScriptLine × List ℕ) → bytes_eq name w ≡ true → Begins bytes (word name) rest → (one_at rest >>= λ x. ok (make x.0, x.1)) ≡ Ok y
+one_line : (bytes name rest w : List ℕ) (make : ℕ → ScriptLine) (y : ScriptLine × List ℕ) → bytes_eq name w ≡ true
+    → Begins bytes (word name) rest → (one_at rest >>= λ x. ok (make x.0, x.1)) ≡ Ok y
     → (a : ℕ) × (make a ≡ y.0) × Spells bytes (word w ∷ number a ∷ semicolon ∷ []) y.1
 one_line bytes name rest w make y same begins e =
     let named : name ≡ w = (bytes_eq-Decides name w).0 same in
@@ -65,7 +67,8 @@ one_line bytes name rest w make y same begins e =
       ),
     )
 
-two_line : (bytes name rest w : List ℕ) (make : ℕ → ℕ → ScriptLine) (y : ScriptLine × List ℕ) → bytes_eq name w ≡ true → Begins bytes (word name) rest → (two_at rest >>= λ x. ok (make x.0 x.1, x.2)) ≡ Ok y
+two_line : (bytes name rest w : List ℕ) (make : ℕ → ℕ → ScriptLine) (y : ScriptLine × List ℕ) → bytes_eq name w ≡ true
+    → Begins bytes (word name) rest → (two_at rest >>= λ x. ok (make x.0 x.1, x.2)) ≡ Ok y
     → (a : ℕ) × (b : ℕ) × (make a b ≡ y.0) × Spells bytes (word w ∷ number a ∷ number b ∷ semicolon ∷ []) y.1
 two_line bytes name rest w make y same begins e =
     let named : name ≡ w = (bytes_eq-Decides name w).0 same in
@@ -81,10 +84,12 @@ two_line bytes name rest w make y same begins e =
       ),
     )
 
-line_is : (bytes front name rest : List ℕ) (y : ScriptLine × List ℕ) → Begins bytes (word name) rest → line_at front name rest ≡ Ok y → Spells bytes (line_lexemes y.0) y.1
+line_is : (bytes front name rest : List ℕ) (y : ScriptLine × List ℕ) → Begins bytes (word name) rest → line_at front name rest ≡ Ok y
+    → Spells bytes (line_lexemes y.0) y.1
 unfolding line_at
 line_is bytes front name rest y begins e =
-    let as_line : (l : ScriptLine) → l ≡ y.0 → Spells bytes (line_lexemes l) y.1 → Spells bytes (line_lexemes y.0) y.1 = λ l same s. subst (λ (l : ScriptLine). Spells bytes (line_lexemes l) y.1) same s in
+    let as_line : (l : ScriptLine) → l ≡ y.0 → Spells bytes (line_lexemes l) y.1 → Spells bytes (line_lexemes y.0) y.1 =
+    λ l same s. subst (λ (l : ScriptLine). Spells bytes (line_lexemes l) y.1) same s in
     elim (chosen (bytes_eq name (codes "lift")) _ _ (ok y) e) [
       | inl c ↦ (let l = two_line bytes name rest (codes "lift") (λ a b. Lift a b) y c.0 begins c.1 in as_line (Lift l.0 l.1) l.2 l.3)
       | inr n ↦ elim (chosen (bytes_eq name (codes "deliver")) _ _ (ok y) n.1) [
@@ -141,10 +146,26 @@ unfolding next_line_at
 text_ends_again bytes s = rw (no_name bytes s, end_again bytes s) refl
 
 shorter : (bytes rest : List ℕ) (line : ScriptLine) → Spells bytes (line_lexemes line) rest → length rest < length bytes
-shorter bytes rest (Lift a b) s = omega (arith, begins_shorter bytes (word (codes "lift")) s.0 (λ e. cc) s.1, spells_within (number a ∷ number b ∷ semicolon ∷ []) s.0 rest s.2)
-shorter bytes rest (Deliver a b) s = omega (arith, begins_shorter bytes (word (codes "deliver")) s.0 (λ e. cc) s.1, spells_within (number a ∷ number b ∷ semicolon ∷ []) s.0 rest s.2)
-shorter bytes rest (Restart a) s = omega (arith, begins_shorter bytes (word (codes "restart")) s.0 (λ e. cc) s.1, spells_within (number a ∷ semicolon ∷ []) s.0 rest s.2)
-shorter bytes rest (Central a) s = omega (arith, begins_shorter bytes (word (codes "central")) s.0 (λ e. cc) s.1, spells_within (number a ∷ semicolon ∷ []) s.0 rest s.2)
+shorter bytes rest (Lift a b) s = omega (
+  arith,
+  begins_shorter bytes (word (codes "lift")) s.0 (λ e. cc) s.1,
+  spells_within (number a ∷ number b ∷ semicolon ∷ []) s.0 rest s.2,
+)
+shorter bytes rest (Deliver a b) s = omega (
+  arith,
+  begins_shorter bytes (word (codes "deliver")) s.0 (λ e. cc) s.1,
+  spells_within (number a ∷ number b ∷ semicolon ∷ []) s.0 rest s.2,
+)
+shorter bytes rest (Restart a) s = omega (
+  arith,
+  begins_shorter bytes (word (codes "restart")) s.0 (λ e. cc) s.1,
+  spells_within (number a ∷ semicolon ∷ []) s.0 rest s.2,
+)
+shorter bytes rest (Central a) s = omega (
+  arith,
+  begins_shorter bytes (word (codes "central")) s.0 (λ e. cc) s.1,
+  spells_within (number a ∷ semicolon ∷ []) s.0 rest s.2,
+)
 
 pub line_shorter : (bytes : List ℕ) (line : ScriptLine) (rest : List ℕ) → next_line_at bytes ≡ Ok (Some line, rest) → length rest < length bytes
 line_shorter bytes line rest e = shorter bytes rest line (line_takes bytes line rest e)
@@ -159,13 +180,15 @@ pub workers_take : (bytes : List ℕ) (y : ℕ × List ℕ) → workers_at bytes
 unfolding workers_at
 workers_take bytes y e =
     let x = bind_ok (clause_at (codes "workers") bytes) (workers_in bytes) y e in
-    subst (λ (x : Option ℕ × List ℕ). Spells bytes (clause_lexemes (codes "workers") x.0) x.1) (workers_is bytes x.0 y x.2) (clause_takes (codes "workers") bytes x.0 x.1)
+    subst (λ (x : Option ℕ × List ℕ). Spells bytes (clause_lexemes (codes "workers") x.0) x.1) (workers_is bytes x.0 y x.2)
+    (clause_takes (codes "workers") bytes x.0 x.1)
 
 pub workers_again : (bytes : List ℕ) (n : ℕ) (rest : List ℕ) → Spells bytes (clause_lexemes (codes "workers") (Some n)) rest → workers_at bytes ≡ Ok (n, rest)
 unfolding workers_at
 workers_again bytes n rest s = rw (clause_there (codes "workers") n bytes rest s) refl
 
-cut_is : (bytes : List ℕ) (o : Read (List ℕ × List ℕ)) (y : Option (List ℕ) × List ℕ) → name_at bytes ≡ o → cut_in bytes o ≡ Ok y → Spells bytes (cut_lexemes y.0) y.1
+cut_is : (bytes : List ℕ) (o : Read (List ℕ × List ℕ)) (y : Option (List ℕ) × List ℕ) → name_at bytes ≡ o → cut_in bytes o ≡ Ok y
+    → Spells bytes (cut_lexemes y.0) y.1
 cut_is bytes (Ok x) y named e =
     let nothing : Option (List ℕ) × List ℕ = (None, bytes) in
     elim (chosen (bytes_eq x.0 (codes "cut")) _ _ (ok y) e) [
@@ -190,7 +213,12 @@ pub cut_there : (bytes : List ℕ) (ns rest : List ℕ) → ns ≢ [] → Spells
 unfolding cut_at
 cut_there bytes ns rest some_there s =
     let parts = spells_parts _ (semicolon ∷ []) s.0 rest s.2 in
-    rw (name_again bytes (codes "cut") s.0 s.1, numbers_again ns s.0 parts.0 semicolon parts.2.0 some_there parts.1 (λ e. cc) parts.2.1, semicolon_again parts.0 parts.2.0 parts.2.1, parts.2.2) refl
+    rw (
+      name_again bytes (codes "cut") s.0 s.1,
+      numbers_again ns s.0 parts.0 semicolon parts.2.0 some_there parts.1 (λ e. cc) parts.2.1,
+      semicolon_again parts.0 parts.2.0 parts.2.1,
+      parts.2.2,
+    ) refl
 
 -- where a line or the end stands there is no line of a cut
 pub no_cut_at_end : (bytes : List ℕ) → Spells bytes (end ∷ []) [] → cut_at bytes ≡ Ok (None, bytes)

@@ -37,7 +37,8 @@ pub record Split (bytes : List ℕ) (game : List GameVertex) (e : Event) (es : L
 
 pub split : (bytes : List ℕ) (game : List GameVertex) (e : Event) (es : List Event) → AreEvents bytes game (e ∷ es) → Split bytes game e es
 split bytes game e es a =
-    let regrouped = subst (λ (tokens : List Lexeme). Spells bytes tokens []) (append_assoc (event_lexemes game e) (flat_map (event_lexemes game) es) (end ∷ [])) a.spelt in
+    let regrouped = subst (λ (tokens : List Lexeme). Spells bytes tokens [])
+    (append_assoc (event_lexemes game e) (flat_map (event_lexemes game) es) (end ∷ [])) a.spelt in
     let parts = spells_parts (event_lexemes game e) (events_lexemes game es) bytes [] regrouped in
     record {
       mid = parts.0;
@@ -67,28 +68,40 @@ pub record Reading (bytes : List ℕ) (game : List GameVertex) (events : List Ev
 pub starts : (bytes : List ℕ) (game : List GameVertex) → Reading bytes game [] bytes
 starts bytes game = record { spelt = refl; vertices = All-nil (IsEventOf game); others = λ all a. (all, a) }
 
-goes_later : (game : List GameVertex) (rest : List ℕ) (line : ScriptLine) (after : List ℕ) (later : List Event) → next_line_at rest ≡ Ok (Some line, after) → AreEvents rest game later
+goes_later : (game : List GameVertex) (rest : List ℕ) (line : ScriptLine) (after : List ℕ) (later : List Event)
+    → next_line_at rest ≡ Ok (Some line, after) → AreEvents rest game later
     → (e : Event) × (es : List Event) × IsEventAt game line e × AreEvents after game es
-goes_later game rest line after [] read a = absurd (none_some line rest after (same_read rest (None, rest) (Some line, after) (no_events_read rest game a) read))
+goes_later game rest line after [] read a =
+    absurd (none_some line rest after (same_read rest (None, rest) (Some line, after) (no_events_read rest game a) read))
 goes_later game rest line after (e ∷ es) read a =
     let s = split rest game e es a in
     let same : (some (line_of game e), s.mid) ≡ (some line, after) = same_read rest (Some (line_of game e), s.mid) (Some line, after) s.read read in
-    let same_line : line_of game e ≡ line = some_is (line_of game e) line (ap (λ (p : Option ScriptLine × List ℕ). p.0) same) in
-    (e, es, record { vertex = s.vertex; same = same_line }, subst (λ (r : List ℕ). AreEvents r game es) (ap (λ (p : Option ScriptLine × List ℕ). p.1) same) s.others)
+    let same_line : line_of game e ≡ line = some_is (line_of game e) line (ap (λ (p : Option ScriptLine × List ℕ). p.0) same) in (
+      e,
+      es,
+      record { vertex = s.vertex; same = same_line },
+      subst (λ (r : List ℕ). AreEvents r game es)
+          (ap (λ (p : Option ScriptLine × List ℕ). p.1) same) s.others,
+    )
 
-pub goes : (bytes : List ℕ) (game : List GameVertex) (events : List Event) (rest : List ℕ) (line : ScriptLine) (after : List ℕ) (e : Event) → Reading bytes game events rest → next_line_at rest ≡ Ok (Some line, after) → IsEventAt game line e
+pub goes : (bytes : List ℕ) (game : List GameVertex) (events : List Event) (rest : List ℕ) (line : ScriptLine) (after : List ℕ) (e : Event)
+    → Reading bytes game events rest → next_line_at rest ≡ Ok (Some line, after) → IsEventAt game line e
     → Reading bytes game (events ++ e ∷ []) after
 goes bytes game events rest line after e r read at =
     let line_there = subst (λ (l : ScriptLine). Spells rest (line_lexemes l) after) (sym at.same) (line_takes rest line after read) in
     let there = subst (λ (tokens : List Lexeme). Spells rest tokens after) (sym (event_line game e)) line_there in
-    let one : flat_map (event_lexemes game) (events ++ e ∷ []) ≡ flat_map (event_lexemes game) events ++ event_lexemes game e = flat_map-append (event_lexemes game) events (e ∷ []) ∙ ap (λ (l : List Lexeme). flat_map (event_lexemes game) events ++ l) (append-nil (event_lexemes game e)) in
+    let one : flat_map (event_lexemes game) (events ++ e ∷ []) ≡ flat_map (event_lexemes game) events ++ event_lexemes game e =
+    flat_map-append (event_lexemes game) events (e ∷ []) ∙ ap (λ (l : List Lexeme). flat_map (event_lexemes game) events ++ l)
+    (append-nil (event_lexemes game e)) in
     record {
-      spelt = subst (λ (tokens : List Lexeme). Spells bytes tokens after) (sym one) (spells_append (flat_map (event_lexemes game) events) (event_lexemes game e) bytes rest after r.spelt there);
+      spelt = subst (λ (tokens : List Lexeme). Spells bytes tokens after) (sym one)
+          (spells_append (flat_map (event_lexemes game) events) (event_lexemes game e) bytes rest after r.spelt there);
       vertices = All-append (IsEventOf game) events (e ∷ []) r.vertices (All-cons (IsEventOf game) e [] at.vertex (All-nil (IsEventOf game)));
       others = λ all a. (let o = r.others all a in let l = goes_later game rest line after o.0 read o.1 in (l.1, l.3));
     }
 
-pub finishes : (bytes : List ℕ) (game : List GameVertex) (events : List Event) (rest after : List ℕ) → Reading bytes game events rest → next_line_at rest ≡ Ok (None, after) → AreEvents bytes game events
+pub finishes : (bytes : List ℕ) (game : List GameVertex) (events : List Event) (rest after : List ℕ) → Reading bytes game events rest
+    → next_line_at rest ≡ Ok (None, after) → AreEvents bytes game events
 finishes bytes game events rest after r read = record {
   spelt = spells_append (flat_map (event_lexemes game) events) (end ∷ []) bytes rest [] r.spelt (text_ends rest after read);
   vertices = r.vertices;
@@ -99,13 +112,16 @@ no_line game rest fault [] read a = err_is_ok fault _ (sym read ∙ no_events_re
 no_line game rest fault (e ∷ es) read a = (let s = split rest game e es a in err_is_ok fault _ (sym read ∙ s.read))
 
 -- where no line stands no events do
-pub fails_line : (bytes : List ℕ) (game : List GameVertex) (events : List Event) (rest : List ℕ) (fault : TokenFault) → Reading bytes game events rest → next_line_at rest ≡ Err fault → (all : List Event) → ¬ AreEvents bytes game all
+pub fails_line : (bytes : List ℕ) (game : List GameVertex) (events : List Event) (rest : List ℕ) (fault : TokenFault)
+    → Reading bytes game events rest → next_line_at rest ≡ Err fault → (all : List Event) → ¬ AreEvents bytes game all
 fails_line bytes game events rest fault r read = λ all a. (let o = r.others all a in no_line game rest fault o.0 read o.1)
 
 -- nor where a line stands that is no event's
-pub fails_event : (bytes : List ℕ) (game : List GameVertex) (events : List Event) (rest : List ℕ) (line : ScriptLine) (after : List ℕ) → Reading bytes game events rest → next_line_at rest ≡ Ok (Some line, after) → ((e : Event) → ¬ IsEventAt game line e)
+pub fails_event : (bytes : List ℕ) (game : List GameVertex) (events : List Event) (rest : List ℕ) (line : ScriptLine) (after : List ℕ)
+    → Reading bytes game events rest → next_line_at rest ≡ Ok (Some line, after) → ((e : Event) → ¬ IsEventAt game line e)
     → (all : List Event) → ¬ AreEvents bytes game all
-fails_event bytes game events rest line after r read none = λ all a. (let o = r.others all a in let l = goes_later game rest line after o.0 read o.1 in none l.0 l.2)
+fails_event bytes game events rest line after r read none = λ all a. (let o = r.others all a in let l =
+    goes_later game rest line after o.0 read o.1 in none l.0 l.2)
 
 -- ---- one text, one list of events
 
@@ -150,8 +166,10 @@ same_events game bytes (e ∷ es) [] well a b =
 same_events game bytes (e ∷ es) (e' ∷ es') well a b =
     let s = split bytes game e es a in
     let s' = split bytes game e' es' b in
-    let same : (some (line_of game e), s.mid) ≡ (some (line_of game e'), s'.mid) = same_read bytes (Some (line_of game e), s.mid) (Some (line_of game e'), s'.mid) s.read s'.read in
+    let same : (some (line_of game e), s.mid) ≡ (some (line_of game e'), s'.mid) =
+    same_read bytes (Some (line_of game e), s.mid) (Some (line_of game e'), s'.mid) s.read s'.read in
     let same_line : line_of game e ≡ line_of game e' = some_is (line_of game e) (line_of game e') (ap (λ (p : Option ScriptLine × List ℕ). p.0) same) in
     let first : e ≡ e' = same_event game e e' well s.vertex s'.vertex same_line in
-    let later : es ≡ es' = same_events game s.mid es es' well s.others (subst (λ (r : List ℕ). AreEvents r game es') (sym (ap (λ (p : Option ScriptLine × List ℕ). p.1) same)) s'.others) in
+    let later : es ≡ es' = same_events game s.mid es es' well s.others
+    (subst (λ (r : List ℕ). AreEvents r game es') (sym (ap (λ (p : Option ScriptLine × List ℕ). p.1) same)) s'.others) in
     rw (first, later) refl

@@ -1,5 +1,6 @@
 -- Worlds: a coordinator and workers that lift, take each other's updates in any order, lose and repeat them, and start anew.
-use Rattle.std.specs.Prelude.{◌≡◌, ◌⊎◌, ℕ, ◌+◌, ◌<◌, ◌&&◌, ◌==◌, Bool, nat_lt, nat_le, List, [], ◌∷◌, ◌++◌, Option, Some, None, length, replicate, take, slice_get, slice_index_or, slice_set, if◌then◌else◌}
+use Rattle.std.specs.Prelude.{◌≡◌, ◌⊎◌, ℕ, ◌+◌, ◌<◌, ◌&&◌, ◌==◌, Bool, nat_lt, nat_le, List, [], ◌∷◌, ◌++◌, Option, Some, None, length}
+use Rattle.std.specs.Prelude.{replicate, take, slice_get, slice_index_or, slice_set, if◌then◌else◌}
 use Rattle.pg_arena.specs.Games.{GameVertex, identifier}
 use Rattle.pg_measure.specs.Measures.{BoundList, MeasureValue, IsBelow}
 use Rattle.pg_map.specs.Lines.{game_line}

@@ -23,7 +23,8 @@ loop-number-preserved c v lt = elim (cases_lt v c.loop-number.number) [
         | in-Odd w ↦
             let won : Odd ≡ winner c.args.solution.now c.loop-number.number = let e = w.in-Odd.is in cc in
             subst (λ p. IsCertifiedFor p c.args.game.now c.args.even.now c.args.odd.now c.args.solution.now c.loop-number.number) won
-            (subst (λ game. IsCertifiedBy c.args.odd.now.bounds (game_line (dual game)) c.args.odd.now.measures c.args.game.now c.args.solution.now c.loop-number.number)
+            (subst (λ game. IsCertifiedBy c.args.odd.now.bounds
+            (game_line (dual game)) c.args.odd.now.measures c.args.game.now c.args.solution.now c.loop-number.number)
             c.of-dual.ensures (w.is_certified_by-is_certified-in-Odd.ensures.0 (sym w.is_certified-is ∙ c.if-not-is_certified.false)))
       ])
 ]

@@ -58,7 +58,8 @@ loop-number-preserved c =
           filled_with game half g before c.match-winner.solution v w.first_serving.result lt c.loop-number.invariant (w.solution-is ∙ w.set.ensures)
           (λ f is_half closed. answer_with game f g is_game closed v lt Odd (subst IsSome w.in-Odd-List-Odd.ensures'.value refl)
           (sym c.owner.ensures ∙ w.in-Odd-List-Odd.is-2) w.first_serving.result
-          (subst (λ game. IfSome w.first_serving.result (IsFirstServing g.bounds (game_line (dual game)) g.measures v)) c.of-dual.ensures w.first_serving.ensures.first)
+          (subst (λ game. IfSome w.first_serving.result
+          (IsFirstServing g.bounds (game_line (dual game)) g.measures v)) c.of-dual.ensures w.first_serving.ensures.first)
           (subst (λ game. IfNone w.first_serving.result ((u : ℕ) → Contains (line_at (game_line (dual game)) v).successors u
           → ¬ IsServedBy g.bounds (game_line (dual game)) g.measures v u)) c.of-dual.ensures w.first_serving.ensures.none))
     ]

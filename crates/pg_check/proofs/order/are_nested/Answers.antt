@@ -13,7 +13,8 @@ loop-i-preserved c =
     record {
       within = omega arith;
       later = λ u from within. elim (cases_eq u (c.loop-i.i - 1)) [
-        | inl e ↦ subst (IsNested c.args.game.now c.args.solution.now c.args.order.now.vertices.items c.args.order.now.ends.items) (sym e) c.if-not-is_nested.ensures
+        | inl e ↦ subst (IsNested c.args.game.now c.args.solution.now c.args.order.now.vertices.items c.args.order.now.ends.items)
+            (sym e) c.if-not-is_nested.ensures
         | inr ne ↦ c.loop-i.invariant.later u (omega (arith, ne)) within
       ];
     }

@@ -36,4 +36,5 @@ nowhere_of game solution numbers items v index false counted done passed = λ w 
 pub returns-clause-nowhere : goal.returns-clause-nowhere
 returns-clause-nowhere c =
     nowhere_of c.args.game.now c.args.solution.now c.args.numbers.now c.counted-w-items.result.now c.args.v c.loop-w.w-index c.loop-w.inside
-    c.counted-w-items.ensures.counted c.loop-w-test.false (λ e k d lt. let ne = c.loop-w.invariant.nowhere e k d lt in subst (λ x. get_or c.args.numbers.now x 0 ≢ get_or c.args.numbers.now (get_or c.counted-w-items.result.now k d) 0) c.v.view_is ne)
+    c.counted-w-items.ensures.counted c.loop-w-test.false (λ e k d lt. let ne = c.loop-w.invariant.nowhere e k d lt in subst
+    (λ x. get_or c.args.numbers.now x 0 ≢ get_or c.args.numbers.now (get_or c.counted-w-items.result.now k d) 0) c.v.view_is ne)

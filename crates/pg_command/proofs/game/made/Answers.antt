@@ -18,4 +18,5 @@ returns-in_err-made-clause-refused c =
     let bytes = c.args.text.items in
     let fault = c.in_err-made.field-0.0 in
     refused_by (answers.RefusesBy NoMap Game bytes) c.from_residual-in_err-made.result (synth_fault fault) c.from_residual-in_err-made.ensures.1
-    (refuses_large bytes c.in_ok-automaton.automaton c.requires (rw (← c.deref.ensures.value) c.in_ok-automaton.ensures.found) fault c.in_err-made.ensures.fault)
+    (refuses_large bytes c.in_ok-automaton.automaton c.requires
+    (rw (← c.deref.ensures.value) c.in_ok-automaton.ensures.found) fault c.in_err-made.ensures.fault)

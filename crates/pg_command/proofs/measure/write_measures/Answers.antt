@@ -16,4 +16,5 @@ returns g c =
     let contents = g.W.Write.contents in
     let whole : c.len-number-end.result ≡ length c.args.game.now = c.len-number-end.ensures.value in
     let past : c.len-number-end.result ≤ c.loop-number.number = c.loop-number-test.false in
-    written_all c.args.game.now c.args.map.now.measures c.loop-number.number (contents c.args.writer.now) (contents c.loop-number.writer) (omega arith) c.loop-number.invariant
+    written_all c.args.game.now c.args.map.now.measures c.loop-number.number (contents c.args.writer.now) (contents c.loop-number.writer)
+    (omega arith) c.loop-number.invariant

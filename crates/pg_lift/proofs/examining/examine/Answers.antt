@@ -20,6 +20,13 @@ returns-else-not-serves_first-clause-kept g c =
     let lt : v < length c.args.notes.now.best = let z = c.requires.notes.best in omega arith in
     let here : get_or (set c.args.notes.now.best v b) v 0 ≡ b = get_or-set_same c.args.notes.now.best v b 0 lt in
     let served : IsServedBy bs lines f v b = rw c.if-not-serves_first.false at c.serves_first.ensures in
-    let same : c.if-not-is_greatest.notes ≡ c.remember.new.self = elim c.if-not-is_greatest.branch [ then-not-is_greatest w ↦ w.notes-is ∙ w.defer.ensures | else-not-is_greatest w ↦ w.notes-is ] in
-    let k = same_keeps bs l f nothing (measure_at f v) _ _ b _ refl here (keeps_marked bs l f (measure_at f v) (get_or c.if-not-is_greatest.notes.waits v false) b (keeps_served bs l f (measure_at f v) b served c.first_best-choice.ensures)) in
-    subst (λ (bests : List ℕ). Keeps bs l f nothing (measure_at f v) (get_or c.if-not-is_greatest.notes.waits v false) (get_or bests v 0)) (sym (ap (λ (n : NotesValue). n.best) same ∙ c.remember.ensures.best)) k
+    let same : c.if-not-is_greatest.notes ≡ c.remember.new.self = elim c.if-not-is_greatest.branch [
+      | then-not-is_greatest w ↦ w.notes-is
+          ∙ w.defer.ensures
+      | else-not-is_greatest w ↦ w.notes-is
+    ] in
+    let k = same_keeps bs l f nothing (measure_at f v) _ _ b _ refl here
+    (keeps_marked bs l f (measure_at f v) (get_or c.if-not-is_greatest.notes.waits v false) b
+    (keeps_served bs l f (measure_at f v) b served c.first_best-choice.ensures)) in
+    subst (λ (bests : List ℕ). Keeps bs l f nothing (measure_at f v) (get_or c.if-not-is_greatest.notes.waits v false) (get_or bests v 0))
+    (sym (ap (λ (n : NotesValue). n.best) same ∙ c.remember.ensures.best)) k

@@ -18,8 +18,10 @@ loop-w-preserved g c =
     let lt : i < length l.successors = subst (λ (t : List ℕ). i < length t) c.successors-w-items.ensures c.loop-w-test.true in
     let q : get_or l.successors i 0 ≡ c.w-item.result = item_at c.successors-w-items.result.now l.successors i c.w-item.result c.successors-w-items.ensures c.loop-w-test.true c.w-item.is in
     elim c.if-is_front_below.branch [
-      | then-is_front_below w ↦ rw w.best-is (taken Odd (width_from bs l.priority) f l.successors i c.loop-w.best c.w-item.result lt (sym q) w.if-is_front_below.ensures c.loop-w.invariant)
-      | else-is_front_below w ↦ rw w.best-is (left Odd (width_from bs l.priority) f l.successors i c.loop-w.best c.w-item.result lt (sym q) w.if-is_front_below.ensures c.loop-w.invariant)
+      | then-is_front_below w ↦ rw w.best-is (taken Odd (width_from bs l.priority) f l.successors i c.loop-w.best c.w-item.result lt
+          (sym q) w.if-is_front_below.ensures c.loop-w.invariant)
+      | else-is_front_below w ↦ rw w.best-is (left Odd (width_from bs l.priority) f l.successors i c.loop-w.best c.w-item.result lt
+          (sym q) w.if-is_front_below.ensures c.loop-w.invariant)
     ]
 
 pub returns-then-is_zero : goal.returns-then-is_zero

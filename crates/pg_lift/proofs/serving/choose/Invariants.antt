@@ -7,6 +7,7 @@ use Rattle.pg_lift.proofs.serving.choose.Given as goal
 
 abbrev pub invariant-loop-w : goal.invariant-loop-w
 invariant-loop-w g l = record {
-  so_far : BestSoFar Even (width_from l.map.bounds (line_at (g.G.Lines.line l.lines) l.v).priority) l.map.measures (line_at (g.G.Lines.line l.lines) l.v).successors l.w-index l.least;
+  so_far : BestSoFar Even (width_from l.map.bounds (line_at (g.G.Lines.line l.lines) l.v).priority) l.map.measures
+      (line_at (g.G.Lines.line l.lines) l.v).successors l.w-index l.least;
   unserved : IsServedBy l.map.bounds (g.G.Lines.line l.lines) l.map.measures l.v l.least → ⊥;
 }

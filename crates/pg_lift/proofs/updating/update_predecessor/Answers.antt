@@ -19,7 +19,8 @@ returns-then-is_front_below-clause-kept g c =
     let q : get_or c.args.notes.now.waits u false ≡ true = sym c.waits.ensures ∙ c.if-waits.true in
     let b : get_or (set best u c.args.x) u 0 ≡ c.args.x = get_or-set_same best u c.args.x 0 lt in
     rw (c.remember.ensures.waits, c.remember.ensures.best) (same_keeps bs l f nothing (measure_at f u) true _ c.args.x _ q b
-    (touched_more bs l f c.args.x (measure_at f u) (get_or c.args.notes.now.waits u false) (get_or best u 0) owner c.requires.leads (rw c.best-then-waits.ensures at c.if-is_front_below.ensures) c.requires.kept))
+    (touched_more bs l f c.args.x (measure_at f u) (get_or c.args.notes.now.waits u false) (get_or best u 0) owner c.requires.leads
+    (rw c.best-then-waits.ensures at c.if-is_front_below.ensures) c.requires.kept))
 
 pub returns-then-not-serves-clause-kept : goal.returns-then-not-serves-clause-kept
 returns-then-not-serves-clause-kept g c =
@@ -34,5 +35,10 @@ returns-then-not-serves-clause-kept g c =
     let b : get_or (set old.best u c.args.x) u 0 ≡ c.args.x = let z = c.requires.notes.best in get_or-set_same old.best u c.args.x 0 (omega arith) in
     let e : get_or old.waits u false ≡ false = sym c.waits.ensures ∙ c.if-waits.false in
     let k : Keeps bs l f (just c.args.x) (measure_at f u) false (get_or old.best u 0) = rw e at c.requires.kept in
-    rw (c.add-then-not-serves.ensures.waits, c.add-then-not-serves.ensures.best, c.remember-then-not-serves.ensures.waits, c.remember-then-not-serves.ensures.best) (same_keeps bs l f nothing (measure_at f u) true _ c.args.x _ q b
+    rw (
+      c.add-then-not-serves.ensures.waits,
+      c.add-then-not-serves.ensures.best,
+      c.remember-then-not-serves.ensures.waits,
+      c.remember-then-not-serves.ensures.best,
+    ) (same_keeps bs l f nothing (measure_at f u) true _ c.args.x _ q b
     (touched_first bs l f c.args.x (measure_at f u) (get_or old.best u 0) owner c.requires.leads k))

@@ -14,7 +14,9 @@ loop-at-init g c =
     record {
       span = refl;
       noted = c.requires.notes;
-      kept = kept_less c.args.map.now.bounds (g.G.Lines.line c.args.lines.now) c.args.map.now.measures c.args.notes.now.waits c.args.notes.now.best c.args.x (IsListed e.starts.items e.sources.items c.args.x) (Left us (length us) c.args.x false)
+      kept = kept_less c.args.map.now.bounds
+          (g.G.Lines.line c.args.lines.now) c.args.map.now.measures c.args.notes.now.waits c.args.notes.now.best c.args.x
+          (IsListed e.starts.items e.sources.items c.args.x) (Left us (length us) c.args.x false)
           (λ v h. all_left us (length us) c.args.x v (c.of-sources.ensures.all v h)) c.requires.kept;
       itself = λ e. absurd (true≢false (sym e));
     }
@@ -32,7 +34,8 @@ leading g c =
     let e = c.args.predecessors.now in
     let i = c.loop-at.at - 1 in
     let u = c.index-sources-at.result in
-    let l : IsListed e.starts.items e.sources.items c.args.x u = subst (λ (w : ℕ). IsListed e.starts.items e.sources.items c.args.x w) (read g c) (c.of-sources.ensures.lead i (below g c)) in
+    let l : IsListed e.starts.items e.sources.items c.args.x u = subst (λ (w : ℕ). IsListed e.starts.items e.sources.items c.args.x w)
+    (read g c) (c.of-sources.ensures.lead i (below g c)) in
     c.requires.predecessors.gathered.lead u c.args.x l
 
 pub update_predecessor-requires-clause-held : goal.update_predecessor-requires-clause-held
@@ -67,7 +70,9 @@ loop-at-preserved-then-eq g c =
     record {
       span = c.loop-at.invariant.span;
       noted = c.loop-at.invariant.noted;
-      kept = kept_less c.args.map.now.bounds (g.G.Lines.line c.args.lines.now) c.args.map.now.measures c.loop-at.notes.waits c.loop-at.notes.best x (Left us n x c.loop-at.follows_itself) (Left us (n - 1) x true)
+      kept = kept_less c.args.map.now.bounds
+          (g.G.Lines.line c.args.lines.now) c.args.map.now.measures c.loop-at.notes.waits c.loop-at.notes.best x
+          (Left us n x c.loop-at.follows_itself) (Left us (n - 1) x true)
           (λ v h. left_itself us n u x c.loop-at.follows_itself v (read g c.before.before.before.before) same h) c.loop-at.invariant.kept;
       itself = λ e. subst (λ (w : ℕ). LeadsTo (g.G.Lines.line c.args.lines.now) w x) same (leading g c.before.before.before.before);
     }
@@ -103,6 +108,9 @@ returns-else-follows_itself-clause-kept g c =
     let n = c.loop-at.at in
     record {
       noted = c.loop-at.invariant.noted;
-      kept = all_touched c.args.map.now.bounds (g.G.Lines.line c.args.lines.now) c.args.map.now.measures c.loop-at.notes.waits c.loop-at.notes.best c.args.x (Left us n c.args.x c.loop-at.follows_itself)
-          (λ v h. nothing_left us n c.args.x c.loop-at.follows_itself v (let z = c.loop-at-test.false in omega arith) c.if-follows_itself.false h) c.loop-at.invariant.kept;
+      kept = all_touched c.args.map.now.bounds
+          (g.G.Lines.line c.args.lines.now) c.args.map.now.measures c.loop-at.notes.waits c.loop-at.notes.best c.args.x
+          (Left us n c.args.x c.loop-at.follows_itself)
+          (λ v h. nothing_left us n c.args.x c.loop-at.follows_itself v
+          (let z = c.loop-at-test.false in omega arith) c.if-follows_itself.false h) c.loop-at.invariant.kept;
     }

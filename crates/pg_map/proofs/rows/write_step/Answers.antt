@@ -12,8 +12,10 @@ step-requires-clause-fits c =
     c.requires.place (omega arith) i)
     c.requires.fits
 
-all : (c : goal.After-slice_known-3-1) → IsStepped c.args.bounds.now c.args.strict c.args.front c.args.count (length c.args.bounds.now + 1) c.args.source c.args.place c.args.cells.now
-    (put_mid (c.args.place * (length c.args.bounds.now + 1)) (c.args.place * (length c.args.bounds.now + 1) + (length c.args.bounds.now + 1) - c.args.place * (length c.args.bounds.now + 1)) c.copy_row.new.cells c.step.new.row)
+all : (c : goal.After-slice_known-3-1)
+    → IsStepped c.args.bounds.now c.args.strict c.args.front c.args.count (length c.args.bounds.now + 1) c.args.source c.args.place c.args.cells.now
+    (put_mid (c.args.place * (length c.args.bounds.now + 1)) (c.args.place * (length c.args.bounds.now + 1) +
+    (length c.args.bounds.now + 1) - c.args.place * (length c.args.bounds.now + 1)) c.copy_row.new.cells c.step.new.row)
 all c =
     let width = length c.args.bounds.now + 1 in
     let i : IsCopied c.args.count width c.args.source c.args.place c.args.cells.now c.copy_row.new.cells =

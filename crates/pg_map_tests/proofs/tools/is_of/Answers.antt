@@ -10,5 +10,6 @@ equal a b h = grind (arith, nat_tests)
 
 pub returns : goal.returns
 returns c = λ t.
-    let size : length c.args.map.now.measures ≡ length c.args.game.now = sym c.len.ensures.value ∙ (equal c.len.result c.len-2.result t ∙ c.len-2.ensures.value) in
+    let size : length c.args.map.now.measures ≡ length c.args.game.now = sym c.len.ensures.value
+    ∙ (equal c.len.result c.len-2.result t ∙ c.len-2.ensures.value) in
     subst (λ (n : ℕ). AreWithin n (game_line c.args.game.now)) (sym size) (game_lines_within c.args.game.now c.len-2.ensures.game)

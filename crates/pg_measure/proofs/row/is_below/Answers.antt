@@ -18,4 +18,6 @@ returns c =
     let xs = c.args.a.now in
     let ys = c.args.b.now in
     begin_alike c.min-near.result xs ys c.is_lt.result c.requires (λ k l. c.loop-i.invariant k (omega arith))
-    (rw (c.is_lt.ensures, c.cmp.ensures, rest_whole c.min-near.result xs, rest_whole c.min-near.result ys) (tells_below (drop c.min-near.result xs) (drop c.min-near.result ys) _ (slice_cmp_tells (drop c.min-near.result xs) (drop c.min-near.result ys))))
+    (rw (c.is_lt.ensures, c.cmp.ensures, rest_whole c.min-near.result xs, rest_whole c.min-near.result ys)
+    (tells_below (drop c.min-near.result xs) (drop c.min-near.result ys) _
+    (slice_cmp_tells (drop c.min-near.result xs) (drop c.min-near.result ys))))

@@ -38,7 +38,8 @@ letter c s =
     c.requires.laid c.requires.answer.is_place.1 s.follows.output_in c.index.ensures c.index-2.ensures
 
 target : (c : After-unwrap-target) (s : IsLed c.args.automaton.now c.args.synth.now.game c.args.solution.now c.args.state c.args.input c.unwrap-output.result)
-    → c.index.result.now + c.index-2.result.now ≡ joined c.args.automaton.now.controllable c.args.input c.unwrap-output.result → s.step.target ≡ c.unwrap-target.result.0
+    → c.index.result.now + c.index-2.result.now ≡ joined c.args.automaton.now.controllable c.args.input c.unwrap-output.result
+    → s.step.target ≡ c.unwrap-target.result.0
 target c s l =
     sym (ap (λ (x : Step). x.target) (mapped_is (λ x. step x.0 x.1.now) c.next.result c.unwrap-target.result s.step
     (c.next.ensures ∙ ap (next c.args.automaton.now c.args.state) l ∙ s.steps) c.unwrap-target.ensures))
@@ -65,14 +66,25 @@ index-requires-2 c =
     let a = c.args.automaton.now in
     let at = goal.at.index-requires-2 c in
     let s = led at.After-unwrap-output (chosen at.After-unwrap-chosen) in
-    omega (arith, s.follows.output_in, count (λ o. joined a.controllable 0 o) c.args.layout.now.outputs.items (output_letters a) c.requires.laid.outputs, c.args.layout.now.outputs.ok.0)
+    omega (
+      arith,
+      s.follows.output_in,
+      count (λ o. joined a.controllable 0 o) c.args.layout.now.outputs.items
+          (output_letters a) c.requires.laid.outputs,
+      c.args.layout.now.outputs.ok.0,
+    )
 
 pub overflow_add-letter : goal.overflow_add-letter
 overflow_add-letter c =
     let a = c.args.automaton.now in
     let at = goal.at.overflow_add-letter c in
     let s = led at.After-unwrap-output (chosen at.After-unwrap-chosen) in
-    omega (arith, letter at.After-index-2 s, letter_in a c.args.input c.unwrap-output.result c.requires.laid.automaton, few_letters_of a c.requires.laid.automaton)
+    omega (
+      arith,
+      letter at.After-index-2 s,
+      letter_in a c.args.input c.unwrap-output.result c.requires.laid.automaton,
+      few_letters_of a c.requires.laid.automaton,
+    )
 
 pub unwrap-target-requires : goal.unwrap-target-requires
 unwrap-target-requires c =

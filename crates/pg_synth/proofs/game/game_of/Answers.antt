@@ -13,7 +13,14 @@ use Rattle.pg_synth.proofs.game.game_of.Goals as goal
 pub returns-then-len-gt-MAX_VERTICES-clause-fault : goal.returns-then-len-gt-MAX_VERTICES-clause-fault
 returns-then-len-gt-MAX_VERTICES-clause-fault c =
     let a = c.args.automaton.now in
-    many_vertices a c.states-states.ensures.automaton (omega (arith, c.len.ensures, c.if-len-gt-MAX_VERTICES.true, c.in_ok-identifiers.identifiers.ok.0, ap length c.in_ok-identifiers.ensures))
+    many_vertices a c.states-states.ensures.automaton
+    (omega (
+      arith,
+      c.len.ensures,
+      c.if-len-gt-MAX_VERTICES.true,
+      c.in_ok-identifiers.identifiers.ok.0,
+      ap length c.in_ok-identifiers.ensures,
+    ))
 
 pub returns-then-not-branch-clause-fault : goal.returns-then-not-branch-clause-fault
 returns-then-not-branch-clause-fault c =

@@ -17,7 +17,8 @@ returns-clause-added c =
     let n = c.args.identifier in
     let x = c.with_identifier-place.result in
     let at = place_at a c.args.layout.now c.sets.result n x c.requires.laid c.sets.ensures c.with_identifier-place.ensures in
-    let priority = c.priority-priority.ensures ∙ ap (λ s. place_priority s c.sets-2.result x) c.shape.ensures.value ∙ ap (λ k. place_priority a.shape k x) c.sets-2.ensures in
+    let priority = c.priority-priority.ensures ∙ ap (λ s. place_priority s c.sets-2.result x) c.shape.ensures.value
+    ∙ ap (λ k. place_priority a.shape k x) c.sets-2.ensures in
     let line = line_is a n c.priority-priority.result c.owner.result c.deref.result.now (Some c.deref-2.result.now) x at priority c.owner.ensures
     (c.deref.ensures.value ∙ c.in_ok-put_leads.ensures) (ap Some (c.deref-2.ensures.value ∙ c.in_ok-put_name.ensures)) in
     subst (λ (l : Line). OnOk c.add.result (c.add.new.self ≡ c.args.builder.now ++ l ∷ [])) line c.add.ensures.ok
@@ -28,7 +29,8 @@ returns-clause-memory c =
     let n = c.args.identifier in
     let x = c.with_identifier-place.result in
     let at = place_at a c.args.layout.now c.sets.result n x c.requires.laid c.sets.ensures c.with_identifier-place.ensures in
-    let priority = c.priority-priority.ensures ∙ ap (λ s. place_priority s c.sets-2.result x) c.shape.ensures.value ∙ ap (λ k. place_priority a.shape k x) c.sets-2.ensures in
+    let priority = c.priority-priority.ensures ∙ ap (λ s. place_priority s c.sets-2.result x) c.shape.ensures.value
+    ∙ ap (λ k. place_priority a.shape k x) c.sets-2.ensures in
     let line = line_is a n c.priority-priority.result c.owner.result c.deref.result.now (Some c.deref-2.result.now) x at priority c.owner.ensures
     (c.deref.ensures.value ∙ c.in_ok-put_leads.ensures) (ap Some (c.deref-2.ensures.value ∙ c.in_ok-put_name.ensures)) in
     memory_result (Unit {0}) c.add.result _ (ap (add_fault c.args.builder.now) line ∙ c.requires.follows) c.add.ensures.answer

@@ -21,7 +21,8 @@ add_vertex-requires-clause-follows c =
     ap (λ (ls : List Line). add_fault ls (line_at a (get_or ids k 0))) c.loop-identifier.invariant
     ∙ may_follow a ids k c.requires.laid.automaton c.requires.listed c.loop-identifier-test.true c.requires.vertices c.requires.edges
 
-only_memory : (r : Result (List GameVertex) ArenaFault) (game : List GameVertex) → MatchResult r (λ g. g ≡ game) (λ e. e ≡ OutOfMemory) → IfErr r (λ e. e ≡ OutOfMemory)
+only_memory : (r : Result (List GameVertex) ArenaFault) (game : List GameVertex) → MatchResult r (λ g. g ≡ game) (λ e. e ≡ OutOfMemory)
+    → IfErr r (λ e. e ≡ OutOfMemory)
 only_memory (Ok g) game h = tt
 only_memory (Err e) game h = h
 

@@ -29,5 +29,7 @@ loop-state-preserved c =
     let a = c.args.automaton.now in
     let start : ℕ = place_identifier a (Arrival a.start None) in
     flat_more (added_by a) (0 ∷ start ∷ []) c.loop-state.list.items c.push_answers.new.list.items c.loop-state.state c.loop-state.invariant
-    (c.in_ok-push_answers.ensures ∙ ap (λ (xs : List ℕ). xs ++ map (λ i. place_identifier a (Answer c.loop-state.state i)) (range_with_len 0 (input_letters a))) c.in_ok-push_targets.ensures
-    ∙ append_assoc c.loop-state.list.items (map (target a c.loop-state.state) (range_with_len 0 (letters a))) (map (λ i. place_identifier a (Answer c.loop-state.state i)) (range_with_len 0 (input_letters a))))
+    (c.in_ok-push_answers.ensures ∙ ap (λ (xs : List ℕ). xs ++ map (λ i. place_identifier a (Answer c.loop-state.state i))
+    (range_with_len 0 (input_letters a))) c.in_ok-push_targets.ensures
+    ∙ append_assoc c.loop-state.list.items (map (target a c.loop-state.state) (range_with_len 0 (letters a)))
+    (map (λ i. place_identifier a (Answer c.loop-state.state i)) (range_with_len 0 (input_letters a))))

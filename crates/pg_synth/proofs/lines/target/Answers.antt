@@ -38,5 +38,6 @@ overflow_add-result-in-Some-deciding c =
     let step : Step = record { target = c.in-Some.target; sets = c.in-Some.sets.now } in
     let g : IsStepOf a.states a.sets step = is.steps c.args.state c.args.letter step c.requires.state c.requires.letter (sym c.in-Some.ensures) in
     let e = ap (λ w. c.in-Some.target * w) c.requires.laid.width in
-    let same : deciding a.shape step.sets ≡ Some c.in-Some-deciding.set = ap (λ s. deciding s step.sets) (sym c.shape.ensures.value) ∙ sym c.in-Some-deciding.ensures in
+    let same : deciding a.shape step.sets ≡ Some c.in-Some-deciding.set = ap (λ s. deciding s step.sets) (sym c.shape.ensures.value)
+    ∙ sym c.in-Some-deciding.ensures in
     omega (arith, small a c.in-Some.target is g.target_below, e, deciding_below a.shape a.sets step c.in-Some-deciding.set g.sets_below g.sets_rise same)

@@ -7,7 +7,8 @@ use Rattle.pg_wire.proofs.form.items.Goals as goal
 
 pub loop-init : goal.loop-init
 loop-init g c = record {
-  read = rw (c.in_ok-items.ensures.items, sub-zero) (starts (items_at (g.F.Form.item_at c.args.width) g.F.Form.place_after c.args.count c.args.place c.args.bytes.now));
+  read = rw (c.in_ok-items.ensures.items, sub-zero)
+      (starts (items_at (g.F.Form.item_at c.args.width) g.F.Form.place_after c.args.count c.args.place c.args.bytes.now));
   capacity = search rules;
   len = c.in_ok-items.ensures.len;
   used = rw c.in_ok-items.ensures.len (omega arith);
@@ -22,8 +23,10 @@ pub push_reserved-requires : goal.push_reserved-requires
 push_reserved-requires g c =
     let len = c.loop.invariant.len in
     let used : g.F.Form.SIZE * c.loop.counter + length c.loop.rest.now ≤ length c.args.bytes.now = rw len at c.loop.invariant.used in
-    let room = room_left g.F.Form.SIZE c.loop.counter (length c.loop.rest.now) (length c.in_ok-item.after.now) (length c.args.bytes.now) c.args.count g.met.F.Form.some used c.in_ok-item.ensures.size c.loop-test.true in
-    let cap : vec_capacity c.loop.items ≡ min (length c.args.bytes.now / g.F.Form.SIZE) c.args.count = c.loop.invariant.capacity ∙ c.in_ok-items.ensures.exact ∙ rw c.SIZE.ensures at c.min-most.ensures in
+    let room = room_left g.F.Form.SIZE c.loop.counter (length c.loop.rest.now) (length c.in_ok-item.after.now)
+    (length c.args.bytes.now) c.args.count g.met.F.Form.some used c.in_ok-item.ensures.size c.loop-test.true in
+    let cap : vec_capacity c.loop.items ≡ min (length c.args.bytes.now / g.F.Form.SIZE) c.args.count = c.loop.invariant.capacity
+    ∙ c.in_ok-items.ensures.exact ∙ rw c.SIZE.ensures at c.min-most.ensures in
     rw (len, cap) room
 
 pub loop-preserved : goal.loop-preserved
@@ -34,7 +37,8 @@ loop-preserved g c =
       read = rw (e, c.place_after_item-at.ensures) (goes_on (g.F.Form.item_at c.args.width) g.F.Form.place_after c.loop.items.items c.args.count c.loop.counter c.loop.at c.loop.rest.now n c.in_ok-item.after.now (items_at (g.F.Form.item_at c.args.width) g.F.Form.place_after c.args.count c.args.place c.args.bytes.now) c.loop-test.true c.in_ok-item.ensures.read c.loop.invariant.read);
       capacity = c.push_reserved.ensures.capacity ∙ c.loop.invariant.capacity;
       len = omega (arith, c.push_reserved.ensures.len);
-      used = rw c.push_reserved.ensures.len (room_used g.F.Form.SIZE (vec_len c.loop.items) (length c.loop.rest.now) (length c.in_ok-item.after.now) (length c.args.bytes.now) c.loop.invariant.used c.in_ok-item.ensures.size);
+      used = rw c.push_reserved.ensures.len (room_used g.F.Form.SIZE (vec_len c.loop.items) (length c.loop.rest.now)
+          (length c.in_ok-item.after.now) (length c.args.bytes.now) c.loop.invariant.used c.in_ok-item.ensures.size);
     }
 
 pub returns-clause-read : goal.returns-clause-read
@@ -47,5 +51,6 @@ returns-clause-size g c =
 
 pub returns-clause-memory : goal.returns-clause-memory
 returns-clause-memory g c =
-    let cap : vec_capacity c.loop.items ≡ min (length c.args.bytes.now / g.F.Form.SIZE) c.args.count = c.loop.invariant.capacity ∙ c.in_ok-items.ensures.exact ∙ rw c.SIZE.ensures at c.min-most.ensures in
+    let cap : vec_capacity c.loop.items ≡ min (length c.args.bytes.now / g.F.Form.SIZE) c.args.count = c.loop.invariant.capacity
+    ∙ c.in_ok-items.ensures.exact ∙ rw c.SIZE.ensures at c.min-most.ensures in
     room_fits g.F.Form.SIZE (length c.args.bytes.now) c.args.count (vec_capacity c.loop.items) cap

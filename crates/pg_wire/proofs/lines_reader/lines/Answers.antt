@@ -17,4 +17,6 @@ returns-then-not-is_empty-clause-all c = λ ls well e n.
 
 pub returns-clause-found : goal.returns-clause-found
 returns-clause-found c =
-    lines_are c.in-Ok.count c.args.bytes.now c.in-Ok.lines.now c.in-Ok-skip_lines.rest.now (λ i. omega (arith, c.type_inv.bytes i)) c.in-Ok.ensures.read c.in-Ok-skip_lines.ensures (nil_from_length c.in-Ok-skip_lines.rest.now (eqb-true _ _ (sym c.is_empty.ensures ∙ c.if-not-is_empty.false)))
+    lines_are c.in-Ok.count c.args.bytes.now c.in-Ok.lines.now c.in-Ok-skip_lines.rest.now
+    (λ i. omega (arith, c.type_inv.bytes i)) c.in-Ok.ensures.read c.in-Ok-skip_lines.ensures
+    (nil_from_length c.in-Ok-skip_lines.rest.now (eqb-true _ _ (sym c.is_empty.ensures ∙ c.if-not-is_empty.false)))

@@ -11,7 +11,9 @@ pub returns-in_err-n : goal.returns-in_err-n
 returns-in_err-n c =
     let p = err_from_is_err_and c.from_residual.result c.from_residual.ensures.1 in
     rw (p.1, p.2) (record {
-      read = list_ends (λ _. word_at 0) (λ _. 0) _ (take c.loop-place.place-index c.loop-place.row) (length c.args.row.now) c.loop-place.place-index 0 c.loop-place.rest.now (numbers_at (length c.args.row.now) c.args.bytes.now) c.loop-place-test.true c.in_err-n.ensures.read c.loop-place.invariant.read;
+      read = list_ends (λ _. word_at 0) (λ _. 0) _ (take c.loop-place.place-index c.loop-place.row)
+          (length c.args.row.now) c.loop-place.place-index 0 c.loop-place.rest.now
+          (numbers_at (length c.args.row.now) c.args.bytes.now) c.loop-place-test.true c.in_err-n.ensures.read c.loop-place.invariant.read;
       less = tt;
       cut = omega (arith, c.in_err-n.ensures.cut refl refl, c.loop-place.invariant.less, c.loop-place-test.true);
     })
@@ -31,7 +33,9 @@ pub returns : goal.returns
 returns c =
     let all : length c.loop-place.row ≤ c.loop-place.place-index = omega arith in
     record {
-      read = is_done (λ _. word_at 0) (λ _. 0) (take c.loop-place.place-index c.loop-place.row) (length c.args.row.now) c.loop-place.place-index 0 c.loop-place.rest.now (numbers_at (length c.args.row.now) c.args.bytes.now) c.loop-place-test.false c.loop-place.invariant.read
+      read = is_done (λ _. word_at 0) (λ _. 0) (take c.loop-place.place-index c.loop-place.row)
+          (length c.args.row.now) c.loop-place.place-index 0 c.loop-place.rest.now
+          (numbers_at (length c.args.row.now) c.args.bytes.now) c.loop-place-test.false c.loop-place.invariant.read
           ∙ ap (λ (xs : List ℕ). Ok (xs, c.loop-place.rest.now)) (take_all c.loop-place.place-index c.loop-place.row all);
       less = omega (arith, c.loop-place.invariant.less);
       cut = tt;

@@ -16,7 +16,8 @@ loop-init c = record {
   front = [];
   read = rw sub-zero (starts (places_at c.args.width c.args.count c.args.bytes.now));
   past = λ i d lt. absurd (omega arith);
-  filled = λ k lt. ap (λ (r : List ℕ). get_or r k 0) (c.fill.ensures.after (λ y e. e)) ∙ get_or-replicate {A = ℕ} (length c.args.row.now) k 0 0 (omega (arith, c.fill.ensures.len));
+  filled = λ k lt. ap (λ (r : List ℕ). get_or r k 0) (c.fill.ensures.after (λ y e. e))
+      ∙ get_or-replicate {A = ℕ} (length c.args.row.now) k 0 0 (omega (arith, c.fill.ensures.len));
   less = omega arith;
 }
 
@@ -24,7 +25,9 @@ pub returns-in_err-place : goal.returns-in_err-place
 returns-in_err-place c =
     let p = err_from_is_err_and c.from_residual.result c.from_residual.ensures.1 in
     rw (p.1, p.2) (record {
-      read = filled_refused c.args.width c.args.count c.args.bytes.now _ (list_ends (place_at c.args.width) after_place _ c.loop.invariant.front c.args.count c.loop.counter c.loop.at c.loop.rest.now (places_at c.args.width c.args.count c.args.bytes.now) c.loop-test.true c.in_err-place.ensures.read c.loop.invariant.read);
+      read = filled_refused c.args.width c.args.count c.args.bytes.now _
+          (list_ends (place_at c.args.width) after_place _ c.loop.invariant.front c.args.count c.loop.counter c.loop.at c.loop.rest.now
+          (places_at c.args.width c.args.count c.args.bytes.now) c.loop-test.true c.in_err-place.ensures.read c.loop.invariant.read);
       less = tt;
     })
 
@@ -39,7 +42,8 @@ loop-preserved c =
     record {
       front = i.front ++ p ∷ [];
       read = goes_on (place_at c.args.width) after_place i.front c.args.count c.loop.counter c.loop.at c.loop.rest.now p c.in_ok-place.after.now (places_at c.args.width c.args.count c.args.bytes.now) c.loop-test.true c.in_ok-place.ensures.read i.read;
-      past = All-push (λ (q : Pair). q.0 < place + 1) i.front p (All-weaker (λ (q : Pair). q.0 < c.loop.at) (λ (q : Pair). q.0 < place + 1) (λ q h. omega (arith, range.0, h)) i.front i.past) (omega arith);
+      past = All-push (λ (q : Pair). q.0 < place + 1) i.front p (All-weaker (λ (q : Pair). q.0 < c.loop.at) (λ (q : Pair). q.0 < place + 1)
+          (λ q h. omega (arith, range.0, h)) i.front i.past) (omega arith);
       filled = λ k lt. filled_more c.loop.row i.front p below apart i.filled k (simp length-set at lt);
       less = omega (arith, c.in_ok-place.ensures.less, i.less);
     }
@@ -48,9 +52,12 @@ pub returns : goal.returns
 returns c =
     let i = c.loop.invariant in
     let size : length c.loop.row ≡ c.args.width = c.loop.auto.row ∙ c.fill.ensures.len ∙ c.requires in
-    let row : c.loop.row ≡ filled c.args.width i.front = fill_by_all (component_in i.front) c.loop.row c.args.width 0 size (λ k lt. i.filled k (omega (arith, size, lt))) in
+    let row : c.loop.row ≡ filled c.args.width i.front = fill_by_all (component_in i.front) c.loop.row c.args.width 0 size
+    (λ k lt. i.filled k (omega (arith, size, lt))) in
     record {
-      read = filled_read c.args.width c.args.count c.args.bytes.now i.front c.loop.rest.now (is_done (place_at c.args.width) after_place i.front c.args.count c.loop.counter c.loop.at c.loop.rest.now (places_at c.args.width c.args.count c.args.bytes.now) c.loop-test.false i.read)
+      read = filled_read c.args.width c.args.count c.args.bytes.now i.front c.loop.rest.now
+          (is_done (place_at c.args.width) after_place i.front c.args.count c.loop.counter c.loop.at c.loop.rest.now
+          (places_at c.args.width c.args.count c.args.bytes.now) c.loop-test.false i.read)
           ∙ ap (λ (ns : List ℕ). Ok (ns, c.loop.rest.now)) (sym row);
       less = i.less;
     }

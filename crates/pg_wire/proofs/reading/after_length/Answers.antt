@@ -1,6 +1,7 @@
 use Rattle.std.proofs.Common.{arith}
 use Rattle.pg_wire.proofs.Lengths.{counted_by, too_few, miscounted}
-use Rattle.pg_wire.proofs.reading.after_length.Goals.{then-length-gt-LONGEST-via-then-length-gt-LONGEST, then-length-gt-LONGEST-via-else-length-gt-LONGEST+then-rest-length}
+use Rattle.pg_wire.proofs.reading.after_length.Goals.{then-length-gt-LONGEST-via-then-length-gt-LONGEST}
+use Rattle.pg_wire.proofs.reading.after_length.Goals.{then-length-gt-LONGEST-via-else-length-gt-LONGEST+then-rest-length}
 use Rattle.pg_wire.proofs.reading.after_length.Goals as goal
 
 pub returns-then-bytes-lt4-clause-none : goal.returns-then-bytes-lt4-clause-none

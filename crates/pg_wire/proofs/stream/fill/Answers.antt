@@ -4,7 +4,9 @@ use Rattle.pg_wire.proofs.stream.fill.Goals as goal
 
 pub loop-filled-preserved : goal.loop-filled-preserved
 loop-filled-preserved g c =
-    let all = consumes_then (g.R.Read.remaining c.args.input.now) (g.R.Read.remaining c.loop-filled.input) (g.R.Read.remaining c.read_some.new.input) (take c.loop-filled.filled c.loop-filled.buffer) (take c.in_ok-more.more c.read_some.new.buffer) c.loop-filled.invariant.bytes c.in_ok-more.ensures.bytes in
+    let all = consumes_then (g.R.Read.remaining c.args.input.now) (g.R.Read.remaining c.loop-filled.input)
+    (g.R.Read.remaining c.read_some.new.input) (take c.loop-filled.filled c.loop-filled.buffer)
+    (take c.in_ok-more.more c.read_some.new.buffer) c.loop-filled.invariant.bytes c.in_ok-more.ensures.bytes in
     record {
       fits = λ i. omega (arith, c.type_inv.buffer i);
       within = filled_within c.loop-filled.buffer c.read_some.new.buffer _ c.loop-filled.filled c.in_ok-more.more c.loop-filled.invariant.within c.in_ok-more.ensures.bound;

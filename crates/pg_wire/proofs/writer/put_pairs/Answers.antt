@@ -18,7 +18,10 @@ loop-place-preserved c =
     elim c.if-is_told.branch [
       | then-is_told+in_ok-put_pair w ↦
           ap (λ (v : Vec ℕ Global). v.items) w.out-is ∙ w.in_ok-put_pair.ensures.ok ∙ ap (λ (bs : List ℕ). bs ++ pair (i, get_or xs i 0)) c.loop-place.invariant
-          ∙ append_assoc start (flat_map pair (nonzero (take i xs))) (pair (i, get_or xs i 0)) ∙ ap (λ (bs : List ℕ). start ++ bs) (sym (pairs_more xs i c.loop-place-test.true (w.if-is_told.ensures.told refl)))
+          ∙ append_assoc start (flat_map pair (nonzero (take i xs))) (pair (i, get_or xs i 0))
+          ∙ ap (λ (bs : List ℕ). start ++ bs) (sym (pairs_more xs i c.loop-place-test.true (w.if-is_told.ensures.told refl)))
       | else-is_told w ↦
-          ap (λ (v : Vec ℕ Global). v.items) w.out-is ∙ c.loop-place.invariant ∙ ap (λ (ps : List (ℕ × ℕ)). start ++ flat_map pair ps) (sym (nonzero_zero xs i c.loop-place-test.true (w.if-is_told.ensures.untold refl)))
+          ap (λ (v : Vec ℕ Global). v.items) w.out-is ∙ c.loop-place.invariant
+          ∙ ap (λ (ps : List (ℕ × ℕ)). start ++ flat_map pair ps)
+          (sym (nonzero_zero xs i c.loop-place-test.true (w.if-is_told.ensures.untold refl)))
     ]

@@ -28,7 +28,8 @@ room : (c : After-as_slice) → HasRoom c.args.notes.now.span c.line-item.result
 room c = of_line c (λ (y : VertexLine). HasRoom c.args.notes.now.span y.vertex) c.requires.notes
 
 -- the edges that are to come are this line's and those of the others
-edges_left : (c : After-as_slice) → sum_by edge_count (drop c.loop-line.line-index c.args.lines.now) ≡ length c.as_slice.result.now + sum_by edge_count (drop (c.loop-line.line-index + 1) c.args.lines.now)
+edges_left : (c : After-as_slice)
+    → sum_by edge_count (drop c.loop-line.line-index c.args.lines.now) ≡ length c.as_slice.result.now + sum_by edge_count (drop (c.loop-line.line-index + 1) c.args.lines.now)
 edges_left c =
     let sum = sum_by-drop_more edge_count c.args.lines.now c.loop-line.line-index c.line-item.result c.loop-line-test.true in
     let count = ap edge_count c.line-item.is in
@@ -57,8 +58,10 @@ loop-line-preserved c =
     record {
       inside = c.add_line.ensures.inside;
       next = rw c.from.ensures next;
-      above = λ j d le less. let r = subst (λ (y : VertexLine). y.vertex < (get_or xs j d).vertex) (here d) (c.requires.rising i j d (omega arith) less) in let f = c.from.ensures in omega arith;
-      lines = lines ∙ (ap (λ ls. set ls x.vertex (Some (told_line x))) inv.lines ∙ (sym (with_lines_more c.args.part.now.lines (take i xs) x) ∙ ap (with_lines c.args.part.now.lines) (sym taken)));
+      above = λ j d le less. let r = subst (λ (y : VertexLine). y.vertex < (get_or xs j d).vertex) (here d)
+          (c.requires.rising i j d (omega arith) less) in let f = c.from.ensures in omega arith;
+      lines = lines ∙ (ap (λ ls. set ls x.vertex (Some (told_line x))) inv.lines
+          ∙ (sym (with_lines_more c.args.part.now.lines (take i xs) x) ∙ ap (with_lines c.args.part.now.lines) (sym taken)));
       room = omega (arith, inv.room, c.add_line.ensures.room);
       edges = omega (arith, inv.edges);
       places = λ v h. c.add_line.ensures.places v (inv.places v h);

@@ -32,7 +32,9 @@ pub returns-in_err-take_value-clause-bounds : goal.returns-in_err-take_value-cla
 returns-in_err-take_value-clause-bounds c = rw c.in_err-take_value.ensures.same c.each.invariant.bounds
 
 pub returns-clause-joined : goal.returns-clause-joined
-returns-clause-joined c = λ ms h. (joined_all c.args.worker.now ms c.each.worker c.each.values c.next.new.self c.each.row c.next.new.row c.in_default.ensures.next (c.each.invariant.joined ms h)).0
+returns-clause-joined c = λ ms h.
+    (joined_all c.args.worker.now ms c.each.worker c.each.values c.next.new.self c.each.row c.next.new.row c.in_default.ensures.next
+    (c.each.invariant.joined ms h)).0
 
 pub returns-clause-fit : goal.returns-clause-fit
 returns-clause-fit c = λ ms h. (joined_all c.args.worker.now ms c.each.worker c.each.values c.next.new.self c.each.row c.next.new.row c.in_default.ensures.next (c.each.invariant.joined ms h)).1

@@ -33,7 +33,8 @@ kept g c =
     let found = c.find_serving.ensures in
     record {
       noted = notes_on (length map.measures) lines old new found.span c.requires.kept.noted;
-      kept = rw found.waits (kept_remembered map.bounds lines map.measures old.waits old.best new.best c.args.v (sym c.waits.ensures ∙ c.if-not-waits.false) found.others found.kept c.requires.kept.kept);
+      kept = rw found.waits (kept_remembered map.bounds lines map.measures old.waits old.best new.best c.args.v
+          (sym c.waits.ensures ∙ c.if-not-waits.false) found.others found.kept c.requires.kept.kept);
     }
 
 pub returns-then-find_serving-clause-kept : goal.returns-then-find_serving-clause-kept
@@ -46,6 +47,7 @@ pub lift_ready-requires-clause-due : goal.lift_ready-requires-clause-due
 lift_ready-requires-clause-due g c =
     let k = kept g (goal.at.lift_ready-requires-clause-due g c).After-find_serving in
     let waits = c.find_serving.new.notes.waits in
-    let on : get_or waits c.args.v false ≡ true = ap (λ (t : List Bool). get_or t c.args.v false) c.find_serving.ensures.waits ∙ (sym c.waits.ensures ∙ c.if-not-waits.false) in
+    let on : get_or waits c.args.v false ≡ true = ap (λ (t : List Bool). get_or t c.args.v false) c.find_serving.ensures.waits
+    ∙ (sym c.waits.ensures ∙ c.if-not-waits.false) in
     let same : set waits c.args.v true ≡ waits = ap (set waits c.args.v) (sym on) ∙ set-get_or waits c.args.v false in
     record { noted = k.noted; ready = c.if-find_serving.ensures.ready; kept = rw same k.kept }

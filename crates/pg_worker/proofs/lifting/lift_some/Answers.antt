@@ -16,7 +16,8 @@ loop-preserved g c =
     let f = c.args.map.now.measures in
     let h = c.lift_ready.new.map.measures in
     let u : Update = record { vertex = c.in-Some.v; measure = c.copy_to.new.measure } in
-    let items : c.push_reserved.new.self.items ≡ c.loop.updates.items ++ u ∷ [] = c.push_reserved.ensures.items ∙ ap (λ us. us ++ u ∷ []) c.in-Ok.ensures.items in
+    let items : c.push_reserved.new.self.items ≡ c.loop.updates.items ++ u ∷ [] = c.push_reserved.ensures.items
+    ∙ ap (λ us. us ++ u ∷ []) c.in-Ok.ensures.items in
     let width : c.in-Ok.measure.width ≡ length bs = c.in-Ok.ensures.width ∙ (ap length c.bounds.ensures ∙ ap length i.bounds) in
     let measure : c.copy_to.new.measure ≡ owned (measure_at h c.in-Some.v) (length bs) = c.copy_to.ensures ∙ ap (owned (measure_at h c.in-Some.v)) width in
     let lifted : IsLifted bs lines c.loop.map.measures h c.in-Some.v = rw i.bounds at c.lift_ready.ensures.lifted in

@@ -37,11 +37,18 @@ loop-rest-preserved c =
       written = c.loop-rest.invariant.written ++ bytes;
       items = e.frame ∙ ap (λ (bs : List ℕ). bs ++ bytes) c.loop-rest.invariant.items ∙ append_assoc c.args.out.now.items c.loop-rest.invariant.written bytes;
       goes = λ more p.
-          rw append_assoc (c.loop-rest.invariant.goes (bytes ++ more) (packs_front c.args.kind (length W.bounds) W.map rest n more e.count.0 e.count.1 e.within e.full (rw (← c.split_at.ensures.back) p)));
+          rw append_assoc (c.loop-rest.invariant.goes (bytes ++ more)
+          (packs_front c.args.kind (length W.bounds) W.map rest n more e.count.0 e.count.1 e.within e.full
+          (rw (← c.split_at.ensures.back) p)));
     }
 
 pub returns-clause-packs : goal.returns-clause-packs
 returns-clause-packs c =
     let W = c.args.worker.now in
-    let none : c.loop-rest.rest.now ≡ [] = nil_from_length c.loop-rest.rest.now (eqb-true (length c.loop-rest.rest.now) 0 (sym c.is_empty.ensures ∙ c.loop-rest-test.false)) in
-    (c.loop-rest.invariant.written, rw (← append-nil c.loop-rest.invariant.written) (c.loop-rest.invariant.goes [] (rw none (packs_none c.args.kind (length W.bounds) W.map))), c.loop-rest.invariant.items)
+    let none : c.loop-rest.rest.now ≡ [] =
+    nil_from_length c.loop-rest.rest.now (eqb-true (length c.loop-rest.rest.now) 0 (sym c.is_empty.ensures ∙ c.loop-rest-test.false)) in (
+      c.loop-rest.invariant.written,
+      rw (← append-nil c.loop-rest.invariant.written)
+          (c.loop-rest.invariant.goes [] (rw none (packs_none c.args.kind (length W.bounds) W.map))),
+      c.loop-rest.invariant.items,
+    )

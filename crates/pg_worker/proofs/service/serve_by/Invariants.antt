@@ -10,6 +10,7 @@ invariant-loop-frames g l = record {
   fs : List Frame;
   count : length fs ≡ l.frames;
   going : All (λ f. f ≢ frames.Halt) fs;
-  exchanges : Exchanges (g.R.Read.remaining l.initial.input) (g.R.Read.remaining l.input) (g.W.Write.contents l.initial.output) (g.W.Write.contents l.output) fs l.session.held;
+  exchanges : Exchanges (g.R.Read.remaining l.initial.input) (g.R.Read.remaining l.input) (g.W.Write.contents l.initial.output)
+      (g.W.Write.contents l.output) fs l.session.held;
   highest : l.session.highest ≡ 2;
 }

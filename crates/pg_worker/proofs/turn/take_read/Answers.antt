@@ -13,7 +13,12 @@ pub returns-clause-turn : goal.returns-clause-turn
 returns-clause-turn c = λ ms h.
     let joins = c.in_ok-join_read.ensures.joined ms h in
     rw (← c.held.view_is) (record {
-      in_turn = record { kind_is = search rules; width_is = sym (c.if-pairs-width.false ∙ c.width.ensures) ∙ ap length (c.pairs.ensures.value ∙ c.bounds.ensures); fit = c.in_ok-join_read.ensures.fit ms h };
+      in_turn = record {
+        kind_is = search rules;
+        width_is = sym (c.if-pairs-width.false ∙ c.width.ensures)
+            ∙ ap length (c.pairs.ensures.value ∙ c.bounds.ensures);
+        fit = c.in_ok-join_read.ensures.fit ms h;
+      };
       map = c.join_read.new.worker.map;
       joins = joins.joins;
       held = ap (λ (w : WorkerValue). Some (record { kind = c.held.inside.kind; is_started = true; worker = w })) joins.others;
@@ -21,7 +26,12 @@ returns-clause-turn c = λ ms h.
 
 pub returns-then-pairs-width-clause-refused : goal.returns-then-pairs-width-clause-refused
 returns-then-pairs-width-clause-refused c = λ ms h.
-    rw (← c.held.view_is) (inr (refl, search rules, λ both. absurd (c.if-pairs-width.true (ap length (c.pairs.ensures.value ∙ c.bounds.ensures) ∙ (sym both.0 ∙ sym c.width.ensures)))))
+    rw (← c.held.view_is) (inr (
+      refl,
+      search rules,
+      λ both. absurd (c.if-pairs-width.true (ap length (c.pairs.ensures.value ∙ c.bounds.ensures) ∙ (sym both.0 ∙ sym c.width.ensures))),
+    ))
 
 pub join_read-requires : goal.join_read-requires
-join_read-requires c = ap length c.deref_mut.ensures.value ∙ (c.held.invariant.1 ∙ (sym (ap length (c.pairs.ensures.value ∙ c.bounds.ensures)) ∙ (c.if-pairs-width.false ∙ c.width.ensures)))
+join_read-requires c = ap length c.deref_mut.ensures.value
+    ∙ (c.held.invariant.1 ∙ (sym (ap length (c.pairs.ensures.value ∙ c.bounds.ensures)) ∙ (c.if-pairs-width.false ∙ c.width.ensures)))

@@ -34,12 +34,14 @@ pub returns-in_err-push-2-clause-within : goal.returns-in_err-push-2-clause-with
 unfolding IsWithin
 returns-in_err-push-2-clause-within c = (
   c.requires.within.0,
-  rw c.truncate.ensures.items (All-take (λ v. v < length c.args.game.now) c.component_start-start.result c.push.new.self.items (met (goal.at.returns-in_err-push-2-clause-within c).In_ok-push)),
+  rw c.truncate.ensures.items (All-take (λ v. v < length c.args.game.now) c.component_start-start.result c.push.new.self.items
+      (met (goal.at.returns-in_err-push-2-clause-within c).In_ok-push)),
 )
 
 pub returns-clause-within : goal.returns-clause-within
 unfolding IsWithin
 returns-clause-within c = (
   c.requires.within.0,
-  rw c.truncate.ensures.items (All-take (λ v. v < length c.args.game.now) c.component_start-start.result c.push.new.self.items (met (goal.at.returns-clause-within c).In_ok-push)),
+  rw c.truncate.ensures.items (All-take (λ v. v < length c.args.game.now) c.component_start-start.result c.push.new.self.items
+      (met (goal.at.returns-clause-within c).In_ok-push)),
 )

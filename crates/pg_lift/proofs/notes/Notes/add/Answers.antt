@@ -10,7 +10,12 @@ placed c = there_at c.self.inside.notes.cap c.place-at.ensures c.index-note.ensu
 
 pub push_reserved-requires : goal.push_reserved-requires
 push_reserved-requires c =
-    omega (arith, (room_to_wait (placed (goal.at.push_reserved-requires c).After-index-note) (not_on _ c.if-not-note.true) c.self.invariant).1, c.self.inside.next.ok.0)
+    omega (
+      arith,
+      (room_to_wait (placed (goal.at.push_reserved-requires c).After-index-note)
+          (not_on _ c.if-not-note.true) c.self.invariant).1,
+      c.self.inside.next.ok.0,
+    )
 
 pub invariant_of-self : goal.invariant_of-self
 invariant_of-self c =
@@ -19,27 +24,38 @@ invariant_of-self c =
 
 pub push_reserved-requires-else-note-self-eq-LIFTS : goal.push_reserved-requires-else-note-self-eq-LIFTS
 push_reserved-requires-else-note-self-eq-LIFTS c =
-    omega (arith, (room_to_wait (placed (goal.at.push_reserved-requires-else-note-self-eq-LIFTS c).After-index-note) (not_on _ c.if-not-note.true) c.self.invariant).0, c.self.inside.stack.ok.0)
+    omega (
+      arith,
+      (room_to_wait (placed (goal.at.push_reserved-requires-else-note-self-eq-LIFTS c).After-index-note)
+          (not_on _ c.if-not-note.true) c.self.invariant).0,
+      c.self.inside.stack.ok.0,
+    )
 
 pub invariant_of-self-else-note-self-eq-LIFTS : goal.invariant_of-self-else-note-self-eq-LIFTS
 invariant_of-self-else-note-self-eq-LIFTS c =
-    rw c.push_reserved-else-note-self-eq-LIFTS.ensures.items (noted_pushed _ (placed (goal.at.invariant_of-self-else-note-self-eq-LIFTS c).After-index-note) (not_on _ c.if-not-note.true) refl
+    rw c.push_reserved-else-note-self-eq-LIFTS.ensures.items
+    (noted_pushed _ (placed (goal.at.invariant_of-self-else-note-self-eq-LIFTS c).After-index-note) (not_on _ c.if-not-note.true) refl
     (omega (arith, c.push_reserved-else-note-self-eq-LIFTS.ensures.capacity)) c.self.invariant)
 
 pub returns-then-note-self-eq-LIFTS-clause-waits : goal.returns-then-note-self-eq-LIFTS-clause-waits
-returns-then-note-self-eq-LIFTS-clause-waits c = rw (← c.self.view_is) (waits_set _ (placed (goal.at.returns-then-note-self-eq-LIFTS-clause-waits c).After-index-note))
+returns-then-note-self-eq-LIFTS-clause-waits c =
+    rw (← c.self.view_is) (waits_set _ (placed (goal.at.returns-then-note-self-eq-LIFTS-clause-waits c).After-index-note))
 
 pub returns-else-note-self-eq-LIFTS-clause-waits : goal.returns-else-note-self-eq-LIFTS-clause-waits
-returns-else-note-self-eq-LIFTS-clause-waits c = rw (← c.self.view_is) (waits_set _ (placed (goal.at.returns-else-note-self-eq-LIFTS-clause-waits c).After-index-note))
+returns-else-note-self-eq-LIFTS-clause-waits c =
+    rw (← c.self.view_is) (waits_set _ (placed (goal.at.returns-else-note-self-eq-LIFTS-clause-waits c).After-index-note))
 
 pub returns-else-not-note-clause-waits : goal.returns-else-not-note-clause-waits
 returns-else-not-note-clause-waits c =
     let ws = waits_of c.self.inside.vertices c.self.inside.first c.self.inside.notes.items in
-    let on : get_or ws c.args.v false ≡ true = waits_read (placed (goal.at.returns-else-not-note-clause-waits c).After-index-note) ∙ not_off _ c.if-not-note.false in
+    let on : get_or ws c.args.v false ≡ true = waits_read (placed (goal.at.returns-else-not-note-clause-waits c).After-index-note)
+    ∙ not_off _ c.if-not-note.false in
     rw (← c.self.view_is) (sym (ap (λ b. set ws c.args.v b) (sym on) ∙ set-get_or ws c.args.v false))
 
 pub returns-then-note-self-eq-LIFTS-clause-span : goal.returns-then-note-self-eq-LIFTS-clause-span
-returns-then-note-self-eq-LIFTS-clause-span c = rw (← c.self.view_is) (span_kept _ _ (placed (goal.at.returns-then-note-self-eq-LIFTS-clause-span c).After-index-note) refl)
+returns-then-note-self-eq-LIFTS-clause-span c =
+    rw (← c.self.view_is) (span_kept _ _ (placed (goal.at.returns-then-note-self-eq-LIFTS-clause-span c).After-index-note) refl)
 
 pub returns-else-note-self-eq-LIFTS-clause-span : goal.returns-else-note-self-eq-LIFTS-clause-span
-returns-else-note-self-eq-LIFTS-clause-span c = rw (← c.self.view_is) (span_kept _ _ (placed (goal.at.returns-else-note-self-eq-LIFTS-clause-span c).After-index-note) refl)
+returns-else-note-self-eq-LIFTS-clause-span c =
+    rw (← c.self.view_is) (span_kept _ _ (placed (goal.at.returns-else-note-self-eq-LIFTS-clause-span c).After-index-note) refl)

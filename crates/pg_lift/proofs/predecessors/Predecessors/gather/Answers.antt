@@ -18,7 +18,9 @@ lengthen-requires g c =
     let lines = g.G.Lines.line c.args.lines.now in
     let n = c.args.vertices in
     let counts = c.count_all.new.counts in
-    let size : length counts ≡ n + 1 = c.count_all.auto.counts ∙ (ap length c.as_mut_slice-starts.ensures.value ∙ (let l = c.fill.ensures.len in let a = c.args.self.now.starts.ok.0 in let b = c.fill.new.self.ok.0 in let q = c.requires.size in omega arith)) in
+    let size : length counts ≡ n + 1 = c.count_all.auto.counts ∙ (ap length c.as_mut_slice-starts.ensures.value
+    ∙ (let l = c.fill.ensures.len in let a = c.args.self.now.starts.ok.0 in let b = c.fill.new.self.ok.0 in let q = c.requires.size in
+    omega arith)) in
     let same : length c.add_up.new.counts ≡ length counts = c.add_up.auto.counts in
     let s = counts_sum lines n (n + 1) counts c.count_all.ensures (omega arith) in
     let f = begin_few lines n (n + 1) in
@@ -32,9 +34,12 @@ put_all-requires-clause-put g c =
     let n = c.args.vertices in
     let counts = c.count_all.new.counts in
     let ends = c.add_up.new.counts in
-    let size : length counts ≡ n + 1 = c.count_all.auto.counts ∙ (ap length c.as_mut_slice-starts.ensures.value ∙ (let l = c.fill.ensures.len in let a = c.args.self.now.starts.ok.0 in let b = c.fill.new.self.ok.0 in let q = c.requires.size in omega arith)) in
+    let size : length counts ≡ n + 1 = c.count_all.auto.counts ∙ (ap length c.as_mut_slice-starts.ensures.value
+    ∙ (let l = c.fill.ensures.len in let a = c.args.self.now.starts.ok.0 in let b = c.fill.new.self.ok.0 in let q = c.requires.size in
+    omega arith)) in
     let same : length ends ≡ length counts = c.add_up.auto.counts in
-    let at : (x : ℕ) → x < n + 1 → get_or ends x 0 ≡ begin_of lines n (x + 1) = λ x lt. c.add_up.ensures x (omega arith) ∙ counts_sum lines n (x + 1) counts c.count_all.ensures (omega arith) in
+    let at : (x : ℕ) → x < n + 1 → get_or ends x 0 ≡ begin_of lines n (x + 1) = λ x lt. c.add_up.ensures x (omega arith)
+    ∙ counts_sum lines n (x + 1) counts c.count_all.ensures (omega arith) in
     let all = at n (omega arith) in
     let more = c.lengthen.ensures.more in
     rw c.deref_mut.ensures.value (put_start lines n ends c.lengthen.new.sources.items (omega arith) (omega arith) at)

@@ -6,7 +6,8 @@ use Rattle.pg_map.proofs.map.MeasureMap.best_of.Goals.{then-is_better, else-is_b
 
 pub loop-w-preserved : goal.loop-w-preserved
 loop-w-preserved c =
-    let q : c.w.inside.0 ≡ get_or c.args.successors.now c.loop-w.w-index 0 = c.w.view_is ∙ (c.w-item.is ∙ get_or_default c.args.successors.now c.loop-w.w-index _ 0 c.loop-w-test.true) in
+    let q : c.w.inside.0 ≡ get_or c.args.successors.now c.loop-w.w-index 0 = c.w.view_is
+    ∙ (c.w-item.is ∙ get_or_default c.args.successors.now c.loop-w.w-index _ 0 c.loop-w-test.true) in
     elim c.if-is_better.branch [
       | then-is_better w ↦ record {
         within = rw (w.best-is, q) (c.requires.successors c.loop-w.w-index 0 c.loop-w-test.true);

@@ -9,7 +9,9 @@ returns-clause-lifted g c =
     (rw (c.v.view_is, c.w.view_is) at c.step.ensures.step) (rw c.v.view_is at c.step.ensures.others)
 
 pub returns-clause-under : goal.returns-clause-under
-returns-clause-under g c = lift_stays_under c.args.self.now.bounds (g.G.Lines.line c.args.lines.now) c.args.self.now.measures _ c.args.v c.requires.held (returns-clause-lifted g c)
+returns-clause-under g c = lift_stays_under c.args.self.now.bounds
+    (g.G.Lines.line c.args.lines.now) c.args.self.now.measures _ c.args.v c.requires.held (returns-clause-lifted g c)
 
 pub returns-clause-weight : goal.returns-clause-weight
-returns-clause-weight g c = lift_falls c.args.self.now.bounds (g.G.Lines.line c.args.lines.now) c.args.self.now.measures _ c.args.v (c.requires.within.numbers c.args.v c.requires.held) (returns-clause-lifted g c)
+returns-clause-weight g c = lift_falls c.args.self.now.bounds (g.G.Lines.line c.args.lines.now) c.args.self.now.measures _ c.args.v
+    (c.requires.within.numbers c.args.v c.requires.held) (returns-clause-lifted g c)

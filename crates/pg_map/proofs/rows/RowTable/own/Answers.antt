@@ -23,5 +23,10 @@ unwrap-requires c =
 pub returns-clause-copied : goal.returns-clause-copied
 returns-clause-copied c = λ e.
     let s = rows_size _ _ _ _ _ c.self.view_is in
-    let a : c.extend_from_within.new.self.items ≡ c.self.inside.cells.items ++ take (c.self.inside.width - 0) (drop 0 c.self.inside.cells.items) = rw c.unwrap.ensures at c.extend_from_within.ensures.items in
-    (sym s, copied_last c.self.inside.count c.self.inside.width c.self.inside.room (c.self.inside.width - 0) c.self.inside.cells.items _ c.args.self.now c.self.view_is (omega arith) c.self.invariant.filled (omega arith) a)
+    let a : c.extend_from_within.new.self.items ≡ c.self.inside.cells.items ++ take (c.self.inside.width - 0)
+    (drop 0 c.self.inside.cells.items) = rw c.unwrap.ensures at c.extend_from_within.ensures.items in (
+      sym s,
+      copied_last c.self.inside.count c.self.inside.width c.self.inside.room
+          (c.self.inside.width - 0) c.self.inside.cells.items _ c.args.self.now c.self.view_is (omega arith) c.self.invariant.filled
+          (omega arith) a,
+    )

@@ -4,7 +4,8 @@ use Rattle.pg_measure.proofs.Counted.{CountedFrom, counted_is, counted_bounds, c
 use Rattle.pg_measure.proofs.bounds.Bounds.of_counts.Goals as goal
 
 -- a pair of the priority below
-counted_more : (counts : List ℕ) (pairs : BoundList) (p : ℕ) → CountedFrom counts p pairs → 0 < p → p ≤ length counts → (p - 1) % 2 ≡ 1 → 0 < get_or counts (p - 1) 0 → CountedFrom counts (p - 1) (pairs ++ (p - 1, get_or counts (p - 1) 0) ∷ [])
+counted_more : (counts : List ℕ) (pairs : BoundList) (p : ℕ) → CountedFrom counts p pairs → 0 < p → p ≤ length counts → (p - 1) % 2 ≡ 1
+    → 0 < get_or counts (p - 1) 0 → CountedFrom counts (p - 1) (pairs ++ (p - 1, get_or counts (p - 1) 0) ∷ [])
 counted_more counts pairs p counted positive within odd some =
     let above : p ≡ p - 1 + 1 = omega arith in
     let at : p - 1 < length counts = omega arith in
@@ -15,7 +16,8 @@ below : (p most : ℕ) → p ≤ most → p - 1 ≤ most
 below p most h = omega arith
 
 -- without a vertex of the priority below there is no pair of it
-counted_less : (counts : List ℕ) (pairs : BoundList) (p : ℕ) → CountedFrom counts p pairs → 0 < p → p ≤ length counts → (p - 1 < length counts → (p - 1) % 2 ≡ 1 → 0 < get_or counts (p - 1) 0 → ⊥) → CountedFrom counts (p - 1) pairs
+counted_less : (counts : List ℕ) (pairs : BoundList) (p : ℕ) → CountedFrom counts p pairs → 0 < p → p ≤ length counts
+    → (p - 1 < length counts → (p - 1) % 2 ≡ 1 → 0 < get_or counts (p - 1) 0 → ⊥) → CountedFrom counts (p - 1) pairs
 counted_less counts pairs p counted positive within none =
     let above : p ≡ p - 1 + 1 = omega arith in
     counted_skip counts (p - 1) pairs (none (omega arith)) (subst (λ (q : ℕ). CountedFrom counts q pairs) above counted)

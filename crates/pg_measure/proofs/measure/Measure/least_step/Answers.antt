@@ -11,5 +11,6 @@ step-requires-clause-length c =
     let value : measure_of numbers ≡ c.args.self.now.value = ap measure_of same ∙ ap (λ (m : OwnedMeasure). m.value) c.self.view_is in
     let long = c.self.invariant in
     let k = ap length same in
-    let r : length numbers ≡ length c.args.bounds.now + 1 = row_length c.args.bounds.now numbers c.args.self.now.value 0 value c.requires (omega arith) (sym c.if-numbers-eq0.true) refl in
+    let r : length numbers ≡ length c.args.bounds.now + 1 = row_length c.args.bounds.now numbers c.args.self.now.value 0 value c.requires
+    (omega arith) (sym c.if-numbers-eq0.true) refl in
     rw c.pairs.ensures.value r

@@ -27,8 +27,10 @@ returns-clause-next c = λ ls h.
     let row = c.read_numbers.new.row in
     let len : c.resize.new.self.len ≡ c.in-Ok.count = c.in_ok-resize.ensures.len in
     let size : length row ≡ c.in-Ok.count = omega (arith, c.read_numbers.auto.row, c.as_mut_slice.ensures.len, len) in
-    let whole : take c.resize.new.self.len (row ++ drop (length row) c.resize.new.self.items) ≡ row = take_at row (drop (length row) c.resize.new.self.items) c.resize.new.self.len (size ∙ sym len) in
+    let whole : take c.resize.new.self.len (row ++ drop (length row) c.resize.new.self.items) ≡ row =
+    take_at row (drop (length row) c.resize.new.self.items) c.resize.new.self.len (size ∙ sym len) in
     let numbers : numbers_at c.in-Ok.count c.in-Ok.rest.now ≡ Ok (row, c.in-Ok-read_numbers.rest.now) =
-    subst (λ (n : ℕ). numbers_at n c.in-Ok.rest.now ≡ Ok (row, c.in-Ok-read_numbers.rest.now)) (c.as_mut_slice.ensures.len ∙ len) c.in-Ok-read_numbers.ensures.read in
+    subst (λ (n : ℕ). numbers_at n c.in-Ok.rest.now ≡ Ok (row, c.in-Ok-read_numbers.rest.now))
+    (c.as_mut_slice.ensures.len ∙ len) c.in-Ok-read_numbers.ensures.read in
     subst (λ (items : List ℕ). IsNextLine ls (record { bytes = c.in-Ok-read_numbers.rest }) items (Some c.in-Ok.head)) (sym whole)
     (next_left ls c.args.self.now row c.in-Ok.head c.in-Ok.count c.in-Ok.rest.now c.in-Ok-read_numbers.rest h c.in-Ok.ensures.read numbers)

@@ -11,10 +11,13 @@ invariant_of-self c =
     let inv = c.loop-w.invariant in
     let ss = c.args.successors.now in
     let v = c.args.v in
-    let e : c.loop-w.self-inside.targets.items ≡ p.targets.items ++ ss = inv.items ∙ ap (λ xs. p.targets.items ++ xs) (take_all c.loop-w.w-index ss c.loop-w-test.false) in
+    let e : c.loop-w.self-inside.targets.items ≡ p.targets.items ++ ss = inv.items
+    ∙ ap (λ xs. p.targets.items ++ xs) (take_all c.loop-w.w-index ss c.loop-w-test.false) in
     let n : c.len-start.result ≡ length p.targets.items = let a = p.targets.ok.0 in let b = c.len-start.ensures in omega arith in
-    let hs : (i : ℕ) → get_or c.lengthen.new.heads.items i no_head ≡ get_or p.heads.items i no_head = λ i. c.lengthen.ensures.heads i ∙ ap (λ (xs : _). get_or xs.items i no_head) inv.heads in
-    let os : (i : ℕ) → get_or c.lengthen.new.owners.items i Even ≡ get_or p.owners.items i Even = λ i. c.lengthen.ensures.owners i ∙ ap (λ (xs : _). get_or xs.items i Even) inv.owners in
+    let hs : (i : ℕ) → get_or c.lengthen.new.heads.items i no_head ≡ get_or p.heads.items i no_head = λ i. c.lengthen.ensures.heads i
+    ∙ ap (λ (xs : _). get_or xs.items i no_head) inv.heads in
+    let os : (i : ℕ) → get_or c.lengthen.new.owners.items i Even ≡ get_or p.owners.items i Even = λ i. c.lengthen.ensures.owners i
+    ∙ ap (λ (xs : _). get_or xs.items i Even) inv.owners in
     let at = c.v.view_is in
     let same = inv.first in
     let size = lines_size p.vertices p.first p.heads.items p.owners.items p.targets.items in
@@ -23,7 +26,8 @@ invariant_of-self c =
     let more = c.lengthen.ensures.more in
     let sizes = c.lengthen.ensures.sizes in
     let old : length c.loop-w.self-inside.heads.items ≡ length p.heads.items = ap (λ (xs : _). length xs.items) inv.heads in
-    let within : p.first + length c.lengthen.new.heads.items ≤ p.vertices = let s = c.self.invariant.within in let w = c.lengthen.ensures.within (p.vertices - p.first) (omega arith) (omega arith) in omega arith in
+    let within : p.first + length c.lengthen.new.heads.items ≤ p.vertices = let s = c.self.invariant.within in let w =
+    c.lengthen.ensures.within (p.vertices - p.first) (omega arith) (omega arith) in omega arith in
     rw (e, n, inv.vertices, inv.first, c.v.view_is) (span_more p.vertices p.first p.heads.items c.lengthen.new.heads.items p.owners.items c.lengthen.new.owners.items p.targets.items ss v c.args.priority c.args.owner c.self.invariant hs sizes within)
 
 pub returns-clause-lines : goal.returns-clause-lines
@@ -32,10 +36,13 @@ returns-clause-lines c =
     let inv = c.loop-w.invariant in
     let ss = c.args.successors.now in
     let v = c.args.v in
-    let e : c.loop-w.self-inside.targets.items ≡ p.targets.items ++ ss = inv.items ∙ ap (λ xs. p.targets.items ++ xs) (take_all c.loop-w.w-index ss c.loop-w-test.false) in
+    let e : c.loop-w.self-inside.targets.items ≡ p.targets.items ++ ss = inv.items
+    ∙ ap (λ xs. p.targets.items ++ xs) (take_all c.loop-w.w-index ss c.loop-w-test.false) in
     let n : c.len-start.result ≡ length p.targets.items = let a = p.targets.ok.0 in let b = c.len-start.ensures in omega arith in
-    let hs : (i : ℕ) → get_or c.lengthen.new.heads.items i no_head ≡ get_or p.heads.items i no_head = λ i. c.lengthen.ensures.heads i ∙ ap (λ (xs : _). get_or xs.items i no_head) inv.heads in
-    let os : (i : ℕ) → get_or c.lengthen.new.owners.items i Even ≡ get_or p.owners.items i Even = λ i. c.lengthen.ensures.owners i ∙ ap (λ (xs : _). get_or xs.items i Even) inv.owners in
+    let hs : (i : ℕ) → get_or c.lengthen.new.heads.items i no_head ≡ get_or p.heads.items i no_head = λ i. c.lengthen.ensures.heads i
+    ∙ ap (λ (xs : _). get_or xs.items i no_head) inv.heads in
+    let os : (i : ℕ) → get_or c.lengthen.new.owners.items i Even ≡ get_or p.owners.items i Even = λ i. c.lengthen.ensures.owners i
+    ∙ ap (λ (xs : _). get_or xs.items i Even) inv.owners in
     let at = c.v.view_is in
     let same = inv.first in
     let size = lines_size p.vertices p.first p.heads.items p.owners.items p.targets.items in

@@ -26,5 +26,7 @@ returns c =
     let p = c.self.inside in
     let h = held_is p.vertices p.first p.heads.items p.owners.items p.targets.items c.args.v c.self.invariant (rw (← c.self.view_is) at c.requires) in
     let n = c.args.v - p.first in
-    let read : c.index.result.now ≡ get_or p.heads.items n no_head = read_in p.heads.items (c.v.inside.0 - p.first) n c.index.result.now no_head (ap (λ (k : ℕ). k - p.first) c.v.view_is) h.place c.index.ensures in
+    let read : c.index.result.now ≡ get_or p.heads.items n no_head =
+    read_in p.heads.items (c.v.inside.0 - p.first) n c.index.result.now no_head
+    (ap (λ (k : ℕ). k - p.first) c.v.view_is) h.place c.index.ensures in
     rw (← c.self.view_is) (ap (λ (k : Head). k.priority) read ∙ sym (ap (λ (l : Line). l.priority) h.line))

@@ -26,7 +26,9 @@ run-requires c =
     let p = c.self.inside in
     let h = held_is p.vertices p.first p.heads.items p.owners.items p.targets.items c.args.v c.self.invariant (rw (← c.self.view_is) at c.requires) in
     let n = c.args.v - p.first in
-    let read : c.index-head.result.now ≡ get_or p.heads.items n no_head = read_in p.heads.items (c.v.inside.0 - p.first) n c.index-head.result.now no_head (ap (λ (k : ℕ). k - p.first) c.v.view_is) h.place c.index-head.ensures in
+    let read : c.index-head.result.now ≡ get_or p.heads.items n no_head =
+    read_in p.heads.items (c.v.inside.0 - p.first) n c.index-head.result.now no_head
+    (ap (λ (k : ℕ). k - p.first) c.v.view_is) h.place c.index-head.ensures in
     rw (c.deref.ensures.value, read) (head_held p.heads.items p.targets.items n c.self.invariant.held)
 
 pub returns : goal.returns
@@ -34,6 +36,9 @@ returns c =
     let p = c.self.inside in
     let h = held_is p.vertices p.first p.heads.items p.owners.items p.targets.items c.args.v c.self.invariant (rw (← c.self.view_is) at c.requires) in
     let n = c.args.v - p.first in
-    let read : c.index-head.result.now ≡ get_or p.heads.items n no_head = read_in p.heads.items (c.v.inside.0 - p.first) n c.index-head.result.now no_head (ap (λ (k : ℕ). k - p.first) c.v.view_is) h.place c.index-head.ensures in
-    rw (← c.self.view_is) (c.run.ensures ∙ (ap (λ (ts : List ℕ). take c.index-head.result.now.count (drop c.index-head.result.now.start ts)) c.deref.ensures.value
+    let read : c.index-head.result.now ≡ get_or p.heads.items n no_head =
+    read_in p.heads.items (c.v.inside.0 - p.first) n c.index-head.result.now no_head
+    (ap (λ (k : ℕ). k - p.first) c.v.view_is) h.place c.index-head.ensures in
+    rw (← c.self.view_is) (c.run.ensures
+    ∙ (ap (λ (ts : List ℕ). take c.index-head.result.now.count (drop c.index-head.result.now.start ts)) c.deref.ensures.value
     ∙ (ap (λ (k : Head). take k.count (drop k.start p.targets.items)) read ∙ sym (ap (λ (l : Line). l.successors) h.line))))

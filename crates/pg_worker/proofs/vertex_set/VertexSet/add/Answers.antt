@@ -32,6 +32,7 @@ returns-else-not-index-clause-there c =
     let l = c.self.inside in
     let on : get_or l.marked.items c.args.v false ≡ true =
     let lt : c.v.inside.0 < length l.marked.items = rw (c.v.view_is) (rw (← c.self.view_is) at c.requires) in
-    let k : get_or l.marked.items c.v.inside.0 false ≡ true = get_or_default l.marked.items c.v.inside.0 false c.index.result.now lt ∙ (sym c.index.ensures ∙ c.if-not-index.false) in
+    let k : get_or l.marked.items c.v.inside.0 false ≡ true = get_or_default l.marked.items c.v.inside.0 false c.index.result.now lt
+    ∙ (sym c.index.ensures ∙ c.if-not-index.false) in
     subst (λ (n : ℕ). get_or l.marked.items n false ≡ true) c.v.view_is k in
     rw (← c.self.view_is) (marked_listed l.vertices.items l.marked.items l.vertices.cap c.args.v c.self.invariant on)

@@ -55,8 +55,10 @@ invariant_of-self-2 c =
     let part' = c.add_line.new.part in
     let from : w.next ≤ v = let a = c.if-from-self.false in let b = c.from.ensures in omega arith in
     let fit : FitsGame c.bounds.result.now c.len-count.result l = c.fits_line.ensures.0 c.if-not-fits_line.false in
-    let lt : v < length part.lines = let a = fit.vertex in let b = c.len-count.ensures.value in let s = c.self.invariant.inside.size in let e = ap length c.make_room.ensures.same.lines in omega arith in
-    let next : IsNext part' (v + 1) = next_after part part' v w.next (told_line l) c.add_line.ensures.lines lt from (next_same w.part part w.next c.make_room.ensures.same.lines c.self.invariant.above) in
+    let lt : v < length part.lines = let a = fit.vertex in let b = c.len-count.ensures.value in let s = c.self.invariant.inside.size in
+    let e = ap length c.make_room.ensures.same.lines in omega arith in
+    let next : IsNext part' (v + 1) = next_after part part' v w.next (told_line l) c.add_line.ensures.lines lt from
+    (next_same w.part part w.next c.make_room.ensures.same.lines c.self.invariant.above) in
     let place = c.in_ok-make_room.ensures.room.places v (omega arith) (omega arith) in
     let room = c.in_ok-make_room.ensures.room.labels v (omega arith) (omega arith) in
     let e = c.make_room.ensures.same in

@@ -26,7 +26,8 @@ pub add_lines-requires-clause-next : goal.add_lines-requires-clause-next
 add_lines-requires-clause-next c = next_same c.self.inside.part c.make_room.new.part c.self.inside.next c.make_room.ensures.same.lines c.self.invariant.above
 
 -- lines that rise are from the first to the last
-from_first : (ls : List VertexLine) (d e : VertexLine) (k : ℕ) → AllPairs (λ l m. l.vertex < m.vertex) ls → k < length ls → (get_or ls 0 e).vertex ≤ (get_or ls k d).vertex
+from_first : (ls : List VertexLine) (d e : VertexLine) (k : ℕ) → AllPairs (λ l m. l.vertex < m.vertex) ls → k < length ls
+    → (get_or ls 0 e).vertex ≤ (get_or ls k d).vertex
 from_first ls d e k rising lt =
     let same = ap (λ (l : VertexLine). l.vertex) (get_or_default ls 0 e d (omega arith)) in
     elim (cases_eq k 0) [
@@ -34,7 +35,8 @@ from_first ls d e k rising lt =
       | inr ne ↦ let r = rising 0 k d (omega (arith, ne)) lt in omega arith
     ]
 
-to_last : (ls : List VertexLine) (d e : VertexLine) (k n : ℕ) → AllPairs (λ l m. l.vertex < m.vertex) ls → k < length ls → length ls ≡ n + 1 → (get_or ls k d).vertex ≤ (get_or ls n e).vertex
+to_last : (ls : List VertexLine) (d e : VertexLine) (k n : ℕ) → AllPairs (λ l m. l.vertex < m.vertex) ls → k < length ls → length ls ≡ n + 1
+    → (get_or ls k d).vertex ≤ (get_or ls n e).vertex
 to_last ls d e k n rising lt size =
     let same = ap (λ (l : VertexLine). l.vertex) (get_or_default ls n e d (omega arith)) in
     elim (cases_eq k n) [

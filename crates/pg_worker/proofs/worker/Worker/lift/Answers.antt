@@ -18,4 +18,5 @@ pub returns-clause-served : goal.returns-clause-served
 returns-clause-served c =
     let w = c.self.inside in
     let e = c.in_ok-update.ensures in
-    rw (← c.self.view_is) (if_none c.in_ok-update.update _ _ (λ h. (h.0, same_worker c.lift_one.new.map w.map w.part.lines w.kept.items w.lifted.vertices h.1)) e.served)
+    rw (← c.self.view_is) (if_none c.in_ok-update.update _ _
+    (λ h. (h.0, same_worker c.lift_one.new.map w.map w.part.lines w.kept.items w.lifted.vertices h.1)) e.served)

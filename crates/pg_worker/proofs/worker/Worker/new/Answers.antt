@@ -14,7 +14,9 @@ invariant_of-result c =
     let b : length c.in_ok-notes.notes.best ≡ length map.measures = ap length c.in_ok-notes.ensures.best ∙ (length-replicate n 0 ∙ sym m) in
     let none = none_held_at c.new-part.result n c.new-part.ensures.none in
     record {
-      inside = worker_empty c.new-part.result map c.in_ok-notes.notes none c.new-part.ensures.edges w b (ap length c.new-part.ensures.none ∙ (length-replicate n None ∙ sym m)) (c.in_ok-notes.ensures.labels ∙ ap (λ (k : ℕ). replicate k None) (sym m));
+      inside = worker_empty c.new-part.result map c.in_ok-notes.notes none c.new-part.ensures.edges w b
+          (ap length c.new-part.ensures.none ∙ (length-replicate n None ∙ sym m))
+          (c.in_ok-notes.ensures.labels ∙ ap (λ (k : ℕ). replicate k None) (sym m));
       ready = record {
         size = let e = c.in_ok-predecessors.ensures.size in omega arith;
         few = let e = c.new-part.ensures.edges in omega arith;

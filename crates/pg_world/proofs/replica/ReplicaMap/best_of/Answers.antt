@@ -13,8 +13,10 @@ loop-w-init c =
     let some : 0 < length ss = some_successor c.args.game.now c.args.v ss c.requires.game c.requires.v c.successors-successors.ensures in
     let first : c.index-successors-0.result ≡ get_or ss 0 0 = c.index-successors-0.is ∙ get_or_default ss 0 _ 0 some in
     record {
-      within = rw first (within_game c.args.game.now c.args.v (length c.args.self.now.greatest.now) ss c.requires.game c.requires.size c.successors-successors.ensures 0 0 some);
-      so_far = first_best c.owner-owner.result (width_from c.args.self.now.bounds.now c.priority-priority.result) (shown_by c.args.self.now) ss c.index-successors-0.result 0 some first;
+      within = rw first (within_game c.args.game.now c.args.v
+          (length c.args.self.now.greatest.now) ss c.requires.game c.requires.size c.successors-successors.ensures 0 0 some);
+      so_far = first_best c.owner-owner.result (width_from c.args.self.now.bounds.now c.priority-priority.result)
+          (shown_by c.args.self.now) ss c.index-successors-0.result 0 some first;
     }
 
 pub is_better-requires-clause-a : goal.is_better-requires-clause-a

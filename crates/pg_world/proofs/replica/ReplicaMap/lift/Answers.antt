@@ -22,7 +22,8 @@ returns c =
     subst (λ (x : MeasureValue). IsLeastStep bs p x m.value) c.measure.ensures
     (rw c.priority.ensures at c.in_ok-least.ensures.least) in
     let least : IsLeastServing bs (game_line game) f v m.value =
-    step_serves bs (game_line game) f v c.best_of-best.result p (owner game v) (successors game v) m.value (game_line_at game v) c.best_of-best.ensures.best step in
+    step_serves bs (game_line game) f v c.best_of-best.result p (owner game v) (successors game v) m.value
+    (game_line_at game v) c.best_of-best.ensures.best step in
     let either : MatchBool c.is_lt-rises.result (IsBelow (measure_at f v) m.value) (AtMost m.value (measure_at f v)) =
     rw c.is_lt-rises.ensures (subst (λ (x : MeasureValue). MatchBool (is_lt c.cmp.result) (IsBelow x m.value) (AtMost m.value x)) c.measure-2.ensures
     (below_or c.measure-2.result.now.value m.value c.cmp.result c.cmp.ensures.order)) in

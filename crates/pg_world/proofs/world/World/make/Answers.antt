@@ -14,7 +14,13 @@ use Rattle.pg_world.proofs.world.World.make.Goals as goal
 
 pub invariant_of-self-2 : goal.invariant_of-self-2
 invariant_of-self-2 c =
-    let laws : Laws = record { order = c.of_maps.ensures.order; zero = c.of_maps.ensures.zero; lines = c.of_maps.ensures.lines; under = c.of_maps.ensures.under } in
+    let laws : Laws = record {
+      order = c.of_maps.ensures.order;
+      zero = c.of_maps.ensures.zero;
+      lines = c.of_maps.ensures.lines;
+      under =
+          c.of_maps.ensures.under;
+    } in
     let w : WorldValue = viewed c.self.inside.game c.self.inside.bounds c.self.inside.cut c.self.inside.updates.items c.self.inside.taken.items in
     let gs : List (List ℕ) = map items c.self.inside.greatest.items in
     let r : ℕ = c.args.replica in
@@ -26,12 +32,20 @@ invariant_of-self-2 c =
     let few : r ≤ w.cut.workers = subst (λ (o : WorldValue). c.args.replica ≤ o.cut.workers) (sym c.self.view_is) c.requires.replica in
     let within : u.vertex < length w.game = subst (λ (o : WorldValue). c.args.update.vertex < length o.game) (sym c.self.view_is) c.requires.v in
     let lifts : LiftsTo w r u = subst (λ (o : WorldValue). LiftsTo o c.args.replica (update_value c.args.update)) (sym c.self.view_is) c.requires.lifts in
-    let fewer : length w.updates < NO_UPDATE = omega (arith, count, c.make_room.new.updates.ok.0, c.make_room.new.updates.ok.1, c.make_room.new.updates.small, c.in_ok-make_room.ensures.room) in
+    let fewer : length w.updates < NO_UPDATE = omega (
+      arith,
+      count,
+      c.make_room.new.updates.ok.0,
+      c.make_room.new.updates.ok.1,
+      c.make_room.new.updates.small,
+      c.in_ok-make_room.ensures.room,
+    ) in
     let kept = makes laws w c.self.inside.zero gs r u c.self.invariant few fewer within lifts in
     let view = view_made c.self.inside.game c.self.inside.bounds c.self.inside.cut c.self.inside.updates.items us c.push_in_room.new.updates.items
     c.self.inside.taken.items c.make_room.new.taken.items c.note.new.taken.items r c.len-made.result c.args.update
     same_us c.push_in_room.ensures made c.in_ok-make_room.ensures.taken c.note.ensures in
     let now : map items c.set_greatest.new.greatest.items ≡ set gs r (set (greatest_of gs r) u.vertex (length w.updates)) =
     c.set_greatest.ensures ∙ ap (λ (n : ℕ). set gs r (set (greatest_of gs r) u.vertex n)) (made ∙ count) in
-    subst (λ (g : List (List ℕ)). AreReplicas (viewed w.game w.bounds w.cut c.push_in_room.new.updates.items c.note.new.taken.items) c.self.inside.zero g) (sym now)
+    subst (λ (g : List (List ℕ)). AreReplicas
+    (viewed w.game w.bounds w.cut c.push_in_room.new.updates.items c.note.new.taken.items) c.self.inside.zero g) (sym now)
     (subst (λ (o : WorldValue). AreReplicas o c.self.inside.zero (set gs r (set (greatest_of gs r) u.vertex (length w.updates)))) (sym view) kept)

@@ -12,16 +12,23 @@ pub returns-clause-map : goal.returns-clause-map
 returns-clause-map c =
     let w : WorldValue = viewed c.self.inside.game c.self.inside.bounds c.self.inside.cut c.self.inside.updates.items c.self.inside.taken.items in
     let few : c.args.replica ≤ w.cut.workers = subst (λ (o : WorldValue). c.args.replica ≤ o.cut.workers) (sym c.self.view_is) c.requires in
-    let l : c.args.replica < length c.self.inside.greatest.items = has_place c.self.inside.greatest.items c.args.replica w.cut.workers c.self.invariant.count few in
-    let same : greatest_of (map items c.self.inside.greatest.items) c.args.replica ≡ c.deref-2.result.now = item_at c.self.inside.greatest.items c.args.replica c.index.result.now l c.index.ensures ∙ sym c.deref-2.ensures.value in
-    let lent = map_lent w c.args.self.now c.self.inside.zero (map items c.self.inside.greatest.items) c.args.replica c.deref-2.result.now c.self.view_is c.self.invariant c.requires same in
-    subst (λ (us : List Update). IsMapOf c.args.self.now c.args.replica (shown c.self.inside.bounds (map update_value us) c.deref-2.result.now)) (sym c.deref.ensures.value) lent.0
+    let l : c.args.replica < length c.self.inside.greatest.items =
+    has_place c.self.inside.greatest.items c.args.replica w.cut.workers c.self.invariant.count few in
+    let same : greatest_of (map items c.self.inside.greatest.items) c.args.replica ≡ c.deref-2.result.now =
+    item_at c.self.inside.greatest.items c.args.replica c.index.result.now l c.index.ensures ∙ sym c.deref-2.ensures.value in
+    let lent = map_lent w c.args.self.now c.self.inside.zero
+    (map items c.self.inside.greatest.items) c.args.replica c.deref-2.result.now c.self.view_is c.self.invariant c.requires same in
+    subst (λ (us : List Update). IsMapOf c.args.self.now c.args.replica
+    (shown c.self.inside.bounds (map update_value us) c.deref-2.result.now)) (sym c.deref.ensures.value) lent.0
 
 pub returns-clause-size : goal.returns-clause-size
 returns-clause-size c =
     let w : WorldValue = viewed c.self.inside.game c.self.inside.bounds c.self.inside.cut c.self.inside.updates.items c.self.inside.taken.items in
     let few : c.args.replica ≤ w.cut.workers = subst (λ (o : WorldValue). c.args.replica ≤ o.cut.workers) (sym c.self.view_is) c.requires in
-    let l : c.args.replica < length c.self.inside.greatest.items = has_place c.self.inside.greatest.items c.args.replica w.cut.workers c.self.invariant.count few in
-    let same : greatest_of (map items c.self.inside.greatest.items) c.args.replica ≡ c.deref-2.result.now = item_at c.self.inside.greatest.items c.args.replica c.index.result.now l c.index.ensures ∙ sym c.deref-2.ensures.value in
-    let lent = map_lent w c.args.self.now c.self.inside.zero (map items c.self.inside.greatest.items) c.args.replica c.deref-2.result.now c.self.view_is c.self.invariant c.requires same in
+    let l : c.args.replica < length c.self.inside.greatest.items =
+    has_place c.self.inside.greatest.items c.args.replica w.cut.workers c.self.invariant.count few in
+    let same : greatest_of (map items c.self.inside.greatest.items) c.args.replica ≡ c.deref-2.result.now =
+    item_at c.self.inside.greatest.items c.args.replica c.index.result.now l c.index.ensures ∙ sym c.deref-2.ensures.value in
+    let lent = map_lent w c.args.self.now c.self.inside.zero
+    (map items c.self.inside.greatest.items) c.args.replica c.deref-2.result.now c.self.view_is c.self.invariant c.requires same in
     lent.1
