@@ -4,6 +4,10 @@
     bench/automata.py STATES PROPOSITIONS SETS [SEED]      prints a deterministic automaton that is complete, with a parity
                                                            condition on its edges; the first half of the propositions is
                                                            controllable
+    bench/automata.py --labels BYTES PROPOSITIONS LITERALS [SEED]
+                                                           prints an automaton of one state with so many bytes of edges that
+                                                           lead back to it, whose labels are sums of so many literals,
+                                                           or `f` with none
 """
 import sys
 
@@ -49,7 +53,22 @@ def write(out, states, propositions, sets, seed=1):
     out.write("--END--\n")
 
 
+def write_labels(out, size, propositions, literals, seed=1):
+    """One state, and edges from it to itself: the same letters get the same step again and again."""
+    dice = Dice(seed)
+    for line in header(1, propositions, 1):
+        out.write(line + "\n")
+    out.write("State: 0\n")
+    written = 0
+    while written < size:
+        said = " | ".join("!" * dice.below(2) + str(dice.below(propositions)) for _ in range(literals)) or "f"
+        written += out.write(f"[{said}] 0\n")
+    out.write("--END--\n")
+
+
 if __name__ == "__main__":
-    if len(sys.argv) not in (4, 5):
+    labels = sys.argv[1:2] == ["--labels"]
+    numbers = sys.argv[1 + labels:]
+    if len(numbers) not in (3, 4):
         sys.exit(__doc__)
-    write(sys.stdout, *map(int, sys.argv[1:]))
+    (write_labels if labels else write)(sys.stdout, *map(int, numbers))

@@ -67,6 +67,18 @@ game automaton 60000 3 2
 game automaton 200 12 2
 synth automaton 2000 3 2
 synth automaton 300 6 4
+game repeats 4 1000000
+game repeats 4 4000000
+game labels 8000000 8 0
+game labels 32000000 8 0
+game labels 1000000 8 16
+game labels 4000000 8 16
+game labels 1000000 16 16
+game labels 4000000 16 16
+game labels 1000000 8 20000
+game labels 4000000 8 20000
+game labels 1000000 16 20000
+game labels 4000000 16 20000
 measure hard 40 0 2
 measure hard 100 0 2
 measure hard 300 0 2
@@ -129,7 +141,8 @@ def prepare(source, command, sizes, given):
     """Writes the input of a case, and answers whether that was possible within the limit: `check` needs a solution. This
     is left to other processes, since the peak of a run is at least what the process that starts it has had."""
     family, *numbers = sizes
-    maker = ["automata.py", *numbers] if family == "automaton" else ["families.py", *sizes]
+    makers = {"automaton": ["automata.py", *numbers], "labels": ["automata.py", "--labels", *numbers]}
+    maker = makers.get(family, ["families.py", *sizes])
     with open(source, "wb") as out:
         subprocess.run([sys.executable, os.path.join(here, maker[0]), *maker[1:]], stdout=out, check=True)
     if command == "replay":

@@ -173,6 +173,12 @@ def loops(a, b, dice):
         yield 2 * dice.below(b) + 1, 1, [i, dice.below(a), dice.below(a)]
 
 
+def repeats(a, b, dice):
+    """a vertices, each with itself as its one successor, which stands there b times"""
+    for v in range(a):
+        yield v % 2, v % 2, [v] * b
+
+
 def hard(a, b, dice):
     """a vertices of up to twice as many priorities, each with one to three successors, all nearby or anywhere: measures climb"""
     most = dice.choice([a, a // 2, a // 4 + 1, 2 * a])
@@ -205,7 +211,7 @@ def steps(a, b, dice):
 
 
 FAMILIES = {it.__name__: it for it in (settled, climb, climbers, jurdzinski, ladder, clique, recladder, elevator, sparse, random,
-                                       chain, grid, wide, hubs, loops, hard, priorities, steps)}
+                                       chain, grid, wide, hubs, loops, repeats, hard, priorities, steps)}
 
 # those that Even wins without a choice
 WON_BY_EVEN = ("priorities", "steps")
