@@ -67,8 +67,8 @@ game automaton 60000 3 2
 game automaton 200 12 2
 synth automaton 2000 3 2
 synth automaton 300 6 4
-game repeats 4 1000000
-game repeats 4 4000000
+solve repeats 4 1000000
+solve repeats 4 4000000
 game labels 8000000 8 0
 game labels 32000000 8 0
 game labels 1000000 8 16
