@@ -1,23 +1,25 @@
 -- Terms, and acts one behind another.
-use Rattle.std.proofs.Common.{◌≡◌, ℕ, ◌+◌, ◌-◌, ◌*◌, ◌/◌, ◌^◌, ◌<◌, ◌≤◌, Bool, true, false, cond, ◌&&◌, ◌||◌, ◌==◌, List, [], ◌∷◌, ◌++◌}
-use Rattle.std.proofs.Common.{length, drop, get_or, refl, sym, ap, ◌∙◌, arith}
+use Rattle.std.proofs.Common.{◌≡◌, ℕ, suc, zero, ◌+◌, ◌-◌, ◌*◌, ◌/◌, ◌^◌, ◌<◌, ◌≤◌, Bool, true, false, cond, ◌&&◌, ◌||◌, ◌==◌}
+use Rattle.std.proofs.Common.{List, [], ◌∷◌, ◌++◌}
+use Rattle.std.proofs.Common.{length, take, drop, get_or, refl, sym, ap, ◌∙◌, arith}
 use Rattle.std.specs.Prelude.{bit_and}
 use Rattle.std.specs.Int.{bit_at}
 use Rattle.std.specs.Int.RustNames.{bit_or}
 use Rattle.std.proofs.lemmas.Nat.{and_assoc, and_comm, or_comm, and_or_self, and_shr, shr_high, pow_pos}
 use Rattle.std.proofs.lemmas.Nat.Bits.{and_pow, bit_at-lt, bit_at_cat_low}
+use Rattle.std.proofs.Math.Seq.{take-append_seam}
 use Rattle.std.proofs.lemmas.Bool.{false≢true}
 use Rattle.std.proofs.lemmas.Bool.Decides.{Decides-eqb, nat_tests}
 use Rattle.std.proofs.lemmas.List.{at_drop_more}
 use Rattle.pg_hoa.specs.declared.formula.Op.{Op}
 use Rattle.pg_hoa.specs.declared.terms.Term.{Term}
 use Rattle.pg_hoa.specs.declared.terms.Act.{Act}
-use Rattle.pg_hoa.specs.declared.terms.Act.TheVariants.{Put, Not, BothTerm, EitherTerm}
+use Rattle.pg_hoa.specs.declared.terms.Act.TheVariants.{Put, Not, Both, Either, BothTerm, EitherTerm}
 use Rattle.pg_hoa.specs.Mirrors.Saying.{top, under, perform, run}
 use Rattle.pg_hoa.specs.Mirrors.Letters.{truth, on_at}
 use Rattle.pg_hoa.specs.Mirrors.Acts.{fits, act, act_all, done}
 use Rattle.pg_hoa.proofs.TableNeeds.{and_of_or}
-use Rattle.pg_hoa.proofs.TableWords.{truth_and, truth_not, truth_all, on_high}
+use Rattle.pg_hoa.proofs.TableWords.{truth_and, truth_or, truth_not, truth_all, on_high}
 
 -- ---- bits of a block's number
 
@@ -131,7 +133,33 @@ fits_joined b j l r e f =
     ∙ ap (λ x. (truth l.word j && truth r.word j) && x) (both_tests b l.care r.care l.value r.value e f)
     ∙ four (truth l.word j) (truth r.word j) (bit_and b l.care == l.value) (bit_and b r.care == r.value)
 
+either_tested : (a b c : Bool) → ((a || b) && c) ≡ ((a && c) || (b && c))
+either_tested true true true = refl
+either_tested true true false = refl
+either_tested true false true = refl
+either_tested true false false = refl
+either_tested false b c = refl
+
+-- the letters of two terms of the same blocks
+pub fits_added : (b j : ℕ) (t u : Term) → t.care ≡ u.care → t.value ≡ u.value
+    → (truth (bit_or t.word u.word) j && (bit_and b t.care == t.value)) ≡ (fits b j t || fits b j u)
+fits_added b j t u c v =
+    ap (λ x. x && (bit_and b t.care == t.value)) (truth_or t.word u.word j)
+    ∙ either_tested (truth t.word j) (truth u.word j) (bit_and b t.care == t.value)
+    ∙ ap (λ x. fits b j t || (truth u.word j && x)) (ap (λ n. bit_and b n == t.value) c ∙ ap (λ n. bit_and b u.care == n) v)
+
 -- ---- acts
+
+grouped : (x y z : Bool) → (x || (y || z)) ≡ ((x || y) || z)
+grouped true y z = refl
+grouped false y z = refl
+
+swapped : (x y z : Bool) → ((x || y) || z) ≡ ((x || z) || y)
+swapped true y z = refl
+swapped false true true = refl
+swapped false true false = refl
+swapped false false true = refl
+swapped false false false = refl
 
 act_all_more : (acts : List Act) (a : Act) (b j : ℕ) (stack : List Bool) → act_all (acts ++ (a ∷ [])) b j stack ≡ act a b j (act_all acts b j stack)
 act_all_more [] a b j stack = refl
@@ -175,6 +203,44 @@ pub either_term : (old rest new : List Act) (t : Term) (b j : ℕ) → old ≡ r
 either_term old rest new t b j o n = done_more rest new (EitherTerm t) b j n
     ∙ sym (ap (λ s. (top (under s) || top s) ∷ under (under s)) (done_more rest old (Put t) b j o))
 
+-- a term of the sum that the acts end in takes the letters of another
+pub sum_put : (acts rest : List Act) (last : Act) (o t u : Term) (b j : ℕ) → acts ≡ rest ++ (last ∷ []) → last ≡ Put o
+    → fits b j u ≡ (fits b j o || fits b j t)
+    → done (rest ++ (Put u ∷ [])) b j ≡ (top (done acts b j) || fits b j t) ∷ under (done acts b j)
+sum_put acts rest last o t u b j a l e =
+    done_more rest (rest ++ (Put u ∷ [])) (Put u) b j refl ∙ ap (λ x. x ∷ done rest b j) e
+    ∙ sym (ap (λ s. (top s || fits b j t) ∷ under s) (done_more rest acts (Put o) b j (a ∙ ap (λ x. rest ++ (x ∷ [])) l)))
+
+pub sum_term : (acts rest : List Act) (last : Act) (o t u : Term) (b j : ℕ) → acts ≡ rest ++ (last ∷ []) → last ≡ EitherTerm o
+    → fits b j u ≡ (fits b j o || fits b j t)
+    → done (rest ++ (EitherTerm u ∷ [])) b j ≡ (top (done acts b j) || fits b j t) ∷ under (done acts b j)
+sum_term acts rest last o t u b j a l e =
+    done_more rest (rest ++ (EitherTerm u ∷ [])) (EitherTerm u) b j refl
+    ∙ ap (λ x. x ∷ under (done rest b j)) (ap (λ x. top (done rest b j) || x) e
+    ∙ grouped (top (done rest b j)) (fits b j o) (fits b j t))
+    ∙ sym (ap (λ s. (top s || fits b j t) ∷ under s) (done_more rest acts (EitherTerm o) b j (a ∙ ap (λ x. rest ++ (x ∷ [])) l)))
+
+-- or one further down does
+pub sum_under : (acts rest less : List Act) (last : Act) (o t u : Term) (b j : ℕ) → acts ≡ rest ++ (last ∷ []) → last ≡ EitherTerm o
+    → u ≡ o → done less b j ≡ (top (done rest b j) || fits b j t) ∷ under (done rest b j)
+    → done (less ++ (EitherTerm u ∷ [])) b j ≡ (top (done acts b j) || fits b j t) ∷ under (done acts b j)
+sum_under acts rest less last o t u b j a l same e =
+    done_more less (less ++ (EitherTerm u ∷ [])) (EitherTerm u) b j refl
+    ∙ ap (λ x. (top (done less b j) || fits b j x) ∷ under (done less b j)) same
+    ∙ ap (λ s. (top s || fits b j o) ∷ under s) e
+    ∙ ap (λ x. x ∷ under (done rest b j)) (swapped (top (done rest b j)) (fits b j t) (fits b j o))
+    ∙ sym (ap (λ s. (top s || fits b j t) ∷ under s) (done_more rest acts (EitherTerm o) b j (a ∙ ap (λ x. rest ++ (x ∷ [])) l)))
+
+pub either_joined : (old rest now new : List Act) (t : Term) (b j : ℕ) → old ≡ rest ++ (Put t ∷ []) → now ≡ rest
+    → done new b j ≡ (top (done now b j) || fits b j t) ∷ under (done now b j)
+    → done new b j ≡ (top (under (done old b j)) || top (done old b j)) ∷ under (under (done old b j))
+either_joined old rest now new t b j o n e = e ∙ ap (λ l. (top (done l b j) || fits b j t) ∷ under (done l b j)) n
+    ∙ sym (ap (λ s. (top (under s) || top s) ∷ under (under s)) (done_more rest old (Put t) b j o))
+
+-- acts that were lent as a slice
+pub given_back : (many : ℕ) (acts behind : List Act) → length acts ≡ many → take many (acts ++ behind) ≡ acts
+given_back many acts behind e = ap (λ n. take n (acts ++ behind)) (sym e) ∙ take-append_seam acts behind
+
 -- one operation more
 pub next_op : (label : List Op) (i : ℕ) (op d : Op) (on : ℕ → Bool) (stack more : List Bool) → i < length label → op ≡ get_or label i d
     → more ≡ perform op on stack → run (drop (i + 1) label) on more ≡ run (drop i label) on stack
@@ -187,9 +253,39 @@ pub next_act : (acts : List Act) (i : ℕ) (a d : Act) (b j : ℕ) (stack more :
 next_act acts i a d b j stack more lt is e = ap (act_all (drop (i + 1) acts) b j) e
     ∙ ap (λ o. act_all (drop (i + 1) acts) b j (act o b j stack)) is ∙ sym (at_drop_more (λ l. act_all l b j stack) acts i d lt)
 
-pub all_done : (acts : List Act) (b j : ℕ) → act_all acts b j [] ≡ done acts b j
+-- the truth so many places below the top
+abbrev below : ℕ → List Bool → Bool
+below zero stack = top stack
+below (suc n) stack = below n (under stack)
+
+same_act : (a : Act) (b j : ℕ) (s t : List Bool) → ((n : ℕ) → below n s ≡ below n t)
+    → (n : ℕ) → below n (act a b j s) ≡ below n (act a b j t)
+same_act (Put u) b j s t h zero = refl
+same_act (Put u) b j s t h (suc n) = h n
+same_act Not b j s t h zero = ap (λ x. cond x false true) (h 0)
+same_act Not b j s t h (suc n) = h (suc n)
+same_act Both b j s t h zero = ap (λ x. x && top s) (h 1) ∙ ap (λ x. top (under t) && x) (h 0)
+same_act Both b j s t h (suc n) = h (suc (suc n))
+same_act Either b j s t h zero = ap (λ x. x || top s) (h 1) ∙ ap (λ x. top (under t) || x) (h 0)
+same_act Either b j s t h (suc n) = h (suc (suc n))
+same_act (BothTerm u) b j s t h zero = ap (λ x. x && fits b j u) (h 0)
+same_act (BothTerm u) b j s t h (suc n) = h (suc n)
+same_act (EitherTerm u) b j s t h zero = ap (λ x. x || fits b j u) (h 0)
+same_act (EitherTerm u) b j s t h (suc n) = h (suc n)
+
+same_acts : (acts : List Act) (b j : ℕ) (s t : List Bool) → ((n : ℕ) → below n s ≡ below n t)
+    → top (act_all acts b j s) ≡ top (act_all acts b j t)
+same_acts [] b j s t h = h 0
+same_acts (a ∷ acts) b j s t h = same_acts acts b j (act a b j s) (act a b j t) (same_act a b j s t h)
+
+-- a stack of one truth that is false does as well as none
+pub from_false : (acts : List Act) (b j : ℕ) (s : List Bool) → s ≡ false ∷ [] → top (act_all acts b j s) ≡ top (done acts b j)
 unfolding done
-all_done acts b j = refl
+from_false acts b j s e = same_acts acts b j s [] (λ n. ap (below n) e ∙ no_more n)
+  where
+    no_more : (n : ℕ) → below n (false ∷ []) ≡ below n []
+    no_more zero = refl
+    no_more (suc n) = refl
 
 pub on_low : (b j a : ℕ) → a < 6 → on_at 0 j a ≡ on_at b j a
 on_low b j a low = ap (λ n. n == 1) (bit_at_cat_low 0 6 j a low ∙ sym (bit_at_cat_low b 6 j a low))

@@ -1,6 +1,7 @@
 //! Which letters a label says yes to: a run of sixteen blocks of sixty-four letters at a time.
 
-ghost use Rattle.std.specs.Prelude.{◌≡◌, ℕ, ◌+◌, ◌*◌, ◌<◌, ◌≤◌, ◌∷◌, Bool, ◌&&◌, ◌||◌, true, false, if◌then◌else◌, get_or, bit_and, IfOk};
+ghost use Rattle.std.specs.Prelude.{◌≡◌, ℕ, ◌+◌, ◌*◌, ◌<◌, ◌≤◌, ◌∷◌, Bool, ◌&&◌, ◌||◌, true, false, if◌then◌else◌};
+ghost use Rattle.std.specs.Prelude.{get_or, bit_and, IfOk, OnOk};
 ghost use Rattle.pg_hoa.specs.Mirrors.Saying.{top, under};
 ghost use Rattle.pg_hoa.specs.Mirrors.Letters.{truth, truth_in, on_at, truths};
 ghost use Rattle.pg_hoa.specs.Mirrors.Acts.{fits, act, Speaks};
@@ -69,31 +70,28 @@ fn term_words(run: u32, term: Term) -> [u64; 16]
     words
 }
 
-fn turned(mut words: [u64; 16]) -> [u64; 16]
-    ensures { (k j : ℕ) → k < 16 → j < 64 → truth_in result k j ≡ (if truth_in words k j then false else true) }
+fn turn(words: &mut [u64; 16])
+    ensures { (k j : ℕ) → k < 16 → j < 64 → truth_in words.new k j ≡ (if truth_in words.old k j then false else true) }
 {
     for k in 0..16 {
         words[k] = !words[k];
     }
-    words
 }
 
-fn both(mut left: [u64; 16], right: [u64; 16]) -> [u64; 16]
-    ensures { (k j : ℕ) → k < 16 → truth_in result k j ≡ (truth_in left k j && truth_in right k j) }
+fn keep_both(words: &mut [u64; 16], others: &[u64; 16])
+    ensures { (k j : ℕ) → k < 16 → truth_in words.new k j ≡ (truth_in words.old k j && truth_in others.now k j) }
 {
     for k in 0..16 {
-        left[k] &= right[k];
+        words[k] &= others[k];
     }
-    left
 }
 
-fn either(mut left: [u64; 16], right: [u64; 16]) -> [u64; 16]
-    ensures { (k j : ℕ) → k < 16 → truth_in result k j ≡ (truth_in left k j || truth_in right k j) }
+fn add(words: &mut [u64; 16], others: &[u64; 16])
+    ensures { (k j : ℕ) → k < 16 → truth_in words.new k j ≡ (truth_in words.old k j || truth_in others.now k j) }
 {
     for k in 0..16 {
-        left[k] |= right[k];
+        words[k] |= others[k];
     }
-    left
 }
 
 /// The top words, or zeros where there are none.
@@ -107,28 +105,29 @@ fn pop(stack: &mut Vec<[u64; 16]>) -> [u64; 16]
     }
 }
 
-/// What the act leaves on top of the stack.
-fn answer(step: Act, run: u32, stack: &mut Vec<[u64; 16]>) -> [u64; 16]
+/// Does the act to the top words and the stack below them.
+fn take_act(
+    step: Act,
+    run: u32,
+    top: &mut [u64; 16],
+    stack: &mut Vec<[u64; 16]>,
+) -> Result<(), AllocError>
     requires { run < 64 }
-    ensures { (k j : ℕ) → k < 16 → j < 64 → truth_in result k j ∷ truths k j stack.new.items
-        ≡ act step (run * 16 + k) j (truths k j stack.old.items) }
+    ensures { OnOk result ((k j : ℕ) → k < 16 → j < 64 → truth_in top.new k j ∷ truths k j stack.new.items
+        ≡ act step (run * 16 + k) j (truth_in top.old k j ∷ truths k j stack.old.items)) }
 {
     match step {
-        Act::Put(term) => term_words(run, term),
-        Act::Not => turned(pop(stack)),
-        Act::Both => {
-            let right = pop(stack);
-            let left = pop(stack);
-            both(left, right)
+        Act::Put(term) => {
+            stack.push(*top)?;
+            *top = term_words(run, term);
         }
-        Act::Either => {
-            let right = pop(stack);
-            let left = pop(stack);
-            either(left, right)
-        }
-        Act::BothTerm(term) => both(pop(stack), term_words(run, term)),
-        Act::EitherTerm(term) => either(pop(stack), term_words(run, term)),
+        Act::Not => turn(top),
+        Act::Both => keep_both(top, &pop(stack)),
+        Act::Either => add(top, &pop(stack)),
+        Act::BothTerm(term) => keep_both(top, &term_words(run, term)),
+        Act::EitherTerm(term) => add(top, &term_words(run, term)),
     }
+    Ok(())
 }
 
 /// The letters of a run at which the acts leave yes. What the stack holds is lost.
@@ -137,9 +136,9 @@ pub fn words_of(acts: &[Act], run: u32, stack: &mut Vec<[u64; 16]>) -> Result<[u
     ensures { IfOk result (Speaks acts.now run) }
 {
     stack.clear();
+    let mut top = [0; 16];
     for step in acts {
-        let words = answer(*step, run, stack);
-        stack.push(words)?;
+        take_act(*step, run, &mut top, stack)?;
     }
-    Ok(pop(stack))
+    Ok(top)
 }

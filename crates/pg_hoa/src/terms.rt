@@ -32,6 +32,9 @@ pub enum Act {
     EitherTerm(Term),
 }
 
+/// So many terms of a sum are looked at for one of the same blocks, besides the last. Literals alone make at most 21 different ones.
+const FURTHER_TERMS: u32 = 31;
+
 /// These letters in each block.
 fn whole(word: u64) -> Term
     ensures { (b j : ℕ) → fits b j result ≡ truth word j }
@@ -99,6 +102,18 @@ fn joined(left: Term, right: Term) -> Option<Term>
     None
 }
 
+/// Adds the letters of the other, if both speak of the same blocks.
+fn add_letters(term: &mut Term, other: Term) -> bool
+    ensures added { result ≡ true → (b j : ℕ) → fits b j term.new ≡ (fits b j term.old || fits b j other) }
+    ensures kept { result ≡ false → term.new ≡ term.old }
+{
+    if term.care != other.care || term.value != other.value {
+        return false;
+    }
+    term.word |= other.word;
+    true
+}
+
 /// Takes the last of the acts, if it puts a term.
 fn take_term(acts: &mut Vec<Act>) -> Option<Term>
     ensures some { IfSome result (λ t. acts.old.items ≡ acts.new.items ++ (Put t ∷ [])) }
@@ -152,13 +167,34 @@ fn put_both(acts: &mut Vec<Act>) -> Result<(), AllocError>
     Ok(())
 }
 
+/// Adds the letters of the term to the last term of the sum that the acts end in, or to one of at most so many further ones before
+/// it, if one speaks of the same blocks.
+fn add_to_sum(acts: &mut [Act], term: Term, further: u32) -> bool
+    ensures added { result ≡ true → (b j : ℕ) → done acts.new b j
+        ≡ (top (done acts.old b j) || fits b j term) ∷ under (done acts.old b j) }
+    ensures kept { result ≡ false → acts.new ≡ acts.old }
+{
+    let Some((last, before)) = acts.split_last_mut() else {
+        return false;
+    };
+    match last {
+        Act::Put(other) => add_letters(other, term),
+        Act::EitherTerm(other) => add_letters(other, term)
+            || further > 0 && add_to_sum(before, term, further - 1),
+        _ => false,
+    }
+}
+
 fn put_either(acts: &mut Vec<Act>) -> Result<(), AllocError>
     ensures { OnOk result ((b j : ℕ) → done acts.new.items b j
         ≡ (top (under (done acts.old.items b j)) || top (done acts.old.items b j)) ∷ under (under (done acts.old.items b j))) }
 {
-    match take_term(acts) {
-        Some(right) => acts.push(Act::EitherTerm(right))?,
-        None => acts.push(Act::Either)?,
+    let Some(right) = take_term(acts) else {
+        acts.push(Act::Either)?;
+        return Ok(());
+    };
+    if !add_to_sum(acts, right, FURTHER_TERMS) {
+        acts.push(Act::EitherTerm(right))?;
     }
     Ok(())
 }

@@ -2,7 +2,7 @@ use Rattle.std.proofs.Common.{◌≡◌, ◌∙◌, ℕ, ◌-◌, cond, true, fa
 use Rattle.std.proofs.lemmas.List.{length-set}
 use Rattle.pg_hoa.specs.Mirrors.Letters.{truth}
 use Rattle.pg_hoa.proofs.TableWords.{one_more_word, other_words, truth_not}
-use Rattle.pg_hoa.proofs.letters.turned.Goals as goal
+use Rattle.pg_hoa.proofs.letters.turn.Goals as goal
 
 pub loop-k-preserved : goal.loop-k-preserved
 loop-k-preserved c =
@@ -11,7 +11,7 @@ loop-k-preserved c =
     record {
       many = length-set c.loop-k.words k (18446744073709551615 - word) ∙ c.loop-k.invariant.many;
       changed = λ i j below small.
-          one_more_word (λ w n. truth w j ≡ cond (truth (get_or c.args.words n 0) j) false true) c.loop-k.words k
+          one_more_word (λ w n. truth w j ≡ cond (truth (get_or c.args.words.now n 0) j) false true) c.loop-k.words k
           (18446744073709551615 - word) (omega (arith, c.loop-k.invariant.many)) (λ n h. c.loop-k.invariant.changed n j h small)
           (truth_not word j (omega arith) small ∙ ap (λ w. cond (truth w j) false true) (c.loop-k.invariant.others k (omega arith))) i below;
       others = λ i h. other_words c.loop-k.words k (18446744073709551615 - word) i h ∙ c.loop-k.invariant.others i (omega arith);

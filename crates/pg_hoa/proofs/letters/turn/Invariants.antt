@@ -1,0 +1,11 @@
+use Rattle.std.proofs.Common.{◌≡◌, ℕ, ◌<◌, ◌≤◌, cond, true, false, length, get_or}
+use Rattle.pg_hoa.specs.Mirrors.Letters.{truth_in}
+use Rattle.pg_hoa.proofs.letters.turn.Given as goal
+
+-- the words so far, and the others as they were
+abbrev pub invariant-loop-k : goal.invariant-loop-k
+invariant-loop-k l = record {
+  many : length l.words ≡ 16;
+  changed : (i j : ℕ) → i < l.k → j < 64 → truth_in l.words i j ≡ cond (truth_in l.initial.words i j) false true;
+  others : (i : ℕ) → l.k ≤ i → get_or l.words i 0 ≡ get_or l.initial.words i 0;
+}
