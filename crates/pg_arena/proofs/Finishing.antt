@@ -157,10 +157,8 @@ sound_entries n ids targets vertices names (e ∷ rows) len up linked orderly =
     All-cons (IsSound n) (vertex_in vertices names e) (vertices_in vertices names rows)
     (record {
       goes_on = omega (arith, line.goes_on);
-      rise =
-          linked_rise ids (slice_range targets (e.from) (e.to)) (slice_range vertices (e.from) (e.to)) up here line.rise;
-      within =
-          subst (λ (m : ℕ). All (λ w. w < m) (slice_range vertices (e.from) (e.to))) len (here.1);
+      rise = linked_rise ids (slice_range targets (e.from) (e.to)) (slice_range vertices (e.from) (e.to)) up here line.rise;
+      within = subst (λ (m : ℕ). All (λ w. w < m) (slice_range vertices (e.from) (e.to))) len (here.1);
     })
     (sound_entries n ids targets vertices names rows len up linked rest)
 

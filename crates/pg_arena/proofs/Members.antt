@@ -23,7 +23,8 @@ above_last xs n last up is lt = has_none n xs (λ k within e.
     omega (arith, get_or_from_slice_get xs (length xs - 1) last 0 (sym is)))
 
 found : (q : ℕ) (xs : List ℕ) (r : Result ℕ ℕ)
-    → MatchResult r (λ i. (i < length xs) × (get_or xs i 0 ≡ q)) (λ i. (i ≤ length xs) × ((k : ℕ) → k < i → get_or xs k 0 < q) × ((k : ℕ) → i ≤ k → k < length xs → q < get_or xs k 0))
+    → MatchResult r (λ i. (i < length xs) × (get_or xs i 0 ≡ q)) (λ i. (i ≤ length xs) × ((k : ℕ) → k < i → get_or xs k 0 < q) ×
+    ((k : ℕ) → i ≤ k → k < length xs → q < get_or xs k 0))
     → is_ok r ≡ has q xs
 found q xs (Ok i) h = sym (has_contained q xs (i, h.0, get_or_default xs i q 0 h.0 ∙ h.1))
 found q xs (Err i) h = sym (has_none q xs (λ k lt e.

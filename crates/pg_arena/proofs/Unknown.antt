@@ -108,8 +108,7 @@ least_by ids targets names (e ∷ rows) i s up orderly h =
               given = contains_here line lines;
               of = p.0;
               leads = subst (Contains ns) (p.1) (f.0);
-              undefined =
-                  subst (λ (k : ℕ). has k ids ≡ false) (p.1) (f.1);
+              undefined = subst (λ (k : ℕ). has k ids ≡ false) (p.1) (f.1);
             };
             least_identifier = λ o a u. elim (unknown_cases ids line lines o a u) [
               | inl here ↦ omega (arith, here.0, p.0)

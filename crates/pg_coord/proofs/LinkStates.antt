@@ -39,7 +39,8 @@ pub all_in_step_above : {L : Type 0} (under : L → MapValue → Type 0) (t : Ta
     → MapAtMost f.measures g.measures → AllInStep under t f states links → AllInStep under t g states links
 all_in_step_above under t f g states links le s = λ k d x lt. in_step_above under t f g (slice_index_or states k x) (slice_index_or links k d) le (s k d x lt)
 
-pub AllInStep-set : {L : Type 0} (under : L → MapValue → Type 0) (t : TaskValue) (map : MapValue) (states : List LinkState) (links : List L) (i : ℕ) (state : LinkState) (link : L)
+pub AllInStep-set : {L : Type 0} (under : L → MapValue → Type 0) (t : TaskValue) (map : MapValue) (states : List LinkState)
+    (links : List L) (i : ℕ) (state : LinkState) (link : L)
     → length states ≡ length links → i < length links → IsInStep under t map state link → AllInStep under t map states links
     → AllInStep under t map (set states i state) (set links i link)
 AllInStep-set {L} under t map states links i state link same within at rest k d e lt =

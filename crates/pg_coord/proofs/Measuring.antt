@@ -67,8 +67,7 @@ frame_spelled map kind w next ms buffer out k d few are size h is spells =
     let width = length map.bounds in
     let each : All (IsMeasured width) ms = λ i d l. record {
       vertex = (let within = h.sent.within i d l in omega arith);
-      list =
-          components_fit map.bounds (get_or ms i d).1 (h.sent.fits i d l) (λ k b lt. (are k b lt).bound);
+      list = components_fit map.bounds (get_or ms i d).1 (h.sent.fits i d l) (λ k b lt. (are k b lt).bound);
     } in
     let same : frame_of w.kind w.width ms ≡ frame_of kind width ms = ap (λ (j : ValueKind). frame_of j w.width ms) k ∙ ap (λ (n : ℕ). frame_of kind n ms) d in
     let well : IsWell (frame_of kind width ms) =

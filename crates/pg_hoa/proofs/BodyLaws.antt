@@ -517,7 +517,8 @@ record ReadLines (states propositions sets : ℕ) (seen : List ℕ) (tokens : Li
   distinct : IsDistinct (numbers lines)
   fresh : Fresh seen lines
 
-one_line : (states propositions sets : ℕ) (seen : List ℕ) (tokens : List Lexeme) (t : Lexeme × List Lexeme) (x : KeptLine × List Lexeme) (y all : List KeptLine × List Lexeme)
+one_line : (states propositions sets : ℕ) (seen : List ℕ) (tokens : List Lexeme) (t : Lexeme × List Lexeme) (x : KeptLine × List Lexeme)
+    (y all : List KeptLine × List Lexeme)
     → tokens ≡ t.0 ∷ t.1 → t.0 ≡ header (codes "State") → ReadLine states propositions sets (is_seen seen) t.1 x
     → ReadLines states propositions sets (x.0.state ∷ seen) x.1 y → (x.0 ∷ y.0, y.1) ≡ all
     → ReadLines states propositions sets seen tokens all

@@ -117,7 +117,8 @@ unfolding edges_within
 edges_unread Memory states propositions sets done tokens all left h = tt
 edges_unread (Wrong fault) states propositions sets done tokens all left h = sym left.same ∙ rw h refl
 
-pub edges_fail : (refusal : Refusal) (states propositions sets : ℕ) (done : List KeptEdge) (tokens rest : List Lexeme) (t : Lexeme) (all : Option (List KeptEdge × List Lexeme))
+pub edges_fail : (refusal : Refusal) (states propositions sets : ℕ) (done : List KeptEdge) (tokens rest : List Lexeme) (t : Lexeme)
+    (all : Option (List KeptEdge × List Lexeme))
     → EdgesLeft states propositions sets done tokens all → due tokens ≡ Some (t, rest) → Fails refusal (begins_edge t) → Fails refusal all
 unfolding edges_within
 edges_fail Memory states propositions sets done tokens rest t all left e h = tt
@@ -129,14 +130,16 @@ pub edges_end : (states propositions sets : ℕ) (done : List KeptEdge) (tokens 
 unfolding edges_within
 edges_end states propositions sets done tokens rest t all left e h = sym left.same ∙ rw (e, h, append-nil done) refl
 
-pub edge_fails : (refusal : Refusal) (states propositions sets : ℕ) (done : List KeptEdge) (tokens rest : List Lexeme) (t : Lexeme) (all : Option (List KeptEdge × List Lexeme))
+pub edge_fails : (refusal : Refusal) (states propositions sets : ℕ) (done : List KeptEdge) (tokens rest : List Lexeme) (t : Lexeme)
+    (all : Option (List KeptEdge × List Lexeme))
     → EdgesLeft states propositions sets done tokens all → due tokens ≡ Some (t, rest) → begins_edge t ≡ Some true
     → Fails refusal (edge_at states propositions sets rest) → Fails refusal all
 unfolding edges_within
 edge_fails Memory states propositions sets done tokens rest t all left e first h = tt
 edge_fails (Wrong fault) states propositions sets done tokens rest t all left e first h = sym left.same ∙ rw (e, first, h) refl
 
-pub edges_more : (states propositions sets : ℕ) (done : List KeptEdge) (tokens rest : List Lexeme) (t : Lexeme) (x : KeptEdge × List Lexeme) (all : Option (List KeptEdge × List Lexeme))
+pub edges_more : (states propositions sets : ℕ) (done : List KeptEdge) (tokens rest : List Lexeme) (t : Lexeme)
+    (x : KeptEdge × List Lexeme) (all : Option (List KeptEdge × List Lexeme))
     → EdgesLeft states propositions sets done tokens all → due tokens ≡ Some (t, rest) → begins_edge t ≡ Some true
     → edge_at states propositions sets rest ≡ Some x → EdgesLeft states propositions sets (done ++ (x.0 ∷ [])) x.1 all
 unfolding edges_within
@@ -167,7 +170,8 @@ pub record KeptLeft (states propositions sets : ℕ) (kept : List KeptEdge) (tok
 pub kept_start : (states propositions sets : ℕ) (tokens : List Lexeme) → KeptLeft states propositions sets [] tokens (edges_at states propositions sets tokens)
 kept_start states propositions sets tokens = record { done = []; same = refl; left = edges_start states propositions sets tokens }
 
-pub kept_more : (states propositions sets : ℕ) (kept more : List KeptEdge) (tokens rest : List Lexeme) (t : Lexeme) (x : KeptEdge × List Lexeme) (all : Option (List KeptEdge × List Lexeme))
+pub kept_more : (states propositions sets : ℕ) (kept more : List KeptEdge) (tokens rest : List Lexeme) (t : Lexeme)
+    (x : KeptEdge × List Lexeme) (all : Option (List KeptEdge × List Lexeme))
     → KeptLeft states propositions sets kept tokens all → due tokens ≡ Some (t, rest) → begins_edge t ≡ Some true
     → edge_at states propositions sets rest ≡ Some x → more ≡ put_edge kept x.0 → KeptLeft states propositions sets more x.1 all
 kept_more states propositions sets kept more tokens rest t x all k e first h is = record {
@@ -224,7 +228,8 @@ unfolding line_at
 same_line states propositions sets seen numbers tokens marks = same (due tokens)
   where
     same : (o : Option (Lexeme × List Lexeme))
-        → (o >>= λ t. new_state states (λ n. get_or seen n false) t.0 >>= behind_state states propositions sets t.1) ≡ (o >>= λ t. new_state states (is_seen numbers) t.0 >>= behind_state states propositions sets t.1)
+        → (o >>= λ t. new_state states (λ n. get_or seen n false) t.0 >>= behind_state states propositions sets t.1) ≡
+        (o >>= λ t. new_state states (is_seen numbers) t.0 >>= behind_state states propositions sets t.1)
     same None = refl
     same (Some t) = ap (λ (v : Option ℕ). v >>= behind_state states propositions sets t.1) (same_state states seen numbers marks t.0)
 
@@ -250,26 +255,30 @@ lines_start states propositions sets tokens = record {
   same = ahead_none (lines_within (suc (length tokens)) states propositions sets [] tokens);
 }
 
-pub lines_unread : (refusal : Refusal) (states propositions sets : ℕ) (seen : List Bool) (done : List KeptLine) (tokens : List Lexeme) (all : Option (List KeptLine × List Lexeme))
+pub lines_unread : (refusal : Refusal) (states propositions sets : ℕ) (seen : List Bool) (done : List KeptLine) (tokens : List Lexeme)
+    (all : Option (List KeptLine × List Lexeme))
     → LinesLeft states propositions sets seen done tokens all → Fails refusal (due tokens) → Fails refusal all
 unfolding lines_within
 lines_unread Memory states propositions sets seen done tokens all left h = tt
 lines_unread (Wrong fault) states propositions sets seen done tokens all left h = sym left.same ∙ rw h refl
 
-pub lines_fail : (refusal : Refusal) (states propositions sets : ℕ) (seen : List Bool) (done : List KeptLine) (tokens rest : List Lexeme) (t : Lexeme) (all : Option (List KeptLine × List Lexeme))
+pub lines_fail : (refusal : Refusal) (states propositions sets : ℕ) (seen : List Bool) (done : List KeptLine) (tokens rest : List Lexeme)
+    (t : Lexeme) (all : Option (List KeptLine × List Lexeme))
     → LinesLeft states propositions sets seen done tokens all → due tokens ≡ Some (t, rest) → Fails refusal (begins_line t)
     → Fails refusal all
 unfolding lines_within
 lines_fail Memory states propositions sets seen done tokens rest t all left e h = tt
 lines_fail (Wrong fault) states propositions sets seen done tokens rest t all left e h = sym left.same ∙ rw (e, h) refl
 
-pub lines_end : (states propositions sets : ℕ) (seen : List Bool) (done : List KeptLine) (tokens rest : List Lexeme) (t : Lexeme) (all : Option (List KeptLine × List Lexeme))
+pub lines_end : (states propositions sets : ℕ) (seen : List Bool) (done : List KeptLine) (tokens rest : List Lexeme) (t : Lexeme)
+    (all : Option (List KeptLine × List Lexeme))
     → LinesLeft states propositions sets seen done tokens all → due tokens ≡ Some (t, rest) → begins_line t ≡ Some false
     → all ≡ Some (done, rest)
 unfolding lines_within
 lines_end states propositions sets seen done tokens rest t all left e h = sym left.same ∙ rw (e, h, append-nil done) refl
 
-pub line_fails : (refusal : Refusal) (states propositions sets : ℕ) (seen : List Bool) (done : List KeptLine) (tokens rest : List Lexeme) (t : Lexeme) (all : Option (List KeptLine × List Lexeme))
+pub line_fails : (refusal : Refusal) (states propositions sets : ℕ) (seen : List Bool) (done : List KeptLine) (tokens rest : List Lexeme)
+    (t : Lexeme) (all : Option (List KeptLine × List Lexeme))
     → LinesLeft states propositions sets seen done tokens all → due tokens ≡ Some (t, rest) → begins_line t ≡ Some true
     → Fails refusal (line_at states propositions sets (λ n. get_or seen n false) rest) → Fails refusal all
 unfolding lines_within
@@ -277,7 +286,8 @@ line_fails Memory states propositions sets seen done tokens rest t all left e fi
 line_fails (Wrong fault) states propositions sets seen done tokens rest t all left e first h =
     grind (arith, nat_tests, same_line states propositions sets seen left.numbers rest left.marks)
 
-pub lines_more : (states propositions sets : ℕ) (seen : List Bool) (done : List KeptLine) (tokens rest : List Lexeme) (t : Lexeme) (x : KeptLine × List Lexeme) (all : Option (List KeptLine × List Lexeme))
+pub lines_more : (states propositions sets : ℕ) (seen : List Bool) (done : List KeptLine) (tokens rest : List Lexeme) (t : Lexeme)
+    (x : KeptLine × List Lexeme) (all : Option (List KeptLine × List Lexeme))
     → LinesLeft states propositions sets seen done tokens all → due tokens ≡ Some (t, rest) → begins_line t ≡ Some true
     → line_at states propositions sets (λ n. get_or seen n false) rest ≡ Some x → x.0.state < states
     → LinesLeft states propositions sets (set seen x.0.state true) (done ++ (x.0 ∷ [])) x.1 all

@@ -65,8 +65,7 @@ adds_names h ns e = record {
   states = unsaid _;
   start = unsaid _;
   names = said h.names (map (map character_code) ns) e;
-  controls =
-      unsaid _;
+  controls = unsaid _;
   acceptance = unsaid _;
 }
 
@@ -147,7 +146,8 @@ option_same (Some x) (Some q) e = cc
 abbrev head_of : Option ℕ → Option ℕ → Option (List (List ℕ)) → Option (List ℕ) → Option (ℕ × List Op) → KeptHead
 head_of states start names controls acceptance = record { states = states; start = start; names = names; controls = controls; acceptance = acceptance }
 
-same_head : (states states2 start start2 : Option ℕ) (names names2 : Option (List (List ℕ))) (controls controls2 : Option (List ℕ)) (acceptance acceptance2 : Option (ℕ × List Op))
+same_head : (states states2 start start2 : Option ℕ) (names names2 : Option (List (List ℕ))) (controls controls2 : Option (List ℕ))
+    (acceptance acceptance2 : Option (ℕ × List Op))
     → states ≡ states2 → start ≡ start2 → names ≡ names2 → controls ≡ controls2 → acceptance ≡ acceptance2
     → head_of states start names controls acceptance ≡ head_of states2 start2 names2 controls2 acceptance2
 same_head states states2 start start2 names names2 controls controls2 acceptance acceptance2 p q r s t = cc

@@ -53,8 +53,7 @@ keep (operand room top outer) = record {
   mode = modes.Operand;
   top = kept_frame room top;
   outer = kept_outer (room + top.nots) outer;
-  ops =
-      outer_ops outer ++ frame_ops top;
+  ops = outer_ops outer ++ frame_ops top;
 }
 keep (opening b room top outer) = record {
   mode = modes.Opening b;
@@ -71,16 +70,14 @@ keep (naming b room top outer) = record {
 keep (closing b s room top outer) = record {
   mode = modes.Closing (limit_op b s);
   top = kept_frame room top;
-  outer =
-      kept_outer (room + top.nots) outer;
+  outer = kept_outer (room + top.nots) outer;
   ops = outer_ops outer ++ frame_ops top;
 }
 keep (operator room sum product outer) =
     record {
       mode = modes.Operator;
       top = record { sum = is_some sum; product = false; nots = 0; room = room };
-      outer =
-          kept_outer room outer;
+      outer = kept_outer room outer;
       ops = outer_ops outer ++ (ops_if sum ++ postfix product);
     }
 
@@ -109,15 +106,20 @@ abbrev Keeps : Kind → State → Lexeme → Option State → Type 0
 Keeps k s t found = turn_at k (keep s) t ≡ (found >>= λ s. Some (keep s))
 
 operand_keeps : (room : ℕ) (top : Frame) (outer : List Frame) (f : Formula) (op : Op) (mode : Mode) → postfix f ≡ op ∷ []
-    → operand_at (record { mode = mode; top = kept_frame room top; outer = kept_outer (room + top.nots) outer; ops = outer_ops outer ++ frame_ops top }) op ≡ Some (keep (completes room top outer f))
+    → operand_at (record {
+      mode = mode;
+      top = kept_frame room top;
+      outer = kept_outer (room + top.nots) outer;
+      ops =
+          outer_ops outer ++ frame_ops top;
+    }) op ≡ Some (keep (completes room top outer f))
 unfolding operand_at
 operand_keeps room top outer f op mode e =
     completed_keeps room top outer f (record {
       mode = mode;
       top = kept_frame room top;
       outer = kept_outer (room + top.nots) outer;
-      ops =
-          (outer_ops outer ++ frame_ops top) ++ (op ∷ []);
+      ops = (outer_ops outer ++ frame_ops top) ++ (op ∷ []);
     }) refl refl (rw e refl)
 
 deeper_none : (top : Frame) → ltb top.nots (0 + top.nots) ≡ false
@@ -131,7 +133,8 @@ abbrev kept_if : Option State → Option Kept
 kept_if found = found >>= λ s. Some (keep s)
 
 bang_keeps : (room : ℕ) (top : Frame) (outer : List Frame)
-    → negated_at (keep (operand room top outer)) ≡ kept_if (deeper room (λ r. operand r (record { sum = top.sum; product = top.product; nots = suc top.nots }) outer))
+    → negated_at (keep (operand room top outer)) ≡ kept_if
+    (deeper room (λ r. operand r (record { sum = top.sum; product = top.product; nots = suc top.nots }) outer))
 unfolding negated_at
 bang_keeps zero top outer = rw (deeper_none top) refl
 bang_keeps (suc room) top outer = grind (arith, nat_tests, deeper_some room top)

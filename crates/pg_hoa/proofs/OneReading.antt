@@ -31,11 +31,11 @@ automaton_of states start propositions controllable sets shape steps =
       controllable = controllable;
       sets = sets;
       shape = shape;
-      steps =
-          steps;
+      steps = steps;
     }
 
-same_parts : (states states2 start start2 : ℕ) (propositions propositions2 : List (List ℕ)) (controllable controllable2 : List Bool) (sets sets2 : ℕ) (shape shape2 : Shape) (steps steps2 : List (List (Option Step)))
+same_parts : (states states2 start start2 : ℕ) (propositions propositions2 : List (List ℕ)) (controllable controllable2 : List Bool)
+    (sets sets2 : ℕ) (shape shape2 : Shape) (steps steps2 : List (List (Option Step)))
     → states ≡ states2 → start ≡ start2 → propositions ≡ propositions2 → controllable ≡ controllable2 → sets ≡ sets2 → shape ≡ shape2
     → steps ≡ steps2
     → automaton_of states start propositions controllable sets shape steps ≡ automaton_of states2 start2 propositions2 controllable2 sets2 shape2 steps2

@@ -67,8 +67,7 @@ named start propositions sets lines low fit =
     record {
       few = omega arith;
       start_below = omega arith;
-      below =
-          All-from_recursion (λ (l : KeptLine). l.state < kept_count start (map line_kept lines)) (map line_kept lines) all;
+      below = All-from_recursion (λ (l : KeptLine). l.state < kept_count start (map line_kept lines)) (map line_kept lines) all;
     }
 
 pub are_counted : (states : Option ℕ) (start propositions sets : ℕ) (lines : List StateLine) → bound states ≤ 65535 → start ≤ 65534

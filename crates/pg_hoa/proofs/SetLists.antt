@@ -40,7 +40,8 @@ put_there (x ∷ xs) n (suc i) up lt is =
 
 module _ (xs : List ℕ) (n : ℕ) (up : IsStrictlyIncreasing xs) where
   found : (r : Result ℕ ℕ) → IsBinarySearchResult (λ y. nat_cmp y n) xs r
-      → MatchResult r (λ i. (i < length xs) × (get_or xs i 0 ≡ n)) (λ i. (i ≤ length xs) × ((k : ℕ) → k < i → get_or xs k 0 < n) × ((k : ℕ) → i ≤ k → k < length xs → n < get_or xs k 0))
+      → MatchResult r (λ i. (i < length xs) × (get_or xs i 0 ≡ n)) (λ i. (i ≤ length xs) × ((k : ℕ) → k < i → get_or xs k 0 < n) ×
+      ((k : ℕ) → i ≤ k → k < length xs → n < get_or xs k 0))
   found r h = searched xs n r h (λ i j le lt. non_decreasing_from_sorted xs (sorted_from_strictly_increasing xs up) i j 0 le lt)
 
   pub put_found : (i : ℕ) → (let r : Result ℕ ℕ = Ok i in IsBinarySearchResult (λ y. nat_cmp y n) xs r) → xs ≡ put n xs

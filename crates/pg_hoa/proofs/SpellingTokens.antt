@@ -208,8 +208,7 @@ quoted (b ∷ c ∷ bytes) n e =
             record {
               content = escaped c ∷ r.content;
               rest = r.rest;
-              parts =
-                  rw (eqb-true b 92 q.0) (ap (λ (l : List ℕ). 92 ∷ c ∷ l) r.parts);
+              parts = rw (eqb-true b 92 q.0) (ap (λ (l : List ℕ). 92 ∷ c ∷ l) r.parts);
               sound = (tt, r.sound);
             }
         | inr q ↦
@@ -219,8 +218,7 @@ quoted (b ∷ c ∷ bytes) n e =
               content = plain b ∷ r.content;
               rest = r.rest;
               parts = ap (λ (l : List ℕ). b ∷ l) r.parts;
-              sound =
-                  ((eqb-false b 34 p.0, eqb-false b 92 q.0), r.sound);
+              sound = ((eqb-false b 34 p.0, eqb-false b 92 q.0), r.sound);
             }
       ]
     ]

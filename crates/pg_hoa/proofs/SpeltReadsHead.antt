@@ -60,8 +60,7 @@ said_settled w a = record {
   states = first_said (flat_map state_counts w.headers);
   start = a.start;
   names = a.propositions;
-  controllable =
-      a.controllable;
+  controllable = a.controllable;
   sets = a.sets;
   shape = a.shape;
 }

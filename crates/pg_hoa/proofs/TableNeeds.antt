@@ -88,7 +88,9 @@ setting_out letter label needs e = record { answers = []; allowed = subst (λ l.
 
 pub one_more : (letter : ℕ) (label : List Op) (i : ℕ) (op d : Op) (needs left pushed : List Need) (n : Need) → i < length label
     → op ≡ get_or label i d
-    → ((answers : List Bool) → AllowsStack letter needs answers → Allows letter n (top (perform op (on_letter letter) answers)) × AllowsStack letter left (under (perform op (on_letter letter) answers)))
+    → ((answers : List Bool) → AllowsStack letter needs answers
+    → Allows letter n (top (perform op (on_letter letter) answers)) × AllowsStack letter left
+    (under (perform op (on_letter letter) answers)))
     → pushed ≡ left ++ (n ∷ []) → IsOnTheWay letter label (drop i label) needs → IsOnTheWay letter label (drop (i + 1) label) pushed
 one_more letter label i op d needs left pushed n lt is step p way = record {
   answers = perform op (on_letter letter) way.answers;

@@ -220,12 +220,14 @@ alone own e true = refl
 alone own e false = refl
 
 pub more_edges : (letters state : ℕ) (own : List ℕ) (edges : List KeptEdge) (e : KeptEdge) (i : ℕ) → 0 < letters
-    → at_line letters (line_of state own edges) i ++ at_letters (state * letters) letters e.label (edge_step own e) i ≡ at_line letters (line_of state own (edges ++ (e ∷ []))) i
+    → at_line letters (line_of state own edges) i ++ at_letters (state * letters) letters e.label (edge_step own e) i ≡ at_line letters
+    (line_of state own (edges ++ (e ∷ []))) i
 more_edges letters state own edges e i h = ap (λ l. at_line letters (line_of state own edges) i ++ l) (letters_at letters state i own e h)
     ∙ by_state (state == i / letters)
   where
     by_state : (b : Bool)
-        → cond b (map (edge_step own) (filter (says_at (i % letters)) edges)) [] ++ when (b && says_at (i % letters) e) (edge_step own e) ≡ cond b (map (edge_step own) (filter (says_at (i % letters)) (edges ++ (e ∷ [])))) []
+        → cond b (map (edge_step own) (filter (says_at (i % letters)) edges)) [] ++ when (b && says_at (i % letters) e)
+        (edge_step own e) ≡ cond b (map (edge_step own) (filter (says_at (i % letters)) (edges ++ (e ∷ [])))) []
     by_state true =
         sym (ap (map (edge_step own)) (filter-append (says_at (i % letters)) edges (e ∷ []))
         ∙ map-append (edge_step own) (filter (says_at (i % letters)) edges) (filter (says_at (i % letters)) (e ∷ []))
@@ -296,8 +298,7 @@ one_block propositions width h e =
       few = lit≤ tt;
       narrow = omega (arith, e, small);
       some = lit< tt;
-      whole =
-          λ block b. let none : block ≡ 0 = omega (arith, b) in ap (λ n. n * width) none ∙ nothing width ∙ ap (λ n. n * 64) (sym none);
+      whole = λ block b. let none : block ≡ 0 = omega (arith, b) in ap (λ n. n * width) none ∙ nothing width ∙ ap (λ n. n * 64) (sym none);
     }
   where
     nothing : (n : ℕ) → 0 * n ≡ 0 * 64
@@ -312,8 +313,7 @@ many_blocks propositions blocks h k e =
       all = ap (λ n. n * 64) e ∙ product;
       few = omega (arith, e, bound);
       narrow = lit≤ tt;
-      some =
-          omega (arith, e, pow_pos (propositions - 6));
+      some = omega (arith, e, pow_pos (propositions - 6));
       whole = λ block b. refl;
     }
   where

@@ -6,7 +6,8 @@ ghost use Rattle.pg_lists.specs.Rising.{put};
 ghost use Rattle.pg_hoa.specs.Mirrors.Steps.{Gives};
 ghost use Rattle.pg_hoa.specs.Mirrors.Scan.{lexeme, lex};
 ghost use Rattle.pg_hoa.specs.Mirrors.Kept.{kept_edge, kept_line, is_never, put_edge};
-ghost use Rattle.pg_hoa.specs.Mirrors.BodyScan.{due, state_of, new_state, set_in, rising_sets_at, sets_if, behind_label, target_at, edge_at, begins_edge, kept_edges_at, behind_name, line_at, begins_line, body_at};
+ghost use Rattle.pg_hoa.specs.Mirrors.BodyScan.{due, state_of, new_state, set_in, rising_sets_at, sets_if, behind_label, target_at};
+ghost use Rattle.pg_hoa.specs.Mirrors.BodyScan.{edge_at, begins_edge, kept_edges_at, behind_name, line_at, begins_line, body_at};
 
 use crate::fault::{LeftOutName, PartFault, Refusal};
 use crate::formula::{Kind, Op, read_formula};

@@ -6,7 +6,10 @@ ghost use Rattle.pg_hoa.specs.Mirrors.Steps.{Gives};
 ghost use Rattle.pg_hoa.specs.Mirrors.Scan.{characters, lex, lexeme};
 ghost use Rattle.pg_hoa.specs.AutomatonText.{character_code};
 ghost use Rattle.pg_hoa.specs.Mirrors.Kept.{KeptHead, kept_head};
-ghost use Rattle.pg_hoa.specs.Mirrors.HeaderScan.{numeral_of, numeral_at, alone_at, note, noted_at, is_value, skipped_from, code_at, is_name_byte, is_name, name_of, quoted_of, quoted_at, names_from, states_at, start_at, names_at, acceptance_at, controls_at, begins_low, other_at, header_at, is_header, is_word, opening_at, version_at, headers_from, headers_at};
+ghost use Rattle.pg_hoa.specs.Mirrors.HeaderScan.{numeral_of, numeral_at, alone_at, note, noted_at, is_value, skipped_from, code_at};
+ghost use Rattle.pg_hoa.specs.Mirrors.HeaderScan.{is_name_byte, is_name, name_of, quoted_of, quoted_at, names_from, states_at, start_at};
+ghost use Rattle.pg_hoa.specs.Mirrors.HeaderScan.{names_at, acceptance_at, controls_at, begins_low, other_at, header_at, is_header};
+ghost use Rattle.pg_hoa.specs.Mirrors.HeaderScan.{is_word, opening_at, version_at, headers_from, headers_at};
 
 use crate::fault::{LeftOutName, PartFault, Refusal};
 use crate::formula::{Kind, Op, read_formula};

@@ -1,11 +1,14 @@
 //! The table of steps by state and letter.
 
-ghost use Rattle.std.specs.Prelude.{◌≡◌, ℕ, true, [], ◌+◌, ◌*◌, ◌^◌, ◌<◌, ◌≤◌, List, ◌++◌, map, length, get_or, max, slice_get, option_map, Some, IfSome, IfOk, OnOk, IfErr};
+ghost use Rattle.std.specs.Prelude.{◌≡◌, ℕ, true, [], ◌+◌, ◌*◌, ◌^◌, ◌<◌, ◌≤◌, List, ◌++◌, map, length, get_or, max, slice_get, option_map};
+ghost use Rattle.std.specs.Prelude.{Some, IfSome, IfOk, OnOk, IfErr};
 ghost use Rattle.std.specs.List.{All, fold};
 ghost use Rattle.pg_hoa.specs.Automata.{deciding, step};
 ghost use Rattle.pg_lists.specs.Rising.{rising};
 ghost use Rattle.pg_hoa.specs.Mirrors.Kept.{kept_line};
-ghost use Rattle.pg_hoa.specs.Mirrors.Tables.{way_step, IsDecided, with_set, same_set, agree, Extends, IsSplit, numbered, next, stage, MayNumber, HasKey, AreHeld, Adds, at_slot, at_word, at_letters, at_line, IsTableOf, IsConflictOf, kept_numbers, kept_count};
+ghost use Rattle.pg_hoa.specs.Mirrors.Tables.{way_step, IsDecided, with_set, same_set, agree, Extends, IsSplit, numbered, next, stage};
+ghost use Rattle.pg_hoa.specs.Mirrors.Tables.{MayNumber, HasKey, AreHeld, Adds, at_slot, at_word, at_letters, at_line, IsTableOf};
+ghost use Rattle.pg_hoa.specs.Mirrors.Tables.{IsConflictOf, kept_numbers, kept_count};
 ghost use Rattle.pg_hoa.specs.Mirrors.Letters.{truth};
 
 use crate::body::ReadState;

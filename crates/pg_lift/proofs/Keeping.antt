@@ -220,7 +220,8 @@ pub same_keeps : (bs : BoundList) (l : Line) (f : List MeasureValue) (but : ℕ 
     → c ≡ b → Keeps bs l f but m q b → Keeps bs l f but m r c
 same_keeps bs l f but m q r b c e d h = rw (e, d) h
 
-touched_at : (bs : BoundList) (lines : ℕ → Option Line) (f : List MeasureValue) (marked marked' : List Bool) (best best' : List ℕ) (x : ℕ) (left left' : ℕ → Type 0) (u v : ℕ)
+touched_at : (bs : BoundList) (lines : ℕ → Option Line) (f : List MeasureValue) (marked marked' : List Bool) (best best' : List ℕ) (x : ℕ)
+    (left left' : ℕ → Type 0) (u v : ℕ)
     → (v ≢ u → left v → left' v) → (v ≡ u) ⊎ (v ≢ u) → IsSome (lines v)
     → KeepsAt bs lines f nothing marked' best' u → AreSameBut u marked marked' best best' → IsKeptBut bs lines f marked best x left
     → KeepsAt bs lines f (just x) marked' best' v × ((left' v → ⊥) → KeepsAt bs lines f nothing marked' best' v)
@@ -237,7 +238,8 @@ touched_at bs lines f marked marked' best best' x left left' u v on (inr ne) s h
     )
 
 -- one predecessor more was looked at
-pub one_touched : (bs : BoundList) (lines : ℕ → Option Line) (f : List MeasureValue) (marked marked' : List Bool) (best best' : List ℕ) (x : ℕ) (left left' : ℕ → Type 0) (u : ℕ)
+pub one_touched : (bs : BoundList) (lines : ℕ → Option Line) (f : List MeasureValue) (marked marked' : List Bool) (best best' : List ℕ)
+    (x : ℕ) (left left' : ℕ → Type 0) (u : ℕ)
     → ((v : ℕ) → v ≢ u → left v → left' v)
     → KeepsAt bs lines f nothing marked' best' u → AreSameBut u marked marked' best best' → IsKeptBut bs lines f marked best x left
     → IsKeptBut bs lines f marked' best' x left'

@@ -281,13 +281,10 @@ put_top bs rows places f v e h t =
     let w = top_written bs rows.measures places v t.shared in
     let table_is : IsTable bs rows (set places v 1) = record {
       width_is = t.width_is;
-      shared =
-          written_places bs rows.measures rows.measures places v 1 None l t.shared t.shared.fits w;
-      left =
-          left_top rows.measures places v rows.room l t.left (cases_eq (get_or places v 0) 0);
+      shared = written_places bs rows.measures rows.measures places v 1 None l t.shared t.shared.fits w;
+      left = left_top rows.measures places v rows.room l t.left (cases_eq (get_or places v 0) 0);
       sized = rw length-set t.sized;
-      numbered =
-          t.numbered;
+      numbered = t.numbered;
     } in
     put_is bs rows.measures rows places (set places v 1) f v None e h table_is (written_view bs rows.measures rows.measures places v 1 None l t.shared w)
 
@@ -378,11 +375,9 @@ put_own bs rows more after places f v p r m d h t o ew er g e b =
     let fits : All (Fits bs) after.measures = rw e (All-set (Fits bs) more.measures p m g o.fits) in
     let table_is : IsTable bs after (set places v r) = record {
       width_is = ew ∙ t.width_is;
-      shared =
-          written_places bs rows.measures after.measures places v r m i t.shared fits w;
+      shared = written_places bs rows.measures after.measures places v r m i t.shared fits w;
       left = omega arith;
-      sized =
-          rw (length-set, er) t.sized;
+      sized = rw (length-set, er) t.sized;
       numbered = omega arith;
     } in
     put_is bs rows.measures after places (set places v r) f v m d h table_is (written_view bs rows.measures after.measures places v r m i t.shared w)

@@ -49,7 +49,8 @@ measure_cmp_tells (Some xs) (Some ys) = cmp_tells xs ys (slice_cmp nat_cmp xs ys
 -- and on the components of priorities at least p of two measures
 pub order_tells : (bs : BoundList) (p w : ℕ) (m n : MeasureValue) (xs ys us vs : List ℕ) (r : Ordering) → Some xs ≡ m → Some ys ≡ n
     → w ≡ width_from bs p → us ≡ take w xs → vs ≡ take w ys → r ≡ slice_cmp nat_cmp us vs
-    → MatchOrdering r (IsBelow (measure_from bs p m) (measure_from bs p n)) (measure_from bs p m ≡ measure_from bs p n) (IsBelow (measure_from bs p n) (measure_from bs p m))
+    → MatchOrdering r (IsBelow (measure_from bs p m) (measure_from bs p n)) (measure_from bs p m ≡ measure_from bs p n)
+    (IsBelow (measure_from bs p n) (measure_from bs p m))
 order_tells bs p w m n xs ys us vs r a b e f g h = rw (← a, ← b, ← e, ← f, ← g) (cmp_tells us vs r h)
 
 -- and whether they are equal

@@ -67,7 +67,8 @@ pub goes_on : {A E : Type 0} (step : List ℕ → Read (Step A E × List ℕ)) �
 goes_on step shrinks front bytes x rest total e so_far =
     sym (regroup front x (items_at step rest)) ∙ ap (with_front front) (sym (items_more step shrinks bytes x rest e)) ∙ so_far
 
-pub ends : {A E : Type 0} (step : List ℕ → Read (Step A E × List ℕ)) (front : List A) (bytes : List ℕ) (x : E) (rest : List ℕ) (total : Read (List A × E × List ℕ))
+pub ends : {A E : Type 0} (step : List ℕ → Read (Step A E × List ℕ)) (front : List A) (bytes : List ℕ) (x : E) (rest : List ℕ)
+    (total : Read (List A × E × List ℕ))
     → step bytes ≡ Ok (stop x, rest)
     → with_front front (items_at step bytes) ≡ total → total ≡ Ok (front, x, rest)
 ends step front bytes x rest total e so_far =

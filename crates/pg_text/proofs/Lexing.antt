@@ -42,8 +42,7 @@ number_fronts b bytes x holds e =
           (record {
             text = take_while is_digit all;
             parts = run_parts is_digit all;
-            spelt =
-                (starts is_digit b bytes holds, run_each is_digit all, run_stops is_digit all, refl, ltb-true _ _ w.0);
+            spelt = (starts is_digit b bytes holds, run_each is_digit all, run_stops is_digit all, refl, ltb-true _ _ w.0);
           })
       | inr w ↦ absurd (none_is_some x w.1)
     ]
@@ -56,8 +55,7 @@ word_fronts b bytes x holds e =
     (record {
       text = take_while is_letter all;
       parts = run_parts is_letter all;
-      spelt =
-          (starts is_letter b bytes holds, run_each is_letter all, run_stops is_letter all, refl);
+      spelt = (starts is_letter b bytes holds, run_each is_letter all, run_stops is_letter all, refl);
     })
 
 unplain : (b : ℕ) → is_plain b ≡ false → b ≡ 34
@@ -85,8 +83,7 @@ quoted_fronts bytes x e =
             parts =
                 ap (λ (t : List ℕ). 34 ∷ t) (whole
                 ∙ sym (append_assoc (take_while is_plain bytes) (34 ∷ []) (drop (prefix_len is_plain bytes + 1) bytes)));
-            spelt =
-                (run_each is_plain bytes, refl);
+            spelt = (run_each is_plain bytes, refl);
           })
       | inr w ↦ absurd (none_is_some x w.1)
     ]

@@ -86,8 +86,7 @@ front_starts game here n (inl u) = u.0
 front_starts game here n (inr m) = record {
   token = number (player_number m.winner);
   rest = m.stands.2.0;
-  stands =
-      (m.stands.0, m.stands.1, (m.stands.2.0, m.stands.2.1, refl));
+  stands = (m.stands.0, m.stands.1, (m.stands.2.0, m.stands.2.1, refl));
 }
 
 -- ---- a whole line begins so too

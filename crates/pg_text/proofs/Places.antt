@@ -41,7 +41,8 @@ line_leads : (line : Line) → line.successors ≢ [] → after_all (line_lexeme
 line_leads line h = go line.owner
   where
     go : (player : Player)
-        → after_all (number line.identifier ∷ number line.priority ∷ number (player_number player) ∷ (numbers_lexemes line.successors ++ (name_lexemes line.name ++ semicolon ∷ []))) behind_line ≡ Some behind_line
+        → after_all (number line.identifier ∷ number line.priority ∷ number (player_number player) ∷
+        (numbers_lexemes line.successors ++ (name_lexemes line.name ++ semicolon ∷ []))) behind_line ≡ Some behind_line
     go Even = behind_all (numbers_lexemes line.successors) (name_lexemes line.name ++ semicolon ∷ []) behind_owner behind_successor
         (numbers_lead line.successors h) ∙ ending_leads line.name
     go Odd = behind_all (numbers_lexemes line.successors) (name_lexemes line.name ++ semicolon ∷ []) behind_owner behind_successor
@@ -54,7 +55,8 @@ lines_lead (line ∷ lines) each = behind_all (line_lexemes line) (flat_map line
 
 -- the first line stands where a header or a start may stand too
 parts_lead : (header start : Option ℕ) (lines : List Line) → HaveSuccessors lines
-    → after_all (clause_lexemes (codes "parity") header ++ (clause_lexemes (codes "start") start ++ flat_map line_lexemes lines)) at_front ≡ Some (part_place header start lines)
+    → after_all (clause_lexemes (codes "parity") header ++
+    (clause_lexemes (codes "start") start ++ flat_map line_lexemes lines)) at_front ≡ Some (part_place header start lines)
 parts_lead None None [] each = refl
 parts_lead (Some n) None [] each = refl
 parts_lead None (Some m) [] each = refl
@@ -113,7 +115,8 @@ answer_leads : (line : SolutionLine) → after_all (answer_lexemes line) behind_
 answer_leads line = go line.winner
   where
     go : (player : Player)
-        → after_all (number line.identifier ∷ number (player_number player) ∷ (strategy_lexemes line.strategy ++ semicolon ∷ [])) behind_answer ≡ Some behind_answer
+        → after_all (number line.identifier ∷ number (player_number player) ∷
+        (strategy_lexemes line.strategy ++ semicolon ∷ [])) behind_answer ≡ Some behind_answer
     go Even = strategy_leads line.strategy
     go Odd = strategy_leads line.strategy
 

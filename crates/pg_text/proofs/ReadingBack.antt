@@ -164,8 +164,7 @@ text_spelt game well printable =
       text = codes "parity";
       parts = refl;
       blank = tt;
-      spelt =
-          (λ e. cc, (refl, (refl, (refl, (refl, (refl, (refl, tt)))))), refl, refl);
+      spelt = (λ e. cc, (refl, (refl, (refl, (refl, (refl, (refl, tt)))))), refl, refl);
     } in
     let n : Begins behind_word (number greatest) (59 ∷ 10 ∷ body) = number_begins (32 ∷ []) greatest (59 ∷ 10 ∷ body) (refl, tt) last refl in
     let mark : Begins (59 ∷ 10 ∷ body) semicolon (10 ∷ body) = record { gap = []; text = 59 ∷ []; parts = refl; blank = tt; spelt = refl } in

@@ -117,8 +117,7 @@ text_spelt game solution well small whole =
       text = codes "paritysol";
       parts = refl;
       blank = tt;
-      spelt =
-          (λ e. cc, (refl, (refl, (refl, (refl, (refl, (refl, (refl, (refl, (refl, tt))))))))), refl, refl);
+      spelt = (λ e. cc, (refl, (refl, (refl, (refl, (refl, (refl, (refl, (refl, (refl, tt))))))))), refl, refl);
     } in
     let n : Begins behind_word (number greatest) (59 ∷ 10 ∷ body) = number_begins (32 ∷ []) greatest (59 ∷ 10 ∷ body) (refl, tt) last refl in
     let mark : Begins (59 ∷ 10 ∷ body) semicolon (10 ∷ body) = record { gap = []; text = 59 ∷ []; parts = refl; blank = tt; spelt = refl } in
@@ -126,10 +125,8 @@ text_spelt game solution well small whole =
     let read = lines_spelt lines (each_line IsPrintable (printed_line game solution) (length game) (printable_at game solution well small whole)) in
     record {
       rest = 10 ∷ [];
-      begins =
-          record { header = Some greatest; spelt = (behind_word, header, (59 ∷ 10 ∷ body, n, (10 ∷ body, mark, read))) };
-      ends =
-          ([], closed, refl);
+      begins = record { header = Some greatest; spelt = (behind_word, header, (59 ∷ 10 ∷ body, n, (10 ∷ body, mark, read))) };
+      ends = ([], closed, refl);
     }
 
 -- ---- each vertex has one line

@@ -90,7 +90,9 @@ player_small Even = omega arith
 player_small Odd = omega arith
 
 line_regroup : (line : Line) (rest : List ℕ)
-    → line_text line ++ rest ≡ decimal line.identifier ++ (32 ∷ (decimal line.priority ++ (32 ∷ (decimal (player_number line.owner) ++ (32 ∷ (numbers_text line.successors ++ (name_text line.name ++ (59 ∷ 10 ∷ rest))))))))
+    → line_text line ++ rest ≡ decimal line.identifier ++
+    (32 ∷ (decimal line.priority ++
+    (32 ∷ (decimal (player_number line.owner) ++ (32 ∷ (numbers_text line.successors ++ (name_text line.name ++ (59 ∷ 10 ∷ rest))))))))
 line_regroup line rest = simp append_assoc
 
 line_spelt : (gap : List ℕ) (line : Line) (rest : List ℕ) → Each is_space gap → IsPrintableLine line

@@ -39,7 +39,8 @@ start_again (Some n) lines bytes s =
     (parts.0, Some n, clause_there (codes "start") n bytes (parts.0) (parts.1), parts.2)
 
 header_again : (header start : Option ℕ) (lines : List Line) (bytes : List ℕ) → Spells bytes (game_lexemes header start lines (end ∷ [])) []
-    → (mid : List ℕ) × (read : Option ℕ) × (clause_at (codes "parity") bytes ≡ Ok (read, mid)) × Spells mid (clause_lexemes (codes "start") start ++ (flat_map line_lexemes lines ++ end ∷ [])) []
+    → (mid : List ℕ) × (read : Option ℕ) × (clause_at (codes "parity") bytes ≡ Ok (read, mid)) × Spells mid
+    (clause_lexemes (codes "start") start ++ (flat_map line_lexemes lines ++ end ∷ [])) []
 header_again None start lines bytes s = let head = start_head start lines bytes [] s in
     (bytes, None, clause_absent (codes "parity") bytes (head.token) (head.mid) (head.other) (head.begins), s)
 header_again (Some n) start lines bytes s =
@@ -51,7 +52,8 @@ header_again (Some n) start lines bytes s =
 
 -- what stands in front of the lines
 pub body_takes : (bytes body : List ℕ) → body_at bytes ≡ Ok body
-    → (header : Option ℕ) × (start : Option ℕ) × ((tokens : List Lexeme) (rest : List ℕ) → Spells body tokens rest → Spells bytes (clause_lexemes (codes "parity") header ++ (clause_lexemes (codes "start") start ++ tokens)) rest)
+    → (header : Option ℕ) × (start : Option ℕ) × ((tokens : List Lexeme) (rest : List ℕ) → Spells body tokens rest → Spells bytes
+    (clause_lexemes (codes "parity") header ++ (clause_lexemes (codes "start") start ++ tokens)) rest)
 unfolding body_at
 body_takes bytes body e =
     let h = bind_ok (clause_at (codes "parity") bytes) (λ header. clause_at (codes "start") header.1 >>= λ start. ok start.1) body e in
@@ -81,8 +83,7 @@ lines_take bytes lines e =
       header = front.0;
       start = front.1;
       spelt = front.2 (flat_map line_lexemes b.0.0 ++ end ∷ []) [] behind;
-      successors =
-          t.3;
+      successors = t.3;
     })
 
 pub lines_again : (bytes : List ℕ) (lines : List Line) → IsText bytes lines → lines_at bytes ≡ Ok lines

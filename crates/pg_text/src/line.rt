@@ -4,7 +4,8 @@ ghost use Rattle.std.specs.Prelude.{◌≡◌, option_copied};
 ghost use Rattle.pg_arena.specs.Lines.{counted};
 ghost use Rattle.pg_lists.specs.Rising.{rising};
 ghost use Rattle.pg_text.specs.Mirrors.Steps.{Reads, Gives};
-ghost use Rattle.pg_text.specs.Mirrors.GameScan.{line_seen, item_seen, owner_at, ending_at, successors_at, counted_line_at, counted_step, counted_item_at, body_at};
+ghost use Rattle.pg_text.specs.Mirrors.GameScan.{line_seen, item_seen, owner_at, ending_at, successors_at, counted_line_at, counted_step};
+ghost use Rattle.pg_text.specs.Mirrors.GameScan.{counted_item_at, body_at};
 
 use crate::reading::{Refusal, clause, further, natural, semicolon, string, unexpected};
 use crate::tokens::{TokenFault, after_byte, after_space};

@@ -254,8 +254,7 @@ setup_form =
     (λ p h. record {
       version = (h.0.from, omega (arith, h.0.below));
       vertices = (h.1.0.from, omega (arith, h.1.0.below));
-      bounds =
-          record { countable = h.1.1.0.below; bounds = h.1.1.1.items; falling = h.1.1.1.order };
+      bounds = record { countable = h.1.1.0.below; bounds = h.1.1.1.items; falling = h.1.1.1.order };
     })
     (λ s h. (
       record { from = h.version.0; below = omega (arith, h.version.1) },
@@ -265,8 +264,7 @@ setup_form =
           record { from = omega arith; below = h.bounds.countable },
           record {
             stand = below_limit s.bounds h.bounds.bounds;
-            items =
-                h.bounds.bounds;
+            items = h.bounds.bounds;
             order = h.bounds.falling;
           },
         ),
@@ -316,8 +314,7 @@ values_form =
         record { from = omega arith; below = h.countable },
         record {
           stand = all_from_zero (λ (x : Value). x.vertex) v.values;
-          items =
-              h.values;
+          items = h.values;
           order = h.rising;
         },
       ),

@@ -79,7 +79,8 @@ added kind width start count more before ms buffer buffer' m room size h r s le 
 
 -- the front of a frame, and its fields
 front_spells : (kind : ValueKind) (width : ℕ) (ms : List Measured)
-    → (word (length (body (frame_of kind width ms))) ++ (kind_number kind ∷ (word width ++ word (length ms)))) ++ fields kind ms ≡ spelling (frame_of kind width ms)
+    → (word (length (body (frame_of kind width ms))) ++ (kind_number kind ∷ (word width ++ word (length ms)))) ++ fields kind ms ≡ spelling
+    (frame_of kind width ms)
 front_spells Dense width ms = rw (flat_map-map value dense_value ms, length-map ms dense_value) refl
 front_spells Sparse width ms = rw (flat_map-map sparse_value sparse_form ms, length-map ms sparse_form) refl
 

@@ -200,7 +200,8 @@ pub record IsKind {A : Type 0} (spelled : A → List ℕ) (Stands : ℕ → A �
   pub steps : Steps Stands Precedes next
   pub low : (x : A) → IsItem x → next x ≤ limit
 
-items_take : {A : Type 0} (spelled : A → List ℕ) (Stands : ℕ → A → Type 0) (IsItem : A → Type 0) (Precedes : A → A → Type 0) (next : A → ℕ) (item : ℕ → Reader A) (limit : ℕ)
+items_take : {A : Type 0} (spelled : A → List ℕ) (Stands : ℕ → A → Type 0) (IsItem : A → Type 0) (Precedes : A → A → Type 0) (next : A → ℕ)
+    (item : ℕ → Reader A) (limit : ℕ)
     → IsKind spelled Stands IsItem Precedes next item limit
     → (n at : ℕ) → at ≤ limit → (bytes : List ℕ) (x : List A × List ℕ) → IsBytes bytes → items_at item next n at bytes ≡ Ok x
     → Takes bytes (flat_map spelled x.0) x.1 × (length x.0 ≡ n) × Follow Stands IsItem next at x.0
@@ -219,7 +220,8 @@ items_take {A} spelled Stands IsItem Precedes next item limit kind (suc n) at le
     let P : List A × List ℕ → Type 0 = λ y. Takes bytes (flat_map spelled y.0) y.1 × (length y.0 ≡ suc n) × Follow Stands IsItem next at y.0 in
     subst P (ok_is made_is x q.2) (rw flat_map-cons text, ap suc u.1, (t.1, u.2))
 
-items_again : {A : Type 0} (spelled : A → List ℕ) (Stands : ℕ → A → Type 0) (IsItem : A → Type 0) (Precedes : A → A → Type 0) (next : A → ℕ) (item : ℕ → Reader A) (limit : ℕ)
+items_again : {A : Type 0} (spelled : A → List ℕ) (Stands : ℕ → A → Type 0) (IsItem : A → Type 0) (Precedes : A → A → Type 0)
+    (next : A → ℕ) (item : ℕ → Reader A) (limit : ℕ)
     → IsKind spelled Stands IsItem Precedes next item limit
     → (at : ℕ) → at ≤ limit → (xs : List A) (rest : List ℕ) → Follow Stands IsItem next at xs
     → items_at item next (length xs) at (flat_map spelled xs ++ rest) ≡ Ok (xs, rest)
@@ -233,7 +235,8 @@ items_again {A} spelled Stands IsItem Precedes next item limit kind at le (x ∷
       items_again spelled Stands IsItem Precedes next item limit kind (next x) (kind.low x h.0.1) xs rest h.1,
     ) refl
 
-pub items_form : {A : Type 0} (spelled : A → List ℕ) (Stands : ℕ → A → Type 0) (IsItem : A → Type 0) (Precedes : A → A → Type 0) (next : A → ℕ) (item : ℕ → Reader A) (limit : ℕ)
+pub items_form : {A : Type 0} (spelled : A → List ℕ) (Stands : ℕ → A → Type 0) (IsItem : A → Type 0) (Precedes : A → A → Type 0)
+    (next : A → ℕ) (item : ℕ → Reader A) (limit : ℕ)
     → IsKind spelled Stands IsItem Precedes next item limit
     → (n at : ℕ) → at ≤ limit → IsForm (flat_map spelled) (λ xs. (length xs ≡ n) × AreOrdered (Stands at) IsItem Precedes xs) (items_at item next n at)
 items_form spelled Stands IsItem Precedes next item limit kind n at le = record {
@@ -246,7 +249,8 @@ items_form spelled Stands IsItem Precedes next item limit kind n at le = record 
       (follow Stands IsItem Precedes next kind.steps at xs h.1);
 }
 
-pub counted_form : {A : Type 0} (spelled : A → List ℕ) (Stands : ℕ → A → Type 0) (IsItem : A → Type 0) (Precedes : A → A → Type 0) (next : A → ℕ) (item : ℕ → Reader A) (limit : ℕ)
+pub counted_form : {A : Type 0} (spelled : A → List ℕ) (Stands : ℕ → A → Type 0) (IsItem : A → Type 0) (Precedes : A → A → Type 0)
+    (next : A → ℕ) (item : ℕ → Reader A) (limit : ℕ)
     → IsKind spelled Stands IsItem Precedes next item limit
     → (least high at : ℕ) → high ≤ 2 ^ 32 → at ≤ limit
     → IsForm (counted spelled) (λ xs. Within least high (length xs) × AreOrdered (Stands at) IsItem Precedes xs)

@@ -26,8 +26,7 @@ pub ordered : {A : Type 0} (Stands : ℕ → A → Type 0) (IsItem : A → Type 
     → (at : ℕ) (xs : List A) → Follow Stands IsItem next at xs → AreOrdered (Stands at) IsItem Precedes xs
 ordered Stands IsItem Precedes next steps at [] h = record {
   stand = λ i d lt. absurd (omega arith);
-  items =
-      λ i d lt. absurd (omega arith);
+  items = λ i d lt. absurd (omega arith);
   order = λ i j d lt within. absurd (omega arith);
 }
 ordered Stands IsItem Precedes next steps at (x ∷ xs) h =

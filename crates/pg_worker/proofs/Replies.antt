@@ -119,8 +119,7 @@ one_group Q kind width ms narrow within told rising holds =
     one_frame (Tells Q) (frame_of kind width ms)
     (record {
       well = well_of kind width ms (record { within = narrow; countable = word; each = told; rising = rising });
-      within =
-          within;
+      within = within;
       spelled = refl;
     })
     (rw (frame_tells kind width ms told) holds)

@@ -144,7 +144,8 @@ pub refuses_bytes : (highest : ℕ) (h : HeldValue) (bytes : List ℕ) (r : Valu
 refuses_bytes highest h bytes r why o t = inr (frame_of r.kind r.width o.0, o.1, refuses_measures r.kind highest h r.width o.0 why o.2.measures t)
 
 -- what is said of bytes is said of the frame that they spell, and back
-pub frame_turn : (f : Frame) (highest : ℕ) (before : Option HeldValue) (bytes : List ℕ) (after : Option HeldValue) (out out' : List ℕ) (r : Result Bool WorkerFault)
+pub frame_turn : (f : Frame) (highest : ℕ) (before : Option HeldValue) (bytes : List ℕ) (after : Option HeldValue) (out out' : List ℕ)
+    (r : Result Bool WorkerFault)
     → Spells f bytes
     → IfOk r (λ halts. (reply : List ℕ) × DoesTurn highest before bytes after halts reply × (out' ≡ out ++ reply))
     → OnOk r ((reply : List ℕ) × Turn before f after reply × (out' ≡ out ++ reply))
@@ -159,7 +160,8 @@ frame_refused f highest before bytes (Err e) s (inl memory) = inl memory
 frame_refused f highest before bytes (Err e) s (inr (inl none)) = absurd (none.none f s)
 frame_refused f highest before bytes (Err e) s (inr (inr k)) = inr (subst (λ (g : Frame). Refuses highest before g e) (one_frame k.0 f bytes k.1 s) k.2)
 
-pub bytes_turn : (f : Frame) (highest : ℕ) (before : Option HeldValue) (bytes : List ℕ) (after : Option HeldValue) (out out' : List ℕ) (r : Result Bool WorkerFault)
+pub bytes_turn : (f : Frame) (highest : ℕ) (before : Option HeldValue) (bytes : List ℕ) (after : Option HeldValue) (out out' : List ℕ)
+    (r : Result Bool WorkerFault)
     → Spells f bytes → OnOk r (IsUpTo highest f)
     → IfOk r (λ halts. IsTrue halts ↔ (f ≡ frames.Halt)) → OnOk r ((reply : List ℕ) × Turn before f after reply × (out' ≡ out ++ reply))
     → IfOk r (λ halts. (reply : List ℕ) × DoesTurn highest before bytes after halts reply × (out' ≡ out ++ reply))

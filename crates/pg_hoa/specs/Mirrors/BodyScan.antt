@@ -112,7 +112,8 @@ behind_name tokens = due tokens >>= name_first tokens
 -- behind `State:`
 unfoldable pub line_at : ℕ → ℕ → ℕ → (ℕ → Bool) → List Lexeme → Option (KeptLine × List Lexeme)
 line_at states propositions sets seen tokens =
-    due tokens >>= λ t. new_state states seen t.0 >>= λ n. behind_name t.1 >>= λ rest. sets_if sets rest >>= λ x. kept_edges_at states propositions sets x.1 >>= λ y.
+    due tokens >>= λ t. new_state states seen t.0 >>= λ n. behind_name t.1 >>= λ rest. sets_if sets rest >>= λ x.
+    kept_edges_at states propositions sets x.1 >>= λ y.
     Some (record { state = n; sets = x.0; edges = y.0 }, y.1)
 
 -- whether a line begins; else the body ends
@@ -129,8 +130,8 @@ lines_within zero states propositions sets seen tokens = None
 lines_within (suc n) states propositions sets seen tokens =
     due tokens >>= λ t. begins_line t.0 >>= λ more.
     if more
-    then (line_at states propositions sets (is_seen seen) t.1 >>= λ x. lines_within n states propositions sets
-    (x.0.state ∷ seen) x.1 >>= λ y. Some (x.0 ∷ y.0, y.1))
+    then (line_at states propositions sets (is_seen seen) t.1 >>= λ x.
+    lines_within n states propositions sets (x.0.state ∷ seen) x.1 >>= λ y. Some (x.0 ∷ y.0, y.1))
     else Some ([], t.1)
 
 -- behind `--BODY--`, up to and with `--END--`

@@ -78,8 +78,7 @@ negated_at r =
         sum = r.top.sum;
         product = r.top.product;
         nots = r.top.nots + 1;
-        room =
-            r.top.room;
+        room = r.top.room;
       };
       outer = r.outer;
       ops = r.ops;
@@ -105,8 +104,7 @@ sum_at r = Some (record {
   mode = Operand;
   top = record { sum = true; product = false; nots = 0; room = r.top.room };
   outer = r.outer;
-  ops =
-      r.ops ++ either_ops r.top.sum;
+  ops = r.ops ++ either_ops r.top.sum;
 })
 
 unfoldable pub closed_at : Kept → Option Kept

@@ -88,8 +88,7 @@ from_parts-requires c =
       controllable = refl;
       sets = refl;
       shape = refl;
-      steps =
-          λ q l. sym (next_viewed t q l);
+      steps = λ q l. sym (next_viewed t q l);
       all = refl;
     })
 
@@ -109,7 +108,6 @@ returns-clause-found c =
       controllable = refl;
       sets = refl;
       shape = refl;
-      steps =
-          λ q l. sym (next_viewed t q l);
+      steps = λ q l. sym (next_viewed t q l);
       all = refl;
     }))

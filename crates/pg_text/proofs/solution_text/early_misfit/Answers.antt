@@ -49,8 +49,7 @@ returns-then-seen-v-clause-misfit c = (
     v = c.in-Some.v;
     within = c.in-Some.ensures.found.0;
     named = sym c.in-Some.ensures.found.1;
-    marked =
-        ap (is_seen c.args.seen.now) (sym c.v.view_is) ∙ c.if-seen-v.true;
+    marked = ap (is_seen c.args.seen.now) (sym c.v.view_is) ∙ c.if-seen-v.true;
   },
 )
 

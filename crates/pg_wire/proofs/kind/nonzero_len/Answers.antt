@@ -18,8 +18,7 @@ loop-n-preserved c =
         few = omega arith;
       }
       | else-is_told w ↦ record {
-        count =
-            omega (arith, ap length (nonzero_zero xs i c.loop-n-test.true (w.if-is_told.ensures.untold refl)));
+        count = omega (arith, ap length (nonzero_zero xs i c.loop-n-test.true (w.if-is_told.ensures.untold refl)));
         few = omega arith;
       }
     ]

@@ -29,7 +29,8 @@ room c = of_line c (λ (y : VertexLine). HasRoom c.args.notes.now.span y.vertex)
 
 -- the edges that are to come are this line's and those of the others
 edges_left : (c : After-as_slice)
-    → sum_by edge_count (drop c.loop-line.line-index c.args.lines.now) ≡ length c.as_slice.result.now + sum_by edge_count (drop (c.loop-line.line-index + 1) c.args.lines.now)
+    → sum_by edge_count (drop c.loop-line.line-index c.args.lines.now) ≡ length c.as_slice.result.now + sum_by edge_count
+    (drop (c.loop-line.line-index + 1) c.args.lines.now)
 edges_left c =
     let sum = sum_by-drop_more edge_count c.args.lines.now c.loop-line.line-index c.line-item.result c.loop-line-test.true in
     let count = ap edge_count c.line-item.is in

@@ -47,8 +47,7 @@ from_parts-requires c =
     let at = goal.at.from_parts-requires c in
     rw (back at.Then-link) (record {
       as_many = c.in_ok-rows.ensures.as_many;
-      built =
-          built c.link.new.targets (some_rows at.In_ok-rows) (ready at.In_ok-rows) (linked at.Then-link);
+      built = built c.link.new.targets (some_rows at.In_ok-rows) (ready at.In_ok-rows) (linked at.Then-link);
     })
 
 pub returns-then-link-clause-game : goal.returns-then-link-clause-game

@@ -6,7 +6,8 @@ use Rattle.pg_lift.proofs.notes.Notes.pop.Goals.{In_ok-v, After-self-1}
 
 -- the one that is taken was the last of this generation
 last : (c : In_ok-v)
-    → AreNoted c.self.inside.vertices c.self.inside.first c.self.inside.notes.items (c.take_last.new.stack.items ++ c.in_ok-v.v ∷ []) c.take_last.new.next.items c.take_last.new.stack.cap c.take_last.new.next.cap
+    → AreNoted c.self.inside.vertices c.self.inside.first c.self.inside.notes.items
+    (c.take_last.new.stack.items ++ c.in_ok-v.v ∷ []) c.take_last.new.next.items c.take_last.new.stack.cap c.take_last.new.next.cap
 last c = record {
   within = c.self.invariant.within;
   work = c.in_ok-v.ensures.some (waits_of c.self.inside.vertices c.self.inside.first c.self.inside.notes.items) c.self.invariant.work;
