@@ -55,14 +55,16 @@ at_most_back : (m n : MeasureValue) → m ≡ n → AtMost n m
 at_most_back m n e = subst (λ (x : MeasureValue). AtMost n x) (sym e) (at_most_same n)
 
 pub better_for_even : (bs : BoundList) (p : ℕ) (m n : MeasureValue) (r : Ordering)
-    → MatchOrdering r (IsBelow (measure_from bs p m) (measure_from bs p n)) (measure_from bs p m ≡ measure_from bs p n) (IsBelow (measure_from bs p n) (measure_from bs p m))
+    → MatchOrdering r (IsBelow (measure_from bs p m) (measure_from bs p n)) (measure_from bs p m ≡ measure_from bs p n)
+    (IsBelow (measure_from bs p n) (measure_from bs p m))
     → MatchBool (is_lt r) (IsBetter Even (width_from bs p) m n) (IsBetter Even (width_from bs p) n m)
 better_for_even bs p m n Less h = front_of bs p m n (below_is (measure_from bs p m) (measure_from bs p n) h)
 better_for_even bs p m n Equal h = front_of bs p n m (at_most_back (measure_from bs p m) (measure_from bs p n) h)
 better_for_even bs p m n Greater h = front_of bs p n m (below_is (measure_from bs p n) (measure_from bs p m) h)
 
 pub better_for_odd : (bs : BoundList) (p : ℕ) (m n : MeasureValue) (r : Ordering)
-    → MatchOrdering r (IsBelow (measure_from bs p m) (measure_from bs p n)) (measure_from bs p m ≡ measure_from bs p n) (IsBelow (measure_from bs p n) (measure_from bs p m))
+    → MatchOrdering r (IsBelow (measure_from bs p m) (measure_from bs p n)) (measure_from bs p m ≡ measure_from bs p n)
+    (IsBelow (measure_from bs p n) (measure_from bs p m))
     → MatchBool (is_gt r) (IsBetter Odd (width_from bs p) m n) (IsBetter Odd (width_from bs p) n m)
 better_for_odd bs p m n Less h = front_of bs p m n (below_is (measure_from bs p m) (measure_from bs p n) h)
 better_for_odd bs p m n Equal h = front_of bs p m n (at_most_back (measure_from bs p n) (measure_from bs p m) (sym h))

@@ -102,8 +102,7 @@ join_at laws bs n f u w l fits = either (laws.order.total (measure_at f u.vertex
       set f u.vertex u.measure,
       record {
         size = length-set f u.vertex u.measure ∙ w.size;
-        fits =
-            All-set (Fits bs) f u.vertex u.measure fits w.fits;
+        fits = All-set (Fits bs) f u.vertex u.measure fits w.fits;
       },
       raise_joins laws.order laws.zero bs n f u.vertex u.measure w fits l below,
     )

@@ -72,7 +72,8 @@ come_from_more us ks ns k from = λ v. at v (from v)
   where
     at : (v : ℕ)
         → (get_or ns v NO_UPDATE ≡ NO_UPDATE) ⊎ (Contains ks (get_or ns v NO_UPDATE) × ((d : UpdateValue) → (get_or us (get_or ns v NO_UPDATE) d).vertex ≡ v))
-        → (get_or ns v NO_UPDATE ≡ NO_UPDATE) ⊎ (Contains (ks ++ k ∷ []) (get_or ns v NO_UPDATE) × ((d : UpdateValue) → (get_or us (get_or ns v NO_UPDATE) d).vertex ≡ v))
+        → (get_or ns v NO_UPDATE ≡ NO_UPDATE) ⊎ (Contains (ks ++ k ∷ []) (get_or ns v NO_UPDATE) ×
+        ((d : UpdateValue) → (get_or us (get_or ns v NO_UPDATE) d).vertex ≡ v))
     at v (inl e) = inl e
     at v (inr c) = inr (Contains-append_left ks (k ∷ []) (get_or ns v NO_UPDATE) c.0, c.1)
 
@@ -83,7 +84,8 @@ come_from_longer us u ks ns below from = λ v. at v (from v)
   where
     at : (v : ℕ)
         → (get_or ns v NO_UPDATE ≡ NO_UPDATE) ⊎ (Contains ks (get_or ns v NO_UPDATE) × ((d : UpdateValue) → (get_or us (get_or ns v NO_UPDATE) d).vertex ≡ v))
-        → (get_or ns v NO_UPDATE ≡ NO_UPDATE) ⊎ (Contains ks (get_or ns v NO_UPDATE) × ((d : UpdateValue) → (get_or (us ++ u ∷ []) (get_or ns v NO_UPDATE) d).vertex ≡ v))
+        → (get_or ns v NO_UPDATE ≡ NO_UPDATE) ⊎
+        (Contains ks (get_or ns v NO_UPDATE) × ((d : UpdateValue) → (get_or (us ++ u ∷ []) (get_or ns v NO_UPDATE) d).vertex ≡ v))
     at v (inl e) = inl e
     at v (inr c) = inr (
       c.0,
@@ -101,7 +103,8 @@ come_from_set us ks ns v n own l from = λ u. at u (cases_eq u v)
     last = Contains-append_right ks (n ∷ []) n (0, omega arith, refl)
 
     at : (u : ℕ) → (u ≡ v) ⊎ (u ≢ v)
-        → (get_or (set ns v n) u NO_UPDATE ≡ NO_UPDATE) ⊎ (Contains (ks ++ n ∷ []) (get_or (set ns v n) u NO_UPDATE) × ((d : UpdateValue) → (get_or us (get_or (set ns v n) u NO_UPDATE) d).vertex ≡ u))
+        → (get_or (set ns v n) u NO_UPDATE ≡ NO_UPDATE) ⊎ (Contains (ks ++ n ∷ []) (get_or (set ns v n) u NO_UPDATE) ×
+        ((d : UpdateValue) → (get_or us (get_or (set ns v n) u NO_UPDATE) d).vertex ≡ u))
     at u (inl e) = rw (e, get_or-set_same ns v n NO_UPDATE l) (inr (last, own))
     at u (inr ne) = rw (get_or-set_other ns v u n NO_UPDATE ne) (come_from_more us ks ns n from u)
 
@@ -126,13 +129,16 @@ one_cleared us ks gs i v d l here within from = let e : suc i ≡ i + 1 = omega 
         either (inr c) = c
 
     other : (u : ℕ) → u ≢ v
-        → (get_or gs u NO_UPDATE ≡ NO_UPDATE) ⊎ (Contains (drop i ks) (get_or gs u NO_UPDATE) × ((x : UpdateValue) → (get_or us (get_or gs u NO_UPDATE) x).vertex ≡ u))
-        → (get_or gs u NO_UPDATE ≡ NO_UPDATE) ⊎ (Contains (drop (suc i) ks) (get_or gs u NO_UPDATE) × ((x : UpdateValue) → (get_or us (get_or gs u NO_UPDATE) x).vertex ≡ u))
+        → (get_or gs u NO_UPDATE ≡ NO_UPDATE) ⊎ (Contains (drop i ks) (get_or gs u NO_UPDATE) ×
+        ((x : UpdateValue) → (get_or us (get_or gs u NO_UPDATE) x).vertex ≡ u))
+        → (get_or gs u NO_UPDATE ≡ NO_UPDATE) ⊎ (Contains (drop (suc i) ks) (get_or gs u NO_UPDATE) ×
+        ((x : UpdateValue) → (get_or us (get_or gs u NO_UPDATE) x).vertex ≡ u))
     other u ne (inl e) = inl e
     other u ne (inr c) = inr (rest u (get_or gs u NO_UPDATE) ne (c.1 d) c.0, c.1)
 
     at : (u : ℕ) → (u ≡ v) ⊎ (u ≢ v)
-        → (get_or (set gs v NO_UPDATE) u NO_UPDATE ≡ NO_UPDATE) ⊎ (Contains (drop (suc i) ks) (get_or (set gs v NO_UPDATE) u NO_UPDATE) × ((x : UpdateValue) → (get_or us (get_or (set gs v NO_UPDATE) u NO_UPDATE) x).vertex ≡ u))
+        → (get_or (set gs v NO_UPDATE) u NO_UPDATE ≡ NO_UPDATE) ⊎ (Contains (drop (suc i) ks) (get_or (set gs v NO_UPDATE) u NO_UPDATE) ×
+        ((x : UpdateValue) → (get_or us (get_or (set gs v NO_UPDATE) u NO_UPDATE) x).vertex ≡ u))
     at u (inl e) = inl (ap (λ (x : ℕ). get_or (set gs v NO_UPDATE) x NO_UPDATE) e ∙ get_or-set_same gs v NO_UPDATE NO_UPDATE within)
     at u (inr ne) = rw (get_or-set_other gs v u NO_UPDATE NO_UPDATE ne) (other u ne (from u))
 

@@ -8,8 +8,7 @@ returns-clause-map c =
       order = c.of_maps.ensures.order;
       zero = c.of_maps.ensures.zero;
       lines = c.of_maps.ensures.lines;
-      under =
-          c.of_maps.ensures.under;
+      under = c.of_maps.ensures.under;
     } in (
       shown_by c.map.result,
       c.map.ensures.map,

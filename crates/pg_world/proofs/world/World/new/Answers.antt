@@ -15,8 +15,7 @@ invariant_of-result c =
       order = c.of_maps.ensures.order;
       zero = c.of_maps.ensures.zero;
       lines = c.of_maps.ensures.lines;
-      under =
-          c.of_maps.ensures.under;
+      under = c.of_maps.ensures.under;
     } in
     let made = new_replicas laws c.args.game c.in_ok-bounds.bounds c.args.cut c.in_ok-zero.zero c.len.ensures.game c.in_ok-bounds.ensures
     (omega (arith, c.vertices.ensures, c.len.ensures.value)) (ap (λ x. x.value) c.in_ok-zero.ensures) in

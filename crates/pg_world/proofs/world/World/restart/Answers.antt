@@ -67,8 +67,7 @@ invariant_of-self c =
       order = c.of_maps.ensures.order;
       zero = c.of_maps.ensures.zero;
       lines = c.of_maps.ensures.lines;
-      under =
-          c.of_maps.ensures.under;
+      under = c.of_maps.ensures.under;
     } in
     let w : WorldValue = viewed c.self.inside.game c.self.inside.bounds c.self.inside.cut c.self.inside.updates.items c.self.inside.taken.items in
     let gs : List (List ℕ) = map items c.self.inside.greatest.items in
