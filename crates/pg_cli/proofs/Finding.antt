@@ -108,8 +108,7 @@ closed_stays game map c = record {
   least = record {
     map = record { size = refl; fits = c.fits.fits };
     above = λ v. at_most_same (measure_at map.measures v);
-    closed =
-        c.closed;
+    closed = c.closed;
     least = λ h is_map closed above. above;
   };
 }
