@@ -1,6 +1,7 @@
-"""Checks of ./parsolve and ./build, with a stand-in for the toolchain that proves nothing and notes what it is asked."""
+"""Checks of ./parsolve, ./build and ./test --quick, with a stand-in for the toolchain that proves nothing and notes what it is asked."""
 import os
 import pathlib
+import re
 import shutil
 import subprocess
 import sys
@@ -61,6 +62,15 @@ grep -q wrong ../*/src/lib.rt && exit 1
 printf '#!/bin/sh\\necho "$@"\\ncat\\n' > out/parsolve
 chmod +x out/parsolve
 '''
+# a part of ./test, which says what it is given and counts one check
+PART = '''
+import os
+def run(given=()):
+    programs = [given] if isinstance(given, str) else given
+    print(__name__, *map(os.path.basename, programs))
+    return 1, 0
+run_tables = run
+'''
 
 
 class Copy:
@@ -75,8 +85,11 @@ class Copy:
         for name in CRATES:
             self.write(self.source(name), name)
         self.write(self.top / "crates.txt", "".join(f"{name}: {uses}\n" for name, uses in CRATES.items()))
-        for name in ("parsolve", "build"):
+        (self.top / "tools").mkdir()
+        for name in ("parsolve", "build", "test", "tools/stale"):
             shutil.copy(TOP / name, self.top / name)
+        for name in re.findall(r"^import (\w+)  # noqa", (TOP / "test").read_text(), re.M):
+            self.write(self.top / f"tests/{name}.py", PART)
 
     def source(self, crate):
         return self.top / "crates" / crate / "src/lib.rt"
@@ -85,21 +98,30 @@ class Copy:
         path.parent.mkdir(parents=True, exist_ok=True)
         path.write_text(text)
 
-    def start(self, **more):
-        """Starts ./parsolve from another folder, through a link, with two words and an input."""
-        link = self.top.parent / "link"
+    def start(self, script="parsolve", words=("solve", "two words"), **more):
+        """Starts a script from another folder, through a link."""
+        link = self.top.parent / f"link to {script}"
         if not link.is_symlink():
-            link.symlink_to(self.top / "parsolve")
+            link.symlink_to(self.top / script)
         path = f"{self.kit}:{os.environ['PATH']}"
-        return subprocess.Popen([link, "solve", "two words"], cwd="/", text=True, stdin=subprocess.PIPE, stdout=subprocess.PIPE,
+        return subprocess.Popen([link, *words], cwd="/", text=True, stdin=subprocess.PIPE, stdout=subprocess.PIPE,
                                 stderr=subprocess.PIPE, env={**os.environ, "PATH": path, "NOTES": str(self.notes), **more})
 
-    def use(self, **more):
-        """(status, output, error stream, what the toolchain was asked) of one use."""
-        self.notes.write_text("")
-        ran = self.start(**more)
+    def ended(self, ran):
+        """(status, output, error stream, what the toolchain was asked) of a script that was started."""
         output, errors = ran.communicate("the input\n", timeout=60)
         return ran.returncode, output, errors, self.notes.read_text().split("\n")[:-1]
+
+    def use(self, **more):
+        """The same of one use of ./parsolve, with two words and an input."""
+        self.notes.write_text("")
+        return self.ended(self.start(**more))
+
+    def test(self):
+        """(status, what it printed, line by line) of ./test --quick, or the fault that it asked the toolchain for something."""
+        self.notes.write_text("")
+        status, output, _, asked = self.ended(self.start("test", ["--quick"]))
+        return asked or (status, output.splitlines())
 
 
 RIGHT = (0, "solve two words\nthe input\n")
@@ -167,9 +189,40 @@ def no_toolchain(copy):
     return (status, output) == (1, "") and all(it in errors for it in ("rt isn't on the path", "Rattle kit", "rt version"))
 
 
+WITHOUT_PROGRAM = ["layout", "pages", "first_use", "drawing"]
+WITH_PROGRAM = [f"{name} parsolve" for name in ("rows", "checks", "apart", "sessions", "circuits", "share", "drawing")]
+
+
+def untested(copy, why):
+    """Whether ./test --quick says why it tries no program, fails for that, and tries all the rest."""
+    told = f"test: {why} (run ./build), so no program is tried"
+    return copy.test() == (1, [*WITHOUT_PROGRAM, told, "4 passed, 1 failed"])
+
+
+def quick_test(copy):
+    """./test --quick asks the toolchain for nothing, and tries the program that was built and all that needs none."""
+    copy.use()
+    return copy.test() == (0, [*WITHOUT_PROGRAM, *WITH_PROGRAM, "11 passed, 0 failed"])
+
+
+def quick_test_unbuilt(copy):
+    """It says that no program was built."""
+    return untested(copy, "there is no crates/parsolve/out/parsolve")
+
+
+def quick_test_stale(copy):
+    """It says which source is newer than the program: a library's that it stands on, and none of a crate of tests."""
+    copy.use()
+    copy.write(copy.source("low_tests"), "changed")
+    is_tried = copy.test()[0] == 0
+    copy.write(copy.source("left"), "changed")
+    return is_tried and untested(copy, "crates/left/src/lib.rt is newer than crates/parsolve/out/parsolve")
+
+
 def run():
     """Makes every check; answers how many passed and failed."""
-    checks = (first_use, later_uses, changes, failures, little_memory, at_once, other_toolchain, no_toolchain)
+    checks = (first_use, later_uses, changes, failures, little_memory, at_once, other_toolchain, no_toolchain, quick_test,
+              quick_test_unbuilt, quick_test_stale)
     passed = failed = 0
     for check in checks:
         with tempfile.TemporaryDirectory() as folder:

@@ -167,9 +167,10 @@ def calls():
 def promises():
     """The same for each clause and definition that docs/promises.md names: a word in its tables, of small letters or not."""
     code = "\n".join(path.read_text() for path in CRATES.glob("*/src/**/*.rt"))
+    found = re.findall(r'(?:\b(?:ensures|fn|struct|trait|enum|mod|invariant) |")(\w+)|\b(\w+)(?=::)', code)
+    named = {name for names in found for name in names}
     for name in sorted(set(re.findall(r"`([A-Za-z]\w*)`", "".join(re.findall(r"^\| .*\n", PROMISES.read_text(), re.M))))):
-        is_code = re.search(rf"\b(?:ensures|fn|struct|trait|enum|mod|invariant) {name}\b|\b{name}::|\"{name}", code)
-        is_there = is_code or (CRATES / name).is_dir() or any(defined(name, path) for path in modules()[0])
+        is_there = name in named or (CRATES / name).is_dir() or any(defined(name, path) for path in modules()[0])
         yield name, None if is_there else "isn't there, as docs/promises.md says"
 
 

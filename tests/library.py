@@ -39,20 +39,28 @@ def closure(names, known):
     return sorted(found)
 
 
-def lay_out(folder, line, source):
-    """A repository of the program and the crates that it stands on; answers the program's folder."""
-    name, _, below = line.partition(":")
+def copy_crates(folder, names):
+    """A repository of these crates and all below them, as they are, with nothing built."""
     known = uses()
-    crates = closure(below.split(), known)
+    crates = closure(names, known)
     for crate in crates:
         for part in ("src", "specs", "proofs"):
             if (TOP / "crates" / crate / part).is_dir():
                 shutil.copytree(TOP / "crates" / crate / part, folder / "crates" / crate / part)
-    (folder / "crates.txt").write_text("".join(f"{it}: {' '.join(known[it])}\n" for it in crates) + line + "\n")
+    (folder / "crates.txt").write_text("".join(f"{it}: {' '.join(known[it])}\n" for it in crates))
+    shutil.copy(TOP / "HANDLES", folder)
+    subprocess.run(["git", "init", "-q", str(folder)], check=True)
+
+
+def lay_out(folder, line, source):
+    """A repository of the program and the crates that it stands on; answers the program's folder."""
+    name, _, below = line.partition(":")
+    copy_crates(folder, below.split())
+    with open(folder / "crates.txt", "a") as listed:
+        listed.write(line + "\n")
     (folder / "HANDLES").write_text("Handles allowed: none.\n")
     (folder / "crates" / name / "src").mkdir(parents=True)
     (folder / "crates" / name / "src/main.rt").write_text(source)
-    subprocess.run(["git", "init", "-q", str(folder)], check=True)
     return folder / "crates" / name
 
 
