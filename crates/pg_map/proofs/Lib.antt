@@ -19,3 +19,4 @@ pub mod Rounds
 pub mod Duals
 pub mod Parting
 pub mod Firsts
+pub mod Serving
