@@ -28,11 +28,11 @@ same_edges Even game v = refl
 same_edges Odd game v = successors_dual game v
 
 -- in the player's game Even owns what the player owns
-owner_is : (player : Player) (game : List GameVertex) (v : ℕ) → v < length game → owner game v ≡ player → owner (game_of player game) v ≡ Even
+pub owner_is : (player : Player) (game : List GameVertex) (v : ℕ) → v < length game → owner game v ≡ player → owner (game_of player game) v ≡ Even
 owner_is Even game v lt e = e
 owner_is Odd game v lt e = owner_dual game v lt ∙ ap opponent e
 
-owner_isn't : (player : Player) (game : List GameVertex) (v : ℕ) → v < length game → owner game v ≡ opponent player → owner (game_of player game) v ≡ Odd
+pub owner_isn't : (player : Player) (game : List GameVertex) (v : ℕ) → v < length game → owner game v ≡ opponent player → owner (game_of player game) v ≡ Odd
 owner_isn't Even game v lt e = e
 owner_isn't Odd game v lt e = owner_dual game v lt ∙ ap opponent e
 

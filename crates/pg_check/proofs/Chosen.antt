@@ -1,6 +1,7 @@
 -- The solution of two maps, vertex by vertex.
 use Rattle.std.proofs.Common.{◌≡◌, ◌≢◌, ◌↔◌, ℕ, zero, suc, ◌+◌, ◌<◌, ◌≤◌, inl, inr, List, [], ◌∷◌, Option, Some, None, length, get_or}
-use Rattle.std.proofs.Common.{slice_set, arith, sym, subst, refl, ◌∙◌, get_or-set_other, get_or-set_same, length-set}
+use Rattle.std.proofs.Common.{slice_set, arith, sym, subst, refl, ◌∙◌, get_or-set_other, get_or-set_same, length-set, ap, Bool, false}
+use Rattle.std.specs.Bool.{IsTrue}
 use Rattle.std.specs.List.{All, Contains}
 use Rattle.std.specs.List.Sorted.{IsStrictlyIncreasing}
 use Rattle.std.specs.Option.{IsSome, IfSome, IfNone}
@@ -8,31 +9,17 @@ use Rattle.std.proofs.lemmas.Bool.{cases_lt}
 use Rattle.std.proofs.lemmas.List.Elements.{Contains-get_or}
 use Rattle.pg_arena.specs.declared.player.Player.{Player}
 use Rattle.pg_arena.specs.declared.player.Player.TheVariants.{Even, Odd}
-use Rattle.pg_arena.specs.Games.{GameVertex, IsGame, opponent, owner, successors}
+use Rattle.pg_arena.specs.Games.{GameVertex, IsGame, opponent, owner, identifier, successors}
 use Rattle.pg_arena.specs.Lemmas.Duals.{length_dual}
 use Rattle.pg_text.specs.declared.answer.Answer.{Answer}
 use Rattle.pg_text.specs.Solutions.{answer_at, unanswered, winner, IsSolution}
-use Rattle.pg_measure.specs.Measures.{BoundList, MeasureValue}
+use Rattle.pg_measure.specs.Measures.{MeasureValue}
 use Rattle.pg_map.specs.Lines.{Line, line_at, game_line, AreWithin}
-use Rattle.pg_map.specs.Maps.{MapValue, IsServedBy, IsClosed}
-use Rattle.pg_check.specs.Strategies.{game_of, map_of, HasList, AreClosed, IsFirstServing, IsChoiceFor, IsAnswerOf, IsSolutionOf, IsUndecided}
+use Rattle.pg_map.specs.Maps.{MapValue, measure_at, IsServedBy, IsClosed, IsFirstServing}
+use Rattle.pg_check.specs.Strategies.{game_of, map_of, HasList, AreClosed, IsChoiceFor, IsAnswerOf, IsSolutionOf, IsUndecided, IsLeastUndecided}
 use Rattle.pg_check.proofs.Wins.{player_cases}
-use Rattle.pg_check.proofs.Leaving.{passed_or_later, rising_at}
-use Rattle.pg_check.proofs.Certified.{closed_for, some_serves, line_edges, no_both}
-
-pub first_of : (bounds : BoundList) (lines : ℕ → Option Line) (f : List MeasureValue) (v w k : ℕ) (items : List ℕ)
-    → items ≡ (line_at lines v).successors → IsStrictlyIncreasing items
-    → ((j d : ℕ) → j < k → ¬ IsServedBy bounds lines f v (get_or items j d))
-    → k < length items → get_or items k w ≡ w → IsServedBy bounds lines f v w → IsFirstServing bounds lines f v w
-first_of bounds lines f v w k items is rising passed lt e serves = record {
-  follows = subst (λ ws. Contains ws w) is (k, lt, e);
-  serves = serves;
-  first = λ u edge served.
-      elim (passed_or_later (λ x. ¬ IsServedBy bounds lines f v x) items k u passed (subst (λ ws. Contains ws u) (sym is) edge)) [
-        | inl not ↦ absurd (not served)
-        | inr there ↦ rising_at items rising k there.0 w u there.1 there.2 e there.3
-      ];
-}
+use Rattle.pg_map.proofs.GameLines.{game_line_at}
+use Rattle.pg_check.proofs.Certified.{owner_is, owner_isn't, closed_for, some_serves, line_edges, no_both}
 
 -- the lines of a player's game are those of vertices of the game
 pub lines_within : (player : Player) (game : List GameVertex) (n : ℕ) → IsGame game → n ≡ length game → AreWithin n (game_line (game_of player game))
@@ -158,3 +145,58 @@ is_solution game f g solution of = record {
       let c = (of.answers v lt).chosen own in
       (c.0, c.1, subst (λ ws. Contains ws c.0) (line_edges (winner solution v) game v) c.2.follows);
 }
+
+-- a vertex that is answered by what its player's lines say of it
+
+line_owner : (player : Player) (game : List GameVertex) (v : ℕ) → (line_at (game_line (game_of player game)) v).owner ≡ owner (game_of player game) v
+line_owner player game v = ap Line.owner (game_line_at (game_of player game) v)
+
+module _ (game : List GameVertex) (f g : MapValue) (is_game : IsGame game) (closed : AreClosed game f g) (v : ℕ) (lt : v < length game)
+    (player : Player) (list : HasList player f g v) (found : Option ℕ) where
+  abbrev pub line : Line
+  line = line_at (game_line (game_of player game)) v
+
+  abbrev pub NoneServes : Type 0
+  NoneServes = (w : ℕ) → Contains line.successors w
+      → ¬ IsServedBy (map_of player f g).bounds (game_line (game_of player game)) (map_of player f g).measures v w
+
+  pub answer_by : IfSome found (IsChoiceFor player game f g v) → IfNone found (line.owner ≡ Even → NoneServes)
+      → (line.owner ≡ Odd → found ≡ None) → IsAnswerOf game f g v (record { winner = player; choice = found })
+  answer_by some none elsewhere = elim (player_cases (owner game v) player) [
+    | inl own ↦
+        answer_with game f g is_game closed v lt player list own found some
+        (none_if found (line_owner player game v ∙ owner_is player game v lt own) none)
+    | inr own ↦
+        subst (λ choice. IsAnswerOf game f g v (record { winner = player; choice = choice }))
+        (sym (elsewhere (line_owner player game v ∙ owner_isn't player game v lt own)))
+        (answer_without game f g is_game closed v lt player list (λ same. not_both (owner game v) player same own))
+  ]
+    where
+      none_if : (found : Option ℕ) → line.owner ≡ Even → IfNone found (line.owner ≡ Even → NoneServes) → IfNone found NoneServes
+      none_if None e none = none e
+      none_if (Some w) e none = tt
+
+-- the first vertex with no list is the least undecided one
+pub least_from_upto : (game : List GameVertex) (f g : MapValue) (solution : List Answer) (v id : ℕ) → v < length game
+    → AnswersUpto game (IsAnswerOf game f g) solution v → measure_at f.measures v ≡ None → measure_at g.measures v ≡ None
+    → id ≡ identifier game v → IsLeastUndecided game f g id
+least_from_upto game f g solution v id lt upto top other named = record {
+  vertex = v;
+  undecided = record { within = lt; game_map = top; dual_map = other };
+  named = named;
+  least = λ u undecided. elim (cases_lt u v) [
+    | inl below ↦ absurd (not_undecided game f g u _ (upto.answers u below) undecided)
+    | inr past ↦ past
+  ];
+}
+
+-- a vertex that isn't at top has a list
+pub has_list : (is_top : Bool) (m : MeasureValue) → (m ≡ None → IsTrue is_top) → is_top ≡ false → IsSome m
+has_list is_top None at_top not = absurd (cc (at_top refl, not))
+has_list is_top (Some xs) at_top not = refl
+
+pub answered_more : (game : List GameVertex) (f g : MapValue) (before after : List Answer) (v : ℕ) (answer : Answer) → v < length game
+    → AnswersUpto game (IsAnswerOf game f g) before v → after ≡ slice_set before v answer → IsAnswerOf game f g v answer
+    → AnswersUpto game (IsAnswerOf game f g) after (v + 1)
+answered_more game f g before after v answer lt upto is here =
+    subst (λ s. AnswersUpto game (IsAnswerOf game f g) s (v + 1)) (sym is) (answers_more game (IsAnswerOf game f g) before v answer lt upto here)

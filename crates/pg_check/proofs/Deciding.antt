@@ -13,11 +13,11 @@ use Rattle.pg_text.specs.Solutions.{unanswered}
 use Rattle.pg_measure.specs.Measures.{BoundList, MeasureValue, is_odd, width_from}
 use Rattle.pg_measure.proofs.Order.{covers_or}
 use Rattle.pg_map.specs.Lines.{Line, line_at, game_line}
-use Rattle.pg_map.specs.Maps.{MapValue, measure_at, IsServedBy}
-use Rattle.pg_check.specs.Strategies.{game_of, map_of, HasList, AreClosed, IsFirstServing, IsAnswerOf, IsUndecided, DecidedMapsSolve}
+use Rattle.pg_map.specs.Maps.{MapValue, measure_at, IsServedBy, IsFirstServing}
+use Rattle.pg_map.proofs.Serving.{all_passed, first_serving_at}
+use Rattle.pg_check.specs.Strategies.{game_of, map_of, HasList, AreClosed, IsAnswerOf, IsUndecided, DecidedMapsSolve}
 use Rattle.pg_check.proofs.Wins.{player_cases}
-use Rattle.pg_check.proofs.Leaving.{all_passed}
-use Rattle.pg_check.proofs.Chosen.{first_of, lines_rise, answer_with, answer_without, AnswersUpto, answers_more, solution_from_upto, not_both}
+use Rattle.pg_check.proofs.Chosen.{lines_rise, answer_with, answer_without, AnswersUpto, answers_more, solution_from_upto, not_both}
 
 -- the first successor that serves, or none does
 
@@ -45,7 +45,7 @@ module _ (bounds : BoundList) (lines : ℕ → Option Line) (f : List MeasureVal
   find rising (suc left) k e passed = elim (serves_or (get_or items k 0)) [
     | inl serves ↦ record {
       found = Some (get_or items k 0);
-      some = first_of bounds lines f v (get_or items k 0) k items refl rising passed (omega arith)
+      some = first_serving_at bounds lines f v (get_or items k 0) k items refl rising passed (omega arith)
           (get_or_default items k (get_or items k 0) 0 (omega arith)) serves;
       none = tt;
     }

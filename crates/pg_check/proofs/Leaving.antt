@@ -1,39 +1,14 @@
 -- The edges that count at a vertex, gone through in order.
-use Rattle.std.proofs.Common.{◌≡◌, ◌≢◌, ◌↔◌, ℕ, ◌<◌, ◌≤◌, ◌⊎◌, inl, inr, List, length, get_or, arith, subst}
+use Rattle.std.proofs.Common.{◌≡◌, ◌≢◌, ◌↔◌, ℕ, ◌<◌, ◌≤◌, inl, inr, List, length, get_or, arith, subst}
 use Rattle.std.specs.List.{Contains}
 use Rattle.std.specs.List.Sorted.{IsStrictlyIncreasing}
 use Rattle.std.proofs.lemmas.Bool.{cases_lt}
-use Rattle.std.proofs.lemmas.List.{get_or_default}
-use Rattle.std.proofs.lemmas.List.Kept.{AllPairs-from_increasing}
 use Rattle.pg_arena.specs.Games.{GameVertex}
 use Rattle.pg_text.specs.declared.answer.Answer.{Answer}
 use Rattle.pg_text.specs.Solutions.{winner}
+use Rattle.pg_map.proofs.Serving.{passed_or_later, rising_at}
 use Rattle.pg_check.specs.Soundness.{Counts}
 use Rattle.pg_check.specs.Verdicts.{IsLeastLeaving}
-
--- what holds of each vertex at a lower index holds of a vertex of the list, or it stands later
-pub passed_or_later : (P : ℕ → Type 0) (items : List ℕ) (k w : ℕ) → ((j d : ℕ) → j < k → P (get_or items j d)) → Contains items w
-    → P w ⊎ ((j : ℕ) × (k ≤ j) × (j < length items) × (get_or items j w ≡ w))
-passed_or_later P items k w passed (j, lt, e) = elim (cases_lt j k) [
-  | inl below ↦ inl (subst P e (passed j w below))
-  | inr past ↦ inr (j, past, lt, e)
-]
-
-pub all_passed : (P : ℕ → Type 0) (items : List ℕ) (k w : ℕ) → length items ≤ k → ((j d : ℕ) → j < k → P (get_or items j d)) → Contains items w → P w
-all_passed P items k w done passed (j, lt, e) = subst P e (passed j w (omega arith))
-
-pub rising_at : (xs : List ℕ) → IsStrictlyIncreasing xs → (j k v w : ℕ) → j ≤ k → k < length xs → get_or xs j v ≡ v → get_or xs k w ≡ w → v ≤ w
-rising_at xs rising j k v w le lt e f = elim (cases_lt j k) [
-  | inl below ↦
-      let less : get_or xs j v < get_or xs k v = AllPairs-from_increasing xs rising j k v below lt in
-      let same : get_or xs k v ≡ get_or xs k w = get_or_default xs k v w lt in
-      omega arith
-  | inr past ↦
-      let here : j ≡ k = omega arith in
-      let g : get_or xs k v ≡ v = subst (λ i. get_or xs i v ≡ v) here e in
-      let same : get_or xs k v ≡ get_or xs k w = get_or_default xs k v w lt in
-      omega arith
-]
 
 pub least_leaving : (game : List GameVertex) (solution : List Answer) (items : List ℕ) (v w k : ℕ)
     → ((x : ℕ) → Contains items x ↔ Counts game solution v x) → IsStrictlyIncreasing items

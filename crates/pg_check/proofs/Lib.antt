@@ -8,7 +8,6 @@ pub mod Sifting
 pub mod Checking
 pub mod Certified
 pub mod Chosen
-pub mod Halved
 pub mod Listed
 pub mod Winning
 pub mod Deciding

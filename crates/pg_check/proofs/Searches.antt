@@ -16,7 +16,7 @@ use Rattle.pg_text.specs.declared.answer.Answer.{Answer}
 use Rattle.pg_check.specs.Soundness.{Counts}
 use Rattle.pg_check.specs.Mirrors.Cycles.{HasNoCycle, IsTrail}
 use Rattle.pg_check.specs.Mirrors.Searches.{IsSearched, IsTaken, AreTaken, IsExplored}
-use Rattle.pg_check.proofs.Leaving.{all_passed}
+use Rattle.pg_map.proofs.Serving.{all_passed}
 use Rattle.pg_check.proofs.Sifting.{here_too}
 
 pub search_begins : (game : List GameVertex) (solution : List Answer) (v : ℕ) → v < length game

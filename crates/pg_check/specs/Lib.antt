@@ -3,5 +3,4 @@ pub mod Soundness
 pub mod Laws
 pub mod Verdicts
 pub mod Strategies
-pub mod Halves
 pub mod Mirrors

@@ -1,13 +1,13 @@
 -- Solutions of two maps, one of the game and one of its dual, and what they certify.
-use Rattle.std.specs.Prelude.{◌≡◌, ◌↔◌, ℕ, ◌<◌, ◌≤◌, List, length, Contains, Option, Some, None, IsSome}
+use Rattle.std.specs.Prelude.{◌≡◌, ◌↔◌, ℕ, ◌<◌, ◌≤◌, List, length, Option, Some, None, IsSome}
 use Rattle.pg_arena.specs.declared.player.Player.{Player}
 use Rattle.pg_arena.specs.declared.player.Player.TheVariants.{Even, Odd}
 use Rattle.pg_arena.specs.Games.{GameVertex, IsGame, IsEdge, opponent, owner, priority, identifier, dual}
 use Rattle.pg_text.specs.declared.answer.Answer.{Answer}
 use Rattle.pg_text.specs.Solutions.{answer_at, winner}
 use Rattle.pg_measure.specs.Measures.{BoundList, MeasureValue}
-use Rattle.pg_map.specs.Lines.{Line, line_at, game_line}
-use Rattle.pg_map.specs.Maps.{MapValue, measure_at, IsServedBy, IsClosed}
+use Rattle.pg_map.specs.Lines.{Line, game_line}
+use Rattle.pg_map.specs.Maps.{MapValue, measure_at, IsServedBy, IsClosed, IsFirstServing}
 use Rattle.pg_check.specs.declared.fault.CheckFault.{CheckFault}
 use Rattle.pg_check.specs.declared.fault.CheckFault.TheVariants.{OutOfMemory, Undecided}
 use Rattle.pg_check.specs.Plays.{IsPlay, WinsPlay}
@@ -36,13 +36,6 @@ IsServedFor player game f g v w =
 pub record AreClosed (game : List GameVertex) (f g : MapValue) : Type 0 where
   pub game_map : IsClosed f.bounds (game_line game) f.measures
   pub dual_map : IsClosed g.bounds (game_line (dual game)) g.measures
-
--- w is the first successor of v that serves it
-pub record IsFirstServing (bounds : BoundList) (lines : ℕ → Option Line) (f : List MeasureValue)
-    (v w : ℕ) : Type 0 where
-  pub follows : Contains (line_at lines v).successors w
-  pub serves : IsServedBy bounds lines f v w
-  pub first : (u : ℕ) → Contains (line_at lines v).successors u → IsServedBy bounds lines f v u → w ≤ u
 
 -- w is the first successor of v that serves it in the player's map, by the player's game
 abbrev pub IsChoiceFor : Player → List GameVertex → MapValue → MapValue → ℕ → ℕ → Type 0

@@ -24,7 +24,7 @@ mod verdict;
 
 pub use certificate::{certifies, check_with};
 pub use checker::check;
-pub use choices::{even_half, strategies, with_odd_half};
+pub use choices::strategies;
 pub use fault::CheckFault;
 pub use play::Play;
 pub use verdict::Verdict;

@@ -1,9 +1,6 @@
 //! Solutions of maps.
 
-use crate::tools::{
-    Line, game_of, gives, half_gives, halves_give, halves_leave_undecided, least_map,
-    least_map_of_dual, leaves_undecided, three, top_map, two,
-};
+use crate::tools::{Line, game_of, gives, least_map, leaves_undecided, three, top_map, two};
 use pg_arena::Player::{Even, Odd};
 use pg_arena::dual;
 use pg_check::CheckFault;
@@ -56,42 +53,6 @@ fn undecided_names_the_least_identifier_of_the_dual_too(rt: HostRuntime) -> Resu
     let even = least_map(rt.alloc(), &game)?;
     let top = top_map(rt.alloc(), &other)?;
     assert!(rt; leaves_undecided(rt.alloc(), &game, &other, &even, &top, 10));
-    Ok(())
-}
-
-/// Even's half of three vertices names its choice at the third alone; Odd's map names the two others.
-#[test]
-fn a_solution_is_made_of_its_halves(rt: HostRuntime) -> Result<(), Fail> {
-    let game = three(rt.alloc())?;
-    let even = least_map(rt.alloc(), &game)?;
-    assert!(rt;
-        half_gives(
-            rt.alloc(),
-            &game,
-            &even,
-            &[(Odd, None), (Odd, None), (Even, Some(2))]
-        )
-    );
-    let odd = least_map_of_dual(rt.alloc(), &game)?;
-    let expected = [(Odd, Some(1)), (Odd, Some(1)), (Even, Some(2))];
-    assert!(rt; halves_give(rt.alloc(), &game, &even, &odd, &expected));
-    Ok(())
-}
-
-/// With top everywhere in both maps the half has no choice, and the first vertex is undecided.
-#[test]
-fn a_half_of_tops_stays_undecided(rt: HostRuntime) -> Result<(), Fail> {
-    let game = three(rt.alloc())?;
-    let top = top_map(rt.alloc(), &game)?;
-    assert!(rt;
-        half_gives(
-            rt.alloc(),
-            &game,
-            &top,
-            &[(Odd, None), (Odd, None), (Odd, None)]
-        )
-    );
-    assert!(rt; halves_leave_undecided(rt.alloc(), &game, &top, &top, 10));
     Ok(())
 }
 

@@ -8,7 +8,7 @@ ghost use Rattle.pg_map.specs.Maps.{IsClosed};
 
 use Player::{Even, Odd};
 use pg_arena::{ArenaFault, Game, GameBuilder, Player, Vertex, dual};
-use pg_check::{CheckFault, even_half, strategies, with_odd_half};
+use pg_check::{CheckFault, strategies};
 use pg_map::{MeasureMap, View, lift_to_end};
 use pg_measure::Bounds;
 use pg_text::Solution;
@@ -141,86 +141,6 @@ pub fn leaves_undecided(
 {
     match solved(alloc, game, other, even, odd) {
         Some(Err(fault)) => fault == CheckFault::Undecided(identifier),
-        _ => false,
-    }
-}
-
-/// The half that a map of the game gives, if the map is closed.
-fn half_of(alloc: Global, game: &Game, even: &MeasureMap) -> Option<Result<Solution, AllocError>> {
-    if is_closed(even, game) {
-        Some(even_half(alloc, game, even))
-    } else {
-        None
-    }
-}
-
-/// Whether the map of the game gives a half with these answers.
-pub fn half_gives(
-    alloc: Global,
-    game: &Game,
-    even: &MeasureMap,
-    expected: &[(Player, Option<u32>)],
-) -> bool {
-    match half_of(alloc, game, even) {
-        Some(Ok(half)) => answers(&half, expected),
-        _ => false,
-    }
-}
-
-/// The answer of `with_odd_half`, if the half and the map are of the size of the game.
-fn filled(game: &Game, half: Solution, odd: &MeasureMap) -> Option<Result<Solution, CheckFault>> {
-    if half.len() == game.len() && is_of(odd, game) {
-        Some(with_odd_half(game, half, odd))
-    } else {
-        None
-    }
-}
-
-/// Whether the half and the map make a solution with these answers.
-fn filled_gives(
-    game: &Game,
-    half: Solution,
-    odd: &MeasureMap,
-    expected: &[(Player, Option<u32>)],
-) -> bool {
-    match filled(game, half, odd) {
-        Some(Ok(found)) => answers(&found, expected),
-        _ => false,
-    }
-}
-
-/// Whether the half of the one map and the other map make a solution with these answers.
-pub fn halves_give(
-    alloc: Global,
-    game: &Game,
-    even: &MeasureMap,
-    odd: &MeasureMap,
-    expected: &[(Player, Option<u32>)],
-) -> bool {
-    match half_of(alloc, game, even) {
-        Some(Ok(half)) => filled_gives(game, half, odd, expected),
-        _ => false,
-    }
-}
-
-/// Whether the half and the map leave the vertex with this identifier undecided.
-fn filled_leaves_undecided(game: &Game, half: Solution, odd: &MeasureMap, identifier: u32) -> bool {
-    match filled(game, half, odd) {
-        Some(Err(fault)) => fault == CheckFault::Undecided(identifier),
-        _ => false,
-    }
-}
-
-/// Whether the half of the one map and the other map leave the vertex with this identifier undecided.
-pub fn halves_leave_undecided(
-    alloc: Global,
-    game: &Game,
-    even: &MeasureMap,
-    odd: &MeasureMap,
-    identifier: u32,
-) -> bool {
-    match half_of(alloc, game, even) {
-        Some(Ok(half)) => filled_leaves_undecided(game, half, odd, identifier),
         _ => false,
     }
 }

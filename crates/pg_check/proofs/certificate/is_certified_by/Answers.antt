@@ -2,7 +2,7 @@ use Rattle.std.proofs.Common.{rules, ◌≡◌, ◌≢◌, ℕ, arith, sym, subs
 use Rattle.pg_text.specs.Solutions.{winner}
 use Rattle.pg_map.specs.Maps.{IsServedBy}
 use Rattle.pg_check.specs.Soundness.{Counts}
-use Rattle.pg_check.proofs.Leaving.{all_passed}
+use Rattle.pg_map.proofs.Serving.{all_passed}
 use Rattle.pg_check.proofs.certificate.is_certified_by.Goals.{then-ne-via-then-ne, then-ne-via-else-ne+then-not-serves}
 use Rattle.pg_check.proofs.certificate.is_certified_by.Goals as goal
 

@@ -2,7 +2,8 @@ use Rattle.std.proofs.Common.{rules, ◌≡◌, inl, inr, arith, sym, subst}
 use Rattle.std.proofs.lemmas.Bool.{cases_lt}
 use Rattle.pg_text.specs.Solutions.{winner}
 use Rattle.pg_check.specs.Soundness.{Counts}
-use Rattle.pg_check.proofs.Leaving.{all_passed, least_leaving}
+use Rattle.pg_map.proofs.Serving.{all_passed}
+use Rattle.pg_check.proofs.Leaving.{least_leaving}
 use Rattle.pg_check.proofs.edges.first_leaving.Goals as goal
 
 pub winner-requires : goal.winner-requires

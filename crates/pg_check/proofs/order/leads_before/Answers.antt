@@ -1,6 +1,6 @@
 use Rattle.std.proofs.Common.{◌<◌, length}
 use Rattle.pg_check.specs.Mirrors.Orders.{at}
-use Rattle.pg_check.proofs.Leaving.{all_passed}
+use Rattle.pg_map.proofs.Serving.{all_passed}
 use Rattle.pg_check.proofs.order.leads_before.Goals as goal
 
 pub returns : goal.returns

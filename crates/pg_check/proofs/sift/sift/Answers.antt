@@ -1,6 +1,6 @@
 use Rattle.std.proofs.Common.{rules, ◌≡◌, ◌<◌, [], ◌∷◌, ◌++◌, length}
 use Rattle.pg_check.specs.Mirrors.Cycles.{IsNumbered, IsRuledOut}
-use Rattle.pg_check.proofs.Leaving.{all_passed}
+use Rattle.pg_map.proofs.Serving.{all_passed}
 use Rattle.pg_check.proofs.Sifting.{IsSifted, sifted_holds, sieve_keeps, sieve_drops}
 use Rattle.pg_check.proofs.sift.sift.Goals as goal
 use Rattle.pg_check.proofs.sift.sift.Goals.{then-stays+in_ok-push, else-stays}

@@ -5,7 +5,7 @@ use Rattle.pg_arena.specs.Games.{GameVertex}
 use Rattle.pg_text.specs.declared.answer.Answer.{Answer}
 use Rattle.pg_check.specs.Mirrors.Cycles.{StaysNowhere}
 use Rattle.pg_check.specs.Soundness.{Counts}
-use Rattle.pg_check.proofs.Leaving.{all_passed}
+use Rattle.pg_map.proofs.Serving.{all_passed}
 use Rattle.pg_check.proofs.sift.stays_inside.Goals as goal
 
 pub bounds-numbers-w-inside : goal.bounds-numbers-w-inside
