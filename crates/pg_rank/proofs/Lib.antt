@@ -1,0 +1,5 @@
+pub mod Rising
+pub mod Blocking
+pub mod Counting
+pub mod Writing
+pub mod Ranking

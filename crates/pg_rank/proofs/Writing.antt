@@ -1,0 +1,141 @@
+-- A row of a ladder, written from its last step back.
+use Rattle.std.proofs.Common.{◌≡◌, ℕ, suc, ◌-◌, ◌<◌, ◌≤◌, ◌⊎◌, inl, inr, List, [], ◌∷◌, length, get_or, set, arith, sym, refl, ◌∙◌, subst, ap}
+use Rattle.std.proofs.lemmas.Bool.{cases_lt, cases_eq}
+use Rattle.std.proofs.lemmas.List.{get_or-set_same, get_or-set_other, get_or_default}
+use Rattle.pg_measure.specs.Measures.{BoundList, width_from}
+use Rattle.pg_rank.specs.Ladders.{step_at, component, row}
+use Rattle.pg_rank.specs.Mirrors.Rungs.{IsBegin, IsBounded}
+use Rattle.pg_rank.proofs.Rising.{AreFalling, after_less, after_same, after_greater}
+use Rattle.pg_rank.proofs.Counting.{kept, stands, width_at}
+
+-- the priority of a bound
+abbrev pub priority_at : BoundList → ℕ → ℕ
+priority_at bs i = (get_or bs i (0, 0)).0
+
+-- the number at i is the component of the row r, and steps before k won't change it
+pub record IsSettled (bs : BoundList) (steps list : List ℕ) (r k i : ℕ) : Type 0 where
+  pub is : get_or list i 0 ≡ component steps (priority_at bs i) r
+  pub last : (k ≡ 0) ⊎ ((0 < get_or list i 0) ⊎ (priority_at bs i < step_at steps (k - 1)))
+
+-- it is 0, and the component is that of the row k
+pub record IsOpen (bs : BoundList) (steps list : List ℕ) (r k i : ℕ) : Type 0 where
+  pub none : get_or list i 0 ≡ 0
+  pub same : component steps (priority_at bs i) r ≡ component steps (priority_at bs i) k
+
+abbrev pub IsWritten : BoundList → List ℕ → List ℕ → ℕ → ℕ → ℕ → Type 0
+IsWritten bs steps list r k i = IsSettled bs steps list r k i ⊎ IsOpen bs steps list r k i
+
+pub at_end : (bs : BoundList) (steps list : List ℕ) (r i : ℕ) → IsWritten bs steps list r 0 i
+    → get_or list i 0 ≡ component steps (priority_at bs i) r
+at_end bs steps list r i (inl s) = s.is
+at_end bs steps list r i (inr o) = o.none ∙ sym o.same
+
+pub is_row : (cs : BoundList) (steps : List ℕ) (r : ℕ) (xs : List ℕ) → length xs ≡ length cs
+    → ((i : ℕ) → i < length cs → get_or xs i 0 ≡ component steps (priority_at cs i) r) → xs ≡ row cs steps r
+is_row [] steps r [] size each = refl
+is_row [] steps r (x ∷ xs) size each = absurd (omega arith)
+is_row (b ∷ cs) steps r [] size each = absurd (omega arith)
+is_row (b ∷ cs) steps r (x ∷ xs) size each =
+    let here : x ≡ component steps b.0 r = each 0 (omega arith) in
+    let rest = is_row cs steps r xs (omega arith) (λ i lt. each (suc i) (omega arith)) in
+    cc
+
+module _ (bs : BoundList) (steps : List ℕ) (r k b : ℕ) (begin : IsBegin steps b k) where
+  d : ℕ
+  d = step_at steps k
+
+  -- what stands before the lesser steps is at no lesser priority
+  before : (p : ℕ) → p < step_at steps k → (b ≡ 0) ⊎ (p < step_at steps (b - 1))
+  before p lt = elim (cases_eq b 0) [
+    | inl e ↦ inl e
+    | inr ne ↦ inr (let f = begin.first (b - 1) (omega (arith, ne)) in omega arith)
+  ]
+
+  settled_by : (list list' : List ℕ) (i : ℕ) → get_or list' i 0 ≡ get_or list i 0 → get_or list i 0 ≡ component steps (priority_at bs i) r
+      → (0 < get_or list i 0) ⊎ (priority_at bs i < step_at steps k) → IsSettled bs steps list' r b i
+  settled_by list list' i same is (inl some) = record { is = same ∙ is; last = inr (inl (omega arith)) }
+  settled_by list list' i same is (inr less) = record {
+    is = same ∙ is;
+    last = elim (before (priority_at bs i) less) [ inl e ↦ inl e | inr lt ↦ inr (inr lt) ];
+  }
+
+  -- a number that isn't written
+  pub stays : (list list' : List ℕ) (i : ℕ) → get_or list' i 0 ≡ get_or list i 0
+      → ((priority_at bs i ≡ step_at steps k) → 0 < get_or list i 0)
+      → IsWritten bs steps list r (suc k) i → IsWritten bs steps list' r b i
+  stays list list' i same written (inl s) = inl (settled_by list list' i same s.is (go s.last))
+    where
+      go : (suc k ≡ 0) ⊎ ((0 < get_or list i 0) ⊎ (priority_at bs i < step_at steps (suc k - 1)))
+          → (0 < get_or list i 0) ⊎ (priority_at bs i < step_at steps k)
+      go (inl e) = absurd (omega arith)
+      go (inr (inl some)) = inl some
+      go (inr (inr less)) = inr (let e : suc k - 1 ≡ k = omega arith in let f = ap (step_at steps) e in omega arith)
+  stays list list' i same written (inr o) = elim (cases_lt (priority_at bs i) (step_at steps k)) [
+    | inl less ↦
+        let z = after_greater (step_at steps k) (priority_at bs i) (component steps (priority_at bs i) k) less in
+        let s = o.same in
+        let n = o.none in
+        inl (settled_by list list' i same (omega arith) (inr less))
+    | inr ge ↦ elim (cases_eq (priority_at bs i) (step_at steps k)) [
+      | inl e ↦ let w = written e in let n = o.none in absurd (omega arith)
+      | inr ne ↦
+          let a = after_less (step_at steps k) (priority_at bs i) (component steps (priority_at bs i) k) (omega (arith, ne)) in
+          let l = kept steps (priority_at bs i) b k begin.among (λ j from lt. let s = begin.less j from lt in omega arith) in
+          let s = o.same in
+          let n = o.none in
+          inr (record { none = omega arith; same = omega arith })
+    ]
+  ]
+
+  -- the number that is
+  pub writes : (list list' : List ℕ) (i n : ℕ) → priority_at bs i ≡ step_at steps k → n ≡ component steps (step_at steps k) (suc k)
+      → get_or list i 0 ≡ 0 → get_or list' i 0 ≡ n → IsWritten bs steps list r (suc k) i → IsWritten bs steps list' r b i
+  writes list list' i n here count none is (inl s) = absurd (go s.last)
+    where
+      go : (suc k ≡ 0) ⊎ ((0 < get_or list i 0) ⊎ (priority_at bs i < step_at steps (suc k - 1))) → ⊥
+      go (inl e) = omega arith
+      go (inr (inl some)) = omega arith
+      go (inr (inr less)) = let e : suc k - 1 ≡ k = omega arith in let f = ap (step_at steps) e in omega arith
+  writes list list' i n here count none is (inr o) =
+      let c = ap (λ p. component steps p (suc k)) here in
+      let s = o.same in
+      let a = after_same (step_at steps k) (step_at steps k) (component steps (step_at steps k) k) refl in
+      inl (record { is = omega arith; last = inr (inl (omega arith)) })
+
+module _ (bs : BoundList) (falls : AreFalling bs) (steps : List ℕ) (r m b n w : ℕ) (begin : IsBegin steps b m)
+    (count : n ≡ component steps (step_at steps m) (suc m)) (bounded : IsBounded bs (step_at steps m) n) (is_width : w ≡ width_from bs (step_at steps m)) where
+  -- the step has a bound
+  pub some_width : (1 ≤ w) × (w ≤ length bs)
+  some_width = let s = stands bs (step_at steps m) n falls bounded in let e = s.2 in let l = s.3 in (omega arith, omega arith)
+
+  its_priority : priority_at bs (w - 1) ≡ step_at steps m
+  its_priority =
+      let s = stands bs (step_at steps m) n falls bounded in
+      let e : w - 1 ≡ s.0 = let q = s.2 in omega arith in
+      let same : get_or bs (w - 1) (0, 0) ≡ s.1 = ap (λ i. get_or bs i (0, 0)) e ∙ get_or_default bs s.0 (0, 0) s.1 s.3 ∙ s.4 in
+      ap (λ (x : ℕ × ℕ). x.0) same ∙ s.5
+
+  -- no other bound has it
+  other : (i : ℕ) → i < length bs → (i ≡ w - 1 → ⊥) → priority_at bs i ≡ step_at steps m → ⊥
+  other i lt ne e = let q = width_at bs (step_at steps m) i (0, 0) falls lt e in omega (arith, ne)
+
+  pub passes : (list : List ℕ) → (get_or list (w - 1) 0 ≡ 0 → ⊥) → (i : ℕ) → i < length bs → IsWritten bs steps list r (suc m) i
+      → IsWritten bs steps list r b i
+  passes list some i lt is = elim (cases_eq i (w - 1)) [
+    | inl e ↦ stays bs steps r m b begin list list i refl (λ _. let f = ap (λ j. get_or list j 0) e in omega (arith, some)) is
+    | inr ne ↦ stays bs steps r m b begin list list i refl (λ here. absurd (other i lt ne here)) is
+  ]
+
+  pub sets : (list : List ℕ) → length list ≡ length bs → get_or list (w - 1) 0 ≡ 0 → (i : ℕ) → i < length bs → IsWritten bs steps list r (suc m) i
+      → IsWritten bs steps (set list (w - 1) n) r b i
+  sets list size none i lt is = elim (cases_eq i (w - 1)) [
+    | inl e ↦
+        let s = some_width in
+        let a = s.0 in
+        let z = s.1 in
+        subst (λ j. IsWritten bs steps (set list (w - 1) n) r b j) (sym e)
+        (writes bs steps r m b begin list (set list (w - 1) n) (w - 1) n its_priority count none
+        (get_or-set_same list (w - 1) n 0 (omega arith)) (subst (λ j. IsWritten bs steps list r (suc m) j) e is))
+    | inr ne ↦
+        stays bs steps r m b begin list (set list (w - 1) n) i (get_or-set_other list (w - 1) i n 0 ne) (λ here. absurd (other i lt ne here)) is
+  ]

@@ -1,0 +1,11 @@
+use Rattle.std.proofs.Common.{subst}
+use Rattle.pg_rank.specs.Ladders.{LadderValue, IsLadder}
+use Rattle.pg_rank.proofs.Counting.{is_ladder}
+use Rattle.pg_rank.proofs.ladder.Ladder.bounds.Goals as goal
+
+pub returns-clause-ladder : goal.returns-clause-ladder
+returns-clause-ladder c =
+    let l = c.self.inside in
+    let rungs = c.self.invariant in
+    subst (λ (x : LadderValue). IsLadder x.bounds x.steps) c.self.view_is
+    (is_ladder l.bounds l.steps.items l.counts.items rungs.are_bounds rungs.are_counts)

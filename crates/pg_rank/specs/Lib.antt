@@ -1,0 +1,3 @@
+pub mod Ladders
+pub mod Laws
+pub mod Mirrors

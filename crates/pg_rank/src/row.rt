@@ -1,0 +1,36 @@
+//! Rows, written one at a time.
+
+ghost use Rattle.std.specs.Prelude.{◌≡◌, ◌≤◌, length};
+ghost use Rattle.pg_rank.specs.Ladders.{row};
+ghost use Rattle.pg_rank.specs.Mirrors.Rungs.{AreBegins, AreCounts};
+
+use pg_measure::Bounds;
+
+/// Writes the row of a rank, from its last step back: the last step at a priority with no greater one after it has made its
+/// component.
+pub(crate) fn write_row(
+    bounds: &Bounds,
+    steps: &[u32],
+    begins: &[u32],
+    counts: &[u32],
+    rank: u32,
+    list: &mut [u32],
+)
+    requires begins { AreBegins steps.now begins.now }
+    requires counts { AreCounts bounds.now steps.now counts.now }
+    requires rank { rank ≤ length steps.now }
+    requires size { length list.old ≡ length bounds.now }
+    ensures { list.new ≡ row bounds.now steps.now rank }
+{
+    let _pairs = bounds.pairs();
+    list.fill(0);
+    let mut k = rank as usize;
+    while k > 0 {
+        let step = steps[k - 1];
+        let at = bounds.width_from(step) - 1;
+        if list[at] == 0 {
+            list[at] = counts[k - 1];
+        }
+        k = begins[k - 1] as usize;
+    }
+}
