@@ -1,0 +1,4 @@
+pub mod Claims
+pub mod Known
+pub mod Laws
+pub mod Mirrors
