@@ -71,7 +71,7 @@ top_covers : (bs : BoundList) (p : ℕ) (o : MeasureValue) → Covers bs p o Non
 top_covers bs p None h = refl
 top_covers bs p (Some xs) h = absurd h
 
-top_justifies : (bs : BoundList) (p : ℕ) (m : MeasureValue) → IsJustified bs p m None
+pub top_justifies : (bs : BoundList) (p : ℕ) (m : MeasureValue) → IsJustified bs p m None
 top_justifies bs p m o fits covers = subst (λ (x : MeasureValue). AtMost m x) (sym (top_covers bs p o covers)) (at_most_top m)
 
 module _ (bs : BoundList) (steps : List ℕ) (bounds : AreBounds bs) (ladder : IsLadder bs steps) (p : ℕ) where

@@ -46,7 +46,7 @@ module _ (bs : BoundList) (steps ranks : List ℕ) where
         (sym (measure_is w lt)) (covers (rank_at ranks w)))
 
 -- the same for each of the successors
-each_of : (n : ℕ) (P Q : ℕ → Type 0) → ((w : ℕ) → w < n → P w → Q w) → (o : Player) (ss : List ℕ) → All (λ w. w < n) ss
+pub each_of : (n : ℕ) (P Q : ℕ → Type 0) → ((w : ℕ) → w < n → P w → Q w) → (o : Player) (ss : List ℕ) → All (λ w. w < n) ss
     → SomeOrAll o P ss → SomeOrAll o Q ss
 each_of n P Q f Even ss below any =
     (any.0, any.1, any.2, any.3, f any.1 (All-contains (λ w. w < n) ss any.1 below (any.0, any.2, any.3)) any.4)
