@@ -1,0 +1,22 @@
+//! Who wins each vertex of a game, how, and an order that shows it. Nothing is promised of what is found but that it is found
+//! safely and in the end: who wants to believe it looks at the order.
+#![tactic(auto)]
+
+mod arranging;
+mod chains;
+mod components;
+mod graph;
+mod known;
+mod lists;
+mod numbers;
+mod played;
+mod recursion;
+mod solver;
+mod sorting;
+mod table;
+mod tangles;
+mod winners;
+
+pub use graph::Graph;
+pub use numbers::NONE;
+pub use winners::{Winners, find_winners};
