@@ -155,12 +155,19 @@ def exceptions():
         yield name, None if name in found and name in listed else why
 
 
+def sources(crate):
+    """The files of the crate, and of those whose items it hands on."""
+    text = (CRATES / crate / "src/lib.rt").read_text() if (CRATES / crate / "src/lib.rt").is_file() else ""
+    for name in {crate, *re.findall(r"^pub use (pg_\w+)::", text, re.M)}:
+        yield from (CRATES / name / "src").rglob("*.rt")
+
+
 def calls():
     """The same for each call, type and law that a page names, as `pg_check::laws::one_winner`."""
     for document in (README, *sorted((TOP / "docs").glob("*.md"))):
         for crate, name in re.findall(r"`(pg_\w+)::(?:\w+::)*(\w+)`", document.read_text()):
             item = re.compile(rf"(?:\bpub (?:fn|struct|trait|mod)|^    fn) {name}\b", re.M)
-            is_there = any(item.search(path.read_text()) for path in (CRATES / crate / "src").rglob("*.rt"))
+            is_there = any(item.search(path.read_text()) for path in sources(crate))
             yield name, None if is_there else f"isn't in {crate}, as {document.name} says"
 
 

@@ -66,7 +66,7 @@ def examples():
 
 def kit():
     """The same for the kit that the README names: `--version` says the same one."""
-    said = re.search(r'^const VERSION: &str = ".*?with (.*)\)";$', (TOP / "crates/pg_cli/src/words.rt").read_text(), re.M)
+    said = re.search(r'^const VERSION: &str = ".*?with (.*)\)";$', (TOP / "crates/pg_words/src/words.rt").read_text(), re.M)
     is_named = said and f"Proved with `{said[1]}`" in (TOP / "README.md").read_text()
     yield "README.md: the kit", None if is_named else "isn't the one that --version says"
 

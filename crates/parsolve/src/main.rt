@@ -1,12 +1,11 @@
 //! The program: the words of the command line, standard input and output, and the exit status.
 #![tactic(auto)]
 
-ghost use Rattle.pg_cli.specs.Words.{HasFewWorkers};
+ghost use Rattle.pg_words.specs.Words.{HasFewWorkers};
 
-use clap::Error as WordsError;
-use clap::error::ErrorKind as WordsKind;
-use pg_cli::{CliFault, Command, Line, exit_code, parse_words, run, run_apart, work, write_fault};
+use pg_cli::{CliFault, Command, Line, exit_code, run, run_apart, work, write_fault};
 use pg_coord::Reach;
+use pg_words::{Told, read_words};
 use std::env;
 use std::io::{self, BufWriter, Write};
 use std::process::ExitCode;
@@ -21,25 +20,6 @@ const AT_ONCE: usize = 65_536;
 fn tell<E: Write>(errors: &mut E, fault: &CliFault) -> ExitCode {
     let _ = write_fault(fault, errors);
     ExitCode::from(exit_code(fault))
-}
-
-/// Prints what `clap` says of the words: a fault of the command line, or the help or version that was asked for.
-fn tell_words<E: Write>(
-    rt: &(impl Print + Eprint),
-    errors: &mut E,
-    error: &WordsError,
-) -> ExitCode {
-    if matches!(error.kind(), WordsKind::OutOfMemory) {
-        return tell(errors, &CliFault::OutOfMemory);
-    }
-    let printed = error.print(rt);
-    if error.use_stderr() {
-        ExitCode::from(BAD_WORDS)
-    } else if printed.is_err() {
-        tell(errors, &CliFault::Write)
-    } else {
-        ExitCode::SUCCESS
-    }
 }
 
 /// What the program needs of the system.
@@ -72,14 +52,17 @@ fn obey<R: System, E: Write>(rt: &R, errors: &mut E, words: &[String]) -> ExitCo
     let Ok(words) = collected else {
         return tell(errors, &CliFault::OutOfMemory);
     };
-    let ended = match parse_words(rt.alloc(), words.as_slice()) {
+    let ended = match read_words(rt, words.as_slice()) {
         Ok(Line::Run(command, apart)) => answer(
             rt,
             command,
             apart.as_ref().map(|path| path.as_str()),
         ),
         Ok(Line::Work(port)) => work(rt, rt.alloc(), port),
-        Err(error) => return tell_words(rt, errors, &error),
+        Err(Told::Asked) => Ok(()),
+        Err(Told::Refused) => return ExitCode::from(BAD_WORDS),
+        Err(Told::Unwritten) => Err(CliFault::Write),
+        Err(Told::OutOfMemory) => Err(CliFault::OutOfMemory),
     };
     match ended {
         Ok(()) => ExitCode::SUCCESS,

@@ -12,12 +12,12 @@ use Rattle.pg_map.specs.Lines.{game_line}
 use Rattle.pg_map.specs.Maps.{MapValue, IsClosed, IsJoin, IsLeastClosedFrom, IsMap, measure_at, update_map, zero_map}
 use Rattle.pg_map.proofs.Joins.{zero_map_is, zero_map_least}
 use Rattle.pg_check.specs.Strategies.{NoListInBoth}
-use Rattle.pg_worker.specs.Cuts.{CutValue, IsEvenCut}
+use Rattle.pg_parts.specs.Cuts.{CutValue, IsEvenCut}
 use Rattle.pg_worker.proofs.Steps.{update_under}
-use Rattle.pg_coord.specs.Solving.{IsFoundFrom, IfClosed, map_in}
-use Rattle.pg_coord.specs.declared.solver.Outcome.{Outcome}
-use Rattle.pg_coord.specs.declared.solver.Outcome.TheVariants.{Closed, Stopped}
-use Rattle.pg_coord.specs.Told.{Reply, TellReplies, IsLeastOverReplies}
+use Rattle.pg_rounds.specs.Solving.{IsFoundFrom, IfClosed, map_in}
+use Rattle.pg_rounds.specs.declared.solver.Outcome.{Outcome}
+use Rattle.pg_rounds.specs.declared.solver.Outcome.TheVariants.{Closed, Stopped}
+use Rattle.pg_rounds.specs.Told.{Reply, TellReplies, IsLeastOverReplies}
 use Rattle.pg_command.specs.Measuring.{Finding, IsClosedMapOf, IsMeasureOf, IsMeasured}
 use Rattle.pg_command.specs.declared.fault.CliFault.{CliFault}
 use Rattle.pg_command.specs.declared.finder.Maps.{Maps}

@@ -1,4 +1,3 @@
 pub mod Linked
-pub mod Words
 pub mod Serving
 pub mod Mirrors

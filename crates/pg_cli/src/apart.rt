@@ -5,7 +5,7 @@ ghost use Rattle.std.specs.Io.KnownBytes.{Appends};
 ghost use Rattle.pg_command.specs.Input.{StaysWithin};
 ghost use Rattle.pg_command.specs.Measuring.{IsClosedMapOf};
 ghost use Rattle.pg_command.specs.Answers.{PrintsBy, RefusesBy, Prints, Refuses};
-ghost use Rattle.pg_cli.specs.Words.{HasFewWorkers, HasNoWorkers};
+ghost use Rattle.pg_words.specs.Words.{HasFewWorkers, HasNoWorkers};
 
 use crate::over_links::Rounds;
 use crate::program::run_over;

@@ -6,11 +6,10 @@ mod attended;
 mod one_piece;
 mod over_links;
 mod program;
-mod words;
 mod working;
 
 pub use apart::run_apart;
 pub use pg_command::{CliFault, Command, MOST_BYTES, exit_code, laws, winners, write_fault};
+pub use pg_words::{Line, parse_words};
 pub use program::{run, run_with};
-pub use words::{Line, parse_words};
 pub use working::work;

@@ -3,7 +3,7 @@
 ghost use Rattle.std.specs.Prelude.{◌≡◌, ⊤, length, All, IfOk};
 ghost use Rattle.pg_arena.specs.Games.{HasPrioritiesUpTo, dual};
 ghost use Rattle.pg_measure.specs.Games.{IsBoundsOf};
-ghost use Rattle.pg_worker.specs.Cuts.{IsEvenCut};
+ghost use Rattle.pg_parts.specs.Cuts.{IsEvenCut};
 ghost use Rattle.pg_command.specs.Measuring.{IsClosedMapOf};
 ghost use Rattle.pg_cli.specs.Linked.{IsLeastOverTold};
 ghost use Rattle.pg_cli.specs.Mirrors.Finding.{IsFoundIf, IsUnderIf, IsLeastFrom, IsOutcomeIf};

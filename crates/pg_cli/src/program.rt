@@ -5,9 +5,9 @@ ghost use Rattle.std.specs.Io.KnownBytes.{Appends};
 ghost use Rattle.pg_command.specs.Input.{StaysWithin};
 ghost use Rattle.pg_command.specs.Measuring.{IsClosedMapOf, IsMeasured};
 ghost use Rattle.pg_command.specs.Answers.{PrintsBy, RefusesBy, Prints, Refuses};
-ghost use Rattle.pg_command.specs.Commands.{workers_of};
+ghost use Rattle.pg_words.specs.Commands.{workers_of};
 ghost use Rattle.pg_cli.specs.Linked.{IsLeastOverTold};
-ghost use Rattle.pg_cli.specs.Words.{HasFewWorkers};
+ghost use Rattle.pg_words.specs.Words.{HasFewWorkers};
 
 use crate::over_links::{OverLinks, Rounds};
 use pg_command::{CliFault, Command, MOST_BYTES, run_by};

@@ -13,8 +13,8 @@ use Rattle.pg_command.specs.Solving.{IsSolvedBy, IsSolved, IsUndecidedIn, IsUnde
 use Rattle.pg_command.specs.Synthesising.{IsWonFor, IsRealized, IsSynthesised, IsUndecidedFor, HasLargeMachine, RefusesSynth}
 use Rattle.pg_command.specs.Answers.{IsAnswer, HasNoAnswer, PrintsBy, RefusesBy}
 use Rattle.pg_command.specs.Mirrors.Solver.{NoMap}
-use Rattle.pg_command.specs.declared.command.Command.{Command}
-use Rattle.pg_command.specs.declared.command.Command.TheVariants.{Measure, Solve, Check, Replay, Game, Synth}
+use Rattle.pg_words.specs.declared.command.Command.{Command}
+use Rattle.pg_words.specs.declared.command.Command.TheVariants.{Measure, Solve, Check, Replay, Game, Synth}
 use Rattle.pg_command.specs.declared.fault.CliFault.{CliFault}
 use Rattle.pg_command.specs.declared.fault.CliFault.TheVariants as cli
 

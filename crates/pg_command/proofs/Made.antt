@@ -16,7 +16,7 @@ use Rattle.pg_command.specs.Faults.{hoa_fault, synth_fault}
 use Rattle.pg_command.specs.declared.fault.CliFault.{CliFault}
 use Rattle.pg_command.specs.declared.fault.CliFault.TheVariants.{OutOfMemory, Hoa, Synth}
 use Rattle.pg_command.specs.declared.input.TheConstants.{MOST_BYTES}
-use Rattle.pg_command.specs.declared.command.Command.TheVariants.{Game}
+use Rattle.pg_words.specs.declared.command.Command.TheVariants.{Game}
 
 pub prints_game : (input : List ℕ) (game : List GameVertex) → length input ≤ MOST_BYTES → IsGameFor input game → IsWithinLimits game
     → (output : List ℕ) × PrintsBy NoMap Game input output

@@ -12,7 +12,7 @@ use Rattle.pg_map.specs.Maps.{measure_at, IsServed, IsLeastServing}
 use Rattle.pg_map.proofs.Above.{fits_at}
 use Rattle.pg_text.specs.GameText.{IsGameText}
 use Rattle.pg_text.specs.OneSpelling.{SpellsOneGame}
-use Rattle.pg_worker.specs.Cuts.{CutValue}
+use Rattle.pg_parts.specs.Cuts.{CutValue}
 use Rattle.pg_world.specs.Laws.{AreTakenToo, SameTaken}
 use Rattle.pg_world.specs.OneScript.{SpellsOneScript}
 use Rattle.pg_world.specs.ScriptText.{IsScriptText}

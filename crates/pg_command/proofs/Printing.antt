@@ -18,8 +18,8 @@ use Rattle.pg_command.specs.Answers.{PrintsBy, RefusesBy}
 use Rattle.pg_command.specs.Mirrors.Solver.{NoMap}
 use Rattle.pg_command.specs.Faults.{check_fault}
 use Rattle.pg_command.specs.declared.input.TheConstants.{MOST_BYTES}
-use Rattle.pg_command.specs.declared.command.Command.{Command}
-use Rattle.pg_command.specs.declared.command.Command.TheVariants.{Measure, Solve, Check}
+use Rattle.pg_words.specs.declared.command.Command.{Command}
+use Rattle.pg_words.specs.declared.command.Command.TheVariants.{Measure, Solve, Check}
 use Rattle.pg_command.specs.declared.fault.CliFault.{CliFault}
 use Rattle.pg_command.specs.Mirrors.Solver.{IsUnsolved}
 

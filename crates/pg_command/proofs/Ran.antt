@@ -7,7 +7,7 @@ use Rattle.std.proofs.Math.Seq.{get_or-append_seam}
 use Rattle.pg_arena.specs.Games.{GameVertex, IsGame}
 use Rattle.pg_measure.specs.Measures.{BoundList, MeasureValue}
 use Rattle.pg_measure.specs.Games.{IsBoundsOf}
-use Rattle.pg_worker.specs.Cuts.{CutValue}
+use Rattle.pg_parts.specs.Cuts.{CutValue}
 use Rattle.pg_world.specs.Worlds.{WorldValue, new_world, IsMapOf, Lifts, Steps, IsEventOf, Runs}
 use Rattle.pg_world.specs.Laws.{NeverAbove}
 use Rattle.pg_world.specs.declared.event.Event.{Event}

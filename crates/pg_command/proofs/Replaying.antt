@@ -4,7 +4,7 @@ use Rattle.pg_arena.specs.Games.{GameVertex}
 use Rattle.pg_measure.specs.Measures.{MeasureValue}
 use Rattle.pg_measure.specs.Games.{IsBoundsOf}
 use Rattle.pg_text.specs.GameText.{IsGameText}
-use Rattle.pg_worker.specs.Cuts.{CutValue}
+use Rattle.pg_parts.specs.Cuts.{CutValue}
 use Rattle.pg_world.specs.ScriptText.{IsScriptText}
 use Rattle.pg_world.specs.Worlds.{WorldValue, new_world, Runs, StopsAt}
 use Rattle.pg_world.specs.Laws.{NeverAbove}
@@ -19,7 +19,7 @@ use Rattle.pg_command.specs.Answers.{PrintsBy, RefusesBy}
 use Rattle.pg_command.specs.Mirrors.Solver.{NoMap}
 use Rattle.pg_command.specs.Faults.{script_fault, event_fault}
 use Rattle.pg_command.specs.declared.input.TheConstants.{MOST_BYTES}
-use Rattle.pg_command.specs.declared.command.Command.TheVariants.{Replay}
+use Rattle.pg_words.specs.declared.command.Command.TheVariants.{Replay}
 use Rattle.pg_command.specs.declared.fault.CliFault.{CliFault}
 use Rattle.pg_command.specs.declared.fault.CliFault.TheVariants as cli
 use Rattle.pg_command.proofs.Ran.{maps_of}

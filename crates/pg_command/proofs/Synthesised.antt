@@ -24,7 +24,7 @@ use Rattle.pg_command.specs.Synthesising.{IsWonFor, IsRealizedBy, HasLargeMachin
 use Rattle.pg_command.specs.Answers.{PrintsBy, RefusesBy}
 use Rattle.pg_command.specs.Faults.{hoa_fault, synth_fault, aiger_fault}
 use Rattle.pg_command.specs.declared.input.TheConstants.{MOST_BYTES}
-use Rattle.pg_command.specs.declared.command.Command.TheVariants.{Synth}
+use Rattle.pg_words.specs.declared.command.Command.TheVariants.{Synth}
 use Rattle.pg_command.proofs.Made.{text_refused, game_refused}
 
 pub prints_realized : (Found : Finding) (workers : ℕ) (input : List ℕ) (circuit : Circuit) (a : Automaton) → length input ≤ MOST_BYTES

@@ -6,8 +6,8 @@ use Rattle.pg_command.specs.Checking.{IsChecked, RefusesCheck}
 use Rattle.pg_command.specs.Replaying.{IsReplayed, RefusesReplay}
 use Rattle.pg_command.specs.Making.{IsMade, RefusesGame}
 use Rattle.pg_command.specs.Synthesising.{IsSynthesised, RefusesSynth}
-use Rattle.pg_command.specs.declared.command.Command.{Command}
-use Rattle.pg_command.specs.declared.command.Command.TheVariants.{Measure, Solve, Check, Replay, Game, Synth}
+use Rattle.pg_words.specs.declared.command.Command.{Command}
+use Rattle.pg_words.specs.declared.command.Command.TheVariants.{Measure, Solve, Check, Replay, Game, Synth}
 use Rattle.pg_command.specs.declared.fault.CliFault.{CliFault}
 use Rattle.pg_command.specs.declared.fault.CliFault.TheVariants.{OutOfMemory, Read, Write, InputTooLong}
 

@@ -13,7 +13,7 @@ use Rattle.pg_command.specs.Synthesising.{IsSynthesised}
 use Rattle.pg_command.specs.Replaying.{IsReplayed, IsStopped}
 use Rattle.pg_command.specs.Making.{IsMade, IsTooLarge}
 use Rattle.pg_command.specs.Answers.{PrintsBy}
-use Rattle.pg_command.specs.declared.command.Command.{Command}
+use Rattle.pg_words.specs.declared.command.Command.{Command}
 
 -- The output spells a solution of the game that the input spells. At each vertex the printed winner wins every endless
 -- play that follows the printed strategy, and no sound solution has another winner there.

@@ -10,7 +10,6 @@ pub mod Synthesising
 pub mod Answers
 pub mod Faults
 pub mod FaultTexts
-pub mod Commands
 pub mod Laws
 pub mod Winners
 pub mod Controllers

@@ -6,7 +6,7 @@ use Rattle.pg_measure.specs.Measures.{MeasureValue}
 use Rattle.pg_measure.specs.Games.{IsBoundsOf}
 use Rattle.pg_text.specs.Numbers.{numbers_text}
 use Rattle.pg_text.specs.GameText.{IsGameText}
-use Rattle.pg_worker.specs.Cuts.{CutValue}
+use Rattle.pg_parts.specs.Cuts.{CutValue}
 use Rattle.pg_world.specs.Updates.{UpdateValue}
 use Rattle.pg_world.specs.Worlds.{WorldValue, new_world, taken_of, IsMapOf, Runs, StopsAt}
 use Rattle.pg_world.specs.ScriptText.{IsScriptText}

@@ -7,7 +7,7 @@ ghost use Rattle.pg_command.specs.Checking.{greatest, verdict_text, IsCheckedBy}
 ghost use Rattle.pg_command.specs.Answers.{PrintsBy, RefusesBy};
 ghost use Rattle.pg_command.specs.Mirrors.Solver.{NoMap};
 ghost use Rattle.pg_command.specs.Mirrors.Naming.{IsWithin};
-ghost use Rattle.pg_command.specs.declared.command.Command.TheVariants.{Check};
+ghost use Rattle.pg_words.specs.declared.command.Command.TheVariants.{Check};
 
 use crate::fault::CliFault;
 use crate::input::MOST_BYTES;

@@ -6,7 +6,7 @@ ghost use Rattle.pg_arena.specs.Games.{IsWithinLimits};
 ghost use Rattle.pg_command.specs.Making.{IsGameFor};
 ghost use Rattle.pg_command.specs.Answers.{PrintsBy, RefusesBy};
 ghost use Rattle.pg_command.specs.Mirrors.Solver.{NoMap};
-ghost use Rattle.pg_command.specs.declared.command.Command.TheVariants as command;
+ghost use Rattle.pg_words.specs.declared.command.Command.TheVariants as command;
 
 use crate::fault::CliFault;
 use crate::input::MOST_BYTES;

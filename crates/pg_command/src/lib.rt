@@ -3,7 +3,6 @@
 #![tactic(auto)]
 
 mod check;
-mod command;
 mod fault;
 mod finder;
 mod game;
@@ -20,8 +19,8 @@ mod synth;
 pub mod winners;
 mod world_output;
 
-pub use command::Command;
 pub use fault::{CliFault, exit_code, write_fault};
 pub use finder::{Finder, Maps};
 pub use input::MOST_BYTES;
+pub use pg_words::Command;
 pub use program::{answer, run_by};

@@ -5,7 +5,7 @@ ghost use Rattle.std.specs.Io.KnownBytes.{Appends};
 ghost use Rattle.pg_text.specs.GameText.{IsGameText};
 ghost use Rattle.pg_command.specs.Measuring.{IsMeasured, measures_text};
 ghost use Rattle.pg_command.specs.Answers.{PrintsBy, RefusesBy};
-ghost use Rattle.pg_command.specs.declared.command.Command.TheVariants.{Measure};
+ghost use Rattle.pg_words.specs.declared.command.Command.TheVariants.{Measure};
 
 use crate::fault::CliFault;
 use crate::finder::Finder;

@@ -5,10 +5,9 @@ ghost use Rattle.std.specs.Io.KnownBytes.{Appends};
 ghost use Rattle.pg_command.specs.Input.{StaysWithin};
 ghost use Rattle.pg_command.specs.Measuring.{IsMeasured};
 ghost use Rattle.pg_command.specs.Answers.{PrintsBy, RefusesBy};
-ghost use Rattle.pg_command.specs.Commands.{workers_of};
+ghost use Rattle.pg_words.specs.Commands.{workers_of};
 
 use crate::check::check;
-use crate::command::Command;
 use crate::fault::CliFault;
 use crate::finder::Finder;
 use crate::game::game;

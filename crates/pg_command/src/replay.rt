@@ -9,7 +9,7 @@ ghost use Rattle.pg_command.specs.Parts.{IsParted};
 ghost use Rattle.pg_command.specs.Replaying.{IsReplayedBy, AreMapsOf};
 ghost use Rattle.pg_command.specs.Answers.{PrintsBy, RefusesBy};
 ghost use Rattle.pg_command.specs.Mirrors.Solver.{NoMap};
-ghost use Rattle.pg_command.specs.declared.command.Command.TheVariants.{Replay};
+ghost use Rattle.pg_words.specs.declared.command.Command.TheVariants.{Replay};
 
 use crate::fault::CliFault;
 use crate::input::MOST_BYTES;

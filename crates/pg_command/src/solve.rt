@@ -6,7 +6,7 @@ ghost use Rattle.pg_text.specs.GameText.{IsGameText};
 ghost use Rattle.pg_text.specs.Solutions.{IsSolution};
 ghost use Rattle.pg_command.specs.Solving.{IsSolvedBy};
 ghost use Rattle.pg_command.specs.Answers.{PrintsBy, RefusesBy};
-ghost use Rattle.pg_command.specs.declared.command.Command.TheVariants.{Solve};
+ghost use Rattle.pg_words.specs.declared.command.Command.TheVariants.{Solve};
 
 use crate::fault::CliFault;
 use crate::finder::Finder;

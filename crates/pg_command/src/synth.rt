@@ -4,7 +4,7 @@ ghost use Rattle.std.specs.Prelude.{◌≡◌, ◌≢◌, ◌≤◌, ℕ, List, 
 ghost use Rattle.std.specs.Io.KnownBytes.{Appends};
 ghost use Rattle.pg_command.specs.Answers.{PrintsBy, RefusesBy};
 ghost use Rattle.pg_command.specs.Mirrors.Synthesised.{IsOutcome};
-ghost use Rattle.pg_command.specs.declared.command.Command.TheVariants.{Synth};
+ghost use Rattle.pg_words.specs.declared.command.Command.TheVariants.{Synth};
 
 use crate::fault::CliFault;
 use crate::finder::Finder;

@@ -1,13 +1,3 @@
 mod Queues
 mod Keeping
 mod Under
-mod Moving
-mod Joins
-mod Gathering
-mod Measuring
-mod LinkStates
-mod Ends
-mod Taken
-mod Taking
-mod Hearing
-mod Replying

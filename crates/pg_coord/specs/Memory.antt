@@ -1,5 +1,5 @@
 -- Links to workers in the same process.
-use Rattle.std.specs.Prelude.{◌≡◌, ◌≢◌, ◌↔◌, ◌⊎◌, ℕ, ◌+◌, ◌-◌, ◌^◌, min, Bool, true, false, List, [], ◌++◌, Option, None, IfSome, Result, Ok, Err, MatchBool}
+use Rattle.std.specs.Prelude.{◌≡◌, ◌≢◌, ◌↔◌, ◌⊎◌, ℕ, ◌+◌, Bool, true, false, List, [], ◌++◌, Option, None, IfSome, MatchBool}
 use Rattle.pg_map.specs.Maps.{MapValue}
 use Rattle.pg_wire.specs.declared.fault.WireFault.{WireFault}
 use Rattle.pg_wire.specs.declared.fault.WireFault.TheVariants as wire
@@ -8,11 +8,10 @@ use Rattle.pg_wire.specs.declared.frame.Frame.TheVariants as frames
 use Rattle.pg_wire.specs.Bytes.{Spells, IsTooLong, IsTruncated}
 use Rattle.pg_worker.specs.declared.fault.WorkerFault.{WorkerFault}
 use Rattle.pg_worker.specs.declared.fault.WorkerFault.TheVariants.{Wire}
-use Rattle.pg_worker.specs.Turns.{HeldValue, Turn, IsUpTo, Refuses, IsAtLeast}
+use Rattle.pg_parts.specs.Frames.{IsAtLeast, measures_in}
+use Rattle.pg_worker.specs.Turns.{HeldValue, Turn, IsUpTo, Refuses}
 use Rattle.pg_worker.specs.Serving.{report_bytes}
-use Rattle.pg_worker.specs.Above.{AreFrames, measures_in, IsAboveSession}
-use Rattle.pg_coord.specs.declared.link.LinkFault.{LinkFault}
-use Rattle.pg_coord.specs.declared.link.LinkFault.TheVariants.{OutOfMemory, Failed}
+use Rattle.pg_worker.specs.Above.{AreFrames, IsAboveSession}
 
 -- A link: the highest version that its session takes, what the session holds, whether it refused a frame since it was started
 -- and so drops what is sent, the bytes of the frames that wait, and how many calls were Failed.
@@ -91,14 +90,6 @@ pub record Empties (f : Frame) (old new : MemoryValue) : Type 0 where
 -- want of memory: nothing has changed, or it came in the turn of a frame
 abbrev pub BreaksOff : List ℕ → MemoryValue → MemoryValue → Type 0
 BreaksOff bytes old new = (new ≡ old) ⊎ ((f : Frame) × Spells f bytes × Empties f old new)
-
--- ---- what is received
-
--- the count after a call: one more where it was Failed, up to 18,446,744,073,709,551,615
-abbrev pub count_after : Result (Unit {0}) LinkFault → ℕ → ℕ
-count_after (Ok u) failures = failures
-count_after (Err OutOfMemory) failures = failures
-count_after (Err Failed) failures = min (failures + 1) (2 ^ 64 - 1)
 
 -- ---- the maps that a link is under
 

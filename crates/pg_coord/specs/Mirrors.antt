@@ -1,12 +1,2 @@
 -- What mirrors code: contracts of private functions cite it, and no definition that a reader has to believe does.
 pub mod Sessions
-pub mod Tasks
-pub mod CoordinatorMaps
-pub mod Joined
-pub mod Lines
-pub mod Sent
-pub mod LinkStates
-pub mod Takes
-pub mod Cutting
-pub mod Telling
-pub mod Rounds

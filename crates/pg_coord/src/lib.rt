@@ -1,20 +1,11 @@
-//! The coordinator: it solves a game over links to workers, whatever they answer.
+//! The coordinator: it solves a game over links to workers, whatever they answer. Workers are in this process, or in programs of
+//! their own.
 #![tactic(auto)]
 
-mod fault;
-mod link;
 mod memory;
-mod rounds;
-mod sockets;
-mod solver;
-pub mod stand_ins;
 mod waiting;
 
-pub use fault::CoordFault;
-pub use link::{Link, LinkFault};
 pub use memory::MemoryLink;
-pub use rounds::sending::halt;
-pub use sockets::owner::is_orphaned;
-pub use sockets::socket::SocketLink;
-pub use sockets::starting::Reach;
-pub use solver::{Outcome, Solved, solve, solve_from};
+pub use pg_links::{Reach, SocketLink, is_orphaned, stand_ins};
+pub use pg_parts::{Link, LinkFault};
+pub use pg_rounds::{CoordFault, Outcome, Solved, halt, solve, solve_from};

@@ -5,12 +5,13 @@ ghost use Rattle.pg_map.specs.Maps.{MapValue};
 ghost use Rattle.pg_wire.specs.declared.frame.Frame.{Frame};
 ghost use Rattle.pg_wire.specs.Well.{IsWell};
 ghost use Rattle.pg_wire.specs.Bytes.{Spells};
-ghost use Rattle.pg_worker.specs.Turns.{IsAtLeast};
-ghost use Rattle.pg_worker.specs.Above.{AreFrames, measures_in};
-ghost use Rattle.pg_coord.specs.Links.{IsUnderAfter, CountsFailure};
-ghost use Rattle.pg_coord.specs.Memory.{started_link, still_waiting, Reports, Sends, SendsNoFrame, Empties, BreaksOff, count_after, IsAboveLink};
+ghost use Rattle.pg_parts.specs.Frames.{IsAtLeast, measures_in};
+ghost use Rattle.pg_worker.specs.Above.{AreFrames};
+ghost use Rattle.pg_parts.specs.Links.{IsUnderAfter, CountsFailure};
+ghost use Rattle.pg_coord.specs.Memory.{started_link, still_waiting, Reports, Sends, SendsNoFrame, Empties, BreaksOff, IsAboveLink};
+ghost use Rattle.pg_links.specs.Counting.{count_after};
 
-use crate::link::{Link, LinkFault};
+use pg_parts::{Link, LinkFault};
 use crate::waiting::{first_len, put_fault};
 use pg_wire::{Frame, WireFault, decode};
 use pg_worker::{Session, WorkerFault};

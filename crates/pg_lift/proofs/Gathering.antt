@@ -9,7 +9,7 @@ use Rattle.std.proofs.lemmas.List.{length-take, length-drop, take_all}
 use Rattle.std.proofs.lemmas.List.Sums.{count_by-le-length, sum_by_more, sum_by-take-le, sum_by-cons}
 use Rattle.pg_map.specs.Lines.{Line, AreWithin, line_at, vertex_line}
 use Rattle.pg_lift.specs.Mirrors.Keeps.{IsAmong}
-use Rattle.pg_lift.specs.Mirrors.Worklists.{times}
+use Rattle.pg_lists.specs.Mirrors.Worklists.{times}
 use Rattle.pg_lift.specs.Mirrors.Predecessors.{ArePredecessors, ArePut, ArePutBefore, ArePutUpTo, LeadsTo, IsListed, IsBefore, sum_below}
 use Rattle.pg_lift.specs.Mirrors.Predecessors.{edges_of, leads, begin_of}
 

@@ -1,4 +1,3 @@
-pub mod Stacks
 pub mod Noting
 pub mod Keeping
 pub mod Gathering

@@ -11,10 +11,10 @@ use Rattle.pg_map.specs.Lines.{Line}
 use Rattle.pg_map.specs.Maps.{MapValue}
 use Rattle.pg_lift.specs.declared.note.Note.{Note}
 use Rattle.pg_lift.specs.Mirrors.Keeps.{IsKeeping, IsDue}
-use Rattle.pg_lift.specs.Mirrors.Worklists.{IsWorklist}
+use Rattle.pg_lists.specs.Mirrors.Worklists.{IsWorklist}
 use Rattle.pg_lift.specs.Mirrors.Notes.{NotesValue, Span, HasNote, HasRoom, AreNotes, AreNoted, IsSameSpan, AreSameNotes, Label, label_of}
 use Rattle.pg_lift.specs.Mirrors.Notes.{line_label, label_in, no_note, note_in, told_of, waits_of, best_of, labels_of}
-use Rattle.pg_lift.proofs.Stacks.{pushed, swapped, popped, top_marked, room_left}
+use Rattle.pg_lists.proofs.Stacks.{pushed, swapped, popped, top_marked, room_left}
 
 -- ---- vertices that have notes
 

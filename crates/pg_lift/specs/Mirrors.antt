@@ -1,6 +1,5 @@
 -- What mirrors code: no definition that a reader has to believe cites it.
 pub mod Keeps
 pub mod Predecessors
-pub mod Worklists
 pub mod Notes
 pub mod Zeros

@@ -1,7 +1,7 @@
 //! What a worker remembers of the vertices of its part, and which of them wait.
 
 ghost use Rattle.std.specs.Prelude.{◌≡◌, ◌↔◌, ℕ, ◌+◌, ◌-◌, ◌<◌, ◌≤◌, ◌++◌, ◌∷◌, [], List, Bool, Some, None, true, false, length, replicate, slice_set, slice_index_or, IfOk, IfSome, IfNone, IsSome, IsTrue, OnOk, vec_capacity};
-ghost use Rattle.pg_lift.specs.Mirrors.Worklists.{IsWorklist};
+ghost use Rattle.pg_lists.specs.Mirrors.Worklists.{IsWorklist};
 ghost use Rattle.pg_lift.specs.Mirrors.Notes.{AreSameNotes, HasNote, HasRoom, no_note, label_of};
 
 use crate::note::Note;

@@ -14,9 +14,11 @@ use Rattle.pg_wire.specs.LinesLeft.{AreLeft, IsNextLine}
 use Rattle.pg_map.specs.Lines.{Line}
 use Rattle.pg_worker.specs.declared.fault.WorkerFault.{WorkerFault}
 use Rattle.pg_worker.specs.declared.fault.WorkerFault.TheVariants.{OutOfMemory, NotMine, BadUpdate, Order, Wire}
-use Rattle.pg_worker.specs.Workers.{WorkerValue, told_line, part_line, with_lines, AreAbove, FitsGame, RefusesLines}
+use Rattle.pg_parts.specs.Frames.{told_line}
+use Rattle.pg_worker.specs.Workers.{WorkerValue, part_line, with_lines, AreAbove, FitsGame, RefusesLines}
 use Rattle.pg_worker.proofs.Working.{with_lines_more}
-use Rattle.pg_worker.proofs.Taking.{some_is, all_mid}
+use Rattle.pg_parts.proofs.Reading.{some_is}
+use Rattle.pg_worker.proofs.Taking.{all_mid}
 
 -- the worker with these lines too
 abbrev pub adding : WorkerValue → List VertexLine → WorkerValue

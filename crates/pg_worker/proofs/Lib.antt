@@ -9,10 +9,8 @@ pub mod Taking
 pub mod Growing
 pub mod Listed
 pub mod Exchanging
-pub mod Ranges
 pub mod Under
 pub mod Bounded
-pub mod Lists
 pub mod Framing
 pub mod Replies
 pub mod Sessions

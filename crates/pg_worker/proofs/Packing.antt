@@ -7,8 +7,7 @@ use Rattle.std.specs.List.{flat_map}
 use Rattle.std.proofs.lemmas.List.{map-append, length-map, length-append, length-take-le, length-drop, take-append-drop, take-append-le}
 use Rattle.std.proofs.lemmas.List.{take_more, drop_more, get_or_default}
 use Rattle.std.proofs.lemmas.List.Concat.{flat_map-cons}
-use Rattle.pg_measure.specs.Measures.{BoundList, MeasureValue, Fits}
-use Rattle.pg_measure.proofs.Rows.{same_length}
+use Rattle.pg_measure.specs.Measures.{MeasureValue}
 use Rattle.pg_map.specs.Maps.{measure_at}
 use Rattle.pg_wire.specs.declared.frame.Frame.{Frame}
 use Rattle.pg_wire.specs.declared.kind.ValueKind.{ValueKind}
@@ -21,10 +20,6 @@ use Rattle.pg_wire.proofs.Frames.{body_size}
 use Rattle.pg_wire.specs.Measured.{Measured, nonzero_from, nonzero, spelled_as, frame_of}
 use Rattle.pg_worker.specs.Turns.{frame_size, EndsFull, ArePacked, Packs}
 use Rattle.pg_worker.specs.Mirrors.Replies.{measures_of}
-
-pub few_components : (bounds : BoundList) (m : MeasureValue) → Fits bounds m → length bounds ≤ 32768 → IfSome m (λ xs. length xs ≤ 32768)
-few_components bounds None fits few = tt
-few_components bounds (Some xs) fits few = omega (arith, same_length bounds xs fits)
 
 pub one_measure_more : (f : List MeasureValue) (vs : List ℕ) (n v : ℕ) → n < length vs → v ≡ get_or vs n 0
     → measures_of f (take n vs) ++ (v, measure_at f v) ∷ [] ≡ measures_of f (take (n + 1) vs)

@@ -1,14 +1,13 @@
 -- The replies of a session are well frames, and tell the measures of the vertices that were lifted.
-use Rattle.std.proofs.Common.{◌≡◌, ℕ, zero, suc, ◌<◌, ◌≤◌, Bool, true, false, List, [], ◌∷◌, ◌++◌, length, get_or, Option, Some, None, refl}
+use Rattle.std.proofs.Common.{◌≡◌, ℕ, zero, suc, ◌<◌, ◌≤◌, Bool, true, false, List, [], ◌∷◌, ◌++◌, length, get_or, Option, None, refl}
 use Rattle.std.proofs.Common.{sym, ap, subst, ◌∙◌, arith, inl, inr}
-use Rattle.std.specs.Prelude.{All, AllPairs, IfSome, IsSome, if◌then◌else◌}
+use Rattle.std.specs.Prelude.{All, AllPairs, IsSome, if◌then◌else◌}
 use Rattle.std.specs.List.{flat_map}
 use Rattle.std.proofs.lemmas.Bool.{cases_eq, cases_lt}
 use Rattle.std.proofs.lemmas.List.{get_or-set_other, get_or_past}
 use Rattle.std.proofs.lemmas.List.Concat.{flat_map-cons}
-use Rattle.std.proofs.lemmas.List.Elements.{All-cons, All-head, All-tail, All-map}
-use Rattle.pg_measure.specs.Measures.{BoundList, MeasureValue, Fits, ListFits}
-use Rattle.pg_measure.proofs.Rows.{same_length}
+use Rattle.std.proofs.lemmas.List.Elements.{All-map}
+use Rattle.pg_measure.specs.Measures.{BoundList, MeasureValue, Fits}
 use Rattle.pg_map.specs.Lines.{Line}
 use Rattle.pg_map.specs.Maps.{measure_at, IsLifted}
 use Rattle.pg_map.specs.declared.update.Update.{Update}
@@ -17,18 +16,19 @@ use Rattle.pg_wire.specs.declared.kind.ValueKind.TheVariants.{Dense, Sparse}
 use Rattle.pg_wire.specs.declared.frame.Frame.{Frame}
 use Rattle.pg_wire.specs.declared.frame.Frame.TheVariants as frames
 use Rattle.pg_wire.specs.Spelling.{spelling, longest}
-use Rattle.pg_wire.specs.Well.{IsWord, IsComponents, IsWell}
+use Rattle.pg_wire.specs.Well.{IsWord, IsWell}
 use Rattle.pg_wire.specs.Measured.{Measured, spelled_as, frame_of, IsMeasured}
-use Rattle.pg_wire.proofs.Tells.{well_of, dense_told, sparse_told}
+use Rattle.pg_wire.proofs.Tells.{well_of}
 use Rattle.pg_wire.proofs.Append.{few}
 use Rattle.pg_wire.proofs.Frames.{fields, body_size}
 use Rattle.pg_wire.specs.Mirrors.Reading.{HasBytes}
 use Rattle.pg_worker.specs.Workers.{part_line, AreLifts}
 use Rattle.pg_worker.specs.Turns.{HeldValue, LiftsAndTells, ArePacked, lifted_measures, report, frame_size}
-use Rattle.pg_worker.specs.Above.{AreFrames, measures_in}
+use Rattle.pg_parts.specs.Frames.{measures_in}
+use Rattle.pg_worker.specs.Above.{AreFrames}
 use Rattle.pg_worker.specs.Mirrors.Sessions.{IsSmall}
 use Rattle.pg_worker.proofs.Framing.{no_frames, one_frame, frames_then}
-use Rattle.pg_worker.proofs.Lists.{pairs_map, all_left, all_right, pairs_left, pairs_right}
+use Rattle.pg_parts.proofs.Lists.{pairs_map, all_left, all_right, pairs_left, pairs_right}
 
 -- ---- the measures of vertices that were lifted fit
 
@@ -61,17 +61,6 @@ lifted_fits bs lines f g (u ∷ us) (suc k) x r lt at = lifted_fits bs lines r.0
 
 -- ---- so they can be told
 
-words_fit : (bs : BoundList) (xs : List ℕ) → ListFits bs xs → All (λ (b : ℕ × ℕ). IsWord b.1) bs → All IsWord xs
-words_fit bs [] fits w = λ i d lt. absurd (omega arith)
-words_fit [] (x ∷ xs) fits w = absurd fits
-words_fit (b ∷ bs) (x ∷ xs) fits w =
-    let bound : IsWord b.1 = All-head (λ (c : ℕ × ℕ). IsWord c.1) b bs w in
-    All-cons IsWord x xs (omega (arith, fits.0, bound)) (words_fit bs xs fits.1 (All-tail (λ (c : ℕ × ℕ). IsWord c.1) b bs w))
-
-pub components_fit : (bs : BoundList) (m : MeasureValue) → Fits bs m → All (λ (b : ℕ × ℕ). IsWord b.1) bs → IfSome m (IsComponents (length bs))
-components_fit bs None fits w = tt
-components_fit bs (Some xs) fits w = record { size = same_length bs xs fits; numbers = words_fit bs xs fits w }
-
 part_within : (lines : List (Option Line)) (v : ℕ) → IsSome (part_line lines v) → v < length lines
 part_within lines v s =
     elim (cases_lt v (length lines)) [
@@ -99,10 +88,6 @@ lifted_told h budget after reply t small =
     })
 
 -- ---- frames of them
-
-pub frame_tells : (kind : ValueKind) (width : ℕ) (ms : List Measured) → All (IsMeasured width) ms → measures_in (frame_of kind width ms) ≡ ms
-frame_tells Dense width ms each = dense_told ms
-frame_tells Sparse width ms each = sparse_told width ms each
 
 has_bytes : (kind : ValueKind) (m : Measured) → HasBytes (spelled_as kind m)
 has_bytes Dense m = tt

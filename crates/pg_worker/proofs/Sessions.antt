@@ -20,10 +20,11 @@ use Rattle.pg_wire.proofs.Few.{few_bounds}
 use Rattle.pg_worker.specs.declared.fault.WorkerFault.{WorkerFault}
 use Rattle.pg_worker.specs.declared.fault.WorkerFault.TheVariants as faults
 use Rattle.pg_wire.specs.declared.fault.WireFault.TheVariants as wire
-use Rattle.pg_worker.specs.Workers.{part_line, told_line, with_lines}
-use Rattle.pg_worker.specs.Turns.{HeldValue, fresh, with_part, Turn, TakesValues, LiftsAndTells, IsAtLeast, greeting, lifted_measures}
+use Rattle.pg_parts.specs.Frames.{told_line, IsAtLeast, lines_in, measures_in, IsClosedAt}
+use Rattle.pg_worker.specs.Workers.{part_line, with_lines}
+use Rattle.pg_worker.specs.Turns.{HeldValue, fresh, with_part, Turn, TakesValues, LiftsAndTells, greeting, lifted_measures}
 use Rattle.pg_worker.specs.Serving.{Replies, report_bytes}
-use Rattle.pg_worker.specs.Above.{AreFrames, lines_in, measures_in, IsClosedAt, IsAboveSession}
+use Rattle.pg_worker.specs.Above.{AreFrames, IsAboveSession}
 use Rattle.pg_worker.specs.Laws.{RepliesStayUnder}
 use Rattle.pg_worker.specs.Mirrors.Sessions.{IsSmall}
 use Rattle.pg_worker.proofs.Under.{told_stay_under}

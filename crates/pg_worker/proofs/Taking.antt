@@ -1,5 +1,5 @@
 -- Measures that are read from a frame and joined, and the turns that they make.
-use Rattle.std.proofs.Common.{◌≡◌, ◌≢◌, ℕ, suc, ◌++◌, ◌↔◌, ◌⊎◌, IsTrue, Bool, false, cond, List, [], ◌∷◌, Option, Some, None, Result, Ok}
+use Rattle.std.proofs.Common.{◌≡◌, ◌≢◌, ℕ, suc, ◌++◌, ◌↔◌, ◌⊎◌, IsTrue, Bool, false, List, [], ◌∷◌, Option, Some, None, Result, Ok}
 use Rattle.std.proofs.Common.{Err, refl, sym, ap, subst, ◌∙◌, append_assoc, inl, inr, arith}
 use Rattle.std.specs.Prelude.{All, IfOk, IfErr, OnOk}
 use Rattle.std.proofs.lemmas.List.{append-nil}
@@ -12,18 +12,19 @@ use Rattle.pg_wire.specs.declared.fault.WireFault.{WireFault}
 use Rattle.pg_wire.specs.declared.fault.WireFault.TheVariants as wire
 use Rattle.pg_wire.specs.declared.frame.Frame.{Frame}
 use Rattle.pg_wire.specs.Bytes.{Spells, IsTooLong, IsTruncated}
-use Rattle.pg_wire.specs.Left.{IsLeft, IsNext, row_of, is_top}
+use Rattle.pg_wire.specs.Left.{IsLeft, IsNext}
 use Rattle.pg_wire.specs.Measured.{Measured, IsMeasured, frame_of}
 use Rattle.pg_wire.proofs.Bodies.{one_frame}
 use Rattle.pg_wire.proofs.Tells.{dense_told, sparse_told}
-use Rattle.pg_measure.specs.Measures.{MeasureValue}
 use Rattle.pg_worker.specs.declared.fault.WorkerFault.{WorkerFault}
 use Rattle.pg_worker.specs.declared.fault.WorkerFault.TheVariants.{OutOfMemory, Wire}
 use Rattle.pg_worker.specs.Workers.{WorkerValue, CanTake, Takes}
 use Rattle.pg_worker.specs.Turns.{HeldValue, CanTakeAll, TakesValues, RefusesValues, Turn, IsUpTo, Refuses, DoesTurn, RefusesBytes}
 use Rattle.pg_worker.specs.Mirrors.Faults.{own_fault}
 use Rattle.pg_worker.specs.Mirrors.Joins.{JoinsAll}
-use Rattle.pg_worker.proofs.Joining.{all_none, all_joined_none, all_joined_more, can_take_same, can_take_back}
+use Rattle.pg_parts.proofs.Joining.{all_none}
+use Rattle.pg_parts.proofs.Reading.{in_row, first_is, none_left}
+use Rattle.pg_worker.proofs.Joining.{all_joined_none, all_joined_more, can_take_same, can_take_back}
 
 -- of these measures some were joined, and the others are left
 pub record Joined (w : WorkerValue) (ms : List Measured) (u : WorkerValue) (r : ValuesReader) : Type 0 where
@@ -36,35 +37,6 @@ pub record Joined (w : WorkerValue) (ms : List Measured) (u : WorkerValue) (r : 
 
 pub joined_none : (w : WorkerValue) (ms : List Measured) (r : ValuesReader) → IsLeft r ms → Joined w ms w r
 joined_none w ms r h = record { front = []; back = ms; parts = refl; left = h; joins = all_joined_none w; fit = all_none (λ m. CanTake w m.0 m.1) }
-
--- the measure that a row has
-abbrev pub in_row : Bool → List ℕ → MeasureValue
-in_row top row = cond top None (Some row)
-
-measure_is : (o : MeasureValue) (top : Bool) (row row' : List ℕ) → top ≡ is_top o → row' ≡ row_of o row → in_row top row' ≡ o
-measure_is None top row row' t r = rw t refl
-measure_is (Some list) top row row' t r = rw t (ap (λ (ns : List ℕ). Some ns) r)
-
--- the measure that was read is the first of those that were left
-pub record First (back : List Measured) (r : ValuesReader) (n : ℕ) (m : MeasureValue) : Type 0 where
-  pub rest : List Measured
-  pub parts : back ≡ (n, m) ∷ rest
-  pub left : IsLeft r rest
-
-pub some_is : {A : Type 0} (x y : A) → Some x ≡ Some y → x ≡ y
-some_is x y e = cc
-
-pub first_is : (back : List Measured) (r : ValuesReader) (row row' : List ℕ) (n : ℕ) (top : Bool) → IsNext back r row row' (Some (n, top))
-    → First back r n (in_row top row')
-first_is [] r row row' n top h = absurd cc
-first_is (m ∷ ms) r row row' n top h =
-    let read : ℕ × Bool = (n, top) in
-    let told : ℕ × Bool = (m.0, is_top m.1) in
-    let same = some_is read told h.0 in
-    let number : n ≡ m.0 = ap (λ (x : ℕ × Bool). x.0) same in
-    let tag : top ≡ is_top m.1 = ap (λ (x : ℕ × Bool). x.1) same in
-    let measure : in_row top row' ≡ m.1 = measure_is m.1 top row row' tag h.1 in
-    record { rest = ms; parts = ap (λ (k : ℕ). (k, m.1) ∷ ms) (sym number) ∙ ap (λ (o : MeasureValue). (n, o) ∷ ms) (sym measure); left = h.2 }
 
 pub joined_more : (w : WorkerValue) (ms : List Measured) (u u' : WorkerValue) (r r' : ValuesReader) (row row' : List ℕ) (n : ℕ) (top rose : Bool)
     → ((back : List Measured) → IsLeft r back → IsNext back r' row row' (Some (n, top)))
@@ -80,10 +52,6 @@ joined_more w ms u u' r r' row row' n top rose next can takes j =
       joins = all_joined_more w u u' j.front n (in_row top row') rose j.joins can takes;
       fit = All-push (λ (k : Measured). CanTake w k.0 k.1) j.front m j.fit (can_take_back w u j.front n (in_row top row') j.joins can);
     }
-
-pub none_left : (back : List Measured) (r : ValuesReader) (row row' : List ℕ) → IsNext back r row row' None → back ≡ []
-none_left [] r row row' h = refl
-none_left (m ∷ ms) r row row' h = absurd cc
 
 pub joined_all : (w : WorkerValue) (ms : List Measured) (u : WorkerValue) (r r' : ValuesReader) (row row' : List ℕ)
     → ((back : List Measured) → IsLeft r back → IsNext back r' row row' None) → Joined w ms u r → JoinsAll w ms u × CanTakeAll w ms

@@ -4,7 +4,7 @@ use Rattle.std.proofs.lemmas.List.{get_or-map, length-map}
 use Rattle.pg_measure.specs.Measures.{MeasureValue, AtMost}
 use Rattle.pg_map.specs.Maps.{measure_at, MapAtMost}
 use Rattle.pg_wire.specs.Measured.{Measured}
-use Rattle.pg_worker.specs.Turns.{IsAtLeast}
+use Rattle.pg_parts.specs.Frames.{IsAtLeast}
 use Rattle.pg_worker.specs.Laws.{ToldStayUnder}
 
 all_under : (f k : List MeasureValue) (vs : List ℕ) → MapAtMost f k → IsAtLeast k (map (λ v. (v, measure_at f v)) vs)

@@ -15,7 +15,8 @@ use Rattle.pg_lift.specs.Mirrors.Predecessors.{edges_of}
 use Rattle.pg_worker.proofs.NewLines.{IsNewLine, line_same, some_back, edges_more, no_edges}
 use Rattle.pg_lift.proofs.Keeping.{same_keeps}
 use Rattle.pg_wire.specs.declared.frame.VertexLine.{VertexLine}
-use Rattle.pg_worker.specs.Workers.{WorkerValue, told_line, with_lines, AreAbove}
+use Rattle.pg_parts.specs.Frames.{told_line}
+use Rattle.pg_worker.specs.Workers.{WorkerValue, with_lines, AreAbove}
 use Rattle.pg_map.specs.declared.update.Update.{Update}
 use Rattle.pg_worker.specs.Mirrors.Insides.{IsInside, AreReady, IsNext, IsWhole, AreAsBefore}
 use Rattle.pg_lift.specs.Mirrors.Notes.{Label, line_label, NotesValue, HasNote, AreNotes, IsSameSpan}

@@ -1,38 +1,21 @@
 -- The maps that are above a session, by the frames that it took and by what it holds; and bytes that are frames.
-use Rattle.std.specs.Prelude.{◌≡◌, ℕ, List, [], length, All}
+use Rattle.std.specs.Prelude.{◌≡◌, ℕ, List, length, All}
 use Rattle.std.specs.List.{flat_map}
-use Rattle.pg_map.specs.Lines.{only}
-use Rattle.pg_map.specs.Maps.{MapValue, MapAtMost, IsMap, IsServed, IsClosed}
+use Rattle.pg_map.specs.Maps.{MapValue, MapAtMost, IsMap, IsClosed}
 use Rattle.pg_wire.specs.declared.frame.Setup.{Setup}
-use Rattle.pg_wire.specs.declared.frame.VertexLine.{VertexLine}
 use Rattle.pg_wire.specs.declared.frame.Frame.{Frame}
 use Rattle.pg_wire.specs.declared.frame.Frame.TheVariants as frames
 use Rattle.pg_wire.specs.Spelling.{spelling}
 use Rattle.pg_wire.specs.Bytes.{Spells}
-use Rattle.pg_wire.specs.Measured.{Measured, told_values, told_sparse}
-use Rattle.pg_worker.specs.Workers.{part_line, told_line}
-use Rattle.pg_worker.specs.Turns.{HeldValue, IsAtLeast}
+use Rattle.pg_parts.specs.Frames.{IsAtLeast}
+use Rattle.pg_worker.specs.Workers.{part_line}
+use Rattle.pg_worker.specs.Turns.{HeldValue}
 
 -- the bytes are frames with this property, one after the other
 pub record AreFrames (P : Frame → Type 0) (bytes : List ℕ) : Type 0 where
   pub fs : List Frame
   pub spelled : bytes ≡ flat_map spelling fs
   pub each : All (λ f. Spells f (spelling f) × P f) fs
-
--- the lines in a frame
-abbrev pub lines_in : Frame → List VertexLine
-lines_in (frames.Vertices v) = v.lines
-lines_in f = []
-
--- the measures in a frame
-abbrev pub measures_in : Frame → List Measured
-measures_in (frames.Values v) = told_values v.values
-measures_in (frames.Sparse s) = told_sparse s.width s.values
-measures_in f = []
-
--- the map is closed at the vertex of a line
-abbrev pub IsClosedAt : MapValue → VertexLine → Type 0
-IsClosedAt h l = IsServed h.bounds (only (told_line l)) h.measures l.vertex
 
 -- the map is over the bounds and vertices of a set-up, closed at each vertex that the frames after it tell, and at least each
 -- value that they send

@@ -9,9 +9,10 @@ use Rattle.pg_wire.specs.declared.frame.Frame.{Frame}
 use Rattle.pg_wire.specs.declared.frame.Frame.TheVariants as frames
 use Rattle.pg_wire.specs.Well.{IsSetup}
 use Rattle.pg_worker.specs.Workers.{part_line, AreLifts}
-use Rattle.pg_worker.specs.Turns.{HeldValue, IsAtLeast, lifted_measures, LiftsAndTells}
+use Rattle.pg_parts.specs.Frames.{IsAtLeast, measures_in}
+use Rattle.pg_worker.specs.Turns.{HeldValue, lifted_measures, LiftsAndTells}
 use Rattle.pg_worker.specs.Serving.{Replies}
-use Rattle.pg_worker.specs.Above.{AreFrames, measures_in, IsAboveFrames}
+use Rattle.pg_worker.specs.Above.{AreFrames, IsAboveFrames}
 
 -- what changes a worker's map once its part is complete: a value is taken, or lifts make updates
 pub data Step : Type 0 where

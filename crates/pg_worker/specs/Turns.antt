@@ -2,8 +2,8 @@
 use Rattle.std.specs.Prelude.{◌≡◌, ◌≢◌, ℕ, ◌<◌, ◌≤◌, ◌==◌, ◌⊎◌, ◌↔◌, IsTrue, Bool, true, false, List, [], ◌∷◌, ◌++◌, length, map, take, All}
 use Rattle.std.specs.Prelude.{Option, Some, None, if◌then◌else◌}
 use Rattle.std.specs.List.{flat_map}
-use Rattle.pg_measure.specs.Measures.{MeasureValue, AtMost}
-use Rattle.pg_map.specs.Maps.{measure_at, MapAtMost}
+use Rattle.pg_measure.specs.Measures.{MeasureValue}
+use Rattle.pg_map.specs.Maps.{measure_at}
 use Rattle.pg_wire.specs.declared.fault.WireFault.{WireFault}
 use Rattle.pg_wire.specs.declared.fault.WireFault.TheVariants.{Version, TooLong, Truncated}
 use Rattle.pg_wire.specs.declared.fault.WireFault.TheVariants as wire
@@ -29,10 +29,6 @@ pub record HeldValue : Type 0 where
 
 -- ---- what is held after a frame
 
--- values go as Values under version 1, and as Sparse under version 2
-abbrev pub kind_of : ℕ → ValueKind
-kind_of version = if version == 2 then Sparse else Dense
-
 -- what a set-up leaves: a new worker, and no values or Go yet
 abbrev pub fresh : Setup → HeldValue
 fresh s = record { kind = kind_of s.version; is_started = false; worker = new_worker s.bounds s.vertices }
@@ -51,17 +47,6 @@ started h w = record { kind = h.kind; is_started = true; worker = w }
 -- each measure is of a vertex below the count, and fits the bounds
 abbrev pub CanTakeAll : WorkerValue → List Measured → Type 0
 CanTakeAll w ms = All (λ m. CanTake w m.0 m.1) ms
-
--- the map is at least each of the measures
-abbrev pub IsAtLeast : List MeasureValue → List Measured → Type 0
-IsAtLeast f ms = All (λ m. AtMost m.1 (measure_at f m.0)) ms
-
--- g is the least map that is at least f and each of the measures
-pub record Joins (f : List MeasureValue) (ms : List Measured) (g : List MeasureValue) : Type 0 where
-  pub size : length g ≡ length f
-  pub above : MapAtMost f g
-  pub each : IsAtLeast g ms
-  pub least : (h : List MeasureValue) → MapAtMost f h → IsAtLeast h ms → MapAtMost g h
 
 -- values of this kind and width are in turn and fit
 pub record AreInTurn (h : HeldValue) (kind : ValueKind) (width : ℕ) (ms : List Measured) : Type 0 where

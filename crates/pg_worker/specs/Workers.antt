@@ -1,12 +1,9 @@
 -- Workers: the part that one holds, its map, and what its calls make of them.
-use Rattle.std.proofs.Common.{zero, suc}
 use Rattle.std.specs.Prelude.{◌≡◌, ℕ, ◌%◌, ◌<◌, ◌≤◌, Bool, false, List, [], ◌∷◌, length, replicate, All, AllPairs, Any, Option, Some, None}
 use Rattle.std.specs.Prelude.{IsSome, MatchBool, slice_index_or, slice_set}
 use Rattle.std.specs.List.{Contains}
-use Rattle.pg_arena.specs.declared.player.Player.{Player}
-use Rattle.pg_arena.specs.declared.player.Player.TheVariants.{Even, Odd}
 use Rattle.pg_measure.specs.Measures.{BoundList, MeasureValue, owned, Fits, AtMost, IsBelow}
-use Rattle.pg_map.specs.Lines.{Line, AreWithin, line_of}
+use Rattle.pg_map.specs.Lines.{Line, AreWithin}
 use Rattle.pg_map.specs.Maps.{measure_at, IsMap, zero_map, update_map, IsClosed, IsJoin, IsLifted, StaysUnder}
 use Rattle.pg_map.specs.declared.update.Update.{Update}
 use Rattle.pg_wire.specs.declared.frame.VertexLine.{VertexLine}
@@ -35,15 +32,6 @@ pub record IsWorker (w : WorkerValue) : Type 0 where
   pub size : length w.lines ≡ length w.map
   pub map : IsMap w.bounds (length w.map) w.map
   pub within : AreWithin (length w.map) (part_line w.lines)
-
--- the number of a player
-abbrev pub player : ℕ → Player
-player zero = Even
-player (suc n) = Odd
-
--- what a frame tells of a vertex
-abbrev pub told_line : VertexLine → Line
-told_line l = line_of l.priority (player l.owner) l.successors
 
 -- the part with these lines too
 abbrev pub with_lines : List (Option Line) → List VertexLine → List (Option Line)

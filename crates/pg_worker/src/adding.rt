@@ -4,7 +4,8 @@ ghost use Rattle.std.specs.Prelude.{◌≡◌, ◌↔◌, ℕ, true, ◌+◌, �
 ghost use Rattle.std.specs.Bool.{OnTrue};
 ghost use Rattle.pg_wire.specs.Lines.{line_with};
 ghost use Rattle.pg_wire.specs.Well.{IsVertexLine};
-ghost use Rattle.pg_worker.specs.Workers.{told_line, with_lines, player, HasBound, FitsGame};
+ghost use Rattle.pg_parts.specs.Frames.{told_line, player};
+ghost use Rattle.pg_worker.specs.Workers.{with_lines, HasBound, FitsGame};
 ghost use Rattle.pg_worker.specs.Mirrors.Parts.{HasPlace, held_line};
 ghost use Rattle.pg_lift.specs.Mirrors.Notes.{HasRoom};
 ghost use Rattle.pg_worker.specs.Mirrors.Insides.{IsInside, IsNext, AreAsBefore, HaveRoom, edge_count};

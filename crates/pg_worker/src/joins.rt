@@ -11,13 +11,6 @@ use crate::{Worker, WorkerFault};
 use pg_map::View;
 use pg_wire::ValuesReader;
 
-/// The measure that a row has, if it isn't top.
-pub fn lent_row(is_top: bool, row: &[u32]) -> View<'_>
-    ensures { measure_in result ≡ cond is_top None (Some row.now) }
-{
-    if is_top { View::Top } else { View::List(row) }
-}
-
 /// Joins the map with each of the measures that are left, by a row of as many places as the width says.
 pub fn join_read(
     worker: &mut Worker,

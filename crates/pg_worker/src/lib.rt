@@ -3,7 +3,6 @@
 #![tactic(auto)]
 
 mod adding;
-mod cut;
 mod fault;
 mod held;
 mod joins;
@@ -15,19 +14,13 @@ mod reply;
 mod served;
 mod service;
 mod session;
-mod telling;
 mod turn;
-mod vertex_set;
 mod worker;
 
-pub use cut::Cut;
 pub use fault::WorkerFault;
-pub use joins::lent_row;
-pub use lifting::{Lifted, fits};
-pub use reply::push;
+pub use lifting::Lifted;
+pub use pg_parts::{Cut, VertexSet, fill_line, fits, lent_row, line_of, push, setup_of};
 pub use served::Served;
 pub use service::serve;
 pub use session::Session;
-pub use telling::{fill_line, line_of, setup_of};
-pub use vertex_set::VertexSet;
 pub use worker::Worker;

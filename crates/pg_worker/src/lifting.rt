@@ -10,11 +10,11 @@ ghost use Rattle.pg_lift.specs.Mirrors.Keeps.{IsKeeping};
 ghost use Rattle.pg_worker.specs.Workers.{AreLifts};
 
 use crate::WorkerFault;
-use crate::vertex_set::VertexSet;
 use pg_arena::Vertex;
 use pg_lift::{Notes, Predecessors, find_serving, is_quiet, lift_ready, next_ready, take};
 use pg_map::{Lines, MeasureMap, Update, View};
 use pg_measure::{Bounds, Measure, row};
+use pg_parts::VertexSet;
 use std::alloc::{AllocError, Global};
 
 /// The updates of a run of lifts, in the order in which they were made, and whether no vertex of the part can be lifted now.
@@ -147,16 +147,6 @@ pub(crate) fn lift_one<G: Lines>(
     lift_ready(map, lines, predecessors, notes, v);
     map.copy_to(v, &mut measure);
     Ok(Some(Update { vertex: v, measure }))
-}
-
-/// Whether a measure that is lent is one of the bounds.
-pub fn fits(measure: View, bounds: &Bounds) -> bool
-    ensures { IsTrue result ↔ Fits bounds.now (measure_in measure.entry) }
-{
-    match measure {
-        View::Top => true,
-        View::List(list) => row::fits(list, bounds.pairs()),
-    }
 }
 
 /// Takes the measure of a vertex by its number, if there is such a vertex and the measure fits. True exactly if it rose.

@@ -24,27 +24,6 @@ pub fn put_report(status: u8, code: u8, out: &mut Vec<u8>) -> Result<(), AllocEr
     out.extend_from_slice(&[0, 0, 0, 3, 5, status, code])
 }
 
-/// Appends the measure of a vertex to a frame; false where the frame would be longer than a frame may be. Where it answers false
-/// or memory runs out, all is as before.
-pub fn push(
-    writer: &mut ValuesWriter,
-    v: Vertex,
-    measure: View,
-    out: &mut Vec<u8>,
-) -> Result<bool, AllocError>
-    requires { IfSome (measure_in measure) (λ xs. length xs ≤ 32768) }
-    ensures of { (writer.new.kind ≡ writer.old.kind) × (writer.new.width ≡ writer.old.width) }
-    ensures added { (before : List ℕ) (ms : List Measured) → IsWriting writer.old before ms out.old.items
-        → IfOk result (λ fits. IsAdded fits writer.old writer.new before ms
-        (v, measure_in measure.entry) out.old.items out.new.items) }
-    ensures kept { OnErr result ((writer.new ≡ writer.old) × (out.new.items ≡ out.old.items)) }
-{
-    match measure {
-        View::Top => writer.push_top(v.0, out),
-        View::List(list) => writer.push_list(v.0, list, out),
-    }
-}
-
 /// Appends one frame of the measures of as many of these vertices as fit in it, from the first on, and says how many.
 fn put_frame(
     worker: &Worker,

@@ -4,7 +4,8 @@ ghost use Rattle.std.specs.Prelude.{◌≡◌, ◌≤◌, ◌↔◌, ℕ, ◌++�
 ghost use Rattle.pg_wire.specs.Well.{IsWell, IsSetup};
 ghost use Rattle.pg_wire.specs.declared.frame.Frame.TheVariants as frames;
 ghost use Rattle.pg_wire.specs.Mirrors.Buffers.{Extends};
-ghost use Rattle.pg_worker.specs.Turns.{Turn, IsUpTo, Refuses, TakesValues, RefusesValues, LiftsAndTells, kind_of, fresh, greeting, DoesTurn, HasRows, SpellsRows, RefusesBytes};
+ghost use Rattle.pg_parts.specs.Frames.{kind_of};
+ghost use Rattle.pg_worker.specs.Turns.{Turn, IsUpTo, Refuses, TakesValues, RefusesValues, LiftsAndTells, fresh, greeting, DoesTurn, HasRows, SpellsRows, RefusesBytes};
 ghost use Rattle.pg_wire.specs.Left.{IsLeft};
 ghost use Rattle.pg_wire.specs.Measured.{Measured};
 

@@ -15,12 +15,12 @@ ghost use Rattle.pg_worker.specs.Workers.{part_line, new_worker, with_lines, Are
 use crate::adding::{add_line, add_lines, are_from, count_edges, fit_game, fits_line, make_room};
 use crate::lifting::{lift_one, lift_some, lift_turn, receive};
 use crate::part::Part;
-use crate::vertex_set::VertexSet;
 use crate::{Lifted, WorkerFault};
 use pg_arena::Vertex;
 use pg_lift::{Notes, Predecessors};
 use pg_map::{Lines, MeasureMap, Update, View};
 use pg_measure::Bounds;
+use pg_parts::VertexSet;
 use pg_wire::{LineHead, Setup, VertexLine};
 use std::alloc::{AllocError, Global};
 use std::marker::Model;

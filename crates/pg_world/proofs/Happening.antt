@@ -6,7 +6,7 @@ use Rattle.pg_arena.specs.Games.{GameVertex}
 use Rattle.pg_measure.specs.Measures.{BoundList, zeros}
 use Rattle.pg_map.specs.Lines.{Line}
 use Rattle.pg_map.specs.declared.update.Update.{Update}
-use Rattle.pg_worker.specs.Cuts.{CutValue}
+use Rattle.pg_parts.specs.Cuts.{CutValue}
 use Rattle.pg_world.specs.Updates.{UpdateValue, update_value, update_at}
 use Rattle.pg_world.specs.Worlds.{WorldValue, new_world, taking, forgetting, making}
 use Rattle.pg_world.specs.Mirrors.Kept.{viewed, IsMade}

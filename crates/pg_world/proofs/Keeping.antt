@@ -10,7 +10,7 @@ use Rattle.pg_measure.specs.Games.{IsBoundsOf}
 use Rattle.pg_map.specs.Lines.{game_line}
 use Rattle.pg_map.specs.Maps.{IsMap, zero_map, IsJoin}
 use Rattle.pg_map.specs.Laws.{ZeroMapIsLeast}
-use Rattle.pg_worker.specs.Cuts.{CutValue}
+use Rattle.pg_parts.specs.Cuts.{CutValue}
 use Rattle.pg_world.specs.Updates.{UpdateValue, map_of_update, IsJoinOf}
 use Rattle.pg_world.specs.Worlds.{WorldValue, new_world, taken_of, IsMapOf, taking, forgetting, making}
 use Rattle.pg_world.specs.Mirrors.Kept.{IsMade, IsWorld}

@@ -3,7 +3,7 @@ use Rattle.std.proofs.Common.{◌≡◌, ℕ, ◌<◌, ◌≤◌, Bool, true, fa
 use Rattle.std.specs.Prelude.{◌&&◌, ◌==◌, nat_lt, nat_le, Option, length, if◌then◌else◌}
 use Rattle.std.proofs.lemmas.Bool.{leb-true, ltb-true, lt-ltb, le-leb, eq-eqb}
 use Rattle.pg_arena.specs.Games.{identifier}
-use Rattle.pg_worker.specs.Cuts.{worker_of}
+use Rattle.pg_parts.specs.Cuts.{worker_of}
 use Rattle.pg_world.specs.declared.fault.WorldFault.{WorldFault}
 use Rattle.pg_world.specs.declared.fault.WorldFault.TheVariants.{NoSuchReplica, NotMine, NoSuchUpdate}
 use Rattle.pg_world.specs.declared.event.Event.TheVariants.{Lift, Deliver, Restart}

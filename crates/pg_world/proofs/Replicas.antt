@@ -10,7 +10,7 @@ use Rattle.pg_arena.specs.Games.{GameVertex, IsGame}
 use Rattle.pg_measure.specs.Games.{IsBoundsOf}
 use Rattle.pg_measure.specs.Measures.{BoundList, MeasureValue, OwnedMeasure, Fits, AtMost, IsBelow, zeros}
 use Rattle.pg_map.specs.Lines.{game_line}
-use Rattle.pg_worker.specs.Cuts.{CutValue}
+use Rattle.pg_parts.specs.Cuts.{CutValue}
 use Rattle.pg_map.specs.Maps.{measure_at, IsMap, IsJoin, IsLeastServing, zero_map}
 use Rattle.pg_world.specs.declared.replica.TheConstants.{NO_UPDATE}
 use Rattle.pg_world.specs.Updates.{UpdateValue, update_at}

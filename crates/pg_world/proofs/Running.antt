@@ -11,7 +11,7 @@ use Rattle.pg_measure.specs.Laws.{OrderIsTotal}
 use Rattle.pg_map.specs.Lines.{Line, game_line}
 use Rattle.pg_map.specs.Maps.{measure_at, IsMap, zero_map, MapAtMost, IsClosed, IsNeverAbove, IsJoin, IsLifted, IsLeastServing}
 use Rattle.pg_map.specs.Laws.{GameLines, ZeroMapIsLeast, LiftStaysUnder}
-use Rattle.pg_worker.specs.Cuts.{CutValue}
+use Rattle.pg_parts.specs.Cuts.{CutValue}
 use Rattle.pg_world.specs.declared.event.Event.{Event}
 use Rattle.pg_world.specs.declared.event.Event.TheVariants.{Lift, Deliver, Restart, CoordinatorLift}
 use Rattle.pg_world.specs.Updates.{UpdateValue, update_at, map_of_update}

@@ -11,7 +11,7 @@ use Rattle.pg_text.specs.Mirrors.Steps.{Fails}
 use Rattle.pg_text.proofs.Steps.{ok_is, err_is_ok}
 use Rattle.pg_lists.proofs.Steps.{some_is}
 use Rattle.pg_text.proofs.Spelling.{spells_append, spells_parts}
-use Rattle.pg_worker.specs.Cuts.{CutValue, even_worker}
+use Rattle.pg_parts.specs.Cuts.{CutValue, even_worker}
 use Rattle.pg_world.specs.declared.event.Event.{Event}
 use Rattle.pg_world.specs.declared.script.TheConstants.{MAX_WORKERS}
 use Rattle.pg_world.specs.declared.script_fault.ScriptFault.{ScriptFault}

@@ -1,7 +1,7 @@
 -- For one game one text spells one script.
 use Rattle.std.specs.Prelude.{◌≡◌, ℕ, List}
 use Rattle.pg_arena.specs.Games.{GameVertex, IsGame}
-use Rattle.pg_worker.specs.Cuts.{CutValue}
+use Rattle.pg_parts.specs.Cuts.{CutValue}
 use Rattle.pg_world.specs.declared.event.Event.{Event}
 use Rattle.pg_world.specs.ScriptText.{IsScriptText}
 

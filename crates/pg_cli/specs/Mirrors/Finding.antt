@@ -4,8 +4,8 @@ use Rattle.pg_arena.specs.Games.{GameVertex}
 use Rattle.pg_measure.specs.Games.{IsBoundsOf}
 use Rattle.pg_map.specs.Lines.{game_line}
 use Rattle.pg_map.specs.Maps.{MapValue, IsNeverAbove, IsLeastClosedFrom}
-use Rattle.pg_coord.specs.declared.solver.Outcome.{Outcome}
-use Rattle.pg_coord.specs.declared.solver.Outcome.TheVariants.{Closed, Stopped}
+use Rattle.pg_rounds.specs.declared.solver.Outcome.{Outcome}
+use Rattle.pg_rounds.specs.declared.solver.Outcome.TheVariants.{Closed, Stopped}
 use Rattle.pg_command.specs.Measuring.{IsMeasureOf, IsClosedMapOf}
 
 -- the map is closed; if the links are honest it is the least progress measure

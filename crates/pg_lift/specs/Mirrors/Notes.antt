@@ -5,7 +5,7 @@ use Rattle.pg_arena.specs.declared.player.Player.{Player}
 use Rattle.pg_arena.specs.declared.player.Player.TheVariants.{Even}
 use Rattle.pg_map.specs.Lines.{Line}
 use Rattle.pg_lift.specs.declared.note.Note.{Note}
-use Rattle.pg_lift.specs.Mirrors.Worklists.{IsWorklist}
+use Rattle.pg_lists.specs.Mirrors.Worklists.{IsWorklist}
 
 -- what a note says of the line of its vertex
 pub record Label : Type 0 where

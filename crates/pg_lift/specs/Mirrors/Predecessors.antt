@@ -4,7 +4,7 @@ use Rattle.std.specs.Prelude.{◌≡◌, ℕ, ◌+◌, ◌<◌, ◌≤◌, ◌�
 use Rattle.pg_map.specs.Lines.{Line, AreWithin, line_at}
 use Rattle.pg_lift.specs.declared.predecessors.Predecessors.{Predecessors}
 use Rattle.pg_lift.specs.Mirrors.Keeps.{IsAmong}
-use Rattle.pg_lift.specs.Mirrors.Worklists.{times}
+use Rattle.pg_lists.specs.Mirrors.Worklists.{times}
 
 -- u leads to x
 abbrev pub LeadsTo : (ℕ → Option Line) → ℕ → ℕ → Type 0

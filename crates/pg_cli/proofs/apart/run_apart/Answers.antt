@@ -3,7 +3,7 @@ use Rattle.pg_command.specs.declared.fault.CliFault.{CliFault}
 use Rattle.pg_command.specs.declared.fault.CliFault.TheVariants.{Listen}
 use Rattle.pg_command.specs.Measuring.{IsClosedMapOf}
 use Rattle.pg_command.specs.Answers.{RefusesBy}
-use Rattle.pg_command.specs.Commands.{workers_of}
+use Rattle.pg_words.specs.Commands.{workers_of}
 use Rattle.pg_cli.proofs.apart.run_apart.Goals as goal
 
 none_or_none : (workers : Option ℕ) → IfSome workers (λ n. n ≡ 0) → unwrap_or workers 0 ≡ 0

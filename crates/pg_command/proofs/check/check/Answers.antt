@@ -1,6 +1,6 @@
 use Rattle.pg_command.specs.Answers.{RefusesBy}
 use Rattle.pg_command.specs.Mirrors.Solver.{NoMap}
-use Rattle.pg_command.specs.declared.command.Command.TheVariants.{Check}
+use Rattle.pg_words.specs.declared.command.Command.TheVariants.{Check}
 use Rattle.pg_command.proofs.Refusing.{refused_by}
 use Rattle.pg_command.proofs.Printing.{prints_verdict}
 use Rattle.pg_command.proofs.check.check.Goals as goal

@@ -2,7 +2,7 @@ use Rattle.std.proofs.Common.{inl, inr}
 use Rattle.pg_command.specs.Faults.{text_fault}
 use Rattle.pg_command.specs.Answers.{RefusesBy}
 use Rattle.pg_command.specs.Mirrors.Solver.{NoMap}
-use Rattle.pg_command.specs.declared.command.Command.TheVariants.{Check}
+use Rattle.pg_words.specs.declared.command.Command.TheVariants.{Check}
 use Rattle.pg_command.proofs.Refusing.{no_game, no_solution, told_so, refused_by}
 use Rattle.pg_command.proofs.Verdicts.{verdict_within}
 use Rattle.pg_command.proofs.check.checked.Goals as goal

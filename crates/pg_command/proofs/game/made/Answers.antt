@@ -1,7 +1,7 @@
 use Rattle.pg_command.specs.Faults.{hoa_fault, synth_fault}
 use Rattle.pg_command.specs.Answers as answers
 use Rattle.pg_command.specs.Mirrors.Solver.{NoMap}
-use Rattle.pg_command.specs.declared.command.Command.TheVariants.{Game}
+use Rattle.pg_words.specs.declared.command.Command.TheVariants.{Game}
 use Rattle.pg_command.proofs.Refusing.{refused_by}
 use Rattle.pg_command.proofs.Made.{refuses_text, refuses_large}
 use Rattle.pg_command.proofs.game.made.Goals as goal

@@ -1,6 +1,6 @@
 use Rattle.pg_command.specs.Answers.{RefusesBy}
 use Rattle.pg_command.specs.Measuring.{measures_text}
-use Rattle.pg_command.specs.declared.command.Command.TheVariants.{Measure}
+use Rattle.pg_words.specs.declared.command.Command.TheVariants.{Measure}
 use Rattle.pg_command.proofs.Refusing.{refused_by}
 use Rattle.pg_command.proofs.Printing.{prints_measures}
 use Rattle.pg_command.proofs.measure.measure.Goals as goal

@@ -1,8 +1,8 @@
 use Rattle.std.proofs.Common.{subst, sym}
 use Rattle.std.specs.Prelude.{IfErr}
 use Rattle.pg_command.specs.Answers.{RefusesBy}
-use Rattle.pg_command.specs.declared.command.Command.{Command}
-use Rattle.pg_command.specs.declared.command.Command.TheVariants as command
+use Rattle.pg_words.specs.declared.command.Command.{Command}
+use Rattle.pg_words.specs.declared.command.Command.TheVariants as command
 use Rattle.pg_command.proofs.Found.{answered_by, answered_alone, refused_alone}
 use Rattle.pg_command.proofs.program.answer.Goals as goal
 

@@ -1,7 +1,7 @@
 use Rattle.pg_command.specs.Answers.{RefusesBy}
 use Rattle.pg_command.specs.Mirrors.Solver.{NoMap}
 use Rattle.pg_command.specs.Faults.{event_fault}
-use Rattle.pg_command.specs.declared.command.Command.TheVariants.{Replay}
+use Rattle.pg_words.specs.declared.command.Command.TheVariants.{Replay}
 use Rattle.pg_command.proofs.Refusing.{refused_by}
 use Rattle.pg_command.proofs.Replaying.{refuses_event, maps_after}
 use Rattle.pg_command.proofs.replay.replayed.Goals as goal

@@ -1,7 +1,7 @@
 use Rattle.pg_command.specs.Faults.{text_fault, script_fault}
 use Rattle.pg_command.specs.Answers.{RefusesBy}
 use Rattle.pg_command.specs.Mirrors.Solver.{NoMap}
-use Rattle.pg_command.specs.declared.command.Command.TheVariants.{Replay}
+use Rattle.pg_words.specs.declared.command.Command.TheVariants.{Replay}
 use Rattle.pg_command.proofs.Refusing.{no_game, told_so, refused_by}
 use Rattle.pg_command.proofs.Replaying.{no_script, script_told}
 use Rattle.pg_command.proofs.replay.scripted.Goals as goal

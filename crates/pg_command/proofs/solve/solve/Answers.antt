@@ -1,6 +1,6 @@
 use Rattle.pg_text.specs.SolutionLayout.{solution_text}
 use Rattle.pg_command.specs.Answers.{RefusesBy}
-use Rattle.pg_command.specs.declared.command.Command.TheVariants.{Solve}
+use Rattle.pg_words.specs.declared.command.Command.TheVariants.{Solve}
 use Rattle.pg_command.proofs.Refusing.{refused_by}
 use Rattle.pg_command.proofs.Printing.{prints_solution}
 use Rattle.pg_command.proofs.solve.solve.Goals as goal

@@ -1,6 +1,6 @@
 use Rattle.pg_command.specs.Faults.{text_fault}
 use Rattle.pg_command.specs.Answers as answers
-use Rattle.pg_command.specs.declared.command.Command.TheVariants.{Solve}
+use Rattle.pg_words.specs.declared.command.Command.TheVariants.{Solve}
 use Rattle.pg_command.proofs.Refusing.{no_game, told_so, refused_by}
 use Rattle.pg_command.proofs.solve.solved.Goals as goal
 

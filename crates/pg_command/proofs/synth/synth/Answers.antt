@@ -4,7 +4,7 @@ use Rattle.pg_command.specs.Faults.{aiger_fault}
 use Rattle.pg_command.specs.Synthesising.{realizable}
 use Rattle.pg_command.specs.Answers as answers
 use Rattle.pg_command.specs.Mirrors.Synthesised.{IsOutcome}
-use Rattle.pg_command.specs.declared.command.Command.TheVariants.{Synth}
+use Rattle.pg_words.specs.declared.command.Command.TheVariants.{Synth}
 use Rattle.pg_command.specs.declared.fault.CliFault.TheVariants.{Write}
 use Rattle.pg_command.proofs.Refusing.{refused_by}
 use Rattle.pg_command.proofs.Writing.{appends_then}

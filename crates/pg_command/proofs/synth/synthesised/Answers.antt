@@ -2,7 +2,7 @@ use Rattle.std.proofs.Common.{Err, ap, subst}
 use Rattle.pg_synth.specs.Answers.{IsMealyOf}
 use Rattle.pg_command.specs.Faults.{hoa_fault, synth_fault, aiger_fault}
 use Rattle.pg_command.specs.Answers as answers
-use Rattle.pg_command.specs.declared.command.Command.TheVariants.{Synth}
+use Rattle.pg_words.specs.declared.command.Command.TheVariants.{Synth}
 use Rattle.pg_command.proofs.Refusing.{refused_by}
 use Rattle.pg_command.proofs.Synthesised.{refuses_text, refuses_large, refuses_circuit, IsKnown, large_by, realized_by}
 use Rattle.pg_command.proofs.synth.synthesised.Goals as goal

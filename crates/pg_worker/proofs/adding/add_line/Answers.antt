@@ -2,7 +2,7 @@ use Rattle.std.proofs.Common.{◌≡◌, ◌∙◌, length, set, ap, arith, Some
 use Rattle.std.proofs.lemmas.List.{length-set}
 use Rattle.pg_wire.specs.declared.frame.VertexLine.{VertexLine}
 use Rattle.pg_wire.specs.Lines.{line_with}
-use Rattle.pg_worker.specs.Workers.{told_line}
+use Rattle.pg_parts.specs.Frames.{told_line}
 use Rattle.pg_worker.specs.Mirrors.Parts.{held_line}
 use Rattle.pg_lift.specs.Mirrors.Notes.{Span, AreNotes}
 use Rattle.pg_worker.proofs.NewLines.{IsNewLine}

@@ -5,7 +5,8 @@ use Rattle.std.proofs.lemmas.Grind.{take_at_read}
 use Rattle.std.proofs.lemmas.List.Sums.{sum_by-drop_more}
 use Rattle.pg_wire.specs.declared.frame.VertexLine.{VertexLine}
 use Rattle.pg_wire.specs.Well.{IsVertexLine}
-use Rattle.pg_worker.specs.Workers.{told_line, with_lines, FitsGame}
+use Rattle.pg_parts.specs.Frames.{told_line}
+use Rattle.pg_worker.specs.Workers.{with_lines, FitsGame}
 use Rattle.pg_worker.specs.Mirrors.Parts.{HasPlace}
 use Rattle.pg_lift.specs.Mirrors.Notes.{HasRoom}
 use Rattle.pg_lift.proofs.Noting.{room_still}

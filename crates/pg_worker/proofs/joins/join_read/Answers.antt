@@ -1,7 +1,8 @@
 use Rattle.std.proofs.Common.{refl, sym, ◌∙◌}
 use Rattle.std.proofs.lemmas.Result.{err_from_is_err_and}
 use Rattle.pg_worker.specs.Workers.{CanTake, Takes}
-use Rattle.pg_worker.proofs.Taking.{in_row, joined_none, joined_more, joined_all, joined_not}
+use Rattle.pg_parts.proofs.Reading.{in_row}
+use Rattle.pg_worker.proofs.Taking.{joined_none, joined_more, joined_all, joined_not}
 use Rattle.pg_worker.proofs.joins.join_read.Goals as goal
 
 pub each-init : goal.each-init

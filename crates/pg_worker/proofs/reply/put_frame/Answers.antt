@@ -5,7 +5,8 @@ use Rattle.pg_wire.specs.Spelling.{spelling}
 use Rattle.pg_wire.specs.Measured.{frame_of}
 use Rattle.pg_wire.proofs.Buffers.{extends_by}
 use Rattle.pg_worker.specs.Mirrors.Replies.{measures_of}
-use Rattle.pg_worker.proofs.Packing.{few_components, IsFull, stopped}
+use Rattle.pg_parts.proofs.Fitting.{few_components}
+use Rattle.pg_worker.proofs.Packing.{IsFull, stopped}
 use Rattle.pg_worker.proofs.reply.put_frame.Goals as goal
 
 pub push-requires : goal.push-requires

@@ -1,7 +1,8 @@
 use Rattle.std.proofs.Common.{rules, sym, ◌<◌, ◌≤◌, ◌+◌, ◌∷◌, [], ◌∙◌, length, ap, inr, arith}
 use Rattle.pg_wire.specs.declared.frame.VertexLine.{VertexLine}
 use Rattle.pg_wire.specs.Lines.{line_with}
-use Rattle.pg_worker.specs.Workers.{told_line, FitsGame}
+use Rattle.pg_parts.specs.Frames.{told_line}
+use Rattle.pg_worker.specs.Workers.{FitsGame}
 use Rattle.pg_worker.specs.Mirrors.Insides.{IsNext}
 use Rattle.pg_worker.proofs.Working.{above_next, next_above, next_after, whole_same, inside_same, next_same}
 use Rattle.pg_worker.proofs.Growing.{only}

@@ -1,6 +1,0 @@
-use Rattle.std.proofs.Common.{◌<◌, length}
-use Rattle.std.specs.Prelude.{All}
-use Rattle.pg_coord.proofs.rounds.turn.above_zero.Given as goal
-
-abbrev pub invariant-loop-number : goal.invariant-loop-number
-invariant-loop-number l = All (λ v. v < length l.map.measures) l.vertices.items

@@ -1,0 +1,5 @@
+pub mod Lists
+pub mod Ranges
+pub mod Joining
+pub mod Reading
+pub mod Fitting

@@ -1,0 +1,4 @@
+pub mod Cuts
+pub mod VertexSets
+pub mod Frames
+pub mod Links

@@ -1,0 +1,256 @@
+-- A reply that is heard frame by frame.
+use Rattle.std.proofs.Common.{◌≡◌, ◌≢◌, ◌⊎◌, ℕ, ◌+◌, ◌<◌, Bool, true, false, List, [], ◌∷◌, ◌++◌}
+use Rattle.std.proofs.Common.{length, Option, Some, Result, Ok, Err, refl, sym, ◌∙◌, ap, subst, arith, append_assoc, inl, inr}
+use Rattle.std.specs.Prelude.{All, OnOk}
+use Rattle.std.specs.List.{flat_map}
+use Rattle.std.proofs.lemmas.List.{length-append, append-nil}
+use Rattle.std.proofs.lemmas.List.Concat.{flat_map-append, flat_map-cons}
+use Rattle.std.proofs.lemmas.List.Elements.{All-head, All-tail}
+use Rattle.pg_measure.specs.Measures.{BoundList, MeasureValue}
+use Rattle.pg_wire.specs.declared.frame.Values.{Values}
+use Rattle.pg_wire.specs.declared.frame.Report.{Report}
+use Rattle.pg_wire.specs.declared.frame.Frame.TheVariants as frames
+use Rattle.pg_wire.specs.declared.kind.ValueKind.TheVariants.{Dense}
+use Rattle.pg_wire.specs.Spelling.{spelling}
+use Rattle.pg_wire.specs.Bytes.{Spells}
+use Rattle.pg_wire.specs.Measured.{Measured, told_values}
+use Rattle.pg_parts.specs.Cuts.{CutValue}
+use Rattle.pg_parts.specs.Frames.{Joins}
+use Rattle.pg_parts.proofs.Joining.{joins_none}
+use Rattle.pg_rounds.specs.Replies.{AreOfPart}
+use Rattle.pg_rounds.specs.declared.coordinator_map.CoordinatorMap.{CoordinatorMap}
+use Rattle.pg_parts.specs.declared.link.LinkFault.{LinkFault}
+use Rattle.pg_parts.specs.declared.link.LinkFault.TheVariants.{OutOfMemory, Failed}
+use Rattle.pg_rounds.specs.Told.{Ending, reported, spoiled, missing, Reply, FailsLink, EndsSo, IsReply, spelled_ending, spelled_reply}
+use Rattle.pg_rounds.specs.Mirrors.Telling.{AnswersAfter, FailsAfter, told_reply, reply_measures, answer_to, HearsReply}
+use Rattle.pg_rounds.proofs.Joins.{joins_then}
+
+abbrev pub values_measures : List Values → List Measured
+values_measures vs = flat_map (λ v. told_values v.values) vs
+
+values_more : (front : List Values) (v : Values) → values_measures (front ++ v ∷ []) ≡ values_measures front ++ told_values v.values
+values_more front v =
+    let f : Values → List Measured = λ w. told_values w.values in
+    flat_map-append f front (v ∷ []) ∙ ap (λ (ms : List Measured). values_measures front ++ ms) (flat_map-cons f v [] ∙ append-nil (told_values v.values))
+
+-- ---- the frames of a reply
+
+middle_of : (P : Values → Type 0) (front : List Values) (v : Values) (rest : List Values) → All P (front ++ v ∷ rest) → P v
+middle_of P [] v rest h = All-head P v rest h
+middle_of P (w ∷ front) v rest h = middle_of P front v rest (All-tail P w (front ++ v ∷ rest) h)
+
+-- so many frames of values of the reply were heard
+pub record HasHeard (r : Reply) (left : List (List ℕ)) (n : ℕ) (told : Option (List (List ℕ))) (f g : List MeasureValue) : Type 0 where
+  pub front : List Values
+  pub rest : List Values
+  pub parts : r.values ≡ front ++ rest
+  pub count : length front ≡ n
+  pub told_is : told ≡ Some (told_reply rest r.ending left)
+  pub joins : Joins f (values_measures front) g
+
+pub heard_none : (r : Reply) (left : List (List ℕ)) (told : Option (List (List ℕ))) (f : List MeasureValue) → told ≡ Some (spelled_reply r ++ left)
+    → HasHeard r left 0 told f f
+heard_none r left told f is = record { front = []; rest = r.values; parts = refl; count = refl; told_is = is; joins = joins_none f }
+
+-- the next frame is one of values
+record IsValuesNext (bounds : BoundList) (cut : CutValue) (worker : ℕ) (r : Reply) (left : List (List ℕ)) (n : ℕ) (told : Option (List (List ℕ)))
+    (f g : List MeasureValue) : Type 0 where
+  values : Values
+  rest : List (List ℕ)
+  told_is : told ≡ Some (spelling (frames.Values values) ∷ rest)
+  spells : Spells (frames.Values values) (spelling (frames.Values values))
+  part : AreOfPart Dense bounds cut worker Dense values.width (told_values values.values)
+  heard : (told' : Option (List (List ℕ))) (g' : List MeasureValue) → told' ≡ Some rest → Joins g (told_values values.values) g'
+      → HasHeard r left (n + 1) told' f g'
+
+-- the next frame is the report
+record IsReportNext (r : Reply) (left : List (List ℕ)) (told : Option (List (List ℕ))) : Type 0 where
+  report : Report
+  ending_is : r.ending ≡ reported report
+  told_is : told ≡ Some (spelling (frames.Report report) ∷ left)
+  spells : Spells (frames.Report report) (spelling (frames.Report report))
+  well : report.status ≢ 2
+
+-- the next frame fails the link
+record IsSpoiledNext (bounds : BoundList) (cut : CutValue) (worker : ℕ) (r : Reply) (left : List (List ℕ)) (told : Option (List (List ℕ))) : Type 0 where
+  bytes : List ℕ
+  ending_is : r.ending ≡ spoiled bytes
+  told_is : told ≡ Some (bytes ∷ left)
+  fails : FailsLink bounds cut worker bytes
+
+-- the reply has no further frame, and as many as it may have, or the link has none either
+record IsMissingNext (r : Reply) (left : List (List ℕ)) (n : ℕ) (told : Option (List (List ℕ))) : Type 0 where
+  ending_is : r.ending ≡ missing
+  told_is : told ≡ Some left
+  cause : (n ≡ 65536) ⊎ (left ≡ [])
+
+-- the values are joined, and the reply ends next
+record IsEndNext (bounds : BoundList) (cut : CutValue) (worker : ℕ) (r : Reply) (left : List (List ℕ)) (n : ℕ) (told : Option (List (List ℕ)))
+    (f g : List MeasureValue) : Type 0 where
+  joins : Joins f (reply_measures r) g
+  end : IsReportNext r left told ⊎ (IsSpoiledNext bounds cut worker r left told ⊎ IsMissingNext r left n told)
+
+end_next : (bounds : BoundList) (cut : CutValue) (worker : ℕ) (r : Reply) (left : List (List ℕ)) (n : ℕ) (told : Option (List (List ℕ)))
+    (e : Ending) → r.ending ≡ e → length r.values ≡ n → EndsSo bounds cut worker (length r.values) left e → told ≡ Some (spelled_ending e ++ left)
+    → IsReportNext r left told ⊎ (IsSpoiledNext bounds cut worker r left told ⊎ IsMissingNext r left n told)
+end_next bounds cut worker r left n told (reported q) is count ends told_is =
+    inl (record { report = q; ending_is = is; told_is = told_is; spells = ends.1; well = ends.2 })
+end_next bounds cut worker r left n told (spoiled bytes) is count ends told_is =
+    inr (inl (record { bytes = bytes; ending_is = is; told_is = told_is; fails = ends.1 }))
+end_next bounds cut worker r left n told missing is count ends told_is =
+    inr (inr (record {
+      ending_is = is;
+      told_is = told_is;
+      cause = elim ends [ inl many ↦ inl (sym count ∙ many) | inr none ↦ inr none.1 ];
+    }))
+
+next_by : (bounds : BoundList) (cut : CutValue) (worker : ℕ) (r : Reply) (left : List (List ℕ)) (n : ℕ) (told : Option (List (List ℕ)))
+    (f g : List MeasureValue)
+    (front rest : List Values) → IsReply bounds cut worker r left → r.values ≡ front ++ rest → length front ≡ n → told ≡ Some (told_reply rest r.ending left)
+    → Joins f (values_measures front) g → IsValuesNext bounds cut worker r left n told f g ⊎ IsEndNext bounds cut worker r left n told f g
+next_by bounds cut worker r left n told f g front [] is parts count told_is joins =
+    let all : r.values ≡ front = parts ∙ append-nil front in
+    inr (record {
+      joins = subst (λ (vs : List Values). Joins f (values_measures vs) g) (sym all) joins;
+      end = end_next bounds cut worker r left n told r.ending refl (ap length all ∙ count) is.ends told_is;
+    })
+next_by bounds cut worker r left n told f g front (v ∷ vs) is parts count told_is joins =
+    let Spelled : Values → Type 0 = λ w. Spells (frames.Values w) (spelling (frames.Values w)) in
+    let Part : Values → Type 0 = λ w. AreOfPart Dense bounds cut worker Dense w.width (told_values w.values) in
+    inl (record {
+      values = v;
+      rest = told_reply vs r.ending left;
+      told_is = told_is;
+      spells = middle_of Spelled front v vs (subst (All Spelled) parts is.spelled);
+      part = middle_of Part front v vs (subst (All Part) parts is.values);
+      heard = λ told' g' later more. record {
+        front = front ++ v ∷ [];
+        rest = vs;
+        parts = parts ∙ sym (append_assoc front (v ∷ []) vs);
+        count = omega (arith, length-append front (v ∷ []));
+        told_is = later;
+        joins = subst (λ (ms : List Measured). Joins f ms g') (sym (values_more front v))
+            (joins_then f g g' (values_measures front) (told_values v.values) joins more);
+      };
+    })
+
+-- ---- one frame is read
+
+-- what reading a frame comes to
+pub record ReadsFrame (bounds : BoundList) (cut : CutValue) (worker : ℕ) (told told' : Option (List (List ℕ))) (b b' : CoordinatorMap)
+    (result : Result Bool LinkFault) : Type 0 where
+  pub values : (v : Values) (next : List ℕ) (left : List (List ℕ)) → told ≡ Some (next ∷ left) → Spells (frames.Values v) next
+      → AreOfPart Dense bounds cut worker Dense v.width (told_values v.values)
+      → AnswersAfter false left told' result × OnOk result (Joins b.map.measures (told_values v.values) b'.map.measures)
+  pub report : (r : Report) (next : List ℕ) (left : List (List ℕ)) → told ≡ Some (next ∷ left) → Spells (frames.Report r) next → r.status ≢ 2
+      → AnswersAfter true left told' result × (b' ≡ b)
+  pub failing : (next : List ℕ) (left : List (List ℕ)) → told ≡ Some (next ∷ left) → FailsLink bounds cut worker next → FailsAfter left told' result × (b' ≡ b)
+  pub ended : told ≡ Some [] → FailsAfter [] told' result × (b' ≡ b)
+
+-- one frame of values more was heard
+pub heard_more : (bounds : BoundList) (cut : CutValue) (worker : ℕ) (r : Reply) (left : List (List ℕ)) (n : ℕ) (told told' : Option (List (List ℕ)))
+    (f : List MeasureValue) (b b' : CoordinatorMap) → n < 65536 → IsReply bounds cut worker r left → HasHeard r left n told f b.map.measures
+    → ReadsFrame bounds cut worker told told' b b' (Ok false) → HasHeard r left (n + 1) told' f b'.map.measures
+heard_more bounds cut worker r left n told told' f b b' few is h reads =
+    more (next_by bounds cut worker r left n told f b.map.measures h.front h.rest is h.parts h.count h.told_is h.joins)
+  where
+    more_at_end : IsReportNext r left told ⊎ (IsSpoiledNext bounds cut worker r left told ⊎ IsMissingNext r left n told) → ⊥
+    more_at_end (inl q) = let no = (reads.report q.report _ left q.told_is q.spells q.well).0.1.0 in cc
+    more_at_end (inr (inl q)) = let no = (reads.failing q.bytes left q.told_is q.fails).0.0 in cc
+    more_at_end (inr (inr q)) =
+        elim q.cause [
+          | inl many ↦ omega arith
+          | inr none ↦ let no = (reads.ended (q.told_is ∙ ap (λ (l : List (List ℕ)). Some l) none)).0.0 in cc
+        ]
+
+    more : IsValuesNext bounds cut worker r left n told f b.map.measures ⊎ IsEndNext bounds cut worker r left n told f b.map.measures
+        → HasHeard r left (n + 1) told' f b'.map.measures
+    more (inl v) = let x = reads.values v.values _ v.rest v.told_is v.spells v.part in v.heard told' b'.map.measures x.0.1.1 x.1
+    more (inr q) = absurd (more_at_end q.end)
+
+-- the end of the reply was heard
+pub heard_end : (bounds : BoundList) (cut : CutValue) (worker : ℕ) (r : Reply) (left : List (List ℕ)) (n : ℕ) (told told' : Option (List (List ℕ)))
+    (f : List MeasureValue) (b b' : CoordinatorMap) → n < 65536 → IsReply bounds cut worker r left → HasHeard r left n told f b.map.measures
+    → ReadsFrame bounds cut worker told told' b b' (Ok true) → HearsReply r left f b'.map.measures told' (Ok tt)
+heard_end bounds cut worker r left n told told' f b b' few is h reads =
+    ends (next_by bounds cut worker r left n told f b.map.measures h.front h.rest is h.parts h.count h.told_is h.joins)
+  where
+    at_end : Joins f (reply_measures r) b.map.measures → IsReportNext r left told ⊎ (IsSpoiledNext bounds cut worker r left told ⊎ IsMissingNext r left n told)
+        → HearsReply r left f b'.map.measures told' (Ok tt)
+    at_end joins (inl q) =
+        let x = reads.report q.report _ left q.told_is q.spells q.well in
+        λ no. (sym (ap answer_to q.ending_is), x.0.1.1, subst (λ (c : CoordinatorMap). Joins f (reply_measures r) c.map.measures) (sym x.1) joins)
+    at_end joins (inr (inl q)) = absurd (let no = (reads.failing q.bytes left q.told_is q.fails).0.0 in cc)
+    at_end joins (inr (inr q)) =
+        absurd (elim q.cause [
+          | inl many ↦ omega arith
+          | inr none ↦ let no = (reads.ended (q.told_is ∙ ap (λ (l : List (List ℕ)). Some l) none)).0.0 in cc
+        ])
+
+    ends : IsValuesNext bounds cut worker r left n told f b.map.measures ⊎ IsEndNext bounds cut worker r left n told f b.map.measures
+        → HearsReply r left f b'.map.measures told' (Ok tt)
+    ends (inl v) = absurd (let no = (reads.values v.values _ v.rest v.told_is v.spells v.part).0.1.0 in cc)
+    ends (inr q) = at_end q.joins q.end
+
+failed_is : (e : LinkFault) (result : Result (Unit {0}) LinkFault) → result ≡ Err e → result ≢ Err OutOfMemory → e ≡ Failed
+failed_is OutOfMemory result is isnt = absurd (isnt is)
+failed_is Failed result is isnt = refl
+
+-- the reply fails at a frame, or the link has none
+pub heard_failure : (bounds : BoundList) (cut : CutValue) (worker : ℕ) (r : Reply) (left : List (List ℕ)) (n : ℕ) (told told' : Option (List (List ℕ)))
+    (f : List MeasureValue) (b b' : CoordinatorMap) (e : LinkFault) → n < 65536 → IsReply bounds cut worker r left → HasHeard r left n told f b.map.measures
+    → ReadsFrame bounds cut worker told told' b b' (Err e) → HearsReply r left f b'.map.measures told' (Err e)
+heard_failure bounds cut worker r left n told told' f b b' e few is h reads = λ no.
+    fails (failed_is e (Err e) refl no) (next_by bounds cut worker r left n told f b.map.measures h.front h.rest is h.parts h.count h.told_is h.joins)
+  where
+    heard : Joins f (reply_measures r) b.map.measures → Err e ≡ answer_to r.ending → told' ≡ Some left → b' ≡ b
+        → (Err e ≡ answer_to r.ending) × (told' ≡ Some left) × Joins f (reply_measures r) b'.map.measures
+    heard joins answer later same = (answer, later, subst (λ (c : CoordinatorMap). Joins f (reply_measures r) c.map.measures) (sym same) joins)
+
+    at_end : e ≡ Failed → Joins f (reply_measures r) b.map.measures
+        → IsReportNext r left told ⊎ (IsSpoiledNext bounds cut worker r left told ⊎ IsMissingNext r left n told)
+        → (Err e ≡ answer_to r.ending) × (told' ≡ Some left) × Joins f (reply_measures r) b'.map.measures
+    at_end failed joins (inl q) =
+        let not = (reads.report q.report _ left q.told_is q.spells q.well).0.0 in
+        absurd (not (ap (λ (x : LinkFault). Err x) failed))
+    at_end failed joins (inr (inl q)) =
+        let x = reads.failing q.bytes left q.told_is q.fails in
+        heard joins (ap (λ (x : LinkFault). Err x) failed ∙ sym (ap answer_to q.ending_is)) (x.0.1 (ap (λ (x : LinkFault). Err x) failed)) x.1
+    at_end failed joins (inr (inr q)) =
+        elim q.cause [
+          | inl many ↦ absurd (omega arith)
+          | inr none ↦
+              let x = reads.ended (q.told_is ∙ ap (λ (l : List (List ℕ)). Some l) none) in
+              heard joins (ap (λ (x : LinkFault). Err x) failed ∙ sym (ap answer_to q.ending_is))
+              (x.0.1 (ap (λ (x : LinkFault). Err x) failed) ∙ ap (λ (l : List (List ℕ)). Some l) (sym none)) x.1
+        ]
+
+    fails : e ≡ Failed → IsValuesNext bounds cut worker r left n told f b.map.measures ⊎ IsEndNext bounds cut worker r left n told f b.map.measures
+        → (Err e ≡ answer_to r.ending) × (told' ≡ Some left) × Joins f (reply_measures r) b'.map.measures
+    fails failed (inl v) =
+        let not = (reads.values v.values _ v.rest v.told_is v.spells v.part).0.0 in
+        absurd (not (ap (λ (x : LinkFault). Err x) failed))
+    fails failed (inr q) = at_end failed q.joins q.end
+
+-- as many frames of values were heard as a reply has at most
+pub heard_full : (bounds : BoundList) (cut : CutValue) (worker : ℕ) (r : Reply) (left : List (List ℕ)) (n : ℕ) (told : Option (List (List ℕ)))
+    (f g : List MeasureValue) → n ≡ 65536 → IsReply bounds cut worker r left → HasHeard r left n told f g → HearsReply r left f g told (Err Failed)
+heard_full bounds cut worker r left n told f g all is h = λ no. full h.front h.rest r.ending refl is.ends h.parts h.count h.told_is h.joins
+  where
+    full : (front rest : List Values) (e : Ending) → r.ending ≡ e → EndsSo bounds cut worker (length r.values) left e → r.values ≡ front ++ rest
+        → length front ≡ n → told ≡ Some (told_reply rest r.ending left) → Joins f (values_measures front) g
+        → (Err Failed ≡ answer_to r.ending) × (told ≡ Some left) × Joins f (reply_measures r) g
+    full front rest (reported q) same ends parts count told_is joins =
+        let few = ends.0 in
+        absurd (omega (arith, ap length parts, length-append front rest))
+    full front rest (spoiled bytes) same ends parts count told_is joins =
+        let few = ends.0 in
+        absurd (omega (arith, ap length parts, length-append front rest))
+    full front [] missing same ends parts count told_is joins = (
+      sym (ap answer_to same),
+      subst (λ (e : Ending). told ≡ Some (spelled_ending e ++ left)) same told_is,
+      subst (λ (vs : List Values). Joins f (values_measures vs) g) (sym (parts ∙ append-nil front)) joins,
+    )
+    full front (v ∷ vs) missing same ends parts count told_is joins =
+        let more : n < length r.values = omega (arith, ap length parts, length-append front (v ∷ vs)) in
+        absurd (elim ends [ inl many ↦ omega arith | inr none ↦ let few = none.0 in omega arith ])

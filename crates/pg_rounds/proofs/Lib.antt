@@ -1,0 +1,10 @@
+mod Moving
+mod Joins
+mod Gathering
+mod Measuring
+mod LinkStates
+mod Ends
+mod Taken
+mod Taking
+mod Hearing
+mod Replying

@@ -1,0 +1,113 @@
+-- What is taken of links that tell their replies.
+use Rattle.std.proofs.Common.{◌≡◌, ◌≢◌, ℕ, map, Result, Ok, Err, List, [], ◌∷◌}
+use Rattle.std.proofs.Common.{Option, Some, refl, sym, ◌∙◌, ap, subst, arith, rules, inl, inr}
+use Rattle.std.specs.Prelude.{All, OnOk, ◌==◌, if◌then◌else◌}
+use Rattle.std.proofs.lemmas.Bool.{cases_Bool}
+use Rattle.pg_measure.specs.Measures.{BoundList, MeasureValue}
+use Rattle.pg_wire.specs.declared.frame.Values.{Values}
+use Rattle.pg_wire.specs.declared.frame.Frame.{Frame}
+use Rattle.pg_wire.specs.declared.frame.Frame.TheVariants as frames
+use Rattle.pg_wire.specs.declared.kind.ValueKind.{ValueKind}
+use Rattle.pg_wire.specs.declared.kind.ValueKind.TheVariants.{Dense, Sparse}
+use Rattle.pg_wire.specs.Spelling.{spelling}
+use Rattle.pg_wire.specs.Bytes.{Spells}
+use Rattle.pg_wire.specs.Measured.{Measured, dense_value, told_values, frame_of}
+use Rattle.pg_wire.proofs.Bodies.{one_frame}
+use Rattle.pg_wire.proofs.Tells.{dense_told}
+use Rattle.pg_parts.specs.Cuts.{CutValue}
+use Rattle.pg_parts.specs.Frames.{kind_of, Joins}
+use Rattle.pg_parts.specs.declared.link.LinkFault.{LinkFault}
+use Rattle.pg_parts.specs.declared.link.LinkFault.TheVariants.{Failed}
+use Rattle.pg_parts.specs.Links.{refusal, SendsTold, RestartsTold, HandsOver}
+use Rattle.pg_rounds.specs.Replies.{IsOfPart, AreOfPart}
+use Rattle.pg_rounds.specs.Told.{FailsLink}
+use Rattle.pg_rounds.specs.Mirrors.Takes.{TakesFrame}
+use Rattle.pg_rounds.specs.Mirrors.Telling.{TellsAfter, AnswersAfter, told_with}
+
+-- ---- one call
+
+pub answered_by : {T : Type 0} (r : Result T LinkFault) (x : T) (left : List (List ℕ)) (new : Option (List (List ℕ))) → r ≡ Ok x → new ≡ Some left
+    → AnswersAfter x left new r
+answered_by r x left new is told = rw is ((λ no. cc), (refl, told))
+
+pub restarted : (old new : Option (List (List ℕ))) (r : Result (Unit {0}) LinkFault) (left : List (List ℕ)) → RestartsTold old new r → old ≡ Some left
+    → TellsAfter left new r
+restarted old new r left h is = subst (λ (o : Option (List (List ℕ))). RestartsTold o new r) is h
+
+pub taken_frame : (old new : Option (List (List ℕ))) (r : Result Frame LinkFault) (next : List ℕ) (left : List (List ℕ)) (f : Frame) → TakesFrame old new r
+    → old ≡ Some (next ∷ left) → Spells f next → AnswersAfter f left new r
+taken_frame old new r next left f h is s =
+    let taken = subst (λ (o : Option (List (List ℕ))). TakesFrame o new r) is h in
+    taken f s
+
+pub handed_over : (old new : Option (List (List ℕ))) (r : Result (Unit {0}) LinkFault) (bytes next : List ℕ) (left : List (List ℕ))
+    → HandsOver old new r bytes → old ≡ Some (next ∷ left) → (r ≢ Err Failed) × OnOk r ((bytes ≡ next) × (new ≡ Some left))
+handed_over old new r bytes next left h is = subst (λ (o : Option (List (List ℕ))). HandsOver o new r bytes) is h
+
+-- ---- values
+
+-- a frame of measures that is one of values
+pub record IsDense (kind : ValueKind) (width : ℕ) (ms : List Measured) (v : Values) : Type 0 where
+  pub kind_is : kind ≡ Dense
+  pub width_is : width ≡ v.width
+  pub measures : ms ≡ told_values v.values
+
+is_dense : (kind : ValueKind) (width : ℕ) (ms : List Measured) (v : Values) → frame_of kind width ms ≡ frames.Values v → IsDense kind width ms v
+is_dense Dense width ms v e =
+    let same : record { width = width; values = map dense_value ms } ≡ v = cc in
+    record {
+      kind_is = refl;
+      width_is = ap (λ (w : Values). w.width) same;
+      measures = sym (dense_told ms) ∙ ap (λ (w : Values). told_values w.values) same;
+    }
+is_dense Sparse width ms v e = absurd (cc)
+
+-- what a reader finds is what the frame tells
+pub found_dense : (kind : ValueKind) (width : ℕ) (ms : List Measured) (v : Values) (bytes next : List ℕ) → Spells (frame_of kind width ms) bytes → bytes ≡ next
+    → Spells (frames.Values v) next → IsDense kind width ms v
+found_dense kind width ms v bytes next found same s =
+    is_dense kind width ms v (one_frame (frame_of kind width ms) (frames.Values v) next (subst (Spells (frame_of kind width ms)) same found) s)
+
+pub part_again : (agreed kind : ValueKind) (bounds : BoundList) (cut cut' : CutValue) (worker width : ℕ) (ms : List Measured) (v : Values)
+    → IsDense kind width ms v
+    → agreed ≡ Dense → cut' ≡ cut → AreOfPart Dense bounds cut worker Dense v.width (told_values v.values) → AreOfPart agreed bounds cut' worker kind width ms
+part_again agreed kind bounds cut cut' worker width ms v d a c p = rw (a, c, d.kind_is, d.width_is, d.measures) p
+
+pub frame_joins : (kind : ValueKind) (width : ℕ) (ms : List Measured) (v : Values) (f g : List MeasureValue) → IsDense kind width ms v → Joins f ms g
+    → Joins f (told_values v.values) g
+frame_joins kind width ms v f g d j = subst (λ (ns : List Measured). Joins f ns g) d.measures j
+
+-- a frame of measures of the part doesn't fail its link
+pub part_well : (agreed kind : ValueKind) (bounds : BoundList) (cut cut' : CutValue) (worker width : ℕ) (ms : List Measured) (bytes next : List ℕ)
+    → Spells (frame_of kind width ms) bytes → bytes ≡ next → agreed ≡ Dense → cut' ≡ cut → AreOfPart agreed bounds cut' worker kind width ms
+    → FailsLink bounds cut worker next → ⊥
+part_well agreed Dense bounds cut cut' worker width ms bytes next s same dense cut_is part fails =
+    let told : told_values (map dense_value ms) ≡ ms = dense_told ms in
+    fails.values (record { width = width; values = map dense_value ms }) (subst (Spells (frame_of Dense width ms)) same s) (record {
+      kind_is = refl;
+      width_is = part.width_is;
+      measures = subst (All (IsOfPart bounds cut worker)) (sym told) (subst (λ (c : CutValue). All (IsOfPart bounds c worker) ms) cut_is part.measures);
+    })
+part_well agreed Sparse bounds cut cut' worker width ms bytes next s same dense cut_is part fails = absurd (let k = part.kind_is in cc)
+
+pub sent_values : (kind : ValueKind) (width : ℕ) (ms : List Measured) (old new : Option (List (List ℕ))) (r : Result (Unit {0}) LinkFault)
+    (left : List (List ℕ))
+    → SendsTold (frame_of kind width ms) old new r → old ≡ Some left → TellsAfter left new r
+sent_values Dense width ms old new r left h is = subst (λ (o : Option (List (List ℕ))). SendsTold (frame_of Dense width ms) o new r) is h
+sent_values Sparse width ms old new r left h is = subst (λ (o : Option (List (List ℕ))). SendsTold (frame_of Sparse width ms) o new r) is h
+
+-- ---- a set-up
+
+pub refusal_spells : Spells refusal (spelling refusal)
+refusal_spells = record { well = inr (refl, search rules); within = omega arith; spelled = refl }
+
+-- a set-up of a version is refused ahead where values go sparse under it
+pub told_setup : (version : ℕ) (kind : ValueKind) (left : List (List ℕ)) → kind_of version ≡ kind
+    → (if version == 2 then spelling refusal ∷ left else left) ≡ told_with kind left
+told_setup version kind left e =
+    let each : (if version == 2 then spelling refusal ∷ left else left) ≡ told_with (kind_of version) left =
+    elim (cases_Bool (version == 2)) [
+      | inl t ↦ rw t refl
+      | inr t ↦ rw t refl
+    ] in
+    each ∙ ap (λ (k : ValueKind). told_with k left) e

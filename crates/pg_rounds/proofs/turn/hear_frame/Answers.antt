@@ -1,0 +1,132 @@
+use Rattle.std.proofs.Common.{rules, List, ◌∙◌, Ok, sym, subst, refl, inl, inr}
+use Rattle.pg_wire.specs.declared.frame.Frame.TheVariants as frames
+use Rattle.pg_wire.specs.Bytes.{Spells}
+use Rattle.pg_map.specs.Maps.{MapValue}
+use Rattle.pg_wire.specs.declared.reader.ValuesReader.{ValuesReader}
+use Rattle.pg_wire.specs.Left.{IsLeft}
+use Rattle.pg_wire.specs.Measured.{Measured, frame_of}
+use Rattle.pg_parts.specs.Frames.{IsAtLeast, Joins, measures_in}
+use Rattle.pg_rounds.specs.declared.coordinator_map.CoordinatorMap.{CoordinatorMap}
+use Rattle.pg_rounds.specs.Mirrors.CoordinatorMaps.{Moves, Hears}
+use Rattle.pg_rounds.proofs.Taking.{handed_over, found_dense, part_again, frame_joins, part_well}
+use Rattle.pg_rounds.proofs.Moving.{hears_none}
+use Rattle.pg_rounds.proofs.Measuring.{found_at_least}
+use Rattle.pg_rounds.proofs.turn.hear_frame.Goals as goal
+
+-- the measures of a frame are joined, which each map that the link is under is at least
+hears_frame : {L : Type 0} (is_honest : L → Type 0) (is_under : L → MapValue → Type 0) (old new : L) (f g : CoordinatorMap)
+    (r : ValuesReader) (ms : List Measured) → (is_honest old → is_honest new)
+    → (is_honest old → (h : MapValue) → is_under old h → is_under new h) → Moves f g → IsLeft r ms
+    → Joins f.map.measures ms g.map.measures
+    → (is_honest old → (h : MapValue) → is_under old h → IsAtLeast h.measures (measures_in (frame_of r.kind r.width ms)))
+    → Hears is_honest is_under old new f g
+hears_frame is_honest is_under old new f g r ms honest under moves left joins values = record {
+  honest = honest;
+  under = under;
+  moves = moves;
+  least = λ ho h u le. joins.least h.measures le (found_at_least h.measures r ms left (values ho h u));
+}
+
+pub returns-in_err-receive-clause-heard : goal.returns-in_err-receive-clause-heard
+returns-in_err-receive-clause-heard g c = hears_none _ _ _ _ _ c.receive.ensures.honest c.receive.ensures.under
+
+pub returns-in_ok-end-in-Ok-clause-heard : goal.returns-in_ok-end-in-Ok-clause-heard
+returns-in_ok-end-in-Ok-clause-heard g c = hears_none _ _ _ _ _ c.receive.ensures.honest c.receive.ensures.under
+
+pub returns-in_err-end-in-Ok-clause-heard : goal.returns-in_err-end-in-Ok-clause-heard
+returns-in_err-end-in-Ok-clause-heard g c = hears_none _ _ _ _ _ c.receive.ensures.honest c.receive.ensures.under
+
+pub returns-in-Err-OutOfMemory-clause-heard : goal.returns-in-Err-OutOfMemory-clause-heard
+returns-in-Err-OutOfMemory-clause-heard g c = hears_none _ _ _ _ _ c.receive.ensures.honest c.receive.ensures.under
+
+pub returns-in-Err-clause-heard : goal.returns-in-Err-clause-heard
+returns-in-Err-clause-heard g c = hears_none _ _ _ _ _ c.receive.ensures.honest c.receive.ensures.under
+
+pub returns-then-joined-clause-heard : goal.returns-then-joined-clause-heard
+returns-then-joined-clause-heard g c =
+    let found = c.in-Some.ensures.found in
+    hears_frame _ _ _ _ _ _ c.in-Some.values found.0 c.receive.ensures.honest c.receive.ensures.under c.join_frame-joined.ensures.moves found.2
+    (c.if-joined.ensures.joins found.0 found.2).1
+    (λ ho h u. c.in_ok-receive.ensures.values ho h u (frame_of c.in-Some.values.kind c.in-Some.values.width found.0) (rw c.deref.ensures.value at found.1))
+
+pub returns-else-joined-clause-heard : goal.returns-else-joined-clause-heard
+returns-else-joined-clause-heard g c =
+    let found = c.in-Some.ensures.found in
+    let same = (c.if-joined.ensures.joins found.0 found.2).1 in
+    rw same (hears_none _ _ _ _ _ c.receive.ensures.honest c.receive.ensures.under)
+
+pub join_frame-joined-requires-clause-left : goal.join_frame-joined-requires-clause-left
+join_frame-joined-requires-clause-left g c = let found = c.in-Some.ensures.found in (found.0, found.2)
+
+pub returns-then-joined-clause-values : goal.returns-then-joined-clause-values
+returns-then-joined-clause-values g c = λ v next left is s dense part.
+    let told = g.L.Link.told in
+    let values = c.in-Some.values in
+    let found = c.in-Some.ensures.found in
+    let handed = handed_over (told c.args.link.now) (told c.receive.new.self) (Ok c.in_ok-receive.field-0) c.receive.new.frame.items next left
+    c.in_ok-receive.ensures.told is in
+    let d = found_dense values.kind values.width found.0 v c.deref.result.now next found.1 (c.deref.ensures.value ∙ handed.1.0) s in (
+      ((λ no. cc), (refl, handed.1.1)),
+      frame_joins values.kind values.width found.0 v _ _ d (c.if-joined.ensures.joins found.0 found.2).1,
+    )
+
+pub returns-else-joined-clause-values : goal.returns-else-joined-clause-values
+returns-else-joined-clause-values g c = λ v next left is s dense part.
+    let told = g.L.Link.told in
+    let values = c.in-Some.values in
+    let found = c.in-Some.ensures.found in
+    let handed = handed_over (told c.args.link.now) (told c.receive.new.self) (Ok c.in_ok-receive.field-0) c.receive.new.frame.items next left
+    c.in_ok-receive.ensures.told is in
+    let d = found_dense values.kind values.width found.0 v c.deref.result.now next found.1 (c.deref.ensures.value ∙ handed.1.0) s in
+    let not = (c.if-joined.ensures.joins found.0 found.2).0 in
+    absurd (not (part_again c.args.kind values.kind c.args.coordinator.now.map.bounds c.args.task.now.cut c.cut.result.now c.args.worker values.width found.0 v d
+    dense c.cut.ensures.value part))
+
+pub returns-then-joined-clause-failing : goal.returns-then-joined-clause-failing
+returns-then-joined-clause-failing g c = λ next left is fails dense.
+    let told = g.L.Link.told in
+    let values = c.in-Some.values in
+    let found = c.in-Some.ensures.found in
+    let handed = handed_over (told c.args.link.now) (told c.receive.new.self) (Ok c.in_ok-receive.field-0) c.receive.new.frame.items next left
+    c.in_ok-receive.ensures.told is in
+    absurd (part_well c.args.kind values.kind c.args.coordinator.now.map.bounds c.args.task.now.cut c.cut.result.now c.args.worker values.width found.0
+    c.deref.result.now next found.1 (c.deref.ensures.value ∙ handed.1.0) dense c.cut.ensures.value (c.if-joined.ensures.joins found.0 found.2).0 fails)
+
+pub returns-else-joined-clause-failing : goal.returns-else-joined-clause-failing
+returns-else-joined-clause-failing g c = λ next left is fails dense.
+    let told = g.L.Link.told in
+    let found = c.in-Some.ensures.found in
+    let handed = handed_over (told c.args.link.now) (told c.receive.new.self) (Ok c.in_ok-receive.field-0) c.receive.new.frame.items next left
+    c.in_ok-receive.ensures.told is in
+    ((refl, λ e. handed.1.1), (c.if-joined.ensures.joins found.0 found.2).1)
+
+pub returns-in-Err-OutOfMemory-clause-failing : goal.returns-in-Err-OutOfMemory-clause-failing
+returns-in-Err-OutOfMemory-clause-failing g c = λ next left is fails dense.
+    let told = g.L.Link.told in
+    let handed = handed_over (told c.args.link.now) (told c.receive.new.self) (Ok c.in_ok-receive.field-0) c.receive.new.frame.items next left
+    c.in_ok-receive.ensures.told is in
+    ((refl, λ e. handed.1.1), refl)
+
+pub returns-in-Err-clause-failing : goal.returns-in-Err-clause-failing
+returns-in-Err-clause-failing g c = λ next left is fails dense.
+    let told = g.L.Link.told in
+    let handed = handed_over (told c.args.link.now) (told c.receive.new.self) (Ok c.in_ok-receive.field-0) c.receive.new.frame.items next left
+    c.in_ok-receive.ensures.told is in
+    ((refl, λ e. handed.1.1), refl)
+
+pub returns-in-Err-clause-values : goal.returns-in-Err-clause-values
+returns-in-Err-clause-values g c = λ v next left is s dense part.
+    let told = g.L.Link.told in
+    let handed = handed_over (told c.args.link.now) (told c.receive.new.self) (Ok c.in_ok-receive.field-0) c.receive.new.frame.items next left
+    c.in_ok-receive.ensures.told is in
+    absurd (c.in_default.ensures.all (frames.Values v) tt (subst (Spells (frames.Values v)) (sym (c.deref.ensures.value ∙ handed.1.0)) s) refl)
+
+pub returns-in-Err-clause-report : goal.returns-in-Err-clause-report
+returns-in-Err-clause-report g c = λ r next left is s well.
+    let told = g.L.Link.told in
+    let handed = handed_over (told c.args.link.now) (told c.receive.new.self) (Ok c.in_ok-receive.field-0) c.receive.new.frame.items next left
+    c.in_ok-receive.ensures.told is in
+    elim (c.in-Err.ensures.all (frames.Report r) (subst (Spells (frames.Report r)) (sym (c.deref-2.ensures.value ∙ handed.1.0)) s)) [
+      | inl e ↦ absurd (cc)
+      | inr e ↦ absurd (let bad : ⊥ = search rules in bad)
+    ]

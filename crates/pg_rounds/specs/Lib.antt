@@ -1,0 +1,4 @@
+pub mod Solving
+pub mod Replies
+pub mod Told
+pub mod Mirrors

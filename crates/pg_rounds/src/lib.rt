@@ -1,0 +1,20 @@
+//! The coordinator's rounds: a game is solved over links to workers, whatever they answer.
+#![tactic(auto)]
+
+mod coordinator_map;
+mod fault;
+mod joining;
+mod link_state;
+mod pass;
+mod round;
+mod sending;
+mod set_up;
+mod solver;
+mod subscribers;
+mod task;
+mod turn;
+mod values;
+
+pub use fault::CoordFault;
+pub use sending::halt;
+pub use solver::{Outcome, Solved, solve, solve_from};

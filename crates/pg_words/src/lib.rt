@@ -1,0 +1,10 @@
+//! The words of the command line: which commands there are, and what a line asks for.
+#![tactic(auto)]
+
+mod command;
+mod told;
+mod words;
+
+pub use command::Command;
+pub use told::{Told, read_words};
+pub use words::{Line, parse_words};
