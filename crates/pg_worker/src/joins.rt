@@ -1,14 +1,13 @@
 //! Values that are sent are joined to a worker's map.
 
-ghost use Rattle.std.specs.Prelude.{◌≡◌, List, OnOk, IfErr, Some, None, cond, length};
+ghost use Rattle.std.specs.Prelude.{◌≡◌, List, OnOk, IfErr, length};
 ghost use Rattle.pg_wire.specs.Left.{IsLeft};
 ghost use Rattle.pg_wire.specs.Measured.{Measured};
-ghost use Rattle.pg_measure.specs.Views.{measure_in};
 ghost use Rattle.pg_worker.specs.Turns.{CanTakeAll};
 ghost use Rattle.pg_worker.specs.Mirrors.Joins.{JoinsAll};
 
 use crate::{Worker, WorkerFault};
-use pg_map::View;
+use pg_parts::lent_row;
 use pg_wire::ValuesReader;
 
 /// Joins the map with each of the measures that are left, by a row of as many places as the width says.

@@ -1,6 +1,6 @@
 //! Values that a worker takes, and the lifts that it makes.
 
-ghost use Rattle.std.specs.Prelude.{◌≡◌, ◌↔◌, ◌<◌, ◌≤◌, false, [], ◌∷◌, length, slice_set, IsSome, IfSome, IfNone, IfOk, IfErr, IsOk, OnOk, OnErr, IsTrue, MatchBool, vec_len, vec_capacity};
+ghost use Rattle.std.specs.Prelude.{◌≡◌, ◌↔◌, ◌<◌, ◌≤◌, false, [], ◌∷◌, length, slice_set, IsSome, IfSome, IfNone, IfOk, IfErr, IsOk, OnOk, OnErr, MatchBool, vec_len, vec_capacity};
 ghost use Rattle.pg_measure.specs.Measures.{Fits, AtMost, IsBelow};
 ghost use Rattle.pg_measure.specs.Views.{measure_in};
 ghost use Rattle.pg_map.specs.Maps.{measure_at, update_map, IsJoin, IsServed, IsClosed, StaysUnder};
@@ -13,8 +13,8 @@ use crate::WorkerFault;
 use pg_arena::Vertex;
 use pg_lift::{Notes, Predecessors, find_serving, is_quiet, lift_ready, next_ready, take};
 use pg_map::{Lines, MeasureMap, Update, View};
-use pg_measure::{Bounds, Measure, row};
-use pg_parts::VertexSet;
+use pg_measure::{Bounds, Measure};
+use pg_parts::{VertexSet, fits};
 use std::alloc::{AllocError, Global};
 
 /// The updates of a run of lifts, in the order in which they were made, and whether no vertex of the part can be lifted now.

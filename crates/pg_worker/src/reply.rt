@@ -1,18 +1,15 @@
 //! Writes replies.
 
-ghost use Rattle.std.specs.Prelude.{◌≡◌, ℕ, ◌+◌, ◌<◌, ◌≤◌, ◌++◌, ◌∷◌, [], List, Some, All, length, map, take, IfOk, OnOk, OnErr, IfSome, MatchBool};
-ghost use Rattle.pg_measure.specs.Measures.{Fits};
-ghost use Rattle.pg_measure.specs.Views.{measure_in};
+ghost use Rattle.std.specs.Prelude.{◌≡◌, ℕ, ◌+◌, ◌<◌, ◌≤◌, ◌++◌, [], List, All, length, map, take, IfOk, OnOk, OnErr};
 ghost use Rattle.pg_wire.specs.Spelling.{spelling, longest};
-ghost use Rattle.pg_wire.specs.Measured.{Measured, frame_of};
-ghost use Rattle.pg_wire.specs.Written.{IsWriting, IsAdded};
+ghost use Rattle.pg_wire.specs.Measured.{frame_of};
 ghost use Rattle.pg_wire.specs.Mirrors.Buffers.{Extends};
 ghost use Rattle.pg_worker.specs.Turns.{report, frame_size, Packs, lifted_measures};
 ghost use Rattle.pg_worker.specs.Mirrors.Replies.{measures_of};
 
 use crate::Worker;
 use pg_arena::Vertex;
-use pg_map::View;
+use pg_parts::push;
 use pg_wire::{ValueKind, ValuesWriter};
 use std::alloc::AllocError;
 
