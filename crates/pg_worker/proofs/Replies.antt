@@ -22,6 +22,7 @@ use Rattle.pg_wire.proofs.Tells.{well_of}
 use Rattle.pg_wire.proofs.Append.{few}
 use Rattle.pg_wire.proofs.Frames.{fields, body_size}
 use Rattle.pg_wire.specs.Mirrors.Reading.{HasBytes}
+use Rattle.pg_parts.proofs.Fitting.{components_fit, frame_tells}
 use Rattle.pg_worker.specs.Workers.{part_line, AreLifts}
 use Rattle.pg_worker.specs.Turns.{HeldValue, LiftsAndTells, ArePacked, lifted_measures, report, frame_size}
 use Rattle.pg_parts.specs.Frames.{measures_in}
