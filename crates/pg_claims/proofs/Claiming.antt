@@ -15,6 +15,7 @@ use Rattle.pg_map.specs.Maps.{measure_at, SomeOrAll, IsServedBy, IsMap, IsClosed
 use Rattle.pg_map.proofs.Above.{fits_at}
 use Rattle.pg_map.proofs.Joins.{at_most_top, zero_map_least}
 use Rattle.pg_map.proofs.Falls.{Falls, lists, covers_falls, no_odd_cycle}
+use Rattle.pg_map.proofs.Parting.{both_serve}
 use Rattle.pg_map.proofs.Rounds.{path_weaker, Cycle, has_cycle, greatest_of}
 use Rattle.pg_claims.specs.Claims.{ClaimSet, claim_line, LeadsTo, IsClaimJustified, IsBackedBy, AreBacked, HasClaimed, IsClaimed}
 use Rattle.pg_claims.specs.Known.{known_map}
@@ -23,11 +24,6 @@ use Rattle.pg_claims.specs.Laws.{ClaimsHold, ClaimedStaysUnder, ClaimedIsNeverAb
 below_is_list : (m n : MeasureValue) → IsBelow m n → IsSome m
 below_is_list None n h = absurd h
 below_is_list (Some xs) n h = refl
-
--- what holds of some or all of the successors and what holds of all or some hold together of one
-both : (o : Player) (P Q : ℕ → Type 0) (ss : List ℕ) → SomeOrAll o P ss → SomeOrAll (opponent o) Q ss → (w : ℕ) × P w × Q w
-both Even P Q ss any all = (any.1, any.4, All-contains Q ss any.1 all (any.0, any.2, any.3))
-both Odd P Q ss all any = (any.1, All-contains P ss any.1 all (any.0, any.2, any.3), any.4)
 
 module _ (bounds : BoundList) (lines : ℕ → Option Line) (g : List MeasureValue) (claims : ClaimSet)
     (backed : AreBacked bounds lines g claims) (count : ℕ) (h : List MeasureValue) (is_map : IsMap bounds count h)
@@ -71,7 +67,7 @@ module _ (bounds : BoundList) (lines : ℕ → Option Line) (g : List MeasureVal
 
   next : (k : ℕ) → IsMissed k → (j : ℕ) × FallsTo k j × IsMissed j
   next k missed =
-      let w = both (claim_line lines claims k).owner (IsServedBy bounds lines h (claims.vertex k)) (IsBackedBy bounds lines g claims k)
+      let w = both_serve (claim_line lines claims k).owner (IsServedBy bounds lines h (claims.vertex k)) (IsBackedBy bounds lines g claims k)
       (claim_line lines claims k).successors (closed (claims.vertex k) (backed.held k missed.among)) (backed.backed k missed.among) in
       step k w.0 missed w.1 w.2
 
