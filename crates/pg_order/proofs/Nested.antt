@@ -1,7 +1,8 @@
 -- Who wins the cycles of an order: from the place of a cycle that stands first all that follows is before its end.
-use Rattle.std.proofs.Common.{◌≡◌, ℕ, zero, suc, ◌<◌, ◌≤◌, ◌⊎◌, inl, inr, List, [], ◌∷◌, ◌++◌, length, map, get_or, arith, ap, sym, ◌∙◌, subst}
+use Rattle.std.proofs.Common.{◌≡◌, ℕ, zero, suc, ◌<◌, ◌≤◌, ◌⊎◌, inl, inr, List, [], ◌∷◌, ◌++◌, length, map, get_or, arith, ap, sym, refl, ◌∙◌, subst}
 use Rattle.std.specs.Prelude.{IsTrue}
 use Rattle.std.specs.List.{All, Contains}
+use Rattle.std.proofs.lemmas.Bool.{cases_lt}
 use Rattle.std.proofs.lemmas.List.{map-append, get_or-map, get_or_past, length-map}
 use Rattle.std.proofs.lemmas.List.Elements.{All-nil, All-cons, All-head, All-tail, All-append, All-contains}
 use Rattle.pg_arena.specs.declared.player.Player.{Player}
@@ -9,7 +10,6 @@ use Rattle.pg_arena.specs.Games.{HasParityOf, IsPath, IsGreatest}
 use Rattle.pg_order.specs.declared.span.Span.{Span}
 use Rattle.pg_order.specs.Orders.{span_at, LeadsBefore, WinsCycles, IsNested, AreNested}
 use Rattle.pg_order.specs.Laws.{NestedIsWon}
-use Rattle.pg_order.proofs.Firsts.{IsFirst, first_of}
 
 -- past the last span nothing is to be shown
 pub nested_past : (player : Player) (spans : List Span) (i : ℕ) → length spans ≤ i → IsNested player spans i
@@ -26,6 +26,36 @@ all_unmap : (f : ℕ → ℕ) (P : ℕ → Type 0) (xs : List ℕ) → All P (ma
 all_unmap f P [] h = All-nil (λ x. P (f x))
 all_unmap f P (x ∷ xs) h =
     All-cons (λ y. P (f y)) x xs (All-head P (f x) (map f xs) h) (all_unmap f P xs (All-tail P (f x) (map f xs) h))
+
+-- one of a list that isn't empty is the least
+pub record IsLeast (xs : List ℕ) (v : ℕ) : Type 0 where
+  pub among : Contains xs v
+  pub least : All (λ u. v ≤ u) xs
+
+least_of : (x : ℕ) (xs : List ℕ) → (v : ℕ) × IsLeast (x ∷ xs) v
+least_of x [] = (
+  x,
+  record { among = (0, omega arith, refl); least = All-cons (λ u. x ≤ u) x [] (omega arith) (All-nil (λ u. x ≤ u)) },
+)
+least_of x (y ∷ ys) = go (least_of y ys)
+  where
+    go : (v : ℕ) × IsLeast (y ∷ ys) v → (v : ℕ) × IsLeast (x ∷ y ∷ ys) v
+    go (v, l) = elim (cases_lt v x) [
+      | inl lt ↦ (
+        v,
+        record {
+          among = (suc l.among.0, (let lt = l.among.1 in omega arith), l.among.2);
+          least = All-cons (λ u. v ≤ u) x (y ∷ ys) (omega arith) l.least;
+        },
+      )
+      | inr le ↦ (
+        x,
+        record {
+          among = (0, omega arith, refl);
+          least = All-cons (λ u. x ≤ u) x (y ∷ ys) (omega arith) (λ k d lt. let here : v ≤ get_or (y ∷ ys) k d = l.least k d lt in omega arith);
+        },
+      )
+    ]
 
 module _ (player : Player) (spans : List Span) (nested : AreNested player spans) where
   abbrev priority_at : ℕ → ℕ
@@ -71,12 +101,12 @@ module _ (player : Player) (spans : List Span) (nested : AreNested player spans)
       next (inr (suc k, lt, is)) = inr (k, omega arith, is)
 
   pub wins_places : WinsCycles player (LeadsBefore spans) priority_at
-  wins_places i rest q path greatest = go (first_of (λ j. j) i rest)
+  wins_places i rest q path greatest = go (least_of i rest)
     where
-      go : (f : ℕ) × IsFirst (λ j. j) (i ∷ rest) f → HasParityOf player q
+      go : (f : ℕ) × IsLeast (i ∷ rest) f → HasParityOf player q
       go (f, is) =
-          let later : All (λ u. f ≤ u) (rest ++ i ∷ []) = All-append (λ u. f ≤ u) rest (i ∷ []) (All-tail (λ u. f ≤ u) i rest is.first)
-          (All-cons (λ u. f ≤ u) i [] (All-head (λ u. f ≤ u) i rest is.first) (All-nil (λ u. f ≤ u))) in
+          let later : All (λ u. f ≤ u) (rest ++ i ∷ []) = All-append (λ u. f ≤ u) rest (i ∷ []) (All-tail (λ u. f ≤ u) i rest is.least)
+          (All-cons (λ u. f ≤ u) i [] (All-head (λ u. f ≤ u) i rest is.least) (All-nil (λ u. f ≤ u))) in
           let back = to_last f i rest i path later (inr is.among) in
           let all = keeps f i rest i path later back in
           let self : f < (span_at spans f).end = (All-contains (IsUnder f) (i ∷ rest) f all is.among).before in
