@@ -16,6 +16,7 @@ use crate::measure::measure;
 use crate::replay::replay;
 use crate::solve::solve;
 use crate::synth::synth;
+use pg_words::Command;
 use std::alloc::Global;
 use std::io::{Read, Write};
 
