@@ -2,25 +2,27 @@
 
 use pg_arena::Game;
 use pg_command::{Finder, Maps};
-use pg_map::MeasureMap;
+use pg_solver::Found;
 use std::alloc::{AllocError, Global};
 
-/// Lifts a game and its dual in turns, in this process.
+/// Has maps of a game and of its dual proposed and certified, in this process.
 #[derive(Clone, Copy)]
 pub(crate) struct InOnePiece;
 
 impl Finder for InOnePiece {
+    type Map = Found;
+
     ghost use Rattle.pg_command.specs.Measuring.{IsMeasureOf};
 
     ghost finds = { λ _. IsMeasureOf };
 
     ghost measures = { λ _. IsMeasureOf };
 
-    fn measure(&mut self, alloc: Global, game: &Game) -> Result<MeasureMap, AllocError> {
+    fn measure(&mut self, alloc: Global, game: &Game) -> Result<Found, AllocError> {
         pg_solver::measure(alloc, game)
     }
 
-    fn solve(&mut self, alloc: Global, game: &Game) -> Result<Maps, AllocError> {
+    fn solve(&mut self, alloc: Global, game: &Game) -> Result<Maps<Found>, AllocError> {
         let measures = pg_solver::solve(alloc, game)?;
         Ok(Maps {
             of_game: measures.of_game,

@@ -1,20 +1,17 @@
 //! Games that are solved over links to workers.
 
-ghost use Rattle.std.specs.Prelude.{◌≡◌, ⊤, length, All, IfOk};
+ghost use Rattle.std.specs.Prelude.{length, All, IfOk, IfSome};
 ghost use Rattle.pg_arena.specs.Games.{HasPrioritiesUpTo, dual};
-ghost use Rattle.pg_measure.specs.Games.{IsBoundsOf};
 ghost use Rattle.pg_parts.specs.Cuts.{IsEvenCut};
-ghost use Rattle.pg_command.specs.Measuring.{IsClosedMapOf};
 ghost use Rattle.pg_cli.specs.Linked.{IsLeastOverTold};
-ghost use Rattle.pg_cli.specs.Mirrors.Finding.{IsFoundIf, IsUnderIf, IsLeastFrom, IsOutcomeIf};
+ghost use Rattle.pg_cli.specs.Mirrors.Finding.{IsFoundIf};
 
 use crate::one_piece::InOnePiece;
-use pg_arena::{Game, Vertex, dual};
+use pg_arena::{Game, dual};
 use pg_command::{Finder, Maps};
-use pg_coord::{Link, Outcome, solve, solve_from};
-use pg_map::{MeasureMap, View};
-use pg_measure::Bounds;
-use pg_solver::{Measures, measure_from};
+use pg_coord::{Link, solve, solve_within};
+use pg_map::MeasureMap;
+use pg_solver::Found;
 use pg_worker::Cut;
 use std::alloc::{AllocError, Global};
 
@@ -35,14 +32,14 @@ const FIRST_ROUNDS: u64 = 32;
 
 const VERTICES_A_ROUND: u64 = 512;
 
-/// How many rounds are made until a game is solved on in one piece, and how many lifts a worker makes in each, at most.
+/// How many rounds are made until a game is solved in one piece, and how many lifts a worker makes in each, at most.
 #[derive(Clone, Copy)]
 struct Limit {
     rounds: u64,
     lifts: u32,
 }
 
-/// How many rounds are made over links until a game is solved on in one piece.
+/// How many rounds are made over links until a game is solved in one piece.
 #[derive(Clone, Copy)]
 pub(crate) enum Rounds {
     /// A few, and none for a large game: as suits workers in this process, which take turns.
@@ -78,6 +75,8 @@ pub(crate) struct OverLinks<'a, L> {
 }
 
 impl<L: Link> Finder for OverLinks<'_, L> {
+    type Map = Found;
+
     ghost use Rattle.std.specs.Prelude.{◌≡◌, All};
     ghost use Rattle.pg_cli.specs.Linked.{IsLeastOverTold};
     ghost use Rattle.pg_cli.specs.Mirrors.Finding.{IsFoundIf};
@@ -88,19 +87,28 @@ impl<L: Link> Finder for OverLinks<'_, L> {
     ghost measures = { λ finder game map. finder.rounds ≡ Any
         → IsLeastOverTold L.told finder.links.now game map };
 
-    fn measure(&mut self, alloc: Global, game: &Game) -> Result<MeasureMap, AllocError> {
+    fn measure(&mut self, alloc: Global, game: &Game) -> Result<Found, AllocError> {
         if let Rounds::Any = self.rounds {
-            return measure_over(alloc, game, self.links);
+            return Ok(Found::Rows(measure_over(alloc, game, self.links)?));
         }
-        match self.rounds.of(game, self.links.len()) {
-            Some(limit) => measure_within(alloc, game, self.links, limit),
+        let Some(limit) = self.rounds.of(game, self.links.len()) else {
+            return InOnePiece.measure(alloc, game);
+        };
+        match measure_within(alloc, game, self.links, limit)? {
+            Some(map) => Ok(Found::Rows(map)),
             None => InOnePiece.measure(alloc, game),
         }
     }
 
-    fn solve(&mut self, alloc: Global, game: &Game) -> Result<Maps, AllocError> {
-        match self.rounds.of(game, self.links.len()) {
-            Some(limit) => solve_within(alloc, game, self.links, limit),
+    fn solve(&mut self, alloc: Global, game: &Game) -> Result<Maps<Found>, AllocError> {
+        let Some(limit) = self.rounds.of(game, self.links.len()) else {
+            return InOnePiece.solve(alloc, game);
+        };
+        match both_within(alloc, game, self.links, limit)? {
+            Some(maps) => Ok(Maps {
+                of_game: Found::Rows(maps.of_game),
+                of_dual: Found::Rows(maps.of_dual),
+            }),
             None => InOnePiece.solve(alloc, game),
         }
     }
@@ -134,140 +142,44 @@ fn measure_over<L: Link>(
     }
 }
 
-/// What rounds over links make of a map of a game.
-fn lift_over<L: Link>(
-    alloc: Global,
-    game: &Game,
-    links: &mut [L],
-    from: MeasureMap,
-    limit: Limit,
-) -> Result<Outcome, AllocError>
-    requires { IsUnderIf (All L.is_honest links.old) game.now from }
-    ensures outcome { IfOk result (IsOutcomeIf (All L.is_honest links.old) game.now) }
-    ensures honest { All L.is_honest links.old → All L.is_honest links.new }
-{
-    let cut = cut_of(alloc, game, links.len())?;
-    match solve_from(alloc, game, links, &cut, limit.lifts, from, limit.rounds) {
-        Ok(outcome) => Ok(outcome),
-        Err(_) => Err(AllocError),
-    }
-}
-
-/// The zero map of a game.
-fn zero_map(alloc: Global, game: &Game) -> Result<MeasureMap, AllocError>
-    ensures { IfOk result (IsUnderIf ⊤ game.now) }
-{
-    let bounds = Bounds::of(alloc, game)?;
-    let zero = MeasureMap::zero(alloc, game.len() as u32, &bounds)?;
-    Ok(zero)
-}
-
-/// A map of a game, by so many rounds and then in one piece.
+/// A map of a game, by so many rounds at most; none where they are given up.
 fn measure_within<L: Link>(
     alloc: Global,
     game: &Game,
     links: &mut [L],
     limit: Limit,
-) -> Result<MeasureMap, AllocError>
-    ensures { IfOk result (IsFoundIf (All L.is_honest links.old) game.now) }
+) -> Result<Option<MeasureMap>, AllocError>
+    ensures found { IfOk result (λ o. IfSome o (IsFoundIf (All L.is_honest links.old) game.now)) }
+    ensures honest { All L.is_honest links.old → All L.is_honest links.new }
 {
-    let zero = zero_map(alloc, game)?;
-    match lift_over(alloc, game, links, zero, limit)? {
-        Outcome::Closed(solved) => Ok(solved.map),
-        Outcome::Stopped(map) => measure_from(alloc, game, map),
+    let cut = cut_of(alloc, game, links.len())?;
+    match solve_within(alloc, game, links, &cut, limit.lifts, limit.rounds) {
+        Ok(Some(solved)) => Ok(Some(solved.map)),
+        Ok(None) => Ok(None),
+        Err(_) => Err(AllocError),
     }
 }
 
-/// The zero map of the dual of a game.
-fn zero_of_dual(alloc: Global, game: &Game) -> Result<MeasureMap, AllocError>
-    ensures { IfOk result (IsUnderIf ⊤ (dual game.now)) }
-{
-    let bounds = Bounds::of_dual(alloc, game)?;
-    let zero = MeasureMap::zero(alloc, game.len() as u32, &bounds)?;
-    Ok(zero)
-}
-
-/// The map of the dual that has top where a map of the game has a list, and zeros elsewhere. Where the map of the game is closed
-/// each closed map of the dual has top there.
-fn start_of_dual(alloc: Global, game: &Game, of_game: &MeasureMap) -> Result<MeasureMap, AllocError>
-    requires { IsClosedMapOf game.now of_game.now }
-    ensures { IfOk result (IsUnderIf ⊤ (dual game.now)) }
-{
-    pg_check::laws::no_list_in_both();
-    let mut map = zero_of_dual(alloc, game)?;
-    for number in 0..game.len() {
-        let v = Vertex(number as u32);
-        if let View::List(_) = of_game.get(v) {
-            map.raise(v, View::Top);
-        }
-    }
-    Ok(map)
-}
-
-/// The least closed maps of a game and of its dual that are at least these.
-fn go_on(
-    alloc: Global,
-    game: &Game,
-    of_game: MeasureMap,
-    of_dual: MeasureMap,
-) -> Result<Maps, AllocError>
-    requires bounds { IsBoundsOf game.now of_game.bounds }
-    requires size { length of_game.measures ≡ length game.now }
-    requires dual_bounds { IsBoundsOf (dual game.now) of_dual.bounds }
-    requires dual_size { length of_dual.measures ≡ length game.now }
-    ensures of_game { IfOk result (λ maps. IsLeastFrom game.now of_game maps.of_game) }
-    ensures of_dual { IfOk result (λ maps. IsLeastFrom (dual game.now) of_dual maps.of_dual) }
-{
-    let measures = pg_solver::solve_from(alloc, game, Measures { of_game, of_dual })?;
-    Ok(Maps {
-        of_game: measures.of_game,
-        of_dual: measures.of_dual,
-    })
-}
-
-/// A map of a game and one of its dual, by so many rounds for each and then in one piece.
-fn solve_within<L: Link>(
+/// A map of a game and one of its dual, by so many rounds for each at most; none where they are given up.
+fn both_within<L: Link>(
     alloc: Global,
     game: &Game,
     links: &mut [L],
     limit: Limit,
-) -> Result<Maps, AllocError>
+) -> Result<Option<Maps<MeasureMap>>, AllocError>
     requires { HasPrioritiesUpTo 65535 game.now }
-    ensures of_game { IfOk result (λ maps. IsFoundIf (All L.is_honest links.old) game.now maps.of_game) }
-    ensures of_dual { IfOk result (λ maps. IsFoundIf (All L.is_honest links.old) (dual game.now) maps.of_dual) }
+    ensures of_game { IfOk result (λ o. IfSome o (λ maps. IsFoundIf (All L.is_honest links.old) game.now maps.of_game)) }
+    ensures of_dual { IfOk result (λ o. IfSome o
+        (λ maps. IsFoundIf (All L.is_honest links.old) (dual game.now) maps.of_dual)) }
 {
-    let zero = zero_map(alloc, game)?;
-    match lift_over(alloc, game, links, zero, limit)? {
-        Outcome::Closed(solved) => solve_dual(alloc, game, solved.map, links, limit),
-        Outcome::Stopped(map) => {
-            let of_dual = zero_of_dual(alloc, game)?;
-            go_on(alloc, game, map, of_dual)
-        }
-    }
-}
-
-/// A map of a game that was found, or a later one, and one of its dual.
-fn solve_dual<L: Link>(
-    alloc: Global,
-    game: &Game,
-    of_game: MeasureMap,
-    links: &mut [L],
-    limit: Limit,
-) -> Result<Maps, AllocError>
-    requires priorities { HasPrioritiesUpTo 65535 game.now }
-    requires closed { IsClosedMapOf game.now of_game }
-    ensures of_game { IfOk result (λ maps. IsLeastFrom game.now of_game maps.of_game) }
-    ensures of_dual { IfOk result (λ maps. IsFoundIf (All L.is_honest links.old) (dual game.now) maps.of_dual) }
-{
-    let start = start_of_dual(alloc, game, &of_game)?;
+    let Some(of_game) = measure_within(alloc, game, links, limit)? else {
+        return Ok(None);
+    };
     let Ok(dual) = dual(alloc, game) else {
         return Err(AllocError);
     };
-    match lift_over(alloc, &dual, links, start, limit)? {
-        Outcome::Closed(solved) => Ok(Maps {
-            of_game,
-            of_dual: solved.map,
-        }),
-        Outcome::Stopped(map) => go_on(alloc, game, of_game, map),
+    match measure_within(alloc, &dual, links, limit)? {
+        Some(of_dual) => Ok(Some(Maps { of_game, of_dual })),
+        None => Ok(None),
     }
 }

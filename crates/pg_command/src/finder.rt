@@ -6,18 +6,21 @@ ghost use Rattle.pg_map.specs.Maps.{MapValue};
 ghost use Rattle.pg_command.specs.Measuring.{Finding, IsClosedMapOf};
 
 use pg_arena::Game;
-use pg_map::MeasureMap;
+use pg_map::Measures;
 use std::alloc::{AllocError, Global};
 
 /// A map of a game, and one of its dual.
 #[derive(Drop)]
-pub struct Maps {
-    pub of_game: MeasureMap,
-    pub of_dual: MeasureMap,
+pub struct Maps<M> {
+    pub of_game: M,
+    pub of_dual: M,
 }
 
 /// What finds maps of games: a method of solving.
 pub trait Finder {
+    /// How the maps that it finds keep their measures.
+    type Map: Measures + Drop;
+
     /// Which maps may be found of a game. They are closed.
     ghost finds: { Self → Finding };
 
@@ -25,15 +28,15 @@ pub trait Finder {
     ghost measures: { Self → Finding };
 
     /// A map of a game.
-    fn measure(&mut self, alloc: Global, game: &Game) -> Result<MeasureMap, AllocError>
-        ensures found { IfOk result (finds self.old game.now) }
-        ensures measured { IfOk result (measures self.old game.now) };
+    fn measure(&mut self, alloc: Global, game: &Game) -> Result<Self::Map, AllocError>
+        ensures found { IfOk result (λ map. finds self.old game.now (Self.Map.map map)) }
+        ensures measured { IfOk result (λ map. measures self.old game.now (Self.Map.map map)) };
 
     /// A map of a game, and one of its dual.
-    fn solve(&mut self, alloc: Global, game: &Game) -> Result<Maps, AllocError>
+    fn solve(&mut self, alloc: Global, game: &Game) -> Result<Maps<Self::Map>, AllocError>
         requires priorities { HasPrioritiesUpTo 65535 game.now }
-        ensures of_game { IfOk result (λ maps. finds self.old game.now maps.of_game) }
-        ensures of_dual { IfOk result (λ maps. finds self.old (dual game.now) maps.of_dual) };
+        ensures of_game { IfOk result (λ maps. finds self.old game.now (Self.Map.map maps.of_game)) }
+        ensures of_dual { IfOk result (λ maps. finds self.old (dual game.now) (Self.Map.map maps.of_dual)) };
 
     ghost closed: { (finder : Self) (game : List GameVertex) (map : MapValue) → finds finder game map
         → IsClosedMapOf game map };

@@ -1,21 +1,19 @@
 -- What rounds leave, and what holds at the end.
-use Rattle.std.proofs.Common.{◌≡◌, ℕ, ◌*◌, List, length, Option, Some, None, refl, ap, ◌∙◌}
+use Rattle.std.proofs.Common.{◌≡◌, ℕ, ◌*◌, List, length, Option, Some, None, refl, ap, ◌∙◌, arith}
 use Rattle.std.proofs.lemmas.List.{length-replicate}
-use Rattle.std.specs.Prelude.{◌+◌, ◌<◌, ◌^◌, IfSome}
+use Rattle.std.specs.Prelude.{◌+◌, ◌<◌, ◌≤◌, ◌^◌, IfSome}
 use Rattle.pg_arena.specs.Games.{GameVertex}
 use Rattle.pg_measure.specs.Measures.{BoundList, MeasureValue, zeros}
 use Rattle.pg_map.specs.Lines.{game_line}
-use Rattle.pg_map.specs.Maps.{MapValue, MapAtMost, IsMap, IsClosed, IsNeverAbove, StaysUnder, zero_map}
+use Rattle.pg_map.specs.Maps.{MapValue, MapAtMost, IsMap, IsClosed, IsNeverAbove, IsLeastProgressMeasure, StaysUnder, zero_map}
 use Rattle.pg_map.specs.Lemmas.Orders.{map_reflexive, map_transitive}
 use Rattle.pg_map.specs.Weights.{list_count, map_weight}
 use Rattle.pg_map.proofs.Joins.{zero_map_least}
 use Rattle.pg_map.proofs.Weights.{zero_map_weight}
+use Rattle.pg_rounds.specs.Told.{Reply, IsLeastOverReplies}
 use Rattle.pg_rounds.specs.declared.solver.Solved.{Solved}
-use Rattle.pg_rounds.specs.declared.solver.Outcome.{Outcome}
-use Rattle.pg_rounds.specs.declared.solver.Outcome.TheVariants.{Closed, Stopped}
-use Rattle.pg_rounds.specs.Solving.{IsFoundFrom, map_in, IfClosed, IfStopped}
-use Rattle.pg_rounds.specs.Told.{Reply}
-use Rattle.pg_rounds.specs.Mirrors.Rounds.{Closes, Ends, rounds_in}
+use Rattle.pg_rounds.specs.Solving.{most_rounds}
+use Rattle.pg_rounds.specs.Mirrors.Rounds.{IsFoundFrom, Closes, Ends, IsSolvedFrom}
 use Rattle.pg_rounds.specs.Mirrors.Tasks.{TaskValue, IsClosedMap}
 
 pub zero_size : (f : List MeasureValue) (bs : BoundList) (n : ℕ) → f ≡ zero_map bs n → length f ≡ n
@@ -81,11 +79,27 @@ ends_weaker game A B S T links links' most f g rounds honest also same e = recor
   limited = e.limited;
 }
 
-pub outcome_is : (game : List GameVertex) (A : Type 0) (T : (ℕ → List Reply) → Type 0) (links most : ℕ) (f : MapValue) (o : Outcome)
-    → Ends game A T links most f (map_in o) (rounds_in o) → IfClosed o (λ s. Closes game T links f s.map s.rounds) × IfStopped o (most + 1 < 2 ^ 64)
-outcome_is game A T links most f (Closed s) e = (e.closes, tt)
-outcome_is game A T links most f (Stopped m) e = (tt, e.limited)
+-- ---- what was solved from zeros
 
-pub IfClosed-weaker : (o : Outcome) (P Q : Solved → Type 0) → ((s : Solved) → P s → Q s) → IfClosed o P → IfClosed o Q
-IfClosed-weaker (Closed s) P Q h p = h s p
-IfClosed-weaker (Stopped m) P Q h p = tt
+pub some_weaker : {A : Type 0} (o : Option A) (P Q : A → Type 0) → ((x : A) → P x → Q x) → IfSome o P → IfSome o Q
+some_weaker None P Q h p = tt
+some_weaker (Some x) P Q h p = h x p
+
+module _ (game : List GameVertex) (A : Type 0) (T : (ℕ → List Reply) → Type 0) (links : ℕ) (zero : MapValue)
+    (zeros : zero.measures ≡ zero_map zero.bounds (length game)) (s : Solved) (solved : IsSolvedFrom game A T links zero s) where
+  pub solved_rounds : (1 ≤ s.rounds) × (s.rounds + map_weight s.map.bounds s.map.measures ≤ most_rounds (length game) s.map.bounds)
+  solved_rounds =
+      let found = solved.found in
+      let rounds = solved.closes.rounds in
+      (rounds.0, rw found.bounds (omega (arith, rw found.bounds at rounds.1, zero_weight zero (length game) zeros)))
+
+  pub solved_least : A → IsLeastProgressMeasure s.map.bounds (length game) (game_line game) s.map.measures
+  solved_least honest = record {
+    map = solved.found.map;
+    closed = solved.closes.closed;
+    least = least_from A game zero s.map solved.found (zero_size zero.measures zero.bounds (length game) zeros) honest
+        (zero_under zero (length game) game zeros);
+  }
+
+  pub solved_told : (replies : ℕ → List Reply) → T replies → IsLeastOverReplies (game_line game) s.rounds links replies s.map
+  solved_told replies tell = solved.closes.told replies tell (zero_under zero (length game) game zeros)

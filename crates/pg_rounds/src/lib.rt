@@ -17,4 +17,4 @@ mod values;
 
 pub use fault::CoordFault;
 pub use sending::halt;
-pub use solver::{Outcome, Solved, solve, solve_from};
+pub use solver::{Solved, solve, solve_within};

@@ -5,7 +5,7 @@ ghost use Rattle.pg_map.specs.Lines.{game_line};
 ghost use Rattle.pg_map.specs.Maps.{MapValue, MapAtMost, IsClosed};
 ghost use Rattle.pg_map.specs.Weights.{map_weight};
 ghost use Rattle.pg_parts.specs.Frames.{Joins};
-ghost use Rattle.pg_rounds.specs.Solving.{IsFoundFrom};
+ghost use Rattle.pg_rounds.specs.Mirrors.Rounds.{IsFoundFrom};
 ghost use Rattle.pg_rounds.specs.Told.{Reply, AreReplies, TellReplies, spelled_replies, measures_of, heard};
 ghost use Rattle.pg_rounds.specs.Mirrors.Tasks.{IsClosedMap};
 ghost use Rattle.pg_rounds.specs.Mirrors.CoordinatorMaps.{Moves};

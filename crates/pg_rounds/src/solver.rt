@@ -1,15 +1,15 @@
 //! Solving over links.
 
-ghost use Rattle.std.specs.Prelude.{IsTrue, ◌≡◌, ◌↔◌, ◌+◌, ◌<◌, ◌≤◌, ◌^◌, ℕ, List, Some, true, false, length, IfOk, OnOk, All, Err};
+ghost use Rattle.std.specs.Prelude.{IsTrue, ◌≡◌, ◌↔◌, ◌+◌, ◌<◌, ◌≤◌, ◌^◌, ℕ, List, Some, true, false, length, IfOk, IfSome, IfNone, OnOk, All, Err};
 ghost use Rattle.pg_measure.specs.Games.{IsBoundsOf};
 ghost use Rattle.pg_map.specs.Lines.{game_line};
 ghost use Rattle.pg_map.specs.Maps.{zero_map, IsMap, IsClosed, IsNeverAbove, IsLeastProgressMeasure};
 ghost use Rattle.pg_map.specs.Weights.{map_weight};
-ghost use Rattle.pg_rounds.specs.Solving.{IsMismatch, most_rounds, AreRounds, IsFoundFrom, map_in, IfClosed, IfStopped};
+ghost use Rattle.pg_rounds.specs.Solving.{IsMismatch, most_rounds};
 ghost use Rattle.pg_rounds.specs.Told.{Reply, TellReplies, IsLeastOverReplies, heard};
 ghost use Rattle.pg_rounds.specs.Mirrors.LinkStates.{AllInStep};
 ghost use Rattle.pg_rounds.specs.Mirrors.Telling.{AllTell};
-ghost use Rattle.pg_rounds.specs.Mirrors.Rounds.{Ends, rounds_in};
+ghost use Rattle.pg_rounds.specs.Mirrors.Rounds.{Ends, IsSolvedFrom};
 ghost use Rattle.pg_rounds.specs.declared.fault.CoordFault.TheVariants.{CutMismatch};
 
 use crate::coordinator_map::CoordinatorMap;
@@ -51,15 +51,6 @@ fn abandoned(states: &[LinkState]) -> u64 {
         }
     }
     count
-}
-
-/// How solving over links ended.
-#[derive(Drop)]
-pub enum Outcome {
-    /// The map is closed.
-    Closed(Solved),
-    /// Rounds were given up; this is the map so far.
-    Stopped(MeasureMap),
 }
 
 /// Whether rounds are given up, after so many in which measures rose: where these are more than `most_rounds`, and where no link is in
@@ -136,32 +127,33 @@ fn run<L: Link>(
     )
 }
 
-/// Solves a task over links, from a map on.
+/// Solves a task over links, from a map on. None where rounds are given up.
 fn work<L: Link>(
     task: &Task<'_>,
     links: &mut [L],
     from: MeasureMap,
     most_rounds: u64,
-) -> Result<Outcome, AllocError>
+) -> Result<Option<Solved>, AllocError>
     requires few { length links.old < 2 ^ 32 }
     requires bounds { from.bounds ≡ task.now.bounds }
     requires size { length from.measures ≡ length task.now.game }
     ensures honest { All L.is_honest links.old → All L.is_honest links.new }
-    ensures ends { IfOk result (λ o. Ends task.now.game (All L.is_honest links.old)
-        (TellReplies L.told task.now.bounds task.now.cut links.old) (length links.old) most_rounds from (map_in o) (rounds_in o)) }
+    ensures solved { IfOk result (λ o. IfSome o (IsSolvedFrom task.now.game (All L.is_honest links.old)
+        (TellReplies L.told task.now.bounds task.now.cut links.old) (length links.old) from)) }
+    ensures limited { IfOk result (λ o. IfNone o (most_rounds + 1 < 2 ^ 64)) }
 {
     let mut coordinator = CoordinatorMap::new(task.alloc(), from)?;
     let mut places = vec![in task.alloc(); UNSET; links.len()]?;
     let states = places.as_mut_slice();
-    match run(task, links, states, &mut coordinator, most_rounds)? {
-        Some(rounds) => Ok(Outcome::Closed(Solved {
-            map: coordinator.map,
-            rounds,
-            restarts: restarts(states),
-            abandoned: abandoned(states),
-        })),
-        None => Ok(Outcome::Stopped(coordinator.map)),
-    }
+    let Some(rounds) = run(task, links, states, &mut coordinator, most_rounds)? else {
+        return Ok(None);
+    };
+    Ok(Some(Solved {
+        map: coordinator.map,
+        rounds,
+        restarts: restarts(states),
+        abandoned: abandoned(states),
+    }))
 }
 
 /// Whether the cut is over the game's vertices and as many workers as there are links.
@@ -176,6 +168,7 @@ fn fits(cut: &Cut, game: &Game, links: usize) -> bool
 fn zero_of(alloc: Global, game: &Game, cut: &Cut, links: usize) -> Result<MeasureMap, CoordFault>
     ensures bounds { IfOk result (λ m. IsBoundsOf game.now m.bounds) }
     ensures zeros { IfOk result (λ m. m.measures ≡ zero_map m.bounds (length game.now)) }
+    ensures few { OnOk result (links < 2 ^ 32) }
     ensures mismatch { result ≡ Err CutMismatch ↔ IsMismatch (length game.now) links cut.now }
 {
     if !fits(cut, game, links) {
@@ -217,46 +210,40 @@ pub fn solve<L: Link>(
     ensures mismatch { result ≡ Err CutMismatch ↔ IsMismatch (length game.now) (length links.old) cut.now }
     ensures same { result ≡ Err CutMismatch → links.new ≡ links.old }
 {
-    let zero = zero_of(alloc, game, cut, links.len())?;
-    match solve_from(alloc, game, links, cut, budget, zero, u64::MAX)? {
-        Outcome::Closed(solved) => Ok(solved),
-        Outcome::Stopped(_) => unreachable!(),
+    match solve_within(alloc, game, links, cut, budget, u64::MAX)? {
+        Some(solved) => Ok(solved),
+        None => unreachable!(),
     }
 }
 
-/// Solves a game as `solve` does, but from a map on, and gives rounds up where measures rose in more than `most_rounds` rounds, and where
-/// no link is in use. Then the map so far is handed over, and the links may be used again. `u64::MAX` is no limit, and rounds are then
-/// never given up, also where no link is in use.
-///
-/// The map is at least the one that solving began with; over honest links it is at most every closed map that is; and over links that
-/// tell their replies it is, once it is closed, as `solve` says, if the map that solving began with is at most every closed map.
+/// Solves a game as `solve` does, but gives rounds up where measures rose in more than `limit` rounds, and where no link is in use:
+/// then the answer is none, and the links may be used again. `u64::MAX` is no limit, and rounds are then never given up, also where no
+/// link is in use.
 ///
 /// Faults: as for `solve`.
-pub fn solve_from<L: Link>(
+pub fn solve_within<L: Link>(
     alloc: Global,
     game: &Game,
     links: &mut [L],
     cut: &Cut,
     budget: u32,
-    from: MeasureMap,
-    most_rounds: u64,
-) -> Result<Outcome, CoordFault>
-    requires bounds { IsBoundsOf game.now from.bounds }
-    requires size { length from.measures ≡ length game.now }
-    ensures found { IfOk result (λ o. IsFoundFrom (All L.is_honest links.old) game.now from (map_in o)) }
-    ensures closed { IfOk result (λ o. IfClosed o (λ s. IsClosed s.map.bounds (game_line game.now) s.map.measures)) }
-    ensures rounds { IfOk result (λ o. IfClosed o (λ s. AreRounds s.rounds from s.map)) }
-    ensures told { IfOk result (λ o. IfClosed o (λ s. (replies : ℕ → List Reply)
-        → TellReplies L.told from.bounds cut.now links.old replies → IsNeverAbove from.bounds (game_line game.now) from.measures
+    limit: u64,
+) -> Result<Option<Solved>, CoordFault>
+    ensures bounds { IfOk result (λ o. IfSome o (λ s. IsBoundsOf game.now s.map.bounds)) }
+    ensures map { IfOk result (λ o. IfSome o (λ s. IsMap s.map.bounds (length game.now) s.map.measures)) }
+    ensures closed { IfOk result (λ o. IfSome o (λ s. IsClosed s.map.bounds (game_line game.now) s.map.measures)) }
+    ensures rounds { IfOk result (λ o. IfSome o (λ s. (1 ≤ s.rounds)
+        × (s.rounds + map_weight s.map.bounds s.map.measures ≤ most_rounds (length game.now) s.map.bounds))) }
+    ensures least { IfOk result (λ o. IfSome o (λ s. All L.is_honest links.old
+        → IsLeastProgressMeasure s.map.bounds (length game.now) (game_line game.now) s.map.measures)) }
+    ensures told { IfOk result (λ o. IfSome o (λ s. (replies : ℕ → List Reply) → TellReplies L.told s.map.bounds cut.now links.old replies
         → IsLeastOverReplies (game_line game.now) s.rounds (length links.old) replies s.map)) }
-    ensures limited { IfOk result (λ o. IfStopped o (most_rounds + 1 < 2 ^ 64)) }
+    ensures limited { IfOk result (λ o. IfNone o (limit + 1 < 2 ^ 64)) }
     ensures honest { All L.is_honest links.old → All L.is_honest links.new }
     ensures mismatch { result ≡ Err CutMismatch ↔ IsMismatch (length game.now) (length links.old) cut.now }
     ensures same { result ≡ Err CutMismatch → links.new ≡ links.old }
 {
-    if !fits(cut, game, links.len()) {
-        return Err(CoordFault::CutMismatch);
-    }
-    let task = Task::new(alloc, game, cut, from.bounds(), budget)?;
-    Ok(work(&task, links, from, most_rounds)?)
+    let zero = zero_of(alloc, game, cut, links.len())?;
+    let task = Task::new(alloc, game, cut, zero.bounds(), budget)?;
+    Ok(work(&task, links, zero, limit)?)
 }

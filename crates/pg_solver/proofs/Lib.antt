@@ -1,2 +1,3 @@
-pub mod Sides
-pub mod Opposites
+pub mod Raising
+pub mod Settled
+pub mod Knowing

@@ -1,1 +1,2 @@
+pub mod Founds
 pub mod Mirrors

@@ -1,10 +1,12 @@
-//! Games that are solved in one piece: a game and its dual are lifted in turns, with jumps, and what one side has settled is
-//! top on the other.
+//! Games that are solved in one piece: a search proposes maps, one look at each edge tells whether they are the least progress
+//! measures, and where it doesn't the games are lifted to the end.
 #![tactic(auto)]
 
-mod part;
-mod side;
+mod found;
+mod known;
+mod lifting;
+mod proposed;
 mod solver;
-mod turns;
 
-pub use solver::{Measures, measure, measure_from, solve, solve_from};
+pub use found::Found;
+pub use solver::{Maps, measure, measure_by, solve, solve_by};

@@ -12,12 +12,13 @@ returns-in_err-game-clause-refused g c = λ workers.
 
 pub returns-clause-refused : goal.returns-clause-refused
 returns-clause-refused g c = λ workers.
-    let x = c.in_ok-game in (
-      measures_text x.game x.map.measures,
-      prints_measures (g.F.Finder.finds c.args.finder.now) workers c.args.text.items x.game x.map c.requires.limit
+    let x = c.in_ok-game in
+    let map = g.F.Map.Measures.map x.map in (
+      measures_text x.game map.measures,
+      prints_measures (g.F.Finder.finds c.args.finder.now) workers c.args.text.items x.game map c.requires.limit
           x.ensures.spelt x.ensures.found,
     )
 
-pub write_measures-requires : goal.write_measures-requires
-write_measures-requires g c =
-    let x = c.in_ok-game in (g.met.F.Finder.closed c.args.finder.now x.game x.map x.ensures.found).fits.size
+pub write_measures-requires-clause-size : goal.write_measures-requires-clause-size
+write_measures-requires-clause-size g c =
+    let x = c.in_ok-game in (g.met.F.Finder.closed c.args.finder.now x.game (g.F.Map.Measures.map x.map) x.ensures.found).fits.size

@@ -2,7 +2,7 @@ use Rattle.std.proofs.Common.{◌≡◌, ◌+◌, ◌≤◌, ℕ, List, length, 
 use Rattle.pg_map.specs.Lines.{game_line}
 use Rattle.pg_map.specs.Maps.{IsClosed}
 use Rattle.pg_map.specs.Weights.{map_weight}
-use Rattle.pg_rounds.specs.Solving.{IsFoundFrom, AreRounds}
+use Rattle.pg_rounds.specs.Mirrors.Rounds.{IsFoundFrom, AreRounds}
 use Rattle.pg_rounds.specs.Told.{Reply}
 use Rattle.pg_rounds.specs.Mirrors.LinkStates.{AllInStep}
 use Rattle.pg_rounds.specs.Mirrors.Telling.{AllTell}

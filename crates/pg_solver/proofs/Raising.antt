@@ -1,0 +1,48 @@
+-- Maps that are lifted, from zeros to the end.
+use Rattle.std.proofs.Common.{◌≡◌, ◌∙◌, ℕ, List, length, refl, sym, subst}
+use Rattle.std.specs.Prelude.{All, Option}
+use Rattle.std.proofs.lemmas.List.{length-replicate}
+use Rattle.pg_measure.specs.Measures.{BoundList, MeasureValue, Fits, zeros}
+use Rattle.pg_map.specs.Lines.{Line}
+use Rattle.pg_map.specs.Maps.{MapValue, zero_map, IsMap, IsClosed, IsLeastProgressMeasure, IsLeastClosedFrom, MapAtMost, StaysUnder}
+use Rattle.pg_map.proofs.Above.{stays_trans}
+use Rattle.pg_map.proofs.Joins.{zero_map_least}
+use Rattle.pg_map.proofs.Least.{least_from_zero}
+use Rattle.pg_lift.specs.Mirrors.Zeros.{IsAtZero}
+use Rattle.pg_solver.specs.Mirrors.Raised.{IsRaised}
+
+pub raised_itself : (lines : ℕ → Option Line) (f : MapValue) → IsRaised lines f f
+raised_itself lines f = record {
+  bounds = refl;
+  size = refl;
+  under = λ h is closed le. le;
+}
+
+pub raised_on : (lines : ℕ → Option Line) (f g h : MapValue) → IsRaised lines f g → IsRaised lines g h → IsRaised lines f h
+raised_on lines f g h a b = record {
+  bounds = b.bounds ∙ a.bounds;
+  size = b.size ∙ a.size;
+  under = stays_trans f.bounds lines f.measures g.measures h.measures a.size a.under
+      (subst (λ (bs : BoundList). StaysUnder bs lines g.measures h.measures) a.bounds b.under);
+}
+
+-- lifted from zeros to the end a map is the least progress measure
+pub least_of_lifting : (lines : ℕ → Option Line) (zero map : MapValue) → IsAtZero zero → IsRaised lines zero map
+    → IsClosed map.bounds lines map.measures → All (Fits map.bounds) map.measures
+    → IsLeastProgressMeasure map.bounds (length zero.measures) lines map.measures
+least_of_lifting lines zero map same raised closed fits =
+    let n = length zero.measures in
+    let bs = zero.bounds in
+    let under : StaysUnder bs lines (zero_map bs n) map.measures =
+    subst (λ (f : List MeasureValue). StaysUnder bs lines f map.measures) same raised.under in
+    let is : IsMap bs n map.measures =
+    record { size = raised.size; fits = subst (λ (b : BoundList). All (Fits b) map.measures) raised.bounds fits } in
+    let least : IsLeastClosedFrom bs lines (zero_map bs n) map.measures =
+    record {
+      map = subst (λ k. IsMap bs k map.measures) (sym (length-replicate n (zeros bs))) is;
+      above = zero_map_least bs n map.measures is;
+      closed = subst (λ (b : BoundList). IsClosed b lines map.measures) raised.bounds closed;
+      least = under;
+    } in
+    subst (λ (b : BoundList). IsLeastProgressMeasure b n lines map.measures) (sym raised.bounds)
+    (least_from_zero bs lines n map.measures least)

@@ -1,0 +1,20 @@
+//! What the map of one side of a game tells of the other.
+
+ghost use Rattle.std.specs.Prelude.{IfOk};
+ghost use Rattle.pg_solver.specs.Mirrors.Known.{AreKnownFrom};
+
+use pg_arena::Vertex;
+use pg_map::Measures;
+use pg_rank::RankMap;
+use std::alloc::{AllocError, Global};
+
+/// Where the other side is known to have top: where the map has a list.
+pub(crate) fn known_from(alloc: Global, map: &RankMap) -> Result<Vec<bool>, AllocError>
+    ensures { IfOk result (λ known. AreKnownFrom map.now.measures known.items) }
+{
+    let mut known = Vec::with_capacity(alloc, map.len() as usize)?;
+    for number in 0..map.len() {
+        known.push(!map.is_top(Vertex(number)))?;
+    }
+    Ok(known)
+}
