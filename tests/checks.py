@@ -7,6 +7,7 @@ import shlex
 import shutil
 import subprocess
 import tempfile
+from concurrent.futures import ProcessPoolExecutor
 
 import closed
 import controllers
@@ -356,21 +357,28 @@ def cases(programs):
     yield name, lambda: survives_want_of_memory(programs[0], name, apart, game, b"0 1,1;\n1 1,0;\n2 0,0;\n")
 
 
+def outcome(programs, number):
+    """(name, whether it was made, why it failed or was skipped, or None) of one check, by its place."""
+    name, check = list(cases(programs))[number]
+    try:
+        return name, True, check()
+    except Skipped as missing:
+        return name, False, f"skipped, {missing}"
+    except Exception as fault:
+        return name, True, repr(fault)
+
+
 def run(programs):
-    """Runs every check; answers how many passed and failed. One that is skipped did neither."""
-    passed = failed = skipped = 0
-    for name, check in cases(programs):
-        try:
-            why = check()
-        except Skipped as missing:
-            skipped += 1
-            print(f"{name}: skipped, {missing}")
-            continue
-        if why is None:
-            passed += 1
-        else:
-            failed += 1
+    """Runs every check, as many at once as there are processors; answers how many passed and failed. One that is skipped did neither."""
+    places = range(len(list(cases(programs))))
+    with ProcessPoolExecutor(len(os.sched_getaffinity(0))) as pool:
+        found = list(pool.map(outcome, [programs] * len(places), places))
+    for name, _, why in found:
+        if why is not None:
             print(f"{name}: {why}")
+    skipped = sum(not is_made for _, is_made, _ in found)
+    failed = sum(is_made and why is not None for _, is_made, why in found)
+    passed = len(found) - skipped - failed
     if skipped:
         print(f"checks: {skipped} skipped")
     print(f"checks: {passed} passed, {failed} failed")
