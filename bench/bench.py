@@ -108,18 +108,18 @@ def options():
     words.add_argument("program", nargs="?", default=os.path.join(os.path.dirname(here), "crates/parsolve/out/parsolve"))
     words.add_argument("--only", default="")
     words.add_argument("--repeats", type=int, default=3)
-    words.add_argument("--limit", type=float, default=60)
+    words.add_argument("--limit", type=int, default=60)
     words.add_argument("--words", default="")
     words.add_argument("--beside")
     return words.parse_args()
 
 
 def once(words, source, limit):
-    """(processor seconds, seconds, megabytes at the peak) of one run, or None where it took longer than the limit or wasn't
-    answered."""
+    """(processor seconds, seconds, megabytes at the peak) of one run, or None where it took more processor seconds than the limit or
+    wasn't answered."""
     with open(source, "rb") as text, open(os.devnull, "wb") as sink:
         start = time.time()
-        child = subprocess.Popen(["timeout", str(limit), *words], stdin=text, stdout=sink)
+        child = subprocess.Popen(["sh", "-c", 'ulimit -t "$0"; exec "$@"', str(limit), *words], stdin=text, stdout=sink)
         _, status, usage = os.wait4(child.pid, 0)
     seconds, child.returncode = time.time() - start, os.waitstatus_to_exitcode(status)
     if child.returncode != 0:

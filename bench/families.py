@@ -210,8 +210,109 @@ def steps(a, b, dice):
             yield i, 1, [i + 1] if i % 2 == 1 or i < 2 else [i - 2, i + 1]
 
 
+def spread(a, b, dice):
+    """a vertices with successors nearby and far, of which one in a hundred has a priority up to b, and the others 0"""
+    for i in range(a):
+        successors = [dice.below(a) if dice.one_in(4) else (i + dice.between(1, 20)) % a for _ in range(dice.between(1, 3))]
+        yield dice.between(1, b) if dice.one_in(100) else 0, dice.below(2), successors
+
+
+def two_ladders(a, b, dice):
+    """the recursive ladder of a layers and its dual side by side, with edges between them"""
+    game = [*recladder(a, b, dice)]
+    count = len(game)
+    game += [(priority + 1, 1 - owner, [count + w for w in successors]) for priority, owner, successors in game]
+    for _ in range(count // 20 + 1):
+        v = dice.below(2 * count)
+        game[v][2].append((count if v < count else 0) + dice.below(count))
+    yield from game
+
+
+def maze(a, b, dice):
+    """a vertices of Even and b odd priorities, each with three successors anywhere, and one loop of an even priority as the way out"""
+    for i in range(a):
+        yield 2 * dice.below(b) + 1 if i else 2 * b, 0, [dice.below(a) for _ in range(3)] if i else [0]
+
+
+def flat_hub(a, b, dice):
+    """a row of a vertices that lead to a loop, and a hub of Even that leads to each of them"""
+    yield 0, 0, [0]
+    for i in range(1, a):
+        yield 1 if i % 2 else 3, 0, [0]
+    yield 0, 0, [*range(1, a)]
+
+
+def rising_hub(a, b, dice):
+    """a row of a vertices that rise one after the other, and a hub of Even that leads to each of them: its least successor changes
+    again and again"""
+    yield 0, 0, [0]
+    for i in range(1, a):
+        yield 1 if i % 2 else 3, 0, [max(i - 2, 0)]
+    yield 0, 0, [*range(1, a)]
+    yield 1, 0, [a]
+
+
+def named(game):
+    """Vertices in the order of their names; successors that no vertex has the name of are left out."""
+    places = {name: place for place, name in enumerate(game)}
+    for priority, owner, successors in game.values():
+        yield priority, owner, [places[name] for name in successors if name in places]
+
+
+def friedmann(a, b, dice):
+    """a levels, after Friedmann's lower bound: the recursive method takes exponential time"""
+    game = {("a", i): (1 - i % 2, 1 - i % 2, [("b", i), ("d", i - 1)]) for i in range(1, a + 1)}
+    game |= {("b", i): (1 - i % 2, i % 2, [("a", i), ("c", i)]) for i in range(1, a + 1)}
+    game |= {("c", i): (3 * i + 5, 1 - i % 2, [("b", i + 1), ("d", i)]) for i in range(1, a)}
+    game |= {("d", i): (3 * i + 4, i % 2, [("e", i), ("d", i - 1), ("d", i + 1)]) for i in range(a)}
+    game |= {("e", i): (3 * i + 3, 1 - i % 2, [("b", i), ("d", i)]) for i in range(a)}
+    yield from named(game)
+
+
+def memory(a, b, dice):
+    """a steps, at each of which Odd's best play for measures first goes round over a small odd priority and then leaves"""
+    game = {}
+    for i in range(a):
+        game["v", i] = 0, 1, [("w", i), ("v", i + 1) if i + 1 < a else "end"]
+        game["w", i] = 2 * i + 1, 1, [("z", i)]
+        game["z", i] = 2 * i + 2, 0, [("v", i)]
+    game["end"] = 2 * a + 1, 0, ["stop"]
+    game["stop"] = 2 * a + 2, 0, ["stop"]
+    yield from named(game)
+
+
+def cells(a):
+    """Where a cell stands, of four in each of a layers behind two vertices that the layers share; nowhere outside of the layers."""
+    return lambda cell, layer: [2 + 4 * layer + cell] if 0 <= layer < a else []
+
+
+def budget(a, b, dice):
+    """a layers, found by a search for games on which jumps are given up and measures climb"""
+    at = cells(a)
+    yield 5, 1, [*at(1, 0), *at(2, 0), *at(0, a - 1)]
+    yield 4 * a + 5, 0, at(0, 0)
+    for i in range(a):
+        yield 6 * i, 0, [*at(3, i + 1), *at(0, 0)]
+        yield 2 * i + 1, 0, [*at(1, i - 1), *at(3, i + 1), *at(2, i + 1)] or at(1, i)
+        yield 4 * i + 11, 0, [0, 1, 0, *at(1, i)]
+        yield 2 * i + 1, 0, [1, *at(3, i), 0, *at(1, i)]
+
+
+def even(a, b, dice):
+    """a layers, found by a search for games on which jumps double with each layer"""
+    at, least = cells(a), 2 * a - 2
+    yield least + 5, 0, [1, *at(1, a - 1), 0, 0]
+    yield least + 2 * a + 3, 0, at(3, a - 1)
+    for i in range(a):
+        yield least + 2 * i + 6, 0, [*at(2, i + 1), *at(1, i - 1), *at(2, i + 1)] or at(0, i)
+        yield least + 4 * i + 9, i % 2, [*at(2, i), *at(3, a - 1), *at(3, i + 1)]
+        yield least - 2 * i + 1, 1, [*at(3, i + 1), *at(2, i - 1), *at(0, i), *at(0, 0)]
+        yield least + 8, 0, [*at(2, i - 1), *at(2, i + 1), *at(3, i - 1), *at(1, i + 1)] or at(3, i)
+
+
 FAMILIES = {it.__name__: it for it in (settled, climb, climbers, jurdzinski, ladder, clique, recladder, elevator, sparse, random,
-                                       chain, grid, wide, hubs, loops, repeats, hard, priorities, steps)}
+                                       chain, grid, wide, hubs, loops, repeats, hard, priorities, steps, spread, two_ladders,
+                                       maze, flat_hub, rising_hub, friedmann, memory, budget, even)}
 
 # those that Even wins without a choice
 WON_BY_EVEN = ("priorities", "steps")
