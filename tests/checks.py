@@ -132,6 +132,72 @@ def random_script(dice, game):
     return workers, cut, events
 
 
+# games at which Odd's best play for measures goes on from a vertex in two ways
+TWICE = [{0: (1, 1, [1, 2]), 1: (3, 1, [3]), 2: (5, 1, [4]), 3: (4, 1, [0]), 4: (0, 0, [4])},
+         {0: (0, 1, [1, 3]), 1: (1, 1, [2]), 2: (2, 0, [0]), 3: (3, 0, [4]), 4: (4, 0, [4])}]
+
+
+def twice_game(dice):
+    """Up to three of the games of TWICE, or of their duals, with an edge here and there from one to another and a change of a
+    priority or of an owner."""
+    game = {}
+    for _ in range(dice.randint(1, 3)):
+        part, first, more = dice.choice(TWICE), len(game), 2 * dice.randint(0, 2)
+        part = naive.dual(part) if dice.randint(0, 3) == 0 else part
+        game |= {first + v: (p + more, owner, [first + w for w in successors]) for v, (p, owner, successors) in part.items()}
+    for _ in range(dice.randint(0, 3)):
+        v, w = dice.choice(sorted(game)), dice.choice(sorted(game))
+        p, owner, successors = game[v]
+        game[v] = dice.choice([(p, owner, successors + [w]), (max(p + dice.choice((-2, -1, 1, 2)), 0), owner, successors),
+                               (p, 1 - owner, successors)])
+    return game
+
+
+def games_of_two_vertices(priorities=range(4)):
+    """Every game of two vertices of these priorities."""
+    vertices = [(p, owner, successors) for p in priorities for owner in (0, 1) for successors in ([0], [1], [0, 1])]
+    return [{0: first, 1: second} for first in vertices for second in vertices]
+
+
+def all_small_games_as_defined(program, command, text_of):
+    """The program's answers on every game of two vertices are those of the definitions."""
+    for game in games_of_two_vertices():
+        text, wanted = naive.game_text(game), text_of(game)
+        ran = subprocess.run([program, command], input=text.encode(), capture_output=True, timeout=60)
+        if ran.returncode != 0 or ran.stdout.decode() != wanted:
+            return f"{command} on {text!r}: {ran.stdout!r}, wanted {wanted!r}"
+    return None
+
+
+def renamed_text(dice, game, to):
+    """The game under other identifiers, its lines in any order, with a name on some."""
+    lines = [f"{to[v]} {p} {owner} {','.join(str(to[w]) for w in successors)}" + dice.choice(("", ' "a;b"', ' "1 0"')) + ";\n"
+             for v, (p, owner, successors) in game.items()]
+    dice.shuffle(lines)
+    return "".join(lines)
+
+
+def names_change_nothing(program, command, count=40):
+    """Under other identifiers, with names and with lines in another order the answer is the same; `solve` chooses by the order of
+    identifiers, so there this is kept."""
+    dice = random.Random(5)
+    for _ in range(count):
+        game = hard_game(dice, dice.randint(2, 60))
+        others = dice.sample(range(2**32), len(game))
+        to = dict(zip(sorted(game), sorted(others) if command == "solve" else others))
+        plain, other = (subprocess.run([program, command], input=text.encode(), capture_output=True, text=False, timeout=60, check=True)
+                        .stdout.decode().splitlines() for text in (naive.game_text(game), renamed_text(dice, game, to)))
+        if command == "solve":
+            wanted = [" ".join([str(to[int(v)]), winner, *(str(to[int(w)]) for w in choice)])
+                      for v, winner, *choice in (line.rstrip(";").split(" ") for line in plain[1:])]
+        else:
+            wanted = [f"{to[int(v)]} {shown}" for v, shown in (line.rstrip(";").split(" ") for line in plain)]
+        found = [line.rstrip(";") for line in (other[1:] if command == "solve" else other)]
+        if sorted(found) != sorted(wanted):
+            return f"{command} on {naive.game_text(game)!r} under the identifiers {to}: {found}, wanted {wanted}"
+    return None
+
+
 def replays_as_defined(program, count=300):
     """What the program prints of random schedules, or why it refuses an event, is what the definitions say."""
     dice = random.Random(2)
@@ -307,6 +373,11 @@ def cases(programs):
             text_of = naive.measure_text if command == "measure" else naive.solution_text
             yield (f"{command} on random games of many priorities ({name})", lambda p=program, c=command, t=text_of:
                    answers_as_defined(p, c, t, lambda dice: random_game(dice, range(13), 8)))
+            yield (f"{command} on every game of two vertices ({name})", lambda p=program, c=command, t=text_of:
+                   all_small_games_as_defined(p, c, t))
+            yield (f"{command} on games at which Odd goes on in two ways ({name})", lambda p=program, c=command:
+                   answers_as_defined(p, c, lambda game: climbed_text(c, game), twice_game))
+            yield f"{command} under other identifiers ({name})", lambda p=program, c=command: names_change_nothing(p, c)
             yield (f"{command} on hard games on which plain lifting ends ({name})", lambda p=program, c=command:
                    answers_as_defined(p, c, lambda game: climbed_text(c, game),
                                       lambda dice: hard_game(dice, dice.randint(20, 50)), count=60))
@@ -352,6 +423,13 @@ def cases(programs):
         name = f"want of memory in {command} of a hard game"
         yield name, lambda it=name, c=command: survives_want_of_memory(
             programs[0], it, [c], naive.game_text(hard).encode(), climbed_text(c, hard, most=200_000).encode())
+    # one game at which Odd goes on in two ways above another one
+    twice = {5 * k + v: (p + 6 * k, owner, [5 * k + w for w in successors] + [5 * (1 - k)] * (v == 3 and k == 0))
+             for k, part in enumerate(TWICE) for v, (p, owner, successors) in part.items()}
+    for command in ("measure", "solve"):
+        name = f"want of memory in {command} where Odd goes on in two ways"
+        yield name, lambda it=name, c=command: survives_want_of_memory(
+            programs[0], it, [c], naive.game_text(twice).encode(), climbed_text(c, twice).encode())
     apart = ["measure", "--workers", "1", "--apart", "/proc/self/exe"]
     name = "want of memory with --apart"
     yield name, lambda: survives_want_of_memory(programs[0], name, apart, game, b"0 1,1;\n1 1,0;\n2 0,0;\n")
