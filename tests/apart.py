@@ -4,6 +4,7 @@ to have ended then; so has a worker whose solver was killed."""
 import ctypes
 import os
 import pathlib
+import random
 import socket
 import subprocess
 import sys
@@ -12,6 +13,7 @@ import threading
 import time
 from concurrent.futures import ProcessPoolExecutor
 
+import naive
 import pretender
 
 PRETENDER = pathlib.Path(__file__).resolve().parent / "pretender.py"
@@ -36,7 +38,7 @@ FAILING = ["exits_at_once", "connects_and_exits", "half_a_frame_and_exits", "hal
            "length_at_the_limit", "unknown_kind", "setup_in_reply", "outside_its_part", "above_the_bounds", "another_width",
            "the_other_kind", "too_many_frames", "refuses", "refuses_to_lift", "quiet_at_once"]
 WAITING = ["never_connects", "connects_and_closes", "says_nothing", "half_a_frame_and_silence", "drips"]
-STARTING = ("killed_after", "nonsense_once", "slow", "starts_the_worker")  # these start a program in turn, which ends a little later
+STARTING = ("killed_after", "nonsense_once", "raises_to_top", "slow", "starts_the_worker")  # these start a program in turn, which ends a little later
 
 
 def begin():
@@ -174,6 +176,16 @@ def wins_or_is_undecided(program, text, seed):
     return name, None if checked.stdout == "WINS\n" else f"{run.output!r}: {checked.stdout!r}"
 
 
+def lies_change_nothing(program, command, seed):
+    """Workers that say top of some of their vertices don't change what is printed of a random game."""
+    dice = random.Random(seed)
+    text = naive.game_text({v: (dice.randint(0, 5), dice.randint(0, 1), dice.sample(range(12), 2)) for v in range(12)})
+    wanted = subprocess.run([program, command], input=text, capture_output=True, text=True, check=True).stdout
+    run = Run(program, command, text, "raises_to_top", 2)
+    with tempfile.TemporaryDirectory() as folder:
+        return f"{run}, seed {seed} on {text!r}", run.make(folder, PARSOLVE_SEED=str(seed)) or run.differs(0, wanted)
+
+
 def killed_at_each_frame(program, command, text):
     """One of two programs is killed behind its N-th frame, N rising until it doesn't send as many."""
     for count in range(1000):
@@ -295,6 +307,9 @@ def cases(program, is_first):
     for text in (TWO, THREE, TOPS):
         for seed in range(5):
             yield wins_or_is_undecided, program, text, seed
+    for command in ("measure", "solve"):
+        for seed in range(20):
+            yield lies_change_nothing, program, command, seed
     yield killed_at_each_frame, program, "measure", TOPS
     yield killed_at_each_frame, program, "solve", THREE
     yield starts_anew, program

@@ -198,6 +198,32 @@ def names_change_nothing(program, command, count=40):
     return None
 
 
+def limited(program, command, kilobytes):
+    """The words of a command that has so much address space."""
+    return ["sh", "-c", f'ulimit -v {kilobytes}; exec "$0" "$@"', program, command]
+
+
+def many_priorities_in_a_gigabyte(program, count=65_536, kilobytes=1_000_000):
+    """Games of as many priorities as there can be are solved in a gigabyte of address space: one with successors anywhere, whose
+    solution is checked, and one cycle, whose greatest priority is odd, so that Odd wins everywhere."""
+    dice = random.Random(6)
+    anywhere = naive.game_text({v: (v, dice.randint(0, 1), [dice.randrange(count) for _ in range(dice.randint(1, 4))])
+                                for v in range(count)})
+    solved = subprocess.run(limited(program, "solve", kilobytes), input=anywhere.encode(), capture_output=True, timeout=120)
+    checked = subprocess.run(limited(program, "check", kilobytes), input=anywhere.encode() + b"--\n" + solved.stdout,
+                             capture_output=True, timeout=120)
+    if solved.returncode != 0 or checked.stdout != b"WINS\n":
+        return f"successors anywhere: status {solved.returncode}, {solved.stderr!r}, {checked.stdout!r}, {checked.stderr!r}"
+    cycle = naive.game_text({v: (v, v % 2, [(v + 1) % count]) for v in range(count)})
+    wanted = {"measure": "".join(f"{v} T;\n" for v in range(count)),
+              "solve": f"paritysol {count - 1};\n" + "".join(f"{v} 1 {(v + 1) % count};\n" if v % 2 else f"{v} 1;\n" for v in range(count))}
+    for command, answer in wanted.items():
+        ran = subprocess.run(limited(program, command, kilobytes), input=cycle.encode(), capture_output=True, timeout=120)
+        if ran.returncode != 0 or ran.stdout.decode() != answer:
+            return f"{command} on a cycle: status {ran.returncode}, {ran.stderr!r}, {ran.stdout[:100]!r}"
+    return None
+
+
 def replays_as_defined(program, count=300):
     """What the program prints of random schedules, or why it refuses an event, is what the definitions say."""
     dice = random.Random(2)
@@ -395,6 +421,7 @@ def cases(programs):
             p, "synth", lambda dice: controllers.automaton_text(controllers.random_automaton(dice))))
         yield f"replay on random schedules ({name})", lambda p=program: replays_as_defined(p)
         yield f"solutions of the examples ({name})", lambda p=program: solutions_win(p)
+        yield f"65,536 priorities in a gigabyte ({name})", lambda p=program: many_priorities_in_a_gigabyte(p)
         for size in (100, 300, 1000):
             yield f"hard games of {size} vertices ({name})", lambda p=program, n=size: hard_games_are_solved(p, n)
         yield f"synth on random automata ({name})", lambda p=program: controllers_as_defined(p)

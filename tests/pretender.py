@@ -108,6 +108,26 @@ class Worker:
                 return
 
 
+def values_in(whole):
+    """(width, the values) of a frame of values."""
+    kind, (width, count) = whole[4], struct.unpack_from(">II", whole, 5)
+    found, at = [], 13
+    for _ in range(count):
+        vertex, is_top = struct.unpack_from(">IB", whole, at)
+        at, numbers = at + 5, [0] * width
+        if is_top:
+            numbers = None
+        elif kind == VALUES:
+            numbers, at = list(struct.unpack_from(f">{width}I", whole, at)), at + 4 * width
+        else:
+            pairs, = struct.unpack_from(">I", whole, at)
+            for place, number in struct.iter_unpack(">II", whole[at + 4:at + 4 + 8 * pairs]):
+                numbers[place] = number
+            at += 4 + 8 * pairs
+        found.append((vertex, numbers))
+    return width, found
+
+
 def top_everywhere(worker):
     return values_frame(worker.version, len(worker.bounds), [(vertex, None) for vertex in worker.part])
 
@@ -155,9 +175,9 @@ def drip(stream):
         stream.sendall(b"\0")
 
 
-def relay(port, seen):
-    """Stands between the port and the program itself. Calls `seen` with each frame that the program sent, once it was passed
-    on."""
+def relay(port, seen, change=lambda whole: whole):
+    """Stands between the port and the program itself. Passes on what `change` makes of each frame that the program sent, and then
+    calls `seen` with it."""
     listener = socket.create_server(("127.0.0.1", 0))
     subprocess.Popen([os.environ["PARSOLVE_PROGRAM"], "worker", "--port", str(listener.getsockname()[1])])
     inner, _ = listener.accept()
@@ -170,7 +190,7 @@ def relay(port, seen):
                 sys.exit(0)
             inner.sendall(data)
         if inner in ready:
-            whole = read_frame(inner)
+            whole = change(read_frame(inner))
             outer.sendall(whole)
             seen(whole)
 
@@ -228,6 +248,20 @@ def slow(port, seconds):
     relay(port, lambda whole: whole[4] == REPORT and time.sleep(seconds))
 
 
+def raises_to_top(port):
+    """Does its work, but says top in place of one in four of its values."""
+    dice = random.Random(os.environ["PARSOLVE_SEED"])
+
+    def raised(whole):
+        if whole[4] not in (VALUES, SPARSE):
+            return whole
+        width, values = values_in(whole)
+        told = [(vertex, None if dice.randint(0, 3) == 0 else numbers) for vertex, numbers in values]
+        return values_frame(2 if whole[4] == SPARSE else 1, width, told)
+
+    relay(port, lambda whole: None, raised)
+
+
 def leaves_another(port):
     """Starts a program that goes on, and does its work."""
     subprocess.Popen(["sleep", "3600"])
@@ -272,6 +306,7 @@ DOES = {
     "nonsense_once": nonsense_once,
     "silent_once": silent_once,
     "slow": lambda port: slow(port, 5),
+    "raises_to_top": raises_to_top,
     "leaves_another": leaves_another,
     "after_another": after_another,
     "starts_the_worker": lambda port: subprocess.run([os.environ["PARSOLVE_PROGRAM"], "worker", "--port", str(port)]),
