@@ -1,16 +1,13 @@
 //! The game `parity 1; 0 1 0 0,1; 1 2 1 0;`, of which one lift, of vertex 0 over vertex 1, closes the map, and in whose dual both
-//! vertices are top; and twenty vertices of priority 1, each of which leads to itself alone: alone each climbs in 21 lifts to
-//! top, so that a jump comes first. In the dual of these no priority is odd.
-
-ghost use Rattle.std.specs.Prelude.{◌≡◌, length, IfOk};
-ghost use Rattle.pg_arena.specs.Games.{dual};
-ghost use Rattle.pg_measure.specs.Games.{IsBoundsOf};
+//! vertices are top; twenty vertices of priority 1, each of which leads to itself alone, so that all are top, and zeros in the dual;
+//! and a game at which Odd goes on in two ways: from vertex 0 first round the cycle by 1 and 3, and then to 2, so that its measure
+//! has 1 for each of the priorities 5, 3 and 1.
 
 use pg_arena::{Game, GameBuilder, Player, Vertex};
-use pg_map::{MeasureMap, View};
-use pg_measure::{Bounds, row};
-use pg_solver::{Measures, measure, measure_from, solve, solve_from};
-use std::alloc::{AllocError, Global};
+use pg_map::{Measures, View};
+use pg_search::{Proposal, propose, propose_measure};
+use pg_solver::{Found, measure, measure_by, solve, solve_by};
+use std::alloc::Global;
 use std::test::Fail;
 
 fn two(alloc: Global) -> Result<Game, Fail> {
@@ -28,24 +25,52 @@ fn loops(alloc: Global) -> Result<Game, Fail> {
     Ok(builder.finish()?)
 }
 
-/// Whether these are the measures of a map of two vertices.
-fn are(map: &MeasureMap, first: View, second: View) -> bool {
-    map.len() == 2 && map.get(Vertex(0)) == first && map.get(Vertex(1)) == second
+fn two_ways(alloc: Global) -> Result<Game, Fail> {
+    let mut builder = GameBuilder::new(alloc);
+    builder.add(0, 1, Player::Odd, &[1, 2], None)?;
+    builder.add(1, 3, Player::Odd, &[3], None)?;
+    builder.add(2, 5, Player::Odd, &[4], None)?;
+    builder.add(3, 4, Player::Odd, &[0], None)?;
+    builder.add(4, 0, Player::Even, &[4], None)?;
+    Ok(builder.finish()?)
+}
+
+/// Whether a map has this measure at a vertex.
+fn has(alloc: Global, map: &Found, v: u32, measure: View) -> Result<bool, Fail> {
+    let mut room = vec![in alloc; 0; map.bounds().pairs().len()]?;
+    Ok(v < map.len() && map.row(Vertex(v), &mut room) == measure)
+}
+
+/// Whether a map has these measures at two vertices.
+fn are(alloc: Global, map: &Found, first: View, second: View) -> Result<bool, Fail> {
+    Ok(map.len() == 2 && has(alloc, map, 0, first)? && has(alloc, map, 1, second)?)
 }
 
 /// Whether a map of twenty vertices has this measure everywhere.
-fn is_everywhere(map: &MeasureMap, measure: View) -> bool {
-    map.len() == 20 && (0..20).all(|v| v < map.len() && map.get(Vertex(v)) == measure)
+fn is_everywhere(alloc: Global, map: &Found, measure: View) -> Result<bool, Fail> {
+    for v in 0..20 {
+        if !has(alloc, map, v, measure)? {
+            return Ok(false);
+        }
+    }
+    Ok(map.len() == 20)
+}
+
+/// Whether a map was proposed, and its claims showed that it is the least progress measure.
+fn is_certified(map: &Found) -> bool {
+    matches!(map, Found::Ranks(_))
 }
 
 #[test]
 fn one_lift_closes_the_map(rt: HostRuntime) -> Result<(), Fail> {
     let game = two(rt.alloc())?;
     let map = measure(rt.alloc(), &game)?;
-    assert!(rt; are(&map, View::List(&[1]), View::List(&[0])));
+    assert!(rt; is_certified(&map));
+    assert!(rt; are(rt.alloc(), &map, View::List(&[1]), View::List(&[0]))?);
     let maps = solve(rt.alloc(), &game)?;
-    assert!(rt; are(&maps.of_game, View::List(&[1]), View::List(&[0])));
-    assert!(rt; are(&maps.of_dual, View::Top, View::Top));
+    assert!(rt; is_certified(&maps.of_game) && is_certified(&maps.of_dual));
+    assert!(rt; are(rt.alloc(), &maps.of_game, View::List(&[1]), View::List(&[0]))?);
+    assert!(rt; are(rt.alloc(), &maps.of_dual, View::Top, View::Top)?);
     Ok(())
 }
 
@@ -53,80 +78,69 @@ fn one_lift_closes_the_map(rt: HostRuntime) -> Result<(), Fail> {
 fn loops_of_odd_priority_are_top(rt: HostRuntime) -> Result<(), Fail> {
     let game = loops(rt.alloc())?;
     let map = measure(rt.alloc(), &game)?;
-    assert!(rt; is_everywhere(&map, View::Top));
+    assert!(rt; is_certified(&map));
+    assert!(rt; is_everywhere(rt.alloc(), &map, View::Top)?);
     let maps = solve(rt.alloc(), &game)?;
-    assert!(rt; is_everywhere(&maps.of_game, View::Top));
-    assert!(rt; is_everywhere(&maps.of_dual, View::List(&[])));
+    assert!(rt; is_certified(&maps.of_game) && is_certified(&maps.of_dual));
+    assert!(rt; is_everywhere(rt.alloc(), &maps.of_game, View::Top)?);
+    assert!(rt; is_everywhere(rt.alloc(), &maps.of_dual, View::List(&[]))?);
     Ok(())
 }
 
-/// The map of the game with zeros but for the measure of a vertex, if that is there and the measure fits.
-fn of_game(alloc: Global, game: &Game, v: Vertex, measure: View) -> Result<MeasureMap, AllocError>
-    ensures bounds { IfOk result (λ m. IsBoundsOf game.now m.bounds) }
-    ensures size { IfOk result (λ m. length m.measures ≡ length game.now) }
-{
-    let bounds = Bounds::of(alloc, game)?;
-    let mut map = MeasureMap::zero(alloc, game.len() as u32, &bounds)?;
-    raise(&mut map, v, measure);
-    Ok(map)
+#[test]
+fn odd_goes_on_in_two_ways(rt: HostRuntime) -> Result<(), Fail> {
+    let game = two_ways(rt.alloc())?;
+    let map = measure(rt.alloc(), &game)?;
+    assert!(rt; is_certified(&map));
+    assert!(rt; has(rt.alloc(), &map, 0, View::List(&[1, 1, 1]))?);
+    assert!(rt; has(rt.alloc(), &map, 2, View::List(&[1, 0, 0]))?);
+    Ok(())
 }
 
-/// The same of the dual.
-fn of_dual(alloc: Global, game: &Game, v: Vertex, measure: View) -> Result<MeasureMap, AllocError>
-    ensures bounds { IfOk result (λ m. IsBoundsOf (dual game.now) m.bounds) }
-    ensures size { IfOk result (λ m. length m.measures ≡ length game.now) }
-{
-    let bounds = Bounds::of_dual(alloc, game)?;
-    let mut map = MeasureMap::zero(alloc, game.len() as u32, &bounds)?;
-    raise(&mut map, v, measure);
-    Ok(map)
+#[test]
+fn without_a_proposal_games_are_lifted(rt: HostRuntime) -> Result<(), Fail> {
+    let game = two(rt.alloc())?;
+    let map = measure_by(rt.alloc(), &game, None)?;
+    assert!(rt; !is_certified(&map));
+    assert!(rt; are(rt.alloc(), &map, View::List(&[1]), View::List(&[0]))?);
+    let maps = solve_by(rt.alloc(), &game, None)?;
+    assert!(rt; !is_certified(&maps.of_game) && !is_certified(&maps.of_dual));
+    assert!(rt; are(rt.alloc(), &maps.of_game, View::List(&[1]), View::List(&[0]))?);
+    assert!(rt; are(rt.alloc(), &maps.of_dual, View::Top, View::Top)?);
+    Ok(())
 }
 
-fn raise(map: &mut MeasureMap, v: Vertex, measure: View)
-    ensures bounds { map.new.bounds ≡ map.old.bounds }
-    ensures size { length map.new.measures ≡ length map.old.measures }
-{
-    let fits = match measure {
-        View::Top => true,
-        View::List(list) => row::fits(list, map.bounds().pairs()),
-    };
-    if fits && v.0 < map.len() {
-        map.raise(v, measure);
+/// Spoils a proposal: the first rank is another one.
+fn spoil(proposal: &mut Proposal) {
+    for rank in proposal.ranks.iter_mut().take(1) {
+        *rank = rank.wrapping_add(1);
     }
 }
 
-/// Where vertex 1 has 1 no list of vertex 0 is above it, and vertex 1 follows vertex 0 to top.
 #[test]
-fn it_begins_from_a_map(rt: HostRuntime) -> Result<(), Fail> {
-    let game = two(rt.alloc())?;
-    let from = of_game(rt.alloc(), &game, Vertex(1), View::List(&[1]))?;
-    let map = measure_from(rt.alloc(), &game, from)?;
-    assert!(rt; are(&map, View::Top, View::Top));
+fn a_rank_that_is_too_great_is_refused(rt: HostRuntime) -> Result<(), Fail> {
+    let game = two_ways(rt.alloc())?;
+    let mut proposal = propose_measure(rt.alloc(), &game)?;
+    assert!(rt; proposal.is_some());
+    if let Some(proposal) = &mut proposal {
+        spoil(proposal);
+    }
+    let map = measure_by(rt.alloc(), &game, proposal)?;
+    assert!(rt; !is_certified(&map));
+    assert!(rt; has(rt.alloc(), &map, 0, View::List(&[1, 1, 1]))?);
     Ok(())
 }
 
 #[test]
-fn a_closed_map_stays_as_it_is(rt: HostRuntime) -> Result<(), Fail> {
+fn claims_that_are_left_out_are_missed(rt: HostRuntime) -> Result<(), Fail> {
     let game = two(rt.alloc())?;
-    let from = of_game(rt.alloc(), &game, Vertex(0), View::List(&[1]))?;
-    let map = measure_from(rt.alloc(), &game, from)?;
-    assert!(rt; are(&map, View::List(&[1]), View::List(&[0])));
-    Ok(())
-}
-
-/// Every map of the dual is closed.
-#[test]
-fn both_begin_from_maps(rt: HostRuntime) -> Result<(), Fail> {
-    let game = loops(rt.alloc())?;
-    let from = Measures {
-        of_game: of_game(rt.alloc(), &game, Vertex(7), View::List(&[5]))?,
-        of_dual: of_dual(rt.alloc(), &game, Vertex(0), View::Top)?,
-    };
-    let maps = solve_from(rt.alloc(), &game, from)?;
-    assert!(rt; is_everywhere(&maps.of_game, View::Top));
-    let map = &maps.of_dual;
-    assert!(rt;
-        map.len() == 20 && map.get(Vertex(0)) == View::Top && map.get(Vertex(1)) == View::List(&[])
-    );
+    let mut proposals = propose(rt.alloc(), &game)?;
+    assert!(rt; proposals.is_some());
+    if let Some(proposals) = &mut proposals {
+        proposals.of_game.claims.claims.clear();
+    }
+    let maps = solve_by(rt.alloc(), &game, proposals)?;
+    assert!(rt; !is_certified(&maps.of_game) && !is_certified(&maps.of_dual));
+    assert!(rt; are(rt.alloc(), &maps.of_game, View::List(&[1]), View::List(&[0]))?);
     Ok(())
 }
