@@ -172,6 +172,12 @@ impl Graph {
         between(&self.successors, self.row(v), self.row(v.saturating_add(1)))
     }
 
+    /// Where the row of predecessors of a vertex begins.
+    #[inline(always)]
+    pub(crate) fn start(&self, v: u32) -> u32 {
+        at(&self.starts, v)
+    }
+
     /// The predecessors of a vertex: one as often as it has edges to that.
     #[inline(always)]
     pub fn predecessors(&self, v: u32) -> &[u32] {

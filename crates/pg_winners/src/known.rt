@@ -52,13 +52,13 @@ impl Known {
 
     /// Forgets all tangles.
     pub fn clear(&mut self) {
+        for escape in &self.escapes {
+            put(&mut self.lists, *escape, NONE);
+        }
         self.tangles.clear();
         self.vertices.clear();
         self.choices.clear();
         self.escapes.clear();
-        for list in self.lists.iter_mut() {
-            *list = NONE;
-        }
         self.entries.clear();
     }
 

@@ -42,8 +42,9 @@ pub(crate) struct Recursion {
     /// What a level's opponent takes.
     taken: Vec<u32>,
     links: Links,
-    /// What was won above the last level.
+    /// What was won above the last level, and whether that is all that is to be won there.
     won: Sides,
+    is_ending: bool,
 }
 
 /// The region of what a level attracts. What its opponent takes out of it is in the region before that.
@@ -66,6 +67,7 @@ impl Recursion {
             taken: Vec::new(alloc),
             links: Links::new(alloc, vertices)?,
             won: Sides::EMPTY,
+            is_ending: false,
         })
     }
 
@@ -87,11 +89,14 @@ impl Recursion {
             if table.looks > most {
                 return Ok(None);
             }
-            if self.next_head(table) != NONE {
+            if !self.is_ending && self.next_head(table) != NONE {
                 self.descend(graph, table)?;
-            } else if !self.ascend(graph, table)? {
-                break;
+                continue;
             }
+            let Some(level) = self.levels.pop() else {
+                break;
+            };
+            self.end(graph, table, level)?;
         }
         Ok(Some(self.won))
     }
@@ -105,6 +110,7 @@ impl Recursion {
         self.levels.clear();
         self.attracted.clear();
         self.won = Sides::EMPTY;
+        self.is_ending = false;
         Ok(())
     }
 
@@ -178,19 +184,16 @@ impl Recursion {
         Ok(())
     }
 
-    /// Ends levels, up to one that begins again; false where none is left.
-    fn ascend(&mut self, graph: &Graph, table: &mut Table) -> Result<bool, AllocError> {
-        for _ in 0..u64::MAX {
-            let Some(mut level) = self.levels.pop() else {
-                break;
-            };
-            if self.take(graph, table, &mut level)? {
-                self.begin_again(graph, table, level)?;
-                return Ok(true);
-            }
+    /// Ends the last level, or begins it again.
+    fn end(&mut self, graph: &Graph, table: &mut Table, level: Level) -> Result<(), AllocError> {
+        let mut level = level;
+        self.is_ending = !self.take(graph, table, &mut level)?;
+        if self.is_ending {
             self.win(graph, table, level);
+            Ok(())
+        } else {
+            self.begin_again(graph, table, level)
         }
-        Ok(false)
     }
 
     /// Takes what the opponent of a level won above it out of the level, and what that attracts. Whether it attracts more: then

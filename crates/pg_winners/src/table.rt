@@ -7,7 +7,9 @@ use std::alloc::{AllocError, Global};
 /// The region of a vertex that Even or Odd wins is 0 or 1. Then come those that wait, the regions that a method makes for the
 /// time that it needs, from `FIRST` on, and what is free for the method.
 pub(crate) const WAITING: u32 = 2;
+
 pub(crate) const FIRST: u32 = 3;
+
 pub(crate) const FREE: u32 = u32::MAX;
 
 /// Rows of more successors are gone through from where the last search in them ended.
@@ -32,6 +34,8 @@ pub(crate) struct Table {
     hints: Vec<u32>,
     /// How many vertices and edges were looked at.
     pub looks: u64,
+    /// What `look_ahead` saw last, which nobody asks for.
+    seen: u32,
 }
 
 impl Table {
@@ -46,6 +50,7 @@ impl Table {
             spans: vec![in alloc; 0; all]?,
             hints: vec![in alloc; 0; hints]?,
             looks: 0,
+            seen: 0,
         })
     }
 
@@ -149,8 +154,27 @@ impl Table {
             let Some(target) = list.get(place).copied() else {
                 break;
             };
+            self.look_ahead(graph, list, place);
             self.pull(graph, list, target, attraction)?;
         }
         Ok(())
+    }
+
+    /// Reads what will be wanted soon, so that it isn't waited for then.
+    #[inline(always)]
+    fn look_ahead(&mut self, graph: &Graph, list: &[u32], place: usize) {
+        let mut seen = 0;
+        if let Some(target) = list.get(place.wrapping_add(12)) {
+            seen ^= graph.start(*target);
+        }
+        if let Some(target) = list.get(place.wrapping_add(8)) {
+            seen ^= graph.predecessors(*target).first().copied().unwrap_or(0);
+        }
+        if let Some(target) = list.get(place.wrapping_add(4)) {
+            for v in graph.predecessors(*target).iter().take(4) {
+                seen ^= self.region(*v) ^ graph.owner(*v);
+            }
+        }
+        self.seen ^= seen;
     }
 }

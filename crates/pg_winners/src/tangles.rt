@@ -204,12 +204,14 @@ impl Tangles {
         };
         let mut has_learnt = false;
         let mut looks = 0usize;
+        for v in &self.region {
+            looks = looks.saturating_add(played.targets(*v).len());
+        }
         self.components.search(&played, &self.region, graph.len())?;
         for number in 0..self.components.len() {
             let component = self.components.component(number);
             self.escapes.clear();
             let is_last = list_escapes(&played, &self.components, component, &mut self.escapes)?;
-            looks = looks.saturating_add(component.len());
             if !is_last {
                 continue;
             }
@@ -225,7 +227,7 @@ impl Tangles {
                 self.known.add(table, player, component, &self.escapes)?;
             }
         }
-        table.look(looks);
+        table.look(looks.saturating_mul(2));
         Ok(has_learnt)
     }
 }
