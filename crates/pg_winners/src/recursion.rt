@@ -1,9 +1,9 @@
 //! Zielonka's recursion (Theoretical Computer Science 200, 1998) without recursion, on a part of the graph.
 //!
 //! A level takes the free vertices of the greatest priority, its heads, and what they attract for the player of that priority;
-//! so, too, those of the next priorities as long as these are the same player's. What is left is the game of the next level. Where the
-//! opponent wins nothing there that attracts more of the level, the player wins the level. Else that is taken out, and the level begins again
-//! with what is left.
+//! so, too, those of the next priorities as long as these are the same player's. What is left is the game of the next level.
+//! Where the opponent wins nothing there that attracts more of the level, the player wins the level. Else that is taken out, and
+//! the level begins again with what is left.
 //!
 //! Each list that is won stands in an order that shows it: the heads, what they attract, and then what is won in the next level;
 //! what an opponent takes out of a level stands behind what it took before. Edges lead to places before, but those in the span of
@@ -19,8 +19,9 @@ use std::alloc::{AllocError, Global};
 #[derive(Clone, Copy)]
 struct Level {
     player: u32,
-    /// Where its vertices begin in the list of all that levels attracted.
+    /// Where its vertices begin in the list of all that levels attracted, and its heads in the list of heads.
     attracted: usize,
+    heads: usize,
     /// Its part of the list of vertices by priority, and the place behind its first head there.
     from: u32,
     to: u32,
@@ -38,7 +39,9 @@ pub(crate) struct Recursion {
     to: u32,
     place: u32,
     levels: Vec<Level>,
+    /// What all levels attracted, and the places of heads in that list.
     attracted: Vec<u32>,
+    heads: Vec<u32>,
     /// What a level's opponent takes.
     taken: Vec<u32>,
     links: Links,
@@ -64,6 +67,7 @@ impl Recursion {
             place: 0,
             levels: Vec::new(alloc),
             attracted: Vec::new(alloc),
+            heads: Vec::new(alloc),
             taken: Vec::new(alloc),
             links: Links::new(alloc, vertices)?,
             won: Sides::EMPTY,
@@ -109,6 +113,7 @@ impl Recursion {
         self.place = self.to;
         self.levels.clear();
         self.attracted.clear();
+        self.heads.clear();
         self.won = Sides::EMPTY;
         self.is_ending = false;
         Ok(())
@@ -137,6 +142,7 @@ impl Recursion {
         self.levels.push(Level {
             player,
             attracted: self.attracted.len(),
+            heads: self.heads.len(),
             from: self.from,
             to: self.to,
             place: self.place,
@@ -177,7 +183,7 @@ impl Recursion {
             if table.region(v) == FREE {
                 table.mark(v, mark);
                 put(&mut table.choices, v, NONE);
-                put(&mut table.spans, v, 1);
+                self.heads.push(count(self.attracted.len()))?;
                 self.attracted.push(v)?;
             }
         }
@@ -278,6 +284,7 @@ impl Recursion {
     ) -> Result<(), AllocError> {
         self.won = level.won;
         self.attracted.truncate(level.attracted);
+        self.heads.truncate(level.heads);
         let begin = (level.to as usize).min(self.order.len());
         let rest = &mut self.order[begin..];
         if rest.len() < (level.place.saturating_sub(level.from) / 16) as usize {
@@ -300,15 +307,13 @@ impl Recursion {
         let rest = self.won.of(level.player);
         let block = from(&self.attracted, level.attracted);
         table.look(block.len());
-        let mut left = count(block.len()).saturating_add(rest.len);
-        for v in block {
-            if at(&table.spans, *v) != 0 {
-                put(&mut table.spans, *v, left);
-            }
-            left = left.saturating_sub(1);
-            if at(&table.choices, *v) == NONE && graph.owner(*v) == level.player {
-                let choice = table.first_from(graph.successors(*v), mark);
-                put(&mut table.choices, *v, choice.unwrap_or(NONE));
+        let end = count(self.attracted.len()).saturating_add(rest.len);
+        for place in from(&self.heads, level.heads) {
+            let head = at(&self.attracted, *place);
+            put(&mut table.spans, head, end.saturating_sub(*place));
+            if graph.owner(head) == level.player {
+                let choice = table.first_from(graph.successors(head), mark);
+                put(&mut table.choices, head, choice.unwrap_or(NONE));
             }
         }
         let won = self.links.append(level.won.of(level.player), block);
@@ -316,5 +321,6 @@ impl Recursion {
         self.won = level.won;
         self.won.set(level.player, won);
         self.attracted.truncate(level.attracted);
+        self.heads.truncate(level.heads);
     }
 }
