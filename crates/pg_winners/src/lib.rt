@@ -17,6 +17,8 @@ mod table;
 mod tangles;
 mod winners;
 
+pub use arranging::{Placed, arrange};
 pub use graph::Graph;
 pub use numbers::NONE;
+pub use played::Played;
 pub use winners::{Winners, find_winners};

@@ -2,14 +2,16 @@
 
 use crate::components::Edges;
 use crate::graph::Graph;
-use crate::numbers::between;
-use crate::table::Table;
+use crate::numbers::{at, between};
 
 /// The edges inside a region, where its player goes as it chose.
 #[derive(Clone, Copy)]
-pub(crate) struct Played<'a> {
+pub struct Played<'a> {
     pub graph: &'a Graph,
-    pub table: &'a Table,
+    pub choices: &'a [u32],
+    /// The region of each vertex.
+    pub regions: &'a [u32],
+    /// Even is 0, Odd is 1.
     pub player: u32,
     pub region: u32,
 }
@@ -18,7 +20,7 @@ impl Edges for Played<'_> {
     #[inline(always)]
     fn targets(&self, v: u32) -> &[u32] {
         if self.graph.owner(v) == self.player {
-            between(&self.table.choices, v, v.saturating_add(1))
+            between(self.choices, v, v.saturating_add(1))
         } else {
             self.graph.successors(v)
         }
@@ -26,6 +28,6 @@ impl Edges for Played<'_> {
 
     #[inline(always)]
     fn holds(&self, v: u32) -> bool {
-        self.table.region(v) == self.region
+        at(self.regions, v) == self.region
     }
 }

@@ -198,7 +198,8 @@ impl Tangles {
     ) -> Result<bool, AllocError> {
         let played = Played {
             graph,
-            table,
+            choices: &table.choices,
+            regions: &table.regions,
             player,
             region: mark,
         };
@@ -247,7 +248,7 @@ fn list_escapes(
                     return Ok(false);
                 }
                 stays = true;
-            } else if played.table.region(*target) >= WAITING {
+            } else if at(played.regions, *target) >= WAITING {
                 escapes.push(*target)?;
             }
         }

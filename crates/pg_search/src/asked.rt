@@ -1,0 +1,79 @@
+//! Claims that are asked for, level by level. The level of a claim is the priority of its row's last component above 0.
+
+use crate::rows::ZEROS;
+use crate::numbers::{at, count, put};
+use crate::side::Side;
+use std::alloc::{AllocError, Global};
+
+/// A claim that is asked for: of a vertex, that each closed map has at least this row there.
+#[derive(Clone, Copy)]
+pub(crate) struct Asked {
+    pub vertex: u32,
+    pub row: u32,
+}
+
+#[derive(Drop)]
+pub(crate) struct Levels {
+    /// The odd priorities, rising, and what is asked for at each.
+    levels: Vec<u32>,
+    lists: Vec<Vec<Asked>>,
+    /// The row that was last asked for at each vertex.
+    lasts: Vec<u32>,
+}
+
+impl Levels {
+    /// The levels of a side; nothing is asked for.
+    pub fn new(alloc: Global, side: &Side) -> Result<Levels, AllocError> {
+        let mut levels = Vec::new(alloc);
+        for v in 0..side.len() {
+            let priority = side.state(v).priority();
+            if priority % 2 == 1 {
+                levels.push(priority)?;
+            }
+        }
+        levels.sort_unstable();
+        levels.dedup();
+        let mut lists = Vec::with_capacity(alloc, levels.len())?;
+        for _ in 0..levels.len() {
+            lists.push(Vec::new(alloc))?;
+        }
+        Ok(Levels {
+            levels,
+            lists,
+            lasts: vec![in alloc; ZEROS; side.len() as usize]?,
+        })
+    }
+
+    /// How many levels there are.
+    pub fn len(&self) -> u32 {
+        count(self.levels.len())
+    }
+
+    /// The priority of a level.
+    pub fn priority(&self, level: u32) -> u32 {
+        at(&self.levels, level)
+    }
+
+    /// Asks for a claim.
+    pub fn ask(&mut self, side: &Side, asked: Asked) -> Result<(), AllocError> {
+        if at(&self.lasts, asked.vertex) == asked.row {
+            return Ok(());
+        }
+        put(&mut self.lasts, asked.vertex, asked.row);
+        let priority = side.rows.node(asked.row).priority;
+        let level = self.levels.partition_point(|it| *it < priority);
+        if level < self.lists.len() {
+            self.lists[level].push(asked)?;
+        }
+        Ok(())
+    }
+
+    /// Takes what is asked for at a level.
+    pub fn take(&mut self, alloc: Global, level: u32) -> Vec<Asked> {
+        if (level as usize) < self.lists.len() {
+            std::mem::replace(&mut self.lists[level as usize], Vec::new(alloc))
+        } else {
+            Vec::new(alloc)
+        }
+    }
+}

@@ -1,0 +1,98 @@
+//! Claims that lead to earlier ones alone.
+
+use crate::numbers::{at, count, is_marked, mark, put};
+use crate::row_claim::RowClaim;
+use crate::rows::{TOP, ZEROS};
+use crate::side::Side;
+use std::alloc::{AllocError, Global};
+
+#[derive(Drop)]
+struct Attracting<'m> {
+    is_settled: &'m mut [bool],
+    /// How many successors of each vertex of the winner have to be claimed before it.
+    left: Vec<u32>,
+    order: Vec<RowClaim>,
+}
+
+impl Attracting<'_> {
+    /// Claims the row of a vertex.
+    fn claim(&mut self, v: u32, row: u32) -> Result<(), AllocError> {
+        mark(self.is_settled, v, true);
+        self.order.push(RowClaim {
+            vertex: v,
+            row,
+            span: 0,
+        })?;
+        Ok(())
+    }
+
+    /// Claims a row that nothing is needed for. Else counts what is.
+    fn begin(&mut self, side: &mut Side, v: u32) -> Result<(), AllocError> {
+        let graph = side.graph;
+        let state = side.state(v);
+        if state.row == TOP || state.row == ZEROS {
+            return Ok(());
+        }
+        mark(self.is_settled, v, false);
+        if side.rows.low(state.row, state.priority()) == ZEROS {
+            self.claim(v, state.row)?;
+        } else if state.is_mine() {
+            let successors = graph.successors(v);
+            side.look(successors.len());
+            let stays = successors.iter().filter(|w| side.row(**w) != TOP);
+            put(&mut self.left, v, count(stays.count()));
+        }
+        Ok(())
+    }
+
+    /// Claims rows that need no more than an earlier claim and those before it.
+    fn go_back(&mut self, side: &mut Side, claim: RowClaim) -> Result<(), AllocError> {
+        let graph = side.graph;
+        let predecessors = graph.predecessors(claim.vertex);
+        side.look(predecessors.len());
+        for v in predecessors {
+            if is_marked(self.is_settled, *v) {
+                continue;
+            }
+            let state = side.state(*v);
+            if state.is_mine() {
+                let left = at(&self.left, *v).saturating_sub(1);
+                put(&mut self.left, *v, left);
+                if left > 0 {
+                    continue;
+                }
+            } else if side.rows.is_under(claim.row, side.rows.low(state.row, state.priority())) {
+                continue;
+            }
+            self.claim(*v, state.row)?;
+        }
+        Ok(())
+    }
+}
+
+impl Side<'_> {
+    /// Claims of the rows of some vertices that lead to earlier ones alone, in their order. What isn't claimed isn't settled any more.
+    pub fn attract(
+        &mut self,
+        alloc: Global,
+        vertices: &[u32],
+        is_settled: &mut [bool],
+    ) -> Result<Vec<RowClaim>, AllocError> {
+        let mut attracting = Attracting {
+            is_settled,
+            left: vec![in alloc; 0; self.len() as usize]?,
+            order: Vec::new(alloc),
+        };
+        for v in vertices {
+            attracting.begin(self, *v)?;
+        }
+        for place in 0..usize::MAX {
+            let Some(claim) = attracting.order.get(place).copied() else {
+                break;
+            };
+            attracting.go_back(self, claim)?;
+        }
+        let Attracting { order, .. } = attracting;
+        Ok(order)
+    }
+}

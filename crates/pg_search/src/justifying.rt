@@ -1,0 +1,300 @@
+//! Claims for all rows of a side, or where the winner can stay for less.
+//!
+//! First the vertices are claimed whose own rows lead to earlier claims alone. For the others there is one game of one claim for
+//! each, of its own row: what the opponent wins of it is settled. To show the rows of the rest it may have to choose otherwise for
+//! great components than for small ones. So they are claimed level by level, from the
+//! least on, each with the claims that it needs of the same level. It leads to claims of that level or of greater ones, whose rows are
+//! the first on the way to those of the successors that are enough; only those that the game's choices need are asked for. In the
+//! order of all the greatest level comes first.
+
+use crate::asked::{Asked, Levels};
+use crate::board::{Better, Board, Played};
+use crate::numbers::{NONE, at, count, is_marked, mark, put};
+use crate::row_claim::RowClaim;
+use crate::rows::{TOP, ZEROS};
+use crate::side::Side;
+use std::alloc::{AllocError, Global};
+
+/// What is found out of the rows of a side.
+#[derive(Drop)]
+pub(crate) enum Justified {
+    Claims(Vec<RowClaim>),
+    Better(Vec<Better>),
+    Nothing,
+}
+
+#[derive(Drop)]
+struct Justifying {
+    /// The place of each vertex among the claims of the game that is made, or `NONE`.
+    places: Vec<u32>,
+    is_settled: Vec<bool>,
+}
+
+impl Justifying {
+    /// The edges of a claim of a vertex' own row, in the game of all these.
+    fn put_own(&self, side: &mut Side, board: &mut Board, claim: Asked) -> Result<(), AllocError> {
+        let graph = side.graph;
+        let state = side.state(claim.vertex);
+        let successors = graph.successors(claim.vertex);
+        let low = side.rows.low(claim.row, state.priority());
+        board.begin(state.priority(), state.is_mine())?;
+        if low == ZEROS {
+            return board.end();
+        }
+        side.look(successors.len());
+        if !state.is_mine() && self.leads_to_settled(side, successors, low) {
+            return board.end();
+        }
+        for w in successors {
+            if self.need(side, *w, low).is_some() {
+                board.lead_to(at(&self.places, *w))?;
+            }
+        }
+        board.end()
+    }
+
+    /// Whether a settled successor has a row that is enough.
+    fn leads_to_settled(&self, side: &Side, successors: &[u32], low: u32) -> bool {
+        for w in successors {
+            let row = side.row(*w);
+            if row != TOP && self.is_settled(*w) && !side.rows.is_under(row, low) {
+                return true;
+            }
+        }
+        false
+    }
+
+    /// The edges of a claim in the game of its level. The claims of this level that it needs are put to the board.
+    fn put_at_level(
+        &mut self,
+        side: &mut Side,
+        board: &mut Board,
+        claim: Asked,
+        level: u32,
+    ) -> Result<(), AllocError> {
+        let graph = side.graph;
+        let state = side.state(claim.vertex);
+        let successors = graph.successors(claim.vertex);
+        let low = side.rows.low(claim.row, state.priority());
+        board.begin(state.priority(), state.is_mine())?;
+        if low == ZEROS {
+            return board.end();
+        }
+        side.look(successors.len());
+        if !state.is_mine() && self.leads_out(side, board, successors, low, level)? {
+            return board.end();
+        }
+        for w in successors {
+            self.lead(side, board, *w, low, level)?;
+        }
+        board.end()
+    }
+
+    /// What a claim needs of a successor: nothing of one that is at top or settled, or that hasn't such a row.
+    fn need(&self, side: &Side, w: u32, low: u32) -> Option<Asked> {
+        let row = side.row(w);
+        if row == TOP || side.rows.is_under(row, low) || self.is_settled(w) {
+            return None;
+        }
+        Some(Asked {
+            vertex: w,
+            row: side.rows.first_from(low, row),
+        })
+    }
+
+    fn is_settled(&self, v: u32) -> bool {
+        is_marked(&self.is_settled, v)
+    }
+
+    /// Whether a successor lets a claim of the opponent do without others of its level: best one that is settled.
+    fn leads_out(
+        &self,
+        side: &Side,
+        board: &mut Board,
+        successors: &[u32],
+        low: u32,
+        level: u32,
+    ) -> Result<bool, AllocError> {
+        if self.leads_to_settled(side, successors, low) {
+            return Ok(true);
+        }
+        for w in successors {
+            if let Some(asked) = self.need(side, *w, low)
+                && side.rows.node(asked.row).priority != level
+            {
+                board.lead_beyond(asked)?;
+                return Ok(true);
+            }
+        }
+        Ok(false)
+    }
+
+    /// Lets a claim lead to what it needs of a successor.
+    fn lead(
+        &mut self,
+        side: &Side,
+        board: &mut Board,
+        w: u32,
+        low: u32,
+        level: u32,
+    ) -> Result<(), AllocError> {
+        let Some(asked) = self.need(side, w, low) else {
+            return Ok(());
+        };
+        if side.rows.node(asked.row).priority != level {
+            return board.lead_beyond(asked);
+        }
+        let mut place = at(&self.places, w);
+        if place == NONE {
+            place = count(board.claims.len());
+            put(&mut self.places, w, place);
+            board.claims.push(asked)?;
+        }
+        board.lead_to(place)
+    }
+
+    /// Gives the claims places, those of one vertex once.
+    fn place(&mut self, alloc: Global, claims: &[Asked]) -> Result<Vec<Asked>, AllocError> {
+        let mut distinct = Vec::with_capacity(alloc, claims.len())?;
+        for claim in claims {
+            if at(&self.places, claim.vertex) == NONE {
+                put(&mut self.places, claim.vertex, count(distinct.len()));
+                distinct.push(*claim)?;
+            }
+        }
+        Ok(distinct)
+    }
+
+    /// Takes the places of the claims on a board away.
+    fn unplace(&mut self, board: &Board) {
+        for claim in &board.claims {
+            put(&mut self.places, claim.vertex, NONE);
+        }
+    }
+
+    /// Plays the game of the own rows of the vertices that aren't settled.
+    fn play_own(
+        &mut self,
+        alloc: Global,
+        side: &mut Side,
+        vertices: &[u32],
+    ) -> Result<Played, AllocError> {
+        let mut claims = Vec::new(alloc);
+        for v in vertices {
+            if !self.is_settled(*v) {
+                let row = side.row(*v);
+                claims.push(Asked { vertex: *v, row })?;
+            }
+        }
+        let claims = self.place(alloc, &claims)?;
+        let mut board = Board::new(alloc, claims)?;
+        for place in 0..usize::MAX {
+            let Some(claim) = board.claims.get(place).copied() else {
+                break;
+            };
+            self.put_own(side, &mut board, claim)?;
+        }
+        self.unplace(&board);
+        board.play(alloc)
+    }
+
+    /// Plays the game of a level.
+    fn play_level(
+        &mut self,
+        alloc: Global,
+        side: &mut Side,
+        asked: Vec<Asked>,
+        level: u32,
+    ) -> Result<Played, AllocError> {
+        let mut board = Board::new(alloc, asked)?;
+        for place in 0..usize::MAX {
+            let Some(claim) = board.claims.get(place).copied() else {
+                break;
+            };
+            self.put_at_level(side, &mut board, claim, level)?;
+        }
+        self.unplace(&board);
+        board.play(alloc)
+    }
+
+    /// The claims of the vertices that aren't settled, level by level; the greatest level last.
+    fn play_levels(
+        &mut self,
+        alloc: Global,
+        side: &mut Side,
+        levels: &mut Levels,
+    ) -> Result<Leveled, AllocError> {
+        let mut blocks = Vec::new(alloc);
+        let mut better = Vec::new(alloc);
+        for level in 0..levels.len() {
+            let asked = self.place(alloc, &levels.take(alloc, level))?;
+            let roots = count(asked.len());
+            if roots == 0 {
+                continue;
+            }
+            let played = self.play_level(alloc, side, asked, levels.priority(level))?;
+            if !played.is_ordered() || side.is_late() {
+                return Ok(Leveled {
+                    blocks: None,
+                    better,
+                });
+            }
+            if let Some(it) = played.better(alloc)? {
+                better.push(it)?;
+            }
+            let is_kept = played.kept(alloc, roots)?;
+            played.ask(side, &is_kept, levels)?;
+            blocks.push(played.order(alloc, &is_kept)?)?;
+        }
+        Ok(Leveled {
+            blocks: Some(blocks),
+            better,
+        })
+    }
+}
+
+/// What the games of the levels gave.
+#[derive(Drop)]
+struct Leveled {
+    blocks: Option<Vec<Vec<RowClaim>>>,
+    better: Vec<Better>,
+}
+
+impl Side<'_> {
+    /// Claims of the rows of some vertices that aren't zeros, or where the winner can stay for less.
+    pub fn justify(&mut self, alloc: Global, vertices: &[u32]) -> Result<Justified, AllocError> {
+        let mut justifying = Justifying {
+            places: vec![in alloc; NONE; self.len() as usize]?,
+            is_settled: vec![in alloc; true; self.len() as usize]?,
+        };
+        let mut order = self.attract(alloc, vertices, &mut justifying.is_settled)?;
+        let played = justifying.play_own(alloc, self, vertices)?;
+        if !played.is_ordered() {
+            return Ok(Justified::Nothing);
+        }
+        for claim in &played.order(alloc, &played.all(alloc)?)? {
+            mark(&mut justifying.is_settled, claim.vertex, true);
+            order.push(*claim)?;
+        }
+        if played.lost().is_empty() {
+            return Ok(Justified::Claims(order));
+        }
+        let mut levels = Levels::new(alloc, self)?;
+        for node in played.lost() {
+            let vertex = played.vertex(*node);
+            let row = self.row(vertex);
+            levels.ask(self, Asked { vertex, row })?;
+        }
+        let Leveled { blocks, better } = justifying.play_levels(alloc, self, &mut levels)?;
+        if !better.is_empty() {
+            return Ok(Justified::Better(better));
+        }
+        let Some(blocks) = blocks else {
+            return Ok(Justified::Nothing);
+        };
+        for block in blocks.iter().rev() {
+            order.extend_from_slice(block)?;
+        }
+        Ok(Justified::Claims(order))
+    }
+}

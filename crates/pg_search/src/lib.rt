@@ -1,0 +1,24 @@
+//! The search for least maps: ladders, ranks, and claims that show them. Nothing is promised of what is found but that it is found
+//! safely and in the end: who wants to believe it has it certified.
+#![tactic(auto)]
+
+mod asked;
+mod attracting;
+mod board;
+mod exact;
+mod greatest;
+mod justifying;
+mod ladder;
+mod lifting;
+mod lowering;
+mod numbers;
+mod proposal;
+mod row_claim;
+mod rows;
+mod search;
+mod settled;
+mod side;
+mod sweeps;
+mod ways;
+
+pub use proposal::{Proposal, Proposals, propose, propose_measure};

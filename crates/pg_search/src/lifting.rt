@@ -1,0 +1,166 @@
+//! Lifting from zeros on the winner's region, as long as that looks short.
+
+use crate::rows::{TOP, ZEROS};
+use crate::side::Side;
+use std::alloc::{AllocError, Global};
+use std::mem;
+
+/// How lifting ended: nothing is left to lift, or many vertices count along, or few climb for long.
+#[derive(Clone, Copy, PartialEq, Eq)]
+pub(crate) enum End {
+    Done,
+    Many,
+    Few,
+}
+
+/// How often lifting may look at each edge.
+const LOOKS: u64 = 3;
+
+/// And how often at few edges.
+const LOOKS_OF_FEW: u64 = 4096;
+
+/// When lifting is left: what was looked at in turns in which few waited, and what it may be.
+#[derive(Clone, Copy)]
+struct Patience {
+    vertices: usize,
+    few: u64,
+    most: u64,
+}
+
+impl Patience {
+    /// Whether lifting goes on after a turn: so many waited, and so many wait now, and so much was looked at.
+    fn ends(&mut self, waited: usize, waiting: usize, looks: u64) -> Option<End> {
+        if waiting == 0 {
+            return Some(End::Done);
+        }
+        if waiting > self.vertices / 16 && waiting / 4 > waited / 5 {
+            return Some(End::Many);
+        }
+        if waiting <= self.vertices / 256 {
+            self.few = self.few.wrapping_add(looks);
+        }
+        if self.few > self.most / 12 {
+            return Some(End::Few);
+        }
+        None
+    }
+}
+
+impl Side<'_> {
+    /// Lifts until nothing waits any more, or until it looks as if that took long. The rows are at most the least ones.
+    pub fn lift(&mut self, alloc: Global) -> Result<End, AllocError> {
+        let edges = self.graph.edges() as u64;
+        let mut patience = Patience {
+            vertices: (0..self.len()).filter(|v| self.row(*v) != TOP).count(),
+            few: 0,
+            most: edges.saturating_mul(LOOKS).saturating_add(LOOKS_OF_FEW),
+        };
+        let mut waiting = Vec::new(alloc);
+        let mut next = Vec::new(alloc);
+        self.step_odd(&mut waiting)?;
+        let mut end = End::Done;
+        for _ in 0..u64::MAX {
+            let before = self.looks;
+            if !self.turn(&waiting, &mut next, patience.most)? {
+                end = End::Few;
+                break;
+            }
+            let looks = self.looks.wrapping_sub(before);
+            if let Some(it) = patience.ends(waiting.len(), next.len(), looks) {
+                end = it;
+                break;
+            }
+            waiting.clear();
+            mem::swap(&mut waiting, &mut next);
+        }
+        for v in 0..self.len() {
+            self.waits_no_more(v);
+        }
+        Ok(end)
+    }
+
+    /// Lifts the vertices of odd priorities from zeros, which then wait.
+    fn step_odd(&mut self, waiting: &mut Vec<u32>) -> Result<(), AllocError> {
+        for v in 0..self.len() {
+            let state = self.state(v);
+            if state.row == ZEROS && state.priority() % 2 == 1 {
+                let row = self.rows.step(ZEROS, state.priority())?;
+                self.set_row(v, row);
+                self.begins_to_wait(v);
+                waiting.push(v)?;
+            }
+        }
+        Ok(())
+    }
+
+    /// Lifts what those that wait don't serve any more; false where too much was looked at.
+    fn turn(
+        &mut self,
+        waiting: &[u32],
+        next: &mut Vec<u32>,
+        most: u64,
+    ) -> Result<bool, AllocError> {
+        for w in waiting {
+            self.waits_no_more(*w);
+            self.lift_predecessors(*w, next)?;
+            if self.looks > most {
+                return Ok(false);
+            }
+        }
+        Ok(true)
+    }
+
+    fn lift_predecessors(&mut self, w: u32, next: &mut Vec<u32>) -> Result<(), AllocError> {
+        let graph = self.graph;
+        let row = self.row(w);
+        let predecessors = graph.predecessors(w);
+        self.look(predecessors.len());
+        self.look(1);
+        for v in predecessors {
+            let state = self.state(*v);
+            if state.row == TOP || state.is_mine() && state.to != w {
+                continue;
+            }
+            if self.rows.serves(state.row, row, state.priority()) {
+                continue;
+            }
+            let mut from = row;
+            if state.is_mine() {
+                match self.other_from(*v, row) {
+                    Some(least) => from = least,
+                    None => continue,
+                }
+            }
+            let lifted = self.rows.step(from, state.priority())?;
+            self.set_row(*v, lifted);
+            if self.begins_to_wait(*v) {
+                next.push(*v)?;
+            }
+        }
+        Ok(())
+    }
+
+    /// Finds another successor that serves a vertex of the winner: none is given. Else gives the row of the least, which is kept.
+    fn other_from(&mut self, v: u32, row: u32) -> Option<u32> {
+        let graph = self.graph;
+        let state = self.state(v);
+        let successors = graph.successors(v);
+        self.look(successors.len());
+        let mut least = (state.to, row);
+        for w in successors {
+            let there = self.row(*w);
+            if there == TOP {
+                continue;
+            }
+            if self.rows.serves(state.row, there, state.priority()) {
+                self.set_to(v, *w);
+                return None;
+            }
+            if self.rows.is_under(there, least.1) {
+                least = (*w, there);
+            }
+        }
+        self.set_to(v, least.0);
+        Some(least.1)
+    }
+}

@@ -1,0 +1,182 @@
+//! What is proposed: a ladder, ranks, and claims.
+
+use crate::ladder::Ladder;
+use crate::numbers::{NONE, add_one, add_up, at, count, put};
+use crate::row_claim::RowClaim;
+use crate::rows::TOP;
+use crate::side::Side;
+use pg_arena::{Game, Player, Vertex};
+use pg_claims::{Claim, Claims, Span};
+use pg_winners::{Graph, Winners, find_winners};
+use std::alloc::{AllocError, Global};
+
+/// A map of ranks in a ladder, which is to be the least one, and claims that are to show it. Nothing is promised of it: who wants to
+/// believe it has it certified.
+#[derive(Drop)]
+pub struct Proposal {
+    /// The priority of each step of the ladder.
+    pub steps: Vec<u32>,
+    pub ranks: Vec<u32>,
+    /// For a vertex of even priority the first of the greatest steps of the block that begins at its row.
+    pub hints: Vec<u32>,
+    pub claims: Claims,
+}
+
+#[derive(Drop)]
+pub struct Proposals {
+    pub of_game: Proposal,
+    pub of_dual: Proposal,
+}
+
+/// How often each vertex and edge may be looked at, and how often those of few.
+const LOOKS: u64 = 256;
+const LOOKS_OF_FEW: u64 = 1 << 20;
+
+/// The map of a game alone: claims show top as well. None where the search gives up.
+pub fn propose_measure(alloc: Global, game: &Game) -> Result<Option<Proposal>, AllocError> {
+    let graph = Graph::of(alloc, game)?;
+    let winners = find_winners(alloc, &graph)?;
+    if !winners.is_ordered {
+        return Ok(None);
+    }
+    propose_for(alloc, &graph, &winners, Player::Even, true)
+}
+
+/// The maps of a game and of its dual. Top isn't claimed: it is known from the other map. None where the search gives up.
+pub fn propose(alloc: Global, game: &Game) -> Result<Option<Proposals>, AllocError> {
+    let graph = Graph::of(alloc, game)?;
+    let winners = find_winners(alloc, &graph)?;
+    if !winners.is_ordered {
+        return Ok(None);
+    }
+    let Some(of_game) = propose_for(alloc, &graph, &winners, Player::Even, false)? else {
+        return Ok(None);
+    };
+    let Some(of_dual) = propose_for(alloc, &graph, &winners, Player::Odd, false)? else {
+        return Ok(None);
+    };
+    Ok(Some(Proposals { of_game, of_dual }))
+}
+
+/// The map of a player.
+fn propose_for(
+    alloc: Global,
+    graph: &Graph,
+    winners: &Winners,
+    player: Player,
+    with_tops: bool,
+) -> Result<Option<Proposal>, AllocError> {
+    let size = (graph.len() as u64).saturating_add(graph.edges() as u64);
+    let most = size.saturating_mul(LOOKS).saturating_add(LOOKS_OF_FEW);
+    let mut side = Side::new(alloc, graph, winners, player, most)?;
+    let (mine, others) = match player {
+        Player::Even => (&winners.of_even, &winners.of_odd),
+        Player::Odd => (&winners.of_odd, &winners.of_even),
+    };
+    let mut claims = Vec::new(alloc);
+    if with_tops {
+        claim_tops(&mut claims, winners, others)?;
+    }
+    if has_odd(&side, mine) {
+        let Some(found) = side.find(alloc, winners, mine)? else {
+            return Ok(None);
+        };
+        claims.extend_from_slice(&found)?;
+    }
+    let ladder = Ladder::new(alloc, &side)?;
+    Ok(Some(write(alloc, &side, ladder, &claims)?))
+}
+
+/// Whether one of some vertices has an odd priority. Where none has zeros are the least map.
+fn has_odd(side: &Side, vertices: &[u32]) -> bool {
+    vertices.iter().any(|v| side.state(*v).priority() % 2 == 1)
+}
+
+/// Claims top at what the other player wins, in the order of that player's strategy.
+fn claim_tops(
+    claims: &mut Vec<RowClaim>,
+    winners: &Winners,
+    vertices: &[u32],
+) -> Result<(), AllocError> {
+    for v in vertices {
+        claims.push(RowClaim {
+            vertex: *v,
+            row: TOP,
+            span: at(&winners.span, *v),
+        })?;
+    }
+    Ok(())
+}
+
+fn write(
+    alloc: Global,
+    side: &Side,
+    ladder: Ladder,
+    claims: &[RowClaim],
+) -> Result<Proposal, AllocError> {
+    let mut ranks = Vec::with_capacity(alloc, side.len() as usize)?;
+    let mut hints = Vec::with_capacity(alloc, side.len() as usize)?;
+    for v in 0..side.len() {
+        let state = side.state(v);
+        ranks.push(ladder.rank(state.row))?;
+        hints.push(match state.priority() % 2 {
+            0 => ladder.hint(&side.rows, state.row, state.priority()),
+            _ => NONE,
+        })?;
+    }
+    let claims = rank_claims(alloc, side, &ladder, claims)?;
+    let Ladder { steps, .. } = ladder;
+    Ok(Proposal {
+        steps,
+        ranks,
+        hints,
+        claims,
+    })
+}
+
+/// The claims vertex by vertex, with their ranks. Those of one vertex stand in the order in which they rise.
+fn rank_claims(
+    alloc: Global,
+    side: &Side,
+    ladder: &Ladder,
+    listed: &[RowClaim],
+) -> Result<Claims, AllocError> {
+    let mut firsts = vec![in alloc; 0; side.len() as usize]?;
+    for it in listed {
+        add_one(&mut firsts, it.vertex);
+    }
+    add_up(&mut firsts);
+    let nowhere = Claim {
+        vertex: Vertex(0),
+        rank: 0,
+        place: 0,
+    };
+    let mut claims = vec![in alloc; nowhere; listed.len()]?;
+    for place in (0..count(listed.len())).rev() {
+        let Some(it) = listed.get(place as usize) else {
+            continue;
+        };
+        let number = at(&firsts, it.vertex).wrapping_sub(1);
+        put(&mut firsts, it.vertex, number);
+        if (number as usize) < claims.len() {
+            claims[number as usize] = Claim {
+                vertex: Vertex(it.vertex),
+                rank: ladder.rank(it.row),
+                place,
+            };
+        }
+    }
+    let mut spans = Vec::with_capacity(alloc, listed.len())?;
+    for (place, it) in listed.iter().enumerate() {
+        let priority = side.state(it.vertex).priority();
+        // what the winner owns may lead to itself, where that is to its harm
+        let span = it.span.max(priority % 2);
+        let end = count(place).saturating_add(span);
+        spans.push(Span { priority, end })?;
+    }
+    Ok(Claims {
+        claims,
+        firsts,
+        spans,
+    })
+}

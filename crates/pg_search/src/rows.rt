@@ -1,0 +1,306 @@
+//! Rows of least measures, as nodes of a tree.
+//!
+//! A node is its parent's row with one more component above 0, at a lesser priority. Equal rows are one node, so that rows are
+//! compared by a walk to where their ways part; zeros are the root and cost nothing.
+
+use crate::numbers::{at, count, put};
+use std::alloc::{AllocError, Global};
+
+/// In place of a row: top.
+pub(crate) const TOP: u32 = u32::MAX;
+
+/// The row in which all components are 0.
+pub(crate) const ZEROS: u32 = 0;
+
+/// How many places the table of rows has at first: a power of two.
+const FIRST_PLACES: usize = 64;
+
+#[derive(Clone, Copy)]
+pub(crate) struct Node {
+    pub parent: u32,
+    /// The odd priority of the last component above 0, and that component.
+    pub priority: u32,
+    pub component: u32,
+    /// The row in which that component is one less, and the one in which it is one greater (`ZEROS` where there is none yet).
+    pub less: u32,
+    more: u32,
+    depth: u32,
+    /// A row far up, so that long ways are walked in few steps: at a depth that depends on this row's depth alone.
+    jump: u32,
+}
+
+impl Node {
+    const ROOT: Node = Node {
+        parent: ZEROS,
+        priority: u32::MAX,
+        component: 0,
+        less: ZEROS,
+        more: ZEROS,
+        depth: 0,
+        jump: ZEROS,
+    };
+}
+
+#[derive(Drop)]
+pub(crate) struct Rows {
+    nodes: Vec<Node>,
+    /// The rows whose last component is 1, at places that their parents and priorities tell.
+    table: Vec<u32>,
+}
+
+impl Rows {
+    pub fn new(alloc: Global) -> Result<Rows, AllocError> {
+        Ok(Rows {
+            nodes: vec![in alloc; Node::ROOT; 1]?,
+            table: vec![in alloc; ZEROS; FIRST_PLACES]?,
+        })
+    }
+
+    /// How many rows there are.
+    pub fn len(&self) -> u32 {
+        count(self.nodes.len())
+    }
+
+    #[inline(always)]
+    pub fn node(&self, row: u32) -> Node {
+        if (row as usize) < self.nodes.len() {
+            self.nodes[row as usize]
+        } else {
+            Node::ROOT
+        }
+    }
+
+    /// The row with all components of lesser priorities set to 0.
+    #[inline(always)]
+    pub fn cut(&self, row: u32, priority: u32) -> u32 {
+        let mut row = row;
+        let mut node = self.node(row);
+        for _ in 0..u64::MAX {
+            if node.priority >= priority {
+                break;
+            }
+            let far = self.node(node.jump);
+            row = if far.priority < priority {
+                node.jump
+            } else {
+                node.parent
+            };
+            node = self.node(row);
+        }
+        row
+    }
+
+    /// The row on the way to this one that is at most so deep.
+    #[inline(always)]
+    fn up(&self, row: u32, depth: u32) -> u32 {
+        let mut row = row;
+        let mut node = self.node(row);
+        for _ in 0..u64::MAX {
+            if node.depth <= depth {
+                break;
+            }
+            let far = self.node(node.jump);
+            row = if far.depth >= depth {
+                node.jump
+            } else {
+                node.parent
+            };
+            node = self.node(row);
+        }
+        row
+    }
+
+    /// The first rows that differ on the ways to two rows; the lesser one twice, where it is on the way to the other.
+    #[inline(always)]
+    fn parting(&self, row: u32, other: u32) -> (u32, u32) {
+        let depth = self.node(row).depth.min(self.node(other).depth);
+        let mut one = self.up(row, depth);
+        let mut two = self.up(other, depth);
+        for _ in 0..u64::MAX {
+            let (x, y) = (self.node(one), self.node(two));
+            if x.parent == y.parent {
+                break;
+            }
+            if x.jump != y.jump {
+                one = x.jump;
+                two = y.jump;
+            } else {
+                one = x.parent;
+                two = y.parent;
+            }
+        }
+        (one, two)
+    }
+
+    /// Whether one row, or top, is less than another.
+    #[inline(always)]
+    pub fn is_under(&self, row: u32, other: u32) -> bool {
+        row != other && (other == TOP || row != TOP && self.is_row_under(row, other))
+    }
+
+    fn is_row_under(&self, row: u32, other: u32) -> bool {
+        let (one, two) = self.parting(row, other);
+        if one == two {
+            return self.node(row).depth < self.node(other).depth;
+        }
+        let (x, y) = (self.node(one), self.node(two));
+        if x.priority != y.priority {
+            x.priority < y.priority
+        } else {
+            x.component < y.component
+        }
+    }
+
+    /// The first row on the way to one that is at least another, as that one is.
+    pub fn first_from(&self, low: u32, row: u32) -> u32 {
+        self.parting(low, row).1
+    }
+
+    /// The least step of a row at a priority.
+    #[inline(always)]
+    pub fn step(&mut self, row: u32, priority: u32) -> Result<u32, AllocError> {
+        let row = self.cut(row, priority);
+        if row == TOP || priority % 2 == 0 {
+            return Ok(row);
+        }
+        let node = self.node(row);
+        if node.priority != priority {
+            return self.child(row, priority);
+        }
+        if node.more != ZEROS {
+            return Ok(node.more);
+        }
+        self.add_more(row, node)
+    }
+
+    fn add(&mut self, node: Node) -> Result<u32, AllocError> {
+        let row = count(self.nodes.len());
+        self.nodes.push(node)?;
+        Ok(row)
+    }
+
+    /// The row with the last component one greater.
+    fn add_more(&mut self, row: u32, node: Node) -> Result<u32, AllocError> {
+        let more = self.add(Node {
+            component: node.component.saturating_add(1),
+            less: row,
+            more: ZEROS,
+            ..node
+        })?;
+        if (row as usize) < self.nodes.len() {
+            self.nodes[row as usize].more = more;
+        }
+        Ok(more)
+    }
+
+    /// Where the search for a row begins in the table, or goes on.
+    #[inline(always)]
+    fn place(&self, number: u64) -> u32 {
+        let mask = count(self.table.len()).saturating_sub(1);
+        (number & 0xffff_ffff) as u32 & mask
+    }
+
+    #[inline(always)]
+    fn first_place(&self, parent: u32, priority: u32) -> u32 {
+        let both = (parent as u64) << 32 | priority as u64;
+        self.place(both.wrapping_mul(0x9e37_79b9_7f4a_7c15) >> 32)
+    }
+
+    /// The row with one more component, of 1.
+    fn child(&mut self, row: u32, priority: u32) -> Result<u32, AllocError> {
+        let mut place = self.first_place(row, priority);
+        for _ in 0..u64::MAX {
+            let there = at(&self.table, place);
+            if there == ZEROS {
+                break;
+            }
+            let node = self.node(there);
+            if node.parent == row && node.priority == priority {
+                return Ok(there);
+            }
+            place = self.place(place as u64 + 1);
+        }
+        let child = self.add_child(row, priority)?;
+        put(&mut self.table, place, child);
+        if self.nodes.len() > self.table.len() / 2 {
+            self.grow()?;
+        }
+        Ok(child)
+    }
+
+    fn add_child(&mut self, row: u32, priority: u32) -> Result<u32, AllocError> {
+        let parent = self.node(row);
+        let far = self.node(parent.jump);
+        let further = self.node(far.jump);
+        let is_even = parent.depth.wrapping_sub(far.depth) == far.depth.wrapping_sub(further.depth);
+        self.add(Node {
+            parent: row,
+            priority,
+            component: 1,
+            less: row,
+            more: ZEROS,
+            depth: parent.depth.saturating_add(1),
+            jump: if is_even { far.jump } else { row },
+        })
+    }
+
+    /// Makes the table greater.
+    fn grow(&mut self) -> Result<(), AllocError> {
+        let places = self.table.len().saturating_mul(4);
+        self.table.clear();
+        for _ in 0..places {
+            self.table.push(ZEROS)?;
+        }
+        for row in 1..self.len() {
+            let node = self.node(row);
+            if node.component != 1 {
+                continue;
+            }
+            let mut place = self.first_place(node.parent, node.priority);
+            for _ in 0..u64::MAX {
+                if at(&self.table, place) == ZEROS {
+                    break;
+                }
+                place = self.place(place as u64 + 1);
+            }
+            put(&mut self.table, place, row);
+        }
+        Ok(())
+    }
+
+    /// Whether a successor with a row serves a vertex of a priority with another row.
+    #[inline(always)]
+    pub fn serves(&self, row: u32, successor: u32, priority: u32) -> bool {
+        if successor == ZEROS || row == TOP {
+            return true;
+        }
+        if priority % 2 == 1 {
+            self.is_under(successor, row)
+        } else {
+            !self.is_under(row, self.cut(successor, priority))
+        }
+    }
+
+    /// The row whose step at a priority is at least this one, as are those of no lesser ones.
+    #[inline(always)]
+    pub fn low(&self, row: u32, priority: u32) -> u32 {
+        let node = self.node(row);
+        if node.priority == priority {
+            node.less
+        } else {
+            row
+        }
+    }
+
+    /// Whether the step of a successor's row at a priority is less than a row.
+    #[inline(always)]
+    pub fn steps_under(&self, successor: u32, priority: u32, row: u32) -> bool {
+        self.is_under(self.cut(successor, priority), self.low(row, priority))
+    }
+
+    /// Whether it is that row.
+    #[inline(always)]
+    pub fn steps_to(&self, successor: u32, priority: u32, row: u32) -> bool {
+        self.cut(successor, priority) == self.low(row, priority)
+    }
+}

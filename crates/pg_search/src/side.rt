@@ -1,0 +1,188 @@
+//! The game as one player sees it, for whom it wants the least map: that player is called the winner, since all is about the
+//! vertices that the player wins.
+
+use crate::numbers::{NONE, count};
+use crate::rows::{Rows, TOP, ZEROS};
+use pg_arena::Player;
+use pg_winners::{Graph, Winners};
+use std::alloc::{AllocError, Global};
+
+/// What is known of a vertex.
+#[derive(Clone, Copy)]
+pub(crate) struct State {
+    pub row: u32,
+    /// The priority times four, plus two where the vertex waits, plus one where the winner owns it.
+    key: u32,
+    /// Of the winner's: the successor that serves it, or that a strategy chooses. Else one that holds the row, or `NONE`.
+    pub to: u32,
+}
+
+const WAITS: u32 = 2;
+const MINE: u32 = 1;
+
+impl State {
+    /// Past the last vertex.
+    const NOWHERE: State = State {
+        row: TOP,
+        key: 0,
+        to: NONE,
+    };
+
+    #[inline(always)]
+    pub fn priority(&self) -> u32 {
+        self.key / 4
+    }
+
+    #[inline(always)]
+    pub fn is_mine(&self) -> bool {
+        self.key & MINE != 0
+    }
+}
+
+/// The map of one player. On the side of Odd priorities are raised by one, so that those of the winner are even on both.
+#[derive(Drop)]
+pub(crate) struct Side<'a> {
+    pub graph: &'a Graph,
+    pub rows: Rows,
+    states: Vec<State>,
+    /// Even is 0, Odd is 1.
+    pub player: u32,
+    /// How many vertices and edges were looked at, and how many may be.
+    pub looks: u64,
+    pub most: u64,
+}
+
+impl<'a> Side<'a> {
+    /// Zeros on what the player wins, top elsewhere.
+    pub fn new(
+        alloc: Global,
+        graph: &'a Graph,
+        winners: &Winners,
+        player: Player,
+        most: u64,
+    ) -> Result<Side<'a>, AllocError> {
+        let number = player_number(player);
+        let mut states = Vec::with_capacity(alloc, graph.len() as usize)?;
+        for v in 0..graph.len() {
+            let is_mine = graph.owner(v) == number;
+            let priority = graph.priority(v).saturating_add(number);
+            states.push(State {
+                row: if wins(winners, v, player) { ZEROS } else { TOP },
+                key: priority.saturating_mul(4) | is_mine as u32,
+                to: if is_mine { choice(winners, v) } else { NONE },
+            })?;
+        }
+        Ok(Side {
+            graph,
+            rows: Rows::new(alloc)?,
+            states,
+            player: number,
+            looks: 0,
+            most,
+        })
+    }
+
+    /// How many vertices there are.
+    pub fn len(&self) -> u32 {
+        count(self.states.len())
+    }
+
+    #[inline(always)]
+    pub fn state(&self, v: u32) -> State {
+        if (v as usize) < self.states.len() {
+            self.states[v as usize]
+        } else {
+            State::NOWHERE
+        }
+    }
+
+    #[inline(always)]
+    pub fn row(&self, v: u32) -> u32 {
+        self.state(v).row
+    }
+
+    #[inline(always)]
+    pub fn set_row(&mut self, v: u32, row: u32) {
+        if (v as usize) < self.states.len() {
+            self.states[v as usize].row = row;
+        }
+    }
+
+    #[inline(always)]
+    pub fn set_to(&mut self, v: u32, to: u32) {
+        if (v as usize) < self.states.len() {
+            self.states[v as usize].to = to;
+        }
+    }
+
+    /// Notes that a vertex waits; false where it did already.
+    #[inline(always)]
+    pub fn begins_to_wait(&mut self, v: u32) -> bool {
+        if (v as usize) < self.states.len() && self.states[v as usize].key & WAITS == 0 {
+            self.states[v as usize].key |= WAITS;
+            true
+        } else {
+            false
+        }
+    }
+
+    /// Notes that a vertex doesn't wait any more.
+    #[inline(always)]
+    pub fn waits_no_more(&mut self, v: u32) {
+        if (v as usize) < self.states.len() {
+            self.states[v as usize].key &= !WAITS;
+        }
+    }
+
+    /// Notes that so much was looked at.
+    #[inline(always)]
+    pub fn look(&mut self, many: usize) {
+        self.looks = self.looks.wrapping_add(many as u64);
+    }
+
+    /// Whether more was looked at than may be.
+    pub fn is_late(&self) -> bool {
+        self.looks > self.most
+    }
+
+    /// Forgets the rows of some vertices.
+    pub fn clear(&mut self, alloc: Global, vertices: &[u32]) -> Result<(), AllocError> {
+        self.rows = Rows::new(alloc)?;
+        for v in vertices {
+            self.set_row(*v, ZEROS);
+        }
+        Ok(())
+    }
+
+    /// Whether the winner has one way at most to stay in the region, at each of some vertices.
+    pub fn has_no_choice(&self, vertices: &[u32]) -> bool {
+        vertices.iter().all(|v| {
+            let successors = self.graph.successors(*v);
+            let stays = successors.iter().filter(|w| self.row(**w) != TOP);
+            !self.state(*v).is_mine() || stays.count() <= 1
+        })
+    }
+}
+
+/// Even is 0, Odd is 1.
+pub(crate) fn player_number(player: Player) -> u32 {
+    match player {
+        Player::Even => 0,
+        Player::Odd => 1,
+    }
+}
+
+/// Whether a player wins a vertex.
+#[inline(always)]
+pub(crate) fn wins(winners: &Winners, v: u32, player: Player) -> bool {
+    match winners.winner.get(v as usize) {
+        Some(winner) => player_number(*winner) == player_number(player),
+        None => false,
+    }
+}
+
+/// What the winner chooses at a vertex.
+#[inline(always)]
+pub(crate) fn choice(winners: &Winners, v: u32) -> u32 {
+    crate::numbers::at(&winners.choice, v)
+}
