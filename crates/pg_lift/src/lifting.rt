@@ -50,8 +50,7 @@ pub fn take<G: Lines>(
     rose
 }
 
-/// Lifts a vertex that `next_ready` said to be ready. True where the vertex was lifted often in this generation: then a jump is
-/// worth a try.
+/// Lifts a vertex that `next_ready` said to be ready.
 #[inline(always)]
 pub fn lift_ready<G: Lines>(
     map: &mut MeasureMap,
@@ -59,7 +58,7 @@ pub fn lift_ready<G: Lines>(
     predecessors: &Predecessors,
     notes: &mut Notes,
     v: Vertex,
-) -> bool
+)
     requires predecessors { ArePredecessorsOf (G.line lines.now) (length map.old.measures) predecessors.now }
     requires due { IsDue (G.line lines.now) map.old notes.old v }
     ensures bounds { map.new.bounds ≡ map.old.bounds }
@@ -71,9 +70,8 @@ pub fn lift_ready<G: Lines>(
     ensures weight { map_weight map.old.bounds map.new.measures < map_weight map.old.bounds map.old.measures }
 {
     map.lift_over(lines, priority(map, lines, notes, v), v, notes.best(v));
-    let was_often = notes.lifted(v);
+    notes.lifted(v);
     update_predecessors(map, lines, predecessors, notes, v);
-    was_often
 }
 
 /// Whether no vertex of the part can be lifted.

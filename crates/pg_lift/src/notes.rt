@@ -269,8 +269,8 @@ impl Notes {
         };
     }
 
-    /// Tells that a vertex was lifted. True where this was the last of the lifts that it has in this generation.
-    pub fn lifted(&mut self, v: Vertex) -> bool
+    /// Tells that a vertex was lifted.
+    pub fn lifted(&mut self, v: Vertex)
         requires { HasNote self.old.span v }
         ensures { self.new ≡ self.old }
     {
@@ -282,7 +282,6 @@ impl Notes {
             _ => self.generation.wrapping_add(1),
         };
         self.notes[at] = Note { lifts, ..note };
-        lifts != note.lifts && lifts.wrapping_sub(self.generation) == LIFTS
     }
 
     /// Takes a vertex that waits.

@@ -15,7 +15,7 @@ update_predecessors-requires-clause-kept g c =
     let n : c.args.v < length f = c.requires.predecessors.within.numbers c.args.v c.requires.due.ready.held in
     let served : Covers bs (line_at lines c.args.v).priority (measure_at c.lift_over.new.self.measures c.args.v)
     (measure_at f (get_or old.best c.args.v 0)) = rw c.best.ensures at c.lift_over.ensures.served in
-    rw (c.lift_over.ensures.bounds, c.lifted-was_often.ensures)
+    rw (c.lift_over.ensures.bounds, c.lifted.ensures)
     (lifted_begun bs lines f c.lift_over.new.self.measures old.waits old.best c.args.v
     (IsListed c.args.predecessors.now.starts.items c.args.predecessors.now.sources.items c.args.v)
     (λ u s t. c.requires.predecessors.gathered.all u c.args.v
