@@ -9,7 +9,7 @@ use Rattle.std.proofs.lemmas.List.{take_more, append-nil, map-append, flat_map_m
 use Rattle.std.proofs.Math.Seq.{take-length}
 use Rattle.std.proofs.lemmas.List.Concat.{flat_map-append}
 use Rattle.std.proofs.lemmas.List.FromFn.{map-range_with_len_more}
-use Rattle.pg_hoa.specs.Automata.{Automaton, IsAutomaton}
+use Rattle.pg_automaton.specs.Automata.{Automaton, IsAutomaton}
 use Rattle.pg_aiger.specs.declared.gate.Gate.{Gate}
 use Rattle.pg_aiger.specs.Circuits.{Circuit, Latch}
 use Rattle.pg_aiger.specs.CircuitText.{Kind, input, output, Row, header, symbol}

@@ -8,7 +8,7 @@ use Rattle.std.proofs.lemmas.Bool.{cases_eq, ne_eqb}
 use Rattle.std.proofs.lemmas.List.{append-nil, map-append, get_or_default}
 use Rattle.std.proofs.lemmas.Str.Parse.{IsNumeralModel, numerals_by_fold}
 use Rattle.pg_lists.specs.Bytes.{Each, is_digit, value_of}
-use Rattle.pg_hoa.specs.Automata.{Automaton, IsAutomaton, IsNameByte, IsPropositionName}
+use Rattle.pg_automaton.specs.Automata.{Automaton, IsAutomaton, IsNameByte, IsPropositionName}
 use Rattle.pg_synth.specs.Letters.{inputs, outputs}
 use Rattle.pg_aiger.specs.declared.gate.Gate.{Gate}
 use Rattle.pg_aiger.specs.Circuits.{Circuit, Latch, no_latch, AreGatesFrom, IsNumbered}

@@ -2,7 +2,7 @@
 use Rattle.std.proofs.Common.{ℕ, ◌≤◌, List, length, refl}
 use Rattle.pg_arena.specs.Games.{GameVertex, IsWithinLimits}
 use Rattle.pg_text.specs.GameLayout.{game_text}
-use Rattle.pg_hoa.specs.Automata.{Automaton}
+use Rattle.pg_automaton.specs.Automata.{Automaton}
 use Rattle.pg_hoa.specs.AutomatonText.{Spelt, IsRefused}
 use Rattle.pg_hoa.specs.declared.fault.HoaFault.{HoaFault}
 use Rattle.pg_hoa.specs.declared.fault.HoaFault.TheVariants as hoa

@@ -21,7 +21,7 @@ use Rattle.pg_command.specs.Making.{IsGameFor}
 use Rattle.pg_command.specs.Synthesising.{IsSynthesised}
 use Rattle.pg_command.specs.Laws.{OneAnswer}
 use Rattle.pg_command.proofs.OneWorld as world
-use Rattle.pg_hoa.specs.Automata.{Automaton}
+use Rattle.pg_automaton.specs.Automata.{Automaton}
 use Rattle.pg_hoa.specs.Laws.{OneReading}
 use Rattle.pg_synth.specs.AutomatonGames.{IsGameOfAutomaton}
 use Rattle.pg_synth.proofs.OneGame as synth

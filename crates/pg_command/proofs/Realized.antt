@@ -4,7 +4,7 @@ use Rattle.pg_arena.specs.declared.player.Player.TheVariants.{Even, Odd}
 use Rattle.pg_arena.specs.Games.{GameVertex}
 use Rattle.pg_text.specs.Solutions.{winner}
 use Rattle.pg_check.specs.Laws.{OneWinner}
-use Rattle.pg_hoa.specs.Automata.{Automaton}
+use Rattle.pg_automaton.specs.Automata.{Automaton}
 use Rattle.pg_hoa.specs.Laws.{OneReading}
 use Rattle.pg_synth.specs.Letters.{inputs, outputs}
 use Rattle.pg_synth.specs.Laws.{IsWonBy, MachineAccepted, Unrealizable}

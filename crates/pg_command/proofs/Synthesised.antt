@@ -6,7 +6,7 @@ use Rattle.pg_arena.specs.Games.{GameVertex}
 use Rattle.pg_text.specs.declared.answer.Answer.{Answer}
 use Rattle.pg_text.specs.Solutions.{winner, IsSolution}
 use Rattle.pg_check.specs.Soundness.{IsSound}
-use Rattle.pg_hoa.specs.Automata.{Automaton, IsAutomaton}
+use Rattle.pg_automaton.specs.Automata.{Automaton, IsAutomaton}
 use Rattle.pg_hoa.specs.AutomatonText.{Spelt, IsRefused}
 use Rattle.pg_hoa.specs.declared.fault.HoaFault.{HoaFault}
 use Rattle.pg_synth.specs.Answers as synth_answers

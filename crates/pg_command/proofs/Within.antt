@@ -7,7 +7,7 @@ use Rattle.pg_text.specs.declared.answer.Answer.{Answer}
 use Rattle.pg_check.specs.Laws.{OneWinner}
 use Rattle.pg_measure.specs.Laws.{OneListOfBounds}
 use Rattle.pg_map.specs.Laws.{ClosedIsLeast}
-use Rattle.pg_hoa.specs.Automata.{Automaton}
+use Rattle.pg_automaton.specs.Automata.{Automaton}
 use Rattle.pg_hoa.specs.Laws.{OneReading}
 use Rattle.pg_synth.specs.Machines.{Machine, Follows}
 use Rattle.pg_synth.specs.Laws.{OneMachine}

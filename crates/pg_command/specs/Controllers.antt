@@ -1,8 +1,8 @@
 -- What the answers of `synth` by closed maps, whether or not they are the least, say of endless words.
 use Rattle.std.specs.Prelude.{◌≡◌, ℕ, List, ◌++◌}
-use Rattle.pg_hoa.specs.Automata.{Automaton}
+use Rattle.pg_automaton.specs.Automata.{Automaton}
 use Rattle.pg_hoa.specs.AutomatonText.{Spelt}
-use Rattle.pg_hoa.specs.Words.{IsWord, IsAccepted}
+use Rattle.pg_automaton.specs.Words.{IsWord, IsAccepted}
 use Rattle.pg_synth.specs.Tracing.{Traces}
 use Rattle.pg_synth.specs.Machines.{IsInputWord, HasChosenInputs}
 use Rattle.pg_aiger.specs.Circuits.{Circuit}

@@ -4,7 +4,7 @@ use Rattle.pg_arena.specs.declared.player.Player.{Player}
 use Rattle.pg_arena.specs.declared.player.Player.TheVariants.{Even, Odd}
 use Rattle.pg_arena.specs.Games.{GameVertex, IsWithinLimits}
 use Rattle.pg_text.specs.declared.answer.Answer.{Answer}
-use Rattle.pg_hoa.specs.Automata.{Automaton, IsAutomaton}
+use Rattle.pg_automaton.specs.Automata.{Automaton, IsAutomaton}
 use Rattle.pg_hoa.specs.AutomatonText.{Spelt}
 use Rattle.pg_synth.specs.Machines.{Machine, Follows}
 use Rattle.pg_synth.specs.Laws.{IsWonBy}

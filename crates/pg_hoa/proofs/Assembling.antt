@@ -1,12 +1,12 @@
 -- An automaton made of headers, lines and a table of steps.
 use Rattle.std.proofs.Common.{◌≡◌, ◌∙◌, ◌≤◌, ◌*◌, ◌^◌, ℕ, List, [], ◌∷◌, length, map, refl, ap, arith}
 use Rattle.std.proofs.lemmas.Bool.Decides.{nat_tests}
-use Rattle.pg_hoa.specs.declared.table.Table.{Table}
-use Rattle.pg_hoa.specs.Automata.{Automaton, IsAutomaton, rows, next}
+use Rattle.pg_automaton.specs.declared.table.Table.{Table}
+use Rattle.pg_automaton.specs.Automata.{Automaton, IsAutomaton, rows, next}
 use Rattle.pg_hoa.specs.Mirrors.Kept.{KeptLine}
 use Rattle.pg_hoa.specs.Mirrors.Settling.{Settled}
 use Rattle.pg_hoa.specs.Mirrors.Tables.{kept_steps, IsTableOf, IsFirstConflict, IsConflictOf}
-use Rattle.pg_hoa.specs.Mirrors.Tables as tables
+use Rattle.pg_automaton.specs.Mirrors.Tables as tables
 use Rattle.pg_hoa.specs.Mirrors.Readings.{CanAssemble, Assembles, AreFew, kept_states}
 
 -- an automaton of what the headers say, with the steps of a table

@@ -13,10 +13,10 @@ use Rattle.std.proofs.lemmas.Slice.Eq.{bytes_eq-Decides}
 use Rattle.pg_hoa.specs.declared.formula.Kind.TheVariants.{Label}
 use Rattle.pg_hoa.specs.declared.formula.Op.{Op}
 use Rattle.pg_hoa.specs.Lexemes.{Lexeme, number, header, string, end, left_bracket, right_bracket, left_brace, right_brace, ampersand, stray, Character}
-use Rattle.pg_hoa.specs.Formulas.{formula_lexemes}
+use Rattle.pg_hoa.specs.FormulaTexts.{formula_lexemes}
 use Rattle.pg_hoa.specs.Mirrors.FormulaRun.{ops_at}
 use Rattle.pg_hoa.specs.Mirrors.Scan.{first, IsToken}
-use Rattle.pg_hoa.specs.Mirrors.Steps.{◌>>=◌}
+use Rattle.pg_automaton.specs.Mirrors.Steps.{◌>>=◌}
 use Rattle.pg_hoa.specs.AutomatonText.{Edge, StateLine, sets_lexemes, name_lexemes, edge_lexemes, state_lexemes, set_list, EachBelow}
 use Rattle.pg_hoa.specs.AutomatonText.{IsDistinct, EdgeFits, LineFits}
 use Rattle.pg_hoa.specs.Mirrors.Kept.{KeptEdge, KeptLine, put_edges, edge_kept, line_kept}

@@ -10,7 +10,8 @@ use Rattle.pg_hoa.specs.declared.fault.Refusal.{Refusal}
 use Rattle.pg_hoa.specs.declared.fault.Refusal.TheVariants.{Memory, Wrong}
 use Rattle.pg_hoa.specs.Lexemes.{Lexeme, number, stray}
 use Rattle.pg_hoa.specs.Mirrors.Scan.{first}
-use Rattle.pg_hoa.specs.Mirrors.Steps.{◌>>=◌, Fails}
+use Rattle.pg_automaton.specs.Mirrors.Steps.{◌>>=◌}
+use Rattle.pg_hoa.specs.Mirrors.Steps.{Fails}
 use Rattle.pg_hoa.specs.Mirrors.Kept.{KeptEdge, KeptLine, put_edge, put_edges}
 use Rattle.pg_hoa.specs.Mirrors.BodyScan.{due, state_of, new_state, set_in, sets_at, rising_sets_at, sets_if, edge_at, begins_edge}
 use Rattle.pg_hoa.specs.Mirrors.BodyScan.{edges_within, edges_at, kept_edges_at, behind_name, line_at, begins_line, is_seen, lines_within}

@@ -3,9 +3,9 @@ use Rattle.std.proofs.Common.{◌≡◌, ◌≢◌, ◌∙◌, ℕ, suc, zero, �
 use Rattle.std.proofs.Common.{sym, ap, arith, inl, inr, ◌⊎◌}
 use Rattle.std.specs.Prelude.{slice_get}
 use Rattle.std.proofs.lemmas.Bool.Decides.{nat_tests}
-use Rattle.pg_hoa.specs.declared.shape.Shape.{Shape}
-use Rattle.pg_hoa.specs.declared.shape.Shape.TheVariants.{MaxEven, MaxOdd, MinEven, MinOdd, Always, Never}
-use Rattle.pg_hoa.specs.Automata.{first, last, deciding}
+use Rattle.pg_automaton.specs.declared.shape.Shape.{Shape}
+use Rattle.pg_automaton.specs.declared.shape.Shape.TheVariants.{MaxEven, MaxOdd, MinEven, MinOdd, Always, Never}
+use Rattle.pg_automaton.specs.Automata.{first, last, deciding}
 use Rattle.pg_lists.specs.Rising.{put, rising}
 use Rattle.pg_hoa.specs.Mirrors.Tables.{with_set}
 use Rattle.pg_lists.proofs.Steps.{some, some_is}
@@ -30,23 +30,6 @@ put_here n m ms h = grind (arith, nat_tests)
 
 put_behind : (n m : ℕ) (ms : List ℕ) → m < n → put n (m ∷ ms) ≡ m ∷ put n ms
 put_behind n m ms h = grind (arith, nat_tests)
-
--- ---- the greatest of a list
-
-last_at : (xs : List ℕ) → slice_get xs (length xs - 1) ≡ last xs
-last_at [] = refl
-last_at (x ∷ []) = refl
-last_at (x ∷ y ∷ xs) =
-    let here : length (x ∷ y ∷ xs) - 1 ≡ suc (length (y ∷ xs) - 1) = omega arith in
-    ap (slice_get (x ∷ y ∷ xs)) here ∙ last_at (y ∷ xs)
-
-pub decides_last : (shape : Shape) (xs : List ℕ) (o : Option ℕ) → (shape ≢ MinEven) → (shape ≢ MinOdd) → o ≡ slice_get xs (length xs - 1)
-    → o ≡ deciding shape xs
-decides_last MinEven xs o a b e = absurd (a refl)
-decides_last MinOdd xs o a b e = absurd (b refl)
-decides_last _ xs o a b e = e ∙ last_at xs
-
--- ---- one more set
 
 first_put : (n m : ℕ) (ms : List ℕ) → first (put n (m ∷ ms)) ≡ Some (min m n)
 first_put n m ms = grind (arith, nat_tests, three_ways n m)

@@ -5,7 +5,8 @@ use Rattle.pg_hoa.specs.declared.formula.Kind.{Kind}
 use Rattle.pg_hoa.specs.declared.formula.Op.{Op}
 use Rattle.pg_hoa.specs.Lexemes.{Lexeme, number, right_paren, ampersand, bar}
 use Rattle.pg_hoa.specs.Mirrors.Scan.{IsToken}
-use Rattle.pg_hoa.specs.Formulas.{Formula, yes, no, proposition, inf, fin, not, both, either, bracket, formula_lexemes, IsWritten}
+use Rattle.pg_automaton.specs.Formulas.{Formula, yes, no, proposition, inf, fin, not, both, either, bracket}
+use Rattle.pg_hoa.specs.FormulaTexts.{formula_lexemes, IsWritten}
 use Rattle.pg_hoa.specs.Mirrors.FormulaRun.{postfix, ops_at}
 use Rattle.pg_hoa.specs.Mirrors.FormulaScan.{formula_at}
 use Rattle.pg_hoa.proofs.Lists.{all_of_both}

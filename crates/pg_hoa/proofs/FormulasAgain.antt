@@ -5,8 +5,9 @@ use Rattle.std.proofs.lemmas.Bool.{lt-ltb}
 use Rattle.pg_hoa.specs.Lexemes.{Lexeme, right_paren, ampersand, bar, stray}
 use Rattle.pg_hoa.specs.declared.formula.Kind.{Kind}
 use Rattle.pg_hoa.specs.declared.formula.Kind.TheVariants.{Label, Condition}
-use Rattle.pg_hoa.specs.Formulas.{Formula, yes, no, proposition, inf, fin, not, both, either, bracket, formula_lexemes, rank, IsGrouped}
-use Rattle.pg_hoa.specs.Formulas.{nesting, IsOf, IsWritten}
+use Rattle.pg_automaton.specs.Formulas.{Formula, yes, no, proposition, inf, fin, not, both, either, bracket}
+use Rattle.pg_hoa.specs.FormulaTexts.{formula_lexemes, rank, IsGrouped}
+use Rattle.pg_hoa.specs.FormulaTexts.{nesting, IsOf, IsWritten}
 use Rattle.pg_hoa.specs.Mirrors.FormulaScan.{Frame, fresh, State, operand, operator, summed, completes, formula_from, formula_at}
 
 abbrev starting : Option Formula → Frame

@@ -9,8 +9,9 @@ use Rattle.std.proofs.lemmas.List.{append-nil}
 use Rattle.pg_hoa.specs.Lexemes.{Lexeme, number, identifier, left_paren, right_paren, bang, ampersand, bar}
 use Rattle.pg_hoa.specs.declared.formula.Kind.{Kind}
 use Rattle.pg_hoa.specs.declared.formula.Kind.TheVariants.{Label, Condition}
-use Rattle.pg_hoa.specs.Formulas.{Formula, yes, no, proposition, inf, fin, not, bracket, formula_lexemes, rank, IsGrouped, nesting, IsOf, IsWritten}
-use Rattle.pg_hoa.specs.Mirrors.Steps.{◌>>=◌}
+use Rattle.pg_automaton.specs.Formulas.{Formula, yes, no, proposition, inf, fin, not, bracket}
+use Rattle.pg_hoa.specs.FormulaTexts.{formula_lexemes, rank, IsGrouped, nesting, IsOf, IsWritten}
+use Rattle.pg_automaton.specs.Mirrors.Steps.{◌>>=◌}
 use Rattle.pg_hoa.specs.Mirrors.FormulaScan.{Frame, fresh, State, operand, opening, naming, closing, operator, summed, multiplied, negated}
 use Rattle.pg_hoa.specs.Mirrors.FormulaScan.{limited, completes, deeper, word_step, operand_step, opening_step, naming_step, closing_step}
 use Rattle.pg_hoa.specs.Mirrors.FormulaScan.{operator_step, step, finish, stops, formula_from, formula_at}

@@ -3,7 +3,7 @@ use Rattle.std.proofs.Common.{◌≡◌, ℕ, ◌<◌, Bool, true, false, eqb, L
 use Rattle.std.proofs.lemmas.Bool.Decides.{nat_tests}
 use Rattle.std.specs.List.{AllByRecursion, filter}
 use Rattle.std.proofs.lemmas.List.Elements.{All-append}
-use Rattle.pg_hoa.specs.Automata.{Step, IsStepOf}
+use Rattle.pg_automaton.specs.Automata.{Step, IsStepOf}
 use Rattle.pg_hoa.specs.AutomatonText.{Edge, StateLine, set_list, edge_steps, steps_of, head, EachBelow, EdgeFits, LineFits}
 use Rattle.pg_hoa.specs.Mirrors.Kept.{KeptLine, line_kept}
 use Rattle.pg_hoa.specs.Mirrors.Tables.{kept_steps}

@@ -5,9 +5,9 @@ use Rattle.std.specs.List.{flat_map, AllByRecursion}
 use Rattle.std.proofs.lemmas.List.{append-nil, length-map}
 use Rattle.pg_hoa.specs.declared.formula.Op.{Op}
 use Rattle.pg_hoa.specs.Lexemes.{Character}
-use Rattle.pg_hoa.specs.Formulas.{Formula}
+use Rattle.pg_automaton.specs.Formulas.{Formula}
 use Rattle.pg_hoa.specs.Mirrors.FormulaRun.{postfix}
-use Rattle.pg_hoa.specs.Automata.{Automaton, IsPropositionName}
+use Rattle.pg_automaton.specs.Automata.{Automaton, IsPropositionName}
 use Rattle.pg_hoa.specs.AutomatonText.{Header, Written, Says, AtMostOne, count_of, character_code, state_counts, starts, names, acceptances, controls}
 use Rattle.pg_hoa.specs.Mirrors.Kept.{KeptHead}
 use Rattle.pg_hoa.specs.Mirrors.HeaderScan.{noted}

@@ -12,10 +12,11 @@ use Rattle.pg_hoa.specs.declared.formula.Op.{Op}
 use Rattle.pg_hoa.specs.declared.formula.Kind.TheVariants.{Condition}
 use Rattle.pg_hoa.specs.Lexemes.{Lexeme, number, identifier, header, string, body, Character}
 use Rattle.pg_hoa.specs.Mirrors.Scan.{IsToken}
-use Rattle.pg_hoa.specs.Mirrors.Steps.{◌>>=◌}
-use Rattle.pg_hoa.specs.Formulas.{Formula, formula_lexemes, IsWritten}
+use Rattle.pg_automaton.specs.Mirrors.Steps.{◌>>=◌}
+use Rattle.pg_automaton.specs.Formulas.{Formula}
+use Rattle.pg_hoa.specs.FormulaTexts.{formula_lexemes, IsWritten}
 use Rattle.pg_hoa.specs.Mirrors.FormulaRun.{ops_at, postfix}
-use Rattle.pg_hoa.specs.Automata.{IsPropositionName}
+use Rattle.pg_automaton.specs.Automata.{IsPropositionName}
 use Rattle.pg_hoa.specs.AutomatonText.{Header, header_lexemes, IsHeader, value_lexeme, character_code, state_counts, starts, names, acceptances, controls}
 use Rattle.pg_hoa.specs.AutomatonText as text
 use Rattle.pg_hoa.specs.Mirrors.Kept.{KeptHead}

@@ -5,9 +5,9 @@ use Rattle.std.specs.Prelude.{IfSome}
 use Rattle.std.specs.List.{flat_map, AllByRecursion}
 use Rattle.std.proofs.lemmas.List.{append-nil}
 use Rattle.pg_hoa.specs.declared.formula.Op.{Op}
-use Rattle.pg_hoa.specs.Formulas.{Formula}
+use Rattle.pg_automaton.specs.Formulas.{Formula}
 use Rattle.pg_hoa.specs.Mirrors.FormulaRun.{postfix}
-use Rattle.pg_hoa.specs.Automata.{IsPropositionName}
+use Rattle.pg_automaton.specs.Automata.{IsPropositionName}
 use Rattle.pg_hoa.specs.AutomatonText.{Header, state_counts, starts, names, acceptances, controls, character_code}
 use Rattle.pg_hoa.specs.AutomatonText as text
 use Rattle.pg_hoa.specs.Lexemes.{Character}

@@ -7,7 +7,8 @@ use Rattle.pg_hoa.specs.declared.fault.Refusal.TheVariants.{Memory, Wrong}
 use Rattle.pg_hoa.specs.Lexemes.{Lexeme, number, identifier, string, stray}
 use Rattle.pg_hoa.specs.Mirrors.Scan.{first, characters}
 use Rattle.pg_hoa.specs.AutomatonText.{character_code}
-use Rattle.pg_hoa.specs.Mirrors.Steps.{◌>>=◌, Fails}
+use Rattle.pg_automaton.specs.Mirrors.Steps.{◌>>=◌}
+use Rattle.pg_hoa.specs.Mirrors.Steps.{Fails}
 use Rattle.pg_hoa.specs.Mirrors.HeaderScan.{numeral_of, numbers_from, note, noted, noted_at, is_value, skipped_from, is_name_byte, is_name}
 use Rattle.pg_hoa.specs.Mirrors.HeaderScan.{quoted_at, names_from}
 use Rattle.pg_lists.proofs.Steps.{some, some_is, none_is_some}

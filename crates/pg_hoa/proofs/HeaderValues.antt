@@ -6,7 +6,7 @@ use Rattle.std.specs.List.{list_all, AllByRecursion}
 use Rattle.std.proofs.lemmas.List.{append-nil}
 use Rattle.std.proofs.lemmas.Bool.Decides.{nat_tests}
 use Rattle.pg_hoa.specs.Lexemes.{Lexeme, number, identifier, header, string, body, ampersand, stray, Character}
-use Rattle.pg_hoa.specs.Automata.{IsPropositionName, IsNameByte}
+use Rattle.pg_automaton.specs.Automata.{IsPropositionName, IsNameByte}
 use Rattle.pg_hoa.specs.AutomatonText.{Value, numeral, word, quoted, value_lexeme, character_code}
 use Rattle.pg_hoa.specs.Mirrors.HeaderScan.{numeral_at, alone_at, numbers_from, skipped_from, is_name_byte, is_name, name_of, quoted_at, names_from}
 use Rattle.pg_hoa.proofs.Lists.{both_true}

@@ -14,8 +14,8 @@ use Rattle.pg_hoa.specs.declared.formula.Frame as rust
 use Rattle.pg_hoa.specs.declared.formula.Mode.{Mode}
 use Rattle.pg_hoa.specs.declared.formula.Mode.TheVariants as modes
 use Rattle.pg_hoa.specs.Lexemes.{Lexeme, number, identifier, left_paren, right_paren, bang, ampersand, bar, stray}
-use Rattle.pg_hoa.specs.Formulas.{Formula, yes, no, proposition, not, bracket}
-use Rattle.pg_hoa.specs.Mirrors.Steps.{◌>>=◌}
+use Rattle.pg_automaton.specs.Formulas.{Formula, yes, no, proposition, not, bracket}
+use Rattle.pg_automaton.specs.Mirrors.Steps.{◌>>=◌}
 use Rattle.pg_hoa.specs.Mirrors.FormulaScan.{Frame, fresh, State, operand, opening, naming, closing, operator, summed, deeper, word_step}
 use Rattle.pg_hoa.specs.Mirrors.FormulaScan.{operand_step, operator_step, multiplied, negated, limited, completes, step, finish, stops}
 use Rattle.pg_hoa.specs.Mirrors.FormulaScan.{formula_from, formula_at}

@@ -2,7 +2,6 @@ pub mod Acts
 pub mod Assembling
 pub mod BodyLaws
 pub mod BodyTurns
-pub mod Collections
 pub mod Counting
 pub mod FormulaLaws
 pub mod FormulasAgain
@@ -28,14 +27,11 @@ pub mod ReadSpelt
 pub mod ReadSpeltHeads
 pub mod ReadSpeltLines
 pub mod Refusing
-pub mod Rows
 pub mod Saying
 pub mod SetLists
 pub mod Settles
 pub mod ShapeFinds
-pub mod ShapeLaws
 pub mod ShapeNests
-pub mod ShapeSays
 pub mod ShapeSteps
 pub mod ShapeTrees
 pub mod Spelling

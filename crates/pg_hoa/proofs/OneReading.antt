@@ -3,8 +3,8 @@ use Rattle.std.proofs.Common.{◌≡◌, ◌∙◌, ◌<◌, ◌+◌, ◌^◌, �
 use Rattle.std.proofs.lemmas.Bool.Decides.{nat_tests}
 use Rattle.std.specs.List.{range_with_len}
 use Rattle.std.proofs.lemmas.Bool.{cases_order}
-use Rattle.pg_hoa.specs.declared.shape.Shape.{Shape}
-use Rattle.pg_hoa.specs.Automata.{Step, Automaton, letters, rows, next}
+use Rattle.pg_automaton.specs.declared.shape.Shape.{Shape}
+use Rattle.pg_automaton.specs.Automata.{Step, Automaton, letters, rows, next}
 use Rattle.pg_hoa.specs.AutomatonText.{Spelt, IsUndetermined, head}
 use Rattle.pg_hoa.specs.Laws.{HasOneReading}
 use Rattle.pg_hoa.proofs.SpeltReads.{said_once, letters_below, undetermined_spell_none}

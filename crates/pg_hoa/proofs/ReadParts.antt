@@ -5,15 +5,15 @@ use Rattle.std.specs.Prelude.{IfSome, ◌==◌}
 use Rattle.std.specs.List.{AllByRecursion, list_any, flat_map}
 use Rattle.std.proofs.lemmas.List.FromFn.{length-map-range_with_len}
 use Rattle.pg_hoa.specs.declared.formula.Op.{Op}
-use Rattle.pg_hoa.specs.declared.shape.Shape.{Shape}
+use Rattle.pg_automaton.specs.declared.shape.Shape.{Shape}
 use Rattle.pg_hoa.specs.declared.fault.Refusal.{Refusal}
 use Rattle.pg_hoa.specs.declared.fault.Refusal.TheVariants.{Memory, Wrong}
 use Rattle.pg_hoa.specs.Lexemes.{Lexeme}
 use Rattle.pg_hoa.specs.Mirrors.Steps.{Fails}
-use Rattle.pg_hoa.specs.Formulas.{Formula}
+use Rattle.pg_automaton.specs.Formulas.{Formula}
 use Rattle.pg_hoa.specs.Mirrors.FormulaRun.{postfix}
-use Rattle.pg_hoa.specs.Shapes.{HasShape}
-use Rattle.pg_hoa.specs.Automata.{IsPropositionName}
+use Rattle.pg_automaton.specs.Shapes.{HasShape}
+use Rattle.pg_automaton.specs.Automata.{IsPropositionName}
 use Rattle.pg_hoa.specs.AutomatonText.{LineFits, acceptances}
 use Rattle.pg_hoa.specs.Mirrors.Kept.{KeptHead, KeptLine, line_kept}
 use Rattle.pg_hoa.specs.Mirrors.HeaderScan.{headers_at}
@@ -24,7 +24,7 @@ use Rattle.pg_lists.proofs.Steps.{some, some_is, none_is_some}
 use Rattle.pg_hoa.proofs.HeaderParts.{option_list}
 use Rattle.pg_hoa.proofs.HeaderLaws.{headers_take}
 use Rattle.pg_hoa.proofs.BodyLaws.{body_takes}
-use Rattle.pg_hoa.proofs.ShapeLaws.{one_shape}
+use Rattle.pg_automaton.proofs.ShapeLaws.{one_shape}
 use Rattle.pg_hoa.proofs.ReadSpeltHeads.{good_names, shape_alike}
 use Rattle.pg_hoa.proofs.ReadSpeltLines.{states_fit}
 use Rattle.pg_hoa.proofs.GoodSteps.{kept_good}

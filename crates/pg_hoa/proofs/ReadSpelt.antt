@@ -3,10 +3,10 @@ use Rattle.std.proofs.Common.{◌≡◌, ◌∙◌, ◌<◌, ◌^◌, ℕ, Bool,
 use Rattle.std.proofs.lemmas.Bool.Decides.{nat_tests}
 use Rattle.std.specs.Prelude.{codes}
 use Rattle.std.specs.List.{flat_map, AllByRecursion}
-use Rattle.pg_hoa.specs.declared.shape.Shape.{Shape}
+use Rattle.pg_automaton.specs.declared.shape.Shape.{Shape}
 use Rattle.pg_hoa.specs.Lexemes.{Lexeme, identifier, header, body, end}
 use Rattle.pg_hoa.specs.Mirrors.Scan.{lex, IsToken}
-use Rattle.pg_hoa.specs.Automata.{Automaton, IsPropositionName}
+use Rattle.pg_automaton.specs.Automata.{Automaton, IsPropositionName}
 use Rattle.pg_hoa.specs.AutomatonText.{StateLine, Written, IsText, IsHeader, Says, Spelt, IsUndetermined, IsDistinct, LineFits, Agree, head}
 use Rattle.pg_hoa.specs.AutomatonText.{EachBelow, header_lexemes, state_lexemes, text_lexemes, state_counts, names, controls, acceptances}
 use Rattle.pg_hoa.specs.AutomatonText.{character_code, steps_of}

@@ -5,12 +5,12 @@ use Rattle.std.specs.Prelude.{IfSome}
 use Rattle.std.specs.List.{flat_map, AllByRecursion}
 use Rattle.std.proofs.lemmas.List.{append-nil, length-map}
 use Rattle.pg_hoa.specs.declared.formula.Op.{Op}
-use Rattle.pg_hoa.specs.declared.shape.Shape.{Shape}
+use Rattle.pg_automaton.specs.declared.shape.Shape.{Shape}
 use Rattle.pg_hoa.specs.Lexemes.{Character}
-use Rattle.pg_hoa.specs.Formulas.{Formula}
+use Rattle.pg_automaton.specs.Formulas.{Formula}
 use Rattle.pg_hoa.specs.Mirrors.FormulaRun.{postfix}
-use Rattle.pg_hoa.specs.Shapes.{HasShape}
-use Rattle.pg_hoa.specs.Automata.{IsPropositionName}
+use Rattle.pg_automaton.specs.Shapes.{HasShape}
+use Rattle.pg_automaton.specs.Automata.{IsPropositionName}
 use Rattle.pg_hoa.specs.AutomatonText.{StateLine, AtMostOne, character_code, count_of, line_numbers}
 use Rattle.pg_hoa.specs.Mirrors.Kept.{line_kept}
 use Rattle.pg_hoa.specs.Mirrors.HeaderScan.{noted}

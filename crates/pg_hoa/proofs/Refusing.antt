@@ -8,7 +8,7 @@ use Rattle.pg_hoa.specs.declared.fault.PartFault.TheVariants.{Syntax, LeftOut, U
 use Rattle.pg_hoa.specs.declared.fault.Refusal.{Refusal}
 use Rattle.pg_hoa.specs.declared.fault.Refusal.TheVariants.{Memory, Wrong}
 use Rattle.pg_hoa.specs.Mirrors.Scan.{lex}
-use Rattle.pg_hoa.specs.Automata.{Automaton}
+use Rattle.pg_automaton.specs.Automata.{Automaton}
 use Rattle.pg_hoa.specs.AutomatonText.{Spelt, SpellsNone, SaysNone, IsRefused}
 use Rattle.pg_hoa.specs.Mirrors.Faults.{in_text, refusal_in_text}
 use Rattle.pg_hoa.specs.Mirrors.Kept.{KeptHead, KeptLine}

@@ -5,10 +5,10 @@ use Rattle.std.specs.List.{All, list_any}
 use Rattle.std.proofs.Math.ListN.{get_or-map}
 use Rattle.std.proofs.lemmas.List.{length-map}
 use Rattle.pg_hoa.specs.declared.formula.Op.{Op}
-use Rattle.pg_hoa.specs.declared.shape.Shape.{Shape}
-use Rattle.pg_hoa.specs.Formulas.{Formula}
+use Rattle.pg_automaton.specs.declared.shape.Shape.{Shape}
+use Rattle.pg_automaton.specs.Formulas.{Formula}
 use Rattle.pg_hoa.specs.Mirrors.FormulaRun.{postfix}
-use Rattle.pg_hoa.specs.Shapes.{FitsShape}
+use Rattle.pg_automaton.specs.Shapes.{FitsShape}
 use Rattle.pg_hoa.specs.Mirrors.Kept.{KeptHead, option_with}
 use Rattle.pg_hoa.specs.Mirrors.Settling.{Settled, IsSettled, listed}
 use Rattle.pg_lists.proofs.Steps.{some_is}

@@ -5,54 +5,17 @@ use Rattle.std.proofs.lemmas.Bool.Decides.{nat_tests}
 use Rattle.std.specs.Prelude.{IfSome, IfNone}
 use Rattle.pg_hoa.specs.declared.formula.Op.{Op}
 use Rattle.pg_hoa.specs.declared.formula.Op.TheVariants.{Yes, No}
-use Rattle.pg_hoa.specs.declared.shape.Shape.{Shape}
-use Rattle.pg_hoa.specs.declared.shape.Shape.TheVariants.{MaxEven, MaxOdd, MinEven, MinOdd, Always, Never}
-use Rattle.pg_hoa.specs.Formulas.{Formula, yes, no}
+use Rattle.pg_automaton.specs.declared.shape.Shape.{Shape}
+use Rattle.pg_automaton.specs.declared.shape.Shape.TheVariants.{MaxEven, MaxOdd, MinEven, MinOdd, Always, Never}
+use Rattle.pg_automaton.specs.Formulas.{Formula, yes, no}
 use Rattle.pg_hoa.specs.Mirrors.FormulaRun.{postfix}
-use Rattle.pg_hoa.specs.Shapes.{is_even, decides, max_even, max_odd, min_even, min_odd, condition_of, bare, IsLike, FitsShape, HasShape, place}
-use Rattle.pg_hoa.specs.Mirrors.ShapeRun.{set_at, wanted_at, nests_at, fits_at, constant_at, nested_at}
+use Rattle.pg_automaton.specs.Shapes.{is_even, decides, max_even, max_odd, min_even, min_odd, condition_of, bare, IsLike, FitsShape, HasShape, place}
+use Rattle.pg_automaton.specs.Mirrors.Nests.{set_at, wanted_at}
+use Rattle.pg_hoa.specs.Mirrors.ShapeRun.{nests_at, fits_at, constant_at, nested_at}
+use Rattle.pg_automaton.proofs.Nested.{nested_in, condition_nested, no_constant, nested}
 use Rattle.pg_lists.proofs.Steps.{some, some_is, none_is_some}
 use Rattle.pg_hoa.proofs.ShapeTrees.{one_tree, bare_postfix}
-use Rattle.pg_hoa.proofs.ShapeNests.{nested, nests_tree, tree_nests, AllDiffer}
-
--- ---- each shape over some sets is a nested condition
-
-abbrev pub nested_in : Shape → ℕ → ℕ → Formula
-nested_in shape sets inside = nested (set_at shape sets) (wanted_at shape sets) inside
-
-two_more : (k : ℕ) → is_even (suc (suc k)) ≡ is_even k
-two_more k = let same : suc (suc k) % 2 ≡ k % 2 = omega arith in ap (λ (r : ℕ). r == 0) same
-
-max_even_nested : (sets k : ℕ) → max_even k ≡ nested_in MaxEven sets k
-max_even_nested sets zero = refl
-max_even_nested sets (suc k) = ap (decides (is_even (suc k)) (suc k)) (max_even_nested sets k)
-
-max_odd_nested : (sets k : ℕ) → max_odd k ≡ nested_in MaxOdd sets k
-max_odd_nested sets zero = refl
-max_odd_nested sets (suc k) = ap (λ (b : Bool). decides b (suc k) (max_odd k)) (sym (two_more k))
-    ∙ ap (decides (is_even (suc (suc k))) (suc k)) (max_odd_nested sets k)
-
-min_even_nested : (sets k more : ℕ) → sets ≡ suc (k + more) → min_even k more ≡ nested_in MinEven sets more
-min_even_nested sets k zero e = grind (arith, nat_tests)
-min_even_nested sets k (suc more) e = grind (arith, nat_tests, min_even_nested sets (suc k) more (omega arith))
-
-min_odd_nested : (sets k more : ℕ) → sets ≡ suc (k + more) → min_odd k more ≡ nested_in MinOdd sets more
-min_odd_nested sets k zero e = grind (arith, nat_tests)
-min_odd_nested sets k (suc more) e = grind (arith, nat_tests, min_odd_nested sets (suc k) more (omega arith))
-
-pub condition_nested : (shape : Shape) (k : ℕ) → place shape < 4 → condition_of shape (suc k) ≡ Some (nested_in shape (suc k) k)
-condition_nested MaxEven k h = ap some (max_even_nested (suc k) k)
-condition_nested MaxOdd k h = ap some (max_odd_nested (suc k) k)
-condition_nested MinEven k h = ap some (min_even_nested (suc k) 0 k (omega arith))
-condition_nested MinOdd k h = ap some (min_odd_nested (suc k) 0 k (omega arith))
-condition_nested _ k h = absurd (omega arith)
-
-pub no_constant : (shape : Shape) (k : ℕ) (f : Formula) → FitsShape f (suc k) shape → place shape < 4
-no_constant MaxEven k f fits = omega arith
-no_constant MaxOdd k f fits = omega arith
-no_constant MinEven k f fits = omega arith
-no_constant MinOdd k f fits = omega arith
-no_constant _ k f fits = absurd (none_is_some fits.0 fits.1)
+use Rattle.pg_hoa.proofs.ShapeNests.{nests_tree, tree_nests, AllDiffer}
 
 each_differs : (shape : Shape) (k : ℕ) → AllDiffer (set_at shape (suc k)) k
 each_differs MinEven k = record { differ = λ i j lt le e. omega arith }

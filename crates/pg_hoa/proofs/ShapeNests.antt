@@ -3,21 +3,17 @@ use Rattle.std.proofs.Common.{◌≡◌, ℕ, suc, zero, ◌<◌, ◌≤◌, Boo
 use Rattle.std.proofs.Common.{◌∙◌, ◌⊎◌, inl, inr, arith, append_assoc}
 use Rattle.std.proofs.lemmas.Bool.Decides.{nat_tests}
 use Rattle.pg_hoa.specs.declared.formula.Op.{Op}
-use Rattle.pg_hoa.specs.Formulas.{Formula}
+use Rattle.pg_automaton.specs.Formulas.{Formula}
 use Rattle.pg_hoa.specs.Mirrors.FormulaRun.{postfix, limit_op}
-use Rattle.pg_hoa.specs.Shapes.{leaf, decides, bare, IsLike}
+use Rattle.pg_automaton.specs.Shapes.{leaf, decides, bare, IsLike}
 use Rattle.pg_hoa.specs.Mirrors.ShapeRun.{is_leaf, is_join, last_op, leaf_last, without_leaf, inner_at, only_leaf, passes, nests_at}
+use Rattle.pg_automaton.proofs.Nested.{nested}
 use Rattle.pg_hoa.proofs.Steps.{bind_some}
 use Rattle.pg_lists.proofs.Steps.{chosen, some, some_is, none, none_is_some}
 use Rattle.pg_hoa.proofs.ShapeSteps.{join_op, last_parts, leaf_is, leaf_again, leaf_other, join_is, join_again, leaf_first, takes_behind}
 use Rattle.pg_hoa.proofs.ShapeSteps.{takes_before, inner_is}
 use Rattle.pg_hoa.proofs.ShapeTrees.{joined, postfix_leaf, postfix_joined, bare_leaf, bare_joined, like_leaf, like_leaf_is, like_before}
 use Rattle.pg_hoa.proofs.ShapeTrees.{like_behind, like_parts}
-
--- the sets one inside the other
-abbrev pub nested : (ℕ → ℕ) → (ℕ → Bool) → ℕ → Formula
-nested set wanted zero = leaf (wanted 0) (set 0)
-nested set wanted (suc inside) = decides (wanted (suc inside)) (set (suc inside)) (nested set wanted inside)
 
 -- ---- what nests is such a condition
 

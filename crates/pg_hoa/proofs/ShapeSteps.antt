@@ -5,8 +5,9 @@ use Rattle.std.proofs.lemmas.Bool.{eqb-true, eq-eqb, ne_eqb}
 use Rattle.pg_hoa.specs.declared.formula.Op.{Op}
 use Rattle.pg_hoa.specs.declared.formula.Op.TheVariants.{Inf, Fin, Both, Either}
 use Rattle.pg_hoa.specs.Mirrors.FormulaRun.{limit_op}
-use Rattle.pg_hoa.specs.declared.shape.Shape.{Shape}
-use Rattle.pg_hoa.specs.Mirrors.ShapeRun.{set_at, is_wanted, wanted_at, is_leaf, is_join, last_op, without_leaf, inner_at, only_leaf, passes, nests_at}
+use Rattle.pg_automaton.specs.declared.shape.Shape.{Shape}
+use Rattle.pg_automaton.specs.Mirrors.Nests.{set_at, is_wanted, wanted_at}
+use Rattle.pg_hoa.specs.Mirrors.ShapeRun.{is_leaf, is_join, last_op, without_leaf, inner_at, only_leaf, passes, nests_at}
 use Rattle.pg_hoa.proofs.Steps.{bind_some}
 use Rattle.pg_lists.proofs.Steps.{some_is}
 

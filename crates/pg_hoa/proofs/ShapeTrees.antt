@@ -3,9 +3,9 @@ use Rattle.std.proofs.Common.{◌≡◌, ℕ, Bool, true, false, cond, List, [],
 use Rattle.std.proofs.lemmas.Bool.Decides.{nat_tests}
 use Rattle.pg_hoa.specs.declared.formula.Op.{Op}
 use Rattle.pg_hoa.specs.declared.formula.Op.TheVariants.{Yes, No, Proposition, Inf, Fin, Not, Both, Either}
-use Rattle.pg_hoa.specs.Formulas.{Formula, yes, no, proposition, inf, fin, not, both, either, bracket}
+use Rattle.pg_automaton.specs.Formulas.{Formula, yes, no, proposition, inf, fin, not, both, either, bracket}
 use Rattle.pg_hoa.specs.Mirrors.FormulaRun.{postfix, limit_op}
-use Rattle.pg_hoa.specs.Shapes.{leaf, decides, bare, IsLike}
+use Rattle.pg_automaton.specs.Shapes.{leaf, decides, bare, IsLike}
 use Rattle.pg_hoa.proofs.ShapeSteps.{join_op}
 
 -- ---- operations have one tree, up to brackets

@@ -7,7 +7,7 @@ use Rattle.std.specs.List.{flat_map, AllByRecursion}
 use Rattle.std.proofs.Math.Dec.{eqb-suc-zero}
 use Rattle.std.proofs.lemmas.Bool.{cases_Bool, and_parts, eqb-true}
 use Rattle.pg_hoa.specs.Lexemes.{is_space, after_comments, Blank, space, comment, blank_bytes, IsBlank}
-use Rattle.pg_hoa.specs.Mirrors.Steps.{◌>>=◌}
+use Rattle.pg_automaton.specs.Mirrors.Steps.{◌>>=◌}
 use Rattle.pg_hoa.specs.Mirrors.Scan.{gap_step, gap_from}
 use Rattle.pg_hoa.proofs.Steps.{bind_some}
 use Rattle.pg_lists.proofs.Steps.{some, some_is, none_is_some}

@@ -5,7 +5,7 @@ use Rattle.pg_hoa.specs.declared.fault.PartFault.{PartFault}
 use Rattle.pg_hoa.specs.declared.fault.Refusal.TheVariants.{Wrong}
 use Rattle.pg_hoa.specs.Lexemes.{Lexeme, end}
 use Rattle.pg_hoa.specs.Mirrors.Scan.{lex}
-use Rattle.pg_hoa.specs.Automata.{Automaton}
+use Rattle.pg_automaton.specs.Automata.{Automaton}
 use Rattle.pg_hoa.specs.AutomatonText.{Written, IsText, Says, IsUndetermined, IsDeterministicAt, SpellsNone, SaysNone, steps_of}
 use Rattle.pg_hoa.specs.AutomatonText.{state_counts, state_lexemes, text_lexemes}
 use Rattle.pg_hoa.specs.Mirrors.Kept.{KeptHead, KeptLine, line_kept}

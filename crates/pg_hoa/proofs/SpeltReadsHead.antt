@@ -5,9 +5,9 @@ use Rattle.std.specs.List.{All, AllByRecursion, flat_map}
 use Rattle.std.proofs.lemmas.List.{append-nil}
 use Rattle.pg_hoa.specs.declared.formula.Op.{Op}
 use Rattle.pg_hoa.specs.Lexemes.{Character}
-use Rattle.pg_hoa.specs.Formulas.{Formula}
+use Rattle.pg_automaton.specs.Formulas.{Formula}
 use Rattle.pg_hoa.specs.Mirrors.FormulaRun.{postfix}
-use Rattle.pg_hoa.specs.Automata.{Automaton}
+use Rattle.pg_automaton.specs.Automata.{Automaton}
 use Rattle.pg_hoa.specs.AutomatonText.{Written, Says, Edge, StateLine, EdgeFits, LineFits, EachBelow, AtMostOne, count_of, line_numbers}
 use Rattle.pg_hoa.specs.AutomatonText.{character_code, state_counts, starts, names, acceptances, controls}
 use Rattle.pg_hoa.specs.Mirrors.Kept.{line_kept}

@@ -1,7 +1,7 @@
 -- The bytes of a string, counted one character after another.
 use Rattle.std.proofs.Common.{◌≡◌, ℕ, ◌+◌, ◌<◌, eqb, List, [], ◌∷◌, length, Option, Some, None, refl, ap, subst, arith, inl, inr}
 use Rattle.std.proofs.lemmas.Bool.Decides.{nat_tests}
-use Rattle.pg_hoa.specs.Mirrors.Steps.{◌>>=◌}
+use Rattle.pg_automaton.specs.Mirrors.Steps.{◌>>=◌}
 use Rattle.pg_hoa.specs.Mirrors.Scan.{character_at, string_len}
 use Rattle.pg_lists.proofs.Steps.{chosen, some, some_is, none, none_is_some}
 

@@ -4,12 +4,13 @@ use Rattle.std.proofs.Common.{None, ap, subst, ◌∙◌, arith}
 use Rattle.std.proofs.lemmas.Bool.Decides.{Decides-ltb}
 use Rattle.std.proofs.lemmas.Nat.{div-mul-add, mod-mul-add, mul-add-lt, div_below, mod_below, div-add-mod', mul-le}
 use Rattle.std.proofs.lemmas.List.{length-replicate, get_or-replicate}
-use Rattle.pg_hoa.specs.declared.shape.Shape.{Shape}
-use Rattle.pg_hoa.specs.declared.table.Table.{Table}
-use Rattle.pg_hoa.specs.Automata.{Step}
+use Rattle.pg_automaton.specs.declared.shape.Shape.{Shape}
+use Rattle.pg_automaton.specs.declared.table.Table.{Table}
+use Rattle.pg_automaton.specs.Automata.{Step}
 use Rattle.pg_hoa.specs.AutomatonText.{Agree, head}
 use Rattle.pg_hoa.specs.Mirrors.Kept.{KeptLine}
-use Rattle.pg_hoa.specs.Mirrors.Tables.{Stage, numbered, Leads, IsFilled, Adds, at_lines, kept_steps, IsTableOf, IsFirstConflict}
+use Rattle.pg_automaton.specs.Mirrors.Tables.{numbered}
+use Rattle.pg_hoa.specs.Mirrors.Tables.{Stage, Leads, IsFilled, Adds, at_lines, kept_steps, IsTableOf, IsFirstConflict}
 use Rattle.pg_hoa.proofs.TableFilling.{nothing_yet}
 
 leads_head : (t : Stage) (n : ℕ) (steps : List Step) → Leads t n steps → numbered t.steps t.lists n ≡ head steps

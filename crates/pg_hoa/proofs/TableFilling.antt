@@ -7,10 +7,11 @@ use Rattle.std.proofs.lemmas.List.{append-nil, get_or-set_same, get_or-set_other
 use Rattle.std.proofs.lemmas.List.Elements.{All-nil, All-cons, All-head, All-tail, All-push, All-weaker, All-set, All-replicate}
 use Rattle.std.proofs.lemmas.Bool.{false≢true}
 use Rattle.std.proofs.lemmas.Bool.Decides.{Decides-eqb, nat_tests}
-use Rattle.pg_hoa.specs.declared.shape.Shape.{Shape}
-use Rattle.pg_hoa.specs.Automata.{Step, deciding}
+use Rattle.pg_automaton.specs.declared.shape.Shape.{Shape}
+use Rattle.pg_automaton.specs.Automata.{Step, deciding}
 use Rattle.pg_hoa.specs.AutomatonText.{Agree}
-use Rattle.pg_hoa.specs.Mirrors.Tables.{Stage, numbered, same_set, agree, Leads, Extends, HasKey, IsHeld, AreHeld, IsFilled, Adds, when, at_slot}
+use Rattle.pg_automaton.specs.Mirrors.Tables.{numbered}
+use Rattle.pg_hoa.specs.Mirrors.Tables.{Stage, same_set, agree, Leads, Extends, HasKey, IsHeld, AreHeld, IsFilled, Adds, when, at_slot}
 use Rattle.pg_hoa.specs.declared.table.Held.{Held}
 use Rattle.pg_hoa.specs.Mirrors.Letters.{truth}
 use Rattle.pg_hoa.proofs.Lists.{both_true}

@@ -3,8 +3,8 @@ use Rattle.std.proofs.Common.{◌≡◌, ℕ, suc, max, Bool, true, false, cond,
 use Rattle.std.specs.List.{filter, flat_map, fold}
 use Rattle.std.proofs.lemmas.List.Sums.{fold-append}
 use Rattle.std.specs.Int.{bit_at}
-use Rattle.pg_hoa.specs.Automata.{Step, step}
-use Rattle.pg_hoa.specs.Formulas.{holds}
+use Rattle.pg_automaton.specs.Automata.{Step, step}
+use Rattle.pg_automaton.specs.Formulas.{holds}
 use Rattle.pg_hoa.specs.AutomatonText.{Edge, StateLine, set_list, line_numbers, count_of, edge_steps, steps_of}
 use Rattle.pg_lists.specs.Rising.{rising}
 use Rattle.pg_hoa.specs.Mirrors.Kept.{KeptEdge, edge_kept, line_kept}

@@ -2,10 +2,11 @@
 use Rattle.std.proofs.Common.{◌≡◌, ℕ, suc, zero, ◌<◌, List, [], ◌∷◌, ◌++◌, length, Some, refl, ap, ◌∙◌, arith}
 use Rattle.std.proofs.lemmas.Bool.Decides.{nat_tests}
 use Rattle.std.specs.Prelude.{slice_get}
-use Rattle.pg_hoa.specs.declared.table.Stored.{Stored}
-use Rattle.pg_hoa.specs.Automata.{Step, step}
-use Rattle.pg_hoa.specs.Mirrors.Steps.{◌>>=◌}
-use Rattle.pg_hoa.specs.Mirrors.Tables.{Stage, numbered, Extends, MayNumber}
+use Rattle.pg_automaton.specs.declared.table.Stored.{Stored}
+use Rattle.pg_automaton.specs.Automata.{Step, step}
+use Rattle.pg_automaton.specs.Mirrors.Steps.{◌>>=◌}
+use Rattle.pg_automaton.specs.Mirrors.Tables.{numbered}
+use Rattle.pg_hoa.specs.Mirrors.Tables.{Stage, Extends, MayNumber}
 use Rattle.pg_hoa.proofs.Steps.{bind_some}
 use Rattle.pg_lists.proofs.Steps.{some, none_is_some}
 

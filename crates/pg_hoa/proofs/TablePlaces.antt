@@ -13,12 +13,12 @@ use Rattle.std.proofs.lemmas.Nat.Bits.{bit_at-zero, bit_at-trailing_zeros}
 use Rattle.std.proofs.lemmas.List.{map-append, flat_map_more, take_more}
 use Rattle.std.proofs.lemmas.List.Elements.{filter-append}
 use Rattle.pg_hoa.specs.declared.formula.Op.{Op}
-use Rattle.pg_hoa.specs.Automata.{Step, step, deciding}
+use Rattle.pg_automaton.specs.Automata.{Step, step, deciding}
 use Rattle.pg_lists.specs.Rising.{rising}
 use Rattle.pg_hoa.specs.Mirrors.Kept.{KeptEdge, KeptLine}
 use Rattle.pg_hoa.specs.Mirrors.Saying.{says}
 use Rattle.pg_hoa.specs.Mirrors.Letters.{truth, on_at}
-use Rattle.pg_hoa.specs.declared.shape.Shape.{Shape}
+use Rattle.pg_automaton.specs.declared.shape.Shape.{Shape}
 use Rattle.pg_hoa.proofs.TableFilling.{Has, adds_same, adds_repeated, adds_held, adds_wider}
 use Rattle.pg_hoa.proofs.TableWords.{truth_and, truth_or, truth_not}
 use Rattle.pg_hoa.proofs.Lists.{both_true}

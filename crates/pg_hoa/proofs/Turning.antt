@@ -12,7 +12,8 @@ use Rattle.pg_hoa.specs.declared.formula.Mode.{Mode}
 use Rattle.pg_hoa.specs.declared.formula.Mode.TheVariants.{Operand, Opening, Naming, Closing, Operator}
 use Rattle.pg_hoa.specs.Lexemes.{Lexeme, stray}
 use Rattle.pg_hoa.specs.Mirrors.Scan.{first}
-use Rattle.pg_hoa.specs.Mirrors.Steps.{◌>>=◌, Fails}
+use Rattle.pg_automaton.specs.Mirrors.Steps.{◌>>=◌}
+use Rattle.pg_hoa.specs.Mirrors.Steps.{Fails}
 use Rattle.pg_hoa.specs.Mirrors.FormulaRun.{Kept, not_ops, mode_goes_on, goes_on_at, mode_turn, operand_turn, operator_turn, opening_turn}
 use Rattle.pg_hoa.specs.Mirrors.FormulaRun.{naming_turn, closing_turn, turn_at, over_at, ops_from}
 use Rattle.pg_lists.proofs.Steps.{some_is, none_is_some}

@@ -7,12 +7,13 @@ use Rattle.pg_hoa.specs.Lexemes.{Lexeme, number, identifier, header, string, bod
 use Rattle.pg_hoa.specs.Lexemes.{right_brace, Character, plain, escaped, Spells}
 use Rattle.pg_lists.specs.Rising.{rising}
 use Rattle.pg_hoa.specs.declared.formula.Kind.TheVariants.{Label, Condition}
-use Rattle.pg_hoa.specs.Formulas.{Formula, IsWritten, formula_lexemes, holds}
-use Rattle.pg_hoa.specs.Shapes.{HasShape}
-use Rattle.pg_hoa.specs.declared.shape.Shape.{Shape}
+use Rattle.pg_automaton.specs.Formulas.{Formula, holds}
+use Rattle.pg_hoa.specs.FormulaTexts.{IsWritten, formula_lexemes}
+use Rattle.pg_automaton.specs.Shapes.{HasShape}
+use Rattle.pg_automaton.specs.declared.shape.Shape.{Shape}
 use Rattle.pg_hoa.specs.declared.fault.HoaFault.{HoaFault}
 use Rattle.pg_hoa.specs.declared.fault.HoaFault.TheVariants.{OutOfMemory, NotDeterministic}
-use Rattle.pg_hoa.specs.Automata.{Step, Automaton, letters, rows, next, deciding, IsPropositionName}
+use Rattle.pg_automaton.specs.Automata.{Step, Automaton, letters, rows, next, deciding, IsPropositionName}
 
 -- ---- headers
 

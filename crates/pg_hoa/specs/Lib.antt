@@ -1,9 +1,6 @@
-pub mod Automata
 pub mod AutomatonText
 pub mod FaultTexts
-pub mod Formulas
+pub mod FormulaTexts
 pub mod Laws
 pub mod Lexemes
-pub mod Shapes
-pub mod Words
 pub mod Mirrors

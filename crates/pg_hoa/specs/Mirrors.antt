@@ -15,4 +15,3 @@ pub mod Settling
 pub mod ShapeRun
 pub mod Steps
 pub mod Tables
-pub mod Views

@@ -1,7 +1,6 @@
 //! Automata from text.
 #![tactic(auto)]
 
-mod automaton;
 mod body;
 mod fault;
 mod formula;
@@ -17,7 +16,6 @@ mod table;
 mod terms;
 mod token;
 
-pub use automaton::Automaton;
 pub use fault::{HoaFault, LeftOutName};
+pub use pg_automaton::{Automaton, Shape};
 pub use reader::read_automaton;
-pub use shape::Shape;

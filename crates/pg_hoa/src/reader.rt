@@ -8,13 +8,13 @@ ghost use Rattle.pg_hoa.specs.AutomatonText.{Spelt, IsRefused};
 ghost use Rattle.pg_hoa.specs.Mirrors.Settling.{settled as said, nothing_at};
 ghost use Rattle.pg_hoa.specs.Mirrors.Readings.{bound, kept_states, Reads, NeverReads, CanAssemble, Assembles, NeverAssembles};
 
-use crate::automaton::Automaton;
 use crate::body::{Ranges, ReadState, read_body};
 use crate::fault::{HoaFault, LeftOutName, PartFault, Refusal};
 use crate::header::read_headers;
 use crate::settle::{Settled, settle};
 use crate::table::{states_named, table_of};
 use crate::token::{Token, next_token};
+use pg_automaton::Automaton;
 use std::alloc::Global;
 
 /// Reads an automaton of HOA v1 with the header `controllable-AP`: deterministic, with one of the six parity shapes as its
@@ -109,5 +109,12 @@ fn assembled(alloc: Global, settled: Settled, lines: &[ReadState]) -> Result<Aut
         return Err(HoaFault::TooLarge);
     }
     let table = table_of(alloc, settled.shape, states, propositions, lines)?;
-    Ok(Automaton::from_parts(settled, table))
+    Ok(Automaton::from_parts(
+        settled.start,
+        settled.names,
+        settled.controllable,
+        settled.sets,
+        settled.shape,
+        table,
+    ))
 }

@@ -7,7 +7,8 @@ ghost use Rattle.pg_hoa.specs.Mirrors.Settling.{settled, IsSettled, HasCondition
 
 use crate::fault::{LeftOutName, PartFault, Refusal};
 use crate::header::{Head, is_noted};
-use crate::shape::{Shape, shape_of};
+use crate::shape::shape_of;
+use pg_automaton::Shape;
 use std::alloc::{AllocError, Global};
 
 /// What the headers say together: a count of states where one is given, the start, the names of propositions, for each of

@@ -2,28 +2,13 @@
 
 ghost use Rattle.std.specs.Prelude.{◌≡◌, ◌<◌, ◌-◌, IfSome, IfNone, option_map};
 ghost use Rattle.pg_hoa.specs.Mirrors.FormulaRun.{postfix};
-ghost use Rattle.pg_hoa.specs.Formulas.{Formula};
-ghost use Rattle.pg_hoa.specs.Shapes.{FitsShape, HasShape};
-ghost use Rattle.pg_hoa.specs.Mirrors.ShapeRun.{set_at, is_wanted, is_leaf, is_join, without_leaf, inner_at, only_leaf, fits_at, constant_at, nested_at};
+ghost use Rattle.pg_automaton.specs.Formulas.{Formula};
+ghost use Rattle.pg_automaton.specs.Shapes.{FitsShape, HasShape};
+ghost use Rattle.pg_automaton.specs.Mirrors.Nests.{set_at, is_wanted};
+ghost use Rattle.pg_hoa.specs.Mirrors.ShapeRun.{is_leaf, is_join, without_leaf, inner_at, only_leaf, fits_at, constant_at, nested_at};
 
 use crate::formula::Op;
-
-/// Which collections of sets satisfy the condition, if they are those that recur on a run.
-#[derive(Clone, Copy, Debug, PartialEq, Eq)]
-pub enum Shape {
-    /// The greatest set is even.
-    MaxEven,
-    /// The greatest set is odd, or there is none.
-    MaxOdd,
-    /// The least set is even, or there is none and the condition is over an even number of sets.
-    MinEven,
-    /// The least set is odd, or there is none and the condition is over an odd number of sets.
-    MinOdd,
-    /// Every collection.
-    Always,
-    /// No collection.
-    Never,
-}
+use pg_automaton::Shape;
 
 /// The set that stands round `inside` others.
 fn set_at(shape: Shape, sets: u32, inside: u32) -> u32

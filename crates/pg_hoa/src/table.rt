@@ -3,10 +3,11 @@
 ghost use Rattle.std.specs.Prelude.{◌≡◌, ℕ, true, [], ◌+◌, ◌*◌, ◌^◌, ◌<◌, ◌≤◌, List, ◌++◌, map, length, get_or, max, slice_get, option_map};
 ghost use Rattle.std.specs.Prelude.{Some, IfSome, IfOk, OnOk, IfErr};
 ghost use Rattle.std.specs.List.{All, fold};
-ghost use Rattle.pg_hoa.specs.Automata.{deciding, step};
+ghost use Rattle.pg_automaton.specs.Automata.{deciding};
 ghost use Rattle.pg_lists.specs.Rising.{rising};
 ghost use Rattle.pg_hoa.specs.Mirrors.Kept.{kept_line};
-ghost use Rattle.pg_hoa.specs.Mirrors.Tables.{way_step, IsDecided, with_set, same_set, agree, Extends, IsSplit, numbered, next, stage};
+ghost use Rattle.pg_automaton.specs.Mirrors.Tables.{numbered, next};
+ghost use Rattle.pg_hoa.specs.Mirrors.Tables.{way_step, IsDecided, with_set, same_set, agree, Extends, IsSplit, stage};
 ghost use Rattle.pg_hoa.specs.Mirrors.Tables.{MayNumber, HasKey, AreHeld, Adds, at_slot, at_word, at_letters, at_line, IsTableOf};
 ghost use Rattle.pg_hoa.specs.Mirrors.Tables.{IsConflictOf, kept_numbers, kept_count};
 ghost use Rattle.pg_hoa.specs.Mirrors.Letters.{truth};
@@ -16,28 +17,10 @@ use crate::fault::Conflict;
 use crate::formula::Op;
 use crate::needs::{Stacks, bits_of, word_of};
 use crate::repeats::{is_repeated, is_same_list};
-use crate::shape::Shape;
 use crate::terms::acts_of;
+use pg_automaton::{Shape, Stored, Table, numbered};
 use std::alloc::{AllocError, Global};
 use std::collections::BTreeMap;
-
-/// A step: where it leads, and the place of its list of sets.
-#[derive(Clone, Copy, Debug)]
-pub struct Stored {
-    target: u32,
-    list: u32,
-}
-
-/// For each state and letter the step, if there is one: its number, counted from 1, stands at
-/// `state * letters + letter`, or else 0.
-#[derive(Debug, Drop)]
-pub struct Table {
-    states: u32,
-    letters: u32,
-    slots: Vec<u32>,
-    steps: Vec<Stored>,
-    lists: Vec<Vec<u32>>,
-}
 
 /// A step that goes into a table of a shape: where it leads, which of the sets met on the way counts, and these, those of the
 /// state and those of the edge.
@@ -76,18 +59,6 @@ pub struct Filling {
 const HELD_BLOCKS: usize = 1024;
 
 const HELD: usize = 4096;
-
-/// The step with the number, counted from 1.
-fn numbered<'a>(steps: &[Stored], lists: &'a [Vec<u32>], number: u32) -> Option<(u32, &'a [u32])>
-    ensures { option_map (λ x. step x.0 x.1.now) result ≡ numbered steps.now (map (λ v. v.items) lists.now) number }
-{
-    if number == 0 {
-        return None;
-    }
-    let stored = steps.get(number as usize - 1)?;
-    let sets = lists.get(stored.list as usize)?;
-    Some((stored.target, sets.as_slice()))
-}
 
 /// The set that counts.
 fn deciding(shape: Shape, sets: &[u32]) -> Option<u32>
@@ -544,25 +515,4 @@ fn greatest_of(line: &ReadState, number: u32) -> u32
         greatest = greatest.max(edge.target);
     }
     greatest
-}
-
-impl Table {
-    /// How many states it has.
-    pub fn states(&self) -> u32
-        ensures { result ≡ self.now.states }
-    {
-        self.states
-    }
-
-    /// Where the letter leads from the state, and the sets met on the way, the least first; or that there is no step.
-    pub fn next(&self, state: u32, letter: u32) -> Option<(u32, &[u32])>
-        ensures { option_map (λ x. step x.0 x.1.now) result ≡ next self.now state letter }
-    {
-        if state >= self.states || letter >= self.letters {
-            return None;
-        }
-        let slot = state as usize * self.letters as usize + letter as usize;
-        let number = self.slots.get(slot)?;
-        numbered(&self.steps, &self.lists, *number)
-    }
 }

@@ -17,9 +17,9 @@ use Rattle.pg_arena.specs.Lines.{counted, is_named, add_fault, Answers}
 use Rattle.std.proofs.lemmas.Bool.Decides.{nat_tests}
 use Rattle.pg_arena.proofs.Members.{has_none}
 use Rattle.pg_lists.proofs.Rising.{has, rising_rises, rising_length}
-use Rattle.pg_hoa.specs.declared.shape.Shape.{Shape}
-use Rattle.pg_hoa.specs.declared.shape.Shape.TheVariants.{MaxEven, MaxOdd, MinEven, MinOdd, Always, Never}
-use Rattle.pg_hoa.specs.Automata.{Automaton, IsAutomaton}
+use Rattle.pg_automaton.specs.declared.shape.Shape.{Shape}
+use Rattle.pg_automaton.specs.declared.shape.Shape.TheVariants.{MaxEven, MaxOdd, MinEven, MinOdd, Always, Never}
+use Rattle.pg_automaton.specs.Automata.{Automaton, IsAutomaton}
 use Rattle.pg_synth.specs.AutomatonGames.{set_priority, none_priority, place_priority, place_owner, place_name, IsPlaceOf}
 use Rattle.pg_synth.specs.Mirrors.GameLines.{place_with, place_in, leads, edges_of, line_at, all_identifiers, game_identifiers}
 use Rattle.pg_synth.specs.Mirrors.Layouts.{IsLayoutOf}

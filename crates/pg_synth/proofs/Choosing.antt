@@ -9,7 +9,7 @@ use Rattle.pg_check.specs.Soundness.{Counts, IsSound}
 use Rattle.pg_check.proofs.Cycles.{safe_from_sound, bad_cycle_from}
 use Rattle.pg_text.specs.declared.answer.Answer as solutions
 use Rattle.pg_text.specs.Solutions.{IsSolution, winner, choice}
-use Rattle.pg_hoa.specs.Automata.{Step, Automaton, IsAutomaton, next, deciding}
+use Rattle.pg_automaton.specs.Automata.{Step, Automaton, IsAutomaton, next, deciding}
 use Rattle.pg_synth.specs.Letters.{joined, inputs}
 use Rattle.pg_synth.specs.AutomatonGames.{StandsFor, IsGameOfAutomaton, Moves, arrival_of, input_letters, output_letters, place_identifier}
 use Rattle.pg_synth.specs.Machines.{FollowsAt}

@@ -12,16 +12,16 @@ use Rattle.pg_arena.specs.Games.{GameVertex, priority}
 use Rattle.pg_check.specs.Plays.{IsGreatestRecurring, Loses, WinsPlay}
 use Rattle.pg_measure.proofs.SomeBounds.{priority_bound}
 use Rattle.pg_check.proofs.Recurring.{one_loser, parity_of}
-use Rattle.pg_hoa.specs.declared.shape.Shape.{Shape}
-use Rattle.pg_hoa.specs.Automata.{Step, Automaton, IsAutomaton, next, deciding}
-use Rattle.pg_hoa.specs.Formulas.{Formula, holds}
+use Rattle.pg_automaton.specs.declared.shape.Shape.{Shape}
+use Rattle.pg_automaton.specs.Automata.{Step, Automaton, IsAutomaton, next, deciding}
+use Rattle.pg_automaton.specs.Formulas.{Formula, holds}
 use Rattle.pg_synth.specs.Letters.{input_of}
-use Rattle.pg_hoa.specs.Words.{IsWord, IsAccepted, SetRecurs, HoldsRecurring, step_from, step_at, sets_of, target_of, state_after}
+use Rattle.pg_automaton.specs.Words.{IsWord, IsAccepted, SetRecurs, HoldsRecurring, step_from, step_at, sets_of, target_of, state_after}
 use Rattle.pg_synth.specs.AutomatonGames.{set_priority, none_priority, place_priority, arrival_of, IsGameOfAutomaton}
 use Rattle.pg_synth.specs.Tracing.{answer_at, Traces}
 use Rattle.pg_synth.specs.declared.place.Place.TheVariants.{Arrival}
 use Rattle.pg_synth.specs.Laws.{TracesOnePlay}
-use Rattle.pg_hoa.proofs.Collections.{not_not_collected}
+use Rattle.pg_automaton.proofs.Collections.{not_not_collected}
 use Rattle.pg_synth.proofs.Ranks.{HasSets, IsMet, deciding_cases, rank_rises, none_lowest, rank_parity, none_parity, find_foremost}
 use Rattle.pg_synth.proofs.Recurs.{Meets, ListRecurs, foremost_rank, empty_rank}
 use Rattle.pg_synth.proofs.Accepting.{HasShape, shape_of_fits}

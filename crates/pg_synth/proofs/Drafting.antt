@@ -9,7 +9,7 @@ use Rattle.std.proofs.Math.Nat.{mul-le-mul_right}
 use Rattle.pg_arena.specs.declared.player.Player.TheVariants.{Even}
 use Rattle.pg_arena.specs.Games.{GameVertex}
 use Rattle.pg_text.specs.declared.answer.Answer as solutions
-use Rattle.pg_hoa.specs.Automata.{Automaton, IsAutomaton, letters}
+use Rattle.pg_automaton.specs.Automata.{Automaton, IsAutomaton, letters}
 use Rattle.pg_synth.specs.Laws.{IsWonBy}
 use Rattle.pg_synth.specs.Letters.{inputs, outputs}
 use Rattle.pg_synth.specs.AutomatonGames.{input_letters}

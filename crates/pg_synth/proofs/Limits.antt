@@ -2,7 +2,7 @@
 use Rattle.std.proofs.Common.{◌≡◌, ℕ, ◌<◌, ◌≤◌, List, length, None, inl, arith, refl, sym, subst}
 use Rattle.std.specs.List.{sum_by}
 use Rattle.pg_arena.specs.Games.{GameVertex, IsWithinLimits}
-use Rattle.pg_hoa.specs.Automata.{Automaton, IsAutomaton}
+use Rattle.pg_automaton.specs.Automata.{Automaton, IsAutomaton}
 use Rattle.pg_synth.specs.AutomatonGames.{StandsFor, IsGameOfAutomaton}
 use Rattle.pg_synth.specs.Answers.{IsSynthGame}
 use Rattle.pg_synth.specs.Mirrors.GameLines.{edges_of, game_identifiers}

@@ -17,7 +17,7 @@ use Rattle.pg_lists.specs.Rising.{rising}
 use Rattle.pg_lists.proofs.Rising.{rising_rises, rising_length, rising_contains}
 use Rattle.pg_lists.proofs.Contained.{contains_cases, contains_here, contains_later}
 use Rattle.pg_arena.proofs.Finishing.{IsSound, game_from_sound, identifier_is}
-use Rattle.pg_hoa.specs.Automata.{Automaton, IsAutomaton}
+use Rattle.pg_automaton.specs.Automata.{Automaton, IsAutomaton}
 use Rattle.pg_synth.specs.Mirrors.GameLines.{place_in, leads, edges_of, line_at, all_identifiers, game_identifiers, game_lines}
 use Rattle.pg_synth.specs.declared.place.Place.{Place}
 use Rattle.pg_synth.specs.declared.place.Place.TheVariants.{Dead}

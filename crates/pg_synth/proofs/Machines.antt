@@ -9,10 +9,10 @@ use Rattle.pg_measure.proofs.SomeBounds.{priority_bound}
 use Rattle.pg_check.proofs.Recurring.{one_loser}
 use Rattle.pg_check.proofs.Cycles.{safe_from_sound}
 use Rattle.pg_check.proofs.Wins.{wins}
-use Rattle.pg_hoa.specs.Automata.{Step, Automaton, IsAutomaton, deciding}
-use Rattle.pg_hoa.specs.Formulas.{Formula}
-use Rattle.pg_hoa.specs.Shapes.{FitsShape}
-use Rattle.pg_hoa.specs.Words.{IsWord, IsAccepted, step_from, step_at, target_of, state_after}
+use Rattle.pg_automaton.specs.Automata.{Step, Automaton, IsAutomaton, deciding}
+use Rattle.pg_automaton.specs.Formulas.{Formula}
+use Rattle.pg_automaton.specs.Shapes.{FitsShape}
+use Rattle.pg_automaton.specs.Words.{IsWord, IsAccepted, step_from, step_at, target_of, state_after}
 use Rattle.pg_text.specs.declared.answer.Answer as solutions
 use Rattle.pg_text.specs.Solutions.{IsSolution, winner, choice}
 use Rattle.pg_synth.specs.Letters.{input_of}

@@ -8,7 +8,7 @@ use Rattle.pg_arena.specs.Games.{GameVertex, IsEdge, identifier, successors, ver
 use Rattle.pg_arena.specs.Lines as lines
 use Rattle.pg_arena.specs.Lines.{Line, line_of, lines_of}
 use Rattle.pg_lists.specs.Rising.{rising}
-use Rattle.pg_hoa.specs.Automata.{Automaton, IsAutomaton}
+use Rattle.pg_automaton.specs.Automata.{Automaton, IsAutomaton}
 use Rattle.pg_synth.specs.AutomatonGames.{place_identifier, IsPlaceOf, Moves, StandsFor, IsGameOfAutomaton}
 use Rattle.pg_synth.specs.Mirrors.GameLines.{leads, line_at, line_of_place, game_identifiers, game_lines}
 use Rattle.pg_synth.specs.declared.place.Place.{Place}

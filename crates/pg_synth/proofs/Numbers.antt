@@ -3,7 +3,7 @@ use Rattle.std.proofs.Common.{◌≡◌, ℕ, suc, ◌+◌, ◌*◌, ◌<◌, �
 use Rattle.std.specs.List.{range_with_len}
 use Rattle.std.proofs.lemmas.List.FromFn.{length-map-range_with_len, get_or-map-range_with_len}
 use Rattle.std.proofs.Math.Nat.{mul-le-mul_left, mul-le-mul_right, pow-le-pow_right}
-use Rattle.pg_hoa.specs.Automata.{Automaton, IsAutomaton, letters}
+use Rattle.pg_automaton.specs.Automata.{Automaton, IsAutomaton, letters}
 use Rattle.pg_synth.specs.AutomatonGames.{width, input_letters, output_letters}
 use Rattle.pg_synth.specs.Letters.{joined}
 use Rattle.pg_synth.specs.Mirrors.Layouts.{IsLayoutOf}

@@ -9,7 +9,7 @@ use Rattle.pg_arena.specs.declared.player.Player.{Player}
 use Rattle.pg_arena.specs.Games.{GameVertex, IsEdge, vertex_at, identifiers, successors}
 use Rattle.pg_lists.proofs.Contained.{rising_same}
 use Rattle.pg_arena.proofs.Unique.{same_vertex}
-use Rattle.pg_hoa.specs.Automata.{Automaton}
+use Rattle.pg_automaton.specs.Automata.{Automaton}
 use Rattle.pg_synth.specs.AutomatonGames.{StandsFor, IsGameOfAutomaton}
 use Rattle.pg_synth.specs.declared.place.Place.{Place}
 use Rattle.pg_synth.proofs.Trace.{identifiers_long, identifier_at, one_number}

@@ -7,7 +7,7 @@ use Rattle.pg_arena.specs.declared.player.Player.TheVariants.{Even}
 use Rattle.pg_arena.specs.Games.{GameVertex}
 use Rattle.pg_text.specs.declared.answer.Answer as solutions
 use Rattle.pg_text.specs.Solutions.{choice}
-use Rattle.pg_hoa.specs.Automata.{Step, Automaton, IsAutomaton, next, deciding}
+use Rattle.pg_automaton.specs.Automata.{Step, Automaton, IsAutomaton, next, deciding}
 use Rattle.pg_synth.specs.Laws.{IsWonBy}
 use Rattle.pg_synth.specs.Letters.{joined, inputs}
 use Rattle.pg_synth.specs.AutomatonGames.{StandsFor, arrival_of, input_letters}

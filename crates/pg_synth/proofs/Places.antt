@@ -8,8 +8,8 @@ use Rattle.std.proofs.lemmas.Nat.{div-mul-add, mod-mul-add, pow_pos}
 use Rattle.std.proofs.lemmas.List.FromFn.{length-map-range_with_len}
 use Rattle.std.proofs.lemmas.List.Elements.{All-contains, Contains-append_left, Contains-append_right, Contains-append_cases}
 use Rattle.pg_lists.proofs.Contained.{contains_cases, contains_here, contains_later, contains_flat, contains_flattened}
-use Rattle.pg_hoa.specs.declared.shape.Shape.{Shape}
-use Rattle.pg_hoa.specs.Automata.{Step, Automaton, IsAutomaton, letters, next, deciding}
+use Rattle.pg_automaton.specs.declared.shape.Shape.{Shape}
+use Rattle.pg_automaton.specs.Automata.{Step, Automaton, IsAutomaton, letters, next, deciding}
 use Rattle.pg_synth.specs.Letters.{joined, inputs, outputs}
 use Rattle.pg_synth.specs.AutomatonGames.{input_letters, output_letters, width, place_identifier, arrival_of, IsPlaceOf, Moves}
 use Rattle.pg_synth.specs.Mirrors.GameLines.{place_within, place_with, place_in, target, leads, added_by, all_identifiers, game_identifiers}

@@ -3,9 +3,9 @@ use Rattle.std.proofs.Common.{◌≡◌, ℕ, ◌+◌, ◌*◌, ◌-◌, ◌<◌
 use Rattle.std.specs.List.{All}
 use Rattle.std.proofs.lemmas.List.Elements.{All-from_get_or}
 use Rattle.pg_arena.specs.Games.{GameVertex, HasPrioritiesUpTo, nowhere}
-use Rattle.pg_hoa.specs.declared.shape.Shape.{Shape}
-use Rattle.pg_hoa.specs.declared.shape.Shape.TheVariants.{MaxEven, MaxOdd, MinEven, MinOdd, Always, Never}
-use Rattle.pg_hoa.specs.Automata.{Automaton, IsAutomaton}
+use Rattle.pg_automaton.specs.declared.shape.Shape.{Shape}
+use Rattle.pg_automaton.specs.declared.shape.Shape.TheVariants.{MaxEven, MaxOdd, MinEven, MinOdd, Always, Never}
+use Rattle.pg_automaton.specs.Automata.{Automaton, IsAutomaton}
 use Rattle.pg_synth.specs.AutomatonGames.{IsGameOfAutomaton, IsPlaceOf, place_priority, set_priority, none_priority}
 use Rattle.pg_synth.specs.declared.place.Place.{Place}
 use Rattle.pg_synth.specs.declared.place.Place.TheVariants.{Dead, Arrival, Answer}

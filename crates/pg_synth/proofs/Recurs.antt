@@ -3,7 +3,7 @@ use Rattle.std.proofs.Common.{◌≡◌, ◌↔◌, ℕ, zero, suc, ◌+◌, ◌
 use Rattle.std.specs.List.{Contains}
 use Rattle.std.proofs.lemmas.Bool.{cases_lt, cases_eq}
 use Rattle.pg_check.specs.Plays.{IsGreatestRecurring}
-use Rattle.pg_hoa.specs.declared.shape.Shape.{Shape}
+use Rattle.pg_automaton.specs.declared.shape.Shape.{Shape}
 use Rattle.pg_synth.specs.AutomatonGames.{set_priority, none_priority}
 use Rattle.pg_synth.proofs.Ranks.{IsForemost, IsEmpty, rank_rises, rank_same, none_lowest}
 

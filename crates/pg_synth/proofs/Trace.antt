@@ -4,9 +4,9 @@ use Rattle.std.proofs.Common.{slice_index_or, Option, Some, None, arith, refl, s
 use Rattle.std.proofs.lemmas.Bool.{cases_lt, cases_eq}
 use Rattle.std.proofs.lemmas.List.Kept.{AllPairs-from_increasing}
 use Rattle.pg_arena.specs.Games.{GameVertex, IsGame, IsEdge, vertex_at, identifiers}
-use Rattle.pg_hoa.specs.Automata.{Step, Automaton, IsAutomaton, next}
+use Rattle.pg_automaton.specs.Automata.{Step, Automaton, IsAutomaton, next}
 use Rattle.pg_synth.specs.Letters.{input_of, output_of}
-use Rattle.pg_hoa.specs.Words.{IsWord, step_from, step_at, target_of, state_after}
+use Rattle.pg_automaton.specs.Words.{IsWord, step_from, step_at, target_of, state_after}
 use Rattle.pg_synth.specs.AutomatonGames.{arrival_of, IsPlaceOf, IsArrival, Moves, StandsFor, IsGameOfAutomaton}
 use Rattle.pg_synth.specs.Tracing.{arrival_after, answer_at, answer_after, Traces}
 use Rattle.pg_synth.specs.declared.place.Place.{Place}

@@ -1,7 +1,7 @@
 -- What is worked out for an automaton.
 use Rattle.std.specs.Prelude.{◌≡◌, ℕ, List, Option, MatchOption}
 use Rattle.pg_arena.specs.declared.player.Player.TheVariants.{Odd}
-use Rattle.pg_hoa.specs.Automata.{Automaton}
+use Rattle.pg_automaton.specs.Automata.{Automaton}
 use Rattle.pg_aiger.specs.Circuits.{Circuit}
 use Rattle.pg_command.specs.Measuring.{Finding}
 use Rattle.pg_command.specs.Synthesising.{IsWonFor, IsRealizedBy}

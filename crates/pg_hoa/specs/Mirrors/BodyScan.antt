@@ -5,7 +5,7 @@ use Rattle.std.specs.Str.{bytes_eq}
 use Rattle.pg_lists.specs.Rising.{rising}
 use Rattle.pg_hoa.specs.Lexemes.{Lexeme, number, header, string, end, left_bracket, right_bracket, left_brace, right_brace, ampersand}
 use Rattle.pg_hoa.specs.Mirrors.Scan.{first}
-use Rattle.pg_hoa.specs.Mirrors.Steps.{◌>>=◌}
+use Rattle.pg_automaton.specs.Mirrors.Steps.{◌>>=◌}
 use Rattle.pg_hoa.specs.declared.formula.Kind.TheVariants.{Label}
 use Rattle.pg_hoa.specs.Mirrors.FormulaRun.{ops_at}
 use Rattle.pg_hoa.specs.Mirrors.Kept.{KeptEdge, KeptLine, put_edges}

@@ -6,12 +6,12 @@ use Rattle.pg_hoa.specs.declared.formula.Mode.{Mode}
 use Rattle.pg_hoa.specs.declared.formula.Mode.TheVariants.{Operand, Opening, Naming, Closing, Operator}
 use Rattle.pg_hoa.specs.declared.formula.Op.{Op}
 use Rattle.pg_hoa.specs.declared.formula.Op.TheVariants.{Yes, No, Proposition, Inf, Fin, Not, Both, Either}
-use Rattle.pg_hoa.specs.Formulas.{Formula, yes, no, proposition, inf, fin, not, both, either, bracket}
+use Rattle.pg_automaton.specs.Formulas.{Formula, yes, no, proposition, inf, fin, not, both, either, bracket}
 use Rattle.pg_hoa.specs.declared.formula.Kind.{Kind}
 use Rattle.pg_hoa.specs.declared.formula.Kind.TheVariants.{Label, Condition}
 use Rattle.pg_hoa.specs.declared.formula.Reading.{Reading}
 use Rattle.pg_hoa.specs.Lexemes.{Lexeme, number, identifier, left_paren, right_paren, bang, ampersand, bar, stray}
-use Rattle.pg_hoa.specs.Mirrors.Steps.{◌>>=◌}
+use Rattle.pg_automaton.specs.Mirrors.Steps.{◌>>=◌}
 
 -- operands before their operators
 abbrev pub postfix : Formula → List Op

@@ -4,8 +4,8 @@ use Rattle.std.specs.Str.{bytes_eq}
 use Rattle.pg_hoa.specs.Lexemes.{Lexeme, number, identifier, left_paren, right_paren, bang, ampersand, bar, stray}
 use Rattle.pg_hoa.specs.declared.formula.Kind.{Kind}
 use Rattle.pg_hoa.specs.declared.formula.Kind.TheVariants.{Label, Condition}
-use Rattle.pg_hoa.specs.Formulas.{Formula, yes, no, proposition, inf, fin, not, both, either, bracket}
-use Rattle.pg_hoa.specs.Mirrors.Steps.{◌>>=◌}
+use Rattle.pg_automaton.specs.Formulas.{Formula, yes, no, proposition, inf, fin, not, both, either, bracket}
+use Rattle.pg_automaton.specs.Mirrors.Steps.{◌>>=◌}
 
 -- what stands before the operand that is due, within one bracket
 pub record Frame : Type 0 where

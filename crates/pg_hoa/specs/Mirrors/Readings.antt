@@ -6,9 +6,9 @@ use Rattle.pg_hoa.specs.declared.fault.Refusal.TheVariants.{Memory, Wrong}
 use Rattle.pg_hoa.specs.declared.fault.HoaFault.{HoaFault}
 use Rattle.pg_hoa.specs.declared.fault.HoaFault.TheVariants.{OutOfMemory, NotDeterministic}
 use Rattle.pg_hoa.specs.Lexemes.{Lexeme}
-use Rattle.pg_hoa.specs.Formulas.{Formula}
-use Rattle.pg_hoa.specs.Shapes.{FitsShape}
-use Rattle.pg_hoa.specs.Automata.{Automaton, IsPropositionName, IsStepOf, letters, rows, next}
+use Rattle.pg_automaton.specs.Formulas.{Formula}
+use Rattle.pg_automaton.specs.Shapes.{FitsShape}
+use Rattle.pg_automaton.specs.Automata.{Automaton, IsPropositionName, IsStepOf, letters, rows, next}
 use Rattle.pg_hoa.specs.AutomatonText.{Agree, head}
 use Rattle.pg_hoa.specs.Mirrors.Kept.{KeptHead, KeptLine}
 use Rattle.pg_hoa.specs.Mirrors.HeaderScan.{headers_at}

@@ -5,7 +5,7 @@ use Rattle.std.specs.Str.{bytes_eq}
 use Rattle.std.specs.List.{prefix_len, take_while}
 use Rattle.pg_hoa.specs.declared.token.Token.{Token}
 use Rattle.pg_hoa.specs.declared.token.Token.TheVariants as tokens
-use Rattle.pg_hoa.specs.Mirrors.Steps.{◌>>=◌}
+use Rattle.pg_automaton.specs.Mirrors.Steps.{◌>>=◌}
 use Rattle.pg_hoa.specs.Lexemes.{Lexeme, number, identifier, header, string, alias, body, end, abort, left_bracket, right_bracket}
 use Rattle.pg_hoa.specs.Lexemes.{left_brace, right_brace, left_paren, right_paren, bang, ampersand, bar, stray, Character, plain, escaped}
 use Rattle.pg_hoa.specs.Lexemes.{is_space, is_letter, is_inner, is_colon}

@@ -2,14 +2,14 @@
 use Rattle.std.specs.Prelude.{◌≡◌, ℕ, ◌<◌, ◌==◌, Bool, List, [], ◌∷◌, length, map, Option, Some, None}
 use Rattle.std.specs.List.{All, list_any, range_with_len}
 use Rattle.pg_hoa.specs.declared.formula.Op.{Op}
-use Rattle.pg_hoa.specs.declared.shape.Shape.{Shape}
+use Rattle.pg_automaton.specs.declared.shape.Shape.{Shape}
 use Rattle.pg_hoa.specs.declared.settle.Settled as read_settled
 use Rattle.pg_hoa.specs.declared.fault.Refusal.{Refusal}
 use Rattle.pg_hoa.specs.declared.fault.Refusal.TheVariants.{Memory, Wrong}
 use Rattle.pg_hoa.specs.Lexemes.{Lexeme}
 use Rattle.pg_hoa.specs.Mirrors.FormulaRun.{postfix}
-use Rattle.pg_hoa.specs.Formulas.{Formula}
-use Rattle.pg_hoa.specs.Shapes.{HasShape}
+use Rattle.pg_automaton.specs.Formulas.{Formula}
+use Rattle.pg_automaton.specs.Shapes.{HasShape}
 use Rattle.pg_hoa.specs.Mirrors.Kept.{KeptHead}
 
 pub record Settled : Type 0 where

@@ -2,25 +2,11 @@
 use Rattle.std.specs.Prelude.{ℕ, suc, zero, ◌-◌, ◌==◌, Bool, true, false, List, [], ◌∷◌, Option, Some, None, if◌then◌else◌}
 use Rattle.pg_hoa.specs.declared.formula.Op.{Op}
 use Rattle.pg_hoa.specs.declared.formula.Op.TheVariants.{Yes, No, Inf, Fin, Both, Either}
-use Rattle.pg_hoa.specs.declared.shape.Shape.{Shape}
-use Rattle.pg_hoa.specs.declared.shape.Shape.TheVariants.{MaxEven, MaxOdd, MinEven, MinOdd, Always, Never}
-use Rattle.pg_hoa.specs.Shapes.{is_even}
-use Rattle.pg_hoa.specs.Mirrors.Steps.{◌>>=◌}
-
--- the set round which so many others stand inside
-abbrev pub set_at : Shape → ℕ → ℕ → ℕ
-set_at MinEven sets inside = sets - 1 - inside
-set_at MinOdd sets inside = sets - 1 - inside
-set_at shape sets inside = inside
-
--- whether the shape wants the set to recur
-abbrev pub is_wanted : Shape → ℕ → Bool
-is_wanted MaxEven set = is_even set
-is_wanted MinEven set = is_even set
-is_wanted shape set = is_even (suc set)
-
-abbrev pub wanted_at : Shape → ℕ → ℕ → Bool
-wanted_at shape sets inside = is_wanted shape (set_at shape sets inside)
+use Rattle.pg_automaton.specs.declared.shape.Shape.{Shape}
+use Rattle.pg_automaton.specs.declared.shape.Shape.TheVariants.{MaxEven, MaxOdd, MinEven, MinOdd, Always, Never}
+use Rattle.pg_automaton.specs.Shapes.{is_even}
+use Rattle.pg_automaton.specs.Mirrors.Nests.{set_at, wanted_at}
+use Rattle.pg_automaton.specs.Mirrors.Steps.{◌>>=◌}
 
 -- `Inf` of the set where it is wanted, `Fin` where it is not
 abbrev pub is_leaf : Bool → ℕ → Op → Bool

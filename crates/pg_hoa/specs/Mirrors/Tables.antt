@@ -3,20 +3,21 @@ use Rattle.std.specs.Prelude.{◌≡◌, ℕ, zero, suc, ◌+◌, ◌-◌, ◌*�
 use Rattle.std.specs.Prelude.{◌&&◌, List, [], ◌∷◌, ◌++◌, map, length, get_or, slice_get, Option, Some, None, if◌then◌else◌}
 use Rattle.std.specs.List.{All, filter, flat_map, fold}
 use Rattle.std.specs.Int.{bit_at}
-use Rattle.pg_hoa.specs.declared.shape.Shape.{Shape}
-use Rattle.pg_hoa.specs.declared.shape.Shape.TheVariants.{MinEven, MinOdd}
+use Rattle.pg_automaton.specs.declared.shape.Shape.{Shape}
+use Rattle.pg_automaton.specs.declared.shape.Shape.TheVariants.{MinEven, MinOdd}
 use Rattle.pg_hoa.specs.declared.body.Edge as read_edge
 use Rattle.pg_hoa.specs.declared.fault.Conflict.{Conflict}
 use Rattle.pg_hoa.specs.declared.fault.Conflict.TheVariants.{Memory, NotDeterministic}
-use Rattle.pg_hoa.specs.declared.table.Stored.{Stored}
+use Rattle.pg_automaton.specs.declared.table.Stored.{Stored}
 use Rattle.pg_hoa.specs.declared.table.Held.{Held}
 use Rattle.pg_hoa.specs.declared.table.Filling.{Filling}
 use Rattle.pg_hoa.specs.declared.table.Way.{Way}
-use Rattle.pg_hoa.specs.declared.table.Table.{Table}
+use Rattle.pg_automaton.specs.declared.table.Table.{Table}
 use Rattle.pg_hoa.specs.declared.formula.Op.{Op}
-use Rattle.pg_hoa.specs.Mirrors.Steps.{◌>>=◌}
-use Rattle.pg_hoa.specs.Automata.{Step, deciding, step}
+use Rattle.pg_automaton.specs.Mirrors.Steps.{◌>>=◌}
+use Rattle.pg_automaton.specs.Automata.{Step, deciding, step}
 use Rattle.pg_hoa.specs.AutomatonText.{Agree, head}
+use Rattle.pg_automaton.specs.Mirrors.Tables.{numbered, next}
 use Rattle.pg_lists.specs.Rising.{rising}
 use Rattle.pg_hoa.specs.Mirrors.Kept.{KeptEdge, KeptLine, kept_edge}
 use Rattle.pg_hoa.specs.Mirrors.Saying.{says}
@@ -55,19 +56,6 @@ with_set shape (Some n) set = Some (max n set)
 -- an edge says what an earlier one says
 abbrev pub Repeats : List read_edge.Edge → ℕ → Type 0
 Repeats edges index = (place : ℕ) × (place < index) × ((d : read_edge.Edge) → kept_edge (get_or edges place d) ≡ kept_edge (get_or edges index d))
-
--- ---- what a table says
-
--- the step with this number, where 0 stands for none
-abbrev pub numbered : List Stored → List (List ℕ) → ℕ → Option Step
-numbered steps lists zero = None
-numbered steps lists (suc k) = slice_get steps k >>= λ s. slice_get lists s.list >>= λ sets. Some (step s.target sets)
-
-abbrev pub next : Table → ℕ → ℕ → Option Step
-next t state letter =
-    if nat_lt state t.states && nat_lt letter t.letters
-    then numbered t.steps.items (map (λ v. v.items) t.lists.items) (get_or t.slots.items (state * t.letters + letter) 0)
-    else None
 
 -- ---- filling
 

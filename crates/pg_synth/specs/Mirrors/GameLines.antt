@@ -3,7 +3,7 @@ use Rattle.std.specs.Prelude.{ℕ, ◌-◌, ◌/◌, ◌%◌, ◌<◌, ◌==◌,
 use Rattle.std.specs.List.{flat_map, range_with_len}
 use Rattle.pg_arena.specs.Lines.{Line}
 use Rattle.pg_lists.specs.Rising.{rising}
-use Rattle.pg_hoa.specs.Automata.{Automaton, letters, next}
+use Rattle.pg_automaton.specs.Automata.{Automaton, letters, next}
 use Rattle.pg_synth.specs.Letters.{joined}
 use Rattle.pg_synth.specs.AutomatonGames.{input_letters, output_letters, width, place_identifier, place_owner, place_priority, place_name, arrival_of}
 use Rattle.pg_synth.specs.declared.place.Place.{Place}

@@ -6,7 +6,7 @@ use Rattle.pg_hoa.specs.declared.token.Token.{Token}
 use Rattle.pg_hoa.specs.declared.formula.Op.{Op}
 use Rattle.pg_hoa.specs.Lexemes.{Lexeme}
 use Rattle.pg_hoa.specs.Mirrors.Scan.{lex, lexeme}
-use Rattle.pg_hoa.specs.Mirrors.Steps.{◌>>=◌}
+use Rattle.pg_automaton.specs.Mirrors.Steps.{◌>>=◌}
 use Rattle.pg_hoa.specs.Mirrors.FormulaRun.{view, ops_at, ops_from, goes_on_at}
 use Rattle.pg_hoa.proofs.Turning.{first_token, first_fails, turns, turn_fails, ends_there, ends_last, over_fails}
 use Rattle.pg_hoa.proofs.formula.read_formula.Goals as goal

@@ -12,8 +12,8 @@ use Rattle.pg_hoa.specs.Mirrors.Settling.{settled as said}
 use Rattle.pg_hoa.specs.Mirrors.Settling.{Settled}
 use Rattle.pg_hoa.specs.Mirrors.Readings.{CanAssemble, kept_states}
 use Rattle.std.specs.List.{All}
-use Rattle.pg_hoa.specs.Mirrors.Views.{viewed}
-use Rattle.pg_hoa.proofs.Rows.{next_viewed}
+use Rattle.pg_automaton.specs.Mirrors.Views.{viewed}
+use Rattle.pg_automaton.proofs.Rows.{next_viewed}
 use Rattle.pg_hoa.proofs.Assembling.{table_assembles, table_is_automaton}
 use Rattle.pg_hoa.proofs.reader.assembled.Goals as goal
 

@@ -1,5 +1,6 @@
 use Rattle.std.proofs.Common.{◌≡◌, ◌<◌, ◌-◌}
-use Rattle.pg_hoa.specs.Mirrors.ShapeRun.{set_at, wanted_at, nests_at}
+use Rattle.pg_automaton.specs.Mirrors.Nests.{set_at, wanted_at}
+use Rattle.pg_hoa.specs.Mirrors.ShapeRun.{nests_at}
 use Rattle.pg_hoa.proofs.shape.fits.Given as goal
 
 -- what is left nests as the whole does

@@ -5,7 +5,7 @@ use Rattle.std.proofs.lemmas.List.{take_all}
 use Rattle.pg_lists.specs.Rising.{rising}
 use Rattle.pg_hoa.specs.Mirrors.Kept.{kept_edge}
 use Rattle.pg_hoa.specs.Mirrors.Tables.{stage, Adds, Repeats, at_line, at_letters}
-use Rattle.pg_hoa.specs.Automata.{step}
+use Rattle.pg_automaton.specs.Automata.{step}
 use Rattle.pg_hoa.proofs.TableFilling.{adds_none, adds_then}
 use Rattle.pg_hoa.proofs.Counting.{none_counts}
 use Rattle.pg_hoa.proofs.TablePlaces.{line_of, no_edges, edge_added, edge_repeated, more_items, so_many_kept, kept_before}

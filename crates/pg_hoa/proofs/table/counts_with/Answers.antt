@@ -1,6 +1,6 @@
 use Rattle.std.proofs.Common.{◌≡◌, ◌∙◌, ℕ, List, [], ◌∷◌, ◌++◌, ◌+◌, take, get_or, sym, ap, append_assoc, arith}
 use Rattle.std.proofs.lemmas.List.{append-nil, take_all, take_more}
-use Rattle.pg_hoa.specs.Automata.{deciding}
+use Rattle.pg_automaton.specs.Automata.{deciding}
 use Rattle.pg_lists.specs.Rising.{rising}
 use Rattle.pg_hoa.specs.Mirrors.Tables.{with_set}
 use Rattle.pg_hoa.proofs.Counting.{one_more_counts}

@@ -1,5 +1,5 @@
 use Rattle.std.proofs.Common.{◌≡◌, ℕ, List, ◌++◌, take}
-use Rattle.pg_hoa.specs.Automata.{deciding}
+use Rattle.pg_automaton.specs.Automata.{deciding}
 use Rattle.pg_lists.specs.Rising.{rising}
 use Rattle.pg_hoa.proofs.table.counts_with.Given as goal
 

@@ -1,6 +1,6 @@
 use Rattle.std.proofs.Common.{◌≡◌, ◌+◌, ℕ, ◌<◌, List, Option, Some, None, IsSome, option_map, arith, refl, sym, subst, ap, ◌∙◌}
 use Rattle.pg_arena.specs.Games.{GameVertex}
-use Rattle.pg_hoa.specs.Automata.{Step, next, step}
+use Rattle.pg_automaton.specs.Automata.{Step, next, step}
 use Rattle.pg_synth.specs.Letters.{joined}
 use Rattle.pg_synth.specs.AutomatonGames.{input_letters, output_letters}
 use Rattle.pg_synth.specs.Machines.{FollowsAt}

@@ -1,5 +1,5 @@
 use Rattle.std.proofs.Common.{◌∙◌}
-use Rattle.pg_hoa.proofs.Counting.{decides_last}
+use Rattle.pg_automaton.proofs.Deciding.{decides_last}
 use Rattle.pg_synth.proofs.lines.deciding.Goals as goal
 
 pub returns-in_default : goal.returns-in_default

@@ -1,7 +1,7 @@
 use Rattle.std.proofs.Common.{◌*◌, ◌++◌, ◌∷◌, [], List, ℕ, None, map, append_assoc, arith, ap, ◌∙◌}
 use Rattle.std.specs.List.{range_with_len}
 use Rattle.pg_synth.specs.AutomatonGames.{place_identifier, input_letters}
-use Rattle.pg_hoa.specs.Automata.{letters}
+use Rattle.pg_automaton.specs.Automata.{letters}
 use Rattle.pg_synth.specs.Mirrors.GameLines.{target, added_by}
 use Rattle.pg_synth.specs.declared.place.Place.TheVariants.{Arrival, Answer}
 use Rattle.pg_synth.proofs.Lists.{flat_more}

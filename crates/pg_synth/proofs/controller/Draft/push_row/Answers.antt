@@ -1,6 +1,6 @@
 use Rattle.std.proofs.Common.{◌≡◌, ℕ, ◌+◌, ◌*◌, ◌<◌, List, [], ◌∷◌, Option, Some, IsSome, length, length-append, arith, refl, sym, subst, ap, ◌∙◌}
 use Rattle.pg_arena.specs.Games.{GameVertex, vertex_at}
-use Rattle.pg_hoa.specs.Automata.{Automaton}
+use Rattle.pg_automaton.specs.Automata.{Automaton}
 use Rattle.pg_synth.specs.Letters.{joined}
 use Rattle.pg_synth.specs.AutomatonGames.{StandsFor, IsGameOfAutomaton, input_letters, place_identifier}
 use Rattle.pg_synth.specs.Machines.{FollowsAt}

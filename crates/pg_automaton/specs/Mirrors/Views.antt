@@ -2,10 +2,10 @@
 use Rattle.std.specs.Prelude.{ℕ, Bool, List, map}
 use Rattle.std.specs.declared.vec.Vec.{Vec}
 use Rattle.std.specs.declared.alloc.Global.{Global}
-use Rattle.pg_hoa.specs.declared.shape.Shape.{Shape}
-use Rattle.pg_hoa.specs.declared.table.Table.{Table}
-use Rattle.pg_hoa.specs.Automata.{Automaton, rows}
-use Rattle.pg_hoa.specs.Mirrors.Tables.{next}
+use Rattle.pg_automaton.specs.declared.shape.Shape.{Shape}
+use Rattle.pg_automaton.specs.declared.table.Table.{Table}
+use Rattle.pg_automaton.specs.Automata.{Automaton, rows}
+use Rattle.pg_automaton.specs.Mirrors.Tables.{next}
 
 abbrev pub viewed : ℕ → List (Vec ℕ Global) → List Bool → ℕ → Shape → Table → Automaton
 viewed start names controllable sets shape table = record {

@@ -1,7 +1,7 @@
 use Rattle.std.proofs.Common.{◌∙◌, ap}
-use Rattle.pg_hoa.specs.Automata.{Automaton, next}
-use Rattle.pg_hoa.proofs.Rows.{next_viewed}
-use Rattle.pg_hoa.proofs.automaton.Automaton.next.Goals as goal
+use Rattle.pg_automaton.specs.Automata.{Automaton, next}
+use Rattle.pg_automaton.proofs.Rows.{next_viewed}
+use Rattle.pg_automaton.proofs.automaton.Automaton.next.Goals as goal
 
 pub returns : goal.returns
 returns c = c.next.ensures ∙ next_viewed c.self.inside.table c.args.state c.args.letter

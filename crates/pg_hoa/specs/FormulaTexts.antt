@@ -2,18 +2,8 @@
 use Rattle.std.specs.Prelude.{ℕ, ◌+◌, ◌≤◌, ◌<◌, Bool, true, false, ◌||◌, ◌&&◌, List, [], ◌∷◌, ◌++◌, codes, max, if◌then◌else◌}
 use Rattle.pg_hoa.specs.declared.formula.Kind.{Kind}
 use Rattle.pg_hoa.specs.declared.formula.Kind.TheVariants.{Label, Condition}
+use Rattle.pg_automaton.specs.Formulas.{Formula, yes, no, proposition, inf, fin, not, both, either, bracket}
 use Rattle.pg_hoa.specs.Lexemes.{Lexeme, number, identifier, left_paren, right_paren, bang, ampersand, bar}
-
-pub data Formula : Type 0 where
-  yes : Formula
-  no : Formula
-  proposition : ℕ → Formula
-  inf : ℕ → Formula
-  fin : ℕ → Formula
-  not : Formula → Formula
-  both : Formula → Formula → Formula
-  either : Formula → Formula → Formula
-  bracket : Formula → Formula
 
 abbrev pub formula_lexemes : Formula → List Lexeme
 formula_lexemes yes = identifier (codes "t") ∷ []
@@ -68,15 +58,3 @@ pub record IsWritten (kind : Kind) (f : Formula) : Type 0 where
   pub grouped : IsGrouped f
   pub of_kind : IsOf kind f
   pub nested : nesting f ≤ 8192
-
--- whether a label holds where just these propositions do, and a condition where just these sets recur
-abbrev pub holds : Formula → (ℕ → Bool) → Bool
-holds yes on = true
-holds no on = false
-holds (proposition a) on = on a
-holds (inf s) on = on s
-holds (fin s) on = if on s then false else true
-holds (not f) on = if holds f on then false else true
-holds (both f g) on = holds f on && holds g on
-holds (either f g) on = holds f on || holds g on
-holds (bracket f) on = holds f on

@@ -1,7 +1,7 @@
 -- Endless words, the runs of an automaton on them, and which words it accepts.
 use Rattle.std.specs.Prelude.{◌↔◌, ℕ, zero, suc, ◌<◌, ◌≤◌, Bool, IsTrue, List, [], Option, Some, None, IsSome, Contains}
-use Rattle.pg_hoa.specs.Automata.{Step, Automaton, letters, next}
-use Rattle.pg_hoa.specs.Formulas.{Formula, holds}
+use Rattle.pg_automaton.specs.Automata.{Step, Automaton, letters, next}
+use Rattle.pg_automaton.specs.Formulas.{Formula, holds}
 
 -- a letter for every step number
 abbrev pub IsWord : Automaton → (ℕ → ℕ) → Type 0

@@ -4,9 +4,9 @@ use Rattle.std.specs.List.{range_with_len}
 use Rattle.std.proofs.lemmas.Bool.{ltb-true, ltb-false, lt-ltb, le-ltb}
 use Rattle.std.proofs.lemmas.List.{get_or_past}
 use Rattle.std.proofs.lemmas.List.FromFn.{get_or-map-range_with_len, length-map-range_with_len}
-use Rattle.pg_hoa.specs.declared.table.Table.{Table}
-use Rattle.pg_hoa.specs.Automata.{rows}
-use Rattle.pg_hoa.specs.Mirrors.Tables as tables
+use Rattle.pg_automaton.specs.declared.table.Table.{Table}
+use Rattle.pg_automaton.specs.Automata.{rows}
+use Rattle.pg_automaton.specs.Mirrors.Tables as tables
 
 pub rows_at : {A : Type 0} (f : ℕ → ℕ → A) (n m q l : ℕ) (d : A) → q < n → l < m → get_or (get_or (rows f n m) q []) l d ≡ f q l
 rows_at f n m q l d p r =

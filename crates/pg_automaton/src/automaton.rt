@@ -1,11 +1,10 @@
 //! Automata.
 
 ghost use Rattle.std.specs.Prelude.{◌≡◌, ◌↔◌, ℕ, ◌<◌, Bool, IsTrue, length, get_or, option_map};
-ghost use Rattle.pg_hoa.specs.Automata.{IsAutomaton, next, step};
-ghost use Rattle.pg_hoa.specs.Formulas.{Formula, holds};
-ghost use Rattle.pg_hoa.specs.Shapes.{FitsShape, Accepts};
+ghost use Rattle.pg_automaton.specs.Automata.{IsAutomaton, next, step};
+ghost use Rattle.pg_automaton.specs.Formulas.{Formula, holds};
+ghost use Rattle.pg_automaton.specs.Shapes.{FitsShape, Accepts};
 
-use crate::settle::Settled;
 use crate::shape::Shape;
 use crate::table::Table;
 use std::marker::Model;
@@ -23,8 +22,8 @@ pub struct Automaton {
 }
 
 impl Model for Automaton {
-    ghost use Rattle.pg_hoa.specs.Automata.{Automaton, IsAutomaton};
-    ghost use Rattle.pg_hoa.specs.Mirrors.Views.{viewed};
+    ghost use Rattle.pg_automaton.specs.Automata.{Automaton, IsAutomaton};
+    ghost use Rattle.pg_automaton.specs.Mirrors.Views.{viewed};
 
     ghost Value = { Automaton };
 
@@ -34,18 +33,26 @@ impl Model for Automaton {
 }
 
 impl Automaton {
-    ghost use Rattle.pg_hoa.specs.Mirrors.Views.{viewed};
+    ghost use Rattle.pg_automaton.specs.Mirrors.Views.{viewed};
 
-    pub(crate) fn from_parts(settled: Settled, table: Table) -> Automaton
-        requires { IsAutomaton (viewed settled.start settled.names.items settled.controllable.items settled.sets settled.shape table) }
-        ensures { result ≡ viewed settled.start settled.names.items settled.controllable.items settled.sets settled.shape table }
+    /// The automaton of these, where they make one.
+    pub fn from_parts(
+        start: u32,
+        names: Vec<Vec<u8>>,
+        controllable: Vec<bool>,
+        sets: u32,
+        shape: Shape,
+        table: Table,
+    ) -> Automaton
+        requires { IsAutomaton (viewed start names.items controllable.items sets shape table) }
+        ensures { result ≡ viewed start names.items controllable.items sets shape table }
     {
         Automaton {
-            start: settled.start,
-            names: settled.names,
-            controllable: settled.controllable,
-            sets: settled.sets,
-            shape: settled.shape,
+            start,
+            names,
+            controllable,
+            sets,
+            shape,
             table,
         }
     }

@@ -2,14 +2,14 @@
 use Rattle.std.proofs.Common.{◌≡◌, ℕ, suc, zero, Bool, true, false, refl, sym, ap, ◌∙◌, inl, inr}
 use Rattle.std.specs.Prelude.{◌&&◌, ◌||◌, ◌↔◌, IsTrue}
 use Rattle.std.proofs.lemmas.Bool.{cases_order}
-use Rattle.pg_hoa.specs.declared.shape.Shape.{Shape}
-use Rattle.pg_hoa.specs.declared.shape.Shape.TheVariants.{MaxEven, MaxOdd, MinEven, MinOdd, Always, Never}
-use Rattle.pg_hoa.specs.Formulas.{Formula, yes, no, proposition, inf, fin, not, both, either, bracket, holds}
-use Rattle.pg_hoa.specs.Shapes.{bare, IsLike, FitsShape, HasShape, Accepts, place}
-use Rattle.pg_hoa.specs.Mirrors.ShapeRun.{set_at, wanted_at}
+use Rattle.pg_automaton.specs.declared.shape.Shape.{Shape}
+use Rattle.pg_automaton.specs.declared.shape.Shape.TheVariants.{MaxEven, MaxOdd, MinEven, MinOdd, Always, Never}
+use Rattle.pg_automaton.specs.Formulas.{Formula, yes, no, proposition, inf, fin, not, both, either, bracket, holds}
+use Rattle.pg_automaton.specs.Shapes.{bare, IsLike, FitsShape, HasShape, Accepts, place}
+use Rattle.pg_automaton.specs.Mirrors.Nests.{set_at, wanted_at}
 use Rattle.pg_lists.proofs.Steps.{some_is, none_is_some}
-use Rattle.pg_hoa.proofs.ShapeFinds.{nested_in, condition_nested, no_constant}
-use Rattle.pg_hoa.proofs.ShapeSays.{nested_decided, decided_nested, to_accepts, from_accepts}
+use Rattle.pg_automaton.proofs.Nested.{nested_in, condition_nested, no_constant}
+use Rattle.pg_automaton.proofs.ShapeSays.{nested_decided, decided_nested, to_accepts, from_accepts}
 
 pub bare_says : (f : Formula) (on : ℕ → Bool) → holds (bare f) on ≡ holds f on
 bare_says (both f g) on = rw (bare_says f on, bare_says g on) refl

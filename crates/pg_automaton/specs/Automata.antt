@@ -2,10 +2,10 @@
 use Rattle.std.specs.Prelude.{◌≡◌, ◌≢◌, ℕ, ◌^◌, ◌*◌, ◌<◌, ◌≤◌, Bool, List, [], ◌∷◌, map, length, Option, Some, None, get_or}
 use Rattle.std.specs.List.{All, AllByRecursion, range_with_len}
 use Rattle.std.specs.List.Sorted.{IsStrictlyIncreasing}
-use Rattle.pg_hoa.specs.Formulas.{Formula}
-use Rattle.pg_hoa.specs.Shapes.{FitsShape}
-use Rattle.pg_hoa.specs.declared.shape.Shape.{Shape}
-use Rattle.pg_hoa.specs.declared.shape.Shape.TheVariants.{MinEven, MinOdd}
+use Rattle.pg_automaton.specs.Formulas.{Formula}
+use Rattle.pg_automaton.specs.Shapes.{FitsShape}
+use Rattle.pg_automaton.specs.declared.shape.Shape.{Shape}
+use Rattle.pg_automaton.specs.declared.shape.Shape.TheVariants.{MinEven, MinOdd}
 
 -- where a letter leads, and the sets met on the way, the least first
 pub record Step : Type 0 where

@@ -2,12 +2,12 @@
 use Rattle.std.proofs.Common.{◌≡◌, ℕ, suc, zero, ◌-◌, ◌<◌, ◌≤◌, ◌%◌, Bool, true, false, refl, sym, ap, ◌∙◌, ◌⊎◌, inl, inr, arith}
 use Rattle.std.proofs.lemmas.Bool.Decides.{nat_tests}
 use Rattle.std.proofs.lemmas.Bool.{eqb-true, eqb-false, eq-eqb, ne_eqb, cases_lt, cases_Bool}
-use Rattle.pg_hoa.specs.declared.shape.Shape.{Shape}
-use Rattle.pg_hoa.specs.declared.shape.Shape.TheVariants.{MaxEven, MaxOdd, MinEven, MinOdd, Always, Never}
-use Rattle.pg_hoa.specs.Formulas.{Formula, holds}
-use Rattle.pg_hoa.specs.Shapes.{is_even, decides, NoneRecurs, IsGreatest, IsLeast, Accepts, place}
-use Rattle.pg_hoa.specs.Mirrors.ShapeRun.{set_at, wanted_at}
-use Rattle.pg_hoa.proofs.ShapeNests.{nested}
+use Rattle.pg_automaton.specs.declared.shape.Shape.{Shape}
+use Rattle.pg_automaton.specs.declared.shape.Shape.TheVariants.{MaxEven, MaxOdd, MinEven, MinOdd, Always, Never}
+use Rattle.pg_automaton.specs.Formulas.{Formula, holds}
+use Rattle.pg_automaton.specs.Shapes.{is_even, decides, NoneRecurs, IsGreatest, IsLeast, Accepts, place}
+use Rattle.pg_automaton.specs.Mirrors.Nests.{set_at, wanted_at}
+use Rattle.pg_automaton.proofs.Nested.{nested}
 
 -- ---- the outermost set that recurs
 

@@ -1,0 +1,5 @@
+-- What mirrors code: contracts of private functions cite it, and no definition that a reader has to believe does.
+pub mod Steps
+pub mod Nests
+pub mod Tables
+pub mod Views

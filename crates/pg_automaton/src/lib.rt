@@ -1,0 +1,11 @@
+//! Automata: deterministic, with a parity condition.
+#![tactic(auto)]
+
+mod automaton;
+pub mod laws;
+mod shape;
+mod table;
+
+pub use automaton::Automaton;
+pub use shape::Shape;
+pub use table::{Stored, Table, numbered};
