@@ -1,0 +1,102 @@
+//! Games that are made by the dozen, and two families on which one of the methods alone is slow.
+
+use crate::judging::{show, win};
+use crate::lines::Lines;
+use pg_arena::Player;
+use pg_winners::find_winners;
+use std::alloc::Global;
+use std::test::Fail;
+
+/// Numbers that look random.
+#[derive(Drop)]
+struct Dice(u64);
+
+impl Dice {
+    /// The next number below `end`, which is at least 1 and below 65,536.
+    fn below(&mut self, end: u64) -> u32 {
+        self.0 = self.0.wrapping_mul(6_364_136_223_846_793_005);
+        self.0 = self.0.wrapping_add(1_442_695_040_888_963_407);
+        ((self.0 >> 40) % end.clamp(1, 65_536)) as u32
+    }
+}
+
+fn player(number: u32) -> Player {
+    if number == 0 {
+        Player::Even
+    } else {
+        Player::Odd
+    }
+}
+
+/// A game of up to 14 vertices.
+fn small(alloc: Global, seed: u64) -> Result<Lines, Fail> {
+    let mut dice = Dice(seed);
+    let mut lines = Lines::new(alloc)?;
+    let all = u64::from(dice.below(14)).saturating_add(1);
+    let degree = u64::from(dice.below(3)).saturating_add(1);
+    let priorities = u64::from(dice.below(12)).saturating_add(1);
+    for _ in 0..all {
+        let mut row = vec![in alloc; dice.below(all)]?;
+        for _ in 0..dice.below(degree) {
+            row.push(dice.below(all))?;
+        }
+        lines.add(dice.below(priorities), player(dice.below(2)), &row)?;
+    }
+    Ok(lines)
+}
+
+/// A state of a nested formula: variable i has priority i, and its body leads to all outer variables and the next one.
+fn formula(alloc: Global, variables: u32) -> Result<Lines, Fail> {
+    let mut lines = Lines::new(alloc)?;
+    for i in 0..variables.min(1000) {
+        lines.add(i, Player::Even, &[2 * i + 1])?;
+        let mut row = Vec::new(alloc);
+        for j in 0..=i {
+            row.push(2 * j)?;
+        }
+        if i + 1 < variables {
+            row.push(2 * i + 2)?;
+        }
+        lines.add(0, player(i % 2), &row)?;
+    }
+    Ok(lines)
+}
+
+/// A ladder that goes up and down, five vertices for each of its steps.
+fn ladder(alloc: Global, steps: u32) -> Result<Lines, Fail> {
+    let mut lines = Lines::new(alloc)?;
+    for i in 0..steps.min(1000) {
+        let q = 5 * i;
+        let up = if i + 1 < steps { q + 5 } else { q };
+        let down = if i > 0 { q - 5 } else { q };
+        let side = if i > 0 { q - 1 } else { q + 3 };
+        lines.add(2 * i + 1, Player::Even, &[q + 1, up])?;
+        lines.add(2 * i + 2, Player::Odd, &[q, q + 2, down])?;
+        lines.add(2 * i, Player::Odd, &[q + 3, q + 1])?;
+        lines.add(2 * i + 1, Player::Even, &[q + 4, side])?;
+        lines.add(2 * i, Player::Odd, &[q + 3, q + 1])?;
+    }
+    Ok(lines)
+}
+
+#[test]
+fn small_games_are_won_and_shown(rt: HostRuntime) -> Result<(), Fail> {
+    for seed in 0..400u64 {
+        let lines = small(rt.alloc(), seed)?;
+        let found = find_winners(rt.alloc(), &lines.graph()?)?;
+        assert!(rt; found.is_ordered, "game {seed}");
+        assert!(rt; win(rt.alloc(), &lines, &found)?, "game {seed}");
+        assert!(rt; show(rt.alloc(), &lines, &found)?, "game {seed}");
+    }
+    Ok(())
+}
+
+#[test]
+fn slow_games_are_won_and_shown(rt: HostRuntime) -> Result<(), Fail> {
+    for lines in [formula(rt.alloc(), 200)?, ladder(rt.alloc(), 200)?] {
+        let found = find_winners(rt.alloc(), &lines.graph()?)?;
+        assert!(rt; win(rt.alloc(), &lines, &found)?);
+        assert!(rt; show(rt.alloc(), &lines, &found)?);
+    }
+    Ok(())
+}
