@@ -4,14 +4,10 @@ use Rattle.std.specs.Prelude.{Option}
 use Rattle.std.specs.Option.{IsSome}
 use Rattle.std.proofs.lemmas.Bool.{cases_lt}
 use Rattle.std.proofs.lemmas.List.{get_or_past, length-replicate}
-use Rattle.std.proofs.lemmas.List.Elements.{All-contains}
-use Rattle.pg_arena.specs.declared.player.Player.{Player}
-use Rattle.pg_arena.specs.declared.player.Player.TheVariants.{Even, Odd}
-use Rattle.pg_arena.specs.Games.{opponent}
 use Rattle.pg_measure.specs.Measures.{BoundList, MeasureValue, AtMost, IsBelow, zeros, is_odd, width_from}
 use Rattle.pg_measure.proofs.Order.{at_most_all, below_or_at_most, below_not, covers_less, front_at_most}
 use Rattle.pg_map.specs.Lines.{Line}
-use Rattle.pg_map.specs.Maps.{measure_at, SomeOrAll, IsServedBy, IsMap, IsClosed, MapAtMost, IsNeverAbove, zero_map}
+use Rattle.pg_map.specs.Maps.{measure_at, IsServedBy, IsMap, IsClosed, MapAtMost, IsNeverAbove, zero_map}
 use Rattle.pg_map.proofs.Above.{fits_at}
 use Rattle.pg_map.proofs.Joins.{at_most_top, zero_map_least}
 use Rattle.pg_map.proofs.Falls.{Falls, lists, covers_falls, no_odd_cycle}

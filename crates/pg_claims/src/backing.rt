@@ -16,12 +16,12 @@ fn backs(claims: &Claims, known: &[bool], low: u32, end: u32, w: Vertex) -> bool
     requires { w < length known.now }
     ensures { OnTrue result (Backs claims.now known.now low end w) }
 {
-    if low == 0 || known[w.0 as usize] {
+    if low == 0 {
         return true;
     }
     match place_from(claims, low, w) {
-        Some(place) => place < end,
-        None => false,
+        Some(place) if place < end => true,
+        _ => known[w.0 as usize],
     }
 }
 
