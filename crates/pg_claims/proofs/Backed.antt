@@ -56,7 +56,8 @@ good_claim lines ladder x known c span p low held at is stands justified backed 
   stands = ap (λ (s : Span). s.priority) (sym at) ∙ stands ∙ is;
   low = low;
   justified = subst (λ q. IsJustifiedFrom ladder.bounds ladder.steps q c.rank low) is justified;
-  backed = subst (λ (s : Span). SomeOrAll (opponent (line_at lines c.vertex).owner) (Backs x known low s.end) (line_at lines c.vertex).successors)
+  backed = subst (λ (s : Span). SomeOrAll (opponent (line_at lines c.vertex).owner) (Backs x known low s.end)
+      (line_at lines c.vertex).successors)
       at backed;
 }
 
@@ -72,7 +73,8 @@ module _ (bs : BoundList) (known : List Bool) where
   top_or_zeros : (w : ℕ) → w < length known → (measure_at (known_map bs known) w ≡ None) ⊎ (measure_at (known_map bs known) w ≡ zeros bs)
   top_or_zeros w lt = go (get_or known w false) refl
     where
-      go : (t : Bool) → get_or known w false ≡ t → (measure_at (known_map bs known) w ≡ None) ⊎ (measure_at (known_map bs known) w ≡ zeros bs)
+      go : (t : Bool) → get_or known w false ≡ t → (measure_at (known_map bs known) w ≡ None) ⊎
+          (measure_at (known_map bs known) w ≡ zeros bs)
       go true e = inl (known_at w lt ∙ ap (λ (t : Bool). if t then None else zeros bs) e)
       go false e = inr (known_at w lt ∙ ap (λ (t : Bool). if t then None else zeros bs) e)
 
@@ -90,7 +92,8 @@ module _ (lines : ℕ → Option Line) (ladder : LadderValue) (x : Claims) (know
   backed_by k w among c lt (inl none) = inl (elim (top_or_zeros bs known w lt) [
     | inl top ↦ subst (IsJustified bs (line_at lines (claim_at x k).vertex).priority (claims.measure k)) (sym top)
         (top_justifies bs (line_at lines (claim_at x k).vertex).priority (claims.measure k))
-    | inr zero ↦ subst (IsJustified bs (line_at lines (claim_at x k).vertex).priority (claims.measure k)) (rank_zero bs ladder.steps ∙ sym zero)
+    | inr zero ↦ subst (IsJustified bs (line_at lines (claim_at x k).vertex).priority (claims.measure k))
+        (rank_zero bs ladder.steps ∙ sym zero)
         (c.justified 0 (omega arith))
   ])
   backed_by k w among c lt (inr (inl top)) = inl (subst (IsJustified bs (line_at lines (claim_at x k).vertex).priority (claims.measure k))
@@ -116,7 +119,8 @@ module _ (lines : ℕ → Option Line) (ladder : LadderValue) (x : Claims) (know
         (IsBackedBy bs lines (known_map bs known) claims k) (λ w lt. backed_by k w among c lt)
         (opponent (line_at lines (claim_at x k).vertex).owner) (line_at lines (claim_at x k).vertex).successors
         (within.successors (claim_at x k).vertex c.held) c.backed;
-    cycles = wins_nodes Odd x.spans.items nested (LeadsTo claims) (λ k. (line_at lines (claim_at x k).vertex).priority) (λ k. (claim_at x k).place)
+    cycles = wins_nodes Odd x.spans.items nested (LeadsTo claims) (λ k. (line_at lines (claim_at x k).vertex).priority)
+        (λ k. (claim_at x k).place)
         (λ k j leads. (good k leads.from).stands)
         (λ k j leads. is_less (claim_at x j).place (span_at x.spans.items (claim_at x k).place).end leads.may);
   }
@@ -124,7 +128,8 @@ module _ (lines : ℕ → Option Line) (ladder : LadderValue) (x : Claims) (know
   module _ (ranks : List ℕ) (bounds : AreBounds bs) (is_ladder : IsLadder bs ladder.steps) (size : length known ≡ length ranks)
       (ranked : AreRanksClaimed x known ranks) where
     claimed : IsMapClaimed (known_map bs known) (rank_map bs ladder.steps ranks) claims
-    claimed v lt = subst (λ m. AtMost m (measure_at (known_map bs known) v) ⊎ IsClaimed claims v m) (sym (measure_is bs ladder.steps ranks v in_range))
+    claimed v lt = subst (λ m. AtMost m (measure_at (known_map bs known) v) ⊎ IsClaimed claims v m)
+        (sym (measure_is bs ladder.steps ranks v in_range))
         (go (ranked v in_range))
       where
         in_range : v < length ranks
@@ -139,9 +144,11 @@ module _ (lines : ℕ → Option Line) (ladder : LadderValue) (x : Claims) (know
           | inr zero ↦
               let same : rank_measure bs ladder.steps (get_or ranks v 0) ≡ measure_at (known_map bs known) v =
               ap (rank_measure bs ladder.steps) none ∙ rank_zero bs ladder.steps ∙ sym zero in
-              subst (AtMost (rank_measure bs ladder.steps (get_or ranks v 0))) same (at_most_same (rank_measure bs ladder.steps (get_or ranks v 0)))
+              subst (AtMost (rank_measure bs ladder.steps (get_or ranks v 0))) same
+              (at_most_same (rank_measure bs ladder.steps (get_or ranks v 0)))
         ])
-        go (inr (inl top)) = inl (subst (AtMost (rank_measure bs ladder.steps (get_or ranks v 0))) (sym (known_top bs known v (let l = in_range in omega arith) top))
+        go (inr (inl top)) = inl
+            (subst (AtMost (rank_measure bs ladder.steps (get_or ranks v 0))) (sym (known_top bs known v (let l = in_range in omega arith) top))
             (at_most_top (rank_measure bs ladder.steps (get_or ranks v 0))))
         go (inr (inr c)) = inr (record {
           claim = c.is.claim;
@@ -153,5 +160,6 @@ module _ (lines : ℕ → Option Line) (ladder : LadderValue) (x : Claims) (know
     pub never_above : IsNeverAbove bs lines (known_map bs known) → IsNeverAbove bs lines (rank_map bs ladder.steps ranks)
     never_above never =
         claimed_is_never_above bs lines (known_map bs known) (rank_map bs ladder.steps ranks) claims
-        (length-map ranks (rank_measure bs ladder.steps) ∙ sym size ∙ sym (length-map known (λ (t : Bool). if t then None else zeros bs))) never
+        (length-map ranks (rank_measure bs ladder.steps) ∙ sym size ∙ sym
+        (length-map known (λ (t : Bool). if t then None else zeros bs))) never
         are_backed claimed

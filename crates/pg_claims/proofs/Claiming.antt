@@ -1,5 +1,6 @@
 -- No closed map is below what is claimed.
-use Rattle.std.proofs.Common.{◌≡◌, ℕ, ◌<◌, ◌≤◌, ◌⊎◌, inl, inr, zero, suc, false, ◌++◌, Some, None, List, [], ◌∷◌, length, map, replicate, ap, arith, sym, refl, ◌∙◌, subst}
+use Rattle.std.proofs.Common.{◌≡◌, ℕ, ◌<◌, ◌≤◌, ◌⊎◌, inl, inr, zero, suc, false, ◌++◌, Some, None, List}
+use Rattle.std.proofs.Common.{[], ◌∷◌, length, map, replicate, ap, arith, sym, refl, ◌∙◌, subst}
 use Rattle.std.specs.Prelude.{Option}
 use Rattle.std.specs.Option.{IsSome}
 use Rattle.std.proofs.lemmas.Bool.{cases_lt}
@@ -57,13 +58,15 @@ module _ (bounds : BoundList) (lines : ℕ → Option Line) (g : List MeasureVal
           ⊎ AtMost (claims.measure by.claim) (measure_at h (claims.vertex by.claim)) → (j : ℕ) × FallsTo k j × IsMissed j
       go (inl less) =
           let list = below_is_list (measure_at h (claims.vertex k)) (claims.measure k) missed.below in
-          let falls = (covers_falls bounds (priority k) (measure_at h (claims.vertex k)) (measure_at h (claims.vertex by.claim)) list serves_by).1 in
+          let falls = (covers_falls bounds (priority k) (measure_at h (claims.vertex k))
+          (measure_at h (claims.vertex by.claim)) list serves_by).1 in
           (by.claim, (by.leads, falls), record { among = by.leads.to; below = less })
       go (inr le) = absurd (not_enough k (claims.vertex by.claim) (claims.measure by.claim) missed serves_by by.justifies le)
 
   next : (k : ℕ) → IsMissed k → (j : ℕ) × FallsTo k j × IsMissed j
   next k missed =
-      let w = both_serve (claim_line lines claims k).owner (IsServedBy bounds lines h (claims.vertex k)) (IsBackedBy bounds lines g claims k)
+      let w = both_serve (claim_line lines claims k).owner (IsServedBy bounds lines h (claims.vertex k))
+      (IsBackedBy bounds lines g claims k)
       (claim_line lines claims k).successors (closed (claims.vertex k) (backed.held k missed.among)) (backed.backed k missed.among) in
       step k w.0 missed w.1 w.2
 

@@ -1,5 +1,6 @@
 -- Who wins the cycles of an order: from the place of a cycle that stands first all that follows is before its end.
-use Rattle.std.proofs.Common.{◌≡◌, ℕ, zero, suc, ◌<◌, ◌≤◌, ◌⊎◌, inl, inr, List, [], ◌∷◌, ◌++◌, length, map, get_or, arith, ap, sym, refl, ◌∙◌, subst}
+use Rattle.std.proofs.Common.{◌≡◌, ℕ, zero, suc, ◌<◌, ◌≤◌, ◌⊎◌, inl, inr, List, [], ◌∷◌}
+use Rattle.std.proofs.Common.{◌++◌, length, map, get_or, arith, ap, sym, refl, ◌∙◌, subst}
 use Rattle.std.specs.Prelude.{IsTrue}
 use Rattle.std.specs.List.{All, Contains}
 use Rattle.std.proofs.lemmas.Bool.{cases_lt}
@@ -52,7 +53,8 @@ least_of x (y ∷ ys) = go (least_of y ys)
         x,
         record {
           among = (0, omega arith, refl);
-          least = All-cons (λ u. x ≤ u) x (y ∷ ys) (omega arith) (λ k d lt. let here : v ≤ get_or (y ∷ ys) k d = l.least k d lt in omega arith);
+          least = All-cons (λ u. x ≤ u) x (y ∷ ys) (omega arith)
+              (λ k d lt. let here : v ≤ get_or (y ∷ ys) k d = l.least k d lt in omega arith);
         },
       )
     ]
@@ -113,7 +115,8 @@ module _ (player : Player) (spans : List Span) (nested : AreNested player spans)
           let k = greatest.occurs.0 in
           let inside : k < length (i ∷ rest) = let lt = greatest.occurs.1 in omega (arith, length-map (i ∷ rest) priority_at) in
           let under = all k 0 inside in
-          let low : priority_at (get_or (i ∷ rest) k 0) ≤ priority_at f = (nested f).lower (get_or (i ∷ rest) k 0) under.from under.before in
+          let low : priority_at (get_or (i ∷ rest) k 0) ≤ priority_at f = (nested f).lower
+          (get_or (i ∷ rest) k 0) under.from under.before in
           let at : priority_at (get_or (i ∷ rest) k 0) ≡ q = sym (get_or-map priority_at (i ∷ rest) k 0 q inside) ∙ greatest.occurs.2 in
           let most : priority_at f ≤ q = All-contains (λ u. priority_at u ≤ q) (i ∷ rest) f
           (all_unmap priority_at (λ p. p ≤ q) (i ∷ rest) greatest.above_all) is.among in
@@ -128,7 +131,8 @@ module _ (player : Player) (spans : List Span) (nested : AreNested player spans)
     moved v [] path = tt
     moved v (w ∷ ws) path = (leads v w path.0, moved w ws path.1)
 
-    same : (v : ℕ) (rest : List ℕ) (z : ℕ) → IsPath Edge v (rest ++ z ∷ []) → map priority (v ∷ rest) ≡ map priority_at (map place (v ∷ rest))
+    same : (v : ℕ) (rest : List ℕ) (z : ℕ) → IsPath Edge v (rest ++ z ∷ []) → map priority (v ∷ rest) ≡ map priority_at
+        (map place (v ∷ rest))
     same v [] z path = ap (λ p. p ∷ []) (sym (stands v z path.0))
     same v (w ∷ rest) z path =
         ap (λ p. p ∷ map priority (w ∷ rest)) (sym (stands v w path.0)) ∙ ap (λ ps. priority_at (place v) ∷ ps) (same w rest z path.1)

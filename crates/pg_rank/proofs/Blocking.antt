@@ -1,5 +1,6 @@
 -- Blocks of a ladder tell what a rank covers, and what justifies it.
-use Rattle.std.proofs.Common.{◌≡◌, ℕ, zero, suc, ◌+◌, ◌-◌, ◌%◌, ◌<◌, ◌≤◌, inl, inr, true, false, Some, None, List, [], ◌∷◌, length, arith, sym, refl, ◌∙◌, subst, ap}
+use Rattle.std.proofs.Common.{◌≡◌, ℕ, zero, suc, ◌+◌, ◌-◌, ◌%◌, ◌<◌, ◌≤◌, inl, inr, true, false}
+use Rattle.std.proofs.Common.{Some, None, List, [], ◌∷◌, length, arith, sym, refl, ◌∙◌, subst, ap}
 use Rattle.std.specs.Prelude.{nat_le}
 use Rattle.std.proofs.lemmas.Bool.{cases_lt}
 use Rattle.std.proofs.lemmas.Bool.Decides.{nat_tests}
@@ -92,7 +93,8 @@ module _ (bs : BoundList) (steps : List ℕ) (bounds : AreBounds bs) (ladder : I
 
   from_top : (r low : ℕ) → length steps < low → IsJustifiedFrom bs steps p r low
   from_top r low lt k le =
-      subst (λ m. IsJustified bs p (rank_measure bs steps r) m) (sym (rank_top bs steps k (omega arith))) (top_justifies bs p (rank_measure bs steps r))
+      subst (λ m. IsJustified bs p (rank_measure bs steps r) m) (sym (rank_top bs steps k (omega arith)))
+      (top_justifies bs p (rank_measure bs steps r))
 
   from_clear : (r : ℕ) → IsClearRow steps p r → IsJustifiedFrom bs steps p r r
   from_clear r s k le =
@@ -256,7 +258,8 @@ rank_below bs steps bounds ladder i j lt within =
       | inr list ↦
           let e : j ≡ suc (j - 1) = omega arith in
           let less : ListBelow (front steps bs 0 i) (front steps bs 0 (suc (j - 1))) =
-          rises_strictly steps bs bounds.falling (λ k l. knows bs (step_at steps k) (ladder.known k 0 l)) 0 i (j - 1) (omega arith) (omega arith)
+          rises_strictly steps bs bounds.falling (λ k l. knows bs (step_at steps k) (ladder.known k 0 l)) 0 i (j - 1) (omega arith)
+          (omega arith)
           (omega arith) in
           subst (IsBelow (Some (row bs steps i))) (sym (rank_list bs steps j list))
           (subst (λ k. ListBelow (row bs steps i) (row bs steps k)) (sym e)

@@ -1,5 +1,6 @@
 -- What the tables of a ladder say of its rows.
-use Rattle.std.proofs.Common.{◌≡◌, ℕ, zero, suc, ◌+◌, ◌-◌, ◌<◌, ◌≤◌, inl, inr, List, [], ◌∷◌, ◌++◌, length, get_or, arith, sym, refl, ◌∙◌, subst, ap}
+use Rattle.std.proofs.Common.{◌≡◌, ℕ, zero, suc, ◌+◌, ◌-◌, ◌<◌, ◌≤◌, inl, inr, List, []}
+use Rattle.std.proofs.Common.{◌∷◌, ◌++◌, length, get_or, arith, sym, refl, ◌∙◌, subst, ap}
 use Rattle.std.specs.Prelude.{All}
 use Rattle.std.proofs.lemmas.Bool.{cases_lt, cases_eq}
 use Rattle.std.proofs.lemmas.List.{get_or_default, get_or_append_left, get_or-append_right}
@@ -12,7 +13,8 @@ use Rattle.pg_rank.proofs.Rising.{AreFalling, after_less, after_same, after_grea
 
 -- components
 
-kept_by : (steps : List ℕ) (p b n : ℕ) → ((j : ℕ) → b ≤ j → j < b + n → step_at steps j < p) → component steps p (b + n) ≡ component steps p b
+kept_by : (steps : List ℕ) (p b n : ℕ) → ((j : ℕ) → b ≤ j → j < b + n → step_at steps j < p) → component steps p
+    (b + n) ≡ component steps p b
 kept_by steps p b zero less = let e : b + 0 ≡ b = omega arith in ap (component steps p) e
 kept_by steps p b (suc n) less =
     let e : b + suc n ≡ suc (b + n) = omega arith in
@@ -21,7 +23,8 @@ kept_by steps p b (suc n) less =
     ∙ kept_by steps p b n (λ j from before. less j from (omega arith))
 
 -- lesser steps leave a component
-pub kept : (steps : List ℕ) (p b k : ℕ) → b ≤ k → ((j : ℕ) → b ≤ j → j < k → step_at steps j < p) → component steps p k ≡ component steps p b
+pub kept : (steps : List ℕ) (p b k : ℕ) → b ≤ k → ((j : ℕ) → b ≤ j → j < k → step_at steps j < p)
+    → component steps p k ≡ component steps p b
 kept steps p b k le less =
     let n = k - b in
     let e : b + n ≡ k = omega arith in
@@ -88,7 +91,8 @@ width_at bs p k d falls lt is =
 
 module _ (bs : BoundList) (p n : ℕ) (falls : AreFalling bs) where
   -- where the priority has a bound it is there
-  pub stands : IsBounded bs p n → (k : ℕ) × (d : ℕ × ℕ) × (suc k ≡ width_from bs p) × (k < length bs) × (get_or bs k d ≡ d) × (d.0 ≡ p) × (n ≤ d.1)
+  pub stands : IsBounded bs p n → (k : ℕ) × (d : ℕ × ℕ) × (suc k ≡ width_from bs p) × (k < length bs) × (get_or bs k d ≡ d) ×
+      (d.0 ≡ p) × (n ≤ d.1)
   stands a =
       let e : (get_or bs a.0 a.1).0 ≡ p = ap (λ (x : ℕ × ℕ). x.0) a.3 ∙ a.4.0 in
       (a.0, a.1, width_at bs p a.0 a.1 falls a.2 e, a.2, a.3, a.4.0, a.4.1)
@@ -176,7 +180,8 @@ pub ladder_bounded : (bs : BoundList) (steps : List ℕ) (k n : ℕ) → IsLadde
     → n ≡ component steps (step_at steps k) (suc k) → IsBounded bs (step_at steps k) n
 ladder_bounded bs steps k n ladder lt is =
     let a = ladder.known k 0 lt in
-    let here : component steps (get_or bs a.0 a.1).0 (suc k) ≤ (get_or bs a.0 a.1).1 = fits_at steps bs (suc k) a.0 a.1 a.2 (ladder.fits (suc k) (omega arith)) in
+    let here : component steps (get_or bs a.0 a.1).0 (suc k) ≤ (get_or bs a.0 a.1).1 = fits_at steps bs (suc k) a.0 a.1 a.2
+    (ladder.fits (suc k) (omega arith)) in
     let p : (get_or bs a.0 a.1).0 ≡ step_at steps k = ap (λ (x : ℕ × ℕ). x.0) a.3 ∙ a.4 in
     let q = ap (λ (x : ℕ × ℕ). x.1) a.3 in
     let e = ap (λ d. component steps d (suc k)) p in
@@ -190,6 +195,7 @@ pushed P xs x k size each here j lt = elim (cases_lt j k) [
   | inr ge ↦
       let e : j ≡ k = omega arith in
       let z : k - k ≡ 0 = omega arith in
-      let last : get_or (xs ++ x ∷ []) k 0 ≡ x = get_or-append_right xs (x ∷ []) k k 0 size (omega arith) ∙ ap (λ i. get_or (x ∷ []) i 0) z in
+      let last : get_or (xs ++ x ∷ []) k 0 ≡ x = get_or-append_right xs (x ∷ []) k k 0 size (omega arith) ∙ ap
+      (λ i. get_or (x ∷ []) i 0) z in
       subst (λ i. P (get_or (xs ++ x ∷ []) i 0) i) (sym e) (subst (λ y. P y k) (sym last) here)
 ]

@@ -1,5 +1,6 @@
 -- Maps of ranks, vertex by vertex.
-use Rattle.std.proofs.Common.{◌≡◌, ℕ, zero, ◌<◌, inl, inr, Some, None, List, [], ◌∷◌, length, replicate, get_or, arith, sym, refl, ◌∙◌, subst, ap}
+use Rattle.std.proofs.Common.{◌≡◌, ℕ, zero, ◌<◌, inl, inr, Some, None, List, [], ◌∷◌, length}
+use Rattle.std.proofs.Common.{replicate, get_or, arith, sym, refl, ◌∙◌, subst, ap}
 use Rattle.std.specs.Prelude.{Option, ◌↔◌, IfSome, IfNone}
 use Rattle.std.specs.List.{All, Contains}
 use Rattle.std.specs.List.Sorted.{IsStrictlyIncreasing}
@@ -12,7 +13,7 @@ use Rattle.pg_arena.specs.declared.player.Player.TheVariants.{Even, Odd}
 use Rattle.pg_measure.specs.Measures.{BoundList, MeasureValue, Fits, zeros, Covers}
 use Rattle.pg_measure.proofs.Order.{below_not}
 use Rattle.pg_map.specs.Lines.{Line, line_at, AreWithin}
-use Rattle.pg_map.specs.Maps.{measure_at, SomeOrAll, IsServedBy, IsServed, IsFirstServing, IsMap}
+use Rattle.pg_map.specs.Maps.{MapValue, measure_at, SomeOrAll, IsServedBy, IsServed, IsFirstServing, IsMap}
 use Rattle.pg_map.proofs.Serving.{first_serving_at}
 use Rattle.pg_rank.specs.Ladders.{row, IsLadder, rank_measure, rank_map}
 use Rattle.pg_rank.specs.Laws.{RanksCompare}
@@ -22,6 +23,9 @@ use Rattle.pg_rank.proofs.Blocking.{rank_list, rank_top, rank_at_most, rank_belo
 module _ (bs : BoundList) (steps ranks : List ℕ) where
   pub measure_is : (v : ℕ) → v < length ranks → measure_at (rank_map bs steps ranks) v ≡ rank_measure bs steps (rank_at ranks v)
   measure_is v lt = get_or-map (rank_measure bs steps) ranks v 0 None lt
+
+  pub size_is : (x : MapValue) → record { bounds = bs; measures = rank_map bs steps ranks } ≡ x → length x.measures ≡ length ranks
+  size_is x is = ap (λ (y : MapValue). length y.measures) (sym is) ∙ length-map ranks (rank_measure bs steps)
 
   fits_rank : IsLadder bs steps → (r : ℕ) → Fits bs (rank_measure bs steps r)
   fits_rank ladder r = elim (cases_lt (length steps) r) [
@@ -40,9 +44,11 @@ module _ (bs : BoundList) (steps ranks : List ℕ) where
       (covers : CoversUnder bs steps (line_at lines v).priority (rank_at ranks v) high) where
     pub served_by : (w : ℕ) → w < length ranks → IsUnder high (rank_at ranks w) ↔ IsServedBy bs lines (rank_map bs steps ranks) v w
     served_by w lt =
-        subst (λ (x : MeasureValue). IsUnder high (rank_at ranks w) ↔ Covers bs (line_at lines v).priority x (measure_at (rank_map bs steps ranks) w))
+        subst (λ (x : MeasureValue). IsUnder high (rank_at ranks w) ↔ Covers bs (line_at lines v).priority x
+        (measure_at (rank_map bs steps ranks) w))
         (sym (measure_is v some))
-        (subst (λ (x : MeasureValue). IsUnder high (rank_at ranks w) ↔ Covers bs (line_at lines v).priority (rank_measure bs steps (rank_at ranks v)) x)
+        (subst (λ (x : MeasureValue). IsUnder high (rank_at ranks w) ↔ Covers bs (line_at lines v).priority
+        (rank_measure bs steps (rank_at ranks v)) x)
         (sym (measure_is w lt)) (covers (rank_at ranks w)))
 
 -- the same for each of the successors
@@ -58,15 +64,18 @@ pub served : (bs : BoundList) (lines : ℕ → Option Line) (steps ranks : List 
     ↔ IsServed bs lines (rank_map bs steps ranks) v
 served bs lines steps ranks v high within some covers = (
   each_of (length ranks) (λ w. IsUnder high (rank_at ranks w)) (IsServedBy bs lines (rank_map bs steps ranks) v)
-      (λ w lt. (served_by bs steps ranks lines v (within.numbers v some) high covers w lt).0) (line_at lines v).owner (line_at lines v).successors
+      (λ w lt. (served_by bs steps ranks lines v (within.numbers v some) high covers w lt).0) (line_at lines v).owner
+      (line_at lines v).successors
       (within.successors v some),
   each_of (length ranks) (IsServedBy bs lines (rank_map bs steps ranks) v) (λ w. IsUnder high (rank_at ranks w))
-      (λ w lt. (served_by bs steps ranks lines v (within.numbers v some) high covers w lt).1) (line_at lines v).owner (line_at lines v).successors
+      (λ w lt. (served_by bs steps ranks lines v (within.numbers v some) high covers w lt).1) (line_at lines v).owner
+      (line_at lines v).successors
       (within.successors v some),
 )
 
 -- the first of the successors that the rank covers is the first that serves
-module _ (bs : BoundList) (lines : ℕ → Option Line) (steps ranks : List ℕ) (v : ℕ) (high : Option ℕ) (within : AreWithin (length ranks) lines)
+module _ (bs : BoundList) (lines : ℕ → Option Line) (steps ranks : List ℕ) (v : ℕ) (high : Option ℕ)
+    (within : AreWithin (length ranks) lines)
     (some : IsSome (lines v)) (covers : CoversUnder bs steps (line_at lines v).priority (rank_at ranks v) high) where
   below : (w : ℕ) → Contains (line_at lines v).successors w → w < length ranks
   below w edge = All-contains (λ u. u < length ranks) (line_at lines v).successors w (within.successors v some) edge
@@ -109,7 +118,8 @@ ranks_compare = record {
   compare = λ bs steps i j bounds ladder within. (
     rank_at_most bs steps bounds ladder 0 i j,
     λ le. elim (cases_lt j i) [
-      | inl less ↦ absurd (below_not (rank_measure bs steps j) (rank_measure bs steps i) (rank_below bs steps bounds ladder j i less (omega arith)) le)
+      | inl less ↦ absurd (below_not (rank_measure bs steps j) (rank_measure bs steps i)
+          (rank_below bs steps bounds ladder j i less (omega arith)) le)
       | inr is ↦ is
     ],
   );

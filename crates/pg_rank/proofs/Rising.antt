@@ -1,5 +1,6 @@
 -- Rows of a ladder rise, and agree where no step changes them.
-use Rattle.std.proofs.Common.{◌≡◌, ℕ, zero, suc, ◌+◌, ◌-◌, ◌<◌, ◌≤◌, ◌⊎◌, inl, inr, true, false, List, [], ◌∷◌, length, get_or, arith, sym, refl, ◌∙◌, subst, ap}
+use Rattle.std.proofs.Common.{◌≡◌, ℕ, zero, suc, ◌+◌, ◌-◌, ◌<◌, ◌≤◌, ◌⊎◌, inl, inr, true, false}
+use Rattle.std.proofs.Common.{List, [], ◌∷◌, length, get_or, arith, sym, refl, ◌∙◌, subst, ap}
 use Rattle.std.specs.Prelude.{nat_le, All, Any, AllPairs}
 use Rattle.std.proofs.lemmas.Bool.{cases_lt, cases_eq}
 use Rattle.std.proofs.lemmas.Bool.Decides.{nat_tests}
@@ -87,7 +88,8 @@ module _ (steps : List ℕ) where
         not_front b bs p (component steps b.0 (suc k)) (row bs steps (suc k)) lt ∙ agree_next bs p k h
         ∙ sym (not_front b bs p (component steps b.0 k) (row bs steps k) lt)
     | inr le ↦
-        let same : component steps b.0 (suc k) ≡ component steps b.0 k = after_less (step_at steps k) b.0 (component steps b.0 k) (omega arith) in
+        let same : component steps b.0 (suc k) ≡ component steps b.0 k = after_less (step_at steps k) b.0 (component steps b.0 k)
+        (omega arith) in
         let rest = agree_next bs p k h in
         let a = in_front b bs p (component steps b.0 (suc k)) (row bs steps (suc k)) le in
         let c = in_front b bs p (component steps b.0 k) (row bs steps k) le in
@@ -103,7 +105,11 @@ module _ (steps : List ℕ) where
         absurd (unknown known lt)
     | inr ge ↦
         let in_p : p ≤ b.0 = omega arith in
-        rw (in_front b bs p (component steps b.0 k) (row bs steps k) in_p, in_front b bs p (component steps b.0 (suc k)) (row bs steps (suc k)) in_p)
+        rw (
+          in_front b bs p (component steps b.0 k) (row bs steps k) in_p,
+          in_front b bs p (component steps b.0 (suc k))
+              (row bs steps (suc k)) in_p,
+        )
         (elim (cases_eq b.0 (step_at steps k)) [
           | inl e ↦ inl (let s = after_same (step_at steps k) b.0 (component steps b.0 k) e in omega arith)
           | inr ne ↦ inr (
@@ -145,7 +151,8 @@ module _ (steps : List ℕ) where
     -- strictly at a step at a priority that is no less
     pub rises_strictly : (p i j : ℕ) → i ≤ j → j < length steps → p ≤ step_at steps j → ListBelow (front bs p i) (front bs p (suc j))
     rises_strictly p i j le within at =
-        then_below (front bs p i) (front bs p j) (front bs p (suc j)) (rises p i j le (omega arith)) (below_next bs p j falls (known j within) at)
+        then_below (front bs p i) (front bs p j) (front bs p (suc j)) (rises p i j le (omega arith))
+        (below_next bs p j falls (known j within) at)
 
   agree_by : (bs : BoundList) (p i n high : ℕ) → IsBlock steps p i high → i + n < high → front bs p (i + n) ≡ front bs p i
   agree_by bs p i zero high block lt = let e : i + 0 ≡ i = omega arith in rw e refl
@@ -187,11 +194,13 @@ module _ (steps : List ℕ) where
       further rest (inr more) = inr (more.0, rest more.1)
 
   -- after a step the components of lesser priorities are 0
-  clear_row : (bs : BoundList) (k : ℕ) (ys : List ℕ) → All (λ c. c.0 < step_at steps k) bs → ListFits bs ys → ListAtMost (row bs steps (suc k)) ys
+  clear_row : (bs : BoundList) (k : ℕ) (ys : List ℕ) → All (λ c. c.0 < step_at steps k) bs → ListFits bs ys → ListAtMost
+      (row bs steps (suc k)) ys
   clear_row [] k ys low fits = tt
   clear_row (b ∷ bs) k [] low fits = absurd fits
   clear_row (b ∷ bs) k (y ∷ ys) low fits =
-      let zero_here = after_greater (step_at steps k) b.0 (component steps b.0 k) (All-head (λ (c : ℕ × ℕ). c.0 < step_at steps k) b bs low) in
+      let zero_here = after_greater (step_at steps k) b.0 (component steps b.0 k)
+      (All-head (λ (c : ℕ × ℕ). c.0 < step_at steps k) b bs low) in
       elim (cases_lt 0 y) [
         | inl some ↦ inl (omega arith)
         | inr zeros ↦ inr (omega arith, clear_row bs k ys (All-tail (λ (c : ℕ × ℕ). c.0 < step_at steps k) b bs low) fits.1)

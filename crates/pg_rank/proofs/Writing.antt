@@ -1,5 +1,6 @@
 -- A row of a ladder, written from its last step back.
-use Rattle.std.proofs.Common.{◌≡◌, ℕ, suc, ◌-◌, ◌<◌, ◌≤◌, ◌⊎◌, inl, inr, List, [], ◌∷◌, length, get_or, set, arith, sym, refl, ◌∙◌, subst, ap}
+use Rattle.std.proofs.Common.{◌≡◌, ℕ, suc, ◌-◌, ◌<◌, ◌≤◌, ◌⊎◌, inl, inr, List, [], ◌∷◌}
+use Rattle.std.proofs.Common.{length, get_or, set, arith, sym, refl, ◌∙◌, subst, ap}
 use Rattle.std.proofs.lemmas.Bool.{cases_lt, cases_eq}
 use Rattle.std.proofs.lemmas.List.{get_or-set_same, get_or-set_other, get_or_default}
 use Rattle.pg_measure.specs.Measures.{BoundList, width_from}
@@ -103,7 +104,8 @@ module _ (bs : BoundList) (steps : List ℕ) (r k b : ℕ) (begin : IsBegin step
       inl (record { is = omega arith; last = inr (inl (omega arith)) })
 
 module _ (bs : BoundList) (falls : AreFalling bs) (steps : List ℕ) (r m b n w : ℕ) (begin : IsBegin steps b m)
-    (count : n ≡ component steps (step_at steps m) (suc m)) (bounded : IsBounded bs (step_at steps m) n) (is_width : w ≡ width_from bs (step_at steps m)) where
+    (count : n ≡ component steps (step_at steps m) (suc m)) (bounded : IsBounded bs (step_at steps m) n)
+    (is_width : w ≡ width_from bs (step_at steps m)) where
   -- the step has a bound
   pub some_width : (1 ≤ w) × (w ≤ length bs)
   some_width = let s = stands bs (step_at steps m) n falls bounded in let e = s.2 in let l = s.3 in (omega arith, omega arith)
@@ -126,7 +128,8 @@ module _ (bs : BoundList) (falls : AreFalling bs) (steps : List ℕ) (r m b n w 
     | inr ne ↦ stays bs steps r m b begin list list i refl (λ here. absurd (other i lt ne here)) is
   ]
 
-  pub sets : (list : List ℕ) → length list ≡ length bs → get_or list (w - 1) 0 ≡ 0 → (i : ℕ) → i < length bs → IsWritten bs steps list r (suc m) i
+  pub sets : (list : List ℕ) → length list ≡ length bs → get_or list (w - 1) 0 ≡ 0 → (i : ℕ) → i < length bs → IsWritten bs steps list r
+      (suc m) i
       → IsWritten bs steps (set list (w - 1) n) r b i
   sets list size none i lt is = elim (cases_eq i (w - 1)) [
     | inl e ↦
@@ -137,5 +140,6 @@ module _ (bs : BoundList) (falls : AreFalling bs) (steps : List ℕ) (r m b n w 
         (writes bs steps r m b begin list (set list (w - 1) n) (w - 1) n its_priority count none
         (get_or-set_same list (w - 1) n 0 (omega arith)) (subst (λ j. IsWritten bs steps list r (suc m) j) e is))
     | inr ne ↦
-        stays bs steps r m b begin list (set list (w - 1) n) i (get_or-set_other list (w - 1) i n 0 ne) (λ here. absurd (other i lt ne here)) is
+        stays bs steps r m b begin list (set list (w - 1) n) i (get_or-set_other list (w - 1) i n 0 ne)
+        (λ here. absurd (other i lt ne here)) is
   ]

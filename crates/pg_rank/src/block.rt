@@ -1,8 +1,8 @@
 //! Blocks of a ladder: runs of rows that agree in the components of priorities at least some priority.
 
-ghost use Rattle.std.specs.Prelude.{◌≡◌, ℕ, ◌<◌, ◌≤◌, length, slice_index};
+ghost use Rattle.std.specs.Prelude.{◌≡◌, ℕ, ◌+◌, ◌^◌, ◌<◌, ◌≤◌, length, slice_index};
 ghost use Rattle.pg_rank.specs.Mirrors.Blocks.{IsBlockFrom, IsBlockTo, IsHigh, IsLow, IsPast};
-ghost use Rattle.pg_rank.specs.Mirrors.Rungs.{IsBegin, IsEnd, AreBlocks};
+ghost use Rattle.pg_rank.specs.Mirrors.Rungs.{IsBegin, IsEnd, AreBegins, AreBlocks};
 
 /// The beginning of the block that ends with a rank: the rank itself where it is a step at a priority that is no less.
 pub(crate) fn block_begin(steps: &[u32], begins: &[u32], priority: u32, rank: usize) -> usize
@@ -81,8 +81,9 @@ pub(crate) fn high_of(
 }
 
 /// From which rank on ranks justify this one at a priority; where its row has components below the priority only top does.
-pub(crate) fn low_of(steps: &[u32], begins: &[u32], ends: &[u32], priority: u32, rank: u32) -> u32
-    requires { AreBlocks steps.now begins.now ends.now }
+pub(crate) fn low_of(steps: &[u32], begins: &[u32], priority: u32, rank: u32) -> u32
+    requires few { length steps.now + 2 < 2 ^ 32 }
+    requires begins { AreBegins steps.now begins.now }
     ensures { IsLow steps.now priority rank result }
 {
     let top = steps.len() as u32 + 1;

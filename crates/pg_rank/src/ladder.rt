@@ -80,7 +80,7 @@ impl Ladder {
 
     /// Whether a rank is that of a row: the ranks past the last row are top.
     #[inline(always)]
-    pub fn is_row(&self, rank: u32) -> bool
+    pub(crate) fn is_row(&self, rank: u32) -> bool
         ensures { IsTrue result ↔ (rank ≤ length self.now.steps) }
     {
         rank as usize <= self.steps.len()
@@ -91,7 +91,7 @@ impl Ladder {
     pub fn low_of(&self, priority: u32, rank: u32) -> u32
         ensures { IsJustifiedFrom self.now.bounds self.now.steps priority rank result }
     {
-        low_of(&self.steps, &self.begins, &self.ends, priority, rank)
+        low_of(&self.steps, &self.begins, priority, rank)
     }
 
     /// Below which rank the measure of this one covers those of others at a priority; none at top, which covers all. The hint may name

@@ -11,7 +11,8 @@ overflow_sub-at c =
     let within = c.requires.rank in
     let lt : m < length c.args.steps.now = omega arith in
     (some_width c.args.bounds.now c.pairs-pairs.ensures.bounds.falling c.args.steps.now c.args.rank m (slice_index_or c.args.begins.now m 0)
-    (slice_index_or c.args.counts.now m 0) c.width_from-at.result (c.requires.begins.are m lt) (c.requires.counts.are m lt) (c.requires.counts.bounded m lt)
+    (slice_index_or c.args.counts.now m 0) c.width_from-at.result (c.requires.begins.are m lt) (c.requires.counts.are m lt)
+    (c.requires.counts.bounded m lt)
     c.width_from-at.ensures.value).0
 
 pub loop-k-preserved : goal.loop-k-preserved
@@ -30,7 +31,8 @@ loop-k-preserved c =
     let begin = c.requires.begins.are m lt in
     let among = begin.among in
     let falls = c.pairs-pairs.ensures.bounds.falling in
-    let is = λ (i : ℕ) (l : i < length bs). subst (λ (j : ℕ). IsWritten bs steps c.loop-k.list c.args.rank j i) e (c.loop-k.invariant.each i l) in
+    let is = λ (i : ℕ) (l : i < length bs). subst (λ (j : ℕ). IsWritten bs steps c.loop-k.list c.args.rank j i) e
+    (c.loop-k.invariant.each i l) in
     let size = c.loop-k.invariant.size in
     let same = c.if-list-at-eq0.auto.list in
     record {
@@ -38,10 +40,12 @@ loop-k-preserved c =
       size = omega arith;
       each = λ i l. elim c.if-list-at-eq0.branch [
         | then-list-at-eq0 x ↦ subst (λ (xs : List ℕ). IsWritten bs steps xs c.args.rank b i) (sym x.list-is)
-            (sets bs falls steps c.args.rank m b n w begin (c.requires.counts.are m lt) (c.requires.counts.bounded m lt) c.width_from-at.ensures.value
+            (sets bs falls steps c.args.rank m b n w begin (c.requires.counts.are m lt)
+            (c.requires.counts.bounded m lt) c.width_from-at.ensures.value
             c.loop-k.list size x.if-list-at-eq0.true i l (is i l))
         | else-list-at-eq0 x ↦ subst (λ (xs : List ℕ). IsWritten bs steps xs c.args.rank b i) (sym x.list-is)
-            (passes bs falls steps c.args.rank m b n w begin (c.requires.counts.are m lt) (c.requires.counts.bounded m lt) c.width_from-at.ensures.value
+            (passes bs falls steps c.args.rank m b n w begin (c.requires.counts.are m lt)
+            (c.requires.counts.bounded m lt) c.width_from-at.ensures.value
             c.loop-k.list x.if-list-at-eq0.false i l (is i l))
       ];
     }

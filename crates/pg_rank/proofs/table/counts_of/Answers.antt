@@ -18,7 +18,8 @@ loop-k-preserved c =
     let old = c.loop-k.invariant in
     record {
       each = rw (c.in_ok-push.ensures.items, length-append) (let size = old.each in omega arith);
-      are = rw c.in_ok-push.ensures.items (pushed (λ n j. IsCount steps n j) c.loop-k.counts.items c.in-Some.count k old.each old.are c.in-Some.ensures.count);
+      are = rw c.in_ok-push.ensures.items
+          (pushed (λ n j. IsCount steps n j) c.loop-k.counts.items c.in-Some.count k old.each old.are c.in-Some.ensures.count);
       bounded = rw c.in_ok-push.ensures.items
           (pushed (λ n j. IsBounded c.args.bounds.now (step_at steps j) n) c.loop-k.counts.items c.in-Some.count k old.each old.bounded
           c.in-Some.ensures.bounded);

@@ -11,5 +11,6 @@ returns c =
     let rungs = c.self.invariant in
     let is = subst (λ (ss : List ℕ). IsLow ss c.args.priority c.args.rank c.low_of.result) c.deref.ensures.value c.low_of.ensures in
     subst (λ (x : LadderValue). IsJustifiedFrom x.bounds x.steps c.args.priority c.args.rank c.low_of.result) c.self.view_is
-    (low_justifies l.bounds l.steps.items rungs.are_bounds (is_ladder l.bounds l.steps.items l.counts.items rungs.are_bounds rungs.are_counts)
+    (low_justifies l.bounds l.steps.items rungs.are_bounds
+    (is_ladder l.bounds l.steps.items l.counts.items rungs.are_bounds rungs.are_counts)
     c.args.priority c.args.rank c.low_of.result is)

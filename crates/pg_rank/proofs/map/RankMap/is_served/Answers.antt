@@ -1,10 +1,8 @@
-use Rattle.std.proofs.Common.{◌≡◌, ◌∙◌, length, ap, sym, subst}
+use Rattle.std.proofs.Common.{subst}
 use Rattle.std.specs.Prelude.{IsTrue, ◌↔◌}
-use Rattle.std.proofs.lemmas.List.{length-map}
 use Rattle.pg_map.specs.Lines.{AreWithin}
 use Rattle.pg_map.specs.Maps.{MapValue, IsServed}
-use Rattle.pg_rank.specs.Ladders.{rank_measure}
-use Rattle.pg_rank.proofs.Ranking.{served}
+use Rattle.pg_rank.proofs.Ranking.{size_is, served}
 use Rattle.pg_rank.proofs.map.RankMap.is_served.Goals as goal
 
 pub returns : goal.returns
@@ -13,11 +11,11 @@ returns g c =
     let v = c.args.v in
     let m = c.self.inside in
     let ranks = m.ranks.items in
-    let size : length c.args.self.now.measures ≡ length ranks =
-    ap (λ (x : MapValue). length x.measures) (sym c.self.view_is) ∙ length-map ranks (rank_measure m.ladder.bounds m.ladder.steps) in
+    let size = size_is m.ladder.bounds m.ladder.steps ranks c.args.self.now c.self.view_is in
     let covers = (rw (c.deref.ensures.value, c.priority.ensures) at c.high_at-high.ensures) in
     let under = (rw c.deref-3.ensures.value at c.has_under.ensures) in
-    let here = served m.ladder.bounds lines m.ladder.steps ranks v c.high_at-high.result (subst (λ n. AreWithin n lines) size c.requires.within)
+    let here = served m.ladder.bounds lines m.ladder.steps ranks v c.high_at-high.result
+    (subst (λ n. AreWithin n lines) size c.requires.within)
     c.requires.held covers in
     subst (λ (x : MapValue). IsTrue c.has_under.result ↔ IsServed x.bounds lines x.measures v) c.self.view_is
     (λ t. here.0 (under.0 t), λ s. under.1 (here.1 s))

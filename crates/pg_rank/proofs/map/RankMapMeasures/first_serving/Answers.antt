@@ -1,18 +1,15 @@
-use Rattle.std.proofs.Common.{◌≡◌, ℕ, ◌∙◌, length, ap, sym, subst}
+use Rattle.std.proofs.Common.{ℕ, subst}
 use Rattle.std.specs.Prelude.{IfSome, IfNone, Contains}
-use Rattle.std.proofs.lemmas.List.{length-map}
 use Rattle.pg_map.specs.Lines.{AreWithin, line_at}
 use Rattle.pg_map.specs.Maps.{MapValue, IsServedBy, IsFirstServing}
-use Rattle.pg_rank.specs.Ladders.{rank_measure}
-use Rattle.pg_rank.proofs.Ranking.{first_serves, none_serves}
+use Rattle.pg_rank.proofs.Ranking.{size_is, first_serves, none_serves}
 use Rattle.pg_rank.proofs.map.RankMapMeasures.first_serving.Goals as goal
 
 pub returns-clause-first : goal.returns-clause-first
 returns-clause-first g c =
     let lines = g.G.Lines.line c.args.lines.now in
     let m = c.self.inside in
-    let size : length c.args.self.now.measures ≡ length m.ranks.items =
-    ap (λ (x : MapValue). length x.measures) (sym c.self.view_is) ∙ length-map m.ranks.items (rank_measure m.ladder.bounds m.ladder.steps) in
+    let size = size_is m.ladder.bounds m.ladder.steps m.ranks.items c.args.self.now c.self.view_is in
     let covers = (rw (c.deref.ensures.value, c.priority.ensures) at c.high_at-high.ensures) in
     let first = (rw (c.deref-3.ensures.value, c.successors.ensures) at c.first_under.ensures.first) in
     subst (λ (x : MapValue). IfSome c.first_under.result (IsFirstServing x.bounds lines x.measures c.args.v)) c.self.view_is
@@ -23,8 +20,7 @@ pub returns-clause-none : goal.returns-clause-none
 returns-clause-none g c =
     let lines = g.G.Lines.line c.args.lines.now in
     let m = c.self.inside in
-    let size : length c.args.self.now.measures ≡ length m.ranks.items =
-    ap (λ (x : MapValue). length x.measures) (sym c.self.view_is) ∙ length-map m.ranks.items (rank_measure m.ladder.bounds m.ladder.steps) in
+    let size = size_is m.ladder.bounds m.ladder.steps m.ranks.items c.args.self.now c.self.view_is in
     let covers = (rw (c.deref.ensures.value, c.priority.ensures) at c.high_at-high.ensures) in
     let none = (rw (c.deref-3.ensures.value, c.successors.ensures) at c.first_under.ensures.none) in
     subst (λ (x : MapValue). IfNone c.first_under.result

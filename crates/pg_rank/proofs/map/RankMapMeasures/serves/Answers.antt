@@ -1,10 +1,9 @@
-use Rattle.std.proofs.Common.{◌≡◌, ◌<◌, ◌∙◌, length, ap, arith, sym, subst}
+use Rattle.std.proofs.Common.{◌≡◌, ◌<◌, ◌∙◌, ap, arith, subst}
 use Rattle.std.specs.Prelude.{IsTrue, ◌↔◌}
-use Rattle.std.proofs.lemmas.List.{length-map, get_or_default}
+use Rattle.std.proofs.lemmas.List.{get_or_default}
 use Rattle.pg_map.specs.Maps.{MapValue, IsServedBy}
-use Rattle.pg_rank.specs.Ladders.{rank_measure}
 use Rattle.pg_rank.specs.Mirrors.Blocks.{rank_at, IsUnder}
-use Rattle.pg_rank.proofs.Ranking.{served_by}
+use Rattle.pg_rank.proofs.Ranking.{size_is, served_by}
 use Rattle.pg_rank.proofs.map.RankMapMeasures.serves.Goals as goal
 
 pub returns : goal.returns
@@ -14,11 +13,11 @@ returns g c =
     let w = c.args.w in
     let m = c.self.inside in
     let ranks = m.ranks.items in
-    let size : length c.args.self.now.measures ≡ length ranks =
-    ap (λ (x : MapValue). length x.measures) (sym c.self.view_is) ∙ length-map ranks (rank_measure m.ladder.bounds m.ladder.steps) in
+    let size = size_is m.ladder.bounds m.ladder.steps ranks c.args.self.now c.self.view_is in
     let covers = (rw (c.deref.ensures.value, c.priority.ensures) at c.high_at-high.ensures) in
     let at : c.index.result.now ≡ rank_at ranks w =
-    c.index.ensures ∙ get_or_default ranks c.w.inside.0 c.index.result.now 0 (let lt = subst (λ n. w < n) size c.requires.w in let e = c.w.view_is in omega arith)
+    c.index.ensures ∙ get_or_default ranks c.w.inside.0 c.index.result.now 0
+    (let lt = subst (λ n. w < n) size c.requires.w in let e = c.w.view_is in omega arith)
     ∙ ap (rank_at ranks) c.w.view_is in
     let under = subst (λ r. IsTrue c.is_under.result ↔ IsUnder c.high_at-high.result r) at c.is_under.ensures in
     let here = served_by m.ladder.bounds m.ladder.steps ranks lines v (subst (λ n. v < n) size c.requires.v) c.high_at-high.result covers w
