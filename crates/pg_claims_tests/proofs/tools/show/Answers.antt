@@ -8,4 +8,4 @@ pub certifies-requires-clause-known : goal.certifies-requires-clause-known
 certifies-requires-clause-known c =
     subst (λ (ks : List Bool). IsNeverAbove c.in-Some.map.bounds (game_line c.args.game.now) (known_map c.in-Some.map.bounds ks))
     (sym (c.deref.ensures.value ∙ c.in_ok-known.ensures.items_if_clones_equal (λ y same. same)))
-        (c.zeros_are_known.ensures c.in-Some.map.bounds (game_line c.args.game.now) c.len.result)
+    (c.zeros_are_known.ensures c.in-Some.map.bounds (game_line c.args.game.now) c.len.result)
