@@ -8,7 +8,7 @@ mod alone;
 #[cfg(test)]
 mod failing;
 #[cfg(test)]
-mod going_on;
+mod giving_up;
 #[cfg(test)]
 mod hostile;
 #[cfg(test)]

@@ -1,12 +1,8 @@
-//! The game, and calls that test what `solve` and `solve_from` answer.
-
-ghost use Rattle.std.specs.Prelude.{◌≡◌, length, IfOk};
-ghost use Rattle.pg_measure.specs.Games.{IsBoundsOf};
+//! The game, and calls that test what `solve` and `solve_within` answer.
 
 use pg_arena::{Game, GameBuilder, Player, Vertex};
-use pg_coord::{CoordFault, Link, Outcome, Solved, solve, solve_from};
-use pg_map::{MeasureMap, View};
-use pg_measure::Bounds;
+use pg_coord::{CoordFault, Link, Solved, solve, solve_within};
+use pg_map::View;
 use pg_worker::Cut;
 use std::alloc::Global;
 use std::test::Fail;
@@ -61,45 +57,27 @@ pub fn solves<L: Link>(
     solves_game(alloc, &game(alloc)?, links, budget)
 }
 
-/// The map of the game that has top at the first vertex, and zeros at the other.
-pub fn top_at_first(alloc: Global, game: &Game) -> Result<MeasureMap, Fail>
-    ensures bounds { IfOk result (λ m. IsBoundsOf game.now m.bounds) }
-    ensures size { IfOk result (λ m. length m.measures ≡ length game.now) }
-{
-    let bounds = Bounds::of(alloc, game)?;
-    let mut map = MeasureMap::zero(alloc, game.len() as u32, &bounds)?;
-    if map.len() > 0 {
-        map.raise(Vertex(0), View::Top);
-    }
-    Ok(map)
+/// How an attempt to solve the game within so many rounds ended.
+#[derive(Clone, Copy, Debug, PartialEq)]
+pub enum Ended {
+    /// So many rounds, restarts and links given up there were.
+    Solved(u64, u64, u64),
+    GivenUp,
+    /// The map isn't top at both vertices.
+    Wrong,
 }
 
-/// Solves the game over these links, from top at the first vertex on.
-pub fn solves_on<L: Link>(
-    alloc: Global,
-    links: &mut [L],
-    most_rounds: u64,
-) -> Result<Outcome, Fail> {
+/// Solves the game over these links, in so many rounds in which measures rise.
+pub fn solves_within<L: Link>(alloc: Global, links: &mut [L], limit: u64) -> Result<Ended, Fail> {
     let game = game(alloc)?;
     let cut = Cut::even(alloc, 2, u32::try_from(links.len())?)?;
-    let from = top_at_first(alloc, &game)?;
-    Ok(solve_from(alloc, &game, links, &cut, 4096, from, most_rounds)?)
-}
-
-/// How many rounds, restarts and links given up there were, where the map is closed and top at both vertices.
-pub fn closes(outcome: &Outcome) -> Option<(u64, u64, u64)> {
-    match outcome {
-        Outcome::Closed(solved) => counts(solved),
-        Outcome::Stopped(_) => None,
-    }
-}
-
-/// Whether rounds were given up, and left top at the first vertex.
-pub fn stops(outcome: &Outcome) -> bool {
-    match outcome {
-        Outcome::Closed(_) => false,
-        Outcome::Stopped(map) => map.len() == 2 && map.get(Vertex(0)) == View::Top,
-    }
+    let Some(solved) = solve_within(alloc, &game, links, &cut, 4096, limit)? else {
+        return Ok(Ended::GivenUp);
+    };
+    Ok(match counts(&solved) {
+        Some((rounds, restarts, abandoned)) => Ended::Solved(rounds, restarts, abandoned),
+        None => Ended::Wrong,
+    })
 }
 
 /// Whether a cut of so many vertices among so many workers is refused.
