@@ -1,7 +1,7 @@
 //! Claims that are asked for, level by level. The level of a claim is the priority of its row's last component above 0.
 
-use crate::rows::ZEROS;
 use crate::numbers::{at, count, put};
+use crate::rows::ZEROS;
 use crate::side::Side;
 use std::alloc::{AllocError, Global};
 

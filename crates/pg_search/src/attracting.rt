@@ -11,18 +11,15 @@ struct Attracting<'m> {
     is_settled: &'m mut [bool],
     /// How many successors of each vertex of the winner have to be claimed before it.
     left: Vec<u32>,
-    order: Vec<RowClaim>,
+    /// The vertices whose rows are claimed, in order.
+    order: Vec<u32>,
 }
 
 impl Attracting<'_> {
     /// Claims the row of a vertex.
-    fn claim(&mut self, v: u32, row: u32) -> Result<(), AllocError> {
+    fn claim(&mut self, v: u32) -> Result<(), AllocError> {
         mark(self.is_settled, v, true);
-        self.order.push(RowClaim {
-            vertex: v,
-            row,
-            span: 0,
-        })?;
+        self.order.push(v)?;
         Ok(())
     }
 
@@ -35,7 +32,7 @@ impl Attracting<'_> {
         }
         mark(self.is_settled, v, false);
         if side.rows.low(state.row, state.priority()) == ZEROS {
-            self.claim(v, state.row)?;
+            self.claim(v)?;
         } else if state.is_mine() {
             let successors = graph.successors(v);
             side.look(successors.len());
@@ -46,9 +43,10 @@ impl Attracting<'_> {
     }
 
     /// Claims rows that need no more than an earlier claim and those before it.
-    fn go_back(&mut self, side: &mut Side, claim: RowClaim) -> Result<(), AllocError> {
+    fn go_back(&mut self, side: &mut Side, w: u32) -> Result<(), AllocError> {
         let graph = side.graph;
-        let predecessors = graph.predecessors(claim.vertex);
+        let row = side.row(w);
+        let predecessors = graph.predecessors(w);
         side.look(predecessors.len());
         for v in predecessors {
             if is_marked(self.is_settled, *v) {
@@ -61,10 +59,13 @@ impl Attracting<'_> {
                 if left > 0 {
                     continue;
                 }
-            } else if side.rows.is_under(claim.row, side.rows.low(state.row, state.priority())) {
+            } else if side
+                .rows
+                .is_under(row, side.rows.low(state.row, state.priority()))
+            {
                 continue;
             }
-            self.claim(*v, state.row)?;
+            self.claim(*v)?;
         }
         Ok(())
     }
@@ -87,12 +88,20 @@ impl Side<'_> {
             attracting.begin(self, *v)?;
         }
         for place in 0..usize::MAX {
-            let Some(claim) = attracting.order.get(place).copied() else {
+            let Some(w) = attracting.order.get(place).copied() else {
                 break;
             };
-            attracting.go_back(self, claim)?;
+            self.look_ahead(&attracting.order, place);
+            attracting.go_back(self, w)?;
         }
-        let Attracting { order, .. } = attracting;
-        Ok(order)
+        let mut claims = Vec::with_capacity(alloc, attracting.order.len())?;
+        for v in &attracting.order {
+            claims.push(RowClaim {
+                vertex: *v,
+                row: self.row(*v),
+                span: 0,
+            })?;
+        }
+        Ok(claims)
     }
 }

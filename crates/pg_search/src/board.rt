@@ -76,7 +76,8 @@ impl Board {
     /// Begins the edges of the next node.
     pub fn begin(&mut self, priority: u32, is_mine: bool) -> Result<(), AllocError> {
         self.priorities.push(priority)?;
-        self.owners.push(if is_mine { Player::Even } else { Player::Odd })?;
+        self.owners
+            .push(if is_mine { Player::Even } else { Player::Odd })?;
         self.offsets.push(count(self.targets.len()))?;
         Ok(())
     }

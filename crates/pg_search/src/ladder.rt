@@ -78,7 +78,11 @@ impl Ladder {
     /// The rows that go on from a row.
     fn children(&self, row: u32) -> &[u32] {
         let from = at(&self.starts, row);
-        between(&self.children, from, at(&self.starts, row.saturating_add(1)))
+        between(
+            &self.children,
+            from,
+            at(&self.starts, row.saturating_add(1)),
+        )
     }
 
     /// Ranks the rows: each before those that go on from it.

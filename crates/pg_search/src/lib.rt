@@ -12,6 +12,7 @@ mod ladder;
 mod lifting;
 mod lowering;
 mod numbers;
+mod one_parity;
 mod proposal;
 mod row_claim;
 mod rows;

@@ -100,7 +100,8 @@ impl Side<'_> {
         next: &mut Vec<u32>,
         most: u64,
     ) -> Result<bool, AllocError> {
-        for w in waiting {
+        for (place, w) in waiting.iter().enumerate() {
+            self.look_ahead(waiting, place);
             self.waits_no_more(*w);
             self.lift_predecessors(*w, next)?;
             if self.looks > most {

@@ -22,7 +22,8 @@ impl Side<'_> {
             if waiting.is_empty() || self.is_late() {
                 break;
             }
-            for v in waiting.iter() {
+            for (place, v) in waiting.iter().enumerate() {
+                self.look_ahead(waiting, place);
                 self.waits_no_more(*v);
                 self.lower_predecessors(*v, &mut next)?;
             }

@@ -2,6 +2,7 @@
 
 use crate::ladder::Ladder;
 use crate::numbers::{NONE, add_one, add_up, at, count, put};
+use crate::one_parity::{propose_at_once, propose_zeros};
 use crate::row_claim::RowClaim;
 use crate::rows::TOP;
 use crate::side::Side;
@@ -29,11 +30,15 @@ pub struct Proposals {
 }
 
 /// How often each vertex and edge may be looked at, and how often those of few.
-const LOOKS: u64 = 256;
+const LOOKS: u64 = 64;
+
 const LOOKS_OF_FEW: u64 = 1 << 20;
 
 /// The map of a game alone: claims show top as well. None where the search gives up.
 pub fn propose_measure(alloc: Global, game: &Game) -> Result<Option<Proposal>, AllocError> {
+    if let Some(zeros) = propose_zeros(alloc, game)? {
+        return Ok(Some(zeros));
+    }
     let graph = Graph::of(alloc, game)?;
     let winners = find_winners(alloc, &graph)?;
     if !winners.is_ordered {
@@ -44,6 +49,9 @@ pub fn propose_measure(alloc: Global, game: &Game) -> Result<Option<Proposal>, A
 
 /// The maps of a game and of its dual. Top isn't claimed: it is known from the other map. None where the search gives up.
 pub fn propose(alloc: Global, game: &Game) -> Result<Option<Proposals>, AllocError> {
+    if let Some(known) = propose_at_once(alloc, game)? {
+        return Ok(Some(known));
+    }
     let graph = Graph::of(alloc, game)?;
     let winners = find_winners(alloc, &graph)?;
     if !winners.is_ordered {

@@ -28,7 +28,12 @@ struct Open {
 }
 
 /// Whether components of the winner's strategy lie deep within components: spans of lesser priorities within spans.
-fn is_deep(alloc: Global, side: &Side, winners: &Winners, vertices: &[u32]) -> Result<bool, AllocError> {
+fn is_deep(
+    alloc: Global,
+    side: &Side,
+    winners: &Winners,
+    vertices: &[u32],
+) -> Result<bool, AllocError> {
     let mut open: Vec<Open> = Vec::new(alloc);
     let mut depth = 0usize;
     for (place, v) in vertices.iter().enumerate() {

@@ -53,7 +53,10 @@ impl Side<'_> {
         let graph = self.graph;
         let successors = graph.successors(v);
         self.look(successors.len());
-        let many = successors.iter().filter(|w| self.is_served_by(v, **w)).count();
+        let many = successors
+            .iter()
+            .filter(|w| self.is_served_by(v, **w))
+            .count();
         if self.state(v).is_mine() {
             count(many)
         } else {
@@ -93,7 +96,9 @@ impl Side<'_> {
     /// Lets a vertex be served by a successor that is final.
     fn serve_inside(&mut self, v: u32, places: &[u32]) {
         let graph = self.graph;
-        let is_fine = |w: &u32| self.row(*w) != TOP && at(places, *w) == NONE && self.is_served_by(v, *w);
+        let is_fine = |w: &u32| self.row(*w) != TOP
+            && at(places, *w) == NONE
+            && self.is_served_by(v, *w);
         if !is_fine(&self.state(v).to) {
             let to = graph.successors(v).iter().copied().find(is_fine);
             self.set_to(v, to.unwrap_or(NONE));

@@ -18,6 +18,7 @@ pub(crate) struct State {
 }
 
 const WAITS: u32 = 2;
+
 const MINE: u32 = 1;
 
 impl State {
@@ -50,6 +51,8 @@ pub(crate) struct Side<'a> {
     /// How many vertices and edges were looked at, and how many may be.
     pub looks: u64,
     pub most: u64,
+    /// What `look_ahead` saw last, which nobody asks for.
+    seen: u32,
 }
 
 impl<'a> Side<'a> {
@@ -79,6 +82,7 @@ impl<'a> Side<'a> {
             player: number,
             looks: 0,
             most,
+            seen: 0,
         })
     }
 
@@ -138,6 +142,25 @@ impl<'a> Side<'a> {
     #[inline(always)]
     pub fn look(&mut self, many: usize) {
         self.looks = self.looks.wrapping_add(many as u64);
+    }
+
+    /// Reads what will be wanted soon when the predecessors of a list are looked at, so that it isn't waited for then.
+    #[inline(always)]
+    pub fn look_ahead(&mut self, list: &[u32], place: usize) {
+        let graph = self.graph;
+        let mut seen = 0;
+        if let Some(w) = list.get(place.wrapping_add(12)) {
+            seen ^= count(graph.predecessors(*w).len());
+        }
+        if let Some(w) = list.get(place.wrapping_add(8)) {
+            seen ^= graph.predecessors(*w).first().copied().unwrap_or(0);
+        }
+        if let Some(w) = list.get(place.wrapping_add(4)) {
+            for v in graph.predecessors(*w).iter().take(4) {
+                seen ^= self.row(*v);
+            }
+        }
+        self.seen ^= seen;
     }
 
     /// Whether more was looked at than may be.

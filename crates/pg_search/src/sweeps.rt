@@ -5,6 +5,9 @@ use crate::rows::ZEROS;
 use crate::side::Side;
 use std::alloc::{AllocError, Global};
 
+/// How often sweeps may look at each vertex and edge.
+const LOOKS: u64 = 8;
+
 /// The places that are to be looked at, a bit for each.
 #[derive(Drop)]
 struct Places {
@@ -42,13 +45,14 @@ impl Places {
             return NONE;
         }
         self.words[word as usize] = bits & bits.wrapping_sub(1);
-        word.saturating_mul(64).saturating_add(bits.trailing_zeros())
+        word.saturating_mul(64)
+            .saturating_add(bits.trailing_zeros())
     }
 }
 
 impl Side<'_> {
     /// The rows of some vertices under the winner's strategy, from rows that are at most those; false where that takes more than two lifts
-    /// for each vertex. The places are those in the list.
+    /// for each vertex, or too many looks. The places are those in the list.
     pub fn sweep(
         &mut self,
         alloc: Global,
@@ -58,6 +62,8 @@ impl Side<'_> {
         let mut open = Places::all(alloc, vertices.len())?;
         let words = count(open.words.len());
         let mut lifts = vertices.len().saturating_mul(2);
+        let size = u64::from(self.graph.edges()).saturating_add(u64::from(self.len()));
+        let most = self.looks.saturating_add(size.saturating_mul(LOOKS));
         let mut first = 0;
         for _ in 0..u64::MAX {
             let mut again = words;
@@ -71,7 +77,7 @@ impl Side<'_> {
                     if !self.lift_by_strategy(v)? {
                         continue;
                     }
-                    if lifts == 0 {
+                    if lifts == 0 || self.looks > most {
                         return Ok(false);
                     }
                     lifts -= 1;

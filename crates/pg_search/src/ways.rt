@@ -147,6 +147,9 @@ impl Ways {
             let Some(v) = self.fore.get(place).copied() else {
                 return Ok(false);
             };
+            if side.is_late() {
+                return Ok(false);
+            }
             self.go_on(side, places, v)?;
             if self.met.is_none() {
                 self.go_back(side, places)?;
