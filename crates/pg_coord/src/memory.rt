@@ -11,8 +11,8 @@ ghost use Rattle.pg_parts.specs.Links.{IsUnderAfter, CountsFailure};
 ghost use Rattle.pg_coord.specs.Memory.{started_link, still_waiting, Reports, Sends, SendsNoFrame, Empties, BreaksOff, IsAboveLink};
 ghost use Rattle.pg_links.specs.Counting.{count_after};
 
-use pg_parts::{Link, LinkFault};
 use crate::waiting::{first_len, put_fault};
+use pg_parts::{Link, LinkFault};
 use pg_wire::{Frame, WireFault, decode};
 use pg_worker::{Session, WorkerFault};
 use std::alloc::Global;

@@ -1,7 +1,7 @@
 //! Ways from the heads of a part to its greatest way out, and the claims along them.
 
 use crate::greatest::Way;
-use crate::numbers::{NONE, at, put};
+use crate::numbers::{NONE, at};
 use crate::row_claim::RowClaim;
 use crate::rows::ZEROS;
 use crate::side::Side;
@@ -15,33 +15,48 @@ pub(crate) struct Part {
     pub end: u32,
 }
 
+/// How a vertex was found.
+#[derive(Clone, Copy)]
+struct Found {
+    /// The part in which it was last found from behind, and where the way out goes on from it.
+    part: u32,
+    next: u32,
+    /// The turn in which it was last found from before, and the vertex from which.
+    turn: u32,
+    before: u32,
+    /// The row of it that was last claimed.
+    row: u32,
+}
+
+impl Found {
+    const NOT: Found = Found {
+        part: NONE,
+        next: NONE,
+        turn: 0,
+        before: NONE,
+        row: ZEROS,
+    };
+}
+
 /// A search from both ends: on from a head, and back from the way out.
 #[derive(Drop)]
 pub(crate) struct Ways {
     part: Part,
     out: Way,
-    /// The part in which a vertex was last found from behind, and where the way out goes on from it.
-    backs: Vec<u32>,
-    nexts: Vec<u32>,
-    /// The turn in which a vertex was last found from before, and the vertex from which.
-    fores: Vec<u32>,
-    befores: Vec<u32>,
+    found: Vec<Found>,
     turn: u32,
+    fore: Vec<u32>,
     back: Vec<u32>,
     /// How many of those that were found from behind were looked at.
     looked: usize,
-    fore: Vec<u32>,
     /// An edge at which both searches met.
     met: Option<(u32, u32)>,
     way: Vec<u32>,
-    /// The row that was last claimed of each vertex.
-    lasts: Vec<u32>,
     claims: Vec<RowClaim>,
 }
 
 impl Ways {
     pub fn new(alloc: Global, vertices: u32) -> Result<Ways, AllocError> {
-        let all = vertices as usize;
         Ok(Ways {
             part: Part {
                 begin: 0,
@@ -53,19 +68,31 @@ impl Ways {
                 from: NONE,
                 to: NONE,
             },
-            backs: vec![in alloc; NONE; all]?,
-            nexts: vec![in alloc; NONE; all]?,
-            fores: vec![in alloc; 0; all]?,
-            befores: vec![in alloc; NONE; all]?,
+            found: vec![in alloc; Found::NOT; vertices as usize]?,
             turn: 0,
+            fore: Vec::new(alloc),
             back: Vec::new(alloc),
             looked: 0,
-            fore: Vec::new(alloc),
             met: None,
             way: Vec::new(alloc),
-            lasts: vec![in alloc; ZEROS; all]?,
             claims: Vec::new(alloc),
         })
+    }
+
+    #[inline(always)]
+    fn found(&self, v: u32) -> Found {
+        if (v as usize) < self.found.len() {
+            self.found[v as usize]
+        } else {
+            Found::NOT
+        }
+    }
+
+    #[inline(always)]
+    fn set(&mut self, v: u32, found: Found) {
+        if (v as usize) < self.found.len() {
+            self.found[v as usize] = found;
+        }
     }
 
     /// The claims in their order.
@@ -76,10 +103,11 @@ impl Ways {
 
     /// Claims a row, if that wasn't done.
     pub fn claim(&mut self, v: u32, row: u32) -> Result<(), AllocError> {
-        if row == ZEROS || at(&self.lasts, v) == row {
+        let found = self.found(v);
+        if row == ZEROS || found.row == row {
             return Ok(());
         }
-        put(&mut self.lasts, v, row);
+        self.set(v, Found { row, ..found });
         self.claims.push(RowClaim {
             vertex: v,
             row,
@@ -99,14 +127,18 @@ impl Ways {
 
     /// Notes that the way out is known from a vertex.
     fn find_back(&mut self, v: u32, next: u32) -> Result<(), AllocError> {
-        put(&mut self.backs, v, self.part.begin);
-        put(&mut self.nexts, v, next);
+        let found = Found {
+            part: self.part.begin,
+            next,
+            ..self.found(v)
+        };
+        self.set(v, found);
         self.back.push(v)?;
         Ok(())
     }
 
     fn is_back(&self, v: u32) -> bool {
-        at(&self.backs, v) == self.part.begin
+        self.found(v).part == self.part.begin
     }
 
     fn is_inside(&self, places: &[u32], v: u32) -> bool {
@@ -122,11 +154,12 @@ impl Ways {
         self.way.clear();
         let mut v = head;
         for _ in 0..u64::MAX {
-            if v == self.out.to || at(&self.lasts, v) == self.out.row || v == NONE {
+            let found = self.found(v);
+            if v == self.out.to || found.row == self.out.row || v == NONE {
                 break;
             }
             self.way.push(v)?;
-            v = at(&self.nexts, v);
+            v = found.next;
         }
         for _ in 0..u64::MAX {
             let Some(v) = self.way.pop() else {
@@ -163,8 +196,12 @@ impl Ways {
     }
 
     fn find_fore(&mut self, v: u32, before: u32) -> Result<(), AllocError> {
-        put(&mut self.fores, v, self.turn);
-        put(&mut self.befores, v, before);
+        let found = Found {
+            turn: self.turn,
+            before,
+            ..self.found(v)
+        };
+        self.set(v, found);
         self.fore.push(v)?;
         Ok(())
     }
@@ -179,11 +216,12 @@ impl Ways {
             if state.is_mine() && state.to != *w {
                 continue;
             }
-            if self.is_back(*w) {
+            let found = self.found(*w);
+            if found.part == self.part.begin {
                 self.met = Some((v, *w));
                 break;
             }
-            if at(&self.fores, *w) != self.turn && self.is_inside(places, *w) {
+            if found.turn != self.turn && self.is_inside(places, *w) {
                 self.find_fore(*w, v)?;
             }
         }
@@ -201,12 +239,16 @@ impl Ways {
         side.look(predecessors.len());
         for v in predecessors {
             let state = side.state(*v);
-            if self.is_back(*v) || !self.is_inside(places, *v) || state.is_mine() && state.to != w {
+            let found = self.found(*v);
+            if found.part == self.part.begin || !self.is_inside(places, *v) {
+                continue;
+            }
+            if state.is_mine() && state.to != w {
                 continue;
             }
             self.find_back(*v, w)?;
-            if at(&self.fores, *v) == self.turn {
-                self.met = Some((at(&self.befores, *v), *v));
+            if found.turn == self.turn {
+                self.met = Some((found.before, *v));
                 break;
             }
         }
@@ -223,7 +265,7 @@ impl Ways {
             }
             self.find_back(v, next)?;
             next = v;
-            v = at(&self.befores, v);
+            v = self.found(v).before;
         }
         Ok(())
     }

@@ -38,7 +38,10 @@ fn odd_goes_elsewhere_when_it_comes_back(rt: HostRuntime) -> Result<(), Fail> {
 #[test]
 fn top_and_zeros(rt: HostRuntime) -> Result<(), Fail> {
     let alloc = rt.alloc();
-    let game = game(alloc, &[(1, Even, &[0]), (2, Odd, &[1]), (0, Even, &[0, 1])])?;
+    let game = game(
+        alloc,
+        &[(1, Even, &[0]), (2, Odd, &[1]), (0, Even, &[0, 1])],
+    )?;
     let found = alone(alloc, &game)?;
     assert!(rt; found.steps.is_empty());
     assert!(rt; found.ranks.as_slice() == [1, 0, 0].as_slice());

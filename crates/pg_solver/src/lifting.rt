@@ -11,9 +11,7 @@ ghost use Rattle.pg_lift.specs.Mirrors.Predecessors.{ArePredecessorsOf};
 ghost use Rattle.pg_lift.specs.Mirrors.Zeros.{IsAtZero};
 ghost use Rattle.pg_solver.specs.Mirrors.Raised.{IsRaised};
 
-use pg_lift::{
-    Notes, Predecessors, count_edges, examine_all, lift_ready, next_ready, note_all,
-};
+use pg_lift::{Notes, Predecessors, count_edges, examine_all, lift_ready, next_ready, note_all};
 use pg_map::{Lines, MeasureMap};
 use std::alloc::{AllocError, Global};
 

@@ -69,7 +69,14 @@ fn one_lift_closes_the_map(rt: HostRuntime) -> Result<(), Fail> {
     assert!(rt; are(rt.alloc(), &map, View::List(&[1]), View::List(&[0]))?);
     let maps = solve(rt.alloc(), &game)?;
     assert!(rt; is_certified(&maps.of_game) && is_certified(&maps.of_dual));
-    assert!(rt; are(rt.alloc(), &maps.of_game, View::List(&[1]), View::List(&[0]))?);
+    assert!(rt;
+        are(
+            rt.alloc(),
+            &maps.of_game,
+            View::List(&[1]),
+            View::List(&[0])
+        )?
+    );
     assert!(rt; are(rt.alloc(), &maps.of_dual, View::Top, View::Top)?);
     Ok(())
 }
@@ -105,7 +112,14 @@ fn without_a_proposal_games_are_lifted(rt: HostRuntime) -> Result<(), Fail> {
     assert!(rt; are(rt.alloc(), &map, View::List(&[1]), View::List(&[0]))?);
     let maps = solve_by(rt.alloc(), &game, None)?;
     assert!(rt; !is_certified(&maps.of_game) && !is_certified(&maps.of_dual));
-    assert!(rt; are(rt.alloc(), &maps.of_game, View::List(&[1]), View::List(&[0]))?);
+    assert!(rt;
+        are(
+            rt.alloc(),
+            &maps.of_game,
+            View::List(&[1]),
+            View::List(&[0])
+        )?
+    );
     assert!(rt; are(rt.alloc(), &maps.of_dual, View::Top, View::Top)?);
     Ok(())
 }
@@ -141,6 +155,13 @@ fn claims_that_are_left_out_are_missed(rt: HostRuntime) -> Result<(), Fail> {
     }
     let maps = solve_by(rt.alloc(), &game, proposals)?;
     assert!(rt; !is_certified(&maps.of_game) && !is_certified(&maps.of_dual));
-    assert!(rt; are(rt.alloc(), &maps.of_game, View::List(&[1]), View::List(&[0]))?);
+    assert!(rt;
+        are(
+            rt.alloc(),
+            &maps.of_game,
+            View::List(&[1]),
+            View::List(&[0])
+        )?
+    );
     Ok(())
 }
