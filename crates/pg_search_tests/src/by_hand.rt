@@ -1,13 +1,18 @@
 //! Games of which the measures were worked out by hand.
 
+ghost use Rattle.std.specs.Prelude.{IfOk};
+ghost use Rattle.pg_arena.specs.Games.{HasPrioritiesUpTo};
+
 use crate::tools::{alone, are_both_shown, game};
 use pg_arena::Player::{Even, Odd};
-use pg_arena::{ArenaFault, Game};
+use pg_arena::{ArenaFault, Game, MAX_PRIORITY};
 use std::alloc::Global;
 use std::test::Fail;
 
 /// Odd's vertex 0 goes to 1 first and comes back over 2, and then goes to 3.
-fn twice(alloc: Global) -> Result<Game, ArenaFault> {
+fn twice(alloc: Global) -> Result<Game, ArenaFault>
+    ensures { IfOk result (HasPrioritiesUpTo MAX_PRIORITY) }
+{
     game(
         alloc,
         &[

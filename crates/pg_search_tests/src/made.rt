@@ -1,7 +1,10 @@
 //! Games that are made by the dozen.
 
+ghost use Rattle.std.specs.Prelude.{IfOk};
+ghost use Rattle.pg_arena.specs.Games.{HasPrioritiesUpTo};
+
 use crate::tools::are_both_shown;
-use pg_arena::{Game, GameBuilder, Player};
+use pg_arena::{Game, GameBuilder, MAX_PRIORITY, Player};
 use std::alloc::Global;
 use std::test::Fail;
 
@@ -19,7 +22,9 @@ impl Dice {
 }
 
 /// A game of some vertices and priorities, each vertex with up to `degree` successors.
-fn random(alloc: Global, seed: u64, all: u32, priorities: u32, degree: u32) -> Result<Game, Fail> {
+fn random(alloc: Global, seed: u64, all: u32, priorities: u32, degree: u32) -> Result<Game, Fail>
+    ensures { IfOk result (HasPrioritiesUpTo MAX_PRIORITY) }
+{
     let mut dice = Dice(seed);
     let mut builder = GameBuilder::new(alloc);
     for v in 0..all.min(1000) {
@@ -71,7 +76,9 @@ fn games_of_few_priorities(rt: HostRuntime) -> Result<(), Fail> {
 }
 
 /// Vertices of Odd, each of a priority of its own: a step up from each, and two down from those of even priority.
-fn stairs(alloc: Global, all: u32) -> Result<Game, Fail> {
+fn stairs(alloc: Global, all: u32) -> Result<Game, Fail>
+    ensures { IfOk result (HasPrioritiesUpTo MAX_PRIORITY) }
+{
     let mut builder = GameBuilder::new(alloc);
     let all = all.clamp(2, 1000);
     for v in 0..all {
