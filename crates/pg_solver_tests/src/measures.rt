@@ -5,7 +5,7 @@
 
 use pg_arena::{Game, GameBuilder, Player, Vertex};
 use pg_map::{Measures, View};
-use pg_search::{Proposal, propose, propose_measure};
+use pg_search::{Proposal, Proposals, propose, propose_measure};
 use pg_solver::{Found, measure, measure_by, solve, solve_by};
 use std::alloc::Global;
 use std::test::Fail;
@@ -35,132 +35,164 @@ fn two_ways(alloc: Global) -> Result<Game, Fail> {
     Ok(builder.finish()?)
 }
 
+/// Whether a map was proposed, and its claims showed that it is the least progress measure.
+fn is_certified(map: &Found) -> bool {
+    matches!(map, Found::Ranks(_))
+}
+
 /// Whether a map has this measure at a vertex.
 fn has(alloc: Global, map: &Found, v: u32, measure: View) -> Result<bool, Fail> {
     let mut room = vec![in alloc; 0; map.bounds().pairs().len()]?;
     Ok(v < map.len() && map.row(Vertex(v), &mut room) == measure)
 }
 
-/// Whether a map has these measures at two vertices.
-fn are(alloc: Global, map: &Found, first: View, second: View) -> Result<bool, Fail> {
-    Ok(map.len() == 2 && has(alloc, map, 0, first)? && has(alloc, map, 1, second)?)
-}
-
-/// Whether a map of twenty vertices has this measure everywhere.
-fn is_everywhere(alloc: Global, map: &Found, measure: View) -> Result<bool, Fail> {
-    for v in 0..20 {
-        if !has(alloc, map, v, measure)? {
+/// Whether a map has these measures, one for each vertex.
+fn has_all(alloc: Global, map: &Found, measures: &[View]) -> Result<bool, Fail> {
+    let mut v = 0u32;
+    for measure in measures {
+        if !has(alloc, map, v, *measure)? {
             return Ok(false);
         }
+        v = v.saturating_add(1);
     }
-    Ok(map.len() == 20)
+    Ok(v == map.len())
 }
 
-/// Whether a map was proposed, and its claims showed that it is the least progress measure.
-fn is_certified(map: &Found) -> bool {
-    matches!(map, Found::Ranks(_))
+/// Whether a game has these measures, and they are certified.
+fn is_measured(alloc: Global, game: &Game, measures: &[View]) -> Result<bool, Fail> {
+    let map = measure(alloc, game)?;
+    Ok(is_certified(&map) && has_all(alloc, &map, measures)?)
+}
+
+/// Whether a game and its dual have these measures, and they are certified.
+fn is_solved(alloc: Global, game: &Game, of_game: &[View], of_dual: &[View]) -> Result<bool, Fail> {
+    let maps = solve(alloc, game)?;
+    Ok(
+        is_certified(&maps.of_game)
+            && is_certified(&maps.of_dual)
+            && has_all(alloc, &maps.of_game, of_game)?
+            && has_all(alloc, &maps.of_dual, of_dual)?,
+    )
+}
+
+/// Whether a game has these measures, and this proposal is refused.
+fn is_lifted(
+    alloc: Global,
+    game: &Game,
+    proposal: Option<Proposal>,
+    measures: &[View],
+) -> Result<bool, Fail> {
+    let map = measure_by(alloc, game, proposal)?;
+    Ok(!is_certified(&map) && has_all(alloc, &map, measures)?)
+}
+
+/// Whether a game and its dual have these measures, and these proposals are refused.
+fn are_lifted(
+    alloc: Global,
+    game: &Game,
+    proposals: Option<Proposals>,
+    of_game: &[View],
+    of_dual: &[View],
+) -> Result<bool, Fail> {
+    let maps = solve_by(alloc, game, proposals)?;
+    Ok(
+        !is_certified(&maps.of_game)
+            && !is_certified(&maps.of_dual)
+            && has_all(alloc, &maps.of_game, of_game)?
+            && has_all(alloc, &maps.of_dual, of_dual)?,
+    )
 }
 
 #[test]
 fn one_lift_closes_the_map(rt: HostRuntime) -> Result<(), Fail> {
     let game = two(rt.alloc())?;
-    let map = measure(rt.alloc(), &game)?;
-    assert!(rt; is_certified(&map));
-    assert!(rt; are(rt.alloc(), &map, View::List(&[1]), View::List(&[0]))?);
-    let maps = solve(rt.alloc(), &game)?;
-    assert!(rt; is_certified(&maps.of_game) && is_certified(&maps.of_dual));
-    assert!(rt;
-        are(
-            rt.alloc(),
-            &maps.of_game,
-            View::List(&[1]),
-            View::List(&[0])
-        )?
-    );
-    assert!(rt; are(rt.alloc(), &maps.of_dual, View::Top, View::Top)?);
+    let measures = [View::List(&[1]), View::List(&[0])];
+    assert!(rt; is_measured(rt.alloc(), &game, &measures)?);
+    assert!(rt; is_solved(rt.alloc(), &game, &measures, &[View::Top, View::Top])?);
     Ok(())
 }
 
 #[test]
 fn loops_of_odd_priority_are_top(rt: HostRuntime) -> Result<(), Fail> {
     let game = loops(rt.alloc())?;
-    let map = measure(rt.alloc(), &game)?;
-    assert!(rt; is_certified(&map));
-    assert!(rt; is_everywhere(rt.alloc(), &map, View::Top)?);
-    let maps = solve(rt.alloc(), &game)?;
-    assert!(rt; is_certified(&maps.of_game) && is_certified(&maps.of_dual));
-    assert!(rt; is_everywhere(rt.alloc(), &maps.of_game, View::Top)?);
-    assert!(rt; is_everywhere(rt.alloc(), &maps.of_dual, View::List(&[]))?);
+    let tops = [View::Top; 20];
+    assert!(rt; is_measured(rt.alloc(), &game, &tops)?);
+    assert!(rt; is_solved(rt.alloc(), &game, &tops, &[View::List(&[]); 20])?);
     Ok(())
 }
 
 #[test]
 fn odd_goes_on_in_two_ways(rt: HostRuntime) -> Result<(), Fail> {
     let game = two_ways(rt.alloc())?;
-    let map = measure(rt.alloc(), &game)?;
-    assert!(rt; is_certified(&map));
-    assert!(rt; has(rt.alloc(), &map, 0, View::List(&[1, 1, 1]))?);
-    assert!(rt; has(rt.alloc(), &map, 2, View::List(&[1, 0, 0]))?);
+    let measures = [
+        View::List(&[1, 1, 1]),
+        View::List(&[1, 1, 0]),
+        View::List(&[1, 0, 0]),
+        View::List(&[1, 0, 0]),
+        View::List(&[0, 0, 0]),
+    ];
+    assert!(rt; is_measured(rt.alloc(), &game, &measures)?);
     Ok(())
 }
 
 #[test]
 fn without_a_proposal_games_are_lifted(rt: HostRuntime) -> Result<(), Fail> {
     let game = two(rt.alloc())?;
-    let map = measure_by(rt.alloc(), &game, None)?;
-    assert!(rt; !is_certified(&map));
-    assert!(rt; are(rt.alloc(), &map, View::List(&[1]), View::List(&[0]))?);
-    let maps = solve_by(rt.alloc(), &game, None)?;
-    assert!(rt; !is_certified(&maps.of_game) && !is_certified(&maps.of_dual));
-    assert!(rt;
-        are(
-            rt.alloc(),
-            &maps.of_game,
-            View::List(&[1]),
-            View::List(&[0])
-        )?
-    );
-    assert!(rt; are(rt.alloc(), &maps.of_dual, View::Top, View::Top)?);
+    let measures = [View::List(&[1]), View::List(&[0])];
+    assert!(rt; is_lifted(rt.alloc(), &game, None, &measures)?);
+    assert!(rt; are_lifted(rt.alloc(), &game, None, &measures, &[View::Top, View::Top])?);
     Ok(())
 }
 
-/// Spoils a proposal: the first rank is another one.
-fn spoil(proposal: &mut Proposal) {
-    for rank in proposal.ranks.iter_mut().take(1) {
-        *rank = rank.wrapping_add(1);
+/// What is proposed of a game, but for its first rank, which is another one.
+fn spoilt(alloc: Global, game: &Game) -> Result<Option<Proposal>, Fail> {
+    let mut proposal = propose_measure(alloc, game)?;
+    if let Some(proposal) = &mut proposal {
+        for rank in proposal.ranks.iter_mut().take(1) {
+            *rank = rank.wrapping_add(1);
+        }
     }
+    Ok(proposal)
 }
 
 #[test]
 fn a_rank_that_is_too_great_is_refused(rt: HostRuntime) -> Result<(), Fail> {
     let game = two_ways(rt.alloc())?;
-    let mut proposal = propose_measure(rt.alloc(), &game)?;
+    let measures = [
+        View::List(&[1, 1, 1]),
+        View::List(&[1, 1, 0]),
+        View::List(&[1, 0, 0]),
+        View::List(&[1, 0, 0]),
+        View::List(&[0, 0, 0]),
+    ];
+    let proposal = spoilt(rt.alloc(), &game)?;
     assert!(rt; proposal.is_some());
-    if let Some(proposal) = &mut proposal {
-        spoil(proposal);
-    }
-    let map = measure_by(rt.alloc(), &game, proposal)?;
-    assert!(rt; !is_certified(&map));
-    assert!(rt; has(rt.alloc(), &map, 0, View::List(&[1, 1, 1]))?);
+    assert!(rt; is_lifted(rt.alloc(), &game, proposal, &measures)?);
     Ok(())
+}
+
+/// What is proposed of a game and its dual, but for the claims of the game.
+fn without_claims(alloc: Global, game: &Game) -> Result<Option<Proposals>, Fail> {
+    let mut proposals = propose(alloc, game)?;
+    if let Some(proposals) = &mut proposals {
+        proposals.of_game.claims.claims.clear();
+    }
+    Ok(proposals)
 }
 
 #[test]
 fn claims_that_are_left_out_are_missed(rt: HostRuntime) -> Result<(), Fail> {
     let game = two(rt.alloc())?;
-    let mut proposals = propose(rt.alloc(), &game)?;
+    let measures = [View::List(&[1]), View::List(&[0])];
+    let proposals = without_claims(rt.alloc(), &game)?;
     assert!(rt; proposals.is_some());
-    if let Some(proposals) = &mut proposals {
-        proposals.of_game.claims.claims.clear();
-    }
-    let maps = solve_by(rt.alloc(), &game, proposals)?;
-    assert!(rt; !is_certified(&maps.of_game) && !is_certified(&maps.of_dual));
     assert!(rt;
-        are(
+        are_lifted(
             rt.alloc(),
-            &maps.of_game,
-            View::List(&[1]),
-            View::List(&[0])
+            &game,
+            proposals,
+            &measures,
+            &[View::Top, View::Top]
         )?
     );
     Ok(())
