@@ -1,11 +1,18 @@
 """Runs commands whose workers are programs of their own: the program itself, programs that pretend to be a worker
 (pretender.py), programs that aren't there. Each run has to end with the right answer, in time, and each program that it started has
-to have ended then; so has a worker whose solver was killed."""
+to have ended then; so has a worker whose solver was killed. Without the tables in /proc no worker is heard, and some checks fail."""
+import ast
 import ctypes
+import encodings.idna  # noqa: F401: who connects as another user may not be able to read it any more
+import fcntl
 import os
 import pathlib
 import random
+import select
+import shutil
+import signal
 import socket
+import struct
 import subprocess
 import sys
 import tempfile
@@ -18,6 +25,7 @@ import naive
 import pretender
 
 PRETENDER = pathlib.Path(__file__).resolve().parent / "pretender.py"
+FAMILIES = pathlib.Path(__file__).resolve().parent.parent / "bench/families.py"
 LIMIT = 90  # seconds after which a run is said to hang: a command gives its programs sixty in all
 
 TWO = "parity 1;\n0 1 0 0,1;\n1 2 1 0;\n"
@@ -150,7 +158,7 @@ def children_of(number):
         return file.read().split()
 
 
-def workers_end_when_the_command_is_killed(program, count=100_000):
+def workers_end_when_the_command_is_killed(program, count=800_000):
     """Worker programs whose solver is killed amid its rounds end by themselves."""
     words = [program, "measure", "--workers", "4", "--apart", program]
     ran = subprocess.Popen(words, stdin=subprocess.PIPE, stdout=subprocess.DEVNULL, text=True)
@@ -168,7 +176,7 @@ def workers_end_when_the_command_is_killed(program, count=100_000):
 def wins_or_is_undecided(program, text, seed, lie="random_values"):
     """Whatever measures the programs make up, a solution that is printed is sound."""
     run = Run(program, "solve", text, lie, 2)
-    name = f"{run}, seed {seed} on {text!r}"
+    name = f"{run}, seed {seed} on {text[:200]!r}"
     with tempfile.TemporaryDirectory() as folder:
         why = run.make(folder, PARSOLVE_SEED=str(seed))
     if why is not None or run.status == 3 and not run.output and run.errors.startswith("parsolve: undecided at "):
@@ -190,6 +198,12 @@ def lies_are_harmless(program, command, seed):
     if why is None:
         why = f"status {run.status}" if run.status else closed.why_open(game, run.output)
     return f"{run}, seed {seed} on {text!r}", why
+
+
+def lies_slow_nothing(program):
+    """A game whose measures climb far is solved in time, though workers say top of some of its vertices."""
+    text = subprocess.run([sys.executable, FAMILIES, "hard", "5000", "0"], capture_output=True, text=True, check=True).stdout
+    return wins_or_is_undecided(program, text, 1, "top_somewhere")
 
 
 def killed_at_each_frame(program, command, text):
@@ -234,6 +248,191 @@ def others_stay_out(program):
         threading.Thread(target=answer_for_another, args=[listener], daemon=True).start()
         why = run.make(folder, PARSOLVE_OTHER=str(listener.getsockname()[1]))
         return str(run), why or run.differs(0, ANSWERS["measure", TWO])
+
+
+USERS, OWN, STRANGER = 65536, 1, 2  # how many users a namespace has, and two of them
+CLONE_NEWNS, CLONE_NEWUSER, CLONE_NEWNET = 0x20000, 0x10000000, 0x40000000
+SIOCSIFFLAGS, IFF_UP = 0x8914, 1
+
+
+class Skipped(Exception):
+    """What is checked can't be tried on this machine."""
+
+
+def enter_namespace(ready, mapped):
+    """Has this process, whose parent says when its users are mapped, go on as root of users, mounts and a loopback of its own."""
+    if ctypes.CDLL(None).unshare(CLONE_NEWUSER | CLONE_NEWNS | CLONE_NEWNET) != 0:
+        os._exit(1)
+    os.write(ready, b"u")
+    if os.read(mapped, 1) != b"m":
+        os._exit(1)
+    os.setgid(0)
+    os.setuid(0)
+    with socket.socket() as any_socket:
+        fcntl.ioctl(any_socket, SIOCSIFFLAGS, struct.pack("16sH22x", b"lo", IFF_UP))
+
+
+def map_users(child, count):
+    """Gives the namespace of a process so many users of this one, from the own on."""
+    own = (os.getuid(), os.getgid())
+    if own[0] != 0:
+        with open(f"/proc/{child}/setgroups", "w") as file:
+            file.write("deny")
+    for name, first in zip(("uid_map", "gid_map"), own):
+        with open(f"/proc/{child}/{name}", "w") as file:
+            file.write(f"0 {first} {count}")
+
+
+def in_namespace(count, call, *rest):
+    """What a call answers, a text or None, that is made as root of a namespace of so many users. Skipped where that can't be had."""
+    ready, mapped, answer = os.pipe(), os.pipe(), os.pipe()
+    child = os.fork()
+    if child == 0:
+        try:
+            for end in (ready[0], mapped[1], answer[0]):
+                os.close(end)
+            enter_namespace(ready[1], mapped[0])
+            why = call(*rest)
+            os.write(answer[1], repr(why).encode())
+        except Skipped:
+            pass
+        except Exception as why:
+            os.write(answer[1], repr(repr(why)).encode())
+        finally:
+            os._exit(0)
+    for end in (ready[1], mapped[0], answer[1]):
+        os.close(end)
+    try:
+        can = os.read(ready[0], 1) == b"u"
+        if can:
+            map_users(child, count)
+            os.write(mapped[1], b"m")
+    except OSError:
+        can = False
+    finally:
+        os.close(mapped[1])
+    with open(answer[0]) as file:
+        text = file.read()
+    os.close(ready[0])
+    os.waitpid(child, 0)
+    if not can or not text:
+        raise Skipped
+    return ast.literal_eval(text)
+
+
+def copied(source, folder, name, mode):
+    """A copy of a file, with this mode."""
+    path = os.path.join(folder, name)
+    shutil.copyfile(source, path)
+    os.chmod(path, mode)
+    return path
+
+
+def wait_for(path):
+    while not os.path.exists(path):
+        time.sleep(0.01)
+
+
+WAITS = 'echo "$2" > noted; mv noted port; while [ ! -e connected ]; do sleep 0.05; done; exec ./unreadable worker --port "$2"\n'
+
+
+def top_for_another(folder):
+    """As a user of its own, connects to the port that the worker noted, and says top for each vertex there."""
+    os.setgid(STRANGER)
+    os.setuid(STRANGER)
+    wait_for(os.path.join(folder, "port"))
+    stream = pretender.connect(int(pathlib.Path(folder, "port").read_text()))
+    pathlib.Path(folder, "connected").touch()
+    pretender.connect = lambda port: stream
+    pretender.Worker(pretender.top_everywhere).serve(0)
+
+
+def measured_beside_a_stranger(program):
+    """Why the measures aren't those of TWO, or weren't found by the worker, which can't be read and waits for the stranger."""
+    with tempfile.TemporaryDirectory() as folder:
+        os.chmod(folder, 0o777)
+        own = copied(program, folder, "parsolve", 0o755)
+        copied(program, folder, "unreadable", 0o711)
+        copied("/bin/sh", folder, "shell", 0o711)
+        pathlib.Path(folder, "worker").write_text(WAITS)
+        stranger = os.fork()
+        if stranger == 0:
+            try:
+                top_for_another(folder)
+            finally:
+                os._exit(0)
+        start = time.monotonic()
+        ran = subprocess.run([own, "measure", "--workers", "1", "--apart", "./shell"], cwd=folder, input=TWO, capture_output=True,
+                             text=True, timeout=LIMIT, user=OWN, group=OWN, extra_groups=[])
+        took, found = time.monotonic() - start, (ran.returncode, ran.stdout, ran.stderr)
+        os.kill(stranger, signal.SIGKILL)
+        os.waitpid(stranger, 0)
+        if found != (0, ANSWERS["measure", TWO], ""):
+            return f"{found!r}"
+        if not os.path.exists(os.path.join(folder, "connected")):
+            return "no stranger was there"
+        return f"took {took:.0f} seconds: the worker wasn't heard" if took > 8 else None
+
+
+def other_users_stay_out(program):
+    """A connection of another user, which is there first, isn't taken, though nobody can tell what the worker holds: its file may be
+    executed and not read. That of the worker, which is of the own user, is."""
+    name = f"measure --workers 1 --apart a file that can't be read ({os.path.basename(program)}), another user connects"
+    if os.getuid() != 0:
+        raise Skipped(name)
+    try:
+        return name, in_namespace(USERS, measured_beside_a_stranger, program)
+    except Skipped:
+        raise Skipped(name)
+
+
+def measured_without_tables(program):
+    """Why the measures aren't those of TWO, where there is no /proc; the worker says top."""
+    if ctypes.CDLL(None).mount(b"none", b"/proc", b"tmpfs", 0, None) != 0:
+        raise Skipped
+    run = Run(program, "measure", TWO, "top_everywhere")
+    with tempfile.TemporaryDirectory() as folder:
+        return run.make(folder) or run.differs(0, ANSWERS["measure", TWO])
+
+
+def takes_nobody_without_tables(program):
+    """Where the tables of the system can't be read no connection is taken, and the game is solved in one piece."""
+    name = f"measure --workers 1 --apart top_everywhere ({os.path.basename(program)}), without /proc"
+    try:
+        return name, in_namespace(1, measured_without_tables, program)
+    except Skipped:
+        raise Skipped(name)
+
+
+def starts_none_as_its_owner(program):
+    """A file that would be started as its owner isn't started."""
+    run = Run(program, "measure", TWO, "./shell")
+    with tempfile.TemporaryDirectory() as folder:
+        copied("/bin/sh", folder, "shell", 0o4755)
+        pathlib.Path(folder, "worker").write_text(": > started\n")
+        ran = subprocess.run([program, "measure", "--workers", "1", "--apart", "./shell"], cwd=folder, input=TWO, capture_output=True,
+                             text=True, timeout=LIMIT)
+        run.status, run.output, run.errors = ran.returncode, ran.stdout, ran.stderr
+        why = "it was started" if os.path.exists(os.path.join(folder, "started")) else None
+        return f"{run}, a setuid file", why or run.differs(0, ANSWERS["measure", TWO])
+
+
+def workers_end_before_the_answer_is_taken(program):
+    """Worker programs have ended once the answer is there, also where nobody takes it."""
+    words = [program, "measure", "--workers", "2", "--apart", program]
+    ran = subprocess.Popen(words, stdin=subprocess.PIPE, stdout=subprocess.PIPE, text=True)
+    ran.stdin.write("".join(f"{v} {2 - v % 2} 0 {v - v % 2};\n" for v in range(100_000)))
+    ran.stdin.close()
+    ready, _, _ = select.select([ran.stdout], [], [], LIMIT)
+    time.sleep(0.2)
+    left = children_of(ran.pid)
+    is_waiting = ran.poll() is None
+    ran.kill()
+    ran.stdout.close()
+    ran.wait()
+    left_behind(10)
+    why = f"{len(left)} programs run on" if left else None if ready and is_waiting else "no answer waited"
+    return f"measure --workers 2 --apart {program}, whose answer isn't taken", why
 
 
 SETUP = "0000001a0101 00000002 00000002 00000003 00000001 00000001 00000001"
@@ -316,10 +515,15 @@ def cases(program, is_first):
     for command in ("measure", "solve"):
         for seed in range(20):
             yield lies_are_harmless, program, command, seed
+    yield lies_slow_nothing, program
     yield killed_at_each_frame, program, "measure", TOPS
     yield killed_at_each_frame, program, "solve", THREE
     yield starts_anew, program
     yield others_stay_out, program
+    yield other_users_stay_out, program
+    yield takes_nobody_without_tables, program
+    yield starts_none_as_its_owner, program
+    yield workers_end_before_the_answer_is_taken, program
     yield ends_where_values_go_to_and_fro, program, "/proc/self/exe"
     yield leaves_what_programs_start, program
     yield workers_end_when_the_command_is_killed, program
@@ -329,10 +533,13 @@ def cases(program, is_first):
 
 
 def check(case):
-    """(what was checked, why it fails or None)"""
+    """(what was checked, why it fails or None), or None where it can't be checked here"""
     call, *rest = case
     try:
         return call(*rest)
+    except Skipped as why:
+        print(f"apart: {why}: skipped, no such namespace can be made", flush=True)
+        return None
     except Exception as why:
         return f"{call.__name__} {rest}", repr(why)
 
@@ -341,7 +548,7 @@ def run(programs):
     """Checks every program; answers how many checks passed and failed."""
     todo = [case for program in programs for case in cases(program, program == programs[0])]
     with ProcessPoolExecutor(8, initializer=begin) as pool:
-        found = list(pool.map(check, todo))
+        found = [checked for checked in pool.map(check, todo) if checked is not None]
     failed = [(name, why) for name, why in found if why is not None]
     for name, why in failed:
         print(f"apart: {name}: {why}")

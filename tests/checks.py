@@ -5,6 +5,7 @@ import random
 import re
 import shlex
 import shutil
+import socket
 import subprocess
 import tempfile
 from concurrent.futures import ProcessPoolExecutor
@@ -314,6 +315,32 @@ def survives_want_of_memory(program, name, args, text, wanted):
     return "no run met no refusal"
 
 
+def files_are_input(program):
+    """Files that the words name are the input, as bytes on standard input are: two with a line `--` between, by one limit."""
+    game, solution, most = b"parity 1;\n0 1 0 0,1;\n1 2 1 0;", b"0 0 1;\n1 0;\n", 268_435_456
+    sound, long = (0, b"WINS\n", b""), (1, b"", b"parsolve: input is longer than 268435456 bytes\n")
+    with tempfile.TemporaryDirectory() as folder:
+        def file(name, text, blanks=0):
+            with open(os.path.join(folder, name), "wb") as it:
+                it.write(b" " * blanks + text)
+
+        file("2", game), file("ended", game + b"\n"), file("solution", solution), file("--help", game)
+        room = most - len(game + b"\n--\n" + solution)
+        file("full", game, room), file("over", game, room + 1), file("whole", game, most - len(game))
+        socket.socket(socket.AF_UNIX).bind(os.path.join(folder, "socket"))
+        solved = (0, b"paritysol 1;\n0 0 1;\n1 0;\n", b"")
+        for words, wanted in ((["check", "2", "solution"], sound), (["check", "ended", "solution"], sound),
+                              (["check", "full", "solution"], sound), (["check", "over", "solution"], long),
+                              (["solve", "whole"], solved), (["solve", "2", "--workers", "2"], solved),
+                              (["solve", "--workers", "2", "./--help"], solved),
+                              (["solve", "socket"], (1, b"", b"parsolve: cannot read the input\n")),
+                              (["solve", "--workers", "2"], (1, b"", b"parsolve: no vertex\n"))):
+            ran = subprocess.run([program, *words], cwd=folder, stdin=subprocess.DEVNULL, capture_output=True, timeout=120)
+            if (ran.returncode, ran.stdout, ran.stderr) != wanted:
+                return f"{words}: status {ran.returncode}, {ran.stdout!r}, {ran.stderr!r}"
+    return None
+
+
 def example_game(program, name):
     """The game of an example: the file itself, or what `game` prints of an automaton."""
     with open(os.path.join(top, "examples", name), "rb") as file:
@@ -426,6 +453,7 @@ def cases(programs):
             yield f"hard games of {size} vertices ({name})", lambda p=program, n=size: hard_games_are_solved(p, n)
         yield f"synth on random automata ({name})", lambda p=program: controllers_as_defined(p)
         yield f"solve on long rows ({name})", lambda p=program: long_rows_as_worked_out(p)
+        yield f"files as input ({name})", lambda p=program: files_are_input(p)
         for words in ([], ["measure"], ["solve"], ["check"], ["replay"], ["game"], ["synth"]):
             yield (f"the example in {' '.join([*words, '--help'])} ({name})",
                    lambda p=program, w=words: example_in_help(p, w))

@@ -1,8 +1,8 @@
 #!/usr/bin/env python3
-"""Makes printed circuits small with yosys and ABC, as docs/commands.md shows, and checks that each small circuit does the same.
+"""Makes printed circuits small with ABC, as docs/commands.md shows, and checks that each small circuit does the same.
 
 ABC compares the two circuits, and a plain reader runs both on random inputs; ABC also has to tell a circuit apart in which an
-output is negated. Where yosys or ABC isn't installed nothing is checked.
+output is negated. Where ABC isn't installed nothing is checked.
 
     tests/circuits.py [PROGRAM]    prints what it finds; the status is 1 if something is wrong
 """
@@ -16,7 +16,7 @@ import tempfile
 import controllers
 
 TOP = pathlib.Path(__file__).resolve().parent.parent
-TOOLS = ["yosys", "berkeley-abc"]
+TOOLS = ["berkeley-abc"]
 EXAMPLES = ["arbiter", "request-grant", "owl-arbiter", "delay"]
 STEPS = 500
 
@@ -38,11 +38,17 @@ def call(folder, *words):
     return ran.stdout
 
 
+def turn(folder, form, name, made):
+    """Writes a circuit in another form, by tools/circuit."""
+    (folder / made).write_bytes(subprocess.run([sys.executable, TOP / "tools/circuit", form, folder / name], check=True, timeout=120,
+                                               stdout=subprocess.PIPE).stdout)
+
+
 def make_small(folder):
     """From printed.aag makes printed.aig, and small.aig and small.aag, which are small."""
-    call(folder, "yosys", "-q", "-p", "read_aiger printed.aag; write_aiger -symbols printed.aig")
+    turn(folder, "binary", "printed.aag", "printed.aig")
     call(folder, "berkeley-abc", "-q", "read printed.aig; strash; scorr; dc2; dc2; write_aiger -s small.aig")
-    call(folder, "yosys", "-q", "-p", "read_aiger small.aig; simplemap; write_aiger -ascii -symbols small.aag")
+    turn(folder, "ascii", "small.aig", "small.aag")
 
 
 def is_equivalent(folder, name, latches):
@@ -91,7 +97,7 @@ def why_wrong(program, name):
         if len(second.gates) > len(first.gates):
             return f"it has {len(second.gates)} gates, the printed one {len(first.gates)}"
         (folder / "other.aag").write_text(negated(text))
-        call(folder, "yosys", "-q", "-p", "read_aiger other.aag; write_aiger -symbols other.aig")
+        turn(folder, "binary", "other.aag", "other.aig")
         return "ABC doesn't tell another circuit apart" if is_equivalent(folder, "other.aig", len(first.latches)) else None
 
 

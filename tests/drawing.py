@@ -15,7 +15,8 @@ import tempfile
 
 TOP = pathlib.Path(__file__).resolve().parent.parent
 PICTURES = {"two": ["examples/two.pg"], "mutex": ["examples/mutex.pg", "examples/mutex.solution"],
-            "request-grant": ["examples/request-grant.hoa"]}
+            "request-grant": ["examples/request-grant.hoa"],
+            "foresight": ["--automaton", "examples/foresight.hoa", "examples/foresight.pg", "examples/foresight.solution"]}
 NAMES, WINS = ("IDENTIFIER: PRIORITY of each vertex, diamonds are Even's, boxes are Odd's",
                "Even wins from the blue ones, Odd from the orange ones, by the heavy edges")
 
@@ -63,6 +64,32 @@ AUTOMATON_GRAPH = """digraph automaton {
     1 -> 1 [label="t"];
 }
 """
+# verdicts on THREE and SOLUTION: what is said of them, and the lines of their edges
+VERDICTS = {
+    b"WINS\n": ("WINS: each winner wins, by the heavy edges", []),
+    b"LEAVES 2 0\n": ("LEAVES: the red edge goes to a vertex of the other winner", ['2 -> 0 [color="#c00000", style=dashed]']),
+    b"CYCLE 1 1\n": ("CYCLE: on the red edges 1 is the greatest priority", ['1 -> 1 [penwidth=4, color="#c00000", style=dashed]']),
+    b"CYCLE 2 0,1,2\n": ("CYCLE: on the red edges 2 is the greatest priority",
+                         ['0 -> 1 [penwidth=4, color="#c00000", style=dashed]', '1 -> 2 [color="#c00000", style=dashed]',
+                          '2 -> 0 [color="#c00000", style=dashed]']),
+}
+# the game of examples/request-grant.hoa, and what its vertices and the edges of Even are called
+GAME_OF_GRANTS = b"""parity 10;
+0 1 1 0 "dead";
+1 1 1 4,5 "s0";
+2 2 1 4,5 "s0/0";
+3 3 1 4,5 "s0/1";
+4 0 0 2 "s0:0";
+5 0 0 7 "s0:1";
+7 2 1 9,10 "s1/0";
+8 3 1 9,10 "s1/1";
+9 0 0 2,3 "s1:0";
+10 0 0 7,8 "s1:1";
+"""
+WORDS = ["0: 1\\nthe run has ended", "1: 1\\nstate 0", "2: 2\\nstate 0 {0}", "3: 3\\nstate 0 {1}", "4: 0\\nstate 0: !request",
+         "5: 0\\nstate 0: request", "7: 2\\nstate 1 {0}", "8: 3\\nstate 1 {1}", "9: 0\\nstate 1: !request", "10: 0\\nstate 1: request"]
+LETTERS = ['4 -> 2 [label="t"]', '5 -> 7 [label="t"]', '9 -> 2 [label="grant"]', '9 -> 3 [label="!grant"]', '10 -> 7 [label="grant"]',
+           '10 -> 8 [label="!grant"]']
 CHAIN = b"".join(b"%d 0 0 %d;" % (vertex, vertex) for vertex in range(201))
 STATES = b'HOA: v1 States: %d Start: 0 Acceptance: 0 t --BODY-- --END--'
 HEAD = b"HOA: v1 Start: 0 Acceptance: 1 Inf(0) "
@@ -92,6 +119,12 @@ REFUSED = [
     ("damaged: syntax error at byte 60", {"damaged": HEAD + b"--BODY-- State: 0 [(t ] 0 --END--"}),
     ("damaged: syntax error at byte 38", {"damaged": HEAD + b"/* /* */"}),
     ("nothing: No such file or directory", {"nothing": None}),
+    ("said: a verdict is WINS, LEAVES V W or CYCLE P V,V,..", {"game": THREE, "solution": SOLUTION, "said": b"LOSES\n"}),
+    ("said: a verdict is WINS, LEAVES V W or CYCLE P V,V,..", {"game": THREE, "solution": SOLUTION, "said": b"LEAVES 1\n"}),
+    ("said: a verdict is WINS, LEAVES V W or CYCLE P V,V,..", {"game": THREE, "solution": SOLUTION, "said": b"CYCLE 1\n"}),
+    ("said: a verdict is WINS, LEAVES V W or CYCLE P V,V,..", {"game": THREE, "solution": SOLUTION, "said": b"CYCLE 1 " + b"1" * 5000}),
+    ("said: the game has no edge from 0 to 2", {"game": THREE, "solution": SOLUTION, "said": b"LEAVES 0 2\n"}),
+    ("said: the game has no edge from 2 to 1", {"game": THREE, "solution": SOLUTION, "said": b"CYCLE 2 1,2\n"}),
 ]
 TWO = b"parity 1;\n0 1 0 0,1;\n1 2 1 0;\n"
 SCRIPT = b"workers 02;cut 1,2;\nlift 1 0;deliver2 0;\n\ndeliver 0 0; restart 1;lift 2 1;"
@@ -130,11 +163,31 @@ def graphs():
         yield "200 are drawn", drawn(["--dot"], {"many": text})[::2], (0, "")
 
 
+def lines_with(text, *words):
+    """The lines of a text that have all the words, without what ends them."""
+    return [line.strip().rstrip(";") for line in text.splitlines() if all(word in line for word in words)]
+
+
+def verdicts():
+    """The same for verdicts, and for the game of an automaton in its words."""
+    for verdict, (said, edges) in VERDICTS.items():
+        status, text, errors = drawn(["--dot"], {"game": THREE, "solution": SOLUTION, "said": verdict})
+        yield verdict, (status, f"{NAMES}\\n{WINS}\\n{said}" in text, lines_with(text, "->", "dashed"), errors), (0, True, edges, "")
+    words = ["--dot", "--automaton", TOP / "examples/request-grant.hoa"]
+    status, text, errors = drawn(words, {"game": GAME_OF_GRANTS})
+    vertices = [line.split('"')[1] for line in lines_with(text, "shape=")]
+    yield "words", (status, vertices, lines_with(text, "->", "label="), errors), (0, WORDS, LETTERS, "")
+    for name in (b"s2", b"s0/2", b"s0:2", b"other", b"s" + b"1" * 5000):
+        told = f"draw: game: the automaton's game has no vertex that is named {name.decode()}\n"
+        yield name, drawn(words, {"game": b'0 0 0 0 "' + name + b'";'}), (1, "", told)
+
+
 def refusals():
     """The same for what is refused: with files, and by the command line."""
     for told, texts in REFUSED:
         yield told, drawn(["--dot"], texts), (1, "", f"draw: {told}\n")
-    for words in ([], ["--line"], ["--replay", "a"], ["--program", "x", "a"], ["-", "-"], ["--replay", "--dot", "a", "b"]):
+    for words in ([], ["--line"], ["--replay", "a"], ["--program", "x", "a"], ["-", "-"], ["--replay", "--dot", "a", "b"],
+                  ["--replay", "a", "b", "c"], ["a", "b", "c", "d"], ["--automaton", "-", "-"]):
         yield f"the words {words}", drawn(words)[:2], (2, "")
 
 
@@ -170,7 +223,7 @@ def counted(checks):
 
 def run():
     """Makes every check that needs no program; answers how many passed and failed."""
-    return counted(check for part in (graphs, refusals, pictures) for check in part())
+    return counted(check for part in (graphs, verdicts, refusals, pictures) for check in part())
 
 
 def run_tables(program):

@@ -57,6 +57,7 @@ def fits(*needs):
     return len(needs) <= int(os.environ.get("FITS", "4"))
 '''
 RT = '''#!/bin/sh
+[ "$1" = version ] && echo "the test's kit" && exit
 echo "run" >> "$NOTES"
 grep -q wrong ../*/src/lib.rt && exit 1
 printf '#!/bin/sh\\necho "$@"\\ncat\\n' > out/parsolve
@@ -65,11 +66,11 @@ chmod +x out/parsolve
 # a part of ./test, which says what it is given and counts one check
 PART = '''
 import os
-def run(given=()):
-    programs = [given] if isinstance(given, str) else given
+def run(*given):
+    programs = given[0] if given and isinstance(given[0], list) else given
     print(__name__, *map(os.path.basename, programs))
     return 1, 0
-run_tables = run
+run_tables = run_with = run
 '''
 
 
@@ -128,10 +129,10 @@ RIGHT = (0, "solve two words\nthe input\n")
 
 
 def first_use(copy):
-    """The libraries are proved, those beside one another at once, and then the program runs."""
-    *ran, _, asked = copy.use()
+    """The libraries are proved, those beside one another at once, the kit is told, and then the program runs."""
+    *ran, errors, asked = copy.use()
     return tuple(ran) == RIGHT and asked[:2] == ["start low", "end low"] and {*asked[2:4]} == {"start left", "start right"} \
-        and asked[6:] == ["run"]
+        and asked[6:] == ["run"] and "by the test's kit\n" in errors
 
 
 def later_uses(copy):
@@ -189,20 +190,33 @@ def no_toolchain(copy):
     return (status, output) == (1, "") and all(it in errors for it in ("rt isn't on the path", "Rattle kit", "rt version"))
 
 
-WITHOUT_PROGRAM = ["layout", "pages", "first_use", "drawing"]
-WITH_PROGRAM = [f"{name} parsolve" for name in ("rows", "checks", "apart", "sessions", "circuits", "share", "drawing")]
+WITHOUT_PROGRAM = ["layout", "pages", "first_use", "drawing", "rewriting", "simulating"]
+WITHOUT_CERTIFIED = "test: there is no crates/certified/out/certified (run `rt run` in crates/certified), so how games of the benches " \
+    "are solved isn't looked at"
+WITH_PROGRAM = [f"{name} parsolve" for name in ("rows", "checks", "apart", "sessions", "circuits", "share", "drawing", "rewriting",
+                                                   "simulating", "embedding")]
 
 
 def untested(copy, why):
     """Whether ./test --quick says why it tries no program, fails for that, and tries all the rest."""
     told = f"test: {why} (run ./build), so no program is tried"
-    return copy.test() == (1, [*WITHOUT_PROGRAM, told, "4 passed, 1 failed"])
+    return copy.test() == (1, [*WITHOUT_PROGRAM, told, WITHOUT_CERTIFIED, f"{len(WITHOUT_PROGRAM)} passed, 1 failed"])
 
 
 def quick_test(copy):
     """./test --quick asks the toolchain for nothing, and tries the program that was built and all that needs none."""
     copy.use()
-    return copy.test() == (0, [*WITHOUT_PROGRAM, *WITH_PROGRAM, "11 passed, 0 failed"])
+    return copy.test() == (0, [*WITHOUT_PROGRAM, *WITH_PROGRAM, WITHOUT_CERTIFIED, f"{len(WITHOUT_PROGRAM + WITH_PROGRAM)} passed, 0 failed"])
+
+
+def quick_test_certified(copy):
+    """It looks at how games of the benches are solved where the program that tells it was built."""
+    copy.use()
+    program = copy.top / "crates/certified/out/certified"
+    copy.write(program, "")
+    program.chmod(0o755)
+    return copy.test() == (0, [*WITHOUT_PROGRAM, *WITH_PROGRAM, "certified certified parsolve",
+                                f"{len(WITHOUT_PROGRAM + WITH_PROGRAM) + 1} passed, 0 failed"])
 
 
 def quick_test_unbuilt(copy):
@@ -222,7 +236,7 @@ def quick_test_stale(copy):
 def run():
     """Makes every check; answers how many passed and failed."""
     checks = (first_use, later_uses, changes, failures, little_memory, at_once, other_toolchain, no_toolchain, quick_test,
-              quick_test_unbuilt, quick_test_stale)
+              quick_test_certified, quick_test_unbuilt, quick_test_stale)
     passed = failed = 0
     for check in checks:
         with tempfile.TemporaryDirectory() as folder:

@@ -5,8 +5,8 @@ Whoever wants to believe what is proved reads the believed modules: the files of
 `Mirrors` and `Lemmas` list. So
 - no believed module names a mirror, a lemma or a proof, of its own crate or of another (`Rattle.std.proofs.Common`, which
   holds constructors of the logic, aside), and no `Lib` passes one on;
-- docs/map.md lists each believed module once, with the number of its lines, and the public calls whose contracts name a
-  mirror all the same;
+- docs/map.md lists each believed module once, with the number of its lines, in the first chain that needs it, and the public calls
+  whose contracts name a mirror all the same; the numbers of its chains are right;
 - each name of docs/definitions.md is defined in the file that stands beside it;
 - each call and law that the README and the pages of docs/ name is there, and so is each clause, definition and must-fail
   edit of docs/promises.md.
@@ -20,6 +20,8 @@ import pathlib
 import re
 import sys
 import textwrap
+
+import chains
 
 TOP = pathlib.Path(__file__).resolve().parent.parent
 CRATES, README, MAP, DEFINITIONS = TOP / "crates", TOP / "README.md", TOP / "docs/map.md", TOP / "docs/definitions.md"
@@ -96,6 +98,29 @@ def rows_of_map():
             yield name, f"has {line_count(path)} lines, and docs/map.md says {lines}: run tests/layout.py --write"
         else:
             yield name, None
+
+
+def chain_rows():
+    """For each chain of docs/map.md, and for all, how its row has to end."""
+    for name, chain in chains.chains().items():
+        yield f"`{name}`", f"| {len(chain.files)} | {chain.lines} | {chain.own} |"
+    read = [path for path in modules()[0] if not is_of_tests(path)]
+    yield "all", f"| {len(read)} | {sum(map(line_count, read))} | |"
+
+
+def rows_of_chains():
+    """The same for the chains: their laws, their numbers, and which files stand in their sections."""
+    text = MAP.read_text()
+    for law in chains.missing():
+        yield law, "isn't there, as tests/chains.py says"
+    for name, end in chain_rows():
+        is_there = re.search(rf"^\| {name} \| .* {re.escape(end)}$", text, re.M)
+        yield f"chain {name}", None if is_there else f"its row doesn't end in {end}: run tests/layout.py --write"
+    sections = re.findall(r"^### (\d+)\. (.*?)(?=^##)", text, re.M | re.S)
+    for (number, section), (name, chain) in zip(sections, chains.chains().items()):
+        listed = {file for file, _ in ROW.findall(section)}
+        wrong = sorted(listed ^ chain.new)
+        yield f"section {number}", f"isn't that of the chain {name}: {', '.join(wrong)}" if wrong else None
 
 
 def defined(name, path):
@@ -183,7 +208,7 @@ def promises():
 
 def edits():
     """The same for each must-fail edit that docs/promises.md names, as `pg_map/join_keeps_the_later`."""
-    for crate, name in sorted(set(re.findall(r"`(pg_\w+)/(\w+)`", PROMISES.read_text()))):
+    for crate, name in sorted(set(re.findall(r"`((?:pg_|parsolve_)\w+)/(\w+)`", PROMISES.read_text()))):
         is_there = (CRATES / crate / f"must-fail/{name}.edit").is_file()
         yield name, None if is_there else f"isn't in {crate}/must-fail, as docs/promises.md says"
 
@@ -212,6 +237,8 @@ def write_map():
         places = places or [place for place, row in enumerate(kept) if ROW.match(row)]
         kept.insert(places[-1] + 1, f"| `{shown(path)}` | {line_count(path)} | {headline(path)} |")
     listed = ", ".join(f"`{name}`" for name in sorted(set(naming_mirrors()))) or "none"
+    for name, end in chain_rows():
+        kept = [re.sub(rf"^(\| {name} \| .*?) (\| \d+ \| \d+ \| (?:\d+ )?\|)$", lambda it: f"{it[1]} {end}", row) for row in kept]
     text = "Public calls whose contracts name one: " + listed
     MAP.write_text(EXCEPTIONS.sub(textwrap.fill(text, 124, break_long_words=False).replace("\n", "\n  ") + ".", "\n".join(kept)))
 
@@ -236,7 +263,7 @@ def write_definitions():
 def run():
     """Makes every check; answers how many passed and failed."""
     passed = failed = 0
-    for part in (imports, rows_of_map, exceptions, entries, calls, promises, edits):
+    for part in (imports, rows_of_map, rows_of_chains, exceptions, entries, calls, promises, edits):
         for what, why in part():
             if why is None:
                 passed += 1

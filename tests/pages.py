@@ -1,7 +1,7 @@
 #!/usr/bin/env python3
-"""Checks the pages: links and paths lead to files, lines are short, no decision is long, and code that is shown is that of the
-sources; that the examples which scripts make are what these print;
-and that the README names the kit that `--version` says.
+"""Checks the pages: links and paths lead to files, lines are short, the first line says who the page is for, no decision is long, and
+code that is shown is that of the sources; that the examples which scripts make are what these print; and that CHANGELOG.md begins
+with the version of the program.
 
     tests/pages.py    prints what it finds; the status is 1 if something is wrong
 """
@@ -12,8 +12,9 @@ import sys
 
 TOP = pathlib.Path(__file__).resolve().parent.parent
 PAGES = [*sorted(TOP.glob("*.md")), *sorted(TOP.glob("docs/*.md")), TOP / "examples/README.md"]
-FOLDERS = "docs|tests|examples|tools|bench|rows|share"
+FOLDERS = "bindings|docs|tests|examples|tools|bench|rows|share"
 LONGEST_LINE, MOST_WORDS = 160, 80
+PROGRAMS = {"parsolve", "certified"}
 MADE = {"mutex.pg": "make_mutex.py", "grid.pg": "make_grid.py", "arbiter.hoa": "make_arbiter.py"}
 
 
@@ -39,11 +40,29 @@ def lines():
         yield f"{shown(page)}: lines", f"over {LONGEST_LINE} columns: {long}" if long else None
 
 
+def audiences():
+    """The same for the first line of each page, which says who it is for; the README says it of each page."""
+    for page in PAGES:
+        if page != TOP / "README.md":
+            first = page.read_text().split("\n")[2]
+            yield f"{shown(page)}: its first line", None if first.startswith("For those who ") else "doesn't say who it is for"
+
+
 def decisions():
     """The same for each row of docs/DECISIONS.md."""
     for row in re.findall(r"^\| .*", (TOP / "docs/DECISIONS.md").read_text(), re.M):
         words = len(row.replace("|", " ").split())
         yield f"docs/DECISIONS.md: {row[2:60]}..", f"{words} words, over {MOST_WORDS}" if words > MOST_WORDS else None
+
+
+def libraries_above(crate):
+    """The libraries that stand on a crate, by crates.txt, but for crates of tests and programs."""
+    lines = [line.split("#")[0].partition(":") for line in (TOP / "crates.txt").read_text().splitlines()]
+    below = {name.strip(): names.split() for name, mark, names in lines if mark}
+    found = {crate}
+    while grown := {name for name in below if name not in found and found & {*below[name]}}:
+        found |= grown
+    return {name for name in found - {crate, *PROGRAMS} if not name.endswith("_tests")}
 
 
 def shown_code():
@@ -55,6 +74,18 @@ def shown_code():
     edit = TOP / "crates/pg_arena/must-fail" / re.search(r"`(\w+\.edit)`", text)[1]
     is_there = edit.is_file() and edit.read_text().splitlines()[1].removeprefix("old: ") in function
     yield f"docs/first_change.md: {edit.name}", None if is_there else "doesn't change a line of the function"
+    count = len(libraries_above("pg_arena"))
+    yield "docs/first_change.md: libraries", None if f" {count} libraries " in text else f"{count} libraries stand on pg_arena"
+
+
+def shown_theorem():
+    """The same for the clause and the law that the README prints: both are as the sources have them."""
+    text = (TOP / "README.md").read_text()
+    for head, source in (("ensures answer", "pg_cli/src/program.rt"), ("pub record", "pg_command/specs/Laws.antt"),
+                         ("abbrev pub", "pg_command/specs/Laws.antt")):
+        block = re.sub("^    ", "", re.search(rf"^    {head} (?:.*\n)(?:    .*\n)*", text, re.M)[0], flags=re.M)
+        sources = re.sub("^    ensures", "ensures", (TOP / "crates" / source).read_text(), flags=re.M)
+        yield f"README.md: {block.splitlines()[0]}", None if block in sources else f"isn't what {source} has"
 
 
 def examples():
@@ -64,17 +95,17 @@ def examples():
         yield f"examples/{name}", None if printed == (TOP / "examples" / name).read_text() else f"isn't what {script} prints"
 
 
-def kit():
-    """The same for the kit that the README names: `--version` says the same one."""
-    said = re.search(r'^const VERSION: &str = ".*?with (.*)\)";$', (TOP / "crates/pg_words/src/words.rt").read_text(), re.M)
-    is_named = said and f"Proved with `{said[1]}`" in (TOP / "README.md").read_text()
-    yield "README.md: the kit", None if is_named else "isn't the one that --version says"
+def version():
+    """The same for the version that CHANGELOG.md says first: `--version` says the same one."""
+    said = re.search(r'^const VERSION: &str = "(.*)";$', (TOP / "crates/pg_words/src/words.rt").read_text(), re.M)
+    is_first = said and re.search(r"^## (.*) \(", (TOP / "CHANGELOG.md").read_text(), re.M)[1] == said[1]
+    yield "CHANGELOG.md: the version", None if is_first else "isn't the one that --version says"
 
 
 def run():
     """Makes every check; answers how many passed and failed."""
     passed = failed = 0
-    for part in (links, lines, decisions, shown_code, examples, kit):
+    for part in (links, lines, audiences, decisions, shown_code, shown_theorem, examples, version):
         for what, why in part():
             if why is None:
                 passed += 1

@@ -132,6 +132,11 @@ def top_everywhere(worker):
     return values_frame(worker.version, len(worker.bounds), [(vertex, None) for vertex in worker.part])
 
 
+def top_somewhere(worker):
+    """Top for a quarter of the part, always the same one."""
+    return values_frame(worker.version, len(worker.bounds), [(vertex, None) for vertex in worker.part[::4]])
+
+
 def random_values(worker):
     """Measures that fit, of some vertices of the part: the same for the same seed and first part."""
     dice = worker.dice = worker.dice or random.Random(f"{os.environ['PARSOLVE_SEED']} {worker.part}")
@@ -300,6 +305,7 @@ DOES = {
     "refuses_to_lift": lambda port: Worker(lambda worker: b"", QUIET, NO_MEMORY).serve(port),
     "quiet_at_once": lambda port: Worker(lambda worker: b"").serve(port),
     "top_everywhere": lambda port: Worker(top_everywhere).serve(port),
+    "top_somewhere": lambda port: Worker(top_somewhere).serve(port),
     "top_in_version_1": lambda port: Worker(top_everywhere, REFUSAL).serve(port),
     "one_too_much": lambda port: Worker(one_too_much, REFUSAL).serve(port),
     "random_values": lambda port: Worker(random_values).serve(port),

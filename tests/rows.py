@@ -6,7 +6,7 @@
 A row has
 
     name       what it shows
-    args       the words after the program's name; {program} stands for the program's own path
+    args       the words after the program's name; {program} stands for the program's own path, {top} for the repository's
     args_hex   the same as hexadecimal bytes, for words that are no text
     stdin      the input (or stdin_hex, or stdin_file: a file of the repository)
     blanks     how many blanks stand before the input; absent: none
@@ -50,7 +50,7 @@ def input_of(row):
 def words_of(row, program):
     if "args_hex" in row:
         return [bytes.fromhex(word) for word in row["args_hex"]]
-    return [program if word == "{program}" else word for word in row.get("args", [])]
+    return [word.replace("{program}", program).replace("{top}", top) for word in row.get("args", [])]
 
 
 def run_row(program, row):

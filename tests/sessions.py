@@ -17,7 +17,7 @@ import tempfile
 
 TOP = pathlib.Path(__file__).resolve().parent.parent
 PAGES = ["README.md", "docs/commands.md"]
-TOOLS = {"yosys", "berkeley-abc"}
+TOOLS = {"berkeley-abc"}
 
 
 def sessions(page):

@@ -25,7 +25,9 @@ COMMANDS = ["check", "game", "measure", "replay", "solve", "synth", "worker"]
 TYPED = [(["parsolve", ""], [*COMMANDS, "--help", "--version", "-h", "-V"]), (["parsolve", "s"], ["solve", "synth"]),
          (["parsolve", "solve", "--"], ["--workers", "--apart", "--help"]), (["parsolve", "check", "--"], ["--help"]),
          (["parsolve", "worker", "--p"], ["--port"]), (["parsolve", "solve", "--workers", ""], []),
-         (["parsolve", "solve", "--apart", "examples/mor"], ["examples/mortal-worker"])]
+         (["parsolve", "solve", "--apart", "examples/mor"], ["examples/mortal-worker"]),
+         (["parsolve", "solve", "examples/tw"], ["examples/two.pg"]), (["parsolve", "worker", "examples/tw"], []),
+         (["parsolve", "check", "examples/two.pg", "examples/mutex.so"], ["examples/mutex.solution"])]
 
 
 def made(program):

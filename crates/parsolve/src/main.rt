@@ -1,9 +1,15 @@
-//! The program: the words of the command line, standard input and output, and the exit status.
+//! The program: the words of the command line, the input and the output, and the exit status.
 #![tactic(auto)]
 
+mod files;
+
+ghost use Rattle.std.specs.Prelude.{◌≤◌, length};
 ghost use Rattle.pg_words.specs.Words.{HasFewWorkers};
 
-use pg_cli::{CliFault, Command, Line, exit_code, run, run_apart, work, write_fault};
+use files::{part_words, read};
+use pg_cli::{
+    CliFault, Command, Line, MOST_BYTES, Programs, exit_code, work, write_answer, write_fault,
+};
 use pg_coord::Reach;
 use pg_words::{Told, read_words};
 use std::env;
@@ -13,7 +19,7 @@ use std::process::ExitCode;
 /// The status of a fault of the command line.
 const BAD_WORDS: u8 = 2;
 
-/// As many bytes of the answer are written at once.
+/// As many bytes of an answer that may be long are written at once.
 const AT_ONCE: usize = 65_536;
 
 /// Prints the fault's line on the error stream, and answers its status.
@@ -27,36 +33,78 @@ trait System: Input + Print + Eprint + AllocGlobal + Reach {}
 
 impl<R: Input + Print + Eprint + AllocGlobal + Reach> System for R {}
 
-/// Runs a command on standard input, and writes its answer through a buffer to standard output. Its workers are programs if a
-/// path is given.
-fn answer<R: System>(rt: &R, command: Command, apart: Option<&str>) -> Result<(), CliFault>
-    requires { HasFewWorkers command }
+/// Whether the answer of a command may be longer than memory is large: one of measures has a number for each vertex and odd
+/// priority.
+fn is_long(command: Command) -> bool {
+    matches!(command, Command::Measure { .. } | Command::Replay)
+}
+
+/// Writes the answer to a text as it is made, through a buffer.
+fn print_long<R: System>(rt: &R, command: Command, text: Vec<u8>) -> Result<(), CliFault>
+    requires few { HasFewWorkers command }
+    requires limit { length text.items ≤ MOST_BYTES }
 {
     let alloc = rt.alloc();
     let Ok(mut output) = BufWriter::with_capacity(alloc, AT_ONCE, io::writer(rt)) else {
         return Err(CliFault::OutOfMemory);
     };
-    match apart {
-        Some(path) => run_apart(rt, alloc, command, path, &mut rt.reader(), &mut output)?,
-        None => run(alloc, command, &mut rt.reader(), &mut output)?,
-    }
+    write_answer(alloc, command, text, &mut output)?;
     output.flush().map_err(|_| CliFault::Write)
+}
+
+/// Makes the answer to a text in memory, and writes that.
+fn print<R: System>(
+    rt: &R,
+    command: Command,
+    programs: Option<Programs<R>>,
+    text: Vec<u8>,
+) -> Result<(), CliFault>
+    requires few { HasFewWorkers command }
+    requires limit { length text.items ≤ MOST_BYTES }
+{
+    let alloc = rt.alloc();
+    let answer = match programs {
+        Some(programs) => programs.answer(alloc, command, text)?,
+        None => pg_cli::answer(alloc, command, text)?,
+    };
+    let mut output = io::writer(rt);
+    output.write_all(&answer).map_err(|_| CliFault::Write)?;
+    output.flush().map_err(|_| CliFault::Write)
+}
+
+/// Reads the input of a command, and writes the answer to it. Its workers are programs if a path is given.
+fn answer<R: System>(
+    rt: &R,
+    command: Command,
+    apart: Option<&str>,
+    files: &[&str],
+) -> Result<(), CliFault>
+    requires { HasFewWorkers command }
+{
+    let programs = match apart {
+        Some(path) => Some(Programs::listen(rt, rt.alloc(), command, path)?),
+        None => None,
+    };
+    let text = read(rt, files)?;
+    // programs have ended before what they found is written, however long it takes to be read
+    if programs.is_none() && is_long(command) {
+        print_long(rt, command, text)
+    } else {
+        print(rt, command, programs, text)
+    }
 }
 
 /// Does what the words ask for.
 fn obey<R: System, E: Write>(rt: &R, errors: &mut E, words: &[String]) -> ExitCode {
-    let collected: Result<Vec<&str>, _> = words
-        .iter()
-        .map(|word| word.as_str())
-        .collect(rt.alloc());
-    let Ok(words) = collected else {
+    let Ok(parted) = part_words(rt, words) else {
         return tell(errors, &CliFault::OutOfMemory);
     };
-    let ended = match read_words(rt, words.as_slice()) {
+    let ended = match read_words(rt, parted.others.as_slice()) {
         Ok(Line::Run(command, apart)) => answer(
             rt,
             command,
             apart.as_ref().map(|path| path.as_str()),
+            parted.files.as_slice(),
         ),
         Ok(Line::Work(port)) => work(rt, rt.alloc(), port),
         Err(Told::Asked) => Ok(()),

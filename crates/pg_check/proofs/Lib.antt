@@ -4,7 +4,6 @@ pub mod Wins
 pub mod Leaving
 pub mod Searches
 pub mod Trails
-pub mod Sifting
 pub mod Checking
 pub mod Certified
 pub mod Chosen

@@ -17,7 +17,16 @@ use Rattle.pg_check.specs.Soundness.{Counts}
 use Rattle.pg_check.specs.Mirrors.Cycles.{HasNoCycle, IsTrail}
 use Rattle.pg_check.specs.Mirrors.Searches.{IsSearched, IsTaken, AreTaken, IsExplored}
 use Rattle.pg_map.proofs.Serving.{all_passed}
-use Rattle.pg_check.proofs.Sifting.{here_too}
+
+-- what holds of each item before and of this one
+here_too : (P : ℕ → Type 0) (items : List ℕ) (index w : ℕ) → index < length items → w ≡ get_or items index w
+    → ((k d : ℕ) → k < index → P (get_or items k d)) → P w → (k d : ℕ) → k < index + 1 → P (get_or items k d)
+here_too P items index w inside is before now k d below = elim (cases_lt k index) [
+  | inl lt ↦ before k d lt
+  | inr le ↦
+      let last : k ≡ index = omega arith in
+      subst (λ i. P (get_or items i d)) (sym last) (subst P (is ∙ get_or_default items index w d inside) now)
+]
 
 pub search_begins : (game : List GameVertex) (solution : List Answer) (v : ℕ) → v < length game
     → IsSearched game solution v (v ∷ []) (0 ∷ []) (set (replicate (length game) false) v true)

@@ -1,6 +1,4 @@
 -- What mirrors code: contracts of private functions cite it, and no definition that a reader has to believe does.
 pub mod Cycles
-pub mod Components
 pub mod Searches
 pub mod Orders
-pub mod Proposals

@@ -2,24 +2,17 @@
 //! is made from measures and checked.
 #![tactic(auto)]
 
-mod arranging;
 mod certificate;
-mod chains;
 mod checker;
 mod choices;
-mod components;
 mod cycle;
 mod edges;
 mod fault;
-mod heights;
 pub mod laws;
-mod links;
-mod numbers;
+mod nests;
 mod order;
 mod play;
 mod proposal;
-mod rounds;
-mod sift;
 mod verdict;
 
 pub use certificate::{certifies, check_with};

@@ -1,6 +1,6 @@
 //! Commands whose games are solved by programs.
 
-ghost use Rattle.std.specs.Prelude.{◌≡◌, ◌≢◌, ◌+◌, ◌<◌, ◌⊎◌, ℕ, List, length, IfOk, OnOk, IfSome, IfErr};
+ghost use Rattle.std.specs.Prelude.{◌≡◌, ◌≢◌, ◌+◌, ◌<◌, ◌≤◌, ◌⊎◌, ℕ, List, length, IfOk, OnOk, IfSome, IfErr};
 ghost use Rattle.std.specs.Io.KnownBytes.{Appends};
 ghost use Rattle.pg_command.specs.Input.{StaysWithin};
 ghost use Rattle.pg_command.specs.Measuring.{IsClosedMapOf};
@@ -8,8 +8,8 @@ ghost use Rattle.pg_command.specs.Answers.{PrintsBy, RefusesBy, Prints, Refuses}
 ghost use Rattle.pg_words.specs.Words.{HasFewWorkers, HasNoWorkers};
 
 use crate::over_links::Rounds;
-use crate::program::run_over;
-use pg_command::{CliFault, Command, MOST_BYTES};
+use crate::program::answer_over;
+use pg_command::{CliFault, Command, MOST_BYTES, read_input};
 use pg_coord::{Link, LinkFault, Reach, SocketLink, halt};
 use std::alloc::{AllocError, Global};
 use std::io::{Read, Write};
@@ -54,6 +54,76 @@ fn end<R: Reach>(mut links: Vec<SocketLink<R>>) {
     }
 }
 
+/// The programs that solve for a command, as many as it has workers. They are started where they are first wanted.
+#[derive(Drop)]
+pub struct Programs<R: Reach> {
+    pub links: Vec<SocketLink<R>>,
+}
+
+impl<R: Reach> Programs<R> {
+    ghost use Rattle.std.specs.Prelude.{◌≡◌, ◌<◌, ◌⊎◌, length, unwrap_or, IfOk, IfErr};
+    ghost use Rattle.pg_words.specs.Commands.{workers_of};
+
+    /// Listens for so many programs, each of which will be `path`. Refuses `Listen` where no port of 127.0.0.1 can be listened
+    /// at; where the command asks for no workers, or solves nothing, no program is wanted.
+    pub fn listen(
+        rt: &R,
+        alloc: Global,
+        command: Command,
+        path: &str,
+    ) -> Result<Programs<R>, CliFault>
+        ensures ok { IfOk result (λ programs. length programs.links.items ≡ unwrap_or (workers_of command) 0) }
+        ensures fault { IfErr result (λ e. (e ≡ CliFault.OutOfMemory)
+            ⊎ ((e ≡ CliFault.Listen) × (0 < unwrap_or (workers_of command) 0))) }
+    {
+        let links = program_links(rt, alloc, path, command.workers().unwrap_or(0))?;
+        Ok(Programs { links })
+    }
+
+    /// Writes the answer to a text, as `run_apart` does once it has read its input, and ends the programs. Refuses what
+    /// `write_answer` does, in the same order.
+    pub fn write_answer<W: Write>(
+        mut self,
+        alloc: Global,
+        command: Command,
+        text: Vec<u8>,
+        writer: &mut W,
+    ) -> Result<(), CliFault>
+        requires { length text.items ≤ MOST_BYTES }
+        ensures answer { OnOk result ((output : List ℕ) × PrintsBy IsClosedMapOf command text.items output
+            × Appends (W.contents writer.old) (W.contents writer.new) output) }
+        ensures refused { IfErr result (RefusesBy IsClosedMapOf command text.items) }
+        ensures alone_answer { length self.links.items ≡ 0 → OnOk result ((output : List ℕ)
+            × Prints command text.items output × Appends (W.contents writer.old) (W.contents writer.new) output) }
+        ensures alone_refused { length self.links.items ≡ 0 → IfErr result (Refuses command text.items) }
+        ensures unread { result ≢ Err CliFault.Read }
+        ensures untouched { IfErr result (λ fault. fault ≢ CliFault.Write → writer.new ≡ writer.old) }
+    {
+        let workers = self.links.as_mut_slice();
+        let answered = answer_over(alloc, command, workers, Rounds::BySize, text, writer);
+        end(self.links);
+        answered
+    }
+
+    /// The answer to a text, in memory: from bytes to bytes, whatever the programs do. They are ended. Refuses what
+    /// `write_answer` does, but never `Write`.
+    pub fn answer(self, alloc: Global, command: Command, text: Vec<u8>) -> Result<Vec<u8>, CliFault>
+        requires { length text.items ≤ MOST_BYTES }
+        ensures answer { IfOk result (λ output. PrintsBy IsClosedMapOf command text.items output.items) }
+        ensures refused { IfErr result (RefusesBy IsClosedMapOf command text.items) }
+        ensures unread { result ≢ Err CliFault.Read }
+        ensures unwritten { result ≢ Err CliFault.Write }
+    {
+        let mut output = Vec::new(alloc);
+        match self.write_answer(alloc, command, text, &mut output) {
+            Ok(()) => Ok(output),
+            // A write to memory fails for want of it alone.
+            Err(CliFault::Write) => Err(CliFault::OutOfMemory),
+            Err(fault) => Err(fault),
+        }
+    }
+}
+
 /// As `run`, with the program `path` started as each worker: `path worker --port P`, which has to call `work`. Each program that
 /// was started has ended when this returns; what such a program started in turn may still run.
 ///
@@ -86,9 +156,7 @@ pub fn run_apart<S: Reach, R: Read, W: Write>(
     ensures no_further { StaysWithin (R.remaining reader.old) (R.remaining reader.new) (MOST_BYTES + 1) }
     ensures untouched { IfErr result (λ fault. fault ≢ CliFault.Write → writer.new ≡ writer.old) }
 {
-    let mut links = program_links(rt, alloc, path, command.workers().unwrap_or(0))?;
-    let workers = links.as_mut_slice();
-    let ran = run_over(alloc, command, workers, Rounds::BySize, reader, writer);
-    end(links);
-    ran
+    let programs = Programs::listen(rt, alloc, command, path)?;
+    let text = read_input(alloc, reader)?;
+    programs.write_answer(alloc, command, text, writer)
 }

@@ -8,8 +8,10 @@ mod over_links;
 mod program;
 mod working;
 
-pub use apart::run_apart;
-pub use pg_command::{CliFault, Command, MOST_BYTES, exit_code, laws, winners, write_fault};
+pub use apart::{Programs, run_apart};
+pub use pg_command::{
+    CliFault, Command, MOST_BYTES, exit_code, laws, read_input, winners, write_fault,
+};
 pub use pg_words::{Line, parse_words};
-pub use program::{run, run_with};
+pub use program::{answer, run, run_with, write_answer};
 pub use working::work;

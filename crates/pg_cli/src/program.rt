@@ -63,6 +63,68 @@ pub fn run<R: Read, W: Write>(
     run_over(alloc, command, workers, Rounds::Few, reader, writer)
 }
 
+/// Writes the answer to a text, and nothing else: what `run` does once it has read its input. Refuses what `run` does from
+/// `NoSeparator` on, in the same order; never `Read` and never `InputTooLong`.
+pub fn write_answer<W: Write>(
+    alloc: Global,
+    command: Command,
+    text: Vec<u8>,
+    writer: &mut W,
+) -> Result<(), CliFault>
+    requires few { HasFewWorkers command }
+    requires limit { length text.items ≤ MOST_BYTES }
+    ensures answer { OnOk result ((output : List ℕ) × Prints command text.items output
+        × Appends (W.contents writer.old) (W.contents writer.new) output) }
+    ensures refused { IfErr result (Refuses command text.items) }
+    ensures unread { result ≢ Err CliFault.Read }
+    ensures untouched { IfErr result (λ fault. fault ≢ CliFault.Write → writer.new ≡ writer.old) }
+{
+    let mut links = memory_links(alloc, command.workers().unwrap_or(0))?;
+    let workers = links.as_mut_slice();
+    answer_over(alloc, command, workers, Rounds::Few, text, writer)
+}
+
+/// The answer to a text, in memory: from bytes to bytes. Refuses what `write_answer` does, but never `Write`.
+pub fn answer(alloc: Global, command: Command, text: Vec<u8>) -> Result<Vec<u8>, CliFault>
+    requires few { HasFewWorkers command }
+    requires limit { length text.items ≤ MOST_BYTES }
+    ensures answer { IfOk result (λ output. Prints command text.items output.items) }
+    ensures refused { IfErr result (Refuses command text.items) }
+    ensures unread { result ≢ Err CliFault.Read }
+    ensures unwritten { result ≢ Err CliFault.Write }
+{
+    let mut output = Vec::new(alloc);
+    match write_answer(alloc, command, text, &mut output) {
+        Ok(()) => Ok(output),
+        // A write to memory fails for want of it alone.
+        Err(CliFault::Write) => Err(CliFault::OutOfMemory),
+        Err(fault) => Err(fault),
+    }
+}
+
+/// Writes the answer to a text over the links that are given, by so many rounds.
+pub(crate) fn answer_over<L: Link, W: Write>(
+    alloc: Global,
+    command: Command,
+    links: &mut [L],
+    rounds: Rounds,
+    text: Vec<u8>,
+    writer: &mut W,
+) -> Result<(), CliFault>
+    requires limit { length text.items ≤ MOST_BYTES }
+    ensures answer { OnOk result ((output : List ℕ) × PrintsBy IsClosedMapOf command text.items output
+        × Appends (W.contents writer.old) (W.contents writer.new) output) }
+    ensures refused { IfErr result (RefusesBy IsClosedMapOf command text.items) }
+    ensures honest_answer { All L.is_honest links.old → OnOk result ((output : List ℕ) × Prints command text.items output
+        × Appends (W.contents writer.old) (W.contents writer.new) output) }
+    ensures honest_refused { All L.is_honest links.old → IfErr result (Refuses command text.items) }
+    ensures unread { result ≢ Err CliFault.Read }
+    ensures untouched { IfErr result (λ fault. fault ≢ CliFault.Write → writer.new ≡ writer.old) }
+{
+    let mut finder = OverLinks { links, rounds };
+    pg_command::answer(alloc, command, text, &mut finder, writer)
+}
+
 /// The same over the links that are given, by so many rounds.
 pub(crate) fn run_over<L: Link, R: Read, W: Write>(
     alloc: Global,

@@ -1,6 +1,6 @@
 ghost use Rattle.pg_words.specs.Words.{HasFewWorkers};
 
-use pg_cli::{CliFault, Command, exit_code, run, write_fault};
+use pg_cli::{CliFault, Command, MOST_BYTES, answer, exit_code, run, write_fault};
 use std::alloc::Global;
 use std::io::{self, ErrorKind, Read, Write};
 
@@ -95,6 +95,26 @@ fn each_command_answers(rt: HostRuntime) {
     assert!(rt; answers(alloc, Command::Game, LOOP, GAME));
     assert!(rt; answers(alloc, Command::Synth { workers }, TURNS, CIRCUIT));
     assert!(rt; answers(alloc, Command::Synth { workers }, LOOP, b"UNREALIZABLE\n"));
+}
+
+/// Whether a command answers a text in memory by these bytes.
+fn answers_text(alloc: Global, command: Command, input: &[u8], wanted: &[u8]) -> bool
+    requires { HasFewWorkers command }
+{
+    if input.len() > MOST_BYTES {
+        return false;
+    }
+    let Ok(text) = input.to_vec(alloc) else {
+        return false;
+    };
+    matches!(&answer(alloc, command, text), Ok(output) if output.as_slice() == wanted)
+}
+
+#[test]
+fn a_text_in_memory_is_answered(rt: HostRuntime) {
+    let (alloc, workers) = (rt.alloc(), 2);
+    assert!(rt; answers_text(alloc, Command::Measure { workers }, TWO, b"0 1;\n1 0;\n"));
+    assert!(rt; answers_text(alloc, Command::Synth { workers }, TURNS, CIRCUIT));
 }
 
 /// What `measure` answers to a reader whose read with this number fails, and what was written.

@@ -15,3 +15,4 @@ pub mod Made
 pub mod Realized
 pub mod Within
 pub mod Synthesised
+pub mod Uncontrolled

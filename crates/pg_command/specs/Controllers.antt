@@ -1,8 +1,9 @@
 -- What the answers of `synth` by closed maps, whether or not they are the least, say of endless words.
-use Rattle.std.specs.Prelude.{◌≡◌, ℕ, List, ◌++◌}
+use Rattle.std.specs.Prelude.{◌≡◌, ℕ, zero, suc, Bool, List, [], ◌∷◌, ◌++◌}
 use Rattle.pg_automaton.specs.Automata.{Automaton}
 use Rattle.pg_hoa.specs.AutomatonText.{Spelt}
 use Rattle.pg_automaton.specs.Words.{IsWord, IsAccepted}
+use Rattle.pg_synth.specs.Letters.{joined}
 use Rattle.pg_synth.specs.Tracing.{Traces}
 use Rattle.pg_synth.specs.Machines.{IsInputWord, HasChosenInputs}
 use Rattle.pg_aiger.specs.Circuits.{Circuit}
@@ -44,6 +45,23 @@ NoneAccepted word = (input output : List ℕ) (answer : IsUnrealized IsClosedMap
     → IsWord answer.odd.automaton word → Traces answer.odd.automaton answer.odd.game word play
     → HasChosenInputs answer.odd.automaton answer.odd.game answer.odd.solution word play
     → ¬ IsAccepted answer.odd.automaton answer.odd.spelt.says.condition word
+
+-- the input letters ahead of step t, the last one first
+abbrev pub inputs_before : (ℕ → ℕ) → ℕ → List ℕ
+inputs_before letters zero = []
+inputs_before letters (suc t) = letters t ∷ inputs_before letters t
+
+-- A controller is any function from the input letters so far to an output letter. The word that it makes of an input word:
+abbrev pub controlled_word : List Bool → (List ℕ → ℕ) → (ℕ → ℕ) → ℕ → ℕ
+controlled_word controllable controller letters t =
+    joined controllable (letters t) (controller (inputs_before letters (suc t)))
+
+-- Where the answer is that there is none, each controller has an input word of which it makes a word that isn't accepted.
+abbrev pub NoController : Type 0
+NoController = (input output : List ℕ) (answer : IsUnrealized IsClosedMapOf input output) (controller : List ℕ → ℕ)
+    → (letters : ℕ → ℕ) × IsInputWord answer.odd.automaton letters
+    × (¬ IsAccepted answer.odd.automaton answer.odd.spelt.says.condition
+    (controlled_word answer.odd.automaton.controllable controller letters))
 
 -- no input has both answers
 abbrev pub OneVerdict : Type 0

@@ -1,8 +1,8 @@
 //! Reads a whole input, up to a limit.
 ghost use Rattle.std.specs.Prelude.{◌≡◌, ◌+◌, ◌-◌, ◌≤◌, ◌<◌, ◌⊎◌, IfOk, OnOk, IfErr, IfSome, length, true, false};
 ghost use Rattle.std.specs.Io.KnownBytes.{IsAtEnd};
-ghost use Rattle.pg_command.specs.Input.{StaysWithin};
-ghost use Rattle.pg_command.specs.Mirrors.Reading.{Keeps, IsOver};
+ghost use Rattle.pg_command.specs.Input.{StaysWithin, IsOver};
+ghost use Rattle.pg_command.specs.Mirrors.Reading.{Keeps};
 
 use crate::fault::CliFault;
 use std::alloc::Global;
@@ -44,8 +44,8 @@ fn read_some<R: Read>(reader: &mut R, text: &mut Vec<u8>) -> Result<bool, CliFau
     }
 }
 
-/// Reads to the end. It reads no further than the first byte over the limit.
-pub(crate) fn read_all_limited<R: Read>(alloc: Global, reader: &mut R) -> Result<Vec<u8>, CliFault>
+/// Reads an input to its end. It reads no further than the first byte over the limit.
+pub fn read_input<R: Read>(alloc: Global, reader: &mut R) -> Result<Vec<u8>, CliFault>
     ensures bytes { IfOk result (λ text. IfSome (R.remaining reader.old) (λ input. text.items ≡ input)) }
     ensures end { OnOk result (IsAtEnd (R.remaining reader.new)) }
     ensures limit { IfOk result (λ text. length text.items ≤ MOST_BYTES) }

@@ -6,7 +6,7 @@ ghost use Rattle.pg_automaton.specs.Automata.{Automaton, IsAutomaton};
 ghost use Rattle.pg_automaton.specs.Words.{IsWord};
 ghost use Rattle.pg_synth.specs.AutomatonGames.{IsGameOfAutomaton};
 ghost use Rattle.pg_synth.specs.Laws.{TracesOnePlay};
-ghost use Rattle.pg_command.specs.Controllers.{CircuitAccepted, NoneAccepted, OneVerdict, AnswersWithinLimits};
+ghost use Rattle.pg_command.specs.Controllers.{CircuitAccepted, NoneAccepted, NoController, OneVerdict, AnswersWithinLimits};
 ghost use Rattle.pg_command.specs.Laws.{PrintedWinnersWin, LeastIsClosed, OneAnswer};
 
 use pg_synth::{InputWord, Word};
@@ -67,6 +67,14 @@ pub fn circuit_accepted<W: InputWord>(word: &W)
 /// those that Odd's strategy chooses at the arrivals which the word traces.
 pub fn unrealizable<W: Word>(word: &W)
     ensures { NoneAccepted (W.letter word.now) }
+{
+    pg_synth::laws::unrealizable();
+}
+
+/// Where `synth` prints `UNREALIZABLE`, whichever closed maps are found, there is no controller: each function from the input
+/// letters so far to an output letter has an endless word of input letters of which it makes a word that isn't accepted.
+pub fn no_controller()
+    ensures { NoController }
 {
     pg_synth::laws::unrealizable();
 }

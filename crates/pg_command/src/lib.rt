@@ -21,6 +21,6 @@ mod world_output;
 
 pub use fault::{CliFault, exit_code, write_fault};
 pub use finder::{Finder, Maps};
-pub use input::MOST_BYTES;
+pub use input::{MOST_BYTES, read_input};
 pub use pg_words::Command;
 pub use program::{answer, run_by};

@@ -11,7 +11,7 @@ use crate::check::check;
 use crate::fault::CliFault;
 use crate::finder::Finder;
 use crate::game::game;
-use crate::input::{MOST_BYTES, read_all_limited};
+use crate::input::{MOST_BYTES, read_input};
 use crate::measure::measure;
 use crate::replay::replay;
 use crate::solve::solve;
@@ -82,6 +82,6 @@ pub fn run_by<F: Finder, R: Read, W: Write>(
     ensures untouched { IfErr result (λ fault. fault ≢ CliFault.Write → writer.new ≡ writer.old) }
     ensures unused { IsNone (workers_of command) → finder.new ≡ finder.old }
 {
-    let text = read_all_limited(alloc, reader)?;
+    let text = read_input(alloc, reader)?;
     answer(alloc, command, text, finder, writer)
 }

@@ -3,6 +3,7 @@
 ghost use Rattle.std.specs.Prelude.{◌≡◌, ◌≢◌, ◌↔◌, ◌⊎◌, ◌≤◌, ◌++◌, ℕ, List, [], None, length, drop, IsOk, OnOk, OnErr, IfErr};
 ghost use Rattle.pg_map.specs.Maps.{MapValue};
 ghost use Rattle.pg_wire.specs.declared.frame.Frame.{Frame};
+ghost use Rattle.pg_wire.specs.Spelling.{body, longest};
 ghost use Rattle.pg_wire.specs.Well.{IsWell};
 ghost use Rattle.pg_wire.specs.Bytes.{Spells};
 ghost use Rattle.pg_parts.specs.Frames.{IsAtLeast, measures_in};
@@ -129,7 +130,8 @@ impl MemoryLink {
 
     /// Lets the session do the turn of a frame, unless it has refused one.
     fn take(&mut self, frame: &Frame) -> Result<(), LinkFault>
-        requires { IsWell frame.now }
+        requires well { IsWell frame.now }
+        requires within { length (body frame.now) ≤ longest }
         ensures ok { OnOk result (Sends frame.now self.old self.new) }
         ensures memory { IfErr result (λ e. (e ≡ LinkFault.OutOfMemory) × Empties frame.now self.old self.new) }
         ensures highest { self.new.highest ≡ self.old.highest }
@@ -180,6 +182,8 @@ impl Link for MemoryLink {
     ghost is_honest = { λ l. ⊤ };
 
     ghost is_under = { IsAboveLink };
+
+    ghost is_anew = { λ _. ⊤ };
 
     ghost told = { λ l. None };
 

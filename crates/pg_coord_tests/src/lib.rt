@@ -6,6 +6,8 @@
 #[cfg(test)]
 mod alone;
 #[cfg(test)]
+mod answering;
+#[cfg(test)]
 mod failing;
 #[cfg(test)]
 mod giving_up;

@@ -1,12 +1,12 @@
 -- Terms, and acts one behind another.
-use Rattle.std.proofs.Common.{◌≡◌, ℕ, suc, zero, ◌+◌, ◌-◌, ◌*◌, ◌/◌, ◌^◌, ◌<◌, ◌≤◌, Bool, true, false, cond, ◌&&◌, ◌||◌, ◌==◌}
+use Rattle.std.proofs.Common.{◌≡◌, ℕ, suc, zero, ◌+◌, ◌-◌, ◌*◌, ◌/◌, ◌^◌, ◌<◌, ◌≤◌, min, max, Bool, true, false, cond, ◌&&◌, ◌||◌, ◌==◌}
 use Rattle.std.proofs.Common.{List, [], ◌∷◌, ◌++◌}
 use Rattle.std.proofs.Common.{length, take, drop, get_or, refl, sym, ap, ◌∙◌, arith}
 use Rattle.std.specs.Prelude.{bit_and}
 use Rattle.std.specs.Int.{bit_at}
 use Rattle.std.specs.Int.RustNames.{bit_or}
 use Rattle.std.proofs.lemmas.Nat.{and_assoc, and_comm, or_comm, and_or_self, and_shr, shr_high, pow_pos}
-use Rattle.std.proofs.lemmas.Nat.Bits.{and_pow, bit_at-lt, bit_at_cat_low}
+use Rattle.std.proofs.lemmas.Nat.Bits.{bit_at_and, bit_at_or, and_pow, bit_at-lt, bit_at_cat_low, same_from_bits}
 use Rattle.std.proofs.Math.Seq.{take-append_seam}
 use Rattle.std.proofs.lemmas.Bool.{false≢true}
 use Rattle.std.proofs.lemmas.Bool.Decides.{Decides-eqb, nat_tests}
@@ -18,10 +18,18 @@ use Rattle.pg_hoa.specs.declared.terms.Act.TheVariants.{Put, Not, Both, Either, 
 use Rattle.pg_hoa.specs.Mirrors.Saying.{top, under, perform, run}
 use Rattle.pg_hoa.specs.Mirrors.Letters.{truth, on_at}
 use Rattle.pg_hoa.specs.Mirrors.Acts.{fits, act, act_all, done}
-use Rattle.pg_hoa.proofs.TableNeeds.{and_of_or}
 use Rattle.pg_hoa.proofs.TableWords.{truth_and, truth_or, truth_not, truth_all, on_high}
 
 -- ---- bits of a block's number
+
+spread : (l a b : ℕ) → min l (max a b) ≡ max (min l a) (min l b)
+spread l a b = omega arith
+
+and_of_or : (l a b : ℕ) → bit_and l (bit_or a b) ≡ bit_or (bit_and l a) (bit_and l b)
+and_of_or l a b = same_from_bits (bit_and l (bit_or a b)) (bit_or (bit_and l a) (bit_and l b))
+    (λ i. bit_at_and l (bit_or a b) i ∙ ap (min (bit_at l i)) (bit_at_or a b i) ∙ spread (bit_at l i) (bit_at a i) (bit_at b i)
+    ∙ ap (λ x. max x (min (bit_at l i) (bit_at b i))) (sym (bit_at_and l a i)) ∙ ap (max (bit_at (bit_and l a) i)) (sym (bit_at_and l b i))
+    ∙ sym (bit_at_or (bit_and l a) (bit_and l b) i))
 
 same_test : (a b c d : ℕ) → (a ≡ b → c ≡ d) → (c ≡ d → a ≡ b) → (a == b) ≡ (c == d)
 same_test a b c d p q = grind (arith, nat_tests, Decides-eqb a b, Decides-eqb c d)
@@ -237,9 +245,9 @@ pub either_joined : (old rest now new : List Act) (t : Term) (b j : ℕ) → old
 either_joined old rest now new t b j o n e = e ∙ ap (λ l. (top (done l b j) || fits b j t) ∷ under (done l b j)) n
     ∙ sym (ap (λ s. (top (under s) || top s) ∷ under (under s)) (done_more rest old (Put t) b j o))
 
--- acts that were lent as a slice
-pub given_back : (many : ℕ) (acts behind : List Act) → length acts ≡ many → take many (acts ++ behind) ≡ acts
-given_back many acts behind e = ap (λ n. take n (acts ++ behind)) (sym e) ∙ take-append_seam acts behind
+-- items that were lent as a slice
+pub given_back : {A : Type 0} (many : ℕ) (items behind : List A) → length items ≡ many → take many (items ++ behind) ≡ items
+given_back many items behind e = ap (λ n. take n (items ++ behind)) (sym e) ∙ take-append_seam items behind
 
 -- one operation more
 pub next_op : (label : List Op) (i : ℕ) (op d : Op) (on : ℕ → Bool) (stack more : List Bool) → i < length label → op ≡ get_or label i d

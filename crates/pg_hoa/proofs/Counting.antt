@@ -1,13 +1,13 @@
 -- The set of a step that counts.
-use Rattle.std.proofs.Common.{◌≡◌, ◌≢◌, ◌∙◌, ℕ, suc, zero, ◌<◌, ◌≤◌, ◌-◌, min, max, List, [], ◌∷◌, ◌++◌, length, Option, Some, None, refl}
-use Rattle.std.proofs.Common.{sym, ap, arith, inl, inr, ◌⊎◌}
-use Rattle.std.specs.Prelude.{slice_get}
+use Rattle.std.proofs.Common.{◌≡◌, ◌≢◌, ◌∙◌, ℕ, suc, zero, ◌<◌, ◌≤◌, min, max, List, [], ◌∷◌, ◌++◌, Option, Some, None, refl}
+use Rattle.std.proofs.Common.{sym, ap, append_assoc, arith, inl, inr, ◌⊎◌}
 use Rattle.std.proofs.lemmas.Bool.Decides.{nat_tests}
 use Rattle.pg_automaton.specs.declared.shape.Shape.{Shape}
 use Rattle.pg_automaton.specs.declared.shape.Shape.TheVariants.{MaxEven, MaxOdd, MinEven, MinOdd, Always, Never}
 use Rattle.pg_automaton.specs.Automata.{first, last, deciding}
 use Rattle.pg_lists.specs.Rising.{put, rising}
-use Rattle.pg_hoa.specs.Mirrors.Tables.{with_set}
+use Rattle.pg_hoa.specs.Mirrors.Tables.{with_set, with_sets}
+use Rattle.std.proofs.lemmas.List.{append-nil}
 use Rattle.pg_lists.proofs.Steps.{some, some_is}
 use Rattle.pg_lists.proofs.Rising.{rising_pairs, rising_put}
 use Rattle.pg_lists.proofs.Contained.{Rises, pairs_tail}
@@ -100,3 +100,10 @@ one_more_counts shape xs n = deciding_put shape n (rising xs) (rising_pairs xs) 
 pub none_counts : (shape : Shape) → None ≡ deciding shape []
 none_counts MaxEven = refl
 none_counts _ = refl
+
+pub all_count : (shape : Shape) (counts : Option ℕ) (own sets : List ℕ) → counts ≡ deciding shape (rising own)
+    → with_sets shape counts sets ≡ deciding shape (rising (own ++ sets))
+all_count shape counts own [] e = e ∙ ap (λ xs. deciding shape (rising xs)) (sym (append-nil own))
+all_count shape counts own (n ∷ sets) e =
+    all_count shape (with_set shape counts n) (own ++ (n ∷ [])) sets (ap (λ o. with_set shape o n) e ∙ one_more_counts shape own n)
+    ∙ ap (λ xs. deciding shape (rising xs)) (append_assoc own (n ∷ []) sets)

@@ -44,8 +44,8 @@ pub mod Strings
 pub mod TableAnswers
 pub mod TableFilling
 pub mod TableLaws
-pub mod TableNeeds
 pub mod TableNumbers
 pub mod TablePlaces
+pub mod TableRegrouped
 pub mod TableWords
 pub mod Turning

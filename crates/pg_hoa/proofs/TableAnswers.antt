@@ -1,5 +1,5 @@
 -- What a filled table answers.
-use Rattle.std.proofs.Common.{◌≡◌, ℕ, ◌+◌, ◌*◌, ◌/◌, ◌%◌, ◌<◌, ◌≤◌, true, cond, ◌&&◌, ltb, List, [], ◌∷◌, length, map, get_or, replicate}
+use Rattle.std.proofs.Common.{◌≡◌, ℕ, zero, suc, ◌+◌, ◌*◌, ◌/◌, ◌%◌, ◌<◌, ◌≤◌, true, false, cond, ◌&&◌, ltb, List, [], ◌∷◌, length, map, get_or, replicate}
 use Rattle.std.proofs.Common.{None, ap, subst, ◌∙◌, arith}
 use Rattle.std.proofs.lemmas.Bool.Decides.{Decides-ltb}
 use Rattle.std.proofs.lemmas.Nat.{div-mul-add, mod-mul-add, mul-add-lt, div_below, mod_below, div-add-mod', mul-le}
@@ -11,6 +11,8 @@ use Rattle.pg_hoa.specs.AutomatonText.{Agree, head}
 use Rattle.pg_hoa.specs.Mirrors.Kept.{KeptLine}
 use Rattle.pg_automaton.specs.Mirrors.Tables.{numbered}
 use Rattle.pg_hoa.specs.Mirrors.Tables.{Stage, Leads, IsFilled, Adds, at_lines, kept_steps, IsTableOf, IsFirstConflict}
+use Rattle.pg_hoa.specs.Mirrors.Letters.{truth}
+use Rattle.pg_hoa.proofs.TableWords.{truth_none}
 use Rattle.pg_hoa.proofs.TableFilling.{nothing_yet}
 
 leads_head : (t : Stage) (n : ℕ) (steps : List Step) → Leads t n steps → numbered t.steps t.lists n ≡ head steps
@@ -70,11 +72,19 @@ first_conflict shape lines states letters t f some many there = record {
       subst (Agree shape) (at_place (kept_steps lines) (t.conflict / letters) letters l k) (f.agree_before (t.conflict / letters * letters + l) place);
 }
 
+zeros_stay : (n b j : ℕ) → truth (get_or (replicate n 0) b 0) j ≡ false
+zeros_stay zero b j = truth_none j
+zeros_stay (suc n) zero j = truth_none j
+zeros_stay (suc n) (suc b) j = zeros_stay n b j
+
+pub nothing_covered : (n : ℕ) (words : List ℕ) → words ≡ replicate n 0 → (b j : ℕ) → truth (get_or words b 0) j ≡ false
+nothing_covered n words e b j = ap (λ (l : List ℕ). truth (get_or l b 0) j) e ∙ zeros_stay n b j
+
 pub all_filled : (shape : Shape) (letters n : ℕ) (all lines : List KeptLine) (t u : Stage) → t.slots ≡ replicate n 0 → t.conflict ≡ n
-    → lines ≡ all → Adds shape (at_lines letters lines) t u → IsFilled shape u (at_lines letters all) × (length u.slots ≡ n)
-all_filled shape letters n all lines t u zeros c is a =
+    → ((b j : ℕ) → truth (get_or t.covered.words.items b 0) j ≡ false) → lines ≡ all → Adds shape (at_lines letters lines) t u → IsFilled shape u (at_lines letters all) × (length u.slots ≡ n)
+all_filled shape letters n all lines t u zeros c none is a =
     let many : length t.slots ≡ n = ap length zeros ∙ length-replicate n 0 in
     let made : IsFilled shape u (at_lines letters lines) =
     a.fills (λ i. []) (nothing_yet shape t (λ i h. ap (λ l. get_or l i 0) zeros ∙ get_or-replicate n i 0 0 (omega arith))
-    (omega arith)) in
+    (omega arith) none) in
     (subst (λ l. IsFilled shape u (at_lines letters l)) is made, a.as_many ∙ many)

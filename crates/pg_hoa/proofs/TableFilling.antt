@@ -1,26 +1,28 @@
 -- What one more step does to a table that is being filled.
-use Rattle.std.proofs.Common.{◌≡◌, ℕ, ◌+◌, ◌<◌, ◌≤◌, Bool, true, false, ◌==◌, List, [], ◌∷◌, ◌++◌, length, get_or, set, replicate, Option}
-use Rattle.std.proofs.Common.{Some, None, refl, sym, ap, subst, ◌∙◌, arith, append_assoc, inl, inr, ◌⊎◌}
+use Rattle.std.proofs.Common.{◌≡◌, ℕ, ◌+◌, ◌*◌, ◌<◌, ◌≤◌, Bool, true, false, ◌==◌, ◌||◌, List, [], ◌∷◌, ◌++◌, length, get_or, set, Option}
+use Rattle.std.proofs.Common.{Some, None, refl, sym, ap, subst, ◌∙◌, arith, append_assoc}
 use Rattle.std.specs.Prelude.{option_map}
-use Rattle.std.specs.List.{All}
+use Rattle.std.specs.List.{All, list_any}
 use Rattle.std.proofs.lemmas.List.{append-nil, get_or-set_same, get_or-set_other, length-set}
-use Rattle.std.proofs.lemmas.List.Elements.{All-nil, All-cons, All-head, All-tail, All-push, All-weaker, All-set, All-replicate}
+use Rattle.std.proofs.lemmas.List.Elements.{All-nil, All-cons, All-head, All-tail, All-push, All-weaker}
+use Rattle.std.proofs.lemmas.List.Folds.{list_any-append}
 use Rattle.std.proofs.lemmas.Bool.{false≢true}
 use Rattle.std.proofs.lemmas.Bool.Decides.{Decides-eqb, nat_tests}
 use Rattle.pg_automaton.specs.declared.shape.Shape.{Shape}
 use Rattle.pg_automaton.specs.Automata.{Step, deciding}
 use Rattle.pg_hoa.specs.AutomatonText.{Agree}
 use Rattle.pg_automaton.specs.Mirrors.Tables.{numbered}
-use Rattle.pg_hoa.specs.Mirrors.Tables.{Stage, same_set, agree, Leads, Extends, HasKey, IsHeld, AreHeld, IsFilled, Adds, when, at_slot}
-use Rattle.pg_hoa.specs.declared.table.Held.{Held}
+use Rattle.pg_hoa.specs.declared.table.Covered.{Covered}
+use Rattle.pg_hoa.specs.declared.table.Way.{Way}
+use Rattle.pg_hoa.specs.Mirrors.Tables.{Stage, same_set, has_key, agree, HasKey, Covers, Leads, Extends, IsFilled, Adds, IsCovered, IsDecided}
+use Rattle.pg_hoa.specs.Mirrors.Tables.{when, way_step, at_slot}
 use Rattle.pg_hoa.specs.Mirrors.Letters.{truth}
 use Rattle.pg_hoa.proofs.Lists.{both_true}
-use Rattle.pg_hoa.proofs.TableWords.{truth_none}
 use Rattle.pg_lists.proofs.Steps.{some, some_is, none_is_some}
 
 -- ---- steps that agree
 
-abbrev SameKey : Shape → Step → Step → Type 0
+abbrev pub SameKey : Shape → Step → Step → Type 0
 SameKey shape s t = (s.target ≡ t.target) × (deciding shape s.sets ≡ deciding shape t.sets)
 
 all_but_last : {X : Type 0} (P : X → Type 0) (xs : List X) (x : X) → All P (xs ++ (x ∷ [])) → All P xs
@@ -50,7 +52,7 @@ agree_more shape s t steps h same =
     (All-weaker (SameKey shape s) (SameKey shape t) (λ x p. (sym same.0 ∙ p.0, sym same.1 ∙ p.1)) (s ∷ steps) first)
     (refl, refl))
 
-agree_less : (shape : Shape) (steps : List Step) (t : Step) → Agree shape (steps ++ (t ∷ [])) → Agree shape steps
+pub agree_less : (shape : Shape) (steps : List Step) (t : Step) → Agree shape (steps ++ (t ∷ [])) → Agree shape steps
 agree_less shape steps t h =
     All-weaker (λ x. All (SameKey shape x) (steps ++ (t ∷ []))) (λ x. All (SameKey shape x) steps) (λ x p. all_but_last (SameKey shape x) steps t p) steps
     (all_but_last (λ x. All (SameKey shape x) (steps ++ (t ∷ []))) steps t h)
@@ -69,16 +71,64 @@ same_set_is (Some a) (Some b) e = ap some ((Decides-eqb a b).0 e)
 same_set_is None (Some b) e = absurd (false≢true e)
 same_set_is (Some a) None e = absurd (false≢true e)
 
-agree_key : (shape : Shape) (s t : Step) → agree shape s t ≡ true → SameKey shape s t
-agree_key shape s t e = grind (
-  arith,
-  nat_tests,
-  both_true (s.target == t.target) (same_set (deciding shape s.sets) (deciding shape t.sets)) e,
-  Decides-eqb s.target t.target,
-)
+key_is : (shape : Shape) (target : ℕ) (counts : Option ℕ) (s : Step) → has_key shape target counts s ≡ true
+    → (s.target ≡ target) × (deciding shape s.sets ≡ counts)
+key_is shape target counts s e =
+    let p = both_true (s.target == target) (same_set (deciding shape s.sets) counts) e in
+    ((Decides-eqb s.target target).0 p.0, same_set_is (deciding shape s.sets) counts p.1)
 
-key_agrees : (shape : Shape) (s t : Step) → SameKey shape s t → agree shape s t ≡ true
-key_agrees shape s t k = grind (arith, nat_tests, Decides-eqb s.target t.target, same_set_refl (deciding shape t.sets))
+pub is_key : (shape : Shape) (target : ℕ) (counts : Option ℕ) (s : Step) → s.target ≡ target → deciding shape s.sets ≡ counts
+    → has_key shape target counts s ≡ true
+is_key shape target counts s p q = grind (arith, nat_tests, Decides-eqb s.target target, same_set_refl counts)
+
+pub own_key : (shape : Shape) (s : Step) → has_key shape s.target (deciding shape s.sets) s ≡ true
+own_key shape s = is_key shape s.target (deciding shape s.sets) s refl refl
+
+-- ---- steps with one of a key
+
+either_left : (a b : Bool) → a ≡ true → (a || b) ≡ true
+either_left true b e = refl
+either_left false b e = absurd (false≢true e)
+
+either_right : (a b : Bool) → b ≡ true → (a || b) ≡ true
+either_right true b e = refl
+either_right false b e = e
+
+pub has_more : (shape : Shape) (target : ℕ) (counts : Option ℕ) (xs ys : List Step) → HasKey shape target counts xs → HasKey shape target counts (xs ++ ys)
+has_more shape target counts xs ys h = list_any-append (has_key shape target counts) xs ys
+    ∙ either_left (list_any (has_key shape target counts) xs) (list_any (has_key shape target counts) ys) h
+
+pub has_behind : (shape : Shape) (target : ℕ) (counts : Option ℕ) (xs ys : List Step) → HasKey shape target counts ys → HasKey shape target counts (xs ++ ys)
+has_behind shape target counts xs ys h = list_any-append (has_key shape target counts) xs ys
+    ∙ either_right (list_any (has_key shape target counts) xs) (list_any (has_key shape target counts) ys) h
+
+pub has_first : (shape : Shape) (target : ℕ) (counts : Option ℕ) (x : Step) (xs : List Step) → has_key shape target counts x ≡ true
+    → HasKey shape target counts (x ∷ xs)
+has_first shape target counts x xs e = either_left (has_key shape target counts x) (list_any (has_key shape target counts) xs) e
+
+pub has_later : (shape : Shape) (target : ℕ) (counts : Option ℕ) (x : Step) (xs : List Step) → HasKey shape target counts xs
+    → HasKey shape target counts (x ∷ xs)
+has_later shape target counts x xs h = either_right (has_key shape target counts x) (list_any (has_key shape target counts) xs) h
+
+-- where all steps have one key, that is the key
+pub only_key : (shape : Shape) (x : Step) (target : ℕ) (counts : Option ℕ) (xs : List Step) → All (SameKey shape x) xs → HasKey shape target counts xs
+    → (x.target ≡ target) × (deciding shape x.sets ≡ counts)
+only_key shape x target counts [] all h = absurd (false≢true h)
+only_key shape x target counts (y ∷ ys) all h = go (has_key shape target counts y) refl h
+    (λ later. only_key shape x target counts ys (All-tail (SameKey shape x) y ys all) later)
+  where
+    go : (b : Bool) → has_key shape target counts y ≡ b → (b || list_any (has_key shape target counts) ys) ≡ true
+        → (HasKey shape target counts ys → (x.target ≡ target) × (deciding shape x.sets ≡ counts))
+        → (x.target ≡ target) × (deciding shape x.sets ≡ counts)
+    go true e h rest =
+        let k = key_is shape target counts y e in
+        let same = All-head (SameKey shape x) y ys all in
+        (same.0 ∙ k.0, same.1 ∙ k.1)
+    go false e h rest = rest h
+
+covers_more : (shape : Shape) (c d : Covered) (given more : ℕ → List Step) → d ≡ c → Covers shape c given → Covers shape d (λ i. given i ++ more i)
+covers_more shape c d given more e h = subst (λ x. Covers shape x (λ i. given i ++ more i)) (sym e) (λ b j small bit.
+    has_more shape c.target c.counts (given (c.first + (b * 64 + j))) (more (c.first + (b * 64 + j))) (h b j small bit))
 
 -- ---- a slot
 
@@ -96,7 +146,7 @@ leads_some : (t : Stage) (n : ℕ) (steps : List Step) (x : Step) → Leads t n 
 leads_some t n [] x h e = absurd (none_is_some x (sym (ap (numbered t.steps t.lists) h) ∙ e))
 leads_some t n (s ∷ steps) x h e = (steps, ap (λ y. y ∷ steps) (some_is s x (sym h ∙ e)))
 
-when_cases : (P : List Step → Type 0) (steps : List Step) (b : Bool) (s : Step) → P steps → (b ≡ true → P (steps ++ (s ∷ []))) → P (steps ++ when b s)
+pub when_cases : (P : List Step → Type 0) (steps : List Step) (b : Bool) (s : Step) → P steps → (b ≡ true → P (steps ++ (s ∷ []))) → P (steps ++ when b s)
 when_cases P steps true s other same = same refl
 when_cases P steps false s other same = subst P (sym (append-nil steps)) other
 
@@ -132,61 +182,62 @@ still_not_there shape t given slot s f h =
     slot_cases (λ l. Agree shape l → ⊥) (given t.conflict) slot t.conflict s (λ _. f.not_there h)
     (λ _ a. f.not_there h (agree_less shape (given t.conflict) s a))
 
--- the slots before an earlier conflict keep their notes
-held_later : (shape : Shape) (t u : Stage) → u.held ≡ t.held → u.conflict ≤ t.conflict
-    → ((i target : ℕ) (counts : Option ℕ) → HasKey shape t i target counts → HasKey shape u i target counts) → AreHeld shape t
-    → AreHeld shape u
-held_later shape t u e sinks keeps all = subst (All (IsHeld shape u)) (sym e)
-    (All-weaker (IsHeld shape t) (IsHeld shape u) (λ h held j small bit early. keeps (h.first + j) h.target h.counts
-    (held j small bit (omega arith))) t.held all)
+-- ---- a step that changes nothing
 
-pub key_compared : (shape : Shape) (t : Stage) (slot : ℕ) (s : Step) (counts : Option ℕ) → counts ≡ deciding shape s.sets
-    → Compares shape t slot s (Some true) → HasKey shape t slot s.target counts
-key_compared shape t slot s counts d e =
-    let x = mapped_some (λ x. agree shape x s) (numbered t.steps t.lists (get_or t.slots slot 0)) true e in
-    let k = agree_key shape x.0 s x.2 in
-    record { there = x.0; is_there = x.1; to_target = k.0; same_counts = k.1 ∙ sym d }
+leads_again : (u : Stage) (n : ℕ) (shape : Shape) (s : Step) (steps : List Step) → HasKey shape s.target (deciding shape s.sets) steps → Leads u n steps
+    → Leads u n (steps ++ (s ∷ []))
+leads_again u n shape s [] h leads = absurd (false≢true h)
+leads_again u n shape s (x ∷ xs) h leads = leads
 
--- steps that agree with what the slots are known to hold
-pub adds_held : (shape : Shape) (t : Stage) (b : ℕ → Bool) (s : Step) (counts : Option ℕ) → counts ≡ deciding shape s.sets
-    → ((i : ℕ) → i < t.conflict → b i ≡ true → HasKey shape t i s.target counts) → Adds shape (λ i. when (b i) s) t t
-adds_held shape t b s counts d has = record {
+agree_again : (shape : Shape) (s : Step) (steps : List Step) → HasKey shape s.target (deciding shape s.sets) steps → Agree shape steps
+    → Agree shape (steps ++ (s ∷ []))
+agree_again shape s [] h agree = absurd (false≢true h)
+agree_again shape s (x ∷ xs) h agree = agree_more shape x s xs agree
+    (only_key shape x s.target (deciding shape s.sets) (x ∷ xs) (All-head (λ y. All (SameKey shape y) (x ∷ xs)) x xs agree) h)
+
+-- a step of a key that is there already
+adds_again : (shape : Shape) (t : Stage) (b : ℕ → Bool) (s : Step)
+    → ((given : ℕ → List Step) → IsFilled shape t given → (i : ℕ) → i < t.conflict → b i ≡ true → HasKey shape s.target (deciding shape s.sets) (given i))
+    → Adds shape (λ i. when (b i) s) t t
+adds_again shape t b s has = record {
   as_many = refl;
   sinks = omega arith;
-  keeps = λ i target counts h. h;
-  holds = λ all. all;
-  fills = λ given f.
-      let first = λ (i : ℕ) (k : i < t.conflict) (e : b i ≡ true). leads_some t (get_or t.slots i 0) (given i) (has i k e).there
-      (f.leads i k) (has i k e).is_there in
-      record {
-        leads = λ i k. when_cases (Leads t (get_or t.slots i 0)) (given i) (b i) s (f.leads i k)
-            (λ e. subst (λ (l : List Step). Leads t (get_or t.slots i 0) (l ++ (s ∷ []))) (sym (first i k e).1) (has i k e).is_there);
-        conflict_within = f.conflict_within;
-        agree_before = λ i k. when_cases (Agree shape) (given i) (b i) s (f.agree_before i k)
-            (λ e. subst (λ (l : List Step). Agree shape (l ++ (s ∷ []))) (sym (first i k e).1)
-            (agree_more shape (has i k e).there s (first i k e).0 (subst (Agree shape) (first i k e).1 (f.agree_before i k))
-            ((has i k e).to_target, (has i k e).same_counts ∙ d)));
-        not_there = λ k. when_cases (λ l. Agree shape l → ⊥) (given t.conflict) (b t.conflict) s (f.not_there k)
-            (λ _ a. f.not_there k (agree_less shape (given t.conflict) s a));
-      };
+  lists = λ place list e. e;
+  fills = λ given f. record {
+    leads = λ i k. when_cases (Leads t (get_or t.slots i 0)) (given i) (b i) s (f.leads i k)
+        (λ e. leads_again t (get_or t.slots i 0) shape s (given i) (has given f i k e) (f.leads i k));
+    conflict_within = f.conflict_within;
+    agree_before = λ i k. when_cases (Agree shape) (given i) (b i) s (f.agree_before i k)
+        (λ e. agree_again shape s (given i) (has given f i k e) (f.agree_before i k));
+    not_there = λ k. when_cases (λ l. Agree shape l → ⊥) (given t.conflict) (b t.conflict) s (f.not_there k)
+        (λ _ a. f.not_there k (agree_less shape (given t.conflict) s a));
+    covers = covers_more shape t.covered t.covered given (λ i. when (b i) s) refl f.covers;
+  };
 }
 
+pub adds_covered : (w : Way) (t : Stage) (b : ℕ → Bool) → IsDecided w → ((i : ℕ) → b i ≡ true → IsCovered w t i)
+    → Adds w.shape (λ i. when (b i) (way_step w)) t t
+adds_covered w t b d has = adds_again w.shape t b (way_step w)
+    (λ given f i k e. subst (λ c. HasKey w.shape w.target c (given i)) d (has i e given f))
+
 pub adds_agreeing : (shape : Shape) (t : Stage) (slot : ℕ) (s : Step) → Compares shape t slot s (Some true) → Adds shape (at_slot slot s) t t
-adds_agreeing shape t slot s e = adds_held shape t (λ i. i == slot) s (deciding shape s.sets) refl
-    (λ i k same. subst (λ j. HasKey shape t j s.target (deciding shape s.sets)) (sym ((Decides-eqb i slot).0 same))
-    (key_compared shape t slot s (deciding shape s.sets) refl e))
+adds_agreeing shape t slot s e = adds_again shape t (λ i. i == slot) s (λ given f i k same.
+    let is : slot ≡ i = sym ((Decides-eqb i slot).0 same) in
+    let x = first_there shape t given slot s true (omega (arith, k, is)) f e in
+    subst (λ j. HasKey shape s.target (deciding shape s.sets) (given j)) is
+    (subst (HasKey shape s.target (deciding shape s.sets)) (sym x.2) (has_first shape s.target (deciding shape s.sets) x.0 x.1 x.3)))
 
 pub adds_late_clash : (shape : Shape) (t : Stage) (slot : ℕ) (s : Step) → t.conflict ≤ slot → Adds shape (at_slot slot s) t t
 adds_late_clash shape t slot s late = record {
   as_many = refl;
   sinks = omega arith;
-  keeps = λ i target counts h. h;
-  holds = λ all. all;
+  lists = λ place list e. e;
   fills = λ given f. record {
     leads = λ i k. slot_cases (Leads t (get_or t.slots i 0)) (given i) slot i s (λ _. f.leads i k) (λ is. absurd (omega arith));
     conflict_within = f.conflict_within;
     agree_before = λ i k. slot_cases (Agree shape) (given i) slot i s (λ _. f.agree_before i k) (λ is. absurd (omega arith));
     not_there = still_not_there shape t given slot s f;
+    covers = covers_more shape t.covered t.covered given (at_slot slot s) refl f.covers;
   };
 }
 
@@ -195,8 +246,7 @@ pub adds_clash : (shape : Shape) (t u : Stage) (slot : ℕ) (s : Step) → Compa
 adds_clash shape t u slot s e early is = subst (Adds shape (at_slot slot s) t) (sym is) (record {
   as_many = refl;
   sinks = omega arith;
-  keeps = keeps;
-  holds = held_later shape t (record t { conflict = slot }) refl (omega arith) keeps;
+  lists = λ place list e. e;
   fills = λ given f. record {
     leads = λ i k. slot_cases (Leads t (get_or t.slots i 0)) (given i) slot i s (λ _. f.leads i (omega arith)) (λ is. absurd (omega arith));
     conflict_within = omega (arith, f.conflict_within);
@@ -205,12 +255,10 @@ adds_clash shape t u slot s e early is = subst (Adds shape (at_slot slot s) t) (
         (λ _ a.
         let x = first_there shape t given slot s false early f e in
         let k = agree_last shape x.0 s x.1 (subst (λ (l : List Step). Agree shape (l ++ (s ∷ []))) x.2 a) in
-        false≢true (sym x.3 ∙ key_agrees shape x.0 s k));
+        false≢true (sym x.3 ∙ is_key shape s.target (deciding shape s.sets) x.0 k.0 k.1));
+    covers = covers_more shape t.covered t.covered given (at_slot slot s) refl f.covers;
   };
 })
-  where
-    keeps : (i target : ℕ) (counts : Option ℕ) → HasKey shape t i target counts → HasKey shape (record t { conflict = slot }) i target counts
-    keeps i target counts h = record { there = h.there; is_there = h.is_there; to_target = h.to_target; same_counts = h.same_counts }
 
 -- ---- an empty slot
 
@@ -219,8 +267,7 @@ pub adds_first : (shape : Shape) (t u v : Stage) (slot n : ℕ) (s : Step) → s
 adds_first shape t u v slot n s h e x there is = subst (Adds shape (at_slot slot s) t) (sym is) (record {
   as_many = length-set u.slots slot n ∙ ap length x.slots;
   sinks = omega (arith, x.conflict);
-  keeps = keeps;
-  holds = held_later shape t (record u { slots = set u.slots slot n }) x.held (omega (arith, x.conflict)) keeps;
+  lists = x.lists;
   fills = λ given f.
       let many : length (set u.slots slot n) ≡ length t.slots = length-set u.slots slot n ∙ ap length x.slots in
       let none_yet = λ (k : slot < t.conflict). leads_none t (get_or t.slots slot 0) (given slot) (f.leads slot k) nothing in
@@ -241,6 +288,7 @@ adds_first shape t u v slot n s h e x there is = subst (Adds shape (at_slot slot
             subst (λ (l : List Step). Agree shape (l ++ (s ∷ []))) (sym empty) (agree_one shape s));
         not_there = λ k. let back = still_not_there shape t given slot s f (omega (arith, x.conflict, many)) in
             subst (λ c. Agree shape (given c ++ at_slot slot s c) → ⊥) (sym x.conflict) back;
+        covers = covers_more shape t.covered u.covered given (at_slot slot s) x.covered f.covers;
       };
 })
   where
@@ -250,61 +298,56 @@ adds_first shape t u v slot n s h e x there is = subst (Adds shape (at_slot slot
     elsewhere : (i : ℕ) → (i ≡ slot → ⊥) → get_or (set u.slots slot n) i 0 ≡ get_or t.slots i 0
     elsewhere i other = get_or-set_other u.slots slot i n 0 other ∙ ap (λ l. get_or l i 0) x.slots
 
-    keeps : (i target : ℕ) (counts : Option ℕ) → HasKey shape t i target counts → HasKey shape (record u { slots = set u.slots slot n }) i target counts
-    keeps i target counts h =
-        let other : (i ≡ slot → ⊥) = λ same. none_is_some h.there (sym nothing ∙ ap (λ j. numbered t.steps t.lists (get_or t.slots j 0))
-        (sym same) ∙ h.is_there) in
-        record {
-          there = h.there;
-          is_there = ap (numbered u.steps u.lists) (elsewhere i other) ∙ x.numbers (get_or t.slots i 0) h.there h.is_there;
-          to_target = h.to_target;
-          same_counts = h.same_counts;
-        }
-
-pub key_first : (shape : Shape) (u v : Stage) (slot n : ℕ) (s : Step) (counts : Option ℕ) → counts ≡ deciding shape s.sets
-    → slot < length u.slots → numbered u.steps u.lists n ≡ Some s → v ≡ record u { slots = set u.slots slot n }
-    → HasKey shape v slot s.target counts
-key_first shape u v slot n s counts d h there is = subst (λ w. HasKey shape w slot s.target counts) (sym is) (record {
-  there = s;
-  is_there = ap (numbered u.steps u.lists) (get_or-set_same u.slots slot n 0 h) ∙ there;
-  to_target = refl;
-  same_counts = sym d;
-})
-
 -- ---- one after another
 
-refilled : (shape : Shape) (t : Stage) (f g : ℕ → List Step) → IsFilled shape t f → ((i : ℕ) → i < length t.slots → f i ≡ g i) → IsFilled shape t g
-refilled shape t f g h e = grind (arith, nat_tests)
+refilled : (shape : Shape) (t : Stage) (f g : ℕ → List Step) → IsFilled shape t f → ((i : ℕ) → f i ≡ g i) → IsFilled shape t g
+refilled shape t f g h e = record {
+  leads = λ i k. subst (Leads t (get_or t.slots i 0)) (e i) (h.leads i k);
+  conflict_within = h.conflict_within;
+  agree_before = λ i k. subst (Agree shape) (e i) (h.agree_before i k);
+  not_there = λ k a. h.not_there k (subst (Agree shape) (sym (e t.conflict)) a);
+  covers = λ b j small bit. subst (HasKey shape t.covered.target t.covered.counts) (e (t.covered.first + (b * 64 + j))) (h.covers b j small bit);
+}
 
-pub adds_none : (shape : Shape) (more : ℕ → List Step) (t : Stage) → ((i : ℕ) → i < length t.slots → more i ≡ []) → Adds shape more t t
+pub adds_none : (shape : Shape) (more : ℕ → List Step) (t : Stage) → ((i : ℕ) → more i ≡ []) → Adds shape more t t
 adds_none shape more t e = record {
   as_many = refl;
   sinks = omega arith;
-  keeps = λ i target counts h. h;
-  holds = λ all. all;
-  fills = λ given f. refilled shape t given (λ i. given i ++ more i) f (λ i k. sym (ap (λ l. given i ++ l) (e i k) ∙ append-nil (given i)));
+  lists = λ place list e. e;
+  fills = λ given f. refilled shape t given (λ i. given i ++ more i) f (λ i. sym (ap (λ l. given i ++ l) (e i) ∙ append-nil (given i)));
+}
+
+pub adds_extended : (shape : Shape) (t u : Stage) → Extends t u → Adds shape (λ i. []) t u
+adds_extended shape t u x = record {
+  as_many = ap length x.slots;
+  sinks = omega (arith, x.conflict);
+  lists = x.lists;
+  fills = λ given f. refilled shape u given (λ i. given i ++ []) (record {
+    leads = λ i k. subst (λ l. Leads u (get_or l i 0) (given i)) (sym x.slots)
+        (leads_extended t u (get_or t.slots i 0) (given i) x (f.leads i (omega (arith, k, x.conflict))));
+    conflict_within = omega (arith, x.conflict, f.conflict_within, ap length x.slots);
+    agree_before = λ i k. f.agree_before i (omega (arith, k, x.conflict));
+    not_there = λ k. subst (λ c. Agree shape (given c) → ⊥) (sym x.conflict) (f.not_there (omega (arith, k, x.conflict, ap length x.slots)));
+    covers = subst (λ c. Covers shape c given) (sym x.covered) f.covers;
+  }) (λ i. sym (append-nil (given i)));
 }
 
 pub adds_then : (shape : Shape) (g h k : ℕ → List Step) (t u v : Stage) → Adds shape g t u → Adds shape h u v
-    → ((i : ℕ) → i < length t.slots → g i ++ h i ≡ k i) → Adds shape k t v
+    → ((i : ℕ) → g i ++ h i ≡ k i) → Adds shape k t v
 adds_then shape g h k t u v a b e = record {
   as_many = b.as_many ∙ a.as_many;
   sinks = omega (arith, a.sinks, b.sinks);
-  keeps = λ i target counts has. b.keeps i target counts (a.keeps i target counts has);
-  holds = λ all. b.holds (a.holds all);
+  lists = λ place list e. b.lists place list (a.lists place list e);
   fills = λ given f. refilled shape v (λ i. (given i ++ g i) ++ h i) (λ i. given i ++ k i) (b.fills (λ i. given i ++ g i) (a.fills given f))
-      (λ i w. let in_range : i < length t.slots = omega (arith, a.as_many, b.as_many) in append_assoc (given i) (g i) (h i)
-      ∙ ap (λ l. given i ++ l) (e i in_range));
+      (λ i. append_assoc (given i) (g i) (h i) ∙ ap (λ l. given i ++ l) (e i));
 }
 
-pub adds_same : (shape : Shape) (g h : ℕ → List Step) (t u : Stage) → Adds shape g t u → ((i : ℕ) → i < length t.slots → g i ≡ h i) → Adds shape h t u
+pub adds_same : (shape : Shape) (g h : ℕ → List Step) (t u : Stage) → Adds shape g t u → ((i : ℕ) → g i ≡ h i) → Adds shape h t u
 adds_same shape g h t u a e = record {
   as_many = a.as_many;
   sinks = a.sinks;
-  keeps = a.keeps;
-  holds = a.holds;
-  fills = λ given f. refilled shape u (λ i. given i ++ g i) (λ i. given i ++ h i) (a.fills given f)
-      (λ i w. ap (λ l. given i ++ l) (e i (omega (arith, a.as_many))));
+  lists = a.lists;
+  fills = λ given f. refilled shape u (λ i. given i ++ g i) (λ i. given i ++ h i) (a.fills given f) (λ i. ap (λ l. given i ++ l) (e i));
 }
 
 -- what is given behind the conflict changes nothing
@@ -313,8 +356,7 @@ pub adds_wider : (shape : Shape) (b d : ℕ → Bool) (s : Step) (t u : Stage) �
 adds_wider shape b d s t u a same more = record {
   as_many = a.as_many;
   sinks = a.sinks;
-  keeps = a.keeps;
-  holds = a.holds;
+  lists = a.lists;
   fills = λ given f.
       let g = a.fills given f in
       record {
@@ -322,6 +364,8 @@ adds_wider shape b d s t u a same more = record {
         conflict_within = g.conflict_within;
         agree_before = λ i k. subst (λ c. Agree shape (given i ++ when c s)) (same i k) (g.agree_before i k);
         not_there = λ k. behind (given u.conflict) (b u.conflict) (d u.conflict) (more u.conflict) (g.not_there k);
+        covers = λ c j small bit. there u.covered.target u.covered.counts (given (u.covered.first + (c * 64 + j))) (b (u.covered.first + (c * 64 + j)))
+            (d (u.covered.first + (c * 64 + j))) (more (u.covered.first + (c * 64 + j))) (g.covers c j small bit);
       };
 }
   where
@@ -330,78 +374,39 @@ adds_wider shape b d s t u a same more = record {
     behind steps false e more n = when_cases (λ l. Agree shape l → ⊥) steps e s (λ a. n (subst (Agree shape) (sym (append-nil steps)) a))
         (λ _ a. n (subst (Agree shape) (sym (append-nil steps)) (agree_less shape steps s a)))
 
--- ---- notes
+    there : (target : ℕ) (counts : Option ℕ) (steps : List Step) (c e : Bool) → (c ≡ true → e ≡ true)
+        → HasKey shape target counts (steps ++ when c s) → HasKey shape target counts (steps ++ when e s)
+    there target counts steps true e more h = subst (λ x. HasKey shape target counts (steps ++ when x s)) (sym (more refl)) h
+    there target counts steps false e more h = has_more shape target counts steps (when e s) (subst (HasKey shape target counts) (append-nil steps) h)
 
-pub adds_noted : (shape : Shape) (t u : Stage) (at : ℕ) (h : Held) → u ≡ record t { held = set t.held at h } → IsHeld shape t h → Adds shape (λ i. []) t u
-adds_noted shape t u at h is new = subst (Adds shape (λ i. []) t) (sym is) (record {
-  as_many = refl;
-  sinks = omega arith;
-  keeps = keeps;
-  holds = λ all. All-set (IsHeld shape v) t.held at h (λ j small bit early. keeps (h.first + j) h.target h.counts (new j small bit early))
-      (All-weaker (IsHeld shape t) (IsHeld shape v) (λ x held j small bit early. keeps (x.first + j) x.target x.counts (held j small bit early)) t.held all);
-  fills = λ given f. refilled shape v given (λ i. given i ++ [])
-      (record { leads = f.leads; conflict_within = f.conflict_within; agree_before = f.agree_before; not_there = f.not_there })
-      (λ i k. sym (append-nil (given i)));
-})
-  where
-    v : Stage
-    v = record t { held = set t.held at h }
+-- ---- letters that are covered
 
-    keeps : (i target : ℕ) (counts : Option ℕ) → HasKey shape t i target counts → HasKey shape v i target counts
-    keeps i target counts h = record { there = h.there; is_there = h.is_there; to_target = h.to_target; same_counts = h.same_counts }
-
-pub nothing_noted : (shape : Shape) (t : Stage) (n : ℕ) (h : Held) → h.word ≡ 0 → t.held ≡ replicate n h → AreHeld shape t
-nothing_noted shape t n h none e = subst (All (IsHeld shape t)) (sym e)
-    (All-replicate (IsHeld shape t) n h (λ j small bit early. absurd (false≢true (sym (ap (λ w. truth w j) none ∙ truth_none j) ∙ bit))))
-
--- ---- a step that was given before
-
-abbrev pub Has : Step → List Step → Type 0
-Has s [] = ⊥
-Has s (x ∷ xs) = (x ≡ s) ⊎ Has s xs
-
-has_behind : (s : Step) (xs ys : List Step) → Has s ys → Has s (xs ++ ys)
-has_behind s [] ys h = h
-has_behind s (x ∷ xs) ys h = inr (has_behind s xs ys h)
-
-all_has : (P : Step → Type 0) (s : Step) (xs : List Step) → All P xs → Has s xs → P s
-all_has P s [] all h = absurd h
-all_has P s (x ∷ xs) all (inl e) = subst P e (All-head P x xs all)
-all_has P s (x ∷ xs) all (inr h) = all_has P s xs (All-tail P x xs all) h
-
-leads_again : (u : Stage) (n : ℕ) (s : Step) (steps : List Step) → Has s steps → Leads u n steps → Leads u n (steps ++ (s ∷ []))
-leads_again u n s [] h leads = absurd h
-leads_again u n s (x ∷ xs) h leads = leads
-
-agree_again : (shape : Shape) (s : Step) (steps : List Step) → Has s steps → Agree shape steps → Agree shape (steps ++ (s ∷ []))
-agree_again shape s [] h agree = absurd h
-agree_again shape s (x ∷ xs) h agree =
-    agree_more shape x s xs agree (all_has (SameKey shape x) s (x ∷ xs) (All-head (λ y. All (SameKey shape y) (x ∷ xs)) x xs agree) h)
-
--- a step that was given before at each slot where it is given once more changes nothing
-pub adds_repeated : (shape : Shape) (more : ℕ → List Step) (b : ℕ → Bool) (s : Step) (t u : Stage) → Adds shape more t u
-    → ((i : ℕ) → b i ≡ true → Has s (more i)) → Adds shape (λ i. more i ++ when (b i) s) t u
-adds_repeated shape more b s t u a has = record {
+-- the steps behind which the notes stand have the key at each slot that is noted anew
+pub adds_noted : (shape : Shape) (more : ℕ → List Step) (t u v : Stage) (c : Covered) → Adds shape more t u → v ≡ record u { covered = c }
+    → ((given : ℕ → List Step) → Covers shape u.covered (λ i. given i ++ more i) → Covers shape c (λ i. given i ++ more i)) → Adds shape more t v
+adds_noted shape more t u v c a is new = subst (Adds shape more t) (sym is) (record {
   as_many = a.as_many;
   sinks = a.sinks;
-  keeps = a.keeps;
-  holds = a.holds;
+  lists = a.lists;
   fills = λ given f.
       let g = a.fills given f in
-      let there = λ (i : ℕ) (e : b i ≡ true). has_behind s (given i) (more i) (has i e) in
-      refilled shape u (λ i. (given i ++ more i) ++ when (b i) s) (λ i. given i ++ (more i ++ when (b i) s)) (record {
-        leads = λ i k. when_cases (Leads u (get_or u.slots i 0)) (given i ++ more i) (b i) s (g.leads i k)
-            (λ e. leads_again u (get_or u.slots i 0) s (given i ++ more i) (there i e) (g.leads i k));
+      record {
+        leads = g.leads;
         conflict_within = g.conflict_within;
-        agree_before = λ i k. when_cases (Agree shape) (given i ++ more i) (b i) s (g.agree_before i k)
-            (λ e. agree_again shape s (given i ++ more i) (there i e) (g.agree_before i k));
-        not_there = λ k. when_cases (λ l. Agree shape l → ⊥) (given u.conflict ++ more u.conflict) (b u.conflict) s (g.not_there k)
-            (λ _ agree. g.not_there k (agree_less shape (given u.conflict ++ more u.conflict) s agree));
-      }) (λ i k. append_assoc (given i) (more i) (when (b i) s));
-}
+        agree_before = g.agree_before;
+        not_there = g.not_there;
+        covers = new given g.covers;
+      };
+})
 
 -- ---- the first stage
 
 pub nothing_yet : (shape : Shape) (t : Stage) → ((i : ℕ) → i < length t.slots → get_or t.slots i 0 ≡ 0) → t.conflict ≡ length t.slots
-    → IsFilled shape t (λ i. [])
-nothing_yet shape t zeros c = grind (arith, nat_tests, agree_none shape)
+    → ((b j : ℕ) → truth (get_or t.covered.words.items b 0) j ≡ false) → IsFilled shape t (λ i. [])
+nothing_yet shape t zeros c none = record {
+  leads = λ i k. zeros i (omega (arith, k, c));
+  conflict_within = omega (arith, c);
+  agree_before = λ i k. agree_none shape;
+  not_there = λ k a. absurd (omega (arith, k, c));
+  covers = λ b j small bit. absurd (false≢true (sym (none b j) ∙ bit));
+}

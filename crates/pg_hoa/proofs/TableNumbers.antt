@@ -34,16 +34,17 @@ numbered_more steps lists new_steps new_lists (suc k) s e =
     (slice_get_more lists new_lists a.0.list b.0 b.1) ∙ b.2
 
 pub extends_refl : (t : Stage) → Extends t t
-extends_refl t = record { slots = refl; conflict = refl; held = refl; numbers = λ n s e. e }
+extends_refl t = record { slots = refl; conflict = refl; covered = refl; numbers = λ n s e. e; lists = λ place list e. e }
 
 pub extends_by : (t u : Stage) (new_steps : List Stored) (new_lists : List (List ℕ)) → u.slots ≡ t.slots → u.conflict ≡ t.conflict
-    → u.held ≡ t.held → u.steps ≡ t.steps ++ new_steps → u.lists ≡ t.lists ++ new_lists → Extends t u
+    → u.covered ≡ t.covered → u.steps ≡ t.steps ++ new_steps → u.lists ≡ t.lists ++ new_lists → Extends t u
 extends_by t u new_steps new_lists a b h c d = record {
   slots = a;
   conflict = b;
-  held = h;
+  covered = h;
   numbers = λ n s e. ap (λ l. numbered l u.lists n) c ∙ ap (λ l. numbered (t.steps ++ new_steps) l n) d
       ∙ numbered_more t.steps t.lists new_steps new_lists n s e;
+  lists = λ place list e. ap (λ l. slice_get l place) d ∙ slice_get_more t.lists new_lists place list e;
 }
 
 pub extends_then : (t u v : Stage) → Extends t u → Extends u v → Extends t v

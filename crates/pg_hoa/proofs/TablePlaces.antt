@@ -1,6 +1,6 @@
 -- Which slots a step goes to: bit by bit, block by block, edge by edge and line by line.
-use Rattle.std.proofs.Common.{◌≡◌, ℕ, zero, suc, ◌+◌, ◌-◌, ◌*◌, ◌/◌, ◌%◌, ◌^◌, ◌<◌, ◌≤◌, Bool, true, false, cond, ◌&&◌, ◌||◌, ◌==◌, leb}
-use Rattle.std.proofs.Common.{ltb, List, [], ◌∷◌, ◌++◌, length, map, take, get_or, Option, refl, sym, ap, subst, ◌∙◌, arith, lit<, lit≤}
+use Rattle.std.proofs.Common.{◌≡◌, ℕ, suc, ◌+◌, ◌-◌, ◌*◌, ◌/◌, ◌%◌, ◌^◌, ◌<◌, ◌≤◌, Bool, true, false, cond, ◌&&◌, ◌||◌, ◌==◌, leb}
+use Rattle.std.proofs.Common.{ltb, min, List, [], ◌∷◌, ◌++◌, length, map, take, get_or, set, refl, sym, ap, subst, ◌∙◌, arith, lit<, lit≤}
 use Rattle.std.proofs.Common.{inl, inr, ◌⊎◌, Decides}
 use Rattle.std.specs.List.{filter}
 use Rattle.std.specs.Prelude.{bit_and}
@@ -8,21 +8,25 @@ use Rattle.std.specs.Int.{bit_at, trailing_zeros, w64}
 use Rattle.std.specs.Int.RustNames.{bit_or}
 use Rattle.std.proofs.lemmas.Bool.{false≢true}
 use Rattle.std.proofs.lemmas.Bool.Decides.{Decides-eqb, Decides-ltb, Decides-and, leb_tells, nat_tests}
-use Rattle.std.proofs.lemmas.Nat.{div-add-mod', mod_below, pow-add, pow_pos, pow_below, shr-shr, shr_le}
+use Rattle.std.proofs.lemmas.Nat.{div-add-mod', mod_below, mul-le, pow-add, pow_pos, pow_below, shr-shr, shr_le}
 use Rattle.std.proofs.lemmas.Nat.Bits.{bit_at-zero, bit_at-trailing_zeros}
-use Rattle.std.proofs.lemmas.List.{map-append, flat_map_more, take_more}
+use Rattle.std.proofs.lemmas.List.{map-append, flat_map_more, take_more, get_or-set_same, get_or-set_other}
 use Rattle.std.proofs.lemmas.List.Elements.{filter-append}
 use Rattle.pg_hoa.specs.declared.formula.Op.{Op}
 use Rattle.pg_automaton.specs.Automata.{Step, step, deciding}
+use Rattle.pg_hoa.specs.declared.table.Covered.{Covered}
+use Rattle.pg_hoa.specs.declared.table.Way.{Way}
 use Rattle.pg_lists.specs.Rising.{rising}
 use Rattle.pg_hoa.specs.Mirrors.Kept.{KeptEdge, KeptLine}
 use Rattle.pg_hoa.specs.Mirrors.Saying.{says}
-use Rattle.pg_hoa.specs.Mirrors.Letters.{truth, on_at}
+use Rattle.pg_hoa.specs.Mirrors.Letters.{truth, truth_in, on_at}
 use Rattle.pg_automaton.specs.declared.shape.Shape.{Shape}
-use Rattle.pg_hoa.proofs.TableFilling.{Has, adds_same, adds_repeated, adds_held, adds_wider}
-use Rattle.pg_hoa.proofs.TableWords.{truth_and, truth_or, truth_not}
+use Rattle.pg_hoa.proofs.TableFilling.{adds_then, adds_covered, adds_wider, adds_noted, own_key, has_first, has_behind}
+use Rattle.pg_hoa.proofs.TableWords.{truth_and, truth_or, truth_not, truth_none}
 use Rattle.pg_hoa.proofs.Lists.{both_true}
-use Rattle.pg_hoa.specs.Mirrors.Tables.{Stage, HasKey, Adds, when, within, at_slot, at_word, at_letters, at_line, at_lines, IsSplit}
+use Rattle.pg_hoa.specs.Mirrors.Acts.{SpeaksOf}
+use Rattle.pg_hoa.specs.Mirrors.Tables.{Stage, HasKey, Adds, IsCovered, IsDecided, IsOf, IsRow, when, within, way_step, at_slot, at_word}
+use Rattle.pg_hoa.specs.Mirrors.Tables.{at_letters, at_line, at_lines, IsSplit}
 use Rattle.pg_hoa.specs.Mirrors.Tables.{says_at, edge_step, kept_edge_steps}
 
 -- ---- tests
@@ -41,6 +45,12 @@ decides_le a b = elim (leb_tells a b) [ inl p ↦ (λ _. p.1, λ _. p.0) | inr p
 
 decides_true : (b : Bool) → Decides b (b ≡ true)
 decides_true b = (λ e. e, λ e. e)
+
+same_or_other : (a b : ℕ) → (a ≡ b) ⊎ (a ≡ b → ⊥)
+same_or_other a b = elim (leb_tells a b) [
+  | inl p ↦ (elim (leb_tells b a) [ inl q ↦ inl (omega (arith, p.1, q.1)) | inr q ↦ inr (λ e. absurd (omega (arith, q.1, e))) ])
+  | inr p ↦ inr (λ e. absurd (omega (arith, p.1, e)))
+]
 
 abbrev Within : ℕ → ℕ → ℕ → Type 0
 Within first width i = (first ≤ i) × (i < first + width)
@@ -131,13 +141,24 @@ more_letters first block width word label s i tells narrow whole = grind (
   before_or_behind i (first + block * width),
 )
 
+more_within : (first n m : ℕ) (label : List Op) (s : Step) (i : ℕ)
+    → at_letters first n label s i ++ when (within (first + n) m i && says_behind label first i) s ≡ at_letters first (n + m) label s i
+more_within first n m label s i = grind (
+  arith,
+  nat_tests,
+  decides_letter first n label i,
+  decides_within (first + n) m i,
+  decides_letter first (n + m) label i,
+  before_or_behind i (first + n),
+)
+
 -- a word without bits gives nothing
 pub empty_word : (first width : ℕ) (s : Step) (i : ℕ) → at_word first width 0 s i ≡ []
 empty_word first width s i = grind (arith, nat_tests, decides_bit first width 0 i)
 
 -- the step at the bits of a word that are known, and at the others
-abbrev pub at_known : ℕ → ℕ → ℕ → Step → ℕ → List Step
-at_known first word known s i = when (within first 64 i && (truth word (i - first) && truth known (i - first))) s
+abbrev pub at_known : ℕ → ℕ → ℕ → ℕ → Step → ℕ → List Step
+at_known first width word known s i = when (within first width i && (truth word (i - first) && truth known (i - first))) s
 
 rest_truth : (word known j : ℕ) → known < 2 ^ 64 → j < 64
     → truth (bit_and word (18446744073709551615 - known)) j ≡ (truth word j && cond (truth known j) false true)
@@ -149,36 +170,122 @@ pieces true true true z s e = ap (λ b. (s ∷ []) ++ when b s) (e refl)
 pieces true true false z s e = ap (λ b. when b s) (e refl)
 pieces true false y z s e = ap (λ b. when b s) (e refl)
 
-pub known_and_rest : (first word known : ℕ) (s : Step) (i : ℕ) → known < 2 ^ 64
-    → at_known first word known s i ++ at_word first 64 (bit_and word (18446744073709551615 - known)) s i ≡ at_word first 64 word s i
-known_and_rest first word known s i h = pieces (within first 64 i) (truth word (i - first)) (truth known (i - first))
+pub known_and_rest : (first width word known : ℕ) (s : Step) (i : ℕ) → known < 2 ^ 64 → width ≤ 64
+    → at_known first width word known s i ++ at_word first width (bit_and word (18446744073709551615 - known)) s i ≡ at_word first width word s i
+known_and_rest first width word known s i h narrow = pieces (within first width i) (truth word (i - first)) (truth known (i - first))
     (truth (bit_and word (18446744073709551615 - known)) (i - first)) s
-    (λ e. let there = (decides_within first 64 i).0 e in rest_truth word known (i - first) h (omega (arith, there.0, there.1)))
+    (λ e. let there = (decides_within first width i).0 e in rest_truth word known (i - first) h (omega (arith, there.0, there.1, narrow)))
 
-pub known_part : (shape : Shape) (t : Stage) (first word known : ℕ) (s : Step) (counts : Option ℕ) → counts ≡ deciding shape s.sets
-    → ((j : ℕ) → j < 64 → truth known j ≡ true → first + j < t.conflict → HasKey shape t (first + j) s.target counts)
-    → Adds shape (at_known first word known s) t t
-known_part shape t first word known s counts d has =
-    adds_held shape t (λ i. within first 64 i && (truth word (i - first) && truth known (i - first))) s counts d
-    (λ i early e.
-    let parts = both_true (within first 64 i) (truth word (i - first) && truth known (i - first)) e in
-    let there = (decides_within first 64 i).0 parts.0 in
+pub known_part : (w : Way) (t : Stage) (first width word known : ℕ) → IsDecided w → width ≤ 64
+    → ((j : ℕ) → j < 64 → truth known j ≡ true → IsCovered w t (first + j))
+    → Adds w.shape (at_known first width word known (way_step w)) t t
+known_part w t first width word known d narrow has =
+    adds_covered w t (λ i. within first width i && (truth word (i - first) && truth known (i - first))) d
+    (λ i e.
+    let parts = both_true (within first width i) (truth word (i - first) && truth known (i - first)) e in
+    let there = (decides_within first width i).0 parts.0 in
     let place : first + (i - first) ≡ i = omega (arith, there.0) in
-    subst (λ j. HasKey shape t j s.target counts) place (has (i - first) (omega (arith, there.0, there.1))
-    (both_true (truth word (i - first)) (truth known (i - first)) parts.1).1 (omega (arith, place, early))))
+    subst (IsCovered w t) place (has (i - first) (omega (arith, there.0, there.1, narrow))
+    (both_true (truth word (i - first)) (truth known (i - first)) parts.1).1))
+
+none_lacking : (a b : Bool) → (a && cond b false true) ≡ false → a ≡ true → b ≡ true
+none_lacking a true e h = refl
+none_lacking true false e h = sym e
+none_lacking false false e h = h
+
+pub bits_within : (word known j : ℕ) → known < 2 ^ 64 → j < 64 → bit_and word (18446744073709551615 - known) ≡ 0 → truth word j ≡ true
+    → truth known j ≡ true
+bits_within word known j h k none = none_lacking (truth word j) (truth known j)
+    (sym (rest_truth word known j h k) ∙ ap (λ n. truth n j) none ∙ truth_none j)
 
 one_of_two : (P : Type 0) (a b : Bool) → (a || b) ≡ true → (a ≡ true → P) → (b ≡ true → P) → P
 one_of_two P true b e p q = p refl
 one_of_two P false b e p q = q e
 
--- what was known, and what was given
-pub known_more : (shape : Shape) (t u : Stage) (first known rest target : ℕ) (counts : Option ℕ) (more : ℕ → List Step) → Adds shape more t u
-    → ((j : ℕ) → j < 64 → truth known j ≡ true → first + j < t.conflict → HasKey shape t (first + j) target counts)
-    → ((j : ℕ) → j < 64 → truth rest j ≡ true → first + j < u.conflict → HasKey shape u (first + j) target counts)
-    → (j : ℕ) → j < 64 → truth (bit_or known rest) j ≡ true → first + j < u.conflict → HasKey shape u (first + j) target counts
-known_more shape t u first known rest target counts more a old new j small bit early =
-    one_of_two (HasKey shape u (first + j) target counts) (truth known j) (truth rest j) (sym (truth_or known rest j) ∙ bit)
-    (λ e. a.keeps (first + j) target counts (old j small e (omega (arith, early, a.sinks)))) (λ e. new j small e early)
+-- the letters of a block are covered as they are given
+pub covers_given : (w : Way) (t u v : Stage) (c : Covered) (block word : ℕ) → w.row.width ≡ 64 → IsDecided w → IsOf u.covered w
+    → c.first ≡ u.covered.first → c.target ≡ u.covered.target → c.counts ≡ u.covered.counts
+    → c.words.items ≡ set u.covered.words.items block (bit_or (get_or u.covered.words.items block 0) word) → block < length u.covered.words.items
+    → Adds w.shape (at_word (w.row.first + block * w.row.width) w.row.width word (way_step w)) t u → v ≡ record u { covered = c }
+    → Adds w.shape (at_word (w.row.first + block * w.row.width) w.row.width word (way_step w)) t v
+covers_given w t u v c block word wide d of first target counts words below a is =
+    adds_noted w.shape (at_word at w.row.width word s) t u v c a is
+    (λ given old b j small bit.
+    subst (λ n. HasKey w.shape n c.counts (all given (c.first + (b * 64 + j)))) (sym target)
+    (subst (λ n. HasKey w.shape u.covered.target n (all given (c.first + (b * 64 + j)))) (sym counts)
+    (subst (λ n. HasKey w.shape u.covered.target u.covered.counts (all given (n + (b * 64 + j)))) (sym first)
+    (elim (same_or_other b block) [
+      | inr other ↦ old b j small (sym (ap (λ l. truth (get_or l b 0) j) words ∙ ap (λ n. truth n j) (get_or-set_other u.covered.words.items block b
+          (bit_or (get_or u.covered.words.items block 0) word) 0 other)) ∙ bit)
+      | inl same ↦
+          let new : truth (bit_or (get_or u.covered.words.items block 0) word) j ≡ true =
+          sym (ap (λ l. truth (get_or l b 0) j) words ∙ ap (λ n. truth (get_or (set u.covered.words.items block
+          (bit_or (get_or u.covered.words.items block 0) word)) n 0) j) same
+          ∙ ap (λ n. truth n j) (get_or-set_same u.covered.words.items block (bit_or (get_or u.covered.words.items block 0) word) 0 below)) ∙ bit in
+          one_of_two (HasKey w.shape u.covered.target u.covered.counts (all given (u.covered.first + (b * 64 + j))))
+          (truth (get_or u.covered.words.items block 0) j) (truth word j)
+          (sym (truth_or (get_or u.covered.words.items block 0) word j) ∙ new)
+          (λ e. old b j small (ap (λ n. truth (get_or u.covered.words.items n 0) j) same ∙ e))
+          (λ e. given_now given b j small same e)
+    ]))))
+  where
+    s : Step
+    s = way_step w
+
+    at : ℕ
+    at = w.row.first + block * w.row.width
+
+    all : (ℕ → List Step) → ℕ → List Step
+    all given i = given i ++ at_word at w.row.width word s i
+
+    given_now : (given : ℕ → List Step) (b j : ℕ) → j < 64 → b ≡ block → truth word j ≡ true
+        → HasKey w.shape u.covered.target u.covered.counts (all given (u.covered.first + (b * 64 + j)))
+    given_now given b j small same e =
+        let i : ℕ = u.covered.first + (b * 64 + j) in
+        let place : i ≡ at + j = ap (λ n. n + (b * 64 + j)) of.first ∙ ap (λ n. w.row.first + (n * 64 + j)) same ∙ ap (λ n. w.row.first + (block * n + j)) (sym wide)
+        ∙ omega arith in
+        let inside : (within at w.row.width i && (bit_at word (i - at) == 1)) ≡ true = (decides_bit at w.row.width word i).1
+        ((omega (arith, place), omega (arith, place, small, wide)), ap (bit_at word) (omega (arith, place)) ∙ (Decides-eqb (bit_at word j) 1).0 e) in
+        has_behind w.shape u.covered.target u.covered.counts (given i) (at_word at w.row.width word s i)
+        (subst (λ x. HasKey w.shape u.covered.target u.covered.counts (when x s)) (sym inside)
+        (subst (λ n. HasKey w.shape n u.covered.counts (s ∷ [])) (sym of.target)
+        (subst (λ n. HasKey w.shape w.target n (s ∷ [])) (sym (of.counts ∙ d)) (has_first w.shape w.target (deciding w.shape s.sets) s [] (own_key w.shape s)))))
+
+sum_spread : (a e width : ℕ) → (a + e) * width ≡ a * width + e * width
+sum_spread a e width = omega arith
+
+rest_of : (a c width : ℕ) → a ≤ c → a * width + (c - a) * width ≡ c * width
+rest_of a c width h =
+    let sum : c ≡ a + (c - a) = omega (arith, h) in
+    sym (ap (λ l. l * width) sum ∙ sum_spread a (c - a) width)
+
+-- the letters of a run, where all to which the label says yes are covered
+pub covered_run : (w : Way) (t u : Stage) (run slots : ℕ) (label : List Op) (words : List ℕ) → IsDecided w → IsRow slots w.row → run * 16 < w.row.blocks
+    → SpeaksOf label run words
+    → ((k j : ℕ) → k < 16 → j < 64 → truth_in words k j ≡ true → IsCovered w u (w.row.first + ((run * 16 + k) * 64 + j)))
+    → Adds w.shape (at_letters w.row.first (run * 16 * w.row.width) label (way_step w)) t u
+    → Adds w.shape (at_letters w.row.first (min w.row.blocks (run * 16 + 16) * w.row.width) label (way_step w)) t u
+covered_run w t u run slots label words d row some speaks has a =
+    let first = w.row.first in
+    let n : ℕ = run * 16 * w.row.width in
+    let m : ℕ = (min w.row.blocks (run * 16 + 16) - run * 16) * w.row.width in
+    let b = λ (i : ℕ). within (first + n) m i && says_behind label first i in
+    let before : n ≡ run * 1024 = row.whole (run * 16) some ∙ omega arith in
+    let all : n + m ≡ min w.row.blocks (run * 16 + 16) * w.row.width = rest_of (run * 16) (min w.row.blocks (run * 16 + 16)) w.row.width (omega (arith, some)) in
+    let few : m ≤ 1024 = mul-le (min w.row.blocks (run * 16 + 16) - run * 16) w.row.width 16 64 (omega arith) row.narrow in
+    adds_then w.shape (at_letters first n label (way_step w)) (λ i. when (b i) (way_step w))
+    (at_letters first (min w.row.blocks (run * 16 + 16) * w.row.width) label (way_step w)) t u u a
+    (adds_covered w u b d (λ i e.
+    let parts = both_true (within (first + n) m i) (says_behind label first i) e in
+    let there = (decides_within (first + n) m i).0 parts.0 in
+    let q : ℕ = i - first in
+    let k : ℕ = q / 64 - run * 16 in
+    let place : (run * 16 + k) * 64 + q % 64 ≡ q = omega (arith, there.0, before) in
+    let slot : first + ((run * 16 + k) * 64 + q % 64) ≡ i = omega (arith, there.0, place) in
+    let below : k < 16 = omega (arith, there.0, there.1, before, few) in
+    let small : q % 64 < 64 = omega arith in
+    subst (IsCovered w u) slot (has k (q % 64) below small (speaks k (q % 64) below small ∙ ap (λ l. says label (λ a. bit_at l a == 1)) place ∙ parts.1))))
+    (λ i. more_within first n m label (way_step w) i ∙ ap (λ l. at_letters first l label (way_step w) i) all)
 
 -- the letters from the conflict on
 pub stopped_letters : (shape : Shape) (first n m : ℕ) (label : List Op) (s : Step) (t u : Stage) → n ≤ m → u.conflict ≤ first + n
@@ -243,44 +350,6 @@ pub edge_added : (letters state first : ℕ) (own : List ℕ) (edges more : List
     → 0 < letters → first ≡ state * letters → label ≡ e.label → sets ≡ rising (own ++ e.sets) → edges ++ (e ∷ []) ≡ more
     → at_line letters (line_of state own edges) i ++ at_letters first letters label (step e.target sets) i ≡ at_line letters (line_of state own more) i
 edge_added letters state first own edges more e label sets i h a b c d = grind (arith, nat_tests, more_edges letters state own edges e i h)
-
--- ---- an edge that says what an earlier one says
-
-has_kept : (own : List ℕ) (test : KeptEdge → Bool) (edges : List KeptEdge) (k : ℕ) (e : KeptEdge) → k < length edges → get_or edges k e ≡ e
-    → test e ≡ true → Has (edge_step own e) (map (edge_step own) (filter test edges))
-has_kept own test [] k e h is holds = absurd (omega arith)
-has_kept own test (x ∷ edges) zero e h is holds = grind (arith, nat_tests)
-has_kept own test (x ∷ edges) (suc k) e h is holds = grind (arith, nat_tests, has_kept own test edges k e (omega arith) is holds)
-
-pub edge_repeated : (shape : Shape) (letters state : ℕ) (own : List ℕ) (edges more : List KeptEdge) (e : KeptEdge) (k : ℕ) (t u : Stage)
-    → 0 < letters → k < length edges → get_or edges k e ≡ e → edges ++ (e ∷ []) ≡ more
-    → Adds shape (at_line letters (line_of state own edges)) t u → Adds shape (at_line letters (line_of state own more)) t u
-edge_repeated shape letters state own edges more e k t u some h is all a =
-    let s = edge_step own e in
-    let b = λ (i : ℕ). state == i / letters && says_at (i % letters) e in
-    adds_same shape (λ i. at_line letters (line_of state own edges) i ++ when (b i) s) (at_line letters (line_of state own more)) t u
-    (adds_repeated shape (at_line letters (line_of state own edges)) b s t u a (λ i. there i (state == i / letters)))
-    (λ i below.
-    ap (λ l. at_line letters (line_of state own edges) i ++ l) (sym (letters_at letters state i own e some))
-    ∙ more_edges letters state own edges e i some ∙ ap (λ l. at_line letters (line_of state own l) i) all)
-  where
-    there : (i : ℕ) (row : Bool) → (row && says_at (i % letters) e) ≡ true
-        → Has (edge_step own e) (cond row (map (edge_step own) (filter (says_at (i % letters)) edges)) [])
-    there i true holds = has_kept own (says_at (i % letters)) edges k e h is holds
-    there i false holds = absurd (false≢true holds)
-
-pub so_many_kept : {A B : Type 0} (f : A → B) (xs : List A) (i : ℕ) → i ≤ length xs → length (map f (take i xs)) ≡ i
-so_many_kept f [] zero h = refl
-so_many_kept f [] (suc i) h = absurd (omega arith)
-so_many_kept f (x ∷ xs) zero h = refl
-so_many_kept f (x ∷ xs) (suc i) h = ap suc (so_many_kept f xs i (omega arith))
-
--- the place of an earlier element, among those so far
-pub kept_before : {A B : Type 0} (f : A → B) (xs : List A) (i k : ℕ) (d : A) → k < i → i < length xs → get_or (map f (take i xs)) k (f d) ≡ f (get_or xs k d)
-kept_before f [] i k d h lt = absurd (omega arith)
-kept_before f (x ∷ xs) (suc i) zero d h lt = refl
-kept_before f (x ∷ xs) (suc i) (suc k) d h lt = kept_before f xs i k d (omega arith) (omega arith)
-kept_before f (x ∷ xs) zero k d h lt = absurd (omega arith)
 
 -- ---- lines
 

@@ -7,7 +7,6 @@ pub mod FormulaScan
 pub mod HeaderScan
 pub mod Kept
 pub mod Letters
-pub mod Needs
 pub mod Readings
 pub mod Saying
 pub mod Scan

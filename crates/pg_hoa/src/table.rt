@@ -1,50 +1,61 @@
 //! The table of steps by state and letter.
 
-ghost use Rattle.std.specs.Prelude.{◌≡◌, ℕ, true, [], ◌+◌, ◌*◌, ◌^◌, ◌<◌, ◌≤◌, List, ◌++◌, map, length, get_or, max, slice_get, option_map};
-ghost use Rattle.std.specs.Prelude.{Some, IfSome, IfOk, OnOk, IfErr};
+ghost use Rattle.std.specs.Prelude.{◌≡◌, ℕ, true, ◌+◌, ◌*◌, ◌^◌, ◌<◌, ◌≤◌, List, [], ◌++◌, map, length, get_or, min, max, slice_get, option_map};
+ghost use Rattle.std.specs.Prelude.{false, Some, IfSome, IfOk, OnOk, IfErr};
 ghost use Rattle.std.specs.List.{All, fold};
 ghost use Rattle.pg_automaton.specs.Automata.{deciding};
 ghost use Rattle.pg_lists.specs.Rising.{rising};
-ghost use Rattle.pg_hoa.specs.Mirrors.Kept.{kept_line};
+ghost use Rattle.pg_hoa.specs.declared.formula.Op.{Op};
+ghost use Rattle.pg_hoa.specs.Mirrors.Kept.{kept_edge, kept_line};
 ghost use Rattle.pg_automaton.specs.Mirrors.Tables.{numbered, next};
-ghost use Rattle.pg_hoa.specs.Mirrors.Tables.{way_step, IsDecided, with_set, same_set, agree, Extends, IsSplit, stage};
-ghost use Rattle.pg_hoa.specs.Mirrors.Tables.{MayNumber, HasKey, AreHeld, Adds, at_slot, at_word, at_letters, at_line, IsTableOf};
-ghost use Rattle.pg_hoa.specs.Mirrors.Tables.{IsConflictOf, kept_numbers, kept_count};
-ghost use Rattle.pg_hoa.specs.Mirrors.Letters.{truth};
+ghost use Rattle.pg_hoa.specs.Mirrors.Tables.{Stage, way_step, IsDecided, IsOf, IsRow, IsCovered, IsRegrouped, with_set, with_sets, same_set, agree, Extends, IsPlaced};
+ghost use Rattle.pg_hoa.specs.Mirrors.Tables.{stage, IsSplit, MayNumber, Adds, at_slot, at_word, at_letters, at_line, IsTableOf, IsConflictOf};
+ghost use Rattle.pg_hoa.specs.Mirrors.Tables.{kept_numbers, kept_count};
+ghost use Rattle.pg_hoa.specs.Mirrors.Letters.{truth, truth_in};
+ghost use Rattle.pg_hoa.specs.Mirrors.Acts.{SpeaksOf};
 
-use crate::body::ReadState;
+use crate::body::{Edge, ReadState};
 use crate::fault::Conflict;
 use crate::formula::Op;
-use crate::needs::{Stacks, bits_of, word_of};
-use crate::repeats::{is_repeated, is_same_list};
-use crate::terms::acts_of;
+use crate::letters::words_of;
+use crate::terms::{Act, acts_of};
 use pg_automaton::{Shape, Stored, Table, numbered};
 use std::alloc::{AllocError, Global};
 use std::collections::BTreeMap;
 
-/// A step that goes into a table of a shape: where it leads, which of the sets met on the way counts, and these, those of the
-/// state and those of the edge.
+/// The slots of a state's letters: from the first on, so many blocks of so many letters.
+#[derive(Clone, Copy)]
+pub struct Row {
+    first: usize,
+    blocks: u32,
+    width: u32,
+}
+
+/// A step that goes into a row of a table of a shape: where it leads, which of the sets met on the way counts, and these, those of
+/// the state, whose list has this place, and those of the edge.
 #[derive(Drop)]
 pub struct Way<'a> {
     shape: Shape,
+    row: Row,
     target: u32,
     counts: Option<u32>,
     own: &'a [u32],
+    place: u32,
     more: &'a [u32],
 }
 
-/// Slots known to hold steps that lead to this target, where this set counts: those at the bits of the word, from the first
-/// on.
-#[derive(Clone, Copy, Debug)]
-pub struct Held {
+/// Letters of a state that have a step which leads to this target, where this set counts: bit `j` of word `b` speaks of the slot
+/// `first + 64 * b + j`.
+#[derive(Drop)]
+pub struct Covered {
     first: usize,
     target: u32,
     counts: Option<u32>,
-    word: u64,
+    words: Vec<u64>,
 }
 
 /// A table that is being filled, where each list of sets is by its place, the first slot whose steps don't agree, or how
-/// many slots there are, and what is known of the slots before that one.
+/// many slots there are, and the letters that are covered by edges like the one at hand.
 #[derive(Drop)]
 pub struct Filling {
     slots: Vec<u32>,
@@ -52,13 +63,15 @@ pub struct Filling {
     lists: Vec<Vec<u32>>,
     known: BTreeMap<Vec<u32>, u32>,
     conflict: usize,
-    held: Vec<Held>,
+    covered: Covered,
 }
 
-/// For how many blocks of letters it is known what they hold, at four keys each.
-const HELD_BLOCKS: usize = 1024;
-
-const HELD: usize = 4096;
+/// Stacks that labels are computed on, kept from label to label.
+#[derive(Drop)]
+struct Stacks {
+    acts: Vec<Act>,
+    words: Vec<[u64; 16]>,
+}
 
 /// The set that counts.
 fn deciding(shape: Shape, sets: &[u32]) -> Option<u32>
@@ -96,10 +109,9 @@ fn with_set(shape: Shape, counts: Option<u32>, set: u32) -> Option<u32>
     }
 }
 
-/// The set that counts, with more sets, where without these it is the given one.
+/// The set that counts, with all of these.
 fn counts_with(shape: Shape, counts: Option<u32>, sets: &[u32]) -> Option<u32>
-    ensures { (own : List ℕ) → counts ≡ deciding shape (rising own)
-        → result ≡ deciding shape (rising (own ++ sets.now)) }
+    ensures { result ≡ with_sets shape counts sets.now }
 {
     let mut found = counts;
     for set in sets {
@@ -108,15 +120,22 @@ fn counts_with(shape: Shape, counts: Option<u32>, sets: &[u32]) -> Option<u32>
     found
 }
 
-/// The sets of the way, each once, the least first.
-fn sets_of(alloc: Global, way: &Way<'_>) -> Result<Vec<u32>, AllocError>
-    ensures { IfOk result (λ v. v.items ≡ (way_step way.now).sets) }
+/// These sets, each once, the least first.
+fn sets_of(alloc: Global, own: &[u32], more: &[u32]) -> Result<Vec<u32>, AllocError>
+    ensures { IfOk result (λ v. v.items ≡ rising (own.now ++ more.now)) }
 {
-    let mut sets = Vec::from_slice(alloc, way.own)?;
-    sets.extend_from_slice(way.more)?;
+    let mut sets = Vec::from_slice(alloc, own)?;
+    sets.extend_from_slice(more)?;
     sets.sort_unstable();
     sets.dedup();
     Ok(sets)
+}
+
+/// Whether the lists are the same; where the answer is no they may be.
+fn is_same_list(a: &[u32], b: &[u32]) -> bool
+    ensures { result ≡ true → a.now ≡ b.now }
+{
+    a == b
 }
 
 /// The place of the list, if it is known.
@@ -151,14 +170,27 @@ fn place_of(alloc: Global, filling: &mut Filling, sets: Vec<u32>) -> Result<u32,
     Ok(place as u32)
 }
 
+/// The place of the list of the way's sets. Where the edge has none of its own it is known.
+fn list_of(alloc: Global, filling: &mut Filling, way: &Way<'_>) -> Result<u32, AllocError>
+    requires placed { IsPlaced (stage filling.old) way.now }
+    ensures there { IfOk result (λ place. slice_get (stage filling.new).lists place ≡ Some (way_step way.now).sets) }
+    ensures keeps { OnOk result (Extends (stage filling.old) (stage filling.new)) }
+{
+    if way.more.is_empty() {
+        return Ok(way.place);
+    }
+    let sets = sets_of(alloc, way.own, way.more)?;
+    place_of(alloc, filling, sets)
+}
+
 /// The number of a new step.
 fn store(alloc: Global, filling: &mut Filling, way: &Way<'_>) -> Result<u32, AllocError>
+    requires placed { IsPlaced (stage filling.old) way.now }
     ensures there { IfOk result (λ number. numbered (stage filling.new).steps (stage filling.new).lists number
         ≡ Some (way_step way.now)) }
     ensures keeps { OnOk result (Extends (stage filling.old) (stage filling.new)) }
 {
-    let sets = sets_of(alloc, way)?;
-    let list = place_of(alloc, filling, sets)?;
+    let list = list_of(alloc, filling, way)?;
     let number = filling.steps.len() + 1;
     if number > u32::MAX as usize {
         return Err(AllocError);
@@ -191,12 +223,11 @@ fn place(
 ) -> Result<u32, AllocError>
     requires decided { IsDecided way.now }
     requires within { slot < length filling.old.slots.items }
+    requires placed { IsPlaced (stage filling.old) way.now }
     requires known { MayNumber (stage filling.old) number (way_step way.now) }
     ensures adds { OnOk result (Adds way.now.shape (at_slot slot (way_step way.now)) (stage filling.old)
         (stage filling.new)) }
     ensures known { IfOk result (λ n. MayNumber (stage filling.new) n (way_step way.now)) }
-    ensures has { OnOk result (slot < filling.new.conflict
-        → HasKey way.now.shape (stage filling.new) slot way.now.target way.now.counts) }
 {
     match compared(filling, way, slot) {
         Some(true) => Ok(number),
@@ -232,12 +263,11 @@ fn place_word(
     requires decided { IsDecided way.now }
     requires within { first + width ≤ length filling.old.slots.items }
     requires narrow { width ≤ 64 }
+    requires placed { IsPlaced (stage filling.old) way.now }
     requires known { MayNumber (stage filling.old) number (way_step way.now) }
     ensures adds { OnOk result (Adds way.now.shape (at_word first width word (way_step way.now)) (stage filling.old)
         (stage filling.new)) }
     ensures known { IfOk result (λ n. MayNumber (stage filling.new) n (way_step way.now)) }
-    ensures has { OnOk result ((j : ℕ) → j < width → truth word j ≡ true → first + j < filling.new.conflict
-        → HasKey way.now.shape (stage filling.new) (first + j) way.now.target way.now.counts) }
 {
     let mut at: u32 = 0;
     'bits: while at < width {
@@ -255,99 +285,140 @@ fn place_word(
     Ok(number)
 }
 
-/// Where it is noted which slots of the block hold such a step.
-fn held_place(way: &Way<'_>, first: usize) -> usize {
-    let key = way.target ^ way.counts.unwrap_or(0);
-    (key % 4) as usize * HELD_BLOCKS + first / 64 % HELD_BLOCKS
+/// Whether the letters that are covered are those of the way's state and key; where the answer is no they may be.
+fn is_of(covered: &Covered, way: &Way<'_>) -> bool
+    ensures { result ≡ true → IsOf covered.now way.now }
+{
+    covered.first == way.row.first
+        && covered.target == way.target
+        && same_set(covered.counts, way.counts)
 }
 
-/// The slots of the block that are noted there as holding such a step.
-fn held_word(filling: &Filling, way: &Way<'_>, first: usize, at: usize) -> u64
-    requires { AreHeld way.now.shape (stage filling.now) }
-    ensures { (j : ℕ) → j < 64 → truth result j ≡ true → first + j < filling.now.conflict
-        → HasKey way.now.shape (stage filling.now) (first + j) way.now.target way.now.counts }
+fn clear(words: &mut [u64])
+    ensures { (b j : ℕ) → truth (get_or words.new b 0) j ≡ false }
 {
-    if at >= filling.held.len() {
-        return 0;
+    words.fill(0);
+}
+
+/// Begins with no letter covered, where the way's state or key is another than the last one's.
+fn begin(filling: &mut Filling, way: &Way<'_>)
+    ensures { Adds way.now.shape (λ i. []) (stage filling.old) (stage filling.new) }
+{
+    if !is_of(&filling.covered, way) {
+        clear(&mut filling.covered.words);
+        filling.covered.first = way.row.first;
+        filling.covered.target = way.target;
+        filling.covered.counts = way.counts;
     }
-    let held = filling.held[at];
-    if held.first == first && held.target == way.target && same_set(held.counts, way.counts) {
-        held.word
+}
+
+/// Letters of the block that have such a step already.
+fn covered_word(filling: &Filling, way: &Way<'_>, block: u32) -> u64
+    ensures { (j : ℕ) → j < 64 → truth result j ≡ true → IsCovered way.now (stage filling.now) (way.now.row.first + (block * 64 + j)) }
+{
+    let at = block as usize;
+    if at < filling.covered.words.len() && is_of(&filling.covered, way) {
+        filling.covered.words[at]
     } else {
         0
     }
 }
 
-/// Notes there that the slots of the block that stand at the bits of the word hold such a step.
-fn note(filling: &mut Filling, way: &Way<'_>, first: usize, at: usize, word: u64)
-    requires { (j : ℕ) → j < 64 → truth word j ≡ true → first + j < filling.old.conflict
-        → HasKey way.now.shape (stage filling.old) (first + j) way.now.target way.now.counts }
-    ensures adds { Adds way.now.shape (λ i. []) (stage filling.old) (stage filling.new) }
+/// Notes that the letters of the block that stand at the bits of the word have such a step, which they were given last.
+fn cover(filling: &mut Filling, way: &Way<'_>, block: u32, word: u64)
+    requires { IsDecided way.now }
+    ensures adds { (t : Stage) → Adds way.now.shape (at_word (way.now.row.first + block * way.now.row.width) way.now.row.width word (way_step way.now)) t (stage filling.old)
+        → Adds way.now.shape (at_word (way.now.row.first + block * way.now.row.width) way.now.row.width word (way_step way.now)) t (stage filling.new) }
     ensures known { (n : ℕ) → MayNumber (stage filling.old) n (way_step way.now)
         → MayNumber (stage filling.new) n (way_step way.now) }
 {
-    if at < filling.held.len() {
-        filling.held[at] = Held {
-            first,
-            target: way.target,
-            counts: way.counts,
-            word,
-        };
+    let at = block as usize;
+    if way.row.width == 64 && at < filling.covered.words.len() && is_of(&filling.covered, way) {
+        filling.covered.words[at] |= word;
     }
 }
 
-/// Gives the step to the slots of a whole block that stand at the bits of the word.
+/// Gives the step to the slots of the block that stand at the bits of the word.
 fn place_block(
     alloc: Global,
     filling: &mut Filling,
     way: &Way<'_>,
-    first: usize,
+    block: u32,
     word: u64,
     number: u32,
 ) -> Result<u32, AllocError>
     requires decided { IsDecided way.now }
-    requires held { AreHeld way.now.shape (stage filling.old) }
-    requires within { first + 64 ≤ length filling.old.slots.items }
+    requires row { IsRow (length filling.old.slots.items) way.now.row }
+    requires within { block < way.now.row.blocks }
+    requires placed { IsPlaced (stage filling.old) way.now }
     requires known { MayNumber (stage filling.old) number (way_step way.now) }
-    ensures adds { OnOk result (Adds way.now.shape (at_word first 64 word (way_step way.now)) (stage filling.old)
-        (stage filling.new)) }
+    ensures adds { OnOk result (Adds way.now.shape (at_word (way.now.row.first + block * way.now.row.width) way.now.row.width word (way_step way.now))
+        (stage filling.old) (stage filling.new)) }
     ensures known { IfOk result (λ n. MayNumber (stage filling.new) n (way_step way.now)) }
 {
-    let at = held_place(way, first);
-    let known = held_word(filling, way, first, at);
-    let rest = word & !known;
+    let rest = word & !covered_word(filling, way, block);
     if rest == 0 {
         return Ok(number);
     }
-    let number = place_word(alloc, filling, way, first, 64, rest, number)?;
-    note(filling, way, first, at, known | rest);
+    let at = way.row.first + (block * way.row.width) as usize;
+    let number = place_word(alloc, filling, way, at, way.row.width, rest, number)?;
+    cover(filling, way, block, rest);
     Ok(number)
 }
 
-/// Gives the step to the slots of a block that stand at the bits of the word.
-fn place_letters(
+/// Whether each bit of the word is one of the other too.
+fn is_within(word: u64, known: u64) -> bool
+    ensures { result ≡ true → (j : ℕ) → j < 64 → truth word j ≡ true → truth known j ≡ true }
+{
+    word & !known == 0
+}
+
+/// Whether all letters of the run that stand at the bits of the words have such a step; where the answer is no they may.
+fn are_covered(filling: &Filling, way: &Way<'_>, run: u32, words: &[u64; 16]) -> bool
+    ensures { result ≡ true → (k j : ℕ) → k < 16 → j < 64 → truth_in words.now k j ≡ true
+        → IsCovered way.now (stage filling.now) (way.now.row.first + ((run * 16 + k) * 64 + j)) }
+{
+    let from = run as usize * 16;
+    if !is_of(&filling.covered, way) || filling.covered.words.len() < from + 16 {
+        return false;
+    }
+    for k in 0..16 {
+        if !is_within(words[k], filling.covered.words[from + k]) {
+            return false;
+        }
+    }
+    true
+}
+
+/// Gives the step to the slots of the run that stand at the bits of the words.
+fn place_run(
     alloc: Global,
     filling: &mut Filling,
     way: &Way<'_>,
-    first: usize,
-    width: u32,
-    word: u64,
-    number: u32,
+    run: u32,
+    words: &[u64; 16],
+    mut number: u32,
 ) -> Result<u32, AllocError>
     requires decided { IsDecided way.now }
-    requires held { AreHeld way.now.shape (stage filling.old) }
-    requires within { first + width ≤ length filling.old.slots.items }
-    requires narrow { width ≤ 64 }
+    requires row { IsRow (length filling.old.slots.items) way.now.row }
+    requires within { run * 16 < way.now.row.blocks }
+    requires placed { IsPlaced (stage filling.old) way.now }
     requires known { MayNumber (stage filling.old) number (way_step way.now) }
-    ensures adds { OnOk result (Adds way.now.shape (at_word first width word (way_step way.now)) (stage filling.old)
-        (stage filling.new)) }
+    ensures adds { OnOk result ((label : List Op) (t : Stage) → SpeaksOf label run words.now
+        → Adds way.now.shape (at_letters way.now.row.first (run * 16 * way.now.row.width) label (way_step way.now)) t (stage filling.old)
+        → Adds way.now.shape (at_letters way.now.row.first (min way.now.row.blocks (run * 16 + 16) * way.now.row.width) label (way_step way.now))
+        t (stage filling.new)) }
     ensures known { IfOk result (λ n. MayNumber (stage filling.new) n (way_step way.now)) }
 {
-    if width == 64 {
-        place_block(alloc, filling, way, first, word, number)
-    } else {
-        place_word(alloc, filling, way, first, width, word, number)
+    if are_covered(filling, way, run, words) {
+        return Ok(number);
     }
+    let end = way.row.blocks.min(run * 16 + 16);
+    for block in run * 16..end {
+        let word = words[(block % 16) as usize];
+        number = place_block(alloc, filling, way, block, word, number)?;
+    }
+    Ok(number)
 }
 
 /// How many blocks of letters there are, and how many letters a block has.
@@ -362,40 +433,58 @@ fn blocks_of(propositions: u32) -> (u32, u32)
     }
 }
 
-/// Gives the step to the slots, from the first on, of the letters to which the label says yes.
+/// Gives the step to the slots of the letters to which the label says yes.
 fn add_edge(
     alloc: Global,
     filling: &mut Filling,
     stacks: &mut Stacks,
     way: &Way<'_>,
-    propositions: u32,
-    first: usize,
     label: &[Op],
 ) -> Result<(), AllocError>
     requires decided { IsDecided way.now }
-    requires held { AreHeld way.now.shape (stage filling.old) }
-    requires few { propositions ≤ 16 }
-    requires within { first + 2 ^ propositions ≤ length filling.old.slots.items }
-    ensures { OnOk result (Adds way.now.shape (at_letters first (2 ^ propositions) label.now (way_step way.now))
+    requires placed { IsPlaced (stage filling.old) way.now }
+    requires row { IsRow (length filling.old.slots.items) way.now.row }
+    ensures { OnOk result (Adds way.now.shape (at_letters way.now.row.first (way.now.row.blocks * way.now.row.width) label.now (way_step way.now))
         (stage filling.old) (stage filling.new)) }
 {
-    let (blocks, width) = blocks_of(propositions);
-    let bits = bits_of(label, &mut stacks.needs)?;
     acts_of(label, &mut stacks.acts)?;
+    begin(filling, way);
     let acts = stacks.acts.as_slice();
     let mut number = 0;
-    let mut words = [0; 16];
-    for block in 0..blocks {
-        let at = first + (block * width) as usize;
-        if at >= filling.conflict {
+    for run in 0..way.row.blocks.div_ceil(16) {
+        if way.row.first + (run * 16 * way.row.width) as usize >= filling.conflict {
             return Ok(());
         }
-        let word = word_of(acts, bits, block, &mut words, &mut stacks.words)?;
-        if word != 0 {
-            number = place_letters(alloc, filling, way, at, width, word, number)?;
-        }
+        let words = words_of(acts, run, &mut stacks.words)?;
+        number = place_run(alloc, filling, way, run, &words, number)?;
     }
     Ok(())
+}
+
+/// Where the edge leads, and the set that counts there, where without its sets it is the given one.
+fn key_of(shape: Shape, counts: Option<u32>, edge: &Edge) -> (u32, Option<u32>)
+    ensures { result ≡ (edge.now.target, with_sets shape counts edge.now.sets.items) }
+{
+    let counts = counts_with(shape, counts, edge.sets.as_slice());
+    (edge.target, counts)
+}
+
+/// The edges of a state whose own sets leave this one to count, those of one key side by side and in their order.
+fn regrouped<'a>(
+    alloc: Global,
+    shape: Shape,
+    counts: Option<u32>,
+    edges: &'a [Edge],
+) -> Result<Vec<&'a Edge>, AllocError>
+    ensures { IfOk result (λ order. (own : List ℕ) → counts ≡ deciding shape (rising own)
+        → IsRegrouped shape own (map kept_edge edges.now) (map (λ e. kept_edge e.now) order.items)) }
+{
+    let mut order = Vec::new(alloc);
+    for edge in edges {
+        order.push(edge)?;
+    }
+    order.sort_by_key(|edge| key_of(shape, counts, edge))?;
+    Ok(order)
 }
 
 /// Gives the steps of the line's edges to their slots.
@@ -407,36 +496,34 @@ fn add_line(
     propositions: u32,
     line: &ReadState,
 ) -> Result<(), AllocError>
-    requires held { AreHeld shape (stage filling.old) }
     requires few { propositions ≤ 16 }
     requires within { line.now.state * 2 ^ propositions + 2 ^ propositions ≤ length filling.old.slots.items }
     ensures { OnOk result (Adds shape (at_line (2 ^ propositions) (kept_line line.now)) (stage filling.old)
         (stage filling.new)) }
 {
-    let first = (line.state as usize) << propositions;
+    let (blocks, width) = blocks_of(propositions);
+    let row = Row {
+        first: (line.state as usize) << propositions,
+        blocks,
+        width,
+    };
     let own = line.sets.as_slice();
     let counts = counts_with(shape, None, own);
-    let mut seen = BTreeMap::new(alloc);
-    for (index, edge) in line.edges.iter().enumerate() {
-        if !is_repeated(&mut seen, &line.edges, index)? {
-            let more = edge.sets.as_slice();
-            let way = Way {
-                shape,
-                target: edge.target,
-                counts: counts_with(shape, counts, more),
-                own,
-                more,
-            };
-            add_edge(
-                alloc,
-                filling,
-                stacks,
-                &way,
-                propositions,
-                first,
-                edge.label.as_slice(),
-            )?;
-        }
+    let sets = sets_of(alloc, own, &[])?;
+    let place = place_of(alloc, filling, sets)?;
+    let order = regrouped(alloc, shape, counts, &line.edges)?;
+    for edge in &order {
+        let more = edge.sets.as_slice();
+        let way = Way {
+            shape,
+            row,
+            target: edge.target,
+            counts: counts_with(shape, counts, more),
+            own,
+            place,
+            more,
+        };
+        add_edge(alloc, filling, stacks, &way, edge.label.as_slice())?;
     }
     Ok(())
 }
@@ -465,15 +552,14 @@ pub fn table_of(
         lists: Vec::new(alloc),
         known: BTreeMap::new(alloc),
         conflict: total,
-        held: vec![in alloc; Held {
+        covered: Covered {
             first: 0,
             target: 0,
             counts: None,
-            word: 0
-        }; HELD]?,
+            words: vec![in alloc; 0u64; letters.div_ceil(1024) * 16]?,
+        },
     };
     let mut stacks = Stacks {
-        needs: Vec::new(alloc),
         acts: Vec::new(alloc),
         words: Vec::new(alloc),
     };

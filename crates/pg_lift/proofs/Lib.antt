@@ -3,3 +3,4 @@ pub mod Keeping
 pub mod Gathering
 pub mod Risen
 pub mod Zeros
+pub mod Searching

@@ -3,3 +3,4 @@ pub mod Keeps
 pub mod Predecessors
 pub mod Notes
 pub mod Zeros
+pub mod Searches

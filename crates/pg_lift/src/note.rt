@@ -8,6 +8,8 @@ use pg_arena::{Player, Vertex};
 pub struct Note {
     /// The successor that serves the vertex, or that it is to be lifted over.
     pub best: Vertex,
+    /// Where among its successors the last search for one that serves it stopped.
+    pub stop: u32,
     /// The last generation in which the vertex was lifted, and how often.
     pub lifts: u32,
     pub priority: u32,

@@ -57,6 +57,7 @@ fn lengthen(notes: &mut Vec<Note>, count: usize)
     for _ in notes.len()..count {
         notes.push_reserved(Note {
             best: Vertex(0),
+            stop: 0,
             lifts: 0,
             priority: 0,
             owner: Player::Even,
@@ -222,6 +223,26 @@ impl Notes {
         let note = self.notes[at];
         self.notes[at] = Note {
             best: successor,
+            ..note
+        };
+    }
+
+    /// Where among the successors of a vertex the last search stopped. Nothing is promised of it: a search may begin anywhere.
+    pub(crate) fn stop(&self, v: Vertex) -> u32
+        requires { HasNote self.now.span v }
+    {
+        self.notes[place(self.first, v)].stop
+    }
+
+    /// Tells where among the successors of a vertex a search stopped.
+    pub(crate) fn stop_at(&mut self, v: Vertex, stop: usize)
+        requires { HasNote self.old.span v }
+        ensures { self.new ≡ self.old }
+    {
+        let at = place(self.first, v);
+        let note = self.notes[at];
+        self.notes[at] = Note {
+            stop: u32::try_from(stop).unwrap_or(0),
             ..note
         };
     }

@@ -7,6 +7,7 @@ ghost use Rattle.pg_measure.specs.Measures.{width_from};
 ghost use Rattle.pg_map.specs.Lines.{AreWithin, line_at};
 ghost use Rattle.pg_map.specs.Maps.{measure_at, IsServedBy, IsClosed};
 ghost use Rattle.pg_map.specs.Mirrors.Tables.{IsBest};
+ghost use Rattle.pg_lift.specs.Mirrors.Searches.{IsAfter};
 ghost use Rattle.pg_lift.specs.Mirrors.Keeps.{IsAmong, Keeps, IsKeeping, IsDue, IsReady, nothing};
 ghost use Rattle.pg_lift.specs.Mirrors.Notes.{AreNotes, IsSameSpan};
 
@@ -15,8 +16,35 @@ use crate::notes::Notes;
 use pg_arena::{Player, Vertex};
 use pg_map::{Lines, MeasureMap};
 
-/// A successor that serves the vertex, and true; if none does, the least of them, and false. The one that is given doesn't
-/// serve it, so that only those below the least so far may.
+/// The place that comes so many places after another, where the first one follows the last.
+fn place_after(from: usize, steps: usize, count: usize) -> usize
+    requires from { from < count }
+    requires steps { steps < count }
+    ensures within { result < count }
+    ensures place { IsAfter from steps count result }
+{
+    if steps < count - from {
+        from + steps
+    } else {
+        steps - (count - from)
+    }
+}
+
+/// Where to begin a search among so many successors: where the last one stopped, if there is such a place.
+fn first_place(stop: u32, count: usize) -> usize
+    requires { 0 < count }
+    ensures { result < count }
+{
+    let stop = stop as usize;
+    if stop < count { stop } else { 0 }
+}
+
+/// A successor that serves the vertex, and its place; if none does, the least of them. The one that is given doesn't serve
+/// it, so that only those below the least so far may.
+///
+/// It goes on from where the last search stopped, and all the way round. Measures only rise: a successor that was passed over
+/// won't serve the vertex before that rises itself. So until then each is passed over twice at most, however many searches
+/// there are.
 #[inline(always)]
 fn choose<G: Lines>(
     map: &MeasureMap,
@@ -24,29 +52,34 @@ fn choose<G: Lines>(
     notes: &Notes,
     v: Vertex,
     given: Vertex,
-) -> (Vertex, bool)
+) -> (Vertex, Option<usize>)
     requires among { IsAmong given (line_at (G.line lines.now) v).successors }
     requires unserved { ¬ (IsServedBy map.now.bounds (G.line lines.now) map.now.measures v given) }
     requires held { IsSome (G.line lines.now v) }
     requires within { AreWithin (length map.now.measures) (G.line lines.now) }
     requires notes { AreNotes (length map.now.measures) (G.line lines.now) notes.now }
     ensures among { IsAmong result.0 (line_at (G.line lines.now) v).successors }
-    ensures serves { OnTrue result.1 (IsServedBy map.now.bounds (G.line lines.now) map.now.measures v result.0) }
-    ensures best { OnFalse result.1 (IsBest Even
+    ensures serves { IsSome result.1 → IsServedBy map.now.bounds (G.line lines.now) map.now.measures v result.0 }
+    ensures best { IfNone result.1 (IsBest Even
         (width_from map.now.bounds (line_at (G.line lines.now) v).priority) map.now.measures
         (line_at (G.line lines.now) v).successors result.0) }
-    ensures unserved { OnFalse result.1 (¬ (IsServedBy map.now.bounds (G.line lines.now) map.now.measures v result.0)) }
+    ensures unserved { IfNone result.1 (¬ (IsServedBy map.now.bounds (G.line lines.now) map.now.measures v result.0)) }
 {
+    let successors = lines.successors(v);
+    let count = successors.len();
+    let from = first_place(notes.stop(v), count);
     let mut least = given;
-    for w in lines.successors(v) {
-        if is_front_below(map, lines, notes, v, *w, least) {
-            if serves(map, lines, notes, v, *w) {
-                return (*w, true);
+    for steps in 0..count {
+        let place = place_after(from, steps, count);
+        let w = successors[place];
+        if is_front_below(map, lines, notes, v, w, least) {
+            if serves(map, lines, notes, v, w) {
+                return (w, Some(place));
             }
-            least = *w;
+            least = w;
         }
     }
-    (least, false)
+    (least, None)
 }
 
 /// Whether a vertex that waits is served. What is remembered of it is then what serves it, or else its best successor.
@@ -72,9 +105,15 @@ pub fn find_serving<G: Lines>(map: &MeasureMap, lines: &G, notes: &mut Notes, v:
     }
     match owner(map, lines, notes, v) {
         Player::Even => {
-            let (w, serves) = choose(map, lines, notes, v, remembered);
+            let (w, place) = choose(map, lines, notes, v, remembered);
             notes.remember(v, w);
-            serves
+            match place {
+                Some(place) => {
+                    notes.stop_at(v, place);
+                    true
+                }
+                None => false,
+            }
         }
         Player::Odd => false,
     }

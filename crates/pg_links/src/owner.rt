@@ -10,9 +10,18 @@ const MOST_PROGRAMS: usize = 64;
 /// How many descriptors of a program are looked at.
 const MOST_DESCRIPTORS: u32 = 1024;
 
-/// The name of a socket that no program holds any more. The table has it for a minute or so, and for as long as the other end hasn't
-/// taken what was sent.
-const ORPHAN: &str = "socket:[0]";
+/// The other end that the table has for a socket that listens.
+const NOBODY: &str = "00000000:0000";
+
+/// What the table says of a socket.
+#[derive(Clone, Copy)]
+struct Socket {
+    /// The user whose program made it.
+    user: u32,
+    /// Its number; 0 where no program holds it any more. The table has such a socket for a minute or so, and for as long as the other
+    /// end hasn't taken what was sent.
+    number: u64,
+}
 
 /// The address and the port that a row of the table has for a port of 127.0.0.1.
 fn end_at(alloc: Global, port: u16) -> Result<String, AllocError> {
@@ -25,64 +34,72 @@ fn is_between(row: &str, local: &str, remote: &str) -> bool {
     fields.next() == Some(local) && fields.next() == Some(remote)
 }
 
-/// The name of the socket that a row of the table is of, if the row has one.
-fn name_in(alloc: Global, row: &str) -> Result<Option<String>, AllocError> {
-    match row.split_ascii_whitespace().nth(9) {
-        Some(number) => Ok(Some(format!(in alloc; "socket:[{number}]")?)),
-        None => Ok(None),
-    }
+/// What a row of the table says of its socket.
+fn socket_in(row: &str) -> Option<Socket> {
+    let mut fields = row.split_ascii_whitespace().skip(7);
+    let user = fields.next()?.parse::<u32>().ok()?;
+    let number = fields.nth(1)?.parse::<u64>().ok()?;
+    Some(Socket { user, number })
 }
 
-/// The name of the socket between these two ends, if there is one.
+/// The socket between these two ends, if there is one.
 fn socket_between<R: Files>(
     rt: &R,
     alloc: Global,
     local: &str,
     remote: &str,
-) -> io::Result<Option<String>> {
+) -> io::Result<Option<Socket>> {
     let table = BufReader::new(alloc, fs::open(rt, "/proc/net/tcp")?)?;
     for line in table.lines(alloc) {
         let line = line?;
         if is_between(line.as_str(), local, remote) {
-            return Ok(name_in(alloc, line.as_str())?);
+            return Ok(socket_in(line.as_str()));
         }
     }
     Ok(None)
 }
 
-/// The name of the socket at the port `from` of 127.0.0.1 that is connected to the port `to` there, if there is one.
-fn socket_of<R: Files>(rt: &R, alloc: Global, from: u16, to: u16) -> io::Result<Option<String>> {
+/// The socket at the port `from` of 127.0.0.1 that is connected to the port `to` there, if there is one.
+fn socket_of<R: Files>(rt: &R, alloc: Global, from: u16, to: u16) -> io::Result<Option<Socket>> {
     let local = end_at(alloc, from)?;
     let remote = end_at(alloc, to)?;
     socket_between(rt, alloc, local.as_str(), remote.as_str())
 }
 
-/// Whether the socket at the port `from` of 127.0.0.1 that is connected to the port `to` there is still in the system's table,
-/// and no program holds it. Fails where the table can't be read.
-pub fn is_orphaned<R: Files>(rt: &R, alloc: Global, from: u16, to: u16) -> io::Result<bool> {
-    match socket_of(rt, alloc, from, to)? {
-        Some(socket) => Ok(socket.as_str() == ORPHAN),
-        None => Ok(false),
+/// The user of this program: that of its socket which listens at the port of 127.0.0.1. Fails where the table doesn't tell.
+fn own_user<R: Files>(rt: &R, alloc: Global, port: u16) -> io::Result<u32> {
+    let local = end_at(alloc, port)?;
+    match socket_between(rt, alloc, local.as_str(), NOBODY)? {
+        Some(socket) => Ok(socket.user),
+        None => Err(io::Error::from(ErrorKind::NotFound)),
     }
 }
 
-/// Whether a program holds the socket.
-fn holds<R: Files>(rt: &R, alloc: Global, program: u32, socket: &str) -> io::Result<bool> {
+/// Whether the socket at the port `from` of 127.0.0.1 that is connected to the port `to` there is still in the system's table,
+/// and no program holds it. Fails where the table can't be read. No clause says what it answers.
+pub fn is_orphaned<R: Files>(rt: &R, alloc: Global, from: u16, to: u16) -> io::Result<bool> {
+    let socket = socket_of(rt, alloc, from, to)?;
+    Ok(matches!(socket, Some(Socket { number: 0, .. })))
+}
+
+/// Whether a program holds the socket of this name; none where the system doesn't tell what it holds. Fails for want of memory alone.
+fn holds<R: Files>(rt: &R, alloc: Global, program: u32, socket: &str) -> io::Result<Option<bool>> {
     for number in 0..MOST_DESCRIPTORS {
         let path = format!(in alloc; "/proc/{program}/fd/{number}")?;
         match rt.read_link(alloc, path.as_str()) {
             Ok(target) => {
                 if target.as_str() == socket {
-                    return Ok(true);
+                    return Ok(Some(true));
                 }
             }
             Err(e) => match e.kind() {
                 ErrorKind::NotFound | ErrorKind::InvalidData => {}
-                _ => return Err(e),
+                ErrorKind::OutOfMemory => return Err(e),
+                _ => return Ok(None),
             },
         }
     }
-    Ok(false)
+    Ok(Some(false))
 }
 
 /// Appends the programs that a program started and that haven't ended.
@@ -105,23 +122,27 @@ fn push_children<R: Files>(
     Ok(())
 }
 
-/// Whether the socket is held by the program, or by one that it started.
-fn is_held<R: Files>(rt: &R, alloc: Global, program: u32, socket: &str) -> io::Result<bool> {
+/// Whether the socket of this name is held by the program, or by one that it started, or the system doesn't tell.
+fn may_be_held<R: Files>(rt: &R, alloc: Global, program: u32, socket: &str) -> io::Result<bool> {
     let mut programs = vec![in alloc; program]?;
+    let mut is_unknown = false;
     for place in 0..MOST_PROGRAMS {
         let Some(&next) = programs.get(place) else {
-            return Ok(false);
+            return Ok(is_unknown);
         };
-        if holds(rt, alloc, next, socket)? {
-            return Ok(true);
+        match holds(rt, alloc, next, socket)? {
+            Some(true) => return Ok(true),
+            Some(false) => {}
+            None => is_unknown = true,
         }
         push_children(rt, alloc, next, &mut programs)?;
     }
-    Ok(false)
+    Ok(is_unknown)
 }
 
-/// Whether the socket at the port `from` of 127.0.0.1 that is connected to the port `to` there is held by the program or by
-/// one that it started. Fails where the system's tables can't be read.
+/// Whether the socket at the port `from` of 127.0.0.1 that is connected to the port `to` there, at which this program listens, is taken
+/// for one of the program: it is of our user, and held by the program or by one that it started, as far as the system tells who holds
+/// it. Fails where the table of sockets can't be read.
 pub fn is_of_program<R: Files>(
     rt: &R,
     alloc: Global,
@@ -129,8 +150,12 @@ pub fn is_of_program<R: Files>(
     from: u16,
     to: u16,
 ) -> io::Result<bool> {
+    let user = own_user(rt, alloc, to)?;
     match socket_of(rt, alloc, from, to)? {
-        Some(socket) => is_held(rt, alloc, program, socket.as_str()),
-        None => Ok(false),
+        Some(socket) if socket.user == user && socket.number != 0 => {
+            let name = format!(in alloc; "socket:[{}]", socket.number)?;
+            may_be_held(rt, alloc, program, name.as_str())
+        }
+        _ => Ok(false),
     }
 }

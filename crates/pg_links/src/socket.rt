@@ -229,13 +229,15 @@ impl<R: Reach> SocketLink<R> {
 }
 
 impl<R: Reach> Link for SocketLink<R> {
-    ghost use Rattle.std.specs.Prelude.{None};
+    ghost use Rattle.std.specs.Prelude.{⊤, None};
 
     ghost failures = { λ l. l.failures };
 
     ghost is_honest = { λ _. ⊥ };
 
     ghost is_under = { λ _ _. ⊥ };
+
+    ghost is_anew = { λ _. ⊤ };
 
     ghost told = { λ _. None };
 

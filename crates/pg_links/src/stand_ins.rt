@@ -1,7 +1,7 @@
 //! Links that fail, and links that give fixed replies: what a coordinator has to bear. Promised is of `Told` what it tells, and of
 //! `Broken` that each call fails; of the others nothing.
 
-ghost use Rattle.std.specs.Prelude.{◌≡◌, ◌++◌, Some, None, Err, map, drop, replicate};
+ghost use Rattle.std.specs.Prelude.{⊤, ◌≡◌, ◌++◌, Some, None, Err, map, drop, replicate};
 ghost use Rattle.pg_parts.specs.Links.{CountsFailure};
 
 use pg_parts::{Link, LinkFault};
@@ -55,6 +55,8 @@ impl Link for Told {
     ghost is_honest = { λ _. ⊥ };
 
     ghost is_under = { λ _ _. ⊥ };
+
+    ghost is_anew = { λ _. ⊤ };
 
     ghost told = { λ s. Some (replicate s.refusals (spelling refusal) ++ map (λ f. f.items) (drop s.next s.replies.items)) };
 
@@ -128,6 +130,8 @@ impl Link for Broken {
     ghost is_honest = { λ _. ⊥ };
 
     ghost is_under = { λ _ _. ⊥ };
+
+    ghost is_anew = { λ _. ⊤ };
 
     ghost told = { λ _. None };
 
@@ -203,6 +207,8 @@ impl Link for Fixed {
     ghost is_honest = { λ _. ⊥ };
 
     ghost is_under = { λ _ _. ⊥ };
+
+    ghost is_anew = { λ _. ⊤ };
 
     ghost told = { λ _. None };
 
@@ -293,6 +299,8 @@ impl<L: Link + Drop> Link for FailsOnce<L> {
     ghost is_honest = { λ _. ⊥ };
 
     ghost is_under = { λ _ _. ⊥ };
+
+    ghost is_anew = { λ _. ⊤ };
 
     ghost told = { λ _. None };
 

@@ -3,9 +3,10 @@
 use crate::deadline::Span;
 use crate::owner::is_of_program;
 use std::alloc::Global;
-use std::fs::Files;
+use std::fs::{self, Files};
 use std::io::{self, ErrorKind};
 use std::net::{IpAddr, Ipv4Addr, Net, OpenListener, SocketAddr, TcpListener};
+use std::os::unix::fs::MetadataExt;
 use std::process::{Child, Command, Processes, Stdio};
 use std::thread;
 use std::time::{Clock, Duration, Instant};
@@ -20,6 +21,9 @@ const CONNECT: u64 = 10;
 
 /// The milliseconds between two looks for a connection.
 const LOOK: u64 = 1;
+
+/// The bit of a file's mode by which it is started as its owner.
+const SET_USER: u32 = 0o4000;
 
 /// Whether the error says that memory was refused to this program, and not that a call of the system failed.
 pub fn is_want_of_memory(error: &io::Error) -> bool {
@@ -58,7 +62,7 @@ fn spawn<R: Reach>(rt: &R, alloc: Global, path: &str, port: u16) -> io::Result<C
 }
 
 /// Whether a connection from this address to the port is to be dropped: another program made it, as far as the tables of the
-/// system tell. Fails for want of memory alone.
+/// system tell. Fails for want of memory, and where the table of sockets can't be read.
 fn is_foreign<R: Reach>(
     rt: &R,
     alloc: Global,
@@ -69,10 +73,15 @@ fn is_foreign<R: Reach>(
     if from.ip() != IpAddr::V4(Ipv4Addr::LOCALHOST) {
         return Ok(true);
     }
-    match is_of_program(rt, alloc, program, from.port(), port) {
-        Ok(is_own) => Ok(!is_own),
-        Err(e) if is_want_of_memory(&e) => Err(e),
-        Err(_) => Ok(false),
+    let is_own = is_of_program(rt, alloc, program, from.port(), port)?;
+    Ok(!is_own)
+}
+
+/// Whether the file has the bit by which it is started as its owner. A path without a slash is searched for, and isn't looked at.
+fn is_started_as_its_owner<R: Reach>(rt: &R, path: &str) -> bool {
+    match fs::metadata(rt, path) {
+        Ok(file) => path.contains('/') && file.mode() & SET_USER != 0,
+        Err(_) => false,
     }
 }
 
@@ -85,7 +94,8 @@ pub struct Starting<R: Reach> {
 }
 
 impl<R: Reach> Starting<R> {
-    /// Starts `PATH worker --port P`, which has 10 seconds to connect, but no longer than to the end, if there is one.
+    /// Starts `PATH worker --port P`, which has 10 seconds to connect, but no longer than to the end, if there is one. Refuses a file
+    /// that is started as its owner, since such a program couldn't be killed.
     pub fn new(
         rt: &R,
         alloc: Global,
@@ -93,6 +103,9 @@ impl<R: Reach> Starting<R> {
         listener: R::Listener,
         end: Option<Instant>,
     ) -> io::Result<Starting<R>> {
+        if is_started_as_its_owner(rt, path) {
+            return Err(io::Error::from(ErrorKind::PermissionDenied));
+        }
         let time = Span::start(rt, CONNECT, end)?;
         time.left(rt)?;
         let port = listener.local_addr()?.port();
@@ -103,8 +116,8 @@ impl<R: Reach> Starting<R> {
         })
     }
 
-    /// Waits for the connection of the program, and drops those of others. Fails where the program ends first, and
-    /// with `TimedOut` where it takes too long.
+    /// Waits for the connection of the program, and drops those of others. Fails where the program ends first, where the table of
+    /// sockets can't be read, and with `TimedOut` where it takes too long.
     pub fn accept(&mut self, rt: &R, alloc: Global) -> io::Result<R::Stream> {
         let port = self.listener.local_addr()?.port();
         for _ in 0..u64::MAX {

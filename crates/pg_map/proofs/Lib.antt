@@ -1,7 +1,5 @@
 pub mod Tables
-pub mod Places
 pub mod Owning
-pub mod Sharing
 pub mod Bests
 pub mod Lifts
 pub mod Above

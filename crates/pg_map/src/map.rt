@@ -6,73 +6,46 @@ ghost use Rattle.pg_measure.specs.Measures.{Fits, AtMost, IsBelow, Covers, Cover
 ghost use Rattle.pg_measure.specs.Mirrors.Rows.{measure_of, FrontAtMost, MissesFront, IsLeastCover};
 ghost use Rattle.pg_measure.specs.Views.{measure_in};
 ghost use Rattle.pg_map.specs.Lines.{AreWithin, line_at};
-ghost use Rattle.pg_map.specs.Mirrors.Kept.{kept, IsKept};
 ghost use Rattle.pg_map.specs.Mirrors.Tables.{IsBetter, IsBest};
 ghost use Rattle.pg_map.specs.Maps.{measure_at, IsMap, zero_map, update_map, MapAtMost, SomeOrAll, IsServedBy, IsServed, IsClosed, IsLifted, StaysUnder, CoversSuccessors, IsLeastClosedFrom, IsJoin};
 ghost use Rattle.pg_map.specs.Weights.{map_weight};
 
 use crate::Lines;
-use crate::own::OwnRows;
-use crate::shared::SharedRows;
-use crate::table::Table;
+use crate::rows::RowTable;
 use pg_arena::{Player, Vertex};
 use pg_measure::{Bounds, Measure, View, row};
 use std::alloc::{AllocError, Global};
 use std::marker::Model;
 
-/// Where measures have at most so many components each vertex has a row of its own: that takes hardly more memory than the
-/// place of a row which many share, and is found at once.
-const FEW: usize = 2;
-
-/// Either way to keep the rows of a map.
-#[derive(Drop)]
-enum AnyTable {
-    Own(OwnRows),
-    Shared(SharedRows),
-}
-
-impl AnyTable {
-    /// The table with zeros at each vertex, kept in the way that suits the bounds.
-    fn zero(alloc: Global, vertices: u32, bounds: Bounds) -> Result<AnyTable, AllocError>
-        ensures bounds { IfOk result (λ t. (kept t).bounds ≡ bounds) }
-        ensures zeros { IfOk result (λ t. (kept t).measures ≡ zero_map bounds vertices) }
-        ensures fits { IfOk result IsKept }
-    {
-        if bounds.pairs().len() <= FEW {
-            return Ok(AnyTable::Own(OwnRows::zero(alloc, vertices, bounds)?));
-        }
-        Ok(AnyTable::Shared(SharedRows::zero(alloc, vertices, bounds)?))
-    }
-}
-
 /// A measure of the bounds for each vertex. Contracts see the bounds and the list of the measures. After `zero` no call takes
 /// memory.
 #[derive(Drop)]
 pub struct MeasureMap {
-    table: AnyTable,
+    bounds: Bounds,
+    rows: RowTable,
 }
 
 impl Model for MeasureMap {
     ghost use Rattle.pg_map.specs.Maps.{MapValue};
-    ghost use Rattle.pg_map.specs.Mirrors.Kept.{kept, IsKept};
+    ghost use Rattle.pg_map.specs.Mirrors.Tables.{AreRowsOf};
 
     ghost Value = { MapValue };
 
-    ghost view = { λ m. kept m.table };
+    ghost view = { λ m. record { bounds = m.bounds; measures = m.rows.measures } };
 
-    ghost invariant = { λ m. IsKept m.table };
+    ghost invariant = { λ m. AreRowsOf m.bounds m.rows };
 }
 
 impl MeasureMap {
     /// The map with zeros at each vertex. It takes all the memory that the map ever has, and is refused only for want
-    /// of it, also where the size of the rows can't be had, or for `u32::MAX` vertices a number for each row.
+    /// of it, also where the size of the rows can't be had.
     pub fn zero(alloc: Global, vertices: u32, bounds: &Bounds) -> Result<MeasureMap, AllocError>
         ensures bounds { IfOk result (λ m. m.bounds ≡ bounds.now) }
         ensures zeros { IfOk result (λ m. m.measures ≡ zero_map bounds.now vertices) }
     {
-        let kept = Bounds::from_pairs(alloc, bounds.pairs())?;
-        let table = AnyTable::zero(alloc, vertices, kept)?;
-        Ok(MeasureMap { table })
+        let bounds = Bounds::from_pairs(alloc, bounds.pairs())?;
+        let rows = RowTable::zeros(alloc, bounds.pairs().len() + 1, vertices as usize)?;
+        Ok(MeasureMap { bounds, rows })
     }
 
     /// How many vertices the map has.
@@ -81,10 +54,7 @@ impl MeasureMap {
         ensures value { result ≡ length self.now.measures }
         ensures map { IsMap self.now.bounds result self.now.measures }
     {
-        match &self.table {
-            AnyTable::Own(rows) => rows.len(),
-            AnyTable::Shared(rows) => rows.len(),
-        }
+        self.rows.len() as u32
     }
 
     /// The bounds of its measures.
@@ -92,10 +62,7 @@ impl MeasureMap {
     pub fn bounds(&self) -> &Bounds
         ensures { result.now ≡ self.now.bounds }
     {
-        match &self.table {
-            AnyTable::Own(rows) => rows.bounds(),
-            AnyTable::Shared(rows) => rows.bounds(),
-        }
+        &self.bounds
     }
 
     /// The measure of a vertex.
@@ -339,10 +306,7 @@ impl MeasureMap {
         ensures value { measure_of result.now ≡ measure_at self.now.measures v }
         ensures fits { Fits self.now.bounds (measure_at self.now.measures v) }
     {
-        match &self.table {
-            AnyTable::Own(rows) => rows.row(v),
-            AnyTable::Shared(rows) => rows.row(v),
-        }
+        self.rows.row(v as u32)
     }
 
     /// Whether a vertex is at top.
@@ -353,10 +317,7 @@ impl MeasureMap {
             (¬ (measure_at self.now.measures v ≡ None)) }
         ensures map { IsMap self.now.bounds (length self.now.measures) self.now.measures }
     {
-        match &self.table {
-            AnyTable::Own(rows) => rows.is_top(v),
-            AnyTable::Shared(rows) => rows.is_top(v),
-        }
+        self.rows.is_top(v as u32)
     }
 
     /// Whether the first `front` components of `a` are at most those of `b`; where both are at most each other, either
@@ -369,10 +330,7 @@ impl MeasureMap {
         ensures { MatchBool result (FrontAtMost front (measure_at self.now.measures a) (measure_at self.now.measures b))
             (FrontAtMost front (measure_at self.now.measures b) (measure_at self.now.measures a)) }
     {
-        match &self.table {
-            AnyTable::Own(rows) => rows.is_less(a, b, front),
-            AnyTable::Shared(rows) => rows.is_less(a, b, front),
-        }
+        row::is_front_below(self.row(a), self.row(b), front)
     }
 
     /// Whether the measure of `v` covers that of `w` in the first `front` components.
@@ -385,10 +343,7 @@ impl MeasureMap {
             (CoversFront strict front (measure_at self.now.measures v) (measure_at self.now.measures w))
             (MissesFront strict front (measure_at self.now.measures v) (measure_at self.now.measures w)) }
     {
-        match &self.table {
-            AnyTable::Own(rows) => rows.covers(v, w, front, strict),
-            AnyTable::Shared(rows) => rows.covers(v, w, front, strict),
-        }
+        row::covers(self.row(v), self.row(w), front, strict)
     }
 
     /// Whether the measure of `v` covers those of some of the vertices, or of all: some for Even, all for Odd.
@@ -494,10 +449,8 @@ impl MeasureMap {
             (measure_at self.old.measures from) (measure_at self.new.measures to) }
         ensures others { self.new.measures ≡ slice_set self.old.measures to (measure_at self.new.measures to) }
     {
-        match &mut self.table {
-            AnyTable::Own(rows) => rows.step(from, to, front, strict),
-            AnyTable::Shared(rows) => rows.step(from, to, front, strict),
-        }
+        self.rows
+            .step(from as u32, to as u32, self.bounds.pairs(), front, strict);
     }
 
     /// Gives a vertex top.
@@ -507,10 +460,7 @@ impl MeasureMap {
         ensures bounds { self.new.bounds ≡ self.old.bounds }
         ensures measures { self.new.measures ≡ slice_set self.old.measures v None }
     {
-        match &mut self.table {
-            AnyTable::Own(rows) => rows.put_top(v),
-            AnyTable::Shared(rows) => rows.put_top(v),
-        }
+        self.rows.set_top(v as u32);
     }
 
     /// Gives a vertex, which isn't at top, a list of the bounds.
@@ -522,10 +472,7 @@ impl MeasureMap {
         ensures bounds { self.new.bounds ≡ self.old.bounds }
         ensures measures { self.new.measures ≡ slice_set self.old.measures v (Some list.now) }
     {
-        match &mut self.table {
-            AnyTable::Own(rows) => rows.write_list(v, list),
-            AnyTable::Shared(rows) => rows.write_list(v, list),
-        }
+        self.rows.set(v as u32, list);
     }
 
     /// Whether the measure of a vertex is at most that in the other map.

@@ -1,6 +1,6 @@
 //! Rows of numbers in one list, each of which holds a measure as `pg_measure::row` keeps it.
 
-ghost use Rattle.std.specs.Prelude.{◌≡◌, ℕ, List, [], ◌∷◌, ◌++◌, Some, None, ◌+◌, ◌-◌, ◌*◌, ◌<◌, ◌≤◌, ◌^◌, length, replicate, slice_set, IfOk, MatchBool};
+ghost use Rattle.std.specs.Prelude.{◌≡◌, Some, None, ◌+◌, ◌-◌, ◌*◌, ◌<◌, ◌≤◌, length, replicate, slice_set, IfOk, MatchBool};
 ghost use Rattle.pg_measure.specs.Measures.{Fits};
 ghost use Rattle.pg_measure.specs.Mirrors.Rows.{measure_of, IsLeastCover};
 ghost use Rattle.pg_map.specs.Maps.{measure_at};
@@ -10,13 +10,11 @@ use pg_measure::row;
 use std::alloc::{AllocError, Global};
 use std::marker::Model;
 
-/// Rows of one width. Contracts see the measure in each, and how many there is room for: as long as there is room no
-/// call takes memory.
+/// Rows of one width. Contracts see the measure in each. After `zeros` no call takes memory.
 #[derive(Drop)]
 pub(crate) struct RowTable {
     width: usize,
     count: usize,
-    room: usize,
     cells: Vec<u32>,
 }
 
@@ -25,43 +23,13 @@ impl Model for RowTable {
 
     ghost Value = { RowsValue };
 
-    ghost view = { λ r. record { width = r.width; measures = table r.count r.width r.cells.items; room = r.room } };
+    ghost view = { λ r. record { width = r.width; measures = table r.count r.width r.cells.items } };
 
-    ghost invariant = { λ r. AreRows r.width r.count r.room r.cells.items r.cells.cap };
+    ghost invariant = { λ r. AreRows r.width r.count r.cells.items };
 }
 
 impl RowTable {
-    /// A row of zeros and a row of top, with room for `room` rows. Refused only for want of memory, also where the
-    /// size of the list can't be had.
-    pub(crate) fn with_room(
-        alloc: Global,
-        width: usize,
-        room: usize,
-    ) -> Result<RowTable, AllocError>
-        requires { 0 < width }
-        ensures width { IfOk result (λ r. r.width ≡ width) }
-        ensures room { IfOk result (λ r. r.room ≡ room) }
-        ensures shared { IfOk result (λ r. r.measures ≡ Some (replicate (width - 1) 0) ∷ None ∷ []) }
-    {
-        let Some(size) = room.checked_mul(width) else {
-            return Err(AllocError);
-        };
-        let Some(shared) = width.checked_mul(2) else {
-            return Err(AllocError);
-        };
-        let mut cells = Vec::with_capacity(alloc, size)?;
-        cells.resize(shared, 0)?;
-        cells[width] = 1;
-        Ok(RowTable {
-            width,
-            count: 2,
-            room,
-            cells,
-        })
-    }
-
-    /// So many rows of zeros, and no room for more. Refused only for want of memory, also where the size of the list can't
-    /// be had.
+    /// So many rows of zeros. Refused only for want of memory, also where the size of the list can't be had.
     pub(crate) fn zeros(alloc: Global, width: usize, count: usize) -> Result<RowTable, AllocError>
         requires { 0 < width }
         ensures width { IfOk result (λ r. r.width ≡ width) }
@@ -74,7 +42,6 @@ impl RowTable {
         Ok(RowTable {
             width,
             count,
-            room: count,
             cells,
         })
     }
@@ -108,27 +75,6 @@ impl RowTable {
         self.cells[place as usize * self.width] != 0
     }
 
-    /// The place of a row that isn't the first: the place itself, or where that is 0 the place of a copy of the first row
-    /// behind all rows.
-    pub(crate) fn own(&mut self, place: u32) -> u32
-        requires first { 0 < length self.old.measures }
-        requires room { place ≡ 0 → length self.old.measures < self.old.room }
-        requires numbered { self.old.room ≤ 2 ^ 32 }
-        ensures width { self.new.width ≡ self.old.width }
-        ensures room { self.new.room ≡ self.old.room }
-        ensures copied { place ≡ 0 → (result ≡ length self.old.measures)
-            × (self.new.measures ≡ self.old.measures ++ measure_at self.old.measures 0 ∷ []) }
-        ensures same { 0 < place → (result ≡ place) × (self.new ≡ self.old) }
-    {
-        if place != 0 {
-            return place;
-        }
-        let last = self.count as u32;
-        self.cells.extend_from_within(0..self.width).unwrap();
-        self.count += 1;
-        last
-    }
-
     /// Writes into the row at `place` the least measure of the bounds that covers that of the row at `source` in the
     /// first `front` components.
     pub(crate) fn step(
@@ -145,7 +91,6 @@ impl RowTable {
         requires place { place < length self.old.measures }
         requires front { front ≤ length bounds.now }
         ensures width { self.new.width ≡ self.old.width }
-        ensures room { self.new.room ≡ self.old.room }
         ensures step { IsLeastCover bounds.now strict front
             (measure_at self.old.measures source) (measure_at self.new.measures place) }
         ensures others { self.new.measures ≡ slice_set self.old.measures place (measure_at self.new.measures place) }
@@ -166,7 +111,6 @@ impl RowTable {
         requires place { place < length self.old.measures }
         requires width { self.old.width ≡ length list.now + 1 }
         ensures width { self.new.width ≡ self.old.width }
-        ensures room { self.new.room ≡ self.old.room }
         ensures measures { self.new.measures ≡ slice_set self.old.measures place (Some list.now) }
     {
         write_list(&mut self.cells, self.count, place as usize, list);
@@ -176,7 +120,6 @@ impl RowTable {
     pub(crate) fn set_top(&mut self, place: u32)
         requires { place < length self.old.measures }
         ensures width { self.new.width ≡ self.old.width }
-        ensures room { self.new.room ≡ self.old.room }
         ensures measures { self.new.measures ≡ slice_set self.old.measures place None }
     {
         write_top(&mut self.cells, self.count, self.width, place as usize);

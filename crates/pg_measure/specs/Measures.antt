@@ -80,10 +80,6 @@ components_from bounds p xs = take (width_from bounds p) xs
 abbrev pub measure_from : BoundList → ℕ → MeasureValue → MeasureValue
 measure_from bounds p m = option_map (components_from bounds p) m
 
--- m is at most n in the components of priorities at least p; top is above all
-abbrev pub AtMostFrom : BoundList → ℕ → MeasureValue → MeasureValue → Type 0
-AtMostFrom bounds p m n = AtMost (measure_from bounds p m) (measure_from bounds p n)
-
 -- m is top, or both are lists and m is at least n in the first `width` components, and more if `strict` is true
 abbrev pub CoversFront : Bool → ℕ → MeasureValue → MeasureValue → Type 0
 CoversFront strict width None n = Unit {0}

@@ -41,6 +41,9 @@ pub trait Link {
     /// it was sent, since its set-up.
     ghost is_under: { Self → MapValue → Type 0 };
 
+    /// Whether the worker was started anew, and nothing was sent to it since.
+    ghost is_anew: { Self → Type 0 };
+
     /// The frames that the link will still hand over, where it tells.
     ghost told: { Self → Option (List (List ℕ)) };
 
@@ -71,5 +74,6 @@ pub trait Link {
     fn restart(&mut self) -> Result<(), LinkFault>
         ensures counted { CountsFailure (failures self.old) (failures self.new) result }
         ensures honest { is_honest self.old → is_honest self.new }
+        ensures anew { OnOk result (is_anew self.new) }
         ensures told { RestartsTold (told self.old) (told self.new) result };
 }

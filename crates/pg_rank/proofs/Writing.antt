@@ -5,18 +5,18 @@ use Rattle.std.proofs.lemmas.Bool.{cases_lt, cases_eq}
 use Rattle.std.proofs.lemmas.List.{get_or-set_same, get_or-set_other, get_or_default}
 use Rattle.pg_measure.specs.Measures.{BoundList, width_from}
 use Rattle.pg_rank.specs.Ladders.{step_at, component, row}
-use Rattle.pg_rank.specs.Mirrors.Rungs.{IsBegin, IsBounded}
-use Rattle.pg_rank.proofs.Rising.{AreFalling, after_less, after_same, after_greater}
+use Rattle.pg_rank.specs.Mirrors.Rungs.{IsOrigin, IsBounded}
+use Rattle.pg_rank.proofs.Rising.{AreFalling, after_less, after_greater}
 use Rattle.pg_rank.proofs.Counting.{kept, stands, width_at}
 
 -- the priority of a bound
 abbrev pub priority_at : BoundList → ℕ → ℕ
 priority_at bs i = (get_or bs i (0, 0)).0
 
--- the number at i is the component of the row r, and steps before k won't change it
+-- the number at i is the component of the row r, and the step before k is at a greater priority
 pub record IsSettled (bs : BoundList) (steps list : List ℕ) (r k i : ℕ) : Type 0 where
   pub is : get_or list i 0 ≡ component steps (priority_at bs i) r
-  pub last : (k ≡ 0) ⊎ ((0 < get_or list i 0) ⊎ (priority_at bs i < step_at steps (k - 1)))
+  pub more : (j : ℕ) → k ≡ suc j → priority_at bs i < step_at steps j
 
 -- it is 0, and the component is that of the row k
 pub record IsOpen (bs : BoundList) (steps list : List ℕ) (r k i : ℕ) : Type 0 where
@@ -41,69 +41,42 @@ is_row (b ∷ cs) steps r (x ∷ xs) size each =
     let rest = is_row cs steps r xs (omega arith) (λ i lt. each (suc i) (omega arith)) in
     cc
 
-module _ (bs : BoundList) (steps : List ℕ) (r k b : ℕ) (begin : IsBegin steps b k) where
-  d : ℕ
-  d = step_at steps k
-
-  -- what stands before the lesser steps is at no lesser priority
-  before : (p : ℕ) → p < step_at steps k → (b ≡ 0) ⊎ (p < step_at steps (b - 1))
-  before p lt = elim (cases_eq b 0) [
-    | inl e ↦ inl e
-    | inr ne ↦ inr (let f = begin.first (b - 1) (omega (arith, ne)) in omega arith)
-  ]
-
-  settled_by : (list list' : List ℕ) (i : ℕ) → get_or list' i 0 ≡ get_or list i 0 → get_or list i 0 ≡ component steps (priority_at bs i) r
-      → (0 < get_or list i 0) ⊎ (priority_at bs i < step_at steps k) → IsSettled bs steps list' r b i
-  settled_by list list' i same is (inl some) = record { is = same ∙ is; last = inr (inl (omega arith)) }
-  settled_by list list' i same is (inr less) = record {
-    is = same ∙ is;
-    last = elim (before (priority_at bs i) less) [ inl e ↦ inl e | inr lt ↦ inr (inr lt) ];
-  }
+module _ (bs : BoundList) (steps : List ℕ) (r m b : ℕ) (origin : IsOrigin steps b m) where
+  -- where the step is at no lesser priority than that of i, the one before its origin is at a greater one
+  more : (i : ℕ) → priority_at bs i ≤ step_at steps m → (j : ℕ) → b ≡ suc j → priority_at bs i < step_at steps j
+  more i le j e = let f = origin.more j e in omega arith
 
   -- a number that isn't written
-  pub stays : (list list' : List ℕ) (i : ℕ) → get_or list' i 0 ≡ get_or list i 0
-      → ((priority_at bs i ≡ step_at steps k) → 0 < get_or list i 0)
-      → IsWritten bs steps list r (suc k) i → IsWritten bs steps list' r b i
-  stays list list' i same written (inl s) = inl (settled_by list list' i same s.is (go s.last))
-    where
-      go : (suc k ≡ 0) ⊎ ((0 < get_or list i 0) ⊎ (priority_at bs i < step_at steps (suc k - 1)))
-          → (0 < get_or list i 0) ⊎ (priority_at bs i < step_at steps k)
-      go (inl e) = absurd (omega arith)
-      go (inr (inl some)) = inl some
-      go (inr (inr less)) = inr (let e : suc k - 1 ≡ k = omega arith in let f = ap (step_at steps) e in omega arith)
-  stays list list' i same written (inr o) = elim (cases_lt (priority_at bs i) (step_at steps k)) [
+  stays : (list list' : List ℕ) (i : ℕ) → get_or list' i 0 ≡ get_or list i 0 → (priority_at bs i ≡ step_at steps m → ⊥)
+      → IsWritten bs steps list r (suc m) i → IsWritten bs steps list' r b i
+  stays list list' i same other (inl s) =
+      let less = s.more m refl in
+      inl (record { is = same ∙ s.is; more = more i (omega arith) })
+  stays list list' i same other (inr o) = elim (cases_lt (priority_at bs i) (step_at steps m)) [
     | inl less ↦
-        let z = after_greater (step_at steps k) (priority_at bs i) (component steps (priority_at bs i) k) less in
+        let z = after_greater (step_at steps m) (priority_at bs i) (component steps (priority_at bs i) m) less in
         let s = o.same in
         let n = o.none in
-        inl (settled_by list list' i same (omega arith) (inr less))
-    | inr ge ↦ elim (cases_eq (priority_at bs i) (step_at steps k)) [
-      | inl e ↦ let w = written e in let n = o.none in absurd (omega arith)
-      | inr ne ↦
-          let a = after_less (step_at steps k) (priority_at bs i) (component steps (priority_at bs i) k) (omega (arith, ne)) in
-          let l = kept steps (priority_at bs i) b k begin.among (λ j from lt. let s = begin.less j from lt in omega arith) in
-          let s = o.same in
-          let n = o.none in
-          inr (record { none = omega arith; same = omega arith })
-    ]
+        inl (record { is = omega arith; more = more i (omega arith) })
+    | inr ge ↦
+        let above : step_at steps m < priority_at bs i = omega (arith, other) in
+        let a = after_less (step_at steps m) (priority_at bs i) (component steps (priority_at bs i) m) above in
+        let l = kept steps (priority_at bs i) b m origin.among (λ j from lt. let s = origin.no_more j from lt in omega arith) in
+        let s = o.same in
+        let n = o.none in
+        inr (record { none = omega arith; same = omega arith })
   ]
 
   -- the number that is
-  pub writes : (list list' : List ℕ) (i n : ℕ) → priority_at bs i ≡ step_at steps k → n ≡ component steps (step_at steps k) (suc k)
-      → get_or list i 0 ≡ 0 → get_or list' i 0 ≡ n → IsWritten bs steps list r (suc k) i → IsWritten bs steps list' r b i
-  writes list list' i n here count none is (inl s) = absurd (go s.last)
-    where
-      go : (suc k ≡ 0) ⊎ ((0 < get_or list i 0) ⊎ (priority_at bs i < step_at steps (suc k - 1))) → ⊥
-      go (inl e) = omega arith
-      go (inr (inl some)) = omega arith
-      go (inr (inr less)) = let e : suc k - 1 ≡ k = omega arith in let f = ap (step_at steps) e in omega arith
-  writes list list' i n here count none is (inr o) =
-      let c = ap (λ p. component steps p (suc k)) here in
+  writes : (list list' : List ℕ) (i n : ℕ) → priority_at bs i ≡ step_at steps m → n ≡ component steps (step_at steps m) (suc m)
+      → get_or list' i 0 ≡ n → IsWritten bs steps list r (suc m) i → IsWritten bs steps list' r b i
+  writes list list' i n here count is (inl s) = let less = s.more m refl in absurd (omega arith)
+  writes list list' i n here count is (inr o) =
+      let c = ap (λ p. component steps p (suc m)) here in
       let s = o.same in
-      let a = after_same (step_at steps k) (step_at steps k) (component steps (step_at steps k) k) refl in
-      inl (record { is = omega arith; last = inr (inl (omega arith)) })
+      inl (record { is = omega arith; more = more i (omega arith) })
 
-module _ (bs : BoundList) (falls : AreFalling bs) (steps : List ℕ) (r m b n w : ℕ) (begin : IsBegin steps b m)
+module _ (bs : BoundList) (falls : AreFalling bs) (steps : List ℕ) (r m b n w : ℕ) (origin : IsOrigin steps b m)
     (count : n ≡ component steps (step_at steps m) (suc m)) (bounded : IsBounded bs (step_at steps m) n)
     (is_width : w ≡ width_from bs (step_at steps m)) where
   -- the step has a bound
@@ -121,25 +94,16 @@ module _ (bs : BoundList) (falls : AreFalling bs) (steps : List ℕ) (r m b n w 
   other : (i : ℕ) → i < length bs → (i ≡ w - 1 → ⊥) → priority_at bs i ≡ step_at steps m → ⊥
   other i lt ne e = let q = width_at bs (step_at steps m) i (0, 0) falls lt e in omega (arith, ne)
 
-  pub passes : (list : List ℕ) → (get_or list (w - 1) 0 ≡ 0 → ⊥) → (i : ℕ) → i < length bs → IsWritten bs steps list r (suc m) i
-      → IsWritten bs steps list r b i
-  passes list some i lt is = elim (cases_eq i (w - 1)) [
-    | inl e ↦ stays bs steps r m b begin list list i refl (λ _. let f = ap (λ j. get_or list j 0) e in omega (arith, some)) is
-    | inr ne ↦ stays bs steps r m b begin list list i refl (λ here. absurd (other i lt ne here)) is
-  ]
-
-  pub sets : (list : List ℕ) → length list ≡ length bs → get_or list (w - 1) 0 ≡ 0 → (i : ℕ) → i < length bs → IsWritten bs steps list r
-      (suc m) i
+  pub sets : (list : List ℕ) → length list ≡ length bs → (i : ℕ) → i < length bs → IsWritten bs steps list r (suc m) i
       → IsWritten bs steps (set list (w - 1) n) r b i
-  sets list size none i lt is = elim (cases_eq i (w - 1)) [
+  sets list size i lt is = elim (cases_eq i (w - 1)) [
     | inl e ↦
         let s = some_width in
         let a = s.0 in
         let z = s.1 in
         subst (λ j. IsWritten bs steps (set list (w - 1) n) r b j) (sym e)
-        (writes bs steps r m b begin list (set list (w - 1) n) (w - 1) n its_priority count none
+        (writes bs steps r m b origin list (set list (w - 1) n) (w - 1) n its_priority count
         (get_or-set_same list (w - 1) n 0 (omega arith)) (subst (λ j. IsWritten bs steps list r (suc m) j) e is))
     | inr ne ↦
-        stays bs steps r m b begin list (set list (w - 1) n) i (get_or-set_other list (w - 1) i n 0 ne)
-        (λ here. absurd (other i lt ne here)) is
+        stays bs steps r m b origin list (set list (w - 1) n) i (get_or-set_other list (w - 1) i n 0 ne) (other i lt ne) is
   ]

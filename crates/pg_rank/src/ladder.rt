@@ -7,7 +7,7 @@ ghost use Rattle.pg_rank.specs.Mirrors.Blocks.{CoversUnder};
 
 use crate::block::{high_of, low_of};
 use crate::row::write_row;
-use crate::table::{begins_of, counts_of, ends_of};
+use crate::table::{begins_of, counts_of, ends_of, origins_of};
 use pg_measure::Bounds;
 use std::alloc::{AllocError, Global};
 use std::marker::Model;
@@ -20,6 +20,8 @@ pub struct Ladder {
     steps: Vec<u32>,
     /// For each step from which one on all those before it are at lesser priorities; the one before these isn't.
     begins: Vec<u32>,
+    /// The same of steps at no greater priorities.
+    origins: Vec<u32>,
     /// Before which one those after it are at no greater priorities.
     ends: Vec<u32>,
     /// The component that it makes greater, after it.
@@ -34,7 +36,7 @@ impl Model for Ladder {
 
     ghost view = { λ l. record { bounds = l.bounds; steps = l.steps.items } };
 
-    ghost invariant = { λ l. AreRungs l.bounds l.steps.items l.begins.items l.ends.items l.counts.items };
+    ghost invariant = { λ l. AreRungs l.bounds l.steps.items l.begins.items l.origins.items l.ends.items l.counts.items };
 }
 
 impl Ladder {
@@ -53,6 +55,7 @@ impl Ladder {
             return Ok(None);
         }
         let begins = begins_of(alloc, &steps)?;
+        let origins = origins_of(alloc, &steps, &begins)?;
         let ends = ends_of(alloc, &steps)?;
         let Some(counts) = counts_of(alloc, bounds, &steps, &begins)? else {
             return Ok(None);
@@ -62,6 +65,7 @@ impl Ladder {
             bounds,
             steps,
             begins,
+            origins,
             ends,
             counts,
         }))
@@ -115,7 +119,7 @@ impl Ladder {
         write_row(
             &self.bounds,
             &self.steps,
-            &self.begins,
+            &self.origins,
             &self.counts,
             rank,
             list,

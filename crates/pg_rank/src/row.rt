@@ -2,21 +2,21 @@
 
 ghost use Rattle.std.specs.Prelude.{◌≡◌, ◌≤◌, length};
 ghost use Rattle.pg_rank.specs.Ladders.{row};
-ghost use Rattle.pg_rank.specs.Mirrors.Rungs.{AreBegins, AreCounts};
+ghost use Rattle.pg_rank.specs.Mirrors.Rungs.{AreOrigins, AreCounts};
 
 use pg_measure::Bounds;
 
 /// Writes the row of a rank, from its last step back: the last step at a priority with no greater one after it has made its
-/// component.
+/// component. Each component above 0 is looked at once.
 pub(crate) fn write_row(
     bounds: &Bounds,
     steps: &[u32],
-    begins: &[u32],
+    origins: &[u32],
     counts: &[u32],
     rank: u32,
     list: &mut [u32],
 )
-    requires begins { AreBegins steps.now begins.now }
+    requires origins { AreOrigins steps.now origins.now }
     requires counts { AreCounts bounds.now steps.now counts.now }
     requires rank { rank ≤ length steps.now }
     requires size { length list.old ≡ length bounds.now }
@@ -26,11 +26,8 @@ pub(crate) fn write_row(
     list.fill(0);
     let mut k = rank as usize;
     while k > 0 {
-        let step = steps[k - 1];
-        let at = bounds.width_from(step) - 1;
-        if list[at] == 0 {
-            list[at] = counts[k - 1];
-        }
-        k = begins[k - 1] as usize;
+        let at = bounds.width_from(steps[k - 1]) - 1;
+        list[at] = counts[k - 1];
+        k = origins[k - 1] as usize;
     }
 }

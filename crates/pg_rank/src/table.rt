@@ -2,7 +2,7 @@
 
 ghost use Rattle.std.specs.Prelude.{◌≡◌, ◌↔◌, ℕ, ◌+◌, ◌^◌, ◌<◌, ◌≤◌, length, IfOk, IfSome, IfNone, slice_index};
 ghost use Rattle.pg_rank.specs.Ladders.{step_at, IsLadder};
-ghost use Rattle.pg_rank.specs.Mirrors.Rungs.{IsBegin, IsEnd, IsBounded, IsCount, AreBegins, AreEnds, AreCounts};
+ghost use Rattle.pg_rank.specs.Mirrors.Rungs.{IsBegin, IsEnd, IsBounded, IsCount, AreBegins, AreOrigins, AreEnds, AreCounts};
 
 use crate::block::{block_begin, skip};
 use pg_measure::Bounds;
@@ -19,6 +19,28 @@ pub(crate) fn begins_of(alloc: Global, steps: &[u32]) -> Result<Vec<u32>, AllocE
         begins.push(begin as u32)?;
     }
     Ok(begins)
+}
+
+/// From which step on all those before a step are at no greater priorities, for each step.
+pub(crate) fn origins_of(
+    alloc: Global,
+    steps: &[u32],
+    begins: &[u32],
+) -> Result<Vec<u32>, AllocError>
+    requires { AreBegins steps.now begins.now }
+    ensures { IfOk result (λ origins. AreOrigins steps.now origins.items) }
+{
+    let mut origins = Vec::with_capacity(alloc, steps.len())?;
+    for k in 0..steps.len() {
+        let begin = begins[k] as usize;
+        let origin = if begin > 0 && steps[begin - 1] == steps[k] {
+            origins[begin - 1]
+        } else {
+            begins[k]
+        };
+        origins.push(origin)?;
+    }
+    Ok(origins)
 }
 
 /// Before which step those after a step are at no greater priorities, for each step.

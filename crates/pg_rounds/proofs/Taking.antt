@@ -1,7 +1,7 @@
 -- What is taken of links that tell their replies.
 use Rattle.std.proofs.Common.{◌≡◌, ◌≢◌, ℕ, map, Result, Ok, Err, List, [], ◌∷◌}
 use Rattle.std.proofs.Common.{Option, Some, refl, sym, ◌∙◌, ap, subst, arith, rules, inl, inr}
-use Rattle.std.specs.Prelude.{All, OnOk, ◌==◌, if◌then◌else◌}
+use Rattle.std.specs.Prelude.{All, IfErr, OnOk, ◌↔◌, Bool, true, false, ◌==◌, if◌then◌else◌}
 use Rattle.std.proofs.lemmas.Bool.{cases_Bool}
 use Rattle.pg_measure.specs.Measures.{BoundList, MeasureValue}
 use Rattle.pg_wire.specs.declared.frame.Values.{Values}
@@ -17,28 +17,22 @@ use Rattle.pg_wire.proofs.Tells.{dense_told}
 use Rattle.pg_parts.specs.Cuts.{CutValue}
 use Rattle.pg_parts.specs.Frames.{kind_of, Joins}
 use Rattle.pg_parts.specs.declared.link.LinkFault.{LinkFault}
-use Rattle.pg_parts.specs.declared.link.LinkFault.TheVariants.{Failed}
+use Rattle.pg_parts.specs.declared.link.LinkFault.TheVariants.{OutOfMemory, Failed}
 use Rattle.pg_parts.specs.Links.{refusal, SendsTold, RestartsTold, HandsOver}
 use Rattle.pg_rounds.specs.Replies.{IsOfPart, AreOfPart}
 use Rattle.pg_rounds.specs.Told.{FailsLink}
 use Rattle.pg_rounds.specs.Mirrors.Takes.{TakesFrame}
-use Rattle.pg_rounds.specs.Mirrors.Telling.{TellsAfter, AnswersAfter, told_with}
+use Rattle.pg_rounds.specs.Mirrors.Telling.{TellsAfter, AnswersSetUp, acceptance, told_with}
 
 -- ---- one call
-
-pub answered_by : {T : Type 0} (r : Result T LinkFault) (x : T) (left : List (List ℕ)) (new : Option (List (List ℕ))) → r ≡ Ok x → new ≡ Some left
-    → AnswersAfter x left new r
-answered_by r x left new is told = rw is ((λ no. cc), (refl, told))
 
 pub restarted : (old new : Option (List (List ℕ))) (r : Result (Unit {0}) LinkFault) (left : List (List ℕ)) → RestartsTold old new r → old ≡ Some left
     → TellsAfter left new r
 restarted old new r left h is = subst (λ (o : Option (List (List ℕ))). RestartsTold o new r) is h
 
-pub taken_frame : (old new : Option (List (List ℕ))) (r : Result Frame LinkFault) (next : List ℕ) (left : List (List ℕ)) (f : Frame) → TakesFrame old new r
-    → old ≡ Some (next ∷ left) → Spells f next → AnswersAfter f left new r
-taken_frame old new r next left f h is s =
-    let taken = subst (λ (o : Option (List (List ℕ))). TakesFrame o new r) is h in
-    taken f s
+pub takes_next : (old new : Option (List (List ℕ))) (r : Result Frame LinkFault) (next : List ℕ) (left : List (List ℕ)) → TakesFrame old new r
+    → old ≡ Some (next ∷ left) → TakesFrame (Some (next ∷ left)) new r
+takes_next old new r next left h is = subst (λ (o : Option (List (List ℕ))). TakesFrame o new r) is h
 
 pub handed_over : (old new : Option (List (List ℕ))) (r : Result (Unit {0}) LinkFault) (bytes next : List ℕ) (left : List (List ℕ))
     → HandsOver old new r bytes → old ≡ Some (next ∷ left) → (r ≢ Err Failed) × OnOk r ((bytes ≡ next) × (new ≡ Some left))
@@ -100,6 +94,49 @@ sent_values Sparse width ms old new r left h is = subst (λ (o : Option (List (L
 
 pub refusal_spells : Spells refusal (spelling refusal)
 refusal_spells = record { well = inr (refl, search rules); within = omega arith; spelled = refl }
+
+abbrev status_of : Frame → ℕ
+status_of (frames.Report r) = r.status
+status_of f = 0
+
+-- no frame both takes and refuses it
+one_answer : (f : Frame) → f ≡ acceptance → f ≡ refusal → ⊥
+one_answer f taken refused =
+    let same : 1 ≡ 2 = ap status_of (sym taken ∙ refused) in
+    omega (arith, same)
+
+-- what a frame that was taken says of a set-up
+pub answers_set_up : (f : Frame) (r : Result Bool LinkFault) (next : List ℕ) (left : List (List ℕ)) (new : Option (List (List ℕ))) → Spells f next
+    → new ≡ Some left → (r ≡ Ok true ↔ f ≡ acceptance) → (r ≡ Ok false ↔ f ≡ refusal) → IfErr r (λ e. e ≡ Failed) → AnswersSetUp next left new r
+answers_set_up f (Ok true) next left new s told is_taken is_refused neither =
+    let taken : f ≡ acceptance = is_taken.0 refl in
+    record {
+      accepted = λ a. ((λ e. cc), (refl, told));
+      refused = λ b. absurd (one_answer f taken (one_frame f refusal next s b));
+      neither = λ na nb. absurd (na (subst (λ (g : Frame). Spells g next) taken s));
+    }
+answers_set_up f (Ok false) next left new s told is_taken is_refused neither =
+    let refused : f ≡ refusal = is_refused.0 refl in
+    record {
+      accepted = λ a. absurd (one_answer f (one_frame f acceptance next s a) refused);
+      refused = λ b. ((λ e. cc), (refl, told));
+      neither = λ na nb. absurd (nb (subst (λ (g : Frame). Spells g next) refused s));
+    }
+answers_set_up f (Err Failed) next left new s told is_taken is_refused neither = record {
+  accepted = λ a. absurd (let is = is_taken.1 (one_frame f acceptance next s a) in cc);
+  refused = λ b. absurd (let is = is_refused.1 (one_frame f refusal next s b) in cc);
+  neither = λ na nb. (refl, λ e. told);
+}
+answers_set_up f (Err OutOfMemory) next left new s told is_taken is_refused neither = absurd (cc)
+
+-- what is known where no frame was taken
+pub breaks_set_up : (fault : LinkFault) (next : List ℕ) (left : List (List ℕ)) (new : Option (List (List ℕ)))
+    → TakesFrame (Some (next ∷ left)) new (Err fault) → AnswersSetUp next left new (Err fault)
+breaks_set_up fault next left new taken = record {
+  accepted = λ a. ((λ e. (taken.0 acceptance a).0 (cc)), tt);
+  refused = λ b. ((λ e. (taken.0 refusal b).0 (cc)), tt);
+  neither = λ na nb. (refl, λ e. taken.2 (cc));
+}
 
 -- a set-up of a version is refused ahead where values go sparse under it
 pub told_setup : (version : ℕ) (kind : ValueKind) (left : List (List ℕ)) → kind_of version ≡ kind

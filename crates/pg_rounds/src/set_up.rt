@@ -1,14 +1,13 @@
 //! Sets workers up for their parts.
 
-ghost use Rattle.std.specs.Prelude.{◌≡◌, ℕ, ◌∷◌, ◌+◌, ◌<◌, ◌≤◌, List, Some, Ok, length, IfOk, OnOk, false};
+ghost use Rattle.std.specs.Prelude.{◌≡◌, ◌↔◌, ℕ, ◌∷◌, ◌+◌, ◌<◌, ◌≤◌, List, Some, Ok, length, IfOk, IfErr, OnOk, true, false};
 ghost use Rattle.pg_map.specs.Maps.{MapValue};
 ghost use Rattle.pg_wire.specs.declared.frame.VertexLine.{VertexLine};
-ghost use Rattle.pg_wire.specs.Spelling.{spelling};
 ghost use Rattle.pg_parts.specs.Frames.{kind_of};
 ghost use Rattle.pg_parts.specs.Links.{refusal};
 ghost use Rattle.pg_rounds.specs.Mirrors.Tasks.{IsClosedMap};
 ghost use Rattle.pg_rounds.specs.Mirrors.Lines.{AreWritten, SpellsLines};
-ghost use Rattle.pg_rounds.specs.Mirrors.Telling.{TellsAfter, TellsDense, AnswersAfter, told_with};
+ghost use Rattle.pg_rounds.specs.Mirrors.Telling.{TellsAfter, TellsDense, AnswersSetUp, acceptance, told_with};
 
 use crate::sending::{receive_frame, send_frame};
 use crate::task::Task;
@@ -52,9 +51,25 @@ fn send_setup<L: Link>(
     Ok(())
 }
 
-/// What the one reply to a set-up of version 2 says: whether the worker takes it.
+/// Sends the set-up of version 1 to a worker that was started anew.
+fn send_older_setup<L: Link>(
+    task: &Task<'_>,
+    link: &mut L,
+    buffer: &mut Vec<u8>,
+) -> Result<(), LinkFault>
+    requires anew { L.is_anew link.old }
+    ensures honest { L.is_honest link.old → L.is_honest link.new }
+    ensures under { OnOk result (L.is_honest link.old → (h : MapValue) → IsClosedMap task.now h → L.is_under link.new h) }
+    ensures told { (left : List (List ℕ)) → L.told link.old ≡ Some left → TellsAfter left (L.told link.new) result }
+{
+    send_setup(task, link, ValueKind::Dense, buffer)
+}
+
+/// What the one reply to a set-up of version 2 says: whether the worker takes it. Any other reply fails the link.
 fn answer(frame: &Frame) -> Result<bool, LinkFault>
-    ensures { frame.now ≡ refusal → result ≡ Ok false }
+    ensures accepted { result ≡ Ok true ↔ frame.now ≡ acceptance }
+    ensures refused { result ≡ Ok false ↔ frame.now ≡ refusal }
+    ensures neither { IfErr result (λ e. e ≡ LinkFault.Failed) }
 {
     match frame {
         Frame::Report(report) => match (report.status, report.code) {
@@ -66,12 +81,12 @@ fn answer(frame: &Frame) -> Result<bool, LinkFault>
     }
 }
 
-/// Whether the worker takes a set-up of version 2, by its one reply.
+/// Whether the worker takes a set-up of version 2, by its one reply. Where that is neither of the two, the call is Failed.
 fn accepts<L: Link>(task: &Task<'_>, link: &mut L, buffer: &mut Vec<u8>) -> Result<bool, LinkFault>
     ensures honest { L.is_honest link.old → L.is_honest link.new }
     ensures under { L.is_honest link.old → (h : MapValue) → L.is_under link.old h → L.is_under link.new h }
-    ensures told { (left : List (List ℕ)) → L.told link.old ≡ Some (spelling refusal ∷ left)
-        → AnswersAfter false left (L.told link.new) result }
+    ensures told { (next : List ℕ) (left : List (List ℕ)) → L.told link.old ≡ Some (next ∷ left)
+        → AnswersSetUp next left (L.told link.new) result }
 {
     match receive_frame(task.alloc(), link, buffer) {
         Ok(frame) => answer(&frame),
@@ -97,7 +112,7 @@ fn agree<L: Link>(
     }
     *kind = ValueKind::Dense;
     link.restart()?;
-    send_setup(task, link, ValueKind::Dense, buffer)?;
+    send_older_setup(task, link, buffer)?;
     Ok(())
 }
 

@@ -24,7 +24,7 @@ use pg_parts::{Cut, Link};
 use std::alloc::{AllocError, Global};
 
 /// What `solve` found, and after how many rounds, restarts of links and links given up. The counts stop at
-/// 18,446,744,073,709,551,615.
+/// 18,446,744,073,709,551,615. No clause speaks of the last two.
 #[derive(Drop)]
 pub struct Solved {
     pub map: MeasureMap,

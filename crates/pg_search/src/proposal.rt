@@ -2,7 +2,7 @@
 
 use crate::ladder::Ladder;
 use crate::numbers::{NONE, add_one, add_up, at, count, put};
-use crate::one_parity::{propose_at_once, propose_zeros};
+use crate::one_parity::{propose_at_once, propose_measure_at_once};
 use crate::row_claim::RowClaim;
 use crate::rows::TOP;
 use crate::side::Side;
@@ -36,8 +36,8 @@ const LOOKS_OF_FEW: u64 = 1 << 20;
 
 /// The map of a game alone: claims show top as well. None where the search gives up.
 pub fn propose_measure(alloc: Global, game: &Game) -> Result<Option<Proposal>, AllocError> {
-    if let Some(zeros) = propose_zeros(alloc, game)? {
-        return Ok(Some(zeros));
+    if let Some(known) = propose_measure_at_once(alloc, game)? {
+        return Ok(Some(known));
     }
     let graph = Graph::of(alloc, game)?;
     let winners = find_winners(alloc, &graph)?;

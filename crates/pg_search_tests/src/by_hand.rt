@@ -54,6 +54,21 @@ fn top_and_zeros(rt: HostRuntime) -> Result<(), Fail> {
     Ok(())
 }
 
+// all priorities are Odd's, who keeps going from everywhere
+#[test]
+fn top_everywhere(rt: HostRuntime) -> Result<(), Fail> {
+    let alloc = rt.alloc();
+    let game = game(
+        alloc,
+        &[(3, Even, &[1]), (1, Odd, &[1, 2]), (5, Even, &[0, 1])],
+    )?;
+    let found = alone(alloc, &game)?;
+    assert!(rt; found.steps.is_empty());
+    assert!(rt; found.ranks.as_slice() == [1, 1, 1].as_slice());
+    assert!(rt; are_both_shown(alloc, &game)?);
+    Ok(())
+}
+
 // a way of three vertices of priority 1 to a loop that Even wins
 #[test]
 fn steps_along_a_way(rt: HostRuntime) -> Result<(), Fail> {

@@ -1,11 +1,8 @@
 -- Lines read one after another into a builder.
-use Rattle.std.proofs.Common.{◌≡◌, ℕ, ◌-◌, length, false, inl, inr, List, [], ◌∷◌, ◌++◌, map, Option, Some, None, Result, Ok, Err, refl}
+use Rattle.std.proofs.Common.{◌≡◌, ◌⊎◌, ℕ, length, inl, inr, List, [], ◌∷◌, ◌++◌, map, Option, Some, None, Result, Ok, Err, refl}
 use Rattle.std.proofs.Common.{sym, ap, subst, ◌∙◌, append_assoc}
 use Rattle.std.specs.Prelude.{codes}
-use Rattle.std.specs.Str.{bytes_eq}
 use Rattle.std.specs.List.{flat_map}
-use Rattle.std.proofs.lemmas.Slice.Eq.{bytes_eq-Decides}
-use Rattle.std.proofs.lemmas.Bool.{false_from_ne_true}
 use Rattle.std.proofs.lemmas.List.{map-append, append-nil}
 use Rattle.std.proofs.lemmas.Grind.{flat_map-append}
 use Rattle.pg_arena.specs.declared.fault.ArenaFault.{ArenaFault}
@@ -16,21 +13,18 @@ use Rattle.pg_text.specs.declared.reading.Refusal.TheVariants.{Memory, Token}
 use Rattle.pg_text.specs.declared.tokens.TokenFault.{TokenFault}
 use Rattle.pg_text.specs.declared.tokens.TokenFault.TheVariants.{Syntax, NumberTooLarge}
 use Rattle.pg_text.specs.Mirrors.Refusals.{arena_fault, token_fault_of, fault_of}
-use Rattle.pg_text.specs.Lexemes.{Lexeme, word, Begins, Spells, after_space, IsToldAt, clause_lexemes}
-use Rattle.pg_text.specs.Places.{Place, at_front, behind_parity, behind_parity_number, behind_header, behind_start, behind_start_number}
-use Rattle.pg_text.specs.Places.{behind_line, to_line, after, part_place}
-use Rattle.pg_text.specs.GameText.{line_lexemes, IsText, IsMisplaced, HasBadLine}
-use Rattle.pg_text.specs.Mirrors.Steps.{◌>>=◌, Fails, item, stop, items_at}
+use Rattle.pg_text.specs.Lexemes.{Lexeme, number, word, end, Begins, Spells, clause_lexemes}
+use Rattle.pg_text.specs.GameText.{line_lexemes, IsText, IsNoText, HasBadLine}
+use Rattle.pg_text.specs.Mirrors.Steps.{◌>>=◌, Read, Fails, item, stop, items_at}
 use Rattle.pg_text.specs.Mirrors.Parts.{clause_at}
 use Rattle.pg_text.specs.Mirrors.GameScan.{item_at, body_at, lines_at}
 use Rattle.pg_text.specs.Mirrors.Building.{BuildsLines}
-use Rattle.pg_text.proofs.Steps.{bind_ok, ok, ok_is, err_is_ok}
+use Rattle.pg_text.proofs.Steps.{bind_ok, ok, err, ok_is, err_is_ok}
 use Rattle.pg_lists.proofs.Steps.{none_is_some}
 use Rattle.pg_text.proofs.Items.{with_front, nothing_yet, goes_on, ends, items_err}
 use Rattle.pg_text.proofs.Spelling.{spells_append}
-use Rattle.pg_text.proofs.Parts.{clause_takes}
-use Rattle.pg_text.proofs.Takes.{item_exact, item_shrinks}
-use Rattle.pg_text.proofs.Misplaced.{Stuck, bind_err, clause_stuck, item_stuck, no_word}
+use Rattle.pg_text.proofs.Parts.{clause_takes, clause_absent}
+use Rattle.pg_text.proofs.Takes.{item_exact, item_shrinks, end_again}
 use Rattle.pg_text.proofs.Texts.{body_takes, lines_take, lines_again}
 
 -- these lines are read and built, and the rest follows
@@ -109,181 +103,77 @@ no_body bytes fault e = rw e refl
 no_text : (bytes : List ℕ) (fault : TokenFault) → lines_at bytes ≡ Err fault → (lines : List Line) → IsText bytes lines → ⊥
 no_text bytes fault e lines text = err_is_ok fault lines (sym e ∙ lines_again bytes lines text)
 
-refuses : (fault : TokenFault) (bytes rest : List ℕ) → IsMisplaced bytes rest → IsToldAt (after_space rest) fault
-    → lines_at bytes ≡ Err fault → BuildsLines bytes (Err (token_fault_of (length bytes) fault))
-refuses (Syntax left) bytes rest m told h =
-    (rest, record { misplaced = m; place = ap (λ (n : ℕ). length bytes - n) told.0; no_text = no_text bytes (Syntax left) h }, told.1)
-refuses (NumberTooLarge left) bytes rest m told h = (
-  rest,
-  record { misplaced = m; place = ap (λ (n : ℕ). length bytes - n) told.0; no_text = no_text bytes (NumberTooLarge left) h },
-  told.1,
-)
+refuses : (fault : TokenFault) (bytes : List ℕ) → IsNoText bytes → BuildsLines bytes (Err (token_fault_of (length bytes) fault))
+refuses (Syntax left) bytes none = none
+refuses (NumberTooLarge left) bytes none = none
 
--- where the header or the start fails
-fails_header : (bytes : List ℕ) (fault : TokenFault) → clause_at (codes "parity") bytes ≡ Err fault → Stuck at_front bytes fault
-fails_header bytes fault e = clause_stuck (codes "parity") at_front behind_parity behind_parity_number behind_header bytes fault refl (λ t. refl) (λ t. refl) e
+-- where a clause can't be read no other token than its word stands
+no_other : (name bytes : List ℕ) (fault : TokenFault) (token : Lexeme) (mid : List ℕ) → (token ≡ word name → ⊥)
+    → clause_at name bytes ≡ Err fault → ¬ Begins bytes token mid
+no_other name bytes fault token mid other e b = err_is_ok fault _ (sym e ∙ clause_absent name bytes token mid other b)
 
-fails_start : (place : Place) (bytes : List ℕ) (fault : TokenFault) → after place (word (codes "start")) ≡ Some behind_start
-    → clause_at (codes "start") bytes ≡ Err fault → Stuck place bytes fault
-fails_start place bytes fault is e = clause_stuck (codes "start") place behind_start behind_start_number behind_line bytes fault is (λ t. refl) (λ t. refl) e
+-- in the place of a clause that can't be read stands neither a line nor the end
+stops_at_clause : (name bytes : List ℕ) (header : Option ℕ) (here : List ℕ) (fault : TokenFault) → Spells bytes (clause_lexemes (codes "parity") header) here
+    → clause_at name here ≡ Err fault → lines_at bytes ≡ Err fault → IsNoText bytes
+stops_at_clause name bytes header here fault s e h = record {
+  header = header;
+  start = None;
+  lines = [];
+  here = here;
+  spelt = spells_append (clause_lexemes (codes "parity") header) [] bytes here here s refl;
+  limits = tt;
+  no_line = λ line rest some l. no_other name here fault (number line.identifier) l.0 (λ e. cc) e l.1;
+  no_end = λ l. no_other name here fault end l.0 (λ e. cc) e l.1;
+  no_text = no_text bytes fault h;
+}
 
-start_may_follow : (header : Option ℕ) → after (part_place header None []) (word (codes "start")) ≡ Some behind_start
-start_may_follow None = refl
-start_may_follow (Some n) = refl
+err_same : {A : Type 0} (f g : TokenFault) → (let r : Read A = Err f in r) ≡ Err g → f ≡ g
+err_same f g e = cc
 
-stuck_body : (bytes : List ℕ) (fault : TokenFault) → body_at bytes ≡ Err fault → (rest : List ℕ) × IsMisplaced bytes rest × IsToldAt (after_space rest) fault
+bind_err : {A B : Type 0} (o : Read A) (f : A → Read B) (fault : TokenFault) → (o >>= f) ≡ Err fault
+    → (o ≡ Err fault) ⊎ ((x : A) × (o ≡ Ok x) × (f x ≡ Err fault))
+bind_err (Err g) f fault e = inl (ap (λ (h : TokenFault). err h) (err_same g fault e))
+bind_err (Ok x) f fault e = inr (x, refl, e)
+
+no_front : (bytes : List ℕ) (fault : TokenFault) → body_at bytes ≡ Err fault → IsNoText bytes
 unfolding body_at
-stuck_body bytes fault e =
+no_front bytes fault e =
     elim (bind_err (clause_at (codes "parity") bytes) (λ header. clause_at (codes "start") header.1 >>= λ start. ok start.1) fault e) [
-      | inl f ↦
-          let s = fails_header bytes fault f in (
-            s.rest,
-            record {
-              header = None;
-              start = None;
-              lines = [];
-              others = s.tokens;
-              place = s.there;
-              spelt = s.spelt;
-              limits = tt;
-              inner = s.inner;
-              leads = s.leads;
-              none = s.none;
-            },
-            s.told,
-          )
+      | inl f ↦ stops_at_clause (codes "parity") bytes None bytes fault refl f (no_body bytes fault e)
       | inr h ↦ elim (bind_err (clause_at (codes "start") h.0.1) (λ start. ok start.1) fault h.2) [
-        | inl f ↦
-            let s = fails_start (part_place h.0.0 None []) h.0.1 fault (start_may_follow h.0.0) f in (
-              s.rest,
-              record {
-                header = h.0.0;
-                start = None;
-                lines = [];
-                others = s.tokens;
-                place = s.there;
-                spelt = spells_append (clause_lexemes (codes "parity") h.0.0) s.tokens bytes h.0.1 s.rest (clause_takes (codes "parity") bytes h.0 h.1) s.spelt;
-                limits = tt;
-                inner = s.inner;
-                leads = s.leads;
-                none = s.none;
-              },
-              s.told,
-            )
+        | inl f ↦ stops_at_clause (codes "start") bytes h.0.0 h.0.1 fault (clause_takes (codes "parity") bytes h.0 h.1) f (no_body bytes fault e)
         | inr f ↦ absurd (err_is_ok fault _ (sym f.2))
       ]
     ]
 
 pub fails_body : (fault : TokenFault) (bytes : List ℕ) → body_at bytes ≡ Err fault → BuildsLines bytes (Err (token_fault_of (length bytes) fault))
-fails_body fault bytes h =
-    let s = stuck_body bytes fault h in
-    refuses fault bytes s.0 s.1 s.2 (no_body bytes fault h)
-
--- what is read of the header and the start, and the words that can't stand behind them
-record Front (bytes body : List ℕ) : Type 0 where
-  header : Option ℕ
-  start : Option ℕ
-  spells : (tokens : List Lexeme) (rest : List ℕ) → Spells body tokens rest
-      → Spells bytes (clause_lexemes (codes "parity") header ++ (clause_lexemes (codes "start") start ++ tokens)) rest
-  next : (token : Lexeme) (rest : List ℕ) → Begins body token rest → after (part_place header start []) token ≡ to_line token
-
-word_is : (name bytes w rest : List ℕ) → ((mid : List ℕ) → ¬ Begins bytes (word name) mid) → Begins bytes (word w) rest → bytes_eq w name ≡ false
-word_is name bytes w rest absent b =
-    false_from_ne_true (bytes_eq w name)
-    (λ e. absent rest (subst (λ (v : List ℕ). Begins bytes (word v) rest) ((bytes_eq-Decides w name).0 e) b))
-
-no_start : (bytes : List ℕ) → ((mid : List ℕ) → ¬ Begins bytes (word (codes "start")) mid) → (token : Lexeme) (rest : List ℕ)
-    → Begins bytes token rest → after behind_header token ≡ to_line token
-no_start bytes absent (word w) rest b = rw (word_is (codes "start") bytes w rest absent b) refl
-no_start bytes absent _ rest b = refl
-
-no_header : (bytes : List ℕ) → ((mid : List ℕ) → ¬ Begins bytes (word (codes "parity")) mid)
-    → ((mid : List ℕ) → ¬ Begins bytes (word (codes "start")) mid) → (token : Lexeme) (rest : List ℕ) → Begins bytes token rest
-    → after at_front token ≡ to_line token
-no_header bytes no_parity absent (word w) rest b = rw (word_is (codes "parity") bytes w rest no_parity b, word_is (codes "start") bytes w rest absent b) refl
-no_header bytes no_parity absent _ rest b = refl
-
--- without the clause nothing is taken
-nothing_taken : (name bytes rest : List ℕ) → clause_at name bytes ≡ Ok (None, rest) → bytes ≡ rest
-nothing_taken name bytes rest e = clause_takes name bytes (None, rest) e
-
-front_next : (bytes mid body : List ℕ) (header start : Option ℕ) → clause_at (codes "parity") bytes ≡ Ok (header, mid)
-    → clause_at (codes "start") mid ≡ Ok (start, body) → (token : Lexeme) (rest : List ℕ) → Begins body token rest
-    → after (part_place header start []) token ≡ to_line token
-front_next bytes mid body None (Some n) h s token rest b = refl
-front_next bytes mid body (Some m) (Some n) h s token rest b = refl
-front_next bytes mid body (Some n) None h s token rest b =
-    let same = nothing_taken (codes "start") mid body s in
-    no_start mid (λ m. no_word (codes "start") mid body m s) token rest (subst (λ (l : List ℕ). Begins l token rest) (sym same) b)
-front_next bytes mid body None None h s token rest b =
-    let same = nothing_taken (codes "start") mid body s in
-    let before = nothing_taken (codes "parity") bytes mid h in
-    no_header mid (λ m c. no_word (codes "parity") bytes mid m h (subst (λ (l : List ℕ). Begins l (word (codes "parity")) m)
-    (sym before) c)) (λ m. no_word (codes "start") mid body m s) token rest (subst (λ (l : List ℕ). Begins l token rest) (sym same) b)
-
-front_of : (bytes body : List ℕ) → body_at bytes ≡ Ok body → Front bytes body
-unfolding body_at
-front_of bytes body e =
-    let h = bind_ok (clause_at (codes "parity") bytes) (λ header. clause_at (codes "start") header.1 >>= λ start. ok start.1) body e in
-    let s = bind_ok (clause_at (codes "start") h.0.1) (λ start. ok start.1) body h.2 in
-    let at : clause_at (codes "start") h.0.1 ≡ Ok (s.0.0, body) = s.1 ∙ ap (λ (b : List ℕ). ok (s.0.0, b)) (ok_is s.0.1 body s.2) in
-    let header = clause_takes (codes "parity") bytes h.0 h.1 in
-    let start = clause_takes (codes "start") h.0.1 (s.0.0, body) at in
-    record {
-      header = h.0.0;
-      start = s.0.0;
-      spells = λ tokens rest t. spells_append (clause_lexemes (codes "parity") h.0.0)
-          (clause_lexemes (codes "start") s.0.0 ++ tokens) bytes h.0.1 rest header
-          (spells_append (clause_lexemes (codes "start") s.0.0) tokens h.0.1 body rest start t);
-      next = front_next bytes h.0.1 body h.0.0 s.0.0 h.1 at;
-    }
-
-next_line : (header start : Option ℕ) (line : Line) (lines : List Line) → part_place header start (line ∷ lines) ≡ behind_line
-next_line None None line lines = refl
-next_line (Some n) None line lines = refl
-next_line None (Some m) line lines = refl
-next_line (Some n) (Some m) line lines = refl
-
-place_next : (header start : Option ℕ) (lines : List Line) (body rest : List ℕ) → Spells body (flat_map line_lexemes lines) rest
-    → ((token : Lexeme) (behind : List ℕ) → Begins body token behind → after (part_place header start []) token ≡ to_line token)
-    → (token : Lexeme) (behind : List ℕ) → Begins rest token behind → after (part_place header start lines) token ≡ to_line token
-place_next header start [] body rest s next token behind b = next token behind (subst (λ (l : List ℕ). Begins l token behind) (sym s) b)
-place_next header start (line ∷ lines) body rest s next token behind b = ap (λ (p : Place). after p token) (next_line header start line lines)
-
-stuck_item : (bytes : List ℕ) (built : List Line) (rest : List ℕ) (fault : TokenFault) → Built bytes built rest → item_at rest ≡ Err fault
-    → (there : List ℕ) × IsMisplaced bytes there × IsToldAt (after_space there) fault
-stuck_item bytes built rest fault b e =
-    let front = front_of bytes b.start b.body in
-    let s = item_stuck (part_place front.header front.start b.front) rest fault
-    (place_next front.header front.start b.front b.start rest b.spelt front.next) e in (
-      s.rest,
-      record {
-        header = front.header;
-        start = front.start;
-        lines = b.front;
-        others = s.tokens;
-        place = s.there;
-        spelt = front.spells (flat_map line_lexemes b.front ++ s.tokens) s.rest
-            (spells_append (flat_map line_lexemes b.front) s.tokens b.start rest s.rest b.spelt s.spelt);
-        limits = b.fits;
-        inner = s.inner;
-        leads = s.leads;
-        none = s.none;
-      },
-      s.told,
-    )
+fails_body fault bytes h = refuses fault bytes (no_front bytes fault h)
 
 unread : (bytes : List ℕ) (built : List Line) (rest : List ℕ) (fault : TokenFault) → Built bytes built rest → item_at rest ≡ Err fault
     → lines_at bytes ≡ Err fault
 unread bytes built rest fault b h = no_items bytes b.start fault b.body (sym b.so_far ∙ ap (with_front b.front) (items_err item_at rest fault h))
 
+-- behind the lines so far stands neither a line nor the end
+stops_at_line : (bytes : List ℕ) (built : List Line) (rest : List ℕ) (fault : TokenFault) → Built bytes built rest → item_at rest ≡ Err fault
+    → IsNoText bytes
+stops_at_line bytes built rest fault b e =
+    let front = body_takes bytes b.start b.body in record {
+      header = front.0;
+      start = front.1;
+      lines = b.front;
+      here = rest;
+      spelt = front.2 (flat_map line_lexemes b.front ++ []) rest (spells_append (flat_map line_lexemes b.front) [] b.start rest rest b.spelt refl);
+      limits = b.fits;
+      no_line = λ line after some l. err_is_ok fault _ (sym e ∙ item_exact.again rest line after some l);
+      no_end = λ l. err_is_ok fault _ (sym e ∙ end_again rest l.0 l.1);
+      no_text = no_text bytes fault (unread bytes built rest fault b e);
+    }
+
 -- a refusal for another cause than memory says that nothing is read
 pub fails_item : (refusal : Refusal) (bytes : List ℕ) (built : List Line) (rest : List ℕ) → Built bytes built rest
     → Fails refusal (item_at rest) → BuildsLines bytes (Err (fault_of (length bytes) refusal))
 fails_item Memory bytes built rest b h = tt
-fails_item (Token fault) bytes built rest b h =
-    let s = stuck_item bytes built rest fault b h in
-    refuses fault bytes s.0 s.1 s.2 (unread bytes built rest fault b h)
+fails_item (Token fault) bytes built rest b h = refuses fault bytes (stops_at_line bytes built rest fault b h)
 
 -- a line that is not accepted stands in each list of lines that is read
 spoils : (bytes : List ℕ) (built : List Line) (rest after : List ℕ) (line : Line) (f : ArenaFault) → Built bytes built rest

@@ -26,8 +26,8 @@ spelt_game bytes built game b spelt =
 
 pub only_memory : (fault : TextFault) (bytes : List ℕ) (game : List GameVertex) → BuildsLines bytes (Err fault) → IsGameText bytes game → fault ≡ OutOfMemory
 only_memory OutOfMemory bytes game b spelt = refl
-only_memory (Syntax offset) bytes game b spelt = absurd (b.1.no_text spelt.lines spelt.text)
-only_memory (NumberTooLarge offset) bytes game b spelt = absurd (b.1.no_text spelt.lines spelt.text)
+only_memory (Syntax offset) bytes game b spelt = absurd (b.no_text spelt.lines spelt.text)
+only_memory (NumberTooLarge offset) bytes game b spelt = absurd (b.no_text spelt.lines spelt.text)
 only_memory (Arena arena.OutOfMemory) bytes game b spelt = absurd b
 only_memory (Arena _) bytes game b spelt = absurd (b.1 spelt.lines spelt.text spelt.limits)
 only_memory _ bytes game b spelt = absurd b

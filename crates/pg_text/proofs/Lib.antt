@@ -7,9 +7,6 @@ pub mod Spelling
 pub mod Parts
 pub mod Takes
 pub mod Counting
-pub mod Misplaced
-pub mod Places
-pub mod SolutionMisplaced
 pub mod Texts
 pub mod Building
 pub mod GameTexts

@@ -16,8 +16,7 @@ use Rattle.pg_text.specs.declared.tokens.TokenFault.{TokenFault}
 use Rattle.pg_text.specs.declared.fault.TextFault.{TextFault}
 use Rattle.pg_text.specs.declared.fault.TextFault.TheVariants as text
 use Rattle.pg_text.specs.Mirrors.Refusals.{token_fault_of}
-use Rattle.pg_text.specs.Lexemes.{Lexeme, number, word, end, Begins, Spells, after_space, IsToldAt}
-use Rattle.pg_text.specs.Places.{after_all, answer_place}
+use Rattle.pg_text.specs.Lexemes.{Lexeme, number, word, end, Begins, Spells, after_space}
 use Rattle.pg_text.specs.Mirrors.Steps.{◌>>=◌, Read, Step, item, stop, items_at}
 use Rattle.pg_text.specs.Mirrors.Parts.{clause_at}
 use Rattle.pg_text.specs.Solutions.{unanswered}
@@ -30,7 +29,6 @@ use Rattle.pg_text.proofs.Steps.{bind_ok, ok, ok_is, err_is_ok}
 use Rattle.pg_text.proofs.Items.{with_front, nothing_yet, goes_on, items_err}
 use Rattle.pg_text.proofs.Parts.{clause_absent}
 use Rattle.pg_text.proofs.Spelling.{spells_append}
-use Rattle.pg_text.proofs.SolutionMisplaced.{header_stuck, line_stuck}
 use Rattle.pg_text.proofs.Misfits.{same_token, starts_with, unfit_front, front_starts, line_front}
 use Rattle.pg_text.proofs.SolutionLines.{line_takes, line_again, end_takes, end_again, line_shrinks, header_takes, begins_more, lines_end, answers_again}
 use Rattle.pg_text.proofs.Marking.{all_at, nothing_read, reads_more, named_if, answered_is, all_answered, text_fits, read_fits, read_taken}
@@ -45,7 +43,6 @@ pub record Reading (bytes : List ℕ) (game : List GameVertex) (solution : List 
   pub so_far : with_front front (items_at next_answer_at rest) ≡ items_at next_answer_at start
   pub spelt : Spells start (flat_map answer_lexemes front) rest
   pub begins : BeginsWithLines bytes front rest
-  pub same_header : begins.header ≡ header
   pub state : State game front solution seen
 
 pub starts : (bytes : List ℕ) (game : List GameVertex) (solution : List Answer) (seen : List Bool) (header : Option ℕ) (start : List ℕ)
@@ -59,7 +56,6 @@ starts bytes game solution seen header start read s m = record {
   so_far = nothing_yet (items_at next_answer_at start);
   spelt = refl;
   begins = header_takes bytes header start read;
-  same_header = refl;
   state = rw (s, m) (nothing_read game);
 }
 
@@ -87,7 +83,6 @@ goes bytes game solution seen rest line after solution' seen' well r e p = recor
   so_far = goes_on next_answer_at line_shrinks r.front rest line after (items_at next_answer_at r.start) e r.so_far;
   spelt = lines_more r.start r.front rest line after r.spelt (line_takes rest line after e);
   begins = begins_more bytes r.front rest line after r.begins (line_takes rest line after e);
-  same_header = r.same_header;
   state = reads_more game r.front line solution seen solution' seen' well r.state p;
 }
 
@@ -106,13 +101,10 @@ unnamed game lines n solution seen s unmarked = no_line game lines n (read_fits 
 nothing_spelt : (bytes : List ℕ) (game : List GameVertex) (fault : TokenFault) → answers_at bytes ≡ Err fault → SpellsNoSolution bytes game
 nothing_spelt bytes game fault h = λ solution t. err_is_ok fault t.lines (sym h ∙ answers_again bytes t.lines t.text)
 
-refused : (bytes : List ℕ) (game : List GameVertex) (fault : TokenFault) (rest : List ℕ) → SpellsNoSolution bytes game → IsToldAt (after_space rest) fault
-    → ((offset : ℕ) → offset ≡ length bytes - length (after_space rest) → IsNoText bytes game offset rest)
+refused : (bytes : List ℕ) (game : List GameVertex) (fault : TokenFault) → SpellsNoSolution bytes game → IsNoText bytes game
     → IsRefused bytes game (token_fault_of (length bytes) fault)
-refused bytes game (tokens.Syntax left) rest none told no_text =
-    (none, inr (rest, no_text (length bytes - left) (ap (λ (n : ℕ). length bytes - n) told.0), told.1))
-refused bytes game (tokens.NumberTooLarge left) rest none told no_text =
-    (none, (rest, no_text (length bytes - left) (ap (λ (n : ℕ). length bytes - n) told.0), told.1))
+refused bytes game (tokens.Syntax left) none no_text = (none, inr no_text)
+refused bytes game (tokens.NumberTooLarge left) none no_text = (none, no_text)
 
 no_lines : (bytes : List ℕ) (fault : TokenFault) → clause_at (codes "paritysol") bytes ≡ Err fault → answers_at bytes ≡ Err fault
 unfolding answers_at
@@ -125,25 +117,16 @@ no_header bytes fault token rest other e b = err_is_ok fault _ (sym e ∙ clause
 
 pub fails_header : (bytes : List ℕ) (game : List GameVertex) (fault : TokenFault) → clause_at (codes "paritysol") bytes ≡ Err fault
     → IsRefused bytes game (token_fault_of (length bytes) fault)
-fails_header bytes game fault e =
-    let s = header_stuck bytes fault e in
-    refused bytes game fault s.rest (nothing_spelt bytes game fault (no_lines bytes fault e)) s.told (λ offset place. record {
-      before = [];
-      here = bytes;
-      begins = record { header = None; spelt = refl };
-      taken = record { fitting = tt; single = λ v within. omega arith };
-      no_line = λ line rest l. no_header bytes fault (number line.identifier) l.0 (λ e. cc) e l.1;
-      no_end = λ l. no_header bytes fault end l.0 (λ e. cc) e l.1;
-      new = λ n l. refl;
-      no_unfit = λ n b. let l = front_starts game bytes n b in no_header bytes fault (number n) l.stands.0 (λ e. cc) e l.stands.1;
-      others = s.tokens;
-      place = s.there;
-      spelt = s.spelt;
-      inner = s.inner;
-      leads = s.leads;
-      none = s.none;
-      told = place;
-    })
+fails_header bytes game fault e = refused bytes game fault (nothing_spelt bytes game fault (no_lines bytes fault e)) (record {
+  before = [];
+  here = bytes;
+  begins = record { header = None; spelt = refl };
+  taken = record { fitting = tt; single = λ v within. omega arith };
+  no_line = λ line rest l. no_header bytes fault (number line.identifier) l.0 (λ e. cc) e l.1;
+  no_end = λ l. no_header bytes fault end l.0 (λ e. cc) e l.1;
+  new = λ n l. refl;
+  no_unfit = λ n b. let l = front_starts game bytes n b in no_header bytes fault (number n) l.stands.0 (λ e. cc) e l.stands.1;
+})
 
 no_items : (bytes : List ℕ) (header : Option ℕ) (start : List ℕ) (fault : TokenFault)
     → clause_at (codes "paritysol") bytes ≡ Ok (header, start) → items_at next_answer_at start ≡ Err fault → answers_at bytes ≡ Err fault
@@ -159,8 +142,7 @@ pub fails_line : (bytes : List ℕ) (game : List GameVertex) (solution : List An
     → Reading bytes game solution seen rest → next_answer_at rest ≡ Err fault → BeginsWell game seen rest
     → IsRefused bytes game (token_fault_of (length bytes) fault)
 fails_line bytes game solution seen rest fault r e well =
-    let s = line_stuck bytes r.start r.header r.front rest fault r.header_read r.spelt e in
-    refused bytes game fault s.rest (nothing_spelt bytes game fault (unread bytes game solution seen rest fault r e)) s.told (λ offset place. record {
+    refused bytes game fault (nothing_spelt bytes game fault (unread bytes game solution seen rest fault r e)) (record {
       before = r.front;
       here = rest;
       begins = r.begins;
@@ -169,13 +151,6 @@ fails_line bytes game solution seen rest fault r e well =
       no_end = λ l. err_is_ok fault _ (sym e ∙ end_again rest l.0 l.1);
       new = λ n l. unnamed game r.front n solution seen r.state (well.fresh n l);
       no_unfit = well.no_unfit;
-      others = s.tokens;
-      place = s.there;
-      spelt = s.spelt;
-      inner = s.inner;
-      leads = ap (λ (h : Option ℕ). after_all s.tokens (answer_place h r.front)) r.same_header ∙ s.leads;
-      none = s.none;
-      told = place;
     })
 
 -- ---- a line that doesn't fit
@@ -261,7 +236,6 @@ fails_front bytes game solution seen rest n Repeated well r m = (
     starts = m.0;
     twice = subst (λ (k : ℕ). list_any (λ (other : SolutionLine). eqb other.identifier k) r.front ≡ true) (sym m.1.named)
         (named_if game m.1.v r.front true (r.state.counted m.1.v m.1.within ∙ ap (λ (b : Bool). cond b 1 0) m.1.marked));
-    place = refl;
   }),
 )
 

@@ -1,5 +1,5 @@
 -- What a game text is, by tokens.
-use Rattle.std.specs.Prelude.{◌≡◌, ◌≢◌, ◌⊎◌, ℕ, ◌-◌, List, [], ◌∷◌, ◌++◌, Option, Some, None, length, codes, map}
+use Rattle.std.specs.Prelude.{◌≡◌, ◌≢◌, ◌⊎◌, ℕ, List, [], ◌∷◌, ◌++◌, Option, Some, None, codes, map}
 use Rattle.std.specs.List.{flat_map, AllByRecursion}
 use Rattle.pg_arena.specs.declared.player.Player.{Player}
 use Rattle.pg_arena.specs.declared.player.Player.TheVariants.{Even, Odd}
@@ -9,8 +9,7 @@ use Rattle.pg_arena.specs.declared.fault.ArenaFault.TheVariants as arena
 use Rattle.pg_arena.specs.Lines.{Line, counted, Accepts, IsGameOf, add_fault, FinishFails}
 use Rattle.pg_text.specs.declared.fault.TextFault.{TextFault}
 use Rattle.pg_text.specs.declared.fault.TextFault.TheVariants.{Syntax, NumberTooLarge, Arena}
-use Rattle.pg_text.specs.Lexemes.{Lexeme, number, semicolon, quoted, end, clause_lexemes, Begins, Spells, after_space, IsTooLarge}
-use Rattle.pg_text.specs.Places.{Place, IsInner, after, after_all, part_place}
+use Rattle.pg_text.specs.Lexemes.{Lexeme, number, semicolon, quoted, end, clause_lexemes, Begins, Spells}
 use Rattle.pg_text.specs.Numbers.{numbers_lexemes}
 
 -- Even is player 0, Odd is player 1
@@ -48,25 +47,16 @@ pub record IsGameText (bytes : List ℕ) (game : List GameVertex) : Type 0 where
   pub limits : Accepts [] lines
   pub game_of : IsGameOf (map counted lines) game
 
--- Behind whole lines that keep the limits, and tokens of a part that isn't whole, stands no token that may stand there.
--- The rest of the bytes begins there.
-pub record IsMisplaced (bytes rest : List ℕ) : Type 0 where
+-- The bytes are no text of lines: behind whole lines that keep the limits stands neither a line nor the end.
+pub record IsNoText (bytes : List ℕ) : Type 0 where
   pub header : Option ℕ
   pub start : Option ℕ
   pub lines : List Line
-  pub others : List Lexeme
-  pub place : Place
-  pub spelt : Spells bytes (game_lexemes header start lines others) rest
+  pub here : List ℕ
+  pub spelt : Spells bytes (game_lexemes header start lines []) here
   pub limits : Accepts [] lines
-  pub inner : AllByRecursion IsInner others
-  pub leads : after_all others (part_place header start lines) ≡ Some place
-  pub none : (token : Lexeme) (behind : List ℕ) → Begins rest token behind → after place token ≡ None
-
--- The bytes are no text of lines, for the token at this offset, the first that may not stand where it stands. A number
--- that is too large stands there, or none does.
-pub record IsFaultAt (bytes : List ℕ) (offset : ℕ) (rest : List ℕ) : Type 0 where
-  pub misplaced : IsMisplaced bytes rest
-  pub place : offset ≡ length bytes - length (after_space rest)
+  pub no_line : (line : Line) (rest : List ℕ) → line.successors ≢ [] → ¬ Spells here (line_lexemes line) rest
+  pub no_end : ¬ Spells here (end ∷ []) []
   pub no_text : (lines : List Line) → ¬ IsText bytes lines
 
 -- no game is spelt
@@ -92,10 +82,10 @@ pub record HasNoGame (bytes : List ℕ) (fault : ArenaFault) : Type 0 where
   pub limits : Accepts [] lines
   pub refused : FinishFails (map counted lines) fault
 
--- why the bytes are refused, want of memory aside
+-- Why the bytes are refused, want of memory aside. Which of Syntax and NumberTooLarge comes, and at which offset, isn't said.
 abbrev pub Refuses : List ℕ → TextFault → Type 0
-Refuses bytes (Syntax offset) = (rest : List ℕ) × IsFaultAt bytes offset rest × (¬ IsTooLarge (after_space rest))
-Refuses bytes (NumberTooLarge offset) = (rest : List ℕ) × IsFaultAt bytes offset rest × IsTooLarge (after_space rest)
+Refuses bytes (Syntax offset) = IsNoText bytes
+Refuses bytes (NumberTooLarge offset) = IsNoText bytes
 Refuses bytes (Arena arena.OutOfMemory) = ⊥
 Refuses bytes (Arena fault) = HasBadLine bytes fault ⊎ HasNoGame bytes fault
 Refuses bytes _ = ⊥

@@ -78,15 +78,6 @@ fault_at (b ∷ bytes) = if is_digit b then NumberTooLarge (length (b ∷ bytes)
 abbrev pub token_fault : List ℕ → TokenFault
 token_fault bytes = fault_at (after_space bytes)
 
--- the digits that stand here write a number over 4,294,967,295
-abbrev pub IsTooLarge : List ℕ → Type 0
-IsTooLarge bytes = 2 ^ 32 ≤ value_of (take_while is_digit bytes)
-
--- the fault is told at the first of these bytes, and says whether a number that is too large stands there
-abbrev pub IsToldAt : List ℕ → TokenFault → Type 0
-IsToldAt bytes (Syntax left) = (left ≡ length bytes) × (¬ IsTooLarge bytes)
-IsToldAt bytes (NumberTooLarge left) = (left ≡ length bytes) × IsTooLarge bytes
-
 -- how many bytes are left from the token at fault on
 abbrev pub left_of : TokenFault → ℕ
 left_of (Syntax left) = left

@@ -1,12 +1,10 @@
 pub mod Solutions
 pub mod Lexemes
 pub mod Numbers
-pub mod Places
 pub mod GameText
 pub mod GameLayout
 pub mod ReadBack
 pub mod SolutionText
-pub mod PlaceLaws
 pub mod SolutionLayout
 pub mod SolutionReadBack
 pub mod FaultTexts

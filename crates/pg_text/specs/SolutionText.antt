@@ -1,5 +1,5 @@
 -- What a solution text is, by tokens: its lines, and the solution that the lines give for a game.
-use Rattle.std.specs.Prelude.{◌≡◌, ◌≢◌, ◌⊎◌, ℕ, ◌-◌, ◌<◌, ◌≤◌, ◌==◌, ◌&&◌, Bool, true, false, List, [], ◌∷◌, ◌++◌, Option, Some, None}
+use Rattle.std.specs.Prelude.{◌≡◌, ◌≢◌, ◌⊎◌, ℕ, ◌<◌, ◌≤◌, ◌==◌, ◌&&◌, Bool, true, false, List, [], ◌∷◌, ◌++◌, Option, Some, None}
 use Rattle.std.specs.Prelude.{length, codes, count_by, is_some, option_map, if◌then◌else◌}
 use Rattle.std.specs.List.{flat_map, list_any, AllByRecursion}
 use Rattle.pg_arena.specs.declared.player.Player.{Player}
@@ -10,8 +10,7 @@ use Rattle.pg_text.specs.declared.solution_line.SolutionLine.{SolutionLine}
 use Rattle.pg_text.specs.declared.fault.TextFault.{TextFault}
 use Rattle.pg_text.specs.declared.fault.TextFault.TheVariants.{Syntax, NumberTooLarge, NotOfGame, Missing}
 use Rattle.pg_text.specs.Solutions.{winner, choice, IsSolution}
-use Rattle.pg_text.specs.Lexemes.{Lexeme, number, semicolon, end, Spells, after_space, clause_lexemes, Begins, IsTooLarge}
-use Rattle.pg_text.specs.Places.{Place, IsInner, after, after_all, answer_place}
+use Rattle.pg_text.specs.Lexemes.{Lexeme, number, semicolon, end, Spells, clause_lexemes}
 use Rattle.pg_text.specs.GameText.{player_number}
 
 -- ---- the lines of a text
@@ -152,9 +151,8 @@ pub record IsFirstMissing (bytes : List ℕ) (game : List GameVertex) (n : ℕ) 
   pub missing : list_any (answers game v) lines ≡ false
   pub first : (u : ℕ) → u < v → list_any (answers game u) lines ≡ true
 
--- Behind lines that are taken begins, at this offset, a line with the identifier of a line before it. How it ends isn't
--- asked.
-pub record IsSecond (bytes : List ℕ) (game : List GameVertex) (offset : ℕ) : Type 0 where
+-- Behind lines that are taken begins a line with the identifier of a line before it. How it ends isn't asked.
+pub record IsSecond (bytes : List ℕ) (game : List GameVertex) : Type 0 where
   pub before : List SolutionLine
   pub here : List ℕ
   pub begins : BeginsWithLines bytes before here
@@ -162,12 +160,10 @@ pub record IsSecond (bytes : List ℕ) (game : List GameVertex) (offset : ℕ) :
   pub n : ℕ
   pub starts : StartsLine here n
   pub twice : has_line before n ≡ true
-  pub place : offset ≡ length bytes - length (after_space here)
 
 -- Behind lines that are taken stands neither a line nor the end of the text, and what stands there doesn't begin as a
 -- line that is refused for its identifier or its strategy.
--- The fault is told at the first token that may not stand where it stands; the rest of the bytes begins there.
-pub record IsNoText (bytes : List ℕ) (game : List GameVertex) (offset : ℕ) (rest : List ℕ) : Type 0 where
+pub record IsNoText (bytes : List ℕ) (game : List GameVertex) : Type 0 where
   pub before : List SolutionLine
   pub here : List ℕ
   pub begins : BeginsWithLines bytes before here
@@ -176,20 +172,11 @@ pub record IsNoText (bytes : List ℕ) (game : List GameVertex) (offset : ℕ) (
   pub no_end : ¬ Spells here (end ∷ []) []
   pub new : (n : ℕ) → StartsLine here n → has_line before n ≡ false
   pub no_unfit : (n : ℕ) → ¬ BeginsUnfit game here n
-  pub others : List Lexeme
-  pub place : Place
-  pub spelt : Spells here others rest
-  pub inner : AllByRecursion IsInner others
-  pub leads : after_all others (answer_place begins.header before) ≡ Some place
-  pub none : (token : Lexeme) (behind : List ℕ) → Begins rest token behind → after place token ≡ None
-  pub told : offset ≡ length bytes - length (after_space rest)
 
--- why the bytes are refused, want of memory aside
+-- Why the bytes are refused, want of memory aside. At which offset isn't said.
 abbrev pub RefusesSolution : List ℕ → List GameVertex → TextFault → Type 0
-RefusesSolution bytes game (Syntax offset) =
-    IsSecond bytes game offset ⊎ ((rest : List ℕ) × IsNoText bytes game offset rest × (¬ IsTooLarge (after_space rest)))
-RefusesSolution bytes game (NumberTooLarge offset) =
-    (rest : List ℕ) × IsNoText bytes game offset rest × IsTooLarge (after_space rest)
+RefusesSolution bytes game (Syntax offset) = IsSecond bytes game ⊎ IsNoText bytes game
+RefusesSolution bytes game (NumberTooLarge offset) = IsNoText bytes game
 RefusesSolution bytes game (NotOfGame n) = IsNotOfGame bytes game n
 RefusesSolution bytes game (Missing n) = IsFirstMissing bytes game n
 RefusesSolution bytes game _ = ⊥

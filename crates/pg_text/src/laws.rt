@@ -1,6 +1,5 @@
 //! Laws of the definitions: functions that do nothing, whose contracts state them.
 
-ghost use Rattle.pg_text.specs.PlaceLaws.{PartsLead, NoTextGoesOn, SolutionPartsLead, NoSolutionGoesOn, PlacesLeadOn};
 ghost use Rattle.pg_text.specs.Limits.{AcceptsWithinLimits, NamesSuccessors};
 ghost use Rattle.pg_text.specs.OneSpelling.{SpellsOneGame, SpellsOneSolution};
 ghost use Rattle.pg_text.specs.ReadBack.{GameReadsBack};
@@ -37,20 +36,4 @@ pub fn accepts_within_limits()
 /// In a text of a game each successor is the identifier of a line.
 pub fn names_successors()
     ensures { NamesSuccessors }
-{}
-
-/// The places of a game text are those of its grammar: a header, a start and lines lead from the front to the place
-/// behind them, no text goes on with a token that may not stand at a place, and from each place some tokens lead to the
-/// end.
-pub fn places_of_a_game()
-    ensures parts { PartsLead }
-    ensures only { NoTextGoesOn }
-    ensures lead_on { PlacesLeadOn }
-{}
-
-/// The places of a solution text are those of its grammar: a header and lines lead from the front to the place behind
-/// them, and no text goes on with a token that may not stand at a place.
-pub fn places_of_a_solution()
-    ensures parts { SolutionPartsLead }
-    ensures only { NoSolutionGoesOn }
 {}

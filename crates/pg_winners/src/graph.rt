@@ -1,7 +1,7 @@
 //! Graphs with priorities and owners.
 
-use crate::numbers::{at, between, count, put};
 use pg_arena::{Game, Player, Vertex};
+use pg_arrange::{at, between, count, put};
 use std::alloc::{AllocError, Global};
 
 /// Vertices with priorities and owners, their successors and their predecessors, row by row. Players have numbers here: Even

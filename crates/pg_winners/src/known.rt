@@ -3,8 +3,8 @@
 //! A tangle is a strongly connected set in which a player wins as it chooses there while the opponent stays. Its escapes are where
 //! the opponent can go from it.
 
-use crate::numbers::{NONE, at, between, count, put};
 use crate::table::{Attraction, FREE, Table, WAITING};
+use pg_arrange::{NONE, at, between, count, put};
 use std::alloc::{AllocError, Global};
 
 /// A tangle: its player, where its vertices and its escapes stand, and the place of the escape that was found free last.

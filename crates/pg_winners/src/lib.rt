@@ -3,12 +3,9 @@
 #![tactic(auto)]
 
 mod arranging;
-mod chains;
-mod components;
 mod graph;
 mod known;
 mod lists;
-mod numbers;
 mod played;
 mod recursion;
 mod solver;
@@ -17,8 +14,8 @@ mod table;
 mod tangles;
 mod winners;
 
-pub use arranging::{Placed, arrange};
+pub use arranging::arrange;
 pub use graph::Graph;
-pub use numbers::NONE;
+pub use pg_arrange::{NONE, Placed};
 pub use played::Played;
 pub use winners::{Winners, find_winners};

@@ -1,6 +1,6 @@
 //! Lists of vertices, which are put together at no cost.
 
-use crate::numbers::{NONE, at, put};
+use pg_arrange::{NONE, at, put};
 use std::alloc::{AllocError, Global};
 
 /// A list by its first and its last vertex.

@@ -1,8 +1,7 @@
 //! Edges that are left where a player goes as it chose.
 
-use crate::components::Edges;
 use crate::graph::Graph;
-use crate::numbers::{at, between};
+use pg_arrange::{Edges, at, between};
 
 /// The edges inside a region, where its player goes as it chose.
 #[derive(Clone, Copy)]
@@ -27,7 +26,7 @@ impl Edges for Played<'_> {
     }
 
     #[inline(always)]
-    fn holds(&self, v: u32) -> bool {
-        at(self.regions, v) == self.region
+    fn holds(&self, _: u32, target: u32) -> bool {
+        at(self.regions, target) == self.region
     }
 }

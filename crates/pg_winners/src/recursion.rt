@@ -11,8 +11,8 @@
 
 use crate::graph::Graph;
 use crate::lists::{Links, List, Sides};
-use crate::numbers::{NONE, at, count, from, put};
 use crate::table::{Attraction, FIRST, FREE, Table};
+use pg_arrange::{NONE, at, count, from, put};
 use std::alloc::{AllocError, Global};
 
 /// A level that has begun.

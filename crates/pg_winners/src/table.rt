@@ -1,7 +1,7 @@
 //! What is known of each vertex while a game is solved, and attractors.
 
 use crate::graph::Graph;
-use crate::numbers::{NONE, at, count, put};
+use pg_arrange::{NONE, at, count, put};
 use std::alloc::{AllocError, Global};
 
 /// The region of a vertex that Even or Odd wins is 0 or 1. Then come those that wait, the regions that a method makes for the

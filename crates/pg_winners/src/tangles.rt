@@ -4,13 +4,12 @@
 //! of that priority; a tangle is attracted as a whole where no escape is free. Where a region is closed the components in it that
 //! lead to no other one are new tangles. Those without escapes are dominions, which the player wins.
 
-use crate::arranging::{Placed, arrange};
-use crate::components::{Components, Edges};
+use crate::arranging::arrange;
 use crate::graph::Graph;
 use crate::known::Known;
-use crate::numbers::{NONE, at, between, count, put};
 use crate::played::Played;
 use crate::table::{Attraction, FIRST, FREE, Table, WAITING};
+use pg_arrange::{Components, Edges, NONE, Placed, at, between, count, put};
 use std::alloc::{AllocError, Global};
 
 /// The player of a dominion, and where it ends in the list of the vertices of all.
@@ -243,7 +242,7 @@ fn list_escapes(
     let mut stays = false;
     for v in component {
         for target in played.targets(*v) {
-            if played.holds(*target) {
+            if played.holds(*v, *target) {
                 if !components.are_together(*v, *target) {
                     return Ok(false);
                 }

@@ -1,9 +1,9 @@
 //! The winners of a graph.
 
 use crate::graph::Graph;
-use crate::numbers::{NONE, at, count, put};
 use crate::solver::Solver;
 use pg_arena::Player;
+use pg_arrange::{NONE, at, count, put};
 use std::alloc::{AllocError, Global};
 
 /// Who wins each vertex, how, and an order that shows it.

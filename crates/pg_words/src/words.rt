@@ -12,8 +12,8 @@ use std::alloc::Global;
 /// What a command line asks for.
 #[derive(Debug, Drop)]
 pub enum Line {
-    /// A command that reads standard input and writes standard output; and the program to start as each of its workers,
-    /// where they aren't to be in this process.
+    /// A command, which writes standard output; and the program to start as each of its workers, where they aren't to be in
+    /// this process.
     Run(Command, Option<String>),
     /// A worker that serves at this port of 127.0.0.1.
     Work(u16),
@@ -21,7 +21,7 @@ pub enum Line {
 
 const NAME: &str = "parsolve";
 
-const VERSION: &str = "0.1.0 (proved with rattle-kit-13f logic dac8208d650f15bf)";
+const VERSION: &str = "0.2.0";
 
 /// The option that says how many workers solve.
 const WORKERS: &str = "workers";
@@ -41,8 +41,8 @@ const MOST_WORKERS: u8 = 16;
 const ABOUT: &str = "Solves parity games; the answers are proved";
 
 const MORE: &str = "\
-Each command reads standard input and writes standard output. Games and solutions are in the format of PGSolver,
-automata in HOA v1.
+Each command reads the files that it is given, or standard input where it is given none, and writes standard output. Games
+and solutions are in the format of PGSolver, automata in HOA v1.
 
 Exit status:
   0  an answer was printed
@@ -52,7 +52,7 @@ Exit status:
   3  undecided: the measures of the game and of its dual are both top at the vertex that is named; only workers that are
      other programs than this one can bring that about
 
-Example: parsolve solve < examples/two.pg";
+Example: parsolve solve examples/two.pg";
 
 /// What the help says of a command: a line in the list of commands, and the text behind the command's own usage.
 #[derive(Clone, Copy)]
@@ -64,7 +64,8 @@ struct Help {
 const MEASURE: Help = Help {
     about: "Prints the least progress measure of a game",
     more: "\
-Input: a parity game in the format of PGSolver, as `parity 1; 0 1 0 0,1; 1 2 1 0;`
+Input: a parity game in the format of PGSolver, as `parity 1; 0 1 0 0,1; 1 2 1 0;`, by `parsolve measure GAME` from a
+file, and else from standard input
 Output: a line `IDENTIFIER MEASURE;` for each vertex by rising identifier. A measure is a list of numbers with commas,
 one for each odd priority that occurs, the greatest first (`-` where none occurs), or `T` for top. Player 0 wins from a
 vertex with a list, and player 1 from one with `T`.
@@ -76,7 +77,8 @@ prints `0 1;` and `1 0;`, each on a line.",
 const SOLVE: Help = Help {
     about: "Prints the winner of each vertex of a game, and a winning strategy",
     more: "\
-Input: a parity game in the format of PGSolver, as `parity 1; 0 1 0 0,1; 1 2 1 0;`
+Input: a parity game in the format of PGSolver, as `parity 1; 0 1 0 0,1; 1 2 1 0;`, by `parsolve solve GAME` from a
+file, and else from standard input
 Output: `paritysol N;` with the greatest identifier, and a line `IDENTIFIER WINNER STRATEGY;` for each vertex by rising
 identifier. The strategy is the successor that the winner goes to, left out where the other player owns the vertex.
 
@@ -87,7 +89,8 @@ prints `paritysol 1;`, `0 0 1;` and `1 0;`, each on a line.",
 const CHECK: Help = Help {
     about: "Prints whether a solution of a game is sound",
     more: "\
-Input: a parity game, a line `--`, and a solution of the game, both in the format of PGSolver
+Input: a parity game and a solution of it, both in the format of PGSolver, by `parsolve check GAME SOLUTION` from two files,
+and else from standard input, with a line `--` between
 Output: `WINS` if each printed winner wins by the printed strategy; `LEAVES V W` if the edge from V to W, which follows
 the solution, leads to a vertex of the other winner; `CYCLE P V,V,..` if these vertices are a cycle that follows the
 solution and whose greatest priority P favours the loser.
@@ -99,7 +102,8 @@ prints `WINS`.",
 const REPLAY: Help = Help {
     about: "Prints what workers make of a game under a script of lifts, deliveries and restarts",
     more: "\
-Input: a parity game in the format of PGSolver, a line `--`, and a script:
+Input: a parity game in the format of PGSolver and a script, by `parsolve replay GAME SCRIPT` from two files, and else from
+standard input, with a line `--` between. The script:
   workers N;      the workers 1 to N, at most 16; replica 0 is the coordinator
   cut A,B,..;     may be left out: the worker of each vertex, by rising identifier; else they get runs of like length
   lift W ID;      the worker W lifts its vertex ID, which makes an update if the measure rises
@@ -116,24 +120,26 @@ prints `update 0 0 1;`, `replica 0 taken 0;`, `0 1;`, `1 0;`, `replica 1 taken 0
 const GAME: Help = Help {
     about: "Prints the parity game of an automaton",
     more: "\
-Input: an automaton in HOA v1 with the header `controllable-AP`: deterministic, with a parity condition, labels on edges
+Input: an automaton in HOA v1 with the header `controllable-AP`: deterministic, with a parity condition, labels on edges;
+by `parsolve game AUTOMATON` from a file, and else from standard input
 Output: its game in the format of PGSolver. Player 1 chooses the propositions that aren't controllable, player 0 then the
 controllable ones. `dead` is where a run ends, `sQ` the arrival at state Q without a set and `sQ/S` with the set S that
 counts, `sQ:I` the answer at Q to the input letter I. Player 0 wins from `sQ` of the start exactly if a controller exists
 under which every run is accepted.
 
-Example: parsolve game < examples/request-grant.hoa | parsolve solve",
+Example: parsolve game examples/request-grant.hoa | parsolve solve",
 };
 
 const SYNTH: Help = Help {
     about: "Prints a controller for an automaton, as a circuit",
     more: "\
-Input: an automaton in HOA v1 with the header `controllable-AP`: deterministic, with a parity condition, labels on edges
+Input: an automaton in HOA v1 with the header `controllable-AP`: deterministic, with a parity condition, labels on edges;
+by `parsolve synth AUTOMATON` from a file, and else from standard input
 Output: `REALIZABLE` and a circuit in the ASCII form of AIGER, whose inputs are the propositions that aren't controllable
 and whose outputs are those that are: under it every run is accepted, whatever the inputs. Or `UNREALIZABLE`, if there is
 no such controller.
 
-Example: parsolve synth < examples/request-grant.hoa",
+Example: parsolve synth examples/request-grant.hoa",
 };
 
 const WORKER_MORE: &str = "\

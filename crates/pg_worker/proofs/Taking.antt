@@ -1,5 +1,5 @@
 -- Measures that are read from a frame and joined, and the turns that they make.
-use Rattle.std.proofs.Common.{◌≡◌, ◌≢◌, ℕ, suc, ◌++◌, ◌↔◌, ◌⊎◌, IsTrue, Bool, false, List, [], ◌∷◌, Option, Some, None, Result, Ok}
+use Rattle.std.proofs.Common.{◌≡◌, ◌≢◌, ℕ, suc, ◌<◌, ◌≤◌, ◌++◌, length, ◌↔◌, ◌⊎◌, IsTrue, Bool, false, List, [], ◌∷◌, Option, Some, None, Result, Ok}
 use Rattle.std.proofs.Common.{Err, refl, sym, ap, subst, ◌∙◌, append_assoc, inl, inr, arith}
 use Rattle.std.specs.Prelude.{All, IfOk, IfErr, OnOk}
 use Rattle.std.proofs.lemmas.List.{append-nil}
@@ -11,6 +11,7 @@ use Rattle.pg_wire.specs.declared.frame.Frame.TheVariants as frames
 use Rattle.pg_wire.specs.declared.fault.WireFault.{WireFault}
 use Rattle.pg_wire.specs.declared.fault.WireFault.TheVariants as wire
 use Rattle.pg_wire.specs.declared.frame.Frame.{Frame}
+use Rattle.pg_wire.specs.Spelling.{body, longest}
 use Rattle.pg_wire.specs.Bytes.{Spells, IsTooLong, IsTruncated}
 use Rattle.pg_wire.specs.Left.{IsLeft, IsNext}
 use Rattle.pg_wire.specs.Measured.{Measured, IsMeasured, frame_of}
@@ -177,3 +178,10 @@ refuses_none highest held bytes fault why is all long short stream =
         truncated = (λ e. short.0 (ap failed e), λ t. fault_is fault wire.Truncated (short.1 t));
       }))
     ]
+
+-- what `encode` refuses
+pub not_encoded : (f : Frame) (highest : ℕ) (before : Option HeldValue) (fault : WireFault) (why : WorkerFault) → why ≡ own_fault fault
+    → (fault ≡ wire.TooLong) ⊎ (fault ≡ wire.OutOfMemory) → (fault ≡ wire.TooLong → longest < length (body f)) → length (body f) ≤ longest
+    → (why ≡ OutOfMemory) ⊎ Refuses highest before f why
+not_encoded f highest before fault why is (inl long) over within = absurd (let lt = over long in omega arith)
+not_encoded f highest before fault why is (inr memory) over within = inl (is ∙ ap own_fault memory)

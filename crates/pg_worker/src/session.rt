@@ -1,11 +1,14 @@
 //! Sessions: a worker behind frames.
 
-ghost use Rattle.std.specs.Prelude.{◌≡◌, ◌↔◌, ℕ, ◌++◌, ◌⊎◌, List, [], None, IsTrue, false, MatchBool, IfOk, IfErr, OnOk, OnErr};
+ghost use Rattle.std.specs.Prelude.{◌≡◌, ◌↔◌, ℕ, ◌<◌, ◌≤◌, ◌++◌, ◌⊎◌, List, [], length, None, Err, IsTrue, false, MatchBool, IfOk, IfErr, OnOk, OnErr};
+ghost use Rattle.pg_wire.specs.Spelling.{body, longest};
 ghost use Rattle.pg_wire.specs.Well.{IsWell};
+ghost use Rattle.pg_wire.specs.declared.fault.WireFault.TheVariants.{TooLong};
 ghost use Rattle.pg_wire.specs.declared.frame.Frame.TheVariants.{Halt};
 ghost use Rattle.pg_worker.specs.Turns.{Turn, IsUpTo, Refuses, DoesTurn, SpellsRows, RefusesBytes};
 
 use crate::WorkerFault;
+use crate::fault::own;
 use crate::held::{Held, hold};
 use crate::turn::{turn_of, turn_of_rows};
 use pg_wire::{Frame, encode};
@@ -48,9 +51,9 @@ impl Session {
     /// 1, Sparse under version 2. Go lets the worker lift, and is answered by frames of the measures of the vertices that were
     /// lifted, each once, rising, and a report.
     ///
-    /// Faults: `Wire(Version)` for a set-up of a version above the session's highest; `Order` for a frame out of turn, and for
-    /// vertices that don't rise; `BadUpdate` for lines, a width or values that don't fit the game; `OutOfMemory`, also for a frame
-    /// that is too long to be spelled. After a fault `out` is as before, and the session holds nothing.
+    /// Faults: `Wire(TooLong)` exactly for a frame that is too long to be spelled; `Wire(Version)` for a set-up of a version above
+    /// the session's highest; `Order` for a frame out of turn, and for vertices that don't rise; `BadUpdate` for lines, a width or
+    /// values that don't fit the game; `OutOfMemory`. After a fault `out` is as before, and the session holds nothing.
     pub fn frame(&mut self, frame: &Frame, out: &mut Vec<u8>) -> Result<bool, WorkerFault>
         requires { IsWell frame.now }
         ensures highest { self.new.highest ≡ self.old.highest }
@@ -58,16 +61,19 @@ impl Session {
         ensures turn { OnOk result ((reply : List ℕ) × Turn self.old.held frame.now self.new.held reply
             × (out.new.items ≡ out.old.items ++ reply)) }
         ensures halt { IfOk result (λ halts. IsTrue halts ↔ (frame.now ≡ Halt)) }
-        ensures refused { IfErr result (λ e. (e ≡ WorkerFault.OutOfMemory)
+        ensures refused { length (body frame.now) ≤ longest → IfErr result (λ e. (e ≡ WorkerFault.OutOfMemory)
             ⊎ Refuses self.old.highest self.old.held frame.now e) }
+        ensures too_long { longest < length (body frame.now) → result ≡ Err (WorkerFault.Wire TooLong) }
         ensures same { OnErr result (out.new.items ≡ out.old.items) }
         ensures empty { OnErr result (self.new.held ≡ None) }
     {
-        let Ok(bytes) = encode(self.alloc, frame) else {
-            hold(&mut self.held, None);
-            return Err(WorkerFault::OutOfMemory);
-        };
-        self.frame_from(&bytes, out)
+        match encode(self.alloc, frame) {
+            Ok(bytes) => self.frame_from(&bytes, out),
+            Err(fault) => {
+                hold(&mut self.held, None);
+                Err(own(fault))
+            }
+        }
     }
 
     /// As `frame`, for the frame that the bytes spell, all of them. Measures are read from the bytes, one after the other and

@@ -23,3 +23,9 @@ complete -c parsolve -n '__fish_seen_subcommand_from synth' -l apart -r -F -d 'S
 complete -c parsolve -n '__fish_seen_subcommand_from synth' -s h -l help -d 'Print help'
 complete -c parsolve -n '__fish_seen_subcommand_from worker' -l port -x -d 'The port of 127.0.0.1 to connect to, from 1 to 65535'
 complete -c parsolve -n '__fish_seen_subcommand_from worker' -s h -l help -d 'Print help'
+complete -c parsolve -n '__fish_seen_subcommand_from measure' -F
+complete -c parsolve -n '__fish_seen_subcommand_from solve' -F
+complete -c parsolve -n '__fish_seen_subcommand_from check' -F
+complete -c parsolve -n '__fish_seen_subcommand_from replay' -F
+complete -c parsolve -n '__fish_seen_subcommand_from game' -F
+complete -c parsolve -n '__fish_seen_subcommand_from synth' -F

@@ -1,5 +1,5 @@
--- Cycles of edges that count, seen from a vertex of their greatest priority; and how bad ones are ruled out.
-use Rattle.std.specs.Prelude.{◌≡◌, ◌≢◌, ℕ, ◌-◌, ◌<◌, ◌≤◌, ◌⊎◌, List, [], ◌∷◌, ◌++◌, length, slice_index, All, AllPairs, Contains}
+-- Cycles of edges that count, seen from a vertex of their greatest priority.
+use Rattle.std.specs.Prelude.{◌≡◌, ◌≢◌, ℕ, ◌<◌, ◌≤◌, List, [], ◌∷◌, ◌++◌, length, slice_index, All, AllPairs}
 use Rattle.pg_arena.specs.Games.{GameVertex, HasParityOf, priority, IsPath}
 use Rattle.pg_text.specs.declared.answer.Answer.{Answer}
 use Rattle.pg_text.specs.Solutions.{loser}
@@ -25,42 +25,6 @@ IsLost game solution v = HasParityOf (loser solution v) (priority game v)
 -- no cycle begins at a lost vertex
 abbrev pub HasNoBadCycle : List GameVertex → List Answer → Type 0
 HasNoBadCycle game solution = (v : ℕ) → IsLost game solution v → HasNoCycle game solution v
-
--- each cycle from a lost vertex goes through these vertices alone
-abbrev pub HoldsCycles : List GameVertex → List Answer → List ℕ → Type 0
-HoldsCycles game solution vertices =
-    (v : ℕ) (rest : List ℕ) → IsLost game solution v → IsCycleFrom game solution v rest
-    → All (Contains vertices) (v ∷ rest)
-
--- vertices of the game that hold each cycle from a lost vertex
-pub record AreLeft (game : List GameVertex) (solution : List Answer) (vertices : List ℕ) : Type 0 where
-  pub within : All (λ v. v < length game) vertices
-  pub holds : HoldsCycles game solution vertices
-
--- no edge that counts leads from v to a smaller number
-abbrev pub RisesFrom : List GameVertex → List Answer → List ℕ → ℕ → Type 0
-RisesFrom game solution numbers v =
-    (w : ℕ) → Counts game solution v w → slice_index numbers v ≤ slice_index numbers w
-
--- no edge that counts leads from v to its own number
-abbrev pub StaysNowhere : List GameVertex → List Answer → List ℕ → ℕ → Type 0
-StaysNowhere game solution numbers v =
-    (w : ℕ) → Counts game solution v w → slice_index numbers v ≢ slice_index numbers w
-
--- the limit of a number: limits are counted from the greatest number of 32 bits, and 0 past the last
-abbrev pub limit_of : List ℕ → ℕ → ℕ
-limit_of limits number = slice_index limits (4294967295 - number)
-
--- no edge that counts leads from v to a smaller number, and where v is lost its priority is below the limit of its
--- number
-pub record IsNumbered (game : List GameVertex) (solution : List Answer) (numbers limits : List ℕ) (v : ℕ) : Type 0 where
-  pub rises : RisesFrom game solution numbers v
-  pub limited : IsLost game solution v → priority game v < limit_of limits (slice_index numbers v)
-
--- then v stands on no cycle from a lost vertex
-abbrev pub IsRuledOut : List GameVertex → List Answer → List ℕ → List ℕ → ℕ → Type 0
-IsRuledOut game solution numbers limits v =
-    StaysNowhere game solution numbers v ⊎ (limit_of limits (slice_index numbers v) ≤ priority game v)
 
 -- Vertices in the order in which a search from v reached them, and for each but the first the place of the one before
 -- it: an edge that counts leads from there. An edge that counts leads from the one at `end` back to v.

@@ -1,13 +1,8 @@
 -- What was read of an input, where its bytes are known.
-use Rattle.std.specs.Prelude.{◌≡◌, ℕ, ◌<◌, List, ◌++◌, length, ⊤, Option, None, Some}
+use Rattle.std.specs.Prelude.{◌≡◌, ℕ, List, ◌++◌, ⊤, Option, None, Some}
 
 -- the bytes read and those that are left are the same as before
 abbrev pub Keeps : Option (List ℕ) → List ℕ → Option (List ℕ) → List ℕ → Type 0
 Keeps None before new after = ⊤
 Keeps (Some xs) before None after = ⊥
 Keeps (Some xs) before (Some ys) after = after ++ ys ≡ before ++ xs
-
--- more than n bytes are left
-abbrev pub IsOver : Option (List ℕ) → ℕ → Type 0
-IsOver None n = ⊤
-IsOver (Some xs) n = n < length xs

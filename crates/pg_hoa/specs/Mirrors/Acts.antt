@@ -33,3 +33,7 @@ Tells label acts = (b j : ℕ) → b < 1024 → j < 64 → top (done acts b j) �
 -- the words are those of the letters of the run at which the acts leave yes
 abbrev pub Speaks : List Act → ℕ → List ℕ → Type 0
 Speaks acts run words = (k j : ℕ) → k < 16 → j < 64 → truth_in words k j ≡ top (done acts (run * 16 + k) j)
+
+-- the words are those of the letters of the run to which the label says yes
+abbrev pub SpeaksOf : List Op → ℕ → List ℕ → Type 0
+SpeaksOf label run words = (k j : ℕ) → k < 16 → j < 64 → truth_in words k j ≡ says label (on_at (run * 16 + k) j)

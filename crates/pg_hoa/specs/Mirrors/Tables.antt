@@ -1,25 +1,24 @@
 -- The steps that the lines of a text give, and a table of them by state and letter.
 use Rattle.std.specs.Prelude.{◌≡◌, ℕ, zero, suc, ◌+◌, ◌-◌, ◌*◌, ◌/◌, ◌%◌, ◌^◌, ◌<◌, ◌≤◌, ◌==◌, nat_lt, nat_le, min, max, Bool, true, false}
 use Rattle.std.specs.Prelude.{◌&&◌, List, [], ◌∷◌, ◌++◌, map, length, get_or, slice_get, Option, Some, None, if◌then◌else◌}
-use Rattle.std.specs.List.{All, filter, flat_map, fold}
+use Rattle.std.specs.List.{filter, flat_map, fold, list_any}
 use Rattle.std.specs.Int.{bit_at}
 use Rattle.pg_automaton.specs.declared.shape.Shape.{Shape}
 use Rattle.pg_automaton.specs.declared.shape.Shape.TheVariants.{MinEven, MinOdd}
-use Rattle.pg_hoa.specs.declared.body.Edge as read_edge
 use Rattle.pg_hoa.specs.declared.fault.Conflict.{Conflict}
 use Rattle.pg_hoa.specs.declared.fault.Conflict.TheVariants.{Memory, NotDeterministic}
 use Rattle.pg_automaton.specs.declared.table.Stored.{Stored}
-use Rattle.pg_hoa.specs.declared.table.Held.{Held}
+use Rattle.pg_hoa.specs.declared.table.Covered.{Covered}
+use Rattle.pg_hoa.specs.declared.table.Row.{Row}
 use Rattle.pg_hoa.specs.declared.table.Filling.{Filling}
 use Rattle.pg_hoa.specs.declared.table.Way.{Way}
 use Rattle.pg_automaton.specs.declared.table.Table.{Table}
 use Rattle.pg_hoa.specs.declared.formula.Op.{Op}
-use Rattle.pg_automaton.specs.Mirrors.Steps.{◌>>=◌}
 use Rattle.pg_automaton.specs.Automata.{Step, deciding, step}
 use Rattle.pg_hoa.specs.AutomatonText.{Agree, head}
 use Rattle.pg_automaton.specs.Mirrors.Tables.{numbered, next}
 use Rattle.pg_lists.specs.Rising.{rising}
-use Rattle.pg_hoa.specs.Mirrors.Kept.{KeptEdge, KeptLine, kept_edge}
+use Rattle.pg_hoa.specs.Mirrors.Kept.{KeptEdge, KeptLine}
 use Rattle.pg_hoa.specs.Mirrors.Saying.{says}
 use Rattle.pg_hoa.specs.Mirrors.Letters.{truth}
 
@@ -53,22 +52,23 @@ with_set MinEven (Some n) set = Some (min n set)
 with_set MinOdd (Some n) set = Some (min n set)
 with_set shape (Some n) set = Some (max n set)
 
--- an edge says what an earlier one says
-abbrev pub Repeats : List read_edge.Edge → ℕ → Type 0
-Repeats edges index = (place : ℕ) × (place < index) × ((d : read_edge.Edge) → kept_edge (get_or edges place d) ≡ kept_edge (get_or edges index d))
+-- with all of these
+abbrev pub with_sets : Shape → Option ℕ → List ℕ → Option ℕ
+with_sets shape counts [] = counts
+with_sets shape counts (set ∷ sets) = with_sets shape (with_set shape counts set) sets
 
 -- ---- filling
 
--- a table that is being filled, its first slot where steps don't agree, or how many slots there are, and notes on slots
+-- a table that is being filled, its first slot where steps don't agree, or how many slots there are, and the letters that are covered
 pub record Stage : Type 0 where
   pub slots : List ℕ
   pub steps : List Stored
   pub lists : List (List ℕ)
   pub conflict : ℕ
-  pub held : List Held
+  pub covered : Covered
 
 abbrev pub stage : Filling → Stage
-stage f = record { slots = f.slots.items; steps = f.steps.items; lists = map (λ v. v.items) f.lists.items; conflict = f.conflict; held = f.held.items }
+stage f = record { slots = f.slots.items; steps = f.steps.items; lists = map (λ v. v.items) f.lists.items; conflict = f.conflict; covered = f.covered }
 
 -- a number that is 0 or stands for the step
 abbrev pub MayNumber : Stage → ℕ → Step → Type 0
@@ -80,21 +80,35 @@ abbrev pub Leads : Stage → ℕ → List Step → Type 0
 Leads t n [] = n ≡ 0
 Leads t n (s ∷ steps) = numbered t.steps t.lists n ≡ Some s
 
+-- the lists of sets keep their places
+abbrev pub KeepsLists : Stage → Stage → Type 0
+KeepsLists t u = (place : ℕ) (list : List ℕ) → slice_get t.lists place ≡ Some list → slice_get u.lists place ≡ Some list
+
 -- nothing but new steps and lists
 pub record Extends (t u : Stage) : Type 0 where
   pub slots : u.slots ≡ t.slots
   pub conflict : u.conflict ≡ t.conflict
-  pub held : u.held ≡ t.held
+  pub covered : u.covered ≡ t.covered
   pub numbers : (n : ℕ) (s : Step) → numbered t.steps t.lists n ≡ Some s → numbered u.steps u.lists n ≡ Some s
+  pub lists : KeepsLists t u
 
 abbrev pub same_set : Option ℕ → Option ℕ → Bool
 same_set None None = true
 same_set (Some a) (Some b) = a == b
 same_set _ _ = false
 
+-- the step leads to the target, and this set counts
+abbrev pub has_key : Shape → ℕ → Option ℕ → Step → Bool
+has_key shape target counts s = (s.target == target) && same_set (deciding shape s.sets) counts
+
 -- two steps lead to one state, and the same set counts
 abbrev pub agree : Shape → Step → Step → Bool
-agree shape s t = (s.target == t.target) && same_set (deciding shape s.sets) (deciding shape t.sets)
+agree shape s t = has_key shape t.target (deciding shape t.sets) s
+
+-- the same edges in another order, but that those of one key stand in theirs
+abbrev pub IsRegrouped : Shape → List ℕ → List KeptEdge → List KeptEdge → Type 0
+IsRegrouped shape own edges order = (target : ℕ) (counts : Option ℕ)
+    → filter (λ e. has_key shape target counts (edge_step own e)) order ≡ filter (λ e. has_key shape target counts (edge_step own e)) edges
 
 abbrev pub way_step : Way → Step
 way_step w = step w.target (rising (w.own.now ++ w.more.now))
@@ -103,19 +117,17 @@ way_step w = step w.target (rising (w.own.now ++ w.more.now))
 abbrev pub IsDecided : Way → Type 0
 IsDecided w = w.counts ≡ deciding w.shape (way_step w).sets
 
--- the slot has a step that leads to the target, where this set counts
-pub record HasKey (shape : Shape) (t : Stage) (i target : ℕ) (counts : Option ℕ) : Type 0 where
-  pub there : Step
-  pub is_there : numbered t.steps t.lists (get_or t.slots i 0) ≡ Some there
-  pub to_target : there.target ≡ target
-  pub same_counts : deciding shape there.sets ≡ counts
+-- the list of the state's own sets is in its place
+abbrev pub IsPlaced : Stage → Way → Type 0
+IsPlaced t w = slice_get t.lists w.place ≡ Some (rising w.own.now)
 
--- what is noted is so, of slots before the conflict
-abbrev pub IsHeld : Shape → Stage → Held → Type 0
-IsHeld shape t h = (j : ℕ) → j < 64 → truth h.word j ≡ true → h.first + j < t.conflict → HasKey shape t (h.first + j) h.target h.counts
+-- the steps have one of this key
+abbrev pub HasKey : Shape → ℕ → Option ℕ → List Step → Type 0
+HasKey shape target counts steps = list_any (has_key shape target counts) steps ≡ true
 
-abbrev pub AreHeld : Shape → Stage → Type 0
-AreHeld shape t = All (IsHeld shape t) t.held
+-- each slot that is covered has a step of the key
+abbrev pub Covers : Shape → Covered → (ℕ → List Step) → Type 0
+Covers shape c given = (b j : ℕ) → j < 64 → truth (get_or c.words.items b 0) j ≡ true → HasKey shape c.target c.counts (given (c.first + (b * 64 + j)))
 
 -- each slot before the conflict has the first of its steps, and the conflict is the first slot whose steps don't agree
 pub record IsFilled (shape : Shape) (t : Stage) (given : ℕ → List Step) : Type 0 where
@@ -123,14 +135,32 @@ pub record IsFilled (shape : Shape) (t : Stage) (given : ℕ → List Step) : Ty
   pub conflict_within : t.conflict ≤ length t.slots
   pub agree_before : (i : ℕ) → i < t.conflict → Agree shape (given i)
   pub not_there : t.conflict < length t.slots → Agree shape (given t.conflict) → ⊥
+  pub covers : Covers shape t.covered given
 
 -- from one stage to another each slot was given these steps
 pub record Adds (shape : Shape) (more : ℕ → List Step) (t u : Stage) : Type 0 where
   pub as_many : length u.slots ≡ length t.slots
   pub sinks : u.conflict ≤ t.conflict
-  pub keeps : (i target : ℕ) (counts : Option ℕ) → HasKey shape t i target counts → HasKey shape u i target counts
-  pub holds : AreHeld shape t → AreHeld shape u
+  pub lists : KeepsLists t u
   pub fills : (given : ℕ → List Step) → IsFilled shape t given → IsFilled shape u (λ i. given i ++ more i)
+
+-- the slot has a step of the way's key already
+abbrev pub IsCovered : Way → Stage → ℕ → Type 0
+IsCovered w t i = (given : ℕ → List Step) → IsFilled w.shape t given → HasKey w.shape w.target w.counts (given i)
+
+-- the letters that are covered are those of the way's state and key
+pub record IsOf (c : Covered) (w : Way) : Type 0 where
+  pub first : c.first ≡ w.row.first
+  pub target : c.target ≡ w.target
+  pub counts : c.counts ≡ w.counts
+
+-- the slots of a state's letters, within so many
+pub record IsRow (slots : ℕ) (r : Row) : Type 0 where
+  pub within : r.first + r.blocks * r.width ≤ slots
+  pub few : r.blocks ≤ 1024
+  pub narrow : r.width ≤ 64
+  pub some : 0 < r.blocks
+  pub whole : (block : ℕ) → block < r.blocks → block * r.width ≡ block * 64
 
 abbrev pub when : Bool → Step → List Step
 when b s = if b then s ∷ [] else []

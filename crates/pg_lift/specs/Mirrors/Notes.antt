@@ -65,7 +65,7 @@ pub record AreNotes (count : ℕ) (lines : ℕ → Option Line) (notes : NotesVa
   pub labels : (v : ℕ) → slice_index_or notes.span.labels v None ≡ option_map line_label (lines v)
 
 abbrev pub no_note : Note
-no_note = record { best = 0; lifts = 0; priority = 0; owner = Even; is_held = false; waits = false }
+no_note = record { best = 0; stop = 0; lifts = 0; priority = 0; owner = Even; is_held = false; waits = false }
 
 -- the note of a vertex, where they are of those from `first` on
 abbrev pub note_in : ℕ → List Note → ℕ → Note

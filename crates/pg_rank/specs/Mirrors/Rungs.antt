@@ -9,6 +9,12 @@ pub record IsBegin (steps : List ℕ) (begin k : ℕ) : Type 0 where
   pub less : (j : ℕ) → begin ≤ j → j < k → step_at steps j < step_at steps k
   pub first : (j : ℕ) → begin ≡ suc j → step_at steps k ≤ step_at steps j
 
+-- the steps from `origin` on before step k are at no greater priorities, and the one before them is at a greater one
+pub record IsOrigin (steps : List ℕ) (origin k : ℕ) : Type 0 where
+  pub among : origin ≤ k
+  pub no_more : (j : ℕ) → origin ≤ j → j < k → step_at steps j ≤ step_at steps k
+  pub more : (j : ℕ) → origin ≡ suc j → step_at steps k < step_at steps j
+
 -- the steps after step k before `end` are at no greater priorities
 pub record IsEnd (steps : List ℕ) (end k : ℕ) : Type 0 where
   pub after : k < end
@@ -27,6 +33,10 @@ pub record AreBegins (steps begins : List ℕ) : Type 0 where
   pub each : length begins ≡ length steps
   pub are : (k : ℕ) → k < length steps → IsBegin steps (slice_index begins k) k
 
+pub record AreOrigins (steps origins : List ℕ) : Type 0 where
+  pub each : length origins ≡ length steps
+  pub are : (k : ℕ) → k < length steps → IsOrigin steps (slice_index origins k) k
+
 pub record AreEnds (steps ends : List ℕ) : Type 0 where
   pub each : length ends ≡ length steps
   pub are : (k : ℕ) → k < length steps → IsEnd steps (slice_index ends k) k
@@ -42,7 +52,8 @@ pub record AreCounts (bounds : BoundList) (steps counts : List ℕ) : Type 0 whe
   pub are : (k : ℕ) → k < length steps → IsCount steps (slice_index counts k) k
   pub bounded : (k : ℕ) → k < length steps → IsBounded bounds (step_at steps k) (slice_index counts k)
 
-pub record AreRungs (bounds : BoundList) (steps begins ends counts : List ℕ) : Type 0 where
+pub record AreRungs (bounds : BoundList) (steps begins origins ends counts : List ℕ) : Type 0 where
   pub are_bounds : AreBounds bounds
   pub are_blocks : AreBlocks steps begins ends
+  pub are_origins : AreOrigins steps origins
   pub are_counts : AreCounts bounds steps counts

@@ -1,14 +1,16 @@
 -- What is taken of links that tell their replies.
 use Rattle.std.specs.Prelude.{◌≡◌, ◌≢◌, ℕ, ◌+◌, ◌-◌, ◌<◌, ◌≤◌}
-use Rattle.std.specs.Prelude.{if◌then◌else◌, true, false, List, [], ◌∷◌, ◌++◌, map, length, Option, Some, Result, Ok, Err, IsErr, OnOk, slice_index_or}
+use Rattle.std.specs.Prelude.{if◌then◌else◌, Bool, true, false, List, [], ◌∷◌, ◌++◌, map, length, Option, Some, Result, Ok, Err, IsErr, OnOk, slice_index_or}
 use Rattle.std.specs.List.{flat_map}
 use Rattle.pg_measure.specs.Measures.{MeasureValue}
 use Rattle.pg_map.specs.Maps.{MapValue, MapAtMost}
 use Rattle.pg_wire.specs.declared.frame.Values.{Values}
+use Rattle.pg_wire.specs.declared.frame.Frame.{Frame}
 use Rattle.pg_wire.specs.declared.frame.Frame.TheVariants as frames
 use Rattle.pg_wire.specs.declared.kind.ValueKind.{ValueKind}
 use Rattle.pg_wire.specs.declared.kind.ValueKind.TheVariants.{Dense, Sparse}
 use Rattle.pg_wire.specs.Spelling.{spelling}
+use Rattle.pg_wire.specs.Bytes.{Spells}
 use Rattle.pg_wire.specs.Measured.{Measured, told_values}
 use Rattle.pg_parts.specs.Frames.{IsAtLeast, Joins}
 use Rattle.pg_parts.specs.declared.link.LinkFault.{LinkFault}
@@ -35,6 +37,16 @@ AnswersAfter x left new r = (r ≢ Err Failed) × OnOk r ((r ≡ Ok x) × (new �
 -- a call fails, and if it is Failed these frames are told after it
 abbrev pub FailsAfter : {T : Type 0} → List (List ℕ) → Option (List (List ℕ)) → Result T LinkFault → Type 0
 FailsAfter left new r = IsErr r × (r ≡ Err Failed → new ≡ Some left)
+
+-- the report by which a set-up of version 2 is taken
+abbrev pub acceptance : Frame
+acceptance = frames.Report (record { status = 1; code = 0 })
+
+-- what the next frame of a link that tells says of a set-up of version 2: that it is taken, that it is refused, or neither
+pub record AnswersSetUp (next : List ℕ) (left : List (List ℕ)) (new : Option (List (List ℕ))) (r : Result Bool LinkFault) : Type 0 where
+  pub accepted : Spells acceptance next → AnswersAfter true left new r
+  pub refused : Spells refusal next → AnswersAfter false left new r
+  pub neither : ¬ (Spells acceptance next) → ¬ (Spells refusal next) → FailsAfter left new r
 
 -- what will be handed over once a set-up was sent
 abbrev pub told_with : ValueKind → List (List ℕ) → List (List ℕ)

@@ -1,8 +1,7 @@
-use Rattle.pg_check.proofs.Sifting.{all_hold}
+use Rattle.pg_check.proofs.Ordered.{ordered_has_none}
 use Rattle.pg_check.proofs.checker.bad_cycle.Goals as goal
 
-pub bad_cycle_among-requires-clause-left : goal.bad_cycle_among-requires-clause-left
-bad_cycle_among-requires-clause-left c = record {
-  within = c.in_ok-vertices.ensures.within;
-  holds = all_hold c.args.game.now c.args.solution.now c.in_ok-vertices.vertices.items c.in_ok-vertices.ensures.all;
-}
+pub returns-then-is_order-clause-none : goal.returns-then-is_order-clause-none
+returns-then-is_order-clause-none c =
+    ordered_has_none c.args.game.now c.args.solution.now c.in-Order.order.places.items c.in-Order.order.spans.items c.len-count.ensures.game
+    c.requires.none_leaves c.if-is_order.ensures

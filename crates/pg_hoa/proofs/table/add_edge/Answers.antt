@@ -1,85 +1,84 @@
-use Rattle.std.proofs.Common.{◌≡◌, ℕ, ◌∙◌, ◌+◌, ◌*◌, ◌/◌, ◌%◌, ◌<◌, ◌≤◌, ◌++◌, refl, sym, ap, subst, arith}
-use Rattle.std.proofs.lemmas.Bool.Decides.{nat_tests}
+use Rattle.std.proofs.Common.{◌≡◌, ◌∙◌, ℕ, [], ◌+◌, ◌*◌, ◌/◌, ◌%◌, ◌<◌, ◌≤◌, min, refl, sym, ap, subst, arith}
 use Rattle.std.proofs.Math.Nat.{mul-le-mul_right}
-use Rattle.std.proofs.lemmas.List.{append-nil}
-use Rattle.pg_hoa.specs.Mirrors.Tables.{stage, way_step, at_word, at_letters}
 use Rattle.pg_hoa.specs.Mirrors.Saying.{top}
-use Rattle.pg_hoa.specs.Mirrors.Acts.{Speaks, done}
-use Rattle.pg_hoa.proofs.TableFilling.{adds_none, adds_same, adds_then}
-use Rattle.pg_hoa.proofs.TablePlaces.{no_letters, more_letters, empty_word, stopped_letters}
+use Rattle.pg_hoa.specs.Mirrors.Acts.{SpeaksOf, done}
+use Rattle.pg_hoa.specs.Mirrors.Tables.{stage, way_step, Adds, at_letters}
+use Rattle.pg_hoa.proofs.TableFilling.{adds_none, adds_then}
+use Rattle.pg_hoa.proofs.TablePlaces.{no_letters, stopped_letters}
+use Rattle.pg_lists.specs.Rising.{rising}
 use Rattle.pg_hoa.proofs.table.add_edge.Goals as goal
-use Rattle.pg_hoa.proofs.table.add_edge.Goals.{then-word-ne0+in_ok-number, else-word-ne0}
 
--- the slots of a block stand within those of all letters
-block_within : (first block blocks width letters slots more : ℕ) → block < blocks → blocks * width ≡ letters → first + letters ≤ slots
-    → more ≡ slots → first + block * width + width ≤ more
-block_within first block blocks width letters slots more h split within same =
-    let most : (block + 1) * width ≤ blocks * width = mul-le-mul_right width (omega arith) in
-    grind arith
+run_begins : (run blocks runs : ℕ) → runs ≡ blocks / 16 + min 1 (blocks % 16) → run < runs → run * 16 < blocks
+run_begins run blocks runs e h = omega (arith, e, h)
 
--- the blocks so far are some of all
-blocks_within : (block blocks width letters : ℕ) → block < blocks → blocks * width ≡ letters → block * width ≤ letters
-blocks_within block blocks width letters h split =
-    let most : block * width ≤ blocks * width = mul-le-mul_right width (omega arith) in
-    omega (arith, most, split)
+runs_end : (run blocks runs : ℕ) → runs ≡ blocks / 16 + min 1 (blocks % 16) → runs ≤ run → blocks ≤ run * 16
+runs_end run blocks runs e h = omega (arith, e, h)
 
-same_run : (block : ℕ) → ((block + 1) % 16 ≡ 0 → ⊥) → block / 16 ≡ (block + 1) / 16
-same_run block some = omega arith
+no_blocks : (blocks width : ℕ) → min blocks 0 * width ≡ 0
+no_blocks blocks width =
+    let none : min blocks 0 ≡ 0 = omega arith in
+    ap (λ n. n * width) none ∙ nothing width
+  where
+    nothing : (n : ℕ) → 0 * n ≡ 0
+    nothing n = omega arith
 
-pub place_letters-requires-clause-held : goal.place_letters-requires-clause-held
-place_letters-requires-clause-held c = c.loop-block.invariant.adds.holds c.requires.held
+pub loop-run-init : goal.loop-run-init
+loop-run-init c = record {
+  adds = adds_none c.args.way.now.shape _ (stage c.begin.new.filling)
+      (λ i. ap (λ n. at_letters c.args.way.now.row.first n c.args.label.now (way_step c.args.way.now) i)
+      (no_blocks c.args.way.now.row.blocks c.args.way.now.row.width)
+      ∙ no_letters c.args.way.now.row.first c.args.label.now (way_step c.args.way.now) i);
+  known = tt;
+}
 
-pub returns-then-at-filling : goal.returns-then-at-filling
-returns-then-at-filling c =
-    stopped_letters c.args.way.now.shape c.args.first (c.loop-block.block * c.blocks_of-blocks.result.1) _ c.args.label.now
-    (way_step c.args.way.now) (stage c.args.filling.now) (stage c.loop-block.filling)
-    (blocks_within c.loop-block.block c.blocks_of-blocks.result.0 c.blocks_of-blocks.result.1 _ c.loop-block-test.true c.blocks_of-blocks.ensures.all) c.if-at-filling.true c.loop-block.invariant.adds
+pub place_run-requires-clause-placed : goal.place_run-requires-clause-placed
+place_run-requires-clause-placed c =
+    let own = rising c.args.way.now.own.now in
+    c.loop-run.invariant.adds.lists c.args.way.now.place own (c.begin.ensures.lists c.args.way.now.place own c.requires.placed)
 
-pub place_letters-requires-clause-within : goal.place_letters-requires-clause-within
-place_letters-requires-clause-within c = grind (arith, nat_tests, block_within c.args.first c.loop-block.block c.blocks_of-blocks.result.0 c.blocks_of-blocks.result.1 _ _ _ c.loop-block-test.true c.blocks_of-blocks.ensures.all c.requires.within c.loop-block.invariant.adds.as_many)
+pub returns-then-way-run : goal.returns-then-way-run
+returns-then-way-run c =
+    let w = c.args.way.now in
+    let s = way_step w in
+    let run : ℕ = c.loop-run.run in
+    let begun = run_begins run w.row.blocks c.div_ceil-run-end.result c.div_ceil-run-end.ensures c.loop-run-test.true in
+    let so_far : min w.row.blocks (run * 16) ≡ run * 16 = omega (arith, begun) in
+    let some : min w.row.blocks (run * 16) * w.row.width ≤ w.row.blocks * w.row.width = mul-le-mul_right w.row.width (omega arith) in
+    adds_then w.shape (λ i. []) (at_letters w.row.first (w.row.blocks * w.row.width) c.args.label.now s) (at_letters w.row.first (w.row.blocks * w.row.width) c.args.label.now s)
+    (stage c.args.filling.now) (stage c.begin.new.filling) (stage c.loop-run.filling) c.begin.ensures
+    (stopped_letters w.shape w.row.first (min w.row.blocks (run * 16) * w.row.width) (w.row.blocks * w.row.width) c.args.label.now s
+    (stage c.begin.new.filling) (stage c.loop-run.filling) some
+    (subst (λ n. c.loop-run.filling.conflict ≤ w.row.first + n * w.row.width) (sym so_far) c.if-way-run.true) c.loop-run.invariant.adds)
+    (λ i. refl)
 
-pub loop-block-init : goal.loop-block-init
-loop-block-init c =
-    let none : 0 * c.blocks_of-blocks.result.1 ≡ 0 = omega arith in
+pub loop-run-preserved : goal.loop-run-preserved
+loop-run-preserved c =
+    let w = c.args.way.now in
+    let s = way_step w in
+    let run : ℕ = c.loop-run.run in
+    let begun = run_begins run w.row.blocks c.div_ceil-run-end.result c.div_ceil-run-end.ensures c.loop-run-test.true in
+    let so_far : min w.row.blocks (run * 16) ≡ run * 16 = omega (arith, begun) in
+    let next : min w.row.blocks (run * 16 + 16) ≡ min w.row.blocks ((run + 1) * 16) = ap (min w.row.blocks) (omega arith) in
+    let speaks : SpeaksOf c.args.label.now run c.in_ok-words.words = λ k j h small. c.in_ok-words.ensures k j h small
+    ∙ ap (λ l. top (done l (run * 16 + k) j)) c.as_slice-acts.ensures.value
+    ∙ c.in_ok-acts_of.ensures (run * 16 + k) j (omega (arith, h, begun, c.requires.row.few)) small in
     record {
-      adds = adds_none c.args.way.now.shape (at_letters c.args.first (0 * c.blocks_of-blocks.result.1) c.args.label.now
-          (way_step c.args.way.now)) (stage c.args.filling.now)
-          (λ i h. ap (λ n. at_letters c.args.first n c.args.label.now (way_step c.args.way.now) i) none
-          ∙ no_letters c.args.first c.args.label.now (way_step c.args.way.now) i);
-      known = tt;
-      words = λ some. absurd (some refl);
+      adds = subst (λ n. Adds w.shape (at_letters w.row.first (n * w.row.width) c.args.label.now s) (stage c.begin.new.filling) (stage c.place_run.new.filling)) next
+          (c.in_ok-number.ensures.adds c.args.label.now (stage c.begin.new.filling) speaks
+          (subst (λ n. Adds w.shape (at_letters w.row.first (n * w.row.width) c.args.label.now s) (stage c.begin.new.filling) (stage c.loop-run.filling)) so_far
+          c.loop-run.invariant.adds));
+      known = c.in_ok-number.ensures.known;
     }
 
-pub loop-block-preserved : goal.loop-block-preserved
-loop-block-preserved c =
-    let s = way_step c.args.way.now in
-    let width = c.blocks_of-blocks.result.1 in
-    let block = c.loop-block.block in
-    let tells = λ (b j : ℕ) (few : b < 1024) (small : j < 64). ap (λ l. top (done l b j)) c.as_slice-acts.ensures.value
-    ∙ c.in_ok-acts_of.ensures b j few small in
-    let more = λ (i : ℕ). more_letters c.args.first block width c.in_ok-word.word c.args.label.now s i
-    (λ j small. c.in_ok-word.ensures.word j small
-    ∙ tells block j (omega (arith, c.loop-block-test.true, c.blocks_of-blocks.ensures.few)) small) c.blocks_of-blocks.ensures.narrow
-    (c.blocks_of-blocks.ensures.whole block c.loop-block-test.true) in
-    elim c.if-word-ne0.branch [
-      | then-word-ne0+in_ok-number w ↦ (rw (w.filling-is, w.number-is) (record {
-        adds = adds_then c.args.way.now.shape (at_letters c.args.first (block * width) c.args.label.now s)
-            (at_word (c.args.first + block * width) width c.in_ok-word.word s)
-            (at_letters c.args.first ((block + 1) * width) c.args.label.now s)
-            (stage c.args.filling.now) (stage c.loop-block.filling)
-            (stage w.place_letters.new.filling) c.loop-block.invariant.adds w.in_ok-number.ensures.adds (λ i h. more i);
-        known = w.in_ok-number.ensures.known;
-        words = λ some. subst (λ run. Speaks c.as_slice-acts.result.now run c.word_of.new.words) (same_run block some) c.in_ok-word.ensures.words;
-      }))
-      | else-word-ne0 w ↦ (rw (w.filling-is, w.number-is) (record {
-        adds = adds_same c.args.way.now.shape (at_letters c.args.first (block * width) c.args.label.now s)
-            (at_letters c.args.first ((block + 1) * width) c.args.label.now s)
-            (stage c.args.filling.now) (stage c.loop-block.filling) c.loop-block.invariant.adds
-            (λ i h. sym (append-nil (at_letters c.args.first (block * width) c.args.label.now s i))
-            ∙ ap (λ l. at_letters c.args.first (block * width) c.args.label.now s i ++ l)
-            (sym (ap (λ v. at_word (c.args.first + block * width) width v s i) w.if-word-ne0.false
-            ∙ empty_word (c.args.first + block * width) width s i)) ∙ more i);
-        known = c.loop-block.invariant.known;
-        words = λ some. subst (λ run. Speaks c.as_slice-acts.result.now run c.word_of.new.words) (same_run block some) c.in_ok-word.ensures.words;
-      }))
-    ]
+pub returns : goal.returns
+returns c =
+    let w = c.args.way.now in
+    let s = way_step w in
+    let run : ℕ = c.loop-run.run in
+    let over = runs_end run w.row.blocks c.div_ceil-run-end.result c.div_ceil-run-end.ensures c.loop-run-test.false in
+    let all : min w.row.blocks (run * 16) ≡ w.row.blocks = omega (arith, over) in
+    adds_then w.shape (λ i. []) (at_letters w.row.first (w.row.blocks * w.row.width) c.args.label.now s) (at_letters w.row.first (w.row.blocks * w.row.width) c.args.label.now s)
+    (stage c.args.filling.now) (stage c.begin.new.filling) (stage c.loop-run.filling) c.begin.ensures
+    (subst (λ n. Adds w.shape (at_letters w.row.first (n * w.row.width) c.args.label.now s) (stage c.begin.new.filling) (stage c.loop-run.filling)) all
+    c.loop-run.invariant.adds)
+    (λ i. refl)

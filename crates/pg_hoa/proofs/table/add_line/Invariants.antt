@@ -4,8 +4,8 @@ use Rattle.pg_hoa.specs.Mirrors.Tables.{stage, Adds, at_line}
 use Rattle.pg_hoa.proofs.table.add_line.Given as goal
 
 -- the steps of the edges so far
-abbrev pub invariant-loop-index : goal.invariant-loop-index
-invariant-loop-index l = Adds l.shape
+abbrev pub invariant-loop-edge : goal.invariant-loop-edge
+invariant-loop-edge l = Adds l.shape
     (at_line (2 ^ l.propositions)
-    (record { state = l.line.state; sets = l.line.sets.items; edges = map kept_edge (take l.index l.line.edges.items) }))
+    (record { state = l.line.state; sets = l.line.sets.items; edges = map (λ e. kept_edge e.now) (take l.edge-index l.edge-items) }))
     (stage l.initial.filling) (stage l.filling)

@@ -1,7 +1,7 @@
-use Rattle.std.proofs.Common.{◌∙◌, sym, refl, ap, length, arith}
+use Rattle.std.proofs.Common.{◌∙◌, sym, refl, ap}
 use Rattle.pg_hoa.specs.Mirrors.Tables.{stage, way_step}
 use Rattle.pg_lists.proofs.Steps.{some}
-use Rattle.pg_hoa.proofs.TableFilling.{adds_agreeing, adds_clash, adds_late_clash, adds_first, key_first}
+use Rattle.pg_hoa.proofs.TableFilling.{adds_agreeing, adds_clash, adds_late_clash, adds_first}
 use Rattle.pg_hoa.proofs.TableNumbers.{extends_refl, numbers_more}
 use Rattle.pg_hoa.proofs.table.place.Goals as goal
 
@@ -28,14 +28,3 @@ pub returns-in_ok-stored-in-None-clause-adds : goal.returns-in_ok-stored-in-None
 returns-in_ok-stored-in-None-clause-adds c = adds_first c.args.way.now.shape (stage c.args.filling.now)
     (stage c.store.new.filling) _ c.args.slot c.in_ok-stored-in-None.stored (way_step c.args.way.now) c.requires.within
     (sym c.compared.ensures ∙ c.in-None.is) c.in_ok-stored-in-None.ensures.keeps c.in_ok-stored-in-None.ensures.there refl
-
-pub returns-then-number-gt0-clause-has : goal.returns-then-number-gt0-clause-has
-returns-then-number-gt0-clause-has c = λ early. key_first c.args.way.now.shape (stage c.args.filling.now) _ c.args.slot c.args.number
-    (way_step c.args.way.now) c.args.way.now.counts c.requires.decided c.requires.within
-    (numbers_more (stage c.args.filling.now) c.args.number (way_step c.args.way.now) c.if-number-gt0.true c.requires.known) refl
-
-pub returns-in_ok-stored-in-None-clause-has : goal.returns-in_ok-stored-in-None-clause-has
-returns-in_ok-stored-in-None-clause-has c =
-    λ early. key_first c.args.way.now.shape (stage c.store.new.filling) _ c.args.slot c.in_ok-stored-in-None.stored
-    (way_step c.args.way.now) c.args.way.now.counts c.requires.decided
-    (omega (arith, ap length c.in_ok-stored-in-None.ensures.keeps.slots, c.requires.within)) c.in_ok-stored-in-None.ensures.there refl

@@ -1,41 +1,45 @@
-use Rattle.std.proofs.Common.{◌∙◌, ◌++◌, ◌-◌, [], sym, ap}
+use Rattle.std.proofs.Common.{◌≡◌, ◌∙◌, ℕ, ◌+◌, ◌*◌, ◌-◌, ◌++◌, ◌<◌, true, sym, ap, subst, arith}
 use Rattle.std.specs.Prelude.{bit_and}
 use Rattle.std.proofs.lemmas.List.{append-nil}
-use Rattle.pg_hoa.specs.Mirrors.Tables.{stage, way_step, at_word, Adds}
+use Rattle.pg_hoa.specs.declared.table.Way.{Way}
+use Rattle.pg_hoa.specs.Mirrors.Letters.{truth}
+use Rattle.pg_hoa.specs.Mirrors.Tables.{Stage, stage, way_step, at_word, Adds, IsCovered, IsDecided, IsRow}
 use Rattle.pg_hoa.proofs.TableFilling.{adds_same, adds_then}
-use Rattle.pg_hoa.proofs.TablePlaces.{at_known, known_and_rest, known_part, known_more, empty_word}
+use Rattle.pg_hoa.proofs.TablePlaces.{at_known, known_and_rest, known_part, empty_word}
 use Rattle.pg_hoa.proofs.table.place_block.Goals as goal
+
+-- what is covered of the block
+covered_part : (w : Way) (t : Stage) (slots block word known : ℕ) → IsDecided w → IsRow slots w.row → block < w.row.blocks
+    → ((j : ℕ) → j < 64 → truth known j ≡ true → IsCovered w t (w.row.first + (block * 64 + j)))
+    → Adds w.shape (at_known (w.row.first + block * w.row.width) w.row.width word known (way_step w)) t t
+covered_part w t slots block word known d row h has =
+    known_part w t (w.row.first + block * w.row.width) w.row.width word known d row.narrow
+    (λ j small bit. let whole = row.whole block h in
+    let place : w.row.first + (block * 64 + j) ≡ w.row.first + block * w.row.width + j = omega (arith, whole) in
+    subst (IsCovered w t) place (has j small bit))
 
 pub returns-then-rest-eq0-clause-adds : goal.returns-then-rest-eq0-clause-adds
 returns-then-rest-eq0-clause-adds c =
-    let s = way_step c.args.way.now in
-    let known = c.held_word-known.result in
-    adds_same c.args.way.now.shape (at_known c.args.first c.args.word known s) (at_word c.args.first 64 c.args.word s)
-    (stage c.args.filling.now) (stage c.args.filling.now)
-    (known_part c.args.way.now.shape (stage c.args.filling.now) c.args.first c.args.word known s c.args.way.now.counts c.requires.decided c.held_word-known.ensures)
-    (λ i h.
-    sym (append-nil (at_known c.args.first c.args.word known s i))
-    ∙ ap (λ l. at_known c.args.first c.args.word known s i ++ l)
-    (sym (ap (λ v. at_word c.args.first 64 v s i) c.if-rest-eq0.true ∙ empty_word c.args.first 64 s i))
-    ∙ known_and_rest c.args.first c.args.word known s i c.held_word-known.type_inv)
-
-pub note-requires : goal.note-requires
-note-requires c =
-    let rest = bit_and c.args.word (18446744073709551615 - c.held_word-known.result) in
-    known_more c.args.way.now.shape (stage c.args.filling.now)
-    (stage c.place_word.new.filling) c.args.first c.held_word-known.result rest c.args.way.now.target c.args.way.now.counts
-    (at_word c.args.first 64 rest (way_step c.args.way.now)) c.in_ok-number.ensures.adds c.held_word-known.ensures c.in_ok-number.ensures.has
+    let w = c.args.way.now in
+    let s = way_step w in
+    let at : ℕ = w.row.first + c.args.block * w.row.width in
+    let known = c.covered_word.result in
+    adds_same w.shape (at_known at w.row.width c.args.word known s) (at_word at w.row.width c.args.word s) (stage c.args.filling.now) (stage c.args.filling.now)
+    (covered_part w (stage c.args.filling.now) _ c.args.block c.args.word known c.requires.decided c.requires.row c.requires.within c.covered_word.ensures)
+    (λ i. sym (append-nil (at_known at w.row.width c.args.word known s i))
+    ∙ ap (λ l. at_known at w.row.width c.args.word known s i ++ l)
+    (sym (ap (λ v. at_word at w.row.width v s i) c.if-rest-eq0.true ∙ empty_word at w.row.width s i))
+    ∙ known_and_rest at w.row.width c.args.word known s i c.covered_word.type_inv c.requires.row.narrow)
 
 pub returns-clause-adds : goal.returns-clause-adds
 returns-clause-adds c =
-    let s = way_step c.args.way.now in
-    let known = c.held_word-known.result in
+    let w = c.args.way.now in
+    let s = way_step w in
+    let at : ℕ = w.row.first + c.args.block * w.row.width in
+    let known = c.covered_word.result in
     let rest = bit_and c.args.word (18446744073709551615 - known) in
-    let t = stage c.args.filling.now in
-    let u = stage c.place_word.new.filling in
-    let given : Adds c.args.way.now.shape (at_word c.args.first 64 c.args.word s) t u =
-    adds_then c.args.way.now.shape (at_known c.args.first c.args.word known s) (at_word c.args.first 64 rest s) (at_word c.args.first 64 c.args.word s) t t u
-    (known_part c.args.way.now.shape t c.args.first c.args.word known s c.args.way.now.counts c.requires.decided c.held_word-known.ensures)
-    c.in_ok-number.ensures.adds (λ i h. known_and_rest c.args.first c.args.word known s i c.held_word-known.type_inv) in
-    adds_then c.args.way.now.shape (at_word c.args.first 64 c.args.word s) (λ i. []) (at_word c.args.first 64 c.args.word s) t u
-    (stage c.note.new.filling) given c.note.ensures.adds (λ i h. append-nil (at_word c.args.first 64 c.args.word s i))
+    adds_then w.shape (at_known at w.row.width c.args.word known s) (at_word at w.row.width rest s) (at_word at w.row.width c.args.word s)
+    (stage c.args.filling.now) (stage c.args.filling.now) (stage c.cover.new.filling)
+    (covered_part w (stage c.args.filling.now) _ c.args.block c.args.word known c.requires.decided c.requires.row c.requires.within c.covered_word.ensures)
+    (c.cover.ensures.adds (stage c.args.filling.now) c.in_ok-number.ensures.adds)
+    (λ i. known_and_rest at w.row.width c.args.word known s i c.covered_word.type_inv c.requires.row.narrow)

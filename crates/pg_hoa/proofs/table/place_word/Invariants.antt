@@ -1,14 +1,11 @@
-use Rattle.std.proofs.Common.{◌≡◌, ℕ, true, ◌≤◌, ◌<◌, ◌-◌, ◌+◌}
-use Rattle.pg_hoa.specs.Mirrors.Tables.{stage, way_step, Adds, at_word, MayNumber, HasKey}
-use Rattle.pg_hoa.specs.Mirrors.Letters.{truth}
+use Rattle.std.proofs.Common.{◌≤◌, ◌-◌}
+use Rattle.pg_hoa.specs.Mirrors.Tables.{stage, way_step, Adds, at_word, MayNumber}
 use Rattle.pg_hoa.proofs.table.place_word.Given as goal
 
 abbrev pub invariant-bits : goal.invariant-bits
 invariant-bits l = record {
   adds : Adds l.way.shape (at_word l.first l.at l.word (way_step l.way)) (stage l.initial.filling) (stage l.filling);
   known : MayNumber (stage l.filling) l.number (way_step l.way);
-  has : (j : ℕ) → j < l.at → truth l.word j ≡ true → l.first + j < l.filling.conflict
-      → HasKey l.way.shape (stage l.filling) (l.first + j) l.way.target l.way.counts;
   within : l.at ≤ l.width;
 }
 

@@ -1,4 +1,4 @@
-use Rattle.std.proofs.Common.{◌≡◌, ◌∙◌, ◌+◌, ◌*◌, ◌%◌, ◌/◌, ◌^◌, ◌<◌, ◌≤◌, ℕ, map, take, length, get_or, replicate, List, None, Fits, w32}
+use Rattle.std.proofs.Common.{◌≡◌, ◌∙◌, ◌+◌, ◌*◌, ◌%◌, ◌/◌, ◌^◌, ◌<◌, ◌≤◌, ℕ, map, take, length, get_or, replicate, List, Fits, w32}
 use Rattle.std.proofs.Common.{w64, sym, refl, ap, subst, arith}
 use Rattle.std.proofs.lemmas.Bool.Decides.{nat_tests}
 use Rattle.std.proofs.lemmas.Nat.{one_shl, pow_pos}
@@ -10,9 +10,9 @@ use Rattle.std.specs.List.{All}
 use Rattle.pg_hoa.specs.declared.body.ReadState.{ReadState}
 use Rattle.pg_hoa.specs.Mirrors.Kept.{kept_line}
 use Rattle.pg_hoa.specs.Mirrors.Tables.{stage, at_line, at_lines, IsFirstConflict}
-use Rattle.pg_hoa.proofs.TableFilling.{adds_then, nothing_noted}
+use Rattle.pg_hoa.proofs.TableFilling.{adds_then}
 use Rattle.pg_hoa.proofs.TablePlaces.{more_lines, more_items}
-use Rattle.pg_hoa.proofs.TableAnswers.{found_table, first_conflict, all_filled}
+use Rattle.pg_hoa.proofs.TableAnswers.{found_table, first_conflict, all_filled, nothing_covered}
 use Rattle.pg_hoa.proofs.table.table_of.Goals as goal
 
 -- the letters and the slots are as many as there are, without a bit lost
@@ -53,11 +53,6 @@ slots_within lines states p at line slots zeros few below h is same made =
 pub overflow_mul-total : goal.overflow_mul-total
 overflow_mul-total c = grind (arith, nat_tests, fits_64 _ (slots_few c.args.states c.args.propositions c.requires.few_propositions c.requires.few_steps))
 
-pub add_line-requires-clause-held : goal.add_line-requires-clause-held
-add_line-requires-clause-held c =
-    c.loop-line.invariant.holds (nothing_noted c.args.shape _ 4096 (record { first = 0; target = 0; counts = None; word = 0 }) refl
-    (c.in_ok-vec-2.ensures.items_if_clones_equal (λ y same. same)))
-
 pub add_line-requires-clause-within : goal.add_line-requires-clause-within
 add_line-requires-clause-within c = grind (arith, nat_tests)
 
@@ -80,7 +75,7 @@ loop-line-preserved c =
     (at_line (2 ^ c.args.propositions) (kept_line c.line-item.result))
     (at_lines (2 ^ c.args.propositions) (map kept_line (take (c.loop-line.line-index + 1) c.args.lines.now)))
     _ (stage c.loop-line.filling) (stage c.add_line.new.filling) c.loop-line.invariant c.in_ok-add_line.ensures
-    (λ i h. more_lines (2 ^ c.args.propositions) (map kept_line (take c.loop-line.line-index c.args.lines.now))
+    (λ i. more_lines (2 ^ c.args.propositions) (map kept_line (take c.loop-line.line-index c.args.lines.now))
     (kept_line c.line-item.result) i
     ∙ ap (λ l. at_lines (2 ^ c.args.propositions) l i) (more_items kept_line c.args.lines.now c.loop-line.line-index c.line-item.result
     (omega arith) c.line-item.is))
@@ -93,7 +88,8 @@ returns-then-filling-total-clause-refused c =
     ap (map kept_line) (take_all c.loop-line.line-index c.args.lines.now c.loop-line-test.false) in
     let filled = all_filled c.args.shape (2 ^ p) (c.args.states * (1 * 2 ^ p % 18446744073709551616)) (map kept_line c.args.lines.now)
     (map kept_line (take c.loop-line.line-index c.args.lines.now)) _ (stage c.loop-line.filling)
-    (c.in_ok-vec.ensures.items_if_clones_equal (λ y same. same)) refl all c.loop-line.invariant in
+    (c.in_ok-vec.ensures.items_if_clones_equal (λ y same. same)) refl
+    (nothing_covered _ _ (c.in_ok-vec-2.ensures.items_if_clones_equal (λ y same. same))) all c.loop-line.invariant in
     let many : length c.loop-line.filling.slots.items ≡ c.args.states * 2 ^ p = filled.1 ∙ ap (λ n. c.args.states * n) letters in
     subst (λ n. IsFirstConflict c.args.shape (map kept_line c.args.lines.now) c.args.states (2 ^ p) (c.loop-line.filling.conflict / n)
     (c.loop-line.filling.conflict % n)) (sym letters)
@@ -108,7 +104,8 @@ returns-clause-found c =
     ap (map kept_line) (take_all c.loop-line.line-index c.args.lines.now c.loop-line-test.false) in
     let filled = all_filled c.args.shape (2 ^ p) (c.args.states * (1 * 2 ^ p % 18446744073709551616)) (map kept_line c.args.lines.now)
     (map kept_line (take c.loop-line.line-index c.args.lines.now)) _ (stage c.loop-line.filling)
-    (c.in_ok-vec.ensures.items_if_clones_equal (λ y same. same)) refl all c.loop-line.invariant in
+    (c.in_ok-vec.ensures.items_if_clones_equal (λ y same. same)) refl
+    (nothing_covered _ _ (c.in_ok-vec-2.ensures.items_if_clones_equal (λ y same. same))) all c.loop-line.invariant in
     let many : length c.loop-line.filling.slots.items ≡ c.args.states * 2 ^ p = filled.1 ∙ ap (λ n. c.args.states * n) letters in
     found_table c.args.shape (map kept_line c.args.lines.now) c.args.states (2 ^ p) (stage c.loop-line.filling) _ filled.0 many
     (omega (arith, c.if-filling-total.false, filled.1)) refl letters refl refl refl

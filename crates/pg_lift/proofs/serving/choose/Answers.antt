@@ -1,27 +1,46 @@
-use Rattle.std.proofs.Common.{◌≡◌, ℕ, ◌<◌, List, length, get_or, sym, subst}
-use Rattle.pg_arena.specs.declared.player.Player.TheVariants.{Even}
+use Rattle.std.proofs.Common.{◌≡◌, ℕ, ◌<◌, List, length, get_or, subst, ap, arith}
 use Rattle.pg_measure.specs.Measures.{width_from}
 use Rattle.pg_map.specs.Lines.{line_at}
-use Rattle.pg_map.proofs.Bests.{taken, left}
+use Rattle.pg_lift.specs.Mirrors.Searches.{IsAfter}
 use Rattle.pg_lift.proofs.Keeping.{item_at}
+use Rattle.pg_lift.proofs.Searching.{LeastSoFar, least_taken, least_left, least_of_all}
 use Rattle.pg_lift.proofs.serving.choose.Goals as goal
 use Rattle.pg_lift.proofs.serving.choose.Goals.{then-is_front_below+else-serves, else-is_front_below}
 
-pub loop-w-preserved : goal.loop-w-preserved
-loop-w-preserved g c =
+pub loop-steps-preserved : goal.loop-steps-preserved
+loop-steps-preserved g c =
     let l = line_at (g.G.Lines.line c.args.lines.now) c.args.v in
     let f = c.args.map.now.measures in
     let front = width_from c.args.map.now.bounds l.priority in
-    let i = c.loop-w.w-index in
-    let lt : i < length l.successors = subst (λ (t : List ℕ). i < length t) c.successors-w-items.ensures c.loop-w-test.true in
-    let q : get_or l.successors i 0 ≡ c.w-item.result = item_at c.successors-w-items.result.now l.successors i c.w-item.result c.successors-w-items.ensures c.loop-w-test.true c.w-item.is in
+    let from = c.first_place-from.result in
+    let steps = c.loop-steps.steps in
+    let place = c.place_after-place.result in
+    let w = c.index-successors-place.result in
+    let same : c.successors-successors.result.now ≡ l.successors = c.successors-successors.ensures in
+    let lt : place < length l.successors = subst (λ (t : List ℕ). place < length t) same c.place_after-place.ensures.within in
+    let after : IsAfter from steps (length l.successors) place = subst (λ (t : List ℕ). IsAfter from steps (length t) place) same
+    c.place_after-place.ensures.place in
+    let q : get_or l.successors place 0 ≡ w = item_at c.successors-successors.result.now l.successors place w same c.place_after-place.ensures.within c.index-successors-place.is in
     elim c.if-is_front_below.branch [
-      | then-is_front_below+else-serves w ↦ rw w.least-is record {
-        so_far = taken Even front f l.successors i c.loop-w.least c.w-item.result lt (sym q) w.if-is_front_below.ensures c.loop-w.invariant.so_far;
-        unserved = λ h. absurd (cc (w.if-serves.false, w.serves.ensures.1 h));
+      | then-is_front_below+else-serves b ↦ rw b.least-is record {
+        so_far = least_taken front f l.successors from steps place c.loop-steps.least w lt after q b.if-is_front_below.ensures c.loop-steps.invariant.so_far;
+        unserved = λ h. absurd (cc (b.if-serves.false, b.serves.ensures.1 h));
       }
-      | else-is_front_below w ↦ rw w.least-is record {
-        so_far = left Even front f l.successors i c.loop-w.least c.w-item.result lt (sym q) w.if-is_front_below.ensures c.loop-w.invariant.so_far;
-        unserved = c.loop-w.invariant.unserved;
+      | else-is_front_below b ↦ rw b.least-is record {
+        so_far = least_left front f l.successors from steps place c.loop-steps.least w lt after q b.if-is_front_below.ensures c.loop-steps.invariant.so_far;
+        unserved = c.loop-steps.invariant.unserved;
       }
     ]
+
+pub returns-clause-best : goal.returns-clause-best
+returns-clause-best g c =
+    let l = line_at (g.G.Lines.line c.args.lines.now) c.args.v in
+    let f = c.args.map.now.measures in
+    let front = width_from c.args.map.now.bounds l.priority in
+    let from = c.first_place-from.result in
+    let same : c.successors-successors.result.now ≡ l.successors = c.successors-successors.ensures in
+    let begun : from < length l.successors = subst (λ (t : List ℕ). from < length t) same c.first_place-from.ensures in
+    let end : c.loop-steps.steps ≡ length l.successors = let n = ap length same in omega (arith, n, c.loop-steps-test.false, c.loop-steps.auto.steps-end) in
+    let all : LeastSoFar front f l.successors from (length l.successors) c.loop-steps.least = subst
+    (λ (n : ℕ). LeastSoFar front f l.successors from n c.loop-steps.least) end c.loop-steps.invariant.so_far in
+    least_of_all front f l.successors from c.loop-steps.least begun all

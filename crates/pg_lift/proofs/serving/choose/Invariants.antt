@@ -1,13 +1,12 @@
-use Rattle.pg_arena.specs.declared.player.Player.TheVariants.{Even}
 use Rattle.pg_measure.specs.Measures.{width_from}
 use Rattle.pg_map.specs.Lines.{line_at}
 use Rattle.pg_map.specs.Maps.{IsServedBy}
-use Rattle.pg_map.proofs.Bests.{BestSoFar}
+use Rattle.pg_lift.proofs.Searching.{LeastSoFar}
 use Rattle.pg_lift.proofs.serving.choose.Given as goal
 
-abbrev pub invariant-loop-w : goal.invariant-loop-w
-invariant-loop-w g l = record {
-  so_far : BestSoFar Even (width_from l.map.bounds (line_at (g.G.Lines.line l.lines) l.v).priority) l.map.measures
-      (line_at (g.G.Lines.line l.lines) l.v).successors l.w-index l.least;
+abbrev pub invariant-loop-steps : goal.invariant-loop-steps
+invariant-loop-steps g l = record {
+  so_far : LeastSoFar (width_from l.map.bounds (line_at (g.G.Lines.line l.lines) l.v).priority) l.map.measures
+      (line_at (g.G.Lines.line l.lines) l.v).successors l.from l.steps l.least;
   unserved : IsServedBy l.map.bounds (g.G.Lines.line l.lines) l.map.measures l.v l.least → ⊥;
 }

@@ -3,7 +3,7 @@ use Rattle.std.proofs.lemmas.Result.{err_from_is_err_and}
 use Rattle.pg_wire.specs.declared.kind.ValueKind.{ValueKind}
 use Rattle.pg_wire.specs.declared.kind.ValueKind.TheVariants.{Dense, Sparse}
 use Rattle.pg_rounds.specs.Mirrors.Telling.{told_with}
-use Rattle.pg_rounds.proofs.Taking.{restarted}
+use Rattle.pg_rounds.proofs.Taking.{restarted, refusal_spells}
 use Rattle.pg_rounds.proofs.set_up.agree.Goals as goal
 use Rattle.pg_rounds.proofs.set_up.agree.Goals.{then-eq-via-then-eq, then-eq-via-else-eq+in_ok-accepts+then-branch}
 
@@ -13,7 +13,7 @@ returns-in_err-accepts-clause-told g c = λ left is.
     let sparse : c.args.kind.now ≡ Sparse = search rules in
     let sent = (c.in_ok-send_setup.ensures.told left is).1 ∙ ap (λ (k : ValueKind). Some (told_with k left)) sparse in
     let p = err_from_is_err_and c.from_residual-in_err-accepts.result c.from_residual-in_err-accepts.ensures.1 in
-    rw (p.1, p.2) ((λ no. (c.in_err-accepts.ensures.told left sent).0 (cc)), tt)
+    rw (p.1, p.2) ((λ no. ((c.in_err-accepts.ensures.told _ left sent).refused refusal_spells).0 (cc)), tt)
 
 pub returns-then-eq-clause-told : goal.returns-then-eq-clause-told
 returns-then-eq-clause-told g c = λ left is.
@@ -25,7 +25,7 @@ returns-then-eq-clause-told g c = λ left is.
       | then-eq-via-else-eq+in_ok-accepts+then-branch w ↦
           let sparse : c.args.kind.now ≡ Sparse = search rules in
           let sent = (c.in_ok-send_setup.ensures.told left is).1 ∙ ap (λ (k : ValueKind). Some (told_with k left)) sparse in
-          let no = (w.in_ok-accepts.ensures.told left sent).1.0 in
+          let no = ((w.in_ok-accepts.ensures.told _ left sent).refused refusal_spells).1.0 in
           let yes = w.if-branch.true in
           absurd (cc (no, yes))
     ]
@@ -35,26 +35,29 @@ returns-clause-told g c = λ left is.
     let told = g.L.Link.told in
     let sparse : c.args.kind.now ≡ Sparse = search rules in
     let sent = (c.in_ok-send_setup.ensures.told left is).1 ∙ ap (λ (k : ValueKind). Some (told_with k left)) sparse in
-    let refused = (c.in_ok-accepts.ensures.told left sent).1.1 in
+    let refused = ((c.in_ok-accepts.ensures.told _ left sent).refused refusal_spells).1.1 in
     let anew = restarted (told c.accepts.new.link) (told c.restart.new.self) _ left c.in_ok-restart.ensures.told refused in
-    ((λ no. cc), ((c.in_ok-send_setup-2.ensures.told left anew.1).1, refl))
+    ((λ no. cc), ((c.in_ok-send_older_setup.ensures.told left anew.1).1, refl))
 
 pub returns-in_err-restart-clause-told : goal.returns-in_err-restart-clause-told
 returns-in_err-restart-clause-told g c = λ left is.
     let told = g.L.Link.told in
     let sparse : c.args.kind.now ≡ Sparse = search rules in
     let sent = (c.in_ok-send_setup.ensures.told left is).1 ∙ ap (λ (k : ValueKind). Some (told_with k left)) sparse in
-    let refused = (c.in_ok-accepts.ensures.told left sent).1.1 in
+    let refused = ((c.in_ok-accepts.ensures.told _ left sent).refused refusal_spells).1.1 in
     let anew = restarted (told c.accepts.new.link) (told c.restart.new.self) _ left c.in_err-restart.ensures.told refused in
     let p = err_from_is_err_and c.from_residual-in_err-restart.result c.from_residual-in_err-restart.ensures.1 in
     rw (p.1, p.2) anew
 
-pub returns-in_err-send_setup-2-clause-told : goal.returns-in_err-send_setup-2-clause-told
-returns-in_err-send_setup-2-clause-told g c = λ left is.
+pub returns-in_err-send_older_setup-clause-told : goal.returns-in_err-send_older_setup-clause-told
+returns-in_err-send_older_setup-clause-told g c = λ left is.
     let told = g.L.Link.told in
     let sparse : c.args.kind.now ≡ Sparse = search rules in
     let sent = (c.in_ok-send_setup.ensures.told left is).1 ∙ ap (λ (k : ValueKind). Some (told_with k left)) sparse in
-    let refused = (c.in_ok-accepts.ensures.told left sent).1.1 in
+    let refused = ((c.in_ok-accepts.ensures.told _ left sent).refused refusal_spells).1.1 in
     let anew = restarted (told c.accepts.new.link) (told c.restart.new.self) _ left c.in_ok-restart.ensures.told refused in
-    let p = err_from_is_err_and c.from_residual-in_err-send_setup-2.result c.from_residual-in_err-send_setup-2.ensures.1 in
-    rw (p.1, p.2) (c.in_err-send_setup-2.ensures.told left anew.1)
+    let p = err_from_is_err_and c.from_residual-in_err-send_older_setup.result c.from_residual-in_err-send_older_setup.ensures.1 in
+    rw (p.1, p.2) (c.in_err-send_older_setup.ensures.told left anew.1)
+
+pub send_older_setup-requires : goal.send_older_setup-requires
+send_older_setup-requires g c = record { anew = c.in_ok-restart.ensures.anew }

@@ -8,7 +8,7 @@ invariant_of-self c =
     let inside = c.self.inside in
     let turn = c.in-Ok.ensures.turn in
     kept_turn inside.highest inside.session.highest c.frame.new.self.highest inside.next inside.session.held c.frame.new.self.held inside.has_refused
-    inside.waiting.items c.frame.new.out.items turn.0 c.args.frame.now c.self.invariant c.in-Ok.ensures.highest c.requires turn.1 turn.2 c.if-self.false
+    inside.waiting.items c.frame.new.out.items turn.0 c.args.frame.now c.self.invariant c.in-Ok.ensures.highest c.requires.well turn.1 turn.2 c.if-self.false
 
 pub returns-in-Ok-clause-ok : goal.returns-in-Ok-clause-ok
 returns-in-Ok-clause-ok c =

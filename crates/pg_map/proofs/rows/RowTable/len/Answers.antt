@@ -3,4 +3,4 @@ use Rattle.pg_map.proofs.Tables.{rows_size}
 use Rattle.pg_map.proofs.rows.RowTable.len.Goals as goal
 
 pub returns : goal.returns
-returns c = sym (rows_size _ _ _ _ _ c.self.view_is)
+returns c = sym (rows_size _ _ _ _ c.self.view_is)

@@ -1,8 +1,8 @@
-use Rattle.std.proofs.Common.{◌∙◌, length, inl, inr}
+use Rattle.std.proofs.Common.{◌∙◌, Err, length, inl, inr, ap}
 use Rattle.std.proofs.lemmas.Bool.{cases_lt}
 use Rattle.pg_wire.specs.Spelling.{body, longest}
 use Rattle.pg_wire.specs.Bytes.{Spells}
-use Rattle.pg_worker.proofs.Taking.{frame_turn, frame_refused}
+use Rattle.pg_worker.proofs.Taking.{frame_turn, frame_refused, not_encoded}
 use Rattle.pg_worker.proofs.session.Session.frame.Goals as goal
 use Rattle.pg_worker.proofs.session.Session.frame.Goals.{After-frame_from}
 
@@ -13,9 +13,13 @@ spells c = record {
   spelled = c.deref.ensures.value ∙ c.in-Ok.ensures.spelled;
 }
 
-pub returns-clause-turn : goal.returns-clause-turn
-returns-clause-turn c =
-    frame_turn c.args.frame.now c.args.self.now.highest c.args.self.now.held c.deref.result.now c.frame_from.new.self.held c.args.out.now.items c.frame_from.new.out.items c.frame_from.result (spells (goal.at.returns-clause-turn c).After-frame_from) c.frame_from.ensures.turn
+pub returns-in-Ok-clause-turn : goal.returns-in-Ok-clause-turn
+returns-in-Ok-clause-turn c =
+    frame_turn c.args.frame.now c.args.self.now.highest c.args.self.now.held c.deref.result.now c.frame_from.new.self.held c.args.out.now.items c.frame_from.new.out.items c.frame_from.result (spells (goal.at.returns-in-Ok-clause-turn c).After-frame_from) c.frame_from.ensures.turn
 
-pub returns-clause-refused : goal.returns-clause-refused
-returns-clause-refused c = frame_refused c.args.frame.now c.args.self.now.highest c.args.self.now.held c.deref.result.now c.frame_from.result (spells (goal.at.returns-clause-refused c).After-frame_from) c.frame_from.ensures.refused
+pub returns-in-Ok-clause-refused : goal.returns-in-Ok-clause-refused
+returns-in-Ok-clause-refused c = λ within. frame_refused c.args.frame.now c.args.self.now.highest c.args.self.now.held c.deref.result.now c.frame_from.result (spells (goal.at.returns-in-Ok-clause-refused c).After-frame_from) c.frame_from.ensures.refused
+
+pub returns-in-Err-clause-refused : goal.returns-in-Err-clause-refused
+returns-in-Err-clause-refused c = λ within. not_encoded c.args.frame.now c.args.self.now.highest c.args.self.now.held c.in-Err.fault c.own.result c.own.ensures c.in-Err.ensures.faults
+    (λ long. c.in-Err.ensures.too_long.0 (ap (λ e. Err e) long)) within

@@ -1,0 +1,49 @@
+-- What the numbers of commands say, and what is answered to a text.
+use Rattle.std.specs.Prelude.{◌≡◌, ◌≢◌, ℕ, ◌<◌, ◌==◌, List, length, drop, ◌++◌, Option, Some, None, if◌then◌else◌}
+use Rattle.pg_words.specs.declared.command.Command.{Command}
+use Rattle.pg_words.specs.declared.command.Command.TheVariants.{Measure, Solve, Check, Replay, Game, Synth}
+use Rattle.pg_command.specs.declared.fault.CliFault.{CliFault}
+use Rattle.pg_command.specs.declared.fault.CliFault.TheVariants.{OutOfMemory, Read, Write}
+use Rattle.pg_command.specs.FaultTexts.{fault_line}
+use Rattle.pg_command.specs.Answers.{Prints, Refuses}
+use Rattle.parsolve_c.specs.declared.code.TheConstants.{PARSOLVE_COMMAND_MEASURE, PARSOLVE_COMMAND_SOLVE, PARSOLVE_COMMAND_CHECK}
+use Rattle.parsolve_c.specs.declared.code.TheConstants.{PARSOLVE_COMMAND_REPLAY, PARSOLVE_COMMAND_GAME, PARSOLVE_COMMAND_SYNTH}
+
+-- the command of a number
+abbrev pub command_of : ℕ → Option Command
+command_of n =
+    if n == PARSOLVE_COMMAND_MEASURE then Some (Measure 1)
+    else (if n == PARSOLVE_COMMAND_SOLVE then Some (Solve 1)
+    else (if n == PARSOLVE_COMMAND_CHECK then Some Check
+    else (if n == PARSOLVE_COMMAND_REPLAY then Some Replay
+    else (if n == PARSOLVE_COMMAND_GAME then Some Game
+    else (if n == PARSOLVE_COMMAND_SYNTH then Some (Synth 1)
+    else None)))))
+
+-- the text is what the command of this number prints for the input
+pub record IsPrinted (n : ℕ) (input text : List ℕ) : Type 0 where
+  pub command : Command
+  pub numbered : command_of n ≡ Some command
+  pub prints : Prints command input text
+
+-- The text is the line of a fault for which the command of this number prints nothing. The fault is the input's own: none of memory, and
+-- none of a read or a write, of which there are none.
+pub record IsFaultLine (n : ℕ) (input text : List ℕ) : Type 0 where
+  pub command : Command
+  pub numbered : command_of n ≡ Some command
+  pub fault : CliFault
+  pub refuses : Refuses command input fault
+  pub no_memory : fault ≢ OutOfMemory
+  pub no_read : fault ≢ Read
+  pub no_write : fault ≢ Write
+  pub line : text ≡ fault_line fault
+
+-- the text stands at the front of the output, the rest is as it was, and the length of the text is told
+pub record IsHandedWhole (text old new : List ℕ) (written : ℕ) : Type 0 where
+  pub told : written ≡ length text
+  pub front : new ≡ text ++ drop (length text) old
+
+-- there is no room for the text, and its length is told
+pub record IsTooLong (text old : List ℕ) (written : ℕ) : Type 0 where
+  pub told : written ≡ length text
+  pub longer : length old < length text

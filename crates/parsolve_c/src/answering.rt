@@ -1,0 +1,119 @@
+//! Commands, from texts to texts in memory.
+
+ghost use Rattle.std.specs.Prelude.{◌≡◌, ◌≢◌, ◌↔◌, ◌⊎◌, ℕ, ◌<◌, ◌≤◌, List, length, None, IfOk, IfErr};
+ghost use Rattle.pg_command.specs.FaultTexts.{fault_line};
+ghost use Rattle.pg_command.specs.Answers.{Prints, Refuses};
+ghost use Rattle.pg_command.specs.declared.fault.CliFault.{CliFault};
+ghost use Rattle.parsolve_c.specs.Answers.{IsHanded};
+ghost use Rattle.parsolve_c.specs.Commands.{command_of, IsPrinted, IsFaultLine, IsHandedWhole, IsTooLong};
+
+use crate::code::{
+    PARSOLVE_COMMAND, PARSOLVE_COMMAND_CHECK, PARSOLVE_COMMAND_GAME, PARSOLVE_COMMAND_MEASURE,
+    PARSOLVE_COMMAND_REPLAY, PARSOLVE_COMMAND_SOLVE, PARSOLVE_COMMAND_SYNTH, PARSOLVE_FAULT,
+    PARSOLVE_OK, PARSOLVE_OUT_OF_MEMORY, PARSOLVE_TOO_SHORT,
+};
+use crate::copying::copy_bytes;
+use crate::one_piece::InOnePiece;
+use pg_command::{CliFault, Command, MOST_BYTES, answer, write_fault};
+use std::alloc::{AllocError, Global};
+
+/// The command of a number.
+fn command_of(number: u32) -> Option<Command>
+    ensures { result ≡ command_of number }
+{
+    match number {
+        PARSOLVE_COMMAND_MEASURE => Some(Command::Measure { workers: 1 }),
+        PARSOLVE_COMMAND_SOLVE => Some(Command::Solve { workers: 1 }),
+        PARSOLVE_COMMAND_CHECK => Some(Command::Check),
+        PARSOLVE_COMMAND_REPLAY => Some(Command::Replay),
+        PARSOLVE_COMMAND_GAME => Some(Command::Game),
+        PARSOLVE_COMMAND_SYNTH => Some(Command::Synth { workers: 1 }),
+        _ => None,
+    }
+}
+
+/// What a command prints for an input.
+fn answered(alloc: Global, command: Command, input: &[u8]) -> Result<Vec<u8>, CliFault>
+    ensures answer { IfOk result (λ text. Prints command input.now text.items) }
+    ensures fault { IfErr result (Refuses command input.now) }
+    ensures unread { IfErr result (λ fault. fault ≢ CliFault.Read) }
+{
+    if input.len() > MOST_BYTES {
+        return Err(CliFault::InputTooLong);
+    }
+    let Ok(text) = Vec::from_slice(alloc, input) else {
+        return Err(CliFault::OutOfMemory);
+    };
+    let mut output = Vec::new(alloc);
+    answer(alloc, command, text, &mut InOnePiece, &mut output)?;
+    Ok(output)
+}
+
+/// The line of a fault.
+fn line_of(alloc: Global, fault: &CliFault) -> Result<Vec<u8>, AllocError>
+    ensures { IfOk result (λ line. line.items ≡ fault_line fault.now) }
+{
+    let mut line = Vec::new(alloc);
+    match write_fault(fault, &mut line) {
+        Ok(()) => Ok(line),
+        Err(_) => Err(AllocError),
+    }
+}
+
+/// Hands a text over if there is room, and tells its length.
+fn hand_over(text: &[u8], output: &mut [u8], written: &mut usize, code: u32) -> u32
+    requires { code ≢ PARSOLVE_TOO_SHORT }
+    ensures told { written.new ≡ length text.now }
+    ensures handed { IsHanded text.now output.old output.new }
+    ensures room { result ≢ PARSOLVE_TOO_SHORT → (result ≡ code) × (length text.now ≤ length output.old) }
+    ensures short { result ≡ PARSOLVE_TOO_SHORT → length output.old < length text.now }
+{
+    *written = text.len();
+    if text.len() > output.len() {
+        return PARSOLVE_TOO_SHORT;
+    }
+    copy_bytes(text, output);
+    code
+}
+
+/// Answers a command. `PARSOLVE_OK`: what the command prints for the input stands at the front of the output. `PARSOLVE_FAULT`: it prints
+/// nothing, and the line of its fault stands there. `PARSOLVE_TOO_SHORT`: there is no room for either. `written` tells the length of the
+/// text in each case. `PARSOLVE_COMMAND`, `PARSOLVE_OUT_OF_MEMORY`: nothing was written.
+#[unsafe(no_mangle)]
+pub extern "C" fn parsolve_answer(
+    alloc: Global,
+    command: u32,
+    input: &[u8],
+    output: &mut [u8],
+    written: &mut usize,
+) -> u32
+    ensures answer { result ≡ PARSOLVE_OK → (text : List ℕ) × IsPrinted command input.now text
+        × IsHandedWhole text output.old output.new written.new }
+    ensures fault { result ≡ PARSOLVE_FAULT → (text : List ℕ) × IsFaultLine command input.now text
+        × IsHandedWhole text output.old output.new written.new }
+    ensures short { result ≡ PARSOLVE_TOO_SHORT
+        → (text : List ℕ) × (IsPrinted command input.now text ⊎ IsFaultLine command input.now text)
+        × IsTooLong text output.old written.new }
+    ensures command { (result ≡ PARSOLVE_COMMAND) ↔ (command_of command ≡ None) }
+    ensures memory { result ≢ PARSOLVE_OK → result ≢ PARSOLVE_FAULT → result ≢ PARSOLVE_TOO_SHORT → result ≢ PARSOLVE_COMMAND
+        → result ≡ PARSOLVE_OUT_OF_MEMORY }
+    ensures kept { result ≢ PARSOLVE_OK → result ≢ PARSOLVE_FAULT → output.new ≡ output.old }
+    ensures silent { result ≢ PARSOLVE_OK → result ≢ PARSOLVE_FAULT → result ≢ PARSOLVE_TOO_SHORT → written.new ≡ written.old }
+{
+    let Some(command) = command_of(command) else {
+        return PARSOLVE_COMMAND;
+    };
+    match answered(alloc, command, input) {
+        Ok(text) => hand_over(&text, output, written, PARSOLVE_OK),
+        // a text in memory is there to be read, and fails to grow for want of memory only
+        Err(CliFault::OutOfMemory) | Err(CliFault::Read) | Err(CliFault::Write) => {
+            PARSOLVE_OUT_OF_MEMORY
+        }
+        Err(fault) => {
+            let Ok(line) = line_of(alloc, &fault) else {
+                return PARSOLVE_OUT_OF_MEMORY;
+            };
+            hand_over(&line, output, written, PARSOLVE_FAULT)
+        }
+    }
+}

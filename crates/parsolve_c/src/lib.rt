@@ -1,0 +1,14 @@
+//! The library for C and for whatever calls C: games, solutions and commands in the memory of the caller. `bindings/parsolve.h` is its
+//! header, which says what a caller owes.
+#![tactic(auto)]
+
+mod answering;
+mod checking;
+mod code;
+mod copying;
+mod one_piece;
+mod solving;
+
+pub use answering::parsolve_answer;
+pub use checking::{ParsolveFound, parsolve_check};
+pub use solving::parsolve_solve;

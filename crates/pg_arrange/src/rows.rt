@@ -1,0 +1,91 @@
+//! Edges row by row.
+
+use crate::components::Edges;
+use crate::numbers::{NONE, at, between, count, put};
+use std::alloc::{AllocError, Global};
+
+/// Where each vertex leads, row by row.
+#[derive(Drop)]
+pub struct Rows {
+    /// Where each row begins, and one more at the end.
+    starts: Vec<u32>,
+    targets: Vec<u32>,
+}
+
+impl Edges for Rows {
+    #[inline(always)]
+    fn targets(&self, v: u32) -> &[u32] {
+        let to = at(&self.starts, v.saturating_add(1));
+        between(&self.targets, at(&self.starts, v), to)
+    }
+
+    #[inline(always)]
+    fn holds(&self, _: u32, _: u32) -> bool {
+        true
+    }
+}
+
+impl Rows {
+    /// No row yet, and room for so many.
+    pub fn with_capacity(alloc: Global, rows: usize) -> Result<Rows, AllocError> {
+        let mut starts = Vec::with_capacity(alloc, rows.saturating_add(1))?;
+        starts.push(0)?;
+        Ok(Rows {
+            starts,
+            targets: Vec::new(alloc),
+        })
+    }
+
+    /// Puts an edge into the row that is not yet ended.
+    #[inline(always)]
+    pub fn push(&mut self, target: u32) -> Result<(), AllocError> {
+        self.targets.push(target)?;
+        Ok(())
+    }
+
+    /// Ends a row.
+    #[inline(always)]
+    pub fn end(&mut self) -> Result<(), AllocError> {
+        self.starts.push(count(self.targets.len()))?;
+        Ok(())
+    }
+
+    /// Forgets all edges. There are so many rows, which are to be counted and then filled.
+    pub(crate) fn clear(&mut self, rows: u32) -> Result<(), AllocError> {
+        self.starts.clear();
+        for _ in 0..rows {
+            self.starts.push(0)?;
+        }
+        Ok(())
+    }
+
+    /// Counts an edge of a row.
+    #[inline(always)]
+    pub(crate) fn count(&mut self, v: u32) {
+        let degree = at(&self.starts, v).wrapping_add(1);
+        put(&mut self.starts, v, degree);
+    }
+
+    /// Makes room for the edges that were counted.
+    pub(crate) fn make_room(&mut self) -> Result<(), AllocError> {
+        let mut all = 0u32;
+        for start in self.starts.iter_mut() {
+            all = all.saturating_add(*start);
+            *start = all;
+        }
+        self.starts.push(all)?;
+        self.targets.clear();
+        for _ in 0..all {
+            self.targets.push(NONE)?;
+        }
+        Ok(())
+    }
+
+    /// Puts an edge that was counted into its row.
+    #[inline(always)]
+    pub(crate) fn put(&mut self, v: u32, target: u32) {
+        let place = at(&self.starts, v).wrapping_sub(1);
+        put(&mut self.starts, v, place);
+        put(&mut self.targets, place, target);
+    }
+}

@@ -1,0 +1,13 @@
+//! A game as arrays.
+
+/// A game in compressed sparse rows. Vertex `v` has the priority `priorities[v]`, its owner is Even where `owners[v]` is 0 and
+/// Odd where it is 1, and its successors stand in `successors` from `starts[v]` to `starts[v + 1]`, in any order; a repeated
+/// one counts once.
+#[derive(Drop)]
+#[repr(C)]
+pub struct Arrays<'a> {
+    pub priorities: &'a [u32],
+    pub owners: &'a [u8],
+    pub starts: &'a [u32],
+    pub successors: &'a [u32],
+}

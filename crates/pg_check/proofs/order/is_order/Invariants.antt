@@ -1,0 +1,6 @@
+use Rattle.std.proofs.Common.{ℕ, ◌<◌}
+use Rattle.pg_check.specs.Mirrors.Orders.{Stands}
+use Rattle.pg_check.proofs.order.is_order.Given as goal
+
+abbrev pub invariant-loop-number : goal.invariant-loop-number
+invariant-loop-number l = (v : ℕ) → v < l.number → Stands l.game l.solution l.order.places.items l.order.spans.items v

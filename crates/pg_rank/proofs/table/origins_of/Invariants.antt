@@ -1,0 +1,9 @@
+use Rattle.std.proofs.Common.{◌≡◌, ℕ, ◌<◌, length, slice_index_or}
+use Rattle.pg_rank.specs.Mirrors.Rungs.{IsOrigin}
+use Rattle.pg_rank.proofs.table.origins_of.Given as goal
+
+abbrev pub invariant-loop-k : goal.invariant-loop-k
+invariant-loop-k l = record {
+  each : length l.origins.items ≡ l.k;
+  are : (j : ℕ) → j < l.k → IsOrigin l.steps (slice_index_or l.origins.items j 0) j;
+}

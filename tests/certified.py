@@ -1,0 +1,116 @@
+#!/usr/bin/env python3
+"""Sees to it that no game of the benches is lifted to its end: some of each family of bench/families.py, and of automata of
+bench/automata.py, are given to the program `certified`, which tells how their least progress measures are found.
+
+    tests/certified.py CERTIFIED PARSOLVE    prints what it finds; the status is 1 if something is wrong
+
+PARSOLVE makes the games of automata.
+"""
+import io
+import os
+import pathlib
+import subprocess
+import sys
+from concurrent.futures import ProcessPoolExecutor
+
+TOP = pathlib.Path(__file__).resolve().parent.parent
+sys.path.insert(0, str(TOP / "bench"))
+import automata  # noqa: E402
+import families  # noqa: E402
+
+# family and sizes, and perhaps a seed; of automata the states, propositions and sets
+CASES = """
+settled 50000 4
+climb 7 8
+climbers 20 500
+jurdzinski 30 30
+ladder 25000 0
+clique 300 0
+recladder 500 0
+elevator 600 20
+sparse 50000 40
+sparse 50000 1000
+random 50000 1
+random 50000 3
+random 50000 30
+random 20000 20000
+chain 50000 10
+grid 200 6
+wide 50000 200
+hubs 50000 20
+loops 50000 4
+repeats 1000 4
+hard 300 0
+hard 1000 0
+hard 5000 0
+hard 20000 0
+hard 20000 0 2
+priorities 65536 64
+priorities 16384 8192
+steps 9000 0
+spread 50000 20
+two_ladders 80 0
+maze 1280 5
+flat_hub 50000 0
+rising_hub 50000 0
+friedmann 100 0
+memory 1280 0
+budget 200 0
+even 200 0
+automaton 2000 3 2
+automaton 500 4 12
+"""
+FOUND = "measure certified\nsolve certified\n"
+
+
+def automaton_game(parsolve, numbers):
+    """The text of the game of an automaton."""
+    text = io.StringIO()
+    automata.write(text, *numbers)
+    return subprocess.run([parsolve, "game"], input=text.getvalue(), capture_output=True, text=True, check=True, timeout=120).stdout
+
+
+def game_of(parsolve, family, numbers):
+    """The text of a game."""
+    if family == "automaton":
+        return automaton_game(parsolve, numbers)
+    text = io.StringIO()
+    families.write(text, family, *numbers)
+    return text.getvalue()
+
+
+def fault(certified, parsolve, case):
+    """Why the game of a case isn't found as it should be, or None."""
+    family, *numbers = case.split()
+    try:
+        game = game_of(parsolve, family, map(int, numbers))
+        ran = subprocess.run([certified], input=game, capture_output=True, text=True, timeout=120)
+    except (OSError, subprocess.SubprocessError) as why:
+        return str(why)
+    return None if (ran.returncode, ran.stdout) == (0, FOUND) else f"status {ran.returncode}: {ran.stdout!r} {ran.stderr!r}"
+
+
+def untried(cases):
+    """Why the cases aren't all that there should be, or None."""
+    names = set(families.FAMILIES) - {case.split()[0] for case in cases}
+    return f"no case of {' or '.join(sorted(names))}" if names else None
+
+
+def run(certified, parsolve):
+    """Tries every case, as many at once as there are processors; answers how many passed and failed."""
+    cases = CASES.strip().split("\n")
+    with ProcessPoolExecutor(len(os.sched_getaffinity(0))) as pool:
+        faults = list(pool.map(fault, [certified] * len(cases), [parsolve] * len(cases), cases))
+    found = [*zip(cases, faults), ("families", untried(cases))]
+    for name, why in found:
+        if why is not None:
+            print(f"certified: {name}: {why}")
+    failed = sum(why is not None for _, why in found)
+    print(f"certified: {len(found) - failed} passed, {failed} failed")
+    return len(found) - failed, failed
+
+
+if __name__ == "__main__":
+    if len(sys.argv) != 3:
+        sys.exit(__doc__)
+    sys.exit(1 if run(*sys.argv[1:])[1] else 0)

@@ -1,0 +1,363 @@
+#!/usr/bin/env python3
+"""Tries the library for C and Python: its header is that of the sources, the programs of docs/library.md print what the page says, its
+answers are those of the program, and tests/embedding.c finds nothing wrong, with and without the address sanitizer.
+
+    tests/embedding.py [PROGRAM]    prints what it finds; the status is 1 if something is wrong
+"""
+import array
+import os
+import pathlib
+import random
+import re
+import shlex
+import shutil
+import subprocess
+import sys
+import tempfile
+
+import checks as of_program
+import naive
+
+TOP = pathlib.Path(__file__).resolve().parent.parent
+SOURCES, HEADER, MODULE = TOP / "crates/parsolve_c/src", TOP / "bindings/parsolve.h", TOP / "bindings/parsolve.py"
+WARNINGS = ["-Wall", "-Wextra", "-Werror"]
+# what a type of the sources is in C, an argument after the other
+IN_C = {"u32": ["uint32_t"], "usize": ["size_t"], "Global": [], "&Arrays": ["const struct parsolve_game *"],
+        "&mut ParsolveFound": ["struct parsolve_found *"], "&mut u32": ["uint32_t *"], "&mut usize": ["size_t *"],
+        "&[u8]": ["const uint8_t *", "size_t"], "&[u32]": ["const uint32_t *", "size_t"],
+        "&mut [u8]": ["uint8_t *", "size_t"], "&mut [u32]": ["uint32_t *", "size_t"],
+        "&'a [u32]": ["struct parsolve_numbers"], "&'a [u8]": ["struct parsolve_bytes"]}
+STRUCTS = {"parsolve_game": (TOP / "crates/pg_arrays/src/arrays.rt", "Arrays"),
+           "parsolve_found": (SOURCES / "checking.rt", "ParsolveFound")}
+
+
+def all_sources():
+    return "".join(path.read_text() for path in sorted(SOURCES.glob("*.rt")))
+
+
+def header():
+    """The header without its comments."""
+    return re.sub(r"/\*.*?\*/", "", HEADER.read_text(), flags=re.S)
+
+
+# ---- the header
+
+def compared(what, ours, theirs):
+    """(what is compared, why it differs or None)."""
+    return what, None if ours == theirs and ours else f"{ours} in the sources, and {theirs} in the header"
+
+
+def in_c(parameters, suffix):
+    """The parameters of a list of the sources as C has them: (type, name), a slice with the length behind it."""
+    found = []
+    for name, kind in parameters:
+        types = IN_C[kind]
+        found += list(zip(types, [name, name + suffix]))
+    return found
+
+
+def declared(text):
+    """(type, name) of each declarator of C in a list."""
+    return [(" ".join(kind.split()), name) for kind, name in re.findall(r"([\w\s]+?(?:\s\*|\s))(\w+)\s*(?:[,;]|$)", text)]
+
+
+def tidy(found):
+    return [(kind.strip(), name) for kind, name in found]
+
+
+def exports():
+    """(name, parameters, result) of each export, in the sources and in the header."""
+    signature = re.compile(r'pub extern "C" fn (\w+)\((.*?)\) -> (\w+)', re.S)
+    ours = {name: (in_c(re.findall(r"(\w+): ([^,]+),", parameters), "_length"), IN_C[result][0])
+            for name, parameters, result in signature.findall(all_sources())}
+    prototype = re.compile(r"^(\w+) (parsolve_\w+)\(([^)]*)\);", re.M)
+    theirs = {name: (declared(parameters), result) for result, name, parameters in prototype.findall(header())}
+    return ours, theirs
+
+
+def header_checks():
+    """The names, numbers, structs and parameters of the header and of the Python module are those of the sources."""
+    ours = dict(re.findall(r"^pub const (PARSOLVE_\w+): u32 = (\d+);", (SOURCES / "code.rt").read_text(), re.M))
+    theirs = dict(re.findall(r"\b(PARSOLVE_\w+) = (\d+)", header()))
+    yield compared("codes", ours, theirs)
+    no_choice = re.search(r"pub const NO_CHOICE: u32 = ([\d_]+);", (TOP / "crates/pg_arrays/src/solution.rt").read_text())[1]
+    yield compared("NO_CHOICE", int(no_choice), 2**32 - 1 if "PARSOLVE_NO_CHOICE UINT32_MAX" in header() else None)
+    for name, (path, struct) in STRUCTS.items():
+        fields = re.search(rf"pub struct {struct}(?:<'a>)? \{{(.*?)\n\}}", path.read_text(), re.S)[1]
+        shown = re.search(rf"struct {name} \{{(.*?)\}};", header(), re.S)[1]
+        yield compared(f"struct {name}", tidy(in_c(re.findall(r"pub (\w+): ([^,]+),", fields), "")), tidy(declared(shown)))
+    (ours, theirs) = exports()
+    for name in sorted({*ours, *theirs}):
+        mine, other = ours.get(name, ([], "")), theirs.get(name, ([], ""))
+        yield compared(name, (tidy(mine[0]), mine[1]), (tidy(other[0]), other[1]))
+    yield from module_checks(dict(re.findall(r"\b(PARSOLVE_\w+) = (\d+)", header())))
+
+
+def module_checks(codes):
+    """The same of the numbers of the Python module."""
+    module = MODULE.read_text()
+    commands = re.findall(r'"(\w+)"', re.search(r"^COMMANDS = \((.*?)\)", module, re.M)[1])
+    yield compared("COMMANDS", {f"PARSOLVE_COMMAND_{it.upper()}": str(at) for at, it in enumerate(commands)},
+                   {name: number for name, number in codes.items() if name.startswith("PARSOLVE_COMMAND_")})
+    names, numbers = re.search(r"^(OK, .*) = (.*)$", module, re.M).groups()
+    yield compared("codes of the module", dict(zip(names.split(", "), numbers.split(", "))),
+                   {it: codes[f"PARSOLVE_{it}"] for it in names.split(", ")})
+    told = [int(it) for it in re.findall(r'^    (\d+): "', module, re.M)]
+    yield compared("texts of the module", told, list(range(int(codes["PARSOLVE_LENGTHS"]), int(codes["PARSOLVE_CHOICE"]) + 1)))
+
+
+# ---- the folder
+
+def ran(words, **more):
+    """Why a command failed, or None."""
+    done = subprocess.run([str(it) for it in words], stdin=subprocess.DEVNULL, capture_output=True, text=True, timeout=600, **more)
+    return None if done.returncode == 0 else f"status {done.returncode}: {done.stdout}{done.stderr}"
+
+
+def printed(words, **more):
+    done = subprocess.run([str(it) for it in words], stdin=subprocess.DEVNULL, capture_output=True, text=True, timeout=600, **more)
+    return done.stdout if done.returncode == 0 else f"status {done.returncode}: {done.stdout}{done.stderr}"
+
+
+def names_checks(folder):
+    """The exports are the only names that other libraries can meet, and malloc's three the only ones that aren't of memory alone."""
+    wanted = sorted(exports()[1])
+    for file, option in (("libparsolve.a", "-g"), ("libparsolve.so", "-D")):
+        lines = [line.split() for line in printed(["nm", option, folder / "lib" / file]).splitlines()]
+        defined = sorted(it[-1] for it in lines if len(it) == 3)
+        yield f"names of {file}", None if defined == wanted else f"{defined}, and not {wanted}"
+    used = {it[-1] for it in lines if len(it) == 2 and it[0] == "U"}
+    foreign = {it.partition("@")[0] for it in used} - {"malloc", "realloc", "free", "memcpy", "memmove", "memset", "memcmp", "bcmp"}
+    yield "names that it uses", f"{sorted(foreign)}" if foreign else None
+
+
+def blocks():
+    """The programs of docs/library.md in C and Python, and what the page says that they print."""
+    text = (TOP / "docs/library.md").read_text().partition("## From C and Python")[2]
+    return (re.search(rf"^```{language}\n(.*?)^```$", text, re.M | re.S)[1] for language in ("c", "python", "text"))
+
+
+def example_checks(folder, work):
+    """The programs of the page print what it says: in C and in C++, from the archive and from the shared object, and in Python."""
+    in_c_, in_python, wanted = blocks()
+    (work / "example.c").write_text(in_c_)
+    (work / "example.py").write_text(in_python)
+    flags = ["-I", folder / "include", "-L", folder / "lib"]
+    for language, compiler in (("c", ["cc", "-std=c99"]), ("c++", ["c++", "-std=c++11"])):
+        for how, more in (("archive", ["-l:libparsolve.a"]), ("shared", ["-lparsolve", f"-Wl,-rpath,{folder}/lib"])):
+            what, program = f"the example in {language}, {how}", work / f"example-{how}"
+            why = ran([*compiler, *WARNINGS, "-x", language, work / "example.c", *flags, *more, "-o", program])
+            yield what, why or differs(printed([program]), wanted)
+    yield "the example in Python", differs(printed([sys.executable, work / "example.py"], env=with_module(folder)), wanted)
+    yield "the examples of the module", ran([sys.executable, "-m", "doctest", folder / "python/parsolve.py"], env=with_module(folder))
+    if shutil.which("pkg-config"):
+        words = shlex.split(printed(["pkg-config", "--cflags", "--libs", "parsolve"],
+                        env={**os.environ, "PKG_CONFIG_PATH": str(folder / "lib/pkgconfig")}))
+        yield "pkg-config", ran(["cc", work / "example.c", *words, "-o", work / "by-pkg-config"])
+
+
+def differs(output, wanted):
+    return None if output == wanted else f"printed {output!r}, and not {wanted!r}"
+
+
+def with_module(folder):
+    return {**os.environ, "PYTHONPATH": str(folder / "python"), "PYTHONDONTWRITEBYTECODE": "1"}
+
+
+def harness_checks(folder, work):
+    """What tests/embedding.c tries."""
+    wraps = [f"-Wl,--wrap={name}" for name in ("malloc", "realloc", "free")]
+    for how, flags in (("", ["-O1"]), (", sanitized", ["-O1", "-g", "-fsanitize=address"])):
+        program = work / f"harness{len(flags)}"
+        why = ran(["cc", "-std=c11", *WARNINGS, *flags, *wraps, "-I", folder / "include", TOP / "tests/embedding.c",
+                   folder / "lib/libparsolve.a", "-lpthread", "-o", program])
+        for what in ("faults", "memory", "threads"):
+            yield f"{what}{how}", why or ran([program, what])
+
+
+# ---- the same answers as the program
+
+def arrays_of(game):
+    """The arrays of a game whose identifiers are 0 to one less than its length."""
+    return [game[v][0] for v in sorted(game)], [game[v][1] for v in sorted(game)], [game[v][2] for v in sorted(game)]
+
+
+def renumbered(game):
+    """The same game with the identifiers 0, 1, .."""
+    number = {v: at for at, v in enumerate(sorted(game))}
+    return {number[v]: (priority, owner, [number[w] for w in successors]) for v, (priority, owner, successors) in game.items()}
+
+
+def solution_text(winners, strategy):
+    lines = (f"{v} {winner}{'' if choice is None else f' {choice}'};\n" for v, (winner, choice) in enumerate(zip(winners, strategy)))
+    return f"paritysol {len(winners) - 1};\n{''.join(lines)}"
+
+
+def verdict_text(game, verdict):
+    """A verdict of the module, as the program prints it."""
+    words = {"Wins": lambda: "WINS", "Leaves": lambda: f"LEAVES {verdict.source} {verdict.target}",
+             "Cycle": lambda: f"CYCLE {max(game[v][0] for v in verdict.vertices)} {','.join(map(str, verdict.vertices))}"}
+    return words[type(verdict).__name__]() + "\n"
+
+
+def says(program, command, text):
+    """(status, what a command prints, the error stream)."""
+    done = subprocess.run([program, command], input=text, capture_output=True, timeout=600)
+    return done.returncode, done.stdout, done.stderr
+
+
+def answered(parsolve, command, text):
+    """The same of the library."""
+    try:
+        return 0, parsolve.answer(command, text), b""
+    except parsolve.ParsolveError as why:
+        return 1, b"", f"parsolve: {why}\n".encode()
+
+
+def games(dice):
+    """Games of every kind: small ones, larger ones, hard ones, and those of one vertex."""
+    for _ in range(60):
+        yield renumbered(of_program.random_game(dice))
+    for _ in range(20):
+        yield renumbered(of_program.random_game(dice, range(30), 12))
+        yield of_program.hard_game(dice, dice.randint(5, 300))
+    yield {0: (0, 0, [0])}
+    yield {0: (65535, 1, [0, 0])}
+
+
+def spoiled(dice, game, winners, strategy):
+    """The solution, perhaps with another choice or another winner at a vertex, that chooses where it owns the vertex."""
+    winners, strategy, v = list(winners), list(strategy), dice.choice(sorted(game))
+    if dice.randint(0, 3):
+        winners[v] ^= dice.randint(0, 1)
+        strategy[v] = dice.choice(game[v][2]) if winners[v] == game[v][1] else None
+    return winners, strategy
+
+
+def game_why(parsolve, program, dice, game):
+    """Why the library's answers on a game, and on a solution of it, aren't the program's, or None."""
+    priorities, owners, successors = arrays_of(game)
+    made, text = parsolve.Game(priorities, owners, successors), naive.game_text(game)
+    winners, strategy = made.solve()
+    if says(program, "solve", text.encode()) != (0, solution_text(winners, strategy).encode(), b""):
+        return f"solve on {text!r}: {winners} {strategy}"
+    winners, strategy = spoiled(dice, game, winners, strategy)
+    verdict = verdict_text(game, made.check(winners, strategy))
+    both = f"{text}--\n{solution_text(winners, strategy)}"
+    return None if says(program, "check", both.encode()) == (0, verdict.encode(), b"") else f"check on {both!r}: {verdict!r}"
+
+
+def texts():
+    """(command, input) for each command, answers and faults."""
+    examples = {path.name: path.read_bytes() for path in (TOP / "examples").iterdir() if path.suffix in (".pg", ".hoa")}
+    for name, text in sorted(examples.items()):
+        for command in ("measure", "solve") if name.endswith(".pg") else ("game", "synth"):
+            yield command, text
+    game = b"0 2 1 0,1;\n1 1 0 0,1;\n"
+    for command in ("measure", "solve", "check", "replay", "game", "synth"):
+        yield from ((command, text) for text in (b"", b"\n", b"0 0 0 9;\n", game, game + b"--\n", game + b"--\n0 0;\n1 0 1;\n"))
+    yield "replay", game + b"--\nworkers 1;\ncentral 1;\nlift 1 1;\ndeliver 1 0;\n"
+
+
+def same_answers(parsolve, program):
+    """(what is tried, why it failed or None)."""
+    dice = random.Random(4)
+    whys = (game_why(parsolve, program, dice, game) for game in games(dice))
+    yield "the program's solutions and verdicts", next((why for why in whys if why), None)
+    whys = (f"{command} on {text[:80]!r}" for command, text in texts() if says(program, command, text) != answered(parsolve, command, text))
+    yield "the program's texts", next(whys, None)
+    yield from array_checks(parsolve)
+
+
+class Told(array.array):
+    """An array that tells its address as those of NumPy do."""
+
+    @property
+    def __array_interface__(self):
+        return {"data": (self.buffer_info()[0], False)}
+
+
+def kinds_of_arrays():
+    """(kind, how an array of it is made of numbers of 32 or 8 bits)."""
+    yield "array.array", array.array
+    yield "an array that tells its address", Told
+    yield "a view that can't be written", lambda kind, numbers: memoryview(array.array(kind, numbers)).toreadonly()
+    try:
+        import numpy
+    except ImportError:
+        print("embedding: NumPy isn't installed, so its arrays aren't tried")
+    else:
+        yield "NumPy", lambda kind, numbers: numpy.array(numbers, {"I": "u4", "B": "u1"}[kind])
+
+
+def array_checks(parsolve):
+    """Arrays that fit are taken as they are, others are copied, and numbers that don't fit are refused."""
+    numbers = (("I", [2, 1]), ("B", [1, 0]), ("I", [0, 2, 4]), ("I", [0, 1, 0, 1]))
+    for kind, make in kinds_of_arrays():
+        parts = [make(*it) for it in numbers]
+        game = parsolve.Game.of_rows(*parts)
+        is_kept = all(one is other for one, other in zip(parts, (game.priorities, game.owners, game.starts, game.successors)))
+        yield kind, None if is_kept and game.solve() == ([0, 0], [None, 0]) else f"kept: {is_kept}, {game.solve()}"
+    game = parsolve.Game.of_rows(*(array.array("q", it) for _, it in numbers))
+    yield "wider numbers", None if game.solve() == ([0, 0], [None, 0]) else f"{game.solve()}"
+    try:
+        yield "a negative number", f"{parsolve.Game([-1], [0], [[0]])}"
+    except OverflowError:
+        yield "a negative number", None
+    for parts, code, vertex in ((([], [], []), 3, None), (([0, 70000], [0, 0], [[0], [0]]), 6, 1), (([0], [0], [[]]), 9, 0)):
+        try:
+            yield f"code {code}", f"{parsolve.Game(*parts).solve()}"
+        except parsolve.ParsolveError as why:
+            yield f"code {code}", None if (why.code, why.vertex) == (code, vertex) else f"{why.code} {why.vertex}"
+
+
+def imported(folder):
+    """The Python module of the folder."""
+    sys.dont_write_bytecode = True
+    sys.path.insert(0, str(folder / "python"))
+    import parsolve
+    return parsolve
+
+
+# ---- all of it
+
+def why_untried(prove):
+    """Why the library can't be tried without a proof, or None."""
+    if shutil.which("rt") is None:
+        return "rt isn't on the path"
+    said = subprocess.run([TOP / "tools/stale", "parsolve_c"], stdout=subprocess.PIPE, text=True, check=True).stdout.strip()
+    return None if prove else said or None
+
+
+def checks(program):
+    with tempfile.TemporaryDirectory() as made:
+        work, first, folder = pathlib.Path(made), pathlib.Path(made) / "first", pathlib.Path(made) / "a folder"
+        why = ran([TOP / "build", "--library", first])
+        yield "./build --library", why
+        if why is None:
+            first.rename(folder)
+            for part in (names_checks(folder), example_checks(folder, work), harness_checks(folder, work)):
+                yield from part
+            yield from same_answers(imported(folder), program)
+
+
+def run(program, prove=False):
+    """Makes every check, of the header alone where the library isn't built and nothing is to be proved; answers how many passed and
+    failed."""
+    why_not = why_untried(prove)
+    if why_not:
+        print(f"embedding: {why_not}, so the library isn't tried")
+    passed = failed = 0
+    for what, why in [*header_checks(), *([] if why_not else checks(program))]:
+        if why is None:
+            passed += 1
+        else:
+            failed += 1
+            print(f"embedding: {what}: {why}")
+    print(f"embedding: {passed} passed, {failed} failed")
+    return passed, failed
+
+
+if __name__ == "__main__":
+    given = sys.argv[1] if len(sys.argv) > 1 else str(TOP / "crates/parsolve/out/parsolve")
+    sys.exit(1 if run(given, prove=True)[1] else 0)

@@ -1,0 +1,212 @@
+#!/usr/bin/env python3
+"""Checks tools/circuit: runs of circuits, beside automata too, and the binary form.
+
+What is expected was worked out by hand, and for circuits and automata at random it is what a plain reader of circuits does and what
+a look at every pair of steps finds.
+
+    tests/simulating.py [PROGRAM]    prints what it finds; the status is 1 if something is wrong. With a program its circuits are run
+"""
+import itertools
+import pathlib
+import random
+import subprocess
+import sys
+import tempfile
+
+import controllers
+
+TOP = pathlib.Path(__file__).resolve().parent.parent
+
+# the output is the input of the step before, kept in one latch
+DELAY = "aag 2 1 1 1 0\n2\n4 2\n4\ni0 request\no0 grant\n"
+DELAY_BINARY = b"aig 2 1 1 1 0\n2\n4\ni0 request\no0 grant\n"
+HEAD = "step: inputs (request) | outputs (grant)"
+WORD = "request\n\nrequest\nrequest\n"
+DELAYED = f"{HEAD}\n0: request | -\n1: - | grant\n2: request | -\n3: request | grant\n"
+# the grant, and not the request, of the step before: so the run of request-grant.hoa meets set 1 where a request was
+NEGATED = DELAY.replace("4\ni0", "5\ni0")
+REJECTED = HEAD + """ | state {sets}
+0: request | grant | 1 {0}
+1: - | - | 0 {1} | rejecting loop: steps 0 to 1
+2: request | grant | 1 {0} | rejecting loop: steps 1 to 2
+3: request | - | 1 {1} | rejecting loop: steps 3 to 3
+"""
+ENDED = HEAD + """ | state {sets}
+0: request | grant | no edge
+1: - | - | ended
+2: request | grant | ended
+3: request | - | ended
+"""
+# two inputs whose names are odd, and three gates, the last 128 * 2 and more above what it uses
+WIDE = ("aag 133 130 0 2 3\n" + "".join(f"{2 * it}\n" for it in range(1, 131)) + "266\n1\n262 3 2\n264 262 5\n266 6 6\n"
+        + "i0 a b\ni1 t\no0 \u00e9\n")
+WIDE_BINARY = ("aig 133 130 0 2 3\n266\n1\n".encode() + bytes([0x83, 0x02, 1, 2, 0x81, 0x02, 0x84, 0x02, 0])
+               + "i0 a b\ni1 t\no0 \u00e9\n".encode())
+REFUSED = {
+    "UNREALIZABLE\n": "it begins neither with aag nor with aig",
+    "aig 1 0 0 0\n": "line 1 is damaged",
+    "aig 2 1 0 0 0\n": "line 1 is damaged",
+    "aig 4000000000 4000000000 0 0 0\n": "line 1 is damaged",
+    "aag 4000000000 4000000000 0 0 0\n": "it ends too early",
+    "aag 1 1 0 1 0\n" + "1" * 5000 + "\n2\n": "line 2 is damaged",
+    "aig 1 0 1 0 0\n": "it ends too early",
+    "aig 1 0 1 0 0\n2 0\n": "line 2 is damaged",
+    "aig 1 0 0 0 1\n\1": "it ends too early",
+    "aig 1 0 0 0 1\n\0\0": "a literal isn't of a variable before it",
+    "aig 1 0 0 0 1\n\1\2": "a literal isn't of a variable before it",
+    "aag 1 1 0 1\n": "line 1 is damaged",
+    "aag 1 1 0 1 0\n2\n": "line 3 is damaged",
+    "aag 1 1 0 1 0\n2": "it ends too early",
+    "aag 1 1 0 1 0\n4\n2\n": "its variables aren't in the order in which synth prints them",
+    "aag 2 1 0 1 0\n2\n2\n": "its variables aren't in the order in which synth prints them",
+    "aag 1 1 0 1 0\n2\n4\n": "a literal isn't of a variable before it",
+    "aag 2 1 0 1 1\n2\n4\n4 2 3\n": "a literal isn't of a variable before it",
+    "aag 2 1 0 1 1\n2\n4\n4 5 3\n": "a literal isn't of a variable before it",
+}
+
+
+def used(command, circuit, letters="", automaton=None):
+    """(status, output, error stream) of the tool on a circuit, and an automaton; the circuit and the automaton are files."""
+    with tempfile.TemporaryDirectory() as folder:
+        pathlib.Path(folder, "circuit").write_bytes(circuit if isinstance(circuit, bytes) else circuit.encode())
+        words = [command, "circuit"]
+        if automaton is not None:
+            pathlib.Path(folder, "automaton").write_text(automaton)
+            words += ["--automaton", "automaton"]
+        ran = subprocess.run([sys.executable, TOP / "tools/circuit", *words], cwd=folder, input=letters.encode(), capture_output=True,
+                             timeout=60)
+    return ran.returncode, ran.stdout, ran.stderr.decode()
+
+
+def simulated(*words):
+    status, output, told = used("simulate", *words)
+    return status, output.decode(), told
+
+
+def example(name):
+    return (TOP / f"examples/{name}.hoa").read_text()
+
+
+def by_hand():
+    """(what is checked, what came out, what has to) for each run and form by hand."""
+    yield "a run", simulated(DELAY, WORD), (0, DELAYED, "")
+    yield "behind REALIZABLE", simulated("REALIZABLE\n" + DELAY, WORD), (0, DELAYED, "")
+    yield "a rejecting loop", simulated(NEGATED, WORD, example("request-grant")), (0, REJECTED, "")
+    yield "a form that only tools/hoa reads", simulated(NEGATED, WORD, example("spot-implicit")), (0, REJECTED, "")
+    yield "a run that ends", simulated(NEGATED, WORD, example("delay")), (0, ENDED, "")
+    yield "names", simulated(WIDE, "'a b' t\nt\n")[1].split("\n")[1:], ["0: 'a b' t | o1", "1: t | o1", ""]
+    for text, form in ((DELAY, DELAY_BINARY), (WIDE, WIDE_BINARY)):
+        for given in (text, form):
+            yield "binary", used("binary", given), (0, form, "")
+            yield "ascii", used("ascii", given), (0, text.encode(), "")
+    yield "a run of the binary form", simulated(DELAY_BINARY, WORD), (0, DELAYED, "")
+    yield "comments", used("ascii", DELAY_BINARY + b"l0 kept\nc\nby hand\no0 other\n")[1], DELAY.encode() + b"l0 kept\n"
+
+
+def refusals():
+    """The same for what is refused."""
+    for text, told in REFUSED.items():
+        for command in ("simulate", "binary", "ascii"):
+            yield text, used(command, text), (1, b"", f"circuit: circuit: {told}\n")
+    yield ("an unknown name", simulated(DELAY, "\ngrant\n"),
+           (1, f"{HEAD}\n0: - | -\n", "circuit: standard input: line 2: no input is named grant; there are: request\n"))
+    yield "a quote", simulated(DELAY, "'\n")[2], "circuit: standard input: line 1: a quote doesn't end\n"
+    yield ("another automaton", simulated(DELAY, WORD, example("hoa-example"))[::2],
+           (1, "circuit: automaton: proposition a is neither an input nor an output of the circuit\n"))
+    for words in ([], ["run"], ["simulate"], ["simulate", "-"]):
+        yield words, subprocess.run([sys.executable, TOP / "tools/circuit", *words], capture_output=True, timeout=60).returncode, 2
+
+
+def random_circuit(dice, names, own):
+    """The text of a circuit with these inputs and outputs."""
+    inputs, outputs = ([name for name, is_own in zip(names, own) if is_own == side] for side in (False, True))
+    latches, gates = dice.randint(0, 2), dice.randint(0, 4)
+    first, greatest = len(inputs) + latches, len(inputs) + latches + gates
+    lines = [f"aag {greatest} {len(inputs)} {latches} {len(outputs)} {gates}"]
+    lines += [str(2 * it) for it in range(1, len(inputs) + 1)]
+    lines += [f"{2 * it} {dice.randint(0, 2 * greatest + 1)}" for it in range(len(inputs) + 1, first + 1)]
+    lines += [str(dice.randint(0, 2 * greatest + 1)) for _ in outputs]
+    for gate in range(first + 1, greatest + 1):
+        lesser, greater = sorted(dice.randint(0, 2 * gate - 1) for _ in range(2))
+        lines.append(f"{2 * gate} {greater} {lesser}")
+    lines += [f"i{place} {name}" for place, name in enumerate(inputs)] + [f"o{place} {name}" for place, name in enumerate(outputs)]
+    return "\n".join(lines) + "\n"
+
+
+def lines_of(a, text, letters):
+    """The lines that have to be written for a circuit beside an automaton: loops are found by a look at every pair of steps."""
+    circuit, bits, state, met, places, lines = controllers.Circuit(text), 0, 0, [], [(0, 0)], []
+    names = [f"p{place}" for place in range(len(a.controllable))]
+
+    def held(letter, own):
+        chosen = [name for name, is_own in zip(names, a.controllable) if is_own == own]
+        return " ".join(name for place, name in enumerate(chosen) if letter >> place & 1) or "-"
+
+    for number, letter in enumerate(letters):
+        outputs, bits = circuit.step(bits, letter)
+        told = "ended"
+        if state is not None:
+            state, sets = a.steps.get((state, controllers.joined(a.controllable, letter, outputs)), (None, None))
+            told = "no edge"
+        if state is not None:
+            met.append(set(sets))
+            places.append((bits, state))
+            told = f"{state} {{{' '.join(map(str, sets))}}}"
+            loops = [first for first in range(number + 1) if places[first] == places[-1]
+                     and not controllers.holds(controllers.condition(a.shape, a.sets), set().union(*met[first:]))]
+            told += f" | rejecting loop: steps {loops[-1]} to {number}" if loops else ""
+        lines.append(f"{number}: {held(letter, False)} | {held(outputs, True)} | {told}")
+    return lines
+
+
+def at_random():
+    """The same for circuits and automata at random."""
+    dice = random.Random(1)
+    for number in range(60):
+        a = controllers.random_automaton(dice)
+        names = [f"p{place}" for place in range(len(a.controllable))]
+        text = random_circuit(dice, names, a.controllable)
+        inputs = [name for name, own in zip(names, a.controllable) if not own]
+        letters = [dice.randrange(2 ** len(inputs)) for _ in range(12)]
+        word = "".join(" ".join(name for place, name in enumerate(inputs) if letter >> place & 1) + "\n" for letter in letters)
+        status, output, told = simulated(text, word, controllers.automaton_text(a))
+        yield f"at random {number}", (status, output.splitlines()[1:], told), (0, lines_of(a, text, letters), "")
+
+
+def printed(program):
+    """The same for circuits that a program prints: no run is rejected, and none ends."""
+    for name in ("request-grant", "delay", "owl-arbiter"):
+        ran = subprocess.run([program, "synth"], input=example(name).encode(), capture_output=True, timeout=60)
+        circuit, dice = ran.stdout.decode(), random.Random(1)
+        word = "".join(dice.choice(["request\n", "\n"]) for _ in range(200))
+        status, output, _ = simulated(circuit, word, example(name))
+        bad = [line for line in output.splitlines() if "rejecting" in line or "no edge" in line]
+        yield name, (status, len(output.splitlines()), bad), (0, 201, [])
+
+
+def counted(checks):
+    """How many of the checks passed and failed."""
+    passed = failed = 0
+    for what, found, wanted in checks:
+        if found == wanted:
+            passed += 1
+        else:
+            failed += 1
+            print(f"simulating: {what}: {found!r}, and not {wanted!r}")
+    print(f"simulating: {passed} passed, {failed} failed")
+    return passed, failed
+
+
+def run():
+    """Makes every check that needs no program; answers how many passed and failed."""
+    return counted(itertools.chain(by_hand(), refusals(), at_random()))
+
+
+def run_with(program):
+    """The same for those that need one."""
+    return counted(printed(program))
+
+
+if __name__ == "__main__":
+    bad = run()[1] + (run_with(sys.argv[1])[1] if len(sys.argv) > 1 else 0)
+    sys.exit(1 if bad else 0)

@@ -1,0 +1,94 @@
+"""What the tools have in common: faults, the tokens of a text, inputs that are read and answers that are written."""
+import re
+import sys
+
+LONGEST_INPUT, GREATEST_NUMBER = 268435456, 4294967295
+AUTOMATON_BLANKS, COMMENT_MARK = re.compile(rb"[\t\n\r ]*"), re.compile(rb"/\*|\*/")
+
+
+class Fault(Exception):
+    """What is wrong, in the words that are told."""
+
+
+class Tokens:
+    """The tokens of a text, one after another: the kind, bytes, number and place of the next one."""
+
+    def __init__(self, text, pattern, skip):
+        self.text, self.pattern, self.skip, self.behind = text, pattern, skip, 0
+        self.go_on()
+
+    def go_on(self):
+        """Goes past the next token."""
+        self.place = self.skip(self.text, self.behind)
+        found = self.pattern.match(self.text, self.place)
+        self.kind = found.lastgroup if found else "end" if self.place == len(self.text) else "unknown"
+        self.bytes = found[0] if found else b""
+        self.behind = self.place + len(self.bytes)
+        if self.kind == "number":
+            self.number = int(self.bytes.lstrip(b"0")[:11] or b"0")
+            if self.number > GREATEST_NUMBER:
+                raise Fault(f"number too large at byte {self.place}")
+
+    def take(self, kind, *words):
+        """Goes past a token of the kind, one of the words if there are any; answers its number or bytes."""
+        if self.kind != kind or (words and self.bytes not in words):
+            raise Fault(f"syntax error at byte {self.place}")
+        taken = self.number if kind == "number" else self.bytes
+        self.go_on()
+        return taken
+
+    def take_below(self, limit):
+        """The same for a number that has to be below the limit."""
+        if self.kind == "number" and self.number >= limit:
+            raise Fault(f"number out of range at byte {self.place}")
+        return self.take("number")
+
+
+def skip_comments(text, place):
+    """The place behind white space and comments of an automaton; comments nest."""
+    place, depth = AUTOMATON_BLANKS.match(text, place).end(), 0
+    while depth or text.startswith(b"/*", place):
+        mark = COMMENT_MARK.search(text, place)
+        if not mark:
+            raise Fault(f"syntax error at byte {begin}")
+        begin = begin if depth else place
+        depth += 1 if mark[0] == b"/*" else -1
+        place = mark.end() if depth else AUTOMATON_BLANKS.match(text, mark.end()).end()
+    return place
+
+
+def content_of(string):
+    """The bytes that a string of an automaton stands for."""
+    return re.sub(rb"\\(.)", rb"\1", string[1:-1], flags=re.S)
+
+
+def read_input(path):
+    """The bytes of a file, or of standard input."""
+    try:
+        with open(0 if path == "-" else path, "rb", closefd=path != "-") as file:
+            text = file.read(LONGEST_INPUT + 1)
+    except OSError as error:
+        raise Fault(error.strerror)
+    if len(text) > LONGEST_INPUT:
+        raise Fault(f"more than {LONGEST_INPUT} bytes")
+    return text
+
+
+def of(path, read, *words):
+    """What `read` answers; a fault is told with the name of the input."""
+    try:
+        return read(*words)
+    except Fault as fault:
+        raise Fault(f"{'standard input' if path == '-' else path}: {fault}")
+
+
+def run(name, answer):
+    """Writes the bytes that are answered, and tells a fault in one line."""
+    try:
+        written = answer()
+        with open(1, "wb", closefd=False) as output:
+            output.write(written)
+    except Fault as fault:
+        sys.exit(f"{name}: {fault}")
+    except OSError:
+        sys.exit(f"{name}: cannot write the output")
