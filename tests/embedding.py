@@ -108,15 +108,24 @@ def module_checks(codes):
 
 # ---- the folder
 
+def done(words, timeout=600, **more):
+    """(why a command failed or None, what it printed)."""
+    try:
+        ran = subprocess.run([str(it) for it in words], stdin=subprocess.DEVNULL, capture_output=True, text=True, timeout=timeout, **more)
+    except subprocess.TimeoutExpired as why:
+        return str(why), ""
+    return None if ran.returncode == 0 else f"status {ran.returncode}: {ran.stdout}{ran.stderr}", ran.stdout
+
+
 def ran(words, **more):
     """Why a command failed, or None."""
-    done = subprocess.run([str(it) for it in words], stdin=subprocess.DEVNULL, capture_output=True, text=True, timeout=600, **more)
-    return None if done.returncode == 0 else f"status {done.returncode}: {done.stdout}{done.stderr}"
+    return done(words, **more)[0]
 
 
 def printed(words, **more):
-    done = subprocess.run([str(it) for it in words], stdin=subprocess.DEVNULL, capture_output=True, text=True, timeout=600, **more)
-    return done.stdout if done.returncode == 0 else f"status {done.returncode}: {done.stdout}{done.stderr}"
+    """What a command printed, or why it failed."""
+    why, output = done(words, **more)
+    return why or output
 
 
 def names_checks(folder):
@@ -332,7 +341,7 @@ def why_untried(prove):
 def checks(program):
     with tempfile.TemporaryDirectory() as made:
         work, first, folder = pathlib.Path(made), pathlib.Path(made) / "first", pathlib.Path(made) / "a folder"
-        why = ran([TOP / "build", "--library", first])
+        why = ran([TOP / "build", "--library", first], timeout=7200)
         yield "./build --library", why
         if why is None:
             first.rename(folder)

@@ -1,6 +1,7 @@
 #!/usr/bin/env python3
-"""Takes the program of docs/library.md into a fresh folder beside the crates that it stands on, has `rt` prove and run it, and sees
-that its wrong body is refused. Where the toolchain's `rt` is missing nothing is checked.
+"""Takes the program of docs/library.md into a fresh repository beside the crates that it stands on, and has a gate there prove and run it,
+and refuse its wrong body. What a gate proved on this machine of the same files isn't proved again. Where the toolchain's `rt` is missing
+nothing is checked.
 
     tests/library.py    prints what it finds; the status is 1 if something is wrong
 """
@@ -53,28 +54,28 @@ def copy_crates(folder, names):
 
 
 def lay_out(folder, line, source):
-    """A repository of the program and the crates that it stands on; answers the program's folder."""
+    """A repository of the program and the crates that it stands on, with what the program prints and its wrong body as a must-fail edit."""
     name, _, below = line.partition(":")
     copy_crates(folder, below.split())
     with open(folder / "crates.txt", "a") as listed:
         listed.write(line + "\n")
-    (folder / "HANDLES").write_text("Handles allowed: none.\n")
-    (folder / "crates" / name / "src").mkdir(parents=True)
-    (folder / "crates" / name / "src/main.rt").write_text(source)
-    return folder / "crates" / name
+    crate = folder / "crates" / name
+    (crate / "src").mkdir(parents=True)
+    (crate / "must-fail").mkdir()
+    (crate / "src/main.rt").write_text(source)
+    (crate / "stdout").write_text("sound\n")
+    (crate / "must-fail/exchanged.edit").write_text(f"file: src/main.rt\nold: {RIGHT}\nnew: {WRONG}\n")
 
 
 def checks():
     """(what is checked, why it failed or None)."""
     line, source = program()
     with tempfile.TemporaryDirectory() as made:
-        crate = lay_out(pathlib.Path(made), line, source)
-        ran = subprocess.run(["rt", "run"], cwd=crate, stdin=subprocess.DEVNULL, capture_output=True, text=True)
-        yield "the program", None if (ran.returncode, ran.stdout) == (0, "sound\n") else f"{ran.stdout}{ran.stderr}"
-        (crate / "src/main.rt").write_text(source.replace(RIGHT, WRONG))
-        ran = subprocess.run(["rt", "check"], cwd=crate, stdin=subprocess.DEVNULL, capture_output=True, text=True)
-        is_refused = RIGHT in source and ran.returncode == 1 and "strategies-requires-clause-closed" in ran.stdout + ran.stderr
-        yield "its wrong body", None if is_refused else f"status {ran.returncode}: {ran.stdout}{ran.stderr}"
+        lay_out(pathlib.Path(made), line, source)
+        ran = subprocess.run(["rt", "ci"], cwd=made, stdin=subprocess.DEVNULL, stdout=subprocess.PIPE, stderr=subprocess.STDOUT, text=True)
+        yield "the program", None if ran.returncode == 0 else f"status {ran.returncode}: {ran.stdout}"
+        is_refused = re.search(r"must-fail judge/exchanged.edit: refused.*strategies-requires-clause-closed", ran.stdout)
+        yield "its wrong body", None if is_refused else ran.stdout
 
 
 def run():
