@@ -1,6 +1,6 @@
 use Rattle.std.specs.Prelude.{◌≡◌, All}
 use Rattle.pg_command.specs.Measuring.{IsClosedMapOf, IsMeasureOf}
-use Rattle.pg_command.proofs.Found.{answers_too, refusals_too}
+use Rattle.pg_command.proofs.MapKinds.{known_too}
 use Rattle.pg_cli.specs.Mirrors.Finding.{IsFoundIf}
 use Rattle.pg_cli.specs.Linked.{IsLeastOverTold}
 use Rattle.pg_cli.specs.declared.over_links.Rounds.TheVariants.{Any}
@@ -10,26 +10,14 @@ use Rattle.pg_cli.proofs.program.run_over.Goals as goal
 pub returns-clause-answer : goal.returns-clause-answer
 returns-clause-answer g c =
     let honest = All g.L.Link.is_honest c.args.links.now in
-    answers_too (IsFoundIf honest) IsClosedMapOf (found_closed honest) c.args.command (g.R.Read.remaining c.args.reader.now)
+    known_too (IsFoundIf honest) IsClosedMapOf (found_closed honest) c.args.command (g.R.Read.remaining c.args.reader.now)
     (g.W.Write.contents c.args.writer.now) (g.W.Write.contents c.run_by.new.writer) c.run_by.result c.run_by.ensures.answer
 
-pub returns-clause-refused : goal.returns-clause-refused
-returns-clause-refused g c =
+pub returns-clause-honest : goal.returns-clause-honest
+returns-clause-honest g c = λ are.
     let honest = All g.L.Link.is_honest c.args.links.now in
-    refusals_too (IsFoundIf honest) IsClosedMapOf (found_closed honest) c.args.command (g.R.Read.remaining c.args.reader.now) c.run_by.result
-    c.run_by.ensures.refused
-
-pub returns-clause-honest_answer : goal.returns-clause-honest_answer
-returns-clause-honest_answer g c = λ are.
-    let honest = All g.L.Link.is_honest c.args.links.now in
-    answers_too (IsFoundIf honest) IsMeasureOf (found_least honest are) c.args.command (g.R.Read.remaining c.args.reader.now)
+    known_too (IsFoundIf honest) IsMeasureOf (found_least honest are) c.args.command (g.R.Read.remaining c.args.reader.now)
     (g.W.Write.contents c.args.writer.now) (g.W.Write.contents c.run_by.new.writer) c.run_by.result c.run_by.ensures.answer
-
-pub returns-clause-honest_refused : goal.returns-clause-honest_refused
-returns-clause-honest_refused g c = λ are.
-    let honest = All g.L.Link.is_honest c.args.links.now in
-    refusals_too (IsFoundIf honest) IsMeasureOf (found_least honest are) c.args.command (g.R.Read.remaining c.args.reader.now) c.run_by.result
-    c.run_by.ensures.refused
 
 pub returns-clause-told : goal.returns-clause-told
 returns-clause-told g c = λ workers is any.
