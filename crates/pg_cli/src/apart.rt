@@ -1,7 +1,6 @@
 //! Commands whose games are solved by programs.
 
-ghost use Rattle.std.specs.Prelude.{◌≡◌, ◌≢◌, ◌+◌, ◌<◌, ◌≤◌, ◌⊎◌, ℕ, List, length, IfOk, OnOk, IfSome, IfErr};
-ghost use Rattle.std.specs.Io.KnownBytes.{Appends};
+ghost use Rattle.std.specs.Prelude.{◌≡◌, ◌≢◌, ◌+◌, ◌<◌, ◌≤◌, ◌⊎◌, length, IfOk, IfSome, IfErr};
 ghost use Rattle.pg_command.specs.Input.{StaysWithin};
 ghost use Rattle.pg_command.specs.Measuring.{IsClosedMapOf, IsMeasureOf};
 ghost use Rattle.pg_command.specs.Answers.{Answers, PrintsBy, RefusesBy};

@@ -1,6 +1,6 @@
 //! The command `game`.
 
-ghost use Rattle.std.specs.Prelude.{◌≡◌, ℕ, List, IfOk, IfErr};
+ghost use Rattle.std.specs.Prelude.{◌≡◌, IfOk, IfErr};
 ghost use Rattle.pg_text.specs.GameLayout.{game_text};
 ghost use Rattle.pg_command.specs.Making.{IsMade, RefusesGame};
 ghost use Rattle.pg_command.specs.Mirrors.Working.{ShowsWhat, Fails};

@@ -1,6 +1,6 @@
 //! The command `measure`.
 
-ghost use Rattle.std.specs.Prelude.{◌≡◌, ℕ, List, length, All, IfOk, IfErr, OnOk};
+ghost use Rattle.std.specs.Prelude.{◌≡◌, length, IfOk, IfErr, OnOk};
 ghost use Rattle.std.specs.Io.KnownBytes.{Appends};
 ghost use Rattle.pg_command.specs.Measuring.{IsMeasured, RefusesMeasure, measures_text};
 ghost use Rattle.pg_command.specs.Mirrors.Working.{ShowsWhat, Fails};

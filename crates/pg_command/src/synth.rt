@@ -1,6 +1,6 @@
 //! The command `synth`.
 
-ghost use Rattle.std.specs.Prelude.{◌≡◌, ℕ, List, All, Some, IfOk, IfErr, OnOk};
+ghost use Rattle.std.specs.Prelude.{◌≡◌, Some, IfOk, IfErr, OnOk};
 ghost use Rattle.std.specs.Io.KnownBytes.{Appends};
 ghost use Rattle.pg_command.specs.Synthesising.{IsSynthesised, RefusesSynth};
 ghost use Rattle.pg_command.specs.Mirrors.Synthesised.{Fits, outcome_text};
