@@ -13,8 +13,8 @@ use crate::code::{
     PARSOLVE_OK, PARSOLVE_OUT_OF_MEMORY, PARSOLVE_TOO_SHORT,
 };
 use crate::copying::copy_bytes;
-use crate::one_piece::InOnePiece;
 use pg_command::{CliFault, Command, MOST_BYTES, answer, write_fault};
+use pg_one_piece::InOnePiece;
 use std::alloc::{AllocError, Global};
 
 /// The command of a number.

@@ -6,7 +6,6 @@ mod answering;
 mod checking;
 mod code;
 mod copying;
-mod one_piece;
 mod solving;
 
 pub use answering::parsolve_answer;

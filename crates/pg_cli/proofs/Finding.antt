@@ -8,9 +8,9 @@ use Rattle.pg_map.specs.Lines.{game_line}
 use Rattle.pg_map.specs.Maps.{MapValue}
 use Rattle.pg_parts.specs.Cuts.{CutValue, IsEvenCut}
 use Rattle.pg_rounds.specs.Told.{Reply, TellReplies, IsLeastOverReplies}
-use Rattle.pg_command.specs.Measuring.{Finding, IsClosedMapOf, IsMeasureOf, IsMeasured}
+use Rattle.pg_command.specs.Measuring.{MapKind, IsClosedMapOf, IsMeasureOf, IsMeasured}
 use Rattle.pg_command.specs.declared.fault.CliFault.{CliFault}
-use Rattle.pg_command.proofs.Found.{measured_too}
+use Rattle.pg_command.proofs.MapKinds.{measured_too}
 use Rattle.pg_cli.specs.Linked.{IsLeastOverTold}
 use Rattle.pg_cli.specs.Mirrors.Finding.{IsFoundIf}
 
@@ -53,10 +53,10 @@ over_told told links game map cut rounds closed even some least = record {
 }
 
 -- what is measured by maps of one kind is so by those of another, if each is of that kind
-pub told_too : (Found Other : Finding) → ((game : List GameVertex) (map : MapValue) → Found game map → Other game map) → (known old new : Option (List ℕ))
+pub told_too : (Kind Other : MapKind) → ((game : List GameVertex) (map : MapValue) → Kind game map → Other game map) → (known old new : Option (List ℕ))
     (result : Result (Unit {0}) CliFault)
-    → OnOk result (IfSome known (λ input. (output : List ℕ) × IsMeasured Found input output × Appends old new output))
+    → OnOk result (IfSome known (λ input. (output : List ℕ) × IsMeasured Kind input output × Appends old new output))
     → OnOk result (IfSome known (λ input. (output : List ℕ) × IsMeasured Other input output × Appends old new output))
-told_too Found Other is_other known old new (Err fault) a = tt
-told_too Found Other is_other None old new (Ok x) a = tt
-told_too Found Other is_other (Some input) old new (Ok x) a = (a.0, measured_too Found Other is_other input a.0 a.1, a.2)
+told_too Kind Other is_other known old new (Err fault) a = tt
+told_too Kind Other is_other None old new (Ok x) a = tt
+told_too Kind Other is_other (Some input) old new (Ok x) a = (a.0, measured_too Kind Other is_other input a.0 a.1, a.2)

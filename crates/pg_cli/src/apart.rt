@@ -1,10 +1,9 @@
 //! Commands whose games are solved by programs.
 
-ghost use Rattle.std.specs.Prelude.{◌≡◌, ◌≢◌, ◌+◌, ◌<◌, ◌≤◌, ◌⊎◌, ℕ, List, length, IfOk, OnOk, IfSome, IfErr};
-ghost use Rattle.std.specs.Io.KnownBytes.{Appends};
+ghost use Rattle.std.specs.Prelude.{◌≡◌, ◌≢◌, ◌+◌, ◌<◌, ◌≤◌, ◌⊎◌, length, IfOk, IfSome, IfErr};
 ghost use Rattle.pg_command.specs.Input.{StaysWithin};
-ghost use Rattle.pg_command.specs.Measuring.{IsClosedMapOf};
-ghost use Rattle.pg_command.specs.Answers.{PrintsBy, RefusesBy, Prints, Refuses};
+ghost use Rattle.pg_command.specs.Measuring.{IsClosedMapOf, IsMeasureOf};
+ghost use Rattle.pg_command.specs.Answers.{Answers, PrintsBy, RefusesBy};
 ghost use Rattle.pg_words.specs.Words.{HasFewWorkers, HasNoWorkers};
 
 use crate::over_links::Rounds;
@@ -90,12 +89,9 @@ impl<R: Reach> Programs<R> {
         writer: &mut W,
     ) -> Result<(), CliFault>
         requires { length text.items ≤ MOST_BYTES }
-        ensures answer { OnOk result ((output : List ℕ) × PrintsBy IsClosedMapOf command text.items output
-            × Appends (W.contents writer.old) (W.contents writer.new) output) }
-        ensures refused { IfErr result (RefusesBy IsClosedMapOf command text.items) }
-        ensures alone_answer { length self.links.items ≡ 0 → OnOk result ((output : List ℕ)
-            × Prints command text.items output × Appends (W.contents writer.old) (W.contents writer.new) output) }
-        ensures alone_refused { length self.links.items ≡ 0 → IfErr result (Refuses command text.items) }
+        ensures answer { Answers IsClosedMapOf command text.items (W.contents writer.old) (W.contents writer.new) result }
+        ensures alone { length self.links.items ≡ 0
+            → Answers IsMeasureOf command text.items (W.contents writer.old) (W.contents writer.new) result }
         ensures unread { result ≢ Err CliFault.Read }
         ensures untouched { IfErr result (λ fault. fault ≢ CliFault.Write → writer.new ≡ writer.old) }
     {
@@ -142,16 +138,10 @@ pub fn run_apart<S: Reach, R: Read, W: Write>(
     writer: &mut W,
 ) -> Result<(), CliFault>
     requires { HasFewWorkers command }
-    ensures answer { OnOk result (IfSome (R.remaining reader.old) (λ input.
-        (output : List ℕ) × PrintsBy IsClosedMapOf command input output
-        × Appends (W.contents writer.old) (W.contents writer.new) output)) }
-    ensures refused { IfErr result (λ fault. (fault ≡ CliFault.Listen)
-        ⊎ IfSome (R.remaining reader.old) (λ input. RefusesBy IsClosedMapOf command input fault)) }
-    ensures alone_answer { HasNoWorkers command → OnOk result (IfSome (R.remaining reader.old) (λ input.
-        (output : List ℕ) × Prints command input output
-        × Appends (W.contents writer.old) (W.contents writer.new) output)) }
-    ensures alone_refused { HasNoWorkers command → IfErr result (λ fault. IfSome (R.remaining reader.old)
-        (λ input. Refuses command input fault)) }
+    ensures answer { (result ≡ Err CliFault.Listen) ⊎ IfSome (R.remaining reader.old) (λ input.
+        Answers IsClosedMapOf command input (W.contents writer.old) (W.contents writer.new) result) }
+    ensures alone { HasNoWorkers command → IfSome (R.remaining reader.old) (λ input.
+        Answers IsMeasureOf command input (W.contents writer.old) (W.contents writer.new) result) }
     // Whatever comes of it, no byte behind the first one over the limit is read.
     ensures no_further { StaysWithin (R.remaining reader.old) (R.remaining reader.new) (MOST_BYTES + 1) }
     ensures untouched { IfErr result (λ fault. fault ≢ CliFault.Write → writer.new ≡ writer.old) }

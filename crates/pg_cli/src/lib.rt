@@ -3,7 +3,6 @@
 
 mod apart;
 mod attended;
-mod one_piece;
 mod over_links;
 mod program;
 mod working;

@@ -6,11 +6,11 @@ ghost use Rattle.pg_parts.specs.Cuts.{IsEvenCut};
 ghost use Rattle.pg_cli.specs.Linked.{IsLeastOverTold};
 ghost use Rattle.pg_cli.specs.Mirrors.Finding.{IsFoundIf};
 
-use crate::one_piece::InOnePiece;
 use pg_arena::{Game, dual};
 use pg_command::{Finder, Maps};
 use pg_coord::{Link, solve, solve_within};
 use pg_map::MeasureMap;
+use pg_one_piece::InOnePiece;
 use pg_solver::Found;
 use pg_worker::Cut;
 use std::alloc::{AllocError, Global};

@@ -3,14 +3,14 @@
 ghost use Rattle.std.specs.Prelude.{◌≡◌, ◌≢◌, ◌+◌, ◌≤◌, ℕ, List, length, All, IfOk, OnOk, IfSome, IsNone, IfErr};
 ghost use Rattle.std.specs.Io.KnownBytes.{Appends};
 ghost use Rattle.pg_command.specs.Input.{StaysWithin};
-ghost use Rattle.pg_command.specs.Measuring.{IsClosedMapOf, IsMeasured};
-ghost use Rattle.pg_command.specs.Answers.{PrintsBy, RefusesBy, Prints, Refuses};
+ghost use Rattle.pg_command.specs.Measuring.{IsClosedMapOf, IsMeasureOf, IsMeasured};
+ghost use Rattle.pg_command.specs.Answers.{Answers, Prints, Refuses};
 ghost use Rattle.pg_words.specs.Commands.{workers_of};
 ghost use Rattle.pg_cli.specs.Linked.{IsLeastOverTold};
 ghost use Rattle.pg_words.specs.Words.{HasFewWorkers};
 
 use crate::over_links::{OverLinks, Rounds};
-use pg_command::{CliFault, Command, MOST_BYTES, run_by};
+use pg_command::{CliFault, Command, MOST_BYTES, read_input, run_by};
 use pg_coord::{Link, MemoryLink};
 use std::alloc::{AllocError, Global};
 use std::io::{Read, Write};
@@ -50,17 +50,14 @@ pub fn run<R: Read, W: Write>(
     writer: &mut W,
 ) -> Result<(), CliFault>
     requires { HasFewWorkers command }
-    ensures answer { OnOk result (IfSome (R.remaining reader.old) (λ input.
-        (output : List ℕ) × Prints command input output
-        × Appends (W.contents writer.old) (W.contents writer.new) output)) }
-    ensures refused { IfErr result (λ fault. IfSome (R.remaining reader.old) (λ input. Refuses command input fault)) }
+    ensures answer { IfSome (R.remaining reader.old) (λ input.
+        Answers IsMeasureOf command input (W.contents writer.old) (W.contents writer.new) result) }
     // Whatever comes of it, no byte behind the first one over the limit is read.
     ensures no_further { StaysWithin (R.remaining reader.old) (R.remaining reader.new) (MOST_BYTES + 1) }
     ensures untouched { IfErr result (λ fault. fault ≢ CliFault.Write → writer.new ≡ writer.old) }
 {
-    let mut links = memory_links(alloc, command.workers().unwrap_or(0))?;
-    let workers = links.as_mut_slice();
-    run_over(alloc, command, workers, Rounds::Few, reader, writer)
+    let text = read_input(alloc, reader)?;
+    write_answer(alloc, command, text, writer)
 }
 
 /// Writes the answer to a text, and nothing else: what `run` does once it has read its input. Refuses what `run` does from
@@ -73,9 +70,7 @@ pub fn write_answer<W: Write>(
 ) -> Result<(), CliFault>
     requires few { HasFewWorkers command }
     requires limit { length text.items ≤ MOST_BYTES }
-    ensures answer { OnOk result ((output : List ℕ) × Prints command text.items output
-        × Appends (W.contents writer.old) (W.contents writer.new) output) }
-    ensures refused { IfErr result (Refuses command text.items) }
+    ensures answer { Answers IsMeasureOf command text.items (W.contents writer.old) (W.contents writer.new) result }
     ensures unread { result ≢ Err CliFault.Read }
     ensures untouched { IfErr result (λ fault. fault ≢ CliFault.Write → writer.new ≡ writer.old) }
 {
@@ -112,12 +107,9 @@ pub(crate) fn answer_over<L: Link, W: Write>(
     writer: &mut W,
 ) -> Result<(), CliFault>
     requires limit { length text.items ≤ MOST_BYTES }
-    ensures answer { OnOk result ((output : List ℕ) × PrintsBy IsClosedMapOf command text.items output
-        × Appends (W.contents writer.old) (W.contents writer.new) output) }
-    ensures refused { IfErr result (RefusesBy IsClosedMapOf command text.items) }
-    ensures honest_answer { All L.is_honest links.old → OnOk result ((output : List ℕ) × Prints command text.items output
-        × Appends (W.contents writer.old) (W.contents writer.new) output) }
-    ensures honest_refused { All L.is_honest links.old → IfErr result (Refuses command text.items) }
+    ensures answer { Answers IsClosedMapOf command text.items (W.contents writer.old) (W.contents writer.new) result }
+    ensures honest { All L.is_honest links.old
+        → Answers IsMeasureOf command text.items (W.contents writer.old) (W.contents writer.new) result }
     ensures unread { result ≢ Err CliFault.Read }
     ensures untouched { IfErr result (λ fault. fault ≢ CliFault.Write → writer.new ≡ writer.old) }
 {
@@ -125,41 +117,7 @@ pub(crate) fn answer_over<L: Link, W: Write>(
     pg_command::answer(alloc, command, text, &mut finder, writer)
 }
 
-/// The same over the links that are given, by so many rounds.
-pub(crate) fn run_over<L: Link, R: Read, W: Write>(
-    alloc: Global,
-    command: Command,
-    links: &mut [L],
-    rounds: Rounds,
-    reader: &mut R,
-    writer: &mut W,
-) -> Result<(), CliFault>
-    ensures answer { OnOk result (IfSome (R.remaining reader.old) (λ input.
-        (output : List ℕ) × PrintsBy IsClosedMapOf command input output
-        × Appends (W.contents writer.old) (W.contents writer.new) output)) }
-    ensures refused { IfErr result (λ fault. IfSome (R.remaining reader.old)
-        (λ input. RefusesBy IsClosedMapOf command input fault)) }
-
-    ensures honest_answer { All L.is_honest links.old → OnOk result (IfSome (R.remaining reader.old) (λ input.
-        (output : List ℕ) × Prints command input output
-        × Appends (W.contents writer.old) (W.contents writer.new) output)) }
-    ensures honest_refused { All L.is_honest links.old → IfErr result (λ fault. IfSome (R.remaining reader.old)
-        (λ input. Refuses command input fault)) }
-    ensures told { (workers : ℕ) → command ≡ Command.Measure workers → rounds ≡ Rounds.Any
-        → OnOk result (IfSome (R.remaining reader.old) (λ input.
-        (output : List ℕ) × IsMeasured (IsLeastOverTold L.told links.old) input output
-        × Appends (W.contents writer.old) (W.contents writer.new) output)) }
-
-    // Whatever comes of it, no byte behind the first one over the limit is read.
-    ensures no_further { StaysWithin (R.remaining reader.old) (R.remaining reader.new) (MOST_BYTES + 1) }
-    ensures untouched { IfErr result (λ fault. fault ≢ CliFault.Write → writer.new ≡ writer.old) }
-    ensures unused { IsNone (workers_of command) → links.new ≡ links.old }
-{
-    let mut finder = OverLinks { links, rounds };
-    run_by(alloc, command, &mut finder, reader, writer)
-}
-
-/// The same over the links that are given, at most 16: where the command solves a game, the game is cut evenly among them, and
+/// As `run`, over the links that are given, at most 16: where the command solves a game, the game is cut evenly among them, and
 /// then its dual. How many workers the command says is of no account, and a command that solves nothing leaves the links alone.
 /// After a number of rounds that the size of the game sets, or where no link is left, `solve` and `synth` go on in this process;
 /// `measure` makes as many rounds as it takes.
@@ -179,26 +137,22 @@ pub fn run_with<L: Link, R: Read, W: Write>(
     writer: &mut W,
 ) -> Result<(), CliFault>
     requires { length links.old ≤ 16 }
-    ensures answer { OnOk result (IfSome (R.remaining reader.old) (λ input.
-        (output : List ℕ) × PrintsBy IsClosedMapOf command input output
-        × Appends (W.contents writer.old) (W.contents writer.new) output)) }
-    ensures refused { IfErr result (λ fault. IfSome (R.remaining reader.old)
-        (λ input. RefusesBy IsClosedMapOf command input fault)) }
-
-    ensures honest_answer { All L.is_honest links.old → OnOk result (IfSome (R.remaining reader.old) (λ input.
-        (output : List ℕ) × Prints command input output
-        × Appends (W.contents writer.old) (W.contents writer.new) output)) }
-    ensures honest_refused { All L.is_honest links.old → IfErr result (λ fault. IfSome (R.remaining reader.old)
-        (λ input. Refuses command input fault)) }
+    ensures answer { IfSome (R.remaining reader.old) (λ input.
+        Answers IsClosedMapOf command input (W.contents writer.old) (W.contents writer.new) result) }
+    ensures honest { All L.is_honest links.old → IfSome (R.remaining reader.old) (λ input.
+        Answers IsMeasureOf command input (W.contents writer.old) (W.contents writer.new) result) }
     ensures told { (workers : ℕ) → command ≡ Command.Measure workers
         → OnOk result (IfSome (R.remaining reader.old) (λ input.
         (output : List ℕ) × IsMeasured (IsLeastOverTold L.told links.old) input output
         × Appends (W.contents writer.old) (W.contents writer.new) output)) }
-
     // Whatever comes of it, no byte behind the first one over the limit is read.
     ensures no_further { StaysWithin (R.remaining reader.old) (R.remaining reader.new) (MOST_BYTES + 1) }
     ensures untouched { IfErr result (λ fault. fault ≢ CliFault.Write → writer.new ≡ writer.old) }
     ensures unused { IsNone (workers_of command) → links.new ≡ links.old }
 {
-    run_over(alloc, command, links, Rounds::Any, reader, writer)
+    let mut finder = OverLinks {
+        links,
+        rounds: Rounds::Any,
+    };
+    run_by(alloc, command, &mut finder, reader, writer)
 }

@@ -2,10 +2,10 @@ pub mod Parting
 pub mod Writing
 pub mod WorldTexts
 pub mod Refusing
-pub mod Found
+pub mod MapKinds
 pub mod Verdicts
 pub mod Printed
-pub mod Printing
+pub mod Outcomes
 pub mod Ran
 pub mod Replaying
 pub mod OneWorld

@@ -21,7 +21,7 @@ use Rattle.pg_world.specs.Worlds.{WorldValue, new_world, taken_of, making, IsMap
 use Rattle.pg_world.specs.declared.event.Event.{Event}
 use Rattle.pg_world.specs.declared.event.Event.TheVariants.{Lift, Deliver, Restart, CoordinatorLift}
 use Rattle.pg_world.specs.declared.fault.WorldFault.{WorldFault}
-use Rattle.pg_world.specs.declared.fault.WorldFault.TheVariants.{OutOfMemory, NoSuchReplica, NotMine, NoSuchUpdate, CutMismatch}
+use Rattle.pg_world.specs.declared.fault.WorldFault.TheVariants.{OutOfMemory}
 use Rattle.pg_command.specs.Replaying.{AreMapsOf, IsScripted, IsReplayed, IsStopped, world_text}
 use Rattle.pg_command.proofs.Refusing.{parted_once}
 
@@ -117,10 +117,7 @@ pub record IsHaltedAt (old : WorldValue) (es : List Event) (i : ℕ) (fault : Wo
 -- memory aside an event is refused for the reason against it
 reason_is : (fault : WorldFault) (reason : Option WorldFault) → fault ≢ OutOfMemory → IsRefusedBy fault reason → reason ≡ Some fault
 reason_is OutOfMemory reason ne why = absurd (ne refl)
-reason_is (NoSuchReplica n) reason ne why = why
-reason_is (NotMine w id) reason ne why = why
-reason_is (NoSuchUpdate n) reason ne why = why
-reason_is CutMismatch reason ne why = why
+reason_is _ reason ne why = why
 
 halted : (old new : WorldValue) (es : List Event) (i : ℕ) (fault : WorldFault) → fault ≢ OutOfMemory → StopsAt old es i fault new
     → IsHaltedAt old es i fault new

@@ -14,7 +14,7 @@ use Rattle.pg_synth.proofs.OneGame.{one_game}
 use Rattle.pg_synth.proofs.Trace.{one_vertex}
 use Rattle.pg_aiger.specs.CircuitLayout.{symbols_of, circuit_text}
 use Rattle.pg_aiger.specs.Laws.{CircuitFollows, CircuitReadsBack}
-use Rattle.pg_command.specs.Measuring.{Finding, IsClosedMapOf}
+use Rattle.pg_command.specs.Measuring.{MapKind, IsClosedMapOf}
 use Rattle.pg_command.specs.Synthesising.{IsWonFor}
 use Rattle.pg_command.specs.Controllers.{CircuitAccepted, NoneAccepted, OneVerdict}
 
@@ -56,8 +56,8 @@ none_accepted unrealizable word input output answer play is_word traces chosen =
     o.won is_word traces chosen
 
 -- not both players win
-pub one_player : OneReading → OneWinner → (Found : Finding) (input : List ℕ) → IsWonFor Found input Even → ¬ IsWonFor Found input Odd
-one_player reading one_winner Found input e o =
+pub one_player : OneReading → OneWinner → (Kind : MapKind) (input : List ℕ) → IsWonFor Kind input Even → ¬ IsWonFor Kind input Odd
+one_player reading one_winner Kind input e o =
     let a = e.automaton in
     let same : o.automaton ≡ a = (reading input).automaton o.automaton a o.spelt e.spelt in
     let won : IsWonBy a o.game o.initial o.solution Odd =

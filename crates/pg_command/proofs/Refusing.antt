@@ -2,15 +2,21 @@
 use Rattle.std.proofs.Common.{◌≡◌, ◌≢◌, ℕ, List, [], ◌∷◌, ◌++◌, length, take, drop, Result, Ok, Err, subst, sym, ap, ◌∙◌, arith, refl}
 use Rattle.std.proofs.Math.Seq.{drop-append_seam, take-append_seam}
 use Rattle.std.specs.Prelude.{IfErr, IsErrAnd}
-use Rattle.pg_arena.specs.Games.{GameVertex}
+use Rattle.pg_arena.specs.Games.{GameVertex, dual}
+use Rattle.pg_map.specs.Maps.{MapValue}
 use Rattle.pg_text.specs.GameText.{IsGameText, Refuses}
 use Rattle.pg_text.specs.SolutionText.{IsSolutionText, RefusesSolution}
 use Rattle.pg_text.specs.declared.answer.Answer.{Answer}
 use Rattle.pg_text.specs.declared.fault.TextFault.{TextFault}
 use Rattle.pg_text.specs.declared.fault.TextFault.TheVariants as text
+use Rattle.pg_check.specs.Strategies.{StrategiesFail}
+use Rattle.pg_check.specs.declared.fault.CheckFault.{CheckFault}
+use Rattle.pg_check.specs.declared.fault.CheckFault.TheVariants as check
 use Rattle.pg_command.specs.declared.fault.CliFault.{CliFault}
 use Rattle.pg_command.specs.declared.fault.CliFault.TheVariants as cli
-use Rattle.pg_command.specs.Faults.{text_fault}
+use Rattle.pg_command.specs.Faults.{text_fault, check_fault}
+use Rattle.pg_command.specs.Measuring.{MapKind}
+use Rattle.pg_command.specs.Mirrors.Solver.{IsUnsolved}
 use Rattle.pg_command.specs.Parts.{separator, IsParted}
 use Rattle.pg_command.specs.Texts.{IsNoGame, IsNoSolution}
 
@@ -25,11 +31,7 @@ pub told_so : (P : CliFault → Type 0) (fault : TextFault) → P cli.OutOfMemor
     → P (text_fault fault)
 told_so P text.OutOfMemory memory said = memory
 told_so P text.Write memory said = absurd ((said (λ e. (cc))).0 refl)
-told_so P (text.Syntax n) memory said = (said (λ e. (cc))).1
-told_so P (text.NumberTooLarge n) memory said = (said (λ e. (cc))).1
-told_so P (text.Arena fault) memory said = (said (λ e. (cc))).1
-told_so P (text.NotOfGame n) memory said = (said (λ e. (cc))).1
-told_so P (text.Missing n) memory said = (said (λ e. (cc))).1
+told_so P _ memory said = (said (λ e. (cc))).1
 
 -- memory aside, the reader of games tells nothing of a writer, and refuses what spells no game
 pub no_game : (bytes : List ℕ) (fault : TextFault) → ((game : List GameVertex) → IsGameText bytes game → fault ≡ text.OutOfMemory)
@@ -44,6 +46,13 @@ pub no_solution : (bytes : List ℕ) (game : List GameVertex) (fault : TextFault
     → (fault ≢ text.Write) × IsNoSolution bytes game fault
 no_solution bytes game fault only why memory =
     (λ e. subst (RefusesSolution bytes game) e (why memory), (λ solution spelt. memory (only solution spelt), why memory))
+
+-- where two maps have no solution, memory aside, both are top at some vertex
+pub unsolved_by : (Kind : MapKind) (game : List GameVertex) (even odd : MapValue) → Kind game even → Kind (dual game) odd
+    → (fault : CheckFault) → StrategiesFail game even odd fault → IsUnsolved Kind game (check_fault fault)
+unsolved_by Kind game even odd of_game of_dual check.OutOfMemory fails = tt
+unsolved_by Kind game even odd of_game of_dual (check.Undecided id) fails =
+    record { even = even; odd = odd; even_found = of_game; odd_found = of_dual; undecided = fails }
 
 -- no input has two first separators
 same_front : (input : List ℕ) (first second first' second' : List ℕ) (p : IsParted input first second) (q : IsParted input first' second')

@@ -17,7 +17,7 @@ use Rattle.pg_aiger.specs.Circuits.{Circuit}
 use Rattle.pg_aiger.specs.Machines as circuit
 use Rattle.pg_aiger.specs.CircuitLayout.{circuit_text}
 use Rattle.pg_aiger.specs.Laws.{OneCircuit}
-use Rattle.pg_command.specs.Measuring.{Finding, IsMeasureOf, IsClosedMapOf}
+use Rattle.pg_command.specs.Measuring.{MapKind, IsMeasureOf, IsClosedMapOf}
 use Rattle.pg_command.specs.Solving.{IsSolvedBy}
 use Rattle.pg_command.specs.Making.{IsTooLarge}
 use Rattle.pg_command.specs.Synthesising.{realizable, IsWonFor, IsRealized, IsSynthesised, HasLargeMachine}
@@ -26,15 +26,15 @@ use Rattle.pg_command.proofs.One.{one_made, one_solved}
 use Rattle.pg_command.proofs.Realized.{one_player}
 
 -- a game that a player wins is within the limits, and the input has no other
-won_within : OneReading → (Found : Finding) (input : List ℕ) (player : Player) → IsWonFor Found input player → ¬ IsTooLarge input
-won_within reading Found input player w large =
+won_within : OneReading → (Kind : MapKind) (input : List ℕ) (player : Player) → IsWonFor Kind input player → ¬ IsTooLarge input
+won_within reading Kind input player w large =
     let same : w.game ≡ large.game =
     one_made reading input w.game large.game (record { automaton = w.automaton; spelt = w.spelt; game_of = w.won.game_of }) large.made in
     large.over (subst IsWithinLimits same w.limits)
 
-answered_within : OneReading → (Found : Finding) (input output : List ℕ) → IsSynthesised Found input output → ¬ IsTooLarge input
-answered_within reading Found input output (inl r) = won_within reading Found input Even r.realized.even
-answered_within reading Found input output (inr u) = won_within reading Found input _ u.odd
+answered_within : OneReading → (Kind : MapKind) (input output : List ℕ) → IsSynthesised Kind input output → ¬ IsTooLarge input
+answered_within reading Kind input output (inl r) = won_within reading Kind input Even r.realized.even
+answered_within reading Kind input output (inr u) = won_within reading Kind input _ u.odd
 
 -- there is one machine that Even wins by, and so one circuit of it
 module _ (reading : OneReading) (one_bounds : OneListOfBounds) (least : ClosedIsLeast) (one_machine : OneMachine) where

@@ -1,9 +1,10 @@
 -- What several writes append, and the lines of measures one after another.
-use Rattle.std.proofs.Common.{◌≡◌, ℕ, ◌+◌, ◌<◌, ◌≤◌, List, [], ◌∷◌, ◌++◌, length, take, get_or, Option, Some, None, sym, ap, subst, ◌∙◌}
+use Rattle.std.proofs.Common.{◌≡◌, ℕ, ◌+◌, ◌<◌, ◌≤◌, List, [], ◌∷◌, ◌++◌, length, take, get_or, Option, Some, None, Result, Ok, Err, sym, ap, subst, ◌∙◌}
 use Rattle.std.proofs.Common.{arith, append_assoc, append-nil}
 use Rattle.std.proofs.lemmas.List.{take_more, take_all}
 use Rattle.std.proofs.lemmas.Grind.{flat_map-append}
 use Rattle.std.proofs.lemmas.Slice.Zip.{get_or-zip, length-zip}
+use Rattle.std.specs.Prelude.{OnOk}
 use Rattle.std.specs.List.{flat_map, zip}
 use Rattle.std.specs.Io.KnownBytes.{Appends}
 use Rattle.pg_arena.specs.Games.{GameVertex, nowhere, identifier}
@@ -16,6 +17,12 @@ appends_then None b c xs ys h k = tt
 appends_then (Some xs0) None c xs ys h k = absurd h
 appends_then (Some xs0) (Some ys0) None xs ys h k = absurd k
 appends_then (Some xs0) (Some ys0) (Some zs0) xs ys h k = k ∙ ap (λ l. l ++ ys) h ∙ append_assoc xs0 xs ys
+
+-- where the last of them may fail
+pub appends_last : {X E : Type 0} (result : Result X E) (a b c : Option (List ℕ)) (xs ys : List ℕ) → Appends a b xs → OnOk result (Appends b c ys)
+    → OnOk result (Appends a c (xs ++ ys))
+appends_last (Ok x) a b c xs ys h k = appends_then a b c xs ys h k
+appends_last (Err e) a b c xs ys h k = tt
 
 -- a vertex and its measure as a line
 abbrev pub pair_line : GameVertex × MeasureValue → List ℕ

@@ -1,6 +1,7 @@
 -- What each command answers, and why it gives no answer.
-use Rattle.std.specs.Prelude.{ℕ, ◌<◌, ◌≤◌, List, length}
-use Rattle.pg_command.specs.Measuring.{Finding, IsMeasureOf, IsMeasured, RefusesMeasure}
+use Rattle.std.specs.Prelude.{ℕ, ◌<◌, ◌≤◌, List, length, Option, Result, Ok, Err}
+use Rattle.std.specs.Io.KnownBytes.{Appends}
+use Rattle.pg_command.specs.Measuring.{MapKind, IsMeasureOf, IsMeasured, RefusesMeasure}
 use Rattle.pg_command.specs.Solving.{IsSolved, RefusesSolve}
 use Rattle.pg_command.specs.Checking.{IsChecked, RefusesCheck}
 use Rattle.pg_command.specs.Replaying.{IsReplayed, RefusesReplay}
@@ -11,37 +12,38 @@ use Rattle.pg_words.specs.declared.command.Command.TheVariants.{Measure, Solve, 
 use Rattle.pg_command.specs.declared.fault.CliFault.{CliFault}
 use Rattle.pg_command.specs.declared.fault.CliFault.TheVariants.{OutOfMemory, Read, Write, InputTooLong}
 
--- the output is what the command prints for the input, by maps that are found so
-abbrev pub IsAnswer : Finding → Command → List ℕ → List ℕ → Type 0
-IsAnswer Found (Measure workers) input output = IsMeasured Found input output
-IsAnswer Found (Solve workers) input output = IsSolved Found input output
-IsAnswer Found Check input output = IsChecked input output
-IsAnswer Found Replay input output = IsReplayed input output
-IsAnswer Found Game input output = IsMade input output
-IsAnswer Found (Synth workers) input output = IsSynthesised Found input output
+-- what a command prints for an input, and why it refuses the input for what it says
+pub record Meaning : Type 1 where
+  pub prints : List ℕ → Type 0
+  pub refuses : CliFault → Type 0
 
--- why the input has no answer, by what it says
-abbrev pub HasNoAnswer : Finding → Command → List ℕ → CliFault → Type 0
-HasNoAnswer Found (Measure workers) input fault = RefusesMeasure input fault
-HasNoAnswer Found (Solve workers) input fault = RefusesSolve Found input fault
-HasNoAnswer Found Check input fault = RefusesCheck input fault
-HasNoAnswer Found Replay input fault = RefusesReplay input fault
-HasNoAnswer Found Game input fault = RefusesGame input fault
-HasNoAnswer Found (Synth workers) input fault = RefusesSynth Found input fault
+-- a game is solved by maps of the kind
+abbrev pub meaning_of : MapKind → Command → List ℕ → Meaning
+meaning_of Kind (Measure workers) input = record { prints = IsMeasured Kind input; refuses = RefusesMeasure input }
+meaning_of Kind (Solve workers) input = record { prints = IsSolved Kind input; refuses = RefusesSolve Kind input }
+meaning_of Kind Check input = record { prints = IsChecked input; refuses = RefusesCheck input }
+meaning_of Kind Replay input = record { prints = IsReplayed input; refuses = RefusesReplay input }
+meaning_of Kind Game input = record { prints = IsMade input; refuses = RefusesGame input }
+meaning_of Kind (Synth workers) input = record { prints = IsSynthesised Kind input; refuses = RefusesSynth Kind input }
 
 -- The command prints the output: the input keeps the limit, and the output is the answer to it.
-pub record PrintsBy (Found : Finding) (command : Command) (input output : List ℕ) : Type 0 where
+pub record PrintsBy (Kind : MapKind) (command : Command) (input output : List ℕ) : Type 0 where
   pub limit : length input ≤ 268435456
-  pub answer : IsAnswer Found command input output
+  pub answer : (meaning_of Kind command input).prints output
 
 -- Why a command prints no answer. The writer can only fail on an answer; of want of memory and of the reader nothing is
 -- said.
-abbrev pub RefusesBy : Finding → Command → List ℕ → CliFault → Type 0
-RefusesBy Found command input OutOfMemory = Unit {0}
-RefusesBy Found command input Read = Unit {0}
-RefusesBy Found command input InputTooLong = 268435456 < length input
-RefusesBy Found command input Write = (output : List ℕ) × PrintsBy Found command input output
-RefusesBy Found command input fault = (length input ≤ 268435456) × HasNoAnswer Found command input fault
+abbrev pub RefusesBy : MapKind → Command → List ℕ → CliFault → Type 0
+RefusesBy Kind command input OutOfMemory = Unit {0}
+RefusesBy Kind command input Read = Unit {0}
+RefusesBy Kind command input InputTooLong = 268435456 < length input
+RefusesBy Kind command input Write = (output : List ℕ) × PrintsBy Kind command input output
+RefusesBy Kind command input fault = (length input ≤ 268435456) × (meaning_of Kind command input).refuses fault
+
+-- What comes of an input: an answer, written behind what stood there, or a refusal.
+abbrev pub Answers : MapKind → Command → List ℕ → Option (List ℕ) → Option (List ℕ) → Result (Unit {0}) CliFault → Type 0
+Answers Kind command input old new (Ok done) = (output : List ℕ) × PrintsBy Kind command input output × Appends old new output
+Answers Kind command input old new (Err fault) = RefusesBy Kind command input fault
 
 -- by least progress measures
 abbrev pub Prints : Command → List ℕ → List ℕ → Type 0

@@ -37,16 +37,16 @@ pub record IsMeasureOf (game : List GameVertex) (map : MapValue) : Type 0 where
   pub bounds : IsBoundsOf game map.bounds
   pub least : IsLeastProgressMeasure map.bounds (length game) (game_line game) map.measures
 
--- which maps may be found of a game: the least progress measure alone, or each closed map
-abbrev pub Finding : Type 1
-Finding = List GameVertex → MapValue → Type 0
+-- a kind of maps of a game: the least progress measure alone, or each closed map
+abbrev pub MapKind : Type 1
+MapKind = List GameVertex → MapValue → Type 0
 
--- The input spells a game, and the output is the text of a map that is found of it.
-pub record IsMeasured (Found : Finding) (input output : List ℕ) : Type 0 where
+-- The input spells a game, and the output is the text of a map of it of the kind.
+pub record IsMeasured (Kind : MapKind) (input output : List ℕ) : Type 0 where
   pub game : List GameVertex
   pub spelt : IsGameText input game
   pub map : MapValue
-  pub found : Found game map
+  pub found : Kind game map
   pub printed : output ≡ measures_text game map.measures
 
 -- why an input has no such output: it spells no game

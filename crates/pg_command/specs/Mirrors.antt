@@ -3,3 +3,4 @@ pub mod Reading
 pub mod Naming
 pub mod Solver
 pub mod Synthesised
+pub mod Working

@@ -1,17 +1,15 @@
 //! The command `check`.
 
-ghost use Rattle.std.specs.Prelude.{◌≡◌, ◌≢◌, ◌<◌, ◌≤◌, ℕ, List, length, map, All, IfOk, IfErr, OnOk};
+ghost use Rattle.std.specs.Prelude.{◌≡◌, ◌<◌, length, map, All, IfOk, IfErr, OnOk};
 ghost use Rattle.std.specs.Io.KnownBytes.{Appends};
 ghost use Rattle.pg_arena.specs.Games.{priority};
-ghost use Rattle.pg_command.specs.Checking.{greatest, verdict_text, IsCheckedBy};
-ghost use Rattle.pg_command.specs.Answers.{PrintsBy, RefusesBy};
-ghost use Rattle.pg_command.specs.Mirrors.Solver.{NoMap};
+ghost use Rattle.pg_command.specs.Checking.{greatest, verdict_text, IsChecked, RefusesCheck};
 ghost use Rattle.pg_command.specs.Mirrors.Naming.{IsWithin};
-ghost use Rattle.pg_words.specs.declared.command.Command.TheVariants.{Check};
+ghost use Rattle.pg_command.specs.Mirrors.Working.{ShowsWhat, Fails};
 
 use crate::fault::CliFault;
-use crate::input::MOST_BYTES;
 use crate::parts::part;
+use crate::printing::Answer;
 use pg_arena::{Game, Vertex};
 use pg_check::Verdict;
 use pg_text::writing::{write_identifiers, write_number};
@@ -57,38 +55,36 @@ fn write_verdict<W: Write>(writer: &mut W, game: &Game, verdict: &Verdict) -> io
     }
 }
 
+/// A game, and what the checker says of a solution of it.
+#[derive(Drop)]
+pub(crate) struct Checked {
+    game: Game,
+    verdict: Verdict,
+}
+
+impl Answer for Checked {
+    ghost is_whole = { λ a. IsWithin a.game a.verdict };
+
+    ghost shows = { λ a output. output ≡ verdict_text a.game a.verdict };
+
+    fn write<W: Write>(self, writer: &mut W) -> Option<()> {
+        write_verdict(writer, &self.game, &self.verdict).ok()
+    }
+}
+
 /// What the checker says of the solution that stands behind a game in a text.
-fn checked(alloc: Global, text: &[u8]) -> Result<(Game, Verdict), CliFault>
-    requires { length text.now ≤ MOST_BYTES }
-    ensures found { IfOk result (λ x. IsCheckedBy text.now x.0 x.1) }
-    ensures within { IfOk result (λ x. IsWithin x.0 x.1) }
-    ensures refused { IfErr result (RefusesBy NoMap Check text.now) }
-    ensures unread { result ≢ Err CliFault.Read }
-    ensures unwritten { result ≢ Err CliFault.Write }
+pub(crate) fn check(alloc: Global, text: Vec<u8>) -> Result<Checked, CliFault>
+    ensures whole { IfOk result ⟦<Checked as Answer>⟧.is_whole }
+    ensures answer { IfOk result (ShowsWhat (IsChecked text.items) ⟦<Checked as Answer>⟧.shows) }
+    ensures refused { IfErr result (Fails (RefusesCheck text.items)) }
 {
-    match part(text) {
+    match part(&text) {
         None => Err(CliFault::NoSeparator),
         Some((first, second)) => {
             let game = read_game(alloc, first)?;
             let solution = read_solution(alloc, &game, second)?;
             let verdict = pg_check::check(alloc, &game, &solution)?;
-            Ok((game, verdict))
+            Ok(Checked { game, verdict })
         }
-    }
-}
-
-/// Writes what the checker says of the solution that stands behind a game in a text.
-pub(crate) fn check<W: Write>(alloc: Global, text: Vec<u8>, writer: &mut W) -> Result<(), CliFault>
-    requires { length text.items ≤ MOST_BYTES }
-    ensures answer { OnOk result ((output : List ℕ) × PrintsBy NoMap Check text.items output
-        × Appends (W.contents writer.old) (W.contents writer.new) output) }
-    ensures refused { IfErr result (RefusesBy NoMap Check text.items) }
-    ensures unread { result ≢ Err CliFault.Read }
-    ensures untouched { IfErr result (λ fault. fault ≢ CliFault.Write → writer.new ≡ writer.old) }
-{
-    let (game, verdict) = checked(alloc, &text)?;
-    match write_verdict(writer, &game, &verdict) {
-        Ok(()) => Ok(()),
-        Err(_) => Err(CliFault::Write),
     }
 }

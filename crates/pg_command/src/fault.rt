@@ -1,9 +1,11 @@
 //! Why the program gives no answer.
 
-ghost use Rattle.std.specs.Prelude.{◌≡◌, OnOk};
+ghost use Rattle.std.specs.Prelude.{◌≡◌, Some, OnOk};
 ghost use Rattle.std.specs.Io.KnownBytes.{Appends};
-ghost use Rattle.pg_command.specs.Faults.{status_of};
-ghost use Rattle.pg_command.specs.FaultTexts.{fault_line};
+ghost use Rattle.pg_command.specs.Faults.{text_fault, script_fault, event_fault, check_fault};
+ghost use Rattle.pg_command.specs.Faults.{hoa_fault, synth_fault, aiger_fault, worker_fault, status_of};
+ghost use Rattle.pg_command.specs.FaultTexts.{fault_text, fault_line};
+ghost use Rattle.pg_command.specs.declared.fault.CliFault.TheVariants as cli;
 
 use pg_aiger::AigerFault;
 use pg_check::CheckFault;
@@ -58,9 +60,6 @@ pub enum CliFault {
 }
 
 impl fmt::Display for CliFault {
-    ghost use Rattle.std.specs.Prelude.{Some};
-    ghost use Rattle.pg_command.specs.FaultTexts.{fault_text};
-
     ghost output = { λ fault. Some (fault_text fault) };
 
     fn fmt<W: fmt::Write>(&self, f: &mut fmt::Formatter<W>) -> fmt::Result {
@@ -106,9 +105,7 @@ impl fmt::Display for CliFault {
 impl Error for CliFault {}
 
 impl From<AllocError> for CliFault {
-    ghost use Rattle.pg_command.specs.declared.fault.CliFault.TheVariants.{OutOfMemory};
-
-    ghost from_gives = { λ _ fault. fault ≡ OutOfMemory };
+    ghost from_gives = { λ _ fault. fault ≡ cli.OutOfMemory };
 
     fn from(_: AllocError) -> CliFault {
         CliFault::OutOfMemory
@@ -116,9 +113,7 @@ impl From<AllocError> for CliFault {
 }
 
 impl From<io::Error> for CliFault {
-    ghost use Rattle.pg_command.specs.declared.fault.CliFault.TheVariants.{Write};
-
-    ghost from_gives = { λ _ fault. fault ≡ Write };
+    ghost from_gives = { λ _ fault. fault ≡ cli.Write };
 
     fn from(_: io::Error) -> CliFault {
         CliFault::Write
@@ -126,8 +121,6 @@ impl From<io::Error> for CliFault {
 }
 
 impl From<TextFault> for CliFault {
-    ghost use Rattle.pg_command.specs.Faults.{text_fault};
-
     ghost from_gives = { λ fault e. e ≡ text_fault fault };
 
     fn from(fault: TextFault) -> CliFault {
@@ -140,8 +133,6 @@ impl From<TextFault> for CliFault {
 }
 
 impl From<ScriptFault> for CliFault {
-    ghost use Rattle.pg_command.specs.Faults.{script_fault};
-
     ghost from_gives = { λ fault e. e ≡ script_fault fault };
 
     fn from(fault: ScriptFault) -> CliFault {
@@ -153,8 +144,6 @@ impl From<ScriptFault> for CliFault {
 }
 
 impl From<(usize, WorldFault)> for CliFault {
-    ghost use Rattle.pg_command.specs.Faults.{event_fault};
-
     ghost from_gives = { λ x e. e ≡ event_fault x.0 x.1 };
 
     fn from((place, fault): (usize, WorldFault)) -> CliFault {
@@ -166,8 +155,6 @@ impl From<(usize, WorldFault)> for CliFault {
 }
 
 impl From<CheckFault> for CliFault {
-    ghost use Rattle.pg_command.specs.Faults.{check_fault};
-
     ghost from_gives = { λ fault e. e ≡ check_fault fault };
 
     fn from(fault: CheckFault) -> CliFault {
@@ -179,8 +166,6 @@ impl From<CheckFault> for CliFault {
 }
 
 impl From<HoaFault> for CliFault {
-    ghost use Rattle.pg_command.specs.Faults.{hoa_fault};
-
     ghost from_gives = { λ fault e. e ≡ hoa_fault fault };
 
     fn from(fault: HoaFault) -> CliFault {
@@ -192,8 +177,6 @@ impl From<HoaFault> for CliFault {
 }
 
 impl From<SynthFault> for CliFault {
-    ghost use Rattle.pg_command.specs.Faults.{synth_fault};
-
     ghost from_gives = { λ fault e. e ≡ synth_fault fault };
 
     fn from(fault: SynthFault) -> CliFault {
@@ -205,8 +188,6 @@ impl From<SynthFault> for CliFault {
 }
 
 impl From<AigerFault> for CliFault {
-    ghost use Rattle.pg_command.specs.Faults.{aiger_fault};
-
     ghost from_gives = { λ fault e. e ≡ aiger_fault fault };
 
     fn from(fault: AigerFault) -> CliFault {
@@ -219,8 +200,6 @@ impl From<AigerFault> for CliFault {
 }
 
 impl From<WorkerFault> for CliFault {
-    ghost use Rattle.pg_command.specs.Faults.{worker_fault};
-
     ghost from_gives = { λ fault e. e ≡ worker_fault fault };
 
     fn from(fault: WorkerFault) -> CliFault {

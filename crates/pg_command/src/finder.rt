@@ -3,7 +3,7 @@
 ghost use Rattle.std.specs.Prelude.{List, IfOk};
 ghost use Rattle.pg_arena.specs.Games.{GameVertex, HasPrioritiesUpTo, dual};
 ghost use Rattle.pg_map.specs.Maps.{MapValue};
-ghost use Rattle.pg_command.specs.Measuring.{Finding, IsClosedMapOf};
+ghost use Rattle.pg_command.specs.Measuring.{MapKind, IsClosedMapOf};
 
 use pg_arena::Game;
 use pg_map::Measures;
@@ -21,11 +21,11 @@ pub trait Finder {
     /// How the maps that it finds keep their measures.
     type Map: Measures + Drop;
 
-    /// Which maps may be found of a game. They are closed.
-    ghost finds: { Self → Finding };
+    /// Of which kind the maps are that it finds. They are closed.
+    ghost finds: { Self → MapKind };
 
-    /// What is known besides of the map that `measure` finds.
-    ghost measures: { Self → Finding };
+    /// Of which kind the map is besides that `measure` finds.
+    ghost measures: { Self → MapKind };
 
     /// A map of a game.
     fn measure(&mut self, alloc: Global, game: &Game) -> Result<Self::Map, AllocError>

@@ -11,6 +11,7 @@ pub mod laws;
 mod measure;
 mod output;
 mod parts;
+mod printing;
 mod program;
 mod replay;
 mod solve;

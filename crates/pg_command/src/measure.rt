@@ -1,16 +1,14 @@
 //! The command `measure`.
 
-ghost use Rattle.std.specs.Prelude.{◌≡◌, ◌≢◌, ◌≤◌, ℕ, List, length, All, IfOk, IfErr, OnOk};
+ghost use Rattle.std.specs.Prelude.{◌≡◌, length, IfOk, IfErr, OnOk};
 ghost use Rattle.std.specs.Io.KnownBytes.{Appends};
-ghost use Rattle.pg_text.specs.GameText.{IsGameText};
-ghost use Rattle.pg_command.specs.Measuring.{IsMeasured, measures_text};
-ghost use Rattle.pg_command.specs.Answers.{PrintsBy, RefusesBy};
-ghost use Rattle.pg_words.specs.declared.command.Command.TheVariants.{Measure};
+ghost use Rattle.pg_command.specs.Measuring.{IsMeasured, RefusesMeasure, measures_text};
+ghost use Rattle.pg_command.specs.Mirrors.Working.{ShowsWhat, Fails};
 
 use crate::fault::CliFault;
 use crate::finder::Finder;
-use crate::input::MOST_BYTES;
 use crate::output::write_measure_line;
+use crate::printing::Answer;
 use pg_arena::{Game, Vertex};
 use pg_map::Measures;
 use pg_text::read_game;
@@ -43,50 +41,46 @@ fn write_measures<M: Measures, W: Write>(
     Ok(())
 }
 
-/// The game that a text spells, and a map of it. The text is let go before the work begins.
-fn measured<F: Finder>(
+/// A game and a map of it, with room for a measure.
+#[derive(Drop)]
+pub(crate) struct Measured<M> {
+    game: Game,
+    map: M,
+    room: Vec<u32>,
+}
+
+impl<M: Measures + Drop> Answer for Measured<M> {
+    ghost is_whole = { λ a. (length (M.map a.map).measures ≡ length a.game)
+        × (length a.room.items ≡ length (M.map a.map).bounds) };
+
+    ghost shows = { λ a output. output ≡ measures_text a.game (M.map a.map).measures };
+
+    fn write<W: Write>(self, writer: &mut W) -> Option<()> {
+        let Measured {
+            game,
+            map,
+            mut room,
+        } = self;
+        write_measures(&game, &map, &mut room, writer).ok()
+    }
+}
+
+/// A map of the game that a text spells. The text is let go before the work begins.
+pub(crate) fn measure<F: Finder>(
     alloc: Global,
     text: Vec<u8>,
     finder: &mut F,
-) -> Result<(Game, F::Map), CliFault>
-    requires limit { length text.items ≤ MOST_BYTES }
-    ensures spelt { IfOk result (λ x. IsGameText text.items x.0) }
-    ensures found { IfOk result (λ x. F.finds finder.old x.0 (F.Map.map x.1)) }
-    ensures measured { IfOk result (λ x. F.measures finder.old x.0 (F.Map.map x.1)) }
-    ensures refused { (workers : ℕ)
-        → IfErr result (RefusesBy (F.finds finder.old) (Measure workers) text.items) }
-    ensures unread { result ≢ Err CliFault.Read }
-    ensures unwritten { result ≢ Err CliFault.Write }
+) -> Result<Measured<F::Map>, CliFault>
+    ensures whole { IfOk result ⟦<Measured<F::Map> as Answer>⟧.is_whole }
+    ensures answer { IfOk result
+        (ShowsWhat (IsMeasured (F.finds finder.old) text.items) ⟦<Measured<F::Map> as Answer>⟧.shows) }
+    ensures measured { IfOk result
+        (ShowsWhat (IsMeasured (F.measures finder.old) text.items) ⟦<Measured<F::Map> as Answer>⟧.shows) }
+    ensures refused { IfErr result (Fails (RefusesMeasure text.items)) }
 {
     let game = read_game(alloc, &text)?;
     drop(text);
     let map = finder.measure(alloc, &game)?;
-    Ok((game, map))
-}
-
-/// Writes a map of the game that a text spells.
-pub(crate) fn measure<F: Finder, W: Write>(
-    alloc: Global,
-    text: Vec<u8>,
-    finder: &mut F,
-    writer: &mut W,
-) -> Result<(), CliFault>
-    requires limit { length text.items ≤ MOST_BYTES }
-    ensures answer { OnOk result ((workers : ℕ) → (output : List ℕ)
-        × PrintsBy (F.finds finder.old) (Measure workers) text.items output
-        × Appends (W.contents writer.old) (W.contents writer.new) output) }
-    ensures measured { OnOk result ((output : List ℕ)
-        × IsMeasured (F.measures finder.old) text.items output
-        × Appends (W.contents writer.old) (W.contents writer.new) output) }
-    ensures refused { (workers : ℕ)
-        → IfErr result (RefusesBy (F.finds finder.old) (Measure workers) text.items) }
-    ensures unread { result ≢ Err CliFault.Read }
-    ensures untouched { IfErr result (λ fault. fault ≢ CliFault.Write → writer.new ≡ writer.old) }
-{
-    let (game, map) = measured(alloc, text, finder)?;
-    let mut room = room_for(alloc, &map)?;
-    match write_measures(&game, &map, &mut room, writer) {
-        Ok(()) => Ok(()),
-        Err(_) => Err(CliFault::Write),
-    }
+    let room = room_for(alloc, &map)?;
+    Ok(Measured { game, map, room })
 }

@@ -4,7 +4,7 @@ ghost use Rattle.std.specs.Prelude.{◌≡◌, ◌≢◌, ◌+◌, ◌≤◌, �
 ghost use Rattle.std.specs.Io.KnownBytes.{Appends};
 ghost use Rattle.pg_command.specs.Input.{StaysWithin};
 ghost use Rattle.pg_command.specs.Measuring.{IsMeasured};
-ghost use Rattle.pg_command.specs.Answers.{PrintsBy, RefusesBy};
+ghost use Rattle.pg_command.specs.Answers.{Answers};
 ghost use Rattle.pg_words.specs.Commands.{workers_of};
 
 use crate::check::check;
@@ -13,6 +13,7 @@ use crate::finder::Finder;
 use crate::game::game;
 use crate::input::{MOST_BYTES, read_input};
 use crate::measure::measure;
+use crate::printing::print;
 use crate::replay::replay;
 use crate::solve::solve;
 use crate::synth::synth;
@@ -30,23 +31,21 @@ pub fn answer<F: Finder, W: Write>(
     writer: &mut W,
 ) -> Result<(), CliFault>
     requires limit { length text.items ≤ MOST_BYTES }
-    ensures answer { OnOk result ((output : List ℕ) × PrintsBy (F.finds finder.old) command text.items output
-        × Appends (W.contents writer.old) (W.contents writer.new) output) }
+    ensures answer { Answers (F.finds finder.old) command text.items (W.contents writer.old) (W.contents writer.new) result }
     ensures measured { (workers : ℕ) → command ≡ Command.Measure workers
         → OnOk result ((output : List ℕ) × IsMeasured (F.measures finder.old) text.items output
         × Appends (W.contents writer.old) (W.contents writer.new) output) }
-    ensures refused { IfErr result (RefusesBy (F.finds finder.old) command text.items) }
     ensures unread { result ≢ Err CliFault.Read }
     ensures untouched { IfErr result (λ fault. fault ≢ CliFault.Write → writer.new ≡ writer.old) }
     ensures unused { IsNone (workers_of command) → finder.new ≡ finder.old }
 {
     match command {
-        Command::Measure { .. } => measure(alloc, text, finder, writer),
-        Command::Solve { .. } => solve(alloc, text, finder, writer),
-        Command::Check => check(alloc, text, writer),
-        Command::Replay => replay(alloc, text, writer),
-        Command::Game => game(alloc, text, writer),
-        Command::Synth { .. } => synth(alloc, text, finder, writer),
+        Command::Measure { .. } => print(measure(alloc, text, finder), writer),
+        Command::Solve { .. } => print(solve(alloc, text, finder), writer),
+        Command::Check => print(check(alloc, text), writer),
+        Command::Replay => print(replay(alloc, text), writer),
+        Command::Game => print(game(alloc, text), writer),
+        Command::Synth { .. } => print(synth(alloc, text, finder), writer),
     }
 }
 
@@ -68,15 +67,12 @@ pub fn run_by<F: Finder, R: Read, W: Write>(
     reader: &mut R,
     writer: &mut W,
 ) -> Result<(), CliFault>
-    ensures answer { OnOk result (IfSome (R.remaining reader.old) (λ input.
-        (output : List ℕ) × PrintsBy (F.finds finder.old) command input output
-        × Appends (W.contents writer.old) (W.contents writer.new) output)) }
+    ensures answer { IfSome (R.remaining reader.old) (λ input.
+        Answers (F.finds finder.old) command input (W.contents writer.old) (W.contents writer.new) result) }
     ensures measured { (workers : ℕ) → command ≡ Command.Measure workers
         → OnOk result (IfSome (R.remaining reader.old) (λ input.
         (output : List ℕ) × IsMeasured (F.measures finder.old) input output
         × Appends (W.contents writer.old) (W.contents writer.new) output)) }
-    ensures refused { IfErr result (λ fault. IfSome (R.remaining reader.old)
-        (λ input. RefusesBy (F.finds finder.old) command input fault)) }
     // Whatever comes of it, no byte behind the first one over the limit is read.
     ensures no_further { StaysWithin (R.remaining reader.old) (R.remaining reader.new) (MOST_BYTES + 1) }
     ensures untouched { IfErr result (λ fault. fault ≢ CliFault.Write → writer.new ≡ writer.old) }

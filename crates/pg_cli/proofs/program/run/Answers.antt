@@ -1,7 +1,9 @@
+use Rattle.pg_command.specs.Measuring.{IsMeasureOf}
+use Rattle.pg_command.proofs.Outcomes.{answered_known}
 use Rattle.pg_cli.proofs.program.run.Goals as goal
 
 pub returns-clause-answer : goal.returns-clause-answer
-returns-clause-answer g c = c.run_over.ensures.honest_answer (λ k link lt. tt)
-
-pub returns-clause-refused : goal.returns-clause-refused
-returns-clause-refused g c = c.run_over.ensures.honest_refused (λ k link lt. tt)
+returns-clause-answer g c =
+    answered_known IsMeasureOf c.args.command (g.R.Read.remaining c.args.reader.now) (g.W.Write.contents c.args.writer.now)
+    (g.W.Write.contents c.write_answer.new.writer) c.in_ok-text.text.items c.write_answer.result c.in_ok-text.ensures.bytes
+    c.write_answer.ensures.answer

@@ -1,15 +1,52 @@
-use Rattle.pg_command.specs.Answers.{RefusesBy}
-use Rattle.pg_command.specs.Mirrors.Solver.{NoMap}
-use Rattle.pg_words.specs.declared.command.Command.TheVariants.{Check}
-use Rattle.pg_command.proofs.Refusing.{refused_by}
-use Rattle.pg_command.proofs.Printing.{prints_verdict}
+use Rattle.std.proofs.Common.{inl, inr}
+use Rattle.pg_command.specs.Faults.{text_fault}
+use Rattle.pg_command.specs.Checking.{RefusesCheck}
+use Rattle.pg_command.specs.Mirrors.Working.{Fails}
+use Rattle.pg_command.proofs.Refusing.{no_game, no_solution, told_so, refused_by}
+use Rattle.pg_command.proofs.Verdicts.{verdict_within}
 use Rattle.pg_command.proofs.check.check.Goals as goal
 
-pub returns-in_err-game-clause-refused : goal.returns-in_err-game-clause-refused
-returns-in_err-game-clause-refused g c =
-    refused_by (RefusesBy NoMap Check c.args.text.items) c.from_residual.result c.in_err-game.field-0.0 c.from_residual.ensures.1
-    (rw (← c.deref.ensures.value) c.in_err-game.ensures.refused)
+pub returns-in-None-clause-refused : goal.returns-in-None-clause-refused
+returns-in-None-clause-refused c = rw (← c.deref.ensures.value) c.in-None.ensures.none
 
-pub returns-clause-refused : goal.returns-clause-refused
-returns-clause-refused g c =
-    prints_verdict c.args.text.items c.in_ok-game.game c.in_ok-game.verdict c.requires (rw (← c.deref.ensures.value) c.in_ok-game.ensures.found)
+pub returns-in_err-game-in-Some-clause-refused : goal.returns-in_err-game-in-Some-clause-refused
+returns-in_err-game-in-Some-clause-refused c =
+    let Refused = Fails (RefusesCheck c.args.text.items) in
+    let first = c.in-Some.first.now in
+    let fault = c.in_err-game-in-Some.field-0.0 in
+    refused_by Refused c.from_residual.result (text_fault fault) c.from_residual.ensures.1
+    (told_so Refused fault tt (λ memory.
+    let why = no_game first fault c.in_err-game-in-Some.ensures.only c.in_err-game-in-Some.ensures.refused memory in (
+      why.0,
+      inl (record {
+        first = first;
+        second = c.in-Some.second.now;
+        parted = rw (← c.deref.ensures.value) c.in-Some.ensures.parted;
+        none = why.1;
+      }),
+    )))
+
+pub returns-in_err-solution-in-Some-clause-refused : goal.returns-in_err-solution-in-Some-clause-refused
+returns-in_err-solution-in-Some-clause-refused c =
+    let Refused = Fails (RefusesCheck c.args.text.items) in
+    let second = c.in-Some.second.now in
+    let game = c.in_ok-game-in-Some.game in
+    let fault = c.in_err-solution-in-Some.field-0.0 in
+    refused_by Refused c.from_residual-in_err-solution-in-Some.result (text_fault fault) c.from_residual-in_err-solution-in-Some.ensures.1
+    (told_so Refused fault tt (λ memory.
+    let why = no_solution second game fault c.in_err-solution-in-Some.ensures.only c.in_err-solution-in-Some.ensures.refused memory in (
+      why.0,
+      inr (record {
+        first = c.in-Some.first.now;
+        second = second;
+        parted = rw (← c.deref.ensures.value) c.in-Some.ensures.parted;
+        game = game;
+        spelt = c.in_ok-game-in-Some.ensures.found;
+        none = why.1;
+      }),
+    )))
+
+pub returns-clause-whole : goal.returns-clause-whole
+returns-clause-whole c =
+    verdict_within c.in_ok-game-in-Some.game c.in_ok-solution-in-Some.solution c.in_ok-game-in-Some.ensures.found.game_of.well c.in_ok-verdict-in-Some.verdict
+    c.in_ok-verdict-in-Some.ensures.refutes

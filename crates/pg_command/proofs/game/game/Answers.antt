@@ -1,6 +1,21 @@
-use Rattle.pg_command.proofs.Made.{prints_game}
+use Rattle.pg_command.specs.Faults.{hoa_fault, synth_fault}
+use Rattle.pg_command.specs.Making.{RefusesGame}
+use Rattle.pg_command.specs.Mirrors.Working.{Fails}
+use Rattle.pg_command.proofs.Refusing.{refused_by}
+use Rattle.pg_command.proofs.Made.{text_refused, game_refused}
 use Rattle.pg_command.proofs.game.game.Goals as goal
 
-pub returns-clause-refused : goal.returns-clause-refused
-returns-clause-refused g c =
-    prints_game c.args.text.items c.in_ok-game.game c.requires c.in_ok-game.ensures.found c.in_ok-game.ensures.limits
+pub returns-in_err-automaton-clause-refused : goal.returns-in_err-automaton-clause-refused
+returns-in_err-automaton-clause-refused c =
+    let Refused = Fails (RefusesGame c.args.text.items) in
+    let fault = c.in_err-automaton.field-0.0 in
+    refused_by Refused c.from_residual.result (hoa_fault fault) c.from_residual.ensures.1
+    (text_refused Refused c.args.text.items fault tt (λ said no. no) (rw (← c.deref.ensures.value) c.in_err-automaton.ensures.refused))
+
+pub returns-in_err-made-clause-refused : goal.returns-in_err-made-clause-refused
+returns-in_err-made-clause-refused c =
+    let Refused = Fails (RefusesGame c.args.text.items) in
+    let fault = c.in_err-made.field-0.0 in
+    refused_by Refused c.from_residual-in_err-made.result (synth_fault fault) c.from_residual-in_err-made.ensures.1
+    (game_refused Refused c.args.text.items c.in_ok-automaton.automaton (rw (← c.deref.ensures.value) c.in_ok-automaton.ensures.found) fault tt
+    (λ over. over) c.in_err-made.ensures.fault)

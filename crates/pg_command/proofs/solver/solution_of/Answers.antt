@@ -3,8 +3,7 @@ use Rattle.pg_arena.specs.Games.{dual}
 use Rattle.pg_arena.specs.Lemmas.Duals.{length_dual}
 use Rattle.pg_command.specs.Faults.{check_fault}
 use Rattle.pg_command.specs.Mirrors.Solver.{IsUnsolved}
-use Rattle.pg_command.proofs.Refusing.{refused_by}
-use Rattle.pg_command.proofs.Printing.{unsolved_by}
+use Rattle.pg_command.proofs.Refusing.{refused_by, unsolved_by}
 use Rattle.pg_command.proofs.solver.solution_of.Goals as goal
 
 pub strategies-requires-clause-even_size : goal.strategies-requires-clause-even_size
@@ -24,11 +23,11 @@ strategies-requires-clause-closed g c = record {
 
 pub returns-in_err-strategies-clause-refused : goal.returns-in_err-strategies-clause-refused
 returns-in_err-strategies-clause-refused g c =
-    let Found = g.F.Finder.finds c.args.finder.now in
+    let Kind = g.F.Finder.finds c.args.finder.now in
     let fault = c.in_err-strategies.field-0.0 in
-    refused_by (IsUnsolved Found c.args.game.now) c.from_residual-in_err-strategies.result (check_fault fault)
+    refused_by (IsUnsolved Kind c.args.game.now) c.from_residual-in_err-strategies.result (check_fault fault)
     c.from_residual-in_err-strategies.ensures.1
-    (unsolved_by Found c.args.game.now (g.F.Map.Measures.map c.in_ok-maps.maps.of_game) (g.F.Map.Measures.map c.in_ok-maps.maps.of_dual) c.in_ok-maps.ensures.of_game c.in_ok-maps.ensures.of_dual fault
+    (unsolved_by Kind c.args.game.now (g.F.Map.Measures.map c.in_ok-maps.maps.of_game) (g.F.Map.Measures.map c.in_ok-maps.maps.of_dual) c.in_ok-maps.ensures.of_game c.in_ok-maps.ensures.of_dual fault
     c.in_err-strategies.ensures.fault)
 
 pub returns-clause-solved : goal.returns-clause-solved

@@ -1,57 +1,80 @@
-use Rattle.std.proofs.Common.{◌++◌, sym, subst}
+use Rattle.std.proofs.Common.{Err, ap, inl, refl, subst, ◌++◌}
+use Rattle.pg_synth.specs.Answers.{IsMealyOf}
 use Rattle.pg_aiger.specs.CircuitLayout.{circuit_text}
-use Rattle.pg_command.specs.Faults.{aiger_fault}
-use Rattle.pg_command.specs.Synthesising.{realizable}
-use Rattle.pg_command.specs.Answers as answers
-use Rattle.pg_command.specs.Mirrors.Synthesised.{IsOutcome}
-use Rattle.pg_words.specs.declared.command.Command.TheVariants.{Synth}
-use Rattle.pg_command.specs.declared.fault.CliFault.TheVariants.{Write}
+use Rattle.pg_command.specs.Faults.{hoa_fault, synth_fault, aiger_fault}
+use Rattle.pg_command.specs.Synthesising.{RefusesSynth, realizable}
+use Rattle.pg_command.specs.Mirrors.Working.{Fails}
 use Rattle.pg_command.proofs.Refusing.{refused_by}
-use Rattle.pg_command.proofs.Writing.{appends_then}
-use Rattle.pg_command.proofs.Synthesised.{has_answer, prints_realized}
+use Rattle.pg_command.proofs.Made.{text_refused, game_refused}
+use Rattle.pg_command.proofs.Synthesised.{refuses_circuit, IsKnown, fits_by, realized_by, large_by}
 use Rattle.pg_command.proofs.synth.synth.Goals as goal
 
 pub returns-in_err-automaton-clause-refused : goal.returns-in_err-automaton-clause-refused
-returns-in_err-automaton-clause-refused g c = λ workers.
-    let P = answers.RefusesBy (g.F.Finder.finds c.args.finder.now) (Synth workers) c.args.text.items in
-    refused_by P c.from_residual.result c.in_err-automaton.field-0.0 c.from_residual.ensures.1 (c.in_err-automaton.ensures.refused workers)
+returns-in_err-automaton-clause-refused g c =
+    let Refused = Fails (RefusesSynth (g.F.Finder.finds c.args.finder.now) c.args.text.items) in
+    let fault = c.in_err-automaton.field-0.0 in
+    refused_by Refused c.from_residual.result (hoa_fault fault) c.from_residual.ensures.1
+    (text_refused Refused c.args.text.items fault tt (λ said no. no) (rw (← c.deref.ensures.value) c.in_err-automaton.ensures.refused))
 
-pub returns-in_err-write_all-clause-refused : goal.returns-in_err-write_all-clause-refused
-returns-in_err-write_all-clause-refused g c = λ workers.
-    let Found = g.F.Finder.finds c.args.finder.now in
-    let x = c.in_ok-automaton in
-    refused_by (answers.RefusesBy Found (Synth workers) c.args.text.items) c.from_residual-in_err-write_all.result Write
-    c.from_residual-in_err-write_all.ensures.1
-    (has_answer Found workers c.args.text.items x.automaton x.circuit c.requires.limit x.ensures.circuit)
+pub returns-in_err-made-clause-refused : goal.returns-in_err-made-clause-refused
+returns-in_err-made-clause-refused g c =
+    let Refused = Fails (RefusesSynth (g.F.Finder.finds c.args.finder.now) c.args.text.items) in
+    let fault = c.in_err-made.field-0.0 in
+    refused_by Refused c.from_residual-in_err-made.result (synth_fault fault) c.from_residual-in_err-made.ensures.1
+    (game_refused Refused c.args.text.items c.in_ok-automaton.automaton (rw (← c.deref.ensures.value) c.in_ok-automaton.ensures.found) fault tt
+    (λ over. over) c.in_err-made.ensures.fault)
 
-pub returns-in_err-write_all-2-clause-refused : goal.returns-in_err-write_all-2-clause-refused
-returns-in_err-write_all-2-clause-refused g c = λ workers.
-    let Found = g.F.Finder.finds c.args.finder.now in
-    let x = c.in_ok-automaton in
-    refused_by (answers.RefusesBy Found (Synth workers) c.args.text.items) c.from_residual-in_err-write_all-2.result Write
-    c.from_residual-in_err-write_all-2.ensures.1
-    (has_answer Found workers c.args.text.items x.automaton x.circuit c.requires.limit x.ensures.circuit)
+pub returns-in_err-circuit-clause-refused : goal.returns-in_err-circuit-clause-refused
+returns-in_err-circuit-clause-refused g c =
+    let Kind = g.F.Finder.finds c.args.finder.now in
+    let bytes = c.args.text.items in
+    let fault = c.in_err-circuit.field-0.0 in
+    let a = c.in_ok-automaton.automaton in
+    let made = c.in_ok-made.made in
+    let solution = c.in_ok-solution.solution in
+    let machine = c.in-Some.machine in
+    let mealy = subst (IsMealyOf a made.game made.initial solution) c.in-Some.is c.in_ok-machine.ensures.machine in
+    let known : IsKnown Kind bytes a made.game made.initial solution = record {
+      spelt = rw (← c.deref.ensures.value) c.in_ok-automaton.ensures.found;
+      is_automaton = c.states-states.ensures.automaton;
+      game_of = c.in_ok-made.ensures.game;
+      solved = c.in_ok-solution.ensures.solved;
+      whole = c.in_ok-solution.ensures.solution;
+      sound = c.in_ok-solution.ensures.sound;
+    } in
+    refused_by (Fails (RefusesSynth Kind bytes)) c.from_residual-in_err-circuit.result (aiger_fault fault) c.from_residual-in_err-circuit.ensures.1
+    (refuses_circuit Kind bytes fault c.in_err-circuit.ensures.refused
+    (λ e. large_by Kind bytes a made.game made.initial solution known machine mealy (c.in_err-circuit.ensures.too_large.0 (ap Err e))))
 
-pub returns-in_err-write_circuit-clause-refused : goal.returns-in_err-write_circuit-clause-refused
-returns-in_err-write_circuit-clause-refused g c = λ workers.
-    let Found = g.F.Finder.finds c.args.finder.now in
-    let x = c.in_ok-automaton in
-    let fault = c.in_err-write_circuit.field-0.0 in
-    refused_by (answers.RefusesBy Found (Synth workers) c.args.text.items) c.from_residual-in_err-write_circuit.result (aiger_fault fault)
-    c.from_residual-in_err-write_circuit.ensures.1
-    (subst (λ f. answers.RefusesBy Found (Synth workers) c.args.text.items (aiger_fault f)) (sym c.in_err-write_circuit.ensures.refused)
-    (has_answer Found workers c.args.text.items x.automaton x.circuit c.requires.limit x.ensures.circuit))
+pub returns-clause-whole : goal.returns-clause-whole
+returns-clause-whole g c =
+    let a = c.in_ok-automaton.automaton in
+    let made = c.in_ok-made.made in
+    let solution = c.in_ok-solution.solution in
+    let machine = c.in-Some.machine in
+    fits_by a made.game made.initial solution machine c.in_ok-circuit.circuit
+    (subst (IsMealyOf a made.game made.initial solution) c.in-Some.is c.in_ok-machine.ensures.machine) c.in_ok-circuit.ensures.circuit
 
 pub returns-clause-answer : goal.returns-clause-answer
-returns-clause-answer g c = λ workers.
-    let Found = g.F.Finder.finds c.args.finder.now in
-    let x = c.in_ok-automaton in
-    let circuit = c.in-Some.circuit in
-    let even = subst (IsOutcome Found c.args.text.items x.automaton) c.in-Some.is x.ensures.circuit in
-    let text = circuit_text circuit x.automaton in
-    let contents = g.W.Write.contents in (
-      realizable ++ text,
-      prints_realized Found workers c.args.text.items circuit x.automaton c.requires.limit even.0 even.1,
-      appends_then (contents c.args.writer.now) (contents c.write_all-2.new.self) (contents c.write_circuit.new.out) realizable text
-          c.in_ok-write_all-2.ensures.bytes c.in_ok-write_circuit.ensures.bytes,
+returns-clause-answer g c =
+    let Kind = g.F.Finder.finds c.args.finder.now in
+    let bytes = c.args.text.items in
+    let a = c.in_ok-automaton.automaton in
+    let made = c.in_ok-made.made in
+    let solution = c.in_ok-solution.solution in
+    let machine = c.in-Some.machine in
+    let circuit = c.in_ok-circuit.circuit in
+    let mealy = subst (IsMealyOf a made.game made.initial solution) c.in-Some.is c.in_ok-machine.ensures.machine in
+    let known : IsKnown Kind bytes a made.game made.initial solution = record {
+      spelt = rw (← c.deref.ensures.value) c.in_ok-automaton.ensures.found;
+      is_automaton = c.states-states.ensures.automaton;
+      game_of = c.in_ok-made.ensures.game;
+      solved = c.in_ok-solution.ensures.solved;
+      whole = c.in_ok-solution.ensures.solution;
+      sound = c.in_ok-solution.ensures.sound;
+    } in (
+      realizable ++ circuit_text circuit a,
+      refl,
+      inl (realized_by Kind bytes a made.game made.initial solution known machine mealy circuit
+          (λ over. absurd (cc (c.in_ok-circuit.was, c.circuit_of.ensures.too_large.1 over))) c.in_ok-circuit.ensures.circuit),
     )

@@ -4,10 +4,6 @@ use Rattle.pg_cli.proofs.apart.Programs.write_answer.Goals as goal
 no_place : (n k : ℕ) → k < n → n ≡ 0 → ⊥
 no_place n k inside none = omega (arith, inside, none)
 
-pub returns-clause-alone_answer : goal.returns-clause-alone_answer
-returns-clause-alone_answer g c = λ none.
-    c.answer_over-answered.ensures.honest_answer (λ k d inside. absurd (no_place _ k inside (rw c.as_mut_slice-workers.ensures.value none)))
-
-pub returns-clause-alone_refused : goal.returns-clause-alone_refused
-returns-clause-alone_refused g c = λ none.
-    c.answer_over-answered.ensures.honest_refused (λ k d inside. absurd (no_place _ k inside (rw c.as_mut_slice-workers.ensures.value none)))
+pub returns-clause-alone : goal.returns-clause-alone
+returns-clause-alone g c = λ none.
+    c.answer_over-answered.ensures.honest (λ k d inside. absurd (no_place _ k inside (rw c.as_mut_slice-workers.ensures.value none)))

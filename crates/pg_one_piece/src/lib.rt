@@ -1,13 +1,14 @@
-//! Games that are solved in this process, in one piece.
+//! The method of solving in one piece, in this process.
+#![tactic(auto)]
 
 use pg_arena::Game;
 use pg_command::{Finder, Maps};
 use pg_solver::Found;
 use std::alloc::{AllocError, Global};
 
-/// Has maps of a game and of its dual proposed and certified, in this process.
+/// Has maps of a game and of its dual proposed and certified.
 #[derive(Clone, Copy)]
-pub(crate) struct InOnePiece;
+pub struct InOnePiece;
 
 impl Finder for InOnePiece {
     type Map = Found;

@@ -1,0 +1,66 @@
+-- What is printed of what a command worked out, and what is known of an input that was read.
+use Rattle.std.proofs.Common.{◌≡◌, ℕ, ◌≤◌, List, length, Option, Some, None, Result, Ok, Err, sym, subst}
+use Rattle.std.specs.Prelude.{IfOk, IfErr, IfSome, OnOk, MatchResult}
+use Rattle.std.specs.Io.KnownBytes.{Appends}
+use Rattle.pg_command.specs.Measuring.{MapKind}
+use Rattle.pg_command.specs.Answers.{meaning_of, RefusesBy, Answers}
+use Rattle.pg_command.specs.Mirrors.Working.{ShowsWhat, Fails}
+use Rattle.pg_command.specs.declared.input.TheConstants.{MOST_BYTES}
+use Rattle.pg_words.specs.declared.command.Command.{Command}
+use Rattle.pg_command.specs.declared.fault.CliFault.{CliFault}
+use Rattle.pg_command.specs.declared.fault.CliFault.TheVariants as cli
+
+-- the text of an answer was written
+abbrev pub IsWritten : {A : Type 0} → (A → List ℕ → Type 0) → Option (List ℕ) → Option (List ℕ) → Result A CliFault → Type 0
+IsWritten shows old new worked_out =
+    MatchResult worked_out (λ answer. (output : List ℕ) → shows answer output → Appends old new output) (λ _. ⊥)
+
+-- what was worked out, or else the writer, is at fault
+abbrev pub IsAtFault : {A : Type 0} → Result A CliFault → CliFault → Type 0
+IsAtFault worked_out fault = MatchResult worked_out (λ _. fault ≡ cli.Write) (λ why. fault ≡ why)
+
+pub printed : {A : Type 0} (shows : A → List ℕ → Type 0) (Prints : List ℕ → Type 0) (old new : Option (List ℕ)) (worked_out : Result A CliFault)
+    (result : Result (Unit {0}) CliFault) → IfOk worked_out (ShowsWhat Prints shows) → OnOk result (IsWritten shows old new worked_out)
+    → OnOk result ((output : List ℕ) × Prints output × Appends old new output)
+printed shows Prints old new worked_out (Err fault) told written = tt
+printed shows Prints old new (Ok answer) (Ok done) told written = (told.0, told.2, written told.0 told.1)
+printed shows Prints old new (Err why) (Ok done) told written = absurd written
+
+-- what fails at its work is refused
+refused : (Kind : MapKind) (command : Command) (input : List ℕ) (fault : CliFault) → length input ≤ MOST_BYTES
+    → Fails (meaning_of Kind command input).refuses fault → RefusesBy Kind command input fault
+refused Kind command input cli.OutOfMemory limit why = tt
+refused Kind command input cli.Read limit why = tt
+refused Kind command input cli.Write limit why = absurd why
+refused Kind command input cli.InputTooLong limit why = absurd why
+refused Kind command input _ limit why = (limit, why)
+
+-- what is written of an answer, and told where there is none, is what the command comes to
+comes_to : {A : Type 0} (shows : A → List ℕ → Type 0) (Kind : MapKind) (command : Command) (input : List ℕ) (old new : Option (List ℕ))
+    (worked_out : Result A CliFault) (result : Result (Unit {0}) CliFault) → length input ≤ MOST_BYTES
+    → IfOk worked_out (ShowsWhat (meaning_of Kind command input).prints shows) → IfErr worked_out (Fails (meaning_of Kind command input).refuses)
+    → OnOk result (IsWritten shows old new worked_out) → IfErr result (IsAtFault worked_out) → Answers Kind command input old new result
+comes_to shows Kind command input old new (Ok answer) (Ok done) limit told fails written fault =
+    (told.0, record { limit = limit; answer = told.2 }, written told.0 told.1)
+comes_to shows Kind command input old new (Ok answer) (Err fault) limit told fails written is =
+    subst (RefusesBy Kind command input) (sym is) (told.0, record { limit = limit; answer = told.2 })
+comes_to shows Kind command input old new (Err why) (Ok done) limit told fails written fault = absurd written
+comes_to shows Kind command input old new (Err why) (Err fault) limit told fails written is =
+    subst (RefusesBy Kind command input) (sym is) (refused Kind command input why limit fails)
+
+-- and so it is of the command that is asked for
+pub answered : {A : Type 0} (shows : A → List ℕ → Type 0) (Kind : MapKind) (asked command : Command) (input : List ℕ) (old new : Option (List ℕ))
+    (worked_out : Result A CliFault) (result : Result (Unit {0}) CliFault) → length input ≤ MOST_BYTES → asked ≡ command
+    → IfOk worked_out (ShowsWhat (meaning_of Kind command input).prints shows) → IfErr worked_out (Fails (meaning_of Kind command input).refuses)
+    → OnOk result (IsWritten shows old new worked_out) → IfErr result (IsAtFault worked_out) → Answers Kind asked input old new result
+answered shows Kind asked command input old new worked_out result limit same told fails written fault =
+    subst (λ (it : Command). Answers Kind it input old new result) (sym same)
+    (comes_to shows Kind command input old new worked_out result limit told fails written fault)
+
+-- what is so of the text that was read is so of the known bytes
+pub answered_known : (Kind : MapKind) (command : Command) (known old new : Option (List ℕ)) (text : List ℕ) (result : Result (Unit {0}) CliFault)
+    → IfSome known (λ input. text ≡ input) → Answers Kind command text old new result
+    → IfSome known (λ input. Answers Kind command input old new result)
+answered_known Kind command None old new text result same answer = tt
+answered_known Kind command (Some input) old new text result same answer =
+    subst (λ (bytes : List ℕ). Answers Kind command bytes old new result) same answer

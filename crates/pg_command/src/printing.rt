@@ -1,0 +1,39 @@
+//! Answers, and how they are printed.
+
+ghost use Rattle.std.specs.Prelude.{◌≡◌, ◌≢◌, ℕ, List, IfOk, IfErr, OnOk, OnSome, MatchResult};
+ghost use Rattle.std.specs.Io.KnownBytes.{Appends};
+
+use crate::fault::CliFault;
+use std::io::Write;
+
+/// What a command has worked out of an input: a value whose text is still to be written.
+pub(crate) trait Answer {
+    /// What has to be so of it.
+    ghost is_whole: { Self → Type 0 };
+
+    /// The output is its text.
+    ghost shows: { Self → List ℕ → Type 0 };
+
+    /// Writes its text. None where the writer fails.
+    fn write<W: Write>(self, writer: &mut W) -> Option<()>
+        requires { is_whole self }
+        ensures { OnSome result ((output : List ℕ) → shows self output
+            → Appends (W.contents writer.old) (W.contents writer.new) output) };
+}
+
+/// Writes the text of an answer. What was worked out before comes first: where there is no answer nothing is written.
+pub(crate) fn print<A: Answer, W: Write>(
+    worked_out: Result<A, CliFault>,
+    writer: &mut W,
+) -> Result<(), CliFault>
+    requires { IfOk worked_out A.is_whole }
+    ensures written { OnOk result (MatchResult worked_out (λ answer. (output : List ℕ) → A.shows answer output
+        → Appends (W.contents writer.old) (W.contents writer.new) output) (λ _. ⊥)) }
+    ensures refused { IfErr result (λ fault. MatchResult worked_out (λ _. fault ≡ CliFault.Write) (λ why. fault ≡ why)) }
+    ensures untouched { IfErr result (λ fault. fault ≢ CliFault.Write → writer.new ≡ writer.old) }
+{
+    match worked_out?.write(writer) {
+        Some(()) => Ok(()),
+        None => Err(CliFault::Write),
+    }
+}
