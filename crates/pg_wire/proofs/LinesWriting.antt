@@ -10,7 +10,7 @@ use Rattle.pg_wire.specs.Spelling.{line, body, longest}
 use Rattle.pg_wire.specs.Lines.{frame_with}
 use Rattle.pg_wire.specs.LinesWritten.{AreWriting}
 use Rattle.pg_wire.proofs.Append.{few}
-use Rattle.pg_wire.proofs.Lines.{words_size}
+use Rattle.pg_wire.proofs.Nonzero.{words_size}
 
 line_size : (l : VertexLine) → length (line l) ≡ 13 + 4 * length l.successors
 line_size l = omega (arith, words_size l.successors)
