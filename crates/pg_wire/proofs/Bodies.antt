@@ -5,9 +5,9 @@ use Rattle.std.specs.Prelude.{◌==◌}
 use Rattle.std.specs.Int.{w32, from_be_bytes}
 use Rattle.std.proofs.lemmas.Bool.{eqb-true, cases_Bool}
 use Rattle.std.proofs.lemmas.List.{append-nil, take_at, drop_at, length-append, nil_from_length}
-use Rattle.std.proofs.lemmas.Nat.{be_bytes_4, from_be_bytes-to_be_bytes_4}
+use Rattle.std.proofs.lemmas.Nat.{from_be_bytes-to_be_bytes_4}
 use Rattle.pg_wire.specs.declared.fault.FieldFault.{FieldFault}
-use Rattle.pg_wire.specs.declared.fault.FieldFault.TheVariants.{At, Kind}
+use Rattle.pg_wire.specs.declared.fault.FieldFault.TheVariants.{At}
 use Rattle.pg_wire.specs.declared.fault.ReadFault.{ReadFault}
 use Rattle.pg_wire.specs.declared.fault.ReadFault.TheVariants as faults
 use Rattle.pg_wire.specs.declared.frame.Frame.{Frame}
@@ -33,7 +33,7 @@ filled : {A : Type 0} {f : Format A} (make : A → Frame) (k : ℕ) (bytes : Lis
 filled {A} {f} make k bytes g is spelt well h e =
     let p = bind_ok (made make f.read bytes) end g e in
     let q = bind_ok (f.read bytes) (λ a. Ok (make a.0, a.1)) p.0 p.1 in
-    let t = is.takes bytes q.0 h q.1 in
+    let t = is.reads_only bytes q.0 h q.1 in
     let last = test_ok (length p.0.1 == 0) (At (length p.0.1)) p.0.0 g p.2 in
     let made_is : Frame × List ℕ = (make q.0.0, q.0.1) in
     let same : made_is ≡ p.0 = ok_is made_is p.0 q.2 in
@@ -67,38 +67,26 @@ unfolding body_at
 body_found [] f h e = absurd cc
 body_found (kind ∷ bytes) f h e = frame_found kind bytes f (λ i. h (suc i)) e
 
-fields_again : {A : Type 0} {f : Format A} (make : A → Frame) (a : A) → IsForm f → f.Fits a → (made make f.read (f.spelled a) >>= end) ≡ Ok (make a)
-fields_again {A} {f} make a is h =
-    let r : f.read (f.spelled a) ≡ Ok (a, []) = ap f.read (sym (append-nil (f.spelled a))) ∙ is.again a [] h in
+fields_read_back : {A : Type 0} {f : Format A} (make : A → Frame) (a : A) → IsForm f → f.Fits a → (made make f.read (f.spelled a) >>= end) ≡ Ok (make a)
+fields_read_back {A} {f} make a is h =
+    let r : f.read (f.spelled a) ≡ Ok (a, []) = ap f.read (sym (append-nil (f.spelled a))) ∙ is.reads_back a [] h in
     rw r refl
 
-pub body_again : (f : Frame) → IsWell f → body_at (body f) ≡ Ok f
+pub body_reads_back : (f : Frame) → IsWell f → body_at (body f) ≡ Ok f
 unfolding body_at frame_at setup_fields vertices_fields values_fields sparse_fields go_fields report_fields
-body_again (frames.Setup s) h = fields_again frames.Setup s setup_is h
-body_again (frames.Vertices v) h = fields_again frames.Vertices v vertices_is h
-body_again (frames.Values v) h = fields_again frames.Values v values_fields_is h
-body_again (frames.Go g) h = fields_again frames.Go g go_is h
-body_again (frames.Report r) h = fields_again frames.Report r report_is h
-body_again frames.Halt h = refl
-body_again (frames.Sparse s) h = fields_again frames.Sparse s sparse_fields_is h
+body_reads_back (frames.Setup s) h = fields_read_back frames.Setup s setup_is h
+body_reads_back (frames.Vertices v) h = fields_read_back frames.Vertices v vertices_is h
+body_reads_back (frames.Values v) h = fields_read_back frames.Values v values_fields_is h
+body_reads_back (frames.Go g) h = fields_read_back frames.Go g go_is h
+body_reads_back (frames.Report r) h = fields_read_back frames.Report r report_is h
+body_reads_back frames.Halt h = refl
+body_reads_back (frames.Sparse s) h = fields_read_back frames.Sparse s sparse_fields_is h
 
 -- ---- whole frames
 
 -- the number at the front of a spelling is the length of the body
 pub length_is : (f : Frame) → length (body f) ≤ longest → from_be_bytes w32 (word (length (body f))) ≡ length (body f)
 length_is f within = from_be_bytes-to_be_bytes_4 (length (body f)) (omega arith)
-
--- a length, and as many bytes, which give a frame
-pub whole_found : (bytes front rest : List ℕ) (f : Frame) → bytes ≡ front ++ rest → length front ≡ 4 → IsBytes front
-    → length rest ≡ from_be_bytes w32 front → length rest ≤ longest → (rest ≡ body f) × IsWell f → Spells f bytes
-whole_found bytes front rest f e len small n within r =
-    let size : from_be_bytes w32 front ≡ length (body f) = sym n ∙ ap length r.0 in
-    let first : word (length (body f)) ≡ front = ap word (sym size) ∙ be_bytes_4 front _ len small refl in
-    record {
-      well = r.1;
-      within = subst (λ (k : ℕ). k ≤ longest) (ap length r.0) within;
-      spelled = e ∙ ap (λ (t : List ℕ). front ++ t) r.0 ∙ ap (λ (t : List ℕ). t ++ body f) (sym first);
-    }
 
 -- what is spelled is a length, and as many bytes
 pub record IsSplit (front rest : List ℕ) (f : Frame) : Type 0 where
@@ -120,7 +108,7 @@ spelling_split bytes front rest f e len s =
 -- ---- laws
 
 pub same_body : (f g : Frame) → IsWell f → IsWell g → body f ≡ body g → f ≡ g
-same_body f g p q same = ok_is f g (sym (body_again f p) ∙ ap body_at same ∙ body_again g q)
+same_body f g p q same = ok_is f g (sym (body_reads_back f p) ∙ ap body_at same ∙ body_reads_back g q)
 
 pub no_front : (f g : Frame) (front more : List ℕ) → Spells f front → Spells g (front ++ more) → more ≡ []
 no_front f g front more p q =
@@ -148,5 +136,5 @@ one_frame f g bytes p q =
 pub refused : (e : ReadFault) (x : FieldFault) (bytes : List ℕ) (f : Frame) → e ≡ faults.Field x → Fails e (body_at bytes) → IsWell f → bytes ≡ body f → ⊥
 refused faults.Memory x bytes f is h well b = absurd cc
 refused (faults.Field y) x bytes f is h well b =
-    let ok : body_at bytes ≡ Ok f = ap body_at b ∙ body_again f well in
+    let ok : body_at bytes ≡ Ok f = ap body_at b ∙ body_reads_back f well in
     absurd (cc (sym h ∙ ok))

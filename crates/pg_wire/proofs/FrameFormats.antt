@@ -11,7 +11,7 @@ use Rattle.pg_wire.specs.Measured.{Measured, spelled_as}
 use Rattle.pg_wire.specs.Mirrors.Ordered.{falling, in_any_order}
 use Rattle.pg_wire.specs.Mirrors.Reading.{is_code, code_at, byte_at}
 use Rattle.pg_wire.specs.Mirrors.Formats as formats
-use Rattle.pg_wire.proofs.Grammar.{IsForm, IsKind, Takes, bind_ok, test_ok, and_both, then_is, seen_is, said_is, within_is, number_is, odd_is, byte_is}
+use Rattle.pg_wire.proofs.Grammar.{IsForm, IsKind, Begins, bind_ok, test_ok, and_both, then_is, seen_is, said_is, within_is, number_is, odd_is, byte_is}
 use Rattle.pg_wire.proofs.Grammar.{version_is, tagged_is, so_many_is, listed_is, rising_is}
 use Rattle.pg_wire.proofs.Filling.{nonzero_filled, filled_nonzero, places_nonzero, components_filled}
 
@@ -171,14 +171,14 @@ fits_code status code (inr k) =
 code_is : (status : ℕ) → status < 3 → IsForm (formats.code status)
 unfolding code_at
 code_is status lt = record {
-  takes = λ bytes x h e.
+  reads_only = λ bytes x h e.
       let p = bind_ok (byte_at 19 bytes) (λ c. cond (is_code status c.0) (Ok c) (Err (At (length bytes)))) x e in
-      let t = (byte_is 19).takes bytes p.0 h p.1 in
+      let t = (byte_is 19).reads_only bytes p.0 h p.1 in
       let g = test_ok (is_code status p.0.0) (At (length bytes)) p.0 x p.2 in
-      subst (λ (y : ℕ × List ℕ). Takes bytes (y.0 ∷ []) y.1 × IsCode status y.0) g.1 (t.0, code_fits status p.0.0 lt g.0);
-  again = λ c rest h.
+      subst (λ (y : ℕ × List ℕ). Begins bytes (y.0 ∷ []) y.1 × IsCode status y.0) g.1 (t.0, code_fits status p.0.0 lt g.0);
+  reads_back = λ c rest h.
       let k = fits_code status c h in
-      rw ((byte_is 19).again c rest k.1, k.2) refl;
+      rw ((byte_is 19).reads_back c rest k.1, k.2) refl;
 }
 
 -- ---- the fields of each kind of frame

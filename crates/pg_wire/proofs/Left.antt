@@ -15,7 +15,7 @@ first_read : (r : ValuesReader) (m : Measured) (ms : List Measured) → IsLeft r
 first_read r m ms h =
     let small : r.width < 2 ^ 32 = omega (arith, h.width) in
     ap (measured r.kind r.width 0).read (h.spelled ∙ flat_map-cons (spelled_as r.kind) m ms)
-    ∙ ((measures_is r.kind r.width small).form 0 (omega arith)).again m (flat_map (spelled_as r.kind) ms) (omega arith, h.measures 0 m (omega arith))
+    ∙ ((measures_is r.kind r.width small).form 0 (omega arith)).reads_back m (flat_map (spelled_as r.kind) ms) (omega arith, h.measures 0 m (omega arith))
 
 -- a measure that isn't read is none that was left
 pub none_left : (ms : List Measured) (r : ValuesReader) (row row' : List ℕ) (e : FieldFault) → IsLeft r ms → (r.bytes.now ≡ [] → ⊥)

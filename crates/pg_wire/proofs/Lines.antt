@@ -1,8 +1,8 @@
 -- The lines of a frame of vertices, one after the other.
-use Rattle.std.proofs.Common.{◌≡◌, ℕ, suc, ◌+◌, ◌*◌, ◌/◌, ◌^◌, ◌<◌, ◌≤◌, List, [], ◌∷◌, ◌++◌, length, drop, Some, None, Result, Ok, Err}
+use Rattle.std.proofs.Common.{◌≡◌, ℕ, suc, ◌+◌, ◌/◌, ◌<◌, List, [], ◌∷◌, ◌++◌, length, Some, None, Ok, Err}
 use Rattle.std.proofs.Common.{Bor, refl, sym, ap, ◌∙◌, arith}
 use Rattle.std.specs.List.{flat_map}
-use Rattle.std.proofs.lemmas.List.{append-nil, length-append}
+use Rattle.std.proofs.lemmas.List.{length-append}
 use Rattle.std.proofs.lemmas.List.Concat.{flat_map-cons}
 use Rattle.pg_wire.specs.declared.fault.FieldFault.{FieldFault}
 use Rattle.pg_wire.specs.declared.frame.LineHead.{LineHead}
@@ -31,7 +31,7 @@ first_read : (r : VerticesReader) (l : VertexLine) (ls : List VertexLine) → Ar
 unfolding line_head
 first_read r l ls h =
     let is = h.lines 0 l (omega arith) in
-    ap (line_head 0).read (h.spelled ∙ flat_map-cons line l ls) ∙ head_is.again (counted_of l) (flat_map word l.successors ++ flat_map line ls)
+    ap (line_head 0).read (h.spelled ∙ flat_map-cons line l ls) ∙ head_is.reads_back (counted_of l) (flat_map word l.successors ++ flat_map line ls)
     ((omega arith, is.vertex), ((omega arith, omega (arith, is.priority), omega (arith, is.priority)), (omega (arith, is.owner), (is.some, is.countable))))
 
 -- a line that isn't read is none that was left
@@ -74,7 +74,7 @@ next_left (l ∷ ls) r row head count rest after h read numbers =
     let n : count ≡ length l.successors = ap (λ (y : Counted × List ℕ). y.0.1.1.1) same in
     let whole : rest ≡ flat_map word l.successors ++ flat_map line ls = ap (λ (y : Counted × List ℕ). y.1) same in
     let again : (all_components count).read rest ≡ Ok (l.successors, flat_map line ls) = ap (all_components count).read whole
-    ∙ (all_components_is count).again l.successors (flat_map line ls) (record { size = sym n; numbers = is.successors }) in
+    ∙ (all_components_is count).reads_back l.successors (flat_map line ls) (record { size = sym n; numbers = is.successors }) in
     let found : List ℕ × List ℕ = (row, after.now) in
     let wanted : List ℕ × List ℕ = (l.successors, flat_map line ls) in
     let parts = ok_is found wanted (sym numbers ∙ again) in (

@@ -1,5 +1,5 @@
 -- What is passed over is read.
-use Rattle.std.proofs.Common.{◌≡◌, ℕ, suc, ◌+◌, ◌-◌, ◌^◌, ◌<◌, ◌≤◌, List, [], ◌∷◌, ◌++◌, drop, get_or, length, Option, Some, Result, Ok, Err, refl, sym, ap, subst, ◌∙◌, arith}
+use Rattle.std.proofs.Common.{◌≡◌, ℕ, suc, ◌+◌, ◌-◌, ◌^◌, ◌<◌, ◌≤◌, List, [], ◌∷◌, ◌++◌, drop, get_or, length, Some, Result, Ok, Err, refl, sym, ap, subst, ◌∙◌, arith}
 use Rattle.std.specs.List.{flat_map}
 use Rattle.std.proofs.lemmas.List.{append-nil}
 use Rattle.pg_wire.specs.declared.fault.FieldFault.{FieldFault}
@@ -16,9 +16,9 @@ use Rattle.pg_wire.specs.declared.kind.ValueKind.TheVariants as kinds
 use Rattle.pg_wire.specs.Spelling.{word, line, body}
 use Rattle.pg_wire.specs.Well.{IsWell}
 use Rattle.pg_wire.specs.Lines.{frame_with}
-use Rattle.pg_wire.specs.Measured.{Measured, filled, spelled_as, kind_number}
+use Rattle.pg_wire.specs.Measured.{filled, spelled_as, kind_number}
 use Rattle.pg_wire.specs.Mirrors.Reading.{◌>>=◌, Reader, both, made, skipped, items_at, counted_at, tagged_at, within_at, byte_at}
-use Rattle.pg_wire.specs.Mirrors.Formats.{Format, Kind, so_many, listed, tagged, number, within, byte, successors, components, lines, values, places}
+use Rattle.pg_wire.specs.Mirrors.Formats.{Format, Kind, so_many, listed, within, successors, lines, values, places}
 use Rattle.pg_wire.specs.Mirrors.Formats.{sparse_values, all_components, some_places, line as line_format, value, sparse_value, measure}
 use Rattle.pg_wire.specs.Mirrors.Formats.{values_fields, sparse_fields, vertices_fields}
 use Rattle.pg_wire.specs.Mirrors.Streaming.{measures_skipped, AreLines, AreFields}
@@ -171,12 +171,12 @@ sparse_value_refused width low n t bytes rest more e a b z s =
 read_all : {A : Type 0} {f : Format A} → IsForm f → (bytes : List ℕ) → IsBytes bytes → skipped f.read bytes ≡ Ok [] → (a : A) × (bytes ≡ f.spelled a) × f.Fits a
 read_all {A} {f} is bytes h e =
     let p = skipped_ok f.read bytes [] e in
-    let t = is.takes bytes (p.0, []) h p.1 in
+    let t = is.reads_only bytes (p.0, []) h p.1 in
     (p.0, t.0.parts ∙ append-nil (f.spelled p.0), t.1)
 
 reads_all : {A : Type 0} {f : Format A} → IsForm f → (bytes : List ℕ) (a : A) → f.Fits a → bytes ≡ f.spelled a → skipped f.read bytes ≡ Ok []
 reads_all {A} {f} is bytes a h e =
-    let read : f.read bytes ≡ Ok (a, []) = ap f.read (e ∙ sym (append-nil (f.spelled a))) ∙ is.again a [] h in
+    let read : f.read bytes ≡ Ok (a, []) = ap f.read (e ∙ sym (append-nil (f.spelled a))) ∙ is.reads_back a [] h in
     rw read refl
 
 -- a number that is read is the one that is spelled
@@ -185,7 +185,7 @@ number_read : (low high n m : ℕ) (bytes rest more : List ℕ) → (low ≤ m) 
 number_read low high n m bytes rest more h e a =
     let found : ℕ × List ℕ = (n, rest) in
     let wanted : ℕ × List ℕ = (m, more) in
-    let same : found ≡ wanted = ok_is found wanted (sym a ∙ ap (within_at low high) e ∙ (within_is low high).again m more h) in
+    let same : found ≡ wanted = ok_is found wanted (sym a ∙ ap (within_at low high) e ∙ (within_is low high).reads_back m more h) in
     (ap (λ (y : ℕ × List ℕ). y.0) same, ap (λ (y : ℕ × List ℕ). y.1) same)
 
 pub dense_skipped : (width : ℕ) (bytes rest : List ℕ) (r : Result (List ℕ) FieldFault) → within_at 0 32769 bytes ≡ Ok (width, rest)
@@ -249,7 +249,7 @@ fields_are kind width count bytes list values h e a b =
 -- a number that is spelled is read
 no_number : (low high m : ℕ) (bytes more : List ℕ) (e : FieldFault) → (low ≤ m) × (m < high) × (m < 2 ^ 32) → bytes ≡ word m ++ more
     → within_at low high bytes ≡ Err e → ⊥
-no_number low high m bytes more e h is a = absurd (cc (sym a ∙ ap (within_at low high) is ∙ (within_is low high).again m more h))
+no_number low high m bytes more e h is a = absurd (cc (sym a ∙ ap (within_at low high) is ∙ (within_is low high).reads_back m more h))
 
 pub no_width : (kind : ValueKind) (f : Frame) (bytes : List ℕ) (e : FieldFault) → IsWell f → (kind_number kind ∷ bytes) ≡ body f
     → within_at 0 32769 bytes ≡ Err e → ⊥

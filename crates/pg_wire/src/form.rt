@@ -1,5 +1,5 @@
 //! Lists of items that are spelled one after the other.
-ghost use Rattle.std.specs.Prelude.{◌≡◌, ℕ, ◌+◌, ◌*◌, ◌≤◌, ◌↔◌, List, Result, IsTrue, IfOk, length, vec_capacity};
+ghost use Rattle.std.specs.Prelude.{◌≡◌, ℕ, ◌+◌, ◌*◌, ◌≤◌, ◌↔◌, Result, IsTrue, IfOk, length, vec_capacity};
 ghost use Rattle.pg_wire.specs.Mirrors.Reading.{Yields, Gives, made, skipped};
 ghost use Rattle.pg_wire.specs.Mirrors.Formats.{Kind, AreItems, so_many, listed};
 ghost use Rattle.pg_wire.specs.Mirrors.Ordered.{Steps};

@@ -1,5 +1,5 @@
 //! The kinds of lists in frames.
-ghost use Rattle.std.specs.Prelude.{◌≡◌, ◌+◌, ◌≤◌, ◌↔◌, IsTrue, IfOk, IfSome, length};
+ghost use Rattle.std.specs.Prelude.{◌+◌, ◌≤◌, ◌↔◌, IsTrue, IfOk, length};
 ghost use Rattle.pg_wire.specs.Mirrors.Reading.{Gives};
 ghost use Rattle.pg_wire.specs.Mirrors.Formats.{tagged, all_components, some_places};
 ghost use Rattle.pg_wire.specs.Well.{IsComponents, ArePlaces};

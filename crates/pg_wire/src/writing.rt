@@ -8,9 +8,8 @@ ghost use Rattle.pg_wire.specs.Mirrors.Reading.{HasBytes};
 ghost use Rattle.pg_wire.specs.declared.fault.WireFault.TheVariants.{TooLong, OutOfMemory};
 
 use crate::fault::WireFault;
-use crate::frame::{Frame, Report, Setup, SparseValue, Value, VertexLine};
+use crate::frame::{Frame, Setup, SparseValue, Value, VertexLine};
 use crate::reading::LONGEST;
-use byteorder::{BigEndian, WriteBytesExt};
 use std::alloc::Global;
 use std::io::Write;
 
@@ -31,25 +30,21 @@ pub trait Spell {
         ensures fault { IfErr result (λ e. e ≡ WireFault.Write) };
 }
 
-#[tactic(auto, using(crate::proofs::Append::word_is))]
-fn put_word<W: Write>(n: u32, out: &mut W) -> Result<(), WireFault>
-    ensures ok { OnOk result (Appends (W.contents out.old) (W.contents out.new) (word n)) }
+fn put_bytes<W: Write>(bytes: &[u8], out: &mut W) -> Result<(), WireFault>
+    ensures ok { OnOk result (Appends (W.contents out.old) (W.contents out.new) bytes.now) }
     ensures fault { IfErr result (λ e. e ≡ WireFault.Write) }
 {
-    match out.write_u32::<BigEndian>(n) {
+    match out.write_all(bytes) {
         Ok(()) => Ok(()),
         Err(_) => Err(WireFault::Write),
     }
 }
 
-fn put_byte<W: Write>(n: u8, out: &mut W) -> Result<(), WireFault>
-    ensures ok { OnOk result (Appends (W.contents out.old) (W.contents out.new) (n ∷ [])) }
+fn put_word<W: Write>(n: u32, out: &mut W) -> Result<(), WireFault>
+    ensures ok { OnOk result (Appends (W.contents out.old) (W.contents out.new) (word n)) }
     ensures fault { IfErr result (λ e. e ≡ WireFault.Write) }
 {
-    match out.write_u8(n) {
-        Ok(()) => Ok(()),
-        Err(_) => Err(WireFault::Write),
-    }
+    put_bytes(&n.to_be_bytes(), out)
 }
 
 /// Each item, one after the other.
@@ -129,7 +124,7 @@ fn put_head<W: Write>(line: &VertexLine, out: &mut W) -> Result<(), WireFault>
 {
     put_word(line.vertex, out)?;
     put_word(line.priority, out)?;
-    put_byte(line.owner, out)
+    put_bytes(&[line.owner], out)
 }
 
 impl Spell for VertexLine {
@@ -169,9 +164,9 @@ impl Spell for Value {
     fn put<W: Write>(&self, out: &mut W) -> Result<(), WireFault> {
         put_word(self.vertex, out)?;
         match &self.list {
-            None => put_byte(1, out),
+            None => put_bytes(&[1], out),
             Some(list) => {
-                put_byte(0, out)?;
+                put_bytes(&[0], out)?;
                 put_all(list.as_slice(), out)
             }
         }
@@ -197,9 +192,9 @@ impl Spell for SparseValue {
     fn put<W: Write>(&self, out: &mut W) -> Result<(), WireFault> {
         put_word(self.vertex, out)?;
         match &self.pairs {
-            None => put_byte(1, out),
+            None => put_bytes(&[1], out),
             Some(pairs) => {
-                put_byte(0, out)?;
+                put_bytes(&[0], out)?;
                 put_counted(pairs.as_slice(), out)
             }
         }
@@ -229,8 +224,8 @@ fn put_kind_and_word<W: Write>(kind: u8, n: u32, out: &mut W) -> Result<(), Wire
     ensures ok { OnOk result (Appends (W.contents out.old) (W.contents out.new) (kind ∷ word n)) }
     ensures fault { IfErr result (λ e. e ≡ WireFault.Write) }
 {
-    put_byte(kind, out)?;
-    put_word(n, out)
+    let [a, b, c, d] = n.to_be_bytes();
+    put_bytes(&[kind, a, b, c, d], out)
 }
 
 /// The body of a frame of set-up.
@@ -239,20 +234,9 @@ fn put_setup<W: Write>(setup: &Setup, out: &mut W) -> Result<(), WireFault>
     ensures ok { OnOk result (Appends (W.contents out.old) (W.contents out.new) (body (Frame.Setup setup.now))) }
     ensures fault { IfErr result (λ e. e ≡ WireFault.Write) }
 {
-    put_byte(1, out)?;
-    put_byte(setup.version, out)?;
-    put_word(setup.vertices, out)?;
+    let [a, b, c, d] = setup.vertices.to_be_bytes();
+    put_bytes(&[1, setup.version, a, b, c, d], out)?;
     put_counted(setup.bounds.as_slice(), out)
-}
-
-/// The body of a frame that reports.
-fn put_report<W: Write>(report: &Report, out: &mut W) -> Result<(), WireFault>
-    ensures ok { OnOk result (Appends (W.contents out.old) (W.contents out.new) (body (Frame.Report report.now))) }
-    ensures fault { IfErr result (λ e. e ≡ WireFault.Write) }
-{
-    put_byte(5, out)?;
-    put_byte(report.status, out)?;
-    put_byte(report.code, out)
 }
 
 /// The body of a frame, all that stands after its length.
@@ -264,7 +248,7 @@ fn put_body<W: Write>(frame: &Frame, out: &mut W) -> Result<(), WireFault>
     match frame {
         Frame::Setup(s) => put_setup(s, out),
         Frame::Vertices(v) => {
-            put_byte(2, out)?;
+            put_bytes(&[2], out)?;
             put_counted(v.lines.as_slice(), out)
         }
         Frame::Values(v) => {
@@ -272,8 +256,8 @@ fn put_body<W: Write>(frame: &Frame, out: &mut W) -> Result<(), WireFault>
             put_counted(v.values.as_slice(), out)
         }
         Frame::Go(g) => put_kind_and_word(4, g.budget, out),
-        Frame::Report(r) => put_report(r, out),
-        Frame::Halt => put_byte(6, out),
+        Frame::Report(r) => put_bytes(&[5, r.status, r.code], out),
+        Frame::Halt => put_bytes(&[6], out),
         Frame::Sparse(s) => {
             put_kind_and_word(7, s.width, out)?;
             put_counted(s.values.as_slice(), out)

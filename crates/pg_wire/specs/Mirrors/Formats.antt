@@ -5,7 +5,6 @@ use Rattle.std.specs.List.{flat_map}
 use Rattle.pg_wire.specs.declared.fault.FieldFault.{FieldFault}
 use Rattle.pg_wire.specs.declared.fault.FieldFault.TheVariants as faults
 use Rattle.pg_wire.specs.declared.frame.Setup.{Setup}
-use Rattle.pg_wire.specs.declared.frame.LineHead.{LineHead}
 use Rattle.pg_wire.specs.declared.frame.VertexLine.{VertexLine}
 use Rattle.pg_wire.specs.declared.frame.Vertices.{Vertices}
 use Rattle.pg_wire.specs.declared.frame.Value.{Value}

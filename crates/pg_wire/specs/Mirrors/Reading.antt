@@ -1,5 +1,5 @@
 -- The private readers: a field is read from the front of the bytes that are left.
-use Rattle.std.specs.Prelude.{◌≡◌, ℕ, zero, suc, ◌^◌, ◌%◌, List, [], ◌∷◌, length, take, drop, Bool, Option, Some, None, Result, Ok}
+use Rattle.std.specs.Prelude.{◌≡◌, ℕ, zero, suc, ◌%◌, List, [], ◌∷◌, length, take, drop, Bool, Option, Some, None, Result, Ok}
 use Rattle.std.specs.Prelude.{Err, nat_lt, nat_le, ◌==◌, ◌&&◌, ◌||◌, if◌then◌else◌}
 use Rattle.std.specs.Int.{w32, from_be_bytes}
 use Rattle.pg_wire.specs.declared.fault.FieldFault.{FieldFault}

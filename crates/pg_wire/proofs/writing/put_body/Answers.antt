@@ -8,12 +8,12 @@ put_counted-requires g c =
     let v = c.in-Vertices.v in
     few_bytes line v.lines c.as_slice.result.now (2 ∷ []) c.as_slice.ensures (rw c.in-Vertices.is at c.requires)
 
-pub returns-in_ok-put_byte-in-Vertices-clause-ok : goal.returns-in_ok-put_byte-in-Vertices-clause-ok
-returns-in_ok-put_byte-in-Vertices-clause-ok g c =
+pub returns-in_ok-put_bytes-in-Vertices-clause-ok : goal.returns-in_ok-put_bytes-in-Vertices-clause-ok
+returns-in_ok-put_bytes-in-Vertices-clause-ok g c =
     let v = c.in-Vertices.v in
     rw c.in-Vertices.is (then_counted line v.lines c.as_slice.result.now c.put_counted.result (g.W.Write.contents c.args.out.now)
-    (g.W.Write.contents c.put_byte.new.out) (g.W.Write.contents c.put_counted.new.out)
-    (2 ∷ []) c.as_slice.ensures c.in_ok-put_byte-in-Vertices.ensures.ok c.put_counted.ensures.ok)
+    (g.W.Write.contents c.put_bytes.new.out) (g.W.Write.contents c.put_counted.new.out)
+    (2 ∷ []) c.as_slice.ensures c.in_ok-put_bytes-in-Vertices.ensures.ok c.put_counted.ensures.ok)
 
 pub put_counted-requires-in-Values : goal.put_counted-requires-in-Values
 put_counted-requires-in-Values g c =
@@ -46,7 +46,7 @@ pub returns-in-Go-clause-ok : goal.returns-in-Go-clause-ok
 returns-in-Go-clause-ok g c = rw c.in-Go.is c.put_kind_and_word-in-Go.ensures.ok
 
 pub returns-in-Report-clause-ok : goal.returns-in-Report-clause-ok
-returns-in-Report-clause-ok g c = rw c.in-Report.is c.put_report.ensures.ok
+returns-in-Report-clause-ok g c = rw c.in-Report.is c.put_bytes-in-Report.ensures.ok
 
 pub returns-in-Halt-clause-ok : goal.returns-in-Halt-clause-ok
-returns-in-Halt-clause-ok g c = rw c.in-Halt.is c.put_byte-in-Halt.ensures.ok
+returns-in-Halt-clause-ok g c = rw c.in-Halt.is c.put_bytes-in-Halt.ensures.ok
