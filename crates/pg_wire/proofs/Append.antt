@@ -1,14 +1,12 @@
 -- Bytes that are appended one after the other.
-use Rattle.std.proofs.Common.{◌≡◌, ℕ, ◌+◌, ◌^◌, ◌<◌, ◌≤◌, List, [], ◌∷◌, ◌++◌, length, take, get_or, sym, ap, subst, ◌∙◌, Option}
+use Rattle.std.proofs.Common.{◌≡◌, ℕ, ◌+◌, ◌<◌, ◌≤◌, List, [], ◌∷◌, ◌++◌, length, take, get_or, sym, ap, ◌∙◌, Option}
 use Rattle.std.proofs.Common.{Some, None, append_assoc, arith}
 use Rattle.std.specs.List.{flat_map}
-use Rattle.std.specs.Prelude.{Result, Ok, Err, OnOk}
 use Rattle.std.proofs.lemmas.List.{append-nil, take_more, length-append}
 use Rattle.std.proofs.lemmas.List.Concat.{flat_map-cons}
 use Rattle.std.proofs.lemmas.List.Folds.{length-flat_map-take}
 use Rattle.std.proofs.lemmas.Grind.{flat_map-append}
 use Rattle.std.specs.Io.KnownBytes.{Appends}
-use Rattle.pg_wire.specs.Spelling.{word, counted, longest}
 use Rattle.pg_wire.specs.Mirrors.Reading.{HasBytes}
 
 pub then : (a b c : Option (List ℕ)) (x y : List ℕ) → Appends a b x → Appends b c y → Appends a c (x ++ y)
@@ -72,21 +70,3 @@ one_of {T} spelled items i item most lt e p =
     let all = length-flat_map-take spelled items i item lt in
     let same : length (spelled (get_or items i item)) ≡ length (spelled item) = ap (λ (t : T). length (spelled t)) (sym e) in
     omega arith
-
-pub then_ok : {R E : Type 0} (r : Result R E) (a b c : Option (List ℕ)) (x y : List ℕ) → Appends a b x → OnOk r (Appends b c y) → OnOk r (Appends a c (x ++ y))
-then_ok (Ok v) a b c x y p q = then a b c x y p q
-then_ok (Err e) a b c x y p q = tt
-
--- bytes, and then a list that is counted
-pub then_counted : {T R E : Type 0} (spelled : T → List ℕ) (xs ys : List T) (r : Result R E) (a b c : Option (List ℕ)) (front : List ℕ) → ys ≡ xs
-    → Appends a b front → OnOk r (Appends b c (counted spelled ys)) → OnOk r (Appends a c (front ++ counted spelled xs))
-then_counted {T} spelled xs ys r a b c front e p q =
-    let P : List T → Type 0 = λ zs. OnOk r (Appends a c (front ++ counted spelled zs)) in
-    subst P e (then_ok r a b c front (counted spelled ys) p q)
-
--- a list that is counted within a frame
-pub few_bytes : {T : Type 0} (spelled : T → List ℕ) (xs ys : List T) (front : List ℕ) → ys ≡ xs → length (front ++ counted spelled xs) ≤ longest
-    → length (flat_map spelled ys) < 2 ^ 32
-few_bytes {T} spelled xs ys front e within =
-    let same : length (flat_map spelled ys) ≡ length (flat_map spelled xs) = ap (λ (zs : List T). length (flat_map spelled zs)) e in
-    omega (arith, same, within, length-append front (counted spelled xs), length-append (word (length xs)) (flat_map spelled xs))
