@@ -31,6 +31,7 @@ impl Form for SuccessorForm {
         Ok(within(place, WORDS, bytes)?)
     }
 
+    #[inline(always)]
     fn skip(_: u32, place: u64, bytes: &[u8]) -> Result<(u64, &[u8]), FieldFault> {
         let (successor, rest) = within(place, WORDS, bytes)?;
         Ok((successor as u64 + 1, rest))
@@ -113,6 +114,7 @@ impl Form for ComponentForm {
         Ok(within(0, WORDS, bytes)?)
     }
 
+    #[inline(always)]
     fn skip(_: u32, _: u64, bytes: &[u8]) -> Result<(u64, &[u8]), FieldFault> {
         let (_, rest) = within(0, WORDS, bytes)?;
         Ok((0, rest))
@@ -157,6 +159,7 @@ impl Form for PlaceForm {
         Ok(pair(width, place, bytes)?)
     }
 
+    #[inline(always)]
     fn skip(width: u32, place: u64, bytes: &[u8]) -> Result<(u64, &[u8]), FieldFault> {
         let ((at, _), rest) = pair(width, place, bytes)?;
         Ok((at as u64 + 1, rest))
