@@ -1,19 +1,13 @@
 -- Bytes that are appended one after the other.
-use Rattle.std.proofs.Common.{◌≡◌, ℕ, ◌+◌, ◌^◌, ◌<◌, ◌≤◌, List, [], ◌∷◌, ◌++◌, length, take, get_or, refl, sym, ap, subst, ◌∙◌, Option}
+use Rattle.std.proofs.Common.{◌≡◌, ℕ, ◌+◌, ◌<◌, ◌≤◌, List, [], ◌∷◌, ◌++◌, length, take, get_or, sym, ap, ◌∙◌, Option}
 use Rattle.std.proofs.Common.{Some, None, append_assoc, arith}
 use Rattle.std.specs.List.{flat_map}
-use Rattle.std.specs.Prelude.{Result, Ok, Err, OnOk}
 use Rattle.std.proofs.lemmas.List.{append-nil, take_more, length-append}
 use Rattle.std.proofs.lemmas.List.Concat.{flat_map-cons}
 use Rattle.std.proofs.lemmas.List.Folds.{length-flat_map-take}
 use Rattle.std.proofs.lemmas.Grind.{flat_map-append}
 use Rattle.std.specs.Io.KnownBytes.{Appends}
-use Rattle.byteorder.specs.Endian.{big_bytes}
-use Rattle.pg_wire.specs.Spelling.{word, counted, longest}
 use Rattle.pg_wire.specs.Mirrors.Reading.{HasBytes}
-
-pub word_is : (n : ℕ) → big_bytes 4 n ≡ word n
-word_is n = refl
 
 pub then : (a b c : Option (List ℕ)) (x y : List ℕ) → Appends a b x → Appends b c y → Appends a c (x ++ y)
 then None b c x y p q = tt
@@ -25,26 +19,28 @@ pub nothing : (a : Option (List ℕ)) → Appends a a []
 nothing None = tt
 nothing (Some xs) = sym (append-nil xs)
 
+-- the spelling of one item more
+pub spelled_behind : {T : Type 0} (spelled : T → List ℕ) (xs : List T) (x : T) → flat_map spelled (xs ++ x ∷ []) ≡ flat_map spelled xs ++ spelled x
+spelled_behind spelled xs x = flat_map-append spelled xs (x ∷ []) ∙ ap (λ (t : List ℕ). flat_map spelled xs ++ t)
+    (flat_map-cons spelled x [] ∙ append-nil (spelled x))
+
+spelled_more : {T : Type 0} (spelled : T → List ℕ) (items : List T) (i : ℕ) (item : T) → i < length items → item ≡ get_or items i item
+    → flat_map spelled (take (i + 1) items) ≡ flat_map spelled (take i items) ++ spelled item
+spelled_more {T} spelled items i item lt e =
+    ap (flat_map spelled) (take_more items i item lt ∙ ap (λ (t : T). take i items ++ t ∷ []) (sym e)) ∙ spelled_behind spelled (take i items) item
+
 -- one item more
 pub one_more : {T : Type 0} (spelled : T → List ℕ) (items : List T) (i : ℕ) (item : T) (a b c : Option (List ℕ)) → i < length items → item ≡ get_or items i item
     → Appends a b (flat_map spelled (take i items)) → Appends b c (spelled item) → Appends a c (flat_map spelled (take (i + 1) items))
-one_more {T} spelled items i item a b c lt e p q =
-    let parts : take (i + 1) items ≡ take i items ++ item ∷ [] = take_more items i item lt ∙ ap (λ (t : T). take i items ++ t ∷ []) (sym e) in
-    let spelt : flat_map spelled (take (i + 1) items) ≡ flat_map spelled (take i items) ++ spelled item = ap (flat_map spelled) parts
-    ∙ flat_map-append spelled (take i items) (item ∷ []) ∙ ap (λ (t : List ℕ). flat_map spelled (take i items) ++ t)
-    (flat_map-cons spelled item [] ∙ append-nil (spelled item)) in
-    rw spelt (then a b c (flat_map spelled (take i items)) (spelled item) p q)
+one_more spelled items i item a b c lt e p q =
+    rw (spelled_more spelled items i item lt e) (then a b c (flat_map spelled (take i items)) (spelled item) p q)
 
 -- room for one item more
 pub one_fits : {T : Type 0} (spelled : T → List ℕ) (items : List T) (i : ℕ) (item : T) (left left' room : ℕ) → i < length items → item ≡ get_or items i item
     → left + length (flat_map spelled (take i items)) ≡ room → left' + length (spelled item) ≡ left
     → left' + length (flat_map spelled (take (i + 1) items)) ≡ room
-one_fits {T} spelled items i item left left' room lt e p q =
-    let parts : take (i + 1) items ≡ take i items ++ item ∷ [] = take_more items i item lt ∙ ap (λ (t : T). take i items ++ t ∷ []) (sym e) in
-    let spelt : flat_map spelled (take (i + 1) items) ≡ flat_map spelled (take i items) ++ spelled item = ap (flat_map spelled) parts
-    ∙ flat_map-append spelled (take i items) (item ∷ []) ∙ ap (λ (t : List ℕ). flat_map spelled (take i items) ++ t)
-    (flat_map-cons spelled item [] ∙ append-nil (spelled item)) in
-    rw spelt (omega (arith, length-append (flat_map spelled (take i items)) (spelled item)))
+one_fits spelled items i item left left' room lt e p q =
+    rw (spelled_more spelled items i item lt e) (omega (arith, length-append (flat_map spelled (take i items)) (spelled item)))
 
 pub none_fits : {T : Type 0} (spelled : T → List ℕ) (items : List T) (i : ℕ) (item : T) (left room : ℕ) → i < length items → item ≡ get_or items i item
     → left + length (flat_map spelled (take i items)) ≡ room → left < length (spelled item) → room < length (flat_map spelled items)
@@ -74,21 +70,3 @@ one_of {T} spelled items i item most lt e p =
     let all = length-flat_map-take spelled items i item lt in
     let same : length (spelled (get_or items i item)) ≡ length (spelled item) = ap (λ (t : T). length (spelled t)) (sym e) in
     omega arith
-
-pub then_ok : {R E : Type 0} (r : Result R E) (a b c : Option (List ℕ)) (x y : List ℕ) → Appends a b x → OnOk r (Appends b c y) → OnOk r (Appends a c (x ++ y))
-then_ok (Ok v) a b c x y p q = then a b c x y p q
-then_ok (Err e) a b c x y p q = tt
-
--- bytes, and then a list that is counted
-pub then_counted : {T R E : Type 0} (spelled : T → List ℕ) (xs ys : List T) (r : Result R E) (a b c : Option (List ℕ)) (front : List ℕ) → ys ≡ xs
-    → Appends a b front → OnOk r (Appends b c (counted spelled ys)) → OnOk r (Appends a c (front ++ counted spelled xs))
-then_counted {T} spelled xs ys r a b c front e p q =
-    let P : List T → Type 0 = λ zs. OnOk r (Appends a c (front ++ counted spelled zs)) in
-    subst P e (then_ok r a b c front (counted spelled ys) p q)
-
--- a list that is counted within a frame
-pub few_bytes : {T : Type 0} (spelled : T → List ℕ) (xs ys : List T) (front : List ℕ) → ys ≡ xs → length (front ++ counted spelled xs) ≤ longest
-    → length (flat_map spelled ys) < 2 ^ 32
-few_bytes {T} spelled xs ys front e within =
-    let same : length (flat_map spelled ys) ≡ length (flat_map spelled xs) = ap (λ (zs : List T). length (flat_map spelled zs)) e in
-    omega (arith, same, within, length-append front (counted spelled xs), length-append (word (length xs)) (flat_map spelled xs))

@@ -1,17 +1,13 @@
 -- Buffers to which bytes are appended.
-use Rattle.std.proofs.Common.{◌≡◌, ℕ, ◌+◌, ◌<◌, List, [], ◌∷◌, ◌++◌, length, take, get_or, append_assoc, refl, sym, ap, ◌∙◌, arith}
-use Rattle.std.proofs.lemmas.List.{take_at, take_more, take-take, length-append, append-nil}
+use Rattle.std.proofs.Common.{◌≡◌, ℕ, ◌+◌, ◌<◌, List, ◌++◌, length, take, get_or, append_assoc, refl, sym, ap, ◌∙◌, arith}
+use Rattle.std.proofs.lemmas.List.{take_at, take_more, take-take, length-append}
 use Rattle.std.specs.List.{flat_map}
-use Rattle.std.proofs.lemmas.List.Concat.{flat_map-cons}
-use Rattle.std.proofs.lemmas.Grind.{flat_map-append}
 use Rattle.pg_wire.specs.Spelling.{word}
 use Rattle.pg_wire.specs.Mirrors.Buffers.{Extends}
+use Rattle.pg_wire.proofs.Append.{spelled_behind}
 
 pub extends_by : (a b x : List ℕ) → b ≡ a ++ x → Extends a b
 extends_by a b x e = ap (take (length a)) e ∙ take_at a x (length a) refl
-
-pub extends_same : (a b : List ℕ) → b ≡ a → Extends a b
-extends_same a b e = extends_by a b [] (e ∙ sym (append-nil a))
 
 pub extends_then : (a b c x : List ℕ) → b ≡ a ++ x → Extends b c → Extends a c
 extends_then a b c x e h =
@@ -23,7 +19,5 @@ pub one_word : (ns before now after : List ℕ) (i : ℕ) → i < length ns → 
     → after ≡ before ++ flat_map word (take (i + 1) ns)
 one_word ns before now after i lt e f =
     let n = get_or ns i 0 in
-    let spelt : flat_map word (take (i + 1) ns) ≡ flat_map word (take i ns) ++ word n =
-    ap (flat_map word) (take_more ns i 0 lt) ∙ flat_map-append word (take i ns) (n ∷ [])
-    ∙ ap (λ (t : List ℕ). flat_map word (take i ns) ++ t) (flat_map-cons word n [] ∙ append-nil (word n)) in
+    let spelt : flat_map word (take (i + 1) ns) ≡ flat_map word (take i ns) ++ word n = ap (flat_map word) (take_more ns i 0 lt) ∙ spelled_behind word (take i ns) n in
     f ∙ ap (λ (t : List ℕ). t ++ word n) e ∙ append_assoc before (flat_map word (take i ns)) (word n) ∙ ap (λ (t : List ℕ). before ++ t) (sym spelt)

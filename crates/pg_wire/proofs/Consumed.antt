@@ -18,9 +18,11 @@ consumes_then (Some xs) None c x y p q = absurd p
 consumes_then (Some xs) (Some ys) None x y p q = absurd q
 consumes_then (Some xs) (Some ys) (Some zs) x y p q = p ∙ ap (λ (t : List ℕ). x ++ t) q ∙ sym (append_assoc x y zs)
 
-pub consumes_none : (a : Option (List ℕ)) → Consumes a a []
-consumes_none None = tt
-consumes_none (Some xs) = refl
+-- what holds of the bytes that were read and those that are left holds of all, if these are known
+known : (a b : Option (List ℕ)) (bytes : List ℕ) (P : List ℕ → Type 0) → Consumes a b bytes → ((ys : List ℕ) → b ≡ Some ys → P (bytes ++ ys)) → IfSome a P
+known None b bytes P p holds = tt
+known (Some xs) None bytes P p holds = absurd p
+known (Some xs) (Some ys) bytes P p holds = subst P (sym p) (holds ys refl)
 
 -- a buffer in whose middle bytes were put
 pub filled_more : (xs ys after : List ℕ) (a n : ℕ) → a ≤ length xs → n ≤ length ys → take (a + n) (take a xs ++ (ys ++ after)) ≡ take a xs ++ take n ys
@@ -113,11 +115,10 @@ cut_is xs some lt = record {
 
 pub cut : (a b : Option (List ℕ)) (bytes : List ℕ) → Consumes a b bytes → 0 < length bytes → length bytes < 4 → IsAtEnd b
     → IfSome a (λ xs. IsReadFrom xs (Err Truncated))
-cut None b bytes p some lt e = tt
-cut (Some xs) None bytes p some lt e = absurd p
-cut (Some xs) (Some ys) bytes p some lt e =
-    let n : length xs ≡ length bytes = omega (arith, ap length p, ap length e, length-append bytes ys) in
-    cut_is xs (omega arith) (omega arith)
+cut a b bytes p some lt e = known a b bytes (λ zs. IsReadFrom zs (Err Truncated)) p (λ ys is.
+    let none : ys ≡ [] = subst IsAtEnd is e in
+    let n : length (bytes ++ ys) ≡ length bytes = omega (arith, ap length none, length-append bytes ys) in
+    cut_is (bytes ++ ys) (omega arith) (omega arith))
 
 long_is : (front rest : List ℕ) → length front ≡ 4 → longest < from_be_bytes w32 front → IsReadFrom (front ++ rest) (Err TooLong)
 long_is front rest len over =
@@ -132,11 +133,7 @@ long_is front rest len over =
 
 pub long : (a b : Option (List ℕ)) (front : List ℕ) → Consumes a b front → length front ≡ 4 → longest < from_be_bytes w32 front
     → IfSome a (λ xs. IsReadFrom xs (Err TooLong))
-long None b front p len over = tt
-long (Some xs) None front p len over = absurd p
-long (Some xs) (Some ys) front p len over =
-    let P : List ℕ → Type 0 = λ zs. IsReadFrom zs (Err TooLong) in
-    subst P (sym p) (long_is front ys len over)
+long a b front p len over = known a b front (λ zs. IsReadFrom zs (Err TooLong)) p (λ ys is. long_is front ys len over)
 
 short_is : (front rest : List ℕ) → length front ≡ 4 → from_be_bytes w32 front ≤ longest → length rest < from_be_bytes w32 front
     → IsReadFrom (front ++ rest) (Err Truncated)
@@ -152,11 +149,8 @@ short_is front rest len within fewer =
 
 pub short : (a b : Option (List ℕ)) (front : List ℕ) → Consumes a b front → length front ≡ 4 → from_be_bytes w32 front ≤ longest
     → IfSome b (λ ys. length ys < from_be_bytes w32 front) → IfSome a (λ xs. IsReadFrom xs (Err Truncated))
-short None b front p len within fewer = tt
-short (Some xs) None front p len within fewer = absurd p
-short (Some xs) (Some ys) front p len within fewer =
-    let P : List ℕ → Type 0 = λ zs. IsReadFrom zs (Err Truncated) in
-    subst P (sym p) (short_is front ys len within fewer)
+short a b front p len within fewer = known a b front (λ zs. IsReadFrom zs (Err Truncated)) p
+    (λ ys is. short_is front ys len within (subst (λ (o : Option (List ℕ)). IfSome o (λ zs. length zs < from_be_bytes w32 front)) is fewer))
 
 -- nothing was left to read
 pub none_read : (a b : Option (List ℕ)) (bytes : List ℕ) → Consumes a b bytes → bytes ≡ [] → IsAtEnd b → IsAtEnd a
@@ -235,11 +229,8 @@ whole_is bytes more w answer not_none not_long not_short all =
 whole_known : (a c : Option (List ℕ)) (bytes : List ℕ) → Consumes a c bytes → IsWhole bytes → (answer : Answer) → ((answer ≡ Ok None) → ⊥)
     → ((answer ≡ Err TooLong) → ⊥) → ((answer ≡ Err Truncated) → ⊥)
     → ((f : Frame) → Spells f bytes → answer ≡ Ok (Some f)) → IfSome a (λ xs. IsReadFrom xs answer)
-whole_known None c bytes p w answer not_none not_long not_short all = tt
-whole_known (Some xs) None bytes p w answer not_none not_long not_short all = absurd p
-whole_known (Some xs) (Some zs) bytes p w answer not_none not_long not_short all =
-    let P : List ℕ → Type 0 = λ t. IsReadFrom t answer in
-    subst P (sym p) (whole_is bytes zs w answer not_none not_long not_short all)
+whole_known a c bytes p w answer not_none not_long not_short all =
+    known a c bytes (λ t. IsReadFrom t answer) p (λ zs is. whole_is bytes zs w answer not_none not_long not_short all)
 
 -- the frame was read, and no byte more
 pub got : (a c : Option (List ℕ)) (bytes : List ℕ) (f : Frame) → Consumes a c bytes → Spells f bytes → Spells f (spelling f) × Consumes a c (spelling f)

@@ -10,6 +10,7 @@ use Rattle.std.proofs.lemmas.List.Elements.{All-map}
 use Rattle.pg_wire.specs.Well.{IsWord, IsComponents, IsPlace, ArePlaces}
 use Rattle.pg_wire.specs.Measured.{nonzero_from, nonzero, component_in, filled}
 use Rattle.pg_wire.specs.Mirrors.Ordered.{rising}
+use Rattle.pg_wire.specs.Mirrors.Formats.{places}
 use Rattle.pg_wire.proofs.Orders.{Follow, ordered, follow}
 
 abbrev pub Pair : Type 0
@@ -42,11 +43,10 @@ filled_more row ps p below apart h k lt =
 
 -- places from `at` on that rise
 abbrev Rise : ℕ → ℕ → List Pair → Type 0
-Rise width at ps = Follow (λ low (p : Pair). low ≤ p.0) (IsPlace width) (λ (p : Pair). p.0 + 1) at ps
+Rise width at ps = Follow (places width) at ps
 
 rise_of : (width : ℕ) (ps : List Pair) → ArePlaces width ps → Rise width 0 ps
-rise_of width ps h = follow (λ low (p : Pair). low ≤ p.0) (IsPlace width) (λ (p q : Pair). p.0 < q.0) (λ (p : Pair). p.0 + 1)
-    (rising (λ (p : Pair). p.0)) 0 ps (record { stand = λ i d lt. omega arith; items = h.places; order = h.rising })
+rise_of width ps h = follow (places width) (rising (λ (p : Pair). p.0)) 0 ps (record { stand = λ i d lt. omega arith; items = h.places; order = h.rising })
 
 none_before : (width at k : ℕ) (ps : List Pair) → Rise width at ps → k < at → component_in ps k ≡ 0
 none_before width at k [] h lt = refl
@@ -142,8 +142,7 @@ few_from at (n ∷ ns) =
 
 pub places_nonzero : (width : ℕ) (ns : List ℕ) → IsComponents width ns → ArePlaces width (nonzero ns)
 places_nonzero width ns h =
-    let o = ordered (λ low (p : Pair). low ≤ p.0) (IsPlace width) (λ (p q : Pair). p.0 < q.0) (λ (p : Pair). p.0 + 1)
-    (rising (λ (p : Pair). p.0)) 0 (nonzero ns) (rise_from width 0 ns h.numbers (omega (arith, h.size))) in
+    let o = ordered (places width) (rising (λ (p : Pair). p.0)) 0 (nonzero ns) (rise_from width 0 ns h.numbers (omega (arith, h.size))) in
     record { size = omega (arith, h.size, few_from 0 ns); places = o.items; rising = o.order }
 
 word_in : (width : ℕ) (ps : List Pair) → All (IsPlace width) ps → (k : ℕ) → IsWord (component_in ps k)

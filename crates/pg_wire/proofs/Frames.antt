@@ -1,10 +1,8 @@
 -- A frame of measures that is being written.
 use Rattle.std.proofs.Common.{◌≡◌, ℕ, ◌+◌, ◌-◌, ◌<◌, ◌≤◌, min, List, [], ◌∷◌, ◌++◌, length, take, drop, None, refl, sym, ap, ◌∙◌, append_assoc, arith}
 use Rattle.std.specs.List.{flat_map}
-use Rattle.std.proofs.lemmas.List.{append-nil, length-append, length-map, take_at, drop_at}
-use Rattle.std.proofs.lemmas.List.Concat.{flat_map-cons}
+use Rattle.std.proofs.lemmas.List.{length-append, length-map, take_at, drop_at}
 use Rattle.std.proofs.lemmas.List.Folds.{flat_map-map}
-use Rattle.std.proofs.lemmas.Grind.{flat_map-append}
 use borrow.Rule.Slice.PartMut.{post_of}
 use Rattle.pg_wire.specs.declared.kind.ValueKind.{ValueKind}
 use Rattle.pg_wire.specs.declared.kind.ValueKind.TheVariants.{Dense, Sparse}
@@ -13,7 +11,7 @@ use Rattle.pg_wire.specs.Spelling.{word, value, sparse_value, body, spelling, lo
 use Rattle.pg_wire.specs.Mirrors.Reading.{HasBytes}
 use Rattle.pg_wire.specs.Measured.{Measured, dense_value, sparse_form, spelled_as, kind_number, frame_of}
 use Rattle.pg_wire.specs.Written.{IsWriting}
-use Rattle.pg_wire.proofs.Append.{few}
+use Rattle.pg_wire.proofs.Append.{few, spelled_behind}
 
 -- what is spelled behind the width and the count
 abbrev pub fields : ValueKind → List Measured → List ℕ
@@ -23,15 +21,11 @@ pub body_size : (kind : ValueKind) (width : ℕ) (ms : List Measured) → length
 body_size Dense width ms = omega (arith, ap length (flat_map-map value dense_value ms))
 body_size Sparse width ms = omega (arith, ap length (flat_map-map sparse_value sparse_form ms))
 
-one_more : (kind : ValueKind) (ms : List Measured) (m : Measured) → fields kind (ms ++ m ∷ []) ≡ fields kind ms ++ spelled_as kind m
-one_more kind ms m = flat_map-append (spelled_as kind) ms (m ∷ []) ∙ ap (λ (bs : List ℕ). fields kind ms ++ bs)
-    (flat_map-cons (spelled_as kind) m [] ∙ append-nil (spelled_as kind m))
-
 more_size : (kind : ValueKind) (width : ℕ) (ms : List Measured) (m : Measured)
     → length (body (frame_of kind width (ms ++ m ∷ []))) ≡ 9 + length (fields kind ms) + length (spelled_as kind m)
 more_size kind width ms m = body_size kind width (ms ++ m ∷ []) ∙ omega (
   arith,
-  ap length (one_more kind ms m),
+  ap length (spelled_behind (spelled_as kind) ms m),
   length-append (fields kind ms) (spelled_as kind m),
 )
 
@@ -74,7 +68,7 @@ added kind width start count more before ms buffer buffer' m room size h r s le 
       front_size = h.front_size;
       whole = e ∙ ap (λ (bs : List ℕ). bs ++ spelled_as kind m) h.whole ∙ append_assoc before (h.front ++ fields kind ms) (spelled_as kind m)
           ∙ ap (λ (bs : List ℕ). before ++ bs) (append_assoc h.front (fields kind ms) (spelled_as kind m) ∙ ap
-          (λ (bs : List ℕ). h.front ++ bs) (sym (one_more kind ms m)));
+          (λ (bs : List ℕ). h.front ++ bs) (sym (spelled_behind (spelled_as kind) ms m)));
     }
 
 -- the front of a frame, and its fields

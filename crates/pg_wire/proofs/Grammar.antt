@@ -1,7 +1,7 @@
--- What a reader takes is spelled so and fits, and what fits and is spelled so is read.
+-- What a format reads is spelled so and fits, and what fits and is spelled so is read.
 use Rattle.std.proofs.Common.{◌≡◌, ℕ, zero, suc, ◌+◌, ◌%◌, ◌^◌, ◌<◌, ◌≤◌, Bool, true, false, cond, ltb, List, [], ◌∷◌, ◌++◌, length, get_or}
 use Rattle.std.proofs.Common.{take, drop, Option, Some, None, Result, Ok, Err, refl, sym, ap, subst, ◌∙◌, append_assoc, arith, inl, inr}
-use Rattle.std.specs.Prelude.{IfSome, nat_le, nat_lt, ◌&&◌, ◌==◌}
+use Rattle.std.specs.Prelude.{IfSome, nat_le, nat_lt, ◌&&◌, ◌==◌, ⊤}
 use Rattle.std.specs.List.{flat_map}
 use Rattle.std.specs.Int.{w32, from_be_bytes}
 use Rattle.std.proofs.lemmas.Bool.{cases_lt, ltb-false, le-ltb, ltb-true, lt-ltb, leb-true, le-leb, eqb-true, eq-eqb}
@@ -10,9 +10,14 @@ use Rattle.std.proofs.lemmas.List.Concat.{flat_map-cons}
 use Rattle.std.proofs.lemmas.Nat.{be_bytes_4, from_be_bytes-to_be_bytes_4}
 use Rattle.pg_wire.specs.declared.fault.FieldFault.{FieldFault}
 use Rattle.pg_wire.specs.declared.fault.FieldFault.TheVariants.{At, Version}
-use Rattle.pg_wire.specs.Spelling.{word, counted, tagged}
-use Rattle.pg_wire.specs.Mirrors.Ordered.{Steps, AreOrdered}
-use Rattle.pg_wire.specs.Mirrors.Reading.{◌>>=◌, Reader, both, made, number_at, within_at, odd_at, byte_at, version_at, items_at, counted_at, tagged_at}
+use Rattle.pg_wire.specs.Spelling.{word}
+use Rattle.pg_wire.specs.Spelling as spelling
+use Rattle.pg_wire.specs.Well.{IsWord}
+use Rattle.pg_wire.specs.Mirrors.Ordered.{Steps}
+use Rattle.pg_wire.specs.Mirrors.Ordered as order
+use Rattle.pg_wire.specs.Mirrors.Reading.{◌>>=◌, made, number_at, within_at, odd_at, byte_at, version_at, items_at, tagged_at, counted_at}
+use Rattle.pg_wire.specs.Mirrors.Formats.{Format, Kind, and_then, seen, said, within, number, odd, byte, version, nothing, tagged, placed, so_many}
+use Rattle.pg_wire.specs.Mirrors.Formats.{listed, rising}
 use Rattle.pg_wire.proofs.Orders.{Follow, ordered, follow}
 
 abbrev pub IsBytes : List ℕ → Type 0
@@ -47,71 +52,66 @@ pub ok_is : {A : Type 0} (x y : A) → done x ≡ done y → x ≡ y
 ok_is x y e = cc
 
 -- the bytes are a text and the rest
-pub record Takes (bytes text rest : List ℕ) : Type 0 where
+pub record Begins (bytes text rest : List ℕ) : Type 0 where
   pub parts : bytes ≡ text ++ rest
   pub rest_fits : IsBytes rest
 
-Takes-then : (a x b y c : List ℕ) → Takes a x b → Takes b y c → Takes a (x ++ y) c
-Takes-then a x b y c p q = record { parts = p.parts ∙ ap (λ (t : List ℕ). x ++ t) q.parts ∙ sym (append_assoc x y c); rest_fits = q.rest_fits }
+Begins-then : (a x b y c : List ℕ) → Begins a x b → Begins b y c → Begins a (x ++ y) c
+Begins-then a x b y c p q = record { parts = p.parts ∙ ap (λ (t : List ℕ). x ++ t) q.parts ∙ sym (append_assoc x y c); rest_fits = q.rest_fits }
 
--- a kind of value that is spelled one way, and read
-pub record IsForm {A : Type 0} (spelled : A → List ℕ) (Fits : A → Type 0) (read : Reader A) : Type 0 where
-  pub takes : (bytes : List ℕ) (x : A × List ℕ) → IsBytes bytes → read bytes ≡ Ok x → Takes bytes (spelled x.0) x.1 × Fits x.0
-  pub again : (x : A) (rest : List ℕ) → Fits x → read (spelled x ++ rest) ≡ Ok (x, rest)
+-- a format takes no more than what it spells, and reads it back
+pub record IsForm {A : Type 0} (f : Format A) : Type 0 where
+  pub reads_only : (bytes : List ℕ) (x : A × List ℕ) → IsBytes bytes → f.read bytes ≡ Ok x → Begins bytes (f.spelled x.0) x.1 × f.Fits x.0
+  pub reads_back : (x : A) (rest : List ℕ) → f.Fits x → f.read (f.spelled x ++ rest) ≡ Ok (x, rest)
 
--- ---- from forms to forms
+-- ---- from formats to formats
 
-pub both_form : {A B : Type 0} (sa : A → List ℕ) (FA : A → Type 0) (ra : Reader A) (sb : B → List ℕ) (FB : A → B → Type 0) (rb : A → Reader B)
-    → IsForm sa FA ra → ((a : A) → FA a → IsForm sb (FB a) (rb a)) → IsForm (λ (p : A × B). sa p.0 ++ sb p.1) (λ p. FA p.0 × FB p.0 p.1) (both ra rb)
-both_form {A} {B} sa FA ra sb FB rb fa fb = record {
-  takes = λ bytes x h e.
-      let p = bind_ok (ra bytes) (λ a. rb a.0 a.1 >>= λ b. Ok ((a.0, b.0), b.1)) x e in
-      let t = fa.takes bytes p.0 h p.1 in
-      let q = bind_ok (rb p.0.0 p.0.1) (λ b. Ok ((p.0.0, b.0), b.1)) x p.2 in
-      let u = (fb p.0.0 t.1).takes p.0.1 q.0 t.0.rest_fits q.1 in
+pub then_is : {A B : Type 0} {f : Format A} {g : A → Format B} → IsForm f → ((a : A) → f.Fits a → IsForm (g a)) → IsForm (and_then f g)
+then_is {A} {B} {f} {g} fa fb = record {
+  reads_only = λ bytes x h e.
+      let p = bind_ok (f.read bytes) (λ a. (g a.0).read a.1 >>= λ b. Ok ((a.0, b.0), b.1)) x e in
+      let t = fa.reads_only bytes p.0 h p.1 in
+      let q = bind_ok ((g p.0.0).read p.0.1) (λ b. Ok ((p.0.0, b.0), b.1)) x p.2 in
+      let u = (fb p.0.0 t.1).reads_only p.0.1 q.0 t.0.rest_fits q.1 in
       let made_is : (A × B) × List ℕ = ((p.0.0, q.0.0), q.0.1) in
-      let P : (A × B) × List ℕ → Type 0 = λ y. Takes bytes (sa y.0.0 ++ sb y.0.1) y.1 × (FA y.0.0 × FB y.0.0 y.0.1) in
-      subst P (ok_is made_is x q.2) (Takes-then bytes (sa p.0.0) p.0.1 (sb q.0.0) q.0.1 t.0 u.0, (t.1, u.1));
-  again = λ x rest h.
-      let first : ra ((sa x.0 ++ sb x.1) ++ rest) ≡ Ok (x.0, sb x.1 ++ rest) = ap ra (append_assoc (sa x.0) (sb x.1) rest)
-      ∙ fa.again x.0 (sb x.1 ++ rest) h.0 in
-      rw (first, (fb x.0 h.0).again x.1 rest h.1) refl;
+      let P : (A × B) × List ℕ → Type 0 = λ y. Begins bytes (f.spelled y.0.0 ++ (g y.0.0).spelled y.0.1) y.1 × (f.Fits y.0.0 × (g y.0.0).Fits y.0.1) in
+      subst P (ok_is made_is x q.2) (Begins-then bytes (f.spelled p.0.0) p.0.1 ((g p.0.0).spelled q.0.0) q.0.1 t.0 u.0, (t.1, u.1));
+  reads_back = λ x rest h.
+      let more : List ℕ = (g x.0).spelled x.1 ++ rest in
+      let first : f.read ((f.spelled x.0 ++ (g x.0).spelled x.1) ++ rest) ≡ Ok (x.0, more) =
+      ap f.read (append_assoc (f.spelled x.0) ((g x.0).spelled x.1) rest) ∙ fa.reads_back x.0 more h.0 in
+      rw (first, (fb x.0 h.0).reads_back x.1 rest h.1) refl;
 }
 
-pub made_form : {A B : Type 0} (sa : A → List ℕ) (FA : A → Type 0) (ra : Reader A) (sb : B → List ℕ) (FB : B → Type 0) (make : A → B) (parts : B → A)
-    → IsForm sa FA ra → ((b : B) → sb b ≡ sa (parts b)) → ((a : A) → FA a → parts (make a) ≡ a) → ((b : B) → FB b → make (parts b) ≡ b)
-    → ((a : A) → FA a → FB (make a)) → ((b : B) → FB b → FA (parts b)) → IsForm sb FB (made make ra)
-made_form {A} {B} sa FA ra sb FB make parts fa spelt there back up down = record {
-  takes = λ bytes x h e.
-      let p = bind_ok (ra bytes) (λ a. Ok (make a.0, a.1)) x e in
-      let t = fa.takes bytes p.0 h p.1 in
+pub seen_is : {A B : Type 0} {f : Format A} {make : A → B} {parts : B → A} {Fits : B → Type 0} → IsForm f
+    → ((a : A) → f.Fits a → parts (make a) ≡ a) → ((b : B) → Fits b → make (parts b) ≡ b)
+    → ((a : A) → f.Fits a → Fits (make a)) → ((b : B) → Fits b → f.Fits (parts b)) → IsForm (seen make parts Fits f)
+seen_is {A} {B} {f} {make} {parts} {Fits} fa there back up down = record {
+  reads_only = λ bytes x h e.
+      let p = bind_ok (f.read bytes) (λ a. Ok (make a.0, a.1)) x e in
+      let t = fa.reads_only bytes p.0 h p.1 in
       let made_is : B × List ℕ = (make p.0.0, p.0.1) in
-      let text : sa p.0.0 ≡ sb (make p.0.0) = ap sa (sym (there p.0.0 t.1)) ∙ sym (spelt (make p.0.0)) in
-      let P : B × List ℕ → Type 0 = λ y. Takes bytes (sb y.0) y.1 × FB y.0 in
-      subst P (ok_is made_is x p.2) (subst (λ (s : List ℕ). Takes bytes s p.0.1) text t.0, up p.0.0 t.1);
-  again = λ b rest h.
-      let first : ra (sb b ++ rest) ≡ Ok (parts b, rest) = ap (λ (s : List ℕ). ra (s ++ rest)) (spelt b) ∙ fa.again (parts b) rest (down b h) in
-      rw (first, back b h) refl;
+      let P : B × List ℕ → Type 0 = λ y. Begins bytes (f.spelled (parts y.0)) y.1 × Fits y.0 in
+      subst P (ok_is made_is x p.2) (subst (λ (a : A). Begins bytes (f.spelled a) p.0.1) (sym (there p.0.0 t.1)) t.0, up p.0.0 t.1);
+  reads_back = λ b rest h. rw (fa.reads_back (parts b) rest (down b h), back b h) refl;
 }
 
--- the same reader, with the ranges said in other words
-pub said_form : {A : Type 0} (sa : A → List ℕ) (F G : A → Type 0) (ra : Reader A) → IsForm sa F ra → ((a : A) → F a → G a)
-    → ((a : A) → G a → F a) → IsForm sa G ra
-said_form sa F G ra fa up down = record {
-  takes = λ bytes x h e. let t = fa.takes bytes x h e in (t.0, up x.0 t.1);
-  again = λ a rest h. fa.again a rest (down a h);
+pub said_is : {A : Type 0} {f : Format A} {Fits : A → Type 0} → IsForm f → ((a : A) → f.Fits a → Fits a) → ((a : A) → Fits a → f.Fits a) → IsForm (said Fits f)
+said_is fa up down = record {
+  reads_only = λ bytes x h e. let t = fa.reads_only bytes x h e in (t.0, up x.0 t.1);
+  reads_back = λ a rest h. fa.reads_back a rest (down a h);
 }
 
 -- ---- numbers
 
-pub number_takes : (bytes : List ℕ) (x : ℕ × List ℕ) → IsBytes bytes → number_at bytes ≡ Ok x → Takes bytes (word x.0) x.1 × (x.0 < 2 ^ 32)
-number_takes bytes x fits e =
+number_reads_only : (bytes : List ℕ) (x : ℕ × List ℕ) → IsBytes bytes → number_at bytes ≡ Ok x → Begins bytes (word x.0) x.1 × IsWord x.0
+number_reads_only bytes x fits e =
     let g = guard_ok (ltb (length bytes) 4) (At (length bytes)) (from_be_bytes w32 (take 4 bytes), drop 4 bytes) x e in
     let long : 4 ≤ length bytes = ltb-false _ _ g.0 in
     let len : length (take 4 bytes) ≡ 4 = omega (arith, length-take 4 bytes) in
     let front : word (from_be_bytes w32 (take 4 bytes)) ≡ take 4 bytes = be_bytes_4 (take 4 bytes) _ len (IsBytes-take 4 bytes fits) refl in
     let small : IsBytes (take 4 bytes) = IsBytes-take 4 bytes fits in
-    subst (λ (y : ℕ × List ℕ). Takes bytes (word y.0) y.1 × (y.0 < 2 ^ 32)) g.1 (
+    subst (λ (y : ℕ × List ℕ). Begins bytes (word y.0) y.1 × IsWord y.0) g.1 (
       record { parts = sym (take-append-drop 4 bytes) ∙ ap (λ (t : List ℕ). t ++ drop 4 bytes) (sym front); rest_fits = IsBytes-drop 4 bytes fits },
       omega (arith, small 0, small 1, small 2, small 3),
     )
@@ -121,185 +121,181 @@ number_front front rest len =
     let long : ltb (length (front ++ rest)) 4 ≡ false = le-ltb _ _ (omega (arith, length-append front rest)) in
     rw (long, take_at front rest 4 len, drop_at front rest 4 len) refl
 
-pub number_again : (n : ℕ) (rest : List ℕ) → n < 2 ^ 32 → number_at (word n ++ rest) ≡ Ok (n, rest)
-number_again n rest lt = number_front (word n) rest refl ∙ ap (λ (k : ℕ). Ok (k, rest)) (from_be_bytes-to_be_bytes_4 n lt)
+number_reads_back : (n : ℕ) (rest : List ℕ) → IsWord n → number_at (word n ++ rest) ≡ Ok (n, rest)
+number_reads_back n rest lt = number_front (word n) rest refl ∙ ap (λ (k : ℕ). Ok (k, rest)) (from_be_bytes-to_be_bytes_4 n lt)
 
-pub record Within (low high n : ℕ) : Type 0 where
-  pub from : low ≤ n
-  pub below : n < high
-
-and_both : (a b : Bool) → (a && b) ≡ true → (a ≡ true) × (b ≡ true)
+pub and_both : (a b : Bool) → (a && b) ≡ true → (a ≡ true) × (b ≡ true)
 and_both true b e = (refl, e)
 and_both false b e = absurd cc
 
-pub within_form : (low high : ℕ) → high ≤ 2 ^ 32 → IsForm word (Within low high) (within_at low high)
+pub within_is : (low high : ℕ) → IsForm (within low high)
 unfolding within_at
-within_form low high small = record {
-  takes = λ bytes x h e.
+within_is low high = record {
+  reads_only = λ bytes x h e.
       let p = bind_ok (number_at bytes) (λ n. cond (nat_le low n.0 && nat_lt n.0 high) (Ok n) (Err (At (length bytes)))) x e in
-      let t = number_takes bytes p.0 h p.1 in
+      let t = number_reads_only bytes p.0 h p.1 in
       let g = test_ok (nat_le low p.0.0 && nat_lt p.0.0 high) (At (length bytes)) p.0 x p.2 in
       let k = and_both (nat_le low p.0.0) (nat_lt p.0.0 high) g.0 in
-      subst (λ (y : ℕ × List ℕ). Takes bytes (word y.0) y.1 × Within low high y.0) g.1 (t.0, record { from = leb-true _ _ k.0; below = ltb-true _ _ k.1 });
-  again = λ n rest h.
-      let a : nat_le low n ≡ true = le-leb _ _ h.from in
-      let b : nat_lt n high ≡ true = lt-ltb _ _ h.below in
-      rw (number_again n rest (omega (arith, h.below)), a, b) refl;
+      subst (λ (y : ℕ × List ℕ). Begins bytes (word y.0) y.1 × ((low ≤ y.0) × (y.0 < high) × IsWord y.0)) g.1 (t.0, (leb-true _ _ k.0, ltb-true _ _ k.1, t.1));
+  reads_back = λ n rest h.
+      let a : nat_le low n ≡ true = le-leb _ _ h.0 in
+      let b : nat_lt n high ≡ true = lt-ltb _ _ h.1 in
+      rw (number_reads_back n rest h.2, a, b) refl;
 }
 
-pub odd_form : (high : ℕ) → high ≤ 2 ^ 32 → IsForm word (λ n. Within 1 high n × (n % 2 ≡ 1)) (odd_at high)
+pub number_is : (low : ℕ) → IsForm (number low)
+number_is low = said_is (within_is low (2 ^ 32)) (λ n h. (h.0, h.2)) (λ n h. (h.0, h.1, h.1))
+
+pub odd_is : (high : ℕ) → IsForm (odd high)
 unfolding odd_at
-odd_form high small = record {
-  takes = λ bytes x h e.
+odd_is high = record {
+  reads_only = λ bytes x h e.
       let p = bind_ok (within_at 1 high bytes) (λ n. cond (n.0 % 2 == 1) (Ok n) (Err (At (length bytes)))) x e in
-      let t = (within_form 1 high small).takes bytes p.0 h p.1 in
+      let t = (within_is 1 high).reads_only bytes p.0 h p.1 in
       let g = test_ok (p.0.0 % 2 == 1) (At (length bytes)) p.0 x p.2 in
-      subst (λ (y : ℕ × List ℕ). Takes bytes (word y.0) y.1 × (Within 1 high y.0 × (y.0 % 2 ≡ 1))) g.1 (t.0, (t.1, eqb-true _ _ g.0));
-  again = λ n rest h. rw ((within_form 1 high small).again n rest h.0, eq-eqb _ _ h.1) refl;
+      subst (λ (y : ℕ × List ℕ). Begins bytes (word y.0) y.1 × ((y.0 < high) × IsWord y.0 × (y.0 % 2 ≡ 1))) g.1 (t.0, (t.1.1, t.1.2, eqb-true _ _ g.0));
+  reads_back = λ n rest h. rw ((within_is 1 high).reads_back n rest (omega (arith, h.2), h.0, h.1), eq-eqb _ _ h.2) refl;
 }
 
-byte_takes : (high : ℕ) (bytes : List ℕ) (x : ℕ × List ℕ) → IsBytes bytes → byte_at high bytes ≡ Ok x → Takes bytes (x.0 ∷ []) x.1 × (x.0 < high)
+byte_reads_only : (high : ℕ) (bytes : List ℕ) (x : ℕ × List ℕ) → IsBytes bytes → byte_at high bytes ≡ Ok x → Begins bytes (x.0 ∷ []) x.1 × (x.0 < high)
 unfolding byte_at
-byte_takes high [] x h e = absurd cc
-byte_takes high (b ∷ rest) x h e =
+byte_reads_only high [] x h e = absurd cc
+byte_reads_only high (b ∷ rest) x h e =
     let g = test_ok (nat_lt b high) (At (suc (length rest))) (b, rest) x e in
-    subst (λ (y : ℕ × List ℕ). Takes (b ∷ rest) (y.0 ∷ []) y.1 × (y.0 < high)) g.1 (record { parts = refl; rest_fits = λ i. h (suc i) }, ltb-true _ _ g.0)
+    subst (λ (y : ℕ × List ℕ). Begins (b ∷ rest) (y.0 ∷ []) y.1 × (y.0 < high)) g.1 (record { parts = refl; rest_fits = λ i. h (suc i) }, ltb-true _ _ g.0)
 
-pub byte_form : (high : ℕ) → IsForm (λ b. b ∷ []) (λ b. b < high) (byte_at high)
+pub byte_is : (high : ℕ) → IsForm (byte high)
 unfolding byte_at
-byte_form high = record {
-  takes = byte_takes high;
-  again = λ b rest h. rw (lt-ltb _ _ h) refl;
-}
+byte_is high = record { reads_only = byte_reads_only high; reads_back = λ b rest h. rw (lt-ltb _ _ h) refl }
 
-version_takes : (bytes : List ℕ) (x : ℕ × List ℕ) → IsBytes bytes → version_at bytes ≡ Ok x → Takes bytes (x.0 ∷ []) x.1 × Within 1 3 x.0
+version_reads_only : (bytes : List ℕ) (x : ℕ × List ℕ) → IsBytes bytes → version_at bytes ≡ Ok x → Begins bytes (x.0 ∷ []) x.1 × ((1 ≤ x.0) × (x.0 < 3))
 unfolding version_at
-version_takes [] x h e = absurd cc
-version_takes (b ∷ rest) x h e =
+version_reads_only [] x h e = absurd cc
+version_reads_only (b ∷ rest) x h e =
     let g = test_ok (nat_le 1 b && nat_lt b 3) Version (b, rest) x e in
     let k = and_both (nat_le 1 b) (nat_lt b 3) g.0 in
-    subst (λ (y : ℕ × List ℕ). Takes (b ∷ rest) (y.0 ∷ []) y.1 × Within 1 3 y.0) g.1
-    (record { parts = refl; rest_fits = λ i. h (suc i) }, record { from = leb-true _ _ k.0; below = ltb-true _ _ k.1 })
+    subst (λ (y : ℕ × List ℕ). Begins (b ∷ rest) (y.0 ∷ []) y.1 × ((1 ≤ y.0) × (y.0 < 3))) g.1
+    (record { parts = refl; rest_fits = λ i. h (suc i) }, (leb-true _ _ k.0, ltb-true _ _ k.1))
 
-pub version_form : IsForm (λ b. b ∷ []) (Within 1 3) version_at
+pub version_is : IsForm version
 unfolding version_at
-version_form = record {
-  takes = version_takes;
-  again = λ b rest h.
-      let low : nat_le 1 b ≡ true = le-leb _ _ h.from in
-      let high : nat_lt b 3 ≡ true = lt-ltb _ _ h.below in
+version_is = record {
+  reads_only = version_reads_only;
+  reads_back = λ b rest h.
+      let low : nat_le 1 b ≡ true = le-leb _ _ h.0 in
+      let high : nat_lt b 3 ≡ true = lt-ltb _ _ h.1 in
       rw (low, high) refl;
+}
+
+pub nothing_is : IsForm nothing
+nothing_is = record {
+  reads_only = λ bytes x h e. let none : ⊤ × List ℕ = (tt, bytes) in
+      subst (λ (y : ⊤ × List ℕ). Begins bytes [] y.1 × ⊤) (ok_is none x e) (record { parts = refl; rest_fits = h }, tt);
+  reads_back = λ x rest h. refl;
+}
+
+tagged_reads_only : {A : Type 0} {f : Format A} → IsForm f
+    → (t : ℕ × List ℕ) (x : Option A × List ℕ) → IsBytes t.1 → t.0 < 2 → cond (t.0 == 0) (made Some f.read t.1) (Ok (None, t.1)) ≡ Ok x
+    → Begins (t.0 ∷ t.1) (spelling.tagged f.spelled x.0) x.1 × IfSome x.0 f.Fits
+tagged_reads_only {A} {f} is (zero, bytes) x h lt e =
+    let p = bind_ok (f.read bytes) (λ a. Ok (Some a.0, a.1)) x e in
+    let t = is.reads_only bytes p.0 h p.1 in
+    let some : Option A × List ℕ = (Some p.0.0, p.0.1) in
+    let P : Option A × List ℕ → Type 0 = λ y. Begins (0 ∷ bytes) (spelling.tagged f.spelled y.0) y.1 × IfSome y.0 f.Fits in
+    subst P (ok_is some x p.2) (record { parts = ap (λ (s : List ℕ). 0 ∷ s) t.0.parts; rest_fits = t.0.rest_fits }, t.1)
+tagged_reads_only {A} {f} is (suc n, bytes) x h lt e =
+    let none : Option A × List ℕ = (None, bytes) in
+    let one : n ≡ 0 = omega arith in
+    let P : Option A × List ℕ → Type 0 = λ y. Begins (suc n ∷ bytes) (spelling.tagged f.spelled y.0) y.1 × IfSome y.0 f.Fits in
+    subst P (ok_is none x (rw one at e)) (record { parts = rw one refl; rest_fits = h }, tt)
+
+tagged_reads_back : {A : Type 0} {f : Format A} → IsForm f
+    → (o : Option A) (rest : List ℕ) → IfSome o f.Fits → tagged_at f.read (spelling.tagged f.spelled o ++ rest) ≡ Ok (o, rest)
+unfolding tagged_at byte_at
+tagged_reads_back is None rest h = refl
+tagged_reads_back is (Some x) rest h = rw (is.reads_back x rest h) refl
+
+pub tagged_is : {A : Type 0} {f : Format A} → IsForm f → IsForm (tagged f)
+unfolding tagged_at
+tagged_is {A} {f} is = record {
+  reads_only = λ bytes x h e.
+      let p = bind_ok (byte_at 2 bytes) (λ t. cond (t.0 == 0) (made Some f.read t.1) (Ok (None, t.1))) x e in
+      let t = (byte_is 2).reads_only bytes p.0 h p.1 in
+      let u = tagged_reads_only is p.0 x t.0.rest_fits t.1 p.2 in
+      (record { parts = t.0.parts ∙ u.0.parts; rest_fits = u.0.rest_fits }, u.1);
+  reads_back = tagged_reads_back is;
 }
 
 -- ---- lists
 
--- a kind of list: how its items are spelled, read and ordered
-pub record IsKind {A : Type 0} (spelled : A → List ℕ) (Stands : ℕ → A → Type 0) (IsItem : A → Type 0) (Precedes : A → A → Type 0)
-    (next : A → ℕ) (item : ℕ → Reader A) (limit : ℕ) : Type 0 where
-  pub form : (at : ℕ) → at ≤ limit → IsForm spelled (λ x. Stands at x × IsItem x) (item at)
-  pub steps : Steps Stands Precedes next
-  pub low : (x : A) → IsItem x → next x ≤ limit
+pub record IsKind {A : Type 0} (k : Kind A) (limit : ℕ) : Type 0 where
+  pub form : (at : ℕ) → at ≤ limit → IsForm (placed k at)
+  pub steps : Steps k.Stands k.Precedes k.next
+  pub low : (x : A) → k.IsItem x → k.next x ≤ limit
 
-items_take : {A : Type 0} (spelled : A → List ℕ) (Stands : ℕ → A → Type 0) (IsItem : A → Type 0) (Precedes : A → A → Type 0) (next : A → ℕ)
-    (item : ℕ → Reader A) (limit : ℕ)
-    → IsKind spelled Stands IsItem Precedes next item limit
-    → (n at : ℕ) → at ≤ limit → (bytes : List ℕ) (x : List A × List ℕ) → IsBytes bytes → items_at item next n at bytes ≡ Ok x
-    → Takes bytes (flat_map spelled x.0) x.1 × (length x.0 ≡ n) × Follow Stands IsItem next at x.0
+items_read_only : {A : Type 0} {k : Kind A} {limit : ℕ} → IsKind k limit → (n at : ℕ) → at ≤ limit → (bytes : List ℕ) (x : List A × List ℕ)
+    → IsBytes bytes → items_at k.read k.next n at bytes ≡ Ok x → Begins bytes (flat_map k.spelled x.0) x.1 × (length x.0 ≡ n) × Follow k at x.0
 unfolding items_at
-items_take {A} spelled Stands IsItem Precedes next item limit kind zero at le bytes x h e =
+items_read_only {A} {k} {limit} is zero at le bytes x h e =
     let none : List A × List ℕ = ([], bytes) in
-    let P : List A × List ℕ → Type 0 = λ y. Takes bytes (flat_map spelled y.0) y.1 × (length y.0 ≡ 0) × Follow Stands IsItem next at y.0 in
+    let P : List A × List ℕ → Type 0 = λ y. Begins bytes (flat_map k.spelled y.0) y.1 × (length y.0 ≡ 0) × Follow k at y.0 in
     subst P (ok_is none x e) (record { parts = refl; rest_fits = h }, refl, tt)
-items_take {A} spelled Stands IsItem Precedes next item limit kind (suc n) at le bytes x h e =
-    let p = bind_ok (item at bytes) (λ a. items_at item next n (next a.0) a.1 >>= λ xs. Ok (a.0 ∷ xs.0, xs.1)) x e in
-    let t = (kind.form at le).takes bytes p.0 h p.1 in
-    let q = bind_ok (items_at item next n (next p.0.0) p.0.1) (λ xs. Ok (p.0.0 ∷ xs.0, xs.1)) x p.2 in
-    let u = items_take spelled Stands IsItem Precedes next item limit kind n (next p.0.0) (kind.low p.0.0 t.1.1) p.0.1 q.0 t.0.rest_fits q.1 in
-    let text : Takes bytes (spelled p.0.0 ++ flat_map spelled q.0.0) q.0.1 = Takes-then bytes (spelled p.0.0) p.0.1 (flat_map spelled q.0.0) q.0.1 t.0 u.0 in
+items_read_only {A} {k} {limit} is (suc n) at le bytes x h e =
+    let p = bind_ok (k.read at bytes) (λ a. items_at k.read k.next n (k.next a.0) a.1 >>= λ xs. Ok (a.0 ∷ xs.0, xs.1)) x e in
+    let t = (is.form at le).reads_only bytes p.0 h p.1 in
+    let q = bind_ok (items_at k.read k.next n (k.next p.0.0) p.0.1) (λ xs. Ok (p.0.0 ∷ xs.0, xs.1)) x p.2 in
+    let u = items_read_only is n (k.next p.0.0) (is.low p.0.0 t.1.1) p.0.1 q.0 t.0.rest_fits q.1 in
+    let text : Begins bytes (k.spelled p.0.0 ++ flat_map k.spelled q.0.0) q.0.1 = Begins-then bytes (k.spelled p.0.0) p.0.1 (flat_map k.spelled q.0.0) q.0.1 t.0 u.0 in
     let made_is : List A × List ℕ = (p.0.0 ∷ q.0.0, q.0.1) in
-    let P : List A × List ℕ → Type 0 = λ y. Takes bytes (flat_map spelled y.0) y.1 × (length y.0 ≡ suc n) × Follow Stands IsItem next at y.0 in
+    let P : List A × List ℕ → Type 0 = λ y. Begins bytes (flat_map k.spelled y.0) y.1 × (length y.0 ≡ suc n) × Follow k at y.0 in
     subst P (ok_is made_is x q.2) (rw flat_map-cons text, ap suc u.1, (t.1, u.2))
 
-items_again : {A : Type 0} (spelled : A → List ℕ) (Stands : ℕ → A → Type 0) (IsItem : A → Type 0) (Precedes : A → A → Type 0)
-    (next : A → ℕ) (item : ℕ → Reader A) (limit : ℕ)
-    → IsKind spelled Stands IsItem Precedes next item limit
-    → (at : ℕ) → at ≤ limit → (xs : List A) (rest : List ℕ) → Follow Stands IsItem next at xs
-    → items_at item next (length xs) at (flat_map spelled xs ++ rest) ≡ Ok (xs, rest)
+items_read_back : {A : Type 0} {k : Kind A} {limit : ℕ} → IsKind k limit → (at : ℕ) → at ≤ limit → (xs : List A) (rest : List ℕ) → Follow k at xs
+    → items_at k.read k.next (length xs) at (flat_map k.spelled xs ++ rest) ≡ Ok (xs, rest)
 unfolding items_at
-items_again spelled Stands IsItem Precedes next item limit kind at le [] rest h = refl
-items_again {A} spelled Stands IsItem Precedes next item limit kind at le (x ∷ xs) rest h =
-    let regrouped : flat_map spelled (x ∷ xs) ++ rest ≡ spelled x ++ (flat_map spelled xs ++ rest) =
-    ap (λ (s : List ℕ). s ++ rest) (flat_map-cons spelled x xs) ∙ append_assoc (spelled x) (flat_map spelled xs) rest in
-    ap (items_at item next (suc (length xs)) at) regrouped ∙ rw (
-      (kind.form at le).again x (flat_map spelled xs ++ rest) h.0,
-      items_again spelled Stands IsItem Precedes next item limit kind (next x) (kind.low x h.0.1) xs rest h.1,
+items_read_back is at le [] rest h = refl
+items_read_back {A} {k} {limit} is at le (x ∷ xs) rest h =
+    let regrouped : flat_map k.spelled (x ∷ xs) ++ rest ≡ k.spelled x ++ (flat_map k.spelled xs ++ rest) =
+    ap (λ (s : List ℕ). s ++ rest) (flat_map-cons k.spelled x xs) ∙ append_assoc (k.spelled x) (flat_map k.spelled xs) rest in
+    ap (items_at k.read k.next (suc (length xs)) at) regrouped ∙ rw (
+      (is.form at le).reads_back x (flat_map k.spelled xs ++ rest) h.0,
+      items_read_back is (k.next x) (is.low x h.0.1) xs rest h.1,
     ) refl
 
-pub items_form : {A : Type 0} (spelled : A → List ℕ) (Stands : ℕ → A → Type 0) (IsItem : A → Type 0) (Precedes : A → A → Type 0)
-    (next : A → ℕ) (item : ℕ → Reader A) (limit : ℕ)
-    → IsKind spelled Stands IsItem Precedes next item limit
-    → (n at : ℕ) → at ≤ limit → IsForm (flat_map spelled) (λ xs. (length xs ≡ n) × AreOrdered (Stands at) IsItem Precedes xs) (items_at item next n at)
-items_form spelled Stands IsItem Precedes next item limit kind n at le = record {
-  takes = λ bytes x h e.
-      let r = items_take spelled Stands IsItem Precedes next item limit kind n at le bytes x h e in
-      (r.0, (r.1, ordered Stands IsItem Precedes next kind.steps at x.0 r.2));
-  again = λ xs rest h.
-      ap (λ (k : ℕ). items_at item next k at (flat_map spelled xs ++ rest)) (sym h.0)
-      ∙ items_again spelled Stands IsItem Precedes next item limit kind at le xs rest
-      (follow Stands IsItem Precedes next kind.steps at xs h.1);
+pub so_many_is : {A : Type 0} {k : Kind A} {limit : ℕ} → IsKind k limit → (n at : ℕ) → at ≤ limit → IsForm (so_many k n at)
+so_many_is {A} {k} {limit} is n at le = record {
+  reads_only = λ bytes x h e. let r = items_read_only is n at le bytes x h e in (r.0, (r.1, ordered k is.steps at x.0 r.2));
+  reads_back = λ xs rest h. ap (λ (m : ℕ). items_at k.read k.next m at (flat_map k.spelled xs ++ rest)) (sym h.0)
+      ∙ items_read_back is at le xs rest (follow k is.steps at xs h.1);
 }
 
-pub counted_form : {A : Type 0} (spelled : A → List ℕ) (Stands : ℕ → A → Type 0) (IsItem : A → Type 0) (Precedes : A → A → Type 0)
-    (next : A → ℕ) (item : ℕ → Reader A) (limit : ℕ)
-    → IsKind spelled Stands IsItem Precedes next item limit
-    → (least high at : ℕ) → high ≤ 2 ^ 32 → at ≤ limit
-    → IsForm (counted spelled) (λ xs. Within least high (length xs) × AreOrdered (Stands at) IsItem Precedes xs)
-    (counted_at item next least high at)
+pub listed_is : {A : Type 0} {k : Kind A} {limit : ℕ} → IsKind k limit → (least high at : ℕ) → at ≤ limit → IsForm (listed k least high at)
 unfolding counted_at
-counted_form {A} spelled Stands IsItem Precedes next item limit kind least high at small le = record {
-  takes = λ bytes x h e.
-      let p = bind_ok (within_at least high bytes) (λ n. items_at item next n.0 at n.1) x e in
-      let t = (within_form least high small).takes bytes p.0 h p.1 in
-      let u = (items_form spelled Stands IsItem Precedes next item limit kind p.0.0 at le).takes p.0.1 x t.0.rest_fits p.2 in
-      let text : Takes bytes (word p.0.0 ++ flat_map spelled x.0) x.1 = Takes-then bytes (word p.0.0) p.0.1 (flat_map spelled x.0) x.1 t.0 u.0 in
-      let n : p.0.0 ≡ length x.0 = sym u.1.0 in
-      (subst (λ (k : ℕ). Takes bytes (word k ++ flat_map spelled x.0) x.1) n text, (subst (Within least high) n t.1, u.1.1));
-  again = λ xs rest h.
-      let first : within_at least high ((word (length xs) ++ flat_map spelled xs) ++ rest) ≡ Ok (length xs, flat_map spelled xs ++ rest) =
-      ap (within_at least high) (append_assoc (word (length xs)) (flat_map spelled xs) rest)
-      ∙ (within_form least high small).again (length xs) (flat_map spelled xs ++ rest) h.0 in
-      rw first ((items_form spelled Stands IsItem Precedes next item limit kind (length xs) at le).again xs rest (refl, h.1));
+listed_is {A} {k} {limit} is least high at le = record {
+  reads_only = λ bytes x h e.
+      let p = bind_ok (within_at least high bytes) (λ n. items_at k.read k.next n.0 at n.1) x e in
+      let t = (within_is least high).reads_only bytes p.0 h p.1 in
+      let u = (so_many_is is p.0.0 at le).reads_only p.0.1 x t.0.rest_fits p.2 in
+      let text : Begins bytes (word p.0.0 ++ flat_map k.spelled x.0) x.1 = Begins-then bytes (word p.0.0) p.0.1 (flat_map k.spelled x.0) x.1 t.0 u.0 in
+      let P : ℕ → Type 0 = λ n. Begins bytes (word n ++ flat_map k.spelled x.0) x.1 × ((least ≤ n) × (n < high) × IsWord n) in
+      let whole = subst P (sym u.1.0) (text, t.1) in
+      (whole.0, (whole.1, u.1.1));
+  reads_back = λ xs rest h.
+      let first : within_at least high ((word (length xs) ++ flat_map k.spelled xs) ++ rest) ≡ Ok (length xs, flat_map k.spelled xs ++ rest) =
+      ap (within_at least high) (append_assoc (word (length xs)) (flat_map k.spelled xs) rest)
+      ∙ (within_is least high).reads_back (length xs) (flat_map k.spelled xs ++ rest) h.0 in
+      rw first ((so_many_is is (length xs) at le).reads_back xs rest (refl, h.1));
 }
 
-tagged_takes : {A : Type 0} (spelled : A → List ℕ) (Fits : A → Type 0) (read : Reader A) → IsForm spelled Fits read
-    → (t : ℕ × List ℕ) (x : Option A × List ℕ) → IsBytes t.1 → t.0 < 2 → cond (t.0 == 0) (made Some read t.1) (Ok (None, t.1)) ≡ Ok x
-    → Takes (t.0 ∷ t.1) (tagged spelled x.0) x.1 × IfSome x.0 Fits
-tagged_takes {A} spelled Fits read form (zero, bytes) x h lt e =
-    let p = bind_ok (read bytes) (λ a. Ok (Some a.0, a.1)) x e in
-    let t = form.takes bytes p.0 h p.1 in
-    let some : Option A × List ℕ = (Some p.0.0, p.0.1) in
-    let P : Option A × List ℕ → Type 0 = λ y. Takes (0 ∷ bytes) (tagged spelled y.0) y.1 × IfSome y.0 Fits in
-    subst P (ok_is some x p.2) (record { parts = ap (λ (s : List ℕ). 0 ∷ s) t.0.parts; rest_fits = t.0.rest_fits }, t.1)
-tagged_takes {A} spelled Fits read form (suc n, bytes) x h lt e =
-    let none : Option A × List ℕ = (None, bytes) in
-    let one : n ≡ 0 = omega arith in
-    let P : Option A × List ℕ → Type 0 = λ y. Takes (suc n ∷ bytes) (tagged spelled y.0) y.1 × IfSome y.0 Fits in
-    subst P (ok_is none x (rw one at e)) (record { parts = rw one refl; rest_fits = h }, tt)
-
-tagged_again : {A : Type 0} (spelled : A → List ℕ) (Fits : A → Type 0) (read : Reader A) → IsForm spelled Fits read
-    → (o : Option A) (rest : List ℕ) → IfSome o Fits → tagged_at read (tagged spelled o ++ rest) ≡ Ok (o, rest)
-unfolding tagged_at byte_at
-tagged_again spelled Fits read form None rest h = refl
-tagged_again spelled Fits read form (Some x) rest h = rw (form.again x rest h) refl
-
-pub tagged_form : {A : Type 0} (spelled : A → List ℕ) (Fits : A → Type 0) (read : Reader A) → IsForm spelled Fits read
-    → IsForm (tagged spelled) (λ o. IfSome o Fits) (tagged_at read)
-unfolding tagged_at
-tagged_form {A} spelled Fits read form = record {
-  takes = λ bytes x h e.
-      let p = bind_ok (byte_at 2 bytes) (λ t. cond (t.0 == 0) (made Some read t.1) (Ok (None, t.1))) x e in
-      let t = (byte_form 2).takes bytes p.0 h p.1 in
-      let u = tagged_takes spelled Fits read form p.0 x t.0.rest_fits t.1 p.2 in
-      (record { parts = t.0.parts ∙ u.0.parts; rest_fits = u.0.rest_fits }, u.1);
-  again = tagged_again spelled Fits read form;
+pub rising_is : {A : Type 0} {key : A → ℕ} {spelled : A → List ℕ} {IsItem : A → Type 0} {f : ℕ → Format A}
+    → ((low : ℕ) → IsForm (f low)) → ((low : ℕ) (x : A) → (f low).spelled x ≡ spelled x)
+    → ((low : ℕ) (x : A) → (f low).Fits x → (low ≤ key x) × IsItem x) → ((low : ℕ) (x : A) → (low ≤ key x) × IsItem x → (f low).Fits x)
+    → ((x : A) → IsItem x → IsWord (key x)) → IsKind (rising key spelled IsItem (λ low. (f low).read)) (2 ^ 32)
+rising_is {A} {key} {spelled} {IsItem} {f} is spelt up down small = record {
+  form = λ at le. record {
+    reads_only = λ bytes x h e. let t = (is at).reads_only bytes x h e in (subst (λ (s : List ℕ). Begins bytes s x.1) (spelt at x.0) t.0, up at x.0 t.1);
+    reads_back = λ x rest h. ap (λ (s : List ℕ). (f at).read (s ++ rest)) (sym (spelt at x)) ∙ (is at).reads_back x rest (down at x h);
+  };
+  steps = order.rising key;
+  low = λ x h. omega (arith, small x h);
 }

@@ -5,21 +5,21 @@ use Rattle.std.proofs.lemmas.List.Concat.{flat_map-cons}
 use Rattle.pg_wire.specs.declared.reader.ValuesReader.{ValuesReader}
 use Rattle.pg_wire.specs.declared.fault.FieldFault.{FieldFault}
 use Rattle.pg_wire.specs.Measured.{Measured, spelled_as}
-use Rattle.pg_wire.specs.Mirrors.Skipping.{measured_at}
+use Rattle.pg_wire.specs.Mirrors.Formats.{measured}
 use Rattle.pg_wire.specs.Left.{IsLeft, IsNext, row_of, is_top}
 use Rattle.pg_wire.proofs.Grammar.{ok_is}
-use Rattle.pg_wire.proofs.Measuring.{measured_form}
+use Rattle.pg_wire.proofs.FrameFormats.{measures_is}
 
 first_read : (r : ValuesReader) (m : Measured) (ms : List Measured) → IsLeft r (m ∷ ms)
-    → measured_at r.kind r.width 0 r.bytes.now ≡ Ok (m, flat_map (spelled_as r.kind) ms)
+    → (measured r.kind r.width 0).read r.bytes.now ≡ Ok (m, flat_map (spelled_as r.kind) ms)
 first_read r m ms h =
     let small : r.width < 2 ^ 32 = omega (arith, h.width) in
-    ap (measured_at r.kind r.width 0) (h.spelled ∙ flat_map-cons (spelled_as r.kind) m ms)
-    ∙ (measured_form r.kind r.width small 0).again m (flat_map (spelled_as r.kind) ms) (omega arith, h.measures 0 m (omega arith))
+    ap (measured r.kind r.width 0).read (h.spelled ∙ flat_map-cons (spelled_as r.kind) m ms)
+    ∙ ((measures_is r.kind r.width small).form 0 (omega arith)).reads_back m (flat_map (spelled_as r.kind) ms) (omega arith, h.measures 0 m (omega arith))
 
 -- a measure that isn't read is none that was left
 pub none_left : (ms : List Measured) (r : ValuesReader) (row row' : List ℕ) (e : FieldFault) → IsLeft r ms → (r.bytes.now ≡ [] → ⊥)
-    → measured_at r.kind r.width 0 r.bytes.now ≡ Err e → IsNext ms r row row' None
+    → (measured r.kind r.width 0).read r.bytes.now ≡ Err e → IsNext ms r row row' None
 none_left [] r row row' e h some read = absurd (some h.spelled)
 none_left (m ∷ ms) r row row' e h some read = absurd (cc (sym (first_read r m ms h) ∙ read))
 
@@ -29,7 +29,7 @@ kept_row true row row' kept = (refl, kept refl)
 kept_row false row row' kept = (refl, refl)
 
 pub next_left : (ms : List Measured) (r : ValuesReader) (row row' : List ℕ) (n : ℕ) (top : Bool) (rest : Bor (List ℕ)) → IsLeft r ms → (r.bytes.now ≡ [] → ⊥)
-    → measured_at r.kind r.width 0 r.bytes.now ≡ Ok ((n, cond top None (Some row')), rest.now) → (top ≡ true → row' ≡ row)
+    → (measured r.kind r.width 0).read r.bytes.now ≡ Ok ((n, cond top None (Some row')), rest.now) → (top ≡ true → row' ≡ row)
     → IsNext ms (record { kind = r.kind; width = r.width; bytes = rest }) row row' (Some (n, top))
 next_left [] r row row' n top rest h some read kept = absurd (some h.spelled)
 next_left (m ∷ ms) r row row' n top rest h some read kept =

@@ -1,7 +1,7 @@
 pub mod Loop
 pub mod Orders
 pub mod Grammar
-pub mod FrameParts
+pub mod FrameFormats
 pub mod Bodies
 pub mod Append
 pub mod Consumed
@@ -11,7 +11,6 @@ pub mod Frames
 pub mod Few
 pub mod Filling
 pub mod Tells
-pub mod Measuring
 pub mod Skip
 pub mod Left
 pub mod Lines

@@ -1,25 +1,20 @@
 -- A frame of vertices that is being written.
 use Rattle.std.proofs.Common.{◌≡◌, ℕ, ◌+◌, ◌*◌, ◌-◌, ◌<◌, ◌≤◌, min, List, [], ◌∷◌, ◌++◌, length, sym, ap, ◌∙◌, append_assoc, arith}
 use Rattle.std.specs.List.{flat_map}
-use Rattle.std.proofs.lemmas.List.{append-nil, length-append}
-use Rattle.std.proofs.lemmas.List.Concat.{flat_map-cons}
-use Rattle.std.proofs.lemmas.Grind.{flat_map-append}
+use Rattle.std.proofs.lemmas.List.{length-append}
 use Rattle.pg_wire.specs.declared.frame.VertexLine.{VertexLine}
 use Rattle.pg_wire.specs.declared.lines_writer.VerticesWriter.{VerticesWriter}
 use Rattle.pg_wire.specs.Spelling.{line, body, longest}
 use Rattle.pg_wire.specs.Lines.{frame_with}
 use Rattle.pg_wire.specs.LinesWritten.{AreWriting}
-use Rattle.pg_wire.proofs.Append.{few}
-use Rattle.pg_wire.proofs.Lines.{words_size}
+use Rattle.pg_wire.proofs.Append.{few, spelled_behind}
+use Rattle.pg_wire.proofs.Nonzero.{words_size}
 
 line_size : (l : VertexLine) → length (line l) ≡ 13 + 4 * length l.successors
 line_size l = omega (arith, words_size l.successors)
 
-one_more : (ls : List VertexLine) (l : VertexLine) → flat_map line (ls ++ l ∷ []) ≡ flat_map line ls ++ line l
-one_more ls l = flat_map-append line ls (l ∷ []) ∙ ap (λ (bs : List ℕ). flat_map line ls ++ bs) (flat_map-cons line l [] ∙ append-nil (line l))
-
 more_size : (ls : List VertexLine) (l : VertexLine) → length (flat_map line (ls ++ l ∷ [])) ≡ length (flat_map line ls) + 13 + 4 * length l.successors
-more_size ls l = omega (arith, ap length (one_more ls l), length-append (flat_map line ls) (line l), line_size l)
+more_size ls l = omega (arith, ap length (spelled_behind line ls l), length-append (flat_map line ls) (line l), line_size l)
 
 frame_size : (w : VerticesWriter) (before : List ℕ) (ls : List VertexLine) (buffer : List ℕ) → AreWriting w before ls buffer
     → length buffer ≡ w.start + 9 + length (flat_map line ls)
@@ -49,5 +44,5 @@ added start count more before ls buffer buffer' l room size h r s le n e =
       front = h.front;
       front_size = h.front_size;
       whole = e ∙ ap (λ (bs : List ℕ). bs ++ line l) h.whole ∙ append_assoc before (h.front ++ flat_map line ls) (line l)
-          ∙ ap (λ (bs : List ℕ). before ++ bs) (append_assoc h.front (flat_map line ls) (line l) ∙ ap (λ (bs : List ℕ). h.front ++ bs) (sym (one_more ls l)));
+          ∙ ap (λ (bs : List ℕ). before ++ bs) (append_assoc h.front (flat_map line ls) (line l) ∙ ap (λ (bs : List ℕ). h.front ++ bs) (sym (spelled_behind line ls l)));
     }

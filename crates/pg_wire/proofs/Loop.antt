@@ -6,7 +6,8 @@ use Rattle.std.proofs.lemmas.List.{append-nil}
 use Rattle.pg_wire.specs.declared.fault.FieldFault.{FieldFault}
 use Rattle.pg_wire.specs.declared.fault.ReadFault.{ReadFault}
 use Rattle.pg_wire.specs.declared.fault.ReadFault.TheVariants as faults
-use Rattle.pg_wire.specs.Mirrors.Reading.{◌>>=◌, Reader, Fails, items_at}
+use Rattle.pg_wire.specs.Mirrors.Reading.{◌>>=◌, Fails, items_at}
+use Rattle.pg_wire.specs.Mirrors.Formats.{Kind, so_many}
 
 abbrev pub with_front : {A : Type 0} → List A → Result (List A × List ℕ) FieldFault → Result (List A × List ℕ) FieldFault
 with_front front read = read >>= λ x. Ok (front ++ x.0, x.1)
@@ -16,36 +17,33 @@ regroup : {A : Type 0} (front : List A) (n : A) (read : Result (List A × List �
 regroup {A} front n (Ok x) = ap (λ (ns : List A). Ok (ns, x.1)) (simp append_assoc)
 regroup front n (Err f) = refl
 
-pub goes_on : {A : Type 0} (item : ℕ → Reader A) (next : A → ℕ) (front : List A) (count i at : ℕ) (bytes : List ℕ) (n : A) (after : List ℕ)
+pub goes_on : {A : Type 0} (k : Kind A) (front : List A) (count i at : ℕ) (bytes : List ℕ) (x : A) (after : List ℕ)
     (total : Result (List A × List ℕ) FieldFault)
-    → i < count → item at bytes ≡ Ok (n, after)
-    → with_front front (items_at item next (count - i) at bytes) ≡ total
-    → with_front (front ++ n ∷ []) (items_at item next (count - (i + 1)) (next n) after) ≡ total
+    → i < count → k.read at bytes ≡ Ok (x, after)
+    → with_front front ((so_many k (count - i) at).read bytes) ≡ total
+    → with_front (front ++ x ∷ []) ((so_many k (count - (i + 1)) (k.next x)).read after) ≡ total
 unfolding items_at
-goes_on item next front count i at bytes n after total lt h so_far =
-    let k : count - i ≡ suc (count - (i + 1)) = omega arith in
-    let one : with_front front (items_at item next (count - i) at bytes) ≡ with_front (front ++ n ∷ [])
-    (items_at item next (count - (i + 1)) (next n) after) =
-    rw (k, h) (regroup front n (items_at item next (count - (i + 1)) (next n) after)) in
+goes_on k front count i at bytes x after total lt h so_far =
+    let n : count - i ≡ suc (count - (i + 1)) = omega arith in
+    let one : with_front front ((so_many k (count - i) at).read bytes) ≡ with_front (front ++ x ∷ []) ((so_many k (count - (i + 1)) (k.next x)).read after) =
+    rw (n, h) (regroup front x ((so_many k (count - (i + 1)) (k.next x)).read after)) in
     sym one ∙ so_far
 
-pub ends : {A : Type 0} (item : ℕ → Reader A) (next : A → ℕ) (e : ReadFault) (front : List A) (count i at : ℕ) (bytes : List ℕ)
-    (total : Result (List A × List ℕ) FieldFault)
-    → i < count → Fails e (item at bytes)
-    → with_front front (items_at item next (count - i) at bytes) ≡ total → Fails e total
+pub ends : {A : Type 0} (k : Kind A) (e : ReadFault) (front : List A) (count i at : ℕ) (bytes : List ℕ) (total : Result (List A × List ℕ) FieldFault)
+    → i < count → Fails e (k.read at bytes) → with_front front ((so_many k (count - i) at).read bytes) ≡ total → Fails e total
 unfolding items_at
-ends item next faults.Memory front count i at bytes total lt h so_far = tt
-ends item next (faults.Field f) front count i at bytes total lt h so_far =
-    let k : count - i ≡ suc (count - (i + 1)) = omega arith in
-    let one : with_front front (items_at item next (count - i) at bytes) ≡ Err f = rw (k, h) refl in
+ends k faults.Memory front count i at bytes total lt h so_far = tt
+ends k (faults.Field f) front count i at bytes total lt h so_far =
+    let n : count - i ≡ suc (count - (i + 1)) = omega arith in
+    let one : with_front front ((so_many k (count - i) at).read bytes) ≡ Err f = rw (n, h) refl in
     sym so_far ∙ one
 
-pub is_done : {A : Type 0} (item : ℕ → Reader A) (next : A → ℕ) (front : List A) (count i at : ℕ) (bytes : List ℕ) (total : Result (List A × List ℕ) FieldFault)
-    → count ≤ i → with_front front (items_at item next (count - i) at bytes) ≡ total → total ≡ Ok (front, bytes)
+pub is_done : {A : Type 0} (k : Kind A) (front : List A) (count i at : ℕ) (bytes : List ℕ) (total : Result (List A × List ℕ) FieldFault)
+    → count ≤ i → with_front front ((so_many k (count - i) at).read bytes) ≡ total → total ≡ Ok (front, bytes)
 unfolding items_at
-is_done {A} item next front count i at bytes total le so_far =
-    let k : count - i ≡ 0 = omega arith in
-    let one : with_front front (items_at item next (count - i) at bytes) ≡ Ok (front, bytes) = rw k (ap (λ (ns : List A). Ok (ns, bytes)) (append-nil front)) in
+is_done {A} k front count i at bytes total le so_far =
+    let n : count - i ≡ 0 = omega arith in
+    let one : with_front front ((so_many k (count - i) at).read bytes) ≡ Ok (front, bytes) = rw n (ap (λ (xs : List A). Ok (xs, bytes)) (append-nil front)) in
     sym so_far ∙ one
 
 -- where all items so far were spelled, there is room for one more

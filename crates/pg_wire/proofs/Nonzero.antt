@@ -5,9 +5,9 @@ use Rattle.std.specs.List.{flat_map}
 use Rattle.std.proofs.lemmas.Bool.{cases_Bool, eqb-true}
 use Rattle.std.proofs.lemmas.List.{append-nil, take_more, length-append, length-take-le}
 use Rattle.std.proofs.lemmas.List.Concat.{flat_map-cons}
-use Rattle.std.proofs.lemmas.Grind.{flat_map-append}
 use Rattle.pg_wire.specs.Spelling.{word, pair}
 use Rattle.pg_wire.specs.Measured.{nonzero_from, nonzero}
+use Rattle.pg_wire.proofs.Append.{spelled_behind}
 
 pub nonzero-append : (at : ℕ) (xs ys : List ℕ) → nonzero_from at (xs ++ ys) ≡ nonzero_from at xs ++ nonzero_from (at + length xs) ys
 nonzero-append at [] ys = ap (λ (n : ℕ). nonzero_from n ys) (omega arith)
@@ -50,5 +50,4 @@ pairs_size (p ∷ ps) = ap length (flat_map-cons pair p ps) ∙ length-append (p
 pub pairs_more : (xs : List ℕ) (i : ℕ) → i < length xs → get_or xs i 0 ≢ 0
     → flat_map pair (nonzero (take (i + 1) xs)) ≡ flat_map pair (nonzero (take i xs)) ++ pair (i, get_or xs i 0)
 pairs_more xs i lt some =
-    ap (flat_map pair) (nonzero_some xs i lt some) ∙ flat_map-append pair (nonzero (take i xs)) ((i, get_or xs i 0) ∷ [])
-    ∙ ap (λ (bs : List ℕ). flat_map pair (nonzero (take i xs)) ++ bs) (flat_map-cons pair (i, get_or xs i 0) [] ∙ append-nil (pair (i, get_or xs i 0)))
+    ap (flat_map pair) (nonzero_some xs i lt some) ∙ spelled_behind pair (nonzero (take i xs)) (i, get_or xs i 0)

@@ -1,39 +1,44 @@
 -- What is passed over is read.
-use Rattle.std.proofs.Common.{◌≡◌, ℕ, suc, ◌+◌, ◌-◌, ◌^◌, ◌<◌, ◌≤◌, List, [], ◌∷◌, ◌++◌, drop, Result, Ok, Err, refl, sym, ap, ◌∙◌, arith}
+use Rattle.std.proofs.Common.{◌≡◌, ℕ, suc, ◌+◌, ◌-◌, ◌^◌, ◌<◌, ◌≤◌, List, [], ◌∷◌, ◌++◌, drop, get_or, length, Some, Result, Ok, Err, refl, sym, ap, subst, ◌∙◌, arith}
 use Rattle.std.specs.List.{flat_map}
 use Rattle.std.proofs.lemmas.List.{append-nil}
 use Rattle.pg_wire.specs.declared.fault.FieldFault.{FieldFault}
+use Rattle.pg_wire.specs.declared.frame.VertexLine.{VertexLine}
+use Rattle.pg_wire.specs.declared.frame.Vertices.{Vertices}
+use Rattle.pg_wire.specs.declared.frame.Value.{Value}
+use Rattle.pg_wire.specs.declared.frame.Values.{Values}
+use Rattle.pg_wire.specs.declared.frame.SparseValue.{SparseValue}
+use Rattle.pg_wire.specs.declared.frame.Sparse.{Sparse}
 use Rattle.pg_wire.specs.declared.frame.Frame.{Frame}
+use Rattle.pg_wire.specs.declared.frame.Frame.TheVariants as frames
 use Rattle.pg_wire.specs.declared.kind.ValueKind.{ValueKind}
-use Rattle.pg_wire.specs.declared.kind.ValueKind.TheVariants.{Sparse}
-use Rattle.pg_wire.specs.Spelling.{word, counted, body}
+use Rattle.pg_wire.specs.declared.kind.ValueKind.TheVariants as kinds
+use Rattle.pg_wire.specs.Spelling.{word, line, body}
 use Rattle.pg_wire.specs.Well.{IsWell}
-use Rattle.pg_wire.specs.Measured.{Measured, IsMeasured, filled, spelled_as, kind_number}
-use Rattle.pg_wire.specs.Mirrors.Reading.{◌>>=◌, Reader, made, items_at, counted_at, tagged_at, within_at, byte_at, place_at}
-use Rattle.pg_wire.specs.Mirrors.Skipping.{skipped, list_at, measured_at, after_measured, fields_at, AreFields}
-use Rattle.pg_wire.specs.declared.fault.ReadFault.TheVariants as faults
-use Rattle.pg_wire.proofs.Loop.{with_front}
-use Rattle.pg_wire.proofs.Loop.{ends as list_stops}
-use Rattle.pg_wire.proofs.Grammar.{IsBytes, bind_ok, ok_is, items_form, within_form}
-use Rattle.pg_wire.proofs.Tells.{well_of, measures_of, body_is}
-use Rattle.pg_wire.proofs.Measuring.{measured_kind, fields_form}
+use Rattle.pg_wire.specs.Lines.{frame_with}
+use Rattle.pg_wire.specs.Measured.{filled, spelled_as, kind_number}
+use Rattle.pg_wire.specs.Mirrors.Reading.{◌>>=◌, Reader, both, made, skipped, items_at, counted_at, tagged_at, within_at, byte_at}
+use Rattle.pg_wire.specs.Mirrors.Formats.{Format, Kind, so_many, listed, within, successors, lines, values, places}
+use Rattle.pg_wire.specs.Mirrors.Formats.{sparse_values, all_components, some_places, line as line_format, value, sparse_value, measure}
+use Rattle.pg_wire.specs.Mirrors.Formats.{values_fields, sparse_fields, vertices_fields}
+use Rattle.pg_wire.specs.Mirrors.Streaming.{measures_skipped, AreLines, AreFields}
+use Rattle.pg_wire.proofs.Grammar.{IsForm, IsBytes, bind_ok, ok_is, within_is}
+use Rattle.pg_wire.proofs.FrameFormats.{vertices_is, values_fields_is, sparse_fields_is}
+use Rattle.pg_wire.proofs.Tells.{IsOf, well_of, measures_of, body_is}
 
 result_err : {A B : Type 0} (r : Result A FieldFault) (f : A → B) (e : FieldFault) → (r >>= λ a. Ok (f a)) ≡ Err e → r ≡ Err e
 result_err (Ok x) f e h = absurd cc
 result_err (Err d) f e h = cc
-
-pub skipped_err : {A : Type 0} (read : Reader A) (bytes : List ℕ) (e : FieldFault) → skipped read bytes ≡ Err e → read bytes ≡ Err e
-skipped_err {A} read bytes e h = result_err (read bytes) (λ (x : A × List ℕ). x.1) e h
 
 pub skipped_ok : {A : Type 0} (read : Reader A) (bytes rest : List ℕ) → skipped read bytes ≡ Ok rest → (x : A) × (read bytes ≡ Ok (x, rest))
 skipped_ok {A} read bytes rest h =
     let p = bind_ok (read bytes) (λ (x : A × List ℕ). Ok x.1) rest h in
     (p.0.0, p.1 ∙ ap (λ (r : List ℕ). Ok (p.0.0, r)) (ok_is p.0.1 rest p.2))
 
-pub made_err : {A : Type 0} (f : A → ℕ) (read : Reader A) (bytes : List ℕ) (e : FieldFault) → made f read bytes ≡ Err e → read bytes ≡ Err e
-made_err {A} f read bytes e h = result_err (read bytes) (λ (x : A × List ℕ). (f x.0, x.1)) e h
+skipped_err : {A : Type 0} (read : Reader A) (bytes : List ℕ) (e : FieldFault) → skipped read bytes ≡ Err e → read bytes ≡ Err e
+skipped_err {A} read bytes e h = result_err (read bytes) (λ (x : A × List ℕ). x.1) e h
 
-pub made_ok : {A : Type 0} (f : A → ℕ) (read : Reader A) (bytes rest : List ℕ) (n : ℕ) → made f read bytes ≡ Ok (n, rest)
+made_ok : {A : Type 0} (f : A → ℕ) (read : Reader A) (bytes rest : List ℕ) (n : ℕ) → made f read bytes ≡ Ok (n, rest)
     → (x : A) × (read bytes ≡ Ok (x, rest)) × (f x ≡ n)
 made_ok {A} f read bytes rest n h =
     let p = bind_ok (read bytes) (λ (x : A × List ℕ). Ok (f x.0, x.1)) (n, rest) h in
@@ -42,184 +47,264 @@ made_ok {A} f read bytes rest n h =
     let e = ok_is made_is wanted p.2 in
     (p.0.0, p.1 ∙ ap (λ (y : ℕ × List ℕ). Ok (p.0.0, y.1)) e, ap (λ (y : ℕ × List ℕ). y.0) e)
 
+-- ---- a loop that passes over items
+
+abbrev left : {A : Type 0} → A × List ℕ → Result (List ℕ) FieldFault
+left x = Ok x.1
+
 abbrev put : {A : Type 0} → A → List A × List ℕ → Result (List A × List ℕ) FieldFault
 put x xs = Ok (x ∷ xs.0, xs.1)
 
-abbrev left_of : {A : Type 0} → List A × List ℕ → Result (List ℕ) FieldFault
-left_of xs = Ok xs.1
-
-one_less : {A : Type 0} (x : A) (r : Result (List A × List ℕ) FieldFault) → ((r >>= put x) >>= left_of) ≡ (r >>= left_of)
+one_less : {A : Type 0} (x : A) (r : Result (List A × List ℕ) FieldFault) → ((r >>= put x) >>= left) ≡ (r >>= left)
 one_less x (Ok y) = refl
 one_less x (Err e) = refl
 
-pub goes_on : {A : Type 0} (item : ℕ → Reader A) (next : A → ℕ) (count i at : ℕ) (bytes after : List ℕ) (x : A) (total : Result (List ℕ) FieldFault)
-    → i < count → item at bytes ≡ Ok (x, after) → skipped (items_at item next (count - i) at) bytes ≡ total
-    → skipped (items_at item next (count - (i + 1)) (next x)) after ≡ total
+pub goes_on : {A : Type 0} (k : Kind A) (count i at at' : ℕ) (bytes after : List ℕ) (total : Result (List ℕ) FieldFault)
+    → i < count → made k.next (k.read at) bytes ≡ Ok (at', after) → skipped (so_many k (count - i) at).read bytes ≡ total
+    → skipped (so_many k (count - (i + 1)) at').read after ≡ total
 unfolding items_at
-goes_on item next count i at bytes after x total lt h so_far =
-    let k : count - i ≡ suc (count - (i + 1)) = omega arith in
-    let one : skipped (items_at item next (count - i) at) bytes ≡ skipped (items_at item next (count - (i + 1)) (next x)) after =
-    rw (k, h) (one_less x (items_at item next (count - (i + 1)) (next x) after)) in
-    sym one ∙ so_far
+goes_on k count i at at' bytes after total lt h so_far =
+    let p = made_ok k.next (k.read at) bytes after at' h in
+    let n : count - i ≡ suc (count - (i + 1)) = omega arith in
+    let one : skipped (so_many k (count - i) at).read bytes ≡ skipped (so_many k (count - (i + 1)) (k.next p.0)).read after =
+    rw (n, p.1) (one_less p.0 (items_at k.read k.next (count - (i + 1)) (k.next p.0) after)) in
+    ap (λ (m : ℕ). skipped (so_many k (count - (i + 1)) m).read after) (sym p.2) ∙ sym one ∙ so_far
 
-pub ends : {A : Type 0} (item : ℕ → Reader A) (next : A → ℕ) (e : FieldFault) (count i at : ℕ) (bytes : List ℕ) (total : Result (List ℕ) FieldFault)
-    → i < count → item at bytes ≡ Err e → skipped (items_at item next (count - i) at) bytes ≡ total → total ≡ Err e
+pub ends : {A : Type 0} (k : Kind A) (e : FieldFault) (count i at : ℕ) (bytes : List ℕ) (total : Result (List ℕ) FieldFault)
+    → i < count → made k.next (k.read at) bytes ≡ Err e → skipped (so_many k (count - i) at).read bytes ≡ total → total ≡ Err e
 unfolding items_at
-ends item next e count i at bytes total lt h so_far =
-    let k : count - i ≡ suc (count - (i + 1)) = omega arith in
-    let one : skipped (items_at item next (count - i) at) bytes ≡ Err e = rw (k, h) refl in
+ends {A} k e count i at bytes total lt h so_far =
+    let n : count - i ≡ suc (count - (i + 1)) = omega arith in
+    let refused : k.read at bytes ≡ Err e = result_err (k.read at bytes) (λ (x : A × List ℕ). (k.next x.0, x.1)) e h in
+    let one : skipped (so_many k (count - i) at).read bytes ≡ Err e = rw (n, refused) refl in
     sym so_far ∙ one
 
-pub is_done : {A : Type 0} (item : ℕ → Reader A) (next : A → ℕ) (count i at : ℕ) (bytes : List ℕ) (total : Result (List ℕ) FieldFault)
-    → count ≤ i → skipped (items_at item next (count - i) at) bytes ≡ total → total ≡ Ok bytes
+pub is_done : {A : Type 0} (k : Kind A) (count i at : ℕ) (bytes : List ℕ) (total : Result (List ℕ) FieldFault)
+    → count ≤ i → skipped (so_many k (count - i) at).read bytes ≡ total → total ≡ Ok bytes
 unfolding items_at
-is_done item next count i at bytes total le so_far =
-    let k : count - i ≡ 0 = omega arith in
-    let one : skipped (items_at item next (count - i) at) bytes ≡ Ok bytes = rw k refl in
+is_done k count i at bytes total le so_far =
+    let n : count - i ≡ 0 = omega arith in
+    let one : skipped (so_many k (count - i) at).read bytes ≡ Ok bytes = rw n refl in
     sym so_far ∙ one
 
--- a step of which only the next place is kept
-pub steps_on : {A : Type 0} (item : ℕ → Reader A) (next : A → ℕ) (count i at at' : ℕ) (bytes after : List ℕ) (total : Result (List ℕ) FieldFault)
-    → i < count → made next (item at) bytes ≡ Ok (at', after) → skipped (items_at item next (count - i) at) bytes ≡ total
-    → skipped (items_at item next (count - (i + 1)) at') after ≡ total
-steps_on item next count i at at' bytes after total lt h so_far =
-    let p = made_ok next (item at) bytes after at' h in
-    ap (λ (k : ℕ). skipped (items_at item next (count - (i + 1)) k) after) (sym p.2) ∙ goes_on item next count i at bytes after p.0 total lt p.1 so_far
+-- ---- readers that are made of others
 
--- an item that isn't read ends a list
-pub list_ends : {A : Type 0} (item : ℕ → Reader A) (next : A → ℕ) (e : FieldFault) (front : List A) (count i at : ℕ) (bytes : List ℕ)
-    (total : Result (List A × List ℕ) FieldFault)
-    → i < count → item at bytes ≡ Err e → with_front front (items_at item next (count - i) at bytes) ≡ total → total ≡ Err e
-list_ends item next e front count i at bytes total lt h so_far = list_stops item next (faults.Field e) front count i at bytes total lt h so_far
+made_skipped : {A B : Type 0} (make : A → B) (r : Result (A × List ℕ) FieldFault) → ((r >>= λ a. Ok (make a.0, a.1)) >>= left) ≡ (r >>= left)
+made_skipped make (Ok x) = refl
+made_skipped make (Err e) = refl
 
-abbrev pub after_place : ℕ × ℕ → ℕ
-after_place p = p.0 + 1
+both_skipped : {A B : Type 0} (ra : Reader A) (rb : A → Reader B) (bytes rest : List ℕ) (a : A) → ra bytes ≡ Ok (a, rest)
+    → skipped (both ra rb) bytes ≡ skipped (rb a) rest
+both_skipped {A} {B} ra rb bytes rest a e = rw e (made_skipped (λ (b : B). (a, b)) (rb a rest))
 
-abbrev pub places_at : ℕ → ℕ → Reader (List (ℕ × ℕ))
-places_at width count = items_at (place_at width) after_place count 0
+tagged_skipped : {A : Type 0} (read : Reader A) (bytes rest : List ℕ) (t : ℕ) → byte_at 2 bytes ≡ Ok (t, rest) → t ≡ 0
+    → skipped (tagged_at read) bytes ≡ skipped read rest
+unfolding tagged_at
+tagged_skipped {A} read bytes rest t e zero = rw (e, zero) (made_skipped (λ (a : A). Some a) (read rest))
 
--- pairs that are passed over
-pub pairs_skipped : (width count : ℕ) (bytes list after : List ℕ) → within_at 0 (width + 1) bytes ≡ Ok (count, list)
-    → skipped (places_at width count) list ≡ Ok after → skipped (list_at Sparse width) bytes ≡ Ok after
-unfolding list_at counted_at
-pairs_skipped width count bytes list after a s =
-    let p = skipped_ok (places_at width count) list after s in
-    rw (a, p.1) refl
+-- a value of which the first part says the next place
+step : {A B : Type 0} (make : ℕ × A → B) (next : B → ℕ) (ra : Reader ℕ) (rb : ℕ → Reader A) (bytes rest : List ℕ) (n : ℕ) (r : Result (List ℕ) FieldFault)
+    → ((a : A) → next (make (n, a)) ≡ n + 1) → ra bytes ≡ Ok (n, rest) → skipped (rb n) rest ≡ r
+    → made next (made make (both ra rb)) bytes ≡ (r >>= λ after. Ok (n + 1, after))
+step {A} {B} make next ra rb bytes rest n (Ok after) places e s =
+    let p = skipped_ok (rb n) rest after s in
+    rw (e, p.1, places p.0) refl
+step make next ra rb bytes rest n (Err d) places e s = rw (e, skipped_err (rb n) rest d s) refl
 
-pub pairs_refused : (width count : ℕ) (bytes list : List ℕ) (e : FieldFault) → within_at 0 (width + 1) bytes ≡ Ok (count, list)
-    → skipped (places_at width count) list ≡ Err e → skipped (list_at Sparse width) bytes ≡ Err e
-unfolding list_at counted_at
-pairs_refused width count bytes list e a s =
-    let p = skipped_err (places_at width count) list e s in
-    rw (a, p) refl
+abbrev Line : ℕ → Reader ℕ
+Line low = made lines.next (line_format low).read
 
--- and that are read
-pub filled_read : (width count : ℕ) (bytes : List ℕ) (ps : List (ℕ × ℕ)) (rest : List ℕ) → places_at width count bytes ≡ Ok (ps, rest)
-    → made (filled width) (places_at width count) bytes ≡ Ok (filled width ps, rest)
-filled_read width count bytes ps rest h = rw h refl
+abbrev Successors : Reader (List ℕ)
+Successors = (listed successors 1 (2 ^ 32) 0).read
 
-pub filled_refused : (width count : ℕ) (bytes : List ℕ) (e : FieldFault) → places_at width count bytes ≡ Err e
-    → made (filled width) (places_at width count) bytes ≡ Err e
-filled_refused width count bytes e h = rw h refl
+line_step : (low v p o : ℕ) (bytes rest rest' list : List ℕ) (r : Result (List ℕ) FieldFault)
+    → within_at low (2 ^ 32) bytes ≡ Ok (v, rest) → within_at 0 65537 rest ≡ Ok (p, rest') → byte_at 2 rest' ≡ Ok (o, list)
+    → skipped Successors list ≡ r → Line low bytes ≡ (r >>= λ after. Ok (v + 1, after))
+unfolding line_format
+line_step low v p o bytes rest rest' list r a b c s =
+    let owner_on : Reader (ℕ × List ℕ) = both (byte_at 2) (λ _. Successors) in
+    let make : ℕ × (ℕ × (ℕ × List ℕ)) → VertexLine = λ l. record { vertex = l.0; priority = l.1.0; owner = l.1.1.0; successors = l.1.1.1 } in
+    step make lines.next (within_at low (2 ^ 32)) (λ _. both (within_at 0 65537) (λ _. owner_on)) bytes rest v r (λ x. refl) a
+    (both_skipped (within_at 0 65537) (λ _. owner_on) rest rest' p b ∙ both_skipped (byte_at 2) (λ _. Successors) rest' list o c ∙ s)
 
-pub pairs_read : (width count : ℕ) (bytes list : List ℕ) (x : Result (List ℕ × List ℕ) FieldFault)
-    → within_at 0 (width + 1) bytes ≡ Ok (count, list) → made (filled width) (places_at width count) list ≡ x
-    → list_at Sparse width bytes ≡ x
-unfolding list_at counted_at
-pairs_read width count bytes list x a h = rw a h
+pub line_skipped : (low v p o : ℕ) (bytes rest rest' list after : List ℕ)
+    → within_at low (2 ^ 32) bytes ≡ Ok (v, rest) → within_at 0 65537 rest ≡ Ok (p, rest') → byte_at 2 rest' ≡ Ok (o, list)
+    → skipped Successors list ≡ Ok after → Line low bytes ≡ Ok (v + 1, after)
+line_skipped low v p o bytes rest rest' list after = line_step low v p o bytes rest rest' list (Ok after)
 
--- a value whose list is passed over
-pub value_skipped : (kind : ValueKind) (width place n t : ℕ) (bytes rest list after : List ℕ)
-    → within_at place (2 ^ 32) bytes ≡ Ok (n, rest) → byte_at 2 rest ≡ Ok (t, list) → t ≡ 0 → skipped (list_at kind width) list ≡ Ok after
-    → made after_measured (measured_at kind width place) bytes ≡ Ok (n + 1, after)
-unfolding measured_at tagged_at
-value_skipped kind width place n t bytes rest list after a b z s =
-    let p = skipped_ok (list_at kind width) list after s in
-    rw (a, b, z, p.1) refl
+pub line_refused : (low v p o : ℕ) (bytes rest rest' list : List ℕ) (e : FieldFault)
+    → within_at low (2 ^ 32) bytes ≡ Ok (v, rest) → within_at 0 65537 rest ≡ Ok (p, rest') → byte_at 2 rest' ≡ Ok (o, list)
+    → skipped Successors list ≡ Err e → Line low bytes ≡ Err e
+line_refused low v p o bytes rest rest' list e = line_step low v p o bytes rest rest' list (Err e)
 
-pub value_refused : (kind : ValueKind) (width place n t : ℕ) (bytes rest list : List ℕ) (e : FieldFault)
-    → within_at place (2 ^ 32) bytes ≡ Ok (n, rest) → byte_at 2 rest ≡ Ok (t, list) → t ≡ 0 → skipped (list_at kind width) list ≡ Err e
-    → made after_measured (measured_at kind width place) bytes ≡ Err e
-unfolding measured_at tagged_at
-value_refused kind width place n t bytes rest list e a b z s =
-    let p = skipped_err (list_at kind width) list e s in
-    rw (a, b, z, p) refl
+abbrev Skipped : {A B : Type 0} → (ℕ → Kind B) → (ℕ → Format A) → Type 0
+Skipped kind list = (width low n t : ℕ) (bytes rest more after : List ℕ) → within_at low (2 ^ 32) bytes ≡ Ok (n, rest) → byte_at 2 rest ≡ Ok (t, more)
+    → t ≡ 0 → skipped (list width).read more ≡ Ok after → made (kind width).next ((kind width).read low) bytes ≡ Ok (n + 1, after)
 
-abbrev pub measures_at : ValueKind → ℕ → ℕ → Reader (List Measured)
-measures_at kind width count = items_at (measured_at kind width) after_measured count 0
+abbrev Refused : {A B : Type 0} → (ℕ → Kind B) → (ℕ → Format A) → Type 0
+Refused kind list = (width low n t : ℕ) (bytes rest more : List ℕ) (e : FieldFault) → within_at low (2 ^ 32) bytes ≡ Ok (n, rest)
+    → byte_at 2 rest ≡ Ok (t, more) → t ≡ 0 → skipped (list width).read more ≡ Err e → made (kind width).next ((kind width).read low) bytes ≡ Err e
 
--- the fields were passed over and nothing is left
-pub fields_are : (kind : ValueKind) (width count : ℕ) (bytes list values rest : List ℕ) → IsBytes bytes
-    → within_at 0 32769 bytes ≡ Ok (width, list) → within_at 0 (2 ^ 32) list ≡ Ok (count, values)
-    → skipped (measures_at kind width count) values ≡ Ok rest → rest ≡ [] → AreFields bytes kind width values
-unfolding fields_at counted_at
-fields_are kind width count bytes list values rest fits a b s none =
-    let first = (within_form 0 32769 (omega arith)).takes bytes (width, list) fits a in
-    let second = (within_form 0 (2 ^ 32) (omega arith)).takes list (count, values) first.0.rest_fits b in
-    let p = skipped_ok (measures_at kind width count) values rest s in
-    let items : measures_at kind width count values ≡ Ok (p.0, []) = p.1 ∙ ap (λ (r : List ℕ). Ok (p.0, r)) none in
-    let read : fields_at kind bytes ≡ Ok ((width, p.0), []) = rw (a, b, items) refl in
-    let t = (fields_form kind).takes bytes ((width, p.0), []) fits read in
-    let u = (items_form (spelled_as kind) (λ at m. at ≤ m.0) (IsMeasured width) (λ x y. x.0 < y.0) after_measured (measured_at kind width)
-    (2 ^ 32) (measured_kind kind width (omega (arith, t.1.within))) count 0 (omega arith)).takes values
-    (p.0, []) second.0.rest_fits items in
-    record {
-      list = p.0;
-      well = well_of kind width p.0 t.1;
-      within = t.1.within;
-      each = t.1.each;
-      whole = ap (λ (bs : List ℕ). kind_number kind ∷ bs) (t.0.parts ∙ append-nil (word width ++ counted (spelled_as kind) p.0)) ∙ sym (body_is kind width p.0);
-      last = u.0.parts ∙ append-nil (flat_map (spelled_as kind) p.0);
-    }
+pub value_skipped : Skipped values all_components
+unfolding value
+value_skipped width low n t bytes rest more after a b z s =
+    step _ (values width).next (within_at low (2 ^ 32)) _ bytes rest n (Ok after) (λ x. refl) a (tagged_skipped _ rest more t b z ∙ s)
 
--- the fields of a well frame of this kind
-pub fields_read : (kind : ValueKind) (f : Frame) (bytes : List ℕ) → IsWell f → (kind_number kind ∷ bytes) ≡ body f
-    → (p : ℕ × List Measured) × (fields_at kind bytes ≡ Ok (p, []))
-fields_read kind f bytes well e =
+pub value_refused : Refused values all_components
+unfolding value
+value_refused width low n t bytes rest more e a b z s =
+    step _ (values width).next (within_at low (2 ^ 32)) _ bytes rest n (Err e) (λ x. refl) a (tagged_skipped _ rest more t b z ∙ s)
+
+pub sparse_value_skipped : Skipped sparse_values some_places
+unfolding sparse_value
+sparse_value_skipped width low n t bytes rest more after a b z s =
+    step _ (sparse_values width).next (within_at low (2 ^ 32)) _ bytes rest n (Ok after) (λ x. refl) a (tagged_skipped _ rest more t b z ∙ s)
+
+pub sparse_value_refused : Refused sparse_values some_places
+unfolding sparse_value
+sparse_value_refused width low n t bytes rest more e a b z s =
+    step _ (sparse_values width).next (within_at low (2 ^ 32)) _ bytes rest n (Err e) (λ x. refl) a (tagged_skipped _ rest more t b z ∙ s)
+
+-- ---- the fields of a frame
+
+-- fields that fill the bytes, and back
+read_all : {A : Type 0} {f : Format A} → IsForm f → (bytes : List ℕ) → IsBytes bytes → skipped f.read bytes ≡ Ok [] → (a : A) × (bytes ≡ f.spelled a) × f.Fits a
+read_all {A} {f} is bytes h e =
+    let p = skipped_ok f.read bytes [] e in
+    let t = is.reads_only bytes (p.0, []) h p.1 in
+    (p.0, t.0.parts ∙ append-nil (f.spelled p.0), t.1)
+
+reads_all : {A : Type 0} {f : Format A} → IsForm f → (bytes : List ℕ) (a : A) → f.Fits a → bytes ≡ f.spelled a → skipped f.read bytes ≡ Ok []
+reads_all {A} {f} is bytes a h e =
+    let read : f.read bytes ≡ Ok (a, []) = ap f.read (e ∙ sym (append-nil (f.spelled a))) ∙ is.reads_back a [] h in
+    rw read refl
+
+-- a number that is read is the one that is spelled
+number_read : (low high n m : ℕ) (bytes rest more : List ℕ) → (low ≤ m) × (m < high) × (m < 2 ^ 32) → bytes ≡ word m ++ more
+    → within_at low high bytes ≡ Ok (n, rest) → (n ≡ m) × (rest ≡ more)
+number_read low high n m bytes rest more h e a =
+    let found : ℕ × List ℕ = (n, rest) in
+    let wanted : ℕ × List ℕ = (m, more) in
+    let same : found ≡ wanted = ok_is found wanted (sym a ∙ ap (within_at low high) e ∙ (within_is low high).reads_back m more h) in
+    (ap (λ (y : ℕ × List ℕ). y.0) same, ap (λ (y : ℕ × List ℕ). y.1) same)
+
+pub dense_skipped : (width : ℕ) (bytes rest : List ℕ) (r : Result (List ℕ) FieldFault) → within_at 0 32769 bytes ≡ Ok (width, rest)
+    → skipped (listed (values width) 0 (2 ^ 32) 0).read rest ≡ r → skipped values_fields.read bytes ≡ r
+unfolding values_fields
+dense_skipped width bytes rest r a s =
+    let read : ℕ → Reader (List Value) = λ w. (listed (values w) 0 (2 ^ 32) 0).read in
+    let make : ℕ × List Value → Values = λ p. record { width = p.0; values = p.1 } in
+    made_skipped make (both (within_at 0 32769) read bytes) ∙ both_skipped (within_at 0 32769) read bytes rest width a ∙ s
+
+pub sparse_skipped : (width : ℕ) (bytes rest : List ℕ) (r : Result (List ℕ) FieldFault) → within_at 0 32769 bytes ≡ Ok (width, rest)
+    → skipped (listed (sparse_values width) 0 (2 ^ 32) 0).read rest ≡ r → skipped sparse_fields.read bytes ≡ r
+unfolding sparse_fields
+sparse_skipped width bytes rest r a s =
+    let read : ℕ → Reader (List SparseValue) = λ w. (listed (sparse_values w) 0 (2 ^ 32) 0).read in
+    let make : ℕ × List SparseValue → Sparse = λ p. record { width = p.0; values = p.1 } in
+    made_skipped make (both (within_at 0 32769) read bytes) ∙ both_skipped (within_at 0 32769) read bytes rest width a ∙ s
+
+-- the fields of a well frame of a kind are passed over
+pub measures_read : (kind : ValueKind) (f : Frame) (bytes : List ℕ) → IsWell f → (kind_number kind ∷ bytes) ≡ body f → measures_skipped kind bytes ≡ Ok []
+unfolding values_fields sparse_fields
+measures_read kinds.Dense (frames.Values v) bytes well e = reads_all values_fields_is bytes v well (ap (drop 1) e)
+measures_read kinds.Sparse (frames.Sparse s) bytes well e = reads_all sparse_fields_is bytes s well (ap (drop 1) e)
+measures_read kind f bytes well e = absurd (omega (arith, ap (λ (bs : List ℕ). get_or bs 0 0) e))
+
+-- and what is passed over are the fields of one
+measures_found : (kind : ValueKind) (bytes : List ℕ) → IsBytes bytes → measures_skipped kind bytes ≡ Ok []
+    → (f : Frame) × ((kind_number kind ∷ bytes) ≡ body f) × IsWell f
+unfolding values_fields sparse_fields
+measures_found kinds.Dense bytes h e = let p = read_all values_fields_is bytes h e in (frames.Values p.0, ap (λ (t : List ℕ). 3 ∷ t) p.1, p.2)
+measures_found kinds.Sparse bytes h e = let p = read_all sparse_fields_is bytes h e in (frames.Sparse p.0, ap (λ (t : List ℕ). 7 ∷ t) p.1, p.2)
+
+-- what the fields of a well frame of a kind are
+abbrev Parts : ValueKind → Frame → List ℕ → Type 0
+Parts kind f bytes = (o : IsOf kind f) × (bytes ≡ word o.width ++ (word (length o.list) ++ flat_map (spelled_as kind) o.list))
+
+parts_of : (kind : ValueKind) (f : Frame) (bytes : List ℕ) → IsWell f → (kind_number kind ∷ bytes) ≡ body f → Parts kind f bytes
+parts_of kind f bytes well e =
     let o = measures_of kind f bytes well e in
-    let same : (kind_number kind ∷ bytes) ≡ kind_number kind ∷ (word o.width ++ counted (spelled_as kind) o.list) = e
-    ∙ ap body (sym o.same) ∙ body_is kind o.width o.list in
-    let rest : bytes ≡ word o.width ++ counted (spelled_as kind) o.list = ap (λ (bs : List ℕ). drop 1 bs) same in (
-      (o.width, o.list),
-      ap (fields_at kind) (rest ∙ sym (append-nil (word o.width ++ counted (spelled_as kind) o.list)))
-          ∙ (fields_form kind).again (o.width, o.list) [] o.measures,
-    )
+    (o, ap (drop 1) (e ∙ ap body (sym o.same) ∙ body_is kind o.width o.list))
 
-pub not_read : {A : Type 0} (r : Result A FieldFault) (x : A) (e : FieldFault) → r ≡ Ok x → r ≡ Err e → ⊥
-not_read r x e ok err = absurd (cc (sym ok ∙ err))
+pub fields_are : (kind : ValueKind) (width count : ℕ) (bytes list values : List ℕ) → IsBytes bytes → measures_skipped kind bytes ≡ Ok []
+    → within_at 0 32769 bytes ≡ Ok (width, list) → within_at 0 (2 ^ 32) list ≡ Ok (count, values) → AreFields bytes kind width values
+fields_are kind width count bytes list values h e a b =
+    let p = measures_found kind bytes h e in
+    let q = parts_of kind p.0 bytes p.2 p.1 in
+    let few = q.0.measures.within in
+    let countable = q.0.measures.countable in
+    let first = number_read 0 32769 width q.0.width bytes list _ (omega arith, omega (arith, few), omega (arith, few)) q.1 a in
+    let second = number_read 0 (2 ^ 32) count (length q.0.list) list values _ (omega arith, countable, countable) first.1 b in
+    let P : ℕ → Type 0 = λ w. AreFields bytes kind w values in
+    subst P (sym first.0) (record {
+      list = q.0.list;
+      well = well_of kind q.0.width q.0.list q.0.measures;
+      within = few;
+      each = q.0.measures.each;
+      whole = p.1 ∙ ap body (sym q.0.same);
+      last = second.1;
+    })
 
--- which are read
+-- a number that is spelled is read
+no_number : (low high m : ℕ) (bytes more : List ℕ) (e : FieldFault) → (low ≤ m) × (m < high) × (m < 2 ^ 32) → bytes ≡ word m ++ more
+    → within_at low high bytes ≡ Err e → ⊥
+no_number low high m bytes more e h is a = absurd (cc (sym a ∙ ap (within_at low high) is ∙ (within_is low high).reads_back m more h))
+
 pub no_width : (kind : ValueKind) (f : Frame) (bytes : List ℕ) (e : FieldFault) → IsWell f → (kind_number kind ∷ bytes) ≡ body f
     → within_at 0 32769 bytes ≡ Err e → ⊥
-unfolding fields_at
 no_width kind f bytes e well is a =
-    let p = fields_read kind f bytes well is in
-    not_read (fields_at kind bytes) (p.0, []) e p.1 (rw a refl)
+    let q = parts_of kind f bytes well is in
+    let few = q.0.measures.within in
+    no_number 0 32769 q.0.width bytes _ e (omega arith, omega (arith, few), omega (arith, few)) q.1 a
 
 pub no_count : (kind : ValueKind) (f : Frame) (bytes list : List ℕ) (width : ℕ) (e : FieldFault) → IsWell f
     → (kind_number kind ∷ bytes) ≡ body f → within_at 0 32769 bytes ≡ Ok (width, list) → within_at 0 (2 ^ 32) list ≡ Err e → ⊥
-unfolding fields_at counted_at
 no_count kind f bytes list width e well is a b =
-    let p = fields_read kind f bytes well is in
-    not_read (fields_at kind bytes) (p.0, []) e p.1 (rw (a, b) refl)
+    let q = parts_of kind f bytes well is in
+    let few = q.0.measures.within in
+    let countable = q.0.measures.countable in
+    let first = number_read 0 32769 width q.0.width bytes list _ (omega arith, omega (arith, few), omega (arith, few)) q.1 a in
+    no_number 0 (2 ^ 32) (length q.0.list) list _ e (omega arith, countable, countable) first.1 b
 
-pub no_values : (kind : ValueKind) (f : Frame) (bytes list values : List ℕ) (width count : ℕ) (e : FieldFault) → IsWell f
-    → (kind_number kind ∷ bytes) ≡ body f → within_at 0 32769 bytes ≡ Ok (width, list) → within_at 0 (2 ^ 32) list ≡ Ok (count, values)
-    → skipped (measures_at kind width count) values ≡ Err e → ⊥
-unfolding fields_at counted_at
-no_values kind f bytes list values width count e well is a b s =
-    let p = fields_read kind f bytes well is in
-    let items : measures_at kind width count values ≡ Err e = skipped_err (measures_at kind width count) values e s in
-    not_read (fields_at kind bytes) (p.0, []) e p.1 (rw (a, b, items) refl)
+abbrev all_lines : Reader (List VertexLine)
+all_lines = (listed lines 0 (2 ^ 32) 0).read
 
-pub no_end : (kind : ValueKind) (f : Frame) (bytes list values rest : List ℕ) (width count : ℕ) → IsWell f
-    → (kind_number kind ∷ bytes) ≡ body f → within_at 0 32769 bytes ≡ Ok (width, list) → within_at 0 (2 ^ 32) list ≡ Ok (count, values)
-    → skipped (measures_at kind width count) values ≡ Ok rest → rest ≡ []
-unfolding fields_at counted_at
-no_end kind f bytes list values rest width count well is a b s =
-    let p = fields_read kind f bytes well is in
-    let q = skipped_ok (measures_at kind width count) values rest s in
-    let read : fields_at kind bytes ≡ Ok ((width, q.0), rest) = rw (a, b, q.1) refl in
-    let wanted : (ℕ × List Measured) × List ℕ = (p.0, []) in
-    let found : (ℕ × List Measured) × List ℕ = ((width, q.0), rest) in
-    ap (λ (y : (ℕ × List Measured) × List ℕ). y.1) (ok_is found wanted (sym read ∙ p.1))
+abbrev vertices_with : List VertexLine → Vertices
+vertices_with ls = record { lines = ls }
+
+-- the lines of a well frame are passed over
+pub lines_read : (ls : List VertexLine) (bytes : List ℕ) → IsWell (frame_with ls) → (2 ∷ bytes) ≡ body (frame_with ls)
+    → skipped all_lines bytes ≡ Ok []
+unfolding vertices_fields
+lines_read ls bytes well e = sym (made_skipped vertices_with (all_lines bytes)) ∙ reads_all vertices_is bytes (vertices_with ls) well (ap (drop 1) e)
+
+pub lines_are : (count : ℕ) (bytes rest : List ℕ) → IsBytes bytes → skipped all_lines bytes ≡ Ok []
+    → within_at 0 (2 ^ 32) bytes ≡ Ok (count, rest) → AreLines bytes rest
+unfolding vertices_fields
+lines_are count bytes rest h e a =
+    let p = read_all vertices_is bytes h (made_skipped vertices_with (all_lines bytes) ∙ e) in
+    let ls = p.0.lines in
+    let first = number_read 0 (2 ^ 32) count (length ls) bytes rest (flat_map line ls) (omega arith, p.2.countable, p.2.countable) p.1 a in
+    record { list = ls; well = p.2; whole = ap (λ (t : List ℕ). 2 ∷ t) p.1; last = first.1 }
+
+pub no_lines : (ls : List VertexLine) (bytes : List ℕ) (e : FieldFault) → IsWell (frame_with ls) → (2 ∷ bytes) ≡ body (frame_with ls)
+    → within_at 0 (2 ^ 32) bytes ≡ Err e → ⊥
+no_lines ls bytes e well is a =
+    no_number 0 (2 ^ 32) (length ls) bytes (flat_map line ls) e (omega arith, well.countable, well.countable) (ap (drop 1) is) a
+
+-- ---- the list of a measure
+
+pub filled_read : (width count : ℕ) (bytes : List ℕ) (ps : List (ℕ × ℕ)) (rest : List ℕ) → (so_many (places width) count 0).read bytes ≡ Ok (ps, rest)
+    → made (filled width) (so_many (places width) count 0).read bytes ≡ Ok (filled width ps, rest)
+filled_read width count bytes ps rest h = rw h refl
+
+pub filled_refused : (width count : ℕ) (bytes : List ℕ) (e : FieldFault) → (so_many (places width) count 0).read bytes ≡ Err e
+    → made (filled width) (so_many (places width) count 0).read bytes ≡ Err e
+filled_refused width count bytes e h = rw h refl
+
+pub pairs_read : (width count : ℕ) (bytes list : List ℕ) (x : Result (List ℕ × List ℕ) FieldFault)
+    → within_at 0 (width + 1) bytes ≡ Ok (count, list) → made (filled width) (so_many (places width) count 0).read list ≡ x
+    → (measure kinds.Sparse width).read bytes ≡ x
+unfolding measure counted_at
+pairs_read width count bytes list x a h = rw a h

@@ -1,7 +1,7 @@
 -- What mirrors code: contracts of private functions cite it, and no definition that a reader has to believe does.
 pub mod Reading
+pub mod Formats
 pub mod Ordered
 pub mod Buffers
-pub mod Skipping
-pub mod Lines
+pub mod Streaming
 pub mod Lengths

@@ -1,6 +1,7 @@
 //! Reads the fields that are a number.
 ghost use Rattle.std.specs.Prelude.{◌≡◌, ◌+◌, ◌≤◌, ◌<◌, ◌^◌, length, IfOk, OnErr};
 ghost use Rattle.pg_wire.specs.Mirrors.Reading.{Yields, within_at, odd_at, byte_at, version_at, code_at};
+ghost use Rattle.pg_wire.specs.Mirrors.Formats.{place};
 
 use crate::fault::FieldFault;
 
@@ -40,6 +41,19 @@ pub fn odd(high: u64, bytes: &[u8]) -> Result<(u32, &[u8]), FieldFault>
     } else {
         Err(FieldFault::At(bytes.len()))
     }
+}
+
+/// A place from `at` on, below the width, and the number there, which isn't 0.
+#[tactic(auto, unfolding(crate::specs::Mirrors::Formats::place))]
+#[inline(always)]
+pub fn pair(width: u32, at: u64, bytes: &[u8]) -> Result<((u32, u32), &[u8]), FieldFault>
+    ensures read { Yields (λ x. (x.0, x.1.now)) result ((place width at).read bytes.now) }
+    ensures size { IfOk result (λ x. 8 + length x.1.now ≡ length bytes.now) }
+    ensures range { IfOk result (λ x. (at ≤ x.0.0) × (x.0.0 < width)) }
+{
+    let (place, rest) = within(at, width as u64, bytes)?;
+    let (n, rest) = within(1, WORDS, rest)?;
+    Ok(((place, n), rest))
 }
 
 /// A byte below `high`.

@@ -1,9 +1,10 @@
 //! Lists of items that are spelled one after the other.
-ghost use Rattle.std.specs.Prelude.{◌≡◌, ℕ, ◌+◌, ◌*◌, ◌≤◌, ◌↔◌, List, Result, IsTrue, IfOk, length, vec_capacity};
-ghost use Rattle.pg_wire.specs.Mirrors.Reading.{Gives, Reader, items_at, counted_at};
-ghost use Rattle.pg_wire.specs.Mirrors.Ordered.{Steps, AreOrdered};
+ghost use Rattle.std.specs.Prelude.{◌≡◌, ℕ, ◌+◌, ◌*◌, ◌≤◌, ◌↔◌, Result, IsTrue, IfOk, length, vec_capacity};
+ghost use Rattle.pg_wire.specs.Mirrors.Reading.{Yields, Gives, made, skipped};
+ghost use Rattle.pg_wire.specs.Mirrors.Formats.{Kind, AreItems, so_many, listed};
+ghost use Rattle.pg_wire.specs.Mirrors.Ordered.{Steps};
 
-use crate::fault::ReadFault;
+use crate::fault::{FieldFault, ReadFault};
 use crate::fields::within;
 use crate::list::Items;
 use std::alloc::Global;
@@ -17,20 +18,8 @@ pub trait Form {
     /// The fewest bytes that spell an item.
     const SIZE: usize;
 
-    /// What reading an item gives, in lists of a width, at a place.
-    ghost item_at: { ℕ → ℕ → Reader Self.Item };
-
-    /// The place that an item sets.
-    ghost place_after: { Self.Item → ℕ };
-
-    /// An item may stand at a place.
-    ghost Stands: { ℕ → Self.Item → Type 0 };
-
-    /// One item may come before another.
-    ghost Precedes: { Self.Item → Self.Item → Type 0 };
-
-    /// The ranges of an item, in lists of a width.
-    ghost IsItem: { ℕ → Self.Item → Type 0 };
+    /// How the items of lists of a width are spelled, read and ordered.
+    ghost kind: { ℕ → Kind Self.Item };
 
     fn read(
         alloc: Global,
@@ -38,18 +27,22 @@ pub trait Form {
         place: u64,
         bytes: &[u8],
     ) -> Result<(Self::Item, &[u8]), ReadFault>
-        ensures read { Gives (λ x. (x.0, x.1.now)) result (item_at width place bytes.now) }
+        ensures read { Gives (λ x. (x.0, x.1.now)) result ((kind width).read place bytes.now) }
         ensures size { IfOk result (λ x. SIZE + length x.1.now ≤ length bytes.now) };
 
+    /// The place that the next item sets, and the bytes after it. It takes no memory.
+    fn skip(width: u32, place: u64, bytes: &[u8]) -> Result<(u64, &[u8]), FieldFault>
+        ensures { Yields (λ x. (x.0, x.1.now)) result (made (kind width).next ((kind width).read place) bytes.now) };
+
     fn place_after_item(item: &Self::Item) -> u64
-        ensures { result ≡ place_after item.now };
+        ensures { (width : ℕ) → result ≡ (kind width).next item.now };
 
     fn fits(width: u32, place: u64, item: &Self::Item) -> bool
-        ensures { IsTrue result ↔ (Stands place item.now × IsItem width item.now) };
+        ensures { IsTrue result ↔ ((kind width).Stands place item.now × (kind width).IsItem item.now) };
 
     ghost some: { 1 ≤ SIZE };
 
-    ghost steps: { Steps Stands Precedes place_after };
+    ghost steps: { (width : ℕ) → Steps (kind width).Stands (kind width).Precedes (kind width).next };
 }
 
 /// So many items. It takes memory for no more of them than the bytes can spell.
@@ -60,7 +53,7 @@ pub fn items<F: Form>(
     place: u64,
     bytes: &[u8],
 ) -> Result<(Vec<F::Item>, &[u8]), ReadFault>
-    ensures read { Gives (λ x. (x.0.items, x.1.now)) result (items_at (F.item_at width) F.place_after count place bytes.now) }
+    ensures read { Gives (λ x. (x.0.items, x.1.now)) result ((so_many (F.kind width) count place).read bytes.now) }
     ensures size { IfOk result (λ x. F.SIZE * count + length x.1.now ≤ length bytes.now) }
     ensures memory { IfOk result (λ x. F.SIZE * vec_capacity x.0 ≤ length bytes.now) }
 {
@@ -77,6 +70,40 @@ pub fn items<F: Form>(
     Ok((items, rest))
 }
 
+/// The bytes after so many items. It takes no memory.
+pub fn skip_items<F: Form>(
+    width: u32,
+    count: u32,
+    place: u64,
+    bytes: &[u8],
+) -> Result<&[u8], FieldFault>
+    ensures { Yields (λ x. x.now) result (skipped (so_many (F.kind width) count place).read bytes.now) }
+{
+    let mut rest = bytes;
+    let mut at = place;
+    for _ in 0..count {
+        let (next, after) = F::skip(width, at, rest)?;
+        at = next;
+        rest = after;
+    }
+    Ok(rest)
+}
+
+/// The bytes after a count, from `least` on and below `high`, and as many items. It takes no memory.
+#[tactic(auto, unfolding(crate::specs::Mirrors::Reading::counted_at))]
+pub fn skip_counted<F: Form>(
+    width: u32,
+    least: u64,
+    high: u64,
+    place: u64,
+    bytes: &[u8],
+) -> Result<&[u8], FieldFault>
+    ensures { Yields (λ x. x.now) result (skipped (listed (F.kind width) least high place).read bytes.now) }
+{
+    let (count, rest) = within(least, high, bytes)?;
+    skip_items::<F>(width, count, place, rest)
+}
+
 /// How many items, from `least` on and below `high`, and then each.
 #[tactic(auto, using(crate::proofs::Loop::size_counted), unfolding(crate::specs::Mirrors::Reading::counted_at))]
 pub fn counted<F: Form>(
@@ -87,7 +114,7 @@ pub fn counted<F: Form>(
     place: u64,
     bytes: &[u8],
 ) -> Result<(Items<F::Item>, &[u8]), ReadFault>
-    ensures read { Gives (λ x. (x.0, x.1.now)) result (counted_at (F.item_at width) F.place_after least high place bytes.now) }
+    ensures read { Gives (λ x. (x.0, x.1.now)) result ((listed (F.kind width) least high place).read bytes.now) }
     ensures size { IfOk result (λ x. 4 + F.SIZE * least + length x.1.now ≤ length bytes.now) }
 {
     let (count, rest) = within(least, high, bytes)?;
@@ -98,7 +125,7 @@ pub fn counted<F: Form>(
 /// Whether each item is in its ranges, and the first one stands at the place, and each other one
 /// after the one before it.
 pub fn are_ordered<F: Form>(width: u32, place: u64, items: &[F::Item]) -> bool
-    ensures { IsTrue result ↔ AreOrdered (F.Stands place) (F.IsItem width) F.Precedes items.now }
+    ensures { IsTrue result ↔ AreItems (F.kind width) place items.now }
 {
     let mut at = place;
     for item in items {

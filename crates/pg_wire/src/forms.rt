@@ -1,11 +1,12 @@
 //! The kinds of lists in frames.
-ghost use Rattle.std.specs.Prelude.{◌≡◌, ◌+◌, ◌≤◌, ◌↔◌, IsTrue, IfOk, IfSome, length};
-ghost use Rattle.pg_wire.specs.Mirrors.Reading.{Gives, items_at, counted_at, tagged_at, word_at, place_at};
+ghost use Rattle.std.specs.Prelude.{◌+◌, ◌≤◌, ◌↔◌, IsTrue, IfOk, length};
+ghost use Rattle.pg_wire.specs.Mirrors.Reading.{Gives};
+ghost use Rattle.pg_wire.specs.Mirrors.Formats.{tagged, all_components, some_places};
 ghost use Rattle.pg_wire.specs.Well.{IsComponents, ArePlaces};
 
-use crate::fault::ReadFault;
-use crate::fields::{WORDS, byte, odd, within};
-use crate::form::{Form, are_ordered, counted, items};
+use crate::fault::{FieldFault, ReadFault};
+use crate::fields::{WORDS, byte, odd, pair, within};
+use crate::form::{Form, are_ordered, counted, items, skip_counted, skip_items};
 use crate::frame::{SparseValue, Value, VertexLine};
 use crate::list::{Items, Numbers, Pairs};
 use std::alloc::Global;
@@ -14,11 +15,9 @@ use std::alloc::Global;
 pub struct SuccessorForm;
 
 impl Form for SuccessorForm {
-    ghost use Rattle.std.specs.Prelude.{◌+◌, ◌≤◌, ◌<◌};
     ghost use Rattle.std.proofs.Common.{arith};
     ghost use Rattle.pg_wire.specs.Mirrors.Ordered.{rising};
-    ghost use Rattle.pg_wire.specs.Mirrors.Reading.{word_at};
-    ghost use Rattle.pg_wire.specs.Well.{IsWord};
+    ghost use Rattle.pg_wire.specs.Mirrors.Formats.{successors};
 
     type Item = u32;
 
@@ -26,18 +25,16 @@ impl Form for SuccessorForm {
 
     const SIZE: usize = 4;
 
-    ghost item_at = { λ _. word_at };
-
-    ghost place_after = { λ n. n + 1 };
-
-    ghost Stands = { λ at n. at ≤ n };
-
-    ghost Precedes = { λ m n. m < n };
-
-    ghost IsItem = { λ _. IsWord };
+    ghost kind = { λ _. successors };
 
     fn read(_: Global, _: u32, place: u64, bytes: &[u8]) -> Result<(u32, &[u8]), ReadFault> {
         Ok(within(place, WORDS, bytes)?)
+    }
+
+    #[inline(always)]
+    fn skip(_: u32, place: u64, bytes: &[u8]) -> Result<(u64, &[u8]), FieldFault> {
+        let (successor, rest) = within(place, WORDS, bytes)?;
+        Ok((successor as u64 + 1, rest))
     }
 
     fn place_after_item(successor: &u32) -> u64 {
@@ -50,18 +47,16 @@ impl Form for SuccessorForm {
 
     ghost some = { Prim.omega arith };
 
-    ghost steps = { rising (λ n. n) };
+    ghost steps = { λ _. rising (λ n. n) };
 }
 
 /// Priorities that fall, each with its bound.
 pub struct BoundForm;
 
 impl Form for BoundForm {
-    ghost use Rattle.std.specs.Prelude.{◌+◌, ◌≤◌, ◌<◌};
     ghost use Rattle.std.proofs.Common.{arith};
     ghost use Rattle.pg_wire.specs.Mirrors.Ordered.{falling};
-    ghost use Rattle.pg_wire.specs.Mirrors.Reading.{bound_at};
-    ghost use Rattle.pg_wire.specs.Well.{IsBound};
+    ghost use Rattle.pg_wire.specs.Mirrors.Formats.{bounds};
 
     type Item = (u32, u32);
 
@@ -69,21 +64,20 @@ impl Form for BoundForm {
 
     const SIZE: usize = 8;
 
-    ghost item_at = { λ _. bound_at };
+    ghost kind = { λ _. bounds };
 
-    ghost place_after = { λ p. p.0 };
-
-    ghost Stands = { λ at p. p.0 < at };
-
-    ghost Precedes = { λ p q. q.0 < p.0 };
-
-    ghost IsItem = { λ _. IsBound };
-
-    #[tactic(auto, unfolding(crate::specs::Mirrors::Reading::bound_at))]
+    #[tactic(auto, unfolding(crate::specs::Mirrors::Formats::bound))]
     fn read(_: Global, _: u32, place: u64, bytes: &[u8]) -> Result<((u32, u32), &[u8]), ReadFault> {
         let (priority, rest) = odd(place, bytes)?;
         let (bound, rest) = within(1, WORDS, rest)?;
         Ok(((priority, bound), rest))
+    }
+
+    #[tactic(auto, unfolding(crate::specs::Mirrors::Formats::bound))]
+    fn skip(_: u32, place: u64, bytes: &[u8]) -> Result<(u64, &[u8]), FieldFault> {
+        let (priority, rest) = odd(place, bytes)?;
+        let (_, rest) = within(1, WORDS, rest)?;
+        Ok((priority as u64, rest))
     }
 
     fn place_after_item(bound: &(u32, u32)) -> u64 {
@@ -97,18 +91,16 @@ impl Form for BoundForm {
 
     ghost some = { Prim.omega arith };
 
-    ghost steps = { falling (λ p. p.0) };
+    ghost steps = { λ _. falling (λ p. p.0) };
 }
 
 /// The components of a measure.
 pub struct ComponentForm;
 
 impl Form for ComponentForm {
-    ghost use Rattle.std.specs.Prelude.{⊤};
     ghost use Rattle.std.proofs.Common.{arith};
     ghost use Rattle.pg_wire.specs.Mirrors.Ordered.{in_any_order};
-    ghost use Rattle.pg_wire.specs.Mirrors.Reading.{word_at};
-    ghost use Rattle.pg_wire.specs.Well.{IsWord};
+    ghost use Rattle.pg_wire.specs.Mirrors.Formats.{components};
 
     type Item = u32;
 
@@ -116,18 +108,16 @@ impl Form for ComponentForm {
 
     const SIZE: usize = 4;
 
-    ghost item_at = { λ _ _. word_at 0 };
-
-    ghost place_after = { λ _. 0 };
-
-    ghost Stands = { λ _ _. ⊤ };
-
-    ghost Precedes = { λ _ _. ⊤ };
-
-    ghost IsItem = { λ _. IsWord };
+    ghost kind = { λ _. components };
 
     fn read(_: Global, _: u32, _: u64, bytes: &[u8]) -> Result<(u32, &[u8]), ReadFault> {
         Ok(within(0, WORDS, bytes)?)
+    }
+
+    #[inline(always)]
+    fn skip(_: u32, _: u64, bytes: &[u8]) -> Result<(u64, &[u8]), FieldFault> {
+        let (_, rest) = within(0, WORDS, bytes)?;
+        Ok((0, rest))
     }
 
     fn place_after_item(_: &u32) -> u64 {
@@ -141,18 +131,16 @@ impl Form for ComponentForm {
 
     ghost some = { Prim.omega arith };
 
-    ghost steps = { in_any_order };
+    ghost steps = { λ _. in_any_order };
 }
 
 /// Places below the width, which rise, each with its number.
 pub struct PlaceForm;
 
 impl Form for PlaceForm {
-    ghost use Rattle.std.specs.Prelude.{◌+◌, ◌≤◌, ◌<◌};
     ghost use Rattle.std.proofs.Common.{arith};
     ghost use Rattle.pg_wire.specs.Mirrors.Ordered.{rising};
-    ghost use Rattle.pg_wire.specs.Mirrors.Reading.{place_at};
-    ghost use Rattle.pg_wire.specs.Well.{IsPlace};
+    ghost use Rattle.pg_wire.specs.Mirrors.Formats.{places};
 
     type Item = (u32, u32);
 
@@ -160,26 +148,21 @@ impl Form for PlaceForm {
 
     const SIZE: usize = 8;
 
-    ghost item_at = { place_at };
+    ghost kind = { places };
 
-    ghost place_after = { λ p. p.0 + 1 };
-
-    ghost Stands = { λ at p. at ≤ p.0 };
-
-    ghost Precedes = { λ p q. p.0 < q.0 };
-
-    ghost IsItem = { IsPlace };
-
-    #[tactic(auto, unfolding(crate::specs::Mirrors::Reading::place_at))]
     fn read(
         _: Global,
         width: u32,
         place: u64,
         bytes: &[u8],
     ) -> Result<((u32, u32), &[u8]), ReadFault> {
-        let (at, rest) = within(place, width as u64, bytes)?;
-        let (number, rest) = within(1, WORDS, rest)?;
-        Ok(((at, number), rest))
+        Ok(pair(width, place, bytes)?)
+    }
+
+    #[inline(always)]
+    fn skip(width: u32, place: u64, bytes: &[u8]) -> Result<(u64, &[u8]), FieldFault> {
+        let ((at, _), rest) = pair(width, place, bytes)?;
+        Ok((at as u64 + 1, rest))
     }
 
     fn place_after_item(place: &(u32, u32)) -> u64 {
@@ -193,18 +176,16 @@ impl Form for PlaceForm {
 
     ghost some = { Prim.omega arith };
 
-    ghost steps = { rising (λ p. p.0) };
+    ghost steps = { λ _. rising (λ p. p.0) };
 }
 
 /// The lines of vertices, which rise.
 pub struct LineForm;
 
 impl Form for LineForm {
-    ghost use Rattle.std.specs.Prelude.{◌+◌, ◌≤◌, ◌<◌};
     ghost use Rattle.std.proofs.Common.{arith};
     ghost use Rattle.pg_wire.specs.Mirrors.Ordered.{rising};
-    ghost use Rattle.pg_wire.specs.Mirrors.Reading.{line_at};
-    ghost use Rattle.pg_wire.specs.Well.{IsVertexLine};
+    ghost use Rattle.pg_wire.specs.Mirrors.Formats.{lines};
 
     type Item = VertexLine;
 
@@ -212,17 +193,9 @@ impl Form for LineForm {
 
     const SIZE: usize = 17;
 
-    ghost item_at = { λ _. line_at };
+    ghost kind = { λ _. lines };
 
-    ghost place_after = { λ l. l.vertex + 1 };
-
-    ghost Stands = { λ at l. at ≤ l.vertex };
-
-    ghost Precedes = { λ l m. l.vertex < m.vertex };
-
-    ghost IsItem = { λ _. IsVertexLine };
-
-    #[tactic(auto, unfolding(crate::specs::Mirrors::Reading::line_at))]
+    #[tactic(auto, unfolding(crate::specs::Mirrors::Formats::line))]
     fn read(
         alloc: Global,
         _: u32,
@@ -244,6 +217,15 @@ impl Form for LineForm {
         ))
     }
 
+    #[tactic(auto, using(crate::proofs::Skip::line_skipped, crate::proofs::Skip::line_refused), unfolding(crate::specs::Mirrors::Formats::line))]
+    fn skip(_: u32, place: u64, bytes: &[u8]) -> Result<(u64, &[u8]), FieldFault> {
+        let (vertex, rest) = within(place, WORDS, bytes)?;
+        let (_, rest) = within(0, 65_537, rest)?;
+        let (_, rest) = byte(2, rest)?;
+        let rest = skip_counted::<SuccessorForm>(0, 1, WORDS, 0, rest)?;
+        Ok((vertex as u64 + 1, rest))
+    }
+
     fn place_after_item(line: &VertexLine) -> u64 {
         line.vertex as u64 + 1
     }
@@ -260,7 +242,7 @@ impl Form for LineForm {
 
     ghost some = { Prim.omega arith };
 
-    ghost steps = { rising (λ l. l.vertex) };
+    ghost steps = { λ _. rising (λ l. l.vertex) };
 }
 
 /// The list behind a tag, 0, in a frame of this width; behind 1 there is none.
@@ -270,7 +252,7 @@ fn components(
     width: u32,
     bytes: &[u8],
 ) -> Result<(Option<Numbers>, &[u8]), ReadFault>
-    ensures read { Gives (λ x. (x.0, x.1.now)) result (tagged_at (items_at (λ _. word_at 0) (λ _. 0) width 0) bytes.now) }
+    ensures read { Gives (λ x. (x.0, x.1.now)) result ((tagged (all_components width)).read bytes.now) }
     ensures size { IfOk result (λ x. 1 + length x.1.now ≤ length bytes.now) }
 {
     let (tag, rest) = byte(2, bytes)?;
@@ -292,11 +274,9 @@ fn are_components(width: u32, numbers: &[u32]) -> bool
 pub struct ValueForm;
 
 impl Form for ValueForm {
-    ghost use Rattle.std.specs.Prelude.{◌+◌, ◌≤◌, ◌<◌};
     ghost use Rattle.std.proofs.Common.{arith};
     ghost use Rattle.pg_wire.specs.Mirrors.Ordered.{rising};
-    ghost use Rattle.pg_wire.specs.Mirrors.Reading.{value_at};
-    ghost use Rattle.pg_wire.specs.Well.{IsValue};
+    ghost use Rattle.pg_wire.specs.Mirrors.Formats.{values};
 
     type Item = Value;
 
@@ -304,17 +284,9 @@ impl Form for ValueForm {
 
     const SIZE: usize = 5;
 
-    ghost item_at = { value_at };
+    ghost kind = { values };
 
-    ghost place_after = { λ v. v.vertex + 1 };
-
-    ghost Stands = { λ at v. at ≤ v.vertex };
-
-    ghost Precedes = { λ x y. x.vertex < y.vertex };
-
-    ghost IsItem = { IsValue };
-
-    #[tactic(auto, unfolding(crate::specs::Mirrors::Reading::value_at))]
+    #[tactic(auto, unfolding(crate::specs::Mirrors::Formats::value))]
     fn read(
         alloc: Global,
         width: u32,
@@ -324,6 +296,17 @@ impl Form for ValueForm {
         let (vertex, rest) = within(place, WORDS, bytes)?;
         let (list, rest) = components(alloc, width, rest)?;
         Ok((Value { vertex, list }, rest))
+    }
+
+    #[tactic(auto, using(crate::proofs::Skip::value_skipped, crate::proofs::Skip::value_refused), unfolding(crate::specs::Mirrors::Formats::value, crate::specs::Mirrors::Reading::tagged_at))]
+    fn skip(width: u32, place: u64, bytes: &[u8]) -> Result<(u64, &[u8]), FieldFault> {
+        let (vertex, rest) = within(place, WORDS, bytes)?;
+        let (tag, rest) = byte(2, rest)?;
+        if tag != 0 {
+            return Ok((vertex as u64 + 1, rest));
+        }
+        let rest = skip_items::<ComponentForm>(0, width, 0, rest)?;
+        Ok((vertex as u64 + 1, rest))
     }
 
     fn place_after_item(value: &Value) -> u64 {
@@ -340,13 +323,13 @@ impl Form for ValueForm {
 
     ghost some = { Prim.omega arith };
 
-    ghost steps = { rising (λ v. v.vertex) };
+    ghost steps = { λ _. rising (λ v. v.vertex) };
 }
 
 /// The pairs behind a tag, 0, in a frame of this width; behind 1 there are none.
 #[tactic(auto, unfolding(crate::specs::Mirrors::Reading::tagged_at))]
 fn places(alloc: Global, width: u32, bytes: &[u8]) -> Result<(Option<Pairs>, &[u8]), ReadFault>
-    ensures read { Gives (λ x. (x.0, x.1.now)) result (tagged_at (counted_at (place_at width) (λ p. p.0 + 1) 0 (width + 1) 0) bytes.now) }
+    ensures read { Gives (λ x. (x.0, x.1.now)) result ((tagged (some_places width)).read bytes.now) }
     ensures size { IfOk result (λ x. 1 + length x.1.now ≤ length bytes.now) }
 {
     let (tag, rest) = byte(2, bytes)?;
@@ -368,11 +351,9 @@ fn are_places(width: u32, pairs: &[(u32, u32)]) -> bool
 pub struct SparseValueForm;
 
 impl Form for SparseValueForm {
-    ghost use Rattle.std.specs.Prelude.{◌+◌, ◌≤◌, ◌<◌};
     ghost use Rattle.std.proofs.Common.{arith};
     ghost use Rattle.pg_wire.specs.Mirrors.Ordered.{rising};
-    ghost use Rattle.pg_wire.specs.Mirrors.Reading.{sparse_value_at};
-    ghost use Rattle.pg_wire.specs.Well.{IsSparseValue};
+    ghost use Rattle.pg_wire.specs.Mirrors.Formats.{sparse_values};
 
     type Item = SparseValue;
 
@@ -380,17 +361,9 @@ impl Form for SparseValueForm {
 
     const SIZE: usize = 5;
 
-    ghost item_at = { sparse_value_at };
+    ghost kind = { sparse_values };
 
-    ghost place_after = { λ v. v.vertex + 1 };
-
-    ghost Stands = { λ at v. at ≤ v.vertex };
-
-    ghost Precedes = { λ x y. x.vertex < y.vertex };
-
-    ghost IsItem = { IsSparseValue };
-
-    #[tactic(auto, unfolding(crate::specs::Mirrors::Reading::sparse_value_at))]
+    #[tactic(auto, unfolding(crate::specs::Mirrors::Formats::sparse_value))]
     fn read(
         alloc: Global,
         width: u32,
@@ -400,6 +373,17 @@ impl Form for SparseValueForm {
         let (vertex, rest) = within(place, WORDS, bytes)?;
         let (pairs, rest) = places(alloc, width, rest)?;
         Ok((SparseValue { vertex, pairs }, rest))
+    }
+
+    #[tactic(auto, using(crate::proofs::Skip::sparse_value_skipped, crate::proofs::Skip::sparse_value_refused), unfolding(crate::specs::Mirrors::Formats::sparse_value, crate::specs::Mirrors::Reading::tagged_at))]
+    fn skip(width: u32, place: u64, bytes: &[u8]) -> Result<(u64, &[u8]), FieldFault> {
+        let (vertex, rest) = within(place, WORDS, bytes)?;
+        let (tag, rest) = byte(2, rest)?;
+        if tag != 0 {
+            return Ok((vertex as u64 + 1, rest));
+        }
+        let rest = skip_counted::<PlaceForm>(width, 0, width as u64 + 1, 0, rest)?;
+        Ok((vertex as u64 + 1, rest))
     }
 
     fn place_after_item(sparse: &SparseValue) -> u64 {
@@ -416,5 +400,5 @@ impl Form for SparseValueForm {
 
     ghost some = { Prim.omega arith };
 
-    ghost steps = { rising (λ v. v.vertex) };
+    ghost steps = { λ _. rising (λ v. v.vertex) };
 }

@@ -4,13 +4,14 @@ ghost use Rattle.pg_wire.specs.declared.frame.VertexLine.{VertexLine};
 ghost use Rattle.pg_wire.specs.Spelling.{body};
 ghost use Rattle.pg_wire.specs.Well.{IsWell};
 ghost use Rattle.pg_wire.specs.Bytes.{Spells};
-ghost use Rattle.pg_wire.specs.Mirrors.Reading.{Yields, made, line_at};
 ghost use Rattle.pg_wire.specs.Lines.{frame_with};
-ghost use Rattle.pg_wire.specs.Mirrors.Skipping.{skipped};
-ghost use Rattle.pg_wire.specs.Mirrors.Lines.{head_at, counted_as, successors_at, lines_at, after_line, AreLines};
+ghost use Rattle.pg_wire.specs.Mirrors.Reading.{Yields};
+ghost use Rattle.pg_wire.specs.Mirrors.Streaming.{line_head, counted_as, AreLines};
 
 use crate::fault::FieldFault;
 use crate::fields::{WORDS, byte, within};
+use crate::form::skip_counted;
+use crate::forms::LineForm;
 use crate::frame::LineHead;
 use crate::reader::read_numbers;
 use crate::reading::after_length;
@@ -24,10 +25,10 @@ pub struct VerticesReader<'a> {
 
 /// What stands before the successors of a line, whose vertex is from a place on: its head, and how many successors
 /// there are.
-#[tactic(auto, unfolding(crate::specs::Mirrors::Lines::head_at))]
+#[tactic(auto, unfolding(crate::specs::Mirrors::Streaming::line_head))]
 #[inline(always)]
 fn head(place: u64, bytes: &[u8]) -> Result<(LineHead, u32, &[u8]), FieldFault>
-    ensures read { Yields (λ x. (counted_as x.0 x.1, x.2.now)) result (head_at place bytes.now) }
+    ensures read { Yields (λ x. (counted_as x.0 x.1, x.2.now)) result ((line_head place).read bytes.now) }
     ensures less { IfOk result (λ x. length x.2.now < length bytes.now) }
 {
     let (vertex, rest) = within(place, WORDS, bytes)?;
@@ -42,59 +43,21 @@ fn head(place: u64, bytes: &[u8]) -> Result<(LineHead, u32, &[u8]), FieldFault>
     Ok((head, count, rest))
 }
 
-/// The bytes after so many successors, which rise.
-fn skip_successors(count: u32, bytes: &[u8]) -> Result<&[u8], FieldFault>
-    ensures { Yields (λ x. x.now) result (skipped (successors_at count) bytes.now) }
-{
-    let mut rest = bytes;
-    let mut at = 0;
-    for _ in 0..count {
-        let (successor, after) = within(at, WORDS, rest)?;
-        at = successor as u64 + 1;
-        rest = after;
-    }
-    Ok(rest)
-}
-
-/// The least vertex that may come after a line, and the bytes after it.
-#[tactic(auto, using(crate::proofs::Lines::line_skipped, crate::proofs::Lines::line_refused, crate::proofs::Lines::no_line))]
-fn skip_line(place: u64, bytes: &[u8]) -> Result<(u64, &[u8]), FieldFault>
-    ensures { Yields (λ x. (x.0, x.1.now)) result (made after_line (line_at place) bytes.now) }
-{
-    let (head, count, rest) = head(place, bytes)?;
-    let rest = skip_successors(count, rest)?;
-    Ok((head.vertex as u64 + 1, rest))
-}
-
-/// The bytes after so many lines, whose vertices rise.
-fn skip_lines(count: u32, bytes: &[u8]) -> Result<&[u8], FieldFault>
-    ensures { Yields (λ x. x.now) result (skipped (lines_at count) bytes.now) }
-{
-    let mut rest = bytes;
-    let mut at = 0;
-    for _ in 0..count {
-        let (next, after) = skip_line(at, rest)?;
-        at = next;
-        rest = after;
-    }
-    Ok(rest)
-}
-
 /// The bytes of the lines, where the bytes are the fields of a frame of vertices.
 fn lines(bytes: &[u8]) -> Option<&[u8]>
     ensures found { IfSome result (λ x. AreLines bytes.now x.now) }
     ensures all { (ls : List VertexLine) → IsWell (frame_with ls) → (2 ∷ bytes.now) ≡ body (frame_with ls)
         → result ≢ None }
 {
-    let Ok((count, lines)) = within(0, WORDS, bytes) else {
-        return None;
-    };
-    let Ok(rest) = skip_lines(count, lines) else {
+    let Ok(rest) = skip_counted::<LineForm>(0, 0, WORDS, 0, bytes) else {
         return None;
     };
     if !rest.is_empty() {
         return None;
     }
+    let Ok((_, lines)) = within(0, WORDS, bytes) else {
+        return None;
+    };
     Some(lines)
 }
 

@@ -1,6 +1,5 @@
 //! Writes frames of vertices, one line after the other, into a buffer that is kept.
 ghost use Rattle.std.specs.Prelude.{◌≡◌, ℕ, ◌+◌, ◌-◌, ◌*◌, ◌^◌, ◌<◌, ◌++◌, ◌∷◌, [], List, length, OnOk, OnErr, IfOk};
-ghost use Rattle.std.specs.List.{flat_map};
 ghost use Rattle.pg_wire.specs.declared.frame.VertexLine.{VertexLine};
 ghost use Rattle.pg_wire.specs.Spelling.{word, line, spelling, longest};
 ghost use Rattle.pg_wire.specs.Well.{IsWell};

@@ -6,11 +6,14 @@ ghost use Rattle.pg_wire.specs.Spelling.{body};
 ghost use Rattle.pg_wire.specs.Well.{IsWell};
 ghost use Rattle.pg_wire.specs.Bytes.{Spells};
 ghost use Rattle.pg_wire.specs.Measured.{Measured, filled, kind_number, frame_of, TellsMeasures};
-ghost use Rattle.pg_wire.specs.Mirrors.Reading.{Yields, made, items_at, place_at};
-ghost use Rattle.pg_wire.specs.Mirrors.Skipping.{skipped, numbers_at, pairs_at, list_at, measured_at, after_measured, AreFields};
+ghost use Rattle.pg_wire.specs.Mirrors.Reading.{Yields, made};
+ghost use Rattle.pg_wire.specs.Mirrors.Formats.{all_components, so_many, places, measure, measured};
+ghost use Rattle.pg_wire.specs.Mirrors.Streaming.{measures_skipped, AreFields};
 
 use crate::fault::FieldFault;
-use crate::fields::{WORDS, byte, within};
+use crate::fields::{WORDS, byte, pair, within};
+use crate::form::skip_counted;
+use crate::forms::{SparseValueForm, ValueForm};
 use crate::kind::ValueKind;
 use crate::reading::after_length;
 
@@ -22,90 +25,16 @@ pub struct ValuesReader<'a> {
     bytes: &'a [u8],
 }
 
-/// A place from `at` on, below the width, and the number there, which isn't 0.
-#[tactic(auto, unfolding(crate::specs::Mirrors::Reading::place_at))]
-fn pair(width: u32, at: u64, bytes: &[u8]) -> Result<(u32, u32, &[u8]), FieldFault>
-    ensures read { Yields (λ x. ((x.0, x.1), x.2.now)) result (place_at width at bytes.now) }
-    ensures range { IfOk result (λ x. (at ≤ x.0) × (x.0 < width)) }
-    ensures less { IfOk result (λ x. length x.2.now < length bytes.now) }
+/// The bytes after the fields of a frame of measures. It takes no memory.
+#[tactic(auto, using(crate::proofs::Skip::dense_skipped, crate::proofs::Skip::sparse_skipped), unfolding(crate::specs::Mirrors::Formats::values_fields, crate::specs::Mirrors::Formats::sparse_fields))]
+fn skip_fields(kind: ValueKind, bytes: &[u8]) -> Result<&[u8], FieldFault>
+    ensures { Yields (λ x. x.now) result (measures_skipped kind bytes.now) }
 {
-    let (place, rest) = within(at, width as u64, bytes)?;
-    let (n, rest) = within(1, WORDS, rest)?;
-    Ok((place, n, rest))
-}
-
-/// The bytes after so many numbers.
-fn skip_numbers(width: u32, bytes: &[u8]) -> Result<&[u8], FieldFault>
-    ensures { Yields (λ x. x.now) result (skipped (numbers_at width) bytes.now) }
-{
-    let mut rest = bytes;
-    for _ in 0..width {
-        let (_, after) = within(0, WORDS, rest)?;
-        rest = after;
-    }
-    Ok(rest)
-}
-
-/// The bytes after so many pairs, whose places rise from 0 on.
-fn skip_places(width: u32, count: u32, bytes: &[u8]) -> Result<&[u8], FieldFault>
-    ensures { Yields (λ x. x.now) result (skipped (items_at (place_at width) (λ p. p.0 + 1) count 0) bytes.now) }
-{
-    let mut rest = bytes;
-    let mut at = 0;
-    for _ in 0..count {
-        let (place, _, after) = pair(width, at, rest)?;
-        at = place as u64 + 1;
-        rest = after;
-    }
-    Ok(rest)
-}
-
-/// The bytes after a list.
-#[tactic(auto, using(crate::proofs::Skip::pairs_skipped, crate::proofs::Skip::pairs_refused), unfolding(crate::specs::Mirrors::Skipping::list_at, crate::specs::Mirrors::Reading::counted_at))]
-fn skip_list(kind: ValueKind, width: u32, bytes: &[u8]) -> Result<&[u8], FieldFault>
-    ensures { Yields (λ x. x.now) result (skipped (list_at kind width) bytes.now) }
-{
+    let (width, rest) = within(0, 32_769, bytes)?;
     match kind {
-        ValueKind::Dense => skip_numbers(width, bytes),
-        ValueKind::Sparse => {
-            let (count, rest) = within(0, width as u64 + 1, bytes)?;
-            skip_places(width, count, rest)
-        }
+        ValueKind::Dense => skip_counted::<ValueForm>(width, 0, WORDS, 0, rest),
+        ValueKind::Sparse => skip_counted::<SparseValueForm>(width, 0, WORDS, 0, rest),
     }
-}
-
-/// The least vertex that may come after a value, and the bytes after it.
-#[tactic(auto, using(crate::proofs::Skip::value_skipped, crate::proofs::Skip::value_refused), unfolding(crate::specs::Mirrors::Skipping::measured_at, crate::specs::Mirrors::Reading::tagged_at))]
-fn skip_value(
-    kind: ValueKind,
-    width: u32,
-    place: u64,
-    bytes: &[u8],
-) -> Result<(u64, &[u8]), FieldFault>
-    ensures { Yields (λ x. (x.0, x.1.now)) result (made after_measured (measured_at kind width place) bytes.now) }
-{
-    let (vertex, rest) = within(place, WORDS, bytes)?;
-    let (tag, rest) = byte(2, rest)?;
-    if tag != 0 {
-        return Ok((vertex as u64 + 1, rest));
-    }
-    let rest = skip_list(kind, width, rest)?;
-    Ok((vertex as u64 + 1, rest))
-}
-
-/// The bytes after so many values.
-fn skip_values(kind: ValueKind, width: u32, count: u32, bytes: &[u8]) -> Result<&[u8], FieldFault>
-    ensures { Yields (λ x. x.now) result
-        (skipped (items_at (measured_at kind width) after_measured count 0) bytes.now) }
-{
-    let mut rest = bytes;
-    let mut at = 0;
-    for _ in 0..count {
-        let (next, after) = skip_value(kind, width, at, rest)?;
-        at = next;
-        rest = after;
-    }
-    Ok(rest)
 }
 
 /// The width and the bytes of the values, where the bytes are the fields of a frame of measures.
@@ -113,24 +42,24 @@ fn fields(kind: ValueKind, bytes: &[u8]) -> Option<(u32, &[u8])>
     ensures found { IfSome result (λ x. AreFields bytes.now kind x.0 x.1.now) }
     ensures all { (f : Frame) → IsWell f → (kind_number kind ∷ bytes.now) ≡ body f → result ≢ None }
 {
-    let Ok((width, list)) = within(0, 32_769, bytes) else {
-        return None;
-    };
-    let Ok((count, values)) = within(0, WORDS, list) else {
-        return None;
-    };
-    let Ok(rest) = skip_values(kind, width, count, values) else {
+    let Ok(rest) = skip_fields(kind, bytes) else {
         return None;
     };
     if !rest.is_empty() {
         return None;
     }
+    let Ok((width, list)) = within(0, 32_769, bytes) else {
+        return None;
+    };
+    let Ok((_, values)) = within(0, WORDS, list) else {
+        return None;
+    };
     Some((width, values))
 }
 
 /// The next numbers, written into the row.
 pub fn read_numbers<'a>(bytes: &'a [u8], row: &mut [u32]) -> Result<&'a [u8], FieldFault>
-    ensures read { Yields (λ x. (row.new, x.now)) result (numbers_at (length row.old) bytes.now) }
+    ensures read { Yields (λ x. (row.new, x.now)) result ((all_components (length row.old)).read bytes.now) }
     ensures less { IfOk result (λ x. length x.now ≤ length bytes.now) }
     ensures cut { OnErr result (length bytes.now < 4 * length row.old) }
 {
@@ -152,14 +81,14 @@ fn read_places<'a>(
 ) -> Result<&'a [u8], FieldFault>
     requires { length row.old ≡ width }
     ensures read { Yields (λ x. (row.new, x.now)) result
-        (made (filled width) (items_at (place_at width) (λ p. p.0 + 1) count 0) bytes.now) }
+        (made (filled width) (so_many (places width) count 0).read bytes.now) }
     ensures less { IfOk result (λ x. length x.now ≤ length bytes.now) }
 {
     row.fill(0);
     let mut rest = bytes;
     let mut at = 0;
     for _ in 0..count {
-        let (place, n, after) = pair(width, at, rest)?;
+        let ((place, n), after) = pair(width, at, rest)?;
         row[place as usize] = n;
         at = place as u64 + 1;
         rest = after;
@@ -168,7 +97,7 @@ fn read_places<'a>(
 }
 
 /// The next list, written into the row.
-#[tactic(auto, using(crate::proofs::Skip::pairs_read), unfolding(crate::specs::Mirrors::Skipping::list_at, crate::specs::Mirrors::Reading::counted_at))]
+#[tactic(auto, using(crate::proofs::Skip::pairs_read), unfolding(crate::specs::Mirrors::Formats::measure, crate::specs::Mirrors::Reading::counted_at))]
 #[inline(always)]
 fn read_list<'a>(
     kind: ValueKind,
@@ -177,7 +106,7 @@ fn read_list<'a>(
     row: &mut [u32],
 ) -> Result<&'a [u8], FieldFault>
     requires { length row.old ≡ width }
-    ensures read { Yields (λ x. (row.new, x.now)) result (list_at kind width bytes.now) }
+    ensures read { Yields (λ x. (row.new, x.now)) result ((measure kind width).read bytes.now) }
     ensures less { IfOk result (λ x. length x.now ≤ length bytes.now) }
 {
     match kind {
@@ -190,7 +119,7 @@ fn read_list<'a>(
 }
 
 /// The next vertex, whether its measure is top, and the bytes behind it; else the list is in the row.
-#[tactic(auto, unfolding(crate::specs::Mirrors::Skipping::measured_at, crate::specs::Mirrors::Reading::tagged_at))]
+#[tactic(auto, unfolding(crate::specs::Mirrors::Formats::measured, crate::specs::Mirrors::Reading::tagged_at))]
 #[inline(always)]
 fn read_value<'a>(
     kind: ValueKind,
@@ -200,7 +129,7 @@ fn read_value<'a>(
 ) -> Result<(u32, bool, &'a [u8]), FieldFault>
     requires { length row.old ≡ width }
     ensures read { Yields (λ x. ((x.0, cond x.1 None (Some row.new)), x.2.now)) result
-        (measured_at kind width 0 bytes.now) }
+        ((measured kind width 0).read bytes.now) }
     ensures kept { IfOk result (λ x. x.1 ≡ true → row.new ≡ row.old) }
     ensures less { IfOk result (λ x. length x.2.now < length bytes.now) }
 {

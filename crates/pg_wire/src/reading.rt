@@ -1,6 +1,7 @@
 //! Reads frames from bytes.
 ghost use Rattle.std.specs.Prelude.{◌≡◌, ◌≢◌, ◌⊎◌, Ok, Err, IfOk, IfErr, IfSome, IfNone, ◌↔◌};
-ghost use Rattle.pg_wire.specs.Mirrors.Reading.{Gives, made, setup_at, vertices_at, values_at, sparse_at, go_at, report_at, frame_at, body_at};
+ghost use Rattle.pg_wire.specs.Mirrors.Reading.{Gives, made};
+ghost use Rattle.pg_wire.specs.Mirrors.Formats.{setup_fields, vertices_fields, values_fields, sparse_fields, go_fields, report_fields, frame_at, body_at};
 ghost use Rattle.pg_wire.specs.Mirrors.Lengths.{IsCounted};
 ghost use Rattle.pg_wire.specs.Spelling.{body};
 ghost use Rattle.pg_wire.specs.Well.{IsWell};
@@ -34,9 +35,9 @@ pub fn after_length(bytes: &[u8]) -> Option<&[u8]>
     Some(rest)
 }
 
-#[tactic(auto, unfolding(crate::specs::Mirrors::Reading::setup_at))]
+#[tactic(auto, unfolding(crate::specs::Mirrors::Formats::setup_fields))]
 fn setup(alloc: Global, bytes: &[u8]) -> Result<(Frame, &[u8]), ReadFault>
-    ensures { Gives (λ x. (x.0, x.1.now)) result (made Frame.Setup setup_at bytes.now) }
+    ensures { Gives (λ x. (x.0, x.1.now)) result (made Frame.Setup setup_fields.read bytes.now) }
 {
     let (version, rest) = version(bytes)?;
     let (vertices, rest) = within(1, 1_048_577, rest)?;
@@ -49,50 +50,50 @@ fn setup(alloc: Global, bytes: &[u8]) -> Result<(Frame, &[u8]), ReadFault>
     Ok((Frame::Setup(setup), rest))
 }
 
-#[tactic(auto, unfolding(crate::specs::Mirrors::Reading::vertices_at))]
+#[tactic(auto, unfolding(crate::specs::Mirrors::Formats::vertices_fields))]
 fn vertices(alloc: Global, bytes: &[u8]) -> Result<(Frame, &[u8]), ReadFault>
-    ensures { Gives (λ x. (x.0, x.1.now)) result (made Frame.Vertices vertices_at bytes.now) }
+    ensures { Gives (λ x. (x.0, x.1.now)) result (made Frame.Vertices vertices_fields.read bytes.now) }
 {
     let (lines, rest) = counted::<LineForm>(alloc, 0, 0, WORDS, 0, bytes)?;
     Ok((Frame::Vertices(Vertices { lines }), rest))
 }
 
-#[tactic(auto, unfolding(crate::specs::Mirrors::Reading::values_at))]
+#[tactic(auto, unfolding(crate::specs::Mirrors::Formats::values_fields))]
 fn values(alloc: Global, bytes: &[u8]) -> Result<(Frame, &[u8]), ReadFault>
-    ensures { Gives (λ x. (x.0, x.1.now)) result (made Frame.Values values_at bytes.now) }
+    ensures { Gives (λ x. (x.0, x.1.now)) result (made Frame.Values values_fields.read bytes.now) }
 {
     let (width, rest) = within(0, 32_769, bytes)?;
     let (values, rest) = counted::<ValueForm>(alloc, width, 0, WORDS, 0, rest)?;
     Ok((Frame::Values(Values { width, values }), rest))
 }
 
-#[tactic(auto, unfolding(crate::specs::Mirrors::Reading::sparse_at))]
+#[tactic(auto, unfolding(crate::specs::Mirrors::Formats::sparse_fields))]
 fn sparse(alloc: Global, bytes: &[u8]) -> Result<(Frame, &[u8]), ReadFault>
-    ensures { Gives (λ x. (x.0, x.1.now)) result (made Frame.Sparse sparse_at bytes.now) }
+    ensures { Gives (λ x. (x.0, x.1.now)) result (made Frame.Sparse sparse_fields.read bytes.now) }
 {
     let (width, rest) = within(0, 32_769, bytes)?;
     let (values, rest) = counted::<SparseValueForm>(alloc, width, 0, WORDS, 0, rest)?;
     Ok((Frame::Sparse(Sparse { width, values }), rest))
 }
 
-#[tactic(auto, unfolding(crate::specs::Mirrors::Reading::go_at))]
+#[tactic(auto, unfolding(crate::specs::Mirrors::Formats::go_fields))]
 fn go(bytes: &[u8]) -> Result<(Frame, &[u8]), ReadFault>
-    ensures { Gives (λ x. (x.0, x.1.now)) result (made Frame.Go go_at bytes.now) }
+    ensures { Gives (λ x. (x.0, x.1.now)) result (made Frame.Go go_fields.read bytes.now) }
 {
     let (budget, rest) = within(0, WORDS, bytes)?;
     Ok((Frame::Go(Go { budget }), rest))
 }
 
-#[tactic(auto, unfolding(crate::specs::Mirrors::Reading::report_at))]
+#[tactic(auto, unfolding(crate::specs::Mirrors::Formats::report_fields))]
 fn report(bytes: &[u8]) -> Result<(Frame, &[u8]), ReadFault>
-    ensures { Gives (λ x. (x.0, x.1.now)) result (made Frame.Report report_at bytes.now) }
+    ensures { Gives (λ x. (x.0, x.1.now)) result (made Frame.Report report_fields.read bytes.now) }
 {
     let (status, rest) = byte(3, bytes)?;
     let (code, rest) = code(status, rest)?;
     Ok((Frame::Report(Report { status, code }), rest))
 }
 
-#[tactic(auto, unfolding(crate::specs::Mirrors::Reading::frame_at))]
+#[tactic(auto, unfolding(crate::specs::Mirrors::Formats::frame_at))]
 fn frame(alloc: Global, kind: u8, bytes: &[u8]) -> Result<(Frame, &[u8]), ReadFault>
     ensures { Gives (λ x. (x.0, x.1.now)) result (frame_at kind bytes.now) }
 {
@@ -109,7 +110,7 @@ fn frame(alloc: Global, kind: u8, bytes: &[u8]) -> Result<(Frame, &[u8]), ReadFa
 }
 
 /// The frame that all of the bytes after a length give.
-#[tactic(auto, unfolding(crate::specs::Mirrors::Reading::body_at))]
+#[tactic(auto, unfolding(crate::specs::Mirrors::Formats::body_at))]
 fn frame_of_body(alloc: Global, bytes: &[u8]) -> Result<Frame, ReadFault>
     ensures { Gives (λ x. x) result (body_at bytes.now) }
 {

@@ -1,6 +1,6 @@
 //! Reads frames from a reader.
-ghost use Rattle.std.specs.Prelude.{◌≡◌, ℕ, ◌+◌, ◌≤◌, ◌<◌, ◌++◌, ◌⊎◌, ◌≢◌, true, false, List, [], take, drop, Ok, Err, Some, None, length, slice_index, ◌^◌, IfOk, OnOk, IfErr, IfSome, IfNone};
-ghost use Rattle.std.specs.Io.KnownBytes.{Consumes, IsAtEnd, Keeps};
+ghost use Rattle.std.specs.Prelude.{◌≡◌, ℕ, ◌+◌, ◌≤◌, ◌<◌, ◌++◌, ◌⊎◌, ◌≢◌, true, false, List, take, Ok, Err, Some, None, length, slice_index, ◌^◌, IfOk, OnOk, IfErr, IfSome, IfNone};
+ghost use Rattle.std.specs.Io.KnownBytes.{Consumes, IsAtEnd};
 ghost use Rattle.pg_wire.specs.Spelling.{spelling};
 ghost use Rattle.pg_wire.specs.Bytes.{Spells, IsReadFrom, IsWhole};
 ghost use Rattle.pg_wire.specs.declared.fault.WireFault.TheVariants.{Truncated, TooLong, OutOfMemory};

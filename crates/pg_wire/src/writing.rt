@@ -1,5 +1,5 @@
 //! Writes frames.
-ghost use Rattle.std.specs.Prelude.{◌≡◌, ℕ, ◌<◌, ◌≤◌, ◌^◌, ◌++◌, ◌∷◌, [], List, length, OnOk, IfOk, IfErr, IfSome, IfNone, ◌+◌, ◌⊎◌, ◌↔◌, Err};
+ghost use Rattle.std.specs.Prelude.{◌≡◌, ℕ, ◌<◌, ◌≤◌, ◌^◌, ◌++◌, ◌∷◌, List, length, OnOk, IfOk, IfErr, IfSome, IfNone, ◌+◌, ◌⊎◌, ◌↔◌, Err};
 ghost use Rattle.std.specs.List.{flat_map};
 ghost use Rattle.std.specs.Io.KnownBytes.{Appends};
 ghost use Rattle.pg_wire.specs.Spelling.{word, counted, spelling, body, longest};
@@ -8,9 +8,8 @@ ghost use Rattle.pg_wire.specs.Mirrors.Reading.{HasBytes};
 ghost use Rattle.pg_wire.specs.declared.fault.WireFault.TheVariants.{TooLong, OutOfMemory};
 
 use crate::fault::WireFault;
-use crate::frame::{Frame, Report, Setup, SparseValue, Value, VertexLine};
+use crate::frame::{Frame, SparseValue, Value, VertexLine};
 use crate::reading::LONGEST;
-use byteorder::{BigEndian, WriteBytesExt};
 use std::alloc::Global;
 use std::io::Write;
 
@@ -31,25 +30,21 @@ pub trait Spell {
         ensures fault { IfErr result (λ e. e ≡ WireFault.Write) };
 }
 
-#[tactic(auto, using(crate::proofs::Append::word_is))]
-fn put_word<W: Write>(n: u32, out: &mut W) -> Result<(), WireFault>
-    ensures ok { OnOk result (Appends (W.contents out.old) (W.contents out.new) (word n)) }
+fn put_bytes<W: Write>(bytes: &[u8], out: &mut W) -> Result<(), WireFault>
+    ensures ok { OnOk result (Appends (W.contents out.old) (W.contents out.new) bytes.now) }
     ensures fault { IfErr result (λ e. e ≡ WireFault.Write) }
 {
-    match out.write_u32::<BigEndian>(n) {
+    match out.write_all(bytes) {
         Ok(()) => Ok(()),
         Err(_) => Err(WireFault::Write),
     }
 }
 
-fn put_byte<W: Write>(n: u8, out: &mut W) -> Result<(), WireFault>
-    ensures ok { OnOk result (Appends (W.contents out.old) (W.contents out.new) (n ∷ [])) }
+fn put_word<W: Write>(n: u32, out: &mut W) -> Result<(), WireFault>
+    ensures ok { OnOk result (Appends (W.contents out.old) (W.contents out.new) (word n)) }
     ensures fault { IfErr result (λ e. e ≡ WireFault.Write) }
 {
-    match out.write_u8(n) {
-        Ok(()) => Ok(()),
-        Err(_) => Err(WireFault::Write),
-    }
+    put_bytes(&n.to_be_bytes(), out)
 }
 
 /// Each item, one after the other.
@@ -74,6 +69,21 @@ fn put_counted<T: Spell, W: Write>(items: &[T], out: &mut W) -> Result<(), WireF
 {
     put_word(items.len() as u32, out)?;
     put_all(items, out)
+}
+
+/// Bytes, and then how many items there are, and each.
+#[tactic(auto, using(crate::proofs::Append::then))]
+fn put_front_and_counted<T: Spell, W: Write>(
+    front: &[u8],
+    items: &[T],
+    out: &mut W,
+) -> Result<(), WireFault>
+    requires { length (flat_map T.spelled items.now) < 2 ^ 32 }
+    ensures ok { OnOk result (Appends (W.contents out.old) (W.contents out.new) (front.now ++ counted T.spelled items.now)) }
+    ensures fault { IfErr result (λ e. e ≡ WireFault.Write) }
+{
+    put_bytes(front, out)?;
+    put_counted(items, out)
 }
 
 #[tactic(auto, using(crate::proofs::Append::one_fits, crate::proofs::Append::none_fits))]
@@ -122,16 +132,6 @@ impl Spell for (u32, u32) {
     }
 }
 
-#[tactic(auto, using(crate::proofs::Append::then))]
-fn put_head<W: Write>(line: &VertexLine, out: &mut W) -> Result<(), WireFault>
-    ensures ok { OnOk result (Appends (W.contents out.old) (W.contents out.new) (word line.now.vertex ++ (word line.now.priority ++ line.now.owner ∷ []))) }
-    ensures fault { IfErr result (λ e. e ≡ WireFault.Write) }
-{
-    put_word(line.vertex, out)?;
-    put_word(line.priority, out)?;
-    put_byte(line.owner, out)
-}
-
 impl Spell for VertexLine {
     ghost use Rattle.pg_wire.specs.Spelling.{line};
 
@@ -143,10 +143,11 @@ impl Spell for VertexLine {
         room_after_all(self.successors.as_slice(), room.checked_sub(13)?)
     }
 
-    #[tactic(auto, using(crate::proofs::Append::then))]
     fn put<W: Write>(&self, out: &mut W) -> Result<(), WireFault> {
-        put_head(self, out)?;
-        put_counted(self.successors.as_slice(), out)
+        let [a, b, c, d] = self.vertex.to_be_bytes();
+        let [e, f, g, h] = self.priority.to_be_bytes();
+        let front = [a, b, c, d, e, f, g, h, self.owner];
+        put_front_and_counted(&front, self.successors.as_slice(), out)
     }
 }
 
@@ -169,9 +170,9 @@ impl Spell for Value {
     fn put<W: Write>(&self, out: &mut W) -> Result<(), WireFault> {
         put_word(self.vertex, out)?;
         match &self.list {
-            None => put_byte(1, out),
+            None => put_bytes(&[1], out),
             Some(list) => {
-                put_byte(0, out)?;
+                put_bytes(&[0], out)?;
                 put_all(list.as_slice(), out)
             }
         }
@@ -197,9 +198,9 @@ impl Spell for SparseValue {
     fn put<W: Write>(&self, out: &mut W) -> Result<(), WireFault> {
         put_word(self.vertex, out)?;
         match &self.pairs {
-            None => put_byte(1, out),
+            None => put_bytes(&[1], out),
             Some(pairs) => {
-                put_byte(0, out)?;
+                put_bytes(&[0], out)?;
                 put_counted(pairs.as_slice(), out)
             }
         }
@@ -225,34 +226,19 @@ fn body_len(frame: &Frame) -> Option<u32>
 }
 
 /// The kind of a frame, and then a number.
-fn put_kind_and_word<W: Write>(kind: u8, n: u32, out: &mut W) -> Result<(), WireFault>
-    ensures ok { OnOk result (Appends (W.contents out.old) (W.contents out.new) (kind ∷ word n)) }
-    ensures fault { IfErr result (λ e. e ≡ WireFault.Write) }
+fn kind_and_word(kind: u8, n: u32) -> [u8; 5]
+    ensures { result ≡ kind ∷ word n }
 {
-    put_byte(kind, out)?;
-    put_word(n, out)
+    let [a, b, c, d] = n.to_be_bytes();
+    [kind, a, b, c, d]
 }
 
-/// The body of a frame of set-up.
-fn put_setup<W: Write>(setup: &Setup, out: &mut W) -> Result<(), WireFault>
-    requires { length (body (Frame.Setup setup.now)) ≤ longest }
-    ensures ok { OnOk result (Appends (W.contents out.old) (W.contents out.new) (body (Frame.Setup setup.now))) }
-    ensures fault { IfErr result (λ e. e ≡ WireFault.Write) }
+/// What stands before the bounds in a frame of set-up.
+fn setup_front(version: u8, vertices: u32) -> [u8; 6]
+    ensures { result ≡ 1 ∷ version ∷ word vertices }
 {
-    put_byte(1, out)?;
-    put_byte(setup.version, out)?;
-    put_word(setup.vertices, out)?;
-    put_counted(setup.bounds.as_slice(), out)
-}
-
-/// The body of a frame that reports.
-fn put_report<W: Write>(report: &Report, out: &mut W) -> Result<(), WireFault>
-    ensures ok { OnOk result (Appends (W.contents out.old) (W.contents out.new) (body (Frame.Report report.now))) }
-    ensures fault { IfErr result (λ e. e ≡ WireFault.Write) }
-{
-    put_byte(5, out)?;
-    put_byte(report.status, out)?;
-    put_byte(report.code, out)
+    let [a, b, c, d] = vertices.to_be_bytes();
+    [1, version, a, b, c, d]
 }
 
 /// The body of a frame, all that stands after its length.
@@ -262,21 +248,22 @@ fn put_body<W: Write>(frame: &Frame, out: &mut W) -> Result<(), WireFault>
     ensures fault { IfErr result (λ e. e ≡ WireFault.Write) }
 {
     match frame {
-        Frame::Setup(s) => put_setup(s, out),
-        Frame::Vertices(v) => {
-            put_byte(2, out)?;
-            put_counted(v.lines.as_slice(), out)
+        Frame::Setup(s) => {
+            put_front_and_counted(
+                &setup_front(s.version, s.vertices),
+                s.bounds.as_slice(),
+                out,
+            )
         }
+        Frame::Vertices(v) => put_front_and_counted(&[2], v.lines.as_slice(), out),
         Frame::Values(v) => {
-            put_kind_and_word(3, v.width, out)?;
-            put_counted(v.values.as_slice(), out)
+            put_front_and_counted(&kind_and_word(3, v.width), v.values.as_slice(), out)
         }
-        Frame::Go(g) => put_kind_and_word(4, g.budget, out),
-        Frame::Report(r) => put_report(r, out),
-        Frame::Halt => put_byte(6, out),
+        Frame::Go(g) => put_bytes(&kind_and_word(4, g.budget), out),
+        Frame::Report(r) => put_bytes(&[5, r.status, r.code], out),
+        Frame::Halt => put_bytes(&[6], out),
         Frame::Sparse(s) => {
-            put_kind_and_word(7, s.width, out)?;
-            put_counted(s.values.as_slice(), out)
+            put_front_and_counted(&kind_and_word(7, s.width), s.values.as_slice(), out)
         }
     }
 }
@@ -292,7 +279,7 @@ fn put_frame<W: Write>(frame: &Frame, len: u32, out: &mut W) -> Result<(), WireF
     put_body(frame, out)
 }
 
-/// Appends the spelling of a frame. It takes no memory, and writes a number at a time: put a
+/// Appends the spelling of a frame. It takes no memory, and writes a few bytes at a time: put a
 /// `BufWriter` before a writer whose calls are dear.
 ///
 /// `TooLong`, with nothing written, exactly where more than 16,777,216 bytes would stand after the

@@ -1,14 +1,14 @@
 use Rattle.std.proofs.Common.{◌≡◌, ◌≤◌, ◌+◌, ◌*◌, ◌++◌, ◌∷◌, [], length, vec_len, vec_capacity, min, ◌/◌, ◌∙◌, rules, arith}
 use Rattle.std.proofs.Math.Nat.{sub-zero}
 use Rattle.std.proofs.lemmas.Result.{err_from_is_err_and}
-use Rattle.pg_wire.specs.Mirrors.Reading.{items_at}
+use Rattle.pg_wire.specs.Mirrors.Formats.{so_many}
 use Rattle.pg_wire.proofs.Loop.{goes_on, ends, is_done, starts, room_left, room_used, room_fits}
 use Rattle.pg_wire.proofs.form.items.Goals as goal
 
 pub loop-init : goal.loop-init
 loop-init g c = record {
   read = rw (c.in_ok-items.ensures.items, sub-zero)
-      (starts (items_at (g.F.Form.item_at c.args.width) g.F.Form.place_after c.args.count c.args.place c.args.bytes.now));
+      (starts ((so_many (g.F.Form.kind c.args.width) c.args.count c.args.place).read c.args.bytes.now));
   capacity = search rules;
   len = c.in_ok-items.ensures.len;
   used = rw c.in_ok-items.ensures.len (omega arith);
@@ -17,7 +17,7 @@ loop-init g c = record {
 pub returns-in_err-item-clause-read : goal.returns-in_err-item-clause-read
 returns-in_err-item-clause-read g c =
     let p = err_from_is_err_and c.from_residual-in_err-item.result c.from_residual-in_err-item.ensures.1 in
-    rw (p.1, p.2) (ends (g.F.Form.item_at c.args.width) g.F.Form.place_after c.in_err-item.field-0.0 c.loop.items.items c.args.count c.loop.counter c.loop.at c.loop.rest.now (items_at (g.F.Form.item_at c.args.width) g.F.Form.place_after c.args.count c.args.place c.args.bytes.now) c.loop-test.true c.in_err-item.ensures.read c.loop.invariant.read)
+    rw (p.1, p.2) (ends (g.F.Form.kind c.args.width) c.in_err-item.field-0.0 c.loop.items.items c.args.count c.loop.counter c.loop.at c.loop.rest.now ((so_many (g.F.Form.kind c.args.width) c.args.count c.args.place).read c.args.bytes.now) c.loop-test.true c.in_err-item.ensures.read c.loop.invariant.read)
 
 pub push_reserved-requires : goal.push_reserved-requires
 push_reserved-requires g c =
@@ -34,7 +34,7 @@ loop-preserved g c =
     let n = c.in_ok-item.item in
     let e : c.push_reserved.new.self.items ≡ c.loop.items.items ++ n ∷ [] = c.push_reserved.ensures.items in
     record {
-      read = rw (e, c.place_after_item-at.ensures) (goes_on (g.F.Form.item_at c.args.width) g.F.Form.place_after c.loop.items.items c.args.count c.loop.counter c.loop.at c.loop.rest.now n c.in_ok-item.after.now (items_at (g.F.Form.item_at c.args.width) g.F.Form.place_after c.args.count c.args.place c.args.bytes.now) c.loop-test.true c.in_ok-item.ensures.read c.loop.invariant.read);
+      read = rw (e, c.place_after_item-at.ensures c.args.width) (goes_on (g.F.Form.kind c.args.width) c.loop.items.items c.args.count c.loop.counter c.loop.at c.loop.rest.now n c.in_ok-item.after.now ((so_many (g.F.Form.kind c.args.width) c.args.count c.args.place).read c.args.bytes.now) c.loop-test.true c.in_ok-item.ensures.read c.loop.invariant.read);
       capacity = c.push_reserved.ensures.capacity ∙ c.loop.invariant.capacity;
       len = omega (arith, c.push_reserved.ensures.len);
       used = rw c.push_reserved.ensures.len (room_used g.F.Form.SIZE (vec_len c.loop.items) (length c.loop.rest.now)
@@ -42,7 +42,7 @@ loop-preserved g c =
     }
 
 pub returns-clause-read : goal.returns-clause-read
-returns-clause-read g c = is_done (g.F.Form.item_at c.args.width) g.F.Form.place_after c.loop.items.items c.args.count c.loop.counter c.loop.at c.loop.rest.now (items_at (g.F.Form.item_at c.args.width) g.F.Form.place_after c.args.count c.args.place c.args.bytes.now) c.loop-test.false c.loop.invariant.read
+returns-clause-read g c = is_done (g.F.Form.kind c.args.width) c.loop.items.items c.args.count c.loop.counter c.loop.at c.loop.rest.now ((so_many (g.F.Form.kind c.args.width) c.args.count c.args.place).read c.args.bytes.now) c.loop-test.false c.loop.invariant.read
 
 pub returns-clause-size : goal.returns-clause-size
 returns-clause-size g c =

@@ -4,17 +4,18 @@ use Rattle.std.proofs.lemmas.List.{get_or-replicate, length-set}
 use Rattle.std.proofs.lemmas.List.FromFn.{fill_by_all}
 use Rattle.std.proofs.lemmas.List.Elements.{All-push, All-weaker}
 use Rattle.std.proofs.lemmas.Result.{err_from_is_err_and}
-use Rattle.pg_wire.specs.Mirrors.Reading.{place_at}
+use Rattle.pg_wire.specs.Mirrors.Formats.{places, so_many}
 use Rattle.pg_wire.specs.Measured.{component_in, filled}
 use Rattle.pg_wire.proofs.Filling.{Pair, filled_more}
-use Rattle.pg_wire.proofs.Loop.{goes_on, is_done, starts}
-use Rattle.pg_wire.proofs.Skip.{after_place, places_at, list_ends, filled_read, filled_refused}
+use Rattle.pg_wire.specs.declared.fault.ReadFault.TheVariants as faults
+use Rattle.pg_wire.proofs.Loop.{goes_on, ends, is_done, starts}
+use Rattle.pg_wire.proofs.Skip.{filled_read, filled_refused}
 use Rattle.pg_wire.proofs.reader.read_places.Goals as goal
 
 pub loop-init : goal.loop-init
 loop-init c = record {
   front = [];
-  read = rw sub-zero (starts (places_at c.args.width c.args.count c.args.bytes.now));
+  read = rw sub-zero (starts ((so_many (places c.args.width) c.args.count 0).read c.args.bytes.now));
   past = λ i d lt. absurd (omega arith);
   filled = λ k lt. ap (λ (r : List ℕ). get_or r k 0) (c.fill.ensures.after (λ y e. e))
       ∙ get_or-replicate {A = ℕ} (length c.args.row.now) k 0 0 (omega (arith, c.fill.ensures.len));
@@ -26,8 +27,8 @@ returns-in_err-place c =
     let p = err_from_is_err_and c.from_residual.result c.from_residual.ensures.1 in
     rw (p.1, p.2) (record {
       read = filled_refused c.args.width c.args.count c.args.bytes.now _
-          (list_ends (place_at c.args.width) after_place _ c.loop.invariant.front c.args.count c.loop.counter c.loop.at c.loop.rest.now
-          (places_at c.args.width c.args.count c.args.bytes.now) c.loop-test.true c.in_err-place.ensures.read c.loop.invariant.read);
+          (ends (places c.args.width) (faults.Field _) c.loop.invariant.front c.args.count c.loop.counter c.loop.at c.loop.rest.now
+          ((so_many (places c.args.width) c.args.count 0).read c.args.bytes.now) c.loop-test.true c.in_err-place.ensures.read c.loop.invariant.read);
       less = tt;
     })
 
@@ -41,11 +42,11 @@ loop-preserved c =
     let apart : (j : ℕ) (d : Pair) → j < length i.front → (get_or i.front j d).0 ≢ place = λ j d lt e. absurd (omega (arith, i.past j d lt, range.0, e)) in
     record {
       front = i.front ++ p ∷ [];
-      read = goes_on (place_at c.args.width) after_place i.front c.args.count c.loop.counter c.loop.at c.loop.rest.now p c.in_ok-place.after.now (places_at c.args.width c.args.count c.args.bytes.now) c.loop-test.true c.in_ok-place.ensures.read i.read;
+      read = goes_on (places c.args.width) i.front c.args.count c.loop.counter c.loop.at c.loop.rest.now p c.in_ok-place.after.now ((so_many (places c.args.width) c.args.count 0).read c.args.bytes.now) c.loop-test.true c.in_ok-place.ensures.read i.read;
       past = All-push (λ (q : Pair). q.0 < place + 1) i.front p (All-weaker (λ (q : Pair). q.0 < c.loop.at) (λ (q : Pair). q.0 < place + 1)
           (λ q h. omega (arith, range.0, h)) i.front i.past) (omega arith);
       filled = λ k lt. filled_more c.loop.row i.front p below apart i.filled k (simp length-set at lt);
-      less = omega (arith, c.in_ok-place.ensures.less, i.less);
+      less = omega (arith, c.in_ok-place.ensures.size, i.less);
     }
 
 pub returns : goal.returns
@@ -56,8 +57,8 @@ returns c =
     (λ k lt. i.filled k (omega (arith, size, lt))) in
     record {
       read = filled_read c.args.width c.args.count c.args.bytes.now i.front c.loop.rest.now
-          (is_done (place_at c.args.width) after_place i.front c.args.count c.loop.counter c.loop.at c.loop.rest.now
-          (places_at c.args.width c.args.count c.args.bytes.now) c.loop-test.false i.read)
+          (is_done (places c.args.width) i.front c.args.count c.loop.counter c.loop.at c.loop.rest.now
+          ((so_many (places c.args.width) c.args.count 0).read c.args.bytes.now) c.loop-test.false i.read)
           ∙ ap (λ (ns : List ℕ). Ok (ns, c.loop.rest.now)) (sym row);
       less = i.less;
     }

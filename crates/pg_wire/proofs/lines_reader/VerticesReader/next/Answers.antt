@@ -1,7 +1,7 @@
 use Rattle.std.proofs.Common.{◌≡◌, ◌++◌, ◌∙◌, ℕ, List, length, take, drop, Some, Ok, sym, subst, arith}
 use Rattle.std.proofs.lemmas.List.{take_at}
 use Rattle.pg_wire.specs.LinesLeft.{IsNextLine}
-use Rattle.pg_wire.specs.Mirrors.Skipping.{numbers_at}
+use Rattle.pg_wire.specs.Mirrors.Formats.{all_components}
 use Rattle.pg_wire.proofs.Lines.{none_left, cut_left, next_left}
 use Rattle.pg_wire.proofs.lines_reader.VerticesReader.next.Goals as goal
 use Rattle.pg_wire.proofs.lines_reader.VerticesReader.next.Goals.{In_default-read_numbers}
@@ -29,8 +29,8 @@ returns-clause-next c = λ ls h.
     let size : length row ≡ c.in-Ok.count = omega (arith, c.read_numbers.auto.row, c.as_mut_slice.ensures.len, len) in
     let whole : take c.resize.new.self.len (row ++ drop (length row) c.resize.new.self.items) ≡ row =
     take_at row (drop (length row) c.resize.new.self.items) c.resize.new.self.len (size ∙ sym len) in
-    let numbers : numbers_at c.in-Ok.count c.in-Ok.rest.now ≡ Ok (row, c.in-Ok-read_numbers.rest.now) =
-    subst (λ (n : ℕ). numbers_at n c.in-Ok.rest.now ≡ Ok (row, c.in-Ok-read_numbers.rest.now))
+    let numbers : (all_components c.in-Ok.count).read c.in-Ok.rest.now ≡ Ok (row, c.in-Ok-read_numbers.rest.now) =
+    subst (λ (n : ℕ). (all_components n).read c.in-Ok.rest.now ≡ Ok (row, c.in-Ok-read_numbers.rest.now))
     (c.as_mut_slice.ensures.len ∙ len) c.in-Ok-read_numbers.ensures.read in
     subst (λ (items : List ℕ). IsNextLine ls (record { bytes = c.in-Ok-read_numbers.rest }) items (Some c.in-Ok.head)) (sym whole)
     (next_left ls c.args.self.now row c.in-Ok.head c.in-Ok.count c.in-Ok.rest.now c.in-Ok-read_numbers.rest h c.in-Ok.ensures.read numbers)

@@ -1,0 +1,8 @@
+use Rattle.std.proofs.Common.{◌≡◌, ◌-◌}
+use Rattle.pg_wire.specs.Mirrors.Reading.{skipped}
+use Rattle.pg_wire.specs.Mirrors.Formats.{so_many}
+use Rattle.pg_wire.proofs.form.skip_items.Given as goal
+
+abbrev pub invariant-loop : goal.invariant-loop
+invariant-loop g l = skipped (so_many (g.F.Form.kind l.width) (l.count - l.counter) l.at).read l.rest
+    ≡ skipped (so_many (g.F.Form.kind l.width) l.count l.place).read l.bytes
