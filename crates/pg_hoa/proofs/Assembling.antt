@@ -5,7 +5,7 @@ use Rattle.pg_automaton.specs.declared.table.Table.{Table}
 use Rattle.pg_automaton.specs.Automata.{Automaton, IsAutomaton, rows, next}
 use Rattle.pg_hoa.specs.Mirrors.Kept.{KeptLine}
 use Rattle.pg_hoa.specs.Mirrors.Settling.{Settled}
-use Rattle.pg_hoa.specs.Mirrors.Tables.{kept_steps, IsTableOf, IsFirstConflict, IsConflictOf}
+use Rattle.pg_hoa.specs.Mirrors.Tables.{IsTableOf}
 use Rattle.pg_automaton.specs.Mirrors.Tables as tables
 use Rattle.pg_hoa.specs.Mirrors.Readings.{CanAssemble, Assembles, AreFew, kept_states}
 

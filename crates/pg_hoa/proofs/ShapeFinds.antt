@@ -1,5 +1,5 @@
 -- The finder of shapes gives the first shape that fits, if there is one.
-use Rattle.std.proofs.Common.{◌≡◌, ℕ, suc, zero, ◌+◌, ◌-◌, ◌<◌, ◌%◌, ◌==◌, Bool, true, false, cond, List, [], ◌∷◌, Option, Some, None, refl}
+use Rattle.std.proofs.Common.{◌≡◌, ℕ, suc, zero, ◌-◌, ◌<◌, Bool, true, false, cond, List, [], ◌∷◌, Option, Some, None, refl}
 use Rattle.std.proofs.Common.{sym, ap, subst, ◌∙◌, arith}
 use Rattle.std.proofs.lemmas.Bool.Decides.{nat_tests}
 use Rattle.std.specs.Prelude.{IfSome, IfNone}
@@ -9,11 +9,11 @@ use Rattle.pg_automaton.specs.declared.shape.Shape.{Shape}
 use Rattle.pg_automaton.specs.declared.shape.Shape.TheVariants.{MaxEven, MaxOdd, MinEven, MinOdd, Always, Never}
 use Rattle.pg_automaton.specs.Formulas.{Formula, yes, no}
 use Rattle.pg_hoa.specs.Mirrors.FormulaRun.{postfix}
-use Rattle.pg_automaton.specs.Shapes.{is_even, decides, max_even, max_odd, min_even, min_odd, condition_of, bare, IsLike, FitsShape, HasShape, place}
+use Rattle.pg_automaton.specs.Shapes.{condition_of, bare, IsLike, FitsShape, HasShape, place}
 use Rattle.pg_automaton.specs.Mirrors.Nests.{set_at, wanted_at}
 use Rattle.pg_hoa.specs.Mirrors.ShapeRun.{nests_at, fits_at, constant_at, nested_at}
-use Rattle.pg_automaton.proofs.Nested.{nested_in, condition_nested, no_constant, nested}
-use Rattle.pg_lists.proofs.Steps.{some, some_is, none_is_some}
+use Rattle.pg_automaton.proofs.Nested.{nested_in, condition_nested, no_constant}
+use Rattle.pg_lists.proofs.Steps.{some_is, none_is_some}
 use Rattle.pg_hoa.proofs.ShapeTrees.{one_tree, bare_postfix}
 use Rattle.pg_hoa.proofs.ShapeNests.{nests_tree, tree_nests, AllDiffer}
 

@@ -1,5 +1,5 @@
 -- Labels and acceptance conditions as they are written.
-use Rattle.std.specs.Prelude.{ℕ, ◌+◌, ◌≤◌, ◌<◌, Bool, true, false, ◌||◌, ◌&&◌, List, [], ◌∷◌, ◌++◌, codes, max, if◌then◌else◌}
+use Rattle.std.specs.Prelude.{ℕ, ◌+◌, ◌≤◌, ◌<◌, List, [], ◌∷◌, ◌++◌, codes, max}
 use Rattle.pg_hoa.specs.declared.formula.Kind.{Kind}
 use Rattle.pg_hoa.specs.declared.formula.Kind.TheVariants.{Label, Condition}
 use Rattle.pg_automaton.specs.Formulas.{Formula, yes, no, proposition, inf, fin, not, both, either, bracket}

@@ -4,7 +4,6 @@ use Rattle.pg_hoa.specs.declared.formula.Op.{Op}
 use Rattle.pg_hoa.specs.declared.formula.Op.TheVariants.{Yes, No, Inf, Fin, Both, Either}
 use Rattle.pg_automaton.specs.declared.shape.Shape.{Shape}
 use Rattle.pg_automaton.specs.declared.shape.Shape.TheVariants.{MaxEven, MaxOdd, MinEven, MinOdd, Always, Never}
-use Rattle.pg_automaton.specs.Shapes.{is_even}
 use Rattle.pg_automaton.specs.Mirrors.Nests.{set_at, wanted_at}
 use Rattle.pg_automaton.specs.Mirrors.Steps.{◌>>=◌}
 
