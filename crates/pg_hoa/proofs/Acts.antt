@@ -11,7 +11,7 @@ use Rattle.std.proofs.Math.Seq.{take-append_seam}
 use Rattle.std.proofs.lemmas.Bool.{false≢true}
 use Rattle.std.proofs.lemmas.Bool.Decides.{Decides-eqb, nat_tests}
 use Rattle.std.proofs.lemmas.List.{at_drop_more}
-use Rattle.pg_hoa.specs.declared.formula.Op.{Op}
+use Rattle.pg_syntax.specs.declared.formula.Op.{Op}
 use Rattle.pg_hoa.specs.declared.terms.Term.{Term}
 use Rattle.pg_hoa.specs.declared.terms.Act.{Act}
 use Rattle.pg_hoa.specs.declared.terms.Act.TheVariants.{Put, Not, Both, Either, BothTerm, EitherTerm}

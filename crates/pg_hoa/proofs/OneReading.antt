@@ -7,7 +7,8 @@ use Rattle.pg_automaton.specs.declared.shape.Shape.{Shape}
 use Rattle.pg_automaton.specs.Automata.{Step, Automaton, letters, rows, next}
 use Rattle.pg_hoa.specs.AutomatonText.{Spelt, IsUndetermined, head}
 use Rattle.pg_hoa.specs.Laws.{HasOneReading}
-use Rattle.pg_hoa.proofs.SpeltReads.{said_once, letters_below, undetermined_spell_none}
+use Rattle.pg_syntax.proofs.SpeltReads.{said_once}
+use Rattle.pg_hoa.proofs.SpeltOnce.{steps_once, letters_below, undetermined_spell_none}
 
 map_below : {A : Type 0} (f g : ℕ → A) (first count : ℕ) → ((k : ℕ) → k < first + count → f k ≡ g k)
     → map f (range_with_len first count) ≡ map g (range_with_len first count)
@@ -47,7 +48,7 @@ one_automaton bytes a b s t =
     let named : a.propositions ≡ b.propositions = o.settled.names in
     let counted : a.states ≡ b.states = o.states in
     let same_next : (q l : ℕ) → q < a.states → l < letters a → next a q l ≡ next b q l = λ q l below within.
-    s.leads q l below within ∙ ap head (o.steps q l)
+    s.leads q l below within ∙ ap head (steps_once s.written t.written a b o q l)
     ∙ sym (t.leads q l (subst (λ (n : ℕ). q < n) counted below) (letters_below s.written t.written a b l o within)) in
     let steps : a.steps ≡ b.steps =
     s.all ∙ rows_below (next a) (next b) a.states (letters a) same_next
@@ -59,7 +60,8 @@ one_automaton bytes a b s t =
 not_before : (bytes : List ℕ) (state letter q l : ℕ) → IsUndetermined bytes state letter → IsUndetermined bytes q l
     → (state < q) ⊎ ((state ≡ q) × (letter < l)) → ⊥
 not_before bytes state letter q l u v earlier =
-    grind (arith, nat_tests, said_once bytes u.written v.written u.automaton v.automaton u.text v.text u.says v.says)
+    let o = said_once bytes u.written v.written u.automaton v.automaton u.text v.text u.says v.says in
+    grind (arith, nat_tests, o, steps_once u.written v.written u.automaton v.automaton o)
 
 one_conflict : (bytes : List ℕ) (state letter q l : ℕ) → IsUndetermined bytes state letter → IsUndetermined bytes q l → (state ≡ q) × (letter ≡ l)
 one_conflict bytes state letter q l u v =

@@ -8,7 +8,7 @@ use Rattle.pg_automaton.specs.declared.shape.Shape.{Shape}
 use Rattle.pg_automaton.specs.declared.table.Table.{Table}
 use Rattle.pg_automaton.specs.Automata.{Step}
 use Rattle.pg_hoa.specs.AutomatonText.{Agree, head}
-use Rattle.pg_hoa.specs.Mirrors.Kept.{KeptLine}
+use Rattle.pg_syntax.specs.Mirrors.Kept.{KeptLine}
 use Rattle.pg_automaton.specs.Mirrors.Tables.{numbered}
 use Rattle.pg_hoa.specs.Mirrors.Tables.{Stage, Leads, IsFilled, Adds, at_lines, kept_steps, IsTableOf, IsFirstConflict}
 use Rattle.pg_hoa.specs.Mirrors.Letters.{truth}

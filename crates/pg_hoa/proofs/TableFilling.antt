@@ -17,7 +17,7 @@ use Rattle.pg_hoa.specs.declared.table.Way.{Way}
 use Rattle.pg_hoa.specs.Mirrors.Tables.{Stage, same_set, has_key, agree, HasKey, Covers, Leads, Extends, IsFilled, Adds, IsCovered, IsDecided}
 use Rattle.pg_hoa.specs.Mirrors.Tables.{when, way_step, at_slot}
 use Rattle.pg_hoa.specs.Mirrors.Letters.{truth}
-use Rattle.pg_hoa.proofs.Lists.{both_true}
+use Rattle.pg_syntax.proofs.Lists.{both_true}
 use Rattle.pg_lists.proofs.Steps.{some, some_is, none_is_some}
 
 -- ---- steps that agree

@@ -12,18 +12,18 @@ use Rattle.std.proofs.lemmas.Nat.{div-add-mod', mod_below, mul-le, pow-add, pow_
 use Rattle.std.proofs.lemmas.Nat.Bits.{bit_at-zero, bit_at-trailing_zeros}
 use Rattle.std.proofs.lemmas.List.{map-append, flat_map_more, take_more, get_or-set_same, get_or-set_other}
 use Rattle.std.proofs.lemmas.List.Elements.{filter-append}
-use Rattle.pg_hoa.specs.declared.formula.Op.{Op}
+use Rattle.pg_syntax.specs.declared.formula.Op.{Op}
 use Rattle.pg_automaton.specs.Automata.{Step, step, deciding}
 use Rattle.pg_hoa.specs.declared.table.Covered.{Covered}
 use Rattle.pg_hoa.specs.declared.table.Way.{Way}
 use Rattle.pg_lists.specs.Rising.{rising}
-use Rattle.pg_hoa.specs.Mirrors.Kept.{KeptEdge, KeptLine}
+use Rattle.pg_syntax.specs.Mirrors.Kept.{KeptEdge, KeptLine}
 use Rattle.pg_hoa.specs.Mirrors.Saying.{says}
 use Rattle.pg_hoa.specs.Mirrors.Letters.{truth, truth_in, on_at}
 use Rattle.pg_automaton.specs.declared.shape.Shape.{Shape}
 use Rattle.pg_hoa.proofs.TableFilling.{adds_then, adds_covered, adds_wider, adds_noted, own_key, has_first, has_behind}
 use Rattle.pg_hoa.proofs.TableWords.{truth_and, truth_or, truth_not, truth_none}
-use Rattle.pg_hoa.proofs.Lists.{both_true}
+use Rattle.pg_syntax.proofs.Lists.{both_true}
 use Rattle.pg_hoa.specs.Mirrors.Acts.{SpeaksOf}
 use Rattle.pg_hoa.specs.Mirrors.Tables.{Stage, HasKey, Adds, IsCovered, IsDecided, IsOf, IsRow, when, within, way_step, at_slot, at_word}
 use Rattle.pg_hoa.specs.Mirrors.Tables.{at_letters, at_line, at_lines, IsSplit}

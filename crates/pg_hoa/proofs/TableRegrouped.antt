@@ -13,11 +13,11 @@ use Rattle.std.proofs.lemmas.List.Folds.{list_any-append}
 use Rattle.pg_automaton.specs.declared.shape.Shape.{Shape}
 use Rattle.pg_automaton.specs.Automata.{Step, deciding}
 use Rattle.pg_hoa.specs.AutomatonText.{Agree}
-use Rattle.pg_hoa.specs.Mirrors.Kept.{KeptEdge}
+use Rattle.pg_syntax.specs.Mirrors.Kept.{KeptEdge}
 use Rattle.pg_hoa.specs.Mirrors.Tables.{Stage, same_set, has_key, HasKey, Leads, Adds, IsRegrouped, edge_step, says_at, at_line}
 use Rattle.pg_hoa.proofs.TableFilling.{SameKey, same_set_is, own_key, is_key, only_key, has_first, has_later, has_more, has_behind}
 use Rattle.pg_hoa.proofs.TablePlaces.{line_of}
-use Rattle.pg_hoa.proofs.Lists.{both_true}
+use Rattle.pg_syntax.proofs.Lists.{both_true}
 
 -- ---- filters
 

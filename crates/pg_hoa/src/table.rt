@@ -5,21 +5,19 @@ ghost use Rattle.std.specs.Prelude.{false, Some, IfSome, IfOk, OnOk, IfErr};
 ghost use Rattle.std.specs.List.{All, fold};
 ghost use Rattle.pg_automaton.specs.Automata.{deciding};
 ghost use Rattle.pg_lists.specs.Rising.{rising};
-ghost use Rattle.pg_hoa.specs.declared.formula.Op.{Op};
-ghost use Rattle.pg_hoa.specs.Mirrors.Kept.{kept_edge, kept_line};
+ghost use Rattle.pg_syntax.specs.declared.formula.Op.{Op};
+ghost use Rattle.pg_syntax.specs.Mirrors.Kept.{kept_edge, kept_line};
 ghost use Rattle.pg_automaton.specs.Mirrors.Tables.{numbered, next};
 ghost use Rattle.pg_hoa.specs.Mirrors.Tables.{Stage, way_step, IsDecided, IsOf, IsRow, IsCovered, IsRegrouped, with_set, with_sets, same_set, agree, Extends, IsPlaced};
 ghost use Rattle.pg_hoa.specs.Mirrors.Tables.{stage, IsSplit, MayNumber, Adds, at_slot, at_word, at_letters, at_line, IsTableOf, IsConflictOf};
-ghost use Rattle.pg_hoa.specs.Mirrors.Tables.{kept_numbers, kept_count};
 ghost use Rattle.pg_hoa.specs.Mirrors.Letters.{truth, truth_in};
 ghost use Rattle.pg_hoa.specs.Mirrors.Acts.{SpeaksOf};
 
-use crate::body::{Edge, ReadState};
 use crate::fault::Conflict;
-use crate::formula::Op;
 use crate::letters::words_of;
 use crate::terms::{Act, acts_of};
 use pg_automaton::{Shape, Stored, Table, numbered};
+use pg_syntax::{Edge, Op, ReadState};
 use std::alloc::{AllocError, Global};
 use std::collections::BTreeMap;
 
@@ -578,27 +576,4 @@ pub fn table_of(
         steps: filling.steps,
         lists: filling.lists,
     })
-}
-
-/// One more than the greatest of the number and the states that the lines name, if it is below 2^32.
-pub fn states_named(lines: &[ReadState], start: u32) -> u32
-    ensures { kept_count start (map kept_line lines.now) < 2 ^ 32
-        → result ≡ kept_count start (map kept_line lines.now) }
-{
-    let mut greatest = start;
-    for line in lines {
-        greatest = greatest_of(line, greatest);
-    }
-    greatest.saturating_add(1)
-}
-
-/// The greatest of the number and the states that the line names.
-fn greatest_of(line: &ReadState, number: u32) -> u32
-    ensures { result ≡ fold max number (kept_numbers (kept_line line.now)) }
-{
-    let mut greatest = number.max(line.state);
-    for edge in &line.edges {
-        greatest = greatest.max(edge.target);
-    }
-    greatest
 }

@@ -6,8 +6,8 @@ ghost use Rattle.pg_hoa.specs.Mirrors.Saying.{top, under, perform};
 ghost use Rattle.pg_hoa.specs.Mirrors.Letters.{truth, on_at};
 ghost use Rattle.pg_hoa.specs.Mirrors.Acts.{fits, done, Tells};
 
-use crate::formula::Op;
 use crate::letters::mask;
+use pg_syntax::Op;
 use std::alloc::AllocError;
 
 /// Letters at the bits of the word, in the blocks whose number has at the bits of `care` what `value` has.

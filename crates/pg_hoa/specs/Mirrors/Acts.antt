@@ -1,6 +1,6 @@
 -- What acts do to a stack of truths of the letters of blocks.
 use Rattle.std.specs.Prelude.{◌≡◌, ℕ, ◌+◌, ◌*◌, ◌<◌, ◌==◌, Bool, true, false, ◌&&◌, ◌||◌, List, [], ◌∷◌, if◌then◌else◌, bit_and}
-use Rattle.pg_hoa.specs.declared.formula.Op.{Op}
+use Rattle.pg_syntax.specs.declared.formula.Op.{Op}
 use Rattle.pg_hoa.specs.declared.terms.Term.{Term}
 use Rattle.pg_hoa.specs.declared.terms.Act.{Act}
 use Rattle.pg_hoa.specs.declared.terms.Act.TheVariants.{Put, Not, Both, Either, BothTerm, EitherTerm}

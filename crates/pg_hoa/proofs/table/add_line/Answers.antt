@@ -4,8 +4,8 @@ use Rattle.std.proofs.lemmas.List.{append-nil, take_all}
 use Rattle.pg_lists.specs.Rising.{rising}
 use Rattle.pg_lists.proofs.Steps.{some}
 use Rattle.pg_automaton.specs.Automata.{step}
-use Rattle.pg_hoa.specs.declared.body.Edge.{Edge}
-use Rattle.pg_hoa.specs.Mirrors.Kept.{kept_edge}
+use Rattle.pg_syntax.specs.declared.body.Edge.{Edge}
+use Rattle.pg_syntax.specs.Mirrors.Kept.{kept_edge}
 use Rattle.pg_hoa.specs.Mirrors.Tables.{stage, Adds, IsRegrouped, at_line, at_letters}
 use Rattle.pg_hoa.proofs.Counting.{none_counts, all_count}
 use Rattle.pg_hoa.proofs.TableFilling.{adds_none, adds_then, adds_extended}

@@ -6,8 +6,8 @@ use Rattle.std.proofs.lemmas.List.{take_all}
 use Rattle.std.proofs.lemmas.Fn.{always_returns_same}
 use Rattle.pg_automaton.specs.Automata.{deciding}
 use Rattle.pg_lists.specs.Rising.{rising}
-use Rattle.pg_hoa.specs.declared.body.Edge.{Edge}
-use Rattle.pg_hoa.specs.Mirrors.Kept.{KeptEdge, kept_edge}
+use Rattle.pg_syntax.specs.declared.body.Edge.{Edge}
+use Rattle.pg_syntax.specs.Mirrors.Kept.{KeptEdge, kept_edge}
 use Rattle.pg_hoa.specs.Mirrors.Tables.{has_key, edge_step, same_set, with_sets}
 use Rattle.pg_hoa.proofs.Counting.{all_count}
 use Rattle.pg_hoa.proofs.TableRegrouped.{stable_test, filter_mapped_as, mapped_twice, key_cmp, same_ties}

@@ -7,8 +7,8 @@ use Rattle.std.proofs.lemmas.List.Elements.{All-get_or}
 use Rattle.std.proofs.Math.Pow.{pow_mono}
 use Rattle.std.proofs.Math.Nat.{mod-le, div-le_self, mul-le-mul_right}
 use Rattle.std.specs.List.{All}
-use Rattle.pg_hoa.specs.declared.body.ReadState.{ReadState}
-use Rattle.pg_hoa.specs.Mirrors.Kept.{kept_line}
+use Rattle.pg_syntax.specs.declared.body.ReadState.{ReadState}
+use Rattle.pg_syntax.specs.Mirrors.Kept.{kept_line}
 use Rattle.pg_hoa.specs.Mirrors.Tables.{stage, at_line, at_lines, IsFirstConflict}
 use Rattle.pg_hoa.proofs.TableFilling.{adds_then}
 use Rattle.pg_hoa.proofs.TablePlaces.{more_lines, more_items}

@@ -1,5 +1,5 @@
 use Rattle.std.proofs.Common.{◌^◌, take, map}
-use Rattle.pg_hoa.specs.Mirrors.Kept.{kept_line}
+use Rattle.pg_syntax.specs.Mirrors.Kept.{kept_line}
 use Rattle.pg_hoa.specs.Mirrors.Tables.{stage, Adds, at_lines}
 use Rattle.pg_hoa.proofs.table.table_of.Given as goal
 
