@@ -12,7 +12,7 @@ use Rattle.pg_automaton.specs.Shapes.{FitsShape}
 use Rattle.pg_automaton.specs.Automata.{Automaton, IsAutomaton, IsPropositionName, IsStepOf, letters, rows, next}
 use Rattle.pg_automaton.specs.Mirrors.Tables as tables
 use Rattle.pg_syntax.specs.Syntax.{StateLine, LineFits, Written, Says, controls}
-use Rattle.pg_syntax.specs.Mirrors.Kept.{KeptLine, line_kept}
+use Rattle.pg_syntax.specs.Mirrors.Kept.{KeptLine, kept_of_line}
 use Rattle.pg_syntax.specs.Mirrors.Readings.{Declares, bare_automaton}
 use Rattle.pg_hoa.specs.AutomatonText.{Spelt, IsUndetermined, Agree, head, steps_of}
 use Rattle.pg_hoa.specs.Mirrors.Tables.{kept_steps, IsTableOf, IsFirstConflict}
@@ -33,14 +33,14 @@ pub record IsOf (b : Automaton) (t : Table) (a : Automaton) : Type 0 where
 -- ---- what a text says is good for a table
 
 states_kept : (n propositions sets : ℕ) (lines : List StateLine) → AllByRecursion (LineFits n propositions sets) lines
-    → AllByRecursion (λ (l : KeptLine). l.state < n) (map line_kept lines)
+    → AllByRecursion (λ (l : KeptLine). l.state < n) (map kept_of_line lines)
 states_kept n propositions sets [] fit = tt
 states_kept n propositions sets (l ∷ lines) fit = (fit.0.state, states_kept n propositions sets lines fit.1)
 
 -- each line is of a state
 pub lines_below : (bytes : List ℕ) (b : Automaton) (lines : List KeptLine) → Declares bytes b lines → All (λ l. l.state < b.states) lines
 lines_below bytes b lines d = subst (All (λ (l : KeptLine). l.state < b.states)) d.kept
-    (All-from_recursion (λ (l : KeptLine). l.state < b.states) (map line_kept d.written.lines)
+    (All-from_recursion (λ (l : KeptLine). l.state < b.states) (map kept_of_line d.written.lines)
     (states_kept b.states (length b.propositions) b.sets d.written.lines d.says.lines))
 
 -- ---- an automaton
@@ -89,7 +89,8 @@ table_is_automaton bytes b lines t a d table is = assembles b lines t a (can_ass
 same_automaton : (states states2 start start2 : ℕ) (propositions propositions2 : List (List ℕ)) (controllable controllable2 : List Bool)
     (sets sets2 : ℕ) (shape shape2 : Shape)
     → states ≡ states2 → start ≡ start2 → propositions ≡ propositions2 → controllable ≡ controllable2 → sets ≡ sets2 → shape ≡ shape2
-    → bare_automaton states start propositions controllable sets shape ≡ bare_automaton states2 start2 propositions2 controllable2 sets2 shape2
+    → bare_automaton states start propositions controllable sets shape ≡ bare_automaton states2 start2 propositions2 controllable2 sets2
+    shape2
 same_automaton states states2 start start2 propositions propositions2 controllable controllable2 sets sets2 shape shape2 p q r s t u = cc
 
 table_says : (w : Written) (b : Automaton) (t : Table) (a : Automaton) → t.states ≡ b.states → IsOf b t a → Says w b → Says w a
@@ -103,7 +104,8 @@ table_says w b t a e is says =
     )
 
 -- all steps of the automaton
-all_steps : (b : Automaton) (lines : List KeptLine) (t : Table) (a : Automaton) → IsTableOf b.shape lines b.states (2 ^ length b.propositions) t
+all_steps : (b : Automaton) (lines : List KeptLine) (t : Table) (a : Automaton)
+    → IsTableOf b.shape lines b.states (2 ^ length b.propositions) t
     → IsOf b t a → a.steps ≡ rows (next a) a.states (letters a)
 all_steps b lines t a table is = grind (arith, nat_tests)
 

@@ -1,7 +1,7 @@
-pub mod Acts
 pub mod Assembling
 pub mod Counting
 pub mod GoodSteps
+pub mod Instructions
 pub mod OneReading
 pub mod Refusing
 pub mod Saying

@@ -29,7 +29,8 @@ part_refused bytes len NotParity none = none_at_all bytes none
 part_refused bytes len TooLarge none = none_at_all bytes none
 part_refused bytes len (BadName proposition) none = none_at_all bytes none
 
-pub refusal_refused : (bytes : List ℕ) (len : ℕ) (refusal : Refusal) → SaysNothing bytes refusal → IsRefused bytes (refusal_in_text len refusal)
+pub refusal_refused : (bytes : List ℕ) (len : ℕ) (refusal : Refusal) → SaysNothing bytes refusal
+    → IsRefused bytes (refusal_in_text len refusal)
 refusal_refused bytes len refusals.Memory none = tt
 refusal_refused bytes len (refusals.Wrong fault) none = part_refused bytes len fault none
 

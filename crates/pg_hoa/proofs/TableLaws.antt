@@ -13,7 +13,7 @@ use Rattle.pg_automaton.specs.Formulas.{holds}
 use Rattle.pg_syntax.specs.declared.formula.Op.{Op}
 use Rattle.pg_syntax.specs.declared.formula.Op.TheVariants.{No}
 use Rattle.pg_syntax.specs.Syntax.{Edge, StateLine, set_list}
-use Rattle.pg_syntax.specs.Mirrors.Kept.{KeptEdge, KeptLine, is_never, one_or_two, put_edge, put_edges, edge_kept, line_kept}
+use Rattle.pg_syntax.specs.Mirrors.Kept.{KeptEdge, KeptLine, is_never, one_or_two, put_edge, put_edges, kept_of_edge, kept_of_line}
 use Rattle.pg_syntax.proofs.Lists.{both_true}
 use Rattle.pg_syntax.proofs.SetLists.{rising_alike}
 use Rattle.pg_hoa.specs.AutomatonText.{edge_steps, steps_of}
@@ -46,12 +46,14 @@ two_filtered letter x e =
       | false ↦ λ h. refl
     ] refl
 
-put_filtered : (letter : ℕ) (kept : List KeptEdge) (e : KeptEdge) → filter (says_at letter) (put_edge kept e) ≡ filter (says_at letter) (kept ++ (e ∷ []))
+put_filtered : (letter : ℕ) (kept : List KeptEdge) (e : KeptEdge)
+    → filter (says_at letter) (put_edge kept e) ≡ filter (says_at letter) (kept ++ (e ∷ []))
 put_filtered letter [] e = refl
 put_filtered letter (x ∷ []) e = two_filtered letter x e
 put_filtered letter (x ∷ y ∷ kept) e = ap (λ (es : List KeptEdge). cond (says_at letter x) (x ∷ es) es) (put_filtered letter (y ∷ kept) e)
 
-pub puts_filtered : (letter : ℕ) (kept edges : List KeptEdge) → filter (says_at letter) (put_edges kept edges) ≡ filter (says_at letter) (kept ++ edges)
+pub puts_filtered : (letter : ℕ) (kept edges : List KeptEdge)
+    → filter (says_at letter) (put_edges kept edges) ≡ filter (says_at letter) (kept ++ edges)
 puts_filtered letter kept [] = ap (filter (says_at letter)) (sym (append-nil kept))
 puts_filtered letter kept (e ∷ edges) =
     puts_filtered letter (put_edge kept e) edges
@@ -79,30 +81,33 @@ once_more own more = rising_alike (rising own ++ rising more) (own ++ more)
     ∙ ap (λ b. has q own || b) (has_rising q more) ∙ sym (list_any-append (λ n. q == n) own more))
 
 edges_are : (letter : ℕ) (own : List ℕ) (edges : List Edge)
-    → map (edge_step (rising own)) (filter (says_at letter) (map edge_kept edges)) ≡ map (written_step own) (filter (holds_at letter) edges)
+    → map (edge_step (rising own)) (filter (says_at letter) (map kept_of_edge edges)) ≡ map (written_step own)
+    (filter (holds_at letter) edges)
 edges_are letter own [] = refl
 edges_are letter own (e ∷ edges) =
-    let kept = map edge_kept edges in
+    let kept = map kept_of_edge edges in
     let all = filter (says_at letter) kept in
-    mapped (edge_step (rising own)) (says_at letter (edge_kept e)) (edge_kept e) all
-    ∙ ap (λ b. cond b (edge_step (rising own) (edge_kept e) ∷ map (edge_step (rising own)) all) (map (edge_step (rising own)) all))
+    mapped (edge_step (rising own)) (says_at letter (kept_of_edge e)) (kept_of_edge e) all
+    ∙ ap (λ b. cond b (edge_step (rising own) (kept_of_edge e) ∷ map (edge_step (rising own)) all) (map (edge_step (rising own)) all))
     (postfix_says e.letter (λ a. bit_at letter a == 1))
     ∙ ap (λ sets. cond (holds_at letter e) (step e.target sets ∷ map (edge_step (rising own)) all) (map (edge_step (rising own)) all))
     (once_more own (set_list e.sets))
     ∙ ap (λ l. cond (holds_at letter e) (written_step own e ∷ l) l) (edges_are letter own edges)
     ∙ sym (mapped (written_step own) (holds_at letter e) e (filter (holds_at letter) edges))
 
-line_is : (state letter : ℕ) (l : StateLine) → kept_edge_steps state letter (line_kept l) ≡ edge_steps state letter l
+line_is : (state letter : ℕ) (l : StateLine) → kept_edge_steps state letter (kept_of_line l) ≡ edge_steps state letter l
 line_is state letter l =
     let own = set_list l.sets in
-    let same = ap (map (edge_step (rising own))) (puts_filtered letter [] (map edge_kept l.edges)) ∙ edges_are letter own l.edges in
+    let same = ap (map (edge_step (rising own))) (puts_filtered letter [] (map kept_of_edge l.edges)) ∙ edges_are letter own l.edges in
     ap (λ (steps : List Step). cond (l.state == state) steps []) same
 
-pub kept_steps_are : (lines : List StateLine) (state letter : ℕ) → kept_steps (map line_kept lines) state letter ≡ steps_of lines state letter
+pub kept_steps_are : (lines : List StateLine) (state letter : ℕ)
+    → kept_steps (map kept_of_line lines) state letter ≡ steps_of lines state letter
 kept_steps_are [] state letter = refl
-kept_steps_are (l ∷ lines) state letter = ap (λ s. s ++ kept_steps (map line_kept lines) state letter) (line_is state letter l)
+kept_steps_are (l ∷ lines) state letter = ap (λ s. s ++ kept_steps (map kept_of_line lines) state letter) (line_is state letter l)
     ∙ ap (λ s. edge_steps state letter l ++ s) (kept_steps_are lines state letter)
 
-pub written_steps : (lines : List StateLine) (kept : List KeptLine) (state letter : ℕ) → map line_kept lines ≡ kept
+pub written_steps : (lines : List StateLine) (kept : List KeptLine) (state letter : ℕ) → map kept_of_line lines ≡ kept
     → kept_steps kept state letter ≡ steps_of lines state letter
-written_steps lines kept state letter e = ap (λ (ls : List KeptLine). kept_steps ls state letter) (sym e) ∙ kept_steps_are lines state letter
+written_steps lines kept state letter e = ap (λ (ls : List KeptLine). kept_steps ls state letter) (sym e)
+    ∙ kept_steps_are lines state letter

@@ -37,8 +37,10 @@ pub record Spelt (bytes : List ℕ) (a : Automaton) : Type 0 where
   pub written : Written
   pub text : IsText bytes written
   pub says : Says written a
-  pub deterministic : (state letter : ℕ) → state < a.states → letter < 2 ^ length a.propositions → IsDeterministicAt a written.lines state letter
-  pub leads : (state letter : ℕ) → state < a.states → letter < 2 ^ length a.propositions → next a state letter ≡ head (steps_of written.lines state letter)
+  pub deterministic : (state letter : ℕ) → state < a.states → letter < 2 ^ length a.propositions
+      → IsDeterministicAt a written.lines state letter
+  pub leads : (state letter : ℕ) → state < a.states → letter < 2 ^ length a.propositions
+      → next a state letter ≡ head (steps_of written.lines state letter)
   pub all : a.steps ≡ rows (next a) a.states (letters a)
 
 -- the bytes are a text that is good but for its determinism, which fails at the state and letter and nowhere before

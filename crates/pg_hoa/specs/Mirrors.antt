@@ -1,6 +1,6 @@
 -- What mirrors code: contracts of private functions cite it, and no definition that a reader has to believe does.
-pub mod Acts
 pub mod Faults
+pub mod Instructions
 pub mod Letters
 pub mod Saying
 pub mod Tables

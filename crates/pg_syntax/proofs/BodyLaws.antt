@@ -12,14 +12,15 @@ use Rattle.std.proofs.lemmas.Bool.Decides.{eqb_tells, nat_tests}
 use Rattle.std.proofs.lemmas.Slice.Eq.{bytes_eq-Decides}
 use Rattle.pg_syntax.specs.declared.formula.Kind.TheVariants.{Label}
 use Rattle.pg_syntax.specs.declared.formula.Op.{Op}
-use Rattle.pg_syntax.specs.Lexemes.{Lexeme, number, header, string, end, left_bracket, right_bracket, left_brace, right_brace, ampersand, stray, Character}
+use Rattle.pg_syntax.specs.Lexemes.{Lexeme, number, header, string, end, left_bracket, right_bracket, left_brace, right_brace, ampersand}
+use Rattle.pg_syntax.specs.Lexemes.{stray, Character}
 use Rattle.pg_syntax.specs.FormulaTexts.{formula_lexemes}
 use Rattle.pg_syntax.specs.Mirrors.FormulaRun.{ops_at}
 use Rattle.pg_syntax.specs.Mirrors.Scan.{first, IsToken}
 use Rattle.pg_automaton.specs.Mirrors.Steps.{◌>>=◌}
 use Rattle.pg_syntax.specs.Syntax.{Edge, StateLine, sets_lexemes, name_lexemes, edge_lexemes, state_lexemes, set_list, EachBelow}
 use Rattle.pg_syntax.specs.Syntax.{IsDistinct, EdgeFits, LineFits}
-use Rattle.pg_syntax.specs.Mirrors.Kept.{KeptEdge, KeptLine, put_edges, edge_kept, line_kept}
+use Rattle.pg_syntax.specs.Mirrors.Kept.{KeptEdge, KeptLine, put_edges, kept_of_edge, kept_of_line}
 use Rattle.pg_syntax.specs.Mirrors.BodyScan.{due, state_of, new_state, set_in, behind_set, sets_at, rising_sets_at, sets_before, sets_if}
 use Rattle.pg_syntax.specs.Mirrors.BodyScan.{bracket_first, behind_label, single, target_at, edge_at, begins_edge, edges_within, edges_at}
 use Rattle.pg_syntax.specs.Mirrors.BodyScan.{kept_edges_at, name_first, behind_name, line_at, begins_line, is_seen, lines_within, body_at}
@@ -86,7 +87,8 @@ sets_take sets (t ∷ rest) x e =
     let b = bind_some (set_in sets t) (behind_set (sets_at sets rest) rest) x e in
     one_set sets t rest b.0 x (sets_take sets rest) b.1 b.2
 
-sets_again : (sets : ℕ) (ns : List ℕ) (rest : List Lexeme) → EachBelow sets ns → sets_at sets (map number ns ++ (right_brace ∷ rest)) ≡ Some (ns, rest)
+sets_again : (sets : ℕ) (ns : List ℕ) (rest : List Lexeme) → EachBelow sets ns
+    → sets_at sets (map number ns ++ (right_brace ∷ rest)) ≡ Some (ns, rest)
 unfolding sets_at set_in
 sets_again sets [] rest h = refl
 sets_again sets (n ∷ ns) rest h =
@@ -160,7 +162,8 @@ single_is : (target x : ℕ × List Lexeme) (t : Lexeme) (rest : List Lexeme) �
 single_is target x ampersand rest e = absurd (none_is_some x e)
 single_is target x t rest e = some_is target x e
 
-target_takes : (states : ℕ) (tokens : List Lexeme) (x : ℕ × List Lexeme) → target_at states tokens ≡ Some x → (tokens ≡ number x.0 ∷ x.1) × (x.0 < states)
+target_takes : (states : ℕ) (tokens : List Lexeme) (x : ℕ × List Lexeme) → target_at states tokens ≡ Some x
+    → (tokens ≡ number x.0 ∷ x.1) × (x.0 < states)
 unfolding target_at
 target_takes states tokens x e =
     let a = bind_some (due tokens) (λ y. state_of states y.0 >>= λ n. due y.1 >>= single (n, y.1)) x e in
@@ -190,7 +193,7 @@ record ReadEdge (states propositions sets : ℕ) (tokens : List Lexeme) (x : Kep
   edge : Edge
   fits : EdgeFits states propositions sets edge
   is : tokens ≡ inner_edge edge ++ x.1
-  kept : edge_kept edge ≡ x.0
+  kept : kept_of_edge edge ≡ x.0
 
 edge_takes : (states propositions sets : ℕ) (tokens : List Lexeme) (x : KeptEdge × List Lexeme)
     → edge_at states propositions sets tokens ≡ Some x → ReadEdge states propositions sets tokens x
@@ -198,7 +201,9 @@ unfolding edge_at
 edge_takes states propositions sets tokens x e =
     let a = bind_some (ops_at (Label propositions) tokens)
     (λ x. behind_label x.1 >>= λ rest. target_at states rest >>= λ y. sets_if sets y.1 >>= λ z. some (kept x.0 y.0 z.0, z.1)) x e in
-    let b = bind_some (behind_label a.0.1) (λ rest. target_at states rest >>= λ y. sets_if sets y.1 >>= λ z. some (kept a.0.0 y.0 z.0, z.1)) x a.2 in
+    let b =
+    bind_some (behind_label a.0.1) (λ rest. target_at states rest >>= λ y. sets_if sets y.1 >>= λ z. some (kept a.0.0 y.0 z.0, z.1)) x
+    a.2 in
     let c = bind_some (target_at states b.0) (λ y. sets_if sets y.1 >>= λ z. some (kept a.0.0 y.0 z.0, z.1)) x b.2 in
     let d = bind_some (sets_if sets c.0.1) (λ z. some (kept a.0.0 c.0.0 z.0, z.1)) x c.2 in
     let same = some_is (kept a.0.0 c.0.0 d.0.0, d.0.1) x d.2 in
@@ -230,7 +235,7 @@ edge_shorter states propositions sets tokens x e =
     omega (arith, ap length read.is, length-append (inner_edge read.edge) x.1)
 
 edge_again : (states propositions sets : ℕ) (e : Edge) (rest : List Lexeme) → EdgeFits states propositions sets e → Opens rest
-    → edge_at states propositions sets (inner_edge e ++ rest) ≡ Some (edge_kept e, rest)
+    → edge_at states propositions sets (inner_edge e ++ rest) ≡ Some (kept_of_edge e, rest)
 unfolding edge_at behind_label due
 edge_again states propositions sets e rest h o =
     grind (
@@ -254,9 +259,10 @@ record ReadEdges (states propositions sets : ℕ) (tokens : List Lexeme) (x : Li
   edges : List Edge
   fit : AllByRecursion (EdgeFits states propositions sets) edges
   is : tokens ≡ flat_map edge_lexemes edges ++ x.1
-  kept : map edge_kept edges ≡ x.0
+  kept : map kept_of_edge edges ≡ x.0
 
-one_edge : (states propositions sets : ℕ) (tokens : List Lexeme) (t : Lexeme × List Lexeme) (x : KeptEdge × List Lexeme) (y all : List KeptEdge × List Lexeme)
+one_edge : (states propositions sets : ℕ) (tokens : List Lexeme) (t : Lexeme × List Lexeme) (x : KeptEdge × List Lexeme)
+    (y all : List KeptEdge × List Lexeme)
     → tokens ≡ t.0 ∷ t.1 → t.0 ≡ left_bracket → ReadEdge states propositions sets t.1 x → ReadEdges states propositions sets x.1 y
     → (x.0 ∷ y.0, y.1) ≡ all → ReadEdges states propositions sets tokens all
 one_edge states propositions sets tokens t x y all is first one more same =
@@ -267,7 +273,7 @@ one_edge states propositions sets tokens t x y all is first one more same =
           is ∙ ap (λ (u : Lexeme). u ∷ t.1) first
           ∙ ap (λ (ts : List Lexeme). left_bracket ∷ ts) (one.is ∙ ap (λ (ts : List Lexeme). inner_edge one.edge ++ ts) more.is)
           ∙ sym (append_assoc (edge_lexemes one.edge) (flat_map edge_lexemes more.edges) y.1);
-      kept = ap (λ (e : KeptEdge). e ∷ map edge_kept more.edges) one.kept ∙ ap (λ (es : List KeptEdge). x.0 ∷ es) more.kept;
+      kept = ap (λ (e : KeptEdge). e ∷ map kept_of_edge more.edges) one.kept ∙ ap (λ (es : List KeptEdge). x.0 ∷ es) more.kept;
     })
 
 no_edges : (states propositions sets : ℕ) (tokens : List Lexeme) (all : List KeptEdge × List Lexeme) → ([], tokens) ≡ all
@@ -280,12 +286,16 @@ edges_take : (n states propositions sets : ℕ) (tokens : List Lexeme) (x : List
 unfolding edges_within
 edges_take zero states propositions sets tokens x e = absurd (none_is_some x e)
 edges_take (suc n) states propositions sets tokens x e =
-    let one = λ (t : Lexeme × List Lexeme). edge_at states propositions sets t.1 >>= λ x. edges_within n states propositions sets x.1 >>= λ y. some (x.0 ∷ y.0, y.1) in
+    let one =
+    λ (t : Lexeme × List Lexeme). edge_at states propositions sets t.1 >>= λ x. edges_within n states propositions sets x.1 >>= λ y.
+    some (x.0 ∷ y.0, y.1) in
     let a = bind_some (due tokens) (λ t. begins_edge t.0 >>= λ more. cond more (one t) (some ([], tokens))) x e in
     let b = bind_some (begins_edge a.0.0) (λ more. cond more (one a.0) (some ([], tokens))) x a.2 in
     elim (chosen b.0 (one a.0) (some ([], tokens)) (some x) b.2) [
       | inl c ↦
-          let d = bind_some (edge_at states propositions sets a.0.1) (λ x. edges_within n states propositions sets x.1 >>= λ y. some (x.0 ∷ y.0, y.1)) x c.1 in
+          let d =
+          bind_some (edge_at states propositions sets a.0.1)
+          (λ x. edges_within n states propositions sets x.1 >>= λ y. some (x.0 ∷ y.0, y.1)) x c.1 in
           let f = bind_some (edges_within n states propositions sets d.0.1) (λ y. some (d.0.0 ∷ y.0, y.1)) x d.2 in
           one_edge states propositions sets tokens a.0 d.0 f.0 x (due_is tokens a.0 a.1) (edge_begins a.0.0 b.0 b.1 c.0)
           (edge_takes states propositions sets a.0.1 d.0 d.1) (edges_take n states propositions sets d.0.1 f.0 f.1)
@@ -307,7 +317,8 @@ opens_edges [] (header w ∷ rest) h = tt
 opens_edges [] (end ∷ rest) h = tt
 opens_edges [] (t ∷ rest) h = absurd h
 
-edges_end : (n states propositions sets : ℕ) (rest : List Lexeme) → Leaves rest → edges_within (suc n) states propositions sets rest ≡ Some ([], rest)
+edges_end : (n states propositions sets : ℕ) (rest : List Lexeme) → Leaves rest
+    → edges_within (suc n) states propositions sets rest ≡ Some ([], rest)
 unfolding edges_within due begins_edge
 edges_end n states propositions sets [] h = absurd h
 edges_end n states propositions sets (header w ∷ rest) h = refl
@@ -316,7 +327,7 @@ edges_end n states propositions sets (t ∷ rest) h = absurd h
 
 edges_again : (n states propositions sets : ℕ) (es : List Edge) (rest : List Lexeme) → AllByRecursion (EdgeFits states propositions sets) es
     → Leaves rest → length (flat_map edge_lexemes es ++ rest) < n
-    → edges_within n states propositions sets (flat_map edge_lexemes es ++ rest) ≡ Some (map edge_kept es, rest)
+    → edges_within n states propositions sets (flat_map edge_lexemes es ++ rest) ≡ Some (map kept_of_edge es, rest)
 unfolding edges_within due begins_edge
 edges_again zero states propositions sets es rest h o enough = absurd (omega arith)
 edges_again (suc n) states propositions sets [] rest h o enough = edges_end n states propositions sets rest o
@@ -336,7 +347,8 @@ edges_again (suc n) states propositions sets (e ∷ es) rest h o enough =
 
 -- ---- one line
 
-name_takes : (tokens rest : List Lexeme) → behind_name tokens ≡ Some rest → (name : Option (List Character)) × (tokens ≡ name_lexemes name ++ rest)
+name_takes : (tokens rest : List Lexeme) → behind_name tokens ≡ Some rest
+    → (name : Option (List Character)) × (tokens ≡ name_lexemes name ++ rest)
 unfolding behind_name
 name_takes tokens rest e =
     let b = bind_some (due tokens) (name_first tokens) rest e in
@@ -360,7 +372,8 @@ name_again None None (header w ∷ rest) o = refl
 name_again None None (end ∷ rest) o = refl
 name_again None None (t ∷ rest) o = absurd o
 
-new_state_takes : (states : ℕ) (seen : ℕ → Bool) (t : Lexeme) (n : ℕ) → new_state states seen t ≡ Some n → (t ≡ number n) × (n < states) × (seen n ≡ false)
+new_state_takes : (states : ℕ) (seen : ℕ → Bool) (t : Lexeme) (n : ℕ) → new_state states seen t ≡ Some n
+    → (t ≡ number n) × (n < states) × (seen n ≡ false)
 unfolding new_state
 new_state_takes states seen t n e =
     let b = bind_some (state_of states t) (λ m. cond (seen m) None (some m)) n e in
@@ -381,7 +394,7 @@ record ReadLine (states propositions sets : ℕ) (seen : ℕ → Bool) (tokens :
   fits : LineFits states propositions sets line
   new : seen line.state ≡ false
   is : tokens ≡ inner_line line ++ x.1
-  kept : line_kept line ≡ x.0
+  kept : kept_of_line line ≡ x.0
 
 inner_line_is : (l : StateLine) (rest : List Lexeme)
     → inner_line l ++ rest ≡ number l.state ∷ (name_lexemes l.name ++ (sets_lexemes l.sets ++ (flat_map edge_lexemes l.edges ++ rest)))
@@ -399,8 +412,10 @@ line_takes states propositions sets seen tokens x e =
     let c = bind_some (behind_name a.0.1) (with_sets b.0) x b.2 in
     let d = bind_some (sets_if sets c.0) (with_edges b.0) x c.2 in
     let f = bind_some (kept_edges_at states propositions sets d.0.1) (λ z. some (kept b.0 d.0.0 z.0, z.1)) x d.2 in
-    let g = bind_some (edges_at states propositions sets d.0.1) (λ (y : List KeptEdge × List Lexeme). some (put_edges [] y.0, y.1)) f.0 f.1 in
-    read a.0 b.0 c.0 d.0 g.0 (due_is tokens a.0 a.1) (new_state_takes states seen a.0.0 b.0 b.1) (name_takes a.0.1 c.0 c.1) (sets_if_takes sets c.0 d.0 d.1)
+    let g =
+    bind_some (edges_at states propositions sets d.0.1) (λ (y : List KeptEdge × List Lexeme). some (put_edges [] y.0, y.1)) f.0 f.1 in
+    read a.0 b.0 c.0 d.0 g.0 (due_is tokens a.0 a.1) (new_state_takes states seen a.0.0 b.0 b.1) (name_takes a.0.1 c.0 c.1)
+    (sets_if_takes sets c.0 d.0 d.1)
     (edges_take (suc (length d.0.1)) states propositions sets d.0.1 g.0 g.1)
     f.0 (some_is (put_edges [] g.0.0, g.0.1) f.0 g.2) (some_is (kept b.0 d.0.0 f.0.0, f.0.1) x f.2)
   where
@@ -414,7 +429,8 @@ line_takes states propositions sets seen tokens x e =
         → (kept n d.0 g.0, g.1) ≡ x → ReadLine states propositions sets seen tokens x
     read a n c d f is one name own edges g all same =
         let line : StateLine = record { state = n; name = name.0; sets = own.written; edges = edges.edges } in
-        subst (ReadLine states propositions sets seen tokens) (ap (λ (z : List KeptEdge × List Lexeme). (kept n d.0 z.0, z.1)) all ∙ same) (record {
+        subst (ReadLine states propositions sets seen tokens) (ap (λ (z : List KeptEdge × List Lexeme). (kept n d.0 z.0, z.1)) all ∙ same)
+        (record {
           line = line;
           fits = record { state = one.1; own_sets = own.below; edges = edges.fit };
           new = one.2;
@@ -423,7 +439,7 @@ line_takes states propositions sets seen tokens x e =
               ∙ ap (λ (ts : List Lexeme). number n ∷ ts) (name.1 ∙ ap (λ (ts : List Lexeme). name_lexemes name.0 ++ ts)
               (own.is ∙ ap (λ (ts : List Lexeme). sets_lexemes own.written ++ ts) edges.is))
               ∙ sym (inner_line_is line f.1);
-          kept = ap (λ (ns : List ℕ). kept n ns (put_edges [] (map edge_kept edges.edges))) own.kept
+          kept = ap (λ (ns : List ℕ). kept n ns (put_edges [] (map kept_of_edge edges.edges))) own.kept
               ∙ ap (λ (es : List KeptEdge). kept n d.0 (put_edges [] es)) edges.kept;
         })
 
@@ -434,7 +450,7 @@ line_shorter states propositions sets seen tokens x e =
     omega (arith, ap length read.is, length-append (inner_line read.line) x.1)
 
 line_again : (states propositions sets : ℕ) (seen : ℕ → Bool) (l : StateLine) (rest : List Lexeme) → LineFits states propositions sets l
-    → seen l.state ≡ false → Leaves rest → line_at states propositions sets seen (inner_line l ++ rest) ≡ Some (line_kept l, rest)
+    → seen l.state ≡ false → Leaves rest → line_at states propositions sets seen (inner_line l ++ rest) ≡ Some (kept_of_line l, rest)
 unfolding line_at due new_state kept_edges_at edges_at
 line_again states propositions sets seen l rest h new o =
     let enough : length (flat_map edge_lexemes l.edges ++ rest) < suc (length (flat_map edge_lexemes l.edges ++ rest)) = omega arith in
@@ -493,7 +509,8 @@ numbers lines = map (λ l. l.state) lines
 
 apart_distinct : (n : ℕ) (lines : List StateLine) → Apart n lines → Contains (numbers lines) n → ⊥
 apart_distinct n lines h c =
-    let all = All-map (λ m. (n == m) ≡ false) (λ (l : StateLine). l.state) lines (All-from_recursion (λ l. (n == l.state) ≡ false) lines h) in
+    let all =
+    All-map (λ m. (n == m) ≡ false) (λ (l : StateLine). l.state) lines (All-from_recursion (λ l. (n == l.state) ≡ false) lines h) in
     let different : (n == n) ≡ false = All-contains (λ m. (n == m) ≡ false) (numbers lines) n all c in
     let same = eq-eqb n n refl in
     absurd cc
@@ -502,7 +519,8 @@ distinct_apart : (n : ℕ) (lines : List StateLine) → (Contains (numbers lines
 distinct_apart n [] h = tt
 distinct_apart n (l ∷ lines) h = (
   elim (eqb_tells n l.state) [
-    | inl c ↦ absurd (h (Contains-append_left (l.state ∷ []) (numbers lines) n (subst (λ (k : ℕ). Contains (k ∷ []) n) c.1 (Contains-push [] n))))
+    | inl c ↦ absurd (h (Contains-append_left (l.state ∷ []) (numbers lines) n
+        (subst (λ (k : ℕ). Contains (k ∷ []) n) c.1 (Contains-push [] n))))
     | inr c ↦ c.0
   ],
   distinct_apart n lines (λ c. h (Contains-append_right (l.state ∷ []) (numbers lines) n c)),
@@ -512,7 +530,7 @@ distinct_apart n (l ∷ lines) h = (
 record ReadLines (states propositions sets : ℕ) (seen : List ℕ) (tokens : List Lexeme) (x : List KeptLine × List Lexeme) : Type 0 where
   lines : List StateLine
   is : tokens ≡ flat_map state_lexemes lines ++ (end ∷ x.1)
-  kept : map line_kept lines ≡ x.0
+  kept : map kept_of_line lines ≡ x.0
   fit : AllByRecursion (LineFits states propositions sets) lines
   distinct : IsDistinct (numbers lines)
   fresh : Fresh seen lines
@@ -531,13 +549,14 @@ one_line states propositions sets seen tokens t x y all is first one more same =
           is ∙ ap (λ (u : Lexeme). u ∷ t.1) first
           ∙ ap (λ (ts : List Lexeme). header (codes "State") ∷ ts) (one.is ∙ ap (λ (ts : List Lexeme). inner_line one.line ++ ts) more.is)
           ∙ sym (append_assoc (state_lexemes one.line) (flat_map state_lexemes more.lines) (end ∷ y.1));
-      kept = ap (λ (l : KeptLine). l ∷ map line_kept more.lines) one.kept ∙ ap (λ (ls : List KeptLine). x.0 ∷ ls) more.kept;
+      kept = ap (λ (l : KeptLine). l ∷ map kept_of_line more.lines) one.kept ∙ ap (λ (ls : List KeptLine). x.0 ∷ ls) more.kept;
       fit = (one.fits, more.fit);
       distinct = (apart_distinct one.line.state more.lines (subst (λ (n : ℕ). Apart n more.lines) (sym number_is) split.0), more.distinct);
       fresh = (one.new, split.1);
     })
 
-no_lines : (states propositions sets : ℕ) (seen : List ℕ) (tokens : List Lexeme) (t : Lexeme × List Lexeme) (all : List KeptLine × List Lexeme)
+no_lines : (states propositions sets : ℕ) (seen : List ℕ) (tokens : List Lexeme) (t : Lexeme × List Lexeme)
+    (all : List KeptLine × List Lexeme)
     → tokens ≡ t.0 ∷ t.1 → t.0 ≡ end → ([], t.1) ≡ all → ReadLines states propositions sets seen tokens all
 no_lines states propositions sets seen tokens t all is last same = grind (arith, nat_tests)
 
@@ -569,7 +588,7 @@ leaves_lines (l ∷ lines) rest = tt
 lines_again : (n states propositions sets : ℕ) (seen : List ℕ) (lines : List StateLine) (rest : List Lexeme)
     → AllByRecursion (LineFits states propositions sets) lines → IsDistinct (numbers lines) → Fresh seen lines
     → length (flat_map state_lexemes lines ++ (end ∷ rest)) < n
-    → lines_within n states propositions sets seen (flat_map state_lexemes lines ++ (end ∷ rest)) ≡ Some (map line_kept lines, rest)
+    → lines_within n states propositions sets seen (flat_map state_lexemes lines ++ (end ∷ rest)) ≡ Some (map kept_of_line lines, rest)
 unfolding lines_within due begins_line
 lines_again zero states propositions sets seen lines rest h distinct fresh enough = absurd (omega arith)
 lines_again (suc n) states propositions sets seen [] rest h distinct fresh enough = refl
@@ -584,7 +603,8 @@ lines_again (suc n) states propositions sets seen (l ∷ lines) rest h distinct 
     let fresher = fresh_more l.state seen lines (distinct_apart l.state lines distinct.0) fresh.1 in
     rw (
       append_assoc (inner_line l) (flat_map state_lexemes lines) (end ∷ rest),
-      line_again states propositions sets (is_seen seen) l (flat_map state_lexemes lines ++ (end ∷ rest)) h.0 fresh.0 (leaves_lines lines rest),
+      line_again states propositions sets (is_seen seen) l (flat_map state_lexemes lines ++ (end ∷ rest)) h.0 fresh.0
+          (leaves_lines lines rest),
       lines_again n states propositions sets (l.state ∷ seen) lines rest h.1 distinct.1 fresher fewer,
     ) refl
 
@@ -594,7 +614,7 @@ lines_again (suc n) states propositions sets seen (l ∷ lines) rest h distinct 
 pub record ReadBody (states propositions sets : ℕ) (tokens : List Lexeme) (x : List KeptLine × List Lexeme) : Type 0 where
   pub lines : List StateLine
   pub is : tokens ≡ flat_map state_lexemes lines ++ (end ∷ x.1)
-  pub kept : map line_kept lines ≡ x.0
+  pub kept : map kept_of_line lines ≡ x.0
   pub fit : AllByRecursion (LineFits states propositions sets) lines
   pub distinct : IsDistinct (map (λ l. l.state) lines)
 
@@ -607,7 +627,7 @@ body_takes states propositions sets tokens x e =
 
 pub body_again : (states propositions sets : ℕ) (lines : List StateLine) (rest : List Lexeme)
     → AllByRecursion (LineFits states propositions sets) lines → IsDistinct (map (λ l. l.state) lines)
-    → body_at states propositions sets (flat_map state_lexemes lines ++ (end ∷ rest)) ≡ Some (map line_kept lines, rest)
+    → body_at states propositions sets (flat_map state_lexemes lines ++ (end ∷ rest)) ≡ Some (map kept_of_line lines, rest)
 unfolding body_at
 body_again states propositions sets lines rest h distinct =
     grind (
@@ -640,7 +660,8 @@ edge_tokens (e ∷ es) = grind (
 pub line_tokens : (lines : List StateLine) → AllByRecursion IsToken (flat_map state_lexemes lines)
 line_tokens [] = tt
 line_tokens (l ∷ lines) =
-    let sets_and_edges = all_of_both IsToken (sets_lexemes l.sets) (flat_map edge_lexemes l.edges) (set_tokens l.sets) (edge_tokens l.edges) in
+    let sets_and_edges =
+    all_of_both IsToken (sets_lexemes l.sets) (flat_map edge_lexemes l.edges) (set_tokens l.sets) (edge_tokens l.edges) in
     let inner : AllByRecursion IsToken (inner_line l) = (
       tt,
       all_of_both IsToken (name_lexemes l.name) (sets_lexemes l.sets ++ flat_map edge_lexemes l.edges)

@@ -14,7 +14,8 @@ use Rattle.pg_automaton.specs.Mirrors.Steps.{◌>>=◌}
 use Rattle.pg_syntax.specs.Mirrors.Steps.{Fails}
 use Rattle.pg_syntax.specs.Mirrors.Kept.{KeptEdge, KeptLine, put_edge, put_edges}
 use Rattle.pg_syntax.specs.Mirrors.BodyScan.{due, state_of, new_state, set_in, sets_at, rising_sets_at, sets_if, edge_at, begins_edge}
-use Rattle.pg_syntax.specs.Mirrors.BodyScan.{edges_within, edges_at, kept_edges_at, behind_name, line_at, begins_line, is_seen, lines_within}
+use Rattle.pg_syntax.specs.Mirrors.BodyScan.{edges_within, edges_at, kept_edges_at, behind_name, line_at, begins_line, is_seen}
+use Rattle.pg_syntax.specs.Mirrors.BodyScan.{lines_within}
 use Rattle.pg_syntax.specs.Mirrors.BodyScan.{body_at}
 use Rattle.std.specs.List.Sorted.{IsStrictlyIncreasing}
 use Rattle.pg_lists.specs.Rising.{put, rising}
@@ -31,7 +32,8 @@ ahead_none : {A : Type 0} (o : Option (List A × List Lexeme)) → ahead [] o �
 ahead_none None = refl
 ahead_none (Some x) = refl
 
-ahead_one : {A : Type 0} (done : List A) (a : A) (o : Option (List A × List Lexeme)) → ahead done (o >>= λ x. Some (a ∷ x.0, x.1)) ≡ ahead (done ++ (a ∷ [])) o
+ahead_one : {A : Type 0} (done : List A) (a : A) (o : Option (List A × List Lexeme))
+    → ahead done (o >>= λ x. Some (a ∷ x.0, x.1)) ≡ ahead (done ++ (a ∷ [])) o
 ahead_one done a None = refl
 ahead_one {A} done a (Some x) = ap (λ (l : List A). Some (l, x.1)) (sym (append_assoc done (a ∷ []) x.0))
 
@@ -84,7 +86,8 @@ set_kept sets kept more tokens rest all t n s e h is = record {
   left = sym (sets_more sets s.done tokens rest t n e h) ∙ s.left;
 }
 
-pub rising_fail : (refusal : Refusal) (sets : ℕ) (tokens : List Lexeme) → Fails refusal (sets_at sets tokens) → Fails refusal (rising_sets_at sets tokens)
+pub rising_fail : (refusal : Refusal) (sets : ℕ) (tokens : List Lexeme) → Fails refusal (sets_at sets tokens)
+    → Fails refusal (rising_sets_at sets tokens)
 unfolding rising_sets_at
 rising_fail Memory sets tokens h = tt
 rising_fail (Wrong fault) sets tokens h = rw h refl
@@ -102,7 +105,8 @@ due_shorter tokens x e = omega (arith, ap length (due_is tokens x e))
 -- ---- edges
 
 -- what is left gives the same
-pub record EdgesLeft (states propositions sets : ℕ) (done : List KeptEdge) (tokens : List Lexeme) (all : Option (List KeptEdge × List Lexeme)) : Type 0 where
+pub record EdgesLeft (states propositions sets : ℕ) (done : List KeptEdge) (tokens : List Lexeme)
+    (all : Option (List KeptEdge × List Lexeme)) : Type 0 where
   turns : ℕ
   enough : length tokens ≤ turns
   same : ahead done (edges_within (suc turns) states propositions sets tokens) ≡ all
@@ -110,9 +114,11 @@ pub record EdgesLeft (states propositions sets : ℕ) (done : List KeptEdge) (to
 pub edges_start : (states propositions sets : ℕ) (tokens : List Lexeme)
     → EdgesLeft states propositions sets [] tokens (edges_at states propositions sets tokens)
 unfolding edges_at
-edges_start states propositions sets tokens = grind (arith, nat_tests, ahead_none (edges_within (suc (length tokens)) states propositions sets tokens))
+edges_start states propositions sets tokens =
+    grind (arith, nat_tests, ahead_none (edges_within (suc (length tokens)) states propositions sets tokens))
 
-pub edges_unread : (refusal : Refusal) (states propositions sets : ℕ) (done : List KeptEdge) (tokens : List Lexeme) (all : Option (List KeptEdge × List Lexeme))
+pub edges_unread : (refusal : Refusal) (states propositions sets : ℕ) (done : List KeptEdge) (tokens : List Lexeme)
+    (all : Option (List KeptEdge × List Lexeme))
     → EdgesLeft states propositions sets done tokens all → Fails refusal (due tokens) → Fails refusal all
 unfolding edges_within
 edges_unread Memory states propositions sets done tokens all left h = tt
@@ -125,7 +131,8 @@ unfolding edges_within
 edges_fail Memory states propositions sets done tokens rest t all left e h = tt
 edges_fail (Wrong fault) states propositions sets done tokens rest t all left e h = sym left.same ∙ rw (e, h) refl
 
-pub edges_end : (states propositions sets : ℕ) (done : List KeptEdge) (tokens rest : List Lexeme) (t : Lexeme) (all : Option (List KeptEdge × List Lexeme))
+pub edges_end : (states propositions sets : ℕ) (done : List KeptEdge) (tokens rest : List Lexeme) (t : Lexeme)
+    (all : Option (List KeptEdge × List Lexeme))
     → EdgesLeft states propositions sets done tokens all → due tokens ≡ Some (t, rest) → begins_edge t ≡ Some false
     → all ≡ Some (done, tokens)
 unfolding edges_within
@@ -160,15 +167,18 @@ edges_more states propositions sets done tokens rest t x all left e first h = mo
 
 pub edges_smaller : (states propositions sets : ℕ) (tokens rest : List Lexeme) (t : Lexeme) (x : KeptEdge × List Lexeme)
     → due tokens ≡ Some (t, rest) → edge_at states propositions sets rest ≡ Some x → length x.1 < length tokens
-edges_smaller states propositions sets tokens rest t x e h = omega (arith, due_shorter tokens (t, rest) e, edge_shorter states propositions sets rest x h)
+edges_smaller states propositions sets tokens rest t x e h =
+    omega (arith, due_shorter tokens (t, rest) e, edge_shorter states propositions sets rest x h)
 
 -- edges are read of which these are kept, and what is left gives the same
-pub record KeptLeft (states propositions sets : ℕ) (kept : List KeptEdge) (tokens : List Lexeme) (all : Option (List KeptEdge × List Lexeme)) : Type 0 where
+pub record KeptLeft (states propositions sets : ℕ) (kept : List KeptEdge) (tokens : List Lexeme)
+    (all : Option (List KeptEdge × List Lexeme)) : Type 0 where
   pub done : List KeptEdge
   pub same : kept ≡ put_edges [] done
   pub left : EdgesLeft states propositions sets done tokens all
 
-pub kept_start : (states propositions sets : ℕ) (tokens : List Lexeme) → KeptLeft states propositions sets [] tokens (edges_at states propositions sets tokens)
+pub kept_start : (states propositions sets : ℕ) (tokens : List Lexeme)
+    → KeptLeft states propositions sets [] tokens (edges_at states propositions sets tokens)
 kept_start states propositions sets tokens = record { done = []; same = refl; left = edges_start states propositions sets tokens }
 
 pub kept_more : (states propositions sets : ℕ) (kept more : List KeptEdge) (tokens rest : List Lexeme) (t : Lexeme)

@@ -41,12 +41,14 @@ add_none n = omega arith
 product_of : (k : Kind) (f : Formula) → Operand k f → Product k f
 product_of k f op room sum outer rest n = grind (arith, nat_tests, add_none room)
 
-of_operand : (k : Kind) (f : Formula) → Operand k f → ((room : ℕ) (outer : List Frame) → whole room f outer ≡ operator room None f outer) → Again k f
+of_operand : (k : Kind) (f : Formula) → Operand k f → ((room : ℕ) (outer : List Frame) → whole room f outer ≡ operator room None f outer)
+    → Again k f
 of_operand k f op plain = grind (arith, nat_tests, product_of k f op)
 
 both_product : (k : Kind) (f g : Formula) → Product k f → Operand k g → Product k (both f g)
 unfolding formula_from
-both_product k f g pf og room sum outer rest n = grind (arith, nat_tests, append_assoc (formula_lexemes f) (ampersand ∷ formula_lexemes g) rest, add_none room)
+both_product k f g pf og room sum outer rest n =
+    grind (arith, nat_tests, append_assoc (formula_lexemes f) (ampersand ∷ formula_lexemes g) rest, add_none room)
 
 of_both : (k : Kind) (f g : Formula) → Product k f → Operand k g → Again k (both f g)
 of_both k f g pf og = grind (arith, nat_tests, both_product k f g pf og)
@@ -70,7 +72,8 @@ of_either k f g sf pg = record {
   as_operand = λ high. absurd (omega arith);
   as_product = λ high. absurd (omega arith);
   as_sum = λ room outer rest n.
-      ap (λ (ts : List Lexeme). formula_from k (operand room fresh outer) ts) (append_assoc (formula_lexemes f) (bar ∷ formula_lexemes g) rest)
+      ap (λ (ts : List Lexeme). formula_from k (operand room fresh outer) ts)
+      (append_assoc (formula_lexemes f) (bar ∷ formula_lexemes g) rest)
       ∙ sf room outer (bar ∷ (formula_lexemes g ++ rest)) (omega arith)
       ∙ bar_next k f room outer (formula_lexemes g ++ rest)
       ∙ pg room (Some f) outer rest (omega arith);
@@ -122,11 +125,15 @@ again (Label n) (fin s) g o = absurd o
 again (Condition n) (fin s) g o = of_operand (Condition n) (fin s) (fin_operand n s o) (λ room outer. refl)
 again (Label n) (not f) g o = of_operand (Label n) (not f) (not_operand n f ((again (Label n) f g.1 o).as_operand g.0)) (λ room outer. refl)
 again (Condition n) (not f) g o = absurd o
-again (Label n) (both f h) g o = of_both (Label n) f h ((again (Label n) f g.2 o.0).as_product g.0) ((again (Label n) h g.3 o.1).as_operand g.1)
-again (Condition n) (both f h) g o = of_both (Condition n) f h ((again (Condition n) f g.2 o.0).as_product g.0) ((again (Condition n) h g.3 o.1).as_operand g.1)
+again (Label n) (both f h) g o =
+    of_both (Label n) f h ((again (Label n) f g.2 o.0).as_product g.0) ((again (Label n) h g.3 o.1).as_operand g.1)
+again (Condition n) (both f h) g o =
+    of_both (Condition n) f h ((again (Condition n) f g.2 o.0).as_product g.0) ((again (Condition n) h g.3 o.1).as_operand g.1)
 again (Label n) (either f h) g o = of_either (Label n) f h (again (Label n) f g.1 o.0).as_sum ((again (Label n) h g.2 o.1).as_product g.0)
-again (Condition n) (either f h) g o = of_either (Condition n) f h (again (Condition n) f g.1 o.0).as_sum ((again (Condition n) h g.2 o.1).as_product g.0)
-again (Label n) (bracket f) g o = of_operand (Label n) (bracket f) (bracket_operand (Label n) f (again (Label n) f g o).as_sum) (λ room outer. refl)
+again (Condition n) (either f h) g o =
+    of_either (Condition n) f h (again (Condition n) f g.1 o.0).as_sum ((again (Condition n) h g.2 o.1).as_product g.0)
+again (Label n) (bracket f) g o =
+    of_operand (Label n) (bracket f) (bracket_operand (Label n) f (again (Label n) f g o).as_sum) (λ room outer. refl)
 again (Condition n) (bracket f) g o =
     of_operand (Condition n) (bracket f) (bracket_operand (Condition n) f (again (Condition n) f g o).as_sum) (λ room outer. refl)
 
@@ -158,6 +165,7 @@ whole_stops k room (not f) rest h = stops_there k room None (not f) rest h
 whole_stops k room (both f g) rest h = stops_there k room None (both f g) rest h
 whole_stops k room (bracket f) rest h = stops_there k room None (bracket f) rest h
 
-pub formula_again : (k : Kind) (f : Formula) (rest : List Lexeme) → IsWritten k f → Ends rest → formula_at k (formula_lexemes f ++ rest) ≡ Some (f, rest)
+pub formula_again : (k : Kind) (f : Formula) (rest : List Lexeme) → IsWritten k f → Ends rest
+    → formula_at k (formula_lexemes f ++ rest) ≡ Some (f, rest)
 unfolding formula_at
 formula_again k f rest w h = (again k f w.grouped w.of_kind).as_sum 8192 [] rest w.nested ∙ whole_stops k 8192 f rest h

@@ -12,8 +12,10 @@ use Rattle.pg_syntax.specs.declared.formula.Kind.TheVariants.{Label, Condition}
 use Rattle.pg_automaton.specs.Formulas.{Formula, yes, no, proposition, inf, fin, not, bracket}
 use Rattle.pg_syntax.specs.FormulaTexts.{formula_lexemes, rank, IsGrouped, nesting, IsOf, IsWritten}
 use Rattle.pg_automaton.specs.Mirrors.Steps.{◌>>=◌}
-use Rattle.pg_syntax.specs.Mirrors.FormulaScan.{Frame, fresh, State, operand, opening, naming, closing, operator, summed, multiplied, negated}
-use Rattle.pg_syntax.specs.Mirrors.FormulaScan.{limited, completes, deeper, word_step, operand_step, opening_step, naming_step, closing_step}
+use Rattle.pg_syntax.specs.Mirrors.FormulaScan.{Frame, fresh, State, operand, opening, naming, closing, operator, summed, multiplied}
+use Rattle.pg_syntax.specs.Mirrors.FormulaScan.{negated}
+use Rattle.pg_syntax.specs.Mirrors.FormulaScan.{limited, completes, deeper, word_step, operand_step, opening_step, naming_step}
+use Rattle.pg_syntax.specs.Mirrors.FormulaScan.{closing_step}
 use Rattle.pg_syntax.specs.Mirrors.FormulaScan.{operator_step, step, finish, stops, formula_from, formula_at}
 use Rattle.pg_syntax.proofs.Steps.{bind_some}
 use Rattle.pg_lists.proofs.Steps.{chosen, some, some_is, none_is_some}
@@ -111,7 +113,8 @@ negated_label m (suc n) room f h =
 
 negated_fits : (k : Kind) (n room : ℕ) (f : Formula) → NotsFit k n → Fits k room 0 f → Fits k (room + n) 0 (negated n f)
 negated_fits (Label m) n room f e h = negated_label m n room f h
-negated_fits (Condition m) zero room f e h = record { grouped = h.grouped; of_kind = h.of_kind; nested = let n = h.nested in omega arith; low = h.low }
+negated_fits (Condition m) zero room f e h =
+    record { grouped = h.grouped; of_kind = h.of_kind; nested = let n = h.nested in omega arith; low = h.low }
 negated_fits (Condition m) (suc n) room f e h = absurd (omega arith)
 
 summed_fits : (k : Kind) (room : ℕ) (s : Option Formula) (f : Formula) → FitsIf k room 2 s → Fits k room 1 f → Fits k room 2 (summed s f)
@@ -175,7 +178,8 @@ one_more zero = refl
 one_more (suc n) = ap (λ (l : List Lexeme). bang ∷ l) (one_more n)
 
 bang_next : (n room : ℕ) (top : Frame) (outer : List Frame) → Within (Label n) room top outer
-    → Next (Label n) (operand room top outer) bang (deeper room (λ r. operand r (record { sum = top.sum; product = top.product; nots = suc top.nots }) outer))
+    → Next (Label n) (operand room top outer) bang
+    (deeper room (λ r. operand r (record { sum = top.sum; product = top.product; nots = suc top.nots }) outer))
 bang_next n zero top outer w = none_next (Label n) (operand zero top outer) bang
 bang_next n (suc room) top outer w = grind (arith, nat_tests, one_more top.nots, append_assoc)
 
@@ -265,8 +269,10 @@ closing_next k b s room top outer right_paren h = grind (arith, nat_tests, limit
 closing_next k b s room top outer t h = none_next k (closing b s room top outer) t
 
 bracket_fits : (k : Kind) (room : ℕ) (f : Formula) → Fits k room 2 f → Fits k (suc room) 0 (bracket f)
-bracket_fits (Label n) room f h = let deep = h.nested in record { grouped = h.grouped; of_kind = h.of_kind; nested = omega arith; low = omega arith }
-bracket_fits (Condition n) room f h = let deep = h.nested in record { grouped = h.grouped; of_kind = h.of_kind; nested = omega arith; low = omega arith }
+bracket_fits (Label n) room f h =
+    let deep = h.nested in record { grouped = h.grouped; of_kind = h.of_kind; nested = omega arith; low = omega arith }
+bracket_fits (Condition n) room f h =
+    let deep = h.nested in record { grouped = h.grouped; of_kind = h.of_kind; nested = omega arith; low = omega arith }
 
 started : (k : Kind) (room : ℕ) (sum product : Option Formula) (outer : List Frame) → FitsIf k room 2 sum → FitsIf k room 1 product
     → OuterFits k room outer → Within k room (record { sum = sum; product = product; nots = 0 }) outer
@@ -285,7 +291,8 @@ started (Condition n) room sum product outer s p o = let same : room ≡ room + 
 
 operator_next : (k : Kind) (room : ℕ) (sum : Option Formula) (product : Formula) (outer : List Frame) (t : Lexeme)
     → Sound k (operator room sum product outer) → Next k (operator room sum product outer) t (operator_step room sum product outer t)
-operator_next k room sum product outer ampersand h = grind (arith, nat_tests, started k room sum (Some product) outer h.0 h.1 h.2, append-nil, append_assoc)
+operator_next k room sum product outer ampersand h =
+    grind (arith, nat_tests, started k room sum (Some product) outer h.0 h.1 h.2, append-nil, append_assoc)
 operator_next k room sum product outer bar h =
     grind (
       arith,
@@ -319,7 +326,8 @@ pub record Taken (k : Kind) (tokens : List Lexeme) (found : Formula × List Lexe
   pub written : IsWritten k found.0
   pub is : tokens ≡ formula_lexemes found.0 ++ found.1
 
-finish_takes : (k : Kind) (s : State) (rest : List Lexeme) (y : Formula × List Lexeme) → Sound k s → finish s rest ≡ Some y → Taken k (so_far s ++ rest) y
+finish_takes : (k : Kind) (s : State) (rest : List Lexeme) (y : Formula × List Lexeme) → Sound k s → finish s rest ≡ Some y
+    → Taken k (so_far s ++ rest) y
 finish_takes k (operator room sum product []) rest y h e = grind (
   arith,
   nat_tests,

@@ -15,7 +15,8 @@ pub record Takes (deep : ℕ) (bytes : List ℕ) (x : ℕ × List ℕ) : Type 0 
 
 abbrev taken : (deep : ℕ) (bytes : List ℕ) (n : ℕ) (rest : List ℕ) (x : ℕ × List ℕ) → some (some (n, rest)) ≡ some (some x)
     → length rest < length bytes → (deep ≤ 8192 → n ≤ 8192) → Takes deep bytes x
-taken deep bytes n rest x e lt few = subst (Takes deep bytes) (some_is (n, rest) x (some_is (some (n, rest)) (some x) e)) (record { shorter = lt; few = few })
+taken deep bytes n rest x e lt few =
+    subst (Takes deep bytes) (some_is (n, rest) x (some_is (some (n, rest)) (some x) e)) (record { shorter = lt; few = few })
 
 abbrev refused : {T : Type 0} (x : ℕ × List ℕ) → none ≡ some (some x) → T
 refused x e = absurd (none_is_some (some x) e)

@@ -8,27 +8,28 @@ use Rattle.pg_syntax.specs.Lexemes.{Character}
 use Rattle.pg_automaton.specs.Formulas.{Formula}
 use Rattle.pg_syntax.specs.Mirrors.FormulaRun.{postfix}
 use Rattle.pg_automaton.specs.Automata.{Automaton, IsPropositionName}
-use Rattle.pg_syntax.specs.Syntax.{Header, Written, Says, AtMostOne, count_of, character_code, state_counts, starts, names, acceptances, controls}
+use Rattle.pg_syntax.specs.Syntax.{Header, Written, Says, AtMostOne, count_of, character_code, state_counts, starts, names, acceptances}
+use Rattle.pg_syntax.specs.Syntax.{controls}
 use Rattle.pg_syntax.specs.Mirrors.Kept.{KeptHead}
 use Rattle.pg_syntax.specs.Mirrors.HeaderScan.{noted}
 use Rattle.pg_syntax.proofs.HeaderParts.{option_list}
 use Rattle.pg_syntax.proofs.HeaderLaws.{SaysHeaders}
 
-abbrev pub first_said : {A : Type 0} → List A → Option A
-first_said [] = None
-first_said (x ∷ xs) = Some x
+abbrev pub first_written : {A : Type 0} → List A → Option A
+first_written [] = None
+first_written (x ∷ xs) = Some x
 
 -- what the headers say that come first
-abbrev pub said_head : List Header → KeptHead
-said_head hs = record {
-  states = first_said (flat_map state_counts hs);
-  start = first_said (flat_map starts hs);
-  names = first_said (map (map (map character_code)) (flat_map names hs));
-  controls = first_said (map noted (flat_map controls hs));
-  acceptance = first_said (map (λ x. (x.0, postfix x.1)) (flat_map acceptances hs));
+abbrev pub written_head : List Header → KeptHead
+written_head hs = record {
+  states = first_written (flat_map state_counts hs);
+  start = first_written (flat_map starts hs);
+  names = first_written (map (map (map character_code)) (flat_map names hs));
+  controls = first_written (map noted (flat_map controls hs));
+  acceptance = first_written (map (λ x. (x.0, postfix x.1)) (flat_map acceptances hs));
 }
 
-all_said : {A : Type 0} (xs : List A) → AtMostOne xs → option_list (first_said xs) ≡ xs
+all_said : {A : Type 0} (xs : List A) → AtMostOne xs → option_list (first_written xs) ≡ xs
 all_said [] few = refl
 all_said (x ∷ []) few = refl
 all_said (x ∷ y ∷ xs) few = absurd (omega arith)
@@ -39,15 +40,15 @@ one_at_most x xs is = rw is (omega arith)
 same_many : {A B : Type 0} (f : A → B) (xs : List A) → AtMostOne xs → AtMostOne (map f xs)
 same_many f xs few = omega (arith, length-map xs f)
 
-few_counted : (counts named : List ℕ) (n : ℕ) → n ≡ count_of counts named → n ≤ 65535 → IfSome (first_said counts) (λ m. m ≤ 65535)
+few_counted : (counts named : List ℕ) (n : ℕ) → n ≡ count_of counts named → n ≤ 65535 → IfSome (first_written counts) (λ m. m ≤ 65535)
 few_counted [] named n is few = tt
 few_counted (m ∷ counts) named n is few = omega arith
 
-low : (xs : List ℕ) (q : ℕ) → xs ≡ q ∷ [] → q ≤ 65534 → IfSome (first_said xs) (λ m. m ≤ 65534)
+low : (xs : List ℕ) (q : ℕ) → xs ≡ q ∷ [] → q ≤ 65534 → IfSome (first_written xs) (λ m. m ≤ 65534)
 low xs q is h = rw is h
 
 few_sets : (xs : List (ℕ × Formula)) (n : ℕ) (f : Formula) → xs ≡ (n, f) ∷ [] → n ≤ 4096
-    → IfSome {T = ℕ × List Op} (first_said (map (λ (x : ℕ × Formula). (x.0, postfix x.1)) xs)) (λ x. x.0 ≤ 4096)
+    → IfSome {T = ℕ × List Op} (first_written (map (λ (x : ℕ × Formula). (x.0, postfix x.1)) xs)) (λ x. x.0 ≤ 4096)
 few_sets xs n f is h = rw is h
 
 -- the names of propositions, where they are given once at most
@@ -55,18 +56,18 @@ abbrev given : List (List (List Character)) → List (List ℕ)
 given lists = map (map character_code) (flat_map (λ x. x) lists)
 
 few_names : (lists : List (List (List Character))) → AtMostOne lists → length (given lists) ≤ 16
-    → IfSome (first_said (map (map (map character_code)) lists)) (λ ns. length ns ≤ 16)
+    → IfSome (first_written (map (map (map character_code)) lists)) (λ ns. length ns ≤ 16)
 few_names [] one few = tt
 few_names (ns ∷ []) one few = rw (append-nil ns) at few
 few_names (ns ∷ ms ∷ lists) one few = absurd (omega arith)
 
 good_names : (lists : List (List (List Character))) → AtMostOne lists → AllByRecursion IsPropositionName (given lists)
-    → IfSome (first_said (map (map (map character_code)) lists)) (λ ns. AllByRecursion IsPropositionName ns)
+    → IfSome (first_written (map (map (map character_code)) lists)) (λ ns. AllByRecursion IsPropositionName ns)
 good_names [] one good = tt
 good_names (ns ∷ []) one good = rw (append-nil ns) at good
 good_names (ns ∷ ms ∷ lists) one good = absurd (omega arith)
 
-pub says_head : (w : Written) (a : Automaton) → Says w a → SaysHeaders w.headers (said_head w.headers)
+pub says_head : (w : Written) (a : Automaton) → Says w a → SaysHeaders w.headers (written_head w.headers)
 says_head w a s =
     let hs = w.headers in
     let start_low : a.start ≤ 65534 = omega (arith, s.start_below, s.few_states) in
@@ -81,6 +82,7 @@ says_head w a s =
       few_states = few_counted (flat_map state_counts hs) _ a.states s.states s.few_states;
       low_start = low (flat_map starts hs) a.start s.start start_low;
       few_names = few_names (flat_map names hs) s.named few;
-      good_names = good_names (flat_map names hs) s.named (subst (λ (ns : List (List ℕ)). AllByRecursion IsPropositionName ns) s.propositions s.good_names);
+      good_names = good_names (flat_map names hs) s.named
+          (subst (λ (ns : List (List ℕ)). AllByRecursion IsPropositionName ns) s.propositions s.good_names);
       few_sets = few_sets (flat_map acceptances hs) a.sets s.condition s.accepted s.few_sets;
     }

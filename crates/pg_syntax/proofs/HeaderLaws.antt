@@ -17,7 +17,8 @@ use Rattle.pg_automaton.specs.Formulas.{Formula}
 use Rattle.pg_syntax.specs.FormulaTexts.{formula_lexemes, IsWritten}
 use Rattle.pg_syntax.specs.Mirrors.FormulaRun.{ops_at, postfix}
 use Rattle.pg_automaton.specs.Automata.{IsPropositionName}
-use Rattle.pg_syntax.specs.Syntax.{Header, header_lexemes, IsHeader, value_lexeme, character_code, state_counts, starts, names, acceptances, controls}
+use Rattle.pg_syntax.specs.Syntax.{Header, header_lexemes, IsHeader, value_lexeme, character_code, state_counts, starts, names, acceptances}
+use Rattle.pg_syntax.specs.Syntax.{controls}
 use Rattle.pg_syntax.specs.Syntax as text
 use Rattle.pg_syntax.specs.Mirrors.Kept.{KeptHead}
 use Rattle.pg_syntax.specs.Mirrors.HeaderScan.{numeral_at, alone_at, numbers_from, noted, noted_at, skipped_from, names_from, once, at_most}
@@ -51,7 +52,8 @@ once_is (Some x) next y e = absurd (none_is_some y e)
 at_most_is : {B : Type 0} (bound n : ℕ) (next : Option B) (y : B) → at_most bound n next ≡ Some y → (n ≤ bound) × (next ≡ Some y)
 at_most_is bound n next y e = grind (arith, nat_tests, chosen (ltb bound n) none next (some y) e)
 
-states_take : (h : KeptHead) (tokens : List Lexeme) (x : KeptHead × List Lexeme) → states_at h tokens ≡ Some x → TakesHeader h (codes "States") tokens x
+states_take : (h : KeptHead) (tokens : List Lexeme) (x : KeptHead × List Lexeme) → states_at h tokens ≡ Some x
+    → TakesHeader h (codes "States") tokens x
 unfolding states_at
 states_take h tokens x e =
     let o = once_is h.states _ x e in
@@ -67,7 +69,8 @@ states_take h tokens x e =
       within = λ w. record { states = b.0; start = w.start; few_names = w.few_names; good_names = w.good_names; sets = w.sets };
     })
 
-start_take : (h : KeptHead) (tokens : List Lexeme) (x : KeptHead × List Lexeme) → start_at h tokens ≡ Some x → TakesHeader h (codes "Start") tokens x
+start_take : (h : KeptHead) (tokens : List Lexeme) (x : KeptHead × List Lexeme) → start_at h tokens ≡ Some x
+    → TakesHeader h (codes "Start") tokens x
 unfolding start_at
 start_take h tokens x e =
     let o = once_is h.start _ x e in
@@ -85,10 +88,12 @@ start_take h tokens x e =
       within = λ w. record { states = w.states; start = b.0; few_names = w.few_names; good_names = w.good_names; sets = w.sets };
     })
 
-few_names : (n : ℕ) (names : List (List Character)) (ns : List (List ℕ)) → length names ≡ n → ns ≡ map (map character_code) names → n ≤ 16 → length ns ≤ 16
+few_names : (n : ℕ) (names : List (List Character)) (ns : List (List ℕ)) → length names ≡ n → ns ≡ map (map character_code) names → n ≤ 16
+    → length ns ≤ 16
 few_names n names ns count is few = omega (arith, ap length is, length-map names (map character_code))
 
-names_header_take : (h : KeptHead) (tokens : List Lexeme) (x : KeptHead × List Lexeme) → names_at h tokens ≡ Some x → TakesHeader h (codes "AP") tokens x
+names_header_take : (h : KeptHead) (tokens : List Lexeme) (x : KeptHead × List Lexeme) → names_at h tokens ≡ Some x
+    → TakesHeader h (codes "AP") tokens x
 unfolding names_at
 names_header_take h tokens x e =
     let o = once_is h.names _ x e in
@@ -130,7 +135,8 @@ acceptance_take h tokens x e =
     subst (TakesHeader h (codes "Acceptance") tokens) (some_is (k, r.0.1) x r.2)
     (record {
       one = text.acceptance n.0.0 found.formula;
-      is = ap (λ (ts : List Lexeme). header (codes "Acceptance") ∷ ts) (numeral_take tokens n.0 n.1 ∙ ap (λ (ts : List Lexeme). number n.0.0 ∷ ts) found.is);
+      is = ap (λ (ts : List Lexeme). header (codes "Acceptance") ∷ ts)
+          (numeral_take tokens n.0 n.1 ∙ ap (λ (ts : List Lexeme). number n.0.0 ∷ ts) found.is);
       good = found.written;
       adds = subst (λ (ops : List Op). Adds h (text.acceptance n.0.0 found.formula ∷ []) (record h { acceptance = Some (n.0.0, ops) }))
           (sym found.computed) (adds_acceptance h n.0.0 found.formula o.0);
@@ -157,7 +163,9 @@ controls_take : (h : KeptHead) (tokens : List Lexeme) (x : KeptHead × List Lexe
 unfolding controls_at noted_at
 controls_take h tokens x e =
     let o = once_is h.controls _ x e in
-    let n = bind_some (noted_at tokens) (λ (y : List ℕ × List Lexeme). let k : KeptHead = record h { controls = Some y.0 } in some (k, y.1)) x o.1 in
+    let n =
+    bind_some (noted_at tokens) (λ (y : List ℕ × List Lexeme). let k : KeptHead = record h { controls = Some y.0 } in some (k, y.1)) x
+    o.1 in
     let r = bind_some (numbers_from [] tokens) (λ (y : List ℕ × List Lexeme). some (noted y.0, y.1)) n.0 n.1 in
     let k : KeptHead = record h { controls = Some n.0.0 } in
     controls_read h tokens r.0 n.0 x o.0 (numbers_take tokens [] r.0 r.1) (some_is (noted r.0.0, r.0.1) n.0 r.2) (some_is (k, n.0.1) x n.2)
@@ -182,7 +190,8 @@ other_take h name tokens x other e =
     ]
 
 -- a test of the name
-named : (h : KeptHead) (name word : List ℕ) (tokens : List Lexeme) (x : KeptHead × List Lexeme) (there otherwise : Option (KeptHead × List Lexeme))
+named : (h : KeptHead) (name word : List ℕ) (tokens : List Lexeme) (x : KeptHead × List Lexeme)
+    (there otherwise : Option (KeptHead × List Lexeme))
     → (there ≡ Some x → TakesHeader h word tokens x) → (name ≢ word → otherwise ≡ Some x → TakesHeader h name tokens x)
     → (if bytes_eq name word then there else otherwise) ≡ Some x → TakesHeader h name tokens x
 named h name word tokens x there otherwise same other e = grind (
@@ -317,7 +326,8 @@ skipped_header_again h k name values hs rest good a follows = record {
   where
     not_named : bytes_eq name (codes "controllable-AP") ≡ false
     not_named =
-        elim (bytes_eq name (codes "controllable-AP")) as (λ v. bytes_eq name (codes "controllable-AP") ≡ v → bytes_eq name (codes "controllable-AP") ≡ false) [
+        elim (bytes_eq name (codes "controllable-AP")) as
+        (λ v. bytes_eq name (codes "controllable-AP") ≡ v → bytes_eq name (codes "controllable-AP") ≡ false) [
           | true ↦ λ e. absurd (good.0 ((bytes_eq-Decides name (codes "controllable-AP")).0 e))
           | false ↦ λ e. e
         ] refl
@@ -355,7 +365,8 @@ one_more h name rest y x t more =
       adds_more h y.0 x.0 t.one more.headers t.adds more.adds,
     )
 
-headers_within_take : (n : ℕ) (h : KeptHead) (tokens : List Lexeme) (x : KeptHead × List Lexeme) → headers_within n h tokens ≡ Some x → TakesHeaders h tokens x
+headers_within_take : (n : ℕ) (h : KeptHead) (tokens : List Lexeme) (x : KeptHead × List Lexeme) → headers_within n h tokens ≡ Some x
+    → TakesHeaders h tokens x
 unfolding headers_within
 headers_within_take zero h tokens x e = absurd (none_is_some x e)
 headers_within_take (suc n) h (body ∷ rest) x e = no_more h rest x e
@@ -379,7 +390,8 @@ all_lexemes hs rest = flat_map header_lexemes hs ++ (body ∷ rest)
 
 first_apart : (one : Header) (hs : List Header) (rest : List Lexeme)
     → all_lexemes (one ∷ hs) rest ≡ header (header_name one) ∷ (header_values one ++ all_lexemes hs rest)
-first_apart one hs rest = grind (arith, nat_tests, append_assoc (header_lexemes one) (flat_map header_lexemes hs) (body ∷ rest), named_values one)
+first_apart one hs rest =
+    grind (arith, nat_tests, append_assoc (header_lexemes one) (flat_map header_lexemes hs) (body ∷ rest), named_values one)
 
 headers_within_again : (n : ℕ) (hs : List Header) (h k : KeptHead) (rest : List Lexeme) → AllByRecursion IsHeader hs → Adds h hs k
     → IsWithin k → length (all_lexemes hs rest) < n → headers_within n h (all_lexemes hs rest) ≡ Some (k, rest)
@@ -455,7 +467,8 @@ empty_within = record { states = tt; start = tt; few_names = tt; good_names = tt
 
 opening_take : (tokens rest : List Lexeme) → opening_at tokens ≡ Some rest → tokens ≡ header (codes "HOA") ∷ rest
 unfolding opening_at
-opening_take (header w ∷ ts) rest e = grind (arith, nat_tests, chosen (bytes_eq w (codes "HOA")) (some ts) none (some rest) e, bytes_eq-Decides w (codes "HOA"))
+opening_take (header w ∷ ts) rest e =
+    grind (arith, nat_tests, chosen (bytes_eq w (codes "HOA")) (some ts) none (some rest) e, bytes_eq-Decides w (codes "HOA"))
 opening_take _ rest e = absurd (none_is_some rest e)
 
 version_take : (tokens rest : List Lexeme) → version_at tokens ≡ Some rest → tokens ≡ identifier (codes "v1") ∷ rest
@@ -511,4 +524,5 @@ one_header_tokens (text.skipped name values) = (tt, value_tokens values)
 
 pub header_tokens : (hs : List Header) → AllByRecursion IsHeader hs → AllByRecursion IsToken (flat_map header_lexemes hs)
 header_tokens [] good = tt
-header_tokens (one ∷ hs) good = all_of_both IsToken (header_lexemes one) (flat_map header_lexemes hs) (one_header_tokens one) (header_tokens hs good.1)
+header_tokens (one ∷ hs) good =
+    all_of_both IsToken (header_lexemes one) (flat_map header_lexemes hs) (one_header_tokens one) (header_tokens hs good.1)

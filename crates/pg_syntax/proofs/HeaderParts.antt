@@ -69,12 +69,15 @@ adds_names h ns e = record {
   acceptance = unsaid _;
 }
 
-pub adds_controls : (h : KeptHead) (ns : List ℕ) → h.controls ≡ None → Adds h (text.controllable ns ∷ []) (record h { controls = Some (noted ns) })
-adds_controls h ns e = record { states = unsaid _; start = unsaid _; names = unsaid _; controls = said h.controls (noted ns) e; acceptance = unsaid _ }
+pub adds_controls : (h : KeptHead) (ns : List ℕ) → h.controls ≡ None
+    → Adds h (text.controllable ns ∷ []) (record h { controls = Some (noted ns) })
+adds_controls h ns e =
+    record { states = unsaid _; start = unsaid _; names = unsaid _; controls = said h.controls (noted ns) e; acceptance = unsaid _ }
 
 pub adds_acceptance : (h : KeptHead) (n : ℕ) (f : Formula) → h.acceptance ≡ None
     → Adds h (text.acceptance n f ∷ []) (record h { acceptance = Some (n, postfix f) })
-adds_acceptance h n f e = record { states = unsaid _; start = unsaid _; names = unsaid _; controls = unsaid _; acceptance = said h.acceptance (n, postfix f) e }
+adds_acceptance h n f e =
+    record { states = unsaid _; start = unsaid _; names = unsaid _; controls = unsaid _; acceptance = said h.acceptance (n, postfix f) e }
 
 pub adds_nothing : (h : KeptHead) (name : List ℕ) (values : List text.Value) → Adds h (text.skipped name values ∷ []) h
 adds_nothing h name values = record { states = unsaid _; start = unsaid _; names = unsaid _; controls = unsaid _; acceptance = unsaid _ }
@@ -116,15 +119,18 @@ pub record FirstOf {A : Type 0} (before after : Option A) (x : A) (h : KeptHead)
   pub is : after ≡ Some x
   pub others : Adds h hs k
 
-pub first_states : (h k : KeptHead) (n : ℕ) (hs : List Header) → Adds h (text.states n ∷ hs) k → FirstOf h.states k.states n (record h { states = Some n }) hs k
+pub first_states : (h k : KeptHead) (n : ℕ) (hs : List Header) → Adds h (text.states n ∷ hs) k
+    → FirstOf h.states k.states n (record h { states = Some n }) hs k
 first_states h k n hs a = grind (arith, nat_tests, says_first k.states h.states n (flat_map state_counts hs) a.states)
 
-pub first_start : (h k : KeptHead) (q : ℕ) (hs : List Header) → Adds h (text.start q ∷ hs) k → FirstOf h.start k.start q (record h { start = Some q }) hs k
+pub first_start : (h k : KeptHead) (q : ℕ) (hs : List Header) → Adds h (text.start q ∷ hs) k
+    → FirstOf h.start k.start q (record h { start = Some q }) hs k
 first_start h k q hs a = grind (arith, nat_tests, says_first k.start h.start q (flat_map starts hs) a.start)
 
 pub first_names : (h k : KeptHead) (ns : List (List Character)) (hs : List Header) → Adds h (text.propositions ns ∷ hs) k
     → FirstOf h.names k.names (map (map character_code) ns) (record h { names = Some (map (map character_code) ns) }) hs k
-first_names h k ns hs a = grind (arith, nat_tests, says_first k.names h.names (map (map character_code) ns) (flat_map read_names hs) a.names)
+first_names h k ns hs a =
+    grind (arith, nat_tests, says_first k.names h.names (map (map character_code) ns) (flat_map read_names hs) a.names)
 
 pub first_controls : (h k : KeptHead) (ns : List ℕ) (hs : List Header) → Adds h (text.controllable ns ∷ hs) k
     → FirstOf h.controls k.controls (noted ns) (record h { controls = Some (noted ns) }) hs k
@@ -132,10 +138,13 @@ first_controls h k ns hs a = grind (arith, nat_tests, says_first k.controls h.co
 
 pub first_acceptance : (h k : KeptHead) (n : ℕ) (f : Formula) (hs : List Header) → Adds h (text.acceptance n f ∷ hs) k
     → FirstOf h.acceptance k.acceptance (n, postfix f) (record h { acceptance = Some (n, postfix f) }) hs k
-first_acceptance h k n f hs a = grind (arith, nat_tests, says_first k.acceptance h.acceptance (n, postfix f) (flat_map read_acceptances hs) a.acceptance)
+first_acceptance h k n f hs a =
+    grind (arith, nat_tests, says_first k.acceptance h.acceptance (n, postfix f) (flat_map read_acceptances hs) a.acceptance)
 
-pub none_first : (h k : KeptHead) (name : List ℕ) (values : List text.Value) (hs : List Header) → Adds h (text.skipped name values ∷ hs) k → Adds h hs k
-none_first h k name values hs a = record { states = a.states; start = a.start; names = a.names; controls = a.controls; acceptance = a.acceptance }
+pub none_first : (h k : KeptHead) (name : List ℕ) (values : List text.Value) (hs : List Header) → Adds h (text.skipped name values ∷ hs) k
+    → Adds h hs k
+none_first h k name values hs a =
+    record { states = a.states; start = a.start; names = a.names; controls = a.controls; acceptance = a.acceptance }
 
 option_same : {A : Type 0} (o p : Option A) → option_list p ≡ option_list o ++ [] → o ≡ p
 option_same None None e = refl
@@ -144,7 +153,8 @@ option_same (Some x) None e = absurd cc
 option_same (Some x) (Some q) e = cc
 
 abbrev head_of : Option ℕ → Option ℕ → Option (List (List ℕ)) → Option (List ℕ) → Option (ℕ × List Op) → KeptHead
-head_of states start names controls acceptance = record { states = states; start = start; names = names; controls = controls; acceptance = acceptance }
+head_of states start names controls acceptance =
+    record { states = states; start = start; names = names; controls = controls; acceptance = acceptance }
 
 same_head : (states states2 start start2 : Option ℕ) (names names2 : Option (List (List ℕ))) (controls controls2 : Option (List ℕ))
     (acceptance acceptance2 : Option (ℕ × List Op))

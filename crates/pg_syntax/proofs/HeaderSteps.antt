@@ -17,13 +17,15 @@ abbrev Found : Type 0
 Found = Option (KeptHead × List Lexeme)
 
 -- how many headers may follow doesn't matter where it is enough
-enough : (n m : ℕ) (h : KeptHead) (tokens : List Lexeme) → length tokens < n → length tokens < m → headers_within n h tokens ≡ headers_within m h tokens
+enough : (n m : ℕ) (h : KeptHead) (tokens : List Lexeme) → length tokens < n → length tokens < m
+    → headers_within n h tokens ≡ headers_within m h tokens
 unfolding headers_within
 enough zero m h tokens p q = absurd (omega arith)
 enough (suc n) zero h tokens p q = absurd (omega arith)
 enough (suc n) (suc m) h (body ∷ rest) p q = refl
 enough (suc n) (suc m) h (header name ∷ rest) p q =
-    elim (header_at h name rest) as (λ v. header_at h name rest ≡ v → (v >>= λ x. headers_within n x.0 x.1) ≡ (v >>= λ x. headers_within m x.0 x.1)) [
+    elim (header_at h name rest) as (λ v. header_at h name rest ≡ v
+    → (v >>= λ x. headers_within n x.0 x.1) ≡ (v >>= λ x. headers_within m x.0 x.1)) [
       | None ↦ λ e. refl
       | Some x ↦ λ e. let shorter = header_shorter h name rest x e in enough n m x.0 x.1 (omega arith) (omega arith)
     ] refl
@@ -66,7 +68,8 @@ IsElse (Some body) = ⊥
 IsElse (Some (header name)) = ⊥
 IsElse _ = Unit {0}
 
-pub headers_refused : (h : KeptHead) (ts after : List Lexeme) (t : Option Lexeme) → first ts ≡ Some (t, after) → IsElse t → headers_from h ts ≡ None
+pub headers_refused : (h : KeptHead) (ts after : List Lexeme) (t : Option Lexeme) → first ts ≡ Some (t, after) → IsElse t
+    → headers_from h ts ≡ None
 unfolding headers_from headers_within
 headers_refused h ts after None e other = rw (first_end ts after e).0 refl
 headers_refused h ts after (Some body) e other = absurd other

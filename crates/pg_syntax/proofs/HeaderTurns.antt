@@ -1,5 +1,6 @@
 -- Token by token through the values of headers.
-use Rattle.std.proofs.Common.{◌≡◌, ℕ, suc, ◌<◌, Bool, true, false, eqb, List, [], ◌∷◌, ◌++◌, length, map, Option, Some, None, refl, sym, ap, ◌∙◌, subst, arith}
+use Rattle.std.proofs.Common.{◌≡◌, ℕ, suc, ◌<◌, Bool, true, false, eqb, List, [], ◌∷◌, ◌++◌, length, map, Option, Some, None, refl, sym, ap}
+use Rattle.std.proofs.Common.{◌∙◌, subst, arith}
 use Rattle.std.proofs.lemmas.Bool.Decides.{nat_tests}
 use Rattle.std.specs.List.{list_all}
 use Rattle.pg_syntax.specs.declared.fault.Refusal.{Refusal}
@@ -9,7 +10,8 @@ use Rattle.pg_syntax.specs.Mirrors.Scan.{first, characters}
 use Rattle.pg_syntax.specs.Syntax.{character_code}
 use Rattle.pg_automaton.specs.Mirrors.Steps.{◌>>=◌}
 use Rattle.pg_syntax.specs.Mirrors.Steps.{Fails}
-use Rattle.pg_syntax.specs.Mirrors.HeaderScan.{numeral_of, numbers_from, note, noted, noted_at, is_value, skipped_from, is_name_byte, is_name}
+use Rattle.pg_syntax.specs.Mirrors.HeaderScan.{numeral_of, numbers_from, note, noted, noted_at, is_value, skipped_from, is_name_byte}
+use Rattle.pg_syntax.specs.Mirrors.HeaderScan.{is_name}
 use Rattle.pg_syntax.specs.Mirrors.HeaderScan.{quoted_at, names_from}
 use Rattle.pg_lists.proofs.Steps.{some, some_is, none_is_some}
 use Rattle.pg_syntax.proofs.Turning.{first_end, first_token}
@@ -33,7 +35,8 @@ unfolding numbers_from
 numbers_more ns ts after (Some (number m)) n e f = rw (first_token ts (number m) after e, ← some_is m n f) refl
 numbers_more ns ts after t n e f = absurd (none_is_some n f)
 
-numbers_end : (ns : List ℕ) (ts after : List Lexeme) (t : Option Lexeme) → first ts ≡ Some (t, after) → numeral_of t ≡ None → numbers_from ns ts ≡ Some (ns, ts)
+numbers_end : (ns : List ℕ) (ts after : List Lexeme) (t : Option Lexeme) → first ts ≡ Some (t, after) → numeral_of t ≡ None
+    → numbers_from ns ts ≡ Some (ns, ts)
 unfolding numbers_from
 numbers_end ns ts after None e f = rw ((first_end ts after e).0) refl
 numbers_end ns ts after (Some (number m)) e f = absurd (none_is_some m (sym f))
@@ -88,7 +91,8 @@ skipped_fail (Wrong fault) ts h = skipped_none ts h
 pub true_is_false : {T : Type 0} → true ≡ false → T
 true_is_false e = absurd cc
 
-pub skipped_more : (ts after : List Lexeme) (t : Option Lexeme) → first ts ≡ Some (t, after) → is_value t ≡ true → skipped_from ts ≡ skipped_from after
+pub skipped_more : (ts after : List Lexeme) (t : Option Lexeme) → first ts ≡ Some (t, after) → is_value t ≡ true
+    → skipped_from ts ≡ skipped_from after
 unfolding skipped_from
 skipped_more ts after (Some (number n)) e f = rw (first_token ts (number n) after e) refl
 skipped_more ts after (Some (identifier w)) e f = rw (first_token ts (identifier w) after e) refl
@@ -112,7 +116,8 @@ pub value_taken : (ts after : List Lexeme) (t : Option Lexeme) → first ts ≡ 
 value_taken ts after None e f = true_is_false (sym f)
 value_taken ts after (Some t) e f = taken ts after t e
 
-pub number_taken : (ts after : List Lexeme) (t : Option Lexeme) (n : ℕ) → first ts ≡ Some (t, after) → numeral_of t ≡ Some n → length after < length ts
+pub number_taken : (ts after : List Lexeme) (t : Option Lexeme) (n : ℕ) → first ts ≡ Some (t, after) → numeral_of t ≡ Some n
+    → length after < length ts
 number_taken ts after None n e f = absurd (none_is_some n f)
 number_taken ts after (Some t) n e f = taken ts after t e
 
@@ -135,7 +140,8 @@ pub names_more : (n m : ℕ) (names : List (List ℕ)) (tokens : List Lexeme) (x
 unfolding names_from
 names_more n m names tokens x same e = rw (same, e) refl
 
-names_none : (n m : ℕ) (names : List (List ℕ)) (tokens : List Lexeme) → n ≡ suc m → quoted_at tokens ≡ None → names_from n names tokens ≡ None
+names_none : (n m : ℕ) (names : List (List ℕ)) (tokens : List Lexeme) → n ≡ suc m → quoted_at tokens ≡ None
+    → names_from n names tokens ≡ None
 unfolding names_from
 names_none n m names tokens same e = rw (same, e) refl
 

@@ -8,7 +8,8 @@ use Rattle.std.proofs.lemmas.Bool.Decides.{nat_tests}
 use Rattle.pg_syntax.specs.Lexemes.{Lexeme, number, identifier, header, string, body, ampersand, stray, Character}
 use Rattle.pg_automaton.specs.Automata.{IsPropositionName, IsNameByte}
 use Rattle.pg_syntax.specs.Syntax.{Value, numeral, word, quoted, value_lexeme, character_code}
-use Rattle.pg_syntax.specs.Mirrors.HeaderScan.{numeral_at, alone_at, numbers_from, skipped_from, is_name_byte, is_name, name_of, quoted_at, names_from}
+use Rattle.pg_syntax.specs.Mirrors.HeaderScan.{numeral_at, alone_at, numbers_from, skipped_from, is_name_byte, is_name, name_of, quoted_at}
+use Rattle.pg_syntax.specs.Mirrors.HeaderScan.{names_from}
 use Rattle.pg_syntax.proofs.Lists.{both_true}
 use Rattle.pg_syntax.proofs.Steps.{bind_some}
 use Rattle.pg_lists.proofs.Steps.{chosen, some, some_is, none, none_is_some}
@@ -48,24 +49,33 @@ pub record TakesNumbers (before : List ℕ) (tokens : List Lexeme) (x : List ℕ
   pub is : tokens ≡ map number numbers ++ x.1
   pub added : x.0 ≡ before ++ numbers
 
-no_numbers : (before : List ℕ) (tokens : List Lexeme) (x : List ℕ × List Lexeme) → some (before, tokens) ≡ some x → TakesNumbers before tokens x
+no_numbers : (before : List ℕ) (tokens : List Lexeme) (x : List ℕ × List Lexeme) → some (before, tokens) ≡ some x
+    → TakesNumbers before tokens x
 no_numbers before tokens x e = grind (arith, nat_tests, some_is (before, tokens) x e, append-nil before)
 
-pub numbers_take : (tokens : List Lexeme) (before : List ℕ) (x : List ℕ × List Lexeme) → numbers_from before tokens ≡ Some x → TakesNumbers before tokens x
+pub numbers_take : (tokens : List Lexeme) (before : List ℕ) (x : List ℕ × List Lexeme) → numbers_from before tokens ≡ Some x
+    → TakesNumbers before tokens x
 unfolding numbers_from
 numbers_take [] before x e = no_numbers before [] x e
 numbers_take (number n ∷ rest) before x e =
     let more = numbers_take rest (before ++ (n ∷ [])) x e in
-    record { numbers = n ∷ more.numbers; is = ap (λ (ts : List Lexeme). number n ∷ ts) more.is; added = more.added ∙ append_assoc before (n ∷ []) more.numbers }
+    record {
+      numbers = n ∷ more.numbers;
+      is = ap (λ (ts : List Lexeme). number n ∷ ts) more.is;
+      added = more.added ∙ append_assoc before
+          (n ∷ []) more.numbers;
+    }
 numbers_take (stray ∷ rest) before x e = absurd (none_is_some x e)
 numbers_take (t ∷ rest) before x e = no_numbers before (t ∷ rest) x e
 
-pub numbers_again : (ns before : List ℕ) (rest : List Lexeme) → Follows rest → numbers_from before (map number ns ++ rest) ≡ Some (before ++ ns, rest)
+pub numbers_again : (ns before : List ℕ) (rest : List Lexeme) → Follows rest
+    → numbers_from before (map number ns ++ rest) ≡ Some (before ++ ns, rest)
 unfolding numbers_from
 numbers_again [] before (header w ∷ rest) f = ap (λ (ns : List ℕ). some (ns, header w ∷ rest)) (sym (append-nil before))
 numbers_again [] before (body ∷ rest) f = ap (λ (ns : List ℕ). some (ns, body ∷ rest)) (sym (append-nil before))
 numbers_again [] before _ f = absurd f
-numbers_again (n ∷ ns) before rest f = grind (arith, nat_tests, numbers_again ns (before ++ (n ∷ [])) rest f, append_assoc before (n ∷ []) ns)
+numbers_again (n ∷ ns) before rest f =
+    grind (arith, nat_tests, numbers_again ns (before ++ (n ∷ [])) rest f, append_assoc before (n ∷ []) ns)
 
 -- ---- the values of a header that is skipped
 

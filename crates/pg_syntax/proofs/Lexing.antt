@@ -43,10 +43,11 @@ enough (suc n) (suc m) bytes p q =
     let gap : (o : Option (List ℕ)) → gap_from 0 bytes ≡ o → behind_gap (lex_within n) o ≡ behind_gap (lex_within m) o
     = λ o. elim o as (λ o. gap_from 0 bytes ≡ o → behind_gap (lex_within n) o ≡ behind_gap (lex_within m) o) [
       | None ↦ λ e. refl
-      | Some mid ↦ elim mid as (λ mid. gap_from 0 bytes ≡ Some mid → behind_gap (lex_within n) (Some mid) ≡ behind_gap (lex_within m) (Some mid)) [
-        | [] ↦ λ e. refl
-        | b ∷ mid ↦ λ e. token b mid (gap_shrinks bytes (b ∷ mid) e) (solid_at (b ∷ mid)) refl
-      ]
+      | Some mid ↦ elim mid as (λ mid. gap_from 0 bytes ≡ Some mid → behind_gap (lex_within n) (Some mid) ≡ behind_gap (lex_within m)
+          (Some mid)) [
+            | [] ↦ λ e. refl
+            | b ∷ mid ↦ λ e. token b mid (gap_shrinks bytes (b ∷ mid) e) (solid_at (b ∷ mid)) refl
+          ]
     ] in
     gap (gap_from 0 bytes) refl
 
@@ -58,7 +59,8 @@ pub lex_ends : (bytes : List ℕ) → gap_from 0 bytes ≡ Some [] → lex bytes
 unfolding lex lex_within
 lex_ends bytes e = rw e refl
 
-pub lex_wrong : (bytes : List ℕ) (b : ℕ) (mid : List ℕ) → gap_from 0 bytes ≡ Some (b ∷ mid) → solid_at (b ∷ mid) ≡ None → lex bytes ≡ stray ∷ []
+pub lex_wrong : (bytes : List ℕ) (b : ℕ) (mid : List ℕ) → gap_from 0 bytes ≡ Some (b ∷ mid) → solid_at (b ∷ mid) ≡ None
+    → lex bytes ≡ stray ∷ []
 unfolding lex lex_within
 lex_wrong bytes b mid e h = rw (e, h) refl
 

@@ -1,6 +1,7 @@
 pub mod BodyLaws
 pub mod BodyTurns
 pub mod FormulaLaws
+pub mod FormulaOps
 pub mod FormulasAgain
 pub mod FormulasTake
 pub mod Frames
@@ -11,18 +12,17 @@ pub mod HeaderParts
 pub mod HeaderSteps
 pub mod HeaderTurns
 pub mod HeaderValues
-pub mod Keeping
 pub mod KeptEdges
 pub mod Lexing
 pub mod Lists
 pub mod Noting
+pub mod PreambleLaws
 pub mod ReadCan
 pub mod ReadParts
 pub mod ReadSpelt
 pub mod ReadSpeltHeads
 pub mod ReadSpeltLines
 pub mod SetLists
-pub mod Settles
 pub mod ShapeFinds
 pub mod ShapeNests
 pub mod ShapeSteps

@@ -1,5 +1,6 @@
 -- Numbers of propositions as they are noted say what those say that are written.
-use Rattle.std.proofs.Common.{◌≡◌, ◌∙◌, ℕ, zero, suc, ◌+◌, ◌<◌, ◌≤◌, Bool, true, false, cond, List, [], ◌∷◌, ◌++◌, get_or, min, refl, sym, arith}
+use Rattle.std.proofs.Common.{◌≡◌, ◌∙◌, ℕ, zero, suc, ◌+◌, ◌<◌, ◌≤◌, Bool, true, false, cond, List, [], ◌∷◌, ◌++◌, get_or, min, refl, sym}
+use Rattle.std.proofs.Common.{arith}
 use Rattle.std.proofs.lemmas.Bool.Decides.{nat_tests}
 use Rattle.std.specs.Prelude.{◌==◌, ◌||◌, ◌&&◌, nat_lt}
 use Rattle.std.specs.List.{All, list_any, list_all}
@@ -7,7 +8,7 @@ use Rattle.std.proofs.lemmas.Bool.{ltb-true, lt-ltb}
 use Rattle.std.proofs.lemmas.List.FromFn.{map-range_with_len_more}
 use Rattle.std.proofs.lemmas.List.Sums.{AllPass-from_list_all, list_all-from_AllPass}
 use Rattle.pg_syntax.specs.Mirrors.HeaderScan.{note, noted_behind, noted}
-use Rattle.pg_syntax.specs.Mirrors.Settling.{marked}
+use Rattle.pg_syntax.specs.Mirrors.Preambles.{marked}
 
 pub noted_snoc : (kept front : List ℕ) (n : ℕ) → noted_behind kept (front ++ (n ∷ [])) ≡ note (noted_behind kept front) n
 noted_snoc kept [] n = refl
@@ -62,7 +63,8 @@ any_below c m (n ∷ ns) e h = grind (arith, nat_tests, any_below c m ns)
 
 below_note : (c n : ℕ) (kept : List ℕ) → c ≤ 16 → below c (note kept n) ≡ (below c kept && nat_lt n c)
 below_note c n kept few =
-    elim (any (min n 16) kept) as (λ b. any (min n 16) kept ≡ b → below c (cond b kept (kept ++ (min n 16 ∷ []))) ≡ (below c kept && nat_lt n c)) [
+    elim (any (min n 16) kept) as (λ b. any (min n 16) kept ≡ b → below c
+    (cond b kept (kept ++ (min n 16 ∷ []))) ≡ (below c kept && nat_lt n c)) [
       | true ↦ λ e. grind (arith, nat_tests, any_below c (min n 16) kept e)
       | false ↦ λ e. grind (arith, nat_tests, below_push c (min n 16) kept)
     ] refl

@@ -16,8 +16,8 @@ use Rattle.pg_syntax.specs.Syntax.{acceptances}
 use Rattle.pg_syntax.specs.Mirrors.Kept.{KeptHead, KeptLine}
 use Rattle.pg_syntax.specs.Mirrors.HeaderScan.{headers_at}
 use Rattle.pg_syntax.specs.Mirrors.BodyScan.{body_at}
-use Rattle.pg_syntax.specs.Mirrors.Settling.{Settled, IsSettled, HasCondition, NeverSettled, StartsBelow, listed, nothing_at}
-use Rattle.pg_syntax.specs.Mirrors.Readings.{bound, states_in, kept_states, Reads, NeverReads}
+use Rattle.pg_syntax.specs.Mirrors.Preambles.{Preamble, IsPreambleOf, HasCondition, HasNoPreamble, StartsBelow, listed, nothing_at}
+use Rattle.pg_syntax.specs.Mirrors.Readings.{bound, states_in, state_count, Reads, NeverReads}
 use Rattle.pg_lists.proofs.Steps.{some, some_is, none_is_some}
 use Rattle.pg_syntax.proofs.HeaderParts.{option_list}
 use Rattle.pg_syntax.proofs.HeaderLaws.{headers_take}
@@ -46,19 +46,23 @@ few_listed : (names : Option (List (List ℕ))) → IfSome names (λ ns. length 
 few_listed None few = omega arith
 few_listed (Some ns) few = few
 
-pub few_names : (tokens : List Lexeme) (x : KeptHead × List Lexeme) (s : Settled) → headers_at tokens ≡ Some x → IsSettled x.0 s → length s.names ≤ 16
-few_names tokens x s e i = subst (λ (ns : List (List ℕ)). length ns ≤ 16) (sym i.names) (few_listed x.0.names (headers_take tokens x e).says.few_names)
+pub few_names : (tokens : List Lexeme) (x : KeptHead × List Lexeme) (s : Preamble) → headers_at tokens ≡ Some x → IsPreambleOf x.0 s
+    → length s.names ≤ 16
+few_names tokens x s e i =
+    subst (λ (ns : List (List ℕ)). length ns ≤ 16) (sym i.names) (few_listed x.0.names (headers_take tokens x e).says.few_names)
 
 few_bound : (states : Option ℕ) → IfSome states (λ n. n ≤ 65535) → bound states ≤ 65535
 few_bound None few = omega arith
 few_bound (Some n) few = few
 
-pub few_states : (tokens : List Lexeme) (x : KeptHead × List Lexeme) (s : Settled) → headers_at tokens ≡ Some x → IsSettled x.0 s → bound s.states ≤ 65535
-few_states tokens x s e i = subst (λ (o : Option ℕ). bound o ≤ 65535) (sym i.states) (few_bound x.0.states (headers_take tokens x e).says.few_states)
+pub few_states : (tokens : List Lexeme) (x : KeptHead × List Lexeme) (s : Preamble) → headers_at tokens ≡ Some x → IsPreambleOf x.0 s
+    → bound s.states ≤ 65535
+few_states tokens x s e i =
+    subst (λ (o : Option ℕ). bound o ≤ 65535) (sym i.states) (few_bound x.0.states (headers_take tokens x e).says.few_states)
 
--- ---- what is settled is so once
+-- ---- there is one preamble
 
-pub record AreSettled (s t : Settled) : Type 0 where
+pub record SamePreamble (s t : Preamble) : Type 0 where
   pub states : s.states ≡ t.states
   pub start : s.start ≡ t.start
   pub names : s.names ≡ t.names
@@ -66,11 +70,12 @@ pub record AreSettled (s t : Settled) : Type 0 where
   pub sets : s.sets ≡ t.sets
   pub shape : s.shape ≡ t.shape
 
-same_shape : (f g : Formula) (sets more : ℕ) (s t : Shape) → sets ≡ more → postfix f ≡ postfix g → HasShape f sets s → HasShape g more t → s ≡ t
+same_shape : (f g : Formula) (sets more : ℕ) (s t : Shape) → sets ≡ more → postfix f ≡ postfix g → HasShape f sets s → HasShape g more t
+    → s ≡ t
 same_shape f g sets more s t n e a b = one_shape (shape_alike f g more s e (subst (λ (k : ℕ). HasShape f k s) n a)) b
 
-pub settled_once : (h : KeptHead) (s t : Settled) → IsSettled h s → IsSettled h t → AreSettled s t
-settled_once h s t i j =
+pub one_preamble : (h : KeptHead) (s t : Preamble) → IsPreambleOf h s → IsPreambleOf h t → SamePreamble s t
+one_preamble h s t i j =
     let start = some_is s.start t.start (sym i.start ∙ j.start) in
     let pair = some_is (kept (s.sets, i.condition)) (kept (t.sets, j.condition)) (sym i.acceptance ∙ j.acceptance) in
     let sets : s.sets ≡ t.sets = ap (λ (x : ℕ × List Op). x.0) pair in
@@ -96,32 +101,34 @@ same_head : (tokens behind more : List Lexeme) (h k : KeptHead) → headers_at t
 same_head tokens behind more h k e d = let pair = some_is (k, more) (h, behind) (sym d ∙ e) in
     (ap (λ (x : KeptHead × List Lexeme). x.0) pair, ap (λ (x : KeptHead × List Lexeme). x.1) pair)
 
-settled_too : (tokens behind : List Lexeme) (h k : KeptHead) (s : Settled) (lines : List KeptLine) → headers_at tokens ≡ Some (h, behind)
-    → Reads tokens k s lines → IsSettled h s
-settled_too tokens behind h k s lines e r = subst (λ (g : KeptHead). IsSettled g s) (same_head tokens behind r.behind h k e r.headers).0 r.settled
+preamble_too : (tokens behind : List Lexeme) (h k : KeptHead) (s : Preamble) (lines : List KeptLine) → headers_at tokens ≡ Some (h, behind)
+    → Reads tokens k s lines → IsPreambleOf h s
+preamble_too tokens behind h k s lines e r =
+    subst (λ (g : KeptHead). IsPreambleOf g s) (same_head tokens behind r.behind h k e r.headers).0 r.preamble
 
-pub settle_never : (refusal : Refusal) (tokens behind : List Lexeme) (h : KeptHead) → headers_at tokens ≡ Some (h, behind)
-    → NeverSettled h refusal → NeverReads tokens refusal
-settle_never Memory tokens behind h e never = tt
-settle_never (Wrong fault) tokens behind h e never = λ k s lines r. never s (settled_too tokens behind h k s lines e r)
+pub preamble_never : (refusal : Refusal) (tokens behind : List Lexeme) (h : KeptHead) → headers_at tokens ≡ Some (h, behind)
+    → HasNoPreamble h refusal → NeverReads tokens refusal
+preamble_never Memory tokens behind h e never = tt
+preamble_never (Wrong fault) tokens behind h e never = λ k s lines r. never s (preamble_too tokens behind h k s lines e r)
 
 -- whatever is read has these lines in its body
-same_body : (tokens behind : List Lexeme) (h k : KeptHead) (s t : Settled) (lines : List KeptLine) → headers_at tokens ≡ Some (h, behind)
-    → IsSettled h s → Reads tokens k t lines → body_at (bound s.states) (length s.names) s.sets behind ≡ some (lines, [])
+same_body : (tokens behind : List Lexeme) (h k : KeptHead) (s t : Preamble) (lines : List KeptLine) → headers_at tokens ≡ Some (h, behind)
+    → IsPreambleOf h s → Reads tokens k t lines → body_at (bound s.states) (length s.names) s.sets behind ≡ some (lines, [])
 same_body tokens behind h k s t lines e i r = grind (
   arith,
   nat_tests,
-  settled_once h s t i (settled_too tokens behind h k t lines e r),
+  one_preamble h s t i (preamble_too tokens behind h k t lines e r),
   same_head tokens behind r.behind h k e r.headers,
 )
 
-pub body_never : (refusal : Refusal) (tokens behind : List Lexeme) (h : KeptHead) (s : Settled) → headers_at tokens ≡ Some (h, behind)
-    → IsSettled h s → Fails refusal (body_at (bound s.states) (length s.names) s.sets behind) → NeverReads tokens refusal
+pub body_never : (refusal : Refusal) (tokens behind : List Lexeme) (h : KeptHead) (s : Preamble) → headers_at tokens ≡ Some (h, behind)
+    → IsPreambleOf h s → Fails refusal (body_at (bound s.states) (length s.names) s.sets behind) → NeverReads tokens refusal
 body_never Memory tokens behind h s e i f = tt
-body_never (Wrong fault) tokens behind h s e i f = λ k t lines r. none_is_some (lines, []) (sym f ∙ same_body tokens behind h k s t lines e i r)
+body_never (Wrong fault) tokens behind h s e i f =
+    λ k t lines r. none_is_some (lines, []) (sym f ∙ same_body tokens behind h k s t lines e i r)
 
-pub end_never : (refusal : Refusal) (tokens behind rest : List Lexeme) (h : KeptHead) (s : Settled) (lines : List KeptLine)
-    → headers_at tokens ≡ Some (h, behind) → IsSettled h s → body_at (bound s.states) (length s.names) s.sets behind ≡ Some (lines, rest)
+pub end_never : (refusal : Refusal) (tokens behind rest : List Lexeme) (h : KeptHead) (s : Preamble) (lines : List KeptLine)
+    → headers_at tokens ≡ Some (h, behind) → IsPreambleOf h s → body_at (bound s.states) (length s.names) s.sets behind ≡ Some (lines, rest)
     → Fails refusal (nothing_at rest) → NeverReads tokens refusal
 end_never Memory tokens behind rest h s lines e i b f = tt
 end_never (Wrong fault) tokens behind rest h s lines e i b f = grind (arith, nat_tests)
@@ -132,8 +139,8 @@ nothing_left : (rest : List Lexeme) → nothing_at rest ≡ Some 0 → rest ≡ 
 nothing_left [] e = refl
 nothing_left (t ∷ rest) e = absurd (none_is_some 0 e)
 
-pub all_read : (tokens behind rest : List Lexeme) (h : KeptHead) (s : Settled) (lines : List KeptLine)
-    → headers_at tokens ≡ Some (h, behind) → IsSettled h s → body_at (bound s.states) (length s.names) s.sets behind ≡ Some (lines, rest)
+pub all_read : (tokens behind rest : List Lexeme) (h : KeptHead) (s : Preamble) (lines : List KeptLine)
+    → headers_at tokens ≡ Some (h, behind) → IsPreambleOf h s → body_at (bound s.states) (length s.names) s.sets behind ≡ Some (lines, rest)
     → nothing_at rest ≡ Some 0 → Reads tokens h s lines
 all_read tokens behind rest h s lines e i b n = grind (arith, nat_tests, nothing_left rest n)
 
@@ -141,15 +148,15 @@ if_some : {A : Type 0} (P : A → Type 0) (o : Option A) (x : A) → o ≡ Some 
 if_some {A = A} P o x e p = subst (λ (q : Option A). IfSome q P) e p
 
 -- the start and the counts are in range
-pub record IsInRange (s : Settled) (lines : List KeptLine) : Type 0 where
-  pub start_below : s.start < kept_states s lines
-  pub few_states : kept_states s lines ≤ 65535
+pub record IsInRange (s : Preamble) (lines : List KeptLine) : Type 0 where
+  pub start_below : s.start < state_count s lines
+  pub few_states : state_count s lines ≤ 65535
   pub few_propositions : length s.names ≤ 16
   pub few_sets : s.sets ≤ 4096
 
-pub reads_within : (tokens : List Lexeme) (h : KeptHead) (s : Settled) (lines : List KeptLine) → Reads tokens h s lines → IsInRange s lines
+pub reads_within : (tokens : List Lexeme) (h : KeptHead) (s : Preamble) (lines : List KeptLine) → Reads tokens h s lines → IsInRange s lines
 reads_within tokens h s lines r =
-    let i = r.settled in
+    let i = r.preamble in
     let says = (headers_take tokens (h, r.behind) r.headers).says in
     let body = body_takes (bound s.states) (length s.names) s.sets r.behind (lines, []) r.body in
     let low : s.start ≤ 65534 = if_some (λ (q : ℕ). q ≤ 65534) h.start s.start i.start says.low_start in

@@ -5,13 +5,14 @@ use Rattle.std.specs.Prelude.{codes}
 use Rattle.std.specs.List.{flat_map, AllByRecursion}
 use Rattle.pg_automaton.specs.Automata.{Automaton, IsPropositionName}
 use Rattle.pg_syntax.specs.Lexemes.{Lexeme, identifier, header, body, end}
-use Rattle.pg_syntax.specs.Syntax.{Written, IsText, IsHeader, Says, IsDistinct, LineFits, EachBelow, header_lexemes, state_lexemes, text_lexemes}
+use Rattle.pg_syntax.specs.Syntax.{Written, IsText, IsHeader, Says, IsDistinct, LineFits, EachBelow, header_lexemes, state_lexemes}
+use Rattle.pg_syntax.specs.Syntax.{text_lexemes}
 use Rattle.pg_syntax.specs.Syntax.{character_code, state_counts, names, controls, acceptances}
 use Rattle.pg_syntax.specs.Mirrors.Scan.{lex, IsToken}
-use Rattle.pg_syntax.specs.Mirrors.Kept.{KeptHead, KeptLine, line_kept}
+use Rattle.pg_syntax.specs.Mirrors.Kept.{KeptHead, KeptLine, kept_of_line}
 use Rattle.pg_syntax.specs.Mirrors.HeaderScan.{noted}
-use Rattle.pg_syntax.specs.Mirrors.Settling.{Settled, IsSettled, listed, marked}
-use Rattle.pg_syntax.specs.Mirrors.Readings.{Reads, AreFew, Declares, bare_automaton, bound, kept_states}
+use Rattle.pg_syntax.specs.Mirrors.Preambles.{Preamble, IsPreambleOf, listed, marked}
+use Rattle.pg_syntax.specs.Mirrors.Readings.{Reads, AreFew, Declares, bare_automaton, bound, state_count}
 use Rattle.pg_syntax.proofs.Spelling.{lex_spelt}
 use Rattle.pg_syntax.proofs.HeaderParts.{option_list}
 use Rattle.pg_syntax.proofs.HeaderLaws.{SaysHeaders, headers_take, header_tokens}
@@ -25,11 +26,11 @@ use Rattle.pg_syntax.proofs.ReadSpeltLines.{states_fit}
 -- ---- the text
 
 -- the text that the bytes are, and what its headers and lines say
-record ReadText (bytes : List ℕ) (h : KeptHead) (s : Settled) (lines : List KeptLine) : Type 0 where
+record ReadText (bytes : List ℕ) (h : KeptHead) (s : Preamble) (lines : List KeptLine) : Type 0 where
   written : Written
   text : IsText bytes written
   headers : SaysHeaders written.headers h
-  kept : map line_kept written.lines ≡ lines
+  kept : map kept_of_line written.lines ≡ lines
   fit : AllByRecursion (LineFits (bound s.states) (length s.names) s.sets) written.lines
   distinct : IsDistinct (map (λ l. l.state) written.lines)
 
@@ -44,7 +45,7 @@ all_tokens w good =
       ),
     )
 
-reads_text : (bytes : List ℕ) (h : KeptHead) (s : Settled) (lines : List KeptLine) → Reads (lex bytes) h s lines → ReadText bytes h s lines
+reads_text : (bytes : List ℕ) (h : KeptHead) (s : Preamble) (lines : List KeptLine) → Reads (lex bytes) h s lines → ReadText bytes h s lines
 reads_text bytes h s lines r =
     let t = headers_take (lex bytes) (h, r.behind) r.headers in
     let b = body_takes (bound s.states) (length s.names) s.sets r.behind (lines, []) r.body in
@@ -63,13 +64,14 @@ reads_text bytes h s lines r =
 
 -- ---- what the text says
 
-abbrev pub settled_automaton : Settled → List KeptLine → Automaton
-settled_automaton s lines = bare_automaton (kept_states s lines) s.start s.names s.controllable s.sets s.shape
+abbrev pub preamble_automaton : Preamble → List KeptLine → Automaton
+preamble_automaton s lines = bare_automaton (state_count s lines) s.start s.names s.controllable s.sets s.shape
 
-says_settled : (w : Written) (h : KeptHead) (s : Settled) → SaysHeaders w.headers h → IsSettled h s → IsInRange s (map line_kept w.lines)
-    → AreFew s (map line_kept w.lines) → AllByRecursion (LineFits (bound s.states) (length s.names) s.sets) w.lines
-    → IsDistinct (map (λ l. l.state) w.lines) → Says w (settled_automaton s (map line_kept w.lines))
-says_settled w h s said i within few fit distinct =
+says_preamble : (w : Written) (h : KeptHead) (s : Preamble) → SaysHeaders w.headers h → IsPreambleOf h s
+    → IsInRange s (map kept_of_line w.lines)
+    → AreFew s (map kept_of_line w.lines) → AllByRecursion (LineFits (bound s.states) (length s.names) s.sets) w.lines
+    → IsDistinct (map (λ l. l.state) w.lines) → Says w (preamble_automaton s (map kept_of_line w.lines))
+says_preamble w h s said i within few fit distinct =
     let hs = w.headers in
     let propositions = names_are h.names (flat_map names hs) said.names in
     let numbers = flat_map (λ x. x) (flat_map controls hs) in
@@ -101,8 +103,8 @@ says_settled w h s said i within few fit distinct =
       few_steps = few;
     }
 
-pub reads_declare : (bytes : List ℕ) (h : KeptHead) (s : Settled) (lines : List KeptLine) → Reads (lex bytes) h s lines → AreFew s lines
-    → Declares bytes (settled_automaton s lines) lines
+pub reads_declare : (bytes : List ℕ) (h : KeptHead) (s : Preamble) (lines : List KeptLine) → Reads (lex bytes) h s lines → AreFew s lines
+    → Declares bytes (preamble_automaton s lines) lines
 reads_declare bytes h s lines r few =
     let t = reads_text bytes h s lines r in
     record {
@@ -111,7 +113,7 @@ reads_declare bytes h s lines r few =
       says = grind (
         arith,
         nat_tests,
-        says_settled t.written h s t.headers r.settled
+        says_preamble t.written h s t.headers r.preamble
             (subst (IsInRange s) (sym t.kept) (reads_within (lex bytes) h s lines r)) (subst (AreFew s) (sym t.kept) few) t.fit t.distinct,
       );
       kept = t.kept;

@@ -12,13 +12,13 @@ use Rattle.pg_syntax.specs.Mirrors.FormulaRun.{postfix}
 use Rattle.pg_automaton.specs.Shapes.{HasShape}
 use Rattle.pg_automaton.specs.Automata.{IsPropositionName}
 use Rattle.pg_syntax.specs.Syntax.{StateLine, AtMostOne, character_code, count_of, line_numbers}
-use Rattle.pg_syntax.specs.Mirrors.Kept.{line_kept}
+use Rattle.pg_syntax.specs.Mirrors.Kept.{kept_of_line}
 use Rattle.pg_syntax.specs.Mirrors.HeaderScan.{noted}
-use Rattle.pg_syntax.specs.Mirrors.Settling.{listed}
+use Rattle.pg_syntax.specs.Mirrors.Preambles.{listed}
 use Rattle.pg_syntax.specs.Mirrors.Readings.{states_in}
 use Rattle.pg_syntax.proofs.HeaderParts.{option_list}
 use Rattle.pg_syntax.proofs.ShapeTrees.{one_tree}
-use Rattle.pg_syntax.proofs.KeptEdges.{kept_count_is}
+use Rattle.pg_syntax.proofs.KeptEdges.{count_named_is}
 
 option_once : {A : Type 0} (o : Option A) → AtMostOne (option_list o)
 option_once None = omega arith
@@ -33,13 +33,14 @@ mapped_once f o xs e = omega (arith, once o (map f xs) e, length-map xs f)
 -- ---- states
 
 counted_in : (states : Option ℕ) (start : ℕ) (lines : List StateLine)
-    → states_in states start (map line_kept lines) ≡ count_of (option_list states) (start ∷ flat_map line_numbers lines)
-counted_in None start lines = kept_count_is start lines
+    → states_in states start (map kept_of_line lines) ≡ count_of (option_list states) (start ∷ flat_map line_numbers lines)
+counted_in None start lines = count_named_is start lines
 counted_in (Some n) start lines = refl
 
 pub states_are : (states : Option ℕ) (counts : List ℕ) (start : ℕ) (lines : List StateLine) → option_list states ≡ counts
-    → states_in states start (map line_kept lines) ≡ count_of counts (start ∷ flat_map line_numbers lines)
-states_are states counts start lines e = counted_in states start lines ∙ ap (λ (ns : List ℕ). count_of ns (start ∷ flat_map line_numbers lines)) e
+    → states_in states start (map kept_of_line lines) ≡ count_of counts (start ∷ flat_map line_numbers lines)
+states_are states counts start lines e = counted_in states start lines
+    ∙ ap (λ (ns : List ℕ). count_of ns (start ∷ flat_map line_numbers lines)) e
 
 -- ---- propositions
 
@@ -51,11 +52,13 @@ names_are (Some names) [] e = absurd cc
 names_are (Some names) (ns ∷ []) e = let same : names ≡ map (map character_code) ns = cc in rw (append-nil ns) same
 names_are (Some names) (ns ∷ ms ∷ lists) e = absurd cc
 
-pub good_names : (o : Option (List (List ℕ))) → IfSome o (λ ns. AllByRecursion IsPropositionName ns) → AllByRecursion IsPropositionName (listed o)
+pub good_names : (o : Option (List (List ℕ))) → IfSome o (λ ns. AllByRecursion IsPropositionName ns)
+    → AllByRecursion IsPropositionName (listed o)
 good_names None good = tt
 good_names (Some names) good = good
 
-pub controls_are : (o : Option (List ℕ)) (lists : List (List ℕ)) → option_list o ≡ map noted lists → listed o ≡ noted (flat_map (λ x. x) lists)
+pub controls_are : (o : Option (List ℕ)) (lists : List (List ℕ)) → option_list o ≡ map noted lists
+    → listed o ≡ noted (flat_map (λ x. x) lists)
 controls_are None [] e = refl
 controls_are None (ns ∷ lists) e = absurd cc
 controls_are (Some kept) [] e = absurd cc

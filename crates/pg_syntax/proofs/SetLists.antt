@@ -27,7 +27,8 @@ put_between [] n (suc i) le below above = absurd (omega arith)
 put_between (x ∷ xs) n zero le below above = let first : n < x = above 0 (omega arith) (omega arith) in grind (arith, nat_tests)
 put_between (x ∷ xs) n (suc i) le below above =
     let first : x < n = below 0 (omega arith) in
-    let rest = put_between xs n i (omega arith) (λ k lt. below (suc k) (omega arith)) (λ k ge lt. above (suc k) (omega arith) (omega arith)) in
+    let rest =
+    put_between xs n i (omega arith) (λ k lt. below (suc k) (omega arith)) (λ k ge lt. above (suc k) (omega arith) (omega arith)) in
     grind (arith, nat_tests)
 
 put_there : (xs : List ℕ) (n i : ℕ) → Rises xs → i < length xs → get_or xs i 0 ≡ n → put n xs ≡ xs

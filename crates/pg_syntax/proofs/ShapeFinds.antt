@@ -37,7 +37,8 @@ fits_tells f k shape h =
     let wanted = wanted_at shape (suc k) in
     let form = nested_in shape (suc k) k in
     let is : condition_of shape (suc k) ≡ Some form = condition_nested shape k h in
-    let at : nests_at set wanted (suc k - 1) (postfix f) ≡ nests_at set wanted k (postfix f) = ap (λ (m : ℕ). nests_at set wanted m (postfix f)) (one_less k) in
+    let at : nests_at set wanted (suc k - 1) (postfix f) ≡ nests_at set wanted k (postfix f) =
+    ap (λ (m : ℕ). nests_at set wanted m (postfix f)) (one_less k) in
     record {
       right = λ e.
           let t = nests_tree set wanted k (postfix f) (sym at ∙ e) in
@@ -91,7 +92,8 @@ pub record Finds (f : Formula) (sets : ℕ) (answer : Option Shape) : Type 0 whe
 four_finds : (f : Formula) (k : ℕ) (a b d e : Bool) → Tells f (suc k) MaxEven a → Tells f (suc k) MaxOdd b → Tells f (suc k) MinEven d
     → Tells f (suc k) MinOdd e → Finds f (suc k) (first_of_four a b d e)
 four_finds f k true b d e ta tb td te = record { found = record { fits = ta.right refl; first = λ other h fits. omega arith }; none = tt }
-four_finds f k false true d e ta tb td te = record { found = record { fits = tb.right refl; first = first_max_odd f (suc k) (refuted ta) }; none = tt }
+four_finds f k false true d e ta tb td te =
+    record { found = record { fits = tb.right refl; first = first_max_odd f (suc k) (refuted ta) }; none = tt }
 four_finds f k false false true e ta tb td te =
     record { found = record { fits = td.right refl; first = first_min_even f (suc k) (refuted ta) (refuted tb) }; none = tt }
 four_finds f k false false false true ta tb td te =
@@ -141,7 +143,8 @@ neither f a b Never fits = b fits
 neither f a b other fits = no_set f other (omega arith) fits
 
 constant_tells : (f : Formula) (ops : List Op) → postfix f ≡ ops → Finds f 0 (constant_at ops)
-constant_tells f (Yes ∷ []) e = record { found = record { fits = (yes, refl, one_tree f yes e); first = λ other h fits. no_set f other h fits }; none = tt }
+constant_tells f (Yes ∷ []) e =
+    record { found = record { fits = (yes, refl, one_tree f yes e); first = λ other h fits. no_set f other h fits }; none = tt }
 constant_tells f (No ∷ []) e = record {
   found = record {
     fits = (no, refl, one_tree f no e);

@@ -19,7 +19,8 @@ use Rattle.pg_syntax.proofs.ShapeTrees.{like_behind, like_parts}
 
 -- what stands inside, and where the leaf stands
 pub record Parts (wanted : Bool) (set : ℕ) (ops inner : List Op) : Type 0 where
-  pub where_is : (ops ≡ limit_op wanted set ∷ (inner ++ (join_op wanted ∷ []))) ⊎ (ops ≡ inner ++ (limit_op wanted set ∷ join_op wanted ∷ []))
+  pub where_is : (ops ≡ limit_op wanted set ∷ (inner ++ (join_op wanted ∷ []))) ⊎
+      (ops ≡ inner ++ (limit_op wanted set ∷ join_op wanted ∷ []))
 
 pub operands_parts : (wanted : Bool) (set : ℕ) (operands inner : List Op) → without_leaf wanted set operands ≡ Some inner
     → (operands ≡ limit_op wanted set ∷ inner) ⊎ (operands ≡ inner ++ (limit_op wanted set ∷ []))
@@ -27,7 +28,8 @@ unfolding without_leaf
 operands_parts wanted set [] inner e = absurd (none_is_some inner e)
 operands_parts wanted set (op ∷ ops) inner e =
     elim (chosen (is_leaf wanted set op) (some ops) (leaf_last wanted set (op ∷ ops)) (some inner) e) [
-      | inl p ↦ inl (ap (λ (o : Op). o ∷ ops) (leaf_is wanted set op p.0) ∙ ap (λ (l : List Op). limit_op wanted set ∷ l) (some_is ops inner p.1))
+      | inl p ↦ inl (ap (λ (o : Op). o ∷ ops) (leaf_is wanted set op p.0) ∙ ap (λ (l : List Op). limit_op wanted set ∷ l)
+          (some_is ops inner p.1))
       | inr p ↦
           let b = bind_some (last_op (op ∷ ops)) (λ x. cond (is_leaf wanted set x.1) (some x.0) none) inner p.1 in
           elim (chosen (is_leaf wanted set b.0.1) (some b.0.0) none (some inner) b.2) [
@@ -43,7 +45,8 @@ inner_parts wanted set ops inner e =
     let b = bind_some (last_op ops) (λ x. cond (is_join wanted x.1) (without_leaf wanted set x.0) none) inner e in
     elim (chosen (is_join wanted b.0.1) (without_leaf wanted set b.0.0) none (some inner) b.2) [
       | inl p ↦
-          let whole : ops ≡ b.0.0 ++ (join_op wanted ∷ []) = last_parts ops b.0.0 b.0.1 b.1 ∙ ap (λ (o : Op). b.0.0 ++ (o ∷ [])) (join_is wanted b.0.1 p.0) in
+          let whole : ops ≡ b.0.0 ++ (join_op wanted ∷ []) = last_parts ops b.0.0 b.0.1 b.1
+          ∙ ap (λ (o : Op). b.0.0 ++ (o ∷ [])) (join_is wanted b.0.1 p.0) in
           elim (operands_parts wanted set b.0.0 inner p.1) [
             | inl q ↦ record { where_is = inl (whole ∙ ap (λ (l : List Op). l ++ (join_op wanted ∷ [])) q) }
             | inr q ↦ record {
@@ -59,7 +62,8 @@ only_is wanted set [] e = absurd cc
 only_is wanted set (op ∷ []) e = ap (λ (o : Op). o ∷ []) (leaf_is wanted set op e)
 only_is wanted set (op ∷ more ∷ ops) e = absurd cc
 
-passed : (test : List Op → Bool) (found : Option (List Op)) → passes test found ≡ true → (ops : List Op) × (found ≡ Some ops) × (test ops ≡ true)
+passed : (test : List Op → Bool) (found : Option (List Op)) → passes test found ≡ true
+    → (ops : List Op) × (found ≡ Some ops) × (test ops ≡ true)
 passed test None e = absurd cc
 passed test (Some ops) e = (ops, refl, e)
 
@@ -148,7 +152,8 @@ first_other set wanted (suc inside) h good s more l differ =
           (λ i h. differ i (omega arith))
     ]
 
-inner_before : (wanted : Bool) (set : ℕ) (f : Formula) → inner_at wanted set (postfix (joined wanted (leaf wanted set) f)) ≡ Some (postfix f)
+inner_before : (wanted : Bool) (set : ℕ) (f : Formula)
+    → inner_at wanted set (postfix (joined wanted (leaf wanted set) f)) ≡ Some (postfix f)
 inner_before wanted set f = grind (
   arith,
   nat_tests,
@@ -186,7 +191,8 @@ tree_nests set wanted outermost (suc inside) h apart below l =
     let w = wanted (suc inside) in
     let k = set (suc inside) in
     let p = like_parts w k (nested set wanted inside) h l in
-    let other = first_other set wanted inside p.0 w k (limit_op w k ∷ []) p.1.like (λ i le. apart.differ i (suc inside) (omega arith) below) in
+    let other =
+    first_other set wanted inside p.0 w k (limit_op w k ∷ []) p.1.like (λ i le. apart.differ i (suc inside) (omega arith) below) in
     let rest : nests_at set wanted inside (postfix p.0) ≡ true = tree_nests set wanted outermost inside p.0 apart (omega arith) p.1.like in
     let test = passes (nests_at set wanted inside) in
     elim (p.1.where_is) [

@@ -62,7 +62,8 @@ abbrev pub leaf_first : Bool → ℕ → List Op → Bool
 leaf_first wanted set [] = false
 leaf_first wanted set (op ∷ ops) = is_leaf wanted set op
 
-pub takes_behind : (wanted : Bool) (set : ℕ) (op : Op) (behind : List Op) → is_leaf wanted set op ≡ true → without_leaf wanted set (op ∷ behind) ≡ Some behind
+pub takes_behind : (wanted : Bool) (set : ℕ) (op : Op) (behind : List Op) → is_leaf wanted set op ≡ true
+    → without_leaf wanted set (op ∷ behind) ≡ Some behind
 unfolding without_leaf
 takes_behind wanted set op behind e = rw e refl
 
@@ -83,7 +84,8 @@ pub inner_is : (wanted : Bool) (set : ℕ) (operands : List Op) (op : Op) → is
 unfolding inner_at
 inner_is wanted set operands op e = rw (last_pushed operands op) (rw e refl)
 
-pub inner_none : (wanted : Bool) (set : ℕ) (operands : List Op) (op : Op) → is_join wanted op ≡ false → inner_at wanted set (operands ++ (op ∷ [])) ≡ None
+pub inner_none : (wanted : Bool) (set : ℕ) (operands : List Op) (op : Op) → is_join wanted op ≡ false
+    → inner_at wanted set (operands ++ (op ∷ [])) ≡ None
 unfolding inner_at
 inner_none wanted set operands op e = rw (last_pushed operands op) (rw e refl)
 
@@ -104,8 +106,10 @@ nests_turn set wanted (suc inside) ops h = let same : suc inside - 1 ≡ inside 
 -- the same for what the steps of a turn gave
 pub fits_turn : (shape : Shape) (sets inside set : ℕ) (wanted : Bool) (ops : List Op) (inner : Option (List Op)) → 0 < inside
     → set ≡ set_at shape sets inside → wanted ≡ is_wanted shape set → inner ≡ inner_at wanted set ops
-    → passes (nests_at (set_at shape sets) (wanted_at shape sets) (inside - 1)) inner ≡ nests_at (set_at shape sets) (wanted_at shape sets) inside ops
-fits_turn shape sets inside set wanted ops inner h at good found = grind (arith, nat_tests, nests_turn (set_at shape sets) (wanted_at shape sets) inside ops h)
+    → passes (nests_at (set_at shape sets) (wanted_at shape sets) (inside - 1)) inner ≡ nests_at (set_at shape sets) (wanted_at shape sets)
+    inside ops
+fits_turn shape sets inside set wanted ops inner h at good found =
+    grind (arith, nat_tests, nests_turn (set_at shape sets) (wanted_at shape sets) inside ops h)
 
 pub fits_innermost : (shape : Shape) (sets inside set : ℕ) (wanted : Bool) (ops : List Op) → inside ≡ 0 → set ≡ set_at shape sets 0
     → wanted ≡ is_wanted shape set → only_leaf wanted set ops ≡ nests_at (set_at shape sets) (wanted_at shape sets) inside ops

@@ -48,7 +48,8 @@ built_again (bracket f) ops trees = built_again f ops trees
 
 pub one_tree : (f g : Formula) → postfix f ≡ postfix g → bare f ≡ bare g
 one_tree f g e =
-    let same : bare f ∷ [] ≡ bare g ∷ [] = sym (built_again f [] []) ∙ ap (λ (ops : List Op). built (ops ++ []) []) e ∙ built_again g [] [] in
+    let same : bare f ∷ [] ≡ bare g ∷ [] = sym (built_again f [] []) ∙ ap (λ (ops : List Op). built (ops ++ []) []) e
+    ∙ built_again g [] [] in
     cc
 
 pub bare_postfix : (f : Formula) → postfix (bare f) ≡ postfix f
@@ -91,11 +92,13 @@ pub like_leaf_is : (wanted : Bool) (set : ℕ) (f : Formula) → IsLike (leaf wa
 like_leaf_is true set f l = l
 like_leaf_is false set f l = l
 
-pub like_before : (wanted : Bool) (set : ℕ) (others f : Formula) → IsLike others f → IsLike (decides wanted set others) (joined wanted (leaf wanted set) f)
+pub like_before : (wanted : Bool) (set : ℕ) (others f : Formula) → IsLike others f
+    → IsLike (decides wanted set others) (joined wanted (leaf wanted set) f)
 like_before true set others f l = (inf set, f, refl, inl (refl, l))
 like_before false set others f l = (fin set, f, refl, inl (refl, l))
 
-pub like_behind : (wanted : Bool) (set : ℕ) (others f : Formula) → IsLike others f → IsLike (decides wanted set others) (joined wanted f (leaf wanted set))
+pub like_behind : (wanted : Bool) (set : ℕ) (others f : Formula) → IsLike others f
+    → IsLike (decides wanted set others) (joined wanted f (leaf wanted set))
 like_behind true set others f l = (f, inf set, refl, inr (refl, l))
 like_behind false set others f l = (f, fin set, refl, inr (refl, l))
 
@@ -104,6 +107,7 @@ pub record Joins (wanted : Bool) (set : ℕ) (others h f : Formula) : Type 0 whe
   pub like : IsLike others f
   pub where_is : (h ≡ joined wanted (leaf wanted set) f) ⊎ (h ≡ joined wanted f (leaf wanted set))
 
-pub like_parts : (wanted : Bool) (set : ℕ) (others h : Formula) → IsLike (decides wanted set others) h → (f : Formula) × Joins wanted set others h f
+pub like_parts : (wanted : Bool) (set : ℕ) (others h : Formula) → IsLike (decides wanted set others) h
+    → (f : Formula) × Joins wanted set others h f
 like_parts true set others h l = grind (arith, nat_tests)
 like_parts false set others h l = grind (arith, nat_tests)

@@ -16,7 +16,8 @@ use Rattle.pg_syntax.proofs.SpellingTokens.{solid_takes, token_again}
 data Seen : List ℕ → List Lexeme → Type 0 where
   ended : {bytes : List ℕ} → gap_from 0 bytes ≡ Some [] → Seen bytes []
   failed : {bytes : List ℕ} → Seen bytes (stray ∷ [])
-  token : {bytes : List ℕ} {t : Lexeme} (mid rest : List ℕ) → gap_from 0 bytes ≡ Some mid → solid_at mid ≡ Some (t, rest) → Seen bytes (t ∷ lex rest)
+  token : {bytes : List ℕ} {t : Lexeme} (mid rest : List ℕ) → gap_from 0 bytes ≡ Some mid → solid_at mid ≡ Some (t, rest)
+      → Seen bytes (t ∷ lex rest)
 
 seen_solid : (bytes : List ℕ) (b : ℕ) (mid : List ℕ) → gap_from 0 bytes ≡ Some (b ∷ mid) → Seen bytes (lex bytes)
 seen_solid bytes b mid e =
@@ -60,7 +61,8 @@ lex_spelt bytes (t ∷ tokens) all e =
 
 -- ---- what the bytes say of `lex`
 
-lex_token : (bytes mid : List ℕ) (t : Lexeme) (rest : List ℕ) → gap_from 0 bytes ≡ Some mid → solid_at mid ≡ Some (t, rest) → lex bytes ≡ t ∷ lex rest
+lex_token : (bytes mid : List ℕ) (t : Lexeme) (rest : List ℕ) → gap_from 0 bytes ≡ Some mid → solid_at mid ≡ Some (t, rest)
+    → lex bytes ≡ t ∷ lex rest
 unfolding solid_at
 lex_token bytes [] t rest e h = absurd (none_is_some (t, rest) h)
 lex_token bytes (b ∷ mid) t rest e h = lex_more bytes b mid t rest e h

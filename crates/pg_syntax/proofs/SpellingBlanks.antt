@@ -22,7 +22,8 @@ abbrev closes : ℕ → ℕ → Bool
 closes b c = eqb b 42 && eqb c 47
 
 module _ (deep b c : ℕ) (bytes : List ℕ) where
-  one_opens : opens b c ≡ true → ltb (suc deep) 8192 ≡ true → after_comments (suc deep) (b ∷ c ∷ bytes) ≡ after_comments (suc (suc deep)) bytes
+  one_opens : opens b c ≡ true → ltb (suc deep) 8192 ≡ true
+      → after_comments (suc deep) (b ∷ c ∷ bytes) ≡ after_comments (suc (suc deep)) bytes
   one_opens p q = rw (p, q) refl
 
   one_too_deep : opens b c ≡ true → ltb (suc deep) 8192 ≡ false → after_comments (suc deep) (b ∷ c ∷ bytes) ≡ None
@@ -89,12 +90,14 @@ comments_again (suc deep) (b ∷ []) behind rest e = absurd (none_is_some behind
 comments_again (suc deep) (b ∷ c ∷ bytes) behind rest e =
     elim (cases_Bool (opens b c)) [
       | inl p ↦ elim (cases_Bool (ltb (suc deep) 8192)) [
-        | inl q ↦ one_opens deep b c (bytes ++ rest) p q ∙ comments_again (suc (suc deep)) bytes behind rest (sym (one_opens deep b c bytes p q) ∙ e)
+        | inl q ↦ one_opens deep b c (bytes ++ rest) p q
+            ∙ comments_again (suc (suc deep)) bytes behind rest (sym (one_opens deep b c bytes p q) ∙ e)
         | inr q ↦ absurd (none_is_some behind (sym (one_too_deep deep b c bytes p q) ∙ e))
       ]
       | inr p ↦ elim (cases_Bool (closes b c)) [
         | inl q ↦ one_closes deep b c (bytes ++ rest) p q ∙ comments_again deep bytes behind rest (sym (one_closes deep b c bytes p q) ∙ e)
-        | inr q ↦ one_within deep b c (bytes ++ rest) p q ∙ comments_again (suc deep) (c ∷ bytes) behind rest (sym (one_within deep b c bytes p q) ∙ e)
+        | inr q ↦ one_within deep b c (bytes ++ rest) p q
+            ∙ comments_again (suc deep) (c ∷ bytes) behind rest (sym (one_within deep b c bytes p q) ∙ e)
       ]
     ]
 
@@ -106,7 +109,8 @@ record Ends (deep : ℕ) (bytes rest : List ℕ) : Type 0 where
 
 abbrev wider : (deep more b : ℕ) (bytes rest : List ℕ) → Ends more bytes rest
     → ((inside : List ℕ) → after_comments more inside ≡ Some [] → after_comments deep (b ∷ inside) ≡ Some []) → Ends deep (b ∷ bytes) rest
-wider deep more b bytes rest r more_is = record { inside = b ∷ r.inside; parts = ap (λ (l : List ℕ). b ∷ l) r.parts; whole = more_is r.inside r.whole }
+wider deep more b bytes rest r more_is =
+    record { inside = b ∷ r.inside; parts = ap (λ (l : List ℕ). b ∷ l) r.parts; whole = more_is r.inside r.whole }
 
 ends_within : (deep b c : ℕ) (bytes rest inside : List ℕ) → opens b c ≡ false → closes b c ≡ false → c ∷ bytes ≡ inside ++ rest
     → after_comments (suc deep) inside ≡ Some [] → after_comments (suc deep) (b ∷ inside) ≡ Some []
@@ -122,16 +126,31 @@ comments_end (suc deep) (b ∷ c ∷ bytes) rest e =
       | inl p ↦ elim (cases_Bool (ltb (suc deep) 8192)) [
         | inl q ↦
             let r = comments_end (suc (suc deep)) bytes rest (sym (one_opens deep b c bytes p q) ∙ e) in
-            record { inside = b ∷ c ∷ r.inside; parts = ap (λ (l : List ℕ). b ∷ c ∷ l) r.parts; whole = one_opens deep b c r.inside p q ∙ r.whole }
+            record {
+              inside = b ∷ c ∷ r.inside;
+              parts = ap (λ (l : List ℕ). b ∷ c ∷ l) r.parts;
+              whole = one_opens deep b c r.inside p q
+                  ∙ r.whole;
+            }
         | inr q ↦ absurd (none_is_some rest (sym (one_too_deep deep b c bytes p q) ∙ e))
       ]
       | inr p ↦ elim (cases_Bool (closes b c)) [
         | inl q ↦
             let r = comments_end deep bytes rest (sym (one_closes deep b c bytes p q) ∙ e) in
-            record { inside = b ∷ c ∷ r.inside; parts = ap (λ (l : List ℕ). b ∷ c ∷ l) r.parts; whole = one_closes deep b c r.inside p q ∙ r.whole }
+            record {
+              inside = b ∷ c ∷ r.inside;
+              parts = ap (λ (l : List ℕ). b ∷ c ∷ l) r.parts;
+              whole = one_closes deep b c r.inside p q
+                  ∙ r.whole;
+            }
         | inr q ↦
             let r = comments_end (suc deep) (c ∷ bytes) rest (sym (one_within deep b c bytes p q) ∙ e) in
-            record { inside = b ∷ r.inside; parts = ap (λ (l : List ℕ). b ∷ l) r.parts; whole = ends_within deep b c bytes rest r.inside p q r.parts r.whole }
+            record {
+              inside = b ∷ r.inside;
+              parts = ap (λ (l : List ℕ). b ∷ l) r.parts;
+              whole = ends_within deep b c bytes rest r.inside p q
+                  r.parts r.whole;
+            }
       ]
     ]
 
@@ -212,7 +231,8 @@ blanks_within (suc n) bytes rest lt e = blanks_from n bytes rest lt (blanks_with
 pub gap_written : (bytes rest : List ℕ) → gap_from 0 bytes ≡ Some rest → Blanks bytes rest
 gap_written bytes rest e = blanks_within (suc (length bytes)) bytes rest (omega arith) e
 
-pub gap_again : (gap : List Blank) (rest : List ℕ) → AllByRecursion IsBlank gap → Stands rest → gap_from 0 (flat_map blank_bytes gap ++ rest) ≡ Some rest
+pub gap_again : (gap : List Blank) (rest : List ℕ) → AllByRecursion IsBlank gap → Stands rest
+    → gap_from 0 (flat_map blank_bytes gap ++ rest) ≡ Some rest
 gap_again [] rest blank h = gap_ends 0 rest h
 gap_again (space b ∷ gap) rest blank h = gap_next 0 (b ∷ (flat_map blank_bytes gap ++ rest)) (0, flat_map blank_bytes gap ++ rest)
     (step_white b (flat_map blank_bytes gap ++ rest) blank.0) ∙ gap_again gap rest blank.1 h

@@ -11,10 +11,12 @@ use Rattle.std.proofs.lemmas.Slice.Eq.{bytes_eq-Decides}
 use Rattle.std.proofs.Math.Dec.{eqb-suc-zero}
 use Rattle.std.proofs.Math.Seq.{take-append_seam, drop-append-add}
 use Rattle.pg_syntax.specs.Lexemes.{Lexeme, number, identifier, header, string, alias, body, end, abort, left_bracket, right_bracket}
-use Rattle.pg_syntax.specs.Lexemes.{left_brace, right_brace, left_paren, right_paren, bang, ampersand, bar, stray, Character, plain, escaped}
+use Rattle.pg_syntax.specs.Lexemes.{left_brace, right_brace, left_paren, right_paren, bang, ampersand, bar, stray, Character, plain}
+use Rattle.pg_syntax.specs.Lexemes.{escaped}
 use Rattle.pg_syntax.specs.Lexemes.{is_space, is_letter, is_inner, is_colon, IsName, character_bytes, IsCharacter, IsSpelt}
 use Rattle.pg_lists.specs.Bytes.{is_digit, Each, Stops, value_of}
-use Rattle.pg_syntax.specs.Mirrors.Scan.{characters, gap_step, number_at, name_before, name_at, string_len, string_at, alias_at, mark_at, sign_at, solid_at}
+use Rattle.pg_syntax.specs.Mirrors.Scan.{characters, gap_step, number_at, name_before, name_at, string_len, string_at, alias_at, mark_at}
+use Rattle.pg_syntax.specs.Mirrors.Scan.{sign_at, solid_at}
 use Rattle.pg_syntax.proofs.Steps.{bind_some}
 use Rattle.pg_lists.proofs.Steps.{chosen, some, some_is, none, none_is_some}
 use Rattle.pg_lists.proofs.Runs.{run_first, run_some, run_each, run_stops, run_parts, run_is, run_again, rest_again}
@@ -29,7 +31,8 @@ pub record Written (bytes : List ℕ) (x : Lexeme × List ℕ) : Type 0 where
 
 found : (bytes text : List ℕ) (t : Lexeme) (rest : List ℕ) (x : Lexeme × List ℕ) → some (t, rest) ≡ some x → bytes ≡ text ++ rest
     → IsSpelt t text rest → Written bytes x
-found bytes text t rest x e parts spelt = subst (Written bytes) (some_is (t, rest) x e) (record { text = text; parts = parts; spelt = spelt })
+found bytes text t rest x e parts spelt =
+    subst (Written bytes) (some_is (t, rest) x e) (record { text = text; parts = parts; spelt = spelt })
 
 -- a token read at the front, where nothing blank stands
 pub record Reads (bytes : List ℕ) (t : Lexeme) (rest : List ℕ) : Type 0 where
@@ -105,12 +108,14 @@ before_takes bytes w (c ∷ rest) x name stops parts e =
           (name, stops, h, refl)
     ]
 
-name_takes : (b : ℕ) (bytes : List ℕ) (x : Lexeme × List ℕ) → is_letter b || eqb b 95 ≡ true → name_at (b ∷ bytes) ≡ Some x → Written (b ∷ bytes) x
+name_takes : (b : ℕ) (bytes : List ℕ) (x : Lexeme × List ℕ) → is_letter b || eqb b 95 ≡ true → name_at (b ∷ bytes) ≡ Some x
+    → Written (b ∷ bytes) x
 unfolding name_at
 name_takes b bytes x h e =
     let all = b ∷ bytes in
     let name : IsName (take_while is_inner all) = rw (run_first is_inner b bytes (name_start b h)) (h, run_each is_inner bytes) in
-    before_takes all (take_while is_inner all) (drop (prefix_len is_inner all) all) x name (run_stops is_inner all) (run_parts is_inner all) e
+    before_takes all (take_while is_inner all) (drop (prefix_len is_inner all) all) x name (run_stops is_inner all) (run_parts is_inner all)
+    e
 
 name_inner : (w : List ℕ) → IsName w → Each is_inner w
 name_inner [] h = tt
@@ -120,7 +125,8 @@ solid_name : (b : ℕ) (bytes : List ℕ) → is_letter b || eqb b 95 ≡ true �
 unfolding solid_at
 solid_name b bytes h = rw ((name_first b h).0, h) refl
 
-name_reads : (w rest : List ℕ) (t : Lexeme) (behind : List ℕ) → IsName w → Stops is_inner rest → name_before w rest ≡ (t, behind) → Reads (w ++ rest) t behind
+name_reads : (w rest : List ℕ) (t : Lexeme) (behind : List ℕ) → IsName w → Stops is_inner rest → name_before w rest ≡ (t, behind)
+    → Reads (w ++ rest) t behind
 unfolding name_at
 name_reads [] rest t behind name stops e = absurd name
 name_reads (b ∷ w) rest t behind name stops e =
@@ -128,7 +134,8 @@ name_reads (b ∷ w) rest t behind name stops e =
     let each = name_inner (b ∷ w) name in
     record {
       stands = stands_from b (w ++ rest) f.1 f.2;
-      read = solid_name b (w ++ rest) name.0 ∙ rw (run_again is_inner (b ∷ w) rest each stops, rest_again is_inner (b ∷ w) rest each stops, e) refl;
+      read = solid_name b (w ++ rest) name.0
+          ∙ rw (run_again is_inner (b ∷ w) rest each stops, rest_again is_inner (b ∷ w) rest each stops, e) refl;
     }
 
 identifier_before : (w rest : List ℕ) → Stops is_colon rest → name_before w rest ≡ (identifier w, rest)
@@ -160,10 +167,13 @@ escaped_len : (c : ℕ) (bytes : List ℕ) → string_len (92 ∷ c ∷ bytes) �
 unfolding string_len
 escaped_len c bytes = refl
 
-content_len : (s : List Character) (rest : List ℕ) → AllByRecursion IsCharacter s → string_len (string_bytes s ++ 34 ∷ rest) ≡ Some (length (string_bytes s))
+content_len : (s : List Character) (rest : List ℕ) → AllByRecursion IsCharacter s
+    → string_len (string_bytes s ++ 34 ∷ rest) ≡ Some (length (string_bytes s))
 content_len [] rest h = quote_len rest
-content_len (plain b ∷ s) rest h = plain_len b (string_bytes s ++ 34 ∷ rest) h.0.0 h.0.1 ∙ rw (content_len s rest h.1) (ap (λ (n : ℕ). some n) (omega arith))
-content_len (escaped c ∷ s) rest h = escaped_len c (string_bytes s ++ 34 ∷ rest) ∙ rw (content_len s rest h.1) (ap (λ (n : ℕ). some n) (omega arith))
+content_len (plain b ∷ s) rest h = plain_len b (string_bytes s ++ 34 ∷ rest) h.0.0 h.0.1
+    ∙ rw (content_len s rest h.1) (ap (λ (n : ℕ). some n) (omega arith))
+content_len (escaped c ∷ s) rest h = escaped_len c (string_bytes s ++ 34 ∷ rest)
+    ∙ rw (content_len s rest h.1) (ap (λ (n : ℕ). some n) (omega arith))
 
 plain_character : (b : ℕ) (bytes : List ℕ) → b ≢ 92 → characters (b ∷ bytes) ≡ plain b ∷ characters bytes
 plain_character b [] h = refl
@@ -171,10 +181,12 @@ plain_character b (c ∷ bytes) h = rw (ne_eqb b 92 h) refl
 
 content_characters : (s : List Character) → AllByRecursion IsCharacter s → characters (string_bytes s) ≡ s
 content_characters [] h = refl
-content_characters (plain b ∷ s) h = plain_character b (string_bytes s) h.0.1 ∙ ap (λ (s : List Character). plain b ∷ s) (content_characters s h.1)
+content_characters (plain b ∷ s) h = plain_character b (string_bytes s) h.0.1
+    ∙ ap (λ (s : List Character). plain b ∷ s) (content_characters s h.1)
 content_characters (escaped c ∷ s) h = ap (λ (s : List Character). escaped c ∷ s) (content_characters s h.1)
 
-string_read : (s : List Character) (rest : List ℕ) → AllByRecursion IsCharacter s → string_at (string_bytes s ++ 34 ∷ rest) ≡ Some (string s, rest)
+string_read : (s : List Character) (rest : List ℕ) → AllByRecursion IsCharacter s
+    → string_at (string_bytes s ++ 34 ∷ rest) ≡ Some (string s, rest)
 unfolding string_at
 string_read s rest h = rw (
   content_len s rest h,
@@ -225,7 +237,8 @@ quoted (b ∷ c ∷ bytes) n e =
 
 string_quoted : (bytes : List ℕ) (x : Lexeme × List ℕ) → string_at bytes ≡ Some x → Quoted bytes
 unfolding string_at
-string_quoted bytes x e = let m = bind_some (string_len bytes) (λ n. some (string (characters (take n bytes)), drop (n + 1) bytes)) x e in quoted bytes m.0 m.1
+string_quoted bytes x e =
+    let m = bind_some (string_len bytes) (λ n. some (string (characters (take n bytes)), drop (n + 1) bytes)) x e in quoted bytes m.0 m.1
 
 string_takes : (bytes : List ℕ) (x : Lexeme × List ℕ) → string_at bytes ≡ Some x → Written (34 ∷ bytes) x
 string_takes bytes x e =
@@ -278,7 +291,8 @@ alias_read (b ∷ w) rest some_byte each stops = grind (
 )
 
 alias_again : (w text rest : List ℕ) → IsSpelt (alias w) text rest → Reads (text ++ rest) (alias w) rest
-alias_again w text rest h = grind (arith, nat_tests, stands_from 64 (w ++ rest) refl refl, solid_alias (w ++ rest), alias_read w rest h.0 h.1 h.2)
+alias_again w text rest h =
+    grind (arith, nat_tests, stands_from 64 (w ++ rest) refl refl, solid_alias (w ++ rest), alias_read w rest h.0 h.1 h.2)
 
 -- ---- marks
 
@@ -293,7 +307,8 @@ mark_takes bytes x e =
       | inr c ↦ elim (chosen (bytes_eq (take 7 bytes) (codes "--END--")) (some (end, drop 7 bytes)) _ (some x) c.1) [
         | inl d ↦ found bytes (take 7 bytes) end (drop 7 bytes) x d.1 (sym (take-append-drop 7 bytes)) (cut 7 bytes (codes "--END--") d.0)
         | inr d ↦ elim (chosen (bytes_eq (take 9 bytes) (codes "--ABORT--")) (some (abort, drop 9 bytes)) none (some x) d.1) [
-          | inl f ↦ found bytes (take 9 bytes) abort (drop 9 bytes) x f.1 (sym (take-append-drop 9 bytes)) (cut 9 bytes (codes "--ABORT--") f.0)
+          | inl f ↦ found bytes (take 9 bytes) abort (drop 9 bytes) x f.1 (sym (take-append-drop 9 bytes))
+              (cut 9 bytes (codes "--ABORT--") f.0)
           | inr f ↦ absurd (none_is_some x f.1)
         ]
       ]
@@ -347,7 +362,8 @@ sign_takes b bytes x e =
       ]
     ]
   where
-    sign_found : (n : ℕ) (t : Lexeme) → eqb b n ≡ true → some (t, bytes) ≡ some x → (b ∷ [] ≡ n ∷ [] → IsSpelt t (b ∷ []) bytes) → Written (b ∷ bytes) x
+    sign_found : (n : ℕ) (t : Lexeme) → eqb b n ≡ true → some (t, bytes) ≡ some x → (b ∷ [] ≡ n ∷ [] → IsSpelt t (b ∷ []) bytes)
+        → Written (b ∷ bytes) x
     sign_found n t is e spelt = found (b ∷ bytes) (b ∷ []) t bytes x e refl (spelt (ap (λ (b : ℕ). b ∷ []) (eqb-true b n is)))
 
 -- ---- any token

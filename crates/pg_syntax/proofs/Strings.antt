@@ -19,7 +19,8 @@ pub record Characters (bytes : List ℕ) (x : ℕ × List ℕ) : Type 0 where
   pub some_bytes : 0 < x.0
   pub counted : string_len bytes ≡ further x.0 (string_len x.1)
 
-abbrev at : (bytes : List ℕ) (n : ℕ) (rest : List ℕ) (x : ℕ × List ℕ) → some (some (n, rest)) ≡ some (some x) → Characters bytes (n, rest) → Characters bytes x
+abbrev at : (bytes : List ℕ) (n : ℕ) (rest : List ℕ) (x : ℕ × List ℕ) → some (some (n, rest)) ≡ some (some x) → Characters bytes (n, rest)
+    → Characters bytes x
 at bytes n rest x e r = subst (Characters bytes) (some_is (n, rest) x (some_is (some (n, rest)) (some x) e)) r
 
 pub character_takes : (bytes : List ℕ) (x : ℕ × List ℕ) → character_at bytes ≡ Some (Some x) → Characters bytes x
@@ -31,7 +32,8 @@ character_takes (b ∷ c ∷ bytes) x e =
       | inl p ↦ absurd (none_is_some x (some_is (none {A = ℕ × List ℕ}) (some x) p.1))
       | inr p ↦ elim (chosen (eqb b 92) (some (some (2, bytes))) (some (some (1, c ∷ bytes))) (some (some x)) p.1) [
         | inl d ↦ at (b ∷ c ∷ bytes) 2 bytes x d.1 (record { len = omega arith; some_bytes = omega arith; counted = rw (p.0, d.0) refl })
-        | inr d ↦ at (b ∷ c ∷ bytes) 1 (c ∷ bytes) x d.1 (record { len = omega arith; some_bytes = omega arith; counted = rw (p.0, d.0) refl })
+        | inr d ↦ at (b ∷ c ∷ bytes) 1 (c ∷ bytes) x d.1
+            (record { len = omega arith; some_bytes = omega arith; counted = rw (p.0, d.0) refl })
       ]
     ]
 

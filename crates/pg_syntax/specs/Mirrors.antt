@@ -4,8 +4,8 @@ pub mod FormulaRun
 pub mod FormulaScan
 pub mod HeaderScan
 pub mod Kept
+pub mod Preambles
 pub mod Readings
 pub mod Scan
-pub mod Settling
 pub mod ShapeRun
 pub mod Steps

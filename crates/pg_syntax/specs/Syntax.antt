@@ -99,7 +99,9 @@ pub record Written : Type 0 where
   pub lines : List StateLine
 
 abbrev pub text_lexemes : Written → List Lexeme
-text_lexemes w = header (codes "HOA") ∷ identifier (codes "v1") ∷ (flat_map header_lexemes w.headers ++ (body ∷ (flat_map state_lexemes w.lines ++ end ∷ [])))
+text_lexemes w =
+    header (codes "HOA") ∷ identifier (codes "v1") ∷ (flat_map header_lexemes
+    w.headers ++ (body ∷ (flat_map state_lexemes w.lines ++ end ∷ [])))
 
 -- the bytes are this text
 pub record IsText (bytes : List ℕ) (w : Written) : Type 0 where

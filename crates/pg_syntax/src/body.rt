@@ -5,7 +5,7 @@ ghost use Rattle.std.specs.List.Sorted.{IsStrictlyIncreasing};
 ghost use Rattle.pg_lists.specs.Rising.{put};
 ghost use Rattle.pg_syntax.specs.Mirrors.Steps.{Gives};
 ghost use Rattle.pg_syntax.specs.Mirrors.Scan.{lexeme, lex};
-ghost use Rattle.pg_syntax.specs.Mirrors.Kept.{kept_edge, kept_line, is_never, put_edge};
+ghost use Rattle.pg_syntax.specs.Mirrors.Kept.{edge_in, line_in, is_never, put_edge};
 ghost use Rattle.pg_syntax.specs.Mirrors.BodyScan.{due, state_of, new_state, set_in, rising_sets_at, sets_if, behind_label, target_at};
 ghost use Rattle.pg_syntax.specs.Mirrors.BodyScan.{edge_at, begins_edge, kept_edges_at, behind_name, line_at, begins_line, body_at};
 
@@ -193,7 +193,7 @@ fn read_target(states: u32, bytes: &[u8]) -> Result<(u32, &[u8]), Refusal>
 #[tactic(auto, unfolding(crate::specs::Mirrors::BodyScan::edge_at))]
 fn read_edge(alloc: Global, ranges: Ranges, bytes: &[u8]) -> Result<(Edge, &[u8]), Refusal>
     requires { ranges.states ≤ 65535 }
-    ensures { Gives (λ x. (kept_edge x.0, lex x.1.now)) result
+    ensures { Gives (λ x. (edge_in x.0, lex x.1.now)) result
         (edge_at ranges.states ranges.propositions ranges.sets (lex bytes.now)) }
 {
     let (label, rest) = read_formula(alloc, Kind::Label(ranges.propositions), bytes)?;
@@ -244,14 +244,14 @@ fn are_never(a: &Edge, b: &Edge) -> bool
 
 /// Of two edges one with the greater target.
 fn with_greater_target(a: Edge, b: Edge) -> Edge
-    ensures { kept_edge result ≡ (if nat_lt a.target b.target then kept_edge b else kept_edge a) }
+    ensures { edge_in result ≡ (if nat_lt a.target b.target then edge_in b else edge_in a) }
 {
     if a.target < b.target { b } else { a }
 }
 
 /// Puts an edge behind the others. Of edges in a row that no letter has one is kept, with the greatest target.
 fn put_edge(edges: &mut Vec<Edge>, edge: Edge) -> Result<(), AllocError>
-    ensures { OnOk result (map kept_edge edges.new.items ≡ put_edge (map kept_edge edges.old.items) (kept_edge edge)) }
+    ensures { OnOk result (map edge_in edges.new.items ≡ put_edge (map edge_in edges.old.items) (edge_in edge)) }
 {
     let Some(last) = edges.pop() else {
         edges.push(edge)?;
@@ -269,7 +269,7 @@ fn put_edge(edges: &mut Vec<Edge>, edge: Edge) -> Result<(), AllocError>
 /// The edges of one state that are kept, and the bytes behind all.
 fn read_edges(alloc: Global, ranges: Ranges, bytes: &[u8]) -> Result<(Vec<Edge>, &[u8]), Refusal>
     requires { ranges.states ≤ 65535 }
-    ensures { Gives (λ x. (map kept_edge x.0.items, lex x.1.now)) result
+    ensures { Gives (λ x. (map edge_in x.0.items, lex x.1.now)) result
         (kept_edges_at ranges.states ranges.propositions ranges.sets (lex bytes.now)) }
 {
     let mut edges = Vec::new(alloc);
@@ -308,7 +308,7 @@ fn read_line<'a>(
 ) -> Result<(ReadState, &'a [u8]), Refusal>
     requires few { ranges.states ≤ 65535 }
     requires all { length seen.now ≡ ranges.states }
-    ensures value { Gives (λ x. (kept_line x.0, lex x.1.now)) result
+    ensures value { Gives (λ x. (line_in x.0, lex x.1.now)) result
         (line_at ranges.states ranges.propositions ranges.sets
         (λ n. slice_index_or seen.now n false) (lex bytes.now)) }
     ensures below { IfOk result (λ x. x.0.state < ranges.states) }
@@ -346,7 +346,7 @@ pub fn read_body(
     bytes: &[u8],
 ) -> Result<(Vec<ReadState>, &[u8]), Refusal>
     requires { ranges.states ≤ 65535 }
-    ensures { Gives (λ x. (map kept_line x.0.items, lex x.1.now)) result
+    ensures { Gives (λ x. (map line_in x.0.items, lex x.1.now)) result
         (body_at ranges.states ranges.propositions ranges.sets (lex bytes.now)) }
 {
     let mut lines = Vec::new(alloc);

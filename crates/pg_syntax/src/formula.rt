@@ -4,7 +4,9 @@
 ghost use Rattle.std.specs.Prelude.{◌≡◌, ◌++◌, Some, None, option_map};
 ghost use Rattle.pg_syntax.specs.Mirrors.Steps.{Gives};
 ghost use Rattle.pg_syntax.specs.Mirrors.Scan.{lexeme, lex};
-ghost use Rattle.pg_syntax.specs.Mirrors.FormulaRun.{view, not_ops, split_last, completed_at, operand_at, negated_at, opened_at, product_at, sum_at, closed_at, limit_at, word_at, operand_turn, operator_turn, opening_turn, naming_turn, closing_turn, turn_at, goes_on_at, over_at, ops_at};
+ghost use Rattle.pg_syntax.specs.Mirrors.FormulaRun.{view, not_ops, split_last, completed_at, operand_at, negated_at, opened_at};
+ghost use Rattle.pg_syntax.specs.Mirrors.FormulaRun.{product_at, sum_at, closed_at, limit_at, word_at, operand_turn, operator_turn};
+ghost use Rattle.pg_syntax.specs.Mirrors.FormulaRun.{opening_turn, naming_turn, closing_turn, turn_at, goes_on_at, over_at, ops_at};
 
 use crate::fault::{LeftOutName, PartFault, Refusal};
 use crate::token::{Token, next_token, unexpected};

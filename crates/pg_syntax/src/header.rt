@@ -5,7 +5,7 @@ ghost use Rattle.std.specs.List.{list_any};
 ghost use Rattle.pg_syntax.specs.Mirrors.Steps.{Gives};
 ghost use Rattle.pg_syntax.specs.Mirrors.Scan.{characters, lex, lexeme};
 ghost use Rattle.pg_syntax.specs.Syntax.{character_code};
-ghost use Rattle.pg_syntax.specs.Mirrors.Kept.{KeptHead, kept_head};
+ghost use Rattle.pg_syntax.specs.Mirrors.Kept.{KeptHead, head_in};
 ghost use Rattle.pg_syntax.specs.Mirrors.HeaderScan.{numeral_of, numeral_at, alone_at, note, noted_at, is_value, skipped_from, code_at};
 ghost use Rattle.pg_syntax.specs.Mirrors.HeaderScan.{is_name_byte, is_name, name_of, quoted_of, quoted_at, names_from, states_at, start_at};
 ghost use Rattle.pg_syntax.specs.Mirrors.HeaderScan.{names_at, acceptance_at, controls_at, begins_low, other_at, header_at, is_header};
@@ -260,7 +260,7 @@ fn read_names(alloc: Global, count: u32, bytes: &[u8]) -> Result<(Vec<Vec<u8>>, 
 /// Puts what stands behind `States:`, a name `left` bytes before the end, into the head: the bytes behind that.
 #[tactic(auto, unfolding(crate::specs::Mirrors::HeaderScan::states_at))]
 fn states<'a>(head: &mut Head, left: usize, bytes: &'a [u8]) -> Result<&'a [u8], Refusal>
-    ensures { Gives (λ x. (kept_head head.new, lex x.now)) result (states_at (kept_head head.old) (lex bytes.now)) }
+    ensures { Gives (λ x. (head_in head.new, lex x.now)) result (states_at (head_in head.old) (lex bytes.now)) }
 {
     if head.states.is_some() {
         return Err(Refusal::Wrong(PartFault::Syntax(left)));
@@ -276,7 +276,7 @@ fn states<'a>(head: &mut Head, left: usize, bytes: &'a [u8]) -> Result<&'a [u8],
 /// Likewise behind `Start:`.
 #[tactic(auto, unfolding(crate::specs::Mirrors::HeaderScan::start_at))]
 fn start<'a>(head: &mut Head, left: usize, bytes: &'a [u8]) -> Result<&'a [u8], Refusal>
-    ensures { Gives (λ x. (kept_head head.new, lex x.now)) result (start_at (kept_head head.old) (lex bytes.now)) }
+    ensures { Gives (λ x. (head_in head.new, lex x.now)) result (start_at (head_in head.old) (lex bytes.now)) }
 {
     if head.start.is_some() {
         return Err(Refusal::Wrong(PartFault::LeftOut(LeftOutName::SeveralStarts, left)));
@@ -298,7 +298,7 @@ fn names<'a>(
     left: usize,
     bytes: &'a [u8],
 ) -> Result<&'a [u8], Refusal>
-    ensures { Gives (λ x. (kept_head head.new, lex x.now)) result (names_at (kept_head head.old) (lex bytes.now)) }
+    ensures { Gives (λ x. (head_in head.new, lex x.now)) result (names_at (head_in head.old) (lex bytes.now)) }
 {
     if head.names.is_some() {
         return Err(Refusal::Wrong(PartFault::Syntax(left)));
@@ -320,7 +320,7 @@ fn acceptance<'a>(
     left: usize,
     bytes: &'a [u8],
 ) -> Result<&'a [u8], Refusal>
-    ensures { Gives (λ x. (kept_head head.new, lex x.now)) result (acceptance_at (kept_head head.old) (lex bytes.now)) }
+    ensures { Gives (λ x. (head_in head.new, lex x.now)) result (acceptance_at (head_in head.old) (lex bytes.now)) }
 {
     if head.acceptance.is_some() {
         return Err(Refusal::Wrong(PartFault::Syntax(left)));
@@ -342,7 +342,7 @@ fn controls<'a>(
     left: usize,
     bytes: &'a [u8],
 ) -> Result<&'a [u8], Refusal>
-    ensures { Gives (λ x. (kept_head head.new, lex x.now)) result (controls_at (kept_head head.old) (lex bytes.now)) }
+    ensures { Gives (λ x. (head_in head.new, lex x.now)) result (controls_at (head_in head.old) (lex bytes.now)) }
 {
     if head.controls.is_some() {
         return Err(Refusal::Wrong(PartFault::Syntax(left)));
@@ -385,8 +385,8 @@ fn header<'a>(
     left: usize,
     bytes: &'a [u8],
 ) -> Result<&'a [u8], Refusal>
-    ensures { Gives (λ x. (kept_head head.new, lex x.now)) result
-        (header_at (kept_head head.old) name.now (lex bytes.now)) }
+    ensures { Gives (λ x. (head_in head.new, lex x.now)) result
+        (header_at (head_in head.old) name.now (lex bytes.now)) }
 {
     if name == b"States".as_slice() {
         states(head, left, bytes)
@@ -436,8 +436,8 @@ fn headers<'a>(
     head: &mut Head,
     bytes: &'a [u8],
 ) -> Result<(usize, &'a [u8]), Refusal>
-    ensures { Gives (λ x. (kept_head head.new, lex x.1.now)) result
-        (headers_from (kept_head head.old) (lex bytes.now)) }
+    ensures { Gives (λ x. (head_in head.new, lex x.1.now)) result
+        (headers_from (head_in head.old) (lex bytes.now)) }
 {
     let mut rest = bytes;
     'headers: loop {
@@ -457,7 +457,7 @@ fn headers<'a>(
 /// behind it.
 #[tactic(auto, unfolding(crate::specs::Mirrors::HeaderScan::headers_at))]
 pub fn read_headers(alloc: Global, bytes: &[u8]) -> Result<(Head, usize, &[u8]), Refusal>
-    ensures { Gives (λ x. (kept_head x.0, lex x.2.now)) result (headers_at (lex bytes.now)) }
+    ensures { Gives (λ x. (head_in x.0, lex x.2.now)) result (headers_at (lex bytes.now)) }
 {
     let first = version(opening(bytes)?)?;
     let mut head = Head {

@@ -5,7 +5,7 @@ mod body;
 mod fault;
 mod formula;
 mod header;
-mod settle;
+mod preamble;
 mod shape;
 mod syntax;
 mod token;

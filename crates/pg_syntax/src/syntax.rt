@@ -4,14 +4,14 @@ ghost use Rattle.std.specs.Prelude.{◌≡◌, ◌≤◌, ◌<◌, ◌*◌, ◌^
 ghost use Rattle.std.specs.List.{fold};
 ghost use Rattle.pg_syntax.specs.Mirrors.Steps.{Gives};
 ghost use Rattle.pg_syntax.specs.Mirrors.Scan.{lex};
-ghost use Rattle.pg_syntax.specs.Mirrors.Kept.{KeptHead, kept_line, kept_numbers, kept_count};
-ghost use Rattle.pg_syntax.specs.Mirrors.Settling.{settled as said, nothing_at};
-ghost use Rattle.pg_syntax.specs.Mirrors.Readings.{bound, kept_states, Reads, NeverReads, IsSyntaxOf, SaysNothing};
+ghost use Rattle.pg_syntax.specs.Mirrors.Kept.{KeptHead, line_in, named_states, count_named};
+ghost use Rattle.pg_syntax.specs.Mirrors.Preambles.{preamble_in, nothing_at};
+ghost use Rattle.pg_syntax.specs.Mirrors.Readings.{bound, state_count, Reads, NeverReads, IsSyntaxOf, SaysNothing};
 
 use crate::body::{Ranges, ReadState, read_body};
 use crate::fault::{LeftOutName, PartFault, Refusal};
 use crate::header::read_headers;
-use crate::settle::{Settled, settle};
+use crate::preamble::{Preamble, preamble_of};
 use crate::token::{Token, next_token};
 use pg_automaton::Shape;
 use std::alloc::Global;
@@ -34,45 +34,45 @@ pub fn read_syntax(alloc: Global, bytes: &[u8]) -> Result<Syntax, Refusal>
     ensures found { IfOk result (IsSyntaxOf bytes.now) }
     ensures refused { IfErr result (SaysNothing bytes.now) }
 {
-    let (settled, lines) = parts(alloc, bytes)?;
-    let states = states_of(&settled, &lines);
-    if !are_few(states, settled.names.len() as u32) {
+    let (preamble, lines) = parts(alloc, bytes)?;
+    let states = states_of(&preamble, &lines);
+    if !are_few(states, preamble.names.len() as u32) {
         return Err(Refusal::Wrong(PartFault::TooLarge));
     }
     Ok(Syntax {
         states,
-        start: settled.start,
-        names: settled.names,
-        controllable: settled.controllable,
-        sets: settled.sets,
-        shape: settled.shape,
+        start: preamble.start,
+        names: preamble.names,
+        controllable: preamble.controllable,
+        sets: preamble.sets,
+        shape: preamble.shape,
         lines,
     })
 }
 
 /// What the headers of a text say, and its lines.
-fn parts(alloc: Global, bytes: &[u8]) -> Result<(Settled, Vec<ReadState>), Refusal>
-    ensures found { IfOk result (λ x. (h : KeptHead) × Reads (lex bytes.now) h (said x.0) (map kept_line x.1.items)) }
+fn parts(alloc: Global, bytes: &[u8]) -> Result<(Preamble, Vec<ReadState>), Refusal>
+    ensures found { IfOk result (λ x. (h : KeptHead) × Reads (lex bytes.now) h (preamble_in x.0) (map line_in x.1.items)) }
     ensures refused { IfErr result (NeverReads (lex bytes.now)) }
 {
     let (head, left, rest) = read_headers(alloc, bytes)?;
-    let settled = settle(alloc, head, left)?;
-    let (lines, rest) = read_body(alloc, ranges(&settled), rest)?;
+    let preamble = preamble_of(alloc, head, left)?;
+    let (lines, rest) = read_body(alloc, ranges(&preamble), rest)?;
     end(rest)?;
-    Ok((settled, lines))
+    Ok((preamble, lines))
 }
 
 /// In which ranges the numbers of the body lie.
-fn ranges(settled: &Settled) -> Ranges
-    requires { length settled.now.names.items ≤ 16 }
-    ensures states { result.states ≡ bound settled.now.states }
-    ensures propositions { result.propositions ≡ length settled.now.names.items }
-    ensures sets { result.sets ≡ settled.now.sets }
+fn ranges(preamble: &Preamble) -> Ranges
+    requires { length preamble.now.names.items ≤ 16 }
+    ensures states { result.states ≡ bound preamble.now.states }
+    ensures propositions { result.propositions ≡ length preamble.now.names.items }
+    ensures sets { result.sets ≡ preamble.now.sets }
 {
     Ranges {
-        states: settled.states.unwrap_or(65_535),
-        propositions: settled.names.len() as u32,
-        sets: settled.sets,
+        states: preamble.states.unwrap_or(65_535),
+        propositions: preamble.names.len() as u32,
+        sets: preamble.sets,
     }
 }
 
@@ -92,20 +92,20 @@ fn end(bytes: &[u8]) -> Result<(), Refusal>
 }
 
 /// How many states there are: so many as the headers say, or else one more than the greatest number that is named.
-fn states_of(settled: &Settled, lines: &[ReadState]) -> u32
-    ensures { kept_states (said settled.now) (map kept_line lines.now) < 2 ^ 32
-        → result ≡ kept_states (said settled.now) (map kept_line lines.now) }
+fn states_of(preamble: &Preamble, lines: &[ReadState]) -> u32
+    ensures { state_count (preamble_in preamble.now) (map line_in lines.now) < 2 ^ 32
+        → result ≡ state_count (preamble_in preamble.now) (map line_in lines.now) }
 {
-    match settled.states {
+    match preamble.states {
         Some(states) => states,
-        None => states_named(lines, settled.start),
+        None => states_named(lines, preamble.start),
     }
 }
 
 /// One more than the greatest of the number and the states that the lines name, if it is below 2^32.
 fn states_named(lines: &[ReadState], start: u32) -> u32
-    ensures { kept_count start (map kept_line lines.now) < 2 ^ 32
-        → result ≡ kept_count start (map kept_line lines.now) }
+    ensures { count_named start (map line_in lines.now) < 2 ^ 32
+        → result ≡ count_named start (map line_in lines.now) }
 {
     let mut greatest = start;
     for line in lines {
@@ -116,7 +116,7 @@ fn states_named(lines: &[ReadState], start: u32) -> u32
 
 /// The greatest of the number and the states that the line names.
 fn greatest_of(line: &ReadState, number: u32) -> u32
-    ensures { result ≡ fold max number (kept_numbers (kept_line line.now)) }
+    ensures { result ≡ fold max number (named_states (line_in line.now)) }
 {
     let mut greatest = number.max(line.state);
     for edge in &line.edges {

@@ -5,7 +5,8 @@ ghost use Rattle.std.specs.List.{prefix_len};
 ghost use Rattle.pg_syntax.specs.Lexemes.{is_space, is_letter, is_inner};
 ghost use Rattle.pg_lists.specs.Bytes.{is_digit, value_of};
 ghost use Rattle.pg_syntax.specs.Mirrors.Steps.{Gives};
-ghost use Rattle.pg_syntax.specs.Mirrors.Scan.{lexeme, gap_from, gap_step, number_at, name_at, character_at, string_len, string_at, alias_at, mark_at, sign_at, solid_at, lex, first};
+ghost use Rattle.pg_syntax.specs.Mirrors.Scan.{lexeme, gap_from, gap_step, number_at, name_at, character_at, string_len, string_at};
+ghost use Rattle.pg_syntax.specs.Mirrors.Scan.{alias_at, mark_at, sign_at, solid_at, lex, first};
 
 use crate::fault::{LeftOutName, PartFault, Refusal};
 

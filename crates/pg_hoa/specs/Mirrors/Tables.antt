@@ -61,7 +61,14 @@ pub record Stage : Type 0 where
   pub covered : Covered
 
 abbrev pub stage : Filling → Stage
-stage f = record { slots = f.slots.items; steps = f.steps.items; lists = map (λ v. v.items) f.lists.items; conflict = f.conflict; covered = f.covered }
+stage f =
+    record {
+      slots = f.slots.items;
+      steps = f.steps.items;
+      lists = map (λ v. v.items) f.lists.items;
+      conflict = f.conflict;
+      covered = f.covered;
+    }
 
 -- a number that is 0 or stands for the step
 abbrev pub MayNumber : Stage → ℕ → Step → Type 0
@@ -120,7 +127,8 @@ HasKey shape target counts steps = list_any (has_key shape target counts) steps 
 
 -- each slot that is covered has a step of the key
 abbrev pub Covers : Shape → Covered → (ℕ → List Step) → Type 0
-Covers shape c given = (b j : ℕ) → j < 64 → truth (get_or c.words.items b 0) j ≡ true → HasKey shape c.target c.counts (given (c.first + (b * 64 + j)))
+Covers shape c given = (b j : ℕ) → j < 64 → truth (get_or c.words.items b 0) j ≡ true
+    → HasKey shape c.target c.counts (given (c.first + (b * 64 + j)))
 
 -- each slot before the conflict has the first of its steps, and the conflict is the first slot whose steps don't agree
 pub record IsFilled (shape : Shape) (t : Stage) (given : ℕ → List Step) : Type 0 where

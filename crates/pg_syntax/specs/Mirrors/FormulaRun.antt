@@ -1,5 +1,6 @@
 -- What the reader of labels and conditions keeps of a formula: its operands before its operators, and a frame for each open bracket.
-use Rattle.std.specs.Prelude.{ℕ, suc, zero, ◌+◌, ◌-◌, Bool, true, false, List, [], ◌∷◌, ◌++◌, Option, Some, None, codes, nat_lt, if◌then◌else◌}
+use Rattle.std.specs.Prelude.{ℕ, suc, zero, ◌+◌, ◌-◌, Bool, true, false, List, [], ◌∷◌, ◌++◌, Option, Some, None, codes, nat_lt}
+use Rattle.std.specs.Prelude.{if◌then◌else◌}
 use Rattle.std.specs.Str.{bytes_eq}
 use Rattle.pg_syntax.specs.declared.formula.Frame.{Frame}
 use Rattle.pg_syntax.specs.declared.formula.Mode.{Mode}
@@ -26,13 +27,13 @@ postfix (either f g) = postfix f ++ (postfix g ++ (Either ∷ []))
 postfix (bracket f) = postfix f
 
 -- a reading without where it lies in memory
-pub record Kept : Type 0 where
+pub record KeptReading : Type 0 where
   pub mode : Mode
   pub top : Frame
   pub outer : List Frame
   pub ops : List Op
 
-abbrev pub view : Reading → Kept
+abbrev pub view : Reading → KeptReading
 view r = record { mode = r.mode; top = r.top; outer = r.outer.items; ops = r.ops.items }
 
 abbrev pub not_ops : ℕ → List Op
@@ -52,7 +53,7 @@ abbrev pub either_ops : Bool → List Op
 either_ops true = Either ∷ []
 either_ops false = []
 
-unfoldable pub completed_at : Kept → Option Kept
+unfoldable pub completed_at : KeptReading → Option KeptReading
 completed_at r = Some (record {
   mode = Operator;
   top = record { sum = r.top.sum; product = false; nots = 0; room = r.top.room };
@@ -60,16 +61,16 @@ completed_at r = Some (record {
   ops = (r.ops ++ not_ops r.top.nots) ++ both_ops r.top.product;
 })
 
-abbrev pub with_op : Kept → Op → Kept
+abbrev pub with_op : KeptReading → Op → KeptReading
 with_op r op = record { mode = r.mode; top = r.top; outer = r.outer; ops = r.ops ++ (op ∷ []) }
 
-abbrev pub in_mode : Kept → Mode → Kept
+abbrev pub in_mode : KeptReading → Mode → KeptReading
 in_mode r mode = record { mode = mode; top = r.top; outer = r.outer; ops = r.ops }
 
-unfoldable pub operand_at : Kept → Op → Option Kept
+unfoldable pub operand_at : KeptReading → Op → Option KeptReading
 operand_at r op = completed_at (with_op r op)
 
-unfoldable pub negated_at : Kept → Option Kept
+unfoldable pub negated_at : KeptReading → Option KeptReading
 negated_at r =
     if nat_lt r.top.nots r.top.room
     then Some (record {
@@ -85,7 +86,7 @@ negated_at r =
     })
     else None
 
-unfoldable pub opened_at : Kept → Option Kept
+unfoldable pub opened_at : KeptReading → Option KeptReading
 opened_at r =
     if nat_lt r.top.nots r.top.room
     then Some (record {
@@ -96,10 +97,16 @@ opened_at r =
     })
     else None
 
-unfoldable pub product_at : Kept → Option Kept
-product_at r = Some (record { mode = Operand; top = record { sum = r.top.sum; product = true; nots = 0; room = r.top.room }; outer = r.outer; ops = r.ops })
+unfoldable pub product_at : KeptReading → Option KeptReading
+product_at r =
+    Some (record {
+      mode = Operand;
+      top = record { sum = r.top.sum; product = true; nots = 0; room = r.top.room };
+      outer = r.outer;
+      ops = r.ops;
+    })
 
-unfoldable pub sum_at : Kept → Option Kept
+unfoldable pub sum_at : KeptReading → Option KeptReading
 sum_at r = Some (record {
   mode = Operand;
   top = record { sum = true; product = false; nots = 0; room = r.top.room };
@@ -107,17 +114,18 @@ sum_at r = Some (record {
   ops = r.ops ++ either_ops r.top.sum;
 })
 
-unfoldable pub closed_at : Kept → Option Kept
-closed_at r = split_last r.outer >>= λ x. completed_at (record { mode = Operand; top = x.1; outer = x.0; ops = r.ops ++ either_ops r.top.sum })
+unfoldable pub closed_at : KeptReading → Option KeptReading
+closed_at r =
+    split_last r.outer >>= λ x. completed_at (record { mode = Operand; top = x.1; outer = x.0; ops = r.ops ++ either_ops r.top.sum })
 
-unfoldable pub limit_at : Kind → List ℕ → Kept → Option Kept
+unfoldable pub limit_at : Kind → List ℕ → KeptReading → Option KeptReading
 limit_at (Label n) w r = None
 limit_at (Condition n) w r =
     if bytes_eq w (codes "Inf") then Some (in_mode r (Opening true))
     else (if bytes_eq w (codes "Fin") then Some (in_mode r (Opening false))
     else None)
 
-unfoldable pub word_at : Kind → List ℕ → Kept → Option Kept
+unfoldable pub word_at : Kind → List ℕ → KeptReading → Option KeptReading
 word_at k w r =
     if bytes_eq w (codes "t") then operand_at r Yes
     else (if bytes_eq w (codes "f") then operand_at r No
@@ -127,39 +135,39 @@ abbrev pub limit_op : Bool → ℕ → Op
 limit_op true s = Inf s
 limit_op false s = Fin s
 
-unfoldable pub operand_turn : Kind → Kept → Lexeme → Option Kept
+unfoldable pub operand_turn : Kind → KeptReading → Lexeme → Option KeptReading
 operand_turn (Label n) r bang = negated_at r
 operand_turn (Label n) r (number a) = if nat_lt a n then operand_at r (Proposition a) else None
 operand_turn k r left_paren = opened_at r
 operand_turn k r (identifier w) = word_at k w r
 operand_turn k r t = None
 
-unfoldable pub operator_turn : Kept → Lexeme → Option Kept
+unfoldable pub operator_turn : KeptReading → Lexeme → Option KeptReading
 operator_turn r ampersand = product_at r
 operator_turn r bar = sum_at r
 operator_turn r right_paren = closed_at r
 operator_turn r t = None
 
-unfoldable pub opening_turn : Kept → Bool → Lexeme → Option Kept
+unfoldable pub opening_turn : KeptReading → Bool → Lexeme → Option KeptReading
 opening_turn r b left_paren = Some (in_mode r (Naming b))
 opening_turn r b t = None
 
-unfoldable pub naming_turn : Kind → Kept → Bool → Lexeme → Option Kept
+unfoldable pub naming_turn : Kind → KeptReading → Bool → Lexeme → Option KeptReading
 naming_turn (Condition n) r b (number s) = if nat_lt s n then Some (in_mode r (Closing (limit_op b s))) else None
 naming_turn k r b t = None
 
-unfoldable pub closing_turn : Kept → Op → Lexeme → Option Kept
+unfoldable pub closing_turn : KeptReading → Op → Lexeme → Option KeptReading
 closing_turn r op right_paren = operand_at r op
 closing_turn r op t = None
 
-abbrev pub mode_turn : Kind → Kept → Mode → Lexeme → Option Kept
+abbrev pub mode_turn : Kind → KeptReading → Mode → Lexeme → Option KeptReading
 mode_turn k r Operand t = operand_turn k r t
 mode_turn k r (Opening b) t = opening_turn r b t
 mode_turn k r (Naming b) t = naming_turn k r b t
 mode_turn k r (Closing op) t = closing_turn r op t
 mode_turn k r Operator t = operator_turn r t
 
-unfoldable pub turn_at : Kind → Kept → Lexeme → Option Kept
+unfoldable pub turn_at : Kind → KeptReading → Lexeme → Option KeptReading
 turn_at k r t = mode_turn k r r.mode t
 
 abbrev pub goes_on : List Frame → Lexeme → Bool
@@ -175,23 +183,23 @@ abbrev pub mode_goes_on : Mode → List Frame → Lexeme → Bool
 mode_goes_on Operator outer t = goes_on outer t
 mode_goes_on mode outer t = true
 
-unfoldable pub goes_on_at : Kept → Lexeme → Bool
+unfoldable pub goes_on_at : KeptReading → Lexeme → Bool
 goes_on_at r t = mode_goes_on r.mode r.outer t
 
 abbrev pub ops_in : Mode → List Frame → List Op → Option (List Op)
 ops_in Operator [] ops = Some ops
 ops_in mode outer ops = None
 
-unfoldable pub over_at : Kept → Option (List Op)
+unfoldable pub over_at : KeptReading → Option (List Op)
 over_at r = ops_in r.mode r.outer (r.ops ++ either_ops r.top.sum)
 
-unfoldable pub ops_from : Kind → Kept → List Lexeme → Option (List Op × List Lexeme)
+unfoldable pub ops_from : Kind → KeptReading → List Lexeme → Option (List Op × List Lexeme)
 ops_from k r [] = over_at r >>= λ ops. Some (ops, [])
 ops_from k r (t ∷ rest) =
     if goes_on_at r t then (turn_at k r t >>= λ r. ops_from k r rest)
     else (over_at r >>= λ ops. Some (ops, t ∷ rest))
 
-abbrev pub starting : Kept
+abbrev pub starting : KeptReading
 starting = record { mode = Operand; top = record { sum = false; product = false; nots = 0; room = 8192 }; outer = []; ops = [] }
 
 unfoldable pub ops_at : Kind → List Lexeme → Option (List Op × List Lexeme)

@@ -62,7 +62,8 @@ deeper zero next = None
 deeper (suc room) next = Some (next room)
 
 abbrev pub operand_step : Kind → ℕ → Frame → List Frame → Lexeme → Option State
-operand_step (Label n) room top outer bang = deeper room (λ r. operand r (record { sum = top.sum; product = top.product; nots = suc top.nots }) outer)
+operand_step (Label n) room top outer bang =
+    deeper room (λ r. operand r (record { sum = top.sum; product = top.product; nots = suc top.nots }) outer)
 operand_step (Label n) room top outer (number a) = if nat_lt a n then Some (completes room top outer (proposition a)) else None
 operand_step k room top outer left_paren = deeper room (λ r. operand r fresh (top ∷ outer))
 operand_step k room top outer (identifier w) = word_step k w room top outer

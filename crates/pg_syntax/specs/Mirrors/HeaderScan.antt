@@ -120,7 +120,8 @@ names_at h tokens =
 
 unfoldable pub acceptance_at : KeptHead → List Lexeme → Option (KeptHead × List Lexeme)
 acceptance_at h tokens =
-    once h.acceptance (numeral_at tokens >>= λ x. at_most 4096 x.0 (ops_at (Condition x.0) x.1 >>= λ y. Some (record h { acceptance = Some (x.0, y.0) }, y.1)))
+    once h.acceptance (numeral_at tokens >>= λ x. at_most 4096 x.0
+    (ops_at (Condition x.0) x.1 >>= λ y. Some (record h { acceptance = Some (x.0, y.0) }, y.1)))
 
 unfoldable pub controls_at : KeptHead → List Lexeme → Option (KeptHead × List Lexeme)
 controls_at h tokens = once h.controls (noted_at tokens >>= λ x. Some (record h { controls = Some x.0 }, x.1))

@@ -20,11 +20,11 @@ pub record KeptLine : Type 0 where
   pub sets : List ℕ
   pub edges : List KeptEdge
 
-abbrev pub kept_edge : read_edge.Edge → KeptEdge
-kept_edge e = record { label = e.label.items; target = e.target; sets = e.sets.items }
+abbrev pub edge_in : read_edge.Edge → KeptEdge
+edge_in e = record { label = e.label.items; target = e.target; sets = e.sets.items }
 
-abbrev pub kept_line : read_line.ReadState → KeptLine
-kept_line l = record { state = l.state; sets = l.sets.items; edges = map kept_edge l.edges.items }
+abbrev pub line_in : read_line.ReadState → KeptLine
+line_in l = record { state = l.state; sets = l.sets.items; edges = map edge_in l.edges.items }
 
 -- the label is the constant that no letter has
 abbrev pub is_never : List Op → Bool
@@ -48,18 +48,18 @@ put_edges kept [] = kept
 put_edges kept (e ∷ edges) = put_edges (put_edge kept e) edges
 
 -- what is kept of an edge and a line as they are written
-abbrev pub edge_kept : Edge → KeptEdge
-edge_kept e = record { label = postfix e.letter; target = e.target; sets = rising (set_list e.sets) }
+abbrev pub kept_of_edge : Edge → KeptEdge
+kept_of_edge e = record { label = postfix e.letter; target = e.target; sets = rising (set_list e.sets) }
 
-abbrev pub line_kept : StateLine → KeptLine
-line_kept l = record { state = l.state; sets = rising (set_list l.sets); edges = put_edges [] (map edge_kept l.edges) }
+abbrev pub kept_of_line : StateLine → KeptLine
+kept_of_line l = record { state = l.state; sets = rising (set_list l.sets); edges = put_edges [] (map kept_of_edge l.edges) }
 
 -- the states that a line names
-abbrev pub kept_numbers : KeptLine → List ℕ
-kept_numbers l = l.state ∷ map (λ e. e.target) l.edges
+abbrev pub named_states : KeptLine → List ℕ
+named_states l = l.state ∷ map (λ e. e.target) l.edges
 
-abbrev pub kept_count : ℕ → List KeptLine → ℕ
-kept_count start lines = suc (fold max 0 (start ∷ flat_map kept_numbers lines))
+abbrev pub count_named : ℕ → List KeptLine → ℕ
+count_named start lines = suc (fold max 0 (start ∷ flat_map named_states lines))
 
 -- what each header says that stands at most once
 pub record KeptHead : Type 0 where
@@ -73,8 +73,8 @@ abbrev pub option_with : {A B : Type 0} → (A → B) → Option A → Option B
 option_with f None = None
 option_with f (Some x) = Some (f x)
 
-abbrev pub kept_head : read_head.Head → KeptHead
-kept_head h = record {
+abbrev pub head_in : read_head.Head → KeptHead
+head_in h = record {
   states = h.states;
   start = option_with (λ x. x.0) h.start;
   names = option_with (λ v. map (λ name. name.items) v.items) h.names;

@@ -7,10 +7,10 @@ use Rattle.pg_syntax.specs.declared.fault.Refusal.TheVariants.{Memory, Wrong}
 use Rattle.pg_syntax.specs.declared.syntax.Syntax.{Syntax}
 use Rattle.pg_syntax.specs.Lexemes.{Lexeme}
 use Rattle.pg_syntax.specs.Syntax.{Written, IsText, Says, SaysNone}
-use Rattle.pg_syntax.specs.Mirrors.Kept.{KeptHead, KeptLine, kept_count, kept_line, line_kept}
+use Rattle.pg_syntax.specs.Mirrors.Kept.{KeptHead, KeptLine, count_named, line_in, kept_of_line}
 use Rattle.pg_syntax.specs.Mirrors.HeaderScan.{headers_at}
 use Rattle.pg_syntax.specs.Mirrors.BodyScan.{body_at}
-use Rattle.pg_syntax.specs.Mirrors.Settling.{Settled, IsSettled}
+use Rattle.pg_syntax.specs.Mirrors.Preambles.{Preamble, IsPreambleOf}
 
 -- a state's number is below this
 abbrev pub bound : Option ℕ → ℕ
@@ -18,31 +18,31 @@ bound None = 65535
 bound (Some states) = states
 
 -- the headers and lines that the tokens are
-pub record Reads (tokens : List Lexeme) (h : KeptHead) (s : Settled) (lines : List KeptLine) : Type 0 where
+pub record Reads (tokens : List Lexeme) (h : KeptHead) (s : Preamble) (lines : List KeptLine) : Type 0 where
   pub behind : List Lexeme
   pub headers : headers_at tokens ≡ Some (h, behind)
-  pub settled : IsSettled h s
+  pub preamble : IsPreambleOf h s
   pub body : body_at (bound s.states) (length s.names) s.sets behind ≡ Some (lines, [])
 
 -- nothing else than want of memory refuses tokens that can be read
 abbrev pub NeverReads : List Lexeme → Refusal → Type 0
 NeverReads tokens Memory = Unit {0}
-NeverReads tokens (Wrong fault) = (h : KeptHead) (s : Settled) (lines : List KeptLine) → Reads tokens h s lines → ⊥
+NeverReads tokens (Wrong fault) = (h : KeptHead) (s : Preamble) (lines : List KeptLine) → Reads tokens h s lines → ⊥
 
 -- the states are counted, or go up to the greatest number that is named
 abbrev pub states_in : Option ℕ → ℕ → List KeptLine → ℕ
-states_in None start lines = kept_count start lines
+states_in None start lines = count_named start lines
 states_in (Some states) start lines = states
 
-abbrev pub kept_states : Settled → List KeptLine → ℕ
-kept_states s lines = states_in s.states s.start lines
+abbrev pub state_count : Preamble → List KeptLine → ℕ
+state_count s lines = states_in s.states s.start lines
 
-abbrev pub kept_letters : Settled → ℕ
-kept_letters s = 2 ^ length s.names
+abbrev pub letter_count : Preamble → ℕ
+letter_count s = 2 ^ length s.names
 
 -- few enough states and letters for a table
-abbrev pub AreFew : Settled → List KeptLine → Type 0
-AreFew s lines = kept_states s lines * kept_letters s ≤ 16777216
+abbrev pub AreFew : Preamble → List KeptLine → Type 0
+AreFew s lines = state_count s lines * letter_count s ≤ 16777216
 
 -- ---- what a text says
 
@@ -66,10 +66,10 @@ pub record Declares (bytes : List ℕ) (a : Automaton) (lines : List KeptLine) :
   pub written : Written
   pub text : IsText bytes written
   pub says : Says written a
-  pub kept : map line_kept written.lines ≡ lines
+  pub kept : map kept_of_line written.lines ≡ lines
 
 abbrev pub IsSyntaxOf : List ℕ → Syntax → Type 0
-IsSyntaxOf bytes s = Declares bytes (automaton s) (map kept_line s.lines.items)
+IsSyntaxOf bytes s = Declares bytes (automaton s) (map line_in s.lines.items)
 
 -- nothing else than want of memory refuses bytes that say an automaton
 abbrev pub SaysNothing : List ℕ → Refusal → Type 0

@@ -7,7 +7,8 @@ use Rattle.pg_syntax.specs.declared.token.Token.{Token}
 use Rattle.pg_syntax.specs.declared.token.Token.TheVariants as tokens
 use Rattle.pg_automaton.specs.Mirrors.Steps.{◌>>=◌}
 use Rattle.pg_syntax.specs.Lexemes.{Lexeme, number, identifier, header, string, alias, body, end, abort, left_bracket, right_bracket}
-use Rattle.pg_syntax.specs.Lexemes.{left_brace, right_brace, left_paren, right_paren, bang, ampersand, bar, stray, Character, plain, escaped}
+use Rattle.pg_syntax.specs.Lexemes.{left_brace, right_brace, left_paren, right_paren, bang, ampersand, bar, stray, Character, plain}
+use Rattle.pg_syntax.specs.Lexemes.{escaped}
 use Rattle.pg_syntax.specs.Lexemes.{is_space, is_letter, is_inner, is_colon}
 use Rattle.pg_lists.specs.Bytes.{is_digit, value_of}
 
@@ -37,7 +38,8 @@ lexeme tokens.Bang = bang
 lexeme tokens.Ampersand = ampersand
 lexeme tokens.Bar = bar
 
--- one blank or a part of a comment, of which so many are open: how many are open behind it, and what follows; nothing is taken where a token or the end stands
+-- one blank or a part of a comment, of which so many are open: how many are open behind it, and what follows; nothing is taken where a
+-- token or the end stands
 unfoldable pub gap_step : ℕ → List ℕ → Option (Option (ℕ × List ℕ))
 gap_step deep [] = if deep == 0 then Some None else None
 gap_step deep (b ∷ []) =

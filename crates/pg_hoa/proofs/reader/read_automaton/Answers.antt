@@ -12,7 +12,7 @@ use Rattle.pg_automaton.specs.Mirrors.Views.{viewed}
 use Rattle.pg_automaton.proofs.Rows.{next_viewed}
 use Rattle.pg_syntax.specs.declared.body.ReadState.{ReadState}
 use Rattle.pg_syntax.specs.declared.syntax.Syntax.{Syntax}
-use Rattle.pg_syntax.specs.Mirrors.Kept.{KeptLine, kept_line}
+use Rattle.pg_syntax.specs.Mirrors.Kept.{KeptLine, line_in}
 use Rattle.pg_syntax.specs.Mirrors.Readings.{automaton}
 use Rattle.pg_hoa.specs.declared.fault.Conflict.{Conflict}
 use Rattle.pg_hoa.specs.Mirrors.Tables.{IsTableOf, IsConflictOf}
@@ -25,9 +25,9 @@ named : (names : Vec (Vec ℕ Global) Global) (count : ℕ) → count ≡ vec_le
 named names count e = e ∙ names.ok.0 ∙ sym (length-map names.items (λ name. name.items))
 
 -- each line that was read is of a state
-states_below : (lines : List ReadState) (states : ℕ) → All (λ (l : KeptLine). l.state < states) (map kept_line lines)
+states_below : (lines : List ReadState) (states : ℕ) → All (λ (l : KeptLine). l.state < states) (map line_in lines)
     → All (λ (l : ReadState). l.state < states) lines
-states_below lines states all k d lt = grind (arith, nat_tests, length-map lines kept_line, get_or-map kept_line lines k d)
+states_below lines states all k d lt = grind (arith, nat_tests, length-map lines line_in, get_or-map line_in lines k d)
 
 -- what is said of the lines and of so many letters is said of the syntax
 of_syntax : (P : List ReadState → ℕ → Type 0) (s : Syntax) (lines : List ReadState) (count : ℕ) → lines ≡ s.lines.items
@@ -35,16 +35,17 @@ of_syntax : (P : List ReadState → ℕ → Type 0) (s : Syntax) (lines : List R
 of_syntax P s lines count e n p =
     subst (λ (ls : List ReadState). P ls (2 ^ length (automaton s).propositions)) e (subst (λ (m : ℕ). P lines (2 ^ m)) n p)
 
-table_of_syntax : (s : Syntax) (lines : List ReadState) (count : ℕ) (t : Table) → lines ≡ s.lines.items → count ≡ length (automaton s).propositions
-    → IsTableOf s.shape (map kept_line lines) s.states (2 ^ count) t
-    → IsTableOf s.shape (map kept_line s.lines.items) s.states (2 ^ length (automaton s).propositions) t
-table_of_syntax s lines count t = of_syntax (λ ls letters. IsTableOf s.shape (map kept_line ls) s.states letters t) s lines count
+table_of_syntax : (s : Syntax) (lines : List ReadState) (count : ℕ) (t : Table) → lines ≡ s.lines.items
+    → count ≡ length (automaton s).propositions
+    → IsTableOf s.shape (map line_in lines) s.states (2 ^ count) t
+    → IsTableOf s.shape (map line_in s.lines.items) s.states (2 ^ length (automaton s).propositions) t
+table_of_syntax s lines count t = of_syntax (λ ls letters. IsTableOf s.shape (map line_in ls) s.states letters t) s lines count
 
 conflict_of_syntax : (s : Syntax) (lines : List ReadState) (count : ℕ) (conflict : Conflict) → lines ≡ s.lines.items
-    → count ≡ length (automaton s).propositions → IsConflictOf s.shape (map kept_line lines) s.states (2 ^ count) conflict
-    → IsConflictOf s.shape (map kept_line s.lines.items) s.states (2 ^ length (automaton s).propositions) conflict
+    → count ≡ length (automaton s).propositions → IsConflictOf s.shape (map line_in lines) s.states (2 ^ count) conflict
+    → IsConflictOf s.shape (map line_in s.lines.items) s.states (2 ^ length (automaton s).propositions) conflict
 conflict_of_syntax s lines count conflict =
-    of_syntax (λ ls letters. IsConflictOf s.shape (map kept_line ls) s.states letters conflict) s lines count
+    of_syntax (λ ls letters. IsConflictOf s.shape (map line_in ls) s.states letters conflict) s lines count
 
 -- the automaton that is made is that of the syntax and the table
 made : (s : Syntax) (t : Table) → IsOf (automaton s) t (viewed s.start s.names.items s.controllable.items s.sets s.shape t)
@@ -60,19 +61,21 @@ made s t = record {
 }
 
 pub returns-in-Err-clause-refused : goal.returns-in-Err-clause-refused
-returns-in-Err-clause-refused c = grind (arith, nat_tests, refusal_refused c.args.bytes.now (length c.args.bytes.now) c.in-Err.refusal c.in-Err.ensures.refused)
+returns-in-Err-clause-refused c =
+    grind (arith, nat_tests, refusal_refused c.args.bytes.now (length c.args.bytes.now) c.in-Err.refusal c.in-Err.ensures.refused)
 
 pub table_of-requires-clause-below : goal.table_of-requires-clause-below
 table_of-requires-clause-below c =
     let s = c.in-Ok.syntax in
     subst (All (λ (l : ReadState). l.state < s.states)) (sym c.deref.ensures.value)
-    (states_below s.lines.items s.states (lines_below c.args.bytes.now (automaton s) (map kept_line s.lines.items) c.in-Ok.ensures.found))
+    (states_below s.lines.items s.states (lines_below c.args.bytes.now (automaton s) (map line_in s.lines.items) c.in-Ok.ensures.found))
 
 pub returns-in_err-table-clause-refused : goal.returns-in_err-table-clause-refused
 returns-in_err-table-clause-refused c =
     let p = err_from_is_err_and c.from_residual.result c.from_residual.ensures.1 in
     let s = c.in-Ok.syntax in
-    rw (p.1, p.2) (conflict_refused c.args.bytes.now (automaton s) (map kept_line s.lines.items) c.in_err-table.field-0.0 c.in-Ok.ensures.found
+    rw (p.1, p.2) (conflict_refused c.args.bytes.now (automaton s) (map line_in s.lines.items) c.in_err-table.field-0.0
+    c.in-Ok.ensures.found
     (conflict_of_syntax s _ c.len-propositions.result c.in_err-table.field-0.0 c.deref.ensures.value
     (named s.names c.len-propositions.result c.len-propositions.ensures) c.in_err-table.ensures.refused))
 
@@ -80,7 +83,7 @@ pub from_parts-requires : goal.from_parts-requires
 from_parts-requires c =
     let s = c.in-Ok.syntax in
     let t = c.in_ok-table.table in
-    table_is_automaton c.args.bytes.now (automaton s) (map kept_line s.lines.items) t
+    table_is_automaton c.args.bytes.now (automaton s) (map line_in s.lines.items) t
     (viewed s.start s.names.items s.controllable.items s.sets s.shape t) c.in-Ok.ensures.found
     (table_of_syntax s _ c.len-propositions.result t c.deref.ensures.value
     (named s.names c.len-propositions.result c.len-propositions.ensures) c.in_ok-table.ensures.found) (made s t)
@@ -90,7 +93,7 @@ returns-clause-found c =
     let s = c.in-Ok.syntax in
     let t = c.in_ok-table.table in
     rw c.from_parts.ensures
-    (table_spelt c.args.bytes.now (automaton s) (map kept_line s.lines.items) t
+    (table_spelt c.args.bytes.now (automaton s) (map line_in s.lines.items) t
     (viewed s.start s.names.items s.controllable.items s.sets s.shape t) c.in-Ok.ensures.found
     (table_of_syntax s _ c.len-propositions.result t c.deref.ensures.value
     (named s.names c.len-propositions.result c.len-propositions.ensures) c.in_ok-table.ensures.found) (made s t))

@@ -14,7 +14,8 @@ returns-in_err-token c =
     let p = err_from_is_err_and c.from_residual.result c.from_residual.ensures.1 in
     let s = c.numbers.invariant in
     rw (p.1, p.2) (rising_fail c.in_err-token.field-0.0 c.args.sets (lex c.args.bytes.now)
-    (subst (Fails c.in_err-token.field-0.0) s.left (sets_unread c.in_err-token.field-0.0 c.args.sets s.done (lex c.numbers.rest.now) c.in_err-token.ensures)))
+    (subst (Fails c.in_err-token.field-0.0) s.left
+    (sets_unread c.in_err-token.field-0.0 c.args.sets s.done (lex c.numbers.rest.now) c.in_err-token.ensures)))
 
 pub returns-in_err-set : goal.returns-in_err-set
 returns-in_err-set c =
@@ -34,7 +35,9 @@ pub numbers-preserved : goal.numbers-preserved
 numbers-preserved c =
     let found : set_in c.args.sets (lexeme c.in_ok-token.token) ≡ Some (Some c.in-Some.set) = c.in_ok-set.ensures
     ∙ ap (λ (o : Option ℕ). Some o) c.in-Some.is in
-    set_kept c.args.sets c.numbers.numbers.items c.put.new.numbers.items (lex c.numbers.rest.now) (lex c.in_ok-token.after.now) (lex c.args.bytes.now) (lexeme c.in_ok-token.token) c.in-Some.set c.numbers.invariant c.in_ok-token.ensures found c.in_ok-put-in-Some.ensures
+    set_kept c.args.sets c.numbers.numbers.items c.put.new.numbers.items (lex c.numbers.rest.now) (lex c.in_ok-token.after.now)
+    (lex c.args.bytes.now) (lexeme c.in_ok-token.token) c.in-Some.set c.numbers.invariant c.in_ok-token.ensures found
+    c.in_ok-put-in-Some.ensures
 
 pub returns-in-None : goal.returns-in-None
 returns-in-None c =

@@ -3,7 +3,7 @@ use Rattle.std.specs.List.{list_any}
 use Rattle.std.specs.Prelude.{◌==◌}
 use Rattle.std.proofs.lemmas.List.{map-append}
 use Rattle.pg_syntax.specs.Mirrors.HeaderScan.{note}
-use Rattle.pg_syntax.proofs.Settles.{any_numbers}
+use Rattle.pg_syntax.proofs.PreambleLaws.{any_numbers}
 use Rattle.pg_syntax.proofs.header.note.Goals as goal
 
 abbrev kept : List (ℕ × ℕ) → List ℕ
@@ -26,4 +26,5 @@ returns c =
     let absent : list_any (λ (x : ℕ × ℕ). x.0 == min c.args.number 16) c.args.numbers.now.items ≡ false =
     rw (← c.min-number.ensures, ← c.deref.ensures.value, ← c.is_noted.ensures) c.if-is_noted.false in
     ap kept c.in_ok-push.ensures.items ∙ map-append (λ (y : ℕ × ℕ). y.0) c.args.numbers.now.items ((c.min-number.result, c.args.left) ∷ [])
-    ∙ ap (λ (n : ℕ). kept c.args.numbers.now.items ++ (n ∷ [])) c.min-number.ensures ∙ sym (pushed c.args.number c.args.numbers.now.items absent)
+    ∙ ap (λ (n : ℕ). kept c.args.numbers.now.items ++ (n ∷ [])) c.min-number.ensures
+    ∙ sym (pushed c.args.number c.args.numbers.now.items absent)

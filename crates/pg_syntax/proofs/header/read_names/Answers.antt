@@ -29,4 +29,5 @@ names-preserved c =
     ∙ c.names.invariant
 
 pub returns : goal.returns
-returns c = sym c.names.invariant ∙ names_end (c.args.count - c.names.proposition) (bytes_of c.names.names.items) (lex c.names.rest.now) (omega arith)
+returns c = sym c.names.invariant
+    ∙ names_end (c.args.count - c.names.proposition) (bytes_of c.names.names.items) (lex c.names.rest.now) (omega arith)

@@ -11,7 +11,8 @@ pub returns-in-None : goal.returns-in-None
 unfolding fits_at
 returns-in-None c =
     let left : 0 < c.loop-inside.inside = omega arith in
-    fits_turn c.args.shape c.args.sets c.loop-inside.inside c.set_at-set.result c.is_wanted.result c.loop-inside.rest.now nothing left c.set_at-set.ensures c.is_wanted.ensures c.in-None.ensures ∙ c.loop-inside.invariant.same
+    fits_turn c.args.shape c.args.sets c.loop-inside.inside c.set_at-set.result c.is_wanted.result c.loop-inside.rest.now nothing left
+    c.set_at-set.ensures c.is_wanted.ensures c.in-None.ensures ∙ c.loop-inside.invariant.same
 
 pub loop-inside-preserved : goal.loop-inside-preserved
 loop-inside-preserved c =
@@ -25,4 +26,5 @@ loop-inside-preserved c =
 pub returns : goal.returns
 unfolding fits_at
 returns c =
-    c.only_leaf.ensures ∙ fits_innermost c.args.shape c.args.sets c.loop-inside.inside c.set_at-set-2.result c.is_wanted-2.result c.loop-inside.rest.now (omega arith) c.set_at-set-2.ensures c.is_wanted-2.ensures ∙ c.loop-inside.invariant.same
+    c.only_leaf.ensures ∙ fits_innermost c.args.shape c.args.sets c.loop-inside.inside c.set_at-set-2.result c.is_wanted-2.result
+    c.loop-inside.rest.now (omega arith) c.set_at-set-2.ensures c.is_wanted-2.ensures ∙ c.loop-inside.invariant.same

@@ -14,4 +14,5 @@ returns-else-sets-eq0-clause-found c =
     λ f e. (nested_finds f c.args.sets c.args.ops.now c.nested_shape.result c.if-sets-eq0.false e c.nested_shape.ensures).found
 
 pub returns-else-sets-eq0-clause-none : goal.returns-else-sets-eq0-clause-none
-returns-else-sets-eq0-clause-none c = λ f e. (nested_finds f c.args.sets c.args.ops.now c.nested_shape.result c.if-sets-eq0.false e c.nested_shape.ensures).none
+returns-else-sets-eq0-clause-none c =
+    λ f e. (nested_finds f c.args.sets c.args.ops.now c.nested_shape.result c.if-sets-eq0.false e c.nested_shape.ensures).none

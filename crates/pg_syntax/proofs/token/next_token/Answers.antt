@@ -21,7 +21,10 @@ pub returns-in_err-token : goal.returns-in_err-token
 returns-in_err-token c =
     let p = err_from_is_err_and c.from_residual-in_err-token.result c.from_residual-in_err-token.ensures.1 in
     let z = sym c.is_empty.ensures ∙ c.if-is_empty.false in
-    rw (p.1, p.2) (token_unread c.in_err-token.field-0.0 c.args.bytes.now c.in_ok-bytes.bytes.now c.in_ok-bytes.ensures z c.in_err-token.ensures)
+    rw (p.1, p.2) (token_unread c.in_err-token.field-0.0 c.args.bytes.now c.in_ok-bytes.bytes.now c.in_ok-bytes.ensures z
+    c.in_err-token.ensures)
 
 pub returns : goal.returns
-returns c = token_read c.args.bytes.now c.in_ok-bytes.bytes.now c.in_ok-token.token c.in_ok-token.rest.now c.in_ok-bytes.ensures c.in_ok-token.ensures
+returns c =
+    token_read c.args.bytes.now c.in_ok-bytes.bytes.now c.in_ok-token.token c.in_ok-token.rest.now c.in_ok-bytes.ensures
+    c.in_ok-token.ensures

@@ -8,13 +8,15 @@ zero_before : (n : ℕ) → n ≡ 0 + n
 zero_before n = omega arith
 
 pub returns-in-None-clause-value : goal.returns-in-None-clause-value
-returns-in-None-clause-value c = sym (ap (further c.bytes.len) (string_fails c.bytes.rest.now (sym c.in-None.ensures))) ∙ c.bytes.invariant.all
+returns-in-None-clause-value c = sym (ap (further c.bytes.len) (string_fails c.bytes.rest.now (sym c.in-None.ensures)))
+    ∙ c.bytes.invariant.all
 
 pub returns-in-Some-None-clause-value : goal.returns-in-Some-None-clause-value
 returns-in-Some-None-clause-value c =
     let e : character_at c.bytes.rest.now ≡ Some None = sym c.in-Some-None.ensures
     ∙ ap (λ (o : Option (ℕ × Bor (List ℕ))). Some (option_map (λ y. (y.0, y.1.now)) o)) c.in-Some-None.field-0-is in
-    ap (λ (n : ℕ). Some n) (zero_before c.bytes.len) ∙ sym (ap (further c.bytes.len) (string_ends c.bytes.rest.now e).0) ∙ c.bytes.invariant.all
+    ap (λ (n : ℕ). Some n) (zero_before c.bytes.len) ∙ sym (ap (further c.bytes.len) (string_ends c.bytes.rest.now e).0)
+    ∙ c.bytes.invariant.all
 
 pub returns-in-Some-None-clause-within : goal.returns-in-Some-None-clause-within
 returns-in-Some-None-clause-within c =

@@ -2,9 +2,9 @@ use Rattle.std.proofs.Common.{◌≡◌, ◌+◌, ◌==◌, ◌∙◌, ℕ, Bool
 use Rattle.std.proofs.lemmas.Bool.Decides.{nat_tests}
 use Rattle.std.specs.List.{list_any}
 use Rattle.std.proofs.lemmas.List.FromFn.{map-range_with_len_more}
-use Rattle.pg_syntax.specs.Mirrors.Settling.{marked}
-use Rattle.pg_syntax.proofs.Settles.{any_numbers}
-use Rattle.pg_syntax.proofs.settle.marked.Goals as goal
+use Rattle.pg_syntax.specs.Mirrors.Preambles.{marked}
+use Rattle.pg_syntax.proofs.PreambleLaws.{any_numbers}
+use Rattle.pg_syntax.proofs.preamble.marked.Goals as goal
 
 -- one more mark
 more : (controls : List (ℕ × ℕ)) (p : ℕ)

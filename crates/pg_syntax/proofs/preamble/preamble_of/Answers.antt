@@ -2,14 +2,14 @@ use Rattle.std.proofs.Common.{◌≡◌, ◌∙◌, ◌<◌, ℕ, length, map, L
 use Rattle.std.specs.List.{All}
 use Rattle.std.proofs.lemmas.List.{length-map}
 use Rattle.pg_syntax.specs.declared.formula.Op.{Op}
-use Rattle.pg_syntax.specs.Mirrors.Kept.{kept_head, option_with}
-use Rattle.pg_syntax.specs.Mirrors.Settling.{HasCondition, listed}
-use Rattle.pg_syntax.proofs.Settles.{opened, below_numbers, numbers_below, no_shape}
-use Rattle.pg_syntax.proofs.settle.settle.Goals as goal
+use Rattle.pg_syntax.specs.Mirrors.Kept.{head_in, option_with}
+use Rattle.pg_syntax.specs.Mirrors.Preambles.{HasCondition, listed}
+use Rattle.pg_syntax.proofs.PreambleLaws.{opened, below_numbers, numbers_below, no_shape}
+use Rattle.pg_syntax.proofs.preamble.preamble_of.Goals as goal
 
 pub returns-in-Some-first_above-clause-refused : goal.returns-in-Some-first_above-clause-refused
 returns-in-Some-first_above-clause-refused c = λ s i.
-    let h = kept_head c.args.head in
+    let h = head_in c.args.head in
     let xs = c.unwrap_or-controls.result.items in
     let vs = c.unwrap_or-names.result in
     let names : map (λ name. name.items) vs.items ≡ listed h.names =
@@ -26,12 +26,12 @@ returns-in-Some-first_above-clause-refused c = λ s i.
 
 pub returns-in_default-shape_of-clause-refused : goal.returns-in_default-shape_of-clause-refused
 returns-in_default-shape_of-clause-refused c =
-    no_shape (kept_head c.args.head) c.in-Some.sets c.in-Some.condition.items (ap (option_with (λ x. (x.0, x.1.items))) c.in-Some.is)
+    no_shape (head_in c.args.head) c.in-Some.sets c.in-Some.condition.items (ap (option_with (λ x. (x.0, x.1.items))) c.in-Some.is)
     (λ f e. c.in_default-shape_of.ensures.none f (e ∙ sym c.deref-3.ensures.value))
 
 pub returns-clause-found : goal.returns-clause-found
 returns-clause-found c =
-    let h = kept_head c.args.head in
+    let h = head_in c.args.head in
     let xs = c.unwrap_or-controls.result.items in
     let vs = c.unwrap_or-names.result in
     let names : map (λ name. name.items) vs.items ≡ listed h.names =
@@ -44,7 +44,8 @@ returns-clause-found c =
     let few : length (listed h.names) ≡ c.len-count.result = sym (ap length names) ∙ (length-map vs.items (λ name. name.items))
     ∙ sym vs.ok.0 ∙ sym c.len-count.ensures in
     let all : All (λ (x : ℕ × ℕ). x.0 < c.len-count.result) xs = rw (← c.deref.ensures.value) c.in_default-first_above.ensures in
-    let accepted : h.acceptance ≡ Some (c.in-Some.sets, c.in-Some.condition.items) = ap (option_with (λ x. (x.0, x.1.items))) c.in-Some.is in
+    let accepted : h.acceptance ≡ Some (c.in-Some.sets, c.in-Some.condition.items) =
+    ap (option_with (λ x. (x.0, x.1.items))) c.in-Some.is in
     let condition : HasCondition (Some (c.in-Some.sets, c.in-Some.condition.items)) = subst HasCondition accepted c.requires in
     record {
       states = refl;

@@ -1,5 +1,5 @@
 use Rattle.std.proofs.Common.{◌<◌, ℕ, get_or}
-use Rattle.pg_syntax.proofs.settle.first_above.Given as goal
+use Rattle.pg_syntax.proofs.preamble.first_above.Given as goal
 
 -- each number before the index is below the count
 abbrev pub invariant-loop-number : goal.invariant-loop-number

@@ -3,7 +3,7 @@ use Rattle.std.specs.Prelude.{◌≡◌, ℕ, ◌<◌, ◌==◌, Bool, List, [],
 use Rattle.std.specs.List.{All, list_any, range_with_len}
 use Rattle.pg_syntax.specs.declared.formula.Op.{Op}
 use Rattle.pg_automaton.specs.declared.shape.Shape.{Shape}
-use Rattle.pg_syntax.specs.declared.settle.Settled as read_settled
+use Rattle.pg_syntax.specs.declared.preamble.Preamble as rust
 use Rattle.pg_syntax.specs.declared.fault.Refusal.{Refusal}
 use Rattle.pg_syntax.specs.declared.fault.Refusal.TheVariants.{Memory, Wrong}
 use Rattle.pg_syntax.specs.Lexemes.{Lexeme}
@@ -12,7 +12,7 @@ use Rattle.pg_automaton.specs.Formulas.{Formula}
 use Rattle.pg_automaton.specs.Shapes.{HasShape}
 use Rattle.pg_syntax.specs.Mirrors.Kept.{KeptHead}
 
-pub record Settled : Type 0 where
+pub record Preamble : Type 0 where
   pub states : Option ℕ
   pub start : ℕ
   pub names : List (List ℕ)
@@ -20,8 +20,8 @@ pub record Settled : Type 0 where
   pub sets : ℕ
   pub shape : Shape
 
-abbrev pub settled : read_settled.Settled → Settled
-settled s = record {
+abbrev pub preamble_in : rust.Preamble → Preamble
+preamble_in s = record {
   states = s.states;
   start = s.start;
   names = map (λ name. name.items) s.names.items;
@@ -44,7 +44,7 @@ StartsBelow start None = Unit {0}
 StartsBelow start (Some states) = start < states
 
 -- what has to be there is there, the numbers are in range, and the condition has this shape
-pub record IsSettled (h : KeptHead) (s : Settled) : Type 0 where
+pub record IsPreambleOf (h : KeptHead) (s : Preamble) : Type 0 where
   pub states : s.states ≡ h.states
   pub start : h.start ≡ Some s.start
   pub start_below : StartsBelow s.start h.states
@@ -60,10 +60,10 @@ abbrev pub HasCondition : Option (ℕ × List Op) → Type 0
 HasCondition None = Unit {0}
 HasCondition (Some x) = (f : Formula) × (x.1 ≡ postfix f)
 
--- nothing else than want of memory refuses what would be settled
-abbrev pub NeverSettled : KeptHead → Refusal → Type 0
-NeverSettled h Memory = Unit {0}
-NeverSettled h (Wrong fault) = (s : Settled) → IsSettled h s → ⊥
+-- nothing else than want of memory refuses a head with a preamble
+abbrev pub HasNoPreamble : KeptHead → Refusal → Type 0
+HasNoPreamble h Memory = Unit {0}
+HasNoPreamble h (Wrong fault) = (s : Preamble) → IsPreambleOf h s → ⊥
 
 -- no token is left
 abbrev pub nothing_at : List Lexeme → Option ℕ

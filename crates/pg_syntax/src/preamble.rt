@@ -2,8 +2,8 @@
 
 ghost use Rattle.std.specs.Prelude.{◌≡◌, ◌<◌, map, IfOk, IfErr, MatchOption, MatchBool};
 ghost use Rattle.std.specs.List.{All};
-ghost use Rattle.pg_syntax.specs.Mirrors.Kept.{kept_head};
-ghost use Rattle.pg_syntax.specs.Mirrors.Settling.{settled, IsSettled, HasCondition, NeverSettled, StartsBelow, marked};
+ghost use Rattle.pg_syntax.specs.Mirrors.Kept.{head_in};
+ghost use Rattle.pg_syntax.specs.Mirrors.Preambles.{preamble_in, IsPreambleOf, HasCondition, HasNoPreamble, StartsBelow, marked};
 
 use crate::fault::{LeftOutName, PartFault, Refusal};
 use crate::header::{Head, is_noted};
@@ -14,7 +14,7 @@ use std::alloc::{AllocError, Global};
 /// What the headers say together: a count of states where one is given, the start, the names of propositions, for each of
 /// them whether the controller sets it, the count of sets and the shape of the condition.
 #[derive(Drop)]
-pub struct Settled {
+pub struct Preamble {
     pub states: Option<u32>,
     pub start: u32,
     pub names: Vec<Vec<u8>>,
@@ -49,10 +49,10 @@ fn first_above(controls: &[(u32, usize)], count: usize) -> Option<usize>
 /// What the headers say, where `left` bytes are left from `--BODY--` on. It refuses, in this order, headers without a
 /// condition, without a start, a start that isn't below the count of states, a proposition of the controller that isn't below
 /// their count, and a condition of none of the six shapes.
-pub fn settle(alloc: Global, head: Head, left: usize) -> Result<Settled, Refusal>
-    requires { HasCondition (kept_head head).acceptance }
-    ensures found { IfOk result (λ s. IsSettled (kept_head head) (settled s)) }
-    ensures refused { IfErr result (NeverSettled (kept_head head)) }
+pub fn preamble_of(alloc: Global, head: Head, left: usize) -> Result<Preamble, Refusal>
+    requires { HasCondition (head_in head).acceptance }
+    ensures found { IfOk result (λ s. IsPreambleOf (head_in head) (preamble_in s)) }
+    ensures refused { IfErr result (HasNoPreamble (head_in head)) }
 {
     let Head {
         states,
@@ -80,7 +80,7 @@ pub fn settle(alloc: Global, head: Head, left: usize) -> Result<Settled, Refusal
     let Some(shape) = shape_of(&condition, sets) else {
         return Err(Refusal::Wrong(PartFault::NotParity));
     };
-    Ok(Settled {
+    Ok(Preamble {
         states,
         start,
         names,

@@ -10,11 +10,12 @@ use Rattle.pg_automaton.specs.Formulas.{Formula}
 use Rattle.pg_syntax.specs.Mirrors.FormulaRun.{postfix}
 use Rattle.pg_automaton.specs.Shapes.{FitsShape}
 use Rattle.pg_syntax.specs.Mirrors.Kept.{KeptHead, option_with}
-use Rattle.pg_syntax.specs.Mirrors.Settling.{Settled, IsSettled, listed}
+use Rattle.pg_syntax.specs.Mirrors.Preambles.{Preamble, IsPreambleOf, listed}
 use Rattle.pg_lists.proofs.Steps.{some_is}
 
 -- the list that stands in, where there is none, is empty
-pub opened : {V B : Type 0} (view : V → List B) (o : Option V) (v d : V) → v ≡ unwrap_or o d → view d ≡ [] → view v ≡ listed (option_with view o)
+pub opened : {V B : Type 0} (view : V → List B) (o : Option V) (v d : V) → v ≡ unwrap_or o d → view d ≡ []
+    → view v ≡ listed (option_with view o)
 opened view None v d e h = ap view e ∙ h
 opened view (Some w) v d e h = ap view e
 
@@ -38,9 +39,9 @@ numbers_below xs n all k d lt =
 abbrev kept : ℕ → List Op → Option (ℕ × List Op)
 kept n ops = Some (n, ops)
 
--- where no shape fits, nothing is settled
+-- where no shape fits, there is no preamble
 pub no_shape : (h : KeptHead) (sets : ℕ) (ops : List Op) → h.acceptance ≡ Some (sets, ops)
-    → ((f : Formula) → postfix f ≡ ops → (shape : Shape) → FitsShape f sets shape → ⊥) → (s : Settled) → IsSettled h s → ⊥
+    → ((f : Formula) → postfix f ≡ ops → (shape : Shape) → FitsShape f sets shape → ⊥) → (s : Preamble) → IsPreambleOf h s → ⊥
 no_shape h sets ops e none s i =
     let both : kept s.sets (postfix i.condition) ≡ kept sets ops = sym i.acceptance ∙ e in
     let pair = some_is (s.sets, postfix i.condition) (sets, ops) both in

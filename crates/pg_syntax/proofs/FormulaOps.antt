@@ -19,7 +19,8 @@ use Rattle.pg_automaton.specs.Mirrors.Steps.{◌>>=◌}
 use Rattle.pg_syntax.specs.Mirrors.FormulaScan.{Frame, fresh, State, operand, opening, naming, closing, operator, summed, deeper, word_step}
 use Rattle.pg_syntax.specs.Mirrors.FormulaScan.{operand_step, operator_step, multiplied, negated, limited, completes, step, finish, stops}
 use Rattle.pg_syntax.specs.Mirrors.FormulaScan.{formula_from, formula_at}
-use Rattle.pg_syntax.specs.Mirrors.FormulaRun.{Kept, not_ops, both_ops, either_ops, limit_op, completed_at, operand_at, negated_at, opened_at}
+use Rattle.pg_syntax.specs.Mirrors.FormulaRun.{KeptReading, not_ops, both_ops, either_ops, limit_op, completed_at, operand_at, negated_at}
+use Rattle.pg_syntax.specs.Mirrors.FormulaRun.{opened_at}
 use Rattle.pg_syntax.specs.Mirrors.FormulaRun.{product_at, sum_at, closed_at, limit_at, word_at, operand_turn, operator_turn, opening_turn}
 use Rattle.pg_syntax.specs.Mirrors.FormulaRun.{naming_turn, closing_turn, turn_at, goes_on, goes_on_at, ops_in, over_at, ops_from, ops_at}
 use Rattle.pg_syntax.specs.Mirrors.FormulaRun.{postfix}
@@ -48,7 +49,7 @@ abbrev outer_ops : List Frame → List Op
 outer_ops [] = []
 outer_ops (f ∷ outer) = outer_ops outer ++ frame_ops f
 
-abbrev pub keep : State → Kept
+abbrev pub keep : State → KeptReading
 keep (operand room top outer) = record {
   mode = modes.Operand;
   top = kept_frame room top;
@@ -94,11 +95,12 @@ summed_ops None f = sym (append-nil (postfix f))
 summed_ops (Some g) f = sym (append_assoc (postfix g) (postfix f) (ops.Either ∷ []))
 
 -- an operand whose operations were kept is complete
-pub completed_keeps : (room : ℕ) (top : Frame) (outer : List Frame) (f : Formula) (r : Kept) → r.top ≡ kept_frame room top
+pub completed_keeps : (room : ℕ) (top : Frame) (outer : List Frame) (f : Formula) (r : KeptReading) → r.top ≡ kept_frame room top
     → r.outer ≡ kept_outer (room + top.nots) outer → r.ops ≡ (outer_ops outer ++ frame_ops top) ++ postfix f
     → completed_at r ≡ Some (keep (completes room top outer f))
 unfolding completed_at
-completed_keeps room top outer f r et eo ep = grind (arith, nat_tests, multiplied_ops top.product (negated top.nots f), negated_ops top.nots f, append_assoc)
+completed_keeps room top outer f r et eo ep =
+    grind (arith, nat_tests, multiplied_ops top.product (negated top.nots f), negated_ops top.nots f, append_assoc)
 
 -- ---- each step of the formula is a turn of what is kept
 
@@ -129,7 +131,7 @@ deeper_some : (room : ℕ) (top : Frame) → ltb top.nots (suc room + top.nots) 
 deeper_some room top = lt-ltb top.nots (suc room + top.nots) (omega arith)
 
 -- what was kept, of a state that may be none
-abbrev kept_if : Option State → Option Kept
+abbrev kept_if : Option State → Option KeptReading
 kept_if found = found >>= λ s. Some (keep s)
 
 bang_keeps : (room : ℕ) (top : Frame) (outer : List Frame)
@@ -145,7 +147,8 @@ unfolding opened_at
 paren_keeps zero top outer = rw (deeper_none top) refl
 paren_keeps (suc room) top outer = grind (arith, nat_tests, deeper_some room top, append-nil)
 
-tested_keeps : (b : Bool) (x y : Option Kept) (u v : Option State) → x ≡ kept_if u → y ≡ kept_if v → cond b x y ≡ kept_if (cond b u v)
+tested_keeps : (b : Bool) (x y : Option KeptReading) (u v : Option State) → x ≡ kept_if u → y ≡ kept_if v
+    → cond b x y ≡ kept_if (cond b u v)
 tested_keeps true x y u v p q = p
 tested_keeps false x y u v p q = q
 
@@ -153,8 +156,10 @@ word_keeps : (k : Kind) (w : List ℕ) (room : ℕ) (top : Frame) (outer : List 
     → word_at k w (keep (operand room top outer)) ≡ kept_if (word_step k w room top outer)
 unfolding word_at limit_at
 word_keeps (Label n) w room top outer =
-    tested_keeps (bytes_eq w (codes "t")) _ _ (Some (completes room top outer yes)) _ (operand_keeps room top outer yes ops.Yes modes.Operand refl)
-    (tested_keeps (bytes_eq w (codes "f")) _ _ (Some (completes room top outer no)) None (operand_keeps room top outer no ops.No modes.Operand refl) refl)
+    tested_keeps (bytes_eq w (codes "t")) _ _ (Some (completes room top outer yes)) _
+    (operand_keeps room top outer yes ops.Yes modes.Operand refl)
+    (tested_keeps (bytes_eq w (codes "f")) _ _ (Some (completes room top outer no)) None
+    (operand_keeps room top outer no ops.No modes.Operand refl) refl)
 word_keeps (Condition n) w room top outer =
     grind (
       arith,
@@ -184,7 +189,8 @@ operator_turns : (room : ℕ) (sum : Option Formula) (product : Formula) (outer 
     → operator_turn (keep (operator room sum product outer)) t ≡ kept_if (operator_step room sum product outer t)
 unfolding operator_turn product_at sum_at closed_at
 operator_turns room sum product outer ampersand = let b : room + 0 ≡ room = omega arith in rw b refl
-operator_turns room sum product outer bar = let b : room + 0 ≡ room = omega arith in rw (b, summed_ops sum product) (simp (append-nil, append_assoc))
+operator_turns room sum product outer bar =
+    let b : room + 0 ≡ room = omega arith in rw (b, summed_ops sum product) (simp (append-nil, append_assoc))
 operator_turns room sum product (top ∷ outer) right_paren =
     rw (split_pushed (kept_outer (suc room + top.nots) outer) (kept_frame (suc room) top))
     (completed_keeps (suc room) top outer (bracket (summed sum product)) _ refl refl (rw (summed_ops sum product) (simp append_assoc)))
@@ -196,7 +202,8 @@ unfolding turn_at opening_turn naming_turn closing_turn
 turns_keep k (operand room top outer) t = operand_turns k room top outer t
 turns_keep k (opening b room top outer) left_paren = refl
 turns_keep k (opening b room top outer) t = refl
-turns_keep (Condition n) (naming b room top outer) (number s) = tested_keeps (nat_lt s n) _ None (Some (closing b s room top outer)) None refl refl
+turns_keep (Condition n) (naming b room top outer) (number s) =
+    tested_keeps (nat_lt s n) _ None (Some (closing b s room top outer)) None refl refl
 turns_keep (Condition n) (naming b room top outer) t = refl
 turns_keep (Label n) (naming b room top outer) t = refl
 turns_keep k (closing b s room top outer) right_paren = operand_keeps room top outer (limited b s) (limit_op b s)
@@ -254,7 +261,8 @@ over_keeps (opening b room top outer) rest = refl
 over_keeps (naming b room top outer) rest = refl
 over_keeps (closing b s room top outer) rest = refl
 over_keeps (operator room sum product []) rest = rw (summed_ops sum product) refl
-over_keeps (operator room sum product (top ∷ outer)) rest = rw (snoc_over (kept_outer (suc room + top.nots) outer) (kept_frame (suc room) top)) refl
+over_keeps (operator room sum product (top ∷ outer)) rest =
+    rw (snoc_over (kept_outer (suc room + top.nots) outer) (kept_frame (suc room) top)) refl
 
 later_keeps : (k : Kind) (rest : List Lexeme) (found : Option State)
     → ((s : State) → ops_from k (keep s) rest ≡ as_ops (formula_from k s rest))

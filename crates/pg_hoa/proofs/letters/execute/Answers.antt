@@ -1,8 +1,8 @@
 use Rattle.std.proofs.Common.{◌∙◌, ◌+◌, ◌*◌, ◌∷◌, ap}
 use Rattle.pg_hoa.specs.Mirrors.Letters.{truths}
-use Rattle.pg_hoa.specs.Mirrors.Acts.{fits}
+use Rattle.pg_hoa.specs.Mirrors.Instructions.{fits}
 use Rattle.pg_hoa.proofs.TableWords.{truths_push}
-use Rattle.pg_hoa.proofs.letters.take_act.Goals as goal
+use Rattle.pg_hoa.proofs.letters.execute.Goals as goal
 
 pub returns-in_ok-push-in-Put : goal.returns-in_ok-push-in-Put
 returns-in_ok-push-in-Put c = λ k j h small. rw c.in-Put.is
