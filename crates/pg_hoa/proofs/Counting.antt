@@ -55,7 +55,8 @@ last_put n m (x ∷ ms) k up e =
       | inl h ↦ ap last (put_below n m (x ∷ ms) h) ∙ e ∙ ap some (omega arith)
       | inr j ↦ elim j [
         | inl is ↦ ap last (put_here n m (x ∷ ms) is) ∙ e ∙ ap some (omega arith)
-        | inr h ↦ ap last (put_behind n m (x ∷ ms) h) ∙ last_behind m n (x ∷ ms) ∙ last_put n x ms k (pairs_tail (λ x y. x < y) m (x ∷ ms) up) e
+        | inr h ↦ ap last (put_behind n m (x ∷ ms) h) ∙ last_behind m n (x ∷ ms)
+            ∙ last_put n x ms k (pairs_tail (λ x y. x < y) m (x ∷ ms) up) e
       ]
     ]
 
@@ -94,7 +95,8 @@ deciding_put MaxOdd n ys up = with_greater MaxOdd (last ys) n (λ e. absurd cc) 
 deciding_put Always n ys up = with_greater Always (last ys) n (λ e. absurd cc) (λ e. absurd cc) ∙ last_more n ys up
 deciding_put Never n ys up = with_greater Never (last ys) n (λ e. absurd cc) (λ e. absurd cc) ∙ last_more n ys up
 
-pub one_more_counts : (shape : Shape) (xs : List ℕ) (n : ℕ) → with_set shape (deciding shape (rising xs)) n ≡ deciding shape (rising (xs ++ (n ∷ [])))
+pub one_more_counts : (shape : Shape) (xs : List ℕ) (n : ℕ)
+    → with_set shape (deciding shape (rising xs)) n ≡ deciding shape (rising (xs ++ (n ∷ [])))
 one_more_counts shape xs n = deciding_put shape n (rising xs) (rising_pairs xs) ∙ ap (deciding shape) (rising_put xs n)
 
 pub none_counts : (shape : Shape) → None ≡ deciding shape []

@@ -1,15 +1,16 @@
 -- The steps of lines whose numbers are in range are in range.
-use Rattle.std.proofs.Common.{◌≡◌, ℕ, ◌<◌, Bool, true, false, eqb, List, [], ◌∷◌, ◌++◌, map, Some, refl, subst, arith}
+use Rattle.std.proofs.Common.{◌≡◌, ℕ, ◌<◌, Bool, true, false, eqb, List, [], ◌∷◌, ◌++◌, map, refl, arith}
 use Rattle.std.proofs.lemmas.Bool.Decides.{nat_tests}
 use Rattle.std.specs.List.{AllByRecursion, filter}
 use Rattle.std.proofs.lemmas.List.Elements.{All-append}
-use Rattle.pg_automaton.specs.Automata.{Step, IsStepOf}
-use Rattle.pg_hoa.specs.AutomatonText.{Edge, StateLine, set_list, edge_steps, steps_of, head, EachBelow, EdgeFits, LineFits}
-use Rattle.pg_hoa.specs.Mirrors.Kept.{KeptLine, line_kept}
+use Rattle.pg_automaton.specs.Automata.{IsStepOf}
+use Rattle.pg_syntax.specs.Syntax.{Edge, StateLine, set_list, EachBelow, EdgeFits, LineFits}
+use Rattle.pg_hoa.specs.AutomatonText.{edge_steps, steps_of}
+use Rattle.pg_syntax.specs.Mirrors.Kept.{KeptLine, kept_of_line}
 use Rattle.pg_hoa.specs.Mirrors.Tables.{kept_steps}
 use Rattle.pg_lists.proofs.Rising.{rising_below, rising_rises}
-use Rattle.pg_hoa.proofs.Lists.{all_of_both}
-use Rattle.pg_hoa.proofs.TableLaws.{written_step, kept_steps_are}
+use Rattle.pg_syntax.proofs.Lists.{all_of_both}
+use Rattle.pg_hoa.proofs.TableLaws.{written_step, written_steps}
 
 edge_good : (states propositions sets : ℕ) (own : List ℕ) (e : Edge) → EachBelow sets own → EdgeFits states propositions sets e
     → IsStepOf states sets (written_step own e)
@@ -23,7 +24,8 @@ edges_good : (states propositions sets : ℕ) (test : Edge → Bool) (own : List
     → AllByRecursion (EdgeFits states propositions sets) edges
     → AllByRecursion (IsStepOf states sets) (map (written_step own) (filter test edges))
 edges_good states propositions sets test own [] below fits = tt
-edges_good states propositions sets test own (e ∷ edges) below fits = go (test e) refl (edges_good states propositions sets test own edges below fits.1)
+edges_good states propositions sets test own (e ∷ edges) below fits =
+    go (test e) refl (edges_good states propositions sets test own edges below fits.1)
   where
     go : (b : Bool) → test e ≡ b → AllByRecursion (IsStepOf states sets) (map (written_step own) (filter test edges))
         → AllByRecursion (IsStepOf states sets) (map (written_step own) (filter test (e ∷ edges)))
@@ -49,15 +51,11 @@ lines_good states propositions sets state letter (l ∷ lines) fits =
           (line_good states propositions sets state letter l fits.0) (lines_good states propositions sets state letter lines fits.1),
     )
 
-pub kept_good : (states propositions sets state letter : ℕ) (lines : List StateLine) (kept : List KeptLine) → map line_kept lines ≡ kept
+pub kept_good : (states propositions sets state letter : ℕ) (lines : List StateLine) (kept : List KeptLine) → map kept_of_line lines ≡ kept
     → AllByRecursion (LineFits states propositions sets) lines → AllByRecursion (IsStepOf states sets) (kept_steps kept state letter)
 kept_good states propositions sets state letter lines kept e fits = grind (
   arith,
   nat_tests,
-  kept_steps_are lines state letter,
+  written_steps lines kept state letter e,
   lines_good states propositions sets state letter lines fits,
 )
-
-pub first_good : (states sets : ℕ) (steps : List Step) (s : Step) → AllByRecursion (IsStepOf states sets) steps → head steps ≡ Some s → IsStepOf states sets s
-first_good states sets [] s all e = absurd cc
-first_good states sets (t ∷ steps) s all e = let same : t ≡ s = cc in subst (IsStepOf states sets) same all.0

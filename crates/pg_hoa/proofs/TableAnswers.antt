@@ -1,5 +1,6 @@
 -- What a filled table answers.
-use Rattle.std.proofs.Common.{◌≡◌, ℕ, zero, suc, ◌+◌, ◌*◌, ◌/◌, ◌%◌, ◌<◌, ◌≤◌, true, false, cond, ◌&&◌, ltb, List, [], ◌∷◌, length, map, get_or, replicate}
+use Rattle.std.proofs.Common.{◌≡◌, ℕ, zero, suc, ◌+◌, ◌*◌, ◌/◌, ◌%◌, ◌<◌, ◌≤◌, true, false, cond, ◌&&◌, ltb, List, [], ◌∷◌, length, map}
+use Rattle.std.proofs.Common.{get_or, replicate}
 use Rattle.std.proofs.Common.{None, ap, subst, ◌∙◌, arith}
 use Rattle.std.proofs.lemmas.Bool.Decides.{Decides-ltb}
 use Rattle.std.proofs.lemmas.Nat.{div-mul-add, mod-mul-add, mul-add-lt, div_below, mod_below, div-add-mod', mul-le}
@@ -8,7 +9,7 @@ use Rattle.pg_automaton.specs.declared.shape.Shape.{Shape}
 use Rattle.pg_automaton.specs.declared.table.Table.{Table}
 use Rattle.pg_automaton.specs.Automata.{Step}
 use Rattle.pg_hoa.specs.AutomatonText.{Agree, head}
-use Rattle.pg_hoa.specs.Mirrors.Kept.{KeptLine}
+use Rattle.pg_syntax.specs.Mirrors.Kept.{KeptLine}
 use Rattle.pg_automaton.specs.Mirrors.Tables.{numbered}
 use Rattle.pg_hoa.specs.Mirrors.Tables.{Stage, Leads, IsFilled, Adds, at_lines, kept_steps, IsTableOf, IsFirstConflict}
 use Rattle.pg_hoa.specs.Mirrors.Letters.{truth}
@@ -33,7 +34,8 @@ found_table shape lines states letters t table f many none a b c d e = record {
   states_are = a;
   letters_are = b;
   next_is = λ state letter h k.
-      let place : state * letters + letter < length t.slots = omega (arith, many, mul-add-lt state letters letter states h k, mul_turned states letters) in
+      let place : state * letters + letter < length t.slots =
+      omega (arith, many, mul-add-lt state letters letter states h k, mul_turned states letters) in
       let in_states : ltb state table.states ≡ true = (Decides-ltb state table.states).1 (omega (arith, h, a)) in
       let in_letters : ltb letter table.letters ≡ true = (Decides-ltb letter table.letters).1 (omega (arith, k, b)) in
       ap (λ v. cond (v && ltb letter table.letters) (numbered table.steps.items (map (λ v. v.items) table.lists.items)
@@ -48,7 +50,8 @@ found_table shape lines states letters t table f many none a b c d e = record {
       (f.leads (state * letters + letter) (omega (arith, place, none)))
       ∙ ap head (at_place (kept_steps lines) state letters letter k);
   agrees = λ state letter h k.
-      let place : state * letters + letter < t.conflict = omega (arith, many, none, mul-add-lt state letters letter states h k, mul_turned states letters) in
+      let place : state * letters + letter < t.conflict =
+      omega (arith, many, none, mul-add-lt state letters letter states h k, mul_turned states letters) in
       subst (Agree shape) (at_place (kept_steps lines) state letters letter k) (f.agree_before (state * letters + letter) place);
 }
   where
@@ -63,13 +66,15 @@ first_conflict shape lines states letters t f some many there = record {
   letter_below = mod_below t.conflict letters some;
   fails = f.not_there there;
   before_state = λ q l h k.
-      let rows : (q + 1) * letters ≤ t.conflict / letters * letters = mul-le (q + 1) letters (t.conflict / letters) letters (omega (arith, h)) (omega arith) in
+      let rows : (q + 1) * letters ≤ t.conflict / letters * letters =
+      mul-le (q + 1) letters (t.conflict / letters) letters (omega (arith, h)) (omega arith) in
       let place : q * letters + l < t.conflict = omega (arith, k, rows, div-add-mod' t.conflict letters) in
       subst (Agree shape) (at_place (kept_steps lines) q letters l k) (f.agree_before (q * letters + l) place);
   before_letter = λ l h.
       let k : l < letters = omega (arith, h, mod_below t.conflict letters some) in
       let place : t.conflict / letters * letters + l < t.conflict = omega (arith, h, div-add-mod' t.conflict letters) in
-      subst (Agree shape) (at_place (kept_steps lines) (t.conflict / letters) letters l k) (f.agree_before (t.conflict / letters * letters + l) place);
+      subst (Agree shape) (at_place (kept_steps lines) (t.conflict / letters) letters l k)
+      (f.agree_before (t.conflict / letters * letters + l) place);
 }
 
 zeros_stay : (n b j : ℕ) → truth (get_or (replicate n 0) b 0) j ≡ false
@@ -81,7 +86,8 @@ pub nothing_covered : (n : ℕ) (words : List ℕ) → words ≡ replicate n 0 �
 nothing_covered n words e b j = ap (λ (l : List ℕ). truth (get_or l b 0) j) e ∙ zeros_stay n b j
 
 pub all_filled : (shape : Shape) (letters n : ℕ) (all lines : List KeptLine) (t u : Stage) → t.slots ≡ replicate n 0 → t.conflict ≡ n
-    → ((b j : ℕ) → truth (get_or t.covered.words.items b 0) j ≡ false) → lines ≡ all → Adds shape (at_lines letters lines) t u → IsFilled shape u (at_lines letters all) × (length u.slots ≡ n)
+    → ((b j : ℕ) → truth (get_or t.covered.words.items b 0) j ≡ false) → lines ≡ all → Adds shape (at_lines letters lines) t u
+    → IsFilled shape u (at_lines letters all) × (length u.slots ≡ n)
 all_filled shape letters n all lines t u zeros c none is a =
     let many : length t.slots ≡ n = ap length zeros ∙ length-replicate n 0 in
     let made : IsFilled shape u (at_lines letters lines) =

@@ -14,10 +14,11 @@ use Rattle.pg_hoa.specs.AutomatonText.{Agree}
 use Rattle.pg_automaton.specs.Mirrors.Tables.{numbered}
 use Rattle.pg_hoa.specs.declared.table.Covered.{Covered}
 use Rattle.pg_hoa.specs.declared.table.Way.{Way}
-use Rattle.pg_hoa.specs.Mirrors.Tables.{Stage, same_set, has_key, agree, HasKey, Covers, Leads, Extends, IsFilled, Adds, IsCovered, IsDecided}
+use Rattle.pg_hoa.specs.Mirrors.Tables.{Stage, same_set, has_key, agree, HasKey, Covers, Leads, Extends, IsFilled, Adds, IsCovered}
+use Rattle.pg_hoa.specs.Mirrors.Tables.{IsDecided}
 use Rattle.pg_hoa.specs.Mirrors.Tables.{when, way_step, at_slot}
 use Rattle.pg_hoa.specs.Mirrors.Letters.{truth}
-use Rattle.pg_hoa.proofs.Lists.{both_true}
+use Rattle.pg_syntax.proofs.Lists.{both_true}
 use Rattle.pg_lists.proofs.Steps.{some, some_is, none_is_some}
 
 -- ---- steps that agree
@@ -40,7 +41,8 @@ agree_one : (shape : Shape) (s : Step) → Agree shape (s ∷ [])
 agree_one shape s = All-cons (λ x. All (SameKey shape x) (s ∷ [])) s []
     (All-cons (SameKey shape s) s [] (refl, refl) (All-nil (SameKey shape s))) (All-nil (λ x. All (SameKey shape x) (s ∷ [])))
 
-agree_more : (shape : Shape) (s t : Step) (steps : List Step) → Agree shape (s ∷ steps) → SameKey shape s t → Agree shape ((s ∷ steps) ++ (t ∷ []))
+agree_more : (shape : Shape) (s t : Step) (steps : List Step) → Agree shape (s ∷ steps) → SameKey shape s t
+    → Agree shape ((s ∷ steps) ++ (t ∷ []))
 agree_more shape s t steps h same =
     let first = All-head (λ x. All (SameKey shape x) (s ∷ steps)) s steps h in
     let P : Step → Type 0 = λ x. All (SameKey shape x) ((s ∷ steps) ++ (t ∷ [])) in
@@ -54,7 +56,8 @@ agree_more shape s t steps h same =
 
 pub agree_less : (shape : Shape) (steps : List Step) (t : Step) → Agree shape (steps ++ (t ∷ [])) → Agree shape steps
 agree_less shape steps t h =
-    All-weaker (λ x. All (SameKey shape x) (steps ++ (t ∷ []))) (λ x. All (SameKey shape x) steps) (λ x p. all_but_last (SameKey shape x) steps t p) steps
+    All-weaker (λ x. All (SameKey shape x) (steps ++ (t ∷ []))) (λ x. All (SameKey shape x) steps)
+    (λ x p. all_but_last (SameKey shape x) steps t p) steps
     (all_but_last (λ x. All (SameKey shape x) (steps ++ (t ∷ []))) steps t h)
 
 agree_last : (shape : Shape) (s t : Step) (steps : List Step) → Agree shape ((s ∷ steps) ++ (t ∷ [])) → SameKey shape s t
@@ -94,11 +97,13 @@ either_right : (a b : Bool) → b ≡ true → (a || b) ≡ true
 either_right true b e = refl
 either_right false b e = e
 
-pub has_more : (shape : Shape) (target : ℕ) (counts : Option ℕ) (xs ys : List Step) → HasKey shape target counts xs → HasKey shape target counts (xs ++ ys)
+pub has_more : (shape : Shape) (target : ℕ) (counts : Option ℕ) (xs ys : List Step) → HasKey shape target counts xs
+    → HasKey shape target counts (xs ++ ys)
 has_more shape target counts xs ys h = list_any-append (has_key shape target counts) xs ys
     ∙ either_left (list_any (has_key shape target counts) xs) (list_any (has_key shape target counts) ys) h
 
-pub has_behind : (shape : Shape) (target : ℕ) (counts : Option ℕ) (xs ys : List Step) → HasKey shape target counts ys → HasKey shape target counts (xs ++ ys)
+pub has_behind : (shape : Shape) (target : ℕ) (counts : Option ℕ) (xs ys : List Step) → HasKey shape target counts ys
+    → HasKey shape target counts (xs ++ ys)
 has_behind shape target counts xs ys h = list_any-append (has_key shape target counts) xs ys
     ∙ either_right (list_any (has_key shape target counts) xs) (list_any (has_key shape target counts) ys) h
 
@@ -111,7 +116,8 @@ pub has_later : (shape : Shape) (target : ℕ) (counts : Option ℕ) (x : Step) 
 has_later shape target counts x xs h = either_right (has_key shape target counts x) (list_any (has_key shape target counts) xs) h
 
 -- where all steps have one key, that is the key
-pub only_key : (shape : Shape) (x : Step) (target : ℕ) (counts : Option ℕ) (xs : List Step) → All (SameKey shape x) xs → HasKey shape target counts xs
+pub only_key : (shape : Shape) (x : Step) (target : ℕ) (counts : Option ℕ) (xs : List Step) → All (SameKey shape x) xs
+    → HasKey shape target counts xs
     → (x.target ≡ target) × (deciding shape x.sets ≡ counts)
 only_key shape x target counts [] all h = absurd (false≢true h)
 only_key shape x target counts (y ∷ ys) all h = go (has_key shape target counts y) refl h
@@ -126,7 +132,8 @@ only_key shape x target counts (y ∷ ys) all h = go (has_key shape target count
         (same.0 ∙ k.0, same.1 ∙ k.1)
     go false e h rest = rest h
 
-covers_more : (shape : Shape) (c d : Covered) (given more : ℕ → List Step) → d ≡ c → Covers shape c given → Covers shape d (λ i. given i ++ more i)
+covers_more : (shape : Shape) (c d : Covered) (given more : ℕ → List Step) → d ≡ c → Covers shape c given
+    → Covers shape d (λ i. given i ++ more i)
 covers_more shape c d given more e h = subst (λ x. Covers shape x (λ i. given i ++ more i)) (sym e) (λ b j small bit.
     has_more shape c.target c.counts (given (c.first + (b * 64 + j))) (more (c.first + (b * 64 + j))) (h b j small bit))
 
@@ -146,7 +153,8 @@ leads_some : (t : Stage) (n : ℕ) (steps : List Step) (x : Step) → Leads t n 
 leads_some t n [] x h e = absurd (none_is_some x (sym (ap (numbered t.steps t.lists) h) ∙ e))
 leads_some t n (s ∷ steps) x h e = (steps, ap (λ y. y ∷ steps) (some_is s x (sym h ∙ e)))
 
-pub when_cases : (P : List Step → Type 0) (steps : List Step) (b : Bool) (s : Step) → P steps → (b ≡ true → P (steps ++ (s ∷ []))) → P (steps ++ when b s)
+pub when_cases : (P : List Step → Type 0) (steps : List Step) (b : Bool) (s : Step) → P steps → (b ≡ true → P (steps ++ (s ∷ [])))
+    → P (steps ++ when b s)
 when_cases P steps true s other same = same refl
 when_cases P steps false s other same = subst P (sym (append-nil steps)) other
 
@@ -184,7 +192,8 @@ still_not_there shape t given slot s f h =
 
 -- ---- a step that changes nothing
 
-leads_again : (u : Stage) (n : ℕ) (shape : Shape) (s : Step) (steps : List Step) → HasKey shape s.target (deciding shape s.sets) steps → Leads u n steps
+leads_again : (u : Stage) (n : ℕ) (shape : Shape) (s : Step) (steps : List Step) → HasKey shape s.target (deciding shape s.sets) steps
+    → Leads u n steps
     → Leads u n (steps ++ (s ∷ []))
 leads_again u n shape s [] h leads = absurd (false≢true h)
 leads_again u n shape s (x ∷ xs) h leads = leads
@@ -197,7 +206,8 @@ agree_again shape s (x ∷ xs) h agree = agree_more shape x s xs agree
 
 -- a step of a key that is there already
 adds_again : (shape : Shape) (t : Stage) (b : ℕ → Bool) (s : Step)
-    → ((given : ℕ → List Step) → IsFilled shape t given → (i : ℕ) → i < t.conflict → b i ≡ true → HasKey shape s.target (deciding shape s.sets) (given i))
+    → ((given : ℕ → List Step) → IsFilled shape t given → (i : ℕ) → i < t.conflict → b i ≡ true → HasKey shape s.target
+    (deciding shape s.sets) (given i))
     → Adds shape (λ i. when (b i) s) t t
 adds_again shape t b s has = record {
   as_many = refl;
@@ -220,7 +230,8 @@ pub adds_covered : (w : Way) (t : Stage) (b : ℕ → Bool) → IsDecided w → 
 adds_covered w t b d has = adds_again w.shape t b (way_step w)
     (λ given f i k e. subst (λ c. HasKey w.shape w.target c (given i)) d (has i e given f))
 
-pub adds_agreeing : (shape : Shape) (t : Stage) (slot : ℕ) (s : Step) → Compares shape t slot s (Some true) → Adds shape (at_slot slot s) t t
+pub adds_agreeing : (shape : Shape) (t : Stage) (slot : ℕ) (s : Step) → Compares shape t slot s (Some true)
+    → Adds shape (at_slot slot s) t t
 adds_agreeing shape t slot s e = adds_again shape t (λ i. i == slot) s (λ given f i k same.
     let is : slot ≡ i = sym ((Decides-eqb i slot).0 same) in
     let x = first_there shape t given slot s true (omega (arith, k, is)) f e in
@@ -306,7 +317,8 @@ refilled shape t f g h e = record {
   conflict_within = h.conflict_within;
   agree_before = λ i k. subst (Agree shape) (e i) (h.agree_before i k);
   not_there = λ k a. h.not_there k (subst (Agree shape) (sym (e t.conflict)) a);
-  covers = λ b j small bit. subst (HasKey shape t.covered.target t.covered.counts) (e (t.covered.first + (b * 64 + j))) (h.covers b j small bit);
+  covers = λ b j small bit. subst (HasKey shape t.covered.target t.covered.counts) (e (t.covered.first + (b * 64 + j)))
+      (h.covers b j small bit);
 }
 
 pub adds_none : (shape : Shape) (more : ℕ → List Step) (t : Stage) → ((i : ℕ) → more i ≡ []) → Adds shape more t t
@@ -327,7 +339,8 @@ adds_extended shape t u x = record {
         (leads_extended t u (get_or t.slots i 0) (given i) x (f.leads i (omega (arith, k, x.conflict))));
     conflict_within = omega (arith, x.conflict, f.conflict_within, ap length x.slots);
     agree_before = λ i k. f.agree_before i (omega (arith, k, x.conflict));
-    not_there = λ k. subst (λ c. Agree shape (given c) → ⊥) (sym x.conflict) (f.not_there (omega (arith, k, x.conflict, ap length x.slots)));
+    not_there = λ k. subst (λ c. Agree shape (given c) → ⊥) (sym x.conflict)
+        (f.not_there (omega (arith, k, x.conflict, ap length x.slots)));
     covers = subst (λ c. Covers shape c given) (sym x.covered) f.covers;
   }) (λ i. sym (append-nil (given i)));
 }
@@ -364,12 +377,14 @@ adds_wider shape b d s t u a same more = record {
         conflict_within = g.conflict_within;
         agree_before = λ i k. subst (λ c. Agree shape (given i ++ when c s)) (same i k) (g.agree_before i k);
         not_there = λ k. behind (given u.conflict) (b u.conflict) (d u.conflict) (more u.conflict) (g.not_there k);
-        covers = λ c j small bit. there u.covered.target u.covered.counts (given (u.covered.first + (c * 64 + j))) (b (u.covered.first + (c * 64 + j)))
+        covers = λ c j small bit. there u.covered.target u.covered.counts (given (u.covered.first + (c * 64 + j)))
+            (b (u.covered.first + (c * 64 + j)))
             (d (u.covered.first + (c * 64 + j))) (more (u.covered.first + (c * 64 + j))) (g.covers c j small bit);
       };
 }
   where
-    behind : (steps : List Step) (c e : Bool) → (c ≡ true → e ≡ true) → (Agree shape (steps ++ when c s) → ⊥) → Agree shape (steps ++ when e s) → ⊥
+    behind : (steps : List Step) (c e : Bool) → (c ≡ true → e ≡ true) → (Agree shape (steps ++ when c s) → ⊥)
+        → Agree shape (steps ++ when e s) → ⊥
     behind steps true e more n = subst (λ x. Agree shape (steps ++ when x s) → ⊥) (sym (more refl)) n
     behind steps false e more n = when_cases (λ l. Agree shape l → ⊥) steps e s (λ a. n (subst (Agree shape) (sym (append-nil steps)) a))
         (λ _ a. n (subst (Agree shape) (sym (append-nil steps)) (agree_less shape steps s a)))
@@ -377,13 +392,15 @@ adds_wider shape b d s t u a same more = record {
     there : (target : ℕ) (counts : Option ℕ) (steps : List Step) (c e : Bool) → (c ≡ true → e ≡ true)
         → HasKey shape target counts (steps ++ when c s) → HasKey shape target counts (steps ++ when e s)
     there target counts steps true e more h = subst (λ x. HasKey shape target counts (steps ++ when x s)) (sym (more refl)) h
-    there target counts steps false e more h = has_more shape target counts steps (when e s) (subst (HasKey shape target counts) (append-nil steps) h)
+    there target counts steps false e more h = has_more shape target counts steps (when e s)
+        (subst (HasKey shape target counts) (append-nil steps) h)
 
 -- ---- letters that are covered
 
 -- the steps behind which the notes stand have the key at each slot that is noted anew
 pub adds_noted : (shape : Shape) (more : ℕ → List Step) (t u v : Stage) (c : Covered) → Adds shape more t u → v ≡ record u { covered = c }
-    → ((given : ℕ → List Step) → Covers shape u.covered (λ i. given i ++ more i) → Covers shape c (λ i. given i ++ more i)) → Adds shape more t v
+    → ((given : ℕ → List Step) → Covers shape u.covered (λ i. given i ++ more i) → Covers shape c (λ i. given i ++ more i))
+    → Adds shape more t v
 adds_noted shape more t u v c a is new = subst (Adds shape more t) (sym is) (record {
   as_many = a.as_many;
   sinks = a.sinks;

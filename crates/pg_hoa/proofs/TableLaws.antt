@@ -1,20 +1,68 @@
 -- The steps of the lines that are kept are those of the lines as they are written.
-use Rattle.std.proofs.Common.{◌≡◌, ℕ, suc, max, Bool, true, false, cond, ◌==◌, List, [], ◌∷◌, ◌++◌, map, refl, sym, ap, ◌∙◌}
-use Rattle.std.specs.List.{filter, flat_map, fold}
-use Rattle.std.proofs.lemmas.List.Sums.{fold-append}
+use Rattle.std.proofs.Common.{◌≡◌, ℕ, Bool, true, false, cond, ltb, ◌==◌, List, [], ◌∷◌, ◌++◌, map, refl, sym, ap, ◌∙◌, append_assoc}
+use Rattle.std.specs.Prelude.{◌&&◌, ◌||◌}
+use Rattle.std.specs.List.{filter}
 use Rattle.std.specs.Int.{bit_at}
+use Rattle.std.proofs.lemmas.List.{append-nil}
+use Rattle.std.proofs.lemmas.List.Elements.{filter-append}
+use Rattle.std.proofs.lemmas.List.Folds.{list_any-append}
+use Rattle.pg_lists.specs.Rising.{rising}
+use Rattle.pg_lists.proofs.Rising.{has, has_rising}
 use Rattle.pg_automaton.specs.Automata.{Step, step}
 use Rattle.pg_automaton.specs.Formulas.{holds}
-use Rattle.pg_hoa.specs.AutomatonText.{Edge, StateLine, set_list, line_numbers, count_of, edge_steps, steps_of}
-use Rattle.pg_lists.specs.Rising.{rising}
-use Rattle.pg_hoa.specs.Mirrors.Kept.{KeptEdge, edge_kept, line_kept}
-use Rattle.pg_hoa.specs.Mirrors.Tables.{says_at, edge_step, kept_edge_steps, kept_steps, kept_numbers, kept_count}
+use Rattle.pg_syntax.specs.declared.formula.Op.{Op}
+use Rattle.pg_syntax.specs.declared.formula.Op.TheVariants.{No}
+use Rattle.pg_syntax.specs.Syntax.{Edge, StateLine, set_list}
+use Rattle.pg_syntax.specs.Mirrors.Kept.{KeptEdge, KeptLine, is_never, one_or_two, put_edge, put_edges, kept_of_edge, kept_of_line}
+use Rattle.pg_syntax.proofs.Lists.{both_true}
+use Rattle.pg_syntax.proofs.SetLists.{rising_alike}
+use Rattle.pg_hoa.specs.AutomatonText.{edge_steps, steps_of}
+use Rattle.pg_hoa.specs.Mirrors.Saying.{says}
+use Rattle.pg_hoa.specs.Mirrors.Tables.{says_at, edge_step, kept_edge_steps, kept_steps}
 use Rattle.pg_hoa.proofs.Saying.{postfix_says}
-use Rattle.std.proofs.lemmas.List.Folds.{list_any-append}
-use Rattle.std.specs.Prelude.{◌||◌}
-use Rattle.pg_lists.proofs.Rising.{has, has_rising}
-use Rattle.pg_hoa.proofs.SetLists.{rising_alike}
-use Rattle.pg_hoa.proofs.KeptEdges.{puts_filtered, puts_greatest}
+
+-- ---- the edges of a letter
+
+never_says : (ops : List Op) (on : ℕ → Bool) → is_never ops ≡ true → says ops on ≡ false
+never_says (No ∷ []) on e = refl
+never_says _ on e = absurd cc
+
+alone : (letter : ℕ) (x : KeptEdge) → says_at letter x ≡ false → filter (says_at letter) (x ∷ []) ≡ []
+alone letter x h = rw h refl
+
+two_filtered : (letter : ℕ) (x e : KeptEdge) → filter (says_at letter) (one_or_two x e) ≡ filter (says_at letter) (x ∷ e ∷ [])
+two_filtered letter x e =
+    elim (is_never x.label && is_never e.label) as (λ b. (is_never x.label && is_never e.label) ≡ b → filter (says_at letter)
+    (cond b (cond (ltb x.target e.target) (e ∷ []) (x ∷ [])) (x ∷ e ∷ [])) ≡ filter (says_at letter) (x ∷ e ∷ [])) [
+      | true ↦ λ h.
+          let never = both_true (is_never x.label) (is_never e.label) h in
+          let first : says_at letter x ≡ false = never_says x.label _ never.0 in
+          let second : says_at letter e ≡ false = never_says e.label _ never.1 in
+          let both : filter (says_at letter) (x ∷ e ∷ []) ≡ [] = rw (first, second) refl in
+          let one : (b : Bool) → filter (says_at letter) (cond b (e ∷ []) (x ∷ [])) ≡ [] =
+          λ b. elim b as (λ b. filter (says_at letter) (cond b (e ∷ []) (x ∷ [])) ≡ [])
+          [ true ↦ alone letter e second | false ↦ alone letter x first ] in
+          one (ltb x.target e.target) ∙ sym both
+      | false ↦ λ h. refl
+    ] refl
+
+put_filtered : (letter : ℕ) (kept : List KeptEdge) (e : KeptEdge)
+    → filter (says_at letter) (put_edge kept e) ≡ filter (says_at letter) (kept ++ (e ∷ []))
+put_filtered letter [] e = refl
+put_filtered letter (x ∷ []) e = two_filtered letter x e
+put_filtered letter (x ∷ y ∷ kept) e = ap (λ (es : List KeptEdge). cond (says_at letter x) (x ∷ es) es) (put_filtered letter (y ∷ kept) e)
+
+pub puts_filtered : (letter : ℕ) (kept edges : List KeptEdge)
+    → filter (says_at letter) (put_edges kept edges) ≡ filter (says_at letter) (kept ++ edges)
+puts_filtered letter kept [] = ap (filter (says_at letter)) (sym (append-nil kept))
+puts_filtered letter kept (e ∷ edges) =
+    puts_filtered letter (put_edge kept e) edges
+    ∙ filter-append (says_at letter) (put_edge kept e) edges
+    ∙ ap (λ (es : List KeptEdge). es ++ filter (says_at letter) edges) (put_filtered letter kept e)
+    ∙ sym (filter-append (says_at letter) (kept ++ (e ∷ [])) edges)
+    ∙ ap (filter (says_at letter)) (append_assoc kept (e ∷ []) edges)
+
+-- ---- steps
 
 abbrev holds_at : ℕ → Edge → Bool
 holds_at letter e = holds e.letter (λ a. bit_at letter a == 1)
@@ -33,47 +81,33 @@ once_more own more = rising_alike (rising own ++ rising more) (own ++ more)
     ∙ ap (λ b. has q own || b) (has_rising q more) ∙ sym (list_any-append (λ n. q == n) own more))
 
 edges_are : (letter : ℕ) (own : List ℕ) (edges : List Edge)
-    → map (edge_step (rising own)) (filter (says_at letter) (map edge_kept edges)) ≡ map (written_step own) (filter (holds_at letter) edges)
+    → map (edge_step (rising own)) (filter (says_at letter) (map kept_of_edge edges)) ≡ map (written_step own)
+    (filter (holds_at letter) edges)
 edges_are letter own [] = refl
 edges_are letter own (e ∷ edges) =
-    let kept = map edge_kept edges in
+    let kept = map kept_of_edge edges in
     let all = filter (says_at letter) kept in
-    mapped (edge_step (rising own)) (says_at letter (edge_kept e)) (edge_kept e) all
-    ∙ ap (λ b. cond b (edge_step (rising own) (edge_kept e) ∷ map (edge_step (rising own)) all) (map (edge_step (rising own)) all))
+    mapped (edge_step (rising own)) (says_at letter (kept_of_edge e)) (kept_of_edge e) all
+    ∙ ap (λ b. cond b (edge_step (rising own) (kept_of_edge e) ∷ map (edge_step (rising own)) all) (map (edge_step (rising own)) all))
     (postfix_says e.letter (λ a. bit_at letter a == 1))
     ∙ ap (λ sets. cond (holds_at letter e) (step e.target sets ∷ map (edge_step (rising own)) all) (map (edge_step (rising own)) all))
     (once_more own (set_list e.sets))
     ∙ ap (λ l. cond (holds_at letter e) (written_step own e ∷ l) l) (edges_are letter own edges)
     ∙ sym (mapped (written_step own) (holds_at letter e) e (filter (holds_at letter) edges))
 
-line_is : (state letter : ℕ) (l : StateLine) → kept_edge_steps state letter (line_kept l) ≡ edge_steps state letter l
+line_is : (state letter : ℕ) (l : StateLine) → kept_edge_steps state letter (kept_of_line l) ≡ edge_steps state letter l
 line_is state letter l =
     let own = set_list l.sets in
-    let same = ap (map (edge_step (rising own))) (puts_filtered letter [] (map edge_kept l.edges)) ∙ edges_are letter own l.edges in
+    let same = ap (map (edge_step (rising own))) (puts_filtered letter [] (map kept_of_edge l.edges)) ∙ edges_are letter own l.edges in
     ap (λ (steps : List Step). cond (l.state == state) steps []) same
 
-pub kept_steps_are : (lines : List StateLine) (state letter : ℕ) → kept_steps (map line_kept lines) state letter ≡ steps_of lines state letter
+pub kept_steps_are : (lines : List StateLine) (state letter : ℕ)
+    → kept_steps (map kept_of_line lines) state letter ≡ steps_of lines state letter
 kept_steps_are [] state letter = refl
-kept_steps_are (l ∷ lines) state letter = ap (λ s. s ++ kept_steps (map line_kept lines) state letter) (line_is state letter l)
+kept_steps_are (l ∷ lines) state letter = ap (λ s. s ++ kept_steps (map kept_of_line lines) state letter) (line_is state letter l)
     ∙ ap (λ s. edge_steps state letter l ++ s) (kept_steps_are lines state letter)
 
--- ---- the states that are named
-
-targets_are : (edges : List Edge) → map (λ (e : KeptEdge). e.target) (map edge_kept edges) ≡ map (λ (e : Edge). e.target) edges
-targets_are [] = refl
-targets_are (e ∷ edges) = ap (λ l. e.target ∷ l) (targets_are edges)
-
-line_greatest : (a : ℕ) (l : StateLine) → fold max a (kept_numbers (line_kept l)) ≡ fold max a (line_numbers l)
-line_greatest a l = puts_greatest (max a l.state) [] (map edge_kept l.edges) ∙ ap (fold max (max a l.state)) (targets_are l.edges)
-
-greatest_are : (a : ℕ) (lines : List StateLine) → fold max a (flat_map kept_numbers (map line_kept lines)) ≡ fold max a (flat_map line_numbers lines)
-greatest_are a [] = refl
-greatest_are a (l ∷ lines) =
-    let kept = flat_map kept_numbers (map line_kept lines) in
-    fold-append max a (kept_numbers (line_kept l)) kept
-    ∙ ap (λ n. fold max n kept) (line_greatest a l)
-    ∙ greatest_are (fold max a (line_numbers l)) lines
-    ∙ sym (fold-append max a (line_numbers l) (flat_map line_numbers lines))
-
-pub kept_count_is : (start : ℕ) (lines : List StateLine) → kept_count start (map line_kept lines) ≡ count_of [] (start ∷ flat_map line_numbers lines)
-kept_count_is start lines = ap suc (greatest_are (max 0 start) lines)
+pub written_steps : (lines : List StateLine) (kept : List KeptLine) (state letter : ℕ) → map kept_of_line lines ≡ kept
+    → kept_steps kept state letter ≡ steps_of lines state letter
+written_steps lines kept state letter e = ap (λ (ls : List KeptLine). kept_steps ls state letter) (sym e)
+    ∙ kept_steps_are lines state letter

@@ -7,7 +7,7 @@ use Rattle.pg_automaton.specs.Automata.{Step, step}
 use Rattle.pg_automaton.specs.Mirrors.Steps.{◌>>=◌}
 use Rattle.pg_automaton.specs.Mirrors.Tables.{numbered}
 use Rattle.pg_hoa.specs.Mirrors.Tables.{Stage, Extends, MayNumber}
-use Rattle.pg_hoa.proofs.Steps.{bind_some}
+use Rattle.pg_syntax.proofs.Steps.{bind_some}
 use Rattle.pg_lists.proofs.Steps.{some, none_is_some}
 
 slice_get_more : {X : Type 0} (xs ys : List X) (k : ℕ) (x : X) → slice_get xs k ≡ Some x → slice_get (xs ++ ys) k ≡ Some x

@@ -12,19 +12,19 @@ use Rattle.std.proofs.lemmas.Nat.{div-add-mod', mod_below, mul-le, pow-add, pow_
 use Rattle.std.proofs.lemmas.Nat.Bits.{bit_at-zero, bit_at-trailing_zeros}
 use Rattle.std.proofs.lemmas.List.{map-append, flat_map_more, take_more, get_or-set_same, get_or-set_other}
 use Rattle.std.proofs.lemmas.List.Elements.{filter-append}
-use Rattle.pg_hoa.specs.declared.formula.Op.{Op}
+use Rattle.pg_syntax.specs.declared.formula.Op.{Op}
 use Rattle.pg_automaton.specs.Automata.{Step, step, deciding}
 use Rattle.pg_hoa.specs.declared.table.Covered.{Covered}
 use Rattle.pg_hoa.specs.declared.table.Way.{Way}
 use Rattle.pg_lists.specs.Rising.{rising}
-use Rattle.pg_hoa.specs.Mirrors.Kept.{KeptEdge, KeptLine}
+use Rattle.pg_syntax.specs.Mirrors.Kept.{KeptEdge, KeptLine}
 use Rattle.pg_hoa.specs.Mirrors.Saying.{says}
 use Rattle.pg_hoa.specs.Mirrors.Letters.{truth, truth_in, on_at}
 use Rattle.pg_automaton.specs.declared.shape.Shape.{Shape}
 use Rattle.pg_hoa.proofs.TableFilling.{adds_then, adds_covered, adds_wider, adds_noted, own_key, has_first, has_behind}
 use Rattle.pg_hoa.proofs.TableWords.{truth_and, truth_or, truth_not, truth_none}
-use Rattle.pg_hoa.proofs.Lists.{both_true}
-use Rattle.pg_hoa.specs.Mirrors.Acts.{SpeaksOf}
+use Rattle.pg_syntax.proofs.Lists.{both_true}
+use Rattle.pg_hoa.specs.Mirrors.Instructions.{SpeaksOf}
 use Rattle.pg_hoa.specs.Mirrors.Tables.{Stage, HasKey, Adds, IsCovered, IsDecided, IsOf, IsRow, when, within, way_step, at_slot, at_word}
 use Rattle.pg_hoa.specs.Mirrors.Tables.{at_letters, at_line, at_lines, IsSplit}
 use Rattle.pg_hoa.specs.Mirrors.Tables.{says_at, edge_step, kept_edge_steps}
@@ -41,7 +41,8 @@ when_none true s P p n = absurd (n (p.0 refl))
 when_none false s P p n = refl
 
 decides_le : (a b : ℕ) → Decides (leb a b) (a ≤ b)
-decides_le a b = elim (leb_tells a b) [ inl p ↦ (λ _. p.1, λ _. p.0) | inr p ↦ (λ e. absurd (false≢true (sym p.0 ∙ e)), λ h. absurd (omega arith)) ]
+decides_le a b =
+    elim (leb_tells a b) [ inl p ↦ (λ _. p.1, λ _. p.0) | inr p ↦ (λ e. absurd (false≢true (sym p.0 ∙ e)), λ h. absurd (omega arith)) ]
 
 decides_true : (b : Bool) → Decides b (b ≡ true)
 decides_true b = (λ e. e, λ e. e)
@@ -74,7 +75,8 @@ pub no_bits : (first word : ℕ) (s : Step) (i : ℕ) → at_word first 0 word s
 no_bits first word s i = when_none (within first 0 i && (bit_at word (i - first) == 1)) s (AtBit first 0 word i)
     (decides_bit first 0 word i) (λ p. absurd (omega (arith, p.0.0, p.0.1)))
 
-pub set_bit : (first j word : ℕ) (s : Step) (i : ℕ) → bit_at word j ≡ 1 → at_word first j word s i ++ at_slot (first + j) s i ≡ at_word first (j + 1) word s i
+pub set_bit : (first j word : ℕ) (s : Step) (i : ℕ) → bit_at word j ≡ 1
+    → at_word first j word s i ++ at_slot (first + j) s i ≡ at_word first (j + 1) word s i
 set_bit first j word s i bit = grind (
   arith,
   nat_tests,
@@ -87,7 +89,8 @@ set_bit first j word s i bit = grind (
 
 pub unset_bits : (first a b word : ℕ) (s : Step) (i : ℕ) → a ≤ b → ((k : ℕ) → a ≤ k → k < b → bit_at word k ≡ 1 → ⊥)
     → at_word first a word s i ≡ at_word first b word s i
-unset_bits first a b word s i h none = grind (arith, nat_tests, decides_bit first a word i, decides_bit first b word i, before_or_behind i (first + a))
+unset_bits first a b word s i h none =
+    grind (arith, nat_tests, decides_bit first a word i, decides_bit first b word i, before_or_behind i (first + a))
 
 bit_of_rest : (word at k : ℕ) → at ≤ k → bit_at (word / 2 ^ at) (k - at) ≡ bit_at word k
 bit_of_rest word at k h = grind (arith, nat_tests, shr-shr word at (k - at))
@@ -117,7 +120,8 @@ says_behind label first i = says label (λ a. bit_at (i - first) a == 1)
 abbrev AtLetter : ℕ → ℕ → List Op → ℕ → Type 0
 AtLetter first width label i = Within first width i × (says_behind label first i ≡ true)
 
-decides_letter : (first width : ℕ) (label : List Op) (i : ℕ) → Decides (within first width i && says_behind label first i) (AtLetter first width label i)
+decides_letter : (first width : ℕ) (label : List Op) (i : ℕ)
+    → Decides (within first width i && says_behind label first i) (AtLetter first width label i)
 decides_letter first width label i = Decides-and (within first width i) (says_behind label first i) (decides_within first width i)
     (decides_true (says_behind label first i))
 
@@ -130,7 +134,8 @@ no_letters first label s i = when_none (within first 0 i && says_behind label fi
 
 pub more_letters : (first block width word : ℕ) (label : List Op) (s : Step) (i : ℕ) → Tells word label block → width ≤ 64
     → block * width ≡ block * 64
-    → at_letters first (block * width) label s i ++ at_word (first + block * width) width word s i ≡ at_letters first ((block + 1) * width) label s i
+    → at_letters first (block * width) label s i ++ at_word (first + block * width) width word s i ≡ at_letters first ((block + 1) * width)
+    label s i
 more_letters first block width word label s i tells narrow whole = grind (
   arith,
   nat_tests,
@@ -164,14 +169,16 @@ rest_truth : (word known j : ℕ) → known < 2 ^ 64 → j < 64
     → truth (bit_and word (18446744073709551615 - known)) j ≡ (truth word j && cond (truth known j) false true)
 rest_truth word known j h k = truth_and word (18446744073709551615 - known) j ∙ ap (λ b. truth word j && b) (truth_not known j h k)
 
-pieces : (w x y z : Bool) (s : Step) → (w ≡ true → z ≡ (x && cond y false true)) → when (w && (x && y)) s ++ when (w && z) s ≡ when (w && x) s
+pieces : (w x y z : Bool) (s : Step) → (w ≡ true → z ≡ (x && cond y false true))
+    → when (w && (x && y)) s ++ when (w && z) s ≡ when (w && x) s
 pieces false x y z s e = refl
 pieces true true true z s e = ap (λ b. (s ∷ []) ++ when b s) (e refl)
 pieces true true false z s e = ap (λ b. when b s) (e refl)
 pieces true false y z s e = ap (λ b. when b s) (e refl)
 
 pub known_and_rest : (first width word known : ℕ) (s : Step) (i : ℕ) → known < 2 ^ 64 → width ≤ 64
-    → at_known first width word known s i ++ at_word first width (bit_and word (18446744073709551615 - known)) s i ≡ at_word first width word s i
+    → at_known first width word known s i ++ at_word first width (bit_and word (18446744073709551615 - known)) s i ≡ at_word first width
+    word s i
 known_and_rest first width word known s i h narrow = pieces (within first width i) (truth word (i - first)) (truth known (i - first))
     (truth (bit_and word (18446744073709551615 - known)) (i - first)) s
     (λ e. let there = (decides_within first width i).0 e in rest_truth word known (i - first) h (omega (arith, there.0, there.1, narrow)))
@@ -205,7 +212,8 @@ one_of_two P false b e p q = q e
 -- the letters of a block are covered as they are given
 pub covers_given : (w : Way) (t u v : Stage) (c : Covered) (block word : ℕ) → w.row.width ≡ 64 → IsDecided w → IsOf u.covered w
     → c.first ≡ u.covered.first → c.target ≡ u.covered.target → c.counts ≡ u.covered.counts
-    → c.words.items ≡ set u.covered.words.items block (bit_or (get_or u.covered.words.items block 0) word) → block < length u.covered.words.items
+    → c.words.items ≡ set u.covered.words.items block (bit_or (get_or u.covered.words.items block 0) word)
+    → block < length u.covered.words.items
     → Adds w.shape (at_word (w.row.first + block * w.row.width) w.row.width word (way_step w)) t u → v ≡ record u { covered = c }
     → Adds w.shape (at_word (w.row.first + block * w.row.width) w.row.width word (way_step w)) t v
 covers_given w t u v c block word wide d of first target counts words below a is =
@@ -215,13 +223,15 @@ covers_given w t u v c block word wide d of first target counts words below a is
     (subst (λ n. HasKey w.shape u.covered.target n (all given (c.first + (b * 64 + j)))) (sym counts)
     (subst (λ n. HasKey w.shape u.covered.target u.covered.counts (all given (n + (b * 64 + j)))) (sym first)
     (elim (same_or_other b block) [
-      | inr other ↦ old b j small (sym (ap (λ l. truth (get_or l b 0) j) words ∙ ap (λ n. truth n j) (get_or-set_other u.covered.words.items block b
+      | inr other ↦ old b j small (sym (ap (λ l. truth (get_or l b 0) j) words ∙ ap (λ n. truth n j)
+          (get_or-set_other u.covered.words.items block b
           (bit_or (get_or u.covered.words.items block 0) word) 0 other)) ∙ bit)
       | inl same ↦
           let new : truth (bit_or (get_or u.covered.words.items block 0) word) j ≡ true =
           sym (ap (λ l. truth (get_or l b 0) j) words ∙ ap (λ n. truth (get_or (set u.covered.words.items block
           (bit_or (get_or u.covered.words.items block 0) word)) n 0) j) same
-          ∙ ap (λ n. truth n j) (get_or-set_same u.covered.words.items block (bit_or (get_or u.covered.words.items block 0) word) 0 below)) ∙ bit in
+          ∙ ap (λ n. truth n j) (get_or-set_same u.covered.words.items block (bit_or (get_or u.covered.words.items block 0) word) 0 below))
+          ∙ bit in
           one_of_two (HasKey w.shape u.covered.target u.covered.counts (all given (u.covered.first + (b * 64 + j))))
           (truth (get_or u.covered.words.items block 0) j) (truth word j)
           (sym (truth_or (get_or u.covered.words.items block 0) word j) ∙ new)
@@ -242,14 +252,19 @@ covers_given w t u v c block word wide d of first target counts words below a is
         → HasKey w.shape u.covered.target u.covered.counts (all given (u.covered.first + (b * 64 + j)))
     given_now given b j small same e =
         let i : ℕ = u.covered.first + (b * 64 + j) in
-        let place : i ≡ at + j = ap (λ n. n + (b * 64 + j)) of.first ∙ ap (λ n. w.row.first + (n * 64 + j)) same ∙ ap (λ n. w.row.first + (block * n + j)) (sym wide)
+        let place : i ≡ at + j = ap (λ n. n + (b * 64 + j)) of.first ∙ ap (λ n. w.row.first + (n * 64 + j)) same
+        ∙ ap (λ n. w.row.first + (block * n + j)) (sym wide)
         ∙ omega arith in
-        let inside : (within at w.row.width i && (bit_at word (i - at) == 1)) ≡ true = (decides_bit at w.row.width word i).1
-        ((omega (arith, place), omega (arith, place, small, wide)), ap (bit_at word) (omega (arith, place)) ∙ (Decides-eqb (bit_at word j) 1).0 e) in
+        let inside : (within at w.row.width i && (bit_at word (i - at) == 1)) ≡ true = (decides_bit at w.row.width word i).1 (
+          (omega (arith, place), omega (arith, place, small, wide)),
+          ap (bit_at word) (omega (arith, place))
+              ∙ (Decides-eqb (bit_at word j) 1).0 e,
+        ) in
         has_behind w.shape u.covered.target u.covered.counts (given i) (at_word at w.row.width word s i)
         (subst (λ x. HasKey w.shape u.covered.target u.covered.counts (when x s)) (sym inside)
         (subst (λ n. HasKey w.shape n u.covered.counts (s ∷ [])) (sym of.target)
-        (subst (λ n. HasKey w.shape w.target n (s ∷ [])) (sym (of.counts ∙ d)) (has_first w.shape w.target (deciding w.shape s.sets) s [] (own_key w.shape s)))))
+        (subst (λ n. HasKey w.shape w.target n (s ∷ [])) (sym (of.counts ∙ d))
+        (has_first w.shape w.target (deciding w.shape s.sets) s [] (own_key w.shape s)))))
 
 sum_spread : (a e width : ℕ) → (a + e) * width ≡ a * width + e * width
 sum_spread a e width = omega arith
@@ -260,7 +275,8 @@ rest_of a c width h =
     sym (ap (λ l. l * width) sum ∙ sum_spread a (c - a) width)
 
 -- the letters of a run, where all to which the label says yes are covered
-pub covered_run : (w : Way) (t u : Stage) (run slots : ℕ) (label : List Op) (words : List ℕ) → IsDecided w → IsRow slots w.row → run * 16 < w.row.blocks
+pub covered_run : (w : Way) (t u : Stage) (run slots : ℕ) (label : List Op) (words : List ℕ) → IsDecided w → IsRow slots w.row
+    → run * 16 < w.row.blocks
     → SpeaksOf label run words
     → ((k j : ℕ) → k < 16 → j < 64 → truth_in words k j ≡ true → IsCovered w u (w.row.first + ((run * 16 + k) * 64 + j)))
     → Adds w.shape (at_letters w.row.first (run * 16 * w.row.width) label (way_step w)) t u
@@ -271,7 +287,8 @@ covered_run w t u run slots label words d row some speaks has a =
     let m : ℕ = (min w.row.blocks (run * 16 + 16) - run * 16) * w.row.width in
     let b = λ (i : ℕ). within (first + n) m i && says_behind label first i in
     let before : n ≡ run * 1024 = row.whole (run * 16) some ∙ omega arith in
-    let all : n + m ≡ min w.row.blocks (run * 16 + 16) * w.row.width = rest_of (run * 16) (min w.row.blocks (run * 16 + 16)) w.row.width (omega (arith, some)) in
+    let all : n + m ≡ min w.row.blocks (run * 16 + 16) * w.row.width =
+    rest_of (run * 16) (min w.row.blocks (run * 16 + 16)) w.row.width (omega (arith, some)) in
     let few : m ≤ 1024 = mul-le (min w.row.blocks (run * 16 + 16) - run * 16) w.row.width 16 64 (omega arith) row.narrow in
     adds_then w.shape (at_letters first n label (way_step w)) (λ i. when (b i) (way_step w))
     (at_letters first (min w.row.blocks (run * 16 + 16) * w.row.width) label (way_step w)) t u u a
@@ -284,7 +301,8 @@ covered_run w t u run slots label words d row some speaks has a =
     let slot : first + ((run * 16 + k) * 64 + q % 64) ≡ i = omega (arith, there.0, place) in
     let below : k < 16 = omega (arith, there.0, there.1, before, few) in
     let small : q % 64 < 64 = omega arith in
-    subst (IsCovered w u) slot (has k (q % 64) below small (speaks k (q % 64) below small ∙ ap (λ l. says label (λ a. bit_at l a == 1)) place ∙ parts.1))))
+    subst (IsCovered w u) slot (has k (q % 64) below small
+    (speaks k (q % 64) below small ∙ ap (λ l. says label (λ a. bit_at l a == 1)) place ∙ parts.1))))
     (λ i. more_within first n m label (way_step w) i ∙ ap (λ l. at_letters first l label (way_step w) i) all)
 
 -- the letters from the conflict on
@@ -301,7 +319,8 @@ stopped_letters shape first n m label s t u h late a = adds_wider shape (λ i. w
 abbrev pub line_of : ℕ → List ℕ → List KeptEdge → KeptLine
 line_of state own edges = record { state = state; sets = own; edges = edges }
 
-at_row : (letters state i : ℕ) → 0 < letters → i / letters ≡ state → Within (state * letters) letters i × (i - state * letters ≡ i % letters)
+at_row : (letters state i : ℕ) → 0 < letters → i / letters ≡ state
+    → Within (state * letters) letters i × (i - state * letters ≡ i % letters)
 at_row letters state i h e = grind (arith, nat_tests, div-add-mod' i letters, mod_below i letters h)
 
 row_at : (letters state i : ℕ) → Within (state * letters) letters i → i / letters ≡ state
@@ -309,7 +328,8 @@ row_at letters state i h = grind (arith, nat_tests)
 
 -- the slots of a state, by its letters
 letters_at : (letters state i : ℕ) (own : List ℕ) (e : KeptEdge) → 0 < letters
-    → at_letters (state * letters) letters e.label (edge_step own e) i ≡ when (state == i / letters && says_at (i % letters) e) (edge_step own e)
+    → at_letters (state * letters) letters e.label (edge_step own e) i ≡ when (state == i / letters && says_at (i % letters) e)
+    (edge_step own e)
 letters_at letters state i own e h =
     when_same (within (state * letters) letters i && says_behind e.label (state * letters) i)
     (state == i / letters && says_at (i % letters) e) (edge_step own e)
@@ -346,9 +366,11 @@ pub more_items : {A B : Type 0} (f : A → B) (xs : List A) (i : ℕ) (x : A) �
 more_items f xs i x h is = grind (arith, nat_tests, take_more xs i x h, map-append f (take i xs) (get_or xs i x ∷ []))
 
 -- an edge as it is given, with its sets put into those of the state
-pub edge_added : (letters state first : ℕ) (own : List ℕ) (edges more : List KeptEdge) (e : KeptEdge) (label : List Op) (sets : List ℕ) (i : ℕ)
+pub edge_added : (letters state first : ℕ) (own : List ℕ) (edges more : List KeptEdge) (e : KeptEdge) (label : List Op) (sets : List ℕ)
+    (i : ℕ)
     → 0 < letters → first ≡ state * letters → label ≡ e.label → sets ≡ rising (own ++ e.sets) → edges ++ (e ∷ []) ≡ more
-    → at_line letters (line_of state own edges) i ++ at_letters first letters label (step e.target sets) i ≡ at_line letters (line_of state own more) i
+    → at_line letters (line_of state own edges) i ++ at_letters first letters label (step e.target sets) i ≡ at_line letters
+    (line_of state own more) i
 edge_added letters state first own edges more e label sets i h a b c d = grind (arith, nat_tests, more_edges letters state own edges e i h)
 
 -- ---- lines
@@ -373,7 +395,8 @@ one_block propositions width h e =
     nothing : (n : ℕ) → 0 * n ≡ 0 * 64
     nothing n = omega arith
 
-pub many_blocks : (propositions blocks : ℕ) → 6 ≤ propositions → propositions ≤ 16 → blocks ≡ 2 ^ (propositions - 6) → IsSplit propositions blocks 64
+pub many_blocks : (propositions blocks : ℕ) → 6 ≤ propositions → propositions ≤ 16 → blocks ≡ 2 ^ (propositions - 6)
+    → IsSplit propositions blocks 64
 many_blocks propositions blocks h k e =
     let there : propositions - 6 + 6 ≡ propositions = omega (arith, h) in
     let product : 2 ^ (propositions - 6) * 64 ≡ 2 ^ propositions = sym (pow-add 2 (propositions - 6) 6) ∙ ap (λ n. 2 ^ n) there in

@@ -1,5 +1,6 @@
 -- Edges that stand in another order, but those of one key in theirs: where the steps of a slot agree, their order is the same.
-use Rattle.std.proofs.Common.{◌≡◌, ℕ, ◌/◌, ◌%◌, Bool, true, false, cond, ◌+◌, ◌*◌, ◌==◌, ◌&&◌, ◌||◌, List, [], ◌∷◌, ◌++◌, map, get_or, Option, Some, None, arith, refl, sym, ap, subst, ◌∙◌, inl, inr, ◌⊎◌}
+use Rattle.std.proofs.Common.{◌≡◌, ℕ, ◌/◌, ◌%◌, Bool, true, false, cond, ◌+◌, ◌*◌, ◌==◌, ◌&&◌, ◌||◌, List, [], ◌∷◌, ◌++◌, map, get_or}
+use Rattle.std.proofs.Common.{Option, Some, None, arith, refl, sym, ap, subst, ◌∙◌, inl, inr, ◌⊎◌}
 use Rattle.std.specs.List.{All, filter, list_any}
 use Rattle.std.specs.List.Sorted.{ties}
 use Rattle.std.specs.Option.{option_cmp}
@@ -13,11 +14,11 @@ use Rattle.std.proofs.lemmas.List.Folds.{list_any-append}
 use Rattle.pg_automaton.specs.declared.shape.Shape.{Shape}
 use Rattle.pg_automaton.specs.Automata.{Step, deciding}
 use Rattle.pg_hoa.specs.AutomatonText.{Agree}
-use Rattle.pg_hoa.specs.Mirrors.Kept.{KeptEdge}
+use Rattle.pg_syntax.specs.Mirrors.Kept.{KeptEdge}
 use Rattle.pg_hoa.specs.Mirrors.Tables.{Stage, same_set, has_key, HasKey, Leads, Adds, IsRegrouped, edge_step, says_at, at_line}
 use Rattle.pg_hoa.proofs.TableFilling.{SameKey, same_set_is, own_key, is_key, only_key, has_first, has_later, has_more, has_behind}
 use Rattle.pg_hoa.proofs.TablePlaces.{line_of}
-use Rattle.pg_hoa.proofs.Lists.{both_true}
+use Rattle.pg_syntax.proofs.Lists.{both_true}
 
 -- ---- filters
 
@@ -46,7 +47,8 @@ mapped_if f false x xs = refl
 
 filter_mapped : {A B : Type 0} (f : A → B) (p : B → Bool) (xs : List A) → filter p (map f xs) ≡ map f (filter (λ x. p (f x)) xs)
 filter_mapped f p [] = refl
-filter_mapped f p (x ∷ xs) = ap (λ l. cond (p (f x)) (f x ∷ l) l) (filter_mapped f p xs) ∙ sym (mapped_if f (p (f x)) x (filter (λ x. p (f x)) xs))
+filter_mapped f p (x ∷ xs) = ap (λ l. cond (p (f x)) (f x ∷ l) l) (filter_mapped f p xs)
+    ∙ sym (mapped_if f (p (f x)) x (filter (λ x. p (f x)) xs))
 
 any_more : {A : Type 0} (p : A → Bool) (x : A) (xs : List A) (b : Bool) → p x ≡ b → list_any p (filter p xs) ≡ list_any p xs
     → list_any p (cond b (x ∷ filter p xs) (filter p xs)) ≡ (b || list_any p xs)
@@ -65,11 +67,13 @@ all_pass p (x ∷ xs) h = ap (λ b. cond b (x ∷ filter p xs) (filter p xs)) (A
 -- ---- steps in another order
 
 abbrev IsReordered : Shape → List Step → List Step → Type 0
-IsReordered shape xs ys = (target : ℕ) (counts : Option ℕ) → filter (has_key shape target counts) ys ≡ filter (has_key shape target counts) xs
+IsReordered shape xs ys = (target : ℕ) (counts : Option ℕ)
+    → filter (has_key shape target counts) ys ≡ filter (has_key shape target counts) xs
 
 same_keys : (shape : Shape) (xs ys : List Step) (target : ℕ) (counts : Option ℕ) → IsReordered shape xs ys → HasKey shape target counts ys
     → HasKey shape target counts xs
-same_keys shape xs ys target counts r h = sym (any_is (has_key shape target counts) xs) ∙ ap (list_any (has_key shape target counts)) (sym (r target counts))
+same_keys shape xs ys target counts r h = sym (any_is (has_key shape target counts) xs)
+    ∙ ap (list_any (has_key shape target counts)) (sym (r target counts))
     ∙ any_is (has_key shape target counts) ys ∙ h
 
 one_key : (shape : Shape) (x : Step) (ys : List Step)
@@ -78,7 +82,8 @@ one_key : (shape : Shape) (x : Step) (ys : List Step)
 one_key shape x [] h = All-nil (λ y. has_key shape x.target (deciding shape x.sets) y ≡ true)
 one_key shape x (y ∷ ys) h =
     let k = h y.target (deciding shape y.sets) (has_first shape y.target (deciding shape y.sets) y ys (own_key shape y)) in
-    All-cons (λ y. has_key shape x.target (deciding shape x.sets) y ≡ true) y ys (is_key shape x.target (deciding shape x.sets) y (sym k.0) (sym k.1))
+    All-cons (λ y. has_key shape x.target (deciding shape x.sets) y ≡ true) y ys
+    (is_key shape x.target (deciding shape x.sets) y (sym k.0) (sym k.1))
     (one_key shape x ys (λ target counts m. h target counts (has_later shape target counts y ys m)))
 
 -- steps that agree stand in one order
@@ -89,9 +94,11 @@ same_order shape [] (y ∷ ys) r a = absurd (false≢true (same_keys shape [] (y
 same_order shape (x ∷ xs) ys r a =
     let first = All-head (λ y. All (SameKey shape y) (x ∷ xs)) x xs a in
     let p = has_key shape x.target (deciding shape x.sets) in
-    sym (all_pass p ys (one_key shape x ys (λ target counts m. only_key shape x target counts (x ∷ xs) first (same_keys shape (x ∷ xs) ys target counts r m))))
+    sym (all_pass p ys (one_key shape x ys (λ target counts m. only_key shape x target counts (x ∷ xs) first
+    (same_keys shape (x ∷ xs) ys target counts r m))))
     ∙ r x.target (deciding shape x.sets)
-    ∙ all_pass p (x ∷ xs) (All-weaker (SameKey shape x) (λ y. p y ≡ true) (λ y k. is_key shape x.target (deciding shape x.sets) y (sym k.0) (sym k.1)) (x ∷ xs) first)
+    ∙ all_pass p (x ∷ xs) (All-weaker (SameKey shape x) (λ y. p y ≡ true)
+    (λ y k. is_key shape x.target (deciding shape x.sets) y (sym k.0) (sym k.1)) (x ∷ xs) first)
 
 all_behind : {A : Type 0} (P : A → Type 0) (xs ys : List A) → All P (xs ++ ys) → All P ys
 all_behind P [] ys h = h
@@ -99,13 +106,15 @@ all_behind P (x ∷ xs) ys h = all_behind P xs ys (All-tail P x (xs ++ ys) h)
 
 agree_behind : (shape : Shape) (xs ys : List Step) → Agree shape (xs ++ ys) → Agree shape ys
 agree_behind shape xs ys a = all_behind (λ x. All (SameKey shape x) ys) xs ys
-    (All-weaker (λ x. All (SameKey shape x) (xs ++ ys)) (λ x. All (SameKey shape x) ys) (λ x h. all_behind (SameKey shape x) xs ys h) (xs ++ ys) a)
+    (All-weaker (λ x. All (SameKey shape x) (xs ++ ys)) (λ x. All (SameKey shape x) ys) (λ x h. all_behind (SameKey shape x) xs ys h)
+    (xs ++ ys) a)
 
 one_of_two : (P : Type 0) (a b : Bool) → (a || b) ≡ true → (a ≡ true → P) → (b ≡ true → P) → P
 one_of_two P true b e p q = p refl
 one_of_two P false b e p q = q e
 
-adds_reordered : (shape : Shape) (g h : ℕ → List Step) (t u : Stage) → ((i : ℕ) → IsReordered shape (g i) (h i)) → Adds shape h t u → Adds shape g t u
+adds_reordered : (shape : Shape) (g h : ℕ → List Step) (t u : Stage) → ((i : ℕ) → IsReordered shape (g i) (h i)) → Adds shape h t u
+    → Adds shape g t u
 adds_reordered shape g h t u r a = record {
   as_many = a.as_many;
   sinks = a.sinks;
@@ -118,28 +127,33 @@ adds_reordered shape g h t u r a = record {
         leads = λ i e. subst (λ l. Leads u (get_or u.slots i 0) (given i ++ l)) (sym (same i (k.agree_before i e))) (k.leads i e);
         conflict_within = k.conflict_within;
         agree_before = λ i e. subst (λ l. Agree shape (given i ++ l)) (sym (same i (k.agree_before i e))) (k.agree_before i e);
-        not_there = λ e agree. k.not_there e (subst (λ l. Agree shape (given u.conflict ++ l)) (sym (same_order shape (g u.conflict) (h u.conflict) (r u.conflict)
+        not_there = λ e agree. k.not_there e (subst (λ l. Agree shape (given u.conflict ++ l))
+            (sym (same_order shape (g u.conflict) (h u.conflict) (r u.conflict)
             (agree_behind shape (given u.conflict) (g u.conflict) agree))) agree);
         covers = λ b j small bit. there u.covered.target u.covered.counts (u.covered.first + (b * 64 + j)) given (k.covers b j small bit);
       };
 }
   where
-    there : (target : ℕ) (counts : Option ℕ) (i : ℕ) (given : ℕ → List Step) → HasKey shape target counts (given i ++ h i) → HasKey shape target counts (given i ++ g i)
+    there : (target : ℕ) (counts : Option ℕ) (i : ℕ) (given : ℕ → List Step) → HasKey shape target counts (given i ++ h i)
+        → HasKey shape target counts (given i ++ g i)
     there target counts i given m =
-        one_of_two (HasKey shape target counts (given i ++ g i)) (list_any (has_key shape target counts) (given i)) (list_any (has_key shape target counts) (h i))
+        one_of_two (HasKey shape target counts (given i ++ g i)) (list_any (has_key shape target counts) (given i))
+        (list_any (has_key shape target counts) (h i))
         (sym (list_any-append (has_key shape target counts) (given i) (h i)) ∙ m)
         (λ e. has_more shape target counts (given i) (g i) e)
         (λ e. has_behind shape target counts (given i) (g i) (same_keys shape (g i) (h i) target counts (r i) e))
 
 -- ---- the edges of a line
 
-pub adds_regrouped : (shape : Shape) (letters state : ℕ) (own : List ℕ) (edges order : List KeptEdge) (t u : Stage) → IsRegrouped shape own edges order
+pub adds_regrouped : (shape : Shape) (letters state : ℕ) (own : List ℕ) (edges order : List KeptEdge) (t u : Stage)
+    → IsRegrouped shape own edges order
     → Adds shape (at_line letters (line_of state own order)) t u → Adds shape (at_line letters (line_of state own edges)) t u
 adds_regrouped shape letters state own edges order t u r a =
     adds_reordered shape (at_line letters (line_of state own edges)) (at_line letters (line_of state own order)) t u
     (λ i target counts. by_state (has_key shape target counts) (says_at (i % letters)) (state == i / letters) (r target counts)) a
   where
-    by_state : (p : Step → Bool) (q : KeptEdge → Bool) (b : Bool) → filter (λ e. p (edge_step own e)) order ≡ filter (λ e. p (edge_step own e)) edges
+    by_state : (p : Step → Bool) (q : KeptEdge → Bool) (b : Bool)
+        → filter (λ e. p (edge_step own e)) order ≡ filter (λ e. p (edge_step own e)) edges
         → filter p (cond b (map (edge_step own) (filter q order)) []) ≡ filter p (cond b (map (edge_step own) (filter q edges)) [])
     by_state p q false e = refl
     by_state p q true e = filter_mapped (edge_step own) p (filter q order)

@@ -4,7 +4,8 @@ use Rattle.std.proofs.Common.{[], ◌∷◌, ◌++◌, map, length, get_or, set,
 use Rattle.std.specs.Int.{bit_at, w64}
 use Rattle.std.specs.Int.RustNames.{bit_or}
 use Rattle.std.specs.Prelude.{bit_and}
-use Rattle.std.proofs.lemmas.Nat.Bits.{bit_at_and, bit_at_or, bit_at_not, bit_at-lt, bit_at_ones, bit_at-zero, bit_at_cat_low, bit_at_cat_high, bit_at_above}
+use Rattle.std.proofs.lemmas.Nat.Bits.{bit_at_and, bit_at_or, bit_at_not, bit_at-lt, bit_at_ones, bit_at-zero, bit_at_cat_low}
+use Rattle.std.proofs.lemmas.Nat.Bits.{bit_at_cat_high, bit_at_above}
 use Rattle.std.proofs.lemmas.Bool.Decides.{Decides-below_and, Decides-eqb, leb_tells, nat_tests}
 use Rattle.std.proofs.lemmas.List.{reverse-append, get_or-replicate, get_or-set_same, get_or-set_other}
 use Rattle.pg_hoa.specs.Mirrors.Saying.{top, under}
@@ -94,7 +95,8 @@ other_words words k w i h = get_or-set_other words k i w 0 (λ e. absurd (omega 
 
 -- ---- stacks
 
-pub truths_push : (k j : ℕ) (stack : List (List ℕ)) (words : List ℕ) → truths k j (stack ++ (words ∷ [])) ≡ truth_in words k j ∷ truths k j stack
+pub truths_push : (k j : ℕ) (stack : List (List ℕ)) (words : List ℕ)
+    → truths k j (stack ++ (words ∷ [])) ≡ truth_in words k j ∷ truths k j stack
 unfolding truths
 truths_push k j stack words = ap (map (λ words. truth_in words k j)) (reverse-append stack (words ∷ []))
 
@@ -104,7 +106,8 @@ truths_none k j = refl
 
 -- ---- operations
 
-pub answers_not : (w v : Bool) (x z : List Bool) → v ≡ cond w false true → w ≡ top x → z ≡ under x → v ∷ z ≡ cond (top x) false true ∷ under x
+pub answers_not : (w v : Bool) (x z : List Bool) → v ≡ cond w false true → w ≡ top x → z ≡ under x
+    → v ∷ z ≡ cond (top x) false true ∷ under x
 answers_not w v x z e a b = cc
 
 pub answers_both : (l r v : Bool) (x y z : List Bool) → v ≡ (l && r) → r ≡ top x → y ≡ under x → l ≡ top y → z ≡ under y

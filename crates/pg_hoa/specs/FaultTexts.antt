@@ -1,22 +1,9 @@
 -- The texts of faults.
 use Rattle.std.specs.Prelude.{ℕ, List, ◌++◌, codes, decimal}
-use Rattle.pg_hoa.specs.declared.fault.LeftOutName.{LeftOutName}
-use Rattle.pg_hoa.specs.declared.fault.LeftOutName.TheVariants.{Alias, StateLabel, ImplicitLabel, Universal, SeveralStarts, NoStart}
-use Rattle.pg_hoa.specs.declared.fault.LeftOutName.TheVariants.{NegatedSet, SeveralAutomata, Abort}
+use Rattle.pg_syntax.specs.FaultTexts.{left_out_text}
 use Rattle.pg_hoa.specs.declared.fault.HoaFault.{HoaFault}
 use Rattle.pg_hoa.specs.declared.fault.HoaFault.TheVariants.{OutOfMemory, Syntax, LeftOut, UnknownHeader, OutOfRange, NotParity}
 use Rattle.pg_hoa.specs.declared.fault.HoaFault.TheVariants.{NotDeterministic, TooLarge, BadName}
-
-abbrev pub left_out_text : LeftOutName → List ℕ
-left_out_text Alias = codes "alias"
-left_out_text StateLabel = codes "state label"
-left_out_text ImplicitLabel = codes "implicit label"
-left_out_text Universal = codes "universal branching"
-left_out_text SeveralStarts = codes "second Start"
-left_out_text NoStart = codes "missing Start"
-left_out_text NegatedSet = codes "negated set"
-left_out_text SeveralAutomata = codes "second automaton"
-left_out_text Abort = codes "--ABORT--"
 
 abbrev pub fault_text : HoaFault → List ℕ
 fault_text OutOfMemory = codes "out of memory"

@@ -1,11 +1,7 @@
 -- The laws, as statements.
-use Rattle.std.specs.Prelude.{◌≡◌, ◌↔◌, ℕ, Bool, IsTrue, List}
-use Rattle.pg_automaton.specs.declared.shape.Shape.{Shape}
+use Rattle.std.specs.Prelude.{◌≡◌, ℕ, List}
 use Rattle.pg_automaton.specs.Automata.{Automaton}
 use Rattle.pg_hoa.specs.AutomatonText.{Spelt, IsUndetermined}
-use Rattle.pg_automaton.specs.Formulas.{Formula, holds}
-use Rattle.pg_automaton.specs.Shapes.{FitsShape, Accepts}
-use Rattle.pg_automaton.specs.Words.{HoldsRecurring}
 
 -- one text spells one automaton, or else is undetermined first at one state and letter
 pub record HasOneReading (bytes : List ℕ) : Type 0 where

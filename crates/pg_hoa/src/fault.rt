@@ -1,55 +1,12 @@
 //! Why an automaton text is refused.
 
 ghost use Rattle.std.specs.Prelude.{◌≡◌};
-ghost use Rattle.pg_hoa.specs.declared.fault.Refusal.TheVariants.{Memory};
+ghost use Rattle.pg_hoa.specs.Mirrors.Faults.{in_text, refusal_in_text, conflict_fault};
 
-use std::alloc::{AllocError, AllocFailed};
+use pg_syntax::{LeftOutName, PartFault, Refusal};
+use std::alloc::AllocError;
 use std::error::Error;
 use std::fmt;
-
-/// What this reader of HOA v1 leaves out, by its name.
-#[derive(Clone, Copy, Debug, PartialEq, Eq)]
-pub enum LeftOutName {
-    /// The header `Alias:`, or a name that begins with `@`.
-    Alias,
-    /// A label behind `State:`.
-    StateLabel,
-    /// An edge without a label.
-    ImplicitLabel,
-    /// A conjunction of states, at its `&`.
-    Universal,
-    /// A second `Start:`.
-    SeveralStarts,
-    /// No `Start:`.
-    NoStart,
-    /// `Inf(!s)` or `Fin(!s)`, at its `!`.
-    NegatedSet,
-    /// `HOA:` behind `--END--`.
-    SeveralAutomata,
-    /// `--ABORT--`.
-    Abort,
-}
-
-impl fmt::Display for LeftOutName {
-    ghost use Rattle.std.specs.Prelude.{Some};
-    ghost use Rattle.pg_hoa.specs.FaultTexts.{left_out_text};
-
-    ghost output = { λ name. Some (left_out_text name) };
-
-    fn fmt<W: fmt::Write>(&self, f: &mut fmt::Formatter<W>) -> fmt::Result {
-        f.write_str(match self {
-            LeftOutName::Alias => "alias",
-            LeftOutName::StateLabel => "state label",
-            LeftOutName::ImplicitLabel => "implicit label",
-            LeftOutName::Universal => "universal branching",
-            LeftOutName::SeveralStarts => "second Start",
-            LeftOutName::NoStart => "missing Start",
-            LeftOutName::NegatedSet => "negated set",
-            LeftOutName::SeveralAutomata => "second automaton",
-            LeftOutName::Abort => "--ABORT--",
-        })
-    }
-}
 
 /// Why a text is refused. Offsets count bytes from 0 and name the first byte of the token at fault; at the end of the
 /// text they are its length.
@@ -104,74 +61,28 @@ impl fmt::Display for HoaFault {
 
 impl Error for HoaFault {}
 
-/// What is wrong with a part of a text, where the text before it isn't known: in place of an offset stands how many bytes
-/// are left from the token at fault on. The names are those of `HoaFault`.
-#[derive(Clone, Copy)]
-pub enum PartFault {
-    Syntax(usize),
-    LeftOut(LeftOutName, usize),
-    UnknownHeader(usize),
-    OutOfRange(usize),
-    NotParity,
-    TooLarge,
-    BadName(u32),
-}
-
-impl PartFault {
-    ghost use Rattle.pg_hoa.specs.Mirrors.Faults.{in_text};
-
-    /// The fault of a text of `len` bytes that ends with this part.
-    fn in_text(self, len: usize) -> HoaFault
-        ensures { result ≡ in_text len self }
-    {
-        match self {
-            PartFault::Syntax(left) => HoaFault::Syntax(len.saturating_sub(left)),
-            PartFault::LeftOut(name, left) => HoaFault::LeftOut(name, len.saturating_sub(left)),
-            PartFault::UnknownHeader(left) => HoaFault::UnknownHeader(len.saturating_sub(left)),
-            PartFault::OutOfRange(left) => HoaFault::OutOfRange(len.saturating_sub(left)),
-            PartFault::NotParity => HoaFault::NotParity,
-            PartFault::TooLarge => HoaFault::TooLarge,
-            PartFault::BadName(proposition) => HoaFault::BadName(proposition),
-        }
+/// The fault of a text of `len` bytes that is refused so.
+pub fn in_text(refusal: Refusal, len: usize) -> HoaFault
+    ensures { result ≡ refusal_in_text len refusal }
+{
+    match refusal {
+        Refusal::Memory => HoaFault::OutOfMemory,
+        Refusal::Wrong(fault) => wrong_in_text(fault, len),
     }
 }
 
-/// Why a part of a text is refused.
-#[derive(Clone, Copy)]
-pub enum Refusal {
-    /// A growth was refused.
-    Memory,
-    /// The text isn't good, whatever the memory.
-    Wrong(PartFault),
-}
-
-impl Refusal {
-    ghost use Rattle.pg_hoa.specs.Mirrors.Faults.{refusal_in_text};
-
-    /// The fault of a text of `len` bytes that ends with this part.
-    pub fn in_text(self, len: usize) -> HoaFault
-        ensures { result ≡ refusal_in_text len self }
-    {
-        match self {
-            Refusal::Memory => HoaFault::OutOfMemory,
-            Refusal::Wrong(fault) => fault.in_text(len),
-        }
-    }
-}
-
-impl From<AllocError> for Refusal {
-    ghost from_gives = { λ _ e. e ≡ Memory };
-
-    fn from(_e: AllocError) -> Refusal {
-        Refusal::Memory
-    }
-}
-
-impl<T: Drop> From<AllocFailed<T>> for Refusal {
-    ghost from_gives = { λ _ e. e ≡ Memory };
-
-    fn from(_e: AllocFailed<T>) -> Refusal {
-        Refusal::Memory
+/// The fault of a text of `len` bytes in which this is wrong.
+fn wrong_in_text(fault: PartFault, len: usize) -> HoaFault
+    ensures { result ≡ in_text len fault }
+{
+    match fault {
+        PartFault::Syntax(left) => HoaFault::Syntax(len.saturating_sub(left)),
+        PartFault::LeftOut(name, left) => HoaFault::LeftOut(name, len.saturating_sub(left)),
+        PartFault::UnknownHeader(left) => HoaFault::UnknownHeader(len.saturating_sub(left)),
+        PartFault::OutOfRange(left) => HoaFault::OutOfRange(len.saturating_sub(left)),
+        PartFault::NotParity => HoaFault::NotParity,
+        PartFault::TooLarge => HoaFault::TooLarge,
+        PartFault::BadName(proposition) => HoaFault::BadName(proposition),
     }
 }
 
@@ -195,8 +106,6 @@ impl From<AllocError> for Conflict {
 }
 
 impl From<Conflict> for HoaFault {
-    ghost use Rattle.pg_hoa.specs.Mirrors.Faults.{conflict_fault};
-
     ghost from_gives = { λ conflict e. e ≡ conflict_fault conflict };
 
     fn from(conflict: Conflict) -> HoaFault {

@@ -4,9 +4,9 @@ ghost use Rattle.std.specs.Prelude.{◌≡◌, ℕ, ◌+◌, ◌*◌, ◌<◌, �
 ghost use Rattle.std.specs.Prelude.{get_or, bit_and, IfOk, OnOk};
 ghost use Rattle.pg_hoa.specs.Mirrors.Saying.{top, under};
 ghost use Rattle.pg_hoa.specs.Mirrors.Letters.{truth, truth_in, on_at, truths};
-ghost use Rattle.pg_hoa.specs.Mirrors.Acts.{fits, act, Speaks};
+ghost use Rattle.pg_hoa.specs.Mirrors.Instructions.{fits, execute, Speaks};
 
-use crate::terms::{Act, Term};
+use crate::terms::{Instruction, Term};
 use std::alloc::AllocError;
 
 /// In which letters of the block, of which there are sixty-four, the proposition holds.
@@ -105,40 +105,44 @@ fn pop(stack: &mut Vec<[u64; 16]>) -> [u64; 16]
     }
 }
 
-/// Does the act to the top words and the stack below them.
-fn take_act(
-    step: Act,
+/// Executes the instruction on the top words and the stack below them.
+fn execute(
+    step: Instruction,
     run: u32,
     top: &mut [u64; 16],
     stack: &mut Vec<[u64; 16]>,
 ) -> Result<(), AllocError>
     requires { run < 64 }
     ensures { OnOk result ((k j : ℕ) → k < 16 → j < 64 → truth_in top.new k j ∷ truths k j stack.new.items
-        ≡ act step (run * 16 + k) j (truth_in top.old k j ∷ truths k j stack.old.items)) }
+        ≡ execute step (run * 16 + k) j (truth_in top.old k j ∷ truths k j stack.old.items)) }
 {
     match step {
-        Act::Put(term) => {
+        Instruction::Put(term) => {
             stack.push(*top)?;
             *top = term_words(run, term);
         }
-        Act::Not => turn(top),
-        Act::Both => keep_both(top, &pop(stack)),
-        Act::Either => add(top, &pop(stack)),
-        Act::BothTerm(term) => keep_both(top, &term_words(run, term)),
-        Act::EitherTerm(term) => add(top, &term_words(run, term)),
+        Instruction::Not => turn(top),
+        Instruction::Both => keep_both(top, &pop(stack)),
+        Instruction::Either => add(top, &pop(stack)),
+        Instruction::BothTerm(term) => keep_both(top, &term_words(run, term)),
+        Instruction::EitherTerm(term) => add(top, &term_words(run, term)),
     }
     Ok(())
 }
 
-/// The letters of a run at which the acts leave yes. What the stack holds is lost.
-pub fn words_of(acts: &[Act], run: u32, stack: &mut Vec<[u64; 16]>) -> Result<[u64; 16], AllocError>
+/// The letters of a run at which the instructions leave yes. What the stack holds is lost.
+pub fn words_of(
+    instructions: &[Instruction],
+    run: u32,
+    stack: &mut Vec<[u64; 16]>,
+) -> Result<[u64; 16], AllocError>
     requires { run < 64 }
-    ensures { IfOk result (Speaks acts.now run) }
+    ensures { IfOk result (Speaks instructions.now run) }
 {
     stack.clear();
     let mut top = [0; 16];
-    for step in acts {
-        take_act(*step, run, &mut top, stack)?;
+    for step in instructions {
+        execute(*step, run, &mut top, stack)?;
     }
     Ok(top)
 }

@@ -1,25 +1,26 @@
 //! The table of steps by state and letter.
 
-ghost use Rattle.std.specs.Prelude.{◌≡◌, ℕ, true, ◌+◌, ◌*◌, ◌^◌, ◌<◌, ◌≤◌, List, [], ◌++◌, map, length, get_or, min, max, slice_get, option_map};
+ghost use Rattle.std.specs.Prelude.{◌≡◌, ℕ, true, ◌+◌, ◌*◌, ◌^◌, ◌<◌, ◌≤◌, List, [], ◌++◌, map, length, get_or, min, max, slice_get};
+ghost use Rattle.std.specs.Prelude.{option_map};
 ghost use Rattle.std.specs.Prelude.{false, Some, IfSome, IfOk, OnOk, IfErr};
 ghost use Rattle.std.specs.List.{All, fold};
 ghost use Rattle.pg_automaton.specs.Automata.{deciding};
 ghost use Rattle.pg_lists.specs.Rising.{rising};
-ghost use Rattle.pg_hoa.specs.declared.formula.Op.{Op};
-ghost use Rattle.pg_hoa.specs.Mirrors.Kept.{kept_edge, kept_line};
+ghost use Rattle.pg_syntax.specs.declared.formula.Op.{Op};
+ghost use Rattle.pg_syntax.specs.Mirrors.Kept.{edge_in, line_in};
 ghost use Rattle.pg_automaton.specs.Mirrors.Tables.{numbered, next};
-ghost use Rattle.pg_hoa.specs.Mirrors.Tables.{Stage, way_step, IsDecided, IsOf, IsRow, IsCovered, IsRegrouped, with_set, with_sets, same_set, agree, Extends, IsPlaced};
-ghost use Rattle.pg_hoa.specs.Mirrors.Tables.{stage, IsSplit, MayNumber, Adds, at_slot, at_word, at_letters, at_line, IsTableOf, IsConflictOf};
-ghost use Rattle.pg_hoa.specs.Mirrors.Tables.{kept_numbers, kept_count};
+ghost use Rattle.pg_hoa.specs.Mirrors.Tables.{Stage, way_step, IsDecided, IsOf, IsRow, IsCovered, IsRegrouped, with_set, with_sets};
+ghost use Rattle.pg_hoa.specs.Mirrors.Tables.{same_set, agree, Extends, IsPlaced};
+ghost use Rattle.pg_hoa.specs.Mirrors.Tables.{stage, IsSplit, MayNumber, Adds, at_slot, at_word, at_letters, at_line, IsTableOf};
+ghost use Rattle.pg_hoa.specs.Mirrors.Tables.{IsConflictOf};
 ghost use Rattle.pg_hoa.specs.Mirrors.Letters.{truth, truth_in};
-ghost use Rattle.pg_hoa.specs.Mirrors.Acts.{SpeaksOf};
+ghost use Rattle.pg_hoa.specs.Mirrors.Instructions.{SpeaksOf};
 
-use crate::body::{Edge, ReadState};
 use crate::fault::Conflict;
-use crate::formula::Op;
 use crate::letters::words_of;
-use crate::terms::{Act, acts_of};
+use crate::terms::{Instruction, instructions_of};
 use pg_automaton::{Shape, Stored, Table, numbered};
+use pg_syntax::{Edge, Op, ReadState};
 use std::alloc::{AllocError, Global};
 use std::collections::BTreeMap;
 
@@ -69,7 +70,7 @@ pub struct Filling {
 /// Stacks that labels are computed on, kept from label to label.
 #[derive(Drop)]
 struct Stacks {
-    acts: Vec<Act>,
+    instructions: Vec<Instruction>,
     words: Vec<[u64; 16]>,
 }
 
@@ -327,8 +328,10 @@ fn covered_word(filling: &Filling, way: &Way<'_>, block: u32) -> u64
 /// Notes that the letters of the block that stand at the bits of the word have such a step, which they were given last.
 fn cover(filling: &mut Filling, way: &Way<'_>, block: u32, word: u64)
     requires { IsDecided way.now }
-    ensures adds { (t : Stage) → Adds way.now.shape (at_word (way.now.row.first + block * way.now.row.width) way.now.row.width word (way_step way.now)) t (stage filling.old)
-        → Adds way.now.shape (at_word (way.now.row.first + block * way.now.row.width) way.now.row.width word (way_step way.now)) t (stage filling.new) }
+    ensures adds { (t : Stage) → Adds way.now.shape
+        (at_word (way.now.row.first + block * way.now.row.width) way.now.row.width word (way_step way.now)) t (stage filling.old)
+        → Adds way.now.shape (at_word (way.now.row.first + block * way.now.row.width) way.now.row.width word (way_step way.now)) t
+        (stage filling.new) }
     ensures known { (n : ℕ) → MayNumber (stage filling.old) n (way_step way.now)
         → MayNumber (stage filling.new) n (way_step way.now) }
 {
@@ -352,7 +355,8 @@ fn place_block(
     requires within { block < way.now.row.blocks }
     requires placed { IsPlaced (stage filling.old) way.now }
     requires known { MayNumber (stage filling.old) number (way_step way.now) }
-    ensures adds { OnOk result (Adds way.now.shape (at_word (way.now.row.first + block * way.now.row.width) way.now.row.width word (way_step way.now))
+    ensures adds { OnOk result (Adds way.now.shape
+        (at_word (way.now.row.first + block * way.now.row.width) way.now.row.width word (way_step way.now))
         (stage filling.old) (stage filling.new)) }
     ensures known { IfOk result (λ n. MayNumber (stage filling.new) n (way_step way.now)) }
 {
@@ -406,7 +410,8 @@ fn place_run(
     requires known { MayNumber (stage filling.old) number (way_step way.now) }
     ensures adds { OnOk result ((label : List Op) (t : Stage) → SpeaksOf label run words.now
         → Adds way.now.shape (at_letters way.now.row.first (run * 16 * way.now.row.width) label (way_step way.now)) t (stage filling.old)
-        → Adds way.now.shape (at_letters way.now.row.first (min way.now.row.blocks (run * 16 + 16) * way.now.row.width) label (way_step way.now))
+        → Adds way.now.shape (at_letters way.now.row.first (min way.now.row.blocks (run * 16 + 16) * way.now.row.width) label
+        (way_step way.now))
         t (stage filling.new)) }
     ensures known { IfOk result (λ n. MayNumber (stage filling.new) n (way_step way.now)) }
 {
@@ -444,18 +449,19 @@ fn add_edge(
     requires decided { IsDecided way.now }
     requires placed { IsPlaced (stage filling.old) way.now }
     requires row { IsRow (length filling.old.slots.items) way.now.row }
-    ensures { OnOk result (Adds way.now.shape (at_letters way.now.row.first (way.now.row.blocks * way.now.row.width) label.now (way_step way.now))
+    ensures { OnOk result (Adds way.now.shape
+        (at_letters way.now.row.first (way.now.row.blocks * way.now.row.width) label.now (way_step way.now))
         (stage filling.old) (stage filling.new)) }
 {
-    acts_of(label, &mut stacks.acts)?;
+    instructions_of(label, &mut stacks.instructions)?;
     begin(filling, way);
-    let acts = stacks.acts.as_slice();
+    let instructions = stacks.instructions.as_slice();
     let mut number = 0;
     for run in 0..way.row.blocks.div_ceil(16) {
         if way.row.first + (run * 16 * way.row.width) as usize >= filling.conflict {
             return Ok(());
         }
-        let words = words_of(acts, run, &mut stacks.words)?;
+        let words = words_of(instructions, run, &mut stacks.words)?;
         number = place_run(alloc, filling, way, run, &words, number)?;
     }
     Ok(())
@@ -477,7 +483,7 @@ fn regrouped<'a>(
     edges: &'a [Edge],
 ) -> Result<Vec<&'a Edge>, AllocError>
     ensures { IfOk result (λ order. (own : List ℕ) → counts ≡ deciding shape (rising own)
-        → IsRegrouped shape own (map kept_edge edges.now) (map (λ e. kept_edge e.now) order.items)) }
+        → IsRegrouped shape own (map edge_in edges.now) (map (λ e. edge_in e.now) order.items)) }
 {
     let mut order = Vec::new(alloc);
     for edge in edges {
@@ -498,7 +504,7 @@ fn add_line(
 ) -> Result<(), AllocError>
     requires few { propositions ≤ 16 }
     requires within { line.now.state * 2 ^ propositions + 2 ^ propositions ≤ length filling.old.slots.items }
-    ensures { OnOk result (Adds shape (at_line (2 ^ propositions) (kept_line line.now)) (stage filling.old)
+    ensures { OnOk result (Adds shape (at_line (2 ^ propositions) (line_in line.now)) (stage filling.old)
         (stage filling.new)) }
 {
     let (blocks, width) = blocks_of(propositions);
@@ -541,8 +547,8 @@ pub fn table_of(
     requires few_propositions { propositions ≤ 16 }
     requires few_steps { states * 2 ^ propositions ≤ 16777216 }
     requires below { All (λ l. l.state < states) lines.now }
-    ensures found { IfOk result (IsTableOf shape (map kept_line lines.now) states (2 ^ propositions)) }
-    ensures refused { IfErr result (IsConflictOf shape (map kept_line lines.now) states (2 ^ propositions)) }
+    ensures found { IfOk result (IsTableOf shape (map line_in lines.now) states (2 ^ propositions)) }
+    ensures refused { IfErr result (IsConflictOf shape (map line_in lines.now) states (2 ^ propositions)) }
 {
     let letters = 1usize << propositions;
     let total = states as usize * letters;
@@ -560,7 +566,7 @@ pub fn table_of(
         },
     };
     let mut stacks = Stacks {
-        acts: Vec::new(alloc),
+        instructions: Vec::new(alloc),
         words: Vec::new(alloc),
     };
     for line in lines {
@@ -578,27 +584,4 @@ pub fn table_of(
         steps: filling.steps,
         lists: filling.lists,
     })
-}
-
-/// One more than the greatest of the number and the states that the lines name, if it is below 2^32.
-pub fn states_named(lines: &[ReadState], start: u32) -> u32
-    ensures { kept_count start (map kept_line lines.now) < 2 ^ 32
-        → result ≡ kept_count start (map kept_line lines.now) }
-{
-    let mut greatest = start;
-    for line in lines {
-        greatest = greatest_of(line, greatest);
-    }
-    greatest.saturating_add(1)
-}
-
-/// The greatest of the number and the states that the line names.
-fn greatest_of(line: &ReadState, number: u32) -> u32
-    ensures { result ≡ fold max number (kept_numbers (kept_line line.now)) }
-{
-    let mut greatest = number.max(line.state);
-    for edge in &line.edges {
-        greatest = greatest.max(edge.target);
-    }
-    greatest
 }

@@ -1,13 +1,13 @@
 //! Labels with their literals put together: a product of literals becomes one term, which is looked at once.
 
 ghost use Rattle.std.specs.Prelude.{◌≡◌, ℕ, ◌<◌, ◌++◌, Bool, ◌&&◌, ◌||◌, true, false, List, [], ◌∷◌, if◌then◌else◌, IfSome, OnOk, IfNone};
-ghost use Rattle.pg_hoa.specs.declared.terms.Act.TheVariants.{Put};
+ghost use Rattle.pg_hoa.specs.declared.terms.Instruction.TheVariants.{Put};
 ghost use Rattle.pg_hoa.specs.Mirrors.Saying.{top, under, perform};
 ghost use Rattle.pg_hoa.specs.Mirrors.Letters.{truth, on_at};
-ghost use Rattle.pg_hoa.specs.Mirrors.Acts.{fits, done, Tells};
+ghost use Rattle.pg_hoa.specs.Mirrors.Instructions.{fits, executed, Tells};
 
-use crate::formula::Op;
 use crate::letters::mask;
+use pg_syntax::Op;
 use std::alloc::AllocError;
 
 /// Letters at the bits of the word, in the blocks whose number has at the bits of `care` what `value` has.
@@ -20,7 +20,7 @@ pub struct Term {
 
 /// What a part of a label does to a stack of truths.
 #[derive(Clone, Copy)]
-pub enum Act {
+pub enum Instruction {
     /// Puts there whether the letter fits the term.
     Put(Term),
     Not,
@@ -114,119 +114,121 @@ fn add_letters(term: &mut Term, other: Term) -> bool
     true
 }
 
-/// Takes the last of the acts, if it puts a term.
-fn take_term(acts: &mut Vec<Act>) -> Option<Term>
-    ensures some { IfSome result (λ t. acts.old.items ≡ acts.new.items ++ (Put t ∷ [])) }
-    ensures none { IfNone result (acts.new.items ≡ acts.old.items) }
+/// Takes the last of the instructions, if it puts a term.
+fn take_term(instructions: &mut Vec<Instruction>) -> Option<Term>
+    ensures some { IfSome result (λ t. instructions.old.items ≡ instructions.new.items ++ (Put t ∷ [])) }
+    ensures none { IfNone result (instructions.new.items ≡ instructions.old.items) }
 {
-    let Some(Act::Put(term)) = acts.last() else {
+    let Some(Instruction::Put(term)) = instructions.last() else {
         return None;
     };
     let term = *term;
-    acts.pop();
+    instructions.pop();
     Some(term)
 }
 
-fn put_not(acts: &mut Vec<Act>) -> Result<(), AllocError>
-    ensures { OnOk result ((b j : ℕ) → j < 64 → done acts.new.items b j
-        ≡ (if top (done acts.old.items b j) then false else true) ∷ under (done acts.old.items b j)) }
+fn put_not(instructions: &mut Vec<Instruction>) -> Result<(), AllocError>
+    ensures { OnOk result ((b j : ℕ) → j < 64 → executed instructions.new.items b j
+        ≡ (if top (executed instructions.old.items b j) then false else true) ∷ under (executed instructions.old.items b j)) }
 {
-    let Some(term) = take_term(acts) else {
-        acts.push(Act::Not)?;
+    let Some(term) = take_term(instructions) else {
+        instructions.push(Instruction::Not)?;
         return Ok(());
     };
     match negated(term) {
-        Some(other) => acts.push(Act::Put(other))?,
+        Some(other) => instructions.push(Instruction::Put(other))?,
         None => {
-            acts.push(Act::Put(term))?;
-            acts.push(Act::Not)?;
+            instructions.push(Instruction::Put(term))?;
+            instructions.push(Instruction::Not)?;
         }
     }
     Ok(())
 }
 
-fn put_both(acts: &mut Vec<Act>) -> Result<(), AllocError>
-    ensures { OnOk result ((b j : ℕ) → done acts.new.items b j
-        ≡ (top (under (done acts.old.items b j)) && top (done acts.old.items b j)) ∷ under (under (done acts.old.items b j))) }
+fn put_both(instructions: &mut Vec<Instruction>) -> Result<(), AllocError>
+    ensures { OnOk result ((b j : ℕ) → executed instructions.new.items b j
+        ≡ (top (under (executed instructions.old.items b j)) && top (executed instructions.old.items b j)) ∷ under
+        (under (executed instructions.old.items b j))) }
 {
-    let Some(right) = take_term(acts) else {
-        acts.push(Act::Both)?;
+    let Some(right) = take_term(instructions) else {
+        instructions.push(Instruction::Both)?;
         return Ok(());
     };
-    let Some(left) = take_term(acts) else {
-        acts.push(Act::BothTerm(right))?;
+    let Some(left) = take_term(instructions) else {
+        instructions.push(Instruction::BothTerm(right))?;
         return Ok(());
     };
     match joined(left, right) {
-        Some(term) => acts.push(Act::Put(term))?,
+        Some(term) => instructions.push(Instruction::Put(term))?,
         None => {
-            acts.push(Act::Put(left))?;
-            acts.push(Act::BothTerm(right))?;
+            instructions.push(Instruction::Put(left))?;
+            instructions.push(Instruction::BothTerm(right))?;
         }
     }
     Ok(())
 }
 
-/// Adds the letters of the term to the last term of the sum that the acts end in, or to one of at most so many further ones before
+/// Adds the letters of the term to the last term of the sum that the instructions end in, or to one of at most so many further ones before
 /// it, if one speaks of the same blocks.
-fn add_to_sum(acts: &mut [Act], term: Term, further: u32) -> bool
-    ensures added { result ≡ true → (b j : ℕ) → done acts.new b j
-        ≡ (top (done acts.old b j) || fits b j term) ∷ under (done acts.old b j) }
-    ensures kept { result ≡ false → acts.new ≡ acts.old }
+fn add_to_sum(instructions: &mut [Instruction], term: Term, further: u32) -> bool
+    ensures added { result ≡ true → (b j : ℕ) → executed instructions.new b j
+        ≡ (top (executed instructions.old b j) || fits b j term) ∷ under (executed instructions.old b j) }
+    ensures kept { result ≡ false → instructions.new ≡ instructions.old }
 {
-    let Some((last, before)) = acts.split_last_mut() else {
+    let Some((last, before)) = instructions.split_last_mut() else {
         return false;
     };
     match last {
-        Act::Put(other) => add_letters(other, term),
-        Act::EitherTerm(other) => add_letters(other, term)
+        Instruction::Put(other) => add_letters(other, term),
+        Instruction::EitherTerm(other) => add_letters(other, term)
             || further > 0 && add_to_sum(before, term, further - 1),
         _ => false,
     }
 }
 
-fn put_either(acts: &mut Vec<Act>) -> Result<(), AllocError>
-    ensures { OnOk result ((b j : ℕ) → done acts.new.items b j
-        ≡ (top (under (done acts.old.items b j)) || top (done acts.old.items b j)) ∷ under (under (done acts.old.items b j))) }
+fn put_either(instructions: &mut Vec<Instruction>) -> Result<(), AllocError>
+    ensures { OnOk result ((b j : ℕ) → executed instructions.new.items b j
+        ≡ (top (under (executed instructions.old.items b j)) || top (executed instructions.old.items b j)) ∷ under
+        (under (executed instructions.old.items b j))) }
 {
-    let Some(right) = take_term(acts) else {
-        acts.push(Act::Either)?;
+    let Some(right) = take_term(instructions) else {
+        instructions.push(Instruction::Either)?;
         return Ok(());
     };
-    if !add_to_sum(acts, right, FURTHER_TERMS) {
-        acts.push(Act::EitherTerm(right))?;
+    if !add_to_sum(instructions, right, FURTHER_TERMS) {
+        instructions.push(Instruction::EitherTerm(right))?;
     }
     Ok(())
 }
 
-/// Puts what the operation does behind the acts.
-fn put(op: Op, acts: &mut Vec<Act>) -> Result<(), AllocError>
+/// Puts what the operation does behind the instructions.
+fn put(op: Op, instructions: &mut Vec<Instruction>) -> Result<(), AllocError>
     ensures { OnOk result ((b j : ℕ) → b < 1024 → j < 64
-        → done acts.new.items b j ≡ perform op (on_at b j) (done acts.old.items b j)) }
+        → executed instructions.new.items b j ≡ perform op (on_at b j) (executed instructions.old.items b j)) }
 {
     match op {
-        Op::Yes => acts.push(Act::Put(whole(u64::MAX)))?,
-        Op::No => acts.push(Act::Put(whole(0)))?,
-        Op::Proposition(a) => acts.push(Act::Put(literal(a)))?,
-        Op::Inf(a) => acts.push(Act::Put(literal(a)))?,
+        Op::Yes => instructions.push(Instruction::Put(whole(u64::MAX)))?,
+        Op::No => instructions.push(Instruction::Put(whole(0)))?,
+        Op::Proposition(a) => instructions.push(Instruction::Put(literal(a)))?,
+        Op::Inf(a) => instructions.push(Instruction::Put(literal(a)))?,
         Op::Fin(a) => {
-            acts.push(Act::Put(literal(a)))?;
-            put_not(acts)?;
+            instructions.push(Instruction::Put(literal(a)))?;
+            put_not(instructions)?;
         }
-        Op::Not => put_not(acts)?,
-        Op::Both => put_both(acts)?,
-        Op::Either => put_either(acts)?,
+        Op::Not => put_not(instructions)?,
+        Op::Both => put_both(instructions)?,
+        Op::Either => put_either(instructions)?,
     }
     Ok(())
 }
 
-/// The acts of the label, in place of those that were there.
-pub fn acts_of(label: &[Op], acts: &mut Vec<Act>) -> Result<(), AllocError>
-    ensures { OnOk result (Tells label.now acts.new.items) }
+/// The instructions of the label, in place of those that were there.
+pub fn instructions_of(label: &[Op], instructions: &mut Vec<Instruction>) -> Result<(), AllocError>
+    ensures { OnOk result (Tells label.now instructions.new.items) }
 {
-    acts.clear();
+    instructions.clear();
     for op in label {
-        put(*op, acts)?;
+        put(*op, instructions)?;
     }
     Ok(())
 }

@@ -1,7 +1,7 @@
 -- The steps that the lines of a text give, and a table of them by state and letter.
 use Rattle.std.specs.Prelude.{◌≡◌, ℕ, zero, suc, ◌+◌, ◌-◌, ◌*◌, ◌/◌, ◌%◌, ◌^◌, ◌<◌, ◌≤◌, ◌==◌, nat_lt, nat_le, min, max, Bool, true, false}
 use Rattle.std.specs.Prelude.{◌&&◌, List, [], ◌∷◌, ◌++◌, map, length, get_or, slice_get, Option, Some, None, if◌then◌else◌}
-use Rattle.std.specs.List.{filter, flat_map, fold, list_any}
+use Rattle.std.specs.List.{filter, flat_map, list_any}
 use Rattle.std.specs.Int.{bit_at}
 use Rattle.pg_automaton.specs.declared.shape.Shape.{Shape}
 use Rattle.pg_automaton.specs.declared.shape.Shape.TheVariants.{MinEven, MinOdd}
@@ -13,12 +13,12 @@ use Rattle.pg_hoa.specs.declared.table.Row.{Row}
 use Rattle.pg_hoa.specs.declared.table.Filling.{Filling}
 use Rattle.pg_hoa.specs.declared.table.Way.{Way}
 use Rattle.pg_automaton.specs.declared.table.Table.{Table}
-use Rattle.pg_hoa.specs.declared.formula.Op.{Op}
+use Rattle.pg_syntax.specs.declared.formula.Op.{Op}
 use Rattle.pg_automaton.specs.Automata.{Step, deciding, step}
 use Rattle.pg_hoa.specs.AutomatonText.{Agree, head}
 use Rattle.pg_automaton.specs.Mirrors.Tables.{numbered, next}
 use Rattle.pg_lists.specs.Rising.{rising}
-use Rattle.pg_hoa.specs.Mirrors.Kept.{KeptEdge, KeptLine}
+use Rattle.pg_syntax.specs.Mirrors.Kept.{KeptEdge, KeptLine}
 use Rattle.pg_hoa.specs.Mirrors.Saying.{says}
 use Rattle.pg_hoa.specs.Mirrors.Letters.{truth}
 
@@ -37,13 +37,6 @@ kept_edge_steps state letter l =
 -- the steps of the edges of these lines that leave the state by the letter, in the order of the text
 abbrev pub kept_steps : List KeptLine → ℕ → ℕ → List Step
 kept_steps lines state letter = flat_map (kept_edge_steps state letter) lines
-
--- the states that a line names
-abbrev pub kept_numbers : KeptLine → List ℕ
-kept_numbers l = l.state ∷ map (λ e. e.target) l.edges
-
-abbrev pub kept_count : ℕ → List KeptLine → ℕ
-kept_count start lines = suc (fold max 0 (start ∷ flat_map kept_numbers lines))
 
 -- the set that counts, with one more
 abbrev pub with_set : Shape → Option ℕ → ℕ → Option ℕ
@@ -68,7 +61,14 @@ pub record Stage : Type 0 where
   pub covered : Covered
 
 abbrev pub stage : Filling → Stage
-stage f = record { slots = f.slots.items; steps = f.steps.items; lists = map (λ v. v.items) f.lists.items; conflict = f.conflict; covered = f.covered }
+stage f =
+    record {
+      slots = f.slots.items;
+      steps = f.steps.items;
+      lists = map (λ v. v.items) f.lists.items;
+      conflict = f.conflict;
+      covered = f.covered;
+    }
 
 -- a number that is 0 or stands for the step
 abbrev pub MayNumber : Stage → ℕ → Step → Type 0
@@ -127,7 +127,8 @@ HasKey shape target counts steps = list_any (has_key shape target counts) steps 
 
 -- each slot that is covered has a step of the key
 abbrev pub Covers : Shape → Covered → (ℕ → List Step) → Type 0
-Covers shape c given = (b j : ℕ) → j < 64 → truth (get_or c.words.items b 0) j ≡ true → HasKey shape c.target c.counts (given (c.first + (b * 64 + j)))
+Covers shape c given = (b j : ℕ) → j < 64 → truth (get_or c.words.items b 0) j ≡ true
+    → HasKey shape c.target c.counts (given (c.first + (b * 64 + j)))
 
 -- each slot before the conflict has the first of its steps, and the conflict is the first slot whose steps don't agree
 pub record IsFilled (shape : Shape) (t : Stage) (given : ℕ → List Step) : Type 0 where

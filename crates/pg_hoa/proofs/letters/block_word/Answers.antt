@@ -1,7 +1,7 @@
 use Rattle.std.proofs.Common.{◌∙◌, sym, ap}
 use Rattle.std.specs.Prelude.{bit_and}
 use Rattle.pg_hoa.proofs.TableWords.{truth_none}
-use Rattle.pg_hoa.proofs.Acts.{fits_there, fits_none}
+use Rattle.pg_hoa.proofs.Instructions.{fits_there, fits_none}
 use Rattle.pg_hoa.proofs.letters.block_word.Goals as goal
 
 pub returns-then-block-from : goal.returns-then-block-from

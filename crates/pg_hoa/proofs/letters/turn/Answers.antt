@@ -13,6 +13,7 @@ loop-k-preserved c =
       changed = λ i j below small.
           one_more_word (λ w n. truth w j ≡ cond (truth (get_or c.args.words.now n 0) j) false true) c.loop-k.words k
           (18446744073709551615 - word) (omega (arith, c.loop-k.invariant.many)) (λ n h. c.loop-k.invariant.changed n j h small)
-          (truth_not word j (omega arith) small ∙ ap (λ w. cond (truth w j) false true) (c.loop-k.invariant.others k (omega arith))) i below;
+          (truth_not word j (omega arith) small ∙ ap (λ w. cond (truth w j) false true) (c.loop-k.invariant.others k (omega arith))) i
+          below;
       others = λ i h. other_words c.loop-k.words k (18446744073709551615 - word) i h ∙ c.loop-k.invariant.others i (omega arith);
     }

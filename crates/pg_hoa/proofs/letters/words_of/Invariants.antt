@@ -1,10 +1,10 @@
 use Rattle.std.proofs.Common.{◌≡◌, ℕ, ◌+◌, ◌*◌, ◌<◌, ◌∷◌, drop}
 use Rattle.pg_hoa.specs.Mirrors.Saying.{top}
 use Rattle.pg_hoa.specs.Mirrors.Letters.{truth_in, truths}
-use Rattle.pg_hoa.specs.Mirrors.Acts.{act_all, done}
+use Rattle.pg_hoa.specs.Mirrors.Instructions.{execute_all, executed}
 use Rattle.pg_hoa.proofs.letters.words_of.Given as goal
 
 -- what is left to do leaves the same
 abbrev pub invariant-loop-step : goal.invariant-loop-step
-invariant-loop-step l = (k j : ℕ) → k < 16 → j < 64 → top (act_all (drop l.step-index l.acts) (l.run * 16 + k) j
-    (truth_in l.top k j ∷ truths k j l.stack.items)) ≡ top (done l.acts (l.run * 16 + k) j)
+invariant-loop-step l = (k j : ℕ) → k < 16 → j < 64 → top (execute_all (drop l.step-index l.instructions) (l.run * 16 + k) j
+    (truth_in l.top k j ∷ truths k j l.stack.items)) ≡ top (executed l.instructions (l.run * 16 + k) j)

@@ -1,7 +1,7 @@
 use Rattle.std.proofs.Common.{◌≡◌, ◌∙◌, ℕ, [], ◌+◌, ◌*◌, ◌/◌, ◌%◌, ◌<◌, ◌≤◌, min, refl, sym, ap, subst, arith}
 use Rattle.std.proofs.Math.Nat.{mul-le-mul_right}
 use Rattle.pg_hoa.specs.Mirrors.Saying.{top}
-use Rattle.pg_hoa.specs.Mirrors.Acts.{SpeaksOf, done}
+use Rattle.pg_hoa.specs.Mirrors.Instructions.{SpeaksOf, executed}
 use Rattle.pg_hoa.specs.Mirrors.Tables.{stage, way_step, Adds, at_letters}
 use Rattle.pg_hoa.proofs.TableFilling.{adds_none, adds_then}
 use Rattle.pg_hoa.proofs.TablePlaces.{no_letters, stopped_letters}
@@ -44,7 +44,8 @@ returns-then-way-run c =
     let begun = run_begins run w.row.blocks c.div_ceil-run-end.result c.div_ceil-run-end.ensures c.loop-run-test.true in
     let so_far : min w.row.blocks (run * 16) ≡ run * 16 = omega (arith, begun) in
     let some : min w.row.blocks (run * 16) * w.row.width ≤ w.row.blocks * w.row.width = mul-le-mul_right w.row.width (omega arith) in
-    adds_then w.shape (λ i. []) (at_letters w.row.first (w.row.blocks * w.row.width) c.args.label.now s) (at_letters w.row.first (w.row.blocks * w.row.width) c.args.label.now s)
+    adds_then w.shape (λ i. []) (at_letters w.row.first (w.row.blocks * w.row.width) c.args.label.now s)
+    (at_letters w.row.first (w.row.blocks * w.row.width) c.args.label.now s)
     (stage c.args.filling.now) (stage c.begin.new.filling) (stage c.loop-run.filling) c.begin.ensures
     (stopped_letters w.shape w.row.first (min w.row.blocks (run * 16) * w.row.width) (w.row.blocks * w.row.width) c.args.label.now s
     (stage c.begin.new.filling) (stage c.loop-run.filling) some
@@ -60,12 +61,14 @@ loop-run-preserved c =
     let so_far : min w.row.blocks (run * 16) ≡ run * 16 = omega (arith, begun) in
     let next : min w.row.blocks (run * 16 + 16) ≡ min w.row.blocks ((run + 1) * 16) = ap (min w.row.blocks) (omega arith) in
     let speaks : SpeaksOf c.args.label.now run c.in_ok-words.words = λ k j h small. c.in_ok-words.ensures k j h small
-    ∙ ap (λ l. top (done l (run * 16 + k) j)) c.as_slice-acts.ensures.value
-    ∙ c.in_ok-acts_of.ensures (run * 16 + k) j (omega (arith, h, begun, c.requires.row.few)) small in
+    ∙ ap (λ l. top (executed l (run * 16 + k) j)) c.as_slice-instructions.ensures.value
+    ∙ c.in_ok-instructions_of.ensures (run * 16 + k) j (omega (arith, h, begun, c.requires.row.few)) small in
     record {
-      adds = subst (λ n. Adds w.shape (at_letters w.row.first (n * w.row.width) c.args.label.now s) (stage c.begin.new.filling) (stage c.place_run.new.filling)) next
+      adds = subst (λ n. Adds w.shape (at_letters w.row.first (n * w.row.width) c.args.label.now s) (stage c.begin.new.filling)
+          (stage c.place_run.new.filling)) next
           (c.in_ok-number.ensures.adds c.args.label.now (stage c.begin.new.filling) speaks
-          (subst (λ n. Adds w.shape (at_letters w.row.first (n * w.row.width) c.args.label.now s) (stage c.begin.new.filling) (stage c.loop-run.filling)) so_far
+          (subst (λ n. Adds w.shape (at_letters w.row.first (n * w.row.width) c.args.label.now s) (stage c.begin.new.filling)
+          (stage c.loop-run.filling)) so_far
           c.loop-run.invariant.adds));
       known = c.in_ok-number.ensures.known;
     }
@@ -77,8 +80,10 @@ returns c =
     let run : ℕ = c.loop-run.run in
     let over = runs_end run w.row.blocks c.div_ceil-run-end.result c.div_ceil-run-end.ensures c.loop-run-test.false in
     let all : min w.row.blocks (run * 16) ≡ w.row.blocks = omega (arith, over) in
-    adds_then w.shape (λ i. []) (at_letters w.row.first (w.row.blocks * w.row.width) c.args.label.now s) (at_letters w.row.first (w.row.blocks * w.row.width) c.args.label.now s)
+    adds_then w.shape (λ i. []) (at_letters w.row.first (w.row.blocks * w.row.width) c.args.label.now s)
+    (at_letters w.row.first (w.row.blocks * w.row.width) c.args.label.now s)
     (stage c.args.filling.now) (stage c.begin.new.filling) (stage c.loop-run.filling) c.begin.ensures
-    (subst (λ n. Adds w.shape (at_letters w.row.first (n * w.row.width) c.args.label.now s) (stage c.begin.new.filling) (stage c.loop-run.filling)) all
+    (subst (λ n. Adds w.shape (at_letters w.row.first (n * w.row.width) c.args.label.now s) (stage c.begin.new.filling)
+    (stage c.loop-run.filling)) all
     c.loop-run.invariant.adds)
     (λ i. refl)

@@ -10,8 +10,10 @@ loop-k-preserved c = λ i j below small bit. elim (before_or_behind i c.loop-k.k
   | inr behind ↦
       let is : c.loop-k.k ≡ i = omega (arith, below, behind) in
       let items = c.args.filling.now.covered.words.items in
-      let within : c.args.run * 16 + c.loop-k.k < length items = omega (arith, c.if-len-from.false, c.loop-k-test.true, c.args.filling.now.covered.words.ok.0, c.len.ensures) in
-      let here : truth c.index.result.now j ≡ true = c.is_within.ensures c.if-not-is_within.false j small (ap (λ n. truth_in c.args.words.now n j) is ∙ bit) in
+      let within : c.args.run * 16 + c.loop-k.k < length items =
+      omega (arith, c.if-len-from.false, c.loop-k-test.true, c.args.filling.now.covered.words.ok.0, c.len.ensures) in
+      let here : truth c.index.result.now j ≡ true =
+      c.is_within.ensures c.if-not-is_within.false j small (ap (λ n. truth_in c.args.words.now n j) is ∙ bit) in
       let there : c.index.result.now ≡ get_or items (c.args.run * 16 + c.loop-k.k) 0 =
       get_or_read items (c.args.run * 16 + c.loop-k.k) c.index.result.now within c.index.ensures 0 in
       subst (λ n. truth (get_or items (c.args.run * 16 + n) 0) j ≡ true) is (sym (ap (λ n. truth n j) there) ∙ here)

@@ -7,4 +7,5 @@ pub returns-then-propositions-lt6 : goal.returns-then-propositions-lt6
 returns-then-propositions-lt6 c = one_block c.args.propositions _ c.if-propositions-lt6.true (one_shl c.args.propositions 32 (omega arith))
 
 pub returns-else-propositions-lt6 : goal.returns-else-propositions-lt6
-returns-else-propositions-lt6 c = many_blocks c.args.propositions _ c.if-propositions-lt6.false c.requires (one_shl (c.args.propositions - 6) 32 (omega arith))
+returns-else-propositions-lt6 c =
+    many_blocks c.args.propositions _ c.if-propositions-lt6.false c.requires (one_shl (c.args.propositions - 6) 32 (omega arith))

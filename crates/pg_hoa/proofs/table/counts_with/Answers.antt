@@ -10,4 +10,5 @@ loop-set-preserved c =
     ∙ sym (at_drop_more (with_sets c.args.shape c.loop-set.found) c.args.sets.now i 0 (omega arith)) ∙ c.loop-set.invariant
 
 pub returns : goal.returns
-returns c = sym (at_drop_all (with_sets c.args.shape c.loop-set.found) c.args.sets.now c.loop-set.set-index c.loop-set-test.false) ∙ c.loop-set.invariant
+returns c = sym (at_drop_all (with_sets c.args.shape c.loop-set.found) c.args.sets.now c.loop-set.set-index c.loop-set-test.false)
+    ∙ c.loop-set.invariant

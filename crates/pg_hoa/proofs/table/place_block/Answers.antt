@@ -24,8 +24,10 @@ returns-then-rest-eq0-clause-adds c =
     let s = way_step w in
     let at : ℕ = w.row.first + c.args.block * w.row.width in
     let known = c.covered_word.result in
-    adds_same w.shape (at_known at w.row.width c.args.word known s) (at_word at w.row.width c.args.word s) (stage c.args.filling.now) (stage c.args.filling.now)
-    (covered_part w (stage c.args.filling.now) _ c.args.block c.args.word known c.requires.decided c.requires.row c.requires.within c.covered_word.ensures)
+    adds_same w.shape (at_known at w.row.width c.args.word known s) (at_word at w.row.width c.args.word s) (stage c.args.filling.now)
+    (stage c.args.filling.now)
+    (covered_part w (stage c.args.filling.now) _ c.args.block c.args.word known c.requires.decided c.requires.row c.requires.within
+    c.covered_word.ensures)
     (λ i. sym (append-nil (at_known at w.row.width c.args.word known s i))
     ∙ ap (λ l. at_known at w.row.width c.args.word known s i ++ l)
     (sym (ap (λ v. at_word at w.row.width v s i) c.if-rest-eq0.true ∙ empty_word at w.row.width s i))
@@ -40,6 +42,7 @@ returns-clause-adds c =
     let rest = bit_and c.args.word (18446744073709551615 - known) in
     adds_then w.shape (at_known at w.row.width c.args.word known s) (at_word at w.row.width rest s) (at_word at w.row.width c.args.word s)
     (stage c.args.filling.now) (stage c.args.filling.now) (stage c.cover.new.filling)
-    (covered_part w (stage c.args.filling.now) _ c.args.block c.args.word known c.requires.decided c.requires.row c.requires.within c.covered_word.ensures)
+    (covered_part w (stage c.args.filling.now) _ c.args.block c.args.word known c.requires.decided c.requires.row c.requires.within
+    c.covered_word.ensures)
     (c.cover.ensures.adds (stage c.args.filling.now) c.in_ok-number.ensures.adds)
     (λ i. known_and_rest at w.row.width c.args.word known s i c.covered_word.type_inv c.requires.row.narrow)

@@ -9,7 +9,8 @@ use Rattle.pg_hoa.proofs.table.place_run.Goals as goal
 
 pub returns-then-are_covered-clause-adds : goal.returns-then-are_covered-clause-adds
 returns-then-are_covered-clause-adds c = λ label t speaks a.
-    covered_run c.args.way.now t (stage c.args.filling.now) c.args.run _ label c.args.words.now c.requires.decided c.requires.row c.requires.within speaks
+    covered_run c.args.way.now t (stage c.args.filling.now) c.args.run _ label c.args.words.now c.requires.decided c.requires.row
+    c.requires.within speaks
     (c.are_covered.ensures c.if-are_covered.true) a
 
 pub place_block-requires-clause-row : goal.place_block-requires-clause-row
@@ -25,11 +26,13 @@ loop-block-preserved c =
     let small : block % 16 < 16 = omega arith in
     record {
       adds = λ label t speaks a.
-          adds_then w.shape (at_letters w.row.first (block * w.row.width) label s) (at_word (w.row.first + block * w.row.width) w.row.width _ s)
+          adds_then w.shape (at_letters w.row.first (block * w.row.width) label s)
+          (at_word (w.row.first + block * w.row.width) w.row.width _ s)
           (at_letters w.row.first ((block + 1) * w.row.width) label s) t (stage c.loop-block.filling) (stage c.place_block.new.filling)
           (c.loop-block.invariant.adds label t speaks a) c.in_ok-number.ensures.adds
           (λ i. more_letters w.row.first block w.row.width _ label s i
-          (λ j few. speaks (block % 16) j small few ∙ ap (λ b. says label (on_at b j)) here) c.requires.row.narrow (c.requires.row.whole block below));
+          (λ j few. speaks (block % 16) j small few ∙ ap (λ b. says label (on_at b j)) here) c.requires.row.narrow
+          (c.requires.row.whole block below));
       placed = c.in_ok-number.ensures.adds.lists w.place (rising w.own.now) c.loop-block.invariant.placed;
       known = c.in_ok-number.ensures.known;
       many = c.in_ok-number.ensures.adds.as_many ∙ c.loop-block.invariant.many;

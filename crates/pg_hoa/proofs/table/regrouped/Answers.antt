@@ -6,8 +6,8 @@ use Rattle.std.proofs.lemmas.List.{take_all}
 use Rattle.std.proofs.lemmas.Fn.{always_returns_same}
 use Rattle.pg_automaton.specs.Automata.{deciding}
 use Rattle.pg_lists.specs.Rising.{rising}
-use Rattle.pg_hoa.specs.declared.body.Edge.{Edge}
-use Rattle.pg_hoa.specs.Mirrors.Kept.{KeptEdge, kept_edge}
+use Rattle.pg_syntax.specs.declared.body.Edge.{Edge}
+use Rattle.pg_syntax.specs.Mirrors.Kept.{KeptEdge, edge_in}
 use Rattle.pg_hoa.specs.Mirrors.Tables.{has_key, edge_step, same_set, with_sets}
 use Rattle.pg_hoa.proofs.Counting.{all_count}
 use Rattle.pg_hoa.proofs.TableRegrouped.{stable_test, filter_mapped_as, mapped_twice, key_cmp, same_ties}
@@ -17,17 +17,19 @@ pub returns : goal.returns
 returns c = λ own d target counts.
     let key : Bor Edge → ℕ × Option ℕ = λ e. (e.now.target, with_sets c.args.shape c.args.counts e.now.sets.items) in
     let p = λ (e : KeptEdge). has_key c.args.shape target counts (edge_step own e) in
-    let sets : (e : Bor Edge) → with_sets c.args.shape c.args.counts e.now.sets.items ≡ deciding c.args.shape (rising (own ++ e.now.sets.items)) =
+    let sets : (e : Bor Edge)
+    → with_sets c.args.shape c.args.counts e.now.sets.items ≡ deciding c.args.shape (rising (own ++ e.now.sets.items)) =
     λ e. all_count c.args.shape c.args.counts own e.now.sets.items d in
-    let kept = λ (e : Bor Edge). kept_edge e.now in
+    let kept = λ (e : Bor Edge). edge_in e.now in
     let before = c.loop-edge.order.items in
     let after = c.sort_by_key.new.self.items in
-    let all : map (λ (e : Bor Edge). e.now) before ≡ c.args.edges.now = c.loop-edge.invariant ∙ take_all c.loop-edge.edge-index c.args.edges.now c.loop-edge-test.false in
+    let all : map (λ (e : Bor Edge). e.now) before ≡ c.args.edges.now = c.loop-edge.invariant
+    ∙ take_all c.loop-edge.edge-index c.args.edges.now c.loop-edge-test.false in
     let stable = c.in_ok-sort_by_key.ensures.stable key (always_returns_same _ _ _ (λ a r f h. search rules)) in
     let same : filter (λ e. p (kept e)) after ≡ filter (λ e. p (kept e)) before =
     stable_test (λ e. p (kept e)) (ties (λ a b. is_lt (key_cmp (key a) (key b)))) before after
     (λ x y e. same_ties key target counts x y (ap (λ n. (x.now.target == target) && same_set n counts) (sets x) ∙ e)
     ∙ ap (λ n. (y.now.target == target) && same_set n counts) (sets y)) stable in
     filter_mapped_as kept kept p after before (ap (map kept) same)
-    ∙ ap (filter p) (mapped_twice (λ (e : Bor Edge). e.now) kept_edge before)
-    ∙ ap (λ l. filter p (map kept_edge l)) all
+    ∙ ap (filter p) (mapped_twice (λ (e : Bor Edge). e.now) edge_in before)
+    ∙ ap (λ l. filter p (map edge_in l)) all

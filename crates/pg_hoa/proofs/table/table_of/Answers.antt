@@ -7,8 +7,8 @@ use Rattle.std.proofs.lemmas.List.Elements.{All-get_or}
 use Rattle.std.proofs.Math.Pow.{pow_mono}
 use Rattle.std.proofs.Math.Nat.{mod-le, div-le_self, mul-le-mul_right}
 use Rattle.std.specs.List.{All}
-use Rattle.pg_hoa.specs.declared.body.ReadState.{ReadState}
-use Rattle.pg_hoa.specs.Mirrors.Kept.{kept_line}
+use Rattle.pg_syntax.specs.declared.body.ReadState.{ReadState}
+use Rattle.pg_syntax.specs.Mirrors.Kept.{line_in}
 use Rattle.pg_hoa.specs.Mirrors.Tables.{stage, at_line, at_lines, IsFirstConflict}
 use Rattle.pg_hoa.proofs.TableFilling.{adds_then}
 use Rattle.pg_hoa.proofs.TablePlaces.{more_lines, more_items}
@@ -51,7 +51,8 @@ slots_within lines states p at line slots zeros few below h is same made =
     within line.state states n (length slots) state all
 
 pub overflow_mul-total : goal.overflow_mul-total
-overflow_mul-total c = grind (arith, nat_tests, fits_64 _ (slots_few c.args.states c.args.propositions c.requires.few_propositions c.requires.few_steps))
+overflow_mul-total c =
+    grind (arith, nat_tests, fits_64 _ (slots_few c.args.states c.args.propositions c.requires.few_propositions c.requires.few_steps))
 
 pub add_line-requires-clause-within : goal.add_line-requires-clause-within
 add_line-requires-clause-within c = grind (arith, nat_tests)
@@ -71,41 +72,41 @@ overflow_cast-result c = fits_letters _ (letters_few c.args.propositions c.requi
 
 pub loop-line-preserved : goal.loop-line-preserved
 loop-line-preserved c =
-    adds_then c.args.shape (at_lines (2 ^ c.args.propositions) (map kept_line (take c.loop-line.line-index c.args.lines.now)))
-    (at_line (2 ^ c.args.propositions) (kept_line c.line-item.result))
-    (at_lines (2 ^ c.args.propositions) (map kept_line (take (c.loop-line.line-index + 1) c.args.lines.now)))
+    adds_then c.args.shape (at_lines (2 ^ c.args.propositions) (map line_in (take c.loop-line.line-index c.args.lines.now)))
+    (at_line (2 ^ c.args.propositions) (line_in c.line-item.result))
+    (at_lines (2 ^ c.args.propositions) (map line_in (take (c.loop-line.line-index + 1) c.args.lines.now)))
     _ (stage c.loop-line.filling) (stage c.add_line.new.filling) c.loop-line.invariant c.in_ok-add_line.ensures
-    (λ i. more_lines (2 ^ c.args.propositions) (map kept_line (take c.loop-line.line-index c.args.lines.now))
-    (kept_line c.line-item.result) i
-    ∙ ap (λ l. at_lines (2 ^ c.args.propositions) l i) (more_items kept_line c.args.lines.now c.loop-line.line-index c.line-item.result
+    (λ i. more_lines (2 ^ c.args.propositions) (map line_in (take c.loop-line.line-index c.args.lines.now))
+    (line_in c.line-item.result) i
+    ∙ ap (λ l. at_lines (2 ^ c.args.propositions) l i) (more_items line_in c.args.lines.now c.loop-line.line-index c.line-item.result
     (omega arith) c.line-item.is))
 
 pub returns-then-filling-total-clause-refused : goal.returns-then-filling-total-clause-refused
 returns-then-filling-total-clause-refused c =
     let p : ℕ = c.args.propositions in
     let letters : 1 * 2 ^ p % 18446744073709551616 ≡ 2 ^ p = one_shl p 64 (omega arith) in
-    let all : map kept_line (take c.loop-line.line-index c.args.lines.now) ≡ map kept_line c.args.lines.now =
-    ap (map kept_line) (take_all c.loop-line.line-index c.args.lines.now c.loop-line-test.false) in
-    let filled = all_filled c.args.shape (2 ^ p) (c.args.states * (1 * 2 ^ p % 18446744073709551616)) (map kept_line c.args.lines.now)
-    (map kept_line (take c.loop-line.line-index c.args.lines.now)) _ (stage c.loop-line.filling)
+    let all : map line_in (take c.loop-line.line-index c.args.lines.now) ≡ map line_in c.args.lines.now =
+    ap (map line_in) (take_all c.loop-line.line-index c.args.lines.now c.loop-line-test.false) in
+    let filled = all_filled c.args.shape (2 ^ p) (c.args.states * (1 * 2 ^ p % 18446744073709551616)) (map line_in c.args.lines.now)
+    (map line_in (take c.loop-line.line-index c.args.lines.now)) _ (stage c.loop-line.filling)
     (c.in_ok-vec.ensures.items_if_clones_equal (λ y same. same)) refl
     (nothing_covered _ _ (c.in_ok-vec-2.ensures.items_if_clones_equal (λ y same. same))) all c.loop-line.invariant in
     let many : length c.loop-line.filling.slots.items ≡ c.args.states * 2 ^ p = filled.1 ∙ ap (λ n. c.args.states * n) letters in
-    subst (λ n. IsFirstConflict c.args.shape (map kept_line c.args.lines.now) c.args.states (2 ^ p) (c.loop-line.filling.conflict / n)
+    subst (λ n. IsFirstConflict c.args.shape (map line_in c.args.lines.now) c.args.states (2 ^ p) (c.loop-line.filling.conflict / n)
     (c.loop-line.filling.conflict % n)) (sym letters)
-    (first_conflict c.args.shape (map kept_line c.args.lines.now) c.args.states (2 ^ p) (stage c.loop-line.filling) filled.0
+    (first_conflict c.args.shape (map line_in c.args.lines.now) c.args.states (2 ^ p) (stage c.loop-line.filling) filled.0
     (pow_pos p) many (omega (arith, c.if-filling-total.true, filled.1)))
 
 pub returns-clause-found : goal.returns-clause-found
 returns-clause-found c =
     let p : ℕ = c.args.propositions in
     let letters : 1 * 2 ^ p % 18446744073709551616 ≡ 2 ^ p = one_shl p 64 (omega arith) in
-    let all : map kept_line (take c.loop-line.line-index c.args.lines.now) ≡ map kept_line c.args.lines.now =
-    ap (map kept_line) (take_all c.loop-line.line-index c.args.lines.now c.loop-line-test.false) in
-    let filled = all_filled c.args.shape (2 ^ p) (c.args.states * (1 * 2 ^ p % 18446744073709551616)) (map kept_line c.args.lines.now)
-    (map kept_line (take c.loop-line.line-index c.args.lines.now)) _ (stage c.loop-line.filling)
+    let all : map line_in (take c.loop-line.line-index c.args.lines.now) ≡ map line_in c.args.lines.now =
+    ap (map line_in) (take_all c.loop-line.line-index c.args.lines.now c.loop-line-test.false) in
+    let filled = all_filled c.args.shape (2 ^ p) (c.args.states * (1 * 2 ^ p % 18446744073709551616)) (map line_in c.args.lines.now)
+    (map line_in (take c.loop-line.line-index c.args.lines.now)) _ (stage c.loop-line.filling)
     (c.in_ok-vec.ensures.items_if_clones_equal (λ y same. same)) refl
     (nothing_covered _ _ (c.in_ok-vec-2.ensures.items_if_clones_equal (λ y same. same))) all c.loop-line.invariant in
     let many : length c.loop-line.filling.slots.items ≡ c.args.states * 2 ^ p = filled.1 ∙ ap (λ n. c.args.states * n) letters in
-    found_table c.args.shape (map kept_line c.args.lines.now) c.args.states (2 ^ p) (stage c.loop-line.filling) _ filled.0 many
+    found_table c.args.shape (map line_in c.args.lines.now) c.args.states (2 ^ p) (stage c.loop-line.filling) _ filled.0 many
     (omega (arith, c.if-filling-total.false, filled.1)) refl letters refl refl refl

@@ -1,8 +1,9 @@
 use Rattle.std.proofs.Common.{◌^◌, take, map}
-use Rattle.pg_hoa.specs.Mirrors.Kept.{kept_line}
+use Rattle.pg_syntax.specs.Mirrors.Kept.{line_in}
 use Rattle.pg_hoa.specs.Mirrors.Tables.{stage, Adds, at_lines}
 use Rattle.pg_hoa.proofs.table.table_of.Given as goal
 
 -- the steps of the lines so far
 abbrev pub invariant-loop-line : goal.invariant-loop-line
-invariant-loop-line l = Adds l.shape (at_lines (2 ^ l.propositions) (map kept_line (take l.line-index l.lines))) (stage l.initial.filling) (stage l.filling)
+invariant-loop-line l =
+    Adds l.shape (at_lines (2 ^ l.propositions) (map line_in (take l.line-index l.lines))) (stage l.initial.filling) (stage l.filling)

@@ -1,4 +1,4 @@
-use Rattle.pg_hoa.proofs.Acts.{fits_added}
+use Rattle.pg_hoa.proofs.Instructions.{fits_added}
 use Rattle.pg_hoa.proofs.terms.add_letters.Goals as goal
 
 pub returns-clause-added : goal.returns-clause-added

@@ -1,4 +1,4 @@
-use Rattle.pg_hoa.proofs.Acts.{fits_joined}
+use Rattle.pg_hoa.proofs.Instructions.{fits_joined}
 use Rattle.pg_hoa.proofs.terms.joined.Goals as goal
 
 pub returns-then-value-right : goal.returns-then-value-right

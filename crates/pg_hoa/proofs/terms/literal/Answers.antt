@@ -1,11 +1,12 @@
 use Rattle.std.proofs.Common.{◌∙◌, ◌-◌, sym, arith}
 use Rattle.std.proofs.lemmas.Nat.{one_shl}
 use Rattle.pg_hoa.proofs.TableWords.{truth_none, on_above}
-use Rattle.pg_hoa.proofs.Acts.{fits_high, on_low}
+use Rattle.pg_hoa.proofs.Instructions.{fits_high, on_low}
 use Rattle.pg_hoa.proofs.terms.literal.Goals as goal
 
 pub returns-then-proposition-lt6 : goal.returns-then-proposition-lt6
-returns-then-proposition-lt6 c = λ b j few small. c.whole.ensures b j ∙ c.mask.ensures j small ∙ on_low b j c.args.proposition c.if-proposition-lt6.true
+returns-then-proposition-lt6 c = λ b j few small. c.whole.ensures b j ∙ c.mask.ensures j small
+    ∙ on_low b j c.args.proposition c.if-proposition-lt6.true
 
 pub returns-then-proposition-ge16 : goal.returns-then-proposition-ge16
 returns-then-proposition-ge16 c = λ b j few small. c.whole-then-proposition-ge16.ensures b j ∙ truth_none j

@@ -1,6 +1,6 @@
 use Rattle.std.proofs.Common.{◌∙◌, refl, arith}
 use Rattle.std.proofs.lemmas.Nat.{one_shl}
-use Rattle.pg_hoa.proofs.Acts.{turned_whole, turned_high, turned_low}
+use Rattle.pg_hoa.proofs.Instructions.{turned_whole, turned_high, turned_low}
 use Rattle.pg_hoa.proofs.terms.negated.Goals as goal
 
 pub returns-then-term-eq0-2 : goal.returns-then-term-eq0-2

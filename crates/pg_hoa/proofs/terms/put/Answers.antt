@@ -1,34 +1,35 @@
 use Rattle.std.proofs.Common.{◌∙◌, ◌∷◌, cond, false, true, ap}
-use Rattle.pg_hoa.specs.declared.terms.Act.TheVariants.{Put}
+use Rattle.pg_hoa.specs.declared.terms.Instruction.TheVariants.{Put}
 use Rattle.pg_hoa.specs.Mirrors.Saying.{top, under}
-use Rattle.pg_hoa.specs.Mirrors.Acts.{done}
+use Rattle.pg_hoa.specs.Mirrors.Instructions.{executed}
 use Rattle.pg_hoa.proofs.TableWords.{truth_all, truth_none}
-use Rattle.pg_hoa.proofs.Acts.{done_more}
+use Rattle.pg_hoa.proofs.Instructions.{executed_more}
 use Rattle.pg_hoa.proofs.terms.put.Goals as goal
 
 pub returns-in_ok-push-in-Yes : goal.returns-in_ok-push-in-Yes
-returns-in_ok-push-in-Yes c = λ b j few small. rw c.in-Yes.is (done_more c.args.acts.now.items c.push.new.self.items
-    (Put c.whole.result) b j c.in_ok-push-in-Yes.ensures.items ∙ ap (λ x. x ∷ done c.args.acts.now.items b j) (c.whole.ensures b j
+returns-in_ok-push-in-Yes c = λ b j few small. rw c.in-Yes.is (executed_more c.args.instructions.now.items c.push.new.self.items
+    (Put c.whole.result) b j c.in_ok-push-in-Yes.ensures.items
+    ∙ ap (λ x. x ∷ executed c.args.instructions.now.items b j) (c.whole.ensures b j
     ∙ truth_all j small))
 
 pub returns-in_ok-push-in-No : goal.returns-in_ok-push-in-No
-returns-in_ok-push-in-No c = λ b j few small. rw c.in-No.is (done_more c.args.acts.now.items c.push-in-No.new.self.items
-    (Put c.whole-in-No.result) b j c.in_ok-push-in-No.ensures.items ∙ ap (λ x. x ∷ done c.args.acts.now.items b j)
+returns-in_ok-push-in-No c = λ b j few small. rw c.in-No.is (executed_more c.args.instructions.now.items c.push-in-No.new.self.items
+    (Put c.whole-in-No.result) b j c.in_ok-push-in-No.ensures.items ∙ ap (λ x. x ∷ executed c.args.instructions.now.items b j)
     (c.whole-in-No.ensures b j ∙ truth_none j))
 
 pub returns-in_ok-push-in-Proposition : goal.returns-in_ok-push-in-Proposition
 returns-in_ok-push-in-Proposition c =
-    λ b j few small. rw c.in-Proposition.is (done_more c.args.acts.now.items c.push-in-Proposition.new.self.items
+    λ b j few small. rw c.in-Proposition.is (executed_more c.args.instructions.now.items c.push-in-Proposition.new.self.items
     (Put c.literal.result) b j c.in_ok-push-in-Proposition.ensures.items
-    ∙ ap (λ x. x ∷ done c.args.acts.now.items b j) (c.literal.ensures b j few small))
+    ∙ ap (λ x. x ∷ executed c.args.instructions.now.items b j) (c.literal.ensures b j few small))
 
 pub returns-in_ok-push-in-Inf : goal.returns-in_ok-push-in-Inf
-returns-in_ok-push-in-Inf c = λ b j few small. rw c.in-Inf.is (done_more c.args.acts.now.items c.push-in-Inf.new.self.items
+returns-in_ok-push-in-Inf c = λ b j few small. rw c.in-Inf.is (executed_more c.args.instructions.now.items c.push-in-Inf.new.self.items
     (Put c.literal-in-Inf.result) b j c.in_ok-push-in-Inf.ensures.items
-    ∙ ap (λ x. x ∷ done c.args.acts.now.items b j) (c.literal-in-Inf.ensures b j few small))
+    ∙ ap (λ x. x ∷ executed c.args.instructions.now.items b j) (c.literal-in-Inf.ensures b j few small))
 
 pub returns-in_ok-put_not-in-Fin : goal.returns-in_ok-put_not-in-Fin
 returns-in_ok-put_not-in-Fin c = λ b j few small. rw c.in-Fin.is (c.in_ok-put_not-in-Fin.ensures b j small
-    ∙ ap (λ s. cond (top s) false true ∷ under s) (done_more c.args.acts.now.items c.push-in-Fin.new.self.items
+    ∙ ap (λ s. cond (top s) false true ∷ under s) (executed_more c.args.instructions.now.items c.push-in-Fin.new.self.items
     (Put c.literal-in-Fin.result) b j c.in_ok-push-in-Fin.ensures.items
-    ∙ ap (λ x. x ∷ done c.args.acts.now.items b j) (c.literal-in-Fin.ensures b j few small)))
+    ∙ ap (λ x. x ∷ executed c.args.instructions.now.items b j) (c.literal-in-Fin.ensures b j few small)))

@@ -1,7 +1,0 @@
-use Rattle.std.proofs.Common.{arith}
-use Rattle.std.proofs.lemmas.Bool.Decides.{nat_tests}
-use Rattle.pg_hoa.proofs.Turning.{not_more}
-use Rattle.pg_hoa.proofs.formula.push_nots.Goals as goal
-
-pub loop-preserved : goal.loop-preserved
-loop-preserved c = grind (arith, nat_tests, not_more c.loop.counter c.args.ops.items)

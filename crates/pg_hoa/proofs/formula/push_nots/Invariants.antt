@@ -1,6 +1,0 @@
-use Rattle.std.proofs.Common.{◌≡◌, ◌++◌}
-use Rattle.pg_hoa.specs.Mirrors.FormulaRun.{not_ops}
-use Rattle.pg_hoa.proofs.formula.push_nots.Given as goal
-
-abbrev pub invariant-loop : goal.invariant-loop
-invariant-loop l = l.ops.items ≡ l.initial.ops.items ++ not_ops l.counter

@@ -1,6 +1,0 @@
-use Rattle.std.proofs.Common.{◌≡◌, ℕ, map}
-use Rattle.pg_hoa.specs.Mirrors.Settling.{marked}
-use Rattle.pg_hoa.proofs.settle.marked.Given as goal
-
-abbrev pub invariant-loop-proposition : goal.invariant-loop-proposition
-invariant-loop-proposition l = l.marks.items ≡ marked (map {A = ℕ × ℕ} {B = ℕ} (λ x. x.0) l.controls) l.proposition

@@ -1,0 +1,14 @@
+use Rattle.std.proofs.Common.{length}
+use Rattle.std.specs.Prelude.{map}
+use Rattle.pg_syntax.specs.Mirrors.Scan.{lex}
+use Rattle.pg_syntax.specs.Mirrors.Kept.{edge_in}
+use Rattle.pg_syntax.specs.Mirrors.BodyScan.{edges_at}
+use Rattle.pg_syntax.proofs.BodyTurns.{KeptLeft}
+use Rattle.pg_syntax.proofs.body.read_edges.Given as goal
+
+abbrev pub invariant-edges : goal.invariant-edges
+invariant-edges l = KeptLeft l.ranges.states l.ranges.propositions l.ranges.sets (map edge_in l.edges.items) (lex l.rest)
+    (edges_at l.ranges.states l.ranges.propositions l.ranges.sets (lex l.bytes))
+
+abbrev pub decreases-edges : goal.decreases-edges
+decreases-edges l = length (lex l.rest)

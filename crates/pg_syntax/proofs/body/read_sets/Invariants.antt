@@ -1,0 +1,10 @@
+use Rattle.std.proofs.Common.{length}
+use Rattle.pg_syntax.specs.Mirrors.Scan.{lex}
+use Rattle.pg_syntax.proofs.BodyTurns.{SetsLeft}
+use Rattle.pg_syntax.proofs.body.read_sets.Given as goal
+
+abbrev pub invariant-numbers : goal.invariant-numbers
+invariant-numbers l = SetsLeft l.sets l.numbers.items (lex l.rest) (lex l.bytes)
+
+abbrev pub decreases-numbers : goal.decreases-numbers
+decreases-numbers l = length (lex l.rest)

@@ -1,0 +1,11 @@
+use Rattle.std.proofs.Common.{◌≡◌, length}
+use Rattle.pg_syntax.specs.Mirrors.Scan.{lex}
+use Rattle.pg_syntax.specs.Mirrors.FormulaRun.{view, ops_from, ops_at}
+use Rattle.pg_syntax.proofs.formula.read_formula.Given as goal
+
+-- what is left gives the same
+abbrev pub invariant-tokens : goal.invariant-tokens
+invariant-tokens l = ops_from l.kind (view l.reading) (lex l.rest) ≡ ops_at l.kind (lex l.bytes)
+
+abbrev pub decreases-tokens : goal.decreases-tokens
+decreases-tokens l = length (lex l.rest)

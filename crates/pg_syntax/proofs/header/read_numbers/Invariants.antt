@@ -1,0 +1,10 @@
+use Rattle.std.proofs.Common.{length, map}
+use Rattle.pg_syntax.specs.Mirrors.Scan.{lex}
+use Rattle.pg_syntax.proofs.HeaderTurns.{NumbersLeft}
+use Rattle.pg_syntax.proofs.header.read_numbers.Given as goal
+
+abbrev pub invariant-numbers : goal.invariant-numbers
+invariant-numbers l = NumbersLeft (map (λ y. y.0) l.numbers.items) (lex l.rest) (lex l.bytes)
+
+abbrev pub decreases-numbers : goal.decreases-numbers
+decreases-numbers l = length (lex l.rest)

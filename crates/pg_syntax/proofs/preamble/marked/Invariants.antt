@@ -1,0 +1,6 @@
+use Rattle.std.proofs.Common.{◌≡◌, ℕ, map}
+use Rattle.pg_syntax.specs.Mirrors.Preambles.{marked}
+use Rattle.pg_syntax.proofs.preamble.marked.Given as goal
+
+abbrev pub invariant-loop-proposition : goal.invariant-loop-proposition
+invariant-loop-proposition l = l.marks.items ≡ marked (map {A = ℕ × ℕ} {B = ℕ} (λ x. x.0) l.controls) l.proposition

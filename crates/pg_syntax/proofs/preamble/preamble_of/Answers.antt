@@ -1,0 +1,60 @@
+use Rattle.std.proofs.Common.{◌≡◌, ◌∙◌, ◌<◌, ℕ, length, map, List, Some, refl, sym, ap, subst}
+use Rattle.std.specs.List.{All}
+use Rattle.std.proofs.lemmas.List.{length-map}
+use Rattle.pg_syntax.specs.declared.formula.Op.{Op}
+use Rattle.pg_syntax.specs.Mirrors.Kept.{head_in, option_with}
+use Rattle.pg_syntax.specs.Mirrors.Preambles.{HasCondition, listed}
+use Rattle.pg_syntax.proofs.PreambleLaws.{opened, below_numbers, numbers_below, no_shape}
+use Rattle.pg_syntax.proofs.preamble.preamble_of.Goals as goal
+
+pub returns-in-Some-first_above-clause-refused : goal.returns-in-Some-first_above-clause-refused
+returns-in-Some-first_above-clause-refused c = λ s i.
+    let h = head_in c.args.head in
+    let xs = c.unwrap_or-controls.result.items in
+    let vs = c.unwrap_or-names.result in
+    let names : map (λ name. name.items) vs.items ≡ listed h.names =
+    opened (λ v. map (λ name. name.items) v.items) c.args.head.names vs c.new.result c.unwrap_or-names.ensures
+    (ap (map (λ name. name.items)) c.new.ensures.items) in
+    let controls : map {A = ℕ × ℕ} {B = ℕ} (λ x. x.0) xs ≡ listed h.controls =
+    opened (λ v. map {A = ℕ × ℕ} {B = ℕ}
+    (λ x. x.0) v.items) c.args.head.controls c.unwrap_or-controls.result c.new-2.result c.unwrap_or-controls.ensures
+    (ap (map {A = ℕ × ℕ} {B = ℕ} (λ x. x.0)) c.new-2.ensures.items) in
+    let few : length (listed h.names) ≡ c.len-count.result = sym (ap length names) ∙ (length-map vs.items (λ name. name.items))
+    ∙ sym vs.ok.0 ∙ sym c.len-count.ensures in
+    let below : All (λ (n : ℕ). n < c.len-count.result) (map {A = ℕ × ℕ} {B = ℕ} (λ x. x.0) xs) = rw (controls, ← few) i.controls_below in
+    c.in-Some-first_above.ensures (rw c.deref.ensures.value (numbers_below xs c.len-count.result below))
+
+pub returns-in_default-shape_of-clause-refused : goal.returns-in_default-shape_of-clause-refused
+returns-in_default-shape_of-clause-refused c =
+    no_shape (head_in c.args.head) c.in-Some.sets c.in-Some.condition.items (ap (option_with (λ x. (x.0, x.1.items))) c.in-Some.is)
+    (λ f e. c.in_default-shape_of.ensures.none f (e ∙ sym c.deref-3.ensures.value))
+
+pub returns-clause-found : goal.returns-clause-found
+returns-clause-found c =
+    let h = head_in c.args.head in
+    let xs = c.unwrap_or-controls.result.items in
+    let vs = c.unwrap_or-names.result in
+    let names : map (λ name. name.items) vs.items ≡ listed h.names =
+    opened (λ v. map (λ name. name.items) v.items) c.args.head.names vs c.new.result c.unwrap_or-names.ensures
+    (ap (map (λ name. name.items)) c.new.ensures.items) in
+    let controls : map {A = ℕ × ℕ} {B = ℕ} (λ x. x.0) xs ≡ listed h.controls =
+    opened (λ v. map {A = ℕ × ℕ} {B = ℕ}
+    (λ x. x.0) v.items) c.args.head.controls c.unwrap_or-controls.result c.new-2.result c.unwrap_or-controls.ensures
+    (ap (map {A = ℕ × ℕ} {B = ℕ} (λ x. x.0)) c.new-2.ensures.items) in
+    let few : length (listed h.names) ≡ c.len-count.result = sym (ap length names) ∙ (length-map vs.items (λ name. name.items))
+    ∙ sym vs.ok.0 ∙ sym c.len-count.ensures in
+    let all : All (λ (x : ℕ × ℕ). x.0 < c.len-count.result) xs = rw (← c.deref.ensures.value) c.in_default-first_above.ensures in
+    let accepted : h.acceptance ≡ Some (c.in-Some.sets, c.in-Some.condition.items) =
+    ap (option_with (λ x. (x.0, x.1.items))) c.in-Some.is in
+    let condition : HasCondition (Some (c.in-Some.sets, c.in-Some.condition.items)) = subst HasCondition accepted c.requires in
+    record {
+      states = refl;
+      start = ap (option_with (λ x. x.0)) c.in-Some-start.is;
+      start_below = c.if-not-starts_below.ensures;
+      names = names;
+      controls_below = rw (few, ← controls) (below_numbers xs c.len-count.result all);
+      controllable = c.in_ok-controllable.ensures ∙ rw (c.deref-2.ensures.value, controls, few) refl;
+      condition = condition.0;
+      acceptance = accepted ∙ ap (λ (ops : List Op). Some (c.in-Some.sets, ops)) condition.1;
+      shape = c.in-Some-shape_of.ensures.found condition.0 (sym condition.1 ∙ sym c.deref-3.ensures.value);
+    }

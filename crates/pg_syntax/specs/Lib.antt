@@ -1,0 +1,5 @@
+pub mod FaultTexts
+pub mod FormulaTexts
+pub mod Lexemes
+pub mod Mirrors
+pub mod Syntax

@@ -1,0 +1,16 @@
+//! What a text in HOA v1 says of an automaton: its headers, and the edges of each state.
+#![tactic(auto)]
+
+mod body;
+mod fault;
+mod formula;
+mod header;
+mod preamble;
+mod shape;
+mod syntax;
+mod token;
+
+pub use body::{Edge, ReadState};
+pub use fault::{LeftOutName, PartFault, Refusal};
+pub use formula::Op;
+pub use syntax::{Syntax, read_syntax};
