@@ -11,7 +11,7 @@ update_predecessors-requires-clause-kept g c =
     let lines = g.G.Lines.line c.args.lines.now in
     let bs = c.args.map.now.bounds in
     let f = c.args.map.now.measures in
-    let old = c.args.notes.now in
+    let old = c.args.waiting.now in
     let n : c.args.v < length f = c.requires.predecessors.within.numbers c.args.v c.requires.due.ready.held in
     let served : Covers bs (line_at lines c.args.v).priority (measure_at c.lift_over.new.self.measures c.args.v)
     (measure_at f (get_or old.best c.args.v 0)) = rw c.best.ensures at c.lift_over.ensures.served in
