@@ -8,9 +8,7 @@ use Rattle.std.proofs.lemmas.List.Sums.{sum_by-cons}
 use Rattle.std.proofs.lemmas.List.{get_or_default, get_or_past, get_or-set_same, get_or-set_other, get_or-replicate, length-replicate, length-set}
 use Rattle.pg_arena.specs.declared.player.Player.{Player}
 use Rattle.pg_map.specs.Lines.{Line}
-use Rattle.pg_map.specs.Maps.{MapValue}
 use Rattle.pg_lift.specs.declared.note.Note.{Note}
-use Rattle.pg_lift.specs.Mirrors.Keeps.{IsKeeping, IsDue}
 use Rattle.pg_lists.specs.Mirrors.Worklists.{IsWorklist}
 use Rattle.pg_lift.specs.Mirrors.Notes.{WaitingValue, Span, HasNote, HasRoom, AreNotes, AreNoted, IsSameSpan, AreSameNotes, Label, label_of}
 use Rattle.pg_lift.specs.Mirrors.Notes.{line_label, label_in, no_note, note_in, told_of, waits_of, best_of, labels_of}
@@ -61,14 +59,6 @@ room_still p q v first room h =
 pub span_marked : (notes notes' : WaitingValue) (v : ℕ) (b : Bool) → notes'.waits ≡ set notes.waits v b → notes'.best ≡ notes.best
     → notes'.span ≡ notes.span → IsSameSpan notes notes'
 span_marked notes notes' v b waits best span = record { waits = ap length waits ∙ length-set notes.waits v b; best = ap length best; span = span }
-
--- a vertex that was taken to be lifted waits again
-pub waits_again : (lines : ℕ → Option Line) (map : MapValue) (notes notes' : WaitingValue) (v : ℕ) → notes'.waits ≡ set notes.waits v true
-    → notes'.best ≡ notes.best → notes'.span ≡ notes.span → IsDue lines map notes v → IsKeeping lines map notes'
-waits_again lines map notes notes' v waits best span due = record {
-  noted = notes_on (length map.measures) lines notes notes' (span_marked notes notes' v true waits best span) due.noted;
-  kept = rw (waits, best) due.kept;
-}
 
 -- ---- the note of a vertex
 

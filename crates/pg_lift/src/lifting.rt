@@ -6,15 +6,13 @@ ghost use Rattle.pg_measure.specs.Measures.{Fits, AtMost, IsBelow, owned};
 ghost use Rattle.pg_measure.specs.Views.{measure_in};
 ghost use Rattle.pg_map.specs.Lines.{AreWithin};
 ghost use Rattle.pg_map.specs.Maps.{measure_at, update_map, IsMap, IsJoin, IsLifted, IsServed, IsClosed};
-ghost use Rattle.pg_lift.specs.Mirrors.Predecessors.{ArePredecessorsOf};
-ghost use Rattle.pg_lift.specs.Mirrors.Keeps.{IsKeeping, IsDue};
 ghost use Rattle.pg_lift.specs.Mirrors.Lifters.{KeepsLines, Lifts};
 ghost use Rattle.pg_lift.specs.Mirrors.Zeros.{IsAtZero};
 
 use crate::asked::priority;
 use crate::beginning::{count_edges, examine_all, note_all};
 use crate::predecessors::Predecessors;
-use crate::serving::{find_serving, next_ready};
+use crate::serving::next_ready;
 use crate::updating::update_predecessors;
 use crate::waiting::Waiting;
 use pg_arena::Vertex;
@@ -41,28 +39,6 @@ impl<G: Lines + Drop> Model for Lifter<G> {
     ghost view = { λ l. record { lines = l.lines; map = l.map; span = l.waiting.span } };
 
     ghost invariant = { λ l. IsLifter (G.line l.lines) l.map l.predecessors l.waiting };
-}
-
-/// Lifts a vertex that `next_ready` said to be ready.
-#[inline(always)]
-fn lift_ready<G: Lines>(
-    map: &mut MeasureMap,
-    lines: &G,
-    predecessors: &Predecessors,
-    waiting: &mut Waiting,
-    v: Vertex,
-)
-    requires predecessors { ArePredecessorsOf (G.line lines.now) (length map.old.measures) predecessors.now }
-    requires due { IsDue (G.line lines.now) map.old waiting.old v }
-    ensures bounds { map.new.bounds ≡ map.old.bounds }
-    ensures size { length map.new.measures ≡ length map.old.measures }
-    ensures span { waiting.new.span ≡ waiting.old.span }
-    ensures lifted { IsLifted map.old.bounds (G.line lines.now) map.old.measures map.new.measures v }
-    ensures kept { IsKeeping (G.line lines.now) map.new waiting.new }
-{
-    map.lift_over(lines, priority(map, lines, waiting, v), v, waiting.best(v));
-    waiting.lifted(v);
-    update_predecessors(map, lines, predecessors, waiting, v);
 }
 
 impl<G: Lines + Drop> Lifter<G> {
@@ -151,9 +127,13 @@ impl<G: Lines + Drop> Lifter<G> {
             × IsClosed self.old.map.bounds (G.line self.old.lines) self.old.map.measures) }
     {
         let v = next_ready(&self.map, &self.lines, &mut self.waiting)?;
+        let priority = priority(&self.map, &self.lines, &self.waiting, v);
+        self.map
+            .lift_over(&self.lines, priority, v, self.waiting.best(v));
+        self.waiting.lifted(v);
         self.predecessors.gather(&self.lines, self.map.len());
-        lift_ready(
-            &mut self.map,
+        update_predecessors(
+            &self.map,
             &self.lines,
             &self.predecessors,
             &mut self.waiting,
@@ -169,21 +149,18 @@ impl<G: Lines + Drop> Lifter<G> {
         ensures served { OnFalse result ((self.new ≡ self.old)
             × IsServed self.old.map.bounds (G.line self.old.lines) self.old.map.measures v) }
     {
-        if !self.waiting.waits(v) {
-            return false;
+        let rose = self.map.lift(&self.lines, v);
+        if rose {
+            self.predecessors.gather(&self.lines, self.map.len());
+            update_predecessors(
+                &self.map,
+                &self.lines,
+                &self.predecessors,
+                &mut self.waiting,
+                v,
+            );
         }
-        if find_serving(&self.map, &self.lines, &mut self.waiting, v) {
-            return false;
-        }
-        self.predecessors.gather(&self.lines, self.map.len());
-        lift_ready(
-            &mut self.map,
-            &self.lines,
-            &self.predecessors,
-            &mut self.waiting,
-            v,
-        );
-        true
+        rose
     }
 
     /// Whether no vertex can be lifted.

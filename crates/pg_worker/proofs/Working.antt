@@ -1,7 +1,7 @@
 -- What a worker remembers after a call.
-use Rattle.std.proofs.Common.{◌≡◌, ◌≢◌, ◌∙◌, ℕ, zero, suc, ◌+◌, ◌<◌, ◌≤◌, Bool, false, List, [], ◌∷◌, ◌++◌, length, get_or, set, subst, sym}
+use Rattle.std.proofs.Common.{◌≡◌, ◌≢◌, ◌∙◌, ℕ, zero, suc, ◌+◌, ◌^◌, ◌<◌, ◌≤◌, Bool, false, List, [], ◌∷◌, ◌++◌, length, get_or, set, subst, sym}
 use Rattle.std.proofs.Common.{refl, ap, arith, inl, inr, Some, None}
-use Rattle.std.specs.Prelude.{All, Option, IsSome, option_map, unwrap_or, replicate}
+use Rattle.std.specs.Prelude.{All, Option, IsSome, option_map, unwrap_or, replicate, vec_capacity}
 use Rattle.std.proofs.lemmas.Bool.{cases_eq}
 use Rattle.std.proofs.lemmas.List.{get_or-set_same, get_or-set_other, length-set, length-replicate}
 use Rattle.pg_measure.specs.Measures.{BoundList, MeasureValue}
@@ -229,6 +229,22 @@ pub lifter_same : (p p' : PartValue) (map : MapValue) (edges edges' : Predecesso
 lifter_same p p' map edges edges' notes notes' e i l =
     let same = inside_same p p' map edges edges' notes notes' e i in
     record { within = same.within; ready = ready_same p p' map edges edges' notes notes' e l.ready; kept = same.kept }
+
+-- lines more, for whose edges there is room; they are to be gathered anew
+pub lifter_more : (p p' : PartValue) (map : MapValue) (edges edges' : Predecessors) (notes' : WaitingValue) → IsInside p' map notes'
+    → AreReady (held_line p) map edges → edges'.starts.items ≡ edges.starts.items → edges'.was_gathered ≡ edges.was_gathered
+    → edges'.is_gathered ≡ false → p'.edges < 2 ^ 32 → p'.edges ≤ vec_capacity edges'.sources → IsLifter (held_line p') map edges' notes'
+lifter_more p p' map edges edges' notes' i r starts before off few room = record {
+  within = i.within;
+  ready = record {
+    size = ap length starts ∙ r.size;
+    few = omega (arith, i.count, few);
+    room = omega (arith, i.count, room);
+    right = λ q. absurd (cc (q, off));
+    zero = λ q. r.zero (sym before ∙ q);
+  };
+  kept = i.kept;
+}
 
 pub next_same : (p p' : PartValue) (n : ℕ) → p'.lines ≡ p.lines → IsNext p n → IsNext p' n
 next_same p p' n l i = record { above = rw l i.above; least = rw l i.least }

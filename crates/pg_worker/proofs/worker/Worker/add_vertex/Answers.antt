@@ -1,10 +1,10 @@
-use Rattle.std.proofs.Common.{rules, sym, ◌<◌, ◌≤◌, ◌+◌, ◌∷◌, [], ◌∙◌, length, ap, inr, arith}
+use Rattle.std.proofs.Common.{rules, ◌<◌, ◌≤◌, ◌+◌, ◌∷◌, [], false, length, ap, inr, refl, arith}
 use Rattle.pg_wire.specs.declared.frame.VertexLine.{VertexLine}
 use Rattle.pg_wire.specs.Lines.{line_with}
 use Rattle.pg_parts.specs.Frames.{told_line}
 use Rattle.pg_worker.specs.Workers.{FitsGame}
 use Rattle.pg_worker.specs.Mirrors.Insides.{IsInside, IsNext, IsWhole}
-use Rattle.pg_worker.proofs.Working.{above_next, next_above, next_after, lifter_of, whole_of, whole_same, inside_of, inside_same, lifter_same, next_same}
+use Rattle.pg_worker.proofs.Working.{above_next, next_above, next_after, lifter_of, whole_of, whole_same, inside_of, inside_same, lifter_same, lifter_more, next_same}
 use Rattle.pg_worker.proofs.Growing.{only}
 use Rattle.pg_worker.proofs.worker.Worker.add_vertex.Goals as goal
 use Rattle.pg_worker.proofs.worker.Worker.add_vertex.Goals.{After-make_room}
@@ -73,21 +73,11 @@ returns-then-not-fits_line-clause-refused c =
 
 pub invariant_of-lifter-2 : goal.invariant_of-lifter-2
 invariant_of-lifter-2 c =
-    let i = c.add_line.ensures.inside in
-    let r = c.lifter.invariant.ready in
-    let e = c.make_room.ensures.same in
-    let count = i.count in
-    record {
-      within = i.within;
-      ready = record {
-        size = ap length e.starts ∙ r.size;
-        few = search rules;
-        room = search rules;
-        right = λ q. absurd (cc q);
-        zero = λ q. r.zero (sym e.before ∙ q);
-      };
-      kept = i.kept;
-    }
+    let l = c.lifter.inside in
+    let new = c.make_room.new.predecessors in
+    let same = c.make_room.ensures.same in
+    lifter_more l.lines c.add_line.new.part l.map l.predecessors (record new { is_gathered = false }) c.add_line.new.waiting c.add_line.ensures.inside
+    c.lifter.invariant.ready same.starts same.before refl (search rules) (search rules)
 
 pub invariant_of-self-2 : goal.invariant_of-self-2
 invariant_of-self-2 c =

@@ -1,10 +1,10 @@
-use Rattle.std.proofs.Common.{rules, sym, ◌≡◌, ◌<◌, ◌≤◌, ◌+◌, ◌-◌, ◌∙◌, ℕ, List, length, get_or, ap, inl, inr, arith}
+use Rattle.std.proofs.Common.{rules, ◌≡◌, ◌<◌, ◌≤◌, ◌+◌, ◌-◌, ℕ, List, false, length, get_or, ap, inl, inr, refl, arith}
 use Rattle.std.specs.Prelude.{AllPairs}
 use Rattle.std.proofs.lemmas.Bool.{cases_eq}
 use Rattle.std.proofs.lemmas.List.{get_or_default}
 use Rattle.pg_wire.specs.declared.frame.VertexLine.{VertexLine}
 use Rattle.pg_worker.specs.Mirrors.Insides.{IsInside, IsWhole}
-use Rattle.pg_worker.proofs.Working.{above_next, lifter_of, whole_of, whole_same, inside_of, inside_same, lifter_same, next_same}
+use Rattle.pg_worker.proofs.Working.{above_next, lifter_of, whole_of, whole_same, inside_of, inside_same, lifter_same, lifter_more, next_same}
 use Rattle.pg_worker.proofs.worker.Worker.add_vertices.Goals as goal
 use Rattle.pg_worker.proofs.worker.Worker.add_vertices.Goals.{After-make_room}
 
@@ -87,21 +87,11 @@ add_lines-requires-clause-waiting c = λ k d lt.
 
 pub invariant_of-lifter-2 : goal.invariant_of-lifter-2
 invariant_of-lifter-2 c =
-    let i = c.add_lines.ensures.inside in
-    let r = c.lifter.invariant.ready in
-    let e = c.make_room.ensures.same in
-    let count = i.count in
-    record {
-      within = i.within;
-      ready = record {
-        size = ap length e.starts ∙ r.size;
-        few = search rules;
-        room = search rules;
-        right = λ q. absurd (cc q);
-        zero = λ q. r.zero (sym e.before ∙ q);
-      };
-      kept = i.kept;
-    }
+    let l = c.lifter.inside in
+    let new = c.make_room.new.predecessors in
+    let same = c.make_room.ensures.same in
+    lifter_more l.lines c.add_lines.new.part l.map l.predecessors (record new { is_gathered = false }) c.add_lines.new.waiting c.add_lines.ensures.inside
+    c.lifter.invariant.ready same.starts same.before refl (search rules) (search rules)
 
 pub invariant_of-self-2 : goal.invariant_of-self-2
 invariant_of-self-2 c =
