@@ -12,7 +12,7 @@ use Rattle.pg_map.proofs.Bests.{front_itself, front_trans}
 use Rattle.pg_map.proofs.Lifts.{serves_best}
 use Rattle.pg_map.proofs.Overs.{misses_by}
 use Rattle.pg_map.specs.Lines.{Line, line_at}
-use Rattle.pg_map.specs.Maps.{measure_at, MapAtMost, IsLifted, IsServedBy, IsServed, IsClosed, SomeOrAll}
+use Rattle.pg_map.specs.Maps.{measure_at, MapAtMost, IsLifted, IsServedBy, IsClosed, SomeOrAll}
 use Rattle.pg_map.specs.Mirrors.Tables.{IsBest}
 use Rattle.pg_lift.specs.Mirrors.Keeps.{IsAmong, nothing, just, IsAtRest, IsForemost, Keeps, KeepsAt, IsKept, IsKeptBut, AreSameBut, IsReady}
 
@@ -331,12 +331,6 @@ rest_is : (o : Player) (bs : BoundList) (p : ℕ) (f : List MeasureValue) (ss : 
     → IsAtRest o bs p f nothing ss m b → SomeOrAll o (λ w. Covers bs p m (measure_at f w)) ss
 rest_is Even bs p f ss m b a h = (a.0, a.1, a.2, a.3, subst (λ (w : ℕ). Covers bs p m (measure_at f w)) (sym a.4) (none_or (Covers bs p m (measure_at f b)) h))
 rest_is Odd bs p f ss m b a h = λ i d lt. none_or (Covers bs p m (measure_at f (get_or ss i d))) (h i d lt)
-
--- the same of one vertex
-pub served_keeps : (bs : BoundList) (lines : ℕ → Option Line) (f : List MeasureValue) (v b : ℕ)
-    → Keeps bs (line_at lines v) f nothing (measure_at f v) false b → IsServed bs lines f v
-served_keeps bs lines f v b k = rest_is (line_at lines v).owner bs (line_at lines v).priority f (line_at lines v).successors
-    (measure_at f v) b k.among (k.rest refl)
 
 -- a vertex that isn't served by its best is not served
 pub ready_unserved : (bs : BoundList) (lines : ℕ → Option Line) (f : List MeasureValue) (best : List ℕ) (v : ℕ) → IsReady bs lines f best v

@@ -8,11 +8,9 @@ use Rattle.std.proofs.lemmas.List.Sums.{sum_by-cons}
 use Rattle.std.proofs.lemmas.List.{get_or_default, get_or_past, get_or-set_same, get_or-set_other, get_or-replicate, length-replicate, length-set}
 use Rattle.pg_arena.specs.declared.player.Player.{Player}
 use Rattle.pg_map.specs.Lines.{Line}
-use Rattle.pg_map.specs.Maps.{MapValue}
 use Rattle.pg_lift.specs.declared.note.Note.{Note}
-use Rattle.pg_lift.specs.Mirrors.Keeps.{IsKeeping, IsDue}
 use Rattle.pg_lists.specs.Mirrors.Worklists.{IsWorklist}
-use Rattle.pg_lift.specs.Mirrors.Notes.{NotesValue, Span, HasNote, HasRoom, AreNotes, AreNoted, IsSameSpan, AreSameNotes, Label, label_of}
+use Rattle.pg_lift.specs.Mirrors.Notes.{WaitingValue, Span, HasNote, HasRoom, AreNotes, AreNoted, IsSameSpan, AreSameNotes, Label, label_of}
 use Rattle.pg_lift.specs.Mirrors.Notes.{line_label, label_in, no_note, note_in, told_of, waits_of, best_of, labels_of}
 use Rattle.pg_lists.proofs.Stacks.{pushed, swapped, popped, top_marked, room_left}
 
@@ -22,7 +20,7 @@ note_on : (p q : Span) (v : ℕ) → q ≡ p → HasNote p v → HasNote q v
 note_on p q v e h = subst (λ (s : Span). HasNote s v) (sym e) h
 
 -- notes of the same vertices
-pub notes_on : (n : ℕ) (lines : ℕ → Option Line) (notes notes' : NotesValue) → IsSameSpan notes notes' → AreNotes n lines notes → AreNotes n lines notes'
+pub notes_on : (n : ℕ) (lines : ℕ → Option Line) (notes notes' : WaitingValue) → IsSameSpan notes notes' → AreNotes n lines notes → AreNotes n lines notes'
 notes_on n lines notes notes' same a = record {
   waits = same.waits ∙ a.waits;
   best = same.best ∙ a.best;
@@ -31,7 +29,7 @@ notes_on n lines notes notes' same a = record {
   labels = λ v. ap (λ (s : Span). get_or s.labels v None) same.span ∙ a.labels v;
 }
 
-same_note : (notes notes' : NotesValue) (v : ℕ) → AreSameNotes notes notes' → HasNote notes.span v → HasNote notes'.span v
+same_note : (notes notes' : WaitingValue) (v : ℕ) → AreSameNotes notes notes' → HasNote notes.span v → HasNote notes'.span v
 same_note notes notes' v same h =
     let f = h.from in
     let b = h.before in
@@ -39,7 +37,7 @@ same_note notes notes' v same h =
     let first = same.first (omega arith) in
     record { from = omega arith; before = omega arith }
 
-pub same_notes : (n : ℕ) (lines : ℕ → Option Line) (notes notes' : NotesValue) → AreSameNotes notes notes' → AreNotes n lines notes → AreNotes n lines notes'
+pub same_notes : (n : ℕ) (lines : ℕ → Option Line) (notes notes' : WaitingValue) → AreSameNotes notes notes' → AreNotes n lines notes → AreNotes n lines notes'
 same_notes n lines notes notes' same a = record {
   waits = ap length same.waits ∙ a.waits;
   best = ap length same.best ∙ a.best;
@@ -48,7 +46,7 @@ same_notes n lines notes notes' same a = record {
   labels = λ v. ap (λ (ls : List (Option Label)). get_or ls v None) same.labels ∙ a.labels v;
 }
 
-pub same_span : (notes notes' notes'' : NotesValue) → IsSameSpan notes notes' → IsSameSpan notes' notes'' → IsSameSpan notes notes''
+pub same_span : (notes notes' notes'' : WaitingValue) → IsSameSpan notes notes' → IsSameSpan notes' notes'' → IsSameSpan notes notes''
 same_span notes notes' notes'' a b = record { waits = b.waits ∙ a.waits; best = b.best ∙ a.best; span = b.span ∙ a.span }
 
 pub room_still : (p q : Span) (v : ℕ) → q.first ≡ p.first → q.room ≡ p.room → HasRoom p v → HasRoom q v
@@ -58,17 +56,9 @@ room_still p q v first room h =
     record { from = omega arith; before = omega arith }
 
 -- a vertex waits, or does no longer
-pub span_marked : (notes notes' : NotesValue) (v : ℕ) (b : Bool) → notes'.waits ≡ set notes.waits v b → notes'.best ≡ notes.best
+pub span_marked : (notes notes' : WaitingValue) (v : ℕ) (b : Bool) → notes'.waits ≡ set notes.waits v b → notes'.best ≡ notes.best
     → notes'.span ≡ notes.span → IsSameSpan notes notes'
 span_marked notes notes' v b waits best span = record { waits = ap length waits ∙ length-set notes.waits v b; best = ap length best; span = span }
-
--- a vertex that was taken to be lifted waits again
-pub waits_again : (lines : ℕ → Option Line) (map : MapValue) (notes notes' : NotesValue) (v : ℕ) → notes'.waits ≡ set notes.waits v true
-    → notes'.best ≡ notes.best → notes'.span ≡ notes.span → IsDue lines map notes v → IsKeeping lines map notes'
-waits_again lines map notes notes' v waits best span due = record {
-  noted = notes_on (length map.measures) lines notes notes' (span_marked notes notes' v true waits best span) due.noted;
-  kept = rw (waits, best) due.kept;
-}
 
 -- ---- the note of a vertex
 
@@ -218,7 +208,7 @@ told_read : {X : Type 0} (f : Note → X) (d : X) {count first : ℕ} {notes : L
     → get_or (told_of f count first notes) v d ≡ f r
 told_read f d {count} {first} {notes} {v} p = told_at f d count first notes v p.from p.below ∙ ap f p.read
 
-abbrev pub value_of : ℕ → ℕ → List Note → ℕ → NotesValue
+abbrev pub value_of : ℕ → ℕ → List Note → ℕ → WaitingValue
 value_of count first notes room = record {
   waits = waits_of count first notes;
   best = best_of count first notes;

@@ -1,6 +1,5 @@
 -- The least successor, in a search that goes round.
-use Rattle.std.proofs.Common.{◌≡◌, ℕ, ◌+◌, ◌-◌, ◌<◌, ◌⊎◌, List, length, get_or, refl, sym, subst, ◌∙◌, ap, inl, inr, arith, below_more}
-use Rattle.std.specs.Prelude.{Any}
+use Rattle.std.proofs.Common.{◌≡◌, ℕ, ◌+◌, ◌-◌, ◌<◌, List, length, get_or, refl, sym, subst, ◌∙◌, inl, inr, arith}
 use Rattle.std.proofs.lemmas.Bool.{cases_lt}
 use Rattle.std.proofs.lemmas.List.{get_or_default}
 use Rattle.pg_arena.specs.declared.player.Player.TheVariants.{Even}

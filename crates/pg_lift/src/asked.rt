@@ -7,38 +7,38 @@ ghost use Rattle.pg_map.specs.Lines.{line_at};
 ghost use Rattle.pg_map.specs.Maps.{measure_at, IsServedBy};
 ghost use Rattle.pg_lift.specs.Mirrors.Notes.{AreNotes, HasNote};
 
-use crate::notes::Notes;
+use crate::waiting::Waiting;
 use pg_arena::{Player, Vertex};
 use pg_map::{Lines, MeasureMap};
 
 /// Whether a vertex is of the part.
 #[inline(always)]
-pub(crate) fn holds<G: Lines>(map: &MeasureMap, lines: &G, notes: &Notes, v: Vertex) -> bool
-    requires notes { AreNotes (length map.now.measures) (G.line lines.now) notes.now }
-    requires there { HasNote notes.now.span v }
+pub(crate) fn holds<G: Lines>(map: &MeasureMap, lines: &G, waiting: &Waiting, v: Vertex) -> bool
+    requires waiting { AreNotes (length map.now.measures) (G.line lines.now) waiting.now }
+    requires there { HasNote waiting.now.span v }
     ensures { IsTrue result ↔ IsSome (G.line lines.now v) }
 {
-    notes.holds(v)
+    waiting.holds(v)
 }
 
 /// The priority of a vertex.
 #[inline(always)]
-pub(crate) fn priority<G: Lines>(map: &MeasureMap, lines: &G, notes: &Notes, v: Vertex) -> u32
-    requires notes { AreNotes (length map.now.measures) (G.line lines.now) notes.now }
+pub(crate) fn priority<G: Lines>(map: &MeasureMap, lines: &G, waiting: &Waiting, v: Vertex) -> u32
+    requires waiting { AreNotes (length map.now.measures) (G.line lines.now) waiting.now }
     requires held { IsSome (G.line lines.now v) }
     ensures { result ≡ (line_at (G.line lines.now) v).priority }
 {
-    notes.priority(v)
+    waiting.priority(v)
 }
 
 /// The owner of a vertex.
 #[inline(always)]
-pub(crate) fn owner<G: Lines>(map: &MeasureMap, lines: &G, notes: &Notes, v: Vertex) -> Player
-    requires notes { AreNotes (length map.now.measures) (G.line lines.now) notes.now }
+pub(crate) fn owner<G: Lines>(map: &MeasureMap, lines: &G, waiting: &Waiting, v: Vertex) -> Player
+    requires waiting { AreNotes (length map.now.measures) (G.line lines.now) waiting.now }
     requires held { IsSome (G.line lines.now v) }
     ensures { result ≡ (line_at (G.line lines.now) v).owner }
 {
-    notes.owner(v)
+    waiting.owner(v)
 }
 
 /// Whether a vertex is served by `w`.
@@ -46,17 +46,17 @@ pub(crate) fn owner<G: Lines>(map: &MeasureMap, lines: &G, notes: &Notes, v: Ver
 pub(crate) fn serves<G: Lines>(
     map: &MeasureMap,
     lines: &G,
-    notes: &Notes,
+    waiting: &Waiting,
     v: Vertex,
     w: Vertex,
 ) -> bool
-    requires notes { AreNotes (length map.now.measures) (G.line lines.now) notes.now }
+    requires waiting { AreNotes (length map.now.measures) (G.line lines.now) waiting.now }
     requires held { IsSome (G.line lines.now v) }
     requires v { v < length map.now.measures }
     requires w { w < length map.now.measures }
     ensures { IsTrue result ↔ IsServedBy map.now.bounds (G.line lines.now) map.now.measures v w }
 {
-    map.covers_at(priority(map, lines, notes, v), v, w)
+    map.covers_at(priority(map, lines, waiting, v), v, w)
 }
 
 /// Whether the measure of `a` is at most that of `b` in the components of priorities at least that of `v`; where both are
@@ -65,12 +65,12 @@ pub(crate) fn serves<G: Lines>(
 pub(crate) fn is_front_below<G: Lines>(
     map: &MeasureMap,
     lines: &G,
-    notes: &Notes,
+    waiting: &Waiting,
     v: Vertex,
     a: Vertex,
     b: Vertex,
 ) -> bool
-    requires notes { AreNotes (length map.now.measures) (G.line lines.now) notes.now }
+    requires waiting { AreNotes (length map.now.measures) (G.line lines.now) waiting.now }
     requires held { IsSome (G.line lines.now v) }
     requires a { a < length map.now.measures }
     requires b { b < length map.now.measures }
@@ -79,5 +79,5 @@ pub(crate) fn is_front_below<G: Lines>(
         (FrontAtMost (width_from map.now.bounds (line_at (G.line lines.now) v).priority)
         (measure_at map.now.measures b) (measure_at map.now.measures a)) }
 {
-    map.is_front_below(priority(map, lines, notes, v), a, b)
+    map.is_front_below(priority(map, lines, waiting, v), a, b)
 }

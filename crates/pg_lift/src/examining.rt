@@ -12,7 +12,7 @@ ghost use Rattle.pg_lift.specs.Mirrors.Notes.{AreNotes, IsSameSpan};
 ghost use Rattle.pg_lift.specs.Mirrors.Zeros.{IsAtZero};
 
 use crate::asked::{is_front_below, owner, priority, serves};
-use crate::notes::Notes;
+use crate::waiting::Waiting;
 use pg_arena::{Player, Vertex};
 use pg_map::{Lines, MeasureMap};
 
@@ -22,14 +22,14 @@ use pg_map::{Lines, MeasureMap};
 fn greatest<G: Lines>(
     map: &MeasureMap,
     lines: &G,
-    notes: &Notes,
+    waiting: &Waiting,
     v: Vertex,
     is_zero: bool,
 ) -> Vertex
     requires zero { OnTrue is_zero (IsAtZero map.now) }
     requires held { IsSome (G.line lines.now v) }
     requires within { AreWithin (length map.now.measures) (G.line lines.now) }
-    requires notes { AreNotes (length map.now.measures) (G.line lines.now) notes.now }
+    requires waiting { AreNotes (length map.now.measures) (G.line lines.now) waiting.now }
     ensures { IsBest Odd (width_from map.now.bounds (line_at (G.line lines.now) v).priority) map.now.measures
         (line_at (G.line lines.now) v).successors result }
 {
@@ -38,7 +38,7 @@ fn greatest<G: Lines>(
         return best;
     }
     for w in lines.successors(v) {
-        if is_front_below(map, lines, notes, v, best, *w) {
+        if is_front_below(map, lines, waiting, v, best, *w) {
             best = *w;
         }
     }
@@ -50,20 +50,20 @@ fn greatest<G: Lines>(
 fn first_best<G: Lines>(
     map: &MeasureMap,
     lines: &G,
-    notes: &Notes,
+    waiting: &Waiting,
     v: Vertex,
     is_zero: bool,
 ) -> Vertex
     requires zero { OnTrue is_zero (IsAtZero map.now) }
     requires held { IsSome (G.line lines.now v) }
     requires within { AreWithin (length map.now.measures) (G.line lines.now) }
-    requires notes { AreNotes (length map.now.measures) (G.line lines.now) notes.now }
+    requires waiting { AreNotes (length map.now.measures) (G.line lines.now) waiting.now }
     ensures { Keeps map.now.bounds (line_at (G.line lines.now) v) map.now.measures nothing
         (measure_at map.now.measures v) true result }
 {
-    match owner(map, lines, notes, v) {
+    match owner(map, lines, waiting, v) {
         Player::Even => lines.successors(v)[0],
-        Player::Odd => greatest(map, lines, notes, v, is_zero),
+        Player::Odd => greatest(map, lines, waiting, v, is_zero),
     }
 }
 
@@ -77,42 +77,48 @@ fn is_greatest(bounds: &[(u32, u32)], priority: u32) -> bool {
 fn serves_first<G: Lines>(
     map: &MeasureMap,
     lines: &G,
-    notes: &Notes,
+    waiting: &Waiting,
     v: Vertex,
     w: Vertex,
     is_zero: bool,
 ) -> bool
     requires zero { OnTrue is_zero (IsAtZero map.now) }
     requires held { IsSome (G.line lines.now v) }
-    requires notes { AreNotes (length map.now.measures) (G.line lines.now) notes.now }
+    requires waiting { AreNotes (length map.now.measures) (G.line lines.now) waiting.now }
     requires v { v < length map.now.measures }
     requires w { w < length map.now.measures }
     ensures { OnTrue result (IsServedBy map.now.bounds (G.line lines.now) map.now.measures v w) }
 {
     if is_zero {
-        return priority(map, lines, notes, v) % 2 == 0;
+        return priority(map, lines, waiting, v) % 2 == 0;
     }
-    serves(map, lines, notes, v, w)
+    serves(map, lines, waiting, v, w)
 }
 
 /// Looks at a new vertex: it waits where its first choice doesn't serve it. In this generation it is looked at again only
 /// if its priority is the greatest odd one.
 #[inline(always)]
-pub fn examine<G: Lines>(map: &MeasureMap, lines: &G, notes: &mut Notes, v: Vertex, is_zero: bool)
+pub fn examine<G: Lines>(
+    map: &MeasureMap,
+    lines: &G,
+    waiting: &mut Waiting,
+    v: Vertex,
+    is_zero: bool,
+)
     requires zero { OnTrue is_zero (IsAtZero map.now) }
     requires held { IsSome (G.line lines.now v) }
     requires within { AreWithin (length map.now.measures) (G.line lines.now) }
-    requires notes { AreNotes (length map.now.measures) (G.line lines.now) notes.old }
-    ensures span { IsSameSpan notes.old notes.new }
-    ensures kept { KeepsAt map.now.bounds (G.line lines.now) map.now.measures nothing notes.new.waits notes.new.best v }
-    ensures others { AreSameBut v notes.old.waits notes.new.waits notes.old.best notes.new.best }
+    requires waiting { AreNotes (length map.now.measures) (G.line lines.now) waiting.old }
+    ensures span { IsSameSpan waiting.old waiting.new }
+    ensures kept { KeepsAt map.now.bounds (G.line lines.now) map.now.measures nothing waiting.new.waits waiting.new.best v }
+    ensures others { AreSameBut v waiting.old.waits waiting.new.waits waiting.old.best waiting.new.best }
 {
-    let choice = first_best(map, lines, notes, v, is_zero);
-    notes.remember(v, choice);
-    if !is_greatest(map.bounds().pairs(), priority(map, lines, notes, v)) {
-        notes.defer(v);
+    let choice = first_best(map, lines, waiting, v, is_zero);
+    waiting.remember(v, choice);
+    if !is_greatest(map.bounds().pairs(), priority(map, lines, waiting, v)) {
+        waiting.defer(v);
     }
-    if !serves_first(map, lines, notes, v, choice, is_zero) {
-        notes.add(v);
+    if !serves_first(map, lines, waiting, v, choice, is_zero) {
+        waiting.add(v);
     }
 }

@@ -5,16 +5,16 @@
 mod asked;
 mod beginning;
 mod examining;
+mod lent;
 mod lifting;
 mod note;
-mod notes;
 mod predecessors;
 mod serving;
 mod updating;
+mod waiting;
 
-pub use beginning::{count_edges, examine_all, note_all};
 pub use examining::examine;
-pub use lifting::{is_quiet, lift_ready, take};
-pub use notes::Notes;
+pub use lent::Lent;
+pub use lifting::Lifter;
 pub use predecessors::Predecessors;
-pub use serving::{find_serving, next_ready};
+pub use waiting::Waiting;

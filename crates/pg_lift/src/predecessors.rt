@@ -121,7 +121,8 @@ impl Predecessors {
     }
 
     /// Gathers the edges of the lines, for which there is room, unless they are gathered. It takes no memory.
-    pub fn gather<G: Lines>(&mut self, lines: &G, vertices: u32)
+    #[inline(always)]
+    pub(crate) fn gather<G: Lines>(&mut self, lines: &G, vertices: u32)
         requires size { length self.old.starts.items ≡ vertices + 1 }
         requires within { AreWithin vertices (G.line lines.now) }
         requires few { edges_of (G.line lines.now) vertices < 2 ^ 32 }
@@ -146,7 +147,7 @@ impl Predecessors {
     }
 
     /// The sources of the edges to x, which are gathered.
-    pub fn of(&self, x: Vertex) -> &[Vertex]
+    pub(crate) fn of(&self, x: Vertex) -> &[Vertex]
         requires x { x + 1 < length self.now.starts.items }
         requires rise { slice_index self.now.starts.items x ≤ slice_index self.now.starts.items (x + 1) }
         requires within { slice_index self.now.starts.items (x + 1) ≤ length self.now.sources.items }

@@ -12,7 +12,7 @@ ghost use Rattle.pg_lift.specs.Mirrors.Keeps.{IsAmong, Keeps, IsKeeping, IsDue, 
 ghost use Rattle.pg_lift.specs.Mirrors.Notes.{AreNotes, IsSameSpan};
 
 use crate::asked::{holds, is_front_below, owner, serves};
-use crate::notes::Notes;
+use crate::waiting::Waiting;
 use pg_arena::{Player, Vertex};
 use pg_map::{Lines, MeasureMap};
 
@@ -49,7 +49,7 @@ fn first_place(stop: u32, count: usize) -> usize
 fn choose<G: Lines>(
     map: &MeasureMap,
     lines: &G,
-    notes: &Notes,
+    waiting: &Waiting,
     v: Vertex,
     given: Vertex,
 ) -> (Vertex, Option<usize>)
@@ -57,7 +57,7 @@ fn choose<G: Lines>(
     requires unserved { ¬ (IsServedBy map.now.bounds (G.line lines.now) map.now.measures v given) }
     requires held { IsSome (G.line lines.now v) }
     requires within { AreWithin (length map.now.measures) (G.line lines.now) }
-    requires notes { AreNotes (length map.now.measures) (G.line lines.now) notes.now }
+    requires waiting { AreNotes (length map.now.measures) (G.line lines.now) waiting.now }
     ensures among { IsAmong result.0 (line_at (G.line lines.now) v).successors }
     ensures serves { IsSome result.1 → IsServedBy map.now.bounds (G.line lines.now) map.now.measures v result.0 }
     ensures best { IfNone result.1 (IsBest Even
@@ -67,13 +67,13 @@ fn choose<G: Lines>(
 {
     let successors = lines.successors(v);
     let count = successors.len();
-    let from = first_place(notes.stop(v), count);
+    let from = first_place(waiting.stop(v), count);
     let mut least = given;
     for steps in 0..count {
         let place = place_after(from, steps, count);
         let w = successors[place];
-        if is_front_below(map, lines, notes, v, w, least) {
-            if serves(map, lines, notes, v, w) {
+        if is_front_below(map, lines, waiting, v, w, least) {
+            if serves(map, lines, waiting, v, w) {
                 return (w, Some(place));
             }
             least = w;
@@ -84,32 +84,37 @@ fn choose<G: Lines>(
 
 /// Whether a vertex that waits is served. What is remembered of it is then what serves it, or else its best successor.
 #[inline(always)]
-pub fn find_serving<G: Lines>(map: &MeasureMap, lines: &G, notes: &mut Notes, v: Vertex) -> bool
+pub(crate) fn find_serving<G: Lines>(
+    map: &MeasureMap,
+    lines: &G,
+    waiting: &mut Waiting,
+    v: Vertex,
+) -> bool
     requires held { IsSome (G.line lines.now v) }
     requires within { AreWithin (length map.now.measures) (G.line lines.now) }
-    requires notes { AreNotes (length map.now.measures) (G.line lines.now) notes.old }
+    requires waiting { AreNotes (length map.now.measures) (G.line lines.now) waiting.old }
     requires kept { Keeps map.now.bounds (line_at (G.line lines.now) v) map.now.measures nothing
-        (measure_at map.now.measures v) true (slice_index_or notes.old.best v 0) }
-    ensures span { IsSameSpan notes.old notes.new }
-    ensures waits { notes.new.waits ≡ notes.old.waits }
-    ensures others { notes.new.best ≡ slice_set notes.old.best v (slice_index_or notes.new.best v 0) }
+        (measure_at map.now.measures v) true (slice_index_or waiting.old.best v 0) }
+    ensures span { IsSameSpan waiting.old waiting.new }
+    ensures waits { waiting.new.waits ≡ waiting.old.waits }
+    ensures others { waiting.new.best ≡ slice_set waiting.old.best v (slice_index_or waiting.new.best v 0) }
     ensures kept { Keeps map.now.bounds (line_at (G.line lines.now) v) map.now.measures nothing
-        (measure_at map.now.measures v) true (slice_index_or notes.new.best v 0) }
+        (measure_at map.now.measures v) true (slice_index_or waiting.new.best v 0) }
     ensures served { OnTrue result (Keeps map.now.bounds (line_at (G.line lines.now) v) map.now.measures nothing
-        (measure_at map.now.measures v) false (slice_index_or notes.new.best v 0)) }
-    ensures ready { OnFalse result (IsReady map.now.bounds (G.line lines.now) map.now.measures notes.new.best v) }
+        (measure_at map.now.measures v) false (slice_index_or waiting.new.best v 0)) }
+    ensures ready { OnFalse result (IsReady map.now.bounds (G.line lines.now) map.now.measures waiting.new.best v) }
 {
-    let remembered = notes.best(v);
-    if serves(map, lines, notes, v, remembered) {
+    let remembered = waiting.best(v);
+    if serves(map, lines, waiting, v, remembered) {
         return true;
     }
-    match owner(map, lines, notes, v) {
+    match owner(map, lines, waiting, v) {
         Player::Even => {
-            let (w, place) = choose(map, lines, notes, v, remembered);
-            notes.remember(v, w);
+            let (w, place) = choose(map, lines, waiting, v, remembered);
+            waiting.remember(v, w);
             match place {
                 Some(place) => {
-                    notes.stop_at(v, place);
+                    waiting.stop_at(v, place);
                     true
                 }
                 None => false,
@@ -121,16 +126,20 @@ pub fn find_serving<G: Lines>(map: &MeasureMap, lines: &G, notes: &mut Notes, v:
 
 /// Takes from the list until a vertex isn't served. That one no longer waits, and is to be lifted or to wait again.
 #[inline(always)]
-pub fn next_ready<G: Lines>(map: &MeasureMap, lines: &G, notes: &mut Notes) -> Option<Vertex>
+pub(crate) fn next_ready<G: Lines>(
+    map: &MeasureMap,
+    lines: &G,
+    waiting: &mut Waiting,
+) -> Option<Vertex>
     requires within { AreWithin (length map.now.measures) (G.line lines.now) }
-    requires kept { IsKeeping (G.line lines.now) map.now notes.old }
-    ensures span { notes.new.span ≡ notes.old.span }
-    ensures due { IfSome result (IsDue (G.line lines.now) map.now notes.new) }
-    ensures quiet { IfNone result (IsKeeping (G.line lines.now) map.now notes.new) }
+    requires kept { IsKeeping (G.line lines.now) map.now waiting.old }
+    ensures span { waiting.new.span ≡ waiting.old.span }
+    ensures due { IfSome result (IsDue (G.line lines.now) map.now waiting.new) }
+    ensures quiet { IfNone result (IsKeeping (G.line lines.now) map.now waiting.new) }
     ensures closed { IfNone result (IsClosed map.now.bounds (G.line lines.now) map.now.measures) }
 {
-    while let Some(v) = notes.pop() {
-        if holds(map, lines, notes, v) && !find_serving(map, lines, notes, v) {
+    while let Some(v) = waiting.pop() {
+        if holds(map, lines, waiting, v) && !find_serving(map, lines, waiting, v) {
             return Some(v);
         }
     }

@@ -7,8 +7,8 @@ ghost use Rattle.pg_lift.specs.Mirrors.Keeps.{IsAmong, KeepsAt, IsKeeping, IsKep
 ghost use Rattle.pg_lift.specs.Mirrors.Notes.{AreNotes, IsSameSpan};
 
 use crate::asked::{is_front_below, owner, serves};
-use crate::notes::Notes;
 use crate::predecessors::Predecessors;
+use crate::waiting::Waiting;
 use pg_arena::{Player, Vertex};
 use pg_map::{Lines, MeasureMap};
 
@@ -18,33 +18,33 @@ use pg_map::{Lines, MeasureMap};
 pub(crate) fn update_predecessor<G: Lines>(
     map: &MeasureMap,
     lines: &G,
-    notes: &mut Notes,
+    waiting: &mut Waiting,
     u: Vertex,
     x: Vertex,
 )
     requires held { IsSome (G.line lines.now u) }
     requires within { AreWithin (length map.now.measures) (G.line lines.now) }
-    requires notes { AreNotes (length map.now.measures) (G.line lines.now) notes.old }
+    requires waiting { AreNotes (length map.now.measures) (G.line lines.now) waiting.old }
     requires leads { IsAmong x (line_at (G.line lines.now) u).successors }
-    requires kept { KeepsAt map.now.bounds (G.line lines.now) map.now.measures (just x) notes.old.waits notes.old.best u }
-    ensures span { IsSameSpan notes.old notes.new }
-    ensures kept { KeepsAt map.now.bounds (G.line lines.now) map.now.measures nothing notes.new.waits notes.new.best u }
-    ensures others { AreSameBut u notes.old.waits notes.new.waits notes.old.best notes.new.best }
+    requires kept { KeepsAt map.now.bounds (G.line lines.now) map.now.measures (just x) waiting.old.waits waiting.old.best u }
+    ensures span { IsSameSpan waiting.old waiting.new }
+    ensures kept { KeepsAt map.now.bounds (G.line lines.now) map.now.measures nothing waiting.new.waits waiting.new.best u }
+    ensures others { AreSameBut u waiting.old.waits waiting.new.waits waiting.old.best waiting.new.best }
 {
-    match owner(map, lines, notes, u) {
+    match owner(map, lines, waiting, u) {
         Player::Even => {
-            if notes.best(u) == x {
-                notes.add(u);
+            if waiting.best(u) == x {
+                waiting.add(u);
             }
         }
         Player::Odd => {
-            if notes.waits(u) {
-                if is_front_below(map, lines, notes, u, notes.best(u), x) {
-                    notes.remember(u, x);
+            if waiting.waits(u) {
+                if is_front_below(map, lines, waiting, u, waiting.best(u), x) {
+                    waiting.remember(u, x);
                 }
-            } else if !serves(map, lines, notes, u, x) {
-                notes.remember(u, x);
-                notes.add(u);
+            } else if !serves(map, lines, waiting, u, x) {
+                waiting.remember(u, x);
+                waiting.add(u);
             }
         }
     }
@@ -58,16 +58,16 @@ pub(crate) fn update_predecessors<G: Lines>(
     map: &MeasureMap,
     lines: &G,
     predecessors: &Predecessors,
-    notes: &mut Notes,
+    waiting: &mut Waiting,
     x: Vertex,
 )
     requires predecessors { ArePredecessorsOf (G.line lines.now) (length map.now.measures) predecessors.now }
     requires x { x < length map.now.measures }
-    requires notes { AreNotes (length map.now.measures) (G.line lines.now) notes.old }
-    requires kept { IsKeptBut map.now.bounds (G.line lines.now) map.now.measures notes.old.waits notes.old.best x
+    requires waiting { AreNotes (length map.now.measures) (G.line lines.now) waiting.old }
+    requires kept { IsKeptBut map.now.bounds (G.line lines.now) map.now.measures waiting.old.waits waiting.old.best x
         (IsListed predecessors.now.starts.items predecessors.now.sources.items x) }
-    ensures span { notes.new.span ≡ notes.old.span }
-    ensures kept { IsKeeping (G.line lines.now) map.now notes.new }
+    ensures span { waiting.new.span ≡ waiting.old.span }
+    ensures kept { IsKeeping (G.line lines.now) map.now waiting.new }
 {
     let sources = predecessors.of(x);
     let mut follows_itself = false;
@@ -76,10 +76,10 @@ pub(crate) fn update_predecessors<G: Lines>(
         if u == x {
             follows_itself = true;
         } else {
-            update_predecessor(map, lines, notes, u, x);
+            update_predecessor(map, lines, waiting, u, x);
         }
     }
     if follows_itself {
-        update_predecessor(map, lines, notes, x, x);
+        update_predecessor(map, lines, waiting, x, x);
     }
 }

@@ -1,13 +1,16 @@
 -- Maps that are lifted, from zeros to the end.
-use Rattle.std.proofs.Common.{◌≡◌, ◌∙◌, ℕ, List, length, refl, sym, subst}
+use Rattle.std.proofs.Common.{◌≡◌, ◌∙◌, ℕ, ◌<◌, List, length, refl, sym, subst}
 use Rattle.std.specs.Prelude.{All, Option}
 use Rattle.std.proofs.lemmas.List.{length-replicate}
 use Rattle.pg_measure.specs.Measures.{BoundList, MeasureValue, Fits, zeros}
 use Rattle.pg_map.specs.Lines.{Line}
-use Rattle.pg_map.specs.Maps.{MapValue, zero_map, IsMap, IsClosed, IsLeastProgressMeasure, IsLeastClosedFrom, MapAtMost, StaysUnder}
-use Rattle.pg_map.proofs.Above.{stays_trans}
+use Rattle.pg_map.specs.Maps.{MapValue, zero_map, IsMap, IsClosed, IsLeastProgressMeasure, IsLeastClosedFrom, StaysUnder}
+use Rattle.pg_map.specs.Weights.{map_weight}
+use Rattle.pg_map.proofs.Above.{lift_stays_under, stays_trans}
+use Rattle.pg_map.proofs.Weights.{lift_falls}
 use Rattle.pg_map.proofs.Joins.{zero_map_least}
 use Rattle.pg_map.proofs.Least.{least_from_zero}
+use Rattle.pg_lift.specs.Mirrors.Lifters.{LifterValue, Lifts}
 use Rattle.pg_lift.specs.Mirrors.Zeros.{IsAtZero}
 use Rattle.pg_solver.specs.Mirrors.Raised.{IsRaised}
 
@@ -25,6 +28,21 @@ raised_on lines f g h a b = record {
   under = stays_trans f.bounds lines f.measures g.measures h.measures a.size a.under
       (subst (λ (bs : BoundList). StaysUnder bs lines g.measures h.measures) a.bounds b.under);
 }
+
+-- a vertex more was lifted
+pub raised_by : {X : Type 0} (line : X → ℕ → Option Line) (first old new : LifterValue X) (v : ℕ) → old.lines ≡ first.lines
+    → Lifts line old new v → IsRaised (line first.lines) first.map old.map → IsRaised (line first.lines) first.map new.map
+raised_by line first old new v same l r = raised_on (line first.lines) first.map old.map new.map r (rw (← same) record {
+  bounds = l.same.bounds;
+  size = l.same.size;
+  under = lift_stays_under old.map.bounds (line old.lines) old.map.measures new.map.measures v l.held l.lifted;
+})
+
+-- and there is less to rise
+pub falls_by : {X : Type 0} (line : X → ℕ → Option Line) (old new : LifterValue X) (v : ℕ) (bs : BoundList) → old.map.bounds ≡ bs → Lifts line old new v
+    → map_weight bs new.map.measures < map_weight bs old.map.measures
+falls_by line old new v bs e l = subst (λ (b : BoundList). map_weight b new.map.measures < map_weight b old.map.measures) e
+    (lift_falls old.map.bounds (line old.lines) old.map.measures new.map.measures v l.below l.lifted)
 
 -- lifted from zeros to the end a map is the least progress measure
 pub least_of_lifting : (lines : ℕ → Option Line) (zero map : MapValue) → IsAtZero zero → IsRaised lines zero map

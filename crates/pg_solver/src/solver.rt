@@ -11,6 +11,7 @@ use crate::found::Found;
 use crate::lifting::lifted;
 use crate::proposed::{both_certified, certified};
 use pg_arena::Game;
+use pg_lift::Lent;
 use pg_map::{Dual, MeasureMap};
 use pg_measure::Bounds;
 use pg_search::{Proposal, Proposals, propose, propose_measure};
@@ -31,7 +32,7 @@ fn lift_game(alloc: Global, game: &Game) -> Result<MeasureMap, AllocError>
     pg_map::laws::game_lines();
     let bounds = Bounds::of(alloc, game)?;
     let zero = MeasureMap::zero(alloc, game.len() as u32, &bounds)?;
-    lifted(alloc, game, zero)
+    lifted(alloc, Lent { lines: game }, zero)
 }
 
 /// That of its dual.
@@ -44,7 +45,7 @@ fn lift_dual(alloc: Global, game: &Game) -> Result<MeasureMap, AllocError>
     pg_map::laws::game_lines_are_dual();
     let bounds = Bounds::of_dual(alloc, game)?;
     let zero = MeasureMap::zero(alloc, game.len() as u32, &bounds)?;
-    lifted(alloc, &Dual::of(game), zero)
+    lifted(alloc, Dual::of(game), zero)
 }
 
 /// The least progress measure of a game: what is proposed, if its claims show it, and else by lifting. Whatever is proposed, the answer

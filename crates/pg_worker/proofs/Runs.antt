@@ -10,7 +10,17 @@ use Rattle.pg_map.specs.Lines.{Line}
 use Rattle.pg_map.specs.Maps.{measure_at, IsLifted}
 use Rattle.pg_map.specs.declared.update.Update.{Update}
 use Rattle.pg_worker.specs.Workers.{IsLiftBy, AreLifts}
+use Rattle.pg_lift.specs.Mirrors.Lifters.{LifterValue, KeepsLines, Lifts}
 use Rattle.pg_worker.specs.Mirrors.Lifts.{AreListedLifts}
+use Rattle.pg_worker.specs.Mirrors.Parts.{PartValue, held_line}
+
+pub same_lines : (a b c : LifterValue PartValue) → KeepsLines a b → KeepsLines b c → KeepsLines a c
+same_lines a b c p q = record { lines = q.lines ∙ p.lines; span = q.span ∙ p.span; bounds = q.bounds ∙ p.bounds; size = q.size ∙ p.size }
+
+-- one more lift, of the lines of the first
+pub lift_on : (first old new : LifterValue PartValue) (v : ℕ) → KeepsLines first old → Lifts held_line old new v
+    → IsSome (held_line first.lines v) × IsLifted first.map.bounds (held_line first.lines) old.map.measures new.map.measures v
+lift_on first old new v same l = (rw same.lines at l.held, rw (same.lines, same.bounds) at l.lifted)
 
 -- a lift more
 pub lifts_more : (bs : BoundList) (lines : ℕ → Option Line) (f g h : List MeasureValue) (us : List Update) (u : Update)

@@ -1,11 +1,11 @@
 -- The map of a worker stays under the closed maps that are at least what it took.
-use Rattle.std.proofs.Common.{◌≡◌, ℕ, ◌<◌, List, [], ◌∷◌, length, sym, subst, ap, ◌∙◌, arith, inl, inr, None}
+use Rattle.std.proofs.Common.{◌≡◌, ℕ, ◌<◌, List, [], ◌∷◌, length, refl, sym, subst, ap, ◌∙◌, arith, inl, inr, None}
 use Rattle.std.specs.Prelude.{Option}
 use Rattle.std.proofs.lemmas.Bool.{cases_eq}
 use Rattle.std.proofs.lemmas.List.{get_or-set_same, get_or-set_other, length-replicate, length-set}
 use Rattle.pg_measure.specs.Measures.{BoundList, MeasureValue, AtMost, zeros}
 use Rattle.pg_map.specs.Lines.{Line}
-use Rattle.pg_map.specs.Maps.{measure_at, IsMap, zero_map, update_map, MapAtMost, IsClosed}
+use Rattle.pg_map.specs.Maps.{measure_at, IsMap, zero_map, update_map, MapAtMost, IsClosed, StaysUnder}
 use Rattle.pg_map.specs.declared.update.Update.{Update}
 use Rattle.pg_map.proofs.Above.{lift_stays_under}
 use Rattle.pg_map.proofs.Joins.{zero_map_least}
@@ -20,6 +20,10 @@ lifts_under bs lines n f g h (u ∷ us) r s m c le =
     let m' : IsMap bs (length f) h = subst (λ (x : ℕ). IsMap bs x h) (sym s) m in
     let size : length k ≡ n = ap length r.1.lifted.others ∙ (length-set f u.vertex (measure_at k u.vertex) ∙ s) in
     lifts_under bs lines n k g h us r.2 size m c (lift_stays_under bs lines f k u.vertex r.1.mine r.1.lifted h m' c le)
+
+pub lifts_stay_under : (bs : BoundList) (lines : ℕ → Option Line) (f g : List MeasureValue) (us : List Update) → AreLifts bs lines f us g
+    → StaysUnder bs lines f g
+lifts_stay_under bs lines f g us l = λ h m c le. lifts_under bs lines (length f) f g h us l refl m c le
 
 pub update_under : (bs : BoundList) (n v u : ℕ) (m : MeasureValue) (h : List MeasureValue) → v < n → IsMap bs n h
     → AtMost m (measure_at h v) → AtMost (measure_at (update_map bs n v m) u) (measure_at h u)

@@ -1,7 +1,7 @@
 -- What a worker remembers after a call.
-use Rattle.std.proofs.Common.{◌≡◌, ◌≢◌, ◌∙◌, ℕ, zero, suc, ◌+◌, ◌<◌, ◌≤◌, Bool, false, List, [], ◌∷◌, ◌++◌, length, get_or, set, subst, sym}
+use Rattle.std.proofs.Common.{◌≡◌, ◌≢◌, ◌∙◌, ℕ, zero, suc, ◌+◌, ◌^◌, ◌<◌, ◌≤◌, Bool, false, List, [], ◌∷◌, ◌++◌, length, get_or, set, subst, sym}
 use Rattle.std.proofs.Common.{refl, ap, arith, inl, inr, Some, None}
-use Rattle.std.specs.Prelude.{All, Option, IsSome, IfSome, IfNone, option_map, unwrap_or, replicate}
+use Rattle.std.specs.Prelude.{All, Option, IsSome, option_map, unwrap_or, replicate, vec_capacity}
 use Rattle.std.proofs.lemmas.Bool.{cases_eq}
 use Rattle.std.proofs.lemmas.List.{get_or-set_same, get_or-set_other, length-set, length-replicate}
 use Rattle.pg_measure.specs.Measures.{BoundList, MeasureValue}
@@ -11,16 +11,18 @@ use Rattle.pg_map.specs.Maps.{MapValue, measure_at}
 use Rattle.pg_lift.specs.declared.predecessors.Predecessors.{Predecessors}
 use Rattle.pg_worker.specs.Mirrors.Parts.{PartValue, held_line}
 use Rattle.pg_lift.specs.Mirrors.Keeps.{IsKept, Keeps, KeepsAt, AreSameBut, nothing}
+use Rattle.pg_lift.specs.Mirrors.Lifters.{LifterValue, KeepsLines, IsLifter, AreReady}
 use Rattle.pg_lift.specs.Mirrors.Predecessors.{edges_of}
 use Rattle.pg_worker.proofs.NewLines.{IsNewLine, line_same, some_back, edges_more, no_edges}
 use Rattle.pg_lift.proofs.Keeping.{same_keeps}
 use Rattle.pg_wire.specs.declared.frame.VertexLine.{VertexLine}
 use Rattle.pg_parts.specs.Frames.{told_line}
-use Rattle.pg_worker.specs.Workers.{WorkerValue, with_lines, AreAbove}
+use Rattle.pg_worker.specs.Workers.{WorkerValue, AreLifts, Lifts, with_lines, AreAbove}
 use Rattle.pg_map.specs.declared.update.Update.{Update}
-use Rattle.pg_worker.specs.Mirrors.Insides.{IsInside, AreReady, IsNext, IsWhole, AreAsBefore}
-use Rattle.pg_lift.specs.Mirrors.Notes.{Label, line_label, NotesValue, HasNote, AreNotes, IsSameSpan}
+use Rattle.pg_worker.specs.Mirrors.Insides.{IsInside, IsNext, IsWhole, AreAsBefore}
+use Rattle.pg_lift.specs.Mirrors.Notes.{Label, line_label, WaitingValue, HasNote, AreNotes, IsSameSpan}
 use Rattle.pg_lift.proofs.Noting.{notes_on, same_notes}
+use Rattle.pg_worker.proofs.Steps.{lifts_stay_under}
 
 none_held : (o : Option Line) → o ≡ None → IsSome o → ⊥
 none_held None e s = cc
@@ -46,7 +48,7 @@ no_label (suc n) zero = refl
 no_label (suc n) (suc v) = no_label n v
 
 -- no vertices
-pub worker_empty : (lines : PartValue) (map : MapValue) (notes : NotesValue) → ((v : ℕ) → held_line lines v ≡ None) → lines.edges ≡ 0
+pub worker_empty : (lines : PartValue) (map : MapValue) (notes : WaitingValue) → ((v : ℕ) → held_line lines v ≡ None) → lines.edges ≡ 0
     → length notes.waits ≡ length map.measures → length notes.best ≡ length map.measures → length lines.lines ≡ length map.measures
     → notes.span.labels ≡ replicate (length map.measures) None → IsInside lines map notes
 worker_empty lines map notes held edges b c d e = record {
@@ -108,7 +110,7 @@ kept_after bs lines lines' v l f marked marked' best best' new here others kept 
     ]
 
 -- lines with one more
-pub within_more : (lines lines' : PartValue) (map : MapValue) (notes : NotesValue) (v : ℕ) (l : Line)
+pub within_more : (lines lines' : PartValue) (map : MapValue) (notes : WaitingValue) (v : ℕ) (l : Line)
     → IsNewLine (held_line lines) (held_line lines') v l → v < length map.measures
     → All (λ w. w < length map.measures) l.successors → 0 < length l.successors → IsInside lines map notes → AreWithin (length map.measures) (held_line lines')
 within_more lines lines' map notes v l new lt ss ne w = within_after (held_line lines) (held_line lines') v (length map.measures) l new lt ss ne w.within
@@ -118,7 +120,7 @@ line_is None d l s e = cc
 line_is (Some k) d l s e = ap Some e
 
 -- and a note of it
-pub notes_more : (n : ℕ) (lines lines' : ℕ → Option Line) (notes notes' : NotesValue) (v : ℕ) (l : Line) → IsNewLine lines lines' v l
+pub notes_more : (n : ℕ) (lines lines' : ℕ → Option Line) (notes notes' : WaitingValue) (v : ℕ) (l : Line) → IsNewLine lines lines' v l
     → notes'.waits ≡ notes.waits → notes'.best ≡ notes.best
     → v < n → notes'.span.labels ≡ set notes.span.labels v (Some (line_label l))
     → HasNote notes'.span v → ((w : ℕ) → HasNote notes.span w → HasNote notes'.span w) → AreNotes n lines notes → AreNotes n lines' notes'
@@ -138,7 +140,7 @@ notes_more n lines lines' notes notes' v l new m b lt e here more a = record {
 }
 
 -- a vertex more
-pub worker_more : (lines lines' : PartValue) (map : MapValue) (notes notes' notes'' : NotesValue) (v : ℕ) (l : Line)
+pub worker_more : (lines lines' : PartValue) (map : MapValue) (notes notes' notes'' : WaitingValue) (v : ℕ) (l : Line)
     → IsNewLine (held_line lines) (held_line lines') v l → v < length map.measures → All (λ w. w < length map.measures) l.successors → 0 < length l.successors
     → length lines'.lines ≡ length lines.lines → lines'.edges ≡ lines.edges + length l.successors → notes'.waits ≡ notes.waits → notes'.best ≡ notes.best
     → AreNotes (length map.measures) (held_line lines') notes' → IsSameSpan notes' notes''
@@ -187,7 +189,7 @@ with_lines_more ls [] y = refl
 with_lines_more ls (x ∷ xs) y = with_lines_more (set ls x.vertex (Some (told_line x))) xs y
 
 -- more room, and the same lines and notes
-pub inside_same : (p p' : PartValue) (map : MapValue) (edges edges' : Predecessors) (notes notes' : NotesValue)
+pub inside_same : (p p' : PartValue) (map : MapValue) (edges edges' : Predecessors) (notes notes' : WaitingValue)
     → AreAsBefore p p' edges edges' notes notes' → IsInside p map notes → IsInside p' map notes'
 inside_same p p' map edges edges' notes notes' e i = record {
   within = rw e.lines i.within;
@@ -199,25 +201,60 @@ inside_same p p' map edges edges' notes notes' e i = record {
   size = rw e.lines i.size;
 }
 
-ready_same : (p p' : PartValue) (map : MapValue) (edges edges' : Predecessors) (notes notes' : NotesValue)
-    → AreAsBefore p p' edges edges' notes notes' → AreReady p map edges → AreReady p' map edges'
-ready_same p p' map edges edges' notes notes' e r = record {
+abbrev pub lifter_of : PartValue → MapValue → WaitingValue → LifterValue PartValue
+lifter_of p map notes = record { lines = p; map = map; span = notes.span }
+
+-- what is known of a lifter once its worker has opened it
+pub whole_of : (p : PartValue) (map : MapValue) (notes : WaitingValue) (lifter : LifterValue PartValue) (next listings : ℕ)
+    → lifter_of p map notes ≡ lifter → IsWhole lifter next listings → IsWhole (lifter_of p map notes) next listings
+whole_of p map notes lifter next listings e w = subst (λ (l : LifterValue PartValue). IsWhole l next listings) (sym e) w
+
+pub inside_of : (p : PartValue) (map : MapValue) (edges : Predecessors) (notes : WaitingValue) (next listings : ℕ)
+    → IsLifter (held_line p) map edges notes → IsWhole (lifter_of p map notes) next listings → IsInside p map notes
+inside_of p map edges notes next listings l w = record { within = l.within; count = w.count; kept = l.kept; size = w.size }
+
+ready_same : (p p' : PartValue) (map : MapValue) (edges edges' : Predecessors) (notes notes' : WaitingValue)
+    → AreAsBefore p p' edges edges' notes notes' → AreReady (held_line p) map edges → AreReady (held_line p') map edges'
+ready_same p p' map edges edges' notes notes' e r = rw e.lines record {
   size = ap length e.starts ∙ r.size;
-  few = omega (arith, e.count, r.few);
-  room = omega (arith, e.count, e.more, r.room);
-  right = λ q. rw (e.lines, e.starts, e.sources) (r.right (sym e.gathered ∙ q));
+  few = r.few;
+  room = omega (arith, e.more, r.room);
+  right = λ q. rw (e.starts, e.sources) (r.right (sym e.gathered ∙ q));
   zero = λ q. r.zero (sym e.before ∙ q);
+}
+
+pub lifter_same : (p p' : PartValue) (map : MapValue) (edges edges' : Predecessors) (notes notes' : WaitingValue)
+    → AreAsBefore p p' edges edges' notes notes' → IsInside p map notes → IsLifter (held_line p) map edges notes
+    → IsLifter (held_line p') map edges' notes'
+lifter_same p p' map edges edges' notes notes' e i l =
+    let same = inside_same p p' map edges edges' notes notes' e i in
+    record { within = same.within; ready = ready_same p p' map edges edges' notes notes' e l.ready; kept = same.kept }
+
+-- lines more, for whose edges there is room; they are to be gathered anew
+pub lifter_more : (p p' : PartValue) (map : MapValue) (edges edges' : Predecessors) (notes' : WaitingValue) → IsInside p' map notes'
+    → AreReady (held_line p) map edges → edges'.starts.items ≡ edges.starts.items → edges'.was_gathered ≡ edges.was_gathered
+    → edges'.is_gathered ≡ false → p'.edges < 2 ^ 32 → p'.edges ≤ vec_capacity edges'.sources → IsLifter (held_line p') map edges' notes'
+lifter_more p p' map edges edges' notes' i r starts before off few room = record {
+  within = i.within;
+  ready = record {
+    size = ap length starts ∙ r.size;
+    few = omega (arith, i.count, few);
+    room = omega (arith, i.count, room);
+    right = λ q. absurd (cc (q, off));
+    zero = λ q. r.zero (sym before ∙ q);
+  };
+  kept = i.kept;
 }
 
 pub next_same : (p p' : PartValue) (n : ℕ) → p'.lines ≡ p.lines → IsNext p n → IsNext p' n
 next_same p p' n l i = record { above = rw l i.above; least = rw l i.least }
 
-pub whole_same : (p p' : PartValue) (map : MapValue) (edges edges' : Predecessors) (notes notes' : NotesValue) (next listings : ℕ)
+pub whole_same : (p p' : PartValue) (map : MapValue) (edges edges' : Predecessors) (notes notes' : WaitingValue) (next listings : ℕ)
     → AreAsBefore p p' edges edges' notes notes' → p'.first ≡ p.first
-    → IsWhole p map edges notes next listings → IsWhole p' map edges' notes' next listings
+    → IsWhole (lifter_of p map notes) next listings → IsWhole (lifter_of p' map notes') next listings
 whole_same p p' map edges edges' notes notes' next listings e f w = record {
-  inside = inside_same p p' map edges edges' notes notes' e w.inside;
-  ready = ready_same p p' map edges edges' notes notes' e w.ready;
+  count = rw e.lines (w.count ∙ sym e.count);
+  size = rw e.lines w.size;
   above = next_same p p' next e.lines w.above;
   first = let a = w.first in omega arith;
   note_first = λ some.
@@ -250,16 +287,15 @@ above_next p n ls next above = λ i d lt. next.least (get_or ls i d).vertex (λ 
 pub next_above : (p : PartValue) (n : ℕ) (ls : List VertexLine) → IsNext p n → All (λ l. n ≤ l.vertex) ls → AreAbove p.lines ls
 next_above p n ls next all = λ v s i d lt. let a = next.above v s in let b = all i d lt in omega arith
 
-abbrev worker_of : MapValue → List (Option Line) → List Update → List ℕ → WorkerValue
-worker_of m ls us vs = record { bounds = m.bounds; lines = ls; map = m.measures; kept = us; lifted = vs }
+abbrev pub worker_of : LifterValue PartValue → List Update → List ℕ → WorkerValue
+worker_of l us vs = record { bounds = l.map.bounds; lines = l.lines.lines; map = l.map.measures; kept = us; lifted = vs }
 
-pub same_worker : (m m' : MapValue) (ls : List (Option Line)) (us : List Update) (vs : List ℕ) → m ≡ m' → worker_of m ls us vs ≡ worker_of m' ls us vs
-same_worker m m' ls us vs e = ap (λ (x : MapValue). worker_of x ls us vs) e
-
-pub if_some : {X : Type 0} (o : Option X) (P Q : X → Type 0) → ((x : X) → P x → Q x) → IfSome o P → IfSome o Q
-if_some None P Q f h = h
-if_some (Some x) P Q f h = f x h
-
-pub if_none : {X : Type 0} (o : Option X) (P Q : Type 0) → (P → Q) → IfNone o P → IfNone o Q
-if_none None P Q f h = f h
-if_none (Some x) P Q f h = h
+-- lifts between workers with the same updates kept, or others
+pub lifts_of : (old new : LifterValue PartValue) (kept kept' us : List Update) (vs vs' : List ℕ) → KeepsLines old new
+    → AreLifts old.map.bounds (held_line old.lines) old.map.measures us new.map.measures
+    → Lifts (worker_of old kept vs) (worker_of new kept' vs') us
+lifts_of old new kept kept' us vs vs' same lifts = record {
+  part = record { bounds = same.bounds; lines = ap (λ (p : PartValue). p.lines) same.lines; size = same.size };
+  lifts = lifts;
+  under = lifts_stay_under old.map.bounds (held_line old.lines) old.map.measures new.map.measures us lifts;
+}

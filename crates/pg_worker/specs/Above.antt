@@ -4,7 +4,6 @@ use Rattle.std.specs.List.{flat_map}
 use Rattle.pg_map.specs.Maps.{MapValue, MapAtMost, IsMap, IsClosed}
 use Rattle.pg_wire.specs.declared.frame.Setup.{Setup}
 use Rattle.pg_wire.specs.declared.frame.Frame.{Frame}
-use Rattle.pg_wire.specs.declared.frame.Frame.TheVariants as frames
 use Rattle.pg_wire.specs.Spelling.{spelling}
 use Rattle.pg_wire.specs.Bytes.{Spells}
 use Rattle.pg_parts.specs.Frames.{IsAtLeast, lines_in, measures_in, IsClosedAt}

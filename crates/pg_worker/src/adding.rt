@@ -13,7 +13,7 @@ ghost use Rattle.pg_lift.specs.Mirrors.Zeros.{IsAtZero};
 
 use crate::part::Part;
 use pg_arena::{Player, Vertex};
-use pg_lift::{Notes, Predecessors, examine};
+use pg_lift::{Predecessors, Waiting, examine};
 use pg_map::MeasureMap;
 use pg_measure::Bounds;
 use pg_wire::{LineHead, VertexLine};
@@ -35,63 +35,63 @@ fn player(number: u8) -> Player
 pub(crate) fn add_line(
     map: &MeasureMap,
     part: &mut Part,
-    notes: &mut Notes,
+    waiting: &mut Waiting,
     head: LineHead,
     successors: &[u32],
     is_zero: bool,
 )
     requires zero { OnTrue is_zero (IsAtZero map.now) }
-    requires inside { IsInside part.old map.now notes.old }
+    requires inside { IsInside part.old map.now waiting.old }
     requires new { ¬ (IsSome (held_line part.old head.vertex)) }
     requires fits { FitsGame map.now.bounds (length map.now.measures) (line_with head successors.now) }
     requires some { 0 < length successors.now }
     requires place { HasPlace part.old head.vertex }
-    requires note { HasRoom notes.old.span head.vertex }
+    requires note { HasRoom waiting.old.span head.vertex }
     requires few { part.old.edges + length successors.now < 2 ^ 32 }
     requires room { part.old.edges + length successors.now ≤ part.old.room }
-    ensures inside { IsInside part.new map.now notes.new }
+    ensures inside { IsInside part.new map.now waiting.new }
     ensures lines { part.new.lines ≡ slice_set part.old.lines head.vertex
         (Some (told_line (line_with head successors.now))) }
     ensures edges { part.new.edges ≡ part.old.edges + length successors.now }
     ensures first { part.new.first ≡ part.old.first }
     ensures places { (v : ℕ) → HasPlace part.old v → HasPlace part.new v }
     ensures room { part.new.room ≡ part.old.room }
-    ensures note_first { notes.new.span.first ≡ notes.old.span.first }
-    ensures note_room { notes.new.span.room ≡ notes.old.span.room }
+    ensures note_first { waiting.new.span.first ≡ waiting.old.span.first }
+    ensures note_room { waiting.new.span.room ≡ waiting.old.span.room }
 {
     let v = Vertex(head.vertex);
     let owner = player(head.owner);
     part.add(v, head.priority, owner, successors);
-    notes.hold(v, head.priority, owner);
-    examine(map, part, notes, v, is_zero);
+    waiting.hold(v, head.priority, owner);
+    examine(map, part, waiting, v, is_zero);
 }
 
 /// Adds vertices, which rise from `next` on, and for which there is room. `is_zero` tells that all measures are zero.
 pub(crate) fn add_lines(
     map: &MeasureMap,
     part: &mut Part,
-    notes: &mut Notes,
+    waiting: &mut Waiting,
     next: &mut u64,
     lines: &[VertexLine],
     is_zero: bool,
 )
     requires zero { OnTrue is_zero (IsAtZero map.now) }
-    requires inside { IsInside part.old map.now notes.old }
+    requires inside { IsInside part.old map.now waiting.old }
     requires next { IsNext part.old next.old }
     requires above { All (λ l. next.old ≤ l.vertex) lines.now }
     requires fit { All (FitsGame map.now.bounds (length map.now.measures)) lines.now }
     requires lines { All IsVertexLine lines.now }
     requires rising { AllPairs (λ l m. l.vertex < m.vertex) lines.now }
     requires places { All (λ l. HasPlace part.old l.vertex) lines.now }
-    requires notes { All (λ l. HasRoom notes.old.span l.vertex) lines.now }
+    requires waiting { All (λ l. HasRoom waiting.old.span l.vertex) lines.now }
     requires few { part.old.edges + sum_by edge_count lines.now < 2 ^ 32 }
     requires room { part.old.edges + sum_by edge_count lines.now ≤ part.old.room }
-    ensures inside { IsInside part.new map.now notes.new }
+    ensures inside { IsInside part.new map.now waiting.new }
     ensures next { IsNext part.new next.new }
     ensures lines { part.new.lines ≡ with_lines part.old.lines lines.now }
     ensures edges { part.new.edges ≡ part.old.edges + sum_by edge_count lines.now }
     ensures first { 0 < length lines.now → part.new.first ≤ next.new }
-    ensures note_first { 0 < length lines.now → notes.new.span.first ≤ next.new }
+    ensures note_first { 0 < length lines.now → waiting.new.span.first ≤ next.new }
 {
     for line in lines {
         let head = LineHead {
@@ -99,7 +99,14 @@ pub(crate) fn add_lines(
             priority: line.priority,
             owner: line.owner,
         };
-        add_line(map, part, notes, head, line.successors.as_slice(), is_zero);
+        add_line(
+            map,
+            part,
+            waiting,
+            head,
+            line.successors.as_slice(),
+            is_zero,
+        );
         *next = u64::from(line.vertex) + 1;
     }
 }
@@ -108,7 +115,7 @@ pub(crate) fn add_lines(
 #[inline(always)]
 pub(crate) fn make_room(
     predecessors: &mut Predecessors,
-    notes: &mut Notes,
+    waiting: &mut Waiting,
     part: &mut Part,
     from: u32,
     to: u32,
@@ -116,15 +123,15 @@ pub(crate) fn make_room(
 ) -> Result<(), AllocError>
     requires first { part.old.first ≤ from }
     requires from { from < length part.old.lines }
-    requires note_first { 0 < notes.old.span.size → notes.old.span.first ≤ from }
-    requires note_from { from < length notes.old.waits }
-    ensures same { AreAsBefore part.old part.new predecessors.old predecessors.new notes.old notes.new }
+    requires note_first { 0 < waiting.old.span.size → waiting.old.span.first ≤ from }
+    requires note_from { from < length waiting.old.waits }
+    ensures same { AreAsBefore part.old part.new predecessors.old predecessors.new waiting.old waiting.new }
     ensures first { OnErr result (part.new.first ≡ part.old.first) }
-    ensures room { OnOk result (HaveRoom part.new predecessors.new notes.new from to count) }
+    ensures room { OnOk result (HaveRoom part.new predecessors.new waiting.new from to count) }
 {
     let all = part.edges().checked_add(count).ok_or(AllocError)?;
     predecessors.reserve(all)?;
-    notes.reserve(from, to)?;
+    waiting.reserve(from, to)?;
     part.reserve(from, to, count)
 }
 

@@ -1,26 +1,22 @@
 //! Workers.
 
-ghost use Rattle.std.specs.Prelude.{◌≡◌, ◌↔◌, ◌+◌, ◌<◌, ◌≤◌, ◌⊎◌, [], ◌∷◌, true, length, All, IfOk, IfErr, IfSome, IfNone, IsOk, OnOk, OnErr, IsTrue, IsSome, vec_capacity};
+ghost use Rattle.std.specs.Prelude.{◌≡◌, ◌↔◌, ◌+◌, ◌<◌, ◌≤◌, ◌⊎◌, [], ◌∷◌, true, length, All, IfOk, IfErr, IfSome, IfNone, IsOk, OnOk, OnErr, IsTrue, IsSome};
 ghost use Rattle.pg_wire.specs.Lines.{line_with};
 ghost use Rattle.pg_wire.specs.Well.{IsSetup, IsVertices};
 ghost use Rattle.pg_measure.specs.Measures.{Fits};
 ghost use Rattle.pg_measure.specs.Views.{measure_in};
 ghost use Rattle.pg_map.specs.Maps.{measure_at, zero_map, IsServed};
-ghost use Rattle.pg_map.specs.Lines.{AreWithin};
-ghost use Rattle.pg_lift.specs.Mirrors.Predecessors.{ArePredecessorsOf, edges_of};
-ghost use Rattle.pg_worker.specs.Mirrors.Insides.{AreReady};
-ghost use Rattle.pg_worker.specs.Mirrors.Parts.{held_line};
 ghost use Rattle.pg_worker.specs.Workers.{part_line, new_worker, with_lines, AreAbove, FitsGame, IsWorker, RefusesLines, CanTake, Takes, Lifts, IsTurn, IsListedTurn};
 
 use crate::adding::{add_line, add_lines, are_from, count_edges, fit_game, fits_line, make_room};
-use crate::lifting::{lift_one, lift_some, lift_turn, receive};
+use crate::lifting::{lift_some, lift_turn};
 use crate::part::Part;
 use crate::{Lifted, WorkerFault};
 use pg_arena::Vertex;
-use pg_lift::{Notes, Predecessors};
+use pg_lift::{Lifter, Predecessors, Waiting};
 use pg_map::{Lines, MeasureMap, Update, View};
-use pg_measure::Bounds;
-use pg_parts::VertexSet;
+use pg_measure::{Bounds, Measure};
+use pg_parts::{VertexSet, fits};
 use pg_wire::{LineHead, Setup, VertexLine};
 use std::alloc::{AllocError, Global};
 use std::marker::Model;
@@ -30,11 +26,7 @@ use std::mem;
 /// and what was lifted last; how it finds the vertices that can be lifted, they don't see.
 #[derive(Drop)]
 pub struct Worker {
-    map: MeasureMap,
-    part: Part,
-    predecessors: Predecessors,
-    /// What is remembered of the vertices of the part, and which of them have to be looked at; the others are served.
-    notes: Notes,
+    lifter: Lifter<Part>,
     /// One more than the greatest vertex of the part, or 0.
     next: u64,
     kept: Vec<Update>,
@@ -48,21 +40,9 @@ impl Model for Worker {
 
     ghost use Rattle.pg_worker.specs.Mirrors.Insides.{IsWhole};
 
-    ghost view = { λ w. record { bounds = w.map.bounds; lines = w.part.lines; map = w.map.measures; kept = w.kept.items; lifted = w.lifted.vertices } };
+    ghost view = { λ w. record { bounds = w.lifter.map.bounds; lines = w.lifter.lines.lines; map = w.lifter.map.measures; kept = w.kept.items; lifted = w.lifted.vertices } };
 
-    ghost invariant = { λ w. IsWhole w.part w.map w.predecessors w.notes w.next w.lifted.count };
-}
-
-/// Gathers the edges of a part.
-fn gather(predecessors: &mut Predecessors, part: &Part, map: &MeasureMap)
-    requires within { AreWithin (length map.now.measures) (held_line part.now) }
-    requires count { edges_of (held_line part.now) (length map.now.measures) ≡ part.now.edges }
-    requires ready { AreReady part.now map.now predecessors.old }
-    ensures room { vec_capacity predecessors.new.sources ≡ vec_capacity predecessors.old.sources }
-    ensures predecessors { ArePredecessorsOf (held_line part.now) (length map.now.measures) predecessors.new }
-    ensures before { predecessors.new.was_gathered ≡ true }
-{
-    predecessors.gather(part, map.len());
+    ghost invariant = { λ w. IsWhole w.lifter w.next w.lifted.count };
 }
 
 /// The map of a new worker.
@@ -86,14 +66,17 @@ impl Worker {
         let vertices = setup.vertices;
         let lifted = VertexSet::new(alloc, vertices)?;
         let predecessors = Predecessors::new(alloc, vertices)?;
-        let notes = Notes::new(alloc, vertices)?;
+        let waiting = Waiting::new(alloc, vertices)?;
         let map = zeros(alloc, setup)?;
-        let part = Part::new(alloc, vertices);
-        Ok(Worker {
+        let lines = Part::new(alloc, vertices);
+        let lifter = Lifter {
+            lines,
             map,
-            part,
             predecessors,
-            notes,
+            waiting,
+        };
+        Ok(Worker {
+            lifter,
             next: 0,
             kept: Vec::new(alloc),
             lifted,
@@ -116,7 +99,7 @@ impl Worker {
         if !are_from(self.next, lines) {
             return Err(WorkerFault::Order);
         }
-        if !fit_game(self.map.bounds(), self.map.len(), lines) {
+        if !fit_game(self.lifter.bounds(), self.lifter.len(), lines) {
             return Err(WorkerFault::BadUpdate);
         }
         if lines.is_empty() {
@@ -125,22 +108,23 @@ impl Worker {
         let from = lines[0].vertex;
         let to = lines[lines.len() - 1].vertex;
         let count = count_edges(lines).ok_or(AllocError)?;
+        let lifter = &mut self.lifter;
         make_room(
-            &mut self.predecessors,
-            &mut self.notes,
-            &mut self.part,
+            &mut lifter.predecessors,
+            &mut lifter.waiting,
+            &mut lifter.lines,
             from,
             to,
             count,
         )?;
-        self.predecessors.is_gathered = false;
+        lifter.predecessors.is_gathered = false;
         add_lines(
-            &self.map,
-            &mut self.part,
-            &mut self.notes,
+            &lifter.map,
+            &mut lifter.lines,
+            &mut lifter.waiting,
             &mut self.next,
             lines,
-            !self.predecessors.was_gathered,
+            !lifter.predecessors.was_gathered,
         );
         Ok(())
     }
@@ -162,27 +146,27 @@ impl Worker {
         if u64::from(vertex) < self.next {
             return Err(WorkerFault::Order);
         }
-        let count = self.map.len();
-        if !fits_line(self.map.bounds(), count, head, successors) {
+        if !fits_line(self.lifter.bounds(), self.lifter.len(), head, successors) {
             return Err(WorkerFault::BadUpdate);
         }
         let count = successors.len();
+        let lifter = &mut self.lifter;
         make_room(
-            &mut self.predecessors,
-            &mut self.notes,
-            &mut self.part,
+            &mut lifter.predecessors,
+            &mut lifter.waiting,
+            &mut lifter.lines,
             vertex,
             vertex,
             count,
         )?;
-        self.predecessors.is_gathered = false;
+        lifter.predecessors.is_gathered = false;
         add_line(
-            &self.map,
-            &mut self.part,
-            &mut self.notes,
+            &lifter.map,
+            &mut lifter.lines,
+            &mut lifter.waiting,
             head,
             successors,
-            !self.predecessors.was_gathered,
+            !lifter.predecessors.was_gathered,
         );
         self.next = u64::from(vertex) + 1;
         Ok(())
@@ -206,15 +190,10 @@ impl Worker {
         ensures refused { IfErr result (λ e. e ≡ WorkerFault.BadUpdate) }
         ensures same { OnErr result (self.new ≡ self.old) }
     {
-        gather(&mut self.predecessors, &self.part, &self.map);
-        receive(
-            &mut self.map,
-            &self.part,
-            &self.predecessors,
-            &mut self.notes,
-            vertex,
-            measure,
-        )
+        if vertex >= self.lifter.len() || !fits(measure, self.lifter.bounds()) {
+            return Err(WorkerFault::BadUpdate);
+        }
+        Ok(self.lifter.take(Vertex(vertex), measure))
     }
 
     /// Lifts a vertex of the part. None if it is served. It is refused by NotMine exactly outside the part, and else for want
@@ -229,20 +208,15 @@ impl Worker {
             ⊎ ((e ≡ WorkerFault.NotMine) × ¬ (IsSome (part_line self.old.lines v)))) }
         ensures same { OnErr result (self.new ≡ self.old) }
     {
-        gather(&mut self.predecessors, &self.part, &self.map);
-        if !self.part.holds(v) {
+        if !self.holds(v) {
             return Err(WorkerFault::NotMine);
         }
-        let alloc = *self.kept.allocator();
-        let update = lift_one(
-            &mut self.map,
-            &self.part,
-            &self.predecessors,
-            &mut self.notes,
-            alloc,
-            v,
-        )?;
-        Ok(update)
+        let mut measure = Measure::zero(*self.kept.allocator(), self.lifter.bounds())?;
+        if !self.lifter.lift(v) {
+            return Ok(None);
+        }
+        self.lifter.copy_to(v, &mut measure);
+        Ok(Some(Update { vertex: v, measure }))
     }
 
     /// Lifts at most `budget` vertices of the part, and fewer only if none can be lifted any more. It is refused for want of memory
@@ -254,16 +228,8 @@ impl Worker {
         ensures broken_off { OnErr result (Lifts self.old self.new self.new.kept × (length self.new.kept ≤ budget)) }
         ensures lifted { self.new.lifted ≡ self.old.lifted }
     {
-        gather(&mut self.predecessors, &self.part, &self.map);
         self.kept.clear();
-        let quiet = lift_some(
-            &mut self.map,
-            &self.part,
-            &self.predecessors,
-            &mut self.notes,
-            &mut self.kept,
-            budget,
-        )?;
+        let quiet = lift_some(&mut self.lifter, &mut self.kept, budget)?;
         let alloc = *self.kept.allocator();
         let updates = mem::replace(&mut self.kept, Vec::new(alloc));
         Ok(Lifted { quiet, updates })
@@ -274,16 +240,8 @@ impl Worker {
     pub fn lift_turn(&mut self, budget: u32) -> bool
         ensures { IsListedTurn self.old self.new budget result }
     {
-        gather(&mut self.predecessors, &self.part, &self.map);
         self.lifted.clear();
-        let quiet = lift_turn(
-            &mut self.map,
-            &self.part,
-            &self.predecessors,
-            &mut self.notes,
-            &mut self.lifted,
-            budget,
-        );
+        let quiet = lift_turn(&mut self.lifter, &mut self.lifted, budget);
         self.lifted.sort();
         quiet
     }
@@ -294,7 +252,8 @@ impl Worker {
         ensures value { measure_in result ≡ measure_at self.now.map v }
         ensures fits { Fits self.now.bounds (measure_in result) }
     {
-        self.map.get(v)
+        let lifter = &self.lifter;
+        lifter.map.get(v)
     }
 
     /// How many vertices the game has.
@@ -302,21 +261,22 @@ impl Worker {
         ensures value { result ≡ length self.now.map }
         ensures worker { IsWorker self.now }
     {
-        self.map.len()
+        self.lifter.len()
     }
 
     /// The bounds of the measures.
     pub fn bounds(&self) -> &Bounds
         ensures { result.now ≡ self.now.bounds }
     {
-        self.map.bounds()
+        self.lifter.bounds()
     }
 
     /// Whether a vertex is of the part.
     pub fn holds(&self, v: Vertex) -> bool
         ensures { IsTrue result ↔ IsSome (part_line self.now.lines v) }
     {
-        self.part.holds(v)
+        let lifter = &self.lifter;
+        lifter.lines.holds(v)
     }
 
     /// The updates of a `lift_some` that was refused, in the order in which they were made. None before the first one, and

@@ -7,7 +7,7 @@ use Rattle.pg_measure.specs.Mirrors.Rows.{FrontAtMost}
 use Rattle.pg_map.specs.Lines.{Line, line_at}
 use Rattle.pg_map.specs.Maps.{MapValue, measure_at, IsServedBy}
 use Rattle.pg_map.specs.Mirrors.Tables.{IsBest}
-use Rattle.pg_lift.specs.Mirrors.Notes.{NotesValue, AreNotes}
+use Rattle.pg_lift.specs.Mirrors.Notes.{WaitingValue, AreNotes}
 
 -- u is one of the vertices
 abbrev pub IsAmong : ℕ → List ℕ → Type 0
@@ -66,12 +66,12 @@ pub record IsReady (bounds : BoundList) (lines : ℕ → Option Line) (f : List 
   pub unserved : ¬ (IsServedBy bounds lines f v (slice_index_or kept v 0))
 
 -- the notes are those of the lines, and all is kept of them
-pub record IsKeeping (lines : ℕ → Option Line) (map : MapValue) (notes : NotesValue) : Type 0 where
-  pub noted : AreNotes (length map.measures) lines notes
-  pub kept : IsKept map.bounds lines map.measures notes.waits notes.best
+pub record IsKeeping (lines : ℕ → Option Line) (map : MapValue) (waiting : WaitingValue) : Type 0 where
+  pub noted : AreNotes (length map.measures) lines waiting
+  pub kept : IsKept map.bounds lines map.measures waiting.waits waiting.best
 
 -- the same, if v, which is ready, waited again
-pub record IsDue (lines : ℕ → Option Line) (map : MapValue) (notes : NotesValue) (v : ℕ) : Type 0 where
-  pub noted : AreNotes (length map.measures) lines notes
-  pub ready : IsReady map.bounds lines map.measures notes.best v
-  pub kept : IsKept map.bounds lines map.measures (slice_set notes.waits v true) notes.best
+pub record IsDue (lines : ℕ → Option Line) (map : MapValue) (waiting : WaitingValue) (v : ℕ) : Type 0 where
+  pub noted : AreNotes (length map.measures) lines waiting
+  pub ready : IsReady map.bounds lines map.measures waiting.best v
+  pub kept : IsKept map.bounds lines map.measures (slice_set waiting.waits v true) waiting.best

@@ -27,7 +27,7 @@ pub record Span : Type 0 where
   pub labels : List (Option Label)
 
 -- for each vertex whether it waits and what is remembered of it, and the vertices that have notes, with their labels
-pub record NotesValue : Type 0 where
+pub record WaitingValue : Type 0 where
   pub waits : List Bool
   pub best : List ℕ
   pub span : Span
@@ -43,13 +43,13 @@ pub record HasRoom (span : Span) (v : ℕ) : Type 0 where
   pub before : v < span.first + span.room
 
 -- as many vertices, and notes of the same ones with the same labels
-pub record IsSameSpan (old new : NotesValue) : Type 0 where
+pub record IsSameSpan (old new : WaitingValue) : Type 0 where
   pub waits : length new.waits ≡ length old.waits
   pub best : length new.best ≡ length old.best
   pub span : new.span ≡ old.span
 
 -- the same notes; where there are none, they may begin elsewhere
-pub record AreSameNotes (old new : NotesValue) : Type 0 where
+pub record AreSameNotes (old new : WaitingValue) : Type 0 where
   pub waits : new.waits ≡ old.waits
   pub best : new.best ≡ old.best
   pub size : new.span.size ≡ old.span.size
@@ -57,7 +57,7 @@ pub record AreSameNotes (old new : NotesValue) : Type 0 where
   pub labels : new.span.labels ≡ old.span.labels
 
 -- of so many vertices; each that has a line has a note, and the labels are those of the lines
-pub record AreNotes (count : ℕ) (lines : ℕ → Option Line) (notes : NotesValue) : Type 0 where
+pub record AreNotes (count : ℕ) (lines : ℕ → Option Line) (notes : WaitingValue) : Type 0 where
   pub waits : length notes.waits ≡ count
   pub best : length notes.best ≡ count
   pub noted : (v : ℕ) → IsSome (lines v) → HasNote notes.span v

@@ -4,7 +4,7 @@ use Rattle.pg_map.specs.Lines.{line_at}
 use Rattle.pg_map.specs.Maps.{measure_at, IsServedBy}
 use Rattle.pg_lift.proofs.Keeping.{keeps_served, keeps_marked, same_keeps}
 use Rattle.pg_lift.specs.Mirrors.Keeps.{Keeps, nothing}
-use Rattle.pg_lift.specs.Mirrors.Notes.{NotesValue}
+use Rattle.pg_lift.specs.Mirrors.Notes.{WaitingValue}
 use Rattle.pg_lift.proofs.examining.examine.Goals as goal
 use Rattle.pg_lift.proofs.examining.examine.Goals.{then-not-is_greatest, else-not-is_greatest}
 
@@ -17,16 +17,16 @@ returns-else-not-serves_first-clause-kept g c =
     let b = c.first_best-choice.result in
     let l = line_at lines v in
     let n : v < length f = c.requires.within.numbers v c.requires.held in
-    let lt : v < length c.args.notes.now.best = let z = c.requires.notes.best in omega arith in
-    let here : get_or (set c.args.notes.now.best v b) v 0 ≡ b = get_or-set_same c.args.notes.now.best v b 0 lt in
+    let lt : v < length c.args.waiting.now.best = let z = c.requires.waiting.best in omega arith in
+    let here : get_or (set c.args.waiting.now.best v b) v 0 ≡ b = get_or-set_same c.args.waiting.now.best v b 0 lt in
     let served : IsServedBy bs lines f v b = rw c.if-not-serves_first.false at c.serves_first.ensures in
-    let same : c.if-not-is_greatest.notes ≡ c.remember.new.self = elim c.if-not-is_greatest.branch [
-      | then-not-is_greatest w ↦ w.notes-is
+    let same : c.if-not-is_greatest.waiting ≡ c.remember.new.self = elim c.if-not-is_greatest.branch [
+      | then-not-is_greatest w ↦ w.waiting-is
           ∙ w.defer.ensures
-      | else-not-is_greatest w ↦ w.notes-is
+      | else-not-is_greatest w ↦ w.waiting-is
     ] in
     let k = same_keeps bs l f nothing (measure_at f v) _ _ b _ refl here
-    (keeps_marked bs l f (measure_at f v) (get_or c.if-not-is_greatest.notes.waits v false) b
+    (keeps_marked bs l f (measure_at f v) (get_or c.if-not-is_greatest.waiting.waits v false) b
     (keeps_served bs l f (measure_at f v) b served c.first_best-choice.ensures)) in
-    subst (λ (bests : List ℕ). Keeps bs l f nothing (measure_at f v) (get_or c.if-not-is_greatest.notes.waits v false) (get_or bests v 0))
-    (sym (ap (λ (n : NotesValue). n.best) same ∙ c.remember.ensures.best)) k
+    subst (λ (bests : List ℕ). Keeps bs l f nothing (measure_at f v) (get_or c.if-not-is_greatest.waiting.waits v false) (get_or bests v 0))
+    (sym (ap (λ (n : WaitingValue). n.best) same ∙ c.remember.ensures.best)) k

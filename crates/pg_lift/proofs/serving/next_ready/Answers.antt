@@ -8,13 +8,13 @@ use Rattle.pg_lift.proofs.Noting.{notes_on, same_span, span_marked}
 use Rattle.pg_lift.proofs.serving.next_ready.Goals as goal
 use Rattle.pg_lift.proofs.serving.next_ready.Goals.{else-holds-via-then-holds+else-not-find_serving, else-holds-via-else-holds}
 
-pub find_serving-requires-clause-notes : goal.find_serving-requires-clause-notes
-find_serving-requires-clause-notes g c =
+pub find_serving-requires-clause-waiting : goal.find_serving-requires-clause-waiting
+find_serving-requires-clause-waiting g c =
     let lines = g.G.Lines.line c.args.lines.now in
     let n = length c.args.map.now.measures in
     let p = c.in-Some.ensures in
-    notes_on n lines c.loop-v.notes c.pop.new.self
-    (span_marked c.loop-v.notes c.pop.new.self c.in-Some.v false p.some.2 p.best p.span) c.loop-v.invariant.kept.noted
+    notes_on n lines c.loop-v.waiting c.pop.new.self
+    (span_marked c.loop-v.waiting c.pop.new.self c.in-Some.v false p.some.2 p.best p.span) c.loop-v.invariant.kept.noted
 
 pub find_serving-requires-clause-kept : goal.find_serving-requires-clause-kept
 find_serving-requires-clause-kept g c =
@@ -23,7 +23,7 @@ find_serving-requires-clause-kept g c =
     let f = c.args.map.now.measures in
     let v = c.in-Some.v in
     let p = c.in-Some.ensures in
-    same_keeps bs (line_at lines v) f nothing (measure_at f v) (get_or c.loop-v.notes.waits v false) true (get_or c.loop-v.notes.best v 0)
+    same_keeps bs (line_at lines v) f nothing (measure_at f v) (get_or c.loop-v.waiting.waits v false) true (get_or c.loop-v.waiting.best v 0)
     (get_or c.pop.new.self.best v 0) (sym p.some.1) (ap (λ t. get_or t v 0) p.best)
     (c.loop-v.invariant.kept.kept v (c.holds.ensures.0 c.if-holds.true))
 
@@ -34,8 +34,8 @@ returns-then-not-find_serving-clause-due g c =
     let f = c.args.map.now.measures in
     let v = c.in-Some.v in
     let p = c.in-Some.ensures in
-    let old = c.loop-v.notes in
-    let new = c.find_serving.new.notes in
+    let old = c.loop-v.waiting in
+    let new = c.find_serving.new.waiting in
     let marks : new.waits ≡ set old.waits v false = c.find_serving.ensures.waits ∙ p.some.2 in
     let best : new.best ≡ set old.best v (get_or new.best v 0) = c.find_serving.ensures.others ∙ ap (λ t. set t v (get_or new.best v 0)) p.best in
     record {
@@ -55,15 +55,15 @@ loop-v-preserved g c =
     let v = c.in-Some.v in
     let p = c.in-Some.ensures in
     let i = c.loop-v.invariant in
-    let old = c.loop-v.notes in
+    let old = c.loop-v.waiting in
     let noted : AreNotes (length f) lines c.pop.new.self = notes_on (length f) lines old c.pop.new.self
     (span_marked old c.pop.new.self v false p.some.2 p.best p.span) i.kept.noted in
     elim c.else-holds.branch [
       | else-holds-via-then-holds+else-not-find_serving w ↦
-          let new = w.find_serving.new.notes in
+          let new = w.find_serving.new.waiting in
           let marks : new.waits ≡ set old.waits v false = w.find_serving.ensures.waits ∙ p.some.2 in
           let best : new.best ≡ set old.best v (get_or new.best v 0) = w.find_serving.ensures.others ∙ ap (λ t. set t v (get_or new.best v 0)) p.best in
-          rw w.notes-is record {
+          rw w.waiting-is record {
             span = w.find_serving.ensures.span.span ∙ (p.span ∙ i.span);
             kept = record {
               noted = notes_on (length f) lines c.pop.new.self new w.find_serving.ensures.span noted;
@@ -74,7 +74,7 @@ loop-v-preserved g c =
                   i.kept.kept;
             };
           }
-      | else-holds-via-else-holds w ↦ rw w.notes-is record {
+      | else-holds-via-else-holds w ↦ rw w.waiting-is record {
         span = p.span ∙ i.span;
         kept = record {
           noted = noted;

@@ -13,9 +13,9 @@ loop-at-init g c =
     let us = c.of-sources.result.now in
     record {
       span = refl;
-      noted = c.requires.notes;
+      noted = c.requires.waiting;
       kept = kept_less c.args.map.now.bounds
-          (g.G.Lines.line c.args.lines.now) c.args.map.now.measures c.args.notes.now.waits c.args.notes.now.best c.args.x
+          (g.G.Lines.line c.args.lines.now) c.args.map.now.measures c.args.waiting.now.waits c.args.waiting.now.best c.args.x
           (IsListed e.starts.items e.sources.items c.args.x) (Left us (length us) c.args.x false)
           (λ v h. all_left us (length us) c.args.x v (c.of-sources.ensures.all v h)) c.requires.kept;
       itself = λ e. absurd (true≢false (sym e));
@@ -54,8 +54,8 @@ loop-at-preserved g c =
     let u = c.index-sources-at.result in
     record {
       span = c.update_predecessor.ensures.span.span ∙ c.loop-at.invariant.span;
-      noted = notes_on (length c.args.map.now.measures) (g.G.Lines.line c.args.lines.now) c.loop-at.notes c.update_predecessor.new.notes c.update_predecessor.ensures.span c.loop-at.invariant.noted;
-      kept = one_touched c.args.map.now.bounds (g.G.Lines.line c.args.lines.now) c.args.map.now.measures c.loop-at.notes.waits c.update_predecessor.new.notes.waits c.loop-at.notes.best c.update_predecessor.new.notes.best c.args.x (Left us n c.args.x c.loop-at.follows_itself) (Left us (n - 1) c.args.x c.loop-at.follows_itself) u
+      noted = notes_on (length c.args.map.now.measures) (g.G.Lines.line c.args.lines.now) c.loop-at.waiting c.update_predecessor.new.waiting c.update_predecessor.ensures.span c.loop-at.invariant.noted;
+      kept = one_touched c.args.map.now.bounds (g.G.Lines.line c.args.lines.now) c.args.map.now.measures c.loop-at.waiting.waits c.update_predecessor.new.waiting.waits c.loop-at.waiting.best c.update_predecessor.new.waiting.best c.args.x (Left us n c.args.x c.loop-at.follows_itself) (Left us (n - 1) c.args.x c.loop-at.follows_itself) u
           (λ v ne h. left_less us n u c.args.x c.loop-at.follows_itself v (read g c.before.before.before.before.before.before) ne h) c.update_predecessor.ensures.kept c.update_predecessor.ensures.others c.loop-at.invariant.kept;
       itself = c.loop-at.invariant.itself;
     }
@@ -71,7 +71,7 @@ loop-at-preserved-then-eq g c =
       span = c.loop-at.invariant.span;
       noted = c.loop-at.invariant.noted;
       kept = kept_less c.args.map.now.bounds
-          (g.G.Lines.line c.args.lines.now) c.args.map.now.measures c.loop-at.notes.waits c.loop-at.notes.best x
+          (g.G.Lines.line c.args.lines.now) c.args.map.now.measures c.loop-at.waiting.waits c.loop-at.waiting.best x
           (Left us n x c.loop-at.follows_itself) (Left us (n - 1) x true)
           (λ v h. left_itself us n u x c.loop-at.follows_itself v (read g c.before.before.before.before) same h) c.loop-at.invariant.kept;
       itself = λ e. subst (λ (w : ℕ). LeadsTo (g.G.Lines.line c.args.lines.now) w x) same (leading g c.before.before.before.before);
@@ -94,11 +94,11 @@ returns-then-follows_itself-clause-kept g c =
     let bs = c.args.map.now.bounds in
     let lines = g.G.Lines.line c.args.lines.now in
     let f = c.args.map.now.measures in
-    let after = c.update_predecessor-then-follows_itself.new.notes in
+    let after = c.update_predecessor-then-follows_itself.new.waiting in
     record {
-      noted = notes_on (length f) lines c.loop-at.notes after c.update_predecessor-then-follows_itself.ensures.span c.loop-at.invariant.noted;
+      noted = notes_on (length f) lines c.loop-at.waiting after c.update_predecessor-then-follows_itself.ensures.span c.loop-at.invariant.noted;
       kept = all_touched bs lines f after.waits after.best x (λ v. ⊥) (λ v h. h)
-          (one_touched bs lines f c.loop-at.notes.waits after.waits c.loop-at.notes.best after.best x (Left us n x c.loop-at.follows_itself) (λ v. ⊥) x
+          (one_touched bs lines f c.loop-at.waiting.waits after.waits c.loop-at.waiting.best after.best x (Left us n x c.loop-at.follows_itself) (λ v. ⊥) x
           (λ v ne h. none_left us n x c.loop-at.follows_itself v (let z = c.loop-at-test.false in omega arith) ne h) c.update_predecessor-then-follows_itself.ensures.kept c.update_predecessor-then-follows_itself.ensures.others c.loop-at.invariant.kept);
     }
 
@@ -109,7 +109,7 @@ returns-else-follows_itself-clause-kept g c =
     record {
       noted = c.loop-at.invariant.noted;
       kept = all_touched c.args.map.now.bounds
-          (g.G.Lines.line c.args.lines.now) c.args.map.now.measures c.loop-at.notes.waits c.loop-at.notes.best c.args.x
+          (g.G.Lines.line c.args.lines.now) c.args.map.now.measures c.loop-at.waiting.waits c.loop-at.waiting.best c.args.x
           (Left us n c.args.x c.loop-at.follows_itself)
           (λ v h. nothing_left us n c.args.x c.loop-at.follows_itself v
           (let z = c.loop-at-test.false in omega arith) c.if-follows_itself.false h) c.loop-at.invariant.kept;

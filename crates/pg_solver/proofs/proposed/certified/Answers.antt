@@ -1,4 +1,4 @@
-use Rattle.std.proofs.Common.{◌∙◌, Bool, List, length, subst, sym}
+use Rattle.std.proofs.Common.{◌∙◌, Bool, List, subst, sym}
 use Rattle.pg_map.specs.Lines.{game_line}
 use Rattle.pg_map.specs.Maps.{IsNeverAbove}
 use Rattle.pg_claims.specs.Known.{known_map}

@@ -25,8 +25,8 @@ fit c = of_line c (FitsGame c.args.map.now.bounds (length c.args.map.now.measure
 place : (c : After-as_slice) → HasPlace c.loop-line.part c.line-item.result.vertex
 place c = c.loop-line.invariant.places c.line-item.result.vertex (of_line c (λ (y : VertexLine). HasPlace c.args.part.now y.vertex) c.requires.places)
 
-room : (c : After-as_slice) → HasRoom c.args.notes.now.span c.line-item.result.vertex
-room c = of_line c (λ (y : VertexLine). HasRoom c.args.notes.now.span y.vertex) c.requires.notes
+room : (c : After-as_slice) → HasRoom c.args.waiting.now.span c.line-item.result.vertex
+room c = of_line c (λ (y : VertexLine). HasRoom c.args.waiting.now.span y.vertex) c.requires.waiting
 
 -- the edges that are to come are this line's and those of the others
 edges_left : (c : After-as_slice)
@@ -86,7 +86,7 @@ returns-clause-edges c =
 
 pub add_line-requires-clause-note : goal.add_line-requires-clause-note
 add_line-requires-clause-note c =
-    room_still c.args.notes.now.span c.loop-line.notes.span c.line-item.result.vertex c.loop-line.invariant.note_first c.loop-line.invariant.note_room (room (goal.at.add_line-requires-clause-note c).After-as_slice)
+    room_still c.args.waiting.now.span c.loop-line.waiting.span c.line-item.result.vertex c.loop-line.invariant.note_first c.loop-line.invariant.note_room (room (goal.at.add_line-requires-clause-note c).After-as_slice)
 
 pub add_line-requires-clause-fits : goal.add_line-requires-clause-fits
 add_line-requires-clause-fits c = rw c.as_slice.ensures (fit (goal.at.add_line-requires-clause-fits c).After-as_slice)

@@ -1,16 +1,13 @@
 use Rattle.std.proofs.Common.{◌≡◌, length}
-use Rattle.pg_map.specs.Maps.{StaysUnder}
+use Rattle.pg_lift.specs.Mirrors.Lifters.{KeepsLines}
 use Rattle.pg_worker.specs.Workers.{AreLifts}
-use Rattle.pg_lift.specs.Mirrors.Keeps.{IsKeeping}
+use Rattle.pg_worker.specs.Mirrors.Parts.{held_line}
 use Rattle.pg_worker.proofs.lifting.lift_some.Given as goal
 
 abbrev pub invariant-loop : goal.invariant-loop
-invariant-loop g l = record {
-  bounds : l.map.bounds ≡ l.initial.map.bounds;
-  size : length l.map.measures ≡ length l.initial.map.measures;
-  span : l.notes.span ≡ l.initial.notes.span;
-  kept : IsKeeping (g.G.Lines.line l.lines) l.map l.notes;
-  lifts : AreLifts l.initial.map.bounds (g.G.Lines.line l.lines) l.initial.map.measures l.updates.items l.map.measures;
-  under : StaysUnder l.initial.map.bounds (g.G.Lines.line l.lines) l.initial.map.measures l.map.measures;
+invariant-loop l = record {
+  same : KeepsLines l.initial.lifter l.lifter;
+  lifts : AreLifts l.initial.lifter.map.bounds (held_line l.initial.lifter.lines)
+      l.initial.lifter.map.measures l.updates.items l.lifter.map.measures;
   lifted : length l.updates.items ≡ l.counter;
 }

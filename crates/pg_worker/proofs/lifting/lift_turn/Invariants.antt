@@ -1,16 +1,13 @@
-use Rattle.std.proofs.Common.{◌≡◌, length}
-use Rattle.pg_map.specs.Maps.{StaysUnder}
+use Rattle.std.proofs.Common.{◌≡◌}
+use Rattle.pg_lift.specs.Mirrors.Lifters.{KeepsLines}
 use Rattle.pg_worker.specs.Mirrors.Lifts.{AreListedLifts}
-use Rattle.pg_lift.specs.Mirrors.Keeps.{IsKeeping}
+use Rattle.pg_worker.specs.Mirrors.Parts.{held_line}
 use Rattle.pg_worker.proofs.lifting.lift_turn.Given as goal
 
 abbrev pub invariant-loop : goal.invariant-loop
-invariant-loop g l = record {
-  bounds : l.map.bounds ≡ l.initial.map.bounds;
-  size : length l.map.measures ≡ length l.initial.map.measures;
-  span : l.notes.span ≡ l.initial.notes.span;
+invariant-loop l = record {
+  same : KeepsLines l.initial.lifter l.lifter;
   room : l.lifted.count ≡ l.initial.lifted.count;
-  kept : IsKeeping (g.G.Lines.line l.lines) l.map l.notes;
-  under : StaysUnder l.initial.map.bounds (g.G.Lines.line l.lines) l.initial.map.measures l.map.measures;
-  listed : AreListedLifts l.initial.map.bounds (g.G.Lines.line l.lines) l.initial.map.measures l.map.measures l.lifted.vertices (λ n. n ≡ l.counter);
+  listed : AreListedLifts l.initial.lifter.map.bounds (held_line l.initial.lifter.lines)
+      l.initial.lifter.map.measures l.lifter.map.measures l.lifted.vertices (λ n. n ≡ l.counter);
 }

@@ -1,22 +1,46 @@
-use Rattle.std.proofs.Common.{rules, sym, ◌<◌, ◌≤◌, ◌+◌, ◌∷◌, [], ◌∙◌, length, ap, inr, arith}
+use Rattle.std.proofs.Common.{rules, ◌<◌, ◌≤◌, ◌+◌, ◌∷◌, [], false, length, ap, inr, refl, arith}
 use Rattle.pg_wire.specs.declared.frame.VertexLine.{VertexLine}
 use Rattle.pg_wire.specs.Lines.{line_with}
 use Rattle.pg_parts.specs.Frames.{told_line}
 use Rattle.pg_worker.specs.Workers.{FitsGame}
-use Rattle.pg_worker.specs.Mirrors.Insides.{IsNext}
-use Rattle.pg_worker.proofs.Working.{above_next, next_above, next_after, whole_same, inside_same, next_same}
+use Rattle.pg_worker.specs.Mirrors.Insides.{IsInside, IsNext, IsWhole}
+use Rattle.pg_worker.proofs.Working.{above_next, next_above, next_after, lifter_of, whole_of, whole_same, inside_of, inside_same, lifter_same, lifter_more, next_same}
 use Rattle.pg_worker.proofs.Growing.{only}
 use Rattle.pg_worker.proofs.worker.Worker.add_vertex.Goals as goal
+use Rattle.pg_worker.proofs.worker.Worker.add_vertex.Goals.{After-make_room}
+
+whole : (c : After-make_room) → IsWhole (lifter_of c.lifter.inside.lines c.lifter.inside.map c.lifter.inside.waiting) c.self.inside.next c.self.inside.lifted.count
+whole c =
+    let l = c.lifter.inside in
+    let w = c.self.inside in
+    whole_of l.lines l.map l.waiting w.lifter w.next w.lifted.count c.lifter.view_is c.self.invariant
+
+inside : (c : After-make_room) → IsInside c.lifter.inside.lines c.lifter.inside.map c.lifter.inside.waiting
+inside c =
+    let l = c.lifter.inside in
+    inside_of l.lines l.map l.predecessors l.waiting c.self.inside.next c.self.inside.lifted.count c.lifter.invariant (whole c)
+
+pub invariant_of-lifter : goal.invariant_of-lifter
+invariant_of-lifter c =
+    let l = c.lifter.inside in
+    let new = c.make_room.new in
+    lifter_same l.lines new.part l.map l.predecessors new.predecessors l.waiting new.waiting c.make_room.ensures.same
+    (inside (goal.at.invariant_of-lifter c).After-make_room) c.lifter.invariant
 
 pub invariant_of-self : goal.invariant_of-self
 invariant_of-self c =
+    let l = c.lifter.inside in
     let w = c.self.inside in
-    whole_same w.part c.make_room.new.part w.map w.predecessors c.make_room.new.predecessors w.notes c.make_room.new.notes w.next w.lifted.count c.make_room.ensures.same c.in_err-make_room.ensures.first c.self.invariant
+    let new = c.make_room.new in
+    whole_same l.lines new.part l.map l.predecessors new.predecessors l.waiting new.waiting w.next w.lifted.count
+    c.make_room.ensures.same c.in_err-make_room.ensures.first (whole (goal.at.invariant_of-self c).After-make_room)
 
 pub add_line-requires-clause-inside : goal.add_line-requires-clause-inside
 add_line-requires-clause-inside c =
-    let w = c.self.inside in
-    inside_same w.part c.make_room.new.part w.map w.predecessors c.make_room.new.predecessors w.notes c.make_room.new.notes c.make_room.ensures.same c.self.invariant.inside
+    let l = c.lifter.inside in
+    let new = c.make_room.new in
+    inside_same l.lines new.part l.map l.predecessors new.predecessors l.waiting new.waiting c.make_room.ensures.same
+    (inside (goal.at.add_line-requires-clause-inside c).After-make_room)
 
 pub add_line-requires-clause-place : goal.add_line-requires-clause-place
 add_line-requires-clause-place c = c.in_ok-make_room.ensures.room.places c.args.head.vertex (omega arith) (omega arith)
@@ -28,7 +52,7 @@ pub returns-then-from-self-clause-refused : goal.returns-then-from-self-clause-r
 returns-then-from-self-clause-refused c = inr (λ above.
     let w = c.self.inside in
     let l = line_with c.args.head c.args.successors.now in
-    let all = above_next w.part w.next (l ∷ []) c.self.invariant.above (rw (← c.self.view_is) at above) in
+    let all = above_next w.lifter.lines w.next (l ∷ []) c.self.invariant.above (rw (← c.self.view_is) at above) in
     let first = all 0 l (omega arith) in
     let less = c.if-from-self.true in
     let same = c.from.ensures in
@@ -40,12 +64,20 @@ returns-then-not-fits_line-clause-refused c =
     let l = line_with c.args.head c.args.successors.now in
     let from : w.next ≤ c.args.head.vertex = let a = c.if-from-self.false in let b = c.from.ensures in omega arith in
     rw (← c.self.view_is) (inr (
-      next_above w.part w.next (l ∷ []) c.self.invariant.above (only (λ (k : VertexLine). w.next ≤ k.vertex) l from),
+      next_above w.lifter.lines w.next (l ∷ []) c.self.invariant.above (only (λ (k : VertexLine). w.next ≤ k.vertex) l from),
       λ all.
-          let fit : FitsGame w.map.bounds (length w.map.measures) l = all 0 l (omega arith) in
-          let told : FitsGame c.bounds.result.now c.len-count.result l = rw (c.bounds.ensures, c.len-count.ensures.value) fit in
+          let fit : FitsGame w.lifter.map.bounds (length w.lifter.map.measures) l = all 0 l (omega arith) in
+          let told : FitsGame c.bounds.result.now c.len.result l = rw (c.bounds.ensures, c.len.ensures.value) fit in
           absurd (cc (c.if-not-fits_line.true, c.fits_line.ensures.1 told)),
     ))
+
+pub invariant_of-lifter-2 : goal.invariant_of-lifter-2
+invariant_of-lifter-2 c =
+    let l = c.lifter.inside in
+    let new = c.make_room.new.predecessors in
+    let same = c.make_room.ensures.same in
+    lifter_more l.lines c.add_line.new.part l.map l.predecessors (record new { is_gathered = false }) c.add_line.new.waiting c.add_line.ensures.inside
+    c.lifter.invariant.ready same.starts same.before refl (search rules) (search rules)
 
 pub invariant_of-self-2 : goal.invariant_of-self-2
 invariant_of-self-2 c =
@@ -54,26 +86,20 @@ invariant_of-self-2 c =
     let v = c.args.head.vertex in
     let part = c.make_room.new.part in
     let part' = c.add_line.new.part in
+    let old = whole (goal.at.invariant_of-self-2 c).After-make_room in
     let from : w.next ≤ v = let a = c.if-from-self.false in let b = c.from.ensures in omega arith in
-    let fit : FitsGame c.bounds.result.now c.len-count.result l = c.fits_line.ensures.0 c.if-not-fits_line.false in
-    let lt : v < length part.lines = let a = fit.vertex in let b = c.len-count.ensures.value in let s = c.self.invariant.inside.size in
+    let fit : FitsGame c.bounds.result.now c.len.result l = c.fits_line.ensures.0 c.if-not-fits_line.false in
+    let lt : v < length part.lines = let a = fit.vertex in let b = c.len.ensures.value in let s = old.size in
     let e = ap length c.make_room.ensures.same.lines in omega arith in
     let next : IsNext part' (v + 1) = next_after part part' v w.next (told_line l) c.add_line.ensures.lines lt from
-    (next_same w.part part w.next c.make_room.ensures.same.lines c.self.invariant.above) in
+    (next_same c.lifter.inside.lines part w.next c.make_room.ensures.same.lines old.above) in
     let place = c.in_ok-make_room.ensures.room.places v (omega arith) (omega arith) in
     let room = c.in_ok-make_room.ensures.room.labels v (omega arith) (omega arith) in
-    let e = c.make_room.ensures.same in
     rw c.from-2.ensures record {
-      inside = c.add_line.ensures.inside;
-      ready = record {
-        size = ap length e.starts ∙ c.self.invariant.ready.size;
-        few = search rules;
-        room = search rules;
-        right = λ q. absurd (cc q);
-        zero = λ q. c.self.invariant.ready.zero (sym e.before ∙ q);
-      };
+      count = c.add_line.ensures.inside.count;
+      size = c.add_line.ensures.inside.size;
       above = next;
       first = let f = place.from in let s = c.add_line.ensures.first in omega arith;
       note_first = λ some. let f = room.from in let s = c.add_line.ensures.note_first in omega arith;
-      listed = c.self.invariant.listed;
+      listed = old.listed;
     }

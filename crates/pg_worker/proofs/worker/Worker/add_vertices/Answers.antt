@@ -1,29 +1,56 @@
-use Rattle.std.proofs.Common.{rules, sym, ◌≡◌, ◌<◌, ◌≤◌, ◌+◌, ◌-◌, ◌∙◌, ℕ, List, length, get_or, ap, inl, inr, arith}
+use Rattle.std.proofs.Common.{rules, ◌≡◌, ◌<◌, ◌≤◌, ◌+◌, ◌-◌, ℕ, List, false, length, get_or, ap, inl, inr, refl, arith}
 use Rattle.std.specs.Prelude.{AllPairs}
 use Rattle.std.proofs.lemmas.Bool.{cases_eq}
 use Rattle.std.proofs.lemmas.List.{get_or_default}
 use Rattle.pg_wire.specs.declared.frame.VertexLine.{VertexLine}
-use Rattle.pg_worker.proofs.Working.{above_next, whole_same, inside_same, next_same}
+use Rattle.pg_worker.specs.Mirrors.Insides.{IsInside, IsWhole}
+use Rattle.pg_worker.proofs.Working.{above_next, lifter_of, whole_of, whole_same, inside_of, inside_same, lifter_same, lifter_more, next_same}
 use Rattle.pg_worker.proofs.worker.Worker.add_vertices.Goals as goal
+use Rattle.pg_worker.proofs.worker.Worker.add_vertices.Goals.{After-make_room}
 
 pub returns-then-not-are_from-clause-refused : goal.returns-then-not-are_from-clause-refused
 returns-then-not-are_from-clause-refused c = inr (λ above.
     let w = c.self.inside in
-    let all = above_next w.part w.next c.args.lines.now c.self.invariant.above (rw (← c.self.view_is) at above) in
+    let all = above_next w.lifter.lines w.next c.args.lines.now c.self.invariant.above (rw (← c.self.view_is) at above) in
     absurd (cc (c.if-not-are_from.true, c.are_from.ensures.1 all)))
+
+whole : (c : After-make_room) → IsWhole (lifter_of c.lifter.inside.lines c.lifter.inside.map c.lifter.inside.waiting) c.self.inside.next c.self.inside.lifted.count
+whole c =
+    let l = c.lifter.inside in
+    let w = c.self.inside in
+    whole_of l.lines l.map l.waiting w.lifter w.next w.lifted.count c.lifter.view_is c.self.invariant
+
+inside : (c : After-make_room) → IsInside c.lifter.inside.lines c.lifter.inside.map c.lifter.inside.waiting
+inside c =
+    let l = c.lifter.inside in
+    inside_of l.lines l.map l.predecessors l.waiting c.self.inside.next c.self.inside.lifted.count c.lifter.invariant (whole c)
+
+pub invariant_of-lifter : goal.invariant_of-lifter
+invariant_of-lifter c =
+    let l = c.lifter.inside in
+    let new = c.make_room.new in
+    lifter_same l.lines new.part l.map l.predecessors new.predecessors l.waiting new.waiting c.make_room.ensures.same
+    (inside (goal.at.invariant_of-lifter c).After-make_room) c.lifter.invariant
 
 pub invariant_of-self : goal.invariant_of-self
 invariant_of-self c =
+    let l = c.lifter.inside in
     let w = c.self.inside in
-    whole_same w.part c.make_room.new.part w.map w.predecessors c.make_room.new.predecessors w.notes c.make_room.new.notes w.next w.lifted.count c.make_room.ensures.same c.in_err-make_room.ensures.first c.self.invariant
+    let new = c.make_room.new in
+    whole_same l.lines new.part l.map l.predecessors new.predecessors l.waiting new.waiting w.next w.lifted.count
+    c.make_room.ensures.same c.in_err-make_room.ensures.first (whole (goal.at.invariant_of-self c).After-make_room)
 
 pub add_lines-requires-clause-inside : goal.add_lines-requires-clause-inside
 add_lines-requires-clause-inside c =
-    let w = c.self.inside in
-    inside_same w.part c.make_room.new.part w.map w.predecessors c.make_room.new.predecessors w.notes c.make_room.new.notes c.make_room.ensures.same c.self.invariant.inside
+    let l = c.lifter.inside in
+    let new = c.make_room.new in
+    inside_same l.lines new.part l.map l.predecessors new.predecessors l.waiting new.waiting c.make_room.ensures.same
+    (inside (goal.at.add_lines-requires-clause-inside c).After-make_room)
 
 pub add_lines-requires-clause-next : goal.add_lines-requires-clause-next
-add_lines-requires-clause-next c = next_same c.self.inside.part c.make_room.new.part c.self.inside.next c.make_room.ensures.same.lines c.self.invariant.above
+add_lines-requires-clause-next c =
+    next_same c.lifter.inside.lines c.make_room.new.part c.self.inside.next c.make_room.ensures.same.lines
+    (whole (goal.at.add_lines-requires-clause-next c).After-make_room).above
 
 -- lines that rise are from the first to the last
 from_first : (ls : List VertexLine) (d e : VertexLine) (k : ℕ) → AllPairs (λ l m. l.vertex < m.vertex) ls → k < length ls
@@ -51,29 +78,30 @@ add_lines-requires-clause-places c = λ k d lt.
     (from_first ls d c.index-lines-0.result k c.requires.rising lt)
     (to_last ls d c.index-lines-lines.result k (length ls - 1) c.requires.rising lt (omega arith))
 
-pub add_lines-requires-clause-notes : goal.add_lines-requires-clause-notes
-add_lines-requires-clause-notes c = λ k d lt.
+pub add_lines-requires-clause-waiting : goal.add_lines-requires-clause-waiting
+add_lines-requires-clause-waiting c = λ k d lt.
     let ls = c.args.lines.now in
     c.in_ok-make_room.ensures.room.labels (get_or ls k d).vertex
     (from_first ls d c.index-lines-0.result k c.requires.rising lt)
     (to_last ls d c.index-lines-lines.result k (length ls - 1) c.requires.rising lt (omega arith))
 
+pub invariant_of-lifter-2 : goal.invariant_of-lifter-2
+invariant_of-lifter-2 c =
+    let l = c.lifter.inside in
+    let new = c.make_room.new.predecessors in
+    let same = c.make_room.ensures.same in
+    lifter_more l.lines c.add_lines.new.part l.map l.predecessors (record new { is_gathered = false }) c.add_lines.new.waiting c.add_lines.ensures.inside
+    c.lifter.invariant.ready same.starts same.before refl (search rules) (search rules)
+
 pub invariant_of-self-2 : goal.invariant_of-self-2
 invariant_of-self-2 c =
-    let e = c.make_room.ensures.same in
     let added = c.add_lines.ensures in
     let some : 0 < length c.args.lines.now = search rules in
     record {
-      inside = added.inside;
-      ready = record {
-        size = ap length e.starts ∙ c.self.invariant.ready.size;
-        few = search rules;
-        room = search rules;
-        right = λ q. absurd (cc q);
-        zero = λ q. c.self.invariant.ready.zero (sym e.before ∙ q);
-      };
+      count = added.inside.count;
+      size = added.inside.size;
       above = added.next;
       first = added.first some;
       note_first = λ has. added.note_first some;
-      listed = c.self.invariant.listed;
+      listed = (whole (goal.at.invariant_of-self-2 c).After-make_room).listed;
     }

@@ -2,22 +2,20 @@ use Rattle.std.proofs.Common.{◌≡◌, ℕ, get_or, refl, subst}
 use Rattle.std.specs.Prelude.{Any}
 use Rattle.std.proofs.lemmas.List.{get_or_default}
 use Rattle.pg_map.specs.declared.update.Update.{Update}
+use Rattle.pg_worker.proofs.Working.{lifts_of}
 use Rattle.pg_worker.proofs.worker.Worker.lift_turn.Goals as goal
 
 pub returns : goal.returns
 returns c =
-    let t = c.lift_turn-quiet.ensures.turn in
+    let e = c.lift_turn-quiet.ensures in
+    let t = e.turn in
     rw (← c.self.view_is) record {
       updates = t.updates;
       turn = record {
-        lifts = record {
-          part = record { bounds = c.lift_turn-quiet.ensures.bounds; lines = refl; size = c.lift_turn-quiet.ensures.size };
-          lifts = t.lifts;
-          under = c.lift_turn-quiet.ensures.under;
-        };
+        lifts = lifts_of c.self.inside.lifter c.lift_turn-quiet.new.lifter c.self.inside.kept.items c.self.inside.kept.items t.updates _ _ e.same t.lifts;
         few = t.count.0;
         fewer = t.count.1;
-        rest = rw c.lift_turn-quiet.ensures.bounds c.lift_turn-quiet.ensures.quiet;
+        rest = rw (e.same.bounds, e.same.lines) e.quiet;
       };
       lifted = record {
         rising = c.sort.ensures.rising;
