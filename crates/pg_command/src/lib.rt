@@ -1,5 +1,5 @@
-//! The commands of the program, as functions from the bytes of an input to the bytes of an answer. A method of solving is what
-//! finds maps of games: each command takes one.
+//! The commands of the program. Each is a function from a text to an answer, a value whose text is then written. A method of
+//! solving is what finds maps of games: a command that solves takes one.
 #![tactic(auto)]
 
 mod check;

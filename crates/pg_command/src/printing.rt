@@ -21,7 +21,7 @@ pub(crate) trait Answer {
             → Appends (W.contents writer.old) (W.contents writer.new) output) };
 }
 
-/// Writes the text of an answer. What was worked out before comes first: where there is no answer nothing is written.
+/// Writes the text of the answer that was worked out. Where there is none the fault is handed on, and nothing is written.
 pub(crate) fn print<A: Answer, W: Write>(
     worked_out: Result<A, CliFault>,
     writer: &mut W,

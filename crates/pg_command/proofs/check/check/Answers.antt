@@ -1,4 +1,4 @@
-use Rattle.std.proofs.Common.{inl, inr}
+use Rattle.std.proofs.Common.{rules, inl, inr}
 use Rattle.pg_command.specs.Faults.{text_fault}
 use Rattle.pg_command.specs.Checking.{RefusesCheck}
 use Rattle.pg_command.specs.Mirrors.Working.{Fails}
@@ -16,15 +16,8 @@ returns-in_err-game-in-Some-clause-refused c =
     let fault = c.in_err-game-in-Some.field-0.0 in
     refused_by Refused c.from_residual.result (text_fault fault) c.from_residual.ensures.1
     (told_so Refused fault tt (λ memory.
-    let why = no_game first fault c.in_err-game-in-Some.ensures.only c.in_err-game-in-Some.ensures.refused memory in (
-      why.0,
-      inl (record {
-        first = first;
-        second = c.in-Some.second.now;
-        parted = rw (← c.deref.ensures.value) c.in-Some.ensures.parted;
-        none = why.1;
-      }),
-    )))
+    let why = no_game first fault c.in_err-game-in-Some.ensures.only c.in_err-game-in-Some.ensures.refused memory in
+    (why.0, inl (search (rules, why.1, rw c.deref.ensures.value at c.in-Some.ensures.parted)))))
 
 pub returns-in_err-solution-in-Some-clause-refused : goal.returns-in_err-solution-in-Some-clause-refused
 returns-in_err-solution-in-Some-clause-refused c =
@@ -34,17 +27,8 @@ returns-in_err-solution-in-Some-clause-refused c =
     let fault = c.in_err-solution-in-Some.field-0.0 in
     refused_by Refused c.from_residual-in_err-solution-in-Some.result (text_fault fault) c.from_residual-in_err-solution-in-Some.ensures.1
     (told_so Refused fault tt (λ memory.
-    let why = no_solution second game fault c.in_err-solution-in-Some.ensures.only c.in_err-solution-in-Some.ensures.refused memory in (
-      why.0,
-      inr (record {
-        first = c.in-Some.first.now;
-        second = second;
-        parted = rw (← c.deref.ensures.value) c.in-Some.ensures.parted;
-        game = game;
-        spelt = c.in_ok-game-in-Some.ensures.found;
-        none = why.1;
-      }),
-    )))
+    let why = no_solution second game fault c.in_err-solution-in-Some.ensures.only c.in_err-solution-in-Some.ensures.refused memory in
+    (why.0, inr (search (rules, why.1, c.in_ok-game-in-Some.ensures.found, rw c.deref.ensures.value at c.in-Some.ensures.parted)))))
 
 pub returns-clause-whole : goal.returns-clause-whole
 returns-clause-whole c =

@@ -1,3 +1,4 @@
+use Rattle.std.proofs.Common.{rules}
 use Rattle.pg_command.specs.Faults.{text_fault, script_fault}
 use Rattle.pg_command.specs.Replaying.{RefusesReplay}
 use Rattle.pg_command.specs.Mirrors.Working.{Fails}
@@ -12,15 +13,8 @@ returns-in_err-game-in-Some-clause-refused c =
     let fault = c.in_err-game-in-Some.field-0.0 in
     refused_by Refused c.from_residual.result (text_fault fault) c.from_residual.ensures.1
     (told_so Refused fault tt (λ memory.
-    let why = no_game first fault c.in_err-game-in-Some.ensures.only c.in_err-game-in-Some.ensures.refused memory in (
-      why.0,
-      record {
-        first = first;
-        second = c.in-Some.second.now;
-        parted = c.in-Some.ensures.parted;
-        none = why.1;
-      },
-    )))
+    let why = no_game first fault c.in_err-game-in-Some.ensures.only c.in_err-game-in-Some.ensures.refused memory in
+    (why.0, search (rules, why.1, c.in-Some.ensures.parted))))
 
 pub returns-in_err-script-in-Some-clause-refused : goal.returns-in_err-script-in-Some-clause-refused
 returns-in_err-script-in-Some-clause-refused c =
@@ -30,11 +24,9 @@ returns-in_err-script-in-Some-clause-refused c =
     let fault = c.in_err-script-in-Some.field-0.0 in
     refused_by Refused c.from_residual-in_err-script-in-Some.result (script_fault fault)
     c.from_residual-in_err-script-in-Some.ensures.1
-    (script_told Refused fault tt (λ memory. record {
-      first = c.in-Some.first.now;
-      second = second;
-      parted = c.in-Some.ensures.parted;
-      game = game;
-      spelt = c.in_ok-game-in-Some.ensures.found;
-      none = no_script second game fault memory c.in_err-script-in-Some.ensures.only;
-    }))
+    (script_told Refused fault tt (λ memory. search (
+      rules,
+      c.in-Some.ensures.parted,
+      c.in_ok-game-in-Some.ensures.found,
+      no_script second game fault memory c.in_err-script-in-Some.ensures.only,
+    )))

@@ -1,4 +1,4 @@
-use Rattle.std.proofs.Common.{Err, ap, inl, refl, subst, ◌++◌}
+use Rattle.std.proofs.Common.{rules, Err, ap, inl, refl, subst, ◌++◌}
 use Rattle.pg_synth.specs.Answers.{IsMealyOf}
 use Rattle.pg_aiger.specs.CircuitLayout.{circuit_text}
 use Rattle.pg_command.specs.Faults.{hoa_fault, synth_fault, aiger_fault}
@@ -34,14 +34,7 @@ returns-in_err-circuit-clause-refused g c =
     let solution = c.in_ok-solution.solution in
     let machine = c.in-Some.machine in
     let mealy = subst (IsMealyOf a made.game made.initial solution) c.in-Some.is c.in_ok-machine.ensures.machine in
-    let known : IsKnown Kind bytes a made.game made.initial solution = record {
-      spelt = rw (← c.deref.ensures.value) c.in_ok-automaton.ensures.found;
-      is_automaton = c.states-states.ensures.automaton;
-      game_of = c.in_ok-made.ensures.game;
-      solved = c.in_ok-solution.ensures.solved;
-      whole = c.in_ok-solution.ensures.solution;
-      sound = c.in_ok-solution.ensures.sound;
-    } in
+    let known : IsKnown Kind bytes a made.game made.initial solution = search rules in
     refused_by (Fails (RefusesSynth Kind bytes)) c.from_residual-in_err-circuit.result (aiger_fault fault) c.from_residual-in_err-circuit.ensures.1
     (refuses_circuit Kind bytes fault c.in_err-circuit.ensures.refused
     (λ e. large_by Kind bytes a made.game made.initial solution known machine mealy (c.in_err-circuit.ensures.too_large.0 (ap Err e))))
@@ -65,14 +58,7 @@ returns-clause-answer g c =
     let machine = c.in-Some.machine in
     let circuit = c.in_ok-circuit.circuit in
     let mealy = subst (IsMealyOf a made.game made.initial solution) c.in-Some.is c.in_ok-machine.ensures.machine in
-    let known : IsKnown Kind bytes a made.game made.initial solution = record {
-      spelt = rw (← c.deref.ensures.value) c.in_ok-automaton.ensures.found;
-      is_automaton = c.states-states.ensures.automaton;
-      game_of = c.in_ok-made.ensures.game;
-      solved = c.in_ok-solution.ensures.solved;
-      whole = c.in_ok-solution.ensures.solution;
-      sound = c.in_ok-solution.ensures.sound;
-    } in (
+    let known : IsKnown Kind bytes a made.game made.initial solution = search rules in (
       realizable ++ circuit_text circuit a,
       refl,
       inl (realized_by Kind bytes a made.game made.initial solution known machine mealy circuit
