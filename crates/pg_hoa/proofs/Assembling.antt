@@ -89,8 +89,8 @@ table_is_automaton bytes b lines t a d table is = assembles b lines t a (can_ass
 same_automaton : (states states2 start start2 : ℕ) (propositions propositions2 : List (List ℕ)) (controllable controllable2 : List Bool)
     (sets sets2 : ℕ) (shape shape2 : Shape)
     → states ≡ states2 → start ≡ start2 → propositions ≡ propositions2 → controllable ≡ controllable2 → sets ≡ sets2 → shape ≡ shape2
-    → bare_automaton states start propositions controllable sets shape ≡ bare_automaton states2 start2 propositions2 controllable2 sets2
-    shape2
+    → bare_automaton states start propositions controllable sets shape
+    ≡ bare_automaton states2 start2 propositions2 controllable2 sets2 shape2
 same_automaton states states2 start start2 propositions propositions2 controllable controllable2 sets sets2 shape shape2 p q r s t u = cc
 
 table_says : (w : Written) (b : Automaton) (t : Table) (a : Automaton) → t.states ≡ b.states → IsOf b t a → Says w b → Says w a

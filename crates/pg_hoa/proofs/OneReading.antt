@@ -40,8 +40,8 @@ same_parts : (states states2 start start2 : ℕ) (propositions propositions2 : L
     (sets sets2 : ℕ) (shape shape2 : Shape) (steps steps2 : List (List (Option Step)))
     → states ≡ states2 → start ≡ start2 → propositions ≡ propositions2 → controllable ≡ controllable2 → sets ≡ sets2 → shape ≡ shape2
     → steps ≡ steps2
-    → automaton_of states start propositions controllable sets shape steps ≡ automaton_of states2 start2 propositions2 controllable2 sets2
-    shape2 steps2
+    → automaton_of states start propositions controllable sets shape steps
+    ≡ automaton_of states2 start2 propositions2 controllable2 sets2 shape2 steps2
 same_parts states states2 start start2 propositions propositions2 controllable controllable2 sets sets2 shape shape2 steps steps2 p q r s t
     u v = cc
 

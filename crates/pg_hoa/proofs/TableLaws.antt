@@ -81,8 +81,8 @@ once_more own more = rising_alike (rising own ++ rising more) (own ++ more)
     ∙ ap (λ b. has q own || b) (has_rising q more) ∙ sym (list_any-append (λ n. q == n) own more))
 
 edges_are : (letter : ℕ) (own : List ℕ) (edges : List Edge)
-    → map (edge_step (rising own)) (filter (says_at letter) (map kept_of_edge edges)) ≡ map (written_step own)
-    (filter (holds_at letter) edges)
+    → map (edge_step (rising own)) (filter (says_at letter) (map kept_of_edge edges))
+    ≡ map (written_step own) (filter (holds_at letter) edges)
 edges_are letter own [] = refl
 edges_are letter own (e ∷ edges) =
     let kept = map kept_of_edge edges in

@@ -1,5 +1,5 @@
 -- Steps by their numbers, while more are stored.
-use Rattle.std.proofs.Common.{◌≡◌, ℕ, suc, zero, ◌<◌, List, [], ◌∷◌, ◌++◌, length, Some, refl, ap, ◌∙◌, arith}
+use Rattle.std.proofs.Common.{◌≡◌, ℕ, suc, zero, ◌<◌, List, [], ◌∷◌, ◌++◌, Some, refl, ap, ◌∙◌, arith}
 use Rattle.std.proofs.lemmas.Bool.Decides.{nat_tests}
 use Rattle.std.specs.Prelude.{slice_get}
 use Rattle.pg_automaton.specs.declared.table.Stored.{Stored}
@@ -14,10 +14,6 @@ slice_get_more : {X : Type 0} (xs ys : List X) (k : ℕ) (x : X) → slice_get x
 slice_get_more [] ys k x e = absurd (none_is_some x e)
 slice_get_more (z ∷ xs) ys zero x e = e
 slice_get_more (z ∷ xs) ys (suc k) x e = slice_get_more xs ys k x e
-
-pub slice_get_last : {X : Type 0} (xs : List X) (x : X) → slice_get (xs ++ (x ∷ [])) (length xs) ≡ Some x
-slice_get_last [] x = refl
-slice_get_last (z ∷ xs) x = slice_get_last xs x
 
 -- what a number stands for, from its parts
 pub numbered_is : (steps : List Stored) (lists : List (List ℕ)) (k : ℕ) (s : Stored) (sets : List ℕ) → slice_get steps k ≡ Some s
@@ -46,9 +42,6 @@ extends_by t u new_steps new_lists a b h c d = record {
       ∙ numbered_more t.steps t.lists new_steps new_lists n s e;
   lists = λ place list e. ap (λ l. slice_get l place) d ∙ slice_get_more t.lists new_lists place list e;
 }
-
-pub extends_then : (t u v : Stage) → Extends t u → Extends u v → Extends t v
-extends_then t u v a b = grind (arith, nat_tests)
 
 pub numbers_more : (t : Stage) (n : ℕ) (s : Step) → 0 < n → MayNumber t n s → numbered t.steps t.lists n ≡ Some s
 numbers_more t zero s h m = absurd (omega arith)

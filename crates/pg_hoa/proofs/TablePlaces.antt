@@ -134,8 +134,8 @@ no_letters first label s i = when_none (within first 0 i && says_behind label fi
 
 pub more_letters : (first block width word : ℕ) (label : List Op) (s : Step) (i : ℕ) → Tells word label block → width ≤ 64
     → block * width ≡ block * 64
-    → at_letters first (block * width) label s i ++ at_word (first + block * width) width word s i ≡ at_letters first ((block + 1) * width)
-    label s i
+    → at_letters first (block * width) label s i ++ at_word (first + block * width) width word s i
+    ≡ at_letters first ((block + 1) * width) label s i
 more_letters first block width word label s i tells narrow whole = grind (
   arith,
   nat_tests,
@@ -177,8 +177,8 @@ pieces true true false z s e = ap (λ b. when b s) (e refl)
 pieces true false y z s e = ap (λ b. when b s) (e refl)
 
 pub known_and_rest : (first width word known : ℕ) (s : Step) (i : ℕ) → known < 2 ^ 64 → width ≤ 64
-    → at_known first width word known s i ++ at_word first width (bit_and word (18446744073709551615 - known)) s i ≡ at_word first width
-    word s i
+    → at_known first width word known s i ++ at_word first width (bit_and word (18446744073709551615 - known)) s i
+    ≡ at_word first width word s i
 known_and_rest first width word known s i h narrow = pieces (within first width i) (truth word (i - first)) (truth known (i - first))
     (truth (bit_and word (18446744073709551615 - known)) (i - first)) s
     (λ e. let there = (decides_within first width i).0 e in rest_truth word known (i - first) h (omega (arith, there.0, there.1, narrow)))
@@ -328,8 +328,8 @@ row_at letters state i h = grind (arith, nat_tests)
 
 -- the slots of a state, by its letters
 letters_at : (letters state i : ℕ) (own : List ℕ) (e : KeptEdge) → 0 < letters
-    → at_letters (state * letters) letters e.label (edge_step own e) i ≡ when (state == i / letters && says_at (i % letters) e)
-    (edge_step own e)
+    → at_letters (state * letters) letters e.label (edge_step own e) i
+    ≡ when (state == i / letters && says_at (i % letters) e) (edge_step own e)
 letters_at letters state i own e h =
     when_same (within (state * letters) letters i && says_behind e.label (state * letters) i)
     (state == i / letters && says_at (i % letters) e) (edge_step own e)
@@ -347,8 +347,8 @@ alone own e true = refl
 alone own e false = refl
 
 pub more_edges : (letters state : ℕ) (own : List ℕ) (edges : List KeptEdge) (e : KeptEdge) (i : ℕ) → 0 < letters
-    → at_line letters (line_of state own edges) i ++ at_letters (state * letters) letters e.label (edge_step own e) i ≡ at_line letters
-    (line_of state own (edges ++ (e ∷ []))) i
+    → at_line letters (line_of state own edges) i ++ at_letters (state * letters) letters e.label (edge_step own e) i
+    ≡ at_line letters (line_of state own (edges ++ (e ∷ []))) i
 more_edges letters state own edges e i h = ap (λ l. at_line letters (line_of state own edges) i ++ l) (letters_at letters state i own e h)
     ∙ by_state (state == i / letters)
   where
@@ -369,8 +369,8 @@ more_items f xs i x h is = grind (arith, nat_tests, take_more xs i x h, map-appe
 pub edge_added : (letters state first : ℕ) (own : List ℕ) (edges more : List KeptEdge) (e : KeptEdge) (label : List Op) (sets : List ℕ)
     (i : ℕ)
     → 0 < letters → first ≡ state * letters → label ≡ e.label → sets ≡ rising (own ++ e.sets) → edges ++ (e ∷ []) ≡ more
-    → at_line letters (line_of state own edges) i ++ at_letters first letters label (step e.target sets) i ≡ at_line letters
-    (line_of state own more) i
+    → at_line letters (line_of state own edges) i ++ at_letters first letters label (step e.target sets) i
+    ≡ at_line letters (line_of state own more) i
 edge_added letters state first own edges more e label sets i h a b c d = grind (arith, nat_tests, more_edges letters state own edges e i h)
 
 -- ---- lines

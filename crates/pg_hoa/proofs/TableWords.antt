@@ -8,7 +8,6 @@ use Rattle.std.proofs.lemmas.Nat.Bits.{bit_at_and, bit_at_or, bit_at_not, bit_at
 use Rattle.std.proofs.lemmas.Nat.Bits.{bit_at_cat_high, bit_at_above}
 use Rattle.std.proofs.lemmas.Bool.Decides.{Decides-below_and, Decides-eqb, leb_tells, nat_tests}
 use Rattle.std.proofs.lemmas.List.{reverse-append, get_or-replicate, get_or-set_same, get_or-set_other}
-use Rattle.pg_hoa.specs.Mirrors.Saying.{top, under}
 use Rattle.pg_hoa.specs.Mirrors.Letters.{truth, truth_in, on_at, truths}
 
 -- ---- bits
@@ -74,9 +73,6 @@ on_above block j a few h high =
 pub zeros_say : (n k j : ℕ) → k < n → truth_in (replicate n 0) k j ≡ false
 zeros_say n k j h = ap (λ w. truth w j) (get_or-replicate n k 0 0 h) ∙ truth_none j
 
-pub ones_say : (n k j : ℕ) → k < n → j < 64 → truth_in (replicate n 18446744073709551615) k j ≡ true
-ones_say n k j h small = ap (λ w. truth w j) (get_or-replicate n k 18446744073709551615 0 h) ∙ truth_all j small
-
 -- one word more, in a list of words
 pub one_more_word : (Says : ℕ → ℕ → Type 0) (words : List ℕ) (k w : ℕ) → k < length words → ((i : ℕ) → i < k → Says (get_or words i 0) i)
     → Says w k → (i : ℕ) → i < k + 1 → Says (get_or (set words k w) i 0) i
@@ -105,15 +101,3 @@ unfolding truths
 truths_none k j = refl
 
 -- ---- operations
-
-pub answers_not : (w v : Bool) (x z : List Bool) → v ≡ cond w false true → w ≡ top x → z ≡ under x
-    → v ∷ z ≡ cond (top x) false true ∷ under x
-answers_not w v x z e a b = cc
-
-pub answers_both : (l r v : Bool) (x y z : List Bool) → v ≡ (l && r) → r ≡ top x → y ≡ under x → l ≡ top y → z ≡ under y
-    → v ∷ z ≡ (top (under x) && top x) ∷ under (under x)
-answers_both l r v x y z e a b c d = cc
-
-pub answers_either : (l r v : Bool) (x y z : List Bool) → v ≡ (l || r) → r ≡ top x → y ≡ under x → l ≡ top y → z ≡ under y
-    → v ∷ z ≡ (top (under x) || top x) ∷ under (under x)
-answers_either l r v x y z e a b c d = cc
