@@ -26,5 +26,5 @@ pub record IsNoLength (bytes : List ℕ) : Type 0 where
   pub alone : length bytes ≡ 4
   pub beyond : (length_field bytes ≡ 0) ⊎ (longest < length_field bytes)
 
-abbrev pub IsCutByLength : List ℕ → Type 0
-IsCutByLength bytes = IsFramed bytes ⊎ IsNoLength bytes
+abbrev pub IsFramedByLength : List ℕ → Type 0
+IsFramedByLength bytes = IsFramed bytes ⊎ IsNoLength bytes

@@ -1,10 +1,10 @@
 //! Connections to programs.
 
 ghost use Rattle.std.specs.Prelude.{OnOk};
-ghost use Rattle.pg_links.specs.Sockets.{IsCutByLength};
+ghost use Rattle.pg_links.specs.Sockets.{IsFramedByLength};
 
-use crate::cutting::read_cut;
 use crate::deadline::DeadlineStream;
+use crate::framing::read_framed;
 use std::alloc::Global;
 use std::io::{self, BufReader, Read, Write};
 use std::net::OpenStream;
@@ -85,7 +85,7 @@ impl<C: Clock + Drop, S: Read + Write + OpenStream + Drop> Connection<C, S> {
     /// Receives the next frame of a reply. All of the reply has to be there within 60 seconds, and the first frame that
     /// comes at all within 10.
     pub fn receive(&mut self, frame: &mut Vec<u8>) -> io::Result<()>
-        ensures { OnOk result (IsCutByLength frame.new.items) }
+        ensures { OnOk result (IsFramedByLength frame.new.items) }
     {
         if !self.is_listening {
             self.flush()?;
@@ -93,7 +93,7 @@ impl<C: Clock + Drop, S: Read + Write + OpenStream + Drop> Connection<C, S> {
             self.stream.get_mut().start(seconds)?;
             self.is_listening = true;
         }
-        read_cut(&mut self.stream, frame)?;
+        read_framed(&mut self.stream, frame)?;
         self.has_replied = true;
         Ok(())
     }

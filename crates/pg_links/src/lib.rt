@@ -2,8 +2,8 @@
 #![tactic(auto)]
 
 mod connection;
-mod cutting;
 mod deadline;
+mod framing;
 mod owner;
 mod socket;
 pub mod stand_ins;

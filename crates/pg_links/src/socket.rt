@@ -2,7 +2,7 @@
 
 ghost use Rattle.std.specs.Prelude.{◌≡◌, true, false, Err, IsOk, IfOk, OnOk, OnErr};
 ghost use Rattle.pg_links.specs.Counting.{count_after};
-ghost use Rattle.pg_links.specs.Sockets.{idle_link, IsCutByLength};
+ghost use Rattle.pg_links.specs.Sockets.{idle_link, IsFramedByLength};
 
 use crate::connection::Connection;
 use crate::starting::{Reach, Starting, is_want_of_memory, listen_anywhere};
@@ -275,7 +275,7 @@ impl<R: Reach> Link for SocketLink<R> {
         ensures program { self.new.has_program ≡ self.old.has_program }
         ensures ok { OnOk result (self.new ≡ self.old) }
         ensures err { OnErr result (self.new.is_connected ≡ false) }
-        ensures cut { OnOk result (IsCutByLength frame.new.items) }
+        ensures framed { OnOk result (IsFramedByLength frame.new.items) }
         ensures closed { self.old.is_connected ≡ false → result ≡ Err LinkFault.Failed }
     {
         let Some(connection) = &mut self.connection else {

@@ -1,5 +1,6 @@
 -- The formats of what stands in frames.
-use Rattle.std.proofs.Common.{◌≡◌, ℕ, ◌+◌, ◌^◌, ◌<◌, ◌≤◌, ◌⊎◌, Bool, true, false, cond, List, ◌∷◌, [], length, ◌++◌, Option, Ok, Err, Some, None, refl, subst, arith, inl, inr}
+use Rattle.std.proofs.Common.{◌≡◌, ℕ, ◌+◌, ◌^◌, ◌<◌, ◌≤◌, ◌⊎◌, Bool, true, false, cond, List, ◌∷◌}
+use Rattle.std.proofs.Common.{[], length, ◌++◌, Option, Ok, Err, Some, None, refl, subst, arith, inl, inr}
 use Rattle.std.specs.Prelude.{All, IfSome, ◌↔◌, nat_le, nat_lt, ◌&&◌, ◌||◌}
 use Rattle.std.proofs.lemmas.Bool.{cases_lt, le-ltb, ltb-true, lt-ltb, leb-true, le-leb, eqb-true, eq-eqb}
 use Rattle.pg_wire.specs.declared.fault.FieldFault.TheVariants.{At}
@@ -50,7 +51,8 @@ from_zero key xs = λ i d lt. omega arith
 pub lines_is : IsKind formats.lines (2 ^ 32)
 unfolding formats.line
 lines_is = rising_is
-    (λ low. seen_is (then_is (number_is low) (λ _ _. then_is (within_is 0 65537) (λ _ _. then_is (byte_is 2) (λ _ _. listed_is successors_is 1 (2 ^ 32) 0 (omega arith)))))
+    (λ low. seen_is (then_is (number_is low) (λ _ _. then_is (within_is 0 65537) (λ _ _. then_is (byte_is 2)
+    (λ _ _. listed_is successors_is 1 (2 ^ 32) 0 (omega arith)))))
     (λ p h. refl) (λ l h. refl)
     (λ p h. (
       h.0.0,
@@ -185,7 +187,8 @@ code_is status lt = record {
 
 pub setup_is : IsForm formats.setup_fields
 unfolding formats.setup_fields
-setup_is = seen_is (then_is version_is (λ _ _. then_is (within_is 1 1048577) (λ _ _. listed_is bounds_is 0 (2 ^ 32) 65536 (omega arith)))) (λ p h. refl) (λ s h. refl)
+setup_is = seen_is (then_is version_is (λ _ _. then_is (within_is 1 1048577) (λ _ _. listed_is bounds_is 0 (2 ^ 32) 65536 (omega arith))))
+    (λ p h. refl) (λ s h. refl)
     (λ p h. record {
       version = (h.0.0, omega (arith, h.0.1));
       vertices = (h.1.0.0, omega (arith, h.1.0.1));

@@ -2,8 +2,8 @@
 
 ghost use Rattle.std.specs.Prelude.{OnOk};
 ghost use Rattle.std.specs.Io.KnownBytes.{Consumes};
-ghost use Rattle.pg_links.specs.Sockets.{IsCutByLength};
-ghost use Rattle.pg_links.specs.Mirrors.Cutting.{AppendsNext};
+ghost use Rattle.pg_links.specs.Sockets.{IsFramedByLength};
+ghost use Rattle.pg_links.specs.Mirrors.Framing.{AppendsNext};
 
 use std::io::{self, Read};
 
@@ -30,8 +30,8 @@ fn append<R: Read>(input: &mut R, bytes: &mut Vec<u8>, count: usize) -> io::Resu
 
 /// Reads four bytes, and then as many as they say. Where they say 0, or more than a frame may have, they are all that is
 /// read: they spell no frame.
-pub fn read_cut<R: Read>(input: &mut R, bytes: &mut Vec<u8>) -> io::Result<()>
-    ensures cut { OnOk result (IsCutByLength bytes.new.items) }
+pub fn read_framed<R: Read>(input: &mut R, bytes: &mut Vec<u8>) -> io::Result<()>
+    ensures framed { OnOk result (IsFramedByLength bytes.new.items) }
     ensures bytes { OnOk result (Consumes (R.remaining input.old) (R.remaining input.new) bytes.new.items) }
 {
     let mut front = [0u8; 4];

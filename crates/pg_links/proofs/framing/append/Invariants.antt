@@ -1,6 +1,6 @@
 use Rattle.std.proofs.Common.{◌≤◌, ◌-◌}
-use Rattle.pg_links.specs.Mirrors.Cutting.{AppendsNext}
-use Rattle.pg_links.proofs.cutting.append.Given as goal
+use Rattle.pg_links.specs.Mirrors.Framing.{AppendsNext}
+use Rattle.pg_links.proofs.framing.append.Given as goal
 
 abbrev pub invariant-loop-left : goal.invariant-loop-left
 invariant-loop-left g l = record {
