@@ -1,28 +1,14 @@
 -- One more line: what it does to the parts, and which reason there is against it.
-use Rattle.std.proofs.Common.{◌≡◌, ℕ, zero, suc, append-nil, ◌+◌, ◌-◌, ◌≤◌, ◌<◌, Bool, true, false, eqb, cond, List, [], ◌∷◌, ◌++◌, length}
-use Rattle.std.proofs.Common.{take, drop, map, get_or, replicate, Option, Some, None, refl, sym, ap, subst, ◌∙◌, arith, inl, inr, All, Bor}
-use Rattle.std.proofs.lemmas.Bool.Decides.{nat_tests}
-use Rattle.std.specs.Prelude.{slice_range, slice_get, option_map, option_to_list, option_copied, is_some, IsSome, IfSome, Result, Ok, Err, OnErr, ◌||◌}
-use Rattle.std.specs.List.{list_any, flat_map, IsDistinct}
-use Rattle.std.specs.List.Sorted.{IsStrictlyIncreasing}
-use Rattle.std.specs.declared.vec.Vec.{Vec}
-use Rattle.std.specs.declared.alloc.Global.{Global}
-use Rattle.std.specs.Cmp.{nat_eq_equiv}
-use Rattle.std.proofs.lemmas.Map.Keys.{IsDistinct-push}
-use Rattle.std.proofs.lemmas.Bool.{cases_lt, eqb-false, ltb-false, leb-false}
-use Rattle.std.proofs.lemmas.List.{drop-append-le, take-append-le, take_all, drop_at, length-append, length-drop, length-take}
-use Rattle.std.proofs.lemmas.List.{length-replicate, get_or-append_right, get_or-replicate, get_or_past, map-append, length-map}
-use Rattle.std.proofs.Math.ListN.{get_or-append}
-use Rattle.std.proofs.Math.Seq.{get_or-append_seam}
-use Rattle.std.proofs.lemmas.List.Concat.{length-flat_map, flat_map-append}
-use Rattle.std.proofs.lemmas.List.Elements.{All-nil, All-head, All-tail, All-push, All-weaker}
-use Rattle.pg_arena.specs.declared.player.Player.{Player}
-use Rattle.pg_arena.specs.declared.fault.ArenaFault.{ArenaFault}
-use Rattle.pg_arena.specs.declared.fault.ArenaFault.TheVariants.{OutOfMemory}
-use Rattle.pg_arena.specs.Games.{edge_count}
-use Rattle.pg_arena.specs.Lines.{Line, is_named, add_fault, Answers}
-use Rattle.pg_arena.specs.declared.entry.Entry.{Entry}
-use Rattle.pg_arena.specs.Mirrors.Entries.{Row, row_of, rows_in, place_at, name_in, vertex_in, vertices_in, AreWithin, AreNamed, IsOrderly, AreKept, AreKeptIn}
+use Rattle.pg_arena.proofs.Common.{◌≡◌, ℕ, zero, suc, append-nil, ◌+◌, ◌-◌, ◌≤◌, ◌<◌, Bool, true, false, eqb, cond, List, [], ◌∷◌, ◌++◌}
+use Rattle.pg_arena.proofs.Common.{length, take, drop, map, get_or, replicate, Option, Some, None, refl, sym, ap, subst, ◌∙◌, arith, inl}
+use Rattle.pg_arena.proofs.Common.{inr, All, Bor, nat_tests, slice_range, slice_get, option_map, option_to_list, option_copied, is_some}
+use Rattle.pg_arena.proofs.Common.{IsSome, IfSome, Result, Ok, Err, OnErr, ◌||◌, list_any, flat_map, IsDistinct, IsStrictlyIncreasing, Vec}
+use Rattle.pg_arena.proofs.Common.{Global, nat_eq_equiv, IsDistinct-push, cases_lt, eqb-false, ltb-false, leb-false, drop-append-le}
+use Rattle.pg_arena.proofs.Common.{take-append-le, take_all, drop_at, length-append, length-drop, length-take, length-replicate}
+use Rattle.pg_arena.proofs.Common.{get_or-append_right, get_or-replicate, get_or_past, map-append, length-map, get_or-append}
+use Rattle.pg_arena.proofs.Common.{get_or-append_seam, length-flat_map, flat_map-append, All-nil, All-head, All-tail, All-push, All-weaker}
+use Rattle.pg_arena.proofs.Common.{Player, ArenaFault, OutOfMemory, edge_count, Line, is_named, add_fault, Answers, Entry, Row, row_of}
+use Rattle.pg_arena.proofs.Common.{rows_in, place_at, name_in, vertex_in, vertices_in, AreWithin, AreNamed, IsOrderly, AreKept, AreKeptIn}
 use Rattle.pg_arena.proofs.Beside.{rows_long, rows_more}
 
 abbrev Names : Type 0

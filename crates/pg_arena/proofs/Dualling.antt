@@ -1,14 +1,8 @@
 -- The parts of a game's dual.
-use Rattle.std.proofs.Common.{◌≡◌, ℕ, ◌≤◌, List, [], ◌∷◌, length, map, drop, Option, refl, sym, ap, subst, ◌∙◌, All, ◌+◌, arith}
-use Rattle.std.proofs.lemmas.Bool.Decides.{nat_tests}
-use Rattle.std.specs.declared.vec.Vec.{Vec}
-use Rattle.std.specs.declared.alloc.Global.{Global}
-use Rattle.std.proofs.lemmas.List.{length-map}
-use Rattle.std.proofs.lemmas.List.Elements.{All-head, All-tail, All-cons, All-nil, All-map, All-weaker}
-use Rattle.pg_arena.specs.declared.entry.Entry.{Entry}
-use Rattle.pg_arena.specs.Games.{GameVertex, IsGame, IsWithinLimits, HasPrioritiesUpTo, dual, dual_vertex}
-use Rattle.pg_arena.specs.Lemmas.Duals.{game_dual, limits_dual}
-use Rattle.pg_arena.specs.Mirrors.Entries.{Row, row_of, rows_in, place_at, vertex_in, vertices_in, dual_entry, dual_row, IsBuilt, IsBuiltIn, IsOrderly}
+use Rattle.pg_arena.proofs.Common.{◌≡◌, ℕ, ◌≤◌, List, [], ◌∷◌, length, map, drop, Option, refl, sym, ap, subst, ◌∙◌, All, ◌+◌, arith}
+use Rattle.pg_arena.proofs.Common.{nat_tests, Vec, Global, length-map, All-head, All-tail, All-cons, All-nil, All-map, All-weaker, Entry}
+use Rattle.pg_arena.proofs.Common.{GameVertex, IsGame, IsWithinLimits, HasPrioritiesUpTo, dual, dual_vertex, game_dual, limits_dual, Row}
+use Rattle.pg_arena.proofs.Common.{row_of, rows_in, place_at, vertex_in, vertices_in, dual_entry, dual_row, IsBuilt, IsBuiltIn, IsOrderly}
 use Rattle.pg_arena.proofs.Beside.{rows_dual}
 
 abbrev Names : Type 0

@@ -1,25 +1,13 @@
 -- The game that sorted entries make is the game of the lines.
-use Rattle.std.proofs.Common.{Option, ◌≡◌, ℕ, ◌+◌, ◌-◌, ◌≤◌, ◌<◌, List, [], ◌∷◌, length, get_or, take, drop, map, refl, sym, ap, subst, ◌∙◌}
-use Rattle.std.proofs.Common.{arith, inl, inr, All}
-use Rattle.std.proofs.lemmas.Bool.Decides.{nat_tests}
-use Rattle.std.specs.Prelude.{slice_range, slice_index, Contains}
-use Rattle.std.specs.List.{flat_map}
-use Rattle.std.specs.List.Sorted.{IsPermutation, IsStrictlyIncreasing}
-use Rattle.std.specs.declared.vec.Vec.{Vec}
-use Rattle.std.specs.declared.alloc.Global.{Global}
-use Rattle.std.proofs.lemmas.Bool.{cases_lt}
-use Rattle.std.proofs.lemmas.List.{take-map, drop-map, length-map, get_or-map, get_or_past}
-use Rattle.std.proofs.lemmas.List.Elements.{All-head, All-tail, All-cons, All-nil, All-take, All-drop, All-contains, All-get_or, All-weaker}
-use Rattle.std.proofs.lemmas.List.Sums.{sum_by-cons}
-use Rattle.std.proofs.lemmas.List.Concat.{length-flat_map}
-use Rattle.std.proofs.lemmas.List.Sorted.{IsPermutation-map, length_permutation, All-permutation, sum_by-IsPermutation}
-use Rattle.std.proofs.lemmas.Map.Keys.{sorted_from_strictly_increasing, non_decreasing_from_sorted}
+use Rattle.pg_arena.proofs.Common.{Option, ◌≡◌, ℕ, ◌+◌, ◌-◌, ◌≤◌, ◌<◌, List, [], ◌∷◌, length, get_or, take, drop, map, refl, sym, ap, subst}
+use Rattle.pg_arena.proofs.Common.{◌∙◌, arith, inl, inr, All, nat_tests, slice_range, slice_index, Contains, flat_map, IsPermutation}
+use Rattle.pg_arena.proofs.Common.{IsStrictlyIncreasing, Vec, Global, cases_lt, take-map, drop-map, length-map, get_or-map, get_or_past}
+use Rattle.pg_arena.proofs.Common.{All-head, All-tail, All-cons, All-nil, All-take, All-drop, All-contains, All-get_or, All-weaker}
+use Rattle.pg_arena.proofs.Common.{sum_by-cons, length-flat_map, IsPermutation-map, length_permutation, All-permutation}
+use Rattle.pg_arena.proofs.Common.{sum_by-IsPermutation, sorted_from_strictly_increasing, non_decreasing_from_sorted, GameVertex, IsGame}
+use Rattle.pg_arena.proofs.Common.{identifiers, identifier, successors, edge_count, nowhere, Line, IsGameOf, line_of, Entry, Row, rows_in}
+use Rattle.pg_arena.proofs.Common.{vertex_in, vertices_in, AreWithin, IsOrderly, AreKept, AreKeptIn, IsBuilt, AreLinked}
 use Rattle.std.proofs.Math.ListN.{get_or-map as get_or-map_at}
-use Rattle.pg_arena.specs.Games.{GameVertex, IsGame, identifiers, identifier, successors, edge_count, nowhere}
-use Rattle.pg_arena.specs.Lines.{Line, IsGameOf, line_of}
-use Rattle.pg_arena.specs.declared.entry.Entry.{Entry}
-use Rattle.pg_arena.specs.Mirrors.Entries.{Row, rows_in, vertex_in, vertices_in, AreWithin, IsOrderly, AreKept, AreKeptIn, IsBuilt}
-use Rattle.pg_arena.specs.Mirrors.Links.{AreLinked}
 use Rattle.pg_arena.proofs.Beside.{rows_named, rows_long}
 use Rattle.pg_arena.proofs.Dualling.{small_vertices}
 

@@ -7,3 +7,4 @@ pub mod Unique
 pub mod Vertices
 pub mod Dualling
 pub mod Linking
+mod Common

@@ -1,10 +1,7 @@
 -- Steps of the loops that write a list from its front on: so far it is as wanted, and behind that as it was.
-use Rattle.std.proofs.Common.{◌≡◌, ◌∙◌, ◌<◌, ◌+◌, ◌++◌, ◌∷◌, [], ℕ, List, length, map, take, drop, sym, ap, subst, arith}
-use Rattle.std.proofs.lemmas.Bool.Decides.{nat_tests}
-use Rattle.std.specs.Prelude.{set, slice_index, All}
-use Rattle.std.proofs.lemmas.List.{get_or-drop, drop-drop, drop-set-lt, take_more, take_more_set, map-append}
-use Rattle.std.proofs.lemmas.List.Elements.{All-push}
-use Rattle.pg_arena.specs.Mirrors.Links.{AreLinked}
+use Rattle.pg_arena.proofs.Common.{◌≡◌, ◌∙◌, ◌<◌, ◌+◌, ◌++◌, ◌∷◌, [], ℕ, List, length, map, take, drop, sym, ap, subst, arith, nat_tests}
+use Rattle.pg_arena.proofs.Common.{set, slice_index, All, get_or-drop, drop-drop, drop-set-lt, take_more, take_more_set, map-append}
+use Rattle.pg_arena.proofs.Common.{All-push, AreLinked}
 
 -- what isn't reached yet is read as it was
 pub read_left : (old now : List ℕ) (k : ℕ) → drop k now ≡ drop k old → slice_index now k ≡ slice_index old k

@@ -1,16 +1,9 @@
 -- Whether a number stands among rising ones.
-use Rattle.std.proofs.Common.{◌≡◌, ℕ, suc, ◌+◌, ◌-◌, ◌≤◌, ◌<◌, false, List, [], ◌∷◌, ◌++◌, length, get_or, Result, Ok, Err, refl, sym, ap, ◌∙◌, arith, inl, inr}
-use Rattle.std.specs.Prelude.{MatchResult, is_ok, Some, slice_get}
-use Rattle.std.specs.List.Sorted.{IsStrictlyIncreasing, IsBinarySearchResult}
-use Rattle.std.specs.Ordering.{nat_cmp}
-use Rattle.std.proofs.lemmas.Bool.{ne_eqb, cases_lt}
-use Rattle.std.proofs.lemmas.List.{get_or_default, length-append}
-use Rattle.std.proofs.Math.ListN.{get_or-append}
-use Rattle.std.proofs.Math.Seq.{get_or-append_seam}
-use Rattle.std.proofs.lemmas.Option.{get_or_from_slice_get}
-use Rattle.std.proofs.lemmas.List.Sorted.{searched}
-use Rattle.std.proofs.lemmas.Map.Keys.{sorted_from_strictly_increasing, non_decreasing_from_sorted}
-use Rattle.pg_lists.proofs.Rising.{has, has_contained}
+use Rattle.pg_arena.proofs.Common.{◌≡◌, ℕ, suc, ◌+◌, ◌-◌, ◌≤◌, ◌<◌, false, List, [], ◌∷◌, ◌++◌, length, get_or, Result, Ok, Err, refl, sym}
+use Rattle.pg_arena.proofs.Common.{ap, ◌∙◌, arith, inl, inr, MatchResult, is_ok, Some, slice_get, IsStrictlyIncreasing}
+use Rattle.pg_arena.proofs.Common.{IsBinarySearchResult, nat_cmp, ne_eqb, cases_lt, get_or_default, length-append, get_or-append}
+use Rattle.pg_arena.proofs.Common.{get_or-append_seam, get_or_from_slice_get, searched, sorted_from_strictly_increasing}
+use Rattle.pg_arena.proofs.Common.{non_decreasing_from_sorted, has, has_contained}
 
 pub has_none : (q : ℕ) (xs : List ℕ) → ((k : ℕ) → k < length xs → get_or xs k 0 ≡ q → ⊥) → has q xs ≡ false
 has_none q [] h = refl

@@ -1,21 +1,12 @@
 -- One list of lines has one game, and lines with a game have no reason against it.
-use Rattle.std.proofs.Common.{◌≡◌, ℕ, ◌<◌, true, false, eqb, List, [], ◌∷◌, length, get_or, map, Result, Ok, Err, refl, sym, ap, subst, ◌∙◌}
-use Rattle.std.proofs.Common.{arith, inl, inr, All}
-use Rattle.std.proofs.lemmas.Bool.Decides.{nat_tests}
-use Rattle.std.specs.Prelude.{slice_index, ◌||◌, Contains, IfOk, IfErr, MatchResult}
-use Rattle.std.specs.List.{AllPairs}
-use Rattle.std.specs.List.Sorted.{IsStrictlyIncreasing}
-use Rattle.std.proofs.lemmas.Bool.{cases_lt}
-use Rattle.std.proofs.lemmas.List.{length-map, get_or_default}
-use Rattle.std.proofs.lemmas.List.Elements.{All-head, All-tail, All-from_get_or, Contains-get_or}
-use Rattle.std.proofs.lemmas.List.Sorted.{IsPermutation-sym, length_permutation, Contains-permutation, list_any-IsPermutation}
-use Rattle.std.proofs.lemmas.Map.Keys.{sorted_from_strictly_increasing, below_from_sorted}
-use Rattle.pg_arena.specs.declared.fault.ArenaFault.{ArenaFault}
-use Rattle.pg_arena.specs.declared.fault.ArenaFault.TheVariants.{OutOfMemory, UnknownSuccessor, NoVertex}
-use Rattle.pg_arena.specs.Games.{GameVertex, IsGame, identifiers, identifier, successors, vertex_at, nowhere, IsEdge}
-use Rattle.pg_arena.specs.Lines.{Line, IsGameOf, line_of, lines_of, IsUnknown, is_named, FinishFails}
-use Rattle.pg_lists.proofs.Contained.{contains_map, contains_mapped, pairs_by, same_order}
-use Rattle.pg_lists.proofs.Rising.{has, has_contained}
+use Rattle.pg_arena.proofs.Common.{◌≡◌, ℕ, ◌<◌, true, false, eqb, List, [], ◌∷◌, length, get_or, map, Result, Ok, Err, refl, sym, ap, subst}
+use Rattle.pg_arena.proofs.Common.{◌∙◌, arith, inl, inr, All, nat_tests, slice_index, ◌||◌, Contains, IfOk, IfErr, MatchResult, AllPairs}
+use Rattle.pg_arena.proofs.Common.{IsStrictlyIncreasing, cases_lt, length-map, get_or_default, All-head, All-tail, All-from_get_or}
+use Rattle.pg_arena.proofs.Common.{Contains-get_or, IsPermutation-sym, length_permutation, Contains-permutation, list_any-IsPermutation}
+use Rattle.pg_arena.proofs.Common.{sorted_from_strictly_increasing, below_from_sorted, ArenaFault, OutOfMemory, UnknownSuccessor, NoVertex}
+use Rattle.pg_arena.proofs.Common.{GameVertex, IsGame, identifiers, identifier, successors, vertex_at, nowhere, IsEdge, Line, IsGameOf}
+use Rattle.pg_arena.proofs.Common.{line_of, lines_of, IsUnknown, is_named, FinishFails, contains_map, contains_mapped, pairs_by, same_order}
+use Rattle.pg_arena.proofs.Common.{has, has_contained}
 use Rattle.pg_arena.proofs.Finishing.{map_same, identifier_is}
 
 abbrev id : Line → ℕ

@@ -1,24 +1,11 @@
 -- The first unknown successor of sorted entries is the least of the lines.
-use Rattle.std.proofs.Common.{◌≡◌, ℕ, ◌≤◌, ◌<◌, true, false, not, cond, eqb, List, [], ◌∷◌, length, get_or, ◌+◌, drop, Option, Some, None}
-use Rattle.std.proofs.Common.{refl, sym, ap, subst, ◌∙◌, ◌⊎◌, arith, inl, inr, All}
-use Rattle.std.proofs.lemmas.Bool.Decides.{nat_tests}
-use Rattle.std.specs.Prelude.{slice_range, Contains, IsSome, option_map}
-use Rattle.std.specs.Option.{option_or}
-use Rattle.std.specs.List.{AllPairs}
-use Rattle.std.specs.List.Sorted.{IsStrictlyIncreasing}
-use Rattle.std.specs.declared.vec.Vec.{Vec}
-use Rattle.std.specs.declared.alloc.Global.{Global}
-use Rattle.std.proofs.lemmas.List.{drop_more, drop_all}
-use Rattle.std.proofs.lemmas.Option.{some_pair_parts}
-use Rattle.std.proofs.lemmas.List.Elements.{All-head, All-tail}
-use Rattle.std.proofs.lemmas.List.Sorted.{Contains-permutation, IsPermutation-sym, list_any-IsPermutation}
-use Rattle.std.proofs.lemmas.List.Kept.{AllPairs-from_increasing}
-use Rattle.pg_arena.specs.declared.entry.Entry.{Entry}
-use Rattle.pg_arena.specs.Lines.{Line, is_named, IsUnknown, IsLeastUnknown}
-use Rattle.pg_arena.specs.Mirrors.Entries.{Row, row_of, rows_in, entry_at, vertex_in, vertices_in, IsOrderly}
-use Rattle.pg_arena.specs.Mirrors.Links.{HasUnknown, unknown_in, first_unknown_in}
-use Rattle.pg_lists.proofs.Contained.{Rises, contains_cases, contains_here, contains_later, contains_flat, pairs_head, pairs_tail, pairs_by}
-use Rattle.pg_lists.proofs.Rising.{has}
+use Rattle.pg_arena.proofs.Common.{◌≡◌, ℕ, ◌≤◌, ◌<◌, true, false, not, cond, eqb, List, [], ◌∷◌, length, get_or, ◌+◌, drop, Option, Some}
+use Rattle.pg_arena.proofs.Common.{None, refl, sym, ap, subst, ◌∙◌, ◌⊎◌, arith, inl, inr, All, nat_tests, slice_range, Contains, IsSome}
+use Rattle.pg_arena.proofs.Common.{option_map, option_or, AllPairs, IsStrictlyIncreasing, Vec, Global, drop_more, drop_all, some_pair_parts}
+use Rattle.pg_arena.proofs.Common.{All-head, All-tail, Contains-permutation, IsPermutation-sym, list_any-IsPermutation}
+use Rattle.pg_arena.proofs.Common.{AllPairs-from_increasing, Entry, Line, is_named, IsUnknown, IsLeastUnknown, Row, row_of, rows_in}
+use Rattle.pg_arena.proofs.Common.{entry_at, vertex_in, vertices_in, IsOrderly, HasUnknown, unknown_in, first_unknown_in, Rises}
+use Rattle.pg_arena.proofs.Common.{contains_cases, contains_here, contains_later, contains_flat, pairs_head, pairs_tail, pairs_by, has}
 use Rattle.pg_arena.proofs.Beside.{rows_long, row_at}
 use Rattle.pg_arena.proofs.Adding.{named_is}
 use Rattle.pg_arena.proofs.Finishing.{IsReady, identifiers_are}

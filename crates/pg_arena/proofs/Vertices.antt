@@ -1,19 +1,10 @@
 -- The vertex of an identifier, by its place among the identifiers.
-use Rattle.std.proofs.Common.{◌≡◌, ℕ, ◌≤◌, ◌<◌, true, false, List, [], length, get_or, Option, Some, sym, ap, subst, ◌∙◌, arith, inl, inr}
-use Rattle.std.proofs.lemmas.Bool.Decides.{nat_tests}
-use Rattle.std.specs.Prelude.{slice_index, Contains, All, ◌^◌}
-use Rattle.std.specs.List.Sorted.{IsStrictlyIncreasing}
-use Rattle.std.specs.declared.vec.Vec.{Vec}
-use Rattle.std.specs.declared.alloc.Global.{Global}
-use Rattle.std.proofs.lemmas.Bool.{cases_lt}
-use Rattle.std.proofs.lemmas.List.{length-map, get_or-map, get_or_default}
-use Rattle.std.proofs.lemmas.List.Elements.{Contains-get_or}
-use Rattle.std.proofs.lemmas.Map.Keys.{sorted_from_strictly_increasing, below_from_sorted}
-use Rattle.pg_arena.specs.declared.entry.Entry.{Entry}
-use Rattle.pg_arena.specs.Games.{GameVertex, identifiers, identifier, vertex_at, nowhere}
-use Rattle.pg_arena.specs.Mirrors.Entries.{Row, row_of, rows_in, place_at, entry_at, vertex_in, vertices_in, IsBuilt, IsBuiltIn}
+use Rattle.pg_arena.proofs.Common.{◌≡◌, ℕ, ◌≤◌, ◌<◌, true, false, List, [], length, get_or, Option, Some, sym, ap, subst, ◌∙◌, arith, inl}
+use Rattle.pg_arena.proofs.Common.{inr, nat_tests, slice_index, Contains, All, ◌^◌, IsStrictlyIncreasing, Vec, Global, cases_lt, length-map}
+use Rattle.pg_arena.proofs.Common.{get_or-map, get_or_default, Contains-get_or, sorted_from_strictly_increasing, below_from_sorted, Entry}
+use Rattle.pg_arena.proofs.Common.{GameVertex, identifiers, identifier, vertex_at, nowhere, Row, row_of, rows_in, place_at, entry_at}
+use Rattle.pg_arena.proofs.Common.{vertex_in, vertices_in, IsBuilt, IsBuiltIn, has, has_contained}
 use Rattle.pg_arena.proofs.Beside.{rows_long, row_at}
-use Rattle.pg_lists.proofs.Rising.{has, has_contained}
 use Rattle.pg_arena.proofs.Finishing.{identifiers_are, identifier_is}
 
 pub record IsListed (ids : List ℕ) (game : List GameVertex) : Type 0 where

@@ -1,9 +1,5 @@
-use Rattle.std.proofs.Common.{◌≡◌, ◌+◌, ℕ, Bool, true, false, ltb, List, get_or, sym, rules}
-use Rattle.std.specs.Prelude.{IsTrue}
-use Rattle.std.specs.List.{IsAllAdjacentAnswer}
-use Rattle.std.specs.List.Sorted.{IsStrictlyIncreasing}
-use Rattle.std.proofs.lemmas.Bool.{ltb-true}
-use Rattle.std.proofs.lemmas.List.Sorted.{answers_always}
+use Rattle.pg_arena.proofs.Common.{◌≡◌, ◌+◌, ℕ, Bool, true, false, ltb, List, get_or, sym, rules, IsTrue, IsAllAdjacentAnswer}
+use Rattle.pg_arena.proofs.Common.{IsStrictlyIncreasing, ltb-true, answers_always}
 use Rattle.pg_arena.proofs.builder.rise.Goals as goal
 
 rises : (xs : List ℕ) (r : Bool) → IsAllAdjacentAnswer (λ x y b. b ≡ ltb x y) xs r → IsTrue r → IsStrictlyIncreasing xs

@@ -1,7 +1,4 @@
-use Rattle.std.proofs.Common.{◌≡◌, ◌∙◌, map, subst, sym, ap, rules}
-use Rattle.pg_arena.specs.declared.game.Shared.{Shared}
-use Rattle.pg_arena.specs.Games.{HasPrioritiesUpTo, dual}
-use Rattle.pg_arena.specs.Mirrors.Entries.{dual_entry}
+use Rattle.pg_arena.proofs.Common.{◌≡◌, ◌∙◌, map, subst, sym, ap, rules, Shared, HasPrioritiesUpTo, dual, dual_entry}
 use Rattle.pg_arena.proofs.Dualling.{dual_vertices_in, dual_built_in, small_entries}
 use Rattle.pg_arena.proofs.game.dual.Goals as goal
 

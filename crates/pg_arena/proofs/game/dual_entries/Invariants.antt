@@ -1,5 +1,4 @@
-use Rattle.std.proofs.Common.{◌≡◌, take, map}
-use Rattle.pg_arena.specs.Mirrors.Entries.{dual_entry}
+use Rattle.pg_arena.proofs.Common.{◌≡◌, take, map, dual_entry}
 use Rattle.pg_arena.proofs.game.dual_entries.Given as goal
 
 abbrev pub invariant-loop-entry : goal.invariant-loop-entry

@@ -1,5 +1,4 @@
-use Rattle.std.proofs.Common.{length, sym}
-use Rattle.std.proofs.lemmas.Bool.{ltb-true, ltb-false}
+use Rattle.pg_arena.proofs.Common.{length, sym, ltb-true, ltb-false}
 use Rattle.pg_arena.proofs.Members.{rises_more, one_rises}
 use Rattle.pg_arena.proofs.identifiers.is_above.Goals as goal
 

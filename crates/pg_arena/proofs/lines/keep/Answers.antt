@@ -1,5 +1,4 @@
-use Rattle.std.proofs.Common.{ℕ, List, Option, Some, arith}
-use Rattle.std.proofs.lemmas.Bool.Decides.{nat_tests}
+use Rattle.pg_arena.proofs.Common.{ℕ, List, Option, Some, arith, nat_tests}
 use Rattle.pg_arena.proofs.Adding.{noted_by, noted_before}
 use Rattle.pg_arena.proofs.lines.keep.Goals as goal
 

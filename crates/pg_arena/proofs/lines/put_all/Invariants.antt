@@ -1,5 +1,4 @@
-use Rattle.std.proofs.Common.{◌≡◌, ◌≤◌, ◌+◌, ◌-◌, ◌++◌, take, length}
-use Rattle.std.specs.Prelude.{vec_capacity}
+use Rattle.pg_arena.proofs.Common.{◌≡◌, ◌≤◌, ◌+◌, ◌-◌, ◌++◌, take, length, vec_capacity}
 use Rattle.pg_arena.proofs.lines.put_all.Given as goal
 
 abbrev pub invariant-loop-identifier : goal.invariant-loop-identifier

@@ -1,5 +1,4 @@
-use Rattle.std.proofs.Common.{◌∙◌, [], sym, arith}
-use Rattle.std.proofs.lemmas.Bool.Decides.{nat_tests}
+use Rattle.pg_arena.proofs.Common.{◌∙◌, [], sym, arith, nat_tests}
 use Rattle.pg_arena.proofs.Unknown.{unknown_here, unknown_later_on, no_unknown_left}
 use Rattle.pg_arena.proofs.link.first_unknown.Goals as goal
 

@@ -1,6 +1,4 @@
-use Rattle.std.proofs.Common.{◌≡◌, [], drop}
-use Rattle.pg_arena.specs.Mirrors.Entries.{rows_in}
-use Rattle.pg_arena.specs.Mirrors.Links.{first_unknown_in}
+use Rattle.pg_arena.proofs.Common.{◌≡◌, [], drop, rows_in, first_unknown_in}
 use Rattle.pg_arena.proofs.link.first_unknown.Given as goal
 
 abbrev pub invariant-loop-v : goal.invariant-loop-v

@@ -1,6 +1,4 @@
-use Rattle.std.proofs.Common.{◌≡◌, ◌∙◌, arith}
-use Rattle.std.specs.Prelude.{slice_index}
-use Rattle.std.proofs.lemmas.List.{get_or_default}
+use Rattle.pg_arena.proofs.Common.{◌≡◌, ◌∙◌, arith, slice_index, get_or_default}
 use Rattle.pg_arena.proofs.Linking.{left_next, linked_next}
 use Rattle.pg_arena.proofs.link.link.Goals as goal
 

@@ -1,5 +1,4 @@
-use Rattle.std.proofs.Common.{◌≡◌, take, drop}
-use Rattle.pg_arena.specs.Mirrors.Links.{AreLinked}
+use Rattle.pg_arena.proofs.Common.{◌≡◌, take, drop, AreLinked}
 use Rattle.pg_arena.proofs.link.link.Given as goal
 
 abbrev pub invariant-loop-k : goal.invariant-loop-k

@@ -1,5 +1,4 @@
-use Rattle.std.proofs.Common.{◌≡◌, take, drop, map}
-use Rattle.std.specs.Prelude.{slice_index}
+use Rattle.pg_arena.proofs.Common.{◌≡◌, take, drop, map, slice_index}
 use Rattle.pg_arena.proofs.link.unlink.Given as goal
 
 abbrev pub invariant-loop-target : goal.invariant-loop-target

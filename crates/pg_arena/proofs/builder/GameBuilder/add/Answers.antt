@@ -1,7 +1,4 @@
-use Rattle.std.proofs.Common.{◌≡◌, sym, subst, rules}
-use Rattle.std.specs.List.Sorted.{IsStrictlyIncreasing}
-use Rattle.pg_lists.specs.Rising.{rising}
-use Rattle.pg_lists.proofs.Rising.{rises_already, rising_rises}
+use Rattle.pg_arena.proofs.Common.{◌≡◌, sym, subst, rules, IsStrictlyIncreasing, rising, rises_already, rising_rises}
 use Rattle.pg_arena.proofs.builder.GameBuilder.add.Goals as goal
 
 pub returns-then-rise-clause-answer : goal.returns-then-rise-clause-answer

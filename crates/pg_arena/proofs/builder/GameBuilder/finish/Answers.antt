@@ -1,5 +1,4 @@
-use Rattle.std.proofs.Common.{List, subst, sym}
-use Rattle.pg_arena.specs.Lines.{Line, IsGameOf}
+use Rattle.pg_arena.proofs.Common.{List, subst, sym, Line, IsGameOf}
 use Rattle.pg_arena.proofs.Unique.{only}
 use Rattle.pg_arena.proofs.builder.GameBuilder.finish.Goals as goal
 

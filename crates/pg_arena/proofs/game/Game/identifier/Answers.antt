@@ -1,5 +1,4 @@
-use Rattle.std.proofs.Common.{◌∙◌, get_or, ap}
-use Rattle.pg_arena.specs.declared.game.Shared.{Shared}
+use Rattle.pg_arena.proofs.Common.{◌∙◌, get_or, ap, Shared}
 use Rattle.pg_arena.proofs.Vertices.{vertex_is, identifier_read}
 use Rattle.pg_arena.proofs.game.Game.identifier.Goals as goal
 

@@ -1,6 +1,4 @@
-use Rattle.std.proofs.Common.{◌≡◌, ◌∙◌, ℕ, ◌<◌, ap, rules}
-use Rattle.std.specs.Prelude.{slice_index}
-use Rattle.pg_arena.specs.declared.game.Shared.{Shared}
+use Rattle.pg_arena.proofs.Common.{◌≡◌, ◌∙◌, ℕ, ◌<◌, ap, rules, slice_index, Shared}
 use Rattle.pg_arena.proofs.Vertices.{listed_by, all_fit}
 use Rattle.pg_arena.proofs.game.Game.len.Goals as goal
 

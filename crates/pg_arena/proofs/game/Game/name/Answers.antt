@@ -1,8 +1,4 @@
-use Rattle.std.proofs.Common.{◌≡◌, ◌∙◌, ℕ, List, Option, ap}
-use Rattle.std.specs.declared.vec.Vec.{Vec}
-use Rattle.std.specs.declared.alloc.Global.{Global}
-use Rattle.pg_arena.specs.declared.game.Shared.{Shared}
-use Rattle.pg_arena.specs.Mirrors.Entries.{place_at, name_in}
+use Rattle.pg_arena.proofs.Common.{◌≡◌, ◌∙◌, ℕ, List, Option, ap, Vec, Global, Shared, place_at, name_in}
 use Rattle.pg_arena.proofs.Vertices.{vertex_is}
 use Rattle.pg_arena.proofs.game.Game.name.Goals as goal
 

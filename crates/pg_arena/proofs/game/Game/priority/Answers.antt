@@ -1,5 +1,4 @@
-use Rattle.std.proofs.Common.{ap}
-use Rattle.pg_arena.specs.declared.entry.Entry.{Entry}
+use Rattle.pg_arena.proofs.Common.{ap, Entry}
 use Rattle.pg_arena.proofs.Vertices.{vertex_is, entry_read}
 use Rattle.pg_arena.proofs.game.Game.priority.Goals as goal
 

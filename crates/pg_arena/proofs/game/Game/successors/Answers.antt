@@ -1,8 +1,4 @@
-use Rattle.std.proofs.Common.{◌≡◌, ◌≤◌, ◌∙◌, ℕ, List, length, subst, sym, ap}
-use Rattle.std.specs.Prelude.{slice_range}
-use Rattle.pg_arena.specs.declared.entry.Entry.{Entry}
-use Rattle.pg_arena.specs.declared.game.Shared.{Shared}
-use Rattle.pg_arena.specs.Mirrors.Entries.{entry_at}
+use Rattle.pg_arena.proofs.Common.{◌≡◌, ◌≤◌, ◌∙◌, ℕ, List, length, subst, sym, ap, slice_range, Entry, Shared, entry_at}
 use Rattle.pg_arena.proofs.Vertices.{vertex_is, entry_read, range_is}
 use Rattle.pg_arena.proofs.game.Game.successors.Goals as goal
 

@@ -1,7 +1,4 @@
-use Rattle.std.proofs.Common.{◌≡◌, ◌∙◌, ◌<◌, false, List, ℕ, length, ap}
-use Rattle.std.specs.Prelude.{slice_index}
-use Rattle.pg_arena.specs.declared.game.Shared.{Shared}
-use Rattle.pg_arena.specs.Mirrors.Links.{is_among}
+use Rattle.pg_arena.proofs.Common.{◌≡◌, ◌∙◌, ◌<◌, false, List, ℕ, length, ap, slice_index, Shared, is_among}
 use Rattle.pg_arena.proofs.Vertices.{listed_by, found, missing, only_one}
 use Rattle.pg_arena.proofs.game.Game.vertex_of.Goals as goal
 

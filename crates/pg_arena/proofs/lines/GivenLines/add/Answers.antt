@@ -1,5 +1,4 @@
-use Rattle.std.proofs.Common.{◌≡◌, refl, sym, ◌∙◌}
-use Rattle.pg_arena.specs.Lines.{line_with, add_fault}
+use Rattle.pg_arena.proofs.Common.{◌≡◌, refl, sym, ◌∙◌, line_with, add_fault}
 use Rattle.pg_arena.proofs.Adding.{answers_for}
 use Rattle.pg_arena.proofs.lines.GivenLines.add.Goals as goal
 use Rattle.pg_arena.proofs.lines.GivenLines.add.Goals.{After-fault_of}

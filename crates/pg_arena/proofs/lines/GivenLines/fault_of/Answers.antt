@@ -1,7 +1,4 @@
-use Rattle.std.proofs.Common.{◌∙◌, List, length, sym, ap, arith}
-use Rattle.std.proofs.lemmas.Bool.Decides.{nat_tests}
-use Rattle.pg_arena.specs.Games.{edge_count}
-use Rattle.pg_arena.specs.Lines.{Line, is_named}
+use Rattle.pg_arena.proofs.Common.{◌∙◌, List, length, sym, ap, arith, nat_tests, edge_count, Line, is_named}
 use Rattle.pg_arena.proofs.Adding.{named_by, edges_by, lines_in}
 use Rattle.pg_arena.proofs.lines.GivenLines.fault_of.Goals as goal
 

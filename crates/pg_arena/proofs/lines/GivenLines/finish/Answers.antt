@@ -1,13 +1,6 @@
-use Rattle.std.proofs.Common.{◌≡◌, ◌<◌, ◌++◌, ℕ, List, [], length, take, drop, subst, refl, sym, ap, ◌∙◌, arith}
-use Rattle.std.proofs.lemmas.Bool.Decides.{nat_tests}
-use Rattle.std.specs.Prelude.{vec_len}
-use Rattle.std.proofs.lemmas.Bool.{eqb-false}
-use Rattle.std.proofs.lemmas.List.{take_at}
-use Rattle.std.proofs.lemmas.Result.{IfOk-weaker}
-use Rattle.pg_arena.specs.Games.{GameVertex, HasPrioritiesUpTo}
-use Rattle.pg_arena.specs.Lines.{IsGameOf}
-use Rattle.pg_arena.specs.Mirrors.Entries.{Row, rows_in, vertices_in}
-use Rattle.pg_arena.specs.Mirrors.Links.{AreLinked, HasUnknown, first_unknown_in}
+use Rattle.pg_arena.proofs.Common.{◌≡◌, ◌<◌, ◌++◌, ℕ, List, [], length, take, drop, subst, refl, sym, ap, ◌∙◌, arith, nat_tests, vec_len}
+use Rattle.pg_arena.proofs.Common.{eqb-false, take_at, IfOk-weaker, GameVertex, HasPrioritiesUpTo, IsGameOf, Row, rows_in, vertices_in}
+use Rattle.pg_arena.proofs.Common.{AreLinked, HasUnknown, first_unknown_in}
 use Rattle.pg_arena.proofs.Beside.{rows_long, have_ranges}
 use Rattle.pg_arena.proofs.Finishing.{IsReady, ready_in, as_many_ids, finished, built}
 use Rattle.pg_arena.proofs.Dualling.{small_vertices}

@@ -1,10 +1,5 @@
-use Rattle.std.proofs.Common.{◌≡◌, ℕ, ◌++◌, ◌∷◌, [], length, List, Option, ap, ◌∙◌, arith}
-use Rattle.std.proofs.lemmas.Bool.Decides.{nat_tests}
-use Rattle.std.specs.Prelude.{option_to_list}
-use Rattle.std.specs.declared.vec.Vec.{Vec}
-use Rattle.std.specs.declared.alloc.Global.{Global}
-use Rattle.pg_arena.specs.declared.entry.Entry.{Entry}
-use Rattle.pg_arena.specs.Lines.{Line, line_with}
+use Rattle.pg_arena.proofs.Common.{◌≡◌, ℕ, ◌++◌, ◌∷◌, [], length, List, Option, ap, ◌∙◌, arith, nat_tests, option_to_list, Vec, Global}
+use Rattle.pg_arena.proofs.Common.{Entry, Line, line_with}
 use Rattle.pg_arena.proofs.Adding.{IsNew, new_entry, new_line, IsPlaced, lines_added, kept_added, accepted_in, few_names, named_copy}
 use Rattle.pg_arena.proofs.lines.GivenLines.put.Goals as goal
 use Rattle.pg_arena.proofs.lines.GivenLines.put.Goals.{After-len-line, After-push_reserved}
