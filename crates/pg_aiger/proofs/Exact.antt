@@ -1,24 +1,13 @@
 -- The gates that are made are those of the construction.
-use Rattle.std.proofs.Common.{◌≡◌, ℕ, zero, suc, ◌+◌, ◌*◌, ◌/◌, ◌%◌, ◌^◌, ◌<◌, ◌≤◌, ◌⊎◌, inl, inr, ◌||◌, Bool, true, false, cond, eqb, List}
-use Rattle.std.proofs.Common.{[], ◌∷◌, ◌++◌, length, map, take, get_or, refl, sym, ap, arith, ◌∙◌, add-one, append_assoc}
-use Rattle.std.specs.Prelude.{max, min}
-use Rattle.std.specs.List.{range_with_len, items_where_true, flat_map}
-use Rattle.std.proofs.lemmas.Bool.{eq-eqb, ne_eqb}
-use Rattle.std.proofs.lemmas.List.{take_more, map-append, append-nil, length-map, length-take-le, flat_map_more}
-use Rattle.std.proofs.lemmas.List.FromFn.{map-range_with_len_more}
-use Rattle.std.proofs.lemmas.List.Sums.{fold-append}
-use Rattle.std.proofs.lemmas.Nat.Bits.{bit_at_cat_low}
-use Rattle.std.proofs.Math.Arith.{digits_div, digits_mod}
-use Rattle.std.proofs.Math.Nat.{div-add-mod'}
-use Rattle.pg_synth.specs.Machines.{Machine, IsMachine, no_reply}
-use Rattle.pg_synth.specs.declared.mealy.Reply.{Reply}
-use Rattle.pg_aiger.specs.declared.gate.Gate.{Gate}
-use Rattle.pg_aiger.specs.Circuits.{Circuit, circuit_in_order}
-use Rattle.pg_aiger.specs.Runs.{bit}
-use Rattle.pg_aiger.specs.Construction.{Drafted, Made, new_gate, negation, conjunction, disjunction, conjunction_of, disjunction_of}
-use Rattle.pg_aiger.specs.Construction.{each_made, spelling, minterm_literals, all_minterms, having, bit_columns, made_circuit}
-use Rattle.pg_aiger.specs.Mirrors.Drafts.{conjunction_with}
-use Rattle.pg_aiger.specs.Mirrors.Tables.{reply_of, outputs_below, nexts_below, minterm_at, minterms_below}
+use Rattle.pg_aiger.proofs.Common.{◌≡◌, ℕ, zero, suc, ◌+◌, ◌*◌, ◌/◌, ◌%◌, ◌^◌, ◌<◌, ◌≤◌, ◌⊎◌, inl, inr, ◌||◌, Bool, true, false, cond, eqb}
+use Rattle.pg_aiger.proofs.Common.{List, [], ◌∷◌, ◌++◌, length, map, take, get_or, refl, sym, ap, arith, ◌∙◌, add-one, append_assoc, max}
+use Rattle.pg_aiger.proofs.Common.{min, range_with_len, items_where_true, flat_map, eq-eqb, ne_eqb, take_more, map-append, append-nil}
+use Rattle.pg_aiger.proofs.Common.{length-map, length-take-le, flat_map_more, map-range_with_len_more, fold-append, bit_at_cat_low}
+use Rattle.pg_aiger.proofs.Common.{digits_div, digits_mod, div-add-mod', Machine, IsMachine, no_reply, Reply, Gate, Circuit}
+use Rattle.pg_aiger.proofs.Common.{circuit_in_order, bit, Made, new_gate, negation, conjunction, disjunction, conjunction_of}
+use Rattle.pg_aiger.proofs.Common.{disjunction_of, each_made, spelling, minterm_literals, all_minterms, having, bit_columns, made_circuit}
+use Rattle.pg_aiger.proofs.Common.{conjunction_with, reply_of, outputs_below, nexts_below, minterm_at, minterms_below}
+use Rattle.pg_aiger.specs.Construction.{Drafted}
 
 each_append : (join : Drafted → List ℕ → Made) (draft : Drafted) (lists : List (List ℕ)) (list : List ℕ)
     → each_made join draft (lists ++ list ∷ [])

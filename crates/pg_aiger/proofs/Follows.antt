@@ -1,18 +1,9 @@
 -- The run of a machine's circuit goes through the machine's states.
-use Rattle.std.proofs.Common.{◌≡◌, ℕ, zero, suc, ◌+◌, ◌*◌, ◌/◌, ◌%◌, ◌^◌, ◌<◌, ◌≤◌, Bool, false, cond, eqb, List, length, get_or, arith}
-use Rattle.std.proofs.Common.{refl, sym, subst, ap, ◌∙◌}
-use Rattle.std.proofs.lemmas.Nat.{mod-pow-add}
-use Rattle.std.proofs.Math.Nat.{mod-eq_of_lt}
-use Rattle.std.proofs.lemmas.List.{length-map, get_or-map}
-use Rattle.pg_synth.specs.Letters.{inputs, joined}
-use Rattle.pg_synth.specs.Machines.{Machine, IsMachine, machine_state, machine_output, machine_word}
-use Rattle.pg_aiger.specs.Circuits.{Circuit, Latch, no_latch, latch_at}
-use Rattle.pg_aiger.specs.Runs.{Valuation, value, bit, IsRun, IsWordOf, current, number_of}
-use Rattle.pg_aiger.specs.Machines.{IsWidth, RunsAs, IsCircuitOf}
-use Rattle.pg_aiger.specs.Construction.{made_circuit}
-use Rattle.pg_aiger.specs.Laws.{FollowsMachine, OneCircuit}
-use Rattle.pg_aiger.specs.Mirrors.Drafts.{number_at}
-use Rattle.pg_aiger.specs.Mirrors.Tables.{IsAt, IsBuiltFor}
+use Rattle.pg_aiger.proofs.Common.{◌≡◌, ℕ, zero, suc, ◌+◌, ◌*◌, ◌/◌, ◌%◌, ◌^◌, ◌<◌, ◌≤◌, Bool, false, cond, eqb, List, length, get_or}
+use Rattle.pg_aiger.proofs.Common.{arith, refl, sym, subst, ap, ◌∙◌, mod-pow-add, mod-eq_of_lt, length-map, get_or-map, inputs, joined}
+use Rattle.pg_aiger.proofs.Common.{Machine, IsMachine, machine_state, machine_output, machine_word, Circuit, Latch, no_latch, latch_at}
+use Rattle.pg_aiger.proofs.Common.{Valuation, value, bit, IsRun, IsWordOf, current, number_of, IsWidth, RunsAs, IsCircuitOf, made_circuit}
+use Rattle.pg_aiger.proofs.Common.{FollowsMachine, OneCircuit, number_at, IsAt, IsBuiltFor}
 use Rattle.pg_aiger.proofs.Runs.{of_input, of_latch, has_one}
 use Rattle.pg_aiger.proofs.Numbers.{number_is}
 use Rattle.pg_aiger.proofs.Made.{one_width}

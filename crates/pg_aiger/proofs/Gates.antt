@@ -1,10 +1,7 @@
 -- Gates in order have one value each.
-use Rattle.std.proofs.Common.{◌≡◌, ℕ, suc, ◌+◌, ◌*◌, ◌/◌, ◌%◌, ◌<◌, inl, inr, true, false, cond, eqb, not, ◌&&◌, List, [], ◌∷◌, length}
-use Rattle.std.proofs.Common.{arith, refl, sym, subst, ap, ◌∙◌}
-use Rattle.std.proofs.lemmas.Bool.{cases_lt, eq-eqb, ne_eqb}
-use Rattle.pg_aiger.specs.declared.gate.Gate.{Gate}
-use Rattle.pg_aiger.specs.Circuits.{AreGatesFrom}
-use Rattle.pg_aiger.specs.Runs.{Valuation, value, Satisfies}
+use Rattle.pg_aiger.proofs.Common.{◌≡◌, ℕ, suc, ◌+◌, ◌*◌, ◌/◌, ◌%◌, ◌<◌, inl, inr, true, false, cond, eqb, not, ◌&&◌, List, [], ◌∷◌, length}
+use Rattle.pg_aiger.proofs.Common.{arith, refl, sym, subst, ap, ◌∙◌, cases_lt, eq-eqb, ne_eqb, Gate, AreGatesFrom, Valuation, value}
+use Rattle.pg_aiger.proofs.Common.{Satisfies}
 
 -- valuations that agree on the variables below `base`
 abbrev pub AgreeBelow : ℕ → Valuation → Valuation → Type 0

@@ -10,3 +10,4 @@ pub mod Follows
 pub mod Steps
 pub mod ReadingBack
 pub mod Printing
+mod Common

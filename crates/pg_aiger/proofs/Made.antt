@@ -1,20 +1,11 @@
 -- What the columns of a machine's replies make is its circuit.
-use Rattle.std.proofs.Common.{◌≡◌, ℕ, zero, suc, ◌+◌, ◌*◌, ◌/◌, ◌%◌, ◌^◌, ◌<◌, ◌≤◌, inl, inr, Bool, true, false, eqb, ◌&&◌, List, [], ◌∷◌}
-use Rattle.std.proofs.Common.{length, get_or, arith, refl, sym, subst, ap, ◌∙◌, pow-add}
-use Rattle.std.specs.Prelude.{slice_index}
-use Rattle.std.proofs.lemmas.Bool.{cases_lt, eq-eqb, eqb-true}
-use Rattle.std.proofs.lemmas.List.FromFn.{length-map-range_with_len, get_or-map-range_with_len}
-use Rattle.std.proofs.lemmas.Nat.{mul-add-lt, pow_pos}
-use Rattle.std.proofs.Math.Arith.{digits_div, digits_mod}
-use Rattle.std.proofs.Math.Nat.{div-add-mod', mul-le-mul_left}
-use Rattle.pg_synth.specs.Machines.{Machine, IsMachine, reply}
-use Rattle.pg_aiger.specs.declared.gate.Gate.{Gate}
-use Rattle.pg_aiger.specs.Circuits.{AreGatesFrom, IsNumbered, no_latch}
-use Rattle.pg_aiger.specs.Runs.{Valuation, value, Satisfies, bit}
-use Rattle.pg_aiger.specs.Machines.{IsWidth, IsTooLarge, count_ahead}
-use Rattle.pg_aiger.specs.Mirrors.Drafts.{Drafted, number_at}
-use Rattle.pg_aiger.specs.Mirrors.Tables.{outputs_below, nexts_below, reply_of, IsAt, IsBuiltFor, is_minterm, MeanEach, column_bit, AreColumns}
-use Rattle.pg_aiger.specs.Mirrors.Views.{literals_from, latches_from, viewed, IsKept}
+use Rattle.pg_aiger.proofs.Common.{◌≡◌, ℕ, zero, suc, ◌+◌, ◌*◌, ◌/◌, ◌%◌, ◌^◌, ◌<◌, ◌≤◌, inl, inr, Bool, true, false, eqb, ◌&&◌, List, []}
+use Rattle.pg_aiger.proofs.Common.{◌∷◌, length, get_or, arith, refl, sym, subst, ap, ◌∙◌, pow-add, slice_index, cases_lt, eq-eqb, eqb-true}
+use Rattle.pg_aiger.proofs.Common.{length-map-range_with_len, get_or-map-range_with_len, mul-add-lt, pow_pos, digits_div, digits_mod}
+use Rattle.pg_aiger.proofs.Common.{div-add-mod', mul-le-mul_left, Machine, IsMachine, reply, Gate, AreGatesFrom, IsNumbered, no_latch}
+use Rattle.pg_aiger.proofs.Common.{Valuation, value, Satisfies, bit, IsWidth, IsTooLarge, count_ahead, Drafted, number_at, outputs_below}
+use Rattle.pg_aiger.proofs.Common.{nexts_below, reply_of, IsAt, IsBuiltFor, is_minterm, MeanEach, column_bit, AreColumns, literals_from}
+use Rattle.pg_aiger.proofs.Common.{latches_from, viewed, IsKept}
 use Rattle.pg_aiger.proofs.Places.{any_at, literal_more}
 
 place_in : (s p i states : ℕ) → s < states → i < p → s * p + i < states * p

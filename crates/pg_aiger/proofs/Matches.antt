@@ -1,11 +1,7 @@
 -- Literals that spell a number.
-use Rattle.std.proofs.Common.{◌≡◌, ℕ, zero, suc, ◌+◌, ◌*◌, ◌/◌, ◌%◌, ◌^◌, ◌<◌, inl, inr, Bool, true, false, cond, eqb, not, ◌&&◌, arith}
-use Rattle.std.proofs.Common.{refl, sym, subst, ap, ◌∙◌}
-use Rattle.std.proofs.lemmas.Bool.{cases_eq, eq-eqb, ne_eqb}
-use Rattle.std.proofs.lemmas.Nat.{mod-pow-add}
-use Rattle.std.proofs.Math.Nat.{pow-suc}
-use Rattle.pg_aiger.specs.Runs.{Valuation, value}
-use Rattle.pg_aiger.specs.Mirrors.Drafts.{Drafted, Extends, number_at}
+use Rattle.pg_aiger.proofs.Common.{◌≡◌, ℕ, zero, suc, ◌+◌, ◌*◌, ◌/◌, ◌%◌, ◌^◌, ◌<◌, inl, inr, Bool, true, false, cond, eqb, not, ◌&&◌}
+use Rattle.pg_aiger.proofs.Common.{arith, refl, sym, subst, ap, ◌∙◌, cases_eq, eq-eqb, ne_eqb, mod-pow-add, pow-suc, Valuation, value}
+use Rattle.pg_aiger.proofs.Common.{Drafted, Extends, number_at}
 use Rattle.pg_aiger.proofs.Gates.{even_value}
 
 pub extends_self : (d : Drafted) → Extends 0 d d

@@ -1,9 +1,7 @@
 -- Numbers that literals spell.
-use Rattle.std.proofs.Common.{◌≡◌, ℕ, zero, suc, ◌+◌, ◌*◌, ◌/◌, ◌%◌, ◌^◌, ◌<◌, Bool, true, false, cond, eqb, List, [], ◌∷◌, length, get_or}
-use Rattle.std.proofs.Common.{arith, refl, sym, ap, ◌∙◌}
-use Rattle.std.proofs.Math.Nat.{pow-succ', div-div-eq-div-mul, mod-eq_of_lt}
-use Rattle.std.proofs.lemmas.Nat.{mod-pow-add}
-use Rattle.pg_aiger.specs.Runs.{Valuation, value, bit, HaveBits, number_of}
+use Rattle.pg_aiger.proofs.Common.{◌≡◌, ℕ, zero, suc, ◌+◌, ◌*◌, ◌/◌, ◌%◌, ◌^◌, ◌<◌, Bool, true, false, cond, eqb, List, [], ◌∷◌, length}
+use Rattle.pg_aiger.proofs.Common.{get_or, arith, refl, sym, ap, ◌∙◌, pow-succ', div-div-eq-div-mul, mod-eq_of_lt, mod-pow-add, Valuation}
+use Rattle.pg_aiger.proofs.Common.{value, bit, HaveBits, number_of}
 
 -- the bits of a half are the higher bits
 bit_half : (n j : ℕ) → bit (n / 2) j ≡ bit n (suc j)

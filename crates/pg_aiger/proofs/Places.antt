@@ -1,14 +1,9 @@
 -- The places of a table.
-use Rattle.std.proofs.Common.{◌≡◌, ℕ, zero, suc, ◌+◌, ◌*◌, ◌/◌, ◌%◌, ◌^◌, ◌<◌, ◌≤◌, inl, inr, Bool, true, false, ◌&&◌, ◌||◌, List, [], ◌∷◌}
-use Rattle.std.proofs.Common.{◌++◌, length, get_or, length-append, arith, refl, sym, subst, ap, ◌∙◌, add-one, pow-add}
-use Rattle.std.specs.Prelude.{slice_index}
-use Rattle.std.proofs.lemmas.Bool.{cases_lt, cases_eq, eq-eqb, ne_eqb}
-use Rattle.std.proofs.Math.Nat.{mod-eq_of_lt, div-lt_iff_lt-mul, mul-le-mul_left}
-use Rattle.pg_aiger.specs.Runs.{Valuation, value, bit}
-use Rattle.pg_aiger.specs.Mirrors.Drafts.{Drafted, IsLiteral, Extends, Means}
-use Rattle.pg_aiger.specs.Mirrors.Tables.{any_below, MeanEach}
-use Rattle.std.proofs.Math.ListN.{get_or-append}
-use Rattle.std.proofs.Math.Seq.{get_or-append_seam}
+use Rattle.pg_aiger.proofs.Common.{◌≡◌, ℕ, zero, suc, ◌+◌, ◌*◌, ◌/◌, ◌%◌, ◌^◌, ◌<◌, ◌≤◌, inl, inr, Bool, true, false, ◌&&◌, ◌||◌, List, []}
+use Rattle.pg_aiger.proofs.Common.{◌∷◌, ◌++◌, length, get_or, length-append, arith, refl, sym, subst, ap, ◌∙◌, add-one, pow-add}
+use Rattle.pg_aiger.proofs.Common.{slice_index, cases_lt, cases_eq, eq-eqb, ne_eqb, mod-eq_of_lt, div-lt_iff_lt-mul, mul-le-mul_left}
+use Rattle.pg_aiger.proofs.Common.{Valuation, value, bit, Drafted, IsLiteral, Extends, Means, any_below, MeanEach, get_or-append}
+use Rattle.pg_aiger.proofs.Common.{get_or-append_seam}
 use Rattle.pg_aiger.proofs.Matches.{extends_more}
 
 pub whole_quotient : (n k b : ℕ) → n < 2 ^ (k + b) → n / 2 ^ k % 2 ^ b ≡ n / 2 ^ k

@@ -1,21 +1,11 @@
 -- What is written piece by piece is the layout.
-use mathlib.Core.Bool.{beq}
-use Rattle.std.proofs.Common.{◌≡◌, ℕ, suc, ◌+◌, ◌*◌, ◌≤◌, ◌<◌, Bool, true, false, not, cond, List, [], ◌∷◌, ◌++◌, length, map, take, get_or}
-use Rattle.std.proofs.Common.{Option, refl, sym, ap, subst, arith, ◌∙◌}
-use Rattle.std.specs.List.{flat_map, items_where_true}
-use Rattle.std.specs.Io.KnownBytes.{Appends}
-use Rattle.std.proofs.KnownBytes.{Appends-trans}
-use Rattle.std.proofs.lemmas.List.{take_more, append-nil, map-append, flat_map_more, length-map, length-take, length-take-le, get_or_default}
-use Rattle.std.proofs.Math.Seq.{take-length}
-use Rattle.std.proofs.lemmas.List.Concat.{flat_map-append}
-use Rattle.std.proofs.lemmas.List.FromFn.{map-range_with_len_more}
-use Rattle.pg_automaton.specs.Automata.{Automaton, IsAutomaton}
-use Rattle.pg_aiger.specs.declared.gate.Gate.{Gate}
-use Rattle.pg_aiger.specs.Circuits.{Circuit, Latch}
-use Rattle.pg_aiger.specs.CircuitText.{Kind, input, output, Row, header, symbol}
-use Rattle.pg_aiger.specs.CircuitLayout.{row_text, symbols_from, input_names, output_names, circuit_text}
-use Rattle.pg_aiger.specs.Mirrors.Layouts.{named, literal_row, latch_row, gate_row, names_until, symbol_rows}
-use Rattle.pg_aiger.specs.Mirrors.Views.{literals_from, latches_from, viewed}
+use Rattle.pg_aiger.proofs.Common.{beq, ◌≡◌, ℕ, suc, ◌+◌, ◌*◌, ◌≤◌, ◌<◌, Bool, true, false, not, cond, List, [], ◌∷◌, ◌++◌, length, map}
+use Rattle.pg_aiger.proofs.Common.{take, get_or, Option, refl, sym, ap, subst, arith, ◌∙◌, flat_map, items_where_true, Appends}
+use Rattle.pg_aiger.proofs.Common.{Appends-trans, take_more, append-nil, map-append, flat_map_more, length-map, length-take, length-take-le}
+use Rattle.pg_aiger.proofs.Common.{get_or_default, take-length, flat_map-append, map-range_with_len_more, Automaton, IsAutomaton, Gate}
+use Rattle.pg_aiger.proofs.Common.{Circuit, Latch, Kind, input, output, Row, header, symbol, row_text, symbols_from, input_names}
+use Rattle.pg_aiger.proofs.Common.{output_names, circuit_text, named, literal_row, latch_row, gate_row, names_until, symbol_rows}
+use Rattle.pg_aiger.proofs.Common.{literals_from, latches_from, viewed}
 use Rattle.pg_aiger.proofs.Made.{length_literals, length_latches}
 use Rattle.pg_aiger.proofs.ReadingBack.{few_picked}
 

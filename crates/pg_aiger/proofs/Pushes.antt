@@ -1,12 +1,7 @@
 -- One more gate.
-use Rattle.std.proofs.Common.{◌≡◌, ℕ, suc, ◌+◌, ◌*◌, ◌^◌, ◌<◌, ◌≤◌, inl, inr, Bool, true, false, ◌&&◌, List, [], ◌∷◌, ◌++◌, length, arith}
-use Rattle.std.proofs.Common.{refl, sym, subst, ap, ◌∙◌, length-append}
-use Rattle.std.specs.Prelude.{max, min}
-use Rattle.std.proofs.lemmas.Bool.{cases_lt}
-use Rattle.pg_aiger.specs.declared.gate.Gate.{Gate}
-use Rattle.pg_aiger.specs.Circuits.{AreGatesFrom}
-use Rattle.pg_aiger.specs.Runs.{Valuation, value, Satisfies}
-use Rattle.pg_aiger.specs.Mirrors.Drafts.{IsDraft, Extends}
+use Rattle.pg_aiger.proofs.Common.{◌≡◌, ℕ, suc, ◌+◌, ◌*◌, ◌^◌, ◌<◌, ◌≤◌, inl, inr, Bool, true, false, ◌&&◌, List, [], ◌∷◌, ◌++◌, length}
+use Rattle.pg_aiger.proofs.Common.{arith, refl, sym, subst, ap, ◌∙◌, length-append, max, min, cases_lt, Gate, AreGatesFrom, Valuation}
+use Rattle.pg_aiger.proofs.Common.{value, Satisfies, IsDraft, Extends}
 
 are_push : (gs : List Gate) (base : ℕ) (g : Gate) → AreGatesFrom base gs → g.lhs ≡ 2 * (base + length gs)
     → g.rhs0 < 2 * (base + length gs) → g.rhs1 ≤ g.rhs0 → AreGatesFrom base (gs ++ g ∷ [])

@@ -1,21 +1,13 @@
 -- The text of a circuit reads back.
-use Rattle.std.proofs.Common.{rules, ◌≡◌, ◌≢◌, ℕ, suc, ◌+◌, ◌-◌, ◌*◌, ◌^◌, ◌<◌, ◌≤◌, Bool, true, false, not, List, [], ◌∷◌, ◌++◌, length}
-use Rattle.std.proofs.Common.{map, refl, sym, ap, subst, arith, append_assoc, ◌∙◌, inl, inr, eqb}
-use Rattle.std.specs.Prelude.{All, decimal, codes}
-use Rattle.std.specs.List.{flat_map, fold, items_where_true, AllByRecursion}
-use Rattle.std.proofs.lemmas.Fmt.{digits_decimal, digits_value-decimal, decimal_nonempty}
-use Rattle.std.proofs.lemmas.Bool.{cases_eq, ne_eqb}
-use Rattle.std.proofs.lemmas.List.{append-nil, map-append, get_or_default}
-use Rattle.std.proofs.lemmas.Str.Parse.{IsNumeralModel, numerals_by_fold}
-use Rattle.pg_lists.specs.Bytes.{Each, is_digit, value_of}
-use Rattle.pg_automaton.specs.Automata.{Automaton, IsAutomaton, IsNameByte, IsPropositionName}
-use Rattle.pg_synth.specs.Letters.{inputs, outputs}
-use Rattle.pg_aiger.specs.declared.gate.Gate.{Gate}
-use Rattle.pg_aiger.specs.Circuits.{Circuit, Latch, no_latch, AreGatesFrom, IsNumbered}
-use Rattle.pg_aiger.specs.CircuitText.{Kind, input, latch, output, Symbol, Row, header, numbers, symbol, IsNumber, AreNumbers, kind_text}
-use Rattle.pg_aiger.specs.CircuitText.{Says, is_inner, AreRows, rows_of, count_of, IsCircuitText}
-use Rattle.pg_aiger.specs.CircuitLayout.{spaced_number, spaced, row_line, row_text, input_names, output_names, symbols_from, symbols_of, circuit_text}
-use Rattle.pg_aiger.specs.Mirrors.Layouts.{literal_row, latch_row, gate_row}
+use Rattle.pg_aiger.proofs.Common.{rules, ◌≡◌, ◌≢◌, ℕ, suc, ◌+◌, ◌-◌, ◌*◌, ◌^◌, ◌<◌, ◌≤◌, Bool, true, false, not, List, [], ◌∷◌, ◌++◌}
+use Rattle.pg_aiger.proofs.Common.{length, map, refl, sym, ap, subst, arith, append_assoc, ◌∙◌, inl, inr, eqb, All, decimal, codes}
+use Rattle.pg_aiger.proofs.Common.{flat_map, fold, items_where_true, AllByRecursion, digits_decimal, digits_value-decimal, decimal_nonempty}
+use Rattle.pg_aiger.proofs.Common.{cases_eq, ne_eqb, append-nil, map-append, get_or_default, IsNumeralModel, numerals_by_fold, Each}
+use Rattle.pg_aiger.proofs.Common.{is_digit, value_of, Automaton, IsAutomaton, IsNameByte, IsPropositionName, inputs, outputs, Gate}
+use Rattle.pg_aiger.proofs.Common.{Circuit, Latch, no_latch, AreGatesFrom, IsNumbered, Kind, input, latch, output, Symbol, Row, header}
+use Rattle.pg_aiger.proofs.Common.{numbers, symbol, IsNumber, AreNumbers, kind_text, Says, is_inner, AreRows, rows_of, count_of}
+use Rattle.pg_aiger.proofs.Common.{IsCircuitText, spaced_number, spaced, row_line, row_text, input_names, output_names, symbols_from}
+use Rattle.pg_aiger.proofs.Common.{symbols_of, circuit_text, literal_row, latch_row, gate_row}
 
 -- ---- what is printed is spelt
 

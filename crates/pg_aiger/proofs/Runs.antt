@@ -1,9 +1,7 @@
 -- A circuit in its order has one valuation for each step, and so one run.
-use Rattle.std.proofs.Common.{◌≡◌, ℕ, zero, suc, ◌+◌, ◌-◌, ◌<◌, ◌≤◌, inl, inr, Bool, true, false, cond, ltb, length, arith, refl, sym, subst, ap, ◌∙◌}
-use Rattle.std.proofs.lemmas.Bool.{cases_lt, lt-ltb, le-ltb}
-use Rattle.pg_aiger.specs.Circuits.{Circuit, IsNumbered, input_at, latch_at}
-use Rattle.pg_aiger.specs.Runs.{Valuation, value, bit, Satisfies, IsRun, HasOneRun, IsStepAt}
-use Rattle.pg_aiger.specs.Laws.{HasOneStep}
+use Rattle.pg_aiger.proofs.Common.{◌≡◌, ℕ, zero, suc, ◌+◌, ◌-◌, ◌<◌, ◌≤◌, inl, inr, Bool, true, false, cond, ltb, length, arith, refl, sym}
+use Rattle.pg_aiger.proofs.Common.{subst, ap, ◌∙◌, cases_lt, lt-ltb, le-ltb, Circuit, IsNumbered, input_at, latch_at, Valuation, value, bit}
+use Rattle.pg_aiger.proofs.Common.{Satisfies, IsRun, HasOneRun, IsStepAt, HasOneStep}
 use Rattle.pg_aiger.proofs.Gates.{AgreeBelow, same_value, even_value, gates_agree, with_gates, with_below, with_satisfies}
 
 abbrev pub first_gate : Circuit → ℕ

@@ -1,17 +1,10 @@
 -- Values of variables, one after another.
-use Rattle.std.proofs.Common.{◌≡◌, ℕ, zero, suc, ◌+◌, ◌*◌, ◌<◌, ◌≤◌, inl, inr, Bool, false, ◌&&◌, List, [], ◌∷◌, ◌++◌, length, map, get_or}
-use Rattle.std.proofs.Common.{length-append, arith, refl, sym, subst, ap, ◌∙◌}
-use Rattle.std.proofs.lemmas.Bool.{cases_lt}
-use Rattle.std.proofs.lemmas.List.{length-map, get_or_default}
-use Rattle.std.proofs.Math.ListN.{get_or-append}
-use Rattle.std.proofs.Math.Seq.{get_or-append_seam}
-use Rattle.pg_aiger.specs.declared.gate.Gate.{Gate}
-use Rattle.pg_aiger.specs.Circuits.{Circuit, Latch, AreGatesFrom, IsNumbered}
-use Rattle.pg_aiger.specs.Runs.{Valuation, value, bit, Satisfies, IsRun, IsStepAt, Steps, GoesOn, current, number_of}
-use Rattle.pg_aiger.specs.Mirrors.Steps.{Agrees, IsValued}
-use Rattle.pg_aiger.specs.Mirrors.Views.{latches_from, viewed}
+use Rattle.pg_aiger.proofs.Common.{◌≡◌, ℕ, zero, suc, ◌+◌, ◌*◌, ◌<◌, ◌≤◌, inl, inr, Bool, false, ◌&&◌, List, [], ◌∷◌, ◌++◌, length, map}
+use Rattle.pg_aiger.proofs.Common.{get_or, length-append, arith, refl, sym, subst, ap, ◌∙◌, cases_lt, length-map, get_or_default}
+use Rattle.pg_aiger.proofs.Common.{get_or-append, get_or-append_seam, Gate, Circuit, Latch, AreGatesFrom, IsNumbered, Valuation, value, bit}
+use Rattle.pg_aiger.proofs.Common.{Satisfies, IsRun, IsStepAt, Steps, GoesOn, current, number_of, Agrees, IsValued, latches_from, viewed}
+use Rattle.pg_aiger.proofs.Common.{All}
 use Rattle.pg_aiger.proofs.Gates.{even_value}
-use Rattle.std.specs.Prelude.{All}
 use Rattle.pg_aiger.proofs.Numbers.{number_bit, number_same}
 use Rattle.pg_aiger.proofs.Runs.{stepped, the_step}
 use Rattle.pg_aiger.proofs.Follows.{current_at}

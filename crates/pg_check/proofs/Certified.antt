@@ -1,23 +1,12 @@
 -- What two maps certify is sound; so is the solution of closed maps, of which none has a list where the other has one.
-use Rattle.std.proofs.Common.{◌≡◌, ℕ, ◌+◌, ◌%◌, ◌<◌, ◌⊎◌, inl, inr, List, [], ◌∷◌, ◌++◌, Some, length, map, get_or, arith, sym, subst, refl, ap, ◌∙◌}
-use Rattle.std.specs.List.{All, Any, Contains}
-use Rattle.std.specs.Option.{IsSome}
-use Rattle.pg_arena.specs.declared.player.Player.{Player}
-use Rattle.pg_arena.specs.declared.player.Player.TheVariants.{Even, Odd}
-use Rattle.pg_arena.specs.Games.{GameVertex, IsGame, IsEdge, IsPath, HasParityOf, opponent, priority, owner, successors, vertex_at, dual, IsGreatest}
-use Rattle.pg_arena.specs.Lemmas.Duals.{length_dual, successors_dual, priority_dual, owner_dual}
-use Rattle.pg_text.specs.declared.answer.Answer.{Answer}
-use Rattle.pg_text.specs.Solutions.{winner, loser, choice}
-use Rattle.pg_measure.specs.Measures.{Covers}
-use Rattle.pg_map.specs.Lines.{Line, vertex_line, game_line, line_at}
-use Rattle.pg_map.specs.Maps.{MapValue, measure_at, IsServedBy, IsClosed, SomeOrAll}
-use Rattle.pg_check.specs.Soundness.{Counts, IsSound}
-use Rattle.pg_check.specs.Strategies.{game_of, map_of, HasList, IsServedFor, AreClosed, IsSolutionOf, IsCertifiedFor, Certifies}
-use Rattle.pg_map.proofs.GameLines.{game_line_at, game_line_some}
-use Rattle.pg_map.proofs.Paths.{path_keeps, all_front}
-use Rattle.pg_map.proofs.Falls.{Falls, lists, covers_falls, no_odd_cycle}
-use Rattle.pg_map.proofs.Rounds.{path_map, greatest_raised}
-use Rattle.pg_map.proofs.Parting.{none_both}
+use Rattle.pg_check.proofs.Common.{◌≡◌, ℕ, ◌+◌, ◌%◌, ◌<◌, ◌⊎◌, inl, inr, List, [], ◌∷◌, ◌++◌, Some, length, map, get_or, arith, sym, subst}
+use Rattle.pg_check.proofs.Common.{refl, ap, ◌∙◌, All, Any, Contains, IsSome, Player, Even, Odd, GameVertex, IsGame, IsEdge, IsPath}
+use Rattle.pg_check.proofs.Common.{HasParityOf, opponent, priority, owner, successors, vertex_at, dual, IsGreatest, length_dual}
+use Rattle.pg_check.proofs.Common.{successors_dual, priority_dual, owner_dual, Answer, winner, loser, choice, Covers, Line, vertex_line}
+use Rattle.pg_check.proofs.Common.{game_line, line_at, MapValue, measure_at, IsServedBy, IsClosed, SomeOrAll, Counts, IsSound, game_of}
+use Rattle.pg_check.proofs.Common.{map_of, HasList, IsServedFor, AreClosed, IsSolutionOf, IsCertifiedFor, Certifies, game_line_at}
+use Rattle.pg_check.proofs.Common.{game_line_some, path_keeps, all_front, Falls, lists, covers_falls, no_odd_cycle, path_map}
+use Rattle.pg_check.proofs.Common.{greatest_raised, none_both}
 use Rattle.pg_check.proofs.Cycles.{edge_from, sound_from_safe}
 use Rattle.pg_check.proofs.Wins.{player_cases}
 

@@ -1,11 +1,6 @@
 -- What a search for bad cycles finds, and what it says of the solution.
-use Rattle.std.proofs.Common.{◌≢◌, ℕ, List, [], ◌∷◌, sym, subst}
-use Rattle.std.specs.List.{AllPairs}
-use Rattle.pg_arena.specs.Games.{GameVertex, IsGame}
-use Rattle.pg_text.specs.declared.answer.Answer.{Answer}
-use Rattle.pg_check.specs.Soundness.{IsSound, NoneLeaves}
-use Rattle.pg_check.specs.Mirrors.Cycles.{IsSimpleCycle, IsLost, HasNoBadCycle}
-use Rattle.pg_check.specs.Verdicts.{IsLeastLeaving, IsSimpleBadCycle}
+use Rattle.pg_check.proofs.Common.{◌≢◌, ℕ, List, [], ◌∷◌, sym, subst, AllPairs, GameVertex, IsGame, Answer, IsSound, NoneLeaves}
+use Rattle.pg_check.proofs.Common.{IsSimpleCycle, IsLost, HasNoBadCycle, IsLeastLeaving, IsSimpleBadCycle}
 use Rattle.pg_check.proofs.Cycles.{bad_cycle_from, sound_from_no_cycle, safe_from_sound}
 
 -- a cycle from a lost vertex that names no vertex twice is a bad cycle that doesn't either

@@ -1,24 +1,12 @@
 -- The solution of two maps, vertex by vertex.
-use Rattle.std.proofs.Common.{◌≡◌, ◌≢◌, ◌↔◌, ℕ, zero, suc, ◌+◌, ◌<◌, ◌≤◌, inl, inr, List, [], ◌∷◌, Option, Some, None, length, get_or}
-use Rattle.std.proofs.Common.{slice_set, arith, sym, subst, refl, ◌∙◌, get_or-set_other, get_or-set_same, length-set, ap, Bool, false}
-use Rattle.std.specs.Bool.{IsTrue}
-use Rattle.std.specs.List.{All, Contains}
-use Rattle.std.specs.List.Sorted.{IsStrictlyIncreasing}
-use Rattle.std.specs.Option.{IsSome, IfSome, IfNone}
-use Rattle.std.proofs.lemmas.Bool.{cases_lt}
-use Rattle.std.proofs.lemmas.List.Elements.{Contains-get_or}
-use Rattle.pg_arena.specs.declared.player.Player.{Player}
-use Rattle.pg_arena.specs.declared.player.Player.TheVariants.{Even, Odd}
-use Rattle.pg_arena.specs.Games.{GameVertex, IsGame, opponent, owner, identifier, successors}
-use Rattle.pg_arena.specs.Lemmas.Duals.{length_dual}
-use Rattle.pg_text.specs.declared.answer.Answer.{Answer}
-use Rattle.pg_text.specs.Solutions.{answer_at, unanswered, winner, IsSolution}
-use Rattle.pg_measure.specs.Measures.{MeasureValue}
-use Rattle.pg_map.specs.Lines.{Line, line_at, game_line, AreWithin}
-use Rattle.pg_map.specs.Maps.{MapValue, measure_at, IsServedBy, IsClosed, IsFirstServing}
-use Rattle.pg_check.specs.Strategies.{game_of, map_of, HasList, AreClosed, IsChoiceFor, IsAnswerOf, IsSolutionOf, IsUndecided, IsLeastUndecided}
+use Rattle.pg_check.proofs.Common.{◌≡◌, ◌≢◌, ◌↔◌, ℕ, zero, suc, ◌+◌, ◌<◌, ◌≤◌, inl, inr, List, [], ◌∷◌, Option, Some, None, length, get_or}
+use Rattle.pg_check.proofs.Common.{slice_set, arith, sym, subst, refl, ◌∙◌, get_or-set_other, get_or-set_same, length-set, ap, Bool, false}
+use Rattle.pg_check.proofs.Common.{IsTrue, All, Contains, IsStrictlyIncreasing, IsSome, IfSome, IfNone, cases_lt, Contains-get_or, Player}
+use Rattle.pg_check.proofs.Common.{Even, Odd, GameVertex, IsGame, opponent, owner, identifier, successors, length_dual, Answer, answer_at}
+use Rattle.pg_check.proofs.Common.{unanswered, winner, IsSolution, MeasureValue, Line, line_at, game_line, AreWithin, MapValue, measure_at}
+use Rattle.pg_check.proofs.Common.{IsServedBy, IsClosed, IsFirstServing, game_of, map_of, HasList, AreClosed, IsChoiceFor, IsAnswerOf}
+use Rattle.pg_check.proofs.Common.{IsSolutionOf, IsUndecided, IsLeastUndecided, game_line_at}
 use Rattle.pg_check.proofs.Wins.{player_cases}
-use Rattle.pg_map.proofs.GameLines.{game_line_at}
 use Rattle.pg_check.proofs.Certified.{owner_is, owner_isn't, closed_for, some_serves, line_edges, no_both}
 
 -- the lines of a player's game are those of vertices of the game

@@ -1,17 +1,11 @@
 -- A solution is sound exactly if no edge that counts leaves a region and no bad cycle counts.
-use Rattle.std.proofs.Common.{◌≡◌, ℕ, zero, suc, ◌+◌, ◌<◌, ◌≤◌, inl, inr, Bool, cond, eqb, List, [], ◌∷◌, ◌++◌, length, map, get_or, arith}
-use Rattle.std.proofs.Common.{sym, subst, refl, ◌∙◌}
-use Rattle.std.specs.List.{count_by, All, Contains}
-use Rattle.std.proofs.lemmas.Bool.{eqb-true, eq-eqb, cases_lt}
-use Rattle.std.proofs.lemmas.List.{append-nil, map-append, get_or_past}
-use Rattle.std.proofs.lemmas.List.Elements.{All-nil, All-cons, All-head, All-tail, All-append, All-map, Contains-append_left}
-use Rattle.std.proofs.lemmas.List.Sums.{sum_by-append, sum_by-cons}
-use Rattle.pg_arena.specs.Games.{GameVertex, IsGame, IsEdge, IsPath, HasParityOf, opponent, priority, nowhere}
-use Rattle.pg_text.specs.declared.answer.Answer.{Answer}
-use Rattle.pg_text.specs.Solutions.{winner, loser}
-use Rattle.pg_check.specs.Soundness.{Counts, IsSound, NoneLeaves, IsSafe, IsBadCycle}
-use Rattle.pg_map.proofs.Paths.{IsWay, way_part, way_later, path_keeps, path_upto, path_join, all_front, all_later, all_part, Repeat, repeat_or_few}
-use Rattle.pg_map.proofs.Falls.{all_unmap}
+use Rattle.pg_check.proofs.Common.{◌≡◌, ℕ, zero, suc, ◌+◌, ◌<◌, ◌≤◌, inl, inr, Bool, cond, eqb, List, [], ◌∷◌, ◌++◌, length, map, get_or}
+use Rattle.pg_check.proofs.Common.{arith, sym, subst, refl, ◌∙◌, count_by, All, Contains, eqb-true, eq-eqb, cases_lt, append-nil}
+use Rattle.pg_check.proofs.Common.{map-append, get_or_past, All-nil, All-cons, All-head, All-tail, All-append, All-map}
+use Rattle.pg_check.proofs.Common.{Contains-append_left, sum_by-append, sum_by-cons, GameVertex, IsGame, IsEdge, IsPath, HasParityOf}
+use Rattle.pg_check.proofs.Common.{opponent, priority, nowhere, Answer, winner, loser, Counts, IsSound, NoneLeaves, IsSafe, IsBadCycle}
+use Rattle.pg_check.proofs.Common.{IsWay, way_part, way_later, path_keeps, path_upto, path_join, all_front, all_later, all_part, Repeat}
+use Rattle.pg_check.proofs.Common.{repeat_or_few, all_unmap}
 
 pub count-cons : (test : ℕ → Bool) (x : ℕ) (xs : List ℕ) → count_by test (x ∷ xs) ≡ cond (test x) 1 0 + count_by test xs
 count-cons test x xs = sum_by-cons (λ y. cond (test y) 1 0) x xs

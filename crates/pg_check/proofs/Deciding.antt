@@ -1,21 +1,10 @@
 -- Closed maps that leave no vertex undecided have a solution.
-use Rattle.std.proofs.Common.{◌≡◌, ℕ, zero, suc, ◌+◌, ◌<◌, ◌≤◌, ◌⊎◌, inl, inr, List, Option, Some, None, length, get_or, slice_set}
-use Rattle.std.proofs.Common.{replicate, arith, sym, subst, refl, below_more}
-use Rattle.std.specs.List.{Contains}
-use Rattle.std.specs.List.Sorted.{IsStrictlyIncreasing}
-use Rattle.std.specs.Option.{IsSome, IfSome, IfNone}
-use Rattle.std.proofs.lemmas.List.{get_or_default, length-replicate}
-use Rattle.pg_arena.specs.declared.player.Player.{Player}
-use Rattle.pg_arena.specs.declared.player.Player.TheVariants.{Even, Odd}
-use Rattle.pg_arena.specs.Games.{GameVertex, IsGame, owner}
-use Rattle.pg_text.specs.declared.answer.Answer.{Answer}
-use Rattle.pg_text.specs.Solutions.{unanswered}
-use Rattle.pg_measure.specs.Measures.{BoundList, MeasureValue, is_odd, width_from}
-use Rattle.pg_measure.proofs.Order.{covers_or}
-use Rattle.pg_map.specs.Lines.{Line, line_at, game_line}
-use Rattle.pg_map.specs.Maps.{MapValue, measure_at, IsServedBy, IsFirstServing}
-use Rattle.pg_map.proofs.Serving.{all_passed, first_serving_at}
-use Rattle.pg_check.specs.Strategies.{game_of, map_of, HasList, AreClosed, IsAnswerOf, IsUndecided, DecidedMapsSolve}
+use Rattle.pg_check.proofs.Common.{◌≡◌, ℕ, zero, suc, ◌+◌, ◌<◌, ◌≤◌, ◌⊎◌, inl, inr, List, Option, Some, None, length, get_or, slice_set}
+use Rattle.pg_check.proofs.Common.{replicate, arith, sym, subst, refl, below_more, Contains, IsStrictlyIncreasing, IsSome, IfSome, IfNone}
+use Rattle.pg_check.proofs.Common.{get_or_default, length-replicate, Player, Even, Odd, GameVertex, IsGame, owner, Answer, unanswered}
+use Rattle.pg_check.proofs.Common.{BoundList, MeasureValue, is_odd, width_from, covers_or, Line, line_at, game_line, MapValue, measure_at}
+use Rattle.pg_check.proofs.Common.{IsServedBy, IsFirstServing, all_passed, first_serving_at, game_of, map_of, HasList, AreClosed}
+use Rattle.pg_check.proofs.Common.{IsAnswerOf, IsUndecided, DecidedMapsSolve}
 use Rattle.pg_check.proofs.Wins.{player_cases}
 use Rattle.pg_check.proofs.Chosen.{lines_rise, answer_with, answer_without, AnswersUpto, answers_more, solution_from_upto, not_both}
 

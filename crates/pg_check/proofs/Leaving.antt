@@ -1,14 +1,6 @@
 -- The edges that count at a vertex, gone through in order.
-use Rattle.std.proofs.Common.{◌≡◌, ◌≢◌, ◌↔◌, ℕ, ◌<◌, ◌≤◌, inl, inr, List, length, get_or, arith, subst}
-use Rattle.std.specs.List.{Contains}
-use Rattle.std.specs.List.Sorted.{IsStrictlyIncreasing}
-use Rattle.std.proofs.lemmas.Bool.{cases_lt}
-use Rattle.pg_arena.specs.Games.{GameVertex}
-use Rattle.pg_text.specs.declared.answer.Answer.{Answer}
-use Rattle.pg_text.specs.Solutions.{winner}
-use Rattle.pg_map.proofs.Serving.{passed_or_later, rising_at}
-use Rattle.pg_check.specs.Soundness.{Counts}
-use Rattle.pg_check.specs.Verdicts.{IsLeastLeaving}
+use Rattle.pg_check.proofs.Common.{◌≡◌, ◌≢◌, ◌↔◌, ℕ, ◌<◌, ◌≤◌, inl, inr, List, length, get_or, arith, subst, Contains, IsStrictlyIncreasing}
+use Rattle.pg_check.proofs.Common.{cases_lt, GameVertex, Answer, winner, passed_or_later, rising_at, Counts, IsLeastLeaving}
 
 pub least_leaving : (game : List GameVertex) (solution : List Answer) (items : List ℕ) (v w k : ℕ)
     → ((x : ℕ) → Contains items x ↔ Counts game solution v x) → IsStrictlyIncreasing items

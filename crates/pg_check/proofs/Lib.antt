@@ -11,3 +11,4 @@ pub mod Listed
 pub mod Winning
 pub mod Deciding
 pub mod Ordered
+mod Common

@@ -1,21 +1,11 @@
 -- In a closed map Even wins from each vertex with a list.
-use Rattle.std.proofs.Common.{◌≡◌, ℕ, zero, suc, ◌+◌, ◌%◌, ◌<◌, ◌≤◌, inl, inr, eqb, List, ◌∷◌, ◌++◌, length, map, get_or, arith, subst, refl}
-use Rattle.std.specs.List.{All}
-use Rattle.std.specs.Option.{IsSome}
-use Rattle.std.proofs.lemmas.Bool.{eqb-true}
-use Rattle.std.proofs.lemmas.List.Elements.{All-map, Contains-get_or}
-use Rattle.pg_arena.specs.declared.player.Player.{Player}
-use Rattle.pg_arena.specs.declared.player.Player.TheVariants.{Even, Odd}
-use Rattle.pg_arena.specs.Games.{GameVertex, IsGame, priority, owner, successors, IsGreatest}
-use Rattle.pg_map.specs.Lines.{game_line}
-use Rattle.pg_map.specs.Maps.{MapValue, measure_at, IsServedBy, IsClosed}
-use Rattle.pg_check.specs.Plays.{IsPlay, WinsPlay, stretch}
-use Rattle.pg_check.specs.Soundness.{KeepsCount}
-use Rattle.pg_check.specs.Strategies.{GoesServed, ListsWin}
-use Rattle.pg_map.proofs.Paths.{IsWay, way_later, path_upto, all_front, all_later, Repeat, repeat_or_few}
+use Rattle.pg_check.proofs.Common.{◌≡◌, ℕ, zero, suc, ◌+◌, ◌%◌, ◌<◌, ◌≤◌, inl, inr, eqb, List, ◌∷◌, ◌++◌, length, map, get_or, arith, subst}
+use Rattle.pg_check.proofs.Common.{refl, All, IsSome, eqb-true, All-map, Contains-get_or, Player, Even, Odd, GameVertex, IsGame, priority}
+use Rattle.pg_check.proofs.Common.{owner, successors, IsGreatest, game_line, MapValue, measure_at, IsServedBy, IsClosed, IsPlay, WinsPlay}
+use Rattle.pg_check.proofs.Common.{stretch, KeepsCount, GoesServed, ListsWin, IsWay, way_later, path_upto, all_front, all_later, Repeat}
+use Rattle.pg_check.proofs.Common.{repeat_or_few, Falls, all_unmap, lists, no_odd_cycle}
 use Rattle.pg_check.proofs.Cycles.{edge_from}
 use Rattle.pg_check.proofs.Wins.{all_stretch, stretch_path, play_keeps, not_lost}
-use Rattle.pg_map.proofs.Falls.{Falls, all_unmap, lists, no_odd_cycle}
 use Rattle.pg_check.proofs.Certified.{map_falls, some_edge_serves, each_edge_serves}
 
 module _ (game : List GameVertex) (f : MapValue) (is_game : IsGame game) (closed : IsClosed f.bounds (game_line game) f.measures) where

@@ -1,9 +1,6 @@
 -- A play over finitely many priorities has one greatest recurring priority.
-use Rattle.std.proofs.Common.{◌≡◌, ◌≢◌, ℕ, zero, suc, ◌+◌, ◌%◌, ◌<◌, ◌≤◌, ◌⊎◌, inl, inr, arith}
-use Rattle.pg_arena.specs.declared.player.Player.TheVariants.{Even, Odd}
-use Rattle.pg_arena.specs.Games.{HasParityOf}
-use Rattle.pg_check.specs.Plays.{IsAbsentFrom, IsGreatestRecurring}
-use Rattle.pg_check.specs.Laws.{HasOneLoser}
+use Rattle.pg_check.proofs.Common.{◌≡◌, ◌≢◌, ℕ, zero, suc, ◌+◌, ◌%◌, ◌<◌, ◌≤◌, ◌⊎◌, inl, inr, arith, Even, Odd, HasParityOf, IsAbsentFrom}
+use Rattle.pg_check.proofs.Common.{IsGreatestRecurring, HasOneLoser}
 
 -- excluded middle holds under a double negation
 pub not_not_decided : (A : Type 0) → ¬ ¬ (A ⊎ ¬ A)

@@ -1,22 +1,13 @@
 -- A search by breadth from a vertex: what is reached, and why no cycle from that vertex escapes it.
-use Rattle.std.proofs.Common.{◌≡◌, ◌≢◌, ◌↔◌, ℕ, ◌+◌, ◌<◌, ◌≤◌, inl, inr, Bool, true, false, List, [], ◌∷◌, ◌++◌, length, get_or, set}
-use Rattle.std.proofs.Common.{replicate, arith, sym, subst, refl, ◌∙◌}
-use Rattle.std.specs.List.{All, Contains}
-use Rattle.std.proofs.lemmas.Bool.{cases_lt, cases_eq, eqb-true}
-use Rattle.std.proofs.lemmas.Bool.Decides.{Decides-eqb}
-use Rattle.std.proofs.lemmas.List.{get_or_default, get_or_past, get_or_append_left, get_or_push, get_or-set_same, get_or-set_other}
-use Rattle.std.proofs.lemmas.List.{length-append, length-set, get_or-replicate, length-replicate}
-use Rattle.std.proofs.lemmas.List.Elements.{All-nil, All-head, All-tail, All-cons, All-push, All-weaker, All-contains, Contains-append_left, Contains-push}
-use Rattle.std.proofs.lemmas.List.Quantifiers.{all_pairs_push}
-use Rattle.std.proofs.lemmas.Map.Made.{IsDistinct-from_AllPairs}
-use Rattle.std.proofs.lemmas.Map.Steps.{length-le_from_distinct_below}
-use Rattle.std.proofs.lemmas.Map.Views.{Contains-from_any}
-use Rattle.pg_arena.specs.Games.{GameVertex, IsPath, priority}
-use Rattle.pg_text.specs.declared.answer.Answer.{Answer}
-use Rattle.pg_check.specs.Soundness.{Counts}
-use Rattle.pg_check.specs.Mirrors.Cycles.{HasNoCycle, IsTrail}
-use Rattle.pg_check.specs.Mirrors.Searches.{IsSearched, IsTaken, AreTaken, IsExplored}
-use Rattle.pg_map.proofs.Serving.{all_passed}
+use Rattle.pg_check.proofs.Common.{◌≡◌, ◌≢◌, ◌↔◌, ℕ, ◌+◌, ◌<◌, ◌≤◌, inl, inr, Bool, true, false, List, [], ◌∷◌, ◌++◌, length, get_or, set}
+use Rattle.pg_check.proofs.Common.{replicate, arith, sym, subst, refl, ◌∙◌, All, Contains, cases_lt, cases_eq, eqb-true, Decides-eqb}
+use Rattle.pg_check.proofs.Common.{get_or_default, get_or_past, get_or_append_left, get_or_push, length-append, get_or-replicate}
+use Rattle.pg_check.proofs.Common.{length-replicate, All-nil, All-head, All-tail, All-cons, All-push, All-weaker, All-contains}
+use Rattle.pg_check.proofs.Common.{Contains-append_left, Contains-push, all_pairs_push, IsDistinct-from_AllPairs}
+use Rattle.pg_check.proofs.Common.{length-le_from_distinct_below, Contains-from_any, GameVertex, IsPath, priority, Answer, Counts}
+use Rattle.pg_check.proofs.Common.{HasNoCycle, IsTrail, IsSearched, IsTaken, AreTaken, IsExplored, all_passed}
+use Rattle.std.proofs.lemmas.List.{get_or-set_same, get_or-set_other}
+use Rattle.std.proofs.lemmas.List.{length-set}
 
 -- what holds of each item before and of this one
 here_too : (P : ℕ → Type 0) (items : List ℕ) (index w : ℕ) → index < length items → w ≡ get_or items index w

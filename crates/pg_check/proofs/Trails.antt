@@ -1,12 +1,7 @@
 -- The way back along a trail: a cycle that names no vertex twice.
-use Rattle.std.proofs.Common.{◌≡◌, ◌≢◌, ℕ, ◌<◌, ◌≤◌, List, [], ◌∷◌, ◌++◌, length, get_or, arith, sym, subst, refl, ◌∙◌}
-use Rattle.std.specs.List.{All, AllPairs}
-use Rattle.std.proofs.lemmas.List.Elements.{All-cons, All-weaker}
-use Rattle.std.proofs.lemmas.List.Kept.{AllPairs-cons}
-use Rattle.pg_arena.specs.Games.{GameVertex, IsPath, priority}
-use Rattle.pg_text.specs.declared.answer.Answer.{Answer}
-use Rattle.pg_check.specs.Soundness.{Counts}
-use Rattle.pg_check.specs.Mirrors.Cycles.{IsSimpleCycle, IsTrail}
+use Rattle.pg_check.proofs.Common.{◌≡◌, ◌≢◌, ℕ, ◌<◌, ◌≤◌, List, [], ◌∷◌, ◌++◌, length, get_or, arith, sym, subst, refl, ◌∙◌, All, AllPairs}
+use Rattle.pg_check.proofs.Common.{All-cons, All-weaker, AllPairs-cons, GameVertex, IsPath, priority, Answer, Counts, IsSimpleCycle}
+use Rattle.pg_check.proofs.Common.{IsTrail}
 
 -- x stands after the place
 abbrev pub StandsAfter : List ℕ → ℕ → ℕ → Type 0

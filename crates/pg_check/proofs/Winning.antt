@@ -1,15 +1,8 @@
 -- A solution by which each winner wins is sound.
-use Rattle.std.proofs.Common.{◌≡◌, ℕ, zero, suc, ◌<◌, ◌≤◌, inl, inr, List, [], ◌∷◌, ◌++◌, length, map, get_or, arith, sym, subst, refl, ap, ◌∙◌, add-one}
-use Rattle.std.specs.List.{All}
-use Rattle.std.proofs.lemmas.List.Elements.{All-head, All-tail, Contains-get_or}
-use Rattle.std.proofs.lemmas.List.{length-map, get_or-map}
-use Rattle.pg_arena.specs.Games.{GameVertex, IsGame, IsPath, priority, owner, successors}
-use Rattle.pg_text.specs.declared.answer.Answer.{Answer}
-use Rattle.pg_text.specs.Solutions.{winner, IsSolution}
-use Rattle.pg_check.specs.Plays.{IsPlay, Loses}
-use Rattle.pg_check.specs.Soundness.{Counts, IsBadCycle, NoneLeaves, Wins}
-use Rattle.pg_check.specs.Laws.{SoundIffWins}
-use Rattle.pg_map.proofs.Falls.{all_unmap}
+use Rattle.pg_check.proofs.Common.{◌≡◌, ℕ, zero, suc, ◌<◌, ◌≤◌, inl, inr, List, [], ◌∷◌, ◌++◌, length, map, get_or, arith, sym, subst, refl}
+use Rattle.pg_check.proofs.Common.{ap, ◌∙◌, add-one, All, All-head, All-tail, Contains-get_or, length-map, get_or-map, GameVertex, IsGame}
+use Rattle.pg_check.proofs.Common.{IsPath, priority, owner, successors, Answer, winner, IsSolution, IsPlay, Loses, Counts, IsBadCycle}
+use Rattle.pg_check.proofs.Common.{NoneLeaves, Wins, SoundIffWins, all_unmap}
 use Rattle.pg_check.proofs.Cycles.{edge_from, sound_from_safe}
 use Rattle.pg_check.proofs.Wins.{wins, player_cases}
 

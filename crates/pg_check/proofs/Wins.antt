@@ -1,21 +1,10 @@
 -- A play whose finite parts keep the count isn't lost; in a sound solution each play that follows
 -- it is such a play; and two sound solutions have the same winners.
-use Rattle.std.proofs.Common.{◌≡◌, ℕ, zero, suc, ◌+◌, ◌-◌, ◌<◌, ◌≤◌, ◌⊎◌, inl, inr, Bool, true, false, cond, eqb, List, [], ◌∷◌, length}
-use Rattle.std.proofs.Common.{map, arith, sym, subst, refl, ap, ◌∙◌, add-one}
-use Rattle.std.specs.List.{count_by, All, Contains}
-use Rattle.std.proofs.lemmas.Bool.{eqb-true, eq-eqb}
-use Rattle.std.proofs.lemmas.List.{append-nil}
-use Rattle.std.proofs.lemmas.List.Elements.{All-nil, All-cons, All-map}
-use Rattle.pg_arena.specs.declared.player.Player.{Player}
-use Rattle.pg_arena.specs.declared.player.Player.TheVariants.{Even, Odd}
-use Rattle.pg_arena.specs.Games.{GameVertex, IsGame, IsPath, HasParityOf, opponent, priority, owner}
-use Rattle.pg_check.specs.Plays.{IsPlay, Recurs, Loses, WinsPlay, stretch}
-use Rattle.pg_text.specs.declared.answer.Answer.{Answer}
-use Rattle.pg_text.specs.Solutions.{winner}
-use Rattle.pg_text.specs.Solutions.{IsSolution}
-use Rattle.pg_check.specs.Soundness.{Counts, IsSound, IsSafe, KeepsCount, Wins}
-use Rattle.pg_check.specs.Laws.{KeepsToSolution}
-use Rattle.pg_measure.proofs.SomeBounds.{priority_bound}
+use Rattle.pg_check.proofs.Common.{◌≡◌, ℕ, zero, suc, ◌+◌, ◌-◌, ◌<◌, ◌≤◌, ◌⊎◌, inl, inr, Bool, true, false, cond, eqb, List, [], ◌∷◌}
+use Rattle.pg_check.proofs.Common.{length, map, arith, sym, subst, refl, ap, ◌∙◌, add-one, count_by, All, Contains, eqb-true, eq-eqb}
+use Rattle.pg_check.proofs.Common.{append-nil, All-nil, All-cons, All-map, Player, Even, Odd, GameVertex, IsGame, IsPath, HasParityOf}
+use Rattle.pg_check.proofs.Common.{opponent, priority, owner, IsPlay, Recurs, Loses, WinsPlay, stretch, Answer, winner, IsSolution, Counts}
+use Rattle.pg_check.proofs.Common.{IsSound, IsSafe, KeepsCount, Wins, KeepsToSolution, priority_bound}
 use Rattle.pg_check.proofs.Recurring.{one_loser}
 use Rattle.pg_check.proofs.Cycles.{count-cons, edge_from, safe_from_sound}
 

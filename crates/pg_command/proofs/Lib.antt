@@ -16,3 +16,4 @@ pub mod Realized
 pub mod Within
 pub mod Synthesised
 pub mod Uncontrolled
+mod Common

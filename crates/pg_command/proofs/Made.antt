@@ -1,16 +1,9 @@
 -- Why an automaton, or its game, is refused.
-use Rattle.std.proofs.Common.{ℕ, List}
-use Rattle.pg_automaton.specs.Automata.{Automaton}
-use Rattle.pg_hoa.specs.AutomatonText.{Spelt, IsRefused}
-use Rattle.pg_hoa.specs.declared.fault.HoaFault.{HoaFault}
+use Rattle.pg_command.proofs.Common.{ℕ, List, Automaton, Spelt, IsRefused, HoaFault, SynthFault, IsTooLarge, IsNoAutomaton, hoa_fault}
+use Rattle.pg_command.proofs.Common.{synth_fault, CliFault, OutOfMemory, Hoa, Synth}
 use Rattle.pg_hoa.specs.declared.fault.HoaFault.TheVariants as hoa
 use Rattle.pg_synth.specs.Answers as synth_answers
-use Rattle.pg_synth.specs.declared.fault.SynthFault.{SynthFault}
 use Rattle.pg_synth.specs.declared.fault.SynthFault.TheVariants as synth
-use Rattle.pg_command.specs.Making.{IsTooLarge, IsNoAutomaton}
-use Rattle.pg_command.specs.Faults.{hoa_fault, synth_fault}
-use Rattle.pg_command.specs.declared.fault.CliFault.{CliFault}
-use Rattle.pg_command.specs.declared.fault.CliFault.TheVariants.{OutOfMemory, Hoa, Synth}
 
 -- what is so of want of memory, and of whatever a text that spells no automaton says, is so of each fault of its reader
 pub text_refused : (P : CliFault → Type 0) (input : List ℕ) (fault : HoaFault) → P OutOfMemory

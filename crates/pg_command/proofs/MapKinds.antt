@@ -1,19 +1,11 @@
 -- Answers by maps of one kind, each of which is of another.
-use Rattle.std.proofs.Common.{ℕ, List, Option, Some, None, Result, Ok, Err, inl, inr}
-use Rattle.std.specs.Prelude.{IfSome}
-use Rattle.pg_arena.specs.declared.player.Player.{Player}
-use Rattle.pg_arena.specs.Games.{GameVertex}
-use Rattle.pg_map.specs.Maps.{MapValue}
-use Rattle.pg_text.specs.declared.answer.Answer.{Answer}
+use Rattle.pg_command.proofs.Common.{ℕ, List, Option, Some, None, Result, Ok, Err, inl, inr, IfSome, Player, GameVertex, MapValue, Answer}
+use Rattle.pg_command.proofs.Common.{MapKind, IsClosedMapOf, IsMeasureOf, IsMeasured, IsSolvedBy, IsSolved, IsUndecidedIn, IsUndecidedAt}
+use Rattle.pg_command.proofs.Common.{RefusesSolve, IsWonFor, IsRealized, IsSynthesised, IsUndecidedFor, HasLargeMachine, RefusesSynth}
+use Rattle.pg_command.proofs.Common.{Meaning, meaning_of, PrintsBy, RefusesBy, Answers, Command, Measure, Solve, CliFault}
 use Rattle.pg_aiger.specs.declared.fault.AigerFault.TheVariants as aiger
 use Rattle.pg_synth.specs.declared.fault.SynthFault.TheVariants as synth
-use Rattle.pg_command.specs.Measuring.{MapKind, IsClosedMapOf, IsMeasureOf, IsMeasured}
-use Rattle.pg_command.specs.Solving.{IsSolvedBy, IsSolved, IsUndecidedIn, IsUndecidedAt, RefusesSolve}
-use Rattle.pg_command.specs.Synthesising.{IsWonFor, IsRealized, IsSynthesised, IsUndecidedFor, HasLargeMachine, RefusesSynth}
-use Rattle.pg_command.specs.Answers.{Meaning, meaning_of, PrintsBy, RefusesBy, Answers}
-use Rattle.pg_words.specs.declared.command.Command.{Command}
-use Rattle.pg_words.specs.declared.command.Command.TheVariants.{Measure, Solve, Synth}
-use Rattle.pg_command.specs.declared.fault.CliFault.{CliFault}
+use Rattle.pg_words.specs.declared.command.Command.TheVariants.{Synth}
 use Rattle.pg_command.specs.declared.fault.CliFault.TheVariants as cli
 
 -- the least progress measure is closed

@@ -1,31 +1,13 @@
 -- The answers of `measure`, `solve`, `synth`, `replay` and `game` are functions of the input.
-use Rattle.std.proofs.Common.{◌≡◌, ◌⊎◌, ℕ, ◌<◌, ◌≤◌, List, length, Option, Some, None, refl, sym, ap, ap₂, subst, inl, inr, ◌∙◌, arith}
-use Rattle.std.specs.Prelude.{IsSome}
-use Rattle.std.proofs.lemmas.List.{same_lists, get_or_default}
-use Rattle.pg_arena.specs.declared.player.Player.{Player}
-use Rattle.pg_arena.specs.declared.player.Player.TheVariants.{Even, Odd}
-use Rattle.pg_arena.specs.Games.{GameVertex, IsWithinLimits, opponent, owner, identifier, dual}
-use Rattle.pg_measure.specs.Measures.{BoundList, MeasureValue}
-use Rattle.pg_measure.specs.Laws.{OneListOfBounds}
-use Rattle.pg_map.specs.Lines.{game_line}
-use Rattle.pg_map.specs.Maps.{MapValue, measure_at, IsLeastProgressMeasure}
-use Rattle.pg_map.specs.Laws.{ClosedIsLeast}
-use Rattle.pg_text.specs.declared.answer.Answer.{Answer}
-use Rattle.pg_text.specs.OneSpelling.{SpellsOneGame}
-use Rattle.pg_text.specs.Solutions.{answer_at, unanswered}
-use Rattle.pg_text.specs.SolutionLayout.{solution_text}
-use Rattle.pg_check.specs.Strategies.{HasList, IsChoiceFor, IsAnswerOf, IsSolutionOf, IsLeastUndecided}
-use Rattle.pg_command.specs.Measuring.{IsMeasureOf, IsMeasured, measures_text}
-use Rattle.pg_command.specs.Solving.{IsSolvedBy, IsUndecidedIn}
-use Rattle.pg_command.specs.Making.{IsGameFor}
-use Rattle.pg_command.specs.Synthesising.{IsSynthesised}
-use Rattle.pg_command.specs.Laws.{OneAnswer}
+use Rattle.pg_command.proofs.Common.{◌≡◌, ◌⊎◌, ℕ, ◌<◌, ◌≤◌, List, length, Option, Some, None, refl, sym, ap, ap₂, subst, inl, inr, ◌∙◌}
+use Rattle.pg_command.proofs.Common.{arith, IsSome, same_lists, get_or_default, Player, Even, Odd, GameVertex, IsWithinLimits, opponent}
+use Rattle.pg_command.proofs.Common.{owner, identifier, dual, BoundList, MeasureValue, OneListOfBounds, game_line, MapValue, measure_at}
+use Rattle.pg_command.proofs.Common.{IsLeastProgressMeasure, ClosedIsLeast, Answer, SpellsOneGame, answer_at, unanswered, solution_text}
+use Rattle.pg_command.proofs.Common.{HasList, IsChoiceFor, IsAnswerOf, IsSolutionOf, IsLeastUndecided, IsMeasureOf, IsMeasured}
+use Rattle.pg_command.proofs.Common.{measures_text, IsSolvedBy, IsUndecidedIn, IsGameFor, IsSynthesised, OneAnswer, Automaton, OneReading}
+use Rattle.pg_command.proofs.Common.{IsGameOfAutomaton, game_text}
 use Rattle.pg_command.proofs.OneWorld as world
-use Rattle.pg_automaton.specs.Automata.{Automaton}
-use Rattle.pg_hoa.specs.Laws.{OneReading}
-use Rattle.pg_synth.specs.AutomatonGames.{IsGameOfAutomaton}
 use Rattle.pg_synth.proofs.OneGame as synth
-use Rattle.pg_text.specs.GameLayout.{game_text}
 
 module _ (one_bounds : OneListOfBounds) (least : ClosedIsLeast) where
   -- two equal games have one least progress measure

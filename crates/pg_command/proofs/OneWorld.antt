@@ -1,28 +1,13 @@
 -- An input has one world after the events of its script, or one event that is refused.
-use Rattle.std.proofs.Common.{◌≡◌, ◌≢◌, ℕ, zero, suc, ◌<◌, ◌≤◌, List, [], ◌∷◌, length, take, get_or, Option, Some, None, refl, sym, ap, ap₂}
-use Rattle.std.proofs.Common.{subst, inl, inr, ◌∙◌, arith}
-use Rattle.std.specs.Prelude.{All, slice_get}
-use Rattle.std.proofs.lemmas.List.{same_lists, get_or_default}
-use Rattle.pg_arena.specs.Games.{GameVertex}
-use Rattle.pg_measure.specs.Measures.{BoundList, MeasureValue, Fits, IsBelow}
-use Rattle.pg_measure.specs.Games.{IsBoundsOf}
-use Rattle.pg_measure.specs.Laws.{OrderIsTotal, OneListOfBounds}
-use Rattle.pg_map.specs.Lines.{game_line}
-use Rattle.pg_map.specs.Maps.{measure_at, IsServed, IsLeastServing}
-use Rattle.pg_map.proofs.Above.{fits_at}
-use Rattle.pg_text.specs.GameText.{IsGameText}
-use Rattle.pg_text.specs.OneSpelling.{SpellsOneGame}
-use Rattle.pg_parts.specs.Cuts.{CutValue}
-use Rattle.pg_world.specs.Laws.{AreTakenToo, SameTaken}
-use Rattle.pg_world.specs.OneScript.{SpellsOneScript}
-use Rattle.pg_world.specs.ScriptText.{IsScriptText}
-use Rattle.pg_world.specs.Updates.{UpdateValue}
-use Rattle.pg_world.specs.Worlds.{WorldValue, new_world, taken_of, making, IsMapOf, LiftsIn, Lifts, Steps, refusal, IsRefusedBy, Runs, StopsAt}
-use Rattle.pg_world.specs.declared.event.Event.{Event}
-use Rattle.pg_world.specs.declared.event.Event.TheVariants.{Lift, Deliver, Restart, CoordinatorLift}
-use Rattle.pg_world.specs.declared.fault.WorldFault.{WorldFault}
+use Rattle.pg_command.proofs.Common.{◌≡◌, ◌≢◌, ℕ, zero, suc, ◌<◌, ◌≤◌, List, [], ◌∷◌, length, take, get_or, Option, Some, None, refl, sym}
+use Rattle.pg_command.proofs.Common.{ap, ap₂, subst, inl, inr, ◌∙◌, arith, All, slice_get, same_lists, get_or_default, GameVertex}
+use Rattle.pg_command.proofs.Common.{BoundList, MeasureValue, IsBelow, IsBoundsOf, OrderIsTotal, OneListOfBounds, game_line, measure_at}
+use Rattle.pg_command.proofs.Common.{IsServed, IsLeastServing, fits_at, IsGameText, SpellsOneGame, CutValue, AreTakenToo, SameTaken}
+use Rattle.pg_command.proofs.Common.{SpellsOneScript, IsScriptText, UpdateValue, WorldValue, new_world, taken_of, making, IsMapOf, LiftsIn}
+use Rattle.pg_command.proofs.Common.{Lifts, Steps, refusal, IsRefusedBy, Runs, StopsAt, Event, Lift, Deliver, Restart, CoordinatorLift}
+use Rattle.pg_command.proofs.Common.{WorldFault, AreMapsOf, IsScripted, IsReplayed, IsStopped, world_text}
+use Rattle.pg_measure.specs.Measures.{Fits}
 use Rattle.pg_world.specs.declared.fault.WorldFault.TheVariants.{OutOfMemory}
-use Rattle.pg_command.specs.Replaying.{AreMapsOf, IsScripted, IsReplayed, IsStopped, world_text}
 use Rattle.pg_command.proofs.Refusing.{parted_once}
 
 -- the laws that the proofs use

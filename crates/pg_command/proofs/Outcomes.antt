@@ -1,13 +1,7 @@
 -- What is printed of what a command worked out, and what is known of an input that was read.
-use Rattle.std.proofs.Common.{◌≡◌, ℕ, ◌≤◌, List, length, Option, Some, None, Result, Ok, Err, sym, subst}
-use Rattle.std.specs.Prelude.{IfOk, IfErr, IfSome, OnOk, MatchResult}
-use Rattle.std.specs.Io.KnownBytes.{Appends}
-use Rattle.pg_command.specs.Measuring.{MapKind}
-use Rattle.pg_command.specs.Answers.{meaning_of, RefusesBy, Answers}
-use Rattle.pg_command.specs.Mirrors.Working.{ShowsWhat, Fails}
-use Rattle.pg_command.specs.declared.input.TheConstants.{MOST_BYTES}
-use Rattle.pg_words.specs.declared.command.Command.{Command}
-use Rattle.pg_command.specs.declared.fault.CliFault.{CliFault}
+use Rattle.pg_command.proofs.Common.{◌≡◌, ℕ, ◌≤◌, List, length, Option, Some, None, Result, Ok, Err, sym, subst, IfOk, IfErr, IfSome, OnOk}
+use Rattle.pg_command.proofs.Common.{MatchResult, Appends, MapKind, meaning_of, RefusesBy, Answers, ShowsWhat, Fails, MOST_BYTES, Command}
+use Rattle.pg_command.proofs.Common.{CliFault}
 use Rattle.pg_command.specs.declared.fault.CliFault.TheVariants as cli
 
 -- the text of an answer was written

@@ -1,12 +1,8 @@
 -- The first place of the separator parts an input.
-use Rattle.std.proofs.Common.{◌≡◌, ℕ, ◌+◌, ◌-◌, ◌≤◌, List, [], ◌∷◌, ◌++◌, length, take, drop, sym, ap, subst, inl, inr, ◌∙◌, arith}
-use Rattle.std.proofs.Common.{length-append, length-drop, length-take-le, take-append-drop}
-use Rattle.std.proofs.Math.Seq.{drop-append_seam, take-append-add}
-use Rattle.std.proofs.lemmas.List.{take_all}
-use Rattle.std.proofs.lemmas.Bool.{cases_lt}
-use Rattle.memchr.specs.Find.{OccursAt, Nowhere, NoneBefore}
-use Rattle.memchr.proofs.lemmas.MatchLemmas.{OccursAt-from_part, OccursAt-split}
-use Rattle.pg_command.specs.Parts.{separator, IsParted}
+use Rattle.pg_command.proofs.Common.{◌≡◌, ℕ, ◌+◌, ◌-◌, ◌≤◌, List, [], ◌∷◌, ◌++◌, length, take, drop, sym, ap, subst, inl, inr, ◌∙◌, arith}
+use Rattle.pg_command.proofs.Common.{length-append, length-drop, length-take-le, take-append-drop, drop-append_seam, take-append-add}
+use Rattle.pg_command.proofs.Common.{take_all, cases_lt, OccursAt, Nowhere, NoneBefore, OccursAt-from_part, OccursAt-split, separator}
+use Rattle.pg_command.proofs.Common.{IsParted}
 
 -- where the bytes stand, they occur
 pub occurs_behind : (input front second : List ℕ) → input ≡ front ++ (separator ++ second) → OccursAt input separator (length front)

@@ -1,23 +1,9 @@
 -- The winners that `solve` prints win.
-use Rattle.std.proofs.Common.{◌≡◌, ℕ, ◌<◌, List, length, Option, None, refl, sym, ap, subst, ◌∙◌, arith}
-use Rattle.std.specs.Prelude.{if◌then◌else◌}
-use Rattle.std.proofs.lemmas.List.{same_lists, get_or_default}
-use Rattle.std.proofs.lemmas.List.FromFn.{length-map-range_with_len, get_or-map-range_with_len}
-use Rattle.pg_arena.specs.declared.player.Player.{Player}
-use Rattle.pg_arena.specs.declared.player.Player.TheVariants.{Even, Odd}
-use Rattle.pg_arena.specs.Games.{GameVertex, IsGame, opponent, owner}
-use Rattle.pg_text.specs.declared.answer.Answer.{Answer}
-use Rattle.pg_text.specs.Solutions.{unanswered, winner, choice}
-use Rattle.pg_text.specs.SolutionText.{is_same, IsSolutionText}
-use Rattle.pg_text.specs.SolutionLayout.{printed_answer, printed_answers, solution_text}
-use Rattle.pg_text.specs.SolutionReadBack.{SolutionReadsBack}
-use Rattle.pg_map.specs.Maps.{MapValue}
-use Rattle.pg_check.specs.Laws.{SoundWins, OneWinner}
-use Rattle.pg_check.specs.Strategies.{AreClosed, IsSolutionOf, ClosedMapsSound}
-use Rattle.pg_check.proofs.Chosen.{is_solution}
-use Rattle.pg_command.specs.Measuring.{IsClosedMapOf}
-use Rattle.pg_command.specs.Solving.{IsSolved}
-use Rattle.pg_command.specs.Laws.{WinsAsPrinted}
+use Rattle.pg_command.proofs.Common.{◌≡◌, ℕ, ◌<◌, List, length, Option, None, refl, sym, ap, subst, ◌∙◌, arith, if◌then◌else◌, same_lists}
+use Rattle.pg_command.proofs.Common.{get_or_default, length-map-range_with_len, get_or-map-range_with_len, Player, Even, Odd, GameVertex}
+use Rattle.pg_command.proofs.Common.{IsGame, opponent, owner, Answer, unanswered, winner, choice, is_same, IsSolutionText, printed_answer}
+use Rattle.pg_command.proofs.Common.{printed_answers, solution_text, SolutionReadsBack, MapValue, SoundWins, OneWinner, AreClosed}
+use Rattle.pg_command.proofs.Common.{IsSolutionOf, ClosedMapsSound, is_solution, IsClosedMapOf, IsSolved, WinsAsPrinted}
 
 -- a choice that is left out where another player owns the vertex wasn't there
 choice_told : (won own : Player) (c : Option ℕ) → (own ≡ opponent won → c ≡ None) → (if is_same won own then c else None) ≡ c

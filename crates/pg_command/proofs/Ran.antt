@@ -1,18 +1,8 @@
 -- The maps of the replicas after the events of a script.
-use Rattle.std.proofs.Common.{◌≡◌, ◌⊎◌, ℕ, zero, suc, ◌<◌, ◌≤◌, List, [], ◌∷◌, ◌++◌, length, get_or, refl, sym, ap, subst, inl, inr, ◌∙◌, arith, length-append}
-use Rattle.std.specs.Prelude.{All}
-use Rattle.std.proofs.lemmas.Bool.{cases_lt}
-use Rattle.std.proofs.lemmas.List.{get_or_append_left}
-use Rattle.std.proofs.Math.Seq.{get_or-append_seam}
-use Rattle.pg_arena.specs.Games.{GameVertex, IsGame}
-use Rattle.pg_measure.specs.Measures.{BoundList, MeasureValue}
-use Rattle.pg_measure.specs.Games.{IsBoundsOf}
-use Rattle.pg_parts.specs.Cuts.{CutValue}
-use Rattle.pg_world.specs.Worlds.{WorldValue, new_world, IsMapOf, Lifts, Steps, IsEventOf, Runs}
-use Rattle.pg_world.specs.Laws.{NeverAbove}
-use Rattle.pg_world.specs.declared.event.Event.{Event}
-use Rattle.pg_world.specs.declared.event.Event.TheVariants.{Lift, Deliver, Restart, CoordinatorLift}
-use Rattle.pg_command.specs.Replaying.{AreMapsOf}
+use Rattle.pg_command.proofs.Common.{◌≡◌, ◌⊎◌, ℕ, zero, suc, ◌<◌, ◌≤◌, List, [], ◌∷◌, ◌++◌, length, get_or, refl, sym, ap, subst, inl, inr}
+use Rattle.pg_command.proofs.Common.{◌∙◌, arith, length-append, All, cases_lt, get_or_append_left, get_or-append_seam, GameVertex, IsGame}
+use Rattle.pg_command.proofs.Common.{BoundList, MeasureValue, IsBoundsOf, CutValue, WorldValue, new_world, IsMapOf, Lifts, Steps, IsEventOf}
+use Rattle.pg_command.proofs.Common.{Runs, NeverAbove, Event, Lift, Deliver, Restart, CoordinatorLift, AreMapsOf}
 
 -- events don't change the cut
 lift_cut : (w new : WorldValue) (r v : ℕ) → Lifts w r v new → new.cut ≡ w.cut

@@ -1,22 +1,8 @@
 -- What the answers of `synth` say of endless words.
-use Rattle.std.proofs.Common.{◌≡◌, ℕ, List, length, None, subst, sym, ap, ◌∙◌}
-use Rattle.pg_arena.specs.declared.player.Player.TheVariants.{Even, Odd}
-use Rattle.pg_arena.specs.Games.{GameVertex}
-use Rattle.pg_text.specs.Solutions.{winner}
-use Rattle.pg_check.specs.Laws.{OneWinner}
-use Rattle.pg_automaton.specs.Automata.{Automaton}
-use Rattle.pg_hoa.specs.Laws.{OneReading}
-use Rattle.pg_synth.specs.Letters.{inputs, outputs}
-use Rattle.pg_synth.specs.Laws.{IsWonBy, MachineAccepted, Unrealizable}
-use Rattle.pg_synth.specs.Machines.{machine_word}
-use Rattle.pg_synth.specs.declared.place.Place.TheVariants.{Arrival}
-use Rattle.pg_synth.proofs.OneGame.{one_game}
-use Rattle.pg_synth.proofs.Trace.{one_vertex}
-use Rattle.pg_aiger.specs.CircuitLayout.{symbols_of, circuit_text}
-use Rattle.pg_aiger.specs.Laws.{CircuitFollows, CircuitReadsBack}
-use Rattle.pg_command.specs.Measuring.{MapKind, IsClosedMapOf}
-use Rattle.pg_command.specs.Synthesising.{IsWonFor}
-use Rattle.pg_command.specs.Controllers.{CircuitAccepted, NoneAccepted, OneVerdict}
+use Rattle.pg_command.proofs.Common.{◌≡◌, ℕ, List, length, None, subst, sym, ap, ◌∙◌, Even, Odd, GameVertex, winner, OneWinner, Automaton}
+use Rattle.pg_command.proofs.Common.{OneReading, inputs, outputs, IsWonBy, MachineAccepted, Unrealizable, machine_word, Arrival, one_game}
+use Rattle.pg_command.proofs.Common.{one_vertex, symbols_of, circuit_text, CircuitFollows, CircuitReadsBack, MapKind, IsClosedMapOf}
+use Rattle.pg_command.proofs.Common.{IsWonFor, CircuitAccepted, NoneAccepted, OneVerdict}
 
 pub circuit_accepted : CircuitFollows → CircuitReadsBack → MachineAccepted → (letters : ℕ → ℕ) → CircuitAccepted letters
 circuit_accepted follows reads_back accepted letters input output answer =

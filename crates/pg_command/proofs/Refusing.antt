@@ -1,24 +1,11 @@
 -- What a refusal of a lower layer says of the input.
-use Rattle.std.proofs.Common.{◌≡◌, ◌≢◌, ℕ, List, [], ◌∷◌, ◌++◌, length, take, drop, Result, Ok, Err, subst, sym, ap, ◌∙◌, arith, refl}
-use Rattle.std.proofs.Math.Seq.{drop-append_seam, take-append_seam}
-use Rattle.std.specs.Prelude.{IfErr, IsErrAnd}
-use Rattle.pg_arena.specs.Games.{GameVertex, dual}
-use Rattle.pg_map.specs.Maps.{MapValue}
-use Rattle.pg_text.specs.GameText.{IsGameText, Refuses}
-use Rattle.pg_text.specs.SolutionText.{IsSolutionText, RefusesSolution}
-use Rattle.pg_text.specs.declared.answer.Answer.{Answer}
-use Rattle.pg_text.specs.declared.fault.TextFault.{TextFault}
+use Rattle.pg_command.proofs.Common.{◌≡◌, ◌≢◌, ℕ, List, [], ◌∷◌, ◌++◌, length, take, drop, Result, Ok, Err, subst, sym, ap, ◌∙◌, arith}
+use Rattle.pg_command.proofs.Common.{refl, drop-append_seam, take-append_seam, IfErr, IsErrAnd, GameVertex, dual, MapValue, IsGameText}
+use Rattle.pg_command.proofs.Common.{Refuses, IsSolutionText, RefusesSolution, Answer, TextFault, StrategiesFail, CheckFault, CliFault}
+use Rattle.pg_command.proofs.Common.{text_fault, check_fault, MapKind, IsUnsolved, separator, IsParted, IsNoGame, IsNoSolution}
 use Rattle.pg_text.specs.declared.fault.TextFault.TheVariants as text
-use Rattle.pg_check.specs.Strategies.{StrategiesFail}
-use Rattle.pg_check.specs.declared.fault.CheckFault.{CheckFault}
 use Rattle.pg_check.specs.declared.fault.CheckFault.TheVariants as check
-use Rattle.pg_command.specs.declared.fault.CliFault.{CliFault}
 use Rattle.pg_command.specs.declared.fault.CliFault.TheVariants as cli
-use Rattle.pg_command.specs.Faults.{text_fault, check_fault}
-use Rattle.pg_command.specs.Measuring.{MapKind}
-use Rattle.pg_command.specs.Mirrors.Solver.{IsUnsolved}
-use Rattle.pg_command.specs.Parts.{separator, IsParted}
-use Rattle.pg_command.specs.Texts.{IsNoGame, IsNoSolution}
 
 -- what is so of a fault is so of each result that has it
 pub refused_by : {X : Type 0} (P : CliFault → Type 0) (result : Result X CliFault) (fault : CliFault) → IsErrAnd result (λ e. e ≡ fault)

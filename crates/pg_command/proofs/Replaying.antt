@@ -1,23 +1,10 @@
 -- What a script makes of a game, and why a text or an event is refused.
-use Rattle.std.proofs.Common.{◌≡◌, ◌≢◌, ℕ, List, refl, sym, subst}
-use Rattle.pg_arena.specs.Games.{GameVertex}
-use Rattle.pg_measure.specs.Measures.{MeasureValue}
-use Rattle.pg_measure.specs.Games.{IsBoundsOf}
-use Rattle.pg_text.specs.GameText.{IsGameText}
-use Rattle.pg_parts.specs.Cuts.{CutValue}
-use Rattle.pg_world.specs.ScriptText.{IsScriptText}
-use Rattle.pg_world.specs.Worlds.{WorldValue, new_world, Runs, StopsAt}
-use Rattle.pg_world.specs.Laws.{NeverAbove}
-use Rattle.pg_world.specs.declared.event.Event.{Event}
-use Rattle.pg_world.specs.declared.fault.WorldFault.{WorldFault}
+use Rattle.pg_command.proofs.Common.{◌≡◌, ◌≢◌, ℕ, List, refl, sym, subst, GameVertex, MeasureValue, IsBoundsOf, IsGameText, CutValue}
+use Rattle.pg_command.proofs.Common.{IsScriptText, WorldValue, new_world, Runs, StopsAt, NeverAbove, Event, WorldFault, ScriptFault}
+use Rattle.pg_command.proofs.Common.{IsParted, AreMapsOf, IsScripted, IsReplayed, IsNoScript, RefusesReplay, world_text, Fails}
+use Rattle.pg_command.proofs.Common.{script_fault, event_fault, CliFault}
 use Rattle.pg_world.specs.declared.fault.WorldFault.TheVariants as world
-use Rattle.pg_world.specs.declared.script_fault.ScriptFault.{ScriptFault}
 use Rattle.pg_world.specs.declared.script_fault.ScriptFault.TheVariants as script
-use Rattle.pg_command.specs.Parts.{IsParted}
-use Rattle.pg_command.specs.Replaying.{AreMapsOf, IsScripted, IsReplayed, IsNoScript, RefusesReplay, world_text}
-use Rattle.pg_command.specs.Mirrors.Working.{Fails}
-use Rattle.pg_command.specs.Faults.{script_fault, event_fault}
-use Rattle.pg_command.specs.declared.fault.CliFault.{CliFault}
 use Rattle.pg_command.specs.declared.fault.CliFault.TheVariants as cli
 use Rattle.pg_command.proofs.Ran.{maps_of}
 

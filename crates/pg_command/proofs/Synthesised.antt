@@ -1,26 +1,10 @@
 -- What `synth` prints, and why it prints nothing, from what the steps give.
-use Rattle.std.proofs.Common.{◌≡◌, ◌≢◌, ℕ, List, ◌++◌, Some, None, refl, ◌∙◌}
-use Rattle.pg_arena.specs.declared.player.Player.{Player}
-use Rattle.pg_arena.specs.declared.player.Player.TheVariants.{Even, Odd}
-use Rattle.pg_arena.specs.Games.{GameVertex}
-use Rattle.pg_text.specs.declared.answer.Answer.{Answer}
-use Rattle.pg_text.specs.Solutions.{winner, IsSolution}
-use Rattle.pg_check.specs.Soundness.{IsSound}
-use Rattle.pg_automaton.specs.Automata.{Automaton, IsAutomaton}
-use Rattle.pg_hoa.specs.AutomatonText.{Spelt}
-use Rattle.pg_synth.specs.Answers.{IsSynthGame, IsMealyOf}
-use Rattle.pg_synth.specs.Machines.{Machine}
-use Rattle.pg_aiger.specs.Circuits.{Circuit}
-use Rattle.pg_aiger.specs.Machines.{IsCircuitOf, IsTooLarge}
-use Rattle.pg_aiger.specs.CircuitLayout.{circuit_text}
-use Rattle.pg_aiger.specs.declared.fault.AigerFault.{AigerFault}
+use Rattle.pg_command.proofs.Common.{◌≡◌, ◌≢◌, ℕ, List, ◌++◌, Some, None, refl, ◌∙◌, Player, Even, Odd, GameVertex, Answer, winner}
+use Rattle.pg_command.proofs.Common.{IsSolution, IsSound, Automaton, IsAutomaton, Spelt, IsSynthGame, IsMealyOf, Machine, Circuit}
+use Rattle.pg_command.proofs.Common.{IsCircuitOf, circuit_text, AigerFault, IsSolvedBy, MapKind, Fits, Fails, IsWonFor, IsRealized}
+use Rattle.pg_command.proofs.Common.{IsUnrealized, HasLargeMachine, RefusesSynth, realizable, unrealizable, aiger_fault}
+use Rattle.pg_aiger.specs.Machines.{IsTooLarge}
 use Rattle.pg_aiger.specs.declared.fault.AigerFault.TheVariants as aiger
-use Rattle.pg_command.specs.Solving.{IsSolvedBy}
-use Rattle.pg_command.specs.Measuring.{MapKind}
-use Rattle.pg_command.specs.Mirrors.Synthesised.{Fits}
-use Rattle.pg_command.specs.Mirrors.Working.{Fails}
-use Rattle.pg_command.specs.Synthesising.{IsWonFor, IsRealized, IsUnrealized, HasLargeMachine, RefusesSynth, realizable, unrealizable}
-use Rattle.pg_command.specs.Faults.{aiger_fault}
 
 -- the maker of circuits writes nothing
 pub refuses_circuit : (Kind : MapKind) (input : List ℕ) (fault : AigerFault) → fault ≢ aiger.Write

@@ -1,27 +1,12 @@
 -- Against each controller Odd's strategy makes an input word.
-use Rattle.std.proofs.Common.{◌≡◌, ℕ, zero, suc, ◌*◌, ◌%◌, ◌<◌, inl, List, [], ◌∷◌, Option, Some, None, arith, refl, sym, subst, ap, ap₂, ◌∙◌}
-use Rattle.std.proofs.Math.Nat.{mod-eq_of_lt}
-use Rattle.std.proofs.lemmas.Nat.{mod_below, pow_pos}
-use Rattle.pg_arena.specs.declared.player.Player.TheVariants.{Odd}
-use Rattle.pg_arena.specs.Games.{GameVertex, vertex_at}
+use Rattle.pg_command.proofs.Common.{◌≡◌, ℕ, zero, suc, ◌*◌, ◌%◌, ◌<◌, inl, List, [], ◌∷◌, Option, Some, None, arith, refl, sym, subst, ap}
+use Rattle.pg_command.proofs.Common.{ap₂, ◌∙◌, mod-eq_of_lt, mod_below, pow_pos, Odd, GameVertex, vertex_at, choice, Formula, FitsShape}
+use Rattle.pg_command.proofs.Common.{Step, Automaton, IsAutomaton, next, IsWord, IsAccepted, step_from, target_of, state_after, joined}
+use Rattle.pg_command.proofs.Common.{inputs, StandsFor, IsGameOfAutomaton, IsPlaceOf, arrival_of, input_letters, place_in, arrival_after}
+use Rattle.pg_command.proofs.Common.{Traces, IsWonBy, Unrealizable, IsInputWord, HasChosenInputs, Place, Dead, Arrival, input_back, known}
+use Rattle.pg_command.proofs.Common.{letter_in, reached, one_vertex, the_play, inputs_before, controlled_word, NoController}
 use Rattle.pg_text.specs.declared.answer.Answer as solutions
-use Rattle.pg_text.specs.Solutions.{choice}
-use Rattle.pg_automaton.specs.Formulas.{Formula}
-use Rattle.pg_automaton.specs.Shapes.{FitsShape}
-use Rattle.pg_automaton.specs.Automata.{Step, Automaton, IsAutomaton, next}
-use Rattle.pg_automaton.specs.Words.{IsWord, IsAccepted, step_from, target_of, state_after}
-use Rattle.pg_synth.specs.Letters.{joined, inputs}
-use Rattle.pg_synth.specs.AutomatonGames.{StandsFor, IsGameOfAutomaton, IsPlaceOf, arrival_of, input_letters}
-use Rattle.pg_synth.specs.Mirrors.GameLines.{place_in}
-use Rattle.pg_synth.specs.Tracing.{arrival_after, Traces}
-use Rattle.pg_synth.specs.Laws.{IsWonBy, Unrealizable}
-use Rattle.pg_synth.specs.Machines.{IsInputWord, HasChosenInputs}
-use Rattle.pg_synth.specs.declared.place.Place.{Place}
-use Rattle.pg_synth.specs.declared.place.Place.TheVariants.{Dead, Arrival, Answer}
-use Rattle.pg_synth.proofs.Letters.{input_back}
-use Rattle.pg_synth.proofs.Places.{known, letter_in, reached}
-use Rattle.pg_synth.proofs.Trace.{one_vertex, the_play}
-use Rattle.pg_command.specs.Controllers.{inputs_before, controlled_word, NoController}
+use Rattle.pg_synth.specs.declared.place.Place.TheVariants.{Answer}
 
 -- the input letter of an answer
 abbrev answered : Place → ℕ

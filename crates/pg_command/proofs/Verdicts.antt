@@ -1,20 +1,8 @@
 -- The vertices of a verdict are the game's, and the greatest of its priorities.
-use Rattle.std.proofs.Common.{◌≡◌, ℕ, ◌+◌, ◌<◌, List, [], ◌∷◌, ◌++◌, length, take, get_or, max, map, ap, subst, ◌∙◌, arith, inl, inr}
-use Rattle.std.specs.Prelude.{All, Contains}
-use Rattle.std.specs.Ordering.{ord_max, nat_cmp}
-use Rattle.std.proofs.lemmas.Grind.{common_steps}
-use Rattle.std.proofs.lemmas.Bool.{cases_lt}
-use Rattle.std.proofs.lemmas.List.{take_more, map-append, get_or_past}
-use Rattle.std.proofs.lemmas.List.Elements.{All-cons}
-use Rattle.pg_arena.specs.Games.{GameVertex, IsGame, IsEdge, IsPath, successors, nowhere}
-use Rattle.pg_text.specs.declared.answer.Answer.{Answer}
-use Rattle.pg_check.specs.Soundness.{Counts, IsBadCycle}
-use Rattle.pg_map.proofs.Paths.{path_front}
-use Rattle.pg_check.specs.Verdicts.{Refutes, IsSimpleBadCycle}
-use Rattle.pg_check.specs.declared.verdict.Verdict.{Verdict}
-use Rattle.pg_check.specs.declared.verdict.Verdict.TheVariants.{Wins, Leaves, BadCycle}
-use Rattle.pg_command.specs.Checking.{greatest}
-use Rattle.pg_command.specs.Mirrors.Naming.{IsWithin}
+use Rattle.pg_command.proofs.Common.{◌≡◌, ℕ, ◌+◌, ◌<◌, List, [], ◌∷◌, ◌++◌, length, take, get_or, max, map, ap, subst, ◌∙◌, arith, inl, inr}
+use Rattle.pg_command.proofs.Common.{All, Contains, ord_max, nat_cmp, common_steps, cases_lt, take_more, map-append, get_or_past, All-cons}
+use Rattle.pg_command.proofs.Common.{GameVertex, IsGame, IsEdge, IsPath, successors, nowhere, Answer, Counts, IsBadCycle, path_front}
+use Rattle.pg_command.proofs.Common.{Refutes, IsSimpleBadCycle, Verdict, Wins, Leaves, BadCycle, greatest, IsWithin}
 
 greatest_append : (ns : List ℕ) (n : ℕ) → greatest (ns ++ n ∷ []) ≡ max (greatest ns) n
 greatest_append [] n = omega arith

@@ -1,27 +1,10 @@
 -- What `synth` answers is within its limits and, by least progress measures, one for an input.
-use Rattle.std.proofs.Common.{◌≡◌, List, ℕ, ◌++◌, subst, sym, ap₂, ◌∙◌, inl, inr}
-use Rattle.pg_arena.specs.declared.player.Player.{Player}
-use Rattle.pg_arena.specs.declared.player.Player.TheVariants.{Even}
-use Rattle.pg_arena.specs.Games.{GameVertex, IsWithinLimits}
-use Rattle.pg_text.specs.declared.answer.Answer.{Answer}
-use Rattle.pg_check.specs.Laws.{OneWinner}
-use Rattle.pg_measure.specs.Laws.{OneListOfBounds}
-use Rattle.pg_map.specs.Laws.{ClosedIsLeast}
-use Rattle.pg_automaton.specs.Automata.{Automaton}
-use Rattle.pg_hoa.specs.Laws.{OneReading}
-use Rattle.pg_synth.specs.Machines.{Machine, Follows}
-use Rattle.pg_synth.specs.Laws.{OneMachine}
-use Rattle.pg_synth.proofs.OneGame.{one_game}
-use Rattle.pg_synth.specs.AutomatonGames.{IsGameOfAutomaton}
-use Rattle.pg_aiger.specs.Circuits.{Circuit}
+use Rattle.pg_command.proofs.Common.{◌≡◌, List, ℕ, ◌++◌, subst, sym, ap₂, ◌∙◌, inl, inr, Player, Even, GameVertex, IsWithinLimits, Answer}
+use Rattle.pg_command.proofs.Common.{OneWinner, OneListOfBounds, ClosedIsLeast, Automaton, OneReading, Machine, Follows, OneMachine}
+use Rattle.pg_command.proofs.Common.{one_game, IsGameOfAutomaton, Circuit, circuit_text, OneCircuit, MapKind, IsMeasureOf, IsClosedMapOf}
+use Rattle.pg_command.proofs.Common.{IsSolvedBy, IsTooLarge, realizable, IsWonFor, IsRealized, IsSynthesised, HasLargeMachine}
+use Rattle.pg_command.proofs.Common.{AnswersWithinLimits}
 use Rattle.pg_aiger.specs.Machines as circuit
-use Rattle.pg_aiger.specs.CircuitLayout.{circuit_text}
-use Rattle.pg_aiger.specs.Laws.{OneCircuit}
-use Rattle.pg_command.specs.Measuring.{MapKind, IsMeasureOf, IsClosedMapOf}
-use Rattle.pg_command.specs.Solving.{IsSolvedBy}
-use Rattle.pg_command.specs.Making.{IsTooLarge}
-use Rattle.pg_command.specs.Synthesising.{realizable, IsWonFor, IsRealized, IsSynthesised, HasLargeMachine}
-use Rattle.pg_command.specs.Controllers.{AnswersWithinLimits}
 use Rattle.pg_command.proofs.One.{one_made, one_solved}
 use Rattle.pg_command.proofs.Realized.{one_player}
 

@@ -1,24 +1,10 @@
 -- What the commands' answers say of who wins.
-use Rattle.std.proofs.Common.{◌≡◌, ℕ, zero, suc, ◌<◌, List, [], ◌∷◌, ◌++◌, length, map, get_or, arith, subst, refl}
-use Rattle.std.specs.Prelude.{All, Contains, ◌^◌, codes}
-use Rattle.std.specs.List.{flat_map}
-use Rattle.std.proofs.lemmas.List.{get_or-map, length-map}
-use Rattle.std.proofs.lemmas.List.Elements.{All-map, Contains-append_left, Contains-append_right}
-use Rattle.std.proofs.lemmas.List.Sorted.{All-permutation}
-use Rattle.pg_arena.specs.Games.{GameVertex, IsGame, dual}
-use Rattle.pg_arena.specs.Lines.{Line, counted, line_of, lines_of}
-use Rattle.pg_arena.specs.Lemmas.Duals.{game_dual}
-use Rattle.pg_text.specs.Lexemes.{Lexeme, number, end, clause_lexemes, IsSpelt, Spells}
-use Rattle.pg_text.specs.GameText.{IsGameText, line_lexemes}
-use Rattle.pg_text.specs.SolutionLayout.{solution_text}
-use Rattle.pg_measure.specs.Laws.{HasBounds}
-use Rattle.pg_map.specs.Maps.{MapValue}
-use Rattle.pg_map.specs.Laws.{GameLines, HasLeastProgressMeasure}
-use Rattle.pg_check.specs.Strategies.{IsUndecided, DecidedMapsSolve}
-use Rattle.pg_determined.specs.Winners.{LeastTellsWinners, NeverUndecided}
-use Rattle.pg_command.specs.Measuring.{IsMeasureOf, measures_text}
-use Rattle.pg_command.specs.Solving.{IsUndecidedIn}
-use Rattle.pg_command.specs.Winners.{MeasuresTellWinners, NoneUndecided, GamesHaveAnswers}
+use Rattle.pg_command.proofs.Common.{◌≡◌, ℕ, zero, suc, ◌<◌, List, [], ◌∷◌, ◌++◌, length, map, get_or, arith, subst, refl, All, Contains}
+use Rattle.pg_command.proofs.Common.{◌^◌, codes, flat_map, get_or-map, length-map, All-map, Contains-append_left, Contains-append_right}
+use Rattle.pg_command.proofs.Common.{All-permutation, GameVertex, IsGame, dual, Line, counted, line_of, lines_of, game_dual, Lexeme, number}
+use Rattle.pg_command.proofs.Common.{end, clause_lexemes, IsSpelt, Spells, IsGameText, line_lexemes, solution_text, HasBounds, MapValue}
+use Rattle.pg_command.proofs.Common.{GameLines, HasLeastProgressMeasure, IsUndecided, DecidedMapsSolve, LeastTellsWinners, NeverUndecided}
+use Rattle.pg_command.proofs.Common.{IsMeasureOf, measures_text, IsUndecidedIn, MeasuresTellWinners, NoneUndecided, GamesHaveAnswers}
 
 pub measures_tell_winners : LeastTellsWinners → MeasuresTellWinners
 measures_tell_winners tells input output measured =

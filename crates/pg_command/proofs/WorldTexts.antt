@@ -1,17 +1,8 @@
 -- The text of a world, part by part.
-use Rattle.std.proofs.Common.{◌≡◌, ℕ, ◌+◌, ◌<◌, ◌≤◌, List, [], ◌∷◌, ◌++◌, length, map, take, get_or, Option, sym, ap, ap₂, subst, ◌∙◌, arith, append-nil}
-use Rattle.std.specs.Prelude.{All, codes, decimal}
-use Rattle.std.proofs.lemmas.List.{take_more, take_all, get_or-map, length-map}
-use Rattle.std.proofs.lemmas.Grind.{flat_map-append}
-use Rattle.std.proofs.lemmas.List.FromFn.{length-enumerate_from, get_or-enumerate_from}
-use Rattle.std.specs.List.{flat_map, enumerate_from}
-use Rattle.std.specs.Io.KnownBytes.{Appends}
-use Rattle.pg_arena.specs.Games.{GameVertex, identifier}
-use Rattle.pg_measure.specs.Measures.{MeasureValue}
-use Rattle.pg_map.specs.declared.update.Update.{Update}
-use Rattle.pg_world.specs.Updates.{UpdateValue, update_value}
-use Rattle.pg_command.specs.Measuring.{measure_line}
-use Rattle.pg_command.specs.Replaying.{update_line}
+use Rattle.pg_command.proofs.Common.{◌≡◌, ℕ, ◌+◌, ◌<◌, ◌≤◌, List, [], ◌∷◌, ◌++◌, length, map, take, get_or, Option, sym, ap, ap₂, subst}
+use Rattle.pg_command.proofs.Common.{◌∙◌, arith, append-nil, All, codes, decimal, take_more, take_all, get_or-map, length-map}
+use Rattle.pg_command.proofs.Common.{flat_map-append, length-enumerate_from, get_or-enumerate_from, flat_map, enumerate_from, Appends}
+use Rattle.pg_command.proofs.Common.{GameVertex, identifier, MeasureValue, Update, UpdateValue, update_value, measure_line, update_line}
 use Rattle.pg_command.proofs.Writing.{appends_then}
 
 -- when the texts of the first i elements were written, and then that of element i

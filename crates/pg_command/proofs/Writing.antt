@@ -1,16 +1,8 @@
 -- What several writes append, and the lines of measures one after another.
-use Rattle.std.proofs.Common.{◌≡◌, ℕ, ◌+◌, ◌<◌, ◌≤◌, List, [], ◌∷◌, ◌++◌, length, take, get_or, Option, Some, None, Result, Ok, Err, sym, ap, subst, ◌∙◌}
-use Rattle.std.proofs.Common.{arith, append_assoc, append-nil}
-use Rattle.std.proofs.lemmas.List.{take_more, take_all}
-use Rattle.std.proofs.lemmas.Grind.{flat_map-append}
-use Rattle.std.proofs.lemmas.Slice.Zip.{get_or-zip, length-zip}
-use Rattle.std.specs.Prelude.{OnOk}
-use Rattle.std.specs.List.{flat_map, zip}
-use Rattle.std.specs.Io.KnownBytes.{Appends}
-use Rattle.pg_arena.specs.Games.{GameVertex, nowhere, identifier}
-use Rattle.pg_measure.specs.Measures.{MeasureValue}
-use Rattle.pg_map.specs.Maps.{measure_at}
-use Rattle.pg_command.specs.Measuring.{measure_line}
+use Rattle.pg_command.proofs.Common.{◌≡◌, ℕ, ◌+◌, ◌<◌, ◌≤◌, List, [], ◌∷◌, ◌++◌, length, take, get_or, Option, Some, None, Result, Ok, Err}
+use Rattle.pg_command.proofs.Common.{sym, ap, subst, ◌∙◌, arith, append_assoc, append-nil, take_more, take_all, flat_map-append, get_or-zip}
+use Rattle.pg_command.proofs.Common.{length-zip, OnOk, flat_map, zip, Appends, GameVertex, nowhere, identifier, MeasureValue, measure_at}
+use Rattle.pg_command.proofs.Common.{measure_line}
 
 pub appends_then : (a b c : Option (List ℕ)) (xs ys : List ℕ) → Appends a b xs → Appends b c ys → Appends a c (xs ++ ys)
 appends_then None b c xs ys h k = tt

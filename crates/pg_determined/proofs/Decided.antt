@@ -1,25 +1,10 @@
 -- Each vertex has one winner, and least progress measures tell it.
-use Rattle.std.proofs.Common.{◌≡◌, ◌≢◌, ℕ, ◌<◌, ◌⊎◌, inl, inr, List, length, Some, None, arith, sym, subst, refl, ap, ◌∙◌}
-use Rattle.std.specs.Option.{IsSome}
-use Rattle.pg_arena.specs.declared.player.Player.{Player}
-use Rattle.pg_arena.specs.declared.player.Player.TheVariants.{Even, Odd}
-use Rattle.pg_arena.specs.Games.{GameVertex, IsGame, opponent, priority, owner, dual}
-use Rattle.pg_arena.specs.Lemmas.Duals.{length_dual, game_dual}
-use Rattle.pg_text.specs.declared.answer.Answer.{Answer}
-use Rattle.pg_text.specs.Solutions.{IsSolution, winner}
-use Rattle.pg_measure.specs.Measures.{BoundList, MeasureValue, AtMost}
-use Rattle.pg_measure.specs.Games.{IsBoundsOf}
-use Rattle.pg_map.specs.Lines.{game_line}
-use Rattle.pg_map.specs.Maps.{MapValue, IsMap, IsClosed, IsLeastProgressMeasure, measure_at}
-use Rattle.pg_check.specs.Plays.{IsPlay, WinsPlay}
-use Rattle.pg_check.specs.Soundness.{Counts, IsSound, IsSafe}
-use Rattle.pg_check.specs.Strategies.{GoesServed}
-use Rattle.pg_measure.proofs.SomeBounds.{priority_bound}
-use Rattle.pg_check.proofs.Recurring.{one_loser}
-use Rattle.pg_check.proofs.Cycles.{sound_from_safe, safe_from_sound}
-use Rattle.pg_check.proofs.Wins.{wins, player_cases, same_winner}
-use Rattle.pg_check.proofs.Listed.{lists_win, falls}
-use Rattle.pg_determined.specs.Winners.{WinsFrom, HasSoundSolution, EachHasOneWinner, LeastTellsWinners, NeverUndecided}
+use Rattle.pg_determined.proofs.Common.{◌≡◌, ◌≢◌, ℕ, ◌<◌, ◌⊎◌, inl, inr, List, length, Some, None, arith, sym, subst, refl, ap, ◌∙◌, IsSome}
+use Rattle.pg_determined.proofs.Common.{Player, Even, Odd, GameVertex, IsGame, opponent, priority, owner, dual, length_dual, game_dual}
+use Rattle.pg_determined.proofs.Common.{Answer, IsSolution, winner, BoundList, MeasureValue, AtMost, IsBoundsOf, game_line, MapValue, IsMap}
+use Rattle.pg_determined.proofs.Common.{IsClosed, IsLeastProgressMeasure, measure_at, IsPlay, WinsPlay, Counts, IsSound, IsSafe, GoesServed}
+use Rattle.pg_determined.proofs.Common.{priority_bound, one_loser, sound_from_safe, safe_from_sound, wins, player_cases, same_winner}
+use Rattle.pg_determined.proofs.Common.{lists_win, falls, WinsFrom, HasSoundSolution, EachHasOneWinner, LeastTellsWinners, NeverUndecided}
 use Rattle.pg_determined.proofs.Heights.{winners_have_lists}
 use Rattle.pg_determined.proofs.Swapped.{swapped, dual_solutions, winner_swapped}
 use Rattle.pg_determined.proofs.Walks.{walk, walk_starts, walk_goes}

@@ -1,30 +1,14 @@
 -- Where Even wins by a safe solution, some closed map has a list: at each odd priority p the most vertices of priority
 -- p that a path meets on which nothing has a greater priority.
-use Rattle.std.proofs.Common.{◌≡◌, ℕ, zero, suc, ◌%◌, ◌<◌, ◌≤◌, ◌⊎◌, inl, inr, Bool, true, false, eqb, List, [], ◌∷◌, Some, None, length}
-use Rattle.std.proofs.Common.{take, get_or, arith, sym, subst, refl, ap, ◌∙◌, MatchBool}
-use Rattle.std.specs.List.{IsDistinct, filter, All, AllPairs, Any}
-use Rattle.std.specs.Option.{IsSome}
-use Rattle.std.proofs.lemmas.Bool.{eqb-true, eq-eqb, cases_lt}
-use Rattle.std.proofs.lemmas.List.{get_or_default}
-use Rattle.std.proofs.lemmas.List.Elements.{All-nil, All-cons, All-head, All-tail, All-filter, filter_passes}
-use Rattle.std.proofs.lemmas.List.Sums.{length-filter}
-use Rattle.pg_arena.specs.declared.player.Player.{Player}
-use Rattle.pg_arena.specs.declared.player.Player.TheVariants.{Even, Odd}
-use Rattle.pg_arena.specs.Games.{GameVertex, IsGame, IsPath, HasParityOf, opponent, priority, owner, successors}
-use Rattle.pg_text.specs.declared.answer.Answer.{Answer}
-use Rattle.pg_text.specs.Solutions.{IsSolution, winner}
-use Rattle.pg_measure.specs.Measures.{BoundList, MeasureValue, ListFits, Fits, ListBelow, ListAtMost, Covers, width_from, is_odd}
-use Rattle.pg_measure.specs.Games.{vertices_of, IsBoundsOf}
-use Rattle.pg_measure.proofs.Widths.{width_none, width_in}
-use Rattle.pg_measure.proofs.OneList.{falls_after}
-use Rattle.pg_map.specs.Lines.{Line, game_line}
-use Rattle.pg_map.specs.Maps.{IsMap, IsClosed, SomeOrAll, measure_at}
-use Rattle.pg_map.proofs.GameLines.{game_line_at, game_line_below}
-use Rattle.pg_map.proofs.Paths.{path_keeps, repeat_or_distinct, Repeat}
-use Rattle.pg_check.specs.Soundness.{Counts, IsSafe, meetings}
-use Rattle.pg_check.proofs.Recurring.{not_not_decided}
-use Rattle.pg_check.proofs.Cycles.{count-cons, edge_from, cycle_from_repeat, bad_cycle_from}
-use Rattle.pg_check.proofs.Wins.{player_cases}
+use Rattle.pg_determined.proofs.Common.{◌≡◌, ℕ, zero, suc, ◌%◌, ◌<◌, ◌≤◌, ◌⊎◌, inl, inr, Bool, true, false, eqb, List, [], ◌∷◌, Some, None}
+use Rattle.pg_determined.proofs.Common.{length, take, get_or, arith, sym, subst, refl, ap, ◌∙◌, MatchBool, IsDistinct, filter, All}
+use Rattle.pg_determined.proofs.Common.{AllPairs, Any, IsSome, eqb-true, eq-eqb, cases_lt, get_or_default, All-nil, All-cons, All-head}
+use Rattle.pg_determined.proofs.Common.{All-tail, All-filter, filter_passes, length-filter, Player, Even, Odd, GameVertex, IsGame, IsPath}
+use Rattle.pg_determined.proofs.Common.{HasParityOf, opponent, priority, owner, successors, Answer, IsSolution, winner, BoundList}
+use Rattle.pg_determined.proofs.Common.{MeasureValue, ListFits, Fits, ListBelow, ListAtMost, Covers, width_from, is_odd, vertices_of}
+use Rattle.pg_determined.proofs.Common.{IsBoundsOf, width_none, width_in, falls_after, Line, game_line, IsMap, IsClosed, SomeOrAll}
+use Rattle.pg_determined.proofs.Common.{measure_at, game_line_at, game_line_below, path_keeps, repeat_or_distinct, Repeat, Counts, IsSafe}
+use Rattle.pg_determined.proofs.Common.{meetings, not_not_decided, count-cons, edge_from, cycle_from_repeat, bad_cycle_from, player_cases}
 use Rattle.pg_determined.proofs.Places.{few_places, some_place}
 
 -- under a double negation, the greatest of numbers up to a bound, and a list of what each number below n has

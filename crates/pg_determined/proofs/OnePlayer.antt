@@ -1,18 +1,8 @@
 -- At most one player wins from a vertex, whatever the solutions by which they win.
-use Rattle.std.proofs.Common.{◌≡◌, ℕ, zero, suc, ◌<◌, ◌≤◌, inl, inr, List, length, get_or}
-use Rattle.std.proofs.Common.{arith, sym, subst, refl, ap, ◌∙◌, add-one}
-use Rattle.std.proofs.lemmas.List.Elements.{Contains-get_or}
-use Rattle.pg_arena.specs.declared.player.Player.{Player}
-use Rattle.pg_arena.specs.declared.player.Player.TheVariants.{Even, Odd}
-use Rattle.pg_arena.specs.Games.{GameVertex, IsGame, opponent, priority, owner, successors}
-use Rattle.pg_text.specs.declared.answer.Answer.{Answer}
-use Rattle.pg_text.specs.Solutions.{IsSolution, winner}
-use Rattle.pg_measure.proofs.SomeBounds.{priority_bound}
-use Rattle.pg_check.specs.Plays.{IsPlay, IsGreatestRecurring, Loses, WinsPlay}
-use Rattle.pg_check.specs.Soundness.{Counts, Wins}
-use Rattle.pg_check.proofs.Recurring.{one_loser}
-use Rattle.pg_check.proofs.Wins.{player_cases}
-use Rattle.pg_determined.specs.Winners.{WinsFrom}
+use Rattle.pg_determined.proofs.Common.{◌≡◌, ℕ, zero, suc, ◌<◌, ◌≤◌, inl, inr, List, length, get_or, arith, sym, subst, refl, ap, ◌∙◌}
+use Rattle.pg_determined.proofs.Common.{add-one, Contains-get_or, Player, Even, Odd, GameVertex, IsGame, opponent, priority, owner}
+use Rattle.pg_determined.proofs.Common.{successors, Answer, IsSolution, winner, priority_bound, IsPlay, IsGreatestRecurring, Loses}
+use Rattle.pg_determined.proofs.Common.{WinsPlay, Counts, Wins, one_loser, player_cases, WinsFrom}
 use Rattle.pg_determined.proofs.Walks.{walk, walk_starts, walk_goes}
 
 -- v, and then the play

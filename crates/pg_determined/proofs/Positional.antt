@@ -1,19 +1,12 @@
 -- The solution of the whole game as a list of answers: it is a solution, and safe.
-use Rattle.std.proofs.Common.{◌≡◌, ℕ, zero, suc, ◌<◌, ◌≤◌, ◌⊎◌, inl, inr, Bool, List, [], ◌∷◌, ◌++◌, Some, length, map, get_or, arith, sym}
-use Rattle.std.proofs.Common.{subst, refl, ap, ◌∙◌}
-use Rattle.std.specs.List.{range_with_len, All, Contains}
-use Rattle.std.proofs.Math.Dec.{ltb}
-use Rattle.std.proofs.lemmas.Bool.{ltb-true, lt-ltb}
-use Rattle.std.proofs.lemmas.List.Elements.{All-head, All-tail, Contains-get_or}
-use Rattle.std.proofs.lemmas.List.FromFn.{length-map-range_with_len, get_or-map-range_with_len}
-use Rattle.pg_arena.specs.Games.{GameVertex, IsGame, IsEdge, IsPath, HasParityOf, opponent, owner, priority, successors}
-use Rattle.pg_text.specs.declared.answer.Answer.{Answer}
-use Rattle.pg_text.specs.Solutions.{unanswered, winner, choice, IsSolution}
-use Rattle.pg_check.specs.Soundness.{Counts, NoneLeaves, IsSafe}
-use Rattle.pg_check.proofs.Cycles.{edge_from, IsBadCycleFrom, sound_from_no_cycle, safe_from_sound}
+use Rattle.pg_determined.proofs.Common.{◌≡◌, ℕ, zero, suc, ◌<◌, ◌≤◌, ◌⊎◌, inl, inr, Bool, List, [], ◌∷◌, ◌++◌, Some, length, map, get_or}
+use Rattle.pg_determined.proofs.Common.{arith, sym, subst, refl, ap, ◌∙◌, range_with_len, All, Contains, ltb, ltb-true, lt-ltb, All-head}
+use Rattle.pg_determined.proofs.Common.{All-tail, Contains-get_or, length-map-range_with_len, get_or-map-range_with_len, GameVertex, IsGame}
+use Rattle.pg_determined.proofs.Common.{IsEdge, IsPath, HasParityOf, opponent, owner, priority, successors, Answer, unanswered, winner}
+use Rattle.pg_determined.proofs.Common.{choice, IsSolution, Counts, NoneLeaves, IsSafe, edge_from, IsBadCycleFrom, sound_from_no_cycle}
+use Rattle.pg_determined.proofs.Common.{safe_from_sound, not_both}
 use Rattle.pg_determined.proofs.Sets.{size}
 use Rattle.pg_determined.proofs.Walks.{starts}
-use Rattle.pg_check.proofs.Chosen.{not_both}
 use Rattle.pg_determined.proofs.Attractors.{Subgame}
 use Rattle.pg_determined.proofs.Solving.{Solved, Goes, GoesUpTo, solve}
 

@@ -1,12 +1,8 @@
 -- Each subgame is solved: by induction on its size, with an attractor of the vertices of the greatest priority and
 -- one of what the opponent wins outside of it.
-use Rattle.std.proofs.Common.{◌≡◌, ℕ, zero, suc, ◌%◌, ◌<◌, ◌≤◌, ◌⊎◌, inl, inr, Bool, true, false, cond, eqb, List, [], ◌∷◌, ◌++◌, arith, sym, subst, refl, ◌∙◌}
-use Rattle.std.proofs.lemmas.Bool.{cases_Bool, cases_lt, eqb-true, eq-eqb}
-use Rattle.pg_arena.specs.declared.player.Player.{Player}
-use Rattle.pg_arena.specs.declared.player.Player.TheVariants.{Even, Odd}
-use Rattle.pg_arena.specs.Games.{HasParityOf, IsPath, opponent}
-use Rattle.pg_check.proofs.Recurring.{parity_of}
-use Rattle.pg_check.proofs.Wins.{player_cases}
+use Rattle.pg_determined.proofs.Common.{◌≡◌, ℕ, zero, suc, ◌%◌, ◌<◌, ◌≤◌, ◌⊎◌, inl, inr, Bool, true, false, cond, eqb, List, [], ◌∷◌, ◌++◌}
+use Rattle.pg_determined.proofs.Common.{arith, sym, subst, refl, ◌∙◌, cases_Bool, cases_lt, eqb-true, eq-eqb, Player, Even, Odd}
+use Rattle.pg_determined.proofs.Common.{HasParityOf, IsPath, opponent, parity_of, player_cases}
 use Rattle.pg_determined.proofs.Sets.{Has, Lacks, clash, minus, in_minus, minus_in, size, size_less, search_below, IsTop, top_below, pick_each}
 use Rattle.pg_determined.proofs.Walks.{forward, back, after, starts}
 use Rattle.pg_determined.proofs.Attractors.{Subgame, Attraction, IsMaximal, attract, rest_goes_on}

@@ -1,20 +1,10 @@
 -- The winners of a safe solution exchanged, it is a safe solution of the dual.
-use Rattle.std.proofs.Common.{◌≡◌, ℕ, zero, suc, ◌+◌, ◌<◌, ◌≤◌, inl, inr, List, [], ◌∷◌, ◌++◌, Some, length, map, get_or, arith, sym, subst, refl, ap, ◌∙◌}
-use Rattle.std.specs.List.{All, Contains}
-use Rattle.std.proofs.lemmas.List.{length-map, get_or-map}
-use Rattle.std.proofs.lemmas.List.Elements.{All-nil, All-cons, All-head, All-tail, All-map}
-use Rattle.pg_arena.specs.declared.player.Player.{Player}
-use Rattle.pg_arena.specs.declared.player.Player.TheVariants.{Even, Odd}
-use Rattle.pg_arena.specs.Games.{GameVertex, IsGame, IsEdge, IsPath, HasParityOf, opponent, priority, owner, dual}
-use Rattle.pg_arena.specs.Lemmas.Duals.{length_dual, successors_dual, priority_dual, owner_dual}
-use Rattle.pg_text.specs.declared.answer.Answer.{Answer}
-use Rattle.pg_text.specs.Solutions.{unanswered, answer_at, winner, loser, choice, IsSolution}
-use Rattle.pg_check.specs.Soundness.{Counts, NoneLeaves, IsSafe, IsBadCycle}
-use Rattle.pg_map.proofs.Paths.{path_keeps, all_front}
-use Rattle.pg_map.proofs.Falls.{all_unmap}
-use Rattle.pg_check.proofs.Cycles.{edge_from}
-use Rattle.pg_check.proofs.Wins.{opponent_twice}
-use Rattle.pg_map.proofs.Rounds.{path_map}
+use Rattle.pg_determined.proofs.Common.{◌≡◌, ℕ, zero, suc, ◌+◌, ◌<◌, ◌≤◌, inl, inr, List, [], ◌∷◌, ◌++◌, Some, length, map, get_or, arith}
+use Rattle.pg_determined.proofs.Common.{sym, subst, refl, ap, ◌∙◌, All, Contains, length-map, get_or-map, All-nil, All-cons, All-head}
+use Rattle.pg_determined.proofs.Common.{All-tail, All-map, Player, Even, Odd, GameVertex, IsGame, IsEdge, IsPath, HasParityOf, opponent}
+use Rattle.pg_determined.proofs.Common.{priority, owner, dual, length_dual, successors_dual, priority_dual, owner_dual, Answer, unanswered}
+use Rattle.pg_determined.proofs.Common.{answer_at, winner, loser, choice, IsSolution, Counts, NoneLeaves, IsSafe, IsBadCycle, path_keeps}
+use Rattle.pg_determined.proofs.Common.{all_front, all_unmap, edge_from, opponent_twice, path_map}
 
 abbrev pub swapped_answer : Answer → Answer
 swapped_answer a = record a { winner = opponent a.winner }

@@ -1,10 +1,7 @@
 -- Lines of the dual.
-use Rattle.std.proofs.Common.{◌≡◌, ℕ, zero, suc, [], ◌∷◌, refl, arith}
-use Rattle.std.proofs.lemmas.Bool.Decides.{nat_tests}
-use Rattle.std.specs.Prelude.{Option}
+use Rattle.pg_map.proofs.Common.{◌≡◌, ℕ, zero, suc, [], ◌∷◌, refl, arith, nat_tests, Option, Line, line_at, dual_line, AreDual}
+use Rattle.pg_map.proofs.Common.{GameLinesAreDual}
 use Rattle.std.specs.Option.{IsSome}
-use Rattle.pg_map.specs.Lines.{Line, line_at, dual_line, AreDual}
-use Rattle.pg_map.specs.Laws.{GameLinesAreDual}
 
 pub dual_held : (lines other : ℕ → Option Line) (v : ℕ) → AreDual lines other → IsSome (lines v) → IsSome (other v)
 dual_held lines other v dual h = grind (arith, nat_tests)

@@ -1,23 +1,10 @@
 -- There is a least progress measure: lifts from zeros come to an end.
-use Rattle.std.proofs.Common.{◌≡◌, ℕ, zero, suc, ◌+◌, ◌<◌, ◌≤◌, Some, None, List, length, take, get_or, set, refl, ap, sym, ◌∙◌, ◌⊎◌, inl, inr, arith, subst}
-use Rattle.std.proofs.lemmas.Bool.Decides.{nat_tests}
-use Rattle.std.specs.Prelude.{All, Option, IsSome, nat_le}
-use Rattle.std.proofs.lemmas.Bool.{cases_lt, cases_eq}
-use Rattle.std.proofs.lemmas.List.{get_or_default, get_or-set_same}
-use Rattle.std.proofs.lemmas.List.Elements.{All-set}
-use Rattle.std.proofs.lemmas.List.Sums.{count_by-le-length}
-use Rattle.pg_arena.specs.declared.player.Player.{Player}
-use Rattle.pg_arena.specs.declared.player.Player.TheVariants.{Even, Odd}
-use Rattle.pg_measure.specs.Measures.{BoundList, MeasureValue, Fits, IsBelow, is_odd, width_from}
-use Rattle.pg_measure.specs.Mirrors.Rows.{FrontAtMost}
-use Rattle.pg_measure.proofs.Order.{at_most_same, below_at_most, below_or, below_or_at_most}
-use Rattle.pg_measure.proofs.Steps.{least_cover}
-use Rattle.pg_map.specs.Lines.{Line, AreWithin, line_at}
-use Rattle.pg_map.specs.Maps.{measure_at, zero_map, IsServed, IsLeastServing, IsLifted, IsLeastClosedFrom}
-use Rattle.pg_map.specs.Weights.{map_weight}
-use Rattle.pg_map.specs.Laws.{HasLeastProgressMeasure}
-use Rattle.pg_map.specs.Lemmas.Orders.{map_transitive}
-use Rattle.pg_map.specs.Mirrors.Tables.{IsBetter, IsBest}
+use Rattle.pg_map.proofs.Common.{◌≡◌, ℕ, zero, suc, ◌+◌, ◌<◌, ◌≤◌, Some, None, List, length, take, get_or, set, refl, ap, sym, ◌∙◌, ◌⊎◌}
+use Rattle.pg_map.proofs.Common.{inl, inr, arith, subst, nat_tests, All, Option, IsSome, nat_le, cases_lt, cases_eq, get_or_default}
+use Rattle.pg_map.proofs.Common.{get_or-set_same, All-set, count_by-le-length, Player, Even, Odd, BoundList, MeasureValue, Fits, IsBelow}
+use Rattle.pg_map.proofs.Common.{is_odd, width_from, FrontAtMost, at_most_same, below_at_most, below_or, below_or_at_most, least_cover}
+use Rattle.pg_map.proofs.Common.{Line, AreWithin, line_at, measure_at, zero_map, IsServed, IsLeastServing, IsLifted, IsLeastClosedFrom}
+use Rattle.pg_map.proofs.Common.{map_weight, HasLeastProgressMeasure, map_transitive, IsBetter, IsBest}
 use Rattle.pg_map.proofs.Bests.{BestSoFar, taken, left}
 use Rattle.pg_map.proofs.Lifts.{least_serving}
 use Rattle.pg_map.proofs.Above.{fits_at, lift_stays_under, lifted_length, stays_trans}

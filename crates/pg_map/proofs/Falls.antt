@@ -1,16 +1,11 @@
 -- On a cycle of steps by which measures fall, the greatest priority is even.
-use Rattle.std.proofs.Common.{◌≡◌, ℕ, zero, suc, ◌%◌, ◌<◌, ◌≤◌, inl, inr, Some, None, Bool, true, false, cond, leb, List, [], ◌∷◌, ◌++◌}
-use Rattle.std.proofs.Common.{take, length, map, get_or, arith, subst, refl, MatchBool}
+use Rattle.pg_map.proofs.Common.{◌≡◌, ℕ, zero, suc, ◌%◌, ◌<◌, ◌≤◌, inl, inr, Some, None, Bool, true, false, cond, leb, List, [], ◌∷◌, ◌++◌}
+use Rattle.pg_map.proofs.Common.{take, length, map, get_or, arith, subst, refl, MatchBool, eq-eqb, leb-true, le-leb, All-nil, All-cons}
+use Rattle.pg_map.proofs.Common.{All-head, All-tail, sum_by-cons, IsPath, IsGreatest, BoundList, MeasureValue, ListBelow, ListAtMost}
+use Rattle.pg_map.proofs.Common.{Covers, width_from, is_odd, at_most_itself, at_most_trans, below_at_most, below_then, then_below}
+use Rattle.pg_map.proofs.Common.{never_both, measure_at}
 use Rattle.std.specs.List.{All}
 use Rattle.std.specs.Option.{IsSome}
-use Rattle.std.proofs.lemmas.Bool.{eq-eqb, leb-true, le-leb}
-use Rattle.std.proofs.lemmas.List.Elements.{All-nil, All-cons, All-head, All-tail}
-use Rattle.std.proofs.lemmas.List.Sums.{sum_by-cons}
-use Rattle.pg_arena.specs.Games.{IsPath, IsGreatest}
-use Rattle.pg_measure.specs.Measures.{BoundList, MeasureValue, ListBelow, ListAtMost, Covers, width_from, is_odd}
-use Rattle.pg_measure.proofs.Rows.{at_most_itself}
-use Rattle.pg_measure.proofs.Order.{at_most_trans, below_at_most, below_then, then_below, never_both}
-use Rattle.pg_map.specs.Maps.{measure_at}
 
 pub all_unmap : (f : ℕ → ℕ) (P : ℕ → Type 0) (xs : List ℕ) → All P (map f xs) → All (λ x. P (f x)) xs
 all_unmap f P [] h = All-nil (λ x. P (f x))

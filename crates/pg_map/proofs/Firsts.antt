@@ -1,8 +1,7 @@
 -- Of things that have places in an order one stands first.
-use Rattle.std.proofs.Common.{ℕ, suc, refl, ◌<◌, ◌≤◌, inl, inr, List, [], ◌∷◌, length, get_or, arith}
-use Rattle.std.specs.List.{All, Contains}
-use Rattle.std.proofs.lemmas.Bool.{cases_lt}
-use Rattle.std.proofs.lemmas.List.Elements.{All-nil, All-cons}
+use Rattle.pg_map.proofs.Common.{ℕ, suc, refl, ◌<◌, ◌≤◌, inl, inr, List, [], ◌∷◌, length, get_or, arith, Contains, cases_lt, All-nil}
+use Rattle.pg_map.proofs.Common.{All-cons}
+use Rattle.std.specs.List.{All}
 
 -- it is one of the list, and none of the list stands before it
 pub record IsFirst (place : ℕ → ℕ) (xs : List ℕ) (v : ℕ) : Type 0 where

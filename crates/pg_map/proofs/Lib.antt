@@ -18,3 +18,4 @@ pub mod Duals
 pub mod Parting
 pub mod Firsts
 pub mod Serving
+mod Common

@@ -1,13 +1,7 @@
 -- A lift over the best successor.
-use Rattle.std.proofs.Common.{◌≡◌, ℕ, Bool, true, false, Some, None, List, set, take, refl, inl, inr}
-use Rattle.std.specs.Prelude.{Option}
-use Rattle.pg_arena.specs.declared.player.Player.{Player}
-use Rattle.pg_measure.specs.Measures.{BoundList, MeasureValue, CoversFront, is_odd, width_from}
-use Rattle.pg_measure.specs.Mirrors.Rows.{MissesFront, IsLeastCover}
-use Rattle.pg_measure.proofs.Order.{below_or}
-use Rattle.pg_map.specs.Lines.{Line, line_at}
-use Rattle.pg_map.specs.Maps.{measure_at, IsServed, IsServedBy, IsLifted}
-use Rattle.pg_map.specs.Mirrors.Tables.{IsBest}
+use Rattle.pg_map.proofs.Common.{◌≡◌, ℕ, Bool, true, false, Some, None, List, set, take, refl, inl, inr, Option, Player, BoundList}
+use Rattle.pg_map.proofs.Common.{MeasureValue, CoversFront, is_odd, width_from, MissesFront, IsLeastCover, below_or, Line, line_at}
+use Rattle.pg_map.proofs.Common.{measure_at, IsServed, IsServedBy, IsLifted, IsBest}
 use Rattle.pg_map.proofs.Lifts.{best_serves, lifted_by_step, lifted_line}
 
 -- what doesn't cover misses

@@ -1,11 +1,6 @@
 -- A row for each vertex.
-use Rattle.std.proofs.Common.{◌≡◌, ℕ, ◌+◌, ◌-◌, ◌<◌, ◌^◌, Some, length, replicate, arith}
-use Rattle.std.proofs.lemmas.Bool.Decides.{nat_tests}
-use Rattle.std.proofs.lemmas.List.{length-replicate}
-use Rattle.std.proofs.lemmas.List.Elements.{All-replicate}
-use Rattle.pg_measure.specs.Measures.{BoundList, Fits, zeros}
-use Rattle.pg_measure.proofs.Rows.{zeros_fit}
-use Rattle.pg_map.specs.Mirrors.Tables.{RowsValue, AreRowsOf}
+use Rattle.pg_map.proofs.Common.{◌≡◌, ℕ, ◌+◌, ◌-◌, ◌<◌, ◌^◌, Some, length, replicate, arith, nat_tests, length-replicate, All-replicate}
+use Rattle.pg_map.proofs.Common.{BoundList, Fits, zeros, zeros_fit, RowsValue, AreRowsOf}
 
 -- rows of zeros
 pub rows_of_zeros : (bs : BoundList) (rows : RowsValue) (n w : ℕ) → w ≡ length bs + 1 → rows.width ≡ w → n < 2 ^ 32

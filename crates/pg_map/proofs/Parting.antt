@@ -1,12 +1,7 @@
 -- Where two maps serve a set from within, one in the game and the other in the dual, they don't both have lists.
-use Rattle.std.proofs.Common.{◌≡◌, ℕ, ◌+◌, ◌<◌, Some, None, List, [], ◌∷◌, ◌++◌, map, refl}
+use Rattle.pg_map.proofs.Common.{◌≡◌, ℕ, ◌+◌, ◌<◌, Some, None, List, [], ◌∷◌, ◌++◌, map, refl, All-contains, Player, Even, Odd, opponent}
+use Rattle.pg_map.proofs.Common.{BoundList, MeasureValue, Covers, measure_at, SomeOrAll}
 use Rattle.std.specs.Option.{IsSome}
-use Rattle.std.proofs.lemmas.List.Elements.{All-contains}
-use Rattle.pg_arena.specs.declared.player.Player.{Player}
-use Rattle.pg_arena.specs.declared.player.Player.TheVariants.{Even, Odd}
-use Rattle.pg_arena.specs.Games.{opponent}
-use Rattle.pg_measure.specs.Measures.{BoundList, MeasureValue, Covers}
-use Rattle.pg_map.specs.Maps.{measure_at, SomeOrAll}
 use Rattle.pg_map.proofs.Falls.{Falls, lists, covers_falls, no_odd_cycle}
 use Rattle.pg_map.proofs.Rounds.{path_weaker, Cycle, has_cycle, greatest_of, odd_if_falls}
 

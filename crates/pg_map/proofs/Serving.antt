@@ -1,13 +1,7 @@
 -- Lists that are gone through in order, and the first successor that serves a vertex.
-use Rattle.std.proofs.Common.{◌≡◌, ℕ, ◌<◌, ◌≤◌, ◌⊎◌, inl, inr, List, Option, length, get_or, arith, sym, subst}
-use Rattle.std.specs.List.{Contains}
-use Rattle.std.specs.List.Sorted.{IsStrictlyIncreasing}
-use Rattle.std.proofs.lemmas.Bool.{cases_lt}
-use Rattle.std.proofs.lemmas.List.{get_or_default}
-use Rattle.std.proofs.lemmas.List.Kept.{AllPairs-from_increasing}
-use Rattle.pg_measure.specs.Measures.{BoundList, MeasureValue}
-use Rattle.pg_map.specs.Lines.{Line, line_at}
-use Rattle.pg_map.specs.Maps.{IsServedBy, IsFirstServing}
+use Rattle.pg_map.proofs.Common.{◌≡◌, ℕ, ◌<◌, ◌≤◌, ◌⊎◌, inl, inr, List, Option, length, get_or, arith, sym, subst, Contains}
+use Rattle.pg_map.proofs.Common.{IsStrictlyIncreasing, cases_lt, get_or_default, AllPairs-from_increasing, BoundList, MeasureValue, Line}
+use Rattle.pg_map.proofs.Common.{line_at, IsServedBy, IsFirstServing}
 
 -- what holds of each vertex at a lower index holds of a vertex of the list, or it stands later
 pub passed_or_later : (P : ℕ → Type 0) (items : List ℕ) (k w : ℕ) → ((j d : ℕ) → j < k → P (get_or items j d)) → Contains items w

@@ -1,15 +1,9 @@
 -- What comparing lists tells.
-use Rattle.std.proofs.lemmas.Bool.Decides.{nat_tests}
-use Rattle.std.proofs.lemmas.Grind.{common_steps}
-use Rattle.std.proofs.Common.{true≢false, nat_lt, ◌-◌, ◌≡◌, ℕ, zero, suc, ◌<◌, Bool, true, false, List, [], ◌∷◌, Some, None, length, get_or}
-use Rattle.std.proofs.Common.{take, drop, refl, ap, sym, ◌∙◌, inl, inr, subst, arith}
-use Rattle.std.specs.declared.cmp.Ordering.{Ordering}
-use Rattle.std.specs.declared.cmp.Ordering.TheVariants.{Less, Equal, Greater}
-use Rattle.std.specs.Ordering.{MatchOrdering, nat_cmp, ordering_then, is_eq, is_lt, is_le}
-use Rattle.std.specs.Cmp.Lexicographic.{slice_cmp}
-use Rattle.std.proofs.lemmas.Cmp.{ranked}
-use Rattle.std.specs.Prelude.{MatchBool}
-use Rattle.pg_measure.specs.Measures.{BoundList, MeasureValue, ListBelow, ListAtMost, AtMost, IsBelow, measure_cmp, width_from, measure_from}
+use Rattle.pg_measure.proofs.Common.{nat_tests, common_steps, true≢false, nat_lt, ◌-◌, ◌≡◌, ℕ, zero, suc, ◌<◌, Bool, true, false, List, []}
+use Rattle.pg_measure.proofs.Common.{◌∷◌, Some, None, length, get_or, take, drop, refl, ap, sym, ◌∙◌, inl, inr, subst, arith, Ordering}
+use Rattle.pg_measure.proofs.Common.{Less, Equal, Greater, MatchOrdering, nat_cmp, ordering_then, is_eq, is_lt, is_le, slice_cmp, ranked}
+use Rattle.pg_measure.proofs.Common.{MatchBool, BoundList, MeasureValue, ListBelow, ListAtMost, AtMost, IsBelow, measure_cmp, width_from}
+use Rattle.pg_measure.proofs.Common.{measure_from}
 use Rattle.pg_measure.proofs.Rows.{at_most_itself}
 use Rattle.pg_measure.proofs.Order.{below_at_most, below_is, below_not, at_most_same}
 

@@ -1,18 +1,10 @@
 -- The bounds of a game, from a table of how many vertices have each priority.
-use Rattle.std.proofs.Common.{◌≡◌, ◌≢◌, ℕ, zero, suc, ◌+◌, ◌-◌, ◌%◌, ◌<◌, ◌≤◌, true, false, cond, List, [], ◌∷◌, ◌++◌, length, get_or, take}
-use Rattle.std.proofs.Common.{set, refl, ap, sym, ◌∙◌, ◌⊎◌, inl, inr, arith, length-append}
-use Rattle.std.specs.Prelude.{AllPairs, All, Contains, ◌==◌}
-use Rattle.std.proofs.lemmas.Grind.{common_steps}
-use Rattle.std.proofs.lemmas.Bool.{cases_lt, cases_eq}
-use Rattle.std.proofs.lemmas.Bool.Decides.{nat_tests}
-use Rattle.std.proofs.lemmas.List.{get_or_default, get_or-set_same, get_or-set_other, get_or_append_left}
-use Rattle.std.proofs.lemmas.List.Quantifiers.{all_pairs_push}
-use Rattle.std.proofs.lemmas.List.Sums.{sum_by-cons, count_by_more_no, count_by_more_yes, count_by-le-length}
-use Rattle.pg_arena.specs.Games.{GameVertex, HasPrioritiesUpTo, priority, dual, dual_vertex, nowhere}
-use Rattle.pg_arena.specs.Lemmas.Duals.{length_dual, priority_dual}
-use Rattle.pg_measure.specs.Measures.{BoundList, AreBounds}
-use Rattle.pg_measure.specs.Games.{vertices_of, IsBoundsOf}
-use Rattle.pg_measure.specs.Mirrors.Counts.{IsCount}
+use Rattle.pg_measure.proofs.Common.{◌≡◌, ◌≢◌, ℕ, zero, suc, ◌+◌, ◌-◌, ◌%◌, ◌<◌, ◌≤◌, true, false, cond, List, [], ◌∷◌, ◌++◌, length}
+use Rattle.pg_measure.proofs.Common.{get_or, take, set, refl, ap, sym, ◌∙◌, ◌⊎◌, inl, inr, arith, length-append, AllPairs, All, Contains}
+use Rattle.pg_measure.proofs.Common.{◌==◌, common_steps, cases_lt, cases_eq, nat_tests, get_or_default, get_or-set_same, get_or-set_other}
+use Rattle.pg_measure.proofs.Common.{get_or_append_left, all_pairs_push, sum_by-cons, count_by_more_no, count_by_more_yes}
+use Rattle.pg_measure.proofs.Common.{count_by-le-length, GameVertex, HasPrioritiesUpTo, priority, dual, dual_vertex, nowhere, length_dual}
+use Rattle.pg_measure.proofs.Common.{priority_dual, BoundList, AreBounds, vertices_of, IsBoundsOf, IsCount}
 
 differs : (i p : ℕ) → i ≢ p → (i == p) ≡ false
 differs i p e = grind (arith, nat_tests)

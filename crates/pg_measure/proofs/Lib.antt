@@ -6,3 +6,4 @@ pub mod Compare
 pub mod Counted
 pub mod OneList
 pub mod SomeBounds
+mod Common

@@ -1,8 +1,6 @@
 -- A game has one list of bounds: two lists that fall and have the same members are equal.
-use Rattle.std.proofs.Common.{◌≡◌, ℕ, zero, suc, ◌<◌, [], ◌∷◌, get_or, refl, sym, arith}
-use Rattle.std.specs.Prelude.{AllPairs, Contains}
-use Rattle.pg_measure.specs.Measures.{BoundList}
-use Rattle.pg_measure.specs.Laws.{OneListOfBounds}
+use Rattle.pg_measure.proofs.Common.{◌≡◌, ℕ, zero, suc, ◌<◌, [], ◌∷◌, get_or, refl, sym, arith, AllPairs, Contains, BoundList}
+use Rattle.pg_measure.proofs.Common.{OneListOfBounds}
 
 abbrev pub Falls : BoundList → Type 0
 Falls bs = AllPairs (λ b c. c.0 < b.0) bs

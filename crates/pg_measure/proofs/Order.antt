@@ -1,11 +1,8 @@
 -- The order of lists, of measures, and of rows.
-use Rattle.std.specs.Prelude.{MatchBool}
-use Rattle.std.proofs.Common.{◌≡◌, ℕ, zero, suc, ◌+◌, ◌<◌, ◌≤◌, Bool, true, false, Some, None, List, [], ◌∷◌, length, take, refl, ◌∙◌, ap}
-use Rattle.std.proofs.Common.{◌⊎◌, inl, inr, arith, add-one}
-use Rattle.std.proofs.lemmas.Bool.{cases_lt}
+use Rattle.pg_measure.proofs.Common.{MatchBool, ◌≡◌, ℕ, zero, suc, ◌+◌, ◌<◌, ◌≤◌, Bool, true, false, Some, None, List, [], ◌∷◌, length}
+use Rattle.pg_measure.proofs.Common.{take, refl, ◌∙◌, ap, ◌⊎◌, inl, inr, arith, add-one, cases_lt, MeasureValue, ListBelow, ListAtMost}
+use Rattle.pg_measure.proofs.Common.{AtMost, IsBelow, CoversFront, MissesFront, FrontAtMost, measure_of}
 use Rattle.pg_measure.proofs.Rows.{at_most_itself}
-use Rattle.pg_measure.specs.Measures.{MeasureValue, ListBelow, ListAtMost, AtMost, IsBelow, CoversFront}
-use Rattle.pg_measure.specs.Mirrors.Rows.{MissesFront, FrontAtMost, measure_of}
 
 pub below_at_most : (xs ys : List ℕ) → ListBelow xs ys → ListAtMost xs ys
 below_at_most [] ys h = tt

@@ -1,10 +1,7 @@
 -- Lists of components: clearing and raising them gives the least list.
-use Rattle.std.proofs.Common.{◌≡◌, ℕ, zero, suc, ◌+◌, ◌-◌, ◌<◌, ◌≤◌, List, [], ◌∷◌, ◌++◌, length, get_or, take, set, replicate, refl, ap}
-use Rattle.std.proofs.Common.{sym, ◌∙◌, ◌⊎◌, inl, inr, arith}
-use Rattle.std.proofs.lemmas.Bool.{cases_lt}
-use Rattle.std.specs.Prelude.{Some, None}
-use Rattle.pg_measure.specs.Measures.{BoundList, MeasureValue, ListFits, Fits, zeros, ListBelow, ListAtMost, AtMost}
-use Rattle.pg_measure.specs.Mirrors.Rows.{cleared}
+use Rattle.pg_measure.proofs.Common.{◌≡◌, ℕ, zero, suc, ◌+◌, ◌-◌, ◌<◌, ◌≤◌, List, [], ◌∷◌, ◌++◌, length, get_or, take, set, replicate, refl}
+use Rattle.pg_measure.proofs.Common.{ap, sym, ◌∙◌, ◌⊎◌, inl, inr, arith, cases_lt, Some, None, BoundList, MeasureValue, ListFits, Fits}
+use Rattle.pg_measure.proofs.Common.{zeros, ListBelow, ListAtMost, AtMost, cleared}
 
 pub cleared-is : (j : ℕ) (xs : List ℕ) → take j xs ++ replicate (length xs - j) 0 ≡ cleared j xs
 cleared-is zero [] = refl

@@ -1,13 +1,7 @@
 -- Each game has bounds: they are counted from the greatest priority down.
-use Rattle.std.proofs.Common.{◌≡◌, ◌≢◌, ℕ, zero, suc, ◌+◌, ◌%◌, ◌<◌, ◌≤◌, List, [], ◌∷◌, length, map, get_or, refl, subst, ◌⊎◌, inl, inr, arith}
-use Rattle.std.specs.List.{range_with_len}
-use Rattle.std.proofs.lemmas.Bool.{cases_lt, cases_eq}
-use Rattle.std.proofs.lemmas.List.FromFn.{length-map-range_with_len, get_or-map-range_with_len}
-use Rattle.pg_arena.specs.Games.{GameVertex, priority}
-use Rattle.pg_measure.specs.Measures.{BoundList}
-use Rattle.pg_measure.specs.Games.{vertices_of}
-use Rattle.pg_measure.specs.Mirrors.Counts.{IsCount}
-use Rattle.pg_measure.specs.Laws.{HasBounds}
+use Rattle.pg_measure.proofs.Common.{◌≡◌, ◌≢◌, ℕ, zero, suc, ◌+◌, ◌%◌, ◌<◌, ◌≤◌, List, [], ◌∷◌, length, map, get_or, refl, subst, ◌⊎◌, inl}
+use Rattle.pg_measure.proofs.Common.{inr, arith, range_with_len, cases_lt, cases_eq, length-map-range_with_len, get_or-map-range_with_len}
+use Rattle.pg_measure.proofs.Common.{GameVertex, priority, BoundList, vertices_of, IsCount, HasBounds}
 use Rattle.pg_measure.proofs.Counted.{CountedFrom, counted_none, counted_push, counted_skip, counted_is}
 
 -- a number above every priority of the game

@@ -1,12 +1,7 @@
 -- The components of priorities at least p are the first ones.
-use Rattle.std.proofs.Common.{◌≡◌, ℕ, zero, suc, ◌<◌, ◌≤◌, true, false, List, [], ◌∷◌, length, take, get_or, refl, ap, sym, ◌∙◌, ◌⊎◌, inl, inr, arith}
-use Rattle.std.specs.Prelude.{nat_le, All, AllPairs}
-use Rattle.std.specs.List.Sorted.{IsPartitionedBy}
-use Rattle.std.proofs.lemmas.List.Sums.{sum_by-cons}
-use Rattle.std.proofs.lemmas.Bool.{cases_lt}
-use Rattle.std.proofs.lemmas.Bool.Decides.{nat_tests}
-use Rattle.pg_measure.specs.Measures.{BoundList, width_from, components_from}
-use Rattle.pg_measure.specs.Laws.{components_by_priority}
+use Rattle.pg_measure.proofs.Common.{◌≡◌, ℕ, zero, suc, ◌<◌, ◌≤◌, true, false, List, [], ◌∷◌, length, take, get_or, refl, ap, sym, ◌∙◌, ◌⊎◌}
+use Rattle.pg_measure.proofs.Common.{inl, inr, arith, nat_le, All, AllPairs, IsPartitionedBy, sum_by-cons, cases_lt, nat_tests, BoundList}
+use Rattle.pg_measure.proofs.Common.{width_from, components_from, components_by_priority}
 
 nat_le_yes : (p q : ℕ) → p ≤ q → nat_le p q ≡ true
 nat_le_yes p q h = grind (arith, nat_tests)

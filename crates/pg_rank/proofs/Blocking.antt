@@ -1,18 +1,10 @@
 -- Blocks of a ladder tell what a rank covers, and what justifies it.
-use Rattle.std.proofs.Common.{◌≡◌, ℕ, zero, suc, ◌+◌, ◌-◌, ◌%◌, ◌<◌, ◌≤◌, inl, inr, true, false}
-use Rattle.std.proofs.Common.{Some, None, List, [], ◌∷◌, length, arith, sym, refl, ◌∙◌, subst, ap}
-use Rattle.std.specs.Prelude.{nat_le}
-use Rattle.std.proofs.lemmas.Bool.{cases_lt}
-use Rattle.std.proofs.lemmas.Bool.Decides.{nat_tests}
-use Rattle.pg_measure.specs.Measures.{BoundList, MeasureValue, AreBounds, ListBelow, ListAtMost, AtMost, IsBelow, Covers, is_odd}
-use Rattle.pg_measure.specs.Laws.{components_by_priority}
-use Rattle.pg_measure.proofs.Widths.{components_are_first}
-use Rattle.pg_measure.proofs.Order.{at_most_trans, then_below, below_then, below_at_most, never_both}
-use Rattle.pg_measure.proofs.Rows.{at_most_itself}
-use Rattle.pg_map.proofs.Joins.{at_most_top}
-use Rattle.pg_map.proofs.Rounds.{even_or_odd}
-use Rattle.pg_rank.specs.Ladders.{step_at, after_step, component, row, IsLadder, rank_measure, IsJustified, IsJustifiedFrom}
-use Rattle.pg_rank.specs.Mirrors.Blocks.{CoversUnder, IsBlock, IsClearRow, IsBlockFrom, IsBlockTo, IsLow, IsHigh}
+use Rattle.pg_rank.proofs.Common.{◌≡◌, ℕ, zero, suc, ◌+◌, ◌-◌, ◌%◌, ◌<◌, ◌≤◌, inl, inr, true, false, Some, None, List, [], ◌∷◌, length}
+use Rattle.pg_rank.proofs.Common.{arith, sym, refl, ◌∙◌, subst, ap, nat_le, cases_lt, nat_tests, BoundList, MeasureValue, AreBounds}
+use Rattle.pg_rank.proofs.Common.{ListBelow, ListAtMost, AtMost, IsBelow, Covers, is_odd, components_by_priority, components_are_first}
+use Rattle.pg_rank.proofs.Common.{at_most_trans, then_below, below_then, below_at_most, never_both, at_most_itself, at_most_top}
+use Rattle.pg_rank.proofs.Common.{even_or_odd, step_at, after_step, component, row, IsLadder, rank_measure, IsJustified, IsJustifiedFrom}
+use Rattle.pg_rank.proofs.Common.{CoversUnder, IsBlock, IsClearRow, IsBlockFrom, IsBlockTo, IsLow, IsHigh}
 use Rattle.pg_rank.proofs.Rising.{AreFalling, Knows, knows, front, rises, rises_strictly, agree, clear_least, next_least}
 
 le_yes : (p q : ℕ) → p ≤ q → nat_le p q ≡ true

@@ -1,14 +1,8 @@
 -- What the tables of a ladder say of its rows.
-use Rattle.std.proofs.Common.{◌≡◌, ℕ, zero, suc, ◌+◌, ◌-◌, ◌<◌, ◌≤◌, inl, inr, List, []}
-use Rattle.std.proofs.Common.{◌∷◌, ◌++◌, length, get_or, arith, sym, refl, ◌∙◌, subst, ap}
-use Rattle.std.specs.Prelude.{All}
-use Rattle.std.proofs.lemmas.Bool.{cases_lt, cases_eq}
-use Rattle.std.proofs.lemmas.List.{get_or_default, get_or_append_left, get_or-append_right}
-use Rattle.std.proofs.lemmas.List.Elements.{All-head, All-tail}
-use Rattle.pg_measure.specs.Measures.{BoundList, AreBounds, ListFits, width_from}
-use Rattle.pg_measure.proofs.Widths.{width_is}
-use Rattle.pg_rank.specs.Ladders.{step_at, component, row, IsLadder}
-use Rattle.pg_rank.specs.Mirrors.Rungs.{IsBegin, IsBounded, AreCounts}
+use Rattle.pg_rank.proofs.Common.{◌≡◌, ℕ, zero, suc, ◌+◌, ◌-◌, ◌<◌, ◌≤◌, inl, inr, List, [], ◌∷◌, ◌++◌, length, get_or, arith, sym, refl}
+use Rattle.pg_rank.proofs.Common.{◌∙◌, subst, ap, All, cases_lt, cases_eq, get_or_default, get_or_append_left, get_or-append_right}
+use Rattle.pg_rank.proofs.Common.{All-head, All-tail, BoundList, AreBounds, ListFits, width_from, width_is, step_at, component, row}
+use Rattle.pg_rank.proofs.Common.{IsLadder, IsBegin, IsBounded, AreCounts}
 use Rattle.pg_rank.proofs.Rising.{AreFalling, after_less, after_same, after_greater}
 
 -- components

@@ -3,3 +3,4 @@ pub mod Blocking
 pub mod Counting
 pub mod Writing
 pub mod Ranking
+mod Common

@@ -1,23 +1,11 @@
 -- Maps of ranks, vertex by vertex.
-use Rattle.std.proofs.Common.{◌≡◌, ℕ, zero, ◌<◌, inl, inr, Some, None, List, [], ◌∷◌, length}
-use Rattle.std.proofs.Common.{replicate, get_or, arith, sym, refl, ◌∙◌, subst, ap}
-use Rattle.std.specs.Prelude.{Option, ◌↔◌, IfSome, IfNone}
-use Rattle.std.specs.List.{All, Contains}
-use Rattle.std.specs.List.Sorted.{IsStrictlyIncreasing}
-use Rattle.std.specs.Option.{IsSome}
-use Rattle.std.proofs.lemmas.Bool.{cases_lt}
-use Rattle.std.proofs.lemmas.List.{length-map, get_or-map}
-use Rattle.std.proofs.lemmas.List.Elements.{All-contains, All-map}
-use Rattle.pg_arena.specs.declared.player.Player.{Player}
-use Rattle.pg_arena.specs.declared.player.Player.TheVariants.{Even, Odd}
-use Rattle.pg_measure.specs.Measures.{BoundList, MeasureValue, Fits, zeros, Covers}
-use Rattle.pg_measure.proofs.Order.{below_not}
-use Rattle.pg_map.specs.Lines.{Line, line_at, AreWithin}
-use Rattle.pg_map.specs.Maps.{MapValue, measure_at, SomeOrAll, IsServedBy, IsServed, IsFirstServing, IsMap}
-use Rattle.pg_map.proofs.Serving.{first_serving_at}
-use Rattle.pg_rank.specs.Ladders.{row, IsLadder, rank_measure, rank_map}
-use Rattle.pg_rank.specs.Laws.{RanksCompare}
-use Rattle.pg_rank.specs.Mirrors.Blocks.{rank_at, IsUnder, IsFirstUnder, CoversUnder}
+use Rattle.pg_rank.proofs.Common.{◌≡◌, ℕ, zero, ◌<◌, inl, inr, Some, None, List, [], ◌∷◌, length, replicate, get_or, arith, sym, refl, ◌∙◌}
+use Rattle.pg_rank.proofs.Common.{subst, ap, Option, ◌↔◌, IfSome, IfNone, Contains, IsStrictlyIncreasing, IsSome, cases_lt, length-map}
+use Rattle.pg_rank.proofs.Common.{get_or-map, All-contains, All-map, Player, Even, Odd, BoundList, MeasureValue, Fits, zeros, Covers}
+use Rattle.pg_rank.proofs.Common.{below_not, Line, line_at, AreWithin, MapValue, measure_at, SomeOrAll, IsServedBy, IsServed}
+use Rattle.pg_rank.proofs.Common.{IsFirstServing, IsMap, first_serving_at, row, IsLadder, rank_measure, rank_map, RanksCompare, rank_at}
+use Rattle.pg_rank.proofs.Common.{IsUnder, IsFirstUnder, CoversUnder}
+use Rattle.std.specs.List.{All}
 use Rattle.pg_rank.proofs.Blocking.{rank_list, rank_top, rank_at_most, rank_below}
 
 module _ (bs : BoundList) (steps ranks : List ℕ) where

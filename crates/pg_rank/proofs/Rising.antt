@@ -1,16 +1,8 @@
 -- Rows of a ladder rise, and agree where no step changes them.
-use Rattle.std.proofs.Common.{◌≡◌, ℕ, zero, suc, ◌+◌, ◌-◌, ◌<◌, ◌≤◌, ◌⊎◌, inl, inr, true, false}
-use Rattle.std.proofs.Common.{List, [], ◌∷◌, length, get_or, arith, sym, refl, ◌∙◌, subst, ap}
-use Rattle.std.specs.Prelude.{nat_le, All, Any, AllPairs}
-use Rattle.std.proofs.lemmas.Bool.{cases_lt, cases_eq}
-use Rattle.std.proofs.lemmas.Bool.Decides.{nat_tests}
-use Rattle.std.proofs.lemmas.List.Elements.{All-head, All-tail}
-use Rattle.pg_measure.specs.Measures.{BoundList, ListFits, ListBelow, ListAtMost}
-use Rattle.pg_measure.specs.Laws.{components_by_priority}
-use Rattle.pg_measure.proofs.Rows.{at_most_itself}
-use Rattle.pg_measure.proofs.Order.{below_at_most, at_most_trans, then_below}
-use Rattle.pg_rank.specs.Ladders.{step_at, after_step, component, row}
-use Rattle.pg_rank.specs.Mirrors.Blocks.{IsBlock}
+use Rattle.pg_rank.proofs.Common.{◌≡◌, ℕ, zero, suc, ◌+◌, ◌-◌, ◌<◌, ◌≤◌, ◌⊎◌, inl, inr, true, false, List, [], ◌∷◌, length, get_or, arith}
+use Rattle.pg_rank.proofs.Common.{sym, refl, ◌∙◌, subst, ap, nat_le, All, Any, AllPairs, cases_lt, cases_eq, nat_tests, All-head, All-tail}
+use Rattle.pg_rank.proofs.Common.{BoundList, ListFits, ListBelow, ListAtMost, components_by_priority, at_most_itself, below_at_most}
+use Rattle.pg_rank.proofs.Common.{at_most_trans, then_below, step_at, after_step, component, row, IsBlock}
 
 nat_le_yes : (p q : ℕ) → p ≤ q → nat_le p q ≡ true
 nat_le_yes p q h = grind (arith, nat_tests)

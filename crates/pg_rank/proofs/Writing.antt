@@ -1,11 +1,7 @@
 -- A row of a ladder, written from its last step back.
-use Rattle.std.proofs.Common.{◌≡◌, ℕ, suc, ◌-◌, ◌<◌, ◌≤◌, ◌⊎◌, inl, inr, List, [], ◌∷◌}
-use Rattle.std.proofs.Common.{length, get_or, set, arith, sym, refl, ◌∙◌, subst, ap}
-use Rattle.std.proofs.lemmas.Bool.{cases_lt, cases_eq}
-use Rattle.std.proofs.lemmas.List.{get_or-set_same, get_or-set_other, get_or_default}
-use Rattle.pg_measure.specs.Measures.{BoundList, width_from}
-use Rattle.pg_rank.specs.Ladders.{step_at, component, row}
-use Rattle.pg_rank.specs.Mirrors.Rungs.{IsOrigin, IsBounded}
+use Rattle.pg_rank.proofs.Common.{◌≡◌, ℕ, suc, ◌-◌, ◌<◌, ◌≤◌, ◌⊎◌, inl, inr, List, [], ◌∷◌, length, get_or, set, arith, sym, refl, ◌∙◌}
+use Rattle.pg_rank.proofs.Common.{subst, ap, cases_lt, cases_eq, get_or-set_same, get_or-set_other, get_or_default, BoundList, width_from}
+use Rattle.pg_rank.proofs.Common.{step_at, component, row, IsOrigin, IsBounded}
 use Rattle.pg_rank.proofs.Rising.{AreFalling, after_less, after_greater}
 use Rattle.pg_rank.proofs.Counting.{kept, stands, width_at}
 

@@ -1,20 +1,9 @@
 -- What is known of a side from a closed map of the other is at most every closed map.
-use Rattle.std.proofs.Common.{◌≡◌, ◌∙◌, ℕ, ◌<◌, true, false, inl, inr, None, List, length, refl, ap, sym, subst}
-use Rattle.std.specs.Prelude.{All, Bool, ◌⊎◌, Option, slice_index_or, if◌then◌else◌}
-use Rattle.std.specs.Option.{IsSome}
-use Rattle.std.proofs.lemmas.Bool.{cases_lt}
-use Rattle.std.proofs.lemmas.List.{get_or_past, length-map, get_or-map}
-use Rattle.pg_measure.specs.Measures.{BoundList, MeasureValue, AtMost, zeros}
-use Rattle.pg_measure.proofs.Rows.{zero_least}
-use Rattle.pg_arena.specs.Games.{GameVertex, IsGame, dual}
-use Rattle.pg_map.specs.Lines.{Line, AreWithin, AreDual, line_at, game_line}
-use Rattle.pg_map.specs.Laws.{GameLines, GameLinesAreDual}
-use Rattle.pg_map.proofs.Duals.{dual_held, held_dual, dual_at}
-use Rattle.pg_map.specs.Maps.{measure_at, IsClosed, IsNeverAbove}
-use Rattle.pg_map.proofs.Above.{fits_at}
-use Rattle.pg_map.proofs.Joins.{at_most_top}
-use Rattle.pg_claims.specs.Known.{known_map}
-use Rattle.pg_solver.specs.Mirrors.Known.{IsKnownFrom, AreKnownFrom, AreOpposite}
+use Rattle.pg_solver.proofs.Common.{◌≡◌, ◌∙◌, ℕ, ◌<◌, true, false, inl, inr, None, List, length, refl, ap, sym, subst, All, Bool, ◌⊎◌}
+use Rattle.pg_solver.proofs.Common.{Option, slice_index_or, if◌then◌else◌, IsSome, cases_lt, get_or_past, length-map, get_or-map, BoundList}
+use Rattle.pg_solver.proofs.Common.{MeasureValue, AtMost, zeros, zero_least, GameVertex, IsGame, dual, Line, AreWithin, AreDual, line_at}
+use Rattle.pg_solver.proofs.Common.{game_line, GameLines, GameLinesAreDual, dual_held, held_dual, dual_at, measure_at, IsClosed}
+use Rattle.pg_solver.proofs.Common.{IsNeverAbove, fits_at, at_most_top, known_map, IsKnownFrom, AreKnownFrom, AreOpposite}
 use Rattle.pg_solver.proofs.Settled.{top, dual_top}
 
 module _ (bs : BoundList) (lines : ℕ → Option Line) (known : List Bool) (g : List MeasureValue) (is : AreKnownFrom g known)

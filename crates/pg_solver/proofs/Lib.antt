@@ -1,3 +1,4 @@
 pub mod Raising
 pub mod Settled
 pub mod Knowing
+mod Common

@@ -1,18 +1,8 @@
 -- Maps that are lifted, from zeros to the end.
-use Rattle.std.proofs.Common.{◌≡◌, ◌∙◌, ℕ, ◌<◌, List, length, refl, sym, subst}
-use Rattle.std.specs.Prelude.{All, Option}
-use Rattle.std.proofs.lemmas.List.{length-replicate}
-use Rattle.pg_measure.specs.Measures.{BoundList, MeasureValue, Fits, zeros}
-use Rattle.pg_map.specs.Lines.{Line}
-use Rattle.pg_map.specs.Maps.{MapValue, zero_map, IsMap, IsClosed, IsLeastProgressMeasure, IsLeastClosedFrom, StaysUnder}
-use Rattle.pg_map.specs.Weights.{map_weight}
-use Rattle.pg_map.proofs.Above.{lift_stays_under, stays_trans}
-use Rattle.pg_map.proofs.Weights.{lift_falls}
-use Rattle.pg_map.proofs.Joins.{zero_map_least}
-use Rattle.pg_map.proofs.Least.{least_from_zero}
-use Rattle.pg_lift.specs.Mirrors.Lifters.{LifterValue, Lifts}
-use Rattle.pg_lift.specs.Mirrors.Zeros.{IsAtZero}
-use Rattle.pg_solver.specs.Mirrors.Raised.{IsRaised}
+use Rattle.pg_solver.proofs.Common.{◌≡◌, ◌∙◌, ℕ, ◌<◌, List, length, refl, sym, subst, All, Option, length-replicate, BoundList}
+use Rattle.pg_solver.proofs.Common.{MeasureValue, Fits, zeros, Line, MapValue, zero_map, IsMap, IsClosed, IsLeastProgressMeasure}
+use Rattle.pg_solver.proofs.Common.{IsLeastClosedFrom, StaysUnder, map_weight, lift_stays_under, stays_trans, lift_falls, zero_map_least}
+use Rattle.pg_solver.proofs.Common.{least_from_zero, LifterValue, Lifts, IsAtZero, IsRaised}
 
 pub raised_itself : (lines : ℕ → Option Line) (f : MapValue) → IsRaised lines f f
 raised_itself lines f = record {

@@ -1,15 +1,7 @@
 -- What one side has settled: where a closed map has a list every closed map of the dual has top.
-use Rattle.std.proofs.Common.{◌≡◌, ℕ, ◌+◌, ◌<◌, None, List, subst}
-use Rattle.std.specs.Prelude.{Option, All}
-use Rattle.std.specs.Option.{IsSome}
-use Rattle.std.proofs.lemmas.List.Elements.{All-contains}
-use Rattle.pg_arena.specs.declared.player.Player.{Player}
-use Rattle.pg_arena.specs.declared.player.Player.TheVariants.{Even, Odd}
-use Rattle.pg_measure.specs.Measures.{BoundList, MeasureValue, Covers}
-use Rattle.pg_map.specs.Lines.{Line, AreWithin, line_at, AreDual}
-use Rattle.pg_map.specs.Maps.{measure_at, SomeOrAll, IsClosed}
-use Rattle.pg_map.proofs.Duals.{dual_held, dual_at}
-use Rattle.pg_map.proofs.Parting.{both_serve, none_both, is_top}
+use Rattle.pg_solver.proofs.Common.{◌≡◌, ℕ, ◌+◌, ◌<◌, None, List, subst, Option, All, IsSome, All-contains, Player, Even, Odd, BoundList}
+use Rattle.pg_solver.proofs.Common.{MeasureValue, Covers, Line, AreWithin, line_at, AreDual, measure_at, SomeOrAll, IsClosed, dual_held}
+use Rattle.pg_solver.proofs.Common.{dual_at, both_serve, none_both, is_top}
 
 -- what holds of all successors holds of those that serve
 with_all : (o : Player) (R P : ℕ → Type 0) (ss : List ℕ) → All R ss → SomeOrAll o P ss → SomeOrAll o (λ w. R w × P w) ss

@@ -1,31 +1,13 @@
 -- The builder takes each line of the game, if these are within its limits.
-use Rattle.std.proofs.Common.{◌≡◌, ℕ, ◌<◌, ◌≤◌, false, eqb, List, [], ◌∷◌, length, map, get_or, take, Option, Some, None, Result, Ok, Err}
-use Rattle.std.proofs.Common.{arith, refl, sym, ap, subst, ◌∙◌, ◌||◌}
-use Rattle.std.specs.Prelude.{IfErr}
-use Rattle.std.specs.List.{Contains, sum_by}
-use Rattle.std.specs.List.Sorted.{IsStrictlyIncreasing}
-use Rattle.std.proofs.lemmas.List.{length-map, length-take, get_or-take}
-use Rattle.std.proofs.lemmas.List.Elements.{Contains-get_or}
-use Rattle.std.proofs.lemmas.List.Sums.{sum_by-cons, sum_by_more_le}
-use Rattle.std.proofs.lemmas.Map.Keys.{sorted_from_strictly_increasing, below_from_sorted}
-use Rattle.pg_arena.specs.declared.player.Player.{Player}
-use Rattle.pg_arena.specs.declared.fault.ArenaFault.{ArenaFault}
-use Rattle.pg_arena.specs.declared.fault.ArenaFault.TheVariants.{OutOfMemory, DuplicateVertex, NoSuccessor, UnknownSuccessor}
-use Rattle.pg_arena.specs.declared.fault.ArenaFault.TheVariants.{TooManyVertices, TooManyEdges, PriorityTooLarge, NoVertex}
-use Rattle.pg_arena.specs.Games.{GameVertex, edge_count}
-use Rattle.pg_arena.specs.Lines.{counted, is_named, add_fault, Answers}
-use Rattle.std.proofs.lemmas.Bool.Decides.{nat_tests}
-use Rattle.pg_arena.proofs.Members.{has_none}
-use Rattle.pg_lists.proofs.Rising.{has, rising_rises, rising_length}
-use Rattle.pg_automaton.specs.declared.shape.Shape.{Shape}
-use Rattle.pg_automaton.specs.declared.shape.Shape.TheVariants.{MaxEven, MaxOdd, MinEven, MinOdd, Always, Never}
-use Rattle.pg_automaton.specs.Automata.{Automaton, IsAutomaton}
-use Rattle.pg_synth.specs.AutomatonGames.{set_priority, none_priority, place_priority, place_owner, place_name, IsPlaceOf}
-use Rattle.pg_synth.specs.Mirrors.GameLines.{place_with, place_in, leads, edges_of, line_at, all_identifiers, game_identifiers}
-use Rattle.pg_synth.specs.Mirrors.Layouts.{IsLayoutOf}
-use Rattle.pg_synth.specs.declared.layout.Layout.{Layout}
-use Rattle.pg_synth.specs.declared.place.Place.{Place}
-use Rattle.pg_synth.specs.declared.place.Place.TheVariants.{Dead, Arrival, Answer}
+use Rattle.pg_synth.proofs.Common.{◌≡◌, ℕ, ◌<◌, ◌≤◌, false, eqb, List, [], ◌∷◌, length, map, get_or, take, Option, Some, None, Result, Ok}
+use Rattle.pg_synth.proofs.Common.{Err, arith, refl, sym, ap, subst, ◌∙◌, ◌||◌, IfErr, Contains, sum_by, IsStrictlyIncreasing, length-map}
+use Rattle.pg_synth.proofs.Common.{length-take, get_or-take, Contains-get_or, sum_by-cons, sum_by_more_le, sorted_from_strictly_increasing}
+use Rattle.pg_synth.proofs.Common.{below_from_sorted, Player, ArenaFault, OutOfMemory, DuplicateVertex, NoSuccessor, UnknownSuccessor}
+use Rattle.pg_synth.proofs.Common.{TooManyVertices, TooManyEdges, PriorityTooLarge, NoVertex, GameVertex, edge_count, counted, is_named}
+use Rattle.pg_synth.proofs.Common.{add_fault, Answers, nat_tests, has_none, has, rising_rises, rising_length, Shape, MaxEven, MaxOdd}
+use Rattle.pg_synth.proofs.Common.{MinEven, MinOdd, Always, Never, Automaton, IsAutomaton, set_priority, none_priority, place_priority}
+use Rattle.pg_synth.proofs.Common.{place_owner, place_name, IsPlaceOf, place_with, place_in, leads, edges_of, line_at, all_identifiers}
+use Rattle.pg_synth.proofs.Common.{game_identifiers, IsLayoutOf, Layout, Place, Dead, Arrival, Answer}
 use Rattle.pg_synth.proofs.Places.{IsWithin, within_game, place_listed, has_leads}
 
 -- ---- priorities are small

@@ -1,20 +1,11 @@
 -- What Even does at the answers that it wins.
-use Rattle.std.proofs.Common.{◌≡◌, ℕ, zero, suc, ◌+◌, ◌%◌, ◌<◌, ◌≤◌, inl, inr, List, [], length, Option, Some, None, arith, refl, sym, subst, ap, ◌∙◌}
-use Rattle.std.proofs.lemmas.Bool.{cases_lt}
-use Rattle.std.proofs.lemmas.List.Elements.{All-nil}
-use Rattle.std.proofs.lemmas.Nat.{pow_pos}
-use Rattle.pg_arena.specs.declared.player.Player.TheVariants.{Even}
-use Rattle.pg_arena.specs.Games.{GameVertex, HasParityOf, vertex_at, priority, opponent, IsEdge}
-use Rattle.pg_check.specs.Soundness.{Counts, IsSound}
-use Rattle.pg_check.proofs.Cycles.{safe_from_sound, bad_cycle_from}
+use Rattle.pg_synth.proofs.Common.{◌≡◌, ℕ, zero, suc, ◌+◌, ◌%◌, ◌<◌, ◌≤◌, inl, inr, List, [], length, Option, Some, None, arith, refl, sym}
+use Rattle.pg_synth.proofs.Common.{subst, ap, ◌∙◌, cases_lt, All-nil, pow_pos, Even, GameVertex, HasParityOf, vertex_at, priority, opponent}
+use Rattle.pg_synth.proofs.Common.{IsEdge, Counts, IsSound, safe_from_sound, bad_cycle_from, IsSolution, winner, choice, Step, Automaton}
+use Rattle.pg_synth.proofs.Common.{IsAutomaton, next, deciding, joined, inputs, StandsFor, IsGameOfAutomaton, Moves, arrival_of}
+use Rattle.pg_synth.proofs.Common.{input_letters, output_letters, place_identifier, FollowsAt, IsLeastIfAny, IsWonAt, Dead, Arrival, Answer}
 use Rattle.pg_text.specs.declared.answer.Answer as solutions
-use Rattle.pg_text.specs.Solutions.{IsSolution, winner, choice}
-use Rattle.pg_automaton.specs.Automata.{Step, Automaton, IsAutomaton, next, deciding}
-use Rattle.pg_synth.specs.Letters.{joined, inputs}
-use Rattle.pg_synth.specs.AutomatonGames.{StandsFor, IsGameOfAutomaton, Moves, arrival_of, input_letters, output_letters, place_identifier}
-use Rattle.pg_synth.specs.Machines.{FollowsAt}
-use Rattle.pg_synth.specs.Mirrors.Drafts.{IsLeast, IsLeastIfAny, IsWonAt}
-use Rattle.pg_synth.specs.declared.place.Place.TheVariants.{Dead, Arrival, Answer}
+use Rattle.pg_synth.specs.Mirrors.Drafts.{IsLeast}
 use Rattle.pg_synth.proofs.Places.{letter_in, reached}
 use Rattle.pg_synth.proofs.Trace.{in_order, one_number, one_vertex}
 

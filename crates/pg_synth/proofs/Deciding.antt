@@ -1,27 +1,12 @@
 -- Who wins the play that a word traces.
-use Rattle.std.proofs.Common.{◌≡◌, ◌↔◌, ℕ, suc, ◌+◌, ◌*◌, ◌%◌, ◌<◌, ◌≤◌, ◌⊎◌, inl, inr, Bool, true, false, List, Option, Some, None, arith}
-use Rattle.std.proofs.Common.{refl, sym, subst, ◌∙◌}
-use Rattle.std.specs.List.{Contains, All}
-use Rattle.std.specs.List.Sorted.{IsStrictlyIncreasing}
-use Rattle.std.specs.Prelude.{is_some}
+use Rattle.pg_synth.proofs.Common.{◌≡◌, ◌↔◌, ℕ, suc, ◌+◌, ◌*◌, ◌%◌, ◌<◌, ◌≤◌, ◌⊎◌, inl, inr, Bool, true, false, List, Option, Some, None}
+use Rattle.pg_synth.proofs.Common.{arith, refl, sym, subst, ◌∙◌, Contains, All, IsStrictlyIncreasing, is_some, cases_Bool, All-contains}
+use Rattle.pg_synth.proofs.Common.{Even, GameVertex, priority, IsGreatestRecurring, Loses, WinsPlay, priority_bound, one_loser, parity_of}
+use Rattle.pg_synth.proofs.Common.{Shape, Step, Automaton, IsAutomaton, next, deciding, Formula, holds, input_of, IsWord, IsAccepted}
+use Rattle.pg_synth.proofs.Common.{SetRecurs, HoldsRecurring, step_from, step_at, sets_of, target_of, state_after, set_priority}
+use Rattle.pg_synth.proofs.Common.{none_priority, place_priority, arrival_of, IsGameOfAutomaton, answer_at, Traces, Arrival, TracesOnePlay}
+use Rattle.pg_synth.proofs.Common.{not_not_collected}
 use Rattle.std.specs.Option.{IsSome}
-use Rattle.std.proofs.lemmas.Bool.{cases_Bool}
-use Rattle.std.proofs.lemmas.List.Elements.{All-contains}
-use Rattle.pg_arena.specs.declared.player.Player.TheVariants.{Even}
-use Rattle.pg_arena.specs.Games.{GameVertex, priority}
-use Rattle.pg_check.specs.Plays.{IsGreatestRecurring, Loses, WinsPlay}
-use Rattle.pg_measure.proofs.SomeBounds.{priority_bound}
-use Rattle.pg_check.proofs.Recurring.{one_loser, parity_of}
-use Rattle.pg_automaton.specs.declared.shape.Shape.{Shape}
-use Rattle.pg_automaton.specs.Automata.{Step, Automaton, IsAutomaton, next, deciding}
-use Rattle.pg_automaton.specs.Formulas.{Formula, holds}
-use Rattle.pg_synth.specs.Letters.{input_of}
-use Rattle.pg_automaton.specs.Words.{IsWord, IsAccepted, SetRecurs, HoldsRecurring, step_from, step_at, sets_of, target_of, state_after}
-use Rattle.pg_synth.specs.AutomatonGames.{set_priority, none_priority, place_priority, arrival_of, IsGameOfAutomaton}
-use Rattle.pg_synth.specs.Tracing.{answer_at, Traces}
-use Rattle.pg_synth.specs.declared.place.Place.TheVariants.{Arrival}
-use Rattle.pg_synth.specs.Laws.{TracesOnePlay}
-use Rattle.pg_automaton.proofs.Collections.{not_not_collected}
 use Rattle.pg_synth.proofs.Ranks.{HasSets, IsMet, deciding_cases, rank_rises, none_lowest, rank_parity, none_parity, find_foremost}
 use Rattle.pg_synth.proofs.Recurs.{Meets, ListRecurs, foremost_rank, empty_rank}
 use Rattle.pg_synth.proofs.Accepting.{HasShape, shape_of_fits}

@@ -1,21 +1,10 @@
 -- A machine that is being made, reply by reply.
-use Rattle.std.proofs.Common.{◌≡◌, ℕ, zero, suc, ◌+◌, ◌*◌, ◌^◌, ◌<◌, ◌≤◌, ◌⊎◌, inl, inr, eqb, List, [], ◌∷◌, ◌++◌, None, length}
-use Rattle.std.proofs.Common.{length-append, arith, refl, sym, subst, ap, ◌∙◌}
-use Rattle.std.specs.List.{IsDistinct}
-use Rattle.std.proofs.lemmas.Bool.{cases_lt}
-use Rattle.std.proofs.lemmas.List.{get_or_append_left, get_or_push}
-use Rattle.std.proofs.lemmas.Nat.{same_from_place, mul-add-lt}
-use Rattle.std.proofs.Math.Nat.{mul-le-mul_right}
-use Rattle.pg_arena.specs.declared.player.Player.TheVariants.{Even}
-use Rattle.pg_arena.specs.Games.{GameVertex}
+use Rattle.pg_synth.proofs.Common.{◌≡◌, ℕ, zero, suc, ◌+◌, ◌*◌, ◌^◌, ◌<◌, ◌≤◌, ◌⊎◌, inl, inr, eqb, List, [], ◌∷◌, ◌++◌, None, length}
+use Rattle.pg_synth.proofs.Common.{length-append, arith, refl, sym, subst, ap, ◌∙◌, IsDistinct, cases_lt, get_or_append_left, get_or_push}
+use Rattle.pg_synth.proofs.Common.{same_from_place, mul-add-lt, mul-le-mul_right, Even, GameVertex, Automaton, IsAutomaton, letters}
+use Rattle.pg_synth.proofs.Common.{IsWonBy, inputs, outputs, input_letters, Machine, IsMachine, FollowsAt, IsMachineOf, IsInOrder, no_reply}
+use Rattle.pg_synth.proofs.Common.{IsWonAt, IsDraft, IsNumbered, machine_with, state_of, reply_of, Reply}
 use Rattle.pg_text.specs.declared.answer.Answer as solutions
-use Rattle.pg_automaton.specs.Automata.{Automaton, IsAutomaton, letters}
-use Rattle.pg_synth.specs.Laws.{IsWonBy}
-use Rattle.pg_synth.specs.Letters.{inputs, outputs}
-use Rattle.pg_synth.specs.AutomatonGames.{input_letters}
-use Rattle.pg_synth.specs.Machines.{Machine, IsMachine, FollowsAt, IsMachineOf, IsInOrder, no_reply}
-use Rattle.pg_synth.specs.Mirrors.Drafts.{IsWonAt, IsDraft, IsNumbered, machine_with, state_of, reply_of}
-use Rattle.pg_synth.specs.declared.mealy.Reply.{Reply}
 use Rattle.pg_synth.proofs.Choosing.{answers_won}
 use Rattle.pg_synth.proofs.Letters.{both_parts}
 use Rattle.pg_synth.proofs.Numbering.{few_numbers}

@@ -18,3 +18,4 @@ pub mod Drafting
 pub mod Numbering
 pub mod Priorities
 pub mod OneMachine
+mod Common

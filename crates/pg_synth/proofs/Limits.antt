@@ -1,12 +1,6 @@
 -- Whether the game of an automaton is within the limits, by its identifiers.
-use Rattle.std.proofs.Common.{◌≡◌, ℕ, ◌<◌, ◌≤◌, List, length, None, inl, arith, refl, sym, subst}
-use Rattle.std.specs.List.{sum_by}
-use Rattle.pg_arena.specs.Games.{GameVertex, IsWithinLimits}
-use Rattle.pg_automaton.specs.Automata.{Automaton, IsAutomaton}
-use Rattle.pg_synth.specs.AutomatonGames.{StandsFor, IsGameOfAutomaton}
-use Rattle.pg_synth.specs.Answers.{IsSynthGame}
-use Rattle.pg_synth.specs.Mirrors.GameLines.{edges_of, game_identifiers}
-use Rattle.pg_synth.specs.declared.place.Place.TheVariants.{Arrival}
+use Rattle.pg_synth.proofs.Common.{◌≡◌, ℕ, ◌<◌, ◌≤◌, List, length, None, inl, arith, refl, sym, subst, sum_by, GameVertex, IsWithinLimits}
+use Rattle.pg_synth.proofs.Common.{Automaton, IsAutomaton, StandsFor, IsGameOfAutomaton, IsSynthGame, edges_of, game_identifiers, Arrival}
 use Rattle.pg_synth.proofs.Made.{made}
 use Rattle.pg_synth.proofs.Linked.{linked_game, linked_is, vertices_are, edges_are}
 use Rattle.pg_synth.proofs.OneGame.{one_game}

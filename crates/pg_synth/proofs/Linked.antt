@@ -1,26 +1,15 @@
 -- Each automaton has a game: that of its lines, each identifier in them replaced by its place.
-use Rattle.std.proofs.Common.{◌≡◌, ℕ, suc, ◌+◌, ◌<◌, ◌≤◌, true, false, cond, eqb, List, [], ◌∷◌, length, map, get_or, arith, refl, sym}
-use Rattle.std.proofs.Common.{subst, ap, inl, inr, ◌∙◌, All}
+use Rattle.pg_synth.proofs.Common.{◌≡◌, ℕ, suc, ◌+◌, ◌<◌, ◌≤◌, true, false, cond, eqb, List, [], ◌∷◌, length, map, get_or, arith, refl, sym}
+use Rattle.pg_synth.proofs.Common.{subst, ap, inl, inr, ◌∙◌, Contains, sum_by, IsStrictlyIncreasing, IsPermutation, cases_lt, eqb-true}
+use Rattle.pg_synth.proofs.Common.{eq-eqb, length-map, get_or-map, All-nil, All-cons, Contains-get_or, IsPermutation-refl, sum_by-cons}
+use Rattle.pg_synth.proofs.Common.{sorted_from_strictly_increasing, non_decreasing_from_sorted, GameVertex, identifier, identifiers}
+use Rattle.pg_synth.proofs.Common.{edge_count, Line, line_of, lines_of, rising, rising_rises, rising_length, rising_contains}
+use Rattle.pg_synth.proofs.Common.{contains_cases, contains_here, contains_later, game_from_sound, identifier_is, Automaton, IsAutomaton}
+use Rattle.pg_synth.proofs.Common.{place_in, leads, edges_of, line_at, all_identifiers, game_identifiers, game_lines, Place, Dead}
+use Rattle.std.proofs.Common.{All}
 use Rattle.std.specs.Prelude.{slice_index}
-use Rattle.std.specs.List.{Contains, sum_by}
-use Rattle.std.specs.List.Sorted.{IsStrictlyIncreasing, IsPermutation}
-use Rattle.std.proofs.lemmas.Bool.{cases_lt, eqb-true, eq-eqb}
-use Rattle.std.proofs.lemmas.List.{length-map, get_or-map}
-use Rattle.std.proofs.lemmas.List.Elements.{All-nil, All-cons, Contains-get_or}
-use Rattle.std.proofs.lemmas.List.Sorted.{IsPermutation-refl}
-use Rattle.std.proofs.lemmas.List.Sums.{sum_by-cons}
-use Rattle.std.proofs.lemmas.Map.Keys.{sorted_from_strictly_increasing, non_decreasing_from_sorted}
-use Rattle.pg_arena.specs.Games.{GameVertex, identifier, identifiers, edge_count}
 use Rattle.pg_arena.specs.Lines as lines
-use Rattle.pg_arena.specs.Lines.{Line, line_of, lines_of}
-use Rattle.pg_lists.specs.Rising.{rising}
-use Rattle.pg_lists.proofs.Rising.{rising_rises, rising_length, rising_contains}
-use Rattle.pg_lists.proofs.Contained.{contains_cases, contains_here, contains_later}
-use Rattle.pg_arena.proofs.Finishing.{IsSound, game_from_sound, identifier_is}
-use Rattle.pg_automaton.specs.Automata.{Automaton, IsAutomaton}
-use Rattle.pg_synth.specs.Mirrors.GameLines.{place_in, leads, edges_of, line_at, all_identifiers, game_identifiers, game_lines}
-use Rattle.pg_synth.specs.declared.place.Place.{Place}
-use Rattle.pg_synth.specs.declared.place.Place.TheVariants.{Dead}
+use Rattle.pg_arena.proofs.Finishing.{IsSound}
 use Rattle.pg_synth.proofs.Places.{known, within_game, moved, listed, only_listed, led, has_leads}
 
 -- ---- the place of a number in a list

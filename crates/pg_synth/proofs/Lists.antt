@@ -1,12 +1,8 @@
 -- Membership in lists that are made from others.
-use Rattle.std.proofs.Common.{◌≡◌, ℕ, ◌+◌, ◌<◌, inl, inr, List, [], ◌∷◌, ◌++◌, map, append_assoc, map-id, arith, sym, ap, subst, ◌∙◌}
-use Rattle.std.specs.List.{Contains, flat_map, range_with_len}
-use Rattle.std.proofs.lemmas.List.{flat_map_more}
-use Rattle.std.proofs.lemmas.List.Elements.{Contains-append_left, Contains-append_right, Contains-append_cases}
-use Rattle.std.proofs.lemmas.List.FromFn.{length-range_with_len, get_or-range_with_len, map-range_with_len_more}
-use Rattle.pg_lists.specs.Rising.{rising}
-use Rattle.pg_lists.proofs.Rising.{contains_from, has_contained, has_rising}
-use Rattle.pg_lists.proofs.Contained.{contains_map, contains_mapped}
+use Rattle.pg_synth.proofs.Common.{◌≡◌, ℕ, ◌+◌, ◌<◌, inl, inr, List, [], ◌∷◌, ◌++◌, map, append_assoc, map-id, arith, sym, ap, subst, ◌∙◌}
+use Rattle.pg_synth.proofs.Common.{Contains, flat_map, range_with_len, flat_map_more, Contains-append_left, Contains-append_right}
+use Rattle.pg_synth.proofs.Common.{Contains-append_cases, length-range_with_len, get_or-range_with_len, map-range_with_len_more, rising}
+use Rattle.pg_synth.proofs.Common.{contains_from, has_contained, has_rising, contains_map, contains_mapped}
 
 pub in_range : (n i : ℕ) → Contains (range_with_len 0 n) i → i < n
 in_range n i (k, lt, is) =

@@ -1,27 +1,12 @@
 -- Words of machines that follow a solution, and words with Odd's input letters.
-use Rattle.std.proofs.Common.{◌≡◌, ℕ, zero, suc, ◌+◌, ◌*◌, ◌^◌, ◌<◌, ◌⊎◌, inl, inr, List, Option, Some, None, arith, refl, sym, subst, ap, ◌∙◌}
-use Rattle.pg_arena.specs.declared.player.Player.{Player}
-use Rattle.pg_arena.specs.declared.player.Player.TheVariants.{Even, Odd}
-use Rattle.pg_arena.specs.Games.{GameVertex, IsGame, priority, owner, opponent}
-use Rattle.pg_check.specs.Plays.{IsPlay, WinsPlay}
-use Rattle.pg_check.specs.Soundness.{Counts, IsSound}
-use Rattle.pg_measure.proofs.SomeBounds.{priority_bound}
-use Rattle.pg_check.proofs.Recurring.{one_loser}
-use Rattle.pg_check.proofs.Cycles.{safe_from_sound}
-use Rattle.pg_check.proofs.Wins.{wins}
-use Rattle.pg_automaton.specs.Automata.{Step, Automaton, IsAutomaton, deciding}
-use Rattle.pg_automaton.specs.Formulas.{Formula}
-use Rattle.pg_automaton.specs.Shapes.{FitsShape}
-use Rattle.pg_automaton.specs.Words.{IsWord, IsAccepted, step_from, step_at, target_of, state_after}
+use Rattle.pg_synth.proofs.Common.{◌≡◌, ℕ, zero, suc, ◌+◌, ◌*◌, ◌^◌, ◌<◌, ◌⊎◌, inl, inr, List, Option, Some, None, arith, refl, sym, subst}
+use Rattle.pg_synth.proofs.Common.{ap, ◌∙◌, Player, Even, Odd, GameVertex, IsGame, priority, owner, opponent, IsPlay, WinsPlay, Counts}
+use Rattle.pg_synth.proofs.Common.{IsSound, priority_bound, one_loser, safe_from_sound, wins, Step, Automaton, IsAutomaton, deciding}
+use Rattle.pg_synth.proofs.Common.{Formula, FitsShape, IsWord, IsAccepted, step_from, step_at, target_of, state_after, IsSolution, winner}
+use Rattle.pg_synth.proofs.Common.{choice, input_of, IsSynthGame, IsMealyOf, IsWonBy, Says, place_owner, arrival_of, Moves, StandsFor}
+use Rattle.pg_synth.proofs.Common.{IsGameOfAutomaton, Machine, machine_state, machine_output, machine_word, FollowsAt, IsMachineOf}
+use Rattle.pg_synth.proofs.Common.{IsInputWord, HasChosenInputs, arrival_after, answer_at, answer_after, Traces, Dead, Arrival, Answer}
 use Rattle.pg_text.specs.declared.answer.Answer as solutions
-use Rattle.pg_text.specs.Solutions.{IsSolution, winner, choice}
-use Rattle.pg_synth.specs.Letters.{input_of}
-use Rattle.pg_synth.specs.Answers.{IsSynthGame, IsMealyOf}
-use Rattle.pg_synth.specs.Laws.{IsWonBy, Says}
-use Rattle.pg_synth.specs.AutomatonGames.{place_owner, arrival_of, Moves, StandsFor, IsGameOfAutomaton}
-use Rattle.pg_synth.specs.Machines.{Machine, machine_state, machine_output, machine_word, FollowsAt, IsMachineOf, IsInputWord, HasChosenInputs}
-use Rattle.pg_synth.specs.Tracing.{arrival_after, answer_at, answer_after, Traces}
-use Rattle.pg_synth.specs.declared.place.Place.TheVariants.{Dead, Arrival, Answer}
 use Rattle.pg_synth.proofs.Accepting.{shape_of_fits}
 use Rattle.pg_synth.proofs.Deciding.{decides}
 use Rattle.pg_synth.proofs.Letters.{input_back}

@@ -1,19 +1,10 @@
 -- The game that the lines make is the game of the automaton.
-use Rattle.std.proofs.Common.{◌≡◌, ◌↔◌, ℕ, ◌<◌, List, length, map, sym, subst, ap, ◌∙◌}
-use Rattle.std.specs.List.{Contains}
-use Rattle.std.proofs.lemmas.List.{get_or_default}
-use Rattle.std.proofs.lemmas.List.Elements.{Contains-get_or}
-use Rattle.std.proofs.lemmas.List.Sorted.{IsPermutation-sym, Contains-permutation}
-use Rattle.pg_arena.specs.Games.{GameVertex, IsEdge, identifier, successors, vertex_at, nowhere}
+use Rattle.pg_synth.proofs.Common.{◌≡◌, ◌↔◌, ℕ, ◌<◌, List, length, map, sym, subst, ap, ◌∙◌, Contains, get_or_default, Contains-get_or}
+use Rattle.pg_synth.proofs.Common.{IsPermutation-sym, Contains-permutation, GameVertex, IsEdge, identifier, successors, vertex_at, nowhere}
+use Rattle.pg_synth.proofs.Common.{Line, line_of, lines_of, rising, Automaton, IsAutomaton, place_identifier, IsPlaceOf, Moves, StandsFor}
+use Rattle.pg_synth.proofs.Common.{IsGameOfAutomaton, leads, line_at, line_of_place, game_identifiers, game_lines, Place, rising_contains}
+use Rattle.pg_synth.proofs.Common.{contains_rising, contains_map, contains_mapped}
 use Rattle.pg_arena.specs.Lines as lines
-use Rattle.pg_arena.specs.Lines.{Line, line_of, lines_of}
-use Rattle.pg_lists.specs.Rising.{rising}
-use Rattle.pg_automaton.specs.Automata.{Automaton, IsAutomaton}
-use Rattle.pg_synth.specs.AutomatonGames.{place_identifier, IsPlaceOf, Moves, StandsFor, IsGameOfAutomaton}
-use Rattle.pg_synth.specs.Mirrors.GameLines.{leads, line_at, line_of_place, game_identifiers, game_lines}
-use Rattle.pg_synth.specs.declared.place.Place.{Place}
-use Rattle.pg_lists.proofs.Rising.{rising_contains, contains_rising}
-use Rattle.pg_lists.proofs.Contained.{contains_map, contains_mapped}
 use Rattle.pg_synth.proofs.Places.{known, within_game, moved, listed, only_listed, led, leading}
 use Rattle.pg_synth.proofs.Trace.{one_number}
 

@@ -1,15 +1,9 @@
 -- The numbers of states.
-use Rattle.std.proofs.Common.{◌≡◌, ℕ, suc, ◌<◌, ◌≤◌, inl, inr, Bool, true, false, eqb, List, [], ◌∷◌, ◌++◌, length, slice_get, Some}
-use Rattle.std.proofs.Common.{length-append, arith, refl, sym, subst, ap, ◌∙◌}
-use Rattle.std.specs.List.{IsDistinct, list_any, Contains}
-use Rattle.std.proofs.lemmas.Bool.{cases_lt, eqb-true, eq-eqb}
-use Rattle.std.proofs.lemmas.List.{get_or_append_left, get_or_push, get_or_default}
-use Rattle.std.proofs.lemmas.Map.Keys.{apart_from_distinct}
-use Rattle.std.proofs.lemmas.Map.Steps.{length-le_from_distinct_below}
-use Rattle.std.proofs.lemmas.Option.{get_or_from_slice_get}
-use Rattle.indexmap.specs.IndexSet.{insert_key}
-use Rattle.indexmap.proofs.CallerLemmas.{Contains-list_any}
-use Rattle.pg_synth.specs.Mirrors.Drafts.{IsNumbered, state_of}
+use Rattle.pg_synth.proofs.Common.{◌≡◌, ℕ, suc, ◌<◌, ◌≤◌, inl, inr, Bool, true, false, eqb, List, [], ◌∷◌, ◌++◌, length, slice_get, Some}
+use Rattle.pg_synth.proofs.Common.{length-append, arith, refl, sym, subst, ap, ◌∙◌, IsDistinct, list_any, Contains, cases_lt, eqb-true}
+use Rattle.pg_synth.proofs.Common.{eq-eqb, get_or_append_left, get_or_push, get_or_default, apart_from_distinct}
+use Rattle.pg_synth.proofs.Common.{length-le_from_distinct_below, get_or_from_slice_get, insert_key, Contains-list_any, IsNumbered}
+use Rattle.pg_synth.proofs.Common.{state_of}
 
 -- states with two numbers are two
 pub apart : (states : List ℕ) → IsDistinct eqb states → (j k : ℕ) → j < length states → k < length states

@@ -1,13 +1,8 @@
 -- Identifiers and counts fit in their types.
-use Rattle.std.proofs.Common.{◌≡◌, ℕ, suc, ◌+◌, ◌*◌, ◌<◌, ◌≤◌, List, length, map, get_or, arith, ap, ◌∙◌}
-use Rattle.std.specs.List.{range_with_len}
-use Rattle.std.proofs.lemmas.List.FromFn.{length-map-range_with_len, get_or-map-range_with_len}
-use Rattle.std.proofs.Math.Nat.{mul-le-mul_left, mul-le-mul_right, pow-le-pow_right}
-use Rattle.pg_automaton.specs.Automata.{Automaton, IsAutomaton, letters}
-use Rattle.pg_synth.specs.AutomatonGames.{width, input_letters, output_letters}
-use Rattle.pg_synth.specs.Letters.{joined}
-use Rattle.pg_synth.specs.Mirrors.Layouts.{IsLayoutOf}
-use Rattle.pg_synth.specs.declared.layout.Layout.{Layout}
+use Rattle.pg_synth.proofs.Common.{◌≡◌, ℕ, suc, ◌+◌, ◌*◌, ◌<◌, ◌≤◌, List, length, map, get_or, arith, ap, ◌∙◌, range_with_len}
+use Rattle.pg_synth.proofs.Common.{length-map-range_with_len, get_or-map-range_with_len, mul-le-mul_left, mul-le-mul_right}
+use Rattle.pg_synth.proofs.Common.{pow-le-pow_right, Automaton, IsAutomaton, letters, width, input_letters, output_letters, joined}
+use Rattle.pg_synth.proofs.Common.{IsLayoutOf, Layout}
 use Rattle.pg_synth.proofs.Letters.{few_inputs, few_input_letters, few_output_letters, sum_of_parts}
 
 pub few_marks : (a : Automaton) → IsAutomaton a → length a.controllable ≤ 16

@@ -1,17 +1,8 @@
 -- An automaton has at most one game.
-use Rattle.std.proofs.Common.{◌≡◌, ℕ, suc, ◌<◌, List, [], ◌∷◌, length, slice_index_or, Option, arith, refl, sym, subst, ap, ◌∙◌}
-use Rattle.std.specs.List.{Contains}
-use Rattle.std.specs.List.Sorted.{IsStrictlyIncreasing}
-use Rattle.std.proofs.lemmas.Map.Keys.{sorted_from_strictly_increasing}
-use Rattle.std.proofs.lemmas.List.{get_or_default}
-use Rattle.std.proofs.lemmas.List.Elements.{Contains-get_or}
-use Rattle.pg_arena.specs.declared.player.Player.{Player}
-use Rattle.pg_arena.specs.Games.{GameVertex, IsEdge, vertex_at, identifiers, successors}
-use Rattle.pg_lists.proofs.Contained.{rising_same}
-use Rattle.pg_arena.proofs.Unique.{same_vertex}
-use Rattle.pg_automaton.specs.Automata.{Automaton}
-use Rattle.pg_synth.specs.AutomatonGames.{StandsFor, IsGameOfAutomaton}
-use Rattle.pg_synth.specs.declared.place.Place.{Place}
+use Rattle.pg_synth.proofs.Common.{◌≡◌, ℕ, suc, ◌<◌, List, [], ◌∷◌, length, slice_index_or, Option, arith, refl, sym, subst, ap, ◌∙◌}
+use Rattle.pg_synth.proofs.Common.{Contains, IsStrictlyIncreasing, sorted_from_strictly_increasing, get_or_default, Contains-get_or, Player}
+use Rattle.pg_synth.proofs.Common.{GameVertex, IsEdge, vertex_at, identifiers, successors, rising_same, same_vertex, Automaton, StandsFor}
+use Rattle.pg_synth.proofs.Common.{IsGameOfAutomaton, Place}
 use Rattle.pg_synth.proofs.Trace.{identifiers_long, identifier_at, one_number}
 
 same_list : (xs ys : List GameVertex) → length xs ≡ length ys → ((v : ℕ) → v < length xs → vertex_at xs v ≡ vertex_at ys v) → xs ≡ ys

@@ -1,20 +1,10 @@
 -- Only one machine follows a sound solution by which Even wins.
-use Rattle.std.proofs.Common.{◌≡◌, ℕ, zero, suc, ◌+◌, ◌*◌, ◌/◌, ◌%◌, ◌^◌, ◌<◌, ◌≤◌, inl, inr, List, length, Some, None, arith, refl, sym, subst, ap, ◌∙◌}
-use Rattle.std.proofs.lemmas.Bool.{cases_lt}
-use Rattle.std.proofs.lemmas.List.{ext_get_or}
-use Rattle.std.proofs.lemmas.Nat.{div-add-mod', div_below, mod_below, pow_pos}
-use Rattle.pg_arena.specs.declared.player.Player.TheVariants.{Even}
-use Rattle.pg_arena.specs.Games.{GameVertex}
+use Rattle.pg_synth.proofs.Common.{◌≡◌, ℕ, zero, suc, ◌+◌, ◌*◌, ◌/◌, ◌%◌, ◌^◌, ◌<◌, ◌≤◌, inl, inr, List, length, Some, None, arith, refl}
+use Rattle.pg_synth.proofs.Common.{sym, subst, ap, ◌∙◌, cases_lt, ext_get_or, div-add-mod', div_below, mod_below, pow_pos, Even, GameVertex}
+use Rattle.pg_synth.proofs.Common.{choice, Step, Automaton, IsAutomaton, next, deciding, IsWonBy, joined, inputs, StandsFor, arrival_of}
+use Rattle.pg_synth.proofs.Common.{input_letters, Machine, FollowsAt, IsMachineOf, IsInOrder, Follows, reply_at, reply, no_reply, IsWonAt}
+use Rattle.pg_synth.proofs.Common.{Reply, Arrival, Answer}
 use Rattle.pg_text.specs.declared.answer.Answer as solutions
-use Rattle.pg_text.specs.Solutions.{choice}
-use Rattle.pg_automaton.specs.Automata.{Step, Automaton, IsAutomaton, next, deciding}
-use Rattle.pg_synth.specs.Laws.{IsWonBy}
-use Rattle.pg_synth.specs.Letters.{joined, inputs}
-use Rattle.pg_synth.specs.AutomatonGames.{StandsFor, arrival_of, input_letters}
-use Rattle.pg_synth.specs.Machines.{Machine, FollowsAt, IsMachineOf, IsInOrder, Follows, reply_at, reply, no_reply}
-use Rattle.pg_synth.specs.Mirrors.Drafts.{IsWonAt}
-use Rattle.pg_synth.specs.declared.mealy.Reply.{Reply}
-use Rattle.pg_synth.specs.declared.place.Place.TheVariants.{Arrival, Answer}
 use Rattle.pg_synth.proofs.Choosing.{chosen_is, answers_won}
 use Rattle.pg_synth.proofs.Places.{letter_in}
 

@@ -1,23 +1,15 @@
 -- Identifiers tell places apart, and those of the game are the listed ones.
-use Rattle.std.proofs.Common.{◌≡◌, ℕ, ◌+◌, ◌*◌, ◌-◌, ◌/◌, ◌%◌, ◌^◌, ◌<◌, inl, inr, true, false, eqb, leb, List, [], ◌∷◌, map, length}
-use Rattle.std.proofs.Common.{Option, Some, None, arith, refl, sym, subst, ap, ◌∙◌}
-use Rattle.std.specs.List.{Contains, All, flat_map, range_with_len}
-use Rattle.std.specs.List.Sorted.{IsStrictlyIncreasing}
-use Rattle.std.proofs.lemmas.Bool.{ne_eqb, le-leb, lt-leb}
-use Rattle.std.proofs.lemmas.Nat.{div-mul-add, mod-mul-add, pow_pos}
-use Rattle.std.proofs.lemmas.List.FromFn.{length-map-range_with_len}
-use Rattle.std.proofs.lemmas.List.Elements.{All-contains, Contains-append_left, Contains-append_right, Contains-append_cases}
-use Rattle.pg_lists.proofs.Contained.{contains_cases, contains_here, contains_later, contains_flat, contains_flattened}
-use Rattle.pg_automaton.specs.declared.shape.Shape.{Shape}
-use Rattle.pg_automaton.specs.Automata.{Step, Automaton, IsAutomaton, letters, next, deciding}
-use Rattle.pg_synth.specs.Letters.{joined, inputs, outputs}
-use Rattle.pg_synth.specs.AutomatonGames.{input_letters, output_letters, width, place_identifier, arrival_of, IsPlaceOf, Moves}
-use Rattle.pg_synth.specs.Mirrors.GameLines.{place_within, place_with, place_in, target, leads, added_by, all_identifiers, game_identifiers}
-use Rattle.pg_synth.specs.declared.place.Place.{Place}
-use Rattle.pg_synth.specs.declared.place.Place.TheVariants.{Dead, Arrival, Answer}
+use Rattle.pg_synth.proofs.Common.{◌≡◌, ℕ, ◌+◌, ◌*◌, ◌-◌, ◌/◌, ◌%◌, ◌^◌, ◌<◌, inl, inr, true, false, eqb, leb, List, [], ◌∷◌, map, length}
+use Rattle.pg_synth.proofs.Common.{Option, Some, None, arith, refl, sym, subst, ap, ◌∙◌, Contains, All, flat_map, range_with_len}
+use Rattle.pg_synth.proofs.Common.{IsStrictlyIncreasing, ne_eqb, le-leb, lt-leb, div-mul-add, mod-mul-add, pow_pos}
+use Rattle.pg_synth.proofs.Common.{length-map-range_with_len, All-contains, Contains-append_left, Contains-append_right}
+use Rattle.pg_synth.proofs.Common.{Contains-append_cases, contains_cases, contains_here, contains_later, contains_flat, contains_flattened}
+use Rattle.pg_synth.proofs.Common.{Shape, Step, Automaton, IsAutomaton, letters, next, deciding, joined, inputs, outputs, input_letters}
+use Rattle.pg_synth.proofs.Common.{output_letters, width, place_identifier, arrival_of, IsPlaceOf, Moves, place_within, place_with}
+use Rattle.pg_synth.proofs.Common.{place_in, target, leads, added_by, all_identifiers, game_identifiers, Place, Dead, Arrival, Answer}
+use Rattle.pg_synth.proofs.Common.{rising_contains, contains_rising}
 use Rattle.pg_synth.proofs.Letters.{joined_in}
 use Rattle.pg_synth.proofs.Lists.{in_range, range_contains, contains_from_range, range_contained}
-use Rattle.pg_lists.proofs.Rising.{rising_contains, contains_rising}
 use Rattle.pg_synth.proofs.Ranks.{deciding_cases}
 
 -- ---- an identifier names one place

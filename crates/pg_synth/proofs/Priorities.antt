@@ -1,14 +1,8 @@
 -- The priorities of the game of an automaton.
-use Rattle.std.proofs.Common.{◌≡◌, ℕ, ◌+◌, ◌*◌, ◌-◌, ◌<◌, ◌≤◌, List, length, Option, Some, None, arith, subst, sym}
-use Rattle.std.specs.List.{All}
-use Rattle.std.proofs.lemmas.List.Elements.{All-from_get_or}
-use Rattle.pg_arena.specs.Games.{GameVertex, HasPrioritiesUpTo, nowhere}
-use Rattle.pg_automaton.specs.declared.shape.Shape.{Shape}
-use Rattle.pg_automaton.specs.declared.shape.Shape.TheVariants.{MaxEven, MaxOdd, MinEven, MinOdd, Always, Never}
-use Rattle.pg_automaton.specs.Automata.{Automaton, IsAutomaton}
-use Rattle.pg_synth.specs.AutomatonGames.{IsGameOfAutomaton, IsPlaceOf, place_priority, set_priority, none_priority}
-use Rattle.pg_synth.specs.declared.place.Place.{Place}
-use Rattle.pg_synth.specs.declared.place.Place.TheVariants.{Dead, Arrival, Answer}
+use Rattle.pg_synth.proofs.Common.{◌≡◌, ℕ, ◌+◌, ◌*◌, ◌-◌, ◌<◌, ◌≤◌, List, length, Option, Some, None, arith, subst, sym, All}
+use Rattle.pg_synth.proofs.Common.{All-from_get_or, GameVertex, HasPrioritiesUpTo, nowhere, Shape, MaxEven, MaxOdd, MinEven, MinOdd, Always}
+use Rattle.pg_synth.proofs.Common.{Never, Automaton, IsAutomaton, IsGameOfAutomaton, IsPlaceOf, place_priority, set_priority, none_priority}
+use Rattle.pg_synth.proofs.Common.{Place, Dead, Arrival, Answer}
 use Rattle.pg_synth.proofs.Places.{within_game}
 
 none_low : (shape : Shape) (n : ℕ) → none_priority shape n ≤ 2

@@ -1,18 +1,9 @@
 -- Sets are ranked by the priorities of their arrivals, as the shape looks at them.
-use Rattle.std.proofs.Common.{◌≡◌, ◌↔◌, ℕ, zero, suc, ◌+◌, ◌%◌, ◌<◌, ◌≤◌, ◌⊎◌, inl, inr, Bool, true, false, List, [], ◌∷◌, Some, None}
-use Rattle.std.proofs.Common.{length, arith, refl, sym, subst, ◌∙◌}
-use Rattle.std.specs.List.{Contains, slice_index}
-use Rattle.std.proofs.lemmas.List.Kept.{AllPairs-from_increasing}
-use Rattle.pg_lists.proofs.Contained.{Rises, contains_none, contains_here, contains_later, contains_cases, pairs_head, pairs_tail}
-use Rattle.std.specs.List.Sorted.{IsStrictlyIncreasing}
-use Rattle.std.proofs.lemmas.Bool.{cases_lt}
-use Rattle.pg_arena.specs.declared.player.Player.{Player}
-use Rattle.pg_arena.specs.declared.player.Player.TheVariants.{Even, Odd}
-use Rattle.pg_arena.specs.Games.{HasParityOf}
-use Rattle.pg_automaton.specs.declared.shape.Shape.{Shape}
-use Rattle.pg_automaton.specs.declared.shape.Shape.TheVariants.{MaxEven, MaxOdd, MinEven, MinOdd, Always, Never}
-use Rattle.pg_automaton.specs.Automata.{last, deciding}
-use Rattle.pg_synth.specs.AutomatonGames.{set_priority, none_priority}
+use Rattle.pg_synth.proofs.Common.{◌≡◌, ◌↔◌, ℕ, zero, suc, ◌+◌, ◌%◌, ◌<◌, ◌≤◌, ◌⊎◌, inl, inr, Bool, true, false, List, [], ◌∷◌, Some, None}
+use Rattle.pg_synth.proofs.Common.{length, arith, refl, sym, subst, ◌∙◌, Contains, slice_index, AllPairs-from_increasing, Rises}
+use Rattle.pg_synth.proofs.Common.{contains_none, contains_here, contains_later, contains_cases, pairs_head, pairs_tail}
+use Rattle.pg_synth.proofs.Common.{IsStrictlyIncreasing, cases_lt, Player, Even, Odd, HasParityOf, Shape, MaxEven, MaxOdd, MinEven, MinOdd}
+use Rattle.pg_synth.proofs.Common.{Always, Never, last, deciding, set_priority, none_priority}
 
 -- the last two shapes have no set, and the others have one at least
 abbrev pub HasSets : Shape → ℕ → Type 0

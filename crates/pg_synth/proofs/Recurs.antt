@@ -1,10 +1,6 @@
 -- The greatest recurring priority of a traced play is the rank of the foremost recurring set.
-use Rattle.std.proofs.Common.{◌≡◌, ◌↔◌, ℕ, zero, suc, ◌+◌, ◌*◌, ◌-◌, ◌/◌, ◌%◌, ◌<◌, ◌≤◌, ◌⊎◌, inl, inr, Bool, true, false, List, arith, sym, subst, ◌∙◌}
-use Rattle.std.specs.List.{Contains}
-use Rattle.std.proofs.lemmas.Bool.{cases_lt, cases_eq}
-use Rattle.pg_check.specs.Plays.{IsGreatestRecurring}
-use Rattle.pg_automaton.specs.declared.shape.Shape.{Shape}
-use Rattle.pg_synth.specs.AutomatonGames.{set_priority, none_priority}
+use Rattle.pg_synth.proofs.Common.{◌≡◌, ◌↔◌, ℕ, zero, suc, ◌+◌, ◌*◌, ◌-◌, ◌/◌, ◌%◌, ◌<◌, ◌≤◌, ◌⊎◌, inl, inr, Bool, true, false, List, arith}
+use Rattle.pg_synth.proofs.Common.{sym, subst, ◌∙◌, Contains, cases_lt, cases_eq, IsGreatestRecurring, Shape, set_priority, none_priority}
 use Rattle.pg_synth.proofs.Ranks.{IsForemost, IsEmpty, rank_rises, rank_same, none_lowest}
 
 -- what a play meets whose run meets the sets `sets t` at step t: at its even places from 2 on the

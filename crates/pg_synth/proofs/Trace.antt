@@ -1,16 +1,10 @@
 -- The play that a word traces.
-use Rattle.std.proofs.Common.{◌≡◌, ℕ, zero, suc, ◌+◌, ◌*◌, ◌-◌, ◌/◌, ◌%◌, ◌^◌, ◌<◌, ◌≤◌, ◌⊎◌, inl, inr, cond, eqb, List, [], ◌∷◌, length}
-use Rattle.std.proofs.Common.{slice_index_or, Option, Some, None, arith, refl, sym, subst, ap, ◌∙◌}
-use Rattle.std.proofs.lemmas.Bool.{cases_lt, cases_eq}
-use Rattle.std.proofs.lemmas.List.Kept.{AllPairs-from_increasing}
-use Rattle.pg_arena.specs.Games.{GameVertex, IsGame, IsEdge, vertex_at, identifiers}
-use Rattle.pg_automaton.specs.Automata.{Step, Automaton, IsAutomaton, next}
-use Rattle.pg_synth.specs.Letters.{input_of, output_of}
-use Rattle.pg_automaton.specs.Words.{IsWord, step_from, step_at, target_of, state_after}
-use Rattle.pg_synth.specs.AutomatonGames.{arrival_of, IsPlaceOf, IsArrival, Moves, StandsFor, IsGameOfAutomaton}
-use Rattle.pg_synth.specs.Tracing.{arrival_after, answer_at, answer_after, Traces}
-use Rattle.pg_synth.specs.declared.place.Place.{Place}
-use Rattle.pg_synth.specs.declared.place.Place.TheVariants.{Dead}
+use Rattle.pg_synth.proofs.Common.{◌≡◌, ℕ, zero, suc, ◌+◌, ◌*◌, ◌-◌, ◌/◌, ◌%◌, ◌^◌, ◌<◌, ◌≤◌, ◌⊎◌, inl, inr, cond, eqb, List, [], ◌∷◌}
+use Rattle.pg_synth.proofs.Common.{length, slice_index_or, Option, Some, None, arith, refl, sym, subst, ap, ◌∙◌, cases_lt, cases_eq}
+use Rattle.pg_synth.proofs.Common.{AllPairs-from_increasing, GameVertex, IsGame, IsEdge, vertex_at, identifiers, Step, Automaton}
+use Rattle.pg_synth.proofs.Common.{IsAutomaton, next, input_of, output_of, IsWord, step_from, step_at, target_of, state_after, arrival_of}
+use Rattle.pg_synth.proofs.Common.{IsPlaceOf, IsArrival, Moves, StandsFor, IsGameOfAutomaton, arrival_after, answer_at, answer_after}
+use Rattle.pg_synth.proofs.Common.{Traces, Place, Dead}
 use Rattle.pg_synth.proofs.Letters.{whole, input_in, output_in}
 
 -- ---- two vertices of one place are one

@@ -1,18 +1,9 @@
 -- The vertices of a game by their identifiers, and what one line says of them.
-use Rattle.std.proofs.Common.{◌≡◌, ◌≢◌, ℕ, ◌<◌, Bool, false, List, length, get_or, Result, Err, sym, ap, subst, ◌∙◌, arith, inl, inr}
-use Rattle.std.proofs.lemmas.Bool.Decides.{nat_tests}
-use Rattle.std.specs.Prelude.{Contains}
-use Rattle.std.specs.List.Sorted.{IsStrictlyIncreasing, IsBinarySearchResult}
-use Rattle.std.specs.Ordering.{nat_cmp}
-use Rattle.std.proofs.lemmas.Bool.{cases_lt}
-use Rattle.std.proofs.lemmas.List.{get_or-map, get_or_default, length-map}
-use Rattle.std.proofs.lemmas.List.Kept.{AllPairs-from_increasing}
-use Rattle.std.proofs.lemmas.List.Sorted.{searched}
-use Rattle.std.proofs.lemmas.Map.Keys.{sorted_from_strictly_increasing, non_decreasing_from_sorted}
-use Rattle.pg_arena.specs.Games.{GameVertex, nowhere, identifiers, identifier, successors, IsEdge, IsGame}
-use Rattle.pg_text.specs.declared.solution_line.SolutionLine.{SolutionLine}
-use Rattle.pg_text.specs.SolutionText.{Fits, IsUnknown}
-use Rattle.pg_text.specs.Mirrors.SolutionReading.{is_seen, LeadsNowhere, IsUnmarked}
+use Rattle.pg_text.proofs.Common.{◌≡◌, ◌≢◌, ℕ, ◌<◌, Bool, false, List, length, get_or, Result, Err, sym, ap, subst, ◌∙◌, arith, inl, inr}
+use Rattle.pg_text.proofs.Common.{nat_tests, Contains, IsStrictlyIncreasing, IsBinarySearchResult, nat_cmp, cases_lt, get_or-map}
+use Rattle.pg_text.proofs.Common.{get_or_default, length-map, AllPairs-from_increasing, searched, sorted_from_strictly_increasing}
+use Rattle.pg_text.proofs.Common.{non_decreasing_from_sorted, GameVertex, nowhere, identifiers, identifier, successors, IsEdge, IsGame}
+use Rattle.pg_text.proofs.Common.{SolutionLine, Fits, IsUnknown, is_seen, LeadsNowhere, IsUnmarked}
 
 identifier_at : (game : List GameVertex) (v : ℕ) → v < length game → get_or (identifiers game) v 0 ≡ identifier game v
 identifier_at game v within = get_or-map (λ (x : GameVertex). x.identifier) game v nowhere 0 within

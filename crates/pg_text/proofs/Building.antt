@@ -1,26 +1,13 @@
 -- Lines read one after another into a builder.
-use Rattle.std.proofs.Common.{◌≡◌, ◌⊎◌, ℕ, length, inl, inr, List, [], ◌∷◌, ◌++◌, map, Option, Some, None, Result, Ok, Err, refl}
-use Rattle.std.proofs.Common.{sym, ap, subst, ◌∙◌, append_assoc}
-use Rattle.std.specs.Prelude.{codes}
-use Rattle.std.specs.List.{flat_map}
-use Rattle.std.proofs.lemmas.List.{map-append, append-nil}
-use Rattle.std.proofs.lemmas.Grind.{flat_map-append}
-use Rattle.pg_arena.specs.declared.fault.ArenaFault.{ArenaFault}
+use Rattle.pg_text.proofs.Common.{◌≡◌, ◌⊎◌, ℕ, length, inl, inr, List, [], ◌∷◌, ◌++◌, map, Option, Some, None, Result, Ok, Err, refl, sym}
+use Rattle.pg_text.proofs.Common.{ap, subst, ◌∙◌, append_assoc, codes, flat_map, map-append, append-nil, flat_map-append, ArenaFault, Line}
+use Rattle.pg_text.proofs.Common.{counted, add_fault, Answers, Accepts, Refusal, Memory, Token, TokenFault, NumberTooLarge, arena_fault}
+use Rattle.pg_text.proofs.Common.{token_fault_of, fault_of, Lexeme, number, word, end, Begins, Spells, clause_lexemes, line_lexemes, IsText}
+use Rattle.pg_text.proofs.Common.{IsNoText, HasBadLine, ◌>>=◌, Read, Fails, item, stop, items_at, clause_at, item_at, body_at, lines_at}
+use Rattle.pg_text.proofs.Common.{BuildsLines, none_is_some}
 use Rattle.pg_arena.specs.declared.fault.ArenaFault.TheVariants as arena
-use Rattle.pg_arena.specs.Lines.{Line, counted, add_fault, Answers, Accepts}
-use Rattle.pg_text.specs.declared.reading.Refusal.{Refusal}
-use Rattle.pg_text.specs.declared.reading.Refusal.TheVariants.{Memory, Token}
-use Rattle.pg_text.specs.declared.tokens.TokenFault.{TokenFault}
-use Rattle.pg_text.specs.declared.tokens.TokenFault.TheVariants.{Syntax, NumberTooLarge}
-use Rattle.pg_text.specs.Mirrors.Refusals.{arena_fault, token_fault_of, fault_of}
-use Rattle.pg_text.specs.Lexemes.{Lexeme, number, word, end, Begins, Spells, clause_lexemes}
-use Rattle.pg_text.specs.GameText.{line_lexemes, IsText, IsNoText, HasBadLine}
-use Rattle.pg_text.specs.Mirrors.Steps.{◌>>=◌, Read, Fails, item, stop, items_at}
-use Rattle.pg_text.specs.Mirrors.Parts.{clause_at}
-use Rattle.pg_text.specs.Mirrors.GameScan.{item_at, body_at, lines_at}
-use Rattle.pg_text.specs.Mirrors.Building.{BuildsLines}
+use Rattle.pg_text.specs.declared.tokens.TokenFault.TheVariants.{Syntax}
 use Rattle.pg_text.proofs.Steps.{bind_ok, ok, err, ok_is, err_is_ok}
-use Rattle.pg_lists.proofs.Steps.{none_is_some}
 use Rattle.pg_text.proofs.Items.{with_front, nothing_yet, goes_on, ends, items_err}
 use Rattle.pg_text.proofs.Spelling.{spells_append}
 use Rattle.pg_text.proofs.Parts.{clause_takes, clause_absent}

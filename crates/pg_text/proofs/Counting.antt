@@ -1,15 +1,8 @@
 -- Lines of which a repeated successor counts once, as they are read.
-use Rattle.std.proofs.Common.{◌≡◌, ℕ, List, [], ◌∷◌, ◌++◌, Option, Ok, Err, refl, sym, ap, ◌∙◌}
-use Rattle.pg_lists.specs.Rising.{put, rising}
-use Rattle.pg_lists.proofs.Rising.{rising_put}
-use Rattle.pg_arena.specs.declared.player.Player.{Player}
-use Rattle.pg_arena.specs.Lines.{Line, counted}
-use Rattle.pg_text.specs.declared.tokens.TokenFault.{TokenFault}
-use Rattle.pg_text.specs.declared.reading.Refusal.{Refusal}
-use Rattle.pg_text.specs.declared.reading.Refusal.TheVariants.{Memory, Token}
-use Rattle.pg_text.specs.Mirrors.Steps.{◌>>=◌, Read, Fails, Step, item, stop, items_at}
-use Rattle.pg_text.specs.Mirrors.Parts.{natural_at, numbers_at, further_at}
-use Rattle.pg_text.specs.Mirrors.GameScan.{owner_at, ending_at, line_at, item_at, successors_at, counted_line_at, counted_step, counted_item_at}
+use Rattle.pg_text.proofs.Common.{◌≡◌, ℕ, List, [], ◌∷◌, ◌++◌, Option, Ok, Err, refl, sym, ap, ◌∙◌, put, rising, rising_put, Player, Line}
+use Rattle.pg_text.proofs.Common.{counted, TokenFault, Refusal, Memory, Token, ◌>>=◌, Read, Fails, Step, item, stop, items_at, natural_at}
+use Rattle.pg_text.proofs.Common.{numbers_at, further_at, owner_at, ending_at, line_at, item_at, successors_at, counted_line_at}
+use Rattle.pg_text.proofs.Common.{counted_step, counted_item_at}
 use Rattle.pg_text.proofs.Steps.{bind_ok, ok, ok_is}
 use Rattle.pg_text.proofs.FirstBytes.{line_of}
 use Rattle.pg_text.proofs.Items.{with_front}

@@ -1,22 +1,11 @@
 -- The first byte behind white space says which token stands there.
-use Rattle.std.proofs.Common.{◌≡◌, ◌≢◌, ℕ, ◌≤◌, Bool, true, false, eqb, get_or, List, [], ◌∷◌, ◌++◌, length, Option, None, Result, Ok, Err}
-use Rattle.std.proofs.Common.{IfErr, Bor, refl, sym, ap, subst, ◌∙◌, arith}
-use Rattle.std.proofs.lemmas.Bool.Decides.{nat_tests}
-use Rattle.std.specs.Prelude.{option_map}
-use Rattle.std.specs.Result.{result_ok}
-use Rattle.pg_arena.specs.Lines.{Line}
-use Rattle.pg_text.specs.Lexemes.{Lexeme, number, semicolon, comma, quoted, end, is_space, IsSpelt, after_space}
-use Rattle.pg_lists.specs.Bytes.{is_digit, Each, Stops}
-use Rattle.pg_text.specs.declared.tokens.TokenFault.{TokenFault}
-use Rattle.pg_text.specs.declared.tokens.TokenFault.TheVariants.{NumberTooLarge}
-use Rattle.pg_text.specs.Mirrors.Scan.{number_at, solid_at, lexeme_at, or_fault, token_at}
-use Rattle.pg_text.specs.Mirrors.Steps.{◌>>=◌, Read, Reads, Step, item, stop}
-use Rattle.pg_text.specs.Mirrors.Parts.{misplaced_in, misplaced, number_in, natural_at, string_in, string_at, semicolon_in, semicolon_at}
-use Rattle.pg_text.specs.Mirrors.Parts.{further_in, further_at}
-use Rattle.pg_text.specs.Mirrors.GameScan.{ending_in, ending_at, line_at, item_in, item_at}
+use Rattle.pg_text.proofs.Common.{◌≡◌, ◌≢◌, ℕ, ◌≤◌, Bool, true, false, eqb, get_or, List, [], ◌∷◌, ◌++◌, length, Option, None, Result, Ok}
+use Rattle.pg_text.proofs.Common.{Err, IfErr, Bor, refl, sym, ap, subst, ◌∙◌, arith, nat_tests, option_map, result_ok, Line, Lexeme, number}
+use Rattle.pg_text.proofs.Common.{semicolon, comma, quoted, end, is_space, IsSpelt, after_space, is_digit, Each, Stops, TokenFault}
+use Rattle.pg_text.proofs.Common.{NumberTooLarge, number_at, solid_at, lexeme_at, or_fault, token_at, ◌>>=◌, Read, Reads, Step, item, stop}
+use Rattle.pg_text.proofs.Common.{misplaced_in, misplaced, number_in, natural_at, string_in, string_at, semicolon_in, semicolon_at}
+use Rattle.pg_text.proofs.Common.{further_in, further_at, ending_in, ending_at, line_at, item_in, item_at, some, run_stops}
 use Rattle.pg_text.proofs.Steps.{ok, err}
-use Rattle.pg_lists.proofs.Steps.{some}
-use Rattle.pg_lists.proofs.Runs.{run_stops}
 use Rattle.pg_text.proofs.Lexing.{solid_digit, solid_again, token_fronts}
 
 -- ---- digits

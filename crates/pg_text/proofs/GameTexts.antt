@@ -1,14 +1,9 @@
 -- The game of the lines that are read.
-use Rattle.std.proofs.Common.{◌≡◌, ◌≢◌, ℕ, List, map, Ok, Err, refl, sym, ap, subst, ◌∙◌, inl, inr}
-use Rattle.pg_arena.specs.declared.fault.ArenaFault.{ArenaFault}
+use Rattle.pg_text.proofs.Common.{◌≡◌, ◌≢◌, ℕ, List, map, Ok, Err, refl, sym, ap, subst, ◌∙◌, inl, inr, ArenaFault, GameVertex, Line}
+use Rattle.pg_text.proofs.Common.{counted, IsGameOf, FinishFails, TextFault, OutOfMemory, Syntax, Arena, arena_fault, IsText, IsGameText}
+use Rattle.pg_text.proofs.Common.{Refuses, HasNoGame, BuildsLines}
 use Rattle.pg_arena.specs.declared.fault.ArenaFault.TheVariants as arena
-use Rattle.pg_arena.specs.Games.{GameVertex}
-use Rattle.pg_arena.specs.Lines.{Line, counted, IsGameOf, FinishFails}
-use Rattle.pg_text.specs.declared.fault.TextFault.{TextFault}
-use Rattle.pg_text.specs.declared.fault.TextFault.TheVariants.{OutOfMemory, Syntax, NumberTooLarge, Arena}
-use Rattle.pg_text.specs.Mirrors.Refusals.{arena_fault}
-use Rattle.pg_text.specs.GameText.{IsText, IsGameText, Refuses, HasNoGame}
-use Rattle.pg_text.specs.Mirrors.Building.{BuildsLines}
+use Rattle.pg_text.specs.declared.fault.TextFault.TheVariants.{NumberTooLarge}
 use Rattle.pg_text.proofs.Steps.{ok_is}
 use Rattle.pg_text.proofs.Texts.{lines_again}
 

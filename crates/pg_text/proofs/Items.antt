@@ -1,10 +1,7 @@
 -- Items one after another, as a loop reads them.
-use Rattle.std.proofs.Common.{◌≡◌, ℕ, zero, suc, ◌<◌, List, [], ◌∷◌, ◌++◌, length, Ok, Err, refl, sym, ap, ◌∙◌, append_assoc, arith}
-use Rattle.pg_text.specs.declared.tokens.TokenFault.{TokenFault}
-use Rattle.std.proofs.lemmas.List.{append-nil}
-use Rattle.pg_text.specs.declared.reading.Refusal.{Refusal}
-use Rattle.pg_text.specs.declared.reading.Refusal.TheVariants.{Memory, Token}
-use Rattle.pg_text.specs.Mirrors.Steps.{◌>>=◌, Read, Fails, Step, item, stop, after_step, items_within, items_at}
+use Rattle.pg_text.proofs.Common.{◌≡◌, ℕ, zero, suc, ◌<◌, List, [], ◌∷◌, ◌++◌, length, Ok, Err, refl, sym, ap, ◌∙◌, append_assoc, arith}
+use Rattle.pg_text.proofs.Common.{TokenFault, append-nil, Refusal, Memory, Token, ◌>>=◌, Read, Fails, Step, item, stop, after_step}
+use Rattle.pg_text.proofs.Common.{items_within, items_at}
 
 -- each item takes a byte at least
 pub record Shrinks {A E : Type 0} (step : List ℕ → Read (Step A E × List ℕ)) : Type 0 where

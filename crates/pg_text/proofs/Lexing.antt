@@ -1,22 +1,14 @@
 -- A token that is read is spelt at the front, and a token that is spelt there is read.
-use Rattle.std.proofs.Common.{◌≡◌, ◌≢◌, ℕ, ◌+◌, ◌^◌, ◌<◌, ◌≤◌, Bool, true, false, ltb, eqb, get_or, List, [], ◌∷◌, ◌++◌, length, drop, Some}
-use Rattle.std.proofs.Common.{Result, Ok, Err, IfOk, IfErr, IsOkAnd, Bor, refl, sym, ap, subst, ◌∙◌, inl, inr, arith, append_assoc}
-use Rattle.std.proofs.lemmas.Bool.Decides.{nat_tests}
-use Rattle.std.specs.Prelude.{nat_le}
-use Rattle.std.specs.List.{prefix_len, take_while}
-use Rattle.std.proofs.lemmas.Bool.{ltb-true, lt-ltb, eqb-true, leb-true, lt-leb, ne_eqb, and_parts, and_right}
-use Rattle.std.proofs.lemmas.List.{drop_at, length-append, drop-drop, drop_more}
-use Rattle.std.proofs.lemmas.List.Sums.{prefix_len_stops}
-use Rattle.pg_text.specs.Lexemes.{Lexeme, lexeme, number, word, semicolon, comma, quoted, end, is_space, is_letter, is_plain, IsSpelt}
-use Rattle.pg_text.specs.Lexemes.{Begins, after_space, token_fault}
-use Rattle.pg_lists.specs.Bytes.{is_digit, Each, Stops, value_of}
+use Rattle.pg_text.proofs.Common.{◌≡◌, ◌≢◌, ℕ, ◌+◌, ◌^◌, ◌<◌, ◌≤◌, Bool, true, false, ltb, eqb, get_or, List, [], ◌∷◌, ◌++◌, length, drop}
+use Rattle.pg_text.proofs.Common.{Some, Result, Ok, Err, IfOk, IfErr, IsOkAnd, Bor, refl, sym, ap, subst, ◌∙◌, inl, inr, arith}
+use Rattle.pg_text.proofs.Common.{append_assoc, nat_tests, nat_le, prefix_len, take_while, ltb-true, lt-ltb, eqb-true, leb-true, lt-leb}
+use Rattle.pg_text.proofs.Common.{ne_eqb, and_parts, and_right, drop_at, length-append, drop-drop, drop_more, prefix_len_stops, Lexeme}
+use Rattle.pg_text.proofs.Common.{lexeme, number, word, semicolon, comma, quoted, end, is_space, is_letter, is_plain, IsSpelt, Begins}
+use Rattle.pg_text.proofs.Common.{after_space, token_fault, is_digit, Each, Stops, value_of, TokenFault, number_at, word_at, quoted_at}
+use Rattle.pg_text.proofs.Common.{solid_at, lexeme_at, token_at, Reads, chosen, some, some_is, none, none_is_some, run_each, run_stops}
+use Rattle.pg_text.proofs.Common.{run_parts, run_again, rest_again, run_is, one_more}
 use Rattle.pg_text.specs.declared.tokens.Token.{Token}
-use Rattle.pg_text.specs.declared.tokens.TokenFault.{TokenFault}
-use Rattle.pg_text.specs.Mirrors.Scan.{number_at, word_at, quoted_at, solid_at, lexeme_at, token_at}
-use Rattle.pg_text.specs.Mirrors.Steps.{Reads}
 use Rattle.pg_text.proofs.Steps.{ok_is, err_is_ok}
-use Rattle.pg_lists.proofs.Steps.{chosen, some, some_is, none, none_is_some}
-use Rattle.pg_lists.proofs.Runs.{run_each, run_stops, run_parts, run_again, rest_again, run_is, one_more}
 
 -- a token at the very front
 pub record Fronts (bytes : List ℕ) (token : Lexeme) (rest : List ℕ) : Type 0 where

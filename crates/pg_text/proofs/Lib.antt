@@ -21,3 +21,4 @@ pub mod Marking
 pub mod SolutionReads
 pub mod SolutionPrinting
 pub mod SolutionReadingBack
+mod Common

@@ -1,23 +1,11 @@
 -- Lines are accepted one after another exactly if they are within the limits.
-use Rattle.std.proofs.Common.{◌≡◌, ◌≢◌, ℕ, ◌+◌, ◌-◌, ◌≤◌, ◌<◌, true, false, eqb, List, [], ◌∷◌, ◌++◌, length, map, None, refl, sym, ap}
-use Rattle.std.proofs.Common.{subst, ◌∙◌, arith, append_assoc}
-use Rattle.std.specs.Prelude.{Contains}
-use Rattle.std.specs.List.{list_any, AllByRecursion, IsDistinct}
-use Rattle.std.proofs.lemmas.Bool.Decides.{nat_tests}
-use Rattle.std.proofs.lemmas.Bool.{eqb-false, ne_eqb}
-use Rattle.std.proofs.lemmas.List.{length-append, map-append, append-nil}
-use Rattle.std.proofs.lemmas.List.Sums.{sum_by-append, sum_by-cons}
-use Rattle.std.proofs.lemmas.List.Elements.{recursion_from_All, All-from_recursion}
-use Rattle.std.proofs.lemmas.Cmp.{nat_eq_equiv}
-use Rattle.std.proofs.lemmas.Map.Keys.{IsDistinct-push, IsDistinct-head, IsDistinct-tail}
-use Rattle.pg_arena.specs.Games.{GameVertex, identifiers, edge_count}
-use Rattle.pg_arena.specs.Lines.{Line, counted, add_fault, is_named, Accepts, IsGameOf}
-use Rattle.pg_lists.specs.Rising.{rising}
-use Rattle.pg_lists.proofs.Contained.{contains_mapped}
-use Rattle.pg_lists.proofs.Rising.{rising_length, contains_rising}
-use Rattle.pg_arena.proofs.Unique.{no_unknown}
+use Rattle.pg_text.proofs.Common.{◌≡◌, ◌≢◌, ℕ, ◌+◌, ◌-◌, ◌≤◌, ◌<◌, true, false, eqb, List, [], ◌∷◌, ◌++◌, length, map, None, refl, sym, ap}
+use Rattle.pg_text.proofs.Common.{subst, ◌∙◌, arith, append_assoc, Contains, list_any, AllByRecursion, IsDistinct, nat_tests, eqb-false}
+use Rattle.pg_text.proofs.Common.{ne_eqb, length-append, map-append, append-nil, sum_by-append, sum_by-cons, recursion_from_All}
+use Rattle.pg_text.proofs.Common.{All-from_recursion, nat_eq_equiv, IsDistinct-push, IsDistinct-head, IsDistinct-tail, GameVertex}
+use Rattle.pg_text.proofs.Common.{identifiers, edge_count, Line, counted, add_fault, is_named, Accepts, IsGameOf, rising, contains_mapped}
+use Rattle.pg_text.proofs.Common.{rising_length, contains_rising, no_unknown, AreWithinLimits}
 use Rattle.pg_arena.proofs.Adding.{accepted as line_accepted}
-use Rattle.pg_text.specs.Limits.{AreWithinLimits}
 
 abbrev size : Line → ℕ
 size line = length line.successors

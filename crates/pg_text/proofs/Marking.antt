@@ -1,21 +1,12 @@
 -- Lines taken one after another into a solution, with a mark for each vertex that one of them names.
-use Rattle.std.proofs.Common.{◌≡◌, ◌≢◌, ℕ, ◌+◌, ◌≤◌, ◌<◌, Bool, true, false, cond, eqb, List, [], ◌∷◌, ◌++◌, length, Option, Some, None}
-use Rattle.std.proofs.Common.{refl, sym, ap, subst, ◌∙◌, arith, inl, inr}
-use Rattle.std.proofs.lemmas.Bool.Decides.{nat_tests}
-use Rattle.std.specs.Prelude.{◌&&◌, ◌||◌, is_some, option_map, replicate, slice_set}
-use Rattle.std.specs.List.{list_any, AllByRecursion}
-use Rattle.std.proofs.lemmas.Bool.{eqb-true, eq-eqb, ne_eqb, cases_eq, cases_Bool}
-use Rattle.std.proofs.lemmas.List.{get_or-set_same, get_or-set_other, get_or-replicate, length-set, length-replicate, ext_get_or}
-use Rattle.std.proofs.lemmas.List.Sums.{sum_by-append, sum_by-cons}
-use Rattle.pg_arena.specs.declared.player.Player.{Player}
-use Rattle.pg_arena.specs.declared.player.Player.TheVariants.{Even, Odd}
-use Rattle.pg_arena.specs.Games.{GameVertex, identifier, IsEdge, IsGame}
-use Rattle.pg_text.specs.declared.answer.Answer.{Answer}
-use Rattle.pg_text.specs.declared.solution_line.SolutionLine.{SolutionLine}
-use Rattle.pg_text.specs.Solutions.{unanswered, answer_at, winner, choice, IsSolution}
-use Rattle.pg_text.specs.SolutionText.{is_same, owns, counting_strategy, line_count, Says, Fits, AreTaken, has_line, answers, AreLines, IsSolutionText}
-use Rattle.pg_text.specs.Mirrors.SolutionReading.{is_seen, Puts, State, is_complete}
-use Rattle.pg_lists.proofs.Steps.{some, some_is, none, none_is_some, chosen}
+use Rattle.pg_text.proofs.Common.{◌≡◌, ◌≢◌, ℕ, ◌+◌, ◌≤◌, ◌<◌, Bool, true, false, cond, eqb, List, [], ◌∷◌, ◌++◌, length, Option, Some, None}
+use Rattle.pg_text.proofs.Common.{refl, sym, ap, subst, ◌∙◌, arith, inl, inr, nat_tests, ◌&&◌, ◌||◌, is_some, option_map, replicate}
+use Rattle.pg_text.proofs.Common.{slice_set, list_any, AllByRecursion, eqb-true, eq-eqb, ne_eqb, cases_eq, cases_Bool, get_or-set_same}
+use Rattle.pg_text.proofs.Common.{get_or-set_other, get_or-replicate, length-set, length-replicate, ext_get_or, sum_by-append, sum_by-cons}
+use Rattle.pg_text.proofs.Common.{Player, Even, Odd, GameVertex, identifier, IsEdge, IsGame, Answer, SolutionLine, unanswered, answer_at}
+use Rattle.pg_text.proofs.Common.{winner, choice, IsSolution, is_same, owns, counting_strategy, line_count, Says, Fits, AreTaken, has_line}
+use Rattle.pg_text.proofs.Common.{answers, AreLines, IsSolutionText, is_seen, Puts, State, is_complete, some, some_is, none, none_is_some}
+use Rattle.pg_text.proofs.Common.{chosen}
 use Rattle.pg_text.proofs.Answering.{same_vertex}
 
 -- ---- players

@@ -1,21 +1,11 @@
 -- Lines that can't be taken, known by the tokens with which they begin.
-use Rattle.std.proofs.Common.{◌≡◌, ◌≢◌, ℕ, ◌<◌, Bool, true, false, cond, List, [], ◌∷◌, ◌++◌, length, Option, Some, None, Err, refl, sym}
-use Rattle.std.proofs.Common.{ap, subst, ◌∙◌, inl, inr}
-use Rattle.pg_arena.specs.declared.player.Player.{Player}
-use Rattle.pg_arena.specs.declared.player.Player.TheVariants.{Even, Odd}
-use Rattle.pg_arena.specs.Games.{GameVertex, identifier, IsEdge, IsGame}
-use Rattle.pg_text.specs.declared.solution_line.SolutionLine.{SolutionLine}
-use Rattle.pg_text.specs.declared.solution_text.Misfit.{Misfit}
-use Rattle.pg_text.specs.declared.solution_text.Misfit.TheVariants.{NotOfGame, Repeated}
-use Rattle.pg_text.specs.Lexemes.{Lexeme, number, semicolon, Begins, Spells}
-use Rattle.pg_text.specs.GameText.{player_number}
-use Rattle.pg_text.specs.declared.tokens.TokenFault.{TokenFault}
-use Rattle.pg_text.specs.Mirrors.Parts.{natural_at}
-use Rattle.pg_text.specs.Mirrors.GameScan.{owner_at}
-use Rattle.pg_text.specs.SolutionText.{owns, strategy_lexemes, answer_lexemes, Fits, StartsLine, IsUnknown, IsNoMove, BeginsUnfit}
-use Rattle.pg_text.specs.Mirrors.SolutionReading.{is_seen, IsLost, IsUnmarked, IsMisfit, BeginsMisfit, BeginsWell}
+use Rattle.pg_text.proofs.Common.{◌≡◌, ◌≢◌, ℕ, ◌<◌, Bool, true, false, cond, List, [], ◌∷◌, ◌++◌, length, Option, Some, None, Err, refl}
+use Rattle.pg_text.proofs.Common.{sym, ap, subst, ◌∙◌, inl, inr, Player, Even, Odd, GameVertex, identifier, IsEdge, IsGame, SolutionLine}
+use Rattle.pg_text.proofs.Common.{Misfit, NotOfGame, Repeated, Lexeme, number, semicolon, Begins, Spells, player_number, TokenFault}
+use Rattle.pg_text.proofs.Common.{natural_at, owner_at, owns, strategy_lexemes, answer_lexemes, Fits, StartsLine, IsUnknown, IsNoMove}
+use Rattle.pg_text.proofs.Common.{BeginsUnfit, is_seen, IsLost, IsUnmarked, IsMisfit, BeginsMisfit, BeginsWell, some, some_is, none}
+use Rattle.pg_text.proofs.Common.{none_is_some}
 use Rattle.pg_text.proofs.Steps.{ok_is, err_is_ok}
-use Rattle.pg_lists.proofs.Steps.{some, some_is, none, none_is_some}
 use Rattle.pg_text.proofs.Lexing.{token_again}
 use Rattle.pg_text.proofs.Parts.{natural_again}
 use Rattle.pg_text.proofs.Takes.{owner_again}

@@ -1,12 +1,7 @@
 -- Digits, read one after another.
-use Rattle.std.proofs.Common.{◌≡◌, ℕ, ◌+◌, ◌-◌, ◌*◌, ◌^◌, ◌≤◌, ◌<◌, true, false, List, [], ◌∷◌, take, drop, Some, None, length, get_or, arith, refl, sym, subst}
-use Rattle.std.proofs.lemmas.Bool.Decides.{nat_tests}
-use Rattle.std.specs.List.{prefix_len, take_while}
-use Rattle.std.proofs.lemmas.List.{take_rest}
-use Rattle.pg_text.specs.Lexemes.{number}
-use Rattle.pg_lists.specs.Bytes.{is_digit, value_of}
-use Rattle.pg_text.specs.Mirrors.Scan.{number_at}
-use Rattle.pg_lists.proofs.Runs.{one_more, none_more, value_from, value_grows}
+use Rattle.pg_text.proofs.Common.{◌≡◌, ℕ, ◌+◌, ◌-◌, ◌*◌, ◌^◌, ◌≤◌, ◌<◌, true, false, List, [], ◌∷◌, take, drop, Some, None, length, get_or}
+use Rattle.pg_text.proofs.Common.{arith, refl, sym, subst, nat_tests, prefix_len, take_while, take_rest, number, is_digit, value_of}
+use Rattle.pg_text.proofs.Common.{number_at, one_more, none_more, value_from, value_grows}
 
 -- of the number at the front of the bytes digits of this value are read, and this is the rest
 pub record IsReading (bytes : List ℕ) (value : ℕ) (rest : List ℕ) : Type 0 where

@@ -1,19 +1,10 @@
 -- The parts of texts: what is read is spelt, and what is spelt is read.
-use Rattle.std.proofs.Common.{◌≡◌, ◌≢◌, ℕ, List, [], ◌∷◌, ◌++◌, Option, Some, None, Ok, Err, ◌∙◌, refl, sym, ap, subst, arith, inl, inr}
-use Rattle.std.proofs.lemmas.Bool.Decides.{nat_tests}
-use Rattle.std.specs.Str.{bytes_eq}
-use Rattle.std.specs.List.{flat_map, AllByRecursion}
-use Rattle.std.proofs.lemmas.Slice.Eq.{bytes_eq-Decides}
-use Rattle.pg_text.specs.Lexemes.{Lexeme, number, word, semicolon, comma, end, Begins, Spells, clause_lexemes}
-use Rattle.pg_text.specs.Numbers.{comma_number_lexemes, numbers_lexemes}
-use Rattle.pg_text.specs.declared.tokens.TokenFault.{TokenFault}
-use Rattle.pg_text.specs.declared.reading.Refusal.TheVariants.{Token}
-use Rattle.pg_text.specs.Mirrors.Steps.{◌>>=◌, Read, Step, item, stop, items_at}
-use Rattle.pg_text.specs.Mirrors.Scan.{token_at}
-use Rattle.pg_text.specs.Mirrors.Parts.{number_in, natural_at, word_in, name_at, semicolon_in, semicolon_at, end_in, end_at, further_in}
-use Rattle.pg_text.specs.Mirrors.Parts.{further_at, numbers_at, clause_in, clause_at}
+use Rattle.pg_text.proofs.Common.{◌≡◌, ◌≢◌, ℕ, List, [], ◌∷◌, ◌++◌, Option, Some, None, Ok, Err, ◌∙◌, refl, sym, ap, subst, arith, inl, inr}
+use Rattle.pg_text.proofs.Common.{nat_tests, bytes_eq, flat_map, AllByRecursion, bytes_eq-Decides, Lexeme, number, word, semicolon, comma}
+use Rattle.pg_text.proofs.Common.{end, Begins, Spells, clause_lexemes, comma_number_lexemes, numbers_lexemes, TokenFault, Token, ◌>>=◌}
+use Rattle.pg_text.proofs.Common.{Read, Step, item, stop, items_at, token_at, number_in, natural_at, word_in, name_at, semicolon_in}
+use Rattle.pg_text.proofs.Common.{semicolon_at, end_in, end_at, further_in, further_at, numbers_at, clause_in, clause_at, chosen, some}
 use Rattle.pg_text.proofs.Steps.{bind_ok, ok, ok_is}
-use Rattle.pg_lists.proofs.Steps.{chosen, some}
 use Rattle.pg_text.proofs.Lexing.{token_takes, token_again}
 use Rattle.pg_text.proofs.Items.{Shrinks, with_front, goes_on, ends, fails}
 use Rattle.pg_text.proofs.Spelling.{begins_shorter, spells_within, IsExact, items_take, items_again}

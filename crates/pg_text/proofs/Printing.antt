@@ -1,19 +1,11 @@
 -- What is written piece by piece is the layout.
-use Rattle.std.proofs.Common.{◌≡◌, ℕ, zero, suc, ◌-◌, ◌+◌, ◌<◌, ◌*◌, ◌≤◌, List, [], ◌∷◌, ◌++◌, length, map, take, drop, replicate, get_or}
-use Rattle.std.proofs.Common.{arith, Option, refl, sym, ap, subst, ◌∙◌, take-append-drop}
-use Rattle.std.proofs.lemmas.Bool.Decides.{nat_tests}
-use Rattle.std.specs.Prelude.{All, codes, decimal}
-use Rattle.std.specs.List.{flat_map, take-map}
-use Rattle.std.specs.Io.KnownBytes.{Appends}
-use Rattle.std.proofs.KnownBytes.{Appends-trans}
-use Rattle.std.proofs.lemmas.List.{take_more, take_at, take_all, length-map, map-append, flat_map_more, length-append, replicate-append-replicate}
+use Rattle.pg_text.proofs.Common.{◌≡◌, ℕ, zero, suc, ◌-◌, ◌+◌, ◌<◌, ◌*◌, ◌≤◌, List, [], ◌∷◌, ◌++◌, length, map, take, drop, replicate}
+use Rattle.pg_text.proofs.Common.{get_or, arith, Option, refl, sym, ap, subst, ◌∙◌, take-append-drop, nat_tests, All, codes, decimal}
+use Rattle.pg_text.proofs.Common.{flat_map, take-map, Appends, Appends-trans, take_more, take_at, take_all, length-map, map-append}
+use Rattle.pg_text.proofs.Common.{flat_map_more, length-append, replicate-append-replicate, decimal_digit, Contains-get_or, GameVertex}
+use Rattle.pg_text.proofs.Common.{IsGame, identifier, successors, vertex_at, nowhere, Line, line_of, lines_of, comma_number, line_text}
+use Rattle.pg_text.proofs.Common.{game_text}
 use Rattle.std.proofs.lemmas.List.Concat.{flat_map-append}
-use Rattle.std.proofs.lemmas.Fmt.{decimal_digit}
-use Rattle.std.proofs.lemmas.List.Elements.{Contains-get_or}
-use Rattle.pg_arena.specs.Games.{GameVertex, IsGame, identifier, successors, vertex_at, nowhere}
-use Rattle.pg_arena.specs.Lines.{Line, line_of, lines_of}
-use Rattle.pg_text.specs.Numbers.{comma_number}
-use Rattle.pg_text.specs.GameLayout.{line_text, game_text}
 
 -- successors are vertices
 pub successors_within : (game : List GameVertex) (v : ℕ) → IsGame game → All (λ w. w < length game) (successors game v)

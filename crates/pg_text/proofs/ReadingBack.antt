@@ -1,27 +1,12 @@
 -- The text of a game spells that game.
-use Rattle.std.proofs.Common.{◌≡◌, ◌≢◌, ℕ, zero, suc, ◌+◌, ◌-◌, ◌<◌, ◌≤◌, ◌^◌, eqb, List, [], ◌∷◌, ◌++◌, length, get_or, map, Some, None}
-use Rattle.std.proofs.Common.{IfSome, refl, ap, subst, ◌∙◌, arith}
-use Rattle.std.proofs.lemmas.Bool.Decides.{nat_tests}
-use Rattle.std.specs.Prelude.{decimal, codes}
-use Rattle.std.specs.List.{flat_map, AllByRecursion, IsDistinct}
-use Rattle.std.specs.List.Sorted.{IsStrictlyIncreasing}
-use Rattle.std.proofs.lemmas.Bool.{ne_eqb}
-use Rattle.std.proofs.lemmas.List.{length-map, get_or-map}
-use Rattle.std.proofs.lemmas.List.Sums.{sum_by-cons}
-use Rattle.std.proofs.lemmas.List.Elements.{All-get_or, All-from_get_or, All-map, recursion_from_All, All-from_recursion, Contains-get_or}
-use Rattle.std.proofs.lemmas.List.Sorted.{IsPermutation-refl}
-use Rattle.std.proofs.lemmas.List.Kept.{AllPairs-from_increasing}
-use Rattle.std.proofs.lemmas.Map.Keys.{IsDistinct-from_apart}
-use Rattle.pg_arena.specs.Games.{GameVertex, IsGame, IsWithinLimits, vertex_at, nowhere, identifier, identifiers, successors, edge_count}
-use Rattle.pg_arena.specs.Lines.{Line, counted, Accepts, line_of, lines_of, IsGameOf}
-use Rattle.pg_lists.proofs.Rising.{rises_already}
-use Rattle.pg_arena.proofs.Adding.{Passes}
-use Rattle.pg_arena.proofs.Unique.{one_game}
-use Rattle.pg_text.specs.Lexemes.{number, word, semicolon, end, is_plain, Begins}
-use Rattle.pg_lists.specs.Bytes.{Each}
-use Rattle.pg_text.specs.GameText.{line_lexemes, IsText, IsGameText}
-use Rattle.pg_text.specs.GameLayout.{line_text, game_text}
-use Rattle.pg_text.specs.ReadBack.{IsPrintable}
+use Rattle.pg_text.proofs.Common.{◌≡◌, ◌≢◌, ℕ, zero, suc, ◌+◌, ◌-◌, ◌<◌, ◌≤◌, ◌^◌, eqb, List, [], ◌∷◌, ◌++◌, length, get_or, map, Some}
+use Rattle.pg_text.proofs.Common.{None, IfSome, refl, ap, subst, ◌∙◌, arith, nat_tests, decimal, codes, flat_map, AllByRecursion}
+use Rattle.pg_text.proofs.Common.{IsDistinct, IsStrictlyIncreasing, ne_eqb, length-map, get_or-map, sum_by-cons, All-get_or}
+use Rattle.pg_text.proofs.Common.{All-from_get_or, All-map, recursion_from_All, All-from_recursion, Contains-get_or, IsPermutation-refl}
+use Rattle.pg_text.proofs.Common.{AllPairs-from_increasing, IsDistinct-from_apart, GameVertex, IsGame, IsWithinLimits, vertex_at, nowhere}
+use Rattle.pg_text.proofs.Common.{identifier, identifiers, successors, edge_count, Line, counted, Accepts, line_of, lines_of, IsGameOf}
+use Rattle.pg_text.proofs.Common.{rises_already, Passes, one_game, number, word, semicolon, end, is_plain, Begins, Each, line_lexemes}
+use Rattle.pg_text.proofs.Common.{IsText, IsGameText, line_text, game_text, IsPrintable}
 use Rattle.pg_text.proofs.Spelling.{spells_append}
 use Rattle.pg_text.proofs.Spelt.{IsPrintableLine, number_begins, lines_spelt}
 use Rattle.pg_text.proofs.GameTexts.{one_text}

@@ -1,22 +1,11 @@
 -- The lines of a solution text: what is read is spelt, and what is spelt is read.
-use Rattle.std.proofs.Common.{◌≡◌, ℕ, List, [], ◌∷◌, ◌++◌, Option, Some, None, Ok, refl, sym, ap, subst, ◌∙◌, arith, append_assoc}
-use Rattle.std.proofs.lemmas.Bool.Decides.{nat_tests}
-use Rattle.std.specs.Prelude.{codes}
-use Rattle.std.specs.List.{flat_map, AllByRecursion}
-use Rattle.std.proofs.lemmas.List.{append-nil}
-use Rattle.std.proofs.lemmas.List.Concat.{flat_map-cons}
-use Rattle.std.proofs.lemmas.Grind.{flat_map-append}
-use Rattle.pg_text.specs.declared.solution_line.SolutionLine.{SolutionLine}
-use Rattle.pg_text.specs.Lexemes.{Lexeme, number, semicolon, end, Begins, Spells, clause_lexemes}
-use Rattle.pg_text.specs.Mirrors.Steps.{◌>>=◌, Step, item, stop}
-use Rattle.pg_text.specs.Mirrors.Scan.{token_at}
-use Rattle.pg_text.specs.GameText.{player_number}
-use Rattle.pg_text.specs.Mirrors.Parts.{semicolon_at, clause_at}
-use Rattle.pg_text.specs.Mirrors.GameScan.{owner_at}
-use Rattle.pg_text.specs.SolutionText.{strategy_lexemes, answer_lexemes, solution_lexemes, BeginsWithLines, AreLines}
-use Rattle.pg_text.specs.Mirrors.SolutionScan.{strategy_in, strategy_at, answer_at, answer_in, next_answer_at, answers_at}
+use Rattle.pg_text.proofs.Common.{◌≡◌, ℕ, List, [], ◌∷◌, ◌++◌, Option, Some, None, Ok, refl, sym, ap, subst, ◌∙◌, arith, append_assoc}
+use Rattle.pg_text.proofs.Common.{nat_tests, codes, flat_map, AllByRecursion, append-nil, flat_map-cons, flat_map-append, SolutionLine}
+use Rattle.pg_text.proofs.Common.{Lexeme, number, semicolon, end, Begins, Spells, clause_lexemes, ◌>>=◌, Step, item, stop, token_at}
+use Rattle.pg_text.proofs.Common.{player_number, semicolon_at, clause_at, owner_at, strategy_lexemes, answer_lexemes, solution_lexemes}
+use Rattle.pg_text.proofs.Common.{BeginsWithLines, AreLines, strategy_in, strategy_at, answer_in, next_answer_at, answers_at, some, none}
+use Rattle.pg_text.specs.Mirrors.SolutionScan.{answer_at}
 use Rattle.pg_text.proofs.Steps.{bind_ok, ok, ok_is}
-use Rattle.pg_lists.proofs.Steps.{some, none}
 use Rattle.pg_text.proofs.Lexing.{token_takes, token_again}
 use Rattle.pg_text.proofs.Items.{Shrinks}
 use Rattle.pg_text.proofs.Spelling.{spells_append, spells_parts, begins_shorter, spells_within, IsExact, items_again}

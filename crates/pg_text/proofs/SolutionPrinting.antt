@@ -1,18 +1,9 @@
 -- What is written of a solution line by line is the layout.
-use Rattle.std.proofs.Common.{◌≡◌, ℕ, ◌+◌, ◌-◌, ◌<◌, ◌≤◌, List, [], ◌∷◌, ◌++◌, length, take, get_or, Option, Some, inl, inr, sym, ap, subst, ◌∙◌, arith}
-use Rattle.std.specs.Prelude.{codes, decimal}
-use Rattle.std.specs.List.{flat_map}
-use Rattle.std.specs.Io.KnownBytes.{Appends}
-use Rattle.std.proofs.KnownBytes.{Appends-trans}
-use Rattle.std.proofs.lemmas.List.{take_more, take_all, flat_map_more}
-use Rattle.std.proofs.lemmas.List.FromFn.{get_or-map-range_with_len, length-map-range_with_len}
-use Rattle.pg_arena.specs.Games.{GameVertex, IsGame, identifier, owner}
-use Rattle.pg_text.specs.declared.answer.Answer.{Answer}
-use Rattle.pg_text.specs.declared.solution_line.SolutionLine.{SolutionLine}
-use Rattle.pg_text.specs.SolutionLayout.{printed_answer, printed_line, printed_lines, answer_text, solution_text}
-use Rattle.pg_text.specs.Solutions.{winner, choice, IsSolution}
-use Rattle.pg_text.specs.SolutionText.{owns}
-use Rattle.pg_lists.proofs.Steps.{chosen, some, some_is, none, none_is_some}
+use Rattle.pg_text.proofs.Common.{◌≡◌, ℕ, ◌+◌, ◌-◌, ◌<◌, ◌≤◌, List, [], ◌∷◌, ◌++◌, length, take, get_or, Option, Some, inl, inr, sym, ap}
+use Rattle.pg_text.proofs.Common.{subst, ◌∙◌, arith, codes, decimal, flat_map, Appends, Appends-trans, take_more, take_all, flat_map_more}
+use Rattle.pg_text.proofs.Common.{get_or-map-range_with_len, length-map-range_with_len, GameVertex, IsGame, identifier, owner, Answer}
+use Rattle.pg_text.proofs.Common.{SolutionLine, printed_answer, printed_line, printed_lines, answer_text, solution_text, winner, choice}
+use Rattle.pg_text.proofs.Common.{IsSolution, owns, chosen, some, some_is, none, none_is_some}
 use Rattle.pg_text.proofs.Marking.{same_player}
 
 -- a line more

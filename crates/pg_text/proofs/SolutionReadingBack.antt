@@ -1,25 +1,13 @@
 -- The text of a solution spells that solution, without choices on vertices that the winner doesn't own.
-use Rattle.std.proofs.Common.{◌≡◌, ◌≢◌, ℕ, zero, suc, ◌+◌, ◌-◌, ◌<◌, ◌≤◌, ◌^◌, Bool, true, false, cond, List, [], ◌∷◌, ◌++◌, length, map}
-use Rattle.std.proofs.Common.{Option, Some, None, IfSome, refl, sym, ap, subst, ◌∙◌, inl, inr, arith, append_assoc}
-use Rattle.std.proofs.lemmas.Bool.Decides.{nat_tests}
-use Rattle.std.specs.Prelude.{All, decimal, codes, option_map}
-use Rattle.std.specs.List.{flat_map, range_with_len, AllByRecursion}
-use Rattle.std.proofs.lemmas.Bool.{eq-eqb, ne_eqb, cases_eq}
-use Rattle.std.proofs.lemmas.List.FromFn.{get_or-map-range_with_len, length-map-range_with_len}
-use Rattle.std.proofs.lemmas.List.Elements.{All-get_or}
-use Rattle.pg_arena.specs.declared.player.Player.{Player}
-use Rattle.pg_arena.specs.declared.player.Player.TheVariants.{Even, Odd}
-use Rattle.pg_arena.specs.Games.{GameVertex, IsGame, nowhere, identifier, owner}
-use Rattle.pg_text.specs.declared.answer.Answer.{Answer}
-use Rattle.pg_text.specs.declared.solution_line.SolutionLine.{SolutionLine}
-use Rattle.pg_text.specs.Lexemes.{number, word, semicolon, end, is_space, Begins, Spells}
-use Rattle.pg_lists.specs.Bytes.{is_digit, Each, Stops}
-use Rattle.pg_text.specs.GameText.{player_number}
-use Rattle.pg_text.specs.Solutions.{unanswered, answer_at, winner, choice, IsSolution}
-use Rattle.pg_text.specs.SolutionText.{strategy_lexemes, answer_lexemes, owns, is_same, line_count, Says, AreLines, IsSolutionText}
-use Rattle.pg_text.specs.SolutionLayout.{printed_answer, printed_answers, printed_line, printed_lines, strategy_text, answer_text, solution_text}
+use Rattle.pg_text.proofs.Common.{◌≡◌, ◌≢◌, ℕ, zero, suc, ◌+◌, ◌-◌, ◌<◌, ◌≤◌, ◌^◌, Bool, true, false, cond, List, [], ◌∷◌, ◌++◌, length}
+use Rattle.pg_text.proofs.Common.{map, Option, Some, None, IfSome, refl, sym, ap, subst, ◌∙◌, inl, inr, arith, append_assoc, nat_tests, All}
+use Rattle.pg_text.proofs.Common.{decimal, codes, option_map, flat_map, range_with_len, AllByRecursion, eq-eqb, ne_eqb, cases_eq}
+use Rattle.pg_text.proofs.Common.{get_or-map-range_with_len, length-map-range_with_len, All-get_or, Player, Even, Odd, GameVertex, IsGame}
+use Rattle.pg_text.proofs.Common.{nowhere, identifier, owner, Answer, SolutionLine, number, word, semicolon, end, is_space, Begins, Spells}
+use Rattle.pg_text.proofs.Common.{is_digit, Each, Stops, player_number, unanswered, answer_at, winner, choice, IsSolution, strategy_lexemes}
+use Rattle.pg_text.proofs.Common.{answer_lexemes, owns, is_same, line_count, Says, AreLines, IsSolutionText, printed_answer}
+use Rattle.pg_text.proofs.Common.{printed_answers, printed_line, printed_lines, strategy_text, answer_text, solution_text, none}
 use Rattle.pg_text.proofs.Steps.{ok_is}
-use Rattle.pg_lists.proofs.Steps.{none}
 use Rattle.pg_text.proofs.Spelling.{spells_append}
 use Rattle.pg_text.proofs.Spelt.{number_begins}
 use Rattle.pg_text.proofs.Answering.{same_vertex}

@@ -1,30 +1,15 @@
 -- A solution text read line by line.
-use Rattle.std.proofs.Common.{◌≡◌, ℕ, ◌-◌, ◌<◌, Bool, true, false, cond, eqb, List, [], ◌∷◌, ◌++◌, length, Option, None, Ok, Err, refl, sym}
-use Rattle.std.proofs.Common.{ap, subst, ◌∙◌, arith, inl, inr, append_assoc}
-use Rattle.std.proofs.lemmas.Bool.Decides.{nat_tests}
-use Rattle.std.specs.Prelude.{codes, replicate}
-use Rattle.std.specs.List.{list_any, flat_map, AllByRecursion}
-use Rattle.std.proofs.lemmas.List.{append-nil}
-use Rattle.std.proofs.lemmas.Grind.{flat_map-append}
-use Rattle.pg_arena.specs.Games.{GameVertex, identifier, IsGame}
-use Rattle.pg_text.specs.declared.answer.Answer.{Answer}
-use Rattle.pg_text.specs.declared.solution_line.SolutionLine.{SolutionLine}
-use Rattle.pg_text.specs.declared.solution_text.Misfit.{Misfit}
-use Rattle.pg_text.specs.declared.solution_text.Misfit.TheVariants.{NotOfGame, Repeated}
+use Rattle.pg_text.proofs.Common.{◌≡◌, ℕ, ◌-◌, ◌<◌, Bool, true, false, cond, eqb, List, [], ◌∷◌, ◌++◌, length, Option, None, Ok, Err, refl}
+use Rattle.pg_text.proofs.Common.{sym, ap, subst, ◌∙◌, arith, inl, inr, append_assoc, nat_tests, codes, replicate, list_any, flat_map}
+use Rattle.pg_text.proofs.Common.{AllByRecursion, append-nil, flat_map-append, GameVertex, identifier, IsGame, Answer, SolutionLine, Misfit}
+use Rattle.pg_text.proofs.Common.{NotOfGame, Repeated, TokenFault, TextFault, token_fault_of, Lexeme, number, word, end, Begins, Spells}
+use Rattle.pg_text.proofs.Common.{after_space, ◌>>=◌, Read, Step, item, stop, items_at, clause_at, unanswered, answer_lexemes}
+use Rattle.pg_text.proofs.Common.{BeginsWithLines, AreLines, Fits, line_count, answers, IsSolutionText, SpellsNoSolution, has_line}
+use Rattle.pg_text.proofs.Common.{StartsLine, BeginsUnfit, IsFirstMissing, next_answer_at, answers_at, Puts, State, IsMarked, IsUnmarked}
+use Rattle.pg_text.proofs.Common.{IsMisfit, BeginsMisfit, BeginsWell, HasRead, IsRefused, is_complete, misfit_fault}
 use Rattle.pg_text.specs.declared.tokens.TokenFault.TheVariants as tokens
-use Rattle.pg_text.specs.declared.tokens.TokenFault.{TokenFault}
-use Rattle.pg_text.specs.declared.fault.TextFault.{TextFault}
 use Rattle.pg_text.specs.declared.fault.TextFault.TheVariants as text
-use Rattle.pg_text.specs.Mirrors.Refusals.{token_fault_of}
-use Rattle.pg_text.specs.Lexemes.{Lexeme, number, word, end, Begins, Spells, after_space}
-use Rattle.pg_text.specs.Mirrors.Steps.{◌>>=◌, Read, Step, item, stop, items_at}
-use Rattle.pg_text.specs.Mirrors.Parts.{clause_at}
-use Rattle.pg_text.specs.Solutions.{unanswered}
-use Rattle.pg_text.specs.SolutionText.{answer_lexemes, BeginsWithLines, AreLines, Fits, line_count, answers, IsSolutionText}
-use Rattle.pg_text.specs.SolutionText.{SpellsNoSolution, has_line, StartsLine, BeginsUnfit, IsFirstMissing, IsNoText}
-use Rattle.pg_text.specs.Mirrors.SolutionScan.{next_answer_at, answers_at}
-use Rattle.pg_text.specs.Mirrors.SolutionReading.{Puts, State, IsMarked, IsUnmarked, IsMisfit, BeginsMisfit, BeginsWell, HasRead, IsRefused}
-use Rattle.pg_text.specs.Mirrors.SolutionReading.{is_complete, misfit_fault}
+use Rattle.pg_text.specs.SolutionText.{IsNoText}
 use Rattle.pg_text.proofs.Steps.{bind_ok, ok, ok_is, err_is_ok}
 use Rattle.pg_text.proofs.Items.{with_front, nothing_yet, goes_on, items_err}
 use Rattle.pg_text.proofs.Parts.{clause_absent}

@@ -1,10 +1,7 @@
 -- Tokens one after another.
-use Rattle.std.proofs.Common.{◌≡◌, ℕ, zero, suc, ◌≤◌, ◌<◌, List, [], ◌∷◌, ◌++◌, length, Ok, refl, sym, ap, subst, ◌∙◌, arith}
-use Rattle.std.proofs.lemmas.Bool.Decides.{nat_tests}
-use Rattle.std.specs.List.{flat_map, AllByRecursion}
-use Rattle.std.proofs.lemmas.List.{length-append}
-use Rattle.pg_text.specs.Lexemes.{Lexeme, number, word, semicolon, comma, quoted, end, Begins, Spells, IsSpelt}
-use Rattle.pg_text.specs.Mirrors.Steps.{Read, Step, item, stop, after_step, items_within, items_at}
+use Rattle.pg_text.proofs.Common.{◌≡◌, ℕ, zero, suc, ◌≤◌, ◌<◌, List, [], ◌∷◌, ◌++◌, length, Ok, refl, sym, ap, subst, ◌∙◌, arith, nat_tests}
+use Rattle.pg_text.proofs.Common.{flat_map, AllByRecursion, length-append, Lexeme, number, word, semicolon, comma, quoted, end, Begins}
+use Rattle.pg_text.proofs.Common.{Spells, IsSpelt, Read, Step, item, stop, after_step, items_within, items_at}
 use Rattle.pg_text.proofs.Steps.{bind_ok, ok_is}
 use Rattle.pg_text.proofs.Items.{Shrinks, items_end, items_more}
 

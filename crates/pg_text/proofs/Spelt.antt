@@ -1,19 +1,10 @@
 -- The printed layout of lines is spelt by their tokens.
-use Rattle.std.proofs.Common.{◌≡◌, ◌≢◌, ℕ, ◌<◌, ◌^◌, List, [], ◌∷◌, ◌++◌, Option, Some, None, IfSome, refl, sym, ap, subst, arith, rules, append_assoc}
-use Rattle.std.proofs.lemmas.Bool.Decides.{nat_tests}
-use Rattle.std.specs.Prelude.{decimal}
-use Rattle.std.specs.List.{flat_map, AllByRecursion}
-use Rattle.std.proofs.lemmas.Fmt.{digits_decimal, digits_value-decimal, decimal_nonempty}
-use Rattle.std.proofs.lemmas.Str.Parse.{IsNumeralModel, numerals_by_fold}
-use Rattle.pg_arena.specs.declared.player.Player.{Player}
-use Rattle.pg_arena.specs.declared.player.Player.TheVariants.{Even, Odd}
-use Rattle.pg_arena.specs.Lines.{Line}
-use Rattle.pg_text.specs.Lexemes.{number, semicolon, comma, is_space, is_plain, IsSpelt, Begins, Spells}
-use Rattle.pg_lists.specs.Bytes.{is_digit, Each, Stops}
-use Rattle.pg_text.specs.GameText.{player_number, name_lexemes, line_lexemes}
-use Rattle.pg_text.specs.Numbers.{comma_number_lexemes, numbers_lexemes, comma_number, numbers_text}
-use Rattle.pg_text.specs.GameLayout.{name_text, line_text}
-use Rattle.pg_lists.proofs.Runs.{value_from}
+use Rattle.pg_text.proofs.Common.{◌≡◌, ◌≢◌, ℕ, ◌<◌, ◌^◌, List, [], ◌∷◌, ◌++◌, Option, Some, None, IfSome, refl, sym, ap, subst, arith}
+use Rattle.pg_text.proofs.Common.{rules, append_assoc, nat_tests, decimal, flat_map, AllByRecursion, digits_decimal, digits_value-decimal}
+use Rattle.pg_text.proofs.Common.{decimal_nonempty, IsNumeralModel, numerals_by_fold, Player, Even, Odd, Line, number, semicolon, comma}
+use Rattle.pg_text.proofs.Common.{is_space, is_plain, IsSpelt, Begins, Spells, is_digit, Each, Stops, player_number, name_lexemes}
+use Rattle.pg_text.proofs.Common.{line_lexemes, comma_number_lexemes, numbers_lexemes, comma_number, numbers_text, name_text, line_text}
+use Rattle.pg_text.proofs.Common.{value_from}
 use Rattle.pg_text.proofs.Spelling.{spells_append}
 
 numerals : IsNumeralModel (Each is_digit) (value_from 0)

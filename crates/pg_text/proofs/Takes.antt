@@ -1,17 +1,9 @@
 -- What is read of a line of a game is spelt there, and what is spelt there is read.
-use Rattle.std.proofs.Common.{◌≡◌, ◌≢◌, ℕ, zero, suc, List, [], ◌∷◌, ◌++◌, Option, Some, None, Ok, refl, sym, ap, subst, arith}
-use Rattle.pg_arena.specs.declared.player.Player.{Player}
-use Rattle.pg_arena.specs.declared.player.Player.TheVariants.{Even, Odd}
-use Rattle.pg_arena.specs.Lines.{Line}
-use Rattle.pg_text.specs.Lexemes.{Lexeme, number, semicolon, comma, quoted, end, Begins, Spells}
-use Rattle.pg_text.specs.Numbers.{numbers_lexemes}
-use Rattle.pg_text.specs.GameText.{player_number, name_lexemes, line_lexemes}
-use Rattle.pg_text.specs.Mirrors.Steps.{◌>>=◌, Step, item, stop}
-use Rattle.pg_text.specs.Mirrors.Scan.{token_at}
-use Rattle.pg_text.specs.Mirrors.Parts.{natural_at, semicolon_at, numbers_at}
-use Rattle.pg_text.specs.Mirrors.GameScan.{player_in, owner_at, ending_in, ending_at, line_at, item_in, item_at}
+use Rattle.pg_text.proofs.Common.{◌≡◌, ◌≢◌, ℕ, zero, suc, List, [], ◌∷◌, ◌++◌, Option, Some, None, Ok, refl, sym, ap, subst, arith, Player}
+use Rattle.pg_text.proofs.Common.{Even, Odd, Line, Lexeme, number, semicolon, comma, quoted, end, Begins, Spells, numbers_lexemes}
+use Rattle.pg_text.proofs.Common.{player_number, name_lexemes, line_lexemes, ◌>>=◌, Step, item, stop, token_at, natural_at, semicolon_at}
+use Rattle.pg_text.proofs.Common.{numbers_at, player_in, owner_at, ending_in, ending_at, line_at, item_in, item_at, some, none}
 use Rattle.pg_text.proofs.Steps.{bind_ok, ok, ok_is}
-use Rattle.pg_lists.proofs.Steps.{some, none}
 use Rattle.pg_text.proofs.Lexing.{token_takes, token_again}
 use Rattle.pg_text.proofs.Items.{Shrinks}
 use Rattle.pg_text.proofs.Spelling.{spells_append, spells_parts, begins_shorter, spells_within, IsExact}

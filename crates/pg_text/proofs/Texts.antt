@@ -1,13 +1,7 @@
 -- The two laws of a whole text: the lines that are read are those of the text, and the lines of a text are read.
-use Rattle.std.proofs.Common.{◌≡◌, ℕ, List, [], ◌∷◌, ◌++◌, Option, Some, None, Ok, refl, subst}
-use Rattle.std.specs.Prelude.{codes}
-use Rattle.std.specs.List.{flat_map}
-use Rattle.pg_arena.specs.Lines.{Line}
-use Rattle.pg_text.specs.Lexemes.{Lexeme, number, word, end, Begins, Spells, clause_lexemes}
-use Rattle.pg_text.specs.GameText.{line_lexemes, game_lexemes, IsText}
-use Rattle.pg_text.specs.Mirrors.Steps.{◌>>=◌, items_at}
-use Rattle.pg_text.specs.Mirrors.Parts.{clause_at}
-use Rattle.pg_text.specs.Mirrors.GameScan.{item_at, body_at, lines_at}
+use Rattle.pg_text.proofs.Common.{◌≡◌, ℕ, List, [], ◌∷◌, ◌++◌, Option, Some, None, Ok, refl, subst, codes, flat_map, Line, Lexeme, number}
+use Rattle.pg_text.proofs.Common.{word, end, Begins, Spells, clause_lexemes, line_lexemes, game_lexemes, IsText, ◌>>=◌, items_at, clause_at}
+use Rattle.pg_text.proofs.Common.{item_at, body_at, lines_at}
 use Rattle.pg_text.proofs.Steps.{bind_ok, ok, ok_is}
 use Rattle.pg_text.proofs.Spelling.{spells_append, spells_parts, items_take, items_again}
 use Rattle.pg_text.proofs.Parts.{clause_takes, clause_there, clause_absent}

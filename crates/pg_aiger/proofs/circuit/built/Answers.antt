@@ -1,7 +1,4 @@
-use Rattle.std.proofs.Common.{◌≡◌, ℕ, ◌+◌, length, arith, sym, subst, ap, ◌∙◌}
-use Rattle.pg_aiger.specs.Machines.{IsWidth, IsCircuitOf}
-use Rattle.pg_aiger.specs.Construction.{made_circuit}
-use Rattle.pg_aiger.specs.Mirrors.Views.{viewed, IsKept}
+use Rattle.pg_aiger.proofs.Common.{◌≡◌, ℕ, ◌+◌, length, arith, sym, subst, ap, ◌∙◌, IsWidth, IsCircuitOf, made_circuit, viewed, IsKept}
 use Rattle.pg_aiger.proofs.Made.{kept, built_for, length_latches}
 use Rattle.pg_aiger.proofs.Follows.{circuit_of_machine}
 use Rattle.pg_aiger.proofs.circuit.built.Goals as goal

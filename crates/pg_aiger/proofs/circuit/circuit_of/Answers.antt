@@ -1,10 +1,5 @@
-use Rattle.std.proofs.Common.{◌≡◌, ◌↔◌, ◌+◌, ◌*◌, Result, Ok, Err, arith, refl, subst}
-use Rattle.std.specs.Prelude.{IsErrAnd}
-use Rattle.pg_synth.specs.Machines.{Machine}
-use Rattle.pg_aiger.specs.declared.fault.AigerFault.{AigerFault}
-use Rattle.pg_aiger.specs.declared.fault.AigerFault.TheVariants.{OutOfMemory, TooLarge}
-use Rattle.pg_aiger.specs.Circuits.{Circuit}
-use Rattle.pg_aiger.specs.Machines.{IsWidth, IsTooLarge, count_ahead}
+use Rattle.pg_aiger.proofs.Common.{◌≡◌, ◌↔◌, ◌+◌, ◌*◌, Result, Ok, Err, arith, refl, subst, IsErrAnd, Machine, AigerFault, OutOfMemory}
+use Rattle.pg_aiger.proofs.Common.{TooLarge, Circuit, IsWidth, IsTooLarge, count_ahead}
 use Rattle.pg_aiger.proofs.Made.{too_large}
 use Rattle.pg_aiger.proofs.circuit.circuit_of.Goals as goal
 

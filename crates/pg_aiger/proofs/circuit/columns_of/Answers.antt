@@ -1,6 +1,5 @@
-use Rattle.std.proofs.Common.{◌≡◌, ℕ, ◌+◌, ◌*◌, ◌^◌, ◌≤◌, length, arith, sym, subst, ap, ◌∙◌}
-use Rattle.pg_aiger.specs.Mirrors.Tables.{is_minterm, MeanEach, column_bit, outputs_below, minterms_below}
-use Rattle.pg_aiger.specs.Construction.{conjunction_of, disjunction_of, each_made, bit_columns}
+use Rattle.pg_aiger.proofs.Common.{◌≡◌, ℕ, ◌+◌, ◌*◌, ◌^◌, ◌≤◌, length, arith, sym, subst, ap, ◌∙◌, is_minterm, MeanEach, column_bit}
+use Rattle.pg_aiger.proofs.Common.{outputs_below, minterms_below, conjunction_of, disjunction_of, each_made, bit_columns}
 use Rattle.pg_aiger.proofs.Made.{rows_fit, room_first, room_second, room_third, length_outputs, length_nexts}
 use Rattle.pg_aiger.proofs.Exact.{empty_draft, parts_made}
 use Rattle.pg_aiger.proofs.circuit.columns_of.Goals as goal

@@ -1,7 +1,4 @@
-use Rattle.std.proofs.Common.{rules, ◌≡◌, ◌+◌, ◌&&◌, length, get_or, arith, sym, subst, ap, ◌∙◌}
-use Rattle.pg_aiger.specs.Runs.{value}
-use Rattle.pg_aiger.specs.declared.gate.Gate.{Gate}
-use Rattle.pg_aiger.specs.Mirrors.Steps.{Agrees}
+use Rattle.pg_aiger.proofs.Common.{rules, ◌≡◌, ◌+◌, ◌&&◌, length, get_or, arith, sym, subst, ap, ◌∙◌, value, Gate, Agrees}
 use Rattle.pg_aiger.proofs.Steps.{agree_push, gate_value, gate_bounds}
 use Rattle.pg_aiger.proofs.circuit.evaluate.Goals as goal
 

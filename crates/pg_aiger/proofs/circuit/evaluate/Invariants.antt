@@ -1,6 +1,4 @@
-use Rattle.std.proofs.Common.{◌≡◌, ◌+◌, length}
-use Rattle.pg_aiger.specs.Runs.{Valuation}
-use Rattle.pg_aiger.specs.Mirrors.Steps.{Agrees, IsValued}
+use Rattle.pg_aiger.proofs.Common.{◌≡◌, ◌+◌, length, Valuation, Agrees, IsValued}
 use Rattle.pg_aiger.proofs.circuit.evaluate.Given as goal
 
 abbrev pub invariant-loop-input : goal.invariant-loop-input

@@ -1,8 +1,5 @@
-use Rattle.std.proofs.Common.{◌≡◌, ℕ, ◌*◌, ◌/◌, ◌%◌, ◌^◌, ◌<◌, ◌++◌, [], ◌∷◌, arith, sym, ap, ◌∙◌}
-use Rattle.std.proofs.lemmas.List.FromFn.{map-range_with_len_more}
-use Rattle.std.proofs.Math.Pow.{pow-lt}
-use Rattle.pg_synth.specs.Machines.{reply}
-use Rattle.pg_aiger.specs.Mirrors.Tables.{outputs_below, nexts_below, reply_of}
+use Rattle.pg_aiger.proofs.Common.{◌≡◌, ℕ, ◌*◌, ◌/◌, ◌%◌, ◌^◌, ◌<◌, ◌++◌, [], ◌∷◌, arith, sym, ap, ◌∙◌, map-range_with_len_more, pow-lt}
+use Rattle.pg_aiger.proofs.Common.{reply, outputs_below, nexts_below, reply_of}
 use Rattle.pg_aiger.proofs.circuit.replies.Goals as goal
 
 pub loop-place-preserved : goal.loop-place-preserved

@@ -1,5 +1,4 @@
-use Rattle.std.proofs.Common.{◌≡◌}
-use Rattle.pg_aiger.specs.Mirrors.Tables.{outputs_below, nexts_below}
+use Rattle.pg_aiger.proofs.Common.{◌≡◌, outputs_below, nexts_below}
 use Rattle.pg_aiger.proofs.circuit.replies.Given as goal
 
 abbrev pub invariant-loop-place : goal.invariant-loop-place

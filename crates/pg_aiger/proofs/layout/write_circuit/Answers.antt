@@ -1,10 +1,5 @@
-use Rattle.std.proofs.Common.{rules, ◌≡◌, ◌+◌, length, map, subst}
-use Rattle.std.specs.List.{flat_map}
-use Rattle.std.specs.Io.KnownBytes.{Appends}
-use Rattle.pg_aiger.specs.CircuitText.{header}
-use Rattle.pg_aiger.specs.CircuitLayout.{row_text, circuit_text}
-use Rattle.pg_aiger.specs.Mirrors.Layouts.{literal_row, latch_row, gate_row}
-use Rattle.pg_aiger.specs.Mirrors.Views.{latches_from, viewed}
+use Rattle.pg_aiger.proofs.Common.{rules, ◌≡◌, ◌+◌, length, map, subst, flat_map, Appends, header, row_text, circuit_text, literal_row}
+use Rattle.pg_aiger.proofs.Common.{latch_row, gate_row, latches_from, viewed}
 use Rattle.pg_aiger.proofs.Printing.{whole_text, counts_are}
 use Rattle.pg_aiger.proofs.layout.write_circuit.Goals as goal
 

@@ -1,8 +1,4 @@
-use Rattle.std.proofs.Common.{map, take}
-use Rattle.std.specs.List.{flat_map}
-use Rattle.std.specs.Io.KnownBytes.{Appends}
-use Rattle.pg_aiger.specs.CircuitLayout.{row_text}
-use Rattle.pg_aiger.specs.Mirrors.Layouts.{gate_row}
+use Rattle.pg_aiger.proofs.Common.{map, take, flat_map, Appends, row_text, gate_row}
 use Rattle.pg_aiger.proofs.layout.write_gates.Given as goal
 
 abbrev pub invariant-loop-gate : goal.invariant-loop-gate

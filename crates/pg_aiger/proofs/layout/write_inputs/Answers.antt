@@ -1,6 +1,4 @@
-use Rattle.std.proofs.Common.{◌+◌, ◌*◌}
-use Rattle.pg_aiger.specs.Mirrors.Layouts.{literal_row}
-use Rattle.pg_aiger.specs.Mirrors.Views.{literals_from}
+use Rattle.pg_aiger.proofs.Common.{◌+◌, ◌*◌, literal_row, literals_from}
 use Rattle.pg_aiger.proofs.Printing.{row_push, literals_push}
 use Rattle.pg_aiger.proofs.layout.write_inputs.Goals as goal
 

@@ -1,9 +1,4 @@
-use Rattle.std.proofs.Common.{map}
-use Rattle.std.specs.List.{flat_map}
-use Rattle.std.specs.Io.KnownBytes.{Appends}
-use Rattle.pg_aiger.specs.CircuitLayout.{row_text}
-use Rattle.pg_aiger.specs.Mirrors.Layouts.{literal_row}
-use Rattle.pg_aiger.specs.Mirrors.Views.{literals_from}
+use Rattle.pg_aiger.proofs.Common.{map, flat_map, Appends, row_text, literal_row, literals_from}
 use Rattle.pg_aiger.proofs.layout.write_inputs.Given as goal
 
 abbrev pub invariant-loop-input : goal.invariant-loop-input

@@ -1,9 +1,4 @@
-use Rattle.std.proofs.Common.{◌≡◌, ◌+◌, ◌*◌, take, get_or, arith, refl, subst}
-use Rattle.std.specs.Io.KnownBytes.{Appends}
-use Rattle.pg_aiger.specs.Circuits.{Latch}
-use Rattle.pg_aiger.specs.CircuitLayout.{row_text}
-use Rattle.pg_aiger.specs.Mirrors.Layouts.{latch_row}
-use Rattle.pg_aiger.specs.Mirrors.Views.{latches_from}
+use Rattle.pg_aiger.proofs.Common.{◌≡◌, ◌+◌, ◌*◌, take, get_or, arith, refl, subst, Appends, Latch, row_text, latch_row, latches_from}
 use Rattle.pg_aiger.proofs.Printing.{row_push, latches_more}
 use Rattle.pg_aiger.proofs.layout.write_latches.Goals as goal
 

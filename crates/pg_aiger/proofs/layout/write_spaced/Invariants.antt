@@ -1,7 +1,4 @@
-use Rattle.std.proofs.Common.{take}
-use Rattle.std.specs.List.{flat_map}
-use Rattle.std.specs.Io.KnownBytes.{Appends}
-use Rattle.pg_aiger.specs.CircuitLayout.{spaced_number}
+use Rattle.pg_aiger.proofs.Common.{take, flat_map, Appends, spaced_number}
 use Rattle.pg_aiger.proofs.layout.write_spaced.Given as goal
 
 abbrev pub invariant-loop-number : goal.invariant-loop-number

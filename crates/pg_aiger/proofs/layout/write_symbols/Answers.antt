@@ -1,8 +1,5 @@
-use Rattle.std.proofs.Common.{◌≡◌, ◌+◌, ◌<◌, ◌∷◌, [], ◌++◌, length, zero-add, arith, ap, subst, ◌∙◌, length-append}
-use Rattle.std.specs.Io.KnownBytes.{Appends}
-use Rattle.pg_aiger.specs.CircuitText.{symbol}
-use Rattle.pg_aiger.specs.CircuitLayout.{row_text, symbols_from}
-use Rattle.pg_aiger.specs.Mirrors.Layouts.{kind_of, named, names_until}
+use Rattle.pg_aiger.proofs.Common.{◌≡◌, ◌+◌, ◌<◌, ◌∷◌, [], ◌++◌, length, zero-add, arith, ap, subst, ◌∙◌, length-append, Appends, symbol}
+use Rattle.pg_aiger.proofs.Common.{row_text, symbols_from, kind_of, named, names_until}
 use Rattle.pg_aiger.proofs.Printing.{row_push, symbols_push, names_taken, names_left, few_names}
 use Rattle.pg_aiger.proofs.layout.write_symbols.Goals.{then-controllable-controlled+in_ok-write_symbol, else-controllable-controlled}
 use Rattle.pg_aiger.proofs.layout.write_symbols.Goals as goal

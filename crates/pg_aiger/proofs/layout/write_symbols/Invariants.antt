@@ -1,9 +1,4 @@
-use Rattle.std.proofs.Common.{◌≡◌, length, map}
-use Rattle.std.specs.List.{flat_map}
-use Rattle.std.specs.Io.KnownBytes.{Appends}
-use Rattle.pg_aiger.specs.CircuitText.{symbol}
-use Rattle.pg_aiger.specs.CircuitLayout.{row_text, symbols_from}
-use Rattle.pg_aiger.specs.Mirrors.Layouts.{kind_of, names_until}
+use Rattle.pg_aiger.proofs.Common.{◌≡◌, length, map, flat_map, Appends, symbol, row_text, symbols_from, kind_of, names_until}
 use Rattle.pg_aiger.proofs.layout.write_symbols.Given as goal
 
 abbrev pub invariant-loop-a : goal.invariant-loop-a

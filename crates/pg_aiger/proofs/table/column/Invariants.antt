@@ -1,7 +1,4 @@
-use Rattle.std.proofs.Common.{◌≡◌, take}
-use Rattle.pg_aiger.specs.Construction.{disjunction_of, having}
-use Rattle.pg_aiger.specs.Mirrors.Drafts.{IsLiteral, Extends, Means}
-use Rattle.pg_aiger.specs.Mirrors.Tables.{any_below}
+use Rattle.pg_aiger.proofs.Common.{◌≡◌, take, disjunction_of, having, IsLiteral, Extends, Means, any_below}
 use Rattle.pg_aiger.proofs.table.column.Given as goal
 
 abbrev pub invariant-loop-place : goal.invariant-loop-place

@@ -1,7 +1,5 @@
-use Rattle.std.proofs.Common.{rules, length, arith, sym, ap, ◌∙◌}
-use Rattle.std.proofs.lemmas.List.FromFn.{map-range_with_len_more}
-use Rattle.pg_aiger.specs.Construction.{disjunction_of, each_made, having, bit_columns}
-use Rattle.pg_aiger.specs.Mirrors.Tables.{column_bit}
+use Rattle.pg_aiger.proofs.Common.{rules, length, arith, sym, ap, ◌∙◌, map-range_with_len_more, disjunction_of, each_made, having}
+use Rattle.pg_aiger.proofs.Common.{bit_columns, column_bit}
 use Rattle.pg_aiger.proofs.Places.{extends_times, extends_within, mean_push}
 use Rattle.pg_aiger.proofs.Exact.{each_more}
 use Rattle.pg_aiger.proofs.table.columns.Goals as goal

@@ -1,7 +1,4 @@
-use Rattle.std.proofs.Common.{◌≡◌, ◌*◌, length}
-use Rattle.pg_aiger.specs.Construction.{disjunction_of, each_made, bit_columns}
-use Rattle.pg_aiger.specs.Mirrors.Drafts.{Extends}
-use Rattle.pg_aiger.specs.Mirrors.Tables.{MeanEach, column_bit}
+use Rattle.pg_aiger.proofs.Common.{◌≡◌, ◌*◌, length, disjunction_of, each_made, bit_columns, Extends, MeanEach, column_bit}
 use Rattle.pg_aiger.proofs.table.columns.Given as goal
 
 abbrev pub invariant-loop-bit : goal.invariant-loop-bit

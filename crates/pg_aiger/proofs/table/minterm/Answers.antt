@@ -1,9 +1,5 @@
-use Rattle.std.proofs.Common.{◌≡◌, ◌+◌, ◌/◌, ◌%◌, ◌^◌, not, eqb, ◌&&◌, arith, ap, ◌∙◌}
-use Rattle.std.proofs.lemmas.Result.{IfOk-weaker}
-use Rattle.pg_aiger.specs.Runs.{value}
-use Rattle.pg_aiger.specs.Mirrors.Drafts.{Means, number_at, conjunction_with}
-use Rattle.pg_aiger.specs.Construction.{conjunction_of, spelling}
-use Rattle.pg_aiger.specs.Mirrors.Tables.{is_minterm, minterm_at}
+use Rattle.pg_aiger.proofs.Common.{◌≡◌, ◌+◌, ◌/◌, ◌%◌, ◌^◌, not, eqb, ◌&&◌, arith, ap, ◌∙◌, IfOk-weaker, value, Means, number_at}
+use Rattle.pg_aiger.proofs.Common.{conjunction_with, conjunction_of, spelling, is_minterm, minterm_at}
 use Rattle.pg_aiger.proofs.Matches.{extends_more}
 use Rattle.pg_aiger.proofs.Places.{whole_quotient}
 use Rattle.pg_aiger.proofs.Exact.{minterm_made}

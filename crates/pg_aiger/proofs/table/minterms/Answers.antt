@@ -1,7 +1,5 @@
-use Rattle.std.proofs.Common.{rules, ◌+◌, arith, sym, ap, ◌∙◌}
-use Rattle.std.proofs.lemmas.List.FromFn.{map-range_with_len_more}
-use Rattle.pg_aiger.specs.Construction.{conjunction_of, each_made}
-use Rattle.pg_aiger.specs.Mirrors.Tables.{is_minterm, minterm_at, minterms_below}
+use Rattle.pg_aiger.proofs.Common.{rules, ◌+◌, arith, sym, ap, ◌∙◌, map-range_with_len_more, conjunction_of, each_made, is_minterm}
+use Rattle.pg_aiger.proofs.Common.{minterm_at, minterms_below}
 use Rattle.pg_aiger.proofs.Places.{extends_times, extends_within, mean_push}
 use Rattle.pg_aiger.proofs.Exact.{each_more}
 use Rattle.pg_aiger.proofs.table.minterms.Goals as goal

@@ -1,7 +1,4 @@
-use Rattle.std.proofs.Common.{◌≡◌, ◌+◌, ◌*◌, length}
-use Rattle.pg_aiger.specs.Construction.{conjunction_of, each_made}
-use Rattle.pg_aiger.specs.Mirrors.Drafts.{Extends}
-use Rattle.pg_aiger.specs.Mirrors.Tables.{MeanEach, is_minterm, minterms_below}
+use Rattle.pg_aiger.proofs.Common.{◌≡◌, ◌+◌, ◌*◌, length, conjunction_of, each_made, Extends, MeanEach, is_minterm, minterms_below}
 use Rattle.pg_aiger.proofs.table.minterms.Given as goal
 
 abbrev pub invariant-loop-place : goal.invariant-loop-place

@@ -1,10 +1,5 @@
-use Rattle.std.proofs.Common.{◌≡◌, inl, inr, arith, sym, subst, ◌∙◌}
-use Rattle.std.proofs.lemmas.Bool.{cases_lt}
-use Rattle.pg_arena.specs.declared.player.Player.TheVariants.{Even, Odd}
-use Rattle.pg_arena.specs.Games.{dual}
-use Rattle.pg_text.specs.Solutions.{winner}
-use Rattle.pg_map.specs.Lines.{game_line}
-use Rattle.pg_check.specs.Strategies.{IsCertifiedBy, IsCertifiedFor}
+use Rattle.pg_check.proofs.Common.{◌≡◌, inl, inr, arith, sym, subst, ◌∙◌, cases_lt, Even, Odd, dual, winner, game_line, IsCertifiedBy}
+use Rattle.pg_check.proofs.Common.{IsCertifiedFor}
 use Rattle.pg_check.proofs.Certified.{sound_from_certificate}
 use Rattle.pg_check.proofs.certificate.certifies.Goals.{in-Even, in-Odd}
 use Rattle.pg_check.proofs.certificate.certifies.Goals as goal

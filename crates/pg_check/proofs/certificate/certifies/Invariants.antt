@@ -1,6 +1,4 @@
-use Rattle.std.proofs.Common.{ℕ, ◌<◌}
-use Rattle.pg_text.specs.Solutions.{winner}
-use Rattle.pg_check.specs.Strategies.{IsCertifiedFor}
+use Rattle.pg_check.proofs.Common.{ℕ, ◌<◌, winner, IsCertifiedFor}
 use Rattle.pg_check.proofs.certificate.certifies.Given as goal
 
 abbrev pub invariant-loop-number : goal.invariant-loop-number

@@ -1,8 +1,5 @@
-use Rattle.std.proofs.Common.{rules, ◌≡◌, ◌≢◌, ℕ, arith, sym, subst, refl, IsSome}
-use Rattle.pg_text.specs.Solutions.{winner}
-use Rattle.pg_map.specs.Maps.{IsServedBy}
-use Rattle.pg_check.specs.Soundness.{Counts}
-use Rattle.pg_map.proofs.Serving.{all_passed}
+use Rattle.pg_check.proofs.Common.{rules, ◌≡◌, ◌≢◌, ℕ, arith, sym, subst, refl, winner, IsServedBy, Counts, all_passed}
+use Rattle.std.proofs.Common.{IsSome}
 use Rattle.pg_check.proofs.certificate.is_certified_by.Goals.{then-ne-via-then-ne, then-ne-via-else-ne+then-not-serves}
 use Rattle.pg_check.proofs.certificate.is_certified_by.Goals as goal
 

@@ -1,6 +1,4 @@
-use Rattle.std.proofs.Common.{◌≡◌, ℕ, ◌<◌, get_or}
-use Rattle.pg_text.specs.Solutions.{winner}
-use Rattle.pg_map.specs.Maps.{IsServedBy}
+use Rattle.pg_check.proofs.Common.{◌≡◌, ℕ, ◌<◌, get_or, winner, IsServedBy}
 use Rattle.pg_check.proofs.certificate.is_certified_by.Given as goal
 
 abbrev pub invariant-loop-w : goal.invariant-loop-w

@@ -1,11 +1,6 @@
-use Rattle.std.proofs.Common.{rules, ℕ, List, Option, Some, Result, Ok, IfOk, IfSome}
-use Rattle.std.specs.declared.vec.Vec.{Vec}
-use Rattle.std.specs.declared.alloc.Global.{Global}
-use Rattle.std.specs.declared.alloc.AllocError.{AllocError}
-use Rattle.pg_arena.specs.Games.{GameVertex}
-use Rattle.pg_text.specs.declared.answer.Answer.{Answer}
-use Rattle.pg_check.specs.Mirrors.Cycles.{IsLost, IsSimpleCycle}
-use Rattle.pg_check.specs.Verdicts.{IsSimpleBadCycle}
+use Rattle.pg_check.proofs.Common.{rules, ℕ, List, Option, Some, Result, Ok, IfOk, Vec, Global, AllocError, GameVertex, Answer, IsLost}
+use Rattle.pg_check.proofs.Common.{IsSimpleCycle, IsSimpleBadCycle}
+use Rattle.std.proofs.Common.{IfSome}
 use Rattle.pg_check.proofs.Checking.{bad_cycle_of}
 use Rattle.pg_check.proofs.checker.bad_cycle_through.Goals as goal
 

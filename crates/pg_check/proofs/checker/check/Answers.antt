@@ -1,7 +1,4 @@
-use Rattle.std.proofs.Common.{rules}
-use Rattle.pg_check.specs.Soundness.{NoneLeaves}
-use Rattle.pg_check.specs.Mirrors.Cycles.{HasNoBadCycle}
-use Rattle.pg_check.specs.Verdicts.{IsLeastLeaving, IsSimpleBadCycle}
+use Rattle.pg_check.proofs.Common.{rules, NoneLeaves, HasNoBadCycle, IsLeastLeaving, IsSimpleBadCycle}
 use Rattle.pg_check.proofs.Checking.{sound_of, unsound_by_edge, unsound_by_cycle}
 use Rattle.pg_check.proofs.checker.check.Goals as goal
 

@@ -1,5 +1,4 @@
-use Rattle.std.proofs.Common.{ℕ, ◌<◌}
-use Rattle.pg_check.specs.Mirrors.Cycles.{IsLost, HasNoCycle}
+use Rattle.pg_check.proofs.Common.{ℕ, ◌<◌, IsLost, HasNoCycle}
 use Rattle.pg_check.proofs.checker.search_each.Given as goal
 
 abbrev pub invariant-loop-number : goal.invariant-loop-number

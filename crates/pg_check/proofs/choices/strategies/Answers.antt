@@ -1,10 +1,5 @@
-use Rattle.std.proofs.Common.{◌≡◌, ◌<◌, length, arith, sym, subst, ◌∙◌}
-use Rattle.std.specs.List.Sorted.{IsStrictlyIncreasing}
-use Rattle.std.specs.Option.{IsSome}
-use Rattle.std.proofs.lemmas.List.{length-replicate}
-use Rattle.pg_arena.specs.declared.player.Player.TheVariants.{Even, Odd}
-use Rattle.pg_arena.specs.Games.{dual}
-use Rattle.pg_map.specs.Lines.{game_line, line_at, AreWithin}
+use Rattle.pg_check.proofs.Common.{◌≡◌, ◌<◌, length, arith, sym, subst, ◌∙◌, IsStrictlyIncreasing, IsSome, length-replicate, Even, Odd}
+use Rattle.pg_check.proofs.Common.{dual, game_line, line_at, AreWithin}
 use Rattle.pg_check.proofs.Certified.{has_line, certifies_from_closed, sound_from_certificate}
 use Rattle.pg_check.proofs.Chosen.{lines_within, lines_rise, has_list, answer_by, answered_more, solution_from_upto, least_from_upto, is_solution}
 use Rattle.pg_check.proofs.choices.strategies.Goals.{then-not-is_top, else-not-is_top+then-not-is_top-2}

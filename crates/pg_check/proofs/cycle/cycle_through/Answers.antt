@@ -1,6 +1,5 @@
-use Rattle.std.proofs.Common.{rules, ◌≡◌, ◌<◌, [], ◌∷◌, ◌++◌, length, get_or, reverse, ap, sym, subst, ◌∙◌, arith}
-use Rattle.std.proofs.lemmas.List.{get_or_read, reverse-append}
-use Rattle.pg_check.specs.Mirrors.Cycles.{IsSimpleCycle, IsTrail}
+use Rattle.pg_check.proofs.Common.{rules, ◌≡◌, ◌<◌, [], ◌∷◌, ◌++◌, length, get_or, reverse, ap, sym, subst, ◌∙◌, arith, get_or_read}
+use Rattle.pg_check.proofs.Common.{reverse-append, IsSimpleCycle, IsTrail}
 use Rattle.pg_check.proofs.Trails.{way_steps, way_ends}
 use Rattle.pg_check.proofs.cycle.cycle_through.Goals as goal
 

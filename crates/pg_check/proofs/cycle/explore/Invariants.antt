@@ -1,5 +1,4 @@
-use Rattle.std.proofs.Common.{◌-◌, length}
-use Rattle.pg_check.specs.Mirrors.Searches.{IsExplored}
+use Rattle.pg_check.proofs.Common.{◌-◌, length, IsExplored}
 use Rattle.pg_check.proofs.cycle.explore.Given as goal
 
 abbrev pub invariant-loop-at : goal.invariant-loop-at

@@ -1,10 +1,6 @@
-use Rattle.std.proofs.Common.{rules, ◌≡◌, ◌≢◌, ◌↔◌, ℕ, List, Some, Contains, inl, inr}
-use Rattle.pg_arena.specs.declared.player.Player.{Player}
-use Rattle.pg_arena.specs.declared.player.Player.TheVariants.{Even, Odd}
-use Rattle.pg_arena.specs.Games.{GameVertex, opponent, owner, successors}
-use Rattle.pg_text.specs.declared.answer.Answer.{Answer}
-use Rattle.pg_text.specs.Solutions.{winner, choice}
-use Rattle.pg_check.specs.Soundness.{Counts}
+use Rattle.pg_check.proofs.Common.{rules, ◌≡◌, ◌≢◌, ◌↔◌, ℕ, List, Some, inl, inr, Player, Even, Odd, GameVertex, opponent, owner}
+use Rattle.pg_check.proofs.Common.{successors, Answer, winner, choice, Counts}
+use Rattle.std.proofs.Common.{Contains}
 use Rattle.pg_check.proofs.edges.counted.Goals as goal
 
 not_opponent : (p : Player) → p ≢ opponent p

@@ -1,8 +1,4 @@
-use Rattle.std.proofs.Common.{rules, ◌≡◌, inl, inr, arith, sym, subst}
-use Rattle.std.proofs.lemmas.Bool.{cases_lt}
-use Rattle.pg_text.specs.Solutions.{winner}
-use Rattle.pg_check.specs.Soundness.{Counts}
-use Rattle.pg_map.proofs.Serving.{all_passed}
+use Rattle.pg_check.proofs.Common.{rules, ◌≡◌, inl, inr, arith, sym, subst, cases_lt, winner, Counts, all_passed}
 use Rattle.pg_check.proofs.Leaving.{least_leaving}
 use Rattle.pg_check.proofs.edges.first_leaving.Goals as goal
 

@@ -1,6 +1,4 @@
-use Rattle.std.proofs.Common.{◌≡◌, ℕ, ◌<◌, get_or}
-use Rattle.pg_text.specs.Solutions.{winner}
-use Rattle.pg_check.specs.Soundness.{Counts}
+use Rattle.pg_check.proofs.Common.{◌≡◌, ℕ, ◌<◌, get_or, winner, Counts}
 use Rattle.pg_check.proofs.edges.first_leaving.Given as goal
 
 abbrev pub invariant-loop-w : goal.invariant-loop-w

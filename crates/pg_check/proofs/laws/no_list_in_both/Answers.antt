@@ -1,6 +1,4 @@
-use Rattle.pg_arena.specs.declared.player.Player.{Player}
-use Rattle.pg_arena.specs.declared.player.Player.TheVariants.{Even, Odd}
-use Rattle.pg_check.specs.Strategies.{HasList}
+use Rattle.pg_check.proofs.Common.{Player, Even, Odd, HasList}
 use Rattle.pg_check.proofs.Certified.{no_both}
 use Rattle.pg_check.proofs.laws.no_list_in_both.Goals as goal
 

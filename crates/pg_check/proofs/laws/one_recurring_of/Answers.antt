@@ -1,5 +1,4 @@
-use Rattle.pg_arena.specs.Games.{priority}
-use Rattle.pg_measure.proofs.SomeBounds.{priority_bound}
+use Rattle.pg_check.proofs.Common.{priority, priority_bound}
 use Rattle.pg_check.proofs.Recurring.{one_loser}
 use Rattle.pg_check.proofs.laws.one_recurring_of.Goals as goal
 

@@ -1,5 +1,4 @@
-use Rattle.std.proofs.Common.{ℕ, ◌<◌}
-use Rattle.pg_check.specs.Mirrors.Orders.{Stands}
+use Rattle.pg_check.proofs.Common.{ℕ, ◌<◌, Stands}
 use Rattle.pg_check.proofs.order.is_order.Given as goal
 
 abbrev pub invariant-loop-number : goal.invariant-loop-number

@@ -1,11 +1,5 @@
-use Rattle.std.proofs.Common.{rules, ◌≡◌, ℕ, ◌%◌, ◌<◌, ◌≤◌, List, get_or, arith, subst, sym}
-use Rattle.pg_arena.specs.Games.{GameVertex}
-use Rattle.pg_text.specs.declared.answer.Answer.{Answer}
-use Rattle.pg_map.proofs.Serving.{all_passed}
-use Rattle.pg_order.specs.declared.span.Span.{Span}
-use Rattle.pg_order.specs.Orders.{span_at}
-use Rattle.pg_check.specs.Soundness.{Counts}
-use Rattle.pg_check.specs.Mirrors.Orders.{height_at, Stands}
+use Rattle.pg_check.proofs.Common.{rules, ◌≡◌, ℕ, ◌%◌, ◌<◌, ◌≤◌, List, get_or, arith, subst, sym, GameVertex, Answer, all_passed, Span}
+use Rattle.pg_check.proofs.Common.{span_at, Counts, height_at, Stands}
 use Rattle.pg_check.proofs.order.stands.Goals as goal
 
 stands_by : (game : List GameVertex) (solution : List Answer) (places : List ℕ) (spans : List Span) (v : ℕ) (span : Span) (height : ℕ)

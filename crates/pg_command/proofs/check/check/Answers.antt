@@ -1,7 +1,4 @@
-use Rattle.std.proofs.Common.{rules, inl, inr}
-use Rattle.pg_command.specs.Faults.{text_fault}
-use Rattle.pg_command.specs.Checking.{RefusesCheck}
-use Rattle.pg_command.specs.Mirrors.Working.{Fails}
+use Rattle.pg_command.proofs.Common.{rules, inl, inr, text_fault, RefusesCheck, Fails}
 use Rattle.pg_command.proofs.Refusing.{no_game, no_solution, told_so, refused_by}
 use Rattle.pg_command.proofs.Verdicts.{verdict_within}
 use Rattle.pg_command.proofs.check.check.Goals as goal

@@ -1,7 +1,4 @@
-use Rattle.std.proofs.Common.{◌≡◌, ◌<◌, length, get_or, map, max, take, sym, ap, ◌∙◌}
-use Rattle.std.proofs.lemmas.List.{get_or_default}
-use Rattle.pg_arena.specs.Games.{priority}
-use Rattle.pg_command.specs.Checking.{greatest}
+use Rattle.pg_command.proofs.Common.{◌≡◌, ◌<◌, length, get_or, map, max, take, sym, ap, ◌∙◌, get_or_default, priority, greatest}
 use Rattle.pg_command.proofs.Verdicts.{greatest_more, ord_max_is}
 use Rattle.pg_command.proofs.check.greatest_priority.Goals as goal
 

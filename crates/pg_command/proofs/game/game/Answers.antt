@@ -1,6 +1,4 @@
-use Rattle.pg_command.specs.Faults.{hoa_fault, synth_fault}
-use Rattle.pg_command.specs.Making.{RefusesGame}
-use Rattle.pg_command.specs.Mirrors.Working.{Fails}
+use Rattle.pg_command.proofs.Common.{hoa_fault, synth_fault, RefusesGame, Fails}
 use Rattle.pg_command.proofs.Refusing.{refused_by}
 use Rattle.pg_command.proofs.Made.{text_refused, game_refused}
 use Rattle.pg_command.proofs.game.game.Goals as goal

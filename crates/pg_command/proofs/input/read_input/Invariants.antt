@@ -1,5 +1,4 @@
-use Rattle.std.proofs.Common.{◌≤◌, length, []}
-use Rattle.pg_command.specs.Mirrors.Reading.{Keeps}
+use Rattle.pg_command.proofs.Common.{◌≤◌, length, [], Keeps}
 use Rattle.pg_command.proofs.input.read_input.Given as goal
 
 abbrev pub invariant-reads : goal.invariant-reads

@@ -1,6 +1,4 @@
-use Rattle.pg_command.specs.Faults.{text_fault}
-use Rattle.pg_command.specs.Measuring.{RefusesMeasure}
-use Rattle.pg_command.specs.Mirrors.Working.{Fails}
+use Rattle.pg_command.proofs.Common.{text_fault, RefusesMeasure, Fails}
 use Rattle.pg_command.proofs.Refusing.{no_game, told_so, refused_by}
 use Rattle.pg_command.proofs.measure.measure.Goals as goal
 

@@ -1,6 +1,4 @@
-use Rattle.std.proofs.Common.{take}
-use Rattle.std.specs.List.{flat_map, zip}
-use Rattle.std.specs.Io.KnownBytes.{Appends}
+use Rattle.pg_command.proofs.Common.{take, flat_map, zip, Appends}
 use Rattle.pg_command.proofs.Writing.{pair_line}
 use Rattle.pg_command.proofs.measure.write_measures.Given as goal
 

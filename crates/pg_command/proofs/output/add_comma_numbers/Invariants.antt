@@ -1,6 +1,4 @@
-use Rattle.std.proofs.Common.{◌≡◌, ◌++◌, take}
-use Rattle.std.specs.List.{flat_map}
-use Rattle.pg_text.specs.Numbers.{comma_number}
+use Rattle.pg_command.proofs.Common.{◌≡◌, ◌++◌, take, flat_map, comma_number}
 use Rattle.pg_command.proofs.output.add_comma_numbers.Given as goal
 
 -- the numbers so far stand behind what stood there

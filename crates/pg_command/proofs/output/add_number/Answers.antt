@@ -1,5 +1,4 @@
-use Rattle.std.proofs.Common.{◌≡◌, ℕ, ◌++◌, List, OnSome, rules, sym, subst, of_calls}
-use Rattle.std.proofs.lemmas.Fmt.{decimal_digit}
+use Rattle.pg_command.proofs.Common.{◌≡◌, ℕ, ◌++◌, List, OnSome, rules, sym, subst, of_calls, decimal_digit}
 use Rattle.pg_command.proofs.output.add_number.Goals as goal
 
 pub returns-then-number-lt10 : goal.returns-then-number-lt10

@@ -1,6 +1,4 @@
-use Rattle.pg_command.specs.Faults.{event_fault}
-use Rattle.pg_command.specs.Replaying.{RefusesReplay}
-use Rattle.pg_command.specs.Mirrors.Working.{Fails}
+use Rattle.pg_command.proofs.Common.{event_fault, RefusesReplay, Fails}
 use Rattle.pg_command.proofs.Refusing.{refused_by}
 use Rattle.pg_command.proofs.Replaying.{refuses_event, shows_world}
 use Rattle.pg_command.proofs.replay.replay.Goals as goal

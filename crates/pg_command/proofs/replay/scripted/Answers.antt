@@ -1,7 +1,4 @@
-use Rattle.std.proofs.Common.{rules}
-use Rattle.pg_command.specs.Faults.{text_fault, script_fault}
-use Rattle.pg_command.specs.Replaying.{RefusesReplay}
-use Rattle.pg_command.specs.Mirrors.Working.{Fails}
+use Rattle.pg_command.proofs.Common.{rules, text_fault, script_fault, RefusesReplay, Fails}
 use Rattle.pg_command.proofs.Refusing.{no_game, told_so, refused_by}
 use Rattle.pg_command.proofs.Replaying.{no_script, script_told}
 use Rattle.pg_command.proofs.replay.scripted.Goals as goal

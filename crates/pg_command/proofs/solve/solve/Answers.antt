@@ -1,6 +1,4 @@
-use Rattle.pg_command.specs.Faults.{text_fault}
-use Rattle.pg_command.specs.Solving.{RefusesSolve}
-use Rattle.pg_command.specs.Mirrors.Working.{Fails}
+use Rattle.pg_command.proofs.Common.{text_fault, RefusesSolve, Fails}
 use Rattle.pg_command.proofs.Refusing.{no_game, told_so, refused_by}
 use Rattle.pg_command.proofs.solve.solve.Goals as goal
 

@@ -1,8 +1,4 @@
-use Rattle.std.proofs.Common.{◌∙◌}
-use Rattle.pg_arena.specs.Games.{dual}
-use Rattle.pg_arena.specs.Lemmas.Duals.{length_dual}
-use Rattle.pg_command.specs.Faults.{check_fault}
-use Rattle.pg_command.specs.Mirrors.Solver.{IsUnsolved}
+use Rattle.pg_command.proofs.Common.{◌∙◌, dual, length_dual, check_fault, IsUnsolved}
 use Rattle.pg_command.proofs.Refusing.{refused_by, unsolved_by}
 use Rattle.pg_command.proofs.solver.solution_of.Goals as goal
 

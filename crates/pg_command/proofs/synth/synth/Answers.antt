@@ -1,9 +1,5 @@
-use Rattle.std.proofs.Common.{rules, Err, ap, inl, refl, subst, ◌++◌}
-use Rattle.pg_synth.specs.Answers.{IsMealyOf}
-use Rattle.pg_aiger.specs.CircuitLayout.{circuit_text}
-use Rattle.pg_command.specs.Faults.{hoa_fault, synth_fault, aiger_fault}
-use Rattle.pg_command.specs.Synthesising.{RefusesSynth, realizable}
-use Rattle.pg_command.specs.Mirrors.Working.{Fails}
+use Rattle.pg_command.proofs.Common.{rules, Err, ap, inl, refl, subst, ◌++◌, IsMealyOf, circuit_text, hoa_fault, synth_fault, aiger_fault}
+use Rattle.pg_command.proofs.Common.{RefusesSynth, realizable, Fails}
 use Rattle.pg_command.proofs.Refusing.{refused_by}
 use Rattle.pg_command.proofs.Made.{text_refused, game_refused}
 use Rattle.pg_command.proofs.Synthesised.{refuses_circuit, IsKnown, fits_by, realized_by, large_by}

@@ -1,5 +1,4 @@
-use Rattle.pg_aiger.specs.CircuitLayout.{circuit_text}
-use Rattle.pg_command.specs.Synthesising.{realizable}
+use Rattle.pg_command.proofs.Common.{circuit_text, realizable}
 use Rattle.pg_command.proofs.Writing.{appends_last}
 use Rattle.pg_command.proofs.synth.write_realized.Goals as goal
 

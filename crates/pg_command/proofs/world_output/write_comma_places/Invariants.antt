@@ -1,7 +1,4 @@
-use Rattle.std.proofs.Common.{take}
-use Rattle.std.specs.List.{flat_map}
-use Rattle.std.specs.Io.KnownBytes.{Appends}
-use Rattle.pg_text.specs.Numbers.{comma_number}
+use Rattle.pg_command.proofs.Common.{take, flat_map, Appends, comma_number}
 use Rattle.pg_command.proofs.world_output.write_comma_places.Given as goal
 
 abbrev pub invariant-loop-place : goal.invariant-loop-place

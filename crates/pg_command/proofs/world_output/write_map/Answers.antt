@@ -1,5 +1,4 @@
-use Rattle.std.proofs.Common.{◌≡◌, ◌<◌, ◌≤◌, List, length, ap, ◌∙◌, arith}
-use Rattle.pg_arena.specs.Games.{GameVertex, identifier}
+use Rattle.pg_command.proofs.Common.{◌≡◌, ◌<◌, ◌≤◌, List, length, ap, ◌∙◌, arith, GameVertex, identifier}
 use Rattle.pg_command.proofs.Writing.{written_more, written_all}
 use Rattle.pg_command.proofs.world_output.write_map.Goals as goal
 

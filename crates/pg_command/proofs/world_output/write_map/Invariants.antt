@@ -1,8 +1,4 @@
-use Rattle.std.proofs.Common.{take, List}
-use Rattle.std.specs.List.{flat_map, zip}
-use Rattle.std.specs.Io.KnownBytes.{Appends}
-use Rattle.pg_measure.specs.Measures.{MeasureValue}
-use Rattle.pg_world.specs.Worlds.{IsMapOf}
+use Rattle.pg_command.proofs.Common.{take, List, flat_map, zip, Appends, MeasureValue, IsMapOf}
 use Rattle.pg_command.proofs.Writing.{pair_line}
 use Rattle.pg_command.proofs.world_output.write_map.Given as goal
 

@@ -1,7 +1,4 @@
-use Rattle.std.proofs.Common.{◌≤◌, length, ap, arith}
-use Rattle.std.proofs.lemmas.List.{length-map}
-use Rattle.pg_world.specs.Updates.{update_value}
-use Rattle.pg_command.specs.Replaying.{update_line}
+use Rattle.pg_command.proofs.Common.{◌≤◌, length, ap, arith, length-map, update_value, update_line}
 use Rattle.pg_command.proofs.WorldTexts.{placed_all, vertex_within, update_more}
 use Rattle.pg_command.proofs.world_output.write_updates.Goals as goal
 

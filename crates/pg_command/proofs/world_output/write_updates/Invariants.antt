@@ -1,7 +1,4 @@
-use Rattle.std.proofs.Common.{take}
-use Rattle.std.specs.List.{flat_map, enumerate_from}
-use Rattle.std.specs.Io.KnownBytes.{Appends}
-use Rattle.pg_command.specs.Replaying.{update_line}
+use Rattle.pg_command.proofs.Common.{take, flat_map, enumerate_from, Appends, update_line}
 use Rattle.pg_command.proofs.world_output.write_updates.Given as goal
 
 abbrev pub invariant-loop-place : goal.invariant-loop-place

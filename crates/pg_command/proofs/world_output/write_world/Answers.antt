@@ -1,6 +1,4 @@
-use Rattle.std.proofs.Common.{◌≤◌, ◌+◌, [], length, get_or, refl, arith}
-use Rattle.std.specs.List.{flat_map, enumerate_from}
-use Rattle.pg_command.specs.Replaying.{update_line, replica_text}
+use Rattle.pg_command.proofs.Common.{◌≤◌, ◌+◌, [], length, get_or, refl, arith, flat_map, enumerate_from, update_line, replica_text}
 use Rattle.pg_command.proofs.Writing.{appends_then}
 use Rattle.pg_command.proofs.WorldTexts.{placed_more, placed_all}
 use Rattle.pg_command.proofs.world_output.write_world.Goals as goal

@@ -1,8 +1,4 @@
-use Rattle.std.proofs.Common.{List, take}
-use Rattle.std.specs.List.{flat_map, enumerate_from}
-use Rattle.std.specs.Io.KnownBytes.{Appends}
-use Rattle.pg_measure.specs.Measures.{MeasureValue}
-use Rattle.pg_command.specs.Replaying.{replica_text, AreMapsOf}
+use Rattle.pg_command.proofs.Common.{List, take, flat_map, enumerate_from, Appends, MeasureValue, replica_text, AreMapsOf}
 use Rattle.pg_command.proofs.world_output.write_world.Given as goal
 
 abbrev pub invariant-loop-replica : goal.invariant-loop-replica

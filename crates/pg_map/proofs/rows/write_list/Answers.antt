@@ -1,5 +1,4 @@
-use Rattle.std.proofs.Common.{◌≡◌, ◌∙◌, ◌+◌, ◌-◌, ◌*◌, ap, length, arith, set}
-use Rattle.pg_map.specs.Mirrors.Tables.{table}
+use Rattle.pg_map.proofs.Common.{◌≡◌, ◌∙◌, ◌+◌, ◌-◌, ◌*◌, ap, length, arith, set, table}
 use Rattle.pg_map.proofs.Tables.{put_row, length-row}
 use Rattle.pg_map.proofs.rows.write_list.Goals as goal
 

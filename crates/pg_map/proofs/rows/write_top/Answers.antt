@@ -1,5 +1,4 @@
-use Rattle.std.proofs.Common.{◌≡◌, ◌∙◌, ◌+◌, ◌-◌, ◌*◌, ap, arith, set}
-use Rattle.pg_map.specs.Mirrors.Tables.{table}
+use Rattle.pg_map.proofs.Common.{◌≡◌, ◌∙◌, ◌+◌, ◌-◌, ◌*◌, ap, arith, set, table}
 use Rattle.pg_map.proofs.Tables.{put_row, length-row}
 use Rattle.pg_map.proofs.rows.write_top.Goals as goal
 

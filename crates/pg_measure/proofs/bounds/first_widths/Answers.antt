@@ -1,9 +1,5 @@
-use Rattle.std.proofs.Common.{◌≡◌, ◌∙◌, ℕ, ◌+◌, ◌<◌, ◌≤◌, ◌⊎◌, inl, inr, List, [], ◌∷◌, ◌++◌, length, slice_index, ap, subst, sym, arith}
-use Rattle.std.proofs.lemmas.Bool.{cases_lt}
-use Rattle.std.proofs.lemmas.List.{length_push, get_or_append_left}
-use Rattle.std.proofs.Math.Seq.{get_or-append_seam}
-use Rattle.pg_measure.specs.Measures.{BoundList, width_from}
-use Rattle.pg_measure.specs.Mirrors.Widths.{AreWidths}
+use Rattle.pg_measure.proofs.Common.{◌≡◌, ◌∙◌, ℕ, ◌+◌, ◌<◌, ◌≤◌, ◌⊎◌, inl, inr, List, [], ◌∷◌, ◌++◌, length, slice_index, ap, subst, sym}
+use Rattle.pg_measure.proofs.Common.{arith, cases_lt, length_push, get_or_append_left, get_or-append_seam, BoundList, width_from, AreWidths}
 use Rattle.pg_measure.proofs.bounds.first_widths.Goals as goal
 
 -- the width of a priority more

@@ -1,5 +1,4 @@
-use Rattle.std.proofs.Common.{◌≡◌, length}
-use Rattle.pg_measure.specs.Mirrors.Widths.{AreWidths}
+use Rattle.pg_measure.proofs.Common.{◌≡◌, length, AreWidths}
 use Rattle.pg_measure.proofs.bounds.first_widths.Given as goal
 
 -- the priorities below `p` have their widths

@@ -1,5 +1,4 @@
-use Rattle.std.proofs.Common.{ℕ, ◌<◌, ◌≤◌}
-use Rattle.pg_arena.specs.Games.{priority}
+use Rattle.pg_measure.proofs.Common.{ℕ, ◌<◌, ◌≤◌, priority}
 use Rattle.pg_measure.proofs.bounds.greatest_priority.Given as goal
 
 abbrev pub invariant-loop-number : goal.invariant-loop-number

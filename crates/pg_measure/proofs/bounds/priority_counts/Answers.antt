@@ -1,5 +1,4 @@
-use Rattle.std.proofs.Common.{◌<◌, length, arith}
-use Rattle.std.proofs.lemmas.List.{length-set}
+use Rattle.pg_measure.proofs.Common.{◌<◌, length, arith, length-set}
 use Rattle.pg_measure.proofs.Counted.{counted_more, counted_at_most}
 use Rattle.pg_measure.proofs.bounds.priority_counts.Goals as goal
 

@@ -1,6 +1,4 @@
-use Rattle.std.proofs.Common.{◌≡◌, ℕ, ◌<◌, length, take, get_or}
-use Rattle.pg_arena.specs.Games.{priority}
-use Rattle.pg_measure.specs.Games.{vertices_of}
+use Rattle.pg_measure.proofs.Common.{◌≡◌, ℕ, ◌<◌, length, take, get_or, priority, vertices_of}
 use Rattle.pg_measure.proofs.bounds.priority_counts.Given as goal
 
 -- the vertices so far are counted

@@ -1,5 +1,4 @@
-use Rattle.std.proofs.Common.{ℕ, ◌<◌, ◌≤◌}
-use Rattle.pg_rank.specs.Ladders.{step_at}
+use Rattle.pg_rank.proofs.Common.{ℕ, ◌<◌, ◌≤◌, step_at}
 use Rattle.pg_rank.proofs.block.block_begin.Given as goal
 
 abbrev pub invariant-loop-first : goal.invariant-loop-first

@@ -1,5 +1,4 @@
-use Rattle.std.proofs.Common.{ℕ, ◌-◌, ◌<◌, ◌≤◌, length}
-use Rattle.pg_rank.specs.Ladders.{step_at}
+use Rattle.pg_rank.proofs.Common.{ℕ, ◌-◌, ◌<◌, ◌≤◌, length, step_at}
 use Rattle.pg_rank.proofs.block.skip.Given as goal
 
 abbrev pub invariant-loop-end : goal.invariant-loop-end

@@ -1,7 +1,4 @@
-use Rattle.std.proofs.Common.{◌≡◌, ◌<◌, ◌≤◌, ◌-◌, get_or, arith, sym, subst}
-use Rattle.std.specs.Prelude.{◌↔◌}
-use Rattle.pg_measure.specs.Measures.{BoundList}
-use Rattle.pg_rank.specs.Mirrors.Rungs.{IsBounded}
+use Rattle.pg_rank.proofs.Common.{◌≡◌, ◌<◌, ◌≤◌, ◌-◌, get_or, arith, sym, subst, ◌↔◌, BoundList, IsBounded}
 use Rattle.pg_rank.proofs.Counting.{bounded_here, not_bounded}
 use Rattle.pg_rank.proofs.table.bound_of.Goals as goal
 

@@ -1,5 +1,4 @@
-use Rattle.std.proofs.Common.{◌≡◌, suc, ◌+◌, ◌-◌, ◌<◌, slice_index_or, arith}
-use Rattle.pg_rank.specs.Ladders.{step_at, component}
+use Rattle.pg_rank.proofs.Common.{◌≡◌, suc, ◌+◌, ◌-◌, ◌<◌, slice_index_or, arith, step_at, component}
 use Rattle.pg_rank.proofs.Counting.{count_same, count_first, count_after}
 use Rattle.pg_rank.proofs.table.count_of.Goals as goal
 use Rattle.pg_rank.proofs.table.count_of.Goals.{After-bound_of, then-begin-gt0+then-steps-begin, else-begin-gt0}

@@ -1,6 +1,4 @@
-use Rattle.std.proofs.Common.{suc, refl, arith, length-append}
-use Rattle.pg_rank.specs.Ladders.{step_at, component}
-use Rattle.pg_rank.specs.Mirrors.Rungs.{IsCount, IsBounded}
+use Rattle.pg_rank.proofs.Common.{suc, refl, arith, length-append, step_at, component, IsCount, IsBounded}
 use Rattle.pg_rank.proofs.Counting.{ladder_bounded, pushed}
 use Rattle.pg_rank.proofs.table.counts_of.Goals as goal
 

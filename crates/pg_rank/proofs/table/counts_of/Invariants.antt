@@ -1,6 +1,4 @@
-use Rattle.std.proofs.Common.{◌≡◌, ℕ, ◌<◌, length, slice_index_or}
-use Rattle.pg_rank.specs.Ladders.{step_at}
-use Rattle.pg_rank.specs.Mirrors.Rungs.{IsCount, IsBounded}
+use Rattle.pg_rank.proofs.Common.{◌≡◌, ℕ, ◌<◌, length, slice_index_or, step_at, IsCount, IsBounded}
 use Rattle.pg_rank.proofs.table.counts_of.Given as goal
 
 abbrev pub invariant-loop-k : goal.invariant-loop-k

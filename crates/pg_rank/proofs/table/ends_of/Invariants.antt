@@ -1,5 +1,4 @@
-use Rattle.std.proofs.Common.{◌≡◌, ℕ, ◌<◌, ◌≤◌, length, slice_index_or}
-use Rattle.pg_rank.specs.Mirrors.Rungs.{IsEnd}
+use Rattle.pg_rank.proofs.Common.{◌≡◌, ℕ, ◌<◌, ◌≤◌, length, slice_index_or, IsEnd}
 use Rattle.pg_rank.proofs.table.ends_of.Given as goal
 
 abbrev pub invariant-loop-k : goal.invariant-loop-k

@@ -1,5 +1,4 @@
-use Rattle.std.proofs.Common.{◌≡◌, ℕ, ◌<◌, length, slice_index_or}
-use Rattle.pg_rank.specs.Mirrors.Rungs.{IsOrigin}
+use Rattle.pg_rank.proofs.Common.{◌≡◌, ℕ, ◌<◌, length, slice_index_or, IsOrigin}
 use Rattle.pg_rank.proofs.table.origins_of.Given as goal
 
 abbrev pub invariant-loop-k : goal.invariant-loop-k

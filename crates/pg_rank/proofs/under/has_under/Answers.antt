@@ -1,8 +1,4 @@
-use Rattle.std.proofs.Common.{subst}
-use Rattle.std.specs.Prelude.{All, IsTrue, ◌↔◌}
-use Rattle.pg_map.specs.Lines.{line_at}
-use Rattle.pg_map.specs.Maps.{SomeOrAll}
-use Rattle.pg_rank.specs.Mirrors.Blocks.{rank_at, IsUnder}
+use Rattle.pg_rank.proofs.Common.{subst, All, IsTrue, ◌↔◌, line_at, SomeOrAll, rank_at, IsUnder}
 use Rattle.pg_rank.proofs.under.has_under.Goals as goal
 
 pub returns-in-Odd : goal.returns-in-Odd

@@ -1,5 +1,4 @@
-use Rattle.std.proofs.Common.{ℕ, ◌<◌, slice_index_or}
-use Rattle.pg_rank.specs.Mirrors.Blocks.{rank_at, IsUnder}
+use Rattle.pg_rank.proofs.Common.{ℕ, ◌<◌, slice_index_or, rank_at, IsUnder}
 use Rattle.pg_rank.proofs.under.one_under.Given as goal
 
 abbrev pub invariant-loop-w : goal.invariant-loop-w

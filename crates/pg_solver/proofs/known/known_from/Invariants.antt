@@ -1,6 +1,4 @@
-use Rattle.std.proofs.Common.{◌≡◌, ℕ, ◌<◌, false, length}
-use Rattle.std.specs.Prelude.{slice_index_or}
-use Rattle.pg_solver.specs.Mirrors.Known.{IsKnownFrom}
+use Rattle.pg_solver.proofs.Common.{◌≡◌, ℕ, ◌<◌, false, length, slice_index_or, IsKnownFrom}
 use Rattle.pg_solver.proofs.known.known_from.Given as goal
 
 abbrev pub invariant-loop-number : goal.invariant-loop-number

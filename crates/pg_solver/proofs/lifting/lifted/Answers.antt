@@ -1,9 +1,4 @@
-use Rattle.std.proofs.Common.{◌≡◌, ◌∙◌, ap, refl}
-use Rattle.std.specs.Prelude.{All}
-use Rattle.pg_measure.specs.Measures.{Fits}
-use Rattle.pg_map.specs.Maps.{IsClosed}
-use Rattle.pg_lift.specs.Mirrors.Lifters.{LifterValue}
-use Rattle.pg_solver.specs.Mirrors.Raised.{IsRaised}
+use Rattle.pg_solver.proofs.Common.{◌≡◌, ◌∙◌, ap, refl, All, Fits, IsClosed, LifterValue, IsRaised}
 use Rattle.pg_solver.proofs.Raising.{raised_itself, raised_by, falls_by, least_of_lifting}
 use Rattle.pg_solver.proofs.lifting.lifted.Goals as goal
 

@@ -1,6 +1,4 @@
-use Rattle.std.proofs.Common.{◌≡◌}
-use Rattle.pg_map.specs.Weights.{map_weight}
-use Rattle.pg_solver.specs.Mirrors.Raised.{IsRaised}
+use Rattle.pg_solver.proofs.Common.{◌≡◌, map_weight, IsRaised}
 use Rattle.pg_solver.proofs.lifting.lifted.Given as goal
 
 abbrev pub invariant-lifts : goal.invariant-lifts

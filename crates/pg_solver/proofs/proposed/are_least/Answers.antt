@@ -1,7 +1,4 @@
-use Rattle.std.proofs.Common.{List, length, subst, sym}
-use Rattle.pg_arena.specs.Games.{GameVertex, dual}
-use Rattle.pg_map.specs.Lines.{AreWithin, game_line}
-use Rattle.pg_solver.specs.Mirrors.Known.{AreOpposite}
+use Rattle.pg_solver.proofs.Common.{List, length, subst, sym, GameVertex, dual, AreWithin, game_line, AreOpposite}
 use Rattle.pg_solver.proofs.Knowing.{game_opposite, opposite_back}
 use Rattle.pg_solver.proofs.proposed.are_least.Goals as goal
 

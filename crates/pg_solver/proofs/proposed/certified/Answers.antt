@@ -1,7 +1,4 @@
-use Rattle.std.proofs.Common.{◌∙◌, Bool, List, subst, sym}
-use Rattle.pg_map.specs.Lines.{game_line}
-use Rattle.pg_map.specs.Maps.{IsNeverAbove}
-use Rattle.pg_claims.specs.Known.{known_map}
+use Rattle.pg_solver.proofs.Common.{◌∙◌, Bool, List, subst, sym, game_line, IsNeverAbove, known_map}
 use Rattle.pg_solver.proofs.proposed.certified.Goals as goal
 
 pub certifies-requires-clause-known : goal.certifies-requires-clause-known

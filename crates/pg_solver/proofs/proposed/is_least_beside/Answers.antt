@@ -1,6 +1,4 @@
-use Rattle.std.proofs.Common.{Bool, List, subst, sym}
-use Rattle.pg_map.specs.Maps.{IsNeverAbove}
-use Rattle.pg_claims.specs.Known.{known_map}
+use Rattle.pg_solver.proofs.Common.{Bool, List, subst, sym, IsNeverAbove, known_map}
 use Rattle.pg_solver.proofs.Knowing.{known_beside}
 use Rattle.pg_solver.proofs.proposed.is_least_beside.Goals as goal
 

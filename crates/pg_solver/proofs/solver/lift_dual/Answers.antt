@@ -1,8 +1,5 @@
-use Rattle.std.proofs.Common.{◌≡◌, ◌∙◌, ap, length, arith, subst, sym, ℕ, List}
-use Rattle.std.proofs.lemmas.List.{length-replicate}
-use Rattle.pg_arena.specs.Games.{GameVertex, dual}
-use Rattle.pg_arena.specs.Lemmas.Duals.{length_dual, game_dual}
-use Rattle.pg_map.specs.Lines.{AreWithin, game_line}
+use Rattle.pg_solver.proofs.Common.{◌≡◌, ◌∙◌, ap, length, arith, subst, sym, ℕ, List, length-replicate, GameVertex, dual, length_dual}
+use Rattle.pg_solver.proofs.Common.{game_dual, AreWithin, game_line}
 use Rattle.pg_solver.proofs.solver.lift_dual.Goals as goal
 
 pub lifted-requires-clause-within : goal.lifted-requires-clause-within

@@ -1,6 +1,4 @@
-use Rattle.std.proofs.Common.{◌≡◌, ◌∙◌, ap, length, arith, subst, sym, ℕ}
-use Rattle.std.proofs.lemmas.List.{length-replicate}
-use Rattle.pg_map.specs.Lines.{AreWithin, game_line}
+use Rattle.pg_solver.proofs.Common.{◌≡◌, ◌∙◌, ap, length, arith, subst, sym, ℕ, length-replicate, AreWithin, game_line}
 use Rattle.pg_solver.proofs.solver.lift_game.Goals as goal
 
 pub lifted-requires-clause-within : goal.lifted-requires-clause-within

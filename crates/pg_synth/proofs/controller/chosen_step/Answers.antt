@@ -1,10 +1,5 @@
-use Rattle.std.proofs.Common.{◌≡◌, ◌+◌, ℕ, ◌<◌, List, Option, Some, None, IsSome, option_map, arith, refl, sym, subst, ap, ◌∙◌}
-use Rattle.pg_arena.specs.Games.{GameVertex}
-use Rattle.pg_automaton.specs.Automata.{Step, next, step}
-use Rattle.pg_synth.specs.Letters.{joined}
-use Rattle.pg_synth.specs.AutomatonGames.{input_letters, output_letters}
-use Rattle.pg_synth.specs.Machines.{FollowsAt}
-use Rattle.pg_synth.specs.Mirrors.Drafts.{IsLeastIfAny, IsWonAt}
+use Rattle.pg_synth.proofs.Common.{◌≡◌, ◌+◌, ℕ, ◌<◌, List, Option, Some, None, IsSome, option_map, arith, refl, sym, subst, ap, ◌∙◌}
+use Rattle.pg_synth.proofs.Common.{GameVertex, Step, next, step, joined, input_letters, output_letters, FollowsAt, IsLeastIfAny, IsWonAt}
 use Rattle.pg_synth.proofs.Choosing.{IsChosen, IsLed, chosen_is, least_is, led_on}
 use Rattle.pg_synth.proofs.Numbers.{count, few_letters_of, letter_is}
 use Rattle.pg_synth.proofs.Places.{letter_in}

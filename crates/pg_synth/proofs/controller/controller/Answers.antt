@@ -1,7 +1,5 @@
-use Rattle.std.proofs.Common.{◌≡◌, ◌*◌, ◌-◌, [], ◌∷◌, length, arith, sym, subst, ap, ◌∙◌}
-use Rattle.pg_synth.specs.AutomatonGames.{input_letters}
-use Rattle.pg_synth.specs.Machines.{Machine, IsMachineOf, IsInOrder}
-use Rattle.pg_synth.specs.Mirrors.Drafts.{state_of}
+use Rattle.pg_synth.proofs.Common.{◌≡◌, ◌*◌, ◌-◌, [], ◌∷◌, length, arith, sym, subst, ap, ◌∙◌, input_letters, Machine, IsMachineOf}
+use Rattle.pg_synth.proofs.Common.{IsInOrder, state_of}
 use Rattle.pg_synth.proofs.Drafting.{first_draft, machine_is, machine_of}
 use Rattle.pg_synth.proofs.Letters.{both_parts}
 use Rattle.pg_synth.proofs.Numbering.{few_numbers}

@@ -1,6 +1,4 @@
-use Rattle.std.proofs.Common.{◌≡◌, ◌≤◌, ◌*◌, ◌-◌, length}
-use Rattle.pg_synth.specs.AutomatonGames.{input_letters}
-use Rattle.pg_synth.specs.Mirrors.Drafts.{IsDraft}
+use Rattle.pg_synth.proofs.Common.{◌≡◌, ◌≤◌, ◌*◌, ◌-◌, length, input_letters, IsDraft}
 use Rattle.pg_synth.proofs.controller.controller.Given as goal
 
 abbrev pub invariant-loop-number : goal.invariant-loop-number

@@ -1,8 +1,4 @@
-use Rattle.std.proofs.Common.{◌≡◌, inl, inr, arith, sym, ap, ◌∙◌}
-use Rattle.std.proofs.lemmas.Bool.{cases_lt}
-use Rattle.pg_synth.specs.Letters.{joined}
-use Rattle.pg_synth.specs.AutomatonGames.{input_letters, output_letters}
-use Rattle.pg_synth.specs.Mirrors.GameLines.{target}
+use Rattle.pg_synth.proofs.Common.{◌≡◌, inl, inr, arith, sym, ap, ◌∙◌, cases_lt, joined, input_letters, output_letters, target}
 use Rattle.pg_synth.proofs.Numbers.{count, few_letters_of, few_outputs_of, letter_at}
 use Rattle.pg_synth.proofs.Places.{letter_in}
 use Rattle.pg_synth.proofs.controller.least_output.Goals as goal

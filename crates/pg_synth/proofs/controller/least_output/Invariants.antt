@@ -1,6 +1,4 @@
-use Rattle.std.proofs.Common.{◌≢◌, ◌<◌, ℕ}
-use Rattle.pg_synth.specs.Letters.{joined}
-use Rattle.pg_synth.specs.Mirrors.GameLines.{target}
+use Rattle.pg_synth.proofs.Common.{◌≢◌, ◌<◌, ℕ, joined, target}
 use Rattle.pg_synth.proofs.controller.least_output.Given as goal
 
 abbrev pub invariant-loop-output : goal.invariant-loop-output

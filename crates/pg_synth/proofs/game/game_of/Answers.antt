@@ -1,9 +1,5 @@
-use Rattle.std.proofs.Common.{◌≡◌, ◌+◌, ◌*◌, ◌≤◌, ℕ, List, true, false, inl, inr, length, None, Some, arith, refl, sym, subst, ap, ◌∙◌}
-use Rattle.std.specs.List.{sum_by}
-use Rattle.std.proofs.lemmas.Bool.{cases_lt}
-use Rattle.pg_synth.specs.AutomatonGames.{place_identifier}
-use Rattle.pg_synth.specs.Mirrors.GameLines.{edges_of, game_identifiers}
-use Rattle.pg_synth.specs.declared.place.Place.TheVariants.{Arrival}
+use Rattle.pg_synth.proofs.Common.{◌≡◌, ◌+◌, ◌*◌, ◌≤◌, ℕ, List, true, false, inl, inr, length, None, Some, arith, refl, sym, subst, ap, ◌∙◌}
+use Rattle.pg_synth.proofs.Common.{sum_by, cases_lt, place_identifier, edges_of, game_identifiers, Arrival}
 use Rattle.pg_synth.proofs.Made.{made}
 use Rattle.pg_synth.proofs.Limits.{many_vertices, many_edges, initial_of, synth_game}
 use Rattle.pg_synth.proofs.Numbers.{small}

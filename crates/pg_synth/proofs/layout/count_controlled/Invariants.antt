@@ -1,5 +1,4 @@
-use Rattle.std.proofs.Common.{◌≡◌, ◌≤◌, take}
-use Rattle.pg_synth.specs.Letters.{outputs}
+use Rattle.pg_synth.proofs.Common.{◌≡◌, ◌≤◌, take, outputs}
 use Rattle.pg_synth.proofs.layout.count_controlled.Given as goal
 
 abbrev pub invariant-loop-a : goal.invariant-loop-a

@@ -1,5 +1,4 @@
-use Rattle.std.proofs.Common.{[]}
-use Rattle.pg_synth.specs.Letters.{joined}
+use Rattle.pg_synth.proofs.Common.{[], joined}
 use Rattle.pg_synth.proofs.Lists.{pushed}
 use Rattle.pg_synth.proofs.layout.input_parts.Goals as goal
 

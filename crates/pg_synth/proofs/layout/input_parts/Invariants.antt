@@ -1,6 +1,4 @@
-use Rattle.std.proofs.Common.{◌≡◌, map}
-use Rattle.std.specs.List.{range_with_len}
-use Rattle.pg_synth.specs.Letters.{joined}
+use Rattle.pg_synth.proofs.Common.{◌≡◌, map, range_with_len, joined}
 use Rattle.pg_synth.proofs.layout.input_parts.Given as goal
 
 abbrev pub invariant-loop-input : goal.invariant-loop-input

@@ -1,6 +1,4 @@
-use Rattle.std.proofs.Common.{◌≡◌, ◌^◌, List, Bool, map, arith, subst, ◌∙◌}
-use Rattle.std.specs.List.{range_with_len}
-use Rattle.pg_synth.specs.Letters.{joined, inputs, outputs}
+use Rattle.pg_synth.proofs.Common.{◌≡◌, ◌^◌, List, Bool, map, arith, subst, ◌∙◌, range_with_len, joined, inputs, outputs}
 use Rattle.pg_synth.proofs.Numbers.{few_answers, count}
 use Rattle.pg_synth.proofs.layout.layout_of.Goals as goal
 

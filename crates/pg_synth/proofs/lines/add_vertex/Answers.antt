@@ -1,7 +1,4 @@
-use Rattle.std.proofs.Common.{◌≡◌, ◌++◌, ◌∷◌, [], Some, ap, sym, subst, ◌∙◌}
-use Rattle.std.specs.Prelude.{OnOk}
-use Rattle.pg_arena.specs.Lines.{Line, add_fault}
-use Rattle.pg_synth.specs.AutomatonGames.{IsPlaceOf, place_priority}
+use Rattle.pg_synth.proofs.Common.{◌≡◌, ◌++◌, ◌∷◌, [], Some, ap, sym, subst, ◌∙◌, OnOk, Line, add_fault, IsPlaceOf, place_priority}
 use Rattle.pg_synth.proofs.Building.{place_at, memory_result, line_is}
 use Rattle.pg_synth.proofs.lines.add_vertex.Goals as goal
 

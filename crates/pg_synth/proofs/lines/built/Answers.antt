@@ -1,10 +1,5 @@
-use Rattle.std.proofs.Common.{◌≡◌, List, Result, Ok, Err, get_or, map, take_all, ap, sym, subst, ◌∙◌}
-use Rattle.std.specs.Prelude.{IfErr, MatchResult}
-use Rattle.pg_arena.specs.declared.fault.ArenaFault.{ArenaFault}
-use Rattle.pg_arena.specs.declared.fault.ArenaFault.TheVariants.{OutOfMemory}
-use Rattle.pg_arena.specs.Games.{GameVertex}
-use Rattle.pg_arena.specs.Lines.{Line, IsGameOf, add_fault}
-use Rattle.pg_synth.specs.Mirrors.GameLines.{line_at, game_lines}
+use Rattle.pg_synth.proofs.Common.{◌≡◌, List, Result, Ok, Err, get_or, map, take_all, ap, sym, subst, ◌∙◌, IfErr, MatchResult, ArenaFault}
+use Rattle.pg_synth.proofs.Common.{OutOfMemory, GameVertex, Line, IsGameOf, add_fault, line_at, game_lines}
 use Rattle.pg_synth.proofs.Building.{listed_place, may_follow}
 use Rattle.pg_synth.proofs.Linked.{linked_game, linked_is}
 use Rattle.pg_synth.proofs.lines.built.Goals as goal

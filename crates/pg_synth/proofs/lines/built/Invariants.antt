@@ -1,5 +1,4 @@
-use Rattle.std.proofs.Common.{◌≡◌, take, map}
-use Rattle.pg_synth.specs.Mirrors.GameLines.{line_at}
+use Rattle.pg_synth.proofs.Common.{◌≡◌, take, map, line_at}
 use Rattle.pg_synth.proofs.lines.built.Given as goal
 
 abbrev pub invariant-loop-identifier : goal.invariant-loop-identifier

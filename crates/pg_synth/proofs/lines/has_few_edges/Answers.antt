@@ -1,7 +1,4 @@
-use Rattle.std.proofs.Common.{◌≡◌, get_or, length, arith, ap, ◌∙◌}
-use Rattle.std.proofs.lemmas.List.Sums.{sum_by_more_le}
-use Rattle.pg_lists.specs.Rising.{rising}
-use Rattle.pg_synth.specs.Mirrors.GameLines.{leads, edges_of}
+use Rattle.pg_synth.proofs.Common.{◌≡◌, get_or, length, arith, ap, ◌∙◌, sum_by_more_le, rising, leads, edges_of}
 use Rattle.pg_synth.proofs.Building.{is_place, place_at}
 use Rattle.pg_synth.proofs.lines.has_few_edges.Goals as goal
 

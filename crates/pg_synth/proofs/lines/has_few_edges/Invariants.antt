@@ -1,6 +1,4 @@
-use Rattle.std.proofs.Common.{◌≡◌, ◌≤◌, take}
-use Rattle.std.specs.List.{sum_by}
-use Rattle.pg_synth.specs.Mirrors.GameLines.{edges_of}
+use Rattle.pg_synth.proofs.Common.{◌≡◌, ◌≤◌, take, sum_by, edges_of}
 use Rattle.pg_synth.proofs.lines.has_few_edges.Given as goal
 
 abbrev pub invariant-loop-identifier : goal.invariant-loop-identifier

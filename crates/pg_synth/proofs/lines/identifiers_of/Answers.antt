@@ -1,9 +1,5 @@
-use Rattle.std.proofs.Common.{◌*◌, ◌++◌, ◌∷◌, [], List, ℕ, None, map, append_assoc, arith, ap, ◌∙◌}
-use Rattle.std.specs.List.{range_with_len}
-use Rattle.pg_synth.specs.AutomatonGames.{place_identifier, input_letters}
-use Rattle.pg_automaton.specs.Automata.{letters}
-use Rattle.pg_synth.specs.Mirrors.GameLines.{target, added_by}
-use Rattle.pg_synth.specs.declared.place.Place.TheVariants.{Arrival, Answer}
+use Rattle.pg_synth.proofs.Common.{◌*◌, ◌++◌, ◌∷◌, [], List, ℕ, None, map, append_assoc, arith, ap, ◌∙◌, range_with_len, place_identifier}
+use Rattle.pg_synth.proofs.Common.{input_letters, letters, target, added_by, Arrival, Answer}
 use Rattle.pg_synth.proofs.Lists.{flat_more}
 use Rattle.pg_synth.proofs.Numbers.{small}
 use Rattle.pg_synth.proofs.lines.identifiers_of.Goals as goal

@@ -1,8 +1,4 @@
-use Rattle.std.proofs.Common.{◌≡◌, ◌∷◌, None}
-use Rattle.std.specs.List.{flat_map, range_with_len}
-use Rattle.pg_synth.specs.AutomatonGames.{place_identifier}
-use Rattle.pg_synth.specs.Mirrors.GameLines.{added_by}
-use Rattle.pg_synth.specs.declared.place.Place.TheVariants.{Arrival}
+use Rattle.pg_synth.proofs.Common.{◌≡◌, ◌∷◌, None, flat_map, range_with_len, place_identifier, added_by, Arrival}
 use Rattle.pg_synth.proofs.lines.identifiers_of.Given as goal
 
 abbrev pub invariant-loop-state : goal.invariant-loop-state

@@ -1,8 +1,4 @@
-use Rattle.std.proofs.Common.{◌≡◌, ℕ, ◌+◌, ◌++◌, map, arith, subst}
-use Rattle.std.specs.List.{range_with_len}
-use Rattle.pg_synth.specs.Letters.{joined}
-use Rattle.pg_synth.specs.AutomatonGames.{input_letters, place_identifier}
-use Rattle.pg_synth.specs.declared.place.Place.TheVariants.{Answer}
+use Rattle.pg_synth.proofs.Common.{◌≡◌, ℕ, ◌+◌, ◌++◌, map, arith, subst, range_with_len, joined, input_letters, place_identifier, Answer}
 use Rattle.pg_synth.proofs.Lists.{pushed}
 use Rattle.pg_synth.proofs.Numbers.{small, count, few_answers}
 use Rattle.pg_synth.proofs.lines.push_answers.Goals as goal

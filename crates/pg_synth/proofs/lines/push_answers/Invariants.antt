@@ -1,7 +1,4 @@
-use Rattle.std.proofs.Common.{◌≡◌, ◌++◌, map}
-use Rattle.std.specs.List.{range_with_len}
-use Rattle.pg_synth.specs.AutomatonGames.{place_identifier}
-use Rattle.pg_synth.specs.declared.place.Place.TheVariants.{Answer}
+use Rattle.pg_synth.proofs.Common.{◌≡◌, ◌++◌, map, range_with_len, place_identifier, Answer}
 use Rattle.pg_synth.proofs.lines.push_answers.Given as goal
 
 abbrev pub invariant-loop-input : goal.invariant-loop-input

@@ -1,6 +1,4 @@
-use Rattle.std.proofs.Common.{◌≡◌, ◌++◌, map}
-use Rattle.std.specs.List.{range_with_len}
-use Rattle.pg_synth.specs.Mirrors.GameLines.{target}
+use Rattle.pg_synth.proofs.Common.{◌≡◌, ◌++◌, map, range_with_len, target}
 use Rattle.pg_synth.proofs.lines.push_targets.Given as goal
 
 abbrev pub invariant-loop-letter : goal.invariant-loop-letter

@@ -1,6 +1,4 @@
-use Rattle.std.proofs.Common.{◌∙◌, eqb}
-use Rattle.std.proofs.lemmas.List.Filters.{dedup_is}
-use Rattle.pg_lists.proofs.Rising.{dedup_rising}
+use Rattle.pg_synth.proofs.Common.{◌∙◌, eqb, dedup_is, dedup_rising}
 use Rattle.pg_synth.proofs.lines.put_each_once.Goals as goal
 
 pub returns : goal.returns

@@ -1,10 +1,5 @@
-use Rattle.std.proofs.Common.{◌≡◌, ℕ, [], map, arith, sym, ap, subst, ◌∙◌}
-use Rattle.std.specs.List.{range_with_len}
-use Rattle.pg_synth.specs.Letters.{joined}
-use Rattle.pg_synth.specs.AutomatonGames.{input_letters, output_letters, IsPlaceOf}
-use Rattle.pg_synth.specs.Mirrors.GameLines.{target, leads}
-use Rattle.pg_synth.specs.declared.place.Place.{Place}
-use Rattle.pg_synth.specs.declared.place.Place.TheVariants.{Answer}
+use Rattle.pg_synth.proofs.Common.{◌≡◌, ℕ, [], map, arith, sym, ap, subst, ◌∙◌, range_with_len, joined, input_letters, output_letters}
+use Rattle.pg_synth.proofs.Common.{IsPlaceOf, target, leads, Place, Answer}
 use Rattle.pg_synth.proofs.Lists.{pushed}
 use Rattle.pg_synth.proofs.Numbers.{count, few_letters_of, letter_at}
 use Rattle.pg_synth.proofs.Places.{letter_in}

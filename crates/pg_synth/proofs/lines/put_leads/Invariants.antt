@@ -1,7 +1,4 @@
-use Rattle.std.proofs.Common.{◌≡◌, map}
-use Rattle.std.specs.List.{range_with_len}
-use Rattle.pg_synth.specs.Letters.{joined}
-use Rattle.pg_synth.specs.Mirrors.GameLines.{target}
+use Rattle.pg_synth.proofs.Common.{◌≡◌, map, range_with_len, joined, target}
 use Rattle.pg_synth.proofs.lines.put_leads.Given as goal
 
 abbrev pub invariant-loop-other : goal.invariant-loop-other

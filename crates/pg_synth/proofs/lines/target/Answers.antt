@@ -1,5 +1,4 @@
-use Rattle.std.proofs.Common.{◌≡◌, ◌*◌, Some, arith, sym, ap, ◌∙◌}
-use Rattle.pg_automaton.specs.Automata.{Step, IsStepOf, deciding}
+use Rattle.pg_synth.proofs.Common.{◌≡◌, ◌*◌, Some, arith, sym, ap, ◌∙◌, Step, IsStepOf, deciding}
 use Rattle.pg_synth.proofs.Numbers.{small}
 use Rattle.pg_synth.proofs.Places.{deciding_below}
 use Rattle.pg_synth.proofs.lines.target.Goals as goal

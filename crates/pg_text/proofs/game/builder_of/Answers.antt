@@ -1,8 +1,5 @@
-use Rattle.std.proofs.Common.{◌≡◌, ◌∙◌, sym, ap, subst, Ok, None, ◌++◌, ◌∷◌, [], List, ℕ, Option}
-use Rattle.std.proofs.lemmas.Result.{err_from_is_err_and}
-use Rattle.pg_arena.specs.Lines.{Line, counted, Answers, add_fault}
-use Rattle.pg_text.specs.declared.line.TextLine.{TextLine}
-use Rattle.pg_text.specs.Mirrors.GameScan.{line_seen, item_seen, counted_step}
+use Rattle.pg_text.proofs.Common.{◌≡◌, ◌∙◌, sym, ap, subst, Ok, None, ◌++◌, ◌∷◌, [], List, ℕ, Option, err_from_is_err_and, Line, counted}
+use Rattle.pg_text.proofs.Common.{Answers, add_fault, TextLine, line_seen, item_seen, counted_step}
 use Rattle.pg_text.proofs.Building.{more, finishes, fails_body, fails_item, fails_add}
 use Rattle.pg_text.proofs.Takes.{item_shrinks}
 use Rattle.pg_text.proofs.Counting.{IsCounted, written_line, no_line, written_fails}

@@ -1,6 +1,4 @@
-use Rattle.std.proofs.Common.{ap}
-use Rattle.std.proofs.lemmas.Result.{err_from_is_err_and}
-use Rattle.pg_text.specs.Mirrors.Refusals.{arena_fault}
+use Rattle.pg_text.proofs.Common.{ap, err_from_is_err_and, arena_fault}
 use Rattle.pg_text.proofs.GameTexts.{found_game, spelt_game, only_memory, refuses_lines, refuses_game}
 use Rattle.pg_text.proofs.game.read_game.Goals as goal
 

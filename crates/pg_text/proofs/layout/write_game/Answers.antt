@@ -1,5 +1,4 @@
-use Rattle.std.proofs.Common.{arith}
-use Rattle.std.proofs.lemmas.Bool.Decides.{nat_tests}
+use Rattle.pg_text.proofs.Common.{arith, nat_tests}
 use Rattle.pg_text.proofs.Printing.{line_push, game_written}
 use Rattle.pg_text.proofs.layout.write_game.Goals as goal
 

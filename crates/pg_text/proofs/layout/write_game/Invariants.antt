@@ -1,8 +1,4 @@
-use Rattle.std.proofs.Common.{take}
-use Rattle.std.specs.List.{flat_map}
-use Rattle.std.specs.Io.KnownBytes.{Appends}
-use Rattle.pg_arena.specs.Lines.{lines_of}
-use Rattle.pg_text.specs.GameLayout.{line_text}
+use Rattle.pg_text.proofs.Common.{take, flat_map, Appends, lines_of, line_text}
 use Rattle.pg_text.proofs.layout.write_game.Given as goal
 
 abbrev pub invariant-loop-v : goal.invariant-loop-v

@@ -1,12 +1,5 @@
-use Rattle.std.proofs.Common.{ℕ, List, ◌++◌, Option, Result, Ok, Err, ap, subst, append_assoc}
-use Rattle.std.specs.Prelude.{OnOk, codes, decimal}
-use Rattle.std.specs.Io.KnownBytes.{Appends}
-use Rattle.std.proofs.KnownBytes.{Appends-trans}
-use Rattle.pg_arena.specs.Games.{GameVertex}
-use Rattle.pg_arena.specs.Lines.{line_of}
-use Rattle.pg_text.specs.GameText.{player_number}
-use Rattle.pg_text.specs.GameLayout.{name_text, line_text}
-use Rattle.pg_text.specs.Numbers.{identifiers_text}
+use Rattle.pg_text.proofs.Common.{ℕ, List, ◌++◌, Option, Result, Ok, Err, ap, subst, append_assoc, OnOk, codes, decimal, Appends}
+use Rattle.pg_text.proofs.Common.{Appends-trans, GameVertex, line_of, player_number, name_text, line_text, identifiers_text}
 use Rattle.pg_text.proofs.Printing.{successors_within}
 use Rattle.pg_text.proofs.layout.write_line.Goals as goal
 

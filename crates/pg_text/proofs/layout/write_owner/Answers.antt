@@ -1,5 +1,4 @@
-use Rattle.std.proofs.Common.{arith}
-use Rattle.std.proofs.lemmas.Fmt.{decimal_digit}
+use Rattle.pg_text.proofs.Common.{arith, decimal_digit}
 use Rattle.pg_text.proofs.layout.write_owner.Goals as goal
 
 pub returns-in-Even : goal.returns-in-Even

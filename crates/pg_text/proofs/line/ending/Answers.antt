@@ -1,8 +1,5 @@
-use Rattle.std.proofs.Common.{◌∙◌, ap, refl, ℕ, List}
-use Rattle.std.proofs.lemmas.Result.{err_from_is_err_and}
-use Rattle.pg_text.specs.Mirrors.Steps.{◌>>=◌, Read}
+use Rattle.pg_text.proofs.Common.{◌∙◌, ap, refl, ℕ, List, err_from_is_err_and, ◌>>=◌, Read, some}
 use Rattle.pg_text.proofs.Steps.{ok}
-use Rattle.pg_lists.proofs.Steps.{some}
 use Rattle.pg_text.proofs.FirstBytes.{named, ending_of_byte, ending_of_others}
 use Rattle.pg_text.proofs.line.ending.Goals as goal
 

@@ -1,7 +1,4 @@
-use Rattle.std.proofs.Common.{ℕ, List, ◌∙◌, ap, arith}
-use Rattle.std.proofs.lemmas.Result.{err_from_is_err_and}
-use Rattle.pg_arena.specs.Lines.{Line}
-use Rattle.pg_text.specs.Mirrors.Steps.{◌>>=◌, Read, item}
+use Rattle.pg_text.proofs.Common.{ℕ, List, ◌∙◌, ap, arith, err_from_is_err_and, Line, ◌>>=◌, Read, item}
 use Rattle.pg_text.proofs.Steps.{ok}
 use Rattle.pg_text.proofs.FirstBytes.{item_of_none, item_of_fault, item_of_line}
 use Rattle.pg_text.proofs.Counting.{counted_item, counted_item_of_line, counted_item_fails}

@@ -1,7 +1,4 @@
-use Rattle.std.proofs.Common.{◌∙◌, eqb, ap}
-use Rattle.std.proofs.lemmas.List.Filters.{dedup_is}
-use Rattle.pg_lists.specs.Rising.{rising}
-use Rattle.pg_lists.proofs.Rising.{dedup_rising, rising_rises, rises_already}
+use Rattle.pg_text.proofs.Common.{◌∙◌, eqb, ap, dedup_is, rising, dedup_rising, rising_rises, rises_already}
 use Rattle.pg_text.proofs.line.make_room.Goals as goal
 
 pub returns : goal.returns

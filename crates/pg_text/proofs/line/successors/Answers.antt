@@ -1,7 +1,4 @@
-use Rattle.std.proofs.Common.{◌∙◌, ap, ℕ, List, Option, Ok, Bor}
-use Rattle.std.proofs.lemmas.Result.{err_from_is_err_and}
-use Rattle.pg_text.specs.Mirrors.Parts.{further_seen, numbers_at}
-use Rattle.pg_text.specs.Mirrors.GameScan.{successors_at}
+use Rattle.pg_text.proofs.Common.{◌∙◌, ap, ℕ, List, Option, Ok, Bor, err_from_is_err_and, further_seen, numbers_at, successors_at}
 use Rattle.pg_text.proofs.Parts.{further_shrinks}
 use Rattle.pg_text.proofs.Counting.{first_gathered, one_gathered, all_gathered, none_gathered}
 use Rattle.pg_text.proofs.line.successors.Goals as goal

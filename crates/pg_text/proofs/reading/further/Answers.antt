@@ -1,6 +1,4 @@
-use Rattle.std.proofs.Common.{◌∙◌, refl, ap, ℕ, List}
-use Rattle.std.proofs.lemmas.Result.{err_from_is_err_and}
-use Rattle.pg_text.specs.Mirrors.Steps.{◌>>=◌, Read, item}
+use Rattle.pg_text.proofs.Common.{◌∙◌, refl, ap, ℕ, List, err_from_is_err_and, ◌>>=◌, Read, item}
 use Rattle.pg_text.proofs.Steps.{ok}
 use Rattle.pg_text.proofs.FirstBytes.{further_of_comma, further_of_semicolon, further_of_others}
 use Rattle.pg_text.proofs.reading.further.Goals as goal

@@ -1,5 +1,4 @@
-use Rattle.std.proofs.Common.{length}
-use Rattle.pg_text.specs.Mirrors.Parts.{numbers_at}
+use Rattle.pg_text.proofs.Common.{length, numbers_at}
 use Rattle.pg_text.proofs.Parts.{HaveCome}
 use Rattle.pg_text.proofs.reading.numbers.Given as goal
 

@@ -1,7 +1,4 @@
-use Rattle.std.proofs.Common.{arith, ◌-◌, length, sym}
-use Rattle.std.specs.Prelude.{decimal}
-use Rattle.std.specs.Io.KnownBytes.{Appends}
-use Rattle.pg_arena.specs.Games.{identifier}
+use Rattle.pg_text.proofs.Common.{arith, ◌-◌, length, sym, decimal, Appends, identifier}
 use Rattle.pg_text.proofs.SolutionPrinting.{answer_push, whole_text}
 use Rattle.pg_text.proofs.solution_layout.write_solution.Goals as goal
 

@@ -1,7 +1,4 @@
-use Rattle.std.proofs.Common.{take}
-use Rattle.std.specs.List.{flat_map}
-use Rattle.std.specs.Io.KnownBytes.{Appends}
-use Rattle.pg_text.specs.SolutionLayout.{printed_lines, answer_text}
+use Rattle.pg_text.proofs.Common.{take, flat_map, Appends, printed_lines, answer_text}
 use Rattle.pg_text.proofs.solution_layout.write_solution.Given as goal
 
 abbrev pub invariant-loop-v : goal.invariant-loop-v

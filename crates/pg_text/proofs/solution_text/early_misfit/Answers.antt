@@ -1,6 +1,4 @@
-use Rattle.std.proofs.Common.{ap, sym, refl, ◌∙◌, inl, inr}
-use Rattle.pg_text.specs.Lexemes.{lexeme}
-use Rattle.pg_text.specs.Mirrors.SolutionReading.{is_seen}
+use Rattle.pg_text.proofs.Common.{ap, sym, refl, ◌∙◌, inl, inr, lexeme, is_seen}
 use Rattle.pg_text.proofs.Parts.{natural_takes}
 use Rattle.pg_text.proofs.Takes.{owner_takes}
 use Rattle.pg_text.proofs.Answering.{unmarked_here, unmarked_nowhere}

@@ -1,5 +1,4 @@
-use Rattle.std.proofs.Common.{◌≡◌, ℕ, ◌<◌, true}
-use Rattle.pg_text.specs.Mirrors.SolutionReading.{is_complete}
+use Rattle.pg_text.proofs.Common.{◌≡◌, ℕ, ◌<◌, true, is_complete}
 use Rattle.pg_text.proofs.solution_text.first_missing.Given as goal
 
 -- each vertex so far is answered

@@ -1,7 +1,5 @@
-use Rattle.std.proofs.Common.{◌≡◌, List, ℕ, Bool, Option, Ok, replicate, false, length, take, ◌∙◌, ◌++◌, drop, ap, sym, subst}
-use Rattle.std.proofs.lemmas.List.{take_at}
-use Rattle.pg_text.specs.declared.solution_line.SolutionLine.{SolutionLine}
-use Rattle.pg_text.specs.Mirrors.SolutionScan.{answer_seen}
+use Rattle.pg_text.proofs.Common.{◌≡◌, List, ℕ, Bool, Option, Ok, replicate, false, length, take, ◌∙◌, ◌++◌, drop, ap, sym, subst, take_at}
+use Rattle.pg_text.proofs.Common.{SolutionLine, answer_seen}
 use Rattle.pg_text.proofs.SolutionReads.{Reading, starts, goes, finishes, fails_header, fails_line, fails_front, fails_misfit}
 use Rattle.pg_text.proofs.SolutionLines.{line_shrinks}
 use Rattle.pg_text.proofs.solution_text.read_lines.Goals as goal

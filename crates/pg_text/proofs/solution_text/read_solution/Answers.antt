@@ -1,5 +1,4 @@
-use Rattle.std.proofs.Common.{sym}
-use Rattle.std.proofs.lemmas.Result.{err_from_is_err_and}
+use Rattle.pg_text.proofs.Common.{sym, err_from_is_err_and}
 use Rattle.pg_text.proofs.SolutionReads.{found, found_only, missing, refused_only}
 use Rattle.pg_text.proofs.solution_text.read_solution.Goals as goal
 

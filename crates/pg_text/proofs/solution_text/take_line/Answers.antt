@@ -1,5 +1,4 @@
-use Rattle.std.proofs.Common.{ap, sym, ◌∙◌, inl, inr}
-use Rattle.pg_text.specs.Mirrors.SolutionReading.{is_seen}
+use Rattle.pg_text.proofs.Common.{ap, sym, ◌∙◌, inl, inr, is_seen}
 use Rattle.pg_text.proofs.Answering.{unmarked_here, unmarked_nowhere}
 use Rattle.pg_text.proofs.solution_text.take_line.Goals as goal
 

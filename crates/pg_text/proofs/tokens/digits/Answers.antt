@@ -1,6 +1,4 @@
-use Rattle.std.proofs.Common.{◌≡◌, ◌≤◌, length, get_or, false, sym, refl, arith}
-use Rattle.std.proofs.lemmas.Bool.Decides.{nat_tests}
-use Rattle.pg_lists.specs.Bytes.{is_digit}
+use Rattle.pg_text.proofs.Common.{◌≡◌, ◌≤◌, length, get_or, false, sym, refl, arith, nat_tests, is_digit}
 use Rattle.pg_text.proofs.Numbers.{number_over, number_ends, reads_digit}
 use Rattle.pg_text.proofs.tokens.digits.Goals as goal
 use Rattle.pg_text.proofs.tokens.digits.Goals.{in_default-via-then-rest-lt1, in_default-via-in-len1-up+else-is_digit}

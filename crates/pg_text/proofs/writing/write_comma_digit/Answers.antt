@@ -1,6 +1,4 @@
-use Rattle.std.proofs.Common.{ℕ, List, ◌∷◌, OnOk, sym, subst}
-use Rattle.std.specs.Io.KnownBytes.{Appends}
-use Rattle.std.proofs.lemmas.Fmt.{decimal_digit}
+use Rattle.pg_text.proofs.Common.{ℕ, List, ◌∷◌, OnOk, sym, subst, Appends, decimal_digit}
 use Rattle.pg_text.proofs.writing.write_comma_digit.Goals as goal
 
 -- src/writing.rt:23:1

@@ -1,8 +1,4 @@
-use Rattle.std.proofs.Common.{take, map}
-use Rattle.std.specs.List.{flat_map}
-use Rattle.std.specs.Io.KnownBytes.{Appends}
-use Rattle.pg_arena.specs.Games.{identifier}
-use Rattle.pg_text.specs.Numbers.{comma_number}
+use Rattle.pg_text.proofs.Common.{take, map, flat_map, Appends, identifier, comma_number}
 use Rattle.pg_text.proofs.writing.write_comma_identifiers.Given as goal
 
 abbrev pub invariant-loop-v : goal.invariant-loop-v

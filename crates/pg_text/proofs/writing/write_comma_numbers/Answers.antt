@@ -1,8 +1,4 @@
-use Rattle.std.proofs.Common.{subst, sym, ap}
-use Rattle.std.specs.List.{flat_map}
-use Rattle.std.specs.Io.KnownBytes.{Appends}
-use Rattle.std.proofs.lemmas.List.{take_rest}
-use Rattle.pg_text.specs.Numbers.{comma_number}
+use Rattle.pg_text.proofs.Common.{subst, sym, ap, flat_map, Appends, take_rest, comma_number}
 use Rattle.pg_text.proofs.Printing.{Completes, completes_rest}
 use Rattle.pg_text.proofs.writing.write_comma_numbers.Goals as goal
 

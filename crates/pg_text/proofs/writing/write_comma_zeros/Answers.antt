@@ -1,6 +1,4 @@
-use Rattle.std.proofs.Common.{arith}
-use Rattle.std.proofs.lemmas.Bool.Decides.{nat_tests}
-use Rattle.std.proofs.lemmas.Fmt.{decimal_digit}
+use Rattle.pg_text.proofs.Common.{arith, nat_tests, decimal_digit}
 use Rattle.pg_text.proofs.Printing.{zeros_text}
 use Rattle.pg_text.proofs.writing.write_comma_zeros.Goals as goal
 

@@ -1,8 +1,5 @@
-use Rattle.std.proofs.Common.{rules, ◌≡◌, ℕ, ◌+◌, ◌*◌, ◌<◌, length, sym, subst, ap, ◌∙◌}
-use Rattle.std.specs.Prelude.{All}
-use Rattle.pg_aiger.specs.Runs.{Valuation, IsStepAt, number_of, Steps, GoesOn}
-use Rattle.pg_aiger.specs.Mirrors.Steps.{Agrees, IsValued}
-use Rattle.pg_aiger.specs.Mirrors.Views.{viewed}
+use Rattle.pg_aiger.proofs.Common.{rules, ◌≡◌, ℕ, ◌+◌, ◌*◌, ◌<◌, length, sym, subst, ap, ◌∙◌, All, Valuation, IsStepAt, number_of, Steps}
+use Rattle.pg_aiger.proofs.Common.{GoesOn, Agrees, IsValued, viewed}
 use Rattle.pg_aiger.proofs.Steps.{valued, nexts_in, steps_are, goes_on}
 use Rattle.pg_aiger.proofs.circuit.Circuit.step.Goals as goal
 

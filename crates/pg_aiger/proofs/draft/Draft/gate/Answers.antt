@@ -1,5 +1,4 @@
-use Rattle.std.proofs.Common.{rules, ◌≡◌, ◌+◌, ◌*◌, length, arith, sym, subst, refl}
-use Rattle.pg_aiger.specs.Mirrors.Drafts.{IsLiteral, HasRoom, Extends}
+use Rattle.pg_aiger.proofs.Common.{rules, ◌≡◌, ◌+◌, ◌*◌, length, arith, sym, subst, refl, IsLiteral, HasRoom, Extends}
 use Rattle.pg_aiger.proofs.Pushes.{pushed_draft, pushed_extends, pushed_means}
 use Rattle.pg_aiger.proofs.Exact.{gate_made}
 use Rattle.pg_aiger.proofs.draft.Draft.gate.Goals as goal

@@ -1,10 +1,6 @@
-use Rattle.std.proofs.Common.{◌≡◌, ℕ, ◌+◌, ◌*◌, ◌/◌, ◌%◌, ◌^◌, ◌≤◌, ◌&&◌, cond, eqb, arith, sym, refl, ap, ◌∙◌, add-one}
-use Rattle.std.proofs.lemmas.Bool.{eq-eqb, ne_eqb}
-use Rattle.pg_aiger.specs.Runs.{value}
-use Rattle.pg_aiger.specs.Mirrors.Drafts.{Drafted, Extends, number_at}
+use Rattle.pg_aiger.proofs.Common.{◌≡◌, ℕ, ◌+◌, ◌*◌, ◌/◌, ◌%◌, ◌^◌, ◌≤◌, ◌&&◌, cond, eqb, arith, sym, refl, ap, ◌∙◌, add-one, eq-eqb}
+use Rattle.pg_aiger.proofs.Common.{ne_eqb, value, Drafted, Extends, number_at, spelling, conjunction_with}
 use Rattle.pg_aiger.proofs.Matches.{extends_more, match_more}
-use Rattle.pg_aiger.specs.Construction.{spelling}
-use Rattle.pg_aiger.specs.Mirrors.Drafts.{conjunction_with}
 use Rattle.pg_aiger.proofs.Exact.{spelling_more, conjunction_more}
 use Rattle.pg_aiger.proofs.draft.Draft.matching.Goals.{then-number-j-eq1, else-number-j-eq1}
 use Rattle.pg_aiger.proofs.draft.Draft.matching.Goals as goal

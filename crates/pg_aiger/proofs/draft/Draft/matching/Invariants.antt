@@ -1,8 +1,4 @@
-use Rattle.std.proofs.Common.{◌≡◌, ◌^◌, ◌%◌, ◌&&◌}
-use Rattle.std.specs.Prelude.{◌==◌}
-use Rattle.pg_aiger.specs.Runs.{value}
-use Rattle.pg_aiger.specs.Construction.{spelling}
-use Rattle.pg_aiger.specs.Mirrors.Drafts.{IsLiteral, Extends, Means, number_at, conjunction_with}
+use Rattle.pg_aiger.proofs.Common.{◌≡◌, ◌^◌, ◌%◌, ◌&&◌, ◌==◌, value, spelling, IsLiteral, Extends, Means, number_at, conjunction_with}
 use Rattle.pg_aiger.proofs.draft.Draft.matching.Given as goal
 
 abbrev pub invariant-loop-j : goal.invariant-loop-j

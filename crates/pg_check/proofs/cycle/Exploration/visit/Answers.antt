@@ -1,7 +1,5 @@
-use Rattle.std.proofs.Common.{rules, ◌≡◌, ◌≢◌, ◌<◌, ◌≤◌, true, false, [], ◌∷◌, ◌++◌, length, get_or, set, arith, subst, sym, ap, ◌∙◌, add-one}
-use Rattle.std.proofs.lemmas.List.{get_or_default}
-use Rattle.pg_arena.specs.Games.{priority}
-use Rattle.pg_check.specs.Soundness.{Counts}
+use Rattle.pg_check.proofs.Common.{rules, ◌≡◌, ◌≢◌, ◌<◌, ◌≤◌, true, false, [], ◌∷◌, ◌++◌, length, get_or, set, arith, subst, sym, ap, ◌∙◌}
+use Rattle.pg_check.proofs.Common.{add-one, get_or_default, priority, Counts}
 use Rattle.pg_check.proofs.Searches.{search_ends, trail_of, edge_here, taken_next, exploring_passes, exploring_reaches}
 use Rattle.pg_check.proofs.cycle.Exploration.visit.Goals as goal
 use Rattle.pg_check.proofs.cycle.Exploration.visit.Goals.{After-w-item, then-not-index+then-priority+in_ok-reach, else-not-index}

@@ -1,6 +1,4 @@
-use Rattle.std.proofs.Common.{refl, []}
-use Rattle.pg_arena.specs.declared.player.Player.TheVariants.{Even}
-use Rattle.pg_map.specs.Lines.{line_of, only}
+use Rattle.pg_map.proofs.Common.{refl, [], Even, line_of, only}
 use Rattle.pg_map.proofs.Lifts.{covers_either}
 use Rattle.pg_map.proofs.Orderings.{both_ways}
 use Rattle.pg_map.proofs.map.MeasureMap.covers_at.Goals as goal

@@ -1,8 +1,4 @@
-use Rattle.std.proofs.Common.{◌≡◌, ◌∙◌, ◌<◌, ℕ, get_or, subst, arith, refl}
-use Rattle.std.proofs.lemmas.List.{get_or_default}
-use Rattle.pg_measure.specs.Measures.{CoversFront}
-use Rattle.pg_measure.proofs.Order.{misses_not}
-use Rattle.pg_map.specs.Maps.{measure_at}
+use Rattle.pg_map.proofs.Common.{◌≡◌, ◌∙◌, ◌<◌, ℕ, get_or, subst, arith, refl, get_or_default, CoversFront, misses_not, measure_at}
 use Rattle.pg_map.proofs.map.MeasureMap.covers_each.Goals as goal
 
 pub returns-then-not-covers : goal.returns-then-not-covers

@@ -1,7 +1,4 @@
-use Rattle.std.proofs.Common.{ℕ, ◌<◌}
-use Rattle.std.specs.Prelude.{slice_index}
-use Rattle.pg_measure.specs.Measures.{CoversFront}
-use Rattle.pg_map.specs.Maps.{measure_at}
+use Rattle.pg_map.proofs.Common.{ℕ, ◌<◌, slice_index, CoversFront, measure_at}
 use Rattle.pg_map.proofs.map.MeasureMap.covers_each.Given as goal
 
 -- each of the successors before is covered

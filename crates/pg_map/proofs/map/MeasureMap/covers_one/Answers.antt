@@ -1,8 +1,4 @@
-use Rattle.std.proofs.Common.{◌≡◌, ◌∙◌, ◌<◌, get_or, arith, below_more}
-use Rattle.std.proofs.lemmas.List.{get_or_default}
-use Rattle.pg_measure.specs.Measures.{CoversFront}
-use Rattle.pg_measure.proofs.Order.{misses_not}
-use Rattle.pg_map.specs.Maps.{measure_at}
+use Rattle.pg_map.proofs.Common.{◌≡◌, ◌∙◌, ◌<◌, get_or, arith, below_more, get_or_default, CoversFront, misses_not, measure_at}
 use Rattle.pg_map.proofs.map.MeasureMap.covers_one.Goals as goal
 
 pub loop-w-preserved : goal.loop-w-preserved

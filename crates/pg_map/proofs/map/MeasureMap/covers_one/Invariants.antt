@@ -1,6 +1,4 @@
-use Rattle.std.proofs.Common.{ℕ, ◌<◌, get_or}
-use Rattle.pg_measure.specs.Measures.{CoversFront}
-use Rattle.pg_map.specs.Maps.{measure_at}
+use Rattle.pg_map.proofs.Common.{ℕ, ◌<◌, get_or, CoversFront, measure_at}
 use Rattle.pg_map.proofs.map.MeasureMap.covers_one.Given as goal
 
 -- none of the successors before is covered

@@ -1,5 +1,4 @@
-use Rattle.std.proofs.Common.{◌∙◌, ap, length, arith}
-use Rattle.std.proofs.lemmas.Bool.Decides.{nat_tests}
+use Rattle.pg_map.proofs.Common.{◌∙◌, ap, length, arith, nat_tests}
 use Rattle.pg_map.proofs.Orderings.{at_most_either}
 use Rattle.pg_map.proofs.map.MeasureMap.is_at_most_at.Goals as goal
 

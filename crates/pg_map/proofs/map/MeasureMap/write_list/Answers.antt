@@ -1,5 +1,4 @@
-use Rattle.std.proofs.Common.{Some, refl, arith}
-use Rattle.std.proofs.lemmas.Bool.Decides.{nat_tests}
+use Rattle.pg_map.proofs.Common.{Some, refl, arith, nat_tests}
 use Rattle.pg_map.proofs.Orderings.{seen_length}
 use Rattle.pg_map.proofs.map.MeasureMap.write_list.Goals as goal
 

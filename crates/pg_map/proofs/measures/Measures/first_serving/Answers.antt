@@ -1,5 +1,4 @@
-use Rattle.std.proofs.Common.{sym, subst, refl}
-use Rattle.std.specs.List.Sorted.{IsStrictlyIncreasing}
+use Rattle.pg_map.proofs.Common.{sym, subst, refl, IsStrictlyIncreasing}
 use Rattle.pg_map.proofs.Serving.{first_serving_at}
 use Rattle.pg_map.proofs.measures.Measures.first_serving.Goals as goal
 

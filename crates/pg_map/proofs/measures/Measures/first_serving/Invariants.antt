@@ -1,5 +1,4 @@
-use Rattle.std.proofs.Common.{ℕ, ◌<◌, get_or}
-use Rattle.pg_map.specs.Maps.{IsServedBy}
+use Rattle.pg_map.proofs.Common.{ℕ, ◌<◌, get_or, IsServedBy}
 use Rattle.pg_map.proofs.measures.Measures.first_serving.Given as goal
 
 -- none of the successors before serves the vertex

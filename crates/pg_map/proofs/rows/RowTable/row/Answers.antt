@@ -1,6 +1,4 @@
-use Rattle.std.proofs.Common.{◌≡◌, ◌∙◌, ◌+◌, ◌-◌, ◌*◌, ap, arith}
-use Rattle.pg_map.specs.Maps.{measure_at}
-use Rattle.pg_map.specs.Mirrors.Tables.{RowsValue}
+use Rattle.pg_map.proofs.Common.{◌≡◌, ◌∙◌, ◌+◌, ◌-◌, ◌*◌, ap, arith, measure_at, RowsValue}
 use Rattle.pg_map.proofs.Tables.{rows_size, row_within, row_is}
 use Rattle.pg_map.proofs.rows.RowTable.row.Goals as goal
 

@@ -1,6 +1,4 @@
-use Rattle.std.proofs.Common.{◌∙◌, subst, sym}
-use Rattle.pg_arena.specs.Games.{dual}
-use Rattle.pg_measure.specs.Mirrors.Counts.{IsCount}
+use Rattle.pg_measure.proofs.Common.{◌∙◌, subst, sym, dual, IsCount}
 use Rattle.pg_measure.proofs.Counted.{counted_dual}
 use Rattle.pg_measure.proofs.bounds.Bounds.of_dual.Goals as goal
 

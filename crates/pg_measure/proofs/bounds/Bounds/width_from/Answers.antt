@@ -1,8 +1,4 @@
-use Rattle.std.proofs.Common.{◌≡◌, ◌∙◌, ◌<◌, ℕ, length, arith}
-use Rattle.std.specs.Prelude.{nat_le}
-use Rattle.std.proofs.lemmas.List.{get_or_default}
-use Rattle.std.proofs.lemmas.List.Sums.{count_by-le-length}
-use Rattle.pg_measure.specs.Measures.{width_from}
+use Rattle.pg_measure.proofs.Common.{◌≡◌, ◌∙◌, ◌<◌, ℕ, length, arith, nat_le, get_or_default, count_by-le-length, width_from}
 use Rattle.pg_measure.proofs.bounds.Bounds.width_from.Goals as goal
 
 pub returns-then-at-len-clause-within : goal.returns-then-at-len-clause-within

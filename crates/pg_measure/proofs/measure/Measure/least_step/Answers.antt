@@ -1,6 +1,4 @@
-use Rattle.std.proofs.Common.{◌≡◌, ◌∙◌, ◌+◌, ap, length, arith, refl, sym}
-use Rattle.pg_measure.specs.Measures.{OwnedMeasure}
-use Rattle.pg_measure.specs.Mirrors.Rows.{measure_of}
+use Rattle.pg_measure.proofs.Common.{◌≡◌, ◌∙◌, ◌+◌, ap, length, arith, refl, sym, OwnedMeasure, measure_of}
 use Rattle.pg_measure.proofs.Steps.{row_length}
 use Rattle.pg_measure.proofs.measure.Measure.least_step.Goals as goal
 

@@ -1,5 +1,4 @@
-use Rattle.std.proofs.Common.{subst}
-use Rattle.pg_rank.specs.Ladders.{LadderValue, IsLadder}
+use Rattle.pg_rank.proofs.Common.{subst, LadderValue, IsLadder}
 use Rattle.pg_rank.proofs.Counting.{is_ladder}
 use Rattle.pg_rank.proofs.ladder.Ladder.bounds.Goals as goal
 

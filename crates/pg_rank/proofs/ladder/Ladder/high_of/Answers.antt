@@ -1,6 +1,4 @@
-use Rattle.std.proofs.Common.{ℕ, ◌≤◌, List, Some, length, refl, sym, subst}
-use Rattle.pg_rank.specs.Ladders.{LadderValue}
-use Rattle.pg_rank.specs.Mirrors.Blocks.{IsHigh, CoversUnder}
+use Rattle.pg_rank.proofs.Common.{ℕ, ◌≤◌, List, Some, length, refl, sym, subst, LadderValue, IsHigh, CoversUnder}
 use Rattle.pg_rank.proofs.Counting.{is_ladder}
 use Rattle.pg_rank.proofs.Blocking.{high_is}
 use Rattle.pg_rank.proofs.ladder.Ladder.high_of.Goals as goal

@@ -1,6 +1,4 @@
-use Rattle.std.proofs.Common.{ℕ, List, subst}
-use Rattle.pg_rank.specs.Ladders.{LadderValue, IsJustifiedFrom}
-use Rattle.pg_rank.specs.Mirrors.Blocks.{IsLow}
+use Rattle.pg_rank.proofs.Common.{ℕ, List, subst, LadderValue, IsJustifiedFrom, IsLow}
 use Rattle.pg_rank.proofs.Counting.{is_ladder}
 use Rattle.pg_rank.proofs.Blocking.{low_justifies}
 use Rattle.pg_rank.proofs.ladder.Ladder.low_of.Goals as goal

@@ -1,6 +1,4 @@
-use Rattle.std.proofs.Common.{ℕ, ◌<◌}
-use Rattle.std.specs.Option.{IsSome}
-use Rattle.pg_map.specs.Maps.{IsServed}
+use Rattle.pg_rank.proofs.Common.{ℕ, ◌<◌, IsSome, IsServed}
 use Rattle.pg_rank.proofs.map.RankMap.is_closed.Given as goal
 
 abbrev pub invariant-loop-number : goal.invariant-loop-number

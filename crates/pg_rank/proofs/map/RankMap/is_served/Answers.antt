@@ -1,7 +1,4 @@
-use Rattle.std.proofs.Common.{subst}
-use Rattle.std.specs.Prelude.{IsTrue, ◌↔◌}
-use Rattle.pg_map.specs.Lines.{AreWithin}
-use Rattle.pg_map.specs.Maps.{MapValue, IsServed}
+use Rattle.pg_rank.proofs.Common.{subst, IsTrue, ◌↔◌, AreWithin, MapValue, IsServed}
 use Rattle.pg_rank.proofs.Ranking.{size_is, served}
 use Rattle.pg_rank.proofs.map.RankMap.is_served.Goals as goal
 

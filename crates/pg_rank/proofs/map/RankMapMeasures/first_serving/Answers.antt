@@ -1,7 +1,5 @@
-use Rattle.std.proofs.Common.{ℕ, subst}
-use Rattle.std.specs.Prelude.{IfSome, IfNone, Contains}
-use Rattle.pg_map.specs.Lines.{AreWithin, line_at}
-use Rattle.pg_map.specs.Maps.{MapValue, IsServedBy, IsFirstServing}
+use Rattle.pg_rank.proofs.Common.{ℕ, subst, IfSome, IfNone, AreWithin, line_at, MapValue, IsServedBy, IsFirstServing}
+use Rattle.std.specs.Prelude.{Contains}
 use Rattle.pg_rank.proofs.Ranking.{size_is, first_serves, none_serves}
 use Rattle.pg_rank.proofs.map.RankMapMeasures.first_serving.Goals as goal
 

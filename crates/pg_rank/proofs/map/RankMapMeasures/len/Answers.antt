@@ -1,6 +1,4 @@
-use Rattle.std.proofs.Common.{◌≡◌, length, ◌∙◌, sym, subst}
-use Rattle.pg_map.specs.Maps.{MapValue, IsMap}
-use Rattle.pg_rank.specs.Ladders.{rank_map}
+use Rattle.pg_rank.proofs.Common.{◌≡◌, length, ◌∙◌, sym, subst, MapValue, IsMap, rank_map}
 use Rattle.pg_rank.proofs.Ranking.{is_rank_map}
 use Rattle.pg_rank.proofs.map.RankMapMeasures.len.Goals as goal
 

@@ -1,8 +1,4 @@
-use Rattle.std.proofs.Common.{◌≡◌, ◌<◌, ◌∙◌, ap, arith, subst}
-use Rattle.std.specs.Prelude.{IsTrue, ◌↔◌}
-use Rattle.std.proofs.lemmas.List.{get_or_default}
-use Rattle.pg_map.specs.Maps.{MapValue, IsServedBy}
-use Rattle.pg_rank.specs.Mirrors.Blocks.{rank_at, IsUnder}
+use Rattle.pg_rank.proofs.Common.{◌≡◌, ◌<◌, ◌∙◌, ap, arith, subst, IsTrue, ◌↔◌, get_or_default, MapValue, IsServedBy, rank_at, IsUnder}
 use Rattle.pg_rank.proofs.Ranking.{size_is, served_by}
 use Rattle.pg_rank.proofs.map.RankMapMeasures.serves.Goals as goal
 

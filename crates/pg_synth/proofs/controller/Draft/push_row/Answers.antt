@@ -1,12 +1,6 @@
-use Rattle.std.proofs.Common.{◌≡◌, ℕ, ◌+◌, ◌*◌, ◌<◌, List, [], ◌∷◌, Option, Some, IsSome, length, length-append, arith, refl, sym, subst, ap, ◌∙◌}
-use Rattle.pg_arena.specs.Games.{GameVertex, vertex_at}
-use Rattle.pg_automaton.specs.Automata.{Automaton}
-use Rattle.pg_synth.specs.Letters.{joined}
-use Rattle.pg_synth.specs.AutomatonGames.{StandsFor, IsGameOfAutomaton, input_letters, place_identifier}
-use Rattle.pg_synth.specs.Machines.{FollowsAt}
-use Rattle.pg_synth.specs.Mirrors.Drafts.{IsNumbered, state_of}
-use Rattle.pg_synth.specs.declared.mealy.Reply.{Reply}
-use Rattle.pg_synth.specs.declared.place.Place.TheVariants.{Answer}
+use Rattle.pg_synth.proofs.Common.{◌≡◌, ℕ, ◌+◌, ◌*◌, ◌<◌, List, [], ◌∷◌, Option, Some, IsSome, length, length-append, arith, refl, sym}
+use Rattle.pg_synth.proofs.Common.{subst, ap, ◌∙◌, GameVertex, vertex_at, Automaton, joined, StandsFor, IsGameOfAutomaton, input_letters}
+use Rattle.pg_synth.proofs.Common.{place_identifier, FollowsAt, IsNumbered, state_of, Reply, Answer}
 use Rattle.pg_synth.proofs.Choosing.{first_of_row, in_a_row}
 use Rattle.pg_synth.proofs.Drafting.{drafted, longer}
 use Rattle.pg_synth.proofs.Numbers.{count, few_answers}

@@ -1,6 +1,4 @@
-use Rattle.std.proofs.Common.{◌≡◌, ◌<◌, ◌+◌, ◌*◌, length}
-use Rattle.pg_synth.specs.AutomatonGames.{input_letters}
-use Rattle.pg_synth.specs.Mirrors.Drafts.{IsDraft, state_of}
+use Rattle.pg_synth.proofs.Common.{◌≡◌, ◌<◌, ◌+◌, ◌*◌, length, input_letters, IsDraft, state_of}
 use Rattle.pg_synth.proofs.controller.Draft.push_row.Given as goal
 
 abbrev pub invariant-loop-input : goal.invariant-loop-input

@@ -1,9 +1,5 @@
-use Rattle.std.proofs.Common.{◌≡◌, ℕ, ◌+◌, ◌*◌, ◌%◌, ◌^◌, ◌<◌, get_or, arith, sym, subst, ap, ◌∙◌}
-use Rattle.std.proofs.lemmas.List.{get_or_read}
-use Rattle.std.proofs.lemmas.Nat.{mul-add-lt, shl_whole}
-use Rattle.pg_synth.specs.Machines.{Machine, IsMachine, reply, no_reply}
-use Rattle.pg_synth.specs.Mirrors.Drafts.{machine_with}
-use Rattle.pg_synth.specs.declared.mealy.Reply.{Reply}
+use Rattle.pg_synth.proofs.Common.{◌≡◌, ℕ, ◌+◌, ◌*◌, ◌%◌, ◌^◌, ◌<◌, get_or, arith, sym, subst, ap, ◌∙◌, get_or_read, mul-add-lt, shl_whole}
+use Rattle.pg_synth.proofs.Common.{Machine, IsMachine, reply, no_reply, machine_with, Reply}
 use Rattle.pg_synth.proofs.mealy.Mealy.step.Goals as goal
 
 element : (m : Machine) (k i : ℕ) (r : Reply) → IsMachine m → k < m.states → i < 2 ^ m.inputs
