@@ -112,25 +112,14 @@ same_body f g p q same = ok_is f g (sym (body_reads_back f p) ∙ ap body_at sam
 
 pub no_front : (f g : Frame) (front more : List ℕ) → Spells f front → Spells g (front ++ more) → more ≡ []
 no_front f g front more p q =
-    let joined : (word (length (body f)) ++ body f) ++ more ≡ word (length (body g)) ++ body g = ap (λ (t : List ℕ). t ++ more) (sym p.spelled) ∙ q.spelled in
-    let first : word (length (body f)) ≡ word (length (body g)) = sym (take_at (word (length (body f))) (body f ++ more) 4 refl)
-    ∙ ap (take 4) (sym (append_assoc (word (length (body f))) (body f) more) ∙ joined)
-    ∙ take_at (word (length (body g))) (body g) 4 refl in
-    let n : length (body f) ≡ length (body g) = sym (length_is f p.within) ∙ ap (from_be_bytes w32) first ∙ length_is g q.within in
-    nil_from_length more (omega (
-      arith,
-      ap length joined,
-      length-append (word (length (body f)) ++ body f) more,
-      length-append (word (length (body f))) (body f),
-      length-append (word (length (body g))) (body g),
-    ))
+    let joined = ap (λ (t : List ℕ). t ++ more) p.spelled ∙ append_assoc (word (length (body f))) (body f) more in
+    let split = spelling_split (front ++ more) (word (length (body f))) (body f ++ more) g joined refl q in
+    nil_from_length more (omega (arith, length_is f p.within, split.size, length-append (body f) more))
 
 pub one_frame : (f g : Frame) (bytes : List ℕ) → Spells f bytes → Spells g bytes → f ≡ g
 one_frame f g bytes p q =
-    let joined : word (length (body f)) ++ body f ≡ word (length (body g)) ++ body g = sym p.spelled ∙ q.spelled in
-    let same : body f ≡ body g = sym (drop_at (word (length (body f))) (body f) 4 refl) ∙ ap (drop 4) joined
-    ∙ drop_at (word (length (body g))) (body g) 4 refl in
-    same_body f g p.well q.well same
+    let split = spelling_split bytes (word (length (body g))) (body g) f q.spelled refl p in
+    same_body f g p.well q.well (sym split.whole)
 
 -- bytes that a reader refused are the body of no well frame
 pub refused : (e : ReadFault) (x : FieldFault) (bytes : List ℕ) (f : Frame) → e ≡ faults.Field x → Fails e (body_at bytes) → IsWell f → bytes ≡ body f → ⊥

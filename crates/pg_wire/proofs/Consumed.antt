@@ -1,12 +1,12 @@
 -- Bytes that were read one after the other, and what reading a frame answers by them.
-use Rattle.std.proofs.Common.{◌≡◌, ℕ, ◌+◌, ◌<◌, ◌≤◌, ◌⊎◌, List, [], ◌++◌, length, take, drop, refl, sym, ap, subst, ◌∙◌, Option, Some, None}
+use Rattle.std.proofs.Common.{◌≡◌, ℕ, ◌+◌, ◌-◌, ◌<◌, ◌≤◌, ◌⊎◌, List, [], ◌++◌, length, take, drop, refl, sym, ap, subst, ◌∙◌, Option, Some, None}
 use Rattle.std.proofs.Common.{IfSome, Result, Ok, Err, append_assoc, arith, inl, inr}
-use Rattle.std.proofs.lemmas.List.{length-append, length-take, take_at, drop_at, take_all, take-append-le}
+use Rattle.std.proofs.lemmas.List.{length-append, length-take, length-drop, take_at, drop_at, take_all, take-append-le}
 use Rattle.std.proofs.Math.Seq.{take-append-add}
 use Rattle.std.specs.Int.{w32, from_be_bytes}
 use Rattle.std.specs.Io.KnownBytes.{Consumes, IsAtEnd}
 use Rattle.pg_wire.specs.declared.fault.WireFault.{WireFault}
-use Rattle.pg_wire.specs.declared.fault.WireFault.TheVariants.{TooLong, Truncated, OutOfMemory, BadKind, BadField, Read, Write, Version}
+use Rattle.pg_wire.specs.declared.fault.WireFault.TheVariants.{TooLong, Truncated, OutOfMemory, Read}
 use Rattle.pg_wire.specs.declared.frame.Frame.{Frame}
 use Rattle.pg_wire.specs.Spelling.{word, body, spelling, longest}
 use Rattle.pg_wire.specs.Bytes.{Spells, IsReadFrom, IsWhole, IsTooLong, IsTruncated, length_field}
@@ -33,6 +33,11 @@ filled_more xs ys after a n le within =
 
 pub filled_within : (xs ys after : List ℕ) (a n : ℕ) → a ≤ length xs → n ≤ length ys → a + n ≤ length (take a xs ++ (ys ++ after))
 filled_within xs ys after a n le within = omega (arith, length-append (take a xs) (ys ++ after), length-append ys after, length-take a xs)
+
+-- the end of a buffer that was made so much longer
+pub end_size : (slice end : List ℕ) (start size len : ℕ) → length end ≡ length (take (length slice - start) (drop start slice))
+    → length slice ≡ len → len ≡ start + size → length end ≡ size
+end_size slice end start size len e n long = omega (arith, e, n, long, length-take (length slice - start) (drop start slice), length-drop start slice)
 
 -- a buffer that was filled
 pub filled_all : (a b : Option (List ℕ)) (buffer : List ℕ) (n size : ℕ) → length buffer ≡ size → size ≤ n → n ≤ length buffer
@@ -134,6 +139,12 @@ long_is front rest len over =
 pub long : (a b : Option (List ℕ)) (front : List ℕ) → Consumes a b front → length front ≡ 4 → longest < from_be_bytes w32 front
     → IfSome a (λ xs. IsReadFrom xs (Err TooLong))
 long a b front p len over = known a b front (λ zs. IsReadFrom zs (Err TooLong)) p (λ ys is. long_is front ys len over)
+
+-- the length alone
+pub too_long_alone : (front : List ℕ) → length front ≡ 4 → longest < from_be_bytes w32 front → IsTooLong front × (length front ≡ 4)
+too_long_alone front len over =
+    let all : take 4 front ≡ front = take_all 4 front (omega (arith, len)) in
+    (record { whole = omega (arith, len); over = rw all over }, len)
 
 short_is : (front rest : List ℕ) → length front ≡ 4 → from_be_bytes w32 front ≤ longest → length rest < from_be_bytes w32 front
     → IsReadFrom (front ++ rest) (Err Truncated)
@@ -260,13 +271,7 @@ answer_is d e h = cc
 
 memory_or : (e : WireFault) → (e ≡ OutOfMemory) ⊎ ((e ≡ OutOfMemory) → ⊥)
 memory_or OutOfMemory = inl refl
-memory_or TooLong = inr (λ e. absurd cc)
-memory_or Truncated = inr (λ e. absurd cc)
-memory_or BadKind = inr (λ e. absurd cc)
-memory_or (BadField n) = inr (λ e. absurd cc)
-memory_or Read = inr (λ e. absurd cc)
-memory_or Write = inr (λ e. absurd cc)
-memory_or Version = inr (λ e. absurd cc)
+memory_or e = inr (λ h. absurd cc)
 
 -- no frame is spelled by these bytes
 pub refused_known : (a c : Option (List ℕ)) (bytes : List ℕ) (fault : WireFault) → Consumes a c bytes → IsWhole bytes → ((f : Frame) → Spells f bytes → ⊥)

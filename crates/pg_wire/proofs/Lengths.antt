@@ -1,7 +1,7 @@
 -- The bytes after a length that counts them all, and the frames that they give.
 use Rattle.std.proofs.Common.{◌≡◌, ℕ, ◌-◌, ◌<◌, ◌≤◌, List, [], ◌∷◌, ◌++◌, length, take, drop, get_or, refl, sym, ap, subst, ◌∙◌, arith}
 use Rattle.std.specs.Int.{w32, from_be_bytes}
-use Rattle.std.proofs.lemmas.List.{drop_at, take_all, length-append}
+use Rattle.std.proofs.lemmas.List.{take_all, length-append}
 use Rattle.std.proofs.lemmas.Nat.{be_bytes_4}
 use Rattle.pg_wire.specs.declared.frame.Frame.{Frame}
 use Rattle.pg_wire.specs.declared.frame.Frame.TheVariants as frames
@@ -34,8 +34,7 @@ miscounted bytes front rest n f e len is other s =
 
 -- the bytes after the length are the body of the frame that is spelled
 pub counted_body : (bytes rest : List ℕ) (f : Frame) → IsCounted bytes rest → Spells f bytes → rest ≡ body f
-counted_body bytes rest f c s =
-    sym (drop_at (word (length rest)) rest 4 refl) ∙ ap (drop 4) (sym c.whole ∙ s.spelled) ∙ drop_at (word (length (body f))) (body f) 4 refl
+counted_body bytes rest f c s = (spelling_split bytes (word (length rest)) rest f c.whole refl s).whole
 
 -- the body of a well frame after its length
 pub counted_spells : (bytes rest : List ℕ) (f : Frame) → IsCounted bytes rest → rest ≡ body f → IsWell f → Spells f bytes

@@ -19,7 +19,7 @@ use Rattle.pg_wire.specs.Well.{IsWell}
 use Rattle.pg_wire.specs.Lines.{frame_with}
 use Rattle.pg_wire.specs.Measured.{filled, spelled_as, kind_number}
 use Rattle.pg_wire.specs.Mirrors.Reading.{◌>>=◌, Reader, both, made, skipped, items_at, counted_at, tagged_at, within_at, byte_at}
-use Rattle.pg_wire.specs.Mirrors.Formats.{Format, Kind, so_many, listed, within, successors, lines, values, places}
+use Rattle.pg_wire.specs.Mirrors.Formats.{Format, Kind, so_many, listed, successors, lines, values, places}
 use Rattle.pg_wire.specs.Mirrors.Formats.{sparse_values, all_components, some_places, line as line_format, value, sparse_value, measure}
 use Rattle.pg_wire.specs.Mirrors.Formats.{values_fields, sparse_fields, vertices_fields}
 use Rattle.pg_wire.specs.Mirrors.Streaming.{measures_skipped, AreLines, AreFields}

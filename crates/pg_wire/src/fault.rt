@@ -54,7 +54,7 @@ impl WireFault {
 }
 
 /// What is wrong with a field.
-#[derive(Clone, Copy, Debug, PartialEq, Eq)]
+#[derive(Clone, Copy)]
 pub enum FieldFault {
     /// So many bytes were left where the field begins.
     At(usize),
@@ -65,7 +65,7 @@ pub enum FieldFault {
 }
 
 /// Why a field wasn't read.
-#[derive(Clone, Copy, Debug, PartialEq, Eq)]
+#[derive(Clone, Copy)]
 pub enum ReadFault {
     /// A growth was refused.
     Memory,

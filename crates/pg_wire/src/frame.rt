@@ -3,7 +3,7 @@
 use crate::list::{Items, Numbers, Pairs};
 
 /// Starts a worker anew.
-#[derive(Debug, Drop)]
+#[derive(Drop)]
 pub struct Setup {
     /// The version of the wire format, 1 or 2.
     pub version: u8,
@@ -14,7 +14,7 @@ pub struct Setup {
 }
 
 /// What a worker has to know of one of its vertices.
-#[derive(Debug, Drop)]
+#[derive(Drop)]
 pub struct VertexLine {
     pub vertex: u32,
     /// At most 65,536.
@@ -26,7 +26,7 @@ pub struct VertexLine {
 }
 
 /// What the line of a vertex says beside its successors.
-#[derive(Clone, Copy, Debug)]
+#[derive(Clone, Copy)]
 pub struct LineHead {
     pub vertex: u32,
     /// At most 65,536.
@@ -36,13 +36,13 @@ pub struct LineHead {
 }
 
 /// Vertices for a worker's part, strictly rising.
-#[derive(Debug, Drop)]
+#[derive(Drop)]
 pub struct Vertices {
     pub lines: Items<VertexLine>,
 }
 
 /// A vertex and its measure; no list is top.
-#[derive(Debug, Drop)]
+#[derive(Drop)]
 pub struct Value {
     pub vertex: u32,
     /// As many components as the frame's width says.
@@ -50,7 +50,7 @@ pub struct Value {
 }
 
 /// The measures of some vertices, which rise strictly.
-#[derive(Debug, Drop)]
+#[derive(Drop)]
 pub struct Values {
     /// At most 32,768.
     pub width: u32,
@@ -58,7 +58,7 @@ pub struct Values {
 }
 
 /// A vertex and its measure by the components that aren't 0; no pairs is top.
-#[derive(Debug, Drop)]
+#[derive(Drop)]
 pub struct SparseValue {
     pub vertex: u32,
     /// Each place (below the frame's width, strictly rising) with the number there.
@@ -66,7 +66,7 @@ pub struct SparseValue {
 }
 
 /// The measures of some vertices, which rise strictly, by the components that aren't 0.
-#[derive(Debug, Drop)]
+#[derive(Drop)]
 pub struct Sparse {
     /// At most 32,768.
     pub width: u32,
@@ -74,14 +74,14 @@ pub struct Sparse {
 }
 
 /// Lets a worker lift.
-#[derive(Clone, Copy, Debug)]
+#[derive(Clone, Copy)]
 pub struct Go {
     /// At most so many lifts.
     pub budget: u32,
 }
 
 /// Ends a worker's reply.
-#[derive(Clone, Copy, Debug)]
+#[derive(Clone, Copy)]
 pub struct Report {
     /// 0: there is more to lift, 1: quiet, 2: refused.
     pub status: u8,
@@ -90,7 +90,7 @@ pub struct Report {
 }
 
 /// What a coordinator and a worker send each other.
-#[derive(Debug, Drop)]
+#[derive(Drop)]
 pub enum Frame {
     Setup(Setup),
     Vertices(Vertices),

@@ -18,7 +18,7 @@ use crate::reading::after_length;
 use std::alloc::AllocError;
 
 /// The lines of a frame of vertices that are left.
-#[derive(Clone, Copy, Debug)]
+#[derive(Clone, Copy)]
 pub struct VerticesReader<'a> {
     bytes: &'a [u8],
 }

@@ -19,7 +19,7 @@ const FRONT: usize = 9;
 const HEAD: usize = 13;
 
 /// A frame of vertices that is being written at the end of a buffer; its front is written last.
-#[derive(Debug, Drop)]
+#[derive(Drop)]
 pub struct VerticesWriter {
     start: usize,
     count: u32,

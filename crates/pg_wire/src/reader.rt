@@ -18,7 +18,7 @@ use crate::kind::ValueKind;
 use crate::reading::after_length;
 
 /// The measures of a frame that are left.
-#[derive(Clone, Copy, Debug)]
+#[derive(Clone, Copy)]
 pub struct ValuesReader<'a> {
     kind: ValueKind,
     width: u32,

@@ -2,7 +2,7 @@
 ghost use Rattle.std.specs.Prelude.{◌≡◌, ℕ, ◌+◌, ◌≤◌, ◌<◌, ◌++◌, ◌⊎◌, ◌≢◌, true, false, List, take, Ok, Err, Some, None, length, slice_index, ◌^◌, IfOk, OnOk, IfErr, IfSome, IfNone};
 ghost use Rattle.std.specs.Io.KnownBytes.{Consumes, IsAtEnd};
 ghost use Rattle.pg_wire.specs.Spelling.{spelling};
-ghost use Rattle.pg_wire.specs.Bytes.{Spells, IsReadFrom, IsWhole};
+ghost use Rattle.pg_wire.specs.Bytes.{Spells, IsReadFrom, IsWhole, IsTooLong};
 ghost use Rattle.pg_wire.specs.declared.fault.WireFault.TheVariants.{Truncated, TooLong, OutOfMemory};
 
 use crate::fault::WireFault;
@@ -81,13 +81,15 @@ fn read_body<R: Read>(input: &mut R, len: usize, bytes: &mut Vec<u8>) -> Result<
 /// more memory than the bytes that came can fill twice, or one chunk. What the bytes say is left to `decode`.
 ///
 /// Faults: `Read` where a read fails; `Truncated` where the input ends within a frame; `TooLong` as soon as the length was
-/// read; `OutOfMemory`. After a fault nothing is said of `bytes`, and the reader isn't to be used again.
+/// read; `OutOfMemory`. After `TooLong` the length is in `bytes`, after another fault nothing is said of them; and the reader
+/// isn't to be used again.
 pub fn read_frame_bytes<R: Read>(input: &mut R, bytes: &mut Vec<u8>) -> Result<bool, WireFault>
     ensures end { result ≡ Ok false → IsAtEnd (R.remaining input.old) }
     ensures frame { result ≡ Ok true → IsWhole bytes.new.items
         × Consumes (R.remaining input.old) (R.remaining input.new) bytes.new.items }
     ensures fault { IfErr result (λ e. (e ≡ WireFault.Read) ⊎ (e ≡ OutOfMemory)
         ⊎ (((e ≡ TooLong) ⊎ (e ≡ Truncated)) × IfSome (R.remaining input.old) (λ xs. IsReadFrom xs (Err e)))) }
+    ensures too_long { result ≡ Err TooLong → IsTooLong bytes.new.items × (length bytes.new.items ≡ 4) }
 {
     bytes.clear();
     let mut front = [0u8; 4];
@@ -98,12 +100,12 @@ pub fn read_frame_bytes<R: Read>(input: &mut R, bytes: &mut Vec<u8>) -> Result<b
     if count < 4 {
         return Err(WireFault::Truncated);
     }
+    if bytes.extend_from_slice(&front).is_err() {
+        return Err(WireFault::OutOfMemory);
+    }
     let len = u32::from_be_bytes(front);
     if len > LONGEST {
         return Err(WireFault::TooLong);
-    }
-    if bytes.extend_from_slice(&front).is_err() {
-        return Err(WireFault::OutOfMemory);
     }
     read_body(input, len as usize, bytes)?;
     Ok(true)

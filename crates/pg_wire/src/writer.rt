@@ -15,7 +15,7 @@ use std::alloc::AllocError;
 const FRONT: usize = 13;
 
 /// A frame of measures that is being written at the end of a buffer; its front is written last.
-#[derive(Debug, Drop)]
+#[derive(Drop)]
 pub struct ValuesWriter {
     kind: ValueKind,
     width: u32,

@@ -1,8 +1,9 @@
-use Rattle.std.proofs.Common.{◌≡◌, ap, refl, inl, inr, Err, ℕ, length, take, arith}
+use Rattle.std.proofs.Common.{◌≡◌, ap, sym, subst, refl, inl, inr, Err, ℕ, List, length, take, arith}
 use Rattle.std.proofs.lemmas.Result.{err_from_is_err_and}
 use Rattle.std.proofs.lemmas.List.{length-take}
 use Rattle.pg_wire.specs.declared.fault.WireFault.{WireFault}
-use Rattle.pg_wire.proofs.Consumed.{none_read, cut, long, body_fault, read_whole, filled_all}
+use Rattle.pg_wire.specs.Bytes.{IsTooLong}
+use Rattle.pg_wire.proofs.Consumed.{none_read, cut, long, too_long_alone, body_fault, read_whole, filled_all}
 use Rattle.pg_wire.proofs.stream.read_frame_bytes.Goals as goal
 
 pub returns-then-count-eq0-clause-end : goal.returns-then-count-eq0-clause-end
@@ -34,6 +35,14 @@ returns-then-len-gt-LONGEST-clause-fault g c =
       long (g.R.Read.remaining c.args.input.now) (g.R.Read.remaining c.fill.new.input) front taken c.fill.auto.buffer
           (rw c.from_be_bytes-len.ensures at over),
     ))
+
+pub returns-then-len-gt-LONGEST-clause-too_long : goal.returns-then-len-gt-LONGEST-clause-too_long
+returns-then-len-gt-LONGEST-clause-too_long g c = λ _.
+    let front = c.fill.new.buffer in
+    let started : c.extend_from_slice.new.self.items ≡ front = rw (c.if-is_err.ensures.negation, c.clear.ensures.items) at c.extend_from_slice.ensures.items in
+    let over = c.if-len-gt-LONGEST.true in
+    let P : List ℕ → Type 0 = λ t. IsTooLong t × (length t ≡ 4) in
+    subst P (sym started) (too_long_alone front c.fill.auto.buffer (rw c.from_be_bytes-len.ensures at over))
 
 pub returns-in_err-read_body-clause-fault : goal.returns-in_err-read_body-clause-fault
 returns-in_err-read_body-clause-fault g c =
