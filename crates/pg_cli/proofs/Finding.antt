@@ -7,7 +7,7 @@ use Rattle.pg_arena.specs.Games.{GameVertex}
 use Rattle.pg_map.specs.Lines.{game_line}
 use Rattle.pg_map.specs.Maps.{MapValue}
 use Rattle.pg_parts.specs.Cuts.{CutValue, IsEvenCut}
-use Rattle.pg_rounds.specs.Told.{Reply, TellReplies, IsLeastOverReplies}
+use Rattle.pg_rounds.specs.Replies.{Reply, TellReplies, IsLeastOverReplies}
 use Rattle.pg_command.specs.Measuring.{MapKind, IsClosedMapOf, IsMeasureOf, IsMeasured}
 use Rattle.pg_command.specs.declared.fault.CliFault.{CliFault}
 use Rattle.pg_command.proofs.MapKinds.{measured_too}

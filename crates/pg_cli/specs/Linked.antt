@@ -4,7 +4,7 @@ use Rattle.pg_arena.specs.Games.{GameVertex}
 use Rattle.pg_map.specs.Lines.{game_line}
 use Rattle.pg_map.specs.Maps.{MapValue}
 use Rattle.pg_parts.specs.Cuts.{CutValue, IsEvenCut}
-use Rattle.pg_rounds.specs.Told.{Reply, TellReplies, IsLeastOverReplies}
+use Rattle.pg_rounds.specs.Replies.{Reply, TellReplies, IsLeastOverReplies}
 use Rattle.pg_command.specs.Measuring.{IsClosedMapOf}
 
 -- The map is closed for the game, and was found in one round or more. If the links tell replies, by the even cut of the game among

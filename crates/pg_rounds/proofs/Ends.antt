@@ -1,7 +1,7 @@
 -- What rounds leave, and what holds at the end.
 use Rattle.std.proofs.Common.{◌≡◌, ℕ, ◌*◌, List, length, Option, Some, None, refl, ap, ◌∙◌, arith}
 use Rattle.std.proofs.lemmas.List.{length-replicate}
-use Rattle.std.specs.Prelude.{◌+◌, ◌<◌, ◌≤◌, ◌^◌, IfSome}
+use Rattle.std.specs.Prelude.{◌+◌, ◌≤◌, IfSome}
 use Rattle.pg_arena.specs.Games.{GameVertex}
 use Rattle.pg_measure.specs.Measures.{BoundList, MeasureValue, zeros}
 use Rattle.pg_map.specs.Lines.{game_line}
@@ -10,7 +10,7 @@ use Rattle.pg_map.specs.Lemmas.Orders.{map_reflexive, map_transitive}
 use Rattle.pg_map.specs.Weights.{list_count, map_weight}
 use Rattle.pg_map.proofs.Joins.{zero_map_least}
 use Rattle.pg_map.proofs.Weights.{zero_map_weight}
-use Rattle.pg_rounds.specs.Told.{Reply, IsLeastOverReplies}
+use Rattle.pg_rounds.specs.Replies.{Reply, IsLeastOverReplies}
 use Rattle.pg_rounds.specs.declared.solver.Solved.{Solved}
 use Rattle.pg_rounds.specs.Solving.{most_rounds}
 use Rattle.pg_rounds.specs.Mirrors.Rounds.{IsFoundFrom, Closes, Ends, IsSolvedFrom}

@@ -6,5 +6,5 @@ mod LinkStates
 mod Ends
 mod Taken
 mod Taking
-mod Hearing
+mod Receiving
 mod Replying

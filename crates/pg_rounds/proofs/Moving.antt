@@ -13,7 +13,7 @@ use Rattle.pg_map.specs.Weights.{weight, map_weight}
 use Rattle.pg_map.proofs.Weights.{measure_falls}
 use Rattle.pg_map.proofs.Passes.{IsPassed, closed_after}
 use Rattle.pg_rounds.specs.declared.coordinator_map.CoordinatorMap.{CoordinatorMap}
-use Rattle.pg_rounds.specs.Mirrors.CoordinatorMaps.{Moves, Hears}
+use Rattle.pg_rounds.specs.Mirrors.CoordinatorMaps.{Moves, Receives}
 
 pub moves_none : (b : CoordinatorMap) → Moves b b
 moves_none b = record {
@@ -140,16 +140,17 @@ pub passed_closed : (lines : ℕ → Option Line) (old : MapValue) (new : Coordi
 passed_closed lines old new count n p within le stays = closed_same lines old new.map new.rose p.same
     (closed_after lines old new.map new.rose count n p within le) stays
 
--- ---- a link is heard
+-- ---- a reply is received
 
-pub hears_none : {L : Type 0} (is_honest : L → Type 0) (is_under : L → MapValue → Type 0) (old new : L) (f : CoordinatorMap) → (is_honest old → is_honest new)
-    → (is_honest old → (h : MapValue) → is_under old h → is_under new h) → Hears is_honest is_under old new f f
-hears_none is_honest is_under old new f honest under =
+pub receives_none : {L : Type 0} (is_honest : L → Type 0) (is_under : L → MapValue → Type 0) (old new : L) (f : CoordinatorMap)
+    → (is_honest old → is_honest new)
+    → (is_honest old → (h : MapValue) → is_under old h → is_under new h) → Receives is_honest is_under old new f f
+receives_none is_honest is_under old new f honest under =
     record { honest = honest; under = under; moves = moves_none f; least = λ ho h u le. le }
 
-pub hears_more : {L : Type 0} (is_honest : L → Type 0) (is_under : L → MapValue → Type 0) (old mid new : L) (f g h : CoordinatorMap)
-    → Hears is_honest is_under old mid f g → Hears is_honest is_under mid new g h → Hears is_honest is_under old new f h
-hears_more is_honest is_under old mid new f g h a b = record {
+pub receives_more : {L : Type 0} (is_honest : L → Type 0) (is_under : L → MapValue → Type 0) (old mid new : L) (f g h : CoordinatorMap)
+    → Receives is_honest is_under old mid f g → Receives is_honest is_under mid new g h → Receives is_honest is_under old new f h
+receives_more is_honest is_under old mid new f g h a b = record {
   honest = λ ho. b.honest (a.honest ho);
   under = λ ho m u. b.under (a.honest ho) m (a.under ho m u);
   moves = moves_more f g h a.moves b.moves;

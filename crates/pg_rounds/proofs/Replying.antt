@@ -1,4 +1,4 @@
--- What is heard of links that tell their replies, state by state and round by round.
+-- Which replies are received of links that tell them, state by state and round by round.
 use Rattle.std.proofs.Common.{◌≡◌, ℕ, ◌+◌, ◌-◌, Bool, true, false, List, [], ◌∷◌, ◌++◌}
 use Rattle.std.proofs.Common.{take, drop, Option, Some, Ok, Err, refl, sym, ◌∙◌, subst, arith, inl, inr}
 use Rattle.std.specs.Prelude.{◌==◌, if◌then◌else◌, Result, OnOk}
@@ -12,9 +12,10 @@ use Rattle.pg_parts.specs.Frames.{IsAtLeast, Joins}
 use Rattle.pg_parts.proofs.Joining.{joins_none}
 use Rattle.pg_parts.specs.declared.link.LinkFault.TheVariants.{Failed}
 use Rattle.pg_rounds.specs.declared.link_state.LinkState.{LinkState}
-use Rattle.pg_rounds.specs.Told.{Ending, reported, spoiled, missing, Reply, IsReply, AreReplies, spelled_reply, spelled_replies, measures_of, is_failure, heard}
+use Rattle.pg_rounds.specs.Replies.{Ending, reported, spoiled, missing, Reply, IsReply}
+use Rattle.pg_rounds.specs.Replies.{AreReplies, spelled_reply, spelled_replies, measures_of, is_failure, received}
 use Rattle.pg_rounds.specs.Mirrors.Tasks.{TaskValue}
-use Rattle.pg_rounds.specs.Mirrors.Telling.{reply_measures, answer_to, HearsReply, heard_by, Tells, IsMended, IsAsked, JoinsEach}
+use Rattle.pg_rounds.specs.Mirrors.Telling.{reply_measures, answer_to, ReceivesReply, received_by, Tells, IsMended, IsQueried, JoinsEach}
 use Rattle.pg_rounds.proofs.Joins.{at_least_after}
 
 -- ---- one state
@@ -23,48 +24,54 @@ same_either : {A : Type 0} (b : Bool) (x : A) → (if b then x else x) ≡ x
 same_either true x = refl
 same_either false x = refl
 
--- where no reply is left none is heard
-heard_of_none : (state : LinkState) → [] ≡ heard_by state []
-heard_of_none state = sym (same_either {A = List Reply} state.in_use [])
+-- where no reply is left none is received
+received_of_none : (state : LinkState) → [] ≡ received_by state []
+received_of_none state = sym (same_either {A = List Reply} state.in_use [])
 
 tells_none : (t : TaskValue) (worker : ℕ) (state : LinkState) (told : Option (List (List ℕ))) → told ≡ Some [] → state.kind ≡ Dense
     → Tells t worker [] state told
-tells_none t worker state told is dense = record { all = []; told_is = is; replies = tt; heard_is = heard_of_none state; kind = dense }
+tells_none t worker state told is dense = record
+    { all = []; told_is = is; replies = tt; received_is = received_of_none state; kind = dense }
 
--- before the first round each reply is heard that may be
+-- before the first round each reply is received that may be
 pub tells_first : (t : TaskValue) (worker : ℕ) (rs : List Reply) (state : LinkState) (told : Option (List (List ℕ))) → told ≡ Some (spelled_replies rs)
-    → AreReplies t.bounds t.cut worker rs → state.in_use ≡ true → state.restarts ≡ 0 → state.kind ≡ Dense → Tells t worker (heard 3 rs) state told
+    → AreReplies t.bounds t.cut worker rs → state.in_use ≡ true → state.restarts ≡ 0 → state.kind ≡ Dense
+    → Tells t worker (received 3 rs) state told
 tells_first t worker rs state told is replies used unset dense = record {
   all = rs;
   told_is = is;
   replies = replies;
-  heard_is = rw (used, unset) refl;
+  received_is = rw (used, unset) refl;
   kind = dense;
 }
 
--- of a link that isn't in use no reply is heard
-pub not_heard : (t : TaskValue) (worker : ℕ) (rs : List Reply) (state : LinkState) (told : Option (List (List ℕ))) (f : List MeasureValue)
+-- of a link that isn't in use no reply is received
+pub not_received : (t : TaskValue) (worker : ℕ) (rs : List Reply) (state : LinkState) (told : Option (List (List ℕ)))
+    (f : List MeasureValue)
     → Tells t worker rs state told → state.in_use ≡ false → Tells t worker (drop 1 rs) state told × Joins f (measures_of (take 1 rs)) f
-not_heard t worker rs state told f h unused =
-    let unheard : heard_by state h.all ≡ [] = rw unused refl in
-    subst (λ (qs : List Reply). Tells t worker (drop 1 qs) state told × Joins f (measures_of (take 1 qs)) f) (sym (h.heard_is ∙ unheard))
-    (record { all = h.all; told_is = h.told_is; replies = h.replies; heard_is = sym unheard; kind = h.kind }, joins_none f)
+not_received t worker rs state told f h unused =
+    let none : received_by state h.all ≡ [] = rw unused refl in
+    subst (λ (qs : List Reply). Tells t worker (drop 1 qs) state told × Joins f (measures_of (take 1 qs)) f) (sym (h.received_is ∙ none))
+    (record { all = h.all; told_is = h.told_is; replies = h.replies; received_is = sym none; kind = h.kind }, joins_none f)
 
--- no reply is heard where none is left
-none_heard : (t : TaskValue) (worker : ℕ) (rs : List Reply) (state : LinkState) (told : Option (List (List ℕ))) (f g : List MeasureValue) → rs ≡ []
+-- no reply is received where none is left
+none_received : (t : TaskValue) (worker : ℕ) (rs : List Reply) (state : LinkState) (told : Option (List (List ℕ)))
+    (f g : List MeasureValue) → rs ≡ []
     → told ≡ Some [] → state.kind ≡ Dense → Joins f [] g → Tells t worker (drop 1 rs) state told × Joins f (measures_of (take 1 rs)) g
-none_heard t worker rs state told f g none is dense joins =
+none_received t worker rs state told f g none is dense joins =
     subst (λ (qs : List Reply). Tells t worker (drop 1 qs) state told × Joins f (measures_of (take 1 qs)) g) (sym none)
     (tells_none t worker state told is dense, joins)
 
--- the next reply is heard, and others are behind it
-one_heard : (t : TaskValue) (worker : ℕ) (rs : List Reply) (r : Reply) (behind all : List Reply) (state : LinkState) (told : Option (List (List ℕ)))
-    (f g : List MeasureValue) → rs ≡ r ∷ behind → told ≡ Some (spelled_replies all) → AreReplies t.bounds t.cut worker all → behind ≡ heard_by state all
+-- the next reply is received, and others are behind it
+one_received : (t : TaskValue) (worker : ℕ) (rs : List Reply) (r : Reply) (behind all : List Reply) (state : LinkState)
+    (told : Option (List (List ℕ)))
+    (f g : List MeasureValue) → rs ≡ r ∷ behind → told ≡ Some (spelled_replies all) → AreReplies t.bounds t.cut worker all
+    → behind ≡ received_by state all
     → state.kind ≡ Dense → Joins f (reply_measures r) g → Tells t worker (drop 1 rs) state told × Joins f (measures_of (take 1 rs)) g
-one_heard t worker rs r behind all state told f g parts is replies heard_is dense joins =
+one_received t worker rs r behind all state told f g parts is replies received_is dense joins =
     let joined : Joins f (measures_of (r ∷ [])) g = subst (λ (ms : List Measured). Joins f ms g) (sym (append-nil (reply_measures r))) joins in
     subst (λ (qs : List Reply). Tells t worker (drop 1 qs) state told × Joins f (measures_of (take 1 qs)) g) (sym parts)
-    (record { all = all; told_is = is; replies = replies; heard_is = heard_is; kind = dense }, joined)
+    (record { all = all; told_is = is; replies = replies; received_is = received_is; kind = dense }, joined)
 
 -- a link that tells no more tells a reply of no frame
 abbrev no_reply : Reply
@@ -73,9 +80,9 @@ no_reply = record { values = []; ending = missing }
 is_no_reply : (t : TaskValue) (worker : ℕ) → IsReply t.bounds t.cut worker no_reply []
 is_no_reply t worker = record { spelled = λ i d lt. absurd (omega arith); values = λ i d lt. absurd (omega arith); ends = inr (omega arith, refl) }
 
--- what hearing comes to, for each reply that the link may tell
-abbrev pub Hearing : TaskValue → ℕ → Option (List (List ℕ)) → (Reply → List (List ℕ) → Type 0) → Type 0
-Hearing t worker told P =
+-- what is so of the next reply, whichever the link may tell
+abbrev pub OfNextReply : TaskValue → ℕ → Option (List (List ℕ)) → (Reply → List (List ℕ) → Type 0) → Type 0
+OfNextReply t worker told P =
     (r : Reply) (left : List (List ℕ)) → told ≡ Some (spelled_reply r ++ left) → IsReply t.bounds t.cut worker r left → P r left
 
 is_success : (e : Ending) → Ok tt ≡ answer_to e → is_failure e ≡ false
@@ -88,23 +95,26 @@ is_failed (reported q) is = absurd (cc)
 is_failed (spoiled bytes) is = refl
 is_failed missing is = refl
 
--- a reply is heard
-pub reply_heard : (t : TaskValue) (worker : ℕ) (rs : List Reply) (state : LinkState) (told told' : Option (List (List ℕ))) (f g : List MeasureValue)
-    → Tells t worker rs state told → state.in_use ≡ true → Hearing t worker told (λ r left. HearsReply r left f g told' (Ok tt))
+-- a reply is received
+pub reply_received : (t : TaskValue) (worker : ℕ) (rs : List Reply) (state : LinkState) (told told' : Option (List (List ℕ)))
+    (f g : List MeasureValue)
+    → Tells t worker rs state told → state.in_use ≡ true → OfNextReply t worker told (λ r left. ReceivesReply r left f g told' (Ok tt))
     → Tells t worker (drop 1 rs) state told' × Joins f (measures_of (take 1 rs)) g
-reply_heard t worker rs state told told' f g h used hearing = by_all h.all h.told_is h.replies (h.heard_is ∙ rw used refl)
+reply_received t worker rs state told told' f g h used receives = by_all h.all h.told_is h.replies (h.received_is ∙ rw used refl)
   where
-    by_all : (all : List Reply) → told ≡ Some (spelled_replies all) → AreReplies t.bounds t.cut worker all → rs ≡ heard (3 - state.restarts) all
+    by_all : (all : List Reply) → told ≡ Some (spelled_replies all) → AreReplies t.bounds t.cut worker all
+        → rs ≡ received (3 - state.restarts) all
         → Tells t worker (drop 1 rs) state told' × Joins f (measures_of (take 1 rs)) g
-    by_all [] is replies heard_is = absurd (let no = (hearing no_reply [] is (is_no_reply t worker) (λ e. cc)).0 in cc)
-    by_all (r ∷ all) is replies heard_is =
-        let x = hearing r (spelled_replies all) is replies.0 (λ e. cc) in
+    by_all [] is replies received_is = absurd (let no = (receives no_reply [] is (is_no_reply t worker) (λ e. cc)).0 in cc)
+    by_all (r ∷ all) is replies received_is =
+        let x = receives r (spelled_replies all) is replies.0 (λ e. cc) in
         let succeeds : is_failure r.ending ≡ false = is_success r.ending x.0 in
-        one_heard t worker rs r (heard (3 - state.restarts) all) all state told' f g (heard_is ∙ rw succeeds refl) x.1 replies.1 (rw used refl) h.kind x.2
+        one_received t worker rs r (received (3 - state.restarts) all) all state told' f g (received_is ∙ rw succeeds refl) x.1 replies.1
+        (rw used refl) h.kind x.2
 
 -- a link that failed and was mended has as many restarts left as its state says
 after_failure : (restarts : ℕ) (state : LinkState) (rs : List Reply) → IsMended restarts state
-    → (if (3 - restarts) == 0 then [] else heard (3 - restarts - 1) rs) ≡ heard_by state rs
+    → (if (3 - restarts) == 0 then [] else received (3 - restarts - 1) rs) ≡ received_by state rs
 after_failure restarts state rs m =
     elim (cases_Bool ((3 - restarts) == 0)) [
       | inl t ↦
@@ -118,26 +128,30 @@ after_failure restarts state rs m =
           rw (f, again.0, again.1, same) refl
     ]
 
--- a reply that fails is heard
-pub failure_heard : {X E : Type 0} (t : TaskValue) (worker : ℕ) (rs : List Reply) (state state' : LinkState) (told told' told'' : Option (List (List ℕ)))
+-- a reply that fails is received
+pub failure_received : {X E : Type 0} (t : TaskValue) (worker : ℕ) (rs : List Reply) (state state' : LinkState)
+    (told told' told'' : Option (List (List ℕ)))
     (f g : List MeasureValue) (mended : Result X E) → Tells t worker rs state told → state.in_use ≡ true
-    → Hearing t worker told (λ r left. HearsReply r left f g told' (Err Failed))
+    → OfNextReply t worker told (λ r left. ReceivesReply r left f g told' (Err Failed))
     → ((left : List (List ℕ)) → told' ≡ Some left → state.kind ≡ Dense
     → OnOk mended ((told'' ≡ Some left) × (state'.kind ≡ Dense) × IsMended state.restarts state'))
     → OnOk mended (Tells t worker (drop 1 rs) state' told'' × Joins f (measures_of (take 1 rs)) g)
-failure_heard t worker rs state state' told told' told'' f g mended h used hearing mends = by_all h.all h.told_is h.replies (h.heard_is ∙ rw used refl)
+failure_received t worker rs state state' told told' told'' f g mended h used receives mends = by_all h.all h.told_is h.replies
+    (h.received_is ∙ rw used refl)
   where
-    by_all : (all : List Reply) → told ≡ Some (spelled_replies all) → AreReplies t.bounds t.cut worker all → rs ≡ heard (3 - state.restarts) all
+    by_all : (all : List Reply) → told ≡ Some (spelled_replies all) → AreReplies t.bounds t.cut worker all
+        → rs ≡ received (3 - state.restarts) all
         → OnOk mended (Tells t worker (drop 1 rs) state' told'' × Joins f (measures_of (take 1 rs)) g)
-    by_all [] is replies heard_is =
-        let x = hearing no_reply [] is (is_no_reply t worker) (λ e. cc) in
-        on_ok_weaker mended (λ m. none_heard t worker rs state' told'' f g heard_is m.0 m.1 x.2) (mends [] x.1 h.kind)
-    by_all (r ∷ all) is replies heard_is =
-        let x = hearing r (spelled_replies all) is replies.0 (λ e. cc) in
+    by_all [] is replies received_is =
+        let x = receives no_reply [] is (is_no_reply t worker) (λ e. cc) in
+        on_ok_weaker mended (λ m. none_received t worker rs state' told'' f g received_is m.0 m.1 x.2) (mends [] x.1 h.kind)
+    by_all (r ∷ all) is replies received_is =
+        let x = receives r (spelled_replies all) is replies.0 (λ e. cc) in
         let fails : is_failure r.ending ≡ true = is_failed r.ending x.0 in
-        let left : List Reply = if (3 - state.restarts) == 0 then [] else heard (3 - state.restarts - 1) all in
+        let left : List Reply = if (3 - state.restarts) == 0 then [] else received (3 - state.restarts - 1) all in
         on_ok_weaker mended
-        (λ m. one_heard t worker rs r left all state' told'' f g (heard_is ∙ rw fails refl) m.0 replies.1 (after_failure state.restarts state' all m.2) m.1 x.2)
+        (λ m. one_received t worker rs r left all state' told'' f g (received_is ∙ rw fails refl) m.0 replies.1
+        (after_failure state.restarts state' all m.2) m.1 x.2)
         (mends (spelled_replies all) x.1 h.kind)
 
 -- ---- each link
@@ -151,12 +165,12 @@ abbrev pub TellsFirst : {L : Type 0} → (L → Option (List (List ℕ))) → Ta
 TellsFirst told t replies k state link = (told link ≡ Some (spelled_replies (replies k))) × AreReplies t.bounds t.cut (k + 1) (replies k)
 
 -- a link in its state, of which one reply more was taken
-abbrev pub IsHeardNext : {L : Type 0} → (L → Option (List (List ℕ))) → TaskValue → (ℕ → List Reply) → ℕ → LinkState → L → Type 0
-IsHeardNext told t replies k state link = Tells t (k + 1) (drop 1 (replies k)) state (told link)
+abbrev pub IsReceivedNext : {L : Type 0} → (L → Option (List (List ℕ))) → TaskValue → (ℕ → List Reply) → ℕ → LinkState → L → Type 0
+IsReceivedNext told t replies k state link = Tells t (k + 1) (drop 1 (replies k)) state (told link)
 
--- the same, and it was asked
-abbrev pub IsAskedNext : {L : Type 0} → (L → Option (List (List ℕ))) → TaskValue → (ℕ → List Reply) → ℕ → LinkState → L → Type 0
-IsAskedNext told t replies k state link = Tells t (k + 1) (replies k) state (told link) × IsAsked state
+-- the same, and it was queried
+abbrev pub IsQueriedNext : {L : Type 0} → (L → Option (List (List ℕ))) → TaskValue → (ℕ → List Reply) → ℕ → LinkState → L → Type 0
+IsQueriedNext told t replies k state link = Tells t (k + 1) (replies k) state (told link) × IsQueried state
 
 pub each_none : (f : List MeasureValue) (measures : ℕ → List Measured) → JoinsEach f 0 measures f
 each_none f measures = record { above = λ k lt. absurd (omega arith); least = λ h le each. le }

@@ -11,7 +11,7 @@ use Rattle.pg_map.specs.Maps.{MapValue, MapAtMost, IsClosed, IsNeverAbove, measu
 use Rattle.pg_wire.specs.Measured.{Measured}
 use Rattle.pg_parts.specs.Frames.{IsAtLeast}
 use Rattle.pg_rounds.specs.declared.link_state.LinkState.{LinkState}
-use Rattle.pg_rounds.specs.Told.{Reply, missing, measures_of, heard, IsLeastOverReplies}
+use Rattle.pg_rounds.specs.Replies.{Reply, missing, measures_of, received, IsLeastOverReplies}
 use Rattle.pg_rounds.specs.Mirrors.Tasks.{TaskValue, IsClosedMap}
 use Rattle.pg_rounds.specs.Mirrors.Telling.{reply_measures, Tells, AllTell, IsRoundOver}
 use Rattle.pg_rounds.proofs.Joins.{at_least_after}
@@ -36,7 +36,8 @@ taken_more n rs =
           ∙ ap (λ (qs : List Reply). measures_of (take n rs) ++ measures_of qs) (sym none)
     ]
 
--- Of the replies of each link that are heard one was taken in each round, while there was one left. The map is at least the measures in these, and
+-- Of the replies of each link that are received one was taken in each round, while there was one left. The map is at least the
+-- measures in these, and
 -- at most every closed map that is at least the first map and these.
 pub record HasTaken {L : Type 0} (told : L → Option (List (List ℕ))) (t : TaskValue) (replies : ℕ → List Reply) (rounds : ℕ) (states : List LinkState)
     (links : List L)
@@ -103,7 +104,7 @@ round_taken told t replies rounds rounds' states states' links links' f g g' h c
 -- the least closed map that is at least what was taken
 pub least_over : {L : Type 0} (told : L → Option (List (List ℕ))) (t : TaskValue) (replies : ℕ → List Reply) (rounds : ℕ)
     (states : List LinkState) (links : List L)
-    (count : ℕ) (f g : MapValue) → HasTaken told t (λ k. heard 3 (replies k)) rounds states links f.measures g.measures
+    (count : ℕ) (f g : MapValue) → HasTaken told t (λ k. received 3 (replies k)) rounds states links f.measures g.measures
     → length links ≡ count → f.bounds ≡ t.bounds
     → length f.measures ≡ length t.game → g.bounds ≡ f.bounds → length g.measures ≡ length t.game → IsClosed g.bounds (game_line t.game) g.measures
     → IsNeverAbove f.bounds (game_line t.game) f.measures → IsLeastOverReplies (game_line t.game) rounds count replies g

@@ -1,5 +1,5 @@
 -- What is taken of links that tell their replies.
-use Rattle.std.proofs.Common.{◌≡◌, ◌≢◌, ℕ, map, Result, Ok, Err, List, [], ◌∷◌}
+use Rattle.std.proofs.Common.{◌≡◌, ◌≢◌, ℕ, map, Result, Ok, Err, List, ◌∷◌}
 use Rattle.std.proofs.Common.{Option, Some, refl, sym, ◌∙◌, ap, subst, arith, rules, inl, inr}
 use Rattle.std.specs.Prelude.{All, IfErr, OnOk, ◌↔◌, Bool, true, false, ◌==◌, if◌then◌else◌}
 use Rattle.std.proofs.lemmas.Bool.{cases_Bool}
@@ -19,8 +19,8 @@ use Rattle.pg_parts.specs.Frames.{kind_of, Joins}
 use Rattle.pg_parts.specs.declared.link.LinkFault.{LinkFault}
 use Rattle.pg_parts.specs.declared.link.LinkFault.TheVariants.{OutOfMemory, Failed}
 use Rattle.pg_parts.specs.Links.{refusal, SendsTold, RestartsTold, HandsOver}
-use Rattle.pg_rounds.specs.Replies.{IsOfPart, AreOfPart}
-use Rattle.pg_rounds.specs.Told.{FailsLink}
+use Rattle.pg_rounds.specs.PartMeasures.{IsOfPart, AreOfPart}
+use Rattle.pg_rounds.specs.Replies.{FailsLink}
 use Rattle.pg_rounds.specs.Mirrors.Takes.{TakesFrame}
 use Rattle.pg_rounds.specs.Mirrors.Telling.{TellsAfter, AnswersSetUp, acceptance, told_with}
 

@@ -1,4 +1,4 @@
 pub mod Solving
+pub mod PartMeasures
 pub mod Replies
-pub mod Told
 pub mod Mirrors

@@ -99,7 +99,7 @@ impl CoordinatorMap {
         ensures rose { self.new.rose ≡ (self.old.rose || result) }
     {
         pg_map::laws::game_lines();
-        // asked for what its contract says of the game
+        // called for what its contract says of the game
         let _vertices = game.len();
         let rose = self.map.lift(game, v);
         list_if(rose, &mut self.risen, v);

@@ -6,7 +6,7 @@ ghost use Rattle.pg_measure.specs.Views.{measure_in};
 ghost use Rattle.pg_wire.specs.Measured.{Measured};
 ghost use Rattle.pg_wire.specs.Left.{IsLeft};
 ghost use Rattle.pg_parts.specs.Frames.{Joins};
-ghost use Rattle.pg_rounds.specs.Replies.{IsOfPart};
+ghost use Rattle.pg_rounds.specs.PartMeasures.{IsOfPart};
 ghost use Rattle.pg_rounds.specs.Mirrors.CoordinatorMaps.{Moves};
 ghost use Rattle.pg_rounds.specs.Mirrors.Joined.{JoinsFrame};
 

@@ -7,8 +7,8 @@ use pg_wire::ValueKind;
 pub struct LinkState {
     /// Whether the link takes part.
     pub in_use: bool,
-    /// Whether it was asked in this round, and hasn't answered yet.
-    pub asked: bool,
+    /// Whether it was queried in this round, and hasn't failed since.
+    pub queried: bool,
     /// Whether it was set up and has to be sent every value that is above zero.
     pub behind: bool,
     /// In which frames values go: `Sparse`, until the link refuses version 2.
@@ -20,7 +20,7 @@ pub struct LinkState {
 /// The state of a link that wasn't set up yet.
 pub const UNSET: LinkState = LinkState {
     in_use: false,
-    asked: false,
+    queried: false,
     behind: true,
     kind: ValueKind::Sparse,
     restarts: 0,

@@ -24,7 +24,7 @@ fn pass(coordinator: &mut CoordinatorMap, game: &Game)
         → IsClosed coordinator.new.map.bounds (game_line game.now) coordinator.new.map.measures }
 {
     pg_map::laws::game_lines();
-    // asked for what its contract says of the map
+    // called for what its contract says of the map
     let _map = coordinator.map.len();
     for number in 0..game.len() {
         coordinator.lift(game, Vertex(number as u32));

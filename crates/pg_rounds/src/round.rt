@@ -6,18 +6,18 @@ ghost use Rattle.pg_map.specs.Maps.{MapValue, MapAtMost, IsClosed};
 ghost use Rattle.pg_map.specs.Weights.{map_weight};
 ghost use Rattle.pg_parts.specs.Frames.{Joins};
 ghost use Rattle.pg_rounds.specs.Mirrors.Rounds.{IsFoundFrom};
-ghost use Rattle.pg_rounds.specs.Told.{Reply, AreReplies, TellReplies, spelled_replies, measures_of, heard};
+ghost use Rattle.pg_rounds.specs.Replies.{Reply, AreReplies, TellReplies, spelled_replies, measures_of, received};
 ghost use Rattle.pg_rounds.specs.Mirrors.Tasks.{IsClosedMap};
 ghost use Rattle.pg_rounds.specs.Mirrors.CoordinatorMaps.{Moves};
 ghost use Rattle.pg_rounds.specs.Mirrors.LinkStates.{IsInStep, AllInStep};
-ghost use Rattle.pg_rounds.specs.Mirrors.Telling.{TellsDense, Tells, IsMended, IsAsked, AllTell, AllAsked, JoinsEach, IsRoundOver};
+ghost use Rattle.pg_rounds.specs.Mirrors.Telling.{TellsDense, Tells, IsMended, IsQueried, AllTell, AllQueried, JoinsEach, IsRoundOver};
 
 use crate::coordinator_map::CoordinatorMap;
 use crate::link_state::{LinkState, MOST_RESTARTS};
 use crate::pass::end_round;
 use crate::set_up::set_up;
 use crate::task::Task;
-use crate::turn::{ask, hear};
+use crate::turn::{query, receive_reply};
 use pg_parts::{Link, LinkFault};
 use pg_wire::ValueKind;
 use std::alloc::AllocError;
@@ -56,7 +56,7 @@ fn mend<L: Link>(
         → OnOk result ((L.told link.new ≡ Some left) × (state.new.kind ≡ ValueKind.Dense) × IsMended state.old.restarts state.new) }
 {
     state.in_use = false;
-    state.asked = false;
+    state.queried = false;
     state.behind = true;
     while state.restarts < MOST_RESTARTS {
         state.restarts += 1;
@@ -85,7 +85,7 @@ fn set_up_one<L: Link>(
     ensures in_step { OnOk result (L.is_honest link.old → (map : MapValue) → IsInStep L.is_under task.now map state.new link.new) }
     ensures told { (replies : List Reply) → L.told link.old ≡ Some (spelled_replies replies)
         → AreReplies task.now.bounds task.now.cut worker replies
-        → OnOk result (Tells task.now worker (heard 3 replies) state.new (L.told link.new)) }
+        → OnOk result (Tells task.now worker (received 3 replies) state.new (L.told link.new)) }
 {
     match set_up(task, link, worker, &mut state.kind, buffer) {
         Ok(()) => {
@@ -97,8 +97,8 @@ fn set_up_one<L: Link>(
     }
 }
 
-/// Asks a link, if it is in use.
-fn ask_one<L: Link>(
+/// Queries a link, if it is in use.
+fn query_one<L: Link>(
     task: &Task<'_>,
     link: &mut L,
     worker: u32,
@@ -112,15 +112,15 @@ fn ask_one<L: Link>(
     ensures in_step { OnOk result (L.is_honest link.old → IsInStep L.is_under task.now coordinator.now.map state.old link.old
         → IsInStep L.is_under task.now coordinator.now.map state.new link.new) }
     ensures told { (replies : List Reply) → Tells task.now worker replies state.old (L.told link.old)
-        → OnOk result (Tells task.now worker replies state.new (L.told link.new) × IsAsked state.new) }
+        → OnOk result (Tells task.now worker replies state.new (L.told link.new) × IsQueried state.new) }
 {
-    state.asked = false;
+    state.queried = false;
     if !state.in_use {
         return Ok(());
     }
-    match ask(task, link, worker, state, coordinator, buffer) {
+    match query(task, link, worker, state, coordinator, buffer) {
         Ok(()) => {
-            state.asked = true;
+            state.queried = true;
             state.behind = false;
             Ok(())
         }
@@ -129,8 +129,8 @@ fn ask_one<L: Link>(
     }
 }
 
-/// Hears a link, if it was asked, and joins the values of its reply, by a row of as many places as there are bounds.
-fn hear_one<L: Link>(
+/// Receives the reply of a link, if that was queried, and joins its values, by a row of as many places as there are bounds.
+fn receive_one<L: Link>(
     task: &Task<'_>,
     link: &mut L,
     worker: u32,
@@ -149,14 +149,14 @@ fn hear_one<L: Link>(
     ensures least { L.is_honest link.old → IsInStep L.is_under task.now coordinator.old.map state.old link.old
         → (h : MapValue) → IsClosedMap task.now h → MapAtMost coordinator.old.map.measures h.measures
         → MapAtMost coordinator.new.map.measures h.measures }
-    ensures told { (replies : List Reply) → Tells task.now worker replies state.old (L.told link.old) → IsAsked state.old
+    ensures told { (replies : List Reply) → Tells task.now worker replies state.old (L.told link.old) → IsQueried state.old
         → OnOk result (Tells task.now worker (drop 1 replies) state.new (L.told link.new)
         × Joins coordinator.old.map.measures (measures_of (take 1 replies)) coordinator.new.map.measures) }
 {
-    if !state.in_use || !state.asked {
+    if !state.in_use || !state.queried {
         return Ok(());
     }
-    match hear(task, link, worker, state.kind, coordinator, buffer, row) {
+    match receive_reply(task, link, worker, state.kind, coordinator, buffer, row) {
         Ok(()) => Ok(()),
         Err(LinkFault::OutOfMemory) => Err(AllocError),
         Err(LinkFault::Failed) => mend(task, link, worker, state, buffer),
@@ -186,7 +186,7 @@ pub fn set_up_all<L: Link>(
     ensures in_step { OnOk result (All L.is_honest links.old → (map : MapValue)
         → AllInStep L.is_under task.now map states.new links.new) }
     ensures told { OnOk result ((replies : ℕ → List Reply) → TellReplies L.told task.now.bounds task.now.cut links.old replies
-        → AllTell L.told task.now states.new links.new (λ k. heard 3 (replies k))) }
+        → AllTell L.told task.now states.new links.new (λ k. received 3 (replies k))) }
 {
     for i in 0..links.len() {
         set_up_one(task, &mut links[i], i as u32 + 1, &mut states[i], buffer)?;
@@ -194,8 +194,8 @@ pub fn set_up_all<L: Link>(
     Ok(())
 }
 
-/// Asks each link in use.
-fn ask_all<L: Link>(
+/// Queries each link in use.
+fn query_all<L: Link>(
     task: &Task<'_>,
     links: &mut [L],
     states: &mut [LinkState],
@@ -210,10 +210,10 @@ fn ask_all<L: Link>(
     ensures in_step { OnOk result (All L.is_honest links.old → AllInStep L.is_under task.now coordinator.now.map states.old links.old
         → AllInStep L.is_under task.now coordinator.now.map states.new links.new) }
     ensures told { OnOk result ((replies : ℕ → List Reply) → AllTell L.told task.now states.old links.old replies
-        → AllTell L.told task.now states.new links.new replies × AllAsked states.new links.new) }
+        → AllTell L.told task.now states.new links.new replies × AllQueried states.new links.new) }
 {
     for i in 0..links.len() {
-        ask_one(
+        query_one(
             task,
             &mut links[i],
             i as u32 + 1,
@@ -225,8 +225,8 @@ fn ask_all<L: Link>(
     Ok(())
 }
 
-/// Hears each link that was asked, by a row of as many places as there are bounds.
-fn hear_all<L: Link>(
+/// Receives the reply of each link that was queried, by a row of as many places as there are bounds.
+fn receive_all<L: Link>(
     task: &Task<'_>,
     links: &mut [L],
     states: &mut [LinkState],
@@ -247,11 +247,11 @@ fn hear_all<L: Link>(
         → (h : MapValue) → IsClosedMap task.now h → MapAtMost coordinator.old.map.measures h.measures
         → MapAtMost coordinator.new.map.measures h.measures) }
     ensures told { OnOk result ((replies : ℕ → List Reply) → AllTell L.told task.now states.old links.old replies
-        → AllAsked states.old links.old → AllTell L.told task.now states.new links.new (λ k. drop 1 (replies k))
+        → AllQueried states.old links.old → AllTell L.told task.now states.new links.new (λ k. drop 1 (replies k))
         × JoinsEach coordinator.old.map.measures (length links.old) (λ k. measures_of (take 1 (replies k))) coordinator.new.map.measures) }
 {
     for i in 0..links.len() {
-        hear_one(
+        receive_one(
             task,
             &mut links[i],
             i as u32 + 1,
@@ -292,11 +292,11 @@ pub fn make_round<L: Link>(
         → AllTell L.told task.now states.new links.new (λ k. drop 1 (replies k)) × IsRoundOver task.now coordinator.old.map.measures
         (length links.old) (λ k. measures_of (take 1 (replies k))) coordinator.new.map.measures) }
 {
-    ask_all(task, links, states, coordinator, buffer)?;
+    query_all(task, links, states, coordinator, buffer)?;
     coordinator.begin();
-    hear_all(task, links, states, coordinator, buffer, row)?;
+    receive_all(task, links, states, coordinator, buffer, row)?;
     end_round(task, coordinator);
-    // asked for what its contract says of the map
+    // called for what its contract says of the map
     let _vertices = coordinator.map.len();
     Ok(())
 }

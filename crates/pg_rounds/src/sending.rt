@@ -57,7 +57,7 @@ pub fn receive_frame<L: Link>(
 /// The bytes of Halt.
 const HALT: [u8; 5] = [0, 0, 0, 1, 6];
 
-/// Ends the workers: sends Halt over each link. What the links answer isn't told.
+/// Ends the workers: sends Halt over each link. What the links answer is left open.
 pub fn halt<L: Link>(links: &mut [L])
     ensures { All L.is_honest links.old → All L.is_honest links.new }
 {

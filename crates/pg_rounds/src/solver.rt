@@ -6,7 +6,7 @@ ghost use Rattle.pg_map.specs.Lines.{game_line};
 ghost use Rattle.pg_map.specs.Maps.{zero_map, IsMap, IsClosed, IsNeverAbove, IsLeastProgressMeasure};
 ghost use Rattle.pg_map.specs.Weights.{map_weight};
 ghost use Rattle.pg_rounds.specs.Solving.{IsMismatch, most_rounds};
-ghost use Rattle.pg_rounds.specs.Told.{Reply, TellReplies, IsLeastOverReplies, heard};
+ghost use Rattle.pg_rounds.specs.Replies.{Reply, TellReplies, IsLeastOverReplies, received};
 ghost use Rattle.pg_rounds.specs.Mirrors.LinkStates.{AllInStep};
 ghost use Rattle.pg_rounds.specs.Mirrors.Telling.{AllTell};
 ghost use Rattle.pg_rounds.specs.Mirrors.Rounds.{Ends, IsSolvedFrom};
@@ -80,7 +80,7 @@ fn make_rounds<L: Link>(
     ensures honest { All L.is_honest links.old → All L.is_honest links.new }
     ensures ends { IfOk result (Ends task.now.game
         (All L.is_honest links.old × AllInStep L.is_under task.now coordinator.old.map states.old links.old)
-        (λ replies. AllTell L.told task.now states.old links.old (λ k. heard 3 (replies k)))
+        (λ replies. AllTell L.told task.now states.old links.old (λ k. received 3 (replies k)))
         (length links.old) most_rounds coordinator.old.map coordinator.new.map) }
 {
     let mut rounds = 0u64;

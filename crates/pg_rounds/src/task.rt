@@ -50,7 +50,7 @@ impl<'a> Task<'a> {
     {
         pg_measure::laws::bounds_are_few();
         pg_map::laws::game_lines();
-        // asked for what its contract says of the game
+        // called for what its contract says of the game
         let _vertices = game.len();
         let bounds = Bounds::from_pairs(alloc, bounds.pairs())?;
         let subscribers = Subscribers::of(alloc, game, cut)?;

@@ -1,4 +1,4 @@
-//! A turn of one link: it is asked, and then heard.
+//! A turn of one link: it is queried, and its reply is received.
 
 ghost use Rattle.std.specs.Prelude.{◌≡◌, ◌≢◌, ◌<◌, ◌∷◌, ◌++◌, ℕ, List, [], length, All, true, false};
 ghost use Rattle.std.specs.Prelude.{Some, Ok, IfOk, IfErr, OnOk};
@@ -10,10 +10,10 @@ ghost use Rattle.pg_wire.specs.declared.kind.ValueKind.TheVariants.{Dense};
 ghost use Rattle.pg_wire.specs.Bytes.{Spells};
 ghost use Rattle.pg_wire.specs.Measured.{told_values};
 ghost use Rattle.pg_parts.specs.Frames.{Joins};
-ghost use Rattle.pg_rounds.specs.Replies.{AreOfPart};
-ghost use Rattle.pg_rounds.specs.Told.{Reply, FailsLink, IsReply, spelled_reply};
-ghost use Rattle.pg_rounds.specs.Mirrors.CoordinatorMaps.{Hears};
-ghost use Rattle.pg_rounds.specs.Mirrors.Telling.{TellsAfter, AnswersAfter, FailsAfter, HearsReply};
+ghost use Rattle.pg_rounds.specs.PartMeasures.{AreOfPart};
+ghost use Rattle.pg_rounds.specs.Replies.{Reply, FailsLink, IsReply, spelled_reply};
+ghost use Rattle.pg_rounds.specs.Mirrors.CoordinatorMaps.{Receives};
+ghost use Rattle.pg_rounds.specs.Mirrors.Telling.{TellsAfter, AnswersAfter, FailsAfter, ReceivesReply};
 
 use crate::coordinator_map::CoordinatorMap;
 use crate::joining::join_frame;
@@ -58,7 +58,7 @@ fn above_zero(alloc: Global, map: &MeasureMap) -> Result<Vec<Vertex>, AllocError
     Ok(vertices)
 }
 
-/// How many lifts a worker is asked for: the budget, or a short turn at most, at first and where many vertices rose in the last
+/// How many lifts a worker may make at a Go: the budget, or a short turn at most, at first and where many vertices rose in the last
 /// round. Then most lifts raised a vertex of their own, and much of what a long turn made of them would have to be made again.
 fn lifts(task: &Task<'_>, coordinator: &CoordinatorMap) -> u32 {
     let workers = task.cut().workers() as usize;
@@ -70,7 +70,7 @@ fn lifts(task: &Task<'_>, coordinator: &CoordinatorMap) -> u32 {
 }
 
 /// Sends values, those that rose or, where the worker was set up anew, all; and lets it lift.
-pub fn ask<L: Link>(
+pub fn query<L: Link>(
     task: &Task<'_>,
     link: &mut L,
     worker: u32,
@@ -124,7 +124,7 @@ fn end(frame: &Frame) -> Result<(), LinkFault>
 
 /// Reads one frame of a reply and joins its measures, by a row of as many places as there are bounds. True where the reply ends
 /// with it.
-fn hear_frame<L: Link>(
+fn receive_and_join<L: Link>(
     task: &Task<'_>,
     link: &mut L,
     worker: u32,
@@ -135,7 +135,7 @@ fn hear_frame<L: Link>(
 ) -> Result<bool, LinkFault>
     requires size { length coordinator.old.map.measures ≡ length task.now.game }
     requires row { length row.old ≡ length coordinator.old.map.bounds }
-    ensures heard { Hears L.is_honest L.is_under link.old link.new coordinator.old coordinator.new }
+    ensures received { Receives L.is_honest L.is_under link.old link.new coordinator.old coordinator.new }
     ensures values { (v : Values) (next : List ℕ) (left : List (List ℕ)) → L.told link.old ≡ Some (next ∷ left)
         → Spells (frames.Values v) next → kind ≡ Dense
         → AreOfPart Dense coordinator.old.map.bounds task.now.cut worker Dense v.width (told_values v.values)
@@ -170,7 +170,7 @@ fn hear_frame<L: Link>(
 
 /// Reads a reply to its end and joins its values, by a row of as many places as there are bounds. Where a frame fails the link, and
 /// where the reply is longer than it may be, the frames before stay joined.
-pub fn hear<L: Link>(
+pub fn receive_reply<L: Link>(
     task: &Task<'_>,
     link: &mut L,
     worker: u32,
@@ -182,13 +182,13 @@ pub fn hear<L: Link>(
     requires bounds { coordinator.old.map.bounds ≡ task.now.bounds }
     requires size { length coordinator.old.map.measures ≡ length task.now.game }
     requires row { length row.old ≡ length task.now.bounds }
-    ensures heard { Hears L.is_honest L.is_under link.old link.new coordinator.old coordinator.new }
+    ensures received { Receives L.is_honest L.is_under link.old link.new coordinator.old coordinator.new }
     ensures reply { (r : Reply) (left : List (List ℕ)) → L.told link.old ≡ Some (spelled_reply r ++ left)
         → IsReply task.now.bounds task.now.cut worker r left → kind ≡ Dense
-        → HearsReply r left coordinator.old.map.measures coordinator.new.map.measures (L.told link.new) result }
+        → ReceivesReply r left coordinator.old.map.measures coordinator.new.map.measures (L.told link.new) result }
 {
     'frames: for _ in 0..MOST_FRAMES {
-        match hear_frame(task, link, worker, kind, coordinator, buffer, row) {
+        match receive_and_join(task, link, worker, kind, coordinator, buffer, row) {
             Ok(true) => return Ok(()),
             Ok(false) => {}
             Err(fault) => return Err(fault),

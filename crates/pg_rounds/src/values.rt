@@ -19,7 +19,7 @@ pub struct Recipient {
     pub worker: u32,
     /// In which frames it takes values.
     pub kind: ValueKind,
-    /// Whether it has to know vertices of its own part too: those that it didn't tell.
+    /// Whether it has to know vertices of its own part too: those that it didn't send.
     pub own: bool,
 }
 

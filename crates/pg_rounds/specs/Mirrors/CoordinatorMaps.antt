@@ -14,9 +14,11 @@ pub record Moves (old new : CoordinatorMap) : Type 0 where
   pub falls : old.rose ≡ false → new.rose ≡ true
       → map_weight old.map.bounds new.map.measures < map_weight old.map.bounds old.map.measures
 
--- A link was heard: it stays honest, and under the maps that it was under; and the coordinator's map rises, while the link is honest
+-- A reply was received: its link stays honest, and under the maps that it was under; and the coordinator's map rises, while the
+-- link is honest
 -- under each of these maps.
-pub record Hears {L : Type 0} (is_honest : L → Type 0) (is_under : L → MapValue → Type 0) (old new : L) (before after : CoordinatorMap) : Type 0 where
+pub record Receives {L : Type 0} (is_honest : L → Type 0) (is_under : L → MapValue → Type 0) (old new : L) (before after : CoordinatorMap)
+    : Type 0 where
   pub honest : is_honest old → is_honest new
   pub under : is_honest old → (h : MapValue) → is_under old h → is_under new h
   pub moves : Moves before after

@@ -4,7 +4,7 @@ use Rattle.pg_wire.specs.declared.kind.ValueKind.{ValueKind}
 use Rattle.pg_wire.specs.Measured.{Measured}
 use Rattle.pg_parts.specs.Cuts.{CutValue}
 use Rattle.pg_parts.specs.Frames.{Joins}
-use Rattle.pg_rounds.specs.Replies.{AreOfPart}
+use Rattle.pg_rounds.specs.PartMeasures.{AreOfPart}
 use Rattle.pg_rounds.specs.declared.coordinator_map.CoordinatorMap.{CoordinatorMap}
 
 -- the measures of a frame were joined, or the frame isn't one of the kind and of the worker's part, and none was

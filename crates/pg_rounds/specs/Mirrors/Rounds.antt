@@ -5,7 +5,7 @@ use Rattle.pg_map.specs.Lines.{game_line}
 use Rattle.pg_map.specs.Maps.{MapValue, MapAtMost, IsMap, IsClosed, IsNeverAbove, StaysUnder}
 use Rattle.pg_map.specs.Weights.{map_weight}
 use Rattle.pg_rounds.specs.declared.solver.Solved.{Solved}
-use Rattle.pg_rounds.specs.Told.{Reply, IsLeastOverReplies}
+use Rattle.pg_rounds.specs.Replies.{Reply, IsLeastOverReplies}
 
 -- so many rounds lead from one map to another: one in which nothing rises, and as many before it as there are rises at most
 abbrev pub AreRounds : ℕ → MapValue → MapValue → Type 0

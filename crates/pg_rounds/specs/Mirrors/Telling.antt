@@ -17,7 +17,7 @@ use Rattle.pg_parts.specs.declared.link.LinkFault.{LinkFault}
 use Rattle.pg_parts.specs.declared.link.LinkFault.TheVariants.{OutOfMemory, Failed}
 use Rattle.pg_rounds.specs.declared.link_state.LinkState.{LinkState}
 use Rattle.pg_parts.specs.Links.{refusal}
-use Rattle.pg_rounds.specs.Told.{Ending, reported, spoiled, missing, Reply, AreReplies, spelled_ending, spelled_replies, heard}
+use Rattle.pg_rounds.specs.Replies.{Ending, reported, spoiled, missing, Reply, AreReplies, spelled_ending, spelled_replies, received}
 use Rattle.pg_rounds.specs.Mirrors.Tasks.{TaskValue, IsClosedMap}
 
 -- ---- one call
@@ -63,29 +63,30 @@ reply_measures r = flat_map (λ v. told_values v.values) r.values
 abbrev pub told_reply : List Values → Ending → List (List ℕ) → List (List ℕ)
 told_reply vs ending left = (map (λ v. spelling (frames.Values v)) vs ++ spelled_ending ending) ++ left
 
--- what hearing a reply answers, unless memory runs out
+-- what receiving a reply answers, unless memory runs out
 abbrev pub answer_to : Ending → Result (Unit {0}) LinkFault
 answer_to (reported r) = Ok tt
 answer_to (spoiled bytes) = Err Failed
 answer_to missing = Err Failed
 
--- A reply was heard, unless memory ran out: its measures are joined, and these frames are told after it.
-abbrev pub HearsReply : Reply → List (List ℕ) → List MeasureValue → List MeasureValue → Option (List (List ℕ)) → Result (Unit {0}) LinkFault → Type 0
-HearsReply r left f g new result =
+-- A reply was received, unless memory ran out: its measures are joined, and these frames are told after it.
+abbrev pub ReceivesReply : Reply → List (List ℕ) → List MeasureValue → List MeasureValue → Option (List (List ℕ))
+    → Result (Unit {0}) LinkFault → Type 0
+ReceivesReply r left f g new result =
     result ≢ Err OutOfMemory → (result ≡ answer_to r.ending) × (new ≡ Some left) × Joins f (reply_measures r) g
 
 -- ---- links and their states
 
--- what is heard of replies by the state of their link
-abbrev pub heard_by : LinkState → List Reply → List Reply
-heard_by state all = if state.in_use then heard (3 - state.restarts) all else []
+-- which replies are received, by the state of their link
+abbrev pub received_by : LinkState → List Reply → List Reply
+received_by state all = if state.in_use then received (3 - state.restarts) all else []
 
--- A link will still tell replies, of which these are heard. Values go dense.
+-- A link will still tell replies, of which these are received. Values go dense.
 pub record Tells (t : TaskValue) (worker : ℕ) (rs : List Reply) (state : LinkState) (told : Option (List (List ℕ))) : Type 0 where
   pub all : List Reply
   pub told_is : told ≡ Some (spelled_replies all)
   pub replies : AreReplies t.bounds t.cut worker all
-  pub heard_is : rs ≡ heard_by state all
+  pub received_is : rs ≡ received_by state all
   pub kind : state.kind ≡ Dense
 
 -- a link that failed was restarted, if it wasn't three times already, and is no more in use if it was
@@ -93,19 +94,19 @@ pub record IsMended (restarts : ℕ) (state : LinkState) : Type 0 where
   pub again : restarts < 3 → (state.in_use ≡ true) × (state.restarts ≡ restarts + 1)
   pub given_up : 3 ≤ restarts → state.in_use ≡ false
 
--- a link in use was asked
-abbrev pub IsAsked : LinkState → Type 0
-IsAsked state = state.in_use ≡ true → state.asked ≡ true
+-- a link in use was queried
+abbrev pub IsQueried : LinkState → Type 0
+IsQueried state = state.in_use ≡ true → state.queried ≡ true
 
--- of each link replies of its own will still be heard
+-- of each link replies of its own will still be received
 abbrev pub AllTell : {L : Type 0} → (L → Option (List (List ℕ))) → TaskValue → List LinkState → List L → (ℕ → List Reply) → Type 0
 AllTell {L} told t states links replies =
     (k : ℕ) (d : L) (e : LinkState) → k < length links
     → Tells t (k + 1) (replies k) (slice_index_or states k e) (told (slice_index_or links k d))
 
--- each link in use was asked
-abbrev pub AllAsked : {L : Type 0} → List LinkState → List L → Type 0
-AllAsked {L} states links = (k : ℕ) (d : L) (e : LinkState) → k < length links → IsAsked (slice_index_or states k e)
+-- each link in use was queried
+abbrev pub AllQueried : {L : Type 0} → List LinkState → List L → Type 0
+AllQueried {L} states links = (k : ℕ) (d : L) (e : LinkState) → k < length links → IsQueried (slice_index_or states k e)
 
 -- g is at least each measure in so many lists, and at most every closed map that is at least f and each of these
 pub record IsRoundOver (t : TaskValue) (f : List MeasureValue) (count : ℕ) (measures : ℕ → List Measured) (g : List MeasureValue) : Type 0 where

@@ -4,7 +4,7 @@ use Rattle.std.proofs.lemmas.List.Elements.{All-nil, All-push}
 use Rattle.pg_measure.specs.Measures.{MeasureValue}
 use Rattle.pg_wire.specs.Measured.{Measured}
 use Rattle.pg_parts.proofs.Reading.{in_row}
-use Rattle.pg_rounds.specs.Replies.{IsOfPart}
+use Rattle.pg_rounds.specs.PartMeasures.{IsOfPart}
 use Rattle.pg_rounds.proofs.Joins.{read_none, read_more, read_holds, read_all}
 use Rattle.pg_rounds.proofs.joining.are_of_part.Goals as goal
 

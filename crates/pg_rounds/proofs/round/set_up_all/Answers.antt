@@ -1,7 +1,7 @@
 use Rattle.std.proofs.Common.{◌≡◌, rules, ◌<◌, ◌≤◌, length, length-set, arith}
 use Rattle.std.proofs.lemmas.List.Elements.{All-set}
 use Rattle.pg_map.specs.Maps.{MapValue}
-use Rattle.pg_rounds.specs.Told.{heard}
+use Rattle.pg_rounds.specs.Replies.{received}
 use Rattle.pg_rounds.specs.Mirrors.LinkStates.{IsInStep}
 use Rattle.pg_rounds.proofs.LinkStates.{halves_step}
 use Rattle.pg_rounds.proofs.Replying.{TellsFirst, TellsNext}
@@ -33,7 +33,8 @@ loop-i-preserved g c =
       told_done = λ replies tell.
           let here : c.loop-i.i ≤ c.loop-i.i = omega arith in
           let first = (inv.told_done replies tell c.loop-i.i c.index-links-i.result c.set_up_one.new.state within).1 here in
-          halves_step (TellsFirst g.L.Link.told c.args.task.now replies) (TellsNext g.L.Link.told c.args.task.now (λ k. heard 3 (replies k)))
+          halves_step (TellsFirst g.L.Link.told c.args.task.now replies)
+          (TellsNext g.L.Link.told c.args.task.now (λ k. received 3 (replies k)))
           c.loop-i.i c.loop-i.states c.loop-i.links
           c.set_up_one.new.state c.set_up_one.new.link inv.same_len within (inv.told_done replies tell)
           (c.in_ok-set_up_one.ensures.told (replies c.loop-i.i) first.0 first.1);

@@ -1,7 +1,7 @@
 use Rattle.std.proofs.Common.{◌≡◌, ℕ, List, length, All}
 use Rattle.pg_map.specs.Maps.{MapValue}
 use Rattle.pg_rounds.specs.Mirrors.LinkStates.{IsInStep}
-use Rattle.pg_rounds.specs.Told.{Reply, TellReplies, heard}
+use Rattle.pg_rounds.specs.Replies.{Reply, TellReplies, received}
 use Rattle.pg_rounds.proofs.LinkStates.{Halves}
 use Rattle.pg_rounds.proofs.Replying.{TellsFirst, TellsNext}
 use Rattle.pg_rounds.proofs.round.set_up_all.Given as goal
@@ -16,7 +16,8 @@ invariant-loop-i g l =
       honest_still : All honest l.fn.links → All honest l.links;
       unset : Halves (λ k state link. state.restarts ≡ 0) (λ k state link. Unit {0}) l.i l.states l.links;
       told_done : (replies : ℕ → List Reply) → TellReplies g.L.Link.told l.task.bounds l.task.cut l.fn.links replies
-          → Halves (TellsFirst g.L.Link.told l.task replies) (TellsNext g.L.Link.told l.task (λ k. heard 3 (replies k))) l.i l.states l.links;
+          → Halves (TellsFirst g.L.Link.told l.task replies) (TellsNext g.L.Link.told l.task (λ k. received 3 (replies k))) l.i l.states
+          l.links;
       in_step : All honest l.fn.links
           → Halves (λ k state link. Unit {0}) (λ k state link. (map : MapValue) → IsInStep under l.task map state link) l.i l.states l.links;
     }

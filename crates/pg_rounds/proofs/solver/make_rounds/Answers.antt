@@ -1,7 +1,7 @@
 use Rattle.std.proofs.Common.{◌≡◌, ◌+◌, ◌<◌, ◌≤◌, ◌^◌, ℕ, Bool, true, false, cond, length, drop, rules, refl, ap, sym, subst, ◌∙◌, arith}
 use Rattle.pg_map.specs.Maps.{MapValue}
 use Rattle.pg_map.specs.Weights.{map_weight}
-use Rattle.pg_rounds.specs.Told.{heard}
+use Rattle.pg_rounds.specs.Replies.{received}
 use Rattle.pg_rounds.proofs.Ends.{found_none, found_more}
 use Rattle.pg_rounds.proofs.Taken.{none_taken, round_taken, least_over}
 use Rattle.pg_rounds.proofs.solver.make_rounds.Goals as goal
@@ -77,7 +77,8 @@ returns-clause-ends g c =
         rounds = quiet.0;
         told = λ replies tell first.
             least_over g.L.Link.told c.args.task.now replies c.rounds.rounds c.rounds.states c.rounds.links (length c.args.links.now) c.args.coordinator.now.map
-            c.rounds.coordinator.map (inv.taken (λ k. heard 3 (replies k)) tell) inv.same_count c.requires.bounds c.requires.map.size inv.found.bounds inv.found.map.size quiet.1 first;
+            c.rounds.coordinator.map (inv.taken (λ k. received 3 (replies k)) tell) inv.same_count c.requires.bounds c.requires.map.size
+            inv.found.bounds inv.found.map.size quiet.1 first;
       };
       limited = tt;
     }

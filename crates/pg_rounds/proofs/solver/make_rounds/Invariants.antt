@@ -3,7 +3,7 @@ use Rattle.pg_map.specs.Lines.{game_line}
 use Rattle.pg_map.specs.Maps.{IsClosed}
 use Rattle.pg_map.specs.Weights.{map_weight}
 use Rattle.pg_rounds.specs.Mirrors.Rounds.{IsFoundFrom, AreRounds}
-use Rattle.pg_rounds.specs.Told.{Reply}
+use Rattle.pg_rounds.specs.Replies.{Reply}
 use Rattle.pg_rounds.specs.Mirrors.LinkStates.{AllInStep}
 use Rattle.pg_rounds.specs.Mirrors.Telling.{AllTell}
 use Rattle.pg_rounds.proofs.Taken.{HasTaken}

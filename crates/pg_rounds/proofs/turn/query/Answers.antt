@@ -1,6 +1,6 @@
 use Rattle.std.proofs.Common.{◌≡◌, Some}
-use Rattle.pg_rounds.proofs.turn.ask.Goals as goal
-use Rattle.pg_rounds.proofs.turn.ask.Goals.{then-state+in_ok-vertices+in_ok-send_values, else-state+in_ok-send_values-2}
+use Rattle.pg_rounds.proofs.turn.query.Goals as goal
+use Rattle.pg_rounds.proofs.turn.query.Goals.{then-state+in_ok-vertices+in_ok-send_values, else-state+in_ok-send_values-2}
 
 pub returns-clause-told : goal.returns-clause-told
 returns-clause-told g c = λ left is.

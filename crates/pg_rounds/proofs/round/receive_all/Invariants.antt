@@ -3,11 +3,11 @@ use Rattle.pg_map.specs.Maps.{MapValue, MapAtMost}
 use Rattle.pg_rounds.specs.Mirrors.Tasks.{IsClosedMap}
 use Rattle.pg_rounds.specs.Mirrors.CoordinatorMaps.{Moves}
 use Rattle.pg_rounds.specs.Mirrors.LinkStates.{AllInStep}
-use Rattle.pg_rounds.specs.Told.{Reply, measures_of}
-use Rattle.pg_rounds.specs.Mirrors.Telling.{AllTell, AllAsked, JoinsEach}
+use Rattle.pg_rounds.specs.Replies.{Reply, measures_of}
+use Rattle.pg_rounds.specs.Mirrors.Telling.{AllTell, AllQueried, JoinsEach}
 use Rattle.pg_rounds.proofs.LinkStates.{Halves}
-use Rattle.pg_rounds.proofs.Replying.{IsAskedNext, IsHeardNext}
-use Rattle.pg_rounds.proofs.round.hear_all.Given as goal
+use Rattle.pg_rounds.proofs.Replying.{IsQueriedNext, IsReceivedNext}
+use Rattle.pg_rounds.proofs.round.receive_all.Given as goal
 
 abbrev pub invariant-loop-i : goal.invariant-loop-i
 invariant-loop-i g l =
@@ -20,8 +20,9 @@ invariant-loop-i g l =
       bounds : l.coordinator.map.bounds ≡ l.task.bounds;
       size : length l.coordinator.map.measures ≡ length l.task.game;
       moves : Moves l.fn.coordinator l.coordinator;
-      told_done : (replies : ℕ → List Reply) → AllTell g.L.Link.told l.task l.fn.states l.fn.links replies → AllAsked l.fn.states l.fn.links
-          → Halves (IsAskedNext g.L.Link.told l.task replies) (IsHeardNext g.L.Link.told l.task replies) l.i l.states l.links
+      told_done : (replies : ℕ → List Reply) → AllTell g.L.Link.told l.task l.fn.states l.fn.links replies
+          → AllQueried l.fn.states l.fn.links
+          → Halves (IsQueriedNext g.L.Link.told l.task replies) (IsReceivedNext g.L.Link.told l.task replies) l.i l.states l.links
           × JoinsEach l.fn.coordinator.map.measures l.i (λ k. measures_of (take 1 (replies k))) l.coordinator.map.measures;
       in_step : All honest l.fn.links → AllInStep under l.task l.fn.coordinator.map l.fn.states l.fn.links
           → AllInStep under l.task l.coordinator.map l.states l.links;

@@ -1,8 +1,8 @@
 use Rattle.std.proofs.Common.{rules, ◌<◌, ◌≤◌, length, length-set, arith}
 use Rattle.std.proofs.lemmas.List.Elements.{All-set}
 use Rattle.pg_rounds.proofs.LinkStates.{AllInStep-set, halves_step}
-use Rattle.pg_rounds.proofs.Replying.{TellsNext, IsAskedNext}
-use Rattle.pg_rounds.proofs.round.ask_all.Goals as goal
+use Rattle.pg_rounds.proofs.Replying.{TellsNext, IsQueriedNext}
+use Rattle.pg_rounds.proofs.round.query_all.Goals as goal
 
 pub loop-i-preserved : goal.loop-i-preserved
 loop-i-preserved g c =
@@ -13,15 +13,19 @@ loop-i-preserved g c =
     record {
       same_len = search (rules, length-set);
       same_count = search (rules, length-set);
-      honest_still = λ h. All-set honest c.loop-i.links c.loop-i.i c.ask_one.new.link
-          (c.ask_one.ensures.honest (inv.honest_still h c.loop-i.i _ within)) (inv.honest_still h);
+      honest_still = λ h. All-set honest c.loop-i.links c.loop-i.i c.query_one.new.link
+          (c.query_one.ensures.honest (inv.honest_still h c.loop-i.i _ within)) (inv.honest_still h);
       told_done = λ replies tell.
           let here : c.loop-i.i ≤ c.loop-i.i = omega arith in
-          halves_step (TellsNext g.L.Link.told c.args.task.now replies) (IsAskedNext g.L.Link.told c.args.task.now replies) c.loop-i.i c.loop-i.states
+          halves_step (TellsNext g.L.Link.told c.args.task.now replies) (IsQueriedNext g.L.Link.told c.args.task.now replies) c.loop-i.i
+          c.loop-i.states
           c.loop-i.links
-          c.ask_one.new.state c.ask_one.new.link inv.same_len within (inv.told_done replies tell)
-          (c.in_ok-ask_one.ensures.told (replies c.loop-i.i) ((inv.told_done replies tell c.loop-i.i _ _ within).1 here));
-      in_step = λ h s. AllInStep-set under c.args.task.now c.args.coordinator.now.map c.loop-i.states c.loop-i.links c.loop-i.i c.ask_one.new.state c.ask_one.new.link inv.same_len within (c.in_ok-ask_one.ensures.in_step (inv.honest_still h c.loop-i.i _ within) (inv.in_step h s c.loop-i.i _ _ within)) (inv.in_step h s);
+          c.query_one.new.state c.query_one.new.link inv.same_len within (inv.told_done replies tell)
+          (c.in_ok-query_one.ensures.told (replies c.loop-i.i) ((inv.told_done replies tell c.loop-i.i _ _ within).1 here));
+      in_step = λ h s. AllInStep-set under c.args.task.now c.args.coordinator.now.map c.loop-i.states c.loop-i.links c.loop-i.i
+          c.query_one.new.state c.query_one.new.link inv.same_len within
+          (c.in_ok-query_one.ensures.in_step (inv.honest_still h c.loop-i.i _ within) (inv.in_step h s c.loop-i.i _ _ within))
+          (inv.in_step h s);
     }
 
 pub loop-i-init : goal.loop-i-init
@@ -40,9 +44,9 @@ returns-clause-told g c = λ replies tell.
     let past = c.loop-i-test.false in
     ((λ k d e lt. ((done k d e lt).0 (omega arith)).0), λ k d e lt. ((done k d e lt).0 (omega arith)).1)
 
-pub returns-in_err-ask_one-clause-honest : goal.returns-in_err-ask_one-clause-honest
-returns-in_err-ask_one-clause-honest g c = λ h.
+pub returns-in_err-query_one-clause-honest : goal.returns-in_err-query_one-clause-honest
+returns-in_err-query_one-clause-honest g c = λ h.
     let inv = c.loop-i.invariant in
     let within : c.loop-i.i < length c.loop-i.links = search rules in
-    All-set g.L.Link.is_honest c.loop-i.links c.loop-i.i c.ask_one.new.link
-    (c.ask_one.ensures.honest (inv.honest_still h c.loop-i.i _ within)) (inv.honest_still h)
+    All-set g.L.Link.is_honest c.loop-i.links c.loop-i.i c.query_one.new.link
+    (c.query_one.ensures.honest (inv.honest_still h c.loop-i.i _ within)) (inv.honest_still h)

@@ -1,4 +1,4 @@
--- A reply that is heard frame by frame.
+-- A reply that is received frame by frame.
 use Rattle.std.proofs.Common.{◌≡◌, ◌≢◌, ◌⊎◌, ℕ, ◌+◌, ◌<◌, Bool, true, false, List, [], ◌∷◌, ◌++◌}
 use Rattle.std.proofs.Common.{length, Option, Some, Result, Ok, Err, refl, sym, ◌∙◌, ap, subst, arith, append_assoc, inl, inr}
 use Rattle.std.specs.Prelude.{All, OnOk}
@@ -17,12 +17,12 @@ use Rattle.pg_wire.specs.Measured.{Measured, told_values}
 use Rattle.pg_parts.specs.Cuts.{CutValue}
 use Rattle.pg_parts.specs.Frames.{Joins}
 use Rattle.pg_parts.proofs.Joining.{joins_none}
-use Rattle.pg_rounds.specs.Replies.{AreOfPart}
+use Rattle.pg_rounds.specs.PartMeasures.{AreOfPart}
 use Rattle.pg_rounds.specs.declared.coordinator_map.CoordinatorMap.{CoordinatorMap}
 use Rattle.pg_parts.specs.declared.link.LinkFault.{LinkFault}
 use Rattle.pg_parts.specs.declared.link.LinkFault.TheVariants.{OutOfMemory, Failed}
-use Rattle.pg_rounds.specs.Told.{Ending, reported, spoiled, missing, Reply, FailsLink, EndsSo, IsReply, spelled_ending, spelled_reply}
-use Rattle.pg_rounds.specs.Mirrors.Telling.{AnswersAfter, FailsAfter, told_reply, reply_measures, answer_to, HearsReply}
+use Rattle.pg_rounds.specs.Replies.{Ending, reported, spoiled, missing, Reply, FailsLink, EndsSo, IsReply, spelled_ending, spelled_reply}
+use Rattle.pg_rounds.specs.Mirrors.Telling.{AnswersAfter, FailsAfter, told_reply, reply_measures, answer_to, ReceivesReply}
 use Rattle.pg_rounds.proofs.Joins.{joins_then}
 
 abbrev pub values_measures : List Values → List Measured
@@ -31,7 +31,8 @@ values_measures vs = flat_map (λ v. told_values v.values) vs
 values_more : (front : List Values) (v : Values) → values_measures (front ++ v ∷ []) ≡ values_measures front ++ told_values v.values
 values_more front v =
     let f : Values → List Measured = λ w. told_values w.values in
-    flat_map-append f front (v ∷ []) ∙ ap (λ (ms : List Measured). values_measures front ++ ms) (flat_map-cons f v [] ∙ append-nil (told_values v.values))
+    flat_map-append f front (v ∷ [])
+    ∙ ap (λ (ms : List Measured). values_measures front ++ ms) (flat_map-cons f v [] ∙ append-nil (told_values v.values))
 
 -- ---- the frames of a reply
 
@@ -39,8 +40,8 @@ middle_of : (P : Values → Type 0) (front : List Values) (v : Values) (rest : L
 middle_of P [] v rest h = All-head P v rest h
 middle_of P (w ∷ front) v rest h = middle_of P front v rest (All-tail P w (front ++ v ∷ rest) h)
 
--- so many frames of values of the reply were heard
-pub record HasHeard (r : Reply) (left : List (List ℕ)) (n : ℕ) (told : Option (List (List ℕ))) (f g : List MeasureValue) : Type 0 where
+-- so many frames of values of the reply were received
+pub record HasReceived (r : Reply) (left : List (List ℕ)) (n : ℕ) (told : Option (List (List ℕ))) (f g : List MeasureValue) : Type 0 where
   pub front : List Values
   pub rest : List Values
   pub parts : r.values ≡ front ++ rest
@@ -48,20 +49,22 @@ pub record HasHeard (r : Reply) (left : List (List ℕ)) (n : ℕ) (told : Optio
   pub told_is : told ≡ Some (told_reply rest r.ending left)
   pub joins : Joins f (values_measures front) g
 
-pub heard_none : (r : Reply) (left : List (List ℕ)) (told : Option (List (List ℕ))) (f : List MeasureValue) → told ≡ Some (spelled_reply r ++ left)
-    → HasHeard r left 0 told f f
-heard_none r left told f is = record { front = []; rest = r.values; parts = refl; count = refl; told_is = is; joins = joins_none f }
+pub received_none : (r : Reply) (left : List (List ℕ)) (told : Option (List (List ℕ))) (f : List MeasureValue)
+    → told ≡ Some (spelled_reply r ++ left)
+    → HasReceived r left 0 told f f
+received_none r left told f is = record { front = []; rest = r.values; parts = refl; count = refl; told_is = is; joins = joins_none f }
 
 -- the next frame is one of values
-record IsValuesNext (bounds : BoundList) (cut : CutValue) (worker : ℕ) (r : Reply) (left : List (List ℕ)) (n : ℕ) (told : Option (List (List ℕ)))
+record IsValuesNext (bounds : BoundList) (cut : CutValue) (worker : ℕ) (r : Reply) (left : List (List ℕ)) (n : ℕ)
+    (told : Option (List (List ℕ)))
     (f g : List MeasureValue) : Type 0 where
   values : Values
   rest : List (List ℕ)
   told_is : told ≡ Some (spelling (frames.Values values) ∷ rest)
   spells : Spells (frames.Values values) (spelling (frames.Values values))
   part : AreOfPart Dense bounds cut worker Dense values.width (told_values values.values)
-  heard : (told' : Option (List (List ℕ))) (g' : List MeasureValue) → told' ≡ Some rest → Joins g (told_values values.values) g'
-      → HasHeard r left (n + 1) told' f g'
+  received : (told' : Option (List (List ℕ))) (g' : List MeasureValue) → told' ≡ Some rest → Joins g (told_values values.values) g'
+      → HasReceived r left (n + 1) told' f g'
 
 -- the next frame is the report
 record IsReportNext (r : Reply) (left : List (List ℕ)) (told : Option (List (List ℕ))) : Type 0 where
@@ -72,7 +75,8 @@ record IsReportNext (r : Reply) (left : List (List ℕ)) (told : Option (List (L
   well : report.status ≢ 2
 
 -- the next frame fails the link
-record IsSpoiledNext (bounds : BoundList) (cut : CutValue) (worker : ℕ) (r : Reply) (left : List (List ℕ)) (told : Option (List (List ℕ))) : Type 0 where
+record IsSpoiledNext (bounds : BoundList) (cut : CutValue) (worker : ℕ) (r : Reply) (left : List (List ℕ)) (told : Option (List (List ℕ)))
+    : Type 0 where
   bytes : List ℕ
   ending_is : r.ending ≡ spoiled bytes
   told_is : told ≡ Some (bytes ∷ left)
@@ -85,13 +89,15 @@ record IsMissingNext (r : Reply) (left : List (List ℕ)) (n : ℕ) (told : Opti
   cause : (n ≡ 65536) ⊎ (left ≡ [])
 
 -- the values are joined, and the reply ends next
-record IsEndNext (bounds : BoundList) (cut : CutValue) (worker : ℕ) (r : Reply) (left : List (List ℕ)) (n : ℕ) (told : Option (List (List ℕ)))
+record IsEndNext (bounds : BoundList) (cut : CutValue) (worker : ℕ) (r : Reply) (left : List (List ℕ)) (n : ℕ)
+    (told : Option (List (List ℕ)))
     (f g : List MeasureValue) : Type 0 where
   joins : Joins f (reply_measures r) g
   end : IsReportNext r left told ⊎ (IsSpoiledNext bounds cut worker r left told ⊎ IsMissingNext r left n told)
 
 end_next : (bounds : BoundList) (cut : CutValue) (worker : ℕ) (r : Reply) (left : List (List ℕ)) (n : ℕ) (told : Option (List (List ℕ)))
-    (e : Ending) → r.ending ≡ e → length r.values ≡ n → EndsSo bounds cut worker (length r.values) left e → told ≡ Some (spelled_ending e ++ left)
+    (e : Ending) → r.ending ≡ e → length r.values ≡ n → EndsSo bounds cut worker (length r.values) left e
+    → told ≡ Some (spelled_ending e ++ left)
     → IsReportNext r left told ⊎ (IsSpoiledNext bounds cut worker r left told ⊎ IsMissingNext r left n told)
 end_next bounds cut worker r left n told (reported q) is count ends told_is =
     inl (record { report = q; ending_is = is; told_is = told_is; spells = ends.1; well = ends.2 })
@@ -106,7 +112,8 @@ end_next bounds cut worker r left n told missing is count ends told_is =
 
 next_by : (bounds : BoundList) (cut : CutValue) (worker : ℕ) (r : Reply) (left : List (List ℕ)) (n : ℕ) (told : Option (List (List ℕ)))
     (f g : List MeasureValue)
-    (front rest : List Values) → IsReply bounds cut worker r left → r.values ≡ front ++ rest → length front ≡ n → told ≡ Some (told_reply rest r.ending left)
+    (front rest : List Values) → IsReply bounds cut worker r left → r.values ≡ front ++ rest → length front ≡ n
+    → told ≡ Some (told_reply rest r.ending left)
     → Joins f (values_measures front) g → IsValuesNext bounds cut worker r left n told f g ⊎ IsEndNext bounds cut worker r left n told f g
 next_by bounds cut worker r left n told f g front [] is parts count told_is joins =
     let all : r.values ≡ front = parts ∙ append-nil front in
@@ -123,7 +130,7 @@ next_by bounds cut worker r left n told f g front (v ∷ vs) is parts count told
       told_is = told_is;
       spells = middle_of Spelled front v vs (subst (All Spelled) parts is.spelled);
       part = middle_of Part front v vs (subst (All Part) parts is.values);
-      heard = λ told' g' later more. record {
+      received = λ told' g' later more. record {
         front = front ++ v ∷ [];
         rest = vs;
         parts = parts ∙ sym (append_assoc front (v ∷ []) vs);
@@ -142,16 +149,20 @@ pub record ReadsFrame (bounds : BoundList) (cut : CutValue) (worker : ℕ) (told
   pub values : (v : Values) (next : List ℕ) (left : List (List ℕ)) → told ≡ Some (next ∷ left) → Spells (frames.Values v) next
       → AreOfPart Dense bounds cut worker Dense v.width (told_values v.values)
       → AnswersAfter false left told' result × OnOk result (Joins b.map.measures (told_values v.values) b'.map.measures)
-  pub report : (r : Report) (next : List ℕ) (left : List (List ℕ)) → told ≡ Some (next ∷ left) → Spells (frames.Report r) next → r.status ≢ 2
+  pub report : (r : Report) (next : List ℕ) (left : List (List ℕ)) → told ≡ Some (next ∷ left) → Spells (frames.Report r) next
+      → r.status ≢ 2
       → AnswersAfter true left told' result × (b' ≡ b)
-  pub failing : (next : List ℕ) (left : List (List ℕ)) → told ≡ Some (next ∷ left) → FailsLink bounds cut worker next → FailsAfter left told' result × (b' ≡ b)
+  pub failing : (next : List ℕ) (left : List (List ℕ)) → told ≡ Some (next ∷ left) → FailsLink bounds cut worker next
+      → FailsAfter left told' result × (b' ≡ b)
   pub ended : told ≡ Some [] → FailsAfter [] told' result × (b' ≡ b)
 
--- one frame of values more was heard
-pub heard_more : (bounds : BoundList) (cut : CutValue) (worker : ℕ) (r : Reply) (left : List (List ℕ)) (n : ℕ) (told told' : Option (List (List ℕ)))
-    (f : List MeasureValue) (b b' : CoordinatorMap) → n < 65536 → IsReply bounds cut worker r left → HasHeard r left n told f b.map.measures
-    → ReadsFrame bounds cut worker told told' b b' (Ok false) → HasHeard r left (n + 1) told' f b'.map.measures
-heard_more bounds cut worker r left n told told' f b b' few is h reads =
+-- one frame of values more was received
+pub received_more : (bounds : BoundList) (cut : CutValue) (worker : ℕ) (r : Reply) (left : List (List ℕ)) (n : ℕ)
+    (told told' : Option (List (List ℕ)))
+    (f : List MeasureValue) (b b' : CoordinatorMap) → n < 65536 → IsReply bounds cut worker r left
+    → HasReceived r left n told f b.map.measures
+    → ReadsFrame bounds cut worker told told' b b' (Ok false) → HasReceived r left (n + 1) told' f b'.map.measures
+received_more bounds cut worker r left n told told' f b b' few is h reads =
     more (next_by bounds cut worker r left n told f b.map.measures h.front h.rest is h.parts h.count h.told_is h.joins)
   where
     more_at_end : IsReportNext r left told ⊎ (IsSpoiledNext bounds cut worker r left told ⊎ IsMissingNext r left n told) → ⊥
@@ -164,22 +175,30 @@ heard_more bounds cut worker r left n told told' f b b' few is h reads =
         ]
 
     more : IsValuesNext bounds cut worker r left n told f b.map.measures ⊎ IsEndNext bounds cut worker r left n told f b.map.measures
-        → HasHeard r left (n + 1) told' f b'.map.measures
-    more (inl v) = let x = reads.values v.values _ v.rest v.told_is v.spells v.part in v.heard told' b'.map.measures x.0.1.1 x.1
+        → HasReceived r left (n + 1) told' f b'.map.measures
+    more (inl v) = let x = reads.values v.values _ v.rest v.told_is v.spells v.part in v.received told' b'.map.measures x.0.1.1 x.1
     more (inr q) = absurd (more_at_end q.end)
 
--- the end of the reply was heard
-pub heard_end : (bounds : BoundList) (cut : CutValue) (worker : ℕ) (r : Reply) (left : List (List ℕ)) (n : ℕ) (told told' : Option (List (List ℕ)))
-    (f : List MeasureValue) (b b' : CoordinatorMap) → n < 65536 → IsReply bounds cut worker r left → HasHeard r left n told f b.map.measures
-    → ReadsFrame bounds cut worker told told' b b' (Ok true) → HearsReply r left f b'.map.measures told' (Ok tt)
-heard_end bounds cut worker r left n told told' f b b' few is h reads =
+-- the end of the reply was received
+pub received_end : (bounds : BoundList) (cut : CutValue) (worker : ℕ) (r : Reply) (left : List (List ℕ)) (n : ℕ)
+    (told told' : Option (List (List ℕ)))
+    (f : List MeasureValue) (b b' : CoordinatorMap) → n < 65536 → IsReply bounds cut worker r left
+    → HasReceived r left n told f b.map.measures
+    → ReadsFrame bounds cut worker told told' b b' (Ok true) → ReceivesReply r left f b'.map.measures told' (Ok tt)
+received_end bounds cut worker r left n told told' f b b' few is h reads =
     ends (next_by bounds cut worker r left n told f b.map.measures h.front h.rest is h.parts h.count h.told_is h.joins)
   where
-    at_end : Joins f (reply_measures r) b.map.measures → IsReportNext r left told ⊎ (IsSpoiledNext bounds cut worker r left told ⊎ IsMissingNext r left n told)
-        → HearsReply r left f b'.map.measures told' (Ok tt)
+    at_end : Joins f (reply_measures r) b.map.measures → IsReportNext r left told
+        ⊎ (IsSpoiledNext bounds cut worker r left told ⊎ IsMissingNext r left n told)
+        → ReceivesReply r left f b'.map.measures told' (Ok tt)
     at_end joins (inl q) =
         let x = reads.report q.report _ left q.told_is q.spells q.well in
-        λ no. (sym (ap answer_to q.ending_is), x.0.1.1, subst (λ (c : CoordinatorMap). Joins f (reply_measures r) c.map.measures) (sym x.1) joins)
+        λ no. (
+          sym (ap answer_to q.ending_is),
+          x.0.1.1,
+          subst (λ (c : CoordinatorMap). Joins f (reply_measures r) c.map.measures)
+              (sym x.1) joins,
+        )
     at_end joins (inr (inl q)) = absurd (let no = (reads.failing q.bytes left q.told_is q.fails).0.0 in cc)
     at_end joins (inr (inr q)) =
         absurd (elim q.cause [
@@ -188,7 +207,7 @@ heard_end bounds cut worker r left n told told' f b b' few is h reads =
         ])
 
     ends : IsValuesNext bounds cut worker r left n told f b.map.measures ⊎ IsEndNext bounds cut worker r left n told f b.map.measures
-        → HearsReply r left f b'.map.measures told' (Ok tt)
+        → ReceivesReply r left f b'.map.measures told' (Ok tt)
     ends (inl v) = absurd (let no = (reads.values v.values _ v.rest v.told_is v.spells v.part).0.1.0 in cc)
     ends (inr q) = at_end q.joins q.end
 
@@ -197,15 +216,19 @@ failed_is OutOfMemory result is isnt = absurd (isnt is)
 failed_is Failed result is isnt = refl
 
 -- the reply fails at a frame, or the link has none
-pub heard_failure : (bounds : BoundList) (cut : CutValue) (worker : ℕ) (r : Reply) (left : List (List ℕ)) (n : ℕ) (told told' : Option (List (List ℕ)))
-    (f : List MeasureValue) (b b' : CoordinatorMap) (e : LinkFault) → n < 65536 → IsReply bounds cut worker r left → HasHeard r left n told f b.map.measures
-    → ReadsFrame bounds cut worker told told' b b' (Err e) → HearsReply r left f b'.map.measures told' (Err e)
-heard_failure bounds cut worker r left n told told' f b b' e few is h reads = λ no.
-    fails (failed_is e (Err e) refl no) (next_by bounds cut worker r left n told f b.map.measures h.front h.rest is h.parts h.count h.told_is h.joins)
+pub received_failure : (bounds : BoundList) (cut : CutValue) (worker : ℕ) (r : Reply) (left : List (List ℕ)) (n : ℕ)
+    (told told' : Option (List (List ℕ)))
+    (f : List MeasureValue) (b b' : CoordinatorMap) (e : LinkFault) → n < 65536 → IsReply bounds cut worker r left
+    → HasReceived r left n told f b.map.measures
+    → ReadsFrame bounds cut worker told told' b b' (Err e) → ReceivesReply r left f b'.map.measures told' (Err e)
+received_failure bounds cut worker r left n told told' f b b' e few is h reads = λ no.
+    fails (failed_is e (Err e) refl no)
+    (next_by bounds cut worker r left n told f b.map.measures h.front h.rest is h.parts h.count h.told_is h.joins)
   where
-    heard : Joins f (reply_measures r) b.map.measures → Err e ≡ answer_to r.ending → told' ≡ Some left → b' ≡ b
+    received : Joins f (reply_measures r) b.map.measures → Err e ≡ answer_to r.ending → told' ≡ Some left → b' ≡ b
         → (Err e ≡ answer_to r.ending) × (told' ≡ Some left) × Joins f (reply_measures r) b'.map.measures
-    heard joins answer later same = (answer, later, subst (λ (c : CoordinatorMap). Joins f (reply_measures r) c.map.measures) (sym same) joins)
+    received joins answer later same
+        = (answer, later, subst (λ (c : CoordinatorMap). Joins f (reply_measures r) c.map.measures) (sym same) joins)
 
     at_end : e ≡ Failed → Joins f (reply_measures r) b.map.measures
         → IsReportNext r left told ⊎ (IsSpoiledNext bounds cut worker r left told ⊎ IsMissingNext r left n told)
@@ -215,29 +238,35 @@ heard_failure bounds cut worker r left n told told' f b b' e few is h reads = λ
         absurd (not (ap (λ (x : LinkFault). Err x) failed))
     at_end failed joins (inr (inl q)) =
         let x = reads.failing q.bytes left q.told_is q.fails in
-        heard joins (ap (λ (x : LinkFault). Err x) failed ∙ sym (ap answer_to q.ending_is)) (x.0.1 (ap (λ (x : LinkFault). Err x) failed)) x.1
+        received joins (ap (λ (x : LinkFault). Err x) failed ∙ sym (ap answer_to q.ending_is))
+        (x.0.1 (ap (λ (x : LinkFault). Err x) failed)) x.1
     at_end failed joins (inr (inr q)) =
         elim q.cause [
           | inl many ↦ absurd (omega arith)
           | inr none ↦
               let x = reads.ended (q.told_is ∙ ap (λ (l : List (List ℕ)). Some l) none) in
-              heard joins (ap (λ (x : LinkFault). Err x) failed ∙ sym (ap answer_to q.ending_is))
+              received joins (ap (λ (x : LinkFault). Err x) failed ∙ sym (ap answer_to q.ending_is))
               (x.0.1 (ap (λ (x : LinkFault). Err x) failed) ∙ ap (λ (l : List (List ℕ)). Some l) (sym none)) x.1
         ]
 
-    fails : e ≡ Failed → IsValuesNext bounds cut worker r left n told f b.map.measures ⊎ IsEndNext bounds cut worker r left n told f b.map.measures
+    fails : e ≡ Failed → IsValuesNext bounds cut worker r left n told f b.map.measures
+        ⊎ IsEndNext bounds cut worker r left n told f b.map.measures
         → (Err e ≡ answer_to r.ending) × (told' ≡ Some left) × Joins f (reply_measures r) b'.map.measures
     fails failed (inl v) =
         let not = (reads.values v.values _ v.rest v.told_is v.spells v.part).0.0 in
         absurd (not (ap (λ (x : LinkFault). Err x) failed))
     fails failed (inr q) = at_end failed q.joins q.end
 
--- as many frames of values were heard as a reply has at most
-pub heard_full : (bounds : BoundList) (cut : CutValue) (worker : ℕ) (r : Reply) (left : List (List ℕ)) (n : ℕ) (told : Option (List (List ℕ)))
-    (f g : List MeasureValue) → n ≡ 65536 → IsReply bounds cut worker r left → HasHeard r left n told f g → HearsReply r left f g told (Err Failed)
-heard_full bounds cut worker r left n told f g all is h = λ no. full h.front h.rest r.ending refl is.ends h.parts h.count h.told_is h.joins
+-- as many frames of values were received as a reply has at most
+pub received_full : (bounds : BoundList) (cut : CutValue) (worker : ℕ) (r : Reply) (left : List (List ℕ)) (n : ℕ)
+    (told : Option (List (List ℕ)))
+    (f g : List MeasureValue) → n ≡ 65536 → IsReply bounds cut worker r left → HasReceived r left n told f g
+    → ReceivesReply r left f g told (Err Failed)
+received_full bounds cut worker r left n told f g all is h = λ no. full h.front h.rest r.ending refl is.ends h.parts h.count h.told_is
+    h.joins
   where
-    full : (front rest : List Values) (e : Ending) → r.ending ≡ e → EndsSo bounds cut worker (length r.values) left e → r.values ≡ front ++ rest
+    full : (front rest : List Values) (e : Ending) → r.ending ≡ e → EndsSo bounds cut worker (length r.values) left e
+        → r.values ≡ front ++ rest
         → length front ≡ n → told ≡ Some (told_reply rest r.ending left) → Joins f (values_measures front) g
         → (Err Failed ≡ answer_to r.ending) × (told ≡ Some left) × Joins f (reply_measures r) g
     full front rest (reported q) same ends parts count told_is joins =

@@ -1,10 +1,10 @@
 use Rattle.std.proofs.Common.{◌≡◌, ℕ, List, length, All}
-use Rattle.pg_rounds.specs.Told.{Reply}
+use Rattle.pg_rounds.specs.Replies.{Reply}
 use Rattle.pg_rounds.specs.Mirrors.Telling.{AllTell}
 use Rattle.pg_rounds.proofs.LinkStates.{Halves}
-use Rattle.pg_rounds.proofs.Replying.{TellsNext, IsAskedNext}
+use Rattle.pg_rounds.proofs.Replying.{TellsNext, IsQueriedNext}
 use Rattle.pg_rounds.specs.Mirrors.LinkStates.{AllInStep}
-use Rattle.pg_rounds.proofs.round.ask_all.Given as goal
+use Rattle.pg_rounds.proofs.round.query_all.Given as goal
 
 abbrev pub invariant-loop-i : goal.invariant-loop-i
 invariant-loop-i g l =
@@ -15,7 +15,7 @@ invariant-loop-i g l =
       same_count : length l.links ≡ length l.fn.links;
       honest_still : All honest l.fn.links → All honest l.links;
       told_done : (replies : ℕ → List Reply) → AllTell g.L.Link.told l.task l.fn.states l.fn.links replies
-          → Halves (TellsNext g.L.Link.told l.task replies) (IsAskedNext g.L.Link.told l.task replies) l.i l.states l.links;
+          → Halves (TellsNext g.L.Link.told l.task replies) (IsQueriedNext g.L.Link.told l.task replies) l.i l.states l.links;
       in_step : All honest l.fn.links → AllInStep under l.task l.coordinator.map l.fn.states l.fn.links
           → AllInStep under l.task l.coordinator.map l.states l.links;
     }
