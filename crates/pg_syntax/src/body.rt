@@ -15,7 +15,7 @@ use crate::token::{Token, next_token, unexpected};
 use std::alloc::{AllocError, Global};
 
 /// An edge as it is read: its label, where it leads, and the sets that stand behind it.
-#[derive(Clone, Drop, PartialEq, Eq, PartialOrd, Ord)]
+#[derive(Drop)]
 pub struct Edge {
     pub label: Vec<Op>,
     pub target: u32,
