@@ -8,8 +8,8 @@ ghost use Rattle.pg_syntax.specs.Syntax.{character_code};
 ghost use Rattle.pg_syntax.specs.Mirrors.Kept.{KeptHead, head_in};
 ghost use Rattle.pg_syntax.specs.Mirrors.HeaderScan.{numeral_of, numeral_at, alone_at, note, noted_at, is_value, skipped_from, code_at};
 ghost use Rattle.pg_syntax.specs.Mirrors.HeaderScan.{is_name_byte, is_name, quoted_of, quoted_at, names_from, states_at, start_at};
-ghost use Rattle.pg_syntax.specs.Mirrors.HeaderScan.{names_at, acceptance_at, controls_at, begins_low, other_at, header_at, is_header};
-ghost use Rattle.pg_syntax.specs.Mirrors.HeaderScan.{is_word, opening_at, version_at, headers_from, headers_at};
+ghost use Rattle.pg_syntax.specs.Mirrors.HeaderScan.{names_at, acceptance_at, controls_at, begins_low, other_at, header_at};
+ghost use Rattle.pg_syntax.specs.Mirrors.HeaderScan.{opening_at, version_at, headers_from, headers_at};
 
 use crate::fault::{LeftOutName, PartFault, Refusal};
 use crate::formula::{Kind, Op, read_formula};
@@ -52,26 +52,6 @@ fn is_value(found: Option<Token<'_>>) -> bool
         Some(Token::Number(_)) => true,
         Some(Token::Identifier(_)) => true,
         Some(Token::String(_)) => true,
-        _ => false,
-    }
-}
-
-/// Whether this header's name was found.
-fn is_header(word: &[u8], found: Option<Token<'_>>) -> bool
-    ensures { result ≡ is_header word.now (option_map lexeme found.entry) }
-{
-    match found {
-        Some(Token::Header(name)) => name == word,
-        _ => false,
-    }
-}
-
-/// Whether this identifier was found.
-fn is_word(word: &[u8], found: Option<Token<'_>>) -> bool
-    ensures { result ≡ is_word word.now (option_map lexeme found.entry) }
-{
-    match found {
-        Some(Token::Identifier(name)) => name == word,
         _ => false,
     }
 }
@@ -398,10 +378,9 @@ fn opening(bytes: &[u8]) -> Result<&[u8], Refusal>
     ensures { Gives (λ x. lex x.now) result (opening_at (lex bytes.now)) }
 {
     let (found, left, rest) = next_token(bytes)?;
-    if is_header(b"HOA".as_slice(), found) {
-        Ok(rest)
-    } else {
-        Err(Refusal::Wrong(misplaced(found, left)))
+    match found {
+        Some(Token::Header(name)) if name == b"HOA".as_slice() => Ok(rest),
+        _ => Err(Refusal::Wrong(misplaced(found, left))),
     }
 }
 
@@ -411,10 +390,9 @@ fn version(bytes: &[u8]) -> Result<&[u8], Refusal>
     ensures { Gives (λ x. lex x.now) result (version_at (lex bytes.now)) }
 {
     let (found, left, rest) = next_token(bytes)?;
-    if is_word(b"v1".as_slice(), found) {
-        Ok(rest)
-    } else {
-        Err(Refusal::Wrong(misplaced(found, left)))
+    match found {
+        Some(Token::Identifier(word)) if word == b"v1".as_slice() => Ok(rest),
+        _ => Err(Refusal::Wrong(misplaced(found, left))),
     }
 }
 
