@@ -1,10 +1,8 @@
 -- The steps of the lines that are kept are those of the lines as they are written.
-use Rattle.std.proofs.Common.{◌≡◌, ℕ, Bool, true, false, cond, ltb, ◌==◌, List, [], ◌∷◌, ◌++◌, map, refl, sym, ap, ◌∙◌, append_assoc}
-use Rattle.std.specs.Prelude.{◌&&◌, ◌||◌}
+use Rattle.std.proofs.Common.{◌≡◌, ℕ, Bool, true, false, cond, ◌==◌, List, [], ◌∷◌, ◌++◌, map, refl, sym, ap, ◌∙◌}
+use Rattle.std.specs.Prelude.{◌||◌}
 use Rattle.std.specs.List.{filter}
 use Rattle.std.specs.Int.{bit_at}
-use Rattle.std.proofs.lemmas.List.{append-nil}
-use Rattle.std.proofs.lemmas.List.Elements.{filter-append}
 use Rattle.std.proofs.lemmas.List.Folds.{list_any-append}
 use Rattle.pg_lists.specs.Rising.{rising}
 use Rattle.pg_lists.proofs.Rising.{has, has_rising}
@@ -13,8 +11,7 @@ use Rattle.pg_automaton.specs.Formulas.{holds}
 use Rattle.pg_syntax.specs.declared.formula.Op.{Op}
 use Rattle.pg_syntax.specs.declared.formula.Op.TheVariants.{No}
 use Rattle.pg_syntax.specs.Syntax.{Edge, StateLine, set_list}
-use Rattle.pg_syntax.specs.Mirrors.Kept.{KeptEdge, KeptLine, is_never, one_or_two, put_edge, put_edges, kept_of_edge, kept_of_line}
-use Rattle.pg_syntax.proofs.Lists.{both_true}
+use Rattle.pg_syntax.specs.Mirrors.Kept.{KeptEdge, KeptLine, may_hold, kept_edges, kept_of_edge, kept_of_line}
 use Rattle.pg_syntax.proofs.SetLists.{rising_alike}
 use Rattle.pg_hoa.specs.AutomatonText.{edge_steps, steps_of}
 use Rattle.pg_hoa.specs.Mirrors.Saying.{says}
@@ -23,44 +20,19 @@ use Rattle.pg_hoa.proofs.Saying.{postfix_says}
 
 -- ---- the edges of a letter
 
-never_says : (ops : List Op) (on : ℕ → Bool) → is_never ops ≡ true → says ops on ≡ false
+never_says : (ops : List Op) (on : ℕ → Bool) → may_hold ops ≡ false → says ops on ≡ false
 never_says (No ∷ []) on e = refl
 never_says _ on e = absurd cc
 
-alone : (letter : ℕ) (x : KeptEdge) → says_at letter x ≡ false → filter (says_at letter) (x ∷ []) ≡ []
-alone letter x h = rw h refl
-
-two_filtered : (letter : ℕ) (x e : KeptEdge) → filter (says_at letter) (one_or_two x e) ≡ filter (says_at letter) (x ∷ e ∷ [])
-two_filtered letter x e =
-    elim (is_never x.label && is_never e.label) as (λ b. (is_never x.label && is_never e.label) ≡ b → filter (says_at letter)
-    (cond b (cond (ltb x.target e.target) (e ∷ []) (x ∷ [])) (x ∷ e ∷ [])) ≡ filter (says_at letter) (x ∷ e ∷ [])) [
-      | true ↦ λ h.
-          let never = both_true (is_never x.label) (is_never e.label) h in
-          let first : says_at letter x ≡ false = never_says x.label _ never.0 in
-          let second : says_at letter e ≡ false = never_says e.label _ never.1 in
-          let both : filter (says_at letter) (x ∷ e ∷ []) ≡ [] = rw (first, second) refl in
-          let one : (b : Bool) → filter (says_at letter) (cond b (e ∷ []) (x ∷ [])) ≡ [] =
-          λ b. elim b as (λ b. filter (says_at letter) (cond b (e ∷ []) (x ∷ [])) ≡ [])
-          [ true ↦ alone letter e second | false ↦ alone letter x first ] in
-          one (ltb x.target e.target) ∙ sym both
-      | false ↦ λ h. refl
-    ] refl
-
-put_filtered : (letter : ℕ) (kept : List KeptEdge) (e : KeptEdge)
-    → filter (says_at letter) (put_edge kept e) ≡ filter (says_at letter) (kept ++ (e ∷ []))
-put_filtered letter [] e = refl
-put_filtered letter (x ∷ []) e = two_filtered letter x e
-put_filtered letter (x ∷ y ∷ kept) e = ap (λ (es : List KeptEdge). cond (says_at letter x) (x ∷ es) es) (put_filtered letter (y ∷ kept) e)
-
-pub puts_filtered : (letter : ℕ) (kept edges : List KeptEdge)
-    → filter (says_at letter) (put_edges kept edges) ≡ filter (says_at letter) (kept ++ edges)
-puts_filtered letter kept [] = ap (filter (says_at letter)) (sym (append-nil kept))
-puts_filtered letter kept (e ∷ edges) =
-    puts_filtered letter (put_edge kept e) edges
-    ∙ filter-append (says_at letter) (put_edge kept e) edges
-    ∙ ap (λ (es : List KeptEdge). es ++ filter (says_at letter) edges) (put_filtered letter kept e)
-    ∙ sym (filter-append (says_at letter) (kept ++ (e ∷ [])) edges)
-    ∙ ap (filter (says_at letter)) (append_assoc kept (e ∷ []) edges)
+-- an edge that isn't kept is of no letter
+kept_filtered : (letter : ℕ) (edges : List KeptEdge) → filter (says_at letter) (kept_edges edges) ≡ filter (says_at letter) edges
+kept_filtered letter [] = refl
+kept_filtered letter (e ∷ edges) = go (may_hold e.label) refl (kept_filtered letter edges)
+  where
+    go : (b : Bool) → may_hold e.label ≡ b → filter (says_at letter) (kept_edges edges) ≡ filter (says_at letter) edges
+        → filter (says_at letter) (cond b (e ∷ kept_edges edges) (kept_edges edges)) ≡ filter (says_at letter) (e ∷ edges)
+    go true h others = ap (λ (es : List KeptEdge). cond (says_at letter e) (e ∷ es) es) others
+    go false h others = let never : says_at letter e ≡ false = never_says e.label _ h in rw never others
 
 -- ---- steps
 
@@ -98,7 +70,7 @@ edges_are letter own (e ∷ edges) =
 line_is : (state letter : ℕ) (l : StateLine) → kept_edge_steps state letter (kept_of_line l) ≡ edge_steps state letter l
 line_is state letter l =
     let own = set_list l.sets in
-    let same = ap (map (edge_step (rising own))) (puts_filtered letter [] (map kept_of_edge l.edges)) ∙ edges_are letter own l.edges in
+    let same = ap (map (edge_step (rising own))) (kept_filtered letter (map kept_of_edge l.edges)) ∙ edges_are letter own l.edges in
     ap (λ (steps : List Step). cond (l.state == state) steps []) same
 
 pub kept_steps_are : (lines : List StateLine) (state letter : ℕ)

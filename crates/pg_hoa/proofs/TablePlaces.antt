@@ -316,8 +316,9 @@ stopped_letters shape first n m label s t u h late a = adds_wider shape (λ i. w
 
 -- ---- edges
 
+-- a line of these edges; the greatest state counts for no step
 abbrev pub line_of : ℕ → List ℕ → List KeptEdge → KeptLine
-line_of state own edges = record { state = state; sets = own; edges = edges }
+line_of state own edges = record { state = state; greatest = state; sets = own; edges = edges }
 
 at_row : (letters state i : ℕ) → 0 < letters → i / letters ≡ state
     → Within (state * letters) letters i × (i - state * letters ≡ i % letters)

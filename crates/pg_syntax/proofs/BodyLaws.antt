@@ -20,7 +20,7 @@ use Rattle.pg_syntax.specs.Mirrors.Scan.{first, IsToken}
 use Rattle.pg_automaton.specs.Mirrors.Steps.{◌>>=◌}
 use Rattle.pg_syntax.specs.Syntax.{Edge, StateLine, sets_lexemes, name_lexemes, edge_lexemes, state_lexemes, set_list, EachBelow}
 use Rattle.pg_syntax.specs.Syntax.{IsDistinct, EdgeFits, LineFits}
-use Rattle.pg_syntax.specs.Mirrors.Kept.{KeptEdge, KeptLine, put_edges, kept_of_edge, kept_of_line}
+use Rattle.pg_syntax.specs.Mirrors.Kept.{KeptEdge, KeptLine, kept_edges, greatest_of, kept_of_edge, kept_of_line}
 use Rattle.pg_syntax.specs.Mirrors.BodyScan.{due, state_of, new_state, set_in, behind_set, sets_at, rising_sets_at, sets_before, sets_if}
 use Rattle.pg_syntax.specs.Mirrors.BodyScan.{bracket_first, behind_label, single, target_at, edge_at, begins_edge, edges_within, edges_at}
 use Rattle.pg_syntax.specs.Mirrors.BodyScan.{kept_edges_at, name_first, behind_name, line_at, begins_line, is_seen, lines_within, body_at}
@@ -404,43 +404,47 @@ line_takes : (states propositions sets : ℕ) (seen : ℕ → Bool) (tokens : Li
     → line_at states propositions sets seen tokens ≡ Some x → ReadLine states propositions sets seen tokens x
 unfolding line_at kept_edges_at edges_at
 line_takes states propositions sets seen tokens x e =
-    let with_edges = λ (n : ℕ) (y : List ℕ × List Lexeme). kept_edges_at states propositions sets y.1 >>= λ z. some (kept n y.0 z.0, z.1) in
+    let with_edges = λ (n : ℕ) (y : List ℕ × List Lexeme). kept_edges_at n states propositions sets y.1 >>= λ z.
+    some (line n y.0 z.0 z.1, z.2) in
     let with_sets = λ (n : ℕ) (rest : List Lexeme). sets_if sets rest >>= with_edges n in
     let with_name = λ (after : List Lexeme) (n : ℕ). behind_name after >>= with_sets n in
     let a = bind_some (due tokens) (λ t. new_state states seen t.0 >>= with_name t.1) x e in
     let b = bind_some (new_state states seen a.0.0) (with_name a.0.1) x a.2 in
     let c = bind_some (behind_name a.0.1) (with_sets b.0) x b.2 in
     let d = bind_some (sets_if sets c.0) (with_edges b.0) x c.2 in
-    let f = bind_some (kept_edges_at states propositions sets d.0.1) (λ z. some (kept b.0 d.0.0 z.0, z.1)) x d.2 in
-    let g =
-    bind_some (edges_at states propositions sets d.0.1) (λ (y : List KeptEdge × List Lexeme). some (put_edges [] y.0, y.1)) f.0 f.1 in
+    let f = bind_some (kept_edges_at b.0 states propositions sets d.0.1) (λ z. some (line b.0 d.0.0 z.0 z.1, z.2)) x d.2 in
+    let g = bind_some (edges_at states propositions sets d.0.1) (λ y. some (kept b.0 y)) f.0 f.1 in
     read a.0 b.0 c.0 d.0 g.0 (due_is tokens a.0 a.1) (new_state_takes states seen a.0.0 b.0 b.1) (name_takes a.0.1 c.0 c.1)
     (sets_if_takes sets c.0 d.0 d.1)
     (edges_take (suc (length d.0.1)) states propositions sets d.0.1 g.0 g.1)
-    f.0 (some_is (put_edges [] g.0.0, g.0.1) f.0 g.2) (some_is (kept b.0 d.0.0 f.0.0, f.0.1) x f.2)
+    f.0 (some_is (kept b.0 g.0) f.0 g.2) (some_is (line b.0 d.0.0 f.0.0 f.0.1, f.0.2) x f.2)
   where
-    kept : ℕ → List ℕ → List KeptEdge → KeptLine
-    kept state sets edges = record { state = state; sets = sets; edges = edges }
+    line : ℕ → List ℕ → List KeptEdge → ℕ → KeptLine
+    line state sets edges greatest = record { state = state; greatest = greatest; sets = sets; edges = edges }
+
+    kept : ℕ → List KeptEdge × List Lexeme → List KeptEdge × ℕ × List Lexeme
+    kept state y = (kept_edges y.0, greatest_of state y.0, y.1)
 
     read : (a : Lexeme × List Lexeme) (n : ℕ) (c : List Lexeme) (d : List ℕ × List Lexeme) (f : List KeptEdge × List Lexeme)
         → tokens ≡ a.0 ∷ a.1 → (a.0 ≡ number n) × (n < states) × (seen n ≡ false)
         → ((name : Option (List Character)) × (a.1 ≡ name_lexemes name ++ c)) → ReadSetsIf sets c d
-        → ReadEdges states propositions sets d.1 f → (g : List KeptEdge × List Lexeme) → (put_edges [] f.0, f.1) ≡ g
-        → (kept n d.0 g.0, g.1) ≡ x → ReadLine states propositions sets seen tokens x
+        → ReadEdges states propositions sets d.1 f → (g : List KeptEdge × ℕ × List Lexeme) → kept n f ≡ g
+        → (line n d.0 g.0 g.1, g.2) ≡ x → ReadLine states propositions sets seen tokens x
     read a n c d f is one name own edges g all same =
-        let line : StateLine = record { state = n; name = name.0; sets = own.written; edges = edges.edges } in
-        subst (ReadLine states propositions sets seen tokens) (ap (λ (z : List KeptEdge × List Lexeme). (kept n d.0 z.0, z.1)) all ∙ same)
+        let of_edges = λ (ns : List ℕ) (es : List KeptEdge). line n ns (kept_edges es) (greatest_of n es) in
+        let written : StateLine = record { state = n; name = name.0; sets = own.written; edges = edges.edges } in
+        subst (ReadLine states propositions sets seen tokens)
+        (ap (λ (z : List KeptEdge × ℕ × List Lexeme). (line n d.0 z.0 z.1, z.2)) all ∙ same)
         (record {
-          line = line;
+          line = written;
           fits = record { state = one.1; own_sets = own.below; edges = edges.fit };
           new = one.2;
           is =
               is ∙ ap (λ (t : Lexeme). t ∷ a.1) one.0
               ∙ ap (λ (ts : List Lexeme). number n ∷ ts) (name.1 ∙ ap (λ (ts : List Lexeme). name_lexemes name.0 ++ ts)
               (own.is ∙ ap (λ (ts : List Lexeme). sets_lexemes own.written ++ ts) edges.is))
-              ∙ sym (inner_line_is line f.1);
-          kept = ap (λ (ns : List ℕ). kept n ns (put_edges [] (map kept_of_edge edges.edges))) own.kept
-              ∙ ap (λ (es : List KeptEdge). kept n d.0 (put_edges [] es)) edges.kept;
+              ∙ sym (inner_line_is written f.1);
+          kept = ap (λ (ns : List ℕ). of_edges ns (map kept_of_edge edges.edges)) own.kept ∙ ap (of_edges d.0) edges.kept;
         })
 
 pub line_shorter : (states propositions sets : ℕ) (seen : ℕ → Bool) (tokens : List Lexeme) (x : KeptLine × List Lexeme)

@@ -1,18 +1,20 @@
 -- Token by token through a body.
-use Rattle.std.proofs.Common.{◌≡◌, ℕ, suc, zero, ◌≤◌, ◌<◌, Bool, true, false, List, [], ◌∷◌, ◌++◌, length, get_or, Option, Some, None, refl}
+use Rattle.std.proofs.Common.{◌≡◌, ℕ, suc, zero, ◌≤◌, ◌<◌, max, Bool, true, false, List, [], ◌∷◌, ◌++◌, length, get_or, Option, Some, None, refl}
 use Rattle.std.proofs.Common.{sym, ap, subst, ◌∙◌, arith, append_assoc, inl, inr}
 use Rattle.std.specs.Prelude.{◌||◌}
 use Rattle.std.proofs.Math.ListN.{set, replicate}
 use Rattle.std.proofs.lemmas.Bool.{ltb-true}
 use Rattle.std.proofs.lemmas.Bool.Decides.{eqb_tells, nat_tests}
-use Rattle.std.proofs.lemmas.List.{append-nil, length-set, length-replicate, get_or-replicate, get_or-set_same, get_or-set_other}
+use Rattle.std.proofs.lemmas.List.Elements.{filter-append}
+use Rattle.std.proofs.lemmas.List.Sums.{fold-append}
+use Rattle.std.proofs.lemmas.List.{map-append, append-nil, length-set, length-replicate, get_or-replicate, get_or-set_same, get_or-set_other}
 use Rattle.pg_syntax.specs.declared.fault.Refusal.{Refusal}
 use Rattle.pg_syntax.specs.declared.fault.Refusal.TheVariants.{Memory, Wrong}
 use Rattle.pg_syntax.specs.Lexemes.{Lexeme, number, stray}
 use Rattle.pg_syntax.specs.Mirrors.Scan.{first}
 use Rattle.pg_automaton.specs.Mirrors.Steps.{◌>>=◌}
 use Rattle.pg_syntax.specs.Mirrors.Steps.{Fails}
-use Rattle.pg_syntax.specs.Mirrors.Kept.{KeptEdge, KeptLine, put_edge, put_edges}
+use Rattle.pg_syntax.specs.Mirrors.Kept.{KeptEdge, KeptLine, may_hold, kept_edges, greatest_of}
 use Rattle.pg_syntax.specs.Mirrors.BodyScan.{due, state_of, new_state, set_in, sets_at, rising_sets_at, sets_if, edge_at, begins_edge}
 use Rattle.pg_syntax.specs.Mirrors.BodyScan.{edges_within, edges_at, kept_edges_at, behind_name, line_at, begins_line, is_seen}
 use Rattle.pg_syntax.specs.Mirrors.BodyScan.{lines_within}
@@ -22,7 +24,6 @@ use Rattle.pg_lists.specs.Rising.{put, rising}
 use Rattle.pg_lists.proofs.Rising.{rising_put, rising_rises}
 use Rattle.pg_lists.proofs.Steps.{some}
 use Rattle.pg_syntax.proofs.BodyLaws.{due_is, edge_shorter, line_shorter}
-use Rattle.pg_syntax.proofs.KeptEdges.{put_more}
 
 -- what was read before, and then the rest
 abbrev pub ahead : {A : Type 0} → List A → Option (List A × List Lexeme) → Option (List A × List Lexeme)
@@ -170,38 +171,48 @@ pub edges_smaller : (states propositions sets : ℕ) (tokens rest : List Lexeme)
 edges_smaller states propositions sets tokens rest t x e h =
     omega (arith, due_shorter tokens (t, rest) e, edge_shorter states propositions sets rest x h)
 
--- edges are read of which these are kept, and what is left gives the same
-pub record KeptLeft (states propositions sets : ℕ) (kept : List KeptEdge) (tokens : List Lexeme)
+-- edges are read of which these are kept, which name states up to this one, and what is left gives the same
+pub record KeptLeft (state states propositions sets : ℕ) (kept : List KeptEdge) (greatest : ℕ) (tokens : List Lexeme)
     (all : Option (List KeptEdge × List Lexeme)) : Type 0 where
   pub done : List KeptEdge
-  pub same : kept ≡ put_edges [] done
+  pub same : kept ≡ kept_edges done
+  pub most : greatest ≡ greatest_of state done
   pub left : EdgesLeft states propositions sets done tokens all
 
-pub kept_start : (states propositions sets : ℕ) (tokens : List Lexeme)
-    → KeptLeft states propositions sets [] tokens (edges_at states propositions sets tokens)
-kept_start states propositions sets tokens = record { done = []; same = refl; left = edges_start states propositions sets tokens }
+pub kept_start : (state states propositions sets : ℕ) (tokens : List Lexeme)
+    → KeptLeft state states propositions sets [] state tokens (edges_at states propositions sets tokens)
+kept_start state states propositions sets tokens =
+    record { done = []; same = refl; most = refl; left = edges_start states propositions sets tokens }
 
-pub kept_more : (states propositions sets : ℕ) (kept more : List KeptEdge) (tokens rest : List Lexeme) (t : Lexeme)
+pub kept_more : (state states propositions sets : ℕ) (kept more : List KeptEdge) (greatest : ℕ) (tokens rest : List Lexeme) (t : Lexeme)
     (x : KeptEdge × List Lexeme) (all : Option (List KeptEdge × List Lexeme))
-    → KeptLeft states propositions sets kept tokens all → due tokens ≡ Some (t, rest) → begins_edge t ≡ Some true
-    → edge_at states propositions sets rest ≡ Some x → more ≡ put_edge kept x.0 → KeptLeft states propositions sets more x.1 all
-kept_more states propositions sets kept more tokens rest t x all k e first h is = record {
+    → KeptLeft state states propositions sets kept greatest tokens all → due tokens ≡ Some (t, rest) → begins_edge t ≡ Some true
+    → edge_at states propositions sets rest ≡ Some x → more ≡ kept ++ kept_edges (x.0 ∷ [])
+    → KeptLeft state states propositions sets more (max greatest x.0.target) x.1 all
+kept_more state states propositions sets kept more greatest tokens rest t x all k e first h is = record {
   done = k.done ++ (x.0 ∷ []);
-  same = is ∙ ap (λ (es : List KeptEdge). put_edge es x.0) k.same ∙ sym (put_more [] k.done x.0);
+  same = is ∙ ap (λ (es : List KeptEdge). es ++ kept_edges (x.0 ∷ [])) k.same
+      ∙ sym (filter-append (λ (e : KeptEdge). may_hold e.label) k.done (x.0 ∷ []));
+  most = ap (λ (n : ℕ). max n x.0.target) k.most ∙ sym (one_more k.done);
   left = edges_more states propositions sets k.done tokens rest t x all k.left e first h;
 }
+  where
+    one_more : (done : List KeptEdge) → greatest_of state (done ++ (x.0 ∷ [])) ≡ max (greatest_of state done) x.0.target
+    one_more done = simp (map-append, fold-append)
 
-pub kept_fail : (refusal : Refusal) (states propositions sets : ℕ) (tokens : List Lexeme)
-    → Fails refusal (edges_at states propositions sets tokens) → Fails refusal (kept_edges_at states propositions sets tokens)
+pub kept_fail : (refusal : Refusal) (state states propositions sets : ℕ) (tokens : List Lexeme)
+    → Fails refusal (edges_at states propositions sets tokens) → Fails refusal (kept_edges_at state states propositions sets tokens)
 unfolding kept_edges_at
-kept_fail Memory states propositions sets tokens h = tt
-kept_fail (Wrong fault) states propositions sets tokens h = rw h refl
+kept_fail Memory state states propositions sets tokens h = tt
+kept_fail (Wrong fault) state states propositions sets tokens h = rw h refl
 
-pub kept_end : (states propositions sets : ℕ) (kept done : List KeptEdge) (tokens rest : List Lexeme)
-    → edges_at states propositions sets tokens ≡ Some (done, rest) → kept ≡ put_edges [] done
-    → kept_edges_at states propositions sets tokens ≡ Some (kept, rest)
+pub kept_end : (state states propositions sets : ℕ) (kept : List KeptEdge) (greatest : ℕ) (tokens rest left : List Lexeme) (t : Lexeme)
+    → KeptLeft state states propositions sets kept greatest left (edges_at states propositions sets tokens)
+    → due left ≡ Some (t, rest) → begins_edge t ≡ Some false
+    → kept_edges_at state states propositions sets tokens ≡ Some (kept, greatest, left)
 unfolding kept_edges_at
-kept_end states propositions sets kept done tokens rest e same = rw (e, same) refl
+kept_end state states propositions sets kept greatest tokens rest left t k e h =
+    rw (edges_end states propositions sets k.done left rest t _ k.left e h, k.same, k.most) refl
 
 -- ---- lines
 
@@ -230,8 +241,8 @@ same_state states seen numbers marks t = refl
 -- behind the number of a line
 abbrev behind_state : ℕ → ℕ → ℕ → List Lexeme → ℕ → Option (KeptLine × List Lexeme)
 behind_state states propositions sets tokens n =
-    behind_name tokens >>= λ rest. sets_if sets rest >>= λ x. kept_edges_at states propositions sets x.1 >>= λ y. Some
-    (record { state = n; sets = x.0; edges = y.0 }, y.1)
+    behind_name tokens >>= λ rest. sets_if sets rest >>= λ x. kept_edges_at n states propositions sets x.1 >>= λ y. Some
+    (record { state = n; greatest = y.1; sets = x.0; edges = y.0 }, y.2)
 
 same_line : (states propositions sets : ℕ) (seen : List Bool) (numbers : List ℕ) (tokens : List Lexeme) → Marks states seen numbers
     → line_at states propositions sets (λ n. get_or seen n false) tokens ≡ line_at states propositions sets (is_seen numbers) tokens

@@ -11,8 +11,8 @@ use Rattle.pg_automaton.specs.Automata.{Automaton, IsPropositionName}
 use Rattle.pg_syntax.specs.Syntax.{Header, Written, Says, AtMostOne, count_of, character_code, state_counts, starts, names, acceptances}
 use Rattle.pg_syntax.specs.Syntax.{controls}
 use Rattle.pg_syntax.specs.Mirrors.Kept.{KeptHead}
-use Rattle.pg_syntax.specs.Mirrors.HeaderScan.{noted}
-use Rattle.pg_syntax.proofs.HeaderParts.{option_list}
+use Rattle.pg_syntax.specs.Mirrors.HeaderScan.{noted, empty_head}
+use Rattle.pg_syntax.proofs.HeaderParts.{option_list, Adds, IsWithin}
 use Rattle.pg_syntax.proofs.HeaderLaws.{SaysHeaders}
 
 abbrev pub first_written : {A : Type 0} → List A → Option A
@@ -72,17 +72,20 @@ says_head w a s =
     let hs = w.headers in
     let start_low : a.start ≤ 65534 = omega (arith, s.start_below, s.few_states) in
     let few : length (given (flat_map names hs)) ≤ 16 = omega (arith, ap length s.propositions, s.few_propositions) in
-    record {
+    let adds : Adds empty_head hs (written_head hs) = record {
       states = all_said (flat_map state_counts hs) s.counted;
       start = all_said (flat_map starts hs) (one_at_most a.start (flat_map starts hs) s.start);
       names = all_said _ (same_many (map (map character_code)) (flat_map names hs) s.named);
       controls = all_said _ (same_many noted (flat_map controls hs) s.controlled);
       acceptance = all_said _ (same_many {B = ℕ × List Op} (λ (x : ℕ × Formula). (x.0, postfix x.1)) (flat_map acceptances hs)
           (one_at_most (a.sets, s.condition) (flat_map acceptances hs) s.accepted));
-      few_states = few_counted (flat_map state_counts hs) _ a.states s.states s.few_states;
-      low_start = low (flat_map starts hs) a.start s.start start_low;
+    } in
+    let within : IsWithin (written_head hs) = record {
+      states = few_counted (flat_map state_counts hs) _ a.states s.states s.few_states;
+      start = low (flat_map starts hs) a.start s.start start_low;
       few_names = few_names (flat_map names hs) s.named few;
       good_names = good_names (flat_map names hs) s.named
           (subst (λ (ns : List (List ℕ)). AllByRecursion IsPropositionName ns) s.propositions s.good_names);
-      few_sets = few_sets (flat_map acceptances hs) a.sets s.condition s.accepted s.few_sets;
-    }
+      sets = few_sets (flat_map acceptances hs) a.sets s.condition s.accepted s.few_sets;
+    } in
+    record { adds = adds; within = within }

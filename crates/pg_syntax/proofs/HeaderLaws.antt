@@ -1,12 +1,11 @@
 -- What the reader of headers gives is written there, and what is written there it gives.
-use Rattle.std.proofs.Common.{◌≡◌, ◌≢◌, ℕ, suc, zero, ◌≤◌, ◌<◌, true, false, ltb, List, [], ◌∷◌, ◌++◌, length, map, Option, Some, None}
+use Rattle.std.proofs.Common.{◌≡◌, ◌≢◌, ℕ, suc, zero, ◌≤◌, ◌<◌, true, false, List, [], ◌∷◌, ◌++◌, length, map, Option, Some, None}
 use Rattle.std.proofs.Common.{refl, sym, ap, subst, ◌∙◌, arith, append_assoc, inl, inr}
 use Rattle.std.proofs.lemmas.Bool.Decides.{nat_tests}
 use Rattle.std.specs.Prelude.{codes, IfSome, if◌then◌else◌}
 use Rattle.std.specs.Str.{bytes_eq}
 use Rattle.std.specs.List.{flat_map, AllByRecursion}
-use Rattle.std.proofs.lemmas.List.{length-append, length-map, map-append}
-use Rattle.std.proofs.lemmas.Bool.{le-ltb}
+use Rattle.std.proofs.lemmas.List.{length-append, length-map}
 use Rattle.std.proofs.lemmas.Slice.Eq.{bytes_eq-Decides}
 use Rattle.pg_syntax.specs.declared.formula.Op.{Op}
 use Rattle.pg_syntax.specs.declared.formula.Kind.TheVariants.{Condition}
@@ -21,7 +20,7 @@ use Rattle.pg_syntax.specs.Syntax.{Header, header_lexemes, IsHeader, value_lexem
 use Rattle.pg_syntax.specs.Syntax.{controls}
 use Rattle.pg_syntax.specs.Syntax as text
 use Rattle.pg_syntax.specs.Mirrors.Kept.{KeptHead}
-use Rattle.pg_syntax.specs.Mirrors.HeaderScan.{numeral_at, alone_at, numbers_from, noted, noted_at, skipped_from, names_from, once, at_most}
+use Rattle.pg_syntax.specs.Mirrors.HeaderScan.{numeral_at, alone_at, numbers_from, noted, noted_at, skipped_from, names_from, once}
 use Rattle.pg_syntax.specs.Mirrors.HeaderScan.{states_at, start_at, names_at, acceptance_at, controls_at, begins_low, other_at, header_at}
 use Rattle.pg_syntax.specs.Mirrors.HeaderScan.{empty_head, headers_within, headers_from, opening_at, version_at, headers_at}
 use Rattle.pg_syntax.proofs.Lists.{all_of_both}
@@ -31,7 +30,7 @@ use Rattle.pg_syntax.proofs.FormulasAgain.{Ends}
 use Rattle.pg_syntax.proofs.FormulaLaws.{number_tokens, ops_take, ops_again, formula_tokens}
 use Rattle.pg_syntax.proofs.HeaderValues.{Follows, numeral_take, numeral_again, alone_take, alone_again, TakesNumbers, numbers_take}
 use Rattle.pg_syntax.proofs.HeaderValues.{numbers_again, skipped_take, skipped_again, names_take, names_again}
-use Rattle.pg_syntax.proofs.HeaderParts.{option_list, Adds, IsWithin, adds_states, adds_start, adds_names, adds_controls, adds_acceptance}
+use Rattle.pg_syntax.proofs.HeaderParts.{Adds, IsWithin, adds_states, adds_start, adds_names, adds_controls, adds_acceptance}
 use Rattle.pg_syntax.proofs.HeaderParts.{adds_nothing, adds_none, adds_more, first_states, first_start, first_names, first_controls}
 use Rattle.pg_syntax.proofs.HeaderParts.{first_acceptance, none_first, all_said}
 
@@ -49,24 +48,21 @@ once_is : {A B : Type 0} (o : Option A) (next : Option B) (y : B) → once o nex
 once_is None next y e = (refl, e)
 once_is (Some x) next y e = absurd (none_is_some y e)
 
-at_most_is : {B : Type 0} (bound n : ℕ) (next : Option B) (y : B) → at_most bound n next ≡ Some y → (n ≤ bound) × (next ≡ Some y)
-at_most_is bound n next y e = grind (arith, nat_tests, chosen (ltb bound n) none next (some y) e)
-
 states_take : (h : KeptHead) (tokens : List Lexeme) (x : KeptHead × List Lexeme) → states_at h tokens ≡ Some x
     → TakesHeader h (codes "States") tokens x
 unfolding states_at
 states_take h tokens x e =
     let o = once_is h.states _ x e in
-    let n = bind_some (numeral_at tokens) _ x o.1 in
-    let b = at_most_is 65535 n.0.0 _ x n.2 in
+    let n = bind_some (numeral_at 65535 tokens) _ x o.1 in
+    let b = numeral_take 65535 tokens n.0 n.1 in
     let k : KeptHead = record h { states = Some n.0.0 } in
-    subst (TakesHeader h (codes "States") tokens) (some_is (k, n.0.1) x b.1)
+    subst (TakesHeader h (codes "States") tokens) (some_is (k, n.0.1) x n.2)
     (record {
       one = text.states n.0.0;
-      is = ap (λ (ts : List Lexeme). header (codes "States") ∷ ts) (numeral_take tokens n.0 n.1);
+      is = ap (λ (ts : List Lexeme). header (codes "States") ∷ ts) b.is;
       good = tt;
       adds = adds_states h n.0.0 o.0;
-      within = λ w. record { states = b.0; start = w.start; few_names = w.few_names; good_names = w.good_names; sets = w.sets };
+      within = λ w. record { states = b.few; start = w.start; few_names = w.few_names; good_names = w.good_names; sets = w.sets };
     })
 
 start_take : (h : KeptHead) (tokens : List Lexeme) (x : KeptHead × List Lexeme) → start_at h tokens ≡ Some x
@@ -74,18 +70,18 @@ start_take : (h : KeptHead) (tokens : List Lexeme) (x : KeptHead × List Lexeme)
 unfolding start_at
 start_take h tokens x e =
     let o = once_is h.start _ x e in
-    let n = bind_some (numeral_at tokens) _ x o.1 in
-    let b = at_most_is 65534 n.0.0 _ x n.2 in
+    let n = bind_some (numeral_at 65534 tokens) _ x o.1 in
+    let b = numeral_take 65534 tokens n.0 n.1 in
     let k : KeptHead = record h { start = Some n.0.0 } in
-    let r = bind_some (alone_at n.0.1) (λ (rest : List Lexeme). some (k, rest)) x b.1 in
+    let r = bind_some (alone_at n.0.1) (λ (rest : List Lexeme). some (k, rest)) x n.2 in
     subst (TakesHeader h (codes "Start") tokens) (some_is (k, r.0) x r.2)
     (record {
       one = text.start n.0.0;
-      is = ap (λ (ts : List Lexeme). header (codes "Start") ∷ ts) (numeral_take tokens n.0 n.1 ∙ ap
+      is = ap (λ (ts : List Lexeme). header (codes "Start") ∷ ts) (b.is ∙ ap
           (λ (ts : List Lexeme). number n.0.0 ∷ ts) (alone_take n.0.1 r.0 r.1));
       good = tt;
       adds = adds_start h n.0.0 o.0;
-      within = λ w. record { states = w.states; start = b.0; few_names = w.few_names; good_names = w.good_names; sets = w.sets };
+      within = λ w. record { states = w.states; start = b.few; few_names = w.few_names; good_names = w.good_names; sets = w.sets };
     })
 
 few_names : (n : ℕ) (names : List (List Character)) (ns : List (List ℕ)) → length names ≡ n → ns ≡ map (map character_code) names → n ≤ 16
@@ -97,16 +93,16 @@ names_header_take : (h : KeptHead) (tokens : List Lexeme) (x : KeptHead × List 
 unfolding names_at
 names_header_take h tokens x e =
     let o = once_is h.names _ x e in
-    let n = bind_some (numeral_at tokens) _ x o.1 in
-    let b = at_most_is 16 n.0.0 _ x n.2 in
+    let n = bind_some (numeral_at 16 tokens) _ x o.1 in
+    let b = numeral_take 16 tokens n.0 n.1 in
     let r = bind_some (names_from n.0.0 [] n.0.1) (λ (y : List (List ℕ) × List Lexeme). let k : KeptHead = record h { names = Some y.0 } in
-    some (k, y.1)) x b.1 in
+    some (k, y.1)) x n.2 in
     let k : KeptHead = record h { names = Some r.0.0 } in
     let found = names_take n.0.0 [] n.0.1 r.0 r.1 in
     subst (TakesHeader h (codes "AP") tokens) (some_is (k, r.0.1) x r.2)
     (record {
       one = text.propositions found.names;
-      is = ap (λ (ts : List Lexeme). header (codes "AP") ∷ ts) (numeral_take tokens n.0 n.1 ∙ ap
+      is = ap (λ (ts : List Lexeme). header (codes "AP") ∷ ts) (b.is ∙ ap
           (λ (ts : List Lexeme). number n.0.0 ∷ ts) found.is ∙ ap (λ (m : ℕ). number m ∷ (map string found.names ++ r.0.1))
           (sym found.count));
       good = tt;
@@ -115,7 +111,7 @@ names_header_take h tokens x e =
       within = λ w. record {
         states = w.states;
         start = w.start;
-        few_names = few_names n.0.0 found.names r.0.0 found.count found.added b.0;
+        few_names = few_names n.0.0 found.names r.0.0 found.count found.added b.few;
         good_names = subst (λ (ns : List (List ℕ)). AllByRecursion IsPropositionName ns) (sym found.added) found.good;
         sets = w.sets;
       };
@@ -126,21 +122,21 @@ acceptance_take : (h : KeptHead) (tokens : List Lexeme) (x : KeptHead × List Le
 unfolding acceptance_at
 acceptance_take h tokens x e =
     let o = once_is h.acceptance _ x e in
-    let n = bind_some (numeral_at tokens) _ x o.1 in
-    let b = at_most_is 4096 n.0.0 _ x n.2 in
+    let n = bind_some (numeral_at 4096 tokens) _ x o.1 in
+    let b = numeral_take 4096 tokens n.0 n.1 in
     let r = bind_some (ops_at (Condition n.0.0) n.0.1) (λ (y : List Op × List Lexeme). let k : KeptHead = record h
-    { acceptance = Some (n.0.0, y.0) } in some (k, y.1)) x b.1 in
+    { acceptance = Some (n.0.0, y.0) } in some (k, y.1)) x n.2 in
     let k : KeptHead = record h { acceptance = Some (n.0.0, r.0.0) } in
     let found = ops_take (Condition n.0.0) n.0.1 r.0 r.1 in
     subst (TakesHeader h (codes "Acceptance") tokens) (some_is (k, r.0.1) x r.2)
     (record {
       one = text.acceptance n.0.0 found.formula;
       is = ap (λ (ts : List Lexeme). header (codes "Acceptance") ∷ ts)
-          (numeral_take tokens n.0 n.1 ∙ ap (λ (ts : List Lexeme). number n.0.0 ∷ ts) found.is);
+          (b.is ∙ ap (λ (ts : List Lexeme). number n.0.0 ∷ ts) found.is);
       good = found.written;
       adds = subst (λ (ops : List Op). Adds h (text.acceptance n.0.0 found.formula ∷ []) (record h { acceptance = Some (n.0.0, ops) }))
           (sym found.computed) (adds_acceptance h n.0.0 found.formula o.0);
-      within = λ w. record { states = w.states; start = w.start; few_names = w.few_names; good_names = w.good_names; sets = b.0 };
+      within = λ w. record { states = w.states; start = w.start; few_names = w.few_names; good_names = w.good_names; sets = b.few };
     })
 
 controls_read : (h : KeptHead) (tokens : List Lexeme) (r n : List ℕ × List Lexeme) (x : KeptHead × List Lexeme) → h.controls ≡ None
@@ -254,30 +250,44 @@ pub record ReadsOne (h : KeptHead) (one : Header) (hs : List Header) (k : KeptHe
 said_within : {A : Type 0} (o : Option A) (x : A) (P : A → Type 0) → o ≡ Some x → IfSome o P → P x
 said_within {A = A} o x P e h = let found = subst (λ (v : Option A). IfSome v P) e h in found
 
-within_bound : {B : Type 0} (bound n : ℕ) (next : Option B) → n ≤ bound → at_most bound n next ≡ next
-within_bound bound n next h = rw (le-ltb bound n h) refl
-
 states_again : (h k : KeptHead) (n : ℕ) (hs : List Header) (rest : List Lexeme) → Adds h (text.states n ∷ hs) k → IsWithin k
     → ReadsOne h (text.states n) hs k rest
 unfolding header_at states_at
-states_again h k n hs rest a w = grind (arith, nat_tests, first_states h k n hs a, numeral_again n rest)
+states_again h k n hs rest a w =
+    let f = first_states h k n hs a in
+    let few : n ≤ 65535 = said_within k.states n (λ m. m ≤ 65535) f.is w.states in
+    record {
+      more = record h { states = Some n };
+      reads = rw (f.unsaid_before, numeral_again 65535 n rest few) refl;
+      others = f.others;
+    }
 
 start_again : (h k : KeptHead) (q : ℕ) (hs : List Header) (rest : List Lexeme) → Adds h (text.start q ∷ hs) k → IsWithin k → Follows rest
     → ReadsOne h (text.start q) hs k rest
 unfolding header_at start_at
-start_again h k q hs rest a w follows = grind (arith, nat_tests, first_start h k q hs a, numeral_again q rest, alone_again rest follows)
+start_again h k q hs rest a w follows =
+    let f = first_start h k q hs a in
+    let low : q ≤ 65534 = said_within k.start q (λ m. m ≤ 65534) f.is w.start in
+    record {
+      more = record h { start = Some q };
+      reads = rw (f.unsaid_before, numeral_again 65534 q rest low, alone_again rest follows) refl;
+      others = f.others;
+    }
 
 names_header_again : (h k : KeptHead) (ns : List (List Character)) (hs : List Header) (rest : List Lexeme)
     → Adds h (text.propositions ns ∷ hs) k → IsWithin k → ReadsOne h (text.propositions ns) hs k rest
 unfolding header_at names_at
-names_header_again h k ns hs rest a w = grind (
-  arith,
-  nat_tests,
-  first_names h k ns hs a,
-  length-map ns (map character_code),
-  numeral_again (length ns) (map string ns ++ rest),
-  names_again ns,
-)
+names_header_again h k ns hs rest a w =
+    let f = first_names h k ns hs a in
+    let names : List (List ℕ) = map (map character_code) ns in
+    let good = said_within k.names names (λ (list : List (List ℕ)). AllByRecursion IsPropositionName list) f.is w.good_names in
+    let short : length names ≤ 16 = said_within k.names names (λ (list : List (List ℕ)). length list ≤ 16) f.is w.few_names in
+    let few : length ns ≤ 16 = omega (arith, short, length-map ns (map character_code)) in
+    record {
+      more = record h { names = Some names };
+      reads = rw (f.unsaid_before, numeral_again 16 (length ns) (map string ns ++ rest) few, names_again ns [] rest good) refl;
+      others = f.others;
+    }
 
 acceptance_again : (h k : KeptHead) (n : ℕ) (c : Formula) (hs : List Header) (rest : List Lexeme) → IsWritten (Condition n) c
     → Adds h (text.acceptance n c ∷ hs) k → IsWithin k → Follows rest → ReadsOne h (text.acceptance n c) hs k rest
@@ -287,8 +297,11 @@ acceptance_again h k n c hs rest written a w follows =
     let few : n ≤ 4096 = said_within k.acceptance (n, postfix c) (λ x. x.0 ≤ 4096) f.is w.sets in
     record {
       more = record h { acceptance = Some (n, postfix c) };
-      reads = rw (f.unsaid_before, numeral_again n (formula_lexemes c ++ rest), ops_again (Condition n) c rest written (ends rest follows))
-          (within_bound 4096 n _ few);
+      reads = rw (
+        f.unsaid_before,
+        numeral_again 4096 n (formula_lexemes c ++ rest) few,
+        ops_again (Condition n) c rest written (ends rest follows),
+      ) refl;
       others = f.others;
     }
   where
@@ -378,11 +391,7 @@ headers_within_take (suc n) h _ x e = absurd (none_is_some x e)
 follows : (hs : List Header) (rest : List Lexeme) → Follows (flat_map header_lexemes hs ++ (body ∷ rest))
 follows [] rest = tt
 follows (text.states n ∷ hs) rest = tt
-follows (text.start q ∷ hs) rest = tt
-follows (text.propositions ns ∷ hs) rest = tt
-follows (text.acceptance n f ∷ hs) rest = tt
-follows (text.controllable ns ∷ hs) rest = tt
-follows (text.skipped name values ∷ hs) rest = tt
+follows (_ ∷ hs) rest = tt
 
 -- the tokens of these headers, of their `--BODY--` and of what stands behind it
 abbrev pub all_lexemes : List Header → List Lexeme → List Lexeme
@@ -413,16 +422,8 @@ headers_within_again (suc n) (one ∷ hs) h k rest good a w few =
 
 -- what headers say, within the limits
 pub record SaysHeaders (hs : List Header) (h : KeptHead) : Type 0 where
-  pub states : option_list h.states ≡ flat_map state_counts hs
-  pub start : option_list h.start ≡ flat_map starts hs
-  pub names : option_list h.names ≡ map (map (map character_code)) (flat_map names hs)
-  pub controls : option_list h.controls ≡ map noted (flat_map controls hs)
-  pub acceptance : option_list h.acceptance ≡ map (λ x. (x.0, postfix x.1)) (flat_map acceptances hs)
-  pub few_states : IfSome h.states (λ n. n ≤ 65535)
-  pub low_start : IfSome h.start (λ q. q ≤ 65534)
-  pub few_names : IfSome h.names (λ ns. length ns ≤ 16)
-  pub good_names : IfSome h.names (λ ns. AllByRecursion IsPropositionName ns)
-  pub few_sets : IfSome h.acceptance (λ x. x.0 ≤ 4096)
+  pub adds : Adds empty_head hs h
+  pub within : IsWithin h
 
 -- the headers that stand at the front of the tokens, and what they say
 pub record ReadHeaders (tokens : List Lexeme) (x : KeptHead × List Lexeme) : Type 0 where
@@ -430,37 +431,6 @@ pub record ReadHeaders (tokens : List Lexeme) (x : KeptHead × List Lexeme) : Ty
   pub is : tokens ≡ header (codes "HOA") ∷ identifier (codes "v1") ∷ (flat_map header_lexemes headers ++ (body ∷ x.1))
   pub good : AllByRecursion IsHeader headers
   pub says : SaysHeaders headers x.0
-
-mapped : {A B : Type 0} (f : Header → List A) (g : A → B) (hs : List Header) → flat_map (λ h. map g (f h)) hs ≡ map g (flat_map f hs)
-mapped f g [] = refl
-mapped {A = A} {B = B} f g (h ∷ hs) = ap (λ (l : List B). map g (f h) ++ l) (mapped f g hs) ∙ sym (map-append g (f h) (flat_map f hs))
-
-says_them : (hs : List Header) (h : KeptHead) → Adds empty_head hs h → IsWithin h → SaysHeaders hs h
-says_them hs h a w = record {
-  states = a.states;
-  start = a.start;
-  names = a.names ∙ mapped names (map (map character_code)) hs;
-  controls = a.controls ∙ mapped controls noted hs;
-  acceptance = a.acceptance ∙ mapped acceptances (λ x. (x.0, postfix x.1)) hs;
-  few_states = w.states;
-  low_start = w.start;
-  few_names = w.few_names;
-  good_names = w.good_names;
-  few_sets = w.sets;
-}
-
-said_them : (hs : List Header) (h : KeptHead) → SaysHeaders hs h → Adds empty_head hs h × IsWithin h
-said_them hs h s = (
-  record {
-    states = s.states;
-    start = s.start;
-    names = s.names ∙ sym (mapped names (map (map character_code)) hs);
-    controls = s.controls
-        ∙ sym (mapped controls noted hs);
-    acceptance = s.acceptance ∙ sym (mapped acceptances (λ x. (x.0, postfix x.1)) hs);
-  },
-  record { states = s.few_states; start = s.low_start; few_names = s.few_names; good_names = s.good_names; sets = s.few_sets },
-)
 
 empty_within : IsWithin empty_head
 empty_within = record { states = tt; start = tt; few_names = tt; good_names = tt; sets = tt }
@@ -492,7 +462,7 @@ headers_take tokens x e =
       is = opening_take tokens opened.0 opened.1 ∙ ap (λ (ts : List Lexeme). header (codes "HOA") ∷ ts)
           (version_take opened.0 version.0 version.1) ∙ ap (λ (ts : List Lexeme). header (codes "HOA") ∷ identifier (codes "v1") ∷ ts) t.is;
       good = t.good;
-      says = says_them t.headers x.0 t.adds (t.within empty_within);
+      says = record { adds = t.adds; within = t.within empty_within };
     }
 
 -- ---- the tokens of headers
@@ -501,8 +471,7 @@ pub headers_again : (hs : List Header) (h : KeptHead) (rest : List Lexeme) → A
     → headers_at (header (codes "HOA") ∷ identifier (codes "v1") ∷ (flat_map header_lexemes hs ++ (body ∷ rest))) ≡ Some (h, rest)
 unfolding headers_at opening_at version_at headers_from
 headers_again hs h rest good s =
-    let said = said_them hs h s in
-    headers_within_again (suc (length (all_lexemes hs rest))) hs empty_head h rest good said.0 said.1 (omega arith)
+    headers_within_again (suc (length (all_lexemes hs rest))) hs empty_head h rest good s.adds s.within (omega arith)
 
 string_tokens : (ns : List (List Character)) → AllByRecursion IsToken (map string ns)
 string_tokens [] = tt

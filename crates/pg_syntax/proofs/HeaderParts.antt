@@ -3,7 +3,7 @@ use Rattle.std.proofs.Common.{◌≡◌, ℕ, ◌≤◌, List, [], ◌∷◌, �
 use Rattle.std.proofs.lemmas.Bool.Decides.{nat_tests}
 use Rattle.std.specs.Prelude.{IfSome}
 use Rattle.std.specs.List.{flat_map, AllByRecursion}
-use Rattle.std.proofs.lemmas.List.{append-nil}
+use Rattle.std.proofs.lemmas.List.{append-nil, map-append}
 use Rattle.pg_syntax.specs.declared.formula.Op.{Op}
 use Rattle.pg_automaton.specs.Formulas.{Formula}
 use Rattle.pg_syntax.specs.Mirrors.FormulaRun.{postfix}
@@ -20,22 +20,22 @@ option_list None = []
 option_list (Some x) = x ∷ []
 
 -- names without their backslashes, numbers of propositions as they are noted, and conditions as operations
-abbrev pub read_names : Header → List (List (List ℕ))
-read_names h = map (map (map character_code)) (names h)
+abbrev pub read_names : List Header → List (List (List ℕ))
+read_names hs = map (map (map character_code)) (flat_map names hs)
 
-abbrev pub read_controls : Header → List (List ℕ)
-read_controls h = map noted (controls h)
+abbrev pub read_controls : List Header → List (List ℕ)
+read_controls hs = map noted (flat_map controls hs)
 
-abbrev pub read_acceptances : Header → List (ℕ × List Op)
-read_acceptances h = map (λ x. (x.0, postfix x.1)) (acceptances h)
+abbrev pub read_acceptances : List Header → List (ℕ × List Op)
+read_acceptances hs = map (λ x. (x.0, postfix x.1)) (flat_map acceptances hs)
 
 -- k says what h says, and then what these headers say
 pub record Adds (h : KeptHead) (hs : List Header) (k : KeptHead) : Type 0 where
   pub states : option_list k.states ≡ option_list h.states ++ flat_map state_counts hs
   pub start : option_list k.start ≡ option_list h.start ++ flat_map starts hs
-  pub names : option_list k.names ≡ option_list h.names ++ flat_map read_names hs
-  pub controls : option_list k.controls ≡ option_list h.controls ++ flat_map read_controls hs
-  pub acceptance : option_list k.acceptance ≡ option_list h.acceptance ++ flat_map read_acceptances hs
+  pub names : option_list k.names ≡ option_list h.names ++ read_names hs
+  pub controls : option_list k.controls ≡ option_list h.controls ++ read_controls hs
+  pub acceptance : option_list k.acceptance ≡ option_list h.acceptance ++ read_acceptances hs
 
 -- the limits that are checked as the headers are read
 pub record IsWithin (h : KeptHead) : Type 0 where
@@ -85,20 +85,19 @@ adds_nothing h name values = record { states = unsaid _; start = unsaid _; names
 pub adds_none : (h : KeptHead) → Adds h [] h
 adds_none h = record { states = unsaid _; start = unsaid _; names = unsaid _; controls = unsaid _; acceptance = unsaid _ }
 
-joined : {A : Type 0} (f : Header → List A) (a b c : List A) (one : Header) (hs : List Header) → b ≡ a ++ flat_map f (one ∷ [])
-    → c ≡ b ++ flat_map f hs → c ≡ a ++ flat_map f (one ∷ hs)
-joined {A = A} f a b c one hs p q = q ∙ ap (λ (l : List A). l ++ flat_map f hs) p ∙ simp (append-nil, append_assoc)
+joined : {A : Type 0} (f : List Header → List A) (one : Header) (hs : List Header) (a b c : List A) → b ≡ a ++ f (one ∷ [])
+    → c ≡ b ++ f hs → f (one ∷ []) ++ f hs ≡ f (one ∷ hs) → c ≡ a ++ f (one ∷ hs)
+joined {A = A} f one hs a b c p q r =
+    q ∙ ap (λ (l : List A). l ++ f hs) p ∙ append_assoc a (f (one ∷ [])) (f hs) ∙ ap (λ (l : List A). a ++ l) r
 
 pub adds_more : (h k m : KeptHead) (one : Header) (hs : List Header) → Adds h (one ∷ []) k → Adds k hs m → Adds h (one ∷ hs) m
-adds_more h k m one hs p q = grind (
-  arith,
-  nat_tests,
-  joined state_counts _ _ _ one hs p.states q.states,
-  joined starts _ _ _ one hs p.start q.start,
-  joined read_names _ _ _ one hs p.names q.names,
-  joined read_controls _ _ _ one hs p.controls q.controls,
-  joined read_acceptances _ _ _ one hs p.acceptance q.acceptance,
-)
+adds_more h k m one hs p q = record {
+  states = joined (flat_map state_counts) one hs _ _ _ p.states q.states (simp append-nil);
+  start = joined (flat_map starts) one hs _ _ _ p.start q.start (simp append-nil);
+  names = joined read_names one hs _ _ _ p.names q.names (simp (append-nil, map-append));
+  controls = joined read_controls one hs _ _ _ p.controls q.controls (simp (append-nil, map-append));
+  acceptance = joined read_acceptances one hs _ _ _ p.acceptance q.acceptance (simp (append-nil, map-append));
+}
 
 -- ---- one header less
 
@@ -130,16 +129,16 @@ first_start h k q hs a = grind (arith, nat_tests, says_first k.start h.start q (
 pub first_names : (h k : KeptHead) (ns : List (List Character)) (hs : List Header) → Adds h (text.propositions ns ∷ hs) k
     → FirstOf h.names k.names (map (map character_code) ns) (record h { names = Some (map (map character_code) ns) }) hs k
 first_names h k ns hs a =
-    grind (arith, nat_tests, says_first k.names h.names (map (map character_code) ns) (flat_map read_names hs) a.names)
+    grind (arith, nat_tests, says_first k.names h.names (map (map character_code) ns) (read_names hs) a.names)
 
 pub first_controls : (h k : KeptHead) (ns : List ℕ) (hs : List Header) → Adds h (text.controllable ns ∷ hs) k
     → FirstOf h.controls k.controls (noted ns) (record h { controls = Some (noted ns) }) hs k
-first_controls h k ns hs a = grind (arith, nat_tests, says_first k.controls h.controls (noted ns) (flat_map read_controls hs) a.controls)
+first_controls h k ns hs a = grind (arith, nat_tests, says_first k.controls h.controls (noted ns) (read_controls hs) a.controls)
 
 pub first_acceptance : (h k : KeptHead) (n : ℕ) (f : Formula) (hs : List Header) → Adds h (text.acceptance n f ∷ hs) k
     → FirstOf h.acceptance k.acceptance (n, postfix f) (record h { acceptance = Some (n, postfix f) }) hs k
 first_acceptance h k n f hs a =
-    grind (arith, nat_tests, says_first k.acceptance h.acceptance (n, postfix f) (flat_map read_acceptances hs) a.acceptance)
+    grind (arith, nat_tests, says_first k.acceptance h.acceptance (n, postfix f) (read_acceptances hs) a.acceptance)
 
 pub none_first : (h k : KeptHead) (name : List ℕ) (values : List text.Value) (hs : List Header) → Adds h (text.skipped name values ∷ hs) k
     → Adds h hs k

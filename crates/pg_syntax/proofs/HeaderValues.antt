@@ -1,9 +1,10 @@
 -- The values of headers: what is read is written there, and what is written there is read.
-use Rattle.std.proofs.Common.{◌≡◌, ℕ, suc, zero, Bool, true, false, List, [], ◌∷◌, ◌++◌, length, map, Some, refl, sym, ap, subst, ◌∙◌}
+use Rattle.std.proofs.Common.{◌≡◌, ℕ, suc, zero, ◌≤◌, ltb, Bool, true, false, List, [], ◌∷◌, ◌++◌, length, map, Some, refl, sym, ap, subst, ◌∙◌}
 use Rattle.std.proofs.Common.{arith, append_assoc, inl, inr}
 use Rattle.std.specs.Prelude.{nat_le, if◌then◌else◌, ◌==◌}
 use Rattle.std.specs.List.{list_all, AllByRecursion}
 use Rattle.std.proofs.lemmas.List.{append-nil}
+use Rattle.std.proofs.lemmas.Bool.{le-ltb}
 use Rattle.std.proofs.lemmas.Bool.Decides.{nat_tests}
 use Rattle.pg_syntax.specs.Lexemes.{Lexeme, number, identifier, header, string, body, ampersand, stray, Character}
 use Rattle.pg_automaton.specs.Automata.{IsPropositionName, IsNameByte}
@@ -20,14 +21,26 @@ Follows (header w ∷ rest) = Unit {0}
 Follows (body ∷ rest) = Unit {0}
 Follows _ = ⊥
 
-pub numeral_take : (tokens : List Lexeme) (x : ℕ × List Lexeme) → numeral_at tokens ≡ Some x → tokens ≡ number x.0 ∷ x.1
-unfolding numeral_at
-numeral_take (number n ∷ rest) x e = ap (λ (y : ℕ × List Lexeme). number y.0 ∷ y.1) (some_is (n, rest) x e)
-numeral_take _ x e = absurd (none_is_some x e)
+-- what was read is a number up to the limit
+pub record TakesNumeral (limit : ℕ) (tokens : List Lexeme) (x : ℕ × List Lexeme) : Type 0 where
+  pub is : tokens ≡ number x.0 ∷ x.1
+  pub few : x.0 ≤ limit
 
-pub numeral_again : (n : ℕ) (rest : List Lexeme) → numeral_at (number n ∷ rest) ≡ Some (n, rest)
+pub numeral_take : (limit : ℕ) (tokens : List Lexeme) (x : ℕ × List Lexeme) → numeral_at limit tokens ≡ Some x
+    → TakesNumeral limit tokens x
 unfolding numeral_at
-numeral_again n rest = refl
+numeral_take limit (number n ∷ rest) x e =
+    elim (chosen (ltb limit n) none (some (n, rest)) (some x) e) [
+      | inl c ↦ absurd (none_is_some x c.1)
+      | inr c ↦
+          let few : n ≤ limit = grind (arith, nat_tests) in
+          subst (TakesNumeral limit (number n ∷ rest)) (some_is (n, rest) x c.1) (record { is = refl; few = few })
+    ]
+numeral_take limit _ x e = absurd (none_is_some x e)
+
+pub numeral_again : (limit n : ℕ) (rest : List Lexeme) → n ≤ limit → numeral_at limit (number n ∷ rest) ≡ Some (n, rest)
+unfolding numeral_at
+numeral_again limit n rest few = rw (le-ltb limit n few) refl
 
 pub alone_take : (tokens rest : List Lexeme) → alone_at tokens ≡ Some rest → tokens ≡ rest
 unfolding alone_at

@@ -1,13 +1,11 @@
 -- The start is among the states, whether these are counted or only named.
 use Rattle.std.proofs.Common.{◌<◌, ◌≤◌, ℕ, suc, max, List, [], ◌∷◌, map, Option, Some, None, arith}
-use Rattle.std.specs.List.{AllByRecursion, flat_map, fold}
+use Rattle.std.specs.List.{AllByRecursion, fold}
 use Rattle.pg_syntax.specs.Syntax.{Edge, StateLine, EdgeFits, LineFits}
-use Rattle.pg_syntax.specs.Mirrors.Kept.{KeptEdge, put_edges, kept_of_edge, kept_of_line}
+use Rattle.pg_syntax.specs.Mirrors.Kept.{KeptEdge, KeptLine, kept_of_edge, kept_of_line, count_named}
 use Rattle.pg_syntax.specs.Mirrors.Preambles.{StartsBelow}
-use Rattle.pg_syntax.specs.Mirrors.Kept.{named_states, count_named}
 use Rattle.pg_syntax.specs.Mirrors.Readings.{bound, states_in}
-use Rattle.pg_syntax.proofs.KeptEdges.{puts_low}
-use Rattle.pg_syntax.proofs.Lists.{all_of_both, greatest_from}
+use Rattle.pg_syntax.proofs.Lists.{greatest_from}
 
 -- ---- the greatest number of a list
 
@@ -15,7 +13,7 @@ greatest_at_most : (n a : ℕ) (xs : List ℕ) → a ≤ n → AllByRecursion (�
 greatest_at_most n a [] low all = low
 greatest_at_most n a (x ∷ xs) low all = let here : x ≤ n = all.0 in greatest_at_most n (max a x) xs (omega arith) all.1
 
--- ---- the numbers that lines name
+-- ---- the states that lines name
 
 targets_low : (n propositions sets : ℕ) (edges : List Edge) → AllByRecursion (EdgeFits (suc n) propositions sets) edges
     → AllByRecursion (λ (x : ℕ). x ≤ n) (map (λ (e : KeptEdge). e.target) (map kept_of_edge edges))
@@ -24,14 +22,13 @@ targets_low n propositions sets (e ∷ edges) fit =
     let low : e.target < suc n = fit.0.target in (omega arith, targets_low n propositions sets edges fit.1)
 
 numbers_low : (n propositions sets : ℕ) (lines : List StateLine) → AllByRecursion (LineFits (suc n) propositions sets) lines
-    → AllByRecursion (λ (x : ℕ). x ≤ n) (flat_map named_states (map kept_of_line lines))
+    → AllByRecursion (λ (x : ℕ). x ≤ n) (map (λ (k : KeptLine). k.greatest) (map kept_of_line lines))
 numbers_low n propositions sets [] fit = tt
 numbers_low n propositions sets (l ∷ lines) fit =
-    let low : l.state < suc n = fit.0.state in
-    let targets = puts_low n [] (map kept_of_edge l.edges) tt (targets_low n propositions sets l.edges fit.0.edges) in (
-      omega arith,
-      all_of_both (λ (x : ℕ). x ≤ n) (map (λ (e : KeptEdge). e.target) (put_edges [] (map kept_of_edge l.edges)))
-          (flat_map named_states (map kept_of_line lines)) targets (numbers_low n propositions sets lines fit.1),
+    let low : l.state < suc n = fit.0.state in (
+      greatest_at_most n l.state (map (λ (e : KeptEdge). e.target) (map kept_of_edge l.edges)) (omega arith)
+          (targets_low n propositions sets l.edges fit.0.edges),
+      numbers_low n propositions sets lines fit.1,
     )
 
 -- ---- so many states
@@ -45,7 +42,7 @@ pub record AreCounted (states start : ℕ) : Type 0 where
 named : (start propositions sets : ℕ) (lines : List StateLine) → start ≤ 65534 → AllByRecursion (LineFits 65535 propositions sets) lines
     → AreCounted (count_named start (map kept_of_line lines)) start
 named start propositions sets lines low fit =
-    let numbers = flat_map named_states (map kept_of_line lines) in
+    let numbers = map (λ (k : KeptLine). k.greatest) (map kept_of_line lines) in
     let first : max 0 start ≤ fold max (max 0 start) numbers = greatest_from (max 0 start) numbers in
     let last : fold max (max 0 start) numbers ≤ 65534 = greatest_at_most 65534 (max 0 start) numbers (omega arith)
     (numbers_low 65534 propositions sets lines fit) in

@@ -40,7 +40,7 @@ accepted (Some x) [] e = absurd cc
 accepted (Some x) (y ∷ said) e = (y.1, ap (λ (z : ℕ × List Op). z.1) (first_is x (kept y) [] (map kept said) e))
 
 pub head_condition : (tokens : List Lexeme) (x : KeptHead × List Lexeme) → headers_at tokens ≡ Some x → HasCondition x.0.acceptance
-head_condition tokens x e = let r = headers_take tokens x e in accepted x.0.acceptance (flat_map acceptances r.headers) r.says.acceptance
+head_condition tokens x e = let r = headers_take tokens x e in accepted x.0.acceptance (flat_map acceptances r.headers) r.says.adds.acceptance
 
 few_listed : (names : Option (List (List ℕ))) → IfSome names (λ ns. length ns ≤ 16) → length (listed names) ≤ 16
 few_listed None few = omega arith
@@ -49,7 +49,7 @@ few_listed (Some ns) few = few
 pub few_names : (tokens : List Lexeme) (x : KeptHead × List Lexeme) (s : Preamble) → headers_at tokens ≡ Some x → IsPreambleOf x.0 s
     → length s.names ≤ 16
 few_names tokens x s e i =
-    subst (λ (ns : List (List ℕ)). length ns ≤ 16) (sym i.names) (few_listed x.0.names (headers_take tokens x e).says.few_names)
+    subst (λ (ns : List (List ℕ)). length ns ≤ 16) (sym i.names) (few_listed x.0.names (headers_take tokens x e).says.within.few_names)
 
 few_bound : (states : Option ℕ) → IfSome states (λ n. n ≤ 65535) → bound states ≤ 65535
 few_bound None few = omega arith
@@ -58,7 +58,7 @@ few_bound (Some n) few = few
 pub few_states : (tokens : List Lexeme) (x : KeptHead × List Lexeme) (s : Preamble) → headers_at tokens ≡ Some x → IsPreambleOf x.0 s
     → bound s.states ≤ 65535
 few_states tokens x s e i =
-    subst (λ (o : Option ℕ). bound o ≤ 65535) (sym i.states) (few_bound x.0.states (headers_take tokens x e).says.few_states)
+    subst (λ (o : Option ℕ). bound o ≤ 65535) (sym i.states) (few_bound x.0.states (headers_take tokens x e).says.within.states)
 
 -- ---- there is one preamble
 
@@ -159,7 +159,7 @@ reads_within tokens h s lines r =
     let i = r.preamble in
     let says = (headers_take tokens (h, r.behind) r.headers).says in
     let body = body_takes (bound s.states) (length s.names) s.sets r.behind (lines, []) r.body in
-    let low : s.start ≤ 65534 = if_some (λ (q : ℕ). q ≤ 65534) h.start s.start i.start says.low_start in
+    let low : s.start ≤ 65534 = if_some (λ (q : ℕ). q ≤ 65534) h.start s.start i.start says.within.start in
     let below : StartsBelow s.start s.states = subst (StartsBelow s.start) (sym i.states) i.start_below in
     let few = few_states tokens (h, r.behind) s r.headers i in
     let all : AreCounted (states_in s.states s.start lines) s.start =
@@ -169,5 +169,5 @@ reads_within tokens h s lines r =
       start_below = all.start_below;
       few_states = all.few;
       few_propositions = few_names tokens (h, r.behind) s r.headers i;
-      few_sets = if_some (λ (x : ℕ × List Op). x.0 ≤ 4096) h.acceptance (kept (s.sets, i.condition)) i.acceptance says.few_sets;
+      few_sets = if_some (λ (x : ℕ × List Op). x.0 ≤ 4096) h.acceptance (kept (s.sets, i.condition)) i.acceptance says.within.sets;
     }

@@ -73,19 +73,19 @@ says_preamble : (w : Written) (h : KeptHead) (s : Preamble) → SaysHeaders w.he
     → IsDistinct (map (λ l. l.state) w.lines) → Says w (preamble_automaton s (map kept_of_line w.lines))
 says_preamble w h s said i within few fit distinct =
     let hs = w.headers in
-    let propositions = names_are h.names (flat_map names hs) said.names in
+    let propositions = names_are h.names (flat_map names hs) said.adds.names in
     let numbers = flat_map (λ x. x) (flat_map controls hs) in
-    let noted_are = controls_are h.controls (flat_map controls hs) said.controls in
+    let noted_are = controls_are h.controls (flat_map controls hs) said.adds.controls in
     let count : length (listed h.names) ≡ length s.names = ap length (sym i.names) in
-    let one = one_condition (flat_map acceptances hs) s.sets i.condition (sym (ap option_list i.acceptance) ∙ said.acceptance) in
+    let one = one_condition (flat_map acceptances hs) s.sets i.condition (sym (ap option_list i.acceptance) ∙ said.adds.acceptance) in
     record {
-      counted = once h.states (flat_map state_counts hs) said.states;
-      states = states_are s.states (flat_map state_counts hs) s.start w.lines (ap option_list i.states ∙ said.states);
-      start = sym said.start ∙ ap option_list i.start;
-      named = mapped_once (map (map character_code)) h.names (flat_map names hs) said.names;
+      counted = once h.states (flat_map state_counts hs) said.adds.states;
+      states = states_are s.states (flat_map state_counts hs) s.start w.lines (ap option_list i.states ∙ said.adds.states);
+      start = sym said.adds.start ∙ ap option_list i.start;
+      named = mapped_once (map (map character_code)) h.names (flat_map names hs) said.adds.names;
       propositions = i.names ∙ propositions;
-      good_names = subst (λ (ns : List (List ℕ)). AllByRecursion IsPropositionName ns) (sym i.names) (good_names h.names said.good_names);
-      controlled = mapped_once noted h.controls (flat_map controls hs) said.controls;
+      good_names = subst (λ (ns : List (List ℕ)). AllByRecursion IsPropositionName ns) (sym i.names) (good_names h.names said.within.good_names);
+      controlled = mapped_once noted h.controls (flat_map controls hs) said.adds.controls;
       controllable = i.controllable ∙ ap (λ (ns : List ℕ). marked ns (length (listed h.names))) noted_are
           ∙ ap (λ (n : ℕ). marked (noted numbers) n) count ∙ marked_noted numbers (length s.names) within.few_propositions;
       controls_below = noted_below numbers (length s.names) within.few_propositions

@@ -1,5 +1,5 @@
 -- One token: what is read is spelt there, and what is spelt is read.
-use Rattle.std.proofs.Common.{◌≡◌, ◌≢◌, ℕ, ◌+◌, ◌^◌, ◌<◌, true, false, eqb, ltb, List, [], ◌∷◌, ◌++◌, length, take, drop, Some, refl, sym}
+use Rattle.std.proofs.Common.{◌≡◌, ◌≢◌, ℕ, ◌+◌, ◌^◌, ◌<◌, true, false, cond, eqb, ltb, List, [], ◌∷◌, ◌++◌, length, take, drop, Option, Some, refl, sym}
 use Rattle.std.proofs.Common.{ap, subst, ◌∙◌, arith, inl, inr, append_assoc, length-append}
 use Rattle.std.specs.Prelude.{◌||◌, codes}
 use Rattle.std.specs.Str.{bytes_eq}
@@ -296,75 +296,39 @@ alias_again w text rest h =
 
 -- ---- marks
 
-cut : (n : ℕ) (bytes mark : List ℕ) → bytes_eq (take n bytes) mark ≡ true → take n bytes ≡ mark
-cut n bytes mark h = (bytes_eq-Decides (take n bytes) mark).0 h
-
 mark_takes : (bytes : List ℕ) (x : Lexeme × List ℕ) → mark_at bytes ≡ Some x → Written bytes x
 unfolding mark_at
 mark_takes bytes x e =
-    elim (chosen (bytes_eq (take 8 bytes) (codes "--BODY--")) (some (body, drop 8 bytes)) _ (some x) e) [
-      | inl c ↦ found bytes (take 8 bytes) body (drop 8 bytes) x c.1 (sym (take-append-drop 8 bytes)) (cut 8 bytes (codes "--BODY--") c.0)
-      | inr c ↦ elim (chosen (bytes_eq (take 7 bytes) (codes "--END--")) (some (end, drop 7 bytes)) _ (some x) c.1) [
-        | inl d ↦ found bytes (take 7 bytes) end (drop 7 bytes) x d.1 (sym (take-append-drop 7 bytes)) (cut 7 bytes (codes "--END--") d.0)
-        | inr d ↦ elim (chosen (bytes_eq (take 9 bytes) (codes "--ABORT--")) (some (abort, drop 9 bytes)) none (some x) d.1) [
-          | inl f ↦ found bytes (take 9 bytes) abort (drop 9 bytes) x f.1 (sym (take-append-drop 9 bytes))
-              (cut 9 bytes (codes "--ABORT--") f.0)
-          | inr f ↦ absurd (none_is_some x f.1)
+    mark 8 body (codes "--BODY--") _ e (λ e. e) (λ e. mark 7 end (codes "--END--") _ e (λ e. e)
+    (λ e. mark 9 abort (codes "--ABORT--") none e (λ e. e) (λ e. absurd (none_is_some x e))))
+  where
+    mark : (n : ℕ) (t : Lexeme) (word : List ℕ) (other : Option (Lexeme × List ℕ))
+        → cond (bytes_eq (take n bytes) word) (some (t, drop n bytes)) other ≡ some x
+        → (take n bytes ≡ word → IsSpelt t (take n bytes) (drop n bytes)) → (other ≡ some x → Written bytes x) → Written bytes x
+    mark n t word other e spelt otherwise =
+        elim (chosen (bytes_eq (take n bytes) word) (some (t, drop n bytes)) other (some x) e) [
+          | inl c ↦ found bytes (take n bytes) t (drop n bytes) x c.1 (sym (take-append-drop n bytes))
+              (spelt ((bytes_eq-Decides (take n bytes) word).0 c.0))
+          | inr c ↦ otherwise c.1
         ]
-      ]
-    ]
-
-body_again : (rest : List ℕ) → Reads (codes "--BODY--" ++ rest) body rest
-unfolding gap_step solid_at mark_at
-body_again rest = record { stands = refl; read = refl }
-
-end_again : (rest : List ℕ) → Reads (codes "--END--" ++ rest) end rest
-unfolding gap_step solid_at mark_at
-end_again rest = record { stands = refl; read = refl }
-
-abort_again : (rest : List ℕ) → Reads (codes "--ABORT--" ++ rest) abort rest
-unfolding gap_step solid_at mark_at
-abort_again rest = record { stands = refl; read = refl }
 
 -- ---- signs
 
 sign_takes : (b : ℕ) (bytes : List ℕ) (x : Lexeme × List ℕ) → sign_at b bytes ≡ Some x → Written (b ∷ bytes) x
 unfolding sign_at
 sign_takes b bytes x e =
-    elim (chosen (eqb b 91) (some (left_bracket, bytes)) _ (some x) e) [
-      | inl c ↦ sign_found 91 left_bracket c.0 c.1 (λ e. e)
-      | inr c ↦ elim (chosen (eqb b 93) (some (right_bracket, bytes)) _ (some x) c.1) [
-        | inl c ↦ sign_found 93 right_bracket c.0 c.1 (λ e. e)
-        | inr c ↦
-            elim (chosen (eqb b 123) (some (left_brace, bytes)) _ (some x) c.1) [
-              | inl c ↦ sign_found 123 left_brace c.0 c.1 (λ e. e)
-              | inr c ↦ elim (chosen (eqb b 125) (some (right_brace, bytes)) _ (some x) c.1) [
-                | inl c ↦ sign_found 125 right_brace c.0 c.1 (λ e. e)
-                | inr c ↦
-                    elim (chosen (eqb b 40) (some (left_paren, bytes)) _ (some x) c.1) [
-                      | inl c ↦ sign_found 40 left_paren c.0 c.1 (λ e. e)
-                      | inr c ↦ elim (chosen (eqb b 41) (some (right_paren, bytes)) _ (some x) c.1) [
-                        | inl c ↦ sign_found 41 right_paren c.0 c.1 (λ e. e)
-                        | inr c ↦
-                            elim (chosen (eqb b 33) (some (bang, bytes)) _ (some x) c.1) [
-                              | inl c ↦ sign_found 33 bang c.0 c.1 (λ e. e)
-                              | inr c ↦ elim (chosen (eqb b 38) (some (ampersand, bytes)) _ (some x) c.1) [
-                                | inl c ↦ sign_found 38 ampersand c.0 c.1 (λ e. e)
-                                | inr c ↦
-                                    elim (chosen (eqb b 124) (some (bar, bytes)) none (some x) c.1)
-                                    [ inl c ↦ sign_found 124 bar c.0 c.1 (λ e. e) | inr c ↦ absurd (none_is_some x c.1) ]
-                              ]
-                            ]
-                      ]
-                    ]
-              ]
-            ]
-      ]
-    ]
+    sign 91 left_bracket _ e (λ e. e) (λ e. sign 93 right_bracket _ e (λ e. e) (λ e. sign 123 left_brace _ e (λ e. e)
+    (λ e. sign 125 right_brace _ e (λ e. e) (λ e. sign 40 left_paren _ e (λ e. e) (λ e. sign 41 right_paren _ e (λ e. e)
+    (λ e. sign 33 bang _ e (λ e. e) (λ e. sign 38 ampersand _ e (λ e. e) (λ e. sign 124 bar none e (λ e. e)
+    (λ e. absurd (none_is_some x e))))))))))
   where
-    sign_found : (n : ℕ) (t : Lexeme) → eqb b n ≡ true → some (t, bytes) ≡ some x → (b ∷ [] ≡ n ∷ [] → IsSpelt t (b ∷ []) bytes)
-        → Written (b ∷ bytes) x
-    sign_found n t is e spelt = found (b ∷ bytes) (b ∷ []) t bytes x e refl (spelt (ap (λ (b : ℕ). b ∷ []) (eqb-true b n is)))
+    sign : (n : ℕ) (t : Lexeme) (other : Option (Lexeme × List ℕ)) → cond (eqb b n) (some (t, bytes)) other ≡ some x
+        → (b ∷ [] ≡ n ∷ [] → IsSpelt t (b ∷ []) bytes) → (other ≡ some x → Written (b ∷ bytes) x) → Written (b ∷ bytes) x
+    sign n t other e spelt otherwise =
+        elim (chosen (eqb b n) (some (t, bytes)) other (some x) e) [
+          | inl c ↦ found (b ∷ bytes) (b ∷ []) t bytes x c.1 refl (spelt (ap (λ (b : ℕ). b ∷ []) (eqb-true b n c.0)))
+          | inr c ↦ otherwise c.1
+        ]
 
 -- ---- any token
 
@@ -388,15 +352,15 @@ solid_takes (b ∷ bytes) x e =
     ]
 
 pub token_again : (t : Lexeme) (text rest : List ℕ) → IsSpelt t text rest → Reads (text ++ rest) t rest
-unfolding gap_step solid_at sign_at
+unfolding gap_step solid_at sign_at mark_at
 token_again (number n) text rest h = number_again n text rest h
 token_again (identifier w) text rest h = identifier_again w text rest h
 token_again (header w) text rest h = header_again w text rest h
 token_again (string s) text rest h = string_again s text rest h
 token_again (alias w) text rest h = alias_again w text rest h
-token_again body text rest h = rw h (body_again rest)
-token_again end text rest h = rw h (end_again rest)
-token_again abort text rest h = rw h (abort_again rest)
+token_again body text rest h = rw h (record { stands = refl; read = refl })
+token_again end text rest h = rw h (record { stands = refl; read = refl })
+token_again abort text rest h = rw h (record { stands = refl; read = refl })
 token_again left_bracket text rest h = rw h (record { stands = stands_from 91 rest refl refl; read = refl })
 token_again right_bracket text rest h = rw h (record { stands = stands_from 93 rest refl refl; read = refl })
 token_again left_brace text rest h = rw h (record { stands = stands_from 123 rest refl refl; read = refl })
@@ -424,16 +388,5 @@ spelt_some (identifier w) text rest h = name_bytes text h.0
 spelt_some (header w) text rest h = let name = name_bytes w h.0 in rw h.1 (omega (arith, length-append w (58 ∷ [])))
 spelt_some (string s) text rest h = rw h.1 (omega arith)
 spelt_some (alias w) text rest h = rw h.3 (omega arith)
-spelt_some body text rest h = rw h (omega arith)
-spelt_some end text rest h = rw h (omega arith)
-spelt_some abort text rest h = rw h (omega arith)
-spelt_some left_bracket text rest h = rw h (omega arith)
-spelt_some right_bracket text rest h = rw h (omega arith)
-spelt_some left_brace text rest h = rw h (omega arith)
-spelt_some right_brace text rest h = rw h (omega arith)
-spelt_some left_paren text rest h = rw h (omega arith)
-spelt_some right_paren text rest h = rw h (omega arith)
-spelt_some bang text rest h = rw h (omega arith)
-spelt_some ampersand text rest h = rw h (omega arith)
-spelt_some bar text rest h = rw h (omega arith)
 spelt_some stray text rest h = absurd h
+spelt_some _ text rest h = rw h (omega arith)

@@ -1,11 +1,11 @@
 //! The states and edges of a text.
 
-ghost use Rattle.std.specs.Prelude.{◌≡◌, ◌≤◌, ◌<◌, ◌&&◌, nat_lt, map, length, slice_index_or, IfOk, OnOk, false, if◌then◌else◌};
+ghost use Rattle.std.specs.Prelude.{◌≡◌, ◌≤◌, ◌<◌, ◌++◌, ◌∷◌, [], map, length, slice_index_or, IfOk, OnOk, false};
 ghost use Rattle.std.specs.List.Sorted.{IsStrictlyIncreasing};
 ghost use Rattle.pg_lists.specs.Rising.{put};
 ghost use Rattle.pg_syntax.specs.Mirrors.Steps.{Gives};
 ghost use Rattle.pg_syntax.specs.Mirrors.Scan.{lexeme, lex};
-ghost use Rattle.pg_syntax.specs.Mirrors.Kept.{edge_in, line_in, is_never, put_edge};
+ghost use Rattle.pg_syntax.specs.Mirrors.Kept.{edge_in, line_in, may_hold, kept_edges};
 ghost use Rattle.pg_syntax.specs.Mirrors.BodyScan.{due, state_of, new_state, set_in, rising_sets_at, sets_if, behind_label, target_at};
 ghost use Rattle.pg_syntax.specs.Mirrors.BodyScan.{edge_at, begins_edge, kept_edges_at, behind_name, line_at, begins_line, body_at};
 
@@ -15,17 +15,19 @@ use crate::token::{Token, next_token, unexpected};
 use std::alloc::{AllocError, Global};
 
 /// An edge as it is read: its label, where it leads, and the sets that stand behind it.
-#[derive(Clone, Drop, PartialEq, Eq, PartialOrd, Ord)]
+#[derive(Drop)]
 pub struct Edge {
     pub label: Vec<Op>,
     pub target: u32,
     pub sets: Vec<u32>,
 }
 
-/// A state as it is read: its number, its own sets, and the edges that leave it.
+/// A state as it is read: its number, the greatest of this and the states to which its edges lead, its own sets, and the edges
+/// that leave it and that a letter may have.
 #[derive(Drop)]
 pub struct ReadState {
     pub state: u32,
+    pub greatest: u32,
     pub sets: Vec<u32>,
     pub edges: Vec<Edge>,
 }
@@ -225,63 +227,49 @@ fn begins_edge(token: Token<'_>, left: usize) -> Result<bool, Refusal>
     }
 }
 
-/// Whether the label is the constant that no letter has.
-fn is_never(label: &[Op]) -> bool
-    ensures { result ≡ is_never label.now }
+/// Whether a letter may have the label: it isn't the constant that no letter has.
+fn may_hold(label: &[Op]) -> bool
+    ensures { result ≡ may_hold label.now }
 {
     match label {
-        [Op::No] => true,
-        _ => false,
+        [Op::No] => false,
+        _ => true,
     }
 }
 
-/// Whether no letter has one of these edges.
-fn are_never(a: &Edge, b: &Edge) -> bool
-    ensures { result ≡ (is_never a.now.label.items && is_never b.now.label.items) }
+/// Puts an edge behind the others, if a letter may have it.
+fn keep(edges: &mut Vec<Edge>, edge: Edge) -> Result<(), AllocError>
+    ensures { OnOk result (map edge_in edges.new.items ≡ map edge_in edges.old.items ++ kept_edges (edge_in edge ∷ [])) }
 {
-    is_never(&a.label) && is_never(&b.label)
-}
-
-/// Of two edges one with the greater target.
-fn with_greater_target(a: Edge, b: Edge) -> Edge
-    ensures { edge_in result ≡ (if nat_lt a.target b.target then edge_in b else edge_in a) }
-{
-    if a.target < b.target { b } else { a }
-}
-
-/// Puts an edge behind the others. Of edges in a row that no letter has one is kept, with the greatest target.
-fn put_edge(edges: &mut Vec<Edge>, edge: Edge) -> Result<(), AllocError>
-    ensures { OnOk result (map edge_in edges.new.items ≡ put_edge (map edge_in edges.old.items) (edge_in edge)) }
-{
-    let Some(last) = edges.pop() else {
+    if may_hold(&edge.label) {
         edges.push(edge)?;
-        return Ok(());
-    };
-    if are_never(&last, &edge) {
-        edges.push(with_greater_target(last, edge))?;
-        return Ok(());
     }
-    edges.push(last)?;
-    edges.push(edge)?;
     Ok(())
 }
 
-/// The edges of one state that are kept, and the bytes behind all.
-fn read_edges(alloc: Global, ranges: Ranges, bytes: &[u8]) -> Result<(Vec<Edge>, &[u8]), Refusal>
+/// The edges of one state that are kept, the greatest of the state and all to which they lead, and the bytes behind them.
+fn read_edges(
+    alloc: Global,
+    ranges: Ranges,
+    state: u32,
+    bytes: &[u8],
+) -> Result<(Vec<Edge>, u32, &[u8]), Refusal>
     requires { ranges.states ≤ 65535 }
-    ensures { Gives (λ x. (map edge_in x.0.items, lex x.1.now)) result
-        (kept_edges_at ranges.states ranges.propositions ranges.sets (lex bytes.now)) }
+    ensures { Gives (λ x. (map edge_in x.0.items, x.1, lex x.2.now)) result
+        (kept_edges_at state ranges.states ranges.propositions ranges.sets (lex bytes.now)) }
 {
     let mut edges = Vec::new(alloc);
+    let mut greatest = state;
     let mut rest = bytes;
     'edges: loop {
         let (token, left, after) = due_token(rest)?;
         let more = begins_edge(token, left)?;
         if !more {
-            return Ok((edges, rest));
+            return Ok((edges, greatest, rest));
         }
         let (edge, behind) = read_edge(alloc, ranges, after)?;
-        put_edge(&mut edges, edge)?;
+        greatest = greatest.max(edge.target);
+        keep(&mut edges, edge)?;
         rest = behind;
     }
 }
@@ -317,8 +305,14 @@ fn read_line<'a>(
     let state = new_state(ranges.states, seen, token, left)?;
     let rest = behind_name(rest)?;
     let (sets, rest) = sets_if(alloc, ranges.sets, rest)?;
-    let (edges, rest) = read_edges(alloc, ranges, rest)?;
-    Ok((ReadState { state, sets, edges }, rest))
+    let (edges, greatest, rest) = read_edges(alloc, ranges, state, rest)?;
+    let line = ReadState {
+        state,
+        greatest,
+        sets,
+        edges,
+    };
+    Ok((line, rest))
 }
 
 /// Whether a line begins. Else the body ends there.

@@ -20,7 +20,7 @@ pub enum Kind {
 }
 
 /// An operand, or an operator on what stands before it.
-#[derive(Clone, Copy, PartialEq, Eq, PartialOrd, Ord)]
+#[derive(Clone, Copy)]
 pub enum Op {
     Yes,
     No,

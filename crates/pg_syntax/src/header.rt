@@ -7,9 +7,9 @@ ghost use Rattle.pg_syntax.specs.Mirrors.Scan.{characters, lex, lexeme};
 ghost use Rattle.pg_syntax.specs.Syntax.{character_code};
 ghost use Rattle.pg_syntax.specs.Mirrors.Kept.{KeptHead, head_in};
 ghost use Rattle.pg_syntax.specs.Mirrors.HeaderScan.{numeral_of, numeral_at, alone_at, note, noted_at, is_value, skipped_from, code_at};
-ghost use Rattle.pg_syntax.specs.Mirrors.HeaderScan.{is_name_byte, is_name, name_of, quoted_of, quoted_at, names_from, states_at, start_at};
-ghost use Rattle.pg_syntax.specs.Mirrors.HeaderScan.{names_at, acceptance_at, controls_at, begins_low, other_at, header_at, is_header};
-ghost use Rattle.pg_syntax.specs.Mirrors.HeaderScan.{is_word, opening_at, version_at, headers_from, headers_at};
+ghost use Rattle.pg_syntax.specs.Mirrors.HeaderScan.{is_name_byte, is_name, quoted_of, quoted_at, names_from, states_at, start_at};
+ghost use Rattle.pg_syntax.specs.Mirrors.HeaderScan.{names_at, acceptance_at, controls_at, begins_low, other_at, header_at};
+ghost use Rattle.pg_syntax.specs.Mirrors.HeaderScan.{opening_at, version_at, headers_from, headers_at};
 
 use crate::fault::{LeftOutName, PartFault, Refusal};
 use crate::formula::{Kind, Op, read_formula};
@@ -56,34 +56,20 @@ fn is_value(found: Option<Token<'_>>) -> bool
     }
 }
 
-/// Whether this header's name was found.
-fn is_header(word: &[u8], found: Option<Token<'_>>) -> bool
-    ensures { result ≡ is_header word.now (option_map lexeme found.entry) }
-{
-    match found {
-        Some(Token::Header(name)) => name == word,
-        _ => false,
-    }
-}
-
-/// Whether this identifier was found.
-fn is_word(word: &[u8], found: Option<Token<'_>>) -> bool
-    ensures { result ≡ is_word word.now (option_map lexeme found.entry) }
-{
-    match found {
-        Some(Token::Identifier(name)) => name == word,
-        _ => false,
-    }
-}
-
-/// A number, how many bytes are left from it on, and the bytes behind it.
+/// A number up to a limit, how many bytes are left from it on, and the bytes behind it.
 #[tactic(auto, unfolding(crate::specs::Mirrors::HeaderScan::numeral_at))]
-fn read_number(bytes: &[u8]) -> Result<(u32, usize, &[u8]), Refusal>
-    ensures { Gives (λ x. (x.0, lex x.2.now)) result (numeral_at (lex bytes.now)) }
+fn read_number(limit: u32, bytes: &[u8]) -> Result<(u32, usize, &[u8]), Refusal>
+    ensures { Gives (λ x. (x.0, lex x.2.now)) result (numeral_at limit (lex bytes.now)) }
 {
     let (found, left, rest) = next_token(bytes)?;
     match number(found) {
-        Some(n) => Ok((n, left, rest)),
+        Some(n) => {
+            if n > limit {
+                Err(Refusal::Wrong(PartFault::TooLarge))
+            } else {
+                Ok((n, left, rest))
+            }
+        }
         None => Err(Refusal::Wrong(misplaced(found, left))),
     }
 }
@@ -205,20 +191,8 @@ fn is_name(name: &[u8]) -> bool
     !name.is_empty() && name.iter().all(|byte| is_name_byte(*byte))
 }
 
-/// The name of the proposition of this number, from a string's content.
-#[tactic(auto, unfolding(crate::specs::Mirrors::HeaderScan::name_of))]
-fn name(alloc: Global, proposition: u32, content: &[u8]) -> Result<Vec<u8>, Refusal>
-    ensures { Gives (λ v. v.items) result (name_of (map character_code (characters content.now))) }
-{
-    let name = unescaped(alloc, content)?;
-    if is_name(&name) {
-        Ok(name)
-    } else {
-        Err(Refusal::Wrong(PartFault::BadName(proposition)))
-    }
-}
-
 /// The name of the proposition of this number, where a string was found, `left` bytes before the end.
+#[tactic(auto, unfolding(crate::specs::Mirrors::HeaderScan::name_of))]
 fn name_in(
     alloc: Global,
     proposition: u32,
@@ -228,7 +202,14 @@ fn name_in(
     ensures { Gives (λ v. v.items) result (quoted_of (option_map lexeme found.entry)) }
 {
     match found {
-        Some(Token::String(content)) => name(alloc, proposition, content),
+        Some(Token::String(content)) => {
+            let name = unescaped(alloc, content)?;
+            if is_name(&name) {
+                Ok(name)
+            } else {
+                Err(Refusal::Wrong(PartFault::BadName(proposition)))
+            }
+        }
         _ => Err(Refusal::Wrong(misplaced(found, left))),
     }
 }
@@ -265,10 +246,7 @@ fn states<'a>(head: &mut Head, left: usize, bytes: &'a [u8]) -> Result<&'a [u8],
     if head.states.is_some() {
         return Err(Refusal::Wrong(PartFault::Syntax(left)));
     }
-    let (count, _, rest) = read_number(bytes)?;
-    if count > 65_535 {
-        return Err(Refusal::Wrong(PartFault::TooLarge));
-    }
+    let (count, _, rest) = read_number(65_535, bytes)?;
     head.states = Some(count);
     Ok(rest)
 }
@@ -281,10 +259,7 @@ fn start<'a>(head: &mut Head, left: usize, bytes: &'a [u8]) -> Result<&'a [u8], 
     if head.start.is_some() {
         return Err(Refusal::Wrong(PartFault::LeftOut(LeftOutName::SeveralStarts, left)));
     }
-    let (state, place, rest) = read_number(bytes)?;
-    if state > 65_534 {
-        return Err(Refusal::Wrong(PartFault::TooLarge));
-    }
+    let (state, place, rest) = read_number(65_534, bytes)?;
     let rest = alone(rest)?;
     head.start = Some((state, place));
     Ok(rest)
@@ -303,10 +278,7 @@ fn names<'a>(
     if head.names.is_some() {
         return Err(Refusal::Wrong(PartFault::Syntax(left)));
     }
-    let (count, _, rest) = read_number(bytes)?;
-    if count > 16 {
-        return Err(Refusal::Wrong(PartFault::TooLarge));
-    }
+    let (count, _, rest) = read_number(16, bytes)?;
     let (names, rest) = read_names(alloc, count, rest)?;
     head.names = Some(names);
     Ok(rest)
@@ -325,10 +297,7 @@ fn acceptance<'a>(
     if head.acceptance.is_some() {
         return Err(Refusal::Wrong(PartFault::Syntax(left)));
     }
-    let (sets, _, rest) = read_number(bytes)?;
-    if sets > 4_096 {
-        return Err(Refusal::Wrong(PartFault::TooLarge));
-    }
+    let (sets, _, rest) = read_number(4_096, bytes)?;
     let (ops, rest) = read_formula(alloc, Kind::Condition(sets), rest)?;
     head.acceptance = Some((sets, ops));
     Ok(rest)
@@ -409,10 +378,9 @@ fn opening(bytes: &[u8]) -> Result<&[u8], Refusal>
     ensures { Gives (λ x. lex x.now) result (opening_at (lex bytes.now)) }
 {
     let (found, left, rest) = next_token(bytes)?;
-    if is_header(b"HOA".as_slice(), found) {
-        Ok(rest)
-    } else {
-        Err(Refusal::Wrong(misplaced(found, left)))
+    match found {
+        Some(Token::Header(name)) if name == b"HOA".as_slice() => Ok(rest),
+        _ => Err(Refusal::Wrong(misplaced(found, left))),
     }
 }
 
@@ -422,10 +390,9 @@ fn version(bytes: &[u8]) -> Result<&[u8], Refusal>
     ensures { Gives (λ x. lex x.now) result (version_at (lex bytes.now)) }
 {
     let (found, left, rest) = next_token(bytes)?;
-    if is_word(b"v1".as_slice(), found) {
-        Ok(rest)
-    } else {
-        Err(Refusal::Wrong(misplaced(found, left)))
+    match found {
+        Some(Token::Identifier(word)) if word == b"v1".as_slice() => Ok(rest),
+        _ => Err(Refusal::Wrong(misplaced(found, left))),
     }
 }
 

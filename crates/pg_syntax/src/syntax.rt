@@ -1,10 +1,9 @@
 //! What a text says.
 
-ghost use Rattle.std.specs.Prelude.{◌≡◌, ◌≤◌, ◌<◌, ◌*◌, ◌^◌, length, map, max, IfOk, IfErr, MatchBool};
-ghost use Rattle.std.specs.List.{fold};
+ghost use Rattle.std.specs.Prelude.{◌≡◌, ◌≤◌, ◌<◌, ◌*◌, ◌^◌, length, map, IfOk, IfErr, MatchBool};
 ghost use Rattle.pg_syntax.specs.Mirrors.Steps.{Gives};
 ghost use Rattle.pg_syntax.specs.Mirrors.Scan.{lex};
-ghost use Rattle.pg_syntax.specs.Mirrors.Kept.{KeptHead, line_in, named_states, count_named};
+ghost use Rattle.pg_syntax.specs.Mirrors.Kept.{KeptHead, line_in, count_named};
 ghost use Rattle.pg_syntax.specs.Mirrors.Preambles.{preamble_in, nothing_at};
 ghost use Rattle.pg_syntax.specs.Mirrors.Readings.{bound, state_count, Reads, NeverReads, IsSyntaxOf, SaysNothing};
 
@@ -109,20 +108,9 @@ fn states_named(lines: &[ReadState], start: u32) -> u32
 {
     let mut greatest = start;
     for line in lines {
-        greatest = greatest_of(line, greatest);
+        greatest = greatest.max(line.greatest);
     }
     greatest.saturating_add(1)
-}
-
-/// The greatest of the number and the states that the line names.
-fn greatest_of(line: &ReadState, number: u32) -> u32
-    ensures { result ≡ fold max number (named_states (line_in line.now)) }
-{
-    let mut greatest = number.max(line.state);
-    for edge in &line.edges {
-        greatest = greatest.max(edge.target);
-    }
-    greatest
 }
 
 /// Whether a table of so many states, for the letters of so many propositions, is within the limit.

@@ -9,7 +9,7 @@ use Rattle.pg_syntax.specs.Mirrors.Scan.{first}
 use Rattle.pg_automaton.specs.Mirrors.Steps.{◌>>=◌}
 use Rattle.pg_syntax.specs.declared.formula.Kind.TheVariants.{Label}
 use Rattle.pg_syntax.specs.Mirrors.FormulaRun.{ops_at}
-use Rattle.pg_syntax.specs.Mirrors.Kept.{KeptEdge, KeptLine, put_edges}
+use Rattle.pg_syntax.specs.Mirrors.Kept.{KeptEdge, KeptLine, kept_edges, greatest_of}
 
 -- the token that has to stand first, and what follows
 unfoldable pub due : List Lexeme → Option (Lexeme × List Lexeme)
@@ -96,9 +96,10 @@ edges_within (suc n) states propositions sets tokens =
 unfoldable pub edges_at : ℕ → ℕ → ℕ → List Lexeme → Option (List KeptEdge × List Lexeme)
 edges_at states propositions sets tokens = edges_within (suc (length tokens)) states propositions sets tokens
 
--- those of them that are kept
-unfoldable pub kept_edges_at : ℕ → ℕ → ℕ → List Lexeme → Option (List KeptEdge × List Lexeme)
-kept_edges_at states propositions sets tokens = edges_at states propositions sets tokens >>= λ x. Some (put_edges [] x.0, x.1)
+-- those of them that are kept, and the greatest of the state and all to which they lead
+unfoldable pub kept_edges_at : ℕ → ℕ → ℕ → ℕ → List Lexeme → Option (List KeptEdge × ℕ × List Lexeme)
+kept_edges_at state states propositions sets tokens =
+    edges_at states propositions sets tokens >>= λ x. Some (kept_edges x.0, greatest_of state x.0, x.1)
 
 -- ---- lines
 
@@ -114,8 +115,8 @@ behind_name tokens = due tokens >>= name_first tokens
 unfoldable pub line_at : ℕ → ℕ → ℕ → (ℕ → Bool) → List Lexeme → Option (KeptLine × List Lexeme)
 line_at states propositions sets seen tokens =
     due tokens >>= λ t. new_state states seen t.0 >>= λ n. behind_name t.1 >>= λ rest. sets_if sets rest >>= λ x.
-    kept_edges_at states propositions sets x.1 >>= λ y.
-    Some (record { state = n; sets = x.0; edges = y.0 }, y.1)
+    kept_edges_at n states propositions sets x.1 >>= λ y.
+    Some (record { state = n; greatest = y.1; sets = x.0; edges = y.0 }, y.2)
 
 -- whether a line begins; else the body ends
 unfoldable pub begins_line : Lexeme → Option Bool

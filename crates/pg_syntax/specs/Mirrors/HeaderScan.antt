@@ -17,9 +17,9 @@ abbrev pub numeral_of : Option Lexeme → Option ℕ
 numeral_of (Some (number n)) = Some n
 numeral_of _ = None
 
--- a number at the front
-unfoldable pub numeral_at : List Lexeme → Option (ℕ × List Lexeme)
-numeral_at tokens = first tokens >>= λ x. numeral_of x.0 >>= λ n. Some (n, x.1)
+-- a number up to this limit at the front
+unfoldable pub numeral_at : ℕ → List Lexeme → Option (ℕ × List Lexeme)
+numeral_at limit tokens = first tokens >>= λ x. numeral_of x.0 >>= λ n. if nat_lt limit n then None else Some (n, x.1)
 
 abbrev pub behind_start : Option Lexeme → List Lexeme → Option (List Lexeme)
 behind_start (Some ampersand) tokens = None
@@ -102,26 +102,21 @@ abbrev pub once : {A B : Type 0} → Option A → Option B → Option B
 once None next = next
 once (Some x) next = None
 
--- a number that is at most this
-abbrev pub at_most : {B : Type 0} → ℕ → ℕ → Option B → Option B
-at_most bound n next = if nat_lt bound n then None else next
-
 unfoldable pub states_at : KeptHead → List Lexeme → Option (KeptHead × List Lexeme)
-states_at h tokens =
-    once h.states (numeral_at tokens >>= λ x. at_most 65535 x.0 (Some (record h { states = Some x.0 }, x.1)))
+states_at h tokens = once h.states (numeral_at 65535 tokens >>= λ x. Some (record h { states = Some x.0 }, x.1))
 
 unfoldable pub start_at : KeptHead → List Lexeme → Option (KeptHead × List Lexeme)
 start_at h tokens =
-    once h.start (numeral_at tokens >>= λ x. at_most 65534 x.0 (alone_at x.1 >>= λ rest. Some (record h { start = Some x.0 }, rest)))
+    once h.start (numeral_at 65534 tokens >>= λ x. alone_at x.1 >>= λ rest. Some (record h { start = Some x.0 }, rest))
 
 unfoldable pub names_at : KeptHead → List Lexeme → Option (KeptHead × List Lexeme)
 names_at h tokens =
-    once h.names (numeral_at tokens >>= λ x. at_most 16 x.0 (names_from x.0 [] x.1 >>= λ y. Some (record h { names = Some y.0 }, y.1)))
+    once h.names (numeral_at 16 tokens >>= λ x. names_from x.0 [] x.1 >>= λ y. Some (record h { names = Some y.0 }, y.1))
 
 unfoldable pub acceptance_at : KeptHead → List Lexeme → Option (KeptHead × List Lexeme)
 acceptance_at h tokens =
-    once h.acceptance (numeral_at tokens >>= λ x. at_most 4096 x.0
-    (ops_at (Condition x.0) x.1 >>= λ y. Some (record h { acceptance = Some (x.0, y.0) }, y.1)))
+    once h.acceptance (numeral_at 4096 tokens >>= λ x. ops_at (Condition x.0) x.1 >>= λ y.
+    Some (record h { acceptance = Some (x.0, y.0) }, y.1))
 
 unfoldable pub controls_at : KeptHead → List Lexeme → Option (KeptHead × List Lexeme)
 controls_at h tokens = once h.controls (noted_at tokens >>= λ x. Some (record h { controls = Some x.0 }, x.1))

@@ -1,6 +1,6 @@
 -- What the reader keeps of headers and of lines: labels and conditions as operations, and no names of states.
-use Rattle.std.specs.Prelude.{ℕ, suc, max, Bool, true, false, ◌&&◌, nat_lt, List, [], ◌∷◌, map, Option, Some, None, if◌then◌else◌}
-use Rattle.std.specs.List.{fold, flat_map}
+use Rattle.std.specs.Prelude.{ℕ, suc, max, Bool, true, false, List, [], ◌∷◌, map, Option, Some, None}
+use Rattle.std.specs.List.{fold, filter}
 use Rattle.pg_syntax.specs.declared.formula.Op.{Op}
 use Rattle.pg_syntax.specs.declared.formula.Op.TheVariants.{No}
 use Rattle.pg_syntax.specs.declared.body.Edge as read_edge
@@ -15,8 +15,10 @@ pub record KeptEdge : Type 0 where
   pub target : ℕ
   pub sets : List ℕ
 
+-- `greatest` is the greatest state that the line names
 pub record KeptLine : Type 0 where
   pub state : ℕ
+  pub greatest : ℕ
   pub sets : List ℕ
   pub edges : List KeptEdge
 
@@ -24,42 +26,35 @@ abbrev pub edge_in : read_edge.Edge → KeptEdge
 edge_in e = record { label = e.label.items; target = e.target; sets = e.sets.items }
 
 abbrev pub line_in : read_line.ReadState → KeptLine
-line_in l = record { state = l.state; sets = l.sets.items; edges = map edge_in l.edges.items }
+line_in l = record { state = l.state; greatest = l.greatest; sets = l.sets.items; edges = map edge_in l.edges.items }
 
--- the label is the constant that no letter has
-abbrev pub is_never : List Op → Bool
-is_never (No ∷ []) = true
-is_never ops = false
+-- a letter may have the label: it isn't the constant that no letter has
+abbrev pub may_hold : List Op → Bool
+may_hold (No ∷ []) = false
+may_hold ops = true
 
--- of two edges in a row that no letter has one is kept, with the greater target
-abbrev pub one_or_two : KeptEdge → KeptEdge → List KeptEdge
-one_or_two x e =
-    if is_never x.label && is_never e.label
-    then (if nat_lt x.target e.target then e ∷ [] else x ∷ [])
-    else x ∷ e ∷ []
+-- of the edges of a state those are kept whose labels a letter may have
+abbrev pub kept_edges : List KeptEdge → List KeptEdge
+kept_edges edges = filter (λ e. may_hold e.label) edges
 
-abbrev pub put_edge : List KeptEdge → KeptEdge → List KeptEdge
-put_edge [] e = e ∷ []
-put_edge (x ∷ []) e = one_or_two x e
-put_edge (x ∷ y ∷ edges) e = x ∷ put_edge (y ∷ edges) e
-
-abbrev pub put_edges : List KeptEdge → List KeptEdge → List KeptEdge
-put_edges kept [] = kept
-put_edges kept (e ∷ edges) = put_edges (put_edge kept e) edges
+-- the greatest of the state and those to which the edges lead
+abbrev pub greatest_of : ℕ → List KeptEdge → ℕ
+greatest_of state edges = fold max state (map (λ e. e.target) edges)
 
 -- what is kept of an edge and a line as they are written
 abbrev pub kept_of_edge : Edge → KeptEdge
 kept_of_edge e = record { label = postfix e.letter; target = e.target; sets = rising (set_list e.sets) }
 
 abbrev pub kept_of_line : StateLine → KeptLine
-kept_of_line l = record { state = l.state; sets = rising (set_list l.sets); edges = put_edges [] (map kept_of_edge l.edges) }
-
--- the states that a line names
-abbrev pub named_states : KeptLine → List ℕ
-named_states l = l.state ∷ map (λ e. e.target) l.edges
+kept_of_line l = record {
+  state = l.state;
+  greatest = greatest_of l.state (map kept_of_edge l.edges);
+  sets = rising (set_list l.sets);
+  edges = kept_edges (map kept_of_edge l.edges);
+}
 
 abbrev pub count_named : ℕ → List KeptLine → ℕ
-count_named start lines = suc (fold max 0 (start ∷ flat_map named_states lines))
+count_named start lines = suc (fold max 0 (start ∷ map (λ l. l.greatest) lines))
 
 -- what each header says that stands at most once
 pub record KeptHead : Type 0 where

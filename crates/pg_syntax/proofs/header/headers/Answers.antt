@@ -4,20 +4,17 @@ use Rattle.std.proofs.lemmas.Result.{err_from_is_err_and}
 use Rattle.std.specs.Prelude.{option_map}
 use Rattle.pg_syntax.specs.declared.token.Token.{Token}
 use Rattle.pg_syntax.specs.declared.token.Token.TheVariants as tokens
-use Rattle.pg_syntax.specs.Lexemes.{Lexeme, header, body}
+use Rattle.pg_syntax.specs.Lexemes.{Lexeme}
 use Rattle.pg_syntax.specs.Mirrors.Scan.{lex, lexeme, first}
 use Rattle.pg_syntax.specs.Mirrors.Kept.{head_in}
 use Rattle.pg_syntax.proofs.HeaderSteps.{IsElse, headers_fail, headers_end, headers_more, header_fails, fewer, headers_refused}
 use Rattle.pg_syntax.proofs.header.headers.Goals as goal
 
 -- the token that was found
-found_token : (found : Option Token) (token : Token) (ts after : List Lexeme) → first ts ≡ Some (option_map lexeme found, after)
-    → found ≡ Some token → first ts ≡ Some (Some (lexeme token), after)
-found_token found token ts after e is = e ∙ ap (λ (o : Option Token). Some (option_map lexeme o, after)) is
-
-token_is : (token : Token) (t : Lexeme) (ts after : List Lexeme) → first ts ≡ Some (Some (lexeme token), after) → lexeme token ≡ t
-    → first ts ≡ Some (Some t, after)
-token_is token t ts after e is = e ∙ ap (λ (u : Lexeme). Some (Some u, after)) is
+found_token : (found : Option Token) (token same : Token) (ts after : List Lexeme) → first ts ≡ Some (option_map lexeme found, after)
+    → found ≡ Some token → token ≡ same → first ts ≡ Some (Some (lexeme same), after)
+found_token found token same ts after e is t = e ∙ ap (λ (o : Option Token). Some (option_map lexeme o, after))
+    (is ∙ ap (λ (u : Token). Some u) t)
 
 is_else : (token : Token) → ((name : Bor (List ℕ)) → token ≡ tokens.Header name → ⊥) → (token ≡ tokens.Body → ⊥)
     → IsElse (Some (lexeme token))
@@ -35,51 +32,36 @@ returns-in_err-found c = grind (
 
 pub returns-in-Body : goal.returns-in-Body
 returns-in-Body c =
-    let t =
-    found_token c.in_ok-found.found c.in-Some.token (lex c.headers.rest.now) (lex c.in_ok-found.after.now) c.in_ok-found.ensures
-    c.in-Some.is in
-    let b = token_is c.in-Some.token body (lex c.headers.rest.now) (lex c.in_ok-found.after.now) t (ap lexeme c.in-Body.is) in
+    let b = found_token c.in_ok-found.found c.in-Some.token tokens.Body (lex c.headers.rest.now) (lex c.in_ok-found.after.now)
+    c.in_ok-found.ensures c.in-Some.is c.in-Body.is in
     sym c.headers.invariant ∙ headers_end (head_in c.headers.head) (lex c.headers.rest.now) (lex c.in_ok-found.after.now) b
 
 pub returns-in_err-rest-in-Header : goal.returns-in_err-rest-in-Header
 returns-in_err-rest-in-Header c =
     let p = err_from_is_err_and c.from_residual-in_err-rest-in-Header.result c.from_residual-in_err-rest-in-Header.ensures.1 in
-    let t =
-    found_token c.in_ok-found.found c.in-Some.token (lex c.headers.rest.now) (lex c.in_ok-found.after.now) c.in_ok-found.ensures
-    c.in-Some.is in
-    let b =
-    token_is c.in-Some.token (header c.in-Header.name.now) (lex c.headers.rest.now) (lex c.in_ok-found.after.now) t
-    (ap lexeme c.in-Header.is) in
+    let b = found_token c.in_ok-found.found c.in-Some.token (tokens.Header c.in-Header.name) (lex c.headers.rest.now)
+    (lex c.in_ok-found.after.now) c.in_ok-found.ensures c.in-Some.is c.in-Header.is in
     rw (p.1, p.2, ← c.headers.invariant) (header_fails c.in_err-rest-in-Header.field-0.0 (head_in c.headers.head) c.in-Header.name.now
     (lex c.headers.rest.now) (lex c.in_ok-found.after.now) b c.in_err-rest-in-Header.ensures)
 
 pub headers-smaller : goal.headers-smaller
 headers-smaller c =
-    let t =
-    found_token c.in_ok-found.found c.in-Some.token (lex c.headers.rest.now) (lex c.in_ok-found.after.now) c.in_ok-found.ensures
-    c.in-Some.is in
-    let b =
-    token_is c.in-Some.token (header c.in-Header.name.now) (lex c.headers.rest.now) (lex c.in_ok-found.after.now) t
-    (ap lexeme c.in-Header.is) in
+    let b = found_token c.in_ok-found.found c.in-Some.token (tokens.Header c.in-Header.name) (lex c.headers.rest.now)
+    (lex c.in_ok-found.after.now) c.in_ok-found.ensures c.in-Some.is c.in-Header.is in
     fewer (head_in c.headers.head) c.in-Header.name.now (lex c.headers.rest.now) (lex c.in_ok-found.after.now)
     (head_in c.header.new.head, lex c.in_ok-rest-in-Header.rest.now) b c.in_ok-rest-in-Header.ensures
 
 pub headers-preserved : goal.headers-preserved
 headers-preserved c =
-    let t =
-    found_token c.in_ok-found.found c.in-Some.token (lex c.headers.rest.now) (lex c.in_ok-found.after.now) c.in_ok-found.ensures
-    c.in-Some.is in
-    let b =
-    token_is c.in-Some.token (header c.in-Header.name.now) (lex c.headers.rest.now) (lex c.in_ok-found.after.now) t
-    (ap lexeme c.in-Header.is) in
+    let b = found_token c.in_ok-found.found c.in-Some.token (tokens.Header c.in-Header.name) (lex c.headers.rest.now)
+    (lex c.in_ok-found.after.now) c.in_ok-found.ensures c.in-Some.is c.in-Header.is in
     sym (headers_more (head_in c.headers.head) c.in-Header.name.now (lex c.headers.rest.now) (lex c.in_ok-found.after.now)
     (head_in c.header.new.head, lex c.in_ok-rest-in-Header.rest.now) b c.in_ok-rest-in-Header.ensures) ∙ c.headers.invariant
 
 pub returns-in_default : goal.returns-in_default
 returns-in_default c =
-    let t =
-    found_token c.in_ok-found.found c.in-Some.token (lex c.headers.rest.now) (lex c.in_ok-found.after.now) c.in_ok-found.ensures
-    c.in-Some.is in
+    let t = found_token c.in_ok-found.found c.in-Some.token c.in-Some.token (lex c.headers.rest.now) (lex c.in_ok-found.after.now)
+    c.in_ok-found.ensures c.in-Some.is refl in
     sym c.headers.invariant ∙ headers_refused (head_in c.headers.head) (lex c.headers.rest.now) (lex c.in_ok-found.after.now)
     (Some (lexeme c.in-Some.token)) t (is_else c.in-Some.token c.in_default.not-Header c.in_default.not-Body)
 

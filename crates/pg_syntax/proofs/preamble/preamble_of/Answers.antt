@@ -1,27 +1,38 @@
-use Rattle.std.proofs.Common.{◌≡◌, ◌∙◌, ◌<◌, ℕ, length, map, List, Some, refl, sym, ap, subst}
+use Rattle.std.proofs.Common.{◌≡◌, ◌∙◌, ◌<◌, ℕ, length, map, List, [], Some, refl, sym, ap, subst}
+use Rattle.std.specs.Prelude.{unwrap_or, vec_len}
 use Rattle.std.specs.List.{All}
+use Rattle.std.specs.declared.vec.Vec.{Vec}
+use Rattle.std.specs.declared.alloc.Global.{Global}
 use Rattle.std.proofs.lemmas.List.{length-map}
 use Rattle.pg_syntax.specs.declared.formula.Op.{Op}
+use Rattle.pg_syntax.specs.declared.header.Head.{Head}
 use Rattle.pg_syntax.specs.Mirrors.Kept.{head_in, option_with}
 use Rattle.pg_syntax.specs.Mirrors.Preambles.{HasCondition, listed}
-use Rattle.pg_syntax.proofs.PreambleLaws.{opened, below_numbers, numbers_below, no_shape}
+use Rattle.pg_syntax.proofs.PreambleLaws.{opened, numbers, below_numbers, numbers_below, no_shape}
 use Rattle.pg_syntax.proofs.preamble.preamble_of.Goals as goal
+
+-- the names and the numbers that the head has, or none
+names_are : (head : Head) (vs new : Vec (Vec ℕ Global) Global) → vs ≡ unwrap_or head.names new → new.items ≡ []
+    → map (λ name. name.items) vs.items ≡ listed (head_in head).names
+names_are head vs new e empty = opened (λ v. map (λ name. name.items) v.items) head.names vs new e (ap (map (λ name. name.items)) empty)
+
+controls_are : (head : Head) (xs new : Vec (ℕ × ℕ) Global) → xs ≡ unwrap_or head.controls new → new.items ≡ []
+    → numbers xs.items ≡ listed (head_in head).controls
+controls_are head xs new e empty = opened (λ v. numbers v.items) head.controls xs new e (ap numbers empty)
+
+counted : (vs : Vec (Vec ℕ Global) Global) (names : List (List ℕ)) (count : ℕ) → count ≡ vec_len vs → map (λ name. name.items) vs.items ≡ names
+    → length names ≡ count
+counted vs names count e same = sym (ap length same) ∙ length-map vs.items (λ name. name.items) ∙ sym vs.ok.0 ∙ sym e
 
 pub returns-in-Some-first_above-clause-refused : goal.returns-in-Some-first_above-clause-refused
 returns-in-Some-first_above-clause-refused c = λ s i.
     let h = head_in c.args.head in
     let xs = c.unwrap_or-controls.result.items in
     let vs = c.unwrap_or-names.result in
-    let names : map (λ name. name.items) vs.items ≡ listed h.names =
-    opened (λ v. map (λ name. name.items) v.items) c.args.head.names vs c.new.result c.unwrap_or-names.ensures
-    (ap (map (λ name. name.items)) c.new.ensures.items) in
-    let controls : map {A = ℕ × ℕ} {B = ℕ} (λ x. x.0) xs ≡ listed h.controls =
-    opened (λ v. map {A = ℕ × ℕ} {B = ℕ}
-    (λ x. x.0) v.items) c.args.head.controls c.unwrap_or-controls.result c.new-2.result c.unwrap_or-controls.ensures
-    (ap (map {A = ℕ × ℕ} {B = ℕ} (λ x. x.0)) c.new-2.ensures.items) in
-    let few : length (listed h.names) ≡ c.len-count.result = sym (ap length names) ∙ (length-map vs.items (λ name. name.items))
-    ∙ sym vs.ok.0 ∙ sym c.len-count.ensures in
-    let below : All (λ (n : ℕ). n < c.len-count.result) (map {A = ℕ × ℕ} {B = ℕ} (λ x. x.0) xs) = rw (controls, ← few) i.controls_below in
+    let names = names_are c.args.head vs c.new.result c.unwrap_or-names.ensures c.new.ensures.items in
+    let controls = controls_are c.args.head c.unwrap_or-controls.result c.new-2.result c.unwrap_or-controls.ensures c.new-2.ensures.items in
+    let few = counted vs (listed h.names) c.len-count.result c.len-count.ensures names in
+    let below : All (λ (n : ℕ). n < c.len-count.result) (numbers xs) = rw (controls, ← few) i.controls_below in
     c.in-Some-first_above.ensures (rw c.deref.ensures.value (numbers_below xs c.len-count.result below))
 
 pub returns-in_default-shape_of-clause-refused : goal.returns-in_default-shape_of-clause-refused
@@ -34,15 +45,9 @@ returns-clause-found c =
     let h = head_in c.args.head in
     let xs = c.unwrap_or-controls.result.items in
     let vs = c.unwrap_or-names.result in
-    let names : map (λ name. name.items) vs.items ≡ listed h.names =
-    opened (λ v. map (λ name. name.items) v.items) c.args.head.names vs c.new.result c.unwrap_or-names.ensures
-    (ap (map (λ name. name.items)) c.new.ensures.items) in
-    let controls : map {A = ℕ × ℕ} {B = ℕ} (λ x. x.0) xs ≡ listed h.controls =
-    opened (λ v. map {A = ℕ × ℕ} {B = ℕ}
-    (λ x. x.0) v.items) c.args.head.controls c.unwrap_or-controls.result c.new-2.result c.unwrap_or-controls.ensures
-    (ap (map {A = ℕ × ℕ} {B = ℕ} (λ x. x.0)) c.new-2.ensures.items) in
-    let few : length (listed h.names) ≡ c.len-count.result = sym (ap length names) ∙ (length-map vs.items (λ name. name.items))
-    ∙ sym vs.ok.0 ∙ sym c.len-count.ensures in
+    let names = names_are c.args.head vs c.new.result c.unwrap_or-names.ensures c.new.ensures.items in
+    let controls = controls_are c.args.head c.unwrap_or-controls.result c.new-2.result c.unwrap_or-controls.ensures c.new-2.ensures.items in
+    let few = counted vs (listed h.names) c.len-count.result c.len-count.ensures names in
     let all : All (λ (x : ℕ × ℕ). x.0 < c.len-count.result) xs = rw (← c.deref.ensures.value) c.in_default-first_above.ensures in
     let accepted : h.acceptance ≡ Some (c.in-Some.sets, c.in-Some.condition.items) =
     ap (option_with (λ x. (x.0, x.1.items))) c.in-Some.is in

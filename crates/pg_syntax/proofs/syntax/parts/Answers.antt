@@ -1,7 +1,9 @@
-use Rattle.std.proofs.Common.{◌≡◌, ◌∙◌, sym, subst, ℕ, List, map, length, arith}
+use Rattle.std.proofs.Common.{◌≡◌, ◌∙◌, sym, subst, List, map, length, arith}
 use Rattle.std.proofs.lemmas.Bool.Decides.{nat_tests}
 use Rattle.std.proofs.lemmas.List.{length-map}
 use Rattle.std.proofs.lemmas.Result.{err_from_is_err_and}
+use Rattle.pg_syntax.specs.declared.body.Ranges.{Ranges}
+use Rattle.pg_syntax.specs.declared.preamble.Preamble as rust
 use Rattle.pg_syntax.specs.Lexemes.{Lexeme}
 use Rattle.pg_syntax.specs.Mirrors.Scan.{lex}
 use Rattle.pg_syntax.specs.Mirrors.Kept.{head_in, line_in}
@@ -45,21 +47,18 @@ returns-in_err-preamble-clause-refused c =
     (head_in c.in_ok-head.head) c.in_ok-head.ensures c.in_err-preamble.ensures.refused)
 
 -- the body is read in the ranges that the headers say
-ranged : (r_states r_propositions r_sets states propositions sets count : ℕ) (behind : List Lexeme) → r_states ≡ states
-    → r_propositions ≡ count → r_sets ≡ sets → propositions ≡ count
-    → body_at states propositions sets behind ≡ body_at r_states r_propositions r_sets behind
-ranged rs rp rn s p n count behind a b d e = cc
+ranged : (s : rust.Preamble) (r : Ranges) (behind : List Lexeme) → r.states ≡ bound s.states → r.propositions ≡ length s.names.items
+    → r.sets ≡ s.sets → body_at (bound (preamble_in s).states) (length (preamble_in s).names) (preamble_in s).sets behind
+    ≡ body_at r.states r.propositions r.sets behind
+ranged s r behind a b d = let count = length-map s.names.items (λ name. name.items) in cc
 
 pub returns-in_err-lines-clause-refused : goal.returns-in_err-lines-clause-refused
 returns-in_err-lines-clause-refused c =
     let p = err_from_is_err_and c.from_residual-in_err-lines.result c.from_residual-in_err-lines.ensures.1 in
     let s = c.in_ok-preamble.preamble in
-    let r = c.ranges-2.result in
     let tokens = lex c.args.bytes.now in
     let behind = lex c.in_ok-head.rest.now in
-    let same = ranged r.states r.propositions r.sets (bound (preamble_in s).states) (length (preamble_in s).names) (preamble_in s).sets
-    (length s.names.items) behind c.ranges-2.ensures.states c.ranges-2.ensures.propositions c.ranges-2.ensures.sets
-    (length-map s.names.items (λ name. name.items)) in
+    let same = ranged s c.ranges-2.result behind c.ranges-2.ensures.states c.ranges-2.ensures.propositions c.ranges-2.ensures.sets in
     rw (p.1, p.2) (body_never c.in_err-lines.field-0.0 tokens behind (head_in c.in_ok-head.head)
     (preamble_in s) c.in_ok-head.ensures c.in_ok-preamble.ensures.found
     (subst (Fails c.in_err-lines.field-0.0) (sym same) c.in_err-lines.ensures))
@@ -68,12 +67,9 @@ pub returns-in_err-end-clause-refused : goal.returns-in_err-end-clause-refused
 returns-in_err-end-clause-refused c =
     let p = err_from_is_err_and c.from_residual-in_err-end.result c.from_residual-in_err-end.ensures.1 in
     let s = c.in_ok-preamble.preamble in
-    let r = c.ranges-2.result in
     let tokens = lex c.args.bytes.now in
     let behind = lex c.in_ok-head.rest.now in
-    let same = ranged r.states r.propositions r.sets (bound (preamble_in s).states) (length (preamble_in s).names) (preamble_in s).sets
-    (length s.names.items) behind c.ranges-2.ensures.states c.ranges-2.ensures.propositions c.ranges-2.ensures.sets
-    (length-map s.names.items (λ name. name.items)) in
+    let same = ranged s c.ranges-2.result behind c.ranges-2.ensures.states c.ranges-2.ensures.propositions c.ranges-2.ensures.sets in
     rw (p.1, p.2) (end_never c.in_err-end.field-0.0 tokens behind (lex c.in_ok-lines.rest.now) (head_in c.in_ok-head.head) (preamble_in s)
     (map line_in c.in_ok-lines.lines.items) c.in_ok-head.ensures c.in_ok-preamble.ensures.found
     (same ∙ c.in_ok-lines.ensures) c.in_err-end.ensures)
@@ -81,12 +77,9 @@ returns-in_err-end-clause-refused c =
 pub returns-clause-found : goal.returns-clause-found
 returns-clause-found c =
     let s = c.in_ok-preamble.preamble in
-    let r = c.ranges-2.result in
     let tokens = lex c.args.bytes.now in
     let behind = lex c.in_ok-head.rest.now in
-    let same = ranged r.states r.propositions r.sets (bound (preamble_in s).states) (length (preamble_in s).names) (preamble_in s).sets
-    (length s.names.items) behind c.ranges-2.ensures.states c.ranges-2.ensures.propositions c.ranges-2.ensures.sets
-    (length-map s.names.items (λ name. name.items)) in (
+    let same = ranged s c.ranges-2.result behind c.ranges-2.ensures.states c.ranges-2.ensures.propositions c.ranges-2.ensures.sets in (
       head_in c.in_ok-head.head,
       all_read tokens behind (lex c.in_ok-lines.rest.now) (head_in c.in_ok-head.head) (preamble_in s)
           (map line_in c.in_ok-lines.lines.items) c.in_ok-head.ensures c.in_ok-preamble.ensures.found
