@@ -8,13 +8,19 @@ use std::alloc::Global;
 use std::test::Fail;
 
 /// Three lines whose identifiers don't rise; one repeats a successor.
+static LINES: [(u32, u32, Player, &[u32], Option<&[u8]>); 3] = [
+    (4_294_967_295, 0, Player::Even, &[2], Some(b"last")),
+    (7, 3, Player::Odd, &[7, 4_294_967_295, 2, 7], None),
+    (2, 65_535, Player::Even, &[7], Some(b"")),
+];
+
 fn sparse(alloc: Global) -> Result<Game, ArenaFault>
     ensures { IfOk result (HasPrioritiesUpTo 65535) }
 {
     let mut builder = GameBuilder::new(alloc);
-    builder.add(4_294_967_295, 0, Player::Even, &[2], Some(b"last"))?;
-    builder.add(7, 3, Player::Odd, &[7, 4_294_967_295, 2, 7], None)?;
-    builder.add(2, 65_535, Player::Even, &[7], Some(b""))?;
+    for (identifier, priority, owner, successors, name) in &LINES {
+        builder.add(*identifier, *priority, *owner, *successors, *name)?;
+    }
     builder.finish()
 }
 
