@@ -4,9 +4,9 @@ ghost use Rattle.std.specs.Prelude.{OnOk};
 ghost use Rattle.pg_links.specs.Sockets.{IsFramedByLength};
 
 use crate::deadline::DeadlineStream;
-use crate::framing::read_framed;
+use pg_wire::{WireFault, read_frame_bytes};
 use std::alloc::Global;
-use std::io::{self, BufReader, Read, Write};
+use std::io::{self, BufReader, ErrorKind, Read, Write};
 use std::net::OpenStream;
 use std::time::{Clock, Instant};
 
@@ -93,8 +93,13 @@ impl<C: Clock + Drop, S: Read + Write + OpenStream + Drop> Connection<C, S> {
             self.stream.get_mut().start(seconds)?;
             self.is_listening = true;
         }
-        read_framed(&mut self.stream, frame)?;
+        let read = read_frame_bytes(&mut self.stream, frame);
         self.has_replied = true;
-        Ok(())
+        match read {
+            Ok(true) => Ok(()),
+            Err(WireFault::TooLong) => Ok(()),
+            Err(WireFault::OutOfMemory) => Err(io::Error::from(ErrorKind::OutOfMemory)),
+            _ => Err(io::Error::from(ErrorKind::UnexpectedEof)),
+        }
     }
 }

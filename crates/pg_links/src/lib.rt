@@ -3,7 +3,6 @@
 
 mod connection;
 mod deadline;
-mod framing;
 mod owner;
 mod socket;
 pub mod stand_ins;

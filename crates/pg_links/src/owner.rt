@@ -102,21 +102,20 @@ fn holds<R: Files>(rt: &R, alloc: Global, program: u32, socket: &str) -> io::Res
     Ok(Some(false))
 }
 
-/// Appends the programs that a program started and that haven't ended.
-fn push_children<R: Files>(
-    rt: &R,
-    alloc: Global,
-    program: u32,
-    programs: &mut Vec<u32>,
-) -> io::Result<()> {
+/// What the system says of the programs that a program started and that haven't ended: their numbers, or nothing.
+fn children_of<R: Files>(rt: &R, alloc: Global, program: u32) -> io::Result<String> {
     let path = format!(in alloc; "/proc/{program}/task/{program}/children")?;
-    let Ok(file) = fs::open(rt, path.as_str()) else {
-        return Ok(());
-    };
-    let text = io::read_to_string(alloc, file)?;
-    for word in text.as_str().split_ascii_whitespace() {
-        if let Ok(child) = word.parse::<u32>() {
-            programs.push(child)?;
+    match fs::open(rt, path.as_str()) {
+        Ok(file) => io::read_to_string(alloc, file),
+        Err(_) => Ok(String::new(alloc)),
+    }
+}
+
+/// Appends the numbers among the words.
+fn push_numbers(words: &str, numbers: &mut Vec<u32>) -> Result<(), AllocError> {
+    for word in words.split_ascii_whitespace() {
+        if let Ok(number) = word.parse::<u32>() {
+            numbers.push(number)?;
         }
     }
     Ok(())
@@ -135,7 +134,8 @@ fn may_be_held<R: Files>(rt: &R, alloc: Global, program: u32, socket: &str) -> i
             Some(false) => {}
             None => is_unknown = true,
         }
-        push_children(rt, alloc, next, &mut programs)?;
+        let children = children_of(rt, alloc, next)?;
+        push_numbers(children.as_str(), &mut programs)?;
     }
     Ok(is_unknown)
 }

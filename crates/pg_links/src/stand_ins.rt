@@ -1,7 +1,7 @@
 //! Links that fail, and links that give fixed replies: what a coordinator has to bear. Promised is of `Told` what it tells, and of
 //! `Broken` that each call fails; of the others nothing.
 
-ghost use Rattle.std.specs.Prelude.{⊤, ◌≡◌, ◌++◌, Some, None, Err, map, drop, replicate};
+ghost use Rattle.std.specs.Prelude.{⊤, ◌≡◌, ◌≢◌, ◌++◌, Some, None, Err, map, drop, replicate};
 ghost use Rattle.pg_parts.specs.Links.{CountsFailure};
 
 use pg_parts::{Link, LinkFault};
@@ -10,6 +10,17 @@ use std::alloc::Global;
 
 /// The bytes of the report that refuses a set-up of version 2.
 const REFUSAL: [u8; 7] = [0, 0, 0, 3, 5, 2, 18];
+
+/// The answer of a call, which is counted where it is Failed.
+fn counted(answer: Result<(), LinkFault>, failures: &mut u64) -> Result<(), LinkFault>
+    ensures answer { result ≡ answer }
+    ensures counted { CountsFailure failures.old failures.new result }
+{
+    if let Err(LinkFault::Failed) = answer {
+        *failures = failures.saturating_add(1);
+    }
+    answer
+}
 
 /// Whether the bytes are a set-up of version 2.
 fn is_second_setup(frame: &Frame) -> bool {
@@ -89,10 +100,7 @@ impl Link for Told {
                 self.next += 1;
                 Ok(())
             }
-            None => {
-                self.failures = self.failures.saturating_add(1);
-                Err(LinkFault::Failed)
-            }
+            None => counted(Err(LinkFault::Failed), &mut self.failures),
         }
     }
 
@@ -118,9 +126,7 @@ impl Broken {
         ensures failed { result ≡ Err LinkFault.Failed }
         ensures counted { CountsFailure self.old.failures self.new.failures result }
     {
-        let failures = self.failures.saturating_add(1);
-        self.failures = failures;
-        Err(LinkFault::Failed)
+        counted(Err(LinkFault::Failed), &mut self.failures)
     }
 }
 
@@ -184,35 +190,11 @@ impl Fixed {
         }
     }
 
-    /// The next frame of the answer, if one is left.
-    fn next_frame(&mut self) -> Option<usize>
-        ensures { self.new.failures ≡ self.old.failures }
+    /// Takes a frame: after a Go the answer is to be handed over, and after a set-up of version 2 the refusal.
+    fn take(&mut self, frame: &[u8]) -> Result<(), LinkFault>
+        ensures kept { self.new.failures ≡ self.old.failures }
+        ensures not_failed { result ≢ Err LinkFault.Failed }
     {
-        if self.next >= self.frames.len() {
-            self.left = self.left.saturating_sub(1);
-            self.next = 0;
-        }
-        if self.left == 0 {
-            return None;
-        }
-        let at = self.next;
-        self.next = at.saturating_add(1);
-        Some(at)
-    }
-}
-
-impl Link for Fixed {
-    ghost failures = { λ s. s.failures };
-
-    ghost is_honest = { λ _. ⊥ };
-
-    ghost is_under = { λ _ _. ⊥ };
-
-    ghost is_anew = { λ _. ⊤ };
-
-    ghost told = { λ _. None };
-
-    fn send(&mut self, frame: &[u8]) -> Result<(), LinkFault> {
         match decode(self.alloc, frame) {
             Ok(Frame::Go(_)) => {
                 self.left = self.times;
@@ -228,8 +210,26 @@ impl Link for Fixed {
         }
     }
 
-    fn receive(&mut self, frame: &mut Vec<u8>) -> Result<(), LinkFault> {
-        frame.clear();
+    /// The next frame of the answer, if one is left.
+    fn next_frame(&mut self) -> Option<usize>
+        ensures { self.new.failures ≡ self.old.failures }
+    {
+        if self.next >= self.frames.len() {
+            self.left = self.left.saturating_sub(1);
+            self.next = 0;
+        }
+        if self.left == 0 {
+            return None;
+        }
+        let at = self.next;
+        self.next = at.saturating_add(1);
+        Some(at)
+    }
+
+    /// Appends the refusal, if a set-up is to be refused, or else the next frame of the answer.
+    fn hand_over(&mut self, frame: &mut Vec<u8>) -> Result<(), LinkFault>
+        ensures { self.new.failures ≡ self.old.failures }
+    {
         if self.refusing {
             self.refusing = false;
             return Ok(frame.extend_from_slice(&REFUSAL)?);
@@ -237,11 +237,30 @@ impl Link for Fixed {
         let next = self.next_frame();
         match next.and_then(|at| self.frames.get(at)) {
             Some(next) => Ok(frame.extend_from_slice(next.as_slice())?),
-            None => {
-                self.failures = self.failures.saturating_add(1);
-                Err(LinkFault::Failed)
-            }
+            None => Err(LinkFault::Failed),
         }
+    }
+}
+
+impl Link for Fixed {
+    ghost failures = { λ s. s.failures };
+
+    ghost is_honest = { λ _. ⊥ };
+
+    ghost is_under = { λ _ _. ⊥ };
+
+    ghost is_anew = { λ _. ⊤ };
+
+    ghost told = { λ _. None };
+
+    fn send(&mut self, frame: &[u8]) -> Result<(), LinkFault> {
+        self.take(frame)
+    }
+
+    fn receive(&mut self, frame: &mut Vec<u8>) -> Result<(), LinkFault> {
+        frame.clear();
+        let answer = self.hand_over(frame);
+        counted(answer, &mut self.failures)
     }
 
     fn restart(&mut self) -> Result<(), LinkFault> {
@@ -305,43 +324,25 @@ impl<L: Link + Drop> Link for FailsOnce<L> {
     ghost told = { λ _. None };
 
     fn send(&mut self, frame: &[u8]) -> Result<(), LinkFault> {
-        if self.fails() {
-            self.failures = self.failures.saturating_add(1);
-            return Err(LinkFault::Failed);
-        }
-        match self.link.send(frame) {
-            Ok(()) => Ok(()),
-            Err(LinkFault::OutOfMemory) => Err(LinkFault::OutOfMemory),
-            Err(LinkFault::Failed) => {
-                self.failures = self.failures.saturating_add(1);
-                Err(LinkFault::Failed)
-            }
-        }
+        let answer = if self.fails() {
+            Err(LinkFault::Failed)
+        } else {
+            self.link.send(frame)
+        };
+        counted(answer, &mut self.failures)
     }
 
     fn receive(&mut self, frame: &mut Vec<u8>) -> Result<(), LinkFault> {
-        if self.fails() {
-            self.failures = self.failures.saturating_add(1);
-            return Err(LinkFault::Failed);
-        }
-        match self.link.receive(frame) {
-            Ok(()) => Ok(()),
-            Err(LinkFault::OutOfMemory) => Err(LinkFault::OutOfMemory),
-            Err(LinkFault::Failed) => {
-                self.failures = self.failures.saturating_add(1);
-                Err(LinkFault::Failed)
-            }
-        }
+        let answer = if self.fails() {
+            Err(LinkFault::Failed)
+        } else {
+            self.link.receive(frame)
+        };
+        counted(answer, &mut self.failures)
     }
 
     fn restart(&mut self) -> Result<(), LinkFault> {
-        match self.link.restart() {
-            Ok(()) => Ok(()),
-            Err(LinkFault::OutOfMemory) => Err(LinkFault::OutOfMemory),
-            Err(LinkFault::Failed) => {
-                self.failures = self.failures.saturating_add(1);
-                Err(LinkFault::Failed)
-            }
-        }
+        let answer = self.link.restart();
+        counted(answer, &mut self.failures)
     }
 }

@@ -37,17 +37,11 @@ pub fn listen_anywhere<R: Reach>(rt: &R) -> io::Result<R::Listener> {
     Ok(listener)
 }
 
-/// Gives a command the words `worker --port P`.
-fn give_words(command: &mut Command, port: &str) -> io::Result<()> {
-    command.arg("worker")?.arg("--port")?.arg(port)?;
-    Ok(())
-}
-
 /// The command `PATH worker --port P`.
 fn worker_command(alloc: Global, path: &str, port: u16) -> io::Result<Command> {
     let port = port.to_string(alloc)?;
     let mut command = Command::new(alloc, path)?;
-    give_words(&mut command, port.as_str())?;
+    command.args(["worker", "--port", port.as_str()])?;
     Ok(command)
 }
 

@@ -1,2 +1,0 @@
--- What mirrors code: contracts of private functions cite it, and no definition that a reader has to believe does.
-pub mod Framing
