@@ -13,13 +13,13 @@ use Rattle.pg_syntax.specs.declared.formula.Op.TheVariants as ops
 use Rattle.pg_syntax.specs.declared.formula.Frame as rust
 use Rattle.pg_syntax.specs.declared.formula.Mode.{Mode}
 use Rattle.pg_syntax.specs.declared.formula.Mode.TheVariants as modes
-use Rattle.pg_syntax.specs.Lexemes.{Lexeme, number, identifier, left_paren, right_paren, bang, ampersand, bar, stray}
+use Rattle.pg_syntax.specs.Lexemes.{Lexeme, number, identifier, left_paren, right_paren, bang, ampersand, bar}
 use Rattle.pg_automaton.specs.Formulas.{Formula, yes, no, proposition, not, bracket}
 use Rattle.pg_automaton.specs.Mirrors.Steps.{◌>>=◌}
 use Rattle.pg_syntax.specs.Mirrors.FormulaScan.{Frame, fresh, State, operand, opening, naming, closing, operator, summed, deeper, word_step}
 use Rattle.pg_syntax.specs.Mirrors.FormulaScan.{operand_step, operator_step, multiplied, negated, limited, completes, step, finish, stops}
 use Rattle.pg_syntax.specs.Mirrors.FormulaScan.{formula_from, formula_at}
-use Rattle.pg_syntax.specs.Mirrors.FormulaRun.{KeptReading, not_ops, both_ops, either_ops, limit_op, completed_at, operand_at, negated_at}
+use Rattle.pg_syntax.specs.Mirrors.FormulaRun.{KeptReading, with_op, not_ops, both_ops, either_ops, limit_op, completed_at, operand_at, negated_at}
 use Rattle.pg_syntax.specs.Mirrors.FormulaRun.{opened_at}
 use Rattle.pg_syntax.specs.Mirrors.FormulaRun.{product_at, sum_at, closed_at, limit_at, word_at, operand_turn, operator_turn, opening_turn}
 use Rattle.pg_syntax.specs.Mirrors.FormulaRun.{naming_turn, closing_turn, turn_at, goes_on, goes_on_at, ops_in, over_at, ops_from, ops_at}
@@ -49,31 +49,20 @@ abbrev outer_ops : List Frame → List Op
 outer_ops [] = []
 outer_ops (f ∷ outer) = outer_ops outer ++ frame_ops f
 
+-- what is kept before an operand is complete
+abbrev before : Mode → ℕ → Frame → List Frame → KeptReading
+before mode room top outer = record {
+  mode = mode;
+  top = kept_frame room top;
+  outer = kept_outer (room + top.nots) outer;
+  ops = outer_ops outer ++ frame_ops top;
+}
+
 abbrev pub keep : State → KeptReading
-keep (operand room top outer) = record {
-  mode = modes.Operand;
-  top = kept_frame room top;
-  outer = kept_outer (room + top.nots) outer;
-  ops = outer_ops outer ++ frame_ops top;
-}
-keep (opening b room top outer) = record {
-  mode = modes.Opening b;
-  top = kept_frame room top;
-  outer = kept_outer (room + top.nots) outer;
-  ops = outer_ops outer ++ frame_ops top;
-}
-keep (naming b room top outer) = record {
-  mode = modes.Naming b;
-  top = kept_frame room top;
-  outer = kept_outer (room + top.nots) outer;
-  ops = outer_ops outer ++ frame_ops top;
-}
-keep (closing b s room top outer) = record {
-  mode = modes.Closing (limit_op b s);
-  top = kept_frame room top;
-  outer = kept_outer (room + top.nots) outer;
-  ops = outer_ops outer ++ frame_ops top;
-}
+keep (operand room top outer) = before modes.Operand room top outer
+keep (opening b room top outer) = before (modes.Opening b) room top outer
+keep (naming b room top outer) = before (modes.Naming b) room top outer
+keep (closing b s room top outer) = before (modes.Closing (limit_op b s)) room top outer
 keep (operator room sum product outer) =
     record {
       mode = modes.Operator;
@@ -108,21 +97,10 @@ abbrev Keeps : Kind → State → Lexeme → Option State → Type 0
 Keeps k s t found = turn_at k (keep s) t ≡ (found >>= λ s. Some (keep s))
 
 operand_keeps : (room : ℕ) (top : Frame) (outer : List Frame) (f : Formula) (op : Op) (mode : Mode) → postfix f ≡ op ∷ []
-    → operand_at (record {
-      mode = mode;
-      top = kept_frame room top;
-      outer = kept_outer (room + top.nots) outer;
-      ops =
-          outer_ops outer ++ frame_ops top;
-    }) op ≡ Some (keep (completes room top outer f))
+    → operand_at (before mode room top outer) op ≡ Some (keep (completes room top outer f))
 unfolding operand_at
 operand_keeps room top outer f op mode e =
-    completed_keeps room top outer f (record {
-      mode = mode;
-      top = kept_frame room top;
-      outer = kept_outer (room + top.nots) outer;
-      ops = (outer_ops outer ++ frame_ops top) ++ (op ∷ []);
-    }) refl refl (rw e refl)
+    completed_keeps room top outer f (with_op (before mode room top outer) op) refl refl (rw e refl)
 
 deeper_none : (top : Frame) → ltb top.nots (0 + top.nots) ≡ false
 deeper_none top = le-ltb top.nots (0 + top.nots) (omega arith)
@@ -215,15 +193,9 @@ turns_keep k (operator room sum product outer) t = operator_turns room sum produ
 
 snoc_goes : (fs : List rust.Frame) (f : rust.Frame) (t : Lexeme) → goes_on (fs ++ (f ∷ [])) t ≡ true
 snoc_goes [] f ampersand = refl
-snoc_goes [] f bar = refl
-snoc_goes [] f stray = refl
-snoc_goes [] f right_paren = refl
-snoc_goes [] f t = refl
+snoc_goes [] f _ = refl
 snoc_goes (g ∷ fs) f ampersand = refl
-snoc_goes (g ∷ fs) f bar = refl
-snoc_goes (g ∷ fs) f stray = refl
-snoc_goes (g ∷ fs) f right_paren = refl
-snoc_goes (g ∷ fs) f t = refl
+snoc_goes (g ∷ fs) f _ = refl
 
 inside_goes : (room : ℕ) (sum : Option Formula) (product : Formula) (top : Frame) (outer : List Frame) (t : Lexeme)
     → stops (operator room sum product (top ∷ outer)) t ≡ false
@@ -241,9 +213,7 @@ goes_keep (opening b room top outer) t = refl
 goes_keep (naming b room top outer) t = refl
 goes_keep (closing b s room top outer) t = refl
 goes_keep (operator room sum product []) ampersand = refl
-goes_keep (operator room sum product []) bar = refl
-goes_keep (operator room sum product []) stray = refl
-goes_keep (operator room sum product []) t = refl
+goes_keep (operator room sum product []) _ = refl
 goes_keep (operator room sum product (top ∷ outer)) t = rw (inside_goes room sum product top outer t)
     (snoc_goes (kept_outer (suc room + top.nots) outer) (kept_frame (suc room) top) t)
 

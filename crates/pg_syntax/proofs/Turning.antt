@@ -1,5 +1,5 @@
 -- Token by token through a formula.
-use Rattle.std.proofs.Common.{◌≡◌, ℕ, suc, zero, ◌+◌, true, false, List, [], ◌∷◌, ◌++◌, Option, Some, None, refl, sym, ap, arith}
+use Rattle.std.proofs.Common.{◌≡◌, ℕ, suc, zero, ◌+◌, ◌<◌, length, true, List, [], ◌∷◌, ◌++◌, Option, Some, None, refl, sym, ap, subst, inl, inr, arith}
 use Rattle.std.proofs.Common.{append_assoc}
 use Rattle.std.proofs.lemmas.Bool.Decides.{nat_tests}
 use Rattle.pg_syntax.specs.declared.fault.Refusal.{Refusal}
@@ -10,15 +10,15 @@ use Rattle.pg_syntax.specs.declared.formula.Op.{Op}
 use Rattle.pg_syntax.specs.declared.formula.Op.TheVariants.{Not}
 use Rattle.pg_syntax.specs.declared.formula.Frame.{Frame}
 use Rattle.pg_syntax.specs.declared.formula.Mode.{Mode}
-use Rattle.pg_syntax.specs.declared.formula.Mode.TheVariants.{Operand, Opening, Naming, Closing, Operator}
+use Rattle.pg_syntax.specs.declared.formula.Mode.TheVariants.{Operand, Opening, Naming, Operator}
 use Rattle.pg_syntax.specs.Lexemes.{Lexeme, stray}
 use Rattle.pg_syntax.specs.Mirrors.Scan.{first}
 use Rattle.pg_automaton.specs.Mirrors.Steps.{◌>>=◌}
 use Rattle.pg_syntax.specs.Mirrors.Steps.{Fails}
-use Rattle.pg_syntax.specs.Mirrors.FormulaRun.{KeptReading, not_ops, mode_goes_on, goes_on_at, mode_turn, operand_turn, operator_turn}
+use Rattle.pg_syntax.specs.Mirrors.FormulaRun.{KeptReading, not_ops, mode_goes_on, goes_on_at, taken_at, mode_turn, operand_turn, operator_turn}
 use Rattle.pg_syntax.specs.Mirrors.FormulaRun.{opening_turn}
 use Rattle.pg_syntax.specs.Mirrors.FormulaRun.{naming_turn, closing_turn, turn_at, over_at, ops_from}
-use Rattle.pg_lists.proofs.Steps.{some_is, none_is_some}
+use Rattle.pg_lists.proofs.Steps.{chosen, some, some_is, none, none_is_some}
 
 nots_more : (n : ℕ) → not_ops n ++ (Not ∷ []) ≡ not_ops (suc n)
 nots_more zero = refl
@@ -44,11 +44,9 @@ first_token (u ∷ ts) t rest e = grind (arith, nat_tests, some_is (Some u, ts) 
 
 stray_goes : (mode : Mode) (outer : List Frame) → mode_goes_on mode outer stray ≡ true
 stray_goes Operand outer = refl
-stray_goes (Opening b) outer = refl
-stray_goes (Naming b) outer = refl
-stray_goes (Closing op) outer = refl
 stray_goes Operator [] = refl
 stray_goes Operator (f ∷ outer) = refl
+stray_goes _ outer = refl
 
 stray_turn : (k : Kind) (r : KeptReading) (mode : Mode) → mode_turn k r mode stray ≡ None
 unfolding operand_turn operator_turn opening_turn naming_turn closing_turn
@@ -70,25 +68,47 @@ pub first_fails : (refusal : Refusal) (k : Kind) (r : KeptReading) (ts : List Le
 first_fails Memory k r ts h = tt
 first_fails (Wrong fault) k r ts h = first_none k r ts h
 
-pub turns : (k : Kind) (r more : KeptReading) (t : Lexeme) (rest : List Lexeme) → goes_on_at r t ≡ true → turn_at k r t ≡ Some more
-    → ops_from k r (t ∷ rest) ≡ ops_from k more rest
-unfolding ops_from
-turns k r more t rest g e = rw (g, e) refl
+-- the token that is taken stands first, and may belong to the formula
+record IsTaken (r : KeptReading) (ts : List Lexeme) (t : Lexeme) (after : List Lexeme) : Type 0 where
+  stands : ts ≡ t ∷ after
+  goes : goes_on_at r t ≡ true
 
-pub turn_fails : (refusal : Refusal) (k : Kind) (r : KeptReading) (t : Lexeme) (rest : List Lexeme) → goes_on_at r t ≡ true
-    → Fails refusal (turn_at k r t) → Fails refusal (ops_from k r (t ∷ rest))
-unfolding ops_from
-turn_fails Memory k r t rest g h = tt
-turn_fails (Wrong fault) k r t rest g h = rw (g, h) refl
+is_taken : (r : KeptReading) (ts after : List Lexeme) (found : Option Lexeme) (t : Lexeme) → first ts ≡ Some (found, after)
+    → taken_at r found ≡ Some t → IsTaken r ts t after
+unfolding taken_at
+is_taken r ts after None t f e = absurd (none_is_some t e)
+is_taken r ts after (Some u) t f e =
+    elim (chosen (goes_on_at r u) (some u) none (some t) e) [
+      | inl c ↦
+          let stands = first_token ts u after f in
+          subst (λ (v : Lexeme). IsTaken r ts v after) (some_is u t c.1) (record { stands = stands; goes = c.0 })
+      | inr c ↦ absurd (none_is_some t c.1)
+    ]
 
-pub ends_there : (k : Kind) (r : KeptReading) (t : Lexeme) (rest : List Lexeme) → goes_on_at r t ≡ false
-    → ops_from k r (t ∷ rest) ≡ (over_at r >>= λ ops. Some (ops, t ∷ rest))
+pub turns : (k : Kind) (r more : KeptReading) (ts after : List Lexeme) (found : Option Lexeme) (t : Lexeme) → first ts ≡ Some (found, after)
+    → taken_at r found ≡ Some t → turn_at k r t ≡ Some more → ops_from k r ts ≡ ops_from k more after
 unfolding ops_from
-ends_there k r t rest g = rw g refl
+turns k r more ts after found t f e h = let i = is_taken r ts after found t f e in rw (i.stands, i.goes, h) refl
 
-pub ends_last : (k : Kind) (r : KeptReading) → ops_from k r [] ≡ (over_at r >>= λ ops. Some (ops, []))
+pub turn_fails : (refusal : Refusal) (k : Kind) (r : KeptReading) (ts after : List Lexeme) (found : Option Lexeme) (t : Lexeme)
+    → first ts ≡ Some (found, after) → taken_at r found ≡ Some t → Fails refusal (turn_at k r t) → Fails refusal (ops_from k r ts)
 unfolding ops_from
-ends_last k r = refl
+turn_fails Memory k r ts after found t f e h = tt
+turn_fails (Wrong fault) k r ts after found t f e h = let i = is_taken r ts after found t f e in rw (i.stands, i.goes, h) refl
+
+pub taken_shorter : (r : KeptReading) (ts after : List Lexeme) (found : Option Lexeme) (t : Lexeme) → first ts ≡ Some (found, after)
+    → taken_at r found ≡ Some t → length after < length ts
+taken_shorter r ts after found t f e = let i = is_taken r ts after found t f e in omega (arith, ap length i.stands)
+
+pub ends_there : (k : Kind) (r : KeptReading) (ts after : List Lexeme) (found : Option Lexeme) → first ts ≡ Some (found, after)
+    → taken_at r found ≡ None → ops_from k r ts ≡ (over_at r >>= λ ops. Some (ops, ts))
+unfolding ops_from taken_at
+ends_there k r ts after None f e = rw ((first_end ts after f).0) refl
+ends_there k r ts after (Some t) f e =
+    elim (chosen (goes_on_at r t) (some t) none none e) [
+      | inl c ↦ absurd (none_is_some t (sym c.1))
+      | inr c ↦ rw (first_token ts t after f, c.0) refl
+    ]
 
 pub over_fails : (refusal : Refusal) (r : KeptReading) (rest : List Lexeme) → Fails refusal (over_at r)
     → Fails {Y = List Op × List Lexeme} refusal (over_at r >>= λ ops. Some (ops, rest))

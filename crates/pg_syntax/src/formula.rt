@@ -6,7 +6,7 @@ ghost use Rattle.pg_syntax.specs.Mirrors.Steps.{Gives};
 ghost use Rattle.pg_syntax.specs.Mirrors.Scan.{lexeme, lex};
 ghost use Rattle.pg_syntax.specs.Mirrors.FormulaRun.{view, not_ops, split_last, completed_at, operand_at, negated_at, opened_at};
 ghost use Rattle.pg_syntax.specs.Mirrors.FormulaRun.{product_at, sum_at, closed_at, limit_at, word_at, operand_turn, operator_turn};
-ghost use Rattle.pg_syntax.specs.Mirrors.FormulaRun.{opening_turn, naming_turn, closing_turn, turn_at, goes_on_at, over_at, ops_at};
+ghost use Rattle.pg_syntax.specs.Mirrors.FormulaRun.{opening_turn, naming_turn, closing_turn, turn_at, taken_at, over_at, ops_at};
 
 use crate::fault::{LeftOutName, PartFault, Refusal};
 use crate::token::{Token, next_token, unexpected};
@@ -345,18 +345,24 @@ fn turn(kind: Kind, reading: Reading, token: Token<'_>, left: usize) -> Result<R
     }
 }
 
-/// Whether the token may belong to the formula.
-#[tactic(auto, unfolding(crate::specs::Mirrors::FormulaRun::goes_on_at))]
-fn goes_on(reading: &Reading, token: Token<'_>) -> bool
-    ensures { result ≡ goes_on_at (view reading.now) (lexeme token.entry) }
+/// The token that was found, if it may belong to the formula.
+#[tactic(auto, unfolding(crate::specs::Mirrors::FormulaRun::taken_at, crate::specs::Mirrors::FormulaRun::goes_on_at))]
+fn taken<'a>(reading: &Reading, found: Option<Token<'a>>) -> Option<Token<'a>>
+    ensures { option_map lexeme result ≡ taken_at (view reading.now) (option_map lexeme found.entry) }
 {
+    let token = found?;
     match reading.mode {
         Mode::Operator => match token {
-            Token::Ampersand => true,
-            Token::Bar => true,
-            _ => !reading.outer.is_empty(),
+            Token::Ampersand | Token::Bar => Some(token),
+            _ => {
+                if reading.outer.is_empty() {
+                    None
+                } else {
+                    Some(token)
+                }
+            }
         },
-        _ => true,
+        _ => Some(token),
     }
 }
 
@@ -400,16 +406,12 @@ pub fn read_formula(alloc: Global, kind: Kind, bytes: &[u8]) -> Result<(Vec<Op>,
     let mut rest = bytes;
     'tokens: loop {
         let (found, left, after) = next_token(rest)?;
-        match found {
-            None => return Ok((over(reading, left)?, rest)),
+        match taken(&reading, found) {
             Some(token) => {
-                if goes_on(&reading, token) {
-                    reading = turn(kind, reading, token, left)?;
-                    rest = after;
-                } else {
-                    return Ok((over(reading, left)?, rest));
-                }
+                reading = turn(kind, reading, token, left)?;
+                rest = after;
             }
+            None => return Ok((over(reading, left)?, rest)),
         }
     }
 }

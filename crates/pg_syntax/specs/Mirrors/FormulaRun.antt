@@ -186,6 +186,11 @@ mode_goes_on mode outer t = true
 unfoldable pub goes_on_at : KeptReading → Lexeme → Bool
 goes_on_at r t = mode_goes_on r.mode r.outer t
 
+-- the token, if it may belong to the formula
+unfoldable pub taken_at : KeptReading → Option Lexeme → Option Lexeme
+taken_at r None = None
+taken_at r (Some t) = if goes_on_at r t then Some t else None
+
 abbrev pub ops_in : Mode → List Frame → List Op → Option (List Op)
 ops_in Operator [] ops = Some ops
 ops_in mode outer ops = None
