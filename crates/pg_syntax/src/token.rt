@@ -1,6 +1,6 @@
 //! The tokens of a text, one at a time.
 
-ghost use Rattle.std.specs.Prelude.{◌≡◌, ◌<◌, ◌^◌, ◌≤◌, length, SomeIff, IfSome, option_map, if◌then◌else◌};
+ghost use Rattle.std.specs.Prelude.{◌≡◌, ◌<◌, ◌^◌, ◌≤◌, length, SomeIff, IfSome, option_map};
 ghost use Rattle.std.specs.List.{prefix_len};
 ghost use Rattle.pg_syntax.specs.Lexemes.{is_space, is_letter, is_inner};
 ghost use Rattle.pg_lists.specs.Bytes.{is_digit, value_of};
@@ -62,18 +62,18 @@ fn is_inner(byte: u8) -> bool
     is_letter(byte) || is_digit(byte) || byte == b'_' || byte == b'-'
 }
 
-/// How many bytes of a name stand in front, or how many digits.
-fn run(bytes: &[u8], digits: bool) -> usize
-    ensures { result ≡ prefix_len (λ b. if digits then is_digit b else is_inner b) bytes.now }
+/// How many digits stand in front.
+fn digits(bytes: &[u8]) -> usize
+    ensures { result ≡ prefix_len is_digit bytes.now }
 {
-    bytes
-        .iter()
-        .take_while(|byte| if digits {
-            is_digit(**byte)
-        } else {
-            is_inner(**byte)
-        })
-        .count()
+    bytes.iter().take_while(|byte| is_digit(**byte)).count()
+}
+
+/// How many bytes of a name stand in front.
+fn inner(bytes: &[u8]) -> usize
+    ensures { result ≡ prefix_len is_inner bytes.now }
+{
+    bytes.iter().take_while(|byte| is_inner(**byte)).count()
 }
 
 /// The number that the digits write, if it is below 2^32.
@@ -95,7 +95,7 @@ fn value_of(digits: &[u8]) -> Option<u32>
 fn number(bytes: &[u8]) -> Result<(Token<'_>, &[u8]), Refusal>
     ensures { Gives (λ x. (lexeme x.0, x.1.now)) result (number_at bytes.now) }
 {
-    let (digits, rest) = bytes.split_at(run(bytes, true));
+    let (digits, rest) = bytes.split_at(digits(bytes));
     match value_of(digits) {
         Some(value) => Ok((Token::Number(value), rest)),
         None => Err(Refusal::Wrong(PartFault::TooLarge)),
@@ -107,7 +107,7 @@ fn number(bytes: &[u8]) -> Result<(Token<'_>, &[u8]), Refusal>
 fn name(bytes: &[u8]) -> Result<(Token<'_>, &[u8]), Refusal>
     ensures { Gives (λ x. (lexeme x.0, x.1.now)) result (name_at bytes.now) }
 {
-    let (name, rest) = bytes.split_at(run(bytes, false));
+    let (name, rest) = bytes.split_at(inner(bytes));
     match rest {
         [b':', after @ ..] => Ok((Token::Header(name), after)),
         _ => Ok((Token::Identifier(name), rest)),
@@ -119,7 +119,7 @@ fn name(bytes: &[u8]) -> Result<(Token<'_>, &[u8]), Refusal>
 fn alias(bytes: &[u8], left: usize) -> Result<(Token<'_>, &[u8]), Refusal>
     ensures { Gives (λ x. (lexeme x.0, x.1.now)) result (alias_at bytes.now) }
 {
-    let len = run(bytes, false);
+    let len = inner(bytes);
     if len == 0 {
         return Err(Refusal::Wrong(PartFault::Syntax(left)));
     }
