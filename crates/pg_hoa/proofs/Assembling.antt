@@ -1,21 +1,10 @@
 -- An automaton made of what a text says and a table of steps.
-use Rattle.std.proofs.Common.{◌≡◌, ◌∙◌, ◌≤◌, ◌<◌, ◌*◌, ◌^◌, ℕ, Bool, List, [], ◌∷◌, length, map, sym, ap, subst, arith}
-use Rattle.std.proofs.lemmas.Bool.Decides.{nat_tests}
-use Rattle.std.specs.Prelude.{◌==◌}
-use Rattle.std.specs.List.{All, AllByRecursion, flat_map, list_any}
-use Rattle.std.proofs.lemmas.List.Elements.{All-from_recursion}
-use Rattle.std.proofs.lemmas.List.FromFn.{length-map-range_with_len}
-use Rattle.pg_automaton.specs.declared.shape.Shape.{Shape}
-use Rattle.pg_automaton.specs.declared.table.Table.{Table}
-use Rattle.pg_automaton.specs.Formulas.{Formula}
-use Rattle.pg_automaton.specs.Shapes.{FitsShape}
-use Rattle.pg_automaton.specs.Automata.{Automaton, IsAutomaton, IsPropositionName, IsStepOf, letters, rows, next}
+use Rattle.pg_hoa.proofs.Common.{◌≡◌, ◌∙◌, ◌≤◌, ◌<◌, ◌*◌, ◌^◌, ℕ, Bool, List, [], ◌∷◌, length, map, sym, ap, subst, arith, nat_tests, ◌==◌}
+use Rattle.pg_hoa.proofs.Common.{All, AllByRecursion, flat_map, list_any, All-from_recursion, length-map-range_with_len, Shape, Table}
+use Rattle.pg_hoa.proofs.Common.{Formula, FitsShape, Automaton, IsAutomaton, IsPropositionName, IsStepOf, letters, rows, next, StateLine}
+use Rattle.pg_hoa.proofs.Common.{LineFits, Written, Says, controls, KeptLine, kept_of_line, Declares, bare_automaton, Spelt, IsUndetermined}
+use Rattle.pg_hoa.proofs.Common.{Agree, head, steps_of, kept_steps, IsTableOf, IsFirstConflict}
 use Rattle.pg_automaton.specs.Mirrors.Tables as tables
-use Rattle.pg_syntax.specs.Syntax.{StateLine, LineFits, Written, Says, controls}
-use Rattle.pg_syntax.specs.Mirrors.Kept.{KeptLine, kept_of_line}
-use Rattle.pg_syntax.specs.Mirrors.Readings.{Declares, bare_automaton}
-use Rattle.pg_hoa.specs.AutomatonText.{Spelt, IsUndetermined, Agree, head, steps_of}
-use Rattle.pg_hoa.specs.Mirrors.Tables.{kept_steps, IsTableOf, IsFirstConflict}
 use Rattle.pg_hoa.proofs.TableLaws.{written_steps}
 use Rattle.pg_hoa.proofs.GoodSteps.{kept_good}
 

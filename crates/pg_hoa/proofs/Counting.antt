@@ -1,16 +1,8 @@
 -- The set of a step that counts.
-use Rattle.std.proofs.Common.{◌≡◌, ◌≢◌, ◌∙◌, ℕ, suc, zero, ◌<◌, ◌≤◌, min, max, List, [], ◌∷◌, ◌++◌, Option, Some, None, refl}
-use Rattle.std.proofs.Common.{sym, ap, append_assoc, arith, inl, inr, ◌⊎◌}
-use Rattle.std.proofs.lemmas.Bool.Decides.{nat_tests}
-use Rattle.pg_automaton.specs.declared.shape.Shape.{Shape}
-use Rattle.pg_automaton.specs.declared.shape.Shape.TheVariants.{MaxEven, MaxOdd, MinEven, MinOdd, Always, Never}
-use Rattle.pg_automaton.specs.Automata.{first, last, deciding}
-use Rattle.pg_lists.specs.Rising.{put, rising}
-use Rattle.pg_hoa.specs.Mirrors.Tables.{with_set, with_sets}
-use Rattle.std.proofs.lemmas.List.{append-nil}
-use Rattle.pg_lists.proofs.Steps.{some, some_is}
-use Rattle.pg_lists.proofs.Rising.{rising_pairs, rising_put}
-use Rattle.pg_lists.proofs.Contained.{Rises, pairs_tail}
+use Rattle.pg_hoa.proofs.Common.{◌≡◌, ◌≢◌, ◌∙◌, ℕ, suc, zero, ◌<◌, ◌≤◌, min, max, List, [], ◌∷◌, ◌++◌, Option, Some, None, refl, sym, ap}
+use Rattle.pg_hoa.proofs.Common.{append_assoc, arith, inl, inr, ◌⊎◌, nat_tests, Shape, MaxEven, MaxOdd, MinEven, MinOdd, Always, Never}
+use Rattle.pg_hoa.proofs.Common.{first, last, deciding, put, rising, with_set, with_sets, append-nil, some, some_is, rising_pairs}
+use Rattle.pg_hoa.proofs.Common.{rising_put, Rises, pairs_tail}
 
 three_ways : (a b : ℕ) → (a < b) ⊎ ((a ≡ b) ⊎ (b < a))
 three_ways zero zero = inr (inl refl)

@@ -1,15 +1,7 @@
 -- The steps of lines whose numbers are in range are in range.
-use Rattle.std.proofs.Common.{◌≡◌, ℕ, ◌<◌, Bool, true, false, eqb, List, [], ◌∷◌, ◌++◌, map, refl, arith}
-use Rattle.std.proofs.lemmas.Bool.Decides.{nat_tests}
-use Rattle.std.specs.List.{AllByRecursion, filter}
-use Rattle.std.proofs.lemmas.List.Elements.{All-append}
-use Rattle.pg_automaton.specs.Automata.{IsStepOf}
-use Rattle.pg_syntax.specs.Syntax.{Edge, StateLine, set_list, EachBelow, EdgeFits, LineFits}
-use Rattle.pg_hoa.specs.AutomatonText.{edge_steps, steps_of}
-use Rattle.pg_syntax.specs.Mirrors.Kept.{KeptLine, kept_of_line}
-use Rattle.pg_hoa.specs.Mirrors.Tables.{kept_steps}
-use Rattle.pg_lists.proofs.Rising.{rising_below, rising_rises}
-use Rattle.pg_syntax.proofs.Lists.{all_of_both}
+use Rattle.pg_hoa.proofs.Common.{◌≡◌, ℕ, ◌<◌, Bool, true, false, eqb, List, [], ◌∷◌, ◌++◌, map, refl, arith, nat_tests, AllByRecursion}
+use Rattle.pg_hoa.proofs.Common.{filter, All-append, IsStepOf, Edge, StateLine, set_list, EachBelow, EdgeFits, LineFits, edge_steps}
+use Rattle.pg_hoa.proofs.Common.{steps_of, KeptLine, kept_of_line, kept_steps, rising_below, rising_rises, all_of_both}
 use Rattle.pg_hoa.proofs.TableLaws.{written_step, written_steps}
 
 edge_good : (states propositions sets : ℕ) (own : List ℕ) (e : Edge) → EachBelow sets own → EdgeFits states propositions sets e

@@ -1,23 +1,10 @@
 -- Terms, and instructions one behind another.
-use Rattle.std.proofs.Common.{◌≡◌, ℕ, suc, zero, ◌+◌, ◌-◌, ◌*◌, ◌/◌, ◌^◌, ◌<◌, ◌≤◌, min, max, Bool, true, false, cond, ◌&&◌, ◌||◌, ◌==◌}
-use Rattle.std.proofs.Common.{List, [], ◌∷◌, ◌++◌}
-use Rattle.std.proofs.Common.{length, take, drop, get_or, refl, sym, ap, ◌∙◌, arith}
-use Rattle.std.specs.Prelude.{bit_and}
-use Rattle.std.specs.Int.{bit_at}
-use Rattle.std.specs.Int.RustNames.{bit_or}
-use Rattle.std.proofs.lemmas.Nat.{and_assoc, and_comm, or_comm, and_or_self, and_shr, shr_high, pow_pos}
-use Rattle.std.proofs.lemmas.Nat.Bits.{bit_at_and, bit_at_or, and_pow, bit_at-lt, bit_at_cat_low, same_from_bits}
-use Rattle.std.proofs.Math.Seq.{take-append_seam}
-use Rattle.std.proofs.lemmas.Bool.{false≢true}
-use Rattle.std.proofs.lemmas.Bool.Decides.{Decides-eqb, nat_tests}
-use Rattle.std.proofs.lemmas.List.{at_drop_more}
-use Rattle.pg_syntax.specs.declared.formula.Op.{Op}
-use Rattle.pg_hoa.specs.declared.terms.Term.{Term}
-use Rattle.pg_hoa.specs.declared.terms.Instruction.{Instruction}
-use Rattle.pg_hoa.specs.declared.terms.Instruction.TheVariants.{Put, Not, Both, Either, BothTerm, EitherTerm}
-use Rattle.pg_hoa.specs.Mirrors.Saying.{top, under, perform, run}
-use Rattle.pg_hoa.specs.Mirrors.Letters.{truth, on_at}
-use Rattle.pg_hoa.specs.Mirrors.Instructions.{fits, execute, execute_all, executed}
+use Rattle.pg_hoa.proofs.Common.{◌≡◌, ℕ, suc, zero, ◌+◌, ◌-◌, ◌*◌, ◌/◌, ◌^◌, ◌<◌, ◌≤◌, min, max, Bool, true, false, cond, ◌&&◌, ◌||◌, ◌==◌}
+use Rattle.pg_hoa.proofs.Common.{List, [], ◌∷◌, ◌++◌, length, take, drop, get_or, refl, sym, ap, ◌∙◌, arith, bit_and, bit_at, bit_or}
+use Rattle.pg_hoa.proofs.Common.{and_assoc, and_comm, or_comm, and_or_self, and_shr, shr_high, pow_pos, bit_at_and, bit_at_or, and_pow}
+use Rattle.pg_hoa.proofs.Common.{bit_at-lt, bit_at_cat_low, same_from_bits, take-append_seam, false≢true, Decides-eqb, nat_tests}
+use Rattle.pg_hoa.proofs.Common.{at_drop_more, Op, Term, Instruction, Put, Not, Both, Either, BothTerm, EitherTerm, top, under, perform}
+use Rattle.pg_hoa.proofs.Common.{run, truth, on_at, fits, execute, execute_all, executed}
 use Rattle.pg_hoa.proofs.TableWords.{truth_and, truth_or, truth_not, truth_all, on_high}
 
 -- ---- bits of a block's number

@@ -13,3 +13,4 @@ pub mod TableNumbers
 pub mod TablePlaces
 pub mod TableRegrouped
 pub mod TableWords
+mod Common

@@ -1,14 +1,7 @@
 -- One text has one reading.
-use Rattle.std.proofs.Common.{◌≡◌, ◌∙◌, ◌<◌, ◌+◌, ◌^◌, ℕ, zero, suc, Bool, List, ◌∷◌, map, length, Option, refl, sym, ap, subst, inl, inr}
-use Rattle.std.proofs.Common.{◌⊎◌, arith}
-use Rattle.std.proofs.lemmas.Bool.Decides.{nat_tests}
-use Rattle.std.specs.List.{range_with_len}
-use Rattle.std.proofs.lemmas.Bool.{cases_order}
-use Rattle.pg_automaton.specs.declared.shape.Shape.{Shape}
-use Rattle.pg_automaton.specs.Automata.{Step, Automaton, letters, rows, next}
-use Rattle.pg_hoa.specs.AutomatonText.{Spelt, IsUndetermined, head}
-use Rattle.pg_hoa.specs.Laws.{HasOneReading}
-use Rattle.pg_syntax.proofs.SpeltReads.{says_once}
+use Rattle.pg_hoa.proofs.Common.{◌≡◌, ◌∙◌, ◌<◌, ◌+◌, ◌^◌, ℕ, zero, suc, Bool, List, ◌∷◌, map, length, Option, refl, sym, ap, subst, inl}
+use Rattle.pg_hoa.proofs.Common.{inr, ◌⊎◌, arith, nat_tests, range_with_len, cases_order, Shape, Step, Automaton, letters, rows, next}
+use Rattle.pg_hoa.proofs.Common.{Spelt, IsUndetermined, head, HasOneReading, says_once}
 use Rattle.pg_hoa.proofs.SpeltOnce.{steps_once, letters_below, undetermined_spell_none}
 
 map_below : {A : Type 0} (f g : ℕ → A) (first count : ℕ) → ((k : ℕ) → k < first + count → f k ≡ g k)

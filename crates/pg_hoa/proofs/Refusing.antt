@@ -1,18 +1,8 @@
 -- Bytes that are refused spell no automaton.
-use Rattle.std.proofs.Common.{ℕ, List, ◌^◌, length}
-use Rattle.pg_automaton.specs.Automata.{Automaton}
-use Rattle.pg_syntax.specs.declared.fault.PartFault.{PartFault}
-use Rattle.pg_syntax.specs.declared.fault.PartFault.TheVariants.{Syntax, LeftOut, UnknownHeader, OutOfRange, NotParity, TooLarge, BadName}
-use Rattle.pg_syntax.specs.declared.fault.Refusal.{Refusal}
+use Rattle.pg_hoa.proofs.Common.{ℕ, List, ◌^◌, length, Automaton, PartFault, Syntax, LeftOut, UnknownHeader, OutOfRange, NotParity}
+use Rattle.pg_hoa.proofs.Common.{TooLarge, BadName, Refusal, SaysNone, KeptLine, Declares, SaysNothing, Conflict, Memory, NotDeterministic}
+use Rattle.pg_hoa.proofs.Common.{SpellsNone, IsRefused, in_text, refusal_in_text, conflict_fault, IsConflictOf}
 use Rattle.pg_syntax.specs.declared.fault.Refusal.TheVariants as refusals
-use Rattle.pg_syntax.specs.Syntax.{SaysNone}
-use Rattle.pg_syntax.specs.Mirrors.Kept.{KeptLine}
-use Rattle.pg_syntax.specs.Mirrors.Readings.{Declares, SaysNothing}
-use Rattle.pg_hoa.specs.declared.fault.Conflict.{Conflict}
-use Rattle.pg_hoa.specs.declared.fault.Conflict.TheVariants.{Memory, NotDeterministic}
-use Rattle.pg_hoa.specs.AutomatonText.{SpellsNone, IsRefused}
-use Rattle.pg_hoa.specs.Mirrors.Faults.{in_text, refusal_in_text, conflict_fault}
-use Rattle.pg_hoa.specs.Mirrors.Tables.{IsConflictOf}
 use Rattle.pg_hoa.proofs.Assembling.{first_undetermined}
 use Rattle.pg_hoa.proofs.SpeltOnce.{says_spell_none, undetermined_spell_none}
 

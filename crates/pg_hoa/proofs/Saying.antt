@@ -1,11 +1,7 @@
 -- The operations of a formula say what the formula says.
-use Rattle.std.proofs.Common.{◌≡◌, ℕ, Bool, List, [], ◌∷◌, ◌++◌, refl, ap, ◌∙◌, arith}
-use Rattle.std.proofs.lemmas.Bool.Decides.{nat_tests}
-use Rattle.pg_syntax.specs.declared.formula.Op.{Op}
+use Rattle.pg_hoa.proofs.Common.{◌≡◌, ℕ, Bool, List, [], ◌∷◌, ◌++◌, refl, ap, ◌∙◌, arith, nat_tests, Op, Formula, yes, no, proposition, inf}
+use Rattle.pg_hoa.proofs.Common.{fin, not, both, either, bracket, holds, postfix, top, perform, run, says}
 use Rattle.pg_syntax.specs.declared.formula.Op.TheVariants as ops
-use Rattle.pg_automaton.specs.Formulas.{Formula, yes, no, proposition, inf, fin, not, both, either, bracket, holds}
-use Rattle.pg_syntax.specs.Mirrors.FormulaRun.{postfix}
-use Rattle.pg_hoa.specs.Mirrors.Saying.{top, perform, run, says}
 
 pub run_append : (a b : List Op) (on : ℕ → Bool) (stack : List Bool) → run (a ++ b) on stack ≡ run b on (run a on stack)
 run_append [] b on stack = refl

@@ -1,11 +1,6 @@
 -- What one text says is determined or not.
-use Rattle.std.proofs.Common.{◌≡◌, ◌∙◌, ◌<◌, ℕ, List, ◌^◌, length, sym, ap, subst}
-use Rattle.pg_automaton.specs.Automata.{Automaton}
-use Rattle.pg_syntax.specs.Syntax.{Written, SaysNone}
-use Rattle.pg_syntax.specs.Mirrors.Kept.{KeptLine}
-use Rattle.pg_syntax.proofs.SpeltReads.{SaysOnce, says_once}
-use Rattle.pg_hoa.specs.AutomatonText.{IsUndetermined, IsDeterministicAt, SpellsNone, steps_of}
-use Rattle.pg_hoa.specs.Mirrors.Tables.{kept_steps}
+use Rattle.pg_hoa.proofs.Common.{◌≡◌, ◌∙◌, ◌<◌, ℕ, List, ◌^◌, length, sym, ap, subst, Automaton, Written, SaysNone, KeptLine, SaysOnce}
+use Rattle.pg_hoa.proofs.Common.{says_once, IsUndetermined, IsDeterministicAt, SpellsNone, steps_of, kept_steps}
 use Rattle.pg_hoa.proofs.TableLaws.{kept_steps_are}
 
 pub says_spell_none : (bytes : List ℕ) → SaysNone bytes → SpellsNone bytes

@@ -1,18 +1,9 @@
 -- What a filled table answers.
-use Rattle.std.proofs.Common.{◌≡◌, ℕ, zero, suc, ◌+◌, ◌*◌, ◌/◌, ◌%◌, ◌<◌, ◌≤◌, true, false, cond, ◌&&◌, ltb, List, [], ◌∷◌, length, map}
-use Rattle.std.proofs.Common.{get_or, replicate}
-use Rattle.std.proofs.Common.{None, ap, subst, ◌∙◌, arith}
-use Rattle.std.proofs.lemmas.Bool.Decides.{Decides-ltb}
-use Rattle.std.proofs.lemmas.Nat.{div-mul-add, mod-mul-add, mul-add-lt, div_below, mod_below, div-add-mod', mul-le}
-use Rattle.std.proofs.lemmas.List.{length-replicate, get_or-replicate}
-use Rattle.pg_automaton.specs.declared.shape.Shape.{Shape}
-use Rattle.pg_automaton.specs.declared.table.Table.{Table}
-use Rattle.pg_automaton.specs.Automata.{Step}
-use Rattle.pg_hoa.specs.AutomatonText.{Agree, head}
-use Rattle.pg_syntax.specs.Mirrors.Kept.{KeptLine}
-use Rattle.pg_automaton.specs.Mirrors.Tables.{numbered}
-use Rattle.pg_hoa.specs.Mirrors.Tables.{Stage, Leads, IsFilled, Adds, at_lines, kept_steps, IsTableOf, IsFirstConflict}
-use Rattle.pg_hoa.specs.Mirrors.Letters.{truth}
+use Rattle.pg_hoa.proofs.Common.{◌≡◌, ℕ, zero, suc, ◌+◌, ◌*◌, ◌/◌, ◌%◌, ◌<◌, ◌≤◌, true, false, cond, ◌&&◌, ltb, List, [], ◌∷◌, length, map}
+use Rattle.pg_hoa.proofs.Common.{get_or, replicate, None, ap, subst, ◌∙◌, arith, Decides-ltb, div-mul-add, mod-mul-add, mul-add-lt}
+use Rattle.pg_hoa.proofs.Common.{div_below, mod_below, div-add-mod', mul-le, length-replicate, get_or-replicate, Shape, Table, Step, Agree}
+use Rattle.pg_hoa.proofs.Common.{head, KeptLine, numbered, Stage, Leads, IsFilled, Adds, at_lines, kept_steps, IsTableOf, IsFirstConflict}
+use Rattle.pg_hoa.proofs.Common.{truth}
 use Rattle.pg_hoa.proofs.TableWords.{truth_none}
 use Rattle.pg_hoa.proofs.TableFilling.{nothing_yet}
 

@@ -1,25 +1,10 @@
 -- What one more step does to a table that is being filled.
-use Rattle.std.proofs.Common.{◌≡◌, ℕ, ◌+◌, ◌*◌, ◌<◌, ◌≤◌, Bool, true, false, ◌==◌, ◌||◌, List, [], ◌∷◌, ◌++◌, length, get_or, set, Option}
-use Rattle.std.proofs.Common.{Some, None, refl, sym, ap, subst, ◌∙◌, arith, append_assoc}
-use Rattle.std.specs.Prelude.{option_map}
-use Rattle.std.specs.List.{All, list_any}
-use Rattle.std.proofs.lemmas.List.{append-nil, get_or-set_same, get_or-set_other, length-set}
-use Rattle.std.proofs.lemmas.List.Elements.{All-nil, All-cons, All-head, All-tail, All-push, All-weaker}
-use Rattle.std.proofs.lemmas.List.Folds.{list_any-append}
-use Rattle.std.proofs.lemmas.Bool.{false≢true}
-use Rattle.std.proofs.lemmas.Bool.Decides.{Decides-eqb, nat_tests}
-use Rattle.pg_automaton.specs.declared.shape.Shape.{Shape}
-use Rattle.pg_automaton.specs.Automata.{Step, deciding}
-use Rattle.pg_hoa.specs.AutomatonText.{Agree}
-use Rattle.pg_automaton.specs.Mirrors.Tables.{numbered}
-use Rattle.pg_hoa.specs.declared.table.Covered.{Covered}
-use Rattle.pg_hoa.specs.declared.table.Way.{Way}
-use Rattle.pg_hoa.specs.Mirrors.Tables.{Stage, same_set, has_key, agree, HasKey, Covers, Leads, Extends, IsFilled, Adds, IsCovered}
-use Rattle.pg_hoa.specs.Mirrors.Tables.{IsDecided}
-use Rattle.pg_hoa.specs.Mirrors.Tables.{when, way_step, at_slot}
-use Rattle.pg_hoa.specs.Mirrors.Letters.{truth}
-use Rattle.pg_syntax.proofs.Lists.{both_true}
-use Rattle.pg_lists.proofs.Steps.{some, some_is, none_is_some}
+use Rattle.pg_hoa.proofs.Common.{◌≡◌, ℕ, ◌+◌, ◌*◌, ◌<◌, ◌≤◌, Bool, true, false, ◌==◌, ◌||◌, List, [], ◌∷◌, ◌++◌, length, get_or, set}
+use Rattle.pg_hoa.proofs.Common.{Option, Some, None, refl, sym, ap, subst, ◌∙◌, arith, append_assoc, option_map, All, list_any, append-nil}
+use Rattle.pg_hoa.proofs.Common.{get_or-set_same, get_or-set_other, length-set, All-nil, All-cons, All-head, All-tail, All-push, All-weaker}
+use Rattle.pg_hoa.proofs.Common.{list_any-append, false≢true, Decides-eqb, nat_tests, Shape, Step, deciding, Agree, numbered, Covered, Way}
+use Rattle.pg_hoa.proofs.Common.{Stage, same_set, has_key, agree, HasKey, Covers, Leads, Extends, IsFilled, Adds, IsCovered, IsDecided}
+use Rattle.pg_hoa.proofs.Common.{when, way_step, at_slot, truth, both_true, some, some_is, none_is_some}
 
 -- ---- steps that agree
 

@@ -1,21 +1,8 @@
 -- The steps of the lines that are kept are those of the lines as they are written.
-use Rattle.std.proofs.Common.{◌≡◌, ℕ, Bool, true, false, cond, ◌==◌, List, [], ◌∷◌, ◌++◌, map, refl, sym, ap, ◌∙◌}
-use Rattle.std.specs.Prelude.{◌||◌}
-use Rattle.std.specs.List.{filter}
-use Rattle.std.specs.Int.{bit_at}
-use Rattle.std.proofs.lemmas.List.Folds.{list_any-append}
-use Rattle.pg_lists.specs.Rising.{rising}
-use Rattle.pg_lists.proofs.Rising.{has, has_rising}
-use Rattle.pg_automaton.specs.Automata.{Step, step}
-use Rattle.pg_automaton.specs.Formulas.{holds}
-use Rattle.pg_syntax.specs.declared.formula.Op.{Op}
-use Rattle.pg_syntax.specs.declared.formula.Op.TheVariants.{No}
-use Rattle.pg_syntax.specs.Syntax.{Edge, StateLine, set_list}
-use Rattle.pg_syntax.specs.Mirrors.Kept.{KeptEdge, KeptLine, may_hold, kept_edges, kept_of_edge, kept_of_line}
-use Rattle.pg_syntax.proofs.SetLists.{rising_alike}
-use Rattle.pg_hoa.specs.AutomatonText.{edge_steps, steps_of}
-use Rattle.pg_hoa.specs.Mirrors.Saying.{says}
-use Rattle.pg_hoa.specs.Mirrors.Tables.{says_at, edge_step, kept_edge_steps, kept_steps}
+use Rattle.pg_hoa.proofs.Common.{◌≡◌, ℕ, Bool, true, false, cond, ◌==◌, List, [], ◌∷◌, ◌++◌, map, refl, sym, ap, ◌∙◌, ◌||◌, filter, bit_at}
+use Rattle.pg_hoa.proofs.Common.{list_any-append, rising, has, has_rising, Step, step, holds, Op, No, Edge, StateLine, set_list, KeptEdge}
+use Rattle.pg_hoa.proofs.Common.{KeptLine, may_hold, kept_edges, kept_of_edge, kept_of_line, rising_alike, edge_steps, steps_of, says}
+use Rattle.pg_hoa.proofs.Common.{says_at, edge_step, kept_edge_steps, kept_steps}
 use Rattle.pg_hoa.proofs.Saying.{postfix_says}
 
 -- ---- the edges of a letter

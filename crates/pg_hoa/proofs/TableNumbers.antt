@@ -1,14 +1,6 @@
 -- Steps by their numbers, while more are stored.
-use Rattle.std.proofs.Common.{◌≡◌, ℕ, suc, zero, ◌<◌, List, [], ◌∷◌, ◌++◌, Some, refl, ap, ◌∙◌, arith}
-use Rattle.std.proofs.lemmas.Bool.Decides.{nat_tests}
-use Rattle.std.specs.Prelude.{slice_get}
-use Rattle.pg_automaton.specs.declared.table.Stored.{Stored}
-use Rattle.pg_automaton.specs.Automata.{Step, step}
-use Rattle.pg_automaton.specs.Mirrors.Steps.{◌>>=◌}
-use Rattle.pg_automaton.specs.Mirrors.Tables.{numbered}
-use Rattle.pg_hoa.specs.Mirrors.Tables.{Stage, Extends, MayNumber}
-use Rattle.pg_syntax.proofs.Steps.{bind_some}
-use Rattle.pg_lists.proofs.Steps.{some, none_is_some}
+use Rattle.pg_hoa.proofs.Common.{◌≡◌, ℕ, suc, zero, ◌<◌, List, [], ◌∷◌, ◌++◌, Some, refl, ap, ◌∙◌, arith, nat_tests, slice_get, Stored}
+use Rattle.pg_hoa.proofs.Common.{Step, step, ◌>>=◌, numbered, Stage, Extends, MayNumber, bind_some, some, none_is_some}
 
 slice_get_more : {X : Type 0} (xs ys : List X) (k : ℕ) (x : X) → slice_get xs k ≡ Some x → slice_get (xs ++ ys) k ≡ Some x
 slice_get_more [] ys k x e = absurd (none_is_some x e)

@@ -1,33 +1,15 @@
 -- Which slots a step goes to: bit by bit, block by block, edge by edge and line by line.
-use Rattle.std.proofs.Common.{◌≡◌, ℕ, suc, ◌+◌, ◌-◌, ◌*◌, ◌/◌, ◌%◌, ◌^◌, ◌<◌, ◌≤◌, Bool, true, false, cond, ◌&&◌, ◌||◌, ◌==◌, leb}
-use Rattle.std.proofs.Common.{ltb, min, List, [], ◌∷◌, ◌++◌, length, map, take, get_or, set, refl, sym, ap, subst, ◌∙◌, arith, lit<, lit≤}
-use Rattle.std.proofs.Common.{inl, inr, ◌⊎◌, Decides}
-use Rattle.std.specs.List.{filter}
-use Rattle.std.specs.Prelude.{bit_and}
-use Rattle.std.specs.Int.{bit_at, trailing_zeros, w64}
-use Rattle.std.specs.Int.RustNames.{bit_or}
-use Rattle.std.proofs.lemmas.Bool.{false≢true}
-use Rattle.std.proofs.lemmas.Bool.Decides.{Decides-eqb, Decides-ltb, Decides-and, leb_tells, nat_tests}
-use Rattle.std.proofs.lemmas.Nat.{div-add-mod', mod_below, mul-le, pow-add, pow_pos, pow_below, shr-shr, shr_le}
-use Rattle.std.proofs.lemmas.Nat.Bits.{bit_at-zero, bit_at-trailing_zeros}
-use Rattle.std.proofs.lemmas.List.{map-append, flat_map_more, take_more, get_or-set_same, get_or-set_other}
-use Rattle.std.proofs.lemmas.List.Elements.{filter-append}
-use Rattle.pg_syntax.specs.declared.formula.Op.{Op}
-use Rattle.pg_automaton.specs.Automata.{Step, step, deciding}
-use Rattle.pg_hoa.specs.declared.table.Covered.{Covered}
-use Rattle.pg_hoa.specs.declared.table.Way.{Way}
-use Rattle.pg_lists.specs.Rising.{rising}
-use Rattle.pg_syntax.specs.Mirrors.Kept.{KeptEdge, KeptLine}
-use Rattle.pg_hoa.specs.Mirrors.Saying.{says}
-use Rattle.pg_hoa.specs.Mirrors.Letters.{truth, truth_in, on_at}
-use Rattle.pg_automaton.specs.declared.shape.Shape.{Shape}
+use Rattle.pg_hoa.proofs.Common.{◌≡◌, ℕ, suc, ◌+◌, ◌-◌, ◌*◌, ◌/◌, ◌%◌, ◌^◌, ◌<◌, ◌≤◌, Bool, true, false, cond, ◌&&◌, ◌||◌, ◌==◌, leb, ltb}
+use Rattle.pg_hoa.proofs.Common.{min, List, [], ◌∷◌, ◌++◌, length, map, take, get_or, set, refl, sym, ap, subst, ◌∙◌, arith, lit<, lit≤}
+use Rattle.pg_hoa.proofs.Common.{inl, inr, ◌⊎◌, Decides, filter, bit_and, bit_at, trailing_zeros, w64, bit_or, false≢true, Decides-eqb}
+use Rattle.pg_hoa.proofs.Common.{Decides-ltb, Decides-and, leb_tells, nat_tests, div-add-mod', mod_below, mul-le, pow-add, pow_pos}
+use Rattle.pg_hoa.proofs.Common.{pow_below, shr-shr, shr_le, bit_at-zero, bit_at-trailing_zeros, map-append, flat_map_more, take_more}
+use Rattle.pg_hoa.proofs.Common.{get_or-set_same, get_or-set_other, filter-append, Op, Step, step, deciding, Covered, Way, rising, KeptEdge}
+use Rattle.pg_hoa.proofs.Common.{KeptLine, says, truth, truth_in, on_at, Shape, both_true, SpeaksOf, Stage, HasKey, Adds, IsCovered}
+use Rattle.pg_hoa.proofs.Common.{IsDecided, IsOf, IsRow, when, within, way_step, at_slot, at_word, at_letters, at_line, at_lines, IsSplit}
+use Rattle.pg_hoa.proofs.Common.{says_at, edge_step, kept_edge_steps}
 use Rattle.pg_hoa.proofs.TableFilling.{adds_then, adds_covered, adds_wider, adds_noted, own_key, has_first, has_behind}
 use Rattle.pg_hoa.proofs.TableWords.{truth_and, truth_or, truth_not, truth_none}
-use Rattle.pg_syntax.proofs.Lists.{both_true}
-use Rattle.pg_hoa.specs.Mirrors.Instructions.{SpeaksOf}
-use Rattle.pg_hoa.specs.Mirrors.Tables.{Stage, HasKey, Adds, IsCovered, IsDecided, IsOf, IsRow, when, within, way_step, at_slot, at_word}
-use Rattle.pg_hoa.specs.Mirrors.Tables.{at_letters, at_line, at_lines, IsSplit}
-use Rattle.pg_hoa.specs.Mirrors.Tables.{says_at, edge_step, kept_edge_steps}
 
 -- ---- tests
 

@@ -1,24 +1,12 @@
 -- Edges that stand in another order, but those of one key in theirs: where the steps of a slot agree, their order is the same.
-use Rattle.std.proofs.Common.{◌≡◌, ℕ, ◌/◌, ◌%◌, Bool, true, false, cond, ◌+◌, ◌*◌, ◌==◌, ◌&&◌, ◌||◌, List, [], ◌∷◌, ◌++◌, map, get_or}
-use Rattle.std.proofs.Common.{Option, Some, None, arith, refl, sym, ap, subst, ◌∙◌, inl, inr, ◌⊎◌}
-use Rattle.std.specs.List.{All, filter, list_any}
-use Rattle.std.specs.List.Sorted.{ties}
-use Rattle.std.specs.Option.{option_cmp}
-use Rattle.std.specs.Ordering.{is_lt, nat_cmp, ordering_then}
-use Rattle.std.specs.declared.cmp.Ordering.{Ordering}
+use Rattle.pg_hoa.proofs.Common.{◌≡◌, ℕ, ◌/◌, ◌%◌, Bool, true, false, cond, ◌+◌, ◌*◌, ◌==◌, ◌&&◌, ◌||◌, List, [], ◌∷◌, ◌++◌, map, get_or}
+use Rattle.pg_hoa.proofs.Common.{Option, Some, None, arith, refl, sym, ap, subst, ◌∙◌, inl, inr, ◌⊎◌, All, filter, list_any, ties}
+use Rattle.pg_hoa.proofs.Common.{option_cmp, is_lt, nat_cmp, ordering_then, Ordering, Decides-eqb, nat_tests, false≢true, All-nil, All-cons}
+use Rattle.pg_hoa.proofs.Common.{All-head, All-tail, All-weaker, list_any-append, Shape, Step, deciding, Agree, KeptEdge, Stage, same_set}
+use Rattle.pg_hoa.proofs.Common.{has_key, HasKey, Leads, Adds, IsRegrouped, edge_step, says_at, at_line, both_true}
 use Rattle.std.specs.Prelude.{not}
-use Rattle.std.proofs.lemmas.Bool.Decides.{Decides-eqb, nat_tests}
-use Rattle.std.proofs.lemmas.Bool.{false≢true}
-use Rattle.std.proofs.lemmas.List.Elements.{All-nil, All-cons, All-head, All-tail, All-weaker}
-use Rattle.std.proofs.lemmas.List.Folds.{list_any-append}
-use Rattle.pg_automaton.specs.declared.shape.Shape.{Shape}
-use Rattle.pg_automaton.specs.Automata.{Step, deciding}
-use Rattle.pg_hoa.specs.AutomatonText.{Agree}
-use Rattle.pg_syntax.specs.Mirrors.Kept.{KeptEdge}
-use Rattle.pg_hoa.specs.Mirrors.Tables.{Stage, same_set, has_key, HasKey, Leads, Adds, IsRegrouped, edge_step, says_at, at_line}
 use Rattle.pg_hoa.proofs.TableFilling.{SameKey, same_set_is, own_key, is_key, only_key, has_first, has_later, has_more, has_behind}
 use Rattle.pg_hoa.proofs.TablePlaces.{line_of}
-use Rattle.pg_syntax.proofs.Lists.{both_true}
 
 -- ---- filters
 

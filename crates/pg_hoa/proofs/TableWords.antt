@@ -1,14 +1,9 @@
 -- Words of sixty-four bits, and what they say of letters.
-use Rattle.std.proofs.Common.{◌≡◌, ℕ, suc, zero, ◌+◌, ◌-◌, ◌*◌, ◌^◌, ◌<◌, ◌≤◌, min, max, Bool, true, false, cond, ◌&&◌, ◌||◌, ◌==◌, List}
-use Rattle.std.proofs.Common.{[], ◌∷◌, ◌++◌, map, length, get_or, set, replicate, refl, sym, ap, subst, inl, inr, ◌∙◌, arith}
-use Rattle.std.specs.Int.{bit_at, w64}
-use Rattle.std.specs.Int.RustNames.{bit_or}
-use Rattle.std.specs.Prelude.{bit_and}
-use Rattle.std.proofs.lemmas.Nat.Bits.{bit_at_and, bit_at_or, bit_at_not, bit_at-lt, bit_at_ones, bit_at-zero, bit_at_cat_low}
-use Rattle.std.proofs.lemmas.Nat.Bits.{bit_at_cat_high, bit_at_above}
-use Rattle.std.proofs.lemmas.Bool.Decides.{Decides-below_and, Decides-eqb, leb_tells, nat_tests}
-use Rattle.std.proofs.lemmas.List.{reverse-append, get_or-replicate, get_or-set_same, get_or-set_other}
-use Rattle.pg_hoa.specs.Mirrors.Letters.{truth, truth_in, on_at, truths}
+use Rattle.pg_hoa.proofs.Common.{◌≡◌, ℕ, suc, zero, ◌+◌, ◌-◌, ◌*◌, ◌^◌, ◌<◌, ◌≤◌, min, max, Bool, true, false, cond, ◌&&◌, ◌||◌, ◌==◌, List}
+use Rattle.pg_hoa.proofs.Common.{[], ◌∷◌, ◌++◌, map, length, get_or, set, replicate, refl, sym, ap, subst, inl, inr, ◌∙◌, arith, bit_at}
+use Rattle.pg_hoa.proofs.Common.{w64, bit_or, bit_and, bit_at_and, bit_at_or, bit_at_not, bit_at-lt, bit_at_ones, bit_at-zero}
+use Rattle.pg_hoa.proofs.Common.{bit_at_cat_low, bit_at_cat_high, bit_at_above, Decides-below_and, Decides-eqb, leb_tells, nat_tests}
+use Rattle.pg_hoa.proofs.Common.{reverse-append, get_or-replicate, get_or-set_same, get_or-set_other, truth, truth_in, on_at, truths}
 
 -- ---- bits
 

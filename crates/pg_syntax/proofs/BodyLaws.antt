@@ -1,33 +1,19 @@
 -- What the reader of a body gives is written there, and what is written there it gives.
-use Rattle.std.proofs.Common.{◌≡◌, ℕ, suc, zero, ◌≤◌, ◌<◌, Bool, true, false, cond, List, [], ◌∷◌, ◌++◌, length, Option, Some, None, refl}
-use Rattle.std.proofs.Common.{sym, ap, subst, ◌∙◌, arith, append_assoc, inl, inr}
-use Rattle.std.specs.Prelude.{map, codes, Contains, ◌==◌, ◌||◌, nat_lt}
-use Rattle.std.specs.List.{AllByRecursion, flat_map}
-use Rattle.std.specs.Str.{bytes_eq}
-use Rattle.std.proofs.lemmas.Bool.{lt-ltb, eq-eqb}
+use Rattle.pg_syntax.proofs.Common.{◌≡◌, ℕ, suc, zero, ◌≤◌, ◌<◌, Bool, true, false, cond, List, [], ◌∷◌, ◌++◌, length, Option, Some, None}
+use Rattle.pg_syntax.proofs.Common.{refl, sym, ap, subst, ◌∙◌, arith, append_assoc, inl, inr, map, codes, Contains, ◌==◌, ◌||◌, nat_lt}
+use Rattle.pg_syntax.proofs.Common.{AllByRecursion, flat_map, bytes_eq, lt-ltb, eq-eqb, All-cons, All-head, All-tail, All-from_recursion}
+use Rattle.pg_syntax.proofs.Common.{All-map, All-contains, Contains-append_left, Contains-append_right, Contains-push, eqb_tells, nat_tests}
+use Rattle.pg_syntax.proofs.Common.{bytes_eq-Decides, Label, Op, Lexeme, number, header, string, end, left_bracket, right_bracket}
+use Rattle.pg_syntax.proofs.Common.{left_brace, right_brace, ampersand, stray, Character, formula_lexemes, ops_at, first, IsToken, ◌>>=◌}
+use Rattle.pg_syntax.proofs.Common.{Edge, StateLine, sets_lexemes, name_lexemes, edge_lexemes, state_lexemes, set_list, EachBelow}
+use Rattle.pg_syntax.proofs.Common.{IsDistinct, EdgeFits, LineFits, KeptEdge, KeptLine, kept_edges, greatest_of, kept_of_edge, kept_of_line}
+use Rattle.pg_syntax.proofs.Common.{due, state_of, new_state, set_in, behind_set, sets_at, rising_sets_at, sets_before, sets_if}
+use Rattle.pg_syntax.proofs.Common.{bracket_first, behind_label, single, target_at, edge_at, begins_edge, edges_within, edges_at}
+use Rattle.pg_syntax.proofs.Common.{kept_edges_at, name_first, behind_name, line_at, begins_line, is_seen, lines_within, body_at, rising}
+use Rattle.pg_syntax.proofs.Common.{chosen, some, some_is, none_is_some}
 use Rattle.std.proofs.lemmas.List.{length-append}
-use Rattle.std.proofs.lemmas.List.Elements.{All-cons, All-head, All-tail, All-from_recursion, All-map, All-contains, Contains-append_left}
-use Rattle.std.proofs.lemmas.List.Elements.{Contains-append_right, Contains-push}
-use Rattle.std.proofs.lemmas.Bool.Decides.{eqb_tells, nat_tests}
-use Rattle.std.proofs.lemmas.Slice.Eq.{bytes_eq-Decides}
-use Rattle.pg_syntax.specs.declared.formula.Kind.TheVariants.{Label}
-use Rattle.pg_syntax.specs.declared.formula.Op.{Op}
-use Rattle.pg_syntax.specs.Lexemes.{Lexeme, number, header, string, end, left_bracket, right_bracket, left_brace, right_brace, ampersand}
-use Rattle.pg_syntax.specs.Lexemes.{stray, Character}
-use Rattle.pg_syntax.specs.FormulaTexts.{formula_lexemes}
-use Rattle.pg_syntax.specs.Mirrors.FormulaRun.{ops_at}
-use Rattle.pg_syntax.specs.Mirrors.Scan.{first, IsToken}
-use Rattle.pg_automaton.specs.Mirrors.Steps.{◌>>=◌}
-use Rattle.pg_syntax.specs.Syntax.{Edge, StateLine, sets_lexemes, name_lexemes, edge_lexemes, state_lexemes, set_list, EachBelow}
-use Rattle.pg_syntax.specs.Syntax.{IsDistinct, EdgeFits, LineFits}
-use Rattle.pg_syntax.specs.Mirrors.Kept.{KeptEdge, KeptLine, kept_edges, greatest_of, kept_of_edge, kept_of_line}
-use Rattle.pg_syntax.specs.Mirrors.BodyScan.{due, state_of, new_state, set_in, behind_set, sets_at, rising_sets_at, sets_before, sets_if}
-use Rattle.pg_syntax.specs.Mirrors.BodyScan.{bracket_first, behind_label, single, target_at, edge_at, begins_edge, edges_within, edges_at}
-use Rattle.pg_syntax.specs.Mirrors.BodyScan.{kept_edges_at, name_first, behind_name, line_at, begins_line, is_seen, lines_within, body_at}
-use Rattle.pg_lists.specs.Rising.{rising}
 use Rattle.pg_syntax.proofs.Lists.{all_of_both}
 use Rattle.pg_syntax.proofs.Steps.{bind_some}
-use Rattle.pg_lists.proofs.Steps.{chosen, some, some_is, none_is_some}
 use Rattle.pg_syntax.proofs.FormulaLaws.{number_tokens, ReadsFormula, ops_take, ops_again, formula_tokens}
 
 -- ---- tokens one by one

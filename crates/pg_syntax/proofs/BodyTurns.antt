@@ -1,28 +1,12 @@
 -- Token by token through a body.
-use Rattle.std.proofs.Common.{◌≡◌, ℕ, suc, zero, ◌≤◌, ◌<◌, max, Bool, true, false, List, [], ◌∷◌, ◌++◌, length, get_or, Option, Some, None, refl}
-use Rattle.std.proofs.Common.{sym, ap, subst, ◌∙◌, arith, append_assoc, inl, inr}
-use Rattle.std.specs.Prelude.{◌||◌}
-use Rattle.std.proofs.Math.ListN.{set, replicate}
-use Rattle.std.proofs.lemmas.Bool.{ltb-true}
-use Rattle.std.proofs.lemmas.Bool.Decides.{eqb_tells, nat_tests}
-use Rattle.std.proofs.lemmas.List.Elements.{filter-append}
-use Rattle.std.proofs.lemmas.List.Sums.{fold-append}
-use Rattle.std.proofs.lemmas.List.{map-append, append-nil, length-set, length-replicate, get_or-replicate, get_or-set_same, get_or-set_other}
-use Rattle.pg_syntax.specs.declared.fault.Refusal.{Refusal}
-use Rattle.pg_syntax.specs.declared.fault.Refusal.TheVariants.{Memory, Wrong}
-use Rattle.pg_syntax.specs.Lexemes.{Lexeme, number, stray}
-use Rattle.pg_syntax.specs.Mirrors.Scan.{first}
-use Rattle.pg_automaton.specs.Mirrors.Steps.{◌>>=◌}
-use Rattle.pg_syntax.specs.Mirrors.Steps.{Fails}
-use Rattle.pg_syntax.specs.Mirrors.Kept.{KeptEdge, KeptLine, may_hold, kept_edges, greatest_of}
-use Rattle.pg_syntax.specs.Mirrors.BodyScan.{due, state_of, new_state, set_in, sets_at, rising_sets_at, sets_if, edge_at, begins_edge}
-use Rattle.pg_syntax.specs.Mirrors.BodyScan.{edges_within, edges_at, kept_edges_at, behind_name, line_at, begins_line, is_seen}
-use Rattle.pg_syntax.specs.Mirrors.BodyScan.{lines_within}
-use Rattle.pg_syntax.specs.Mirrors.BodyScan.{body_at}
-use Rattle.std.specs.List.Sorted.{IsStrictlyIncreasing}
-use Rattle.pg_lists.specs.Rising.{put, rising}
-use Rattle.pg_lists.proofs.Rising.{rising_put, rising_rises}
-use Rattle.pg_lists.proofs.Steps.{some}
+use Rattle.pg_syntax.proofs.Common.{◌≡◌, ℕ, suc, zero, ◌≤◌, ◌<◌, max, Bool, true, false, List, [], ◌∷◌, ◌++◌, length, get_or, Option, Some}
+use Rattle.pg_syntax.proofs.Common.{None, refl, sym, ap, subst, ◌∙◌, arith, append_assoc, inl, inr, ◌||◌, set, replicate, ltb-true}
+use Rattle.pg_syntax.proofs.Common.{eqb_tells, nat_tests, filter-append, fold-append, map-append, append-nil, length-set, length-replicate}
+use Rattle.pg_syntax.proofs.Common.{get_or-replicate, get_or-set_same, get_or-set_other, Refusal, Memory, Wrong, Lexeme, number, stray}
+use Rattle.pg_syntax.proofs.Common.{first, ◌>>=◌, Fails, KeptEdge, KeptLine, may_hold, kept_edges, greatest_of, due, state_of, new_state}
+use Rattle.pg_syntax.proofs.Common.{set_in, sets_at, rising_sets_at, sets_if, edge_at, begins_edge, edges_within, edges_at, kept_edges_at}
+use Rattle.pg_syntax.proofs.Common.{behind_name, line_at, begins_line, is_seen, lines_within, body_at, IsStrictlyIncreasing, put, rising}
+use Rattle.pg_syntax.proofs.Common.{rising_put, rising_rises, some}
 use Rattle.pg_syntax.proofs.BodyLaws.{due_is, edge_shorter, line_shorter}
 
 -- what was read before, and then the rest

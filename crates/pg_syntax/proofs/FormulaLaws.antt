@@ -1,17 +1,9 @@
 -- What the reader of labels and conditions gives is written there, and what is written there it gives.
-use Rattle.std.proofs.Common.{◌≡◌, ℕ, List, [], ◌∷◌, ◌++◌, map, Some, sym, ap, ◌∙◌}
-use Rattle.std.specs.List.{AllByRecursion}
-use Rattle.pg_syntax.specs.declared.formula.Kind.{Kind}
-use Rattle.pg_syntax.specs.declared.formula.Op.{Op}
-use Rattle.pg_syntax.specs.Lexemes.{Lexeme, number, right_paren, ampersand, bar}
-use Rattle.pg_syntax.specs.Mirrors.Scan.{IsToken}
-use Rattle.pg_automaton.specs.Formulas.{Formula, yes, no, proposition, inf, fin, not, both, either, bracket}
-use Rattle.pg_syntax.specs.FormulaTexts.{formula_lexemes, IsWritten}
-use Rattle.pg_syntax.specs.Mirrors.FormulaRun.{postfix, ops_at}
-use Rattle.pg_syntax.specs.Mirrors.FormulaScan.{formula_at}
+use Rattle.pg_syntax.proofs.Common.{◌≡◌, ℕ, List, [], ◌∷◌, ◌++◌, map, Some, sym, ap, ◌∙◌, AllByRecursion, Kind, Op, Lexeme, number}
+use Rattle.pg_syntax.proofs.Common.{right_paren, ampersand, bar, IsToken, Formula, yes, no, proposition, inf, fin, not, both, either}
+use Rattle.pg_syntax.proofs.Common.{bracket, formula_lexemes, IsWritten, postfix, ops_at, formula_at, some, some_is}
 use Rattle.pg_syntax.proofs.Lists.{all_of_both}
 use Rattle.pg_syntax.proofs.Steps.{bind_some}
-use Rattle.pg_lists.proofs.Steps.{some, some_is}
 use Rattle.pg_syntax.proofs.FormulasTake.{formula_takes}
 use Rattle.pg_syntax.proofs.FormulasAgain.{Ends, formula_again}
 use Rattle.pg_syntax.proofs.FormulaOps.{as_ops, formula_keeps}

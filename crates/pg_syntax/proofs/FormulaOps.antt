@@ -1,29 +1,16 @@
 -- The operations that are kept are those of the formula that is read.
-use Rattle.std.proofs.Common.{◌≡◌, ℕ, suc, zero, ◌+◌, Bool, true, false, cond, ltb, List, [], ◌∷◌, ◌++◌, Option, Some, None, refl, sym, ◌∙◌}
-use Rattle.std.proofs.Common.{arith, append_assoc}
-use Rattle.std.proofs.lemmas.Bool.Decides.{nat_tests}
-use Rattle.std.specs.Prelude.{codes, nat_lt}
-use Rattle.std.specs.Str.{bytes_eq}
-use Rattle.std.proofs.lemmas.List.{append-nil}
-use Rattle.std.proofs.lemmas.Bool.{lt-ltb, le-ltb}
-use Rattle.pg_syntax.specs.declared.formula.Kind.{Kind}
-use Rattle.pg_syntax.specs.declared.formula.Kind.TheVariants.{Label, Condition}
-use Rattle.pg_syntax.specs.declared.formula.Op.{Op}
+use Rattle.pg_syntax.proofs.Common.{◌≡◌, ℕ, suc, zero, ◌+◌, Bool, true, false, cond, ltb, List, [], ◌∷◌, ◌++◌, Option, Some, None, refl}
+use Rattle.pg_syntax.proofs.Common.{sym, ◌∙◌, arith, append_assoc, nat_tests, codes, nat_lt, bytes_eq, append-nil, lt-ltb, le-ltb, Kind}
+use Rattle.pg_syntax.proofs.Common.{Label, Condition, Op, Mode, Lexeme, number, identifier, left_paren, right_paren, bang, ampersand, bar}
+use Rattle.pg_syntax.proofs.Common.{Formula, yes, no, proposition, not, bracket, ◌>>=◌, Frame, fresh, State, operand, opening, naming}
+use Rattle.pg_syntax.proofs.Common.{closing, operator, summed, deeper, word_step, operand_step, operator_step, multiplied, negated, limited}
+use Rattle.pg_syntax.proofs.Common.{completes, step, finish, stops, formula_from, formula_at, KeptReading, with_op, not_ops, both_ops}
+use Rattle.pg_syntax.proofs.Common.{either_ops, limit_op, completed_at, operand_at, negated_at, opened_at, product_at, sum_at, closed_at}
+use Rattle.pg_syntax.proofs.Common.{limit_at, word_at, operand_turn, operator_turn, opening_turn, naming_turn, closing_turn, turn_at}
+use Rattle.pg_syntax.proofs.Common.{goes_on, goes_on_at, ops_in, over_at, ops_from, ops_at, postfix}
 use Rattle.pg_syntax.specs.declared.formula.Op.TheVariants as ops
 use Rattle.pg_syntax.specs.declared.formula.Frame as rust
-use Rattle.pg_syntax.specs.declared.formula.Mode.{Mode}
 use Rattle.pg_syntax.specs.declared.formula.Mode.TheVariants as modes
-use Rattle.pg_syntax.specs.Lexemes.{Lexeme, number, identifier, left_paren, right_paren, bang, ampersand, bar}
-use Rattle.pg_automaton.specs.Formulas.{Formula, yes, no, proposition, not, bracket}
-use Rattle.pg_automaton.specs.Mirrors.Steps.{◌>>=◌}
-use Rattle.pg_syntax.specs.Mirrors.FormulaScan.{Frame, fresh, State, operand, opening, naming, closing, operator, summed, deeper, word_step}
-use Rattle.pg_syntax.specs.Mirrors.FormulaScan.{operand_step, operator_step, multiplied, negated, limited, completes, step, finish, stops}
-use Rattle.pg_syntax.specs.Mirrors.FormulaScan.{formula_from, formula_at}
-use Rattle.pg_syntax.specs.Mirrors.FormulaRun.{KeptReading, with_op, not_ops, both_ops, either_ops, limit_op, completed_at, operand_at, negated_at}
-use Rattle.pg_syntax.specs.Mirrors.FormulaRun.{opened_at}
-use Rattle.pg_syntax.specs.Mirrors.FormulaRun.{product_at, sum_at, closed_at, limit_at, word_at, operand_turn, operator_turn, opening_turn}
-use Rattle.pg_syntax.specs.Mirrors.FormulaRun.{naming_turn, closing_turn, turn_at, goes_on, goes_on_at, ops_in, over_at, ops_from, ops_at}
-use Rattle.pg_syntax.specs.Mirrors.FormulaRun.{postfix}
 use Rattle.pg_syntax.proofs.Frames.{split_pushed}
 
 abbrev is_some : Option Formula → Bool

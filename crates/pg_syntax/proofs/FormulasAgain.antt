@@ -1,14 +1,9 @@
 -- A formula that is written is read.
-use Rattle.std.proofs.Common.{◌≡◌, ℕ, suc, zero, ◌+◌, ◌≤◌, ◌<◌, List, [], ◌∷◌, ◌++◌, Option, Some, None, refl, ap, ◌∙◌, arith, append_assoc}
-use Rattle.std.proofs.lemmas.Bool.Decides.{nat_tests}
-use Rattle.std.proofs.lemmas.Bool.{lt-ltb}
-use Rattle.pg_syntax.specs.Lexemes.{Lexeme, right_paren, ampersand, bar, stray}
-use Rattle.pg_syntax.specs.declared.formula.Kind.{Kind}
-use Rattle.pg_syntax.specs.declared.formula.Kind.TheVariants.{Label, Condition}
-use Rattle.pg_automaton.specs.Formulas.{Formula, yes, no, proposition, inf, fin, not, both, either, bracket}
-use Rattle.pg_syntax.specs.FormulaTexts.{formula_lexemes, rank, IsGrouped}
-use Rattle.pg_syntax.specs.FormulaTexts.{nesting, IsOf, IsWritten}
-use Rattle.pg_syntax.specs.Mirrors.FormulaScan.{Frame, fresh, State, operand, operator, summed, completes, formula_from, formula_at}
+use Rattle.pg_syntax.proofs.Common.{◌≡◌, ℕ, suc, zero, ◌+◌, ◌≤◌, ◌<◌, List, [], ◌∷◌, ◌++◌, Option, Some, None, refl, ap, ◌∙◌, arith}
+use Rattle.pg_syntax.proofs.Common.{append_assoc, nat_tests, lt-ltb, Lexeme, right_paren, ampersand, bar, stray, Kind, Label, Condition}
+use Rattle.pg_syntax.proofs.Common.{Formula, yes, no, proposition, inf, fin, not, both, either, bracket, formula_lexemes, rank, IsGrouped}
+use Rattle.pg_syntax.proofs.Common.{nesting, IsOf, IsWritten, Frame, fresh, State, operand, operator, summed, completes, formula_from}
+use Rattle.pg_syntax.proofs.Common.{formula_at}
 
 abbrev starting : Option Formula → Frame
 starting sum = record { sum = sum; product = None; nots = 0 }

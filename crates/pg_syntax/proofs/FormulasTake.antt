@@ -1,24 +1,13 @@
 -- A formula that is read is written there.
-use Rattle.std.proofs.Common.{◌≡◌, ℕ, suc, zero, ◌+◌, ◌≤◌, ◌<◌, Bool, cond, List, [], ◌∷◌, ◌++◌, Option, Some, None, refl, sym, ap, subst}
-use Rattle.std.proofs.Common.{◌∙◌, arith, append_assoc, true, false, inl, inr}
-use Rattle.std.proofs.lemmas.Bool.Decides.{nat_tests}
-use Rattle.std.specs.Prelude.{codes, nat_lt}
-use Rattle.std.specs.Str.{bytes_eq}
-use Rattle.std.proofs.lemmas.Slice.Eq.{bytes_eq-Decides}
-use Rattle.std.proofs.lemmas.List.{append-nil}
-use Rattle.pg_syntax.specs.Lexemes.{Lexeme, number, identifier, left_paren, right_paren, bang, ampersand, bar}
-use Rattle.pg_syntax.specs.declared.formula.Kind.{Kind}
-use Rattle.pg_syntax.specs.declared.formula.Kind.TheVariants.{Label, Condition}
-use Rattle.pg_automaton.specs.Formulas.{Formula, yes, no, proposition, inf, fin, not, bracket}
-use Rattle.pg_syntax.specs.FormulaTexts.{formula_lexemes, rank, IsGrouped, nesting, IsOf, IsWritten}
-use Rattle.pg_automaton.specs.Mirrors.Steps.{◌>>=◌}
-use Rattle.pg_syntax.specs.Mirrors.FormulaScan.{Frame, fresh, State, operand, opening, naming, closing, operator, summed, multiplied}
-use Rattle.pg_syntax.specs.Mirrors.FormulaScan.{negated}
-use Rattle.pg_syntax.specs.Mirrors.FormulaScan.{limited, completes, deeper, word_step, operand_step, opening_step, naming_step}
-use Rattle.pg_syntax.specs.Mirrors.FormulaScan.{closing_step}
-use Rattle.pg_syntax.specs.Mirrors.FormulaScan.{operator_step, step, finish, stops, formula_from, formula_at}
+use Rattle.pg_syntax.proofs.Common.{◌≡◌, ℕ, suc, zero, ◌+◌, ◌≤◌, ◌<◌, Bool, cond, List, [], ◌∷◌, ◌++◌, Option, Some, None, refl, sym, ap}
+use Rattle.pg_syntax.proofs.Common.{subst, ◌∙◌, arith, append_assoc, true, false, inl, inr, nat_tests, codes, nat_lt, bytes_eq}
+use Rattle.pg_syntax.proofs.Common.{bytes_eq-Decides, append-nil, Lexeme, number, identifier, left_paren, right_paren, bang, ampersand, bar}
+use Rattle.pg_syntax.proofs.Common.{Kind, Label, Condition, Formula, yes, no, proposition, inf, fin, not, bracket, formula_lexemes, rank}
+use Rattle.pg_syntax.proofs.Common.{IsGrouped, nesting, IsOf, IsWritten, ◌>>=◌, Frame, fresh, State, operand, opening, naming, closing}
+use Rattle.pg_syntax.proofs.Common.{operator, summed, multiplied, negated, limited, completes, deeper, word_step, operand_step}
+use Rattle.pg_syntax.proofs.Common.{opening_step, naming_step, closing_step, operator_step, step, finish, stops, formula_from, formula_at}
+use Rattle.pg_syntax.proofs.Common.{chosen, some, some_is, none_is_some}
 use Rattle.pg_syntax.proofs.Steps.{bind_some}
-use Rattle.pg_lists.proofs.Steps.{chosen, some, some_is, none_is_some}
 
 -- ---- the tokens read so far
 

@@ -1,7 +1,6 @@
 -- The last of the frames.
-use Rattle.std.proofs.Common.{◌≡◌, List, [], ◌∷◌, ◌++◌, Some, refl}
+use Rattle.pg_syntax.proofs.Common.{◌≡◌, List, [], ◌∷◌, ◌++◌, Some, refl, split_last}
 use Rattle.pg_syntax.specs.declared.formula.Frame.{Frame}
-use Rattle.pg_syntax.specs.Mirrors.FormulaRun.{split_last}
 
 pub split_pushed : (fs : List Frame) (f : Frame) → split_last (fs ++ (f ∷ [])) ≡ Some (fs, f)
 split_pushed [] f = refl

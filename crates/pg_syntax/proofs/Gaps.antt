@@ -1,12 +1,7 @@
 -- White space and comments, as a loop skips them.
-use Rattle.std.proofs.Common.{◌≡◌, ℕ, zero, suc, ◌≤◌, ◌<◌, List, [], ◌∷◌, length, Option, Some, None, refl, subst, arith, eqb}
-use Rattle.std.proofs.lemmas.Bool.Decides.{nat_tests}
-use Rattle.pg_automaton.specs.Mirrors.Steps.{◌>>=◌}
-use Rattle.pg_syntax.specs.Mirrors.Steps.{Fails}
-use Rattle.pg_syntax.specs.Mirrors.Scan.{gap_step, behind_blank, gap_within, gap_from}
-use Rattle.pg_syntax.specs.declared.fault.Refusal.{Refusal}
-use Rattle.pg_syntax.specs.declared.fault.Refusal.TheVariants.{Memory, Wrong}
-use Rattle.pg_lists.proofs.Steps.{chosen, some, some_is, none, none_is_some}
+use Rattle.pg_syntax.proofs.Common.{◌≡◌, ℕ, zero, suc, ◌≤◌, ◌<◌, List, [], ◌∷◌, length, Option, Some, None, refl, subst, arith, eqb}
+use Rattle.pg_syntax.proofs.Common.{nat_tests, ◌>>=◌, Fails, gap_step, behind_blank, gap_within, gap_from, Refusal, Memory, Wrong, chosen}
+use Rattle.pg_syntax.proofs.Common.{some, some_is, none, none_is_some}
 
 -- a byte at least is taken, and no more comments are open than may be
 pub record Takes (deep : ℕ) (bytes : List ℕ) (x : ℕ × List ℕ) : Type 0 where

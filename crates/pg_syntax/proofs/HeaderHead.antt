@@ -1,17 +1,8 @@
 -- The head that the headers of a text spell, where the text says an automaton.
-use Rattle.std.proofs.Common.{◌≡◌, ℕ, ◌≤◌, List, [], ◌∷◌, length, map, Option, Some, None, refl, ap, subst, arith}
-use Rattle.std.specs.Prelude.{IfSome}
-use Rattle.std.specs.List.{flat_map, AllByRecursion}
-use Rattle.std.proofs.lemmas.List.{append-nil, length-map}
-use Rattle.pg_syntax.specs.declared.formula.Op.{Op}
-use Rattle.pg_syntax.specs.Lexemes.{Character}
-use Rattle.pg_automaton.specs.Formulas.{Formula}
-use Rattle.pg_syntax.specs.Mirrors.FormulaRun.{postfix}
-use Rattle.pg_automaton.specs.Automata.{Automaton, IsPropositionName}
-use Rattle.pg_syntax.specs.Syntax.{Header, Written, Says, AtMostOne, count_of, character_code, state_counts, starts, names, acceptances}
-use Rattle.pg_syntax.specs.Syntax.{controls}
-use Rattle.pg_syntax.specs.Mirrors.Kept.{KeptHead}
-use Rattle.pg_syntax.specs.Mirrors.HeaderScan.{noted, empty_head}
+use Rattle.pg_syntax.proofs.Common.{◌≡◌, ℕ, ◌≤◌, List, [], ◌∷◌, length, map, Option, Some, None, refl, ap, subst, arith, IfSome, flat_map}
+use Rattle.pg_syntax.proofs.Common.{AllByRecursion, append-nil, length-map, Op, Character, Formula, postfix, Automaton, IsPropositionName}
+use Rattle.pg_syntax.proofs.Common.{Header, Written, Says, AtMostOne, count_of, character_code, state_counts, starts, names, acceptances}
+use Rattle.pg_syntax.proofs.Common.{controls, KeptHead, noted, empty_head}
 use Rattle.pg_syntax.proofs.HeaderParts.{option_list, Adds, IsWithin}
 use Rattle.pg_syntax.proofs.HeaderLaws.{SaysHeaders}
 

@@ -1,31 +1,17 @@
 -- What the reader of headers gives is written there, and what is written there it gives.
-use Rattle.std.proofs.Common.{◌≡◌, ◌≢◌, ℕ, suc, zero, ◌≤◌, ◌<◌, true, false, List, [], ◌∷◌, ◌++◌, length, map, Option, Some, None}
-use Rattle.std.proofs.Common.{refl, sym, ap, subst, ◌∙◌, arith, append_assoc, inl, inr}
-use Rattle.std.proofs.lemmas.Bool.Decides.{nat_tests}
-use Rattle.std.specs.Prelude.{codes, IfSome, if◌then◌else◌}
-use Rattle.std.specs.Str.{bytes_eq}
-use Rattle.std.specs.List.{flat_map, AllByRecursion}
-use Rattle.std.proofs.lemmas.List.{length-append, length-map}
-use Rattle.std.proofs.lemmas.Slice.Eq.{bytes_eq-Decides}
-use Rattle.pg_syntax.specs.declared.formula.Op.{Op}
-use Rattle.pg_syntax.specs.declared.formula.Kind.TheVariants.{Condition}
-use Rattle.pg_syntax.specs.Lexemes.{Lexeme, number, identifier, header, string, body, Character}
-use Rattle.pg_syntax.specs.Mirrors.Scan.{IsToken}
-use Rattle.pg_automaton.specs.Mirrors.Steps.{◌>>=◌}
-use Rattle.pg_automaton.specs.Formulas.{Formula}
-use Rattle.pg_syntax.specs.FormulaTexts.{formula_lexemes, IsWritten}
-use Rattle.pg_syntax.specs.Mirrors.FormulaRun.{ops_at, postfix}
-use Rattle.pg_automaton.specs.Automata.{IsPropositionName}
-use Rattle.pg_syntax.specs.Syntax.{Header, header_lexemes, IsHeader, value_lexeme, character_code, state_counts, starts, names, acceptances}
-use Rattle.pg_syntax.specs.Syntax.{controls}
+use Rattle.pg_syntax.proofs.Common.{◌≡◌, ◌≢◌, ℕ, suc, zero, ◌≤◌, ◌<◌, true, false, List, [], ◌∷◌, ◌++◌, length, map, Option, Some, None}
+use Rattle.pg_syntax.proofs.Common.{refl, sym, ap, subst, ◌∙◌, arith, append_assoc, inl, inr, nat_tests, codes, IfSome, if◌then◌else◌}
+use Rattle.pg_syntax.proofs.Common.{bytes_eq, flat_map, AllByRecursion, length-map, bytes_eq-Decides, Op, Condition, Lexeme, number}
+use Rattle.pg_syntax.proofs.Common.{identifier, header, string, body, Character, IsToken, ◌>>=◌, Formula, formula_lexemes, IsWritten}
+use Rattle.pg_syntax.proofs.Common.{ops_at, postfix, IsPropositionName, Header, header_lexemes, IsHeader, value_lexeme, character_code}
+use Rattle.pg_syntax.proofs.Common.{state_counts, starts, names, acceptances, controls, KeptHead, numeral_at, alone_at, numbers_from, noted}
+use Rattle.pg_syntax.proofs.Common.{noted_at, skipped_from, names_from, once, states_at, start_at, names_at, acceptance_at, controls_at}
+use Rattle.pg_syntax.proofs.Common.{begins_low, other_at, header_at, empty_head, headers_within, headers_from, opening_at, version_at}
+use Rattle.pg_syntax.proofs.Common.{headers_at, chosen, some, some_is, none, none_is_some}
+use Rattle.std.proofs.lemmas.List.{length-append}
 use Rattle.pg_syntax.specs.Syntax as text
-use Rattle.pg_syntax.specs.Mirrors.Kept.{KeptHead}
-use Rattle.pg_syntax.specs.Mirrors.HeaderScan.{numeral_at, alone_at, numbers_from, noted, noted_at, skipped_from, names_from, once}
-use Rattle.pg_syntax.specs.Mirrors.HeaderScan.{states_at, start_at, names_at, acceptance_at, controls_at, begins_low, other_at, header_at}
-use Rattle.pg_syntax.specs.Mirrors.HeaderScan.{empty_head, headers_within, headers_from, opening_at, version_at, headers_at}
 use Rattle.pg_syntax.proofs.Lists.{all_of_both}
 use Rattle.pg_syntax.proofs.Steps.{bind_some}
-use Rattle.pg_lists.proofs.Steps.{chosen, some, some_is, none, none_is_some}
 use Rattle.pg_syntax.proofs.FormulasAgain.{Ends}
 use Rattle.pg_syntax.proofs.FormulaLaws.{number_tokens, ops_take, ops_again, formula_tokens}
 use Rattle.pg_syntax.proofs.HeaderValues.{Follows, numeral_take, numeral_again, alone_take, alone_again, TakesNumbers, numbers_take}

@@ -1,18 +1,9 @@
 -- What headers say, one after another.
-use Rattle.std.proofs.Common.{◌≡◌, ℕ, ◌≤◌, List, [], ◌∷◌, ◌++◌, length, map, Option, Some, None, refl, sym, ap, ◌∙◌, append_assoc, arith}
-use Rattle.std.proofs.lemmas.Bool.Decides.{nat_tests}
-use Rattle.std.specs.Prelude.{IfSome}
-use Rattle.std.specs.List.{flat_map, AllByRecursion}
-use Rattle.std.proofs.lemmas.List.{append-nil, map-append}
-use Rattle.pg_syntax.specs.declared.formula.Op.{Op}
-use Rattle.pg_automaton.specs.Formulas.{Formula}
-use Rattle.pg_syntax.specs.Mirrors.FormulaRun.{postfix}
-use Rattle.pg_automaton.specs.Automata.{IsPropositionName}
-use Rattle.pg_syntax.specs.Syntax.{Header, state_counts, starts, names, acceptances, controls, character_code}
+use Rattle.pg_syntax.proofs.Common.{◌≡◌, ℕ, ◌≤◌, List, [], ◌∷◌, ◌++◌, length, map, Option, Some, None, refl, sym, ap, ◌∙◌, append_assoc}
+use Rattle.pg_syntax.proofs.Common.{arith, nat_tests, IfSome, flat_map, AllByRecursion, append-nil, map-append, Op, Formula, postfix}
+use Rattle.pg_syntax.proofs.Common.{IsPropositionName, Header, state_counts, starts, names, acceptances, controls, character_code}
+use Rattle.pg_syntax.proofs.Common.{Character, KeptHead, noted}
 use Rattle.pg_syntax.specs.Syntax as text
-use Rattle.pg_syntax.specs.Lexemes.{Character}
-use Rattle.pg_syntax.specs.Mirrors.Kept.{KeptHead}
-use Rattle.pg_syntax.specs.Mirrors.HeaderScan.{noted}
 
 -- nothing, or one
 abbrev pub option_list : {A : Type 0} → Option A → List A

@@ -1,15 +1,7 @@
 -- Header by header.
-use Rattle.std.proofs.Common.{◌≡◌, ℕ, suc, zero, ◌<◌, List, ◌∷◌, length, Option, Some, None, refl, sym, arith}
-use Rattle.std.proofs.lemmas.Bool.Decides.{nat_tests}
-use Rattle.pg_syntax.specs.declared.fault.Refusal.{Refusal}
-use Rattle.pg_syntax.specs.declared.fault.Refusal.TheVariants.{Memory, Wrong}
-use Rattle.pg_syntax.specs.Lexemes.{Lexeme, header, body}
-use Rattle.pg_syntax.specs.Mirrors.Scan.{first}
-use Rattle.pg_automaton.specs.Mirrors.Steps.{◌>>=◌}
-use Rattle.pg_syntax.specs.Mirrors.Steps.{Fails}
-use Rattle.pg_syntax.specs.Mirrors.Kept.{KeptHead}
-use Rattle.pg_syntax.specs.Mirrors.HeaderScan.{header_at, headers_within, headers_from}
-use Rattle.pg_lists.proofs.Steps.{none_is_some}
+use Rattle.pg_syntax.proofs.Common.{◌≡◌, ℕ, suc, zero, ◌<◌, List, ◌∷◌, length, Option, Some, None, refl, sym, arith, nat_tests, Refusal}
+use Rattle.pg_syntax.proofs.Common.{Memory, Wrong, Lexeme, header, body, first, ◌>>=◌, Fails, KeptHead, header_at, headers_within}
+use Rattle.pg_syntax.proofs.Common.{headers_from, none_is_some}
 use Rattle.pg_syntax.proofs.Turning.{first_end, first_token}
 use Rattle.pg_syntax.proofs.HeaderLaws.{header_shorter}
 

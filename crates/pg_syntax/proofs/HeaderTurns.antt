@@ -1,19 +1,9 @@
 -- Token by token through the values of headers.
-use Rattle.std.proofs.Common.{◌≡◌, ℕ, suc, ◌<◌, Bool, true, false, eqb, List, [], ◌∷◌, ◌++◌, length, map, Option, Some, None, refl, sym, ap}
-use Rattle.std.proofs.Common.{◌∙◌, subst, arith}
-use Rattle.std.proofs.lemmas.Bool.Decides.{nat_tests}
-use Rattle.std.specs.List.{list_all}
-use Rattle.pg_syntax.specs.declared.fault.Refusal.{Refusal}
-use Rattle.pg_syntax.specs.declared.fault.Refusal.TheVariants.{Memory, Wrong}
-use Rattle.pg_syntax.specs.Lexemes.{Lexeme, number, identifier, string, stray}
-use Rattle.pg_syntax.specs.Mirrors.Scan.{first, characters}
-use Rattle.pg_syntax.specs.Syntax.{character_code}
-use Rattle.pg_automaton.specs.Mirrors.Steps.{◌>>=◌}
-use Rattle.pg_syntax.specs.Mirrors.Steps.{Fails}
-use Rattle.pg_syntax.specs.Mirrors.HeaderScan.{numeral_of, numbers_from, note, noted, noted_at, is_value, skipped_from, is_name_byte}
-use Rattle.pg_syntax.specs.Mirrors.HeaderScan.{is_name}
-use Rattle.pg_syntax.specs.Mirrors.HeaderScan.{quoted_at, names_from}
-use Rattle.pg_lists.proofs.Steps.{some, some_is, none_is_some}
+use Rattle.pg_syntax.proofs.Common.{◌≡◌, ℕ, suc, ◌<◌, Bool, true, false, eqb, List, [], ◌∷◌, ◌++◌, length, map, Option, Some, None, refl}
+use Rattle.pg_syntax.proofs.Common.{sym, ap, ◌∙◌, subst, arith, nat_tests, list_all, Refusal, Memory, Wrong, Lexeme, number, identifier}
+use Rattle.pg_syntax.proofs.Common.{string, stray, first, characters, character_code, ◌>>=◌, Fails, numeral_of, numbers_from, note, noted}
+use Rattle.pg_syntax.proofs.Common.{noted_at, is_value, skipped_from, is_name_byte, is_name, quoted_at, names_from, some, some_is}
+use Rattle.pg_syntax.proofs.Common.{none_is_some}
 use Rattle.pg_syntax.proofs.Turning.{first_end, first_token}
 use Rattle.pg_syntax.proofs.Noting.{noted_snoc}
 

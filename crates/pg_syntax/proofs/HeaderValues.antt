@@ -1,19 +1,12 @@
 -- The values of headers: what is read is written there, and what is written there is read.
-use Rattle.std.proofs.Common.{◌≡◌, ℕ, suc, zero, ◌≤◌, ltb, Bool, true, false, List, [], ◌∷◌, ◌++◌, length, map, Some, refl, sym, ap, subst, ◌∙◌}
-use Rattle.std.proofs.Common.{arith, append_assoc, inl, inr}
-use Rattle.std.specs.Prelude.{nat_le, if◌then◌else◌, ◌==◌}
-use Rattle.std.specs.List.{list_all, AllByRecursion}
-use Rattle.std.proofs.lemmas.List.{append-nil}
-use Rattle.std.proofs.lemmas.Bool.{le-ltb}
-use Rattle.std.proofs.lemmas.Bool.Decides.{nat_tests}
-use Rattle.pg_syntax.specs.Lexemes.{Lexeme, number, identifier, header, string, body, ampersand, stray, Character}
-use Rattle.pg_automaton.specs.Automata.{IsPropositionName, IsNameByte}
-use Rattle.pg_syntax.specs.Syntax.{Value, numeral, word, quoted, value_lexeme, character_code}
-use Rattle.pg_syntax.specs.Mirrors.HeaderScan.{numeral_at, alone_at, numbers_from, skipped_from, is_name_byte, is_name, name_of, quoted_at}
-use Rattle.pg_syntax.specs.Mirrors.HeaderScan.{names_from}
+use Rattle.pg_syntax.proofs.Common.{◌≡◌, ℕ, suc, zero, ◌≤◌, ltb, Bool, true, false, List, [], ◌∷◌, ◌++◌, length, map, Some, refl, sym, ap}
+use Rattle.pg_syntax.proofs.Common.{subst, ◌∙◌, arith, append_assoc, inl, inr, nat_le, if◌then◌else◌, ◌==◌, list_all, AllByRecursion}
+use Rattle.pg_syntax.proofs.Common.{append-nil, le-ltb, nat_tests, Lexeme, number, identifier, header, string, body, ampersand, stray}
+use Rattle.pg_syntax.proofs.Common.{Character, IsPropositionName, IsNameByte, Value, numeral, word, quoted, value_lexeme, character_code}
+use Rattle.pg_syntax.proofs.Common.{numeral_at, alone_at, numbers_from, skipped_from, is_name_byte, is_name, name_of, quoted_at, names_from}
+use Rattle.pg_syntax.proofs.Common.{chosen, some, some_is, none, none_is_some}
 use Rattle.pg_syntax.proofs.Lists.{both_true}
 use Rattle.pg_syntax.proofs.Steps.{bind_some}
-use Rattle.pg_lists.proofs.Steps.{chosen, some, some_is, none, none_is_some}
 
 -- another header or the end of all stands at the front
 abbrev pub Follows : List Lexeme → Type 0

@@ -1,9 +1,6 @@
 -- The states that lines name.
-use Rattle.std.proofs.Common.{◌≡◌, ◌∙◌, ℕ, suc, max, List, [], ◌∷◌, map, refl, sym, ap, arith}
-use Rattle.std.specs.List.{flat_map, fold}
-use Rattle.std.proofs.lemmas.List.Sums.{fold-append}
-use Rattle.pg_syntax.specs.Syntax.{Edge, StateLine, line_numbers, count_of}
-use Rattle.pg_syntax.specs.Mirrors.Kept.{KeptEdge, KeptLine, kept_of_edge, kept_of_line, count_named}
+use Rattle.pg_syntax.proofs.Common.{◌≡◌, ◌∙◌, ℕ, suc, max, List, [], ◌∷◌, map, refl, sym, ap, arith, flat_map, fold, fold-append, Edge}
+use Rattle.pg_syntax.proofs.Common.{StateLine, line_numbers, count_of, KeptEdge, KeptLine, kept_of_edge, kept_of_line, count_named}
 
 targets_are : (edges : List Edge) → map (λ (e : KeptEdge). e.target) (map kept_of_edge edges) ≡ map (λ (e : Edge). e.target) edges
 targets_are [] = refl

@@ -1,16 +1,9 @@
 -- The tokens of the bytes, one after another.
-use Rattle.std.proofs.Common.{◌≡◌, ℕ, zero, suc, ◌≤◌, ◌<◌, true, false, eqb, List, [], ◌∷◌, length, length-append, Option, Some, None, refl}
-use Rattle.std.proofs.Common.{sym, ap, ◌∙◌, arith}
-use Rattle.std.specs.List.{flat_map}
-use Rattle.std.proofs.lemmas.Bool.{eqb-true}
-use Rattle.pg_syntax.specs.Lexemes.{blank_bytes, Lexeme, stray}
-use Rattle.pg_syntax.specs.Mirrors.Steps.{Fails}
-use Rattle.pg_syntax.specs.declared.fault.Refusal.{Refusal}
-use Rattle.pg_syntax.specs.declared.fault.Refusal.TheVariants.{Memory, Wrong}
-use Rattle.pg_syntax.specs.declared.token.Token.{Token}
+use Rattle.pg_syntax.proofs.Common.{◌≡◌, ℕ, zero, suc, ◌≤◌, ◌<◌, true, false, eqb, List, [], ◌∷◌, length, length-append, Option, Some, None}
+use Rattle.pg_syntax.proofs.Common.{refl, sym, ap, ◌∙◌, arith, flat_map, eqb-true, blank_bytes, Lexeme, stray, Fails, Refusal, Memory}
+use Rattle.pg_syntax.proofs.Common.{Wrong, Token, lexeme, gap_step, gap_within, gap_from, solid_at, behind_token, behind_gap, lex_within}
+use Rattle.pg_syntax.proofs.Common.{lex, first, none_is_some}
 use Rattle.pg_syntax.specs.declared.token.Token.TheVariants as tokens
-use Rattle.pg_syntax.specs.Mirrors.Scan.{lexeme, gap_step, gap_within, gap_from, solid_at, behind_token, behind_gap, lex_within, lex, first}
-use Rattle.pg_lists.proofs.Steps.{none_is_some}
 use Rattle.pg_syntax.proofs.SpellingBlanks.{gap_written}
 use Rattle.pg_syntax.proofs.SpellingTokens.{solid_takes, spelt_some}
 

@@ -35,3 +35,4 @@ pub mod SpeltReadsHead
 pub mod Steps
 pub mod Strings
 pub mod Turning
+mod Common

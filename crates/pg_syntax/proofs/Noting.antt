@@ -1,14 +1,8 @@
 -- Numbers of propositions as they are noted say what those say that are written.
-use Rattle.std.proofs.Common.{◌≡◌, ◌∙◌, ℕ, zero, suc, ◌+◌, ◌<◌, ◌≤◌, Bool, true, false, cond, List, [], ◌∷◌, ◌++◌, get_or, min, refl, sym}
-use Rattle.std.proofs.Common.{arith}
-use Rattle.std.proofs.lemmas.Bool.Decides.{nat_tests}
-use Rattle.std.specs.Prelude.{◌==◌, ◌||◌, ◌&&◌, nat_lt}
-use Rattle.std.specs.List.{All, list_any, list_all}
-use Rattle.std.proofs.lemmas.Bool.{ltb-true, lt-ltb}
-use Rattle.std.proofs.lemmas.List.FromFn.{map-range_with_len_more}
-use Rattle.std.proofs.lemmas.List.Sums.{AllPass-from_list_all, list_all-from_AllPass}
-use Rattle.pg_syntax.specs.Mirrors.HeaderScan.{note, noted_behind, noted}
-use Rattle.pg_syntax.specs.Mirrors.Preambles.{marked}
+use Rattle.pg_syntax.proofs.Common.{◌≡◌, ◌∙◌, ℕ, zero, suc, ◌+◌, ◌<◌, ◌≤◌, Bool, true, false, cond, List, [], ◌∷◌, ◌++◌, get_or, min, refl}
+use Rattle.pg_syntax.proofs.Common.{sym, arith, nat_tests, ◌==◌, ◌||◌, ◌&&◌, nat_lt, All, list_any, list_all, ltb-true, lt-ltb}
+use Rattle.pg_syntax.proofs.Common.{map-range_with_len_more, AllPass-from_list_all, list_all-from_AllPass, note, noted_behind, noted}
+use Rattle.pg_syntax.proofs.Common.{marked}
 
 pub noted_snoc : (kept front : List ℕ) (n : ℕ) → noted_behind kept (front ++ (n ∷ [])) ≡ note (noted_behind kept front) n
 noted_snoc kept [] n = refl

@@ -1,17 +1,7 @@
 -- What headers say together, as their lists may be absent.
-use Rattle.std.proofs.Common.{◌≡◌, ◌∙◌, ◌<◌, ℕ, List, [], ◌∷◌, map, length, Option, Some, None, refl, sym, ap, subst, arith}
-use Rattle.std.specs.Prelude.{◌==◌, unwrap_or}
-use Rattle.std.specs.List.{All, list_any}
-use Rattle.std.proofs.Math.ListN.{get_or-map}
-use Rattle.std.proofs.lemmas.List.{length-map}
-use Rattle.pg_syntax.specs.declared.formula.Op.{Op}
-use Rattle.pg_automaton.specs.declared.shape.Shape.{Shape}
-use Rattle.pg_automaton.specs.Formulas.{Formula}
-use Rattle.pg_syntax.specs.Mirrors.FormulaRun.{postfix}
-use Rattle.pg_automaton.specs.Shapes.{FitsShape}
-use Rattle.pg_syntax.specs.Mirrors.Kept.{KeptHead, option_with}
-use Rattle.pg_syntax.specs.Mirrors.Preambles.{Preamble, IsPreambleOf, listed}
-use Rattle.pg_lists.proofs.Steps.{some_is}
+use Rattle.pg_syntax.proofs.Common.{◌≡◌, ◌∙◌, ◌<◌, ℕ, List, [], ◌∷◌, map, length, Option, Some, None, refl, sym, ap, subst, arith, ◌==◌}
+use Rattle.pg_syntax.proofs.Common.{unwrap_or, All, list_any, get_or-map, length-map, Op, Shape, Formula, postfix, FitsShape, KeptHead}
+use Rattle.pg_syntax.proofs.Common.{option_with, Preamble, IsPreambleOf, listed, some_is}
 
 -- the list that stands in, where there is none, is empty
 pub opened : {V B : Type 0} (view : V → List B) (o : Option V) (v d : V) → v ≡ unwrap_or o d → view d ≡ []

@@ -1,10 +1,7 @@
 -- The start is among the states, whether these are counted or only named.
-use Rattle.std.proofs.Common.{◌<◌, ◌≤◌, ℕ, suc, max, List, [], ◌∷◌, map, Option, Some, None, arith}
-use Rattle.std.specs.List.{AllByRecursion, fold}
-use Rattle.pg_syntax.specs.Syntax.{Edge, StateLine, EdgeFits, LineFits}
-use Rattle.pg_syntax.specs.Mirrors.Kept.{KeptEdge, KeptLine, kept_of_edge, kept_of_line, count_named}
-use Rattle.pg_syntax.specs.Mirrors.Preambles.{StartsBelow}
-use Rattle.pg_syntax.specs.Mirrors.Readings.{bound, states_in}
+use Rattle.pg_syntax.proofs.Common.{◌<◌, ◌≤◌, ℕ, suc, max, List, [], ◌∷◌, map, Option, Some, None, arith, AllByRecursion, fold, Edge}
+use Rattle.pg_syntax.proofs.Common.{StateLine, EdgeFits, LineFits, KeptEdge, KeptLine, kept_of_edge, kept_of_line, count_named, StartsBelow}
+use Rattle.pg_syntax.proofs.Common.{bound, states_in}
 use Rattle.pg_syntax.proofs.Lists.{greatest_from}
 
 -- ---- the greatest number of a list

@@ -1,28 +1,12 @@
 -- Headers, lines and end, read one after another.
-use Rattle.std.proofs.Common.{◌≡◌, ◌∙◌, ◌≤◌, ℕ, List, [], ◌∷◌, map, length, Option, Some, None, refl, sym, ap, subst, arith}
-use Rattle.std.proofs.lemmas.Bool.Decides.{nat_tests}
-use Rattle.std.specs.Prelude.{◌<◌, IfSome}
-use Rattle.std.specs.List.{flat_map}
-use Rattle.pg_syntax.specs.declared.formula.Op.{Op}
-use Rattle.pg_automaton.specs.declared.shape.Shape.{Shape}
-use Rattle.pg_syntax.specs.declared.fault.Refusal.{Refusal}
-use Rattle.pg_syntax.specs.declared.fault.Refusal.TheVariants.{Memory, Wrong}
-use Rattle.pg_syntax.specs.Lexemes.{Lexeme}
-use Rattle.pg_syntax.specs.Mirrors.Steps.{Fails}
-use Rattle.pg_automaton.specs.Formulas.{Formula}
-use Rattle.pg_syntax.specs.Mirrors.FormulaRun.{postfix}
-use Rattle.pg_automaton.specs.Shapes.{HasShape}
-use Rattle.pg_syntax.specs.Syntax.{acceptances}
-use Rattle.pg_syntax.specs.Mirrors.Kept.{KeptHead, KeptLine}
-use Rattle.pg_syntax.specs.Mirrors.HeaderScan.{headers_at}
-use Rattle.pg_syntax.specs.Mirrors.BodyScan.{body_at}
-use Rattle.pg_syntax.specs.Mirrors.Preambles.{Preamble, IsPreambleOf, HasCondition, HasNoPreamble, StartsBelow, listed, nothing_at}
-use Rattle.pg_syntax.specs.Mirrors.Readings.{bound, states_in, state_count, Reads, NeverReads}
-use Rattle.pg_lists.proofs.Steps.{some, some_is, none_is_some}
+use Rattle.pg_syntax.proofs.Common.{◌≡◌, ◌∙◌, ◌≤◌, ℕ, List, [], ◌∷◌, map, length, Option, Some, None, refl, sym, ap, subst, arith}
+use Rattle.pg_syntax.proofs.Common.{nat_tests, ◌<◌, IfSome, flat_map, Op, Shape, Refusal, Memory, Wrong, Lexeme, Fails, Formula, postfix}
+use Rattle.pg_syntax.proofs.Common.{HasShape, acceptances, KeptHead, KeptLine, headers_at, body_at, Preamble, IsPreambleOf, HasCondition}
+use Rattle.pg_syntax.proofs.Common.{HasNoPreamble, StartsBelow, listed, nothing_at, bound, states_in, state_count, Reads, NeverReads, some}
+use Rattle.pg_syntax.proofs.Common.{some_is, none_is_some, one_shape}
 use Rattle.pg_syntax.proofs.HeaderParts.{option_list}
 use Rattle.pg_syntax.proofs.HeaderLaws.{headers_take}
 use Rattle.pg_syntax.proofs.BodyLaws.{body_takes}
-use Rattle.pg_automaton.proofs.ShapeLaws.{one_shape}
 use Rattle.pg_syntax.proofs.ReadSpeltHeads.{shape_alike}
 use Rattle.pg_syntax.proofs.ReadCan.{AreCounted, are_counted}
 

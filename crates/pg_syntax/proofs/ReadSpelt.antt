@@ -1,18 +1,10 @@
 -- What is read is written.
-use Rattle.std.proofs.Common.{◌≡◌, ◌∙◌, ℕ, List, [], ◌∷◌, ◌++◌, map, length, sym, ap, subst, arith}
-use Rattle.std.proofs.lemmas.Bool.Decides.{nat_tests}
-use Rattle.std.specs.Prelude.{codes}
-use Rattle.std.specs.List.{flat_map, AllByRecursion}
-use Rattle.pg_automaton.specs.Automata.{Automaton, IsPropositionName}
-use Rattle.pg_syntax.specs.Lexemes.{Lexeme, identifier, header, body, end}
-use Rattle.pg_syntax.specs.Syntax.{Written, IsText, IsHeader, Says, IsDistinct, LineFits, EachBelow, header_lexemes, state_lexemes}
-use Rattle.pg_syntax.specs.Syntax.{text_lexemes}
-use Rattle.pg_syntax.specs.Syntax.{character_code, state_counts, names, controls, acceptances}
-use Rattle.pg_syntax.specs.Mirrors.Scan.{lex, IsToken}
-use Rattle.pg_syntax.specs.Mirrors.Kept.{KeptHead, KeptLine, kept_of_line}
-use Rattle.pg_syntax.specs.Mirrors.HeaderScan.{noted}
-use Rattle.pg_syntax.specs.Mirrors.Preambles.{Preamble, IsPreambleOf, listed, marked}
-use Rattle.pg_syntax.specs.Mirrors.Readings.{Reads, AreFew, Declares, bare_automaton, bound, state_count}
+use Rattle.pg_syntax.proofs.Common.{◌≡◌, ◌∙◌, ℕ, List, [], ◌∷◌, ◌++◌, map, length, sym, ap, subst, arith, nat_tests, codes, flat_map}
+use Rattle.pg_syntax.proofs.Common.{AllByRecursion, Automaton, IsPropositionName, Lexeme, identifier, header, body, end, Written, IsText}
+use Rattle.pg_syntax.proofs.Common.{IsHeader, Says, IsDistinct, LineFits, EachBelow, header_lexemes, state_lexemes, text_lexemes}
+use Rattle.pg_syntax.proofs.Common.{character_code, state_counts, names, controls, acceptances, lex, IsToken, KeptHead, KeptLine}
+use Rattle.pg_syntax.proofs.Common.{kept_of_line, noted, Preamble, IsPreambleOf, listed, marked, Reads, AreFew, Declares, bare_automaton}
+use Rattle.pg_syntax.proofs.Common.{bound, state_count}
 use Rattle.pg_syntax.proofs.Spelling.{lex_spelt}
 use Rattle.pg_syntax.proofs.HeaderParts.{option_list}
 use Rattle.pg_syntax.proofs.HeaderLaws.{SaysHeaders, headers_take, header_tokens}

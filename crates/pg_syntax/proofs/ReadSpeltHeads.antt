@@ -1,21 +1,8 @@
 -- What headers say that stand at most once.
-use Rattle.std.proofs.Common.{◌≡◌, ◌∙◌, ℕ, List, [], ◌∷◌, map, Option, Some, None, refl, ap, subst, arith}
-use Rattle.std.proofs.lemmas.Bool.Decides.{nat_tests}
-use Rattle.std.specs.Prelude.{IfSome}
-use Rattle.std.specs.List.{flat_map, AllByRecursion}
-use Rattle.std.proofs.lemmas.List.{append-nil, length-map}
-use Rattle.pg_syntax.specs.declared.formula.Op.{Op}
-use Rattle.pg_automaton.specs.declared.shape.Shape.{Shape}
-use Rattle.pg_syntax.specs.Lexemes.{Character}
-use Rattle.pg_automaton.specs.Formulas.{Formula}
-use Rattle.pg_syntax.specs.Mirrors.FormulaRun.{postfix}
-use Rattle.pg_automaton.specs.Shapes.{HasShape}
-use Rattle.pg_automaton.specs.Automata.{IsPropositionName}
-use Rattle.pg_syntax.specs.Syntax.{StateLine, AtMostOne, character_code, count_of, line_numbers}
-use Rattle.pg_syntax.specs.Mirrors.Kept.{kept_of_line}
-use Rattle.pg_syntax.specs.Mirrors.HeaderScan.{noted}
-use Rattle.pg_syntax.specs.Mirrors.Preambles.{listed}
-use Rattle.pg_syntax.specs.Mirrors.Readings.{states_in}
+use Rattle.pg_syntax.proofs.Common.{◌≡◌, ◌∙◌, ℕ, List, [], ◌∷◌, map, Option, Some, None, refl, ap, subst, arith, nat_tests, IfSome}
+use Rattle.pg_syntax.proofs.Common.{flat_map, AllByRecursion, append-nil, length-map, Op, Shape, Character, Formula, postfix, HasShape}
+use Rattle.pg_syntax.proofs.Common.{IsPropositionName, StateLine, AtMostOne, character_code, count_of, line_numbers, kept_of_line, noted}
+use Rattle.pg_syntax.proofs.Common.{listed, states_in}
 use Rattle.pg_syntax.proofs.HeaderParts.{option_list}
 use Rattle.pg_syntax.proofs.ShapeTrees.{one_tree}
 use Rattle.pg_syntax.proofs.KeptEdges.{count_named_is}

@@ -1,10 +1,6 @@
 -- Each number that the lines name is below the count of states.
-use Rattle.std.proofs.Common.{◌<◌, ℕ, List, [], ◌∷◌, map, Option, Some, None, sym, subst, arith}
-use Rattle.std.proofs.lemmas.Bool.Decides.{nat_tests}
-use Rattle.std.specs.List.{flat_map, AllByRecursion}
-use Rattle.pg_syntax.specs.Syntax.{Edge, StateLine, EdgeFits, LineFits, line_numbers, count_of}
-use Rattle.pg_syntax.specs.Mirrors.Kept.{kept_of_line}
-use Rattle.pg_syntax.specs.Mirrors.Readings.{bound, states_in}
+use Rattle.pg_syntax.proofs.Common.{◌<◌, ℕ, List, [], ◌∷◌, map, Option, Some, None, sym, subst, arith, nat_tests, flat_map, AllByRecursion}
+use Rattle.pg_syntax.proofs.Common.{Edge, StateLine, EdgeFits, LineFits, line_numbers, count_of, kept_of_line, bound, states_in}
 use Rattle.pg_syntax.proofs.Lists.{all_of_first, all_of_second, all_counted}
 use Rattle.pg_syntax.proofs.KeptEdges.{count_named_is}
 

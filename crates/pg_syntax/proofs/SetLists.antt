@@ -1,16 +1,8 @@
 -- Lists of sets, each once, the least first.
-use Rattle.std.proofs.Common.{◌≡◌, ◌∙◌, ℕ, zero, suc, ◌<◌, ◌≤◌, List, [], ◌∷◌, length, get_or, Result, Ok, Err, refl, sym, arith}
-use Rattle.std.specs.Prelude.{MatchResult}
-use Rattle.std.specs.Ordering.{nat_cmp}
-use Rattle.std.specs.List.{insert}
-use Rattle.std.specs.List.Sorted.{IsStrictlyIncreasing, IsBinarySearchResult}
-use Rattle.std.proofs.lemmas.Bool.Decides.{nat_tests}
-use Rattle.std.proofs.lemmas.List.Sorted.{searched}
-use Rattle.std.proofs.lemmas.List.Kept.{AllPairs-from_increasing}
-use Rattle.std.proofs.lemmas.Map.Keys.{non_decreasing_from_sorted, sorted_from_strictly_increasing}
-use Rattle.pg_lists.specs.Rising.{put, rising}
-use Rattle.pg_lists.proofs.Rising.{has, has_rising, contains_from, has_contained, rising_rises}
-use Rattle.pg_lists.proofs.Contained.{Rises, pairs_tail, rising_same}
+use Rattle.pg_syntax.proofs.Common.{◌≡◌, ◌∙◌, ℕ, zero, suc, ◌<◌, ◌≤◌, List, [], ◌∷◌, length, get_or, Result, Ok, Err, refl, sym, arith}
+use Rattle.pg_syntax.proofs.Common.{MatchResult, nat_cmp, insert, IsStrictlyIncreasing, IsBinarySearchResult, nat_tests, searched}
+use Rattle.pg_syntax.proofs.Common.{AllPairs-from_increasing, non_decreasing_from_sorted, sorted_from_strictly_increasing, put, rising, has}
+use Rattle.pg_syntax.proofs.Common.{has_rising, contains_from, has_contained, rising_rises, Rises, pairs_tail, rising_same}
 
 -- the same numbers make the same rising list
 pub rising_alike : (xs ys : List ℕ) → ((q : ℕ) → has q xs ≡ has q ys) → rising xs ≡ rising ys

@@ -1,19 +1,9 @@
 -- The finder of shapes gives the first shape that fits, if there is one.
-use Rattle.std.proofs.Common.{◌≡◌, ℕ, suc, zero, ◌-◌, ◌<◌, Bool, true, false, cond, List, [], ◌∷◌, Option, Some, None, refl}
-use Rattle.std.proofs.Common.{sym, ap, subst, ◌∙◌, arith}
-use Rattle.std.proofs.lemmas.Bool.Decides.{nat_tests}
-use Rattle.std.specs.Prelude.{IfSome, IfNone}
-use Rattle.pg_syntax.specs.declared.formula.Op.{Op}
-use Rattle.pg_syntax.specs.declared.formula.Op.TheVariants.{Yes, No}
-use Rattle.pg_automaton.specs.declared.shape.Shape.{Shape}
-use Rattle.pg_automaton.specs.declared.shape.Shape.TheVariants.{MaxEven, MaxOdd, MinEven, MinOdd, Always, Never}
-use Rattle.pg_automaton.specs.Formulas.{Formula, yes, no}
-use Rattle.pg_syntax.specs.Mirrors.FormulaRun.{postfix}
-use Rattle.pg_automaton.specs.Shapes.{condition_of, bare, IsLike, FitsShape, HasShape, place}
-use Rattle.pg_automaton.specs.Mirrors.Nests.{set_at, wanted_at}
-use Rattle.pg_syntax.specs.Mirrors.ShapeRun.{nests_at, fits_at, constant_at, nested_at}
-use Rattle.pg_automaton.proofs.Nested.{nested_in, condition_nested, no_constant}
-use Rattle.pg_lists.proofs.Steps.{some_is, none_is_some}
+use Rattle.pg_syntax.proofs.Common.{◌≡◌, ℕ, suc, zero, ◌-◌, ◌<◌, Bool, true, false, cond, List, [], ◌∷◌, Option, Some, None, refl, sym, ap}
+use Rattle.pg_syntax.proofs.Common.{subst, ◌∙◌, arith, nat_tests, IfSome, IfNone, Op, Yes, No, Shape, MaxEven, MaxOdd, MinEven, MinOdd}
+use Rattle.pg_syntax.proofs.Common.{Always, Never, Formula, yes, no, postfix, condition_of, bare, IsLike, FitsShape, HasShape, place}
+use Rattle.pg_syntax.proofs.Common.{set_at, wanted_at, nests_at, fits_at, constant_at, nested_at, nested_in, condition_nested, no_constant}
+use Rattle.pg_syntax.proofs.Common.{some_is, none_is_some}
 use Rattle.pg_syntax.proofs.ShapeTrees.{one_tree, bare_postfix}
 use Rattle.pg_syntax.proofs.ShapeNests.{nests_tree, tree_nests, AllDiffer}
 

@@ -1,15 +1,9 @@
 -- The operations of a nested condition nest, and what nests is one.
-use Rattle.std.proofs.Common.{◌≡◌, ℕ, suc, zero, ◌<◌, ◌≤◌, Bool, true, false, cond, List, [], ◌∷◌, ◌++◌, Option, Some, None, refl, sym, ap}
-use Rattle.std.proofs.Common.{◌∙◌, ◌⊎◌, inl, inr, arith, append_assoc}
-use Rattle.std.proofs.lemmas.Bool.Decides.{nat_tests}
-use Rattle.pg_syntax.specs.declared.formula.Op.{Op}
-use Rattle.pg_automaton.specs.Formulas.{Formula}
-use Rattle.pg_syntax.specs.Mirrors.FormulaRun.{postfix, limit_op}
-use Rattle.pg_automaton.specs.Shapes.{leaf, decides, bare, IsLike}
-use Rattle.pg_syntax.specs.Mirrors.ShapeRun.{is_leaf, is_join, last_op, leaf_last, without_leaf, inner_at, only_leaf, passes, nests_at}
-use Rattle.pg_automaton.proofs.Nested.{nested}
+use Rattle.pg_syntax.proofs.Common.{◌≡◌, ℕ, suc, zero, ◌<◌, ◌≤◌, Bool, true, false, cond, List, [], ◌∷◌, ◌++◌, Option, Some, None, refl}
+use Rattle.pg_syntax.proofs.Common.{sym, ap, ◌∙◌, ◌⊎◌, inl, inr, arith, append_assoc, nat_tests, Op, Formula, postfix, limit_op, leaf}
+use Rattle.pg_syntax.proofs.Common.{decides, bare, IsLike, is_leaf, is_join, last_op, leaf_last, without_leaf, inner_at, only_leaf, passes}
+use Rattle.pg_syntax.proofs.Common.{nests_at, nested, chosen, some, some_is, none, none_is_some}
 use Rattle.pg_syntax.proofs.Steps.{bind_some}
-use Rattle.pg_lists.proofs.Steps.{chosen, some, some_is, none, none_is_some}
 use Rattle.pg_syntax.proofs.ShapeSteps.{join_op, last_parts, leaf_is, leaf_again, leaf_other, join_is, join_again, leaf_first, takes_behind}
 use Rattle.pg_syntax.proofs.ShapeSteps.{takes_before, inner_is}
 use Rattle.pg_syntax.proofs.ShapeTrees.{joined, postfix_leaf, postfix_joined, bare_leaf, bare_joined, like_leaf, like_leaf_is, like_before}

@@ -1,15 +1,9 @@
 -- How operations come apart.
-use Rattle.std.proofs.Common.{◌≡◌, ℕ, suc, zero, ◌-◌, ◌<◌, Bool, true, false, List, [], ◌∷◌, ◌++◌, Option, Some, None, refl, ap, ◌∙◌, arith}
-use Rattle.std.proofs.lemmas.Bool.Decides.{nat_tests}
-use Rattle.std.proofs.lemmas.Bool.{eqb-true, eq-eqb, ne_eqb}
-use Rattle.pg_syntax.specs.declared.formula.Op.{Op}
-use Rattle.pg_syntax.specs.declared.formula.Op.TheVariants.{Inf, Fin, Both, Either}
-use Rattle.pg_syntax.specs.Mirrors.FormulaRun.{limit_op}
-use Rattle.pg_automaton.specs.declared.shape.Shape.{Shape}
-use Rattle.pg_automaton.specs.Mirrors.Nests.{set_at, is_wanted, wanted_at}
-use Rattle.pg_syntax.specs.Mirrors.ShapeRun.{is_leaf, is_join, last_op, without_leaf, inner_at, only_leaf, passes, nests_at}
+use Rattle.pg_syntax.proofs.Common.{◌≡◌, ℕ, suc, zero, ◌-◌, ◌<◌, Bool, true, false, List, [], ◌∷◌, ◌++◌, Option, Some, None, refl, ap, ◌∙◌}
+use Rattle.pg_syntax.proofs.Common.{arith, nat_tests, eqb-true, eq-eqb, ne_eqb, Op, Inf, Fin, Both, Either, limit_op, Shape, set_at}
+use Rattle.pg_syntax.proofs.Common.{is_wanted, wanted_at, is_leaf, is_join, last_op, without_leaf, inner_at, only_leaf, passes, nests_at}
+use Rattle.pg_syntax.proofs.Common.{some_is}
 use Rattle.pg_syntax.proofs.Steps.{bind_some}
-use Rattle.pg_lists.proofs.Steps.{some_is}
 
 abbrev pub join_op : Bool → Op
 join_op true = Either

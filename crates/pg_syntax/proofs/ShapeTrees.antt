@@ -1,11 +1,7 @@
 -- The conditions that the finder of shapes tells apart, and the operations that they are computed by.
-use Rattle.std.proofs.Common.{◌≡◌, ℕ, Bool, true, false, cond, List, [], ◌∷◌, ◌++◌, refl, sym, ap, ◌∙◌, ◌⊎◌, inl, inr, append_assoc, arith}
-use Rattle.std.proofs.lemmas.Bool.Decides.{nat_tests}
-use Rattle.pg_syntax.specs.declared.formula.Op.{Op}
-use Rattle.pg_syntax.specs.declared.formula.Op.TheVariants.{Yes, No, Proposition, Inf, Fin, Not, Both, Either}
-use Rattle.pg_automaton.specs.Formulas.{Formula, yes, no, proposition, inf, fin, not, both, either, bracket}
-use Rattle.pg_syntax.specs.Mirrors.FormulaRun.{postfix, limit_op}
-use Rattle.pg_automaton.specs.Shapes.{leaf, decides, bare, IsLike}
+use Rattle.pg_syntax.proofs.Common.{◌≡◌, ℕ, Bool, true, false, cond, List, [], ◌∷◌, ◌++◌, refl, sym, ap, ◌∙◌, ◌⊎◌, inl, inr, append_assoc}
+use Rattle.pg_syntax.proofs.Common.{arith, nat_tests, Op, Yes, No, Proposition, Inf, Fin, Not, Both, Either, Formula, yes, no, proposition}
+use Rattle.pg_syntax.proofs.Common.{inf, fin, not, both, either, bracket, postfix, limit_op, leaf, decides, bare, IsLike}
 use Rattle.pg_syntax.proofs.ShapeSteps.{join_op}
 
 -- ---- operations have one tree, up to brackets

@@ -1,11 +1,7 @@
 -- The tokens of bytes that spell them: `lex` gives them, and gives no others.
-use Rattle.std.proofs.Common.{◌≡◌, ℕ, List, [], ◌∷◌, ◌++◌, Some, None, refl, ap, subst, ◌∙◌, arith}
-use Rattle.std.proofs.lemmas.Bool.Decides.{nat_tests}
-use Rattle.std.specs.List.{flat_map, AllByRecursion}
-use Rattle.std.proofs.lemmas.List.{append-nil}
-use Rattle.pg_syntax.specs.Lexemes.{Lexeme, stray, Blank, blank_bytes, IsBlank, Begins, Spells}
-use Rattle.pg_syntax.specs.Mirrors.Scan.{gap_step, gap_from, solid_at, lex, IsToken}
-use Rattle.pg_lists.proofs.Steps.{none, none_is_some}
+use Rattle.pg_syntax.proofs.Common.{◌≡◌, ℕ, List, [], ◌∷◌, ◌++◌, Some, None, refl, ap, subst, ◌∙◌, arith, nat_tests, flat_map}
+use Rattle.pg_syntax.proofs.Common.{AllByRecursion, append-nil, Lexeme, stray, Blank, blank_bytes, IsBlank, Begins, Spells, gap_step}
+use Rattle.pg_syntax.proofs.Common.{gap_from, solid_at, lex, IsToken, none, none_is_some}
 use Rattle.pg_syntax.proofs.Lexing.{lex_fails, lex_ends, lex_wrong, lex_more}
 use Rattle.pg_syntax.proofs.SpellingBlanks.{gap_written, gap_again}
 use Rattle.pg_syntax.proofs.SpellingTokens.{solid_takes, token_again}

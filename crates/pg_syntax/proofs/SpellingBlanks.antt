@@ -1,16 +1,9 @@
 -- White space and comments: what is skipped is written, and what is written is skipped.
-use Rattle.std.proofs.Common.{◌≡◌, ℕ, zero, suc, ◌-◌, ◌<◌, Bool, true, false, eqb, ltb, List, [], ◌∷◌, ◌++◌, length, Some, None, refl, sym}
-use Rattle.std.proofs.Common.{ap, ◌∙◌, arith, inl, inr, append_assoc, add-one, length-append}
-use Rattle.std.proofs.lemmas.Bool.Decides.{nat_tests}
-use Rattle.std.specs.Prelude.{◌&&◌}
-use Rattle.std.specs.List.{flat_map, AllByRecursion}
-use Rattle.std.proofs.Math.Dec.{eqb-suc-zero}
-use Rattle.std.proofs.lemmas.Bool.{cases_Bool, and_parts, eqb-true}
-use Rattle.pg_syntax.specs.Lexemes.{is_space, after_comments, Blank, space, comment, blank_bytes, IsBlank}
-use Rattle.pg_automaton.specs.Mirrors.Steps.{◌>>=◌}
-use Rattle.pg_syntax.specs.Mirrors.Scan.{gap_step, gap_from}
+use Rattle.pg_syntax.proofs.Common.{◌≡◌, ℕ, zero, suc, ◌-◌, ◌<◌, Bool, true, false, eqb, ltb, List, [], ◌∷◌, ◌++◌, length, Some, None, refl}
+use Rattle.pg_syntax.proofs.Common.{sym, ap, ◌∙◌, arith, inl, inr, append_assoc, add-one, length-append, nat_tests, ◌&&◌, flat_map}
+use Rattle.pg_syntax.proofs.Common.{AllByRecursion, eqb-suc-zero, cases_Bool, and_parts, eqb-true, is_space, after_comments, Blank, space}
+use Rattle.pg_syntax.proofs.Common.{comment, blank_bytes, IsBlank, ◌>>=◌, gap_step, gap_from, some, some_is, none_is_some}
 use Rattle.pg_syntax.proofs.Steps.{bind_some}
-use Rattle.pg_lists.proofs.Steps.{some, some_is, none_is_some}
 use Rattle.pg_syntax.proofs.Gaps.{gap_next, gap_ends, gap_none}
 
 -- ---- comments, one step at a time

@@ -1,25 +1,15 @@
 -- One token: what is read is spelt there, and what is spelt is read.
-use Rattle.std.proofs.Common.{◌≡◌, ◌≢◌, ℕ, ◌+◌, ◌^◌, ◌<◌, true, false, cond, eqb, ltb, List, [], ◌∷◌, ◌++◌, length, take, drop, Option, Some, refl, sym}
-use Rattle.std.proofs.Common.{ap, subst, ◌∙◌, arith, inl, inr, append_assoc, length-append}
-use Rattle.std.specs.Prelude.{◌||◌, codes}
-use Rattle.std.specs.Str.{bytes_eq}
-use Rattle.std.specs.List.{prefix_len, take_while, flat_map, AllByRecursion}
-use Rattle.std.proofs.lemmas.Bool.{cases_Bool, eqb-true, eqb-false, ltb-true, lt-ltb, ne_eqb}
-use Rattle.std.proofs.lemmas.Bool.Decides.{nat_tests}
-use Rattle.std.proofs.lemmas.List.{take-append-drop}
-use Rattle.std.proofs.lemmas.Slice.Eq.{bytes_eq-Decides}
-use Rattle.std.proofs.Math.Dec.{eqb-suc-zero}
-use Rattle.std.proofs.Math.Seq.{take-append_seam, drop-append-add}
-use Rattle.pg_syntax.specs.Lexemes.{Lexeme, number, identifier, header, string, alias, body, end, abort, left_bracket, right_bracket}
-use Rattle.pg_syntax.specs.Lexemes.{left_brace, right_brace, left_paren, right_paren, bang, ampersand, bar, stray, Character, plain}
-use Rattle.pg_syntax.specs.Lexemes.{escaped}
-use Rattle.pg_syntax.specs.Lexemes.{is_space, is_letter, is_inner, is_colon, IsName, character_bytes, IsCharacter, IsSpelt}
-use Rattle.pg_lists.specs.Bytes.{is_digit, Each, Stops, value_of}
-use Rattle.pg_syntax.specs.Mirrors.Scan.{characters, gap_step, number_at, name_before, name_at, string_len, string_at, alias_at, mark_at}
-use Rattle.pg_syntax.specs.Mirrors.Scan.{sign_at, solid_at}
+use Rattle.pg_syntax.proofs.Common.{◌≡◌, ◌≢◌, ℕ, ◌+◌, ◌^◌, ◌<◌, true, false, cond, eqb, ltb, List, [], ◌∷◌, ◌++◌, length, take, drop}
+use Rattle.pg_syntax.proofs.Common.{Option, Some, refl, sym, ap, subst, ◌∙◌, arith, inl, inr, append_assoc, length-append, ◌||◌, codes}
+use Rattle.pg_syntax.proofs.Common.{bytes_eq, prefix_len, take_while, flat_map, AllByRecursion, cases_Bool, eqb-true, eqb-false, ltb-true}
+use Rattle.pg_syntax.proofs.Common.{lt-ltb, ne_eqb, nat_tests, take-append-drop, bytes_eq-Decides, eqb-suc-zero, take-append_seam}
+use Rattle.pg_syntax.proofs.Common.{drop-append-add, Lexeme, number, identifier, header, string, alias, body, end, abort, left_bracket}
+use Rattle.pg_syntax.proofs.Common.{right_bracket, left_brace, right_brace, left_paren, right_paren, bang, ampersand, bar, stray, Character}
+use Rattle.pg_syntax.proofs.Common.{plain, escaped, is_space, is_letter, is_inner, is_colon, IsName, character_bytes, IsCharacter, IsSpelt}
+use Rattle.pg_syntax.proofs.Common.{is_digit, Each, Stops, value_of, characters, gap_step, number_at, name_before, name_at, string_len}
+use Rattle.pg_syntax.proofs.Common.{string_at, alias_at, mark_at, sign_at, solid_at, chosen, some, some_is, none, none_is_some, run_first}
+use Rattle.pg_syntax.proofs.Common.{run_some, run_each, run_stops, run_parts, run_is, run_again, rest_again}
 use Rattle.pg_syntax.proofs.Steps.{bind_some}
-use Rattle.pg_lists.proofs.Steps.{chosen, some, some_is, none, none_is_some}
-use Rattle.pg_lists.proofs.Runs.{run_first, run_some, run_each, run_stops, run_parts, run_is, run_again, rest_again}
 use Rattle.pg_syntax.proofs.Strings.{further}
 use Rattle.pg_syntax.proofs.SpellingBlanks.{Stands}
 

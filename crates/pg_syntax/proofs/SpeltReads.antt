@@ -1,19 +1,8 @@
 -- What is written is read.
-use Rattle.std.proofs.Common.{◌≡◌, ◌∙◌, ◌≤◌, ℕ, List, [], ◌∷◌, ◌++◌, ◌*◌, ◌^◌, map, length, refl, sym, ap, subst}
-use Rattle.std.specs.List.{flat_map}
-use Rattle.pg_syntax.specs.declared.fault.Refusal.{Refusal}
-use Rattle.pg_syntax.specs.declared.fault.Refusal.TheVariants.{Memory, Wrong}
-use Rattle.pg_syntax.specs.Lexemes.{Lexeme, end}
-use Rattle.pg_syntax.specs.Mirrors.Scan.{lex}
-use Rattle.pg_automaton.specs.Automata.{Automaton}
-use Rattle.pg_syntax.specs.Syntax.{Written, IsText, Says, SaysNone}
-use Rattle.pg_syntax.specs.Syntax.{state_counts, state_lexemes, text_lexemes}
-use Rattle.pg_syntax.specs.Mirrors.Kept.{KeptHead, KeptLine, kept_of_line}
-use Rattle.pg_syntax.specs.Mirrors.HeaderScan.{headers_at}
-use Rattle.pg_syntax.specs.Mirrors.BodyScan.{body_at}
-use Rattle.pg_syntax.specs.Mirrors.Preambles.{Preamble, IsPreambleOf}
-use Rattle.pg_syntax.specs.Mirrors.Readings.{Reads, NeverReads, SaysNothing, AreFew, bound, state_count, letter_count}
-use Rattle.pg_lists.proofs.Steps.{some_is}
+use Rattle.pg_syntax.proofs.Common.{◌≡◌, ◌∙◌, ◌≤◌, ℕ, List, [], ◌∷◌, ◌++◌, ◌*◌, ◌^◌, map, length, refl, sym, ap, subst, flat_map, Refusal}
+use Rattle.pg_syntax.proofs.Common.{Memory, Wrong, Lexeme, end, lex, Automaton, Written, IsText, Says, SaysNone, state_counts}
+use Rattle.pg_syntax.proofs.Common.{state_lexemes, text_lexemes, KeptHead, KeptLine, kept_of_line, headers_at, body_at, Preamble}
+use Rattle.pg_syntax.proofs.Common.{IsPreambleOf, Reads, NeverReads, SaysNothing, AreFew, bound, state_count, letter_count, some_is}
 use Rattle.pg_syntax.proofs.Spelling.{spelt_lex}
 use Rattle.pg_syntax.proofs.HeaderLaws.{headers_again}
 use Rattle.pg_syntax.proofs.HeaderHead.{first_written, written_head, says_head}

@@ -1,19 +1,9 @@
 -- What the headers and lines of a text that says an automaton come to.
-use Rattle.std.proofs.Common.{◌≡◌, ◌<◌, ◌≤◌, ℕ, List, [], ◌∷◌, map, length, Some, refl, sym, ap, subst, arith, ◌∙◌}
-use Rattle.std.proofs.lemmas.Bool.Decides.{nat_tests}
-use Rattle.std.specs.List.{All, AllByRecursion, flat_map}
-use Rattle.std.proofs.lemmas.List.{append-nil}
-use Rattle.pg_syntax.specs.declared.formula.Op.{Op}
-use Rattle.pg_syntax.specs.Lexemes.{Character}
-use Rattle.pg_automaton.specs.Formulas.{Formula}
-use Rattle.pg_syntax.specs.Mirrors.FormulaRun.{postfix}
-use Rattle.pg_automaton.specs.Automata.{Automaton}
-use Rattle.pg_syntax.specs.Syntax.{Written, Says, Edge, StateLine, EdgeFits, LineFits, EachBelow, AtMostOne, count_of, line_numbers}
-use Rattle.pg_syntax.specs.Syntax.{character_code, state_counts, starts, names, acceptances, controls}
-use Rattle.pg_syntax.specs.Mirrors.Kept.{kept_of_line}
-use Rattle.pg_syntax.specs.Mirrors.HeaderScan.{noted}
-use Rattle.pg_syntax.specs.Mirrors.Preambles.{Preamble, IsPreambleOf, StartsBelow, listed, marked}
-use Rattle.pg_syntax.specs.Mirrors.Readings.{bound, states_in}
+use Rattle.pg_syntax.proofs.Common.{◌≡◌, ◌<◌, ◌≤◌, ℕ, List, [], ◌∷◌, map, length, Some, refl, sym, ap, subst, arith, ◌∙◌, nat_tests, All}
+use Rattle.pg_syntax.proofs.Common.{AllByRecursion, flat_map, append-nil, Op, Character, Formula, postfix, Automaton, Written, Says, Edge}
+use Rattle.pg_syntax.proofs.Common.{StateLine, EdgeFits, LineFits, EachBelow, AtMostOne, count_of, line_numbers, character_code}
+use Rattle.pg_syntax.proofs.Common.{state_counts, starts, names, acceptances, controls, kept_of_line, noted, Preamble, IsPreambleOf}
+use Rattle.pg_syntax.proofs.Common.{StartsBelow, listed, marked, bound, states_in}
 use Rattle.pg_syntax.proofs.HeaderHead.{first_written, written_head}
 use Rattle.pg_syntax.proofs.KeptEdges.{count_named_is}
 use Rattle.pg_syntax.proofs.Noting.{marked_noted, below_noted}

@@ -1,6 +1,5 @@
 -- What a step that went well says.
-use Rattle.std.proofs.Common.{◌≡◌, Option, Some, None, refl}
-use Rattle.pg_automaton.specs.Mirrors.Steps.{◌>>=◌}
+use Rattle.pg_syntax.proofs.Common.{◌≡◌, Option, Some, None, refl, ◌>>=◌}
 
 pub bind_some : {A B : Type 0} (o : Option A) (f : A → Option B) (y : B) → (o >>= f) ≡ Some y → (x : A) × (o ≡ Some x) × (f x ≡ Some y)
 bind_some None f y e = absurd cc

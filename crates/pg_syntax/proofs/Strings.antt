@@ -1,9 +1,6 @@
 -- The bytes of a string, counted one character after another.
-use Rattle.std.proofs.Common.{◌≡◌, ℕ, ◌+◌, ◌<◌, eqb, List, [], ◌∷◌, length, Option, Some, None, refl, ap, subst, arith, inl, inr}
-use Rattle.std.proofs.lemmas.Bool.Decides.{nat_tests}
-use Rattle.pg_automaton.specs.Mirrors.Steps.{◌>>=◌}
-use Rattle.pg_syntax.specs.Mirrors.Scan.{character_at, string_len}
-use Rattle.pg_lists.proofs.Steps.{chosen, some, some_is, none, none_is_some}
+use Rattle.pg_syntax.proofs.Common.{◌≡◌, ℕ, ◌+◌, ◌<◌, eqb, List, [], ◌∷◌, length, Option, Some, None, refl, ap, subst, arith, inl, inr}
+use Rattle.pg_syntax.proofs.Common.{nat_tests, ◌>>=◌, character_at, string_len, chosen, some, some_is, none, none_is_some}
 
 -- so many bytes were counted before
 abbrev pub further : ℕ → Option ℕ → Option ℕ

@@ -1,24 +1,10 @@
 -- Token by token through a formula.
-use Rattle.std.proofs.Common.{◌≡◌, ℕ, suc, zero, ◌+◌, ◌<◌, length, true, List, [], ◌∷◌, ◌++◌, Option, Some, None, refl, sym, ap, subst, inl, inr, arith}
-use Rattle.std.proofs.Common.{append_assoc}
-use Rattle.std.proofs.lemmas.Bool.Decides.{nat_tests}
-use Rattle.pg_syntax.specs.declared.fault.Refusal.{Refusal}
-use Rattle.pg_syntax.specs.declared.fault.Refusal.TheVariants.{Memory, Wrong}
-use Rattle.pg_syntax.specs.declared.formula.Kind.{Kind}
-use Rattle.pg_syntax.specs.declared.formula.Kind.TheVariants.{Label, Condition}
-use Rattle.pg_syntax.specs.declared.formula.Op.{Op}
-use Rattle.pg_syntax.specs.declared.formula.Op.TheVariants.{Not}
+use Rattle.pg_syntax.proofs.Common.{◌≡◌, ℕ, suc, zero, ◌+◌, ◌<◌, length, true, List, [], ◌∷◌, ◌++◌, Option, Some, None, refl, sym, ap}
+use Rattle.pg_syntax.proofs.Common.{subst, inl, inr, arith, append_assoc, nat_tests, Refusal, Memory, Wrong, Kind, Label, Condition, Op}
+use Rattle.pg_syntax.proofs.Common.{Not, Mode, Operand, Opening, Naming, Operator, Lexeme, stray, first, ◌>>=◌, Fails, KeptReading, not_ops}
+use Rattle.pg_syntax.proofs.Common.{mode_goes_on, goes_on_at, taken_at, mode_turn, operand_turn, operator_turn, opening_turn, naming_turn}
+use Rattle.pg_syntax.proofs.Common.{closing_turn, turn_at, over_at, ops_from, chosen, some, some_is, none, none_is_some}
 use Rattle.pg_syntax.specs.declared.formula.Frame.{Frame}
-use Rattle.pg_syntax.specs.declared.formula.Mode.{Mode}
-use Rattle.pg_syntax.specs.declared.formula.Mode.TheVariants.{Operand, Opening, Naming, Operator}
-use Rattle.pg_syntax.specs.Lexemes.{Lexeme, stray}
-use Rattle.pg_syntax.specs.Mirrors.Scan.{first}
-use Rattle.pg_automaton.specs.Mirrors.Steps.{◌>>=◌}
-use Rattle.pg_syntax.specs.Mirrors.Steps.{Fails}
-use Rattle.pg_syntax.specs.Mirrors.FormulaRun.{KeptReading, not_ops, mode_goes_on, goes_on_at, taken_at, mode_turn, operand_turn, operator_turn}
-use Rattle.pg_syntax.specs.Mirrors.FormulaRun.{opening_turn}
-use Rattle.pg_syntax.specs.Mirrors.FormulaRun.{naming_turn, closing_turn, turn_at, over_at, ops_from}
-use Rattle.pg_lists.proofs.Steps.{chosen, some, some_is, none, none_is_some}
 
 nots_more : (n : ℕ) → not_ops n ++ (Not ∷ []) ≡ not_ops (suc n)
 nots_more zero = refl

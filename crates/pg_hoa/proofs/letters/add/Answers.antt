@@ -1,7 +1,4 @@
-use Rattle.std.proofs.Common.{◌≡◌, ◌∙◌, ℕ, ◌||◌, get_or, ap, arith}
-use Rattle.std.specs.Int.RustNames.{bit_or}
-use Rattle.std.proofs.lemmas.List.{length-set}
-use Rattle.pg_hoa.specs.Mirrors.Letters.{truth}
+use Rattle.pg_hoa.proofs.Common.{◌≡◌, ◌∙◌, ℕ, ◌||◌, get_or, ap, arith, bit_or, length-set, truth}
 use Rattle.pg_hoa.proofs.TableWords.{one_more_word, other_words, truth_or}
 use Rattle.pg_hoa.proofs.letters.add.Goals as goal
 

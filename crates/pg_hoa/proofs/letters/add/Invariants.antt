@@ -1,5 +1,4 @@
-use Rattle.std.proofs.Common.{◌≡◌, ℕ, ◌<◌, ◌≤◌, ◌||◌, length, get_or}
-use Rattle.pg_hoa.specs.Mirrors.Letters.{truth_in}
+use Rattle.pg_hoa.proofs.Common.{◌≡◌, ℕ, ◌<◌, ◌≤◌, ◌||◌, length, get_or, truth_in}
 use Rattle.pg_hoa.proofs.letters.add.Given as goal
 
 -- the words so far, and the others as they were

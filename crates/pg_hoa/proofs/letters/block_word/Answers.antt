@@ -1,5 +1,4 @@
-use Rattle.std.proofs.Common.{◌∙◌, sym, ap}
-use Rattle.std.specs.Prelude.{bit_and}
+use Rattle.pg_hoa.proofs.Common.{◌∙◌, sym, ap, bit_and}
 use Rattle.pg_hoa.proofs.TableWords.{truth_none}
 use Rattle.pg_hoa.proofs.Instructions.{fits_there, fits_none}
 use Rattle.pg_hoa.proofs.letters.block_word.Goals as goal

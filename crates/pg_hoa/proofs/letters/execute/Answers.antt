@@ -1,6 +1,4 @@
-use Rattle.std.proofs.Common.{◌∙◌, ◌+◌, ◌*◌, ◌∷◌, ap}
-use Rattle.pg_hoa.specs.Mirrors.Letters.{truths}
-use Rattle.pg_hoa.specs.Mirrors.Instructions.{fits}
+use Rattle.pg_hoa.proofs.Common.{◌∙◌, ◌+◌, ◌*◌, ◌∷◌, ap, truths, fits}
 use Rattle.pg_hoa.proofs.TableWords.{truths_push}
 use Rattle.pg_hoa.proofs.letters.execute.Goals as goal
 

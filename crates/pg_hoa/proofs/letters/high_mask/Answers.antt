@@ -1,6 +1,4 @@
-use Rattle.std.proofs.Common.{◌∙◌, ◌-◌, ◌/◌, ◌^◌, ◌==◌, sym, ap, arith}
-use Rattle.std.specs.Prelude.{bit_and}
-use Rattle.std.proofs.lemmas.Nat.Bits.{shr_and_one}
+use Rattle.pg_hoa.proofs.Common.{◌∙◌, ◌-◌, ◌/◌, ◌^◌, ◌==◌, sym, ap, arith, bit_and, shr_and_one}
 use Rattle.pg_hoa.proofs.TableWords.{truth_all, truth_none, on_above, on_high, not_one}
 use Rattle.pg_hoa.proofs.letters.high_mask.Goals as goal
 

@@ -1,7 +1,4 @@
-use Rattle.std.proofs.Common.{◌∙◌, sym, ap}
-use Rattle.std.specs.Prelude.{bit_and}
-use Rattle.std.proofs.lemmas.Bool.{false≢true}
-use Rattle.std.proofs.lemmas.Bool.Decides.{Decides-eqb}
+use Rattle.pg_hoa.proofs.Common.{◌∙◌, sym, ap, bit_and, false≢true, Decides-eqb}
 use Rattle.pg_hoa.proofs.Instructions.{none_meets}
 use Rattle.pg_hoa.proofs.letters.may_meet.Goals as goal
 

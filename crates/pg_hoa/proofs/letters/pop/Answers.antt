@@ -1,7 +1,4 @@
-use Rattle.std.proofs.Common.{◌≡◌, ◌∙◌, sym, ap, arith, []}
-use Rattle.std.proofs.lemmas.List.{nil_from_length}
-use Rattle.pg_hoa.specs.Mirrors.Saying.{top, under}
-use Rattle.pg_hoa.specs.Mirrors.Letters.{truths}
+use Rattle.pg_hoa.proofs.Common.{◌≡◌, ◌∙◌, sym, ap, arith, [], nil_from_length, top, under, truths}
 use Rattle.pg_hoa.proofs.TableWords.{truths_push, truths_none, zeros_say}
 use Rattle.pg_hoa.proofs.letters.pop.Goals as goal
 

@@ -1,7 +1,4 @@
-use Rattle.std.proofs.Common.{◌≡◌, ◌∙◌, ◌+◌, ◌*◌, arith}
-use Rattle.std.proofs.lemmas.List.{length-set}
-use Rattle.pg_hoa.specs.Mirrors.Letters.{truth}
-use Rattle.pg_hoa.specs.Mirrors.Instructions.{fits}
+use Rattle.pg_hoa.proofs.Common.{◌≡◌, ◌∙◌, ◌+◌, ◌*◌, arith, length-set, truth, fits}
 use Rattle.pg_hoa.proofs.TableWords.{one_more_word}
 use Rattle.pg_hoa.proofs.letters.term_words.Goals as goal
 

@@ -1,6 +1,4 @@
-use Rattle.std.proofs.Common.{◌≡◌, ℕ, ◌+◌, ◌*◌, ◌<◌, length}
-use Rattle.pg_hoa.specs.Mirrors.Letters.{truth_in}
-use Rattle.pg_hoa.specs.Mirrors.Instructions.{fits}
+use Rattle.pg_hoa.proofs.Common.{◌≡◌, ℕ, ◌+◌, ◌*◌, ◌<◌, length, truth_in, fits}
 use Rattle.pg_hoa.proofs.letters.term_words.Given as goal
 
 -- the words so far

@@ -1,6 +1,4 @@
-use Rattle.std.proofs.Common.{◌≡◌, ◌∙◌, ℕ, ◌-◌, cond, true, false, get_or, ap, arith}
-use Rattle.std.proofs.lemmas.List.{length-set}
-use Rattle.pg_hoa.specs.Mirrors.Letters.{truth}
+use Rattle.pg_hoa.proofs.Common.{◌≡◌, ◌∙◌, ℕ, ◌-◌, cond, true, false, get_or, ap, arith, length-set, truth}
 use Rattle.pg_hoa.proofs.TableWords.{one_more_word, other_words, truth_not}
 use Rattle.pg_hoa.proofs.letters.turn.Goals as goal
 

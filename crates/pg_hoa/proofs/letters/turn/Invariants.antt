@@ -1,5 +1,4 @@
-use Rattle.std.proofs.Common.{◌≡◌, ℕ, ◌<◌, ◌≤◌, cond, true, false, length, get_or}
-use Rattle.pg_hoa.specs.Mirrors.Letters.{truth_in}
+use Rattle.pg_hoa.proofs.Common.{◌≡◌, ℕ, ◌<◌, ◌≤◌, cond, true, false, length, get_or, truth_in}
 use Rattle.pg_hoa.proofs.letters.turn.Given as goal
 
 -- the words so far, and the others as they were

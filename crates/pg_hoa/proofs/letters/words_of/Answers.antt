@@ -1,8 +1,4 @@
-use Rattle.std.proofs.Common.{◌∙◌, ◌+◌, ◌*◌, ◌∷◌, false, sym, ap, refl, arith}
-use Rattle.std.proofs.lemmas.List.{drop_all}
-use Rattle.pg_hoa.specs.Mirrors.Saying.{top}
-use Rattle.pg_hoa.specs.Mirrors.Letters.{truth_in, truths}
-use Rattle.pg_hoa.specs.Mirrors.Instructions.{execute_all}
+use Rattle.pg_hoa.proofs.Common.{◌∙◌, ◌+◌, ◌*◌, ◌∷◌, false, sym, ap, refl, arith, drop_all, top, truth_in, truths, execute_all}
 use Rattle.pg_hoa.proofs.TableWords.{truths_none, zeros_say}
 use Rattle.pg_hoa.proofs.Instructions.{from_false, next_instruction}
 use Rattle.pg_hoa.proofs.letters.words_of.Goals as goal

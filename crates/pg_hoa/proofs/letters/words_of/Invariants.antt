@@ -1,7 +1,4 @@
-use Rattle.std.proofs.Common.{◌≡◌, ℕ, ◌+◌, ◌*◌, ◌<◌, ◌∷◌, drop}
-use Rattle.pg_hoa.specs.Mirrors.Saying.{top}
-use Rattle.pg_hoa.specs.Mirrors.Letters.{truth_in, truths}
-use Rattle.pg_hoa.specs.Mirrors.Instructions.{execute_all, executed}
+use Rattle.pg_hoa.proofs.Common.{◌≡◌, ℕ, ◌+◌, ◌*◌, ◌<◌, ◌∷◌, drop, top, truth_in, truths, execute_all, executed}
 use Rattle.pg_hoa.proofs.letters.words_of.Given as goal
 
 -- what is left to do leaves the same

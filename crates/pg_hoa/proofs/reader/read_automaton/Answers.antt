@@ -1,21 +1,7 @@
-use Rattle.std.proofs.Common.{◌≡◌, ◌∙◌, ◌<◌, ◌^◌, ℕ, List, length, map, refl, sym, subst, arith}
-use Rattle.std.proofs.lemmas.Bool.Decides.{nat_tests}
-use Rattle.std.proofs.Math.ListN.{get_or-map}
-use Rattle.std.proofs.lemmas.List.{length-map}
-use Rattle.std.proofs.lemmas.Result.{err_from_is_err_and}
-use Rattle.std.specs.declared.vec.Vec.{Vec}
-use Rattle.std.specs.declared.alloc.Global.{Global}
-use Rattle.std.specs.Prelude.{vec_len}
-use Rattle.std.specs.List.{All}
-use Rattle.pg_automaton.specs.declared.table.Table.{Table}
-use Rattle.pg_automaton.specs.Mirrors.Views.{viewed}
-use Rattle.pg_automaton.proofs.Rows.{next_viewed}
-use Rattle.pg_syntax.specs.declared.body.ReadState.{ReadState}
+use Rattle.pg_hoa.proofs.Common.{◌≡◌, ◌∙◌, ◌<◌, ◌^◌, ℕ, List, length, map, refl, sym, subst, arith, nat_tests, get_or-map, length-map}
+use Rattle.pg_hoa.proofs.Common.{err_from_is_err_and, Vec, Global, vec_len, All, Table, viewed, next_viewed, ReadState, KeptLine, line_in}
+use Rattle.pg_hoa.proofs.Common.{automaton, Conflict, IsTableOf, IsConflictOf}
 use Rattle.pg_syntax.specs.declared.syntax.Syntax.{Syntax}
-use Rattle.pg_syntax.specs.Mirrors.Kept.{KeptLine, line_in}
-use Rattle.pg_syntax.specs.Mirrors.Readings.{automaton}
-use Rattle.pg_hoa.specs.declared.fault.Conflict.{Conflict}
-use Rattle.pg_hoa.specs.Mirrors.Tables.{IsTableOf, IsConflictOf}
 use Rattle.pg_hoa.proofs.Assembling.{IsOf, lines_below, table_is_automaton, table_spelt}
 use Rattle.pg_hoa.proofs.Refusing.{refusal_refused, conflict_refused}
 use Rattle.pg_hoa.proofs.reader.read_automaton.Goals as goal

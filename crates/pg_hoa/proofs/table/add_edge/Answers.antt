@@ -1,11 +1,7 @@
-use Rattle.std.proofs.Common.{◌≡◌, ◌∙◌, ℕ, [], ◌+◌, ◌*◌, ◌/◌, ◌%◌, ◌<◌, ◌≤◌, min, refl, sym, ap, subst, arith}
-use Rattle.std.proofs.Math.Nat.{mul-le-mul_right}
-use Rattle.pg_hoa.specs.Mirrors.Saying.{top}
-use Rattle.pg_hoa.specs.Mirrors.Instructions.{SpeaksOf, executed}
-use Rattle.pg_hoa.specs.Mirrors.Tables.{stage, way_step, Adds, at_letters}
+use Rattle.pg_hoa.proofs.Common.{◌≡◌, ◌∙◌, ℕ, [], ◌+◌, ◌*◌, ◌/◌, ◌%◌, ◌<◌, ◌≤◌, min, refl, sym, ap, subst, arith, mul-le-mul_right, top}
+use Rattle.pg_hoa.proofs.Common.{SpeaksOf, executed, stage, way_step, Adds, at_letters, rising}
 use Rattle.pg_hoa.proofs.TableFilling.{adds_none, adds_then}
 use Rattle.pg_hoa.proofs.TablePlaces.{no_letters, stopped_letters}
-use Rattle.pg_lists.specs.Rising.{rising}
 use Rattle.pg_hoa.proofs.table.add_edge.Goals as goal
 
 run_begins : (run blocks runs : ℕ) → runs ≡ blocks / 16 + min 1 (blocks % 16) → run < runs → run * 16 < blocks

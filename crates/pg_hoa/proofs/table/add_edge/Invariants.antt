@@ -1,5 +1,4 @@
-use Rattle.std.proofs.Common.{◌*◌, min}
-use Rattle.pg_hoa.specs.Mirrors.Tables.{stage, way_step, Adds, at_letters, MayNumber}
+use Rattle.pg_hoa.proofs.Common.{◌*◌, min, stage, way_step, Adds, at_letters, MayNumber}
 use Rattle.pg_hoa.proofs.table.add_edge.Given as goal
 
 -- the letters of the runs so far

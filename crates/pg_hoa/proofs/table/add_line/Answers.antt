@@ -1,12 +1,7 @@
-use Rattle.std.proofs.Common.{◌≡◌, ◌∙◌, ℕ, [], ◌∷◌, ◌++◌, ◌*◌, ◌%◌, ◌+◌, ◌^◌, ◌<◌, map, take, length, None, refl, ap, subst, Bor, arith}
-use Rattle.std.proofs.lemmas.Nat.{shl_whole, pow_pos}
-use Rattle.std.proofs.lemmas.List.{append-nil, take_all}
-use Rattle.pg_lists.specs.Rising.{rising}
-use Rattle.pg_lists.proofs.Steps.{some}
-use Rattle.pg_automaton.specs.Automata.{step}
+use Rattle.pg_hoa.proofs.Common.{◌≡◌, ◌∙◌, ℕ, [], ◌∷◌, ◌++◌, ◌*◌, ◌%◌, ◌+◌, ◌^◌, ◌<◌, map, take, length, None, refl, ap, subst, Bor, arith}
+use Rattle.pg_hoa.proofs.Common.{shl_whole, pow_pos, append-nil, take_all, rising, some, step, edge_in, stage, Adds, IsRegrouped, at_line}
+use Rattle.pg_hoa.proofs.Common.{at_letters}
 use Rattle.pg_syntax.specs.declared.body.Edge.{Edge}
-use Rattle.pg_syntax.specs.Mirrors.Kept.{edge_in}
-use Rattle.pg_hoa.specs.Mirrors.Tables.{stage, Adds, IsRegrouped, at_line, at_letters}
 use Rattle.pg_hoa.proofs.Counting.{none_counts, all_count}
 use Rattle.pg_hoa.proofs.TableFilling.{adds_none, adds_then, adds_extended}
 use Rattle.pg_hoa.proofs.TablePlaces.{line_of, no_edges, edge_added, more_items}

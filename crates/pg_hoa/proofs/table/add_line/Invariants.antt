@@ -1,6 +1,4 @@
-use Rattle.std.proofs.Common.{◌^◌, take, map}
-use Rattle.pg_syntax.specs.Mirrors.Kept.{edge_in}
-use Rattle.pg_hoa.specs.Mirrors.Tables.{stage, Adds, at_line}
+use Rattle.pg_hoa.proofs.Common.{◌^◌, take, map, edge_in, stage, Adds, at_line}
 use Rattle.pg_hoa.proofs.TablePlaces.{line_of}
 use Rattle.pg_hoa.proofs.table.add_line.Given as goal
 

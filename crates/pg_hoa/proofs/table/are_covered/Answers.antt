@@ -1,6 +1,5 @@
-use Rattle.std.proofs.Common.{◌≡◌, ◌∙◌, ◌+◌, ◌*◌, ◌<◌, true, get_or, length, sym, ap, subst, inl, inr, arith}
-use Rattle.std.proofs.lemmas.List.{get_or_read}
-use Rattle.pg_hoa.specs.Mirrors.Letters.{truth, truth_in}
+use Rattle.pg_hoa.proofs.Common.{◌≡◌, ◌∙◌, ◌+◌, ◌*◌, ◌<◌, true, get_or, length, sym, ap, subst, inl, inr, arith, get_or_read, truth}
+use Rattle.pg_hoa.proofs.Common.{truth_in}
 use Rattle.pg_hoa.proofs.TablePlaces.{before_or_behind}
 use Rattle.pg_hoa.proofs.table.are_covered.Goals as goal
 

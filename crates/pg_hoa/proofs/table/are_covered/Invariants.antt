@@ -1,5 +1,4 @@
-use Rattle.std.proofs.Common.{◌≡◌, ℕ, ◌+◌, ◌<◌, true, get_or}
-use Rattle.pg_hoa.specs.Mirrors.Letters.{truth, truth_in}
+use Rattle.pg_hoa.proofs.Common.{◌≡◌, ℕ, ◌+◌, ◌<◌, true, get_or, truth, truth_in}
 use Rattle.pg_hoa.proofs.table.are_covered.Given as goal
 
 -- the words so far

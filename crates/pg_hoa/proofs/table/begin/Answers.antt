@@ -1,8 +1,4 @@
-use Rattle.std.proofs.Common.{◌∙◌, [], sym, refl, ap, drop, length, get_or, ℕ, List}
-use Rattle.std.specs.Vec.{with_items}
-use Rattle.std.proofs.lemmas.Bool.{false≢true}
-use Rattle.pg_hoa.specs.Mirrors.Letters.{truth}
-use Rattle.pg_hoa.specs.Mirrors.Tables.{stage}
+use Rattle.pg_hoa.proofs.Common.{◌∙◌, [], sym, refl, ap, drop, length, get_or, ℕ, List, with_items, false≢true, truth, stage}
 use Rattle.pg_hoa.proofs.Instructions.{given_back}
 use Rattle.pg_hoa.proofs.TableFilling.{adds_none, adds_noted}
 use Rattle.pg_hoa.proofs.table.begin.Goals as goal

@@ -1,5 +1,4 @@
-use Rattle.std.proofs.Common.{◌-◌, arith}
-use Rattle.std.proofs.lemmas.Nat.{one_shl}
+use Rattle.pg_hoa.proofs.Common.{◌-◌, arith, one_shl}
 use Rattle.pg_hoa.proofs.TablePlaces.{one_block, many_blocks}
 use Rattle.pg_hoa.proofs.table.blocks_of.Goals as goal
 

@@ -1,6 +1,4 @@
-use Rattle.std.proofs.Common.{◌∙◌, ◌+◌, drop, sym, ap, arith}
-use Rattle.std.proofs.lemmas.List.{at_drop_more, at_drop_all}
-use Rattle.pg_hoa.specs.Mirrors.Tables.{with_sets}
+use Rattle.pg_hoa.proofs.Common.{◌∙◌, ◌+◌, drop, sym, ap, arith, at_drop_more, at_drop_all, with_sets}
 use Rattle.pg_hoa.proofs.table.counts_with.Goals as goal
 
 pub loop-set-preserved : goal.loop-set-preserved

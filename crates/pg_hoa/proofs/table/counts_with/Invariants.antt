@@ -1,5 +1,4 @@
-use Rattle.std.proofs.Common.{◌≡◌, drop}
-use Rattle.pg_hoa.specs.Mirrors.Tables.{with_sets}
+use Rattle.pg_hoa.proofs.Common.{◌≡◌, drop, with_sets}
 use Rattle.pg_hoa.proofs.table.counts_with.Given as goal
 
 -- those that are left lead to the same

@@ -1,8 +1,4 @@
-use Rattle.std.proofs.Common.{◌≡◌, ◌<◌, set, get_or, length, refl, ap, arith}
-use Rattle.std.specs.Int.RustNames.{bit_or}
-use Rattle.std.specs.Vec.{with_item}
-use Rattle.std.proofs.lemmas.List.{get_or_read}
-use Rattle.pg_hoa.specs.Mirrors.Tables.{stage}
+use Rattle.pg_hoa.proofs.Common.{◌≡◌, ◌<◌, set, get_or, length, refl, ap, arith, bit_or, with_item, get_or_read, stage}
 use Rattle.pg_hoa.proofs.TablePlaces.{covers_given}
 use Rattle.pg_hoa.proofs.table.cover.Goals as goal
 

@@ -1,5 +1,4 @@
-use Rattle.std.proofs.Common.{◌∙◌}
-use Rattle.pg_automaton.proofs.Deciding.{decides_last}
+use Rattle.pg_hoa.proofs.Common.{◌∙◌, decides_last}
 use Rattle.pg_hoa.proofs.table.deciding.Goals as goal
 
 pub returns-in_default : goal.returns-in_default

@@ -1,6 +1,4 @@
-use Rattle.std.proofs.Common.{◌-◌}
-use Rattle.std.specs.Prelude.{bit_and}
-use Rattle.std.proofs.lemmas.Bool.Decides.{Decides-eqb}
+use Rattle.pg_hoa.proofs.Common.{◌-◌, bit_and, Decides-eqb}
 use Rattle.pg_hoa.proofs.TablePlaces.{bits_within}
 use Rattle.pg_hoa.proofs.table.is_within.Goals as goal
 

@@ -1,6 +1,4 @@
-use Rattle.std.proofs.Common.{◌∙◌, sym, refl, ap}
-use Rattle.pg_hoa.specs.Mirrors.Tables.{stage, way_step}
-use Rattle.pg_lists.proofs.Steps.{some}
+use Rattle.pg_hoa.proofs.Common.{◌∙◌, sym, refl, ap, stage, way_step, some}
 use Rattle.pg_hoa.proofs.TableFilling.{adds_agreeing, adds_clash, adds_late_clash, adds_first}
 use Rattle.pg_hoa.proofs.TableNumbers.{extends_refl, numbers_more}
 use Rattle.pg_hoa.proofs.table.place.Goals as goal

@@ -1,9 +1,5 @@
-use Rattle.std.proofs.Common.{◌≡◌, ◌∙◌, ℕ, ◌+◌, ◌*◌, ◌-◌, ◌++◌, ◌<◌, true, sym, ap, subst, arith}
-use Rattle.std.specs.Prelude.{bit_and}
-use Rattle.std.proofs.lemmas.List.{append-nil}
-use Rattle.pg_hoa.specs.declared.table.Way.{Way}
-use Rattle.pg_hoa.specs.Mirrors.Letters.{truth}
-use Rattle.pg_hoa.specs.Mirrors.Tables.{Stage, stage, way_step, at_word, Adds, IsCovered, IsDecided, IsRow}
+use Rattle.pg_hoa.proofs.Common.{◌≡◌, ◌∙◌, ℕ, ◌+◌, ◌*◌, ◌-◌, ◌++◌, ◌<◌, true, sym, ap, subst, arith, bit_and, append-nil, Way, truth, Stage}
+use Rattle.pg_hoa.proofs.Common.{stage, way_step, at_word, Adds, IsCovered, IsDecided, IsRow}
 use Rattle.pg_hoa.proofs.TableFilling.{adds_same, adds_then}
 use Rattle.pg_hoa.proofs.TablePlaces.{at_known, known_and_rest, known_part, empty_word}
 use Rattle.pg_hoa.proofs.table.place_block.Goals as goal

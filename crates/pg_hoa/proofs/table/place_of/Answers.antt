@@ -1,6 +1,4 @@
-use Rattle.std.proofs.Common.{◌∙◌, ◌∷◌, [], sym, refl, ap, map}
-use Rattle.std.proofs.lemmas.List.{append-nil, map-append}
-use Rattle.pg_hoa.specs.Mirrors.Tables.{stage}
+use Rattle.pg_hoa.proofs.Common.{◌∙◌, ◌∷◌, [], sym, refl, ap, map, append-nil, map-append, stage}
 use Rattle.pg_hoa.proofs.TableNumbers.{extends_by}
 use Rattle.pg_hoa.proofs.table.place_of.Goals as goal
 

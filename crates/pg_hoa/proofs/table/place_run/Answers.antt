@@ -1,10 +1,7 @@
-use Rattle.std.proofs.Common.{◌≡◌, ◌∙◌, ℕ, ◌+◌, ◌*◌, ◌%◌, ◌<◌, min, sym, ap, subst, arith}
-use Rattle.pg_hoa.specs.Mirrors.Saying.{says}
-use Rattle.pg_hoa.specs.Mirrors.Letters.{on_at}
-use Rattle.pg_hoa.specs.Mirrors.Tables.{stage, way_step, at_word, at_letters, Adds, IsRow}
+use Rattle.pg_hoa.proofs.Common.{◌≡◌, ◌∙◌, ℕ, ◌+◌, ◌*◌, ◌%◌, ◌<◌, min, sym, ap, subst, arith, says, on_at, stage, way_step, at_word}
+use Rattle.pg_hoa.proofs.Common.{at_letters, Adds, IsRow, rising}
 use Rattle.pg_hoa.proofs.TableFilling.{adds_then}
 use Rattle.pg_hoa.proofs.TablePlaces.{more_letters, covered_run}
-use Rattle.pg_lists.specs.Rising.{rising}
 use Rattle.pg_hoa.proofs.table.place_run.Goals as goal
 
 pub returns-then-are_covered-clause-adds : goal.returns-then-are_covered-clause-adds

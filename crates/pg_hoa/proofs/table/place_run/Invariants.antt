@@ -1,7 +1,4 @@
-use Rattle.std.proofs.Common.{◌≡◌, ◌*◌, List, length}
-use Rattle.pg_syntax.specs.declared.formula.Op.{Op}
-use Rattle.pg_hoa.specs.Mirrors.Instructions.{SpeaksOf}
-use Rattle.pg_hoa.specs.Mirrors.Tables.{Stage, stage, way_step, Adds, at_letters, MayNumber, IsPlaced}
+use Rattle.pg_hoa.proofs.Common.{◌≡◌, ◌*◌, List, length, Op, SpeaksOf, Stage, stage, way_step, Adds, at_letters, MayNumber, IsPlaced}
 use Rattle.pg_hoa.proofs.table.place_run.Given as goal
 
 -- the letters of the blocks so far

@@ -1,9 +1,7 @@
-use Rattle.std.proofs.Common.{◌∙◌, ℕ, ◌+◌, ◌++◌, ◌/◌, ◌^◌, refl, ap, arith}
-use Rattle.std.specs.Int.{trailing_zeros, w64}
-use Rattle.pg_hoa.specs.Mirrors.Tables.{stage, way_step, at_word, at_slot}
+use Rattle.pg_hoa.proofs.Common.{◌∙◌, ℕ, ◌+◌, ◌++◌, ◌/◌, ◌^◌, refl, ap, arith, trailing_zeros, w64, stage, way_step, at_word, at_slot}
+use Rattle.pg_hoa.proofs.Common.{rising}
 use Rattle.pg_hoa.proofs.TableFilling.{adds_none, adds_same, adds_then}
 use Rattle.pg_hoa.proofs.TablePlaces.{no_bits, set_bit, unset_bits, none_left, next_bit}
-use Rattle.pg_lists.specs.Rising.{rising}
 use Rattle.pg_hoa.proofs.table.place_word.Goals as goal
 
 pub bits-init : goal.bits-init

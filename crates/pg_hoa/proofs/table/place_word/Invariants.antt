@@ -1,5 +1,4 @@
-use Rattle.std.proofs.Common.{◌≤◌, ◌-◌}
-use Rattle.pg_hoa.specs.Mirrors.Tables.{stage, way_step, Adds, at_word, MayNumber}
+use Rattle.pg_hoa.proofs.Common.{◌≤◌, ◌-◌, stage, way_step, Adds, at_word, MayNumber}
 use Rattle.pg_hoa.proofs.table.place_word.Given as goal
 
 abbrev pub invariant-bits : goal.invariant-bits

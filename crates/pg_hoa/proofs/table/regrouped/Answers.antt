@@ -1,14 +1,6 @@
-use Rattle.std.proofs.Common.{◌≡◌, ◌∙◌, ℕ, ◌++◌, ◌==◌, ◌&&◌, map, ap, Bor, rules, Option}
-use Rattle.std.specs.List.{filter}
-use Rattle.std.specs.List.Sorted.{ties}
-use Rattle.std.specs.Ordering.{is_lt}
-use Rattle.std.proofs.lemmas.List.{take_all}
-use Rattle.std.proofs.lemmas.Fn.{always_returns_same}
-use Rattle.pg_automaton.specs.Automata.{deciding}
-use Rattle.pg_lists.specs.Rising.{rising}
+use Rattle.pg_hoa.proofs.Common.{◌≡◌, ◌∙◌, ℕ, ◌++◌, ◌==◌, ◌&&◌, map, ap, Bor, rules, Option, filter, ties, is_lt, take_all}
+use Rattle.pg_hoa.proofs.Common.{always_returns_same, deciding, rising, KeptEdge, edge_in, has_key, edge_step, same_set, with_sets}
 use Rattle.pg_syntax.specs.declared.body.Edge.{Edge}
-use Rattle.pg_syntax.specs.Mirrors.Kept.{KeptEdge, edge_in}
-use Rattle.pg_hoa.specs.Mirrors.Tables.{has_key, edge_step, same_set, with_sets}
 use Rattle.pg_hoa.proofs.Counting.{all_count}
 use Rattle.pg_hoa.proofs.TableRegrouped.{stable_test, filter_mapped_as, mapped_twice, key_cmp, same_ties}
 use Rattle.pg_hoa.proofs.table.regrouped.Goals as goal

@@ -1,7 +1,4 @@
-use Rattle.std.proofs.Common.{◌∙◌, ◌++◌, eqb, List, ℕ, subst, rules}
-use Rattle.std.specs.List.Sorted.{IsPermutation}
-use Rattle.std.proofs.lemmas.List.Filters.{dedup_is}
-use Rattle.pg_lists.proofs.Rising.{dedup_rising}
+use Rattle.pg_hoa.proofs.Common.{◌∙◌, ◌++◌, eqb, List, ℕ, subst, rules, IsPermutation, dedup_is, dedup_rising}
 use Rattle.pg_hoa.proofs.table.sets_of.Goals as goal
 
 pub returns : goal.returns

@@ -1,15 +1,7 @@
-use Rattle.std.proofs.Common.{◌≡◌, ◌∙◌, ◌+◌, ◌*◌, ◌%◌, ◌/◌, ◌^◌, ◌<◌, ◌≤◌, ℕ, map, take, length, get_or, replicate, List, Fits, w32}
-use Rattle.std.proofs.Common.{w64, sym, refl, ap, subst, arith}
-use Rattle.std.proofs.lemmas.Bool.Decides.{nat_tests}
-use Rattle.std.proofs.lemmas.Nat.{one_shl, pow_pos}
-use Rattle.std.proofs.lemmas.List.{take_all, length-replicate}
-use Rattle.std.proofs.lemmas.List.Elements.{All-get_or}
-use Rattle.std.proofs.Math.Pow.{pow_mono}
-use Rattle.std.proofs.Math.Nat.{mod-le, div-le_self, mul-le-mul_right}
-use Rattle.std.specs.List.{All}
-use Rattle.pg_syntax.specs.declared.body.ReadState.{ReadState}
-use Rattle.pg_syntax.specs.Mirrors.Kept.{line_in}
-use Rattle.pg_hoa.specs.Mirrors.Tables.{stage, at_line, at_lines, IsFirstConflict}
+use Rattle.pg_hoa.proofs.Common.{◌≡◌, ◌∙◌, ◌+◌, ◌*◌, ◌%◌, ◌/◌, ◌^◌, ◌<◌, ◌≤◌, ℕ, map, take, length, get_or, replicate, List, Fits, w32, sym}
+use Rattle.pg_hoa.proofs.Common.{refl, ap, subst, arith, nat_tests, one_shl, pow_pos, take_all, length-replicate, All-get_or, pow_mono}
+use Rattle.pg_hoa.proofs.Common.{mod-le, div-le_self, mul-le-mul_right, All, ReadState, line_in, stage, at_line, at_lines, IsFirstConflict}
+use Rattle.std.proofs.Common.{w64}
 use Rattle.pg_hoa.proofs.TableFilling.{adds_then}
 use Rattle.pg_hoa.proofs.TablePlaces.{more_lines, more_items}
 use Rattle.pg_hoa.proofs.TableAnswers.{found_table, first_conflict, all_filled, nothing_covered}

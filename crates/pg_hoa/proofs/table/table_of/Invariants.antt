@@ -1,6 +1,4 @@
-use Rattle.std.proofs.Common.{◌^◌, take, map}
-use Rattle.pg_syntax.specs.Mirrors.Kept.{line_in}
-use Rattle.pg_hoa.specs.Mirrors.Tables.{stage, Adds, at_lines}
+use Rattle.pg_hoa.proofs.Common.{◌^◌, take, map, line_in, stage, Adds, at_lines}
 use Rattle.pg_hoa.proofs.table.table_of.Given as goal
 
 -- the steps of the lines so far

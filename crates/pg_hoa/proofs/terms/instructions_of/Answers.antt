@@ -1,8 +1,4 @@
-use Rattle.std.proofs.Common.{◌∙◌, sym, ap, refl, arith}
-use Rattle.std.proofs.lemmas.List.{drop_all}
-use Rattle.pg_hoa.specs.Mirrors.Saying.{run, top}
-use Rattle.pg_hoa.specs.Mirrors.Letters.{on_at}
-use Rattle.pg_hoa.specs.Mirrors.Instructions.{executed}
+use Rattle.pg_hoa.proofs.Common.{◌∙◌, sym, ap, refl, arith, drop_all, run, top, on_at, executed}
 use Rattle.pg_hoa.proofs.Instructions.{executed_none, next_op}
 use Rattle.pg_hoa.proofs.terms.instructions_of.Goals as goal
 

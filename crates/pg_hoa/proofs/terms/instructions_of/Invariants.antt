@@ -1,7 +1,4 @@
-use Rattle.std.proofs.Common.{◌≡◌, ℕ, ◌<◌, [], drop}
-use Rattle.pg_hoa.specs.Mirrors.Saying.{run}
-use Rattle.pg_hoa.specs.Mirrors.Letters.{on_at}
-use Rattle.pg_hoa.specs.Mirrors.Instructions.{executed}
+use Rattle.pg_hoa.proofs.Common.{◌≡◌, ℕ, ◌<◌, [], drop, run, on_at, executed}
 use Rattle.pg_hoa.proofs.terms.instructions_of.Given as goal
 
 -- what is left of the label leaves the same

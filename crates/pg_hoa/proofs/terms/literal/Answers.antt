@@ -1,5 +1,4 @@
-use Rattle.std.proofs.Common.{◌∙◌, ◌-◌, sym, arith}
-use Rattle.std.proofs.lemmas.Nat.{one_shl}
+use Rattle.pg_hoa.proofs.Common.{◌∙◌, ◌-◌, sym, arith, one_shl}
 use Rattle.pg_hoa.proofs.TableWords.{truth_none, on_above}
 use Rattle.pg_hoa.proofs.Instructions.{fits_high, on_low}
 use Rattle.pg_hoa.proofs.terms.literal.Goals as goal

@@ -1,5 +1,4 @@
-use Rattle.std.proofs.Common.{◌∙◌, refl, arith}
-use Rattle.std.proofs.lemmas.Nat.{one_shl}
+use Rattle.pg_hoa.proofs.Common.{◌∙◌, refl, arith, one_shl}
 use Rattle.pg_hoa.proofs.Instructions.{turned_whole, turned_high, turned_low}
 use Rattle.pg_hoa.proofs.terms.negated.Goals as goal
 

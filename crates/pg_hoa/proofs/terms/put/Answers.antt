@@ -1,7 +1,4 @@
-use Rattle.std.proofs.Common.{◌∙◌, ◌∷◌, cond, false, true, ap}
-use Rattle.pg_hoa.specs.declared.terms.Instruction.TheVariants.{Put}
-use Rattle.pg_hoa.specs.Mirrors.Saying.{top, under}
-use Rattle.pg_hoa.specs.Mirrors.Instructions.{executed}
+use Rattle.pg_hoa.proofs.Common.{◌∙◌, ◌∷◌, cond, false, true, ap, Put, top, under, executed}
 use Rattle.pg_hoa.proofs.TableWords.{truth_all, truth_none}
 use Rattle.pg_hoa.proofs.Instructions.{executed_more}
 use Rattle.pg_hoa.proofs.terms.put.Goals as goal

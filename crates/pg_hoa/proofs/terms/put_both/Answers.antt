@@ -1,5 +1,4 @@
-use Rattle.std.proofs.Common.{◌∙◌, ◌++◌, ◌∷◌, [], sym, ap}
-use Rattle.pg_hoa.specs.declared.terms.Instruction.TheVariants.{Both, BothTerm}
+use Rattle.pg_hoa.proofs.Common.{◌∙◌, ◌++◌, ◌∷◌, [], sym, ap, Both, BothTerm}
 use Rattle.pg_hoa.proofs.Instructions.{both_term, both_joined, plain}
 use Rattle.pg_hoa.proofs.terms.put_both.Goals as goal
 

@@ -1,6 +1,4 @@
-use Rattle.std.proofs.Common.{◌∙◌, ◌++◌, ◌∷◌, [], drop, length, ap}
-use Rattle.pg_hoa.specs.declared.terms.Instruction.TheVariants.{Either, EitherTerm}
-use Rattle.pg_hoa.specs.Mirrors.Instructions.{executed}
+use Rattle.pg_hoa.proofs.Common.{◌∙◌, ◌++◌, ◌∷◌, [], drop, length, ap, Either, EitherTerm, executed}
 use Rattle.pg_hoa.proofs.Instructions.{either_term, either_joined, given_back, plain}
 use Rattle.pg_hoa.proofs.terms.put_either.Goals as goal
 

@@ -1,6 +1,4 @@
-use Rattle.std.proofs.Common.{◌∙◌, subst, ℕ, List, Result, Ok, Err}
-use Rattle.std.specs.Ordering.{nat_cmp}
-use Rattle.std.specs.List.Sorted.{IsBinarySearchResult}
+use Rattle.pg_syntax.proofs.Common.{◌∙◌, subst, ℕ, List, Result, Ok, Err, nat_cmp, IsBinarySearchResult}
 use Rattle.pg_syntax.proofs.SetLists.{put_found, put_missing}
 use Rattle.pg_syntax.proofs.body.put.Goals as goal
 

@@ -1,9 +1,5 @@
-use Rattle.std.proofs.Common.{◌≡◌, ◌∙◌, ap, [], ◌∷◌, map, Bool, true, false, Some, get_or}
-use Rattle.std.proofs.lemmas.Result.{err_from_is_err_and}
-use Rattle.std.proofs.lemmas.List.{map-append}
-use Rattle.pg_syntax.specs.Mirrors.Scan.{lex, lexeme}
-use Rattle.pg_syntax.specs.Mirrors.Kept.{line_in}
-use Rattle.pg_syntax.specs.Mirrors.BodyScan.{begins_line, body_at}
+use Rattle.pg_syntax.proofs.Common.{◌≡◌, ◌∙◌, ap, [], ◌∷◌, map, Bool, true, false, Some, get_or, err_from_is_err_and, map-append, lex}
+use Rattle.pg_syntax.proofs.Common.{lexeme, line_in, begins_line, body_at}
 use Rattle.pg_syntax.proofs.BodyTurns.{lines_start, lines_unread, lines_fail, lines_end, line_fails, lines_more, lines_smaller}
 use Rattle.pg_syntax.proofs.body.read_body.Goals as goal
 

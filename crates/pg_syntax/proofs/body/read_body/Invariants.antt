@@ -1,8 +1,4 @@
-use Rattle.std.proofs.Common.{length}
-use Rattle.std.specs.Prelude.{map}
-use Rattle.pg_syntax.specs.Mirrors.Scan.{lex}
-use Rattle.pg_syntax.specs.Mirrors.Kept.{line_in}
-use Rattle.pg_syntax.specs.Mirrors.BodyScan.{body_at}
+use Rattle.pg_syntax.proofs.Common.{length, map, lex, line_in, body_at}
 use Rattle.pg_syntax.proofs.BodyTurns.{LinesLeft}
 use Rattle.pg_syntax.proofs.body.read_body.Given as goal
 

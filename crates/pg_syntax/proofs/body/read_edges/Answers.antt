@@ -1,8 +1,5 @@
-use Rattle.std.proofs.Common.{◌≡◌, ◌∙◌, ap, map, Bool, true, false, Some}
-use Rattle.std.proofs.lemmas.Result.{err_from_is_err_and}
-use Rattle.pg_syntax.specs.Mirrors.Scan.{lex, lexeme}
-use Rattle.pg_syntax.specs.Mirrors.Kept.{edge_in}
-use Rattle.pg_syntax.specs.Mirrors.BodyScan.{begins_edge, edges_at}
+use Rattle.pg_syntax.proofs.Common.{◌≡◌, ◌∙◌, ap, map, Bool, true, false, Some, err_from_is_err_and, lex, lexeme, edge_in, begins_edge}
+use Rattle.pg_syntax.proofs.Common.{edges_at}
 use Rattle.pg_syntax.proofs.BodyTurns.{edges_unread, edges_fail, edge_fails, edges_smaller, kept_start, kept_more, kept_fail, kept_end}
 use Rattle.pg_syntax.proofs.body.read_edges.Goals as goal
 

@@ -1,8 +1,4 @@
-use Rattle.std.proofs.Common.{length}
-use Rattle.std.specs.Prelude.{map}
-use Rattle.pg_syntax.specs.Mirrors.Scan.{lex}
-use Rattle.pg_syntax.specs.Mirrors.Kept.{edge_in}
-use Rattle.pg_syntax.specs.Mirrors.BodyScan.{edges_at}
+use Rattle.pg_syntax.proofs.Common.{length, map, lex, edge_in, edges_at}
 use Rattle.pg_syntax.proofs.BodyTurns.{KeptLeft}
 use Rattle.pg_syntax.proofs.body.read_edges.Given as goal
 

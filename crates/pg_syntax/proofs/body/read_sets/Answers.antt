@@ -1,8 +1,4 @@
-use Rattle.std.proofs.Common.{◌≡◌, ◌∙◌, ap, subst, ℕ, Option, Some}
-use Rattle.std.proofs.lemmas.Result.{err_from_is_err_and}
-use Rattle.pg_syntax.specs.Mirrors.Scan.{lex, lexeme}
-use Rattle.pg_syntax.specs.Mirrors.Steps.{Fails}
-use Rattle.pg_syntax.specs.Mirrors.BodyScan.{set_in}
+use Rattle.pg_syntax.proofs.Common.{◌≡◌, ◌∙◌, ap, subst, ℕ, Option, Some, err_from_is_err_and, lex, lexeme, Fails, set_in}
 use Rattle.pg_syntax.proofs.BodyTurns.{due_shorter, sets_unread, sets_fail, sets_start, sets_rise, set_kept, rising_fail, sets_over}
 use Rattle.pg_syntax.proofs.body.read_sets.Goals as goal
 

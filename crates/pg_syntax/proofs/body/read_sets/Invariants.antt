@@ -1,5 +1,4 @@
-use Rattle.std.proofs.Common.{length}
-use Rattle.pg_syntax.specs.Mirrors.Scan.{lex}
+use Rattle.pg_syntax.proofs.Common.{length, lex}
 use Rattle.pg_syntax.proofs.BodyTurns.{SetsLeft}
 use Rattle.pg_syntax.proofs.body.read_sets.Given as goal
 

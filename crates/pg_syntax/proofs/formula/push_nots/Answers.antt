@@ -1,5 +1,4 @@
-use Rattle.std.proofs.Common.{arith}
-use Rattle.std.proofs.lemmas.Bool.Decides.{nat_tests}
+use Rattle.pg_syntax.proofs.Common.{arith, nat_tests}
 use Rattle.pg_syntax.proofs.Turning.{not_more}
 use Rattle.pg_syntax.proofs.formula.push_nots.Goals as goal
 

@@ -1,5 +1,4 @@
-use Rattle.std.proofs.Common.{◌≡◌, ◌++◌}
-use Rattle.pg_syntax.specs.Mirrors.FormulaRun.{not_ops}
+use Rattle.pg_syntax.proofs.Common.{◌≡◌, ◌++◌, not_ops}
 use Rattle.pg_syntax.proofs.formula.push_nots.Given as goal
 
 abbrev pub invariant-loop : goal.invariant-loop

@@ -1,12 +1,5 @@
-use Rattle.std.proofs.Common.{◌∙◌, ap, sym, Some, Option, List, refl, arith}
-use Rattle.std.proofs.lemmas.Bool.Decides.{nat_tests}
-use Rattle.std.proofs.lemmas.Result.{err_from_is_err_and}
-use Rattle.std.specs.Prelude.{option_map}
-use Rattle.pg_syntax.specs.declared.token.Token.{Token}
-use Rattle.pg_syntax.specs.declared.formula.Op.{Op}
-use Rattle.pg_syntax.specs.Mirrors.Scan.{lex, lexeme}
-use Rattle.pg_automaton.specs.Mirrors.Steps.{◌>>=◌}
-use Rattle.pg_syntax.specs.Mirrors.FormulaRun.{view, ops_at}
+use Rattle.pg_syntax.proofs.Common.{◌∙◌, ap, sym, Some, Option, List, refl, arith, nat_tests, err_from_is_err_and, option_map, Token, Op}
+use Rattle.pg_syntax.proofs.Common.{lex, lexeme, ◌>>=◌, view, ops_at}
 use Rattle.pg_syntax.proofs.Turning.{first_fails, turns, turn_fails, taken_shorter, ends_there, over_fails}
 use Rattle.pg_syntax.proofs.formula.read_formula.Goals as goal
 

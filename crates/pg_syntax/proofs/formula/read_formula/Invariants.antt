@@ -1,6 +1,4 @@
-use Rattle.std.proofs.Common.{◌≡◌, length}
-use Rattle.pg_syntax.specs.Mirrors.Scan.{lex}
-use Rattle.pg_syntax.specs.Mirrors.FormulaRun.{view, ops_from, ops_at}
+use Rattle.pg_syntax.proofs.Common.{◌≡◌, length, lex, view, ops_from, ops_at}
 use Rattle.pg_syntax.proofs.formula.read_formula.Given as goal
 
 -- what is left gives the same

@@ -1,5 +1,4 @@
-use Rattle.std.proofs.Common.{◌∙◌, ap, sym}
-use Rattle.pg_syntax.specs.Mirrors.FormulaRun.{split_last}
+use Rattle.pg_syntax.proofs.Common.{◌∙◌, ap, sym, split_last}
 use Rattle.pg_syntax.proofs.Frames.{split_pushed}
 use Rattle.pg_syntax.proofs.formula.split_last.Goals as goal
 

@@ -1,12 +1,6 @@
-use Rattle.std.proofs.Common.{◌≡◌, ◌∙◌, ap, sym, Option, Some, None, ℕ, List, refl, Bor, arith}
-use Rattle.std.proofs.lemmas.Bool.Decides.{nat_tests}
-use Rattle.std.proofs.lemmas.Result.{err_from_is_err_and}
-use Rattle.std.specs.Prelude.{option_map}
-use Rattle.pg_syntax.specs.declared.token.Token.{Token}
+use Rattle.pg_syntax.proofs.Common.{◌≡◌, ◌∙◌, ap, sym, Option, Some, None, ℕ, List, refl, Bor, arith, nat_tests, err_from_is_err_and}
+use Rattle.pg_syntax.proofs.Common.{option_map, Token, Lexeme, lex, lexeme, first, head_in}
 use Rattle.pg_syntax.specs.declared.token.Token.TheVariants as tokens
-use Rattle.pg_syntax.specs.Lexemes.{Lexeme}
-use Rattle.pg_syntax.specs.Mirrors.Scan.{lex, lexeme, first}
-use Rattle.pg_syntax.specs.Mirrors.Kept.{head_in}
 use Rattle.pg_syntax.proofs.HeaderSteps.{IsElse, headers_fail, headers_end, headers_more, header_fails, fewer, headers_refused}
 use Rattle.pg_syntax.proofs.header.headers.Goals as goal
 

@@ -1,7 +1,4 @@
-use Rattle.std.proofs.Common.{◌≡◌, length}
-use Rattle.pg_syntax.specs.Mirrors.Scan.{lex}
-use Rattle.pg_syntax.specs.Mirrors.Kept.{head_in}
-use Rattle.pg_syntax.specs.Mirrors.HeaderScan.{headers_from}
+use Rattle.pg_syntax.proofs.Common.{◌≡◌, length, lex, head_in, headers_from}
 use Rattle.pg_syntax.proofs.header.headers.Given as goal
 
 -- what is left, with the head so far, gives the same

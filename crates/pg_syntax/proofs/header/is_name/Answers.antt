@@ -1,8 +1,4 @@
-use Rattle.std.proofs.Common.{◌≡◌, ◌∙◌, sym, rules, tests}
-use Rattle.std.specs.List.{list_all}
-use Rattle.std.proofs.lemmas.Iterator.{YieldsList-from_slice}
-use Rattle.std.proofs.lemmas.Iterator.Search.{all_from_yields_List}
-use Rattle.pg_syntax.specs.Mirrors.HeaderScan.{is_name_byte}
+use Rattle.pg_syntax.proofs.Common.{◌≡◌, ◌∙◌, sym, rules, tests, list_all, YieldsList-from_slice, all_from_yields_List, is_name_byte}
 use Rattle.pg_syntax.proofs.HeaderTurns.{name_is}
 use Rattle.pg_syntax.proofs.header.is_name.Goals as goal
 

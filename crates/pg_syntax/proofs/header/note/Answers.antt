@@ -1,8 +1,5 @@
-use Rattle.std.proofs.Common.{◌≡◌, ◌∙◌, ℕ, true, false, min, List, [], ◌∷◌, ◌++◌, map, refl, sym, ap}
-use Rattle.std.specs.List.{list_any}
-use Rattle.std.specs.Prelude.{◌==◌}
-use Rattle.std.proofs.lemmas.List.{map-append}
-use Rattle.pg_syntax.specs.Mirrors.HeaderScan.{note}
+use Rattle.pg_syntax.proofs.Common.{◌≡◌, ◌∙◌, ℕ, true, false, min, List, [], ◌∷◌, ◌++◌, map, refl, sym, ap, list_any, ◌==◌, map-append}
+use Rattle.pg_syntax.proofs.Common.{note}
 use Rattle.pg_syntax.proofs.PreambleLaws.{any_numbers}
 use Rattle.pg_syntax.proofs.header.note.Goals as goal
 

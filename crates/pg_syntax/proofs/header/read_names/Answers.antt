@@ -1,9 +1,6 @@
-use Rattle.std.proofs.Common.{◌∙◌, ◌-◌, ◌+◌, sym, ap, map, List, [], ◌∷◌, ℕ, arith, Vec, Global}
-use Rattle.std.proofs.lemmas.Bool.Decides.{nat_tests}
-use Rattle.std.proofs.lemmas.List.{map-append}
-use Rattle.std.proofs.lemmas.Result.{err_from_is_err_and}
-use Rattle.pg_syntax.specs.Mirrors.Scan.{lex}
-use Rattle.pg_syntax.specs.Mirrors.HeaderScan.{names_from}
+use Rattle.pg_syntax.proofs.Common.{◌∙◌, ◌-◌, ◌+◌, sym, ap, map, List, [], ◌∷◌, ℕ, arith, nat_tests, map-append, err_from_is_err_and, lex}
+use Rattle.pg_syntax.proofs.Common.{names_from}
+use Rattle.std.proofs.Common.{Vec, Global}
 use Rattle.pg_syntax.proofs.HeaderTurns.{names_fail, names_more, names_end}
 use Rattle.pg_syntax.proofs.header.read_names.Goals as goal
 

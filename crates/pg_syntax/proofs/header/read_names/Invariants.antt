@@ -1,6 +1,4 @@
-use Rattle.std.proofs.Common.{◌≡◌, ◌-◌, [], map}
-use Rattle.pg_syntax.specs.Mirrors.Scan.{lex}
-use Rattle.pg_syntax.specs.Mirrors.HeaderScan.{names_from}
+use Rattle.pg_syntax.proofs.Common.{◌≡◌, ◌-◌, [], map, lex, names_from}
 use Rattle.pg_syntax.proofs.header.read_names.Given as goal
 
 -- the names that are left, behind those so far, give the same

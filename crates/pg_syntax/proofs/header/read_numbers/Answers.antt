@@ -1,7 +1,4 @@
-use Rattle.std.proofs.Common.{sym, map, List, ℕ}
-use Rattle.std.proofs.lemmas.Result.{err_from_is_err_and}
-use Rattle.std.specs.Prelude.{option_map}
-use Rattle.pg_syntax.specs.Mirrors.Scan.{lex, lexeme}
+use Rattle.pg_syntax.proofs.Common.{sym, map, List, ℕ, err_from_is_err_and, option_map, lex, lexeme}
 use Rattle.pg_syntax.proofs.HeaderTurns.{none_noted, one_noted, all_noted, noted_fail, number_taken}
 use Rattle.pg_syntax.proofs.header.read_numbers.Goals as goal
 

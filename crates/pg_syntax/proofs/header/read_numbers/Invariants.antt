@@ -1,5 +1,4 @@
-use Rattle.std.proofs.Common.{length, map}
-use Rattle.pg_syntax.specs.Mirrors.Scan.{lex}
+use Rattle.pg_syntax.proofs.Common.{length, map, lex}
 use Rattle.pg_syntax.proofs.HeaderTurns.{NumbersLeft}
 use Rattle.pg_syntax.proofs.header.read_numbers.Given as goal
 

@@ -1,8 +1,4 @@
-use Rattle.std.proofs.Common.{◌∙◌, sym, arith}
-use Rattle.std.proofs.lemmas.Bool.Decides.{nat_tests}
-use Rattle.std.proofs.lemmas.Result.{err_from_is_err_and}
-use Rattle.std.specs.Prelude.{option_map}
-use Rattle.pg_syntax.specs.Mirrors.Scan.{lex, lexeme}
+use Rattle.pg_syntax.proofs.Common.{◌∙◌, sym, arith, nat_tests, err_from_is_err_and, option_map, lex, lexeme}
 use Rattle.pg_syntax.proofs.HeaderTurns.{skipped_fail, skipped_more, skipped_end, value_taken}
 use Rattle.pg_syntax.proofs.header.skip_values.Goals as goal
 

@@ -1,6 +1,4 @@
-use Rattle.std.proofs.Common.{◌≡◌, length}
-use Rattle.pg_syntax.specs.Mirrors.Scan.{lex}
-use Rattle.pg_syntax.specs.Mirrors.HeaderScan.{skipped_from}
+use Rattle.pg_syntax.proofs.Common.{◌≡◌, length, lex, skipped_from}
 use Rattle.pg_syntax.proofs.header.skip_values.Given as goal
 
 -- what is left gives the same

@@ -1,6 +1,4 @@
-use Rattle.std.proofs.Common.{◌≡◌, ◌++◌, length, map}
-use Rattle.pg_syntax.specs.Mirrors.Scan.{characters}
-use Rattle.pg_syntax.specs.Syntax.{character_code}
+use Rattle.pg_syntax.proofs.Common.{◌≡◌, ◌++◌, length, map, characters, character_code}
 use Rattle.pg_syntax.proofs.header.unescaped.Given as goal
 
 -- the name so far and what is left of it make the whole

@@ -1,8 +1,5 @@
-use Rattle.std.proofs.Common.{◌≡◌, ◌+◌, ◌==◌, ◌∙◌, ℕ, Bool, List, [], ◌∷◌, ◌++◌, map, ap, arith}
-use Rattle.std.proofs.lemmas.Bool.Decides.{nat_tests}
-use Rattle.std.specs.List.{list_any}
-use Rattle.std.proofs.lemmas.List.FromFn.{map-range_with_len_more}
-use Rattle.pg_syntax.specs.Mirrors.Preambles.{marked}
+use Rattle.pg_syntax.proofs.Common.{◌≡◌, ◌+◌, ◌==◌, ◌∙◌, ℕ, Bool, List, [], ◌∷◌, ◌++◌, map, ap, arith, nat_tests, list_any}
+use Rattle.pg_syntax.proofs.Common.{map-range_with_len_more, marked}
 use Rattle.pg_syntax.proofs.PreambleLaws.{any_numbers}
 use Rattle.pg_syntax.proofs.preamble.marked.Goals as goal
 

@@ -1,5 +1,4 @@
-use Rattle.std.proofs.Common.{◌≡◌, ℕ, map}
-use Rattle.pg_syntax.specs.Mirrors.Preambles.{marked}
+use Rattle.pg_syntax.proofs.Common.{◌≡◌, ℕ, map, marked}
 use Rattle.pg_syntax.proofs.preamble.marked.Given as goal
 
 abbrev pub invariant-loop-proposition : goal.invariant-loop-proposition

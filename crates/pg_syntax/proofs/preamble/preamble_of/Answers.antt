@@ -1,13 +1,5 @@
-use Rattle.std.proofs.Common.{◌≡◌, ◌∙◌, ◌<◌, ℕ, length, map, List, [], Some, refl, sym, ap, subst}
-use Rattle.std.specs.Prelude.{unwrap_or, vec_len}
-use Rattle.std.specs.List.{All}
-use Rattle.std.specs.declared.vec.Vec.{Vec}
-use Rattle.std.specs.declared.alloc.Global.{Global}
-use Rattle.std.proofs.lemmas.List.{length-map}
-use Rattle.pg_syntax.specs.declared.formula.Op.{Op}
-use Rattle.pg_syntax.specs.declared.header.Head.{Head}
-use Rattle.pg_syntax.specs.Mirrors.Kept.{head_in, option_with}
-use Rattle.pg_syntax.specs.Mirrors.Preambles.{HasCondition, listed}
+use Rattle.pg_syntax.proofs.Common.{◌≡◌, ◌∙◌, ◌<◌, ℕ, length, map, List, [], Some, refl, sym, ap, subst, unwrap_or, vec_len, All, Vec}
+use Rattle.pg_syntax.proofs.Common.{Global, length-map, Op, Head, head_in, option_with, HasCondition, listed}
 use Rattle.pg_syntax.proofs.PreambleLaws.{opened, numbers, below_numbers, numbers_below, no_shape}
 use Rattle.pg_syntax.proofs.preamble.preamble_of.Goals as goal
 

@@ -1,6 +1,4 @@
-use Rattle.std.proofs.Common.{◌<◌, ◌∙◌, arith, List, Option, Some, None}
-use Rattle.pg_syntax.specs.declared.formula.Op.{Op}
-use Rattle.pg_syntax.specs.Mirrors.ShapeRun.{fits_at}
+use Rattle.pg_syntax.proofs.Common.{◌<◌, ◌∙◌, arith, List, Option, Some, None, Op, fits_at}
 use Rattle.pg_syntax.proofs.ShapeSteps.{fits_turn, fits_innermost}
 use Rattle.pg_syntax.proofs.shape.fits.Goals as goal
 

@@ -1,6 +1,4 @@
-use Rattle.std.proofs.Common.{◌≡◌, ◌<◌, ◌-◌}
-use Rattle.pg_automaton.specs.Mirrors.Nests.{set_at, wanted_at}
-use Rattle.pg_syntax.specs.Mirrors.ShapeRun.{nests_at}
+use Rattle.pg_syntax.proofs.Common.{◌≡◌, ◌<◌, ◌-◌, set_at, wanted_at, nests_at}
 use Rattle.pg_syntax.proofs.shape.fits.Given as goal
 
 -- what is left nests as the whole does

@@ -1,5 +1,4 @@
-use Rattle.std.proofs.Common.{◌∙◌, ap, sym}
-use Rattle.pg_syntax.specs.Mirrors.ShapeRun.{inner_at}
+use Rattle.pg_syntax.proofs.Common.{◌∙◌, ap, sym, inner_at}
 use Rattle.pg_syntax.proofs.ShapeSteps.{inner_is, inner_none}
 use Rattle.pg_syntax.proofs.shape.inner.Goals as goal
 

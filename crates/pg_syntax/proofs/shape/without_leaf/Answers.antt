@@ -1,5 +1,4 @@
-use Rattle.std.proofs.Common.{◌≡◌, ◌∙◌, ap, sym, false}
-use Rattle.pg_syntax.specs.Mirrors.ShapeRun.{without_leaf}
+use Rattle.pg_syntax.proofs.Common.{◌≡◌, ◌∙◌, ap, sym, false, without_leaf}
 use Rattle.pg_syntax.proofs.ShapeSteps.{leaf_first, takes_before, takes_none}
 use Rattle.pg_syntax.proofs.shape.without_leaf.Goals as goal
 

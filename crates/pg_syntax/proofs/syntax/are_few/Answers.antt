@@ -1,8 +1,5 @@
-use Rattle.std.proofs.Common.{◌≡◌, ◌≤◌, ◌*◌, ◌/◌, ◌^◌, true, false, leb, refl}
-use Rattle.std.specs.Prelude.{MatchBool}
-use Rattle.std.proofs.lemmas.Bool.{leb-true, le-leb}
-use Rattle.std.proofs.lemmas.Nat.{pow_pos}
-use Rattle.std.proofs.Math.Nat.{le-div_iff_mul-le}
+use Rattle.pg_syntax.proofs.Common.{◌≡◌, ◌≤◌, ◌*◌, ◌/◌, ◌^◌, true, false, leb, refl, MatchBool, leb-true, le-leb, pow_pos}
+use Rattle.pg_syntax.proofs.Common.{le-div_iff_mul-le}
 use Rattle.pg_syntax.proofs.syntax.are_few.Goals as goal
 
 pub returns : goal.returns

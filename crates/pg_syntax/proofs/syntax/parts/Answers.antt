@@ -1,16 +1,6 @@
-use Rattle.std.proofs.Common.{◌≡◌, ◌∙◌, sym, subst, List, map, length, arith}
-use Rattle.std.proofs.lemmas.Bool.Decides.{nat_tests}
-use Rattle.std.proofs.lemmas.List.{length-map}
-use Rattle.std.proofs.lemmas.Result.{err_from_is_err_and}
-use Rattle.pg_syntax.specs.declared.body.Ranges.{Ranges}
+use Rattle.pg_syntax.proofs.Common.{◌≡◌, ◌∙◌, sym, subst, List, map, length, arith, nat_tests, length-map, err_from_is_err_and, Ranges}
+use Rattle.pg_syntax.proofs.Common.{Lexeme, lex, head_in, line_in, preamble_in, body_at, Fails, bound}
 use Rattle.pg_syntax.specs.declared.preamble.Preamble as rust
-use Rattle.pg_syntax.specs.Lexemes.{Lexeme}
-use Rattle.pg_syntax.specs.Mirrors.Scan.{lex}
-use Rattle.pg_syntax.specs.Mirrors.Kept.{head_in, line_in}
-use Rattle.pg_syntax.specs.Mirrors.Preambles.{preamble_in}
-use Rattle.pg_syntax.specs.Mirrors.BodyScan.{body_at}
-use Rattle.pg_syntax.specs.Mirrors.Steps.{Fails}
-use Rattle.pg_syntax.specs.Mirrors.Readings.{bound}
 use Rattle.pg_syntax.proofs.ReadParts.{head_condition, few_names, few_states, headers_never, preamble_never, body_never, end_never}
 use Rattle.pg_syntax.proofs.ReadParts.{all_read}
 use Rattle.pg_syntax.proofs.syntax.parts.Goals as goal

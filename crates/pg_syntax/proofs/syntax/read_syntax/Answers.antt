@@ -1,17 +1,7 @@
-use Rattle.std.proofs.Common.{◌≡◌, ◌∙◌, ◌≤◌, ◌<◌, ◌*◌, ◌^◌, ℕ, List, length, map, sym, subst, arith}
-use Rattle.std.proofs.lemmas.List.{length-map}
-use Rattle.std.proofs.lemmas.Result.{err_from_is_err_and}
-use Rattle.std.specs.declared.vec.Vec.{Vec}
-use Rattle.std.specs.declared.alloc.Global.{Global}
-use Rattle.std.specs.Prelude.{vec_len}
-use Rattle.pg_syntax.specs.declared.body.ReadState.{ReadState}
+use Rattle.pg_syntax.proofs.Common.{◌≡◌, ◌∙◌, ◌≤◌, ◌<◌, ◌*◌, ◌^◌, ℕ, List, length, map, sym, subst, arith, length-map, err_from_is_err_and}
+use Rattle.pg_syntax.proofs.Common.{Vec, Global, vec_len, ReadState, SaysNone, lex, KeptHead, KeptLine, line_in, preamble_in, Preamble}
+use Rattle.pg_syntax.proofs.Common.{Declares, Reads, bare_automaton, state_count}
 use Rattle.pg_syntax.specs.declared.preamble.Preamble as rust
-use Rattle.pg_syntax.specs.Syntax.{SaysNone}
-use Rattle.pg_syntax.specs.Mirrors.Scan.{lex}
-use Rattle.pg_syntax.specs.Mirrors.Kept.{KeptHead, KeptLine, line_in}
-use Rattle.pg_syntax.specs.Mirrors.Preambles.{preamble_in}
-use Rattle.pg_syntax.specs.Mirrors.Preambles.{Preamble}
-use Rattle.pg_syntax.specs.Mirrors.Readings.{Declares, Reads, bare_automaton, state_count}
 use Rattle.pg_syntax.proofs.ReadParts.{reads_within}
 use Rattle.pg_syntax.proofs.ReadSpelt.{reads_declare}
 use Rattle.pg_syntax.proofs.SpeltReads.{says_nothing, many_say_none}

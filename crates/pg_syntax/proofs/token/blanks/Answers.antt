@@ -1,9 +1,5 @@
-use Rattle.std.proofs.Common.{◌≡◌, ◌∙◌, sym, ap, Some, Option, ℕ, List, arith}
-use Rattle.std.proofs.lemmas.Bool.Decides.{nat_tests}
-use Rattle.std.proofs.lemmas.Result.{err_from_is_err_and}
-use Rattle.std.specs.Prelude.{option_map}
+use Rattle.pg_syntax.proofs.Common.{◌≡◌, ◌∙◌, sym, ap, Some, Option, ℕ, List, arith, nat_tests, err_from_is_err_and, option_map, gap_step}
 use Rattle.std.specs.Borrow.{Bor}
-use Rattle.pg_syntax.specs.Mirrors.Scan.{gap_step}
 use Rattle.pg_syntax.proofs.Gaps.{gap_takes, gap_next, gap_ends, gap_fails}
 use Rattle.pg_syntax.proofs.token.blanks.Goals as goal
 

@@ -1,5 +1,4 @@
-use Rattle.std.proofs.Common.{◌≡◌, ◌≤◌, length}
-use Rattle.pg_syntax.specs.Mirrors.Scan.{gap_from}
+use Rattle.pg_syntax.proofs.Common.{◌≡◌, ◌≤◌, length, gap_from}
 use Rattle.pg_syntax.proofs.token.blanks.Given as goal
 
 -- what is left gives the same

@@ -1,6 +1,4 @@
-use Rattle.std.proofs.Common.{◌∙◌, sym, arith}
-use Rattle.std.proofs.lemmas.Bool.Decides.{nat_tests}
-use Rattle.std.proofs.lemmas.Result.{err_from_is_err_and}
+use Rattle.pg_syntax.proofs.Common.{◌∙◌, sym, arith, nat_tests, err_from_is_err_and}
 use Rattle.pg_syntax.proofs.Lexing.{gap_unread, token_unread, ended, token_read}
 use Rattle.pg_syntax.proofs.token.next_token.Goals as goal
 

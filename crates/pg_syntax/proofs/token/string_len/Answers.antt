@@ -1,6 +1,4 @@
-use Rattle.std.proofs.Common.{◌≡◌, ◌∙◌, ap, sym, Some, None, Option, ℕ, List, Bor, ◌+◌, arith}
-use Rattle.std.specs.Prelude.{option_map}
-use Rattle.pg_syntax.specs.Mirrors.Scan.{character_at, string_len}
+use Rattle.pg_syntax.proofs.Common.{◌≡◌, ◌∙◌, ap, sym, Some, None, Option, ℕ, List, Bor, ◌+◌, arith, option_map, character_at, string_len}
 use Rattle.pg_syntax.proofs.Strings.{further, further_more, character_takes, string_fails, string_ends}
 use Rattle.pg_syntax.proofs.token.string_len.Goals as goal
 

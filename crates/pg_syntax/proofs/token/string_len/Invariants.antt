@@ -1,5 +1,4 @@
-use Rattle.std.proofs.Common.{◌≡◌, ◌+◌, length}
-use Rattle.pg_syntax.specs.Mirrors.Scan.{string_len}
+use Rattle.pg_syntax.proofs.Common.{◌≡◌, ◌+◌, length, string_len}
 use Rattle.pg_syntax.proofs.Strings.{further}
 use Rattle.pg_syntax.proofs.token.string_len.Given as goal
 

@@ -1,6 +1,4 @@
-use Rattle.std.proofs.Common.{◌≡◌, ◌<◌, ◌≤◌, ◌+◌, ◌-◌, ◌*◌, drop, get_or, length, arith}
-use Rattle.std.proofs.lemmas.List.{at_drop_more}
-use Rattle.pg_lists.proofs.Runs.{value_from, value_grows}
+use Rattle.pg_syntax.proofs.Common.{◌≡◌, ◌<◌, ◌≤◌, ◌+◌, ◌-◌, ◌*◌, drop, get_or, length, arith, at_drop_more, value_from, value_grows}
 use Rattle.pg_syntax.proofs.token.value_of.Goals as goal
 
 pub returns-then-value-from : goal.returns-then-value-from

@@ -1,6 +1,4 @@
-use Rattle.std.proofs.Common.{◌≡◌, ◌<◌, ◌^◌, drop}
-use Rattle.pg_lists.specs.Bytes.{value_of}
-use Rattle.pg_lists.proofs.Runs.{value_from}
+use Rattle.pg_syntax.proofs.Common.{◌≡◌, ◌<◌, ◌^◌, drop, value_of, value_from}
 use Rattle.pg_syntax.proofs.token.value_of.Given as goal
 
 -- the digits behind the value so far make the whole value
