@@ -1,15 +1,11 @@
 -- What is passed over is read.
-use Rattle.std.proofs.Common.{◌≡◌, ℕ, suc, ◌+◌, ◌-◌, ◌^◌, ◌<◌, ◌≤◌, List, [], ◌∷◌, ◌++◌, drop, get_or, length, Some}
+use Rattle.std.proofs.Common.{◌≡◌, ℕ, suc, ◌+◌, ◌-◌, ◌^◌, ◌<◌, ◌≤◌, List, [], ◌∷◌, ◌++◌, drop, get_or, length}
 use Rattle.std.proofs.Common.{Result, Ok, Err, refl, sym, ap, subst, ◌∙◌, arith}
 use Rattle.std.specs.List.{flat_map}
 use Rattle.std.proofs.lemmas.List.{append-nil}
 use Rattle.pg_wire.specs.declared.fault.FieldFault.{FieldFault}
 use Rattle.pg_wire.specs.declared.frame.VertexLine.{VertexLine}
 use Rattle.pg_wire.specs.declared.frame.Vertices.{Vertices}
-use Rattle.pg_wire.specs.declared.frame.Value.{Value}
-use Rattle.pg_wire.specs.declared.frame.Values.{Values}
-use Rattle.pg_wire.specs.declared.frame.SparseValue.{SparseValue}
-use Rattle.pg_wire.specs.declared.frame.Sparse.{Sparse}
 use Rattle.pg_wire.specs.declared.frame.Frame.{Frame}
 use Rattle.pg_wire.specs.declared.frame.Frame.TheVariants as frames
 use Rattle.pg_wire.specs.declared.kind.ValueKind.{ValueKind}
@@ -18,9 +14,8 @@ use Rattle.pg_wire.specs.Spelling.{word, line, body}
 use Rattle.pg_wire.specs.Well.{IsWell}
 use Rattle.pg_wire.specs.Lines.{frame_with}
 use Rattle.pg_wire.specs.Measured.{filled, spelled_as, kind_number}
-use Rattle.pg_wire.specs.Mirrors.Reading.{◌>>=◌, Reader, both, made, skipped, items_at, counted_at, tagged_at, within_at, byte_at}
-use Rattle.pg_wire.specs.Mirrors.Formats.{Format, Kind, so_many, listed, successors, lines, values, places}
-use Rattle.pg_wire.specs.Mirrors.Formats.{sparse_values, all_components, some_places, line as line_format, value, sparse_value, measure}
+use Rattle.pg_wire.specs.Mirrors.Reading.{◌>>=◌, Reader, made, skipped, items_at, within_at}
+use Rattle.pg_wire.specs.Mirrors.Formats.{Format, Kind, so_many, listed, lines, values, places}
 use Rattle.pg_wire.specs.Mirrors.Formats.{values_fields, sparse_fields, vertices_fields}
 use Rattle.pg_wire.specs.Mirrors.Streaming.{measures_skipped, AreLines, AreFields}
 use Rattle.pg_wire.proofs.Grammar.{IsForm, IsBytes, bind_ok, ok_is, within_is}
@@ -31,13 +26,14 @@ result_err : {A B : Type 0} (r : Result A FieldFault) (f : A → B) (e : FieldFa
 result_err (Ok x) f e h = absurd cc
 result_err (Err d) f e h = cc
 
-pub skipped_ok : {A : Type 0} (read : Reader A) (bytes rest : List ℕ) → skipped read bytes ≡ Ok rest → (x : A) × (read bytes ≡ Ok (x, rest))
-skipped_ok {A} read bytes rest h =
-    let p = bind_ok (read bytes) (λ (x : A × List ℕ). Ok x.1) rest h in
-    (p.0.0, p.1 ∙ ap (λ (r : List ℕ). Ok (p.0.0, r)) (ok_is p.0.1 rest p.2))
+-- what is passed over is read
+pub passed : {A : Type 0} (r : Result (A × List ℕ) FieldFault) (rest : List ℕ) → (r >>= λ x. Ok x.1) ≡ Ok rest → (x : A) × (r ≡ Ok (x, rest))
+passed {A} r rest h =
+    let p = bind_ok r (λ (x : A × List ℕ). Ok x.1) rest h in
+    (p.0.0, p.1 ∙ ap (λ (t : List ℕ). Ok (p.0.0, t)) (ok_is p.0.1 rest p.2))
 
-skipped_err : {A : Type 0} (read : Reader A) (bytes : List ℕ) (e : FieldFault) → skipped read bytes ≡ Err e → read bytes ≡ Err e
-skipped_err {A} read bytes e h = result_err (read bytes) (λ (x : A × List ℕ). x.1) e h
+pub refused : {A : Type 0} (r : Result (A × List ℕ) FieldFault) (e : FieldFault) → (r >>= λ x. Ok x.1) ≡ Err e → r ≡ Err e
+refused {A} r e h = result_err r (λ (x : A × List ℕ). x.1) e h
 
 made_ok : {A : Type 0} (f : A → ℕ) (read : Reader A) (bytes rest : List ℕ) (n : ℕ) → made f read bytes ≡ Ok (n, rest)
     → (x : A) × (read bytes ≡ Ok (x, rest)) × (f x ≡ n)
@@ -94,84 +90,12 @@ made_skipped : {A B : Type 0} (make : A → B) (r : Result (A × List ℕ) Field
 made_skipped make (Ok x) = refl
 made_skipped make (Err e) = refl
 
-both_skipped : {A B : Type 0} (ra : Reader A) (rb : A → Reader B) (bytes rest : List ℕ) (a : A) → ra bytes ≡ Ok (a, rest)
-    → skipped (both ra rb) bytes ≡ skipped (rb a) rest
-both_skipped {A} {B} ra rb bytes rest a e = rw e (made_skipped (λ (b : B). (a, b)) (rb a rest))
-
-tagged_skipped : {A : Type 0} (read : Reader A) (bytes rest : List ℕ) (t : ℕ) → byte_at 2 bytes ≡ Ok (t, rest) → t ≡ 0
-    → skipped (tagged_at read) bytes ≡ skipped read rest
-unfolding tagged_at
-tagged_skipped {A} read bytes rest t e zero = rw (e, zero) (made_skipped (λ (a : A). Some a) (read rest))
-
--- a value of which the first part says the next place
-step : {A B : Type 0} (make : ℕ × A → B) (next : B → ℕ) (ra : Reader ℕ) (rb : ℕ → Reader A) (bytes rest : List ℕ) (n : ℕ) (r : Result (List ℕ) FieldFault)
-    → ((a : A) → next (make (n, a)) ≡ n + 1) → ra bytes ≡ Ok (n, rest) → skipped (rb n) rest ≡ r
-    → made next (made make (both ra rb)) bytes ≡ (r >>= λ after. Ok (n + 1, after))
-step {A} {B} make next ra rb bytes rest n (Ok after) places e s =
-    let p = skipped_ok (rb n) rest after s in
-    rw (e, p.1, places p.0) refl
-step make next ra rb bytes rest n (Err d) places e s = rw (e, skipped_err (rb n) rest d s) refl
-
-abbrev Line : ℕ → Reader ℕ
-Line low = made lines.next (line_format low).read
-
-abbrev Successors : Reader (List ℕ)
-Successors = (listed successors 1 (2 ^ 32) 0).read
-
-line_step : (low v p o : ℕ) (bytes rest rest' list : List ℕ) (r : Result (List ℕ) FieldFault)
-    → within_at low (2 ^ 32) bytes ≡ Ok (v, rest) → within_at 0 65537 rest ≡ Ok (p, rest') → byte_at 2 rest' ≡ Ok (o, list)
-    → skipped Successors list ≡ r → Line low bytes ≡ (r >>= λ after. Ok (v + 1, after))
-unfolding line_format
-line_step low v p o bytes rest rest' list r a b c s =
-    let owner_on : Reader (ℕ × List ℕ) = both (byte_at 2) (λ _. Successors) in
-    let make : ℕ × (ℕ × (ℕ × List ℕ)) → VertexLine = λ l. record { vertex = l.0; priority = l.1.0; owner = l.1.1.0; successors = l.1.1.1 } in
-    step make lines.next (within_at low (2 ^ 32)) (λ _. both (within_at 0 65537) (λ _. owner_on)) bytes rest v r (λ x. refl) a
-    (both_skipped (within_at 0 65537) (λ _. owner_on) rest rest' p b ∙ both_skipped (byte_at 2) (λ _. Successors) rest' list o c ∙ s)
-
-pub line_skipped : (low v p o : ℕ) (bytes rest rest' list after : List ℕ)
-    → within_at low (2 ^ 32) bytes ≡ Ok (v, rest) → within_at 0 65537 rest ≡ Ok (p, rest') → byte_at 2 rest' ≡ Ok (o, list)
-    → skipped Successors list ≡ Ok after → Line low bytes ≡ Ok (v + 1, after)
-line_skipped low v p o bytes rest rest' list after = line_step low v p o bytes rest rest' list (Ok after)
-
-pub line_refused : (low v p o : ℕ) (bytes rest rest' list : List ℕ) (e : FieldFault)
-    → within_at low (2 ^ 32) bytes ≡ Ok (v, rest) → within_at 0 65537 rest ≡ Ok (p, rest') → byte_at 2 rest' ≡ Ok (o, list)
-    → skipped Successors list ≡ Err e → Line low bytes ≡ Err e
-line_refused low v p o bytes rest rest' list e = line_step low v p o bytes rest rest' list (Err e)
-
-abbrev Skipped : {A B : Type 0} → (ℕ → Kind B) → (ℕ → Format A) → Type 0
-Skipped kind list = (width low n t : ℕ) (bytes rest more after : List ℕ) → within_at low (2 ^ 32) bytes ≡ Ok (n, rest) → byte_at 2 rest ≡ Ok (t, more)
-    → t ≡ 0 → skipped (list width).read more ≡ Ok after → made (kind width).next ((kind width).read low) bytes ≡ Ok (n + 1, after)
-
-abbrev Refused : {A B : Type 0} → (ℕ → Kind B) → (ℕ → Format A) → Type 0
-Refused kind list = (width low n t : ℕ) (bytes rest more : List ℕ) (e : FieldFault) → within_at low (2 ^ 32) bytes ≡ Ok (n, rest)
-    → byte_at 2 rest ≡ Ok (t, more) → t ≡ 0 → skipped (list width).read more ≡ Err e → made (kind width).next ((kind width).read low) bytes ≡ Err e
-
-pub value_skipped : Skipped values all_components
-unfolding value
-value_skipped width low n t bytes rest more after a b z s =
-    step _ (values width).next (within_at low (2 ^ 32)) _ bytes rest n (Ok after) (λ x. refl) a (tagged_skipped _ rest more t b z ∙ s)
-
-pub value_refused : Refused values all_components
-unfolding value
-value_refused width low n t bytes rest more e a b z s =
-    step _ (values width).next (within_at low (2 ^ 32)) _ bytes rest n (Err e) (λ x. refl) a (tagged_skipped _ rest more t b z ∙ s)
-
-pub sparse_value_skipped : Skipped sparse_values some_places
-unfolding sparse_value
-sparse_value_skipped width low n t bytes rest more after a b z s =
-    step _ (sparse_values width).next (within_at low (2 ^ 32)) _ bytes rest n (Ok after) (λ x. refl) a (tagged_skipped _ rest more t b z ∙ s)
-
-pub sparse_value_refused : Refused sparse_values some_places
-unfolding sparse_value
-sparse_value_refused width low n t bytes rest more e a b z s =
-    step _ (sparse_values width).next (within_at low (2 ^ 32)) _ bytes rest n (Err e) (λ x. refl) a (tagged_skipped _ rest more t b z ∙ s)
-
 -- ---- the fields of a frame
 
 -- fields that fill the bytes, and back
 read_all : {A : Type 0} {f : Format A} → IsForm f → (bytes : List ℕ) → IsBytes bytes → skipped f.read bytes ≡ Ok [] → (a : A) × (bytes ≡ f.spelled a) × f.Fits a
 read_all {A} {f} is bytes h e =
-    let p = skipped_ok f.read bytes [] e in
+    let p = passed (f.read bytes) [] e in
     let t = is.reads_only bytes (p.0, []) h p.1 in
     (p.0, t.0.parts ∙ append-nil (f.spelled p.0), t.1)
 
@@ -188,22 +112,6 @@ number_read low high n m bytes rest more h e a =
     let wanted : ℕ × List ℕ = (m, more) in
     let same : found ≡ wanted = ok_is found wanted (sym a ∙ ap (within_at low high) e ∙ (within_is low high).reads_back m more h) in
     (ap (λ (y : ℕ × List ℕ). y.0) same, ap (λ (y : ℕ × List ℕ). y.1) same)
-
-pub dense_skipped : (width : ℕ) (bytes rest : List ℕ) (r : Result (List ℕ) FieldFault) → within_at 0 32769 bytes ≡ Ok (width, rest)
-    → skipped (listed (values width) 0 (2 ^ 32) 0).read rest ≡ r → skipped values_fields.read bytes ≡ r
-unfolding values_fields
-dense_skipped width bytes rest r a s =
-    let read : ℕ → Reader (List Value) = λ w. (listed (values w) 0 (2 ^ 32) 0).read in
-    let make : ℕ × List Value → Values = λ p. record { width = p.0; values = p.1 } in
-    made_skipped make (both (within_at 0 32769) read bytes) ∙ both_skipped (within_at 0 32769) read bytes rest width a ∙ s
-
-pub sparse_skipped : (width : ℕ) (bytes rest : List ℕ) (r : Result (List ℕ) FieldFault) → within_at 0 32769 bytes ≡ Ok (width, rest)
-    → skipped (listed (sparse_values width) 0 (2 ^ 32) 0).read rest ≡ r → skipped sparse_fields.read bytes ≡ r
-unfolding sparse_fields
-sparse_skipped width bytes rest r a s =
-    let read : ℕ → Reader (List SparseValue) = λ w. (listed (sparse_values w) 0 (2 ^ 32) 0).read in
-    let make : ℕ × List SparseValue → Sparse = λ p. record { width = p.0; values = p.1 } in
-    made_skipped make (both (within_at 0 32769) read bytes) ∙ both_skipped (within_at 0 32769) read bytes rest width a ∙ s
 
 -- the fields of a well frame of a kind are passed over
 pub measures_read : (kind : ValueKind) (f : Frame) (bytes : List ℕ) → IsWell f → (kind_number kind ∷ bytes) ≡ body f → measures_skipped kind bytes ≡ Ok []
@@ -303,9 +211,3 @@ filled_read width count bytes ps rest h = rw h refl
 pub filled_refused : (width count : ℕ) (bytes : List ℕ) (e : FieldFault) → (so_many (places width) count 0).read bytes ≡ Err e
     → made (filled width) (so_many (places width) count 0).read bytes ≡ Err e
 filled_refused width count bytes e h = rw h refl
-
-pub pairs_read : (width count : ℕ) (bytes list : List ℕ) (x : Result (List ℕ × List ℕ) FieldFault)
-    → within_at 0 (width + 1) bytes ≡ Ok (count, list) → made (filled width) (so_many (places width) count 0).read list ≡ x
-    → (measure kinds.Sparse width).read bytes ≡ x
-unfolding measure counted_at
-pairs_read width count bytes list x a h = rw a h

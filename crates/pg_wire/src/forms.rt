@@ -217,7 +217,7 @@ impl Form for LineForm {
         ))
     }
 
-    #[tactic(auto, using(crate::proofs::Skip::line_skipped, crate::proofs::Skip::line_refused), unfolding(crate::specs::Mirrors::Formats::line))]
+    #[tactic(auto, using(crate::proofs::Skip::passed, crate::proofs::Skip::refused), unfolding(crate::specs::Mirrors::Formats::line))]
     fn skip(_: u32, place: u64, bytes: &[u8]) -> Result<(u64, &[u8]), FieldFault> {
         let (vertex, rest) = within(place, WORDS, bytes)?;
         let (_, rest) = within(0, 65_537, rest)?;
@@ -298,7 +298,7 @@ impl Form for ValueForm {
         Ok((Value { vertex, list }, rest))
     }
 
-    #[tactic(auto, using(crate::proofs::Skip::value_skipped, crate::proofs::Skip::value_refused), unfolding(crate::specs::Mirrors::Formats::value, crate::specs::Mirrors::Reading::tagged_at))]
+    #[tactic(auto, using(crate::proofs::Skip::passed, crate::proofs::Skip::refused), unfolding(crate::specs::Mirrors::Formats::value, crate::specs::Mirrors::Reading::tagged_at))]
     fn skip(width: u32, place: u64, bytes: &[u8]) -> Result<(u64, &[u8]), FieldFault> {
         let (vertex, rest) = within(place, WORDS, bytes)?;
         let (tag, rest) = byte(2, rest)?;
@@ -375,7 +375,7 @@ impl Form for SparseValueForm {
         Ok((SparseValue { vertex, pairs }, rest))
     }
 
-    #[tactic(auto, using(crate::proofs::Skip::sparse_value_skipped, crate::proofs::Skip::sparse_value_refused), unfolding(crate::specs::Mirrors::Formats::sparse_value, crate::specs::Mirrors::Reading::tagged_at))]
+    #[tactic(auto, using(crate::proofs::Skip::passed, crate::proofs::Skip::refused), unfolding(crate::specs::Mirrors::Formats::sparse_value, crate::specs::Mirrors::Reading::tagged_at))]
     fn skip(width: u32, place: u64, bytes: &[u8]) -> Result<(u64, &[u8]), FieldFault> {
         let (vertex, rest) = within(place, WORDS, bytes)?;
         let (tag, rest) = byte(2, rest)?;

@@ -26,14 +26,14 @@ pub struct ValuesReader<'a> {
 }
 
 /// The bytes after the fields of a frame of measures. It takes no memory.
-#[tactic(auto, using(crate::proofs::Skip::dense_skipped, crate::proofs::Skip::sparse_skipped), unfolding(crate::specs::Mirrors::Formats::values_fields, crate::specs::Mirrors::Formats::sparse_fields))]
+#[tactic(auto, using(crate::proofs::Skip::passed, crate::proofs::Skip::refused), unfolding(crate::specs::Mirrors::Formats::values_fields, crate::specs::Mirrors::Formats::sparse_fields))]
 fn skip_fields(kind: ValueKind, bytes: &[u8]) -> Result<&[u8], FieldFault>
     ensures { Yields (λ x. x.now) result (measures_skipped kind bytes.now) }
 {
     let (width, rest) = within(0, 32_769, bytes)?;
     match kind {
-        ValueKind::Dense => skip_counted::<ValueForm>(width, 0, WORDS, 0, rest),
-        ValueKind::Sparse => skip_counted::<SparseValueForm>(width, 0, WORDS, 0, rest),
+        ValueKind::Dense => Ok(skip_counted::<ValueForm>(width, 0, WORDS, 0, rest)?),
+        ValueKind::Sparse => Ok(skip_counted::<SparseValueForm>(width, 0, WORDS, 0, rest)?),
     }
 }
 
@@ -97,7 +97,7 @@ fn read_places<'a>(
 }
 
 /// The next list, written into the row.
-#[tactic(auto, using(crate::proofs::Skip::pairs_read), unfolding(crate::specs::Mirrors::Formats::measure, crate::specs::Mirrors::Reading::counted_at))]
+#[tactic(auto, unfolding(crate::specs::Mirrors::Formats::measure, crate::specs::Mirrors::Reading::counted_at))]
 #[inline(always)]
 fn read_list<'a>(
     kind: ValueKind,
@@ -113,7 +113,7 @@ fn read_list<'a>(
         ValueKind::Dense => read_numbers(bytes, row),
         ValueKind::Sparse => {
             let (count, rest) = within(0, width as u64 + 1, bytes)?;
-            read_places(width, count, rest, row)
+            Ok(read_places(width, count, rest, row)?)
         }
     }
 }

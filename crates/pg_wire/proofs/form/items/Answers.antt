@@ -35,7 +35,7 @@ loop-preserved g c =
     let e : c.push_reserved.new.self.items ≡ c.loop.items.items ++ n ∷ [] = c.push_reserved.ensures.items in
     record {
       read = rw (e, c.place_after_item-at.ensures c.args.width) (goes_on (g.F.Form.kind c.args.width) c.loop.items.items c.args.count c.loop.counter c.loop.at c.loop.rest.now n c.in_ok-item.after.now ((so_many (g.F.Form.kind c.args.width) c.args.count c.args.place).read c.args.bytes.now) c.loop-test.true c.in_ok-item.ensures.read c.loop.invariant.read);
-      capacity = c.push_reserved.ensures.capacity ∙ c.loop.invariant.capacity;
+      capacity = omega (arith, c.push_reserved.ensures.capacity, c.loop.invariant.capacity);
       len = omega (arith, c.push_reserved.ensures.len);
       used = rw c.push_reserved.ensures.len (room_used g.F.Form.SIZE (vec_len c.loop.items) (length c.loop.rest.now)
           (length c.in_ok-item.after.now) (length c.args.bytes.now) c.loop.invariant.used c.in_ok-item.ensures.size);
