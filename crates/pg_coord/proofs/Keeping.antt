@@ -11,7 +11,7 @@ use Rattle.pg_wire.specs.Well.{IsWell}
 use Rattle.pg_wire.specs.Bytes.{Spells}
 use Rattle.pg_worker.specs.declared.fault.WorkerFault.{WorkerFault}
 use Rattle.pg_worker.specs.declared.fault.WorkerFault.TheVariants.{OutOfMemory}
-use Rattle.pg_worker.specs.Turns.{HeldValue, Turn, IsUpTo, Refuses, DoesTurn, HasRows, SpellsRows, RefusesBytes}
+use Rattle.pg_worker.specs.Turns.{SessionValue, Turn, IsUpTo, Refuses, DoesTurn, HasRows, SpellsRows, RefusesBytes}
 use Rattle.pg_worker.specs.Serving.{report_bytes}
 use Rattle.pg_worker.specs.Above.{AreFrames}
 use Rattle.pg_worker.proofs.Framing.{frames_then, frames_less}
@@ -30,7 +30,7 @@ more_frames next bytes more bytes' le e a b =
     rw (e, drop-append-le next bytes more le) (frames_then Any (drop next bytes) more a (frames_less (Tells (λ m. Unit {0})) Any more (λ f t. tt) b))
 
 -- the turn of a frame
-pub kept_turn : (highest s s' next : ℕ) (held held' : Option HeldValue) (has_refused : Bool) (bytes bytes' reply : List ℕ) (f : Frame)
+pub kept_turn : (highest s s' next : ℕ) (held held' : Option SessionValue) (has_refused : Bool) (bytes bytes' reply : List ℕ) (f : Frame)
     → IsKept highest s held has_refused next bytes → s' ≡ s
     → IsWell f → Turn held f held' reply → bytes' ≡ bytes ++ reply → has_refused ≡ false → IsKept highest s' held' has_refused next bytes'
 kept_turn highest s s' next held held' has_refused bytes bytes' reply f k same well turn e hears = record {
@@ -43,7 +43,7 @@ kept_turn highest s s' next held held' has_refused bytes bytes' reply f k same w
 }
 
 -- the report of a fault
-pub kept_report : (highest s next : ℕ) (held : Option HeldValue) (has_refused : Bool) (bytes bytes' : List ℕ) (why : WorkerFault)
+pub kept_report : (highest s next : ℕ) (held : Option SessionValue) (has_refused : Bool) (bytes bytes' : List ℕ) (why : WorkerFault)
     → IsKept highest s held has_refused next bytes
     → bytes' ≡ bytes ++ report_bytes why → IsKept highest s held has_refused next bytes'
 kept_report highest s next held has_refused bytes bytes' why k e = record {
@@ -72,7 +72,8 @@ first_within P bytes n some frames size =
     omega (arith, size h.f h.rest h.spells h.parts, ap length h.parts, length-append (spelling h.f) h.rest)
 
 -- a turn that is done is a frame that is sent
-pub turn_sent : (old new : MemoryValue) (f : Frame) (highest s next : ℕ) (held : Option HeldValue) (has_refused : Bool) (bytes bytes' reply : List ℕ)
+pub turn_sent : (old new : MemoryValue) (f : Frame) (highest s next : ℕ) (held : Option SessionValue) (has_refused : Bool)
+    (bytes bytes' reply : List ℕ)
     → IsKept highest s held has_refused next bytes
     → highest ≡ old.highest → held ≡ old.held → has_refused ≡ old.has_refused → drop next bytes ≡ still_waiting f old.waiting → has_refused ≡ false
     → IsUpTo s f → Turn held f new.held reply → bytes' ≡ bytes ++ reply → new.waiting ≡ drop next bytes' → new.has_refused ≡ has_refused → Sends f old new
@@ -81,7 +82,7 @@ turn_sent old new f highest s next held has_refused bytes bytes' reply k highest
     rw listens (inl (record {
       reply = reply;
       version = subst (λ (n : ℕ). IsUpTo n f) (k.highest_is ∙ highest_is) version;
-      turn = subst (λ (o : Option HeldValue). Turn o f new.held reply) held_is turn;
+      turn = subst (λ (o : Option SessionValue). Turn o f new.held reply) held_is turn;
       waiting = waits ∙ ap (drop next) e ∙ drop-append-le next bytes reply k.within ∙ ap (λ (xs : List ℕ). xs ++ reply) waiting_is;
       refused = refused ∙ hears;
     }))
@@ -99,7 +100,7 @@ rows_wait (frames.Report r) waiting rows = absurd rows
 rows_wait frames.Halt waiting rows = absurd rows
 
 -- a session that holds nothing takes none
-rows_need : (f : Frame) (held : Option HeldValue) (reply : List ℕ) → HasRows f → Turn None f held reply → ⊥
+rows_need : (f : Frame) (held : Option SessionValue) (reply : List ℕ) → HasRows f → Turn None f held reply → ⊥
 rows_need (frames.Vertices v) held reply rows t = t
 rows_need (frames.Values v) held reply rows t = t
 rows_need (frames.Sparse s) held reply rows t = t
@@ -109,19 +110,21 @@ rows_need (frames.Report r) held reply rows t = absurd rows
 rows_need frames.Halt held reply rows t = absurd rows
 
 -- so it is one that listens
-listens : (f : Frame) (held held' : Option HeldValue) (has_refused : Bool) (reply : List ℕ) → (has_refused ≡ true → held ≡ None) → HasRows f
+listens : (f : Frame) (held held' : Option SessionValue) (has_refused : Bool) (reply : List ℕ) → (has_refused ≡ true → held ≡ None)
+    → HasRows f
     → Turn held f held' reply → has_refused ≡ false
 listens f held held' false reply empty rows t = refl
-listens f held held' true reply empty rows t = absurd (rows_need f held' reply rows (subst (λ (o : Option HeldValue). Turn o f held' reply) (empty refl) t))
+listens f held held' true reply empty rows t = absurd
+    (rows_need f held' reply rows (subst (λ (o : Option SessionValue). Turn o f held' reply) (empty refl) t))
 
 has_rows : (bytes : List ℕ) (f : Frame) → SpellsRows bytes → Spells f bytes → HasRows f
 has_rows bytes f rows s = subst HasRows (one_frame rows.0 f bytes rows.2 s) rows.1
 
 -- what the session does with bytes that may spell rows
-abbrev pub MayTake : Bool → ℕ → Option HeldValue → List ℕ → Option HeldValue → Type 0
+abbrev pub MayTake : Bool → ℕ → Option SessionValue → List ℕ → Option SessionValue → Type 0
 MayTake taken highest held bytes held' = MatchBool taken (DoesTurn highest held bytes held' false []) (held' ≡ held)
 
-pub kept_rows : (highest s s' next : ℕ) (held held' : Option HeldValue) (has_refused taken : Bool) (spelled bytes : List ℕ)
+pub kept_rows : (highest s s' next : ℕ) (held held' : Option SessionValue) (has_refused taken : Bool) (spelled bytes : List ℕ)
     → IsKept highest s held has_refused next bytes → s' ≡ s → (IsTrue taken ↔ SpellsRows spelled) → MayTake taken s held spelled held'
     → IsKept highest s' held' has_refused next bytes
 kept_rows highest s s' next held held' has_refused true spelled bytes k same rows does =
@@ -130,7 +133,7 @@ kept_rows highest s s' next held held' has_refused true spelled bytes k same row
 kept_rows highest s s' next held held' has_refused false spelled bytes k same rows e = rw (same, e) k
 
 -- a refusal of rows is one of their frame
-pub rows_refused : (old new : MemoryValue) (s : ℕ) (held : Option HeldValue) (spelled waits : List ℕ) (why : WorkerFault)
+pub rows_refused : (old new : MemoryValue) (s : ℕ) (held : Option SessionValue) (spelled waits : List ℕ) (why : WorkerFault)
     → old.has_refused ≡ false → s ≡ old.highest → held ≡ old.held → waits ≡ old.waiting → SpellsRows spelled
     → (why ≡ OutOfMemory) ⊎ RefusesBytes s held spelled why → (why ≢ OutOfMemory) × Reports why waits new
     → (f : Frame) × Spells f spelled × Sends f old new
@@ -139,6 +142,6 @@ rows_refused old new s held spelled waits why hears s_is held_is waits_is rows (
 rows_refused old new s held spelled waits why hears s_is held_is waits_is rows (inr (inr refuses)) r =
     let f = refuses.0 in
     let same : Refuses old.highest old.held f why =
-    subst (λ (n : ℕ). Refuses n old.held f why) s_is (subst (λ (o : Option HeldValue). Refuses s o f why) held_is refuses.2) in
+    subst (λ (n : ℕ). Refuses n old.held f why) s_is (subst (λ (o : Option SessionValue). Refuses s o f why) held_is refuses.2) in
     let waiting : waits ≡ still_waiting f old.waiting = waits_is ∙ rows_wait f old.waiting (has_rows spelled f rows refuses.1) in
     (f, refuses.1, rw hears (inr (why, same, subst (λ (w : List ℕ). Reports why w new) waiting r.1)))

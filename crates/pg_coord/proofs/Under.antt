@@ -8,7 +8,7 @@ use Rattle.pg_wire.specs.declared.frame.Frame.TheVariants as frames
 use Rattle.pg_wire.specs.Bytes.{Spells}
 use Rattle.pg_wire.proofs.Bodies.{one_frame}
 use Rattle.pg_parts.specs.Frames.{IsAtLeast, measures_in}
-use Rattle.pg_worker.specs.Turns.{HeldValue, Turn}
+use Rattle.pg_worker.specs.Turns.{SessionValue, Turn}
 use Rattle.pg_worker.specs.Serving.{report_bytes}
 use Rattle.pg_worker.specs.Above.{AreFrames, IsAboveSession}
 use Rattle.pg_worker.specs.Mirrors.Sessions.{IsSmall}
@@ -23,7 +23,8 @@ AtMostMap h f = IsAtLeast h.measures (measures_in f)
 
 -- ---- the turn of a session: what the link was under before is that its session was
 
-session_above : (B : Type 0) (h : MapValue) (before : Option HeldValue) (f : Frame) (after : Option HeldValue) (reply : List ℕ) → Turn before f after reply
+session_above : (B : Type 0) (h : MapValue) (before : Option SessionValue) (f : Frame) (after : Option SessionValue) (reply : List ℕ)
+    → Turn before f after reply
     → IsUnderAfter f h B → (B → IfSome before (IsAboveSession h)) → IfSome after (IsAboveSession h)
 session_above B h before (frames.Setup s) after reply t u was = rw t.0 (fresh_above h s u.0 u.1)
 session_above B h before (frames.Vertices v) after reply t u was =
@@ -37,7 +38,8 @@ session_above B h before (frames.Go g) after reply t u was =
 session_above B h before frames.Halt after reply t u was = absurd u
 session_above B h before (frames.Report r) after reply t u was = absurd u
 
-reply_below : (B : Type 0) (h : MapValue) (before : Option HeldValue) (f : Frame) (after : Option HeldValue) (reply : List ℕ) → Turn before f after reply
+reply_below : (B : Type 0) (h : MapValue) (before : Option SessionValue) (f : Frame) (after : Option SessionValue) (reply : List ℕ)
+    → Turn before f after reply
     → IfSome before IsSmall → IsUnderAfter f h B → (B → IfSome before (IsAboveSession h)) → AreFrames (AtMostMap h) reply
 reply_below B h before (frames.Setup s) after reply t small u was = rw t.1 (greeting_frames (λ m. AtMost m.1 (measure_at h.measures m.0)) s.version)
 reply_below B h before (frames.Vertices v) after reply t small u was = turn_tells_under h before (frames.Vertices v) after reply t small (was u.0)

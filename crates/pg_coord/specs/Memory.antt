@@ -9,7 +9,7 @@ use Rattle.pg_wire.specs.Bytes.{Spells, IsTooLong, IsTruncated}
 use Rattle.pg_worker.specs.declared.fault.WorkerFault.{WorkerFault}
 use Rattle.pg_worker.specs.declared.fault.WorkerFault.TheVariants.{Wire}
 use Rattle.pg_parts.specs.Frames.{IsAtLeast, measures_in}
-use Rattle.pg_worker.specs.Turns.{HeldValue, Turn, IsUpTo, Refuses}
+use Rattle.pg_worker.specs.Turns.{SessionValue, Turn, IsUpTo, Refuses}
 use Rattle.pg_worker.specs.Serving.{report_bytes}
 use Rattle.pg_worker.specs.Above.{AreFrames, IsAboveSession}
 
@@ -17,7 +17,7 @@ use Rattle.pg_worker.specs.Above.{AreFrames, IsAboveSession}
 -- and so drops what is sent, the bytes of the frames that wait, and how many calls were Failed.
 pub record MemoryValue : Type 0 where
   pub highest : ℕ
-  pub held : Option HeldValue
+  pub held : Option SessionValue
   pub has_refused : Bool
   pub waiting : List ℕ
   pub failures : ℕ

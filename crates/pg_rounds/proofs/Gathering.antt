@@ -61,13 +61,13 @@ lines_later t next more ls le a =
 
 pub lines_more : (t : TaskValue) (v : ℕ) (ls : List VertexLine) (l : VertexLine) → l.vertex ≡ v → v < length t.game → IsVertexLine l
     → told_line l ≡ vertex_line (vertex_at t.game v) → AreLines t v ls → AreLines t (v + 1) (ls ++ l ∷ [])
-lines_more t v ls l at lt well told a =
+lines_more t v ls l at lt well line_is a =
     let new : IsLineOf t (v + 1) l = record {
       vertex = omega arith;
       below = omega arith;
       well = well;
       line = subst
-          (λ (u : ℕ). told_line l ≡ vertex_line (vertex_at t.game u)) (sym at) told;
+          (λ (u : ℕ). told_line l ≡ vertex_line (vertex_at t.game u)) (sym at) line_is;
     } in
     let front = lines_later t v (v + 1) ls (omega arith) a in
     record {
@@ -97,10 +97,11 @@ pub pushed_line : (t : TaskValue) (w w' : VerticesWriter) (v : ℕ) (ls : List V
     → IsTask t → l.vertex ≡ v → v < length t.game → IsVertexLine l → told_line l ≡ vertex_line (vertex_at t.game v)
     → AreWritten t w v ls buffer → length buffer ≤ 8388608 → IsLineAdded fits w w' [] ls l buffer buffer'
     → (fits ≡ true) × AreWritten t w' (v + 1) (ls ++ l ∷ []) buffer'
-pushed_line t w w' v ls l buffer buffer' true task at lt well told h short a =
-    (refl, record { writing = a; lines = lines_more t v ls l at lt well told h.lines })
-pushed_line t w w' v ls l buffer buffer' false task at lt well told h short a =
-    let few = few_successors t.game l task.game task.well.vertices.1 well (subst (λ (u : ℕ). told_line l ≡ vertex_line (vertex_at t.game u)) (sym at) told) in
+pushed_line t w w' v ls l buffer buffer' true task at lt well line_is h short a =
+    (refl, record { writing = a; lines = lines_more t v ls l at lt well line_is h.lines })
+pushed_line t w w' v ls l buffer buffer' false task at lt well line_is h short a =
+    let few = few_successors t.game l task.game task.well.vertices.1 well
+    (subst (λ (u : ℕ). told_line l ≡ vertex_line (vertex_at t.game u)) (sym at) line_is) in
     absurd (omega (arith, a.0, line_fits w ls l buffer h.writing short few))
 
 -- ---- the frame is finished

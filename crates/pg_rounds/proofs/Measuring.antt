@@ -81,11 +81,11 @@ frame_spelled map kind w next ms buffer out k d few are size h is spells =
     record {
       measures = ms;
       spelled = rw is (subst (λ (f : Frame). Spells (frame_of kind width ms) (spelling f)) (sym same) spelled);
-      told = frame_tells kind width ms each;
+      in_frame = frame_tells kind width ms each;
       of_map = h.sent.of_map;
     }
 
--- what a reader finds in a frame is what the frame tells
+-- what a reader finds in a frame is what the frame holds
 pub found_at_least : (f : List MeasureValue) (r : ValuesReader) (ms : List Measured) → IsLeft r ms
     → IsAtLeast f (measures_in (frame_of r.kind r.width ms)) → IsAtLeast f ms
 found_at_least f r ms left h =

@@ -10,6 +10,7 @@ use Rattle.pg_measure.specs.Measures.{BoundList, MeasureValue}
 use Rattle.pg_wire.specs.declared.frame.Values.{Values}
 use Rattle.pg_wire.specs.declared.frame.Report.{Report}
 use Rattle.pg_wire.specs.declared.frame.Frame.TheVariants as frames
+use Rattle.pg_wire.specs.declared.kind.ValueKind.{ValueKind}
 use Rattle.pg_wire.specs.declared.kind.ValueKind.TheVariants.{Dense}
 use Rattle.pg_wire.specs.Spelling.{spelling}
 use Rattle.pg_wire.specs.Bytes.{Spells}
@@ -50,8 +51,7 @@ pub record HasReceived (r : Reply) (left : List (List ℕ)) (n : ℕ) (told : Op
   pub joins : Joins f (values_measures front) g
 
 pub received_none : (r : Reply) (left : List (List ℕ)) (told : Option (List (List ℕ))) (f : List MeasureValue)
-    → told ≡ Some (spelled_reply r ++ left)
-    → HasReceived r left 0 told f f
+    → told ≡ Some (spelled_reply r ++ left) → HasReceived r left 0 told f f
 received_none r left told f is = record { front = []; rest = r.values; parts = refl; count = refl; told_is = is; joins = joins_none f }
 
 -- the next frame is one of values
@@ -144,118 +144,79 @@ next_by bounds cut worker r left n told f g front (v ∷ vs) is parts count told
 -- ---- one frame is read
 
 -- what reading a frame comes to
-pub record ReadsFrame (bounds : BoundList) (cut : CutValue) (worker : ℕ) (told told' : Option (List (List ℕ))) (b b' : CoordinatorMap)
-    (result : Result Bool LinkFault) : Type 0 where
+pub record ReadsFrame (bounds : BoundList) (cut : CutValue) (worker : ℕ) (kind : ValueKind) (told told' : Option (List (List ℕ)))
+    (b b' : CoordinatorMap) (result : Result Bool LinkFault) : Type 0 where
   pub values : (v : Values) (next : List ℕ) (left : List (List ℕ)) → told ≡ Some (next ∷ left) → Spells (frames.Values v) next
-      → AreOfPart Dense bounds cut worker Dense v.width (told_values v.values)
+      → kind ≡ Dense → AreOfPart Dense bounds cut worker Dense v.width (told_values v.values)
       → AnswersAfter false left told' result × OnOk result (Joins b.map.measures (told_values v.values) b'.map.measures)
   pub report : (r : Report) (next : List ℕ) (left : List (List ℕ)) → told ≡ Some (next ∷ left) → Spells (frames.Report r) next
-      → r.status ≢ 2
-      → AnswersAfter true left told' result × (b' ≡ b)
-  pub failing : (next : List ℕ) (left : List (List ℕ)) → told ≡ Some (next ∷ left) → FailsLink bounds cut worker next
+      → r.status ≢ 2 → AnswersAfter true left told' result × (b' ≡ b)
+  pub failing : (next : List ℕ) (left : List (List ℕ)) → told ≡ Some (next ∷ left) → FailsLink bounds cut worker next → kind ≡ Dense
       → FailsAfter left told' result × (b' ≡ b)
   pub ended : told ≡ Some [] → FailsAfter [] told' result × (b' ≡ b)
 
--- one frame of values more was received
-pub received_more : (bounds : BoundList) (cut : CutValue) (worker : ℕ) (r : Reply) (left : List (List ℕ)) (n : ℕ)
-    (told told' : Option (List (List ℕ)))
-    (f : List MeasureValue) (b b' : CoordinatorMap) → n < 65536 → IsReply bounds cut worker r left
-    → HasReceived r left n told f b.map.measures
-    → ReadsFrame bounds cut worker told told' b b' (Ok false) → HasReceived r left (n + 1) told' f b'.map.measures
-received_more bounds cut worker r left n told told' f b b' few is h reads =
-    more (next_by bounds cut worker r left n told f b.map.measures h.front h.rest is h.parts h.count h.told_is h.joins)
+-- what a reply comes to once one frame more was read
+abbrev pub ComesTo : Reply → List (List ℕ) → ℕ → Option (List (List ℕ)) → List MeasureValue → List MeasureValue → Result Bool LinkFault
+    → Type 0
+ComesTo r left n told f g (Ok false) = HasReceived r left (n + 1) told f g
+ComesTo r left n told f g (Ok true) = ReceivesReply r left f g told (Ok tt)
+ComesTo r left n told f g (Err e) = ReceivesReply r left f g told (Err e)
+
+-- where the frame failed its link, or there was none
+fails : (r : Reply) (left : List (List ℕ)) (n : ℕ) (told' : Option (List (List ℕ))) (f : List MeasureValue) (b b' : CoordinatorMap)
+    (result : Result Bool LinkFault) → answer_to r.ending ≡ Err Failed → Joins f (reply_measures r) b.map.measures
+    → FailsAfter left told' result → b' ≡ b → ComesTo r left n told' f b'.map.measures result
+fails r left n told' f b b' (Ok x) answer joins after same = absurd (let no = after.0 in cc)
+fails r left n told' f b b' (Err OutOfMemory) answer joins after same = λ no. absurd (no refl)
+fails r left n told' f b b' (Err Failed) answer joins after same = λ no.
+    (sym answer, after.1 refl, subst (λ (c : CoordinatorMap). Joins f (reply_measures r) c.map.measures) (sym same) joins)
+
+pub one_more : (bounds : BoundList) (cut : CutValue) (worker : ℕ) (kind : ValueKind) (r : Reply) (left : List (List ℕ)) (n : ℕ)
+    (told told' : Option (List (List ℕ))) (f : List MeasureValue) (b b' : CoordinatorMap) (result : Result Bool LinkFault) → n < 65536
+    → kind ≡ Dense → IsReply bounds cut worker r left → HasReceived r left n told f b.map.measures
+    → ReadsFrame bounds cut worker kind told told' b b' result → ComesTo r left n told' f b'.map.measures result
+one_more bounds cut worker kind r left n told told' f b b' result few dense is h reads =
+    by_next (next_by bounds cut worker r left n told f b.map.measures h.front h.rest is h.parts h.count h.told_is h.joins)
   where
-    more_at_end : IsReportNext r left told ⊎ (IsSpoiledNext bounds cut worker r left told ⊎ IsMissingNext r left n told) → ⊥
-    more_at_end (inl q) = let no = (reads.report q.report _ left q.told_is q.spells q.well).0.1.0 in cc
-    more_at_end (inr (inl q)) = let no = (reads.failing q.bytes left q.told_is q.fails).0.0 in cc
-    more_at_end (inr (inr q)) =
-        elim q.cause [
-          | inl many ↦ omega arith
-          | inr none ↦ let no = (reads.ended (q.told_is ∙ ap (λ (l : List (List ℕ)). Some l) none)).0.0 in cc
-        ]
+    by_values : (a : Result Bool LinkFault) (v : IsValuesNext bounds cut worker r left n told f b.map.measures)
+        → AnswersAfter false v.rest told' a × OnOk a (Joins b.map.measures (told_values v.values.values) b'.map.measures)
+        → ComesTo r left n told' f b'.map.measures a
+    by_values (Ok false) v x = v.received told' b'.map.measures x.0.1.1 x.1
+    by_values (Ok true) v x = absurd (let no = x.0.1.0 in cc)
+    by_values (Err OutOfMemory) v x = λ no. absurd (no refl)
+    by_values (Err Failed) v x = absurd (x.0.0 refl)
 
-    more : IsValuesNext bounds cut worker r left n told f b.map.measures ⊎ IsEndNext bounds cut worker r left n told f b.map.measures
-        → HasReceived r left (n + 1) told' f b'.map.measures
-    more (inl v) = let x = reads.values v.values _ v.rest v.told_is v.spells v.part in v.received told' b'.map.measures x.0.1.1 x.1
-    more (inr q) = absurd (more_at_end q.end)
+    by_report : (a : Result Bool LinkFault) → IsReportNext r left told → Joins f (reply_measures r) b.map.measures
+        → AnswersAfter true left told' a × (b' ≡ b) → ComesTo r left n told' f b'.map.measures a
+    by_report (Ok false) q joins x = absurd (let no = x.0.1.0 in cc)
+    by_report (Ok true) q joins x = λ no. (
+      sym (ap answer_to q.ending_is),
+      x.0.1.1,
+      subst (λ (c : CoordinatorMap). Joins f (reply_measures r) c.map.measures) (sym x.1) joins,
+    )
+    by_report (Err OutOfMemory) q joins x = λ no. absurd (no refl)
+    by_report (Err Failed) q joins x = absurd (x.0.0 refl)
 
--- the end of the reply was received
-pub received_end : (bounds : BoundList) (cut : CutValue) (worker : ℕ) (r : Reply) (left : List (List ℕ)) (n : ℕ)
-    (told told' : Option (List (List ℕ)))
-    (f : List MeasureValue) (b b' : CoordinatorMap) → n < 65536 → IsReply bounds cut worker r left
-    → HasReceived r left n told f b.map.measures
-    → ReadsFrame bounds cut worker told told' b b' (Ok true) → ReceivesReply r left f b'.map.measures told' (Ok tt)
-received_end bounds cut worker r left n told told' f b b' few is h reads =
-    ends (next_by bounds cut worker r left n told f b.map.measures h.front h.rest is h.parts h.count h.told_is h.joins)
-  where
-    at_end : Joins f (reply_measures r) b.map.measures → IsReportNext r left told
-        ⊎ (IsSpoiledNext bounds cut worker r left told ⊎ IsMissingNext r left n told)
-        → ReceivesReply r left f b'.map.measures told' (Ok tt)
-    at_end joins (inl q) =
-        let x = reads.report q.report _ left q.told_is q.spells q.well in
-        λ no. (
-          sym (ap answer_to q.ending_is),
-          x.0.1.1,
-          subst (λ (c : CoordinatorMap). Joins f (reply_measures r) c.map.measures)
-              (sym x.1) joins,
-        )
-    at_end joins (inr (inl q)) = absurd (let no = (reads.failing q.bytes left q.told_is q.fails).0.0 in cc)
-    at_end joins (inr (inr q)) =
-        absurd (elim q.cause [
-          | inl many ↦ omega arith
-          | inr none ↦ let no = (reads.ended (q.told_is ∙ ap (λ (l : List (List ℕ)). Some l) none)).0.0 in cc
-        ])
-
-    ends : IsValuesNext bounds cut worker r left n told f b.map.measures ⊎ IsEndNext bounds cut worker r left n told f b.map.measures
-        → ReceivesReply r left f b'.map.measures told' (Ok tt)
-    ends (inl v) = absurd (let no = (reads.values v.values _ v.rest v.told_is v.spells v.part).0.1.0 in cc)
-    ends (inr q) = at_end q.joins q.end
-
-failed_is : (e : LinkFault) (result : Result (Unit {0}) LinkFault) → result ≡ Err e → result ≢ Err OutOfMemory → e ≡ Failed
-failed_is OutOfMemory result is isnt = absurd (isnt is)
-failed_is Failed result is isnt = refl
-
--- the reply fails at a frame, or the link has none
-pub received_failure : (bounds : BoundList) (cut : CutValue) (worker : ℕ) (r : Reply) (left : List (List ℕ)) (n : ℕ)
-    (told told' : Option (List (List ℕ)))
-    (f : List MeasureValue) (b b' : CoordinatorMap) (e : LinkFault) → n < 65536 → IsReply bounds cut worker r left
-    → HasReceived r left n told f b.map.measures
-    → ReadsFrame bounds cut worker told told' b b' (Err e) → ReceivesReply r left f b'.map.measures told' (Err e)
-received_failure bounds cut worker r left n told told' f b b' e few is h reads = λ no.
-    fails (failed_is e (Err e) refl no)
-    (next_by bounds cut worker r left n told f b.map.measures h.front h.rest is h.parts h.count h.told_is h.joins)
-  where
-    received : Joins f (reply_measures r) b.map.measures → Err e ≡ answer_to r.ending → told' ≡ Some left → b' ≡ b
-        → (Err e ≡ answer_to r.ending) × (told' ≡ Some left) × Joins f (reply_measures r) b'.map.measures
-    received joins answer later same
-        = (answer, later, subst (λ (c : CoordinatorMap). Joins f (reply_measures r) c.map.measures) (sym same) joins)
-
-    at_end : e ≡ Failed → Joins f (reply_measures r) b.map.measures
+    at_end : Joins f (reply_measures r) b.map.measures
         → IsReportNext r left told ⊎ (IsSpoiledNext bounds cut worker r left told ⊎ IsMissingNext r left n told)
-        → (Err e ≡ answer_to r.ending) × (told' ≡ Some left) × Joins f (reply_measures r) b'.map.measures
-    at_end failed joins (inl q) =
-        let not = (reads.report q.report _ left q.told_is q.spells q.well).0.0 in
-        absurd (not (ap (λ (x : LinkFault). Err x) failed))
-    at_end failed joins (inr (inl q)) =
-        let x = reads.failing q.bytes left q.told_is q.fails in
-        received joins (ap (λ (x : LinkFault). Err x) failed ∙ sym (ap answer_to q.ending_is))
-        (x.0.1 (ap (λ (x : LinkFault). Err x) failed)) x.1
-    at_end failed joins (inr (inr q)) =
+        → ComesTo r left n told' f b'.map.measures result
+    at_end joins (inl q) = by_report result q joins (reads.report q.report _ left q.told_is q.spells q.well)
+    at_end joins (inr (inl q)) =
+        let x = reads.failing q.bytes left q.told_is q.fails dense in
+        fails r left n told' f b b' result (ap answer_to q.ending_is) joins x.0 x.1
+    at_end joins (inr (inr q)) =
         elim q.cause [
           | inl many ↦ absurd (omega arith)
           | inr none ↦
               let x = reads.ended (q.told_is ∙ ap (λ (l : List (List ℕ)). Some l) none) in
-              received joins (ap (λ (x : LinkFault). Err x) failed ∙ sym (ap answer_to q.ending_is))
-              (x.0.1 (ap (λ (x : LinkFault). Err x) failed) ∙ ap (λ (l : List (List ℕ)). Some l) (sym none)) x.1
+              fails r left n told' f b b' result (ap answer_to q.ending_is) joins
+              (subst (λ (l : List (List ℕ)). FailsAfter l told' result) (sym none) x.0) x.1
         ]
 
-    fails : e ≡ Failed → IsValuesNext bounds cut worker r left n told f b.map.measures
-        ⊎ IsEndNext bounds cut worker r left n told f b.map.measures
-        → (Err e ≡ answer_to r.ending) × (told' ≡ Some left) × Joins f (reply_measures r) b'.map.measures
-    fails failed (inl v) =
-        let not = (reads.values v.values _ v.rest v.told_is v.spells v.part).0.0 in
-        absurd (not (ap (λ (x : LinkFault). Err x) failed))
-    fails failed (inr q) = at_end failed q.joins q.end
+    by_next : IsValuesNext bounds cut worker r left n told f b.map.measures ⊎ IsEndNext bounds cut worker r left n told f b.map.measures
+        → ComesTo r left n told' f b'.map.measures result
+    by_next (inl v) = by_values result v (reads.values v.values _ v.rest v.told_is v.spells dense v.part)
+    by_next (inr q) = at_end q.joins q.end
 
 -- as many frames of values were received as a reply has at most
 pub received_full : (bounds : BoundList) (cut : CutValue) (worker : ℕ) (r : Reply) (left : List (List ℕ)) (n : ℕ)
@@ -266,8 +227,7 @@ received_full bounds cut worker r left n told f g all is h = λ no. full h.front
     h.joins
   where
     full : (front rest : List Values) (e : Ending) → r.ending ≡ e → EndsSo bounds cut worker (length r.values) left e
-        → r.values ≡ front ++ rest
-        → length front ≡ n → told ≡ Some (told_reply rest r.ending left) → Joins f (values_measures front) g
+        → r.values ≡ front ++ rest → length front ≡ n → told ≡ Some (told_reply rest r.ending left) → Joins f (values_measures front) g
         → (Err Failed ≡ answer_to r.ending) × (told ≡ Some left) × Joins f (reply_measures r) g
     full front rest (reported q) same ends parts count told_is joins =
         let few = ends.0 in

@@ -103,8 +103,7 @@ pub reply_received : (t : TaskValue) (worker : ℕ) (rs : List Reply) (state : L
 reply_received t worker rs state told told' f g h used receives = by_all h.all h.told_is h.replies (h.received_is ∙ rw used refl)
   where
     by_all : (all : List Reply) → told ≡ Some (spelled_replies all) → AreReplies t.bounds t.cut worker all
-        → rs ≡ received (3 - state.restarts) all
-        → Tells t worker (drop 1 rs) state told' × Joins f (measures_of (take 1 rs)) g
+        → rs ≡ received (3 - state.restarts) all → Tells t worker (drop 1 rs) state told' × Joins f (measures_of (take 1 rs)) g
     by_all [] is replies received_is = absurd (let no = (receives no_reply [] is (is_no_reply t worker) (λ e. cc)).0 in cc)
     by_all (r ∷ all) is replies received_is =
         let x = receives r (spelled_replies all) is replies.0 (λ e. cc) in

@@ -56,7 +56,7 @@ is_dense Dense width ms v e =
     }
 is_dense Sparse width ms v e = absurd (cc)
 
--- what a reader finds is what the frame tells
+-- what a reader finds is what the frame holds
 pub found_dense : (kind : ValueKind) (width : ℕ) (ms : List Measured) (v : Values) (bytes next : List ℕ) → Spells (frame_of kind width ms) bytes → bytes ≡ next
     → Spells (frames.Values v) next → IsDense kind width ms v
 found_dense kind width ms v bytes next found same s =

@@ -16,17 +16,18 @@ use Rattle.pg_wire.proofs.Append.{then}
 use Rattle.pg_wire.proofs.Consumed.{consumes_then, got, refused_known}
 use Rattle.pg_worker.specs.declared.fault.WorkerFault.{WorkerFault}
 use Rattle.pg_worker.specs.declared.fault.WorkerFault.TheVariants.{OutOfMemory, Wire}
-use Rattle.pg_worker.specs.Turns.{HeldValue, Turn, RefusesBytes}
+use Rattle.pg_worker.specs.Turns.{SessionValue, Turn, RefusesBytes}
 use Rattle.pg_worker.specs.Serving.{Replies, Exchanges, IsFaultAt, Breaks, report_bytes}
 use Rattle.pg_worker.specs.Mirrors.Steps.{Answers}
 
-replies_more : (a : Option HeldValue) (fs : List Frame) (b : Option HeldValue) (bytes : List ℕ) (f : Frame) (c : Option HeldValue) (reply : List ℕ)
+replies_more : (a : Option SessionValue) (fs : List Frame) (b : Option SessionValue) (bytes : List ℕ) (f : Frame)
+    (c : Option SessionValue) (reply : List ℕ)
     → Replies a fs b bytes → Turn b f c reply → Replies a (fs ++ f ∷ []) c (bytes ++ reply)
 replies_more a [] b bytes f c reply r t = (
   c,
   reply,
   [],
-  subst (λ (h : Option HeldValue). Turn h f c reply) r.0 t,
+  subst (λ (h : Option SessionValue). Turn h f c reply) r.0 t,
   (refl, refl),
   ap (λ (bs : List ℕ). bs ++ reply) r.1 ∙ sym (append-nil reply),
 )
@@ -39,7 +40,7 @@ replies_more a (g ∷ fs) b bytes f c reply r t = (
   ap (λ (bs : List ℕ). bs ++ reply) r.5 ∙ append_assoc r.1 r.2 reply,
 )
 
-pub exchanges_more : (i i' i'' o o' o'' : Option (List ℕ)) (fs : List Frame) (f : Frame) (held held' : Option HeldValue)
+pub exchanges_more : (i i' i'' o o' o'' : Option (List ℕ)) (fs : List Frame) (f : Frame) (held held' : Option SessionValue)
     → Exchanges i i' o o' fs held → Answers f held held' i' i'' o' o'' → Exchanges i i'' o o'' (fs ++ f ∷ []) held'
 exchanges_more i i' i'' o o' o'' fs f held held' e a =
     let spelled : flat_map spelling fs ++ spelling f ≡ flat_map spelling (fs ++ f ∷ []) =
@@ -55,7 +56,8 @@ exchanges_more i i' i'' o o' o'' fs f held held' e a =
 abbrev write_fault : WorkerFault
 write_fault = Wire wire.Write
 
-pub broken_off : (e fault : WorkerFault) (input left output before before' output' : Option (List ℕ)) (fs : List Frame) (held : Option HeldValue)
+pub broken_off : (e fault : WorkerFault) (input left output before before' output' : Option (List ℕ)) (fs : List Frame)
+    (held : Option SessionValue)
     → Exchanges input left output before fs held → All (λ f. f ≢ frames.Halt) fs → length fs < 4294967295
     → (fault ≡ Wire wire.Write) ⊎ (IsFaultAt left held fault × (before' ≡ before))
     → ((e ≡ fault) × Appends before' output' (report_bytes fault)) ⊎ (e ≡ Wire wire.Write)
@@ -79,7 +81,8 @@ broken_off e fault input left output before before' output' fs held x going few 
     })
 
 -- a session refused the bytes that were read
-pub refused_at : (input input' : Option (List ℕ)) (bytes : List ℕ) (held : Option HeldValue) (e : WorkerFault) → IsWhole bytes → Consumes input input' bytes
+pub refused_at : (input input' : Option (List ℕ)) (bytes : List ℕ) (held : Option SessionValue) (e : WorkerFault) → IsWhole bytes
+    → Consumes input input' bytes
     → (e ≡ OutOfMemory) ⊎ RefusesBytes 2 held bytes e → IsFaultAt input held e
 refused_at input input' bytes held e w p (inl memory) = inl memory
 refused_at input input' bytes held e w p (inr (inl s)) =

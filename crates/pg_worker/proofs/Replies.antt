@@ -24,7 +24,7 @@ use Rattle.pg_wire.proofs.Frames.{fields, body_size}
 use Rattle.pg_wire.specs.Mirrors.Reading.{HasBytes}
 use Rattle.pg_parts.proofs.Fitting.{components_fit, frame_tells}
 use Rattle.pg_worker.specs.Workers.{part_line, AreLifts}
-use Rattle.pg_worker.specs.Turns.{HeldValue, LiftsAndTells, ArePacked, lifted_measures, report, frame_size}
+use Rattle.pg_worker.specs.Turns.{SessionValue, LiftsAndTells, ArePacked, lifted_measures, report, frame_size}
 use Rattle.pg_parts.specs.Frames.{measures_in}
 use Rattle.pg_worker.specs.Above.{AreFrames}
 use Rattle.pg_worker.specs.Mirrors.Sessions.{IsSmall}
@@ -71,7 +71,8 @@ part_within lines v s =
           absurd (subst (λ (o : Option Line). IsSome o → ⊥) (sym none) (λ h. cc) s)
     ]
 
-pub lifted_told : (h : HeldValue) (budget : ℕ) (after : Option HeldValue) (reply : List ℕ) (t : LiftsAndTells h budget after reply) → IsSmall h
+pub lifted_told : (h : SessionValue) (budget : ℕ) (after : Option SessionValue) (reply : List ℕ) (t : LiftsAndTells h budget after reply)
+    → IsSmall h
     → All (IsMeasured (length h.worker.bounds)) (lifted_measures t.worker)
 lifted_told h budget after reply t small =
     let w = t.worker in
@@ -145,7 +146,8 @@ quiet_report Q false = report_frame Q 0 0 (inl (omega arith, refl))
 
 -- ---- replies
 
-pub go_tells : (Q : Measured → Type 0) (h : HeldValue) (budget : ℕ) (after : Option HeldValue) (reply : List ℕ) (t : LiftsAndTells h budget after reply)
+pub go_tells : (Q : Measured → Type 0) (h : SessionValue) (budget : ℕ) (after : Option SessionValue) (reply : List ℕ)
+    (t : LiftsAndTells h budget after reply)
     → IsSmall h
     → All Q (lifted_measures t.worker) → AreFrames (Tells Q) reply
 go_tells Q h budget after reply t small holds =

@@ -22,7 +22,7 @@ use Rattle.pg_worker.specs.declared.fault.WorkerFault.TheVariants as faults
 use Rattle.pg_wire.specs.declared.fault.WireFault.TheVariants as wire
 use Rattle.pg_parts.specs.Frames.{told_line, IsAtLeast, lines_in, measures_in, IsClosedAt}
 use Rattle.pg_worker.specs.Workers.{part_line, with_lines}
-use Rattle.pg_worker.specs.Turns.{HeldValue, fresh, with_part, Turn, TakesValues, LiftsAndTells, greeting, lifted_measures}
+use Rattle.pg_worker.specs.Turns.{SessionValue, fresh, with_part, Turn, TakesValues, LiftsAndTells, greeting, lifted_measures}
 use Rattle.pg_worker.specs.Serving.{Replies, report_bytes}
 use Rattle.pg_worker.specs.Above.{AreFrames, IsAboveSession}
 use Rattle.pg_worker.specs.Laws.{RepliesStayUnder}
@@ -44,16 +44,18 @@ fresh_small s w = record {
   words = λ i d lt. (w.bounds.bounds i d lt).bound;
 }
 
-taken_small : (h : HeldValue) (kind : ValueKind) (width : ℕ) (ms : List Measured) (after : Option HeldValue) → TakesValues h kind width ms after → IsSmall h
+taken_small : (h : SessionValue) (kind : ValueKind) (width : ℕ) (ms : List Measured) (after : Option SessionValue)
+    → TakesValues h kind width ms after → IsSmall h
     → IfSome after IsSmall
 taken_small h kind width ms after t s = rw t.held (record { vertices = s.vertices; bounds = s.bounds; words = s.words })
 
-lifted_small : (h : HeldValue) (budget : ℕ) (after : Option HeldValue) (reply : List ℕ) → LiftsAndTells h budget after reply → IsSmall h → IfSome after IsSmall
+lifted_small : (h : SessionValue) (budget : ℕ) (after : Option SessionValue) (reply : List ℕ) → LiftsAndTells h budget after reply
+    → IsSmall h → IfSome after IsSmall
 lifted_small h budget after reply t s =
     let part = t.turn.turn.lifts.part in
     rw t.held (record { vertices = rw part.lines s.vertices; bounds = rw part.bounds s.bounds; words = rw part.bounds s.words })
 
-pub turn_small : (before : Option HeldValue) (f : Frame) (after : Option HeldValue) (reply : List ℕ) → Turn before f after reply
+pub turn_small : (before : Option SessionValue) (f : Frame) (after : Option SessionValue) (reply : List ℕ) → Turn before f after reply
     → ((s : Setup) → f ≡ frames.Setup s → IsSetup s) → IfSome before IsSmall → IfSome after IsSmall
 turn_small before (frames.Setup s) after reply t w small = rw t.0 (fresh_small s (w s refl))
 turn_small before frames.Halt after reply t w small = rw t.0 tt
@@ -78,12 +80,13 @@ greeting_frames Q version =
       | inr t ↦ rw t (no_frames (Tells Q))
     ]
 
-abbrev Lifted : (Measured → Type 0) → Option HeldValue → Frame → Option HeldValue → List ℕ → Type 0
+abbrev Lifted : (Measured → Type 0) → Option SessionValue → Frame → Option SessionValue → List ℕ → Type 0
 Lifted Q before f after reply =
-    (h : HeldValue) (budget : ℕ) (t : LiftsAndTells h budget after reply) → before ≡ Some h
+    (h : SessionValue) (budget : ℕ) (t : LiftsAndTells h budget after reply) → before ≡ Some h
     → f ≡ frames.Go (record { budget = budget }) → All Q (lifted_measures t.worker)
 
-pub turn_tells : (Q : Measured → Type 0) (before : Option HeldValue) (f : Frame) (after : Option HeldValue) (reply : List ℕ) → Turn before f after reply
+pub turn_tells : (Q : Measured → Type 0) (before : Option SessionValue) (f : Frame) (after : Option SessionValue) (reply : List ℕ)
+    → Turn before f after reply
     → IfSome before IsSmall
     → Lifted Q before f after reply → AreFrames (Tells Q) reply
 turn_tells Q before (frames.Setup s) after reply t small l = rw t.1 (greeting_frames Q s.version)
@@ -172,7 +175,8 @@ with_lines_closed bs h lines (l ∷ ls) closed served =
     with_lines_closed bs h (set lines l.vertex (Some (told_line l))) ls
     (one_line bs h lines l.vertex (told_line l) closed (All-head P l ls served)) (All-tail P l ls served)
 
-part_above : (h : MapValue) (k : HeldValue) (ls : List VertexLine) → IsAboveSession h k → All (IsClosedAt h) ls → IsAboveSession h (with_part k ls)
+part_above : (h : MapValue) (k : SessionValue) (ls : List VertexLine) → IsAboveSession h k → All (IsClosedAt h) ls
+    → IsAboveSession h (with_part k ls)
 part_above h k ls s closed = record {
   bounds = s.bounds;
   map = s.map;
@@ -181,7 +185,8 @@ part_above h k ls s closed = record {
   above = s.above;
 }
 
-taken_above : (h : MapValue) (k : HeldValue) (kind : ValueKind) (width : ℕ) (ms : List Measured) (after : Option HeldValue) → TakesValues k kind width ms after
+taken_above : (h : MapValue) (k : SessionValue) (kind : ValueKind) (width : ℕ) (ms : List Measured) (after : Option SessionValue)
+    → TakesValues k kind width ms after
     → IsAboveSession h k → IsAtLeast h.measures ms → IfSome after (IsAboveSession h)
 taken_above h k kind width ms after t s values =
     rw t.held (record {
@@ -191,7 +196,8 @@ taken_above h k kind width ms after t s values =
       above = t.joins.least h.measures s.above values;
     })
 
-lifted_above : (h : MapValue) (k : HeldValue) (budget : ℕ) (after : Option HeldValue) (reply : List ℕ) → LiftsAndTells k budget after reply → IsAboveSession h k
+lifted_above : (h : MapValue) (k : SessionValue) (budget : ℕ) (after : Option SessionValue) (reply : List ℕ)
+    → LiftsAndTells k budget after reply → IsAboveSession h k
     → IfSome after (IsAboveSession h)
 lifted_above h k budget after reply t s =
     let part = t.turn.turn.lifts.part in
@@ -206,7 +212,8 @@ lifted_above h k budget after reply t s =
 abbrev Goes : Frame → Type 0
 Goes f = (s : Setup) → f ≡ frames.Setup s → ⊥
 
-pub turn_above : (h : MapValue) (before : Option HeldValue) (f : Frame) (after : Option HeldValue) (reply : List ℕ) → Turn before f after reply
+pub turn_above : (h : MapValue) (before : Option SessionValue) (f : Frame) (after : Option SessionValue) (reply : List ℕ)
+    → Turn before f after reply
     → ((s : Setup) → f ≡ frames.Setup s → ⊥) → All (IsClosedAt h) (lines_in f) → IsAtLeast h.measures (measures_in f)
     → IfSome before (IsAboveSession h) → IfSome after (IsAboveSession h)
 turn_above h before (frames.Setup s) after reply t goes closed values was = absurd (goes s refl)
@@ -227,14 +234,16 @@ turn_above h (Some k) (frames.Report r) after reply t goes closed values was = a
 abbrev Under : MapValue → Measured → Type 0
 Under h m = AtMost m.1 (measure_at h.measures m.0)
 
-pub turn_tells_under : (h : MapValue) (before : Option HeldValue) (f : Frame) (after : Option HeldValue) (reply : List ℕ) → Turn before f after reply
+pub turn_tells_under : (h : MapValue) (before : Option SessionValue) (f : Frame) (after : Option SessionValue) (reply : List ℕ)
+    → Turn before f after reply
     → IfSome before IsSmall → IfSome before (IsAboveSession h) → AreFrames (Tells (Under h)) reply
 turn_tells_under h before f after reply t small was =
     turn_tells (Under h) before f after reply t small (λ k budget lifts is go.
-    let s : IsAboveSession h k = subst (λ (o : Option HeldValue). IfSome o (IsAboveSession h)) is was in
+    let s : IsAboveSession h k = subst (λ (o : Option SessionValue). IfSome o (IsAboveSession h)) is was in
     told_stay_under k budget after reply h.measures lifts s.map s.closed s.above)
 
-replies_under : (h : MapValue) (before : Option HeldValue) (fs : List Frame) (after : Option HeldValue) (replies : List ℕ) → Replies before fs after replies
+replies_under : (h : MapValue) (before : Option SessionValue) (fs : List Frame) (after : Option SessionValue) (replies : List ℕ)
+    → Replies before fs after replies
     → All Goes fs → All (λ f. All (IsClosedAt h) (lines_in f)) fs → All (λ f. IsAtLeast h.measures (measures_in f)) fs
     → IfSome before IsSmall → IfSome before (IsAboveSession h) → AreFrames (Tells (Under h)) replies
 replies_under h before [] after replies r go closed values small was = rw r.1 (no_frames (Tells (Under h)))

@@ -20,7 +20,7 @@ use Rattle.pg_wire.proofs.Tells.{dense_told, sparse_told}
 use Rattle.pg_worker.specs.declared.fault.WorkerFault.{WorkerFault}
 use Rattle.pg_worker.specs.declared.fault.WorkerFault.TheVariants.{OutOfMemory, Wire}
 use Rattle.pg_worker.specs.Workers.{WorkerValue, CanTake, Takes}
-use Rattle.pg_worker.specs.Turns.{HeldValue, CanTakeAll, TakesValues, RefusesValues, Turn, IsUpTo, Refuses, DoesTurn, RefusesBytes}
+use Rattle.pg_worker.specs.Turns.{SessionValue, CanTakeAll, TakesValues, RefusesValues, Turn, IsUpTo, Refuses, DoesTurn, RefusesBytes}
 use Rattle.pg_worker.specs.Mirrors.Faults.{own_fault}
 use Rattle.pg_worker.specs.Mirrors.Joins.{JoinsAll}
 use Rattle.pg_parts.proofs.Joining.{all_none}
@@ -76,12 +76,13 @@ joined_not w ms u r r' row row' n top next refused j all =
 
 -- ---- turns
 
-turn_measures : (kind : ValueKind) (h : HeldValue) (width : ℕ) (ms : List Measured) (after : Option HeldValue) → All (IsMeasured width) ms
+turn_measures : (kind : ValueKind) (h : SessionValue) (width : ℕ) (ms : List Measured) (after : Option SessionValue)
+    → All (IsMeasured width) ms
     → TakesValues h kind width ms after → Turn (Some h) (frame_of kind width ms) after []
 turn_measures Dense h width ms after all t = (subst (λ (ns : List Measured). TakesValues h Dense width ns after) (sym (dense_told ms)) t, refl)
 turn_measures Sparse h width ms after all t = (subst (λ (ns : List Measured). TakesValues h Sparse width ns after) (sym (sparse_told width ms all)) t, refl)
 
-refuses_measures : (kind : ValueKind) (highest : ℕ) (h : HeldValue) (width : ℕ) (ms : List Measured) (why : WorkerFault)
+refuses_measures : (kind : ValueKind) (highest : ℕ) (h : SessionValue) (width : ℕ) (ms : List Measured) (why : WorkerFault)
     → All (IsMeasured width) ms → RefusesValues h kind width ms why → Refuses highest (Some h) (frame_of kind width ms) why
 refuses_measures Dense highest h width ms why all t = subst (λ (ns : List Measured). RefusesValues h Dense width ns why) (sym (dense_told ms)) t
 refuses_measures Sparse highest h width ms why all t = subst (λ (ns : List Measured). RefusesValues h Sparse width ns why) (sym (sparse_told width ms all)) t
@@ -98,7 +99,7 @@ no_halt Sparse width ms = (λ t. absurd cc, λ e. absurd cc)
 abbrev pub Opens : ValuesReader → List ℕ → Type 0
 Opens r bytes = (ms : List Measured) × Spells (frame_of r.kind r.width ms) bytes × IsLeft r ms
 
-pub does_turn : (highest : ℕ) (h : HeldValue) (bytes : List ℕ) (r : ValuesReader) (after : Option HeldValue) → (o : Opens r bytes)
+pub does_turn : (highest : ℕ) (h : SessionValue) (bytes : List ℕ) (r : ValuesReader) (after : Option SessionValue) → (o : Opens r bytes)
     → TakesValues h r.kind r.width o.0 after → DoesTurn highest (Some h) bytes after false []
 does_turn highest h bytes r after o t = record {
   frame = frame_of r.kind r.width o.0;
@@ -108,12 +109,12 @@ does_turn highest h bytes r after o t = record {
   turn = turn_measures r.kind h r.width o.0 after o.2.measures t;
 }
 
-pub refuses_bytes : (highest : ℕ) (h : HeldValue) (bytes : List ℕ) (r : ValuesReader) (why : WorkerFault) → (o : Opens r bytes)
+pub refuses_bytes : (highest : ℕ) (h : SessionValue) (bytes : List ℕ) (r : ValuesReader) (why : WorkerFault) → (o : Opens r bytes)
     → RefusesValues h r.kind r.width o.0 why → RefusesBytes highest (Some h) bytes why
 refuses_bytes highest h bytes r why o t = inr (frame_of r.kind r.width o.0, o.1, refuses_measures r.kind highest h r.width o.0 why o.2.measures t)
 
 -- what is said of bytes is said of the frame that they spell, and back
-pub frame_turn : (f : Frame) (highest : ℕ) (before : Option HeldValue) (bytes : List ℕ) (after : Option HeldValue) (out out' : List ℕ)
+pub frame_turn : (f : Frame) (highest : ℕ) (before : Option SessionValue) (bytes : List ℕ) (after : Option SessionValue) (out out' : List ℕ)
     (r : Result Bool WorkerFault)
     → Spells f bytes
     → IfOk r (λ halts. (reply : List ℕ) × DoesTurn highest before bytes after halts reply × (out' ≡ out ++ reply))
@@ -122,14 +123,14 @@ frame_turn f highest before bytes after out out' (Ok halts) s d =
     (d.0, subst (λ (g : Frame). Turn before g after d.0) (one_frame d.1.frame f bytes d.1.spells s) d.1.turn, d.2)
 frame_turn f highest before bytes after out out' (Err e) s d = tt
 
-pub frame_refused : (f : Frame) (highest : ℕ) (before : Option HeldValue) (bytes : List ℕ) (r : Result Bool WorkerFault) → Spells f bytes
+pub frame_refused : (f : Frame) (highest : ℕ) (before : Option SessionValue) (bytes : List ℕ) (r : Result Bool WorkerFault) → Spells f bytes
     → IfErr r (λ e. (e ≡ OutOfMemory) ⊎ RefusesBytes highest before bytes e) → IfErr r (λ e. (e ≡ OutOfMemory) ⊎ Refuses highest before f e)
 frame_refused f highest before bytes (Ok halts) s d = tt
 frame_refused f highest before bytes (Err e) s (inl memory) = inl memory
 frame_refused f highest before bytes (Err e) s (inr (inl none)) = absurd (none.none f s)
 frame_refused f highest before bytes (Err e) s (inr (inr k)) = inr (subst (λ (g : Frame). Refuses highest before g e) (one_frame k.0 f bytes k.1 s) k.2)
 
-pub bytes_turn : (f : Frame) (highest : ℕ) (before : Option HeldValue) (bytes : List ℕ) (after : Option HeldValue) (out out' : List ℕ)
+pub bytes_turn : (f : Frame) (highest : ℕ) (before : Option SessionValue) (bytes : List ℕ) (after : Option SessionValue) (out out' : List ℕ)
     (r : Result Bool WorkerFault)
     → Spells f bytes → OnOk r (IsUpTo highest f)
     → IfOk r (λ halts. IsTrue halts ↔ (f ≡ frames.Halt)) → OnOk r ((reply : List ℕ) × Turn before f after reply × (out' ≡ out ++ reply))
@@ -138,7 +139,7 @@ bytes_turn f highest before bytes after out out' (Ok halts) s version halt t =
     (t.0, record { frame = f; spells = s; version = version; halt = halt; turn = t.1 }, t.2)
 bytes_turn f highest before bytes after out out' (Err e) s version halt t = tt
 
-pub bytes_refused : (f : Frame) (highest : ℕ) (before : Option HeldValue) (bytes : List ℕ) (r : Result Bool WorkerFault) → Spells f bytes
+pub bytes_refused : (f : Frame) (highest : ℕ) (before : Option SessionValue) (bytes : List ℕ) (r : Result Bool WorkerFault) → Spells f bytes
     → IfErr r (λ e. (e ≡ OutOfMemory) ⊎ Refuses highest before f e) → IfErr r (λ e. (e ≡ OutOfMemory) ⊎ RefusesBytes highest before bytes e)
 bytes_refused f highest before bytes (Ok halts) s d = tt
 bytes_refused f highest before bytes (Err e) s (inl memory) = inl memory
@@ -161,7 +162,8 @@ memory_or wire.Write = inr (λ e. absurd cc, refl)
 memory_or wire.Version = inr (λ e. absurd cc, refl)
 
 -- what `decode` refuses
-pub refuses_none : (highest : ℕ) (held : Option HeldValue) (bytes : List ℕ) (fault : WireFault) (why : WorkerFault) → why ≡ own_fault fault
+pub refuses_none : (highest : ℕ) (held : Option SessionValue) (bytes : List ℕ) (fault : WireFault) (why : WorkerFault)
+    → why ≡ own_fault fault
     → ((f : Frame) → Spells f bytes → (failed fault ≡ Ok f) ⊎ (failed fault ≡ failed wire.OutOfMemory))
     → (failed fault ≡ failed wire.TooLong ↔ IsTooLong bytes) → (failed fault ≡ failed wire.Truncated ↔ IsTruncated bytes)
     → (fault ≢ wire.Read) × (fault ≢ wire.Write)
@@ -180,7 +182,7 @@ refuses_none highest held bytes fault why is all long short stream =
     ]
 
 -- what `encode` refuses
-pub not_encoded : (f : Frame) (highest : ℕ) (before : Option HeldValue) (fault : WireFault) (why : WorkerFault) → why ≡ own_fault fault
+pub not_encoded : (f : Frame) (highest : ℕ) (before : Option SessionValue) (fault : WireFault) (why : WorkerFault) → why ≡ own_fault fault
     → (fault ≡ wire.TooLong) ⊎ (fault ≡ wire.OutOfMemory) → (fault ≡ wire.TooLong → longest < length (body f)) → length (body f) ≤ longest
     → (why ≡ OutOfMemory) ⊎ Refuses highest before f why
 not_encoded f highest before fault why is (inl long) over within = absurd (let lt = over long in omega arith)

@@ -8,7 +8,7 @@ use Rattle.pg_wire.specs.Spelling.{spelling}
 use Rattle.pg_wire.specs.Bytes.{Spells}
 use Rattle.pg_parts.specs.Frames.{IsAtLeast, lines_in, measures_in, IsClosedAt}
 use Rattle.pg_worker.specs.Workers.{part_line}
-use Rattle.pg_worker.specs.Turns.{HeldValue}
+use Rattle.pg_worker.specs.Turns.{SessionValue}
 
 -- the bytes are frames with this property, one after the other
 pub record AreFrames (P : Frame → Type 0) (bytes : List ℕ) : Type 0 where
@@ -25,7 +25,7 @@ pub record IsAboveFrames (s : Setup) (fs : List Frame) (h : MapValue) : Type 0 w
   pub above : All (λ f. IsAtLeast h.measures (measures_in f)) fs
 
 -- the map is over the session's bounds and vertices, closed at its lines, and at least its map
-pub record IsAboveSession (h : MapValue) (held : HeldValue) : Type 0 where
+pub record IsAboveSession (h : MapValue) (held : SessionValue) : Type 0 where
   pub bounds : h.bounds ≡ held.worker.bounds
   pub map : IsMap held.worker.bounds (length held.worker.map) h.measures
   pub closed : IsClosed held.worker.bounds (part_line held.worker.lines) h.measures

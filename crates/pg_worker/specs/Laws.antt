@@ -10,7 +10,7 @@ use Rattle.pg_wire.specs.declared.frame.Frame.TheVariants as frames
 use Rattle.pg_wire.specs.Well.{IsSetup}
 use Rattle.pg_worker.specs.Workers.{part_line, AreLifts}
 use Rattle.pg_parts.specs.Frames.{IsAtLeast, measures_in}
-use Rattle.pg_worker.specs.Turns.{HeldValue, lifted_measures, LiftsAndTells}
+use Rattle.pg_worker.specs.Turns.{SessionValue, lifted_measures, LiftsAndTells}
 use Rattle.pg_worker.specs.Serving.{Replies}
 use Rattle.pg_worker.specs.Above.{AreFrames, IsAboveFrames}
 
@@ -43,7 +43,8 @@ StepsStayUnder =
 -- what is told after lifts is at most every map that is closed on the part and at least the worker's map
 abbrev pub ToldStayUnder : Type 0
 ToldStayUnder =
-    (h : HeldValue) (budget : ℕ) (after : Option HeldValue) (reply : List ℕ) (k : List MeasureValue) (t : LiftsAndTells h budget after reply)
+    (h : SessionValue) (budget : ℕ) (after : Option SessionValue) (reply : List ℕ) (k : List MeasureValue)
+    (t : LiftsAndTells h budget after reply)
     → IsMap h.worker.bounds (length h.worker.map) k → IsClosed h.worker.bounds (part_line h.worker.lines) k → MapAtMost h.worker.map k
     → IsAtLeast k (lifted_measures t.worker)
 
@@ -52,6 +53,6 @@ ToldStayUnder =
 -- sent.
 abbrev pub RepliesStayUnder : Type 0
 RepliesStayUnder =
-    (s : Setup) (fs : List Frame) (before after : Option HeldValue) (replies : List ℕ) (h : MapValue)
+    (s : Setup) (fs : List Frame) (before after : Option SessionValue) (replies : List ℕ) (h : MapValue)
     → IsSetup s → All (λ f. (t : Setup) → f ≢ frames.Setup t) fs → Replies before (frames.Setup s ∷ fs) after replies
     → IsAboveFrames s fs h → AreFrames (λ f. IsAtLeast h.measures (measures_in f)) replies

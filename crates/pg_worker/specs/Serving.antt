@@ -13,17 +13,17 @@ use Rattle.pg_worker.specs.declared.fault.WorkerFault.TheVariants.{OutOfMemory, 
 use Rattle.pg_worker.specs.declared.served.Served.{Served}
 use Rattle.pg_worker.specs.declared.served.Served.TheVariants.{Halted, InputEnded, Bound}
 use Rattle.pg_worker.specs.Faults.{code_of}
-use Rattle.pg_worker.specs.Turns.{HeldValue, Turn, Refuses, IsOfBytes, report}
+use Rattle.pg_worker.specs.Turns.{SessionValue, Turn, Refuses, IsOfBytes, report}
 
 -- the replies to some frames, one turn after the other
-abbrev pub Replies : Option HeldValue → List Frame → Option HeldValue → List ℕ → Type 0
+abbrev pub Replies : Option SessionValue → List Frame → Option SessionValue → List ℕ → Type 0
 Replies before [] after bytes = (after ≡ before) × (bytes ≡ [])
 Replies before (f ∷ fs) after bytes =
-    (held : Option HeldValue) × (reply : List ℕ) × (rest : List ℕ)
+    (held : Option SessionValue) × (reply : List ℕ) × (rest : List ℕ)
     × Turn before f held reply × Replies held fs after rest × (bytes ≡ reply ++ rest)
 
 -- from a new session on, these frames, each a well one, were read and the replies to them were written
-pub record Exchanges (input input' output output' : Option (List ℕ)) (fs : List Frame) (held : Option HeldValue)
+pub record Exchanges (input input' output output' : Option (List ℕ)) (fs : List Frame) (held : Option SessionValue)
     : Type 0 where
   pub bytes : List ℕ
   pub well : All (λ f. Spells f (spelling f)) fs
@@ -45,7 +45,7 @@ IsLeft served left input' = left ≡ input'
 
 pub record Serves (served : Served) (input input' output output' : Option (List ℕ)) : Type 0 where
   pub fs : List Frame
-  pub held : Option HeldValue
+  pub held : Option SessionValue
   pub left : Option (List ℕ)
   pub exchanges : Exchanges input left output output' fs held
   pub ends : EndsAfter served fs left
@@ -60,7 +60,7 @@ report_bytes e = report 2 (code_of e)
 
 -- why no turn was done with what is left: memory, a read that failed, bytes that are no frame, or a well frame that is
 -- refused
-abbrev pub IsFaultAt : Option (List ℕ) → Option HeldValue → WorkerFault → Type 0
+abbrev pub IsFaultAt : Option (List ℕ) → Option SessionValue → WorkerFault → Type 0
 IsFaultAt left held e =
     (e ≡ OutOfMemory) ⊎ (e ≡ Wire wire.Read)
     ⊎ ((fault : WireFault) × (e ≡ Wire fault) × IsOfBytes fault × IfSome left (λ bytes. IsReadFrom bytes (Err fault)))
@@ -70,7 +70,7 @@ IsFaultAt left held e =
 -- the frames before the fault were answered, none of them Halt and fewer than may be counted, and the fault was told
 pub record Breaks (e : WorkerFault) (input output output' : Option (List ℕ)) : Type 0 where
   pub fs : List Frame
-  pub held : Option HeldValue
+  pub held : Option SessionValue
   pub left : Option (List ℕ)
   pub before : Option (List ℕ)
   pub exchanges : Exchanges input left output before fs held

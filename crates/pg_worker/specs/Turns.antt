@@ -23,7 +23,7 @@ use Rattle.pg_worker.specs.Workers.{WorkerValue, new_worker, with_lines, AreAbov
 
 -- what a session holds from a set-up on: the kind of frames in which values go, whether values or a Go came, and its
 -- worker
-pub record HeldValue : Type 0 where
+pub record SessionValue : Type 0 where
   pub kind : ValueKind
   pub is_started : Bool
   pub worker : WorkerValue
@@ -31,16 +31,16 @@ pub record HeldValue : Type 0 where
 -- ---- what is held after a frame
 
 -- what a set-up leaves: a new worker, and no values or Go yet
-abbrev pub fresh : Setup → HeldValue
+abbrev pub fresh : Setup → SessionValue
 fresh s = record { kind = kind_of s.version; is_started = false; worker = new_worker s.bounds s.vertices }
 
 -- the lines are added to the worker's part
-abbrev pub with_part : HeldValue → List VertexLine → HeldValue
+abbrev pub with_part : SessionValue → List VertexLine → SessionValue
 with_part h ls =
     record { kind = h.kind; is_started = h.is_started; worker = record h.worker { lines = with_lines h.worker.lines ls } }
 
 -- values or a Go came, and left this worker
-abbrev pub started : HeldValue → WorkerValue → HeldValue
+abbrev pub started : SessionValue → WorkerValue → SessionValue
 started h w = record { kind = h.kind; is_started = true; worker = w }
 
 -- ---- values that are sent
@@ -50,13 +50,13 @@ abbrev pub CanTakeAll : WorkerValue → List Measured → Type 0
 CanTakeAll w ms = All (λ m. CanTake w m.0 m.1) ms
 
 -- values of this kind and width are in turn and fit
-pub record AreInTurn (h : HeldValue) (kind : ValueKind) (width : ℕ) (ms : List Measured) : Type 0 where
+pub record AreInTurn (h : SessionValue) (kind : ValueKind) (width : ℕ) (ms : List Measured) : Type 0 where
   pub kind_is : h.kind ≡ kind
   pub width_is : width ≡ length h.worker.bounds
   pub fit : CanTakeAll h.worker ms
 
 -- the values are joined to the worker's map
-pub record TakesValues (h : HeldValue) (kind : ValueKind) (width : ℕ) (ms : List Measured) (after : Option HeldValue)
+pub record TakesValues (h : SessionValue) (kind : ValueKind) (width : ℕ) (ms : List Measured) (after : Option SessionValue)
     : Type 0 where
   pub in_turn : AreInTurn h kind width ms
   pub map : List MeasureValue
@@ -64,7 +64,7 @@ pub record TakesValues (h : HeldValue) (kind : ValueKind) (width : ℕ) (ms : Li
   pub held : after ≡ Some (started h (record h.worker { map = map }))
 
 -- a kind that isn't in turn comes before a width or a value that doesn't fit
-abbrev pub RefusesValues : HeldValue → ValueKind → ℕ → List Measured → WorkerFault → Type 0
+abbrev pub RefusesValues : SessionValue → ValueKind → ℕ → List Measured → WorkerFault → Type 0
 RefusesValues h kind width ms why =
     ((why ≡ Order) × (h.kind ≢ kind))
     ⊎ ((why ≡ BadUpdate) × (h.kind ≡ kind) × ¬ ((width ≡ length h.worker.bounds) × CanTakeAll h.worker ms))
@@ -106,7 +106,7 @@ abbrev pub lifted_measures : WorkerValue → List Measured
 lifted_measures w = map (λ v. (v, measure_at w.map v)) w.lifted
 
 -- lifts, answered by the measures of the vertices that were lifted and a report
-pub record LiftsAndTells (h : HeldValue) (budget : ℕ) (after : Option HeldValue) (reply : List ℕ) : Type 0 where
+pub record LiftsAndTells (h : SessionValue) (budget : ℕ) (after : Option SessionValue) (reply : List ℕ) : Type 0 where
   pub worker : WorkerValue
   pub quiet : Bool
   pub turn : IsListedTurn h.worker worker budget quiet
@@ -119,7 +119,7 @@ pub record LiftsAndTells (h : HeldValue) (budget : ℕ) (after : Option HeldValu
 
 -- One turn that isn't refused: what is held before, the frame, what is held after it, and the reply. A set-up or Halt
 -- may come at any time, vertices only before the first values or Go, and values only in the kind of the version.
-abbrev pub Turn : Option HeldValue → Frame → Option HeldValue → List ℕ → Type 0
+abbrev pub Turn : Option SessionValue → Frame → Option SessionValue → List ℕ → Type 0
 Turn before (frames.Setup s) after reply = (after ≡ Some (fresh s)) × (reply ≡ greeting s.version)
 Turn before frames.Halt after reply = (after ≡ None) × (reply ≡ [])
 Turn None frame after reply = ⊥
@@ -139,7 +139,7 @@ IsUpTo highest (frames.Setup s) = s.version ≤ highest
 IsUpTo highest frame = Unit {0}
 
 -- why a session that takes versions up to `highest` refuses a frame, want of memory aside
-abbrev pub Refuses : ℕ → Option HeldValue → Frame → WorkerFault → Type 0
+abbrev pub Refuses : ℕ → Option SessionValue → Frame → WorkerFault → Type 0
 Refuses highest before (frames.Setup s) why = (why ≡ Wire Version) × (highest < s.version)
 Refuses highest before frames.Halt why = ⊥
 Refuses highest None frame why = why ≡ Order
@@ -162,7 +162,7 @@ abbrev pub SpellsRows : List ℕ → Type 0
 SpellsRows bytes = (f : Frame) × HasRows f × Spells f bytes
 
 -- one turn of the frame that the bytes spell, which halts or not
-pub record DoesTurn (highest : ℕ) (before : Option HeldValue) (bytes : List ℕ) (after : Option HeldValue) (halts : Bool)
+pub record DoesTurn (highest : ℕ) (before : Option SessionValue) (bytes : List ℕ) (after : Option SessionValue) (halts : Bool)
     (reply : List ℕ) : Type 0 where
   pub frame : Frame
   pub spells : Spells frame bytes
@@ -184,6 +184,6 @@ pub record SpellsNone (bytes : List ℕ) (why : WorkerFault) : Type 0 where
   pub truncated : (fault ≡ Truncated) ↔ IsTruncated bytes
 
 -- why a session refuses bytes, want of memory aside
-abbrev pub RefusesBytes : ℕ → Option HeldValue → List ℕ → WorkerFault → Type 0
+abbrev pub RefusesBytes : ℕ → Option SessionValue → List ℕ → WorkerFault → Type 0
 RefusesBytes highest before bytes why =
     SpellsNone bytes why ⊎ ((f : Frame) × Spells f bytes × Refuses highest before f why)

@@ -4,7 +4,6 @@
 
 mod adding;
 mod fault;
-mod held;
 mod joins;
 pub mod laws;
 mod lifting;
@@ -14,6 +13,7 @@ mod reply;
 mod served;
 mod service;
 mod session;
+mod session_state;
 mod turn;
 mod worker;
 

@@ -7,7 +7,7 @@ ghost use Rattle.pg_wire.specs.LinesLeft.{AreLeft};
 ghost use Rattle.pg_worker.specs.Workers.{with_lines, AreAbove, FitsGame, RefusesLines};
 ghost use Rattle.pg_worker.specs.Turns.{Turn, Refuses};
 
-use crate::held::Held;
+use crate::session_state::SessionState;
 use crate::{Worker, WorkerFault};
 use pg_wire::VerticesReader;
 use std::alloc::Global;
@@ -38,7 +38,7 @@ fn add_read(
 /// Adds the lines that are left of a frame of vertices to what is held.
 pub fn add_read_lines(
     alloc: Global,
-    held: &mut Held,
+    held: &mut SessionState,
     lines: VerticesReader,
 ) -> Result<(), WorkerFault>
     requires { (ls : List VertexLine) × AreLeft lines ls }

@@ -9,7 +9,7 @@ ghost use Rattle.pg_worker.specs.Turns.{Turn, IsUpTo, Refuses, DoesTurn, SpellsR
 
 use crate::WorkerFault;
 use crate::fault::own;
-use crate::held::{Held, hold};
+use crate::session_state::{SessionState, replace_state};
 use crate::turn::{turn_of, turn_of_rows};
 use pg_wire::{Frame, encode};
 use std::alloc::Global;
@@ -20,7 +20,7 @@ use std::alloc::Global;
 pub struct Session {
     alloc: Global,
     highest: u8,
-    held: Option<Held>,
+    held: Option<SessionState>,
 }
 
 impl Session {
@@ -70,7 +70,7 @@ impl Session {
         match encode(self.alloc, frame) {
             Ok(bytes) => self.frame_from(&bytes, out),
             Err(fault) => {
-                hold(&mut self.held, None);
+                replace_state(&mut self.held, None);
                 Err(own(fault))
             }
         }
@@ -95,7 +95,7 @@ impl Session {
         match turn_of(self.alloc, self.highest, &mut self.held, bytes, out) {
             Ok(halts) => Ok(halts),
             Err(fault) => {
-                hold(&mut self.held, None);
+                replace_state(&mut self.held, None);
                 out.truncate(before);
                 Err(fault)
             }
@@ -120,7 +120,7 @@ impl Session {
         match turn_of_rows(self.alloc, &mut self.held, bytes) {
             Ok(taken) => Ok(taken),
             Err(fault) => {
-                hold(&mut self.held, None);
+                replace_state(&mut self.held, None);
                 Err(fault)
             }
         }

@@ -8,7 +8,7 @@ use std::marker::Model;
 
 /// What a session holds from a set-up on: the kind of frames in which values go, whether values or a Go came, and the worker.
 #[derive(Drop)]
-pub struct Held {
+pub struct SessionState {
     pub kind: ValueKind,
     pub is_started: bool,
     pub worker: Worker,
@@ -16,11 +16,11 @@ pub struct Held {
     pub row: Vec<u32>,
 }
 
-impl Model for Held {
+impl Model for SessionState {
     ghost use Rattle.std.specs.Prelude.{◌≡◌, ◌≤◌, length};
-    ghost use Rattle.pg_worker.specs.Turns.{HeldValue};
+    ghost use Rattle.pg_worker.specs.Turns.{SessionValue};
 
-    ghost Value = { HeldValue };
+    ghost Value = { SessionValue };
 
     ghost view = { λ h. record { kind = h.kind; is_started = h.is_started; worker = h.worker } };
 
@@ -28,7 +28,7 @@ impl Model for Held {
 }
 
 /// Puts this in place of what is held, which is dropped.
-pub fn hold(held: &mut Option<Held>, new: Option<Held>)
+pub fn replace_state(held: &mut Option<SessionState>, new: Option<SessionState>)
     ensures { held.new ≡ new }
 {
     *held = new;

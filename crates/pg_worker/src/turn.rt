@@ -10,10 +10,10 @@ ghost use Rattle.pg_wire.specs.Left.{IsLeft};
 ghost use Rattle.pg_wire.specs.Measured.{Measured};
 
 use crate::fault::own;
-use crate::held::{Held, hold};
 use crate::joins::join_read;
 use crate::lines::add_read_lines;
 use crate::reply::{put_lifted, put_report};
+use crate::session_state::{SessionState, replace_state};
 use crate::{Worker, WorkerFault};
 use pg_wire::{Frame, Setup, ValueKind, ValuesReader, VerticesReader, WireFault, decode};
 use std::alloc::Global;
@@ -32,7 +32,12 @@ fn greet(version: u8, out: &mut Vec<u8>) -> Result<ValueKind, WorkerFault>
     Ok(ValueKind::Dense)
 }
 
-fn set_up(alloc: Global, highest: u8, setup: &Setup, out: &mut Vec<u8>) -> Result<Held, WorkerFault>
+fn set_up(
+    alloc: Global,
+    highest: u8,
+    setup: &Setup,
+    out: &mut Vec<u8>,
+) -> Result<SessionState, WorkerFault>
     requires { IsSetup setup.now }
     ensures version { OnOk result (setup.now.version ≤ highest) }
     ensures held { IfOk result (λ h. h ≡ fresh setup.now) }
@@ -47,7 +52,7 @@ fn set_up(alloc: Global, highest: u8, setup: &Setup, out: &mut Vec<u8>) -> Resul
     let kind = greet(setup.version, out)?;
     let row = vec![in alloc; 0; setup.bounds.as_slice().len()]?;
     let worker = Worker::new(alloc, setup)?;
-    Ok(Held {
+    Ok(SessionState {
         kind,
         is_started: false,
         worker,
@@ -56,7 +61,7 @@ fn set_up(alloc: Global, highest: u8, setup: &Setup, out: &mut Vec<u8>) -> Resul
 }
 
 /// Joins the worker's map with the measures that are left of a frame.
-fn take_read(held: &mut Held, values: ValuesReader) -> Result<(), WorkerFault>
+fn take_read(held: &mut SessionState, values: ValuesReader) -> Result<(), WorkerFault>
     ensures turn { (ms : List Measured) → IsLeft values.entry ms
         → OnOk result (TakesValues held.old values.entry.kind values.entry.width ms (Some held.new)) }
     ensures refused { (ms : List Measured) → IsLeft values.entry ms
@@ -73,7 +78,7 @@ fn take_read(held: &mut Held, values: ValuesReader) -> Result<(), WorkerFault>
     Ok(())
 }
 
-fn lift(held: &mut Held, budget: u32, out: &mut Vec<u8>) -> Result<(), WorkerFault>
+fn lift(held: &mut SessionState, budget: u32, out: &mut Vec<u8>) -> Result<(), WorkerFault>
     ensures turn { OnOk result ((reply : List ℕ) × LiftsAndTells held.old budget (Some held.new) reply
         × (out.new.items ≡ out.old.items ++ reply)) }
     ensures memory { IfErr result (λ e. e ≡ WorkerFault.OutOfMemory) }
@@ -92,7 +97,7 @@ fn lift(held: &mut Held, budget: u32, out: &mut Vec<u8>) -> Result<(), WorkerFau
 fn turn(
     alloc: Global,
     highest: u8,
-    held: &mut Option<Held>,
+    held: &mut Option<SessionState>,
     frame: &Frame,
     out: &mut Vec<u8>,
 ) -> Result<bool, WorkerFault>
@@ -108,12 +113,12 @@ fn turn(
     match frame {
         Frame::Setup(setup) => {
             // its memory is there for the new worker
-            hold(held, None);
-            hold(held, Some(set_up(alloc, highest, setup, out)?));
+            replace_state(held, None);
+            replace_state(held, Some(set_up(alloc, highest, setup, out)?));
             Ok(false)
         }
         Frame::Halt => {
-            hold(held, None);
+            replace_state(held, None);
             Ok(true)
         }
         Frame::Go(go) => {
@@ -132,7 +137,7 @@ fn turn(
 /// After a fault nothing is said of what is held.
 pub fn turn_of_rows(
     alloc: Global,
-    held: &mut Option<Held>,
+    held: &mut Option<SessionState>,
     bytes: &[u8],
 ) -> Result<bool, WorkerFault>
     ensures rows { IfOk result (λ taken. IsTrue taken ↔ SpellsRows bytes.now) }
@@ -165,7 +170,7 @@ pub fn turn_of_rows(
 pub fn turn_of(
     alloc: Global,
     highest: u8,
-    held: &mut Option<Held>,
+    held: &mut Option<SessionState>,
     bytes: &[u8],
     out: &mut Vec<u8>,
 ) -> Result<bool, WorkerFault>

@@ -11,7 +11,7 @@ use Rattle.pg_wire.specs.LinesWritten.{AreWriting}
 use Rattle.pg_parts.specs.Frames.{told_line}
 use Rattle.pg_rounds.specs.Mirrors.Tasks.{TaskValue}
 
--- what is told of a vertex of the game below `next`
+-- the line of a vertex of the game below `next`
 pub record IsLineOf (t : TaskValue) (next : ℕ) (l : VertexLine) : Type 0 where
   pub vertex : l.vertex < length t.game
   pub below : l.vertex < next

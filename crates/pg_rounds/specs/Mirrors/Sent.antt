@@ -13,7 +13,7 @@ use Rattle.pg_parts.specs.Frames.{measures_in}
 pub record SpellsMeasures (kind : ValueKind) (map : MapValue) (bytes : List ℕ) : Type 0 where
   pub measures : List Measured
   pub spelled : Spells (frame_of kind (length map.bounds) measures) bytes
-  pub told : measures_in (frame_of kind (length map.bounds) measures) ≡ measures
+  pub in_frame : measures_in (frame_of kind (length map.bounds) measures) ≡ measures
   pub of_map : All (λ m. m.1 ≡ measure_at map.measures m.0) measures
 
 -- measures that vertices below `next` have in the map, rising

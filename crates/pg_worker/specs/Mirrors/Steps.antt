@@ -7,10 +7,10 @@ use Rattle.pg_wire.specs.Spelling.{spelling}
 use Rattle.pg_wire.specs.Bytes.{Spells}
 use Rattle.pg_worker.specs.declared.served.Step.{Step}
 use Rattle.pg_worker.specs.declared.served.Step.TheVariants as steps
-use Rattle.pg_worker.specs.Turns.{HeldValue, Turn}
+use Rattle.pg_worker.specs.Turns.{SessionValue, Turn}
 
 -- a well frame was read and answered
-pub record Answers (f : Frame) (held held' : Option HeldValue) (input input' output output' : Option (List ℕ))
+pub record Answers (f : Frame) (held held' : Option SessionValue) (input input' output output' : Option (List ℕ))
     : Type 0 where
   pub well : Spells f (spelling f)
   pub reply : List ℕ
@@ -19,7 +19,7 @@ pub record Answers (f : Frame) (held held' : Option HeldValue) (input input' out
   pub written : Appends output output' reply
 
 -- what a step did: to what is held, to the bytes that are left to read, and to those that were written
-abbrev pub IsStep : Step → Option HeldValue → Option HeldValue → Option (List ℕ) → Option (List ℕ)
+abbrev pub IsStep : Step → Option SessionValue → Option SessionValue → Option (List ℕ) → Option (List ℕ)
     → Option (List ℕ) → Option (List ℕ) → Type 0
 IsStep steps.Ended held held' input input' output output' = IsAtEnd input × (held' ≡ held) × (output' ≡ output)
 IsStep steps.Halted held held' input input' output output' = Answers frames.Halt held held' input input' output output'

@@ -18,9 +18,7 @@ loop-i-preserved g c =
       told_done = λ replies tell.
           let here : c.loop-i.i ≤ c.loop-i.i = omega arith in
           halves_step (TellsNext g.L.Link.told c.args.task.now replies) (IsQueriedNext g.L.Link.told c.args.task.now replies) c.loop-i.i
-          c.loop-i.states
-          c.loop-i.links
-          c.query_one.new.state c.query_one.new.link inv.same_len within (inv.told_done replies tell)
+          c.loop-i.states c.loop-i.links c.query_one.new.state c.query_one.new.link inv.same_len within (inv.told_done replies tell)
           (c.in_ok-query_one.ensures.told (replies c.loop-i.i) ((inv.told_done replies tell c.loop-i.i _ _ within).1 here));
       in_step = λ h s. AllInStep-set under c.args.task.now c.args.coordinator.now.map c.loop-i.states c.loop-i.links c.loop-i.i
           c.query_one.new.state c.query_one.new.link inv.same_len within

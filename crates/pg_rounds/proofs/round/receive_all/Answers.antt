@@ -44,12 +44,9 @@ loop-i-preserved g c =
           let next = c.in_ok-receive_one.ensures.told (replies c.loop-i.i) ((done.0 c.loop-i.i _ _ within).1 here).0
           ((done.0 c.loop-i.i c.index-links-i.result _ within).1 here).1 in (
             halves_step (IsQueriedNext g.L.Link.told c.args.task.now replies) (IsReceivedNext g.L.Link.told c.args.task.now replies)
-                c.loop-i.i c.loop-i.states
-                c.loop-i.links
-                c.receive_one.new.state c.receive_one.new.link inv.same_len within done.0 next.0,
+                c.loop-i.i c.loop-i.states c.loop-i.links c.receive_one.new.state c.receive_one.new.link inv.same_len within done.0 next.0,
             each_more c.args.coordinator.now.map.measures c.loop-i.coordinator.map.measures c.receive_one.new.coordinator.map.measures
-                c.loop-i.i
-                (λ k. measures_of (take 1 (replies k))) done.1 next.1,
+                c.loop-i.i (λ k. measures_of (take 1 (replies k))) done.1 next.1,
           );
       in_step = λ h s. AllInStep-set under c.args.task.now c.receive_one.new.coordinator.map c.loop-i.states c.loop-i.links c.loop-i.i
           c.receive_one.new.state c.receive_one.new.link inv.same_len within

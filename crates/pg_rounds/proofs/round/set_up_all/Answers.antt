@@ -35,8 +35,8 @@ loop-i-preserved g c =
           let first = (inv.told_done replies tell c.loop-i.i c.index-links-i.result c.set_up_one.new.state within).1 here in
           halves_step (TellsFirst g.L.Link.told c.args.task.now replies)
           (TellsNext g.L.Link.told c.args.task.now (λ k. received 3 (replies k)))
-          c.loop-i.i c.loop-i.states c.loop-i.links
-          c.set_up_one.new.state c.set_up_one.new.link inv.same_len within (inv.told_done replies tell)
+          c.loop-i.i c.loop-i.states c.loop-i.links c.set_up_one.new.state c.set_up_one.new.link inv.same_len within
+          (inv.told_done replies tell)
           (c.in_ok-set_up_one.ensures.told (replies c.loop-i.i) first.0 first.1);
       in_step = λ h. halves_step (λ k state link. Unit {0}) (λ k state link. (map : MapValue) → IsInStep under c.args.task.now map state link) c.loop-i.i c.loop-i.states c.loop-i.links c.set_up_one.new.state c.set_up_one.new.link inv.same_len within (inv.in_step h) (c.in_ok-set_up_one.ensures.in_step (inv.honest_still h c.loop-i.i _ within));
     }

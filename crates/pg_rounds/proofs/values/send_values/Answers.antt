@@ -25,7 +25,7 @@ values-preserved g c =
             under_still = λ h m le u. w.in_ok-send.ensures.under (inv.honest_still h) (frame_of kind (length map.bounds) frame.measures)
                 (let bytes : w.as_slice.result.now ≡ c.write_frame.new.out.items = search rules in rw bytes frame.spelled) m
                 (under_values kind (length map.bounds) frame.measures m _
-                (rw frame.told (map_at_least map.measures m.measures frame.measures le frame.of_map)) (inv.under_still h m le u));
+                (rw frame.in_frame (map_at_least map.measures m.measures frame.measures le frame.of_map)) (inv.under_still h m le u));
           }
       | else-some w ↦
           rw w.link-is record {
