@@ -1,20 +1,9 @@
 -- What rounds leave, and what holds at the end.
-use Rattle.std.proofs.Common.{◌≡◌, ℕ, ◌*◌, List, length, Option, Some, None, refl, ap, ◌∙◌, arith}
-use Rattle.std.proofs.lemmas.List.{length-replicate}
-use Rattle.std.specs.Prelude.{◌+◌, ◌≤◌, IfSome}
-use Rattle.pg_arena.specs.Games.{GameVertex}
-use Rattle.pg_measure.specs.Measures.{BoundList, MeasureValue, zeros}
-use Rattle.pg_map.specs.Lines.{game_line}
-use Rattle.pg_map.specs.Maps.{MapValue, MapAtMost, IsMap, IsClosed, IsNeverAbove, IsLeastProgressMeasure, StaysUnder, zero_map}
-use Rattle.pg_map.specs.Lemmas.Orders.{map_reflexive, map_transitive}
-use Rattle.pg_map.specs.Weights.{list_count, map_weight}
-use Rattle.pg_map.proofs.Joins.{zero_map_least}
-use Rattle.pg_map.proofs.Weights.{zero_map_weight}
-use Rattle.pg_rounds.specs.Replies.{Reply, IsLeastOverReplies}
-use Rattle.pg_rounds.specs.declared.solver.Solved.{Solved}
-use Rattle.pg_rounds.specs.Solving.{most_rounds}
-use Rattle.pg_rounds.specs.Mirrors.Rounds.{IsFoundFrom, Closes, Ends, IsSolvedFrom}
-use Rattle.pg_rounds.specs.Mirrors.Tasks.{TaskValue, IsClosedMap}
+use Rattle.pg_rounds.proofs.Common.{◌≡◌, ℕ, ◌*◌, List, length, Option, Some, None, refl, ap, ◌∙◌, arith, length-replicate, ◌+◌, ◌≤◌, IfSome}
+use Rattle.pg_rounds.proofs.Common.{GameVertex, BoundList, MeasureValue, zeros, game_line, MapValue, MapAtMost, IsMap, IsClosed}
+use Rattle.pg_rounds.proofs.Common.{IsNeverAbove, IsLeastProgressMeasure, StaysUnder, zero_map, map_reflexive, map_transitive, list_count}
+use Rattle.pg_rounds.proofs.Common.{map_weight, zero_map_least, zero_map_weight, Reply, IsLeastOverReplies, Solved, most_rounds}
+use Rattle.pg_rounds.proofs.Common.{IsFoundFrom, Closes, Ends, IsSolvedFrom, TaskValue, IsClosedMap}
 
 pub zero_size : (f : List MeasureValue) (bs : BoundList) (n : ℕ) → f ≡ zero_map bs n → length f ≡ n
 zero_size f bs n is = ap length is ∙ length-replicate n (zeros bs)

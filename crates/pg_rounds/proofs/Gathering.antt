@@ -1,32 +1,12 @@
 -- Lines that are written into one frame.
-use Rattle.std.proofs.Common.{◌≡◌, ℕ, Bool, true, false, suc, ◌+◌, ◌*◌, ◌-◌, ◌<◌, ◌≤◌, List, [], ◌∷◌, ◌++◌, length, get_or, Option, Some}
-use Rattle.std.proofs.Common.{Result, refl, sym, ap, ◌∙◌, subst, arith}
-use Rattle.std.specs.Prelude.{All, AllPairs}
-use Rattle.std.specs.List.{flat_map}
-use Rattle.std.proofs.lemmas.List.{length-append, append-nil}
-use Rattle.std.proofs.lemmas.List.Concat.{flat_map-cons}
-use Rattle.std.proofs.lemmas.List.Elements.{All-push, All-weaker, Contains-get_or}
-use Rattle.std.proofs.lemmas.List.Quantifiers.{all_pairs_push}
+use Rattle.pg_rounds.proofs.Common.{◌≡◌, ℕ, Bool, true, false, suc, ◌+◌, ◌*◌, ◌-◌, ◌<◌, ◌≤◌, List, [], ◌∷◌, ◌++◌, length, get_or, Option}
+use Rattle.pg_rounds.proofs.Common.{Some, Result, refl, sym, ap, ◌∙◌, subst, arith, All, AllPairs, flat_map, length-append, append-nil}
+use Rattle.pg_rounds.proofs.Common.{flat_map-cons, All-push, All-weaker, Contains-get_or, all_pairs_push, GameVertex, IsGame, successors}
+use Rattle.pg_rounds.proofs.Common.{vertex_at, Line, vertex_line, game_line, MapValue, IsServed, game_line_at, game_line_some}
+use Rattle.pg_rounds.proofs.Common.{served_line_back, VertexLine, VerticesWriter, word, line, body, spelling, longest, Spells, IsVertexLine}
+use Rattle.pg_rounds.proofs.Common.{IsVertices, IsWell, frame_with, AreWriting, IsLineAdded, words_size, told_line, IsClosedAt, LinkFault}
+use Rattle.pg_rounds.proofs.Common.{SendsTold, TaskValue, IsTask, IsClosedMap, TellsAfter, IsLineOf, AreLines, AreWritten, SpellsLines}
 use Rattle.std.proofs.lemmas.Grind.{flat_map-append}
-use Rattle.pg_arena.specs.Games.{GameVertex, IsGame, successors, vertex_at}
-use Rattle.pg_map.specs.Lines.{Line, vertex_line, game_line}
-use Rattle.pg_map.specs.Maps.{MapValue, IsServed}
-use Rattle.pg_map.proofs.GameLines.{game_line_at, game_line_some}
-use Rattle.pg_map.proofs.Lifts.{served_line_back}
-use Rattle.pg_wire.specs.declared.frame.VertexLine.{VertexLine}
-use Rattle.pg_wire.specs.declared.lines_writer.VerticesWriter.{VerticesWriter}
-use Rattle.pg_wire.specs.Spelling.{word, line, body, spelling, longest}
-use Rattle.pg_wire.specs.Bytes.{Spells}
-use Rattle.pg_wire.specs.Well.{IsVertexLine, IsVertices, IsWell}
-use Rattle.pg_wire.specs.Lines.{frame_with}
-use Rattle.pg_wire.specs.LinesWritten.{AreWriting, IsLineAdded}
-use Rattle.pg_wire.proofs.Nonzero.{words_size}
-use Rattle.pg_parts.specs.Frames.{told_line, IsClosedAt}
-use Rattle.pg_parts.specs.declared.link.LinkFault.{LinkFault}
-use Rattle.pg_parts.specs.Links.{SendsTold}
-use Rattle.pg_rounds.specs.Mirrors.Tasks.{TaskValue, IsTask, IsClosedMap}
-use Rattle.pg_rounds.specs.Mirrors.Telling.{TellsAfter}
-use Rattle.pg_rounds.specs.Mirrors.Lines.{IsLineOf, AreLines, AreWritten, SpellsLines}
 
 pub line_size : (l : VertexLine) → length (line l) ≡ 13 + 4 * length l.successors
 line_size l = omega (arith, words_size l.successors)

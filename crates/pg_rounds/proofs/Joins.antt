@@ -1,20 +1,8 @@
 -- Measures that are read and joined one after the other.
-use Rattle.std.proofs.Common.{◌≡◌, ℕ, zero, suc, Bool, List, [], ◌∷◌, ◌++◌, length, Some, None, refl, sym, ap, ◌∙◌, subst, append_assoc, arith, get_or}
-use Rattle.std.specs.Prelude.{All}
-use Rattle.std.proofs.lemmas.List.{append-nil, get_or_push, length-append}
-use Rattle.std.proofs.lemmas.List.Elements.{All-append}
-use Rattle.pg_measure.specs.Measures.{MeasureValue, AtMost}
-use Rattle.pg_measure.proofs.Order.{at_most_all}
-use Rattle.pg_map.specs.Maps.{measure_at, MapAtMost}
-use Rattle.pg_map.specs.Lemmas.Orders.{map_transitive}
-use Rattle.pg_wire.specs.declared.reader.ValuesReader.{ValuesReader}
-use Rattle.pg_wire.specs.Left.{IsLeft, IsNext}
-use Rattle.pg_wire.specs.Measured.{Measured}
-use Rattle.pg_parts.specs.Frames.{IsAtLeast, Joins}
-use Rattle.pg_parts.proofs.Reading.{in_row, first_is, none_left}
-use Rattle.pg_rounds.specs.declared.coordinator_map.CoordinatorMap.{CoordinatorMap}
-use Rattle.pg_rounds.specs.Mirrors.CoordinatorMaps.{Moves}
-use Rattle.pg_parts.proofs.Lists.{all_left, all_right}
+use Rattle.pg_rounds.proofs.Common.{◌≡◌, ℕ, zero, suc, Bool, List, [], ◌∷◌, ◌++◌, length, Some, None, refl, sym, ap, ◌∙◌, subst}
+use Rattle.pg_rounds.proofs.Common.{append_assoc, arith, get_or, All, append-nil, get_or_push, length-append, All-append, MeasureValue}
+use Rattle.pg_rounds.proofs.Common.{AtMost, at_most_all, measure_at, MapAtMost, map_transitive, ValuesReader, IsLeft, IsNext, Measured}
+use Rattle.pg_rounds.proofs.Common.{IsAtLeast, Joins, in_row, first_is, none_left, CoordinatorMap, Moves, all_left, all_right}
 
 pub all_one : {A : Type 0} (P : A → Type 0) (x : A) → P x → All P (x ∷ [])
 all_one P x p zero d lt = p

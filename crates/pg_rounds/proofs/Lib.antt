@@ -8,3 +8,4 @@ mod Taken
 mod Taking
 mod Receiving
 mod Replying
+mod Common

@@ -1,12 +1,7 @@
 -- What a change of one link, or of the map, leaves of the facts on all.
-use Rattle.std.proofs.Common.{◌≡◌, ℕ, ◌+◌, ◌<◌, ◌≤◌, List, length, length-set, slice_index_or, set, arith, rules, subst, sym, inl, inr}
-use Rattle.std.proofs.lemmas.List.{get_or-set_same, get_or-set_other}
-use Rattle.std.proofs.lemmas.Bool.{cases_eq}
-use Rattle.pg_map.specs.Maps.{MapValue, MapAtMost}
-use Rattle.pg_map.specs.Lemmas.Orders.{map_transitive}
-use Rattle.pg_rounds.specs.declared.link_state.LinkState.{LinkState}
-use Rattle.pg_rounds.specs.Mirrors.Tasks.{TaskValue}
-use Rattle.pg_rounds.specs.Mirrors.LinkStates.{IsInStep, AllInStep}
+use Rattle.pg_rounds.proofs.Common.{◌≡◌, ℕ, ◌+◌, ◌<◌, ◌≤◌, List, length, length-set, slice_index_or, set, arith, rules, subst, sym, inl}
+use Rattle.pg_rounds.proofs.Common.{inr, get_or-set_same, get_or-set_other, cases_eq, MapValue, MapAtMost, map_transitive, LinkState}
+use Rattle.pg_rounds.proofs.Common.{TaskValue, IsInStep, AllInStep}
 
 -- before i one thing holds of each link and its state, and from i on another
 abbrev pub Halves : {L : Type 0} → (ℕ → LinkState → L → Type 0) → (ℕ → LinkState → L → Type 0) → ℕ → List LinkState → List L → Type 0

@@ -1,27 +1,9 @@
 -- Frames of measures of the coordinator's map.
-use Rattle.std.proofs.Common.{◌≡◌, ℕ, Bool, true, false, ◌+◌, ◌^◌, ◌<◌, ◌≤◌, List, [], ◌∷◌, ◌++◌, length, get_or, refl, sym, ap, ◌∙◌, subst, arith}
-use Rattle.std.specs.Prelude.{All}
-use Rattle.std.proofs.lemmas.List.{length-append}
-use Rattle.std.proofs.lemmas.List.Elements.{All-push}
-use Rattle.std.proofs.lemmas.List.Quantifiers.{all_pairs_push}
-use Rattle.pg_measure.specs.Measures.{MeasureValue, Fits, AtMost}
-use Rattle.pg_map.specs.Maps.{MapValue, measure_at, MapAtMost}
-use Rattle.pg_wire.specs.declared.frame.Frame.{Frame}
-use Rattle.pg_wire.specs.declared.kind.ValueKind.{ValueKind}
-use Rattle.pg_wire.specs.declared.kind.ValueKind.TheVariants.{Dense, Sparse}
-use Rattle.pg_wire.specs.Well.{IsBound, IsWell}
-use Rattle.pg_wire.specs.declared.writer.ValuesWriter.{ValuesWriter}
-use Rattle.pg_wire.specs.declared.reader.ValuesReader.{ValuesReader}
-use Rattle.pg_wire.specs.Left.{IsLeft}
-use Rattle.pg_wire.specs.Spelling.{spelling}
-use Rattle.pg_wire.specs.Bytes.{Spells}
-use Rattle.pg_wire.specs.Written.{IsAdded}
-use Rattle.pg_wire.specs.Measured.{Measured, IsMeasured, frame_of}
-use Rattle.pg_wire.proofs.Tells.{well_of}
-use Rattle.pg_parts.specs.Frames.{IsAtLeast, measures_in}
-use Rattle.pg_parts.proofs.Fitting.{components_fit, frame_tells}
-use Rattle.pg_parts.specs.Links.{IsUnderAfter}
-use Rattle.pg_rounds.specs.Mirrors.Sent.{AreSent, IsWritten, SpellsMeasures}
+use Rattle.pg_rounds.proofs.Common.{◌≡◌, ℕ, Bool, true, false, ◌+◌, ◌^◌, ◌<◌, ◌≤◌, List, [], ◌∷◌, ◌++◌, length, get_or, refl, sym, ap, ◌∙◌}
+use Rattle.pg_rounds.proofs.Common.{subst, arith, All, length-append, All-push, all_pairs_push, MeasureValue, Fits, AtMost, MapValue}
+use Rattle.pg_rounds.proofs.Common.{measure_at, MapAtMost, Frame, ValueKind, Dense, Sparse, IsBound, IsWell, ValuesWriter, ValuesReader}
+use Rattle.pg_rounds.proofs.Common.{IsLeft, spelling, Spells, IsAdded, Measured, IsMeasured, frame_of, well_of, IsAtLeast, measures_in}
+use Rattle.pg_rounds.proofs.Common.{components_fit, frame_tells, IsUnderAfter, AreSent, IsWritten, SpellsMeasures}
 
 -- a link stays under a map that is at least what it was sent
 pub under_values : (kind : ValueKind) (width : ℕ) (ms : List Measured) (h : MapValue) (before : Type 0)

@@ -1,19 +1,9 @@
 -- How the coordinator's map rises, step by step.
-use Rattle.std.proofs.Common.{◌≡◌, ℕ, ◌<◌, ◌≤◌, ◌⊎◌, ◌≢◌, Bool, true, false, None, List, length, set, refl, ap, sym, ◌∙◌, inl, inr, arith, subst}
-use Rattle.std.specs.Prelude.{Option, ◌||◌}
-use Rattle.std.specs.Bool.{OnTrue, OnFalse}
-use Rattle.std.proofs.lemmas.Bool.{cases_eq}
-use Rattle.std.proofs.lemmas.List.{get_or-set_other, get_or-set_same}
-use Rattle.std.proofs.lemmas.List.Sums.{sum_by-set}
-use Rattle.pg_measure.specs.Measures.{BoundList, MeasureValue, Fits, AtMost, IsBelow}
-use Rattle.pg_map.specs.Lines.{Line, AreWithin}
-use Rattle.pg_map.specs.Maps.{MapValue, measure_at, MapAtMost, IsClosed}
-use Rattle.pg_map.specs.Lemmas.Orders.{measure_reflexive, map_reflexive, map_transitive}
-use Rattle.pg_map.specs.Weights.{weight, map_weight}
-use Rattle.pg_map.proofs.Weights.{measure_falls}
-use Rattle.pg_map.proofs.Passes.{IsPassed, closed_after}
-use Rattle.pg_rounds.specs.declared.coordinator_map.CoordinatorMap.{CoordinatorMap}
-use Rattle.pg_rounds.specs.Mirrors.CoordinatorMaps.{Moves, Receives}
+use Rattle.pg_rounds.proofs.Common.{◌≡◌, ℕ, ◌<◌, ◌≤◌, ◌⊎◌, ◌≢◌, Bool, true, false, None, List, length, set, refl, ap, sym, ◌∙◌, inl, inr}
+use Rattle.pg_rounds.proofs.Common.{arith, subst, Option, ◌||◌, OnTrue, OnFalse, cases_eq, get_or-set_other, get_or-set_same, sum_by-set}
+use Rattle.pg_rounds.proofs.Common.{BoundList, MeasureValue, Fits, AtMost, IsBelow, Line, AreWithin, MapValue, measure_at, MapAtMost}
+use Rattle.pg_rounds.proofs.Common.{IsClosed, measure_reflexive, map_reflexive, map_transitive, weight, map_weight, measure_falls, IsPassed}
+use Rattle.pg_rounds.proofs.Common.{closed_after, CoordinatorMap, Moves, Receives}
 
 pub moves_none : (b : CoordinatorMap) → Moves b b
 moves_none b = record {

@@ -1,29 +1,12 @@
 -- A reply that is received frame by frame.
-use Rattle.std.proofs.Common.{◌≡◌, ◌≢◌, ◌⊎◌, ℕ, ◌+◌, ◌<◌, Bool, true, false, List, [], ◌∷◌, ◌++◌}
-use Rattle.std.proofs.Common.{length, Option, Some, Result, Ok, Err, refl, sym, ◌∙◌, ap, subst, arith, append_assoc, inl, inr}
-use Rattle.std.specs.Prelude.{All, OnOk}
-use Rattle.std.specs.List.{flat_map}
-use Rattle.std.proofs.lemmas.List.{length-append, append-nil}
-use Rattle.std.proofs.lemmas.List.Concat.{flat_map-append, flat_map-cons}
-use Rattle.std.proofs.lemmas.List.Elements.{All-head, All-tail}
-use Rattle.pg_measure.specs.Measures.{BoundList, MeasureValue}
-use Rattle.pg_wire.specs.declared.frame.Values.{Values}
-use Rattle.pg_wire.specs.declared.frame.Report.{Report}
+use Rattle.pg_rounds.proofs.Common.{◌≡◌, ◌≢◌, ◌⊎◌, ℕ, ◌+◌, ◌<◌, Bool, true, false, List, [], ◌∷◌, ◌++◌, length, Option, Some, Result, Ok}
+use Rattle.pg_rounds.proofs.Common.{Err, refl, sym, ◌∙◌, ap, subst, arith, append_assoc, inl, inr, All, OnOk, flat_map, length-append}
+use Rattle.pg_rounds.proofs.Common.{append-nil, flat_map-append, flat_map-cons, All-head, All-tail, BoundList, MeasureValue, Values, Report}
+use Rattle.pg_rounds.proofs.Common.{ValueKind, Dense, spelling, Spells, Measured, told_values, CutValue, Joins, joins_none, AreOfPart}
+use Rattle.pg_rounds.proofs.Common.{CoordinatorMap, LinkFault, OutOfMemory, Failed, Ending, reported, spoiled, missing, Reply, FailsLink}
+use Rattle.pg_rounds.proofs.Common.{EndsSo, IsReply, spelled_ending, spelled_reply, AnswersAfter, FailsAfter, told_reply, reply_measures}
+use Rattle.pg_rounds.proofs.Common.{answer_to, ReceivesReply}
 use Rattle.pg_wire.specs.declared.frame.Frame.TheVariants as frames
-use Rattle.pg_wire.specs.declared.kind.ValueKind.{ValueKind}
-use Rattle.pg_wire.specs.declared.kind.ValueKind.TheVariants.{Dense}
-use Rattle.pg_wire.specs.Spelling.{spelling}
-use Rattle.pg_wire.specs.Bytes.{Spells}
-use Rattle.pg_wire.specs.Measured.{Measured, told_values}
-use Rattle.pg_parts.specs.Cuts.{CutValue}
-use Rattle.pg_parts.specs.Frames.{Joins}
-use Rattle.pg_parts.proofs.Joining.{joins_none}
-use Rattle.pg_rounds.specs.PartMeasures.{AreOfPart}
-use Rattle.pg_rounds.specs.declared.coordinator_map.CoordinatorMap.{CoordinatorMap}
-use Rattle.pg_parts.specs.declared.link.LinkFault.{LinkFault}
-use Rattle.pg_parts.specs.declared.link.LinkFault.TheVariants.{OutOfMemory, Failed}
-use Rattle.pg_rounds.specs.Replies.{Ending, reported, spoiled, missing, Reply, FailsLink, EndsSo, IsReply, spelled_ending, spelled_reply}
-use Rattle.pg_rounds.specs.Mirrors.Telling.{AnswersAfter, FailsAfter, told_reply, reply_measures, answer_to, ReceivesReply}
 use Rattle.pg_rounds.proofs.Joins.{joins_then}
 
 abbrev pub values_measures : List Values → List Measured

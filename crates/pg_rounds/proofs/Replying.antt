@@ -1,21 +1,10 @@
 -- Which replies are received of links that tell them, state by state and round by round.
-use Rattle.std.proofs.Common.{◌≡◌, ℕ, ◌+◌, ◌-◌, Bool, true, false, List, [], ◌∷◌, ◌++◌}
-use Rattle.std.proofs.Common.{take, drop, Option, Some, Ok, Err, refl, sym, ◌∙◌, subst, arith, inl, inr}
-use Rattle.std.specs.Prelude.{◌==◌, if◌then◌else◌, Result, OnOk}
-use Rattle.std.proofs.lemmas.Bool.{cases_Bool, cases_eq, eqb-true, eqb-false}
-use Rattle.std.proofs.lemmas.List.{append-nil}
-use Rattle.std.proofs.lemmas.Result.{on_ok_weaker}
-use Rattle.pg_measure.specs.Measures.{MeasureValue}
-use Rattle.pg_wire.specs.declared.kind.ValueKind.TheVariants.{Dense}
-use Rattle.pg_wire.specs.Measured.{Measured}
-use Rattle.pg_parts.specs.Frames.{IsAtLeast, Joins}
-use Rattle.pg_parts.proofs.Joining.{joins_none}
-use Rattle.pg_parts.specs.declared.link.LinkFault.TheVariants.{Failed}
-use Rattle.pg_rounds.specs.declared.link_state.LinkState.{LinkState}
-use Rattle.pg_rounds.specs.Replies.{Ending, reported, spoiled, missing, Reply, IsReply}
-use Rattle.pg_rounds.specs.Replies.{AreReplies, spelled_reply, spelled_replies, measures_of, is_failure, received}
-use Rattle.pg_rounds.specs.Mirrors.Tasks.{TaskValue}
-use Rattle.pg_rounds.specs.Mirrors.Telling.{reply_measures, answer_to, ReceivesReply, received_by, Tells, IsMended, IsQueried, JoinsEach}
+use Rattle.pg_rounds.proofs.Common.{◌≡◌, ℕ, ◌+◌, ◌-◌, Bool, true, false, List, [], ◌∷◌, ◌++◌, take, drop, Option, Some, Ok, Err, refl, sym}
+use Rattle.pg_rounds.proofs.Common.{◌∙◌, subst, arith, inl, inr, ◌==◌, if◌then◌else◌, Result, OnOk, cases_Bool, cases_eq, eqb-true}
+use Rattle.pg_rounds.proofs.Common.{eqb-false, append-nil, on_ok_weaker, MeasureValue, Dense, Measured, IsAtLeast, Joins, joins_none}
+use Rattle.pg_rounds.proofs.Common.{Failed, LinkState, Ending, reported, spoiled, missing, Reply, IsReply, AreReplies, spelled_reply}
+use Rattle.pg_rounds.proofs.Common.{spelled_replies, measures_of, is_failure, received, TaskValue, reply_measures, answer_to, ReceivesReply}
+use Rattle.pg_rounds.proofs.Common.{received_by, Tells, IsMended, IsQueried, JoinsEach}
 use Rattle.pg_rounds.proofs.Joins.{at_least_after}
 
 -- ---- one state

@@ -1,22 +1,12 @@
 -- What is taken of links that tell their replies, round by round.
-use Rattle.std.proofs.Common.{◌≡◌, ℕ, ◌+◌, ◌-◌, ◌^◌, min, ◌<◌, List, [], ◌∷◌, ◌++◌}
-use Rattle.std.proofs.Common.{take, drop, length, get_or, slice_index_or, Option, refl, sym, ◌∙◌, ap, subst, arith, inl, inr}
-use Rattle.std.proofs.lemmas.Bool.{cases_lt}
-use Rattle.std.proofs.lemmas.List.{append-nil, take_all, drop_all, take_more, drop_more, drop-drop}
-use Rattle.std.proofs.lemmas.List.Concat.{flat_map-append}
-use Rattle.std.proofs.lemmas.List.Elements.{All-append}
-use Rattle.pg_measure.specs.Measures.{MeasureValue, AtMost}
-use Rattle.pg_map.specs.Lines.{game_line}
-use Rattle.pg_map.specs.Maps.{MapValue, MapAtMost, IsClosed, IsNeverAbove, measure_at}
-use Rattle.pg_wire.specs.Measured.{Measured}
-use Rattle.pg_parts.specs.Frames.{IsAtLeast}
-use Rattle.pg_rounds.specs.declared.link_state.LinkState.{LinkState}
-use Rattle.pg_rounds.specs.Replies.{Reply, missing, measures_of, received, IsLeastOverReplies}
-use Rattle.pg_rounds.specs.Mirrors.Tasks.{TaskValue, IsClosedMap}
-use Rattle.pg_rounds.specs.Mirrors.Telling.{reply_measures, Tells, AllTell, IsRoundOver}
+use Rattle.pg_rounds.proofs.Common.{◌≡◌, ℕ, ◌+◌, ◌-◌, ◌^◌, min, ◌<◌, List, [], ◌∷◌, ◌++◌, take, drop, length, get_or, slice_index_or}
+use Rattle.pg_rounds.proofs.Common.{Option, refl, sym, ◌∙◌, ap, subst, arith, inl, inr, cases_lt, append-nil, take_all, drop_all, take_more}
+use Rattle.pg_rounds.proofs.Common.{drop_more, drop-drop, flat_map-append, All-append, MeasureValue, AtMost, game_line, MapValue, MapAtMost}
+use Rattle.pg_rounds.proofs.Common.{IsClosed, IsNeverAbove, measure_at, Measured, IsAtLeast, LinkState, Reply, missing, measures_of}
+use Rattle.pg_rounds.proofs.Common.{received, IsLeastOverReplies, TaskValue, IsClosedMap, reply_measures, Tells, AllTell, IsRoundOver}
+use Rattle.pg_rounds.proofs.Common.{all_left, all_right}
 use Rattle.pg_rounds.proofs.Joins.{at_least_after}
 use Rattle.pg_rounds.proofs.Ends.{closed_map}
-use Rattle.pg_parts.proofs.Lists.{all_left, all_right}
 
 no_reply : Reply
 no_reply = record { values = []; ending = missing }

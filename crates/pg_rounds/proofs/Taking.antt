@@ -1,28 +1,11 @@
 -- What is taken of links that tell their replies.
-use Rattle.std.proofs.Common.{◌≡◌, ◌≢◌, ℕ, map, Result, Ok, Err, List, ◌∷◌}
-use Rattle.std.proofs.Common.{Option, Some, refl, sym, ◌∙◌, ap, subst, arith, rules, inl, inr}
-use Rattle.std.specs.Prelude.{All, IfErr, OnOk, ◌↔◌, Bool, true, false, ◌==◌, if◌then◌else◌}
-use Rattle.std.proofs.lemmas.Bool.{cases_Bool}
-use Rattle.pg_measure.specs.Measures.{BoundList, MeasureValue}
-use Rattle.pg_wire.specs.declared.frame.Values.{Values}
-use Rattle.pg_wire.specs.declared.frame.Frame.{Frame}
+use Rattle.pg_rounds.proofs.Common.{◌≡◌, ◌≢◌, ℕ, map, Result, Ok, Err, List, ◌∷◌, Option, Some, refl, sym, ◌∙◌, ap, subst, arith, rules}
+use Rattle.pg_rounds.proofs.Common.{inl, inr, All, IfErr, OnOk, ◌↔◌, Bool, true, false, ◌==◌, if◌then◌else◌, cases_Bool, BoundList}
+use Rattle.pg_rounds.proofs.Common.{MeasureValue, Values, Frame, ValueKind, Dense, Sparse, spelling, Spells, Measured, dense_value}
+use Rattle.pg_rounds.proofs.Common.{told_values, frame_of, one_frame, dense_told, CutValue, kind_of, Joins, LinkFault, OutOfMemory, Failed}
+use Rattle.pg_rounds.proofs.Common.{refusal, SendsTold, RestartsTold, HandsOver, IsOfPart, AreOfPart, FailsLink, TakesFrame, TellsAfter}
+use Rattle.pg_rounds.proofs.Common.{AnswersSetUp, acceptance, told_with}
 use Rattle.pg_wire.specs.declared.frame.Frame.TheVariants as frames
-use Rattle.pg_wire.specs.declared.kind.ValueKind.{ValueKind}
-use Rattle.pg_wire.specs.declared.kind.ValueKind.TheVariants.{Dense, Sparse}
-use Rattle.pg_wire.specs.Spelling.{spelling}
-use Rattle.pg_wire.specs.Bytes.{Spells}
-use Rattle.pg_wire.specs.Measured.{Measured, dense_value, told_values, frame_of}
-use Rattle.pg_wire.proofs.Bodies.{one_frame}
-use Rattle.pg_wire.proofs.Tells.{dense_told}
-use Rattle.pg_parts.specs.Cuts.{CutValue}
-use Rattle.pg_parts.specs.Frames.{kind_of, Joins}
-use Rattle.pg_parts.specs.declared.link.LinkFault.{LinkFault}
-use Rattle.pg_parts.specs.declared.link.LinkFault.TheVariants.{OutOfMemory, Failed}
-use Rattle.pg_parts.specs.Links.{refusal, SendsTold, RestartsTold, HandsOver}
-use Rattle.pg_rounds.specs.PartMeasures.{IsOfPart, AreOfPart}
-use Rattle.pg_rounds.specs.Replies.{FailsLink}
-use Rattle.pg_rounds.specs.Mirrors.Takes.{TakesFrame}
-use Rattle.pg_rounds.specs.Mirrors.Telling.{TellsAfter, AnswersSetUp, acceptance, told_with}
 
 -- ---- one call
 

@@ -1,22 +1,11 @@
 -- The bytes after a length give a frame exactly if they are its body and it is well.
-use Rattle.std.proofs.Common.{◌≡◌, ℕ, suc, ◌≤◌, cond, List, [], ◌∷◌, ◌++◌, length, take, drop, Result, Ok, Err, refl, sym, ap, subst, ◌∙◌}
-use Rattle.std.proofs.Common.{append_assoc, arith, inl, inr}
-use Rattle.std.specs.Prelude.{◌==◌}
-use Rattle.std.specs.Int.{w32, from_be_bytes}
-use Rattle.std.proofs.lemmas.Bool.{eqb-true, cases_Bool}
-use Rattle.std.proofs.lemmas.List.{append-nil, take_at, drop_at, length-append, nil_from_length}
-use Rattle.std.proofs.lemmas.Nat.{from_be_bytes-to_be_bytes_4}
-use Rattle.pg_wire.specs.declared.fault.FieldFault.{FieldFault}
-use Rattle.pg_wire.specs.declared.fault.FieldFault.TheVariants.{At}
-use Rattle.pg_wire.specs.declared.fault.ReadFault.{ReadFault}
+use Rattle.pg_wire.proofs.Common.{◌≡◌, ℕ, suc, ◌≤◌, cond, List, [], ◌∷◌, ◌++◌, length, take, drop, Result, Ok, Err, refl, sym, ap, subst}
+use Rattle.pg_wire.proofs.Common.{◌∙◌, append_assoc, arith, inl, inr, ◌==◌, w32, from_be_bytes, eqb-true, cases_Bool, append-nil, take_at}
+use Rattle.pg_wire.proofs.Common.{drop_at, length-append, nil_from_length, from_be_bytes-to_be_bytes_4, FieldFault, At, ReadFault, Frame}
+use Rattle.pg_wire.proofs.Common.{word, body, longest, IsWell, Spells, ◌>>=◌, Reader, Fails, made, Format, frame_at, body_at, setup_fields}
+use Rattle.pg_wire.proofs.Common.{vertices_fields, values_fields, sparse_fields, go_fields, report_fields}
 use Rattle.pg_wire.specs.declared.fault.ReadFault.TheVariants as faults
-use Rattle.pg_wire.specs.declared.frame.Frame.{Frame}
 use Rattle.pg_wire.specs.declared.frame.Frame.TheVariants as frames
-use Rattle.pg_wire.specs.Spelling.{word, body, longest}
-use Rattle.pg_wire.specs.Well.{IsWell}
-use Rattle.pg_wire.specs.Bytes.{Spells}
-use Rattle.pg_wire.specs.Mirrors.Reading.{◌>>=◌, Reader, Fails, made}
-use Rattle.pg_wire.specs.Mirrors.Formats.{Format, frame_at, body_at, setup_fields, vertices_fields, values_fields, sparse_fields, go_fields, report_fields}
 use Rattle.pg_wire.proofs.Grammar.{IsForm, IsBytes, bind_ok, test_ok, ok_is, nothing_is}
 use Rattle.pg_wire.proofs.FrameFormats.{setup_is, vertices_is, values_fields_is, sparse_fields_is, go_is, report_is}
 

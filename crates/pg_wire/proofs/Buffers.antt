@@ -1,9 +1,6 @@
 -- Buffers to which bytes are appended.
-use Rattle.std.proofs.Common.{◌≡◌, ℕ, ◌+◌, ◌<◌, List, ◌++◌, length, take, get_or, append_assoc, refl, sym, ap, ◌∙◌, arith}
-use Rattle.std.proofs.lemmas.List.{take_at, take_more, take-take, length-append}
-use Rattle.std.specs.List.{flat_map}
-use Rattle.pg_wire.specs.Spelling.{word}
-use Rattle.pg_wire.specs.Mirrors.Buffers.{Extends}
+use Rattle.pg_wire.proofs.Common.{◌≡◌, ℕ, ◌+◌, ◌<◌, List, ◌++◌, length, take, get_or, append_assoc, refl, sym, ap, ◌∙◌, arith, take_at}
+use Rattle.pg_wire.proofs.Common.{take_more, take-take, length-append, flat_map, word, Extends}
 use Rattle.pg_wire.proofs.Append.{spelled_behind}
 
 pub extends_by : (a b x : List ℕ) → b ≡ a ++ x → Extends a b

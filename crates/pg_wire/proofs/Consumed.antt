@@ -1,15 +1,9 @@
 -- Bytes that were read one after the other, and what reading a frame answers by them.
-use Rattle.std.proofs.Common.{◌≡◌, ℕ, ◌+◌, ◌-◌, ◌<◌, ◌≤◌, ◌⊎◌, List, [], ◌++◌, length, take, drop, refl, sym, ap, subst, ◌∙◌, Option, Some, None}
-use Rattle.std.proofs.Common.{IfSome, Result, Ok, Err, append_assoc, arith, inl, inr}
-use Rattle.std.proofs.lemmas.List.{length-append, length-take, length-drop, take_at, drop_at, take_all, take-append-le}
-use Rattle.std.proofs.Math.Seq.{take-append-add}
-use Rattle.std.specs.Int.{w32, from_be_bytes}
-use Rattle.std.specs.Io.KnownBytes.{Consumes, IsAtEnd}
-use Rattle.pg_wire.specs.declared.fault.WireFault.{WireFault}
-use Rattle.pg_wire.specs.declared.fault.WireFault.TheVariants.{TooLong, Truncated, OutOfMemory, Read}
-use Rattle.pg_wire.specs.declared.frame.Frame.{Frame}
-use Rattle.pg_wire.specs.Spelling.{word, body, spelling, longest}
-use Rattle.pg_wire.specs.Bytes.{Spells, IsReadFrom, IsWhole, IsTooLong, IsTruncated, length_field}
+use Rattle.pg_wire.proofs.Common.{◌≡◌, ℕ, ◌+◌, ◌-◌, ◌<◌, ◌≤◌, ◌⊎◌, List, [], ◌++◌, length, take, drop, refl, sym, ap, subst, ◌∙◌, Option}
+use Rattle.pg_wire.proofs.Common.{Some, None, IfSome, Result, Ok, Err, append_assoc, arith, inl, inr, length-append, length-take}
+use Rattle.pg_wire.proofs.Common.{length-drop, take_at, drop_at, take_all, take-append-le, take-append-add, w32, from_be_bytes, Consumes}
+use Rattle.pg_wire.proofs.Common.{IsAtEnd, WireFault, TooLong, Truncated, OutOfMemory, Read, Frame, word, body, spelling, longest, Spells}
+use Rattle.pg_wire.proofs.Common.{IsReadFrom, IsWhole, IsTooLong, IsTruncated, length_field}
 use Rattle.pg_wire.proofs.Bodies.{length_is, one_frame}
 
 pub consumes_then : (a b c : Option (List ℕ)) (x y : List ℕ) → Consumes a b x → Consumes b c y → Consumes a c (x ++ y)

@@ -1,16 +1,9 @@
 -- Lists and the pairs of their components that aren't 0: each is told by the other.
-use Rattle.std.proofs.Common.{◌≡◌, ◌≢◌, ℕ, zero, suc, ◌+◌, ◌<◌, ◌≤◌, cond, List, [], ◌∷◌, ◌++◌, length, map, get_or, set, refl, sym, ap}
-use Rattle.std.proofs.Common.{subst, ◌∙◌, arith, inl, inr}
-use Rattle.std.specs.Prelude.{All, nat_eq, ◌==◌}
-use Rattle.std.specs.List.{range_with_len}
-use Rattle.std.proofs.lemmas.Bool.{cases_Bool, cases_eq, eq-eqb, ne_eqb, eqb-true, eqb-false}
-use Rattle.std.proofs.lemmas.List.{get_or-set_same, get_or-set_other}
-use Rattle.std.proofs.lemmas.List.FromFn.{length-map-range_with_len}
-use Rattle.std.proofs.lemmas.List.Elements.{All-map}
-use Rattle.pg_wire.specs.Well.{IsWord, IsComponents, IsPlace, ArePlaces}
-use Rattle.pg_wire.specs.Measured.{nonzero_from, nonzero, component_in, filled}
+use Rattle.pg_wire.proofs.Common.{◌≡◌, ◌≢◌, ℕ, zero, suc, ◌+◌, ◌<◌, ◌≤◌, cond, List, [], ◌∷◌, ◌++◌, length, map, get_or, set, refl, sym, ap}
+use Rattle.pg_wire.proofs.Common.{subst, ◌∙◌, arith, inl, inr, All, nat_eq, ◌==◌, range_with_len, cases_Bool, cases_eq, eq-eqb, ne_eqb}
+use Rattle.pg_wire.proofs.Common.{eqb-true, eqb-false, get_or-set_same, get_or-set_other, length-map-range_with_len, All-map, IsWord}
+use Rattle.pg_wire.proofs.Common.{IsComponents, IsPlace, ArePlaces, nonzero_from, nonzero, component_in, filled, places}
 use Rattle.pg_wire.specs.Mirrors.Ordered.{rising}
-use Rattle.pg_wire.specs.Mirrors.Formats.{places}
 use Rattle.pg_wire.proofs.Orders.{Follow, ordered, follow}
 
 abbrev pub Pair : Type 0

@@ -1,16 +1,9 @@
 -- The formats of what stands in frames.
-use Rattle.std.proofs.Common.{◌≡◌, ℕ, ◌+◌, ◌^◌, ◌<◌, ◌≤◌, ◌⊎◌, Bool, true, false, cond, List, ◌∷◌}
-use Rattle.std.proofs.Common.{[], length, ◌++◌, Option, Ok, Err, Some, None, refl, subst, arith, inl, inr}
-use Rattle.std.specs.Prelude.{All, IfSome, ◌↔◌, nat_le, nat_lt, ◌&&◌, ◌||◌}
-use Rattle.std.proofs.lemmas.Bool.{cases_lt, le-ltb, ltb-true, lt-ltb, leb-true, le-leb, eqb-true, eq-eqb}
-use Rattle.pg_wire.specs.declared.fault.FieldFault.TheVariants.{At}
-use Rattle.pg_wire.specs.declared.kind.ValueKind.{ValueKind}
-use Rattle.pg_wire.specs.declared.kind.ValueKind.TheVariants.{Dense, Sparse}
-use Rattle.pg_wire.specs.Spelling.{word, tagged}
-use Rattle.pg_wire.specs.Well.{IsFaultCode, IsComponents}
-use Rattle.pg_wire.specs.Measured.{Measured, spelled_as}
-use Rattle.pg_wire.specs.Mirrors.Ordered.{falling, in_any_order}
-use Rattle.pg_wire.specs.Mirrors.Reading.{is_code, code_at, byte_at}
+use Rattle.pg_wire.proofs.Common.{◌≡◌, ℕ, ◌+◌, ◌^◌, ◌<◌, ◌≤◌, ◌⊎◌, Bool, true, false, cond, List, ◌∷◌, [], length, ◌++◌, Option, Ok, Err}
+use Rattle.pg_wire.proofs.Common.{Some, None, refl, subst, arith, inl, inr, All, IfSome, ◌↔◌, nat_le, nat_lt, ◌&&◌, ◌||◌, cases_lt, le-ltb}
+use Rattle.pg_wire.proofs.Common.{ltb-true, lt-ltb, leb-true, le-leb, eqb-true, eq-eqb, At, ValueKind, Dense, Sparse, word, IsFaultCode}
+use Rattle.pg_wire.proofs.Common.{IsComponents, Measured, spelled_as, falling, in_any_order, is_code, code_at, byte_at}
+use Rattle.pg_wire.specs.Spelling.{tagged}
 use Rattle.pg_wire.specs.Mirrors.Formats as formats
 use Rattle.pg_wire.proofs.Grammar.{IsForm, IsKind, Begins, bind_ok, test_ok, and_both, then_is, seen_is, said_is, within_is, number_is, odd_is, byte_is}
 use Rattle.pg_wire.proofs.Grammar.{version_is, tagged_is, so_many_is, listed_is, rising_is}

@@ -1,16 +1,9 @@
 -- A frame of measures that is being written.
-use Rattle.std.proofs.Common.{◌≡◌, ℕ, ◌+◌, ◌-◌, ◌<◌, ◌≤◌, min, List, [], ◌∷◌, ◌++◌, length, take, drop, None, refl, sym, ap, ◌∙◌, append_assoc, arith}
-use Rattle.std.specs.List.{flat_map}
-use Rattle.std.proofs.lemmas.List.{length-append, length-map, take_at, drop_at}
-use Rattle.std.proofs.lemmas.List.Folds.{flat_map-map}
+use Rattle.pg_wire.proofs.Common.{◌≡◌, ℕ, ◌+◌, ◌-◌, ◌<◌, ◌≤◌, min, List, [], ◌∷◌, ◌++◌, length, take, drop, None, refl, sym, ap, ◌∙◌}
+use Rattle.pg_wire.proofs.Common.{append_assoc, arith, flat_map, length-append, length-map, take_at, drop_at, flat_map-map, ValueKind}
+use Rattle.pg_wire.proofs.Common.{Dense, Sparse, ValuesWriter, word, value, sparse_value, body, spelling, longest, HasBytes, Measured}
+use Rattle.pg_wire.proofs.Common.{dense_value, sparse_form, spelled_as, kind_number, frame_of, IsWriting}
 use borrow.Rule.Slice.PartMut.{post_of}
-use Rattle.pg_wire.specs.declared.kind.ValueKind.{ValueKind}
-use Rattle.pg_wire.specs.declared.kind.ValueKind.TheVariants.{Dense, Sparse}
-use Rattle.pg_wire.specs.declared.writer.ValuesWriter.{ValuesWriter}
-use Rattle.pg_wire.specs.Spelling.{word, value, sparse_value, body, spelling, longest}
-use Rattle.pg_wire.specs.Mirrors.Reading.{HasBytes}
-use Rattle.pg_wire.specs.Measured.{Measured, dense_value, sparse_form, spelled_as, kind_number, frame_of}
-use Rattle.pg_wire.specs.Written.{IsWriting}
 use Rattle.pg_wire.proofs.Append.{few, spelled_behind}
 
 -- what is spelled behind the width and the count

@@ -1,23 +1,14 @@
 -- What a format reads is spelled so and fits, and what fits and is spelled so is read.
-use Rattle.std.proofs.Common.{◌≡◌, ℕ, zero, suc, ◌+◌, ◌%◌, ◌^◌, ◌<◌, ◌≤◌, Bool, true, false, cond, ltb, List, [], ◌∷◌, ◌++◌, length, get_or}
-use Rattle.std.proofs.Common.{take, drop, Option, Some, None, Result, Ok, Err, refl, sym, ap, subst, ◌∙◌, append_assoc, arith, inl, inr}
-use Rattle.std.specs.Prelude.{IfSome, nat_le, nat_lt, ◌&&◌, ◌==◌, ⊤}
-use Rattle.std.specs.List.{flat_map}
-use Rattle.std.specs.Int.{w32, from_be_bytes}
-use Rattle.std.proofs.lemmas.Bool.{cases_lt, ltb-false, le-ltb, ltb-true, lt-ltb, leb-true, le-leb, eqb-true, eq-eqb}
-use Rattle.std.proofs.lemmas.List.{take_at, drop_at, take-append-drop, length-append, length-take, get_or-drop, get_or-take, get_or_past}
-use Rattle.std.proofs.lemmas.List.Concat.{flat_map-cons}
-use Rattle.std.proofs.lemmas.Nat.{be_bytes_4, from_be_bytes-to_be_bytes_4}
-use Rattle.pg_wire.specs.declared.fault.FieldFault.{FieldFault}
-use Rattle.pg_wire.specs.declared.fault.FieldFault.TheVariants.{At, Version}
-use Rattle.pg_wire.specs.Spelling.{word}
+use Rattle.pg_wire.proofs.Common.{◌≡◌, ℕ, zero, suc, ◌+◌, ◌%◌, ◌^◌, ◌<◌, ◌≤◌, Bool, true, false, cond, ltb, List, [], ◌∷◌, ◌++◌, length}
+use Rattle.pg_wire.proofs.Common.{get_or, take, drop, Option, Some, None, Result, Ok, Err, refl, sym, ap, subst, ◌∙◌, append_assoc, arith}
+use Rattle.pg_wire.proofs.Common.{inl, inr, IfSome, nat_le, nat_lt, ◌&&◌, ◌==◌, ⊤, flat_map, w32, from_be_bytes, cases_lt, ltb-false}
+use Rattle.pg_wire.proofs.Common.{le-ltb, ltb-true, lt-ltb, leb-true, le-leb, eqb-true, eq-eqb, take_at, drop_at, take-append-drop}
+use Rattle.pg_wire.proofs.Common.{length-append, length-take, get_or-drop, get_or-take, get_or_past, flat_map-cons, be_bytes_4}
+use Rattle.pg_wire.proofs.Common.{from_be_bytes-to_be_bytes_4, FieldFault, At, Version, word, IsWord, Steps, ◌>>=◌, made, number_at}
+use Rattle.pg_wire.proofs.Common.{within_at, odd_at, byte_at, version_at, items_at, tagged_at, counted_at, Format, Kind, and_then, seen}
+use Rattle.pg_wire.proofs.Common.{said, within, number, odd, byte, version, nothing, tagged, placed, so_many, listed, rising}
 use Rattle.pg_wire.specs.Spelling as spelling
-use Rattle.pg_wire.specs.Well.{IsWord}
-use Rattle.pg_wire.specs.Mirrors.Ordered.{Steps}
 use Rattle.pg_wire.specs.Mirrors.Ordered as order
-use Rattle.pg_wire.specs.Mirrors.Reading.{◌>>=◌, made, number_at, within_at, odd_at, byte_at, version_at, items_at, tagged_at, counted_at}
-use Rattle.pg_wire.specs.Mirrors.Formats.{Format, Kind, and_then, seen, said, within, number, odd, byte, version, nothing, tagged, placed, so_many}
-use Rattle.pg_wire.specs.Mirrors.Formats.{listed, rising}
 use Rattle.pg_wire.proofs.Orders.{Follow, ordered, follow}
 
 abbrev pub IsBytes : List ℕ → Type 0

@@ -1,12 +1,7 @@
 -- The measures that are left, one after the other.
-use Rattle.std.proofs.Common.{◌≡◌, ℕ, suc, ◌^◌, ◌<◌, Bool, true, false, cond, List, [], ◌∷◌, Option, Some, None, Ok, Err, Bor, refl, sym, ap, subst, ◌∙◌, arith}
-use Rattle.std.specs.List.{flat_map}
-use Rattle.std.proofs.lemmas.List.Concat.{flat_map-cons}
-use Rattle.pg_wire.specs.declared.reader.ValuesReader.{ValuesReader}
-use Rattle.pg_wire.specs.declared.fault.FieldFault.{FieldFault}
-use Rattle.pg_wire.specs.Measured.{Measured, spelled_as}
-use Rattle.pg_wire.specs.Mirrors.Formats.{measured}
-use Rattle.pg_wire.specs.Left.{IsLeft, IsNext, row_of, is_top}
+use Rattle.pg_wire.proofs.Common.{◌≡◌, ℕ, suc, ◌^◌, ◌<◌, Bool, true, false, cond, List, [], ◌∷◌, Option, Some, None, Ok, Err, Bor, refl}
+use Rattle.pg_wire.proofs.Common.{sym, ap, subst, ◌∙◌, arith, flat_map, flat_map-cons, ValuesReader, FieldFault, Measured, spelled_as}
+use Rattle.pg_wire.proofs.Common.{measured, IsLeft, IsNext, row_of, is_top}
 use Rattle.pg_wire.proofs.Grammar.{ok_is}
 use Rattle.pg_wire.proofs.FrameFormats.{measures_is}
 

@@ -1,15 +1,8 @@
 -- The bytes after a length that counts them all, and the frames that they give.
-use Rattle.std.proofs.Common.{◌≡◌, ℕ, ◌-◌, ◌<◌, ◌≤◌, List, [], ◌∷◌, ◌++◌, length, take, drop, get_or, refl, sym, ap, subst, ◌∙◌, arith}
-use Rattle.std.specs.Int.{w32, from_be_bytes}
-use Rattle.std.proofs.lemmas.List.{take_all, length-append}
-use Rattle.std.proofs.lemmas.Nat.{be_bytes_4}
-use Rattle.pg_wire.specs.declared.frame.Frame.{Frame}
+use Rattle.pg_wire.proofs.Common.{◌≡◌, ℕ, ◌-◌, ◌<◌, ◌≤◌, List, [], ◌∷◌, ◌++◌, length, take, drop, get_or, refl, sym, ap, subst, ◌∙◌, arith}
+use Rattle.pg_wire.proofs.Common.{w32, from_be_bytes, take_all, length-append, be_bytes_4, Frame, TellsMeasures, word, body, longest}
+use Rattle.pg_wire.proofs.Common.{IsWell, Spells, IsCounted}
 use Rattle.pg_wire.specs.declared.frame.Frame.TheVariants as frames
-use Rattle.pg_wire.specs.Measured.{TellsMeasures}
-use Rattle.pg_wire.specs.Spelling.{word, body, longest}
-use Rattle.pg_wire.specs.Well.{IsWell}
-use Rattle.pg_wire.specs.Bytes.{Spells}
-use Rattle.pg_wire.specs.Mirrors.Lengths.{IsCounted}
 use Rattle.pg_wire.proofs.Grammar.{IsBytes, IsBytes-take}
 use Rattle.pg_wire.proofs.Bodies.{spelling_split}
 

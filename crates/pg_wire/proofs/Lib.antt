@@ -16,3 +16,4 @@ pub mod Left
 pub mod Lines
 pub mod LinesWriting
 pub mod Lengths
+mod Common

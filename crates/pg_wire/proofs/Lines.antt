@@ -1,19 +1,7 @@
 -- The lines of a frame of vertices, one after the other.
-use Rattle.std.proofs.Common.{◌≡◌, ℕ, suc, ◌/◌, ◌<◌, List, [], ◌∷◌, ◌++◌, length, Some, None, Ok, Err}
-use Rattle.std.proofs.Common.{Bor, refl, sym, ap, ◌∙◌, arith}
-use Rattle.std.specs.List.{flat_map}
-use Rattle.std.proofs.lemmas.List.{length-append}
-use Rattle.std.proofs.lemmas.List.Concat.{flat_map-cons}
-use Rattle.pg_wire.specs.declared.fault.FieldFault.{FieldFault}
-use Rattle.pg_wire.specs.declared.frame.LineHead.{LineHead}
-use Rattle.pg_wire.specs.declared.frame.VertexLine.{VertexLine}
-use Rattle.pg_wire.specs.declared.lines_reader.VerticesReader.{VerticesReader}
-use Rattle.pg_wire.specs.Spelling.{word, line}
-use Rattle.pg_wire.specs.Lines.{head_of}
-use Rattle.pg_wire.specs.LinesLeft.{AreLeft, IsNextLine}
-use Rattle.pg_wire.specs.Mirrors.Reading.{within_at}
-use Rattle.pg_wire.specs.Mirrors.Formats.{all_components}
-use Rattle.pg_wire.specs.Mirrors.Streaming.{Counted, line_head, counted_as}
+use Rattle.pg_wire.proofs.Common.{◌≡◌, ℕ, suc, ◌/◌, ◌<◌, List, [], ◌∷◌, ◌++◌, length, Some, None, Ok, Err, Bor, refl, sym, ap, ◌∙◌, arith}
+use Rattle.pg_wire.proofs.Common.{flat_map, length-append, flat_map-cons, FieldFault, LineHead, VertexLine, VerticesReader, word, line}
+use Rattle.pg_wire.proofs.Common.{head_of, AreLeft, IsNextLine, within_at, all_components, Counted, line_head, counted_as}
 use Rattle.pg_wire.proofs.Grammar.{IsForm, ok_is, then_is, within_is, number_is, byte_is}
 use Rattle.pg_wire.proofs.FrameFormats.{all_components_is}
 use Rattle.pg_wire.proofs.Orders.{pairs_tail}

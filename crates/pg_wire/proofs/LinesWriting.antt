@@ -1,12 +1,6 @@
 -- A frame of vertices that is being written.
-use Rattle.std.proofs.Common.{◌≡◌, ℕ, ◌+◌, ◌*◌, ◌-◌, ◌<◌, ◌≤◌, min, List, [], ◌∷◌, ◌++◌, length, sym, ap, ◌∙◌, append_assoc, arith}
-use Rattle.std.specs.List.{flat_map}
-use Rattle.std.proofs.lemmas.List.{length-append}
-use Rattle.pg_wire.specs.declared.frame.VertexLine.{VertexLine}
-use Rattle.pg_wire.specs.declared.lines_writer.VerticesWriter.{VerticesWriter}
-use Rattle.pg_wire.specs.Spelling.{line, body, longest}
-use Rattle.pg_wire.specs.Lines.{frame_with}
-use Rattle.pg_wire.specs.LinesWritten.{AreWriting}
+use Rattle.pg_wire.proofs.Common.{◌≡◌, ℕ, ◌+◌, ◌*◌, ◌-◌, ◌<◌, ◌≤◌, min, List, [], ◌∷◌, ◌++◌, length, sym, ap, ◌∙◌, append_assoc, arith}
+use Rattle.pg_wire.proofs.Common.{flat_map, length-append, VertexLine, VerticesWriter, line, body, longest, frame_with, AreWriting}
 use Rattle.pg_wire.proofs.Append.{few, spelled_behind}
 use Rattle.pg_wire.proofs.Nonzero.{words_size}
 

@@ -1,13 +1,8 @@
 -- A loop that reads items.
-use Rattle.std.proofs.Common.{◌≡◌, ℕ, suc, ◌+◌, ◌-◌, ◌<◌, ◌≤◌, List, [], ◌∷◌, ◌++◌, Result, Ok, Err, refl, sym, ap, ◌∙◌, append_assoc, arith}
-use Rattle.std.proofs.Common.{min, ◌*◌, ◌/◌}
-use Rattle.std.proofs.Math.Nat.{le-div_iff_mul-le, mul-div-le, mul-suc, mul_comm, mul-le-mul_left}
-use Rattle.std.proofs.lemmas.List.{append-nil}
-use Rattle.pg_wire.specs.declared.fault.FieldFault.{FieldFault}
-use Rattle.pg_wire.specs.declared.fault.ReadFault.{ReadFault}
+use Rattle.pg_wire.proofs.Common.{◌≡◌, ℕ, suc, ◌+◌, ◌-◌, ◌<◌, ◌≤◌, List, [], ◌∷◌, ◌++◌, Result, Ok, Err, refl, sym, ap, ◌∙◌, append_assoc}
+use Rattle.pg_wire.proofs.Common.{arith, min, ◌*◌, ◌/◌, le-div_iff_mul-le, mul-div-le, mul-suc, mul_comm, mul-le-mul_left, append-nil}
+use Rattle.pg_wire.proofs.Common.{FieldFault, ReadFault, ◌>>=◌, Fails, items_at, Kind, so_many}
 use Rattle.pg_wire.specs.declared.fault.ReadFault.TheVariants as faults
-use Rattle.pg_wire.specs.Mirrors.Reading.{◌>>=◌, Fails, items_at}
-use Rattle.pg_wire.specs.Mirrors.Formats.{Kind, so_many}
 
 abbrev pub with_front : {A : Type 0} → List A → Result (List A × List ℕ) FieldFault → Result (List A × List ℕ) FieldFault
 with_front front read = read >>= λ x. Ok (front ++ x.0, x.1)

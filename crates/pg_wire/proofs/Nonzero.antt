@@ -1,12 +1,7 @@
 -- The components that aren't 0, and how many bytes measures take.
-use Rattle.std.proofs.Common.{◌≡◌, ◌≢◌, ℕ, suc, ◌+◌, ◌*◌, ◌<◌, List, [], ◌∷◌, ◌++◌, length, get_or, take, refl, ap, ◌∙◌, arith, inl, inr}
-use Rattle.std.specs.Prelude.{◌==◌}
-use Rattle.std.specs.List.{flat_map}
-use Rattle.std.proofs.lemmas.Bool.{cases_Bool, eqb-true}
-use Rattle.std.proofs.lemmas.List.{append-nil, take_more, length-append, length-take-le}
-use Rattle.std.proofs.lemmas.List.Concat.{flat_map-cons}
-use Rattle.pg_wire.specs.Spelling.{word, pair}
-use Rattle.pg_wire.specs.Measured.{nonzero_from, nonzero}
+use Rattle.pg_wire.proofs.Common.{◌≡◌, ◌≢◌, ℕ, suc, ◌+◌, ◌*◌, ◌<◌, List, [], ◌∷◌, ◌++◌, length, get_or, take, refl, ap, ◌∙◌, arith, inl}
+use Rattle.pg_wire.proofs.Common.{inr, ◌==◌, flat_map, cases_Bool, eqb-true, append-nil, take_more, length-append, length-take-le}
+use Rattle.pg_wire.proofs.Common.{flat_map-cons, word, pair, nonzero_from, nonzero}
 use Rattle.pg_wire.proofs.Append.{spelled_behind}
 
 pub nonzero-append : (at : ℕ) (xs ys : List ℕ) → nonzero_from at (xs ++ ys) ≡ nonzero_from at xs ++ nonzero_from (at + length xs) ys

@@ -1,13 +1,6 @@
 -- Items that follow each other from place to place are in order, and back.
-use Rattle.std.proofs.Common.{◌≡◌, ℕ, suc, ◌+◌, ◌<◌, ◌≤◌, List, [], ◌∷◌, length, get_or, drop, sym, ap, subst, ◌∙◌, arith}
-use Rattle.std.proofs.Math.ListN.{drop_of_length-le}
-use Rattle.std.specs.Prelude.{All}
-use Rattle.std.specs.List.{AllPairs}
-use Rattle.std.proofs.lemmas.List.{drop_more}
-use Rattle.std.proofs.lemmas.List.Elements.{All-cons}
-use Rattle.std.proofs.lemmas.List.Kept.{AllPairs-cons}
-use Rattle.pg_wire.specs.Mirrors.Ordered.{Steps}
-use Rattle.pg_wire.specs.Mirrors.Formats.{Kind, AreItems}
+use Rattle.pg_wire.proofs.Common.{◌≡◌, ℕ, suc, ◌+◌, ◌<◌, ◌≤◌, List, [], ◌∷◌, length, get_or, drop, sym, ap, subst, ◌∙◌, arith}
+use Rattle.pg_wire.proofs.Common.{drop_of_length-le, All, AllPairs, drop_more, All-cons, AllPairs-cons, Steps, Kind, AreItems}
 
 -- each item fits at the place that the one before it sets
 abbrev pub Follow : {A : Type 0} → Kind A → ℕ → List A → Type 0

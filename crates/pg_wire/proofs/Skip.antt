@@ -1,23 +1,11 @@
 -- What is passed over is read.
-use Rattle.std.proofs.Common.{◌≡◌, ℕ, suc, ◌+◌, ◌-◌, ◌^◌, ◌<◌, ◌≤◌, List, [], ◌∷◌, ◌++◌, drop, get_or, length}
-use Rattle.std.proofs.Common.{Result, Ok, Err, refl, sym, ap, subst, ◌∙◌, arith}
-use Rattle.std.specs.List.{flat_map}
-use Rattle.std.proofs.lemmas.List.{append-nil}
-use Rattle.pg_wire.specs.declared.fault.FieldFault.{FieldFault}
-use Rattle.pg_wire.specs.declared.frame.VertexLine.{VertexLine}
-use Rattle.pg_wire.specs.declared.frame.Vertices.{Vertices}
-use Rattle.pg_wire.specs.declared.frame.Frame.{Frame}
+use Rattle.pg_wire.proofs.Common.{◌≡◌, ℕ, suc, ◌+◌, ◌-◌, ◌^◌, ◌<◌, ◌≤◌, List, [], ◌∷◌, ◌++◌, drop, get_or, length, Result, Ok, Err, refl}
+use Rattle.pg_wire.proofs.Common.{sym, ap, subst, ◌∙◌, arith, flat_map, append-nil, FieldFault, VertexLine, Vertices, Frame, ValueKind}
+use Rattle.pg_wire.proofs.Common.{word, line, body, IsWell, frame_with, filled, spelled_as, kind_number, ◌>>=◌, Reader, made, skipped}
+use Rattle.pg_wire.proofs.Common.{items_at, within_at, Format, Kind, so_many, listed, lines, values, places, values_fields, sparse_fields}
+use Rattle.pg_wire.proofs.Common.{vertices_fields, measures_skipped, AreLines, AreFields}
 use Rattle.pg_wire.specs.declared.frame.Frame.TheVariants as frames
-use Rattle.pg_wire.specs.declared.kind.ValueKind.{ValueKind}
 use Rattle.pg_wire.specs.declared.kind.ValueKind.TheVariants as kinds
-use Rattle.pg_wire.specs.Spelling.{word, line, body}
-use Rattle.pg_wire.specs.Well.{IsWell}
-use Rattle.pg_wire.specs.Lines.{frame_with}
-use Rattle.pg_wire.specs.Measured.{filled, spelled_as, kind_number}
-use Rattle.pg_wire.specs.Mirrors.Reading.{◌>>=◌, Reader, made, skipped, items_at, within_at}
-use Rattle.pg_wire.specs.Mirrors.Formats.{Format, Kind, so_many, listed, lines, values, places}
-use Rattle.pg_wire.specs.Mirrors.Formats.{values_fields, sparse_fields, vertices_fields}
-use Rattle.pg_wire.specs.Mirrors.Streaming.{measures_skipped, AreLines, AreFields}
 use Rattle.pg_wire.proofs.Grammar.{IsForm, IsBytes, bind_ok, ok_is, within_is}
 use Rattle.pg_wire.proofs.FrameFormats.{vertices_is, values_fields_is, sparse_fields_is}
 use Rattle.pg_wire.proofs.Tells.{IsOf, well_of, measures_of, body_is}

@@ -1,21 +1,10 @@
 -- Each frame of measures is of one list of measures.
-use Rattle.std.proofs.Common.{◌≡◌, ℕ, suc, ◌<◌, ◌≤◌, List, [], ◌∷◌, ◌++◌, map, get_or, Option, Some, None, refl, sym, ap, ◌∙◌, arith}
-use Rattle.std.specs.Prelude.{All, IfSome, option_map}
-use Rattle.std.specs.List.{AllPairs}
-use Rattle.std.proofs.lemmas.List.{length-map}
-use Rattle.std.proofs.lemmas.List.Elements.{All-map}
-use Rattle.std.proofs.lemmas.List.Folds.{flat_map-map}
-use Rattle.std.proofs.lemmas.List.Kept.{AllPairs-cons}
-use Rattle.pg_wire.specs.declared.frame.Value.{Value}
-use Rattle.pg_wire.specs.declared.frame.SparseValue.{SparseValue}
-use Rattle.pg_wire.specs.declared.frame.Frame.{Frame}
+use Rattle.pg_wire.proofs.Common.{◌≡◌, ℕ, suc, ◌<◌, ◌≤◌, List, [], ◌∷◌, ◌++◌, map, get_or, Option, Some, None, refl, sym, ap, ◌∙◌, arith}
+use Rattle.pg_wire.proofs.Common.{All, IfSome, option_map, AllPairs, length-map, All-map, flat_map-map, AllPairs-cons, Value, SparseValue}
+use Rattle.pg_wire.proofs.Common.{Frame, ValueKind, Dense, Sparse, word, counted, value, sparse_value, body, IsCountable, IsComponents}
+use Rattle.pg_wire.proofs.Common.{IsValue, ArePlaces, IsSparseValue, IsWell, Measured, IsMeasured, nonzero, filled, dense_value}
+use Rattle.pg_wire.proofs.Common.{sparse_form, told_values, told_sparse, spelled_as, kind_number, frame_of, TellsMeasures}
 use Rattle.pg_wire.specs.declared.frame.Frame.TheVariants as frames
-use Rattle.pg_wire.specs.declared.kind.ValueKind.{ValueKind}
-use Rattle.pg_wire.specs.declared.kind.ValueKind.TheVariants.{Dense, Sparse}
-use Rattle.pg_wire.specs.Spelling.{word, counted, value, sparse_value, body}
-use Rattle.pg_wire.specs.Well.{IsCountable, IsComponents, IsValue, ArePlaces, IsSparseValue, IsWell}
-use Rattle.pg_wire.specs.Measured.{Measured, IsMeasured, nonzero, filled, dense_value, sparse_form, told_values, told_sparse, spelled_as}
-use Rattle.pg_wire.specs.Measured.{kind_number, frame_of, TellsMeasures}
 use Rattle.pg_wire.proofs.Orders.{pairs_head, pairs_tail}
 use Rattle.pg_wire.proofs.Filling.{nonzero_filled, filled_nonzero, places_nonzero, components_filled}
 

@@ -1,9 +1,6 @@
 -- Which odd priorities have a bound.
-use Rattle.std.proofs.Common.{◌≡◌, ℕ, ◌+◌, ◌<◌, ◌≤◌, length, get_or, subst, arith, ◌⊎◌, inl, inr}
-use Rattle.std.specs.Prelude.{AllPairs}
-use Rattle.std.proofs.lemmas.Bool.{cases_lt}
-use Rattle.pg_measure.specs.Measures.{BoundList, width_from}
-use Rattle.pg_measure.proofs.Widths.{width_is}
+use Rattle.pg_worker.proofs.Common.{◌≡◌, ℕ, ◌+◌, ◌<◌, ◌≤◌, length, get_or, subst, arith, ◌⊎◌, inl, inr, AllPairs, cases_lt, BoundList}
+use Rattle.pg_worker.proofs.Common.{width_from, width_is}
 
 before : (bs : BoundList) (p i k : ℕ) (d : ℕ × ℕ) → AllPairs (λ b c. c.0 < b.0) bs → i < length bs → ((d : ℕ × ℕ) → (get_or bs i d).0 ≡ p)
     → k < i + 1 → (k < i) ⊎ (i ≤ k) → p ≤ (get_or bs k d).0

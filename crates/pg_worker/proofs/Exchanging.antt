@@ -1,24 +1,11 @@
 -- Frames that are read and answered one after the other.
-use Rattle.std.proofs.Common.{◌≡◌, ◌≢◌, ℕ, ◌<◌, ◌⊎◌, List, length, [], ◌∷◌, ◌++◌, Option, refl, sym, ap, ◌∙◌, subst, append_assoc, inl, inr}
-use Rattle.std.specs.Prelude.{All}
-use Rattle.std.specs.List.{flat_map}
-use Rattle.std.specs.Io.KnownBytes.{Consumes, Appends}
-use Rattle.std.proofs.lemmas.List.{append-nil}
-use Rattle.std.proofs.lemmas.List.Concat.{flat_map-cons}
-use Rattle.std.proofs.lemmas.List.Elements.{All-push}
-use Rattle.std.proofs.lemmas.Grind.{flat_map-append}
+use Rattle.pg_worker.proofs.Common.{◌≡◌, ◌≢◌, ℕ, ◌<◌, ◌⊎◌, List, length, [], ◌∷◌, ◌++◌, Option, refl, sym, ap, ◌∙◌, subst, append_assoc}
+use Rattle.pg_worker.proofs.Common.{inl, inr, All, flat_map, Consumes, Appends, append-nil, flat_map-cons, All-push, flat_map-append, Frame}
+use Rattle.pg_worker.proofs.Common.{spelling, Spells, then, consumes_then, got, refused_known, WorkerFault, OutOfMemory, Wire, SessionValue}
+use Rattle.pg_worker.proofs.Common.{Turn, RefusesBytes, Replies, Exchanges, IsFaultAt, Breaks, report_bytes, Answers}
 use Rattle.pg_wire.specs.declared.fault.WireFault.TheVariants as wire
-use Rattle.pg_wire.specs.declared.frame.Frame.{Frame}
 use Rattle.pg_wire.specs.declared.frame.Frame.TheVariants as frames
-use Rattle.pg_wire.specs.Spelling.{spelling}
-use Rattle.pg_wire.specs.Bytes.{Spells, IsWhole}
-use Rattle.pg_wire.proofs.Append.{then}
-use Rattle.pg_wire.proofs.Consumed.{consumes_then, got, refused_known}
-use Rattle.pg_worker.specs.declared.fault.WorkerFault.{WorkerFault}
-use Rattle.pg_worker.specs.declared.fault.WorkerFault.TheVariants.{OutOfMemory, Wire}
-use Rattle.pg_worker.specs.Turns.{SessionValue, Turn, RefusesBytes}
-use Rattle.pg_worker.specs.Serving.{Replies, Exchanges, IsFaultAt, Breaks, report_bytes}
-use Rattle.pg_worker.specs.Mirrors.Steps.{Answers}
+use Rattle.pg_wire.specs.Bytes.{IsWhole}
 
 replies_more : (a : Option SessionValue) (fs : List Frame) (b : Option SessionValue) (bytes : List ℕ) (f : Frame)
     (c : Option SessionValue) (reply : List ℕ)

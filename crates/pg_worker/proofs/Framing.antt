@@ -1,14 +1,6 @@
 -- Bytes that are frames, one after the other.
-use Rattle.std.proofs.Common.{ℕ, List, [], ◌∷◌, ◌++◌, refl, sym, ap, ◌∙◌, arith}
-use Rattle.std.specs.List.{flat_map}
-use Rattle.std.proofs.lemmas.List.{append-nil}
-use Rattle.std.proofs.lemmas.List.Concat.{flat_map-cons}
-use Rattle.std.proofs.lemmas.List.Elements.{All-append, All-cons}
-use Rattle.std.proofs.lemmas.Grind.{flat_map-append}
-use Rattle.pg_wire.specs.declared.frame.Frame.{Frame}
-use Rattle.pg_wire.specs.Spelling.{spelling}
-use Rattle.pg_wire.specs.Bytes.{Spells}
-use Rattle.pg_worker.specs.Above.{AreFrames}
+use Rattle.pg_worker.proofs.Common.{ℕ, List, [], ◌∷◌, ◌++◌, refl, sym, ap, ◌∙◌, arith, flat_map, append-nil, flat_map-cons, All-append}
+use Rattle.pg_worker.proofs.Common.{All-cons, flat_map-append, Frame, spelling, Spells, AreFrames}
 
 abbrev pub Whole : (Frame → Type 0) → Frame → Type 0
 Whole P f = Spells f (spelling f) × P f

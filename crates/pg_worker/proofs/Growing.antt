@@ -1,23 +1,10 @@
 -- Lines that are read from a frame and added to a part, and the turns that they make.
-use Rattle.std.proofs.Common.{◌≡◌, ◌∙◌, ℕ, zero, suc, ◌<◌, ◌++◌, ◌⊎◌, List, [], ◌∷◌, Option, Some, None, length, set, refl, sym, ap, subst}
-use Rattle.std.proofs.Common.{append_assoc, inl, inr, arith}
-use Rattle.std.specs.Prelude.{All, AllPairs, IsSome}
-use Rattle.std.proofs.lemmas.Bool.{cases_eq}
-use Rattle.std.proofs.lemmas.List.{get_or-set_other}
-use Rattle.std.proofs.lemmas.List.Elements.{All-cons, All-append, All-push}
-use Rattle.pg_wire.specs.declared.frame.LineHead.{LineHead}
-use Rattle.pg_wire.specs.declared.frame.VertexLine.{VertexLine}
-use Rattle.pg_wire.specs.declared.lines_reader.VerticesReader.{VerticesReader}
-use Rattle.pg_wire.specs.Well.{IsVertexLine}
-use Rattle.pg_wire.specs.Lines.{head_of, line_with}
-use Rattle.pg_wire.specs.LinesLeft.{AreLeft, IsNextLine}
-use Rattle.pg_map.specs.Lines.{Line}
-use Rattle.pg_worker.specs.declared.fault.WorkerFault.{WorkerFault}
-use Rattle.pg_worker.specs.declared.fault.WorkerFault.TheVariants.{OutOfMemory, NotMine, BadUpdate, Order, Wire}
-use Rattle.pg_parts.specs.Frames.{told_line}
-use Rattle.pg_worker.specs.Workers.{WorkerValue, part_line, with_lines, AreAbove, FitsGame, RefusesLines}
+use Rattle.pg_worker.proofs.Common.{◌≡◌, ◌∙◌, ℕ, zero, suc, ◌<◌, ◌++◌, ◌⊎◌, List, [], ◌∷◌, Option, Some, None, length, set, refl, sym, ap}
+use Rattle.pg_worker.proofs.Common.{subst, append_assoc, inl, inr, arith, All, AllPairs, IsSome, cases_eq, get_or-set_other, All-cons}
+use Rattle.pg_worker.proofs.Common.{All-append, All-push, LineHead, VertexLine, VerticesReader, IsVertexLine, head_of, line_with, AreLeft}
+use Rattle.pg_worker.proofs.Common.{IsNextLine, Line, WorkerFault, OutOfMemory, NotMine, BadUpdate, Order, Wire, told_line, WorkerValue}
+use Rattle.pg_worker.proofs.Common.{part_line, with_lines, AreAbove, FitsGame, RefusesLines, some_is}
 use Rattle.pg_worker.proofs.Working.{with_lines_more}
-use Rattle.pg_parts.proofs.Reading.{some_is}
 use Rattle.pg_worker.proofs.Taking.{all_mid}
 
 -- the worker with these lines too

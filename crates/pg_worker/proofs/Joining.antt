@@ -1,10 +1,6 @@
 -- Measures that a worker joins to its map one after the other.
-use Rattle.std.proofs.Common.{◌≡◌, ℕ, Bool, List, [], ◌∷◌, ◌++◌, refl, ap, ◌∙◌, arith}
-use Rattle.pg_measure.specs.Measures.{MeasureValue}
-use Rattle.pg_wire.specs.Measured.{Measured}
-use Rattle.pg_worker.specs.Workers.{WorkerValue, CanTake, Takes}
-use Rattle.pg_parts.proofs.Joining.{joins_none, joins_more}
-use Rattle.pg_worker.specs.Mirrors.Joins.{JoinsAll}
+use Rattle.pg_worker.proofs.Common.{◌≡◌, ℕ, Bool, List, [], ◌∷◌, ◌++◌, refl, ap, ◌∙◌, arith, MeasureValue, Measured, WorkerValue, CanTake}
+use Rattle.pg_worker.proofs.Common.{Takes, joins_none, joins_more, JoinsAll}
 
 same_worker : (w w' : WorkerValue) → w'.bounds ≡ w.bounds → w'.lines ≡ w.lines → w'.kept ≡ w.kept → w'.lifted ≡ w.lifted → w' ≡ record w { map = w'.map }
 same_worker w w' a b c d = rw (← a, ← b, ← c, ← d) refl

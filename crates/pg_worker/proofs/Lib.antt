@@ -14,3 +14,4 @@ pub mod Bounded
 pub mod Framing
 pub mod Replies
 pub mod Sessions
+mod Common

@@ -1,12 +1,7 @@
 -- The vertices that a turn lifted.
-use Rattle.std.proofs.Common.{◌≡◌, ℕ, ◌<◌, List, [], ◌∷◌, length, get_or, Bool, true, false, cond, Option, refl, subst, arith}
-use Rattle.std.specs.Prelude.{All, IsSome}
-use Rattle.std.proofs.lemmas.List.Elements.{All-cons}
-use mir.Val.{bool_byte}
-use Rattle.pg_measure.specs.Measures.{BoundList, MeasureValue}
-use Rattle.pg_map.specs.Lines.{Line}
-use Rattle.pg_map.specs.declared.update.Update.{Update}
-use Rattle.pg_worker.specs.Workers.{WorkerValue, part_line, IsWorker, AreLifts, IsListedTurn}
+use Rattle.pg_worker.proofs.Common.{◌≡◌, ℕ, ◌<◌, List, [], ◌∷◌, length, get_or, Bool, true, false, cond, Option, refl, subst, arith, All}
+use Rattle.pg_worker.proofs.Common.{IsSome, All-cons, bool_byte, BoundList, MeasureValue, Line, Update, WorkerValue, part_line, IsWorker}
+use Rattle.pg_worker.proofs.Common.{AreLifts, IsListedTurn}
 
 all_mine : (bounds : BoundList) (lines : ℕ → Option Line) (f : List MeasureValue) (us : List Update) (g : List MeasureValue)
     → AreLifts bounds lines f us g → All (λ u. IsSome (lines u.vertex)) us

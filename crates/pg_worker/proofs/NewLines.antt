@@ -1,10 +1,6 @@
 -- Lines, when one more is there.
-use Rattle.std.proofs.Common.{◌≡◌, ◌≢◌, ℕ, zero, suc, ◌+◌, ◌<◌, ◌≤◌, length, refl, ap, subst, ◌∙◌, arith, inl, inr, None}
-use Rattle.std.specs.Prelude.{Option, Some, IsSome, unwrap_or}
-use Rattle.std.proofs.lemmas.Bool.{cases_eq}
-use Rattle.pg_arena.specs.Games.{nowhere}
-use Rattle.pg_map.specs.Lines.{Line, line_at, vertex_line}
-use Rattle.pg_lift.specs.Mirrors.Predecessors.{edges_of}
+use Rattle.pg_worker.proofs.Common.{◌≡◌, ◌≢◌, ℕ, zero, suc, ◌+◌, ◌<◌, ◌≤◌, length, refl, ap, subst, ◌∙◌, arith, inl, inr, None, Option}
+use Rattle.pg_worker.proofs.Common.{Some, IsSome, unwrap_or, cases_eq, nowhere, Line, line_at, vertex_line, edges_of}
 
 -- lines that differ at v alone
 pub record IsNewLine (lines lines' : ℕ → Option Line) (v : ℕ) (l : Line) : Type 0 where

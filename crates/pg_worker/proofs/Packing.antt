@@ -1,25 +1,10 @@
 -- Frames of measures, as full as can be.
-use Rattle.std.proofs.Common.{◌≡◌, ℕ, zero, suc, ◌+◌, ◌<◌, ◌≤◌, List, [], ◌∷◌, ◌++◌, length, take, drop, get_or, Bool, true, false, Some}
-use Rattle.std.proofs.Common.{None, inl, inr, refl, sym, ap, ◌∙◌, subst, arith}
-use Rattle.std.specs.Prelude.{IfSome, ◌==◌}
-use Rattle.std.proofs.lemmas.Bool.{cases_Bool}
-use Rattle.std.specs.List.{flat_map}
-use Rattle.std.proofs.lemmas.List.{map-append, length-map, length-append, length-take-le, length-drop, take-append-drop, take-append-le}
-use Rattle.std.proofs.lemmas.List.{take_more, drop_more, get_or_default}
-use Rattle.std.proofs.lemmas.List.Concat.{flat_map-cons}
-use Rattle.pg_measure.specs.Measures.{MeasureValue}
-use Rattle.pg_map.specs.Maps.{measure_at}
-use Rattle.pg_wire.specs.declared.frame.Frame.{Frame}
-use Rattle.pg_wire.specs.declared.kind.ValueKind.{ValueKind}
-use Rattle.pg_wire.specs.declared.kind.ValueKind.TheVariants.{Dense, Sparse}
-use Rattle.pg_wire.specs.declared.writer.ValuesWriter.{ValuesWriter}
-use Rattle.pg_wire.specs.Spelling.{body, spelling, longest}
-use Rattle.pg_wire.specs.Written.{IsWriting, IsAdded}
-use Rattle.pg_wire.proofs.Nonzero.{words_size, pairs_size}
-use Rattle.pg_wire.proofs.Frames.{body_size}
-use Rattle.pg_wire.specs.Measured.{Measured, nonzero_from, nonzero, spelled_as, frame_of}
-use Rattle.pg_worker.specs.Turns.{frame_size, EndsFull, ArePacked, Packs}
-use Rattle.pg_worker.specs.Mirrors.Replies.{measures_of}
+use Rattle.pg_worker.proofs.Common.{◌≡◌, ℕ, zero, suc, ◌+◌, ◌<◌, ◌≤◌, List, [], ◌∷◌, ◌++◌, length, take, drop, get_or, Bool, true, false}
+use Rattle.pg_worker.proofs.Common.{Some, None, inl, inr, refl, sym, ap, ◌∙◌, subst, arith, IfSome, ◌==◌, cases_Bool, flat_map, map-append}
+use Rattle.pg_worker.proofs.Common.{length-map, length-append, length-take-le, length-drop, take-append-drop, take-append-le, take_more}
+use Rattle.pg_worker.proofs.Common.{drop_more, get_or_default, flat_map-cons, MeasureValue, measure_at, Frame, ValueKind, Dense, Sparse}
+use Rattle.pg_worker.proofs.Common.{ValuesWriter, body, spelling, longest, IsWriting, IsAdded, words_size, pairs_size, body_size, Measured}
+use Rattle.pg_worker.proofs.Common.{nonzero_from, nonzero, spelled_as, frame_of, frame_size, EndsFull, ArePacked, Packs, measures_of}
 
 pub one_measure_more : (f : List MeasureValue) (vs : List ℕ) (n v : ℕ) → n < length vs → v ≡ get_or vs n 0
     → measures_of f (take n vs) ++ (v, measure_at f v) ∷ [] ≡ measures_of f (take (n + 1) vs)

@@ -1,19 +1,11 @@
 -- Lines in flat lists, when one more is added.
-use Rattle.std.proofs.Common.{◌≡◌, ◌≢◌, ℕ, zero, suc, ◌+◌, ◌-◌, ◌<◌, ◌≤◌, List, ◌++◌, length, take, drop, get_or, set, refl, sym, ap, subst}
-use Rattle.std.proofs.Common.{◌∙◌, inl, inr, arith, cond}
-use Rattle.std.specs.Prelude.{replicate, Option, Some, None, IsSome, unwrap_or, nat_lt, IsTrue, ◌↔◌}
-use Rattle.std.proofs.lemmas.Bool.{cases_lt, cases_eq, lt-ltb, le-ltb, ltb-true}
-use Rattle.std.proofs.lemmas.List.Elements.{All-set}
-use Rattle.std.proofs.lemmas.List.FromFn.{length-map-range_with_len, get_or-map-range_with_len, fill_by_all}
-use Rattle.std.proofs.lemmas.List.{take-append-le, drop-append-le, take_all, length-drop, length-append, length-set, get_or_default}
-use Rattle.std.proofs.lemmas.List.{get_or_past, get_or-set_same, get_or-set_other, get_or-replicate, length-replicate}
-use Rattle.std.proofs.Math.Seq.{drop-append_seam}
-use Rattle.pg_arena.specs.declared.player.Player.{Player}
-use Rattle.pg_arena.specs.declared.player.Player.TheVariants.{Even}
-use Rattle.pg_arena.specs.Games.{nowhere}
-use Rattle.pg_map.specs.Lines.{Line, line_of, line_at, vertex_line}
-use Rattle.pg_worker.specs.declared.part.Head.{Head}
-use Rattle.pg_worker.specs.Mirrors.Parts.{line_from, head_line, line_in, lines_of, AreHeld, IsSpan, no_head}
+use Rattle.pg_worker.proofs.Common.{◌≡◌, ◌≢◌, ℕ, zero, suc, ◌+◌, ◌-◌, ◌<◌, ◌≤◌, List, ◌++◌, length, take, drop, get_or, set, refl, sym, ap}
+use Rattle.pg_worker.proofs.Common.{subst, ◌∙◌, inl, inr, arith, cond, replicate, Option, Some, None, IsSome, unwrap_or, nat_lt, IsTrue}
+use Rattle.pg_worker.proofs.Common.{◌↔◌, cases_lt, cases_eq, lt-ltb, le-ltb, ltb-true, All-set, length-map-range_with_len}
+use Rattle.pg_worker.proofs.Common.{get_or-map-range_with_len, fill_by_all, take-append-le, drop-append-le, take_all, length-drop}
+use Rattle.pg_worker.proofs.Common.{length-append, length-set, get_or_default, get_or_past, get_or-set_same, get_or-set_other}
+use Rattle.pg_worker.proofs.Common.{get_or-replicate, length-replicate, drop-append_seam, Player, Even, nowhere, Line, line_of, line_at}
+use Rattle.pg_worker.proofs.Common.{vertex_line, Head, line_from, head_line, line_in, lines_of, AreHeld, IsSpan, no_head}
 
 no_some : (o : Option Line) → o ≡ None → IsSome o → ⊥
 no_some None e h = cc

@@ -1,35 +1,13 @@
 -- The replies of a session are well frames, and tell the measures of the vertices that were lifted.
-use Rattle.std.proofs.Common.{◌≡◌, ℕ, zero, suc, ◌<◌, ◌≤◌, Bool, true, false, List, [], ◌∷◌, ◌++◌, length, get_or, Option, None, refl}
-use Rattle.std.proofs.Common.{sym, ap, subst, ◌∙◌, arith, inl, inr}
-use Rattle.std.specs.Prelude.{All, AllPairs, IsSome, if◌then◌else◌}
-use Rattle.std.specs.List.{flat_map}
-use Rattle.std.proofs.lemmas.Bool.{cases_eq, cases_lt}
-use Rattle.std.proofs.lemmas.List.{get_or-set_other, get_or_past}
-use Rattle.std.proofs.lemmas.List.Concat.{flat_map-cons}
-use Rattle.std.proofs.lemmas.List.Elements.{All-map}
-use Rattle.pg_measure.specs.Measures.{BoundList, MeasureValue, Fits}
-use Rattle.pg_map.specs.Lines.{Line}
-use Rattle.pg_map.specs.Maps.{measure_at, IsLifted}
-use Rattle.pg_map.specs.declared.update.Update.{Update}
-use Rattle.pg_wire.specs.declared.kind.ValueKind.{ValueKind}
-use Rattle.pg_wire.specs.declared.kind.ValueKind.TheVariants.{Dense, Sparse}
-use Rattle.pg_wire.specs.declared.frame.Frame.{Frame}
+use Rattle.pg_worker.proofs.Common.{◌≡◌, ℕ, zero, suc, ◌<◌, ◌≤◌, Bool, true, false, List, [], ◌∷◌, ◌++◌, length, get_or, Option, None, refl}
+use Rattle.pg_worker.proofs.Common.{sym, ap, subst, ◌∙◌, arith, inl, inr, All, AllPairs, IsSome, if◌then◌else◌, flat_map, cases_eq}
+use Rattle.pg_worker.proofs.Common.{cases_lt, get_or-set_other, get_or_past, flat_map-cons, All-map, BoundList, MeasureValue, Fits, Line}
+use Rattle.pg_worker.proofs.Common.{measure_at, IsLifted, Update, ValueKind, Dense, Sparse, Frame, spelling, longest, IsWord, IsWell}
+use Rattle.pg_worker.proofs.Common.{Measured, spelled_as, frame_of, IsMeasured, well_of, few, fields, body_size, HasBytes, components_fit}
+use Rattle.pg_worker.proofs.Common.{frame_tells, part_line, AreLifts, SessionValue, LiftsAndTells, ArePacked, lifted_measures, report}
+use Rattle.pg_worker.proofs.Common.{frame_size, measures_in, AreFrames, IsSmall, pairs_map, all_left, all_right, pairs_left, pairs_right}
 use Rattle.pg_wire.specs.declared.frame.Frame.TheVariants as frames
-use Rattle.pg_wire.specs.Spelling.{spelling, longest}
-use Rattle.pg_wire.specs.Well.{IsWord, IsWell}
-use Rattle.pg_wire.specs.Measured.{Measured, spelled_as, frame_of, IsMeasured}
-use Rattle.pg_wire.proofs.Tells.{well_of}
-use Rattle.pg_wire.proofs.Append.{few}
-use Rattle.pg_wire.proofs.Frames.{fields, body_size}
-use Rattle.pg_wire.specs.Mirrors.Reading.{HasBytes}
-use Rattle.pg_parts.proofs.Fitting.{components_fit, frame_tells}
-use Rattle.pg_worker.specs.Workers.{part_line, AreLifts}
-use Rattle.pg_worker.specs.Turns.{SessionValue, LiftsAndTells, ArePacked, lifted_measures, report, frame_size}
-use Rattle.pg_parts.specs.Frames.{measures_in}
-use Rattle.pg_worker.specs.Above.{AreFrames}
-use Rattle.pg_worker.specs.Mirrors.Sessions.{IsSmall}
 use Rattle.pg_worker.proofs.Framing.{no_frames, one_frame, frames_then}
-use Rattle.pg_parts.proofs.Lists.{pairs_map, all_left, all_right, pairs_left, pairs_right}
 
 -- ---- the measures of vertices that were lifted fit
 

@@ -1,18 +1,9 @@
 -- Lifts one after the other.
-use Rattle.std.proofs.Common.{◌≡◌, ℕ, ◌+◌, ◌⊎◌, List, [], ◌∷◌, ◌++◌, length, get_or, refl, sym, subst, ◌∙◌, arith, inl, inr, length-append}
-use Rattle.std.specs.Prelude.{All, Any, Option, IsSome}
-use Rattle.std.specs.List.{Contains}
-use Rattle.std.proofs.lemmas.Bool.{cases_lt}
-use Rattle.std.proofs.lemmas.List.{get_or_push, get_or_default}
-use Rattle.std.proofs.Math.ListN.{get_or-append}
-use Rattle.pg_measure.specs.Measures.{BoundList, MeasureValue, owned}
-use Rattle.pg_map.specs.Lines.{Line}
-use Rattle.pg_map.specs.Maps.{measure_at, IsLifted}
-use Rattle.pg_map.specs.declared.update.Update.{Update}
-use Rattle.pg_worker.specs.Workers.{IsLiftBy, AreLifts}
-use Rattle.pg_lift.specs.Mirrors.Lifters.{LifterValue, KeepsLines, Lifts}
-use Rattle.pg_worker.specs.Mirrors.Lifts.{AreListedLifts}
-use Rattle.pg_worker.specs.Mirrors.Parts.{PartValue, held_line}
+use Rattle.pg_worker.proofs.Common.{◌≡◌, ℕ, ◌+◌, ◌⊎◌, List, [], ◌∷◌, ◌++◌, length, get_or, refl, sym, subst, ◌∙◌, arith, inl, inr, All, Any}
+use Rattle.pg_worker.proofs.Common.{Option, IsSome, Contains, cases_lt, get_or_push, get_or_default, get_or-append, BoundList, MeasureValue}
+use Rattle.pg_worker.proofs.Common.{owned, Line, measure_at, IsLifted, Update, IsLiftBy, AreLifts, LifterValue, KeepsLines, Lifts}
+use Rattle.pg_worker.proofs.Common.{AreListedLifts, PartValue, held_line}
+use Rattle.std.proofs.Common.{length-append}
 
 pub same_lines : (a b c : LifterValue PartValue) → KeepsLines a b → KeepsLines b c → KeepsLines a c
 same_lines a b c p q = record { lines = q.lines ∙ p.lines; span = q.span ∙ p.span; bounds = q.bounds ∙ p.bounds; size = q.size ∙ p.size }

@@ -1,32 +1,15 @@
 -- What turns keep: sessions stay small, and under the maps that are above what they were told.
-use Rattle.std.proofs.Common.{◌≡◌, ℕ, ◌≤◌, List, [], ◌∷◌, length, set, map, Option, Some, None, refl, sym, ap, subst, ◌∙◌, arith, inl, inr}
-use Rattle.std.specs.Prelude.{All, IfSome, IsSome, replicate, unwrap_or, ◌==◌}
-use Rattle.pg_arena.specs.Games.{nowhere}
-use Rattle.std.proofs.lemmas.Bool.{cases_eq, cases_lt, cases_Bool}
-use Rattle.std.proofs.lemmas.List.{length-set, length-replicate, get_or-set_same, get_or-set_other, get_or-replicate, get_or_past}
-use Rattle.std.proofs.lemmas.List.Elements.{All-head, All-tail}
-use Rattle.pg_measure.specs.Measures.{BoundList, MeasureValue, AtMost, Covers, zeros}
-use Rattle.pg_map.specs.Lines.{Line, only, vertex_line}
-use Rattle.pg_map.specs.Maps.{MapValue, measure_at, IsMap, IsServed, IsClosed, SomeOrAll}
-use Rattle.pg_map.proofs.Joins.{zero_map_least}
-use Rattle.pg_wire.specs.declared.frame.Setup.{Setup}
-use Rattle.pg_wire.specs.declared.frame.VertexLine.{VertexLine}
-use Rattle.pg_wire.specs.declared.frame.Frame.{Frame}
+use Rattle.pg_worker.proofs.Common.{◌≡◌, ℕ, ◌≤◌, List, [], ◌∷◌, length, set, map, Option, Some, None, refl, sym, ap, subst, ◌∙◌, arith, inl}
+use Rattle.pg_worker.proofs.Common.{inr, All, IfSome, IsSome, replicate, unwrap_or, ◌==◌, nowhere, cases_eq, cases_lt, cases_Bool}
+use Rattle.pg_worker.proofs.Common.{length-set, length-replicate, get_or-set_same, get_or-set_other, get_or-replicate, get_or_past}
+use Rattle.pg_worker.proofs.Common.{All-head, All-tail, BoundList, MeasureValue, AtMost, Covers, zeros, Line, only, vertex_line, MapValue}
+use Rattle.pg_worker.proofs.Common.{measure_at, IsMap, IsServed, IsClosed, SomeOrAll, zero_map_least, Setup, VertexLine, Frame, ValueKind}
+use Rattle.pg_worker.proofs.Common.{IsSetup, Measured, few_bounds, WorkerFault, told_line, IsAtLeast, lines_in, measures_in, IsClosedAt}
+use Rattle.pg_worker.proofs.Common.{part_line, with_lines, SessionValue, fresh, with_part, Turn, TakesValues, LiftsAndTells, greeting}
+use Rattle.pg_worker.proofs.Common.{lifted_measures, Replies, report_bytes, AreFrames, IsAboveSession, RepliesStayUnder, IsSmall}
 use Rattle.pg_wire.specs.declared.frame.Frame.TheVariants as frames
-use Rattle.pg_wire.specs.declared.kind.ValueKind.{ValueKind}
-use Rattle.pg_wire.specs.Well.{IsSetup}
-use Rattle.pg_wire.specs.Measured.{Measured}
-use Rattle.pg_wire.proofs.Few.{few_bounds}
-use Rattle.pg_worker.specs.declared.fault.WorkerFault.{WorkerFault}
 use Rattle.pg_worker.specs.declared.fault.WorkerFault.TheVariants as faults
 use Rattle.pg_wire.specs.declared.fault.WireFault.TheVariants as wire
-use Rattle.pg_parts.specs.Frames.{told_line, IsAtLeast, lines_in, measures_in, IsClosedAt}
-use Rattle.pg_worker.specs.Workers.{part_line, with_lines}
-use Rattle.pg_worker.specs.Turns.{SessionValue, fresh, with_part, Turn, TakesValues, LiftsAndTells, greeting, lifted_measures}
-use Rattle.pg_worker.specs.Serving.{Replies, report_bytes}
-use Rattle.pg_worker.specs.Above.{AreFrames, IsAboveSession}
-use Rattle.pg_worker.specs.Laws.{RepliesStayUnder}
-use Rattle.pg_worker.specs.Mirrors.Sessions.{IsSmall}
 use Rattle.pg_worker.proofs.Under.{told_stay_under}
 use Rattle.pg_worker.proofs.Framing.{no_frames, frames_then}
 use Rattle.pg_worker.proofs.Replies.{Tells, report_frame, go_tells}

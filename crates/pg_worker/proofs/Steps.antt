@@ -1,16 +1,8 @@
 -- The map of a worker stays under the closed maps that are at least what it took.
-use Rattle.std.proofs.Common.{◌≡◌, ℕ, ◌<◌, List, [], ◌∷◌, length, refl, sym, subst, ap, ◌∙◌, arith, inl, inr, None}
-use Rattle.std.specs.Prelude.{Option}
-use Rattle.std.proofs.lemmas.Bool.{cases_eq}
-use Rattle.std.proofs.lemmas.List.{get_or-set_same, get_or-set_other, length-replicate, length-set}
-use Rattle.pg_measure.specs.Measures.{BoundList, MeasureValue, AtMost, zeros}
-use Rattle.pg_map.specs.Lines.{Line}
-use Rattle.pg_map.specs.Maps.{measure_at, IsMap, zero_map, update_map, MapAtMost, IsClosed, StaysUnder}
-use Rattle.pg_map.specs.declared.update.Update.{Update}
-use Rattle.pg_map.proofs.Above.{lift_stays_under}
-use Rattle.pg_map.proofs.Joins.{zero_map_least}
-use Rattle.pg_worker.specs.Workers.{AreLifts}
-use Rattle.pg_worker.specs.Laws.{Step, Taken, Lifted, AreSteps, IsAtLeastTaken}
+use Rattle.pg_worker.proofs.Common.{◌≡◌, ℕ, ◌<◌, List, [], ◌∷◌, length, refl, sym, subst, ap, ◌∙◌, arith, inl, inr, None, Option, cases_eq}
+use Rattle.pg_worker.proofs.Common.{get_or-set_same, get_or-set_other, length-replicate, length-set, BoundList, MeasureValue, AtMost, zeros}
+use Rattle.pg_worker.proofs.Common.{Line, measure_at, IsMap, zero_map, update_map, MapAtMost, IsClosed, StaysUnder, Update}
+use Rattle.pg_worker.proofs.Common.{lift_stays_under, zero_map_least, AreLifts, Step, Taken, Lifted, AreSteps, IsAtLeastTaken}
 
 lifts_under : (bs : BoundList) (lines : ℕ → Option Line) (n : ℕ) (f g h : List MeasureValue) (us : List Update) → AreLifts bs lines f us g
     → length f ≡ n → IsMap bs n h → IsClosed bs lines h → MapAtMost f h → MapAtMost g h

@@ -1,30 +1,14 @@
 -- Measures that are read from a frame and joined, and the turns that they make.
-use Rattle.std.proofs.Common.{◌≡◌, ◌≢◌, ℕ, suc, ◌<◌, ◌≤◌, ◌++◌, length, ◌↔◌, ◌⊎◌, IsTrue, Bool, false, List, [], ◌∷◌, Option, Some, None, Result, Ok}
-use Rattle.std.proofs.Common.{Err, refl, sym, ap, subst, ◌∙◌, append_assoc, inl, inr, arith}
-use Rattle.std.specs.Prelude.{All, IfOk, IfErr, OnOk}
-use Rattle.std.proofs.lemmas.List.{append-nil}
-use Rattle.std.proofs.lemmas.List.Elements.{All-push}
-use Rattle.pg_wire.specs.declared.reader.ValuesReader.{ValuesReader}
-use Rattle.pg_wire.specs.declared.kind.ValueKind.{ValueKind}
-use Rattle.pg_wire.specs.declared.kind.ValueKind.TheVariants.{Dense, Sparse}
+use Rattle.pg_worker.proofs.Common.{◌≡◌, ◌≢◌, ℕ, suc, ◌<◌, ◌≤◌, ◌++◌, length, ◌↔◌, ◌⊎◌, IsTrue, Bool, false, List, [], ◌∷◌, Option, Some}
+use Rattle.pg_worker.proofs.Common.{None, Result, Ok, Err, refl, sym, ap, subst, ◌∙◌, append_assoc, inl, inr, arith, All, IfOk, IfErr, OnOk}
+use Rattle.pg_worker.proofs.Common.{append-nil, All-push, ValuesReader, ValueKind, Dense, Sparse, WireFault, Frame, body, longest, Spells}
+use Rattle.pg_worker.proofs.Common.{IsTooLong, IsTruncated, IsLeft, Measured, IsMeasured, frame_of, one_frame, dense_told, sparse_told}
+use Rattle.pg_worker.proofs.Common.{WorkerFault, OutOfMemory, Wire, WorkerValue, CanTake, Takes, SessionValue, CanTakeAll, TakesValues}
+use Rattle.pg_worker.proofs.Common.{RefusesValues, Turn, IsUpTo, Refuses, DoesTurn, RefusesBytes, own_fault, JoinsAll, all_none, in_row}
+use Rattle.pg_worker.proofs.Common.{first_is, none_left}
 use Rattle.pg_wire.specs.declared.frame.Frame.TheVariants as frames
-use Rattle.pg_wire.specs.declared.fault.WireFault.{WireFault}
 use Rattle.pg_wire.specs.declared.fault.WireFault.TheVariants as wire
-use Rattle.pg_wire.specs.declared.frame.Frame.{Frame}
-use Rattle.pg_wire.specs.Spelling.{body, longest}
-use Rattle.pg_wire.specs.Bytes.{Spells, IsTooLong, IsTruncated}
-use Rattle.pg_wire.specs.Left.{IsLeft, IsNext}
-use Rattle.pg_wire.specs.Measured.{Measured, IsMeasured, frame_of}
-use Rattle.pg_wire.proofs.Bodies.{one_frame}
-use Rattle.pg_wire.proofs.Tells.{dense_told, sparse_told}
-use Rattle.pg_worker.specs.declared.fault.WorkerFault.{WorkerFault}
-use Rattle.pg_worker.specs.declared.fault.WorkerFault.TheVariants.{OutOfMemory, Wire}
-use Rattle.pg_worker.specs.Workers.{WorkerValue, CanTake, Takes}
-use Rattle.pg_worker.specs.Turns.{SessionValue, CanTakeAll, TakesValues, RefusesValues, Turn, IsUpTo, Refuses, DoesTurn, RefusesBytes}
-use Rattle.pg_worker.specs.Mirrors.Faults.{own_fault}
-use Rattle.pg_worker.specs.Mirrors.Joins.{JoinsAll}
-use Rattle.pg_parts.proofs.Joining.{all_none}
-use Rattle.pg_parts.proofs.Reading.{in_row, first_is, none_left}
+use Rattle.pg_wire.specs.Left.{IsNext}
 use Rattle.pg_worker.proofs.Joining.{all_joined_none, all_joined_more, can_take_same, can_take_back}
 
 -- of these measures some were joined, and the others are left

@@ -1,11 +1,6 @@
 -- What is told after lifts is at most every closed map that the worker is under.
-use Rattle.std.proofs.Common.{ℕ, ◌<◌, List, length, map, get_or, sym, subst, arith}
-use Rattle.std.proofs.lemmas.List.{get_or-map, length-map}
-use Rattle.pg_measure.specs.Measures.{MeasureValue, AtMost}
-use Rattle.pg_map.specs.Maps.{measure_at, MapAtMost}
-use Rattle.pg_wire.specs.Measured.{Measured}
-use Rattle.pg_parts.specs.Frames.{IsAtLeast}
-use Rattle.pg_worker.specs.Laws.{ToldStayUnder}
+use Rattle.pg_worker.proofs.Common.{ℕ, ◌<◌, List, length, map, get_or, sym, subst, arith, get_or-map, length-map, MeasureValue, AtMost}
+use Rattle.pg_worker.proofs.Common.{measure_at, MapAtMost, Measured, IsAtLeast, ToldStayUnder}
 
 all_under : (f k : List MeasureValue) (vs : List ℕ) → MapAtMost f k → IsAtLeast k (map (λ v. (v, measure_at f v)) vs)
 all_under f k vs h = λ i d lt.

@@ -1,27 +1,14 @@
 -- What a worker remembers after a call.
-use Rattle.std.proofs.Common.{◌≡◌, ◌≢◌, ◌∙◌, ℕ, zero, suc, ◌+◌, ◌^◌, ◌<◌, ◌≤◌, Bool, false, List, [], ◌∷◌, ◌++◌, length, get_or, set, subst, sym}
-use Rattle.std.proofs.Common.{refl, ap, arith, inl, inr, Some, None}
-use Rattle.std.specs.Prelude.{All, Option, IsSome, option_map, unwrap_or, replicate, vec_capacity}
-use Rattle.std.proofs.lemmas.Bool.{cases_eq}
-use Rattle.std.proofs.lemmas.List.{get_or-set_same, get_or-set_other, length-set, length-replicate}
-use Rattle.pg_measure.specs.Measures.{BoundList, MeasureValue}
-use Rattle.pg_arena.specs.Games.{nowhere}
-use Rattle.pg_map.specs.Lines.{Line, AreWithin, line_at, vertex_line}
-use Rattle.pg_map.specs.Maps.{MapValue, measure_at}
-use Rattle.pg_lift.specs.declared.predecessors.Predecessors.{Predecessors}
-use Rattle.pg_worker.specs.Mirrors.Parts.{PartValue, held_line}
-use Rattle.pg_lift.specs.Mirrors.Keeps.{IsKept, Keeps, KeepsAt, AreSameBut, nothing}
-use Rattle.pg_lift.specs.Mirrors.Lifters.{LifterValue, KeepsLines, IsLifter, AreReady}
-use Rattle.pg_lift.specs.Mirrors.Predecessors.{edges_of}
+use Rattle.pg_worker.proofs.Common.{◌≡◌, ◌≢◌, ◌∙◌, ℕ, zero, suc, ◌+◌, ◌^◌, ◌<◌, ◌≤◌, Bool, false, List, [], ◌∷◌, ◌++◌, length, get_or, set}
+use Rattle.pg_worker.proofs.Common.{subst, sym, refl, ap, arith, inl, inr, Some, None, All, Option, IsSome, option_map, unwrap_or}
+use Rattle.pg_worker.proofs.Common.{replicate, vec_capacity, cases_eq, get_or-set_same, get_or-set_other, length-set, length-replicate}
+use Rattle.pg_worker.proofs.Common.{BoundList, MeasureValue, nowhere, Line, AreWithin, line_at, vertex_line, MapValue, measure_at}
+use Rattle.pg_worker.proofs.Common.{Predecessors, PartValue, held_line, IsKept, Keeps, KeepsAt, AreSameBut, nothing, LifterValue}
+use Rattle.pg_worker.proofs.Common.{KeepsLines, IsLifter, AreReady, edges_of, same_keeps, VertexLine, told_line, WorkerValue, AreLifts}
+use Rattle.pg_worker.proofs.Common.{with_lines, AreAbove, Update, IsInside, IsNext, IsWhole, AreAsBefore, Label, line_label, WaitingValue}
+use Rattle.pg_worker.proofs.Common.{HasNote, AreNotes, IsSameSpan, notes_on, same_notes}
 use Rattle.pg_worker.proofs.NewLines.{IsNewLine, line_same, some_back, edges_more, no_edges}
-use Rattle.pg_lift.proofs.Keeping.{same_keeps}
-use Rattle.pg_wire.specs.declared.frame.VertexLine.{VertexLine}
-use Rattle.pg_parts.specs.Frames.{told_line}
-use Rattle.pg_worker.specs.Workers.{WorkerValue, AreLifts, Lifts, with_lines, AreAbove}
-use Rattle.pg_map.specs.declared.update.Update.{Update}
-use Rattle.pg_worker.specs.Mirrors.Insides.{IsInside, IsNext, IsWhole, AreAsBefore}
-use Rattle.pg_lift.specs.Mirrors.Notes.{Label, line_label, WaitingValue, HasNote, AreNotes, IsSameSpan}
-use Rattle.pg_lift.proofs.Noting.{notes_on, same_notes}
+use Rattle.pg_worker.specs.Workers.{Lifts}
 use Rattle.pg_worker.proofs.Steps.{lifts_stay_under}
 
 none_held : (o : Option Line) → o ≡ None → IsSome o → ⊥

@@ -1,5 +1,4 @@
-use Rattle.std.proofs.Common.{ℕ, ◌<◌, get_or, inl, inr, subst, sym}
-use Rattle.std.proofs.lemmas.List.Elements.{Contains-get_or, All-contains}
+use Rattle.pg_rounds.proofs.Common.{ℕ, ◌<◌, get_or, inl, inr, subst, sym, Contains-get_or, All-contains}
 use Rattle.pg_rounds.proofs.coordinator_map.list_if.Goals as goal
 
 pub returns-then-rose-clause-within : goal.returns-then-rose-clause-within

@@ -1,10 +1,4 @@
-use Rattle.std.proofs.Common.{refl, sym, subst, ◌∙◌}
-use Rattle.std.specs.Prelude.{All}
-use Rattle.std.proofs.lemmas.List.Elements.{All-nil, All-push}
-use Rattle.pg_measure.specs.Measures.{MeasureValue}
-use Rattle.pg_wire.specs.Measured.{Measured}
-use Rattle.pg_parts.proofs.Reading.{in_row}
-use Rattle.pg_rounds.specs.PartMeasures.{IsOfPart}
+use Rattle.pg_rounds.proofs.Common.{refl, sym, subst, ◌∙◌, All, All-nil, All-push, MeasureValue, Measured, in_row, IsOfPart}
 use Rattle.pg_rounds.proofs.Joins.{read_none, read_more, read_holds, read_all}
 use Rattle.pg_rounds.proofs.joining.are_of_part.Goals as goal
 

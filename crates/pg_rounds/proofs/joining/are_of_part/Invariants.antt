@@ -1,8 +1,4 @@
-use Rattle.std.proofs.Common.{◌≡◌, List, length}
-use Rattle.std.specs.Prelude.{All}
-use Rattle.pg_wire.specs.Left.{IsLeft}
-use Rattle.pg_wire.specs.Measured.{Measured}
-use Rattle.pg_rounds.specs.PartMeasures.{IsOfPart}
+use Rattle.pg_rounds.proofs.Common.{◌≡◌, List, length, All, IsLeft, Measured, IsOfPart}
 use Rattle.pg_rounds.proofs.Joins.{HasRead}
 use Rattle.pg_rounds.proofs.joining.are_of_part.Given as goal
 

@@ -1,10 +1,5 @@
-use Rattle.std.proofs.Common.{ℕ, ◌<◌, List, [], ◌∷◌, length, sym, subst, ◌∙◌}
-use Rattle.pg_measure.specs.Measures.{BoundList, MeasureValue, Fits}
-use Rattle.pg_measure.specs.Views.{measure_in}
-use Rattle.pg_wire.specs.Measured.{Measured}
-use Rattle.pg_parts.specs.Frames.{Joins}
-use Rattle.pg_parts.proofs.Joining.{joins_none}
-use Rattle.pg_parts.proofs.Reading.{in_row}
+use Rattle.pg_rounds.proofs.Common.{ℕ, ◌<◌, List, [], ◌∷◌, length, sym, subst, ◌∙◌, BoundList, MeasureValue, Fits, measure_in, Measured}
+use Rattle.pg_rounds.proofs.Common.{Joins, joins_none, in_row}
 use Rattle.pg_rounds.proofs.Moving.{moves_none, moves_more}
 use Rattle.pg_rounds.proofs.Joins.{joins_then, joins_one, read_none, read_more, read_holds, read_all}
 use Rattle.pg_rounds.proofs.joining.join_read.Goals as goal

@@ -1,8 +1,4 @@
-use Rattle.std.proofs.Common.{◌≡◌, List, length}
-use Rattle.pg_wire.specs.Left.{IsLeft}
-use Rattle.pg_wire.specs.Measured.{Measured}
-use Rattle.pg_parts.specs.Frames.{Joins}
-use Rattle.pg_rounds.specs.Mirrors.CoordinatorMaps.{Moves}
+use Rattle.pg_rounds.proofs.Common.{◌≡◌, List, length, IsLeft, Measured, Joins, Moves}
 use Rattle.pg_rounds.proofs.Joins.{HasRead}
 use Rattle.pg_rounds.proofs.joining.join_read.Given as goal
 

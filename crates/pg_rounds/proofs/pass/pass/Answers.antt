@@ -1,7 +1,4 @@
-use Rattle.std.proofs.Common.{length, refl, sym, ◌∙◌, arith}
-use Rattle.pg_map.specs.Lines.{game_line, AreWithin}
-use Rattle.pg_map.proofs.GameLines.{game_line_some}
-use Rattle.pg_map.proofs.Passes.{passed_none, passed_more}
+use Rattle.pg_rounds.proofs.Common.{length, refl, sym, ◌∙◌, arith, game_line, AreWithin, game_line_some, passed_none, passed_more}
 use Rattle.pg_rounds.proofs.Moving.{passed_moves, passed_closed}
 use Rattle.pg_rounds.proofs.pass.pass.Goals as goal
 

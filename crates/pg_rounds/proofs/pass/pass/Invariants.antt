@@ -1,6 +1,4 @@
-use Rattle.std.proofs.Common.{◌≡◌, length}
-use Rattle.pg_map.specs.Lines.{game_line}
-use Rattle.pg_map.proofs.Passes.{IsPassed}
+use Rattle.pg_rounds.proofs.Common.{◌≡◌, length, game_line, IsPassed}
 use Rattle.pg_rounds.proofs.pass.pass.Given as goal
 
 abbrev pub invariant-loop-number : goal.invariant-loop-number

@@ -1,6 +1,4 @@
-use Rattle.std.proofs.Common.{◌≡◌, ◌<◌, ◌^◌, ℕ, length, take, sym, ap, subst, ◌∙◌, arith}
-use Rattle.pg_map.specs.Maps.{MapValue, MapAtMost}
-use Rattle.pg_rounds.specs.Replies.{measures_of}
+use Rattle.pg_rounds.proofs.Common.{◌≡◌, ◌<◌, ◌^◌, ℕ, length, take, sym, ap, subst, ◌∙◌, arith, MapValue, MapAtMost, measures_of}
 use Rattle.pg_rounds.proofs.Joins.{at_least_after}
 use Rattle.pg_rounds.proofs.Moving.{moves_more}
 use Rattle.pg_rounds.proofs.Ends.{closed_map}

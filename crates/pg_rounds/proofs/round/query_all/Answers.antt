@@ -1,5 +1,4 @@
-use Rattle.std.proofs.Common.{rules, ◌<◌, ◌≤◌, length, length-set, arith}
-use Rattle.std.proofs.lemmas.List.Elements.{All-set}
+use Rattle.pg_rounds.proofs.Common.{rules, ◌<◌, ◌≤◌, length, length-set, arith, All-set}
 use Rattle.pg_rounds.proofs.LinkStates.{AllInStep-set, halves_step}
 use Rattle.pg_rounds.proofs.Replying.{TellsNext, IsQueriedNext}
 use Rattle.pg_rounds.proofs.round.query_all.Goals as goal

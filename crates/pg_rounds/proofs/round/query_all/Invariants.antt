@@ -1,9 +1,6 @@
-use Rattle.std.proofs.Common.{◌≡◌, ℕ, List, length, All}
-use Rattle.pg_rounds.specs.Replies.{Reply}
-use Rattle.pg_rounds.specs.Mirrors.Telling.{AllTell}
+use Rattle.pg_rounds.proofs.Common.{◌≡◌, ℕ, List, length, All, Reply, AllTell, AllInStep}
 use Rattle.pg_rounds.proofs.LinkStates.{Halves}
 use Rattle.pg_rounds.proofs.Replying.{TellsNext, IsQueriedNext}
-use Rattle.pg_rounds.specs.Mirrors.LinkStates.{AllInStep}
 use Rattle.pg_rounds.proofs.round.query_all.Given as goal
 
 abbrev pub invariant-loop-i : goal.invariant-loop-i

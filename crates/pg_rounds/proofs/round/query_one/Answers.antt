@@ -1,5 +1,4 @@
-use Rattle.std.proofs.Common.{refl}
-use Rattle.std.proofs.lemmas.Result.{on_ok_weaker}
+use Rattle.pg_rounds.proofs.Common.{refl, on_ok_weaker}
 use Rattle.pg_rounds.proofs.round.query_one.Goals as goal
 
 pub returns-in-Err-Failed-clause-in_step : goal.returns-in-Err-Failed-clause-in_step

@@ -1,8 +1,5 @@
-use Rattle.std.proofs.Common.{rules, ◌≡◌, ◌<◌, ◌≤◌, ℕ, take, length, length-set, ◌∙◌, arith, subst}
-use Rattle.std.proofs.lemmas.List.Elements.{All-set}
+use Rattle.pg_rounds.proofs.Common.{rules, ◌≡◌, ◌<◌, ◌≤◌, ℕ, take, length, length-set, ◌∙◌, arith, subst, All-set, measures_of, JoinsEach}
 use Rattle.pg_rounds.proofs.Moving.{moves_none, moves_more}
-use Rattle.pg_rounds.specs.Replies.{measures_of}
-use Rattle.pg_rounds.specs.Mirrors.Telling.{JoinsEach}
 use Rattle.pg_rounds.proofs.LinkStates.{AllInStep-set, all_in_step_above, halves_step}
 use Rattle.pg_rounds.proofs.Replying.{IsQueriedNext, IsReceivedNext, each_none, each_more}
 use Rattle.pg_rounds.proofs.round.receive_all.Goals as goal

@@ -1,10 +1,5 @@
-use Rattle.std.proofs.Common.{◌≡◌, ℕ, List, take, length, All}
-use Rattle.pg_map.specs.Maps.{MapValue, MapAtMost}
-use Rattle.pg_rounds.specs.Mirrors.Tasks.{IsClosedMap}
-use Rattle.pg_rounds.specs.Mirrors.CoordinatorMaps.{Moves}
-use Rattle.pg_rounds.specs.Mirrors.LinkStates.{AllInStep}
-use Rattle.pg_rounds.specs.Replies.{Reply, measures_of}
-use Rattle.pg_rounds.specs.Mirrors.Telling.{AllTell, AllQueried, JoinsEach}
+use Rattle.pg_rounds.proofs.Common.{◌≡◌, ℕ, List, take, length, All, MapValue, MapAtMost, IsClosedMap, Moves, AllInStep, Reply, measures_of}
+use Rattle.pg_rounds.proofs.Common.{AllTell, AllQueried, JoinsEach}
 use Rattle.pg_rounds.proofs.LinkStates.{Halves}
 use Rattle.pg_rounds.proofs.Replying.{IsQueriedNext, IsReceivedNext}
 use Rattle.pg_rounds.proofs.round.receive_all.Given as goal

@@ -1,6 +1,4 @@
-use Rattle.std.proofs.Common.{◌≡◌, true, false}
-use Rattle.std.proofs.lemmas.Result.{on_ok_weaker}
-use Rattle.pg_map.specs.Lemmas.Orders.{map_transitive}
+use Rattle.pg_rounds.proofs.Common.{◌≡◌, true, false, on_ok_weaker, map_transitive}
 use Rattle.pg_rounds.proofs.Moving.{moves_none}
 use Rattle.pg_rounds.proofs.Replying.{not_received, reply_received, failure_received}
 use Rattle.pg_rounds.proofs.round.receive_one.Goals as goal

@@ -1,8 +1,4 @@
-use Rattle.std.proofs.Common.{◌≡◌, rules, ◌<◌, ◌≤◌, length, length-set, arith}
-use Rattle.std.proofs.lemmas.List.Elements.{All-set}
-use Rattle.pg_map.specs.Maps.{MapValue}
-use Rattle.pg_rounds.specs.Replies.{received}
-use Rattle.pg_rounds.specs.Mirrors.LinkStates.{IsInStep}
+use Rattle.pg_rounds.proofs.Common.{◌≡◌, rules, ◌<◌, ◌≤◌, length, length-set, arith, All-set, MapValue, received, IsInStep}
 use Rattle.pg_rounds.proofs.LinkStates.{halves_step}
 use Rattle.pg_rounds.proofs.Replying.{TellsFirst, TellsNext}
 use Rattle.pg_rounds.proofs.round.set_up_all.Goals as goal

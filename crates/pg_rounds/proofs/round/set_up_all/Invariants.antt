@@ -1,7 +1,4 @@
-use Rattle.std.proofs.Common.{◌≡◌, ℕ, List, length, All}
-use Rattle.pg_map.specs.Maps.{MapValue}
-use Rattle.pg_rounds.specs.Mirrors.LinkStates.{IsInStep}
-use Rattle.pg_rounds.specs.Replies.{Reply, TellReplies, received}
+use Rattle.pg_rounds.proofs.Common.{◌≡◌, ℕ, List, length, All, MapValue, IsInStep, Reply, TellReplies, received}
 use Rattle.pg_rounds.proofs.LinkStates.{Halves}
 use Rattle.pg_rounds.proofs.Replying.{TellsFirst, TellsNext}
 use Rattle.pg_rounds.proofs.round.set_up_all.Given as goal

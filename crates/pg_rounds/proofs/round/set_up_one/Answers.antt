@@ -1,5 +1,4 @@
-use Rattle.std.proofs.lemmas.Result.{on_ok_weaker}
-use Rattle.std.proofs.Common.{refl}
+use Rattle.pg_rounds.proofs.Common.{on_ok_weaker, refl}
 use Rattle.pg_rounds.proofs.Replying.{tells_first}
 use Rattle.pg_rounds.proofs.round.set_up_one.Goals as goal
 

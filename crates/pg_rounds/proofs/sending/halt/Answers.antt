@@ -1,5 +1,4 @@
-use Rattle.std.proofs.Common.{rules, ◌<◌, length, length-set}
-use Rattle.std.proofs.lemmas.List.Elements.{All-set}
+use Rattle.pg_rounds.proofs.Common.{rules, ◌<◌, length, length-set, All-set}
 use Rattle.pg_rounds.proofs.sending.halt.Goals as goal
 
 pub loop-i-preserved : goal.loop-i-preserved

@@ -1,8 +1,4 @@
-use Rattle.std.proofs.Common.{◌≡◌, Some, ap, ◌∙◌, rules, refl}
-use Rattle.std.proofs.lemmas.Result.{err_from_is_err_and}
-use Rattle.pg_wire.specs.declared.kind.ValueKind.{ValueKind}
-use Rattle.pg_wire.specs.declared.kind.ValueKind.TheVariants.{Dense, Sparse}
-use Rattle.pg_rounds.specs.Mirrors.Telling.{told_with}
+use Rattle.pg_rounds.proofs.Common.{◌≡◌, Some, ap, ◌∙◌, rules, refl, err_from_is_err_and, ValueKind, Dense, Sparse, told_with}
 use Rattle.pg_rounds.proofs.Taking.{restarted, refusal_spells}
 use Rattle.pg_rounds.proofs.set_up.agree.Goals as goal
 use Rattle.pg_rounds.proofs.set_up.agree.Goals.{then-eq-via-then-eq, then-eq-via-else-eq+in_ok-accepts+then-branch}

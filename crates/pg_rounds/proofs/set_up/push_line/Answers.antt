@@ -1,9 +1,5 @@
-use Rattle.std.proofs.Common.{◌≡◌, ◌∷◌, ◌++◌, ℕ, [], List, subst}
-use Rattle.pg_arena.specs.Games.{GameVertex, vertex_at}
-use Rattle.pg_map.specs.Lines.{vertex_line}
-use Rattle.pg_wire.specs.Lines.{line_with}
-use Rattle.pg_wire.specs.LinesWritten.{IsLineAdded}
-use Rattle.pg_parts.specs.Frames.{told_line}
+use Rattle.pg_rounds.proofs.Common.{◌≡◌, ◌∷◌, ◌++◌, ℕ, [], List, subst, GameVertex, vertex_at, vertex_line, line_with, IsLineAdded}
+use Rattle.pg_rounds.proofs.Common.{told_line}
 use Rattle.pg_rounds.proofs.Gathering.{pushed_line}
 use Rattle.pg_rounds.proofs.set_up.push_line.Goals as goal
 

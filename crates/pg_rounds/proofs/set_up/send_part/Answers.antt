@@ -1,7 +1,4 @@
-use Rattle.std.proofs.Common.{◌≡◌, rules}
-use Rattle.std.proofs.lemmas.Result.{err_from_is_err_and}
-use Rattle.pg_wire.specs.Lines.{frame_with}
-use Rattle.pg_wire.specs.Bytes.{Spells}
+use Rattle.pg_rounds.proofs.Common.{◌≡◌, rules, err_from_is_err_and, frame_with, Spells}
 use Rattle.pg_rounds.proofs.Gathering.{closed_at_all, sent_lines}
 use Rattle.pg_rounds.proofs.set_up.send_part.Goals as goal
 

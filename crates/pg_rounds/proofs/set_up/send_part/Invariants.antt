@@ -1,6 +1,4 @@
-use Rattle.std.proofs.Common.{◌≡◌, ◌-◌, ℕ, List, Some, length}
-use Rattle.pg_map.specs.Maps.{MapValue}
-use Rattle.pg_rounds.specs.Mirrors.Tasks.{IsClosedMap}
+use Rattle.pg_rounds.proofs.Common.{◌≡◌, ◌-◌, ℕ, List, Some, length, MapValue, IsClosedMap}
 use Rattle.pg_rounds.proofs.set_up.send_part.Given as goal
 
 abbrev pub invariant-frames : goal.invariant-frames

@@ -1,6 +1,4 @@
-use Rattle.std.proofs.Common.{◌≡◌, ◌∙◌, Some, ap, arith}
-use Rattle.pg_wire.proofs.Nonzero.{pairs_size}
-use Rattle.pg_parts.specs.Frames.{kind_of}
+use Rattle.pg_rounds.proofs.Common.{◌≡◌, ◌∙◌, Some, ap, arith, pairs_size, kind_of}
 use Rattle.pg_rounds.proofs.Taking.{told_setup}
 use Rattle.pg_rounds.proofs.set_up.send_setup.Goals as goal
 

@@ -1,6 +1,4 @@
-use Rattle.std.proofs.Common.{◌<◌, List, length}
-use Rattle.pg_wire.specs.declared.frame.VertexLine.{VertexLine}
-use Rattle.pg_rounds.specs.Mirrors.Lines.{AreWritten}
+use Rattle.pg_rounds.proofs.Common.{◌<◌, List, length, VertexLine, AreWritten}
 use Rattle.pg_rounds.proofs.set_up.write_lines.Given as goal
 
 abbrev pub invariant-loop-number : goal.invariant-loop-number

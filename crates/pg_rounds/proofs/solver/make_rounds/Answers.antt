@@ -1,7 +1,5 @@
-use Rattle.std.proofs.Common.{◌≡◌, ◌+◌, ◌<◌, ◌≤◌, ◌^◌, ℕ, Bool, true, false, cond, length, drop, rules, refl, ap, sym, subst, ◌∙◌, arith}
-use Rattle.pg_map.specs.Maps.{MapValue}
-use Rattle.pg_map.specs.Weights.{map_weight}
-use Rattle.pg_rounds.specs.Replies.{received}
+use Rattle.pg_rounds.proofs.Common.{◌≡◌, ◌+◌, ◌<◌, ◌≤◌, ◌^◌, ℕ, Bool, true, false, cond, length, drop, rules, refl, ap, sym, subst, ◌∙◌}
+use Rattle.pg_rounds.proofs.Common.{arith, MapValue, map_weight, received}
 use Rattle.pg_rounds.proofs.Ends.{found_none, found_more}
 use Rattle.pg_rounds.proofs.Taken.{none_taken, round_taken, least_over}
 use Rattle.pg_rounds.proofs.solver.make_rounds.Goals as goal

@@ -1,11 +1,5 @@
-use Rattle.std.proofs.Common.{◌≡◌, ◌+◌, ◌≤◌, ℕ, List, length, All, true, false, cond}
-use Rattle.pg_map.specs.Lines.{game_line}
-use Rattle.pg_map.specs.Maps.{IsClosed}
-use Rattle.pg_map.specs.Weights.{map_weight}
-use Rattle.pg_rounds.specs.Mirrors.Rounds.{IsFoundFrom, AreRounds}
-use Rattle.pg_rounds.specs.Replies.{Reply}
-use Rattle.pg_rounds.specs.Mirrors.LinkStates.{AllInStep}
-use Rattle.pg_rounds.specs.Mirrors.Telling.{AllTell}
+use Rattle.pg_rounds.proofs.Common.{◌≡◌, ◌+◌, ◌≤◌, ℕ, List, length, All, true, false, cond, game_line, IsClosed, map_weight, IsFoundFrom}
+use Rattle.pg_rounds.proofs.Common.{AreRounds, Reply, AllInStep, AllTell}
 use Rattle.pg_rounds.proofs.Taken.{HasTaken}
 use Rattle.pg_rounds.proofs.solver.make_rounds.Given as goal
 

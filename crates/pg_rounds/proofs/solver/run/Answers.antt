@@ -1,5 +1,4 @@
-use Rattle.std.proofs.Common.{◌<◌, ◌^◌, ◌∙◌, ℕ, length, ap, sym, subst}
-use Rattle.std.proofs.lemmas.Result.{IfOk-weaker}
+use Rattle.pg_rounds.proofs.Common.{◌<◌, ◌^◌, ◌∙◌, ℕ, length, ap, sym, subst, IfOk-weaker}
 use Rattle.pg_rounds.proofs.Ends.{ends_weaker}
 use Rattle.pg_rounds.proofs.solver.run.Goals as goal
 

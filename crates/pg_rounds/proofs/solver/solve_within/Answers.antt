@@ -1,6 +1,4 @@
-use Rattle.std.proofs.Common.{◌∙◌, length}
-use Rattle.std.specs.Prelude.{All}
-use Rattle.pg_rounds.specs.Replies.{TellReplies}
+use Rattle.pg_rounds.proofs.Common.{◌∙◌, length, All, TellReplies}
 use Rattle.pg_rounds.proofs.Ends.{some_weaker, solved_rounds, solved_least, solved_told}
 use Rattle.pg_rounds.proofs.solver.solve_within.Goals as goal
 

@@ -1,5 +1,4 @@
-use Rattle.std.proofs.Common.{◌<◌, length}
-use Rattle.std.specs.Prelude.{All}
+use Rattle.pg_rounds.proofs.Common.{◌<◌, length, All}
 use Rattle.pg_rounds.proofs.turn.above_zero.Given as goal
 
 abbrev pub invariant-loop-number : goal.invariant-loop-number

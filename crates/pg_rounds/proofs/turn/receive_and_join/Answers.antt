@@ -1,13 +1,6 @@
-use Rattle.std.proofs.Common.{rules, ◌≡◌, ◌∷◌, ℕ, List, Some, ◌∙◌, Ok, sym, subst, refl, inl, inr}
+use Rattle.pg_rounds.proofs.Common.{rules, ◌≡◌, ◌∷◌, ℕ, List, Some, ◌∙◌, Ok, sym, subst, refl, inl, inr, Spells, MapValue, ValuesReader}
+use Rattle.pg_rounds.proofs.Common.{IsLeft, Measured, frame_of, IsAtLeast, Joins, measures_in, CoordinatorMap, Moves, Receives}
 use Rattle.pg_wire.specs.declared.frame.Frame.TheVariants as frames
-use Rattle.pg_wire.specs.Bytes.{Spells}
-use Rattle.pg_map.specs.Maps.{MapValue}
-use Rattle.pg_wire.specs.declared.reader.ValuesReader.{ValuesReader}
-use Rattle.pg_wire.specs.Left.{IsLeft}
-use Rattle.pg_wire.specs.Measured.{Measured, frame_of}
-use Rattle.pg_parts.specs.Frames.{IsAtLeast, Joins, measures_in}
-use Rattle.pg_rounds.specs.declared.coordinator_map.CoordinatorMap.{CoordinatorMap}
-use Rattle.pg_rounds.specs.Mirrors.CoordinatorMaps.{Moves, Receives}
 use Rattle.pg_rounds.proofs.Taking.{handed_over, found_dense, part_again, frame_joins, part_well}
 use Rattle.pg_rounds.proofs.Moving.{receives_none}
 use Rattle.pg_rounds.proofs.Measuring.{found_at_least}

@@ -1,7 +1,4 @@
-use Rattle.std.proofs.Common.{◌≡◌, ◌++◌, ℕ, List, Some, length}
-use Rattle.pg_wire.specs.declared.kind.ValueKind.TheVariants.{Dense}
-use Rattle.pg_rounds.specs.Replies.{Reply, IsReply, spelled_reply}
-use Rattle.pg_rounds.specs.Mirrors.CoordinatorMaps.{Receives}
+use Rattle.pg_rounds.proofs.Common.{◌≡◌, ◌++◌, ℕ, List, Some, length, Dense, Reply, IsReply, spelled_reply, Receives}
 use Rattle.pg_rounds.proofs.Receiving.{HasReceived}
 use Rattle.pg_rounds.proofs.turn.receive_reply.Given as goal
 

@@ -1,6 +1,4 @@
-use Rattle.std.proofs.Common.{ℕ, ◌+◌, ◌∙◌, [], true, false, ap, sym, arith, ◌≡◌}
-use Rattle.pg_measure.specs.Views.{measure_in}
-use Rattle.pg_parts.proofs.Fitting.{few_components}
+use Rattle.pg_rounds.proofs.Common.{ℕ, ◌+◌, ◌∙◌, [], true, false, ap, sym, arith, ◌≡◌, measure_in, few_components}
 use Rattle.pg_rounds.proofs.Measuring.{pushed}
 use Rattle.pg_rounds.proofs.values.push_next.Goals as goal
 

@@ -1,6 +1,4 @@
-use Rattle.std.proofs.Common.{◌≡◌, ◌<◌, length, rules}
-use Rattle.std.proofs.lemmas.List.Elements.{All-drop}
-use Rattle.pg_wire.specs.Measured.{frame_of}
+use Rattle.pg_rounds.proofs.Common.{◌≡◌, ◌<◌, length, rules, All-drop, frame_of}
 use Rattle.pg_rounds.proofs.Measuring.{under_values, map_at_least}
 use Rattle.pg_rounds.proofs.Taking.{sent_values}
 use Rattle.pg_rounds.proofs.values.send_values.Goals as goal

@@ -1,6 +1,4 @@
-use Rattle.std.proofs.Common.{◌≡◌, ◌<◌, ℕ, List, Some, length}
-use Rattle.std.specs.Prelude.{All}
-use Rattle.pg_map.specs.Maps.{MapValue, MapAtMost}
+use Rattle.pg_rounds.proofs.Common.{◌≡◌, ◌<◌, ℕ, List, Some, length, All, MapValue, MapAtMost}
 use Rattle.pg_rounds.proofs.values.send_values.Given as goal
 
 abbrev pub invariant-values : goal.invariant-values

@@ -1,6 +1,4 @@
-use Rattle.std.proofs.Common.{◌≡◌, ◌≤◌, ◌<◌, ◌^◌, ◌∙◌, [], length, ap, arith}
-use Rattle.std.specs.Prelude.{All}
-use Rattle.pg_wire.specs.Well.{IsBound}
+use Rattle.pg_rounds.proofs.Common.{◌≡◌, ◌≤◌, ◌<◌, ◌^◌, ◌∙◌, [], length, ap, arith, All, IsBound}
 use Rattle.pg_rounds.proofs.Measuring.{frame_spelled}
 use Rattle.pg_rounds.proofs.values.write_frame.Goals as goal
 

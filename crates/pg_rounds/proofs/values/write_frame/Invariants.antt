@@ -1,6 +1,4 @@
-use Rattle.std.proofs.Common.{◌≡◌, List, length}
-use Rattle.pg_wire.specs.Measured.{Measured}
-use Rattle.pg_rounds.specs.Mirrors.Sent.{IsWritten}
+use Rattle.pg_rounds.proofs.Common.{◌≡◌, List, length, Measured, IsWritten}
 use Rattle.pg_rounds.proofs.values.write_frame.Given as goal
 
 abbrev pub invariant-loop-count : goal.invariant-loop-count

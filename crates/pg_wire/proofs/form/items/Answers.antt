@@ -1,7 +1,5 @@
-use Rattle.std.proofs.Common.{◌≡◌, ◌≤◌, ◌+◌, ◌*◌, ◌++◌, ◌∷◌, [], length, vec_len, vec_capacity, min, ◌/◌, ◌∙◌, rules, arith}
-use Rattle.std.proofs.Math.Nat.{sub-zero}
-use Rattle.std.proofs.lemmas.Result.{err_from_is_err_and}
-use Rattle.pg_wire.specs.Mirrors.Formats.{so_many}
+use Rattle.pg_wire.proofs.Common.{◌≡◌, ◌≤◌, ◌+◌, ◌*◌, ◌++◌, ◌∷◌, [], length, vec_len, vec_capacity, min, ◌/◌, ◌∙◌, rules, arith, sub-zero}
+use Rattle.pg_wire.proofs.Common.{err_from_is_err_and, so_many}
 use Rattle.pg_wire.proofs.Loop.{goes_on, ends, is_done, starts, room_left, room_used, room_fits}
 use Rattle.pg_wire.proofs.form.items.Goals as goal
 

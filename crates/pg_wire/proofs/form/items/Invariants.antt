@@ -1,5 +1,4 @@
-use Rattle.std.proofs.Common.{◌≡◌, ◌-◌, ◌+◌, ◌*◌, ◌≤◌, length, vec_len, vec_capacity}
-use Rattle.pg_wire.specs.Mirrors.Formats.{so_many}
+use Rattle.pg_wire.proofs.Common.{◌≡◌, ◌-◌, ◌+◌, ◌*◌, ◌≤◌, length, vec_len, vec_capacity, so_many}
 use Rattle.pg_wire.proofs.Loop.{with_front}
 use Rattle.pg_wire.proofs.form.items.Given as goal
 

@@ -1,6 +1,4 @@
-use Rattle.std.proofs.lemmas.Result.{err_from_is_err_and}
-use Rattle.pg_wire.specs.Mirrors.Reading.{skipped}
-use Rattle.pg_wire.specs.Mirrors.Formats.{so_many}
+use Rattle.pg_wire.proofs.Common.{err_from_is_err_and, skipped, so_many}
 use Rattle.pg_wire.proofs.Skip.{goes_on, ends, is_done}
 use Rattle.pg_wire.proofs.form.skip_items.Goals as goal
 

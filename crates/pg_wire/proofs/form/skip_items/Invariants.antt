@@ -1,6 +1,4 @@
-use Rattle.std.proofs.Common.{◌≡◌, ◌-◌}
-use Rattle.pg_wire.specs.Mirrors.Reading.{skipped}
-use Rattle.pg_wire.specs.Mirrors.Formats.{so_many}
+use Rattle.pg_wire.proofs.Common.{◌≡◌, ◌-◌, skipped, so_many}
 use Rattle.pg_wire.proofs.form.skip_items.Given as goal
 
 abbrev pub invariant-loop : goal.invariant-loop

@@ -1,5 +1,4 @@
-use Rattle.std.proofs.Common.{◌≡◌, ◌≤◌, length, take}
-use Rattle.pg_wire.specs.Measured.{nonzero}
+use Rattle.pg_wire.proofs.Common.{◌≡◌, ◌≤◌, length, take, nonzero}
 use Rattle.pg_wire.proofs.kind.nonzero_len.Given as goal
 
 abbrev pub invariant-loop-n : goal.invariant-loop-n

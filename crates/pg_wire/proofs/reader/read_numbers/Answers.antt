@@ -1,8 +1,6 @@
-use Rattle.std.proofs.Common.{◌<◌, ◌≤◌, ◌-◌, ◌+◌, length, take, List, ℕ, Ok, refl, ap, ◌∙◌, arith}
-use Rattle.std.proofs.lemmas.List.{take_all, take_more_set}
-use Rattle.std.proofs.lemmas.Result.{err_from_is_err_and}
+use Rattle.pg_wire.proofs.Common.{◌<◌, ◌≤◌, ◌-◌, ◌+◌, length, take, List, ℕ, Ok, refl, ap, ◌∙◌, arith, take_all, take_more_set}
+use Rattle.pg_wire.proofs.Common.{err_from_is_err_and, components, so_many}
 use Rattle.pg_wire.specs.declared.fault.ReadFault.TheVariants as faults
-use Rattle.pg_wire.specs.Mirrors.Formats.{components, so_many}
 use Rattle.pg_wire.proofs.Loop.{goes_on, ends, is_done, with_front}
 use Rattle.pg_wire.proofs.reader.read_numbers.Goals as goal
 

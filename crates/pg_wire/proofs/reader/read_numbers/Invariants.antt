@@ -1,5 +1,4 @@
-use Rattle.std.proofs.Common.{◌≡◌, ◌+◌, ◌*◌, ◌-◌, length, take}
-use Rattle.pg_wire.specs.Mirrors.Formats.{components, so_many}
+use Rattle.pg_wire.proofs.Common.{◌≡◌, ◌+◌, ◌*◌, ◌-◌, length, take, components, so_many}
 use Rattle.pg_wire.proofs.Loop.{with_front}
 use Rattle.pg_wire.proofs.reader.read_numbers.Given as goal
 

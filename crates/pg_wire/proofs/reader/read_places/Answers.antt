@@ -1,11 +1,6 @@
-use Rattle.std.proofs.Common.{◌≡◌, ◌≢◌, ◌<◌, ◌+◌, ◌++◌, ◌∷◌, [], length, get_or, List, ℕ, Ok, sym, ap, ◌∙◌, arith}
-use Rattle.std.proofs.Math.Nat.{sub-zero}
-use Rattle.std.proofs.lemmas.List.{get_or-replicate, length-set}
-use Rattle.std.proofs.lemmas.List.FromFn.{fill_by_all}
-use Rattle.std.proofs.lemmas.List.Elements.{All-push, All-weaker}
-use Rattle.std.proofs.lemmas.Result.{err_from_is_err_and}
-use Rattle.pg_wire.specs.Mirrors.Formats.{places, so_many}
-use Rattle.pg_wire.specs.Measured.{component_in, filled}
+use Rattle.pg_wire.proofs.Common.{◌≡◌, ◌≢◌, ◌<◌, ◌+◌, ◌++◌, ◌∷◌, [], length, get_or, List, ℕ, Ok, sym, ap, ◌∙◌, arith, sub-zero}
+use Rattle.pg_wire.proofs.Common.{get_or-replicate, length-set, fill_by_all, All-push, All-weaker, err_from_is_err_and, places, so_many}
+use Rattle.pg_wire.proofs.Common.{component_in, filled}
 use Rattle.pg_wire.proofs.Filling.{Pair, filled_more}
 use Rattle.pg_wire.specs.declared.fault.ReadFault.TheVariants as faults
 use Rattle.pg_wire.proofs.Loop.{goes_on, ends, is_done, starts}

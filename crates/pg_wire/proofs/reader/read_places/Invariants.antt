@@ -1,7 +1,4 @@
-use Rattle.std.proofs.Common.{◌≡◌, ◌≤◌, ◌<◌, ◌-◌, ℕ, List, length, get_or}
-use Rattle.std.specs.Prelude.{All}
-use Rattle.pg_wire.specs.Mirrors.Formats.{places, so_many}
-use Rattle.pg_wire.specs.Measured.{component_in}
+use Rattle.pg_wire.proofs.Common.{◌≡◌, ◌≤◌, ◌<◌, ◌-◌, ℕ, List, length, get_or, All, places, so_many, component_in}
 use Rattle.pg_wire.proofs.Filling.{Pair}
 use Rattle.pg_wire.proofs.Loop.{with_front}
 use Rattle.pg_wire.proofs.reader.read_places.Given as goal

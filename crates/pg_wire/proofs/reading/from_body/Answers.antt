@@ -1,5 +1,4 @@
-use Rattle.std.proofs.Common.{Ok, sym, ap, ◌∙◌, inl, arith}
-use Rattle.pg_wire.specs.Mirrors.Formats.{body_at}
+use Rattle.pg_wire.proofs.Common.{Ok, sym, ap, ◌∙◌, inl, arith, body_at}
 use Rattle.pg_wire.proofs.Grammar.{ok_is}
 use Rattle.pg_wire.proofs.Bodies.{body_found, body_reads_back, refused}
 use Rattle.pg_wire.proofs.reading.from_body.Goals as goal

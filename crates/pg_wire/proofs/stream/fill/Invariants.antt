@@ -1,5 +1,4 @@
-use Rattle.std.proofs.Common.{ℕ, ◌^◌, ◌<◌, ◌≤◌, ◌-◌, length, slice_index, take}
-use Rattle.std.specs.Io.KnownBytes.{Consumes}
+use Rattle.pg_wire.proofs.Common.{ℕ, ◌^◌, ◌<◌, ◌≤◌, ◌-◌, length, slice_index, take, Consumes}
 use Rattle.pg_wire.proofs.stream.fill.Given as goal
 
 abbrev pub invariant-loop-filled : goal.invariant-loop-filled

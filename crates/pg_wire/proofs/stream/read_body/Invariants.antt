@@ -1,5 +1,4 @@
-use Rattle.std.proofs.Common.{◌≡◌, ℕ, ◌+◌, List, ◌++◌, length}
-use Rattle.std.specs.Io.KnownBytes.{Consumes}
+use Rattle.pg_wire.proofs.Common.{◌≡◌, ℕ, ◌+◌, List, ◌++◌, length, Consumes}
 use Rattle.pg_wire.proofs.stream.read_body.Given as goal
 
 abbrev pub invariant-loop-left : goal.invariant-loop-left

@@ -1,8 +1,5 @@
-use Rattle.std.proofs.Common.{◌≡◌, ap, sym, subst, refl, inl, inr, Err, ℕ, List, length, take, arith}
-use Rattle.std.proofs.lemmas.Result.{err_from_is_err_and}
-use Rattle.std.proofs.lemmas.List.{length-take}
-use Rattle.pg_wire.specs.declared.fault.WireFault.{WireFault}
-use Rattle.pg_wire.specs.Bytes.{IsTooLong}
+use Rattle.pg_wire.proofs.Common.{◌≡◌, ap, sym, subst, refl, inl, inr, Err, ℕ, List, length, take, arith, err_from_is_err_and, length-take}
+use Rattle.pg_wire.proofs.Common.{WireFault, IsTooLong}
 use Rattle.pg_wire.proofs.Consumed.{none_read, cut, long, too_long_alone, body_fault, read_whole, filled_all}
 use Rattle.pg_wire.proofs.stream.read_frame_bytes.Goals as goal
 

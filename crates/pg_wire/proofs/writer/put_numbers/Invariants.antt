@@ -1,6 +1,4 @@
-use Rattle.std.proofs.Common.{◌≡◌, ◌++◌, take}
-use Rattle.std.specs.List.{flat_map}
-use Rattle.pg_wire.specs.Spelling.{word}
+use Rattle.pg_wire.proofs.Common.{◌≡◌, ◌++◌, take, flat_map, word}
 use Rattle.pg_wire.proofs.writer.put_numbers.Given as goal
 
 abbrev pub invariant-loop-n : goal.invariant-loop-n

@@ -1,7 +1,4 @@
-use Rattle.std.proofs.Common.{◌++◌, ap, sym, ◌∙◌, take, get_or, append_assoc, refl, List, ℕ, Vec, Global}
-use Rattle.std.specs.List.{flat_map}
-use Rattle.pg_wire.specs.Spelling.{pair}
-use Rattle.pg_wire.specs.Measured.{nonzero}
+use Rattle.pg_wire.proofs.Common.{◌++◌, ap, sym, ◌∙◌, take, get_or, append_assoc, refl, List, ℕ, Vec, Global, flat_map, pair, nonzero}
 use Rattle.pg_wire.proofs.Nonzero.{nonzero_zero, pairs_more}
 use Rattle.pg_wire.proofs.Buffers.{extends_then}
 use Rattle.pg_wire.proofs.writer.put_pairs.Goals as goal

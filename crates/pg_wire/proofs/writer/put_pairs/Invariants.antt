@@ -1,7 +1,4 @@
-use Rattle.std.proofs.Common.{◌≡◌, ◌++◌, take}
-use Rattle.std.specs.List.{flat_map}
-use Rattle.pg_wire.specs.Spelling.{pair}
-use Rattle.pg_wire.specs.Measured.{nonzero}
+use Rattle.pg_wire.proofs.Common.{◌≡◌, ◌++◌, take, flat_map, pair, nonzero}
 use Rattle.pg_wire.proofs.writer.put_pairs.Given as goal
 
 abbrev pub invariant-loop-place : goal.invariant-loop-place

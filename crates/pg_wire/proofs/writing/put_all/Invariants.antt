@@ -1,6 +1,4 @@
-use Rattle.std.proofs.Common.{take}
-use Rattle.std.specs.List.{flat_map}
-use Rattle.std.specs.Io.KnownBytes.{Appends}
+use Rattle.pg_wire.proofs.Common.{take, flat_map, Appends}
 use Rattle.pg_wire.proofs.writing.put_all.Given as goal
 
 abbrev pub invariant-loop-item : goal.invariant-loop-item

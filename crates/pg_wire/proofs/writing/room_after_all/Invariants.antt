@@ -1,5 +1,4 @@
-use Rattle.std.proofs.Common.{◌≡◌, ◌+◌, take, length}
-use Rattle.std.specs.List.{flat_map}
+use Rattle.pg_wire.proofs.Common.{◌≡◌, ◌+◌, take, length, flat_map}
 use Rattle.pg_wire.proofs.writing.room_after_all.Given as goal
 
 abbrev pub invariant-loop-item : goal.invariant-loop-item

@@ -1,10 +1,5 @@
-use Rattle.std.proofs.Common.{◌≡◌, ◌∙◌, length, set, ap, arith, Some}
-use Rattle.std.proofs.lemmas.List.{length-set}
-use Rattle.pg_wire.specs.declared.frame.VertexLine.{VertexLine}
-use Rattle.pg_wire.specs.Lines.{line_with}
-use Rattle.pg_parts.specs.Frames.{told_line}
-use Rattle.pg_worker.specs.Mirrors.Parts.{held_line}
-use Rattle.pg_lift.specs.Mirrors.Notes.{Span, AreNotes}
+use Rattle.pg_worker.proofs.Common.{◌≡◌, ◌∙◌, length, set, ap, arith, Some, length-set, VertexLine, line_with, told_line, held_line, Span}
+use Rattle.pg_worker.proofs.Common.{AreNotes}
 use Rattle.pg_worker.proofs.NewLines.{IsNewLine}
 use Rattle.pg_worker.proofs.Working.{worker_more, within_more, notes_more, new_line_set}
 use Rattle.pg_worker.proofs.adding.add_line.Goals as goal

@@ -1,16 +1,6 @@
-use Rattle.std.proofs.Common.{◌≡◌, ◌<◌, ◌∷◌, ◌++◌, [], ◌+◌, ◌∙◌, length, take, drop, get_or, set, ◌≤◌, sym, ap, subst, arith, Some}
-use Rattle.std.specs.Prelude.{All, sum_by}
-use Rattle.std.proofs.lemmas.List.{get_or_default, drop_all}
-use Rattle.std.proofs.lemmas.Grind.{take_at_read}
-use Rattle.std.proofs.lemmas.List.Sums.{sum_by-drop_more}
-use Rattle.pg_wire.specs.declared.frame.VertexLine.{VertexLine}
-use Rattle.pg_wire.specs.Well.{IsVertexLine}
-use Rattle.pg_parts.specs.Frames.{told_line}
-use Rattle.pg_worker.specs.Workers.{with_lines, FitsGame}
-use Rattle.pg_worker.specs.Mirrors.Parts.{HasPlace}
-use Rattle.pg_lift.specs.Mirrors.Notes.{HasRoom}
-use Rattle.pg_lift.proofs.Noting.{room_still}
-use Rattle.pg_worker.specs.Mirrors.Insides.{IsNext, edge_count}
+use Rattle.pg_worker.proofs.Common.{◌≡◌, ◌<◌, ◌∷◌, ◌++◌, [], ◌+◌, ◌∙◌, length, take, drop, get_or, set, ◌≤◌, sym, ap, subst, arith, Some}
+use Rattle.pg_worker.proofs.Common.{All, sum_by, get_or_default, drop_all, take_at_read, sum_by-drop_more, VertexLine, IsVertexLine}
+use Rattle.pg_worker.proofs.Common.{told_line, with_lines, FitsGame, HasPlace, HasRoom, room_still, IsNext, edge_count}
 use Rattle.pg_worker.proofs.Working.{next_after, with_lines_more}
 use Rattle.pg_worker.proofs.adding.add_lines.Goals as goal
 use Rattle.pg_worker.proofs.adding.add_lines.Goals.{After-as_slice}

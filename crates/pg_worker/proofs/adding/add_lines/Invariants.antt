@@ -1,9 +1,5 @@
-use Rattle.std.proofs.Common.{◌≡◌, ◌+◌, ◌<◌, ◌≤◌, ℕ, length, take, drop, get_or}
-use Rattle.std.specs.Prelude.{sum_by}
-use Rattle.pg_wire.specs.declared.frame.VertexLine.{VertexLine}
-use Rattle.pg_worker.specs.Workers.{with_lines}
-use Rattle.pg_worker.specs.Mirrors.Parts.{HasPlace}
-use Rattle.pg_worker.specs.Mirrors.Insides.{IsInside, IsNext, edge_count}
+use Rattle.pg_worker.proofs.Common.{◌≡◌, ◌+◌, ◌<◌, ◌≤◌, ℕ, length, take, drop, get_or, sum_by, VertexLine, with_lines, HasPlace, IsInside}
+use Rattle.pg_worker.proofs.Common.{IsNext, edge_count}
 use Rattle.pg_worker.proofs.adding.add_lines.Given as goal
 
 abbrev pub invariant-loop-line : goal.invariant-loop-line

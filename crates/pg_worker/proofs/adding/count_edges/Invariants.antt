@@ -1,6 +1,4 @@
-use Rattle.std.proofs.Common.{◌≡◌, take}
-use Rattle.std.specs.Prelude.{sum_by}
-use Rattle.pg_worker.specs.Mirrors.Insides.{edge_count}
+use Rattle.pg_worker.proofs.Common.{◌≡◌, take, sum_by, edge_count}
 use Rattle.pg_worker.proofs.adding.count_edges.Given as goal
 
 abbrev pub invariant-loop-line : goal.invariant-loop-line

@@ -1,8 +1,5 @@
-use Rattle.std.proofs.Common.{ℕ, ◌≡◌, ◌∙◌, ◌+◌, ◌-◌, ◌<◌, ap, subst, length, get_or, arith}
-use Rattle.std.specs.Prelude.{IsTrue, nat_eq}
-use Rattle.std.proofs.lemmas.List.{get_or_default}
-use Rattle.std.proofs.lemmas.Bool.Decides.{nat_tests}
-use Rattle.pg_measure.specs.Measures.{width_from}
+use Rattle.pg_worker.proofs.Common.{ℕ, ◌≡◌, ◌∙◌, ◌+◌, ◌-◌, ◌<◌, ap, subst, length, get_or, arith, IsTrue, nat_eq, get_or_default, nat_tests}
+use Rattle.pg_worker.proofs.Common.{width_from}
 use Rattle.pg_worker.proofs.Bounded.{last_from}
 use Rattle.pg_worker.proofs.adding.has_bound.Goals as goal
 

@@ -1,7 +1,4 @@
-use Rattle.std.proofs.Common.{refl, sym, ◌∙◌}
-use Rattle.std.proofs.lemmas.Result.{err_from_is_err_and}
-use Rattle.pg_worker.specs.Workers.{CanTake, Takes}
-use Rattle.pg_parts.proofs.Reading.{in_row}
+use Rattle.pg_worker.proofs.Common.{refl, sym, ◌∙◌, err_from_is_err_and, CanTake, Takes, in_row}
 use Rattle.pg_worker.proofs.Taking.{joined_none, joined_more, joined_all, joined_not}
 use Rattle.pg_worker.proofs.joins.join_read.Goals as goal
 

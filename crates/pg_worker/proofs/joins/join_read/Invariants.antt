@@ -1,6 +1,4 @@
-use Rattle.std.proofs.Common.{◌≡◌, List, length}
-use Rattle.pg_wire.specs.Left.{IsLeft}
-use Rattle.pg_wire.specs.Measured.{Measured}
+use Rattle.pg_worker.proofs.Common.{◌≡◌, List, length, IsLeft, Measured}
 use Rattle.pg_worker.proofs.Taking.{Joined}
 use Rattle.pg_worker.proofs.joins.join_read.Given as goal
 

@@ -1,9 +1,5 @@
-use Rattle.std.proofs.Common.{◌≡◌, ◌∷◌, ◌++◌, [], ◌∙◌, ap, arith, length, length-append}
-use Rattle.pg_measure.specs.Measures.{owned}
-use Rattle.pg_map.specs.Maps.{measure_at}
-use Rattle.pg_map.specs.declared.update.Update.{Update}
-use Rattle.pg_worker.specs.Workers.{IsLiftBy}
-use Rattle.pg_worker.specs.Mirrors.Parts.{held_line}
+use Rattle.pg_worker.proofs.Common.{◌≡◌, ◌∷◌, ◌++◌, [], ◌∙◌, ap, arith, length, owned, measure_at, Update, IsLiftBy, held_line}
+use Rattle.std.proofs.Common.{length-append}
 use Rattle.pg_worker.proofs.Runs.{same_lines, lift_on, lifts_more}
 use Rattle.pg_worker.proofs.lifting.lift_some.Goals as goal
 

@@ -1,7 +1,4 @@
-use Rattle.std.proofs.Common.{◌≡◌, length}
-use Rattle.pg_lift.specs.Mirrors.Lifters.{KeepsLines}
-use Rattle.pg_worker.specs.Workers.{AreLifts}
-use Rattle.pg_worker.specs.Mirrors.Parts.{held_line}
+use Rattle.pg_worker.proofs.Common.{◌≡◌, length, KeepsLines, AreLifts, held_line}
 use Rattle.pg_worker.proofs.lifting.lift_some.Given as goal
 
 abbrev pub invariant-loop : goal.invariant-loop

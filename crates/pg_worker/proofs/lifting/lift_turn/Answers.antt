@@ -1,6 +1,5 @@
-use Rattle.std.proofs.Common.{◌∙◌}
+use Rattle.pg_worker.proofs.Common.{◌∙◌, held_line}
 use Rattle.pg_worker.proofs.Runs.{same_lines, lift_on, listed_more}
-use Rattle.pg_worker.specs.Mirrors.Parts.{held_line}
 use Rattle.pg_worker.proofs.lifting.lift_turn.Goals as goal
 
 pub loop-preserved : goal.loop-preserved

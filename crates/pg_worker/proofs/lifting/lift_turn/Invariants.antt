@@ -1,7 +1,4 @@
-use Rattle.std.proofs.Common.{◌≡◌}
-use Rattle.pg_lift.specs.Mirrors.Lifters.{KeepsLines}
-use Rattle.pg_worker.specs.Mirrors.Lifts.{AreListedLifts}
-use Rattle.pg_worker.specs.Mirrors.Parts.{held_line}
+use Rattle.pg_worker.proofs.Common.{◌≡◌, KeepsLines, AreListedLifts, held_line}
 use Rattle.pg_worker.proofs.lifting.lift_turn.Given as goal
 
 abbrev pub invariant-loop : goal.invariant-loop

@@ -1,6 +1,4 @@
-use Rattle.std.proofs.Common.{◌∙◌, ap, arith, length, Some}
-use Rattle.std.proofs.lemmas.Result.{err_from_is_err_and}
-use Rattle.pg_worker.specs.Workers.{WorkerValue}
+use Rattle.pg_worker.proofs.Common.{◌∙◌, ap, arith, length, Some, err_from_is_err_and, WorkerValue}
 use Rattle.pg_worker.proofs.Growing.{Reads, is_line, added_more, not_added}
 use Rattle.pg_worker.proofs.lines.add_read.Goals as goal
 

@@ -1,6 +1,4 @@
-use Rattle.std.proofs.Common.{◌≡◌, List, length}
-use Rattle.pg_wire.specs.declared.frame.VertexLine.{VertexLine}
-use Rattle.pg_wire.specs.LinesLeft.{AreLeft}
+use Rattle.pg_worker.proofs.Common.{◌≡◌, List, length, VertexLine, AreLeft}
 use Rattle.pg_worker.proofs.Growing.{Added}
 use Rattle.pg_worker.proofs.lines.add_read.Given as goal
 

@@ -1,5 +1,4 @@
-use Rattle.std.proofs.Common.{rules, inl, inr}
-use Rattle.std.proofs.lemmas.Result.{err_from_is_err_and}
+use Rattle.pg_worker.proofs.Common.{rules, inl, inr, err_from_is_err_and}
 use Rattle.pg_worker.proofs.lines.add_read_lines.Goals as goal
 
 pub returns-in_err-add_read-clause-refused : goal.returns-in_err-add_read-clause-refused

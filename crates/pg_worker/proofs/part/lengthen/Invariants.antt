@@ -1,7 +1,4 @@
-use Rattle.std.proofs.Common.{◌≡◌, ◌≤◌, ℕ, length, get_or}
-use Rattle.std.specs.Prelude.{vec_capacity}
-use Rattle.pg_arena.specs.declared.player.Player.TheVariants.{Even}
-use Rattle.pg_worker.specs.Mirrors.Parts.{no_head}
+use Rattle.pg_worker.proofs.Common.{◌≡◌, ◌≤◌, ℕ, length, get_or, vec_capacity, Even, no_head}
 use Rattle.pg_worker.proofs.part.lengthen.Given as goal
 
 abbrev pub invariant-loop : goal.invariant-loop

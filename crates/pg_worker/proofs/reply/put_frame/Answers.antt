@@ -1,11 +1,5 @@
-use Rattle.std.proofs.Common.{◌≡◌, ◌++◌, length, take, ap, ◌∙◌, arith}
-use Rattle.pg_measure.specs.Views.{measure_in}
-use Rattle.pg_wire.specs.declared.frame.Frame.{Frame}
-use Rattle.pg_wire.specs.Spelling.{spelling}
-use Rattle.pg_wire.specs.Measured.{frame_of}
-use Rattle.pg_wire.proofs.Buffers.{extends_by}
-use Rattle.pg_worker.specs.Mirrors.Replies.{measures_of}
-use Rattle.pg_parts.proofs.Fitting.{few_components}
+use Rattle.pg_worker.proofs.Common.{◌≡◌, ◌++◌, length, take, ap, ◌∙◌, arith, measure_in, Frame, spelling, frame_of, extends_by, measures_of}
+use Rattle.pg_worker.proofs.Common.{few_components}
 use Rattle.pg_worker.proofs.Packing.{IsFull, stopped}
 use Rattle.pg_worker.proofs.reply.put_frame.Goals as goal
 

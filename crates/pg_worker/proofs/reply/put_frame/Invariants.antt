@@ -1,6 +1,4 @@
-use Rattle.std.proofs.Common.{◌≡◌, take, length}
-use Rattle.pg_wire.specs.Written.{IsWriting}
-use Rattle.pg_worker.specs.Mirrors.Replies.{measures_of}
+use Rattle.pg_worker.proofs.Common.{◌≡◌, take, length, IsWriting, measures_of}
 use Rattle.pg_worker.proofs.reply.put_frame.Given as goal
 
 abbrev pub invariant-loop-n : goal.invariant-loop-n

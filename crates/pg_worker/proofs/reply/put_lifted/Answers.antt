@@ -1,11 +1,5 @@
-use Rattle.std.proofs.Common.{◌≡◌, ◌<◌, ◌+◌, ◌++◌, [], ℕ, List, length, take, drop, sym, ap, ◌∙◌, append_assoc, arith}
-use Rattle.std.specs.Prelude.{All}
-use Rattle.std.proofs.lemmas.Bool.{eqb-true}
-use Rattle.std.proofs.lemmas.List.{append-nil, get_or-drop, length-drop, nil_from_length}
-use Rattle.pg_wire.specs.Spelling.{spelling}
-use Rattle.pg_wire.specs.Measured.{frame_of}
-use Rattle.pg_wire.proofs.Buffers.{extends_then}
-use Rattle.pg_worker.specs.Mirrors.Replies.{measures_of}
+use Rattle.pg_worker.proofs.Common.{◌≡◌, ◌<◌, ◌+◌, ◌++◌, [], ℕ, List, length, take, drop, sym, ap, ◌∙◌, append_assoc, arith, All, eqb-true}
+use Rattle.pg_worker.proofs.Common.{append-nil, get_or-drop, length-drop, nil_from_length, spelling, frame_of, extends_then, measures_of}
 use Rattle.pg_worker.proofs.Packing.{packs_front, packs_none}
 use Rattle.pg_worker.proofs.reply.put_lifted.Goals as goal
 

@@ -1,7 +1,4 @@
-use Rattle.std.proofs.Common.{◌≡◌, ℕ, ◌<◌, List, ◌++◌, length}
-use Rattle.std.specs.Prelude.{All}
-use Rattle.pg_worker.specs.Turns.{Packs, lifted_measures}
-use Rattle.pg_worker.specs.Mirrors.Replies.{measures_of}
+use Rattle.pg_worker.proofs.Common.{◌≡◌, ℕ, ◌<◌, List, ◌++◌, length, All, Packs, lifted_measures, measures_of}
 use Rattle.pg_worker.proofs.reply.put_lifted.Given as goal
 
 abbrev pub invariant-loop-rest : goal.invariant-loop-rest

@@ -1,9 +1,5 @@
-use Rattle.std.proofs.Common.{◌≢◌, ◌∷◌, ◌++◌, ◌∙◌, [], refl, arith}
-use Rattle.std.proofs.lemmas.List.{length-append}
-use Rattle.std.proofs.lemmas.List.Elements.{All-push}
-use Rattle.pg_wire.specs.declared.frame.Frame.{Frame}
+use Rattle.pg_worker.proofs.Common.{◌≢◌, ◌∷◌, ◌++◌, ◌∙◌, [], refl, arith, length-append, All-push, Frame, IsStep}
 use Rattle.pg_wire.specs.declared.frame.Frame.TheVariants as frames
-use Rattle.pg_worker.specs.Mirrors.Steps.{IsStep}
 use Rattle.pg_worker.specs.declared.served.Step.TheVariants as steps
 use Rattle.pg_worker.proofs.Exchanging.{exchanges_more, broken_off}
 use Rattle.pg_worker.proofs.service.serve_by.Goals as goal

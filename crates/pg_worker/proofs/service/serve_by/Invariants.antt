@@ -1,8 +1,5 @@
-use Rattle.std.proofs.Common.{◌≡◌, ◌≢◌, List, length}
-use Rattle.std.specs.Prelude.{All}
-use Rattle.pg_wire.specs.declared.frame.Frame.{Frame}
+use Rattle.pg_worker.proofs.Common.{◌≡◌, ◌≢◌, List, length, All, Frame, Exchanges}
 use Rattle.pg_wire.specs.declared.frame.Frame.TheVariants as frames
-use Rattle.pg_worker.specs.Serving.{Exchanges}
 use Rattle.pg_worker.proofs.service.serve_by.Given as goal
 
 abbrev pub invariant-loop-frames : goal.invariant-loop-frames

@@ -1,5 +1,4 @@
-use Rattle.std.proofs.Common.{inr, refl, rules}
-use Rattle.std.proofs.lemmas.Result.{err_from_is_err_and}
+use Rattle.pg_worker.proofs.Common.{inr, refl, rules, err_from_is_err_and}
 use Rattle.pg_worker.proofs.Exchanging.{refused_at}
 use Rattle.pg_worker.proofs.service.step.Goals as goal
 

@@ -1,5 +1,4 @@
-use Rattle.std.proofs.Common.{◌++◌, ◌∙◌, List, ℕ, refl, ap, append_assoc}
-use Rattle.pg_worker.specs.Turns.{report}
+use Rattle.pg_worker.proofs.Common.{◌++◌, ◌∙◌, List, ℕ, refl, ap, append_assoc, report}
 use Rattle.pg_worker.proofs.Listed.{lifted_within, status_is}
 use Rattle.pg_worker.proofs.turn.lift.Goals as goal
 

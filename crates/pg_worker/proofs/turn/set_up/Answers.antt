@@ -1,6 +1,4 @@
-use Rattle.std.proofs.Common.{length, ap, ◌∙◌}
-use Rattle.std.proofs.lemmas.List.{length-replicate}
-use Rattle.pg_wire.proofs.Few.{few_bounds}
+use Rattle.pg_worker.proofs.Common.{length, ap, ◌∙◌, length-replicate, few_bounds}
 use Rattle.pg_worker.proofs.turn.set_up.Goals as goal
 
 pub invariant_of-result : goal.invariant_of-result

@@ -1,6 +1,4 @@
-use Rattle.std.proofs.Common.{Some, true, length, ap, sym, ◌∙◌, rules, inr, refl}
-use Rattle.std.proofs.lemmas.Result.{err_from_is_err_and}
-use Rattle.pg_worker.specs.Workers.{WorkerValue}
+use Rattle.pg_worker.proofs.Common.{Some, true, length, ap, sym, ◌∙◌, rules, inr, refl, err_from_is_err_and, WorkerValue}
 use Rattle.pg_worker.proofs.turn.take_read.Goals as goal
 
 pub returns-in_err-join_read-clause-refused : goal.returns-in_err-join_read-clause-refused

@@ -1,5 +1,4 @@
-use Rattle.std.proofs.Common.{[], sym, refl}
-use Rattle.std.proofs.lemmas.List.{append-nil}
+use Rattle.pg_worker.proofs.Common.{[], sym, refl, append-nil}
 use Rattle.pg_worker.proofs.turn.turn.Goals as goal
 
 pub returns-in-Halt-clause-turn : goal.returns-in-Halt-clause-turn

@@ -1,6 +1,4 @@
-use Rattle.std.proofs.Common.{◌≡◌, [], sym}
-use Rattle.std.proofs.lemmas.List.{append-nil}
-use Rattle.std.proofs.lemmas.Result.{err_from_is_err_and}
+use Rattle.pg_worker.proofs.Common.{◌≡◌, [], sym, append-nil, err_from_is_err_and}
 use Rattle.pg_worker.proofs.Taking.{refuses_none, bytes_turn, bytes_refused}
 use Rattle.pg_worker.proofs.turn.turn_of.Goals as goal
 

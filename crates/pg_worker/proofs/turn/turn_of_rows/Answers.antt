@@ -1,5 +1,4 @@
-use Rattle.std.proofs.Common.{Some, inr}
-use Rattle.std.proofs.lemmas.Result.{err_from_is_err_and}
+use Rattle.pg_worker.proofs.Common.{Some, inr, err_from_is_err_and}
 use Rattle.pg_worker.proofs.Taking.{does_turn, refuses_bytes}
 use Rattle.pg_worker.proofs.turn.turn_of_rows.Goals as goal
 

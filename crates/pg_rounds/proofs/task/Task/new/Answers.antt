@@ -1,6 +1,4 @@
-use Rattle.std.proofs.Common.{◌∙◌, arith, refl}
-use Rattle.pg_measure.specs.Games.{IsBoundsOf}
-use Rattle.pg_parts.proofs.Ranges.{setup_is_well}
+use Rattle.pg_rounds.proofs.Common.{◌∙◌, arith, refl, IsBoundsOf, setup_is_well}
 use Rattle.pg_rounds.proofs.task.Task.new.Goals as goal
 
 pub invariant_of-result : goal.invariant_of-result

@@ -1,5 +1,4 @@
-use Rattle.std.proofs.Common.{arith}
-use Rattle.pg_wire.specs.Measured.{nonzero}
+use Rattle.pg_wire.proofs.Common.{arith, nonzero}
 use Rattle.pg_wire.proofs.Nonzero.{words_size, pairs_size}
 use Rattle.pg_wire.proofs.kind.ValueKind.list_size.Goals as goal
 

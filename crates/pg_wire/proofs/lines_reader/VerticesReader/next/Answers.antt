@@ -1,7 +1,5 @@
-use Rattle.std.proofs.Common.{◌≡◌, ◌++◌, ◌∙◌, ℕ, List, length, take, drop, Some, Ok, sym, subst, arith}
-use Rattle.std.proofs.lemmas.List.{take_at}
-use Rattle.pg_wire.specs.LinesLeft.{IsNextLine}
-use Rattle.pg_wire.specs.Mirrors.Formats.{all_components}
+use Rattle.pg_wire.proofs.Common.{◌≡◌, ◌++◌, ◌∙◌, ℕ, List, length, take, drop, Some, Ok, sym, subst, arith, take_at, IsNextLine}
+use Rattle.pg_wire.proofs.Common.{all_components}
 use Rattle.pg_wire.proofs.Lines.{none_left, cut_left, next_left}
 use Rattle.pg_wire.proofs.lines_reader.VerticesReader.next.Goals as goal
 use Rattle.pg_wire.proofs.lines_reader.VerticesReader.next.Goals.{In_default-read_numbers}

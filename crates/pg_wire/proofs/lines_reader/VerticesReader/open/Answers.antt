@@ -1,5 +1,4 @@
-use Rattle.std.proofs.Common.{ℕ, List, length, get_or, ap, refl, arith}
-use Rattle.pg_wire.specs.Lines.{frame_with}
+use Rattle.pg_wire.proofs.Common.{ℕ, List, length, get_or, ap, refl, arith, frame_with}
 use Rattle.pg_wire.proofs.Lengths.{counted_body, kinded_body, kinded_spells}
 use Rattle.pg_wire.proofs.lines_reader.VerticesReader.open.Goals as goal
 

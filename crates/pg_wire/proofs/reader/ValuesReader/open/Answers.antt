@@ -1,5 +1,4 @@
-use Rattle.std.proofs.Common.{ℕ, List, length, get_or, sym, ap, refl, ◌∙◌, arith}
-use Rattle.pg_wire.specs.Measured.{kind_number, frame_of}
+use Rattle.pg_wire.proofs.Common.{ℕ, List, length, get_or, sym, ap, refl, ◌∙◌, arith, kind_number, frame_of}
 use Rattle.pg_wire.proofs.Lengths.{counted_body, kinded_body, kinded_spells, no_measures}
 use Rattle.pg_wire.proofs.Tells.{kinded}
 use Rattle.pg_wire.proofs.reader.ValuesReader.open.Goals as goal

@@ -1,7 +1,4 @@
-use Rattle.std.proofs.Common.{◌≡◌, ◌<◌, ◌≤◌, ◌+◌, ◌-◌, ◌++◌, ◌∙◌, ℕ, length, get_or, ap, arith}
-use Rattle.std.proofs.lemmas.List.{take_all}
-use Rattle.pg_arena.specs.declared.player.Player.TheVariants.{Even}
-use Rattle.pg_worker.specs.Mirrors.Parts.{no_head}
+use Rattle.pg_worker.proofs.Common.{◌≡◌, ◌<◌, ◌≤◌, ◌+◌, ◌-◌, ◌++◌, ◌∙◌, ℕ, length, get_or, ap, arith, take_all, Even, no_head}
 use Rattle.pg_worker.proofs.Parts.{lines_more, span_more, lines_size}
 use Rattle.pg_worker.proofs.part.Part.add.Goals as goal
 

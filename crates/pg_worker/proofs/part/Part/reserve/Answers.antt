@@ -1,5 +1,4 @@
-use Rattle.std.proofs.Common.{◌≡◌, ◌<◌, ◌≤◌, ◌+◌, ◌∙◌, length, sym, arith}
-use Rattle.std.proofs.lemmas.Bool.{eqb-true}
+use Rattle.pg_worker.proofs.Common.{◌≡◌, ◌<◌, ◌≤◌, ◌+◌, ◌∙◌, length, sym, arith, eqb-true}
 use Rattle.pg_worker.proofs.Parts.{span_moved, lines_size}
 use Rattle.pg_worker.proofs.part.Part.reserve.Goals as goal
 use Rattle.pg_worker.proofs.part.Part.reserve.Goals.{then-is_empty, else-is_empty}

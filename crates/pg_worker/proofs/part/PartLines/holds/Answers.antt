@@ -1,7 +1,4 @@
-use Rattle.std.proofs.Common.{◌≡◌, ◌<◌, ◌≤◌, ◌-◌, ℕ, length, get_or, ap, arith}
-use Rattle.std.proofs.lemmas.Bool.{ltb-true}
-use Rattle.pg_worker.specs.declared.part.Head.{Head}
-use Rattle.pg_worker.specs.Mirrors.Parts.{no_head}
+use Rattle.pg_worker.proofs.Common.{◌≡◌, ◌<◌, ◌≤◌, ◌-◌, ℕ, length, get_or, ap, arith, ltb-true, Head, no_head}
 use Rattle.pg_worker.proofs.Parts.{not_before, not_past, holds_if, read_in}
 use Rattle.pg_worker.proofs.part.PartLines.holds.Goals as goal
 

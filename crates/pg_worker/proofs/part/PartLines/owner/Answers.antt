@@ -1,6 +1,4 @@
-use Rattle.std.proofs.Common.{◌≡◌, ◌<◌, ◌-◌, ◌∙◌, ℕ, length, get_or, ap, sym, arith}
-use Rattle.pg_arena.specs.declared.player.Player.TheVariants.{Even}
-use Rattle.pg_map.specs.Lines.{Line}
+use Rattle.pg_worker.proofs.Common.{◌≡◌, ◌<◌, ◌-◌, ◌∙◌, ℕ, length, get_or, ap, sym, arith, Even, Line}
 use Rattle.pg_worker.proofs.Parts.{held_is, read_in}
 use Rattle.pg_worker.proofs.part.PartLines.owner.Goals as goal
 

@@ -1,7 +1,4 @@
-use Rattle.std.proofs.Common.{◌≡◌, ◌-◌, ◌∙◌, ℕ, get_or, ap, sym, arith}
-use Rattle.pg_map.specs.Lines.{Line}
-use Rattle.pg_worker.specs.declared.part.Head.{Head}
-use Rattle.pg_worker.specs.Mirrors.Parts.{no_head}
+use Rattle.pg_worker.proofs.Common.{◌≡◌, ◌-◌, ◌∙◌, ℕ, get_or, ap, sym, arith, Line, Head, no_head}
 use Rattle.pg_worker.proofs.Parts.{held_is, read_in}
 use Rattle.pg_worker.proofs.part.PartLines.priority.Goals as goal
 

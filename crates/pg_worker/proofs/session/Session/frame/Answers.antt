@@ -1,7 +1,4 @@
-use Rattle.std.proofs.Common.{◌∙◌, Err, length, inl, inr, ap}
-use Rattle.std.proofs.lemmas.Bool.{cases_lt}
-use Rattle.pg_wire.specs.Spelling.{body, longest}
-use Rattle.pg_wire.specs.Bytes.{Spells}
+use Rattle.pg_worker.proofs.Common.{◌∙◌, Err, length, inl, inr, ap, cases_lt, body, longest, Spells}
 use Rattle.pg_worker.proofs.Taking.{frame_turn, frame_refused, not_encoded}
 use Rattle.pg_worker.proofs.session.Session.frame.Goals as goal
 use Rattle.pg_worker.proofs.session.Session.frame.Goals.{After-frame_from}

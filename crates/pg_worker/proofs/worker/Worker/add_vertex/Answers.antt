@@ -1,9 +1,5 @@
-use Rattle.std.proofs.Common.{rules, ◌<◌, ◌≤◌, ◌+◌, ◌∷◌, [], false, length, ap, inr, refl, arith}
-use Rattle.pg_wire.specs.declared.frame.VertexLine.{VertexLine}
-use Rattle.pg_wire.specs.Lines.{line_with}
-use Rattle.pg_parts.specs.Frames.{told_line}
-use Rattle.pg_worker.specs.Workers.{FitsGame}
-use Rattle.pg_worker.specs.Mirrors.Insides.{IsInside, IsNext, IsWhole}
+use Rattle.pg_worker.proofs.Common.{rules, ◌<◌, ◌≤◌, ◌+◌, ◌∷◌, [], false, length, ap, inr, refl, arith, VertexLine, line_with, told_line}
+use Rattle.pg_worker.proofs.Common.{FitsGame, IsInside, IsNext, IsWhole}
 use Rattle.pg_worker.proofs.Working.{above_next, next_above, next_after, lifter_of, whole_of, whole_same, inside_of, inside_same, lifter_same, lifter_more, next_same}
 use Rattle.pg_worker.proofs.Growing.{only}
 use Rattle.pg_worker.proofs.worker.Worker.add_vertex.Goals as goal

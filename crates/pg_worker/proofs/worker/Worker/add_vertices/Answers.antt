@@ -1,9 +1,5 @@
-use Rattle.std.proofs.Common.{rules, ◌≡◌, ◌<◌, ◌≤◌, ◌+◌, ◌-◌, ℕ, List, false, length, get_or, ap, inl, inr, refl, arith}
-use Rattle.std.specs.Prelude.{AllPairs}
-use Rattle.std.proofs.lemmas.Bool.{cases_eq}
-use Rattle.std.proofs.lemmas.List.{get_or_default}
-use Rattle.pg_wire.specs.declared.frame.VertexLine.{VertexLine}
-use Rattle.pg_worker.specs.Mirrors.Insides.{IsInside, IsWhole}
+use Rattle.pg_worker.proofs.Common.{rules, ◌≡◌, ◌<◌, ◌≤◌, ◌+◌, ◌-◌, ℕ, List, false, length, get_or, ap, inl, inr, refl, arith, AllPairs}
+use Rattle.pg_worker.proofs.Common.{cases_eq, get_or_default, VertexLine, IsInside, IsWhole}
 use Rattle.pg_worker.proofs.Working.{above_next, lifter_of, whole_of, whole_same, inside_of, inside_same, lifter_same, lifter_more, next_same}
 use Rattle.pg_worker.proofs.worker.Worker.add_vertices.Goals as goal
 use Rattle.pg_worker.proofs.worker.Worker.add_vertices.Goals.{After-make_room}

@@ -1,8 +1,4 @@
-use Rattle.std.proofs.Common.{◌≡◌, ◌∙◌, ap, refl, length}
-use Rattle.pg_measure.specs.Measures.{owned}
-use Rattle.pg_map.specs.Maps.{measure_at, IsServed}
-use Rattle.pg_lift.specs.Mirrors.Lifters.{LifterValue, Lifts}
-use Rattle.pg_worker.specs.Mirrors.Parts.{PartValue, held_line}
+use Rattle.pg_worker.proofs.Common.{◌≡◌, ◌∙◌, ap, refl, length, owned, measure_at, IsServed, LifterValue, Lifts, PartValue, held_line}
 use Rattle.pg_worker.proofs.Working.{worker_of, lifts_of}
 use Rattle.pg_worker.proofs.worker.Worker.lift.Goals as goal
 

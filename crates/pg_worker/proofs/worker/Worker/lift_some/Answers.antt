@@ -1,5 +1,4 @@
-use Rattle.std.proofs.Common.{◌≡◌, ap}
-use Rattle.std.proofs.lemmas.Result.{err_from_is_err_and}
+use Rattle.pg_worker.proofs.Common.{◌≡◌, ap, err_from_is_err_and}
 use Rattle.pg_worker.proofs.Working.{lifts_of}
 use Rattle.pg_worker.proofs.worker.Worker.lift_some.Goals as goal
 

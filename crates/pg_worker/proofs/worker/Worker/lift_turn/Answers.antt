@@ -1,7 +1,4 @@
-use Rattle.std.proofs.Common.{◌≡◌, ℕ, get_or, refl, subst}
-use Rattle.std.specs.Prelude.{Any}
-use Rattle.std.proofs.lemmas.List.{get_or_default}
-use Rattle.pg_map.specs.declared.update.Update.{Update}
+use Rattle.pg_worker.proofs.Common.{◌≡◌, ℕ, get_or, refl, subst, Any, get_or_default, Update}
 use Rattle.pg_worker.proofs.Working.{lifts_of}
 use Rattle.pg_worker.proofs.worker.Worker.lift_turn.Goals as goal
 

@@ -1,8 +1,4 @@
-use Rattle.std.proofs.Common.{◌≡◌, ◌∙◌, ℕ, length, ap, sym, arith, false, None}
-use Rattle.std.specs.Prelude.{replicate}
-use Rattle.std.proofs.lemmas.List.{length-replicate}
-use Rattle.pg_measure.specs.Measures.{zeros}
-use Rattle.pg_worker.specs.Mirrors.Insides.{IsInside}
+use Rattle.pg_worker.proofs.Common.{◌≡◌, ◌∙◌, ℕ, length, ap, sym, arith, false, None, replicate, length-replicate, zeros, IsInside}
 use Rattle.pg_worker.proofs.Working.{worker_empty, none_held_at, next_empty}
 use Rattle.pg_worker.proofs.worker.Worker.new.Goals as goal
 use Rattle.pg_worker.proofs.worker.Worker.new.Goals.{After-new-lines}
