@@ -19,7 +19,8 @@ use Rattle.pg_world.specs.Mirrors.Kept.{IsMade, shown, ComeFrom, IsReplica, AreR
 use Rattle.pg_world.proofs.Joining.{as_map, one_join, raise_joins, update_under, last_at}
 use Rattle.pg_world.proofs.Keeping.{new_is_world, new_map, taking_is_world, making_is_world, forgetting_is_world, map_after_taking}
 use Rattle.pg_world.proofs.Keeping.{map_after_making, map_besides_making, map_besides_taking, map_besides_forgetting, map_after_forgetting}
-use Rattle.pg_world.proofs.Running.{Laws, lift_makes}
+use Rattle.pg_world.specs.Mirrors.MapLaws.{MapLaws}
+use Rattle.pg_world.proofs.Running.{lift_makes}
 use Rattle.pg_world.proofs.Showing.{shown_set, length-shown, shown_longer, nothing_shown, come_from_none, come_from_more, come_from_longer, come_from_set}
 
 abbrev pub count : WorldValue → ℕ
@@ -69,7 +70,7 @@ taken_now : (w : WorldValue) (z : OwnedMeasure) (gs : List (List ℕ)) (r n : �
 taken_now w z gs r n i l = let within : r < length w.taken = omega (arith, i.world.size) in get_or-set_same w.taken r (taken_of w r ++ n ∷ []) [] within
 
 -- and is above what was there
-pub takes_rising : Laws → (w : WorldValue) (z : OwnedMeasure) (gs : List (List ℕ)) (r n : ℕ) → AreReplicas w z gs → r ≤ w.cut.workers
+pub takes_rising : MapLaws → (w : WorldValue) (z : OwnedMeasure) (gs : List (List ℕ)) (r n : ℕ) → AreReplicas w z gs → r ≤ w.cut.workers
     → n < length w.updates
     → IsBelow (measure_at (map_in w gs r) (update_at w.bounds w.updates n).vertex) (update_at w.bounds w.updates n).measure
     → AreReplicas (taking w r n) z (set gs r (set (greatest_of gs r) (update_at w.bounds w.updates n).vertex n))
@@ -116,7 +117,7 @@ takes_rising laws w z gs r n i l below rises = record {
     }
 
 -- and is at most what was there
-pub takes_covered : Laws → (w : WorldValue) (z : OwnedMeasure) (gs : List (List ℕ)) (r n : ℕ) → AreReplicas w z gs → r ≤ w.cut.workers
+pub takes_covered : MapLaws → (w : WorldValue) (z : OwnedMeasure) (gs : List (List ℕ)) (r n : ℕ) → AreReplicas w z gs → r ≤ w.cut.workers
     → n < length w.updates
     → AtMost (update_at w.bounds w.updates n).measure (measure_at (map_in w gs r) (update_at w.bounds w.updates n).vertex)
     → AreReplicas (taking w r n) z gs
@@ -167,7 +168,7 @@ made_others w z gs r q u i few ne l = let x = i.each q l in record {
       (come_from_longer w.updates u (taken_of w q) (greatest_of gs q) (i.world.taken q) x.from);
 }
 
-pub makes : Laws → (w : WorldValue) (z : OwnedMeasure) (gs : List (List ℕ)) (r : ℕ) (u : UpdateValue) → AreReplicas w z gs
+pub makes : MapLaws → (w : WorldValue) (z : OwnedMeasure) (gs : List (List ℕ)) (r : ℕ) (u : UpdateValue) → AreReplicas w z gs
     → r ≤ w.cut.workers → length w.updates < NO_UPDATE → u.vertex < count w → LiftsTo w r u
     → AreReplicas (making w r u) z (set gs r (set (greatest_of gs r) u.vertex (length w.updates)))
 makes laws w z gs r u i l few lv lifts = record {
@@ -220,7 +221,7 @@ makes laws w z gs r u i l few lv lifts = record {
 
 -- ---- a replica starts anew
 
-pub forgets : Laws → (w : WorldValue) (z : OwnedMeasure) (gs : List (List ℕ)) (r : ℕ) → AreReplicas w z gs → r ≤ w.cut.workers
+pub forgets : MapLaws → (w : WorldValue) (z : OwnedMeasure) (gs : List (List ℕ)) (r : ℕ) → AreReplicas w z gs → r ≤ w.cut.workers
     → AreReplicas (forgetting w r) z (set gs r (replicate (length (greatest_of gs r)) NO_UPDATE))
 forgets laws w z gs r i l = record {
   world = forgetting_is_world w r i.world;
@@ -251,7 +252,7 @@ forgets laws w z gs r i l = record {
 
 -- ---- a new world
 
-pub new_replicas : Laws → (game : List GameVertex) (bounds : BoundList) (cut : CutValue) (z : OwnedMeasure) → IsGame game
+pub new_replicas : MapLaws → (game : List GameVertex) (bounds : BoundList) (cut : CutValue) (z : OwnedMeasure) → IsGame game
     → IsBoundsOf game bounds → length cut.numbers ≡ length game → z.value ≡ zeros bounds
     → AreReplicas (new_world game bounds cut) z (replicate (1 + cut.workers) (replicate (length game) NO_UPDATE))
 new_replicas laws game bounds cut z g b size zero = record {

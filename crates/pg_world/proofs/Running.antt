@@ -7,30 +7,23 @@ use Rattle.std.proofs.lemmas.List.Elements.{All-head, All-tail, All-set}
 use Rattle.pg_arena.specs.Games.{GameVertex, IsGame}
 use Rattle.pg_measure.specs.Measures.{BoundList, MeasureValue, Fits, zeros, AtMost, IsBelow}
 use Rattle.pg_measure.specs.Games.{IsBoundsOf}
-use Rattle.pg_measure.specs.Laws.{OrderIsTotal}
 use Rattle.pg_map.specs.Lines.{Line, game_line}
 use Rattle.pg_map.specs.Maps.{measure_at, IsMap, zero_map, MapAtMost, IsClosed, IsNeverAbove, IsJoin, IsLifted, IsLeastServing}
-use Rattle.pg_map.specs.Laws.{GameLines, ZeroMapIsLeast, LiftStaysUnder}
 use Rattle.pg_parts.specs.Cuts.{CutValue}
 use Rattle.pg_world.specs.declared.event.Event.{Event}
 use Rattle.pg_world.specs.declared.event.Event.TheVariants.{Lift, Deliver, Restart, CoordinatorLift}
 use Rattle.pg_world.specs.Updates.{UpdateValue, update_at, map_of_update}
 use Rattle.pg_world.specs.Worlds.{WorldValue, new_world, taken_of, IsMapOf, taking, forgetting, making, Lifts, Steps, refusal, IsEventOf, Runs}
 use Rattle.pg_world.specs.Mirrors.Kept.{IsMade, IsWorld}
+use Rattle.pg_world.specs.Mirrors.MapLaws.{MapLaws}
 use Rattle.pg_world.proofs.Joining.{update_under, raise_joins}
 use Rattle.pg_world.proofs.Keeping.{new_map, new_is_world, taking_is_world, making_is_world, forgetting_is_world, map_after_taking}
 use Rattle.pg_world.proofs.Keeping.{map_after_making, map_besides_making, map_besides_taking, map_besides_forgetting, map_after_forgetting}
 use Rattle.pg_world.proofs.Refusing.{delivers, lifts, restarts}
 
--- the laws of measures and maps that the proofs use
-pub record Laws : Type 0 where
-  pub order : OrderIsTotal
-  pub zero : ZeroMapIsLeast
-  pub lines : GameLines
-  pub under : LiftStaysUnder
-
 -- the map of a replica is at most each closed map
-pub map_never_above : Laws → (w : WorldValue) (r : ℕ) (f : List MeasureValue) → IsWorld w → IsMapOf w r f → IsNeverAbove w.bounds (game_line w.game) f
+pub map_never_above : MapLaws → (w : WorldValue) (r : ℕ) (f : List MeasureValue) → IsWorld w → IsMapOf w r f
+    → IsNeverAbove w.bounds (game_line w.game) f
 map_never_above laws w r f i j = λ h m c.
     let size : length h ≡ length w.game = m.size ∙ j.map.size in
     let map : IsMap w.bounds (length w.game) h = record { size = size; fits = m.fits } in
@@ -57,7 +50,7 @@ as_lift bs lines n f v m w l least below =
     }
 
 -- what a lift makes is at most that of each closed map
-pub lift_makes : Laws → (w : WorldValue) (r v : ℕ) (f : List MeasureValue) (m : MeasureValue) → IsWorld w → v < length w.game
+pub lift_makes : MapLaws → (w : WorldValue) (r v : ℕ) (f : List MeasureValue) (m : MeasureValue) → IsWorld w → v < length w.game
     → IsMapOf w r f → IsLeastServing w.bounds (game_line w.game) f v m → IsBelow (measure_at f v) m
     → IsMade w.bounds (game_line w.game) (length w.game) (record { vertex = v; measure = m })
 lift_makes laws w r v f m i l j least below = record {
@@ -92,7 +85,7 @@ pub record Keeps (game : List GameVertex) (bounds : BoundList) (cut : CutValue) 
   pub maps : HasMaps w
 
 -- a join of a map and a measure at one vertex
-join_at : Laws → (bs : BoundList) (n : ℕ) (f : List MeasureValue) (u : UpdateValue) → IsMap bs n f → u.vertex < n → Fits bs u.measure
+join_at : MapLaws → (bs : BoundList) (n : ℕ) (f : List MeasureValue) (u : UpdateValue) → IsMap bs n f → u.vertex < n → Fits bs u.measure
     → (g : List MeasureValue) × IsMap bs n g × IsJoin f (map_of_update bs n u) g
 join_at laws bs n f u w l fits = either (laws.order.total (measure_at f u.vertex) u.measure)
   where
@@ -116,7 +109,8 @@ join_at laws bs n f u w l fits = either (laws.order.total (measure_at f u.vertex
       },
     )
 
-deliver_keeps : Laws → (game : List GameVertex) (bounds : BoundList) (cut : CutValue) (w : WorldValue) (r n : ℕ) → Keeps game bounds cut w
+deliver_keeps : MapLaws → (game : List GameVertex) (bounds : BoundList) (cut : CutValue) (w : WorldValue) (r n : ℕ)
+    → Keeps game bounds cut w
     → r ≤ w.cut.workers → n < length w.updates → Keeps game bounds cut (taking w r n)
 deliver_keeps laws game bounds cut w r n k l below = record {
   game_is = k.game_is;
@@ -139,7 +133,7 @@ deliver_keeps laws game bounds cut w r n k l below = record {
     at q within (inl e) = subst (λ (x : ℕ). (f : List MeasureValue) × IsMapOf (taking w r n) x f) (sym e) here
     at q within (inr ne) = let f = k.maps q within in (f.0, map_besides_taking w r q n f.0 ne f.1)
 
-restart_keeps : Laws → (game : List GameVertex) (bounds : BoundList) (cut : CutValue) (w : WorldValue) (r : ℕ) → Keeps game bounds cut w
+restart_keeps : MapLaws → (game : List GameVertex) (bounds : BoundList) (cut : CutValue) (w : WorldValue) (r : ℕ) → Keeps game bounds cut w
     → r ≤ w.cut.workers → Keeps game bounds cut (forgetting w r)
 restart_keeps laws game bounds cut w r k l = record {
   game_is = k.game_is;
@@ -154,7 +148,7 @@ restart_keeps laws game bounds cut w r k l = record {
         (zero_map w.bounds (length w.game), map_after_forgetting laws.zero w r k.world l)
     at q within (inr ne) = let f = k.maps q within in (f.0, map_besides_forgetting w r q f.0 ne f.1)
 
-make_keeps : Laws
+make_keeps : MapLaws
     → (game : List GameVertex) (bounds : BoundList) (cut : CutValue) (w : WorldValue) (r v : ℕ) (f : List MeasureValue) (m : MeasureValue)
     → Keeps game bounds cut w → r ≤ w.cut.workers → v < length w.game → IsMapOf w r f → IsLeastServing w.bounds (game_line w.game) f v m
     → IsBelow (measure_at f v) m → Keeps game bounds cut (making w r (record { vertex = v; measure = m }))
@@ -181,13 +175,14 @@ make_keeps laws game bounds cut w r v f m k l lv j least below = record {
     at q within (inl e) = subst (λ (x : ℕ). (g : List MeasureValue) × IsMapOf (making w r (record { vertex = v; measure = m })) x g) (sym e) here
     at q within (inr ne) = let g = k.maps q within in (g.0, map_besides_making w r q (record { vertex = v; measure = m }) g.0 k.world ne g.1)
 
-lift_keeps : Laws → (game : List GameVertex) (bounds : BoundList) (cut : CutValue) (w new : WorldValue) (r v : ℕ) → Keeps game bounds cut w
+lift_keeps : MapLaws → (game : List GameVertex) (bounds : BoundList) (cut : CutValue) (w new : WorldValue) (r v : ℕ)
+    → Keeps game bounds cut w
     → r ≤ w.cut.workers → v < length w.game → Lifts w r v new → Keeps game bounds cut new
 lift_keeps laws game bounds cut w new r v k l lv (f, j, inl same) = subst (Keeps game bounds cut) (sym same.1) k
 lift_keeps laws game bounds cut w new r v k l lv (f, j, inr made) =
     subst (Keeps game bounds cut) (sym made.3) (make_keeps laws game bounds cut w r v f made.0 k l lv j made.1 made.2)
 
-event_keeps : Laws → (game : List GameVertex) (bounds : BoundList) (cut : CutValue) (w new : WorldValue) (e : Event)
+event_keeps : MapLaws → (game : List GameVertex) (bounds : BoundList) (cut : CutValue) (w new : WorldValue) (e : Event)
     → Keeps game bounds cut w → IsEventOf w.game e → refusal w e ≡ None → Steps w e new → Keeps game bounds cut new
 event_keeps laws game bounds cut w new (Lift r v) k l h s = let t = lifts w r v h in lift_keeps laws game bounds cut w new r v k t.1 l s
 event_keeps laws game bounds cut w new (Deliver r n) k l h s = let t = delivers w r n h in
@@ -196,14 +191,14 @@ event_keeps laws game bounds cut w new (Restart r) k l h s = let t = restarts w 
     subst (Keeps game bounds cut) (sym s) (restart_keeps laws game bounds cut w r k t.1)
 event_keeps laws game bounds cut w new (CoordinatorLift v) k l h s = lift_keeps laws game bounds cut w new 0 v k (omega arith) l s
 
-events_keep : Laws → (game : List GameVertex) (bounds : BoundList) (cut : CutValue) (w new : WorldValue) (es : List Event)
+events_keep : MapLaws → (game : List GameVertex) (bounds : BoundList) (cut : CutValue) (w new : WorldValue) (es : List Event)
     → Keeps game bounds cut w → All (IsEventOf game) es → Runs w es new → Keeps game bounds cut new
 events_keep laws game bounds cut w new [] k a s = subst (Keeps game bounds cut) (sym s) k
 events_keep laws game bounds cut w new (e ∷ es) k a s =
     let first : IsEventOf w.game e = subst (λ (g : List GameVertex). IsEventOf g e) (sym k.game_is) (All-head (IsEventOf game) e es a) in
     events_keep laws game bounds cut s.0 new es (event_keeps laws game bounds cut w s.0 e k first s.1 s.2) (All-tail (IsEventOf game) e es a) s.3
 
-pub new_keeps : Laws → (game : List GameVertex) (bounds : BoundList) (cut : CutValue) → IsGame game → IsBoundsOf game bounds
+pub new_keeps : MapLaws → (game : List GameVertex) (bounds : BoundList) (cut : CutValue) → IsGame game → IsBoundsOf game bounds
     → Keeps game bounds cut (new_world game bounds cut)
 new_keeps laws game bounds cut g b = record {
   game_is = refl;
@@ -214,7 +209,7 @@ new_keeps laws game bounds cut g b = record {
 }
 
 -- each replica has a map after any events, and that is never above
-pub runs_never_above : Laws → (game : List GameVertex) (bounds : BoundList) (cut : CutValue) (es : List Event) (w : WorldValue) (r : ℕ)
+pub runs_never_above : MapLaws → (game : List GameVertex) (bounds : BoundList) (cut : CutValue) (es : List Event) (w : WorldValue) (r : ℕ)
     → IsGame game → IsBoundsOf game bounds → All (IsEventOf game) es → r ≤ cut.workers → Runs (new_world game bounds cut) es w
     → (f : List MeasureValue) × IsMapOf w r f × IsNeverAbove bounds (game_line game) f
 runs_never_above laws game bounds cut es w r g b a l s =

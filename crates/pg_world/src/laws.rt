@@ -1,9 +1,9 @@
 //! Laws over the definitions. Their functions take no memory and do nothing: their contracts are what they are for.
 
-ghost use Rattle.pg_measure.specs.Laws.{OrderIsTotal};
-ghost use Rattle.pg_map.specs.Laws.{GameLines, ZeroMapIsLeast, LiftStaysUnder};
 ghost use Rattle.pg_world.specs.Laws.{SameTaken, NeverAbove};
 ghost use Rattle.pg_world.specs.OneScript.{SpellsOneScript};
+
+use crate::map_laws::of_maps;
 
 /// Where the same updates are taken the maps are equal, whatever the order and the repeats, within one world or between two
 /// worlds over the same bounds and as many vertices.
@@ -23,16 +23,3 @@ pub fn never_above()
 pub fn one_script()
     ensures { SpellsOneScript }
 {}
-
-/// The laws of measures and maps that the proofs of this crate use.
-pub(crate) fn of_maps()
-    ensures order { OrderIsTotal }
-    ensures zero { ZeroMapIsLeast }
-    ensures lines { GameLines }
-    ensures under { LiftStaysUnder }
-{
-    pg_measure::laws::order_is_total();
-    pg_map::laws::zero_map_is_least();
-    pg_map::laws::game_lines();
-    pg_map::laws::lift_stays_under();
-}

@@ -4,6 +4,7 @@
 mod event;
 mod fault;
 pub mod laws;
+mod map_laws;
 mod replica;
 mod room;
 mod script;

@@ -12,7 +12,7 @@ ghost use Rattle.pg_world.specs.Mirrors.Kept.{shown_by, HasZero, IsWorld, LiftsT
 
 use crate::event::Event;
 use crate::fault::WorldFault;
-use crate::laws;
+use crate::map_laws::of_maps;
 use crate::replica::{ReplicaMap, clear, no_updates, set_greatest};
 use crate::room::{forget, make_room, note, push_in_room};
 use pg_arena::{Game, Vertex};
@@ -61,7 +61,7 @@ impl World {
         if cut.vertices() != game.len() {
             return Err(WorldFault::CutMismatch);
         }
-        laws::of_maps();
+        of_maps();
         let bounds = Bounds::of(alloc, &game)?;
         let zero = Measure::zero(alloc, &bounds)?;
         let replicas = cut.workers() as usize + 1;
@@ -102,7 +102,7 @@ impl World {
             × IsNeverAbove self.now.bounds (game_line self.now.game) f }
         ensures fits { Fits self.now.bounds (measure_in result) }
     {
-        laws::of_maps();
+        of_maps();
         self.map(replica).measure(v).view()
     }
 
@@ -210,7 +210,7 @@ impl World {
         ensures memory { IfErr result (λ fault. fault ≡ WorldFault.OutOfMemory) }
         ensures same { OnErr result (self.new ≡ self.old) }
     {
-        laws::of_maps();
+        of_maps();
         let place = replica as usize;
         make_room(&mut self.updates, &mut self.taken, place)?;
         let made = self.updates.len();
@@ -244,7 +244,7 @@ impl World {
         ensures memory { IfErr result (λ fault. fault ≡ WorldFault.OutOfMemory) }
         ensures same { OnErr result (self.new ≡ self.old) }
     {
-        laws::of_maps();
+        of_maps();
         let place = replica as usize;
         let v = self.updates[number].vertex;
         let rises = self.raises(replica, number);
@@ -278,7 +278,7 @@ impl World {
         if worker == 0 || worker > self.cut.workers() {
             return Err(WorldFault::NoSuchReplica(worker));
         }
-        laws::of_maps();
+        of_maps();
         let place = worker as usize;
         clear(&mut self.greatest[place], &self.updates, &self.taken[place]);
         forget(&mut self.taken, place);

@@ -7,19 +7,12 @@ use Rattle.pg_world.specs.Updates.{UpdateValue, update_value}
 use Rattle.pg_world.specs.Worlds.{WorldValue}
 use Rattle.pg_world.specs.Mirrors.Kept.{viewed, AreReplicas, LiftsTo}
 use Rattle.pg_world.proofs.Noting.{items}
-use Rattle.pg_world.proofs.Running.{Laws}
 use Rattle.pg_world.proofs.Happening.{view_made}
 use Rattle.pg_world.proofs.Replicas.{greatest_of, makes}
 use Rattle.pg_world.proofs.world.World.make.Goals as goal
 
 pub invariant_of-self-2 : goal.invariant_of-self-2
 invariant_of-self-2 c =
-    let laws : Laws = record {
-      order = c.of_maps.ensures.order;
-      zero = c.of_maps.ensures.zero;
-      lines = c.of_maps.ensures.lines;
-      under = c.of_maps.ensures.under;
-    } in
     let w : WorldValue = viewed c.self.inside.game c.self.inside.bounds c.self.inside.cut c.self.inside.updates.items c.self.inside.taken.items in
     let gs : List (List ℕ) = map items c.self.inside.greatest.items in
     let r : ℕ = c.args.replica in
@@ -39,7 +32,7 @@ invariant_of-self-2 c =
       c.make_room.new.updates.small,
       c.in_ok-make_room.ensures.room,
     ) in
-    let kept = makes laws w c.self.inside.zero gs r u c.self.invariant few fewer within lifts in
+    let kept = makes c.of_maps.ensures w c.self.inside.zero gs r u c.self.invariant few fewer within lifts in
     let view = view_made c.self.inside.game c.self.inside.bounds c.self.inside.cut c.self.inside.updates.items us c.push_in_room.new.updates.items
     c.self.inside.taken.items c.make_room.new.taken.items c.note.new.taken.items r c.len-made.result c.args.update
     same_us c.push_in_room.ensures made c.in_ok-make_room.ensures.taken c.note.ensures in

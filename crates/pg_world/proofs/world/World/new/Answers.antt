@@ -4,20 +4,14 @@ use Rattle.pg_world.specs.declared.replica.TheConstants.{NO_UPDATE}
 use Rattle.pg_world.specs.Worlds.{WorldValue}
 use Rattle.pg_world.specs.Mirrors.Kept.{viewed, AreReplicas}
 use Rattle.pg_world.proofs.Noting.{items}
-use Rattle.pg_world.proofs.Running.{Laws}
 use Rattle.pg_world.proofs.Replicas.{new_replicas}
 use Rattle.pg_world.proofs.Happening.{view_new}
 use Rattle.pg_world.proofs.world.World.new.Goals as goal
 
 pub invariant_of-result : goal.invariant_of-result
 invariant_of-result c =
-    let laws : Laws = record {
-      order = c.of_maps.ensures.order;
-      zero = c.of_maps.ensures.zero;
-      lines = c.of_maps.ensures.lines;
-      under = c.of_maps.ensures.under;
-    } in
-    let made = new_replicas laws c.args.game c.in_ok-bounds.bounds c.args.cut c.in_ok-zero.zero c.len.ensures.game c.in_ok-bounds.ensures
+    let made = new_replicas c.of_maps.ensures c.args.game c.in_ok-bounds.bounds c.args.cut c.in_ok-zero.zero c.len.ensures.game
+    c.in_ok-bounds.ensures
     (omega (arith, c.vertices.ensures, c.len.ensures.value)) (ap (λ x. x.value) c.in_ok-zero.ensures) in
     let view = view_new c.args.game c.in_ok-bounds.bounds c.args.cut c.new.result.items c.in_ok-taken.taken.items
     (c.workers.result + 1) c.new.ensures.items c.in_ok-taken.ensures.taken (omega (arith, c.workers.ensures)) in

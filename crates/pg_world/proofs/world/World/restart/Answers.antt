@@ -9,10 +9,19 @@ use Rattle.pg_world.specs.Updates.{update_value}
 use Rattle.pg_world.specs.Worlds.{WorldValue, taken_of}
 use Rattle.pg_world.specs.Mirrors.Kept.{viewed, ComeFrom, AreReplicas}
 use Rattle.pg_world.proofs.Noting.{items, item_at, has_place}
-use Rattle.pg_world.proofs.Running.{Laws}
 use Rattle.pg_world.proofs.Happening.{view_forgot, vertices_within}
 use Rattle.pg_world.proofs.Replicas.{greatest_of, greatest_size, forgets}
 use Rattle.pg_world.proofs.world.World.restart.Goals as goal
+use Rattle.pg_world.proofs.world.World.restart.Goals.{After-deref_mut}
+
+-- the numbers of the worker
+greatest : (c : After-deref_mut) → greatest_of (map items c.self.inside.greatest.items) c.args.worker ≡ c.deref_mut.result.now
+greatest c =
+    let few : c.args.worker ≤ c.self.inside.cut.workers = omega (arith, c.workers.ensures) in
+    let l : c.args.worker < length c.self.inside.greatest.items =
+    has_place c.self.inside.greatest.items c.args.worker c.self.inside.cut.workers c.self.invariant.count few in
+    item_at c.self.inside.greatest.items c.args.worker c.index_mut.result.now l c.index_mut.ensures.value
+    ∙ sym c.deref_mut.ensures.value
 
 pub clear-requires-clause-taken : goal.clear-requires-clause-taken
 clear-requires-clause-taken c =
@@ -31,11 +40,7 @@ clear-requires-clause-vertices c =
     let w : WorldValue = viewed c.self.inside.game c.self.inside.bounds c.self.inside.cut c.self.inside.updates.items c.self.inside.taken.items in
     let gs : List (List ℕ) = map items c.self.inside.greatest.items in
     let few : c.args.worker ≤ w.cut.workers = omega (arith, c.workers.ensures) in
-    let l : c.args.worker < length c.self.inside.greatest.items =
-    has_place c.self.inside.greatest.items c.args.worker w.cut.workers c.self.invariant.count few in
-    let same : greatest_of gs c.args.worker ≡ c.deref_mut.result.now =
-    item_at c.self.inside.greatest.items c.args.worker c.index_mut.result.now l c.index_mut.ensures.value
-    ∙ sym c.deref_mut.ensures.value in
+    let same = greatest (goal.at.clear-requires-clause-vertices c).After-deref_mut in
     let size : length c.deref_mut.result.now ≡ length w.game = ap length (sym same)
     ∙ greatest_size w c.self.inside.zero gs c.args.worker c.self.invariant few in
     subst (λ (us : List Update). All (λ u. u.vertex < length c.deref_mut.result.now) us) (sym c.deref.ensures.value)
@@ -47,13 +52,9 @@ clear-requires-clause-from c =
     let w : WorldValue = viewed c.self.inside.game c.self.inside.bounds c.self.inside.cut c.self.inside.updates.items c.self.inside.taken.items in
     let gs : List (List ℕ) = map items c.self.inside.greatest.items in
     let few : c.args.worker ≤ w.cut.workers = omega (arith, c.workers.ensures) in
-    let l : c.args.worker < length c.self.inside.greatest.items =
-    has_place c.self.inside.greatest.items c.args.worker w.cut.workers c.self.invariant.count few in
     let m : c.args.worker < length c.self.inside.taken.items =
     has_place c.self.inside.taken.items c.args.worker w.cut.workers c.self.invariant.world.size few in
-    let same : greatest_of gs c.args.worker ≡ c.deref_mut.result.now =
-    item_at c.self.inside.greatest.items c.args.worker c.index_mut.result.now l c.index_mut.ensures.value
-    ∙ sym c.deref_mut.ensures.value in
+    let same = greatest (goal.at.clear-requires-clause-from c).After-deref_mut in
     let same_taken : taken_of w c.args.worker ≡ c.deref-2.result.now =
     item_at c.self.inside.taken.items c.args.worker c.index.result.now m c.index.ensures ∙ sym c.deref-2.ensures.value in
     let from : ComeFrom w.updates (taken_of w c.args.worker) (greatest_of gs c.args.worker) = (c.self.invariant.each c.args.worker few).from in
@@ -63,22 +64,14 @@ clear-requires-clause-from c =
 
 pub invariant_of-self : goal.invariant_of-self
 invariant_of-self c =
-    let laws : Laws = record {
-      order = c.of_maps.ensures.order;
-      zero = c.of_maps.ensures.zero;
-      lines = c.of_maps.ensures.lines;
-      under = c.of_maps.ensures.under;
-    } in
     let w : WorldValue = viewed c.self.inside.game c.self.inside.bounds c.self.inside.cut c.self.inside.updates.items c.self.inside.taken.items in
     let gs : List (List ℕ) = map items c.self.inside.greatest.items in
     let r : ℕ = c.args.worker in
     let few : r ≤ w.cut.workers = omega (arith, c.workers.ensures) in
-    let l : r < length c.self.inside.greatest.items = has_place c.self.inside.greatest.items r w.cut.workers c.self.invariant.count few in
-    let same : greatest_of gs r ≡ c.deref_mut.result.now =
-    item_at c.self.inside.greatest.items r c.index_mut.result.now l c.index_mut.ensures.value ∙ sym c.deref_mut.ensures.value in
+    let same = greatest (goal.at.invariant_of-self c).After-deref_mut in
     let none : c.clear.new.greatest ≡ replicate (length (greatest_of gs r)) NO_UPDATE = c.clear.ensures
     ∙ ap (λ (g : List ℕ). replicate (length g) NO_UPDATE) (sym same) in
-    let kept = forgets laws w c.self.inside.zero gs r c.self.invariant few in
+    let kept = forgets c.of_maps.ensures w c.self.inside.zero gs r c.self.invariant few in
     let view = view_forgot c.self.inside.game c.self.inside.bounds c.self.inside.cut c.self.inside.updates.items c.self.inside.taken.items c.forget.new.taken.items r c.forget.ensures in
     let whole : length c.clear.new.greatest ≡ c.index_mut.result.now.len =
     omega (
