@@ -5,25 +5,23 @@ ghost use Rattle.std.specs.Prelude.{◌≡◌, length, IfOk};
 ghost use Rattle.pg_map.specs.Maps.{AreAlike};
 
 use crate::tools::{
-    are, copy, first_liftable, lift, lift_all, lift_each, lifts_to, raise, serves, shows,
+    are, bounds_of, copy, first_liftable, game_of, lift, lift_all, lift_each, lifts_to, raise,
+    serves, shows,
 };
-use pg_arena::{ArenaFault, Game, GameBuilder, Player, Vertex};
+use pg_arena::{ArenaFault, Game, Player, Vertex};
 use pg_map::{Join, MeasureMap, View};
 use pg_measure::{Bounds, Measure};
 use std::alloc::{AllocError, Global};
 use std::test::Fail;
 
+static LINES: [(u32, u32, Player); 2] = [(0, 1, Player::Even), (1, 3, Player::Even)];
+
 fn game(alloc: Global) -> Result<Game, ArenaFault> {
-    let mut builder = GameBuilder::new(alloc);
-    for (vertex, priority) in [(0, 1), (1, 3)] {
-        builder.add(vertex, priority, Player::Even, &[0], None)?;
-    }
-    builder.finish()
+    game_of(alloc, &LINES, 0)
 }
 
-/// The bounds of the game.
 fn bounds(alloc: Global) -> Result<Bounds, Fail> {
-    Ok(Bounds::of(alloc, &game(alloc)?)?)
+    bounds_of(alloc, &LINES, 0)
 }
 
 /// The map with these lists; with none for top.
@@ -98,15 +96,8 @@ fn raises(rt: HostRuntime) -> Result<(), Fail> {
     Ok(())
 }
 
-/// Whether the first map has 0,1 and top once the second is joined to it.
+/// Whether a first map that isn't at most the second has 0,1 and top once that is joined to it, and the second is at most it.
 fn joins(first: &mut MeasureMap, second: &MeasureMap) -> bool
-    requires { AreAlike first.old second.now }
-{
-    first.join_with(second).is_ok() && are(first, View::List(&[0, 1]), View::Top)
-}
-
-/// The same of a first map that isn't at most the second, which is at most what comes of it.
-fn joins_what_is_not_above(first: &mut MeasureMap, second: &MeasureMap) -> bool
     requires { AreAlike first.old second.now }
 {
     !first.at_most(second)
@@ -115,21 +106,24 @@ fn joins_what_is_not_above(first: &mut MeasureMap, second: &MeasureMap) -> bool
         && second.at_most(first)
 }
 
-#[test]
-fn maps_join(rt: HostRuntime) -> Result<(), Fail> {
-    let bounds = bounds(rt.alloc())?;
-    let mut first = map(rt.alloc(), &bounds, Some(&[0, 1]), Some(&[1, 0]))?;
-    let second = map(rt.alloc(), &bounds, Some(&[0, 0]), None)?;
-    assert!(rt; joins_what_is_not_above(&mut first, &second));
-    Ok(())
+/// The same of maps with these lists.
+fn lists_join(
+    alloc: Global,
+    first: [Option<&[u32]>; 2],
+    second: [Option<&[u32]>; 2],
+) -> Result<bool, Fail> {
+    let bounds = bounds(alloc)?;
+    let mut joined = map(alloc, &bounds, first[0], first[1])?;
+    let other = map(alloc, &bounds, second[0], second[1])?;
+    Ok(joins(&mut joined, &other))
 }
 
 #[test]
-fn maps_join_the_other_way_round(rt: HostRuntime) -> Result<(), Fail> {
-    let bounds = bounds(rt.alloc())?;
-    let mut first = map(rt.alloc(), &bounds, Some(&[0, 0]), None)?;
-    let second = map(rt.alloc(), &bounds, Some(&[0, 1]), Some(&[1, 0]))?;
-    assert!(rt; joins(&mut first, &second));
+fn maps_join_either_way_round(rt: HostRuntime) -> Result<(), Fail> {
+    let lists: [Option<&[u32]>; 2] = [Some(&[0, 1]), Some(&[1, 0])];
+    let with_top: [Option<&[u32]>; 2] = [Some(&[0, 0]), None];
+    assert!(rt; lists_join(rt.alloc(), lists, with_top)?);
+    assert!(rt; lists_join(rt.alloc(), with_top, lists)?);
     Ok(())
 }
 

@@ -1,28 +1,22 @@
 //! Bounds and measures, over a vertex of priority 3, two of priority 1, and two of even priorities.
 
-use pg_arena::{ArenaFault, Game, GameBuilder, Player};
+use crate::tools::bounds_of;
+use pg_arena::Player;
 use pg_measure::{Bounds, Measure, View};
 use std::alloc::{AllocError, Global};
 use std::cmp::Ordering;
 use std::test::Fail;
 
-fn game(alloc: Global) -> Result<Game, ArenaFault> {
-    let mut builder = GameBuilder::new(alloc);
-    for (vertex, priority, player) in [
-        (10, 1, Player::Even),
-        (8, 1, Player::Odd),
-        (9, 4, Player::Odd),
-        (7, 3, Player::Even),
-        (11, 0, Player::Even),
-    ] {
-        builder.add(vertex, priority, player, &[7], None)?;
-    }
-    builder.finish()
-}
+static LINES: [(u32, u32, Player); 5] = [
+    (10, 1, Player::Even),
+    (8, 1, Player::Odd),
+    (9, 4, Player::Odd),
+    (7, 3, Player::Even),
+    (11, 0, Player::Even),
+];
 
-/// The bounds of the game.
 fn bounds(alloc: Global) -> Result<Bounds, Fail> {
-    Ok(Bounds::of(alloc, &game(alloc)?)?)
+    bounds_of(alloc, &LINES, 7)
 }
 
 /// Whether the list fits and its least step at `p` is this measure.
@@ -33,11 +27,12 @@ fn steps_to(
     p: u32,
     to: View,
 ) -> Result<bool, AllocError> {
-    let measure = Measure::from_list(alloc, from)?;
-    if !measure.fits(bounds) {
-        return Ok(false);
-    }
-    Ok(measure.least_step(p, bounds)?.view() == to)
+    steps(&Measure::from_list(alloc, from)?, bounds, p, to)
+}
+
+/// Whether the measure fits and its least step at `p` is this measure.
+fn steps(measure: &Measure, bounds: &Bounds, p: u32, to: View) -> Result<bool, AllocError> {
+    Ok(measure.fits(bounds) && measure.least_step(p, bounds)?.view() == to)
 }
 
 /// Whether the list fits.
@@ -146,13 +141,17 @@ fn is_below_top(measure: &mut Measure, top: &Measure, bounds: &Bounds) -> bool {
     is_below && measure.list().is_none()
 }
 
-/// The bounds of a game with a vertex of each of five odd priorities.
+/// A vertex of each of five odd priorities.
+static FIVE: [(u32, u32, Player); 5] = [
+    (0, 5, Player::Odd),
+    (1, 9, Player::Odd),
+    (2, 1, Player::Odd),
+    (3, 7, Player::Odd),
+    (4, 3, Player::Odd),
+];
+
 fn five_bounds(alloc: Global) -> Result<Bounds, Fail> {
-    let mut builder = GameBuilder::new(alloc);
-    for (vertex, priority) in [(0, 5), (1, 9), (2, 1), (3, 7), (4, 3)] {
-        builder.add(vertex, priority, Player::Odd, &[0], None)?;
-    }
-    Ok(Bounds::of(alloc, &builder.finish()?)?)
+    bounds_of(alloc, &FIVE, 0)
 }
 
 /// Whether a list of five zeros that is set to another is that one.

@@ -1,11 +1,35 @@
-//! Calls that test their own conditions.
+//! Games, and calls that test their own conditions.
 
 ghost use Rattle.std.specs.Prelude.{◌≡◌, length, IsTrue};
 ghost use Rattle.pg_map.specs.Lines.{AreWithin, game_line};
 
-use pg_arena::{Game, Vertex};
+use pg_arena::{ArenaFault, Game, GameBuilder, Player, Vertex};
 use pg_map::{Lines, MeasureMap, View, lift_to_end};
-use pg_measure::Measure;
+use pg_measure::{Bounds, Measure};
+use std::alloc::Global;
+use std::test::Fail;
+
+/// The game of lines with these identifiers, priorities and owners, each of which leads to one alone.
+pub fn game_of(
+    alloc: Global,
+    lines: &[(u32, u32, Player)],
+    successor: u32,
+) -> Result<Game, ArenaFault> {
+    let mut builder = GameBuilder::new(alloc);
+    for (identifier, priority, owner) in lines {
+        builder.add(*identifier, *priority, *owner, &[successor], None)?;
+    }
+    builder.finish()
+}
+
+/// The bounds of that game.
+pub fn bounds_of(
+    alloc: Global,
+    lines: &[(u32, u32, Player)],
+    successor: u32,
+) -> Result<Bounds, Fail> {
+    Ok(Bounds::of(alloc, &game_of(alloc, lines, successor)?)?)
+}
 
 /// Whether this is the measure of the vertex.
 pub fn shows(map: &MeasureMap, v: u32, view: View) -> bool {
