@@ -1,17 +1,11 @@
 -- Predecessors that are gathered by their targets.
-use Rattle.std.proofs.Common.{◌≡◌, ◌≢◌, ℕ, zero, suc, ◌+◌, ◌-◌, ◌<◌, ◌≤◌, ◌⊎◌, Bool, List, [], ◌∷◌, length, take, drop, get_or, set, refl}
-use Rattle.std.proofs.Common.{sym, ap, subst, ◌∙◌, arith, inl, inr, add-one, cond}
-use Rattle.std.specs.Prelude.{nat_eq, Option, None, Some, IsSome, unwrap_or}
-use Rattle.pg_arena.specs.Games.{nowhere}
-use Rattle.std.proofs.lemmas.Bool.{cases_lt, cases_eq, cases_order, eq-eqb, ne_eqb}
-use Rattle.std.proofs.lemmas.List.{get_or_default, get_or-set_same, get_or-set_other, get_or_past, get_or-take, get_or-drop, length-set}
-use Rattle.std.proofs.lemmas.List.{length-take, length-drop, take_all}
-use Rattle.std.proofs.lemmas.List.Sums.{count_by-le-length, sum_by_more, sum_by-take-le, sum_by-cons}
-use Rattle.pg_map.specs.Lines.{Line, AreWithin, line_at, vertex_line}
-use Rattle.pg_lift.specs.Mirrors.Keeps.{IsAmong}
-use Rattle.pg_lists.specs.Mirrors.Worklists.{times}
-use Rattle.pg_lift.specs.Mirrors.Predecessors.{ArePredecessors, ArePut, ArePutBefore, ArePutUpTo, LeadsTo, IsListed, IsBefore, sum_below}
-use Rattle.pg_lift.specs.Mirrors.Predecessors.{edges_of, leads, begin_of}
+use Rattle.pg_lift.proofs.Common.{◌≡◌, ◌≢◌, ℕ, zero, suc, ◌+◌, ◌-◌, ◌<◌, ◌≤◌, ◌⊎◌, Bool, List, [], ◌∷◌, length, take, drop, get_or, set}
+use Rattle.pg_lift.proofs.Common.{refl, sym, ap, subst, ◌∙◌, arith, inl, inr, add-one, cond, nat_eq, Option, None, Some, IsSome, unwrap_or}
+use Rattle.pg_lift.proofs.Common.{nowhere, cases_lt, cases_eq, cases_order, eq-eqb, ne_eqb, get_or_default, get_or-set_same}
+use Rattle.pg_lift.proofs.Common.{get_or-set_other, get_or_past, get_or-take, get_or-drop, length-set, length-take, length-drop, take_all}
+use Rattle.pg_lift.proofs.Common.{count_by-le-length, sum_by_more, sum_by-take-le, sum_by-cons, Line, AreWithin, line_at, vertex_line}
+use Rattle.pg_lift.proofs.Common.{IsAmong, times, ArePredecessors, ArePut, ArePutBefore, ArePutUpTo, LeadsTo, IsListed, IsBefore, sum_below}
+use Rattle.pg_lift.proofs.Common.{edges_of, leads, begin_of}
 
 -- ---- sums
 

@@ -1,20 +1,11 @@
 -- What stays true of remembered successors when a measure rises.
-use Rattle.std.proofs.Common.{◌≡◌, ◌≢◌, ℕ, ◌<◌, ◌⊎◌, Bool, true, false, List, length, take, get_or, set, refl, sym, ap, subst, ◌∙◌, inl, inr, None}
-use Rattle.std.specs.Prelude.{All, Option, Some, IsSome}
-use Rattle.std.proofs.lemmas.Bool.{cases_eq}
-use Rattle.std.proofs.lemmas.List.{get_or_default, get_or-set_same, get_or-set_other, set-set, set-get_or}
-use Rattle.pg_arena.specs.declared.player.Player.{Player}
-use Rattle.pg_arena.specs.declared.player.Player.TheVariants.{Even, Odd}
-use Rattle.pg_measure.specs.Measures.{BoundList, MeasureValue, AtMost, IsBelow, Covers, CoversFront, is_odd, width_from}
-use Rattle.pg_measure.specs.Mirrors.Rows.{FrontAtMost, MissesFront}
-use Rattle.pg_measure.proofs.Order.{more_covers, covers_less, front_at_most, at_most_same, below_is, below_at_most, below_then, then_below}
-use Rattle.pg_map.proofs.Bests.{front_itself, front_trans}
-use Rattle.pg_map.proofs.Lifts.{serves_best}
-use Rattle.pg_map.proofs.Overs.{misses_by}
-use Rattle.pg_map.specs.Lines.{Line, line_at}
-use Rattle.pg_map.specs.Maps.{measure_at, MapAtMost, IsLifted, IsServedBy, IsClosed, SomeOrAll}
-use Rattle.pg_map.specs.Mirrors.Tables.{IsBest}
-use Rattle.pg_lift.specs.Mirrors.Keeps.{IsAmong, nothing, just, IsAtRest, IsForemost, Keeps, KeepsAt, IsKept, IsKeptBut, AreSameBut, IsReady}
+use Rattle.pg_lift.proofs.Common.{◌≡◌, ◌≢◌, ℕ, ◌<◌, ◌⊎◌, Bool, true, false, List, length, take, get_or, set, refl, sym, ap, subst, ◌∙◌, inl}
+use Rattle.pg_lift.proofs.Common.{inr, None, All, Option, Some, IsSome, cases_eq, get_or_default, get_or-set_same, get_or-set_other}
+use Rattle.pg_lift.proofs.Common.{set-set, set-get_or, Player, Even, Odd, BoundList, MeasureValue, AtMost, IsBelow, Covers, CoversFront}
+use Rattle.pg_lift.proofs.Common.{is_odd, width_from, FrontAtMost, MissesFront, more_covers, covers_less, front_at_most, at_most_same}
+use Rattle.pg_lift.proofs.Common.{below_is, below_at_most, below_then, then_below, front_itself, front_trans, serves_best, misses_by, Line}
+use Rattle.pg_lift.proofs.Common.{line_at, measure_at, MapAtMost, IsLifted, IsServedBy, IsClosed, SomeOrAll, IsBest, IsAmong, nothing, just}
+use Rattle.pg_lift.proofs.Common.{IsAtRest, IsForemost, Keeps, KeepsAt, IsKept, IsKeptBut, AreSameBut, IsReady}
 
 -- x alone rose
 pub record IsRise (f g : List MeasureValue) (x : ℕ) : Type 0 where

@@ -4,3 +4,4 @@ pub mod Gathering
 pub mod Risen
 pub mod Zeros
 pub mod Searching
+mod Common

@@ -1,18 +1,12 @@
 -- What notes tell after one is written.
-use Rattle.std.proofs.Common.{◌≡◌, ◌≢◌, ℕ, zero, suc, ◌+◌, ◌-◌, ◌<◌, ◌≤◌, ◌⊎◌, Bool, true, false, List, [], ◌∷◌, ◌++◌, length, cond, get_or}
-use Rattle.std.proofs.Common.{set, refl, sym, ap, subst, ◌∙◌, inl, inr, arith}
-use Rattle.std.specs.Prelude.{◌↔◌, Option, Some, None, IsSome, IfSome, IsTrue, option_map, unwrap_or, count_by, replicate, not}
-use Rattle.std.proofs.lemmas.Bool.{cases_lt, cases_eq, lt-ltb, le-ltb}
-use Rattle.std.proofs.lemmas.List.FromFn.{length-map-range_with_len, get_or-map-range_with_len, fill_by_all}
-use Rattle.std.proofs.lemmas.List.Sums.{sum_by-cons}
-use Rattle.std.proofs.lemmas.List.{get_or_default, get_or_past, get_or-set_same, get_or-set_other, get_or-replicate, length-replicate, length-set}
-use Rattle.pg_arena.specs.declared.player.Player.{Player}
-use Rattle.pg_map.specs.Lines.{Line}
-use Rattle.pg_lift.specs.declared.note.Note.{Note}
-use Rattle.pg_lists.specs.Mirrors.Worklists.{IsWorklist}
-use Rattle.pg_lift.specs.Mirrors.Notes.{WaitingValue, Span, HasNote, HasRoom, AreNotes, AreNoted, IsSameSpan, AreSameNotes, Label, label_of}
-use Rattle.pg_lift.specs.Mirrors.Notes.{line_label, label_in, no_note, note_in, told_of, waits_of, best_of, labels_of}
-use Rattle.pg_lists.proofs.Stacks.{pushed, swapped, popped, top_marked, room_left}
+use Rattle.pg_lift.proofs.Common.{◌≡◌, ◌≢◌, ℕ, zero, suc, ◌+◌, ◌-◌, ◌<◌, ◌≤◌, ◌⊎◌, Bool, true, false, List, [], ◌∷◌, ◌++◌, length, cond}
+use Rattle.pg_lift.proofs.Common.{get_or, set, refl, sym, ap, subst, ◌∙◌, inl, inr, arith, ◌↔◌, Option, Some, None, IsSome, IfSome, IsTrue}
+use Rattle.pg_lift.proofs.Common.{option_map, unwrap_or, count_by, replicate, not, cases_lt, cases_eq, lt-ltb, le-ltb}
+use Rattle.pg_lift.proofs.Common.{length-map-range_with_len, get_or-map-range_with_len, fill_by_all, sum_by-cons, get_or_default}
+use Rattle.pg_lift.proofs.Common.{get_or_past, get_or-set_same, get_or-set_other, get_or-replicate, length-replicate, length-set, Player}
+use Rattle.pg_lift.proofs.Common.{Line, Note, IsWorklist, WaitingValue, Span, HasNote, HasRoom, AreNotes, AreNoted, IsSameSpan}
+use Rattle.pg_lift.proofs.Common.{AreSameNotes, Label, label_of, line_label, label_in, no_note, note_in, told_of, waits_of, best_of}
+use Rattle.pg_lift.proofs.Common.{labels_of, pushed, swapped, popped, top_marked, room_left}
 
 -- ---- vertices that have notes
 

@@ -1,11 +1,6 @@
 -- Which vertices are still to be looked at when x has risen.
-use Rattle.std.proofs.Common.{◌≡◌, ◌≢◌, ℕ, ◌-◌, ◌⊎◌, ◌∙◌, Bool, true, false, List, get_or, arith, refl, sym, ap, inl, inr, true≢false}
-use Rattle.std.specs.Prelude.{Option}
-use Rattle.std.proofs.lemmas.Bool.{cases_eq}
-use Rattle.pg_measure.specs.Measures.{BoundList, MeasureValue}
-use Rattle.pg_map.specs.Lines.{Line}
-use Rattle.pg_lift.specs.Mirrors.Predecessors.{IsBefore}
-use Rattle.pg_lift.specs.Mirrors.Keeps.{IsKeptBut}
+use Rattle.pg_lift.proofs.Common.{◌≡◌, ◌≢◌, ℕ, ◌-◌, ◌⊎◌, ◌∙◌, Bool, true, false, List, get_or, arith, refl, sym, ap, inl, inr, true≢false}
+use Rattle.pg_lift.proofs.Common.{Option, cases_eq, BoundList, MeasureValue, Line, IsBefore, IsKeptBut}
 
 -- v is one of the first n, or is x itself, which leads to itself
 pub Left : List ℕ → ℕ → ℕ → Bool → ℕ → Type 0

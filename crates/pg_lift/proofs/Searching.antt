@@ -1,15 +1,7 @@
 -- The least successor, in a search that goes round.
-use Rattle.std.proofs.Common.{◌≡◌, ℕ, ◌+◌, ◌-◌, ◌<◌, List, length, get_or, refl, sym, subst, ◌∙◌, inl, inr, arith}
-use Rattle.std.proofs.lemmas.Bool.{cases_lt}
-use Rattle.std.proofs.lemmas.List.{get_or_default}
-use Rattle.pg_arena.specs.declared.player.Player.TheVariants.{Even}
-use Rattle.pg_measure.specs.Measures.{MeasureValue}
-use Rattle.pg_measure.specs.Mirrors.Rows.{FrontAtMost}
-use Rattle.pg_map.specs.Maps.{measure_at}
-use Rattle.pg_map.specs.Mirrors.Tables.{IsBest}
-use Rattle.pg_map.proofs.Bests.{front_itself, front_trans}
-use Rattle.pg_lift.specs.Mirrors.Keeps.{IsAmong}
-use Rattle.pg_lift.specs.Mirrors.Searches.{IsAfter}
+use Rattle.pg_lift.proofs.Common.{◌≡◌, ℕ, ◌+◌, ◌-◌, ◌<◌, List, length, get_or, refl, sym, subst, ◌∙◌, inl, inr, arith, cases_lt}
+use Rattle.pg_lift.proofs.Common.{get_or_default, Even, MeasureValue, FrontAtMost, measure_at, IsBest, front_itself, front_trans, IsAmong}
+use Rattle.pg_lift.proofs.Common.{IsAfter}
 
 -- none of the successors at the first `steps` places from `from` on, all the way round, is below b
 pub record LeastSoFar (front : ℕ) (f : List MeasureValue) (ss : List ℕ) (from steps b : ℕ) : Type 0 where

@@ -1,17 +1,8 @@
 -- What holds where the measure of each vertex is zero.
-use Rattle.std.proofs.Common.{◌≡◌, ◌∙◌, ℕ, ◌%◌, ◌<◌, Bool, true, false, List, None, refl, sym, ap, subst, length, get_or, arith}
-use Rattle.std.specs.Prelude.{All, Any, IsTrue, nat_eq, ◌==◌}
-use Rattle.std.specs.Bool.{OnTrue}
-use Rattle.std.proofs.lemmas.Bool.Decides.{nat_tests}
-use Rattle.std.proofs.lemmas.List.{get_or-replicate}
-use Rattle.pg_arena.specs.declared.player.Player.{Player}
-use Rattle.pg_measure.specs.Measures.{MeasureValue, zeros, Covers, CoversFront, AtMost, is_odd, width_from}
-use Rattle.pg_measure.proofs.Order.{at_most_same}
-use Rattle.pg_map.specs.Maps.{MapValue, measure_at}
-use Rattle.pg_map.specs.Mirrors.Tables.{IsBest, IsBetter}
-use Rattle.pg_map.proofs.Bests.{better_itself}
-use Rattle.pg_map.proofs.Orderings.{at_most_covers}
-use Rattle.pg_lift.specs.Mirrors.Zeros.{IsAtZero}
+use Rattle.pg_lift.proofs.Common.{◌≡◌, ◌∙◌, ℕ, ◌%◌, ◌<◌, Bool, true, false, List, None, refl, sym, ap, subst, length, get_or, arith, All}
+use Rattle.pg_lift.proofs.Common.{Any, IsTrue, nat_eq, ◌==◌, OnTrue, nat_tests, get_or-replicate, Player, MeasureValue, zeros, Covers}
+use Rattle.pg_lift.proofs.Common.{CoversFront, AtMost, is_odd, width_from, at_most_same, MapValue, measure_at, IsBest, IsBetter}
+use Rattle.pg_lift.proofs.Common.{better_itself, at_most_covers, IsAtZero}
 
 zero_at : (map : MapValue) (v : ℕ) → IsAtZero map → v < length map.measures → measure_at map.measures v ≡ zeros map.bounds
 zero_at map v z lt = ap (λ (f : List MeasureValue). get_or f v None) z ∙ get_or-replicate {A = MeasureValue} (length map.measures) v (zeros map.bounds) None lt

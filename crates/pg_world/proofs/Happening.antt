@@ -1,15 +1,8 @@
 -- What contracts see of a world whose parts were changed.
-use Rattle.std.proofs.Common.{◌≡◌, ℕ, ◌+◌, ◌<◌, List, [], ◌∷◌, ◌++◌, length, get_or, set, replicate, refl, ap, sym, ◌∙◌, arith, subst}
-use Rattle.std.specs.Prelude.{map, All, Option}
-use Rattle.std.proofs.lemmas.List.{get_or-map, length-map, map-append}
-use Rattle.pg_arena.specs.Games.{GameVertex}
-use Rattle.pg_measure.specs.Measures.{BoundList, zeros}
-use Rattle.pg_map.specs.Lines.{Line}
-use Rattle.pg_map.specs.declared.update.Update.{Update}
-use Rattle.pg_parts.specs.Cuts.{CutValue}
-use Rattle.pg_world.specs.Updates.{UpdateValue, update_value, update_at}
-use Rattle.pg_world.specs.Worlds.{WorldValue, new_world, taking, forgetting, making}
-use Rattle.pg_world.specs.Mirrors.Kept.{viewed, IsMade}
+use Rattle.pg_world.proofs.Common.{◌≡◌, ℕ, ◌+◌, ◌<◌, List, [], ◌∷◌, ◌++◌, length, get_or, set, replicate, refl, ap, sym, ◌∙◌, arith, subst}
+use Rattle.pg_world.proofs.Common.{map, All, Option, get_or-map, length-map, map-append, GameVertex, BoundList, zeros, Line, Update}
+use Rattle.pg_world.proofs.Common.{CutValue, UpdateValue, update_value, update_at, WorldValue, new_world, taking, forgetting, making}
+use Rattle.pg_world.proofs.Common.{viewed, IsMade}
 use Rattle.pg_world.proofs.Noting.{Numbers, items}
 
 abbrev seen : List GameVertex → BoundList → CutValue → List UpdateValue → List (List ℕ) → WorldValue

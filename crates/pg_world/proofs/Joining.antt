@@ -1,17 +1,10 @@
 -- Joins of the updates that were taken.
-use Rattle.std.proofs.Common.{◌≡◌, ◌≢◌, ℕ, ◌<◌, None, List, [], ◌∷◌, ◌++◌, length, get_or, set, sym, ◌∙◌, ◌⊎◌, inl, inr, arith, subst}
-use Rattle.std.specs.Prelude.{All}
-use Rattle.std.proofs.lemmas.Bool.{cases_eq}
-use Rattle.std.proofs.lemmas.List.{get_or-set_other, get_or-set_same, length-replicate, get_or_append_left, length-append, length-set}
-use Rattle.std.proofs.lemmas.List.Elements.{All-nil, All-push, All-set, All-weaker, All-contains, Contains-get_or}
-use Rattle.std.proofs.Math.Seq.{get_or-append_seam}
-use Rattle.pg_measure.specs.Measures.{BoundList, MeasureValue, Fits, zeros, AtMost, IsBelow}
-use Rattle.pg_measure.specs.Laws.{OrderIsTotal}
-use Rattle.pg_map.specs.Maps.{measure_at, IsMap, zero_map, update_map, MapAtMost, IsJoin}
-use Rattle.pg_map.specs.Laws.{ZeroMapIsLeast}
-use Rattle.pg_map.specs.Lemmas.Orders.{maps_same, map_transitive}
-use Rattle.pg_world.specs.Updates.{UpdateValue, update_at, map_of_update, IsJoinOf}
-use Rattle.pg_world.specs.Laws.{AreTakenToo}
+use Rattle.pg_world.proofs.Common.{◌≡◌, ◌≢◌, ℕ, ◌<◌, None, List, [], ◌∷◌, ◌++◌, length, get_or, set, sym, ◌∙◌, ◌⊎◌, inl, inr, arith, subst}
+use Rattle.pg_world.proofs.Common.{All, cases_eq, get_or-set_other, get_or-set_same, length-replicate, get_or_append_left, length-append}
+use Rattle.pg_world.proofs.Common.{length-set, All-nil, All-push, All-set, All-weaker, All-contains, Contains-get_or, get_or-append_seam}
+use Rattle.pg_world.proofs.Common.{BoundList, MeasureValue, Fits, zeros, AtMost, IsBelow, OrderIsTotal, measure_at, IsMap, zero_map}
+use Rattle.pg_world.proofs.Common.{update_map, MapAtMost, IsJoin, ZeroMapIsLeast, maps_same, map_transitive, UpdateValue, update_at}
+use Rattle.pg_world.proofs.Common.{map_of_update, IsJoinOf, AreTakenToo}
 
 -- the update with the number k as a map
 abbrev pub as_map : BoundList → ℕ → List UpdateValue → ℕ → List MeasureValue

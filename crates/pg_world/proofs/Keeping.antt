@@ -1,19 +1,10 @@
 -- What events keep true of a world.
-use Rattle.std.proofs.Common.{◌≡◌, ◌≢◌, ℕ, ◌+◌, ◌<◌, ◌≤◌, List, [], ◌∷◌, ◌++◌, length, get_or, set, replicate, sym, ◌∙◌, ◌⊎◌, inl, inr, arith, subst}
-use Rattle.std.specs.Prelude.{All}
-use Rattle.std.proofs.lemmas.Bool.{cases_eq, cases_lt}
-use Rattle.std.proofs.lemmas.List.{get_or-set_other, get_or-set_same, get_or-replicate, get_or_past, length-replicate, length-append, length-set}
-use Rattle.std.proofs.lemmas.List.Elements.{All-nil, All-push, All-weaker}
-use Rattle.pg_arena.specs.Games.{GameVertex, IsGame}
-use Rattle.pg_measure.specs.Measures.{BoundList, MeasureValue}
-use Rattle.pg_measure.specs.Games.{IsBoundsOf}
-use Rattle.pg_map.specs.Lines.{game_line}
-use Rattle.pg_map.specs.Maps.{IsMap, zero_map, IsJoin}
-use Rattle.pg_map.specs.Laws.{ZeroMapIsLeast}
-use Rattle.pg_parts.specs.Cuts.{CutValue}
-use Rattle.pg_world.specs.Updates.{UpdateValue, map_of_update, IsJoinOf}
-use Rattle.pg_world.specs.Worlds.{WorldValue, new_world, taken_of, IsMapOf, taking, forgetting, making}
-use Rattle.pg_world.specs.Mirrors.Kept.{IsMade, IsWorld}
+use Rattle.pg_world.proofs.Common.{◌≡◌, ◌≢◌, ℕ, ◌+◌, ◌<◌, ◌≤◌, List, [], ◌∷◌, ◌++◌, length, get_or, set, replicate, sym, ◌∙◌, ◌⊎◌, inl, inr}
+use Rattle.pg_world.proofs.Common.{arith, subst, All, cases_eq, cases_lt, get_or-set_other, get_or-set_same, get_or-replicate, get_or_past}
+use Rattle.pg_world.proofs.Common.{length-replicate, length-append, length-set, All-nil, All-push, All-weaker, GameVertex, IsGame}
+use Rattle.pg_world.proofs.Common.{BoundList, MeasureValue, IsBoundsOf, game_line, IsMap, zero_map, IsJoin, ZeroMapIsLeast, CutValue}
+use Rattle.pg_world.proofs.Common.{UpdateValue, map_of_update, IsJoinOf, WorldValue, new_world, taken_of, IsMapOf, taking, forgetting}
+use Rattle.pg_world.proofs.Common.{making, IsMade, IsWorld}
 use Rattle.pg_world.proofs.Joining.{as_map, join_none, join_more, join_longer, last_at}
 
 -- what all replicas took, where that of one is replaced

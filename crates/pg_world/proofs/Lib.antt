@@ -10,3 +10,4 @@ pub mod Replicas
 pub mod ScriptLines
 pub mod ScriptReads
 pub mod ScriptHeads
+mod Common

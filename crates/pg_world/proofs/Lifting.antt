@@ -1,22 +1,12 @@
 -- Lifts in the map of a replica.
-use Rattle.std.proofs.Common.{◌≡◌, ℕ, ◌<◌, Bool, true, false, Option, Some, None, List, length, get_or, refl, sym, ◌∙◌, arith, subst}
-use Rattle.std.specs.Prelude.{All, Contains, MatchBool, MatchOption}
-use Rattle.std.specs.Ordering.{MatchOrdering, is_lt, is_gt}
-use Rattle.std.specs.declared.cmp.Ordering.{Ordering}
-use Rattle.std.specs.declared.cmp.Ordering.TheVariants.{Less, Equal, Greater}
-use Rattle.std.proofs.lemmas.List.{get_or_default}
-use Rattle.std.proofs.lemmas.List.Elements.{Contains-get_or}
-use Rattle.pg_arena.specs.Games.{GameVertex, IsGame, successors}
-use Rattle.pg_arena.specs.declared.player.Player.{Player}
-use Rattle.pg_arena.specs.declared.player.Player.TheVariants.{Even, Odd}
-use Rattle.pg_measure.specs.Measures.{BoundList, MeasureValue, OwnedMeasure, AtMost, IsBelow, Covers, IsLeastStep, is_odd, width_from, measure_from}
-use Rattle.pg_measure.specs.Mirrors.Rows.{FrontAtMost}
-use Rattle.pg_measure.proofs.Order.{more_covers, at_most_same, below_is}
-use Rattle.pg_map.specs.Lines.{Line, line_at, line_of, only}
-use Rattle.pg_map.specs.Maps.{measure_at, SomeOrAll, IsServed, IsLeastServing}
-use Rattle.pg_map.specs.Mirrors.Tables.{IsBetter, IsBest}
-use Rattle.pg_map.proofs.Lifts.{least_serving}
-use Rattle.pg_map.proofs.Bests.{BestSoFar}
+use Rattle.pg_world.proofs.Common.{◌≡◌, ℕ, ◌<◌, Bool, true, false, Option, Some, None, List, length, get_or, refl, sym, ◌∙◌, arith, subst}
+use Rattle.pg_world.proofs.Common.{All, Contains, MatchBool, MatchOption, MatchOrdering, is_gt, Ordering, Less, Equal, Greater}
+use Rattle.pg_world.proofs.Common.{get_or_default, Contains-get_or, GameVertex, IsGame, successors, Player, Even, Odd, BoundList}
+use Rattle.pg_world.proofs.Common.{MeasureValue, OwnedMeasure, AtMost, IsBelow, Covers, IsLeastStep, is_odd, width_from, measure_from}
+use Rattle.pg_world.proofs.Common.{FrontAtMost, more_covers, at_most_same, below_is, Line, line_at, only, measure_at, SomeOrAll, IsServed}
+use Rattle.pg_world.proofs.Common.{IsLeastServing, IsBetter, IsBest, least_serving, BestSoFar}
+use Rattle.std.specs.Ordering.{is_lt}
+use Rattle.pg_map.specs.Lines.{line_of}
 
 more_these : (o : Player) (P Q : ℕ → Type 0) (ss : List ℕ) → ((w : ℕ) → P w → Q w) → SomeOrAll o P ss → SomeOrAll o Q ss
 more_these Even P Q ss f h = (h.0, h.1, h.2, h.3, f h.1 h.4)

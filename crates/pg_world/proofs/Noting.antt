@@ -1,11 +1,7 @@
 -- One list of numbers among those of all replicas is changed.
-use Rattle.std.proofs.Common.{◌≡◌, ℕ, ◌+◌, ◌<◌, ◌≤◌, Bool, true, false, Some, List, [], ◌∷◌, ◌++◌, length, get_or, set, ap, sym, ◌∙◌, arith, subst}
-use Rattle.std.specs.Prelude.{map, Option, IfSome, slice_get, vec_len, vec_capacity, if◌then◌else◌}
-use Rattle.std.specs.declared.vec.Vec.{Vec}
-use Rattle.std.specs.declared.alloc.Global.{Global}
-use Rattle.std.proofs.lemmas.List.{map-set, get_or-set_same, length-set, length-map, get_or-map}
-use Rattle.std.proofs.lemmas.Option.{slice_get-get_or}
-use Rattle.std.proofs.Math.Seq.{map-set_same}
+use Rattle.pg_world.proofs.Common.{◌≡◌, ℕ, ◌+◌, ◌<◌, ◌≤◌, Bool, true, false, Some, List, [], ◌∷◌, ◌++◌, length, get_or, set, ap, sym, ◌∙◌}
+use Rattle.pg_world.proofs.Common.{arith, subst, map, Option, IfSome, slice_get, vec_len, vec_capacity, if◌then◌else◌, Vec, Global, map-set}
+use Rattle.pg_world.proofs.Common.{get_or-set_same, length-set, length-map, get_or-map, slice_get-get_or, map-set_same}
 
 abbrev pub Numbers : Type 0
 Numbers = Vec ℕ Global

@@ -1,13 +1,7 @@
 -- When an event goes ahead.
-use Rattle.std.proofs.Common.{◌≡◌, ℕ, ◌<◌, ◌≤◌, Bool, true, false, Some, None, refl}
-use Rattle.std.specs.Prelude.{◌&&◌, ◌==◌, nat_lt, nat_le, Option, length, if◌then◌else◌}
-use Rattle.std.proofs.lemmas.Bool.{leb-true, ltb-true, lt-ltb, le-leb, eq-eqb}
-use Rattle.pg_arena.specs.Games.{identifier}
-use Rattle.pg_parts.specs.Cuts.{worker_of}
-use Rattle.pg_world.specs.declared.fault.WorldFault.{WorldFault}
-use Rattle.pg_world.specs.declared.fault.WorldFault.TheVariants.{NoSuchReplica, NotMine, NoSuchUpdate}
-use Rattle.pg_world.specs.declared.event.Event.TheVariants.{Lift, Deliver, Restart}
-use Rattle.pg_world.specs.Worlds.{WorldValue, is_worker, refusal}
+use Rattle.pg_world.proofs.Common.{◌≡◌, ℕ, ◌<◌, ◌≤◌, Bool, true, false, Some, None, refl, ◌&&◌, ◌==◌, nat_lt, nat_le, Option, length}
+use Rattle.pg_world.proofs.Common.{if◌then◌else◌, leb-true, ltb-true, lt-ltb, le-leb, eq-eqb, identifier, worker_of, WorldFault}
+use Rattle.pg_world.proofs.Common.{NoSuchReplica, NotMine, NoSuchUpdate, Lift, Deliver, Restart, WorldValue, is_worker, refusal}
 
 passed : (b : Bool) (x : Option WorldFault) (f : WorldFault) → (if b then x else Some f) ≡ None → (b ≡ true) × (x ≡ None)
 passed true x f h = (refl, h)

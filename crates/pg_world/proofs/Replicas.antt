@@ -1,25 +1,14 @@
 -- What a world keeps of its replicas, event by event.
-use Rattle.std.proofs.Common.{◌≡◌, ◌≢◌, ℕ, Bool, true, false, ◌+◌, ◌<◌, ◌≤◌, replicate, List, [], ◌∷◌, ◌++◌, length, get_or, set, refl, ap}
-use Rattle.std.proofs.Common.{sym, ◌∙◌, ◌⊎◌, inl, inr, arith, subst}
-use Rattle.std.specs.Prelude.{MatchBool}
-use Rattle.std.proofs.lemmas.Bool.{cases_eq}
-use Rattle.std.proofs.lemmas.List.{get_or-set_other, get_or-set_same, get_or-replicate, get_or_default, length-set, length-replicate, length-append}
-use Rattle.std.proofs.lemmas.List.Elements.{All-set}
-use Rattle.std.proofs.Math.Seq.{get_or-append_seam}
-use Rattle.pg_arena.specs.Games.{GameVertex, IsGame}
-use Rattle.pg_measure.specs.Games.{IsBoundsOf}
-use Rattle.pg_measure.specs.Measures.{BoundList, MeasureValue, OwnedMeasure, Fits, AtMost, IsBelow, zeros}
-use Rattle.pg_map.specs.Lines.{game_line}
-use Rattle.pg_parts.specs.Cuts.{CutValue}
-use Rattle.pg_map.specs.Maps.{measure_at, IsMap, IsJoin, IsLeastServing, zero_map}
-use Rattle.pg_world.specs.declared.replica.TheConstants.{NO_UPDATE}
-use Rattle.pg_world.specs.Updates.{UpdateValue, update_at}
-use Rattle.pg_world.specs.Worlds.{WorldValue, new_world, taken_of, IsMapOf, taking, forgetting, making}
-use Rattle.pg_world.specs.Mirrors.Kept.{IsMade, shown, ComeFrom, IsReplica, AreReplicas, LiftsTo, Raises, IsCovered}
+use Rattle.pg_world.proofs.Common.{◌≡◌, ◌≢◌, ℕ, Bool, true, false, ◌+◌, ◌<◌, ◌≤◌, replicate, List, [], ◌∷◌, ◌++◌, length, get_or, set, refl}
+use Rattle.pg_world.proofs.Common.{ap, sym, ◌∙◌, ◌⊎◌, inl, inr, arith, subst, MatchBool, cases_eq, get_or-set_other, get_or-set_same}
+use Rattle.pg_world.proofs.Common.{get_or-replicate, get_or_default, length-set, length-replicate, length-append, All-set}
+use Rattle.pg_world.proofs.Common.{get_or-append_seam, GameVertex, IsGame, IsBoundsOf, BoundList, MeasureValue, OwnedMeasure, Fits, AtMost}
+use Rattle.pg_world.proofs.Common.{IsBelow, zeros, game_line, CutValue, measure_at, IsMap, IsJoin, IsLeastServing, zero_map, NO_UPDATE}
+use Rattle.pg_world.proofs.Common.{UpdateValue, update_at, WorldValue, new_world, taken_of, IsMapOf, taking, forgetting, making, IsMade}
+use Rattle.pg_world.proofs.Common.{shown, ComeFrom, IsReplica, AreReplicas, LiftsTo, Raises, IsCovered, MapLaws}
 use Rattle.pg_world.proofs.Joining.{as_map, one_join, raise_joins, update_under, last_at}
 use Rattle.pg_world.proofs.Keeping.{new_is_world, new_map, taking_is_world, making_is_world, forgetting_is_world, map_after_taking}
 use Rattle.pg_world.proofs.Keeping.{map_after_making, map_besides_making, map_besides_taking, map_besides_forgetting, map_after_forgetting}
-use Rattle.pg_world.specs.Mirrors.MapLaws.{MapLaws}
 use Rattle.pg_world.proofs.Running.{lift_makes}
 use Rattle.pg_world.proofs.Showing.{shown_set, length-shown, shown_longer, nothing_shown, come_from_none, come_from_more, come_from_longer, come_from_set}
 

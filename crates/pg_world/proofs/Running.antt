@@ -1,21 +1,11 @@
 -- What is true of a world after any list of events.
-use Rattle.std.proofs.Common.{◌≡◌, ◌≢◌, ℕ, ◌+◌, ◌<◌, ◌≤◌, None, List, [], ◌∷◌, ◌++◌, length, get_or, set, take, refl, ap, sym, ◌∙◌, ◌⊎◌, inl, inr, arith, subst}
-use Rattle.std.specs.Prelude.{All, Option, IsSome}
-use Rattle.std.proofs.lemmas.Bool.{cases_eq}
-use Rattle.std.proofs.lemmas.List.{get_or-set_same, length-set, take_more}
-use Rattle.std.proofs.lemmas.List.Elements.{All-head, All-tail, All-set}
-use Rattle.pg_arena.specs.Games.{GameVertex, IsGame}
-use Rattle.pg_measure.specs.Measures.{BoundList, MeasureValue, Fits, zeros, AtMost, IsBelow}
-use Rattle.pg_measure.specs.Games.{IsBoundsOf}
-use Rattle.pg_map.specs.Lines.{Line, game_line}
-use Rattle.pg_map.specs.Maps.{measure_at, IsMap, zero_map, MapAtMost, IsClosed, IsNeverAbove, IsJoin, IsLifted, IsLeastServing}
-use Rattle.pg_parts.specs.Cuts.{CutValue}
-use Rattle.pg_world.specs.declared.event.Event.{Event}
-use Rattle.pg_world.specs.declared.event.Event.TheVariants.{Lift, Deliver, Restart, CoordinatorLift}
-use Rattle.pg_world.specs.Updates.{UpdateValue, update_at, map_of_update}
-use Rattle.pg_world.specs.Worlds.{WorldValue, new_world, taken_of, IsMapOf, taking, forgetting, making, Lifts, Steps, refusal, IsEventOf, Runs}
-use Rattle.pg_world.specs.Mirrors.Kept.{IsMade, IsWorld}
-use Rattle.pg_world.specs.Mirrors.MapLaws.{MapLaws}
+use Rattle.pg_world.proofs.Common.{◌≡◌, ◌≢◌, ℕ, ◌+◌, ◌<◌, ◌≤◌, None, List, [], ◌∷◌, ◌++◌, length, get_or, set, take, refl, ap, sym, ◌∙◌}
+use Rattle.pg_world.proofs.Common.{◌⊎◌, inl, inr, arith, subst, All, Option, IsSome, cases_eq, get_or-set_same, length-set, take_more}
+use Rattle.pg_world.proofs.Common.{All-head, All-tail, All-set, GameVertex, IsGame, BoundList, MeasureValue, Fits, zeros, AtMost, IsBelow}
+use Rattle.pg_world.proofs.Common.{IsBoundsOf, Line, game_line, measure_at, IsMap, zero_map, MapAtMost, IsClosed, IsNeverAbove, IsJoin}
+use Rattle.pg_world.proofs.Common.{IsLifted, IsLeastServing, CutValue, Event, Lift, Deliver, Restart, CoordinatorLift, UpdateValue}
+use Rattle.pg_world.proofs.Common.{update_at, map_of_update, WorldValue, new_world, taken_of, IsMapOf, taking, forgetting, making, Lifts}
+use Rattle.pg_world.proofs.Common.{Steps, refusal, IsEventOf, Runs, IsMade, IsWorld, MapLaws}
 use Rattle.pg_world.proofs.Joining.{update_under, raise_joins}
 use Rattle.pg_world.proofs.Keeping.{new_map, new_is_world, taking_is_world, making_is_world, forgetting_is_world, map_after_taking}
 use Rattle.pg_world.proofs.Keeping.{map_after_making, map_besides_making, map_besides_taking, map_besides_forgetting, map_after_forgetting}

@@ -1,24 +1,10 @@
 -- The lines before the events.
-use Rattle.std.proofs.Common.{◌≡◌, ◌≢◌, ℕ, ◌<◌, ◌≤◌, List, [], ◌∷◌, Option, Some, None, Ok, Err, refl, sym, ap, subst, ◌∙◌, arith, length}
-use Rattle.std.specs.Prelude.{codes, IfSome, IfNone}
-use Rattle.std.proofs.lemmas.List.{ext_get_or}
-use Rattle.pg_arena.specs.Games.{GameVertex, IsGame}
-use Rattle.pg_text.specs.Lexemes.{Spells, clause_lexemes}
-use Rattle.pg_text.specs.declared.tokens.TokenFault.{TokenFault}
-use Rattle.pg_text.specs.declared.reading.Refusal.{Refusal}
-use Rattle.pg_text.specs.declared.reading.Refusal.TheVariants.{Memory, Token}
-use Rattle.pg_text.specs.Mirrors.Steps.{Fails}
-use Rattle.pg_text.proofs.Steps.{ok_is, err_is_ok}
-use Rattle.pg_lists.proofs.Steps.{some_is}
-use Rattle.pg_text.proofs.Spelling.{spells_append, spells_parts}
-use Rattle.pg_parts.specs.Cuts.{CutValue, even_worker}
-use Rattle.pg_world.specs.declared.event.Event.{Event}
-use Rattle.pg_world.specs.declared.script.TheConstants.{MAX_WORKERS}
-use Rattle.pg_world.specs.declared.script_fault.ScriptFault.{ScriptFault}
-use Rattle.pg_world.specs.declared.script_fault.ScriptFault.TheVariants.{OutOfMemory, Syntax, NumberTooLarge, NoVertex, CutMismatch}
-use Rattle.pg_world.specs.ScriptText.{cut_lexemes, head_lexemes, events_lexemes, IsCutOf, IsScriptText}
-use Rattle.pg_world.specs.Mirrors.ScriptScan.{workers_at, cut_at, refusal_in}
-use Rattle.pg_world.specs.Mirrors.ScriptReading.{line_of, AreEvents, IsHead, IsOnlyHead, IsNoScript}
+use Rattle.pg_world.proofs.Common.{◌≡◌, ◌≢◌, ℕ, ◌<◌, ◌≤◌, List, [], ◌∷◌, Option, Some, None, Ok, Err, refl, sym, ap, subst, ◌∙◌, arith}
+use Rattle.pg_world.proofs.Common.{length, codes, IfSome, IfNone, ext_get_or, GameVertex, IsGame, Spells, clause_lexemes, TokenFault}
+use Rattle.pg_world.proofs.Common.{Refusal, Memory, Token, Fails, ok_is, err_is_ok, some_is, spells_append, spells_parts, CutValue}
+use Rattle.pg_world.proofs.Common.{even_worker, Event, MAX_WORKERS, ScriptFault, OutOfMemory, Syntax, NumberTooLarge, NoVertex, CutMismatch}
+use Rattle.pg_world.proofs.Common.{cut_lexemes, head_lexemes, events_lexemes, IsCutOf, IsScriptText, workers_at, cut_at, refusal_in}
+use Rattle.pg_world.proofs.Common.{line_of, AreEvents, IsHead, IsOnlyHead, IsNoScript}
 use Rattle.pg_world.proofs.ScriptLines.{workers_take, workers_again, cut_takes, cut_there, no_cut_at_end, no_cut_at_line}
 use Rattle.pg_world.proofs.ScriptReads.{event_line, split, same_events}
 

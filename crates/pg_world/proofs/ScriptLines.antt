@@ -1,21 +1,14 @@
 -- The lines of a script: what is read is spelt, and what is spelt is read.
-use Rattle.std.proofs.Common.{◌≡◌, ◌≢◌, ℕ, ◌<◌, true, List, [], ◌∷◌, Option, Some, None, Ok, Err, refl, ap, subst, arith, inl, inr}
-use Rattle.std.specs.Prelude.{codes, length}
-use Rattle.std.specs.Str.{bytes_eq}
-use Rattle.std.proofs.lemmas.Slice.Eq.{bytes_eq-Decides}
-use Rattle.pg_text.specs.Lexemes.{Lexeme, number, word, semicolon, end, Begins, Spells, clause_lexemes}
-use Rattle.pg_text.specs.Mirrors.Steps.{◌>>=◌, Read, unexpected}
-use Rattle.pg_text.specs.Mirrors.Parts.{natural_at, name_at, semicolon_at, end_at, numbers_at, clause_at}
-use Rattle.pg_text.proofs.Steps.{bind_ok, ok, ok_is, err_is_ok}
-use Rattle.pg_lists.proofs.Steps.{chosen, some}
-use Rattle.pg_text.proofs.Lexing.{token_again}
-use Rattle.pg_text.proofs.Spelling.{spells_append, spells_parts, begins_shorter, spells_within}
-use Rattle.pg_text.proofs.Parts.{natural_takes, natural_again, name_takes, name_again, semicolon_takes, semicolon_again, end_takes}
-use Rattle.pg_text.proofs.Parts.{end_again, clause_takes, clause_there, numbers_take, numbers_again}
-use Rattle.pg_world.specs.declared.script_line.ScriptLine.{ScriptLine}
-use Rattle.pg_world.specs.declared.script_line.ScriptLine.TheVariants.{Lift, Deliver, Restart, Central}
-use Rattle.pg_world.specs.ScriptText.{cut_lexemes}
-use Rattle.pg_world.specs.Mirrors.ScriptScan.{one_at, two_at, line_at, end_or, next_in, next_line_at, workers_in, workers_at, cut_in, cut_at}
+use Rattle.pg_world.proofs.Common.{◌≡◌, ◌≢◌, ℕ, ◌<◌, true, List, [], ◌∷◌, Option, Some, None, Ok, Err, refl, ap, subst, arith, inl, inr}
+use Rattle.pg_world.proofs.Common.{codes, length, bytes_eq, bytes_eq-Decides, Lexeme, number, word, semicolon, end, Begins, Spells}
+use Rattle.pg_world.proofs.Common.{clause_lexemes, ◌>>=◌, Read, unexpected, natural_at, name_at, semicolon_at, end_at, numbers_at}
+use Rattle.pg_world.proofs.Common.{clause_at, bind_ok, ok, ok_is, err_is_ok, chosen, some, token_again, spells_append, spells_parts}
+use Rattle.pg_world.proofs.Common.{begins_shorter, spells_within, natural_takes, natural_again, name_takes, name_again, semicolon_takes}
+use Rattle.pg_world.proofs.Common.{semicolon_again, end_takes, end_again, clause_takes, clause_there, numbers_take, numbers_again}
+use Rattle.pg_world.proofs.Common.{ScriptLine, Central, cut_lexemes, one_at, two_at, end_or, next_in, next_line_at, workers_in, workers_at}
+use Rattle.pg_world.proofs.Common.{cut_in, cut_at}
+use Rattle.pg_world.specs.declared.script_line.ScriptLine.TheVariants.{Lift, Deliver, Restart}
+use Rattle.pg_world.specs.Mirrors.ScriptScan.{line_at}
 
 -- ---- numbers and a semicolon
 

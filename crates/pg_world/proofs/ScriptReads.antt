@@ -1,24 +1,10 @@
 -- A script read line by line.
-use Rattle.std.proofs.Common.{◌≡◌, ℕ, List, [], ◌∷◌, ◌++◌, Option, Some, None, Ok, Err, refl, sym, ap, subst, ◌∙◌, append_assoc}
-use Rattle.std.specs.Prelude.{All}
-use Rattle.std.specs.List.{flat_map}
-use Rattle.std.proofs.lemmas.List.{append-nil}
-use Rattle.std.proofs.lemmas.List.Elements.{All-nil, All-cons, All-head, All-tail, All-append}
-use Rattle.std.proofs.lemmas.Grind.{flat_map-append}
-use Rattle.pg_arena.specs.Games.{GameVertex, identifier, IsGame}
-use Rattle.pg_text.specs.Lexemes.{Lexeme, end, Spells}
-use Rattle.pg_text.specs.declared.tokens.TokenFault.{TokenFault}
-use Rattle.pg_text.proofs.Steps.{ok_is, err_is_ok}
-use Rattle.pg_lists.proofs.Steps.{some, some_is, none_is_some}
-use Rattle.pg_text.proofs.Spelling.{spells_append, spells_parts}
-use Rattle.pg_text.proofs.Answering.{same_vertex}
-use Rattle.pg_world.specs.declared.event.Event.{Event}
+use Rattle.pg_world.proofs.Common.{◌≡◌, ℕ, List, [], ◌∷◌, ◌++◌, Option, Some, None, Ok, Err, refl, sym, ap, subst, ◌∙◌, append_assoc, All}
+use Rattle.pg_world.proofs.Common.{flat_map, append-nil, All-nil, All-cons, All-head, All-tail, All-append, flat_map-append, GameVertex}
+use Rattle.pg_world.proofs.Common.{identifier, IsGame, Lexeme, end, Spells, TokenFault, ok_is, err_is_ok, some, some_is, none_is_some}
+use Rattle.pg_world.proofs.Common.{spells_append, spells_parts, same_vertex, Event, ScriptLine, IsEventOf, event_lexemes, events_lexemes}
+use Rattle.pg_world.proofs.Common.{next_line_at, line_of, IsEventAt, AreEvents}
 use Rattle.pg_world.specs.declared.event.Event.TheVariants as event
-use Rattle.pg_world.specs.declared.script_line.ScriptLine.{ScriptLine}
-use Rattle.pg_world.specs.Worlds.{IsEventOf}
-use Rattle.pg_world.specs.ScriptText.{event_lexemes, events_lexemes}
-use Rattle.pg_world.specs.Mirrors.ScriptScan.{next_line_at}
-use Rattle.pg_world.specs.Mirrors.ScriptReading.{line_of, IsEventAt, AreEvents}
 use Rattle.pg_world.proofs.ScriptLines.{line_lexemes, line_takes, line_again, text_ends, text_ends_again}
 
 pub event_line : (game : List GameVertex) (e : Event) → event_lexemes game e ≡ line_lexemes (line_of game e)

@@ -1,18 +1,9 @@
 -- The map that numbers of updates show.
-use Rattle.std.proofs.Common.{◌≡◌, ◌≢◌, ℕ, zero, suc, ◌+◌, ◌<◌, ◌≤◌, List, [], ◌∷◌, ◌++◌, length, get_or, set, replicate, refl, ap, sym}
-use Rattle.std.proofs.Common.{◌∙◌, ◌⊎◌, inl, inr, arith, subst}
-use Rattle.std.specs.Prelude.{All, Contains, drop}
-use Rattle.std.proofs.lemmas.Bool.{cases_eq, cases_lt}
-use Rattle.std.proofs.lemmas.List.{map-set, get_or_past, get_or_append_left, get_or-replicate, get_or-set_other, get_or-set_same}
-use Rattle.std.proofs.lemmas.List.{length-replicate, length-append, length-map}
-use Rattle.std.proofs.lemmas.List.Elements.{All-contains, Contains-append_left, Contains-append_right}
-use Rattle.std.proofs.Math.Seq.{drop-cons}
-use Rattle.pg_lists.proofs.Contained.{contains_none}
-use Rattle.pg_measure.specs.Measures.{BoundList, zeros}
-use Rattle.pg_map.specs.Maps.{zero_map}
-use Rattle.pg_world.specs.declared.replica.TheConstants.{NO_UPDATE}
-use Rattle.pg_world.specs.Updates.{UpdateValue, update_at}
-use Rattle.pg_world.specs.Mirrors.Kept.{shown, ComeFrom}
+use Rattle.pg_world.proofs.Common.{◌≡◌, ◌≢◌, ℕ, zero, suc, ◌+◌, ◌<◌, ◌≤◌, List, [], ◌∷◌, ◌++◌, length, get_or, set, replicate, refl, ap}
+use Rattle.pg_world.proofs.Common.{sym, ◌∙◌, ◌⊎◌, inl, inr, arith, subst, All, Contains, drop, cases_eq, cases_lt, map-set, get_or_past}
+use Rattle.pg_world.proofs.Common.{get_or_append_left, get_or-replicate, get_or-set_other, get_or-set_same, length-replicate, length-append}
+use Rattle.pg_world.proofs.Common.{length-map, All-contains, Contains-append_left, Contains-append_right, drop-cons, contains_none}
+use Rattle.pg_world.proofs.Common.{BoundList, zeros, zero_map, NO_UPDATE, UpdateValue, update_at, shown, ComeFrom}
 use Rattle.pg_world.proofs.Joining.{kept_at}
 
 cons_same : {A : Type 0} (x y : A) (xs ys : List A) → x ≡ y → xs ≡ ys → x ∷ xs ≡ y ∷ ys

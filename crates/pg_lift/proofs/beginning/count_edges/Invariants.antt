@@ -1,5 +1,4 @@
-use Rattle.std.proofs.Common.{◌≡◌}
-use Rattle.pg_lift.specs.Mirrors.Predecessors.{edges_of}
+use Rattle.pg_lift.proofs.Common.{◌≡◌, edges_of}
 use Rattle.pg_lift.proofs.beginning.count_edges.Given as goal
 
 abbrev pub invariant-loop-number : goal.invariant-loop-number

@@ -1,7 +1,4 @@
-use Rattle.std.proofs.Common.{◌≡◌, ◌<◌, ◌≤◌, ℕ, length}
-use Rattle.std.specs.Prelude.{IsSome}
-use Rattle.pg_lift.specs.Mirrors.Keeps.{KeepsAt, nothing}
-use Rattle.pg_lift.specs.Mirrors.Notes.{AreNotes}
+use Rattle.pg_lift.proofs.Common.{◌≡◌, ◌<◌, ◌≤◌, ℕ, length, IsSome, KeepsAt, nothing, AreNotes}
 use Rattle.pg_lift.proofs.beginning.examine_all.Given as goal
 
 abbrev pub invariant-loop-number : goal.invariant-loop-number

@@ -1,6 +1,4 @@
-use Rattle.std.proofs.Common.{◌≡◌, ◌<◌, ◌≤◌, ℕ, length, get_or, None}
-use Rattle.std.specs.Prelude.{IsSome, option_map}
-use Rattle.pg_lift.specs.Mirrors.Notes.{HasNote, line_label}
+use Rattle.pg_lift.proofs.Common.{◌≡◌, ◌<◌, ◌≤◌, ℕ, length, get_or, None, IsSome, option_map, HasNote, line_label}
 use Rattle.pg_lift.proofs.beginning.note_all.Given as goal
 
 abbrev pub invariant-loop-number : goal.invariant-loop-number

@@ -1,10 +1,6 @@
-use Rattle.std.proofs.Common.{◌≡◌, ◌<◌, ◌∙◌, ℕ, List, length, get_or, set, refl, sym, ap, subst, false, arith}
-use Rattle.std.proofs.lemmas.List.{get_or-set_same}
-use Rattle.pg_map.specs.Lines.{line_at}
-use Rattle.pg_map.specs.Maps.{measure_at, IsServedBy}
+use Rattle.pg_lift.proofs.Common.{◌≡◌, ◌<◌, ◌∙◌, ℕ, List, length, get_or, set, refl, sym, ap, subst, false, arith, get_or-set_same, line_at}
+use Rattle.pg_lift.proofs.Common.{measure_at, IsServedBy, Keeps, nothing, WaitingValue}
 use Rattle.pg_lift.proofs.Keeping.{keeps_served, keeps_marked, same_keeps}
-use Rattle.pg_lift.specs.Mirrors.Keeps.{Keeps, nothing}
-use Rattle.pg_lift.specs.Mirrors.Notes.{WaitingValue}
 use Rattle.pg_lift.proofs.examining.examine.Goals as goal
 use Rattle.pg_lift.proofs.examining.examine.Goals.{then-not-is_greatest, else-not-is_greatest}
 

@@ -1,8 +1,4 @@
-use Rattle.std.proofs.Common.{◌≡◌, ℕ, ◌<◌, List, length, get_or, sym, subst}
-use Rattle.pg_arena.specs.declared.player.Player.TheVariants.{Odd}
-use Rattle.pg_measure.specs.Measures.{width_from}
-use Rattle.pg_map.specs.Lines.{line_at}
-use Rattle.pg_map.proofs.Bests.{taken, left}
+use Rattle.pg_lift.proofs.Common.{◌≡◌, ℕ, ◌<◌, List, length, get_or, sym, subst, Odd, width_from, line_at, taken, left}
 use Rattle.pg_lift.proofs.Keeping.{item_at, among_at}
 use Rattle.pg_lift.proofs.Zeros.{any_is_best}
 use Rattle.pg_lift.proofs.examining.greatest.Goals as goal

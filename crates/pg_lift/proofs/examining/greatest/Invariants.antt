@@ -1,7 +1,4 @@
-use Rattle.pg_arena.specs.declared.player.Player.TheVariants.{Odd}
-use Rattle.pg_measure.specs.Measures.{width_from}
-use Rattle.pg_map.specs.Lines.{line_at}
-use Rattle.pg_map.proofs.Bests.{BestSoFar}
+use Rattle.pg_lift.proofs.Common.{Odd, width_from, line_at, BestSoFar}
 use Rattle.pg_lift.proofs.examining.greatest.Given as goal
 
 abbrev pub invariant-loop-w : goal.invariant-loop-w

@@ -1,5 +1,4 @@
-use Rattle.std.proofs.Common.{◌+◌, length, arith}
-use Rattle.std.specs.Prelude.{slice_index}
+use Rattle.pg_lift.proofs.Common.{◌+◌, length, arith, slice_index}
 use Rattle.pg_lift.proofs.Gathering.{sum_more, sum_rises}
 use Rattle.pg_lift.proofs.predecessors.add_up.Goals as goal
 

@@ -1,6 +1,4 @@
-use Rattle.std.proofs.Common.{◌≡◌, ℕ, ◌≤◌, get_or}
-use Rattle.std.specs.Prelude.{slice_index}
-use Rattle.pg_lift.specs.Mirrors.Predecessors.{AreSums, sum_below}
+use Rattle.pg_lift.proofs.Common.{◌≡◌, ℕ, ◌≤◌, get_or, slice_index, AreSums, sum_below}
 use Rattle.pg_lift.proofs.predecessors.add_up.Given as goal
 
 abbrev pub invariant-loop-place : goal.invariant-loop-place

@@ -1,7 +1,4 @@
-use Rattle.std.proofs.Common.{◌≡◌, ℕ, ◌+◌, ◌<◌, length, get_or, take}
-use Rattle.pg_map.specs.Lines.{line_at}
-use Rattle.pg_lists.specs.Mirrors.Worklists.{times}
-use Rattle.pg_lift.specs.Mirrors.Predecessors.{leads}
+use Rattle.pg_lift.proofs.Common.{◌≡◌, ℕ, ◌+◌, ◌<◌, length, get_or, take, line_at, times, leads}
 use Rattle.pg_lift.proofs.predecessors.count_all.Given as goal
 
 abbrev pub invariant-loop-number : goal.invariant-loop-number

@@ -1,5 +1,4 @@
-use Rattle.std.proofs.Common.{◌≡◌, vec_len}
-use Rattle.std.specs.Prelude.{vec_capacity}
+use Rattle.pg_lift.proofs.Common.{◌≡◌, vec_len, vec_capacity}
 use Rattle.pg_lift.proofs.predecessors.lengthen.Given as goal
 
 abbrev pub invariant-loop : goal.invariant-loop

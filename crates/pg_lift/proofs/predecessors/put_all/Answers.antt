@@ -1,5 +1,4 @@
-use Rattle.std.proofs.Common.{◌≡◌, ◌≤◌, ℕ, length, arith, refl, subst}
-use Rattle.pg_lift.specs.Mirrors.Predecessors.{ArePutBefore}
+use Rattle.pg_lift.proofs.Common.{◌≡◌, ◌≤◌, ℕ, length, arith, refl, subst, ArePutBefore}
 use Rattle.pg_lift.proofs.Gathering.{put_free, put_edge, put_line, put_edges}
 use Rattle.pg_lift.proofs.predecessors.put_all.Goals as goal
 

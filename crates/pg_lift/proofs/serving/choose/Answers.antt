@@ -1,7 +1,4 @@
-use Rattle.std.proofs.Common.{◌≡◌, ℕ, ◌<◌, List, length, get_or, subst, ap, arith}
-use Rattle.pg_measure.specs.Measures.{width_from}
-use Rattle.pg_map.specs.Lines.{line_at}
-use Rattle.pg_lift.specs.Mirrors.Searches.{IsAfter}
+use Rattle.pg_lift.proofs.Common.{◌≡◌, ℕ, ◌<◌, List, length, get_or, subst, ap, arith, width_from, line_at, IsAfter}
 use Rattle.pg_lift.proofs.Keeping.{item_at}
 use Rattle.pg_lift.proofs.Searching.{LeastSoFar, least_taken, least_left, least_of_all}
 use Rattle.pg_lift.proofs.serving.choose.Goals as goal

@@ -1,6 +1,4 @@
-use Rattle.pg_measure.specs.Measures.{width_from}
-use Rattle.pg_map.specs.Lines.{line_at}
-use Rattle.pg_map.specs.Maps.{IsServedBy}
+use Rattle.pg_lift.proofs.Common.{width_from, line_at, IsServedBy}
 use Rattle.pg_lift.proofs.Searching.{LeastSoFar}
 use Rattle.pg_lift.proofs.serving.choose.Given as goal
 

@@ -1,7 +1,4 @@
-use Rattle.std.proofs.Common.{◌≡◌, ◌∙◌, sym, true, get_or}
-use Rattle.pg_arena.specs.declared.player.Player.TheVariants.{Odd}
-use Rattle.pg_map.specs.Lines.{line_at}
-use Rattle.pg_map.specs.Maps.{measure_at, IsServedBy}
+use Rattle.pg_lift.proofs.Common.{◌≡◌, ◌∙◌, sym, true, get_or, Odd, line_at, measure_at, IsServedBy}
 use Rattle.pg_lift.proofs.Keeping.{keeps_served, best_odd}
 use Rattle.pg_lift.proofs.serving.find_serving.Goals as goal
 

@@ -1,8 +1,4 @@
-use Rattle.std.proofs.Common.{◌≡◌, ◌∙◌, ap, true, false, length, get_or, set, sym, refl}
-use Rattle.pg_map.specs.Lines.{line_at}
-use Rattle.pg_map.specs.Maps.{measure_at}
-use Rattle.pg_lift.specs.Mirrors.Keeps.{nothing}
-use Rattle.pg_lift.specs.Mirrors.Notes.{AreNotes}
+use Rattle.pg_lift.proofs.Common.{◌≡◌, ◌∙◌, ap, true, false, length, get_or, set, sym, refl, line_at, measure_at, nothing, AreNotes}
 use Rattle.pg_lift.proofs.Keeping.{kept_change, kept_remembered, same_keeps, set_others, set_mark, set_back, mark_is}
 use Rattle.pg_lift.proofs.Noting.{notes_on, same_span, span_marked}
 use Rattle.pg_lift.proofs.serving.next_ready.Goals as goal

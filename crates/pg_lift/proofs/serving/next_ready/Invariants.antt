@@ -1,5 +1,4 @@
-use Rattle.std.specs.Prelude.{◌≡◌, count_by}
-use Rattle.pg_lift.specs.Mirrors.Keeps.{IsKeeping}
+use Rattle.pg_lift.proofs.Common.{◌≡◌, count_by, IsKeeping}
 use Rattle.pg_lift.proofs.serving.next_ready.Given as goal
 
 abbrev pub invariant-loop-v : goal.invariant-loop-v

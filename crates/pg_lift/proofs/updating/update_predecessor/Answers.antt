@@ -1,9 +1,5 @@
-use Rattle.std.proofs.Common.{◌≡◌, ◌<◌, ◌∙◌, sym, true, false, length, get_or, set, arith}
-use Rattle.std.proofs.lemmas.List.{get_or-set_same}
-use Rattle.pg_arena.specs.declared.player.Player.TheVariants.{Odd}
-use Rattle.pg_map.specs.Lines.{line_at}
-use Rattle.pg_map.specs.Maps.{measure_at}
-use Rattle.pg_lift.specs.Mirrors.Keeps.{Keeps, nothing, just}
+use Rattle.pg_lift.proofs.Common.{◌≡◌, ◌<◌, ◌∙◌, sym, true, false, length, get_or, set, arith, get_or-set_same, Odd, line_at, measure_at}
+use Rattle.pg_lift.proofs.Common.{Keeps, nothing, just}
 use Rattle.pg_lift.proofs.Keeping.{touched_first, touched_more, same_keeps}
 use Rattle.pg_lift.proofs.updating.update_predecessor.Goals as goal
 

@@ -1,6 +1,5 @@
-use Rattle.std.proofs.Common.{◌≡◌, ◌-◌, ◌<◌, ◌∙◌, ℕ, length, get_or, arith, refl, sym, subst, true, false, true≢false, eqb-true}
-use Rattle.std.proofs.lemmas.List.{get_or_default}
-use Rattle.pg_lift.specs.Mirrors.Predecessors.{IsListed, LeadsTo}
+use Rattle.pg_lift.proofs.Common.{◌≡◌, ◌-◌, ◌<◌, ◌∙◌, ℕ, length, get_or, arith, refl, sym, subst, true, false, true≢false, eqb-true}
+use Rattle.pg_lift.proofs.Common.{get_or_default, IsListed, LeadsTo}
 use Rattle.pg_lift.proofs.Keeping.{one_touched, all_touched}
 use Rattle.pg_lift.proofs.Noting.{notes_on}
 use Rattle.pg_lift.proofs.Risen.{Left, left_less, left_itself, none_left, nothing_left, all_left, kept_less}

@@ -1,7 +1,4 @@
-use Rattle.std.proofs.Common.{◌≡◌, length, true}
-use Rattle.pg_lift.specs.Mirrors.Notes.{AreNotes}
-use Rattle.pg_lift.specs.Mirrors.Predecessors.{LeadsTo}
-use Rattle.pg_lift.specs.Mirrors.Keeps.{IsKeptBut}
+use Rattle.pg_lift.proofs.Common.{◌≡◌, length, true, AreNotes, LeadsTo, IsKeptBut}
 use Rattle.pg_lift.proofs.Risen.{Left}
 use Rattle.pg_lift.proofs.updating.update_predecessors.Given as goal
 

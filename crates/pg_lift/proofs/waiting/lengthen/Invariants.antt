@@ -1,6 +1,4 @@
-use Rattle.std.proofs.Common.{◌≡◌, ◌≤◌, ℕ, length, get_or}
-use Rattle.std.specs.Prelude.{vec_capacity}
-use Rattle.pg_lift.specs.Mirrors.Notes.{no_note}
+use Rattle.pg_lift.proofs.Common.{◌≡◌, ◌≤◌, ℕ, length, get_or, vec_capacity, no_note}
 use Rattle.pg_lift.proofs.waiting.lengthen.Given as goal
 
 abbrev pub invariant-loop : goal.invariant-loop

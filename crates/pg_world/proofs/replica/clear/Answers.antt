@@ -1,10 +1,5 @@
-use Rattle.std.proofs.Common.{◌≡◌, ◌<◌, ◌∙◌, List, ℕ, [], length, drop, replicate, get_or, ap, sym, arith, subst}
-use Rattle.std.specs.Prelude.{map}
-use Rattle.std.proofs.lemmas.List.{length-set, drop_all, get_or-map}
-use Rattle.pg_map.specs.declared.update.Update.{Update}
-use Rattle.pg_world.specs.declared.replica.TheConstants.{NO_UPDATE}
-use Rattle.pg_world.specs.Updates.{UpdateValue, update_value}
-use Rattle.pg_world.specs.Mirrors.Kept.{ComeFrom}
+use Rattle.pg_world.proofs.Common.{◌≡◌, ◌<◌, ◌∙◌, List, ℕ, [], length, drop, replicate, get_or, ap, sym, arith, subst, map, length-set}
+use Rattle.pg_world.proofs.Common.{drop_all, get_or-map, Update, NO_UPDATE, UpdateValue, update_value, ComeFrom}
 use Rattle.pg_world.proofs.Showing.{one_cleared, all_cleared}
 use Rattle.pg_world.proofs.replica.clear.Goals as goal
 

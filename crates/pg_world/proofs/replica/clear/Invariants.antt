@@ -1,7 +1,4 @@
-use Rattle.std.proofs.Common.{◌≡◌, length, drop}
-use Rattle.std.specs.Prelude.{map}
-use Rattle.pg_world.specs.Updates.{update_value}
-use Rattle.pg_world.specs.Mirrors.Kept.{ComeFrom}
+use Rattle.pg_world.proofs.Common.{◌≡◌, length, drop, map, update_value, ComeFrom}
 use Rattle.pg_world.proofs.replica.clear.Given as goal
 
 abbrev pub invariant-loop-number : goal.invariant-loop-number

@@ -1,6 +1,4 @@
-use Rattle.std.proofs.Common.{◌≡◌, replicate}
-use Rattle.std.specs.Prelude.{map}
-use Rattle.pg_world.specs.declared.replica.TheConstants.{NO_UPDATE}
+use Rattle.pg_world.proofs.Common.{◌≡◌, replicate, map, NO_UPDATE}
 use Rattle.pg_world.proofs.replica.no_updates.Given as goal
 
 abbrev pub invariant-loop : goal.invariant-loop

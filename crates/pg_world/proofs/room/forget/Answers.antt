@@ -1,6 +1,4 @@
-use Rattle.std.proofs.Common.{◌∙◌, ap, set}
-use Rattle.std.specs.Prelude.{map, ℕ, List}
-use Rattle.std.proofs.lemmas.List.{map-set}
+use Rattle.pg_world.proofs.Common.{◌∙◌, ap, set, map, ℕ, List, map-set}
 use Rattle.pg_world.proofs.Noting.{items}
 use Rattle.pg_world.proofs.room.forget.Goals as goal
 

@@ -1,5 +1,4 @@
-use Rattle.std.proofs.Common.{◌<◌, subst, sym}
-use Rattle.std.specs.Prelude.{is_ok, vec_len, vec_capacity}
+use Rattle.pg_world.proofs.Common.{◌<◌, subst, sym, is_ok, vec_len, vec_capacity}
 use Rattle.pg_world.proofs.Noting.{Numbers, items_noted, place_of}
 use Rattle.pg_world.proofs.room.note.Goals as goal
 

@@ -1,6 +1,4 @@
-use Rattle.std.proofs.Common.{◌∙◌, ap, Option, Ok}
-use Rattle.std.proofs.lemmas.Result.{err_from_is_err_and}
-use Rattle.pg_world.specs.declared.script_line.ScriptLine.{ScriptLine}
+use Rattle.pg_world.proofs.Common.{◌∙◌, ap, Option, Ok, err_from_is_err_and, ScriptLine}
 use Rattle.pg_world.proofs.ScriptLines.{line_shorter}
 use Rattle.pg_world.proofs.ScriptReads.{goes, finishes, fails_line, fails_event}
 use Rattle.pg_world.proofs.script.read_events.Goals as goal

@@ -1,5 +1,4 @@
-use Rattle.std.proofs.Common.{◌<◌, arith}
-use Rattle.std.specs.Prelude.{option_map}
+use Rattle.pg_world.proofs.Common.{◌<◌, arith, option_map}
 use Rattle.pg_world.proofs.ScriptHeads.{fails_workers, fails_many, fails_cut, fails_misfit, head, only_head, some_holds, none_holds}
 use Rattle.pg_world.proofs.script.read_head.Goals as goal
 

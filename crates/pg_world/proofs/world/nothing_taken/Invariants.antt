@@ -1,5 +1,4 @@
-use Rattle.std.proofs.Common.{◌≡◌, [], replicate}
-use Rattle.std.specs.Prelude.{map}
+use Rattle.pg_world.proofs.Common.{◌≡◌, [], replicate, map}
 use Rattle.pg_world.proofs.world.nothing_taken.Given as goal
 
 abbrev pub invariant-loop : goal.invariant-loop

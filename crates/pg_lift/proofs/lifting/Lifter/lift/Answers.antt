@@ -1,6 +1,4 @@
-use Rattle.std.specs.Prelude.{IsSome}
-use Rattle.pg_map.specs.Maps.{IsLifted}
-use Rattle.pg_lift.specs.Mirrors.Predecessors.{IsListed}
+use Rattle.pg_lift.proofs.Common.{IsSome, IsLifted, IsListed}
 use Rattle.pg_lift.proofs.Keeping.{begun, lifted_is}
 use Rattle.pg_lift.proofs.lifting.Lifter.lift.Goals as goal
 

@@ -1,8 +1,4 @@
-use Rattle.std.proofs.Common.{◌<◌, length, get_or}
-use Rattle.pg_measure.specs.Measures.{Covers}
-use Rattle.pg_map.specs.Lines.{line_at}
-use Rattle.pg_map.specs.Maps.{measure_at}
-use Rattle.pg_lift.specs.Mirrors.Predecessors.{IsListed}
+use Rattle.pg_lift.proofs.Common.{◌<◌, length, get_or, Covers, line_at, measure_at, IsListed}
 use Rattle.pg_lift.proofs.Keeping.{lifted_begun}
 use Rattle.pg_lift.proofs.lifting.Lifter.lift_next.Goals as goal
 

@@ -1,6 +1,4 @@
-use Rattle.std.proofs.Common.{◌<◌, length}
-use Rattle.pg_measure.specs.Views.{measure_in}
-use Rattle.pg_lift.specs.Mirrors.Predecessors.{IsListed}
+use Rattle.pg_lift.proofs.Common.{◌<◌, length, measure_in, IsListed}
 use Rattle.pg_lift.proofs.Keeping.{begun, raised_is, IsRise}
 use Rattle.pg_lift.proofs.lifting.Lifter.take.Goals as goal
 

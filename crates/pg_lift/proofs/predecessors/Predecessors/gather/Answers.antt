@@ -1,5 +1,4 @@
-use Rattle.std.proofs.Common.{◌≡◌, ◌<◌, ◌+◌, ◌∙◌, ℕ, length, get_or, arith, ap}
-use Rattle.pg_lift.specs.Mirrors.Predecessors.{begin_of}
+use Rattle.pg_lift.proofs.Common.{◌≡◌, ◌<◌, ◌+◌, ◌∙◌, ℕ, length, get_or, arith, ap, begin_of}
 use Rattle.pg_lift.proofs.Gathering.{begin_few, counts_sum, put_start}
 use Rattle.pg_lift.proofs.predecessors.Predecessors.gather.Goals as goal
 

@@ -1,6 +1,4 @@
-use Rattle.std.proofs.Common.{◌≡◌, ◌∙◌, get_or, set, true, false, refl, sym, ap, arith}
-use Rattle.std.proofs.lemmas.List.{set-get_or}
-use Rattle.pg_lift.specs.Mirrors.Notes.{waits_of}
+use Rattle.pg_lift.proofs.Common.{◌≡◌, ◌∙◌, get_or, set, true, false, refl, sym, ap, arith, set-get_or, waits_of}
 use Rattle.pg_lift.proofs.Noting.{IsAt, there_at, waits_read, waits_set, span_kept, noted_pushed, noted_swapped, room_to_wait, not_on, not_off}
 use Rattle.pg_lift.proofs.waiting.Waiting.add.Goals as goal
 use Rattle.pg_lift.proofs.waiting.Waiting.add.Goals.{After-index-note}

@@ -1,5 +1,4 @@
-use Rattle.std.proofs.Common.{◌-◌, arith}
-use Rattle.pg_lift.specs.Mirrors.Notes.{HasRoom}
+use Rattle.pg_lift.proofs.Common.{◌-◌, arith, HasRoom}
 use Rattle.pg_lift.proofs.Noting.{value_of, waits_size, noted_longer}
 use Rattle.pg_lift.proofs.waiting.Waiting.begin.Goals as goal
 

@@ -1,6 +1,4 @@
-use Rattle.std.proofs.Common.{length, ap, arith}
-use Rattle.pg_lift.specs.declared.note.Note.{Note}
-use Rattle.pg_lift.specs.Mirrors.Notes.{label_in}
+use Rattle.pg_lift.proofs.Common.{length, ap, arith, Note, label_in}
 use Rattle.pg_lift.proofs.Noting.{noted_none, told_nothing}
 use Rattle.pg_lift.proofs.waiting.Waiting.new.Goals as goal
 

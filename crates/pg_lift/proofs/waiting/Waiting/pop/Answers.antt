@@ -1,5 +1,4 @@
-use Rattle.std.proofs.Common.{◌<◌, ◌∷◌, ◌++◌, [], length, refl, arith}
-use Rattle.pg_lift.specs.Mirrors.Notes.{AreNoted, HasNote, waits_of}
+use Rattle.pg_lift.proofs.Common.{◌<◌, ◌∷◌, ◌++◌, [], length, refl, arith, AreNoted, HasNote, waits_of}
 use Rattle.pg_lift.proofs.Noting.{IsNoted, IsAt, is_at, value_of, last_noted, last_waits, noted_popped, waits_size, waits_set, best_kept, span_kept}
 use Rattle.pg_lift.proofs.waiting.Waiting.pop.Goals as goal
 use Rattle.pg_lift.proofs.waiting.Waiting.pop.Goals.{In_ok-v, After-self-1}

@@ -1,7 +1,5 @@
-use Rattle.std.proofs.Common.{◌≡◌, ◌≤◌, ◌<◌, ◌+◌, ◌⊎◌, ◌∙◌, length, inl, inr, sym, ap, arith, false, None}
+use Rattle.pg_lift.proofs.Common.{◌≡◌, ◌≤◌, ◌<◌, ◌+◌, ◌⊎◌, ◌∙◌, length, inl, inr, sym, ap, arith, false, None, Note, label_in}
 use Rattle.std.proofs.lemmas.Bool.{eqb-true}
-use Rattle.pg_lift.specs.declared.note.Note.{Note}
-use Rattle.pg_lift.specs.Mirrors.Notes.{label_in}
 use Rattle.pg_lift.proofs.Noting.{waits_size, told_either, noted_moved}
 use Rattle.pg_lift.proofs.waiting.Waiting.reserve.Goals as goal
 use Rattle.pg_lift.proofs.waiting.Waiting.reserve.Goals.{then-is_empty, else-is_empty}

@@ -1,8 +1,4 @@
-use Rattle.std.proofs.Common.{◌≡◌, ◌<◌, ◌∙◌, length, get_or}
-use Rattle.std.proofs.lemmas.List.{get_or_default}
-use Rattle.pg_map.proofs.Bests.{taken, left}
-use Rattle.pg_measure.specs.Measures.{width_from}
-use Rattle.pg_world.specs.Mirrors.Kept.{shown_by}
+use Rattle.pg_world.proofs.Common.{◌≡◌, ◌<◌, ◌∙◌, length, get_or, get_or_default, taken, left, width_from, shown_by}
 use Rattle.pg_world.proofs.Lifting.{within_game, some_successor, first_best}
 use Rattle.pg_world.proofs.replica.ReplicaMap.best_of.Goals as goal
 use Rattle.pg_world.proofs.replica.ReplicaMap.best_of.Goals.{then-is_better, else-is_better}

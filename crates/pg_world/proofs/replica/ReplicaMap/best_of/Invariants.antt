@@ -1,7 +1,4 @@
-use Rattle.std.proofs.Common.{◌<◌, length}
-use Rattle.pg_measure.specs.Measures.{width_from}
-use Rattle.pg_map.proofs.Bests.{BestSoFar}
-use Rattle.pg_world.specs.Mirrors.Kept.{shown_by}
+use Rattle.pg_world.proofs.Common.{◌<◌, length, width_from, BestSoFar, shown_by}
 use Rattle.pg_world.proofs.replica.ReplicaMap.best_of.Given as goal
 
 abbrev pub invariant-loop-w : goal.invariant-loop-w

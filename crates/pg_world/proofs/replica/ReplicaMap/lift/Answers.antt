@@ -1,11 +1,5 @@
-use Rattle.std.proofs.Common.{is_lt, subst}
-use Rattle.std.specs.Prelude.{MatchBool}
-use Rattle.pg_arena.specs.Games.{owner, priority, successors}
-use Rattle.pg_measure.specs.Measures.{MeasureValue, OwnedMeasure, AtMost, IsBelow, IsLeastStep}
-use Rattle.pg_map.specs.Lines.{game_line}
-use Rattle.pg_map.specs.Maps.{measure_at, IsLeastServing}
-use Rattle.pg_map.proofs.GameLines.{game_line_at}
-use Rattle.pg_world.specs.Mirrors.Kept.{shown_by}
+use Rattle.pg_world.proofs.Common.{is_lt, subst, MatchBool, owner, priority, successors, MeasureValue, OwnedMeasure, AtMost, IsBelow}
+use Rattle.pg_world.proofs.Common.{IsLeastStep, game_line, measure_at, IsLeastServing, game_line_at, shown_by}
 use Rattle.pg_world.proofs.Lifting.{step_serves, below_or, lift_found}
 use Rattle.pg_world.proofs.replica.ReplicaMap.lift.Goals as goal
 use Rattle.pg_world.proofs.replica.ReplicaMap.lift.Goals.{then-rises, else-rises+in-Heap-1, else-rises+in-Inline-1}

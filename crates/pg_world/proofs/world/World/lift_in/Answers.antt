@@ -1,6 +1,4 @@
-use Rattle.std.proofs.Common.{◌≡◌, ap}
-use Rattle.pg_world.specs.Worlds.{WorldValue}
-use Rattle.pg_world.specs.Mirrors.Kept.{shown_by}
+use Rattle.pg_world.proofs.Common.{◌≡◌, ap, WorldValue, shown_by}
 use Rattle.pg_world.proofs.Replicas.{lifts_to}
 use Rattle.pg_world.proofs.world.World.lift_in.Goals as goal
 

@@ -1,11 +1,5 @@
-use Rattle.std.proofs.Common.{◌≡◌, ◌<◌, ◌≤◌, ◌∙◌, ℕ, List, length, set, ap, sym, arith, subst}
-use Rattle.std.specs.Prelude.{map}
-use Rattle.std.proofs.lemmas.List.{length-map}
-use Rattle.pg_map.specs.declared.update.Update.{Update}
-use Rattle.pg_world.specs.declared.replica.TheConstants.{NO_UPDATE}
-use Rattle.pg_world.specs.Updates.{UpdateValue, update_value}
-use Rattle.pg_world.specs.Worlds.{WorldValue}
-use Rattle.pg_world.specs.Mirrors.Kept.{viewed, AreReplicas, LiftsTo}
+use Rattle.pg_world.proofs.Common.{◌≡◌, ◌<◌, ◌≤◌, ◌∙◌, ℕ, List, length, set, ap, sym, arith, subst, map, length-map, Update, NO_UPDATE}
+use Rattle.pg_world.proofs.Common.{UpdateValue, update_value, WorldValue, viewed, AreReplicas, LiftsTo}
 use Rattle.pg_world.proofs.Noting.{items}
 use Rattle.pg_world.proofs.Happening.{view_made}
 use Rattle.pg_world.proofs.Replicas.{greatest_of, makes}

@@ -1,9 +1,5 @@
-use Rattle.std.proofs.Common.{◌≡◌, ◌<◌, ◌≤◌, ◌∙◌, List, length, sym, subst}
-use Rattle.std.specs.Prelude.{map}
-use Rattle.pg_map.specs.declared.update.Update.{Update}
-use Rattle.pg_world.specs.Updates.{update_value}
-use Rattle.pg_world.specs.Worlds.{WorldValue, IsMapOf}
-use Rattle.pg_world.specs.Mirrors.Kept.{viewed, shown}
+use Rattle.pg_world.proofs.Common.{◌≡◌, ◌<◌, ◌≤◌, ◌∙◌, List, length, sym, subst, map, Update, update_value, WorldValue, IsMapOf, viewed}
+use Rattle.pg_world.proofs.Common.{shown}
 use Rattle.pg_world.proofs.Noting.{items, item_at, has_place}
 use Rattle.pg_world.proofs.Replicas.{greatest_of, map_lent}
 use Rattle.pg_world.proofs.world.World.map.Goals as goal

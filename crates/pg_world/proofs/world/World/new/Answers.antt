@@ -1,8 +1,5 @@
-use Rattle.std.proofs.Common.{◌≡◌, ◌+◌, ◌∙◌, ℕ, List, length, replicate, ap, sym, subst, arith}
-use Rattle.std.specs.Prelude.{map}
-use Rattle.pg_world.specs.declared.replica.TheConstants.{NO_UPDATE}
-use Rattle.pg_world.specs.Worlds.{WorldValue}
-use Rattle.pg_world.specs.Mirrors.Kept.{viewed, AreReplicas}
+use Rattle.pg_world.proofs.Common.{◌≡◌, ◌+◌, ◌∙◌, ℕ, List, length, replicate, ap, sym, subst, arith, map, NO_UPDATE, WorldValue, viewed}
+use Rattle.pg_world.proofs.Common.{AreReplicas}
 use Rattle.pg_world.proofs.Noting.{items}
 use Rattle.pg_world.proofs.Replicas.{new_replicas}
 use Rattle.pg_world.proofs.Happening.{view_new}

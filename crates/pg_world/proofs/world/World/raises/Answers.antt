@@ -1,12 +1,5 @@
-use Rattle.std.proofs.Common.{◌≡◌, length, is_lt, ap, sym, arith, subst}
-use Rattle.std.specs.Prelude.{map, MatchBool}
-use Rattle.pg_measure.specs.Measures.{MeasureValue, AtMost, IsBelow, zeros}
-use Rattle.pg_map.specs.Lines.{game_line}
-use Rattle.pg_map.specs.Maps.{measure_at}
-use Rattle.pg_map.specs.declared.update.Update.{Update}
-use Rattle.pg_world.specs.Updates.{update_value, update_at}
-use Rattle.pg_world.specs.Worlds.{WorldValue}
-use Rattle.pg_world.specs.Mirrors.Kept.{IsMade, shown_by}
+use Rattle.pg_world.proofs.Common.{◌≡◌, length, is_lt, ap, sym, arith, subst, map, MatchBool, MeasureValue, AtMost, IsBelow, zeros}
+use Rattle.pg_world.proofs.Common.{game_line, measure_at, Update, update_value, update_at, WorldValue, IsMade, shown_by}
 use Rattle.pg_world.proofs.Happening.{update_there}
 use Rattle.pg_world.proofs.Lifting.{below_or}
 use Rattle.pg_world.proofs.Replicas.{raises_or}

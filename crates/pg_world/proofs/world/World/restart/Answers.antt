@@ -1,13 +1,6 @@
-use Rattle.std.proofs.Common.{◌≡◌, ◌<◌, ◌≤◌, ◌∙◌, ℕ, List, length, set, replicate, ap, sym, arith, subst}
-use Rattle.std.specs.Prelude.{map, All}
-use Rattle.std.proofs.lemmas.List.{length-map, length-replicate, map-set, with_items_is}
-use Rattle.std.specs.Vec.{with_items}
-use Rattle.pg_map.specs.Lines.{game_line}
-use Rattle.pg_map.specs.declared.update.Update.{Update}
-use Rattle.pg_world.specs.declared.replica.TheConstants.{NO_UPDATE}
-use Rattle.pg_world.specs.Updates.{update_value}
-use Rattle.pg_world.specs.Worlds.{WorldValue, taken_of}
-use Rattle.pg_world.specs.Mirrors.Kept.{viewed, ComeFrom, AreReplicas}
+use Rattle.pg_world.proofs.Common.{◌≡◌, ◌<◌, ◌≤◌, ◌∙◌, ℕ, List, length, set, replicate, ap, sym, arith, subst, map, All, length-map}
+use Rattle.pg_world.proofs.Common.{length-replicate, map-set, with_items_is, with_items, game_line, Update, NO_UPDATE, update_value}
+use Rattle.pg_world.proofs.Common.{WorldValue, taken_of, viewed, ComeFrom, AreReplicas}
 use Rattle.pg_world.proofs.Noting.{items, item_at, has_place}
 use Rattle.pg_world.proofs.Happening.{view_forgot, vertices_within}
 use Rattle.pg_world.proofs.Replicas.{greatest_of, greatest_size, forgets}

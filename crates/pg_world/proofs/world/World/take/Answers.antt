@@ -1,9 +1,5 @@
-use Rattle.std.proofs.Common.{◌≡◌, ◌<◌, ◌≤◌, ◌∙◌, ℕ, List, length, set, ap, sym, subst, refl}
-use Rattle.std.specs.Prelude.{map}
-use Rattle.pg_map.specs.declared.update.Update.{Update}
-use Rattle.pg_world.specs.Updates.{UpdateValue, update_at}
-use Rattle.pg_world.specs.Worlds.{WorldValue}
-use Rattle.pg_world.specs.Mirrors.Kept.{viewed, AreReplicas, Raises, IsCovered}
+use Rattle.pg_world.proofs.Common.{◌≡◌, ◌<◌, ◌≤◌, ◌∙◌, ℕ, List, length, set, ap, sym, subst, refl, map, Update, UpdateValue, update_at}
+use Rattle.pg_world.proofs.Common.{WorldValue, viewed, AreReplicas, Raises, IsCovered}
 use Rattle.pg_world.proofs.Noting.{items}
 use Rattle.pg_world.proofs.Happening.{update_there, view_taken}
 use Rattle.pg_world.proofs.Replicas.{greatest_of, map_in, takes_rising, takes_covered}
