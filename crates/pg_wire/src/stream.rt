@@ -81,8 +81,8 @@ fn read_body<R: Read>(input: &mut R, len: usize, bytes: &mut Vec<u8>) -> Result<
 /// more memory than the bytes that came can fill twice, or one chunk. What the bytes say is left to `decode`.
 ///
 /// Faults: `Read` where a read fails; `Truncated` where the input ends within a frame; `TooLong` as soon as the length was
-/// read; `OutOfMemory`. After `TooLong` the length is in `bytes`, after another fault nothing is said of them; and the reader
-/// isn't to be used again.
+/// read; `OutOfMemory`. After `TooLong` the length is in `bytes`, and no more was read. After another fault nothing is said of
+/// `bytes`, and the reader isn't to be used again.
 pub fn read_frame_bytes<R: Read>(input: &mut R, bytes: &mut Vec<u8>) -> Result<bool, WireFault>
     ensures end { result ≡ Ok false → IsAtEnd (R.remaining input.old) }
     ensures frame { result ≡ Ok true → IsWhole bytes.new.items

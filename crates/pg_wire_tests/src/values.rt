@@ -101,19 +101,25 @@ fn refuses_the_first(bytes: &[u8], len: usize) -> bool {
 
 #[test]
 fn reads_one_value_after_the_other(rt: HostRuntime) -> Result<(), Fail> {
-    let text = "0000001b 03 00000002 00000002 00000000 00 00000000 00000001 00000001 01";
-    let bytes = bytes_of(rt.alloc(), text)?;
-    assert!(rt; reads_two_measures(ValueKind::Dense, &bytes));
-    assert!(rt; refuses_the_first(&bytes, 27));
-    Ok(())
-}
-
-#[test]
-fn reads_one_sparse_value_after_the_other(rt: HostRuntime) -> Result<(), Fail> {
-    let text = "0000001f 07 00000002 00000002 00000000 00 00000001 00000001 00000001 00000001 01";
-    let bytes = bytes_of(rt.alloc(), text)?;
-    assert!(rt; reads_two_measures(ValueKind::Sparse, &bytes));
-    assert!(rt; refuses_the_first(&bytes, 30));
+    let rows = [
+        (
+            ValueKind::Dense,
+            "0000001b 03 00000002 00000002 00000000 00 00000000 00000001 00000001 01",
+            27,
+        ),
+        (
+            ValueKind::Sparse,
+            "0000001f 07 00000002 00000002 00000000 00 00000001 00000001 00000001 00000001 01",
+            30,
+        ),
+    ];
+    for (kind, text, len) in rows {
+        let bytes = bytes_of(rt.alloc(), text)?;
+        assert!(rt;
+            reads_two_measures(kind, &bytes) && refuses_the_first(&bytes, len),
+            "{text}"
+        );
+    }
     Ok(())
 }
 
