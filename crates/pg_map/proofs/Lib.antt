@@ -16,5 +16,4 @@ pub mod Falls
 pub mod Rounds
 pub mod Duals
 pub mod Parting
-pub mod Firsts
 pub mod Serving

@@ -4,7 +4,7 @@ use Rattle.std.proofs.Common.{◌≡◌, ℕ, zero, suc, ◌+◌, ◌%◌, ◌<�
 use Rattle.std.proofs.lemmas.Bool.Decides.{nat_tests}
 use Rattle.std.specs.List.{count_by, All, Contains}
 use Rattle.std.proofs.lemmas.Bool.{cases_lt}
-use Rattle.std.proofs.lemmas.List.Elements.{All-nil, All-cons, All-head, All-tail, All-map, All-weaker, All-contains}
+use Rattle.std.proofs.lemmas.List.Elements.{All-nil, All-cons, All-head, All-tail, All-map, All-weaker}
 use Rattle.std.proofs.lemmas.List.Sums.{sum_by-cons}
 use Rattle.pg_arena.specs.Games.{IsPath, IsGreatest}
 use Rattle.pg_measure.specs.Measures.{BoundList}
@@ -121,9 +121,6 @@ has_bound (x ∷ xs) = go (has_bound xs)
       suc (x + n),
       All-cons (λ y. y < suc (x + n)) x xs (omega arith) (All-weaker (λ y. y < n) (λ y. y < suc (x + n)) (λ y lt. omega arith) xs h),
     )
-
-pub below_bound : (xs : List ℕ) (x : ℕ) → Contains xs x → x < (has_bound xs).0
-below_bound xs x among = All-contains (λ y. y < (has_bound xs).0) xs x (has_bound xs).1 among
 
 pub even_or_odd : (p : ℕ) → (p % 2 ≡ 0) ⊎ (p % 2 ≡ 1)
 even_or_odd p = grind arith
