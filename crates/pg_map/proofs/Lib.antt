@@ -16,6 +16,5 @@ pub mod Falls
 pub mod Rounds
 pub mod Duals
 pub mod Parting
-pub mod Firsts
 pub mod Serving
 mod Common

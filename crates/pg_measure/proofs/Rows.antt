@@ -13,11 +13,6 @@ cleared-is zero (x ∷ xs) =
     rw e (ap (λ t. 0 ∷ t) h)
 cleared-is (suc j) (x ∷ xs) = let e : suc (length xs) - suc j ≡ length xs - j = omega arith in rw e (ap (λ t. x ∷ t) (cleared-is j xs))
 
-pub length-cleared : (j : ℕ) (xs : List ℕ) → length (cleared j xs) ≡ length xs
-length-cleared j [] = refl
-length-cleared zero (x ∷ xs) = ap suc (length-cleared zero xs)
-length-cleared (suc j) (x ∷ xs) = ap suc (length-cleared j xs)
-
 -- the components before j, the one at j plus one, and then zeros
 abbrev pub raised : ℕ → List ℕ → List ℕ
 raised j [] = []

@@ -4,24 +4,13 @@ use Rattle.std.proofs.Common.{◌++◌, length, map, get_or, arith, ap, sym, ref
 use Rattle.std.specs.Prelude.{IsTrue}
 use Rattle.std.specs.List.{All, Contains}
 use Rattle.std.proofs.lemmas.Bool.{cases_lt}
-use Rattle.std.proofs.lemmas.List.{map-append, get_or-map, get_or_past, length-map}
+use Rattle.std.proofs.lemmas.List.{map-append, get_or-map, length-map}
 use Rattle.std.proofs.lemmas.List.Elements.{All-nil, All-cons, All-head, All-tail, All-append, All-contains}
 use Rattle.pg_arena.specs.declared.player.Player.{Player}
 use Rattle.pg_arena.specs.Games.{HasParityOf, IsPath, IsGreatest}
 use Rattle.pg_order.specs.declared.span.Span.{Span}
-use Rattle.pg_order.specs.Orders.{span_at, LeadsBefore, WinsCycles, IsNested, AreNested}
+use Rattle.pg_order.specs.Orders.{span_at, LeadsBefore, WinsCycles, AreNested}
 use Rattle.pg_order.specs.Laws.{NestedIsWon}
-
--- past the last span nothing is to be shown
-pub nested_past : (player : Player) (spans : List Span) (i : ℕ) → length spans ≤ i → IsNested player spans i
-nested_past player spans i le = record {
-  won = λ lt. absurd (let e = none in omega arith);
-  lower = λ j from lt. absurd (let e = none in omega arith);
-  inner = λ j from lt. absurd (let e = none in omega arith);
-}
-  where
-    none : (span_at spans i).end ≡ 0
-    none = ap (λ s. s.end) (get_or_past spans i (record { priority = 0; end = 0 }) le)
 
 all_unmap : (f : ℕ → ℕ) (P : ℕ → Type 0) (xs : List ℕ) → All P (map f xs) → All (λ x. P (f x)) xs
 all_unmap f P [] h = All-nil (λ x. P (f x))

@@ -57,46 +57,40 @@ fn last_line_without_a_newline(rt: HostRuntime) -> Result<(), Fail> {
     Ok(())
 }
 
-#[test]
-fn leading_zeros(rt: HostRuntime) -> Result<(), Fail> {
-    let out = reprinted(rt.alloc(), b"parity 07;007 0000 001 00000000000000000007;")?;
-    assert_eq!(rt; out.as_slice(), b"parity 7;\n7 0 1 7;\n".as_slice());
-    Ok(())
-}
-
-#[test]
-fn tokens_without_white_space(rt: HostRuntime) -> Result<(), Fail> {
-    let out = reprinted(rt.alloc(), b"parity4;start9;0 1 0 4,0,0\"a b\";4 0 1 0;")?;
-    let expected = b"parity 4;\n0 1 0 0,4 \"a b\";\n4 0 1 0;\n";
-    assert_eq!(rt; out.as_slice(), expected.as_slice());
-    Ok(())
-}
-
-#[test]
-fn each_white_space_byte(rt: HostRuntime) -> Result<(), Fail> {
-    let out = reprinted(
-        rt.alloc(),
+/// Texts and the printed layouts of the games that they spell.
+static PRINTED: [(&[u8], &[u8]); 5] = [
+    // leading zeros
+    (
+        b"parity 07;007 0000 001 00000000000000000007;",
+        b"parity 7;\n7 0 1 7;\n",
+    ),
+    // tokens without white space between them
+    (
+        b"parity4;start9;0 1 0 4,0,0\"a b\";4 0 1 0;",
+        b"parity 4;\n0 1 0 0,4 \"a b\";\n4 0 1 0;\n",
+    ),
+    // each byte that is white space
+    (
         b"\x09parity\x0a0\x0b;\x0c\x0d 0\x091\x0a0\x0b0\x0c,\x0d0 \"n\"\x0c;\x0b",
-    )?;
-    assert_eq!(rt; out.as_slice(), b"parity 0;\n0 1 0 0 \"n\";\n".as_slice());
-    Ok(())
-}
-
-#[test]
-fn printed_as_it_was(rt: HostRuntime) -> Result<(), Fail> {
-    let text = b"parity 2;\n0 0 1 0,1;\n1 1 1 1,2 \"odd\";\n2 65535 0 0,2 \"\";\n";
-    let out = reprinted(rt.alloc(), text)?;
-    assert_eq!(rt; out.as_slice(), text.as_slice());
-    Ok(())
-}
-
-#[test]
-fn printed_by_rising_identifier(rt: HostRuntime) -> Result<(), Fail> {
-    let out = reprinted(
-        rt.alloc(),
+        b"parity 0;\n0 1 0 0 \"n\";\n",
+    ),
+    // as it was
+    (
+        b"parity 2;\n0 0 1 0,1;\n1 1 1 1,2 \"odd\";\n2 65535 0 0,2 \"\";\n",
+        b"parity 2;\n0 0 1 0,1;\n1 1 1 1,2 \"odd\";\n2 65535 0 0,2 \"\";\n",
+    ),
+    // by rising identifier
+    (
         b"start 7;4000000000 2 0 7;\n7 1 1 4000000000,7,7;",
-    )?;
-    let expected = b"parity 4000000000;\n7 1 1 7,4000000000;\n4000000000 2 0 7;\n";
-    assert_eq!(rt; out.as_slice(), expected.as_slice());
+        b"parity 4000000000;\n7 1 1 7,4000000000;\n4000000000 2 0 7;\n",
+    ),
+];
+
+#[test]
+fn printed_layouts(rt: HostRuntime) -> Result<(), Fail> {
+    for (text, layout) in &PRINTED {
+        let out = reprinted(rt.alloc(), text)?;
+        assert_eq!(rt; out.as_slice(), *layout);
+    }
     Ok(())
 }

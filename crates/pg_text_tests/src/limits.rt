@@ -1,5 +1,6 @@
 //! Texts at the limits and just over them.
 
+use crate::game_faults::game_fault;
 use itoa::Buffer;
 use pg_arena::ArenaFault;
 use pg_text::{TextFault, read_game};
@@ -50,18 +51,36 @@ fn fans(alloc: Global, lines: u32) -> Result<Vec<u8>, AllocError> {
     Ok(text)
 }
 
-fn count(alloc: Global, text: &[u8]) -> Result<usize, TextFault> {
-    Ok(read_game(alloc, text)?.len())
+/// Whether the text spells a game of so many vertices.
+fn is_game_of(alloc: Global, text: &[u8], vertices: usize) -> bool {
+    match read_game(alloc, text) {
+        Ok(game) => game.len() == vertices,
+        Err(_) => false,
+    }
+}
+
+/// Whether the text followed by a last line is refused by this fault.
+fn refuses(
+    alloc: Global,
+    text: &mut Vec<u8>,
+    last: &[u8],
+    fault: ArenaFault,
+) -> Result<bool, AllocError> {
+    text.extend_from_slice(last)?;
+    Ok(game_fault(alloc, text) == Some(TextFault::Arena(fault)))
 }
 
 #[test]
 fn greatest_number_of_vertices(rt: HostRuntime) -> Result<(), Fail> {
     let mut text = loops(rt.alloc(), MAX_VERTICES)?;
-    assert_eq!(rt; count(rt.alloc(), &text), Ok(1048576));
-    text.extend_from_slice(b"1048576 0 0 0;")?;
-    assert_eq!(rt;
-        count(rt.alloc(), &text),
-        Err(TextFault::Arena(ArenaFault::TooManyVertices))
+    assert!(rt; is_game_of(rt.alloc(), &text, 1_048_576));
+    assert!(rt;
+        refuses(
+            rt.alloc(),
+            &mut text,
+            b"1048576 0 0 0;",
+            ArenaFault::TooManyVertices
+        )?
     );
     Ok(())
 }
@@ -69,22 +88,22 @@ fn greatest_number_of_vertices(rt: HostRuntime) -> Result<(), Fail> {
 #[test]
 fn duplicate_behind_the_greatest_number_of_vertices(rt: HostRuntime) -> Result<(), Fail> {
     let mut text = loops(rt.alloc(), MAX_VERTICES)?;
-    text.extend_from_slice(b"1048575 0 0 0;")?;
-    assert_eq!(rt;
-        count(rt.alloc(), &text),
-        Err(TextFault::Arena(ArenaFault::DuplicateVertex(1048575)))
-    );
+    let fault = ArenaFault::DuplicateVertex(1_048_575);
+    assert!(rt; refuses(rt.alloc(), &mut text, b"1048575 0 0 0;", fault)?);
     Ok(())
 }
 
 #[test]
 fn greatest_number_of_edges(rt: HostRuntime) -> Result<(), Fail> {
     let mut text = fans(rt.alloc(), LINES)?;
-    assert_eq!(rt; count(rt.alloc(), &text), Ok(4096));
-    text.extend_from_slice(b"4096 0 0 0;")?;
-    assert_eq!(rt;
-        count(rt.alloc(), &text),
-        Err(TextFault::Arena(ArenaFault::TooManyEdges))
+    assert!(rt; is_game_of(rt.alloc(), &text, 4096));
+    assert!(rt;
+        refuses(
+            rt.alloc(),
+            &mut text,
+            b"4096 0 0 0;",
+            ArenaFault::TooManyEdges
+        )?
     );
     Ok(())
 }
@@ -94,17 +113,20 @@ fn repeated_successors_are_no_edges(rt: HostRuntime) -> Result<(), Fail> {
     let mut text = fans(rt.alloc(), LINES - 1)?;
     push_fan(&mut text, LINES - 1, SUCCESSORS - 1)?;
     text.extend_from_slice(b"4096 0 0 7,7,7,7;")?;
-    assert_eq!(rt; count(rt.alloc(), &text), Ok(4097));
+    assert!(rt; is_game_of(rt.alloc(), &text, 4097));
     Ok(())
 }
 
 #[test]
 fn duplicate_comes_before_the_limit_on_edges(rt: HostRuntime) -> Result<(), Fail> {
     let mut text = fans(rt.alloc(), LINES)?;
-    text.extend_from_slice(b"5 0 0 0;")?;
-    assert_eq!(rt;
-        count(rt.alloc(), &text),
-        Err(TextFault::Arena(ArenaFault::DuplicateVertex(5)))
+    assert!(rt;
+        refuses(
+            rt.alloc(),
+            &mut text,
+            b"5 0 0 0;",
+            ArenaFault::DuplicateVertex(5)
+        )?
     );
     Ok(())
 }

@@ -68,25 +68,24 @@ fn winners_on_both_sides(rt: HostRuntime) -> Result<(), Fail> {
     Ok(())
 }
 
-#[test]
-fn printed_by_rising_identifier(rt: HostRuntime) -> Result<(), Fail> {
-    let out = reprinted(
-        rt.alloc(),
+/// Games, texts, and the printed layouts of the solutions that these spell.
+static PRINTED: [(&[u8], &[u8], &[u8]); 3] = [
+    // by rising identifier
+    (
         FAR,
         b"paritysol 9;4000000000 0 7;7 0 4000000000;",
-    )?;
-    let expected = b"paritysol 4000000000;\n7 0;\n4000000000 0 7;\n";
-    assert_eq!(rt; out.as_slice(), expected.as_slice());
-    Ok(())
-}
+        b"paritysol 4000000000;\n7 0;\n4000000000 0 7;\n",
+    ),
+    // where the winner owns
+    (TWO, b"1 0 0;\n0 0 01;", b"paritysol 1;\n0 0 1;\n1 0;\n"),
+    (TWO, b"0 1 1;1 1 0;", b"paritysol 1;\n0 1;\n1 1 0;\n"),
+];
 
 #[test]
-fn printed_where_the_winner_owns(rt: HostRuntime) -> Result<(), Fail> {
-    let even = reprinted(rt.alloc(), TWO, b"1 0 0;\n0 0 01;")?;
-    let expected = b"paritysol 1;\n0 0 1;\n1 0;\n";
-    assert_eq!(rt; even.as_slice(), expected.as_slice());
-    let odd = reprinted(rt.alloc(), TWO, b"0 1 1;1 1 0;")?;
-    let expected = b"paritysol 1;\n0 1;\n1 1 0;\n";
-    assert_eq!(rt; odd.as_slice(), expected.as_slice());
+fn printed_layouts(rt: HostRuntime) -> Result<(), Fail> {
+    for (game, text, layout) in &PRINTED {
+        let out = reprinted(rt.alloc(), game, text)?;
+        assert_eq!(rt; out.as_slice(), *layout);
+    }
     Ok(())
 }

@@ -1,8 +1,10 @@
 //! Writers that fail, and the texts of faults.
 
+ghost use Rattle.pg_text.specs.Solutions.{IsSolution};
+
 use crate::solutions::TWO;
-use pg_arena::ArenaFault;
-use pg_text::{TextFault, read_game, read_solution, write_game, write_solution};
+use pg_arena::{ArenaFault, Game};
+use pg_text::{Solution, TextFault, read_game, read_solution, write_game, write_solution};
 use std::io;
 use std::test::Fail;
 
@@ -26,51 +28,64 @@ impl io::Write for Full {
     }
 }
 
+/// Whether the game is written with room for so many bytes, and not with less.
+fn game_takes(game: &Game, length: usize) -> bool {
+    for room in 0..length {
+        if write_game(game, &mut Full { room }) != Err(TextFault::Write) {
+            return false;
+        }
+    }
+    write_game(game, &mut Full { room: length }) == Ok(())
+}
+
 #[test]
 fn writer_of_a_game_fails(rt: HostRuntime) -> Result<(), Fail> {
     let game = read_game(rt.alloc(), b"parity 0;\n0 0 0 0 \"a\";\n")?;
-    for room in 0..23 {
-        assert_eq!(rt;
-            write_game(&game, &mut Full { room }),
-            Err(TextFault::Write)
-        );
-    }
-    assert_eq!(rt; write_game(&game, &mut Full { room: 23 }), Ok(()));
+    assert!(rt; game_takes(&game, 23));
     Ok(())
+}
+
+/// The same of a solution.
+fn solution_takes(game: &Game, solution: &Solution, length: usize) -> bool
+    requires { IsSolution game.now solution.now }
+{
+    for room in 0..length {
+        if write_solution(game, solution, &mut Full { room }) != Err(TextFault::Write) {
+            return false;
+        }
+    }
+    write_solution(game, solution, &mut Full { room: length }) == Ok(())
 }
 
 #[test]
 fn writer_of_a_solution_fails(rt: HostRuntime) -> Result<(), Fail> {
     let game = read_game(rt.alloc(), TWO)?;
     let solution = read_solution(rt.alloc(), &game, b"0 0 1;\n1 0;\n")?;
-    for room in 0..25 {
-        let answer = write_solution(&game, &solution, &mut Full { room });
-        assert_eq!(rt; answer, Err(TextFault::Write));
-    }
-    let answer = write_solution(&game, &solution, &mut Full { room: 25 });
-    assert_eq!(rt; answer, Ok(()));
+    assert!(rt; solution_takes(&game, &solution, 25));
     Ok(())
 }
 
+static TEXTS: [(TextFault, &str); 7] = [
+    (TextFault::OutOfMemory, "out of memory"),
+    (TextFault::Syntax(3), "syntax error at byte 3"),
+    (TextFault::NumberTooLarge(12), "number too large at byte 12"),
+    (
+        TextFault::Arena(ArenaFault::DuplicateVertex(5)),
+        "vertex 5 is defined twice",
+    ),
+    (
+        TextFault::NotOfGame(4_000_000_000),
+        "line of vertex 4000000000 does not fit the game",
+    ),
+    (TextFault::Missing(6), "vertex 6 has no answer"),
+    (TextFault::Write, "cannot write the output"),
+];
+
 #[test]
 fn texts_of_faults(rt: HostRuntime) -> Result<(), Fail> {
-    for (fault, text) in [
-        (TextFault::OutOfMemory, "out of memory"),
-        (TextFault::Syntax(3), "syntax error at byte 3"),
-        (TextFault::NumberTooLarge(12), "number too large at byte 12"),
-        (
-            TextFault::Arena(ArenaFault::DuplicateVertex(5)),
-            "vertex 5 is defined twice",
-        ),
-        (
-            TextFault::NotOfGame(4_000_000_000),
-            "line of vertex 4000000000 does not fit the game",
-        ),
-        (TextFault::Missing(6), "vertex 6 has no answer"),
-        (TextFault::Write, "cannot write the output"),
-    ] {
+    for (fault, text) in &TEXTS {
         let printed = format!(in rt.alloc(); "{fault}")?;
-        assert_eq!(rt; printed.as_str(), text);
+        assert_eq!(rt; printed.as_str(), *text);
     }
     Ok(())
 }

@@ -37,12 +37,12 @@ ending_in bytes (_, rest) = Err (unexpected bytes)
 unfoldable pub ending_at : List ℕ → Read (Option (List ℕ) × List ℕ)
 ending_at bytes = token_at bytes >>= ending_in bytes
 
--- behind the identifier
-unfoldable pub line_at : ℕ → List ℕ → Read (Line × List ℕ)
-line_at identifier bytes = do
+-- behind the identifier, by what the successors are read with
+abbrev pub line_by : (List ℕ → Read (List ℕ × List ℕ)) → ℕ → List ℕ → Read (Line × List ℕ)
+line_by list_at identifier bytes = do
   priority ← natural_at bytes
   owner ← owner_at priority.1
-  successors ← numbers_at owner.1
+  successors ← list_at owner.1
   ending ← ending_at successors.1
   Ok (
     record {
@@ -54,6 +54,9 @@ line_at identifier bytes = do
     },
     ending.1,
   )
+
+unfoldable pub line_at : ℕ → List ℕ → Read (Line × List ℕ)
+line_at identifier bytes = line_by numbers_at identifier bytes
 
 abbrev pub item_seen : List ℕ → Option TextLine → Step Line (Unit {0})
 item_seen successors (Some l) = item (line_seen successors l)
@@ -74,21 +77,7 @@ unfoldable pub successors_at : List ℕ → Read (List ℕ × List ℕ)
 successors_at bytes = numbers_at bytes >>= λ x. Ok (rising x.0, x.1)
 
 unfoldable pub counted_line_at : ℕ → List ℕ → Read (Line × List ℕ)
-counted_line_at identifier bytes = do
-  priority ← natural_at bytes
-  owner ← owner_at priority.1
-  successors ← successors_at owner.1
-  ending ← ending_at successors.1
-  Ok (
-    record {
-      identifier = identifier;
-      priority = priority.0;
-      owner = owner.0;
-      successors = successors.0;
-      name = ending.0;
-    },
-    ending.1,
-  )
+counted_line_at identifier bytes = line_by successors_at identifier bytes
 
 abbrev pub counted_step : Step Line (Unit {0}) → Step Line (Unit {0})
 counted_step (item line) = item (counted line)
