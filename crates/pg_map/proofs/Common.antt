@@ -6,9 +6,9 @@ pub use Rattle.std.proofs.Math.Nat.{mul-le-mul_left}
 pub use Rattle.std.proofs.lemmas.Bool.{cases_eq, cases_lt, eq-eqb, eqb-true, le-leb, leb-true}
 pub use Rattle.std.proofs.lemmas.Bool.Decides.{nat_tests}
 pub use Rattle.std.proofs.lemmas.Grind.{common_steps}
-pub use Rattle.std.proofs.lemmas.List.{append-nil, drop-append-le, drop-replicate, drop-set, drop_all, drop_at, get_or-drop}
-pub use Rattle.std.proofs.lemmas.List.{get_or-replicate, get_or-set_other, get_or-set_same, get_or_default, get_or_past, length-replicate}
-pub use Rattle.std.proofs.lemmas.List.{length-set, set-get_or, set-set, take-append-le, take-replicate, take-set, take_all, take_at}
+pub use Rattle.std.proofs.lemmas.List.{append-nil, drop-replicate, drop_all, drop_at, get_or-drop, get_or-replicate, get_or-set_other}
+pub use Rattle.std.proofs.lemmas.List.{get_or-set_same, get_or_default, get_or_past, length-replicate, length-set, set-get_or, set-set}
+pub use Rattle.std.proofs.lemmas.List.{take-replicate, take_all, take_at}
 pub use Rattle.std.proofs.lemmas.List.Elements.{All-cons, All-contains, All-filter, All-from_recursion, All-head, All-map, All-nil}
 pub use Rattle.std.proofs.lemmas.List.Elements.{All-replicate, All-set, All-tail, All-weaker, recursion_from_All}
 pub use Rattle.std.proofs.lemmas.List.Folds.{sum_by-replicate}

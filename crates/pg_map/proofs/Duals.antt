@@ -1,5 +1,5 @@
 -- Lines of the dual.
-use Rattle.pg_map.proofs.Common.{◌≡◌, ℕ, zero, suc, [], ◌∷◌, refl, arith, nat_tests, Option, Line, line_at, dual_line, AreDual}
+use Rattle.pg_map.proofs.Common.{◌≡◌, ℕ, zero, suc, [], ◌∷◌, Option, refl, arith, nat_tests, Line, line_at, dual_line, AreDual}
 use Rattle.pg_map.proofs.Common.{GameLinesAreDual}
 use Rattle.std.specs.Option.{IsSome}
 

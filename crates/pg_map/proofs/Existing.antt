@@ -1,5 +1,5 @@
 -- There is a least progress measure: lifts from zeros come to an end.
-use Rattle.pg_map.proofs.Common.{◌≡◌, ℕ, zero, suc, ◌+◌, ◌<◌, ◌≤◌, Some, None, List, length, take, get_or, set, refl, ap, sym, ◌∙◌, ◌⊎◌}
+use Rattle.pg_map.proofs.Common.{◌≡◌, ℕ, zero, suc, ◌+◌, ◌<◌, ◌≤◌, Some, None, List, length, take, get_or, set, ◌⊎◌, refl, ap, sym, ◌∙◌}
 use Rattle.pg_map.proofs.Common.{inl, inr, arith, subst, nat_tests, All, Option, IsSome, nat_le, cases_lt, cases_eq, get_or_default}
 use Rattle.pg_map.proofs.Common.{get_or-set_same, All-set, count_by-le-length, Player, Even, Odd, BoundList, MeasureValue, Fits, IsBelow}
 use Rattle.pg_map.proofs.Common.{is_odd, width_from, FrontAtMost, at_most_same, below_at_most, below_or, below_or_at_most, least_cover}

@@ -1,6 +1,6 @@
 -- On a cycle of steps by which measures fall, the greatest priority is even.
-use Rattle.pg_map.proofs.Common.{◌≡◌, ℕ, zero, suc, ◌%◌, ◌<◌, ◌≤◌, inl, inr, Some, None, Bool, true, false, cond, leb, List, [], ◌∷◌, ◌++◌}
-use Rattle.pg_map.proofs.Common.{take, length, map, get_or, arith, subst, refl, MatchBool, eq-eqb, leb-true, le-leb, All-nil, All-cons}
+use Rattle.pg_map.proofs.Common.{◌≡◌, ℕ, zero, suc, ◌%◌, ◌<◌, ◌≤◌, Some, None, Bool, true, false, cond, leb, List, [], ◌∷◌, ◌++◌, inl, inr}
+use Rattle.pg_map.proofs.Common.{take, length, map, get_or, MatchBool, arith, subst, refl, eq-eqb, leb-true, le-leb, All-nil, All-cons}
 use Rattle.pg_map.proofs.Common.{All-head, All-tail, sum_by-cons, IsPath, IsGreatest, BoundList, MeasureValue, ListBelow, ListAtMost}
 use Rattle.pg_map.proofs.Common.{Covers, width_from, is_odd, at_most_itself, at_most_trans, below_at_most, below_then, then_below}
 use Rattle.pg_map.proofs.Common.{never_both, measure_at}

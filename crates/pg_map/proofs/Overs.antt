@@ -1,5 +1,5 @@
 -- A lift over the best successor.
-use Rattle.pg_map.proofs.Common.{◌≡◌, ℕ, Bool, true, false, Some, None, List, set, take, refl, inl, inr, Option, Player, BoundList}
+use Rattle.pg_map.proofs.Common.{◌≡◌, ℕ, Bool, true, false, Some, None, List, set, take, Option, refl, inl, inr, Player, BoundList}
 use Rattle.pg_map.proofs.Common.{MeasureValue, CoversFront, is_odd, width_from, MissesFront, IsLeastCover, below_or, Line, line_at}
 use Rattle.pg_map.proofs.Common.{measure_at, IsServed, IsServedBy, IsLifted, IsBest}
 use Rattle.pg_map.proofs.Lifts.{best_serves, lifted_by_step, lifted_line}

@@ -1,13 +1,9 @@
 -- From a set of numbers that a step doesn't leave there is a cycle of steps; and where lists fall along a cycle, strictly at even
 -- priorities, its greatest priority is odd.
-use Rattle.std.proofs.Common.{◌≡◌, ℕ, zero, suc, ◌+◌, ◌%◌, ◌<◌, ◌≤◌, ◌⊎◌, inl, inr, true, cond, List, [], ◌∷◌, ◌++◌, length, map, get_or, arith, subst, refl}
-use Rattle.std.proofs.lemmas.Bool.Decides.{nat_tests}
-use Rattle.std.specs.List.{count_by, All, Contains}
-use Rattle.std.proofs.lemmas.Bool.{cases_lt}
-use Rattle.std.proofs.lemmas.List.Elements.{All-nil, All-cons, All-head, All-tail, All-map, All-weaker}
-use Rattle.std.proofs.lemmas.List.Sums.{sum_by-cons}
-use Rattle.pg_arena.specs.Games.{IsPath, IsGreatest}
-use Rattle.pg_measure.specs.Measures.{BoundList}
+use Rattle.pg_map.proofs.Common.{◌≡◌, ℕ, zero, suc, ◌+◌, ◌%◌, ◌<◌, ◌≤◌, ◌⊎◌, inl, inr, true, cond, List, [], ◌∷◌, ◌++◌, length, map, get_or}
+use Rattle.pg_map.proofs.Common.{arith, subst, refl, nat_tests, count_by, Contains, cases_lt, All-nil, All-cons, All-head, All-tail}
+use Rattle.pg_map.proofs.Common.{All-map, All-weaker, sum_by-cons, IsPath, IsGreatest, BoundList}
+use Rattle.std.specs.List.{All}
 use Rattle.pg_map.proofs.Paths.{IsWay, way_later, path_upto, repeat_or_few}
 use Rattle.pg_map.proofs.Falls.{Falls, all_unmap, no_odd_cycle}
 

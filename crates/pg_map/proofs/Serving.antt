@@ -1,5 +1,5 @@
 -- Lists that are gone through in order, and the first successor that serves a vertex.
-use Rattle.pg_map.proofs.Common.{◌≡◌, ℕ, ◌<◌, ◌≤◌, ◌⊎◌, inl, inr, List, Option, length, get_or, arith, sym, subst, Contains}
+use Rattle.pg_map.proofs.Common.{◌≡◌, ℕ, ◌<◌, ◌≤◌, ◌⊎◌, List, Option, length, get_or, inl, inr, arith, sym, subst, Contains}
 use Rattle.pg_map.proofs.Common.{IsStrictlyIncreasing, cases_lt, get_or_default, AllPairs-from_increasing, BoundList, MeasureValue, Line}
 use Rattle.pg_map.proofs.Common.{line_at, IsServedBy, IsFirstServing}
 

@@ -1,6 +1,6 @@
 -- The bounds of a game, from a table of how many vertices have each priority.
 use Rattle.pg_measure.proofs.Common.{◌≡◌, ◌≢◌, ℕ, zero, suc, ◌+◌, ◌-◌, ◌%◌, ◌<◌, ◌≤◌, true, false, cond, List, [], ◌∷◌, ◌++◌, length}
-use Rattle.pg_measure.proofs.Common.{get_or, take, set, refl, ap, sym, ◌∙◌, ◌⊎◌, inl, inr, arith, length-append, AllPairs, All, Contains}
+use Rattle.pg_measure.proofs.Common.{get_or, take, set, ◌⊎◌, AllPairs, All, Contains, refl, ap, sym, ◌∙◌, inl, inr, arith, length-append}
 use Rattle.pg_measure.proofs.Common.{◌==◌, common_steps, cases_lt, cases_eq, nat_tests, get_or_default, get_or-set_same, get_or-set_other}
 use Rattle.pg_measure.proofs.Common.{get_or_append_left, all_pairs_push, sum_by-cons, count_by_more_no, count_by_more_yes}
 use Rattle.pg_measure.proofs.Common.{count_by-le-length, GameVertex, HasPrioritiesUpTo, priority, dual, dual_vertex, nowhere, length_dual}

@@ -1,5 +1,5 @@
 -- A game has one list of bounds: two lists that fall and have the same members are equal.
-use Rattle.pg_measure.proofs.Common.{◌≡◌, ℕ, zero, suc, ◌<◌, [], ◌∷◌, get_or, refl, sym, arith, AllPairs, Contains, BoundList}
+use Rattle.pg_measure.proofs.Common.{◌≡◌, ℕ, zero, suc, ◌<◌, [], ◌∷◌, get_or, AllPairs, Contains, refl, sym, arith, BoundList}
 use Rattle.pg_measure.proofs.Common.{OneListOfBounds}
 
 abbrev pub Falls : BoundList → Type 0

@@ -1,6 +1,6 @@
 -- The order of lists, of measures, and of rows.
 use Rattle.pg_measure.proofs.Common.{MatchBool, ◌≡◌, ℕ, zero, suc, ◌+◌, ◌<◌, ◌≤◌, Bool, true, false, Some, None, List, [], ◌∷◌, length}
-use Rattle.pg_measure.proofs.Common.{take, refl, ◌∙◌, ap, ◌⊎◌, inl, inr, arith, add-one, cases_lt, MeasureValue, ListBelow, ListAtMost}
+use Rattle.pg_measure.proofs.Common.{take, ◌⊎◌, refl, ◌∙◌, ap, inl, inr, arith, add-one, cases_lt, MeasureValue, ListBelow, ListAtMost}
 use Rattle.pg_measure.proofs.Common.{AtMost, IsBelow, CoversFront, MissesFront, FrontAtMost, measure_of}
 use Rattle.pg_measure.proofs.Rows.{at_most_itself}
 

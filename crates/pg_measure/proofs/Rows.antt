@@ -1,6 +1,6 @@
 -- Lists of components: clearing and raising them gives the least list.
 use Rattle.pg_measure.proofs.Common.{◌≡◌, ℕ, zero, suc, ◌+◌, ◌-◌, ◌<◌, ◌≤◌, List, [], ◌∷◌, ◌++◌, length, get_or, take, set, replicate, refl}
-use Rattle.pg_measure.proofs.Common.{ap, sym, ◌∙◌, ◌⊎◌, inl, inr, arith, cases_lt, Some, None, BoundList, MeasureValue, ListFits, Fits}
+use Rattle.pg_measure.proofs.Common.{ap, sym, ◌∙◌, inl, inr, arith, ◌⊎◌, Some, None, cases_lt, BoundList, MeasureValue, ListFits, Fits}
 use Rattle.pg_measure.proofs.Common.{zeros, ListBelow, ListAtMost, AtMost, cleared}
 
 pub cleared-is : (j : ℕ) (xs : List ℕ) → take j xs ++ replicate (length xs - j) 0 ≡ cleared j xs

@@ -1,5 +1,5 @@
 -- Each game has bounds: they are counted from the greatest priority down.
-use Rattle.pg_measure.proofs.Common.{◌≡◌, ◌≢◌, ℕ, zero, suc, ◌+◌, ◌%◌, ◌<◌, ◌≤◌, List, [], ◌∷◌, length, map, get_or, refl, subst, ◌⊎◌, inl}
+use Rattle.pg_measure.proofs.Common.{◌≡◌, ◌≢◌, ℕ, zero, suc, ◌+◌, ◌%◌, ◌<◌, ◌≤◌, List, [], ◌∷◌, length, map, get_or, ◌⊎◌, refl, subst, inl}
 use Rattle.pg_measure.proofs.Common.{inr, arith, range_with_len, cases_lt, cases_eq, length-map-range_with_len, get_or-map-range_with_len}
 use Rattle.pg_measure.proofs.Common.{GameVertex, priority, BoundList, vertices_of, IsCount, HasBounds}
 use Rattle.pg_measure.proofs.Counted.{CountedFrom, counted_none, counted_push, counted_skip, counted_is}

@@ -1,7 +1,7 @@
 -- What a step of one row leaves.
 use Rattle.pg_measure.proofs.Common.{◌≡◌, ℕ, zero, suc, ◌+◌, ◌-◌, ◌<◌, ◌≤◌, Bool, true, false, Some, None, List, [], ◌∷◌, length, get_or}
 use Rattle.pg_measure.proofs.Common.{take, drop, set, replicate, refl, sym, ◌∙◌, arith, add-one, subst, ap, append-nil, length-take}
-use Rattle.pg_measure.proofs.Common.{length-drop, ◌⊎◌, inl, inr, common_steps, cases_lt, BoundList, MeasureValue, Fits, ListFits, AtMost}
+use Rattle.pg_measure.proofs.Common.{length-drop, inl, inr, ◌⊎◌, common_steps, cases_lt, BoundList, MeasureValue, Fits, ListFits, AtMost}
 use Rattle.pg_measure.proofs.Common.{CoversFront, IsLeastCover, measure_of, cleared}
 use borrow.Rule.Slice.PartMut.{put_mid}
 use Rattle.pg_measure.proofs.Rows.{cleared-is, raised, raised-is, same_length, cleared_fits, raised_fits, cleared_covers, raised_covers}

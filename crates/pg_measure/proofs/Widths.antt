@@ -1,5 +1,5 @@
 -- The components of priorities at least p are the first ones.
-use Rattle.pg_measure.proofs.Common.{◌≡◌, ℕ, zero, suc, ◌<◌, ◌≤◌, true, false, List, [], ◌∷◌, length, take, get_or, refl, ap, sym, ◌∙◌, ◌⊎◌}
+use Rattle.pg_measure.proofs.Common.{◌≡◌, ℕ, zero, suc, ◌<◌, ◌≤◌, true, false, List, [], ◌∷◌, length, take, get_or, ◌⊎◌, refl, ap, sym, ◌∙◌}
 use Rattle.pg_measure.proofs.Common.{inl, inr, arith, nat_le, All, AllPairs, IsPartitionedBy, sum_by-cons, cases_lt, nat_tests, BoundList}
 use Rattle.pg_measure.proofs.Common.{width_from, components_from, components_by_priority}
 

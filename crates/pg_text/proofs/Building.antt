@@ -1,5 +1,5 @@
 -- Lines read one after another into a builder.
-use Rattle.pg_text.proofs.Common.{◌≡◌, ◌⊎◌, ℕ, length, inl, inr, List, [], ◌∷◌, ◌++◌, map, Option, Some, None, Result, Ok, Err, refl, sym}
+use Rattle.pg_text.proofs.Common.{◌≡◌, ◌⊎◌, ℕ, length, List, [], ◌∷◌, ◌++◌, map, Option, Some, None, Result, Ok, Err, inl, inr, refl, sym}
 use Rattle.pg_text.proofs.Common.{ap, subst, ◌∙◌, append_assoc, codes, flat_map, map-append, append-nil, flat_map-append, ArenaFault, Line}
 use Rattle.pg_text.proofs.Common.{counted, add_fault, Answers, Accepts, Refusal, Memory, Token, TokenFault, NumberTooLarge, arena_fault}
 use Rattle.pg_text.proofs.Common.{token_fault_of, fault_of, Lexeme, number, word, end, Begins, Spells, clause_lexemes, line_lexemes, IsText}

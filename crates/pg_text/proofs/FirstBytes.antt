@@ -1,6 +1,6 @@
 -- The first byte behind white space says which token stands there.
 use Rattle.pg_text.proofs.Common.{◌≡◌, ◌≢◌, ℕ, ◌≤◌, Bool, true, false, eqb, get_or, List, [], ◌∷◌, ◌++◌, length, Option, None, Result, Ok}
-use Rattle.pg_text.proofs.Common.{Err, IfErr, Bor, refl, sym, ap, subst, ◌∙◌, arith, nat_tests, option_map, result_ok, Line, Lexeme, number}
+use Rattle.pg_text.proofs.Common.{Err, IfErr, option_map, Bor, refl, sym, ap, subst, ◌∙◌, arith, nat_tests, result_ok, Line, Lexeme, number}
 use Rattle.pg_text.proofs.Common.{semicolon, comma, quoted, end, is_space, IsSpelt, after_space, is_digit, Each, Stops, TokenFault}
 use Rattle.pg_text.proofs.Common.{NumberTooLarge, number_at, solid_at, lexeme_at, or_fault, token_at, ◌>>=◌, Read, Reads, Step, item, stop}
 use Rattle.pg_text.proofs.Common.{misplaced_in, misplaced, number_in, natural_at, string_in, string_at, semicolon_in, semicolon_at}

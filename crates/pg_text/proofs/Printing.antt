@@ -1,6 +1,6 @@
 -- What is written piece by piece is the layout.
 use Rattle.pg_text.proofs.Common.{◌≡◌, ℕ, zero, suc, ◌-◌, ◌+◌, ◌<◌, ◌*◌, ◌≤◌, List, [], ◌∷◌, ◌++◌, length, map, take, drop, replicate}
-use Rattle.pg_text.proofs.Common.{get_or, arith, Option, refl, sym, ap, subst, ◌∙◌, take-append-drop, nat_tests, All, codes, decimal}
+use Rattle.pg_text.proofs.Common.{get_or, Option, All, codes, decimal, arith, refl, sym, ap, subst, ◌∙◌, take-append-drop, nat_tests}
 use Rattle.pg_text.proofs.Common.{flat_map, take-map, Appends, Appends-trans, take_more, take_at, take_all, length-map, map-append}
 use Rattle.pg_text.proofs.Common.{flat_map_more, length-append, replicate-append-replicate, decimal_digit, Contains-get_or, GameVertex}
 use Rattle.pg_text.proofs.Common.{IsGame, identifier, successors, vertex_at, nowhere, Line, line_of, lines_of, comma_number, line_text}

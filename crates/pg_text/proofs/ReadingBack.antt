@@ -1,6 +1,6 @@
 -- The text of a game spells that game.
 use Rattle.pg_text.proofs.Common.{◌≡◌, ◌≢◌, ℕ, zero, suc, ◌+◌, ◌-◌, ◌<◌, ◌≤◌, ◌^◌, eqb, List, [], ◌∷◌, ◌++◌, length, get_or, map, Some}
-use Rattle.pg_text.proofs.Common.{None, IfSome, refl, ap, subst, ◌∙◌, arith, nat_tests, decimal, codes, flat_map, AllByRecursion}
+use Rattle.pg_text.proofs.Common.{None, IfSome, decimal, codes, refl, ap, subst, ◌∙◌, arith, nat_tests, flat_map, AllByRecursion}
 use Rattle.pg_text.proofs.Common.{IsDistinct, IsStrictlyIncreasing, ne_eqb, length-map, get_or-map, sum_by-cons, All-get_or}
 use Rattle.pg_text.proofs.Common.{All-from_get_or, All-map, recursion_from_All, All-from_recursion, Contains-get_or, IsPermutation-refl}
 use Rattle.pg_text.proofs.Common.{AllPairs-from_increasing, IsDistinct-from_apart, GameVertex, IsGame, IsWithinLimits, vertex_at, nowhere}

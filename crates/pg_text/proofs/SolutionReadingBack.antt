@@ -1,6 +1,6 @@
 -- The text of a solution spells that solution, without choices on vertices that the winner doesn't own.
 use Rattle.pg_text.proofs.Common.{◌≡◌, ◌≢◌, ℕ, zero, suc, ◌+◌, ◌-◌, ◌<◌, ◌≤◌, ◌^◌, Bool, true, false, cond, List, [], ◌∷◌, ◌++◌, length}
-use Rattle.pg_text.proofs.Common.{map, Option, Some, None, IfSome, refl, sym, ap, subst, ◌∙◌, inl, inr, arith, append_assoc, nat_tests, All}
+use Rattle.pg_text.proofs.Common.{map, Option, Some, None, IfSome, All, refl, sym, ap, subst, ◌∙◌, inl, inr, arith, append_assoc, nat_tests}
 use Rattle.pg_text.proofs.Common.{decimal, codes, option_map, flat_map, range_with_len, AllByRecursion, eq-eqb, ne_eqb, cases_eq}
 use Rattle.pg_text.proofs.Common.{get_or-map-range_with_len, length-map-range_with_len, All-get_or, Player, Even, Odd, GameVertex, IsGame}
 use Rattle.pg_text.proofs.Common.{nowhere, identifier, owner, Answer, SolutionLine, number, word, semicolon, end, is_space, Begins, Spells}

@@ -1,5 +1,5 @@
 -- The two laws of a whole text: the lines that are read are those of the text, and the lines of a text are read.
-use Rattle.pg_text.proofs.Common.{◌≡◌, ℕ, List, [], ◌∷◌, ◌++◌, Option, Some, None, Ok, refl, subst, codes, flat_map, Line, Lexeme, number}
+use Rattle.pg_text.proofs.Common.{◌≡◌, ℕ, List, [], ◌∷◌, ◌++◌, Option, Some, None, Ok, codes, refl, subst, flat_map, Line, Lexeme, number}
 use Rattle.pg_text.proofs.Common.{word, end, Begins, Spells, clause_lexemes, line_lexemes, game_lexemes, IsText, ◌>>=◌, items_at, clause_at}
 use Rattle.pg_text.proofs.Common.{item_at, body_at, lines_at}
 use Rattle.pg_text.proofs.Steps.{bind_ok, ok, ok_is}

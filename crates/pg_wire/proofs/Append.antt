@@ -1,5 +1,5 @@
 -- Bytes that are appended one after the other.
-use Rattle.pg_wire.proofs.Common.{◌≡◌, ℕ, ◌+◌, ◌<◌, ◌≤◌, List, [], ◌∷◌, ◌++◌, length, take, get_or, sym, ap, ◌∙◌, Option, Some, None}
+use Rattle.pg_wire.proofs.Common.{◌≡◌, ℕ, ◌+◌, ◌<◌, ◌≤◌, List, [], ◌∷◌, ◌++◌, length, take, get_or, Option, Some, None, sym, ap, ◌∙◌}
 use Rattle.pg_wire.proofs.Common.{append_assoc, arith, flat_map, append-nil, take_more, length-append, flat_map-cons, length-flat_map-take}
 use Rattle.pg_wire.proofs.Common.{flat_map-append, Appends, HasBytes}
 

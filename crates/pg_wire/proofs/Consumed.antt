@@ -1,5 +1,5 @@
 -- Bytes that were read one after the other, and what reading a frame answers by them.
-use Rattle.pg_wire.proofs.Common.{◌≡◌, ℕ, ◌+◌, ◌-◌, ◌<◌, ◌≤◌, ◌⊎◌, List, [], ◌++◌, length, take, drop, refl, sym, ap, subst, ◌∙◌, Option}
+use Rattle.pg_wire.proofs.Common.{◌≡◌, ℕ, ◌+◌, ◌-◌, ◌<◌, ◌≤◌, ◌⊎◌, List, [], ◌++◌, length, take, drop, Option, refl, sym, ap, subst, ◌∙◌}
 use Rattle.pg_wire.proofs.Common.{Some, None, IfSome, Result, Ok, Err, append_assoc, arith, inl, inr, length-append, length-take}
 use Rattle.pg_wire.proofs.Common.{length-drop, take_at, drop_at, take_all, take-append-le, take-append-add, w32, from_be_bytes, Consumes}
 use Rattle.pg_wire.proofs.Common.{IsAtEnd, WireFault, TooLong, Truncated, OutOfMemory, Read, Frame, word, body, spelling, longest, Spells}

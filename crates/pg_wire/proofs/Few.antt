@@ -1,5 +1,5 @@
 -- Odd priorities that fall are few.
-use Rattle.pg_wire.proofs.Common.{◌≡◌, ℕ, suc, ◌*◌, ◌%◌, ◌<◌, ◌≤◌, List, [], ◌∷◌, length, arith, All, AllPairs, Setup, IsBound, IsSetup}
+use Rattle.pg_wire.proofs.Common.{◌≡◌, ℕ, suc, ◌*◌, ◌%◌, ◌<◌, ◌≤◌, List, [], ◌∷◌, length, All, arith, AllPairs, Setup, IsBound, IsSetup}
 use Rattle.pg_wire.proofs.Orders.{pairs_head, pairs_tail}
 
 few_below : (top : ℕ) (ps : List (ℕ × ℕ)) → All IsBound ps → AllPairs (λ p q. q.0 < p.0) ps → All (λ p. p.0 < top) ps → 2 * length ps ≤ top

@@ -1,6 +1,6 @@
 -- The formats of what stands in frames.
 use Rattle.pg_wire.proofs.Common.{◌≡◌, ℕ, ◌+◌, ◌^◌, ◌<◌, ◌≤◌, ◌⊎◌, Bool, true, false, cond, List, ◌∷◌, [], length, ◌++◌, Option, Ok, Err}
-use Rattle.pg_wire.proofs.Common.{Some, None, refl, subst, arith, inl, inr, All, IfSome, ◌↔◌, nat_le, nat_lt, ◌&&◌, ◌||◌, cases_lt, le-ltb}
+use Rattle.pg_wire.proofs.Common.{Some, None, All, IfSome, ◌↔◌, nat_le, nat_lt, ◌&&◌, ◌||◌, refl, subst, arith, inl, inr, cases_lt, le-ltb}
 use Rattle.pg_wire.proofs.Common.{ltb-true, lt-ltb, leb-true, le-leb, eqb-true, eq-eqb, At, ValueKind, Dense, Sparse, word, IsFaultCode}
 use Rattle.pg_wire.proofs.Common.{IsComponents, Measured, spelled_as, falling, in_any_order, is_code, code_at, byte_at}
 use Rattle.pg_wire.specs.Spelling.{tagged}

@@ -1,4 +1,4 @@
-use Rattle.pg_map.proofs.Common.{◌≡◌, ◌∙◌, ◌+◌, ◌-◌, ◌*◌, ap, length, arith, set, table}
+use Rattle.pg_map.proofs.Common.{◌≡◌, ◌+◌, ◌-◌, ◌*◌, length, set, ◌∙◌, ap, arith, table}
 use Rattle.pg_map.proofs.Tables.{put_row, length-row}
 use Rattle.pg_map.proofs.rows.write_list.Goals as goal
 

@@ -1,4 +1,4 @@
-use Rattle.pg_map.proofs.Common.{◌≡◌, ◌∙◌, ◌+◌, ◌-◌, ◌*◌, ap, arith, set, table}
+use Rattle.pg_map.proofs.Common.{◌≡◌, ◌+◌, ◌-◌, ◌*◌, set, ◌∙◌, ap, arith, table}
 use Rattle.pg_map.proofs.Tables.{put_row, length-row}
 use Rattle.pg_map.proofs.rows.write_top.Goals as goal
 

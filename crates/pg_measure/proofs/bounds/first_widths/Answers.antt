@@ -1,4 +1,4 @@
-use Rattle.pg_measure.proofs.Common.{◌≡◌, ◌∙◌, ℕ, ◌+◌, ◌<◌, ◌≤◌, ◌⊎◌, inl, inr, List, [], ◌∷◌, ◌++◌, length, slice_index, ap, subst, sym}
+use Rattle.pg_measure.proofs.Common.{◌≡◌, ℕ, ◌+◌, ◌<◌, ◌≤◌, ◌⊎◌, List, [], ◌∷◌, ◌++◌, length, slice_index, ◌∙◌, inl, inr, ap, subst, sym}
 use Rattle.pg_measure.proofs.Common.{arith, cases_lt, length_push, get_or_append_left, get_or-append_seam, BoundList, width_from, AreWidths}
 use Rattle.pg_measure.proofs.bounds.first_widths.Goals as goal
 

@@ -1,4 +1,4 @@
-use Rattle.pg_measure.proofs.Common.{ℕ, get_or, arith, rules, of_calls, nat_le, IsPartitionPoint-from_clause}
+use Rattle.pg_measure.proofs.Common.{ℕ, get_or, nat_le, arith, rules, of_calls, IsPartitionPoint-from_clause}
 use Rattle.pg_measure.proofs.Widths.{width_is, at_least_falls, at_least_from, less_from}
 use Rattle.pg_measure.proofs.row.width_from.Goals as goal
 

@@ -1,4 +1,4 @@
-use Rattle.pg_text.proofs.Common.{◌≡◌, ◌∙◌, sym, ap, subst, Ok, None, ◌++◌, ◌∷◌, [], List, ℕ, Option, err_from_is_err_and, Line, counted}
+use Rattle.pg_text.proofs.Common.{◌≡◌, Ok, None, ◌++◌, ◌∷◌, [], List, ℕ, Option, ◌∙◌, sym, ap, subst, err_from_is_err_and, Line, counted}
 use Rattle.pg_text.proofs.Common.{Answers, add_fault, TextLine, line_seen, item_seen, counted_step}
 use Rattle.pg_text.proofs.Building.{more, finishes, fails_body, fails_item, fails_add}
 use Rattle.pg_text.proofs.Takes.{item_shrinks}

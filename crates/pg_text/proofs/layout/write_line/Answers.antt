@@ -1,4 +1,4 @@
-use Rattle.pg_text.proofs.Common.{ℕ, List, ◌++◌, Option, Result, Ok, Err, ap, subst, append_assoc, OnOk, codes, decimal, Appends}
+use Rattle.pg_text.proofs.Common.{ℕ, List, ◌++◌, Option, Result, Ok, Err, OnOk, codes, decimal, ap, subst, append_assoc, Appends}
 use Rattle.pg_text.proofs.Common.{Appends-trans, GameVertex, line_of, player_number, name_text, line_text, identifiers_text}
 use Rattle.pg_text.proofs.Printing.{successors_within}
 use Rattle.pg_text.proofs.layout.write_line.Goals as goal

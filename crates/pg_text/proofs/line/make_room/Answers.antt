@@ -1,4 +1,4 @@
-use Rattle.pg_text.proofs.Common.{◌∙◌, eqb, ap, dedup_is, rising, dedup_rising, rising_rises, rises_already}
+use Rattle.pg_text.proofs.Common.{◌∙◌, ap, eqb, dedup_is, rising, dedup_rising, rising_rises, rises_already}
 use Rattle.pg_text.proofs.line.make_room.Goals as goal
 
 pub returns : goal.returns

@@ -1,4 +1,4 @@
-use Rattle.pg_text.proofs.Common.{◌∙◌, ap, ℕ, List, Option, Ok, Bor, err_from_is_err_and, further_seen, numbers_at, successors_at}
+use Rattle.pg_text.proofs.Common.{◌∙◌, ap, Bor, ℕ, List, Option, Ok, err_from_is_err_and, further_seen, numbers_at, successors_at}
 use Rattle.pg_text.proofs.Parts.{further_shrinks}
 use Rattle.pg_text.proofs.Counting.{first_gathered, one_gathered, all_gathered, none_gathered}
 use Rattle.pg_text.proofs.line.successors.Goals as goal

@@ -1,4 +1,4 @@
-use Rattle.pg_text.proofs.Common.{◌≡◌, ◌∙◌, ap, sym, ◌≤◌, length, get_or, false, arith, nat_tests, is_digit}
+use Rattle.pg_text.proofs.Common.{◌≡◌, ◌≤◌, length, get_or, false, ◌∙◌, ap, sym, arith, nat_tests, is_digit}
 use Rattle.pg_text.proofs.Steps.{err}
 use Rattle.pg_text.proofs.FirstBytes.{natural_of_digits, natural_of_others}
 use Rattle.pg_text.proofs.reading.natural.Goals as goal

@@ -1,4 +1,4 @@
-use Rattle.pg_text.proofs.Common.{◌∙◌, ap, ℕ, List, Option, Ok, Bor, err_from_is_err_and, further_seen, numbers_at}
+use Rattle.pg_text.proofs.Common.{◌∙◌, ap, Bor, ℕ, List, Option, Ok, err_from_is_err_and, further_seen, numbers_at}
 use Rattle.pg_text.proofs.Parts.{further_shrinks, one_comes, all_came, none_comes}
 use Rattle.pg_text.proofs.reading.numbers.Goals as goal
 

@@ -1,4 +1,4 @@
-use Rattle.pg_text.proofs.Common.{arith, ◌-◌, length, sym, decimal, Appends, identifier}
+use Rattle.pg_text.proofs.Common.{arith, sym, ◌-◌, length, decimal, Appends, identifier}
 use Rattle.pg_text.proofs.SolutionPrinting.{answer_push, whole_text}
 use Rattle.pg_text.proofs.solution_layout.write_solution.Goals as goal
 

@@ -1,4 +1,4 @@
-use Rattle.pg_text.proofs.Common.{◌≡◌, List, ℕ, Bool, Option, Ok, replicate, false, length, take, ◌∙◌, ◌++◌, drop, ap, sym, subst, take_at}
+use Rattle.pg_text.proofs.Common.{◌≡◌, List, ℕ, Bool, Option, Ok, replicate, false, length, take, ◌++◌, drop, ◌∙◌, ap, sym, subst, take_at}
 use Rattle.pg_text.proofs.Common.{SolutionLine, answer_seen}
 use Rattle.pg_text.proofs.SolutionReads.{Reading, starts, goes, finishes, fails_header, fails_line, fails_front, fails_misfit}
 use Rattle.pg_text.proofs.SolutionLines.{line_shrinks}

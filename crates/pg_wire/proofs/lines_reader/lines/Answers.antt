@@ -1,4 +1,4 @@
-use Rattle.pg_wire.proofs.Common.{ap, sym, length, ◌∙◌, Ok, List, ℕ, arith, eqb-true, eqb-false, nil_from_length}
+use Rattle.pg_wire.proofs.Common.{ap, sym, ◌∙◌, arith, length, Ok, List, ℕ, eqb-true, eqb-false, nil_from_length}
 use Rattle.pg_wire.proofs.Grammar.{ok_is}
 use Rattle.pg_wire.proofs.Skip.{lines_read, lines_are, no_lines}
 use Rattle.pg_wire.proofs.lines_reader.lines.Goals as goal

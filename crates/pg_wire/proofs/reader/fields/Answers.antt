@@ -1,4 +1,4 @@
-use Rattle.pg_wire.proofs.Common.{ap, sym, length, ◌∙◌, Ok, List, ℕ, arith, eqb-true, eqb-false, nil_from_length}
+use Rattle.pg_wire.proofs.Common.{ap, sym, ◌∙◌, arith, length, Ok, List, ℕ, eqb-true, eqb-false, nil_from_length}
 use Rattle.pg_wire.proofs.Grammar.{ok_is}
 use Rattle.pg_wire.proofs.Skip.{measures_read, fields_are, no_width, no_count}
 use Rattle.pg_wire.proofs.reader.fields.Goals as goal

@@ -1,4 +1,4 @@
-use Rattle.pg_wire.proofs.Common.{◌≡◌, ap, sym, subst, refl, inl, inr, Err, ℕ, List, length, take, arith, err_from_is_err_and, length-take}
+use Rattle.pg_wire.proofs.Common.{◌≡◌, Err, ℕ, List, length, take, ap, sym, subst, refl, inl, inr, arith, err_from_is_err_and, length-take}
 use Rattle.pg_wire.proofs.Common.{WireFault, IsTooLong}
 use Rattle.pg_wire.proofs.Consumed.{none_read, cut, long, too_long_alone, body_fault, read_whole, filled_all}
 use Rattle.pg_wire.proofs.stream.read_frame_bytes.Goals as goal

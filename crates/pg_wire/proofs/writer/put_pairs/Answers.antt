@@ -1,4 +1,4 @@
-use Rattle.pg_wire.proofs.Common.{◌++◌, ap, sym, ◌∙◌, take, get_or, append_assoc, refl, List, ℕ, Vec, Global, flat_map, pair, nonzero}
+use Rattle.pg_wire.proofs.Common.{◌++◌, take, get_or, List, ℕ, Vec, ap, sym, ◌∙◌, append_assoc, refl, Global, flat_map, pair, nonzero}
 use Rattle.pg_wire.proofs.Nonzero.{nonzero_zero, pairs_more}
 use Rattle.pg_wire.proofs.Buffers.{extends_then}
 use Rattle.pg_wire.proofs.writer.put_pairs.Goals as goal

@@ -1,4 +1,4 @@
-use Rattle.pg_map.proofs.Common.{◌≡◌, ◌∙◌, get_or, get_or_default}
+use Rattle.pg_map.proofs.Common.{◌≡◌, get_or, ◌∙◌, get_or_default}
 use Rattle.pg_map.proofs.Bests.{taken, left}
 use Rattle.pg_map.proofs.map.MeasureMap.best_of.Goals as goal
 use Rattle.pg_map.proofs.map.MeasureMap.best_of.Goals.{then-is_better, else-is_better}

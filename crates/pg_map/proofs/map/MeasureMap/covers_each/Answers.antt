@@ -1,4 +1,4 @@
-use Rattle.pg_map.proofs.Common.{◌≡◌, ◌∙◌, ◌<◌, ℕ, get_or, subst, arith, refl, get_or_default, CoversFront, misses_not, measure_at}
+use Rattle.pg_map.proofs.Common.{◌≡◌, ◌<◌, ℕ, get_or, ◌∙◌, subst, arith, refl, get_or_default, CoversFront, misses_not, measure_at}
 use Rattle.pg_map.proofs.map.MeasureMap.covers_each.Goals as goal
 
 pub returns-then-not-covers : goal.returns-then-not-covers

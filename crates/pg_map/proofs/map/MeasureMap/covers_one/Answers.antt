@@ -1,4 +1,4 @@
-use Rattle.pg_map.proofs.Common.{◌≡◌, ◌∙◌, ◌<◌, get_or, arith, below_more, get_or_default, CoversFront, misses_not, measure_at}
+use Rattle.pg_map.proofs.Common.{◌≡◌, ◌<◌, get_or, ◌∙◌, arith, below_more, get_or_default, CoversFront, misses_not, measure_at}
 use Rattle.pg_map.proofs.map.MeasureMap.covers_one.Goals as goal
 
 pub loop-w-preserved : goal.loop-w-preserved

@@ -1,4 +1,4 @@
-use Rattle.pg_map.proofs.Common.{◌∙◌, ap, length, arith, nat_tests}
+use Rattle.pg_map.proofs.Common.{◌∙◌, ap, arith, length, nat_tests}
 use Rattle.pg_map.proofs.Orderings.{at_most_either}
 use Rattle.pg_map.proofs.map.MeasureMap.is_at_most_at.Goals as goal
 

@@ -1,4 +1,4 @@
-use Rattle.pg_map.proofs.Common.{◌≡◌, ◌∙◌, ◌+◌, ◌-◌, ◌*◌, ap, arith, measure_at, RowsValue}
+use Rattle.pg_map.proofs.Common.{◌≡◌, ◌+◌, ◌-◌, ◌*◌, ◌∙◌, ap, arith, measure_at, RowsValue}
 use Rattle.pg_map.proofs.Tables.{rows_size, row_within, row_is}
 use Rattle.pg_map.proofs.rows.RowTable.row.Goals as goal
 

@@ -1,4 +1,4 @@
-use Rattle.pg_measure.proofs.Common.{◌≡◌, ◌∙◌, ◌<◌, ℕ, length, arith, nat_le, get_or_default, count_by-le-length, width_from}
+use Rattle.pg_measure.proofs.Common.{◌≡◌, ◌<◌, ℕ, length, nat_le, ◌∙◌, arith, get_or_default, count_by-le-length, width_from}
 use Rattle.pg_measure.proofs.bounds.Bounds.width_from.Goals as goal
 
 pub returns-then-at-len-clause-within : goal.returns-then-at-len-clause-within

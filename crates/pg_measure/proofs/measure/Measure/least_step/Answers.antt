@@ -1,4 +1,4 @@
-use Rattle.pg_measure.proofs.Common.{◌≡◌, ◌∙◌, ◌+◌, ap, length, arith, refl, sym, OwnedMeasure, measure_of}
+use Rattle.pg_measure.proofs.Common.{◌≡◌, ◌+◌, length, ◌∙◌, ap, arith, refl, sym, OwnedMeasure, measure_of}
 use Rattle.pg_measure.proofs.Steps.{row_length}
 use Rattle.pg_measure.proofs.measure.Measure.least_step.Goals as goal
 

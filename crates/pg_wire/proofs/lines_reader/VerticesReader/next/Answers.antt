@@ -1,4 +1,4 @@
-use Rattle.pg_wire.proofs.Common.{◌≡◌, ◌++◌, ◌∙◌, ℕ, List, length, take, drop, Some, Ok, sym, subst, arith, take_at, IsNextLine}
+use Rattle.pg_wire.proofs.Common.{◌≡◌, ◌++◌, ℕ, List, length, take, drop, Some, Ok, ◌∙◌, sym, subst, arith, take_at, IsNextLine}
 use Rattle.pg_wire.proofs.Common.{all_components}
 use Rattle.pg_wire.proofs.Lines.{none_left, cut_left, next_left}
 use Rattle.pg_wire.proofs.lines_reader.VerticesReader.next.Goals as goal

@@ -1,4 +1,4 @@
-use Rattle.pg_wire.proofs.Common.{List, ℕ, ◌++◌, ◌∙◌, refl, ap, length, arith, line, line_with}
+use Rattle.pg_wire.proofs.Common.{List, ℕ, ◌++◌, length, ◌∙◌, refl, ap, arith, line, line_with}
 use Rattle.pg_wire.proofs.LinesWriting.{no_room, added}
 use Rattle.pg_wire.proofs.lines_writer.VerticesWriter.push.Goals as goal
 

@@ -1,4 +1,4 @@
-use Rattle.pg_wire.proofs.Common.{ap, sym, length, ◌∙◌, eqb-false}
+use Rattle.pg_wire.proofs.Common.{ap, sym, ◌∙◌, length, eqb-false}
 use Rattle.pg_wire.proofs.Left.{none_left, next_left}
 use Rattle.pg_wire.proofs.reader.ValuesReader.next.Goals as goal
 
