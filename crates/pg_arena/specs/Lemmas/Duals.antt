@@ -5,8 +5,8 @@ use Rattle.std.specs.List.Sorted.{IsStrictlyIncreasing}
 use Rattle.std.proofs.lemmas.Bool.{cases_lt}
 use Rattle.std.proofs.lemmas.List.{length-map, get_or-map, get_or_past}
 use Rattle.std.proofs.lemmas.List.Sums.{sum_by-cons}
-use Rattle.pg_arena.specs.Games.{GameVertex, IsGame, IsWithinLimits, opponent, vertex_at, nowhere, identifier, priority, owner, successors}
-use Rattle.pg_arena.specs.Games.{name, identifiers, edge_count, dual, dual_vertex}
+use Rattle.pg_arena.specs.Games.{GameVertex, IsGame, IsWithinLimits, opponent, vertex_at, nowhere, priority, owner, successors}
+use Rattle.pg_arena.specs.Games.{identifiers, edge_count, dual, dual_vertex}
 
 pub length_dual : (game : List GameVertex) → length (dual game) ≡ length game
 length_dual game = length-map game dual_vertex
@@ -14,22 +14,14 @@ length_dual game = length-map game dual_vertex
 vertex_dual : (game : List GameVertex) (v : ℕ) → v < length game → vertex_at (dual game) v ≡ dual_vertex (vertex_at game v)
 vertex_dual game v lt = get_or-map dual_vertex game v nowhere nowhere lt
 
--- what a dual keeps, it keeps also past the last vertex
-kept : {A : Type 0} (field : GameVertex → A) → ((x : GameVertex) → field (dual_vertex x) ≡ field x) → (game : List GameVertex) (v : ℕ)
-    → field (vertex_at (dual game) v) ≡ field (vertex_at game v)
-kept field keeps game v = elim (cases_lt v (length game)) [
-  | inl lt ↦ ap field (vertex_dual game v lt) ∙ keeps (vertex_at game v)
-  | inr past ↦ ap field (get_or_past (dual game) v nowhere (omega (arith, length_dual game))) ∙ sym (ap field (get_or_past game v nowhere past))
-]
-
-pub identifier_dual : (game : List GameVertex) (v : ℕ) → identifier (dual game) v ≡ identifier game v
-identifier_dual game v = kept (λ x. x.identifier) (λ x. refl) game v
-
+-- successors are kept also past the last vertex
 pub successors_dual : (game : List GameVertex) (v : ℕ) → successors (dual game) v ≡ successors game v
-successors_dual game v = kept (λ x. x.successors) (λ x. refl) game v
-
-pub name_dual : (game : List GameVertex) (v : ℕ) → name (dual game) v ≡ name game v
-name_dual game v = kept (λ x. x.name) (λ x. refl) game v
+successors_dual game v = elim (cases_lt v (length game)) [
+  | inl lt ↦ ap (λ (x : GameVertex). x.successors) (vertex_dual game v lt)
+  | inr past ↦
+      ap (λ (x : GameVertex). x.successors)
+      (get_or_past (dual game) v nowhere (omega (arith, length_dual game)) ∙ sym (get_or_past game v nowhere past))
+]
 
 pub priority_dual : (game : List GameVertex) (v : ℕ) → v < length game → priority (dual game) v ≡ priority game v + 1
 priority_dual game v lt = ap (λ (x : GameVertex). x.priority) (vertex_dual game v lt)
