@@ -1,7 +1,7 @@
 -- One more line: what it does to the parts, and which reason there is against it.
-use Rattle.pg_arena.proofs.Common.{◌≡◌, ℕ, zero, suc, append-nil, ◌+◌, ◌-◌, ◌≤◌, ◌<◌, Bool, true, false, eqb, cond, List, [], ◌∷◌, ◌++◌}
+use Rattle.pg_arena.proofs.Common.{◌≡◌, ℕ, zero, suc, ◌+◌, ◌-◌, ◌≤◌, ◌<◌, Bool, true, false, eqb, cond, List, [], ◌∷◌, ◌++◌, append-nil}
 use Rattle.pg_arena.proofs.Common.{length, take, drop, map, get_or, replicate, Option, Some, None, refl, sym, ap, subst, ◌∙◌, arith, inl}
-use Rattle.pg_arena.proofs.Common.{inr, All, Bor, nat_tests, slice_range, slice_get, option_map, option_to_list, option_copied, is_some}
+use Rattle.pg_arena.proofs.Common.{inr, Bor, All, slice_range, slice_get, option_map, option_to_list, option_copied, is_some, nat_tests}
 use Rattle.pg_arena.proofs.Common.{IsSome, IfSome, Result, Ok, Err, OnErr, ◌||◌, list_any, flat_map, IsDistinct, IsStrictlyIncreasing, Vec}
 use Rattle.pg_arena.proofs.Common.{Global, nat_eq_equiv, IsDistinct-push, cases_lt, eqb-false, ltb-false, leb-false, drop-append-le}
 use Rattle.pg_arena.proofs.Common.{take-append-le, take_all, drop_at, length-append, length-drop, length-take, length-replicate}

@@ -1,5 +1,5 @@
 -- The parts of a game's dual.
-use Rattle.pg_arena.proofs.Common.{◌≡◌, ℕ, ◌≤◌, List, [], ◌∷◌, length, map, drop, Option, refl, sym, ap, subst, ◌∙◌, All, ◌+◌, arith}
+use Rattle.pg_arena.proofs.Common.{◌≡◌, ℕ, ◌≤◌, List, [], ◌∷◌, length, map, drop, Option, All, ◌+◌, refl, sym, ap, subst, ◌∙◌, arith}
 use Rattle.pg_arena.proofs.Common.{nat_tests, Vec, Global, length-map, All-head, All-tail, All-cons, All-nil, All-map, All-weaker, Entry}
 use Rattle.pg_arena.proofs.Common.{GameVertex, IsGame, IsWithinLimits, HasPrioritiesUpTo, dual, dual_vertex, game_dual, limits_dual, Row}
 use Rattle.pg_arena.proofs.Common.{row_of, rows_in, place_at, vertex_in, vertices_in, dual_entry, dual_row, IsBuilt, IsBuiltIn, IsOrderly}

@@ -1,6 +1,6 @@
 -- The game that sorted entries make is the game of the lines.
 use Rattle.pg_arena.proofs.Common.{Option, ◌≡◌, ℕ, ◌+◌, ◌-◌, ◌≤◌, ◌<◌, List, [], ◌∷◌, length, get_or, take, drop, map, refl, sym, ap, subst}
-use Rattle.pg_arena.proofs.Common.{◌∙◌, arith, inl, inr, All, nat_tests, slice_range, slice_index, Contains, flat_map, IsPermutation}
+use Rattle.pg_arena.proofs.Common.{◌∙◌, arith, inl, inr, All, slice_range, slice_index, Contains, nat_tests, flat_map, IsPermutation}
 use Rattle.pg_arena.proofs.Common.{IsStrictlyIncreasing, Vec, Global, cases_lt, take-map, drop-map, length-map, get_or-map, get_or_past}
 use Rattle.pg_arena.proofs.Common.{All-head, All-tail, All-cons, All-nil, All-take, All-drop, All-contains, All-get_or, All-weaker}
 use Rattle.pg_arena.proofs.Common.{sum_by-cons, length-flat_map, IsPermutation-map, length_permutation, All-permutation}

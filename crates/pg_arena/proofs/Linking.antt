@@ -1,5 +1,5 @@
 -- Steps of the loops that write a list from its front on: so far it is as wanted, and behind that as it was.
-use Rattle.pg_arena.proofs.Common.{◌≡◌, ◌∙◌, ◌<◌, ◌+◌, ◌++◌, ◌∷◌, [], ℕ, List, length, map, take, drop, sym, ap, subst, arith, nat_tests}
+use Rattle.pg_arena.proofs.Common.{◌≡◌, ◌<◌, ◌+◌, ◌++◌, ◌∷◌, [], ℕ, List, length, map, take, drop, ◌∙◌, sym, ap, subst, arith, nat_tests}
 use Rattle.pg_arena.proofs.Common.{set, slice_index, All, get_or-drop, drop-drop, drop-set-lt, take_more, take_more_set, map-append}
 use Rattle.pg_arena.proofs.Common.{All-push, AreLinked}
 

@@ -1,6 +1,6 @@
 -- One list of lines has one game, and lines with a game have no reason against it.
 use Rattle.pg_arena.proofs.Common.{◌≡◌, ℕ, ◌<◌, true, false, eqb, List, [], ◌∷◌, length, get_or, map, Result, Ok, Err, refl, sym, ap, subst}
-use Rattle.pg_arena.proofs.Common.{◌∙◌, arith, inl, inr, All, nat_tests, slice_index, ◌||◌, Contains, IfOk, IfErr, MatchResult, AllPairs}
+use Rattle.pg_arena.proofs.Common.{◌∙◌, arith, inl, inr, All, slice_index, ◌||◌, Contains, IfOk, IfErr, MatchResult, nat_tests, AllPairs}
 use Rattle.pg_arena.proofs.Common.{IsStrictlyIncreasing, cases_lt, length-map, get_or_default, All-head, All-tail, All-from_get_or}
 use Rattle.pg_arena.proofs.Common.{Contains-get_or, IsPermutation-sym, length_permutation, Contains-permutation, list_any-IsPermutation}
 use Rattle.pg_arena.proofs.Common.{sorted_from_strictly_increasing, below_from_sorted, ArenaFault, OutOfMemory, UnknownSuccessor, NoVertex}

@@ -1,6 +1,6 @@
 -- The first unknown successor of sorted entries is the least of the lines.
 use Rattle.pg_arena.proofs.Common.{◌≡◌, ℕ, ◌≤◌, ◌<◌, true, false, not, cond, eqb, List, [], ◌∷◌, length, get_or, ◌+◌, drop, Option, Some}
-use Rattle.pg_arena.proofs.Common.{None, refl, sym, ap, subst, ◌∙◌, ◌⊎◌, arith, inl, inr, All, nat_tests, slice_range, Contains, IsSome}
+use Rattle.pg_arena.proofs.Common.{None, ◌⊎◌, All, slice_range, Contains, IsSome, refl, sym, ap, subst, ◌∙◌, arith, inl, inr, nat_tests}
 use Rattle.pg_arena.proofs.Common.{option_map, option_or, AllPairs, IsStrictlyIncreasing, Vec, Global, drop_more, drop_all, some_pair_parts}
 use Rattle.pg_arena.proofs.Common.{All-head, All-tail, Contains-permutation, IsPermutation-sym, list_any-IsPermutation}
 use Rattle.pg_arena.proofs.Common.{AllPairs-from_increasing, Entry, Line, is_named, IsUnknown, IsLeastUnknown, Row, row_of, rows_in}

@@ -33,8 +33,7 @@ pub use Rattle.pg_map.proofs.GameLines.{game_line_at}
 pub use Rattle.pg_map.proofs.Lifts.{least_serving}
 pub use Rattle.pg_map.specs.Laws.{ZeroMapIsLeast}
 pub use Rattle.pg_map.specs.Lemmas.Orders.{map_transitive, maps_same}
-pub use Rattle.pg_map.specs.Lines.{Line, game_line, only}
-unfoldable pub use Rattle.pg_map.specs.Lines.{line_at}
+pub use Rattle.pg_map.specs.Lines.{Line, game_line, line_at, only}
 pub use Rattle.pg_map.specs.Maps.{IsClosed, IsJoin, IsLeastServing, IsLifted, IsMap, IsNeverAbove, IsServed, MapAtMost, SomeOrAll}
 pub use Rattle.pg_map.specs.Maps.{measure_at, update_map, zero_map}
 pub use Rattle.pg_map.specs.Mirrors.Tables.{IsBest, IsBetter}

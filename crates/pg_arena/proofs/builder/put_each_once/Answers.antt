@@ -1,4 +1,4 @@
-use Rattle.pg_arena.proofs.Common.{◌∙◌, eqb, List, ℕ, subst, rules, IsPermutation, dedup_is, dedup_rising}
+use Rattle.pg_arena.proofs.Common.{◌∙◌, subst, rules, eqb, List, ℕ, IsPermutation, dedup_is, dedup_rising}
 use Rattle.pg_arena.proofs.builder.put_each_once.Goals as goal
 
 pub returns : goal.returns

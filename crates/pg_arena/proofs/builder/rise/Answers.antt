@@ -1,4 +1,4 @@
-use Rattle.pg_arena.proofs.Common.{◌≡◌, ◌+◌, ℕ, Bool, true, false, ltb, List, get_or, sym, rules, IsTrue, IsAllAdjacentAnswer}
+use Rattle.pg_arena.proofs.Common.{◌≡◌, ◌+◌, ℕ, Bool, true, false, ltb, List, get_or, IsTrue, sym, rules, IsAllAdjacentAnswer}
 use Rattle.pg_arena.proofs.Common.{IsStrictlyIncreasing, ltb-true, answers_always}
 use Rattle.pg_arena.proofs.builder.rise.Goals as goal
 

@@ -1,4 +1,4 @@
-use Rattle.pg_arena.proofs.Common.{◌≡◌, ◌∙◌, map, subst, sym, ap, rules, Shared, HasPrioritiesUpTo, dual, dual_entry}
+use Rattle.pg_arena.proofs.Common.{◌≡◌, map, ◌∙◌, subst, sym, ap, rules, Shared, HasPrioritiesUpTo, dual, dual_entry}
 use Rattle.pg_arena.proofs.Dualling.{dual_vertices_in, dual_built_in, small_entries}
 use Rattle.pg_arena.proofs.game.dual.Goals as goal
 

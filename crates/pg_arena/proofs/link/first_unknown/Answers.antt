@@ -1,4 +1,4 @@
-use Rattle.pg_arena.proofs.Common.{◌∙◌, [], sym, arith, nat_tests}
+use Rattle.pg_arena.proofs.Common.{◌∙◌, sym, arith, [], nat_tests}
 use Rattle.pg_arena.proofs.Unknown.{unknown_here, unknown_later_on, no_unknown_left}
 use Rattle.pg_arena.proofs.link.first_unknown.Goals as goal
 

@@ -1,4 +1,4 @@
-use Rattle.pg_arena.proofs.Common.{◌≡◌, ◌∙◌, arith, slice_index, get_or_default}
+use Rattle.pg_arena.proofs.Common.{◌≡◌, slice_index, ◌∙◌, arith, get_or_default}
 use Rattle.pg_arena.proofs.Linking.{left_next, linked_next}
 use Rattle.pg_arena.proofs.link.link.Goals as goal
 

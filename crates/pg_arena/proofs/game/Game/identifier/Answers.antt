@@ -1,4 +1,4 @@
-use Rattle.pg_arena.proofs.Common.{◌∙◌, get_or, ap, Shared}
+use Rattle.pg_arena.proofs.Common.{◌∙◌, ap, get_or, Shared}
 use Rattle.pg_arena.proofs.Vertices.{vertex_is, identifier_read}
 use Rattle.pg_arena.proofs.game.Game.identifier.Goals as goal
 

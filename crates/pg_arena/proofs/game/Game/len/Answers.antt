@@ -1,4 +1,4 @@
-use Rattle.pg_arena.proofs.Common.{◌≡◌, ◌∙◌, ℕ, ◌<◌, ap, rules, slice_index, Shared}
+use Rattle.pg_arena.proofs.Common.{◌≡◌, ℕ, ◌<◌, slice_index, ◌∙◌, ap, rules, Shared}
 use Rattle.pg_arena.proofs.Vertices.{listed_by, all_fit}
 use Rattle.pg_arena.proofs.game.Game.len.Goals as goal
 

@@ -1,4 +1,4 @@
-use Rattle.pg_arena.proofs.Common.{◌≡◌, ◌∙◌, ℕ, List, Option, ap, Vec, Global, Shared, place_at, name_in}
+use Rattle.pg_arena.proofs.Common.{◌≡◌, ℕ, List, Option, ◌∙◌, ap, Vec, Global, Shared, place_at, name_in}
 use Rattle.pg_arena.proofs.Vertices.{vertex_is}
 use Rattle.pg_arena.proofs.game.Game.name.Goals as goal
 

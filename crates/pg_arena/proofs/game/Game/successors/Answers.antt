@@ -1,4 +1,4 @@
-use Rattle.pg_arena.proofs.Common.{◌≡◌, ◌≤◌, ◌∙◌, ℕ, List, length, subst, sym, ap, slice_range, Entry, Shared, entry_at}
+use Rattle.pg_arena.proofs.Common.{◌≡◌, ◌≤◌, ℕ, List, length, slice_range, ◌∙◌, subst, sym, ap, Entry, Shared, entry_at}
 use Rattle.pg_arena.proofs.Vertices.{vertex_is, entry_read, range_is}
 use Rattle.pg_arena.proofs.game.Game.successors.Goals as goal
 

@@ -1,4 +1,4 @@
-use Rattle.pg_arena.proofs.Common.{◌≡◌, ◌∙◌, ◌<◌, false, List, ℕ, length, ap, slice_index, Shared, is_among}
+use Rattle.pg_arena.proofs.Common.{◌≡◌, ◌<◌, false, List, ℕ, length, slice_index, ◌∙◌, ap, Shared, is_among}
 use Rattle.pg_arena.proofs.Vertices.{listed_by, found, missing, only_one}
 use Rattle.pg_arena.proofs.game.Game.vertex_of.Goals as goal
 

@@ -1,4 +1,4 @@
-use Rattle.pg_arena.proofs.Common.{◌∙◌, List, length, sym, ap, arith, nat_tests, edge_count, Line, is_named}
+use Rattle.pg_arena.proofs.Common.{◌∙◌, sym, ap, arith, List, length, nat_tests, edge_count, Line, is_named}
 use Rattle.pg_arena.proofs.Adding.{named_by, edges_by, lines_in}
 use Rattle.pg_arena.proofs.lines.GivenLines.fault_of.Goals as goal
 

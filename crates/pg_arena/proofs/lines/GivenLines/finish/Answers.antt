@@ -1,4 +1,4 @@
-use Rattle.pg_arena.proofs.Common.{◌≡◌, ◌<◌, ◌++◌, ℕ, List, [], length, take, drop, subst, refl, sym, ap, ◌∙◌, arith, nat_tests, vec_len}
+use Rattle.pg_arena.proofs.Common.{◌≡◌, ◌<◌, ◌++◌, ℕ, List, [], length, take, drop, vec_len, subst, refl, sym, ap, ◌∙◌, arith, nat_tests}
 use Rattle.pg_arena.proofs.Common.{eqb-false, take_at, IfOk-weaker, GameVertex, HasPrioritiesUpTo, IsGameOf, Row, rows_in, vertices_in}
 use Rattle.pg_arena.proofs.Common.{AreLinked, HasUnknown, first_unknown_in}
 use Rattle.pg_arena.proofs.Beside.{rows_long, have_ranges}

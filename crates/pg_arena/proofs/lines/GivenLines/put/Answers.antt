@@ -1,4 +1,4 @@
-use Rattle.pg_arena.proofs.Common.{◌≡◌, ℕ, ◌++◌, ◌∷◌, [], length, List, Option, ap, ◌∙◌, arith, nat_tests, option_to_list, Vec, Global}
+use Rattle.pg_arena.proofs.Common.{◌≡◌, ℕ, ◌++◌, ◌∷◌, [], length, List, Option, option_to_list, ap, ◌∙◌, arith, nat_tests, Vec, Global}
 use Rattle.pg_arena.proofs.Common.{Entry, Line, line_with}
 use Rattle.pg_arena.proofs.Adding.{IsNew, new_entry, new_line, IsPlaced, lines_added, kept_added, accepted_in, few_names, named_copy}
 use Rattle.pg_arena.proofs.lines.GivenLines.put.Goals as goal
