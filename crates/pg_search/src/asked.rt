@@ -1,8 +1,6 @@
 //! Claims that are asked for, level by level. The level of a claim is the priority of its row's last component above 0.
 
-use crate::numbers::{at, count, put};
-use crate::rows::ZEROS;
-use crate::side::Side;
+use pg_rows::{Side, ZEROS, at, count, put};
 use std::alloc::{AllocError, Global};
 
 /// A claim that is asked for: of a vertex, that each closed map has at least this row there.

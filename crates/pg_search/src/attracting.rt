@@ -1,9 +1,6 @@
 //! Claims that lead to earlier ones alone.
 
-use crate::numbers::{at, count, is_marked, mark, put};
-use crate::row_claim::RowClaim;
-use crate::rows::{TOP, ZEROS};
-use crate::side::Side;
+use pg_rows::{RowClaim, Side, TOP, ZEROS, at, count, is_marked, mark, put};
 use std::alloc::{AllocError, Global};
 
 #[derive(Drop)]
@@ -71,37 +68,35 @@ impl Attracting<'_> {
     }
 }
 
-impl Side<'_> {
-    /// Claims of the rows of some vertices that lead to earlier ones alone, in their order. What isn't claimed isn't settled any more.
-    pub fn attract(
-        &mut self,
-        alloc: Global,
-        vertices: &[u32],
-        is_settled: &mut [bool],
-    ) -> Result<Vec<RowClaim>, AllocError> {
-        let mut attracting = Attracting {
-            is_settled,
-            left: vec![in alloc; 0; self.len() as usize]?,
-            order: Vec::new(alloc),
-        };
-        for v in vertices {
-            attracting.begin(self, *v)?;
-        }
-        for place in 0..usize::MAX {
-            let Some(w) = attracting.order.get(place).copied() else {
-                break;
-            };
-            self.look_ahead(&attracting.order, place);
-            attracting.go_back(self, w)?;
-        }
-        let mut claims = Vec::with_capacity(alloc, attracting.order.len())?;
-        for v in &attracting.order {
-            claims.push(RowClaim {
-                vertex: *v,
-                row: self.row(*v),
-                span: 0,
-            })?;
-        }
-        Ok(claims)
+/// Claims of the rows of some vertices that lead to earlier ones alone, in their order. What isn't claimed isn't settled any more.
+pub fn attract(
+    side: &mut Side<'_>,
+    alloc: Global,
+    vertices: &[u32],
+    is_settled: &mut [bool],
+) -> Result<Vec<RowClaim>, AllocError> {
+    let mut attracting = Attracting {
+        is_settled,
+        left: vec![in alloc; 0; side.len() as usize]?,
+        order: Vec::new(alloc),
+    };
+    for v in vertices {
+        attracting.begin(side, *v)?;
     }
+    for place in 0..usize::MAX {
+        let Some(w) = attracting.order.get(place).copied() else {
+            break;
+        };
+        side.look_ahead(&attracting.order, place);
+        attracting.go_back(side, w)?;
+    }
+    let mut claims = Vec::with_capacity(alloc, attracting.order.len())?;
+    for v in &attracting.order {
+        claims.push(RowClaim {
+            vertex: *v,
+            row: side.row(*v),
+            span: 0,
+        })?;
+    }
+    Ok(claims)
 }

@@ -4,10 +4,8 @@
 //! needed of a successor where zeros are enough already. Where the opponent wins the game its order shows the claims.
 
 use crate::asked::{Asked, Levels};
-use crate::numbers::{NONE, at, count, is_marked, mark, put};
-use crate::row_claim::RowClaim;
-use crate::side::{Side, choice, wins};
 use pg_arena::Player;
+use pg_rows::{NONE, RowClaim, Side, at, choice, count, is_marked, mark, put, wins};
 use pg_winners::{Graph, Winners, find_winners};
 use std::alloc::{AllocError, Global};
 

@@ -1,7 +1,6 @@
 //! The greatest way out of each run of places.
 
-use crate::numbers::{NONE, count};
-use crate::rows::{Rows, ZEROS};
+use pg_rows::{NONE, Rows, ZEROS, count};
 use std::alloc::{AllocError, Global};
 
 /// An edge that leads out of a run of places, and the row that it leads to.

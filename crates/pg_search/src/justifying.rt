@@ -8,11 +8,9 @@
 //! order of all the greatest level comes first.
 
 use crate::asked::{Asked, Levels};
+use crate::attracting::attract;
 use crate::board::{Better, Board, Played};
-use crate::numbers::{NONE, at, count, is_marked, mark, put};
-use crate::row_claim::RowClaim;
-use crate::rows::{TOP, ZEROS};
-use crate::side::Side;
+use pg_rows::{NONE, RowClaim, Side, TOP, ZEROS, at, count, is_marked, mark, put};
 use std::alloc::{AllocError, Global};
 
 /// What is found out of the rows of a side.
@@ -260,41 +258,43 @@ struct Leveled {
     better: Vec<Better>,
 }
 
-impl Side<'_> {
-    /// Claims of the rows of some vertices that aren't zeros, or where the winner can stay for less.
-    pub fn justify(&mut self, alloc: Global, vertices: &[u32]) -> Result<Justified, AllocError> {
-        let mut justifying = Justifying {
-            places: vec![in alloc; NONE; self.len() as usize]?,
-            is_settled: vec![in alloc; true; self.len() as usize]?,
-        };
-        let mut order = self.attract(alloc, vertices, &mut justifying.is_settled)?;
-        let played = justifying.play_own(alloc, self, vertices)?;
-        if !played.is_ordered() {
-            return Ok(Justified::Nothing);
-        }
-        for claim in &played.order(alloc, &played.all(alloc)?)? {
-            mark(&mut justifying.is_settled, claim.vertex, true);
-            order.push(*claim)?;
-        }
-        if played.lost().is_empty() {
-            return Ok(Justified::Claims(order));
-        }
-        let mut levels = Levels::new(alloc, self)?;
-        for node in played.lost() {
-            let vertex = played.vertex(*node);
-            let row = self.row(vertex);
-            levels.ask(self, Asked { vertex, row })?;
-        }
-        let Leveled { blocks, better } = justifying.play_levels(alloc, self, &mut levels)?;
-        if !better.is_empty() {
-            return Ok(Justified::Better(better));
-        }
-        let Some(blocks) = blocks else {
-            return Ok(Justified::Nothing);
-        };
-        for block in blocks.iter().rev() {
-            order.extend_from_slice(block)?;
-        }
-        Ok(Justified::Claims(order))
+/// Claims of the rows of some vertices that aren't zeros, or where the winner can stay for less.
+pub fn justify(
+    side: &mut Side<'_>,
+    alloc: Global,
+    vertices: &[u32],
+) -> Result<Justified, AllocError> {
+    let mut justifying = Justifying {
+        places: vec![in alloc; NONE; side.len() as usize]?,
+        is_settled: vec![in alloc; true; side.len() as usize]?,
+    };
+    let mut order = attract(side, alloc, vertices, &mut justifying.is_settled)?;
+    let played = justifying.play_own(alloc, side, vertices)?;
+    if !played.is_ordered() {
+        return Ok(Justified::Nothing);
     }
+    for claim in &played.order(alloc, &played.all(alloc)?)? {
+        mark(&mut justifying.is_settled, claim.vertex, true);
+        order.push(*claim)?;
+    }
+    if played.lost().is_empty() {
+        return Ok(Justified::Claims(order));
+    }
+    let mut levels = Levels::new(alloc, side)?;
+    for node in played.lost() {
+        let vertex = played.vertex(*node);
+        let row = side.row(vertex);
+        levels.ask(side, Asked { vertex, row })?;
+    }
+    let Leveled { blocks, better } = justifying.play_levels(alloc, side, &mut levels)?;
+    if !better.is_empty() {
+        return Ok(Justified::Better(better));
+    }
+    let Some(blocks) = blocks else {
+        return Ok(Justified::Nothing);
+    };
+    for block in blocks.iter().rev() {
+        order.extend_from_slice(block)?;
+    }
+    Ok(Justified::Claims(order))
 }

@@ -1,8 +1,8 @@
 //! The ladder of a side: its rows in order, so that each is the least step of the one before it at a priority.
 
-use crate::numbers::{NONE, add_one, add_up, at, between, count, is_marked, mark, put};
-use crate::rows::{Rows, TOP, ZEROS};
-use crate::side::Side;
+use pg_rows::{
+    NONE, Rows, Side, TOP, ZEROS, add_one, add_up, at, between, count, is_marked, mark, put,
+};
 use std::alloc::{AllocError, Global};
 
 #[derive(Drop)]

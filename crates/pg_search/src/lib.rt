@@ -9,17 +9,9 @@ mod exact;
 mod greatest;
 mod justifying;
 mod ladder;
-mod lifting;
-mod lowering;
-mod numbers;
 mod one_parity;
 mod proposal;
-mod row_claim;
-mod rows;
 mod search;
-mod settled;
-mod side;
-mod sweeps;
 mod ways;
 
 pub use proposal::{Proposal, Proposals, propose, propose_measure};

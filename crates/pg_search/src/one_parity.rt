@@ -1,10 +1,10 @@
 //! Games whose priorities all have one parity. That player wins everywhere, and both maps are known at once: zeros of the winner, and
 //! top of the loser.
 
-use crate::numbers::{count, put};
 use crate::proposal::{Proposal, Proposals};
 use pg_arena::{Game, Player, Vertex};
 use pg_claims::{Claim, Claims, Span};
+use pg_rows::{count, put};
 use std::alloc::{AllocError, Global};
 
 /// The ranks of zeros and of top in a ladder without steps.

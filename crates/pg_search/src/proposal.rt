@@ -1,13 +1,11 @@
 //! What is proposed: a ladder, ranks, and claims.
 
 use crate::ladder::Ladder;
-use crate::numbers::{NONE, add_one, add_up, at, count, put};
 use crate::one_parity::{propose_at_once, propose_measure_at_once};
-use crate::row_claim::RowClaim;
-use crate::rows::TOP;
-use crate::side::Side;
+use crate::search::find;
 use pg_arena::{Game, Player, Vertex};
 use pg_claims::{Claim, Claims, Span};
+use pg_rows::{NONE, RowClaim, Side, TOP, add_one, add_up, at, count, put};
 use pg_winners::{Graph, Winners, find_winners};
 use std::alloc::{AllocError, Global};
 
@@ -86,7 +84,7 @@ fn propose_for(
         claim_tops(&mut claims, winners, others)?;
     }
     if has_odd(&side, mine) {
-        let Some(found) = side.find(alloc, winners, mine)? else {
+        let Some(found) = find(&mut side, alloc, winners, mine)? else {
             return Ok(None);
         };
         claims.extend_from_slice(&found)?;

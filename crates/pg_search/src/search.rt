@@ -5,12 +5,9 @@
 //! too, and so is the lesser of both. Where there are none the map is the least one, and claims show it.
 
 use crate::board::Better;
-use crate::justifying::Justified;
-use crate::lifting::End;
-use crate::numbers::{NONE, at, count, put};
-use crate::row_claim::RowClaim;
-use crate::rows::{TOP, ZEROS};
-use crate::side::{Side, choice};
+use crate::exact::{set_exactly, set_with_claims};
+use crate::justifying::{Justified, justify};
+use pg_rows::{End, NONE, RowClaim, Side, TOP, ZEROS, at, choice, count, put};
 use pg_winners::Winners;
 use std::alloc::{AllocError, Global};
 
@@ -61,143 +58,150 @@ fn is_deep(
     Ok(depth / DEEP >= vertices.len())
 }
 
-impl Side<'_> {
-    /// The least rows of the vertices that the winner wins, given in the order of its strategy; with claims of them. None where that takes too long.
-    pub fn find(
-        &mut self,
-        alloc: Global,
-        winners: &Winners,
-        vertices: &[u32],
-    ) -> Result<Option<Vec<RowClaim>>, AllocError> {
-        let end = self.lift(alloc)?;
-        if end == End::Done {
-            return Ok(match self.justify(alloc, vertices)? {
-                Justified::Claims(claims) => Some(claims),
-                _ => None,
-            });
-        }
-        let is_deep = is_deep(alloc, self, winners, vertices)?;
-        if is_deep && self.has_no_choice(vertices) {
-            self.clear(alloc, vertices)?;
-            return self.set_with_claims(alloc, vertices);
-        }
-        if is_deep && end == End::Many {
-            self.clear(alloc, vertices)?;
-        }
-        let mut places = vec![in alloc; NONE; self.len() as usize]?;
-        place(&mut places, vertices);
-        if end == End::Few {
-            self.settle(alloc, vertices, &mut places)?;
-        }
-        let mut waiting = Vec::new(alloc);
-        self.begin_above(alloc, winners, vertices, &mut places, is_deep, &mut waiting)?;
-        self.descend(alloc, vertices, &mut places, &mut waiting)
+/// The least rows of the vertices that the winner wins, given in the order of its strategy; with claims of them. None where that takes
+/// too long.
+pub fn find(
+    side: &mut Side<'_>,
+    alloc: Global,
+    winners: &Winners,
+    vertices: &[u32],
+) -> Result<Option<Vec<RowClaim>>, AllocError> {
+    let end = side.lift(alloc)?;
+    if end == End::Done {
+        return Ok(match justify(side, alloc, vertices)? {
+            Justified::Claims(claims) => Some(claims),
+            _ => None,
+        });
     }
+    let is_deep = is_deep(alloc, side, winners, vertices)?;
+    if is_deep && side.has_no_choice(vertices) {
+        side.clear(alloc, vertices)?;
+        return set_with_claims(side, alloc, vertices);
+    }
+    if is_deep && end == End::Many {
+        side.clear(alloc, vertices)?;
+    }
+    let mut places = vec![in alloc; NONE; side.len() as usize]?;
+    place(&mut places, vertices);
+    if end == End::Few {
+        side.settle(alloc, vertices, &mut places)?;
+    }
+    let mut waiting = Vec::new(alloc);
+    begin_above(
+        side,
+        alloc,
+        winners,
+        vertices,
+        &mut places,
+        is_deep,
+        &mut waiting,
+    )?;
+    descend(side, alloc, vertices, &mut places, &mut waiting)
+}
 
-    /// The map of the winner's strategy on what has a place, and what is lowered first.
-    fn begin_above(
-        &mut self,
-        alloc: Global,
-        winners: &Winners,
-        vertices: &[u32],
-        places: &mut [u32],
-        is_deep: bool,
-        waiting: &mut Vec<u32>,
-    ) -> Result<(), AllocError> {
-        let mut open = Vec::new(alloc);
-        for v in vertices {
-            if at(places, *v) != NONE {
-                put(places, *v, count(open.len()));
-                open.push(*v)?;
-                if self.state(*v).is_mine() {
-                    self.set_to(*v, choice(winners, *v));
+/// The map of the winner's strategy on what has a place, and what is lowered first.
+fn begin_above(
+    side: &mut Side<'_>,
+    alloc: Global,
+    winners: &Winners,
+    vertices: &[u32],
+    places: &mut [u32],
+    is_deep: bool,
+    waiting: &mut Vec<u32>,
+) -> Result<(), AllocError> {
+    let mut open = Vec::new(alloc);
+    for v in vertices {
+        if at(places, *v) != NONE {
+            put(places, *v, count(open.len()));
+            open.push(*v)?;
+            if side.state(*v).is_mine() {
+                side.set_to(*v, choice(winners, *v));
+            }
+        }
+    }
+    if is_deep || !side.sweep(alloc, &open, places)? {
+        set_exactly(side, alloc, &open)?;
+    }
+    for v in &open {
+        put(places, *v, NONE);
+        if side.state(*v).is_mine() && side.refresh(*v)? {
+            side.wake(*v, waiting)?;
+        }
+    }
+    for v in vertices {
+        if !side.state(*v).is_mine() {
+            side.set_to(*v, NONE);
+        }
+    }
+    Ok(())
+}
+
+/// Lowers and improves the map until claims show that it is the least one.
+fn descend(
+    side: &mut Side<'_>,
+    alloc: Global,
+    vertices: &[u32],
+    places: &mut [u32],
+    waiting: &mut Vec<u32>,
+) -> Result<Option<Vec<RowClaim>>, AllocError> {
+    for _ in 0..ROUNDS {
+        side.lower(alloc, waiting)?;
+        if side.is_late() {
+            break;
+        }
+        match justify(side, alloc, vertices)? {
+            Justified::Claims(claims) => return Ok(Some(claims)),
+            Justified::Better(betters) => {
+                for better in &betters {
+                    improve(side, alloc, better, places, waiting)?;
                 }
             }
+            Justified::Nothing => break,
         }
-        if is_deep || !self.sweep(alloc, &open, places)? {
-            self.set_exactly(alloc, &open)?;
+        if waiting.is_empty() {
+            break;
         }
-        for v in &open {
-            put(places, *v, NONE);
-            if self.state(*v).is_mine() && self.refresh(*v)? {
-                self.wake(*v, waiting)?;
-            }
-        }
-        for v in vertices {
-            if !self.state(*v).is_mine() {
-                self.set_to(*v, NONE);
-            }
-        }
-        Ok(())
     }
+    Ok(None)
+}
 
-    /// Lowers and improves the map until claims show that it is the least one.
-    fn descend(
-        &mut self,
-        alloc: Global,
-        vertices: &[u32],
-        places: &mut [u32],
-        waiting: &mut Vec<u32>,
-    ) -> Result<Option<Vec<RowClaim>>, AllocError> {
-        for _ in 0..ROUNDS {
-            self.lower(alloc, waiting)?;
-            if self.is_late() {
-                break;
-            }
-            match self.justify(alloc, vertices)? {
-                Justified::Claims(claims) => return Ok(Some(claims)),
-                Justified::Better(betters) => {
-                    for better in &betters {
-                        self.improve(alloc, better, places, waiting)?;
-                    }
-                }
-                Justified::Nothing => break,
-            }
-            if waiting.is_empty() {
-                break;
-            }
-        }
-        Ok(None)
+/// Takes the lesser of the map and that of a strategy that stays on some vertices.
+fn improve(
+    side: &mut Side<'_>,
+    alloc: Global,
+    better: &Better,
+    places: &mut [u32],
+    waiting: &mut Vec<u32>,
+) -> Result<(), AllocError> {
+    let mut old = Vec::with_capacity(alloc, better.vertices.len())?;
+    place(places, &better.vertices);
+    for v in &better.vertices {
+        old.push(side.row(*v))?;
+        side.set_row(*v, ZEROS);
     }
-
-    /// Takes the lesser of the map and that of a strategy that stays on some vertices.
-    fn improve(
-        &mut self,
-        alloc: Global,
-        better: &Better,
-        places: &mut [u32],
-        waiting: &mut Vec<u32>,
-    ) -> Result<(), AllocError> {
-        let mut old = Vec::with_capacity(alloc, better.vertices.len())?;
-        place(places, &better.vertices);
-        for v in &better.vertices {
-            old.push(self.row(*v))?;
-            self.set_row(*v, ZEROS);
-        }
-        for choice in &better.choices {
-            self.set_to(choice.vertex, choice.to);
-        }
-        if !self.sweep(alloc, &better.vertices, places)? {
-            self.set_exactly(alloc, &better.vertices)?;
-        }
-        for (v, row) in better.vertices.iter().zip(&old) {
-            put(places, *v, NONE);
-            if !self.state(*v).is_mine() {
-                self.set_to(*v, NONE);
-            }
-            if self.rows.is_under(self.row(*v), *row) {
-                self.wake(*v, waiting)?;
-            } else {
-                self.set_row(*v, *row);
-            }
-        }
-        for v in &better.vertices {
-            if self.row(*v) != TOP && self.refresh(*v)? {
-                self.wake(*v, waiting)?;
-            }
-        }
-        Ok(())
+    for choice in &better.choices {
+        side.set_to(choice.vertex, choice.to);
     }
+    if !side.sweep(alloc, &better.vertices, places)? {
+        set_exactly(side, alloc, &better.vertices)?;
+    }
+    for (v, row) in better.vertices.iter().zip(&old) {
+        put(places, *v, NONE);
+        if !side.state(*v).is_mine() {
+            side.set_to(*v, NONE);
+        }
+        if side.rows.is_under(side.row(*v), *row) {
+            side.wake(*v, waiting)?;
+        } else {
+            side.set_row(*v, *row);
+        }
+    }
+    for v in &better.vertices {
+        if side.row(*v) != TOP && side.refresh(*v)? {
+            side.wake(*v, waiting)?;
+        }
+    }
+    Ok(())
 }
 
 /// Gives vertices their places.

@@ -1,10 +1,7 @@
 //! Ways from the heads of a part to its greatest way out, and the claims along them.
 
 use crate::greatest::Way;
-use crate::numbers::{NONE, at};
-use crate::row_claim::RowClaim;
-use crate::rows::ZEROS;
-use crate::side::Side;
+use pg_rows::{NONE, RowClaim, Side, ZEROS, at};
 use std::alloc::{AllocError, Global};
 
 /// A component in an order: where it begins, how many heads stand first, and before which place it ends.

@@ -7,16 +7,16 @@ use crate::numbers::{at, count, put};
 use std::alloc::{AllocError, Global};
 
 /// In place of a row: top.
-pub(crate) const TOP: u32 = u32::MAX;
+pub const TOP: u32 = u32::MAX;
 
 /// The row in which all components are 0.
-pub(crate) const ZEROS: u32 = 0;
+pub const ZEROS: u32 = 0;
 
 /// How many places the table of rows has at first: a power of two.
 const FIRST_PLACES: usize = 64;
 
 #[derive(Clone, Copy)]
-pub(crate) struct Node {
+pub struct Node {
     pub parent: u32,
     /// The odd priority of the last component above 0, and that component.
     pub priority: u32,
@@ -42,7 +42,7 @@ impl Node {
 }
 
 #[derive(Drop)]
-pub(crate) struct Rows {
+pub struct Rows {
     nodes: Vec<Node>,
     /// The rows whose last component is 1, at places that their parents and priorities tell.
     table: Vec<u32>,

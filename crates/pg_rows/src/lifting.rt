@@ -7,7 +7,7 @@ use std::mem;
 
 /// How lifting ended: nothing is left to lift, or many vertices count along, or few climb for long.
 #[derive(Clone, Copy, PartialEq, Eq)]
-pub(crate) enum End {
+pub enum End {
     Done,
     Many,
     Few,

@@ -9,7 +9,7 @@ use std::alloc::{AllocError, Global};
 
 /// What is known of a vertex.
 #[derive(Clone, Copy)]
-pub(crate) struct State {
+pub struct State {
     pub row: u32,
     /// The priority times four, plus two where the vertex waits, plus one where the winner owns it.
     key: u32,
@@ -42,7 +42,7 @@ impl State {
 
 /// The map of one player. On the side of Odd priorities are raised by one, so that those of the winner are even on both.
 #[derive(Drop)]
-pub(crate) struct Side<'a> {
+pub struct Side<'a> {
     pub graph: &'a Graph,
     pub rows: Rows,
     states: Vec<State>,
@@ -188,7 +188,7 @@ impl<'a> Side<'a> {
 }
 
 /// Even is 0, Odd is 1.
-pub(crate) fn player_number(player: Player) -> u32 {
+pub fn player_number(player: Player) -> u32 {
     match player {
         Player::Even => 0,
         Player::Odd => 1,
@@ -197,7 +197,7 @@ pub(crate) fn player_number(player: Player) -> u32 {
 
 /// Whether a player wins a vertex.
 #[inline(always)]
-pub(crate) fn wins(winners: &Winners, v: u32, player: Player) -> bool {
+pub fn wins(winners: &Winners, v: u32, player: Player) -> bool {
     match winners.winner.get(v as usize) {
         Some(winner) => player_number(*winner) == player_number(player),
         None => false,
@@ -206,6 +206,6 @@ pub(crate) fn wins(winners: &Winners, v: u32, player: Player) -> bool {
 
 /// What the winner chooses at a vertex.
 #[inline(always)]
-pub(crate) fn choice(winners: &Winners, v: u32) -> u32 {
+pub fn choice(winners: &Winners, v: u32) -> u32 {
     crate::numbers::at(&winners.choice, v)
 }
