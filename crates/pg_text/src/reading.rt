@@ -78,6 +78,7 @@ pub(crate) fn misplaced(bytes: &[u8]) -> TokenFault
 }
 
 /// The number in front.
+#[inline(always)]
 pub fn natural(bytes: &[u8]) -> Result<(u32, &[u8]), TokenFault>
     ensures { Reads (λ x. (x.0, x.1.now)) result (natural_at bytes.now) }
 {
@@ -111,6 +112,7 @@ pub(crate) fn string(bytes: &[u8]) -> Result<(&[u8], &[u8]), TokenFault>
 }
 
 /// The semicolon in front: what stands after it.
+#[inline(always)]
 pub fn semicolon(bytes: &[u8]) -> Result<&[u8], TokenFault>
     ensures { Reads (λ x. x.now) result (semicolon_at bytes.now) }
 {
@@ -149,6 +151,7 @@ pub fn clause<'a>(name: &[u8], bytes: &'a [u8]) -> Result<(Option<u32>, &'a [u8]
 
 /// The number behind the comma in front, if one stands there.
 #[tactic(auto, unfolding(crate::specs::Mirrors::Parts::further_at))]
+#[inline(always)]
 pub(crate) fn further(bytes: &[u8]) -> Result<Option<(u32, &[u8])>, TokenFault>
     ensures { Reads (further_seen bytes.now) result (further_at bytes.now) }
 {

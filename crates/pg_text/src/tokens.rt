@@ -38,12 +38,14 @@ pub enum TokenFault {
     NumberTooLarge(usize),
 }
 
+#[inline(always)]
 fn is_space(byte: u8) -> bool
     ensures { result ≡ is_space byte }
 {
     (9 <= byte && byte <= 13) || byte == b' '
 }
 
+#[inline(always)]
 pub(crate) fn is_digit(byte: u8) -> bool
     ensures { result ≡ is_digit byte }
 {
@@ -76,6 +78,7 @@ fn plain(bytes: &[u8]) -> usize
 
 /// The number whose digits stand in front.
 #[tactic(auto, unfolding(crate::specs::Mirrors::Scan::number_at))]
+#[inline(always)]
 pub(crate) fn digits(bytes: &[u8]) -> Result<(u32, &[u8]), TokenFault>
     ensures token { option_map (λ x. (number x.0, x.1.now)) (result_ok result) ≡ number_at bytes.now }
     ensures fault { IfErr result (λ e. e ≡ TokenFault.NumberTooLarge (length bytes.now)) }
@@ -154,6 +157,7 @@ fn solid(bytes: &[u8]) -> Result<(Token<'_>, &[u8]), TokenFault>
 
 /// Behind the white space in front.
 #[tactic(auto, using(pg_lists::proofs::Runs::run_within))]
+#[inline(always)]
 pub(crate) fn after_space(bytes: &[u8]) -> &[u8]
     ensures { result.now ≡ after_space bytes.now }
 {
@@ -164,6 +168,7 @@ pub(crate) fn after_space(bytes: &[u8]) -> &[u8]
 }
 
 /// What stands after this byte, if it is the first one behind white space.
+#[inline(always)]
 pub(crate) fn after_byte(byte: u8, bytes: &[u8]) -> Option<&[u8]>
     ensures some { IfSome result (λ rest. after_space bytes.now ≡ byte ∷ rest.now) }
     ensures none { IsNone result → Stops (λ b. b == byte) (after_space bytes.now) }
