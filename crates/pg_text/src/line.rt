@@ -8,7 +8,7 @@ ghost use Rattle.pg_text.specs.Mirrors.GameScan.{line_seen, item_seen, owner_at,
 ghost use Rattle.pg_text.specs.Mirrors.GameScan.{counted_item_at, body_at};
 
 use crate::reading::{Refusal, clause, further, natural, semicolon, string, unexpected};
-use crate::tokens::{TokenFault, after_byte, after_space};
+use crate::tokens::{TokenFault, after_byte, after_first, after_space};
 use pg_arena::Player;
 use std::alloc::AllocError;
 
@@ -37,6 +37,17 @@ pub(crate) fn player(bytes: &[u8]) -> Result<(Player, &[u8]), TokenFault>
 /// The name behind the successors, where one stands, and the semicolon.
 #[inline(always)]
 fn ending(bytes: &[u8]) -> Result<(Option<&[u8]>, &[u8]), TokenFault>
+    ensures { Reads (λ x. (option_copied x.0, x.1.now)) result (ending_at bytes.now) }
+{
+    match after_first(b';', bytes) {
+        Some(rest) => Ok((None, rest)),
+        None => any_ending(bytes),
+    }
+}
+
+/// The name behind the successors, where one stands, and the semicolon, however they are written.
+#[inline(never)]
+fn any_ending(bytes: &[u8]) -> Result<(Option<&[u8]>, &[u8]), TokenFault>
     ensures { Reads (λ x. (option_copied x.0, x.1.now)) result (ending_at bytes.now) }
 {
     if let Some(rest) = after_byte(b';', bytes) {

@@ -3,13 +3,14 @@
 //! A token is a longest one. White space, the bytes 9 to 13 and 32, may stand between any two tokens, before the
 //! first and behind the last, and must stand only between two numbers or two words.
 
-ghost use Rattle.std.specs.Prelude.{◌≡◌, ◌<◌, ◌+◌, ◌==◌, ◌∷◌, List, ℕ, length, option_map, IfOk, IfErr, IfSome, IsNone, IsOkAnd};
+ghost use Rattle.std.specs.Prelude.{◌≡◌, ◌<◌, ◌+◌, ◌-◌, ◌==◌, ◌∷◌, List, ℕ, Ok, true, false, length, option_map, IfOk, IfErr, IfSome, IsNone, IsOkAnd};
 ghost use Rattle.std.specs.Result.{result_ok};
 ghost use Rattle.std.specs.List.{prefix_len};
 ghost use Rattle.pg_text.specs.Lexemes.{Lexeme, lexeme, number, is_space, is_letter, is_plain, Begins, after_space, fault_at, token_fault};
 ghost use Rattle.pg_lists.specs.Bytes.{is_digit, Stops};
 ghost use Rattle.pg_text.specs.Mirrors.Scan.{number_at, word_at, quoted_at, solid_at, token_at};
 ghost use Rattle.pg_text.specs.Mirrors.Steps.{Reads};
+ghost use Rattle.pg_text.specs.Mirrors.Parts.{natural_at};
 
 /// A token, which borrows the text.
 #[derive(Clone, Copy, Debug)]
@@ -74,6 +75,19 @@ fn plain(bytes: &[u8]) -> usize
     ensures { result ≡ prefix_len is_plain bytes.now }
 {
     bytes.iter().take_while(|byte| **byte != b'"').count()
+}
+
+/// The value of a digit.
+#[inline(always)]
+fn digit(byte: u8) -> Option<u32>
+    ensures some { IfSome result (λ n. (is_digit byte ≡ true) × (n ≡ byte - 48) × (n < 10)) }
+    ensures none { IsNone result → is_digit byte ≡ false }
+{
+    if is_digit(byte) {
+        Some(u32::from(byte.saturating_sub(b'0')))
+    } else {
+        None
+    }
 }
 
 /// The number whose digits stand in front.
@@ -164,6 +178,48 @@ pub(crate) fn after_space(bytes: &[u8]) -> &[u8]
     match bytes {
         [first, ..] if is_space(*first) => &bytes[spaces(bytes)..],
         _ => bytes,
+    }
+}
+
+/// Behind the first byte, where that is white space.
+#[inline(always)]
+fn behind_blank(bytes: &[u8]) -> &[u8]
+    ensures { after_space result.now ≡ after_space bytes.now }
+{
+    match bytes {
+        [first, rest @ ..] if is_space(*first) => rest,
+        _ => bytes,
+    }
+}
+
+/// The number in front, where it has at most seven digits, of which at most one byte of white space stands in front, and
+/// the text goes on for long enough behind them. So printed texts have their numbers.
+#[inline(always)]
+pub(crate) fn short_number(bytes: &[u8]) -> Option<(u32, &[u8])>
+    ensures { IfSome result (λ x. natural_at bytes.now ≡ Ok (x.0, x.1.now)) }
+{
+    let front = behind_blank(bytes);
+    if front.len() < 8 {
+        return None;
+    }
+    let mut value = digit(front[0])?;
+    for i in 1..8 {
+        match digit(front[i]) {
+            Some(next) => value = 10 * value + next,
+            None => return Some((value, &front[i..])),
+        }
+    }
+    None
+}
+
+/// What stands after this byte, if it is the first one.
+#[inline(always)]
+pub(crate) fn after_first(byte: u8, bytes: &[u8]) -> Option<&[u8]>
+    ensures { IfSome result (λ rest. bytes.now ≡ byte ∷ rest.now) }
+{
+    match bytes {
+        [first, rest @ ..] if *first == byte => Some(rest),
+        _ => None,
     }
 }
 
