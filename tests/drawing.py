@@ -1,5 +1,5 @@
 #!/usr/bin/env python3
-"""Checks what tools/draw writes: texts for Graphviz, pictures, refusals, and tables of schedules.
+"""Checks what tools/draw writes: texts for Graphviz, pictures, refusals, and tables of schedules; and the places that tools/where shows.
 
 The texts for Graphviz of docs/pictures/ have to be those that the tool writes; the pictures beside them depend on the version
 of `dot`, and aren't compared.
@@ -181,6 +181,17 @@ FAULTS = {SCRIPT + b"lift 1 1;": "script: event 5: vertex 1 is not of worker 1",
           b"workers 1;lift 1;": "script: syntax error at byte 16"}
 
 
+# (text, byte) and what tools/where has to show: the line, the column, and the line with a mark
+SHOWN = {
+    (b"0 0 1;\n1 0 0 0;\n", 13): "line 2, column 7\n1 0 0 0;\n      ^\n",
+    (b"0 0 1;\n1 0 0 0;\n", 6): "line 1, column 7\n0 0 1;\n      ^\n",
+    (b"0 0 1;\n1 0 0 0;\n", 16): "line 3, column 1\n\n^\n",
+    (b"", 0): "line 1, column 1\n\n^\n",
+    (b'\t"\xc3\xa9\xff";x', 6): 'line 1, column 6\n "\u00e9\ufffd";x\n     ^\n',
+    (b"\n" + b"a" * 70 + b"b" * 70, 71): "line 2, column 71\n.. " + "a" * 60 + "b" * 60 + " ..\n" + " " * 63 + "^\n",
+}
+
+
 def drawn(words, texts=None):
     """(status, output, error stream) of the tool on files with these names and texts; without a text there is no file."""
     with tempfile.TemporaryDirectory() as folder:
@@ -248,6 +259,20 @@ def parts():
     yield "its steps", drawn([*words, "--depth", "1"]), (0, "the environment wins\nnothing said: the environment sets !request\n    ..\n", "")
 
 
+def places():
+    """The same for places."""
+    def shown(text, *words):
+        ran = subprocess.run([sys.executable, TOP / "tools/where", *map(str, words)], input=text, capture_output=True, timeout=60)
+        return ran.returncode, ran.stdout.decode(), ran.stderr.decode()
+
+    for (text, byte), wanted in SHOWN.items():
+        yield f"byte {byte} of {text}", shown(text, "-", byte), (0, wanted, "")
+    yield "a byte behind the end", shown(b"abc", "-", 4), (1, "", "where: standard input: it has 3 bytes, and no byte 4\n")
+    yield "no file", shown(b"", "nothing", 4), (1, "", "where: nothing: No such file or directory\n")
+    for words in ([], ["-"], ["-", "x"], ["-", "-1"]):
+        yield f"the words {words}", shown(b"", *words)[:2], (2, "")
+
+
 def refusals():
     """The same for what is refused: with files, and by the command line."""
     for told, texts in REFUSED:
@@ -290,7 +315,7 @@ def counted(checks):
 
 def run():
     """Makes every check that needs no program; answers how many passed and failed."""
-    return counted(check for part in (graphs, verdicts, parts, refusals, pictures) for check in part())
+    return counted(check for part in (graphs, verdicts, parts, places, refusals, pictures) for check in part())
 
 
 def run_tables(program):

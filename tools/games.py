@@ -4,7 +4,7 @@ import re
 from typing import NamedTuple
 
 from automata import label_of
-from texts import Fault, Tokens, content_of
+from texts import Fault, Tokens, content_of, shown
 
 GREATEST_PRIORITY = 65535
 GAME_BLANKS = re.compile(rb"[\t-\r ]*")
@@ -35,11 +35,6 @@ class Part(NamedTuple):
     first: object
     edges: dict
     cut: set
-
-
-def shown(name):
-    """The bytes of a name as text that a picture can hold."""
-    return "".join(letter if letter.isprintable() else "\ufffd" for letter in name.decode("utf-8", "replace"))
 
 
 def name_of(string):
@@ -189,13 +184,17 @@ class Words:
         return sum((inputs >> bit & 1) << place for bit, place in enumerate(self.inputs)) \
             + sum((outputs >> bit & 1) << place for bit, place in enumerate(self.outputs))
 
+    def arrival(self, state, sets):
+        """The name of the arrival at a state with these sets."""
+        counting = self.automaton.shape.counting(sets)
+        return f"s{state}" + ("" if counting is None else f"/{counting}")
+
     def of_edges(self, name):
         """For the name of an answer the output letters that go to each arrival, by its name; nothing for another vertex."""
         state, _, letter = self.parts(name) if name != "dead" else (0, None, None)
         found = {}
         for outputs in range(1 << len(self.outputs)) if letter is not None else ():
             made = self.automaton.step(state, self.letter(letter, outputs))
-            counting = made and self.automaton.shape.counting(made[1])
-            arrival = "dead" if made is None else f"s{made[0]}" + ("" if counting is None else f"/{counting}")
+            arrival = "dead" if made is None else self.arrival(*made)
             found[arrival] = found.get(arrival, 0) | 1 << outputs
         return {arrival: label_of(letters, self.output_names) for arrival, letters in found.items()}
