@@ -41,8 +41,8 @@ const MOST_WORKERS: u8 = 16;
 const ABOUT: &str = "Solves parity games; the answers are proved";
 
 const MORE: &str = "\
-Each command reads the files that it is given, or standard input where it is given none, and writes standard output. Games
-and solutions are in the format of PGSolver, automata in HOA v1.
+Each command reads the files that it is given (`-` is standard input), or standard input where it is given none, and writes
+standard output. Games and solutions are in the format of PGSolver, automata in HOA v1.
 
 Exit status:
   0  an answer was printed
