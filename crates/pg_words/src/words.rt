@@ -41,8 +41,8 @@ const MOST_WORKERS: u8 = 16;
 const ABOUT: &str = "Solves parity games; the answers are proved";
 
 const MORE: &str = "\
-Each command reads the files that it is given, or standard input where it is given none, and writes standard output. Games
-and solutions are in the format of PGSolver, automata in HOA v1.
+Each command reads the files that it is given (`-` is standard input), or standard input where it is given none, and writes
+standard output. Games and solutions are in the format of PGSolver, automata in HOA v1.
 
 Exit status:
   0  an answer was printed
@@ -178,10 +178,25 @@ fn port_option<'a>(alloc: Global) -> Arg<'a> {
         .value_parser(clap::value_parser!(u16).range(1..))
 }
 
+/// How a command is called, with the files that it takes.
+fn usage_of(command: Command) -> &'static str {
+    match command {
+        Command::Measure { .. } => "parsolve measure [OPTIONS] [GAME]",
+        Command::Solve { .. } => "parsolve solve [OPTIONS] [GAME]",
+        Command::Check => "parsolve check [GAME SOLUTION]",
+        Command::Replay => "parsolve replay [GAME SCRIPT]",
+        Command::Game => "parsolve game [AUTOMATON]",
+        Command::Synth { .. } => "parsolve synth [OPTIONS] [AUTOMATON]",
+    }
+}
+
 /// The command as the command line knows it, with this help; one that solves has the options `--workers` and `--apart`.
 fn helped<'a>(alloc: Global, command: Command, help: Help) -> Result<Program<'a>, Error> {
     let (name, about, more): (&'a str, &'a str, &'a str) = (command.name(), help.about, help.more);
-    let program = Program::new(alloc, name).about(about).after_help(more);
+    let program = Program::new(alloc, name)
+        .about(about)
+        .override_usage(usage_of(command))
+        .after_help(more);
     match command.workers() {
         Some(_) => Ok(
             program
