@@ -198,7 +198,7 @@ fn port_option<'a>(alloc: Global) -> Arg<'a> {
 fn usage_of(command: Command) -> &'static str {
     match command {
         Command::Measure { .. } => "parsolve measure [OPTIONS] [GAME]",
-        Command::Solve { .. } => "parsolve solve [OPTIONS] [GAME]",
+        Command::Solve { .. } | Command::SolveAny { .. } => "parsolve solve [OPTIONS] [GAME]",
         Command::Check => "parsolve check [GAME SOLUTION]",
         Command::Replay => "parsolve replay [GAME SCRIPT]",
         Command::Game => "parsolve game [AUTOMATON]",
