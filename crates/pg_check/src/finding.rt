@@ -12,11 +12,12 @@ use pg_text::Solution;
 use pg_winners::{Graph, Winners, find_winners};
 use std::alloc::{AllocError, Global};
 
-/// A solution, and an order that is to show that it is sound.
+/// A solution, and an order that is to show that it is sound: what Even wins stands before the split.
 #[derive(Drop)]
 struct Ordered {
     solution: Solution,
     order: Order,
+    split: u32,
 }
 
 /// The player whose parity all priorities have, if there is one.
@@ -57,7 +58,15 @@ fn won_by(alloc: Global, game: &Game, winner: Player) -> Result<Ordered, AllocEr
         places: vec![in alloc; 0; game.len()]?,
         spans: vec![in alloc; place; 1]?,
     };
-    Ok(Ordered { solution, order })
+    let split = match winner {
+        Player::Even => 1,
+        Player::Odd => 0,
+    };
+    Ok(Ordered {
+        solution,
+        order,
+        split,
+    })
 }
 
 /// Gives vertices places one after another, from a first one on.
@@ -69,13 +78,14 @@ fn place_from(first: u32, vertices: &[u32], places: &mut [u32]) {
     }
 }
 
-/// The solution of winners that were found. What Even wins stands first.
+/// The solution of winners that were found.
 fn solved_by(alloc: Global, game: &Game, winners: &Winners) -> Result<Ordered, AllocError>
     ensures { IfOk result (λ o. length o.solution ≡ length game.now) }
 {
+    let split = count(winners.of_even.len());
     let mut places = vec![in alloc; 0; game.len()]?;
     place_from(0, &winners.of_even, &mut places);
-    place_from(count(winners.of_even.len()), &winners.of_odd, &mut places);
+    place_from(split, &winners.of_odd, &mut places);
     let nothing = Span {
         priority: 0,
         end: 0,
@@ -99,7 +109,11 @@ fn solved_by(alloc: Global, game: &Game, winners: &Winners) -> Result<Ordered, A
         }
     }
     let order = Order { places, spans };
-    Ok(Ordered { solution, order })
+    Ok(Ordered {
+        solution,
+        order,
+        split,
+    })
 }
 
 /// What is proposed of a game.
@@ -120,8 +134,12 @@ fn propose(alloc: Global, game: &Game) -> Result<Ordered, AllocError>
 pub fn find_solution(alloc: Global, game: &Game) -> Result<Option<Solution>, AllocError>
     ensures { IfOk result (λ found. IfSome found (IsSoundSolution game.now)) }
 {
-    let Ordered { solution, order } = propose(alloc, game)?;
-    if is_shown(game, &solution, &order) {
+    let Ordered {
+        solution,
+        order,
+        split,
+    } = propose(alloc, game)?;
+    if is_shown(game, &solution, &order, split) {
         Ok(Some(solution))
     } else {
         Ok(None)

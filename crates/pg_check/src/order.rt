@@ -23,7 +23,7 @@ pub(crate) struct Order {
 impl Order {
     /// The place of a vertex.
     #[inline(always)]
-    fn place(&self, v: Vertex) -> u32
+    pub fn place(&self, v: Vertex) -> u32
         requires { v < length self.now.places.items }
         ensures { result ≡ slice_index self.now.places.items v }
     {
