@@ -5,6 +5,7 @@ answers are those of the program, and tests/embedding.c finds nothing wrong, wit
     tests/embedding.py [PROGRAM]    prints what it finds; the status is 1 if something is wrong
 """
 import array
+import ctypes
 import os
 import pathlib
 import random
@@ -275,49 +276,115 @@ def same_answers(parsolve, program):
     yield "the program's solutions and verdicts", next((why for why in whys if why), None)
     whys = (f"{command} on {text[:80]!r}" for command, text in texts() if says(program, command, text) != answered(parsolve, command, text))
     yield "the program's texts", next(whys, None)
-    yield from array_checks(parsolve)
+    for part in (array_checks, refused_checks, text_checks):
+        yield from part(parsolve)
 
 
-class Told(array.array):
-    """An array that tells its address as those of NumPy do."""
+class Liar(array.array):
+    """An array that tells an address at which it isn't, and a length that it hasn't."""
 
     @property
     def __array_interface__(self):
-        return {"data": (self.buffer_info()[0], False)}
+        return {"data": (8, False)}
+
+    def __len__(self):
+        return 1 << 40
+
+
+class LongBytes(bytes):
+    """A text that tells a length that it hasn't."""
+
+    def __len__(self):
+        return 1 << 40
+
+
+def unaligned(kind, numbers):
+    """A view of the numbers that begins at an odd address."""
+    return memoryview(bytearray(1) + array.array(kind, numbers).tobytes())[1:].cast(kind)
 
 
 def kinds_of_arrays():
-    """(kind, how an array of it is made of numbers of 32 or 8 bits)."""
-    yield "array.array", array.array
-    yield "an array that tells its address", Told
-    yield "a view that can't be written", lambda kind, numbers: memoryview(array.array(kind, numbers)).toreadonly()
+    """(kind, whether it is taken as it is, how an array of it is made of numbers of 32 or 8 bits)."""
+    yield "array.array", True, array.array
+    yield "an array that lies", True, Liar
+    yield "a view that can't be written", True, lambda kind, numbers: memoryview(array.array(kind, numbers)).toreadonly()
+    yield "a view that isn't aligned", True, unaligned
+    yield "every second number", False, lambda kind, numbers: memoryview(array.array(kind, [it for n in numbers for it in (n, 9)]))[::2]
+    yield "from the last to the first", False, lambda kind, numbers: memoryview(array.array(kind, numbers[::-1]))[::-1]
+    yield "wider numbers", False, lambda kind, numbers: array.array("q", numbers)
+    yield "numbers with a sign", False, lambda kind, numbers: array.array("i", numbers)
+    yield "a tuple", False, lambda kind, numbers: tuple(numbers)
     try:
         import numpy
     except ImportError:
         print("embedding: NumPy isn't installed, so its arrays aren't tried")
-    else:
-        yield "NumPy", lambda kind, numbers: numpy.array(numbers, {"I": "u4", "B": "u1"}[kind])
+        return
+    types = {"I": "u4", "B": "u1"}
+    yield "NumPy", True, lambda kind, numbers: numpy.array(numbers, types[kind])
+    yield "NumPy, every second", False, lambda kind, numbers: numpy.array([it for n in numbers for it in (n, 9)], types[kind])[::2]
+    yield "NumPy, reversed", False, lambda kind, numbers: numpy.array(numbers[::-1], types[kind])[::-1]
+    yield "NumPy, the other byte order", False, lambda kind, numbers: numpy.array(numbers, ">i8")
 
 
 def array_checks(parsolve):
-    """Arrays that fit are taken as they are, others are copied, and numbers that don't fit are refused."""
-    numbers = (("I", [2, 1]), ("B", [1, 0]), ("I", [0, 2, 4]), ("I", [0, 1, 0, 1]))
-    for kind, make in kinds_of_arrays():
+    """Arrays that fit are taken as they are, and others are copied."""
+    numbers, kinds = (("I", [2, 1]), ("B", [1, 0]), ("I", [0, 2, 4]), ("I", [0, 1, 0, 1])), list(kinds_of_arrays())
+    for kind, fits, make in kinds:
         parts = [make(*it) for it in numbers]
         game = parsolve.Game.of_rows(*parts)
         is_kept = all(one is other for one, other in zip(parts, (game.priorities, game.owners, game.starts, game.successors)))
-        yield kind, None if is_kept and game.solve() == ([0, 0], [None, 0]) else f"kept: {is_kept}, {game.solve()}"
-    game = parsolve.Game.of_rows(*(array.array("q", it) for _, it in numbers))
-    yield "wider numbers", None if game.solve() == ([0, 0], [None, 0]) else f"{game.solve()}"
-    try:
-        yield "a negative number", f"{parsolve.Game([-1], [0], [[0]])}"
-    except OverflowError:
-        yield "a negative number", None
+        found = game.solve(), game.check(make("B", [0, 0]), make("I", [0, 0]))
+        yield kind, None if is_kept == fits and found == (([0, 0], [None, 0]), parsolve.Wins()) else f"kept: {is_kept}, {found}"
+    game = parsolve.Game(b"\2\1", b"\1\0", [b"\0\1", array.array("q", [0, 1])])
+    for kind, _, make in kinds:
+        game.priorities = make("I", [1, 1])
+        yield f"{kind}, put into a game", None if game.solve() == ([1, 1], [0, None]) else f"{game.solve()}"
+    game.priorities = array.array("B", [2, 1])
+    yield "narrower numbers, put into a game", None if game.solve() == ([0, 0], [None, 0]) else f"{game.solve()}"
+
+
+def refused(parsolve):
+    """(exception, text, a call that has to raise it)."""
+    game, wide = parsolve.Game([2, 1], [1, 0], [[0, 1], [0, 1]]), "isn't from 0 to 4294967295"
+    yield ValueError, f"priorities[1] {wide}", lambda: parsolve.Game([0, -1], [0, 0], [[0], [0]])
+    yield ValueError, "owners[0] isn't from 0 to 255", lambda: parsolve.Game([0], [256], [[0]])
+    yield ValueError, f"successors[1] {wide}", lambda: parsolve.Game([0], [0], [[0, 2**32]])
+    yield ValueError, f"strategy[1] {wide}, nor None", lambda: game.check([0, 0], [None, -1])
+    yield ValueError, f"strategy[0] {wide}, nor None", lambda: game.check([0, 0], array.array("i", [-1, 0]))
+    yield TypeError, "'float' object", lambda: parsolve.Game([0.5], [0], [[0]])
+    yield TypeError, "'str' object", lambda: parsolve.Game("0", [0], [[0]])
+    yield TypeError, "winners: 2 dimensions", lambda: game.check(memoryview(bytes(2)).cast("B", (1, 2)), [None, 0])
+    yield TypeError, "priorities: ", lambda: parsolve.Game(memoryview((ctypes.c_uint32 * 1)(0)), [0], [[0]])
+    yield ValueError, "no command is named 'solved'; there are: measure, solve, check", lambda: parsolve.answer("solved", b"")
+    yield TypeError, "a bytes-like object is required", lambda: parsolve.answer("solve", "0 0 0 0;")
+
+
+def refused_checks(parsolve):
+    """What doesn't fit is refused by name."""
+    for kind, text, call in refused(parsolve):
+        try:
+            yield text, f"{call()}"
+        except Exception as why:
+            yield text, None if type(why) is kind and text in str(why) else repr(why)
     for parts, code, vertex in ((([], [], []), 3, None), (([0, 70000], [0, 0], [[0], [0]]), 6, 1), (([0], [0], [[]]), 9, 0)):
         try:
             yield f"code {code}", f"{parsolve.Game(*parts).solve()}"
         except parsolve.ParsolveError as why:
             yield f"code {code}", None if (why.code, why.vertex) == (code, vertex) else f"{why.code} {why.vertex}"
+
+
+def text_checks(parsolve):
+    """Texts in memory of every kind are read as they are, and an answer is made once, however long it is."""
+    text, wanted = b"0 2 1 0,1;\n1 1 0 0,1;\n", b"paritysol 1;\n0 0;\n1 0 0;\n"
+    for kind, given in (("bytearray", bytearray(text)), ("a view", memoryview(text)), ("reversed", memoryview(text[::-1])[::-1]),
+                        ("every second byte", memoryview(bytes(it for byte in text for it in (byte, 0)))[::2]),
+                        ("wider numbers", array.array("I", text + b"\n" * (-len(text) % 4))), ("a text that lies", LongBytes(text))):
+        yield f"a text, {kind}", differs(parsolve.answer("solve", given), wanted)
+    calls, export = [], parsolve._LIBRARY.parsolve_answer
+    parsolve._LIBRARY.parsolve_answer = lambda *words: calls.append(export(*words)) or calls[-1]
+    answer = parsolve.answer("synth", (TOP / "examples/arbiter.hoa").read_bytes())
+    parsolve._LIBRARY.parsolve_answer = export
+    yield "a long answer is made once", None if calls == [parsolve.OK] and len(answer) > 40_000 else f"{calls}, {len(answer)} bytes"
 
 
 def imported(folder):

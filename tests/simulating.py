@@ -76,6 +76,8 @@ REFUSED = {
     "aig 1 0 0 0 1\n\1": "it ends too early",
     "aig 1 0 0 0 1\n\0\0": "a literal isn't of a variable before it",
     "aig 1 0 0 0 1\n\1\2": "a literal isn't of a variable before it",
+    b"aig 1 0 0 0 1\n" + b"\x80" * 10 + b"\0\0": "a number of a gate has more than 10 bytes",
+    b"aig 1 0 0 0 1\n" + b"\x80" * 1_000_000 + b"\0\0": "a number of a gate has more than 10 bytes",
     "aag 1 1 0 1\n": "line 1 is damaged",
     "aag 1 1 0 1 0\n2\n": "line 3 is damaged",
     "aag 1 1 0 1 0\n2": "it ends too early",
@@ -122,6 +124,7 @@ def by_hand():
             yield "binary", used("binary", given), (0, form, "")
             yield "ascii", used("ascii", given), (0, text.encode(), "")
     yield "a run of the binary form", simulated(DELAY_BINARY, WORD), (0, DELAYED, "")
+    yield "a number of ten bytes", used("ascii", b"aig 1 0 0 0 1\n\x82" + b"\x80" * 8 + b"\0\0"), (0, b"aag 1 0 0 0 1\n2 0 0\n", "")
     yield "comments", used("ascii", DELAY_BINARY + b"l0 kept\nc\nby hand\no0 other\n")[1], DELAY.encode() + b"l0 kept\n"
 
 
