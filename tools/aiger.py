@@ -5,6 +5,7 @@ from typing import NamedTuple
 from texts import Fault
 
 MOST_INPUTS = 1 << 20  # the binary form has no line for an input
+MOST_BYTES = 10  # that a number of the binary form may have
 
 
 class Circuit(NamedTuple):
@@ -56,9 +57,11 @@ def read_binary(text):
     def difference():
         nonlocal place
         begin = place
-        while rest[place:place + 1] > b"\x7f":
+        while rest[place:place + 1] > b"\x7f" and place < begin + MOST_BYTES:
             place += 1
         place += 1
+        if place > begin + MOST_BYTES:
+            raise Fault(f"a number of a gate has more than {MOST_BYTES} bytes")
         if place > len(rest):
             raise Fault("it ends too early")
         return sum((byte & 127) << 7 * step for step, byte in enumerate(rest[begin:place]))
