@@ -217,6 +217,7 @@ def tried(crate, edits, rtlib):
         half = len(edits) // 2
         return {**tried(crate, edits[:half], rtlib), **tried(crate, edits[half:], rtlib)}
     waiting = [edit for edit, what in found.items() if what == WAITS]
+    print(f"edits: {crate.name}: {sum(it == REFUSED for it in found.values())} of {len(edits)} in a copy are refused", flush=True)
     return {**found, **tried(crate, waiting, rtlib)} if 0 < len(waiting) < len(edits) else found
 
 
@@ -233,7 +234,7 @@ def read(crate, faults):
 
 def run(names=()):
     """Tries the edits of these crates, of all where none is named; answers how many passed and failed."""
-    rtlib, start, spent = scripts.script("build").toolchain(), time.monotonic(), processor_seconds()
+    rtlib, start, spent = scripts.script("build").toolchain(is_still=True), time.monotonic(), processor_seconds()
     rtlib.guarded()  # what ends the prover with this process; it can't start once there are threads
     crates = [it for it in rtlib.crates_below(str(TOP)) if (EDITS / it.name).is_dir() and (not names or it.name in names)]
     lacking = {below.name for it in crates for below in it.below() if not below.is_built()}
