@@ -71,7 +71,7 @@ def shown_code():
     function = re.search(r"^    pub fn (?:.*\n)*?    }\n", text, re.M)[0]
     source = (TOP / "crates/pg_arena/src/player.rt").read_text()
     yield "docs/first_change.md: the function", None if function in source else "isn't what the source has"
-    edit = TOP / "crates/pg_arena/must-fail" / re.search(r"`(\w+\.edit)`", text)[1]
+    edit = TOP / "edits/pg_arena" / re.search(r"`(\w+\.edit)`", text)[1]
     is_there = edit.is_file() and edit.read_text().splitlines()[1].removeprefix("old: ") in function
     yield f"docs/first_change.md: {edit.name}", None if is_there else "doesn't change a line of the function"
     count = len(libraries_above("pg_arena"))

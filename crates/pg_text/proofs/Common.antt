@@ -1,5 +1,6 @@
 -- The names that the proofs of this crate cite from elsewhere, passed on from one place. Declares nothing.
-pub use Rattle.std.proofs.Common.{Bor, ap, append_assoc, arith, inl, inr, refl, rules, subst, sym, take-append-drop, ◌∙◌}
+pub use Rattle.std.proofs.Common.{Bor, add-one, ap, append_assoc, arith, inl, inr, refl, rules, subst, sym, take-append-drop, ◌∙◌}
+pub use Rattle.std.proofs.Math.Nat.{pow-le-pow_right, pow-succ'}
 pub use Rattle.std.proofs.KnownBytes.{Appends-trans}
 pub use Rattle.std.proofs.lemmas.Bool.{and_parts, and_right, cases_Bool, cases_eq, cases_lt, eq-eqb, eqb-false, eqb-true, leb-true, lt-leb}
 pub use Rattle.std.proofs.lemmas.Bool.{lt-ltb, ltb-true, ne_eqb}

@@ -8,7 +8,7 @@ ghost use Rattle.pg_text.specs.Mirrors.GameScan.{line_seen, item_seen, owner_at,
 ghost use Rattle.pg_text.specs.Mirrors.GameScan.{counted_item_at, body_at};
 
 use crate::reading::{Refusal, clause, further, natural, semicolon, string, unexpected};
-use crate::tokens::{TokenFault, after_byte, after_space};
+use crate::tokens::{TokenFault, after_byte, after_first, after_space};
 use pg_arena::Player;
 use std::alloc::AllocError;
 
@@ -35,7 +35,19 @@ pub(crate) fn player(bytes: &[u8]) -> Result<(Player, &[u8]), TokenFault>
 }
 
 /// The name behind the successors, where one stands, and the semicolon.
+#[inline(always)]
 fn ending(bytes: &[u8]) -> Result<(Option<&[u8]>, &[u8]), TokenFault>
+    ensures { Reads (λ x. (option_copied x.0, x.1.now)) result (ending_at bytes.now) }
+{
+    match after_first(b';', bytes) {
+        Some(rest) => Ok((None, rest)),
+        None => any_ending(bytes),
+    }
+}
+
+/// The name behind the successors, where one stands, and the semicolon, however they are written.
+#[inline(never)]
+fn any_ending(bytes: &[u8]) -> Result<(Option<&[u8]>, &[u8]), TokenFault>
     ensures { Reads (λ x. (option_copied x.0, x.1.now)) result (ending_at bytes.now) }
 {
     if let Some(rest) = after_byte(b';', bytes) {
@@ -47,6 +59,7 @@ fn ending(bytes: &[u8]) -> Result<(Option<&[u8]>, &[u8]), TokenFault>
 
 /// Makes room for one more number. Where there is none, repeats are taken away first, and there is room for as many numbers
 /// again then, so that a list is seldom sorted.
+#[inline(always)]
 fn make_room(list: &mut Vec<u32>) -> Result<(), AllocError>
     ensures { rising list.new.items ≡ rising list.old.items }
 {
@@ -61,6 +74,7 @@ fn make_room(list: &mut Vec<u32>) -> Result<(), AllocError>
 /// One or more successors with commas between, in the place of what the list held. Repeats may be left out, and the order
 /// may change.
 #[tactic(auto, unfolding(crate::specs::Mirrors::GameScan::successors_at, crate::specs::Mirrors::Parts::numbers_at))]
+#[inline(always)]
 fn successors<'a>(list: &mut Vec<u32>, bytes: &'a [u8]) -> Result<&'a [u8], Refusal>
     ensures { Gives (λ rest. (rising list.new.items, rest.now)) result (successors_at bytes.now) }
 {
@@ -81,6 +95,7 @@ fn successors<'a>(list: &mut Vec<u32>, bytes: &'a [u8]) -> Result<&'a [u8], Refu
 
 /// A line behind its identifier. Its successors, of which repeats count once, take the place of what the buffer held.
 #[tactic(auto, unfolding(crate::specs::Mirrors::GameScan::counted_line_at))]
+#[inline(always)]
 fn line<'a>(
     buffer: &mut Vec<u32>,
     identifier: u32,
@@ -103,6 +118,7 @@ fn line<'a>(
 }
 
 /// A line, whose successors the buffer then holds, or nothing at the end of the text.
+#[inline(always)]
 pub(crate) fn item<'a>(
     buffer: &mut Vec<u32>,
     bytes: &'a [u8],

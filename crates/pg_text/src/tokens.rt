@@ -3,13 +3,14 @@
 //! A token is a longest one. White space, the bytes 9 to 13 and 32, may stand between any two tokens, before the
 //! first and behind the last, and must stand only between two numbers or two words.
 
-ghost use Rattle.std.specs.Prelude.{◌≡◌, ◌<◌, ◌+◌, ◌==◌, ◌∷◌, List, ℕ, length, option_map, IfOk, IfErr, IfSome, IsNone, IsOkAnd};
+ghost use Rattle.std.specs.Prelude.{◌≡◌, ◌<◌, ◌+◌, ◌-◌, ◌==◌, ◌∷◌, List, ℕ, Ok, true, false, length, option_map, IfOk, IfErr, IfSome, IsNone, IsOkAnd};
 ghost use Rattle.std.specs.Result.{result_ok};
 ghost use Rattle.std.specs.List.{prefix_len};
 ghost use Rattle.pg_text.specs.Lexemes.{Lexeme, lexeme, number, is_space, is_letter, is_plain, Begins, after_space, fault_at, token_fault};
 ghost use Rattle.pg_lists.specs.Bytes.{is_digit, Stops};
 ghost use Rattle.pg_text.specs.Mirrors.Scan.{number_at, word_at, quoted_at, solid_at, token_at};
 ghost use Rattle.pg_text.specs.Mirrors.Steps.{Reads};
+ghost use Rattle.pg_text.specs.Mirrors.Parts.{natural_at};
 
 /// A token, which borrows the text.
 #[derive(Clone, Copy, Debug)]
@@ -38,12 +39,14 @@ pub enum TokenFault {
     NumberTooLarge(usize),
 }
 
+#[inline(always)]
 fn is_space(byte: u8) -> bool
     ensures { result ≡ is_space byte }
 {
     (9 <= byte && byte <= 13) || byte == b' '
 }
 
+#[inline(always)]
 pub(crate) fn is_digit(byte: u8) -> bool
     ensures { result ≡ is_digit byte }
 {
@@ -74,8 +77,22 @@ fn plain(bytes: &[u8]) -> usize
     bytes.iter().take_while(|byte| **byte != b'"').count()
 }
 
+/// The value of a digit.
+#[inline(always)]
+fn digit(byte: u8) -> Option<u32>
+    ensures some { IfSome result (λ n. (is_digit byte ≡ true) × (n ≡ byte - 48) × (n < 10)) }
+    ensures none { IsNone result → is_digit byte ≡ false }
+{
+    if is_digit(byte) {
+        Some(u32::from(byte.saturating_sub(b'0')))
+    } else {
+        None
+    }
+}
+
 /// The number whose digits stand in front.
 #[tactic(auto, unfolding(crate::specs::Mirrors::Scan::number_at))]
+#[inline(always)]
 pub(crate) fn digits(bytes: &[u8]) -> Result<(u32, &[u8]), TokenFault>
     ensures token { option_map (λ x. (number x.0, x.1.now)) (result_ok result) ≡ number_at bytes.now }
     ensures fault { IfErr result (λ e. e ≡ TokenFault.NumberTooLarge (length bytes.now)) }
@@ -154,6 +171,7 @@ fn solid(bytes: &[u8]) -> Result<(Token<'_>, &[u8]), TokenFault>
 
 /// Behind the white space in front.
 #[tactic(auto, using(pg_lists::proofs::Runs::run_within))]
+#[inline(always)]
 pub(crate) fn after_space(bytes: &[u8]) -> &[u8]
     ensures { result.now ≡ after_space bytes.now }
 {
@@ -163,7 +181,50 @@ pub(crate) fn after_space(bytes: &[u8]) -> &[u8]
     }
 }
 
+/// Behind the first byte, where that is white space.
+#[inline(always)]
+fn behind_blank(bytes: &[u8]) -> &[u8]
+    ensures { after_space result.now ≡ after_space bytes.now }
+{
+    match bytes {
+        [first, rest @ ..] if is_space(*first) => rest,
+        _ => bytes,
+    }
+}
+
+/// The number in front, where it has at most seven digits, of which at most one byte of white space stands in front, and
+/// the text goes on for long enough behind them. So printed texts have their numbers.
+#[inline(always)]
+pub(crate) fn short_number(bytes: &[u8]) -> Option<(u32, &[u8])>
+    ensures { IfSome result (λ x. natural_at bytes.now ≡ Ok (x.0, x.1.now)) }
+{
+    let front = behind_blank(bytes);
+    if front.len() < 8 {
+        return None;
+    }
+    let mut value = digit(front[0])?;
+    for i in 1..8 {
+        match digit(front[i]) {
+            Some(next) => value = 10 * value + next,
+            None => return Some((value, &front[i..])),
+        }
+    }
+    None
+}
+
+/// What stands after this byte, if it is the first one.
+#[inline(always)]
+pub(crate) fn after_first(byte: u8, bytes: &[u8]) -> Option<&[u8]>
+    ensures { IfSome result (λ rest. bytes.now ≡ byte ∷ rest.now) }
+{
+    match bytes {
+        [first, rest @ ..] if *first == byte => Some(rest),
+        _ => None,
+    }
+}
+
 /// What stands after this byte, if it is the first one behind white space.
+#[inline(always)]
 pub(crate) fn after_byte(byte: u8, bytes: &[u8]) -> Option<&[u8]>
     ensures some { IfSome result (λ rest. after_space bytes.now ≡ byte ∷ rest.now) }
     ensures none { IsNone result → Stops (λ b. b == byte) (after_space bytes.now) }

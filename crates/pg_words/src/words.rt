@@ -29,6 +29,9 @@ const WORKERS: &str = "workers";
 /// The option that says which program is started as each worker.
 const APART: &str = "apart";
 
+/// The option that asks for any strategy that wins.
+const ANY: &str = "any";
+
 /// The word that asks for a worker.
 const WORKER: &str = "worker";
 
@@ -41,8 +44,8 @@ const MOST_WORKERS: u8 = 16;
 const ABOUT: &str = "Solves parity games; the answers are proved";
 
 const MORE: &str = "\
-Each command reads the files that it is given, or standard input where it is given none, and writes standard output. Games
-and solutions are in the format of PGSolver, automata in HOA v1.
+Each command reads the files that it is given (`-` is standard input), or standard input where it is given none, and writes
+standard output. Games and solutions are in the format of PGSolver, automata in HOA v1.
 
 Exit status:
   0  an answer was printed
@@ -80,7 +83,8 @@ const SOLVE: Help = Help {
 Input: a parity game in the format of PGSolver, as `parity 1; 0 1 0 0,1; 1 2 1 0;`, by `parsolve solve GAME` from a
 file, and else from standard input
 Output: `paritysol N;` with the greatest identifier, and a line `IDENTIFIER WINNER STRATEGY;` for each vertex by rising
-identifier. The strategy is the successor that the winner goes to, left out where the other player owns the vertex.
+identifier. The strategy is the successor that the winner goes to, left out where the other player owns the vertex. It is
+that of the least progress measures; with `--any` it is any that wins, in less time.
 
 Example: printf 'parity 1; 0 1 0 0,1; 1 2 1 0;' | parsolve solve
 prints `paritysol 1;`, `0 0 1;` and `1 0;`, each on a line.",
@@ -167,6 +171,18 @@ fn apart_option<'a>(alloc: Global) -> Arg<'a> {
         .action(ArgAction::Set)
 }
 
+/// The option `--any`.
+fn any_option<'a>(alloc: Global) -> Result<Arg<'a>, Error> {
+    Ok(
+        Arg::new(alloc, ANY)
+            .long(ANY)
+            .help("Print any strategy that wins, in less time; the winners are the same")
+            .action(ArgAction::SetTrue)
+            .conflicts_with(WORKERS)?
+            .conflicts_with(APART)?,
+    )
+}
+
 /// The option `--port P`.
 fn port_option<'a>(alloc: Global) -> Arg<'a> {
     Arg::new(alloc, PORT)
@@ -178,10 +194,25 @@ fn port_option<'a>(alloc: Global) -> Arg<'a> {
         .value_parser(clap::value_parser!(u16).range(1..))
 }
 
+/// How a command is called, with the files that it takes.
+fn usage_of(command: Command) -> &'static str {
+    match command {
+        Command::Measure { .. } => "parsolve measure [OPTIONS] [GAME]",
+        Command::Solve { .. } | Command::SolveAny { .. } => "parsolve solve [OPTIONS] [GAME]",
+        Command::Check => "parsolve check [GAME SOLUTION]",
+        Command::Replay => "parsolve replay [GAME SCRIPT]",
+        Command::Game => "parsolve game [AUTOMATON]",
+        Command::Synth { .. } => "parsolve synth [OPTIONS] [AUTOMATON]",
+    }
+}
+
 /// The command as the command line knows it, with this help; one that solves has the options `--workers` and `--apart`.
 fn helped<'a>(alloc: Global, command: Command, help: Help) -> Result<Program<'a>, Error> {
     let (name, about, more): (&'a str, &'a str, &'a str) = (command.name(), help.about, help.more);
-    let program = Program::new(alloc, name).about(about).after_help(more);
+    let program = Program::new(alloc, name)
+        .about(about)
+        .override_usage(usage_of(command))
+        .after_help(more);
     match command.workers() {
         Some(_) => Ok(
             program
@@ -196,7 +227,9 @@ fn helped<'a>(alloc: Global, command: Command, help: Help) -> Result<Program<'a>
 fn subcommand<'a>(alloc: Global, command: Command) -> Result<Program<'a>, Error> {
     match command {
         Command::Measure { .. } => helped(alloc, command, MEASURE),
-        Command::Solve { .. } => helped(alloc, command, SOLVE),
+        Command::Solve { .. } | Command::SolveAny { .. } => Ok(helped(alloc, command, SOLVE)?.arg(
+            any_option(alloc)?,
+        )?),
         Command::Check => helped(alloc, command, CHECK),
         Command::Replay => helped(alloc, command, REPLAY),
         Command::Game => helped(alloc, command, GAME),
@@ -241,6 +274,14 @@ fn workers_in(matches: &ArgMatches<'_>) -> u32
     }
 }
 
+/// Whether the words ask for any strategy that wins.
+fn is_any(matches: &ArgMatches<'_>) -> bool {
+    match matches.subcommand() {
+        Some((_, found)) => found.get_flag(ANY),
+        None => false,
+    }
+}
+
 /// The program to start as each worker, if the words name one.
 fn apart_in(alloc: Global, matches: &ArgMatches<'_>) -> Result<Option<String>, Error> {
     let Some((_, found)) = matches.subcommand() else {
@@ -275,6 +316,10 @@ fn line_of(alloc: Global, name: &str, matches: &ArgMatches<'_>) -> Result<Option
     }
     let Some(command) = Command::named(name, workers_in(matches)) else {
         return Ok(None);
+    };
+    let command = match command {
+        Command::Solve { workers } if is_any(matches) => Command::SolveAny { workers },
+        _ => command,
     };
     Ok(Some(Line::Run(command, apart_in(alloc, matches)?)))
 }
