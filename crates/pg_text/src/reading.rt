@@ -86,8 +86,8 @@ pub fn natural(bytes: &[u8]) -> Result<(u32, &[u8]), TokenFault>
     ensures { Reads (λ x. (x.0, x.1.now)) result (natural_at bytes.now) }
 {
     match short_number(bytes) {
-        Some(read) => Ok(read),
-        None => any_number(bytes),
+        (_, 0) => any_number(bytes),
+        (number, taken) => Ok((number, &bytes[taken..])),
     }
 }
 
@@ -168,12 +168,6 @@ pub fn clause<'a>(name: &[u8], bytes: &'a [u8]) -> Result<(Option<u32>, &'a [u8]
 pub(crate) fn further(bytes: &[u8]) -> Result<Option<(u32, &[u8])>, TokenFault>
     ensures { Reads (further_seen bytes.now) result (further_at bytes.now) }
 {
-    if let Some(rest) = after_first(b',', bytes) {
-        return match short_number(rest) {
-            Some(read) => Ok(Some(read)),
-            None => any_further(bytes),
-        };
-    }
     match after_first(b';', bytes) {
         Some(_) => Ok(None),
         None => any_further(bytes),
