@@ -65,10 +65,7 @@ pub(crate) struct Parted<'a> {
 }
 
 /// Takes the files off the words.
-pub(crate) fn part_words<'a>(
-    alloc: Global,
-    words: &'a [String],
-) -> Result<Parted<'a>, AllocError> {
+pub(crate) fn part_words<'a>(alloc: Global, words: &'a [String]) -> Result<Parted<'a>, AllocError> {
     let places = input_of(alloc, words)?;
     let mut files = Vec::new(alloc);
     let mut others = Vec::new(alloc);
