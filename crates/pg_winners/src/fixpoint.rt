@@ -110,7 +110,8 @@ impl Fixpoint {
         Ok(())
     }
 
-    /// Goes on with the part until all is justified; false where more was looked at than `looks`.
+    /// Goes on with the part until all is justified, and then puts each vertex into its winner's region; false where more was looked at
+    /// than `looks`.
     pub fn run(
         &mut self,
         graph: &Graph,
@@ -125,6 +126,7 @@ impl Fixpoint {
             }
             let place = self.open.take();
             if place == NONE {
+                self.show(table, part);
                 return Ok(true);
             }
             self.justify(graph, table, at(part, place))?;
@@ -133,7 +135,7 @@ impl Fixpoint {
     }
 
     /// Puts the vertices into regions by who wins them, with what is chosen.
-    pub fn show(&self, table: &mut Table, part: &[u32]) {
+    fn show(&self, table: &mut Table, part: &[u32]) {
         for v in part {
             table.mark(*v, FIRST.saturating_add(at(&self.values, *v) % 2));
             put(&mut table.choices, *v, at(&self.choices, *v));

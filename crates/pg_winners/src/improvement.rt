@@ -95,7 +95,8 @@ impl Improvement {
         }
     }
 
-    /// Goes on with the part until Even can't improve the strategy; false where more was looked at than `looks`.
+    /// Goes on with the part until Even can't improve the strategy, and then puts each vertex into its winner's region; false where
+    /// more was looked at than `looks`.
     pub fn run(
         &mut self,
         graph: &Graph,
@@ -115,6 +116,7 @@ impl Improvement {
             }
             let goes_on = self.go_on(part);
             if !self.switch(graph, table, part, 0) && !goes_on {
+                self.show(table, part);
                 return Ok(true);
             }
         }
@@ -122,7 +124,7 @@ impl Improvement {
     }
 
     /// Puts the vertices into regions by who wins them, with what is chosen.
-    pub fn show(&self, table: &mut Table, part: &[u32]) {
+    fn show(&self, table: &mut Table, part: &[u32]) {
         for v in part {
             let loser_is_even = at(&self.worths, *v) != FOREVER;
             table.mark(*v, FIRST.saturating_add(u32::from(loser_is_even)));
