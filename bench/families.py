@@ -217,15 +217,20 @@ def spread(a, b, dice):
         yield dice.between(1, b) if dice.one_in(100) else 0, dice.below(2), successors
 
 
-def two_ladders(a, b, dice):
-    """the recursive ladder of a layers and its dual side by side, with edges between them"""
-    game = [*recladder(a, b, dice)]
+def with_dual(game, dice):
+    """A game and its dual side by side, with an edge between them for each twenty vertices."""
+    game = [[priority, owner, list(successors)] for priority, owner, successors in game]
     count = len(game)
-    game += [(priority + 1, 1 - owner, [count + w for w in successors]) for priority, owner, successors in game]
+    game += [[priority + 1, 1 - owner, [count + w for w in successors]] for priority, owner, successors in game]
     for _ in range(count // 20 + 1):
         v = dice.below(2 * count)
         game[v][2].append((count if v < count else 0) + dice.below(count))
-    yield from game
+    return game
+
+
+def two_ladders(a, b, dice):
+    """the recursive ladder of a layers and its dual side by side, with edges between them"""
+    yield from with_dual(recladder(a, b, dice), dice)
 
 
 def maze(a, b, dice):
@@ -269,6 +274,29 @@ def friedmann(a, b, dice):
     yield from named(game)
 
 
+def twice(a, b, dice):
+    """friedmann of a levels and its dual side by side, with edges between them"""
+    yield from with_dual(friedmann(a, b, dice), dice)
+
+
+def path(a, b, dice):
+    """a vertices, each of which leads to its neighbours; priorities rise, and owners take turns"""
+    for i in range(a):
+        yield min(i, 65535), i % 2, [j for j in (i - 1, i + 1) if 0 <= j < a]
+
+
+def few(a, b, dice):
+    """one or two random edges of each of a vertices, b priorities"""
+    for _ in range(a):
+        yield dice.below(b), dice.below(2), [dice.below(a) for _ in range(dice.between(1, 2))]
+
+
+def ring(a, b, dice):
+    """a vertices, each of which leads to the next one and a random one, b priorities"""
+    for i in range(a):
+        yield dice.below(b), dice.below(2), [(i + 1) % a, dice.below(a)]
+
+
 def memory(a, b, dice):
     """a steps, at each of which Odd's best play for measures first goes round over a small odd priority and then leaves"""
     game = {}
@@ -310,9 +338,69 @@ def even(a, b, dice):
         yield least + 8, 0, [*at(2, i - 1), *at(2, i + 1), *at(3, i - 1), *at(1, i + 1)] or at(3, i)
 
 
+def layered(text, a):
+    """a layers of cells, of which `common` ones stand once. A line has a cell's number, its priority at the first layer, what that
+    grows by with each layer, its owner, 1 where owners alternate, and edges, CELL:LAYER: one of -1, 0 and 1 layers on, 2 the first
+    layer, 3 the last one, 4 all layers below. An edge to where no layer is is left out; who has none leads to itself."""
+    (_, common), *lines = (line.split() for line in text.strip().split("\n"))
+    common = int(common)
+    cells = [(*map(int, line[1:5]), [tuple(map(int, edge.split(":"))) for edge in line[5:]]) for line in lines]
+    lift = -min(0, *(2 * ((base + step * (a - 1)) // 2) for base, step, *_ in cells))
+
+    def place(cell, layer):
+        return cell if cell < common else common + layer * (len(cells) - common) + cell - common
+
+    def layers(cell, target, layer, where):
+        if where == 4:
+            return range(a if cell < common else layer) if target >= common else [0]
+        relative = 0 if cell < common and where < 1 else a - 1 if cell < common else layer + where
+        found = {2: 0, 3: a - 1}.get(where, relative)
+        return [found] if target < common or 0 <= found < a else []
+
+    for v in range(place(common, a)):
+        cell, layer = (v, 0) if v < common else (common + (v - common) % (len(cells) - common), (v - common) // (len(cells) - common))
+        base, step, owner, alternates, edges = cells[cell]
+        targets = [place(target, at) for target, where in edges for at in layers(cell, target, layer, where)]
+        grown = abs(step) * a if cell < common else step * layer
+        yield base + grown + lift, owner ^ (alternates and cell >= common and layer % 2), list(dict.fromkeys(targets)) or [v]
+
+
+def rounds(a, b, dice):
+    """a layers, found by a search for games on which the winners are found at once, and the least measures are not"""
+    return layered("""common 1
+        0 11 -2 0 0 4:-1 1:0 0:0 5:-1
+        1 6 0 1 0 5:-1 2:-1 5:0 1:0
+        2 5 4 0 0 4:1 5:0 1:1
+        3 8 1 1 1 3:1
+        4 3 1 1 0 2:0 5:0
+        5 6 4 1 0 4:0 5:1 1:1 5:0""", a)
+
+
+def looks(a, b, dice):
+    """a layers, found by such a search too"""
+    return layered("""common 1
+        0 6 1 1 0 3:0 1:0 0:-1 5:-1
+        1 0 6 1 0 2:2 2:1 5:2 1:2
+        2 8 0 0 0 3:1 5:0
+        3 2 4 1 0 1:2 3:0 1:1 2:1
+        4 4 2 1 0 2:1
+        5 5 4 1 0 4:0 2:1""", a)
+
+
+def lists(a, b, dice):
+    """a layers, found by such a search too: many vertices have many components above zero"""
+    return layered("""common 0
+        0 2 2 0 0 2:1
+        1 1 2 0 0 3:1 2:1 2:0 0:0
+        2 1 0 1 0 3:0 1:-1
+        3 1 2 0 0 0:0 1:1 2:2 2:0
+        4 2 -2 0 0 2:1""", a)
+
+
 FAMILIES = {it.__name__: it for it in (settled, climb, climbers, jurdzinski, ladder, clique, recladder, elevator, sparse, random,
                                        chain, grid, wide, hubs, loops, repeats, hard, priorities, steps, spread, two_ladders,
-                                       maze, flat_hub, rising_hub, friedmann, memory, budget, even)}
+                                       maze, flat_hub, rising_hub, friedmann, twice, path, few, ring, memory, budget, even,
+                                       rounds, looks, lists)}
 
 # those that Even wins without a choice
 WON_BY_EVEN = ("priorities", "steps")

@@ -10,17 +10,27 @@ that it writes.
     >>> parsolve.answer("solve", b"0 2 1 0,1;\\n1 1 0 0,1;\\n")
     b'paritysol 1;\\n0 0;\\n1 0 0;\\n'
 
-Numbers that lie in memory as C wants them, 32 bits each (8 the owners and winners), are taken without a copy: an `array.array`, an array
-of NumPy of `uint32` or `uint8`. No other thread may change them while a call runs.
+Numbers that lie in memory as C wants them, 32 bits each (8 the owners and winners), one behind the other, are taken without a copy: an
+`array.array`, an array of NumPy of `uint32` or `uint8`. No other thread may change them while a call runs. All others are copied, and
+what is no number, or is too large or negative, is refused by a `TypeError` or a `ValueError`. A call isn't interrupted: Ctrl-C waits
+until it has returned.
 """
+from __future__ import annotations
+
 import array
 import ctypes
 import dataclasses
+import mmap
 import os
 import pathlib
+import sys
+from collections.abc import Iterable, Sequence
 
+__version__ = "@VERSION@"
 NO_CHOICE = 0xFFFFFFFF
 COMMANDS = ("measure", "solve", "check", "replay", "game", "synth")
+KINDS = {"priorities": "I", "owners": "B", "starts": "I", "successors": "I", "winners": "B", "strategy": "I", "cycle": "I"}
+PLENTY = 1 << 30  # bytes of room for an answer
 OK, OUT_OF_MEMORY, LEAVES, CYCLE, FAULT, TOO_SHORT = 0, 1, 14, 15, 17, 18
 TEXTS = {
     2: "the arrays' lengths don't fit together",
@@ -41,7 +51,10 @@ TEXTS = {
 class ParsolveError(ValueError):
     """Why there is no answer: the code of parsolve.h, and the vertex at fault or None."""
 
-    def __init__(self, code, vertex=None, text=None):
+    code: int
+    vertex: int | None
+
+    def __init__(self, code: int, vertex: int | None = None, text: str | None = None):
         where = "" if vertex is None else f"vertex {vertex}: "
         super().__init__(text or where + TEXTS[code])
         self.code, self.vertex = code, vertex
@@ -64,7 +77,7 @@ class Leaves:
 class Cycle:
     """A cycle that follows the strategy, and that its winner loses."""
 
-    vertices: list
+    vertices: list[int]
 
 
 class _Slice(ctypes.Structure):
@@ -81,99 +94,111 @@ class _Found(ctypes.Structure):
 
 def _library():
     here = pathlib.Path(__file__).resolve().parent
-    library = ctypes.CDLL(os.environ.get("PARSOLVE_LIBRARY") or str(here.parent / "lib/libparsolve.so"))
+    library = ctypes.CDLL(os.environ.get("PARSOLVE_LIBRARY") or str(here / "libparsolve.so"))
     for name in ("parsolve_solve", "parsolve_check", "parsolve_answer"):
         getattr(library, name).restype = ctypes.c_uint32
     return library
 
 
-_LIBRARY, _NOTHING = _library(), ctypes.c_uint64()
+_LIBRARY = _library()
 
 
-def _fits(kind, numbers):
-    """Whether numbers lie in memory in one piece with the size of this kind."""
+def _fits(name, numbers):
+    """Whether numbers lie in memory in one row, each with the size that an array of this name has."""
     try:
         view = memoryview(numbers)
     except TypeError:
         return False
-    is_of_kind = view.format in {"B": "B", "I": "IL"}[kind] and view.itemsize == array.array(kind).itemsize
-    return view.ndim == 1 and view.c_contiguous and is_of_kind
+    if view.ndim != 1:
+        raise TypeError(f"{name}: {view.ndim} dimensions, where one row of numbers is wanted")
+    kind = KINDS[name]
+    return view.c_contiguous and view.format in {"B": "B", "I": "IL"}[kind] and view.itemsize == array.array(kind).itemsize
 
 
-def _numbers(kind, numbers):
+def _extend(made, name, numbers):
+    """Appends numbers to an array of this name, one after the other."""
+    try:
+        made.extend(iter(numbers))
+    except OverflowError:
+        most = 2 ** (8 * made.itemsize) - 1
+        raise ValueError(f"{name}[{len(made)}] isn't from 0 to {most}" + (", nor None" if name == "strategy" else "")) from None
+    except NotImplementedError as why:
+        raise TypeError(f"{name}: {why}") from None
+
+
+def _numbers(name, numbers):
     """The numbers as they are where they fit, and else a copy."""
-    return numbers if _fits(kind, numbers) else array.array(kind, numbers)
+    if _fits(name, numbers):
+        return numbers
+    made = array.array(KINDS[name])
+    _extend(made, name, numbers)
+    return made
 
 
-def _address(numbers):
-    """Where numbers lie, and what has to be kept while the address is used."""
-    view = memoryview(numbers)
-    if view.nbytes == 0:
-        return ctypes.addressof(_NOTHING), _NOTHING
-    if hasattr(numbers, "__array_interface__"):
-        return numbers.__array_interface__["data"][0], numbers
-    kept = (ctypes.c_char * view.nbytes)
-    kept = kept.from_buffer_copy(view) if view.readonly else kept.from_buffer(view)
-    return ctypes.addressof(kept), kept
-
-
-def _passed(numbers):
-    """The pointer and the length of numbers, as two arguments, and what has to be kept till the call has returned."""
-    at, kept = _address(numbers)
-    return [ctypes.c_void_p(at), ctypes.c_size_t(len(numbers))], kept
+def _passed(name, numbers):
+    """The pointer and the length of numbers, as two arguments, and what has to be kept till the call has returned. They are looked at
+    anew, and what can't be written or isn't aligned is copied, too."""
+    view = memoryview(_numbers(name, numbers))
+    kept = ctypes.c_char.from_buffer(bytearray(view) or bytearray(8) if view.readonly or not view else view)
+    if ctypes.addressof(kept) % view.itemsize:
+        kept = ctypes.c_char.from_buffer(bytearray(view))
+    return [ctypes.c_void_p(ctypes.addressof(kept)), ctypes.c_size_t(len(view))], kept
 
 
 class Game:
     """A game: a priority and an owner (0 or 1) for each vertex, and the list of its successors. `of_rows` takes the successors in
     compressed sparse rows: those of `v` are `successors[starts[v]:starts[v + 1]]`."""
 
-    def __init__(self, priorities, owners, successors):
+    def __init__(self, priorities: Iterable[int], owners: Iterable[int], successors: Iterable[Iterable[int]]):
         starts, flat = array.array("I", [0]), array.array("I")
         for row in successors:
-            flat.extend(row)
+            _extend(flat, "successors", row)
             starts.append(len(flat))
         self._set(priorities, owners, starts, flat)
+        self._given = priorities
 
     @classmethod
-    def of_rows(cls, priorities, owners, starts, successors):
+    def of_rows(cls, priorities: Iterable[int], owners: Iterable[int], starts: Iterable[int], successors: Iterable[int]) -> Game:
         made = cls.__new__(cls)
         made._set(priorities, owners, starts, successors)
+        made._given = priorities
         return made
 
     def _set(self, priorities, owners, starts, successors):
-        self.priorities, self.owners = _numbers("I", priorities), _numbers("B", owners)
-        self.starts, self.successors = _numbers("I", starts), _numbers("I", successors)
+        self.priorities, self.owners = _numbers("priorities", priorities), _numbers("owners", owners)
+        self.starts, self.successors = _numbers("starts", starts), _numbers("successors", successors)
 
     def _passed(self):
-        """A pointer to the game, and what has to be kept."""
-        parts = (self.priorities, self.owners, self.starts, self.successors)
-        found = [_address(part) for part in parts]
-        game = _Game(*(_Slice(at, len(part)) for (at, _), part in zip(found, parts)))
-        return ctypes.byref(game), (game, found)
+        """A pointer to the game, how many vertices it has, and what has to be kept."""
+        parts = [_passed(name, getattr(self, name)) for name, _ in _Game._fields_]
+        game = _Game(*(_Slice(*part) for part, _ in parts))
+        return ctypes.byref(game), game.priorities.length, (game, parts)
 
-    def solve_arrays(self):
-        """The winners, an array of bytes, and the strategy, an array of numbers with NO_CHOICE where there is none."""
-        count = len(self.priorities)
+    def solve_arrays(self) -> tuple[Sequence[int], Sequence[int]]:
+        """The winners, an array of bytes, and the strategy, an array of numbers with NO_CHOICE where there is none; arrays of NumPy if
+        the priorities were given as one."""
+        game, count, _kept = self._passed()
         winners, strategy = array.array("B", bytes(count)), array.array("I", bytes(4 * count))
         vertex = ctypes.c_uint32(NO_CHOICE)
-        game, _kept = self._passed()
-        (to_winners, _winners), (to_strategy, _strategy) = _passed(winners), _passed(strategy)
+        (to_winners, _winners), (to_strategy, _strategy) = _passed("winners", winners), _passed("strategy", strategy)
         _wants_ok(_LIBRARY.parsolve_solve(game, *to_winners, *to_strategy, ctypes.byref(vertex)), vertex.value)
-        return winners, strategy
+        numpy = sys.modules.get("numpy")
+        is_numpy = numpy is not None and isinstance(self._given, numpy.ndarray)
+        return (numpy.asarray(winners), numpy.asarray(strategy)) if is_numpy else (winners, strategy)
 
-    def solve(self):
+    def solve(self) -> tuple[list[int], list[int | None]]:
         """The winner of each vertex, and where it goes on the vertices that it owns, else None."""
         winners, strategy = self.solve_arrays()
-        return list(winners), [None if it == NO_CHOICE else it for it in strategy]
+        return winners.tolist(), [None if it == NO_CHOICE else it for it in strategy.tolist()]
 
-    def check(self, winners, strategy):
+    def check(self, winners: Iterable[int], strategy: Iterable[int | None]) -> Wins | Leaves | Cycle:
         """Wins(), Leaves(..) or Cycle(..)."""
-        if not _fits("I", strategy):
-            strategy = array.array("I", [NO_CHOICE if it is None else it for it in strategy])
-        found, cycle = _Found(NO_CHOICE), array.array("I", bytes(4 * len(self.priorities)))
-        game, _kept = self._passed()
-        (to_winners, _winners), (to_strategy, _strategy) = _passed(_numbers("B", winners)), _passed(strategy)
-        to_cycle, _cycle = _passed(cycle)
+        if not _fits("strategy", strategy):
+            strategy = (NO_CHOICE if it is None else it for it in strategy)
+        game, count, _kept = self._passed()
+        found, cycle = _Found(NO_CHOICE), array.array("I", bytes(4 * count))
+        (to_winners, _winners), (to_strategy, _strategy) = _passed("winners", winners), _passed("strategy", strategy)
+        to_cycle, _cycle = _passed("cycle", cycle)
         code = _LIBRARY.parsolve_check(game, *to_winners, *to_strategy, ctypes.byref(found), *to_cycle)
         if code == LEAVES:
             return Leaves(found.vertex, found.to)
@@ -191,16 +216,29 @@ def _wants_ok(code, vertex=NO_CHOICE):
         raise ParsolveError(code, None if vertex == NO_CHOICE else vertex)
 
 
-def answer(command, text):
-    """What `parsolve COMMAND` prints for a text, both bytes."""
-    (at_text, _text), number, written = _passed(text), COMMANDS.index(command), ctypes.c_size_t(len(text) + 4096)
+def _room(length):
+    """The address of so many bytes, or more, and what has to be kept. Pages to which nothing is written take no memory."""
+    try:
+        kept = mmap.mmap(-1, max(length, PLENTY), flags=mmap.MAP_PRIVATE | mmap.MAP_ANONYMOUS)
+    except OSError:
+        kept = bytearray(length)
+    return ctypes.addressof(ctypes.c_char.from_buffer(kept)), len(kept), kept
+
+
+def answer(command: str, text: bytes) -> bytes:
+    """What `parsolve COMMAND` prints for a text, both bytes. It is made once, unless it is longer than a gigabyte."""
+    if command not in COMMANDS:
+        raise ValueError(f"no command is named {command!r}; there are: {', '.join(COMMANDS)}")
+    text = text if type(text) is bytes else bytes(memoryview(text))
+    number, written = COMMANDS.index(command), ctypes.c_size_t(len(text) + 4096)
     while True:
-        output = ctypes.create_string_buffer(written.value)
+        at, room, _kept = _room(written.value)
         code = _LIBRARY.parsolve_answer(
-            ctypes.c_uint32(number), *at_text, output, ctypes.c_size_t(len(output)), ctypes.byref(written)
+            ctypes.c_uint32(number), ctypes.c_char_p(text), ctypes.c_size_t(len(text)),
+            ctypes.c_void_p(at), ctypes.c_size_t(room), ctypes.byref(written)
         )
         if code == FAULT:
-            raise ParsolveError(code, text=ctypes.string_at(output, written.value).decode().rstrip("\n").partition(": ")[2])
+            raise ParsolveError(code, text=ctypes.string_at(at, written.value).decode().rstrip("\n").partition(": ")[2])
         if code != TOO_SHORT:
             _wants_ok(code)
-            return ctypes.string_at(output, written.value)
+            return ctypes.string_at(at, written.value)

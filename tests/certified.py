@@ -54,6 +54,15 @@ maze 1280 5
 flat_hub 50000 0
 rising_hub 50000 0
 friedmann 100 0
+twice 2560 0
+path 64000 0
+few 100000 1000
+few 100000 65536
+ring 60000 1000
+rounds 34 0
+rounds 256 0
+looks 112 0
+lists 1024 0
 memory 1280 0
 budget 200 0
 even 200 0

@@ -324,6 +324,9 @@ def files_are_input(program):
             with open(os.path.join(folder, name), "wb") as it:
                 it.write(b" " * blanks + text)
 
+        # a name with lines `--`, and such a line where none may stand, which is told in the game
+        file("named", game[:-1] + b' "\n--\n--\n0 0 0 0;\n--";'), file("lines", game + b"\n--\n")
+        apart = (1, b"", b"parsolve: syntax error at byte %d\n" % len(game + b"\n"))
         file("2", game), file("ended", game + b"\n"), file("solution", solution), file("--help", game)
         room = most - len(game + b"\n--\n" + solution)
         file("full", game, room), file("over", game, room + 1), file("whole", game, most - len(game))
@@ -333,7 +336,8 @@ def files_are_input(program):
                               (["check", "full", "solution"], sound), (["check", "over", "solution"], long),
                               (["solve", "whole"], solved), (["solve", "2", "--workers", "2"], solved),
                               (["solve", "--workers", "2", "./--help"], solved),
-                              (["solve", "socket"], (1, b"", b"parsolve: cannot read the input\n")),
+                              (["solve", "socket"], (1, b"", b"parsolve: cannot open socket: No such device or address (os error 6)\n")),
+                              (["check", "named", "solution"], sound), (["check", "lines", "solution"], apart),
                               (["solve", "--workers", "2"], (1, b"", b"parsolve: no vertex\n"))):
             ran = subprocess.run([program, *words], cwd=folder, stdin=subprocess.DEVNULL, capture_output=True, timeout=120)
             if (ran.returncode, ran.stdout, ran.stderr) != wanted:

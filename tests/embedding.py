@@ -1,15 +1,16 @@
 #!/usr/bin/env python3
-"""Tries the library for C and Python: its header is that of the sources, the programs of docs/library.md print what the page says, its
-answers are those of the program, and tests/embedding.c finds nothing wrong, with and without the address sanitizer.
+"""Tries the library for C, C++ and Python: its header is that of the sources, the sessions of docs/library.md print what the page says,
+its answers are those of the program, and tests/embedding.c finds nothing wrong, with and without the address sanitizer.
 
     tests/embedding.py [PROGRAM]    prints what it finds; the status is 1 if something is wrong
 """
 import array
+import ctypes
+import importlib.util
 import os
 import pathlib
 import random
 import re
-import shlex
 import shutil
 import subprocess
 import sys
@@ -102,8 +103,11 @@ def module_checks(codes):
     names, numbers = re.search(r"^(OK, .*) = (.*)$", module, re.M).groups()
     yield compared("codes of the module", dict(zip(names.split(", "), numbers.split(", "))),
                    {it: codes[f"PARSOLVE_{it}"] for it in names.split(", ")})
-    told = [int(it) for it in re.findall(r'^    (\d+): "', module, re.M)]
-    yield compared("texts of the module", told, list(range(int(codes["PARSOLVE_LENGTHS"]), int(codes["PARSOLVE_CHOICE"]) + 1)))
+    told = {int(code): text for code, text in re.findall(r'^    (\d+): "(.*)",$', module, re.M)}
+    texts = dict(re.findall(r'case (PARSOLVE_\w+):\s+return "(.*)";', header()))
+    faults = range(int(codes["PARSOLVE_LENGTHS"]), int(codes["PARSOLVE_CHOICE"]) + 1)
+    yield compared("texts of the module", told, {int(codes[name]): text for name, text in texts.items() if int(codes[name]) in faults})
+    yield compared("codes with a text", sorted(texts), sorted(it for it in codes if not it.startswith("PARSOLVE_COMMAND_")))
 
 
 # ---- the folder
@@ -141,28 +145,59 @@ def names_checks(folder):
 
 
 def blocks():
-    """The programs of docs/library.md in C and Python, and what the page says that they print."""
-    text = (TOP / "docs/library.md").read_text().partition("## From C and Python")[2]
-    return (re.search(rf"^```{language}\n(.*?)^```$", text, re.M | re.S)[1] for language in ("c", "python", "text"))
+    """The programs of docs/library.md in C, C++ and Python, by the names of their files, and its sessions: the commands, line by line,
+    and what they print in all."""
+    text = (TOP / "docs/library.md").read_text().partition("## From C and Python")[2].partition("\n## ")[0]
+    programs = {f"example.{end}": re.search(rf"^```{language}\n(.*?)^```$", text, re.M | re.S)[1]
+                for language, end in (("c", "c"), ("cpp", "cpp"), ("python", "py"))}
+    shown = re.findall(r"^    \$ (.*)\n((?:    (?!\$ ).*\n)*)", text, re.M)
+    return programs, [command for command, _ in shown], re.sub("^    ", "", "".join(printed for _, printed in shown), flags=re.M)
+
+
+def sessions_check(folder, work):
+    """The sessions of the page, as they are written, in one shell; the name of the folder has no blank then."""
+    programs, commands, wanted = blocks()
+    for name, text in programs.items():
+        (work / name).write_text(text)
+    linked = work / "laid"
+    linked.symlink_to(folder)
+    if not shutil.which("pkg-config"):
+        print("embedding: pkg-config isn't installed, so the sessions of docs/library.md aren't run")
+        return
+    env = {**os.environ, "FOLDER": str(linked), "PYTHONDONTWRITEBYTECODE": "1"}
+    yield "the sessions", differs(printed(["sh", "-c", "\n".join(commands)], cwd=work, env=env), wanted)
 
 
 def example_checks(folder, work):
-    """The programs of the page print what it says: in C and in C++, from the archive and from the shared object, and in Python."""
-    in_c_, in_python, wanted = blocks()
-    (work / "example.c").write_text(in_c_)
-    (work / "example.py").write_text(in_python)
-    flags = ["-I", folder / "include", "-L", folder / "lib"]
+    """The program of the page in C is one in C++ too, from the archive and from the shared object; the examples of the module."""
+    yield from sessions_check(folder, work)
+    wanted, flags = printed([work / "example"]), ["-I", folder / "include", "-L", folder / "lib"]
     for language, compiler in (("c", ["cc", "-std=c99"]), ("c++", ["c++", "-std=c++11"])):
         for how, more in (("archive", ["-l:libparsolve.a"]), ("shared", ["-lparsolve", f"-Wl,-rpath,{folder}/lib"])):
             what, program = f"the example in {language}, {how}", work / f"example-{how}"
             why = ran([*compiler, *WARNINGS, "-x", language, work / "example.c", *flags, *more, "-o", program])
             yield what, why or differs(printed([program]), wanted)
-    yield "the example in Python", differs(printed([sys.executable, work / "example.py"], env=with_module(folder)), wanted)
-    yield "the examples of the module", ran([sys.executable, "-m", "doctest", folder / "python/parsolve.py"], env=with_module(folder))
-    if shutil.which("pkg-config"):
-        words = shlex.split(printed(["pkg-config", "--cflags", "--libs", "parsolve"],
-                        env={**os.environ, "PKG_CONFIG_PATH": str(folder / "lib/pkgconfig")}))
-        yield "pkg-config", ran(["cc", work / "example.c", *words, "-o", work / "by-pkg-config"])
+    why = ran(["c++", "-std=c++11", *WARNINGS, work / "example.cpp", *flags, "-l:libparsolve.a", "-o", work / "vectors"])
+    yield "the example with vectors", why or differs(printed([work / "vectors"]), printed([work / "example-cpp"]))
+    yield "the examples of the module", ran([sys.executable, "-m", "doctest", folder / "python/parsolve/__init__.py"],
+                                            env=with_module(folder))
+    version = re.search(r'^const VERSION: &str = "(.*)";$', (TOP / "crates/pg_words/src/words.rt").read_text(), re.M)[1]
+    laid = "".join((folder / it).read_text() for it in ("include/parsolve.h", "lib/pkgconfig/parsolve.pc", "python/pyproject.toml",
+                                                         "python/parsolve/__init__.py"))
+    yield "the version", None if laid.count(version) == 4 and "@" + "VERSION" not in laid else f"isn't {version} in each place"
+    yield from installed(folder, work)
+
+
+def installed(folder, work):
+    """The package as pip installs it, where pip is there; nothing is fetched."""
+    if not importlib.util.find_spec("pip"):
+        print("embedding: pip isn't installed, so the package isn't")
+        return
+    target = work / "installed"
+    why = ran([sys.executable, "-m", "pip", "install", "-q", "--no-index", "--target", target, folder / "python"])
+    env = {**os.environ, "PYTHONPATH": str(target), "PYTHONDONTWRITEBYTECODE": "1"}
+    wanted = printed([sys.executable, work / "example.py"], env=with_module(folder))
+    yield "the package, installed", why or differs(printed([sys.executable, work / "example.py"], env=env), wanted)
 
 
 def differs(output, wanted):
@@ -275,49 +310,117 @@ def same_answers(parsolve, program):
     yield "the program's solutions and verdicts", next((why for why in whys if why), None)
     whys = (f"{command} on {text[:80]!r}" for command, text in texts() if says(program, command, text) != answered(parsolve, command, text))
     yield "the program's texts", next(whys, None)
-    yield from array_checks(parsolve)
+    for part in (array_checks, refused_checks, text_checks):
+        yield from part(parsolve)
 
 
-class Told(array.array):
-    """An array that tells its address as those of NumPy do."""
+class Liar(array.array):
+    """An array that tells an address at which it isn't, and a length that it hasn't."""
 
     @property
     def __array_interface__(self):
-        return {"data": (self.buffer_info()[0], False)}
+        return {"data": (8, False)}
+
+    def __len__(self):
+        return 1 << 40
+
+
+class LongBytes(bytes):
+    """A text that tells a length that it hasn't."""
+
+    def __len__(self):
+        return 1 << 40
+
+
+def unaligned(kind, numbers):
+    """A view of the numbers that begins at an odd address."""
+    return memoryview(bytearray(1) + array.array(kind, numbers).tobytes())[1:].cast(kind)
 
 
 def kinds_of_arrays():
-    """(kind, how an array of it is made of numbers of 32 or 8 bits)."""
-    yield "array.array", array.array
-    yield "an array that tells its address", Told
-    yield "a view that can't be written", lambda kind, numbers: memoryview(array.array(kind, numbers)).toreadonly()
+    """(kind, whether it is taken as it is, how an array of it is made of numbers of 32 or 8 bits)."""
+    yield "array.array", True, array.array
+    yield "an array that lies", True, Liar
+    yield "a view that can't be written", True, lambda kind, numbers: memoryview(array.array(kind, numbers)).toreadonly()
+    yield "a view that isn't aligned", True, unaligned
+    yield "every second number", False, lambda kind, numbers: memoryview(array.array(kind, [it for n in numbers for it in (n, 9)]))[::2]
+    yield "from the last to the first", False, lambda kind, numbers: memoryview(array.array(kind, numbers[::-1]))[::-1]
+    yield "wider numbers", False, lambda kind, numbers: array.array("q", numbers)
+    yield "numbers with a sign", False, lambda kind, numbers: array.array("i", numbers)
+    yield "a tuple", False, lambda kind, numbers: tuple(numbers)
     try:
         import numpy
     except ImportError:
         print("embedding: NumPy isn't installed, so its arrays aren't tried")
-    else:
-        yield "NumPy", lambda kind, numbers: numpy.array(numbers, {"I": "u4", "B": "u1"}[kind])
+        return
+    types = {"I": "u4", "B": "u1"}
+    yield "NumPy", True, lambda kind, numbers: numpy.array(numbers, types[kind])
+    yield "NumPy, every second", False, lambda kind, numbers: numpy.array([it for n in numbers for it in (n, 9)], types[kind])[::2]
+    yield "NumPy, reversed", False, lambda kind, numbers: numpy.array(numbers[::-1], types[kind])[::-1]
+    yield "NumPy, the other byte order", False, lambda kind, numbers: numpy.array(numbers, ">i8")
 
 
 def array_checks(parsolve):
-    """Arrays that fit are taken as they are, others are copied, and numbers that don't fit are refused."""
-    numbers = (("I", [2, 1]), ("B", [1, 0]), ("I", [0, 2, 4]), ("I", [0, 1, 0, 1]))
-    for kind, make in kinds_of_arrays():
+    """Arrays that fit are taken as they are, and others are copied."""
+    numbers, kinds = (("I", [2, 1]), ("B", [1, 0]), ("I", [0, 2, 4]), ("I", [0, 1, 0, 1])), list(kinds_of_arrays())
+    for kind, fits, make in kinds:
         parts = [make(*it) for it in numbers]
         game = parsolve.Game.of_rows(*parts)
         is_kept = all(one is other for one, other in zip(parts, (game.priorities, game.owners, game.starts, game.successors)))
-        yield kind, None if is_kept and game.solve() == ([0, 0], [None, 0]) else f"kept: {is_kept}, {game.solve()}"
-    game = parsolve.Game.of_rows(*(array.array("q", it) for _, it in numbers))
-    yield "wider numbers", None if game.solve() == ([0, 0], [None, 0]) else f"{game.solve()}"
-    try:
-        yield "a negative number", f"{parsolve.Game([-1], [0], [[0]])}"
-    except OverflowError:
-        yield "a negative number", None
+        found = game.solve(), game.check(make("B", [0, 0]), make("I", [0, 0]))
+        yield kind, None if is_kept == fits and found == (([0, 0], [None, 0]), parsolve.Wins()) else f"kept: {is_kept}, {found}"
+        is_like = type(game.solve_arrays()[1]) is (type(parts[0]) if kind == "NumPy" else array.array)
+        yield f"{kind}: results", None if is_like else f"{game.solve_arrays()}"
+    game = parsolve.Game(b"\2\1", b"\1\0", [b"\0\1", array.array("q", [0, 1])])
+    for kind, _, make in kinds:
+        game.priorities = make("I", [1, 1])
+        yield f"{kind}, put into a game", None if game.solve() == ([1, 1], [0, None]) else f"{game.solve()}"
+    game.priorities = array.array("B", [2, 1])
+    yield "narrower numbers, put into a game", None if game.solve() == ([0, 0], [None, 0]) else f"{game.solve()}"
+
+
+def refused(parsolve):
+    """(exception, text, a call that has to raise it)."""
+    game, wide = parsolve.Game([2, 1], [1, 0], [[0, 1], [0, 1]]), "isn't from 0 to 4294967295"
+    yield ValueError, f"priorities[1] {wide}", lambda: parsolve.Game([0, -1], [0, 0], [[0], [0]])
+    yield ValueError, "owners[0] isn't from 0 to 255", lambda: parsolve.Game([0], [256], [[0]])
+    yield ValueError, f"successors[1] {wide}", lambda: parsolve.Game([0], [0], [[0, 2**32]])
+    yield ValueError, f"strategy[1] {wide}, nor None", lambda: game.check([0, 0], [None, -1])
+    yield ValueError, f"strategy[0] {wide}, nor None", lambda: game.check([0, 0], array.array("i", [-1, 0]))
+    yield TypeError, "'float' object", lambda: parsolve.Game([0.5], [0], [[0]])
+    yield TypeError, "'str' object", lambda: parsolve.Game("0", [0], [[0]])
+    yield TypeError, "winners: 2 dimensions", lambda: game.check(memoryview(bytes(2)).cast("B", (1, 2)), [None, 0])
+    yield TypeError, "priorities: ", lambda: parsolve.Game(memoryview((ctypes.c_uint32 * 1)(0)), [0], [[0]])
+    yield ValueError, "no command is named 'solved'; there are: measure, solve, check", lambda: parsolve.answer("solved", b"")
+    yield TypeError, "a bytes-like object is required", lambda: parsolve.answer("solve", "0 0 0 0;")
+
+
+def refused_checks(parsolve):
+    """What doesn't fit is refused by name."""
+    for kind, text, call in refused(parsolve):
+        try:
+            yield text, f"{call()}"
+        except Exception as why:
+            yield text, None if type(why) is kind and text in str(why) else repr(why)
     for parts, code, vertex in ((([], [], []), 3, None), (([0, 70000], [0, 0], [[0], [0]]), 6, 1), (([0], [0], [[]]), 9, 0)):
         try:
             yield f"code {code}", f"{parsolve.Game(*parts).solve()}"
         except parsolve.ParsolveError as why:
             yield f"code {code}", None if (why.code, why.vertex) == (code, vertex) else f"{why.code} {why.vertex}"
+
+
+def text_checks(parsolve):
+    """Texts in memory of every kind are read as they are, and an answer is made once, however long it is."""
+    text, wanted = b"0 2 1 0,1;\n1 1 0 0,1;\n", b"paritysol 1;\n0 0;\n1 0 0;\n"
+    for kind, given in (("bytearray", bytearray(text)), ("a view", memoryview(text)), ("reversed", memoryview(text[::-1])[::-1]),
+                        ("every second byte", memoryview(bytes(it for byte in text for it in (byte, 0)))[::2]),
+                        ("wider numbers", array.array("I", text + b"\n" * (-len(text) % 4))), ("a text that lies", LongBytes(text))):
+        yield f"a text, {kind}", differs(parsolve.answer("solve", given), wanted)
+    calls, export = [], parsolve._LIBRARY.parsolve_answer
+    parsolve._LIBRARY.parsolve_answer = lambda *words: calls.append(export(*words)) or calls[-1]
+    answer = parsolve.answer("synth", (TOP / "examples/arbiter.hoa").read_bytes())
+    parsolve._LIBRARY.parsolve_answer = export
+    yield "a long answer is made once", None if calls == [parsolve.OK] and len(answer) > 40_000 else f"{calls}, {len(answer)} bytes"
 
 
 def imported(folder):

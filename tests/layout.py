@@ -9,7 +9,8 @@ Whoever wants to believe what is proved reads the believed modules: the files of
   whose contracts name a mirror all the same; the numbers of its chains are right;
 - each name of docs/definitions.md is defined in the file that stands beside it;
 - each call and law that the README and the pages of docs/ name is there, and so is each clause, definition and edit of
-  docs/promises.md, whose first table names those that the gate tries.
+  docs/promises.md, whose first table names those that the gate tries;
+- five crates of the kit are used where the product is to stand on them, and the README says that they are trusted.
 
     tests/layout.py            prints what it finds; the status is 1 if something is wrong
     tests/layout.py --write    first mends both documents as far as that needs no words: numbers of lines, files that are
@@ -28,6 +29,8 @@ CRATES, README, MAP, DEFINITIONS = TOP / "crates", TOP / "README.md", TOP / "doc
 PROMISES = TOP / "docs/promises.md"
 APART = {"Mirrors", "Lemmas"}
 EXCEPTIONS = re.compile(r"Public calls whose contracts name one: ((?:[^.]|\n)*)\.")
+KIT = {"byteorder": "pg_wire", "clap": "pg_words", "indexmap": "pg_synth", "itoa": "pg_command pg_synth pg_text",
+       "thiserror": "pg_arrays pg_check pg_rounds pg_wire pg_worker pg_world"}
 ROW = re.compile(r"^\| `(\w+/specs/[\w/]+\.antt)` \| (\d+) \|", re.M)
 
 
@@ -220,6 +223,18 @@ def edits():
         yield name, None if is_there else f"isn't in edits/{crate}, as docs/promises.md says"
 
 
+def kit():
+    """The same for each crate of the kit that KIT names, in each crate that is to use it."""
+    listed = dict(re.findall(r"^(\w+)[^:\n]*:(.*)", (TOP / "crates.txt").read_text(), re.M))
+    trusted = re.search(r"\*\*Trusted\*\*:((?:.|\n)*?)\n\n", README.read_text())[1]
+    for name, crates in KIT.items():
+        yield name, None if f"`{name}`" in trusted else "isn't among what README.md says is trusted"
+        for crate in crates.split():
+            code = "".join(path.read_text() for path in (CRATES / crate / "src").rglob("*.rt"))
+            is_used = name in listed[crate].split() and re.search(rf"^use {name}\b", code, re.M)
+            yield f"{crate}, {name}", None if is_used else "isn't used: the product is to stand on it there"
+
+
 def headline(path):
     """What the first line of a module says of it."""
     line = path.read_text().partition("\n")[0].lstrip("- ").rstrip(".")
@@ -270,7 +285,7 @@ def write_definitions():
 def run():
     """Makes every check; answers how many passed and failed."""
     passed = failed = 0
-    for part in (imports, rows_of_map, rows_of_chains, exceptions, entries, calls, promises, edits):
+    for part in (imports, rows_of_map, rows_of_chains, exceptions, entries, calls, promises, edits, kit):
         for what, why in part():
             if why is None:
                 passed += 1

@@ -58,9 +58,9 @@ SHAPES = {
 }
 
 
-def rewritten(text, *words):
-    """(status, output, error stream) of the tool."""
-    ran = subprocess.run([sys.executable, TOP / "tools/hoa", *words], input=text, capture_output=True, timeout=60)
+def rewritten(text, *words, under=()):
+    """(status, output, error stream) of the tool, perhaps under another command."""
+    ran = subprocess.run([*under, sys.executable, TOP / "tools/hoa", *words], input=text, capture_output=True, timeout=60)
     return ran.returncode, ran.stdout.decode(), ran.stderr.decode()
 
 
@@ -158,6 +158,25 @@ def refusals():
     yield "no such file", rewritten(b"", "nothing"), (1, "", "hoa: nothing: No such file or directory\n")
 
 
+# runs a command; the status says whether it took more than 80 MB
+IN_80_MB = """import resource, subprocess, sys
+subprocess.run(sys.argv[1:])
+sys.exit(resource.getrusage(resource.RUSAGE_CHILDREN).ru_maxrss > 80_000)"""
+
+
+def in_little_memory():
+    """The same for many edges with the same label over sixteen propositions, whose letters take 8 KB: they are in memory once."""
+    count, names, under = 12_000, " ".join(f'"{number}"' for number in range(16)), [sys.executable, "-c", IN_80_MB]
+    head = f"HOA: v1\nStart: 0\nAP: 16 {names}\nAcceptance: 1 Inf(0)\n--BODY--\n"
+    body = "State: 0\n" + "".join(f"[15]{target}\n" for target in range(count)) + "--END--\n"
+    status, made, said = rewritten((head + body).encode(), under=under)
+    yield "edges of a state", (status, made, said.partition(": !")[0]), (
+        0, "", "hoa: standard input: state 0 is not deterministic at letter 32768")
+    body = "".join(f"State: {state}\n[15] {(state + 1) % count}\n" for state in range(count)) + "--END--\n"
+    status, made, said = rewritten((head + body).encode(), under=under)
+    yield "edges of as many states", (status, made.partition("--BODY--\n")[2], said), (0, body, "")
+
+
 def answers(program):
     """The same for what a program says of each example."""
     for name, (_, _, _, wanted) in EXAMPLES.items():
@@ -183,7 +202,7 @@ def counted(checks):
 
 def run():
     """Makes every check that needs no program; answers how many passed and failed."""
-    return counted(check for part in (examples, labels, automata, refusals) for check in part())
+    return counted(check for part in (examples, labels, automata, refusals, in_little_memory) for check in part())
 
 
 def run_with(program):

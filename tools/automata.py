@@ -168,6 +168,7 @@ class Reader:
     def __init__(self, text):
         self.tokens = Tokens(text, TOKEN, skip_comments)
         self.headers, self.states, self.aliases, self.labels, self.seen = {}, {}, {}, {}, set()
+        self.kept = {}  # each set of letters that an edge has, once
         self.count = self.start = self.controllable = self.sets = None
         self.propositions = []
 
@@ -339,11 +340,16 @@ class Reader:
             count = len(self.propositions)
             if len(found) != 1 << count:
                 raise Fault(f"state {state} has {len(found)} edges without labels, and not one for each of {1 << count} letters")
-            found = [(target, sets, 1 << letter) for letter, (target, sets, _) in enumerate(found)]
+            found = ((target, sets, 1 << letter) for letter, (target, sets, _) in enumerate(found))
         edges = {}
         for target, sets, letters in found:
-            edges[target, sets] = edges.get((target, sets), 0) | (label if letters is None else letters)
-        return edges
+            add_letters(edges, (target, sets), label if letters is None else letters)
+        return {kind: self.kept.setdefault(letters, letters) for kind, letters in edges.items()}
+
+
+def add_letters(groups, kind, letters):
+    """Adds letters to those of a kind. The first stay the same number, of which there is one in memory however many edges have it."""
+    groups[kind] = groups[kind] | letters if kind in groups else letters
 
 
 def refuse_choices(automaton):
@@ -351,8 +357,7 @@ def refuse_choices(automaton):
     for number, state in sorted(automaton.states.items()):
         groups, taken, twice = {}, 0, 0
         for (target, sets), letters in state.edges.items():
-            kind = target, automaton.shape.counting({*state.sets, *sets})
-            groups[kind] = groups.get(kind, 0) | letters
+            add_letters(groups, (target, automaton.shape.counting({*state.sets, *sets})), letters)
         for letters in groups.values():
             twice |= taken & letters
             taken |= letters

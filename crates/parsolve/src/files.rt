@@ -1,16 +1,21 @@
 //! Files that are the input of a command.
 
-ghost use Rattle.std.specs.Prelude.{◌≤◌, length, IfOk};
+ghost use Rattle.std.specs.Prelude.{◌≡◌, ◌≤◌, length, IfOk};
 
+use crate::fault::Fault;
 use pg_cli::{CliFault, Command, MOST_BYTES, read_input};
 use std::alloc::{AllocError, Global};
-use std::fs::{self, Files};
+use std::fs::{self, Files, OpenFile};
+use std::io;
 
 /// The options whose value is the next word.
 const VALUED: [&str; 2] = ["--workers", "--apart"];
 
-/// What stands between the texts of two files.
-const SEPARATOR: &[u8] = b"--\n";
+/// The word that stands for standard input.
+const STANDARD_INPUT: &str = "-";
+
+/// What stands between the texts of two files, and begins with the newline that ends the first.
+const SEPARATOR: &[u8] = b"\n--\n";
 
 /// How many files a command takes: a game or an automaton; or a game and what belongs to it.
 fn count_of(command: Command) -> usize {
@@ -21,21 +26,14 @@ fn count_of(command: Command) -> usize {
     }
 }
 
-/// Whether there is a file of this name. A folder is none.
-fn is_file<R: Files>(rt: &R, name: &str) -> bool {
-    match fs::metadata(rt, name) {
-        Ok(about) => !about.is_dir(),
-        Err(_) => false,
-    }
-}
-
-/// The places of the words behind the command that name files and are no option's value.
-fn named<R: Files>(rt: &R, alloc: Global, words: &[String]) -> Result<Vec<usize>, AllocError> {
+/// The places of the words behind the command that are neither options nor values of one.
+fn named(alloc: Global, words: &[String]) -> Result<Vec<usize>, AllocError> {
     let mut places = Vec::new(alloc);
     let mut is_value = false;
     for (place, word) in words.iter().enumerate() {
         let word = word.as_str();
-        if place >= 2 && !is_value && !word.starts_with('-') && is_file(rt, word) {
+        let is_name = !word.starts_with('-') || word == STANDARD_INPUT;
+        if place >= 2 && !is_value && is_name {
             places.push(place)?;
         }
         is_value = VALUED.contains(&word);
@@ -44,14 +42,14 @@ fn named<R: Files>(rt: &R, alloc: Global, words: &[String]) -> Result<Vec<usize>
 }
 
 /// The places of the words that name the files of a command's input; none where they aren't as many as the command takes.
-fn input_of<R: Files>(rt: &R, alloc: Global, words: &[String]) -> Result<Vec<usize>, AllocError> {
+fn input_of(alloc: Global, words: &[String]) -> Result<Vec<usize>, AllocError> {
     let Some(command) = words
         .get(1)
         .and_then(|name| Command::named(name.as_str(), 0))
     else {
         return Ok(Vec::new(alloc));
     };
-    let places = named(rt, alloc, words)?;
+    let places = named(alloc, words)?;
     if places.len() == count_of(command) {
         Ok(places)
     } else {
@@ -67,12 +65,8 @@ pub(crate) struct Parted<'a> {
 }
 
 /// Takes the files off the words.
-pub(crate) fn part_words<'a, R: Files + AllocGlobal>(
-    rt: &R,
-    words: &'a [String],
-) -> Result<Parted<'a>, AllocError> {
-    let alloc = rt.alloc();
-    let places = input_of(rt, alloc, words)?;
+pub(crate) fn part_words<'a>(alloc: Global, words: &'a [String]) -> Result<Parted<'a>, AllocError> {
+    let places = input_of(alloc, words)?;
     let mut files = Vec::new(alloc);
     let mut others = Vec::new(alloc);
     for (place, word) in words.iter().enumerate() {
@@ -85,13 +79,45 @@ pub(crate) fn part_words<'a, R: Files + AllocGlobal>(
     Ok(Parted { files, others })
 }
 
-/// The text of a file.
-fn read_file<R: Files>(rt: &R, alloc: Global, name: &str) -> Result<Vec<u8>, CliFault>
+/// Opens a file that isn't a folder.
+fn open_file<R: Files>(rt: &R, name: &str) -> io::Result<R::File> {
+    let file = fs::open(rt, name)?;
+    if file.metadata()?.is_dir() {
+        return Err(io::Error::from(io::ErrorKind::IsADirectory));
+    }
+    Ok(file)
+}
+
+/// The text of a file, or of standard input.
+#[inline(never)]
+fn read_file<'a, R: Files + Input + AllocGlobal>(
+    rt: &R,
+    name: &'a str,
+) -> Result<Vec<u8>, Fault<'a>>
     ensures { IfOk result (λ text. length text.items ≤ MOST_BYTES) }
 {
-    match fs::open(rt, name) {
-        Ok(mut file) => read_input(alloc, &mut file),
-        Err(_) => Err(CliFault::Read),
+    if name == STANDARD_INPUT {
+        return Ok(read_input(rt.alloc(), &mut rt.reader())?);
+    }
+    match open_file(rt, name) {
+        Ok(mut file) => match read_input(rt.alloc(), &mut file) {
+            Err(CliFault::Read) => Err(Fault::Read(name)),
+            text => Ok(text?),
+        },
+        Err(why) if why.kind() == io::ErrorKind::OutOfMemory => Err(Fault::from(AllocError)),
+        Err(why) => Err(Fault::Open(name, why)),
+    }
+}
+
+/// Takes each line `--` off the text of a game, so that the only one in the input is the one between the files. It can stand in
+/// a name alone, and there its second `-` becomes a `.`: no command that takes two files prints a name.
+fn hide_separators(text: &mut Vec<u8>)
+    ensures { length text.new.items ≡ length text.old.items }
+{
+    for at in SEPARATOR.len()..text.len() + 1 {
+        if &text[at - SEPARATOR.len()..at] == SEPARATOR {
+            text[at - 2] = b'.';
+        }
     }
 }
 
@@ -104,25 +130,30 @@ fn joined(mut first: Vec<u8>, second: &[u8]) -> Result<Vec<u8>, CliFault>
     if !first.ends_with(b"\n") {
         first.extend_from_slice(b"\n")?;
     }
-    if first.len() + SEPARATOR.len() + second.len() > MOST_BYTES {
+    hide_separators(&mut first);
+    let separator = &SEPARATOR[1..];
+    if first.len() + separator.len() + second.len() > MOST_BYTES {
         return Err(CliFault::InputTooLong);
     }
-    first.extend_from_slice(SEPARATOR)?;
+    first.extend_from_slice(separator)?;
     first.extend_from_slice(second)?;
     Ok(first)
 }
 
 /// The input of a command: what the files hold, or standard input where there are none.
-pub(crate) fn read<R: Files + Input + AllocGlobal>(
+pub(crate) fn read<'a, R: Files + Input + AllocGlobal>(
     rt: &R,
-    files: &[&str],
-) -> Result<Vec<u8>, CliFault>
+    files: &[&'a str],
+) -> Result<Vec<u8>, Fault<'a>>
     ensures { IfOk result (λ text. length text.items ≤ MOST_BYTES) }
 {
-    let alloc = rt.alloc();
     match files {
-        [] => read_input(alloc, &mut rt.reader()),
-        [one] => read_file(rt, alloc, one),
-        [first, second, ..] => joined(read_file(rt, alloc, first)?, &read_file(rt, alloc, second)?),
+        [] => read_file(rt, STANDARD_INPUT),
+        [one] => read_file(rt, one),
+        [first, second, ..] => {
+            let first = read_file(rt, first)?;
+            let second = read_file(rt, second)?;
+            Ok(joined(first, &second)?)
+        }
     }
 }

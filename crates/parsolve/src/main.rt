@@ -1,17 +1,18 @@
 //! The program: the words of the command line, the input and the output, and the exit status.
 #![tactic(auto)]
 
+mod fault;
 mod files;
 
 ghost use Rattle.std.specs.Prelude.{◌≤◌, length};
 ghost use Rattle.pg_words.specs.Words.{HasFewWorkers};
 
+use fault::{Fault, tell};
 use files::{part_words, read};
-use pg_cli::{
-    CliFault, Command, Line, MOST_BYTES, Programs, exit_code, work, write_answer, write_fault,
-};
+use pg_cli::{CliFault, Command, Line, MOST_BYTES, Programs, work, write_answer};
 use pg_coord::Reach;
 use pg_words::{Told, read_words};
+use std::alloc::AllocError;
 use std::env;
 use std::io::{self, BufWriter, Write};
 use std::process::ExitCode;
@@ -21,12 +22,6 @@ const BAD_WORDS: u8 = 2;
 
 /// As many bytes of an answer that may be long are written at once.
 const AT_ONCE: usize = 65_536;
-
-/// Prints the fault's line on the error stream, and answers its status.
-fn tell<E: Write>(errors: &mut E, fault: &CliFault) -> ExitCode {
-    let _ = write_fault(fault, errors);
-    ExitCode::from(exit_code(fault))
-}
 
 /// What the program needs of the system.
 trait System: Input + Print + Eprint + AllocGlobal + Reach {}
@@ -73,12 +68,12 @@ fn print<R: System>(
 }
 
 /// Reads the input of a command, and writes the answer to it. Its workers are programs if a path is given.
-fn answer<R: System>(
+fn answer<'a, R: System>(
     rt: &R,
     command: Command,
     apart: Option<&str>,
-    files: &[&str],
-) -> Result<(), CliFault>
+    files: &[&'a str],
+) -> Result<(), Fault<'a>>
     requires { HasFewWorkers command }
 {
     let programs = match apart {
@@ -88,16 +83,17 @@ fn answer<R: System>(
     let text = read(rt, files)?;
     // programs have ended before what they found is written, however long it takes to be read
     if programs.is_none() && is_long(command) {
-        print_long(rt, command, text)
+        print_long(rt, command, text)?;
     } else {
-        print(rt, command, programs, text)
+        print(rt, command, programs, text)?;
     }
+    Ok(())
 }
 
 /// Does what the words ask for.
 fn obey<R: System, E: Write>(rt: &R, errors: &mut E, words: &[String]) -> ExitCode {
-    let Ok(parted) = part_words(rt, words) else {
-        return tell(errors, &CliFault::OutOfMemory);
+    let Ok(parted) = part_words(rt.alloc(), words) else {
+        return tell(errors, &Fault::from(AllocError));
     };
     let ended = match read_words(rt, parted.others.as_slice()) {
         Ok(Line::Run(command, apart)) => answer(
@@ -106,11 +102,11 @@ fn obey<R: System, E: Write>(rt: &R, errors: &mut E, words: &[String]) -> ExitCo
             apart.as_ref().map(|path| path.as_str()),
             parted.files.as_slice(),
         ),
-        Ok(Line::Work(port)) => work(rt, rt.alloc(), port),
+        Ok(Line::Work(port)) => work(rt, rt.alloc(), port).map_err(Fault::Cli),
         Err(Told::Asked) => Ok(()),
         Err(Told::Refused) => return ExitCode::from(BAD_WORDS),
-        Err(Told::Unwritten) => Err(CliFault::Write),
-        Err(Told::OutOfMemory) => Err(CliFault::OutOfMemory),
+        Err(Told::Unwritten) => Err(Fault::Cli(CliFault::Write)),
+        Err(Told::OutOfMemory) => Err(Fault::Cli(CliFault::OutOfMemory)),
     };
     match ended {
         Ok(()) => ExitCode::SUCCESS,
@@ -129,7 +125,7 @@ fn main(rt: HostRuntime) -> ExitCode {
         Ok(words) => obey(&rt, &mut errors, words.as_slice()),
         Err(error) if error.kind() == io::ErrorKind::OutOfMemory => tell(
             &mut errors,
-            &CliFault::OutOfMemory,
+            &Fault::from(AllocError),
         ),
         Err(_) => {
             let _ = eprintln!(rt; "parsolve: a word of the command line is not UTF-8");

@@ -3,6 +3,7 @@
 ghost use Rattle.std.specs.Prelude.{◌≡◌, ◌≢◌, ◌≤◌, ℕ, List, Some, Err, length, All, IfOk, OnOk};
 ghost use Rattle.pg_map.specs.Maps.{MapValue};
 ghost use Rattle.pg_wire.specs.Spelling.{body, longest};
+ghost use Rattle.pg_wire.specs.Bytes.{Spells};
 ghost use Rattle.pg_wire.specs.Well.{IsWell};
 ghost use Rattle.pg_parts.specs.Frames.{IsAtLeast, measures_in};
 ghost use Rattle.pg_parts.specs.Links.{IsUnderAfter, told_after};
@@ -42,6 +43,7 @@ pub fn receive_frame<L: Link>(
     ensures honest { L.is_honest link.old → L.is_honest link.new }
     ensures under { L.is_honest link.old → (h : MapValue) → L.is_under link.old h → L.is_under link.new h }
     ensures well { IfOk result IsWell }
+    ensures spelled { IfOk result (λ f. Spells f buffer.new.items) }
     ensures values { IfOk result (λ f. L.is_honest link.old → (h : MapValue) → L.is_under link.old h
         → IsAtLeast h.measures (measures_in f)) }
     ensures told { TakesFrame (L.told link.old) (L.told link.new) result }

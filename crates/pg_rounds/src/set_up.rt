@@ -3,6 +3,7 @@
 ghost use Rattle.std.specs.Prelude.{◌≡◌, ◌↔◌, ℕ, ◌∷◌, ◌+◌, ◌<◌, ◌≤◌, List, Some, Ok, length, IfOk, IfErr, OnOk, true, false};
 ghost use Rattle.pg_map.specs.Maps.{MapValue};
 ghost use Rattle.pg_wire.specs.declared.frame.VertexLine.{VertexLine};
+ghost use Rattle.pg_wire.specs.Bytes.{Spells};
 ghost use Rattle.pg_parts.specs.Frames.{kind_of};
 ghost use Rattle.pg_parts.specs.Links.{refusal};
 ghost use Rattle.pg_rounds.specs.Mirrors.Tasks.{IsClosedMap};
@@ -87,6 +88,7 @@ fn accepts<L: Link>(task: &Task<'_>, link: &mut L, buffer: &mut Vec<u8>) -> Resu
     ensures under { L.is_honest link.old → (h : MapValue) → L.is_under link.old h → L.is_under link.new h }
     ensures told { (next : List ℕ) (left : List (List ℕ)) → L.told link.old ≡ Some (next ∷ left)
         → AnswersSetUp next left (L.told link.new) result }
+    ensures came { result ≡ Ok true → Spells acceptance buffer.new.items }
 {
     match receive_frame(task.alloc(), link, buffer) {
         Ok(frame) => answer(&frame),
@@ -94,7 +96,8 @@ fn accepts<L: Link>(task: &Task<'_>, link: &mut L, buffer: &mut Vec<u8>) -> Resu
     }
 }
 
-/// Sends a set-up of version 2, and where the worker refuses that, restarts it and sends one of version 1, as from then on.
+/// Sends a set-up of version 2, and where the worker refuses that, restarts it and sends one of version 1, as from then on. Where values
+/// go sparse after it, the last frame that came is the acceptance.
 fn agree<L: Link>(
     task: &Task<'_>,
     link: &mut L,
@@ -105,6 +108,7 @@ fn agree<L: Link>(
     ensures under { OnOk result (L.is_honest link.old → (h : MapValue) → IsClosedMap task.now h → L.is_under link.new h) }
     ensures told { (left : List (List ℕ)) → L.told link.old ≡ Some left
         → TellsDense left (L.told link.new) kind.new result }
+    ensures accepted { OnOk result (kind.new ≡ ValueKind.Sparse → Spells acceptance buffer.new.items) }
 {
     send_setup(task, link, *kind, buffer)?;
     if *kind == ValueKind::Dense || accepts(task, link, buffer)? {

@@ -29,6 +29,9 @@ const WORKERS: &str = "workers";
 /// The option that says which program is started as each worker.
 const APART: &str = "apart";
 
+/// The option that asks for any strategy that wins.
+const ANY: &str = "any";
+
 /// The word that asks for a worker.
 const WORKER: &str = "worker";
 
@@ -41,8 +44,8 @@ const MOST_WORKERS: u8 = 16;
 const ABOUT: &str = "Solves parity games; the answers are proved";
 
 const MORE: &str = "\
-Each command reads the files that it is given, or standard input where it is given none, and writes standard output. Games
-and solutions are in the format of PGSolver, automata in HOA v1.
+Each command reads the files that it is given (`-` is standard input), or standard input where it is given none, and writes
+standard output. Games and solutions are in the format of PGSolver, automata in HOA v1.
 
 Exit status:
   0  an answer was printed
@@ -54,15 +57,17 @@ Exit status:
 
 Example: parsolve solve examples/two.pg";
 
-/// What the help says of a command: a line in the list of commands, and the text behind the command's own usage.
+/// What the help says of a command: a line in the list of commands, how it is called, and the text behind that.
 #[derive(Clone, Copy)]
 struct Help {
     about: &'static str,
+    usage: &'static str,
     more: &'static str,
 }
 
 const MEASURE: Help = Help {
     about: "Prints the least progress measure of a game",
+    usage: "parsolve measure [OPTIONS] [GAME]",
     more: "\
 Input: a parity game in the format of PGSolver, as `parity 1; 0 1 0 0,1; 1 2 1 0;`, by `parsolve measure GAME` from a
 file, and else from standard input
@@ -76,11 +81,13 @@ prints `0 1;` and `1 0;`, each on a line.",
 
 const SOLVE: Help = Help {
     about: "Prints the winner of each vertex of a game, and a winning strategy",
+    usage: "parsolve solve [OPTIONS] [GAME]",
     more: "\
 Input: a parity game in the format of PGSolver, as `parity 1; 0 1 0 0,1; 1 2 1 0;`, by `parsolve solve GAME` from a
 file, and else from standard input
 Output: `paritysol N;` with the greatest identifier, and a line `IDENTIFIER WINNER STRATEGY;` for each vertex by rising
-identifier. The strategy is the successor that the winner goes to, left out where the other player owns the vertex.
+identifier. The strategy is the successor that the winner goes to, left out where the other player owns the vertex. It is
+that of the least progress measures; with `--any` it is any that wins, in less time.
 
 Example: printf 'parity 1; 0 1 0 0,1; 1 2 1 0;' | parsolve solve
 prints `paritysol 1;`, `0 0 1;` and `1 0;`, each on a line.",
@@ -88,6 +95,7 @@ prints `paritysol 1;`, `0 0 1;` and `1 0;`, each on a line.",
 
 const CHECK: Help = Help {
     about: "Prints whether a solution of a game is sound",
+    usage: "parsolve check [GAME SOLUTION]",
     more: "\
 Input: a parity game and a solution of it, both in the format of PGSolver, by `parsolve check GAME SOLUTION` from two files,
 and else from standard input, with a line `--` between
@@ -101,6 +109,7 @@ prints `WINS`.",
 
 const REPLAY: Help = Help {
     about: "Prints what workers make of a game under a script of lifts, deliveries and restarts",
+    usage: "parsolve replay [GAME SCRIPT]",
     more: "\
 Input: a parity game in the format of PGSolver and a script, by `parsolve replay GAME SCRIPT` from two files, and else from
 standard input, with a line `--` between. The script:
@@ -119,6 +128,7 @@ prints `update 0 0 1;`, `replica 0 taken 0;`, `0 1;`, `1 0;`, `replica 1 taken 0
 
 const GAME: Help = Help {
     about: "Prints the parity game of an automaton",
+    usage: "parsolve game [AUTOMATON]",
     more: "\
 Input: an automaton in HOA v1 with the header `controllable-AP`: deterministic, with a parity condition, labels on edges;
 by `parsolve game AUTOMATON` from a file, and else from standard input
@@ -132,6 +142,7 @@ Example: parsolve game examples/request-grant.hoa | parsolve solve",
 
 const SYNTH: Help = Help {
     about: "Prints a controller for an automaton, as a circuit",
+    usage: "parsolve synth [OPTIONS] [AUTOMATON]",
     more: "\
 Input: an automaton in HOA v1 with the header `controllable-AP`: deterministic, with a parity condition, labels on edges;
 by `parsolve synth AUTOMATON` from a file, and else from standard input
@@ -167,6 +178,18 @@ fn apart_option<'a>(alloc: Global) -> Arg<'a> {
         .action(ArgAction::Set)
 }
 
+/// The option `--any`.
+fn any_option<'a>(alloc: Global) -> Result<Arg<'a>, Error> {
+    Ok(
+        Arg::new(alloc, ANY)
+            .long(ANY)
+            .help("Print any strategy that wins, in less time; the winners are the same")
+            .action(ArgAction::SetTrue)
+            .conflicts_with(WORKERS)?
+            .conflicts_with(APART)?,
+    )
+}
+
 /// The option `--port P`.
 fn port_option<'a>(alloc: Global) -> Arg<'a> {
     Arg::new(alloc, PORT)
@@ -181,7 +204,11 @@ fn port_option<'a>(alloc: Global) -> Arg<'a> {
 /// The command as the command line knows it, with this help; one that solves has the options `--workers` and `--apart`.
 fn helped<'a>(alloc: Global, command: Command, help: Help) -> Result<Program<'a>, Error> {
     let (name, about, more): (&'a str, &'a str, &'a str) = (command.name(), help.about, help.more);
-    let program = Program::new(alloc, name).about(about).after_help(more);
+    let usage: &'a str = help.usage;
+    let program = Program::new(alloc, name)
+        .about(about)
+        .override_usage(usage)
+        .after_help(more);
     match command.workers() {
         Some(_) => Ok(
             program
@@ -196,7 +223,9 @@ fn helped<'a>(alloc: Global, command: Command, help: Help) -> Result<Program<'a>
 fn subcommand<'a>(alloc: Global, command: Command) -> Result<Program<'a>, Error> {
     match command {
         Command::Measure { .. } => helped(alloc, command, MEASURE),
-        Command::Solve { .. } => helped(alloc, command, SOLVE),
+        Command::Solve { .. } | Command::SolveAny { .. } => Ok(helped(alloc, command, SOLVE)?.arg(
+            any_option(alloc)?,
+        )?),
         Command::Check => helped(alloc, command, CHECK),
         Command::Replay => helped(alloc, command, REPLAY),
         Command::Game => helped(alloc, command, GAME),
@@ -241,6 +270,14 @@ fn workers_in(matches: &ArgMatches<'_>) -> u32
     }
 }
 
+/// Whether the words ask for any strategy that wins.
+fn is_any(matches: &ArgMatches<'_>) -> bool {
+    match matches.subcommand() {
+        Some((_, found)) => found.get_flag(ANY),
+        None => false,
+    }
+}
+
 /// The program to start as each worker, if the words name one.
 fn apart_in(alloc: Global, matches: &ArgMatches<'_>) -> Result<Option<String>, Error> {
     let Some((_, found)) = matches.subcommand() else {
@@ -275,6 +312,10 @@ fn line_of(alloc: Global, name: &str, matches: &ArgMatches<'_>) -> Result<Option
     }
     let Some(command) = Command::named(name, workers_in(matches)) else {
         return Ok(None);
+    };
+    let command = match command {
+        Command::Solve { workers } if is_any(matches) => Command::SolveAny { workers },
+        _ => command,
     };
     Ok(Some(Line::Run(command, apart_in(alloc, matches)?)))
 }

@@ -1,8 +1,8 @@
 use Rattle.pg_text.proofs.Common.{◌≡◌, ◌≤◌, length, get_or, false, ◌∙◌, ap, sym, arith, nat_tests, is_digit}
 use Rattle.pg_text.proofs.Steps.{err}
 use Rattle.pg_text.proofs.FirstBytes.{natural_of_digits, natural_of_others}
-use Rattle.pg_text.proofs.reading.natural.Goals as goal
-use Rattle.pg_text.proofs.reading.natural.Goals.{in_default-via-then-front-lt1, in_default-via-in-len1-up+else-is_digit}
+use Rattle.pg_text.proofs.reading.any_number.Goals as goal
+use Rattle.pg_text.proofs.reading.any_number.Goals.{in_default-via-then-front-lt1, in_default-via-in-len1-up+else-is_digit}
 
 pub returns-in-len1-up : goal.returns-in-len1-up
 returns-in-len1-up c = grind (
