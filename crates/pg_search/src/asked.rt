@@ -58,9 +58,13 @@ impl Levels {
             return Ok(());
         }
         put(&mut self.lasts, asked.vertex, asked.row);
-        let priority = side.rows.node(asked.row).priority;
+        self.put(side.rows.node(asked.row).priority, asked)
+    }
+
+    /// Puts a claim to a level, if there is one of that priority.
+    pub fn put(&mut self, priority: u32, asked: Asked) -> Result<(), AllocError> {
         let level = self.levels.partition_point(|it| *it < priority);
-        if level < self.lists.len() {
+        if at(&self.levels, count(level)) == priority && level < self.lists.len() {
             self.lists[level].push(asked)?;
         }
         Ok(())
