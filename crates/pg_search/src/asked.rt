@@ -70,6 +70,17 @@ impl Levels {
         Ok(())
     }
 
+    /// Puts the first component of a vertex' row that stands behind a row on the way to it.
+    pub fn put_next(&mut self, side: &Side, vertex: u32, from: u32) -> Result<(), AllocError> {
+        let whole = side.row(vertex);
+        let last = side.rows.node(from).priority;
+        let is_behind = |it: &u32| *it < last && side.rows.cut(whole, *it) != from;
+        let behind = count(self.levels.partition_point(is_behind));
+        let priority = at(&self.levels, behind.wrapping_sub(1));
+        let row = side.rows.cut(whole, priority);
+        self.put(priority, Asked { vertex, row })
+    }
+
     /// Takes what is asked for at a level.
     pub fn take(&mut self, alloc: Global, level: u32) -> Vec<Asked> {
         if (level as usize) < self.lists.len() {

@@ -129,6 +129,11 @@ impl Played {
         &self.winners.of_even
     }
 
+    /// The vertex that is chosen at a node, or `NONE`.
+    pub fn chosen(&self, node: u32) -> u32 {
+        self.vertex(choice(&self.winners, node))
+    }
+
     /// The vertex of a node.
     pub fn vertex(&self, node: u32) -> u32 {
         claim_of(&self.claims, node).vertex

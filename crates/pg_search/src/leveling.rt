@@ -34,6 +34,8 @@ struct Member {
     /// Of the opponent's: the successor by which it rises.
     to: u32,
     standing: Standing,
+    /// Whether its value is known already: that of the round, or the next one.
+    is_due: bool,
 }
 
 impl Member {
@@ -43,6 +45,7 @@ impl Member {
         left: 0,
         to: NONE,
         standing: Standing::Done,
+        is_due: false,
     };
 
     /// Whether the opponent comes up from it.
@@ -64,8 +67,6 @@ struct Known {
 #[derive(Drop)]
 struct Leveling {
     is_open: Vec<bool>,
-    /// Rows that are at least the least ones, of the vertices that are to have rows.
-    highs: Vec<u32>,
     members: Vec<Member>,
     /// For each class the row of the greatest value that was given in it.
     lasts: Vec<u32>,
@@ -95,14 +96,11 @@ impl Leveling {
     fn new(alloc: Global, side: &Side, open: &[u32]) -> Result<Leveling, AllocError> {
         let all = side.len() as usize;
         let mut is_open = vec![in alloc; false; all]?;
-        let mut highs = vec![in alloc; ZEROS; all]?;
         for v in open {
             mark(&mut is_open, *v, true);
-            put(&mut highs, *v, side.row(*v));
         }
         Ok(Leveling {
             is_open,
-            highs,
             members: vec![in alloc; Member::NOWHERE; all]?,
             lasts: Vec::new(alloc),
             places: vec![in alloc; NONE; all]?,
@@ -163,35 +161,31 @@ impl Leveling {
         member.level == self.level && member.class == class && member.standing != Standing::Done
     }
 
-    /// What is there of a level to begin with: its vertices that are to have rows, and the known ones.
+    /// What is there of the levels to begin with: vertices that are to have rows, at their priorities, and known ones, at the first of their
+    /// components.
     fn asked(&self, alloc: Global, side: &Side, open: &[u32]) -> Result<Levels, AllocError> {
         let mut levels = Levels::new(alloc, side)?;
         let mut is_seen = vec![in alloc; false; side.len() as usize]?;
         for v in open {
-            levels.put(
-                side.state(*v).priority(),
-                Asked {
-                    vertex: *v,
-                    row: ZEROS,
-                },
-            )?;
+            let row = ZEROS;
+            levels.put(side.state(*v).priority(), Asked { vertex: *v, row })?;
             for w in side.graph.successors(*v) {
-                if is_marked(&self.is_open, *w) || is_marked(&is_seen, *w) || side.row(*w) == TOP {
-                    continue;
-                }
-                mark(&mut is_seen, *w, true);
-                let mut row = side.row(*w);
-                for _ in 0..u64::MAX {
-                    if row == ZEROS {
-                        break;
-                    }
-                    let node = side.rows.node(row);
-                    levels.put(node.priority, Asked { vertex: *w, row })?;
-                    row = node.parent;
+                if !is_marked(&self.is_open, *w)
+                    && !is_marked(&is_seen, *w)
+                    && side.row(*w) != TOP
+                {
+                    mark(&mut is_seen, *w, true);
+                    levels.put_next(side, *w, ZEROS)?;
                 }
             }
         }
         Ok(levels)
+    }
+
+    /// Whether a vertex that is to have a row agrees, as far as it is found, with what a known successor has up to a component.
+    fn is_met(&self, side: &Side, known: Asked) -> bool {
+        let predecessors = side.graph.predecessors(known.vertex);
+        predecessors.iter().any(|v| is_marked(&self.is_open, *v) && side.row(*v) == known.row)
     }
 
     /// Begins a level with what is there of it.
@@ -235,6 +229,7 @@ impl Leveling {
             left: 0,
             to: NONE,
             standing,
+            is_due: false,
         };
         self.set(v, member);
         put(&mut self.lasts, class, class);
@@ -253,10 +248,10 @@ impl Leveling {
             for v in graph.predecessors(w) {
                 let state = side.state(*v);
                 if state.row == class
+                    && (!state.is_mine() || state.to == w)
                     && state.priority() <= self.level
                     && self.member(*v).level != self.level
                     && is_marked(&self.is_open, *v)
-                    && side.rows.cut(at(&self.highs, *v), self.level) != class
                 {
                     self.reach(*v, class, Standing::Loose)?;
                 }
@@ -266,7 +261,7 @@ impl Leveling {
     }
 
     /// Finds what has a value without any other vertex of the level, and what is loose.
-    fn find_first(&mut self, side: &Side) -> Result<(), AllocError> {
+    fn find_first(&mut self, side: &mut Side) -> Result<(), AllocError> {
         self.many = 0;
         for place in 0..self.reached.len() {
             let v = at(&self.reached, count(place));
@@ -276,15 +271,12 @@ impl Leveling {
             }
             self.many = self.many.saturating_add(1);
             let state = side.state(v);
-            let (inside, outside) = self.count_successors(side, v, member.class);
-            self.set(
-                v,
-                Member {
-                    left: inside,
-                    ..member
-                },
-            );
-            if state.is_mine() && outside > 0 || inside == 0 {
+            let (left, outside) = self.count_successors(side, v, member.class);
+            self.set(v, Member { left, ..member });
+            if state.is_mine() && outside != NONE {
+                side.set_to(v, outside);
+                self.give(v, state.priority())?;
+            } else if left == 0 {
                 self.give(v, state.priority())?;
             }
             if member.standing == Standing::Loose {
@@ -294,15 +286,16 @@ impl Leveling {
         Ok(())
     }
 
-    /// How many successors of a vertex are of its class: of the level, and not.
+    /// How many successors of a vertex are of the level and its class; and one that is of its class alone, or `NONE`.
     fn count_successors(&self, side: &Side, v: u32, class: u32) -> (u32, u32) {
         let mut inside = 0u32;
-        let mut outside = 0u32;
+        let mut outside = NONE;
         for w in side.graph.successors(v) {
-            if self.member(*w).level == self.level && self.member(*w).class == class {
+            let member = self.member(*w);
+            if member.level == self.level && member.class == class {
                 inside = inside.saturating_add(1);
             } else if self.class(side, *w) == class {
-                outside = outside.saturating_add(1);
+                outside = *w;
             }
         }
         (inside, outside)
@@ -310,6 +303,14 @@ impl Leveling {
 
     /// Lets a vertex have its value now, or a round later.
     fn give(&mut self, v: u32, priority: u32) -> Result<(), AllocError> {
+        let member = self.member(v);
+        self.set(
+            v,
+            Member {
+                is_due: true,
+                ..member
+            },
+        );
         if priority == self.level {
             self.later.push(v)?;
         } else {
@@ -358,7 +359,7 @@ impl Leveling {
             self.stand(v, Standing::Done);
             for u in graph.predecessors(v) {
                 if self.is_left(*u, member.class) {
-                    self.draw(side, *u)?;
+                    self.draw(side, *u, v)?;
                 }
             }
         }
@@ -366,13 +367,15 @@ impl Leveling {
     }
 
     /// Lets a vertex have its value where a successor has one, if that is enough.
-    fn draw(&mut self, side: &Side, v: u32) -> Result<(), AllocError> {
+    fn draw(&mut self, side: &mut Side, v: u32, to: u32) -> Result<(), AllocError> {
         let state = side.state(v);
         let member = self.member(v);
-        if member.standing == Standing::Known {
+        if member.standing == Standing::Known || member.is_due {
             return Ok(());
         }
-        if !state.is_mine() {
+        if state.is_mine() {
+            side.set_to(v, to);
+        } else {
             let left = member.left.saturating_sub(1);
             self.set(v, Member { left, ..member });
             if left > 0 {
@@ -521,7 +524,12 @@ impl Leveling {
         }
         let played = board.play(alloc)?;
         for node in played.lost() {
-            self.due.push(played.vertex(*node))?;
+            let vertex = played.vertex(*node);
+            let state = side.state(vertex);
+            if state.is_mine() {
+                side.set_to(vertex, played.chosen(*node));
+            }
+            self.give(vertex, state.priority())?;
         }
         self.assign(side)?;
         self.has_changed = false;
@@ -596,6 +604,11 @@ pub fn set_by_levels(side: &mut Side<'_>, alloc: Global, open: &[u32]) -> Result
         leveling.begin(side, levels.priority(number), &asked)?;
         if !leveling.run(alloc, side)? {
             return Ok(false);
+        }
+        for it in &asked {
+            if !is_marked(&leveling.is_open, it.vertex) && leveling.is_met(side, *it) {
+                levels.put_next(side, it.vertex, it.row)?;
+            }
         }
     }
     Ok(true)
