@@ -125,6 +125,13 @@ def random(a, b, dice):
         yield dice.below(b + 1), dice.below(2), successors
 
 
+def low_degree(a, b, dice):
+    """a vertices of priorities up to b, each with one or two successors"""
+    for _ in range(a):
+        successors = [dice.below(a) for _ in range(dice.between(1, 2))]
+        yield dice.below(b + 1), dice.below(2), successors
+
+
 def chain(a, b, dice):
     """a cycle of a vertices, b of them of priority 1: a rise runs through all"""
     ones = {k * 7919 % a for k in range(b)}
@@ -311,7 +318,7 @@ def even(a, b, dice):
 
 
 FAMILIES = {it.__name__: it for it in (settled, climb, climbers, jurdzinski, ladder, clique, recladder, elevator, sparse, random,
-                                       chain, grid, wide, hubs, loops, repeats, hard, priorities, steps, spread, two_ladders,
+                                       low_degree, chain, grid, wide, hubs, loops, repeats, hard, priorities, steps, spread, two_ladders,
                                        maze, flat_hub, rising_hub, friedmann, memory, budget, even)}
 
 # those that Even wins without a choice
