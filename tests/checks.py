@@ -468,6 +468,36 @@ def long_rows_as_worked_out(program, count=1000):
     return None
 
 
+def label_of(number, bits):
+    """The label of the letters whose first bits are those of the number."""
+    return "&".join(["t", *(f"{'' if number >> bit & 1 else '!'}{bit}" for bit in range(bits))])
+
+
+def largest_games():
+    """(automaton, how many vertices and edges its game has, or None where it is too large by one), by the definition of the game."""
+    # dead, the initial arrival, those that the letters lead to, and sixteen answers of each state
+    head = 'HOA: v1 States: 65535 Start: 0 AP: 4 "a" "b" "c" "d" Acceptance: 0 t --BODY-- State: 0 '
+    for arrivals, size in ((14, (1_048_576, 1_048_801)), (15, None)):
+        yield head + " ".join(f"[{label_of(it, 4)}] {it + 1}" for it in range(arrivals)) + " --END--", size
+    # 224 arrivals and 31 states with 32,768 input letters each; at state 2 an answer may lead to two places
+    head = "HOA: v1 States: 31 Start: 0 AP: 16 " + " ".join(f'"{it}"' for it in "abcdefghijklmnop") + " controllable-AP: 15 Acceptance: 7 " \
+        "Inf(6) | (Fin(5) & (Inf(4) | (Fin(3) & (Inf(2) | (Fin(1) & Inf(0)))))) --BODY-- State: 1 "
+    edges = " ".join(f"[{label_of(it, 15)}] {it // 8} {f'{{{it % 8 - 1}}}' if it % 8 else ''}" for it in range(1, 224))
+    both = "15&!(" + "&".join(map(str, range(15))) + ")"
+    for last, size in ((both, (1_016_033, 8_388_608)), ("15", None)):
+        yield f"{head}{edges} State: 2 [{last}] 0 --END--", size
+
+
+def games_are_limited(program):
+    """The largest games are printed, and those that are too large by a vertex or an edge refused."""
+    for automaton, size in largest_games():
+        ran = subprocess.run([program, "game"], input=automaton.encode(), capture_output=True, timeout=120)
+        found = (ran.stdout.count(b";") - 1, ran.stdout.count(b",") + ran.stdout.count(b";") - 1) if ran.returncode == 0 else None
+        if found != size or size is None and ran.stderr != b"parsolve: game of the automaton too large\n":
+            return f"{automaton[:60]}..: {found}, and not {size}; {ran.stderr!r}"
+    return None
+
+
 def cases(programs):
     """(name, check) of each check."""
     game = b"parity 2;\n0 1 0 1;\n1 3 0 2;\n2 4 0 0;\n"
@@ -487,6 +517,7 @@ def cases(programs):
                b"i0 r\no0 g\n")
     for program in programs:
         name = os.path.basename(program)
+        yield f"the largest games of automata ({name})", lambda p=program: games_are_limited(p)
         yield f"measure on random games ({name})", lambda p=program: answers_as_defined(p, "measure", naive.measure_text)
         yield f"solve on random games ({name})", lambda p=program: answers_as_defined(p, "solve", naive.solution_text)
         for command in ("measure", "solve"):
