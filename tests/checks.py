@@ -384,7 +384,7 @@ def any_solutions_win(program, games):
     """What `solve --any` prints of games, each given as a text and a solution by which the winners are known, has these winners, and
     `check` calls it sound."""
     for text, known in games:
-        ran = subprocess.run([program, "solve", "--any"], input=text.encode(), capture_output=True, text=True, timeout=60)
+        ran = subprocess.run([program, "solve", "--any"], input=text, capture_output=True, text=True, timeout=60)
         if winners_of(ran.stdout) != winners_of(known):
             return f"solve --any on {text!r}: {ran.stdout!r}, {ran.stderr!r}, the winners are those of {known!r}"
         why = solution_loses(program, text.encode(), "--any")
@@ -397,7 +397,7 @@ def solved_by_rows():
     """The games that `solve` answers in rows/, with their answers there."""
     with open(os.path.join(top, "rows/solve.toml"), "rb") as file:
         found = tomllib.load(file)["row"]
-    return [(table.input_of(row).decode(), table.bytes_of(row, "stdout").decode()) for row in found
+    return [(table.input_of(row).decode().rstrip("\n") + "\n", table.bytes_of(row, "stdout").decode()) for row in found
             if row["args"] == ["solve"] and "blanks" not in row and ("stdout" in row or "stdout_file" in row)]
 
 
