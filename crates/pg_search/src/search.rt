@@ -5,7 +5,7 @@
 
 use crate::exact::{set_exactly, set_with_claims};
 use crate::justifying::finish;
-use pg_rows::{End, NONE, RowClaim, Side, at, choice, count, put};
+use pg_rows::{NONE, RowClaim, Side, choice, count, put};
 use pg_winners::Winners;
 use std::alloc::{AllocError, Global};
 
@@ -17,8 +17,8 @@ pub fn find(
     winners: &Winners,
     vertices: &[u32],
 ) -> Result<Option<Vec<RowClaim>>, AllocError> {
-    let end = side.lift(alloc)?;
-    if end != End::Done {
+    let is_least = side.lift(alloc)?;
+    if !is_least {
         if side.has_no_choice(vertices) {
             side.clear(alloc, vertices)?;
             if let Some(claims) = set_with_claims(side, alloc, vertices)? {
@@ -26,9 +26,9 @@ pub fn find(
             }
             side.clear(alloc, vertices)?;
         }
-        descend(side, alloc, winners, vertices, end)?;
+        descend(side, alloc, winners, vertices)?;
     }
-    finish(side, alloc, vertices, end == End::Done)
+    finish(side, alloc, vertices, is_least)
 }
 
 /// Sets the map of the winner's strategy, and lowers it.
@@ -37,52 +37,24 @@ fn descend(
     alloc: Global,
     winners: &Winners,
     vertices: &[u32],
-    end: End,
 ) -> Result<(), AllocError> {
     let mut places = vec![in alloc; NONE; side.len() as usize]?;
     for (place, v) in vertices.iter().enumerate() {
         put(&mut places, *v, count(place));
+        if side.state(*v).is_mine() {
+            side.set_to(*v, choice(winners, *v));
+        }
     }
-    if end == End::Few {
-        side.settle(alloc, vertices, &mut places)?;
+    if !side.sweep(alloc, vertices, &places)? {
+        set_exactly(side, alloc, vertices)?;
     }
     let mut waiting = Vec::new(alloc);
-    begin_above(side, alloc, winners, vertices, &mut places, &mut waiting)?;
-    side.lower(alloc, &mut waiting)
-}
-
-/// The map of the winner's strategy on what has a place, and what is lowered first.
-fn begin_above(
-    side: &mut Side<'_>,
-    alloc: Global,
-    winners: &Winners,
-    vertices: &[u32],
-    places: &mut [u32],
-    waiting: &mut Vec<u32>,
-) -> Result<(), AllocError> {
-    let mut open = Vec::new(alloc);
-    for v in vertices {
-        if at(places, *v) != NONE {
-            put(places, *v, count(open.len()));
-            open.push(*v)?;
-            if side.state(*v).is_mine() {
-                side.set_to(*v, choice(winners, *v));
-            }
-        }
-    }
-    if !side.sweep(alloc, &open, places)? {
-        set_exactly(side, alloc, &open)?;
-    }
-    for v in &open {
-        put(places, *v, NONE);
-        if side.state(*v).is_mine() && side.refresh(*v)? {
-            side.wake(*v, waiting)?;
-        }
-    }
     for v in vertices {
         if !side.state(*v).is_mine() {
             side.set_to(*v, NONE);
+        } else if side.refresh(*v)? {
+            side.wake(*v, &mut waiting)?;
         }
     }
-    Ok(())
+    side.lower(alloc, &mut waiting)
 }
