@@ -285,18 +285,6 @@ def path(a, b, dice):
         yield min(i, 65535), i % 2, [j for j in (i - 1, i + 1) if 0 <= j < a]
 
 
-def few(a, b, dice):
-    """one or two random edges of each of a vertices, b priorities"""
-    for _ in range(a):
-        yield dice.below(b), dice.below(2), [dice.below(a) for _ in range(dice.between(1, 2))]
-
-
-def ring(a, b, dice):
-    """a vertices, each of which leads to the next one and a random one, b priorities"""
-    for i in range(a):
-        yield dice.below(b), dice.below(2), [(i + 1) % a, dice.below(a)]
-
-
 def memory(a, b, dice):
     """a steps, at each of which Odd's best play for measures first goes round over a small odd priority and then leaves"""
     game = {}
@@ -338,69 +326,122 @@ def even(a, b, dice):
         yield least + 8, 0, [*at(2, i - 1), *at(2, i + 1), *at(3, i - 1), *at(1, i + 1)] or at(3, i)
 
 
-def layered(text, a):
-    """a layers of cells, of which `common` ones stand once. A line has a cell's number, its priority at the first layer, what that
-    grows by with each layer, its owner, 1 where owners alternate, and edges, CELL:LAYER: one of -1, 0 and 1 layers on, 2 the first
-    layer, 3 the last one, 4 all layers below. An edge to where no layer is is left out; who has none leads to itself."""
-    (_, common), *lines = (line.split() for line in text.strip().split("\n"))
-    common = int(common)
-    cells = [(*map(int, line[1:5]), [tuple(map(int, edge.split(":"))) for edge in line[5:]]) for line in lines]
-    lift = -min(0, *(2 * ((base + step * (a - 1)) // 2) for base, step, *_ in cells))
+FIRST, LAST, ALL_BELOW = "first", "last", "all below"
 
-    def place(cell, layer):
-        return cell if cell < common else common + layer * (len(cells) - common) + cell - common
 
-    def layers(cell, target, layer, where):
-        if where == 4:
-            return range(a if cell < common else layer) if target >= common else [0]
-        relative = 0 if cell < common and where < 1 else a - 1 if cell < common else layer + where
-        found = {2: 0, 3: a - 1}.get(where, relative)
-        return [found] if target < common or 0 <= found < a else []
+def laid(common, cells, layers):
+    """Cells that stand in each layer, but for the first ones, which all layers share. A cell has a priority, how much that grows from layer
+    to layer, an owner, whether owners take turns, and successors: a cell and its layer, which is one of these names or counts from here."""
+    size = len(cells) - common
+    least = min(priority + min(0, growth * (layers - 1)) for priority, growth, *_ in cells)
+    raised = -least + least % 2 if least < 0 else 0
 
-    for v in range(place(common, a)):
-        cell, layer = (v, 0) if v < common else (common + (v - common) % (len(cells) - common), (v - common) // (len(cells) - common))
-        base, step, owner, alternates, edges = cells[cell]
-        targets = [place(target, at) for target, where in edges for at in layers(cell, target, layer, where)]
-        grown = abs(step) * a if cell < common else step * layer
-        yield base + grown + lift, owner ^ (alternates and cell >= common and layer % 2), list(dict.fromkeys(targets)) or [v]
+    def places(cell, layer, to, there):
+        if to < common:
+            return [to]
+        if there == ALL_BELOW:
+            there = range(layers if cell < common else layer)
+        elif there in (FIRST, LAST):
+            there = [0 if there == FIRST else layers - 1]
+        else:
+            there = [layer + there if cell >= common else layers - 1 if there > 0 else 0]
+        return [common + at * size + to - common for at in there if 0 <= at < layers]
+
+    def vertex(cell, layer, itself):
+        priority, growth, owner, takes_turns, edges = cells[cell]
+        successors = [at for to, there in edges for at in places(cell, layer, to, there)]
+        grown = abs(growth) * layers if cell < common else growth * layer
+        turned = layer % 2 if takes_turns and cell >= common else 0
+        return priority + grown + raised, owner ^ turned, list(dict.fromkeys(successors)) or [itself]
+
+    for cell in range(common):
+        yield vertex(cell, 0, cell)
+    for layer in range(layers):
+        for cell in range(common, len(cells)):
+            yield vertex(cell, layer, common + layer * size + cell - common)
 
 
 def rounds(a, b, dice):
-    """a layers, found by a search for games on which the winners are found at once, and the least measures are not"""
-    return layered("""common 1
-        0 11 -2 0 0 4:-1 1:0 0:0 5:-1
-        1 6 0 1 0 5:-1 2:-1 5:0 1:0
-        2 5 4 0 0 4:1 5:0 1:1
-        3 8 1 1 1 3:1
-        4 3 1 1 0 2:0 5:0
-        5 6 4 1 0 4:0 5:1 1:1 5:0""", a)
+    """a layers, found by a search for games whose measures fall step by step, and go on for as many steps as there are layers"""
+    cells = [(11, -2, 0, False, [(4, -1), (1, 0), (0, 0), (5, -1)]),
+             (6, 0, 1, False, [(5, -1), (2, -1), (5, 0), (1, 0)]),
+             (5, 4, 0, False, [(4, 1), (5, 0), (1, 1)]),
+             (8, 1, 1, True, [(3, 1)]),
+             (3, 1, 1, False, [(2, 0), (5, 0)]),
+             (6, 4, 1, False, [(4, 0), (5, 1), (1, 1), (5, 0)])]
+    yield from laid(1, cells, a)
 
 
 def looks(a, b, dice):
-    """a layers, found by such a search too"""
-    return layered("""common 1
-        0 6 1 1 0 3:0 1:0 0:-1 5:-1
-        1 0 6 1 0 2:2 2:1 5:2 1:2
-        2 8 0 0 0 3:1 5:0
-        3 2 4 1 0 1:2 3:0 1:1 2:1
-        4 4 2 1 0 2:1
-        5 5 4 1 0 4:0 2:1""", a)
+    """a layers, found by a search for games whose measures are lowered for long"""
+    cells = [(6, 1, 1, False, [(3, 0), (1, 0), (0, 0), (5, 0)]),
+             (0, 6, 1, False, [(2, FIRST), (2, 1), (5, FIRST), (1, FIRST)]),
+             (8, 0, 0, False, [(3, 1), (5, 0)]),
+             (2, 4, 1, False, [(1, FIRST), (3, 0), (1, 1), (2, 1)]),
+             (4, 2, 1, False, [(2, 1)]),
+             (5, 4, 1, False, [(4, 0), (2, 1)])]
+    yield from laid(1, cells, a)
 
 
 def lists(a, b, dice):
-    """a layers, found by such a search too: many vertices have many components above zero"""
-    return layered("""common 0
-        0 2 2 0 0 2:1
-        1 1 2 0 0 3:1 2:1 2:0 0:0
-        2 1 0 1 0 3:0 1:-1
-        3 1 2 0 0 0:0 1:1 2:2 2:0
-        4 2 -2 0 0 2:1""", a)
+    """a layers, found by a search for games whose measures have many components"""
+    cells = [(2, 2, 0, False, [(2, 1)]),
+             (1, 2, 0, False, [(3, 1), (2, 1), (2, 0), (0, 0)]),
+             (1, 0, 1, False, [(3, 0), (1, -1)]),
+             (1, 2, 0, False, [(0, 0), (1, 1), (2, FIRST), (2, 0)]),
+             (2, -2, 0, False, [(2, 1)])]
+    yield from laid(0, cells, a)
+
+
+def gadget(a, b, dice):
+    """up to a layers of up to b cells, all at random"""
+    many = dice.between(2, b)
+    common = dice.below(min(3, many))
+    cells = []
+    for _ in range(many):
+        growth = dice.choice([0, 2, 2, 4, -2, 1, -2])
+        edges = [(dice.below(many), dice.choice([0, 0, 0, 0, 1, 1, -1, -1, FIRST, LAST, ALL_BELOW])) for _ in range(dice.between(1, 3))]
+        cells.append((dice.below(2 * many), growth, dice.below(2), growth % 2 == 1 or dice.one_in(6), edges))
+    yield from laid(common, cells, dice.between(2, a))
+
+
+def ring(a, b, dice):
+    """a vertices of priorities below b, each with the next one and another anywhere as successors"""
+    for i in range(a):
+        yield dice.below(b), dice.below(2), [(i + 1) % a, dice.below(a)]
+
+
+def few(a, b, dice):
+    """a vertices of priorities below b, each with one or two successors anywhere"""
+    for _ in range(a):
+        yield dice.below(b), dice.below(2), [dice.below(a) for _ in range(dice.between(1, 2))]
+
+
+def switches(a, b, dice):
+    """a bits of a counter, after Friedmann's lower bound for strategy improvement; where b is 1 the dual"""
+    count, end = 20 * a, ["x"]
+    game = {"x": (1, 1, end)}
+    game["s"] = count + 2, 0, [("f", j) for j in range(1, a + 1)] + end
+    game["r"] = count + 4, 0, [("g", j) for j in range(1, a + 1)] + end
+    game["c"] = count, 1, ["s", "r"]
+    for i in range(1, 2 * a + 1):
+        game["t", i] = 4 * a + 2 * i + 1, 0, ["s", "r", ("t", i - 1) if i > 1 else "c"]
+        game["a", i] = 4 * a + 2 * i + 2, 1, [("t", i)]
+    for i in range(1, a + 1):
+        game["d", i] = 4 * i + 1, 0, ["s", ("e", i), "r"] + [("a", j) for j in range(1, 2 * i + 1)]
+        game["e", i] = 4 * i + 2, 1, [("d", i), ("h", i)]
+        game["g", i] = 4 * i + 3, 0, [("f", i), ("k", i)]
+        game["k", i] = count + 4 * i + 3, 0, [("g", j) for j in range(i + 1, a + 1)] + end
+        game["f", i] = count + 4 * i + 5, 1, [("e", i)]
+        game["h", i] = count + 4 * i + 6, 1, [("k", i)]
+    for priority, owner, successors in named(game):
+        yield priority + b, owner ^ b, successors
 
 
 FAMILIES = {it.__name__: it for it in (settled, climb, climbers, jurdzinski, ladder, clique, recladder, elevator, sparse, random,
                                        chain, grid, wide, hubs, loops, repeats, hard, priorities, steps, spread, two_ladders,
-                                       maze, flat_hub, rising_hub, friedmann, twice, path, few, ring, memory, budget, even,
-                                       rounds, looks, lists)}
+                                       maze, flat_hub, rising_hub, friedmann, twice, path, memory, budget, even, rounds, looks,
+                                       lists, gadget, ring, few, switches)}
 
 # those that Even wins without a choice
 WON_BY_EVEN = ("priorities", "steps")

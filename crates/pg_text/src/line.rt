@@ -1,11 +1,12 @@
 //! The lines of a game text.
 
-ghost use Rattle.std.specs.Prelude.{◌≡◌, Ok, IfSome, option_copied};
+ghost use Rattle.std.specs.Prelude.{◌≡◌, Ok, IfSome, IsTrue, option_copied};
 ghost use Rattle.pg_arena.specs.Lines.{counted};
 ghost use Rattle.pg_lists.specs.Rising.{rising};
-ghost use Rattle.pg_text.specs.Mirrors.Steps.{Reads, Gives, item};
+ghost use Rattle.pg_text.specs.Mirrors.Steps.{Reads, Gives, item, stop};
 ghost use Rattle.pg_text.specs.Mirrors.GameScan.{line_seen, item_seen, owner_at, ending_at, successors_at, counted_line_at, counted_step};
 ghost use Rattle.pg_text.specs.Mirrors.GameScan.{counted_item_at, body_at};
+ghost use Rattle.pg_text.specs.Mirrors.Parts.{further_at};
 
 use crate::reading::{Refusal, clause, further, natural, semicolon, string, unexpected};
 use crate::tokens::{TokenFault, after_byte, after_first, after_space, short_number};
@@ -48,19 +49,7 @@ fn short_player(bytes: &[u8]) -> Option<(Player, &[u8])>
 }
 
 /// The name behind the successors, where one stands, and the semicolon.
-#[inline(always)]
 fn ending(bytes: &[u8]) -> Result<(Option<&[u8]>, &[u8]), TokenFault>
-    ensures { Reads (λ x. (option_copied x.0, x.1.now)) result (ending_at bytes.now) }
-{
-    match after_first(b';', bytes) {
-        Some(rest) => Ok((None, rest)),
-        None => any_ending(bytes),
-    }
-}
-
-/// The name behind the successors, where one stands, and the semicolon, however they are written.
-#[inline(never)]
-fn any_ending(bytes: &[u8]) -> Result<(Option<&[u8]>, &[u8]), TokenFault>
     ensures { Reads (λ x. (option_copied x.0, x.1.now)) result (ending_at bytes.now) }
 {
     if let Some(rest) = after_byte(b';', bytes) {
@@ -147,6 +136,20 @@ fn any_item<'a>(
     Ok((Some(line), rest))
 }
 
+/// Whether the successors in front of `bytes` end there: no comma stands there, but a token.
+#[inline(always)]
+fn is_end(bytes: &[u8]) -> bool
+    ensures { IsTrue result → further_at bytes.now ≡ Ok (stop tt, bytes.now) }
+{
+    match after_first(b';', bytes) {
+        Some(_) => true,
+        None => match further(bytes) {
+            Ok(None) => true,
+            _ => false,
+        },
+    }
+}
+
 /// One or more successors with commas between, of short numbers and without white space, in the place of what the list
 /// held. Repeats may be left out, and the order may change.
 #[tactic(auto, unfolding(crate::specs::Mirrors::GameScan::successors_at, crate::specs::Mirrors::Parts::numbers_at))]
@@ -165,10 +168,10 @@ fn short_successors<'a>(list: &mut Vec<u32>, bytes: &'a [u8]) -> Option<&'a [u8]
     let mut rest = &bytes[taken..];
     'successors: loop {
         let Some(after) = after_first(b',', rest) else {
-            return match further(rest) {
-                Ok(None) => Some(rest),
-                _ => None,
-            };
+            if is_end(rest) {
+                return Some(rest);
+            }
+            return None;
         };
         let (number, taken) = short_number(after);
         if taken == 0 {
@@ -200,16 +203,19 @@ fn short_line<'a>(buffer: &mut Vec<u32>, bytes: &'a [u8]) -> Option<(TextLine<'a
     }
     let (owner, rest) = short_player(&rest[taken..])?;
     let rest = short_successors(buffer, rest)?;
-    let Ok((name, rest)) = ending(rest) else {
-        return None;
-    };
     let line = TextLine {
         identifier,
         priority,
         owner,
-        name,
+        name: None,
     };
-    Some((line, rest))
+    if let Some(rest) = after_first(b';', rest) {
+        return Some((line, rest));
+    }
+    let Ok((name, rest)) = ending(rest) else {
+        return None;
+    };
+    Some((TextLine { name, ..line }, rest))
 }
 
 /// A line, whose successors the buffer then holds, or nothing at the end of the text.

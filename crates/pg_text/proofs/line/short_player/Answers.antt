@@ -1,4 +1,4 @@
-use Rattle.pg_text.proofs.Common.{◌≡◌, ℕ, List, Ok, drop, subst, take_rest, natural_at}
+use Rattle.pg_text.proofs.Common.{◌≡◌, ℕ, Ok, drop, subst, take_rest, natural_at}
 use Rattle.pg_text.proofs.FirstBytes.{owner_of_number}
 use Rattle.pg_text.proofs.line.short_player.Goals as goal
 

@@ -1,4 +1,4 @@
-use Rattle.pg_text.proofs.Common.{◌≡◌, ℕ, List, Option, Ok, Bor, drop, ◌∙◌, ap, arith, take_rest, after_space, ◌>>=◌, Read, item, further_at, further_seen, numbers_at, successors_at}
+use Rattle.pg_text.proofs.Common.{◌≡◌, ℕ, List, Ok, drop, ◌∙◌, ap, arith, take_rest, after_space, ◌>>=◌, Read, item, further_at, numbers_at, successors_at}
 use Rattle.pg_text.proofs.Steps.{ok}
 use Rattle.pg_text.proofs.FirstBytes.{further_of_comma}
 use Rattle.pg_text.proofs.Counting.{one_gathered, all_gathered}
@@ -16,8 +16,8 @@ successors-preserved c =
     (one_gathered c.successors.list.items c.make_room.new.list.items rest number.0 (drop number.1 after) (numbers_at c.args.bytes.now)
     c.make_room.ensures further c.successors.invariant)
 
-pub returns-in-Ok-None : goal.returns-in-Ok-None
+pub returns-then-is_end : goal.returns-then-is_end
 unfolding successors_at
-returns-in-Ok-None c =
+returns-then-is_end c =
     all_gathered c.successors.list.items c.successors.rest.now tt c.successors.rest.now (numbers_at c.args.bytes.now)
-    (c.in-Ok-None.ensures ∙ ap (λ (o : Option (ℕ × Bor (List ℕ))). Ok (further_seen c.successors.rest.now o)) c.in-Ok-None.field-0-is) c.successors.invariant
+    (c.is_end.ensures c.if-is_end.true) c.successors.invariant
