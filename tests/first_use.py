@@ -95,6 +95,7 @@ class Copy:
         (self.kit / "rt").chmod(0o755)
         for name in CRATES:
             self.write(self.source(name), name)
+        self.write(self.top / "crates/pg_words/src/words.rt", 'const VERSION: &str = "1.2.3";\n')
         self.write(self.top / "crates.txt", "".join(f"{name}: {uses}\n" for name, uses in CRATES.items()))
         (self.top / "tools").mkdir()
         for name in ("parsolve", "build", "test", "tools/sources", "tools/stale"):
@@ -209,7 +210,7 @@ def releasing(copy):
     program = (copy.top / "release/parsolve").read_bytes()
     about = dict(line.split(" ", 1) for line in (copy.top / "release/ABOUT").read_text().splitlines())
     return (status, asked) == (0, []) and program == (copy.top / "crates/parsolve/out/parsolve").read_bytes() \
-        and about["kit"] == "the test's kit" and about["sha256"] == hashlib.sha256(program).hexdigest() and {*about} == {
+        and about["program"] == "parsolve 1.2.3" and about["kit"] == "the test's kit" and about["sha256"] == hashlib.sha256(program).hexdigest() and {*about} == {
             "program", "kit", "sources", "sha256"}
 
 
