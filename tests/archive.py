@@ -1,6 +1,6 @@
 #!/usr/bin/env python3
 """Checks the archive of `./build --archive`: two of the same sources are the same, byte for byte, and what is unpacked into an empty home
-works there, each part of it, with no toolchain on the path.
+works there, each part of it.
 
     tests/archive.py    prints what it finds; the status is 1 if something is wrong. What isn't built is built first
 """
