@@ -38,7 +38,7 @@ HOLE = """use Rattle.{crate}.proofs.{path}.Statement.{{statement}}
 pub {name}_spec : {{M : Type 1}} → statement M
 {name}_spec = ?
 """
-REFUSED, WAITS, SILENT = "refused", "waits", "the prover says nothing of"
+REFUSED, WAITS, SILENT = "refused", "only functions that it calls are refused", "the prover says nothing of"
 
 
 class BadEdit(Exception):
@@ -236,12 +236,13 @@ def run(names=()):
     """Tries the edits of these crates, of all where none is named; answers how many passed and failed."""
     rtlib, start, spent = scripts.script("build").toolchain(is_still=True), time.monotonic(), processor_seconds()
     rtlib.guarded()  # what ends the prover with this process; it can't start once there are threads
-    crates = [it for it in rtlib.crates_below(str(TOP)) if (EDITS / it.name).is_dir() and (not names or it.name in names)]
+    wanted = set(names or os.listdir(EDITS))
+    crates = [it for it in rtlib.crates_below(str(TOP)) if it.name in wanted]
     lacking = {below.name for it in crates for below in it.below() if not below.is_built()}
     if lacking:
         print(f"edits: not built: {', '.join(sorted(lacking))}; run ./build")
         return 0, 1
-    faults, copies = [], []
+    faults, copies = [f"there is no crate {it}" for it in sorted(wanted - {it.name for it in crates})], []
     for crate in crates:
         copies += [(crate, it) for it in share_out(read(crate, faults))]
     copies.sort(key=lambda it: len(it[1]), reverse=True)
