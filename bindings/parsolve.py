@@ -20,7 +20,7 @@ import os
 import pathlib
 
 NO_CHOICE = 0xFFFFFFFF
-COMMANDS = ("measure", "solve", "check", "replay", "game", "synth")
+COMMANDS = ("measure", "solve", "check", "replay", "game", "synth", "solve --any")
 OK, OUT_OF_MEMORY, LEAVES, CYCLE, FAULT, TOO_SHORT = 0, 1, 14, 15, 17, 18
 TEXTS = {
     2: "the arrays' lengths don't fit together",
