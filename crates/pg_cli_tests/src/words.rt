@@ -82,6 +82,21 @@ fn words_say_how_many_workers_solve(rt: HostRuntime) {
 }
 
 #[test]
+fn words_ask_for_any_strategy(rt: HostRuntime) {
+    let alloc = rt.alloc();
+    let any = Command::SolveAny { workers: 2 };
+    assert!(rt; names(alloc, &["parsolve", "solve", "--any"], any));
+    assert!(rt; is_fault(alloc, &["parsolve", "solve", "--any", "--workers", "2"]));
+    assert!(rt;
+        is_fault(
+            alloc,
+            &["parsolve", "solve", "--apart", "parsolve", "--any"]
+        )
+    );
+    assert!(rt; is_fault(alloc, &["parsolve", "measure", "--any"]));
+}
+
+#[test]
 fn other_numbers_of_workers_are_faults(rt: HostRuntime) {
     for word in ["17", "256", "-1", "two", "1.5", ""] {
         assert!(rt;
