@@ -11,7 +11,9 @@
  * - no other thread writes what is given, or reads what is written, while the call runs;
  * - malloc, realloc and free are of one allocator, as those of the C library are.
  * What is only written needn't be set before. Calls share nothing and keep nothing, so any number of threads may be in them at once.
- * They aren't for signal handlers, nor for the forked child of a process with threads. */
+ * They aren't for signal handlers, nor for the forked child of a process with threads. A call takes up to 24 kB of stack, however large
+ * the game is, and nothing but the end of the process breaks it off: where signals are handled between calls, as Python does, they wait
+ * until it returns. */
 #ifndef PARSOLVE_H
 #define PARSOLVE_H
 #include <stddef.h>
@@ -146,7 +148,9 @@ enum {
     PARSOLVE_COMMAND_SYNTH = 5
 };
 
-/* What `parsolve COMMAND` prints for an input. *written is the length of the text.
+/* What `parsolve COMMAND` prints for an input. *written is the length of the text. Bytes of `output` to which nothing is written aren't
+ * touched: so a large anonymous mapping does for a text of any length, and takes the memory of the text alone. Where there is too little
+ * room, the command has run for its length only, and runs again in the next call.
  * PARSOLVE_OK: it stands at the front of `output`, whose rest is as it was.
  * PARSOLVE_FAULT: the command prints nothing, and the line that it tells on the error stream stands there.
  * PARSOLVE_TOO_SHORT: there is no room for the text; `output` is as it was.

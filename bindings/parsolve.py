@@ -12,7 +12,8 @@ that it writes.
 
 Numbers that lie in memory as C wants them, 32 bits each (8 the owners and winners), one behind the other, are taken without a copy: an
 `array.array`, an array of NumPy of `uint32` or `uint8`. No other thread may change them while a call runs. All others are copied, and
-what is no number, or is too large or negative, is refused by a `TypeError` or a `ValueError`.
+what is no number, or is too large or negative, is refused by a `TypeError` or a `ValueError`. A call isn't interrupted: Ctrl-C waits
+until it has returned.
 """
 from __future__ import annotations
 

@@ -38,7 +38,7 @@ HOLE = """use Rattle.{crate}.proofs.{path}.Statement.{{statement}}
 pub {name}_spec : {{M : Type 1}} → statement M
 {name}_spec = ?
 """
-REFUSED, WAITS, SILENT = "refused", "waits", "the prover says nothing of"
+REFUSED, WAITS, SILENT = "refused", "only functions that it calls are refused", "the prover says nothing of"
 
 
 class BadEdit(Exception):
@@ -217,6 +217,7 @@ def tried(crate, edits, rtlib):
         half = len(edits) // 2
         return {**tried(crate, edits[:half], rtlib), **tried(crate, edits[half:], rtlib)}
     waiting = [edit for edit, what in found.items() if what == WAITS]
+    print(f"edits: {crate.name}: {sum(it == REFUSED for it in found.values())} of {len(edits)} in a copy are refused", flush=True)
     return {**found, **tried(crate, waiting, rtlib)} if 0 < len(waiting) < len(edits) else found
 
 
@@ -233,14 +234,15 @@ def read(crate, faults):
 
 def run(names=()):
     """Tries the edits of these crates, of all where none is named; answers how many passed and failed."""
-    rtlib, start, spent = scripts.script("build").toolchain(), time.monotonic(), processor_seconds()
+    rtlib, start, spent = scripts.script("build").toolchain(is_still=True), time.monotonic(), processor_seconds()
     rtlib.guarded()  # what ends the prover with this process; it can't start once there are threads
-    crates = [it for it in rtlib.crates_below(str(TOP)) if (EDITS / it.name).is_dir() and (not names or it.name in names)]
+    wanted = set(names or os.listdir(EDITS))
+    crates = [it for it in rtlib.crates_below(str(TOP)) if it.name in wanted]
     lacking = {below.name for it in crates for below in it.below() if not below.is_built()}
     if lacking:
         print(f"edits: not built: {', '.join(sorted(lacking))}; run ./build")
         return 0, 1
-    faults, copies = [], []
+    faults, copies = [f"there is no crate {it}" for it in sorted(wanted - {it.name for it in crates})], []
     for crate in crates:
         copies += [(crate, it) for it in share_out(read(crate, faults))]
     copies.sort(key=lambda it: len(it[1]), reverse=True)

@@ -97,8 +97,8 @@ def header_checks():
 def module_checks(codes):
     """The same of the numbers of the Python module."""
     module = MODULE.read_text()
-    commands = re.findall(r'"(\w+)"', re.search(r"^COMMANDS = \((.*?)\)", module, re.M)[1])
-    yield compared("COMMANDS", {f"PARSOLVE_COMMAND_{it.upper()}": str(at) for at, it in enumerate(commands)},
+    commands = re.findall(r'"([\w -]+)"', re.search(r"^COMMANDS = \((.*?)\)", module, re.M)[1])
+    yield compared("COMMANDS", {f"PARSOLVE_COMMAND_{it.upper().replace(' --', '_')}": str(at) for at, it in enumerate(commands)},
                    {name: number for name, number in codes.items() if name.startswith("PARSOLVE_COMMAND_")})
     names, numbers = re.search(r"^(OK, .*) = (.*)$", module, re.M).groups()
     yield compared("codes of the module", dict(zip(names.split(", "), numbers.split(", "))),
@@ -246,7 +246,7 @@ def verdict_text(game, verdict):
 
 def says(program, command, text):
     """(status, what a command prints, the error stream)."""
-    done = subprocess.run([program, command], input=text, capture_output=True, timeout=600)
+    done = subprocess.run([program, *command.split()], input=text, capture_output=True, timeout=600)
     return done.returncode, done.stdout, done.stderr
 
 
@@ -283,8 +283,8 @@ def game_why(parsolve, program, dice, game):
     priorities, owners, successors = arrays_of(game)
     made, text = parsolve.Game(priorities, owners, successors), naive.game_text(game)
     winners, strategy = made.solve()
-    if says(program, "solve", text.encode()) != (0, solution_text(winners, strategy).encode(), b""):
-        return f"solve on {text!r}: {winners} {strategy}"
+    if says(program, "solve --any", text.encode()) != (0, solution_text(winners, strategy).encode(), b""):
+        return f"solve --any on {text!r}: {winners} {strategy}"
     winners, strategy = spoiled(dice, game, winners, strategy)
     verdict = verdict_text(game, made.check(winners, strategy))
     both = f"{text}--\n{solution_text(winners, strategy)}"
@@ -295,10 +295,10 @@ def texts():
     """(command, input) for each command, answers and faults."""
     examples = {path.name: path.read_bytes() for path in (TOP / "examples").iterdir() if path.suffix in (".pg", ".hoa")}
     for name, text in sorted(examples.items()):
-        for command in ("measure", "solve") if name.endswith(".pg") else ("game", "synth"):
+        for command in ("measure", "solve", "solve --any") if name.endswith(".pg") else ("game", "synth"):
             yield command, text
     game = b"0 2 1 0,1;\n1 1 0 0,1;\n"
-    for command in ("measure", "solve", "check", "replay", "game", "synth"):
+    for command in ("measure", "solve", "solve --any", "check", "replay", "game", "synth"):
         yield from ((command, text) for text in (b"", b"\n", b"0 0 0 9;\n", game, game + b"--\n", game + b"--\n0 0;\n1 0 1;\n"))
     yield "replay", game + b"--\nworkers 1;\ncentral 1;\nlift 1 1;\ndeliver 1 0;\n"
 

@@ -5,7 +5,8 @@ import re
 import subprocess
 import sys
 
-PROGRAM = pathlib.Path(__file__).resolve().parent.parent / "parsolve"
+TOP = pathlib.Path(__file__).resolve().parent.parent
+PROGRAM = next((it for it in (TOP / "parsolve", TOP / "bin/parsolve") if it.exists()), pathlib.Path("parsolve"))  # checkout, archive
 LONGEST_INPUT, GREATEST_NUMBER = 268435456, 4294967295
 AUTOMATON_BLANKS, COMMENT_MARK = re.compile(rb"[\t\n\r ]*"), re.compile(rb"/\*|\*/")
 

@@ -20,8 +20,11 @@ const SEPARATOR: &[u8] = b"\n--\n";
 /// How many files a command takes: a game or an automaton; or a game and what belongs to it.
 fn count_of(command: Command) -> usize {
     match command {
-        Command::Measure { .. } | Command::Solve { .. } | Command::Game | Command::Synth { .. } =>
-            1,
+        Command::Measure { .. }
+        | Command::Solve { .. }
+        | Command::SolveAny { .. }
+        | Command::Game
+        | Command::Synth { .. } => 1,
         Command::Check | Command::Replay => 2,
     }
 }
@@ -65,10 +68,7 @@ pub(crate) struct Parted<'a> {
 }
 
 /// Takes the files off the words.
-pub(crate) fn part_words<'a>(
-    alloc: Global,
-    words: &'a [String],
-) -> Result<Parted<'a>, AllocError> {
+pub(crate) fn part_words<'a>(alloc: Global, words: &'a [String]) -> Result<Parted<'a>, AllocError> {
     let places = input_of(alloc, words)?;
     let mut files = Vec::new(alloc);
     let mut others = Vec::new(alloc);
@@ -91,17 +91,20 @@ fn open_file<R: Files>(rt: &R, name: &str) -> io::Result<R::File> {
     Ok(file)
 }
 
-/// The text of a file, or of standard input.
+/// What comes on standard input. It isn't taken into its caller, nor is `read_named`, so that the stack has the one buffer of a
+/// `read_input` at a time.
 #[inline(never)]
-fn read_file<'a, R: Files + Input + AllocGlobal>(
-    rt: &R,
-    name: &'a str,
-) -> Result<Vec<u8>, Fault<'a>>
+fn read_standard<R: Input + AllocGlobal>(rt: &R) -> Result<Vec<u8>, CliFault>
     ensures { IfOk result (λ text. length text.items ≤ MOST_BYTES) }
 {
-    if name == STANDARD_INPUT {
-        return Ok(read_input(rt.alloc(), &mut rt.reader())?);
-    }
+    read_input(rt.alloc(), &mut rt.reader())
+}
+
+/// The text of a file.
+#[inline(never)]
+fn read_named<'a, R: Files + AllocGlobal>(rt: &R, name: &'a str) -> Result<Vec<u8>, Fault<'a>>
+    ensures { IfOk result (λ text. length text.items ≤ MOST_BYTES) }
+{
     match open_file(rt, name) {
         Ok(mut file) => match read_input(rt.alloc(), &mut file) {
             Err(CliFault::Read) => Err(Fault::Read(name)),
@@ -109,6 +112,20 @@ fn read_file<'a, R: Files + Input + AllocGlobal>(
         },
         Err(why) if why.kind() == io::ErrorKind::OutOfMemory => Err(Fault::from(AllocError)),
         Err(why) => Err(Fault::Open(name, why)),
+    }
+}
+
+/// The text of a file, or of standard input.
+fn read_file<'a, R: Files + Input + AllocGlobal>(
+    rt: &R,
+    name: &'a str,
+) -> Result<Vec<u8>, Fault<'a>>
+    ensures { IfOk result (λ text. length text.items ≤ MOST_BYTES) }
+{
+    if name == STANDARD_INPUT {
+        Ok(read_standard(rt)?)
+    } else {
+        read_named(rt, name)
     }
 }
 

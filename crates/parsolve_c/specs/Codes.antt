@@ -44,6 +44,11 @@ vertex_of (BadWinner v) = Some v
 vertex_of (BadChoice v) = Some v
 vertex_of _ = None
 
+-- what is told of a fault, its code and its vertex, is told of no other, whichever number stood where the vertex is told
+abbrev pub TellsFaultsApart : Type 0
+TellsFaultsApart = (f g : ArraysFault) (old : ℕ) → code_of f ≡ code_of g
+    → unwrap_or (vertex_of f) old ≡ unwrap_or (vertex_of g) old → f ≡ g
+
 -- The code is that of a fault that is there. The number is the vertex that the fault names; where it names none, it is as it was.
 pub record IsTold (Refuses : ArraysFault → Type 0) (code old new : ℕ) : Type 0 where
   pub fault : ArraysFault

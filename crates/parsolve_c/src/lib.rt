@@ -6,6 +6,7 @@ mod answering;
 mod checking;
 mod code;
 mod copying;
+pub mod laws;
 mod solving;
 
 pub use answering::parsolve_answer;

@@ -30,8 +30,8 @@ unfoldable pub use Rattle.std.specs.List.{IsDistinct}
 pub use Rattle.std.specs.List.Sorted.{IsBinarySearchResult, IsStrictlyIncreasing}
 pub use Rattle.std.specs.Ordering.{nat_cmp}
 pub use Rattle.std.specs.Prelude.{All, Bool, Contains, Err, IfErr, IfOk, IfSome, IsOkAnd, List, None, Ok, OnOk, Option, Result, Some, []}
-pub use Rattle.std.specs.Prelude.{codes, cond, decimal, drop, eqb, false, get_or, is_some, length, ltb, map, nat_le, option_map, replicate}
-pub use Rattle.std.specs.Prelude.{slice_set, suc, take, true, zero, ℕ, ◌&&◌, ◌*◌, ◌++◌, ◌+◌, ◌-◌, ◌<◌, ◌^◌, ◌||◌, ◌∷◌, ◌≡◌, ◌≢◌, ◌≤◌, ◌⊎◌}
+pub use Rattle.std.specs.Prelude.{codes, cond, decimal, drop, eqb, false, get_or, is_some, length, ltb, map, nat_le, option_copied, option_map, replicate}
+pub use Rattle.std.specs.Prelude.{slice_set, suc, take, true, zero, ℕ, ◌%◌, ◌&&◌, ◌*◌, ◌++◌, ◌+◌, ◌-◌, ◌<◌, ◌^◌, ◌||◌, ◌∷◌, ◌≡◌, ◌≢◌, ◌≤◌, ◌⊎◌}
 pub use Rattle.std.specs.Result.{result_ok}
 pub use Rattle.std.specs.Str.{bytes_eq}
 pub use Rattle.pg_arena.proofs.Adding.{Passes}

@@ -1,7 +1,7 @@
 -- Digits, read one after another.
 use Rattle.pg_text.proofs.Common.{◌≡◌, ℕ, ◌+◌, ◌-◌, ◌*◌, ◌^◌, ◌≤◌, ◌<◌, true, false, List, [], ◌∷◌, take, drop, Some, None, length, get_or}
 use Rattle.pg_text.proofs.Common.{arith, refl, sym, subst, nat_tests, prefix_len, take_while, take_rest, number, is_digit, value_of}
-use Rattle.pg_text.proofs.Common.{number_at, one_more, none_more, value_from, value_grows, false, drop_more, add-one, pow-le-pow_right, pow-succ'}
+use Rattle.pg_text.proofs.Common.{number_at, one_more, none_more, value_from, value_grows, ◌%◌, inl, inr, cases_lt, false, drop_more, add-one, pow-le-pow_right, pow-succ'}
 
 -- of the number at the front of the bytes digits of this value are read, and this is the rest
 pub record IsReading (bytes : List ℕ) (value : ℕ) (rest : List ℕ) : Type 0 where
@@ -59,3 +59,13 @@ few_are_small value i small few = let bound : 10 ^ i ≤ 10 ^ 7 = pow-le-pow_rig
 -- and a digit more
 pub one_more_is_small : (value i n : ℕ) → value < 10 ^ i → n < 10 → 10 * value + n < 10 ^ (i + 1)
 one_more_is_small value i n small digit = let tens : 10 ^ (i + 1) ≡ 10 * 10 ^ i = rw add-one (pow-succ' 10 i) in omega arith
+
+-- what a byte is above '0', with wrapping
+pub digit_is : (b n : ℕ) → b < 2 ^ 8 → n ≡ (b + (2 ^ 8 - 48)) % 2 ^ 8 → n < 10 → (is_digit b ≡ true) × (n ≡ b - 48)
+digit_is b n byte is small =
+    let low : 48 ≤ b = omega arith in
+    let high : b ≤ 57 = omega arith in
+    (grind (arith, nat_tests), omega arith)
+
+pub no_digit_is : (b n : ℕ) → b < 2 ^ 8 → n ≡ (b + (2 ^ 8 - 48)) % 2 ^ 8 → 10 ≤ n → is_digit b ≡ false
+no_digit_is b n byte is large = elim (cases_lt b 48) [ inl low ↦ grind (arith, nat_tests) | inr low ↦ let high : 57 < b = omega arith in grind (arith, nat_tests) ]

@@ -11,8 +11,7 @@ ghost use Rattle.pg_text.specs.Mirrors.Steps.{Reads, Gives, unexpected};
 ghost use Rattle.pg_text.specs.Mirrors.Parts.{misplaced, natural_at, name_at, string_at, semicolon_at, end_at, further_seen, further_at, numbers_at, clause_at};
 
 use crate::tokens::{
-    Token, TokenFault, after_byte, after_first, after_space, digits, is_digit, left_at, scan,
-    short_number,
+    Token, TokenFault, after_byte, after_space, digits, is_digit, left_at, scan, short_number,
 };
 use std::alloc::{AllocError, AllocFailed};
 
@@ -86,8 +85,8 @@ pub fn natural(bytes: &[u8]) -> Result<(u32, &[u8]), TokenFault>
     ensures { Reads (λ x. (x.0, x.1.now)) result (natural_at bytes.now) }
 {
     match short_number(bytes) {
-        Some(read) => Ok(read),
-        None => any_number(bytes),
+        (_, 0) => any_number(bytes),
+        (number, taken) => Ok((number, &bytes[taken..])),
     }
 }
 
@@ -164,26 +163,8 @@ pub fn clause<'a>(name: &[u8], bytes: &'a [u8]) -> Result<(Option<u32>, &'a [u8]
 }
 
 /// The number behind the comma in front, if one stands there.
-#[inline(always)]
-pub(crate) fn further(bytes: &[u8]) -> Result<Option<(u32, &[u8])>, TokenFault>
-    ensures { Reads (further_seen bytes.now) result (further_at bytes.now) }
-{
-    if let Some(rest) = after_first(b',', bytes) {
-        return match short_number(rest) {
-            Some(read) => Ok(Some(read)),
-            None => any_further(bytes),
-        };
-    }
-    match after_first(b';', bytes) {
-        Some(_) => Ok(None),
-        None => any_further(bytes),
-    }
-}
-
-/// The number behind the comma in front, if one stands there, however they are written.
 #[tactic(auto, unfolding(crate::specs::Mirrors::Parts::further_at))]
-#[inline(never)]
-fn any_further(bytes: &[u8]) -> Result<Option<(u32, &[u8])>, TokenFault>
+pub(crate) fn further(bytes: &[u8]) -> Result<Option<(u32, &[u8])>, TokenFault>
     ensures { Reads (further_seen bytes.now) result (further_at bytes.now) }
 {
     if let Some(rest) = after_byte(b',', bytes) {

@@ -3,7 +3,7 @@
 //! A token is a longest one. White space, the bytes 9 to 13 and 32, may stand between any two tokens, before the
 //! first and behind the last, and must stand only between two numbers or two words.
 
-ghost use Rattle.std.specs.Prelude.{◌≡◌, ◌<◌, ◌+◌, ◌-◌, ◌==◌, ◌∷◌, List, ℕ, Ok, true, false, length, option_map, IfOk, IfErr, IfSome, IsNone, IsOkAnd};
+ghost use Rattle.std.specs.Prelude.{◌≡◌, ◌<◌, ◌≤◌, ◌+◌, ◌-◌, ◌==◌, ◌∷◌, List, ℕ, Ok, true, false, length, drop, option_map, IfOk, IfErr, IfSome, IsNone, IsOkAnd};
 ghost use Rattle.std.specs.Result.{result_ok};
 ghost use Rattle.std.specs.List.{prefix_len};
 ghost use Rattle.pg_text.specs.Lexemes.{Lexeme, lexeme, number, is_space, is_letter, is_plain, Begins, after_space, fault_at, token_fault};
@@ -77,17 +77,13 @@ fn plain(bytes: &[u8]) -> usize
     bytes.iter().take_while(|byte| **byte != b'"').count()
 }
 
-/// The value of a digit.
+/// What the byte is above `0`: below ten exactly if it is a digit.
 #[inline(always)]
-fn digit(byte: u8) -> Option<u32>
-    ensures some { IfSome result (λ n. (is_digit byte ≡ true) × (n ≡ byte - 48) × (n < 10)) }
-    ensures none { IsNone result → is_digit byte ≡ false }
+fn digit(byte: u8) -> u32
+    ensures digit { result < 10 → (is_digit byte ≡ true) × (result ≡ byte - 48) }
+    ensures other { 10 ≤ result → is_digit byte ≡ false }
 {
-    if is_digit(byte) {
-        Some(u32::from(byte.saturating_sub(b'0')))
-    } else {
-        None
-    }
+    u32::from(byte.wrapping_sub(b'0'))
 }
 
 /// The number whose digits stand in front.
@@ -181,35 +177,43 @@ pub(crate) fn after_space(bytes: &[u8]) -> &[u8]
     }
 }
 
-/// Behind the first byte, where that is white space.
+/// One byte of white space, where some stands in front.
 #[inline(always)]
-fn behind_blank(bytes: &[u8]) -> &[u8]
-    ensures { after_space result.now ≡ after_space bytes.now }
+fn blank(bytes: &[u8]) -> usize
+    ensures within { result ≤ length bytes.now }
+    ensures same { after_space (drop result bytes.now) ≡ after_space bytes.now }
 {
     match bytes {
-        [first, rest @ ..] if is_space(*first) => rest,
-        _ => bytes,
+        [first, ..] if is_space(*first) => 1,
+        _ => 0,
     }
 }
 
-/// The number in front, where it has at most seven digits, of which at most one byte of white space stands in front, and
-/// the text goes on for long enough behind them. So printed texts have their numbers.
+/// The number in front and how many bytes it takes, where it has at most seven digits, at most one byte of white space
+/// stands in front of it, and at least eight bytes behind that: so most numbers stand that programs print. Elsewhere it
+/// takes no byte.
 #[inline(always)]
-pub(crate) fn short_number(bytes: &[u8]) -> Option<(u32, &[u8])>
-    ensures { IfSome result (λ x. natural_at bytes.now ≡ Ok (x.0, x.1.now)) }
+pub(crate) fn short_number(bytes: &[u8]) -> (u32, usize)
+    ensures within { result.1 ≤ length bytes.now }
+    ensures number { 0 < result.1 → natural_at bytes.now ≡ Ok (result.0, drop result.1 bytes.now) }
 {
-    let front = behind_blank(bytes);
+    let blank = blank(bytes);
+    let front = &bytes[blank..];
     if front.len() < 8 {
-        return None;
+        return (0, 0);
     }
-    let mut value = digit(front[0])?;
+    let mut value = digit(front[0]);
+    if value > 9 {
+        return (0, 0);
+    }
     for i in 1..8 {
-        match digit(front[i]) {
-            Some(next) => value = 10 * value + next,
-            None => return Some((value, &front[i..])),
+        let next = digit(front[i]);
+        if next > 9 {
+            return (value, blank + i);
         }
+        value = 10 * value + next;
     }
-    None
+    (0, 0)
 }
 
 /// What stands after this byte, if it is the first one.

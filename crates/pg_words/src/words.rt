@@ -57,15 +57,17 @@ Exit status:
 
 Example: parsolve solve examples/two.pg";
 
-/// What the help says of a command: a line in the list of commands, and the text behind the command's own usage.
+/// What the help says of a command: a line in the list of commands, how it is called, and the text behind that.
 #[derive(Clone, Copy)]
 struct Help {
     about: &'static str,
+    usage: &'static str,
     more: &'static str,
 }
 
 const MEASURE: Help = Help {
     about: "Prints the least progress measure of a game",
+    usage: "parsolve measure [OPTIONS] [GAME]",
     more: "\
 Input: a parity game in the format of PGSolver, as `parity 1; 0 1 0 0,1; 1 2 1 0;`, by `parsolve measure GAME` from a
 file, and else from standard input
@@ -79,6 +81,7 @@ prints `0 1;` and `1 0;`, each on a line.",
 
 const SOLVE: Help = Help {
     about: "Prints the winner of each vertex of a game, and a winning strategy",
+    usage: "parsolve solve [OPTIONS] [GAME]",
     more: "\
 Input: a parity game in the format of PGSolver, as `parity 1; 0 1 0 0,1; 1 2 1 0;`, by `parsolve solve GAME` from a
 file, and else from standard input
@@ -92,6 +95,7 @@ prints `paritysol 1;`, `0 0 1;` and `1 0;`, each on a line.",
 
 const CHECK: Help = Help {
     about: "Prints whether a solution of a game is sound",
+    usage: "parsolve check [GAME SOLUTION]",
     more: "\
 Input: a parity game and a solution of it, both in the format of PGSolver, by `parsolve check GAME SOLUTION` from two files,
 and else from standard input, with a line `--` between
@@ -105,6 +109,7 @@ prints `WINS`.",
 
 const REPLAY: Help = Help {
     about: "Prints what workers make of a game under a script of lifts, deliveries and restarts",
+    usage: "parsolve replay [GAME SCRIPT]",
     more: "\
 Input: a parity game in the format of PGSolver and a script, by `parsolve replay GAME SCRIPT` from two files, and else from
 standard input, with a line `--` between. The script:
@@ -123,6 +128,7 @@ prints `update 0 0 1;`, `replica 0 taken 0;`, `0 1;`, `1 0;`, `replica 1 taken 0
 
 const GAME: Help = Help {
     about: "Prints the parity game of an automaton",
+    usage: "parsolve game [AUTOMATON]",
     more: "\
 Input: an automaton in HOA v1 with the header `controllable-AP`: deterministic, with a parity condition, labels on edges;
 by `parsolve game AUTOMATON` from a file, and else from standard input
@@ -136,6 +142,7 @@ Example: parsolve game examples/request-grant.hoa | parsolve solve",
 
 const SYNTH: Help = Help {
     about: "Prints a controller for an automaton, as a circuit",
+    usage: "parsolve synth [OPTIONS] [AUTOMATON]",
     more: "\
 Input: an automaton in HOA v1 with the header `controllable-AP`: deterministic, with a parity condition, labels on edges;
 by `parsolve synth AUTOMATON` from a file, and else from standard input
@@ -194,24 +201,13 @@ fn port_option<'a>(alloc: Global) -> Arg<'a> {
         .value_parser(clap::value_parser!(u16).range(1..))
 }
 
-/// How a command is called, with the files that it takes.
-fn usage_of(command: Command) -> &'static str {
-    match command {
-        Command::Measure { .. } => "parsolve measure [OPTIONS] [GAME]",
-        Command::Solve { .. } | Command::SolveAny { .. } => "parsolve solve [OPTIONS] [GAME]",
-        Command::Check => "parsolve check [GAME SOLUTION]",
-        Command::Replay => "parsolve replay [GAME SCRIPT]",
-        Command::Game => "parsolve game [AUTOMATON]",
-        Command::Synth { .. } => "parsolve synth [OPTIONS] [AUTOMATON]",
-    }
-}
-
 /// The command as the command line knows it, with this help; one that solves has the options `--workers` and `--apart`.
 fn helped<'a>(alloc: Global, command: Command, help: Help) -> Result<Program<'a>, Error> {
     let (name, about, more): (&'a str, &'a str, &'a str) = (command.name(), help.about, help.more);
+    let usage: &'a str = help.usage;
     let program = Program::new(alloc, name)
         .about(about)
-        .override_usage(usage_of(command))
+        .override_usage(usage)
         .after_help(more);
     match command.workers() {
         Some(_) => Ok(

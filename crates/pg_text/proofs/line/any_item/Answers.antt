@@ -2,7 +2,7 @@ use Rattle.pg_text.proofs.Common.{ℕ, List, ◌∙◌, ap, arith, err_from_is_e
 use Rattle.pg_text.proofs.Steps.{ok}
 use Rattle.pg_text.proofs.FirstBytes.{item_of_none, item_of_fault, item_of_line}
 use Rattle.pg_text.proofs.Counting.{counted_item, counted_item_of_line, counted_item_fails}
-use Rattle.pg_text.proofs.line.item.Goals as goal
+use Rattle.pg_text.proofs.line.any_item.Goals as goal
 
 pub returns-then-is_empty : goal.returns-then-is_empty
 returns-then-is_empty c = counted_item c.args.bytes.now _
