@@ -14,9 +14,9 @@ import sys
 import tempfile
 
 TOP = pathlib.Path(__file__).resolve().parent.parent
-PICTURES = {"two": ["examples/two.pg"], "mutex": ["examples/mutex.pg", "examples/mutex.solution"],
-            "sender": ["examples/sender.pg", "examples/sender.solution"],
-            "request-grant": ["examples/request-grant.hoa"],
+PICTURES = {"two": ["examples/two.pg"], "sender": ["examples/sender.pg", "examples/sender.solution"],
+            "request-grant": ["examples/request-grant.hoa"], "traffic-light": ["examples/traffic-light.hoa"],
+            "priorities": ["examples/priorities.hoa"],
             "foresight": ["--automaton", "examples/foresight.hoa", "examples/foresight.pg", "examples/foresight.solution"]}
 NAMES, WINS = ("IDENTIFIER: PRIORITY of each vertex, diamonds are Even's, boxes are Odd's",
                "Even wins from the blue ones, Odd from the orange ones, by the heavy edges")
