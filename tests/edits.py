@@ -18,6 +18,7 @@ import pathlib
 import re
 import resource
 import shutil
+import signal
 import subprocess
 import sys
 import tempfile
@@ -151,8 +152,11 @@ class Copy:
         """What the prover says of the edited functions."""
         only = [word for it in sorted(self.functions) for word in ("--only", it)]
         words = self.crate.words(["--jobs", "1", "--allow-holes", *only], keeps=False)
-        ran = subprocess.run([*rtlib.guarded(), rtlib.RATTLE, "check", *words], cwd=self.room, stdin=subprocess.DEVNULL,
-                             stdout=subprocess.PIPE, stderr=subprocess.STDOUT, errors="replace")
+        for _ in range(2):  # one that is killed, most likely for memory, is started once more
+            ran = subprocess.run([*rtlib.guarded(), rtlib.RATTLE, "check", *words], cwd=self.room, stdin=subprocess.DEVNULL,
+                                 stdout=subprocess.PIPE, stderr=subprocess.STDOUT, errors="replace")
+            if ran.returncode != -signal.SIGKILL:
+                break
         return ran.stdout
 
     def judged(self, said):
