@@ -217,15 +217,20 @@ def spread(a, b, dice):
         yield dice.between(1, b) if dice.one_in(100) else 0, dice.below(2), successors
 
 
-def two_ladders(a, b, dice):
-    """the recursive ladder of a layers and its dual side by side, with edges between them"""
-    game = [*recladder(a, b, dice)]
+def with_dual(game, dice):
+    """A game and its dual side by side, with an edge between them for each twenty vertices."""
+    game = [[priority, owner, list(successors)] for priority, owner, successors in game]
     count = len(game)
-    game += [(priority + 1, 1 - owner, [count + w for w in successors]) for priority, owner, successors in game]
+    game += [[priority + 1, 1 - owner, [count + w for w in successors]] for priority, owner, successors in game]
     for _ in range(count // 20 + 1):
         v = dice.below(2 * count)
         game[v][2].append((count if v < count else 0) + dice.below(count))
-    yield from game
+    return game
+
+
+def two_ladders(a, b, dice):
+    """the recursive ladder of a layers and its dual side by side, with edges between them"""
+    yield from with_dual(recladder(a, b, dice), dice)
 
 
 def maze(a, b, dice):
@@ -269,6 +274,17 @@ def friedmann(a, b, dice):
     yield from named(game)
 
 
+def twice(a, b, dice):
+    """friedmann of a levels and its dual side by side, with edges between them"""
+    yield from with_dual(friedmann(a, b, dice), dice)
+
+
+def path(a, b, dice):
+    """a vertices, each of which leads to its neighbours; priorities rise, and owners take turns"""
+    for i in range(a):
+        yield min(i, 65535), i % 2, [j for j in (i - 1, i + 1) if 0 <= j < a]
+
+
 def memory(a, b, dice):
     """a steps, at each of which Odd's best play for measures first goes round over a small odd priority and then leaves"""
     game = {}
@@ -310,9 +326,122 @@ def even(a, b, dice):
         yield least + 8, 0, [*at(2, i - 1), *at(2, i + 1), *at(3, i - 1), *at(1, i + 1)] or at(3, i)
 
 
+FIRST, LAST, ALL_BELOW = "first", "last", "all below"
+
+
+def laid(common, cells, layers):
+    """Cells that stand in each layer, but for the first ones, which all layers share. A cell has a priority, how much that grows from layer
+    to layer, an owner, whether owners take turns, and successors: a cell and its layer, which is one of these names or counts from here."""
+    size = len(cells) - common
+    least = min(priority + min(0, growth * (layers - 1)) for priority, growth, *_ in cells)
+    raised = -least + least % 2 if least < 0 else 0
+
+    def places(cell, layer, to, there):
+        if to < common:
+            return [to]
+        if there == ALL_BELOW:
+            there = range(layers if cell < common else layer)
+        elif there in (FIRST, LAST):
+            there = [0 if there == FIRST else layers - 1]
+        else:
+            there = [layer + there if cell >= common else layers - 1 if there > 0 else 0]
+        return [common + at * size + to - common for at in there if 0 <= at < layers]
+
+    def vertex(cell, layer, itself):
+        priority, growth, owner, takes_turns, edges = cells[cell]
+        successors = [at for to, there in edges for at in places(cell, layer, to, there)]
+        grown = abs(growth) * layers if cell < common else growth * layer
+        turned = layer % 2 if takes_turns and cell >= common else 0
+        return priority + grown + raised, owner ^ turned, list(dict.fromkeys(successors)) or [itself]
+
+    for cell in range(common):
+        yield vertex(cell, 0, cell)
+    for layer in range(layers):
+        for cell in range(common, len(cells)):
+            yield vertex(cell, layer, common + layer * size + cell - common)
+
+
+def rounds(a, b, dice):
+    """a layers, found by a search for games whose measures fall step by step, and go on for as many steps as there are layers"""
+    cells = [(11, -2, 0, False, [(4, -1), (1, 0), (0, 0), (5, -1)]),
+             (6, 0, 1, False, [(5, -1), (2, -1), (5, 0), (1, 0)]),
+             (5, 4, 0, False, [(4, 1), (5, 0), (1, 1)]),
+             (8, 1, 1, True, [(3, 1)]),
+             (3, 1, 1, False, [(2, 0), (5, 0)]),
+             (6, 4, 1, False, [(4, 0), (5, 1), (1, 1), (5, 0)])]
+    yield from laid(1, cells, a)
+
+
+def looks(a, b, dice):
+    """a layers, found by a search for games whose measures are lowered for long"""
+    cells = [(6, 1, 1, False, [(3, 0), (1, 0), (0, 0), (5, 0)]),
+             (0, 6, 1, False, [(2, FIRST), (2, 1), (5, FIRST), (1, FIRST)]),
+             (8, 0, 0, False, [(3, 1), (5, 0)]),
+             (2, 4, 1, False, [(1, FIRST), (3, 0), (1, 1), (2, 1)]),
+             (4, 2, 1, False, [(2, 1)]),
+             (5, 4, 1, False, [(4, 0), (2, 1)])]
+    yield from laid(1, cells, a)
+
+
+def lists(a, b, dice):
+    """a layers, found by a search for games whose measures have many components"""
+    cells = [(2, 2, 0, False, [(2, 1)]),
+             (1, 2, 0, False, [(3, 1), (2, 1), (2, 0), (0, 0)]),
+             (1, 0, 1, False, [(3, 0), (1, -1)]),
+             (1, 2, 0, False, [(0, 0), (1, 1), (2, FIRST), (2, 0)]),
+             (2, -2, 0, False, [(2, 1)])]
+    yield from laid(0, cells, a)
+
+
+def gadget(a, b, dice):
+    """up to a layers of up to b cells, all at random"""
+    many = dice.between(2, b)
+    common = dice.below(min(3, many))
+    cells = []
+    for _ in range(many):
+        growth = dice.choice([0, 2, 2, 4, -2, 1, -2])
+        edges = [(dice.below(many), dice.choice([0, 0, 0, 0, 1, 1, -1, -1, FIRST, LAST, ALL_BELOW])) for _ in range(dice.between(1, 3))]
+        cells.append((dice.below(2 * many), growth, dice.below(2), growth % 2 == 1 or dice.one_in(6), edges))
+    yield from laid(common, cells, dice.between(2, a))
+
+
+def ring(a, b, dice):
+    """a vertices of priorities below b, each with the next one and another anywhere as successors"""
+    for i in range(a):
+        yield dice.below(b), dice.below(2), [(i + 1) % a, dice.below(a)]
+
+
+def few(a, b, dice):
+    """a vertices of priorities below b, each with one or two successors anywhere"""
+    for _ in range(a):
+        yield dice.below(b), dice.below(2), [dice.below(a) for _ in range(dice.between(1, 2))]
+
+
+def switches(a, b, dice):
+    """a bits of a counter, after Friedmann's lower bound for strategy improvement; where b is 1 the dual"""
+    count, end = 20 * a, ["x"]
+    game = {"x": (1, 1, end)}
+    game["s"] = count + 2, 0, [("f", j) for j in range(1, a + 1)] + end
+    game["r"] = count + 4, 0, [("g", j) for j in range(1, a + 1)] + end
+    game["c"] = count, 1, ["s", "r"]
+    for i in range(1, 2 * a + 1):
+        game["t", i] = 4 * a + 2 * i + 1, 0, ["s", "r", ("t", i - 1) if i > 1 else "c"]
+        game["a", i] = 4 * a + 2 * i + 2, 1, [("t", i)]
+    for i in range(1, a + 1):
+        game["d", i] = 4 * i + 1, 0, ["s", ("e", i), "r"] + [("a", j) for j in range(1, 2 * i + 1)]
+        game["e", i] = 4 * i + 2, 1, [("d", i), ("h", i)]
+        game["g", i] = 4 * i + 3, 0, [("f", i), ("k", i)]
+        game["k", i] = count + 4 * i + 3, 0, [("g", j) for j in range(i + 1, a + 1)] + end
+        game["f", i] = count + 4 * i + 5, 1, [("e", i)]
+        game["h", i] = count + 4 * i + 6, 1, [("k", i)]
+    for priority, owner, successors in named(game):
+        yield priority + b, owner ^ b, successors
+
+
 FAMILIES = {it.__name__: it for it in (settled, climb, climbers, jurdzinski, ladder, clique, recladder, elevator, sparse, random,
                                        chain, grid, wide, hubs, loops, repeats, hard, priorities, steps, spread, two_ladders,
-                                       maze, flat_hub, rising_hub, friedmann, memory, budget, even)}
+                                       maze, flat_hub, rising_hub, friedmann, twice, path, memory, budget, even, rounds, looks,
+                                       lists, gadget, ring, few, switches)}
 
 # those that Even wins without a choice
 WON_BY_EVEN = ("priorities", "steps")

@@ -1,7 +1,7 @@
 #!/usr/bin/env python3
-"""Times a program beside others that solve games: the processor seconds and the peak memory of its `solve`, `measure` and `check`, and
-of each other program on the same games. The last columns are how many times the seconds and the memory of the quickest of these
-`solve` takes.
+"""Times a program beside others that solve games: the processor seconds and the peak memory of its `solve`, `solve --any`, `measure` and
+`check`, and of each other program on the same games. The last columns are how many times the seconds and the memory of the quickest of
+these `solve` takes, and `solve --any`.
 
     bench/race.py PROGRAM [OTHER..] [--only WORD] [--repeats N] [--limit SECONDS]
 
@@ -38,6 +38,10 @@ random 1000000 30
 random 200000 100
 random 20000 20000
 random 65000 65000
+few 100000 1000
+few 100000 50000
+few 1000000 4
+few 1000000 1000
 hard 1000 0
 hard 5000 0
 hard 20000 0
@@ -113,25 +117,31 @@ def figures(ran, is_wrong=False):
     return f"{ran[0]:8.3f} {ran[2]:6.0f}"
 
 
+def times(ran, quickest):
+    """How many times the seconds and the memory of the quickest other a run takes."""
+    return f"{ran[0] / max(quickest[0], 0.001):7.1f} {ran[2] / quickest[2]:7.1f}" if ran else f"{'-':>7} {'-':>7}"
+
+
 def row(race, given):
+    found, _, is_found_wrong = race.solve([given.program, "solve", "--any"])
     solved, checked, is_wrong = race.solve([given.program, "solve"])
-    cells = [figures(solved, is_wrong), figures(race.best([given.program, "measure"], race.game)), figures(checked)]
+    cells = [figures(solved, is_wrong), figures(found, is_found_wrong), figures(race.best([given.program, "measure"], race.game)),
+             figures(checked)]
     others = []
     for words in given.others:
         other, _, is_other_wrong = race.solve(words)
         cells.append(figures(other, is_other_wrong))
         if other and not is_other_wrong:
             others.append(other)
-    if others and solved and not is_wrong:
-        quickest = min(others)
-        cells.append(f"{solved[0] / max(quickest[0], 0.001):7.1f} {solved[2] / quickest[2]:7.1f}")
+    if others:
+        cells += [times(solved, min(others)), times(found, min(others))]
     return " | ".join(cells)
 
 
 def main():
     given = options()
-    names = ["solve", "measure", "check", *(words[-1][:8] for words in given.others)]
-    print(" | ".join([f"{'case':24}", *(f"{name:>8} {'MB':>6}" for name in names)] + [f"{'times':>7} {'memory':>7}"] * bool(given.others)))
+    names = ["solve", "--any", "measure", "check", *(words[-1][:8] for words in given.others)]
+    print(" | ".join([f"{'case':24}", *(f"{name:>8} {'MB':>6}" for name in names)] + [f"{'times':>7} {'memory':>7}"] * (2 * bool(given.others))))
     for case in CASES.strip().split("\n"):
         if given.only in case:
             with tempfile.TemporaryDirectory() as folder:

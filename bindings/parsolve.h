@@ -22,6 +22,9 @@
 extern "C" {
 #endif
 
+/* The version of this header, and of the library that was laid out with it. */
+#define PARSOLVE_VERSION "@VERSION@"
+
 /* What a call answers. Those from PARSOLVE_LENGTHS to PARSOLVE_SUCCESSOR speak against a game, and the first that does is answered: the
  * lengths are looked at, then one vertex after the other, and of a vertex its priority, its owner and its successors. */
 enum {
@@ -45,6 +48,52 @@ enum {
     PARSOLVE_FAULT = 17,
     PARSOLVE_TOO_SHORT = 18
 };
+
+/* What a code says, in English. This is no call of the library: the text is in the header. */
+static inline const char *parsolve_fault_text(uint32_t code) {
+    switch (code) {
+    case PARSOLVE_OK:
+        return "no fault";
+    case PARSOLVE_OUT_OF_MEMORY:
+        return "out of memory";
+    case PARSOLVE_LENGTHS:
+        return "the arrays' lengths don't fit together";
+    case PARSOLVE_NO_VERTEX:
+        return "no vertex";
+    case PARSOLVE_TOO_MANY_VERTICES:
+        return "more than 1048576 vertices";
+    case PARSOLVE_TOO_MANY_EDGES:
+        return "more than 8388608 edges";
+    case PARSOLVE_PRIORITY:
+        return "a priority over 65535";
+    case PARSOLVE_OWNER:
+        return "an owner other than 0 and 1";
+    case PARSOLVE_START:
+        return "successors that end before they start, or past the array";
+    case PARSOLVE_NO_SUCCESSOR:
+        return "no successor";
+    case PARSOLVE_SUCCESSOR:
+        return "a successor that is no vertex";
+    case PARSOLVE_SOLUTION_LENGTHS:
+        return "a solution that hasn't the length of the game";
+    case PARSOLVE_WINNER:
+        return "a winner other than 0 and 1";
+    case PARSOLVE_CHOICE:
+        return "a winner that owns the vertex and chooses no successor";
+    case PARSOLVE_LEAVES:
+        return "an edge leads to a vertex of the other winner";
+    case PARSOLVE_CYCLE:
+        return "a cycle that its winner loses";
+    case PARSOLVE_COMMAND:
+        return "no such command";
+    case PARSOLVE_FAULT:
+        return "the command prints nothing, and tells a fault";
+    case PARSOLVE_TOO_SHORT:
+        return "no room for the text";
+    default:
+        return "no such code";
+    }
+}
 
 /* Stands in a strategy where nothing is chosen. */
 #define PARSOLVE_NO_CHOICE UINT32_MAX
@@ -96,7 +145,8 @@ enum {
     PARSOLVE_COMMAND_CHECK = 2,
     PARSOLVE_COMMAND_REPLAY = 3,
     PARSOLVE_COMMAND_GAME = 4,
-    PARSOLVE_COMMAND_SYNTH = 5
+    PARSOLVE_COMMAND_SYNTH = 5,
+    PARSOLVE_COMMAND_SOLVE_ANY = 6 /* solve --any */
 };
 
 /* What `parsolve COMMAND` prints for an input. *written is the length of the text. Bytes of `output` to which nothing is written aren't

@@ -15,15 +15,20 @@ Numbers that lie in memory as C wants them, 32 bits each (8 the owners and winne
 what is no number, or is too large or negative, is refused by a `TypeError` or a `ValueError`. A call isn't interrupted: Ctrl-C waits
 until it has returned.
 """
+from __future__ import annotations
+
 import array
 import ctypes
 import dataclasses
 import mmap
 import os
 import pathlib
+import sys
+from collections.abc import Iterable, Sequence
 
+__version__ = "@VERSION@"
 NO_CHOICE = 0xFFFFFFFF
-COMMANDS = ("measure", "solve", "check", "replay", "game", "synth")
+COMMANDS = ("measure", "solve", "check", "replay", "game", "synth", "solve --any")
 KINDS = {"priorities": "I", "owners": "B", "starts": "I", "successors": "I", "winners": "B", "strategy": "I", "cycle": "I"}
 PLENTY = 1 << 30  # bytes of room for an answer
 OK, OUT_OF_MEMORY, LEAVES, CYCLE, FAULT, TOO_SHORT = 0, 1, 14, 15, 17, 18
@@ -46,7 +51,10 @@ TEXTS = {
 class ParsolveError(ValueError):
     """Why there is no answer: the code of parsolve.h, and the vertex at fault or None."""
 
-    def __init__(self, code, vertex=None, text=None):
+    code: int
+    vertex: int | None
+
+    def __init__(self, code: int, vertex: int | None = None, text: str | None = None):
         where = "" if vertex is None else f"vertex {vertex}: "
         super().__init__(text or where + TEXTS[code])
         self.code, self.vertex = code, vertex
@@ -69,7 +77,7 @@ class Leaves:
 class Cycle:
     """A cycle that follows the strategy, and that its winner loses."""
 
-    vertices: list
+    vertices: list[int]
 
 
 class _Slice(ctypes.Structure):
@@ -86,7 +94,7 @@ class _Found(ctypes.Structure):
 
 def _library():
     here = pathlib.Path(__file__).resolve().parent
-    library = ctypes.CDLL(os.environ.get("PARSOLVE_LIBRARY") or str(here.parent / "lib/libparsolve.so"))
+    library = ctypes.CDLL(os.environ.get("PARSOLVE_LIBRARY") or str(here / "libparsolve.so"))
     for name in ("parsolve_solve", "parsolve_check", "parsolve_answer"):
         getattr(library, name).restype = ctypes.c_uint32
     return library
@@ -141,17 +149,19 @@ class Game:
     """A game: a priority and an owner (0 or 1) for each vertex, and the list of its successors. `of_rows` takes the successors in
     compressed sparse rows: those of `v` are `successors[starts[v]:starts[v + 1]]`."""
 
-    def __init__(self, priorities, owners, successors):
+    def __init__(self, priorities: Iterable[int], owners: Iterable[int], successors: Iterable[Iterable[int]]):
         starts, flat = array.array("I", [0]), array.array("I")
         for row in successors:
             _extend(flat, "successors", row)
             starts.append(len(flat))
         self._set(priorities, owners, starts, flat)
+        self._given = priorities
 
     @classmethod
-    def of_rows(cls, priorities, owners, starts, successors):
+    def of_rows(cls, priorities: Iterable[int], owners: Iterable[int], starts: Iterable[int], successors: Iterable[int]) -> Game:
         made = cls.__new__(cls)
         made._set(priorities, owners, starts, successors)
+        made._given = priorities
         return made
 
     def _set(self, priorities, owners, starts, successors):
@@ -164,21 +174,24 @@ class Game:
         game = _Game(*(_Slice(*part) for part, _ in parts))
         return ctypes.byref(game), game.priorities.length, (game, parts)
 
-    def solve_arrays(self):
-        """The winners, an array of bytes, and the strategy, an array of numbers with NO_CHOICE where there is none."""
+    def solve_arrays(self) -> tuple[Sequence[int], Sequence[int]]:
+        """The winners, an array of bytes, and the strategy, an array of numbers with NO_CHOICE where there is none; arrays of NumPy if
+        the priorities were given as one."""
         game, count, _kept = self._passed()
         winners, strategy = array.array("B", bytes(count)), array.array("I", bytes(4 * count))
         vertex = ctypes.c_uint32(NO_CHOICE)
         (to_winners, _winners), (to_strategy, _strategy) = _passed("winners", winners), _passed("strategy", strategy)
         _wants_ok(_LIBRARY.parsolve_solve(game, *to_winners, *to_strategy, ctypes.byref(vertex)), vertex.value)
-        return winners, strategy
+        numpy = sys.modules.get("numpy")
+        is_numpy = numpy is not None and isinstance(self._given, numpy.ndarray)
+        return (numpy.asarray(winners), numpy.asarray(strategy)) if is_numpy else (winners, strategy)
 
-    def solve(self):
+    def solve(self) -> tuple[list[int], list[int | None]]:
         """The winner of each vertex, and where it goes on the vertices that it owns, else None."""
         winners, strategy = self.solve_arrays()
-        return list(winners), [None if it == NO_CHOICE else it for it in strategy]
+        return winners.tolist(), [None if it == NO_CHOICE else it for it in strategy.tolist()]
 
-    def check(self, winners, strategy):
+    def check(self, winners: Iterable[int], strategy: Iterable[int | None]) -> Wins | Leaves | Cycle:
         """Wins(), Leaves(..) or Cycle(..)."""
         if not _fits("strategy", strategy):
             strategy = (NO_CHOICE if it is None else it for it in strategy)
@@ -212,7 +225,7 @@ def _room(length):
     return ctypes.addressof(ctypes.c_char.from_buffer(kept)), len(kept), kept
 
 
-def answer(command, text):
+def answer(command: str, text: bytes) -> bytes:
     """What `parsolve COMMAND` prints for a text, both bytes. It is made once, unless it is longer than a gigabyte."""
     if command not in COMMANDS:
         raise ValueError(f"no command is named {command!r}; there are: {', '.join(COMMANDS)}")

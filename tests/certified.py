@@ -1,6 +1,6 @@
 #!/usr/bin/env python3
-"""Sees to it that no game of the benches is lifted to its end: some of each family of bench/families.py, and of automata of
-bench/automata.py, are given to the program `certified`, which tells how their least progress measures are found.
+"""Sees to it that no game of the benches is lifted to its end: some of each family of bench/families.py, other gadgets in each run, and of
+automata of bench/automata.py, are given to the program `certified`, which tells how their least progress measures are found.
 
     tests/certified.py CERTIFIED PARSOLVE    prints what it finds; the status is 1 if something is wrong
 
@@ -9,6 +9,7 @@ PARSOLVE makes the games of automata.
 import io
 import os
 import pathlib
+import secrets
 import subprocess
 import sys
 from concurrent.futures import ProcessPoolExecutor
@@ -20,6 +21,20 @@ import families  # noqa: E402
 
 # family and sizes, and perhaps a seed; of automata the states, propositions and sets
 CASES = """
+few 1000000 100
+few 1000000 1000
+ring 60000 65536
+few 100000 65536
+few 100000 1000
+lists 1024 0
+switches 192 0
+switches 192 1
+two_ladders 640 0
+two_ladders 1280 0
+rounds 34 0
+rounds 256 0
+looks 112 0
+looks 256 0
 settled 50000 4
 climb 7 8
 climbers 20 500
@@ -54,12 +69,16 @@ maze 1280 5
 flat_hub 50000 0
 rising_hub 50000 0
 friedmann 100 0
+twice 2560 0
+path 64000 0
+ring 60000 1000
 memory 1280 0
 budget 200 0
 even 200 0
 automaton 2000 3 2
 automaton 500 4 12
 """
+GADGETS = 2000
 FOUND = "measure certified\nsolve certified\n"
 
 
@@ -98,7 +117,9 @@ def untried(cases):
 
 def run(certified, parsolve):
     """Tries every case, as many at once as there are processors; answers how many passed and failed."""
-    cases = CASES.strip().split("\n")
+    seed = secrets.randbelow(2**32)
+    print(f"certified: gadgets of {GADGETS} seeds from {seed} on")
+    cases = CASES.strip().split("\n") + [f"gadget 21 7 {seed + i}" for i in range(GADGETS)]
     with ProcessPoolExecutor(len(os.sched_getaffinity(0))) as pool:
         faults = list(pool.map(fault, [certified] * len(cases), [parsolve] * len(cases), cases))
     found = [*zip(cases, faults), ("families", untried(cases))]

@@ -8,11 +8,13 @@ import shutil
 import socket
 import subprocess
 import tempfile
+import tomllib
 from concurrent.futures import ProcessPoolExecutor
 
 import closed
 import controllers
 import naive
+import rows as table
 
 top = os.path.dirname(os.path.dirname(os.path.abspath(__file__)))
 
@@ -199,9 +201,9 @@ def names_change_nothing(program, command, count=40):
     return None
 
 
-def limited(program, command, kilobytes):
+def limited(program, kilobytes, *words):
     """The words of a command that has so much address space."""
-    return ["sh", "-c", f'ulimit -v {kilobytes}; exec "$0" "$@"', program, command]
+    return ["sh", "-c", f'ulimit -v {kilobytes}; exec "$0" "$@"', program, *words]
 
 
 def many_priorities_in_a_gigabyte(program, count=65_536, kilobytes=1_000_000):
@@ -210,16 +212,17 @@ def many_priorities_in_a_gigabyte(program, count=65_536, kilobytes=1_000_000):
     dice = random.Random(6)
     anywhere = naive.game_text({v: (v, dice.randint(0, 1), [dice.randrange(count) for _ in range(dice.randint(1, 4))])
                                 for v in range(count)})
-    solved = subprocess.run(limited(program, "solve", kilobytes), input=anywhere.encode(), capture_output=True, timeout=120)
-    checked = subprocess.run(limited(program, "check", kilobytes), input=anywhere.encode() + b"--\n" + solved.stdout,
-                             capture_output=True, timeout=120)
-    if solved.returncode != 0 or checked.stdout != b"WINS\n":
-        return f"successors anywhere: status {solved.returncode}, {solved.stderr!r}, {checked.stdout!r}, {checked.stderr!r}"
+    for words in (["solve"], ["solve", "--any"]):
+        solved = subprocess.run(limited(program, kilobytes, *words), input=anywhere.encode(), capture_output=True, timeout=120)
+        checked = subprocess.run(limited(program, kilobytes, "check"), input=anywhere.encode() + b"--\n" + solved.stdout,
+                                 capture_output=True, timeout=120)
+        if solved.returncode != 0 or checked.stdout != b"WINS\n":
+            return f"{words}: status {solved.returncode}, {solved.stderr!r}, {checked.stdout!r}, {checked.stderr!r}"
     cycle = naive.game_text({v: (v, v % 2, [(v + 1) % count]) for v in range(count)})
     wanted = {"measure": "".join(f"{v} T;\n" for v in range(count)),
               "solve": f"paritysol {count - 1};\n" + "".join(f"{v} 1 {(v + 1) % count};\n" if v % 2 else f"{v} 1;\n" for v in range(count))}
     for command, answer in wanted.items():
-        ran = subprocess.run(limited(program, command, kilobytes), input=cycle.encode(), capture_output=True, timeout=120)
+        ran = subprocess.run(limited(program, kilobytes, command), input=cycle.encode(), capture_output=True, timeout=120)
         if ran.returncode != 0 or ran.stdout.decode() != answer:
             return f"{command} on a cycle: status {ran.returncode}, {ran.stderr!r}, {ran.stdout[:100]!r}"
     return None
@@ -335,7 +338,7 @@ def files_are_input(program):
         for words, wanted in ((["check", "2", "solution"], sound), (["check", "ended", "solution"], sound),
                               (["check", "full", "solution"], sound), (["check", "over", "solution"], long),
                               (["solve", "whole"], solved), (["solve", "2", "--workers", "2"], solved),
-                              (["solve", "--workers", "2", "./--help"], solved),
+                              (["solve", "--workers", "2", "./--help"], solved), (["solve", "--any", "2"], solved),
                               (["solve", "socket"], (1, b"", b"parsolve: cannot open socket: No such device or address (os error 6)\n")),
                               (["check", "named", "solution"], sound), (["check", "lines", "solution"], apart),
                               (["solve", "--workers", "2"], (1, b"", b"parsolve: no vertex\n"))):
@@ -354,30 +357,83 @@ def example_game(program, name):
     return text
 
 
-def solution_loses(program, game):
+def solution_loses(program, game, *words):
     """Why `check` doesn't call sound what `solve` prints of a game, if so."""
-    solved = subprocess.run([program, "solve"], input=game, capture_output=True, timeout=60)
+    solved = subprocess.run([program, "solve", *words], input=game, capture_output=True, timeout=60)
     checked = subprocess.run([program, "check"], input=game + b"--\n" + solved.stdout, capture_output=True, timeout=60)
     is_won = solved.returncode == 0 and checked.stdout == b"WINS\n"
     return None if is_won else f"status {solved.returncode}, {checked.stdout!r}, {checked.stderr!r}"
 
 
 def solutions_win(program):
-    """What `solve` prints of each example `check` calls sound."""
+    """What `solve` prints of each example `check` calls sound, and what `solve --any` does."""
     for name in ("two.pg", "mutex.pg", "grid.pg", "request-grant.hoa", "owl-arbiter.hoa"):
-        why = solution_loses(program, example_game(program, name))
-        if why is not None:
-            return f"{name}: {why}"
+        for words in ([], ["--any"]):
+            why = solution_loses(program, example_game(program, name), *words)
+            if why is not None:
+                return f"{name} {words}: {why}"
     return None
+
+
+def winners_of(solution):
+    """The winner of each vertex in a text of a solution."""
+    return re.findall(r"^(\d+) ([01])", solution, re.M)
+
+
+def any_solutions_win(program, games):
+    """What `solve --any` prints of games, each given as a text and a solution by which the winners are known, has these winners, and
+    `check` calls it sound."""
+    for text, known in games:
+        ran = subprocess.run([program, "solve", "--any"], input=text, capture_output=True, text=True, timeout=60)
+        if winners_of(ran.stdout) != winners_of(known):
+            return f"solve --any on {text!r}: {ran.stdout!r}, {ran.stderr!r}, the winners are those of {known!r}"
+        why = solution_loses(program, text.encode(), "--any")
+        if why is not None:
+            return f"solve --any on {text!r}: {why}"
+    return None
+
+
+def solved_by_rows():
+    """The games that `solve` answers in rows/, with their answers there."""
+    with open(os.path.join(top, "rows/solve.toml"), "rb") as file:
+        found = tomllib.load(file)["row"]
+    return [(table.input_of(row).decode().rstrip("\n") + "\n", table.bytes_of(row, "stdout").decode()) for row in found
+            if row["args"] == ["solve"] and "blanks" not in row and ("stdout" in row or "stdout_file" in row)]
+
+
+def solved_by_definition(games):
+    """Games with their solutions by the definitions."""
+    return ((naive.game_text(game), naive.solution_text(game)) for game in games)
+
+
+def climbed_games(dice, count):
+    """Hard games with their solutions by plain lifting, so far as that ends."""
+    while count > 0:
+        game = hard_game(dice, dice.randint(20, 50))
+        known = climbed_text("solve", game)
+        if known is not None:
+            count -= 1
+            yield naive.game_text(game), known
+
+
+def solved_games():
+    """(what games they are, the games with solutions of them) for `solve --any`."""
+    dice = random.Random(8)
+    yield "the games of rows", solved_by_rows()
+    yield "random games", solved_by_definition(random_game(dice) for _ in range(100))
+    yield "random games of many priorities", solved_by_definition(random_game(dice, range(13), 8) for _ in range(100))
+    yield "every game of two vertices", solved_by_definition(games_of_two_vertices())
+    yield "hard games on which plain lifting ends", climbed_games(dice, 60)
 
 
 def hard_games_are_solved(program, size, count=5):
     """What is printed of hard games of so many vertices: the measures are closed maps, of which one has a list at each vertex, and
-    the solution is sound."""
+    the solution is sound; so is what `solve --any` prints."""
     dice = random.Random(4)
     for number in range(count):
         game = hard_game(dice, size)
-        why = closed.check(program, game) or solution_loses(program, naive.game_text(game).encode())
+        text = naive.game_text(game).encode()
+        why = closed.check(program, game) or solution_loses(program, text) or solution_loses(program, text, "--any")
         if why is not None:
             return f"hard game {number}: {why}"
     return None
@@ -391,6 +447,13 @@ def row_lines(first, count, priority):
     return game, [f"{v} 0 {w};\n" if priority % 2 == 0 else f"{v} 1;\n" for v, w in nexts]
 
 
+def any_solution_survives(program, text):
+    """What `solve --any` prints of a game is sound, and the same or nothing where memory is wanting."""
+    solved = subprocess.run([program, "solve", "--any"], input=text, capture_output=True, timeout=60).stdout
+    return solution_loses(program, text, "--any") or survives_want_of_memory(
+        program, "want of memory in solve --any of a hard game", ["solve", "--any"], text, solved)
+
+
 def long_rows_as_worked_out(program, count=1000):
     """Measures climb far along a row of odd priority in the game, along one of even priority in its dual, and along both in
     both; so each way to find the halves of a solution is gone."""
@@ -402,6 +465,36 @@ def long_rows_as_worked_out(program, count=1000):
             ran = subprocess.run([program, "solve", *words], input=game.encode(), capture_output=True, timeout=120)
             if ran.returncode != 0 or ran.stdout.decode() != wanted:
                 return f"solve {words} on rows {rows}: status {ran.returncode}, {ran.stdout[:200]!r}"
+    return None
+
+
+def label_of(number, bits):
+    """The label of the letters whose first bits are those of the number."""
+    return "&".join(["t", *(f"{'' if number >> bit & 1 else '!'}{bit}" for bit in range(bits))])
+
+
+def largest_games():
+    """(automaton, how many vertices and edges its game has, or None where it is too large by one), by the definition of the game."""
+    # dead, the initial arrival, those that the letters lead to, and sixteen answers of each state
+    head = 'HOA: v1 States: 65535 Start: 0 AP: 4 "a" "b" "c" "d" Acceptance: 0 t --BODY-- State: 0 '
+    for arrivals, size in ((14, (1_048_576, 1_048_801)), (15, None)):
+        yield head + " ".join(f"[{label_of(it, 4)}] {it + 1}" for it in range(arrivals)) + " --END--", size
+    # 224 arrivals and 31 states with 32,768 input letters each; at state 2 an answer may lead to two places
+    head = "HOA: v1 States: 31 Start: 0 AP: 16 " + " ".join(f'"{it}"' for it in "abcdefghijklmnop") + " controllable-AP: 15 Acceptance: 7 " \
+        "Inf(6) | (Fin(5) & (Inf(4) | (Fin(3) & (Inf(2) | (Fin(1) & Inf(0)))))) --BODY-- State: 1 "
+    edges = " ".join(f"[{label_of(it, 15)}] {it // 8} {f'{{{it % 8 - 1}}}' if it % 8 else ''}" for it in range(1, 224))
+    both = "15&!(" + "&".join(map(str, range(15))) + ")"
+    for last, size in ((both, (1_016_033, 8_388_608)), ("15", None)):
+        yield f"{head}{edges} State: 2 [{last}] 0 --END--", size
+
+
+def games_are_limited(program):
+    """The largest games are printed, and those that are too large by a vertex or an edge refused."""
+    for automaton, size in largest_games():
+        ran = subprocess.run([program, "game"], input=automaton.encode(), capture_output=True, timeout=120)
+        found = (ran.stdout.count(b";") - 1, ran.stdout.count(b",") + ran.stdout.count(b";") - 1) if ran.returncode == 0 else None
+        if found != size or size is None and ran.stderr != b"parsolve: game of the automaton too large\n":
+            return f"{automaton[:60]}..: {found}, and not {size}; {ran.stderr!r}"
     return None
 
 
@@ -424,6 +517,7 @@ def cases(programs):
                b"i0 r\no0 g\n")
     for program in programs:
         name = os.path.basename(program)
+        yield f"the largest games of automata ({name})", lambda p=program: games_are_limited(p)
         yield f"measure on random games ({name})", lambda p=program: answers_as_defined(p, "measure", naive.measure_text)
         yield f"solve on random games ({name})", lambda p=program: answers_as_defined(p, "solve", naive.solution_text)
         for command in ("measure", "solve"):
@@ -456,6 +550,8 @@ def cases(programs):
         for size in (100, 300, 1000):
             yield f"hard games of {size} vertices ({name})", lambda p=program, n=size: hard_games_are_solved(p, n)
         yield f"synth on random automata ({name})", lambda p=program: controllers_as_defined(p)
+        for what, games in solved_games():
+            yield f"solve --any on {what} ({name})", lambda p=program, g=games: any_solutions_win(p, g)
         yield f"solve on long rows ({name})", lambda p=program: long_rows_as_worked_out(p)
         yield f"files as input ({name})", lambda p=program: files_are_input(p)
         for words in ([], ["measure"], ["solve"], ["check"], ["replay"], ["game"], ["synth"]):
@@ -472,16 +568,19 @@ def cases(programs):
     for what, text, wanted in (("measure", game, b"0 1,1;\n1 1,0;\n2 0,0;\n"), ("solve", three, solution),
                                ("measure of a row by two workers", rows[250], counts[250]),
                                ("measure of a long row", rows[5000], counts[5000]),
+                               ("solve --any", three, solution), ("solve --any of one parity", odd, b"paritysol 1;\n0 1;\n1 1;\n"),
                                ("check", three + b"--\n" + solution, b"WINS\n"), ("replay", odd + script, world),
                                ("game", automaton, automaton_game), ("synth", delay, circuit)):
         name = f"want of memory in {what}"
-        yield name, lambda it=name, c=what.split()[0], t=text, w=wanted: survives_want_of_memory(programs[0], it, [c], t, w)
+        command = what.partition(" of ")[0].split()
+        yield name, lambda it=name, c=command, t=text, w=wanted: survives_want_of_memory(programs[0], it, c, t, w)
     # a game that takes some 60,000 plain lifts, and of which jumps are made in the game and in its dual
     hard = hard_game(random.Random(167), 60)
     for command in ("measure", "solve"):
         name = f"want of memory in {command} of a hard game"
         yield name, lambda it=name, c=command: survives_want_of_memory(
             programs[0], it, [c], naive.game_text(hard).encode(), climbed_text(c, hard, most=200_000).encode())
+    yield "want of memory in solve --any of a hard game", lambda t=naive.game_text(hard).encode(): any_solution_survives(programs[0], t)
     # one game at which Odd goes on in two ways above another one
     twice = {5 * k + v: (p + 6 * k, owner, [5 * k + w for w in successors] + [5 * (1 - k)] * (v == 3 and k == 0))
              for k, part in enumerate(TWICE) for v, (p, owner, successors) in part.items()}

@@ -1,5 +1,5 @@
 #!/usr/bin/env python3
-"""Checks what tools/draw writes: texts for Graphviz, pictures, refusals, and tables of schedules.
+"""Checks what tools/draw writes: texts for Graphviz, pictures, refusals, and tables of schedules; and the places that tools/where shows.
 
 The texts for Graphviz of docs/pictures/ have to be those that the tool writes; the pictures beside them depend on the version
 of `dot`, and aren't compared.
@@ -14,8 +14,9 @@ import sys
 import tempfile
 
 TOP = pathlib.Path(__file__).resolve().parent.parent
-PICTURES = {"two": ["examples/two.pg"], "mutex": ["examples/mutex.pg", "examples/mutex.solution"],
-            "request-grant": ["examples/request-grant.hoa"],
+PICTURES = {"two": ["examples/two.pg"], "sender": ["examples/sender.pg", "examples/sender.solution"],
+            "request-grant": ["examples/request-grant.hoa"], "traffic-light": ["examples/traffic-light.hoa"],
+            "priorities": ["examples/priorities.hoa"],
             "foresight": ["--automaton", "examples/foresight.hoa", "examples/foresight.pg", "examples/foresight.solution"]}
 NAMES, WINS = ("IDENTIFIER: PRIORITY of each vertex, diamonds are Even's, boxes are Odd's",
                "Even wins from the blue ones, Odd from the orange ones, by the heavy edges")
@@ -37,12 +38,12 @@ SOLVED_GRAPH = f"""digraph game {{
     0 [label="0: 0", shape=box, style=filled, fillcolor="#e69f00"];
     1 [label="1: 1\\nodd", shape=box, style=filled, fillcolor="#e69f00"];
     2 [label="2: 2", shape=diamond, style=filled, fillcolor="#a6d8f5"];
-    0 -> 0;
-    0 -> 1 [penwidth=4];
-    1 -> 1 [penwidth=4];
-    1 -> 2;
-    2 -> 0;
-    2 -> 2 [penwidth=4];
+    0 -> 0 [color="#b8b8b8"];
+    0 -> 1 [penwidth=3];
+    1 -> 1 [penwidth=3];
+    1 -> 2 [color="#b8b8b8"];
+    2 -> 0 [color="#b8b8b8"];
+    2 -> 2 [penwidth=3];
 }}
 """
 AUTOMATON = b"""/* a /* nested */ comment */ HOA: v1
@@ -54,13 +55,13 @@ State: 0
 --END--
 """
 AUTOMATON_GRAPH = """digraph automaton {
-    graph [label="Acceptance: 2 Fin(1) & (Inf(0))\\nControllable: \\"b \\"c\\"\\"", nslimit=1, nslimit1=1];
+    graph [label="Acceptance: 2 Fin(1) & (Inf(0))\\nControllable: \\"b \\"c\\"\\"", nslimit=1, nslimit1=1, rankdir=LR];
     start [shape=point];
     start -> 1;
     0 [label="0"];
     1 [label="1\\n\u00e9\\n{0 1}"];
     2 [label="2"];
-    1 -> 2 [label="!a & !(\\"b \\"c\\"\\" | a)\\n{1}"];
+    1 -> 2 [label="!a & !(\\"b \\"c\\"\\" | a) {1}"];
     1 -> 1 [label="t"];
 }
 """
@@ -68,9 +69,9 @@ AUTOMATON_GRAPH = """digraph automaton {
 VERDICTS = {
     b"WINS\n": ("WINS: each winner wins, by the heavy edges", []),
     b"LEAVES 2 0\n": ("LEAVES: the red edge goes to a vertex of the other winner", ['2 -> 0 [color="#c00000", style=dashed]']),
-    b"CYCLE 1 1\n": ("CYCLE: on the red edges 1 is the greatest priority", ['1 -> 1 [penwidth=4, color="#c00000", style=dashed]']),
+    b"CYCLE 1 1\n": ("CYCLE: on the red edges 1 is the greatest priority", ['1 -> 1 [penwidth=3, color="#c00000", style=dashed]']),
     b"CYCLE 2 0,1,2\n": ("CYCLE: on the red edges 2 is the greatest priority",
-                         ['0 -> 1 [penwidth=4, color="#c00000", style=dashed]', '1 -> 2 [color="#c00000", style=dashed]',
+                         ['0 -> 1 [penwidth=3, color="#c00000", style=dashed]', '1 -> 2 [color="#c00000", style=dashed]',
                           '2 -> 0 [color="#c00000", style=dashed]']),
 }
 # the game of examples/request-grant.hoa, and what its vertices and the edges of Even are called
@@ -90,11 +91,51 @@ WORDS = ["0: 1\\nthe run has ended", "1: 1\\nstate 0", "2: 2\\nstate 0 {0}", "3:
          "5: 0\\nstate 0: request", "7: 2\\nstate 1 {0}", "8: 3\\nstate 1 {1}", "9: 0\\nstate 1: !request", "10: 0\\nstate 1: request"]
 LETTERS = ['4 -> 2 [label="t"]', '5 -> 7 [label="t"]', '9 -> 2 [label="grant"]', '9 -> 3 [label="!grant"]', '10 -> 7 [label="grant"]',
            '10 -> 8 [label="!grant"]']
+# parts of THREE: the words, with a solution, and what has to be drawn: where it begins, the dashed vertices, the edges, and what is said
+SELF = {0: '0 -> 0 [color="#b8b8b8"]', 1: "1 -> 1 [penwidth=3]", 2: "2 -> 2 [penwidth=3]"}
+ALL = [SELF[0], "0 -> 1 [penwidth=3]", SELF[1], '1 -> 2 [color="#b8b8b8"]', '2 -> 0 [color="#b8b8b8"]', SELF[2]]
+PARTS = [
+    (b"start 0;", [], "start -> 0", [], ["0 -> 1 [penwidth=3]", SELF[1]], "2 of 3 vertices: what is reached from 0"),
+    (b"start 0;", ["--all"], "", [], ALL, ""),
+    (b"start 9;", [], "", [], ALL, ""),
+    (b"start 0;", ["--from", "2"], "start -> 2", [], [SELF[2]], "1 of 3 vertices: what is reached from 2"),
+    (b"start 0;", ["--depth", "0"], "start -> 0", ["0"], [], "1 of 3 vertices: what is reached from 0"),
+    (b"", ["--all", "--from", "2", "--depth", "1"], "start -> 2", ["0"], [SELF[0], '2 -> 0 [color="#b8b8b8"]', SELF[2]],
+     "2 of 3 vertices: what is reached from 2"),
+    (b"", ["--all", "--from", "2"], "start -> 2", [], ALL, ""),
+]
+# the game of GAME_OF_GRANTS, won by the controller everywhere but where the run has ended
+SOLUTION_OF_GRANTS = b"0 1 0;1 0;2 0;3 0;4 0 2;5 0 7;7 0;8 0;9 0 2;10 0 7;"
+STRATEGY_OF_GRANTS = """the controller wins
+state 0: the controller answers
+    !request with anything -> state 0 {0}
+    request with anything -> state 1 {0}
+state 0 {0}: the controller answers
+    !request with anything -> state 0 {0}
+    request with anything -> state 1 {0}
+state 1 {0}: the controller answers
+    !request with grant -> state 0 {0}
+    request with grant -> state 1 {0}
+"""
+STRATEGY_OF_FORESIGHT = """the environment wins
+nothing said: the environment sets !request
+    !grant -> no request to come
+    grant -> a request to come
+no request to come: the environment sets request
+    anything -> the run has ended
+a request to come: the environment sets !request
+    anything -> the run has ended
+"""
+STRATEGY = """0: Odd wins, Odd goes to 1 "odd"
+1 "odd": Odd wins, Odd goes to 1 "odd"
+2: Even wins, Even goes to 2
+"""
+RING = b"".join(b"%d 0 0 %d;" % (vertex, (vertex + 1) % 300) for vertex in range(300))
 CHAIN = b"".join(b"%d 0 0 %d;" % (vertex, vertex) for vertex in range(201))
 STATES = b'HOA: v1 States: %d Start: 0 Acceptance: 0 t --BODY-- --END--'
 HEAD = b"HOA: v1 Start: 0 Acceptance: 1 Inf(0) "
 REFUSED = [
-    ("many: more than 200 vertices, too many for a picture", {"many": CHAIN}),
+    ("many: more than 200 vertices, too many for a picture: --from ID --depth N draws a part", {"many": CHAIN}),
     ("states: more than 200 states, too many for a picture", {"states": STATES % 201}),
     ("states: more than 200 states, too many for a picture", {"states": HEAD + b"--BODY-- State: 200 --END--"}),
     ("empty: no vertex", {"empty": b" \n"}),
@@ -140,6 +181,17 @@ FAULTS = {SCRIPT + b"lift 1 1;": "script: event 5: vertex 1 is not of worker 1",
           b"workers 1;lift 1;": "script: syntax error at byte 16"}
 
 
+# (text, byte) and what tools/where has to show: the line, the column, and the line with a mark
+SHOWN = {
+    (b"0 0 1;\n1 0 0 0;\n", 13): "line 2, column 7\n1 0 0 0;\n      ^\n",
+    (b"0 0 1;\n1 0 0 0;\n", 6): "line 1, column 7\n0 0 1;\n      ^\n",
+    (b"0 0 1;\n1 0 0 0;\n", 16): "line 3, column 1\n\n^\n",
+    (b"", 0): "line 1, column 1\n\n^\n",
+    (b'\t"\xc3\xa9\xff";x', 6): 'line 1, column 6\n "\u00e9\ufffd";x\n     ^\n',
+    (b"\n" + b"a" * 70 + b"b" * 70, 71): "line 2, column 71\n.. " + "a" * 60 + "b" * 60 + " ..\n" + " " * 63 + "^\n",
+}
+
+
 def drawn(words, texts=None):
     """(status, output, error stream) of the tool on files with these names and texts; without a text there is no file."""
     with tempfile.TemporaryDirectory() as folder:
@@ -182,12 +234,52 @@ def verdicts():
         yield name, drawn(words, {"game": b'0 0 0 0 "' + name + b'";'}), (1, "", told)
 
 
+def parts():
+    """The same for parts of games, and for strategies in words."""
+    for begin, words, first, dashed, edges, said in PARTS:
+        status, text, errors = drawn(["--dot", *words], {"game": begin + THREE[10:], "solution": SOLUTION})
+        found = [line.split()[0] for line in lines_with(text, "dashed", "shape=")]
+        rest = [line for line in lines_with(text, "->") if not line.startswith("start")]
+        yield f"a part: {words}", (status, lines_with(text, "start ->"), found, rest, f"{WINS}\\n{said}" in text if said else WINS + '"' in text,
+                                   errors), (0, [first] * bool(first), dashed, edges, True, "")
+    status, text, _ = drawn(["--dot", "--from", "7", "--depth", "5"], {"ring": RING})
+    yield "around a vertex", (status, [line.split()[0] for line in lines_with(text, "shape=diamond")]), (0, list("7 8 9 10 11 12".split()))
+    game = {"game": THREE, "solution": SOLUTION}
+    yield "a strategy", drawn(["--text"], game), (0, STRATEGY, "")
+    yield "all of it", drawn(["--text", "--all"], game), (0, STRATEGY, "")
+    yield "a part of it", drawn(["--text", "--from", "1"], game), (0, STRATEGY.splitlines(True)[1], "")
+    yield "cut", drawn(["--text", "--from", "0", "--depth", "0"], game), (0, "0: Odd wins, Odd goes to ..\n", "")
+    yield "no such vertex", drawn(["--dot", "--from", "9"], game), (1, "", "draw: game: there is no vertex 9\n")
+    told = "draw: game: nothing says where it begins: --depth wants --from\n"
+    yield "no beginning", drawn(["--dot", "--depth", "9"], game), (1, "", told)
+    words = ["--text", "--automaton", TOP / "examples/request-grant.hoa"]
+    yield "a controller", drawn(words, {"game": GAME_OF_GRANTS, "solution": SOLUTION_OF_GRANTS}), (0, STRATEGY_OF_GRANTS, "")
+    words = ["--text", *PICTURES["foresight"]]
+    yield "an environment", drawn(words), (0, STRATEGY_OF_FORESIGHT, "")
+    yield "its steps", drawn([*words, "--depth", "1"]), (0, "the environment wins\nnothing said: the environment sets !request\n    ..\n", "")
+
+
+def places():
+    """The same for places."""
+    def shown(text, *words):
+        ran = subprocess.run([sys.executable, TOP / "tools/where", *map(str, words)], input=text, capture_output=True, timeout=60)
+        return ran.returncode, ran.stdout.decode(), ran.stderr.decode()
+
+    for (text, byte), wanted in SHOWN.items():
+        yield f"byte {byte} of {text}", shown(text, "-", byte), (0, wanted, "")
+    yield "a byte behind the end", shown(b"abc", "-", 4), (1, "", "where: standard input: it has 3 bytes, and no byte 4\n")
+    yield "no file", shown(b"", "nothing", 4), (1, "", "where: nothing: No such file or directory\n")
+    for words in ([], ["-"], ["-", "x"], ["-", "-1"]):
+        yield f"the words {words}", shown(b"", *words)[:2], (2, "")
+
+
 def refusals():
     """The same for what is refused: with files, and by the command line."""
     for told, texts in REFUSED:
         yield told, drawn(["--dot"], texts), (1, "", f"draw: {told}\n")
     for words in ([], ["--line"], ["--replay", "a"], ["--program", "x", "a"], ["-", "-"], ["--replay", "--dot", "a", "b"],
-                  ["--replay", "a", "b", "c"], ["a", "b", "c", "d"], ["--automaton", "-", "-"]):
+                  ["--replay", "a", "b", "c"], ["a", "b", "c", "d"], ["--automaton", "-", "-"], ["--text", "a"], ["--from", "x", "a"],
+                  ["--replay", "--all", "a", "b"], ["--text", "--dot", "a", "b"]):
         yield f"the words {words}", drawn(words)[:2], (2, "")
 
 
@@ -223,7 +315,7 @@ def counted(checks):
 
 def run():
     """Makes every check that needs no program; answers how many passed and failed."""
-    return counted(check for part in (graphs, verdicts, refusals, pictures) for check in part())
+    return counted(check for part in (graphs, verdicts, parts, places, refusals, pictures) for check in part())
 
 
 def run_tables(program):

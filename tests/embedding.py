@@ -1,16 +1,16 @@
 #!/usr/bin/env python3
-"""Tries the library for C and Python: its header is that of the sources, the programs of docs/library.md print what the page says, its
-answers are those of the program, and tests/embedding.c finds nothing wrong, with and without the address sanitizer.
+"""Tries the library for C, C++ and Python: its header is that of the sources, the sessions of docs/library.md print what the page says,
+its answers are those of the program, and tests/embedding.c finds nothing wrong, with and without the address sanitizer.
 
     tests/embedding.py [PROGRAM]    prints what it finds; the status is 1 if something is wrong
 """
 import array
 import ctypes
+import importlib.util
 import os
 import pathlib
 import random
 import re
-import shlex
 import shutil
 import subprocess
 import sys
@@ -97,14 +97,17 @@ def header_checks():
 def module_checks(codes):
     """The same of the numbers of the Python module."""
     module = MODULE.read_text()
-    commands = re.findall(r'"(\w+)"', re.search(r"^COMMANDS = \((.*?)\)", module, re.M)[1])
-    yield compared("COMMANDS", {f"PARSOLVE_COMMAND_{it.upper()}": str(at) for at, it in enumerate(commands)},
+    commands = re.findall(r'"([\w -]+)"', re.search(r"^COMMANDS = \((.*?)\)", module, re.M)[1])
+    yield compared("COMMANDS", {f"PARSOLVE_COMMAND_{it.upper().replace(' --', '_')}": str(at) for at, it in enumerate(commands)},
                    {name: number for name, number in codes.items() if name.startswith("PARSOLVE_COMMAND_")})
     names, numbers = re.search(r"^(OK, .*) = (.*)$", module, re.M).groups()
     yield compared("codes of the module", dict(zip(names.split(", "), numbers.split(", "))),
                    {it: codes[f"PARSOLVE_{it}"] for it in names.split(", ")})
-    told = [int(it) for it in re.findall(r'^    (\d+): "', module, re.M)]
-    yield compared("texts of the module", told, list(range(int(codes["PARSOLVE_LENGTHS"]), int(codes["PARSOLVE_CHOICE"]) + 1)))
+    told = {int(code): text for code, text in re.findall(r'^    (\d+): "(.*)",$', module, re.M)}
+    texts = dict(re.findall(r'case (PARSOLVE_\w+):\s+return "(.*)";', header()))
+    faults = range(int(codes["PARSOLVE_LENGTHS"]), int(codes["PARSOLVE_CHOICE"]) + 1)
+    yield compared("texts of the module", told, {int(codes[name]): text for name, text in texts.items() if int(codes[name]) in faults})
+    yield compared("codes with a text", sorted(texts), sorted(it for it in codes if not it.startswith("PARSOLVE_COMMAND_")))
 
 
 # ---- the folder
@@ -142,28 +145,59 @@ def names_checks(folder):
 
 
 def blocks():
-    """The programs of docs/library.md in C and Python, and what the page says that they print."""
-    text = (TOP / "docs/library.md").read_text().partition("## From C and Python")[2]
-    return (re.search(rf"^```{language}\n(.*?)^```$", text, re.M | re.S)[1] for language in ("c", "python", "text"))
+    """The programs of docs/library.md in C, C++ and Python, by the names of their files, and its sessions: the commands, line by line,
+    and what they print in all."""
+    text = (TOP / "docs/library.md").read_text().partition("## From C and Python")[2].partition("\n## ")[0]
+    programs = {f"example.{end}": re.search(rf"^```{language}\n(.*?)^```$", text, re.M | re.S)[1]
+                for language, end in (("c", "c"), ("cpp", "cpp"), ("python", "py"))}
+    shown = re.findall(r"^    \$ (.*)\n((?:    (?!\$ ).*\n)*)", text, re.M)
+    return programs, [command for command, _ in shown], re.sub("^    ", "", "".join(printed for _, printed in shown), flags=re.M)
+
+
+def sessions_check(folder, work):
+    """The sessions of the page, as they are written, in one shell; the name of the folder has no blank then."""
+    programs, commands, wanted = blocks()
+    for name, text in programs.items():
+        (work / name).write_text(text)
+    linked = work / "laid"
+    linked.symlink_to(folder)
+    if not shutil.which("pkg-config"):
+        print("embedding: pkg-config isn't installed, so the sessions of docs/library.md aren't run")
+        return
+    env = {**os.environ, "FOLDER": str(linked), "PYTHONDONTWRITEBYTECODE": "1"}
+    yield "the sessions", differs(printed(["sh", "-c", "\n".join(commands)], cwd=work, env=env), wanted)
 
 
 def example_checks(folder, work):
-    """The programs of the page print what it says: in C and in C++, from the archive and from the shared object, and in Python."""
-    in_c_, in_python, wanted = blocks()
-    (work / "example.c").write_text(in_c_)
-    (work / "example.py").write_text(in_python)
-    flags = ["-I", folder / "include", "-L", folder / "lib"]
+    """The program of the page in C is one in C++ too, from the archive and from the shared object; the examples of the module."""
+    yield from sessions_check(folder, work)
+    wanted, flags = printed([work / "example"]), ["-I", folder / "include", "-L", folder / "lib"]
     for language, compiler in (("c", ["cc", "-std=c99"]), ("c++", ["c++", "-std=c++11"])):
         for how, more in (("archive", ["-l:libparsolve.a"]), ("shared", ["-lparsolve", f"-Wl,-rpath,{folder}/lib"])):
             what, program = f"the example in {language}, {how}", work / f"example-{how}"
             why = ran([*compiler, *WARNINGS, "-x", language, work / "example.c", *flags, *more, "-o", program])
             yield what, why or differs(printed([program]), wanted)
-    yield "the example in Python", differs(printed([sys.executable, work / "example.py"], env=with_module(folder)), wanted)
-    yield "the examples of the module", ran([sys.executable, "-m", "doctest", folder / "python/parsolve.py"], env=with_module(folder))
-    if shutil.which("pkg-config"):
-        words = shlex.split(printed(["pkg-config", "--cflags", "--libs", "parsolve"],
-                        env={**os.environ, "PKG_CONFIG_PATH": str(folder / "lib/pkgconfig")}))
-        yield "pkg-config", ran(["cc", work / "example.c", *words, "-o", work / "by-pkg-config"])
+    why = ran(["c++", "-std=c++11", *WARNINGS, work / "example.cpp", *flags, "-l:libparsolve.a", "-o", work / "vectors"])
+    yield "the example with vectors", why or differs(printed([work / "vectors"]), printed([work / "example-cpp"]))
+    yield "the examples of the module", ran([sys.executable, "-m", "doctest", folder / "python/parsolve/__init__.py"],
+                                            env=with_module(folder))
+    version = re.search(r'^const VERSION: &str = "(.*)";$', (TOP / "crates/pg_words/src/words.rt").read_text(), re.M)[1]
+    laid = "".join((folder / it).read_text() for it in ("include/parsolve.h", "lib/pkgconfig/parsolve.pc", "python/pyproject.toml",
+                                                         "python/parsolve/__init__.py"))
+    yield "the version", None if laid.count(version) == 4 and "@" + "VERSION" not in laid else f"isn't {version} in each place"
+    yield from installed(folder, work)
+
+
+def installed(folder, work):
+    """The package as pip installs it, where pip is there; nothing is fetched."""
+    if not importlib.util.find_spec("pip"):
+        print("embedding: pip isn't installed, so the package isn't")
+        return
+    target = work / "installed"
+    why = ran([sys.executable, "-m", "pip", "install", "-q", "--no-index", "--target", target, folder / "python"])
+    env = {**os.environ, "PYTHONPATH": str(target), "PYTHONDONTWRITEBYTECODE": "1"}
+    wanted = printed([sys.executable, work / "example.py"], env=with_module(folder))
+    yield "the package, installed", why or differs(printed([sys.executable, work / "example.py"], env=env), wanted)
 
 
 def differs(output, wanted):
@@ -212,7 +246,7 @@ def verdict_text(game, verdict):
 
 def says(program, command, text):
     """(status, what a command prints, the error stream)."""
-    done = subprocess.run([program, command], input=text, capture_output=True, timeout=600)
+    done = subprocess.run([program, *command.split()], input=text, capture_output=True, timeout=600)
     return done.returncode, done.stdout, done.stderr
 
 
@@ -249,8 +283,8 @@ def game_why(parsolve, program, dice, game):
     priorities, owners, successors = arrays_of(game)
     made, text = parsolve.Game(priorities, owners, successors), naive.game_text(game)
     winners, strategy = made.solve()
-    if says(program, "solve", text.encode()) != (0, solution_text(winners, strategy).encode(), b""):
-        return f"solve on {text!r}: {winners} {strategy}"
+    if says(program, "solve --any", text.encode()) != (0, solution_text(winners, strategy).encode(), b""):
+        return f"solve --any on {text!r}: {winners} {strategy}"
     winners, strategy = spoiled(dice, game, winners, strategy)
     verdict = verdict_text(game, made.check(winners, strategy))
     both = f"{text}--\n{solution_text(winners, strategy)}"
@@ -261,10 +295,10 @@ def texts():
     """(command, input) for each command, answers and faults."""
     examples = {path.name: path.read_bytes() for path in (TOP / "examples").iterdir() if path.suffix in (".pg", ".hoa")}
     for name, text in sorted(examples.items()):
-        for command in ("measure", "solve") if name.endswith(".pg") else ("game", "synth"):
+        for command in ("measure", "solve", "solve --any") if name.endswith(".pg") else ("game", "synth"):
             yield command, text
     game = b"0 2 1 0,1;\n1 1 0 0,1;\n"
-    for command in ("measure", "solve", "check", "replay", "game", "synth"):
+    for command in ("measure", "solve", "solve --any", "check", "replay", "game", "synth"):
         yield from ((command, text) for text in (b"", b"\n", b"0 0 0 9;\n", game, game + b"--\n", game + b"--\n0 0;\n1 0 1;\n"))
     yield "replay", game + b"--\nworkers 1;\ncentral 1;\nlift 1 1;\ndeliver 1 0;\n"
 
@@ -335,6 +369,8 @@ def array_checks(parsolve):
         is_kept = all(one is other for one, other in zip(parts, (game.priorities, game.owners, game.starts, game.successors)))
         found = game.solve(), game.check(make("B", [0, 0]), make("I", [0, 0]))
         yield kind, None if is_kept == fits and found == (([0, 0], [None, 0]), parsolve.Wins()) else f"kept: {is_kept}, {found}"
+        is_like = type(game.solve_arrays()[1]) is (type(parts[0]) if kind == "NumPy" else array.array)
+        yield f"{kind}: results", None if is_like else f"{game.solve_arrays()}"
     game = parsolve.Game(b"\2\1", b"\1\0", [b"\0\1", array.array("q", [0, 1])])
     for kind, _, make in kinds:
         game.priorities = make("I", [1, 1])

@@ -1,4 +1,5 @@
 """Checks of ./parsolve, ./build and ./test --quick, with a stand-in for the toolchain that proves nothing and notes what it is asked."""
+import hashlib
 import os
 import pathlib
 import re
@@ -12,12 +13,13 @@ CRATES = {"low": "", "left": "low", "right": "low", "parsolve": "left right", "l
 
 RTLIB = '''
 import os, pathlib, time
+RATTLE = "rattle"
 def note(text):
     with open(os.environ["NOTES"], "a") as notes:
         notes.write(text + "\\n")
 def wait_for(other):
     # of two libraries side by side neither ends before both have begun
-    notes, kept = pathlib.Path(os.environ["NOTES"]), pathlib.Path(other.folder, "out/stamp")
+    notes, kept = pathlib.Path(os.environ["NOTES"]), pathlib.Path(other.folder, "out/rlib/stamp")
     for _ in range(1000):
         if f"start {other.name}" in notes.read_text() or kept.exists() or "FITS" in os.environ:
             return
@@ -25,23 +27,31 @@ def wait_for(other):
 class Crate:
     def __init__(self, folder, deps):
         self.folder, self.name, self.deps = folder, folder.rpartition("/")[2], deps
+        self.rlib = f"{folder}/out/rlib/{self.name}.rlib"
     def below(self):
         return list(dict.fromkeys(it for dep in self.deps for it in [*dep.below(), dep]))
     def stamp(self):
         return "".join(it.stamp() for it in self.deps) + pathlib.Path(self.folder, "src/lib.rt").read_text()
     def is_built(self):
-        kept = pathlib.Path(self.folder, "out/stamp")
+        kept = pathlib.Path(self.folder, "out/rlib/stamp")
         return kept.exists() and kept.read_text() == self.stamp()
-    def build_rlib(self, flags, anew):
+    def prove(self, how):
         note(f"start {self.name}")
         for other in self.beside:
             wait_for(other)
-        note(f"end {self.name}")
+        note(f"end {self.name}{how}")
         if "wrong" in self.stamp():
             print("not proved", file=self.out)
-            return 1
-        pathlib.Path(self.folder, "out/stamp").write_text(self.stamp())
-        return 0
+        return int("wrong" in self.stamp())
+    def build_rlib(self, flags, anew):
+        status, kept = self.prove(""), pathlib.Path(self.folder, "out/rlib/stamp")
+        kept.parent.mkdir(exist_ok=True)
+        status or kept.write_text(self.stamp())
+        return status
+    def words(self, flags, keeps):
+        return flags
+    def call(self, *words):
+        return self.prove(" by statements" if "--statements" in words else "")
 def crates_below(folder):
     top, found = pathlib.Path(folder).parent.parent, {}
     for line in (top / "crates.txt").read_text().splitlines():
@@ -85,9 +95,10 @@ class Copy:
         (self.kit / "rt").chmod(0o755)
         for name in CRATES:
             self.write(self.source(name), name)
+        self.write(self.top / "crates/pg_words/src/words.rt", 'const VERSION: &str = "1.2.3";\n')
         self.write(self.top / "crates.txt", "".join(f"{name}: {uses}\n" for name, uses in CRATES.items()))
         (self.top / "tools").mkdir()
-        for name in ("parsolve", "build", "test", "tools/stale"):
+        for name in ("parsolve", "build", "test", "tools/sources", "tools/stale"):
             shutil.copy(TOP / name, self.top / name)
         for name in re.findall(r"^import (\w+)  # noqa", (TOP / "test").read_text(), re.M):
             self.write(self.top / f"tests/{name}.py", PART)
@@ -129,10 +140,11 @@ RIGHT = (0, "solve two words\nthe input\n")
 
 
 def first_use(copy):
-    """The libraries are proved, those beside one another at once, the kit is told, and then the program runs."""
+    """The libraries are proved, those beside one another at once, that which the program waits for less by statements; the kit is told, and
+    then the program runs."""
     *ran, errors, asked = copy.use()
     return tuple(ran) == RIGHT and asked[:2] == ["start low", "end low"] and {*asked[2:4]} == {"start left", "start right"} \
-        and asked[6:] == ["run"] and "by the test's kit\n" in errors
+        and {*asked[4:6]} == {"end left by statements", "end right"} and asked[6:] == ["run"] and "by the test's kit\n" in errors
 
 
 def later_uses(copy):
@@ -183,14 +195,44 @@ def other_toolchain(copy):
 def no_toolchain(copy):
     """Without a toolchain the error stream says what is missing."""
     (copy.kit / "rt").unlink()
-    for name in ("sh", "awk", "find", "head", "dirname", "readlink"):
+    for name in ("sh", "awk", "cut", "dirname", "find", "grep", "head", "readlink", "sed", "sha256sum", "sort", "xargs"):
         (copy.kit / name).symlink_to(shutil.which(name))
     (copy.kit / "python3").symlink_to(sys.executable)
     status, output, errors, _ = copy.use(PATH=str(copy.kit))
     return (status, output) == (1, "") and all(it in errors for it in ("rt isn't on the path", "Rattle kit", "rt version"))
 
 
-WITHOUT_PROGRAM = ["layout", "pages", "first_use", "drawing", "rewriting", "simulating"]
+def releasing(copy):
+    """./build --release takes the program that is built, if that is of the sources, and says what it is."""
+    copy.use()
+    copy.notes.write_text("")
+    status, _, _, asked = copy.ended(copy.start("build", ["--release"]))
+    program = (copy.top / "release/parsolve").read_bytes()
+    about = dict(line.split(" ", 1) for line in (copy.top / "release/ABOUT").read_text().splitlines())
+    wanted = {"program": "parsolve 1.2.3", "kit": "the test's kit", "sha256": hashlib.sha256(program).hexdigest()}
+    return (status, asked) == (0, []) and program == (copy.top / "crates/parsolve/out/parsolve").read_bytes() \
+        and {*about} == {*wanted, "sources"} and wanted.items() <= about.items()
+
+
+def released(copy):
+    """Where nothing is built the released program runs, if it is of these sources, without a toolchain too, in a folder of another name; after
+    a change the program is built."""
+    copy.ended(copy.start("build", ["--release"]))
+    for folder in copy.top.glob("crates/*/out"):
+        shutil.rmtree(folder)
+    copy.top = copy.top.rename(copy.top.with_name("another copy"))
+    (copy.top.parent / "link to parsolve").unlink(missing_ok=True)
+    program = copy.top / "release/parsolve"
+    copy.write(program, program.read_text().replace("echo", "echo released"))
+    runs = copy.use(PATH=os.environ["PATH"])
+    copy.write(copy.source("low_tests"), "changed")
+    runs_still = copy.use()
+    copy.write(copy.source("left"), "changed")
+    *ran, _, asked = copy.use()
+    return runs == runs_still == (0, "released " + RIGHT[1], "", []) and tuple(ran) == RIGHT and asked[-1] == "run"
+
+
+WITHOUT_PROGRAM = ["layout", "pages", "first_use", "drawing", "rewriting", "simulating", "release"]
 WITHOUT_CERTIFIED = "test: there is no crates/certified/out/certified (run `rt run` in crates/certified), so how games of the benches " \
     "are solved isn't looked at"
 WITH_PROGRAM = [f"{name} parsolve" for name in ("rows", "checks", "apart", "sessions", "circuits", "share", "drawing", "rewriting",
@@ -235,7 +277,7 @@ def quick_test_stale(copy):
 
 def run():
     """Makes every check; answers how many passed and failed."""
-    checks = (first_use, later_uses, changes, failures, little_memory, at_once, other_toolchain, no_toolchain, quick_test,
+    checks = (first_use, later_uses, changes, failures, little_memory, at_once, other_toolchain, no_toolchain, releasing, released, quick_test,
               quick_test_certified, quick_test_unbuilt, quick_test_stale)
     passed = failed = 0
     for check in checks:

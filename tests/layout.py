@@ -8,8 +8,9 @@ Whoever wants to believe what is proved reads the believed modules: the files of
 - docs/map.md lists each believed module once, with the number of its lines, in the first chain that needs it, and the public calls
   whose contracts name a mirror all the same; the numbers of its chains are right;
 - each name of docs/definitions.md is defined in the file that stands beside it;
-- each call and law that the README and the pages of docs/ name is there, and so is each clause, definition and must-fail
-  edit of docs/promises.md.
+- each call and law that the README and the pages of docs/ name is there, and so is each clause, definition and edit of
+  docs/promises.md, whose first table names those that the gate tries;
+- five crates of the kit are used where the product is to stand on them, and the README says that they are trusted.
 
     tests/layout.py            prints what it finds; the status is 1 if something is wrong
     tests/layout.py --write    first mends both documents as far as that needs no words: numbers of lines, files that are
@@ -28,6 +29,8 @@ CRATES, README, MAP, DEFINITIONS = TOP / "crates", TOP / "README.md", TOP / "doc
 PROMISES = TOP / "docs/promises.md"
 APART = {"Mirrors", "Lemmas"}
 EXCEPTIONS = re.compile(r"Public calls whose contracts name one: ((?:[^.]|\n)*)\.")
+KIT = {"byteorder": "pg_wire", "clap": "pg_words", "indexmap": "pg_synth", "itoa": "pg_command pg_synth pg_text",
+       "thiserror": "pg_arrays pg_check pg_rounds pg_wire pg_worker pg_world"}
 ROW = re.compile(r"^\| `(\w+/specs/[\w/]+\.antt)` \| (\d+) \|", re.M)
 
 
@@ -207,10 +210,29 @@ def promises():
 
 
 def edits():
-    """The same for each must-fail edit that docs/promises.md names, as `pg_map/join_keeps_the_later`."""
-    for crate, name in sorted(set(re.findall(r"`((?:pg_|parsolve_)\w+)/(\w+)`", PROMISES.read_text()))):
-        is_there = (CRATES / crate / f"must-fail/{name}.edit").is_file()
-        yield name, None if is_there else f"isn't in {crate}/must-fail, as docs/promises.md says"
+    """The same for each edit that docs/promises.md names, as `pg_map/join_keeps_the_later`, and each that the gate tries: the page's first table
+    names these alone."""
+    names = re.compile(r"`((?:pg_|parsolve_)\w+)/(\w+)`")
+    text = PROMISES.read_text()
+    first = set(names.findall(re.search(r"\*\*What the gate tries\*\*\n\n((?:\|.*\n)*)", text)[1]))
+    kept = {(path.parts[-3], path.stem) for path in CRATES.glob("*/must-fail/*.edit")}
+    for crate, name in sorted(first | kept):
+        yield name, None if (crate, name) in first & kept else f"isn't both in {crate}/must-fail and in the first table of docs/promises.md"
+    for crate, name in sorted(set(names.findall(text)) - first):
+        is_there = (TOP / "edits" / crate / f"{name}.edit").is_file()
+        yield name, None if is_there else f"isn't in edits/{crate}, as docs/promises.md says"
+
+
+def kit():
+    """The same for each crate of the kit that KIT names, in each crate that is to use it."""
+    listed = dict(re.findall(r"^(\w+)[^:\n]*:(.*)", (TOP / "crates.txt").read_text(), re.M))
+    trusted = re.search(r"\*\*Trusted\*\*:((?:.|\n)*?)\n\n", README.read_text())[1]
+    for name, crates in KIT.items():
+        yield name, None if f"`{name}`" in trusted else "isn't among what README.md says is trusted"
+        for crate in crates.split():
+            code = "".join(path.read_text() for path in (CRATES / crate / "src").rglob("*.rt"))
+            is_used = name in listed[crate].split() and re.search(rf"^use {name}\b", code, re.M)
+            yield f"{crate}, {name}", None if is_used else "isn't used: the product is to stand on it there"
 
 
 def headline(path):
@@ -263,7 +285,7 @@ def write_definitions():
 def run():
     """Makes every check; answers how many passed and failed."""
     passed = failed = 0
-    for part in (imports, rows_of_map, rows_of_chains, exceptions, entries, calls, promises, edits):
+    for part in (imports, rows_of_map, rows_of_chains, exceptions, entries, calls, promises, edits, kit):
         for what, why in part():
             if why is None:
                 passed += 1

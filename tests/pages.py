@@ -15,7 +15,7 @@ PAGES = [*sorted(TOP.glob("*.md")), *sorted(TOP.glob("docs/*.md")), TOP / "examp
 FOLDERS = "bindings|docs|tests|examples|tools|bench|rows|share"
 LONGEST_LINE, MOST_WORDS = 160, 80
 PROGRAMS = {"parsolve", "certified"}
-MADE = {"mutex.pg": "make_mutex.py", "grid.pg": "make_grid.py", "arbiter.hoa": "make_arbiter.py"}
+MADE = {"mutex.pg": "make_mutex.py", "grid.pg": "make_grid.py", "arbiter.hoa": "make_arbiter.py", "lift.hoa": "make_lift.py"}
 
 
 def shown(path):
@@ -71,7 +71,7 @@ def shown_code():
     function = re.search(r"^    pub fn (?:.*\n)*?    }\n", text, re.M)[0]
     source = (TOP / "crates/pg_arena/src/player.rt").read_text()
     yield "docs/first_change.md: the function", None if function in source else "isn't what the source has"
-    edit = TOP / "crates/pg_arena/must-fail" / re.search(r"`(\w+\.edit)`", text)[1]
+    edit = TOP / "edits/pg_arena" / re.search(r"`(\w+\.edit)`", text)[1]
     is_there = edit.is_file() and edit.read_text().splitlines()[1].removeprefix("old: ") in function
     yield f"docs/first_change.md: {edit.name}", None if is_there else "doesn't change a line of the function"
     count = len(libraries_above("pg_arena"))
@@ -79,13 +79,14 @@ def shown_code():
 
 
 def shown_theorem():
-    """The same for the clause and the law that the README prints: both are as the sources have them."""
-    text = (TOP / "README.md").read_text()
-    for head, source in (("ensures answer", "pg_cli/src/program.rt"), ("pub record", "pg_command/specs/Laws.antt"),
-                         ("abbrev pub", "pg_command/specs/Laws.antt")):
+    """The same for the clause that the README prints and the law of docs/promises.md: they are as the sources have them."""
+    for page, head, source in (("README.md", "ensures answer", "pg_cli/src/program.rt"),
+                               ("docs/promises.md", "pub record", "pg_command/specs/Laws.antt"),
+                               ("docs/promises.md", "abbrev pub", "pg_command/specs/Laws.antt")):
+        text = (TOP / page).read_text()
         block = re.sub("^    ", "", re.search(rf"^    {head} (?:.*\n)(?:    .*\n)*", text, re.M)[0], flags=re.M)
         sources = re.sub("^    ensures", "ensures", (TOP / "crates" / source).read_text(), flags=re.M)
-        yield f"README.md: {block.splitlines()[0]}", None if block in sources else f"isn't what {source} has"
+        yield f"{page}: {block.splitlines()[0]}", None if block in sources else f"isn't what {source} has"
 
 
 def examples():

@@ -22,8 +22,9 @@ A table has many inputs of one answer, each of which is a row:
     head, tail what stands before each text, and behind it; absent: nothing
     texts      the texts. A mark `^` is a place in the text, which is without it
     told       the line on the error stream, behind `parsolve: `, with status 1 and no output; `{at}` is the place of the mark, in
-               bytes from the beginning of the input
+               bytes from the beginning of the input, or behind its line `--`
     has        in place of `told`: a text that the output has somewhere, with status 0
+    words      in place of the texts: command lines that aren't understood, with status 2 and no output
 """
 import glob
 import os
@@ -71,12 +72,14 @@ def run_row(program, row):
 
 def rows_of(table):
     """The rows that a table stands for."""
-    for text in table["texts"]:
+    for words in table.get("words", []):
+        yield {"name": f"{table['name']}: {words}", "args": words, "status": 2}
+    for text in table.get("texts", []):
         before, mark, behind = text.partition("^")
         given = table.get("head", "") + before
         row = {"name": f"{table['name']}: {text!r}", "args": table["args"], "stdin": given + behind + table.get("tail", "")}
         if "told" in table:
-            told = table["told"].replace("{at}", str(len(given.encode()))) if mark else table["told"]
+            told = table["told"].replace("{at}", str(len(given.rpartition("\n--\n")[2].encode()))) if mark else table["told"]
             row |= {"status": 1, "stderr": f"parsolve: {told}\n"}
         else:
             row |= {"stdout_has": table["has"]}

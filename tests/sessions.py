@@ -4,8 +4,7 @@
     tests/sessions.py [PROGRAM]    prints what it finds; the status is 1 if something is wrong
 
 The sessions of a page run one after the other in a folder of their own, in which the repository's files and folders are linked,
-so that a session may read what an earlier one wrote. A command that names a tool of TOOLS is left out where one of these isn't
-installed.
+so that a session may read what an earlier one wrote. A command that wants a tool of TOOLS is left out where that isn't installed.
 """
 import pathlib
 import re
@@ -16,8 +15,8 @@ import sys
 import tempfile
 
 TOP = pathlib.Path(__file__).resolve().parent.parent
-PAGES = ["README.md", "docs/commands.md"]
-TOOLS = {"berkeley-abc"}
+PAGES = ["README.md", "docs/commands.md", "docs/specifications.md"]
+TOOLS = {"berkeley-abc": r"berkeley-abc|small", "dot": r"\.svg", "yosys": r"yosys"}  # and which commands want them
 
 
 def sessions(page):
@@ -26,8 +25,9 @@ def sessions(page):
         yield command, re.sub(r"^    ", "", printed, flags=re.M)
 
 
-def missing():
-    return sorted(it for it in TOOLS if shutil.which(it) is None)
+def missing(command):
+    """The tools that a command wants and that aren't installed."""
+    return [tool for tool, words in TOOLS.items() if re.search(words, command) and shutil.which(tool) is None]
 
 
 def run_page(page, program):
@@ -36,8 +36,8 @@ def run_page(page, program):
         for path in TOP.iterdir():
             pathlib.Path(folder, path.name).symlink_to(path)
         for command, printed in sessions(page):
-            if missing() and any(tool in command for tool in TOOLS):
-                print(f"{page}: {command}: left out, {' and '.join(missing())} isn't installed")
+            if missing(command):
+                print(f"{page}: {command}: left out, {' and '.join(missing(command))} isn't installed")
                 continue
             words = command.replace("./parsolve", shlex.quote(program))
             ran = subprocess.run(["sh", "-c", words], cwd=folder, stdout=subprocess.PIPE, stderr=subprocess.STDOUT, text=True,

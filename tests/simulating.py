@@ -7,8 +7,11 @@ a look at every pair of steps finds.
     tests/simulating.py [PROGRAM]    prints what it finds; the status is 1 if something is wrong. With a program its circuits are run
 """
 import itertools
+import os
 import pathlib
 import random
+import re
+import shlex
 import subprocess
 import sys
 import tempfile
@@ -42,6 +45,25 @@ WIDE = ("aag 133 130 0 2 3\n" + "".join(f"{2 * it}\n" for it in range(1, 131)) +
         + "i0 a b\ni1 t\no0 \u00e9\n")
 WIDE_BINARY = ("aig 133 130 0 2 3\n266\n1\n".encode() + bytes([0x83, 0x02, 1, 2, 0x81, 0x02, 0x84, 0x02, 0])
                + "i0 a b\ni1 t\no0 \u00e9\n".encode())
+# what a program prints that is asked for the answer, the game and the solution of an automaton, by its name; the game and the solution
+# of `never` were worked out by hand: the environment never asks, so that the set is never met
+NEVER = """HOA: v1 Start: 0 AP: 2 "request" "grant" controllable-AP: 1 Acceptance: 1 Inf(0)
+--BODY-- State: 0 [0&1] 0 {0} [!0 | !1] 0 --END--
+"""
+PROGRAM = """#!/bin/sh
+case $1 in synth) cat answer ;; game) cat game ;; solve) cat solution ;; esac
+"""
+GAMES = {
+    "never": ('1 1 1 2,3 "s0";2 0 0 1 "s0:0";3 0 0 1,4 "s0:1";4 2 1 2,3 "s0/0";', "1 1 2;2 1;3 1;4 1 2;"),
+    "foresight": ((TOP / "examples/foresight.pg").read_text(), (TOP / "examples/foresight.solution").read_text()),
+}
+ROLE = {True: "REALIZABLE: you are the environment, and a line has the names of the inputs that hold\n",
+        False: "UNREALIZABLE: you are the controller, and a line has the names of the outputs that hold\n"}
+PLAYED = {
+    "never": ("grant\n\n", "0: - | ..\n0: - | grant | 0 {} | rejecting loop: steps 0 to 0\n"
+                           "1: - | ..\n1: - | - | 0 {} | rejecting loop: steps 1 to 1\n2: - | ..\n"),
+    "foresight": ("grant\n\ngrant\n", "0: - | ..\n0: - | grant | 2 {}\n1: - | ..\n1: - | - | no edge\n"),
+}
 REFUSED = {
     "UNREALIZABLE\n": "it begins neither with aag nor with aig",
     "aig 1 0 0 0\n": "line 1 is damaged",
@@ -106,6 +128,113 @@ def by_hand():
     yield "comments", used("ascii", DELAY_BINARY + b"l0 kept\nc\nby hand\no0 other\n")[1], DELAY.encode() + b"l0 kept\n"
 
 
+def played(name, answer, letters):
+    """(status, output, error stream) of a play; `name` is an automaton of examples/ or `never`."""
+    with tempfile.TemporaryDirectory() as made:
+        folder = pathlib.Path(made)
+        game, solution = GAMES.get(name, ("", ""))
+        for file, text in (("automaton", NEVER if name == "never" else example(name)), ("program", PROGRAM), ("answer", answer),
+                           ("game", game), ("solution", solution)):
+            (folder / file).write_text(text)
+        (folder / "program").chmod(0o755)
+        ran = subprocess.run([sys.executable, TOP / "tools/circuit", "play", "--program", "./program", "automaton"], cwd=folder,
+                             input=letters.encode(), capture_output=True, timeout=60)
+    return ran.returncode, ran.stdout.decode(), ran.stderr.decode()
+
+
+def plays():
+    """The same for plays against the environment, and against a circuit."""
+    for name, (letters, steps) in PLAYED.items():
+        yield f"a play: {name}", played(name, "UNREALIZABLE\n", letters), (0, f"{ROLE[False]}{HEAD} | state {{sets}}\n{steps}", "")
+    steps = "0: request | - | 1 {0}\n1: - | grant | 0 {0} | accepting loop: steps 0 to 1\n"
+    yield ("a play against a circuit", played("delay", "REALIZABLE\n" + DELAY, "request\n\n"),
+           (0, f"{ROLE[True]}{HEAD} | state {{sets}}\n{steps}", ""))
+    yield ("a move that isn't", played("never", "UNREALIZABLE\n", "request\n")[::2],
+           (1, "circuit: automaton: standard input: line 1: no output is named request; there are: grant\n"))
+
+
+def waves_of(text):
+    """The values of each name of a VCD file in each step, by the names as the file has them."""
+    head, body = text.split("$enddefinitions $end\n")
+    names, steps, now = dict(re.findall(r"^\$var wire 1 (\S+) (\S+) \$end$", head, re.M)), [], {}
+    for part in re.split(r"^#", body, flags=re.M)[1:]:
+        time, *changes = part.split()
+        if int(time) != len(steps):
+            return f"time {time} behind {len(steps)} steps"
+        now = {**now, **{names[change[1:]]: change[0] for change in changes}}
+        steps.append(now)
+    return steps[:-1]
+
+
+def drawn_inputs():
+    """The same for inputs that are drawn, and waves: the lines are those that the same inputs give, and the waves have what they say."""
+    for circuit, names in ((DELAY, {"request": "request", "grant": "grant"}), (WIDE, {"a b": "'a b'", "t": "t", "o1": "o1"})):
+        with tempfile.TemporaryDirectory() as folder:
+            pathlib.Path(folder, "circuit").write_text(circuit)
+            words = [sys.executable, TOP / "tools/circuit", "simulate", "circuit", "--random", "20", "7", "--vcd", "waves"]
+            ran = [subprocess.run(words, cwd=folder, stdin=subprocess.DEVNULL, capture_output=True, timeout=60) for _ in range(2)]
+            waves = waves_of(pathlib.Path(folder, "waves").read_text())
+        lines = ran[0].stdout.decode().splitlines()[1:]
+        word = "".join(line.partition(": ")[2].partition(" |")[0].replace("-", "", line.count(": -")) + "\n" for line in lines)
+        yield "drawn twice", (ran[0].returncode, ran[0].stdout, len(lines)), (0, ran[1].stdout, 20)
+        yield "drawn, and given", simulated(circuit, word)[1].splitlines()[1:], lines
+        held = [shlex.split(line.partition(": ")[2]) for line in lines]
+        for name in names:
+            wanted = [str(int(name in those)) for those in held]
+            yield f"the waves of {name}", [step[name.replace(" ", "_")] for step in waves], wanted
+
+
+# a stand-in for ABC: it says this of the circuits, and its circuit is the one in the file
+ABC = """#!/bin/sh
+case $2 in *write_aiger*) if [ -e "$SMALL" ]; then cp "$SMALL" small.aig; fi ;; *) echo "$SAID" ;; esac
+"""
+LONG = DELAY.replace("aag 2 1 1 1 0", "aag 3 1 1 1 1").replace("4\ni0", "4\n6 4 2\ni0")
+SAYS = "circuit: 1 gates and 1 latches, and in the smaller circuit 0 and 1\n"
+BY_ABC, BY_STEPS = "circuit: ABC compared the two circuits (dsec): they are equivalent\n", "circuit: 1000 steps of random inputs: both " \
+    "circuits answered the same, and no automaton stood beside them\n"
+MADE_SMALL = {
+    "equivalent": (DELAY_BINARY, "Networks are equivalent.", [], (0, DELAY, SAYS + BY_ABC + BY_STEPS)),
+    "binary": (DELAY_BINARY, "Networks are equivalent.", ["--binary"], (0, DELAY_BINARY.decode(), SAYS + BY_ABC + BY_STEPS)),
+    "undecided": (DELAY_BINARY, "Networks are UNDECIDED.", [],
+                  (0, DELAY, SAYS + "circuit: ABC didn't tell whether the two circuits are equivalent (dsec): ['Networks are "
+                   "UNDECIDED.']\n" + BY_STEPS)),
+    "refuted": (DELAY_BINARY, "Networks are NOT EQUIVALENT.", [],
+                (1, "", SAYS + "circuit: circuit: ABC says that the smaller circuit does something else (dsec)\n")),
+    "another": (DELAY_BINARY.replace(b"4\ni0", b"5\ni0"), "Networks are equivalent.", [],
+                (1, "", SAYS + BY_ABC + "circuit: circuit: the smaller circuit answers otherwise in step 0 of random inputs\n")),
+    "rejected": (DELAY_BINARY, "Networks are equivalent.", ["--automaton", "no edges"],
+                 (1, "", SAYS + BY_ABC + "circuit: circuit: the automaton rejects the smaller circuit in step 0 of random inputs: no edge\n")),
+    "no circuit": (None, "", [], (1, "", "circuit: circuit: ABC wrote no circuit: \n")),
+}
+
+
+def made_small(small, said, words):
+    """(status, output, error stream) of the tool with the stand-in; without a circuit it isn't there."""
+    with tempfile.TemporaryDirectory() as made:
+        folder = pathlib.Path(made)
+        (folder / "circuit").write_text(LONG)
+        if small is not None:
+            (folder / "small").write_bytes(small)
+        (folder / "no edges").write_text(NEVER.partition("State: 0")[0] + "--END--")
+        (folder / "berkeley-abc").write_text(ABC)
+        (folder / "berkeley-abc").chmod(0o755)
+        more = {"PATH": f"{folder}:/usr/bin:/bin", "SMALL": str(folder / "small"), "SAID": said}
+        ran = subprocess.run([sys.executable, TOP / "tools/circuit", "small", *words, "circuit"], cwd=folder, capture_output=True,
+                             timeout=60, env={**os.environ, **more})
+    return ran.returncode, ran.stdout.decode(), ran.stderr.decode()
+
+
+def made_smaller():
+    """The same for circuits that ABC makes small, by a stand-in for it, and where there is none."""
+    for what, (small, said, words, wanted) in MADE_SMALL.items():
+        yield f"small: {what}", made_small(small, said, words), wanted
+    with tempfile.TemporaryDirectory() as folder:
+        ran = subprocess.run([sys.executable, TOP / "tools/circuit", "small"], input=DELAY.encode(), capture_output=True, timeout=60,
+                             env={**os.environ, "PATH": folder})
+    yield ("small: no ABC", (ran.returncode, ran.stderr),
+           (1, b"circuit: standard input: ABC isn't installed; in Debian it is in the package berkeley-abc\n"))
+
+
 def refusals():
     """The same for what is refused."""
     for text, told in REFUSED.items():
@@ -116,7 +245,8 @@ def refusals():
     yield "a quote", simulated(DELAY, "'\n")[2], "circuit: standard input: line 1: a quote doesn't end\n"
     yield ("another automaton", simulated(DELAY, WORD, example("hoa-example"))[::2],
            (1, "circuit: automaton: proposition a is neither an input nor an output of the circuit\n"))
-    for words in ([], ["run"], ["simulate"], ["simulate", "-"]):
+    for words in ([], ["run"], ["simulate"], ["simulate", "-"], ["play"], ["simulate", "a", "--random", "5"],
+                  ["small", "--automaton", "-"]):
         yield words, subprocess.run([sys.executable, TOP / "tools/circuit", *words], capture_output=True, timeout=60).returncode, 2
 
 
@@ -170,7 +300,7 @@ def at_random():
         names = [f"p{place}" for place in range(len(a.controllable))]
         text = random_circuit(dice, names, a.controllable)
         inputs = [name for name, own in zip(names, a.controllable) if not own]
-        letters = [dice.randrange(2 ** len(inputs)) for _ in range(12)]
+        letters = [dice.randrange(2 ** len(inputs)) for _ in range(dice.choice([12, 40]))]
         word = "".join(" ".join(name for place, name in enumerate(inputs) if letter >> place & 1) + "\n" for letter in letters)
         status, output, told = simulated(text, word, controllers.automaton_text(a))
         yield f"at random {number}", (status, output.splitlines()[1:], told), (0, lines_of(a, text, letters), "")
@@ -202,7 +332,7 @@ def counted(checks):
 
 def run():
     """Makes every check that needs no program; answers how many passed and failed."""
-    return counted(itertools.chain(by_hand(), refusals(), at_random()))
+    return counted(itertools.chain(by_hand(), plays(), drawn_inputs(), made_smaller(), refusals(), at_random()))
 
 
 def run_with(program):

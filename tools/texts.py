@@ -1,7 +1,12 @@
-"""What the tools have in common: faults, the tokens of a text, inputs that are read and answers that are written."""
+"""What the tools have in common: faults, the tokens of a text, inputs that are read, programs that are asked and answers that are
+written."""
+import pathlib
 import re
+import subprocess
 import sys
 
+TOP = pathlib.Path(__file__).resolve().parent.parent
+PROGRAM = next((it for it in (TOP / "parsolve", TOP / "bin/parsolve") if it.exists()), pathlib.Path("parsolve"))  # checkout, archive
 LONGEST_INPUT, GREATEST_NUMBER = 268435456, 4294967295
 AUTOMATON_BLANKS, COMMENT_MARK = re.compile(rb"[\t\n\r ]*"), re.compile(rb"/\*|\*/")
 
@@ -62,6 +67,11 @@ def content_of(string):
     return re.sub(rb"\\(.)", rb"\1", string[1:-1], flags=re.S)
 
 
+def shown(name):
+    """The bytes of a name as text that a picture can hold."""
+    return "".join(letter if letter.isprintable() else "\ufffd" for letter in name.decode("utf-8", "replace"))
+
+
 def read_input(path):
     """The bytes of a file, or of standard input."""
     try:
@@ -80,6 +90,27 @@ def of(path, read, *words):
         return read(*words)
     except Fault as fault:
         raise Fault(f"{'standard input' if path == '-' else path}: {fault}")
+
+
+def printed_by(command, text, seconds=None, folder=None):
+    """What a program prints of an input, in a folder; if it fails, the last line that it tells is the fault."""
+    try:
+        ran = subprocess.run(command, input=text, stdout=subprocess.PIPE, stderr=subprocess.PIPE, timeout=seconds, cwd=folder)
+    except subprocess.TimeoutExpired:
+        raise Fault(f"it is too large: {command[0]} isn't done after {seconds} seconds")
+    except OSError as error:
+        raise Fault(f"{command[0]} can't be started: {error.strerror}")
+    if ran.returncode:
+        told = shown(ran.stderr.strip().rpartition(b"\n")[2])
+        raise Fault(re.sub("^parsolve: ", "", told) or f"{command[0]} failed with status {ran.returncode}")
+    return ran.stdout
+
+
+def program_of(given):
+    """The program that is asked: that of --program, or the checkout's, which is built where that has to be."""
+    if given.program is None and subprocess.call([PROGRAM, "--version"], stdout=subprocess.DEVNULL):
+        raise Fault(f"{PROGRAM} can't be built")  # the first use builds it, and tells on the error stream how far it is
+    return given.program or str(PROGRAM)
 
 
 def run(name, answer):

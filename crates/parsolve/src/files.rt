@@ -20,8 +20,11 @@ const SEPARATOR: &[u8] = b"\n--\n";
 /// How many files a command takes: a game or an automaton; or a game and what belongs to it.
 fn count_of(command: Command) -> usize {
     match command {
-        Command::Measure { .. } | Command::Solve { .. } | Command::Game | Command::Synth { .. } =>
-            1,
+        Command::Measure { .. }
+        | Command::Solve { .. }
+        | Command::SolveAny { .. }
+        | Command::Game
+        | Command::Synth { .. } => 1,
         Command::Check | Command::Replay => 2,
     }
 }

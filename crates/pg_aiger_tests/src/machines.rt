@@ -55,15 +55,6 @@ pub fn alternating(alloc: Global) -> Result<Made, Fail> {
     )
 }
 
-/// Over r alone: every word is accepted, and nothing is answered.
-pub fn listening(alloc: Global) -> Result<Made, Fail> {
-    made_of(
-        alloc,
-        b"HOA: v1\nStart: 0\nAP: 1 \"r\"\nAcceptance: 1 Inf(0)\n--BODY--\nState: 0 {0}\n[t] 0\n--END--\n",
-        b"0 1 0; 1 0; 2 0; 3 0 2; 4 0 2;",
-    )
-}
-
 /// Over r and g: g is what r was one step before, and false at first.
 pub fn delay(alloc: Global) -> Result<Made, Fail> {
     made_of(

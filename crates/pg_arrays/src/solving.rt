@@ -14,11 +14,12 @@ use crate::build::{build, examine};
 use crate::fault::ArraysFault;
 use crate::solution::write;
 use pg_arena::Game;
-use pg_check::{CheckFault, strategies};
+use pg_check::{CheckFault, find_solution, strategies};
 use pg_text::Solution;
 use std::alloc::Global;
 
-/// A sound solution of a game, which has no choice where the loser owns the vertex.
+/// A sound solution of a game, which has no choice where the loser owns the vertex: one that is found at once, and else that of the least
+/// progress measures.
 fn solution_of(alloc: Global, game: &Game) -> Result<Solution, CheckFault>
     ensures choices { IfOk result (IsSolution game.now) }
     ensures elsewhere { IfOk result (λ s. (v : ℕ) → v < length game.now → owner game.now v ≡ loser s v → choice s v ≡ None) }
@@ -28,6 +29,9 @@ fn solution_of(alloc: Global, game: &Game) -> Result<Solution, CheckFault>
     pg_determined::laws::never_undecided();
     // asked for what its contract says of the game
     let _vertices = game.len();
+    if let Some(solution) = find_solution(alloc, game)? {
+        return Ok(solution);
+    }
     let maps = pg_solver::solve(alloc, game)?;
     strategies(alloc, game, &maps.of_game, &maps.of_dual)
 }

@@ -46,10 +46,10 @@ pub use Rattle.pg_text.specs.Solutions.{IsSolution, answer_at, choice, loser, un
 pub use Rattle.pg_text.specs.declared.answer.Answer.{Answer}
 pub use Rattle.pg_check.specs.Laws.{HasOneLoser, KeepsToSolution, SoundIffWins}
 pub use Rattle.pg_check.specs.Mirrors.Cycles.{HasNoBadCycle, HasNoCycle, IsLost, IsSimpleCycle, IsTrail}
-pub use Rattle.pg_check.specs.Mirrors.Orders.{IsOrder, Stands, height_at, height_of}
+pub use Rattle.pg_check.specs.Mirrors.Orders.{GoesOn, IsOnSide, IsOrder, Stands, height_at, height_of}
 pub use Rattle.pg_check.specs.Mirrors.Searches.{AreTaken, IsExplored, IsSearched, IsTaken}
 pub use Rattle.pg_check.specs.Plays.{IsAbsentFrom, IsGreatestRecurring, IsPlay, Loses, Recurs, WinsPlay, stretch}
-pub use Rattle.pg_check.specs.Soundness.{Counts, IsBadCycle, IsSafe, IsSound, KeepsCount, NoneLeaves, Wins}
+pub use Rattle.pg_check.specs.Soundness.{Counts, IsBadCycle, IsSafe, IsSound, IsSoundSolution, KeepsCount, NoneLeaves, Wins}
 pub use Rattle.pg_check.specs.Strategies.{AreClosed, Certifies, DecidedMapsSolve, GoesServed, HasList, IsAnswerOf, IsCertifiedBy}
 pub use Rattle.pg_check.specs.Strategies.{IsCertifiedFor, IsChoiceFor, IsLeastUndecided, IsServedFor, IsSolutionOf, IsUndecided, ListsWin}
 pub use Rattle.pg_check.specs.Strategies.{game_of, map_of}

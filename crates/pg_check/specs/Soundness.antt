@@ -1,9 +1,9 @@
 -- Sound solutions: which edges a solution lets count, which paths and cycles speak against it, and who wins by it.
-use Rattle.std.specs.Prelude.{◌≡◌, ℕ, ◌<◌, ◌≤◌, ◌==◌, ◌⊎◌, List, [], ◌∷◌, ◌++◌, Some, length, map, All, count_by}
+use Rattle.std.specs.Prelude.{◌≡◌, ℕ, ◌<◌, ◌≤◌, ◌==◌, ◌⊎◌, List, [], ◌∷◌, ◌++◌, None, Some, length, map, All, count_by}
 use Rattle.pg_arena.specs.declared.player.Player.{Player}
 use Rattle.pg_arena.specs.Games.{opponent, HasParityOf, GameVertex, priority, owner, IsEdge, IsPath, IsGreatest}
 use Rattle.pg_text.specs.declared.answer.Answer.{Answer}
-use Rattle.pg_text.specs.Solutions.{winner, loser, choice}
+use Rattle.pg_text.specs.Solutions.{winner, loser, choice, IsSolution}
 use Rattle.pg_check.specs.Plays.{IsPlay, WinsPlay}
 
 -- An edge counts if it leaves a vertex of the loser, or is the choice. What goes by such edges follows the solution.
@@ -40,6 +40,12 @@ abbrev pub IsSound : List GameVertex → List Answer → Type 0
 IsSound game solution =
     (v : ℕ) (rest : List ℕ) → v < length game → IsPath (Counts game solution) v rest
     → IsSafePath game solution v rest
+
+-- a sound solution of the game, without a choice where the loser owns the vertex
+pub record IsSoundSolution (game : List GameVertex) (solution : List Answer) : Type 0 where
+  pub choices : IsSolution game solution
+  pub elsewhere : (v : ℕ) → v < length game → owner game v ≡ loser solution v → choice solution v ≡ None
+  pub sound : IsSound game solution
 
 -- no edge that counts joins vertices with different winners
 abbrev pub NoneLeaves : List GameVertex → List Answer → Type 0

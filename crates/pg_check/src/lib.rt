@@ -1,5 +1,5 @@
 //! Solutions of parity games: which of them are sound, what a sound solution does for endless plays, and how one
-//! is made from measures and checked.
+//! is made from measures, found at once, and checked.
 #![tactic(auto)]
 
 mod certificate;
@@ -8,16 +8,19 @@ mod choices;
 mod cycle;
 mod edges;
 mod fault;
+mod finding;
 pub mod laws;
 mod nests;
 mod order;
 mod play;
 mod proposal;
+mod shown;
 mod verdict;
 
 pub use certificate::{certifies, check_with};
 pub use checker::check;
 pub use choices::strategies;
 pub use fault::CheckFault;
+pub use finding::find_solution;
 pub use play::Play;
 pub use verdict::Verdict;

@@ -23,7 +23,7 @@ pub(crate) struct Order {
 impl Order {
     /// The place of a vertex.
     #[inline(always)]
-    fn place(&self, v: Vertex) -> u32
+    pub fn place(&self, v: Vertex) -> u32
         requires { v < length self.now.places.items }
         ensures { result ≡ slice_index self.now.places.items v }
     {
@@ -72,7 +72,7 @@ fn is_said_of(priority: u32, height: u32) -> bool
 
 /// Whether a vertex stands as it should: its place may say what it says, and edges that count lead before the end.
 #[inline(always)]
-fn stands(game: &Game, solution: &Solution, order: &Order, v: Vertex) -> bool
+pub(crate) fn stands(game: &Game, solution: &Solution, order: &Order, v: Vertex) -> bool
     requires whole { length solution.now ≡ length game.now }
     requires places { length order.now.places.items ≡ length game.now }
     requires within { v < length game.now }

@@ -10,7 +10,9 @@ use pg_arena::{Game, dual};
 use pg_command::{Finder, Maps};
 use pg_coord::{Link, solve, solve_within};
 use pg_map::MeasureMap;
+use pg_measure::Bounds;
 use pg_one_piece::InOnePiece;
+use pg_parts::fits_worker;
 use pg_solver::Found;
 use pg_worker::Cut;
 use std::alloc::{AllocError, Global};
@@ -50,18 +52,27 @@ pub(crate) enum Rounds {
     Any,
 }
 
+/// Whether a worker keeps a map of the game, and one of its dual.
+fn fit_workers(alloc: Global, game: &Game) -> Result<bool, AllocError> {
+    let of_game = Bounds::of(alloc, game)?;
+    let of_dual = Bounds::of_dual(alloc, game)?;
+    let most = of_game.pairs().len().max(of_dual.pairs().len());
+    Ok(fits_worker(game.len(), most))
+}
+
 impl Rounds {
     /// How many for a game, if it is shared out among so many links.
-    fn of(self, game: &Game, links: usize) -> Option<Limit> {
+    fn of(self, alloc: Global, game: &Game, links: usize) -> Result<Option<Limit>, AllocError> {
         match self {
-            _ if links == 0 => None,
-            Rounds::Few => (game.len() <= MOST_VERTICES).then_some(FEW),
+            _ if links == 0 => Ok(None),
+            Rounds::Few => Ok((game.len() <= MOST_VERTICES).then_some(FEW)),
             Rounds::BySize | Rounds::Any => {
                 let by_size = game.len() as u64 / VERTICES_A_ROUND;
-                Some(Limit {
+                let limit = Limit {
                     rounds: FIRST_ROUNDS.saturating_add(by_size),
                     lifts: LIFTS,
-                })
+                };
+                Ok(fit_workers(alloc, game)?.then_some(limit))
             }
         }
     }
@@ -91,7 +102,7 @@ impl<L: Link> Finder for OverLinks<'_, L> {
         if let Rounds::Any = self.rounds {
             return Ok(Found::Rows(measure_over(alloc, game, self.links)?));
         }
-        let Some(limit) = self.rounds.of(game, self.links.len()) else {
+        let Some(limit) = self.rounds.of(alloc, game, self.links.len())? else {
             return InOnePiece.measure(alloc, game);
         };
         match measure_within(alloc, game, self.links, limit)? {
@@ -101,7 +112,7 @@ impl<L: Link> Finder for OverLinks<'_, L> {
     }
 
     fn solve(&mut self, alloc: Global, game: &Game) -> Result<Maps<Found>, AllocError> {
-        let Some(limit) = self.rounds.of(game, self.links.len()) else {
+        let Some(limit) = self.rounds.of(alloc, game, self.links.len())? else {
             return InOnePiece.solve(alloc, game);
         };
         match both_within(alloc, game, self.links, limit)? {

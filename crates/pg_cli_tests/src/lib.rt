@@ -1,5 +1,4 @@
-//! Tests of the commands: workers and links, streams that fail, lines of faults, worlds that are replayed, and the words of
-//! the command line.
+//! Tests of the commands: workers and links, streams that fail, lines of faults, and the words of the command line.
 #![tactic(auto)]
 
 #[cfg(test)]
@@ -8,8 +7,6 @@ mod failures;
 mod faults;
 #[cfg(test)]
 mod links;
-#[cfg(test)]
-mod replay;
 #[cfg(test)]
 mod streams;
 #[cfg(test)]

@@ -1,3 +1,5 @@
+//! What words name. Those that are refused, and the helps, are shown by rows of the program.
+
 use pg_cli::{Command, Line, parse_words};
 use std::alloc::Global;
 
@@ -17,38 +19,6 @@ fn names_apart(alloc: Global, words: &[&str], command: Command, program: &str) -
 fn names_port(alloc: Global, words: &[&str], port: u16) -> bool {
     let line = parse_words(alloc, words);
     matches!(&line, Ok(Line::Work(named)) if *named == port)
-}
-
-/// Whether the words are refused, by a text that goes to the error stream.
-fn is_fault(alloc: Global, words: &[&str]) -> bool {
-    let line = parse_words(alloc, words);
-    matches!(&line, Err(error) if error.use_stderr())
-}
-
-/// Whether a program of the workers is a fault for each of these commands.
-fn have_no_program(alloc: Global, names: &[&str]) -> bool {
-    for name in names {
-        if !is_fault(alloc, &["parsolve", name, "--apart", "parsolve"]) {
-            return false;
-        }
-    }
-    true
-}
-
-/// Whether each of these words is a fault as the port of a worker.
-fn are_no_ports(alloc: Global, words: &[&str]) -> bool {
-    for word in words {
-        if !is_fault(alloc, &["parsolve", "worker", "--port", word]) {
-            return false;
-        }
-    }
-    true
-}
-
-/// Whether the words are answered by a text that doesn't go to the error stream.
-fn is_help(alloc: Global, words: &[&str]) -> bool {
-    let line = parse_words(alloc, words);
-    matches!(&line, Err(error) if !error.use_stderr())
 }
 
 #[test]
@@ -82,24 +52,9 @@ fn words_say_how_many_workers_solve(rt: HostRuntime) {
 }
 
 #[test]
-fn other_numbers_of_workers_are_faults(rt: HostRuntime) {
-    for word in ["17", "256", "-1", "two", "1.5", ""] {
-        assert!(rt;
-            is_fault(rt.alloc(), &["parsolve", "solve", "--workers", word]),
-            "{word}"
-        );
-    }
-    assert!(rt; is_fault(rt.alloc(), &["parsolve", "solve", "--workers"]));
-}
-
-#[test]
-fn what_solves_nothing_has_no_workers(rt: HostRuntime) {
-    for name in ["check", "replay", "game"] {
-        assert!(rt;
-            is_fault(rt.alloc(), &["parsolve", name, "--workers", "1"]),
-            "{name}"
-        );
-    }
+fn words_ask_for_any_strategy(rt: HostRuntime) {
+    let any = Command::SolveAny { workers: 2 };
+    assert!(rt; names(rt.alloc(), &["parsolve", "solve", "--any"], any));
 }
 
 #[test]
@@ -123,7 +78,6 @@ fn words_name_the_program_of_the_workers(rt: HostRuntime) {
             "{name}"
         );
     }
-    assert!(rt; have_no_program(rt.alloc(), &["check", "replay", "game"]));
 }
 
 #[test]
@@ -134,18 +88,4 @@ fn words_name_the_port_of_a_worker(rt: HostRuntime) {
             "{word}"
         );
     }
-    assert!(rt; are_no_ports(rt.alloc(), &["0", "65536", "-1", "http", ""]));
-    assert!(rt; is_fault(rt.alloc(), &["parsolve", "worker"]));
-}
-
-#[test]
-fn other_words_are_faults(rt: HostRuntime) {
-    for word in ["lift", "Solve", "--workers", ""] {
-        assert!(rt; is_fault(rt.alloc(), &["parsolve", word]), "{word}");
-    }
-}
-
-#[test]
-fn help_is_no_fault(rt: HostRuntime) {
-    assert!(rt; is_help(rt.alloc(), &["parsolve", "--help"]));
 }

@@ -39,7 +39,7 @@ pub use Rattle.pg_automaton.specs.Shapes.{FitsShape}
 pub use Rattle.pg_automaton.specs.Words.{IsAccepted, IsWord, state_after, step_from, target_of}
 pub use Rattle.pg_check.proofs.Chosen.{is_solution}
 pub use Rattle.pg_check.specs.Laws.{OneWinner, SoundWins}
-pub use Rattle.pg_check.specs.Soundness.{Counts, IsBadCycle, IsSound}
+pub use Rattle.pg_check.specs.Soundness.{Counts, IsBadCycle, IsSound, IsSoundSolution}
 pub use Rattle.pg_check.specs.Strategies.{AreClosed, ClosedMapsSound, DecidedMapsSolve, HasList, IsAnswerOf, IsChoiceFor, IsLeastUndecided}
 pub use Rattle.pg_check.specs.Strategies.{IsSolutionOf, IsUndecided, StrategiesFail}
 pub use Rattle.pg_check.specs.Verdicts.{IsSimpleBadCycle, Refutes}
@@ -86,7 +86,7 @@ pub use Rattle.pg_text.specs.Solutions.{IsSolution, answer_at, choice, unanswere
 pub use Rattle.pg_text.specs.declared.answer.Answer.{Answer}
 pub use Rattle.pg_text.specs.declared.fault.TextFault.{TextFault}
 pub use Rattle.pg_words.specs.declared.command.Command.{Command}
-pub use Rattle.pg_words.specs.declared.command.Command.TheVariants.{Measure, Solve}
+pub use Rattle.pg_words.specs.declared.command.Command.TheVariants.{Measure, Solve, SolveAny}
 pub use Rattle.pg_world.specs.Laws.{AreTakenToo, NeverAbove, SameTaken}
 pub use Rattle.pg_world.specs.OneScript.{SpellsOneScript}
 pub use Rattle.pg_world.specs.ScriptText.{IsScriptText}
@@ -113,7 +113,7 @@ pub use Rattle.pg_command.specs.Mirrors.Working.{Fails, ShowsWhat}
 pub use Rattle.pg_command.specs.Parts.{IsParted, separator}
 pub use Rattle.pg_command.specs.Replaying.{AreMapsOf, IsNoScript, IsReplayed, IsScripted, IsStopped, RefusesReplay, replica_text}
 pub use Rattle.pg_command.specs.Replaying.{update_line, world_text}
-pub use Rattle.pg_command.specs.Solving.{IsSolved, IsSolvedBy, IsUndecidedAt, IsUndecidedIn, RefusesSolve}
+pub use Rattle.pg_command.specs.Solving.{IsSolved, IsSolvedAnyhow, IsSolvedBy, IsUndecidedAt, IsUndecidedIn, RefusesSolve}
 pub use Rattle.pg_command.specs.Synthesising.{HasLargeMachine, IsRealized, IsSynthesised, IsUndecidedFor, IsUnrealized, IsWonFor}
 pub use Rattle.pg_command.specs.Synthesising.{RefusesSynth, realizable, unrealizable}
 pub use Rattle.pg_command.specs.Texts.{IsNoGame, IsNoSolution}

@@ -2,7 +2,7 @@
 use Rattle.pg_command.proofs.Common.{ℕ, List, Option, Some, None, Result, Ok, Err, inl, inr, IfSome, Player, GameVertex, MapValue, Answer}
 use Rattle.pg_command.proofs.Common.{MapKind, IsClosedMapOf, IsMeasureOf, IsMeasured, IsSolvedBy, IsSolved, IsUndecidedIn, IsUndecidedAt}
 use Rattle.pg_command.proofs.Common.{RefusesSolve, IsWonFor, IsRealized, IsSynthesised, IsUndecidedFor, HasLargeMachine, RefusesSynth}
-use Rattle.pg_command.proofs.Common.{Meaning, meaning_of, PrintsBy, RefusesBy, Answers, Command, Measure, Solve, CliFault}
+use Rattle.pg_command.proofs.Common.{Meaning, meaning_of, PrintsBy, RefusesBy, Answers, Command, Measure, Solve, SolveAny, CliFault}
 use Rattle.pg_aiger.specs.declared.fault.AigerFault.TheVariants as aiger
 use Rattle.pg_synth.specs.declared.fault.SynthFault.TheVariants as synth
 use Rattle.pg_words.specs.declared.command.Command.TheVariants.{Synth}
@@ -107,6 +107,7 @@ module _ (Kind Other : MapKind) (is_other : (game : List GameVertex) (map : MapV
   says_too : (command : Command) (input : List ℕ) → SaysToo (meaning_of Kind command input) (meaning_of Other command input)
   says_too (Measure workers) input = record { prints = measured_too input; refuses = λ fault why. why }
   says_too (Solve workers) input = record { prints = solved_too input; refuses = unsolved_too input }
+  says_too (SolveAny workers) input = record { prints = λ output a. a; refuses = unsolved_too input }
   says_too (Synth workers) input = record { prints = synthesised_too input; refuses = unsynthesised_too input }
   says_too _ input = record { prints = λ output a. a; refuses = λ fault why. why }
 

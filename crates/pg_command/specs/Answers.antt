@@ -2,13 +2,13 @@
 use Rattle.std.specs.Prelude.{ℕ, ◌<◌, ◌≤◌, List, length, Option, Result, Ok, Err}
 use Rattle.std.specs.Io.KnownBytes.{Appends}
 use Rattle.pg_command.specs.Measuring.{MapKind, IsMeasureOf, IsMeasured, RefusesMeasure}
-use Rattle.pg_command.specs.Solving.{IsSolved, RefusesSolve}
+use Rattle.pg_command.specs.Solving.{IsSolved, IsSolvedAnyhow, RefusesSolve}
 use Rattle.pg_command.specs.Checking.{IsChecked, RefusesCheck}
 use Rattle.pg_command.specs.Replaying.{IsReplayed, RefusesReplay}
 use Rattle.pg_command.specs.Making.{IsMade, RefusesGame}
 use Rattle.pg_command.specs.Synthesising.{IsSynthesised, RefusesSynth}
 use Rattle.pg_words.specs.declared.command.Command.{Command}
-use Rattle.pg_words.specs.declared.command.Command.TheVariants.{Measure, Solve, Check, Replay, Game, Synth}
+use Rattle.pg_words.specs.declared.command.Command.TheVariants.{Measure, Solve, SolveAny, Check, Replay, Game, Synth}
 use Rattle.pg_command.specs.declared.fault.CliFault.{CliFault}
 use Rattle.pg_command.specs.declared.fault.CliFault.TheVariants.{OutOfMemory, Read, Write, InputTooLong}
 
@@ -21,6 +21,7 @@ pub record Meaning : Type 1 where
 abbrev pub meaning_of : MapKind → Command → List ℕ → Meaning
 meaning_of Kind (Measure workers) input = record { prints = IsMeasured Kind input; refuses = RefusesMeasure input }
 meaning_of Kind (Solve workers) input = record { prints = IsSolved Kind input; refuses = RefusesSolve Kind input }
+meaning_of Kind (SolveAny workers) input = record { prints = IsSolvedAnyhow input; refuses = RefusesSolve Kind input }
 meaning_of Kind Check input = record { prints = IsChecked input; refuses = RefusesCheck input }
 meaning_of Kind Replay input = record { prints = IsReplayed input; refuses = RefusesReplay input }
 meaning_of Kind Game input = record { prints = IsMade input; refuses = RefusesGame input }

@@ -8,7 +8,7 @@ use Rattle.pg_text.specs.SolutionText.{IsSolutionText}
 use Rattle.pg_check.specs.Soundness.{IsSound, Wins}
 use Rattle.pg_world.specs.declared.fault.WorldFault.{WorldFault}
 use Rattle.pg_command.specs.Measuring.{IsMeasured, IsMeasureOf, IsClosedMapOf}
-use Rattle.pg_command.specs.Solving.{IsSolved, IsUndecidedAt}
+use Rattle.pg_command.specs.Solving.{IsSolved, IsSolvedAnyhow, IsUndecidedAt}
 use Rattle.pg_command.specs.Synthesising.{IsSynthesised}
 use Rattle.pg_command.specs.Replaying.{IsReplayed, IsStopped}
 use Rattle.pg_command.specs.Making.{IsMade, IsTooLarge}
@@ -29,6 +29,10 @@ pub record WinsAsPrinted (input output : List ℕ) : Type 0 where
 -- so it is of each answer of `solve` by closed maps, whether or not they are the least
 abbrev pub PrintedWinnersWin : Type 0
 PrintedWinnersWin = (input output : List ℕ) → IsSolved IsClosedMapOf input output → WinsAsPrinted input output
+
+-- and of each answer of `solve --any`
+abbrev pub AnyPrintedWinnersWin : Type 0
+AnyPrintedWinnersWin = (input output : List ℕ) → IsSolvedAnyhow input output → WinsAsPrinted input output
 
 -- an answer by least progress measures is one by closed maps
 abbrev pub LeastIsClosed : Type 0

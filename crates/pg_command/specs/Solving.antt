@@ -1,10 +1,11 @@
--- What `solve` prints.
+-- What `solve` prints, and what `solve --any` does.
 use Rattle.std.specs.Prelude.{◌≡◌, ℕ, ◌<◌, ◌^◌, List, All}
 use Rattle.pg_arena.specs.Games.{GameVertex, dual}
 use Rattle.pg_map.specs.Maps.{MapValue}
 use Rattle.pg_text.specs.GameText.{IsGameText}
 use Rattle.pg_text.specs.SolutionLayout.{solution_text}
 use Rattle.pg_text.specs.declared.answer.Answer.{Answer}
+use Rattle.pg_check.specs.Soundness.{IsSoundSolution}
 use Rattle.pg_check.specs.Strategies.{IsSolutionOf, IsLeastUndecided}
 use Rattle.pg_command.specs.Texts.{IsNoGame}
 use Rattle.pg_command.specs.Measuring.{MapKind}
@@ -26,6 +27,15 @@ pub record IsSolved (Kind : MapKind) (input output : List ℕ) : Type 0 where
   pub identifiers : All (λ x. x.identifier < 2 ^ 32) game
   pub solution : List Answer
   pub solved : IsSolvedBy Kind game solution
+  pub printed : output ≡ solution_text game solution
+
+-- The input spells a game, and the output is the text of a sound solution, whichever that is.
+pub record IsSolvedAnyhow (input output : List ℕ) : Type 0 where
+  pub game : List GameVertex
+  pub spelt : IsGameText input game
+  pub identifiers : All (λ x. x.identifier < 2 ^ 32) game
+  pub solution : List Answer
+  pub solved : IsSoundSolution game solution
   pub printed : output ≡ solution_text game solution
 
 -- The vertex with this identifier is the least at which a map of the game and one of its dual, both of the kind, are both top.

@@ -7,7 +7,7 @@ ghost use Rattle.pg_automaton.specs.Words.{IsWord};
 ghost use Rattle.pg_synth.specs.AutomatonGames.{IsGameOfAutomaton};
 ghost use Rattle.pg_synth.specs.Laws.{TracesOnePlay};
 ghost use Rattle.pg_command.specs.Controllers.{CircuitAccepted, NoneAccepted, NoController, OneVerdict, AnswersWithinLimits};
-ghost use Rattle.pg_command.specs.Laws.{PrintedWinnersWin, LeastIsClosed, OneAnswer};
+ghost use Rattle.pg_command.specs.Laws.{PrintedWinnersWin, AnyPrintedWinnersWin, LeastIsClosed, OneAnswer};
 
 use pg_synth::{InputWord, Word};
 
@@ -18,6 +18,15 @@ pub fn printed_winners_win()
 {
     pg_text::laws::solution_reads_back();
     pg_check::laws::closed_maps_sound();
+    pg_check::laws::sound_wins();
+    pg_check::laws::one_winner();
+}
+
+/// The same of what `solve --any` prints.
+pub fn any_printed_winners_win()
+    ensures { AnyPrintedWinnersWin }
+{
+    pg_text::laws::solution_reads_back();
     pg_check::laws::sound_wins();
     pg_check::laws::one_winner();
 }

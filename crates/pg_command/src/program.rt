@@ -15,7 +15,7 @@ use crate::input::{MOST_BYTES, read_input};
 use crate::measure::measure;
 use crate::printing::print;
 use crate::replay::replay;
-use crate::solve::solve;
+use crate::solve::{solve, solve_any};
 use crate::synth::synth;
 use pg_words::Command;
 use std::alloc::Global;
@@ -42,6 +42,7 @@ pub fn answer<F: Finder, W: Write>(
     match command {
         Command::Measure { .. } => print(measure(alloc, text, finder), writer),
         Command::Solve { .. } => print(solve(alloc, text, finder), writer),
+        Command::SolveAny { .. } => print(solve_any(alloc, text, finder), writer),
         Command::Check => print(check(alloc, text), writer),
         Command::Replay => print(replay(alloc, text), writer),
         Command::Game => print(game(alloc, text), writer),

@@ -1,15 +1,15 @@
-//! The command `solve`.
+//! The command `solve`, and the same with `--any`.
 
 ghost use Rattle.std.specs.Prelude.{◌≡◌, IfOk, IfErr};
 ghost use Rattle.pg_text.specs.Solutions.{IsSolution};
 ghost use Rattle.pg_text.specs.SolutionLayout.{solution_text};
-ghost use Rattle.pg_command.specs.Solving.{IsSolved, RefusesSolve};
+ghost use Rattle.pg_command.specs.Solving.{IsSolved, IsSolvedAnyhow, RefusesSolve};
 ghost use Rattle.pg_command.specs.Mirrors.Working.{ShowsWhat, Fails};
 
 use crate::fault::CliFault;
 use crate::finder::Finder;
 use crate::printing::Answer;
-use crate::solver::solution_of;
+use crate::solver::{any_solution_of, solution_of};
 use pg_arena::Game;
 use pg_text::{Solution, read_game, write_solution};
 use std::alloc::Global;
@@ -47,5 +47,23 @@ pub(crate) fn solve<F: Finder>(
     let _vertices = game.len();
     drop(text);
     let solution = solution_of(alloc, &game, finder)?;
+    Ok(Solved { game, solution })
+}
+
+/// A sound solution of the game that a text spells, whichever is found. The text is let go before the work begins.
+pub(crate) fn solve_any<F: Finder>(
+    alloc: Global,
+    text: Vec<u8>,
+    finder: &mut F,
+) -> Result<Solved, CliFault>
+    ensures whole { IfOk result ⟦<Solved as Answer>⟧.is_whole }
+    ensures answer { IfOk result (ShowsWhat (IsSolvedAnyhow text.items) ⟦<Solved as Answer>⟧.shows) }
+    ensures refused { IfErr result (Fails (RefusesSolve (F.finds finder.old) text.items)) }
+{
+    let game = read_game(alloc, &text)?;
+    // asked for what its contract says of the game
+    let _vertices = game.len();
+    drop(text);
+    let solution = any_solution_of(alloc, &game, finder)?;
     Ok(Solved { game, solution })
 }

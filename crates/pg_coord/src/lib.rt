@@ -6,6 +6,6 @@ mod memory;
 mod waiting;
 
 pub use memory::MemoryLink;
-pub use pg_links::{Reach, SocketLink, is_orphaned, stand_ins};
+pub use pg_links::{Reach, SocketLink, is_orphaned};
 pub use pg_parts::{Link, LinkFault};
 pub use pg_rounds::{CoordFault, Solved, halt, solve, solve_within};

@@ -4,8 +4,8 @@ ghost use Rattle.std.specs.Prelude.{◌≡◌, length, IsTrue};
 ghost use Rattle.pg_map.specs.Lines.{AreWithin, game_line};
 
 use pg_arena::{Game, GameBuilder, Player, Vertex};
-use pg_coord::stand_ins::Broken;
 use pg_coord::{Solved, solve};
+use pg_link_tests::stand_ins::Broken;
 use pg_map::{MeasureMap, View};
 use pg_worker::Cut;
 use std::alloc::Global;

@@ -1,11 +1,10 @@
-//! Links to programs that are started on this host, and links that stand in for them.
+//! Links to programs that are started on this host.
 #![tactic(auto)]
 
 mod connection;
 mod deadline;
 mod owner;
 mod socket;
-pub mod stand_ins;
 mod starting;
 
 pub use owner::is_orphaned;

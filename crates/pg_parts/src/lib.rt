@@ -10,5 +10,5 @@ mod vertex_set;
 pub use cut::Cut;
 pub use link::{Link, LinkFault};
 pub use measures::{fits, lent_row, push};
-pub use telling::{fill_line, line_of, setup_of};
+pub use telling::{fill_line, fits_worker, line_of, setup_of};
 pub use vertex_set::VertexSet;

@@ -1,6 +1,6 @@
 //! What a worker is told of a game.
 
-ghost use Rattle.std.specs.Prelude.{◌≡◌, ◌≤◌, ◌<◌, length, IfOk, OnOk};
+ghost use Rattle.std.specs.Prelude.{◌≡◌, ◌≤◌, ◌<◌, ◌*◌, ◌↔◌, length, IsTrue, IfOk, OnOk};
 ghost use Rattle.pg_arena.specs.Games.{vertex_at};
 ghost use Rattle.pg_measure.specs.Games.{IsBoundsOf};
 ghost use Rattle.pg_map.specs.Lines.{vertex_line};
@@ -12,6 +12,19 @@ use pg_arena::{Game, Player, Vertex};
 use pg_measure::Bounds;
 use pg_wire::{Items, LineHead, Setup, VertexLine};
 use std::alloc::{AllocError, Global};
+
+/// How many numbers a worker keeps in its map, at most.
+const MOST_NUMBERS: usize = 67_108_864;
+
+/// Whether a worker keeps a map of so many vertices and so many odd priorities.
+pub fn fits_worker(vertices: usize, bounds: usize) -> bool
+    ensures { IsTrue result ↔ vertices * bounds ≤ 67108864 }
+{
+    match vertices.checked_mul(bounds) {
+        Some(numbers) => numbers <= MOST_NUMBERS,
+        None => false,
+    }
+}
 
 /// What sets a worker up for a game with these bounds, by version 1 or 2 of the wire format.
 pub fn setup_of(

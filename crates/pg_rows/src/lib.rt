@@ -8,11 +8,9 @@ mod lowering;
 mod numbers;
 mod row_claim;
 mod rows;
-mod settled;
 mod side;
 mod sweeps;
 
-pub use lifting::End;
 pub use numbers::{NONE, add_one, add_up, at, between, count, is_marked, mark, put};
 pub use row_claim::RowClaim;
 pub use rows::{Node, Rows, TOP, ZEROS};

@@ -5,14 +5,6 @@ use crate::side::Side;
 use std::alloc::{AllocError, Global};
 use std::mem;
 
-/// How lifting ended: nothing is left to lift, or many vertices count along, or few climb for long.
-#[derive(Clone, Copy, PartialEq, Eq)]
-pub enum End {
-    Done,
-    Many,
-    Few,
-}
-
 /// How often lifting may look at each edge.
 const LOOKS: u64 = 3;
 
@@ -28,27 +20,22 @@ struct Patience {
 }
 
 impl Patience {
-    /// Whether lifting goes on after a turn: so many waited, and so many wait now, and so much was looked at.
-    fn ends(&mut self, waited: usize, waiting: usize, looks: u64) -> Option<End> {
-        if waiting == 0 {
-            return Some(End::Done);
-        }
+    /// Whether lifting is left after a turn, since many vertices count along, or since few climb for long: so many waited, and so many wait
+    /// now, and so much was looked at.
+    fn ends(&mut self, waited: usize, waiting: usize, looks: u64) -> bool {
         if waiting > self.vertices / 16 && waiting / 4 > waited / 5 {
-            return Some(End::Many);
+            return true;
         }
         if waiting <= self.vertices / 256 {
             self.few = self.few.wrapping_add(looks);
         }
-        if self.few > self.most / 12 {
-            return Some(End::Few);
-        }
-        None
+        self.few > self.most / 12
     }
 }
 
 impl Side<'_> {
-    /// Lifts until nothing waits any more, or until it looks as if that took long. The rows are at most the least ones.
-    pub fn lift(&mut self, alloc: Global) -> Result<End, AllocError> {
+    /// Lifts until nothing waits any more; false where it is left, since it looks as if that took long.
+    pub fn lift(&mut self, alloc: Global) -> Result<bool, AllocError> {
         let edges = self.graph.edges() as u64;
         let mut patience = Patience {
             vertices: (0..self.len()).filter(|v| self.row(*v) != TOP).count(),
@@ -58,16 +45,15 @@ impl Side<'_> {
         let mut waiting = Vec::new(alloc);
         let mut next = Vec::new(alloc);
         self.step_odd(&mut waiting)?;
-        let mut end = End::Done;
+        let mut is_done = false;
         for _ in 0..u64::MAX {
             let before = self.looks;
             if !self.turn(&waiting, &mut next, patience.most)? {
-                end = End::Few;
                 break;
             }
+            is_done = next.is_empty();
             let looks = self.looks.wrapping_sub(before);
-            if let Some(it) = patience.ends(waiting.len(), next.len(), looks) {
-                end = it;
+            if is_done || patience.ends(waiting.len(), next.len(), looks) {
                 break;
             }
             waiting.clear();
@@ -76,7 +62,7 @@ impl Side<'_> {
         for v in 0..self.len() {
             self.waits_no_more(v);
         }
-        Ok(end)
+        Ok(is_done)
     }
 
     /// Lifts the vertices of odd priorities from zeros, which then wait.

@@ -80,6 +80,23 @@ impl Side<'_> {
         Ok(true)
     }
 
+    /// Whether a vertex could be lowered.
+    pub fn is_loose(&self, v: u32) -> bool {
+        let state = self.state(v);
+        if state.row == ZEROS || state.row == TOP {
+            return false;
+        }
+        let is_less = |w: &u32| self
+            .rows
+            .steps_under(self.row(*w), state.priority(), state.row);
+        let successors = self.graph.successors(v);
+        if state.is_mine() {
+            successors.iter().any(is_less)
+        } else {
+            successors.iter().all(is_less)
+        }
+    }
+
     /// A successor by which a vertex is lowered the most, or `NONE`.
     fn least_successor(&mut self, v: u32) -> u32 {
         let graph = self.graph;

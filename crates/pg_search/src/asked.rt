@@ -58,12 +58,27 @@ impl Levels {
             return Ok(());
         }
         put(&mut self.lasts, asked.vertex, asked.row);
-        let priority = side.rows.node(asked.row).priority;
+        self.put(side.rows.node(asked.row).priority, asked)
+    }
+
+    /// Puts a claim to a level, if there is one of that priority.
+    pub fn put(&mut self, priority: u32, asked: Asked) -> Result<(), AllocError> {
         let level = self.levels.partition_point(|it| *it < priority);
-        if level < self.lists.len() {
+        if at(&self.levels, count(level)) == priority && level < self.lists.len() {
             self.lists[level].push(asked)?;
         }
         Ok(())
+    }
+
+    /// Puts the first component of a vertex' row that stands behind a row on the way to it.
+    pub fn put_next(&mut self, side: &Side, vertex: u32, from: u32) -> Result<(), AllocError> {
+        let whole = side.row(vertex);
+        let last = side.rows.node(from).priority;
+        let is_behind = |it: &u32| *it < last && side.rows.cut(whole, *it) != from;
+        let behind = count(self.levels.partition_point(is_behind));
+        let priority = at(&self.levels, behind.wrapping_sub(1));
+        let row = side.rows.cut(whole, priority);
+        self.put(priority, Asked { vertex, row })
     }
 
     /// Takes what is asked for at a level.

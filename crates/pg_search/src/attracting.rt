@@ -1,12 +1,12 @@
 //! Claims that lead to earlier ones alone.
 
-use pg_rows::{RowClaim, Side, TOP, ZEROS, at, count, is_marked, mark, put};
+use pg_rows::{NONE, RowClaim, Side, TOP, ZEROS, at, count, is_marked, mark, put};
 use std::alloc::{AllocError, Global};
 
 #[derive(Drop)]
 struct Attracting<'m> {
     is_settled: &'m mut [bool],
-    /// How many successors of each vertex of the winner have to be claimed before it.
+    /// How many successors of each vertex of the winner have to be claimed before it; `NONE` for one that isn't claimed.
     left: Vec<u32>,
     /// The vertices whose rows are claimed, in order.
     order: Vec<u32>,
@@ -21,14 +21,16 @@ impl Attracting<'_> {
     }
 
     /// Claims a row that nothing is needed for. Else counts what is.
-    fn begin(&mut self, side: &mut Side, v: u32) -> Result<(), AllocError> {
+    fn begin(&mut self, side: &mut Side, v: u32, is_loose: bool) -> Result<(), AllocError> {
         let graph = side.graph;
         let state = side.state(v);
         if state.row == TOP || state.row == ZEROS {
             return Ok(());
         }
         mark(self.is_settled, v, false);
-        if side.rows.low(state.row, state.priority()) == ZEROS {
+        if is_loose {
+            put(&mut self.left, v, NONE);
+        } else if side.rows.low(state.row, state.priority()) == ZEROS {
             self.claim(v)?;
         } else if state.is_mine() {
             let successors = graph.successors(v);
@@ -46,7 +48,7 @@ impl Attracting<'_> {
         let predecessors = graph.predecessors(w);
         side.look(predecessors.len());
         for v in predecessors {
-            if is_marked(self.is_settled, *v) {
+            if is_marked(self.is_settled, *v) || at(&self.left, *v) == NONE {
                 continue;
             }
             let state = side.state(*v);
@@ -68,11 +70,13 @@ impl Attracting<'_> {
     }
 }
 
-/// Claims of the rows of some vertices that lead to earlier ones alone, in their order. What isn't claimed isn't settled any more.
+/// Claims of the rows of some vertices, but of loose ones, that lead to earlier ones alone, in their order. What isn't claimed isn't
+/// settled any more.
 pub fn attract(
     side: &mut Side<'_>,
     alloc: Global,
     vertices: &[u32],
+    is_loose: &[bool],
     is_settled: &mut [bool],
 ) -> Result<Vec<RowClaim>, AllocError> {
     let mut attracting = Attracting {
@@ -81,7 +85,7 @@ pub fn attract(
         order: Vec::new(alloc),
     };
     for v in vertices {
-        attracting.begin(side, *v)?;
+        attracting.begin(side, *v, is_marked(is_loose, *v))?;
     }
     for place in 0..usize::MAX {
         let Some(w) = attracting.order.get(place).copied() else {

@@ -16,20 +16,6 @@ struct Beyond {
     asked: Asked,
 }
 
-/// A winner's choice at a vertex.
-#[derive(Clone, Copy)]
-pub(crate) struct Choice {
-    pub vertex: u32,
-    pub to: u32,
-}
-
-/// Where the winner can stay for less: vertices in an order, and its choices.
-#[derive(Drop)]
-pub(crate) struct Better {
-    pub vertices: Vec<u32>,
-    pub choices: Vec<Choice>,
-}
-
 /// The node at which the opponent has won.
 const WON: u32 = 0;
 
@@ -143,6 +129,11 @@ impl Played {
         &self.winners.of_even
     }
 
+    /// The vertex that is chosen at a node, or `NONE`.
+    pub fn chosen(&self, node: u32) -> u32 {
+        self.vertex(choice(&self.winners, node))
+    }
+
     /// The vertex of a node.
     pub fn vertex(&self, node: u32) -> u32 {
         claim_of(&self.claims, node).vertex
@@ -220,49 +211,6 @@ impl Played {
             }
         }
         Ok(order)
-    }
-
-    /// Where the winner can stay for less among the claims that it wins: without rising. Then all ways out lead to less. None
-    /// where it wins no claim.
-    pub fn better(&self, alloc: Global) -> Result<Option<Better>, AllocError> {
-        if self.lost().is_empty() {
-            return Ok(None);
-        }
-        let mut places = vec![in alloc; NONE; self.graph.len() as usize]?;
-        let mut claims = Vec::with_capacity(alloc, self.lost().len())?;
-        for (place, node) in self.lost().iter().enumerate() {
-            put(&mut places, *node, count(place));
-            claims.push(claim_of(&self.claims, *node))?;
-        }
-        let mut board = Board::new(alloc, claims)?;
-        for node in self.lost() {
-            let row = claim_of(&self.claims, *node).row;
-            board.begin(self.graph.priority(*node), self.is_mine(*node))?;
-            for target in self.graph.successors(*node) {
-                let place = at(&places, *target);
-                let rises = claim_of(&self.claims, *target).row != row;
-                if place != NONE && !(self.is_mine(*node) && rises) {
-                    board.lead_to(place)?;
-                }
-            }
-            board.end()?;
-        }
-        Ok(Some(board.play(alloc)?.stay(alloc)?))
-    }
-
-    /// What the winner wins, and how.
-    fn stay(&self, alloc: Global) -> Result<Better, AllocError> {
-        let mut vertices = Vec::new(alloc);
-        let mut choices = Vec::new(alloc);
-        for node in self.lost() {
-            let vertex = self.vertex(*node);
-            vertices.push(vertex)?;
-            if self.is_mine(*node) {
-                let to = self.vertex(choice(&self.winners, *node));
-                choices.push(Choice { vertex, to })?;
-            }
-        }
-        Ok(Better { vertices, choices })
     }
 }
 

@@ -1,7 +1,7 @@
-//! Claims for all rows of a side, or where the winner can stay for less.
+//! From a closed map to the least one, and claims of all its rows.
 //!
 //! First the vertices are claimed whose own rows lead to earlier claims alone. For the others there is one game of one claim for
-//! each, of its own row: what the opponent wins of it is settled. To show the rows of the rest it may have to choose otherwise for
+//! each, of its own row: what the opponent wins of it is settled, and the rows of the rest are set by levels. To show the rows of the rest it may have to choose otherwise for
 //! great components than for small ones. So they are claimed level by level, from the
 //! least on, each with the claims that it needs of the same level. It leads to claims of that level or of greater ones, whose rows are
 //! the first on the way to those of the successors that are enough; only those that the game's choices need are asked for. In the
@@ -9,23 +9,18 @@
 
 use crate::asked::{Asked, Levels};
 use crate::attracting::attract;
-use crate::board::{Better, Board, Played};
+use crate::board::{Board, Played};
+use crate::leveling::set_by_levels;
 use pg_rows::{NONE, RowClaim, Side, TOP, ZEROS, at, count, is_marked, mark, put};
 use std::alloc::{AllocError, Global};
-
-/// What is found out of the rows of a side.
-#[derive(Drop)]
-pub(crate) enum Justified {
-    Claims(Vec<RowClaim>),
-    Better(Vec<Better>),
-    Nothing,
-}
 
 #[derive(Drop)]
 struct Justifying {
     /// The place of each vertex among the claims of the game that is made, or `NONE`.
     places: Vec<u32>,
     is_settled: Vec<bool>,
+    /// The vertices that could be lowered: their rows aren't claimed.
+    is_loose: Vec<bool>,
 }
 
 impl Justifying {
@@ -35,6 +30,10 @@ impl Justifying {
         let state = side.state(claim.vertex);
         let successors = graph.successors(claim.vertex);
         let low = side.rows.low(claim.row, state.priority());
+        if is_marked(&self.is_loose, claim.vertex) {
+            board.begin(0, true)?;
+            return board.lead_to(at(&self.places, claim.vertex));
+        }
         board.begin(state.priority(), state.is_mine())?;
         if low == ZEROS {
             return board.end();
@@ -215,15 +214,14 @@ impl Justifying {
         board.play(alloc)
     }
 
-    /// The claims of the vertices that aren't settled, level by level; the greatest level last.
+    /// The claims of the vertices that aren't settled, level by level; the greatest level last. None where winners aren't found.
     fn play_levels(
         &mut self,
         alloc: Global,
         side: &mut Side,
         levels: &mut Levels,
-    ) -> Result<Leveled, AllocError> {
+    ) -> Result<Option<Vec<Vec<RowClaim>>>, AllocError> {
         let mut blocks = Vec::new(alloc);
-        let mut better = Vec::new(alloc);
         for level in 0..levels.len() {
             let asked = self.place(alloc, &levels.take(alloc, level))?;
             let roots = count(asked.len());
@@ -231,70 +229,81 @@ impl Justifying {
                 continue;
             }
             let played = self.play_level(alloc, side, asked, levels.priority(level))?;
-            if !played.is_ordered() || side.is_late() {
-                return Ok(Leveled {
-                    blocks: None,
-                    better,
-                });
-            }
-            if let Some(it) = played.better(alloc)? {
-                better.push(it)?;
+            if !played.is_ordered() {
+                return Ok(None);
             }
             let is_kept = played.kept(alloc, roots)?;
             played.ask(side, &is_kept, levels)?;
             blocks.push(played.order(alloc, &is_kept)?)?;
         }
-        Ok(Leveled {
-            blocks: Some(blocks),
-            better,
-        })
+        Ok(Some(blocks))
     }
 }
 
-/// What the games of the levels gave.
-#[derive(Drop)]
-struct Leveled {
-    blocks: Option<Vec<Vec<RowClaim>>>,
-    better: Vec<Better>,
+/// The vertices that could be lowered: there are none but where lowering was cut short.
+fn find_loose(alloc: Global, side: &Side, vertices: &[u32]) -> Result<Vec<bool>, AllocError> {
+    if !side.is_late() {
+        return Ok(Vec::new(alloc));
+    }
+    let mut is_loose = vec![in alloc; false; side.len() as usize]?;
+    for v in vertices {
+        mark(&mut is_loose, *v, side.is_loose(*v));
+    }
+    Ok(is_loose)
 }
 
-/// Claims of the rows of some vertices that aren't zeros, or where the winner can stay for less.
-pub fn justify(
+/// The least rows of some vertices, those that the winner wins, from a closed map, which may be the least one already; with claims of them.
+/// None where winners aren't found.
+pub fn finish(
     side: &mut Side<'_>,
     alloc: Global,
     vertices: &[u32],
-) -> Result<Justified, AllocError> {
+    is_least: bool,
+) -> Result<Option<Vec<RowClaim>>, AllocError> {
     let mut justifying = Justifying {
         places: vec![in alloc; NONE; side.len() as usize]?,
         is_settled: vec![in alloc; true; side.len() as usize]?,
+        is_loose: find_loose(alloc, side, vertices)?,
     };
-    let mut order = attract(side, alloc, vertices, &mut justifying.is_settled)?;
+    let Justifying {
+        is_loose,
+        is_settled,
+        ..
+    } = &mut justifying;
+    let mut order = attract(side, alloc, vertices, is_loose, is_settled)?;
     let played = justifying.play_own(alloc, side, vertices)?;
     if !played.is_ordered() {
-        return Ok(Justified::Nothing);
+        return Ok(None);
     }
     for claim in &played.order(alloc, &played.all(alloc)?)? {
         mark(&mut justifying.is_settled, claim.vertex, true);
         order.push(*claim)?;
     }
-    if played.lost().is_empty() {
-        return Ok(Justified::Claims(order));
+    let mut open = Vec::with_capacity(alloc, played.lost().len())?;
+    for node in played.lost() {
+        open.push(played.vertex(*node))?;
+    }
+    if open.is_empty() {
+        return Ok(Some(order));
+    }
+    if !is_least && !set_by_levels(side, alloc, &open)? {
+        return Ok(None);
     }
     let mut levels = Levels::new(alloc, side)?;
-    for node in played.lost() {
-        let vertex = played.vertex(*node);
-        let row = side.row(vertex);
-        levels.ask(side, Asked { vertex, row })?;
+    for v in &open {
+        levels.ask(
+            side,
+            Asked {
+                vertex: *v,
+                row: side.row(*v),
+            },
+        )?;
     }
-    let Leveled { blocks, better } = justifying.play_levels(alloc, side, &mut levels)?;
-    if !better.is_empty() {
-        return Ok(Justified::Better(better));
-    }
-    let Some(blocks) = blocks else {
-        return Ok(Justified::Nothing);
+    let Some(blocks) = justifying.play_levels(alloc, side, &mut levels)? else {
+        return Ok(None);
     };
     for block in blocks.iter().rev() {
         order.extend_from_slice(block)?;
     }
-    Ok(Justified::Claims(order))
+    Ok(Some(order))
 }

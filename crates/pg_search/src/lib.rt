@@ -9,6 +9,7 @@ mod exact;
 mod greatest;
 mod justifying;
 mod ladder;
+mod leveling;
 mod one_parity;
 mod proposal;
 mod search;

@@ -27,7 +27,7 @@ pub struct Proposals {
     pub of_dual: Proposal,
 }
 
-/// How often each vertex and edge may be looked at, and how often those of few.
+/// How often lowering and ways may look at each vertex and edge, and how often at few.
 const LOOKS: u64 = 64;
 
 const LOOKS_OF_FEW: u64 = 1 << 20;

@@ -24,6 +24,17 @@ pub struct Maps<M: Drop> {
     pub of_dual: M,
 }
 
+/// How many numbers a map may have that is lifted to its end: vertices times odd priorities. They take 1 GB.
+const MOST_NUMBERS: usize = 1 << 28;
+
+/// Refuses a map that has more numbers, for want of memory.
+fn see_if_it_fits(vertices: usize, bounds: &Bounds) -> Result<(), AllocError> {
+    if vertices.saturating_mul(bounds.pairs().len()) > MOST_NUMBERS {
+        return Err(AllocError);
+    }
+    Ok(())
+}
+
 /// The least progress measure of a game, by lifting.
 fn lift_game(alloc: Global, game: &Game) -> Result<MeasureMap, AllocError>
     ensures bounds { IfOk result (λ m. IsBoundsOf game.now m.bounds) }
@@ -31,6 +42,7 @@ fn lift_game(alloc: Global, game: &Game) -> Result<MeasureMap, AllocError>
 {
     pg_map::laws::game_lines();
     let bounds = Bounds::of(alloc, game)?;
+    see_if_it_fits(game.len(), &bounds)?;
     let zero = MeasureMap::zero(alloc, game.len() as u32, &bounds)?;
     lifted(alloc, Lent { lines: game }, zero)
 }
@@ -44,12 +56,14 @@ fn lift_dual(alloc: Global, game: &Game) -> Result<MeasureMap, AllocError>
     pg_map::laws::game_lines();
     pg_map::laws::game_lines_are_dual();
     let bounds = Bounds::of_dual(alloc, game)?;
+    see_if_it_fits(game.len(), &bounds)?;
     let zero = MeasureMap::zero(alloc, game.len() as u32, &bounds)?;
     lifted(alloc, Dual::of(game), zero)
 }
 
 /// The least progress measure of a game: what is proposed, if its claims show it, and else by lifting. Whatever is proposed, the answer
-/// is the same map. It is refused for want of memory only.
+/// is the same map. It is refused for want of memory only, and so is lifting where the map has more than 2^28 numbers: vertices times
+/// odd priorities.
 pub fn measure_by(
     alloc: Global,
     game: &Game,

@@ -1,12 +1,9 @@
-//! Automata and their games.
+//! Automata and their games, and where these begin. More games are shown by the rows of `game`.
 
 use crate::texts::game_text;
 use pg_arena::Vertex;
 use std::alloc::Global;
 use std::test::Fail;
-
-/// One state over one proposition.
-const ONE: &str = "HOA: v1 Start: 0 AP: 1 \"g\" ";
 
 /// Whether the automaton has this game, that begins at the vertex with this number.
 fn has_game(alloc: Global, automaton: &[&str], game: &str, initial: u32) -> Result<bool, Fail> {
@@ -16,106 +13,6 @@ fn has_game(alloc: Global, automaton: &[&str], game: &str, initial: u32) -> Resu
     }
     let (found, first) = game_text(alloc, &text)?;
     Ok(found.as_slice() == game.as_bytes() && first == Vertex(initial))
-}
-
-#[test]
-fn agreeing(rt: HostRuntime) -> Result<(), Fail> {
-    for (condition, game) in [
-        (
-            "Inf(0)",
-            "parity 4;\n0 1 1 0 \"dead\";\n1 1 1 3,4 \"s0\";\n2 2 1 3,4 \"s0/0\";\n3 0 0 0,2 \"s0:0\";\n4 0 0 0,2 \"s0:1\";\n",
-        ),
-        (
-            "Fin(0)",
-            "parity 4;\n0 1 1 0 \"dead\";\n1 0 1 3,4 \"s0\";\n2 3 1 3,4 \"s0/0\";\n3 0 0 0,2 \"s0:0\";\n4 0 0 0,2 \"s0:1\";\n",
-        ),
-    ] {
-        let automaton = [
-            "HOA: v1 Start: 0 AP: 2 \"r\" \"g\" controllable-AP: 1 Acceptance: 1 ",
-            condition,
-            " --BODY-- State: 0 [0&1 | !0&!1] 0 {0} --END--",
-        ];
-        assert!(rt; has_game(rt.alloc(), &automaton, game, 1)?, "{condition}");
-    }
-    Ok(())
-}
-
-#[test]
-fn alternating(rt: HostRuntime) -> Result<(), Fail> {
-    let automaton = [
-        ONE,
-        "controllable-AP: 0 Acceptance: 1 Inf(0) --BODY-- State: 0 [0] 1 {0} State: 1 [!0] 0 {0} --END--",
-    ];
-    let game =
-        "parity 6;\n0 1 1 0 \"dead\";\n1 1 1 3 \"s0\";\n2 2 1 3 \"s0/0\";\n3 0 0 0,5 \"s0:0\";\n5 2 1 6 \"s1/0\";\n6 0 0 0,2 \"s1:0\";\n";
-    assert!(rt; has_game(rt.alloc(), &automaton, game, 1)?);
-    Ok(())
-}
-
-#[test]
-fn two_sets(rt: HostRuntime) -> Result<(), Fail> {
-    for (condition, first, second, game) in [
-        (
-            "Fin(1) & Inf(0)",
-            "0 1",
-            "0",
-            "parity 4;\n0 1 1 0 \"dead\";\n1 1 1 4 \"s0\";\n2 2 1 4 \"s0/0\";\n3 3 1 4 \"s0/1\";\n4 0 0 2,3 \"s0:0\";\n",
-        ),
-        (
-            "Inf(1) | Fin(0)",
-            "0 1",
-            "0",
-            "parity 4;\n0 1 1 0 \"dead\";\n1 0 1 4 \"s0\";\n2 3 1 4 \"s0/0\";\n3 4 1 4 \"s0/1\";\n4 0 0 2,3 \"s0:0\";\n",
-        ),
-        (
-            "Inf(0) | Fin(1)",
-            "0 1",
-            "1",
-            "parity 4;\n0 1 1 0 \"dead\";\n1 0 1 4 \"s0\";\n2 6 1 4 \"s0/0\";\n3 5 1 4 \"s0/1\";\n4 0 0 2,3 \"s0:0\";\n",
-        ),
-        (
-            "Fin(0) & Inf(1)",
-            "0 1",
-            "1",
-            "parity 4;\n0 1 1 0 \"dead\";\n1 1 1 4 \"s0\";\n2 7 1 4 \"s0/0\";\n3 6 1 4 \"s0/1\";\n4 0 0 2,3 \"s0:0\";\n",
-        ),
-    ] {
-        let automaton = [
-            ONE,
-            "controllable-AP: 0 Acceptance: 2 ",
-            condition,
-            " --BODY-- State: 0 [0] 0 {",
-            first,
-            "} [!0] 0 {",
-            second,
-            "} --END--",
-        ];
-        assert!(rt; has_game(rt.alloc(), &automaton, game, 1)?, "{condition}");
-    }
-    Ok(())
-}
-
-#[test]
-fn no_sets(rt: HostRuntime) -> Result<(), Fail> {
-    for (condition, game) in [
-        (
-            "t",
-            "parity 2;\n0 1 1 0 \"dead\";\n1 2 1 2 \"s0\";\n2 0 0 0,1 \"s0:0\";\n",
-        ),
-        (
-            "f",
-            "parity 2;\n0 1 1 0 \"dead\";\n1 1 1 2 \"s0\";\n2 0 0 0,1 \"s0:0\";\n",
-        ),
-    ] {
-        let automaton = [
-            ONE,
-            "controllable-AP: 0 Acceptance: 0 ",
-            condition,
-            " --BODY-- State: 0 [0] 0 --END--",
-        ];
-        assert!(rt; has_game(rt.alloc(), &automaton, game, 1)?, "{condition}");
-    }
-    Ok(())
 }
 
 #[test]

@@ -4,8 +4,6 @@
 #[cfg(test)]
 mod games;
 #[cfg(test)]
-mod limits;
-#[cfg(test)]
 mod machines;
 #[cfg(test)]
 mod texts;

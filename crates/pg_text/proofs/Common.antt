@@ -1,5 +1,6 @@
 -- The names that the proofs of this crate cite from elsewhere, passed on from one place. Declares nothing.
-pub use Rattle.std.proofs.Common.{Bor, ap, append_assoc, arith, inl, inr, refl, rules, subst, sym, take-append-drop, ◌∙◌}
+pub use Rattle.std.proofs.Common.{Bor, add-one, ap, append_assoc, arith, inl, inr, refl, rules, subst, sym, take-append-drop, ◌∙◌}
+pub use Rattle.std.proofs.Math.Nat.{pow-le-pow_right, pow-succ'}
 pub use Rattle.std.proofs.KnownBytes.{Appends-trans}
 pub use Rattle.std.proofs.lemmas.Bool.{and_parts, and_right, cases_Bool, cases_eq, cases_lt, eq-eqb, eqb-false, eqb-true, leb-true, lt-leb}
 pub use Rattle.std.proofs.lemmas.Bool.{lt-ltb, ltb-true, ne_eqb}
@@ -29,8 +30,8 @@ unfoldable pub use Rattle.std.specs.List.{IsDistinct}
 pub use Rattle.std.specs.List.Sorted.{IsBinarySearchResult, IsStrictlyIncreasing}
 pub use Rattle.std.specs.Ordering.{nat_cmp}
 pub use Rattle.std.specs.Prelude.{All, Bool, Contains, Err, IfErr, IfOk, IfSome, IsOkAnd, List, None, Ok, OnOk, Option, Result, Some, []}
-pub use Rattle.std.specs.Prelude.{codes, cond, decimal, drop, eqb, false, get_or, is_some, length, ltb, map, nat_le, option_map, replicate}
-pub use Rattle.std.specs.Prelude.{slice_set, suc, take, true, zero, ℕ, ◌&&◌, ◌*◌, ◌++◌, ◌+◌, ◌-◌, ◌<◌, ◌^◌, ◌||◌, ◌∷◌, ◌≡◌, ◌≢◌, ◌≤◌, ◌⊎◌}
+pub use Rattle.std.specs.Prelude.{codes, cond, decimal, drop, eqb, false, get_or, is_some, length, ltb, map, nat_le, option_copied, option_map, replicate}
+pub use Rattle.std.specs.Prelude.{slice_set, suc, take, true, zero, ℕ, ◌%◌, ◌&&◌, ◌*◌, ◌++◌, ◌+◌, ◌-◌, ◌<◌, ◌^◌, ◌||◌, ◌∷◌, ◌≡◌, ◌≢◌, ◌≤◌, ◌⊎◌}
 pub use Rattle.std.specs.Result.{result_ok}
 pub use Rattle.std.specs.Str.{bytes_eq}
 pub use Rattle.pg_arena.proofs.Adding.{Passes}

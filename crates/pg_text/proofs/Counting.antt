@@ -4,7 +4,7 @@ use Rattle.pg_text.proofs.Common.{counted, TokenFault, Refusal, Memory, Token, �
 use Rattle.pg_text.proofs.Common.{numbers_at, further_at, owner_at, ending_at, line_at, item_at, successors_at, counted_line_at}
 use Rattle.pg_text.proofs.Common.{counted_step, counted_item_at}
 use Rattle.pg_text.proofs.Steps.{bind_ok, ok, ok_is}
-use Rattle.pg_text.proofs.FirstBytes.{line_of}
+use Rattle.pg_text.proofs.FirstBytes.{line_of, item_of_number}
 use Rattle.pg_text.proofs.Items.{with_front}
 use Rattle.pg_text.proofs.Parts.{HaveCome, one_comes, all_came, none_comes}
 
@@ -127,6 +127,15 @@ pub counted_item_fails : (refusal : Refusal) (bytes : List ℕ) (n : ℕ) (rest 
     → Fails refusal (counted_line_at n rest) → Fails refusal (counted_item_at bytes)
 counted_item_fails Memory bytes n rest is f = tt
 counted_item_fails (Token e) bytes n rest is f = counted_item_of_line bytes n rest is ∙ ap (λ (r : Read (Line × List ℕ)). r >>= as_item) f
+
+-- a line of which each part was read
+pub counted_item_of_parts : (bytes : List ℕ) (i : ℕ) (b1 : List ℕ) (p : ℕ) (b2 : List ℕ) (o : Player) (b3 list b4 : List ℕ)
+    (n : Option (List ℕ)) (b5 : List ℕ) → natural_at bytes ≡ Ok (i, b1) → natural_at b1 ≡ Ok (p, b2) → owner_at b2 ≡ Ok (o, b3)
+    → successors_at b3 ≡ Ok (list, b4) → ending_at b4 ≡ Ok (n, b5)
+    → counted_item_at bytes ≡ Ok (item (record { identifier = i; priority = p; owner = o; successors = list; name = n }), b5)
+unfolding counted_line_at
+counted_item_of_parts bytes i b1 p b2 o b3 list b4 n b5 identifier priority owner successors ending =
+    counted_item_of_line bytes i b1 (item_of_number bytes i b1 identifier) ∙ rw (priority, owner, successors, ending) refl
 
 -- ---- the line that was counted
 

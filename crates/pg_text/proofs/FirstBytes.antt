@@ -5,8 +5,9 @@ use Rattle.pg_text.proofs.Common.{semicolon, comma, quoted, end, is_space, IsSpe
 use Rattle.pg_text.proofs.Common.{NumberTooLarge, number_at, solid_at, lexeme_at, or_fault, token_at, ◌>>=◌, Read, Reads, Step, item, stop}
 use Rattle.pg_text.proofs.Common.{misplaced_in, misplaced, number_in, natural_at, string_in, string_at, semicolon_in, semicolon_at}
 use Rattle.pg_text.proofs.Common.{further_in, further_at, ending_in, ending_at, line_at, item_in, item_at, some, run_stops}
-use Rattle.pg_text.proofs.Steps.{ok, err}
-use Rattle.pg_text.proofs.Lexing.{solid_digit, solid_again, token_fronts}
+use Rattle.pg_text.proofs.Common.{Some, drop, one_more, rest_again, player_in, owner_at}
+use Rattle.pg_text.proofs.Steps.{ok, err, ok_is, err_is_ok}
+use Rattle.pg_text.proofs.Lexing.{solid_digit, solid_again, token_fronts, digit_no_space}
 
 -- ---- digits
 
@@ -59,6 +60,23 @@ after_space-again bytes = grind (arith, nat_tests, run_stops is_space bytes)
 natural_behind : (bytes : List ℕ) → natural_at (after_space bytes) ≡ natural_at bytes
 unfolding natural_at token_at lexeme_at
 natural_behind bytes = grind (arith, nat_tests, after_space-again bytes)
+
+-- a byte of white space in front makes none
+pub blank_skipped : (bytes : List ℕ) → 1 ≤ length bytes → is_space (get_or bytes 0 0) ≡ true
+    → after_space (drop 1 bytes) ≡ after_space bytes
+blank_skipped [] some blank = absurd (omega arith)
+blank_skipped (b ∷ bytes) some blank = rw (one_more is_space b bytes blank) refl
+
+at_digit : (bytes : List ℕ) → 1 ≤ length bytes → is_digit (get_or bytes 0 0) ≡ true → bytes ≡ after_space bytes
+at_digit [] some digit = absurd (omega arith)
+at_digit (b ∷ bytes) some digit = sym (rest_again is_space [] (b ∷ bytes) tt (digit_no_space b digit))
+
+-- the number whose digits stand at the front, perhaps behind a byte of white space
+pub natural_of_front : (bytes front : List ℕ) (n : ℕ) (rest : List ℕ) → after_space front ≡ after_space bytes → 1 ≤ length front
+    → is_digit (get_or front 0 0) ≡ true → number_at front ≡ Some (number n, rest) → natural_at bytes ≡ Ok (n, rest)
+unfolding natural_at
+natural_of_front bytes front n rest same some digit e =
+    rw (token_of_digits bytes front (at_digit front some digit ∙ same) some digit, e) refl
 
 -- ---- semicolons and commas
 
@@ -154,3 +172,21 @@ item_of_fault bytes front fault is some e = item_is_line bytes front is some ∙
 pub item_of_line : (bytes front : List ℕ) (n : ℕ) (rest : List ℕ) → front ≡ after_space bytes → 1 ≤ length front
     → natural_at front ≡ Ok (n, rest) → item_at bytes ≡ line_of (n, rest)
 item_of_line bytes front n rest is some e = item_is_line bytes front is some ∙ ap (λ (r : Read (ℕ × List ℕ)). r >>= line_of) e
+
+-- where a number is read a number stands
+pub token_of_number : (bytes : List ℕ) (n : ℕ) (rest : List ℕ) → natural_at bytes ≡ Ok (n, rest) → token_at bytes ≡ Ok (number n, rest)
+unfolding natural_at
+token_of_number bytes n rest e = go (token_at bytes) refl e
+  where
+    go : (o : Read (Lexeme × List ℕ)) → token_at bytes ≡ o → (o >>= number_in bytes) ≡ Ok (n, rest) → token_at bytes ≡ Ok (number n, rest)
+    go (Err f) h k = absurd (err_is_ok f (n, rest) k)
+    go (Ok (number m, after)) h k = h ∙ ap (λ (x : ℕ × List ℕ). ok (number x.0, x.1)) (ok_is (m, after) (n, rest) k)
+    go (Ok (_, after)) h k = absurd (err_is_ok _ (n, rest) k)
+
+pub item_of_number : (bytes : List ℕ) (n : ℕ) (rest : List ℕ) → natural_at bytes ≡ Ok (n, rest) → item_at bytes ≡ line_of (n, rest)
+unfolding item_at
+item_of_number bytes n rest e = rw (token_of_number bytes n rest e) refl
+
+pub owner_of_number : (bytes : List ℕ) (n : ℕ) (rest : List ℕ) → natural_at bytes ≡ Ok (n, rest) → owner_at bytes ≡ player_in bytes (n, rest)
+unfolding owner_at
+owner_of_number bytes n rest e = rw e refl

@@ -163,7 +163,7 @@ solid_again comma text rest h = rw h refl
 solid_again (quoted s) text rest h = rw (h.1, append_assoc s (34 ∷ []) rest) (quoted_again s rest h.0)
 solid_again end text rest h = rw (h.0, h.1) refl
 
-digit_no_space : (b : ℕ) → is_digit b ≡ true → is_space b ≡ false
+pub digit_no_space : (b : ℕ) → is_digit b ≡ true → is_space b ≡ false
 digit_no_space b h = let p = and_parts (nat_le 48 b) (nat_le b 57) h in let low : 48 ≤ b = leb-true 48 b p.0 in
     rw (and_right (nat_le 9 b) (nat_le b 13) (lt-leb b 13 (omega arith))) (ne_eqb b 32 (omega arith))
 

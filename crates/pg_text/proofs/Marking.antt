@@ -1,7 +1,7 @@
 -- Lines taken one after another into a solution, with a mark for each vertex that one of them names.
 use Rattle.pg_text.proofs.Common.{◌≡◌, ◌≢◌, ℕ, ◌+◌, ◌≤◌, ◌<◌, Bool, true, false, cond, eqb, List, [], ◌∷◌, ◌++◌, length, Option, Some, None}
 use Rattle.pg_text.proofs.Common.{refl, sym, ap, subst, ◌∙◌, arith, inl, inr, nat_tests, ◌&&◌, ◌||◌, is_some, option_map, replicate}
-use Rattle.pg_text.proofs.Common.{slice_set, list_any, AllByRecursion, eqb-true, eq-eqb, ne_eqb, cases_eq, cases_Bool, get_or-set_same}
+use Rattle.pg_text.proofs.Common.{slice_set, list_any, AllByRecursion, eq-eqb, ne_eqb, cases_eq, cases_Bool, get_or-set_same}
 use Rattle.pg_text.proofs.Common.{get_or-set_other, get_or-replicate, length-set, length-replicate, ext_get_or, sum_by-append, sum_by-cons}
 use Rattle.pg_text.proofs.Common.{Player, Even, Odd, GameVertex, identifier, IsEdge, IsGame, Answer, SolutionLine, unanswered, answer_at}
 use Rattle.pg_text.proofs.Common.{winner, choice, IsSolution, is_same, owns, counting_strategy, line_count, Says, Fits, AreTaken, has_line}

@@ -1,7 +1,7 @@
 -- Digits, read one after another.
 use Rattle.pg_text.proofs.Common.{◌≡◌, ℕ, ◌+◌, ◌-◌, ◌*◌, ◌^◌, ◌≤◌, ◌<◌, true, false, List, [], ◌∷◌, take, drop, Some, None, length, get_or}
 use Rattle.pg_text.proofs.Common.{arith, refl, sym, subst, nat_tests, prefix_len, take_while, take_rest, number, is_digit, value_of}
-use Rattle.pg_text.proofs.Common.{number_at, one_more, none_more, value_from, value_grows}
+use Rattle.pg_text.proofs.Common.{number_at, one_more, none_more, value_from, value_grows, ◌%◌, inl, inr, cases_lt, false, drop_more, add-one, pow-le-pow_right, pow-succ'}
 
 -- of the number at the front of the bytes digits of this value are read, and this is the rest
 pub record IsReading (bytes : List ℕ) (value : ℕ) (rest : List ℕ) : Type 0 where
@@ -32,3 +32,40 @@ number_ends bytes value rest ends small r = grind (arith, nat_tests, no_digits r
 pub number_over : (bytes : List ℕ) (value : ℕ) (rest : List ℕ) → 2 ^ 32 ≤ value → IsReading bytes value rest → number_at bytes ≡ None
 unfolding number_at
 number_over bytes value rest large r = grind (arith, nat_tests, value_grows value (take_while is_digit rest))
+
+-- the digit at a place, behind those in front of it
+pub reads_at : (bytes : List ℕ) (value i : ℕ) → i < length bytes → is_digit (get_or bytes i 0) ≡ true → IsReading bytes value (drop i bytes)
+    → IsReading bytes (10 * value + (get_or bytes i 0 - 48)) (drop (i + 1) bytes)
+reads_at bytes value i within holds r =
+    one_digit bytes value (get_or bytes i 0) (drop (i + 1) bytes) holds (subst (IsReading bytes value) (drop_more bytes i 0 within) r)
+
+-- the first digit
+pub reads_first : (bytes : List ℕ) → 1 ≤ length bytes → is_digit (get_or bytes 0 0) ≡ true → IsReading bytes (get_or bytes 0 0 - 48) (drop 1 bytes)
+reads_first bytes some holds =
+    let same : 10 * 0 + (get_or bytes 0 0 - 48) ≡ get_or bytes 0 0 - 48 = omega arith in
+    subst (λ (value : ℕ). IsReading bytes value (drop 1 bytes)) same (reads_at bytes 0 0 some holds (record { whole = refl; behind = refl }))
+
+-- the digits end at a place
+pub ends_at : (bytes : List ℕ) (value i : ℕ) → i < length bytes → is_digit (get_or bytes i 0) ≡ false → value < 2 ^ 32
+    → IsReading bytes value (drop i bytes) → number_at bytes ≡ Some (number value, drop i bytes)
+ends_at bytes value i within fails small r =
+    number_ends bytes value (drop i bytes)
+    (λ _. subst (λ (rest : List ℕ). is_digit (get_or rest 0 0) ≡ false) (sym (drop_more bytes i 0 within)) fails) small r
+
+-- what at most seven digits write is small
+pub few_are_small : (value i : ℕ) → value < 10 ^ i → i < 8 → value < 10 ^ 7
+few_are_small value i small few = let bound : 10 ^ i ≤ 10 ^ 7 = pow-le-pow_right {n = 10} (omega arith) {i = i} {j = 7} (omega arith) in omega arith
+
+-- and a digit more
+pub one_more_is_small : (value i n : ℕ) → value < 10 ^ i → n < 10 → 10 * value + n < 10 ^ (i + 1)
+one_more_is_small value i n small digit = let tens : 10 ^ (i + 1) ≡ 10 * 10 ^ i = rw add-one (pow-succ' 10 i) in omega arith
+
+-- what a byte is above '0', with wrapping
+pub digit_is : (b n : ℕ) → b < 2 ^ 8 → n ≡ (b + (2 ^ 8 - 48)) % 2 ^ 8 → n < 10 → (is_digit b ≡ true) × (n ≡ b - 48)
+digit_is b n byte is small =
+    let low : 48 ≤ b = omega arith in
+    let high : b ≤ 57 = omega arith in
+    (grind (arith, nat_tests), omega arith)
+
+pub no_digit_is : (b n : ℕ) → b < 2 ^ 8 → n ≡ (b + (2 ^ 8 - 48)) % 2 ^ 8 → 10 ≤ n → is_digit b ≡ false
+no_digit_is b n byte is large = elim (cases_lt b 48) [ inl low ↦ grind (arith, nat_tests) | inr low ↦ let high : 57 < b = omega arith in grind (arith, nat_tests) ]

@@ -9,7 +9,7 @@ use Rattle.pg_arena.specs.declared.fault.ArenaFault.TheVariants as arena
 use Rattle.pg_arena.specs.Lines.{Line, counted, Accepts, IsGameOf, add_fault, FinishFails}
 use Rattle.pg_text.specs.declared.fault.TextFault.{TextFault}
 use Rattle.pg_text.specs.declared.fault.TextFault.TheVariants.{Syntax, NumberTooLarge, Arena}
-use Rattle.pg_text.specs.Lexemes.{Lexeme, number, semicolon, quoted, end, clause_lexemes, Begins, Spells}
+use Rattle.pg_text.specs.Lexemes.{Lexeme, number, semicolon, quoted, end, clause_lexemes, Spells}
 use Rattle.pg_text.specs.Numbers.{numbers_lexemes}
 
 -- Even is player 0, Odd is player 1

@@ -1,14 +1,15 @@
 //! The lines of a game text.
 
-ghost use Rattle.std.specs.Prelude.{◌≡◌, option_copied};
+ghost use Rattle.std.specs.Prelude.{◌≡◌, Ok, IfSome, IsTrue, option_copied};
 ghost use Rattle.pg_arena.specs.Lines.{counted};
 ghost use Rattle.pg_lists.specs.Rising.{rising};
-ghost use Rattle.pg_text.specs.Mirrors.Steps.{Reads, Gives};
+ghost use Rattle.pg_text.specs.Mirrors.Steps.{Reads, Gives, item, stop};
 ghost use Rattle.pg_text.specs.Mirrors.GameScan.{line_seen, item_seen, owner_at, ending_at, successors_at, counted_line_at, counted_step};
 ghost use Rattle.pg_text.specs.Mirrors.GameScan.{counted_item_at, body_at};
+ghost use Rattle.pg_text.specs.Mirrors.Parts.{further_at};
 
 use crate::reading::{Refusal, clause, further, natural, semicolon, string, unexpected};
-use crate::tokens::{TokenFault, after_byte, after_space};
+use crate::tokens::{TokenFault, after_byte, after_first, after_space, short_number};
 use pg_arena::Player;
 use std::alloc::AllocError;
 
@@ -34,6 +35,19 @@ pub(crate) fn player(bytes: &[u8]) -> Result<(Player, &[u8]), TokenFault>
     }
 }
 
+/// The player in front, by a short number.
+#[inline(always)]
+fn short_player(bytes: &[u8]) -> Option<(Player, &[u8])>
+    ensures { IfSome result (λ x. owner_at bytes.now ≡ Ok (x.0, x.1.now)) }
+{
+    let (number, taken) = short_number(bytes);
+    match number {
+        0 if taken > 0 => Some((Player::Even, &bytes[taken..])),
+        1 if taken > 0 => Some((Player::Odd, &bytes[taken..])),
+        _ => None,
+    }
+}
+
 /// The name behind the successors, where one stands, and the semicolon.
 fn ending(bytes: &[u8]) -> Result<(Option<&[u8]>, &[u8]), TokenFault>
     ensures { Reads (λ x. (option_copied x.0, x.1.now)) result (ending_at bytes.now) }
@@ -47,6 +61,7 @@ fn ending(bytes: &[u8]) -> Result<(Option<&[u8]>, &[u8]), TokenFault>
 
 /// Makes room for one more number. Where there is none, repeats are taken away first, and there is room for as many numbers
 /// again then, so that a list is seldom sorted.
+#[inline(always)]
 fn make_room(list: &mut Vec<u32>) -> Result<(), AllocError>
     ensures { rising list.new.items ≡ rising list.old.items }
 {
@@ -61,6 +76,7 @@ fn make_room(list: &mut Vec<u32>) -> Result<(), AllocError>
 /// One or more successors with commas between, in the place of what the list held. Repeats may be left out, and the order
 /// may change.
 #[tactic(auto, unfolding(crate::specs::Mirrors::GameScan::successors_at, crate::specs::Mirrors::Parts::numbers_at))]
+#[inline(always)]
 fn successors<'a>(list: &mut Vec<u32>, bytes: &'a [u8]) -> Result<&'a [u8], Refusal>
     ensures { Gives (λ rest. (rising list.new.items, rest.now)) result (successors_at bytes.now) }
 {
@@ -81,6 +97,7 @@ fn successors<'a>(list: &mut Vec<u32>, bytes: &'a [u8]) -> Result<&'a [u8], Refu
 
 /// A line behind its identifier. Its successors, of which repeats count once, take the place of what the buffer held.
 #[tactic(auto, unfolding(crate::specs::Mirrors::GameScan::counted_line_at))]
+#[inline(always)]
 fn line<'a>(
     buffer: &mut Vec<u32>,
     identifier: u32,
@@ -102,8 +119,9 @@ fn line<'a>(
     Ok((line, rest))
 }
 
-/// A line, whose successors the buffer then holds, or nothing at the end of the text.
-pub(crate) fn item<'a>(
+/// A line, whose successors the buffer then holds, or nothing at the end of the text, however they are written.
+#[inline(never)]
+fn any_item<'a>(
     buffer: &mut Vec<u32>,
     bytes: &'a [u8],
 ) -> Result<(Option<TextLine<'a>>, &'a [u8]), Refusal>
@@ -116,6 +134,102 @@ pub(crate) fn item<'a>(
     let (identifier, rest) = natural(front)?;
     let (line, rest) = line(buffer, identifier, rest)?;
     Ok((Some(line), rest))
+}
+
+/// Whether the successors in front of `bytes` end there: no comma stands there, but a token.
+#[inline(always)]
+fn is_end(bytes: &[u8]) -> bool
+    ensures { IsTrue result → further_at bytes.now ≡ Ok (stop tt, bytes.now) }
+{
+    match after_first(b';', bytes) {
+        Some(_) => true,
+        None => match further(bytes) {
+            Ok(None) => true,
+            _ => false,
+        },
+    }
+}
+
+/// One or more successors with commas between, of short numbers and without white space, in the place of what the list
+/// held. Repeats may be left out, and the order may change.
+#[tactic(auto, unfolding(crate::specs::Mirrors::GameScan::successors_at, crate::specs::Mirrors::Parts::numbers_at))]
+#[inline(always)]
+fn short_successors<'a>(list: &mut Vec<u32>, bytes: &'a [u8]) -> Option<&'a [u8]>
+    ensures { IfSome result (λ rest. successors_at bytes.now ≡ Ok (rising list.new.items, rest.now)) }
+{
+    let (first, taken) = short_number(bytes);
+    if taken == 0 {
+        return None;
+    }
+    list.clear();
+    let Ok(()) = list.push(first) else {
+        return None;
+    };
+    let mut rest = &bytes[taken..];
+    'successors: loop {
+        let Some(after) = after_first(b',', rest) else {
+            if is_end(rest) {
+                return Some(rest);
+            }
+            return None;
+        };
+        let (number, taken) = short_number(after);
+        if taken == 0 {
+            return None;
+        }
+        let Ok(()) = make_room(list) else {
+            return None;
+        };
+        let Ok(()) = list.push(number) else {
+            return None;
+        };
+        rest = &after[taken..];
+    }
+}
+
+/// A line of short numbers: what `item` gives, where it gives a line and this function does.
+#[inline(always)]
+fn short_line<'a>(buffer: &mut Vec<u32>, bytes: &'a [u8]) -> Option<(TextLine<'a>, &'a [u8])>
+    ensures { IfSome result (λ x. counted_item_at bytes.now ≡ Ok (item (counted (line_seen buffer.new.items x.0)), x.1.now)) }
+{
+    let (identifier, taken) = short_number(bytes);
+    if taken == 0 {
+        return None;
+    }
+    let rest = &bytes[taken..];
+    let (priority, taken) = short_number(rest);
+    if taken == 0 {
+        return None;
+    }
+    let (owner, rest) = short_player(&rest[taken..])?;
+    let rest = short_successors(buffer, rest)?;
+    let line = TextLine {
+        identifier,
+        priority,
+        owner,
+        name: None,
+    };
+    if let Some(rest) = after_first(b';', rest) {
+        return Some((line, rest));
+    }
+    let Ok((name, rest)) = ending(rest) else {
+        return None;
+    };
+    Some((TextLine { name, ..line }, rest))
+}
+
+/// A line, whose successors the buffer then holds, or nothing at the end of the text.
+#[inline(always)]
+pub(crate) fn item<'a>(
+    buffer: &mut Vec<u32>,
+    bytes: &'a [u8],
+) -> Result<(Option<TextLine<'a>>, &'a [u8]), Refusal>
+    ensures { Gives (λ x. (counted_step (item_seen buffer.new.items x.0), x.1.now)) result (counted_item_at bytes.now) }
+{
+    match short_line(buffer, bytes) {
+        Some((line, rest)) => Ok((Some(line), rest)),
+        None => any_item(buffer, bytes),
+    }
 }
 
 /// What stands behind the header and the start, each of which may be left out.

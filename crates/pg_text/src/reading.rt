@@ -10,7 +10,9 @@ ghost use Rattle.pg_text.specs.Lexemes.{left_of};
 ghost use Rattle.pg_text.specs.Mirrors.Steps.{Reads, Gives, unexpected};
 ghost use Rattle.pg_text.specs.Mirrors.Parts.{misplaced, natural_at, name_at, string_at, semicolon_at, end_at, further_seen, further_at, numbers_at, clause_at};
 
-use crate::tokens::{Token, TokenFault, after_byte, after_space, digits, is_digit, left_at, scan};
+use crate::tokens::{
+    Token, TokenFault, after_byte, after_space, digits, is_digit, left_at, scan, short_number,
+};
 use std::alloc::{AllocError, AllocFailed};
 
 /// Why a part of a text is refused.
@@ -78,7 +80,19 @@ pub(crate) fn misplaced(bytes: &[u8]) -> TokenFault
 }
 
 /// The number in front.
+#[inline(always)]
 pub fn natural(bytes: &[u8]) -> Result<(u32, &[u8]), TokenFault>
+    ensures { Reads (λ x. (x.0, x.1.now)) result (natural_at bytes.now) }
+{
+    match short_number(bytes) {
+        (_, 0) => any_number(bytes),
+        (number, taken) => Ok((number, &bytes[taken..])),
+    }
+}
+
+/// The number in front, however it is written.
+#[inline(never)]
+fn any_number(bytes: &[u8]) -> Result<(u32, &[u8]), TokenFault>
     ensures { Reads (λ x. (x.0, x.1.now)) result (natural_at bytes.now) }
 {
     let front = after_space(bytes);
@@ -111,6 +125,7 @@ pub(crate) fn string(bytes: &[u8]) -> Result<(&[u8], &[u8]), TokenFault>
 }
 
 /// The semicolon in front: what stands after it.
+#[inline(always)]
 pub fn semicolon(bytes: &[u8]) -> Result<&[u8], TokenFault>
     ensures { Reads (λ x. x.now) result (semicolon_at bytes.now) }
 {

@@ -15,6 +15,7 @@ use pg_arena::{Game, Player, Vertex};
 use std::io::{self, Write};
 
 /// The winner's number behind a space.
+#[inline(always)]
 fn write_winner<W: Write>(winner: Player, out: &mut W) -> io::Result<()>
     ensures { OnOk result (Appends (W.contents out.old) (W.contents out.new)
         (codes " " ++ decimal (player_number winner))) }
@@ -25,6 +26,7 @@ fn write_winner<W: Write>(winner: Player, out: &mut W) -> io::Result<()>
     }
 }
 
+#[inline(always)]
 fn write_strategy<W: Write>(game: &Game, choice: Option<Vertex>, out: &mut W) -> io::Result<()>
     requires { (w : ℕ) → choice ≡ Some w → w < length game.now }
     ensures { OnOk result (Appends (W.contents out.old) (W.contents out.new)
@@ -38,6 +40,7 @@ fn write_strategy<W: Write>(game: &Game, choice: Option<Vertex>, out: &mut W) ->
 }
 
 /// The choice at `v`, where the winner owns it.
+#[inline(always)]
 fn told_choice(game: &Game, solution: &Solution, v: Vertex) -> Option<Vertex>
     requires whole { length solution.now ≡ length game.now }
     requires vertex { v < length game.now }
@@ -50,6 +53,7 @@ fn told_choice(game: &Game, solution: &Solution, v: Vertex) -> Option<Vertex>
     }
 }
 
+#[inline(always)]
 fn write_answer<W: Write>(
     game: &Game,
     solution: &Solution,

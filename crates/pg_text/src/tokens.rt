@@ -3,13 +3,14 @@
 //! A token is a longest one. White space, the bytes 9 to 13 and 32, may stand between any two tokens, before the
 //! first and behind the last, and must stand only between two numbers or two words.
 
-ghost use Rattle.std.specs.Prelude.{◌≡◌, ◌<◌, ◌+◌, ◌==◌, ◌∷◌, List, ℕ, length, option_map, IfOk, IfErr, IfSome, IsNone, IsOkAnd};
+ghost use Rattle.std.specs.Prelude.{◌≡◌, ◌<◌, ◌≤◌, ◌+◌, ◌-◌, ◌==◌, ◌∷◌, List, ℕ, Ok, true, false, length, drop, option_map, IfOk, IfErr, IfSome, IsNone, IsOkAnd};
 ghost use Rattle.std.specs.Result.{result_ok};
 ghost use Rattle.std.specs.List.{prefix_len};
 ghost use Rattle.pg_text.specs.Lexemes.{Lexeme, lexeme, number, is_space, is_letter, is_plain, Begins, after_space, fault_at, token_fault};
 ghost use Rattle.pg_lists.specs.Bytes.{is_digit, Stops};
 ghost use Rattle.pg_text.specs.Mirrors.Scan.{number_at, word_at, quoted_at, solid_at, token_at};
 ghost use Rattle.pg_text.specs.Mirrors.Steps.{Reads};
+ghost use Rattle.pg_text.specs.Mirrors.Parts.{natural_at};
 
 /// A token, which borrows the text.
 #[derive(Clone, Copy, Debug)]
@@ -38,12 +39,14 @@ pub enum TokenFault {
     NumberTooLarge(usize),
 }
 
+#[inline(always)]
 fn is_space(byte: u8) -> bool
     ensures { result ≡ is_space byte }
 {
     (9 <= byte && byte <= 13) || byte == b' '
 }
 
+#[inline(always)]
 pub(crate) fn is_digit(byte: u8) -> bool
     ensures { result ≡ is_digit byte }
 {
@@ -74,8 +77,18 @@ fn plain(bytes: &[u8]) -> usize
     bytes.iter().take_while(|byte| **byte != b'"').count()
 }
 
+/// What the byte is above `0`: below ten exactly if it is a digit.
+#[inline(always)]
+fn digit(byte: u8) -> u32
+    ensures digit { result < 10 → (is_digit byte ≡ true) × (result ≡ byte - 48) }
+    ensures other { 10 ≤ result → is_digit byte ≡ false }
+{
+    u32::from(byte.wrapping_sub(b'0'))
+}
+
 /// The number whose digits stand in front.
 #[tactic(auto, unfolding(crate::specs::Mirrors::Scan::number_at))]
+#[inline(always)]
 pub(crate) fn digits(bytes: &[u8]) -> Result<(u32, &[u8]), TokenFault>
     ensures token { option_map (λ x. (number x.0, x.1.now)) (result_ok result) ≡ number_at bytes.now }
     ensures fault { IfErr result (λ e. e ≡ TokenFault.NumberTooLarge (length bytes.now)) }
@@ -154,6 +167,7 @@ fn solid(bytes: &[u8]) -> Result<(Token<'_>, &[u8]), TokenFault>
 
 /// Behind the white space in front.
 #[tactic(auto, using(pg_lists::proofs::Runs::run_within))]
+#[inline(always)]
 pub(crate) fn after_space(bytes: &[u8]) -> &[u8]
     ensures { result.now ≡ after_space bytes.now }
 {
@@ -163,7 +177,58 @@ pub(crate) fn after_space(bytes: &[u8]) -> &[u8]
     }
 }
 
+/// One byte of white space, where some stands in front.
+#[inline(always)]
+fn blank(bytes: &[u8]) -> usize
+    ensures within { result ≤ length bytes.now }
+    ensures same { after_space (drop result bytes.now) ≡ after_space bytes.now }
+{
+    match bytes {
+        [first, ..] if is_space(*first) => 1,
+        _ => 0,
+    }
+}
+
+/// The number in front and how many bytes it takes, where it has at most seven digits, at most one byte of white space
+/// stands in front of it, and at least eight bytes behind that: so most numbers stand that programs print. Elsewhere it
+/// takes no byte.
+#[inline(always)]
+pub(crate) fn short_number(bytes: &[u8]) -> (u32, usize)
+    ensures within { result.1 ≤ length bytes.now }
+    ensures number { 0 < result.1 → natural_at bytes.now ≡ Ok (result.0, drop result.1 bytes.now) }
+{
+    let blank = blank(bytes);
+    let front = &bytes[blank..];
+    if front.len() < 8 {
+        return (0, 0);
+    }
+    let mut value = digit(front[0]);
+    if value > 9 {
+        return (0, 0);
+    }
+    for i in 1..8 {
+        let next = digit(front[i]);
+        if next > 9 {
+            return (value, blank + i);
+        }
+        value = 10 * value + next;
+    }
+    (0, 0)
+}
+
+/// What stands after this byte, if it is the first one.
+#[inline(always)]
+pub(crate) fn after_first(byte: u8, bytes: &[u8]) -> Option<&[u8]>
+    ensures { IfSome result (λ rest. bytes.now ≡ byte ∷ rest.now) }
+{
+    match bytes {
+        [first, rest @ ..] if *first == byte => Some(rest),
+        _ => None,
+    }
+}
+
 /// What stands after this byte, if it is the first one behind white space.
+#[inline(always)]
 pub(crate) fn after_byte(byte: u8, bytes: &[u8]) -> Option<&[u8]>
     ensures some { IfSome result (λ rest. after_space bytes.now ≡ byte ∷ rest.now) }
     ensures none { IsNone result → Stops (λ b. b == byte) (after_space bytes.now) }

@@ -15,6 +15,7 @@ use std::io::{self, Write};
 const ZEROS: &[u8] = b",0,0,0,0,0,0,0,0,0,0,0,0,0,0,0,0,0,0,0,0,0,0,0,0,0,0,0,0,0,0,0,0";
 
 /// Writes a number in decimal digits.
+#[inline(always)]
 pub fn write_number<W: Write>(number: u32, out: &mut W) -> io::Result<()>
     ensures { OnOk result (Appends (W.contents out.old) (W.contents out.new) (decimal number)) }
 {

@@ -6,7 +6,7 @@ use std::alloc::Global;
 use std::test::Fail;
 
 /// The printed layout of the game that the text spells.
-fn reprinted(alloc: Global, text: &[u8]) -> Result<Vec<u8>, TextFault> {
+pub(crate) fn reprinted(alloc: Global, text: &[u8]) -> Result<Vec<u8>, TextFault> {
     let game = read_game(alloc, text)?;
     let mut out = Vec::new(alloc);
     write_game(&game, &mut out)?;

@@ -13,6 +13,8 @@ mod parts;
 #[cfg(test)]
 mod places;
 #[cfg(test)]
+mod short_lines;
+#[cfg(test)]
 mod solution_faults;
 #[cfg(test)]
 mod solutions;

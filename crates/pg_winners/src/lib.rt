@@ -3,7 +3,9 @@
 #![tactic(auto)]
 
 mod arranging;
+mod fixpoint;
 mod graph;
+mod improvement;
 mod known;
 mod lists;
 mod played;

@@ -80,15 +80,29 @@ impl Recursion {
         self.links.next(v)
     }
 
-    /// What each player wins of the vertices, which are free and given by rising priority; none where more was looked at than `most`.
+    /// Begins with vertices that are free, and given by rising priority.
+    pub fn begin(&mut self, vertices: &[u32]) -> Result<(), AllocError> {
+        self.order.clear();
+        self.order.extend_from_slice(vertices)?;
+        self.from = 0;
+        self.to = count(vertices.len());
+        self.place = self.to;
+        self.levels.clear();
+        self.attracted.clear();
+        self.heads.clear();
+        self.won = Sides::EMPTY;
+        self.is_ending = false;
+        Ok(())
+    }
+
+    /// What each player wins of the vertices that it began with; none where more was looked at than `looks`: then it can go on.
     pub fn run(
         &mut self,
         graph: &Graph,
         table: &mut Table,
-        vertices: &[u32],
-        most: u64,
+        looks: u64,
     ) -> Result<Option<Sides>, AllocError> {
-        self.begin(vertices)?;
+        let most = table.looks.saturating_add(looks);
         for _ in 0..u64::MAX {
             if table.looks > most {
                 return Ok(None);
@@ -103,20 +117,6 @@ impl Recursion {
             self.end(graph, table, level)?;
         }
         Ok(Some(self.won))
-    }
-
-    fn begin(&mut self, vertices: &[u32]) -> Result<(), AllocError> {
-        self.order.clear();
-        self.order.extend_from_slice(vertices)?;
-        self.from = 0;
-        self.to = count(vertices.len());
-        self.place = self.to;
-        self.levels.clear();
-        self.attracted.clear();
-        self.heads.clear();
-        self.won = Sides::EMPTY;
-        self.is_ending = false;
-        Ok(())
     }
 
     /// The free vertex of the greatest priority, or `NONE`.

@@ -4,12 +4,11 @@
 //! of that priority; a tangle is attracted as a whole where no escape is free. Where a region is closed the components in it that
 //! lead to no other one are new tangles. Those without escapes are dominions, which the player wins.
 
-use crate::arranging::arrange;
 use crate::graph::Graph;
 use crate::known::Known;
 use crate::played::Played;
 use crate::table::{Attraction, FIRST, FREE, Table, WAITING};
-use pg_arrange::{Components, Edges, NONE, Placed, at, between, count, put};
+use pg_arrange::{Components, Edges, NONE, at, between, count, from, put};
 use std::alloc::{AllocError, Global};
 
 /// The player of a dominion, and where it ends in the list of the vertices of all.
@@ -22,6 +21,10 @@ pub(crate) struct Dominion {
 
 #[derive(Drop)]
 pub(crate) struct Tangles {
+    /// What stands here is of tangles alone, but for who wins what.
+    pub table: Table,
+    /// How many of the vertices that each player wins were noted.
+    noted: [usize; 2],
     known: Known,
     components: Components,
     /// The region that is made, and how many of the vertices by priority are still to be looked at.
@@ -31,21 +34,20 @@ pub(crate) struct Tangles {
     /// The dominions that a round found, and their vertices.
     dominions: Vec<Dominion>,
     dominated: Vec<u32>,
-    /// Where each vertex of the dominion that is put into order stands.
-    places: Vec<u32>,
 }
 
 impl Tangles {
-    pub fn new(alloc: Global, vertices: u32) -> Result<Tangles, AllocError> {
+    pub fn new(alloc: Global, graph: &Graph) -> Result<Tangles, AllocError> {
         Ok(Tangles {
-            known: Known::new(alloc, vertices)?,
+            table: Table::new(alloc, graph)?,
+            noted: [0, 0],
+            known: Known::new(alloc, graph.len())?,
             components: Components::new(alloc),
             region: Vec::new(alloc),
             left: 0,
             escapes: Vec::new(alloc),
             dominions: Vec::new(alloc),
             dominated: Vec::new(alloc),
-            places: vec![in alloc; NONE; vertices as usize]?,
         })
     }
 
@@ -54,6 +56,11 @@ impl Tangles {
         self.known.clear();
         self.dominions.clear();
         self.dominated.clear();
+    }
+
+    /// Whether dominions were found.
+    pub fn has_dominions(&self) -> bool {
+        !self.dominions.is_empty()
     }
 
     /// The dominion that was found last, with its vertices.
@@ -66,35 +73,30 @@ impl Tangles {
         between(&self.dominated, dominion.from, dominion.to)
     }
 
-    /// An order of the vertices of a dominion, by the edges that are played.
-    pub fn arrange(
-        &mut self,
-        alloc: Global,
-        played: &Played,
-        vertices: &[u32],
-    ) -> Result<Vec<Placed>, AllocError> {
-        arrange(alloc, played, vertices, &mut self.places)
+    /// Notes what each player wins.
+    pub fn note(&mut self, even: &[u32], odd: &[u32]) {
+        for v in from(even, self.noted[0]) {
+            self.table.mark(*v, 0);
+        }
+        for v in from(odd, self.noted[1]) {
+            self.table.mark(*v, 1);
+        }
+        self.noted = [even.len(), odd.len()];
     }
 
     /// Splits the vertices, which are given by rising priority, into regions, and learns from them. Whether something was learnt. Stops
     /// where more was looked at than `most`.
-    pub fn run(
-        &mut self,
-        graph: &Graph,
-        table: &mut Table,
-        vertices: &[u32],
-        most: u64,
-    ) -> Result<bool, AllocError> {
+    pub fn run(&mut self, graph: &Graph, vertices: &[u32], most: u64) -> Result<bool, AllocError> {
         self.dominions.clear();
         self.dominated.clear();
         for v in vertices {
-            table.mark(*v, FREE);
+            self.table.mark(*v, FREE);
         }
-        table.look(vertices.len());
+        self.table.look(vertices.len());
         self.left = count(vertices.len());
         let mut has_learnt = false;
         for mark in FIRST..FREE {
-            if table.looks > most || !self.take_heads(graph, table, vertices, mark)? {
+            if self.table.looks > most || !self.take_heads(graph, vertices, mark)? {
                 break;
             }
             let player = graph.priority(at(&self.region, 0)) % 2;
@@ -104,9 +106,9 @@ impl Tangles {
                 low: FREE,
                 mark,
             };
-            self.attract(graph, table, attraction)?;
-            if self.is_closed(graph, table, heads, attraction) {
-                has_learnt = self.learn(graph, table, player, mark)? || has_learnt;
+            self.attract(graph, attraction)?;
+            if self.is_closed(graph, heads, attraction) {
+                has_learnt = self.learn(graph, player, mark)? || has_learnt;
             }
         }
         Ok(has_learnt)
@@ -116,7 +118,6 @@ impl Tangles {
     fn take_heads(
         &mut self,
         graph: &Graph,
-        table: &mut Table,
         vertices: &[u32],
         mark: u32,
     ) -> Result<bool, AllocError> {
@@ -124,15 +125,15 @@ impl Tangles {
         let mut priority = NONE;
         for place in (0..self.left).rev() {
             let v = at(vertices, place);
-            if table.region(v) == FREE {
+            if self.table.region(v) == FREE {
                 if priority == NONE {
                     priority = graph.priority(v);
                 }
                 if graph.priority(v) != priority {
                     break;
                 }
-                table.mark(v, mark);
-                put(&mut table.choices, v, NONE);
+                self.table.mark(v, mark);
+                put(&mut self.table.choices, v, NONE);
                 self.region.push(v)?;
             }
             self.left = place;
@@ -141,16 +142,12 @@ impl Tangles {
     }
 
     /// Attracts vertices and tangles to the region.
-    fn attract(
-        &mut self,
-        graph: &Graph,
-        table: &mut Table,
-        attraction: Attraction,
-    ) -> Result<(), AllocError> {
+    fn attract(&mut self, graph: &Graph, attraction: Attraction) -> Result<(), AllocError> {
         for place in 0..usize::MAX {
             let Some(target) = self.region.get(place).copied() else {
                 break;
             };
+            let table = &mut self.table;
             table.pull(graph, &mut self.region, target, attraction)?;
             self.known
                 .pull(table, &mut self.region, target, attraction)?;
@@ -159,13 +156,8 @@ impl Tangles {
     }
 
     /// Whether the player can stay in the region at each head, where it chooses how, and the opponent can't go to what is free.
-    fn is_closed(
-        &self,
-        graph: &Graph,
-        table: &mut Table,
-        heads: u32,
-        attraction: Attraction,
-    ) -> bool {
+    fn is_closed(&mut self, graph: &Graph, heads: u32, attraction: Attraction) -> bool {
+        let table = &mut self.table;
         for v in between(&self.region, 0, heads) {
             let row = graph.successors(*v);
             table.look(row.len());
@@ -188,13 +180,8 @@ impl Tangles {
     }
 
     /// Learns the tangles of a closed region.
-    fn learn(
-        &mut self,
-        graph: &Graph,
-        table: &mut Table,
-        player: u32,
-        mark: u32,
-    ) -> Result<bool, AllocError> {
+    fn learn(&mut self, graph: &Graph, player: u32, mark: u32) -> Result<bool, AllocError> {
+        let table = &mut self.table;
         let played = Played {
             graph,
             choices: &table.choices,

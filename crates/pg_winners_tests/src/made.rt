@@ -1,7 +1,7 @@
-//! Games that are made by the dozen, and two families on which one of the methods alone is slow.
+//! Games that are made by the dozen, and families on which some of the methods alone are slow.
 
 use crate::judging::{show, win};
-use crate::lines::Lines;
+use crate::lines::{Lines, at};
 use pg_arena::Player;
 use pg_winners::find_winners;
 use std::alloc::Global;
@@ -79,6 +79,57 @@ fn ladder(alloc: Global, steps: u32) -> Result<Lines, Fail> {
     Ok(lines)
 }
 
+/// A path on which each vertex leads to its neighbours. Priorities rise, and owners take turns.
+fn path(alloc: Global, all: u32) -> Result<Lines, Fail> {
+    let mut lines = Lines::new(alloc)?;
+    for i in 0..all.min(10_000) {
+        let mut row = Vec::new(alloc);
+        if i > 0 {
+            row.push(i - 1)?;
+        }
+        if i + 1 < all {
+            row.push(i + 1)?;
+        }
+        lines.add(i, player(i % 2), &row)?;
+    }
+    Ok(lines)
+}
+
+/// A game and its dual side by side, with edges between them.
+fn with_dual(alloc: Global, lines: &Lines) -> Result<Lines, Fail> {
+    let mut dice = Dice(1);
+    let mut both = Lines::new(alloc)?;
+    let all = lines.len();
+    for v in 0..all.saturating_mul(2) {
+        let is_dual = v >= all;
+        let own = if is_dual { v - all } else { v };
+        let mut row = Vec::new(alloc);
+        for w in lines.row(own) {
+            row.push(if is_dual { w.saturating_add(all) } else { *w })?;
+        }
+        if dice.below(40) == 0 {
+            let other = dice.below(u64::from(all));
+            row.push(if is_dual {
+                other
+            } else {
+                other.saturating_add(all)
+            })?;
+        }
+        let priority = at(&lines.priorities, own);
+        let is_of_even = lines.owners.get(own as usize).copied() == Some(Player::Even);
+        if is_dual {
+            both.add(
+                priority.saturating_add(1),
+                player(u32::from(is_of_even)),
+                &row,
+            )?;
+        } else {
+            both.add(priority, player(u32::from(!is_of_even)), &row)?;
+        }
+    }
+    Ok(both)
+}
+
 #[test]
 fn small_games_are_won_and_shown(rt: HostRuntime) -> Result<(), Fail> {
     for seed in 0..400u64 {
@@ -93,7 +144,12 @@ fn small_games_are_won_and_shown(rt: HostRuntime) -> Result<(), Fail> {
 
 #[test]
 fn slow_games_are_won_and_shown(rt: HostRuntime) -> Result<(), Fail> {
-    for lines in [formula(rt.alloc(), 200)?, ladder(rt.alloc(), 200)?] {
+    for lines in [
+        formula(rt.alloc(), 100)?,
+        with_dual(rt.alloc(), &ladder(rt.alloc(), 40)?)?,
+        ladder(rt.alloc(), 100)?,
+        path(rt.alloc(), 300)?,
+    ] {
         let found = find_winners(rt.alloc(), &lines.graph()?)?;
         assert!(rt; win(rt.alloc(), &lines, &found)?);
         assert!(rt; show(rt.alloc(), &lines, &found)?);

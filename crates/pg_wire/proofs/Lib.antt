@@ -3,6 +3,7 @@ pub mod Orders
 pub mod Grammar
 pub mod FrameFormats
 pub mod Bodies
+pub mod Numbers
 pub mod Append
 pub mod Consumed
 pub mod Buffers

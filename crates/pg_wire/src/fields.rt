@@ -4,6 +4,7 @@ ghost use Rattle.pg_wire.specs.Mirrors.Reading.{Yields, within_at, odd_at, byte_
 ghost use Rattle.pg_wire.specs.Mirrors.Formats.{place};
 
 use crate::fault::FieldFault;
+use byteorder::{BigEndian, ByteOrder};
 
 /// One more than the greatest number of four bytes.
 pub const WORDS: u64 = 4_294_967_296;
@@ -21,7 +22,7 @@ pub fn within(low: u64, high: u64, bytes: &[u8]) -> Result<(u32, &[u8]), FieldFa
         return Err(FieldFault::At(bytes.len()));
     }
     let (front, rest) = bytes.split_at(4);
-    let n = u32::from_be_bytes([front[0], front[1], front[2], front[3]]);
+    let n = BigEndian::read_u32(front);
     if low <= n as u64 && (n as u64) < high {
         Ok((n, rest))
     } else {

@@ -10,6 +10,7 @@ ghost use Rattle.pg_wire.specs.Mirrors.Buffers.{Extends};
 use crate::frame::LineHead;
 use crate::reading::LONGEST;
 use crate::writer::put_numbers;
+use byteorder::{BigEndian, ByteOrder};
 use std::alloc::AllocError;
 
 /// How many bytes stand before the lines of a frame: its length, its kind and the count.
@@ -29,9 +30,10 @@ fn put_front(count: u32, len: u32, front: &mut [u8])
     requires { length front.old ≡ 9 }
     ensures { front.new ≡ word len ++ (2 ∷ word count) }
 {
-    let [a, b, c, d] = len.to_be_bytes();
-    let [e, f, g, h] = count.to_be_bytes();
-    front.copy_from_slice(&[a, b, c, d, 2, e, f, g, h]);
+    let mut bytes = [2; FRONT];
+    BigEndian::write_u32(&mut bytes, len);
+    BigEndian::write_u32(&mut bytes[5..], count);
+    front.copy_from_slice(&bytes);
 }
 
 /// What stands before so many successors of a line.
@@ -40,10 +42,11 @@ fn put_head(head: LineHead, count: u32, out: &mut Vec<u8>) -> Result<(), AllocEr
         ≡ out.old.items ++ (word head.vertex ++ word head.priority ++ (head.owner ∷ word count))) }
     ensures err { OnErr result (out.new.items ≡ out.old.items) }
 {
-    let [a, b, c, d] = head.vertex.to_be_bytes();
-    let [e, f, g, h] = head.priority.to_be_bytes();
-    let [i, j, k, l] = count.to_be_bytes();
-    out.extend_from_slice(&[a, b, c, d, e, f, g, h, head.owner, i, j, k, l])
+    let mut bytes = [head.owner; HEAD];
+    BigEndian::write_u32(&mut bytes, head.vertex);
+    BigEndian::write_u32(&mut bytes[4..], head.priority);
+    BigEndian::write_u32(&mut bytes[9..], count);
+    out.extend_from_slice(&bytes)
 }
 
 /// A line. Where memory runs out, some of it may stand in the buffer.

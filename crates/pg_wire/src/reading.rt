@@ -14,6 +14,7 @@ use crate::fields::{WORDS, byte, code, version, within};
 use crate::form::counted;
 use crate::forms::{BoundForm, LineForm, SparseValueForm, ValueForm};
 use crate::frame::{Frame, Go, Report, Setup, Sparse, Values, Vertices};
+use byteorder::{BigEndian, ByteOrder};
 use std::alloc::Global;
 
 /// The limit of a frame's length, which counts the bytes after it.
@@ -28,7 +29,7 @@ pub fn after_length(bytes: &[u8]) -> Option<&[u8]>
         return None;
     }
     let (front, rest) = bytes.split_at(4);
-    let length = u32::from_be_bytes([front[0], front[1], front[2], front[3]]);
+    let length = BigEndian::read_u32(front);
     if length > LONGEST || rest.len() != length as usize {
         return None;
     }
@@ -166,7 +167,7 @@ pub fn decode(alloc: Global, bytes: &[u8]) -> Result<Frame, WireFault>
         return Err(WireFault::Truncated);
     }
     let (front, rest) = bytes.split_at(4);
-    let length = u32::from_be_bytes([front[0], front[1], front[2], front[3]]);
+    let length = BigEndian::read_u32(front);
     if length > LONGEST {
         return Err(WireFault::TooLong);
     }

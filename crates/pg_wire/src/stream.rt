@@ -8,6 +8,7 @@ ghost use Rattle.pg_wire.specs.declared.fault.WireFault.TheVariants.{Truncated, 
 use crate::fault::WireFault;
 use crate::frame::Frame;
 use crate::reading::{LONGEST, decode};
+use byteorder::{BigEndian, ByteOrder};
 use std::alloc::Global;
 use std::io::{ErrorKind, Read};
 
@@ -103,7 +104,7 @@ pub fn read_frame_bytes<R: Read>(input: &mut R, bytes: &mut Vec<u8>) -> Result<b
     if bytes.extend_from_slice(&front).is_err() {
         return Err(WireFault::OutOfMemory);
     }
-    let len = u32::from_be_bytes(front);
+    let len = BigEndian::read_u32(&front);
     if len > LONGEST {
         return Err(WireFault::TooLong);
     }

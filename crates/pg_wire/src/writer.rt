@@ -9,6 +9,7 @@ ghost use Rattle.pg_wire.specs.Mirrors.Buffers.{Extends};
 
 use crate::kind::{ValueKind, is_told, nonzero_len};
 use crate::reading::LONGEST;
+use byteorder::{BigEndian, ByteOrder};
 use std::alloc::AllocError;
 
 /// How many bytes stand before the values of a frame: its length, its kind, the width and the count.
@@ -27,7 +28,9 @@ fn put_word(n: u32, out: &mut Vec<u8>) -> Result<(), AllocError>
     ensures ok { OnOk result (out.new.items ≡ out.old.items ++ word n) }
     ensures err { OnErr result (out.new.items ≡ out.old.items) }
 {
-    out.extend_from_slice(&n.to_be_bytes())
+    let mut bytes = [0; 4];
+    BigEndian::write_u32(&mut bytes, n);
+    out.extend_from_slice(&bytes)
 }
 
 /// Each number. Where memory runs out, some of them may stand in the buffer.
@@ -46,9 +49,10 @@ fn put_pair(place: u32, n: u32, out: &mut Vec<u8>) -> Result<(), AllocError>
     ensures ok { OnOk result (out.new.items ≡ out.old.items ++ pair (place, n)) }
     ensures kept { Extends out.old.items out.new.items }
 {
-    let [a, b, c, d] = place.to_be_bytes();
-    let [e, f, g, h] = n.to_be_bytes();
-    out.extend_from_slice(&[a, b, c, d, e, f, g, h])
+    let mut bytes = [0; 8];
+    BigEndian::write_u32(&mut bytes, place);
+    BigEndian::write_u32(&mut bytes[4..], n);
+    out.extend_from_slice(&bytes)
 }
 
 /// Each number that isn't 0, with its place.
@@ -69,8 +73,9 @@ fn put_tagged(vertex: u32, tag: u8, out: &mut Vec<u8>) -> Result<(), AllocError>
     ensures ok { OnOk result (out.new.items ≡ out.old.items ++ (word vertex ++ tag ∷ [])) }
     ensures kept { Extends out.old.items out.new.items }
 {
-    let [a, b, c, d] = vertex.to_be_bytes();
-    out.extend_from_slice(&[a, b, c, d, tag])
+    let mut bytes = [tag; 5];
+    BigEndian::write_u32(&mut bytes, vertex);
+    out.extend_from_slice(&bytes)
 }
 
 #[inline(always)]
@@ -97,10 +102,11 @@ fn put_front(kind: ValueKind, width: u32, count: u32, len: u32, front: &mut [u8]
         ValueKind::Dense => 3,
         ValueKind::Sparse => 7,
     };
-    let [a, b, c, d] = len.to_be_bytes();
-    let [e, f, g, h] = width.to_be_bytes();
-    let [i, j, k, l] = count.to_be_bytes();
-    front.copy_from_slice(&[a, b, c, d, kind, e, f, g, h, i, j, k, l]);
+    let mut bytes = [kind; FRONT];
+    BigEndian::write_u32(&mut bytes, len);
+    BigEndian::write_u32(&mut bytes[5..], width);
+    BigEndian::write_u32(&mut bytes[9..], count);
+    front.copy_from_slice(&bytes);
 }
 
 impl ValuesWriter {

@@ -1,5 +1,5 @@
 //! Writes frames.
-ghost use Rattle.std.specs.Prelude.{◌≡◌, ℕ, ◌<◌, ◌≤◌, ◌^◌, ◌++◌, ◌∷◌, List, length, OnOk, IfOk, IfErr, IfSome, IfNone, ◌+◌, ◌⊎◌, ◌↔◌, Err};
+ghost use Rattle.std.specs.Prelude.{◌≡◌, ℕ, ◌<◌, ◌≤◌, ◌^◌, ◌++◌, [], ◌∷◌, List, length, OnOk, IfOk, IfErr, IfSome, IfNone, ◌+◌, ◌⊎◌, ◌↔◌, Err};
 ghost use Rattle.std.specs.List.{flat_map};
 ghost use Rattle.std.specs.Io.KnownBytes.{Appends};
 ghost use Rattle.pg_wire.specs.Spelling.{word, counted, spelling, body, longest};
@@ -10,6 +10,7 @@ ghost use Rattle.pg_wire.specs.declared.fault.WireFault.TheVariants.{TooLong, Ou
 use crate::fault::WireFault;
 use crate::frame::{Frame, SparseValue, Value, VertexLine};
 use crate::reading::LONGEST;
+use byteorder::{BigEndian, ByteOrder, WriteBytesExt};
 use std::alloc::Global;
 use std::io::Write;
 
@@ -44,7 +45,10 @@ fn put_word<W: Write>(n: u32, out: &mut W) -> Result<(), WireFault>
     ensures ok { OnOk result (Appends (W.contents out.old) (W.contents out.new) (word n)) }
     ensures fault { IfErr result (λ e. e ≡ WireFault.Write) }
 {
-    put_bytes(&n.to_be_bytes(), out)
+    match out.write_u32::<BigEndian>(n) {
+        Ok(()) => Ok(()),
+        Err(_) => Err(WireFault::Write),
+    }
 }
 
 /// Each item, one after the other.
@@ -132,6 +136,16 @@ impl Spell for (u32, u32) {
     }
 }
 
+/// What stands before the successors in a line.
+fn line_front(vertex: u32, priority: u32, owner: u8) -> [u8; 9]
+    ensures { result ≡ word vertex ++ word priority ++ owner ∷ [] }
+{
+    let mut front = [owner; 9];
+    BigEndian::write_u32(&mut front, vertex);
+    BigEndian::write_u32(&mut front[4..], priority);
+    front
+}
+
 impl Spell for VertexLine {
     ghost use Rattle.pg_wire.specs.Spelling.{line};
 
@@ -144,9 +158,7 @@ impl Spell for VertexLine {
     }
 
     fn put<W: Write>(&self, out: &mut W) -> Result<(), WireFault> {
-        let [a, b, c, d] = self.vertex.to_be_bytes();
-        let [e, f, g, h] = self.priority.to_be_bytes();
-        let front = [a, b, c, d, e, f, g, h, self.owner];
+        let front = line_front(self.vertex, self.priority, self.owner);
         put_front_and_counted(&front, self.successors.as_slice(), out)
     }
 }
@@ -229,16 +241,18 @@ fn body_len(frame: &Frame) -> Option<u32>
 fn kind_and_word(kind: u8, n: u32) -> [u8; 5]
     ensures { result ≡ kind ∷ word n }
 {
-    let [a, b, c, d] = n.to_be_bytes();
-    [kind, a, b, c, d]
+    let mut front = [kind; 5];
+    BigEndian::write_u32(&mut front[1..], n);
+    front
 }
 
 /// What stands before the bounds in a frame of set-up.
 fn setup_front(version: u8, vertices: u32) -> [u8; 6]
     ensures { result ≡ 1 ∷ version ∷ word vertices }
 {
-    let [a, b, c, d] = vertices.to_be_bytes();
-    [1, version, a, b, c, d]
+    let mut front = [1, version, 0, 0, 0, 0];
+    BigEndian::write_u32(&mut front[2..], vertices);
+    front
 }
 
 /// The body of a frame, all that stands after its length.

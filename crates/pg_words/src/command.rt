@@ -7,6 +7,8 @@ pub enum Command {
     Measure { workers: u32 },
     /// Prints who wins at each vertex of a game, and how.
     Solve { workers: u32 },
+    /// Prints the same winners, and any strategy that wins.
+    SolveAny { workers: u32 },
     /// Prints whether a solution of a game is sound, and if not, what speaks against it.
     Check,
     /// Prints the world that a script of lifts, deliveries and restarts makes of a game.
@@ -22,7 +24,7 @@ impl Command {
     ghost use Rattle.pg_words.specs.declared.command.Command.{Command};
     ghost use Rattle.pg_words.specs.Commands.{command_name, workers_of};
 
-    /// Every command, in the order of the help, with so many workers where it solves.
+    /// Every command that has a name of its own, in the order of the help, with so many workers where it solves.
     pub fn all(workers: u32) -> [Command; 6]
         ensures { result ≡ Command.Measure workers ∷ Command.Solve workers ∷ Command.Check ∷ Command.Replay
             ∷ Command.Game ∷ Command.Synth workers ∷ [] }
@@ -43,7 +45,7 @@ impl Command {
     {
         match self {
             Command::Measure { .. } => "measure",
-            Command::Solve { .. } => "solve",
+            Command::Solve { .. } | Command::SolveAny { .. } => "solve",
             Command::Check => "check",
             Command::Replay => "replay",
             Command::Game => "game",
@@ -58,6 +60,7 @@ impl Command {
         match self {
             Command::Measure { workers }
             | Command::Solve { workers }
+            | Command::SolveAny { workers }
             | Command::Synth { workers } => Some(workers),
             Command::Check | Command::Replay | Command::Game => None,
         }

@@ -29,6 +29,9 @@ const WORKERS: &str = "workers";
 /// The option that says which program is started as each worker.
 const APART: &str = "apart";
 
+/// The option that asks for any strategy that wins.
+const ANY: &str = "any";
+
 /// The word that asks for a worker.
 const WORKER: &str = "worker";
 
@@ -83,7 +86,8 @@ const SOLVE: Help = Help {
 Input: a parity game in the format of PGSolver, as `parity 1; 0 1 0 0,1; 1 2 1 0;`, by `parsolve solve GAME` from a
 file, and else from standard input
 Output: `paritysol N;` with the greatest identifier, and a line `IDENTIFIER WINNER STRATEGY;` for each vertex by rising
-identifier. The strategy is the successor that the winner goes to, left out where the other player owns the vertex.
+identifier. The strategy is the successor that the winner goes to, left out where the other player owns the vertex. It is
+that of the least progress measures; with `--any` it is any that wins, in less time.
 
 Example: printf 'parity 1; 0 1 0 0,1; 1 2 1 0;' | parsolve solve
 prints `paritysol 1;`, `0 0 1;` and `1 0;`, each on a line.",
@@ -174,6 +178,18 @@ fn apart_option<'a>(alloc: Global) -> Arg<'a> {
         .action(ArgAction::Set)
 }
 
+/// The option `--any`.
+fn any_option<'a>(alloc: Global) -> Result<Arg<'a>, Error> {
+    Ok(
+        Arg::new(alloc, ANY)
+            .long(ANY)
+            .help("Print any strategy that wins, in less time; the winners are the same")
+            .action(ArgAction::SetTrue)
+            .conflicts_with(WORKERS)?
+            .conflicts_with(APART)?,
+    )
+}
+
 /// The option `--port P`.
 fn port_option<'a>(alloc: Global) -> Arg<'a> {
     Arg::new(alloc, PORT)
@@ -207,7 +223,9 @@ fn helped<'a>(alloc: Global, command: Command, help: Help) -> Result<Program<'a>
 fn subcommand<'a>(alloc: Global, command: Command) -> Result<Program<'a>, Error> {
     match command {
         Command::Measure { .. } => helped(alloc, command, MEASURE),
-        Command::Solve { .. } => helped(alloc, command, SOLVE),
+        Command::Solve { .. } | Command::SolveAny { .. } => Ok(helped(alloc, command, SOLVE)?.arg(
+            any_option(alloc)?,
+        )?),
         Command::Check => helped(alloc, command, CHECK),
         Command::Replay => helped(alloc, command, REPLAY),
         Command::Game => helped(alloc, command, GAME),
@@ -252,6 +270,14 @@ fn workers_in(matches: &ArgMatches<'_>) -> u32
     }
 }
 
+/// Whether the words ask for any strategy that wins.
+fn is_any(matches: &ArgMatches<'_>) -> bool {
+    match matches.subcommand() {
+        Some((_, found)) => found.get_flag(ANY),
+        None => false,
+    }
+}
+
 /// The program to start as each worker, if the words name one.
 fn apart_in(alloc: Global, matches: &ArgMatches<'_>) -> Result<Option<String>, Error> {
     let Some((_, found)) = matches.subcommand() else {
@@ -286,6 +312,10 @@ fn line_of(alloc: Global, name: &str, matches: &ArgMatches<'_>) -> Result<Option
     }
     let Some(command) = Command::named(name, workers_in(matches)) else {
         return Ok(None);
+    };
+    let command = match command {
+        Command::Solve { workers } if is_any(matches) => Command::SolveAny { workers },
+        _ => command,
     };
     Ok(Some(Line::Run(command, apart_in(alloc, matches)?)))
 }

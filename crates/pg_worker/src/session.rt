@@ -53,7 +53,8 @@ impl Session {
     ///
     /// Faults: `Wire(TooLong)` exactly for a frame that is too long to be spelled; `Wire(Version)` for a set-up of a version above
     /// the session's highest; `Order` for a frame out of turn, and for vertices that don't rise; `BadUpdate` for lines, a width or
-    /// values that don't fit the game; `OutOfMemory`. After a fault `out` is as before, and the session holds nothing.
+    /// values that don't fit the game; `OutOfMemory`, also for a set-up whose vertices times its bounds are more than 67,108,864,
+    /// whatever memory there is. After a fault `out` is as before, and the session holds nothing.
     pub fn frame(&mut self, frame: &Frame, out: &mut Vec<u8>) -> Result<bool, WorkerFault>
         requires { IsWell frame.now }
         ensures highest { self.new.highest ≡ self.old.highest }

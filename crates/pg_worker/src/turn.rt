@@ -15,6 +15,7 @@ use crate::lines::add_read_lines;
 use crate::reply::{put_lifted, put_report};
 use crate::session_state::{SessionState, replace_state};
 use crate::{Worker, WorkerFault};
+use pg_parts::fits_worker;
 use pg_wire::{Frame, Setup, ValueKind, ValuesReader, VerticesReader, WireFault, decode};
 use std::alloc::Global;
 
@@ -49,8 +50,12 @@ fn set_up(
     if setup.version > highest {
         return Err(WorkerFault::Wire(WireFault::Version));
     }
+    let width = setup.bounds.as_slice().len();
+    if !fits_worker(setup.vertices as usize, width) {
+        return Err(WorkerFault::OutOfMemory);
+    }
     let kind = greet(setup.version, out)?;
-    let row = vec![in alloc; 0; setup.bounds.as_slice().len()]?;
+    let row = vec![in alloc; 0; width]?;
     let worker = Worker::new(alloc, setup)?;
     Ok(SessionState {
         kind,

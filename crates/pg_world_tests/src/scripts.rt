@@ -7,7 +7,7 @@ use pg_world::{Script, read_script};
 use std::alloc::Global;
 
 /// A game whose vertices have the identifiers 3, 7 and 9.
-pub(crate) const GAME: &[u8] = b"9 1 0 3;7 3 0 3;3 1 1 3,7;";
+const GAME: &[u8] = b"9 1 0 3;7 3 0 3;3 1 1 3,7;";
 
 /// Texts without events, how many workers they name, and the worker of each vertex.
 static CUTS: [(&[u8], u32, [u32; 3]); 8] = [

@@ -14,6 +14,7 @@ complete -c parsolve -n '__fish_seen_subcommand_from measure' -l apart -r -F -d 
 complete -c parsolve -n '__fish_seen_subcommand_from measure' -s h -l help -d 'Print help'
 complete -c parsolve -n '__fish_seen_subcommand_from solve' -l workers -x -d 'How many workers solve, from 0 to 16; the answer is the same [default: 2]'
 complete -c parsolve -n '__fish_seen_subcommand_from solve' -l apart -r -F -d 'Start each worker as the program PATH, which has to be this one; the answer is the same'
+complete -c parsolve -n '__fish_seen_subcommand_from solve' -l any -d 'Print any strategy that wins, in less time; the winners are the same'
 complete -c parsolve -n '__fish_seen_subcommand_from solve' -s h -l help -d 'Print help'
 complete -c parsolve -n '__fish_seen_subcommand_from check' -s h -l help -d 'Print help'
 complete -c parsolve -n '__fish_seen_subcommand_from replay' -s h -l help -d 'Print help'

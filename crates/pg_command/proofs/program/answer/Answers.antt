@@ -12,6 +12,10 @@ pub returns-in-Solve-clause-answer : goal.returns-in-Solve-clause-answer
 returns-in-Solve-clause-answer g c =
     answered _ _ _ _ _ _ _ _ _ c.requires.limit c.in-Solve.is c.solve.ensures.answer c.solve.ensures.refused c.print-in-Solve.ensures.written c.print-in-Solve.ensures.refused
 
+pub returns-in-SolveAny-clause-answer : goal.returns-in-SolveAny-clause-answer
+returns-in-SolveAny-clause-answer g c =
+    answered _ _ _ _ _ _ _ _ _ c.requires.limit c.in-SolveAny.is c.solve_any.ensures.answer c.solve_any.ensures.refused c.print-in-SolveAny.ensures.written c.print-in-SolveAny.ensures.refused
+
 pub returns-in-Check-clause-answer : goal.returns-in-Check-clause-answer
 returns-in-Check-clause-answer g c =
     answered _ _ _ _ _ _ _ _ _ c.requires.limit c.in-Check.is c.check.ensures.answer c.check.ensures.refused c.print-in-Check.ensures.written c.print-in-Check.ensures.refused

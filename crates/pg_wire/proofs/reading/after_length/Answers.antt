@@ -1,4 +1,5 @@
-use Rattle.std.proofs.Common.{arith}
+use Rattle.std.proofs.Common.{arith, ◌∙◌}
+use Rattle.pg_wire.proofs.Numbers.{number_is}
 use Rattle.pg_wire.proofs.Lengths.{counted_by, too_few, miscounted}
 use Rattle.pg_wire.proofs.reading.after_length.Goals.{then-length-gt-LONGEST-via-then-length-gt-LONGEST}
 use Rattle.pg_wire.proofs.reading.after_length.Goals.{then-length-gt-LONGEST-via-else-length-gt-LONGEST+then-rest-length}
@@ -9,8 +10,8 @@ returns-then-bytes-lt4-clause-none c = λ f s. too_few c.args.bytes.now f c.if-b
 
 pub returns-then-length-gt-LONGEST-clause-none : goal.returns-then-length-gt-LONGEST-clause-none
 returns-then-length-gt-LONGEST-clause-none c = λ f s.
-    miscounted c.args.bytes.now c.split_at.result.0.now c.split_at.result.1.now c.from_be_bytes-length.result f c.split_at.ensures.by_index.0
-    c.split_at.ensures.front_len c.from_be_bytes-length.ensures
+    miscounted c.args.bytes.now c.split_at.result.0.now c.split_at.result.1.now c.read_u32-length.result f c.split_at.ensures.by_index.0
+    c.split_at.ensures.front_len (c.read_u32-length.ensures ∙ number_is c.split_at.result.0.now)
     (elim c.then-length-gt-LONGEST.branch [
       | then-length-gt-LONGEST-via-then-length-gt-LONGEST w ↦ λ size within. absurd (omega (arith, within, w.if-length-gt-LONGEST.true))
       | then-length-gt-LONGEST-via-else-length-gt-LONGEST+then-rest-length w ↦ λ size within. w.if-rest-length.true size
@@ -18,6 +19,6 @@ returns-then-length-gt-LONGEST-clause-none c = λ f s.
 
 pub returns-clause-found : goal.returns-clause-found
 returns-clause-found c =
-    counted_by c.args.bytes.now c.split_at.result.0.now c.split_at.result.1.now c.from_be_bytes-length.result (λ i. omega (arith, c.type_inv.bytes i))
-    c.split_at.ensures.front c.split_at.ensures.by_index.0 c.split_at.ensures.front_len c.from_be_bytes-length.ensures c.if-rest-length.false
-    c.if-length-gt-LONGEST.false
+    counted_by c.args.bytes.now c.split_at.result.0.now c.split_at.result.1.now c.read_u32-length.result (λ i. omega (arith, c.type_inv.bytes i))
+    c.split_at.ensures.front c.split_at.ensures.by_index.0 c.split_at.ensures.front_len
+    (c.read_u32-length.ensures ∙ number_is c.split_at.result.0.now) c.if-rest-length.false c.if-length-gt-LONGEST.false

@@ -1,6 +1,7 @@
-use Rattle.pg_wire.proofs.Common.{◌≡◌, Err, ℕ, List, length, take, ap, sym, subst, refl, inl, inr, arith, err_from_is_err_and, length-take}
+use Rattle.pg_wire.proofs.Common.{◌≡◌, ◌∙◌, Err, ℕ, List, length, take, ap, sym, subst, refl, inl, inr, arith, err_from_is_err_and, length-take}
 use Rattle.pg_wire.proofs.Common.{WireFault, IsTooLong}
 use Rattle.pg_wire.proofs.Consumed.{none_read, cut, long, too_long_alone, body_fault, read_whole, filled_all}
+use Rattle.pg_wire.proofs.Numbers.{number_is}
 use Rattle.pg_wire.proofs.stream.read_frame_bytes.Goals as goal
 
 pub returns-then-count-eq0-clause-end : goal.returns-then-count-eq0-clause-end
@@ -30,7 +31,7 @@ returns-then-len-gt-LONGEST-clause-fault g c =
     inr (inr (
       inl refl,
       long (g.R.Read.remaining c.args.input.now) (g.R.Read.remaining c.fill.new.input) front taken c.fill.auto.buffer
-          (rw c.from_be_bytes-len.ensures at over),
+          (rw (c.read_u32-len.ensures ∙ number_is front) at over),
     ))
 
 pub returns-then-len-gt-LONGEST-clause-too_long : goal.returns-then-len-gt-LONGEST-clause-too_long
@@ -39,7 +40,7 @@ returns-then-len-gt-LONGEST-clause-too_long g c = λ _.
     let started : c.extend_from_slice.new.self.items ≡ front = rw (c.if-is_err.ensures.negation, c.clear.ensures.items) at c.extend_from_slice.ensures.items in
     let over = c.if-len-gt-LONGEST.true in
     let P : List ℕ → Type 0 = λ t. IsTooLong t × (length t ≡ 4) in
-    subst P (sym started) (too_long_alone front c.fill.auto.buffer (rw c.from_be_bytes-len.ensures at over))
+    subst P (sym started) (too_long_alone front c.fill.auto.buffer (rw (c.read_u32-len.ensures ∙ number_is front) at over))
 
 pub returns-in_err-read_body-clause-fault : goal.returns-in_err-read_body-clause-fault
 returns-in_err-read_body-clause-fault g c =
@@ -49,7 +50,7 @@ returns-in_err-read_body-clause-fault g c =
     let within = c.if-len-gt-LONGEST.false in
     let fewer = c.in_err-read_body.ensures.short in
     let p = err_from_is_err_and c.from_residual-in_err-read_body.result c.from_residual-in_err-read_body.ensures.1 in
-    let len = c.from_be_bytes-len.ensures in
+    let len = c.read_u32-len.ensures ∙ number_is front in
     rw (p.1, p.2) (body_fault (g.R.Read.remaining c.args.input.now) (g.R.Read.remaining c.fill.new.input) front c.in_err-read_body.field-0.0 taken
     c.fill.auto.buffer (rw len at within)
     c.in_err-read_body.ensures.fault (λ e. rw len at (fewer (ap (λ (d : WireFault). Err d) e))))
@@ -63,4 +64,4 @@ returns-clause-frame g c = λ _.
     let started : c.extend_from_slice.new.self.items ≡ front = rw (c.if-is_err.ensures.negation, c.clear.ensures.items) at c.extend_from_slice.ensures.items in
     read_whole (g.R.Read.remaining c.args.input.now) (g.R.Read.remaining c.fill.new.input)
     (g.R.Read.remaining c.read_body.new.input) c.extend_from_slice.new.self.items front c.read_body.new.bytes.items
-    c.from_be_bytes-len.result taken c.fill.auto.buffer c.from_be_bytes-len.ensures within started c.in_ok-read_body.ensures.bytes
+    c.read_u32-len.result taken c.fill.auto.buffer (c.read_u32-len.ensures ∙ number_is front) within started c.in_ok-read_body.ensures.bytes

@@ -1,0 +1,268 @@
+#!/usr/bin/env python3
+"""Tries the wrong bodies of edits/: the prover has to refuse each, since its function doesn't meet its contract.
+
+An edit, edits/CRATE/NAME.edit, has lines `file: PATH` in the crate, `old: TEXT`, which stands once in that file, and `new: TEXT`. Edits
+of different functions of a crate are made in one copy of it. There the prover looks at the functions that were edited and at no other:
+each other function that has a proof gets a hole in its place, so that it counts by its contract. An edit is judged by the lines
+of its own function alone, or of one of them where it changes several:
+- refused: a goal of the function isn't proved, or an answer of its proof doesn't fit its goal any more;
+- it waits for another copy, where only functions that it calls are refused there;
+- anything else is a failure: that the function is proved, that its proof only misses names which the edit took away, that the prover
+  comes to a limit, or that the edit can't be made, compiled or read.
+The libraries that the crate stands on have to be there, as ./build or the gate left them.
+
+    tests/edits.py [CRATE..]    prints what fails; the status is 1 if something does
+"""
+import os
+import pathlib
+import re
+import resource
+import shutil
+import subprocess
+import sys
+import tempfile
+import time
+from concurrent.futures import ThreadPoolExecutor
+
+import scripts
+
+TOP = pathlib.Path(__file__).resolve().parent.parent
+EDITS = TOP / "edits"
+ROOM = 3_000_000_000  # bytes of memory that a check may take
+FUNCTION = re.compile(r"(    )?(?:pub(?:\(\w+\))? )?(?:const )?(?:extern \"C\" )?fn (\w+)")
+OPEN = re.compile(r"note: (src/\S+?):(\d+):\d+: it is not proved that")
+BROKEN = re.compile(r"(?:\./)?proofs/(\S+?)\.antt:\d+:\d+: error: (?:`([^`]*)`: )?(.*)")
+MISSED = re.compile(r"has no field|is not in scope|has no `|was not admitted")
+HOLE = """use Rattle.{crate}.proofs.{path}.Statement.{{statement}}
+
+pub {name}_spec : {{M : Type 1}} → statement M
+{name}_spec = ?
+"""
+REFUSED, WAITS, SILENT = "refused", "only functions that it calls are refused", "the prover says nothing of"
+
+
+class BadEdit(Exception):
+    """Why an edit can't be tried."""
+
+
+# ---- what an edit is
+
+class Edit:
+    """A wrong body: the texts that it changes, and the functions in which they stand."""
+
+    def __init__(self, path, folder):
+        self.name, self.pairs, functions, file, old = f"{path.parent.name}/{path.stem}", [], [], None, None
+        for line in path.read_text().splitlines():
+            word, _, text = line.partition(":")
+            text = text.removeprefix(" ")
+            if word == "function":
+                functions.append(text)
+            elif word == "file":
+                file = text
+            elif word == "old":
+                old = text
+            elif word == "new":
+                self.pairs.append((file, old, text))
+        for file, old, _ in self.pairs:
+            text = (folder / file).read_text()
+            if text.count(old) != 1:
+                raise BadEdit(f"{self.name}: its text is in {file} {text.count(old)} times, and not once")
+            functions.append(function_at(folder, file, text.count("\n", 0, text.index(old))))
+        self.functions = list(dict.fromkeys(filter(None, functions)))
+        if not self.functions:
+            raise BadEdit(f"{self.name}: it changes no function")
+
+
+def name_of(path):
+    """The last name of a path, and that of its first argument: (`From`, `AllocError`) of `core::From<AllocError>`."""
+    found = re.match(r"\W*([\w:]+)(?:<([\w:]+))?", path)
+    return [(it or "").rpartition("::")[2] for it in found.groups()]
+
+
+def impl_name(head):
+    """What the prover calls an impl: `MeasureOrd` for `impl Ord for Measure`."""
+    head, depth = re.sub(r"^impl", "", head), 0
+    if head.startswith("<"):
+        for at, letter in enumerate(head):
+            depth += (letter == "<") - (letter == ">" and head[at - 1] != "-")
+            if depth == 0:
+                break
+        head = head[at + 1:]
+    trait, _, kind = head.rpartition(" for ")
+    return name_of(kind)[0] + "".join(name_of(trait) if trait else [])
+
+
+def module_of(file):
+    """The names above what a file of src/ defines."""
+    return [it for it in file.removeprefix("src/").removesuffix(".rt").split("/") if it not in ("lib", "main")]
+
+
+def home_of(folder, kind, file):
+    """The module of a type of the crate: that of the file that defines it."""
+    for path in sorted((folder / "src").rglob("*.rt")):
+        if re.search(rf"^(pub(\(\w+\))? )?(struct|enum) {kind}\b", path.read_text(), re.M):
+            return module_of(str(path.relative_to(folder)))
+    return module_of(file)
+
+
+def function_at(folder, file, line):
+    """The function in which a line of a file stands, by the name that the prover gives it, or None."""
+    lines = (folder / file).read_text().split("\n")[:line + 1]
+    heads = [it for it in lines if re.match(r"(pub )?(impl|trait)\b|}|" + FUNCTION.pattern, it)]
+    names = [it for it in heads if FUNCTION.match(it)]
+    if not names:
+        return None
+    name, above = FUNCTION.match(names[-1]), []
+    if name[1]:
+        head = next(it for it in reversed(heads) if re.match(r"(pub )?(impl|trait)\b", it)).partition(" {")[0]
+        above = [impl_name(head) if head.startswith("impl") else re.search(r"trait (\w+)", head)[1]]
+        if head.startswith("impl") and " for " not in head:
+            return "::".join([*home_of(folder, above[0], file), *above, name[2]])
+    return "::".join([*module_of(file), *above, name[2]])
+
+
+# ---- copies of a crate
+
+class Copy:
+    """A copy of a crate with some edits of different functions."""
+
+    def __init__(self, crate, edits, room):
+        self.crate, self.edits, self.room = crate, edits, pathlib.Path(room)
+        self.functions = {it for edit in edits for it in edit.functions}
+        for part in ("src", "specs", "proofs"):
+            if os.path.isdir(f"{crate.folder}/{part}"):
+                shutil.copytree(f"{crate.folder}/{part}", self.room / part)
+        for edit in edits:
+            for file, old, new in edit.pairs:
+                (self.room / file).write_text((self.room / file).read_text().replace(old, new))
+        self.dig()
+
+    def dig(self):
+        """Puts a hole in place of the proof of each function that isn't edited. What functions that call one another share stays."""
+        proofs = self.room / "proofs"
+        for folder in {it.parent for it in proofs.rglob("*.antt") if it.stem in ("Answers", "Invariants")}:
+            path = folder.relative_to(proofs).parts
+            if "::".join(path) not in self.functions and not path[-1].startswith(("+", "The")):
+                shutil.rmtree(folder)
+                folder.mkdir()
+                (folder / "Proof.antt").write_text(HOLE.format(crate=self.crate.name, path=".".join(path), name=path[-1]))
+
+    def check(self, rtlib):
+        """What the prover says of the edited functions."""
+        only = [word for it in sorted(self.functions) for word in ("--only", it)]
+        words = self.crate.words(["--jobs", "1", "--allow-holes", *only], keeps=False)
+        ran = subprocess.run([*rtlib.guarded(), rtlib.RATTLE, "check", *words], cwd=self.room, stdin=subprocess.DEVNULL,
+                             stdout=subprocess.PIPE, stderr=subprocess.STDOUT, errors="replace")
+        return ran.stdout
+
+    def judged(self, said):
+        """What came of each edit."""
+        return {edit: self.of_edit(edit, said) for edit in self.edits}
+
+    def of_edit(self, edit, said):
+        found = [self.of_function(it, said) for it in edit.functions]
+        return next((it for it in (REFUSED, WAITS) if it in found), found[0])
+
+    def of_function(self, function, said):
+        """What came of the edit of a function: refused, waits, or why it shows nothing."""
+        verdict = re.search(rf"^fn {self.crate.name}::{re.escape(function)}: (.*)", said, re.M)
+        if verdict is None:
+            errors = [it for it in said.splitlines() if re.search(r"error[\[:]", it)]
+            return f"{SILENT} {function}: {(errors or ['no error'])[0][:200]}"
+        if not verdict[1].startswith(("not proved", "no proof")):
+            return f"{function}: {verdict[1][:200]}"
+        broken = self.broken(function, verdict[1], said)
+        if self.is_open(function, said) or any(not MISSED.search(it) for it in broken):
+            return REFUSED
+        if broken:
+            return f"{function}: its proof only misses names that the edit took away ({broken[0][:120]})"
+        return WAITS if "which is not proved" in verdict[1] else f"{function}: {verdict[1][:200]}"
+
+    def is_open(self, function, said):
+        """Whether a goal of the function isn't proved."""
+        return any(function_at(self.room, file, int(line) - 1) == function for file, line in OPEN.findall(said))
+
+    def broken(self, function, verdict, said):
+        """What is wrong in the proof of the function, by the prover's errors: those of its own folder, and those of what it stands on that is
+        no other function's."""
+        own, found = function.replace("::", "/") + "/", []
+        for file, name, error in BROKEN.findall(said):
+            is_own = f"{file}/".startswith(own)
+            is_shared = f"`Rattle.{self.crate.name}.proofs.{file.replace('/', '.')}.{name}`" in verdict and not file.endswith(
+                ("/Answers", "/Invariants"))
+            found += [error] if is_own or is_shared else []
+        return found
+
+
+# ---- all of it
+
+def share_out(edits):
+    """The edits as lists of those that go into one copy: no two of a function."""
+    copies = []
+    for edit in edits:
+        copy = next((it for it in copies if not any(set(edit.functions) & set(other.functions) for other in it)), None)
+        if copy is None:
+            copies.append(copy := [])
+        copy.append(edit)
+    return copies
+
+
+def tried(crate, edits, rtlib):
+    """What came of each edit: all are made in one copy, those that wait there once more in another, and each half by itself where the prover
+    says nothing of one, since it reads no function of a copy that doesn't compile."""
+    with tempfile.TemporaryDirectory(prefix="edits-") as room:
+        copy = Copy(crate, edits, room)
+        found = copy.judged(copy.check(rtlib))
+    if len(edits) > 1 and any(it.startswith(SILENT) for it in found.values()):
+        half = len(edits) // 2
+        return {**tried(crate, edits[:half], rtlib), **tried(crate, edits[half:], rtlib)}
+    waiting = [edit for edit, what in found.items() if what == WAITS]
+    print(f"edits: {crate.name}: {sum(it == REFUSED for it in found.values())} of {len(edits)} in a copy are refused", flush=True)
+    return {**found, **tried(crate, waiting, rtlib)} if 0 < len(waiting) < len(edits) else found
+
+
+def read(crate, faults):
+    """The crate's edits; what is wrong with one is added to the faults."""
+    edits = []
+    for path in sorted((EDITS / crate.name).glob("*")):
+        try:
+            edits.append(Edit(path, pathlib.Path(crate.folder)))
+        except (BadEdit, OSError, ValueError) as why:
+            faults.append(str(why))
+    return edits
+
+
+def run(names=()):
+    """Tries the edits of these crates, of all where none is named; answers how many passed and failed."""
+    rtlib, start, spent = scripts.script("build").toolchain(is_still=True), time.monotonic(), processor_seconds()
+    rtlib.guarded()  # what ends the prover with this process; it can't start once there are threads
+    wanted = set(names or os.listdir(EDITS))
+    crates = [it for it in rtlib.crates_below(str(TOP)) if it.name in wanted]
+    lacking = {below.name for it in crates for below in it.below() if not below.is_built()}
+    if lacking:
+        print(f"edits: not built: {', '.join(sorted(lacking))}; run ./build")
+        return 0, 1
+    faults, copies = [f"there is no crate {it}" for it in sorted(wanted - {it.name for it in crates})], []
+    for crate in crates:
+        copies += [(crate, it) for it in share_out(read(crate, faults))]
+    copies.sort(key=lambda it: len(it[1]), reverse=True)
+    processors = len(os.sched_getaffinity(0))
+    most = max([n for n in range(1, processors + 1) if rtlib.fits(*[ROOM] * n)], default=1)
+    with ThreadPoolExecutor(most) as pool:
+        results = [it for found in pool.map(lambda it: tried(*it, rtlib), copies) for it in found.items()]
+    faults += [f"{edit.name}: {what}" for edit, what in results if what != REFUSED]
+    for fault in faults:
+        print(f"edits: {fault}")
+    print(f"edits: {(time.monotonic() - start) / 60:.0f} minutes, {(processor_seconds() - spent) / 60:.1f} processor minutes")
+    passed, failed = sum(what == REFUSED for _, what in results), len(faults)
+    print(f"edits: {passed} passed, {failed} failed")
+    return passed, failed
+
+
+def processor_seconds():
+    used = resource.getrusage(resource.RUSAGE_CHILDREN)
+    return used.ru_utime + used.ru_stime
+
+
+if __name__ == "__main__":
+    sys.exit(1 if run(sys.argv[1:])[1] else 0)
