@@ -103,7 +103,7 @@ def fault(certified, parsolve, case):
     family, *numbers = case.split()
     try:
         game = game_of(parsolve, family, map(int, numbers))
-        ran = subprocess.run([certified], input=game, capture_output=True, text=True, timeout=120)
+        ran = subprocess.run([certified], input=game, capture_output=True, text=True, timeout=600)
     except (OSError, subprocess.SubprocessError) as why:
         return str(why)
     return None if (ran.returncode, ran.stdout) == (0, FOUND) else f"status {ran.returncode}: {ran.stdout!r} {ran.stderr!r}"

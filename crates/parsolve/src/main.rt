@@ -102,7 +102,10 @@ fn obey<R: System, E: Write>(rt: &R, errors: &mut E, words: &[String]) -> ExitCo
             apart.as_ref().map(|path| path.as_str()),
             parted.files.as_slice(),
         ),
-        Ok(Line::Work(port)) => work(rt, rt.alloc(), port).map_err(Fault::Cli),
+        Ok(Line::Work(port)) => match work(rt, rt.alloc(), port) {
+            Ok(()) => Ok(()),
+            Err(fault) => Err(Fault::Cli(fault)),
+        },
         Err(Told::Asked) => Ok(()),
         Err(Told::Refused) => return ExitCode::from(BAD_WORDS),
         Err(Told::Unwritten) => Err(Fault::Cli(CliFault::Write)),
