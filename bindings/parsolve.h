@@ -145,7 +145,8 @@ enum {
     PARSOLVE_COMMAND_CHECK = 2,
     PARSOLVE_COMMAND_REPLAY = 3,
     PARSOLVE_COMMAND_GAME = 4,
-    PARSOLVE_COMMAND_SYNTH = 5
+    PARSOLVE_COMMAND_SYNTH = 5,
+    PARSOLVE_COMMAND_SOLVE_ANY = 6 /* solve --any */
 };
 
 /* What `parsolve COMMAND` prints for an input. *written is the length of the text. Bytes of `output` to which nothing is written aren't

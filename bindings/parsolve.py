@@ -28,7 +28,7 @@ from collections.abc import Iterable, Sequence
 
 __version__ = "@VERSION@"
 NO_CHOICE = 0xFFFFFFFF
-COMMANDS = ("measure", "solve", "check", "replay", "game", "synth")
+COMMANDS = ("measure", "solve", "check", "replay", "game", "synth", "solve --any")
 KINDS = {"priorities": "I", "owners": "B", "starts": "I", "successors": "I", "winners": "B", "strategy": "I", "cycle": "I"}
 PLENTY = 1 << 30  # bytes of room for an answer
 OK, OUT_OF_MEMORY, LEAVES, CYCLE, FAULT, TOO_SHORT = 0, 1, 14, 15, 17, 18

@@ -68,6 +68,9 @@ pub const PARSOLVE_COMMAND_GAME: u32 = 4;
 
 pub const PARSOLVE_COMMAND_SYNTH: u32 = 5;
 
+/// `solve --any`.
+pub const PARSOLVE_COMMAND_SOLVE_ANY: u32 = 6;
+
 /// The code of a fault of a game.
 fn game_code(fault: GameFault) -> u32
     ensures { result ≡ game_code fault }

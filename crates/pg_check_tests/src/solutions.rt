@@ -3,7 +3,7 @@
 use crate::tools::{Line, game_of, gives, least_map, leaves_undecided, three, top_map, two};
 use pg_arena::Player::{Even, Odd};
 use pg_arena::dual;
-use pg_check::CheckFault;
+use pg_check::{CheckFault, find_solution};
 use std::test::Fail;
 
 #[test]
@@ -73,6 +73,19 @@ fn the_choice_is_the_first_that_serves(rt: HostRuntime) -> Result<(), Fail> {
     let odd = least_map(rt.alloc(), &other)?;
     let expected = [(Even, Some(2)), (Odd, None), (Even, None), (Even, None)];
     assert!(rt; gives(rt.alloc(), &game, &other, &even, &odd, &expected));
+    Ok(())
+}
+
+/// A game in which each player wins somewhere, and one in which all priorities are Odd's.
+#[test]
+fn solutions_are_found_at_once(rt: HostRuntime) -> Result<(), Fail> {
+    let game = three(rt.alloc())?;
+    assert!(rt; find_solution(rt.alloc(), &game)?.is_some());
+    let odd = game_of(
+        rt.alloc(),
+        &[Line(0, 1, Even, &[1]), Line(1, 3, Odd, &[0, 1])],
+    )?;
+    assert!(rt; find_solution(rt.alloc(), &odd)?.is_some());
     Ok(())
 }
 

@@ -90,6 +90,7 @@ fn each_command_answers(rt: HostRuntime) {
     assert!(rt; answers(alloc, Command::Measure { workers }, TWO, b"0 1;\n1 0;\n"));
     let solution = b"paritysol 1;\n0 0 1;\n1 0;\n";
     assert!(rt; answers(alloc, Command::Solve { workers }, TWO, solution));
+    assert!(rt; answers(alloc, Command::SolveAny { workers }, TWO, solution));
     assert!(rt; answers(alloc, Command::Check, SOLVED, b"WINS\n"));
     assert!(rt; answers(alloc, Command::Replay, SCRIPT, WORLD));
     assert!(rt; answers(alloc, Command::Game, LOOP, GAME));

@@ -52,6 +52,12 @@ fn words_say_how_many_workers_solve(rt: HostRuntime) {
 }
 
 #[test]
+fn words_ask_for_any_strategy(rt: HostRuntime) {
+    let any = Command::SolveAny { workers: 2 };
+    assert!(rt; names(rt.alloc(), &["parsolve", "solve", "--any"], any));
+}
+
+#[test]
 fn words_name_the_program_of_the_workers(rt: HostRuntime) {
     let workers = 3;
     for (name, command) in [
