@@ -24,6 +24,7 @@ fault_of code v =
     else BadChoice v)))))))))))
 
 told_of : (f : ArraysFault) (old : ℕ) → fault_of (code_of f) (unwrap_or (vertex_of f) old) ≡ f
+unfolding fault_of
 told_of OutOfMemory old = refl
 told_of (Game Lengths) old = refl
 told_of (Game NoVertex) old = refl
