@@ -14,7 +14,7 @@ Whoever wants to believe what is proved reads the believed modules: the files of
 
     tests/layout.py            prints what it finds; the status is 1 if something is wrong
     tests/layout.py --write    first mends both documents as far as that needs no words: numbers of lines, files that are
-                               gone or new (with their first line), the file of a definition that has moved
+                               gone or new, the file of a definition that has moved
 """
 import argparse
 import pathlib
@@ -235,12 +235,6 @@ def kit():
             yield f"{crate}, {name}", None if is_used else "isn't used: the product is to stand on it there"
 
 
-def headline(path):
-    """What the first line of a module says of it."""
-    line = path.read_text().partition("\n")[0].lstrip("- ").rstrip(".")
-    return line[:1].lower() + line[1:]
-
-
 def write_map():
     """Sets the numbers of lines, takes out rows of files that are gone, and puts new modules behind others of their crate."""
     rows = MAP.read_text().split("\n")
@@ -257,7 +251,7 @@ def write_map():
         crate = shown(path).partition("/")[0]
         places = [place for place, row in enumerate(kept) if ROW.match(row) and row.startswith(f"| `{crate}/")]
         places = places or [place for place, row in enumerate(kept) if ROW.match(row)]
-        kept.insert(places[-1] + 1, f"| `{shown(path)}` | {line_count(path)} | {headline(path)} |")
+        kept.insert(places[-1] + 1, f"| `{shown(path)}` | {line_count(path)} |")
     listed = ", ".join(f"`{name}`" for name in sorted(set(naming_mirrors()))) or "none"
     for name, end in chain_rows():
         kept = [re.sub(rf"^(\| {name} \| .*?) (\| \d+ \| \d+ \| (?:\d+ )?\|)$", lambda it: f"{it[1]} {end}", row) for row in kept]
