@@ -1,6 +1,6 @@
 //! Measures as text.
 
-ghost use Rattle.std.specs.Prelude.{◌≡◌, ◌++◌, Some, decimal, OnOk, OnSome};
+ghost use Rattle.std.specs.Prelude.{◌≡◌, ◌++◌, Some, OnOk, OnSome};
 ghost use Rattle.std.specs.List.{flat_map};
 ghost use Rattle.std.specs.Io.KnownBytes.{Appends};
 ghost use Rattle.pg_measure.specs.Views.{measure_in};
@@ -8,29 +8,12 @@ ghost use Rattle.pg_text.specs.Numbers.{comma_number, numbers_text};
 ghost use Rattle.pg_command.specs.Measuring.{measure_text, measure_line};
 
 use arrayvec::ArrayVec;
-use itoa::Buffer;
 use pg_measure::View;
-use pg_text::writing::{write_number, write_numbers};
+use pg_text::writing::{ShortLine, add_number, write_number, write_numbers};
 use std::io::{self, Write};
-
-/// A short line, put together before it is written: a write costs more than the bytes that it writes.
-type ShortLine = ArrayVec<u8, 64>;
 
 /// Lines of measures of more components are written part by part.
 const MOST: usize = 28;
-
-/// Appends a number in decimal digits. Most components are of one digit. None where it doesn't fit.
-#[inline(always)]
-fn add_number(line: &mut ShortLine, number: u32) -> Option<()>
-    ensures { OnSome result (line.new.items ≡ line.old.items ++ decimal number) }
-{
-    if number < 10 {
-        return line.try_push(b'0' + number as u8).ok();
-    }
-    let mut buffer = Buffer::new();
-    line.try_extend_from_slice(buffer.format(number).as_bytes())
-        .ok()
-}
 
 /// Appends numbers, each behind a comma. None where they don't fit.
 fn add_comma_numbers(line: &mut ShortLine, numbers: &[u32]) -> Option<()>

@@ -1,6 +1,6 @@
 //! Solutions to text.
 
-ghost use Rattle.std.specs.Prelude.{◌≡◌, ℕ, ◌<◌, ◌++◌, length, decimal, codes, OnOk, IfErr, IfSome, option_map};
+ghost use Rattle.std.specs.Prelude.{◌≡◌, ℕ, ◌<◌, ◌++◌, length, decimal, codes, OnOk, OnSome, IfErr, option_map};
 ghost use Rattle.std.specs.Io.KnownBytes.{Appends};
 ghost use Rattle.pg_arena.specs.Games.{IsGame, identifier};
 ghost use Rattle.pg_text.specs.GameText.{player_number};
@@ -10,7 +10,7 @@ ghost use Rattle.pg_text.specs.SolutionLayout.{printed_answer, printed_line, str
 use crate::fault::TextFault;
 use crate::solution::Solution;
 use crate::solution_text::is_owned;
-use crate::writing::write_number;
+use crate::writing::{ShortLine, add_number, write_number};
 use pg_arena::{Game, Player, Vertex};
 use std::io::{self, Write};
 
@@ -23,6 +23,30 @@ fn write_winner<W: Write>(winner: Player, out: &mut W) -> io::Result<()>
     match winner {
         Player::Even => out.write_all(b" 0"),
         Player::Odd => out.write_all(b" 1"),
+    }
+}
+
+/// Appends a choice. None where it doesn't fit.
+#[inline(always)]
+fn add_strategy(line: &mut ShortLine, game: &Game, choice: Option<Vertex>) -> Option<()>
+    requires { (w : ℕ) → choice ≡ Some w → w < length game.now }
+    ensures { OnSome result (line.new.items ≡ line.old.items ++ strategy_text (option_map (identifier game.now) choice)) }
+{
+    if let Some(w) = choice {
+        line.try_push(b' ').ok()?;
+        add_number(line, game.identifier(w))?;
+    }
+    Some(())
+}
+
+/// Appends the winner's number behind a space. None where it doesn't fit.
+#[inline(always)]
+fn add_winner(line: &mut ShortLine, winner: Player) -> Option<()>
+    ensures { OnSome result (line.new.items ≡ line.old.items ++ (codes " " ++ decimal (player_number winner))) }
+{
+    match winner {
+        Player::Even => line.try_extend_from_slice(b" 0").ok(),
+        Player::Odd => line.try_extend_from_slice(b" 1").ok(),
     }
 }
 
@@ -53,6 +77,21 @@ fn told_choice(game: &Game, solution: &Solution, v: Vertex) -> Option<Vertex>
     }
 }
 
+/// Appends the line of a vertex. None where it doesn't fit.
+#[inline(always)]
+fn add_answer(line: &mut ShortLine, game: &Game, solution: &Solution, v: Vertex) -> Option<()>
+    requires game { IsGame game.now }
+    requires solution { IsSolution game.now solution.now }
+    requires vertex { v < length game.now }
+    ensures { OnSome result (line.new.items ≡ line.old.items ++ answer_text (printed_line game.now solution.now v)) }
+{
+    add_number(line, game.identifier(v))?;
+    add_winner(line, solution.winner(v))?;
+    add_strategy(line, game, told_choice(game, solution, v))?;
+    line.try_extend_from_slice(b";\n").ok()
+}
+
+/// The line of a vertex, at once where it is short.
 #[inline(always)]
 fn write_answer<W: Write>(
     game: &Game,
@@ -66,6 +105,10 @@ fn write_answer<W: Write>(
     ensures { OnOk result (Appends (W.contents out.old) (W.contents out.new)
         (answer_text (printed_line game.now solution.now v))) }
 {
+    let mut line = ShortLine::new();
+    if add_answer(&mut line, game, solution, v).is_some() {
+        return out.write_all(line.as_slice());
+    }
     write_number(game.identifier(v), out)?;
     write_winner(solution.winner(v), out)?;
     write_strategy(game, told_choice(game, solution, v), out)?;

@@ -1,18 +1,35 @@
 //! Parts of texts, written: numbers, and numbers with commas between. They make many small writes: give them a buffered
 //! writer.
 
-ghost use Rattle.std.specs.Prelude.{◌≡◌, ◌<◌, ◌≤◌, All, decimal, length, map, replicate, take, OnOk};
+ghost use Rattle.std.specs.Prelude.{◌≡◌, ◌<◌, ◌≤◌, ◌++◌, All, decimal, length, map, replicate, take, OnOk, OnSome};
 ghost use Rattle.std.specs.List.{flat_map};
 ghost use Rattle.std.specs.Io.KnownBytes.{Appends};
 ghost use Rattle.pg_arena.specs.Games.{identifier};
 ghost use Rattle.pg_text.specs.Numbers.{comma_number, numbers_text, identifiers_text};
 
+use arrayvec::ArrayVec;
 use itoa::Buffer;
 use pg_arena::{Game, Vertex};
 use std::io::{self, Write};
 
 /// 32 zeros, each behind a comma.
 const ZEROS: &[u8] = b",0,0,0,0,0,0,0,0,0,0,0,0,0,0,0,0,0,0,0,0,0,0,0,0,0,0,0,0,0,0,0,0";
+
+/// A short line, put together before it is written: a write costs more than the bytes that it writes.
+pub type ShortLine = ArrayVec<u8, 64>;
+
+/// Appends a number in decimal digits. None where it doesn't fit.
+#[inline(always)]
+pub fn add_number(line: &mut ShortLine, number: u32) -> Option<()>
+    ensures { OnSome result (line.new.items ≡ line.old.items ++ decimal number) }
+{
+    if number < 10 {
+        return line.try_push(b'0' + number as u8).ok();
+    }
+    let mut buffer = Buffer::new();
+    line.try_extend_from_slice(buffer.format(number).as_bytes())
+        .ok()
+}
 
 /// Writes a number in decimal digits.
 #[inline(always)]

@@ -1,5 +1,7 @@
-use Rattle.pg_command.proofs.Common.{◌≡◌, ℕ, ◌++◌, List, OnSome, rules, sym, subst, of_calls, decimal_digit}
-use Rattle.pg_command.proofs.output.add_number.Goals as goal
+use Rattle.std.proofs.Common.{of_calls}
+use Rattle.std.specs.Prelude.{OnSome}
+use Rattle.pg_text.proofs.Common.{◌≡◌, ℕ, ◌++◌, List, rules, sym, subst, decimal_digit}
+use Rattle.pg_text.proofs.writing.add_number.Goals as goal
 
 pub returns-then-number-lt10 : goal.returns-then-number-lt10
 returns-then-number-lt10 c =
