@@ -14,9 +14,14 @@ pub const MOST_BYTES: usize = 268_435_456;
 /// How many bytes are asked for at once.
 const CHUNK: usize = 65_536;
 
-/// Reads once and adds what came. It tells whether more may come.
-fn read_some<R: Read>(reader: &mut R, text: &mut Vec<u8>) -> Result<bool, CliFault>
-    requires { length text.old.items ≤ MOST_BYTES }
+/// Reads once, into a buffer, and adds what came. It tells whether more may come.
+fn read_some<R: Read>(
+    reader: &mut R,
+    buffer: &mut [u8],
+    text: &mut Vec<u8>,
+) -> Result<bool, CliFault>
+    requires room { 0 < length buffer.old }
+    requires limit { length text.old.items ≤ MOST_BYTES }
     ensures within { OnOk result (length text.new.items ≤ MOST_BYTES) }
     ensures bytes { OnOk result
         (Keeps (R.remaining reader.old) text.old.items (R.remaining reader.new) text.new.items) }
@@ -28,15 +33,14 @@ fn read_some<R: Read>(reader: &mut R, text: &mut Vec<u8>) -> Result<bool, CliFau
     ensures causes { IfErr result (λ fault. (fault ≡ CliFault.OutOfMemory) ⊎ ((fault ≡ CliFault.Read)
         ⊎ (fault ≡ CliFault.InputTooLong))) }
 {
-    let mut buf = [0u8; CHUNK];
-    let room = (MOST_BYTES + 1 - text.len()).min(CHUNK);
-    match reader.read(&mut buf[..room]) {
+    let room = (MOST_BYTES + 1 - text.len()).min(buffer.len());
+    match reader.read(&mut buffer[..room]) {
         Ok(0) => Ok(false),
         Ok(n) => {
             if n > MOST_BYTES - text.len() {
                 return Err(CliFault::InputTooLong);
             }
-            text.extend_from_slice(&buf[..n])?;
+            text.extend_from_slice(&buffer[..n])?;
             Ok(true)
         }
         Err(e) if e.kind() == ErrorKind::Interrupted => Ok(true),
@@ -54,9 +58,10 @@ pub fn read_input<R: Read>(alloc: Global, reader: &mut R) -> Result<Vec<u8>, Cli
     ensures causes { IfErr result (λ fault. (fault ≡ CliFault.OutOfMemory) ⊎ ((fault ≡ CliFault.Read)
         ⊎ (fault ≡ CliFault.InputTooLong))) }
 {
+    let mut buffer = Vec::from_elem(alloc, 0u8, CHUNK)?;
     let mut text = Vec::new(alloc);
     'reads: for _ in 0..u64::MAX {
-        if !read_some(reader, &mut text)? {
+        if !read_some(reader, buffer.as_mut_slice(), &mut text)? {
             return Ok(text);
         }
     }
