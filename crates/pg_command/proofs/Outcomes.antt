@@ -1,7 +1,7 @@
 -- What is printed of what a command worked out, and what is known of an input that was read.
 use Rattle.pg_command.proofs.Common.{◌≡◌, ℕ, ◌≤◌, List, length, Option, Some, None, Result, Ok, Err, sym, subst, IfOk, IfErr, IfSome, OnOk}
 use Rattle.pg_command.proofs.Common.{MatchResult, Appends, MapKind, meaning_of, RefusesBy, Answers, ShowsWhat, Fails, MOST_BYTES, Command}
-use Rattle.pg_command.proofs.Common.{CliFault, ◌⊎◌, inl, inr, refl}
+use Rattle.pg_command.proofs.Common.{CliFault, ◌⊎◌, inl, inr, refl, []}
 use Rattle.pg_command.specs.declared.fault.CliFault.TheVariants as cli
 
 -- the text of an answer was written
@@ -19,6 +19,12 @@ pub printed : {A : Type 0} (shows : A → List ℕ → Type 0) (Prints : List �
 printed shows Prints old new worked_out (Err fault) told written = tt
 printed shows Prints old new (Ok answer) (Ok done) told written = (told.0, told.2, written told.0 told.1)
 printed shows Prints old new (Err why) (Ok done) told written = absurd written
+
+-- and what was written where nothing stood is what is printed
+pub shown : {A : Type 0} (shows : A → List ℕ → Type 0) (Prints : List ℕ → Type 0) (old new : List ℕ) (worked_out : Result A CliFault) → old ≡ []
+    → IfOk worked_out (ShowsWhat Prints shows) → IsWritten shows (Some old) (Some new) worked_out → Prints new
+shown shows Prints old new (Ok answer) empty told written = subst Prints (sym (rw empty at written told.0 told.1)) told.2
+shown shows Prints old new (Err why) empty told written = absurd written
 
 -- what fails at its work is refused
 refused : (Kind : MapKind) (command : Command) (input : List ℕ) (fault : CliFault) → length input ≤ MOST_BYTES

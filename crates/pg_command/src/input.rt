@@ -5,7 +5,7 @@ ghost use Rattle.pg_command.specs.Input.{StaysWithin, IsOver};
 ghost use Rattle.pg_command.specs.Mirrors.Reading.{Keeps};
 
 use crate::fault::CliFault;
-use std::alloc::Global;
+use std::alloc::{AllocError, Global};
 use std::io::{ErrorKind, Read};
 
 /// The most bytes that an input may have.
@@ -13,6 +13,13 @@ pub const MOST_BYTES: usize = 268_435_456;
 
 /// How many bytes are asked for at once.
 const CHUNK: usize = 65_536;
+
+/// Room for so many bytes.
+fn room_for(alloc: Global, count: usize) -> Result<Vec<u8>, AllocError>
+    ensures { IfOk result (λ room. length room.items ≡ count) }
+{
+    Vec::from_elem(alloc, 0u8, count)
+}
 
 /// Reads once, into a buffer, and adds what came. It tells whether more may come.
 fn read_some<R: Read>(
@@ -58,10 +65,11 @@ pub fn read_input<R: Read>(alloc: Global, reader: &mut R) -> Result<Vec<u8>, Cli
     ensures causes { IfErr result (λ fault. (fault ≡ CliFault.OutOfMemory) ⊎ ((fault ≡ CliFault.Read)
         ⊎ (fault ≡ CliFault.InputTooLong))) }
 {
-    let mut buffer = Vec::from_elem(alloc, 0u8, CHUNK)?;
+    let mut room = room_for(alloc, CHUNK)?;
+    let buffer = room.as_mut_slice();
     let mut text = Vec::new(alloc);
     'reads: for _ in 0..u64::MAX {
-        if !read_some(reader, buffer.as_mut_slice(), &mut text)? {
+        if !read_some(reader, buffer, &mut text)? {
             return Ok(text);
         }
     }
