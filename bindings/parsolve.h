@@ -149,15 +149,30 @@ enum {
     PARSOLVE_COMMAND_SOLVE_ANY = 6 /* solve --any */
 };
 
-/* What `parsolve COMMAND` prints for an input. *written is the length of the text. Bytes of `output` to which nothing is written aren't
- * touched: so a large anonymous mapping does for a text of any length, and takes the memory of the text alone. Where there is too little
- * room, the command has run for its length only, and runs again in the next call.
+/* What `parsolve COMMAND` prints for an input. *written is the length of the text. Where there is too little room, the command has run for
+ * that length only, and runs again in the next call.
  * PARSOLVE_OK: it stands at the front of `output`, whose rest is as it was.
  * PARSOLVE_FAULT: the command prints nothing, and the line that it tells on the error stream stands there.
  * PARSOLVE_TOO_SHORT: there is no room for the text; `output` is as it was.
  * PARSOLVE_COMMAND, exactly if there is no such command; PARSOLVE_OUT_OF_MEMORY: nothing was written, *written included. */
 uint32_t parsolve_answer(uint32_t command, const uint8_t *input, size_t input_length, uint8_t *output, size_t output_length,
                          size_t *written);
+
+/* Bytes in memory of their own. */
+struct parsolve_text {
+    uint8_t *bytes;
+    size_t bytes_length;
+};
+
+/* What such a text is set to before a call. */
+#define PARSOLVE_NO_TEXT {(uint8_t *)"", 0}
+
+/* The same in memory of its own, so that the command runs once, however long the text is. *text has to be set before.
+ * PARSOLVE_OK: it is what the command prints.
+ * PARSOLVE_FAULT: the command prints nothing, and it is the line that it tells on the error stream.
+ * PARSOLVE_COMMAND, exactly if there is no such command; PARSOLVE_OUT_OF_MEMORY: *text is as it was.
+ * The bytes are the caller's then, who hands them to `free` of the C library where bytes_length isn't 0. */
+uint32_t parsolve_answer_new(uint32_t command, const uint8_t *input, size_t input_length, struct parsolve_text *text);
 
 #ifdef __cplusplus
 }

@@ -4,6 +4,8 @@
 #define PARSOLVE_HPP
 #include <cstddef>
 #include <cstdint>
+#include <cstdlib>
+#include <memory>
 #include <new>
 #include <stdexcept>
 #include <string>
@@ -105,19 +107,15 @@ inline Verdict check(const Game &game, const Solution &solution) {
 /* What `parsolve COMMAND` prints for a text; `command` is one of the numbers PARSOLVE_COMMAND_.. */
 inline std::string answer(std::uint32_t command, const std::string &text) {
     const std::vector<std::uint8_t> input(text.begin(), text.end());
-    std::vector<std::uint8_t> output;
-    std::size_t written = text.size() + 4096;
-    std::uint32_t code;
-    do {
-        output.resize(written);
-        code = parsolve_answer(command, detail::at(input), input.size(), detail::at(output), output.size(), &written);
-    } while (code == PARSOLVE_TOO_SHORT);
-    if (code != PARSOLVE_OK && code != PARSOLVE_FAULT)
-        detail::raise(code, PARSOLVE_NO_CHOICE);
-    const std::string made(output.begin(), output.begin() + static_cast<std::ptrdiff_t>(written));
+    parsolve_text made = PARSOLVE_NO_TEXT;
+    const std::uint32_t code = parsolve_answer_new(command, detail::at(input), input.size(), &made);
+    const std::unique_ptr<std::uint8_t, void (*)(void *)> owned(made.bytes_length == 0 ? nullptr : made.bytes, std::free);
+    const std::string said(made.bytes, made.bytes + made.bytes_length);
     if (code == PARSOLVE_FAULT)
-        throw Fault(code, PARSOLVE_NO_CHOICE, made.substr(0, made.find('\n')));
-    return made;
+        throw Fault(code, PARSOLVE_NO_CHOICE, said.substr(0, said.find('\n')));
+    if (code != PARSOLVE_OK)
+        detail::raise(code, PARSOLVE_NO_CHOICE);
+    return said;
 }
 
 } // namespace parsolve

@@ -20,7 +20,6 @@ from __future__ import annotations
 import array
 import ctypes
 import dataclasses
-import mmap
 import os
 import pathlib
 import sys
@@ -30,8 +29,7 @@ __version__ = "@VERSION@"
 NO_CHOICE = 0xFFFFFFFF
 COMMANDS = ("measure", "solve", "check", "replay", "game", "synth", "solve --any")
 KINDS = {"priorities": "I", "owners": "B", "starts": "I", "successors": "I", "winners": "B", "strategy": "I", "cycle": "I"}
-PLENTY = 1 << 30  # bytes of room for an answer
-OK, OUT_OF_MEMORY, LEAVES, CYCLE, FAULT, TOO_SHORT = 0, 1, 14, 15, 17, 18
+OK, OUT_OF_MEMORY, LEAVES, CYCLE, FAULT = 0, 1, 14, 15, 17
 TEXTS = {
     2: "the arrays' lengths don't fit together",
     3: "no vertex",
@@ -92,15 +90,26 @@ class _Found(ctypes.Structure):
     _fields_ = [("vertex", ctypes.c_uint32), ("to", ctypes.c_uint32), ("length", ctypes.c_size_t)]
 
 
+class _Text(ctypes.Structure):
+    _fields_ = [("bytes", ctypes.c_void_p), ("bytes_length", ctypes.c_size_t)]
+
+
 def _library():
     here = pathlib.Path(__file__).resolve().parent
     library = ctypes.CDLL(os.environ.get("PARSOLVE_LIBRARY") or str(here / "libparsolve.so"))
-    for name in ("parsolve_solve", "parsolve_check", "parsolve_answer"):
+    for name in ("parsolve_solve", "parsolve_check", "parsolve_answer_new"):
         getattr(library, name).restype = ctypes.c_uint32
     return library
 
 
-_LIBRARY = _library()
+def _freeing():
+    """What frees a text that the library made: `free` of the C library, whose `malloc` it calls."""
+    free = ctypes.CDLL(None).free
+    free.argtypes, free.restype = [ctypes.c_void_p], None
+    return free
+
+
+_LIBRARY, _FREE = _library(), _freeing()
 
 
 def _fits(name, numbers):
@@ -216,29 +225,27 @@ def _wants_ok(code, vertex=NO_CHOICE):
         raise ParsolveError(code, None if vertex == NO_CHOICE else vertex)
 
 
-def _room(length):
-    """The address of so many bytes, or more, and what has to be kept. Pages to which nothing is written take no memory."""
+def _taken(text):
+    """The bytes of a text that the library made, which is freed."""
     try:
-        kept = mmap.mmap(-1, max(length, PLENTY), flags=mmap.MAP_PRIVATE | mmap.MAP_ANONYMOUS)
-    except OSError:
-        kept = bytearray(length)
-    return ctypes.addressof(ctypes.c_char.from_buffer(kept)), len(kept), kept
+        return ctypes.string_at(text.bytes, text.bytes_length)
+    finally:
+        if text.bytes_length:
+            _FREE(text.bytes)
 
 
 def answer(command: str, text: bytes) -> bytes:
-    """What `parsolve COMMAND` prints for a text, both bytes. It is made once, unless it is longer than a gigabyte."""
+    """What `parsolve COMMAND` prints for a text, both bytes."""
     if command not in COMMANDS:
         raise ValueError(f"no command is named {command!r}; there are: {', '.join(COMMANDS)}")
     text = text if type(text) is bytes else bytes(memoryview(text))
-    number, written = COMMANDS.index(command), ctypes.c_size_t(len(text) + 4096)
-    while True:
-        at, room, _kept = _room(written.value)
-        code = _LIBRARY.parsolve_answer(
-            ctypes.c_uint32(number), ctypes.c_char_p(text), ctypes.c_size_t(len(text)),
-            ctypes.c_void_p(at), ctypes.c_size_t(room), ctypes.byref(written)
-        )
-        if code == FAULT:
-            raise ParsolveError(code, text=ctypes.string_at(at, written.value).decode().rstrip("\n").partition(": ")[2])
-        if code != TOO_SHORT:
-            _wants_ok(code)
-            return ctypes.string_at(at, written.value)
+    nothing = ctypes.c_uint8()
+    made = _Text(ctypes.addressof(nothing), 0)
+    code = _LIBRARY.parsolve_answer_new(
+        ctypes.c_uint32(COMMANDS.index(command)), ctypes.c_char_p(text), ctypes.c_size_t(len(text)), ctypes.byref(made)
+    )
+    said = _taken(made)
+    if code == FAULT:
+        raise ParsolveError(code, text=said.decode().rstrip("\n").partition(": ")[2])
+    _wants_ok(code)
+    return said

@@ -417,6 +417,23 @@ def starts_none_as_its_owner(program):
         return f"{run}, a setuid file", why or run.differs(0, ANSWERS["measure", TWO])
 
 
+def starts_programs_for_what_they_keep(program, count, is_wanted):
+    """A path of so many vertices, each of a priority of its own: a worker keeps a map of up to 67,108,864 numbers, vertices times odd
+    priorities, and where it would have to keep more no program is started. The answer is the same."""
+    text = "".join(f"{v} {v} 1 {min(v + 1, count - 1)};\n" for v in range(count))
+    won = "".join(f"{v} 1 {min(v + 1, count - 1)};\n" for v in range(count))
+    run = Run(program, "solve", text, "./shell")
+    with tempfile.TemporaryDirectory() as folder:
+        copied("/bin/sh", folder, "shell", 0o755)
+        pathlib.Path(folder, "worker").write_text(": > started\n")
+        ran = subprocess.run([program, "solve", "--workers", "1", "--apart", "./shell"], cwd=folder, input=text, capture_output=True,
+                             text=True, timeout=LIMIT)
+        run.status, run.output, run.errors = ran.returncode, ran.stdout, ran.stderr
+        is_started = os.path.exists(os.path.join(folder, "started"))
+        why = None if is_started == is_wanted else f"a program was started: {is_started}"
+        return f"{run}, a path of {count} vertices", why or run.differs(0, f"paritysol {count - 1};\n{won}")
+
+
 def workers_end_before_the_answer_is_taken(program):
     """Worker programs have ended once the answer is there, also where nobody takes it."""
     words = [program, "measure", "--workers", "2", "--apart", program]
@@ -435,6 +452,12 @@ def workers_end_before_the_answer_is_taken(program):
     return f"measure --workers 2 --apart {program}, whose answer isn't taken", why
 
 
+def setup_frame(vertices, bounds):
+    """The set-up of version 2 of so many vertices and bounds, in hexadecimal."""
+    each = b"".join(struct.pack(">II", 2 * place + 1, 1) for place in reversed(range(bounds)))
+    return pretender.frame(pretender.SETUP, struct.pack(">BII", 2, vertices, bounds) + each).hex()
+
+
 SETUP = "0000001a0101 00000002 00000002 00000003 00000001 00000001 00000001"
 PART = "0000001602 00000001 00000000 00000001 00 00000001 00000000"
 SERVED = [  # what a solver sends to a worker, what comes back, status, error stream
@@ -448,6 +471,9 @@ SERVED = [  # what a solver sends to a worker, what comes back, status, error st
     ("000000", "", 1, "parsolve: worker fault 5\n"),
     (SETUP, "", 0, ""),
     ("", "", 0, ""),
+    # 1,048,576 vertices with 64 bounds are as many numbers as a worker keeps, and with 65 they are more, whatever memory there is
+    (setup_frame(2**20, 64), "00000003050100", 0, ""),
+    (setup_frame(2**20, 65), "00000003050201", 1, "parsolve: out of memory\n"),
 ]
 
 
@@ -523,6 +549,8 @@ def cases(program, is_first):
     yield other_users_stay_out, program
     yield takes_nobody_without_tables, program
     yield starts_none_as_its_owner, program
+    yield starts_programs_for_what_they_keep, program, 11_000, True
+    yield starts_programs_for_what_they_keep, program, 12_000, False
     yield workers_end_before_the_answer_is_taken, program
     yield ends_where_values_go_to_and_fro, program, "/proc/self/exe"
     yield leaves_what_programs_start, program

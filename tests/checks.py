@@ -318,8 +318,35 @@ def survives_want_of_memory(program, name, args, text, wanted):
     return "no run met no refusal"
 
 
+def ends_by_name(program, limits, words, wanted):
+    """Under each limit of the shell the answer comes, or want of memory is told, or the program can't be loaded; it isn't killed."""
+    answered = 0
+    for limit in limits:
+        ran = subprocess.run(["sh", "-c", f'ulimit {limit}; exec "$0" "$@"', program, *words], cwd=top, capture_output=True, timeout=60,
+                             stdin=subprocess.DEVNULL)
+        answered += ran.returncode == 0
+        is_told = (ran.returncode, ran.stdout, ran.stderr) == (1, b"", b"parsolve: out of memory\n") or ran.returncode in (126, 127)
+        if not is_told and (ran.returncode, ran.stdout) != (0, wanted):
+            return f"ulimit {limit}, {words}: status {ran.returncode}, {ran.stdout!r}, {ran.stderr!r}"
+    return None if answered else f"{words} is answered under none of these limits"
+
+
+def little_memory_is_told(program):
+    """With little address space, or a short stack, want of memory is told by name, and never ends the program."""
+    with tempfile.TemporaryDirectory() as folder:
+        solution = os.path.join(folder, "solution")
+        with open(solution, "wb") as file:
+            file.write(b"0 0 1;\n1 0;\n")
+        for words, wanted in ((["solve", "examples/two.pg"], b"paritysol 1;\n0 0 1;\n1 0;\n"), (["check", "examples/two.pg", solution], b"WINS\n")):
+            for limits in ([f"-v {kilobytes}" for kilobytes in range(2000, 6000, 4)], [f"-s {kilobytes}" for kilobytes in range(64, 256, 4)]):
+                why = ends_by_name(program, limits, words, wanted)
+                if why is not None:
+                    return why
+    return None
+
+
 def files_are_input(program):
-    """Files that the words name are the input, as bytes on standard input are: two with a line `--` between, by one limit."""
+    """Files that the words name are the input, as bytes on standard input are: two its two texts, by one limit."""
     game, solution, most = b"parity 1;\n0 1 0 0,1;\n1 2 1 0;", b"0 0 1;\n1 0;\n", 268_435_456
     sound, long = (0, b"WINS\n", b""), (1, b"", b"parsolve: input is longer than 268435456 bytes\n")
     with tempfile.TemporaryDirectory() as folder:
@@ -331,6 +358,7 @@ def files_are_input(program):
         file("named", game[:-1] + b' "\n--\n--\n0 0 0 0;\n--";'), file("lines", game + b"\n--\n")
         apart = (1, b"", b"parsolve: syntax error at byte %d\n" % len(game + b"\n"))
         file("2", game), file("ended", game + b"\n"), file("solution", solution), file("--help", game)
+        file("script", b"workers 0;\n"), file("unended", b"parity 0;\n0 0 0")
         room = most - len(game + b"\n--\n" + solution)
         file("full", game, room), file("over", game, room + 1), file("whole", game, most - len(game))
         socket.socket(socket.AF_UNIX).bind(os.path.join(folder, "socket"))
@@ -341,6 +369,10 @@ def files_are_input(program):
                               (["solve", "--workers", "2", "./--help"], solved), (["solve", "--any", "2"], solved),
                               (["solve", "socket"], (1, b"", b"parsolve: cannot open socket: No such device or address (os error 6)\n")),
                               (["check", "named", "solution"], sound), (["check", "lines", "solution"], apart),
+                              (["replay", "named", "script"], (0, b"replica 0 taken -;\n0 0;\n1 0;\n", b"")),
+                              (["check", "solution", "2"], (1, b"", b"parsolve: syntax error at byte 5\n")),
+                              (["check", "2", "2"], (1, b"", b"parsolve: syntax error at byte 0\n")),
+                              (["check", "unended", "solution"], (1, b"", b"parsolve: syntax error at byte 15\n")),
                               (["solve", "--workers", "2"], (1, b"", b"parsolve: no vertex\n"))):
             ran = subprocess.run([program, *words], cwd=folder, stdin=subprocess.DEVNULL, capture_output=True, timeout=120)
             if (ran.returncode, ran.stdout, ran.stderr) != wanted:
@@ -554,6 +586,7 @@ def cases(programs):
             yield f"solve --any on {what} ({name})", lambda p=program, g=games: any_solutions_win(p, g)
         yield f"solve on long rows ({name})", lambda p=program: long_rows_as_worked_out(p)
         yield f"files as input ({name})", lambda p=program: files_are_input(p)
+        yield f"little memory ({name})", lambda p=program: little_memory_is_told(p)
         for words in ([], ["measure"], ["solve"], ["check"], ["replay"], ["game"], ["synth"]):
             yield (f"the example in {' '.join([*words, '--help'])} ({name})",
                    lambda p=program, w=words: example_in_help(p, w))

@@ -174,7 +174,21 @@ struct outcome {
 };
 
 static const char TEXT[] = "0 2 1 0,1;\n1 1 0 0,1;\n--\n0 0;\n1 0 1;\n";
-enum { SOLVE, CHECK, ANSWER_SOLVE, ANSWER_CHECK, ANSWER_FAULT, CALLS };
+enum { SOLVE, CHECK, ANSWER_SOLVE, ANSWER_CHECK, ANSWER_FAULT, NEW_SOLVE, NEW_CHECK, NEW_FAULT, CALLS };
+
+/* a text in memory of its own, copied and freed; where there is none it is as it was */
+static uint32_t answered_anew(uint32_t command, size_t length, struct outcome *o) {
+    static uint8_t nothing;
+    struct parsolve_text text = {&nothing, 0};
+    uint32_t code = parsolve_answer_new(command, (const uint8_t *)TEXT, length, &text);
+    if (code == PARSOLVE_OK || code == PARSOLVE_FAULT) {
+        if (text.bytes_length == 0 || text.bytes_length > sizeof o->output) wrong("the length of a text", (long)text.bytes_length);
+        memcpy(o->output, text.bytes, o->written = text.bytes_length);
+        free(text.bytes);
+    } else if (text.bytes != &nothing || text.bytes_length != 0)
+        wrong("a text where there is none", code);
+    return code;
+}
 
 /* a call with a game of so many vertices; `check` is given a solution that is sound but for one vertex */
 static void called(int call, const struct arrays *a, struct outcome *o) {
@@ -184,9 +198,12 @@ static void called(int call, const struct arrays *a, struct outcome *o) {
     else if (call == CHECK)
         o->code = parsolve_check(&a->game, o->winners, count, o->strategy, count, &o->found, o->cycle, count);
     else {
-        uint32_t command = call == ANSWER_CHECK ? PARSOLVE_COMMAND_CHECK : PARSOLVE_COMMAND_SOLVE;
-        size_t length = call == ANSWER_SOLVE ? 22 : sizeof TEXT - 1;
-        o->code = parsolve_answer(command, (const uint8_t *)TEXT, length, o->output, sizeof o->output, &o->written);
+        uint32_t command = call == ANSWER_CHECK || call == NEW_CHECK ? PARSOLVE_COMMAND_CHECK : PARSOLVE_COMMAND_SOLVE;
+        size_t length = call == ANSWER_SOLVE || call == NEW_SOLVE ? 22 : sizeof TEXT - 1;
+        if (call >= NEW_SOLVE)
+            o->code = answered_anew(command, length, o);
+        else
+            o->code = parsolve_answer(command, (const uint8_t *)TEXT, length, o->output, sizeof o->output, &o->written);
     }
 }
 
@@ -203,6 +220,19 @@ static struct outcome before(int call, const struct arrays *a) {
             }
     }
     return o;
+}
+
+/* an answer in memory of its own is the one that is handed over */
+static void same_texts(const struct arrays *a) {
+    for (int call = ANSWER_SOLVE; call < NEW_SOLVE; call++) {
+        struct outcome o = before(call, a), other = o;
+        called(call, a, &o), called(call + NEW_SOLVE - ANSWER_SOLVE, a, &other);
+        if (memcmp(&o, &other, sizeof o)) wrong("another text", call);
+    }
+    uint8_t byte = 7;
+    struct parsolve_text text = {&byte, 1};
+    if (parsolve_answer_new(7, (const uint8_t *)TEXT, 22, &text) != PARSOLVE_COMMAND || text.bytes != &byte || text.bytes_length != 1)
+        wrong("no such command", 7);
 }
 
 static long refuse_each(int call, const struct arrays *a) {
@@ -226,6 +256,7 @@ static void memory(void) {
     struct arrays a = random_game(&seed, 300, 12);
     for (int call = 0; call < CALLS; call++)
         if (refuse_each(call, &a) == 0) wrong("no growth", call);
+    same_texts(&a);
     dropped(&a);
 }
 

@@ -27,9 +27,10 @@ IN_C = {"u32": ["uint32_t"], "usize": ["size_t"], "Global": [], "&Arrays": ["con
         "&mut ParsolveFound": ["struct parsolve_found *"], "&mut u32": ["uint32_t *"], "&mut usize": ["size_t *"],
         "&[u8]": ["const uint8_t *", "size_t"], "&[u32]": ["const uint32_t *", "size_t"],
         "&mut [u8]": ["uint8_t *", "size_t"], "&mut [u32]": ["uint32_t *", "size_t"],
-        "&'a [u32]": ["struct parsolve_numbers"], "&'a [u8]": ["struct parsolve_bytes"]}
+        "&'a [u32]": ["struct parsolve_numbers"], "&'a [u8]": ["struct parsolve_bytes"], "&'a mut [u8]": ["uint8_t *", "size_t"],
+        "&mut ParsolveText<'a>": ["struct parsolve_text *"]}
 STRUCTS = {"parsolve_game": (TOP / "crates/pg_arrays/src/arrays.rt", "Arrays"),
-           "parsolve_found": (SOURCES / "checking.rt", "ParsolveFound")}
+           "parsolve_found": (SOURCES / "checking.rt", "ParsolveFound"), "parsolve_text": (SOURCES / "answering.rt", "ParsolveText")}
 
 
 def all_sources():
@@ -68,7 +69,7 @@ def tidy(found):
 
 def exports():
     """(name, parameters, result) of each export, in the sources and in the header."""
-    signature = re.compile(r'pub extern "C" fn (\w+)\((.*?)\) -> (\w+)', re.S)
+    signature = re.compile(r'pub extern "C" fn (\w+)(?:<'a>)?\((.*?)\) -> (\w+)', re.S)
     ours = {name: (in_c(re.findall(r"(\w+): ([^,]+),", parameters), "_length"), IN_C[result][0])
             for name, parameters, result in signature.findall(all_sources())}
     prototype = re.compile(r"^(\w+) (parsolve_\w+)\(([^)]*)\);", re.M)
@@ -86,7 +87,7 @@ def header_checks():
     for name, (path, struct) in STRUCTS.items():
         fields = re.search(rf"pub struct {struct}(?:<'a>)? \{{(.*?)\n\}}", path.read_text(), re.S)[1]
         shown = re.search(rf"struct {name} \{{(.*?)\}};", header(), re.S)[1]
-        yield compared(f"struct {name}", tidy(in_c(re.findall(r"pub (\w+): ([^,]+),", fields), "")), tidy(declared(shown)))
+        yield compared(f"struct {name}", tidy(in_c(re.findall(r"pub (\w+): ([^,]+),", fields), "_length")), tidy(declared(shown)))
     (ours, theirs) = exports()
     for name in sorted({*ours, *theirs}):
         mine, other = ours.get(name, ([], "")), theirs.get(name, ([], ""))
@@ -416,11 +417,11 @@ def text_checks(parsolve):
                         ("every second byte", memoryview(bytes(it for byte in text for it in (byte, 0)))[::2]),
                         ("wider numbers", array.array("I", text + b"\n" * (-len(text) % 4))), ("a text that lies", LongBytes(text))):
         yield f"a text, {kind}", differs(parsolve.answer("solve", given), wanted)
-    calls, export = [], parsolve._LIBRARY.parsolve_answer
-    parsolve._LIBRARY.parsolve_answer = lambda *words: calls.append(export(*words)) or calls[-1]
+    calls, export = [], parsolve._LIBRARY.parsolve_answer_new
+    parsolve._LIBRARY.parsolve_answer_new = lambda *words: calls.append(export(*words)) or calls[-1]
     automaton = (TOP / "examples/arbiter.hoa").read_bytes()
     answer = parsolve.answer("synth", automaton)
-    parsolve._LIBRARY.parsolve_answer = export
+    parsolve._LIBRARY.parsolve_answer_new = export
     yield "a long answer is made once", None if calls == [parsolve.OK] and len(answer) > len(automaton) + 4096 else f"{calls}, {len(answer)} bytes"
 
 

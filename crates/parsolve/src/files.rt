@@ -1,6 +1,6 @@
 //! Files that are the input of a command.
 
-ghost use Rattle.std.specs.Prelude.{◌≡◌, ◌≤◌, length, IfOk};
+ghost use Rattle.std.specs.Prelude.{◌≤◌, length, IfOk};
 
 use crate::fault::Fault;
 use pg_cli::{CliFault, Command, MOST_BYTES, read_input};
@@ -14,8 +14,8 @@ const VALUED: [&str; 2] = ["--workers", "--apart"];
 /// The word that stands for standard input.
 const STANDARD_INPUT: &str = "-";
 
-/// What stands between the texts of two files, and begins with the newline that ends the first.
-const SEPARATOR: &[u8] = b"\n--\n";
+/// What stands between two texts in one input.
+const SEPARATOR: &[u8] = b"--\n";
 
 /// How many files a command takes: a game or an automaton; or a game and what belongs to it.
 fn count_of(command: Command) -> usize {
@@ -91,9 +91,7 @@ fn open_file<R: Files>(rt: &R, name: &str) -> io::Result<R::File> {
     Ok(file)
 }
 
-/// What comes on standard input. It isn't taken into its caller, nor is `read_named`, so that the stack has the one buffer of a
-/// `read_input` at a time.
-#[inline(never)]
+/// What comes on standard input.
 fn read_standard<R: Input + AllocGlobal>(rt: &R) -> Result<Vec<u8>, CliFault>
     ensures { IfOk result (λ text. length text.items ≤ MOST_BYTES) }
 {
@@ -101,7 +99,6 @@ fn read_standard<R: Input + AllocGlobal>(rt: &R) -> Result<Vec<u8>, CliFault>
 }
 
 /// The text of a file.
-#[inline(never)]
 fn read_named<'a, R: Files + AllocGlobal>(rt: &R, name: &'a str) -> Result<Vec<u8>, Fault<'a>>
     ensures { IfOk result (λ text. length text.items ≤ MOST_BYTES) }
 {
@@ -129,38 +126,7 @@ fn read_file<'a, R: Files + Input + AllocGlobal>(
     }
 }
 
-/// Takes each line `--` off the text of a game, so that the only one in the input is the one between the files. It can stand in
-/// a name alone, and there its second `-` becomes a `.`: no command that takes two files prints a name.
-fn hide_separators(text: &mut Vec<u8>)
-    ensures { length text.new.items ≡ length text.old.items }
-{
-    for at in SEPARATOR.len()..text.len() + 1 {
-        if &text[at - SEPARATOR.len()..at] == SEPARATOR {
-            text[at - 2] = b'.';
-        }
-    }
-}
-
-/// Two texts in one, with a line `--` between, whether or not the first ends with a newline.
-fn joined(mut first: Vec<u8>, second: &[u8]) -> Result<Vec<u8>, CliFault>
-    requires first { length first.items ≤ MOST_BYTES }
-    requires second { length second.now ≤ MOST_BYTES }
-    ensures { IfOk result (λ text. length text.items ≤ MOST_BYTES) }
-{
-    if !first.ends_with(b"\n") {
-        first.extend_from_slice(b"\n")?;
-    }
-    hide_separators(&mut first);
-    let separator = &SEPARATOR[1..];
-    if first.len() + separator.len() + second.len() > MOST_BYTES {
-        return Err(CliFault::InputTooLong);
-    }
-    first.extend_from_slice(separator)?;
-    first.extend_from_slice(second)?;
-    Ok(first)
-}
-
-/// The input of a command: what the files hold, or standard input where there are none.
+/// The input of a command that takes one text: what the file holds, or standard input where none is named.
 pub(crate) fn read<'a, R: Files + Input + AllocGlobal>(
     rt: &R,
     files: &[&'a str],
@@ -168,12 +134,22 @@ pub(crate) fn read<'a, R: Files + Input + AllocGlobal>(
     ensures { IfOk result (λ text. length text.items ≤ MOST_BYTES) }
 {
     match files {
+        [name, ..] => read_file(rt, name),
         [] => read_file(rt, STANDARD_INPUT),
-        [one] => read_file(rt, one),
-        [first, second, ..] => {
-            let first = read_file(rt, first)?;
-            let second = read_file(rt, second)?;
-            Ok(joined(first, &second)?)
-        }
     }
+}
+
+/// The texts of two files. Together they may be as long as one input that has both, with a line `--` between.
+pub(crate) fn read_both<'a, R: Files + Input + AllocGlobal>(
+    rt: &R,
+    first: &'a str,
+    second: &'a str,
+) -> Result<(Vec<u8>, Vec<u8>), Fault<'a>> {
+    let first = read_file(rt, first)?;
+    let second = read_file(rt, second)?;
+    let newline = if first.ends_with(b"\n") { 0 } else { 1 };
+    if first.len() + newline + SEPARATOR.len() + second.len() > MOST_BYTES {
+        return Err(Fault::Cli(CliFault::InputTooLong));
+    }
+    Ok((first, second))
 }

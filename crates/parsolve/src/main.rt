@@ -8,8 +8,10 @@ ghost use Rattle.std.specs.Prelude.{◌≤◌, length};
 ghost use Rattle.pg_words.specs.Words.{HasFewWorkers};
 
 use fault::{Fault, tell};
-use files::{part_words, read};
-use pg_cli::{CliFault, Command, Line, MOST_BYTES, Programs, work, write_answer};
+use files::{part_words, read, read_both};
+use pg_cli::{
+    CliFault, Command, Line, MOST_BYTES, Programs, check_texts, replay_texts, work, write_answer,
+};
 use pg_coord::Reach;
 use pg_words::{Told, read_words};
 use std::alloc::AllocError;
@@ -62,8 +64,31 @@ fn print<R: System>(
         Some(programs) => programs.answer(alloc, command, text)?,
         None => pg_cli::answer(alloc, command, text)?,
     };
+    write_whole(rt, &answer)
+}
+
+/// Writes what was made in memory.
+fn write_whole<R: System>(rt: &R, answer: &[u8]) -> Result<(), CliFault> {
     let mut output = io::writer(rt);
-    output.write_all(&answer).map_err(|_| CliFault::Write)?;
+    output.write_all(answer).map_err(|_| CliFault::Write)?;
+    output.flush().map_err(|_| CliFault::Write)
+}
+
+/// Writes the answer to the texts of two files, that of `replay` as it is made.
+fn print_both<R: System>(
+    rt: &R,
+    command: Command,
+    first: Vec<u8>,
+    second: Vec<u8>,
+) -> Result<(), CliFault> {
+    let alloc = rt.alloc();
+    let Command::Replay = command else {
+        return write_whole(rt, &check_texts(alloc, first, second)?);
+    };
+    let Ok(mut output) = BufWriter::with_capacity(alloc, AT_ONCE, io::writer(rt)) else {
+        return Err(CliFault::OutOfMemory);
+    };
+    replay_texts(alloc, first, second, &mut output)?;
     output.flush().map_err(|_| CliFault::Write)
 }
 
@@ -76,6 +101,10 @@ fn answer<'a, R: System>(
 ) -> Result<(), Fault<'a>>
     requires { HasFewWorkers command }
 {
+    if let [first, second, ..] = files {
+        let (first, second) = read_both(rt, first, second)?;
+        return Ok(print_both(rt, command, first, second)?);
+    }
     let programs = match apart {
         Some(path) => Some(Programs::listen(rt, rt.alloc(), command, path)?),
         None => None,

@@ -6,6 +6,7 @@ ghost use Rattle.pg_command.specs.Answers.{Prints, Refuses};
 ghost use Rattle.pg_command.specs.declared.fault.CliFault.{CliFault};
 ghost use Rattle.parsolve_c.specs.Answers.{IsHanded};
 ghost use Rattle.parsolve_c.specs.Commands.{command_of, IsPrinted, IsFaultLine, IsHandedWhole, IsTooLong};
+ghost use Rattle.parsolve_c.specs.Mirrors.Replies.{IsReply};
 
 use crate::code::{
     PARSOLVE_COMMAND, PARSOLVE_COMMAND_CHECK, PARSOLVE_COMMAND_GAME, PARSOLVE_COMMAND_MEASURE,
@@ -78,6 +79,37 @@ fn hand_over(text: &[u8], output: &mut [u8], written: &mut usize, code: u32) -> 
     code
 }
 
+/// What is told of a command and its input.
+#[derive(Drop)]
+enum Reply {
+    /// What the command prints.
+    Answer(Vec<u8>),
+    /// The line of the fault for which it prints nothing.
+    FaultLine(Vec<u8>),
+    NoCommand,
+    OutOfMemory,
+}
+
+/// What is told of the command of a number.
+fn reply_to(alloc: Global, number: u32, input: &[u8]) -> Reply
+    ensures { IsReply number input.now result }
+{
+    let Some(command) = command_of(number) else {
+        return Reply::NoCommand;
+    };
+    match answered(alloc, command, input) {
+        Ok(text) => Reply::Answer(text),
+        // a text in memory is there to be read, and fails to grow for want of memory only
+        Err(CliFault::OutOfMemory) | Err(CliFault::Read) | Err(CliFault::Write) => {
+            Reply::OutOfMemory
+        }
+        Err(fault) => match line_of(alloc, &fault) {
+            Ok(line) => Reply::FaultLine(line),
+            Err(_) => Reply::OutOfMemory,
+        },
+    }
+}
+
 /// Answers a command. `PARSOLVE_OK`: what the command prints for the input stands at the front of the output. `PARSOLVE_FAULT`: it prints
 /// nothing, and the line of its fault stands there. `PARSOLVE_TOO_SHORT`: there is no room for either. `written` tells the length of the
 /// text in each case. `PARSOLVE_COMMAND`, `PARSOLVE_OUT_OF_MEMORY`: nothing was written.
@@ -102,20 +134,48 @@ pub extern "C" fn parsolve_answer(
     ensures kept { result ≢ PARSOLVE_OK → result ≢ PARSOLVE_FAULT → output.new ≡ output.old }
     ensures silent { result ≢ PARSOLVE_OK → result ≢ PARSOLVE_FAULT → result ≢ PARSOLVE_TOO_SHORT → written.new ≡ written.old }
 {
-    let Some(command) = command_of(command) else {
-        return PARSOLVE_COMMAND;
-    };
-    match answered(alloc, command, input) {
-        Ok(text) => hand_over(&text, output, written, PARSOLVE_OK),
-        // a text in memory is there to be read, and fails to grow for want of memory only
-        Err(CliFault::OutOfMemory) | Err(CliFault::Read) | Err(CliFault::Write) => {
-            PARSOLVE_OUT_OF_MEMORY
+    match reply_to(alloc, command, input) {
+        Reply::Answer(text) => hand_over(&text, output, written, PARSOLVE_OK),
+        Reply::FaultLine(line) => hand_over(&line, output, written, PARSOLVE_FAULT),
+        Reply::NoCommand => PARSOLVE_COMMAND,
+        Reply::OutOfMemory => PARSOLVE_OUT_OF_MEMORY,
+    }
+}
+
+/// A text in memory of its own.
+#[repr(C)]
+#[derive(Drop)]
+pub struct ParsolveText<'a> {
+    pub bytes: &'a mut [u8],
+}
+
+/// Answers a command as `parsolve_answer` does, in memory of its own, which the caller frees: so a text of any length is made once.
+/// `PARSOLVE_OK`: `text` is what the command prints for the input. `PARSOLVE_FAULT`: it prints nothing, and `text` is the line of its
+/// fault. `PARSOLVE_COMMAND`, `PARSOLVE_OUT_OF_MEMORY`: `text` is as it was.
+#[unsafe(no_mangle)]
+pub extern "C" fn parsolve_answer_new<'a>(
+    alloc: Global,
+    command: u32,
+    input: &[u8],
+    text: &mut ParsolveText<'a>,
+) -> u32
+    ensures answer { result ≡ PARSOLVE_OK → IsPrinted command input.now text.new.bytes.now }
+    ensures fault { result ≡ PARSOLVE_FAULT → IsFaultLine command input.now text.new.bytes.now }
+    ensures command { (result ≡ PARSOLVE_COMMAND) ↔ (command_of command ≡ None) }
+    ensures memory { result ≢ PARSOLVE_OK → result ≢ PARSOLVE_FAULT → result ≢ PARSOLVE_COMMAND
+        → result ≡ PARSOLVE_OUT_OF_MEMORY }
+    ensures kept { result ≢ PARSOLVE_OK → result ≢ PARSOLVE_FAULT → text.new ≡ text.old }
+{
+    match reply_to(alloc, command, input) {
+        Reply::Answer(answer) => {
+            text.bytes = answer.leak();
+            PARSOLVE_OK
         }
-        Err(fault) => {
-            let Ok(line) = line_of(alloc, &fault) else {
-                return PARSOLVE_OUT_OF_MEMORY;
-            };
-            hand_over(&line, output, written, PARSOLVE_FAULT)
+        Reply::FaultLine(line) => {
+            text.bytes = line.leak();
+            PARSOLVE_FAULT
         }
+        Reply::NoCommand => PARSOLVE_COMMAND,
+        Reply::OutOfMemory => PARSOLVE_OUT_OF_MEMORY,
     }
 }

@@ -9,6 +9,6 @@ mod copying;
 pub mod laws;
 mod solving;
 
-pub use answering::parsolve_answer;
+pub use answering::{ParsolveText, parsolve_answer, parsolve_answer_new};
 pub use checking::{ParsolveFound, parsolve_check};
 pub use solving::parsolve_solve;

@@ -3,7 +3,7 @@
 ghost use Rattle.std.specs.Prelude.{◌≡◌, ◌≢◌, ◌+◌, ◌<◌, ◌≤◌, ◌⊎◌, length, IfOk, IfSome, IfErr};
 ghost use Rattle.pg_command.specs.Input.{StaysWithin};
 ghost use Rattle.pg_command.specs.Measuring.{IsClosedMapOf, IsMeasureOf};
-ghost use Rattle.pg_command.specs.Answers.{Answers, PrintsBy, RefusesBy};
+ghost use Rattle.pg_command.specs.Answers.{Answers, Prints, PrintsBy, Refuses, RefusesBy};
 ghost use Rattle.pg_words.specs.Words.{HasFewWorkers, HasNoWorkers};
 
 use crate::over_links::Rounds;
@@ -102,11 +102,13 @@ impl<R: Reach> Programs<R> {
     }
 
     /// The answer to a text, in memory: from bytes to bytes, whatever the programs do. They are ended. Refuses what
-    /// `write_answer` does, but never `Write`.
+    /// `write_answer` does, but never `Write`. Without programs the answer and the refusal are those of `pg_cli::answer`.
     pub fn answer(self, alloc: Global, command: Command, text: Vec<u8>) -> Result<Vec<u8>, CliFault>
         requires { length text.items ≤ MOST_BYTES }
         ensures answer { IfOk result (λ output. PrintsBy IsClosedMapOf command text.items output.items) }
+        ensures alone { length self.links.items ≡ 0 → IfOk result (λ output. Prints command text.items output.items) }
         ensures refused { IfErr result (RefusesBy IsClosedMapOf command text.items) }
+        ensures refused_alone { length self.links.items ≡ 0 → IfErr result (Refuses command text.items) }
         ensures unread { result ≢ Err CliFault.Read }
         ensures unwritten { result ≢ Err CliFault.Write }
     {

@@ -9,7 +9,8 @@ mod working;
 
 pub use apart::{Programs, run_apart};
 pub use pg_command::{
-    CliFault, Command, MOST_BYTES, exit_code, laws, read_input, winners, write_fault,
+    CliFault, Command, MOST_BYTES, check_texts, exit_code, laws, read_input, replay_texts, winners,
+    write_fault,
 };
 pub use pg_words::{Line, parse_words};
 pub use program::{answer, run, run_with, write_answer};

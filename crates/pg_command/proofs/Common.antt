@@ -110,7 +110,8 @@ pub use Rattle.pg_command.specs.Mirrors.Reading.{Keeps}
 pub use Rattle.pg_command.specs.Mirrors.Solver.{IsUnsolved}
 pub use Rattle.pg_command.specs.Mirrors.Synthesised.{Fits}
 pub use Rattle.pg_command.specs.Mirrors.Working.{Fails, ShowsWhat}
-pub use Rattle.pg_command.specs.Parts.{IsParted, separator}
+pub use Rattle.pg_command.specs.Parts.{AreApart, IsParted, Parting, separator}
+pub use Rattle.pg_command.specs.Mirrors.Parting.{parting_of}
 pub use Rattle.pg_command.specs.Replaying.{AreMapsOf, IsNoScript, IsReplayed, IsScripted, IsStopped, RefusesReplay, replica_text}
 pub use Rattle.pg_command.specs.Replaying.{update_line, world_text}
 pub use Rattle.pg_command.specs.Solving.{IsSolved, IsSolvedAnyhow, IsSolvedBy, IsUndecidedAt, IsUndecidedIn, RefusesSolve}

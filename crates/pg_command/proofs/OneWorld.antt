@@ -5,7 +5,7 @@ use Rattle.pg_command.proofs.Common.{BoundList, MeasureValue, IsBelow, IsBoundsO
 use Rattle.pg_command.proofs.Common.{IsServed, IsLeastServing, fits_at, IsGameText, SpellsOneGame, CutValue, AreTakenToo, SameTaken}
 use Rattle.pg_command.proofs.Common.{SpellsOneScript, IsScriptText, UpdateValue, WorldValue, new_world, taken_of, making, IsMapOf, LiftsIn}
 use Rattle.pg_command.proofs.Common.{Lifts, Steps, refusal, IsRefusedBy, Runs, StopsAt, Event, Lift, Deliver, Restart, CoordinatorLift}
-use Rattle.pg_command.proofs.Common.{WorldFault, AreMapsOf, IsScripted, IsReplayed, IsStopped, world_text}
+use Rattle.pg_command.proofs.Common.{WorldFault, AreMapsOf, IsParted, IsScripted, IsReplayed, IsStopped, world_text}
 use Rattle.pg_measure.specs.Measures.{Fits}
 use Rattle.pg_world.specs.declared.fault.WorldFault.TheVariants.{OutOfMemory}
 use Rattle.pg_command.proofs.Refusing.{parted_once}
@@ -19,7 +19,7 @@ pub record Laws : Type 0 where
   pub same_taken : SameTaken
 
 -- an input has one script
-one_start : Laws → (input : List ℕ) (s t : WorldValue) (es fs : List Event) → IsScripted input s es → IsScripted input t fs → (s ≡ t) × (es ≡ fs)
+one_start : Laws → (input : List ℕ) (s t : WorldValue) (es fs : List Event) → IsScripted (IsParted input) s es → IsScripted (IsParted input) t fs → (s ≡ t) × (es ≡ fs)
 one_start laws input s t es fs p q =
     let parts = parted_once input p.first p.second q.first q.second p.parted q.parted in
     let spelt : IsGameText p.first t.game = subst (λ (l : List ℕ). IsGameText l t.game) (sym parts.0) q.spelt in
@@ -161,7 +161,7 @@ one_halt laws old a b (e ∷ es) (suc i) (suc j) fault other p q =
     let rest = one_halt laws run.0 a b es i j fault other (later old run.0 a e es i fault laws run.2 p) (later old run.0 b e es j other laws run.2 q) in
     (ap suc rest.0, rest.1)
 
-pub one_replayed : Laws → (input first second : List ℕ) → IsReplayed input first → IsReplayed input second → first ≡ second
+pub one_replayed : Laws → (input first second : List ℕ) → IsReplayed (IsParted input) first → IsReplayed (IsParted input) second → first ≡ second
 one_replayed laws input first second p q =
     let begun = one_start laws input p.replayed.start q.replayed.start p.replayed.events q.replayed.events p.replayed.scripted q.replayed.scripted in
     let runs : Runs p.replayed.start p.replayed.events q.after =
@@ -172,7 +172,7 @@ one_replayed laws input first second p q =
     let maps : p.maps ≡ q.maps = one_list_of_maps laws.same_taken p.after p.maps q.maps p.are are in
     p.printed ∙ ap₂ (λ (w : WorldValue) (fs : List (List MeasureValue)). world_text w fs) world maps ∙ sym q.printed
 
-pub unrefused : Laws → (input output : List ℕ) (place : ℕ) (fault : WorldFault) → IsReplayed input output → ¬ IsStopped input place fault
+pub unrefused : Laws → (input output : List ℕ) (place : ℕ) (fault : WorldFault) → IsReplayed (IsParted input) output → ¬ IsStopped (IsParted input) place fault
 unrefused laws input output place fault p q =
     let begun = one_start laws input p.replayed.start q.start p.replayed.events q.events p.replayed.scripted q.scripted in
     let runs : Runs q.start q.events p.after =
@@ -180,7 +180,7 @@ unrefused laws input output place fault p q =
     (subst (λ (es : List Event). Runs p.replayed.start es p.after) begun.1 p.replayed.runs) in
     none_halted laws q.start p.after q.before q.events place fault runs (halted q.start q.before q.events place fault q.reason q.stops)
 
-pub one_stop : Laws → (input : List ℕ) (first second : ℕ) (fault other : WorldFault) → IsStopped input first fault → IsStopped input second other
+pub one_stop : Laws → (input : List ℕ) (first second : ℕ) (fault other : WorldFault) → IsStopped (IsParted input) first fault → IsStopped (IsParted input) second other
     → (first ≡ second) × (fault ≡ other)
 one_stop laws input first second fault other p q =
     let begun = one_start laws input p.start q.start p.events q.events p.scripted q.scripted in

@@ -1,7 +1,7 @@
 -- What is printed of what a command worked out, and what is known of an input that was read.
 use Rattle.pg_command.proofs.Common.{◌≡◌, ℕ, ◌≤◌, List, length, Option, Some, None, Result, Ok, Err, sym, subst, IfOk, IfErr, IfSome, OnOk}
 use Rattle.pg_command.proofs.Common.{MatchResult, Appends, MapKind, meaning_of, RefusesBy, Answers, ShowsWhat, Fails, MOST_BYTES, Command}
-use Rattle.pg_command.proofs.Common.{CliFault}
+use Rattle.pg_command.proofs.Common.{CliFault, ◌⊎◌, inl, inr, refl, []}
 use Rattle.pg_command.specs.declared.fault.CliFault.TheVariants as cli
 
 -- the text of an answer was written
@@ -19,6 +19,12 @@ pub printed : {A : Type 0} (shows : A → List ℕ → Type 0) (Prints : List �
 printed shows Prints old new worked_out (Err fault) told written = tt
 printed shows Prints old new (Ok answer) (Ok done) told written = (told.0, told.2, written told.0 told.1)
 printed shows Prints old new (Err why) (Ok done) told written = absurd written
+
+-- and what was written where nothing stood is what is printed
+pub shown : {A : Type 0} (shows : A → List ℕ → Type 0) (Prints : List ℕ → Type 0) (old new : List ℕ) (worked_out : Result A CliFault) → old ≡ []
+    → IfOk worked_out (ShowsWhat Prints shows) → IsWritten shows (Some old) (Some new) worked_out → Prints new
+shown shows Prints old new (Ok answer) empty told written = subst Prints (sym (rw empty at written told.0 told.1)) told.2
+shown shows Prints old new (Err why) empty told written = absurd written
 
 -- what fails at its work is refused
 refused : (Kind : MapKind) (command : Command) (input : List ℕ) (fault : CliFault) → length input ≤ MOST_BYTES
@@ -41,6 +47,23 @@ comes_to shows Kind command input old new (Ok answer) (Err fault) limit told fai
 comes_to shows Kind command input old new (Err why) (Ok done) limit told fails written fault = absurd written
 comes_to shows Kind command input old new (Err why) (Err fault) limit told fails written is =
     subst (RefusesBy Kind command input) (sym is) (refused Kind command input why limit fails)
+
+-- what fails at its work does so for want of memory, or is refused
+fails_or : (Refuses : CliFault → Type 0) (fault : CliFault) → Fails Refuses fault → (fault ≡ cli.OutOfMemory) ⊎ Refuses fault
+fails_or Refuses cli.OutOfMemory why = inl refl
+fails_or Refuses cli.Read why = absurd why
+fails_or Refuses cli.Write why = absurd why
+fails_or Refuses cli.InputTooLong why = absurd why
+fails_or Refuses _ why = inr why
+
+-- and else the writer is at fault
+pub at_fault : {A : Type 0} (Refuses : CliFault → Type 0) (worked_out : Result A CliFault) (result : Result (Unit {0}) CliFault)
+    → IfErr worked_out (Fails Refuses) → IfErr result (IsAtFault worked_out)
+    → IfErr result (λ fault. (fault ≡ cli.Write) ⊎ ((fault ≡ cli.OutOfMemory) ⊎ Refuses fault))
+at_fault Refuses worked_out (Ok done) fails is = tt
+at_fault Refuses (Ok answer) (Err fault) fails is = inl is
+at_fault Refuses (Err why) (Err fault) fails is =
+    inr (subst (λ (it : CliFault). (it ≡ cli.OutOfMemory) ⊎ Refuses it) (sym is) (fails_or Refuses why fails))
 
 -- and so it is of the command that is asked for
 pub answered : {A : Type 0} (shows : A → List ℕ → Type 0) (Kind : MapKind) (asked command : Command) (input : List ℕ) (old new : Option (List ℕ))

@@ -1,7 +1,7 @@
 -- What a script makes of a game, and why a text or an event is refused.
 use Rattle.pg_command.proofs.Common.{◌≡◌, ◌≢◌, ℕ, List, refl, sym, subst, GameVertex, MeasureValue, IsBoundsOf, IsGameText, CutValue}
 use Rattle.pg_command.proofs.Common.{IsScriptText, WorldValue, new_world, Runs, StopsAt, NeverAbove, Event, WorldFault, ScriptFault}
-use Rattle.pg_command.proofs.Common.{IsParted, AreMapsOf, IsScripted, IsReplayed, IsNoScript, RefusesReplay, world_text, Fails}
+use Rattle.pg_command.proofs.Common.{Parting, AreMapsOf, IsScripted, IsReplayed, IsNoScript, RefusesReplay, world_text, Fails}
 use Rattle.pg_command.proofs.Common.{script_fault, event_fault, CliFault}
 use Rattle.pg_world.specs.declared.fault.WorldFault.TheVariants as world
 use Rattle.pg_world.specs.declared.script_fault.ScriptFault.TheVariants as script
@@ -27,17 +27,17 @@ event_told P place world.OutOfMemory memory said = memory
 event_told P place _ memory said = said (λ e. (cc))
 
 -- a game and a script for it in two texts
-abbrev pub AreTexts : List ℕ → List GameVertex → CutValue → List Event → Type 0
-AreTexts input game cut events =
-    (first : List ℕ) × (second : List ℕ) × IsParted input first second × IsGameText first game × IsScriptText second game cut events
+abbrev pub AreTexts : Parting → List GameVertex → CutValue → List Event → Type 0
+AreTexts Parts game cut events =
+    (first : List ℕ) × (second : List ℕ) × Parts first second × IsGameText first game × IsScriptText second game cut events
 
 -- the new world of a game and a cut
 abbrev pub IsNew : List GameVertex → CutValue → WorldValue → Type 0
 IsNew game cut w = IsBoundsOf game w.bounds × (w ≡ new_world game w.bounds cut)
 
-scripted_by : (input : List ℕ) (game : List GameVertex) (cut : CutValue) (events : List Event) (w : WorldValue)
-    → AreTexts input game cut events → IsNew game cut w → IsScripted input w events
-scripted_by input game cut events w t n = subst (λ (x : WorldValue). IsScripted input x events) (sym n.1) (record {
+scripted_by : (Parts : Parting) (game : List GameVertex) (cut : CutValue) (events : List Event) (w : WorldValue)
+    → AreTexts Parts game cut events → IsNew game cut w → IsScripted Parts w events
+scripted_by Parts game cut events w t n = subst (λ (x : WorldValue). IsScripted Parts x events) (sym n.1) (record {
   first = t.0;
   second = t.1;
   parted = t.2;
@@ -52,28 +52,28 @@ runs_from_new : (game : List GameVertex) (cut : CutValue) (events : List Event) 
 runs_from_new game cut events w new n runs = subst (λ (x : WorldValue). Runs x events new) n.1 runs
 
 -- an event that is refused, memory aside, is the first
-pub refuses_event : (input : List ℕ) (game : List GameVertex) (cut : CutValue) (events : List Event) (w new : WorldValue) (place : ℕ) (fault : WorldFault)
-    → AreTexts input game cut events → IsNew game cut w → StopsAt w events place fault new → Fails (RefusesReplay input) (event_fault place fault)
-refuses_event input game cut events w new place fault t n stops =
-    event_told (Fails (RefusesReplay input)) place fault tt (λ memory. record {
+pub refuses_event : (Parts : Parting) (game : List GameVertex) (cut : CutValue) (events : List Event) (w new : WorldValue) (place : ℕ) (fault : WorldFault)
+    → AreTexts Parts game cut events → IsNew game cut w → StopsAt w events place fault new → Fails (RefusesReplay Parts) (event_fault place fault)
+refuses_event Parts game cut events w new place fault t n stops =
+    event_told (Fails (RefusesReplay Parts)) place fault tt (λ memory. record {
       start = w;
       events = events;
-      scripted = scripted_by input game cut events w t n;
+      scripted = scripted_by Parts game cut events w t n;
       before = new;
       stops = stops;
       reason = memory;
     })
 
-pub shows_world : NeverAbove → (input : List ℕ) (game : List GameVertex) (cut : CutValue) (events : List Event) (w new : WorldValue)
-    → AreTexts input game cut events → IsNew game cut w → Runs w events new
-    → (output : List ℕ) × ((maps : List (List MeasureValue)) × AreMapsOf new maps × (output ≡ world_text new maps)) × IsReplayed input output
-shows_world never input game cut events w new t n runs =
+pub shows_world : NeverAbove → (Parts : Parting) (game : List GameVertex) (cut : CutValue) (events : List Event) (w new : WorldValue)
+    → AreTexts Parts game cut events → IsNew game cut w → Runs w events new
+    → (output : List ℕ) × ((maps : List (List MeasureValue)) × AreMapsOf new maps × (output ≡ world_text new maps)) × IsReplayed Parts output
+shows_world never Parts game cut events w new t n runs =
     let maps = maps_of never game w.bounds cut events new t.3.game_of.well n.0 t.4.vertices (runs_from_new game cut events w new n runs) in (
       world_text new maps.0,
       (maps.0, maps.1, refl),
       record {
         after = new;
-        replayed = record { start = w; events = events; scripted = scripted_by input game cut events w t n; runs = runs };
+        replayed = record { start = w; events = events; scripted = scripted_by Parts game cut events w t n; runs = runs };
         maps = maps.0;
         are = maps.1;
         printed = refl;

@@ -1,6 +1,7 @@
 -- What each command answers, and why it gives no answer.
 use Rattle.std.specs.Prelude.{ℕ, ◌<◌, ◌≤◌, List, length, Option, Result, Ok, Err}
 use Rattle.std.specs.Io.KnownBytes.{Appends}
+use Rattle.pg_command.specs.Parts.{IsParted}
 use Rattle.pg_command.specs.Measuring.{MapKind, IsMeasureOf, IsMeasured, RefusesMeasure}
 use Rattle.pg_command.specs.Solving.{IsSolved, IsSolvedAnyhow, RefusesSolve}
 use Rattle.pg_command.specs.Checking.{IsChecked, RefusesCheck}
@@ -22,8 +23,8 @@ abbrev pub meaning_of : MapKind → Command → List ℕ → Meaning
 meaning_of Kind (Measure workers) input = record { prints = IsMeasured Kind input; refuses = RefusesMeasure input }
 meaning_of Kind (Solve workers) input = record { prints = IsSolved Kind input; refuses = RefusesSolve Kind input }
 meaning_of Kind (SolveAny workers) input = record { prints = IsSolvedAnyhow input; refuses = RefusesSolve Kind input }
-meaning_of Kind Check input = record { prints = IsChecked input; refuses = RefusesCheck input }
-meaning_of Kind Replay input = record { prints = IsReplayed input; refuses = RefusesReplay input }
+meaning_of Kind Check input = record { prints = IsChecked (IsParted input); refuses = RefusesCheck (IsParted input) }
+meaning_of Kind Replay input = record { prints = IsReplayed (IsParted input); refuses = RefusesReplay (IsParted input) }
 meaning_of Kind Game input = record { prints = IsMade input; refuses = RefusesGame input }
 meaning_of Kind (Synth workers) input = record { prints = IsSynthesised Kind input; refuses = RefusesSynth Kind input }
 

@@ -10,7 +10,7 @@ use Rattle.pg_check.specs.Soundness.{IsSound}
 use Rattle.pg_check.specs.Verdicts.{IsWins, Refutes}
 use Rattle.pg_check.specs.declared.verdict.Verdict.{Verdict}
 use Rattle.pg_check.specs.declared.verdict.Verdict.TheVariants.{Wins, Leaves, BadCycle}
-use Rattle.pg_command.specs.Parts.{IsParted}
+use Rattle.pg_command.specs.Parts.{Parting}
 use Rattle.pg_command.specs.Texts.{IsNoSolution, FailsFirst}
 use Rattle.pg_command.specs.declared.fault.CliFault.{CliFault}
 use Rattle.pg_command.specs.declared.fault.CliFault.TheVariants.{Text, NoSeparator}
@@ -29,12 +29,12 @@ verdict_text game (BadCycle cycle) =
     codes "CYCLE " ++ (decimal (greatest (map (priority game) cycle.items)) ++ (codes " "
     ++ (identifiers_text game cycle.items ++ codes "\n")))
 
--- An input of a game, a line `--` and a solution of the game, and a verdict on it: `Wins` exactly if the solution is
--- sound, and else what speaks against it.
-pub record IsCheckedBy (input : List ℕ) (game : List GameVertex) (verdict : Verdict) : Type 0 where
+-- Two texts, of a game and of a solution of the game, and a verdict on it: `Wins` exactly if the solution is sound, and
+-- else what speaks against it.
+pub record IsCheckedBy (Parts : Parting) (game : List GameVertex) (verdict : Verdict) : Type 0 where
   pub first : List ℕ
   pub second : List ℕ
-  pub parted : IsParted input first second
+  pub parted : Parts first second
   pub spelt : IsGameText first game
   pub solution : List Answer
   pub answered : IsSolutionText second game solution
@@ -42,23 +42,23 @@ pub record IsCheckedBy (input : List ℕ) (game : List GameVertex) (verdict : Ve
   pub refutes : Refutes game solution verdict
 
 -- The output is the text of such a verdict.
-pub record IsChecked (input output : List ℕ) : Type 0 where
+pub record IsChecked (Parts : Parting) (output : List ℕ) : Type 0 where
   pub game : List GameVertex
   pub verdict : Verdict
-  pub checked : IsCheckedBy input game verdict
+  pub checked : IsCheckedBy Parts game verdict
   pub printed : output ≡ verdict_text game verdict
 
 -- the first text spells a game, and the second no solution of it
-pub record FailsSecond (input : List ℕ) (fault : TextFault) : Type 0 where
+pub record FailsSecond (Parts : Parting) (fault : TextFault) : Type 0 where
   pub first : List ℕ
   pub second : List ℕ
-  pub parted : IsParted input first second
+  pub parted : Parts first second
   pub game : List GameVertex
   pub spelt : IsGameText first game
   pub none : IsNoSolution second game fault
 
--- why an input has no such output: no line `--` parts it, or the first text fails, or the second one
-abbrev pub RefusesCheck : List ℕ → CliFault → Type 0
-RefusesCheck input NoSeparator = (first second : List ℕ) → ¬ IsParted input first second
-RefusesCheck input (Text fault) = FailsFirst input fault ⊎ FailsSecond input fault
-RefusesCheck input _ = ⊥
+-- why there is no such output: there aren't two texts, or the first fails, or the second one
+abbrev pub RefusesCheck : Parting → CliFault → Type 0
+RefusesCheck Parts NoSeparator = (first second : List ℕ) → ¬ Parts first second
+RefusesCheck Parts (Text fault) = FailsFirst Parts fault ⊎ FailsSecond Parts fault
+RefusesCheck Parts _ = ⊥

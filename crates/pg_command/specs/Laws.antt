@@ -7,6 +7,7 @@ use Rattle.pg_text.specs.Solutions.{winner, IsSolution}
 use Rattle.pg_text.specs.SolutionText.{IsSolutionText}
 use Rattle.pg_check.specs.Soundness.{IsSound, Wins}
 use Rattle.pg_world.specs.declared.fault.WorldFault.{WorldFault}
+use Rattle.pg_command.specs.Parts.{IsParted}
 use Rattle.pg_command.specs.Measuring.{IsMeasured, IsMeasureOf, IsClosedMapOf}
 use Rattle.pg_command.specs.Solving.{IsSolved, IsSolvedAnyhow, IsUndecidedAt}
 use Rattle.pg_command.specs.Synthesising.{IsSynthesised}
@@ -53,10 +54,11 @@ pub record OneAnswer : Type 0 where
       → IsUndecidedAt IsMeasureOf input second → first ≡ second
   pub synthesised : (input first second : List ℕ) → IsSynthesised IsMeasureOf input first
       → IsSynthesised IsMeasureOf input second → first ≡ second
-  pub replayed : (input first second : List ℕ) → IsReplayed input first → IsReplayed input second → first ≡ second
+  pub replayed : (input first second : List ℕ) → IsReplayed (IsParted input) first → IsReplayed (IsParted input) second
+      → first ≡ second
   pub unrefused : (input output : List ℕ) (place : ℕ) (fault : WorldFault)
-      → IsReplayed input output → ¬ IsStopped input place fault
+      → IsReplayed (IsParted input) output → ¬ IsStopped (IsParted input) place fault
   pub stopped : (input : List ℕ) (first second : ℕ) (fault other : WorldFault)
-      → IsStopped input first fault → IsStopped input second other → (first ≡ second) × (fault ≡ other)
+      → IsStopped (IsParted input) first fault → IsStopped (IsParted input) second other → (first ≡ second) × (fault ≡ other)
   pub made : (input first second : List ℕ) → IsMade input first → IsMade input second → first ≡ second
   pub within : (input output : List ℕ) → IsMade input output → ¬ IsTooLarge input

@@ -1,5 +1,6 @@
 -- What mirrors code: contracts of private functions cite it, and no definition that a reader has to believe does.
 pub mod Reading
+pub mod Parting
 pub mod Naming
 pub mod Solver
 pub mod Synthesised

@@ -15,7 +15,7 @@ use Rattle.pg_world.specs.declared.fault.WorldFault.{WorldFault}
 use Rattle.pg_world.specs.declared.fault.WorldFault.TheVariants as world_fault
 use Rattle.pg_world.specs.declared.script_fault.ScriptFault.{ScriptFault}
 use Rattle.pg_world.specs.declared.script_fault.ScriptFault.TheVariants as script_fault
-use Rattle.pg_command.specs.Parts.{IsParted}
+use Rattle.pg_command.specs.Parts.{Parting}
 use Rattle.pg_command.specs.Texts.{FailsFirst}
 use Rattle.pg_command.specs.Measuring.{measure_line, measures_text}
 use Rattle.pg_command.specs.declared.fault.CliFault.{CliFault}
@@ -46,37 +46,37 @@ pub record AreMapsOf (w : WorldValue) (maps : List (List MeasureValue)) : Type 0
   pub count : length maps ≡ 1 + w.cut.workers
   pub each : (r : ℕ) → r ≤ w.cut.workers → IsMapOf w r (slice_index_or maps r [])
 
--- An input of a game, a line `--` and a script for the game: the events of the script, and the world of the game and of
--- the script's cut in which nothing has been made yet.
-pub record IsScripted (input : List ℕ) (start : WorldValue) (events : List Event) : Type 0 where
+-- Two texts, of a game and of a script for the game: the events of the script, and the world of the game and of the
+-- script's cut in which nothing has been made yet.
+pub record IsScripted (Parts : Parting) (start : WorldValue) (events : List Event) : Type 0 where
   pub first : List ℕ
   pub second : List ℕ
-  pub parted : IsParted input first second
+  pub parted : Parts first second
   pub spelt : IsGameText first start.game
   pub script : IsScriptText second start.game start.cut events
   pub bounds : IsBoundsOf start.game start.bounds
   pub new : start ≡ new_world start.game start.bounds start.cut
 
 -- None of the events is refused, and this is the world after them.
-pub record IsReplayedBy (input : List ℕ) (w : WorldValue) : Type 0 where
+pub record IsReplayedBy (Parts : Parting) (w : WorldValue) : Type 0 where
   pub start : WorldValue
   pub events : List Event
-  pub scripted : IsScripted input start events
+  pub scripted : IsScripted Parts start events
   pub runs : Runs start events w
 
 -- The output is the text of that world and of its replicas' maps.
-pub record IsReplayed (input output : List ℕ) : Type 0 where
+pub record IsReplayed (Parts : Parting) (output : List ℕ) : Type 0 where
   pub after : WorldValue
-  pub replayed : IsReplayedBy input after
+  pub replayed : IsReplayedBy Parts after
   pub maps : List (List MeasureValue)
   pub are : AreMapsOf after maps
   pub printed : output ≡ world_text after maps
 
 -- The event at this place is the first that is refused, for the reason against it.
-pub record IsStopped (input : List ℕ) (place : ℕ) (fault : WorldFault) : Type 0 where
+pub record IsStopped (Parts : Parting) (place : ℕ) (fault : WorldFault) : Type 0 where
   pub start : WorldValue
   pub events : List Event
-  pub scripted : IsScripted input start events
+  pub scripted : IsScripted Parts start events
   pub before : WorldValue
   pub stops : StopsAt start events place fault before
   pub reason : fault ≢ world_fault.OutOfMemory
@@ -87,19 +87,18 @@ IsNoScript text game script_fault.OutOfMemory = ⊥
 IsNoScript text game fault = (cut : CutValue) (events : List Event) → ¬ IsScriptText text game cut events
 
 -- the first text spells a game, and the second no script for it
-pub record FailsScript (input : List ℕ) (fault : ScriptFault) : Type 0 where
+pub record FailsScript (Parts : Parting) (fault : ScriptFault) : Type 0 where
   pub first : List ℕ
   pub second : List ℕ
-  pub parted : IsParted input first second
+  pub parted : Parts first second
   pub game : List GameVertex
   pub spelt : IsGameText first game
   pub none : IsNoScript second game fault
 
--- why an input has no such output: no line `--` parts it, or the first text fails, or the second one, or an event is
--- refused
-abbrev pub RefusesReplay : List ℕ → CliFault → Type 0
-RefusesReplay input NoSeparator = (first second : List ℕ) → ¬ IsParted input first second
-RefusesReplay input (Text fault) = FailsFirst input fault
-RefusesReplay input (Script fault) = FailsScript input fault
-RefusesReplay input (World place fault) = IsStopped input place fault
-RefusesReplay input _ = ⊥
+-- why there is no such output: there aren't two texts, or the first fails, or the second one, or an event is refused
+abbrev pub RefusesReplay : Parting → CliFault → Type 0
+RefusesReplay Parts NoSeparator = (first second : List ℕ) → ¬ Parts first second
+RefusesReplay Parts (Text fault) = FailsFirst Parts fault
+RefusesReplay Parts (Script fault) = FailsScript Parts fault
+RefusesReplay Parts (World place fault) = IsStopped Parts place fault
+RefusesReplay Parts _ = ⊥

@@ -4,7 +4,7 @@ use Rattle.pg_arena.specs.Games.{GameVertex}
 use Rattle.pg_text.specs.GameText.{SpellsNoGame, Refuses}
 use Rattle.pg_text.specs.SolutionText.{SpellsNoSolution, RefusesSolution}
 use Rattle.pg_text.specs.declared.fault.TextFault.{TextFault}
-use Rattle.pg_command.specs.Parts.{IsParted}
+use Rattle.pg_command.specs.Parts.{Parting}
 
 -- the text spells no game, and the fault is one that the reader of games gives for what it says
 abbrev pub IsNoGame : List ℕ → TextFault → Type 0
@@ -14,9 +14,9 @@ IsNoGame text fault = SpellsNoGame text × Refuses text fault
 abbrev pub IsNoSolution : List ℕ → List GameVertex → TextFault → Type 0
 IsNoSolution text game fault = SpellsNoSolution text game × RefusesSolution text game fault
 
--- of two texts in one input the first spells no game
-pub record FailsFirst (input : List ℕ) (fault : TextFault) : Type 0 where
+-- of two texts the first spells no game
+pub record FailsFirst (Parts : Parting) (fault : TextFault) : Type 0 where
   pub first : List ℕ
   pub second : List ℕ
-  pub parted : IsParted input first second
+  pub parted : Parts first second
   pub none : IsNoGame first fault

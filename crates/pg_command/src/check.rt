@@ -5,10 +5,11 @@ ghost use Rattle.std.specs.Io.KnownBytes.{Appends};
 ghost use Rattle.pg_arena.specs.Games.{priority};
 ghost use Rattle.pg_command.specs.Checking.{greatest, verdict_text, IsChecked, RefusesCheck};
 ghost use Rattle.pg_command.specs.Mirrors.Naming.{IsWithin};
+ghost use Rattle.pg_command.specs.Mirrors.Parting.{parting_of};
 ghost use Rattle.pg_command.specs.Mirrors.Working.{ShowsWhat, Fails};
 
 use crate::fault::CliFault;
-use crate::parts::part;
+use crate::parts::Texts;
 use crate::printing::Answer;
 use pg_arena::{Game, Vertex};
 use pg_check::Verdict;
@@ -72,13 +73,13 @@ impl Answer for Checked {
     }
 }
 
-/// What the checker says of the solution that stands behind a game in a text.
-pub(crate) fn check(alloc: Global, text: Vec<u8>) -> Result<Checked, CliFault>
+/// What the checker says of the solution that the second text spells, of the game of the first.
+pub(crate) fn check(alloc: Global, texts: Texts) -> Result<Checked, CliFault>
     ensures whole { IfOk result ⟦<Checked as Answer>⟧.is_whole }
-    ensures answer { IfOk result (ShowsWhat (IsChecked text.items) ⟦<Checked as Answer>⟧.shows) }
-    ensures refused { IfErr result (Fails (RefusesCheck text.items)) }
+    ensures answer { IfOk result (ShowsWhat (IsChecked (parting_of texts)) ⟦<Checked as Answer>⟧.shows) }
+    ensures refused { IfErr result (Fails (RefusesCheck (parting_of texts))) }
 {
-    match part(&text) {
+    match texts.both() {
         None => Err(CliFault::NoSeparator),
         Some((first, second)) => {
             let game = read_game(alloc, first)?;

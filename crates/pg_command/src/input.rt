@@ -5,7 +5,7 @@ ghost use Rattle.pg_command.specs.Input.{StaysWithin, IsOver};
 ghost use Rattle.pg_command.specs.Mirrors.Reading.{Keeps};
 
 use crate::fault::CliFault;
-use std::alloc::Global;
+use std::alloc::{AllocError, Global};
 use std::io::{ErrorKind, Read};
 
 /// The most bytes that an input may have.
@@ -14,9 +14,21 @@ pub const MOST_BYTES: usize = 268_435_456;
 /// How many bytes are asked for at once.
 const CHUNK: usize = 65_536;
 
-/// Reads once and adds what came. It tells whether more may come.
-fn read_some<R: Read>(reader: &mut R, text: &mut Vec<u8>) -> Result<bool, CliFault>
-    requires { length text.old.items ≤ MOST_BYTES }
+/// Room for so many bytes.
+fn room_for(alloc: Global, count: usize) -> Result<Vec<u8>, AllocError>
+    ensures { IfOk result (λ room. length room.items ≡ count) }
+{
+    Vec::from_elem(alloc, 0u8, count)
+}
+
+/// Reads once, into a buffer, and adds what came. It tells whether more may come.
+fn read_some<R: Read>(
+    reader: &mut R,
+    buffer: &mut [u8],
+    text: &mut Vec<u8>,
+) -> Result<bool, CliFault>
+    requires room { 0 < length buffer.old }
+    requires limit { length text.old.items ≤ MOST_BYTES }
     ensures within { OnOk result (length text.new.items ≤ MOST_BYTES) }
     ensures bytes { OnOk result
         (Keeps (R.remaining reader.old) text.old.items (R.remaining reader.new) text.new.items) }
@@ -28,15 +40,14 @@ fn read_some<R: Read>(reader: &mut R, text: &mut Vec<u8>) -> Result<bool, CliFau
     ensures causes { IfErr result (λ fault. (fault ≡ CliFault.OutOfMemory) ⊎ ((fault ≡ CliFault.Read)
         ⊎ (fault ≡ CliFault.InputTooLong))) }
 {
-    let mut buf = [0u8; CHUNK];
-    let room = (MOST_BYTES + 1 - text.len()).min(CHUNK);
-    match reader.read(&mut buf[..room]) {
+    let room = (MOST_BYTES + 1 - text.len()).min(buffer.len());
+    match reader.read(&mut buffer[..room]) {
         Ok(0) => Ok(false),
         Ok(n) => {
             if n > MOST_BYTES - text.len() {
                 return Err(CliFault::InputTooLong);
             }
-            text.extend_from_slice(&buf[..n])?;
+            text.extend_from_slice(&buffer[..n])?;
             Ok(true)
         }
         Err(e) if e.kind() == ErrorKind::Interrupted => Ok(true),
@@ -54,9 +65,11 @@ pub fn read_input<R: Read>(alloc: Global, reader: &mut R) -> Result<Vec<u8>, Cli
     ensures causes { IfErr result (λ fault. (fault ≡ CliFault.OutOfMemory) ⊎ ((fault ≡ CliFault.Read)
         ⊎ (fault ≡ CliFault.InputTooLong))) }
 {
+    let mut room = room_for(alloc, CHUNK)?;
+    let buffer = room.as_mut_slice();
     let mut text = Vec::new(alloc);
     'reads: for _ in 0..u64::MAX {
-        if !read_some(reader, &mut text)? {
+        if !read_some(reader, buffer, &mut text)? {
             return Ok(text);
         }
     }

@@ -24,4 +24,4 @@ pub use fault::{CliFault, exit_code, write_fault};
 pub use finder::{Finder, Maps};
 pub use input::{MOST_BYTES, read_input};
 pub use pg_words::Command;
-pub use program::{answer, run_by};
+pub use program::{answer, check_texts, replay_texts, run_by};

@@ -1,9 +1,12 @@
 //! A command from its input to its answer.
 
-ghost use Rattle.std.specs.Prelude.{◌≡◌, ◌≢◌, ◌+◌, ◌≤◌, ℕ, List, length, OnOk, IfSome, IsNone, IfErr};
+ghost use Rattle.std.specs.Prelude.{◌≡◌, ◌≢◌, ◌+◌, ◌≤◌, ℕ, List, length, ◌⊎◌, IfOk, OnOk, IfSome, IsNone, IfErr};
 ghost use Rattle.std.specs.Io.KnownBytes.{Appends};
 ghost use Rattle.pg_command.specs.Input.{StaysWithin};
+ghost use Rattle.pg_command.specs.Parts.{AreApart};
 ghost use Rattle.pg_command.specs.Measuring.{IsMeasured};
+ghost use Rattle.pg_command.specs.Checking.{IsChecked, RefusesCheck};
+ghost use Rattle.pg_command.specs.Replaying.{IsReplayed, RefusesReplay};
 ghost use Rattle.pg_command.specs.Answers.{Answers};
 ghost use Rattle.pg_words.specs.Commands.{workers_of};
 
@@ -13,6 +16,7 @@ use crate::finder::Finder;
 use crate::game::game;
 use crate::input::{MOST_BYTES, read_input};
 use crate::measure::measure;
+use crate::parts::Texts;
 use crate::printing::print;
 use crate::replay::replay;
 use crate::solve::{solve, solve_any};
@@ -43,11 +47,44 @@ pub fn answer<F: Finder, W: Write>(
         Command::Measure { .. } => print(measure(alloc, text, finder), writer),
         Command::Solve { .. } => print(solve(alloc, text, finder), writer),
         Command::SolveAny { .. } => print(solve_any(alloc, text, finder), writer),
-        Command::Check => print(check(alloc, text), writer),
-        Command::Replay => print(replay(alloc, text), writer),
+        Command::Check => print(check(alloc, Texts::Joined(text)), writer),
+        Command::Replay => print(replay(alloc, Texts::Joined(text)), writer),
         Command::Game => print(game(alloc, text), writer),
         Command::Synth { .. } => print(synth(alloc, text, finder), writer),
     }
+}
+
+/// What `check` prints of a game and a solution of it in two texts, which nothing has to part. Refuses `Text`, the first text's fault
+/// before the second's, and `OutOfMemory`.
+pub fn check_texts(alloc: Global, first: Vec<u8>, second: Vec<u8>) -> Result<Vec<u8>, CliFault>
+    ensures answer { IfOk result (λ output. IsChecked (AreApart first.items second.items) output.items) }
+    ensures refused { IfErr result (λ fault.
+        (fault ≡ CliFault.OutOfMemory) ⊎ RefusesCheck (AreApart first.items second.items) fault) }
+{
+    let mut output = Vec::new(alloc);
+    match print(check(alloc, Texts::Apart(first, second)), &mut output) {
+        Ok(()) => Ok(output),
+        // A write to memory fails for want of it alone.
+        Err(CliFault::Write) => Err(CliFault::OutOfMemory),
+        Err(fault) => Err(fault),
+    }
+}
+
+/// Writes what `replay` prints of a game and a script for it in two texts, which nothing has to part. Refuses `Text`, `Script`, `World`
+/// and `Write`, in this order, and `OutOfMemory`. After another fault than `Write` nothing was written.
+pub fn replay_texts<W: Write>(
+    alloc: Global,
+    first: Vec<u8>,
+    second: Vec<u8>,
+    writer: &mut W,
+) -> Result<(), CliFault>
+    ensures answer { OnOk result ((output : List ℕ) × IsReplayed (AreApart first.items second.items) output
+        × Appends (W.contents writer.old) (W.contents writer.new) output) }
+    ensures refused { IfErr result (λ fault. (fault ≡ CliFault.Write)
+        ⊎ ((fault ≡ CliFault.OutOfMemory) ⊎ RefusesReplay (AreApart first.items second.items) fault)) }
+    ensures untouched { IfErr result (λ fault. fault ≢ CliFault.Write → writer.new ≡ writer.old) }
+{
+    print(replay(alloc, Texts::Apart(first, second)), writer)
 }
 
 /// Reads the whole input, and writes the answer to it and nothing else. Hand it a buffered writer, and flush that. Games are

@@ -4,12 +4,12 @@ ghost use Rattle.std.specs.Prelude.{◌≡◌, ◌<◌, ℕ, List, All, length, 
 ghost use Rattle.pg_measure.specs.Measures.{MeasureValue};
 ghost use Rattle.pg_text.specs.GameText.{IsGameText};
 ghost use Rattle.pg_world.specs.ScriptText.{IsScriptText};
-ghost use Rattle.pg_command.specs.Parts.{IsParted};
 ghost use Rattle.pg_command.specs.Replaying.{IsReplayed, RefusesReplay, AreMapsOf, world_text};
+ghost use Rattle.pg_command.specs.Mirrors.Parting.{parting_of};
 ghost use Rattle.pg_command.specs.Mirrors.Working.{ShowsWhat, Fails};
 
 use crate::fault::CliFault;
-use crate::parts::part;
+use crate::parts::Texts;
 use crate::printing::Answer;
 use crate::world_output::write_world;
 use pg_arena::Game;
@@ -28,13 +28,13 @@ impl Answer for World {
     }
 }
 
-/// The game and the script that a text spells.
-fn scripted(alloc: Global, text: &[u8]) -> Result<(Game, Script), CliFault>
-    ensures found { IfOk result (λ x. (first : List ℕ) × (second : List ℕ) × IsParted text.now first second
+/// The game and the script that two texts spell.
+fn scripted(alloc: Global, texts: &Texts) -> Result<(Game, Script), CliFault>
+    ensures found { IfOk result (λ x. (first : List ℕ) × (second : List ℕ) × parting_of texts.now first second
         × IsGameText first x.0 × IsScriptText second x.0 x.1.cut x.1.events.items) }
-    ensures refused { IfErr result (Fails (RefusesReplay text.now)) }
+    ensures refused { IfErr result (Fails (RefusesReplay (parting_of texts.now))) }
 {
-    match part(text) {
+    match texts.both() {
         None => Err(CliFault::NoSeparator),
         Some((first, second)) => {
             let game = read_game(alloc, first)?;
@@ -44,14 +44,15 @@ fn scripted(alloc: Global, text: &[u8]) -> Result<(Game, Script), CliFault>
     }
 }
 
-/// The world after the events of the script that stands behind a game in a text. The text is let go before they happen.
-pub(crate) fn replay(alloc: Global, text: Vec<u8>) -> Result<World, CliFault>
+/// The world after the events of the script that the second text spells, for the game of the first. The texts are let go before they
+/// happen.
+pub(crate) fn replay(alloc: Global, texts: Texts) -> Result<World, CliFault>
     ensures whole { IfOk result ⟦<World as Answer>⟧.is_whole }
-    ensures answer { IfOk result (ShowsWhat (IsReplayed text.items) ⟦<World as Answer>⟧.shows) }
-    ensures refused { IfErr result (Fails (RefusesReplay text.items)) }
+    ensures answer { IfOk result (ShowsWhat (IsReplayed (parting_of texts)) ⟦<World as Answer>⟧.shows) }
+    ensures refused { IfErr result (Fails (RefusesReplay (parting_of texts))) }
 {
-    let (game, script) = scripted(alloc, &text)?;
-    drop(text);
+    let (game, script) = scripted(alloc, &texts)?;
+    drop(texts);
     laws::never_above();
     // A script's cut is one of the game's vertices, so that only memory can be wanting.
     let Ok(mut world) = World::new(alloc, game, script.cut) else {

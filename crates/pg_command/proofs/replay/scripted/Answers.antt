@@ -1,11 +1,11 @@
-use Rattle.pg_command.proofs.Common.{rules, text_fault, script_fault, RefusesReplay, Fails}
+use Rattle.pg_command.proofs.Common.{rules, parting_of, text_fault, script_fault, RefusesReplay, Fails}
 use Rattle.pg_command.proofs.Refusing.{no_game, told_so, refused_by}
 use Rattle.pg_command.proofs.Replaying.{no_script, script_told}
 use Rattle.pg_command.proofs.replay.scripted.Goals as goal
 
 pub returns-in_err-game-in-Some-clause-refused : goal.returns-in_err-game-in-Some-clause-refused
 returns-in_err-game-in-Some-clause-refused c =
-    let Refused = Fails (RefusesReplay c.args.text.now) in
+    let Refused = Fails (RefusesReplay (parting_of c.args.texts.now)) in
     let first = c.in-Some.first.now in
     let fault = c.in_err-game-in-Some.field-0.0 in
     refused_by Refused c.from_residual.result (text_fault fault) c.from_residual.ensures.1
@@ -15,7 +15,7 @@ returns-in_err-game-in-Some-clause-refused c =
 
 pub returns-in_err-script-in-Some-clause-refused : goal.returns-in_err-script-in-Some-clause-refused
 returns-in_err-script-in-Some-clause-refused c =
-    let Refused = Fails (RefusesReplay c.args.text.now) in
+    let Refused = Fails (RefusesReplay (parting_of c.args.texts.now)) in
     let second = c.in-Some.second.now in
     let game = c.in_ok-game-in-Some.game in
     let fault = c.in_err-script-in-Some.field-0.0 in
