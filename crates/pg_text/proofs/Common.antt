@@ -69,7 +69,7 @@ unfoldable pub use Rattle.pg_text.specs.Mirrors.Scan.{lexeme_at, number_at, quot
 pub use Rattle.pg_text.specs.Mirrors.SolutionReading.{BeginsMisfit, BeginsWell, HasRead, IsLost, IsMarked, IsMisfit, IsRefused, IsUnmarked}
 pub use Rattle.pg_text.specs.Mirrors.SolutionReading.{LeadsNowhere, Puts, State, is_complete, is_seen, misfit_fault}
 pub use Rattle.pg_text.specs.Mirrors.SolutionScan.{answer_in, answer_seen, strategy_in}
-unfoldable pub use Rattle.pg_text.specs.Mirrors.SolutionScan.{answers_at, next_answer_at, strategy_at}
+unfoldable pub use Rattle.pg_text.specs.Mirrors.SolutionScan.{next_answer_at, strategy_at}
 pub use Rattle.pg_text.specs.Mirrors.Steps.{Fails, Read, Reads, Step, after_step, item, stop, ◌>>=◌}
 unfoldable pub use Rattle.pg_text.specs.Mirrors.Steps.{items_at, items_within}
 pub use Rattle.pg_text.specs.Numbers.{comma_number, comma_number_lexemes, identifiers_text, numbers_lexemes, numbers_text}

@@ -1,14 +1,14 @@
 -- Lines that can't be taken, known by the tokens with which they begin.
 use Rattle.pg_text.proofs.Common.{◌≡◌, ◌≢◌, ℕ, ◌<◌, Bool, true, false, cond, List, [], ◌∷◌, ◌++◌, length, Option, Some, None, Err, refl}
 use Rattle.pg_text.proofs.Common.{sym, ap, subst, ◌∙◌, inl, inr, Player, Even, Odd, GameVertex, identifier, IsEdge, IsGame, SolutionLine}
-use Rattle.pg_text.proofs.Common.{Misfit, NotOfGame, Repeated, Lexeme, number, semicolon, Begins, Spells, player_number, TokenFault}
+use Rattle.pg_text.proofs.Common.{Misfit, NotOfGame, Repeated, Lexeme, number, semicolon, Begins, Spells, player_number, Ok, TokenFault}
 use Rattle.pg_text.proofs.Common.{natural_at, owner_at, owns, strategy_lexemes, answer_lexemes, Fits, StartsLine, IsUnknown, IsNoMove}
 use Rattle.pg_text.proofs.Common.{BeginsUnfit, is_seen, IsLost, IsUnmarked, IsMisfit, BeginsMisfit, BeginsWell, some, some_is, none}
 use Rattle.pg_text.proofs.Common.{none_is_some}
 use Rattle.pg_text.proofs.Steps.{ok_is, err_is_ok}
 use Rattle.pg_text.proofs.Lexing.{token_again}
-use Rattle.pg_text.proofs.Parts.{natural_again}
-use Rattle.pg_text.proofs.Takes.{owner_again}
+use Rattle.pg_text.proofs.Parts.{natural_again, natural_takes}
+use Rattle.pg_text.proofs.Takes.{owner_again, owner_takes}
 use Rattle.pg_text.proofs.Answering.{same_vertex, unfit, unmarked_here}
 
 -- ---- tokens are read in one way only
@@ -26,6 +26,11 @@ player_is Even Even e = refl
 player_is Odd Odd e = refl
 player_is Even Odd e = absurd cc
 player_is Odd Even e = absurd cc
+
+-- a number and a token start a line
+pub starts_line : (here : List ℕ) (n : ℕ) (mid : List ℕ) (token : Lexeme) (rest : List ℕ) → Begins here (number n) mid → Begins mid token rest
+    → StartsLine here n
+starts_line here n mid token rest first second = record { token = token; rest = rest; stands = (mid, first, (rest, second, refl)) }
 
 -- a line has the number with which it starts
 pub starts_with : (here : List ℕ) (n : ℕ) (tokens : List Lexeme) (mid : List ℕ) (line : SolutionLine) (after : List ℕ)
@@ -73,16 +78,12 @@ unfit_front game here n line after well (inr m) s = no_move_unfit game here n li
 
 pub front_starts : (game : List GameVertex) (here : List ℕ) (n : ℕ) → BeginsUnfit game here n → StartsLine here n
 front_starts game here n (inl u) = u.0
-front_starts game here n (inr m) = record {
-  token = number (player_number m.winner);
-  rest = m.stands.2.0;
-  stands = (m.stands.0, m.stands.1, (m.stands.2.0, m.stands.2.1, refl));
-}
+front_starts game here n (inr m) = starts_line here n m.stands.0 (number (player_number m.winner)) m.stands.2.0 m.stands.1 m.stands.2.1
 
 -- ---- a whole line begins so too
 
 pub line_starts : (here : List ℕ) (line : SolutionLine) (after : List ℕ) → Spells here (answer_lexemes line) after → StartsLine here line.identifier
-line_starts here line after s = record { token = number (player_number line.winner); rest = s.2.0; stands = (s.0, s.1, (s.2.0, s.2.1, refl)) }
+line_starts here line after s = starts_line here line.identifier s.0 (number (player_number line.winner)) s.2.0 s.1 s.2.1
 
 -- the strategy that counts stands there, where the winner owns the vertex
 counts_is : (b : Bool) (strategy : Option ℕ) (n : ℕ) → cond b strategy none ≡ some n → (b ≡ true) × (strategy ≡ some n)
@@ -131,10 +132,10 @@ pub well_numberless : (game : List GameVertex) (seen : List Bool) (here : List �
 well_numberless game seen here none = well_unstarted game seen here (λ n s. none n s.stands.0 s.stands.1)
 
 -- no token stands behind the identifier
-pub well_cut : (game : List GameVertex) (seen : List Bool) (here : List ℕ) (n : ℕ) (mid : List ℕ) → Begins here (number n) mid
+pub well_cut : (game : List GameVertex) (seen : List Bool) (here : List ℕ) (n : ℕ) (mid : List ℕ) → natural_at here ≡ Ok (n, mid)
     → ((token : Lexeme) (rest : List ℕ) → ¬ Begins mid token rest) → BeginsWell game seen here
 well_cut game seen here n mid first none = well_unstarted game seen here (λ k s.
-    let same = same_token here (number k) (number n) s.stands.0 mid s.stands.1 first in
+    let same = same_token here (number k) (number n) s.stands.0 mid s.stands.1 (natural_takes here (n, mid) first) in
     none s.token s.stands.2.0 (subst (λ (b : List ℕ). Begins b s.token s.stands.2.0) same.1 s.stands.2.1))
 
 -- at this vertex no strategy that counts and is no successor stands behind the identifier
@@ -143,22 +144,25 @@ HasMove game v mid = (player : Player) (m : ℕ) (rest : List ℕ) → Spells mi
     → owns game player v ≡ true → ((w : ℕ) → IsEdge game v w → identifier game w ≢ m) → ⊥
 
 pub well_here : (game : List GameVertex) (seen : List Bool) (here : List ℕ) (n : ℕ) (mid : List ℕ) (v : ℕ) → IsGame game
-    → Begins here (number n) mid → v < length game → n ≡ identifier game v → is_seen seen v ≡ false → HasMove game v mid
+    → natural_at here ≡ Ok (n, mid) → (v < length game) × (identifier game v ≡ n) → is_seen seen v ≡ false → HasMove game v mid
     → BeginsWell game seen here
-well_here game seen here n mid v well first within named unmarked moves = record { fresh = fresh; no_unfit = no_unfit }
+well_here game seen here n mid v well read found unmarked moves = record { fresh = fresh; no_unfit = no_unfit }
   where
+    first : Begins here (number n) mid
+    first = natural_takes here (n, mid) read
+
     fresh : (k : ℕ) → StartsLine here k → IsUnmarked game k seen
     fresh k s =
         let same : k ≡ n = number_is k n (same_token here (number k) (number n) s.stands.0 mid s.stands.1 first).0 in
-        unmarked_here game k v seen well within (same ∙ named) unmarked
+        unmarked_here game k v seen well found.0 (same ∙ sym found.1) unmarked
 
     no_unfit : (k : ℕ) → ¬ BeginsUnfit game here k
     no_unfit k (inl u) =
         let same : k ≡ n = number_is k n (same_token here (number k) (number n) u.0.stands.0 mid u.0.stands.1 first).0 in
-        u.1 v within (sym named ∙ sym same)
+        u.1 v found.0 (found.1 ∙ sym same)
     no_unfit k (inr m) =
         let same = same_token here (number k) (number n) m.stands.0 mid m.stands.1 first in
-        let at : m.v ≡ v = same_vertex game m.v v well m.within within (sym m.named ∙ number_is k n same.0 ∙ named) in
+        let at : m.v ≡ v = same_vertex game m.v v well m.within found.0 (sym m.named ∙ number_is k n same.0 ∙ sym found.1) in
         moves m.winner m.strategy m.rest (subst (λ (b : List ℕ). Spells b (number (player_number m.winner) ∷ number m.strategy ∷ []) m.rest) same.1 m.stands.2)
         (subst (λ (u : ℕ). owns game m.winner u ≡ true) at m.owned)
         (subst (λ (u : ℕ). (w : ℕ) → IsEdge game u w → identifier game w ≢ m.strategy) at m.absent)
@@ -169,20 +173,20 @@ moves_unwon game v mid fault e = λ player m rest s owned absent. err_is_ok faul
 
 -- no strategy stands there
 pub moves_unnamed : (game : List GameVertex) (v : ℕ) (mid : List ℕ) (winner : Player) (after : List ℕ)
-    → Begins mid (number (player_number winner)) after → ((n : ℕ) (rest : List ℕ) → ¬ Begins after (number n) rest) → HasMove game v mid
+    → owner_at mid ≡ Ok (winner, after) → ((n : ℕ) (rest : List ℕ) → ¬ Begins after (number n) rest) → HasMove game v mid
 moves_unnamed game v mid winner after won none = λ player m rest s owned absent.
-    let same = same_token mid (number (player_number player)) (number (player_number winner)) s.0 after s.1 won in
+    let same = same_token mid (number (player_number player)) (number (player_number winner)) s.0 after s.1 (owner_takes mid (winner, after) won) in
     none m s.2.0 (subst (λ (b : List ℕ). Begins b (number m) s.2.0) same.1 s.2.1)
 
 -- this winner and this strategy stand there, and they don't refuse the line
 pub moves_named : (game : List GameVertex) (v : ℕ) (mid : List ℕ) (winner : Player) (after : List ℕ) (n : ℕ) (rest : List ℕ)
-    → Begins mid (number (player_number winner)) after → Begins after (number n) rest
+    → owner_at mid ≡ Ok (winner, after) → natural_at after ≡ Ok (n, rest)
     → (owns game winner v ≡ true → ((w : ℕ) → IsEdge game v w → identifier game w ≢ n) → ⊥) → HasMove game v mid
 moves_named game v mid winner after n rest won named holds = λ player m end s owned absent.
-    let same = same_token mid (number (player_number player)) (number (player_number winner)) s.0 after s.1 won in
+    let same = same_token mid (number (player_number player)) (number (player_number winner)) s.0 after s.1 (owner_takes mid (winner, after) won) in
     let who : player ≡ winner = player_is player winner (number_is (player_number player) (player_number winner) same.0) in
     let what : m ≡ n = number_is m n (same_token after (number m) (number n) s.2.0 rest
-    (subst (λ (b : List ℕ). Begins b (number m) s.2.0) same.1 s.2.1) named).0 in
+    (subst (λ (b : List ℕ). Begins b (number m) s.2.0) same.1 s.2.1) (natural_takes after (n, rest) named)).0 in
     holds (subst (λ (p : Player). owns game p v ≡ true) who owned) (subst (λ (k : ℕ). (w : ℕ) → IsEdge game v w → identifier game w ≢ k) what absent)
 
 -- ---- what isn't read doesn't stand there

@@ -7,7 +7,7 @@ use Rattle.pg_text.proofs.Common.{semicolon_at, end_in, end_at, further_in, furt
 use Rattle.pg_text.proofs.Steps.{bind_ok, ok, ok_is}
 use Rattle.pg_text.proofs.Lexing.{token_takes, token_again}
 use Rattle.pg_text.proofs.Items.{Shrinks, with_front, goes_on, ends, fails}
-use Rattle.pg_text.proofs.Spelling.{begins_shorter, spells_within, IsExact, items_take, items_again}
+use Rattle.pg_text.proofs.Spelling.{begins_shorter, spells_parts, spells_within, IsExact, items_take, items_again}
 
 -- ---- numbers, words, semicolons, the end
 
@@ -110,6 +110,22 @@ pub clause_absent : (name bytes : List ℕ) (token : Lexeme) (mid : List ℕ) �
     → clause_at name bytes ≡ Ok (None, bytes)
 unfolding clause_at
 clause_absent name bytes token mid h b = rw (token_again bytes token mid b) (clause_in_other name bytes token mid h)
+
+-- another token than the word stands there
+pub record Heads (bytes name : List ℕ) : Type 0 where
+  pub token : Lexeme
+  pub mid : List ℕ
+  pub begins : Begins bytes token mid
+  pub other : token ≡ word name → ⊥
+
+-- the clause that may be left out is read where something else follows
+pub clause_again : (name : List ℕ) (n : Option ℕ) (tokens : List Lexeme) (bytes rest : List ℕ)
+    → ((mid : List ℕ) → Spells mid tokens rest → Heads mid name) → Spells bytes (clause_lexemes name n ++ tokens) rest
+    → (mid : List ℕ) × (clause_at name bytes ≡ Ok (n, mid)) × Spells mid tokens rest
+clause_again name None tokens bytes rest heads s = (let h = heads bytes s in (bytes, clause_absent name bytes h.token h.mid h.other h.begins, s))
+clause_again name (Some n) tokens bytes rest heads s =
+    let parts = spells_parts (clause_lexemes name (Some n)) tokens bytes rest s in
+    (parts.0, clause_there name n bytes parts.0 parts.1, parts.2)
 
 -- ---- numbers with commas between
 

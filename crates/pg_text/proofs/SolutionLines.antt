@@ -1,15 +1,15 @@
 -- The lines of a solution text: what is read is spelt, and what is spelt is read.
 use Rattle.pg_text.proofs.Common.{◌≡◌, ℕ, List, [], ◌∷◌, ◌++◌, Option, Some, None, Ok, refl, sym, ap, subst, ◌∙◌, arith, append_assoc}
-use Rattle.pg_text.proofs.Common.{nat_tests, codes, flat_map, AllByRecursion, append-nil, flat_map-cons, flat_map-append, SolutionLine}
+use Rattle.pg_text.proofs.Common.{nat_tests, codes, flat_map, append-nil, flat_map-cons, flat_map-append, SolutionLine}
 use Rattle.pg_text.proofs.Common.{Lexeme, number, semicolon, end, Begins, Spells, clause_lexemes, ◌>>=◌, Step, item, stop, token_at}
 use Rattle.pg_text.proofs.Common.{player_number, semicolon_at, clause_at, owner_at, strategy_lexemes, answer_lexemes, solution_lexemes}
-use Rattle.pg_text.proofs.Common.{BeginsWithLines, AreLines, strategy_in, strategy_at, answer_in, next_answer_at, answers_at, some, none}
+use Rattle.pg_text.proofs.Common.{BeginsWithLines, AreLines, strategy_in, strategy_at, answer_in, next_answer_at, some, none}
 use Rattle.pg_text.specs.Mirrors.SolutionScan.{answer_at}
-use Rattle.pg_text.proofs.Steps.{bind_ok, ok, ok_is}
+use Rattle.pg_text.proofs.Steps.{bind_ok, ok, ok_is, same_ok}
 use Rattle.pg_text.proofs.Lexing.{token_takes, token_again}
 use Rattle.pg_text.proofs.Items.{Shrinks}
-use Rattle.pg_text.proofs.Spelling.{spells_append, spells_parts, begins_shorter, spells_within, IsExact, items_again}
-use Rattle.pg_text.proofs.Parts.{semicolon_takes, semicolon_again, clause_takes, clause_there, clause_absent}
+use Rattle.pg_text.proofs.Spelling.{spells_append, spells_parts, begins_shorter, spells_within}
+use Rattle.pg_text.proofs.Parts.{Heads, semicolon_takes, semicolon_again, clause_takes, clause_again}
 use Rattle.pg_text.proofs.Takes.{owner_takes, owner_again}
 
 -- ---- the end of a line
@@ -94,16 +94,6 @@ pub end_again : (bytes rest : List ℕ) → Begins bytes end rest → next_answe
 unfolding next_answer_at
 end_again bytes rest b = rw (token_again bytes end rest b) refl
 
-abbrev IsAny : SolutionLine → Type 0
-IsAny line = Unit {0}
-
-all_any : (lines : List SolutionLine) → AllByRecursion IsAny lines
-all_any [] = tt
-all_any (line ∷ lines) = (tt, all_any lines)
-
-lines_exact : IsExact next_answer_at answer_lexemes IsAny
-lines_exact = record { takes = λ bytes line rest e. (line_takes bytes line rest e, tt); again = λ bytes line rest any s. line_again bytes line rest s }
-
 pub line_shrinks : Shrinks next_answer_at
 line_shrinks = record {
   shorter = λ bytes line rest e.
@@ -145,26 +135,66 @@ pub lines_end : (bytes : List ℕ) (lines : List SolutionLine) (mid rest : List 
     → next_answer_at mid ≡ Ok (stop tt, rest) → AreLines bytes lines
 lines_end bytes lines mid rest b e = grind (arith, nat_tests, next_takes mid (stop tt, rest) e)
 
--- without a header another token stands in front
-no_header : (lines : List SolutionLine) (bytes rest : List ℕ) → Spells bytes (flat_map answer_lexemes lines) rest
-    → Spells rest (end ∷ []) [] → clause_at (codes "paritysol") bytes ≡ Ok (None, bytes)
-no_header [] bytes rest s ends = subst (λ (b : List ℕ). clause_at (codes "paritysol") b ≡ Ok (None, b)) (sym s)
-    (clause_absent (codes "paritysol") rest end ends.0 (λ e. cc) ends.1)
-no_header (line ∷ lines) bytes rest s ends = clause_absent (codes "paritysol") bytes (number line.identifier) s.0 (λ e. cc) s.1
+-- ---- lines up to the end of the text
 
-header_again : (header : Option ℕ) (lines : List SolutionLine) (bytes rest : List ℕ) → Spells bytes (solution_lexemes header lines) rest
-    → Spells rest (end ∷ []) []
-    → (mid : List ℕ) × (read : Option ℕ) × (clause_at (codes "paritysol") bytes ≡ Ok (read, mid)) × Spells mid (flat_map answer_lexemes lines) rest
-header_again None lines bytes rest s ends = (bytes, None, no_header lines bytes rest s ends, s)
-header_again (Some n) lines bytes rest s ends =
-    let parts = spells_parts (clause_lexemes (codes "paritysol") (Some n)) (flat_map answer_lexemes lines) bytes rest s in
-    (parts.0, Some n, clause_there (codes "paritysol") n bytes parts.0 parts.1, parts.2)
+abbrev pub AreRest : List ℕ → List SolutionLine → Type 0
+AreRest bytes lines = Spells bytes (flat_map answer_lexemes lines ++ end ∷ []) []
 
-pub answers_again : (bytes : List ℕ) (lines : List SolutionLine) → AreLines bytes lines → answers_at bytes ≡ Ok lines
-unfolding answers_at
-answers_again bytes lines text =
-    let header = header_again text.begins.header lines bytes text.rest text.begins.spelt text.ends in
-    let closed : Begins text.rest end [] = subst (λ (r : List ℕ). Begins text.rest end r) text.ends.2 text.ends.1 in
-    let all = items_again next_answer_at answer_lexemes IsAny lines_exact line_shrinks lines header.0 text.rest tt []
-    (all_any lines) header.3 (end_again text.rest [] closed) in
-    rw (header.2, all) refl
+-- the first of them is read, and the others stand behind it
+pub rest_parts : (bytes : List ℕ) (line : SolutionLine) (lines : List SolutionLine) → AreRest bytes (line ∷ lines)
+    → (mid : List ℕ) × (next_answer_at bytes ≡ Ok (item line, mid)) × AreRest mid lines
+rest_parts bytes line lines s =
+    let parts = spells_parts (answer_lexemes line) (flat_map answer_lexemes lines ++ end ∷ []) bytes []
+    (subst (λ (tokens : List Lexeme). Spells bytes tokens []) (append_assoc (answer_lexemes line) (flat_map answer_lexemes lines) (end ∷ [])) s) in
+    (parts.0, line_again bytes line parts.0 parts.1, parts.2)
+
+item_is : (x y : SolutionLine) → ◌≡◌ {A = Step SolutionLine (Unit {0})} (item x) (item y) → x ≡ y
+item_is x y e = cc
+
+no_item : (x : SolutionLine) → ◌≡◌ {A = Step SolutionLine (Unit {0})} (stop tt) (item x) → ⊥
+no_item x e = absurd cc
+
+pub same_step : (bytes : List ℕ) (x : SolutionLine) (p : List ℕ) (y : SolutionLine) (q : List ℕ) → next_answer_at bytes ≡ Ok (item x, p)
+    → next_answer_at bytes ≡ Ok (item y, q) → (x ≡ y) × (p ≡ q)
+same_step bytes x p y q first second =
+    let same = same_ok (next_answer_at bytes) (item x, p) (item y, q) first second in
+    (item_is x y (ap (λ (s : LineStep). s.0) same), ap (λ (s : LineStep). s.1) same)
+
+pub no_line_at_end : (bytes : List ℕ) (line : SolutionLine) (rest : List ℕ) → Spells bytes (end ∷ []) [] → next_answer_at bytes ≡ Ok (item line, rest) → ⊥
+no_line_at_end bytes line rest s e =
+    no_item line (ap (λ (s : LineStep). s.0) (same_ok (next_answer_at bytes) (stop tt, s.0) (item line, rest) (end_again bytes s.0 s.1) e))
+
+same_rest : (bytes : List ℕ) (a b : List SolutionLine) → AreRest bytes a → AreRest bytes b → a ≡ b
+same_rest bytes [] [] s t = refl
+same_rest bytes [] (y ∷ b) s t = absurd (let q = rest_parts bytes y b t in no_line_at_end bytes y q.0 s q.1)
+same_rest bytes (x ∷ a) [] s t = absurd (let p = rest_parts bytes x a s in no_line_at_end bytes x p.0 t p.1)
+same_rest bytes (x ∷ a) (y ∷ b) s t =
+    let p = rest_parts bytes x a s in
+    let q = rest_parts bytes y b t in
+    let same = same_step bytes x p.0 y q.0 p.1 q.1 in
+    let others : a ≡ b = same_rest p.0 a b p.2 (subst (λ (r : List ℕ). AreRest r b) (sym same.1) q.2) in
+    rw (same.0, others) refl
+
+heads : (lines : List SolutionLine) (bytes : List ℕ) → AreRest bytes lines → Heads bytes (codes "paritysol")
+heads [] bytes s = record { token = end; mid = s.0; begins = s.1; other = λ e. cc }
+heads (line ∷ lines) bytes s = record { token = number line.identifier; mid = s.0; begins = s.1; other = λ e. cc }
+
+-- the header of a text is read, and its lines stand behind it
+pub header_again : (bytes : List ℕ) (lines : List SolutionLine) → (text : AreLines bytes lines)
+    → (start : List ℕ) × (clause_at (codes "paritysol") bytes ≡ Ok (text.begins.header, start)) × AreRest start lines
+header_again bytes lines text =
+    clause_again (codes "paritysol") text.begins.header (flat_map answer_lexemes lines ++ end ∷ []) bytes [] (heads lines)
+    (subst (λ (tokens : List Lexeme). Spells bytes tokens [])
+    (append_assoc (clause_lexemes (codes "paritysol") text.begins.header) (flat_map answer_lexemes lines) (end ∷ []))
+    (spells_append (solution_lexemes text.begins.header lines) (end ∷ []) bytes text.rest [] text.begins.spelt text.ends))
+
+pub behind_header : (bytes : List ℕ) (header : Option ℕ) (start : List ℕ) (lines : List SolutionLine)
+    → clause_at (codes "paritysol") bytes ≡ Ok (header, start) → AreLines bytes lines → AreRest start lines
+behind_header bytes header start lines read text =
+    let h = header_again bytes lines text in
+    let same = same_ok (clause_at (codes "paritysol") bytes) (text.begins.header, h.0) (header, start) h.1 read in
+    subst (λ (b : List ℕ). AreRest b lines) (ap (λ (p : Option ℕ × List ℕ). p.1) same) h.2
+
+-- a text has one list of lines
+pub same_lines : (bytes : List ℕ) (a b : List SolutionLine) → AreLines bytes a → AreLines bytes b → a ≡ b
+same_lines bytes a b s t = (let h = header_again bytes a s in same_rest h.0 a b h.2 (behind_header bytes s.begins.header h.0 b h.1 t))

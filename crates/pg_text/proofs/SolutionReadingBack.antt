@@ -7,11 +7,10 @@ use Rattle.pg_text.proofs.Common.{nowhere, identifier, owner, Answer, SolutionLi
 use Rattle.pg_text.proofs.Common.{is_digit, Each, Stops, player_number, unanswered, answer_at, winner, choice, IsSolution, strategy_lexemes}
 use Rattle.pg_text.proofs.Common.{answer_lexemes, owns, is_same, line_count, Says, AreLines, IsSolutionText, printed_answer}
 use Rattle.pg_text.proofs.Common.{printed_answers, printed_line, printed_lines, strategy_text, answer_text, solution_text, none}
-use Rattle.pg_text.proofs.Steps.{ok_is}
 use Rattle.pg_text.proofs.Spelling.{spells_append}
 use Rattle.pg_text.proofs.Spelt.{number_begins}
 use Rattle.pg_text.proofs.Answering.{same_vertex}
-use Rattle.pg_text.proofs.SolutionLines.{answers_again}
+use Rattle.pg_text.proofs.SolutionLines.{same_lines}
 use Rattle.pg_text.proofs.Marking.{names, IsSaid, is_same_itself, count_cons, said_edge, same_solution}
 use Rattle.pg_text.proofs.SolutionPrinting.{told_within}
 
@@ -197,7 +196,7 @@ spells_told game solution well small whole = record {
 pub spells_one : (bytes : List ℕ) (game : List GameVertex) (solution other : List Answer) → IsGame game → IsSolutionText bytes game solution
     → IsSolutionText bytes game other → other ≡ solution
 spells_one bytes game solution other well t u =
-    let same : t.lines ≡ u.lines = ok_is t.lines u.lines (sym (answers_again bytes t.lines t.text) ∙ answers_again bytes u.lines u.text) in
+    let same : t.lines ≡ u.lines = same_lines bytes t.lines u.lines t.text u.text in
     same_solution game u.lines other solution well u.whole.whole t.whole.whole u.said
     (subst (AllByRecursion (IsSaid game solution)) same t.said) u.one_each
     (λ line v w says is. said_edge game other line v w u.whole says is)

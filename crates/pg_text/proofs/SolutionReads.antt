@@ -1,73 +1,60 @@
 -- A solution text read line by line.
 use Rattle.pg_text.proofs.Common.{◌≡◌, ℕ, ◌-◌, ◌<◌, Bool, true, false, cond, eqb, List, [], ◌∷◌, ◌++◌, length, Option, None, Ok, Err, refl}
-use Rattle.pg_text.proofs.Common.{sym, ap, subst, ◌∙◌, arith, inl, inr, append_assoc, nat_tests, codes, replicate, list_any, flat_map}
-use Rattle.pg_text.proofs.Common.{AllByRecursion, append-nil, flat_map-append, GameVertex, identifier, IsGame, Answer, SolutionLine, Misfit}
+use Rattle.pg_text.proofs.Common.{sym, ap, subst, ◌∙◌, arith, inl, inr, append_assoc, nat_tests, codes, replicate, list_any}
+use Rattle.pg_text.proofs.Common.{AllByRecursion, GameVertex, identifier, IsGame, Answer, SolutionLine, Misfit}
 use Rattle.pg_text.proofs.Common.{NotOfGame, Repeated, TokenFault, TextFault, token_fault_of, Lexeme, number, word, end, Begins, Spells}
-use Rattle.pg_text.proofs.Common.{after_space, ◌>>=◌, Read, Step, item, stop, items_at, clause_at, unanswered, answer_lexemes}
+use Rattle.pg_text.proofs.Common.{after_space, item, stop, clause_at, unanswered, answer_lexemes}
 use Rattle.pg_text.proofs.Common.{BeginsWithLines, AreLines, Fits, line_count, answers, IsSolutionText, SpellsNoSolution, has_line}
-use Rattle.pg_text.proofs.Common.{StartsLine, BeginsUnfit, IsFirstMissing, next_answer_at, answers_at, Puts, State, IsMarked, IsUnmarked}
+use Rattle.pg_text.proofs.Common.{StartsLine, BeginsUnfit, IsFirstMissing, next_answer_at, Puts, State, IsMarked, IsUnmarked}
 use Rattle.pg_text.proofs.Common.{IsMisfit, BeginsMisfit, BeginsWell, HasRead, IsRefused, is_complete, misfit_fault}
 use Rattle.pg_text.specs.declared.tokens.TokenFault.TheVariants as tokens
 use Rattle.pg_text.specs.declared.fault.TextFault.TheVariants as text
 use Rattle.pg_text.specs.SolutionText.{IsNoText}
-use Rattle.pg_text.proofs.Steps.{bind_ok, ok, ok_is, err_is_ok}
-use Rattle.pg_text.proofs.Items.{with_front, nothing_yet, goes_on, items_err}
+use Rattle.pg_text.proofs.Steps.{err_is_ok}
 use Rattle.pg_text.proofs.Parts.{clause_absent}
-use Rattle.pg_text.proofs.Spelling.{spells_append}
 use Rattle.pg_text.proofs.Misfits.{same_token, starts_with, unfit_front, front_starts, line_front}
-use Rattle.pg_text.proofs.SolutionLines.{line_takes, line_again, end_takes, end_again, line_shrinks, header_takes, begins_more, lines_end, answers_again}
+use Rattle.pg_text.proofs.SolutionLines.{AreRest, rest_parts, same_step, no_line_at_end, line_takes, line_again, end_again, header_takes, header_again, behind_header, begins_more, lines_end, same_lines}
 use Rattle.pg_text.proofs.Marking.{all_at, nothing_read, reads_more, named_if, answered_is, all_answered, text_fits, read_fits, read_taken}
 use Rattle.pg_text.proofs.Marking.{no_line, one_too_many, reads_same, reads_text}
 
--- these lines were read, and the rest follows
+-- these lines were read, and those that a text of the bytes has behind them stand in the rest
 pub record Reading (bytes : List ℕ) (game : List GameVertex) (solution : List Answer) (seen : List Bool) (rest : List ℕ) : Type 0 where
-  pub start : List ℕ
   pub front : List SolutionLine
-  pub header : Option ℕ
-  pub header_read : clause_at (codes "paritysol") bytes ≡ Ok (header, start)
-  pub so_far : with_front front (items_at next_answer_at rest) ≡ items_at next_answer_at start
-  pub spelt : Spells start (flat_map answer_lexemes front) rest
   pub begins : BeginsWithLines bytes front rest
+  pub later : (lines : List SolutionLine) → AreLines bytes lines → (others : List SolutionLine) × (lines ≡ front ++ others) × AreRest rest others
   pub state : State game front solution seen
 
 pub starts : (bytes : List ℕ) (game : List GameVertex) (solution : List Answer) (seen : List Bool) (header : Option ℕ) (start : List ℕ)
     → clause_at (codes "paritysol") bytes ≡ Ok (header, start)
     → solution ≡ replicate (length game) unanswered → seen ≡ replicate (length game) false → Reading bytes game solution seen start
 starts bytes game solution seen header start read s m = record {
-  start = start;
   front = [];
-  header = header;
-  header_read = read;
-  so_far = nothing_yet (items_at next_answer_at start);
-  spelt = refl;
   begins = header_takes bytes header start read;
+  later = λ lines text. (lines, refl, behind_header bytes header start lines read text);
   state = rw (s, m) (nothing_read game);
 }
 
--- one line more behind others
-lines_more : (start : List ℕ) (front : List SolutionLine) (rest : List ℕ) (line : SolutionLine) (after : List ℕ)
-    → Spells start (flat_map answer_lexemes front) rest → Spells rest (answer_lexemes line) after
-    → Spells start (flat_map answer_lexemes (front ++ line ∷ [])) after
-lines_more start front rest line after s t = grind (
-  arith,
-  nat_tests,
-  flat_map-append answer_lexemes front (line ∷ []),
-  append-nil (answer_lexemes line),
-  spells_append (flat_map answer_lexemes front) (answer_lexemes line) start rest after s t,
-)
+-- what stands behind one line more
+one_later : (lines front others : List SolutionLine) (rest : List ℕ) (line : SolutionLine) (after : List ℕ)
+    → next_answer_at rest ≡ Ok (item line, after) → lines ≡ front ++ others → AreRest rest others
+    → (later : List SolutionLine) × (lines ≡ (front ++ line ∷ []) ++ later) × AreRest after later
+one_later lines front [] rest line after e is s = absurd (no_line_at_end rest line after s e)
+one_later lines front (y ∷ others) rest line after e is s =
+    let p = rest_parts rest y others s in
+    let same = same_step rest y p.0 line after p.1 e in (
+      others,
+      is ∙ ap (λ (l : SolutionLine). front ++ l ∷ others) same.0 ∙ sym (append_assoc front (line ∷ []) others),
+      subst (λ (b : List ℕ). AreRest b others) same.1 p.2,
+    )
 
 pub goes : (bytes : List ℕ) (game : List GameVertex) (solution : List Answer) (seen : List Bool) (rest : List ℕ) (line : SolutionLine)
     (after : List ℕ) (solution' : List Answer) (seen' : List Bool)
     → IsGame game → Reading bytes game solution seen rest → next_answer_at rest ≡ Ok (item line, after)
     → Puts game line solution seen solution' seen' → Reading bytes game solution' seen' after
 goes bytes game solution seen rest line after solution' seen' well r e p = record {
-  start = r.start;
   front = r.front ++ line ∷ [];
-  header = r.header;
-  header_read = r.header_read;
-  so_far = goes_on next_answer_at line_shrinks r.front rest line after (items_at next_answer_at r.start) e r.so_far;
-  spelt = lines_more r.start r.front rest line after r.spelt (line_takes rest line after e);
   begins = begins_more bytes r.front rest line after r.begins (line_takes rest line after e);
+  later = λ lines text. (let l = r.later lines text in one_later lines r.front l.0 rest line after e l.1 l.2);
   state = reads_more game r.front line solution seen solution' seen' well r.state p;
 }
 
@@ -83,26 +70,23 @@ unnamed game lines n solution seen s unmarked = no_line game lines n (read_fits 
 
 -- ---- no text
 
-nothing_spelt : (bytes : List ℕ) (game : List GameVertex) (fault : TokenFault) → answers_at bytes ≡ Err fault → SpellsNoSolution bytes game
-nothing_spelt bytes game fault h = λ solution t. err_is_ok fault t.lines (sym h ∙ answers_again bytes t.lines t.text)
-
 refused : (bytes : List ℕ) (game : List GameVertex) (fault : TokenFault) → SpellsNoSolution bytes game → IsNoText bytes game
     → IsRefused bytes game (token_fault_of (length bytes) fault)
 refused bytes game (tokens.Syntax left) none no_text = (none, inr no_text)
 refused bytes game (tokens.NumberTooLarge left) none no_text = (none, no_text)
-
-no_lines : (bytes : List ℕ) (fault : TokenFault) → clause_at (codes "paritysol") bytes ≡ Err fault → answers_at bytes ≡ Err fault
-unfolding answers_at
-no_lines bytes fault e = rw e refl
 
 -- where the header can't be read no token stands
 no_header : (bytes : List ℕ) (fault : TokenFault) (token : Lexeme) (rest : List ℕ) → (token ≡ word (codes "paritysol") → ⊥)
     → clause_at (codes "paritysol") bytes ≡ Err fault → ¬ Begins bytes token rest
 no_header bytes fault token rest other e b = err_is_ok fault _ (sym e ∙ clause_absent (codes "paritysol") bytes token rest other b)
 
+no_header_spelt : (bytes : List ℕ) (game : List GameVertex) (fault : TokenFault) → clause_at (codes "paritysol") bytes ≡ Err fault
+    → SpellsNoSolution bytes game
+no_header_spelt bytes game fault e = λ solution t. (let h = header_again bytes t.lines t.text in err_is_ok fault _ (sym e ∙ h.1))
+
 pub fails_header : (bytes : List ℕ) (game : List GameVertex) (fault : TokenFault) → clause_at (codes "paritysol") bytes ≡ Err fault
     → IsRefused bytes game (token_fault_of (length bytes) fault)
-fails_header bytes game fault e = refused bytes game fault (nothing_spelt bytes game fault (no_lines bytes fault e)) (record {
+fails_header bytes game fault e = refused bytes game fault (no_header_spelt bytes game fault e) (record {
   before = [];
   here = bytes;
   begins = record { header = None; spelt = refl };
@@ -113,21 +97,15 @@ fails_header bytes game fault e = refused bytes game fault (nothing_spelt bytes 
   no_unfit = λ n b. let l = front_starts game bytes n b in no_header bytes fault (number n) l.stands.0 (λ e. cc) e l.stands.1;
 })
 
-no_items : (bytes : List ℕ) (header : Option ℕ) (start : List ℕ) (fault : TokenFault)
-    → clause_at (codes "paritysol") bytes ≡ Ok (header, start) → items_at next_answer_at start ≡ Err fault → answers_at bytes ≡ Err fault
-unfolding answers_at
-no_items bytes header start fault e h = rw (e, h) refl
-
-unread : (bytes : List ℕ) (game : List GameVertex) (solution : List Answer) (seen : List Bool) (rest : List ℕ) (fault : TokenFault)
-    → Reading bytes game solution seen rest → next_answer_at rest ≡ Err fault → answers_at bytes ≡ Err fault
-unread bytes game solution seen rest fault r e = no_items bytes r.header r.start fault r.header_read (sym r.so_far
-    ∙ ap (with_front r.front) (items_err next_answer_at rest fault e))
+unread : (rest : List ℕ) (fault : TokenFault) (others : List SolutionLine) → next_answer_at rest ≡ Err fault → ¬ AreRest rest others
+unread rest fault [] e s = err_is_ok fault _ (sym e ∙ end_again rest s.0 s.1)
+unread rest fault (line ∷ others) e s = (let p = rest_parts rest line others s in err_is_ok fault _ (sym e ∙ p.1))
 
 pub fails_line : (bytes : List ℕ) (game : List GameVertex) (solution : List Answer) (seen : List Bool) (rest : List ℕ) (fault : TokenFault)
     → Reading bytes game solution seen rest → next_answer_at rest ≡ Err fault → BeginsWell game seen rest
     → IsRefused bytes game (token_fault_of (length bytes) fault)
 fails_line bytes game solution seen rest fault r e well =
-    refused bytes game fault (nothing_spelt bytes game fault (unread bytes game solution seen rest fault r e)) (record {
+    refused bytes game fault (λ other t. (let l = r.later t.lines t.text in unread rest fault l.0 e l.2)) (record {
       before = r.front;
       here = rest;
       begins = r.begins;
@@ -140,64 +118,30 @@ fails_line bytes game solution seen rest fault r e well =
 
 -- ---- a line that doesn't fit
 
-abbrev Lines : Type 0
-Lines = List SolutionLine × Unit {0} × List ℕ
-
--- the lines of a text that begins so
-text_lines : (bytes : List ℕ) (game : List GameVertex) (solution : List Answer) (seen : List Bool) (rest : List ℕ) (line : SolutionLine)
-    (after : List ℕ) (lines : List SolutionLine)
-    → (r : Reading bytes game solution seen rest) → next_answer_at rest ≡ Ok (item line, after) → AreLines bytes lines
-    → (later : List SolutionLine) × (lines ≡ r.front ++ line ∷ later)
-unfolding answers_at
-text_lines bytes game solution seen rest line after lines r e spelt =
-    let total : with_front (r.front ++ line ∷ []) (items_at next_answer_at after) ≡ items_at next_answer_at r.start =
-    goes_on next_answer_at line_shrinks r.front rest line after (items_at next_answer_at r.start) e r.so_far in
-    let a = bind_ok (clause_at (codes "paritysol") bytes) (λ header. items_at next_answer_at header.1 >>= λ x. ok x.0) lines
-    (answers_again bytes lines spelt) in
-    let start : a.0.1 ≡ r.start = ap (λ (p : Option ℕ × List ℕ). p.1) (ok_is a.0 (r.header, r.start) (sym a.1 ∙ r.header_read)) in
-    let b = bind_ok (items_at next_answer_at a.0.1) (λ x. ok x.0) lines a.2 in
-    let g = bind_ok (items_at next_answer_at after) (λ x. ok ((r.front ++ line ∷ []) ++ x.0, x.1, x.2)) b.0
-    (total ∙ ap (items_at next_answer_at) (sym start) ∙ b.1) in
-    let whole : lines ≡ r.front ++ line ∷ g.0.0 =
-    sym (ok_is b.0.0 lines b.2) ∙ sym (ap (λ (p : Lines). p.0) (ok_is ((r.front ++ line ∷ []) ++ g.0.0, g.0.1, g.0.2) b.0 g.2))
-    ∙ append_assoc r.front (line ∷ []) g.0.0 in
-    (g.0.0, whole)
-
--- what begins with a number is a line, in a text
-record LineThere (rest : List ℕ) : Type 0 where
-  line : SolutionLine
-  after : List ℕ
-  read : next_answer_at rest ≡ Ok (item line, after)
-
-line_there : (bytes : List ℕ) (game : List GameVertex) (solution : List Answer) (seen : List Bool) (rest : List ℕ) (n : ℕ) (lines : List SolutionLine)
-    → Reading bytes game solution seen rest → StartsLine rest n → AreLines bytes lines → LineThere rest
-line_there bytes game solution seen rest n lines r s spelt = there (next_answer_at rest) refl
-  where
-    there : (o : Read (Step SolutionLine (Unit {0}) × List ℕ)) → next_answer_at rest ≡ o → LineThere rest
-    there (Err fault) e = absurd (err_is_ok fault lines (sym (unread bytes game solution seen rest fault r e) ∙ answers_again bytes lines spelt))
-    there (Ok (item line, after)) e = record { line = line; after = after; read = e }
-    there (Ok (stop t, after)) e = absurd
-        (let same : end ≡ number n = (same_token rest end (number n) after s.stands.0 (end_takes rest t after e) s.stands.1).0 in cc)
+-- where a number stands in a text it begins a line
+first_line : (rest : List ℕ) (n : ℕ) (others : List SolutionLine) → StartsLine rest n → AreRest rest others
+    → (line : SolutionLine) × (later : List SolutionLine) × (after : List ℕ) × (others ≡ line ∷ later) × Spells rest (answer_lexemes line) after
+first_line rest n [] s a = absurd (let same : end ≡ number n = (same_token rest end (number n) a.0 s.stands.0 a.1 s.stands.1).0 in cc)
+first_line rest n (line ∷ later) s a = (let p = rest_parts rest line later a in (line, later, p.0, refl, line_takes rest line p.0 p.1))
 
 -- a line of a text fits
 unfit_spoils : (bytes : List ℕ) (game : List GameVertex) (solution : List Answer) (seen : List Bool) (rest : List ℕ) (n : ℕ)
     → IsGame game → Reading bytes game solution seen rest → BeginsUnfit game rest n → SpellsNoSolution bytes game
 unfit_spoils bytes game solution seen rest n well r misfit = λ other t.
-    let there = line_there bytes game solution seen rest n t.lines r (front_starts game rest n misfit) t.text in
-    let l = text_lines bytes game solution seen rest there.line there.after t.lines r there.read t.text in
-    unfit_front game rest n there.line there.after well misfit (line_takes rest there.line there.after there.read)
-    (all_at (Fits game) r.front there.line l.0 (subst (AllByRecursion (Fits game)) l.1 (text_fits bytes game other t)))
+    let l = r.later t.lines t.text in
+    let f = first_line rest n l.0 (front_starts game rest n misfit) l.2 in
+    unfit_front game rest n f.0 f.2 well misfit f.4
+    (all_at (Fits game) r.front f.0 f.1 (subst (AllByRecursion (Fits game)) (l.1 ∙ ap (λ (x : List SolutionLine). r.front ++ x) f.3) (text_fits bytes game other t)))
 
 -- no two lines of a text name one vertex
 second_spoils : (bytes : List ℕ) (game : List GameVertex) (solution : List Answer) (seen : List Bool) (rest : List ℕ) (n : ℕ)
     → Reading bytes game solution seen rest → StartsLine rest n → IsMarked game n seen → SpellsNoSolution bytes game
 second_spoils bytes game solution seen rest n r s m = λ other t.
-    let there = line_there bytes game solution seen rest n t.lines r s t.text in
-    let l = text_lines bytes game solution seen rest there.line there.after t.lines r there.read t.text in
-    let named : there.line.identifier ≡ identifier game m.v = starts_with rest n (s.token ∷ []) s.rest there.line there.after s.stands
-    (line_takes rest there.line there.after there.read) ∙ m.named in
-    one_too_many game r.front there.line l.0 m.v named (r.state.counted m.v m.within ∙ ap (λ (b : Bool). cond b 1 0) m.marked)
-    (subst (λ (lines : List SolutionLine). line_count game lines m.v ≡ 1) l.1 (t.one_each m.v m.within))
+    let l = r.later t.lines t.text in
+    let f = first_line rest n l.0 s l.2 in
+    let named : f.0.identifier ≡ identifier game m.v = starts_with rest n (s.token ∷ []) s.rest f.0 f.2 s.stands f.4 ∙ m.named in
+    one_too_many game r.front f.0 f.1 m.v named (r.state.counted m.v m.within ∙ ap (λ (b : Bool). cond b 1 0) m.marked)
+    (subst (λ (lines : List SolutionLine). line_count game lines m.v ≡ 1) (l.1 ∙ ap (λ (x : List SolutionLine). r.front ++ x) f.3) (t.one_each m.v m.within))
 
 pub fails_front : (bytes : List ℕ) (game : List GameVertex) (solution : List Answer) (seen : List Bool) (rest : List ℕ) (n : ℕ) (misfit : Misfit)
     → IsGame game → Reading bytes game solution seen rest → BeginsMisfit game seen rest n misfit
@@ -241,7 +185,7 @@ found bytes game solution seen h complete = reads_text bytes game h.lines soluti
 pub found_only : (bytes : List ℕ) (game : List GameVertex) (solution : List Answer) (seen : List Bool) (spelt : List Answer) → IsGame game
     → HasRead bytes game solution seen → IsSolutionText bytes game spelt → solution ≡ spelt
 found_only bytes game solution seen spelt well h t =
-    let same : h.lines ≡ t.lines = ok_is h.lines t.lines (sym (answers_again bytes h.lines h.text) ∙ answers_again bytes t.lines t.text) in
+    let same : h.lines ≡ t.lines = same_lines bytes h.lines t.lines h.text t.text in
     reads_same bytes game solution seen spelt well t (subst (λ (lines : List SolutionLine). State game lines solution seen) same h.state)
 
 pub missing : (bytes : List ℕ) (game : List GameVertex) (solution : List Answer) (seen : List Bool) (v : ℕ) → IsGame game
@@ -250,7 +194,7 @@ pub missing : (bytes : List ℕ) (game : List GameVertex) (solution : List Answe
 missing bytes game solution seen v well h within lacks first =
     let unanswered : list_any (answers game v) h.lines ≡ false = answered_is game h.lines solution seen v well within h.state ∙ lacks in (
       λ other t.
-          let same : h.lines ≡ t.lines = ok_is h.lines t.lines (sym (answers_again bytes h.lines h.text) ∙ answers_again bytes t.lines t.text) in
+          let same : h.lines ≡ t.lines = same_lines bytes h.lines t.lines h.text t.text in
           let yet : list_any (answers game v) h.lines ≡ true = ap (λ (lines : List SolutionLine). list_any (answers game v) lines) same
           ∙ all_answered bytes game other v well within t in
           absurd (differ (list_any (answers game v) h.lines) yet unanswered),

@@ -1,18 +1,13 @@
 -- The two laws of a whole text: the lines that are read are those of the text, and the lines of a text are read.
 use Rattle.pg_text.proofs.Common.{◌≡◌, ℕ, List, [], ◌∷◌, ◌++◌, Option, Some, None, Ok, codes, refl, subst, flat_map, Line, Lexeme, number}
-use Rattle.pg_text.proofs.Common.{word, end, Begins, Spells, clause_lexemes, line_lexemes, game_lexemes, IsText, ◌>>=◌, items_at, clause_at}
+use Rattle.pg_text.proofs.Common.{word, end, Begins, Spells, clause_lexemes, line_lexemes, IsText, ◌>>=◌, items_at, clause_at}
 use Rattle.pg_text.proofs.Common.{item_at, body_at, lines_at}
 use Rattle.pg_text.proofs.Steps.{bind_ok, ok, ok_is}
 use Rattle.pg_text.proofs.Spelling.{spells_append, spells_parts, items_take, items_again}
-use Rattle.pg_text.proofs.Parts.{clause_takes, clause_there, clause_absent}
+use Rattle.pg_text.proofs.Parts.{Heads, clause_takes, clause_again}
 use Rattle.pg_text.proofs.Takes.{HasSuccessors, item_exact, item_shrinks, end_takes, end_again}
 
--- the first token of what stands behind the header
-record Heads (bytes name : List ℕ) : Type 0 where
-  token : Lexeme
-  mid : List ℕ
-  begins : Begins bytes token mid
-  other : token ≡ word name → ⊥
+-- ---- the first token of what stands behind the header
 
 lines_head : (name : List ℕ) (lines : List Line) (bytes rest : List ℕ) → Spells bytes (flat_map line_lexemes lines ++ end ∷ []) rest → Heads bytes name
 lines_head name [] bytes rest s = record { token = end; mid = s.0; begins = s.1; other = λ e. cc }
@@ -22,25 +17,6 @@ start_head : (start : Option ℕ) (lines : List Line) (bytes rest : List ℕ)
     → Spells bytes (clause_lexemes (codes "start") start ++ (flat_map line_lexemes lines ++ end ∷ [])) rest → Heads bytes (codes "parity")
 start_head None lines bytes rest s = lines_head (codes "parity") lines bytes rest s
 start_head (Some n) lines bytes rest s = record { token = word (codes "start"); mid = s.0; begins = s.1; other = λ e. cc }
-
-start_again : (start : Option ℕ) (lines : List Line) (bytes : List ℕ)
-    → Spells bytes (clause_lexemes (codes "start") start ++ (flat_map line_lexemes lines ++ end ∷ [])) []
-    → (mid : List ℕ) × (read : Option ℕ) × (clause_at (codes "start") bytes ≡ Ok (read, mid)) × Spells mid (flat_map line_lexemes lines ++ end ∷ []) []
-start_again None lines bytes s = let head = lines_head (codes "start") lines bytes [] s in
-    (bytes, None, clause_absent (codes "start") bytes (head.token) (head.mid) (head.other) (head.begins), s)
-start_again (Some n) lines bytes s =
-    let parts = spells_parts (clause_lexemes (codes "start") (Some n)) (flat_map line_lexemes lines ++ end ∷ []) bytes [] s in
-    (parts.0, Some n, clause_there (codes "start") n bytes (parts.0) (parts.1), parts.2)
-
-header_again : (header start : Option ℕ) (lines : List Line) (bytes : List ℕ) → Spells bytes (game_lexemes header start lines (end ∷ [])) []
-    → (mid : List ℕ) × (read : Option ℕ) × (clause_at (codes "parity") bytes ≡ Ok (read, mid)) × Spells mid
-    (clause_lexemes (codes "start") start ++ (flat_map line_lexemes lines ++ end ∷ [])) []
-header_again None start lines bytes s = let head = start_head start lines bytes [] s in
-    (bytes, None, clause_absent (codes "parity") bytes (head.token) (head.mid) (head.other) (head.begins), s)
-header_again (Some n) start lines bytes s =
-    let parts = spells_parts (clause_lexemes (codes "parity") (Some n))
-    (clause_lexemes (codes "start") start ++ (flat_map line_lexemes lines ++ end ∷ [])) bytes [] s in
-    (parts.0, Some n, clause_there (codes "parity") n bytes (parts.0) (parts.1), parts.2)
 
 -- ---- the whole
 
@@ -83,10 +59,11 @@ lines_take bytes lines e =
 pub lines_again : (bytes : List ℕ) (lines : List Line) → IsText bytes lines → lines_at bytes ≡ Ok lines
 unfolding lines_at body_at
 lines_again bytes lines text =
-    let header = header_again text.header text.start lines bytes text.spelt in
-    let start = start_again text.start lines header.0 header.3 in
-    let parts = spells_parts (flat_map line_lexemes lines) (end ∷ []) start.0 [] start.3 in
+    let header = clause_again (codes "parity") text.header (clause_lexemes (codes "start") text.start ++ (flat_map line_lexemes lines ++ end ∷ [])) bytes []
+    (λ mid s. start_head text.start lines mid [] s) text.spelt in
+    let start = clause_again (codes "start") text.start (flat_map line_lexemes lines ++ end ∷ []) header.0 [] (λ mid s. lines_head (codes "start") lines mid [] s) header.2 in
+    let parts = spells_parts (flat_map line_lexemes lines) (end ∷ []) start.0 [] start.2 in
     let closed : Begins parts.0 end [] = subst (λ (r : List ℕ). Begins parts.0 end r) parts.2.2 parts.2.1 in
     let all = items_again item_at line_lexemes HasSuccessors item_exact item_shrinks lines start.0 parts.0 tt [] text.successors parts.1
     (end_again parts.0 [] closed) in
-    rw (header.2, start.2, all) refl
+    rw (header.1, start.1, all) refl

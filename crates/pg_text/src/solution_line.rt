@@ -2,7 +2,7 @@
 
 ghost use Rattle.std.specs.Prelude.{◌≡◌};
 ghost use Rattle.pg_text.specs.Mirrors.Steps.{Reads};
-ghost use Rattle.pg_text.specs.Mirrors.SolutionScan.{answer_seen, strategy_at, answer_at, next_answer_at};
+ghost use Rattle.pg_text.specs.Mirrors.SolutionScan.{answer_seen, strategy_at, next_answer_at};
 
 use crate::line::player;
 use crate::reading::{semicolon, unexpected};
@@ -30,28 +30,20 @@ fn strategy(bytes: &[u8]) -> Result<(Option<u32>, &[u8]), TokenFault>
     }
 }
 
-#[tactic(auto, unfolding(crate::specs::Mirrors::SolutionScan::answer_at))]
-fn answer(identifier: u32, bytes: &[u8]) -> Result<(SolutionLine, &[u8]), TokenFault>
-    ensures { Reads (λ x. (x.0, x.1.now)) result (answer_at identifier bytes.now) }
-{
-    let (winner, rest) = player(bytes)?;
-    let (strategy, rest) = strategy(rest)?;
-    let line = SolutionLine {
-        identifier,
-        winner,
-        strategy,
-    };
-    Ok((line, rest))
-}
-
 /// A line, or nothing at the end of the text.
-#[tactic(auto, unfolding(crate::specs::Mirrors::SolutionScan::next_answer_at))]
+#[tactic(auto, unfolding(crate::specs::Mirrors::SolutionScan::next_answer_at, crate::specs::Mirrors::SolutionScan::answer_at))]
 pub(crate) fn next_answer(bytes: &[u8]) -> Result<(Option<SolutionLine>, &[u8]), TokenFault>
     ensures { Reads (λ x. (answer_seen x.0, x.1.now)) result (next_answer_at bytes.now) }
 {
     match scan(bytes)? {
         (Token::Number(identifier), rest) => {
-            let (line, rest) = answer(identifier, rest)?;
+            let (winner, rest) = player(rest)?;
+            let (strategy, rest) = strategy(rest)?;
+            let line = SolutionLine {
+                identifier,
+                winner,
+                strategy,
+            };
             Ok((Some(line), rest))
         }
         (Token::End, rest) => Ok((None, rest)),

@@ -50,7 +50,7 @@ pub use Rattle.pg_text.proofs.Lexing.{token_again}
 pub use Rattle.pg_text.proofs.Parts.{clause_takes, clause_there, end_again, end_takes, name_again, name_takes, natural_again, natural_takes}
 pub use Rattle.pg_text.proofs.Parts.{numbers_again, numbers_take, semicolon_again, semicolon_takes}
 pub use Rattle.pg_text.proofs.Spelling.{begins_shorter, spells_append, spells_parts, spells_within}
-pub use Rattle.pg_text.proofs.Steps.{bind_ok, err_is_ok, ok, ok_is}
+pub use Rattle.pg_text.proofs.Steps.{bind_ok, err_is_ok, ok, ok_is, same_ok}
 pub use Rattle.pg_text.specs.Lexemes.{Begins, Lexeme, Spells, clause_lexemes, end, number, semicolon, word}
 pub use Rattle.pg_text.specs.Mirrors.Parts.{clause_at, end_at, natural_at, numbers_at, semicolon_at}
 unfoldable pub use Rattle.pg_text.specs.Mirrors.Parts.{name_at}
@@ -63,8 +63,8 @@ pub use Rattle.pg_world.specs.Mirrors.Kept.{AreReplicas, ComeFrom, IsCovered, Is
 pub use Rattle.pg_world.specs.Mirrors.Kept.{viewed}
 pub use Rattle.pg_world.specs.Mirrors.MapLaws.{MapLaws}
 pub use Rattle.pg_world.specs.Mirrors.ScriptReading.{AreEvents, IsEventAt, IsHead, IsNoScript, IsOnlyHead, line_of}
-pub use Rattle.pg_world.specs.Mirrors.ScriptScan.{cut_in, end_or, next_in, refusal_in, workers_in}
-unfoldable pub use Rattle.pg_world.specs.Mirrors.ScriptScan.{cut_at, next_line_at, one_at, two_at, workers_at}
+pub use Rattle.pg_world.specs.Mirrors.ScriptScan.{cut_in, end_or, next_in, refusal_in}
+unfoldable pub use Rattle.pg_world.specs.Mirrors.ScriptScan.{cut_at, next_line_at, one_at, two_at}
 pub use Rattle.pg_world.specs.ScriptText.{IsCutOf, IsScriptText, cut_lexemes, event_lexemes, events_lexemes, head_lexemes}
 pub use Rattle.pg_world.specs.Updates.{IsJoinOf, UpdateValue, map_of_update, update_at, update_value}
 pub use Rattle.pg_world.specs.Worlds.{IsEventOf, IsMapOf, Lifts, Runs, Steps, WorldValue, forgetting, is_worker, making, new_world, refusal}

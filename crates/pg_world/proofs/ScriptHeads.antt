@@ -1,11 +1,11 @@
 -- The lines before the events.
 use Rattle.pg_world.proofs.Common.{◌≡◌, ◌≢◌, ℕ, ◌<◌, ◌≤◌, List, [], ◌∷◌, Option, Some, None, Ok, Err, refl, sym, ap, subst, ◌∙◌, arith}
 use Rattle.pg_world.proofs.Common.{length, codes, IfSome, IfNone, ext_get_or, GameVertex, IsGame, Spells, clause_lexemes, TokenFault}
-use Rattle.pg_world.proofs.Common.{Refusal, Memory, Token, Fails, ok_is, err_is_ok, some_is, spells_append, spells_parts, CutValue}
+use Rattle.pg_world.proofs.Common.{Refusal, Memory, Token, Fails, err_is_ok, same_ok, some, some_is, none_is_some, spells_append, spells_parts, CutValue}
 use Rattle.pg_world.proofs.Common.{even_worker, Event, MAX_WORKERS, ScriptFault, OutOfMemory, Syntax, NumberTooLarge, NoVertex, CutMismatch}
-use Rattle.pg_world.proofs.Common.{cut_lexemes, head_lexemes, events_lexemes, IsCutOf, IsScriptText, workers_at, cut_at, refusal_in}
+use Rattle.pg_world.proofs.Common.{cut_lexemes, head_lexemes, events_lexemes, IsCutOf, IsScriptText, clause_at, clause_takes, clause_there, cut_at, refusal_in}
 use Rattle.pg_world.proofs.Common.{line_of, AreEvents, IsHead, IsOnlyHead, IsNoScript}
-use Rattle.pg_world.proofs.ScriptLines.{workers_take, workers_again, cut_takes, cut_there, no_cut_at_end, no_cut_at_line}
+use Rattle.pg_world.proofs.ScriptLines.{cut_takes, cut_there, no_cut_at_end, no_cut_at_line}
 use Rattle.pg_world.proofs.ScriptReads.{event_line, split, same_events}
 
 -- ---- what is read of a text
@@ -14,7 +14,7 @@ use Rattle.pg_world.proofs.ScriptReads.{event_line, split, same_events}
 pub record HeadRead (bytes : List ℕ) (game : List GameVertex) (workers : ℕ) (numbers : Option (List ℕ)) (events : List Event) : Type 0 where
   pub mid : List ℕ
   pub after : List ℕ
-  pub workers_read : workers_at bytes ≡ Ok (workers, mid)
+  pub workers_read : clause_at (codes "workers") bytes ≡ Ok (Some workers, mid)
   pub cut_read : cut_at mid ≡ Ok (numbers, after)
   pub later : AreEvents after game events
 
@@ -42,37 +42,43 @@ head_read bytes game cut events well t =
     record {
       mid = head.0;
       after = parts.0;
-      workers_read = workers_again bytes cut.workers head.0 head.1;
+      workers_read = clause_there (codes "workers") cut.workers bytes head.0 head.1;
       cut_read = cut_again head.0 game t.numbers cut events parts.0 well t.cut_is head.2 later;
       later = later;
     }
 
 -- ---- why there is no script
 
-pub fails_workers : (bytes : List ℕ) (game : List GameVertex) (fault : TokenFault) → IsGame game → workers_at bytes ≡ Err fault
+pub fails_workers : (bytes : List ℕ) (game : List GameVertex) (fault : TokenFault) → IsGame game → clause_at (codes "workers") bytes ≡ Err fault
     → (cut : CutValue) (events : List Event) → ¬ IsScriptText bytes game cut events
 fails_workers bytes game fault well read = λ cut events t. (let h = head_read bytes game cut events well t in err_is_ok fault _ (sym read ∙ h.workers_read))
 
+pub fails_none : (bytes : List ℕ) (game : List GameVertex) (mid : List ℕ) → IsGame game → clause_at (codes "workers") bytes ≡ Ok (None, mid)
+    → (cut : CutValue) (events : List Event) → ¬ IsScriptText bytes game cut events
+fails_none bytes game mid well read = λ cut events t.
+    let h = head_read bytes game cut events well t in
+    none_is_some cut.workers (ap (λ (p : Option ℕ × List ℕ). p.0) (same_ok (clause_at (codes "workers") bytes) (None, mid) (Some cut.workers, h.mid) read h.workers_read))
+
 -- the head of a text is what was read
-same_workers : (bytes : List ℕ) (x y : ℕ × List ℕ) → workers_at bytes ≡ Ok x → workers_at bytes ≡ Ok y → x ≡ y
-same_workers bytes x y p q = ok_is x y (sym p ∙ q)
+same_workers : (bytes : List ℕ) (a b : ℕ) (p q : List ℕ) → clause_at (codes "workers") bytes ≡ Ok (Some a, p) → clause_at (codes "workers") bytes ≡ Ok (Some b, q)
+    → (a ≡ b) × (p ≡ q)
+same_workers bytes a b p q first second =
+    let same = same_ok (clause_at (codes "workers") bytes) (some a, p) (some b, q) first second in
+    (some_is a b (ap (λ (x : Option ℕ × List ℕ). x.0) same), ap (λ (x : Option ℕ × List ℕ). x.1) same)
 
-same_cut_line : (bytes : List ℕ) (x y : Option (List ℕ) × List ℕ) → cut_at bytes ≡ Ok x → cut_at bytes ≡ Ok y → x ≡ y
-same_cut_line bytes x y p q = ok_is x y (sym p ∙ q)
-
-pub fails_many : (bytes : List ℕ) (game : List GameVertex) (workers : ℕ) (mid : List ℕ) → IsGame game → workers_at bytes ≡ Ok (workers, mid)
+pub fails_many : (bytes : List ℕ) (game : List GameVertex) (workers : ℕ) (mid : List ℕ) → IsGame game → clause_at (codes "workers") bytes ≡ Ok (Some workers, mid)
     → 16 < workers → (cut : CutValue) (events : List Event) → ¬ IsScriptText bytes game cut events
 fails_many bytes game workers mid well read many = λ cut events t.
     let h = head_read bytes game cut events well t in
-    let same : cut.workers ≡ workers = ap (λ (p : ℕ × List ℕ). p.0) (same_workers bytes (cut.workers, h.mid) (workers, mid) h.workers_read read) in
+    let same = (same_workers bytes cut.workers workers h.mid mid h.workers_read read).0 in
     omega (arith, t.few, same, many)
 
 pub fails_cut : (bytes : List ℕ) (game : List GameVertex) (workers : ℕ) (mid : List ℕ) (refusal : Refusal) (len : ℕ) → IsGame game
-    → workers_at bytes ≡ Ok (workers, mid) → Fails refusal (cut_at mid) → IsNoScript bytes game (refusal_in len refusal)
+    → clause_at (codes "workers") bytes ≡ Ok (Some workers, mid) → Fails refusal (cut_at mid) → IsNoScript bytes game (refusal_in len refusal)
 fails_cut bytes game workers mid Memory len well read fails = λ other. absurd (other refl)
 fails_cut bytes game workers mid (Token fault) len well read fails = λ other cut events t.
     let h = head_read bytes game cut events well t in
-    let same : h.mid ≡ mid = ap (λ (p : ℕ × List ℕ). p.1) (same_workers bytes (cut.workers, h.mid) (workers, mid) h.workers_read read) in
+    let same = (same_workers bytes cut.workers workers h.mid mid h.workers_read read).1 in
     err_is_ok fault _ (sym fails ∙ subst (λ (b : List ℕ). cut_at b ≡ Ok (t.numbers, h.after)) same h.cut_read)
 
 -- what a text of the same bytes says before its events
@@ -83,22 +89,21 @@ pub record SameHead (bytes : List ℕ) (game : List GameVertex) (workers : ℕ) 
   pub later : AreEvents rest game events
 
 pub same_head : (bytes : List ℕ) (game : List GameVertex) (workers : ℕ) (mid : List ℕ) (numbers : Option (List ℕ)) (rest : List ℕ)
-    → IsGame game → workers_at bytes ≡ Ok (workers, mid) → cut_at mid ≡ Ok (numbers, rest)
+    → IsGame game → clause_at (codes "workers") bytes ≡ Ok (Some workers, mid) → cut_at mid ≡ Ok (numbers, rest)
     → (cut : CutValue) (events : List Event) → IsScriptText bytes game cut events → SameHead bytes game workers numbers rest cut events
 same_head bytes game workers mid numbers rest well read cut_read = λ cut events t.
     let h = head_read bytes game cut events well t in
-    let first = same_workers bytes (cut.workers, h.mid) (workers, mid) h.workers_read read in
-    let same : h.mid ≡ mid = ap (λ (p : ℕ × List ℕ). p.1) first in
-    let second : (t.numbers, h.after) ≡ (numbers, rest) = same_cut_line mid (t.numbers, h.after) (numbers, rest)
-    (subst (λ (b : List ℕ). cut_at b ≡ Ok (t.numbers, h.after)) same h.cut_read) cut_read in
+    let first = same_workers bytes cut.workers workers h.mid mid h.workers_read read in
+    let second : (t.numbers, h.after) ≡ (numbers, rest) = same_ok (cut_at mid) (t.numbers, h.after) (numbers, rest)
+    (subst (λ (b : List ℕ). cut_at b ≡ Ok (t.numbers, h.after)) first.1 h.cut_read) cut_read in
     record {
-      workers_are = ap (λ (p : ℕ × List ℕ). p.0) first;
+      workers_are = first.0;
       cut_is = subst (λ (ns : Option (List ℕ)). IsCutOf game ns cut) (ap (λ (p : Option (List ℕ) × List ℕ). p.0) second) t.cut_is;
       later = subst (λ (b : List ℕ). AreEvents b game events) (ap (λ (p : Option (List ℕ) × List ℕ). p.1) second) h.later;
     }
 
 pub fails_misfit : (bytes : List ℕ) (game : List GameVertex) (workers : ℕ) (mid : List ℕ) (numbers : Option (List ℕ)) (rest : List ℕ)
-    → IsGame game → workers_at bytes ≡ Ok (workers, mid) → cut_at mid ≡ Ok (numbers, rest)
+    → IsGame game → clause_at (codes "workers") bytes ≡ Ok (Some workers, mid) → cut_at mid ≡ Ok (numbers, rest)
     → ((cut : CutValue) → cut.workers ≡ workers → ¬ IsCutOf game numbers cut) → (cut : CutValue) (events : List Event) → ¬ IsScriptText bytes game cut events
 fails_misfit bytes game workers mid numbers rest well read cut_read none = λ cut events t.
     let s = same_head bytes game workers mid numbers rest well read cut_read cut events t in
@@ -107,13 +112,13 @@ fails_misfit bytes game workers mid numbers rest well read cut_read none = λ cu
 -- ---- the head that was read
 
 pub head : (bytes : List ℕ) (game : List GameVertex) (workers : ℕ) (mid : List ℕ) (numbers : Option (List ℕ)) (rest : List ℕ) (cut : CutValue)
-    → workers_at bytes ≡ Ok (workers, mid) → cut_at mid ≡ Ok (numbers, rest) → workers ≤ MAX_WORKERS → cut.workers ≡ workers
+    → clause_at (codes "workers") bytes ≡ Ok (Some workers, mid) → cut_at mid ≡ Ok (numbers, rest) → workers ≤ MAX_WORKERS → cut.workers ≡ workers
     → IsCutOf game numbers cut → IsHead bytes game cut rest
 head bytes game workers mid numbers rest cut read cut_read few same is = record {
   numbers = numbers;
   spelt = subst (λ (n : ℕ). Spells bytes (head_lexemes n numbers) rest) (sym same)
       (spells_append (clause_lexemes (codes "workers") (Some workers)) (cut_lexemes numbers) bytes mid rest
-      (workers_take bytes (workers, mid) read) (cut_takes mid (numbers, rest) cut_read));
+      (clause_takes (codes "workers") bytes (Some workers, mid) read) (cut_takes mid (numbers, rest) cut_read));
   few = subst (λ (n : ℕ). n ≤ MAX_WORKERS) (sym same) few;
   cut_is = is;
 }
@@ -131,7 +136,7 @@ same_cut game None a b same p q =
 same_cut game (Some ns) a b same p q = cut_eta a b same (p.0 ∙ sym q.0)
 
 pub only_head : (bytes : List ℕ) (game : List GameVertex) (workers : ℕ) (mid : List ℕ) (numbers : Option (List ℕ)) (rest : List ℕ) (cut : CutValue)
-    → IsGame game → workers_at bytes ≡ Ok (workers, mid) → cut_at mid ≡ Ok (numbers, rest) → cut.workers ≡ workers
+    → IsGame game → clause_at (codes "workers") bytes ≡ Ok (Some workers, mid) → cut_at mid ≡ Ok (numbers, rest) → cut.workers ≡ workers
     → IsCutOf game numbers cut → IsOnlyHead bytes game cut rest
 only_head bytes game workers mid numbers rest cut well read cut_read same is = λ other events t.
     let s = same_head bytes game workers mid numbers rest well read cut_read other events t in

@@ -1,38 +1,44 @@
 -- The lines of a script: what is read is spelt, and what is spelt is read.
-use Rattle.pg_world.proofs.Common.{◌≡◌, ◌≢◌, ℕ, ◌<◌, true, List, [], ◌∷◌, Option, Some, None, Ok, Err, refl, ap, subst, arith, inl, inr}
+use Rattle.pg_world.proofs.Common.{◌≡◌, ◌≢◌, ℕ, ◌<◌, true, List, [], ◌∷◌, Option, Some, None, Ok, Err, refl, sym, subst, arith, inl, inr}
 use Rattle.pg_world.proofs.Common.{codes, length, bytes_eq, bytes_eq-Decides, Lexeme, number, word, semicolon, end, Begins, Spells}
-use Rattle.pg_world.proofs.Common.{clause_lexemes, ◌>>=◌, Read, unexpected, natural_at, name_at, semicolon_at, end_at, numbers_at}
-use Rattle.pg_world.proofs.Common.{clause_at, bind_ok, ok, ok_is, err_is_ok, chosen, some, token_again, spells_append, spells_parts}
+use Rattle.pg_world.proofs.Common.{◌>>=◌, Read, unexpected, natural_at, name_at, semicolon_at, end_at, numbers_at}
+use Rattle.pg_world.proofs.Common.{bind_ok, ok, ok_is, err_is_ok, chosen, some, token_again, spells_append, spells_parts}
 use Rattle.pg_world.proofs.Common.{begins_shorter, spells_within, natural_takes, natural_again, name_takes, name_again, semicolon_takes}
-use Rattle.pg_world.proofs.Common.{semicolon_again, end_takes, end_again, clause_takes, clause_there, numbers_take, numbers_again}
-use Rattle.pg_world.proofs.Common.{ScriptLine, Central, cut_lexemes, one_at, two_at, end_or, next_in, next_line_at, workers_in, workers_at}
+use Rattle.pg_world.proofs.Common.{semicolon_again, end_takes, end_again, numbers_take, numbers_again}
+use Rattle.pg_world.proofs.Common.{ScriptLine, Central, cut_lexemes, one_at, two_at, end_or, next_in, next_line_at}
 use Rattle.pg_world.proofs.Common.{cut_in, cut_at}
 use Rattle.pg_world.specs.declared.script_line.ScriptLine.TheVariants.{Lift, Deliver, Restart}
 use Rattle.pg_world.specs.Mirrors.ScriptScan.{line_at}
 
 -- ---- numbers and a semicolon
 
-one_takes : (bytes : List ℕ) (y : ℕ × List ℕ) → one_at bytes ≡ Ok y → Spells bytes (number y.0 ∷ semicolon ∷ []) y.1
+abbrev one_lexemes : ℕ → List Lexeme
+one_lexemes n = number n ∷ semicolon ∷ []
+
+one_takes : (bytes : List ℕ) (y : ℕ × List ℕ) → one_at bytes ≡ Ok y → Spells bytes (one_lexemes y.0) y.1
 unfolding one_at
 one_takes bytes y e =
     let a = bind_ok (natural_at bytes) (λ n. semicolon_at n.1 >>= λ after. ok (n.0, after)) y e in
     let b = bind_ok (semicolon_at a.0.1) (λ after. ok (a.0.0, after)) y a.2 in
-    subst (λ (y : ℕ × List ℕ). Spells bytes (number y.0 ∷ semicolon ∷ []) y.1) (ok_is (a.0.0, b.0) y b.2)
+    subst (λ (y : ℕ × List ℕ). Spells bytes (one_lexemes y.0) y.1) (ok_is (a.0.0, b.0) y b.2)
     (a.0.1, natural_takes bytes a.0 a.1, (b.0, semicolon_takes a.0.1 b.0 b.1, refl))
 
-one_again : (n : ℕ) (bytes rest : List ℕ) → Spells bytes (number n ∷ semicolon ∷ []) rest → one_at bytes ≡ Ok (n, rest)
+one_again : (n : ℕ) (bytes rest : List ℕ) → Spells bytes (one_lexemes n) rest → one_at bytes ≡ Ok (n, rest)
 unfolding one_at
 one_again n bytes rest s = rw (natural_again bytes n s.0 s.1, semicolon_again s.0 s.2.0 s.2.1, s.2.2) refl
 
-two_takes : (bytes : List ℕ) (y : ℕ × ℕ × List ℕ) → two_at bytes ≡ Ok y → Spells bytes (number y.0 ∷ number y.1 ∷ semicolon ∷ []) y.2
+abbrev two_lexemes : ℕ × ℕ → List Lexeme
+two_lexemes x = number x.0 ∷ number x.1 ∷ semicolon ∷ []
+
+two_takes : (bytes : List ℕ) (y : (ℕ × ℕ) × List ℕ) → two_at bytes ≡ Ok y → Spells bytes (two_lexemes y.0) y.1
 unfolding two_at
 two_takes bytes y e =
-    let a = bind_ok (natural_at bytes) (λ a. one_at a.1 >>= λ b. ok (a.0, b.0, b.1)) y e in
-    let b = bind_ok (one_at a.0.1) (λ b. ok (a.0.0, b.0, b.1)) y a.2 in
-    subst (λ (y : ℕ × ℕ × List ℕ). Spells bytes (number y.0 ∷ number y.1 ∷ semicolon ∷ []) y.2) (ok_is (a.0.0, b.0.0, b.0.1) y b.2)
+    let a = bind_ok (natural_at bytes) (λ a. one_at a.1 >>= λ b. ok ((a.0, b.0), b.1)) y e in
+    let b = bind_ok (one_at a.0.1) (λ b. ok ((a.0.0, b.0), b.1)) y a.2 in
+    subst (λ (y : (ℕ × ℕ) × List ℕ). Spells bytes (two_lexemes y.0) y.1) (ok_is ((a.0.0, b.0.0), b.0.1) y b.2)
     (a.0.1, natural_takes bytes a.0 a.1, one_takes a.0.1 b.0 b.1)
 
-two_again : (n m : ℕ) (bytes rest : List ℕ) → Spells bytes (number n ∷ number m ∷ semicolon ∷ []) rest → two_at bytes ≡ Ok (n, m, rest)
+two_again : (n m : ℕ) (bytes rest : List ℕ) → Spells bytes (two_lexemes (n, m)) rest → two_at bytes ≡ Ok ((n, m), rest)
 unfolding two_at
 two_again n m bytes rest s = rw (natural_again bytes n s.0 s.1, one_again m s.0 rest s.2) refl
 
@@ -44,53 +50,33 @@ line_lexemes (Deliver replica n) = word (codes "deliver") ∷ number replica ∷
 line_lexemes (Restart worker) = word (codes "restart") ∷ number worker ∷ semicolon ∷ []
 line_lexemes (Central id) = word (codes "central") ∷ number id ∷ semicolon ∷ []
 
-one_line : (bytes name rest w : List ℕ) (make : ℕ → ScriptLine) (y : ScriptLine × List ℕ) → bytes_eq name w ≡ true
-    → Begins bytes (word name) rest → (one_at rest >>= λ x. ok (make x.0, x.1)) ≡ Ok y
-    → (a : ℕ) × (make a ≡ y.0) × Spells bytes (word w ∷ number a ∷ semicolon ∷ []) y.1
-one_line bytes name rest w make y same begins e =
+-- a line of this word, and what stands behind it
+worded_takes : {X : Type 0} (behind : List ℕ → Read (X × List ℕ)) (lexemes : X → List Lexeme)
+    → ((bytes : List ℕ) (x : X × List ℕ) → behind bytes ≡ Ok x → Spells bytes (lexemes x.0) x.1)
+    → (bytes name rest w : List ℕ) (make : X → ScriptLine) (y : ScriptLine × List ℕ) → bytes_eq name w ≡ true
+    → Begins bytes (word name) rest → (behind rest >>= λ x. ok (make x.0, x.1)) ≡ Ok y
+    → ((x : X) → line_lexemes (make x) ≡ word w ∷ lexemes x) → Spells bytes (line_lexemes y.0) y.1
+worded_takes behind lexemes takes bytes name rest w make y same begins e spelt =
     let named : name ≡ w = (bytes_eq-Decides name w).0 same in
-    let x = bind_ok (one_at rest) (λ x. ok (make x.0, x.1)) y e in
-    let is : (make x.0.0, x.0.1) ≡ y = ok_is (make x.0.0, x.0.1) y x.2 in (
-      x.0.0,
-      ap (λ (p : ScriptLine × List ℕ). p.0) is,
-      (
-        rest,
-        subst (λ (v : List ℕ). Begins bytes (word v) rest) named begins,
-        subst (λ (p : ScriptLine × List ℕ). Spells rest (number x.0.0 ∷ semicolon ∷ []) p.1) is (one_takes rest x.0 x.1),
-      ),
-    )
-
-two_line : (bytes name rest w : List ℕ) (make : ℕ → ℕ → ScriptLine) (y : ScriptLine × List ℕ) → bytes_eq name w ≡ true
-    → Begins bytes (word name) rest → (two_at rest >>= λ x. ok (make x.0 x.1, x.2)) ≡ Ok y
-    → (a : ℕ) × (b : ℕ) × (make a b ≡ y.0) × Spells bytes (word w ∷ number a ∷ number b ∷ semicolon ∷ []) y.1
-two_line bytes name rest w make y same begins e =
-    let named : name ≡ w = (bytes_eq-Decides name w).0 same in
-    let x = bind_ok (two_at rest) (λ x. ok (make x.0 x.1, x.2)) y e in
-    let is : (make x.0.0 x.0.1, x.0.2) ≡ y = ok_is (make x.0.0 x.0.1, x.0.2) y x.2 in (
-      x.0.0,
-      x.0.1,
-      ap (λ (p : ScriptLine × List ℕ). p.0) is,
-      (
-        rest,
-        subst (λ (v : List ℕ). Begins bytes (word v) rest) named begins,
-        subst (λ (p : ScriptLine × List ℕ). Spells rest (number x.0.0 ∷ number x.0.1 ∷ semicolon ∷ []) p.1) is (two_takes rest x.0 x.1),
-      ),
-    )
+    let x = bind_ok (behind rest) (λ x. ok (make x.0, x.1)) y e in
+    let s : Spells bytes (word w ∷ lexemes x.0.0) x.0.1 = (rest, subst (λ (v : List ℕ). Begins bytes (word v) rest) named begins, takes rest x.0 x.1) in
+    subst (λ (p : ScriptLine × List ℕ). Spells bytes (line_lexemes p.0) p.1) (ok_is (make x.0.0, x.0.1) y x.2)
+    (subst (λ (tokens : List Lexeme). Spells bytes tokens x.0.1) (sym (spelt x.0.0)) s)
 
 line_is : (bytes front name rest : List ℕ) (y : ScriptLine × List ℕ) → Begins bytes (word name) rest → line_at front name rest ≡ Ok y
     → Spells bytes (line_lexemes y.0) y.1
 unfolding line_at
 line_is bytes front name rest y begins e =
-    let as_line : (l : ScriptLine) → l ≡ y.0 → Spells bytes (line_lexemes l) y.1 → Spells bytes (line_lexemes y.0) y.1 =
-    λ l same s. subst (λ (l : ScriptLine). Spells bytes (line_lexemes l) y.1) same s in
+    let one = worded_takes one_at one_lexemes one_takes bytes name rest in
+    let two = worded_takes two_at two_lexemes two_takes bytes name rest in
     elim (chosen (bytes_eq name (codes "lift")) _ _ (ok y) e) [
-      | inl c ↦ (let l = two_line bytes name rest (codes "lift") (λ a b. Lift a b) y c.0 begins c.1 in as_line (Lift l.0 l.1) l.2 l.3)
+      | inl c ↦ two (codes "lift") (λ x. Lift x.0 x.1) y c.0 begins c.1 (λ x. refl)
       | inr n ↦ elim (chosen (bytes_eq name (codes "deliver")) _ _ (ok y) n.1) [
-        | inl c ↦ (let l = two_line bytes name rest (codes "deliver") (λ a b. Deliver a b) y c.0 begins c.1 in as_line (Deliver l.0 l.1) l.2 l.3)
+        | inl c ↦ two (codes "deliver") (λ x. Deliver x.0 x.1) y c.0 begins c.1 (λ x. refl)
         | inr n ↦ elim (chosen (bytes_eq name (codes "restart")) _ _ (ok y) n.1) [
-          | inl c ↦ (let l = one_line bytes name rest (codes "restart") (λ a. Restart a) y c.0 begins c.1 in as_line (Restart l.0) l.1 l.2)
+          | inl c ↦ one (codes "restart") (λ x. Restart x) y c.0 begins c.1 (λ x. refl)
           | inr n ↦ elim (chosen (bytes_eq name (codes "central")) _ _ (ok y) n.1) [
-            | inl c ↦ (let l = one_line bytes name rest (codes "central") (λ a. Central a) y c.0 begins c.1 in as_line (Central l.0) l.1 l.2)
+            | inl c ↦ one (codes "central") (λ x. Central x) y c.0 begins c.1 (λ x. refl)
             | inr n ↦ absurd (err_is_ok (unexpected front) y n.1)
           ]
         ]
@@ -138,47 +124,20 @@ pub text_ends_again : (bytes : List ℕ) → Spells bytes (end ∷ []) [] → ne
 unfolding next_line_at
 text_ends_again bytes s = rw (no_name bytes s, end_again bytes s) refl
 
-shorter : (bytes rest : List ℕ) (line : ScriptLine) → Spells bytes (line_lexemes line) rest → length rest < length bytes
-shorter bytes rest (Lift a b) s = omega (
-  arith,
-  begins_shorter bytes (word (codes "lift")) s.0 (λ e. cc) s.1,
-  spells_within (number a ∷ number b ∷ semicolon ∷ []) s.0 rest s.2,
-)
-shorter bytes rest (Deliver a b) s = omega (
-  arith,
-  begins_shorter bytes (word (codes "deliver")) s.0 (λ e. cc) s.1,
-  spells_within (number a ∷ number b ∷ semicolon ∷ []) s.0 rest s.2,
-)
-shorter bytes rest (Restart a) s = omega (
-  arith,
-  begins_shorter bytes (word (codes "restart")) s.0 (λ e. cc) s.1,
-  spells_within (number a ∷ semicolon ∷ []) s.0 rest s.2,
-)
-shorter bytes rest (Central a) s = omega (
-  arith,
-  begins_shorter bytes (word (codes "central")) s.0 (λ e. cc) s.1,
-  spells_within (number a ∷ semicolon ∷ []) s.0 rest s.2,
-)
+-- a line has a word in front
+worded : (line : ScriptLine) → (w : List ℕ) × (others : List Lexeme) × (line_lexemes line ≡ word w ∷ others)
+worded (Lift a b) = (codes "lift", number a ∷ number b ∷ semicolon ∷ [], refl)
+worded (Deliver a b) = (codes "deliver", number a ∷ number b ∷ semicolon ∷ [], refl)
+worded (Restart a) = (codes "restart", number a ∷ semicolon ∷ [], refl)
+worded (Central a) = (codes "central", number a ∷ semicolon ∷ [], refl)
 
 pub line_shorter : (bytes : List ℕ) (line : ScriptLine) (rest : List ℕ) → next_line_at bytes ≡ Ok (Some line, rest) → length rest < length bytes
-line_shorter bytes line rest e = shorter bytes rest line (line_takes bytes line rest e)
+line_shorter bytes line rest e =
+    let w = worded line in
+    let s = subst (λ (tokens : List Lexeme). Spells bytes tokens rest) w.2 (line_takes bytes line rest e) in
+    omega (arith, begins_shorter bytes (word w.0) s.0 (λ e. cc) s.1, spells_within w.1 s.0 rest s.2)
 
--- ---- the lines before the events
-
-workers_is : (bytes : List ℕ) (x : Option ℕ × List ℕ) (y : ℕ × List ℕ) → workers_in bytes x ≡ Ok y → x ≡ (some y.0, y.1)
-workers_is bytes (Some n, rest) y e = ap (λ (p : ℕ × List ℕ). (some p.0, p.1)) (ok_is (n, rest) y e)
-workers_is bytes (None, rest) y e = absurd cc
-
-pub workers_take : (bytes : List ℕ) (y : ℕ × List ℕ) → workers_at bytes ≡ Ok y → Spells bytes (clause_lexemes (codes "workers") (Some y.0)) y.1
-unfolding workers_at
-workers_take bytes y e =
-    let x = bind_ok (clause_at (codes "workers") bytes) (workers_in bytes) y e in
-    subst (λ (x : Option ℕ × List ℕ). Spells bytes (clause_lexemes (codes "workers") x.0) x.1) (workers_is bytes x.0 y x.2)
-    (clause_takes (codes "workers") bytes x.0 x.1)
-
-pub workers_again : (bytes : List ℕ) (n : ℕ) (rest : List ℕ) → Spells bytes (clause_lexemes (codes "workers") (Some n)) rest → workers_at bytes ≡ Ok (n, rest)
-unfolding workers_at
-workers_again bytes n rest s = rw (clause_there (codes "workers") n bytes rest s) refl
+-- ---- the line of the cut
 
 cut_is : (bytes : List ℕ) (o : Read (List ℕ × List ℕ)) (y : Option (List ℕ) × List ℕ) → name_at bytes ≡ o → cut_in bytes o ≡ Ok y
     → Spells bytes (cut_lexemes y.0) y.1

@@ -1,7 +1,7 @@
 -- A script read line by line.
 use Rattle.pg_world.proofs.Common.{◌≡◌, ℕ, List, [], ◌∷◌, ◌++◌, Option, Some, None, Ok, Err, refl, sym, ap, subst, ◌∙◌, append_assoc, All}
 use Rattle.pg_world.proofs.Common.{flat_map, append-nil, All-nil, All-cons, All-head, All-tail, All-append, flat_map-append, GameVertex}
-use Rattle.pg_world.proofs.Common.{identifier, IsGame, Lexeme, end, Spells, TokenFault, ok_is, err_is_ok, some, some_is, none_is_some}
+use Rattle.pg_world.proofs.Common.{identifier, IsGame, Lexeme, end, Spells, TokenFault, err_is_ok, same_ok, some, some_is, none_is_some}
 use Rattle.pg_world.proofs.Common.{spells_append, spells_parts, same_vertex, Event, ScriptLine, IsEventOf, event_lexemes, events_lexemes}
 use Rattle.pg_world.proofs.Common.{next_line_at, line_of, IsEventAt, AreEvents}
 use Rattle.pg_world.specs.declared.event.Event.TheVariants as event
@@ -37,9 +37,6 @@ split bytes game e es a =
 no_events_read : (bytes : List ℕ) (game : List GameVertex) → AreEvents bytes game [] → next_line_at bytes ≡ Ok (None, bytes)
 no_events_read bytes game a = text_ends_again bytes a.spelt
 
-same_read : (bytes : List ℕ) (x y : Option ScriptLine × List ℕ) → next_line_at bytes ≡ Ok x → next_line_at bytes ≡ Ok y → x ≡ y
-same_read bytes x y p q = ok_is x y (sym p ∙ q)
-
 none_some : (line : ScriptLine) (bytes rest : List ℕ) → (let x : Option ScriptLine × List ℕ = (None, bytes) in x ≡ (Some line, rest)) → ⊥
 none_some line bytes rest e = none_is_some line (ap (λ (p : Option ScriptLine × List ℕ). p.0) e)
 
@@ -58,10 +55,10 @@ goes_later : (game : List GameVertex) (rest : List ℕ) (line : ScriptLine) (aft
     → next_line_at rest ≡ Ok (Some line, after) → AreEvents rest game later
     → (e : Event) × (es : List Event) × IsEventAt game line e × AreEvents after game es
 goes_later game rest line after [] read a =
-    absurd (none_some line rest after (same_read rest (None, rest) (Some line, after) (no_events_read rest game a) read))
+    absurd (none_some line rest after (same_ok (next_line_at rest) (None, rest) (Some line, after) (no_events_read rest game a) read))
 goes_later game rest line after (e ∷ es) read a =
     let s = split rest game e es a in
-    let same : (some (line_of game e), s.mid) ≡ (some line, after) = same_read rest (Some (line_of game e), s.mid) (Some line, after) s.read read in
+    let same : (some (line_of game e), s.mid) ≡ (some line, after) = same_ok (next_line_at rest) (Some (line_of game e), s.mid) (Some line, after) s.read read in
     let same_line : line_of game e ≡ line = some_is (line_of game e) line (ap (λ (p : Option ScriptLine × List ℕ). p.0) same) in (
       e,
       es,
@@ -128,32 +125,21 @@ same_event game (event.CoordinatorLift v) (event.CoordinatorLift w) well p q sam
     let named : identifier game v ≡ identifier game w = cc in
     let vertex : v ≡ w = same_vertex game v w well p q named in
     rw vertex refl
-same_event game (event.Lift a v) (event.Deliver b m) well p q same = absurd cc
-same_event game (event.Lift a v) (event.Restart b) well p q same = absurd cc
-same_event game (event.Lift a v) (event.CoordinatorLift w) well p q same = absurd cc
-same_event game (event.Deliver a n) (event.Lift b w) well p q same = absurd cc
-same_event game (event.Deliver a n) (event.Restart b) well p q same = absurd cc
-same_event game (event.Deliver a n) (event.CoordinatorLift w) well p q same = absurd cc
-same_event game (event.Restart a) (event.Lift b w) well p q same = absurd cc
-same_event game (event.Restart a) (event.Deliver b m) well p q same = absurd cc
-same_event game (event.Restart a) (event.CoordinatorLift w) well p q same = absurd cc
-same_event game (event.CoordinatorLift v) (event.Lift b w) well p q same = absurd cc
-same_event game (event.CoordinatorLift v) (event.Deliver b m) well p q same = absurd cc
-same_event game (event.CoordinatorLift v) (event.Restart b) well p q same = absurd cc
+same_event game _ _ well p q same = absurd cc
 
 pub same_events : (game : List GameVertex) (bytes : List ℕ) (es es' : List Event) → IsGame game → AreEvents bytes game es → AreEvents bytes game es' → es ≡ es'
 same_events game bytes [] [] well a b = refl
 same_events game bytes [] (e' ∷ es') well a b =
     let s = split bytes game e' es' b in
-    absurd (none_some (line_of game e') bytes s.mid (same_read bytes (None, bytes) (Some (line_of game e'), s.mid) (no_events_read bytes game a) s.read))
+    absurd (none_some (line_of game e') bytes s.mid (same_ok (next_line_at bytes) (None, bytes) (Some (line_of game e'), s.mid) (no_events_read bytes game a) s.read))
 same_events game bytes (e ∷ es) [] well a b =
     let s = split bytes game e es a in
-    absurd (none_some (line_of game e) bytes s.mid (same_read bytes (None, bytes) (Some (line_of game e), s.mid) (no_events_read bytes game b) s.read))
+    absurd (none_some (line_of game e) bytes s.mid (same_ok (next_line_at bytes) (None, bytes) (Some (line_of game e), s.mid) (no_events_read bytes game b) s.read))
 same_events game bytes (e ∷ es) (e' ∷ es') well a b =
     let s = split bytes game e es a in
     let s' = split bytes game e' es' b in
     let same : (some (line_of game e), s.mid) ≡ (some (line_of game e'), s'.mid) =
-    same_read bytes (Some (line_of game e), s.mid) (Some (line_of game e'), s'.mid) s.read s'.read in
+    same_ok (next_line_at bytes) (Some (line_of game e), s.mid) (Some (line_of game e'), s'.mid) s.read s'.read in
     let same_line : line_of game e ≡ line_of game e' = some_is (line_of game e) (line_of game e') (ap (λ (p : Option ScriptLine × List ℕ). p.0) same) in
     let first : e ≡ e' = same_event game e e' well s.vertex s'.vertex same_line in
     let later : es ≡ es' = same_events game s.mid es es' well s.others

@@ -11,8 +11,9 @@ ghost use Rattle.pg_world.specs.Mirrors.ScriptReading.{IsEventAt, AreEvents, IsH
 
 use crate::event::Event;
 use crate::script_fault::ScriptFault;
-use crate::script_line::{ScriptLine, cut_numbers, next_line, workers};
+use crate::script_line::{ScriptLine, cut_numbers, next_line};
 use pg_arena::{Game, Vertex};
+use pg_text::reading::{clause, unexpected};
 use pg_worker::Cut;
 use std::alloc::{AllocError, Global};
 
@@ -86,8 +87,9 @@ fn read_head<'a>(
     ensures only { IfOk result (λ x. IsOnlyHead bytes.now game.now x.0 x.1.now) }
     ensures refused { IfErr result (IsNoScript bytes.now game.now) }
 {
-    let (workers, rest) = match workers(bytes) {
-        Ok(read) => read,
+    let (workers, rest) = match clause(b"workers", bytes) {
+        Ok((Some(workers), rest)) => (workers, rest),
+        Ok((None, _)) => return Err(ScriptFault::of_token(unexpected(bytes), bytes.len())),
         Err(fault) => return Err(ScriptFault::of_token(fault, bytes.len())),
     };
     if workers > MAX_WORKERS {

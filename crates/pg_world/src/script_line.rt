@@ -2,9 +2,9 @@
 
 ghost use Rattle.std.specs.Prelude.{◌≡◌, Option, option_map};
 ghost use Rattle.pg_text.specs.Mirrors.Steps.{Reads, Gives};
-ghost use Rattle.pg_world.specs.Mirrors.ScriptScan.{one_at, two_at, lift_at, deliver_at, restart_at, central_at, line_at, next_line_at, workers_at, cut_at};
+ghost use Rattle.pg_world.specs.Mirrors.ScriptScan.{one_at, two_at, line_at, next_line_at, cut_at};
 
-use pg_text::reading::{Refusal, clause, end, natural, numbers, semicolon, unexpected, word};
+use pg_text::reading::{Refusal, end, natural, numbers, semicolon, unexpected, word};
 use pg_text::tokens::TokenFault;
 use std::alloc::Global;
 
@@ -29,44 +29,12 @@ fn one(bytes: &[u8]) -> Result<(u32, &[u8]), TokenFault>
 
 /// Two numbers and a semicolon.
 #[tactic(auto, unfolding(crate::specs::Mirrors::ScriptScan::two_at))]
-fn two(bytes: &[u8]) -> Result<(u32, u32, &[u8]), TokenFault>
-    ensures { Reads (λ x. (x.0, x.1, x.2.now)) result (two_at bytes.now) }
+fn two(bytes: &[u8]) -> Result<((u32, u32), &[u8]), TokenFault>
+    ensures { Reads (λ x. (x.0, x.1.now)) result (two_at bytes.now) }
 {
     let (first, rest) = natural(bytes)?;
     let (second, rest) = one(rest)?;
-    Ok((first, second, rest))
-}
-
-/// A line behind the word `lift`.
-fn lift(rest: &[u8]) -> Result<(ScriptLine, &[u8]), TokenFault>
-    ensures { Reads (λ x. (x.0, x.1.now)) result (lift_at rest.now) }
-{
-    let (worker, identifier, rest) = two(rest)?;
-    Ok((ScriptLine::Lift(worker, identifier), rest))
-}
-
-/// A line behind the word `deliver`.
-fn deliver(rest: &[u8]) -> Result<(ScriptLine, &[u8]), TokenFault>
-    ensures { Reads (λ x. (x.0, x.1.now)) result (deliver_at rest.now) }
-{
-    let (replica, number, rest) = two(rest)?;
-    Ok((ScriptLine::Deliver(replica, number), rest))
-}
-
-/// A line behind the word `restart`.
-fn restart(rest: &[u8]) -> Result<(ScriptLine, &[u8]), TokenFault>
-    ensures { Reads (λ x. (x.0, x.1.now)) result (restart_at rest.now) }
-{
-    let (worker, rest) = one(rest)?;
-    Ok((ScriptLine::Restart(worker), rest))
-}
-
-/// A line behind the word `central`.
-fn central(rest: &[u8]) -> Result<(ScriptLine, &[u8]), TokenFault>
-    ensures { Reads (λ x. (x.0, x.1.now)) result (central_at rest.now) }
-{
-    let (identifier, rest) = one(rest)?;
-    Ok((ScriptLine::Central(identifier), rest))
+    Ok(((first, second), rest))
 }
 
 /// The line whose word was read; `front` begins with that word, and `rest` is behind it.
@@ -75,13 +43,17 @@ fn line<'a>(front: &[u8], name: &[u8], rest: &'a [u8]) -> Result<(ScriptLine, &'
     ensures { Reads (λ x. (x.0, x.1.now)) result (line_at front.now name.now rest.now) }
 {
     if name == b"lift".as_slice() {
-        lift(rest)
+        let ((worker, identifier), rest) = two(rest)?;
+        Ok((ScriptLine::Lift(worker, identifier), rest))
     } else if name == b"deliver".as_slice() {
-        deliver(rest)
+        let ((replica, number), rest) = two(rest)?;
+        Ok((ScriptLine::Deliver(replica, number), rest))
     } else if name == b"restart".as_slice() {
-        restart(rest)
+        let (worker, rest) = one(rest)?;
+        Ok((ScriptLine::Restart(worker), rest))
     } else if name == b"central".as_slice() {
-        central(rest)
+        let (identifier, rest) = one(rest)?;
+        Ok((ScriptLine::Central(identifier), rest))
     } else {
         Err(unexpected(front))
     }
@@ -101,17 +73,6 @@ pub(crate) fn next_line(bytes: &[u8]) -> Result<(Option<ScriptLine>, &[u8]), Tok
             Ok(_) => Ok((None, bytes)),
             Err(_) => Err(fault),
         },
-    }
-}
-
-/// The number of workers that the first line names.
-#[tactic(auto, unfolding(crate::specs::Mirrors::ScriptScan::workers_at))]
-pub(crate) fn workers(bytes: &[u8]) -> Result<(u32, &[u8]), TokenFault>
-    ensures { Reads (λ x. (x.0, x.1.now)) result (workers_at bytes.now) }
-{
-    match clause(b"workers", bytes)? {
-        (Some(workers), rest) => Ok((workers, rest)),
-        (None, _) => Err(unexpected(bytes)),
     }
 }
 

@@ -1,10 +1,10 @@
 -- What the functions that read a solution's lines compute: a mirror of them for proofs, whose laws stand in proofs/.
-use Rattle.std.specs.Prelude.{ℕ, List, Option, Some, None, Ok, Err, codes}
+use Rattle.std.specs.Prelude.{ℕ, List, Option, Some, None, Ok, Err}
 use Rattle.pg_text.specs.declared.solution_line.SolutionLine.{SolutionLine}
 use Rattle.pg_text.specs.Lexemes.{Lexeme, number, semicolon, end}
-use Rattle.pg_text.specs.Mirrors.Steps.{◌>>=◌, Read, Step, item, stop, items_at, unexpected}
+use Rattle.pg_text.specs.Mirrors.Steps.{◌>>=◌, Read, Step, item, stop, unexpected}
 use Rattle.pg_text.specs.Mirrors.Scan.{token_at}
-use Rattle.pg_text.specs.Mirrors.Parts.{semicolon_at, clause_at}
+use Rattle.pg_text.specs.Mirrors.Parts.{semicolon_at}
 use Rattle.pg_text.specs.Mirrors.GameScan.{owner_at}
 
 abbrev pub strategy_in : List ℕ → Lexeme × List ℕ → Read (Option ℕ × List ℕ)
@@ -35,9 +35,3 @@ answer_in bytes (_, rest) = Err (unexpected bytes)
 -- a line, or the end of the text
 unfoldable pub next_answer_at : List ℕ → Read (Step SolutionLine (Unit {0}) × List ℕ)
 next_answer_at bytes = token_at bytes >>= answer_in bytes
-
-unfoldable pub answers_at : List ℕ → Read (List SolutionLine)
-answers_at bytes = do
-  header ← clause_at (codes "paritysol") bytes
-  lines ← items_at next_answer_at header.1
-  Ok lines.0

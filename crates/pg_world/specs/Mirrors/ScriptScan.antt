@@ -6,7 +6,7 @@ use Rattle.pg_text.specs.declared.tokens.TokenFault.TheVariants as tokens
 use Rattle.pg_text.specs.declared.reading.Refusal.{Refusal}
 use Rattle.pg_text.specs.declared.reading.Refusal.TheVariants.{Memory, Token}
 use Rattle.pg_text.specs.Mirrors.Steps.{◌>>=◌, Read, unexpected}
-use Rattle.pg_text.specs.Mirrors.Parts.{natural_at, name_at, semicolon_at, end_at, numbers_at, clause_at}
+use Rattle.pg_text.specs.Mirrors.Parts.{natural_at, name_at, semicolon_at, end_at, numbers_at}
 use Rattle.pg_world.specs.declared.script_line.ScriptLine.{ScriptLine}
 use Rattle.pg_world.specs.declared.script_line.ScriptLine.TheVariants.{Lift, Deliver, Restart, Central}
 use Rattle.pg_world.specs.declared.script_fault.ScriptFault.{ScriptFault}
@@ -20,32 +20,19 @@ one_at bytes = do
   Ok (n.0, after)
 
 -- two numbers and a semicolon
-unfoldable pub two_at : List ℕ → Read (ℕ × ℕ × List ℕ)
+unfoldable pub two_at : List ℕ → Read ((ℕ × ℕ) × List ℕ)
 two_at bytes = do
   a ← natural_at bytes
   b ← one_at a.1
-  Ok (a.0, b.0, b.1)
-
--- what stands behind each word
-abbrev pub lift_at : List ℕ → Read (ScriptLine × List ℕ)
-lift_at rest = two_at rest >>= λ x. Ok (Lift x.0 x.1, x.2)
-
-abbrev pub deliver_at : List ℕ → Read (ScriptLine × List ℕ)
-deliver_at rest = two_at rest >>= λ x. Ok (Deliver x.0 x.1, x.2)
-
-abbrev pub restart_at : List ℕ → Read (ScriptLine × List ℕ)
-restart_at rest = one_at rest >>= λ x. Ok (Restart x.0, x.1)
-
-abbrev pub central_at : List ℕ → Read (ScriptLine × List ℕ)
-central_at rest = one_at rest >>= λ x. Ok (Central x.0, x.1)
+  Ok ((a.0, b.0), b.1)
 
 -- a line behind its word
 unfoldable pub line_at : List ℕ → List ℕ → List ℕ → Read (ScriptLine × List ℕ)
 line_at front name rest =
-    if bytes_eq name (codes "lift") then lift_at rest
-    else (if bytes_eq name (codes "deliver") then deliver_at rest
-    else (if bytes_eq name (codes "restart") then restart_at rest
-    else (if bytes_eq name (codes "central") then central_at rest
+    if bytes_eq name (codes "lift") then (two_at rest >>= λ x. Ok (Lift x.0.0 x.0.1, x.1))
+    else (if bytes_eq name (codes "deliver") then (two_at rest >>= λ x. Ok (Deliver x.0.0 x.0.1, x.1))
+    else (if bytes_eq name (codes "restart") then (one_at rest >>= λ x. Ok (Restart x.0, x.1))
+    else (if bytes_eq name (codes "central") then (one_at rest >>= λ x. Ok (Central x.0, x.1))
     else Err (unexpected front))))
 
 abbrev pub end_or : TokenFault → List ℕ → Read (Unit {0}) → Read (Option ScriptLine × List ℕ)
@@ -59,13 +46,6 @@ next_in bytes (Err fault) = end_or fault bytes (end_at bytes)
 -- a line, or the end of the text
 unfoldable pub next_line_at : List ℕ → Read (Option ScriptLine × List ℕ)
 next_line_at bytes = next_in bytes (name_at bytes)
-
-abbrev pub workers_in : List ℕ → Option ℕ × List ℕ → Read (ℕ × List ℕ)
-workers_in bytes (Some n, rest) = Ok (n, rest)
-workers_in bytes (None, rest) = Err (unexpected bytes)
-
-unfoldable pub workers_at : List ℕ → Read (ℕ × List ℕ)
-workers_at bytes = clause_at (codes "workers") bytes >>= workers_in bytes
 
 abbrev pub cut_in : List ℕ → Read (List ℕ × List ℕ) → Read (Option (List ℕ) × List ℕ)
 cut_in bytes (Ok x) =
