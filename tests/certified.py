@@ -78,6 +78,9 @@ even 200 0
 automaton 2000 3 2
 automaton 500 4 12
 """
+# one lift closes the map of the first; in the second all vertices are top, and in its dual zero; in the third Odd goes on in two ways
+SMALL = ["parity 1;\n0 1 0 0,1;\n1 2 1 0;\n", "".join(f"{v} 1 0 {v};\n" for v in range(20)),
+         "0 1 1 1,2;\n1 3 1 3;\n2 5 1 4;\n3 4 1 0;\n4 0 0 4;\n"]
 GADGETS = 2000
 FOUND = "measure certified\nsolve certified\n"
 
@@ -93,6 +96,8 @@ def game_of(parsolve, family, numbers):
     """The text of a game."""
     if family == "automaton":
         return automaton_game(parsolve, numbers)
+    if family == "small":
+        return SMALL[next(numbers)]
     text = io.StringIO()
     families.write(text, family, *numbers)
     return text.getvalue()
@@ -119,7 +124,7 @@ def run(certified, parsolve):
     """Tries every case, as many at once as there are processors; answers how many passed and failed."""
     seed = secrets.randbelow(2**32)
     print(f"certified: gadgets of {GADGETS} seeds from {seed} on")
-    cases = CASES.strip().split("\n") + [f"gadget 21 7 {seed + i}" for i in range(GADGETS)]
+    cases = CASES.strip().split("\n") + [f"small {i}" for i in range(len(SMALL))] + [f"gadget 21 7 {seed + i}" for i in range(GADGETS)]
     with ProcessPoolExecutor(len(os.sched_getaffinity(0))) as pool:
         faults = list(pool.map(fault, [certified] * len(cases), [parsolve] * len(cases), cases))
     found = [*zip(cases, faults), ("families", untried(cases))]

@@ -13,8 +13,11 @@ from concurrent.futures import ProcessPoolExecutor
 
 import closed
 import controllers
+import limits
 import naive
+import refused
 import rows as table
+import serving
 
 top = os.path.dirname(os.path.dirname(os.path.abspath(__file__)))
 
@@ -75,6 +78,21 @@ def workers_change_nothing(program, command, random_text, count=25):
                                   timeout=60, check=True).stdout.decode() for words in options}
         if len(outputs) != 1:
             return f"{command} on {text!r}: {sorted(outputs)!r}"
+    return None
+
+
+WORKED_OUT = [("measure", "parity 1;\n0 1 0 0;\n1 3 0 0;\n", "0 T;\n1 T;\n"),
+              ("solve", 'parity 2;\n0 0 1 0,1;\n1 1 1 1,2 "odd";\n2 2 0 0,2;\n', "paritysol 2;\n0 1 1;\n1 1 1;\n2 0 2;\n"),
+              ("synth", refused.TURNS, "REALIZABLE\naag 1 0 1 1 0\n2 3\n3\no0 g\n")]
+
+
+def workers_answer_as_worked_out(program):
+    """Every number of workers in one process gives an answer that was worked out by hand."""
+    for command, text, wanted in WORKED_OUT:
+        for workers in range(17):
+            ran = subprocess.run([program, command, "--workers", str(workers)], input=text, capture_output=True, text=True, timeout=60)
+            if (ran.returncode, ran.stdout) != (0, wanted):
+                return f"{command} by {workers} workers: status {ran.returncode}, {ran.stdout!r}, {ran.stderr!r}"
     return None
 
 
@@ -500,6 +518,33 @@ def long_rows_as_worked_out(program, count=1000):
     return None
 
 
+def rings_and_loops(count=300_000, nested=4001):
+    """(vertices of Odd's, each by its priority and successors, the priority of the bad cycle and its length, or None where Even wins
+    all): rings, whose first vertex has another priority, and loops in loops, where the way back from an even vertex is good."""
+    for first, others, bad in ((2, 1, None), (3, 2, (3, count))):
+        yield [(others if v else first, [(v + 1) % count]) for v in range(count)], bad
+    for back, bad in ((0, None), (nested // 2 + 1, (nested // 2 + 1, nested // 2 + 2))):
+        yield [(v, [(v + 1) % nested, *([0] if v % 2 == 0 or v == back else [])]) for v in range(nested)], bad
+
+
+def cycle_in(verdict):
+    """The priority of a bad cycle, and how many vertices it has, if it names none twice."""
+    found = re.fullmatch(r"CYCLE (\d+) ([\d,]+)\n", verdict)
+    names = found[2].split(",") if found else []
+    return (int(found[1]), len(names)) if found and len(set(names)) == len(names) else None
+
+
+def long_cycles_are_judged(program):
+    """That Even wins is said of long cycles, or a bad one is named whole, and no stack is deep."""
+    for vertices, bad in rings_and_loops():
+        text = naive.game_text({v: (priority, 1, successors) for v, (priority, successors) in enumerate(vertices)})
+        solution = "".join(f"{v} 0;\n" for v in range(len(vertices)))
+        ran = subprocess.run([program, "check"], input=f"{text}--\n{solution}", capture_output=True, text=True, timeout=120)
+        if cycle_in(ran.stdout) != bad or (bad is None and ran.stdout != "WINS\n"):
+            return f"check on {text[:60]!r}..: status {ran.returncode}, {ran.stdout[:100]!r}, {ran.stderr!r}, wanted {bad}"
+    return None
+
+
 def label_of(number, bits):
     """The label of the letters whose first bits are those of the number."""
     return "&".join(["t", *(f"{'' if number >> bit & 1 else '!'}{bit}" for bit in range(bits))])
@@ -574,6 +619,7 @@ def cases(programs):
                    lambda p=program, c=command: workers_change_nothing(p, c, calm_game))
             yield (f"{command} where edges lead to vertices nearby, by every number of workers ({name})",
                    lambda p=program, c=command: workers_change_nothing(p, c, near_game, count=5))
+        yield f"answers that were worked out, by every number of workers ({name})", lambda p=program: workers_answer_as_worked_out(p)
         yield (f"synth by every number of workers ({name})", lambda p=program: workers_change_nothing(
             p, "synth", lambda dice: controllers.automaton_text(controllers.random_automaton(dice))))
         yield f"replay on random schedules ({name})", lambda p=program: replays_as_defined(p)
@@ -587,6 +633,13 @@ def cases(programs):
         yield f"solve on long rows ({name})", lambda p=program: long_rows_as_worked_out(p)
         yield f"files as input ({name})", lambda p=program: files_are_input(p)
         yield f"little memory ({name})", lambda p=program: little_memory_is_told(p)
+        yield f"tokens that may not stand where they do ({name})", lambda p=program: refused.misplaced_tokens(p)
+        yield f"frames to a worker program ({name})", lambda p=program: serving.check(p)
+        yield f"texts that end too early ({name})", lambda p=program: refused.texts_that_end_too_early(p)
+        for what, games in (("vertices", limits.games_of_many_vertices), ("edges", limits.games_of_many_edges)):
+            yield f"games of as many {what} as there can be, and of more ({name})", lambda p=program, g=games: limits.of_games(p, g())
+        yield f"automata at the limits and just over them ({name})", lambda p=program: limits.of_automata(p)
+        yield f"check on long cycles and on loops in loops ({name})", lambda p=program: long_cycles_are_judged(p)
         for words in ([], ["measure"], ["solve"], ["check"], ["replay"], ["game"], ["synth"]):
             yield (f"the example in {' '.join([*words, '--help'])} ({name})",
                    lambda p=program, w=words: example_in_help(p, w))

@@ -107,8 +107,12 @@ def home_of(folder, kind, file):
 
 
 def function_at(folder, file, line):
-    """The function in which a line of a file stands, by the name that the prover gives it, or None."""
-    lines = (folder / file).read_text().split("\n")[:line + 1]
+    """The function in which a line of a file stands, by the name that the prover gives it, or None. An attribute stands in the function
+    below it: there the prover says what isn't proved where that returns."""
+    lines = (folder / file).read_text().split("\n")
+    while lines[line].lstrip().startswith("#["):
+        line += 1
+    lines = lines[:line + 1]
     heads = [it for it in lines if re.match(r"(pub )?(impl|trait)\b|}|" + FUNCTION.pattern, it)]
     names = [it for it in heads if FUNCTION.match(it)]
     if not names:
