@@ -2,6 +2,7 @@ pub mod Assembling
 pub mod Counting
 pub mod GoodSteps
 pub mod Instructions
+pub mod NamedOutputs
 pub mod OneReading
 pub mod Refusing
 pub mod Saying

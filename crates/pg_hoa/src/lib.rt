@@ -4,11 +4,13 @@
 mod fault;
 pub mod laws;
 mod letters;
+mod outputs;
 mod reader;
 mod table;
 mod terms;
 
 pub use fault::HoaFault;
+pub use outputs::{OutputsFault, with_outputs};
 pub use pg_automaton::{Automaton, Shape};
-pub use pg_syntax::LeftOutName;
+pub use pg_syntax::{LeftOutName, has_header};
 pub use reader::read_automaton;

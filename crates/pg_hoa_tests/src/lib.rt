@@ -6,4 +6,6 @@ mod accepted;
 #[cfg(test)]
 mod limits;
 #[cfg(test)]
+mod outputs;
+#[cfg(test)]
 mod texts;

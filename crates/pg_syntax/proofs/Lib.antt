@@ -1,5 +1,6 @@
 pub mod BodyLaws
 pub mod BodyTurns
+pub mod Controls
 pub mod FormulaLaws
 pub mod FormulaOps
 pub mod FormulasAgain
@@ -8,6 +9,7 @@ pub mod Frames
 pub mod Gaps
 pub mod HeaderHead
 pub mod HeaderLaws
+pub mod HeaderNames
 pub mod HeaderParts
 pub mod HeaderSteps
 pub mod HeaderTurns

@@ -2,6 +2,7 @@
 pub mod BodyScan
 pub mod FormulaRun
 pub mod FormulaScan
+pub mod HeaderNames
 pub mod HeaderScan
 pub mod Kept
 pub mod Preambles

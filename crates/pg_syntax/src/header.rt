@@ -374,7 +374,7 @@ fn header<'a>(
 
 /// The bytes behind `HOA:`.
 #[tactic(auto, unfolding(crate::specs::Mirrors::HeaderScan::opening_at))]
-fn opening(bytes: &[u8]) -> Result<&[u8], Refusal>
+pub fn opening(bytes: &[u8]) -> Result<&[u8], Refusal>
     ensures { Gives (λ x. lex x.now) result (opening_at (lex bytes.now)) }
 {
     let (found, left, rest) = next_token(bytes)?;
@@ -386,7 +386,7 @@ fn opening(bytes: &[u8]) -> Result<&[u8], Refusal>
 
 /// The bytes behind `v1`.
 #[tactic(auto, unfolding(crate::specs::Mirrors::HeaderScan::version_at))]
-fn version(bytes: &[u8]) -> Result<&[u8], Refusal>
+pub fn version(bytes: &[u8]) -> Result<&[u8], Refusal>
     ensures { Gives (λ x. lex x.now) result (version_at (lex bytes.now)) }
 {
     let (found, left, rest) = next_token(bytes)?;

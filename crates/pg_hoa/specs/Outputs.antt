@@ -1,0 +1,43 @@
+-- Automata whose outputs are named apart from their text.
+use Rattle.std.specs.Prelude.{◌≡◌, ◌≢◌, ℕ, ◌==◌, Bool, List, [], length, map, get_or, Contains, codes, true}
+use Rattle.std.specs.List.{All, filter, list_any, range_with_len}
+use Rattle.std.specs.Str.{bytes_eq}
+use Rattle.pg_automaton.specs.Automata.{Automaton}
+use Rattle.pg_syntax.specs.Syntax.{Written, IsText}
+use Rattle.pg_syntax.specs.Headers.{has_header}
+use Rattle.pg_hoa.specs.AutomatonText.{Spelt, IsRefused}
+use Rattle.pg_hoa.specs.declared.outputs.OutputsFault.{OutputsFault}
+use Rattle.pg_hoa.specs.declared.outputs.OutputsFault.TheVariants.{Text, Controlled, NoProposition}
+
+-- the proposition of this number goes by one of the names
+abbrev pub is_named : List (List ℕ) → Automaton → ℕ → Bool
+is_named names a p = list_any (λ name. bytes_eq name (get_or a.propositions p [])) names
+
+-- the numbers of the propositions that do
+abbrev pub outputs : List (List ℕ) → Automaton → List ℕ
+outputs names a = filter (is_named names a) (range_with_len 0 (length a.propositions))
+
+-- the same automaton, in which the controller sets these propositions and no others
+abbrev pub with_outputs : List (List ℕ) → Automaton → Automaton
+with_outputs names a =
+    record a { controllable = map (λ p. list_any (λ n. n == p) (outputs names a)) (range_with_len 0 (length a.propositions)) }
+
+-- The first text spells an automaton that has a proposition of each name. The second spells the same automaton, but that the
+-- controller sets the propositions of these names.
+pub record HasOutputs (bytes : List ℕ) (names : List (List ℕ)) (text : List ℕ) : Type 0 where
+  pub automaton : Automaton
+  pub spelt : Spelt bytes automaton
+  pub known : All (λ name. Contains automaton.propositions name) names
+  pub given : Spelt text (with_outputs names automaton)
+
+-- the text spells an automaton that has no proposition of the name at this place
+pub record LacksOutput (bytes : List ℕ) (names : List (List ℕ)) (place : ℕ) : Type 0 where
+  pub automaton : Automaton
+  pub spelt : Spelt bytes automaton
+  pub lacks : Contains automaton.propositions (get_or names place []) → ⊥
+
+-- Why there is no such second text. Each text may be refused for want of memory.
+abbrev pub RefusesOutputs : List ℕ → List (List ℕ) → OutputsFault → Type 0
+RefusesOutputs bytes names (Text fault) = IsRefused bytes fault
+RefusesOutputs bytes names Controlled = (w : Written) → IsText bytes w → has_header (codes "controllable-AP") w ≡ true
+RefusesOutputs bytes names (NoProposition place) = LacksOutput bytes names place
