@@ -13,6 +13,7 @@ A row has
     stdout     the whole output (or stdout_file); absent: nothing
     stdout_has a text that the output has somewhere, in place of the whole
     stderr     the whole error stream; absent: anything
+    stderr_is  a regular expression that the whole error stream has to match
     status     the exit status; absent: 0
     output_to  where the output goes in place of a pipe: a path, or "closed"
 
@@ -28,6 +29,7 @@ A table has many inputs of one answer, each of which is a row:
 """
 import glob
 import os
+import re
 import subprocess
 import sys
 import tomllib
@@ -98,6 +100,8 @@ def failure(program, row):
         return f"output {output[:300]!r}, wanted {bytes_of(row, 'stdout')[:300]!r}"
     if "stderr" in row and errors != row["stderr"].encode():
         return f"error stream {errors[:300]!r}, wanted {row['stderr']!r}"
+    if "stderr_is" in row and not re.fullmatch(row["stderr_is"].encode(), errors):
+        return f"error stream {errors[:300]!r}, wanted one like {row['stderr_is']!r}"
     return None
 
 

@@ -12,6 +12,10 @@ pub(crate) enum Fault<'a> {
     Open(&'a str, io::Error),
     /// The file of this name can't be read to its end.
     Read(&'a str),
+    /// The outputs are named, and so they are in a header of the automaton.
+    Controlled,
+    /// An output of this name is wanted, and no proposition has it.
+    NoProposition(&'a str),
     /// What is said whatever the files are named.
     Cli(CliFault),
 }
@@ -33,6 +37,14 @@ pub(crate) fn tell<E: Write>(errors: &mut E, fault: &Fault) -> ExitCode {
     let (written, status) = match fault {
         Fault::Open(name, why) => (writeln!(errors, "parsolve: cannot open {name}: {why}"), 1),
         Fault::Read(name) => (writeln!(errors, "parsolve: cannot read {name}"), 1),
+        Fault::Controlled => (
+            writeln!(errors, "parsolve: --outs is given, and so is a header controllable-AP"),
+            1,
+        ),
+        Fault::NoProposition(name) => (
+            writeln!(errors, "parsolve: no proposition is named {name}"),
+            1,
+        ),
         Fault::Cli(fault) => (write_fault(fault, errors), exit_code(fault)),
     };
     let _ = written;

@@ -9,7 +9,7 @@ use std::fs::{self, Files, OpenFile};
 use std::io;
 
 /// The options whose value is the next word.
-const VALUED: [&str; 2] = ["--workers", "--apart"];
+const VALUED: [&str; 3] = ["--workers", "--apart", "--outs"];
 
 /// The word that stands for standard input.
 const STANDARD_INPUT: &str = "-";

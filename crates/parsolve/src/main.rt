@@ -2,19 +2,25 @@
 #![tactic(auto)]
 
 mod fault;
+mod figures;
 mod files;
+mod notes;
+mod outs;
 
-ghost use Rattle.std.specs.Prelude.{◌≤◌, length};
-ghost use Rattle.pg_words.specs.Words.{HasFewWorkers};
+ghost use Rattle.std.specs.Prelude.{◌≤◌, ℕ, List, length};
+ghost use Rattle.pg_words.specs.Words.{AsksFor, HasFewWorkers};
 
 use fault::{Fault, tell};
+use figures::{CountedTops, Figures, Watch, first_text};
 use files::{part_words, read, read_both};
+use notes::Notes;
+use outs::name_outputs;
 use pg_cli::{
     CliFault, Command, Line, MOST_BYTES, Programs, check_texts, replay_texts, work, write_answer,
 };
 use pg_coord::Reach;
-use pg_words::{Told, read_words};
-use std::alloc::AllocError;
+use pg_words::{Request, Told, read_words};
+use std::alloc::{AllocError, Global};
 use std::env;
 use std::io::{self, BufWriter, Write};
 use std::process::ExitCode;
@@ -36,8 +42,27 @@ fn is_long(command: Command) -> bool {
     matches!(command, Command::Measure { .. } | Command::Replay)
 }
 
-/// Writes the answer to a text as it is made, through a buffer.
-fn print_long<R: System>(rt: &R, command: Command, text: Vec<u8>) -> Result<(), CliFault>
+/// Writes the answer to a text as it is made, and flushes the output.
+fn write_long<W: Write>(
+    alloc: Global,
+    command: Command,
+    text: Vec<u8>,
+    output: &mut W,
+) -> Result<(), CliFault>
+    requires few { HasFewWorkers command }
+    requires limit { length text.items ≤ MOST_BYTES }
+{
+    write_answer(alloc, command, text, output)?;
+    output.flush().map_err(|_| CliFault::Write)
+}
+
+/// The same on standard output, through a buffer.
+fn print_long<R: System>(
+    rt: &R,
+    command: Command,
+    text: Vec<u8>,
+    figures: Option<&mut Figures>,
+) -> Result<(), CliFault>
     requires few { HasFewWorkers command }
     requires limit { length text.items ≤ MOST_BYTES }
 {
@@ -45,8 +70,16 @@ fn print_long<R: System>(rt: &R, command: Command, text: Vec<u8>) -> Result<(), 
     let Ok(mut output) = BufWriter::with_capacity(alloc, AT_ONCE, io::writer(rt)) else {
         return Err(CliFault::OutOfMemory);
     };
-    write_answer(alloc, command, text, &mut output)?;
-    output.flush().map_err(|_| CliFault::Write)
+    let Some(figures) = figures else {
+        return write_long(alloc, command, text, &mut output);
+    };
+    let mut counted = CountedTops {
+        inner: output,
+        tops: 0,
+    };
+    write_long(alloc, command, text, &mut counted)?;
+    figures.end_measures(rt, counted.tops);
+    Ok(())
 }
 
 /// Makes the answer to a text in memory, and writes that.
@@ -55,6 +88,7 @@ fn print<R: System>(
     command: Command,
     programs: Option<Programs<R>>,
     text: Vec<u8>,
+    figures: Option<&mut Figures>,
 ) -> Result<(), CliFault>
     requires few { HasFewWorkers command }
     requires limit { length text.items ≤ MOST_BYTES }
@@ -64,13 +98,29 @@ fn print<R: System>(
         Some(programs) => programs.answer(alloc, command, text)?,
         None => pg_cli::answer(alloc, command, text)?,
     };
-    write_whole(rt, &answer)
+    write_whole(rt, command, &answer, figures)
 }
 
 /// Writes what was made in memory.
-fn write_whole<R: System>(rt: &R, answer: &[u8]) -> Result<(), CliFault> {
+fn write_whole<R: System>(
+    rt: &R,
+    command: Command,
+    answer: &[u8],
+    figures: Option<&mut Figures>,
+) -> Result<(), CliFault> {
     let mut output = io::writer(rt);
-    output.write_all(answer).map_err(|_| CliFault::Write)?;
+    let Some(figures) = figures else {
+        return write_bytes(&mut output, answer);
+    };
+    figures.add_answer(rt, command, answer);
+    write_bytes(&mut output, answer)?;
+    figures.end_writing(rt);
+    Ok(())
+}
+
+/// Writes all the bytes, and flushes the output.
+fn write_bytes<W: Write>(output: &mut W, bytes: &[u8]) -> Result<(), CliFault> {
+    output.write_all(bytes).map_err(|_| CliFault::Write)?;
     output.flush().map_err(|_| CliFault::Write)
 }
 
@@ -80,10 +130,12 @@ fn print_both<R: System>(
     command: Command,
     first: Vec<u8>,
     second: Vec<u8>,
+    figures: Option<&mut Figures>,
 ) -> Result<(), CliFault> {
     let alloc = rt.alloc();
     let Command::Replay = command else {
-        return write_whole(rt, &check_texts(alloc, first, second)?);
+        let answer = check_texts(alloc, first, second)?;
+        return write_whole(rt, command, &answer, figures);
     };
     let Ok(mut output) = BufWriter::with_capacity(alloc, AT_ONCE, io::writer(rt)) else {
         return Err(CliFault::OutOfMemory);
@@ -92,57 +144,119 @@ fn print_both<R: System>(
     output.flush().map_err(|_| CliFault::Write)
 }
 
-/// Reads the input of a command, and writes the answer to it. Its workers are programs if a path is given.
-fn answer<'a, R: System>(
+/// What goes with a command.
+#[derive(Clone, Copy)]
+struct Options<'a> {
+    /// Its workers are programs if a path is given.
+    apart: Option<&'a str>,
+    /// The names of outputs.
+    outs: Option<&'a str>,
+    /// Whether figures are to be told.
+    stats: bool,
+}
+
+/// Reads the text of a command, and writes the answer to it, and behind that what is to be noted, and the figures.
+fn answer<'a, R: System, E: Write>(
     rt: &R,
+    errors: &mut E,
     command: Command,
-    apart: Option<&str>,
+    options: Options<'a>,
     files: &[&'a str],
 ) -> Result<(), Fault<'a>>
     requires { HasFewWorkers command }
 {
-    if let [first, second, ..] = files {
-        let (first, second) = read_both(rt, first, second)?;
-        return Ok(print_both(rt, command, first, second)?);
-    }
-    let programs = match apart {
+    let programs = match options.apart {
         Some(path) => Some(Programs::listen(rt, rt.alloc(), command, path)?),
         None => None,
     };
-    let text = read(rt, files)?;
+    let watch = Watch::start(rt);
+    let text = name_outputs(rt.alloc(), options.outs, read(rt, files)?)?;
+    let notes = Notes::of(command, &text);
+    let mut figures = if options.stats {
+        Some(Figures::of(rt, command, first_text(command, &text), watch))
+    } else {
+        None
+    };
     // programs have ended before what they found is written, however long it takes to be read
     if programs.is_none() && is_long(command) {
-        print_long(rt, command, text)?;
+        print_long(rt, command, text, figures.as_mut())?;
     } else {
-        print(rt, command, programs, text)?;
+        print(rt, command, programs, text, figures.as_mut())?;
+    }
+    notes.tell(errors);
+    if let Some(figures) = figures {
+        figures.tell(errors);
     }
     Ok(())
 }
 
-/// Does what the words ask for.
+/// The same of a command whose two texts stand in two files.
+fn answer_both<'a, R: System, E: Write>(
+    rt: &R,
+    errors: &mut E,
+    command: Command,
+    stats: bool,
+    first: &'a str,
+    second: &'a str,
+) -> Result<(), Fault<'a>> {
+    let watch = Watch::start(rt);
+    let (first, second) = read_both(rt, first, second)?;
+    let mut figures = if stats {
+        Some(Figures::of(rt, command, &first, watch))
+    } else {
+        None
+    };
+    print_both(rt, command, first, second, figures.as_mut())?;
+    if let Some(figures) = figures {
+        figures.tell(errors);
+    }
+    Ok(())
+}
+
+/// Does what a command line asks for.
+fn do_line<'a, R: System, E: Write>(
+    rt: &R,
+    errors: &mut E,
+    request: &'a Request,
+    files: &[&'a str],
+) -> Result<(), Fault<'a>>
+    requires { (words : List (List ℕ)) × AsksFor words request.now.line }
+{
+    match &request.line {
+        Line::Run(command, apart) => {
+            let options = Options {
+                apart: apart.as_ref().map(|path| path.as_str()),
+                outs: request.outs.as_ref().map(|names| names.as_str()),
+                stats: request.stats,
+            };
+            match files {
+                [first, second, ..] => {
+                    answer_both(rt, errors, *command, options.stats, first, second)
+                }
+                _ => answer(rt, errors, *command, options, files),
+            }
+        }
+        Line::Work(port) => match work(rt, rt.alloc(), *port) {
+            Ok(()) => Ok(()),
+            Err(fault) => Err(Fault::Cli(fault)),
+        },
+    }
+}
+
+/// Obeys the words.
 fn obey<R: System, E: Write>(rt: &R, errors: &mut E, words: &[String]) -> ExitCode {
     let Ok(parted) = part_words(rt.alloc(), words) else {
         return tell(errors, &Fault::from(AllocError));
     };
-    let ended = match read_words(rt, parted.others.as_slice()) {
-        Ok(Line::Run(command, apart)) => answer(
-            rt,
-            command,
-            apart.as_ref().map(|path| path.as_str()),
-            parted.files.as_slice(),
-        ),
-        Ok(Line::Work(port)) => match work(rt, rt.alloc(), port) {
-            Ok(()) => Ok(()),
-            Err(fault) => Err(Fault::Cli(fault)),
+    match read_words(rt, parted.others.as_slice()) {
+        Ok(request) => match do_line(rt, errors, &request, parted.files.as_slice()) {
+            Ok(()) => ExitCode::SUCCESS,
+            Err(fault) => tell(errors, &fault),
         },
-        Err(Told::Asked) => Ok(()),
-        Err(Told::Refused) => return ExitCode::from(BAD_WORDS),
-        Err(Told::Unwritten) => Err(Fault::Cli(CliFault::Write)),
-        Err(Told::OutOfMemory) => Err(Fault::Cli(CliFault::OutOfMemory)),
-    };
-    match ended {
-        Ok(()) => ExitCode::SUCCESS,
-        Err(fault) => tell(errors, &fault),
+        Err(Told::Asked) => ExitCode::SUCCESS,
+        Err(Told::Refused) => ExitCode::from(BAD_WORDS),
+        Err(Told::Unwritten) => tell(errors, &Fault::Cli(CliFault::Write)),
+        Err(Told::OutOfMemory) => tell(errors, &Fault::Cli(CliFault::OutOfMemory)),
     }
 }
 

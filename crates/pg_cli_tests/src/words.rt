@@ -1,6 +1,7 @@
 //! What words name. Those that are refused, and the helps, are shown by rows of the program.
 
 use pg_cli::{Command, Line, parse_words};
+use pg_words::{Request, parse_request};
 use std::alloc::Global;
 
 /// Whether the words name this command, and no program of the workers.
@@ -87,5 +88,33 @@ fn words_name_the_port_of_a_worker(rt: HostRuntime) {
             names_port(rt.alloc(), &["parsolve", "worker", "--port", word], port),
             "{word}"
         );
+    }
+}
+
+/// Whether the words name these outputs and ask for figures.
+fn names_outputs(alloc: Global, words: &[&str], names: &str) -> bool {
+    let request = parse_request(alloc, words);
+    matches!(&request, Ok(Request { outs: Some(outs), stats: true, .. }) if outs.as_str() == names)
+}
+
+/// Whether the words name no outputs and ask for no figures.
+fn names_nothing_more(alloc: Global, words: &[&str]) -> bool {
+    let request = parse_request(alloc, words);
+    matches!(
+        &request,
+        Ok(Request {
+            outs: None,
+            stats: false,
+            ..
+        })
+    )
+}
+
+#[test]
+fn words_name_outputs_and_ask_for_figures(rt: HostRuntime) {
+    for name in ["game", "synth"] {
+        let words = ["parsolve", name, "--outs", "g,h", "--stats"];
+        assert!(rt; names_outputs(rt.alloc(), &words, "g,h"), "{name}");
+        assert!(rt; names_nothing_more(rt.alloc(), &words[..2]), "{name}");
     }
 }

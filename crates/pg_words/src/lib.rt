@@ -7,4 +7,4 @@ mod words;
 
 pub use command::Command;
 pub use told::{Told, read_words};
-pub use words::{Line, parse_words};
+pub use words::{Line, Request, parse_request, parse_words};

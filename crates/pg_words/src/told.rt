@@ -3,7 +3,7 @@
 ghost use Rattle.std.specs.Prelude.{map, IfOk};
 ghost use Rattle.pg_words.specs.Words.{AsksFor};
 
-use crate::words::{Line, parse_words};
+use crate::words::{Request, parse_request};
 use clap::Error;
 use clap::error::ErrorKind;
 
@@ -35,13 +35,13 @@ fn tell(rt: &(impl Print + Eprint), error: &Error) -> Told {
     }
 }
 
-/// Reads a command line as `parse_words` does. Where it asks for nothing, what is to be told is printed: a fault on the error
+/// Reads a command line as `parse_request` does. Where it asks for nothing, what is to be told is printed: a fault on the error
 /// stream, the help or the version on standard output.
-pub fn read_words(rt: &(impl Print + Eprint + AllocGlobal), words: &[&str]) -> Result<Line, Told>
-    ensures { IfOk result (AsksFor (map (λ word. word.now) words.now)) }
+pub fn read_words(rt: &(impl Print + Eprint + AllocGlobal), words: &[&str]) -> Result<Request, Told>
+    ensures { IfOk result (λ request. AsksFor (map (λ word. word.now) words.now) request.line) }
 {
-    match parse_words(rt.alloc(), words) {
-        Ok(line) => Ok(line),
+    match parse_request(rt.alloc(), words) {
+        Ok(request) => Ok(request),
         Err(error) => Err(tell(rt, &error)),
     }
 }

@@ -19,6 +19,16 @@ pub enum Line {
     Work(u16),
 }
 
+/// A command line: what it asks for, and what goes with that.
+#[derive(Debug, Drop)]
+pub struct Request {
+    pub line: Line,
+    /// The names of the outputs, with commas between, where they are given in place of a header.
+    pub outs: Option<String>,
+    /// Whether figures are to be told behind the answer.
+    pub stats: bool,
+}
+
 const NAME: &str = "parsolve";
 
 const VERSION: &str = "0.2.0";
@@ -31,6 +41,12 @@ const APART: &str = "apart";
 
 /// The option that asks for any strategy that wins.
 const ANY: &str = "any";
+
+/// The option that names the outputs of an automaton.
+const OUTS: &str = "outs";
+
+/// The option that asks for figures.
+const STATS: &str = "stats";
 
 /// The word that asks for a worker.
 const WORKER: &str = "worker";
@@ -95,7 +111,7 @@ prints `paritysol 1;`, `0 0 1;` and `1 0;`, each on a line.",
 
 const CHECK: Help = Help {
     about: "Prints whether a solution of a game is sound",
-    usage: "parsolve check [GAME SOLUTION]",
+    usage: "parsolve check [OPTIONS] [GAME SOLUTION]",
     more: "\
 Input: a parity game and a solution of it, both in the format of PGSolver, by `parsolve check GAME SOLUTION` from two files,
 and else from standard input, with a line `--` between
@@ -128,10 +144,10 @@ prints `update 0 0 1;`, `replica 0 taken 0;`, `0 1;`, `1 0;`, `replica 1 taken 0
 
 const GAME: Help = Help {
     about: "Prints the parity game of an automaton",
-    usage: "parsolve game [AUTOMATON]",
+    usage: "parsolve game [OPTIONS] [AUTOMATON]",
     more: "\
-Input: an automaton in HOA v1 with the header `controllable-AP`: deterministic, with a parity condition, labels on edges;
-by `parsolve game AUTOMATON` from a file, and else from standard input
+Input: an automaton in HOA v1 with the header `controllable-AP`, or without it where `--outs` names the propositions that are
+controllable: deterministic, with a parity condition, labels on edges; by `parsolve game AUTOMATON` from a file, and else from standard input
 Output: its game in the format of PGSolver. Player 1 chooses the propositions that aren't controllable, player 0 then the
 controllable ones. `dead` is where a run ends, `sQ` the arrival at state Q without a set and `sQ/S` with the set S that
 counts, `sQ:I` the answer at Q to the input letter I. Player 0 wins from `sQ` of the start exactly if a controller exists
@@ -144,8 +160,8 @@ const SYNTH: Help = Help {
     about: "Prints a controller for an automaton, as a circuit",
     usage: "parsolve synth [OPTIONS] [AUTOMATON]",
     more: "\
-Input: an automaton in HOA v1 with the header `controllable-AP`: deterministic, with a parity condition, labels on edges;
-by `parsolve synth AUTOMATON` from a file, and else from standard input
+Input: an automaton in HOA v1 with the header `controllable-AP`, or without it where `--outs` names the propositions that are
+controllable: deterministic, with a parity condition, labels on edges; by `parsolve synth AUTOMATON` from a file, and else from standard input
 Output: `REALIZABLE` and a circuit in the ASCII form of AIGER, whose inputs are the propositions that aren't controllable
 and whose outputs are those that are: under it every run is accepted, whatever the inputs. Or `UNREALIZABLE`, if there is
 no such controller.
@@ -190,6 +206,25 @@ fn any_option<'a>(alloc: Global) -> Result<Arg<'a>, Error> {
     )
 }
 
+/// The option `--outs NAMES`.
+fn outs_option<'a>(alloc: Global) -> Arg<'a> {
+    Arg::new(alloc, OUTS)
+        .long(OUTS)
+        .value_name("NAMES")
+        .help(
+            "The names of the controllable propositions, with commas between, in place of the header",
+        )
+        .action(ArgAction::Set)
+}
+
+/// The option `--stats`.
+fn stats_option<'a>(alloc: Global) -> Arg<'a> {
+    Arg::new(alloc, STATS)
+        .long(STATS)
+        .help("Tell counts and seconds on the error stream, behind the answer")
+        .action(ArgAction::SetTrue)
+}
+
 /// The option `--port P`.
 fn port_option<'a>(alloc: Global) -> Arg<'a> {
     Arg::new(alloc, PORT)
@@ -221,15 +256,26 @@ fn helped<'a>(alloc: Global, command: Command, help: Help) -> Result<Program<'a>
 
 /// The command as the command line knows it.
 fn subcommand<'a>(alloc: Global, command: Command) -> Result<Program<'a>, Error> {
+    let stats = stats_option(alloc);
     match command {
-        Command::Measure { .. } => helped(alloc, command, MEASURE),
-        Command::Solve { .. } | Command::SolveAny { .. } => Ok(helped(alloc, command, SOLVE)?.arg(
-            any_option(alloc)?,
-        )?),
-        Command::Check => helped(alloc, command, CHECK),
+        Command::Measure { .. } => Ok(helped(alloc, command, MEASURE)?.arg(stats)?),
+        Command::Solve { .. } | Command::SolveAny { .. } => Ok(
+            helped(alloc, command, SOLVE)?
+                .arg(any_option(alloc)?)?
+                .arg(stats)?,
+        ),
+        Command::Check => Ok(helped(alloc, command, CHECK)?.arg(stats)?),
         Command::Replay => helped(alloc, command, REPLAY),
-        Command::Game => helped(alloc, command, GAME),
-        Command::Synth { .. } => helped(alloc, command, SYNTH),
+        Command::Game => Ok(
+            helped(alloc, command, GAME)?
+                .arg(outs_option(alloc))?
+                .arg(stats)?,
+        ),
+        Command::Synth { .. } => Ok(
+            helped(alloc, command, SYNTH)?
+                .arg(outs_option(alloc))?
+                .arg(stats)?,
+        ),
     }
 }
 
@@ -270,21 +316,25 @@ fn workers_in(matches: &ArgMatches<'_>) -> u32
     }
 }
 
-/// Whether the words ask for any strategy that wins.
-fn is_any(matches: &ArgMatches<'_>) -> bool {
+/// Whether the words have this option, which has no value.
+fn has_flag(matches: &ArgMatches<'_>, option: &str) -> bool {
     match matches.subcommand() {
-        Some((_, found)) => found.get_flag(ANY),
+        Some((_, found)) => found.get_flag(option),
         None => false,
     }
 }
 
-/// The program to start as each worker, if the words name one.
-fn apart_in(alloc: Global, matches: &ArgMatches<'_>) -> Result<Option<String>, Error> {
+/// The value of this option, if the words have it.
+fn value_in(
+    alloc: Global,
+    matches: &ArgMatches<'_>,
+    option: &str,
+) -> Result<Option<String>, Error> {
     let Some((_, found)) = matches.subcommand() else {
         return Ok(None);
     };
-    match found.get_str(APART) {
-        Some(path) => Ok(Some(String::from_str(alloc, path)?)),
+    match found.get_str(option) {
+        Some(value) => Ok(Some(String::from_str(alloc, value)?)),
         None => Ok(None),
     }
 }
@@ -314,24 +364,34 @@ fn line_of(alloc: Global, name: &str, matches: &ArgMatches<'_>) -> Result<Option
         return Ok(None);
     };
     let command = match command {
-        Command::Solve { workers } if is_any(matches) => Command::SolveAny { workers },
+        Command::Solve { workers } if has_flag(matches, ANY) => Command::SolveAny { workers },
         _ => command,
     };
-    Ok(Some(Line::Run(command, apart_in(alloc, matches)?)))
+    Ok(Some(Line::Run(command, value_in(alloc, matches, APART)?)))
 }
 
 /// Reads a command line, whose first word is the program's own name. The error is `clap`'s: its text, and whether it
 /// goes to the error stream (a fault of the command line) or not (`--help`, `--version`).
-pub fn parse_words(alloc: Global, words: &[&str]) -> Result<Line, Error>
-    ensures { IfOk result (AsksFor (map (λ word. word.now) words.now)) }
+pub fn parse_request(alloc: Global, words: &[&str]) -> Result<Request, Error>
+    ensures { IfOk result (λ request. AsksFor (map (λ word. word.now) words.now) request.line) }
 {
     let mut program = program(alloc)?;
     let matches = program.try_get_matches_from_mut(words)?;
+    let outs = value_in(alloc, &matches, OUTS)?;
+    let stats = has_flag(&matches, STATS);
     match words {
         [_, name, ..] => match line_of(alloc, name, &matches)? {
-            Some(line) => Ok(line),
+            Some(line) => Ok(Request { line, outs, stats }),
             None => Err(program.error(ErrorKind::InvalidSubcommand, "no such command")?),
         },
         _ => Err(program.error(ErrorKind::MissingSubcommand, "no command")?),
     }
+}
+
+/// What a command line asks for, without what goes with that. The error is that of `parse_request`.
+pub fn parse_words(alloc: Global, words: &[&str]) -> Result<Line, Error>
+    ensures { IfOk result (AsksFor (map (λ word. word.now) words.now)) }
+{
+    let Request { line, .. } = parse_request(alloc, words)?;
+    Ok(line)
 }

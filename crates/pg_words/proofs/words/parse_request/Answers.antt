@@ -6,7 +6,7 @@ use Rattle.pg_words.specs.declared.words.Line.{Line}
 use Rattle.pg_words.specs.declared.words.Line.TheVariants.{Run, Work}
 use Rattle.pg_words.specs.Words.{AsksFor}
 use Rattle.pg_words.specs.Mirrors.Asked.{IsLineOf}
-use Rattle.pg_words.proofs.words.parse_words.Goals as goal
+use Rattle.pg_words.proofs.words.parse_request.Goals as goal
 
 second_word : {A : Type 0} (text : A → List ℕ) (words : List A) (d : A) → 2 ≤ length words
     → slice_get (map text words) 1 ≡ Some (text (get_or words 1 d))
