@@ -69,7 +69,7 @@ def tidy(found):
 
 def exports():
     """(name, parameters, result) of each export, in the sources and in the header."""
-    signature = re.compile(r'pub extern "C" fn (\w+)(?:<'a>)?\((.*?)\) -> (\w+)', re.S)
+    signature = re.compile(r'pub extern "C" fn (\w+)(?:<\W?a>)?\((.*?)\) -> (\w+)', re.S)
     ours = {name: (in_c(re.findall(r"(\w+): ([^,]+),", parameters), "_length"), IN_C[result][0])
             for name, parameters, result in signature.findall(all_sources())}
     prototype = re.compile(r"^(\w+) (parsolve_\w+)\(([^)]*)\);", re.M)

@@ -43,9 +43,10 @@ fn builder_of(alloc: Global, bytes: &[u8]) -> Result<GameBuilder, TextFault>
 /// quotes, and a `;`. The numbers of the header and of `start` are read and not used. Identifiers needn't be
 /// contiguous or in order, a successor may be defined later, and a repeated successor counts once.
 ///
-/// Refused are, from left to right, `Syntax` and `NumberTooLarge` at the first token that may not stand where it stands
-/// (`NumberTooLarge` exactly if a number that is too large stands there), and with the `;` of a line `Arena` with the
-/// fault of `GameBuilder::add`; at the end `Arena` with the fault of `GameBuilder::finish`.
+/// Refused are, from left to right: by `Syntax` or `NumberTooLarge` bytes of which lines that keep the limits are the front, and
+/// neither a line nor the end stands behind these; with the `;` of a line by `Arena` with the fault of `GameBuilder::add`; at the end
+/// by `Arena` with the fault of `GameBuilder::finish`. Which of the first two comes, and the offset that it names, are tested and in
+/// no clause: that of the first token that may not stand where it stands, `NumberTooLarge` where it is a number that is too large.
 pub fn read_game(alloc: Global, bytes: &[u8]) -> Result<Game, TextFault>
     ensures found { IfOk result (IsGameText bytes.now) }
     // Bytes that spell a game are read, unless memory runs out, and they spell no other.

@@ -199,11 +199,13 @@ fn read_lines(alloc: Global, game: &Game, bytes: &[u8]) -> Result<(Solution, Vec
 /// successor that the winner chooses, and a `;`. The number of the header is read and not used. A strategy must stand
 /// where the winner owns the vertex; elsewhere it is read and not used, and the solution has no choice there.
 ///
-/// Refused are, from left to right, `Syntax` and `NumberTooLarge` at the token at fault, `NotOfGame` where no vertex
-/// has the identifier of a line, `Syntax` at the identifier where a line before has it too, and `NotOfGame` where the
-/// winner owns the vertex and the strategy is no successor; at the end `Missing` with the least identifier of a vertex
-/// that has no line, or no strategy where its winner owns it. How a line goes on behind such an identifier or strategy
-/// isn't asked, but for this: where no token can be read behind an identifier, that fault comes first.
+/// Refused are, from left to right: by `NotOfGame` a line whose identifier no vertex has, by `Syntax` one whose identifier a line
+/// before has too, and by `NotOfGame` one whose winner owns the vertex and whose strategy is no successor; by `Syntax` or
+/// `NumberTooLarge` what is none of these, nor a line, nor the end; at the end by `Missing` the least identifier of a vertex that has
+/// no line, or no strategy where its winner owns it. How a line goes on behind such an identifier or strategy isn't asked, but for
+/// this: where no token can be read behind an identifier, that fault comes first. Which of `Syntax` and `NumberTooLarge` comes, and
+/// the offset that it names, are tested and in no clause: that of the first token that may not stand where it stands, or of the
+/// identifier that stood before, and `NumberTooLarge` where that token is a number that is too large.
 pub fn read_solution(alloc: Global, game: &Game, bytes: &[u8]) -> Result<Solution, TextFault>
     ensures found { IfOk result (IsSolutionText bytes.now game.now) }
     // Bytes that spell a solution are read, unless memory runs out, and they spell no other.
