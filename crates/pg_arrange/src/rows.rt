@@ -51,23 +51,20 @@ impl Rows {
     }
 
     /// Forgets all edges. There are so many rows, which are to be counted and then filled.
-    pub(crate) fn clear(&mut self, rows: u32) -> Result<(), AllocError> {
+    pub fn clear(&mut self, rows: u32) -> Result<(), AllocError> {
         self.starts.clear();
-        for _ in 0..rows {
-            self.starts.push(0)?;
-        }
-        Ok(())
+        self.starts.resize(rows as usize, 0)
     }
 
     /// Counts an edge of a row.
     #[inline(always)]
-    pub(crate) fn count(&mut self, v: u32) {
-        let degree = at(&self.starts, v).wrapping_add(1);
-        put(&mut self.starts, v, degree);
+    pub fn count(&mut self, row: u32) {
+        let degree = at(&self.starts, row).wrapping_add(1);
+        put(&mut self.starts, row, degree);
     }
 
     /// Makes room for the edges that were counted.
-    pub(crate) fn make_room(&mut self) -> Result<(), AllocError> {
+    pub fn make_room(&mut self) -> Result<(), AllocError> {
         let mut all = 0u32;
         for start in self.starts.iter_mut() {
             all = all.saturating_add(*start);
@@ -75,17 +72,19 @@ impl Rows {
         }
         self.starts.push(all)?;
         self.targets.clear();
-        for _ in 0..all {
-            self.targets.push(NONE)?;
-        }
-        Ok(())
+        self.targets.resize(all as usize, NONE)
     }
 
-    /// Puts an edge that was counted into its row.
+    /// Puts an edge that was counted into its row: the last one first.
     #[inline(always)]
-    pub(crate) fn put(&mut self, v: u32, target: u32) {
-        let place = at(&self.starts, v).wrapping_sub(1);
-        put(&mut self.starts, v, place);
+    pub fn put(&mut self, row: u32, target: u32) {
+        let place = at(&self.starts, row).wrapping_sub(1);
+        put(&mut self.starts, row, place);
         put(&mut self.targets, place, target);
+    }
+
+    /// The targets of all rows, row by row.
+    pub fn all(&self) -> &[u32] {
+        &self.targets
     }
 }

@@ -1,7 +1,7 @@
 //! Graphs with priorities and owners.
 
 use pg_arena::{Game, Player, Vertex};
-use pg_arrange::{at, between, count, put};
+use pg_arrange::{Edges, Rows, at, between, count, put};
 use std::alloc::{AllocError, Global};
 
 /// Vertices with priorities and owners, their successors and their predecessors, row by row. Players have numbers here: Even
@@ -15,9 +15,8 @@ pub struct Graph {
     /// For each vertex where its row begins, times two, plus its owner; and one more at the end.
     rows: Vec<u32>,
     successors: Vec<u32>,
-    /// Where the row of predecessors of each vertex begins; and one more at the end.
-    starts: Vec<u32>,
-    predecessors: Vec<u32>,
+    /// The predecessors of each vertex, rising.
+    predecessors: Rows,
     /// The vertices that led to themselves.
     loops: Vec<u32>,
 }
@@ -73,18 +72,15 @@ impl Graph {
         rows: Vec<u32>,
         successors: Vec<u32>,
     ) -> Result<Graph, AllocError> {
-        let starts = vec![in alloc; 0; priorities.len().saturating_add(1)]?;
-        let predecessors = vec![in alloc; 0; successors.len()]?;
         let mut graph = Graph {
             priorities,
             rows,
             successors,
-            starts,
-            predecessors,
+            predecessors: Rows::with_capacity(alloc, 0)?,
             loops: Vec::new(alloc),
         };
         graph.take_loops()?;
-        graph.find_predecessors();
+        graph.find_predecessors()?;
         Ok(graph)
     }
 
@@ -116,25 +112,20 @@ impl Graph {
         }
     }
 
-    /// Lists the predecessors, of each vertex rising.
-    fn find_predecessors(&mut self) {
+    fn find_predecessors(&mut self) -> Result<(), AllocError> {
+        let all = self.len();
+        self.predecessors.clear(all)?;
         for w in &self.successors {
-            let degree = at(&self.starts, *w).wrapping_add(1);
-            put(&mut self.starts, *w, degree);
+            self.predecessors.count(*w);
         }
-        let mut all = 0u32;
-        for start in self.starts.iter_mut() {
-            all = all.saturating_add(*start);
-            *start = all;
-        }
+        self.predecessors.make_room()?;
         for v in (0..self.len()).rev() {
             for edge in self.row(v)..self.row(v.saturating_add(1)) {
                 let w = at(&self.successors, edge);
-                let place = at(&self.starts, w).wrapping_sub(1);
-                put(&mut self.starts, w, place);
-                put(&mut self.predecessors, place, v);
+                self.predecessors.put(w, v);
             }
         }
+        Ok(())
     }
 
     /// Where the row of a vertex begins.
@@ -172,18 +163,10 @@ impl Graph {
         between(&self.successors, self.row(v), self.row(v.saturating_add(1)))
     }
 
-    /// Where the row of predecessors of a vertex begins.
-    #[inline(always)]
-    pub(crate) fn start(&self, v: u32) -> u32 {
-        at(&self.starts, v)
-    }
-
     /// The predecessors of a vertex: one as often as it has edges to that.
     #[inline(always)]
     pub fn predecessors(&self, v: u32) -> &[u32] {
-        let from = at(&self.starts, v);
-        let to = at(&self.starts, v.saturating_add(1));
-        between(&self.predecessors, from, to)
+        self.predecessors.targets(v)
     }
 
     /// The vertices that led to themselves.

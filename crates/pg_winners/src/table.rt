@@ -17,14 +17,14 @@ const NARROW: usize = 16;
 
 /// Which vertices an attractor takes: for a player, those of regions from `low` on, to the region `mark`, which is lower.
 #[derive(Clone, Copy)]
-pub(crate) struct Attraction {
+pub struct Attraction {
     pub player: u32,
     pub low: u32,
     pub mark: u32,
 }
 
 #[derive(Drop)]
-pub(crate) struct Table {
+pub struct Table {
     pub regions: Vec<u32>,
     /// What the winner, or who may become it, chooses at each vertex.
     pub choices: Vec<u32>,
@@ -94,23 +94,36 @@ impl Table {
 
     /// The same for a long row.
     fn leads_by_hint(&mut self, v: u32, row: &[u32], low: u32) -> bool {
-        let hint = at(&self.hints, v);
-        let place = match self.place_from(row, hint, low) {
-            NONE => self.place_from(row, 0, low),
-            place => place,
-        };
-        put(&mut self.hints, v, place);
-        place != NONE
+        let mut place = at(&self.hints, v);
+        for _ in 0..row.len() {
+            if place as usize >= row.len() {
+                place = 0;
+            }
+            if self.region(at(row, place)) >= low {
+                put(&mut self.hints, v, place);
+                return true;
+            }
+            place = place.wrapping_add(1);
+        }
+        false
     }
 
-    /// The first place from one on where a row leads into the region `low` or a later one, or `NONE`.
-    fn place_from(&self, row: &[u32], from: u32, low: u32) -> u32 {
-        for place in from..count(row.len()) {
-            if self.region(at(row, place)) >= low {
-                return place;
+    /// Attracts a vertex by what is attracted already; whether that is enough.
+    pub fn join(&mut self, graph: &Graph, v: u32, attraction: Attraction) -> bool {
+        let Attraction { player, low, mark } = attraction;
+        let row = graph.successors(v);
+        let mut choice = None;
+        if graph.owner(v) == player {
+            choice = row.iter().copied().find(|w| self.region(*w) == mark);
+            if choice.is_none() {
+                return false;
             }
+        } else if self.first_from(row, low).is_some() {
+            return false;
         }
-        NONE
+        put(&mut self.choices, v, choice.unwrap_or(NONE));
+        self.mark(v, mark);
+        true
     }
 
     /// Attracts predecessors of a vertex.
@@ -165,7 +178,7 @@ impl Table {
     fn look_ahead(&mut self, graph: &Graph, list: &[u32], place: usize) {
         let mut seen = 0;
         if let Some(target) = list.get(place.wrapping_add(12)) {
-            seen ^= graph.start(*target);
+            seen ^= count(graph.predecessors(*target).len());
         }
         if let Some(target) = list.get(place.wrapping_add(8)) {
             seen ^= graph.predecessors(*target).first().copied().unwrap_or(0);
