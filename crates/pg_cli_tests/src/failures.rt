@@ -56,25 +56,6 @@ fn tells_failed_writes(alloc: Global, command: Command, input: &[u8], answer: &[
     run_into(alloc, command, input, answer.len()).is_ok()
 }
 
-/// How many proper prefixes of a text the command answers; none where it refuses one and has written something.
-fn answered_prefixes(alloc: Global, command: Command, text: &[u8]) -> Option<u32>
-    requires { HasFewWorkers command }
-{
-    let mut count = 0u32;
-    for end in 0..text.len() {
-        let (mut prefix, _) = text.split_at(end);
-        let mut output = Vec::new(alloc);
-        let done = run(alloc, command, &mut prefix, &mut output);
-        if done.is_ok() {
-            count = count.saturating_add(1);
-        } else if !output.is_empty() {
-            return None;
-        }
-        let _ = done;
-    }
-    Some(count)
-}
-
 #[test]
 fn each_command_tells_a_failed_read(rt: HostRuntime) {
     let (alloc, workers) = (rt.alloc(), 2);
@@ -102,18 +83,4 @@ fn each_command_tells_a_failed_write(rt: HostRuntime) {
     assert!(rt; tells_failed_writes(alloc, Command::Replay, SCRIPT, WORLD));
     assert!(rt; tells_failed_writes(alloc, Command::Game, LOOP, GAME));
     assert!(rt; tells_failed_writes(alloc, Command::Synth { workers }, TURNS, CIRCUIT));
-}
-
-/// A game's text that lacks but its last newline is a game's text; an automaton's that lacks its end is none.
-#[test]
-fn texts_that_end_too_early_are_refused(rt: HostRuntime) {
-    let (alloc, workers) = (rt.alloc(), 2);
-    assert_eq!(rt;
-        answered_prefixes(alloc, Command::Solve { workers }, TWO),
-        Some(1)
-    );
-    assert_eq!(rt;
-        answered_prefixes(alloc, Command::Synth { workers }, TURNS),
-        Some(0)
-    );
 }

@@ -1,8 +1,7 @@
-//! Games solved by workers: by any number of honest ones, and over links that answer as they like.
+//! Games solved over links: honest ones, and others that answer as they like.
 
 ghost use Rattle.std.specs.Prelude.{◌≤◌, length};
 
-use crate::streams::answers;
 use pg_cli::{CliFault, Command, exit_code, run_with};
 use pg_coord::{Link, MemoryLink};
 use pg_link_tests::stand_ins::{Broken, Fixed, Told};
@@ -115,33 +114,6 @@ fn sends(alloc: Global, values: &[u8]) -> Result<Fixed, Fail> {
 /// Two links in memory, the second one to a worker that takes version 1 alone.
 fn memory_links(alloc: Global) -> Result<[MemoryLink; 2], Fail> {
     Ok([MemoryLink::new(alloc)?, MemoryLink::limited(alloc, 1)?])
-}
-
-#[test]
-fn every_number_of_workers_measures_the_same(rt: HostRuntime) {
-    for workers in 0..=16u32 {
-        let command = Command::Measure { workers };
-        assert!(rt;
-            answers(rt.alloc(), command, ODD, b"0 T;\n1 T;\n"),
-            "{workers}"
-        );
-    }
-}
-
-#[test]
-fn every_number_of_workers_solves_the_same(rt: HostRuntime) {
-    for workers in 0..=16u32 {
-        let command = Command::Solve { workers };
-        assert!(rt; answers(rt.alloc(), command, THREE, WON), "{workers}");
-    }
-}
-
-#[test]
-fn every_number_of_workers_synthesises_the_same(rt: HostRuntime) {
-    for workers in 0..=16u32 {
-        let command = Command::Synth { workers };
-        assert!(rt; answers(rt.alloc(), command, TURNS, CIRCUIT), "{workers}");
-    }
 }
 
 #[test]

@@ -135,40 +135,13 @@ fn measured(alloc: Global, before: usize, kind: ErrorKind) -> (Result<(), CliFau
     (done, output)
 }
 
-/// Whether `measure` tells that the read with this number failed, and writes nothing.
-fn tells_failed_read(alloc: Global, before: usize) -> bool {
-    let (done, output) = measured(alloc, before, ErrorKind::Other);
-    matches!(&done, Err(CliFault::Read)) && output.is_empty()
-}
-
 /// Whether `measure` answers though the read with this number is interrupted.
 fn passes_interrupted_read(alloc: Global, before: usize) -> bool {
     let (done, output) = measured(alloc, before, ErrorKind::Interrupted);
     done.is_ok() && output.as_slice() == b"0 1;\n1 0;\n".as_slice()
 }
 
-/// Whether `measure` tells that the write with this number failed, or succeeds where its answer has no such byte. The answer
-/// has 10 bytes.
-fn tells_failed_write(alloc: Global, before: usize) -> bool {
-    let mut input = TWO;
-    let mut output = Full { before };
-    let command = Command::Measure { workers: 2 };
-    let done = run(alloc, command, &mut input, &mut output);
-    if before < 10 {
-        matches!(&done, Err(CliFault::Write))
-    } else {
-        done.is_ok()
-    }
-}
-
 /// The text has 30 bytes, so that the thirty-first read is the one that finds the end.
-#[test]
-fn a_failed_read_writes_nothing(rt: HostRuntime) {
-    for before in 0..31usize {
-        assert!(rt; tells_failed_read(rt.alloc(), before), "before {before}");
-    }
-}
-
 #[test]
 fn an_interrupted_read_is_tried_again(rt: HostRuntime) {
     for before in 0..31usize {
@@ -176,13 +149,6 @@ fn an_interrupted_read_is_tried_again(rt: HostRuntime) {
             passes_interrupted_read(rt.alloc(), before),
             "before {before}"
         );
-    }
-}
-
-#[test]
-fn a_failed_write_is_told(rt: HostRuntime) {
-    for before in 0..12usize {
-        assert!(rt; tells_failed_write(rt.alloc(), before), "before {before}");
     }
 }
 

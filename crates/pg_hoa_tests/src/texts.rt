@@ -1,6 +1,6 @@
 //! Texts, and what the reader answers to them, as a line.
 
-use pg_hoa::{Automaton, HoaFault, read_automaton};
+use pg_hoa::{Automaton, read_automaton};
 use std::alloc::{AllocError, Global};
 use std::test::Fail;
 
@@ -11,15 +11,6 @@ pub fn joined(alloc: Global, parts: &[&str]) -> Result<Vec<u8>, AllocError> {
         text.extend_from_slice(part.as_bytes())?;
     }
     Ok(text)
-}
-
-/// Why the text is refused, or that it is accepted.
-pub fn answer(alloc: Global, text: &[u8]) -> Result<String, AllocError> {
-    match read_automaton(alloc, text) {
-        Ok(_) => format!(in alloc; "accepted"),
-        Err(HoaFault::OutOfMemory) => Err(AllocError),
-        Err(fault) => format!(in alloc; "{fault}"),
-    }
 }
 
 /// The automaton but for its steps, as `2 states from 0, a b*, 2 sets, MaxEven`: a star stands behind a proposition of the
@@ -74,23 +65,6 @@ pub fn spelt(alloc: Global, text: &[u8]) -> Result<String, Fail> {
         }
         Err(fault) => Ok(format!(in alloc; "{fault}")?),
     }
-}
-
-/// The rows to which the answer isn't the one that stands beside them.
-pub fn wrong_answers(
-    alloc: Global,
-    head: &str,
-    rows: &[(&str, &str)],
-) -> Result<String, AllocError> {
-    let mut wrong = String::new(alloc);
-    for (row, want) in rows {
-        let text = joined(alloc, &[head, *row])?;
-        let found = answer(alloc, &text)?;
-        if found.as_str() != *want {
-            wrong = format!(in alloc; "{wrong}{row}: {found}\n")?;
-        }
-    }
-    Ok(wrong)
 }
 
 /// The rows that don't spell what stands beside them, behind `before`.

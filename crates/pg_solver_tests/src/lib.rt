@@ -1,5 +1,26 @@
-//! Tests of `pg_solver` on games of which the measures were worked out by hand.
+//! Tests of `pg_solver` and of what it stands on: `pg_winners`, `pg_rank`, `pg_claims` and `pg_search`. Winners, measures, ladders and
+//! claims of some games were worked out by hand; others are made by the dozen, and what is found is looked at as it is defined.
 #![tactic(auto)]
 
 #[cfg(test)]
+mod certificates;
+#[cfg(test)]
+mod dice;
+#[cfg(test)]
+mod judging;
+#[cfg(test)]
+mod ladders;
+#[cfg(test)]
+mod lines;
+#[cfg(test)]
+mod made_proposals;
+#[cfg(test)]
+mod made_winners;
+#[cfg(test)]
 mod measures;
+#[cfg(test)]
+mod proposals;
+#[cfg(test)]
+mod tools;
+#[cfg(test)]
+mod winners;

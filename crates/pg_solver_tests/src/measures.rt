@@ -1,12 +1,12 @@
-//! The game `parity 1; 0 1 0 0,1; 1 2 1 0;`, of which one lift, of vertex 0 over vertex 1, closes the map, and in whose dual both
-//! vertices are top; twenty vertices of priority 1, each of which leads to itself alone, so that all are top, and zeros in the dual;
-//! and a game at which Odd goes on in two ways: from vertex 0 first round the cycle by 1 and 3, and then to 2, so that its measure
-//! has 1 for each of the priorities 5, 3 and 1.
+//! Proposals that are refused, so that games are lifted: of the game `parity 1; 0 1 0 0,1; 1 2 1 0;`, of which one lift, of vertex 0 over
+//! vertex 1, closes the map, and in whose dual both vertices are top; and of one at which Odd goes on in two ways: from vertex 0 first round
+//! the cycle by 1 and 3, and then to 2, so that its measure has 1 for each of the priorities 5, 3 and 1. That what the search proposes of
+//! them is certified is shown by `tests/certified.py`.
 
 use pg_arena::{Game, GameBuilder, Player, Vertex};
 use pg_map::{Measures, View};
 use pg_search::{Proposal, Proposals, propose, propose_measure};
-use pg_solver::{Found, measure, measure_by, solve, solve_by};
+use pg_solver::{Found, measure_by, solve_by};
 use std::alloc::Global;
 use std::test::Fail;
 
@@ -14,14 +14,6 @@ fn two(alloc: Global) -> Result<Game, Fail> {
     let mut builder = GameBuilder::new(alloc);
     builder.add(0, 1, Player::Even, &[0, 1], None)?;
     builder.add(1, 2, Player::Odd, &[0], None)?;
-    Ok(builder.finish()?)
-}
-
-fn loops(alloc: Global) -> Result<Game, Fail> {
-    let mut builder = GameBuilder::new(alloc);
-    for v in 0..20 {
-        builder.add(v, 1, Player::Even, &[v], None)?;
-    }
     Ok(builder.finish()?)
 }
 
@@ -58,23 +50,6 @@ fn has_all(alloc: Global, map: &Found, measures: &[View]) -> Result<bool, Fail> 
     Ok(v == map.len())
 }
 
-/// Whether a game has these measures, and they are certified.
-fn is_measured(alloc: Global, game: &Game, measures: &[View]) -> Result<bool, Fail> {
-    let map = measure(alloc, game)?;
-    Ok(is_certified(&map) && has_all(alloc, &map, measures)?)
-}
-
-/// Whether a game and its dual have these measures, and they are certified.
-fn is_solved(alloc: Global, game: &Game, of_game: &[View], of_dual: &[View]) -> Result<bool, Fail> {
-    let maps = solve(alloc, game)?;
-    Ok(
-        is_certified(&maps.of_game)
-            && is_certified(&maps.of_dual)
-            && has_all(alloc, &maps.of_game, of_game)?
-            && has_all(alloc, &maps.of_dual, of_dual)?,
-    )
-}
-
 /// Whether a game has these measures, and this proposal is refused.
 fn is_lifted(
     alloc: Global,
@@ -101,38 +76,6 @@ fn are_lifted(
             && has_all(alloc, &maps.of_game, of_game)?
             && has_all(alloc, &maps.of_dual, of_dual)?,
     )
-}
-
-#[test]
-fn one_lift_closes_the_map(rt: HostRuntime) -> Result<(), Fail> {
-    let game = two(rt.alloc())?;
-    let measures = [View::List(&[1]), View::List(&[0])];
-    assert!(rt; is_measured(rt.alloc(), &game, &measures)?);
-    assert!(rt; is_solved(rt.alloc(), &game, &measures, &[View::Top, View::Top])?);
-    Ok(())
-}
-
-#[test]
-fn loops_of_odd_priority_are_top(rt: HostRuntime) -> Result<(), Fail> {
-    let game = loops(rt.alloc())?;
-    let tops = [View::Top; 20];
-    assert!(rt; is_measured(rt.alloc(), &game, &tops)?);
-    assert!(rt; is_solved(rt.alloc(), &game, &tops, &[View::List(&[]); 20])?);
-    Ok(())
-}
-
-#[test]
-fn odd_goes_on_in_two_ways(rt: HostRuntime) -> Result<(), Fail> {
-    let game = two_ways(rt.alloc())?;
-    let measures = [
-        View::List(&[1, 1, 1]),
-        View::List(&[1, 1, 0]),
-        View::List(&[1, 0, 0]),
-        View::List(&[1, 0, 0]),
-        View::List(&[0, 0, 0]),
-    ];
-    assert!(rt; is_measured(rt.alloc(), &game, &measures)?);
-    Ok(())
 }
 
 #[test]

@@ -1,9 +1,6 @@
-//! Lines of games as programs print them, and how they may stop being so.
+//! Lines of games as programs print them, and how they may differ from these.
 
-use crate::game_faults::game_fault;
 use crate::games::reprinted;
-use pg_arena::ArenaFault::{DuplicateVertex, PriorityTooLarge, UnknownSuccessor};
-use pg_text::TextFault::{self, Arena, NumberTooLarge, Syntax};
 use std::test::Fail;
 
 /// Texts and the printed layouts of the games that they spell.
@@ -62,41 +59,4 @@ fn lines_as_programs_print_them(rt: HostRuntime) -> Result<(), Fail> {
         assert_eq!(rt; out.as_slice(), *layout);
     }
     Ok(())
-}
-
-/// Texts whose second or third line is refused.
-static REFUSED: [(&[u8], TextFault); 11] = [
-    (b"1 1 0 1;\n2 1 2 1,2;\n3 1 0 3;\n", Syntax(13)),
-    (b"1 1 0 1;\n2 1 1 1,;\n3 1 0 3;\n", Syntax(17)),
-    (b"1 1 0 1;\n2 1 1 1 2;\n3 1 0 3;\n", Syntax(17)),
-    (b"1 1 0 1;\n2 1 1 1,2\n3 1 0 3;\n", Syntax(19)),
-    (b"1 1 0 1;\n2 1 1 1,2 \"a;\n3 1 0 3;\n", Syntax(19)),
-    (b"1 1 0 1;\nstart 1;\n2 1 1 1,2;\n", Syntax(9)),
-    (
-        b"1 1 0 1;\n2 1 1 1,4294967296;\n3 1 0 3;\n",
-        NumberTooLarge(17),
-    ),
-    (
-        b"1 1 0 1;\n2 1 1 1,2 4294967296;\n3 1 0 3;\n",
-        NumberTooLarge(19),
-    ),
-    (
-        b"1 1 0 1;\n2 65536 1 1,2;\n3 1 0 3;\n",
-        Arena(PriorityTooLarge(2, 65536)),
-    ),
-    (
-        b"1 1 0 1;\n2 65535 1 1,2;\n2 1 0 1,2;\n",
-        Arena(DuplicateVertex(2)),
-    ),
-    (
-        b"1 1 0 1;\n2 1 1 1,20000000;\n3 1 0 3;\n",
-        Arena(UnknownSuccessor(2, 20000000)),
-    ),
-];
-
-#[test]
-fn lines_that_are_refused(rt: HostRuntime) {
-    for (text, fault) in &REFUSED {
-        assert_eq!(rt; game_fault(rt.alloc(), text), Some(*fault));
-    }
 }

@@ -1,9 +1,9 @@
-//! Writers that fail, and the texts of faults.
+//! Writers that fail.
 
 ghost use Rattle.pg_text.specs.Solutions.{IsSolution};
 
 use crate::solutions::TWO;
-use pg_arena::{ArenaFault, Game};
+use pg_arena::Game;
 use pg_text::{Solution, TextFault, read_game, read_solution, write_game, write_solution};
 use std::io;
 use std::test::Fail;
@@ -62,30 +62,5 @@ fn writer_of_a_solution_fails(rt: HostRuntime) -> Result<(), Fail> {
     let game = read_game(rt.alloc(), TWO)?;
     let solution = read_solution(rt.alloc(), &game, b"0 0 1;\n1 0;\n")?;
     assert!(rt; solution_takes(&game, &solution, 25));
-    Ok(())
-}
-
-static TEXTS: [(TextFault, &str); 7] = [
-    (TextFault::OutOfMemory, "out of memory"),
-    (TextFault::Syntax(3), "syntax error at byte 3"),
-    (TextFault::NumberTooLarge(12), "number too large at byte 12"),
-    (
-        TextFault::Arena(ArenaFault::DuplicateVertex(5)),
-        "vertex 5 is defined twice",
-    ),
-    (
-        TextFault::NotOfGame(4_000_000_000),
-        "line of vertex 4000000000 does not fit the game",
-    ),
-    (TextFault::Missing(6), "vertex 6 has no answer"),
-    (TextFault::Write, "cannot write the output"),
-];
-
-#[test]
-fn texts_of_faults(rt: HostRuntime) -> Result<(), Fail> {
-    for (fault, text) in &TEXTS {
-        let printed = format!(in rt.alloc(); "{fault}")?;
-        assert_eq!(rt; printed.as_str(), *text);
-    }
     Ok(())
 }

@@ -1,3 +1,6 @@
+//! Sessions and serving, on bytes that were worked out by hand. What a worker program replies over a connection is shown by
+//! `tests/serving.py`.
+
 use pg_wire::{Frame, WireFault};
 use pg_worker::{Served, Session, WorkerFault, serve};
 use std::alloc::Global;
@@ -28,145 +31,6 @@ fn bytes_of_all(alloc: Global, parts: &[&str]) -> Result<Vec<u8>, Fail> {
         bytes.extend_from_slice(&bytes_of(alloc, part)?)?;
     }
     Ok(bytes)
-}
-
-/// Whether serving these frames writes this reply and ends so.
-fn serves(
-    alloc: Global,
-    parts: &[&str],
-    reply: &str,
-    end: Result<Served, WorkerFault>,
-) -> Result<bool, Fail> {
-    let input = bytes_of_all(alloc, parts)?;
-    let reply = bytes_of(alloc, reply)?;
-    let mut output = Vec::new(alloc);
-    let answer = serve(alloc, &mut input.as_slice(), &mut output);
-    Ok(answer == end && output.as_slice() == reply.as_slice())
-}
-
-/// A set-up, a budget and the reply, with the lines of one vertex between the two frames.
-static TURNS: [(&str, &str, &str); 5] = [
-    (
-        SETUP,
-        "00000005 04 00001000",
-        "0000000e 03 00000002 00000001 00000000 01 00000003 05 01 00",
-    ),
-    (
-        SETUP,
-        "00000005 04 00000002",
-        "00000016 03 00000002 00000001 00000000 00 00000001 00000000 00000003 05 00 00",
-    ),
-    (SETUP, "00000005 04 00000000", "00000003 05 00 00"),
-    (
-        SETUP_2,
-        "00000005 04 00001000",
-        "00000003 05 01 00 0000000e 07 00000002 00000001 00000000 01 00000003 05 01 00",
-    ),
-    (
-        SETUP_2,
-        "00000005 04 00000002",
-        "00000003 05 01 00 0000001a 07 00000002 00000001 00000000 00 00000001 00000000 00000001 00000003 05 00 00",
-    ),
-];
-
-#[test]
-fn answers_a_go(rt: HostRuntime) -> Result<(), Fail> {
-    for (setup, go, reply) in &TURNS {
-        let parts = [*setup, LINES, *go, HALT];
-        assert!(rt;
-            serves(rt.alloc(), &parts, reply, Ok(Served::Halted(4)))?,
-            "{go}"
-        );
-    }
-    Ok(())
-}
-
-/// A frame without values, of either kind, and the report of a frame out of turn.
-const NO_VALUES: &str = "00000009 03 00000002 00000000";
-
-const NO_SPARSE: &str = "00000009 07 00000002 00000000";
-
-const ORDER: &str = "00000003 05 02 04";
-
-/// Frames of which one is out of turn, and the reply.
-static OUT_OF_TURN: [([&str; 3], &str); 8] = [
-    (["00000005 04 00001000", HALT, HALT], ORDER),
-    ([LINES, HALT, HALT], ORDER),
-    (["00000003 05 01 00", HALT, HALT], ORDER),
-    ([SETUP, NO_SPARSE, HALT], ORDER),
-    (
-        [SETUP_2, NO_VALUES, HALT],
-        "00000003 05 01 00 00000003 05 02 04",
-    ),
-    ([SETUP, NO_VALUES, LINES], ORDER),
-    ([SETUP, LINES, LINES], ORDER),
-    ([SETUP, "00000003 05 01 00", HALT], ORDER),
-];
-
-#[test]
-fn refuses_a_frame_out_of_turn(rt: HostRuntime) -> Result<(), Fail> {
-    for (frames, reply) in &OUT_OF_TURN {
-        let end = Err(WorkerFault::Order);
-        assert!(rt; serves(rt.alloc(), frames, reply, end)?, "{frames:?}");
-    }
-    Ok(())
-}
-
-/// Frames of values and of vertices that don't fit the set-up.
-static MISFITS: [&str; 6] = [
-    "00000016 03 00000002 00000001 00000000 00 00000000 00000002",
-    "0000000e 03 00000002 00000001 00000002 01",
-    "00000009 03 00000001 00000000",
-    "00000016 02 00000001 00000002 00000001 00 00000001 00000000",
-    "00000016 02 00000001 00000000 00000001 00 00000001 00000002",
-    "00000016 02 00000001 00000000 00000005 00 00000001 00000000",
-];
-
-#[test]
-fn refuses_what_does_not_fit(rt: HostRuntime) -> Result<(), Fail> {
-    for frame in &MISFITS {
-        let (reply, end) = ("00000003 05 02 03", Err(WorkerFault::BadUpdate));
-        assert!(rt;
-            serves(rt.alloc(), &[SETUP, *frame], reply, end)?,
-            "{frame}"
-        );
-    }
-    Ok(())
-}
-
-/// Bytes, the reply, and how serving ends.
-static ENDS: [(&[&str], &str, Result<Served, WorkerFault>); 7] = [
-    (
-        &["01000001"],
-        "00000003 05 02 0c",
-        Err(WorkerFault::Wire(WireFault::TooLong)),
-    ),
-    (&["0000"], "", Err(WorkerFault::Wire(WireFault::Truncated))),
-    (
-        &["00000001 08"],
-        "00000003 05 02 0e",
-        Err(WorkerFault::Wire(WireFault::BadKind)),
-    ),
-    (
-        &["00000002 06 00"],
-        "00000003 05 02 0f",
-        Err(WorkerFault::Wire(WireFault::BadField(5))),
-    ),
-    (
-        &["0000000a 01 03 00000002 00000000"],
-        "00000003 05 02 12",
-        Err(WorkerFault::Wire(WireFault::Version)),
-    ),
-    (&[], "", Ok(Served::InputEnded(0))),
-    (&[SETUP], "", Ok(Served::InputEnded(1))),
-];
-
-#[test]
-fn tells_a_frame_that_can_not_be_read(rt: HostRuntime) -> Result<(), Fail> {
-    for (parts, reply, end) in &ENDS {
-        assert!(rt; serves(rt.alloc(), parts, reply, *end)?, "{parts:?}");
-    }
-    Ok(())
 }
 
 /// The sparse frame of `0,1` for vertex 0 and top for vertex 1.
@@ -368,6 +232,25 @@ fn a_failed_write_ends_serving(rt: HostRuntime) -> Result<(), Fail> {
     let input = bytes_of_all(rt.alloc(), &parts)?;
     assert!(rt; tells_failed_writes(rt.alloc(), &input, 33));
     assert!(rt; end_of_serving(rt.alloc(), &input, 33) == Ok(Served::Halted(4)));
+    Ok(())
+}
+
+/// Bytes, and how serving them ends.
+static ENDS: [(&[&str], Result<Served, WorkerFault>); 3] = [
+    (&[], Ok(Served::InputEnded(0))),
+    (&[SETUP], Ok(Served::InputEnded(1))),
+    (
+        &["00000002 06 00"],
+        Err(WorkerFault::Wire(WireFault::BadField(5))),
+    ),
+];
+
+#[test]
+fn tells_how_serving_ended(rt: HostRuntime) -> Result<(), Fail> {
+    for (parts, end) in &ENDS {
+        let input = bytes_of_all(rt.alloc(), parts)?;
+        assert!(rt; end_of_serving(rt.alloc(), &input, 7) == *end, "{parts:?}");
+    }
     Ok(())
 }
 

@@ -1,25 +1,13 @@
-//! Games that are made by the dozen.
+//! Games that are made by the dozen, and what is proposed of them.
 
 ghost use Rattle.std.specs.Prelude.{IfOk};
 ghost use Rattle.pg_arena.specs.Games.{HasPrioritiesUpTo};
 
+use crate::dice::{Dice, player};
 use crate::tools::are_both_shown;
 use pg_arena::{Game, GameBuilder, MAX_PRIORITY, Player};
 use std::alloc::Global;
 use std::test::Fail;
-
-/// Numbers that look random.
-#[derive(Drop)]
-struct Dice(u64);
-
-impl Dice {
-    /// The next number below `end`, which is at least 1 and below 65,536.
-    fn below(&mut self, end: u32) -> u32 {
-        self.0 = self.0.wrapping_mul(6_364_136_223_846_793_005);
-        self.0 = self.0.wrapping_add(1_442_695_040_888_963_407);
-        ((self.0 >> 40) % u64::from(end.clamp(1, 65_536))) as u32
-    }
-}
 
 /// A game of some vertices and priorities, each vertex with up to `degree` successors.
 fn random(alloc: Global, seed: u64, all: u32, priorities: u32, degree: u32) -> Result<Game, Fail>
@@ -28,10 +16,7 @@ fn random(alloc: Global, seed: u64, all: u32, priorities: u32, degree: u32) -> R
     let mut dice = Dice(seed);
     let mut builder = GameBuilder::new(alloc);
     for v in 0..all.min(1000) {
-        let owner = match dice.below(2) {
-            0 => Player::Even,
-            _ => Player::Odd,
-        };
+        let owner = player(dice.below(2));
         let mut successors = vec![in alloc; dice.below(all)]?;
         for _ in 0..dice.below(degree) {
             successors.push(dice.below(all))?;

@@ -2,7 +2,7 @@ use Rattle.std.proofs.Common.{◌≡◌, ◌∙◌, ℕ, length, sym, subst}
 use Rattle.std.proofs.lemmas.Bool.{eqb-true}
 use Rattle.pg_map.specs.Lines.{AreWithin, game_line}
 use Rattle.pg_map.proofs.GameLines.{game_lines_within}
-use Rattle.pg_claims_tests.proofs.tools.is_of.Goals as goal
+use Rattle.pg_solver_tests.proofs.tools.is_of.Goals as goal
 
 pub returns : goal.returns
 returns c = λ t.

@@ -1,6 +1,6 @@
 //! Steps of circuits.
 
-use crate::machines::{agreeing, alternating, delay, named};
+use crate::circuits::{agreeing, alternating, delay, named};
 use pg_aiger::{AigerFault, Circuit};
 use std::test::Fail;
 

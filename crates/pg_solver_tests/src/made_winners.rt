@@ -1,5 +1,6 @@
 //! Games that are made by the dozen, and families on which some of the methods alone are slow.
 
+use crate::dice::{Dice, player};
 use crate::judging::{show, win};
 use crate::lines::{Lines, at};
 use pg_arena::Player;
@@ -7,34 +8,13 @@ use pg_winners::find_winners;
 use std::alloc::Global;
 use std::test::Fail;
 
-/// Numbers that look random.
-#[derive(Drop)]
-struct Dice(u64);
-
-impl Dice {
-    /// The next number below `end`, which is at least 1 and below 65,536.
-    fn below(&mut self, end: u64) -> u32 {
-        self.0 = self.0.wrapping_mul(6_364_136_223_846_793_005);
-        self.0 = self.0.wrapping_add(1_442_695_040_888_963_407);
-        ((self.0 >> 40) % end.clamp(1, 65_536)) as u32
-    }
-}
-
-fn player(number: u32) -> Player {
-    if number == 0 {
-        Player::Even
-    } else {
-        Player::Odd
-    }
-}
-
 /// A game of up to 14 vertices.
 fn small(alloc: Global, seed: u64) -> Result<Lines, Fail> {
     let mut dice = Dice(seed);
     let mut lines = Lines::new(alloc)?;
-    let all = u64::from(dice.below(14)).saturating_add(1);
-    let degree = u64::from(dice.below(3)).saturating_add(1);
-    let priorities = u64::from(dice.below(12)).saturating_add(1);
+    let all = dice.below(14).saturating_add(1);
+    let degree = dice.below(3).saturating_add(1);
+    let priorities = dice.below(12).saturating_add(1);
     for _ in 0..all {
         let mut row = vec![in alloc; dice.below(all)]?;
         for _ in 0..dice.below(degree) {
@@ -108,7 +88,7 @@ fn with_dual(alloc: Global, lines: &Lines) -> Result<Lines, Fail> {
             row.push(if is_dual { w.saturating_add(all) } else { *w })?;
         }
         if dice.below(40) == 0 {
-            let other = dice.below(u64::from(all));
+            let other = dice.below(all);
             row.push(if is_dual {
                 other
             } else {

@@ -1,6 +1,6 @@
 //! Writers that fail, and the texts of faults.
 
-use crate::machines::agreeing;
+use crate::circuits::agreeing;
 use pg_aiger::{AigerFault, write_circuit};
 use std::io;
 use std::test::Fail;

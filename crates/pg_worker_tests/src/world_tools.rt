@@ -17,7 +17,7 @@ pub fn odd_game(alloc: Global) -> Result<Game, ArenaFault> {
 }
 
 /// The world of that game in which vertex 0 is of the first worker and vertex 1 of the second.
-pub fn odd_world(alloc: Global) -> Result<World, Fail> {
+fn odd_world(alloc: Global) -> Result<World, Fail> {
     let cut = Cut::from_list(alloc, 2, &[1, 2])?.ok_or("each is a worker")?;
     let game = odd_game(alloc)?;
     Ok(World::new(alloc, game, cut)?)
@@ -59,16 +59,6 @@ pub fn holds_after<F: FnOnce(&World) -> bool + Drop>(
     let happened = happen(&mut world, events);
     let holds = fact(&world);
     Ok(happened && holds)
-}
-
-/// Whether each of the events is refused by its fault.
-pub fn are_refused(world: &mut World, rows: &[(Event, WorldFault)]) -> bool {
-    for (event, fault) in rows {
-        if step(world, *event) != Err(*fault) {
-            return false;
-        }
-    }
-    true
 }
 
 /// Whether the replica took just these updates.

@@ -1,6 +1,6 @@
 //! The text of a circuit, byte for byte. More are shown by the rows of `synth`.
 
-use crate::machines::{Made, delay};
+use crate::circuits::{Made, delay};
 use pg_aiger::{AigerFault, write_circuit};
 use std::alloc::Global;
 use std::test::Fail;
