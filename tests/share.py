@@ -23,7 +23,7 @@ READERS = [  # each has to read its file without a word
 COMMANDS = ["check", "game", "measure", "replay", "solve", "synth", "worker"]
 # words that were typed, the last of which is to be completed, and what has to be offered
 TYPED = [(["parsolve", ""], [*COMMANDS, "--help", "--version", "-h", "-V"]), (["parsolve", "s"], ["solve", "synth"]),
-         (["parsolve", "solve", "--"], ["--workers", "--apart", "--any", "--help"]), (["parsolve", "check", "--"], ["--help"]),
+         (["parsolve", "solve", "--"], ["--workers", "--apart", "--any", "--stats", "--help"]), (["parsolve", "check", "--"], ["--stats", "--help"]),
          (["parsolve", "worker", "--p"], ["--port"]), (["parsolve", "solve", "--workers", ""], []),
          (["parsolve", "solve", "--apart", "examples/mor"], ["examples/mortal-worker"]),
          (["parsolve", "solve", "examples/tw"], ["examples/two.pg"]), (["parsolve", "worker", "examples/tw"], []),

@@ -38,7 +38,10 @@ pub(crate) fn tell<E: Write>(errors: &mut E, fault: &Fault) -> ExitCode {
         Fault::Open(name, why) => (writeln!(errors, "parsolve: cannot open {name}: {why}"), 1),
         Fault::Read(name) => (writeln!(errors, "parsolve: cannot read {name}"), 1),
         Fault::Controlled => (
-            writeln!(errors, "parsolve: --outs is given, and so is a header controllable-AP"),
+            writeln!(
+                errors,
+                "parsolve: --outs is given, and so is a header controllable-AP"
+            ),
             1,
         ),
         Fault::NoProposition(name) => (

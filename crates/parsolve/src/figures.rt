@@ -228,8 +228,18 @@ impl Figures {
         if let Some(states) = self.states {
             write!(errors, " states {states},")?;
         }
-        if let Some(Size { vertices, edges, priorities }) = self.size {
-            write!(errors, " vertices {vertices}, edges {edges}, priorities {priorities},")?;
+        if let Some(
+            Size {
+                vertices,
+                edges,
+                priorities,
+            },
+        ) = self.size
+        {
+            write!(
+                errors,
+                " vertices {vertices}, edges {edges}, priorities {priorities},"
+            )?;
         }
         if let Some(Wins { even, odd }) = self.wins {
             write!(errors, " player 0 wins {even}, player 1 wins {odd},")?;

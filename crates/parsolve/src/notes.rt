@@ -4,9 +4,11 @@ use pg_cli::Command;
 use pg_hoa::has_header;
 use std::io::Write;
 
-const UNCONTROLLED: &str = "parsolve: note: no header controllable-AP, so every proposition is the environment's";
+const UNCONTROLLED: &str =
+    "parsolve: note: no header controllable-AP, so every proposition is the environment's";
 
-const PLAYERS: &str = "parsolve: note: header spot-state-player isn't read: each edge is a step of both";
+const PLAYERS: &str =
+    "parsolve: note: header spot-state-player isn't read: each edge is a step of both";
 
 /// Which notes there are.
 #[derive(Clone, Copy)]

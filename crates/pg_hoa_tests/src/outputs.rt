@@ -6,7 +6,8 @@ use std::alloc::Global;
 const PLAIN: &[u8] =
     b"HOA: v1 Start: 0 AP: 3 \"a\" \"b\" \"a\" Acceptance: 1 Inf(0) --BODY-- --END--";
 
-const CONTROLLED: &[u8] = b"HOA: v1 Start: 0 AP: 1 \"a\" Acceptance: 1 Inf(0) controllable-AP: --BODY-- --END--";
+const CONTROLLED: &[u8] =
+    b"HOA: v1 Start: 0 AP: 1 \"a\" Acceptance: 1 Inf(0) controllable-AP: --BODY-- --END--";
 
 /// Which propositions of the plain text are the controller's, where these are the names of the outputs.
 fn controls(alloc: Global, names: &[&[u8]]) -> Option<[bool; 3]> {
@@ -15,13 +16,11 @@ fn controls(alloc: Global, names: &[&[u8]]) -> Option<[bool; 3]> {
     if automaton.propositions() != 3 {
         return None;
     }
-    Some(
-        [
-            automaton.controllable(0),
-            automaton.controllable(1),
-            automaton.controllable(2),
-        ],
-    )
+    Some([
+        automaton.controllable(0),
+        automaton.controllable(1),
+        automaton.controllable(2),
+    ])
 }
 
 /// Whether the text is refused so, where these are the names of the outputs.

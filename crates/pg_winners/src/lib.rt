@@ -17,5 +17,4 @@ pub use arranging::arrange;
 pub use graph::Graph;
 pub use pg_arrange::{NONE, Placed};
 pub use played::Played;
-pub use table::{Attraction, Table};
 pub use winners::{Winners, find_winners};

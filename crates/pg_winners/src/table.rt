@@ -17,14 +17,14 @@ const NARROW: usize = 16;
 
 /// Which vertices an attractor takes: for a player, those of regions from `low` on, to the region `mark`, which is lower.
 #[derive(Clone, Copy)]
-pub struct Attraction {
+pub(crate) struct Attraction {
     pub player: u32,
     pub low: u32,
     pub mark: u32,
 }
 
 #[derive(Drop)]
-pub struct Table {
+pub(crate) struct Table {
     pub regions: Vec<u32>,
     /// What the winner, or who may become it, chooses at each vertex.
     pub choices: Vec<u32>,
@@ -106,24 +106,6 @@ impl Table {
             place = place.wrapping_add(1);
         }
         false
-    }
-
-    /// Attracts a vertex by what is attracted already; whether that is enough.
-    pub fn join(&mut self, graph: &Graph, v: u32, attraction: Attraction) -> bool {
-        let Attraction { player, low, mark } = attraction;
-        let row = graph.successors(v);
-        let mut choice = None;
-        if graph.owner(v) == player {
-            choice = row.iter().copied().find(|w| self.region(*w) == mark);
-            if choice.is_none() {
-                return false;
-            }
-        } else if self.first_from(row, low).is_some() {
-            return false;
-        }
-        put(&mut self.choices, v, choice.unwrap_or(NONE));
-        self.mark(v, mark);
-        true
     }
 
     /// Attracts predecessors of a vertex.
