@@ -140,11 +140,10 @@ RIGHT = (0, "solve two words\nthe input\n")
 
 
 def first_use(copy):
-    """The libraries are proved, those beside one another at once, that which the program waits for less by statements; the kit is told, and
-    then the program runs."""
+    """The libraries are proved, those beside one another at once; the kit is told, and then the program runs."""
     *ran, errors, asked = copy.use()
     return tuple(ran) == RIGHT and asked[:2] == ["start low", "end low"] and {*asked[2:4]} == {"start left", "start right"} \
-        and {*asked[4:6]} == {"end left by statements", "end right"} and asked[6:] == ["run"] and "by the test's kit\n" in errors
+        and {*asked[4:6]} == {"end left", "end right"} and asked[6:] == ["run"] and "by the test's kit\n" in errors
 
 
 def later_uses(copy):
@@ -171,10 +170,10 @@ def failures(copy):
 
 
 def little_memory(copy):
-    """Where memory is short the libraries are proved one after the other."""
+    """Where memory is short the libraries are proved one after the other, each by one process, so by statements."""
     *_, asked = copy.use(FITS="1")
-    return asked == [f"{what} {name}" for name in ("low", "left", "right") for what in ("start", "end")] + ["run"] \
-        or asked == [f"{what} {name}" for name in ("low", "right", "left") for what in ("start", "end")] + ["run"]
+    orders = [("low", "left", "right"), ("low", "right", "left")]
+    return asked in [[word for name in order for word in (f"start {name}", f"end {name} by statements")] + ["run"] for order in orders]
 
 
 def at_once(copy):
