@@ -246,9 +246,10 @@ def verdict_text(game, verdict):
 
 
 def says(program, command, text):
-    """(status, what a command prints, the error stream)."""
+    """(status, what a command prints, the error stream but for notes, which the library doesn't tell)."""
     done = subprocess.run([program, *command.split()], input=text, capture_output=True, timeout=600)
-    return done.returncode, done.stdout, done.stderr
+    told = [line for line in done.stderr.splitlines(keepends=True) if not line.startswith(b"parsolve: note: ")]
+    return done.returncode, done.stdout, b"".join(told)
 
 
 def answered(parsolve, command, text):
