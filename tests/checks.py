@@ -351,12 +351,13 @@ def ends_by_name(program, limits, words, wanted):
 
 def little_memory_is_told(program):
     """With little address space, or a short stack, want of memory is told by name, and never ends the program."""
+    least = os.path.getsize(program) // 1024 + 800  # under less the system can't map the program's file
     with tempfile.TemporaryDirectory() as folder:
         solution = os.path.join(folder, "solution")
         with open(solution, "wb") as file:
             file.write(b"0 0 1;\n1 0;\n")
         for words, wanted in ((["solve", "examples/two.pg"], b"paritysol 1;\n0 0 1;\n1 0;\n"), (["check", "examples/two.pg", solution], b"WINS\n")):
-            for limits in ([f"-v {kilobytes}" for kilobytes in range(2000, 6000, 4)], [f"-s {kilobytes}" for kilobytes in range(64, 256, 4)]):
+            for limits in ([f"-v {kilobytes}" for kilobytes in range(least, least + 4000, 4)], [f"-s {kilobytes}" for kilobytes in range(96, 256, 4)]):
                 why = ends_by_name(program, limits, words, wanted)
                 if why is not None:
                     return why
