@@ -49,6 +49,11 @@ enum {
     PARSOLVE_TOO_SHORT = 18
 };
 
+/* The version, as text. */
+static inline const char *parsolve_version(void) {
+    return PARSOLVE_VERSION;
+}
+
 /* What a code says, in English. This is no call of the library: the text is in the header. */
 static inline const char *parsolve_fault_text(uint32_t code) {
     switch (code) {

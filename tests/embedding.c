@@ -132,6 +132,7 @@ static uint32_t plain_solution_fault(const struct parsolve_game *g, const uint8_
 }
 
 static void faults(void) {
+    if (strcmp(parsolve_version(), PARSOLVE_VERSION)) wrong("the version", 0);
     uint64_t seed = 1;
     long told[PARSOLVE_TOO_SHORT + 1] = {0};
     for (long turn = 0; turn < 200000; turn++) {
