@@ -1,10 +1,9 @@
 -- The names that the proofs of this crate cite from elsewhere, passed on from one place. Declares nothing.
-pub use Rattle.std.proofs.Common.{ap, append-nil, append_assoc, ap₂, arith, inl, inr, length-append, length-drop, length-take-le, of_calls}
-pub use Rattle.std.proofs.Common.{refl, rules, subst, sym, take-append-drop, ◌∙◌}
+pub use Rattle.std.proofs.Common.{ap, append-nil, append_assoc, ap₂, arith, inl, inr, length-append, length-drop, length-take-le, refl}
+pub use Rattle.std.proofs.Common.{rules, subst, sym, take-append-drop, ◌∙◌}
 pub use Rattle.std.proofs.Math.Nat.{mod-eq_of_lt}
 pub use Rattle.std.proofs.Math.Seq.{drop-append_seam, get_or-append_seam, take-append-add, take-append_seam}
 pub use Rattle.std.proofs.lemmas.Bool.{cases_lt}
-pub use Rattle.std.proofs.lemmas.Fmt.{decimal_digit}
 pub use Rattle.std.proofs.lemmas.Grind.{common_steps, flat_map-append}
 pub use Rattle.std.proofs.lemmas.List.{get_or-map, get_or_append_left, get_or_default, get_or_past, length-map, map-append, same_lists}
 pub use Rattle.std.proofs.lemmas.List.{take_all, take_more}
@@ -17,9 +16,9 @@ pub use Rattle.std.proofs.lemmas.Slice.Zip.{get_or-zip, length-zip}
 pub use Rattle.std.specs.Io.KnownBytes.{Appends}
 pub use Rattle.std.specs.List.{enumerate_from, flat_map, zip}
 pub use Rattle.std.specs.Ordering.{nat_cmp, ord_max}
-pub use Rattle.std.specs.Prelude.{All, Contains, Err, IfErr, IfOk, IfSome, IsErrAnd, IsSome, List, MatchResult, None, Ok, OnOk, OnSome}
-pub use Rattle.std.specs.Prelude.{Option, Result, Some, [], codes, decimal, drop, get_or, if◌then◌else◌, length, map, max, slice_get, suc}
-pub use Rattle.std.specs.Prelude.{take, zero, ℕ, ◌%◌, ◌*◌, ◌++◌, ◌+◌, ◌-◌, ◌<◌, ◌^◌, ◌∷◌, ◌≡◌, ◌≢◌, ◌≤◌, ◌⊎◌}
+pub use Rattle.std.specs.Prelude.{All, Contains, Err, IfErr, IfOk, IfSome, IsErrAnd, IsSome, List, MatchResult, None, Ok, OnOk, Option}
+pub use Rattle.std.specs.Prelude.{Result, Some, [], codes, decimal, drop, get_or, if◌then◌else◌, length, map, max, slice_get, suc, take}
+pub use Rattle.std.specs.Prelude.{zero, ℕ, ◌%◌, ◌*◌, ◌++◌, ◌+◌, ◌-◌, ◌<◌, ◌^◌, ◌∷◌, ◌≡◌, ◌≢◌, ◌≤◌, ◌⊎◌}
 pub use Rattle.memchr.proofs.lemmas.MatchLemmas.{OccursAt-from_part, OccursAt-split}
 pub use Rattle.memchr.specs.Find.{NoneBefore, Nowhere, OccursAt}
 pub use Rattle.pg_aiger.specs.CircuitLayout.{circuit_text, symbols_of}
@@ -110,13 +109,13 @@ pub use Rattle.pg_command.specs.Mirrors.Reading.{Keeps}
 pub use Rattle.pg_command.specs.Mirrors.Solver.{IsUnsolved}
 pub use Rattle.pg_command.specs.Mirrors.Synthesised.{Fits}
 pub use Rattle.pg_command.specs.Mirrors.Working.{Fails, ShowsWhat}
-pub use Rattle.pg_command.specs.Parts.{AreApart, IsParted, Parting, separator}
+pub use Rattle.pg_command.specs.Parts.{IsParted, Parting, separator}
 pub use Rattle.pg_command.specs.Mirrors.Parting.{parting_of}
 pub use Rattle.pg_command.specs.Replaying.{AreMapsOf, IsNoScript, IsReplayed, IsScripted, IsStopped, RefusesReplay, replica_text}
 pub use Rattle.pg_command.specs.Replaying.{update_line, world_text}
 pub use Rattle.pg_command.specs.Solving.{IsSolved, IsSolvedAnyhow, IsSolvedBy, IsUndecidedAt, IsUndecidedIn, RefusesSolve}
-pub use Rattle.pg_command.specs.Synthesising.{HasLargeMachine, IsRealized, IsSynthesised, IsUndecidedFor, IsUnrealized, IsWonFor}
-pub use Rattle.pg_command.specs.Synthesising.{RefusesSynth, realizable, unrealizable}
+pub use Rattle.pg_command.specs.Synthesising.{HasLargeMachine, IsRealized, IsSynthesised, IsUndecidedFor, IsWonFor, RefusesSynth}
+pub use Rattle.pg_command.specs.Synthesising.{realizable}
 pub use Rattle.pg_command.specs.Texts.{IsNoGame, IsNoSolution}
 pub use Rattle.pg_command.specs.Winners.{GamesHaveAnswers, MeasuresTellWinners, NoneUndecided}
 pub use Rattle.pg_command.specs.declared.fault.CliFault.{CliFault}

@@ -19,7 +19,8 @@ pub record Laws : Type 0 where
   pub same_taken : SameTaken
 
 -- an input has one script
-one_start : Laws → (input : List ℕ) (s t : WorldValue) (es fs : List Event) → IsScripted (IsParted input) s es → IsScripted (IsParted input) t fs → (s ≡ t) × (es ≡ fs)
+one_start : Laws → (input : List ℕ) (s t : WorldValue) (es fs : List Event) → IsScripted (IsParted input) s es
+    → IsScripted (IsParted input) t fs → (s ≡ t) × (es ≡ fs)
 one_start laws input s t es fs p q =
     let parts = parted_once input p.first p.second q.first q.second p.parted q.parted in
     let spelt : IsGameText p.first t.game = subst (λ (l : List ℕ). IsGameText l t.game) (sym parts.0) q.spelt in
@@ -180,8 +181,8 @@ unrefused laws input output place fault p q =
     (subst (λ (es : List Event). Runs p.replayed.start es p.after) begun.1 p.replayed.runs) in
     none_halted laws q.start p.after q.before q.events place fault runs (halted q.start q.before q.events place fault q.reason q.stops)
 
-pub one_stop : Laws → (input : List ℕ) (first second : ℕ) (fault other : WorldFault) → IsStopped (IsParted input) first fault → IsStopped (IsParted input) second other
-    → (first ≡ second) × (fault ≡ other)
+pub one_stop : Laws → (input : List ℕ) (first second : ℕ) (fault other : WorldFault) → IsStopped (IsParted input) first fault
+    → IsStopped (IsParted input) second other → (first ≡ second) × (fault ≡ other)
 one_stop laws input first second fault other p q =
     let begun = one_start laws input p.start q.start p.events q.events p.scripted q.scripted in
     let here = halted p.start p.before p.events first fault p.reason p.stops in

@@ -1,8 +1,8 @@
 -- What `synth` prints, and why it prints nothing, from what the steps give.
-use Rattle.pg_command.proofs.Common.{◌≡◌, ◌≢◌, ℕ, List, ◌++◌, Some, None, refl, ◌∙◌, Player, Even, Odd, GameVertex, Answer, winner}
-use Rattle.pg_command.proofs.Common.{IsSolution, IsSound, Automaton, IsAutomaton, Spelt, IsSynthGame, IsMealyOf, Machine, Circuit}
-use Rattle.pg_command.proofs.Common.{IsCircuitOf, circuit_text, AigerFault, IsSolvedBy, MapKind, Fits, Fails, IsWonFor, IsRealized}
-use Rattle.pg_command.proofs.Common.{IsUnrealized, HasLargeMachine, RefusesSynth, realizable, unrealizable, aiger_fault}
+use Rattle.pg_command.proofs.Common.{◌≡◌, ◌≢◌, ℕ, List, ◌++◌, Some, refl, ◌∙◌, Player, Even, GameVertex, Answer, winner, IsSolution}
+use Rattle.pg_command.proofs.Common.{IsSound, Automaton, IsAutomaton, Spelt, IsSynthGame, IsMealyOf, Machine, Circuit, IsCircuitOf}
+use Rattle.pg_command.proofs.Common.{circuit_text, AigerFault, IsSolvedBy, MapKind, Fits, Fails, IsWonFor, IsRealized, HasLargeMachine}
+use Rattle.pg_command.proofs.Common.{RefusesSynth, realizable, aiger_fault}
 use Rattle.pg_aiger.specs.Machines.{IsTooLarge}
 use Rattle.pg_aiger.specs.declared.fault.AigerFault.TheVariants as aiger
 
@@ -41,9 +41,6 @@ module _ (Kind : MapKind) (input : List ℕ) (a : Automaton) (game : List GameVe
     solved = k.solved;
     won = record { game_of = k.game_of.is_game_of; begins = k.game_of.begins; solution_of = k.whole; sound = k.sound; wins = wins };
   }
-
-  pub unrealized_by : IsMealyOf a game initial solution None → IsUnrealized Kind input unrealizable
-  unrealized_by wins = record { odd = won_by Odd wins; printed = refl }
 
   module _ (machine : Machine) (mealy : IsMealyOf a game initial solution (Some machine)) where
     pub realized_by : (circuit : Circuit) → ¬ IsTooLarge machine → IsCircuitOf machine circuit

@@ -40,9 +40,6 @@ exchanges_more i i' i'' o o' o'' fs f held held' e a =
       written = then o o' o'' e.bytes a.reply e.written a.written;
     }
 
-abbrev write_fault : WorkerFault
-write_fault = Wire wire.Write
-
 pub broken_off : (e fault : WorkerFault) (input left output before before' output' : Option (List ℕ)) (fs : List Frame)
     (held : Option SessionValue)
     → Exchanges input left output before fs held → All (λ f. f ≢ frames.Halt) fs → length fs < 4294967295

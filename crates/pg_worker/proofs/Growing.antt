@@ -42,10 +42,6 @@ first_line (l ∷ ls) r row head h =
     let told : head ≡ head_of l = some_is head (head_of l) h.0 in
     record { rest = ls; parts = sym (ap (λ (k : LineHead). line_with k row ∷ ls) told ∙ ap (λ (ns : List ℕ). line_with (head_of l) ns ∷ ls) h.1); left = h.2 }
 
-none_left : (back : List VertexLine) (r : VerticesReader) (row : List ℕ) → IsNextLine back r row None → back ≡ []
-none_left [] r row h = refl
-none_left (l ∷ ls) r row h = absurd cc
-
 -- reading answers so, whatever lines are left
 abbrev pub Reads : VerticesReader → VerticesReader → List ℕ → Option LineHead → Type 0
 Reads r r' row answer = (back : List VertexLine) → AreLeft r back → IsNextLine back r' row answer

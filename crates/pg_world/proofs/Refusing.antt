@@ -1,7 +1,7 @@
 -- When an event goes ahead.
 use Rattle.pg_world.proofs.Common.{◌≡◌, ℕ, ◌<◌, ◌≤◌, Bool, true, false, Some, None, refl, ◌&&◌, ◌==◌, nat_lt, nat_le, Option, length}
-use Rattle.pg_world.proofs.Common.{if◌then◌else◌, leb-true, ltb-true, lt-ltb, le-leb, eq-eqb, identifier, worker_of, WorldFault}
-use Rattle.pg_world.proofs.Common.{NoSuchReplica, NotMine, NoSuchUpdate, Lift, Deliver, Restart, WorldValue, is_worker, refusal}
+use Rattle.pg_world.proofs.Common.{if◌then◌else◌, leb-true, ltb-true, identifier, worker_of, WorldFault, NoSuchReplica, NotMine}
+use Rattle.pg_world.proofs.Common.{NoSuchUpdate, Lift, Deliver, Restart, WorldValue, is_worker, refusal}
 
 passed : (b : Bool) (x : Option WorldFault) (f : WorldFault) → (if b then x else Some f) ≡ None → (b ≡ true) × (x ≡ None)
 passed true x f h = (refl, h)
@@ -29,7 +29,3 @@ lifts w r v h =
 
 pub restarts : (w : WorldValue) (r : ℕ) → refusal w (Restart r) ≡ None → (0 < r) × (r ≤ w.cut.workers)
 restarts w r h = worker_is w r ((passed (is_worker w r) None (NoSuchReplica r) h).0)
-
--- a worker of its own vertex isn't refused
-pub lift_goes : (w : WorldValue) (r v : ℕ) → 0 < r → r ≤ w.cut.workers → worker_of w.cut v ≡ r → refusal w (Lift r v) ≡ None
-lift_goes w r v a b e = rw (lt-ltb 0 r a, le-leb r w.cut.workers b, eq-eqb (worker_of w.cut v) r e) refl

@@ -57,17 +57,19 @@ pub fails_none : (bytes : List ℕ) (game : List GameVertex) (mid : List ℕ) �
     → (cut : CutValue) (events : List Event) → ¬ IsScriptText bytes game cut events
 fails_none bytes game mid well read = λ cut events t.
     let h = head_read bytes game cut events well t in
-    none_is_some cut.workers (ap (λ (p : Option ℕ × List ℕ). p.0) (same_ok (clause_at (codes "workers") bytes) (None, mid) (Some cut.workers, h.mid) read h.workers_read))
+    none_is_some cut.workers (ap (λ (p : Option ℕ × List ℕ). p.0)
+    (same_ok (clause_at (codes "workers") bytes) (None, mid) (Some cut.workers, h.mid) read h.workers_read))
 
 -- the head of a text is what was read
-same_workers : (bytes : List ℕ) (a b : ℕ) (p q : List ℕ) → clause_at (codes "workers") bytes ≡ Ok (Some a, p) → clause_at (codes "workers") bytes ≡ Ok (Some b, q)
+same_workers : (bytes : List ℕ) (a b : ℕ) (p q : List ℕ) → clause_at (codes "workers") bytes ≡ Ok (Some a, p)
+    → clause_at (codes "workers") bytes ≡ Ok (Some b, q)
     → (a ≡ b) × (p ≡ q)
 same_workers bytes a b p q first second =
     let same = same_ok (clause_at (codes "workers") bytes) (some a, p) (some b, q) first second in
     (some_is a b (ap (λ (x : Option ℕ × List ℕ). x.0) same), ap (λ (x : Option ℕ × List ℕ). x.1) same)
 
-pub fails_many : (bytes : List ℕ) (game : List GameVertex) (workers : ℕ) (mid : List ℕ) → IsGame game → clause_at (codes "workers") bytes ≡ Ok (Some workers, mid)
-    → 16 < workers → (cut : CutValue) (events : List Event) → ¬ IsScriptText bytes game cut events
+pub fails_many : (bytes : List ℕ) (game : List GameVertex) (workers : ℕ) (mid : List ℕ) → IsGame game
+    → clause_at (codes "workers") bytes ≡ Ok (Some workers, mid) → 16 < workers → (cut : CutValue) (events : List Event) → ¬ IsScriptText bytes game cut events
 fails_many bytes game workers mid well read many = λ cut events t.
     let h = head_read bytes game cut events well t in
     let same = (same_workers bytes cut.workers workers h.mid mid h.workers_read read).0 in

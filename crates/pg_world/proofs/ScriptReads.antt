@@ -48,9 +48,6 @@ pub record Reading (bytes : List ℕ) (game : List GameVertex) (events : List Ev
   pub vertices : All (IsEventOf game) events
   pub others : (all : List Event) → AreEvents bytes game all → (later : List Event) × AreEvents rest game later
 
-pub starts : (bytes : List ℕ) (game : List GameVertex) → Reading bytes game [] bytes
-starts bytes game = record { spelt = refl; vertices = All-nil (IsEventOf game); others = λ all a. (all, a) }
-
 goes_later : (game : List GameVertex) (rest : List ℕ) (line : ScriptLine) (after : List ℕ) (later : List Event)
     → next_line_at rest ≡ Ok (Some line, after) → AreEvents rest game later
     → (e : Event) × (es : List Event) × IsEventAt game line e × AreEvents after game es
@@ -58,7 +55,8 @@ goes_later game rest line after [] read a =
     absurd (none_some line rest after (same_ok (next_line_at rest) (None, rest) (Some line, after) (no_events_read rest game a) read))
 goes_later game rest line after (e ∷ es) read a =
     let s = split rest game e es a in
-    let same : (some (line_of game e), s.mid) ≡ (some line, after) = same_ok (next_line_at rest) (Some (line_of game e), s.mid) (Some line, after) s.read read in
+    let same : (some (line_of game e), s.mid) ≡ (some line, after) =
+    same_ok (next_line_at rest) (Some (line_of game e), s.mid) (Some line, after) s.read read in
     let same_line : line_of game e ≡ line = some_is (line_of game e) line (ap (λ (p : Option ScriptLine × List ℕ). p.0) same) in (
       e,
       es,
@@ -131,10 +129,12 @@ pub same_events : (game : List GameVertex) (bytes : List ℕ) (es es' : List Eve
 same_events game bytes [] [] well a b = refl
 same_events game bytes [] (e' ∷ es') well a b =
     let s = split bytes game e' es' b in
-    absurd (none_some (line_of game e') bytes s.mid (same_ok (next_line_at bytes) (None, bytes) (Some (line_of game e'), s.mid) (no_events_read bytes game a) s.read))
+    absurd (none_some (line_of game e') bytes s.mid
+    (same_ok (next_line_at bytes) (None, bytes) (Some (line_of game e'), s.mid) (no_events_read bytes game a) s.read))
 same_events game bytes (e ∷ es) [] well a b =
     let s = split bytes game e es a in
-    absurd (none_some (line_of game e) bytes s.mid (same_ok (next_line_at bytes) (None, bytes) (Some (line_of game e), s.mid) (no_events_read bytes game b) s.read))
+    absurd (none_some (line_of game e) bytes s.mid
+    (same_ok (next_line_at bytes) (None, bytes) (Some (line_of game e), s.mid) (no_events_read bytes game b) s.read))
 same_events game bytes (e ∷ es) (e' ∷ es') well a b =
     let s = split bytes game e es a in
     let s' = split bytes game e' es' b in
