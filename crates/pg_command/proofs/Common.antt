@@ -86,8 +86,7 @@ pub use Rattle.pg_text.specs.declared.answer.Answer.{Answer}
 pub use Rattle.pg_text.specs.declared.fault.TextFault.{TextFault}
 pub use Rattle.pg_words.specs.declared.command.Command.{Command}
 pub use Rattle.pg_words.specs.declared.command.Command.TheVariants.{Measure, Solve, SolveAny}
-pub use Rattle.pg_world.specs.Laws.{AreTakenToo, NeverAbove, SameTaken}
-pub use Rattle.pg_world.specs.OneScript.{SpellsOneScript}
+pub use Rattle.pg_world.specs.Laws.{AreTakenToo, NeverAbove, SameTaken, SpellsOneScript}
 pub use Rattle.pg_world.specs.ScriptText.{IsScriptText}
 pub use Rattle.pg_world.specs.Updates.{UpdateValue, update_value}
 pub use Rattle.pg_world.specs.Worlds.{IsEventOf, IsMapOf, IsRefusedBy, Lifts, LiftsIn, Runs, Steps, StopsAt, WorldValue, making, new_world}

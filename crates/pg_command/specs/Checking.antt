@@ -5,13 +5,12 @@ use Rattle.pg_text.specs.Numbers.{identifiers_text}
 use Rattle.pg_text.specs.GameText.{IsGameText}
 use Rattle.pg_text.specs.SolutionText.{IsSolutionText}
 use Rattle.pg_text.specs.declared.answer.Answer.{Answer}
-use Rattle.pg_text.specs.declared.fault.TextFault.{TextFault}
 use Rattle.pg_check.specs.Soundness.{IsSound}
 use Rattle.pg_check.specs.Verdicts.{IsWins, Refutes}
 use Rattle.pg_check.specs.declared.verdict.Verdict.{Verdict}
 use Rattle.pg_check.specs.declared.verdict.Verdict.TheVariants.{Wins, Leaves, BadCycle}
 use Rattle.pg_command.specs.Parts.{Parting}
-use Rattle.pg_command.specs.Texts.{IsNoSolution, FailsFirst}
+use Rattle.pg_command.specs.Texts.{IsNoSolution, FailsFirst, FailsSecond}
 use Rattle.pg_command.specs.declared.fault.CliFault.{CliFault}
 use Rattle.pg_command.specs.declared.fault.CliFault.TheVariants.{Text, NoSeparator}
 
@@ -48,17 +47,8 @@ pub record IsChecked (Parts : Parting) (output : List ℕ) : Type 0 where
   pub checked : IsCheckedBy Parts game verdict
   pub printed : output ≡ verdict_text game verdict
 
--- the first text spells a game, and the second no solution of it
-pub record FailsSecond (Parts : Parting) (fault : TextFault) : Type 0 where
-  pub first : List ℕ
-  pub second : List ℕ
-  pub parted : Parts first second
-  pub game : List GameVertex
-  pub spelt : IsGameText first game
-  pub none : IsNoSolution second game fault
-
 -- why there is no such output: there aren't two texts, or the first fails, or the second one
 abbrev pub RefusesCheck : Parting → CliFault → Type 0
 RefusesCheck Parts NoSeparator = (first second : List ℕ) → ¬ Parts first second
-RefusesCheck Parts (Text fault) = FailsFirst Parts fault ⊎ FailsSecond Parts fault
+RefusesCheck Parts (Text fault) = FailsFirst Parts fault ⊎ FailsSecond Parts (λ text game. IsNoSolution text game fault)
 RefusesCheck Parts _ = ⊥

@@ -11,9 +11,8 @@ use Rattle.pg_hoa.specs.FaultTexts as hoa
 use Rattle.pg_synth.specs.FaultTexts as synth
 use Rattle.pg_aiger.specs.FaultTexts as aiger
 use Rattle.pg_command.specs.declared.fault.CliFault.{CliFault}
-use Rattle.pg_command.specs.declared.fault.CliFault.TheVariants.{OutOfMemory, Read, Write, InputTooLong, NoSeparator, Text}
-use Rattle.pg_command.specs.declared.fault.CliFault.TheVariants.{Script, World, CutMismatch, Undecided, Hoa, Synth, Aiger}
-use Rattle.pg_command.specs.declared.fault.CliFault.TheVariants.{Listen, Connect, Worker}
+use Rattle.pg_command.specs.declared.fault.CliFault.TheVariants.{OutOfMemory, Read, Write, InputTooLong, NoSeparator, Text, Script, World}
+use Rattle.pg_command.specs.declared.fault.CliFault.TheVariants.{CutMismatch, Undecided, Hoa, Synth, Aiger, Listen, Connect, Worker}
 
 -- what is told of the event at this place
 abbrev pub at_event : ℕ → List ℕ → List ℕ

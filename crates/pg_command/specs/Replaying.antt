@@ -16,7 +16,7 @@ use Rattle.pg_world.specs.declared.fault.WorldFault.TheVariants as world_fault
 use Rattle.pg_world.specs.declared.script_fault.ScriptFault.{ScriptFault}
 use Rattle.pg_world.specs.declared.script_fault.ScriptFault.TheVariants as script_fault
 use Rattle.pg_command.specs.Parts.{Parting}
-use Rattle.pg_command.specs.Texts.{FailsFirst}
+use Rattle.pg_command.specs.Texts.{FailsFirst, FailsSecond}
 use Rattle.pg_command.specs.Measuring.{measure_line, measures_text}
 use Rattle.pg_command.specs.declared.fault.CliFault.{CliFault}
 use Rattle.pg_command.specs.declared.fault.CliFault.TheVariants.{Text, NoSeparator, Script, World}
@@ -86,19 +86,10 @@ abbrev pub IsNoScript : List ℕ → List GameVertex → ScriptFault → Type 0
 IsNoScript text game script_fault.OutOfMemory = ⊥
 IsNoScript text game fault = (cut : CutValue) (events : List Event) → ¬ IsScriptText text game cut events
 
--- the first text spells a game, and the second no script for it
-pub record FailsScript (Parts : Parting) (fault : ScriptFault) : Type 0 where
-  pub first : List ℕ
-  pub second : List ℕ
-  pub parted : Parts first second
-  pub game : List GameVertex
-  pub spelt : IsGameText first game
-  pub none : IsNoScript second game fault
-
 -- why there is no such output: there aren't two texts, or the first fails, or the second one, or an event is refused
 abbrev pub RefusesReplay : Parting → CliFault → Type 0
 RefusesReplay Parts NoSeparator = (first second : List ℕ) → ¬ Parts first second
 RefusesReplay Parts (Text fault) = FailsFirst Parts fault
-RefusesReplay Parts (Script fault) = FailsScript Parts fault
+RefusesReplay Parts (Script fault) = FailsSecond Parts (λ text game. IsNoScript text game fault)
 RefusesReplay Parts (World place fault) = IsStopped Parts place fault
 RefusesReplay Parts _ = ⊥

@@ -20,23 +20,21 @@ pub record IsSolvedBy (Kind : MapKind) (game : List GameVertex) (solution : List
   pub odd_found : Kind (dual game) odd
   pub solution_of : IsSolutionOf game even odd solution
 
--- The input spells a game, whose identifiers are numbers of 32 bits, and the output is the text of such a solution.
-pub record IsSolved (Kind : MapKind) (input output : List ℕ) : Type 0 where
+-- The input spells a game, whose identifiers are numbers of 32 bits, and the output is the text of such a solution of it.
+pub record Solves (Solution : List GameVertex → List Answer → Type 0) (input output : List ℕ) : Type 0 where
   pub game : List GameVertex
   pub spelt : IsGameText input game
   pub identifiers : All (λ x. x.identifier < 2 ^ 32) game
   pub solution : List Answer
-  pub solved : IsSolvedBy Kind game solution
+  pub solved : Solution game solution
   pub printed : output ≡ solution_text game solution
 
--- The input spells a game, and the output is the text of a sound solution, whichever that is.
-pub record IsSolvedAnyhow (input output : List ℕ) : Type 0 where
-  pub game : List GameVertex
-  pub spelt : IsGameText input game
-  pub identifiers : All (λ x. x.identifier < 2 ^ 32) game
-  pub solution : List Answer
-  pub solved : IsSoundSolution game solution
-  pub printed : output ≡ solution_text game solution
+abbrev pub IsSolved : MapKind → List ℕ → List ℕ → Type 0
+IsSolved Kind input output = Solves (IsSolvedBy Kind) input output
+
+-- by a sound solution, whichever that is
+abbrev pub IsSolvedAnyhow : List ℕ → List ℕ → Type 0
+IsSolvedAnyhow input output = Solves IsSoundSolution input output
 
 -- The vertex with this identifier is the least at which a map of the game and one of its dual, both of the kind, are both top.
 pub record IsUndecidedIn (Kind : MapKind) (game : List GameVertex) (id : ℕ) : Type 0 where

@@ -1,7 +1,7 @@
 -- Why a text that has to spell a game, or a solution of a game, is refused.
 use Rattle.std.specs.Prelude.{ℕ, List}
 use Rattle.pg_arena.specs.Games.{GameVertex}
-use Rattle.pg_text.specs.GameText.{SpellsNoGame, Refuses}
+use Rattle.pg_text.specs.GameText.{IsGameText, SpellsNoGame, Refuses}
 use Rattle.pg_text.specs.SolutionText.{SpellsNoSolution, RefusesSolution}
 use Rattle.pg_text.specs.declared.fault.TextFault.{TextFault}
 use Rattle.pg_command.specs.Parts.{Parting}
@@ -20,3 +20,12 @@ pub record FailsFirst (Parts : Parting) (fault : TextFault) : Type 0 where
   pub second : List ℕ
   pub parted : Parts first second
   pub none : IsNoGame first fault
+
+-- the first spells a game, and the second fails for it
+pub record FailsSecond (Parts : Parting) (Fails : List ℕ → List GameVertex → Type 0) : Type 0 where
+  pub first : List ℕ
+  pub second : List ℕ
+  pub parted : Parts first second
+  pub game : List GameVertex
+  pub spelt : IsGameText first game
+  pub none : Fails second game

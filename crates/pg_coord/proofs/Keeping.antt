@@ -138,7 +138,7 @@ pub rows_refused : (old new : MemoryValue) (s : ℕ) (held : Option SessionValue
     → (why ≡ OutOfMemory) ⊎ RefusesBytes s held spelled why → (why ≢ OutOfMemory) × Reports why waits new
     → (f : Frame) × Spells f spelled × Sends f old new
 rows_refused old new s held spelled waits why hears s_is held_is waits_is rows (inl e) r = absurd (r.0 e)
-rows_refused old new s held spelled waits why hears s_is held_is waits_is rows (inr (inl none)) r = absurd (none.none rows.0 rows.2)
+rows_refused old new s held spelled waits why hears s_is held_is waits_is rows (inr (inl none)) r = absurd (none.2.none rows.0 rows.2)
 rows_refused old new s held spelled waits why hears s_is held_is waits_is rows (inr (inr refuses)) r =
     let f = refuses.0 in
     let same : Refuses old.highest old.held f why =

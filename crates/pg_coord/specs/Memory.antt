@@ -1,15 +1,14 @@
 -- Links to workers in the same process.
-use Rattle.std.specs.Prelude.{◌≡◌, ◌≢◌, ◌↔◌, ◌⊎◌, ℕ, ◌+◌, Bool, true, false, List, [], ◌++◌, Option, None, IfSome, MatchBool}
+use Rattle.std.specs.Prelude.{◌≡◌, ◌⊎◌, ℕ, Bool, true, false, List, [], ◌++◌, Option, None, IfSome, MatchBool}
 use Rattle.pg_map.specs.Maps.{MapValue}
 use Rattle.pg_wire.specs.declared.fault.WireFault.{WireFault}
-use Rattle.pg_wire.specs.declared.fault.WireFault.TheVariants as wire
 use Rattle.pg_wire.specs.declared.frame.Frame.{Frame}
 use Rattle.pg_wire.specs.declared.frame.Frame.TheVariants as frames
-use Rattle.pg_wire.specs.Bytes.{Spells, IsTooLong, IsTruncated}
+use Rattle.pg_wire.specs.Bytes.{Spells}
 use Rattle.pg_worker.specs.declared.fault.WorkerFault.{WorkerFault}
 use Rattle.pg_worker.specs.declared.fault.WorkerFault.TheVariants.{Wire}
 use Rattle.pg_parts.specs.Frames.{IsAtLeast, measures_in}
-use Rattle.pg_worker.specs.Turns.{SessionValue, Turn, IsUpTo, Refuses}
+use Rattle.pg_worker.specs.Turns.{SessionValue, Turn, IsUpTo, Refuses, IsNoFrame}
 use Rattle.pg_worker.specs.Serving.{report_bytes}
 use Rattle.pg_worker.specs.Above.{AreFrames, IsAboveSession}
 
@@ -32,12 +31,7 @@ started_link highest failures =
 -- what waits on once a frame was sent, ahead of the reply to it: nothing after a set-up
 abbrev pub still_waiting : Frame → List ℕ → List ℕ
 still_waiting (frames.Setup s) waiting = []
-still_waiting (frames.Vertices v) waiting = waiting
-still_waiting (frames.Values v) waiting = waiting
-still_waiting (frames.Sparse s) waiting = waiting
-still_waiting (frames.Go g) waiting = waiting
-still_waiting (frames.Report r) waiting = waiting
-still_waiting frames.Halt waiting = waiting
+still_waiting f waiting = waiting
 
 -- the session does its turn, and its reply waits behind what waits on
 pub record Answers (f : Frame) (old new : MemoryValue) : Type 0 where
@@ -67,13 +61,6 @@ pub record Drops (f : Frame) (old new : MemoryValue) : Type 0 where
 -- a frame is sent
 abbrev pub Sends : Frame → MemoryValue → MemoryValue → Type 0
 Sends f old new = MatchBool old.has_refused (Drops f old new) (Answers f old new ⊎ RefusesFrame f old new)
-
--- why bytes are refused that spell no frame
-pub record IsNoFrame (bytes : List ℕ) (why : WireFault) : Type 0 where
-  pub none : (f : Frame) → ¬ (Spells f bytes)
-  pub too_long : (why ≡ wire.TooLong) ↔ IsTooLong bytes
-  pub truncated : (why ≡ wire.Truncated) ↔ IsTruncated bytes
-  pub other : (why ≢ wire.OutOfMemory) × (why ≢ wire.Read) × (why ≢ wire.Write)
 
 -- bytes are sent that spell no frame
 abbrev pub SendsNoFrame : List ℕ → MemoryValue → MemoryValue → Type 0

@@ -69,8 +69,8 @@ pub refused_at : (input input' : Option (List ℕ)) (bytes : List ℕ) (held : O
     → Consumes input input' bytes
     → (e ≡ OutOfMemory) ⊎ RefusesBytes 2 held bytes e → IsFaultAt input held e
 refused_at input input' bytes held e w p (inl memory) = inl memory
-refused_at input input' bytes held e w p (inr (inl s)) =
-    inr (inr (inl (s.fault, s.why_is, s.of_bytes, refused_known input input' bytes s.fault p w s.none s.too_long.0 s.truncated.0)))
+refused_at input input' bytes held e w p (inr (inl (fault, is, s))) =
+    inr (inr (inl (fault, is, s.of_bytes, refused_known input input' bytes fault p w s.none s.too_long.0 s.truncated.0)))
 refused_at input input' bytes held e w p (inr (inr r)) =
     let read = got input input' bytes r.0 p r.1 in
     inr (inr (inr (r.0, input', read.0, read.1, r.2)))

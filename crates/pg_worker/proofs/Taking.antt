@@ -111,7 +111,7 @@ pub frame_refused : (f : Frame) (highest : ℕ) (before : Option SessionValue) (
     → IfErr r (λ e. (e ≡ OutOfMemory) ⊎ RefusesBytes highest before bytes e) → IfErr r (λ e. (e ≡ OutOfMemory) ⊎ Refuses highest before f e)
 frame_refused f highest before bytes (Ok halts) s d = tt
 frame_refused f highest before bytes (Err e) s (inl memory) = inl memory
-frame_refused f highest before bytes (Err e) s (inr (inl none)) = absurd (none.none f s)
+frame_refused f highest before bytes (Err e) s (inr (inl none)) = absurd (none.2.none f s)
 frame_refused f highest before bytes (Err e) s (inr (inr k)) = inr (subst (λ (g : Frame). Refuses highest before g e) (one_frame k.0 f bytes k.1 s) k.2)
 
 pub bytes_turn : (f : Frame) (highest : ℕ) (before : Option SessionValue) (bytes : List ℕ) (after : Option SessionValue) (out out' : List ℕ)
@@ -155,9 +155,7 @@ pub refuses_none : (highest : ℕ) (held : Option SessionValue) (bytes : List �
 refuses_none highest held bytes fault why is all long short stream =
     elim (memory_or fault) [
       | inl memory ↦ inl (is ∙ ap own_fault memory)
-      | inr other ↦ inr (inl (record {
-        fault = fault;
-        why_is = is ∙ other.1;
+      | inr other ↦ inr (inl (fault, is ∙ other.1, record {
         of_bytes = (other.0, stream.0, stream.1);
         none = λ f s. elim (all f s) [ inl ok ↦ absurd cc | inr memory ↦ other.0 (fault_is fault wire.OutOfMemory memory) ];
         too_long = (λ e. long.0 (ap failed e), λ t. fault_is fault wire.TooLong (long.1 t));

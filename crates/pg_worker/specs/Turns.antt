@@ -175,9 +175,7 @@ abbrev pub IsOfBytes : WireFault → Type 0
 IsOfBytes fault = (fault ≢ wire.OutOfMemory) × (fault ≢ wire.Read) × (fault ≢ wire.Write)
 
 -- why bytes that spell no frame are refused
-pub record SpellsNone (bytes : List ℕ) (why : WorkerFault) : Type 0 where
-  pub fault : WireFault
-  pub why_is : why ≡ Wire fault
+pub record IsNoFrame (bytes : List ℕ) (fault : WireFault) : Type 0 where
   pub of_bytes : IsOfBytes fault
   pub none : (f : Frame) → ¬ (Spells f bytes)
   pub too_long : (fault ≡ TooLong) ↔ IsTooLong bytes
@@ -186,4 +184,5 @@ pub record SpellsNone (bytes : List ℕ) (why : WorkerFault) : Type 0 where
 -- why a session refuses bytes, want of memory aside
 abbrev pub RefusesBytes : ℕ → Option SessionValue → List ℕ → WorkerFault → Type 0
 RefusesBytes highest before bytes why =
-    SpellsNone bytes why ⊎ ((f : Frame) × Spells f bytes × Refuses highest before f why)
+    ((fault : WireFault) × (why ≡ Wire fault) × IsNoFrame bytes fault)
+    ⊎ ((f : Frame) × Spells f bytes × Refuses highest before f why)

@@ -1,4 +1,4 @@
--- What is proved of worlds, over the definitions alone.
+-- What is proved of worlds and scripts, over the definitions alone.
 use Rattle.std.specs.Prelude.{◌≡◌, ℕ, ◌≤◌, List, All, Contains}
 use Rattle.pg_arena.specs.Games.{GameVertex, IsGame}
 use Rattle.pg_measure.specs.Measures.{BoundList, MeasureValue}
@@ -8,6 +8,7 @@ use Rattle.pg_map.specs.Maps.{IsNeverAbove}
 use Rattle.pg_parts.specs.Cuts.{CutValue}
 use Rattle.pg_world.specs.Updates.{UpdateValue, update_at, IsJoinOf}
 use Rattle.pg_world.specs.Worlds.{WorldValue, new_world, IsMapOf, IsEventOf, Runs}
+use Rattle.pg_world.specs.ScriptText.{IsScriptText}
 use Rattle.pg_world.specs.declared.event.Event.{Event}
 
 -- each update that is taken here is taken there, if perhaps under another number
@@ -30,3 +31,9 @@ NeverAbove =
     → IsGame game → IsBoundsOf game bounds → All (IsEventOf game) events → r ≤ cut.workers
     → Runs (new_world game bounds cut) events w
     → (f : List MeasureValue) × IsMapOf w r f × IsNeverAbove bounds (game_line game) f
+
+-- For one game one text spells one script.
+abbrev pub SpellsOneScript : Type 0
+SpellsOneScript = (bytes : List ℕ) (game : List GameVertex) (cut other : CutValue) (events others : List Event)
+    → IsGame game → IsScriptText bytes game cut events → IsScriptText bytes game other others
+    → (other ≡ cut) × (others ≡ events)

@@ -1,7 +1,6 @@
 pub mod Updates
 pub mod Worlds
 pub mod ScriptText
-pub mod OneScript
 pub mod ScriptFaultTexts
 pub mod Laws
 pub mod Mirrors

@@ -1,7 +1,6 @@
 //! Laws over the definitions. Their functions take no memory and do nothing: their contracts are what they are for.
 
-ghost use Rattle.pg_world.specs.Laws.{SameTaken, NeverAbove};
-ghost use Rattle.pg_world.specs.OneScript.{SpellsOneScript};
+ghost use Rattle.pg_world.specs.Laws.{SameTaken, NeverAbove, SpellsOneScript};
 
 use crate::map_laws::of_maps;
 
