@@ -10,7 +10,6 @@ pub use Rattle.std.specs.Bool.{OnTrue}
 pub use Rattle.std.specs.Prelude.{All, Any, Bool, IfSome, IsSome, IsTrue, List, None, Option, Some, [], cond, count_by, drop, false, get_or}
 pub use Rattle.std.specs.Prelude.{length, nat_eq, not, option_map, replicate, set, slice_index, suc, take, true, unwrap_or, vec_capacity}
 pub use Rattle.std.specs.Prelude.{vec_len, zero, ℕ, ◌%◌, ◌++◌, ◌+◌, ◌-◌, ◌<◌, ◌==◌, ◌↔◌, ◌∷◌, ◌≡◌, ◌≢◌, ◌≤◌, ◌⊎◌}
-pub use Rattle.pg_arena.specs.Games.{nowhere}
 pub use Rattle.pg_arena.specs.declared.player.Player.{Player}
 pub use Rattle.pg_arena.specs.declared.player.Player.TheVariants.{Even, Odd}
 pub use Rattle.pg_lists.proofs.Stacks.{popped, pushed, room_left, swapped, top_marked}
@@ -19,8 +18,8 @@ pub use Rattle.pg_map.proofs.Bests.{BestSoFar, better_itself, front_itself, fron
 pub use Rattle.pg_map.proofs.Lifts.{serves_best}
 pub use Rattle.pg_map.proofs.Orderings.{at_most_covers}
 pub use Rattle.pg_map.proofs.Overs.{misses_by}
-pub use Rattle.pg_map.specs.Lines.{AreWithin, Line, line_at, vertex_line}
-pub use Rattle.pg_map.specs.Maps.{IsClosed, IsLifted, IsServedBy, MapAtMost, MapValue, SomeOrAll, measure_at}
+pub use Rattle.pg_map.specs.Lines.{AreWithin, Line, line_at}
+pub use Rattle.pg_map.specs.Maps.{IsClosed, IsLifted, IsServedBy, MapAtMost, MapValue, measure_at}
 pub use Rattle.pg_map.specs.Mirrors.Tables.{IsBest, IsBetter}
 pub use Rattle.pg_measure.proofs.Order.{at_most_same, below_at_most, below_is, below_then, covers_less, front_at_most, more_covers}
 pub use Rattle.pg_measure.proofs.Order.{then_below}

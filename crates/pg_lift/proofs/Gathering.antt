@@ -1,11 +1,10 @@
 -- Predecessors that are gathered by their targets.
 use Rattle.pg_lift.proofs.Common.{◌≡◌, ◌≢◌, ℕ, zero, suc, ◌+◌, ◌-◌, ◌<◌, ◌≤◌, ◌⊎◌, Bool, List, [], ◌∷◌, length, take, drop, get_or, set}
-use Rattle.pg_lift.proofs.Common.{refl, sym, ap, subst, ◌∙◌, arith, inl, inr, add-one, cond, nat_eq, Option, None, Some, IsSome, unwrap_or}
-use Rattle.pg_lift.proofs.Common.{nowhere, cases_lt, cases_eq, cases_order, eq-eqb, ne_eqb, get_or_default, get_or-set_same}
-use Rattle.pg_lift.proofs.Common.{get_or-set_other, get_or_past, get_or-take, get_or-drop, length-set, length-take, length-drop, take_all}
-use Rattle.pg_lift.proofs.Common.{count_by-le-length, sum_by_more, sum_by-take-le, sum_by-cons, Line, AreWithin, line_at, vertex_line}
-use Rattle.pg_lift.proofs.Common.{IsAmong, times, ArePredecessors, ArePut, ArePutBefore, ArePutUpTo, LeadsTo, IsListed, IsBefore, sum_below}
-use Rattle.pg_lift.proofs.Common.{edges_of, leads, begin_of}
+use Rattle.pg_lift.proofs.Common.{refl, sym, ap, subst, ◌∙◌, arith, inl, inr, add-one, cond, nat_eq, Option, IsSome, cases_lt, cases_eq}
+use Rattle.pg_lift.proofs.Common.{cases_order, eq-eqb, ne_eqb, get_or_default, get_or-set_same, get_or-set_other, get_or_past, get_or-take}
+use Rattle.pg_lift.proofs.Common.{get_or-drop, length-set, length-take, length-drop, take_all, count_by-le-length, sum_by_more}
+use Rattle.pg_lift.proofs.Common.{sum_by-take-le, sum_by-cons, Line, AreWithin, line_at, IsAmong, times, ArePredecessors, ArePut}
+use Rattle.pg_lift.proofs.Common.{ArePutBefore, ArePutUpTo, LeadsTo, IsListed, IsBefore, sum_below, edges_of, leads, begin_of}
 
 -- ---- sums
 
@@ -324,25 +323,6 @@ put_line lines n i k ss starts sources e le a =
           let q : v ≡ i = let b = h.0 in omega arith in
           let among : IsAmong y us = subst (λ (z : ℕ). IsAmong y (line_at lines z).successors) q h.1.1 in
           inr (q, (among.0, let b = among.2 in omega arith, get_or_default us among.0 0 among.1 among.2 ∙ (among.3 ∙ among.4)))
-    ])
-    a
-
-none_leads : (o : Option Line) (x : ℕ) → (IsSome o → ⊥) → times x (unwrap_or o (vertex_line nowhere)).successors ≡ 0
-none_leads None x h = refl
-none_leads (Some l) x h = absurd (h refl)
-
--- i has no edges
-pub leads_none : (lines : ℕ → Option Line) (i x : ℕ) → (IsSome (lines i) → ⊥) → leads lines (i + 1) x ≡ leads lines i x
-leads_none lines i x none = let m = leads_more lines i x in let z = none_leads (lines i) x none in omega arith
-
-pub put_none : (lines : ℕ → Option Line) (n i : ℕ) (starts sources : List ℕ) → (IsSome (lines i) → ⊥)
-    → ArePutBefore lines n i starts sources → ArePutBefore lines n (i + 1) starts sources
-put_none lines n i starts sources none a =
-    put_same lines n (leads lines i) (leads lines (i + 1)) (λ v y. (v < i) × LeadsTo lines v y) (λ v y. (v < i + 1) × LeadsTo lines v y) starts sources
-    (λ y. leads_none lines i y none)
-    (λ v y h. elim (cases_lt v i) [
-      | inl before ↦ (before, h.1)
-      | inr late ↦ let q : v ≡ i = let b = h.0 in omega arith in absurd (none (subst (λ (z : ℕ). IsSome (lines z)) q h.1.0))
     ])
     a
 

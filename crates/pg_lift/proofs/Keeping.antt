@@ -1,11 +1,11 @@
 -- What stays true of remembered successors when a measure rises.
 use Rattle.pg_lift.proofs.Common.{◌≡◌, ◌≢◌, ℕ, ◌<◌, ◌⊎◌, Bool, true, false, List, length, take, get_or, set, refl, sym, ap, subst, ◌∙◌, inl}
-use Rattle.pg_lift.proofs.Common.{inr, None, All, Option, Some, IsSome, cases_eq, get_or_default, get_or-set_same, get_or-set_other}
-use Rattle.pg_lift.proofs.Common.{set-set, set-get_or, Player, Even, Odd, BoundList, MeasureValue, AtMost, IsBelow, Covers, CoversFront}
-use Rattle.pg_lift.proofs.Common.{is_odd, width_from, FrontAtMost, MissesFront, more_covers, covers_less, front_at_most, at_most_same}
-use Rattle.pg_lift.proofs.Common.{below_is, below_at_most, below_then, then_below, front_itself, front_trans, serves_best, misses_by, Line}
-use Rattle.pg_lift.proofs.Common.{line_at, measure_at, MapAtMost, IsLifted, IsServedBy, IsClosed, SomeOrAll, IsBest, IsAmong, nothing, just}
-use Rattle.pg_lift.proofs.Common.{IsAtRest, IsForemost, Keeps, KeepsAt, IsKept, IsKeptBut, AreSameBut, IsReady}
+use Rattle.pg_lift.proofs.Common.{inr, None, Option, Some, IsSome, cases_eq, get_or_default, get_or-set_same, get_or-set_other, set-set}
+use Rattle.pg_lift.proofs.Common.{set-get_or, Player, Even, Odd, BoundList, MeasureValue, AtMost, IsBelow, Covers, CoversFront, is_odd}
+use Rattle.pg_lift.proofs.Common.{width_from, FrontAtMost, MissesFront, more_covers, covers_less, front_at_most, at_most_same, below_is}
+use Rattle.pg_lift.proofs.Common.{below_at_most, below_then, then_below, front_itself, front_trans, serves_best, misses_by, Line, line_at}
+use Rattle.pg_lift.proofs.Common.{measure_at, MapAtMost, IsLifted, IsServedBy, IsClosed, IsBest, IsAmong, nothing, just, IsAtRest}
+use Rattle.pg_lift.proofs.Common.{IsForemost, Keeps, KeepsAt, IsKept, IsKeptBut, AreSameBut, IsReady}
 
 -- x alone rose
 pub record IsRise (f g : List MeasureValue) (x : ℕ) : Type 0 where
@@ -237,12 +237,6 @@ pub one_touched : (bs : BoundList) (lines : ℕ → Option Line) (f : List Measu
 one_touched bs lines f marked marked' best best' x left left' u on here others kept = λ v s.
     touched_at bs lines f marked marked' best best' x left left' u v (on v) (cases_eq v u) s here others kept
 
--- what holds of all in a list holds of the one at i
-pub holds_at : (P : ℕ → Type 0) (xs before : List ℕ) (i u : ℕ) → xs ≡ before → i < length xs → u ≡ get_or xs i u → All P before → P u
-holds_at P xs before i u e lt is a =
-    let k : u ≡ get_or before i u = is ∙ ap (λ (t : List ℕ). get_or t i u) e in
-    subst (λ (w : ℕ). P w) (sym k) (a i u (subst (λ (t : List ℕ). i < length t) e lt))
-
 pub item_at : (xs before : List ℕ) (i u : ℕ) → xs ≡ before → i < length xs → u ≡ get_or xs i u → get_or before i 0 ≡ u
 item_at xs before i u e lt is = ap (λ (t : List ℕ). get_or t i 0) (sym e) ∙ (get_or_default xs i 0 u lt ∙ sym is)
 
@@ -316,12 +310,6 @@ kept_change bs lines f marked marked' best best' v others here kept = λ u s.
       | inr ne ↦ let o = others u ne in same_keeps bs (line_at lines u) f nothing (measure_at f u) (get_or marked u false)
           (get_or marked' u false) (get_or best u 0) (get_or best' u 0) o.0 o.1 (kept u s)
     ]
-
--- what doesn't wait is served
-rest_is : (o : Player) (bs : BoundList) (p : ℕ) (f : List MeasureValue) (ss : List ℕ) (m : MeasureValue) (b : ℕ) → IsAmong b ss
-    → IsAtRest o bs p f nothing ss m b → SomeOrAll o (λ w. Covers bs p m (measure_at f w)) ss
-rest_is Even bs p f ss m b a h = (a.0, a.1, a.2, a.3, subst (λ (w : ℕ). Covers bs p m (measure_at f w)) (sym a.4) (none_or (Covers bs p m (measure_at f b)) h))
-rest_is Odd bs p f ss m b a h = λ i d lt. none_or (Covers bs p m (measure_at f (get_or ss i d))) (h i d lt)
 
 -- a vertex that isn't served by its best is not served
 pub ready_unserved : (bs : BoundList) (lines : ℕ → Option Line) (f : List MeasureValue) (best : List ℕ) (v : ℕ) → IsReady bs lines f best v

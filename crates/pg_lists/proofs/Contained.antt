@@ -1,6 +1,6 @@
 -- Membership in lists, the first element apart, and lists whose elements stand in an order.
 use Rattle.std.proofs.Common.{◌≡◌, ℕ, suc, zero, ◌<◌, List, [], ◌∷◌, map, refl, sym, subst, ap, ◌∙◌, ◌⊎◌, inl, inr, arith}
-use Rattle.std.specs.List.{Contains, AllPairs, AllByRecursion, flat_map}
+use Rattle.std.specs.List.{Contains, AllPairs, flat_map}
 use Rattle.std.specs.List.Sorted.{IsStrictlyIncreasing}
 use Rattle.std.proofs.lemmas.List.{get_or-map, length-map}
 use Rattle.std.proofs.lemmas.List.Elements.{Contains-append_left, Contains-append_right, Contains-append_cases}
@@ -93,7 +93,3 @@ pub rising_same : (xs ys : List ℕ) → IsStrictlyIncreasing xs → IsStrictlyI
 rising_same xs ys up up' f g = same_order (λ x y. x < y) xs ys (λ x y a b. omega arith) (AllPairs-from_increasing xs up) (AllPairs-from_increasing ys up') f g
 
 -- ---- what holds of all elements
-
-pub all_contained : {X : Type 0} (P : X → Type 0) (xs : List X) (y : X) → AllByRecursion P xs → Contains xs y → P y
-all_contained P [] y all c = absurd (contains_none y c)
-all_contained P (x ∷ xs) y all c = elim (contains_cases x xs y c) [ inl same ↦ subst P (sym same) all.0 | inr later ↦ all_contained P xs y all.1 later ]

@@ -1,11 +1,11 @@
 -- A number more, and a number less.
 use Rattle.std.proofs.Common.{◌≡◌, ◌≢◌, ℕ, zero, suc, ◌+◌, ◌<◌, ◌≤◌, Bool, true, false, cond, List, [], ◌∷◌, ◌++◌, length, get_or, set}
-use Rattle.std.proofs.Common.{refl, sym, ap, subst, ◌∙◌, arith, ◌⊎◌, inl, inr, length-append}
+use Rattle.std.proofs.Common.{refl, sym, ap, arith, ◌⊎◌, inl, inr, length-append}
 use Rattle.std.specs.Prelude.{count_by, nat_eq}
 use Rattle.std.specs.List.{Contains}
 use Rattle.std.proofs.lemmas.Bool.{cases_lt, cases_eq, eq-eqb, ne_eqb}
 use Rattle.std.proofs.lemmas.List.Kept.{AllPairs-from_increasing}
-use Rattle.std.proofs.lemmas.List.{append-nil, get_or-set_same, get_or-set_other, get_or_past, length-set}
+use Rattle.std.proofs.lemmas.List.{get_or-set_same, get_or-set_other, get_or_past, length-set}
 use Rattle.std.proofs.lemmas.List.Sums.{sum_by-set, sum_by-cons, sum_by_push, count_by-le-length}
 use Rattle.pg_lists.specs.Mirrors.Worklists.{times, IsWorklist, IsVertexSet}
 
@@ -37,10 +37,6 @@ marked_below marked v a =
 on_by : (b : Bool) → 1 ≤ one b → b ≡ true
 on_by true h = refl
 on_by false h = absurd (omega arith)
-
-off_by : (b : Bool) → one b ≡ 0 → b ≡ false
-off_by true h = absurd (omega arith)
-off_by false h = refl
 
 count_more : (marked : List Bool) (v : ℕ) → v < length marked → get_or marked v false ≡ false
     → count_by (λ b. b) (set marked v true) ≡ count_by (λ b. b) marked + 1
@@ -111,9 +107,6 @@ pub top_marked : (stack next : List ℕ) (marked : List Bool) (room next_room v 
 top_marked stack next marked room next_room v w = on_by (get_or marked v false) (let e = w.each v in let p = times_push v stack v in
     let s = same_is v v refl in omega arith)
 
-pub top_below : (stack next : List ℕ) (marked : List Bool) (room next_room v : ℕ) → IsWorklist (stack ++ v ∷ []) next marked room next_room → v < length marked
-top_below stack next marked room next_room v w = marked_below marked v (top_marked stack next marked room next_room v w)
-
 pub popped : (stack next : List ℕ) (marked : List Bool) (room room' next_room v : ℕ)
     → IsWorklist (stack ++ v ∷ []) next marked room next_room → room ≤ room' → IsWorklist stack next (set marked v false) room' next_room
 popped stack next marked room room' next_room v w le =
@@ -162,14 +155,6 @@ pub apart_by : (xs : List ℕ) (marked : List Bool) (i j d : ℕ) → ((v : ℕ)
 apart_by xs marked i j d each lt below e = let t = times_twice xs (get_or xs j d) i j d lt below e refl in let n = each (get_or xs j d) in
     let m = one_most (get_or marked (get_or xs j d) false) in absurd (omega arith)
 
-pub listed : (xs : List ℕ) (marked : List Bool) (room room' v : ℕ) → IsVertexSet xs marked room → v < length marked
-    → get_or marked v false ≡ false → room ≤ room' → IsVertexSet (xs ++ v ∷ []) (set marked v true) room'
-listed xs marked room room' v w lt off le = record {
-  size = omega (arith, count_more marked v lt off, length-append xs (v ∷ []), w.size);
-  each = λ u. let e = w.each u in let p = times_push u xs v in let m = more_at marked v u (times u xs) lt off e in omega arith;
-  fits = simp length-set (omega (arith, w.fits));
-}
-
 last_listed : (xs : List ℕ) (marked : List Bool) (room v : ℕ) → IsVertexSet (xs ++ v ∷ []) marked room → get_or marked v false ≡ true
 last_listed xs marked room v w = on_by (get_or marked v false) (let e = w.each v in let p = times_push v xs v in let s = same_is v v refl in omega arith)
 
@@ -190,19 +175,6 @@ unlisted xs marked room room' v w le =
 -- the one that is marked is there
 pub marked_listed : (xs : List ℕ) (marked : List Bool) (room v : ℕ) → IsVertexSet xs marked room → get_or marked v false ≡ true → Contains xs v
 marked_listed xs marked room v w on = times_contains xs v (let e = w.each v in let o : one (get_or marked v false) ≡ 1 = ap one on in omega arith)
-
--- this generation has ended
-pub turned : (stack stack' next : List ℕ) (marked : List Bool) (room room' next_room : ℕ) → stack ≡ stack' ++ [] → room ≤ room'
-    → IsWorklist stack next marked room next_room → IsWorklist next stack' marked next_room room'
-turned stack stack' next marked room room' next_room e le w =
-    let q : stack ≡ stack' = e ∙ append-nil stack' in
-    let k : IsWorklist stack' next marked room next_room = subst (λ s. IsWorklist s next marked room next_room) q w in
-    record {
-      size = omega (arith, k.size);
-      each = λ u. let t = k.each u in omega arith;
-      fits = k.next_fits;
-      next_fits = omega (arith, k.fits);
-    }
 
 -- what is listed and doesn't fall rises
 pub rising_by : (xs : List ℕ) (marked : List Bool) → ((v : ℕ) → times v xs ≡ one (get_or marked v false))

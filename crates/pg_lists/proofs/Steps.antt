@@ -17,12 +17,3 @@ none = None
 
 pub none_is_some : {A : Type 0} (x : A) → none ≡ some x → ⊥
 none_is_some x e = cc
-
--- a test that was passed
-pub passed : {A : Type 0} (b : Bool) (o : Option A) (y : A) → cond b o none ≡ some y → (b ≡ true) × (o ≡ some y)
-passed true o y e = (refl, e)
-passed false o y e = absurd (none_is_some y e)
-
-pub failed : {A : Type 0} (b : Bool) (o : Option A) (y : A) → cond b none o ≡ some y → (b ≡ false) × (o ≡ some y)
-failed true o y e = absurd (none_is_some y e)
-failed false o y e = (refl, e)

@@ -1,8 +1,8 @@
 -- A header ahead of the others is spelt.
 use Rattle.pg_syntax.proofs.Common.{◌≡◌, ℕ, ◌+◌, ◌<◌, ◌≤◌, true, false, cond, ltb, List, [], ◌∷◌, ◌++◌, map, refl, sym, ap, subst, arith}
 use Rattle.pg_syntax.proofs.Common.{nat_tests, codes, append_assoc, flat_map, AllByRecursion, All, All-head, All-tail, Lexeme, number}
-use Rattle.pg_syntax.proofs.Common.{identifier, header, body, end, space, is_space, is_digit, Each, Stops, value_of, Spells, IsText, Written}
-use Rattle.pg_syntax.proofs.Common.{header_lexemes, text_lexemes, ltb-true, lex, opening_at, version_at, IsToken, state_lexemes, IsSpelt, Begins, stray}
+use Rattle.pg_syntax.proofs.Common.{identifier, header, body, end, space, is_space, is_digit, Stops, value_of, Spells, IsText, Written}
+use Rattle.pg_syntax.proofs.Common.{header_lexemes, text_lexemes, ltb-true, lex, IsToken, state_lexemes, IsSpelt, Begins, stray}
 use Rattle.pg_syntax.specs.Mirrors.HeaderNames.{behind_version, control_bytes}
 use Rattle.pg_syntax.specs.Headers.{with_controls}
 use Rattle.pg_syntax.proofs.Spelling.{lex_spelt}

@@ -80,9 +80,6 @@ completed_keeps room top outer f r et eo ep =
 
 -- ---- each step of the formula is a turn of what is kept
 
-abbrev Keeps : Kind → State → Lexeme → Option State → Type 0
-Keeps k s t found = turn_at k (keep s) t ≡ (found >>= λ s. Some (keep s))
-
 operand_keeps : (room : ℕ) (top : Frame) (outer : List Frame) (f : Formula) (op : Op) (mode : Mode) → postfix f ≡ op ∷ []
     → operand_at (before mode room top outer) op ≡ Some (keep (completes room top outer f))
 unfolding operand_at

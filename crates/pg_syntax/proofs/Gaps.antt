@@ -1,23 +1,11 @@
 -- White space and comments, as a loop skips them.
-use Rattle.pg_syntax.proofs.Common.{◌≡◌, ℕ, zero, suc, ◌≤◌, ◌<◌, List, [], ◌∷◌, length, Option, Some, None, refl, subst, arith, eqb}
-use Rattle.pg_syntax.proofs.Common.{nat_tests, ◌>>=◌, Fails, gap_step, behind_blank, gap_within, gap_from, Refusal, Memory, Wrong, chosen}
-use Rattle.pg_syntax.proofs.Common.{some, some_is, none, none_is_some}
+use Rattle.pg_syntax.proofs.Common.{◌≡◌, ℕ, zero, suc, ◌≤◌, ◌<◌, List, [], ◌∷◌, length, Option, Some, None, refl, arith, eqb, nat_tests}
+use Rattle.pg_syntax.proofs.Common.{◌>>=◌, Fails, gap_step, behind_blank, gap_within, gap_from, Refusal, Memory, Wrong, chosen, some, none}
 
 -- a byte at least is taken, and no more comments are open than may be
 pub record Takes (deep : ℕ) (bytes : List ℕ) (x : ℕ × List ℕ) : Type 0 where
   pub shorter : length x.1 < length bytes
   pub few : deep ≤ 8192 → x.0 ≤ 8192
-
-abbrev taken : (deep : ℕ) (bytes : List ℕ) (n : ℕ) (rest : List ℕ) (x : ℕ × List ℕ) → some (some (n, rest)) ≡ some (some x)
-    → length rest < length bytes → (deep ≤ 8192 → n ≤ 8192) → Takes deep bytes x
-taken deep bytes n rest x e lt few =
-    subst (Takes deep bytes) (some_is (n, rest) x (some_is (some (n, rest)) (some x) e)) (record { shorter = lt; few = few })
-
-abbrev refused : {T : Type 0} (x : ℕ × List ℕ) → none ≡ some (some x) → T
-refused x e = absurd (none_is_some (some x) e)
-
-abbrev ended : {T : Type 0} (x : ℕ × List ℕ) → some (none {A = ℕ × List ℕ}) ≡ some (some x) → T
-ended x e = absurd (none_is_some x (some_is (none {A = ℕ × List ℕ}) (some x) e))
 
 pub gap_takes : (deep : ℕ) (bytes : List ℕ) (x : ℕ × List ℕ) → gap_step deep bytes ≡ Some (Some x) → Takes deep bytes x
 unfolding gap_step

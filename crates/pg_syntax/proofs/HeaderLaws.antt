@@ -4,10 +4,10 @@ use Rattle.pg_syntax.proofs.Common.{refl, sym, ap, subst, ◌∙◌, arith, appe
 use Rattle.pg_syntax.proofs.Common.{bytes_eq, flat_map, AllByRecursion, length-map, bytes_eq-Decides, Op, Condition, Lexeme, number}
 use Rattle.pg_syntax.proofs.Common.{identifier, header, string, body, Character, IsToken, ◌>>=◌, Formula, formula_lexemes, IsWritten}
 use Rattle.pg_syntax.proofs.Common.{ops_at, postfix, IsPropositionName, Header, header_lexemes, IsHeader, value_lexeme, character_code}
-use Rattle.pg_syntax.proofs.Common.{state_counts, starts, names, acceptances, controls, KeptHead, numeral_at, alone_at, numbers_from, noted}
-use Rattle.pg_syntax.proofs.Common.{noted_at, skipped_from, names_from, once, states_at, start_at, names_at, acceptance_at, controls_at}
-use Rattle.pg_syntax.proofs.Common.{begins_low, other_at, header_at, empty_head, headers_within, headers_from, opening_at, version_at}
-use Rattle.pg_syntax.proofs.Common.{headers_at, chosen, some, some_is, none, none_is_some}
+use Rattle.pg_syntax.proofs.Common.{names, controls, KeptHead, numeral_at, alone_at, numbers_from, noted, noted_at, skipped_from}
+use Rattle.pg_syntax.proofs.Common.{names_from, once, states_at, start_at, names_at, acceptance_at, controls_at, begins_low, other_at}
+use Rattle.pg_syntax.proofs.Common.{header_at, empty_head, headers_within, headers_from, opening_at, version_at, headers_at, chosen, some}
+use Rattle.pg_syntax.proofs.Common.{some_is, none, none_is_some}
 use Rattle.std.proofs.lemmas.List.{length-append}
 use Rattle.pg_syntax.specs.Syntax as text
 use Rattle.pg_syntax.proofs.Lists.{all_of_both}

@@ -2,9 +2,9 @@
 use Rattle.pg_syntax.proofs.Common.{◌≡◌, ◌∙◌, ℕ, ◌<◌, ◌||◌, Bool, true, false, cond, List, [], ◌∷◌, ◌++◌, map, length, Option, Some, None}
 use Rattle.pg_syntax.proofs.Common.{refl, sym, ap, codes, append_assoc, unwrap_or, bytes_eq, list_any, flat_map, AllByRecursion, Formula}
 use Rattle.pg_syntax.proofs.Common.{yes, no, proposition, inf, fin, not, both, either, bracket, formula_lexemes, Lexeme, number, identifier}
-use Rattle.pg_syntax.proofs.Common.{header, string, body, left_paren, right_paren, ampersand, bar, Character, first, some_is, none_is_some}
-use Rattle.pg_syntax.proofs.Common.{Header, IsHeader, IsText, Written, header_lexemes, state_lexemes, value_lexeme, text_lexemes, controls}
-use Rattle.pg_syntax.proofs.Common.{end, lex, opening_at, version_at}
+use Rattle.pg_syntax.proofs.Common.{header, string, body, right_paren, ampersand, bar, Character, first, some_is, none_is_some, Header}
+use Rattle.pg_syntax.proofs.Common.{IsText, Written, header_lexemes, state_lexemes, value_lexeme, text_lexemes, controls, end, lex}
+use Rattle.pg_syntax.proofs.Common.{opening_at, version_at}
 use Rattle.pg_syntax.specs.Syntax as text
 use Rattle.pg_syntax.specs.Mirrors.HeaderNames.{decided, named_from, behind_version}
 use Rattle.pg_syntax.specs.Headers.{header_name, has_header}

@@ -5,9 +5,6 @@ use Rattle.pg_syntax.proofs.Common.{headers_from, none_is_some}
 use Rattle.pg_syntax.proofs.Turning.{first_end, first_token}
 use Rattle.pg_syntax.proofs.HeaderLaws.{header_shorter}
 
-abbrev Found : Type 0
-Found = Option (KeptHead × List Lexeme)
-
 -- how many headers may follow doesn't matter where it is enough
 enough : (n m : ℕ) (h : KeptHead) (tokens : List Lexeme) → length tokens < n → length tokens < m
     → headers_within n h tokens ≡ headers_within m h tokens

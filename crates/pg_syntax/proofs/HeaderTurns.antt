@@ -1,9 +1,8 @@
 -- Token by token through the values of headers.
-use Rattle.pg_syntax.proofs.Common.{◌≡◌, ℕ, suc, ◌<◌, Bool, true, false, eqb, List, [], ◌∷◌, ◌++◌, length, map, Option, Some, None, refl}
-use Rattle.pg_syntax.proofs.Common.{sym, ap, ◌∙◌, subst, arith, nat_tests, list_all, Refusal, Memory, Wrong, Lexeme, number, identifier}
-use Rattle.pg_syntax.proofs.Common.{string, stray, first, characters, character_code, ◌>>=◌, Fails, numeral_of, numbers_from, note, noted}
-use Rattle.pg_syntax.proofs.Common.{noted_at, is_value, skipped_from, is_name_byte, is_name, quoted_at, names_from, some, some_is}
-use Rattle.pg_syntax.proofs.Common.{none_is_some}
+use Rattle.pg_syntax.proofs.Common.{◌≡◌, ℕ, suc, ◌<◌, Bool, true, false, eqb, List, [], ◌∷◌, ◌++◌, length, Option, Some, None, refl, sym}
+use Rattle.pg_syntax.proofs.Common.{ap, ◌∙◌, arith, nat_tests, list_all, Refusal, Memory, Wrong, Lexeme, number, identifier, string, stray}
+use Rattle.pg_syntax.proofs.Common.{first, ◌>>=◌, Fails, numeral_of, numbers_from, note, noted, noted_at, is_value, skipped_from}
+use Rattle.pg_syntax.proofs.Common.{is_name_byte, is_name, quoted_at, names_from, some, some_is, none_is_some}
 use Rattle.pg_syntax.proofs.Turning.{first_end, first_token}
 use Rattle.pg_syntax.proofs.Noting.{noted_snoc}
 
@@ -112,14 +111,6 @@ number_taken ts after None n e f = absurd (none_is_some n f)
 number_taken ts after (Some t) n e f = taken ts after t e
 
 -- ---- names
-
--- the first character, and the others
-pub record Begun (content : List ℕ) (x : ℕ × List ℕ) : Type 0 where
-  pub is : map character_code (characters content) ≡ x.0 ∷ map character_code (characters x.1)
-  pub shorter : length x.1 < length content
-
-begun : (content : List ℕ) (b : ℕ) (rest : List ℕ) (x : ℕ × List ℕ) → some (b, rest) ≡ some x → Begun content (b, rest) → Begun content x
-begun content b rest x e h = subst (Begun content) (some_is (b, rest) x e) h
 
 pub name_is : (r : Bool) (name : List ℕ) → eqb (length name) 0 ≡ false → r ≡ list_all is_name_byte name → r ≡ is_name name
 name_is r [] e f = true_is_false e

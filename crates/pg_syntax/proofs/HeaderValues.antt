@@ -1,10 +1,10 @@
 -- The values of headers: what is read is written there, and what is written there is read.
-use Rattle.pg_syntax.proofs.Common.{◌≡◌, ℕ, suc, zero, ◌≤◌, ltb, Bool, true, false, List, [], ◌∷◌, ◌++◌, length, map, Some, refl, sym, ap}
-use Rattle.pg_syntax.proofs.Common.{subst, ◌∙◌, arith, append_assoc, inl, inr, nat_le, if◌then◌else◌, ◌==◌, list_all, AllByRecursion}
-use Rattle.pg_syntax.proofs.Common.{append-nil, le-ltb, nat_tests, Lexeme, number, identifier, header, string, body, ampersand, stray}
-use Rattle.pg_syntax.proofs.Common.{Character, IsPropositionName, IsNameByte, Value, numeral, word, quoted, value_lexeme, character_code}
-use Rattle.pg_syntax.proofs.Common.{numeral_at, alone_at, numbers_from, skipped_from, is_name_byte, is_name, name_of, quoted_at, names_from}
-use Rattle.pg_syntax.proofs.Common.{chosen, some, some_is, none, none_is_some}
+use Rattle.pg_syntax.proofs.Common.{◌≡◌, ℕ, suc, zero, ◌≤◌, ltb, true, false, List, [], ◌∷◌, ◌++◌, length, map, Some, refl, sym, ap, subst}
+use Rattle.pg_syntax.proofs.Common.{◌∙◌, arith, append_assoc, inl, inr, nat_le, if◌then◌else◌, ◌==◌, list_all, AllByRecursion, append-nil}
+use Rattle.pg_syntax.proofs.Common.{le-ltb, nat_tests, Lexeme, number, identifier, header, string, body, ampersand, stray, Character}
+use Rattle.pg_syntax.proofs.Common.{IsPropositionName, IsNameByte, Value, numeral, word, quoted, value_lexeme, character_code, numeral_at}
+use Rattle.pg_syntax.proofs.Common.{alone_at, numbers_from, skipped_from, is_name_byte, is_name, name_of, quoted_at, names_from, chosen}
+use Rattle.pg_syntax.proofs.Common.{some, some_is, none, none_is_some}
 use Rattle.pg_syntax.proofs.Lists.{both_true}
 use Rattle.pg_syntax.proofs.Steps.{bind_some}
 
@@ -111,11 +111,6 @@ skipped_again (word w ∷ vs) rest f = skipped_again vs rest f
 skipped_again (quoted s ∷ vs) rest f = skipped_again vs rest f
 
 -- ---- names
-
--- a name is not empty and made of bytes that a name may have
-isnt : (t : Bool) → (if t then false else true) ≡ true → t ≡ false
-isnt true e = absurd cc
-isnt false e = refl
 
 name_byte : (b : ℕ) → is_name_byte b ≡ true → IsNameByte b
 name_byte b e = grind (arith, nat_tests, both_true (nat_le 32 b) (if b == 127 then false else true) e)

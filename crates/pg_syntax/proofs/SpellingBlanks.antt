@@ -100,11 +100,6 @@ record Ends (deep : ℕ) (bytes rest : List ℕ) : Type 0 where
   parts : bytes ≡ inside ++ rest
   whole : after_comments deep inside ≡ Some []
 
-abbrev wider : (deep more b : ℕ) (bytes rest : List ℕ) → Ends more bytes rest
-    → ((inside : List ℕ) → after_comments more inside ≡ Some [] → after_comments deep (b ∷ inside) ≡ Some []) → Ends deep (b ∷ bytes) rest
-wider deep more b bytes rest r more_is =
-    record { inside = b ∷ r.inside; parts = ap (λ (l : List ℕ). b ∷ l) r.parts; whole = more_is r.inside r.whole }
-
 ends_within : (deep b c : ℕ) (bytes rest inside : List ℕ) → opens b c ≡ false → closes b c ≡ false → c ∷ bytes ≡ inside ++ rest
     → after_comments (suc deep) inside ≡ Some [] → after_comments (suc deep) (b ∷ inside) ≡ Some []
 ends_within deep b c bytes rest [] p q e whole = absurd (none_is_some [] whole)
