@@ -2,24 +2,21 @@
 #![tactic(auto)]
 
 mod fault;
-mod figures;
 mod files;
-mod notes;
 mod outs;
 
 ghost use Rattle.std.specs.Prelude.{◌≤◌, ℕ, List, length};
 ghost use Rattle.pg_words.specs.Words.{AsksFor, HasFewWorkers};
 
 use fault::{Fault, tell};
-use figures::{CountedTops, Figures, Watch, first_text};
-use files::{part_words, read, read_both};
-use notes::Notes;
+use files::{read, read_both};
 use outs::name_outputs;
 use pg_cli::{
     CliFault, Command, Line, MOST_BYTES, Programs, check_texts, replay_texts, work, write_answer,
 };
 use pg_coord::Reach;
-use pg_words::{Request, Told, read_words};
+use pg_figures::{CountedTops, Figures, Notes, Watch, first_text};
+use pg_words::{Request, Told, part_words, read_words};
 use std::alloc::{AllocError, Global};
 use std::env;
 use std::io::{self, BufWriter, Write};

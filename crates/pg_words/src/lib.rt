@@ -2,9 +2,11 @@
 #![tactic(auto)]
 
 mod command;
+mod files;
 mod told;
 mod words;
 
 pub use command::Command;
+pub use files::{Parted, STANDARD_INPUT, part_words};
 pub use told::{Told, read_words};
 pub use words::{Line, Request, parse_request, parse_words};

@@ -1,7 +1,7 @@
 //! What is to be noted of an automaton, besides the answer.
 
-use pg_cli::Command;
 use pg_hoa::has_header;
+use pg_words::Command;
 use std::io::Write;
 
 const UNCONTROLLED: &str =
@@ -12,7 +12,7 @@ const PLAYERS: &str =
 
 /// Which notes there are.
 #[derive(Clone, Copy)]
-pub(crate) struct Notes {
+pub struct Notes {
     is_uncontrolled: bool,
     has_players: bool,
 }

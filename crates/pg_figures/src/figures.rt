@@ -1,10 +1,10 @@
 //! Figures of a command's work, which `--stats` asks for: counts and seconds. They are counted beside the answer, and have no part in it.
 
 use pg_arena::{Game, Vertex};
-use pg_cli::Command;
 use pg_hoa::read_automaton;
 use pg_synth::game_of;
 use pg_text::read_game;
+use pg_words::Command;
 use std::alloc::{AllocError, Global};
 use std::io::{self, Write};
 use std::time::{Clock, Duration};
@@ -39,7 +39,7 @@ struct Parts {
 
 /// Tells how long a piece of work took, one after the other.
 #[derive(Clone, Copy)]
-pub(crate) struct Watch {
+pub struct Watch {
     last: Duration,
 }
 
@@ -62,7 +62,7 @@ impl Watch {
 
 /// The figures of a command, those that it has.
 #[derive(Clone, Copy)]
-pub(crate) struct Figures {
+pub struct Figures {
     states: Option<u32>,
     size: Option<Size>,
     wins: Option<Wins>,
@@ -101,7 +101,7 @@ fn size_in(alloc: Global, text: &[u8]) -> Option<Size> {
 }
 
 /// What is counted of the one text of a command: for two texts in it, the one before the line `--`.
-pub(crate) fn first_text(command: Command, text: &[u8]) -> &[u8] {
+pub fn first_text(command: Command, text: &[u8]) -> &[u8] {
     if !matches!(command, Command::Check) {
         return text;
     }
@@ -264,7 +264,7 @@ fn write_seconds<E: Write>(errors: &mut E, name: &str, taken: Duration) -> io::R
 
 /// Counts the `T` of what is written through it: in measures, those that are top.
 #[derive(Drop)]
-pub(crate) struct CountedTops<W> {
+pub struct CountedTops<W> {
     pub inner: W,
     pub tops: usize,
 }
