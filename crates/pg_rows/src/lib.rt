@@ -11,7 +11,7 @@ mod rows;
 mod side;
 mod sweeps;
 
-pub use numbers::{NONE, add_one, add_up, at, between, count, is_marked, mark, put};
+pub use numbers::{NONE, at, count, is_marked, item, put};
 pub use row_claim::RowClaim;
 pub use rows::{Node, Rows, TOP, ZEROS};
-pub use side::{Side, State, choice, player_number, wins};
+pub use side::{Side, State};

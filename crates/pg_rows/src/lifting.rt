@@ -11,58 +11,33 @@ const LOOKS: u64 = 3;
 /// And how often at few edges.
 const LOOKS_OF_FEW: u64 = 4096;
 
-/// When lifting is left: what was looked at in turns in which few waited, and what it may be.
-#[derive(Clone, Copy)]
-struct Patience {
-    vertices: usize,
-    few: u64,
-    most: u64,
-}
-
-impl Patience {
-    /// Whether lifting is left after a turn, since many vertices count along, or since few climb for long: so many waited, and so many wait
-    /// now, and so much was looked at.
-    fn ends(&mut self, waited: usize, waiting: usize, looks: u64) -> bool {
-        if waiting > self.vertices / 16 && waiting / 4 > waited / 5 {
-            return true;
-        }
-        if waiting <= self.vertices / 256 {
-            self.few = self.few.wrapping_add(looks);
-        }
-        self.few > self.most / 12
-    }
-}
-
 impl Side<'_> {
-    /// Lifts until nothing waits any more; false where it is left, since it looks as if that took long.
+    /// Lifts until nothing waits any more; false where it is left, since it looks as if that took long: many vertices count along, or few
+    /// climb for long.
     pub fn lift(&mut self, alloc: Global) -> Result<bool, AllocError> {
-        let edges = self.graph.edges() as u64;
-        let mut patience = Patience {
-            vertices: (0..self.len()).filter(|v| self.row(*v) != TOP).count(),
-            few: 0,
-            most: edges.saturating_mul(LOOKS).saturating_add(LOOKS_OF_FEW),
-        };
+        let vertices = (0..self.len()).filter(|v| self.row(*v) != TOP).count();
+        let edges = u64::from(self.graph.edges());
+        let most = edges.saturating_mul(LOOKS).saturating_add(LOOKS_OF_FEW);
         let mut waiting = Vec::new(alloc);
         let mut next = Vec::new(alloc);
         self.step_odd(&mut waiting)?;
-        let mut is_done = false;
+        let mut few = 0u64;
         for _ in 0..u64::MAX {
+            let waited = waiting.len();
             let before = self.looks;
-            if !self.turn(&waiting, &mut next, patience.most)? {
+            self.turn(&mut waiting, &mut next, true)?;
+            if waiting.len() <= vertices / 256 {
+                few = few.wrapping_add(self.looks.wrapping_sub(before));
+            }
+            let counts = waiting.len() > vertices / 16 && waiting.len() / 4 > waited / 5;
+            if waiting.is_empty() || counts || few > most / 12 || self.looks > most {
                 break;
             }
-            is_done = next.is_empty();
-            let looks = self.looks.wrapping_sub(before);
-            if is_done || patience.ends(waiting.len(), next.len(), looks) {
-                break;
-            }
-            waiting.clear();
-            mem::swap(&mut waiting, &mut next);
         }
-        for v in 0..self.len() {
-            self.waits_no_more(v);
+        for v in &waiting {
+            self.waits_no_more(*v);
         }
-        Ok(is_done)
+        Ok(waiting.is_empty())
     }
 
     /// Lifts the vertices of odd priorities from zeros, which then wait.
@@ -72,43 +47,42 @@ impl Side<'_> {
             if state.row == ZEROS && state.priority() % 2 == 1 {
                 let row = self.rows.step(ZEROS, state.priority())?;
                 self.set_row(v, row);
-                self.begins_to_wait(v);
-                waiting.push(v)?;
+                self.wake(v, waiting)?;
             }
         }
         Ok(())
     }
 
-    /// Lifts what those that wait don't serve any more; false where too much was looked at.
-    fn turn(
+    /// Lifts or lowers what leads to those that wait. What changed then waits.
+    pub(crate) fn turn(
         &mut self,
-        waiting: &[u32],
+        waiting: &mut Vec<u32>,
         next: &mut Vec<u32>,
-        most: u64,
-    ) -> Result<bool, AllocError> {
-        for (place, w) in waiting.iter().enumerate() {
+        lifts: bool,
+    ) -> Result<(), AllocError> {
+        for (place, v) in waiting.iter().enumerate() {
             self.look_ahead(waiting, place);
-            self.waits_no_more(*w);
-            self.lift_predecessors(*w, next)?;
-            if self.looks > most {
-                return Ok(false);
+            self.waits_no_more(*v);
+            if lifts {
+                self.lift_predecessors(*v, next)?;
+            } else {
+                self.lower_predecessors(*v, next)?;
             }
         }
-        Ok(true)
+        waiting.clear();
+        mem::swap(waiting, next);
+        Ok(())
     }
 
+    /// Lifts what a vertex doesn't serve any more.
     fn lift_predecessors(&mut self, w: u32, next: &mut Vec<u32>) -> Result<(), AllocError> {
-        let graph = self.graph;
         let row = self.row(w);
-        let predecessors = graph.predecessors(w);
-        self.look(predecessors.len());
-        self.look(1);
-        for v in predecessors {
+        for v in self.predecessors(w) {
             let state = self.state(*v);
-            if state.row == TOP || state.is_mine() && state.to != w {
-                continue;
-            }
-            if self.rows.serves(state.row, row, state.priority()) {
+            if state.row == TOP
+                || state.is_mine() && state.to != w
+                || self.rows.serves(state.row, row, state.priority())
+            {
                 continue;
             }
             let mut from = row;
@@ -120,21 +94,16 @@ impl Side<'_> {
             }
             let lifted = self.rows.step(from, state.priority())?;
             self.set_row(*v, lifted);
-            if self.begins_to_wait(*v) {
-                next.push(*v)?;
-            }
+            self.wake(*v, next)?;
         }
         Ok(())
     }
 
     /// Finds another successor that serves a vertex of the winner: none is given. Else gives the row of the least, which is kept.
     fn other_from(&mut self, v: u32, row: u32) -> Option<u32> {
-        let graph = self.graph;
         let state = self.state(v);
-        let successors = graph.successors(v);
-        self.look(successors.len());
         let mut least = (state.to, row);
-        for w in successors {
+        for w in self.successors(v) {
             let there = self.row(*w);
             if there == TOP {
                 continue;

@@ -4,17 +4,8 @@ use crate::numbers::NONE;
 use crate::rows::{TOP, ZEROS};
 use crate::side::Side;
 use std::alloc::{AllocError, Global};
-use std::mem;
 
 impl Side<'_> {
-    /// Lets a vertex wait, if it doesn't yet.
-    pub fn wake(&mut self, v: u32, waiting: &mut Vec<u32>) -> Result<(), AllocError> {
-        if self.begins_to_wait(v) {
-            waiting.push(v)?;
-        }
-        Ok(())
-    }
-
     /// Lowers until nothing changes: from a closed map to one in which each row is the step of a successor's. The map stays closed.
     pub fn lower(&mut self, alloc: Global, waiting: &mut Vec<u32>) -> Result<(), AllocError> {
         let mut next = Vec::new(alloc);
@@ -22,29 +13,29 @@ impl Side<'_> {
             if waiting.is_empty() || self.is_late() {
                 break;
             }
-            for (place, v) in waiting.iter().enumerate() {
-                self.look_ahead(waiting, place);
-                self.waits_no_more(*v);
-                self.lower_predecessors(*v, &mut next)?;
-            }
-            waiting.clear();
-            mem::swap(waiting, &mut next);
+            self.turn(waiting, &mut next, false)?;
         }
         Ok(())
     }
 
-    fn lower_predecessors(&mut self, v: u32, next: &mut Vec<u32>) -> Result<(), AllocError> {
-        let graph = self.graph;
+    /// Lowers what leads to a vertex.
+    pub(crate) fn lower_predecessors(
+        &mut self,
+        v: u32,
+        next: &mut Vec<u32>,
+    ) -> Result<(), AllocError> {
         let row = self.row(v);
-        let predecessors = graph.predecessors(v);
-        self.look(predecessors.len());
-        for u in predecessors {
+        for u in self.predecessors(v) {
             let state = self.state(*u);
             if state.row == TOP || state.row == ZEROS {
                 continue;
             }
             if state.is_mine() {
-                if !self.rows.steps_under(row, state.priority(), state.row) {
+                let low = self.rows.low(state.row, state.priority());
+                if !self
+                    .rows
+                    .is_under(self.rows.cut(row, state.priority()), low)
+                {
                     continue;
                 }
                 let lowered = self.rows.step(row, state.priority())?;
@@ -61,7 +52,6 @@ impl Side<'_> {
     /// Looks at all successors of a vertex; true where it is lowered.
     pub fn refresh(&mut self, v: u32) -> Result<bool, AllocError> {
         let state = self.state(v);
-        let priority = state.priority();
         let to = if state.is_mine() {
             self.least_successor(v)
         } else {
@@ -72,40 +62,17 @@ impl Side<'_> {
         }
         self.set_to(v, to);
         let row = self.row(to);
-        if self.rows.steps_to(row, priority, state.row) {
-            return Ok(false);
-        }
-        let lowered = self.rows.step(row, priority)?;
+        let lowered = self.rows.step(row, state.priority())?;
         self.set_row(v, lowered);
-        Ok(true)
-    }
-
-    /// Whether a vertex could be lowered.
-    pub fn is_loose(&self, v: u32) -> bool {
-        let state = self.state(v);
-        if state.row == ZEROS || state.row == TOP {
-            return false;
-        }
-        let is_less = |w: &u32| self
-            .rows
-            .steps_under(self.row(*w), state.priority(), state.row);
-        let successors = self.graph.successors(v);
-        if state.is_mine() {
-            successors.iter().any(is_less)
-        } else {
-            successors.iter().all(is_less)
-        }
+        Ok(lowered != state.row)
     }
 
     /// A successor by which a vertex is lowered the most, or `NONE`.
     fn least_successor(&mut self, v: u32) -> u32 {
-        let graph = self.graph;
         let state = self.state(v);
-        let successors = graph.successors(v);
-        self.look(successors.len());
         let mut least = self.rows.low(state.row, state.priority());
         let mut to = NONE;
-        for w in successors {
+        for w in self.successors(v) {
             let row = self.rows.cut(self.row(*w), state.priority());
             if self.rows.is_under(row, least) {
                 least = row;
@@ -115,14 +82,11 @@ impl Side<'_> {
         to
     }
 
-    /// A successor with the greatest row.
-    fn greatest_successor(&mut self, v: u32) -> u32 {
-        let graph = self.graph;
-        let successors = graph.successors(v);
-        self.look(successors.len());
+    /// A successor with the greatest row, or `NONE`.
+    pub(crate) fn greatest_successor(&mut self, v: u32) -> u32 {
         let mut most = ZEROS;
         let mut to = NONE;
-        for w in successors {
+        for w in self.successors(v) {
             let row = self.row(*w);
             if to == NONE || self.rows.is_under(most, row) {
                 most = row;

@@ -3,7 +3,7 @@
 //! A node is its parent's row with one more component above 0, at a lesser priority. Equal rows are one node, so that rows are
 //! compared by a walk to where their ways part; zeros are the root and cost nothing.
 
-use crate::numbers::{at, count, put};
+use crate::numbers::{at, count, item, put};
 use std::alloc::{AllocError, Global};
 
 /// In place of a row: top.
@@ -63,11 +63,7 @@ impl Rows {
 
     #[inline(always)]
     pub fn node(&self, row: u32) -> Node {
-        if (row as usize) < self.nodes.len() {
-            self.nodes[row as usize]
-        } else {
-            Node::ROOT
-        }
+        item(&self.nodes, row, Node::ROOT)
     }
 
     /// The row with all components of lesser priorities set to 0.
@@ -156,6 +152,11 @@ impl Rows {
         self.parting(low, row).1
     }
 
+    /// The first row on the way to one that stands behind another on that way.
+    pub fn after(&self, before: u32, row: u32) -> u32 {
+        self.up(row, self.node(before).depth.saturating_add(1))
+    }
+
     /// The least step of a row at a priority.
     #[inline(always)]
     pub fn step(&mut self, row: u32, priority: u32) -> Result<u32, AllocError> {
@@ -193,47 +194,36 @@ impl Rows {
         Ok(more)
     }
 
-    /// Where the search for a row begins in the table, or goes on.
+    /// Where the row with one more component, of 1, stands in the table, or is to stand.
     #[inline(always)]
-    fn place(&self, number: u64) -> u32 {
+    fn place(&self, parent: u32, priority: u32) -> u32 {
         let mask = count(self.table.len()).saturating_sub(1);
-        (number & 0xffff_ffff) as u32 & mask
-    }
-
-    #[inline(always)]
-    fn first_place(&self, parent: u32, priority: u32) -> u32 {
         let both = (parent as u64) << 32 | priority as u64;
-        self.place(both.wrapping_mul(0x9e37_79b9_7f4a_7c15) >> 32)
+        let mixed = both.wrapping_mul(0x9e37_79b9_7f4a_7c15) >> 32;
+        let mut place = (mixed & 0xffff_ffff) as u32 & mask;
+        for _ in 0..u64::MAX {
+            let row = at(&self.table, place);
+            let node = self.node(row);
+            if row == ZEROS || node.parent == parent && node.priority == priority {
+                break;
+            }
+            place = place.wrapping_add(1) & mask;
+        }
+        place
     }
 
     /// The row with one more component, of 1.
     fn child(&mut self, row: u32, priority: u32) -> Result<u32, AllocError> {
-        let mut place = self.first_place(row, priority);
-        for _ in 0..u64::MAX {
-            let there = at(&self.table, place);
-            if there == ZEROS {
-                break;
-            }
-            let node = self.node(there);
-            if node.parent == row && node.priority == priority {
-                return Ok(there);
-            }
-            place = self.place(place as u64 + 1);
+        let place = self.place(row, priority);
+        let there = at(&self.table, place);
+        if there != ZEROS {
+            return Ok(there);
         }
-        let child = self.add_child(row, priority)?;
-        put(&mut self.table, place, child);
-        if self.nodes.len() > self.table.len() / 2 {
-            self.grow()?;
-        }
-        Ok(child)
-    }
-
-    fn add_child(&mut self, row: u32, priority: u32) -> Result<u32, AllocError> {
         let parent = self.node(row);
         let far = self.node(parent.jump);
         let further = self.node(far.jump);
         let is_even = parent.depth.wrapping_sub(far.depth) == far.depth.wrapping_sub(further.depth);
-        self.add(Node {
+        let child = self.add(Node {
             parent: row,
             priority,
             component: 1,
@@ -241,29 +231,25 @@ impl Rows {
             more: ZEROS,
             depth: parent.depth.saturating_add(1),
             jump: if is_even { far.jump } else { row },
-        })
+        })?;
+        put(&mut self.table, place, child);
+        if self.nodes.len() > self.table.len() / 2 {
+            self.grow()?;
+        }
+        Ok(child)
     }
 
     /// Makes the table greater.
     fn grow(&mut self) -> Result<(), AllocError> {
         let places = self.table.len().saturating_mul(4);
         self.table.clear();
-        for _ in 0..places {
-            self.table.push(ZEROS)?;
-        }
+        self.table.resize(places, ZEROS)?;
         for row in 1..self.len() {
             let node = self.node(row);
-            if node.component != 1 {
-                continue;
+            if node.component == 1 {
+                let place = self.place(node.parent, node.priority);
+                put(&mut self.table, place, row);
             }
-            let mut place = self.first_place(node.parent, node.priority);
-            for _ in 0..u64::MAX {
-                if at(&self.table, place) == ZEROS {
-                    break;
-                }
-                place = self.place(place as u64 + 1);
-            }
-            put(&mut self.table, place, row);
         }
         Ok(())
     }
@@ -290,17 +276,5 @@ impl Rows {
         } else {
             row
         }
-    }
-
-    /// Whether the step of a successor's row at a priority is less than a row.
-    #[inline(always)]
-    pub fn steps_under(&self, successor: u32, priority: u32, row: u32) -> bool {
-        self.is_under(self.cut(successor, priority), self.low(row, priority))
-    }
-
-    /// Whether it is that row.
-    #[inline(always)]
-    pub fn steps_to(&self, successor: u32, priority: u32, row: u32) -> bool {
-        self.cut(successor, priority) == self.low(row, priority)
     }
 }

@@ -1,10 +1,9 @@
 //! The game as one player sees it, for whom it wants the least map: that player is called the winner, since all is about the
 //! vertices that the player wins.
 
-use crate::numbers::{NONE, count};
+use crate::numbers::{NONE, at, count, item};
 use crate::rows::{Rows, TOP, ZEROS};
-use pg_arena::Player;
-use pg_winners::{Graph, Winners};
+use pg_winners::Graph;
 use std::alloc::{AllocError, Global};
 
 /// What is known of a vertex.
@@ -50,40 +49,42 @@ pub struct Side<'a> {
     pub player: u32,
     /// How many vertices and edges were looked at, and how many may be.
     pub looks: u64,
-    pub most: u64,
+    most: u64,
     /// What `look_ahead` saw last, which nobody asks for.
     seen: u32,
 }
 
 impl<'a> Side<'a> {
-    /// Zeros on what the player wins, top elsewhere.
+    /// Zeros on the vertices that the player wins, top elsewhere; and what is chosen at the player's vertices.
     pub fn new(
         alloc: Global,
         graph: &'a Graph,
-        winners: &Winners,
-        player: Player,
+        player: u32,
+        vertices: &[u32],
+        choices: &[u32],
         most: u64,
     ) -> Result<Side<'a>, AllocError> {
-        let number = player_number(player);
         let mut states = Vec::with_capacity(alloc, graph.len() as usize)?;
         for v in 0..graph.len() {
-            let is_mine = graph.owner(v) == number;
-            let priority = graph.priority(v).saturating_add(number);
+            let is_mine = graph.owner(v) == player;
+            let priority = graph.priority(v).saturating_add(player);
             states.push(State {
-                row: if wins(winners, v, player) { ZEROS } else { TOP },
+                row: TOP,
                 key: priority.saturating_mul(4) | is_mine as u32,
-                to: if is_mine { choice(winners, v) } else { NONE },
+                to: if is_mine { at(choices, v) } else { NONE },
             })?;
         }
-        Ok(Side {
+        let mut side = Side {
             graph,
             rows: Rows::new(alloc)?,
             states,
-            player: number,
+            player,
             looks: 0,
             most,
             seen: 0,
-        })
+        };
+        side.clear(alloc, vertices)?;
+        Ok(side)
     }
 
     /// How many vertices there are.
@@ -93,11 +94,7 @@ impl<'a> Side<'a> {
 
     #[inline(always)]
     pub fn state(&self, v: u32) -> State {
-        if (v as usize) < self.states.len() {
-            self.states[v as usize]
-        } else {
-            State::NOWHERE
-        }
+        item(&self.states, v, State::NOWHERE)
     }
 
     #[inline(always)]
@@ -119,15 +116,14 @@ impl<'a> Side<'a> {
         }
     }
 
-    /// Notes that a vertex waits; false where it did already.
+    /// Lets a vertex wait, if it doesn't yet.
     #[inline(always)]
-    pub fn begins_to_wait(&mut self, v: u32) -> bool {
+    pub fn wake(&mut self, v: u32, waiting: &mut Vec<u32>) -> Result<(), AllocError> {
         if (v as usize) < self.states.len() && self.states[v as usize].key & WAITS == 0 {
             self.states[v as usize].key |= WAITS;
-            true
-        } else {
-            false
+            waiting.push(v)?;
         }
+        Ok(())
     }
 
     /// Notes that a vertex doesn't wait any more.
@@ -138,10 +134,25 @@ impl<'a> Side<'a> {
         }
     }
 
-    /// Notes that so much was looked at.
+    /// The successors of a vertex, which are looked at.
     #[inline(always)]
-    pub fn look(&mut self, many: usize) {
-        self.looks = self.looks.wrapping_add(many as u64);
+    pub fn successors(&mut self, v: u32) -> &'a [u32] {
+        let graph = self.graph;
+        let successors = graph.successors(v);
+        self.looks = self.looks.wrapping_add(successors.len() as u64);
+        successors
+    }
+
+    /// The predecessors of a vertex, which are looked at, and that vertex too.
+    #[inline(always)]
+    pub fn predecessors(&mut self, v: u32) -> &'a [u32] {
+        let graph = self.graph;
+        let predecessors = graph.predecessors(v);
+        self.looks = self
+            .looks
+            .wrapping_add(1)
+            .wrapping_add(predecessors.len() as u64);
+        predecessors
     }
 
     /// Reads what will be wanted soon when the predecessors of a list are looked at, so that it isn't waited for then.
@@ -185,27 +196,4 @@ impl<'a> Side<'a> {
             !self.state(*v).is_mine() || stays.count() <= 1
         })
     }
-}
-
-/// Even is 0, Odd is 1.
-pub fn player_number(player: Player) -> u32 {
-    match player {
-        Player::Even => 0,
-        Player::Odd => 1,
-    }
-}
-
-/// Whether a player wins a vertex.
-#[inline(always)]
-pub fn wins(winners: &Winners, v: u32, player: Player) -> bool {
-    match winners.winner.get(v as usize) {
-        Some(winner) => player_number(*winner) == player_number(player),
-        None => false,
-    }
-}
-
-/// What the winner chooses at a vertex.
-#[inline(always)]
-pub fn choice(winners: &Winners, v: u32) -> u32 {
-    crate::numbers::at(&winners.choice, v)
 }

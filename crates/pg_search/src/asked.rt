@@ -2,6 +2,7 @@
 
 use pg_rows::{Side, ZEROS, at, count, put};
 use std::alloc::{AllocError, Global};
+use std::mem;
 
 /// A claim that is asked for: of a vertex, that each closed map has at least this row there.
 #[derive(Clone, Copy)]
@@ -61,6 +62,16 @@ impl Levels {
         self.put(side.rows.node(asked.row).priority, asked)
     }
 
+    /// Asks for a vertex' row up to one component more than was asked for last, which is given.
+    pub fn ask_next(&mut self, side: &Side, last: Asked) -> Result<(), AllocError> {
+        let Asked { vertex, row } = last;
+        if at(&self.lasts, vertex) != row {
+            return Ok(());
+        }
+        let row = side.rows.after(row, side.row(vertex));
+        self.ask(side, Asked { vertex, row })
+    }
+
     /// Puts a claim to a level, if there is one of that priority.
     pub fn put(&mut self, priority: u32, asked: Asked) -> Result<(), AllocError> {
         let level = self.levels.partition_point(|it| *it < priority);
@@ -70,21 +81,10 @@ impl Levels {
         Ok(())
     }
 
-    /// Puts the first component of a vertex' row that stands behind a row on the way to it.
-    pub fn put_next(&mut self, side: &Side, vertex: u32, from: u32) -> Result<(), AllocError> {
-        let whole = side.row(vertex);
-        let last = side.rows.node(from).priority;
-        let is_behind = |it: &u32| *it < last && side.rows.cut(whole, *it) != from;
-        let behind = count(self.levels.partition_point(is_behind));
-        let priority = at(&self.levels, behind.wrapping_sub(1));
-        let row = side.rows.cut(whole, priority);
-        self.put(priority, Asked { vertex, row })
-    }
-
     /// Takes what is asked for at a level.
     pub fn take(&mut self, alloc: Global, level: u32) -> Vec<Asked> {
         if (level as usize) < self.lists.len() {
-            std::mem::replace(&mut self.lists[level as usize], Vec::new(alloc))
+            mem::replace(&mut self.lists[level as usize], Vec::new(alloc))
         } else {
             Vec::new(alloc)
         }

@@ -1,60 +1,88 @@
-//! Games of claims: a vertex for each claim, which leads to the claims that it needs.
+//! Games of claims: a node for each, which leads to the nodes of the claims that it needs.
 //!
-//! A claim needs claims of the successors of its vertex, those of all of them where the winner owns it, and of one else. Nothing is
-//! needed of a successor where zeros are enough already. Where the opponent wins the game its order shows the claims.
+//! A claim needs claims of the successors of its vertex, those of all of them where the winner owns it, and of one else. Where the
+//! opponent wins the game its order shows the claims.
 
-use crate::asked::{Asked, Levels};
+use crate::asked::Asked;
 use pg_arena::Player;
-use pg_rows::{NONE, RowClaim, Side, at, choice, count, is_marked, mark, put, wins};
+use pg_rows::{NONE, RowClaim, at, count, is_marked, item, put};
 use pg_winners::{Graph, Winners, find_winners};
 use std::alloc::{AllocError, Global};
+use std::mem;
 
-/// A claim that one on the board needs, of another level.
-#[derive(Clone, Copy)]
-struct Beyond {
-    node: u32,
-    asked: Asked,
-}
+/// The nodes at which the opponent has won, and has lost.
+pub(crate) const WON: u32 = 0;
 
-/// The node at which the opponent has won.
-const WON: u32 = 0;
+pub(crate) const LOST: u32 = 1;
 
-/// The claim of a node: it stands one place before.
-fn claim_of(claims: &[Asked], node: u32) -> Asked {
-    match claims.get(node.wrapping_sub(1) as usize).copied() {
-        Some(claim) => claim,
-        None => Asked {
-            vertex: NONE,
-            row: NONE,
-        },
-    }
-}
+/// The first node of a claim.
+pub(crate) const FIRST: u32 = 2;
+
+const NOTHING: Asked = Asked {
+    vertex: NONE,
+    row: NONE,
+};
 
 #[derive(Drop)]
 pub(crate) struct Board {
-    pub claims: Vec<Asked>,
+    /// The node of each vertex of which a claim is on the board, or `NONE`.
+    nodes: Vec<u32>,
+    /// The claim of each node.
+    claims: Vec<Asked>,
     priorities: Vec<u32>,
     owners: Vec<Player>,
     offsets: Vec<u32>,
     targets: Vec<u32>,
-    beyond: Vec<Beyond>,
 }
 
 impl Board {
-    /// A board for some claims, of which none has edges yet.
-    pub fn new(alloc: Global, claims: Vec<Asked>) -> Result<Board, AllocError> {
-        let many = claims.len().saturating_add(1);
-        let mut board = Board {
-            claims,
-            priorities: Vec::with_capacity(alloc, many)?,
-            owners: Vec::with_capacity(alloc, many)?,
-            offsets: Vec::with_capacity(alloc, many)?,
+    /// A board for claims of so many vertices.
+    pub fn new(alloc: Global, vertices: u32) -> Result<Board, AllocError> {
+        Ok(Board {
+            nodes: vec![in alloc; NONE; vertices as usize]?,
+            claims: Vec::new(alloc),
+            priorities: Vec::new(alloc),
+            owners: Vec::new(alloc),
+            offsets: Vec::new(alloc),
             targets: Vec::new(alloc),
-            beyond: Vec::new(alloc),
-        };
-        board.begin(1, false)?;
-        board.end()?;
-        Ok(board)
+        })
+    }
+
+    /// Takes all claims away.
+    pub fn clear(&mut self) -> Result<(), AllocError> {
+        for claim in &self.claims {
+            put(&mut self.nodes, claim.vertex, NONE);
+        }
+        self.claims.clear();
+        self.owners.clear();
+        self.offsets.clear();
+        self.claims.resize(FIRST as usize, NOTHING)?;
+        self.begin(1, false)?;
+        self.lead_to(WON)?;
+        self.begin(0, true)?;
+        self.lead_to(LOST)
+    }
+
+    /// How many nodes there are.
+    pub fn len(&self) -> u32 {
+        count(self.claims.len())
+    }
+
+    /// The claim of a node.
+    pub fn claim(&self, node: u32) -> Asked {
+        item(&self.claims, node, NOTHING)
+    }
+
+    /// The node of a claim, which is put to the board where none of its vertex is.
+    pub fn node(&mut self, claim: Asked) -> Result<u32, AllocError> {
+        let node = at(&self.nodes, claim.vertex);
+        if node != NONE {
+            return Ok(node);
+        }
+        let node = self.len();
+        put(&mut self.nodes, claim.vertex, node);
+        self.claims.push(claim)?;
+        Ok(node)
     }
 
     /// Begins the edges of the next node.
@@ -66,147 +94,44 @@ impl Board {
         Ok(())
     }
 
-    /// Lets it lead to the claim at a place.
+    /// Lets it lead to a node.
     #[inline(always)]
-    pub fn lead_to(&mut self, place: u32) -> Result<(), AllocError> {
-        self.targets.push(place.saturating_add(1))?;
-        Ok(())
-    }
-
-    /// Notes that it needs a claim of another level.
-    pub fn lead_beyond(&mut self, asked: Asked) -> Result<(), AllocError> {
-        let node = count(self.priorities.len()).saturating_sub(1);
-        self.beyond.push(Beyond { node, asked })?;
-        Ok(())
-    }
-
-    /// Ends its edges. Without any the opponent has won.
-    pub fn end(&mut self) -> Result<(), AllocError> {
-        if self.offsets.last().copied() == Some(count(self.targets.len())) {
-            self.targets.push(WON)?;
-        }
+    pub fn lead_to(&mut self, node: u32) -> Result<(), AllocError> {
+        self.targets.push(node)?;
         Ok(())
     }
 
     /// Plays the game.
-    pub fn play(self, alloc: Global) -> Result<Played, AllocError> {
-        let Board {
-            claims,
-            priorities,
-            owners,
-            offsets,
-            targets,
-            beyond,
-        } = self;
-        let graph = Graph::new(alloc, priorities, &owners, &offsets, targets)?;
+    pub fn play(&mut self, alloc: Global) -> Result<Played, AllocError> {
+        let priorities = mem::replace(&mut self.priorities, Vec::new(alloc));
+        let targets = mem::replace(&mut self.targets, Vec::new(alloc));
+        let graph = Graph::new(alloc, priorities, &self.owners, &self.offsets, targets)?;
         let winners = find_winners(alloc, &graph)?;
-        Ok(Played {
-            claims,
-            beyond,
-            graph,
-            winners,
-        })
-    }
-}
-
-/// A game of claims that was played.
-#[derive(Drop)]
-pub(crate) struct Played {
-    claims: Vec<Asked>,
-    beyond: Vec<Beyond>,
-    graph: Graph,
-    winners: Winners,
-}
-
-impl Played {
-    /// Whether there are orders.
-    pub fn is_ordered(&self) -> bool {
-        self.winners.is_ordered
-    }
-
-    /// The nodes of the claims that the winner wins.
-    pub fn lost(&self) -> &[u32] {
-        &self.winners.of_even
-    }
-
-    /// The vertex that is chosen at a node, or `NONE`.
-    pub fn chosen(&self, node: u32) -> u32 {
-        self.vertex(choice(&self.winners, node))
-    }
-
-    /// The vertex of a node.
-    pub fn vertex(&self, node: u32) -> u32 {
-        claim_of(&self.claims, node).vertex
-    }
-
-    fn is_mine(&self, node: u32) -> bool {
-        self.graph.owner(node) == 0
-    }
-
-    /// All nodes.
-    pub fn all(&self, alloc: Global) -> Result<Vec<bool>, AllocError> {
-        vec![in alloc; true; self.graph.len() as usize]
-    }
-
-    /// The nodes that the first ones lead to, where the opponent wins and goes as it chose.
-    pub fn kept(&self, alloc: Global, roots: u32) -> Result<Vec<bool>, AllocError> {
-        let mut is_kept = vec![in alloc; false; self.graph.len() as usize]?;
-        let mut open = Vec::new(alloc);
-        for node in 1..=roots {
-            keep(&mut is_kept, &mut open, node)?;
-        }
-        for _ in 0..u64::MAX {
-            let Some(node) = open.pop() else {
-                break;
-            };
-            if wins(&self.winners, node, Player::Even) {
-                continue;
-            }
-            if self.is_mine(node) {
-                for target in self.graph.successors(node) {
-                    keep(&mut is_kept, &mut open, *target)?;
-                }
-            } else {
-                keep(&mut is_kept, &mut open, choice(&self.winners, node))?;
-            }
-        }
-        Ok(is_kept)
-    }
-
-    /// What the nodes that are kept need of other levels.
-    pub fn ask(
-        &self,
-        side: &Side,
-        is_kept: &[bool],
-        levels: &mut Levels,
-    ) -> Result<(), AllocError> {
-        for beyond in &self.beyond {
-            if holds(is_kept, beyond.node) {
-                levels.ask(side, beyond.asked)?;
-            }
-        }
-        Ok(())
+        Ok(Played { graph, winners })
     }
 
     /// The claims that are kept and that the opponent wins, in an order that shows them.
-    pub fn order(&self, alloc: Global, is_kept: &[bool]) -> Result<Vec<RowClaim>, AllocError> {
-        let list = &self.winners.of_odd;
+    pub fn order(
+        &self,
+        alloc: Global,
+        winners: &Winners,
+        is_kept: &[bool],
+    ) -> Result<Vec<RowClaim>, AllocError> {
+        let list = &winners.of_odd;
         let mut places = Vec::with_capacity(alloc, list.len().saturating_add(1))?;
         let mut place = 0u32;
         for node in list {
             places.push(place)?;
-            if holds(is_kept, *node) {
-                place = place.wrapping_add(1);
-            }
+            place = place.wrapping_add(is_marked(is_kept, *node) as u32);
         }
         places.push(place)?;
         let mut order = Vec::with_capacity(alloc, place as usize)?;
         for (before, node) in list.iter().enumerate() {
-            if holds(is_kept, *node) {
+            if is_marked(is_kept, *node) {
                 let before = count(before);
-                let end = before.saturating_add(at(&self.winners.span, *node));
+                let end = before.saturating_add(at(&winners.span, *node));
                 let span = at(&places, end).wrapping_sub(at(&places, before));
-                let Asked { vertex, row } = claim_of(&self.claims, *node);
+                let Asked { vertex, row } = self.claim(*node);
                 order.push(RowClaim { vertex, row, span })?;
             }
         }
@@ -214,15 +139,41 @@ impl Played {
     }
 }
 
-/// Whether a node is that of a claim which is kept.
-fn holds(is_kept: &[bool], node: u32) -> bool {
-    node != WON && is_marked(is_kept, node)
+/// A game that was played.
+#[derive(Drop)]
+pub(crate) struct Played {
+    graph: Graph,
+    pub winners: Winners,
 }
 
-/// Keeps a node, if it wasn't kept yet.
+impl Played {
+    /// The nodes that those of the first claims, up to a node, lead to, where the opponent goes as it chose.
+    pub fn kept(&self, alloc: Global, end: u32) -> Result<Vec<bool>, AllocError> {
+        let mut is_kept = vec![in alloc; false; self.graph.len() as usize]?;
+        let mut open = Vec::new(alloc);
+        for node in FIRST..end {
+            keep(&mut is_kept, &mut open, node)?;
+        }
+        for _ in 0..u64::MAX {
+            let Some(node) = open.pop() else {
+                break;
+            };
+            if self.graph.owner(node) == 1 {
+                keep(&mut is_kept, &mut open, at(&self.winners.choice, node))?;
+                continue;
+            }
+            for target in self.graph.successors(node) {
+                keep(&mut is_kept, &mut open, *target)?;
+            }
+        }
+        Ok(is_kept)
+    }
+}
+
+/// Keeps the node of a claim, if it wasn't kept yet.
 fn keep(is_kept: &mut [bool], open: &mut Vec<u32>, node: u32) -> Result<(), AllocError> {
-    if node != WON && !is_marked(is_kept, node) {
-        mark(is_kept, node, true);
+    if node >= FIRST && !item(is_kept, node, true) {
+        put(is_kept, node, true);
         open.push(node)?;
     }
     Ok(())

@@ -1,6 +1,6 @@
 //! The greatest way out of each run of places.
 
-use pg_rows::{NONE, Rows, ZEROS, count};
+use pg_rows::{NONE, Rows, ZEROS, count, item, put};
 use std::alloc::{AllocError, Global};
 
 /// An edge that leads out of a run of places, and the row that it leads to.
@@ -12,7 +12,7 @@ pub(crate) struct Way {
 }
 
 impl Way {
-    const NOWHERE: Way = Way {
+    pub const NOWHERE: Way = Way {
         row: ZEROS,
         from: NONE,
         to: NONE,
@@ -43,11 +43,7 @@ impl Greatest {
 
     #[inline(always)]
     fn way(&self, node: u32) -> Way {
-        if (node as usize) < self.ways.len() {
-            self.ways[node as usize]
-        } else {
-            Way::NOWHERE
-        }
+        item(&self.ways, node, Way::NOWHERE)
     }
 
     /// Puts a way to a place.
@@ -57,9 +53,7 @@ impl Greatest {
             if node == 0 || !rows.is_under(self.way(node).row, way.row) {
                 break;
             }
-            if (node as usize) < self.ways.len() {
-                self.ways[node as usize] = way;
-            }
+            put(&mut self.ways, node, way);
             node /= 2;
         }
     }

@@ -1,96 +1,41 @@
 //! From a closed map to the least one, and claims of all its rows.
 //!
 //! First the vertices are claimed whose own rows lead to earlier claims alone. For the others there is one game of one claim for
-//! each, of its own row: what the opponent wins of it is settled, and the rows of the rest are set by levels. To show the rows of the rest it may have to choose otherwise for
-//! great components than for small ones. So they are claimed level by level, from the
+//! each, of its own row: what the opponent wins of it is settled, and the rows of the rest are set by levels. To show the rows of the
+//! rest it may have to choose otherwise for great components than for small ones. So they are claimed level by level, from the
 //! least on, each with the claims that it needs of the same level. It leads to claims of that level or of greater ones, whose rows are
 //! the first on the way to those of the successors that are enough; only those that the game's choices need are asked for. In the
 //! order of all the greatest level comes first.
 
 use crate::asked::{Asked, Levels};
 use crate::attracting::attract;
-use crate::board::{Board, Played};
+use crate::board::{Board, FIRST, LOST, WON};
 use crate::leveling::set_by_levels;
-use pg_rows::{NONE, RowClaim, Side, TOP, ZEROS, at, count, is_marked, mark, put};
+use pg_rows::{NONE, RowClaim, Side, TOP, ZEROS, is_marked, put};
 use std::alloc::{AllocError, Global};
+
+/// In place of a level: all of them, in the game of own rows.
+const ALL: u32 = NONE;
+
+/// A claim of another level that a node needs.
+#[derive(Clone, Copy)]
+struct Beyond {
+    node: u32,
+    asked: Asked,
+}
 
 #[derive(Drop)]
 struct Justifying {
-    /// The place of each vertex among the claims of the game that is made, or `NONE`.
-    places: Vec<u32>,
+    board: Board,
     is_settled: Vec<bool>,
-    /// The vertices that could be lowered: their rows aren't claimed.
-    is_loose: Vec<bool>,
+    beyond: Vec<Beyond>,
 }
 
 impl Justifying {
-    /// The edges of a claim of a vertex' own row, in the game of all these.
-    fn put_own(&self, side: &mut Side, board: &mut Board, claim: Asked) -> Result<(), AllocError> {
-        let graph = side.graph;
-        let state = side.state(claim.vertex);
-        let successors = graph.successors(claim.vertex);
-        let low = side.rows.low(claim.row, state.priority());
-        if is_marked(&self.is_loose, claim.vertex) {
-            board.begin(0, true)?;
-            return board.lead_to(at(&self.places, claim.vertex));
-        }
-        board.begin(state.priority(), state.is_mine())?;
-        if low == ZEROS {
-            return board.end();
-        }
-        side.look(successors.len());
-        if !state.is_mine() && self.leads_to_settled(side, successors, low) {
-            return board.end();
-        }
-        for w in successors {
-            if self.need(side, *w, low).is_some() {
-                board.lead_to(at(&self.places, *w))?;
-            }
-        }
-        board.end()
-    }
-
-    /// Whether a settled successor has a row that is enough.
-    fn leads_to_settled(&self, side: &Side, successors: &[u32], low: u32) -> bool {
-        for w in successors {
-            let row = side.row(*w);
-            if row != TOP && self.is_settled(*w) && !side.rows.is_under(row, low) {
-                return true;
-            }
-        }
-        false
-    }
-
-    /// The edges of a claim in the game of its level. The claims of this level that it needs are put to the board.
-    fn put_at_level(
-        &mut self,
-        side: &mut Side,
-        board: &mut Board,
-        claim: Asked,
-        level: u32,
-    ) -> Result<(), AllocError> {
-        let graph = side.graph;
-        let state = side.state(claim.vertex);
-        let successors = graph.successors(claim.vertex);
-        let low = side.rows.low(claim.row, state.priority());
-        board.begin(state.priority(), state.is_mine())?;
-        if low == ZEROS {
-            return board.end();
-        }
-        side.look(successors.len());
-        if !state.is_mine() && self.leads_out(side, board, successors, low, level)? {
-            return board.end();
-        }
-        for w in successors {
-            self.lead(side, board, *w, low, level)?;
-        }
-        board.end()
-    }
-
     /// What a claim needs of a successor: nothing of one that is at top or settled, or that hasn't such a row.
     fn need(&self, side: &Side, w: u32, low: u32) -> Option<Asked> {
         let row = side.row(w);
-        if row == TOP || side.rows.is_under(row, low) || self.is_settled(w) {
+        if row == TOP || is_marked(&self.is_settled, w) || side.rows.is_under(row, low) {
             return None;
         }
         Some(Asked {
@@ -99,157 +44,142 @@ impl Justifying {
         })
     }
 
-    fn is_settled(&self, v: u32) -> bool {
-        is_marked(&self.is_settled, v)
-    }
-
     /// Whether a successor lets a claim of the opponent do without others of its level: best one that is settled.
     fn leads_out(
-        &self,
+        &mut self,
         side: &Side,
-        board: &mut Board,
+        node: u32,
         successors: &[u32],
         low: u32,
         level: u32,
     ) -> Result<bool, AllocError> {
-        if self.leads_to_settled(side, successors, low) {
-            return Ok(true);
+        for w in successors {
+            if is_marked(&self.is_settled, *w) && !side.rows.is_under(side.row(*w), low) {
+                return Ok(true);
+            }
         }
         for w in successors {
             if let Some(asked) = self.need(side, *w, low)
-                && side.rows.node(asked.row).priority != level
+                && is_beyond(side, asked, level)
             {
-                board.lead_beyond(asked)?;
+                self.beyond.push(Beyond { node, asked })?;
                 return Ok(true);
             }
         }
         Ok(false)
     }
 
-    /// Lets a claim lead to what it needs of a successor.
-    fn lead(
-        &mut self,
-        side: &Side,
-        board: &mut Board,
-        w: u32,
-        low: u32,
-        level: u32,
-    ) -> Result<(), AllocError> {
-        let Some(asked) = self.need(side, w, low) else {
-            return Ok(());
-        };
-        if side.rows.node(asked.row).priority != level {
-            return board.lead_beyond(asked);
+    /// Lets the node of a claim lead to those of the claims of a level that it needs. They are put to the board.
+    fn lead(&mut self, side: &mut Side, node: u32, level: u32) -> Result<(), AllocError> {
+        let claim = self.board.claim(node);
+        let state = side.state(claim.vertex);
+        let is_mine = state.is_mine();
+        let low = side.rows.low(claim.row, state.priority());
+        let successors = side.successors(claim.vertex);
+        self.board.begin(state.priority(), is_mine)?;
+        if low == ZEROS || !is_mine && self.leads_out(side, node, successors, low, level)? {
+            return self.board.lead_to(WON);
         }
-        let mut place = at(&self.places, w);
-        if place == NONE {
-            place = count(board.claims.len());
-            put(&mut self.places, w, place);
-            board.claims.push(asked)?;
+        let mut end = if is_mine { WON } else { LOST };
+        for w in successors {
+            if let Some(asked) = self.need(side, *w, low) {
+                if is_beyond(side, asked, level) {
+                    self.beyond.push(Beyond { node, asked })?;
+                } else {
+                    end = self.board.node(asked)?;
+                    self.board.lead_to(end)?;
+                }
+            } else if is_mine && side.rows.is_under(side.row(*w), low) {
+                self.board.lead_to(LOST)?;
+            }
         }
-        board.lead_to(place)
+        if end < FIRST {
+            self.board.lead_to(end)?;
+        }
+        Ok(())
     }
 
-    /// Gives the claims places, those of one vertex once.
-    fn place(&mut self, alloc: Global, claims: &[Asked]) -> Result<Vec<Asked>, AllocError> {
-        let mut distinct = Vec::with_capacity(alloc, claims.len())?;
+    /// Plays the game of some claims and of those of a level that they need. Gives what shows them, and asks for claims of other levels.
+    /// None where winners aren't found.
+    fn play(
+        &mut self,
+        alloc: Global,
+        side: &mut Side,
+        claims: &[Asked],
+        level: u32,
+        levels: &mut Levels,
+    ) -> Result<Option<Vec<RowClaim>>, AllocError> {
+        self.beyond.clear();
+        self.board.clear()?;
         for claim in claims {
-            if at(&self.places, claim.vertex) == NONE {
-                put(&mut self.places, claim.vertex, count(distinct.len()));
-                distinct.push(*claim)?;
+            self.board.node(*claim)?;
+        }
+        let end = self.board.len();
+        for node in FIRST..NONE {
+            if node >= self.board.len() {
+                break;
+            }
+            self.lead(side, node, level)?;
+        }
+        let played = self.board.play(alloc)?;
+        if !played.winners.is_ordered {
+            return Ok(None);
+        }
+        let is_kept = played.kept(alloc, end)?;
+        for Beyond { node, asked } in &self.beyond {
+            if is_marked(&is_kept, *node) {
+                levels.ask(side, *asked)?;
             }
         }
-        Ok(distinct)
+        Ok(Some(self.board.order(alloc, &played.winners, &is_kept)?))
     }
 
-    /// Takes the places of the claims on a board away.
-    fn unplace(&mut self, board: &Board) {
-        for claim in &board.claims {
-            put(&mut self.places, claim.vertex, NONE);
-        }
-    }
-
-    /// Plays the game of the own rows of the vertices that aren't settled.
-    fn play_own(
-        &mut self,
+    /// Claims of the own rows of the vertices that aren't settled.
+    fn unsettled(
+        &self,
         alloc: Global,
-        side: &mut Side,
+        side: &Side,
         vertices: &[u32],
-    ) -> Result<Played, AllocError> {
-        let mut claims = Vec::new(alloc);
+    ) -> Result<Vec<Asked>, AllocError> {
+        let mut open = Vec::new(alloc);
         for v in vertices {
-            if !self.is_settled(*v) {
+            if !is_marked(&self.is_settled, *v) {
                 let row = side.row(*v);
-                claims.push(Asked { vertex: *v, row })?;
+                open.push(Asked { vertex: *v, row })?;
             }
         }
-        let claims = self.place(alloc, &claims)?;
-        let mut board = Board::new(alloc, claims)?;
-        for place in 0..usize::MAX {
-            let Some(claim) = board.claims.get(place).copied() else {
-                break;
-            };
-            self.put_own(side, &mut board, claim)?;
-        }
-        self.unplace(&board);
-        board.play(alloc)
+        Ok(open)
     }
 
-    /// Plays the game of a level.
-    fn play_level(
-        &mut self,
-        alloc: Global,
-        side: &mut Side,
-        asked: Vec<Asked>,
-        level: u32,
-    ) -> Result<Played, AllocError> {
-        let mut board = Board::new(alloc, asked)?;
-        for place in 0..usize::MAX {
-            let Some(claim) = board.claims.get(place).copied() else {
-                break;
-            };
-            self.put_at_level(side, &mut board, claim, level)?;
-        }
-        self.unplace(&board);
-        board.play(alloc)
-    }
-
-    /// The claims of the vertices that aren't settled, level by level; the greatest level last. None where winners aren't found.
+    /// The claims of what isn't settled, level by level; the greatest level first. None where winners aren't found.
     fn play_levels(
         &mut self,
         alloc: Global,
         side: &mut Side,
         levels: &mut Levels,
-    ) -> Result<Option<Vec<Vec<RowClaim>>>, AllocError> {
+        order: &mut Vec<RowClaim>,
+    ) -> Result<bool, AllocError> {
         let mut blocks = Vec::new(alloc);
-        for level in 0..levels.len() {
-            let asked = self.place(alloc, &levels.take(alloc, level))?;
-            let roots = count(asked.len());
-            if roots == 0 {
+        for number in 0..levels.len() {
+            let asked = levels.take(alloc, number);
+            if asked.is_empty() {
                 continue;
             }
-            let played = self.play_level(alloc, side, asked, levels.priority(level))?;
-            if !played.is_ordered() {
-                return Ok(None);
+            match self.play(alloc, side, &asked, levels.priority(number), levels)? {
+                Some(block) => blocks.push(block)?,
+                None => return Ok(false),
             }
-            let is_kept = played.kept(alloc, roots)?;
-            played.ask(side, &is_kept, levels)?;
-            blocks.push(played.order(alloc, &is_kept)?)?;
         }
-        Ok(Some(blocks))
+        for block in blocks.iter().rev() {
+            order.extend_from_slice(block)?;
+        }
+        Ok(true)
     }
 }
 
-/// The vertices that could be lowered: there are none but where lowering was cut short.
-fn find_loose(alloc: Global, side: &Side, vertices: &[u32]) -> Result<Vec<bool>, AllocError> {
-    if !side.is_late() {
-        return Ok(Vec::new(alloc));
-    }
-    let mut is_loose = vec![in alloc; false; side.len() as usize]?;
-    for v in vertices {
-        mark(&mut is_loose, *v, side.is_loose(*v));
-    }
-    Ok(is_loose)
+/// Whether a claim isn't of a level.
+fn is_beyond(side: &Side, asked: Asked, level: u32) -> bool {
+    level != ALL && side.rows.node(asked.row).priority != level
 }
 
 /// The least rows of some vertices, those that the winner wins, from a closed map, which may be the least one already; with claims of them.
@@ -260,50 +190,39 @@ pub fn finish(
     vertices: &[u32],
     is_least: bool,
 ) -> Result<Option<Vec<RowClaim>>, AllocError> {
+    let mut is_settled = vec![in alloc; true; side.len() as usize]?;
+    let mut order = attract(side, alloc, vertices, &mut is_settled)?;
     let mut justifying = Justifying {
-        places: vec![in alloc; NONE; side.len() as usize]?,
-        is_settled: vec![in alloc; true; side.len() as usize]?,
-        is_loose: find_loose(alloc, side, vertices)?,
-    };
-    let Justifying {
-        is_loose,
+        board: Board::new(alloc, side.len())?,
         is_settled,
-        ..
-    } = &mut justifying;
-    let mut order = attract(side, alloc, vertices, is_loose, is_settled)?;
-    let played = justifying.play_own(alloc, side, vertices)?;
-    if !played.is_ordered() {
-        return Ok(None);
-    }
-    for claim in &played.order(alloc, &played.all(alloc)?)? {
-        mark(&mut justifying.is_settled, claim.vertex, true);
-        order.push(*claim)?;
-    }
-    let mut open = Vec::with_capacity(alloc, played.lost().len())?;
-    for node in played.lost() {
-        open.push(played.vertex(*node))?;
-    }
+        beyond: Vec::new(alloc),
+    };
+    let open = justifying.unsettled(alloc, side, vertices)?;
     if open.is_empty() {
         return Ok(Some(order));
     }
-    if !is_least && !set_by_levels(side, alloc, &open)? {
-        return Ok(None);
-    }
     let mut levels = Levels::new(alloc, side)?;
-    for v in &open {
-        levels.ask(
-            side,
-            Asked {
-                vertex: *v,
-                row: side.row(*v),
-            },
-        )?;
-    }
-    let Some(blocks) = justifying.play_levels(alloc, side, &mut levels)? else {
+    let Some(shown) = justifying.play(alloc, side, &open, ALL, &mut levels)? else {
         return Ok(None);
     };
-    for block in blocks.iter().rev() {
-        order.extend_from_slice(block)?;
+    order.extend_from_slice(&shown)?;
+    for claim in &shown {
+        put(&mut justifying.is_settled, claim.vertex, true);
+    }
+    let open = justifying.unsettled(alloc, side, vertices)?;
+    let Justifying {
+        board,
+        is_settled,
+        ..
+    } = &mut justifying;
+    if !is_least && !set_by_levels(side, alloc, &open, is_settled, board)? {
+        return Ok(None);
+    }
+    for claim in &justifying.unsettled(alloc, side, vertices)? {
+        levels.ask(side, *claim)?;
+    }
+    if !justifying.play_levels(alloc, side, &mut levels, &mut order)? {
+        return Ok(None);
     }
     Ok(Some(order))
 }

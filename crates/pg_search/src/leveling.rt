@@ -7,8 +7,9 @@
 
 use crate::asked::{Asked, Levels};
 use crate::board::Board;
-use pg_rows::{NONE, Side, TOP, ZEROS, at, count, is_marked, mark, put};
+use pg_rows::{NONE, Side, TOP, ZEROS, at, count, is_marked, item, put};
 use std::alloc::{AllocError, Global};
+use std::mem;
 
 /// How a vertex without a value stands in a round, and that it has one.
 #[derive(Clone, Copy, PartialEq, Eq)]
@@ -17,6 +18,8 @@ enum Standing {
     Known,
     /// The opponent comes from it to a vertex of the level's priority or to a known one.
     Rises,
+    /// It rises, and has its value in the next round.
+    Due,
     /// It isn't known whether it rises any more.
     Loose,
     /// The opponent doesn't come there from it.
@@ -29,13 +32,12 @@ enum Standing {
 struct Member {
     level: u32,
     class: u32,
-    /// Of the opponent's: how many successors of the class have no value. Of the winner's: how many of these don't rise.
+    /// How many successors of the class have no value.
     left: u32,
-    /// Of the opponent's: the successor by which it rises.
+    /// Of how many a loose one has to be known that they rise, so that it does; and by which one of the opponent's rises.
+    need: u32,
     to: u32,
     standing: Standing,
-    /// Whether its value is known already: that of the round, or the next one.
-    is_due: bool,
 }
 
 impl Member {
@@ -43,181 +45,77 @@ impl Member {
         level: NONE,
         class: TOP,
         left: 0,
+        need: 0,
         to: NONE,
         standing: Standing::Done,
-        is_due: false,
     };
-
-    /// Whether the opponent comes up from it.
-    fn is_up(&self) -> bool {
-        match self.standing {
-            Standing::Known | Standing::Rises => true,
-            Standing::Loose | Standing::Stays | Standing::Done => false,
-        }
-    }
-}
-
-/// A known vertex, and its component at the level.
-#[derive(Clone, Copy)]
-struct Known {
-    component: u32,
-    vertex: u32,
 }
 
 #[derive(Drop)]
-struct Leveling {
-    is_open: Vec<bool>,
+struct Leveling<'m> {
+    is_settled: &'m [bool],
+    board: &'m mut Board,
     members: Vec<Member>,
     /// For each class the row of the greatest value that was given in it.
     lasts: Vec<u32>,
-    /// The place of each vertex in the game that is played.
-    places: Vec<u32>,
     level: u32,
     value: u32,
-    /// The vertices of the level, known ones too.
+    /// The vertices of the level, known ones too; and how many have no value.
     reached: Vec<u32>,
-    known: Vec<Known>,
-    next_known: usize,
-    /// How many have no value.
     many: u32,
-    /// What has its value now, and in the next round.
-    due: Vec<u32>,
+    /// Known vertices whose component is greater than the value, the greatest first.
+    known: Vec<Asked>,
+    /// What has its value, and those that lead to it weren't looked at; and what has it in the next round.
+    fresh: Vec<u32>,
     later: Vec<u32>,
     /// What rose, and doesn't any more.
     gone: Vec<u32>,
     loose: Vec<u32>,
-    raised: Vec<u32>,
     stays: Vec<u32>,
     /// Whether there is another game to play.
     has_changed: bool,
 }
 
-impl Leveling {
-    fn new(alloc: Global, side: &Side, open: &[u32]) -> Result<Leveling, AllocError> {
-        let all = side.len() as usize;
-        let mut is_open = vec![in alloc; false; all]?;
-        for v in open {
-            mark(&mut is_open, *v, true);
+impl Leveling<'_> {
+    /// A vertex of the level and of a class that has no value.
+    #[inline(always)]
+    fn left(&self, v: u32, class: u32) -> Option<Member> {
+        let member = self.member(v);
+        let is_left = member.level == self.level && member.class == class;
+        if is_left && member.standing != Standing::Done {
+            Some(member)
+        } else {
+            None
         }
-        Ok(Leveling {
-            is_open,
-            members: vec![in alloc; Member::NOWHERE; all]?,
-            lasts: Vec::new(alloc),
-            places: vec![in alloc; NONE; all]?,
-            level: 0,
-            value: 0,
-            reached: Vec::new(alloc),
-            known: Vec::new(alloc),
-            next_known: 0,
-            many: 0,
-            due: Vec::new(alloc),
-            later: Vec::new(alloc),
-            gone: Vec::new(alloc),
-            loose: Vec::new(alloc),
-            raised: Vec::new(alloc),
-            stays: Vec::new(alloc),
-            has_changed: false,
-        })
     }
 
     #[inline(always)]
     fn member(&self, v: u32) -> Member {
-        if (v as usize) < self.members.len() {
-            self.members[v as usize]
-        } else {
-            Member::NOWHERE
-        }
+        item(&self.members, v, Member::NOWHERE)
     }
 
-    #[inline(always)]
-    fn set(&mut self, v: u32, member: Member) {
-        if (v as usize) < self.members.len() {
-            self.members[v as usize] = member;
-        }
-    }
-
-    #[inline(always)]
-    fn stand(&mut self, v: u32, standing: Standing) {
-        if (v as usize) < self.members.len() {
-            self.members[v as usize].standing = standing;
-        }
-    }
-
-    /// The row of a vertex above the level.
-    #[inline(always)]
-    fn class(&self, side: &Side, v: u32) -> u32 {
-        let member = self.member(v);
-        if member.level == self.level {
-            member.class
-        } else {
-            side.rows.cut(side.row(v), self.level.saturating_add(1))
-        }
-    }
-
-    /// Whether a vertex is of the level, in a class, and has no value.
-    #[inline(always)]
-    fn is_left(&self, v: u32, class: u32) -> bool {
-        let member = self.member(v);
-        member.level == self.level && member.class == class && member.standing != Standing::Done
-    }
-
-    /// What is there of the levels to begin with: vertices that are to have rows, at their priorities, and known ones, at the first of their
-    /// components.
-    fn asked(&self, alloc: Global, side: &Side, open: &[u32]) -> Result<Levels, AllocError> {
-        let mut levels = Levels::new(alloc, side)?;
-        let mut is_seen = vec![in alloc; false; side.len() as usize]?;
-        for v in open {
-            let row = ZEROS;
-            levels.put(side.state(*v).priority(), Asked { vertex: *v, row })?;
-            for w in side.graph.successors(*v) {
-                if !is_marked(&self.is_open, *w)
-                    && !is_marked(&is_seen, *w)
-                    && side.row(*w) != TOP
-                {
-                    mark(&mut is_seen, *w, true);
-                    levels.put_next(side, *w, ZEROS)?;
-                }
-            }
-        }
-        Ok(levels)
-    }
-
-    /// Whether a vertex that is to have a row agrees, as far as it is found, with what a known successor has up to a component.
-    fn is_met(&self, side: &Side, known: Asked) -> bool {
-        let predecessors = side.graph.predecessors(known.vertex);
-        predecessors.iter().any(|v| is_marked(&self.is_open, *v) && side.row(*v) == known.row)
-    }
-
-    /// Begins a level with what is there of it.
+    /// Begins a level with what is asked for: vertices that are to have rows, and known ones.
     fn begin(&mut self, side: &Side, level: u32, asked: &[Asked]) -> Result<(), AllocError> {
         self.level = level;
         self.value = 0;
-        self.next_known = 0;
         self.has_changed = false;
         self.reached.clear();
         self.known.clear();
-        self.due.clear();
-        self.later.clear();
         self.gone.clear();
         self.loose.clear();
         self.stays.clear();
-        for _ in count(self.lasts.len())..side.rows.len() {
-            self.lasts.push(ZEROS)?;
-        }
-        for Asked { vertex, row } in asked {
-            if is_marked(&self.is_open, *vertex) {
-                self.reach(*vertex, side.row(*vertex), Standing::Rises)?;
+        self.lasts.resize(side.rows.len() as usize, ZEROS)?;
+        for it in asked {
+            let class = side.rows.cut(side.row(it.vertex), level.saturating_add(1));
+            if is_marked(self.is_settled, it.vertex) {
+                self.known.push(*it)?;
+                self.reach(it.vertex, class, Standing::Known)?;
             } else {
-                let class = side.rows.cut(*row, level.saturating_add(1));
-                let component = side.rows.node(*row).component;
-                self.known.push(Known {
-                    component,
-                    vertex: *vertex,
-                })?;
-                self.reach(*vertex, class, Standing::Known)?;
+                self.reach(it.vertex, class, Standing::Rises)?;
             }
         }
-        self.known.sort_unstable_by_key(|it| it.component);
+        self.known
+            .sort_unstable_by_key(|it| !side.rows.node(it.row).component);
         Ok(())
     }
 
@@ -226,12 +124,10 @@ impl Leveling {
         let member = Member {
             level: self.level,
             class,
-            left: 0,
-            to: NONE,
             standing,
-            is_due: false,
+            ..Member::NOWHERE
         };
-        self.set(v, member);
+        put(&mut self.members, v, member);
         put(&mut self.lasts, class, class);
         self.reached.push(v)?;
         Ok(())
@@ -239,19 +135,18 @@ impl Leveling {
 
     /// Takes in what comes, within its class, to what is there; but nothing that has the value 0 in any case.
     fn go_back(&mut self, side: &mut Side) -> Result<(), AllocError> {
-        let graph = side.graph;
         for place in 0..usize::MAX {
             let Some(w) = self.reached.get(place).copied() else {
                 break;
             };
             let class = self.member(w).class;
-            for v in graph.predecessors(w) {
+            for v in side.predecessors(w) {
                 let state = side.state(*v);
                 if state.row == class
                     && (!state.is_mine() || state.to == w)
                     && state.priority() <= self.level
                     && self.member(*v).level != self.level
-                    && is_marked(&self.is_open, *v)
+                    && !is_marked(self.is_settled, *v)
                 {
                     self.reach(*v, class, Standing::Loose)?;
                 }
@@ -263,144 +158,127 @@ impl Leveling {
     /// Finds what has a value without any other vertex of the level, and what is loose.
     fn find_first(&mut self, side: &mut Side) -> Result<(), AllocError> {
         self.many = 0;
-        for place in 0..self.reached.len() {
-            let v = at(&self.reached, count(place));
-            let member = self.member(v);
+        for place in 0..count(self.reached.len()) {
+            let v = at(&self.reached, place);
+            let mut member = self.member(v);
             if member.standing == Standing::Known {
                 continue;
             }
-            self.many = self.many.saturating_add(1);
-            let state = side.state(v);
-            let (left, outside) = self.count_successors(side, v, member.class);
-            self.set(v, Member { left, ..member });
-            if state.is_mine() && outside != NONE {
-                side.set_to(v, outside);
-                self.give(v, state.priority())?;
-            } else if left == 0 {
-                self.give(v, state.priority())?;
+            let mut outside = NONE;
+            for w in side.successors(v) {
+                let other = self.member(*w);
+                if other.level == self.level {
+                    member.left = member
+                        .left
+                        .saturating_add((other.class == member.class) as u32);
+                } else if side.rows.cut(side.row(*w), self.level.saturating_add(1))
+                    == member.class
+                {
+                    outside = *w;
+                }
             }
+            put(&mut self.members, v, member);
+            self.many = self.many.saturating_add(1);
             if member.standing == Standing::Loose {
                 self.loose.push(v)?;
+            }
+            let leads_out = side.state(v).is_mine() && outside != NONE;
+            if leads_out {
+                side.set_to(v, outside);
+            }
+            if leads_out || member.left == 0 {
+                self.give(side, v)?;
             }
         }
         Ok(())
     }
 
-    /// How many successors of a vertex are of the level and its class; and one that is of its class alone, or `NONE`.
-    fn count_successors(&self, side: &Side, v: u32, class: u32) -> (u32, u32) {
-        let mut inside = 0u32;
-        let mut outside = NONE;
-        for w in side.graph.successors(v) {
-            let member = self.member(*w);
-            if member.level == self.level && member.class == class {
-                inside = inside.saturating_add(1);
-            } else if self.class(side, *w) == class {
-                outside = *w;
-            }
-        }
-        (inside, outside)
-    }
-
-    /// Lets a vertex have its value now, or a round later.
-    fn give(&mut self, v: u32, priority: u32) -> Result<(), AllocError> {
-        let member = self.member(v);
-        self.set(
-            v,
-            Member {
-                is_due: true,
-                ..member
-            },
-        );
-        if priority == self.level {
+    /// Gives a vertex the value; one of the level's priority has it a round later.
+    fn give(&mut self, side: &mut Side, v: u32) -> Result<(), AllocError> {
+        let mut member = self.member(v);
+        if member.standing == Standing::Rises && side.state(v).priority() == self.level {
+            member.standing = Standing::Due;
+            put(&mut self.members, v, member);
             self.later.push(v)?;
-        } else {
-            self.due.push(v)?;
+            return Ok(());
         }
+        match member.standing {
+            Standing::Done => return Ok(()),
+            Standing::Known | Standing::Rises | Standing::Due => self.gone.push(v)?,
+            Standing::Stays => self.has_changed = true,
+            Standing::Loose => {}
+        }
+        if member.standing != Standing::Known {
+            self.many = self.many.saturating_sub(1);
+            let row = self.row(side, member.class)?;
+            side.set_row(v, row);
+        }
+        member.standing = Standing::Done;
+        put(&mut self.members, v, member);
+        self.fresh.push(v)?;
         Ok(())
     }
 
     /// The row of the value in a class.
-    fn row_of(&mut self, side: &mut Side, class: u32) -> Result<u32, AllocError> {
+    fn row(&mut self, side: &mut Side, class: u32) -> Result<u32, AllocError> {
         let mut row = at(&self.lasts, class);
-        for _ in 0..u64::MAX {
-            let has = if row == class {
-                0
-            } else {
-                side.rows.node(row).component
-            };
-            if has >= self.value {
-                break;
-            }
+        let has = if row == class {
+            0
+        } else {
+            side.rows.node(row).component
+        };
+        for _ in has..self.value {
             row = side.rows.step(row, self.level)?;
         }
         put(&mut self.lasts, class, row);
         Ok(row)
     }
 
-    /// Gives what is due its value, and what the winner comes to that from.
-    fn assign(&mut self, side: &mut Side) -> Result<(), AllocError> {
-        let graph = side.graph;
+    /// Gives the value to what the winner comes from to what has it.
+    fn spread(&mut self, side: &mut Side) -> Result<(), AllocError> {
         for _ in 0..u64::MAX {
-            let Some(v) = self.due.pop() else {
+            let Some(w) = self.fresh.pop() else {
                 break;
             };
-            let member = self.member(v);
-            match member.standing {
-                Standing::Done => continue,
-                Standing::Known | Standing::Rises => self.gone.push(v)?,
-                Standing::Loose => {}
-                Standing::Stays => self.has_changed = true,
-            }
-            if member.standing != Standing::Known {
-                self.many = self.many.saturating_sub(1);
-                let row = self.row_of(side, member.class)?;
-                side.set_row(v, row);
-            }
-            self.stand(v, Standing::Done);
-            for u in graph.predecessors(v) {
-                if self.is_left(*u, member.class) {
-                    self.draw(side, *u, v)?;
+            let class = self.member(w).class;
+            for v in side.predecessors(w) {
+                let Some(mut member) = self.left(*v, class) else {
+                    continue;
+                };
+                if member.standing == Standing::Known || member.standing == Standing::Due {
+                    continue;
+                }
+                if side.state(*v).is_mine() {
+                    side.set_to(*v, w);
+                    self.give(side, *v)?;
+                    continue;
+                }
+                member.left = member.left.saturating_sub(1);
+                put(&mut self.members, *v, member);
+                if member.left == 0 {
+                    self.give(side, *v)?;
                 }
             }
         }
         Ok(())
     }
 
-    /// Lets a vertex have its value where a successor has one, if that is enough.
-    fn draw(&mut self, side: &mut Side, v: u32, to: u32) -> Result<(), AllocError> {
-        let state = side.state(v);
-        let member = self.member(v);
-        if member.standing == Standing::Known || member.is_due {
-            return Ok(());
-        }
-        if state.is_mine() {
-            side.set_to(v, to);
-        } else {
-            let left = member.left.saturating_sub(1);
-            self.set(v, Member { left, ..member });
-            if left > 0 {
-                return Ok(());
-            }
-        }
-        self.give(v, state.priority())
-    }
-
     /// Finds what rose by what is gone.
-    fn loosen(&mut self, side: &Side) -> Result<(), AllocError> {
+    fn loosen(&mut self, side: &mut Side) -> Result<(), AllocError> {
         for _ in 0..u64::MAX {
             let Some(w) = self.gone.pop() else {
                 break;
             };
             let class = self.member(w).class;
-            for v in side.graph.predecessors(w) {
+            for v in side.predecessors(w) {
                 let state = side.state(*v);
-                let member = self.member(*v);
-                if member.standing == Standing::Rises
-                    && self.is_left(*v, class)
+                if let Some(mut member) = self.left(*v, class)
+                    && member.standing == Standing::Rises
                     && state.priority() != self.level
                     && (state.is_mine() || member.to == w)
                 {
-                    self.stand(*v, Standing::Loose);
+                    member.standing = Standing::Loose;
+                    put(&mut self.members, *v, member);
                     self.loose.push(*v)?;
                     self.gone.push(*v)?;
                 }
@@ -410,37 +288,40 @@ impl Leveling {
     }
 
     /// Finds what still rises of what is loose; the rest stays.
-    fn raise(&mut self, side: &Side) -> Result<(), AllocError> {
-        self.raised.clear();
-        for place in 0..self.loose.len() {
-            let v = at(&self.loose, count(place));
-            self.look_up(side, v);
+    fn raise(&mut self, side: &mut Side) -> Result<(), AllocError> {
+        for place in 0..count(self.loose.len()) {
+            let v = at(&self.loose, place);
+            self.look_up(side, v)?;
         }
-        for place in 0..self.loose.len() {
-            let v = at(&self.loose, count(place));
-            let member = self.member(v);
-            let rises = if side.state(v).is_mine() {
-                member.left == 0
-            } else {
-                member.to != NONE
-            };
-            if rises && member.standing == Standing::Loose {
-                self.stand(v, Standing::Rises);
-                self.raised.push(v)?;
-            }
-        }
-        for place in 0..usize::MAX {
-            let Some(w) = self.raised.get(place).copied() else {
+        for _ in 0..u64::MAX {
+            let Some(w) = self.gone.pop() else {
                 break;
             };
-            self.raise_predecessors(side, w)?;
+            let mut risen = self.member(w);
+            risen.standing = Standing::Rises;
+            put(&mut self.members, w, risen);
+            for v in side.predecessors(w) {
+                if let Some(mut member) = self.left(*v, risen.class)
+                    && member.standing == Standing::Loose
+                    && member.need > 0
+                {
+                    member.need -= 1;
+                    member.to = w;
+                    put(&mut self.members, *v, member);
+                    if member.need == 0 {
+                        self.gone.push(*v)?;
+                    }
+                }
+            }
         }
         for _ in 0..u64::MAX {
             let Some(v) = self.loose.pop() else {
                 break;
             };
-            if self.member(v).standing == Standing::Loose {
-                self.stand(v, Standing::Stays);
+            let mut member = self.member(v);
+            if member.standing == Standing::Loose {
+                member.standing = Standing::Stays;
+                put(&mut self.members, v, member);
                 self.stays.push(v)?;
                 self.has_changed = true;
             }
@@ -449,120 +330,81 @@ impl Leveling {
     }
 
     /// Looks how a loose vertex could rise.
-    fn look_up(&mut self, side: &Side, v: u32) {
+    fn look_up(&mut self, side: &mut Side, v: u32) -> Result<(), AllocError> {
         let mut member = self.member(v);
         if member.standing != Standing::Loose {
-            return;
+            return Ok(());
         }
-        let is_mine = side.state(v).is_mine();
-        if is_mine {
-            member.left = 0;
-        }
+        member.need = 0;
         member.to = NONE;
-        for w in side.graph.successors(v) {
-            if !self.is_left(*w, member.class) {
-                continue;
-            }
-            if self.member(*w).is_up() {
-                member.to = *w;
-            } else if is_mine {
-                member.left = member.left.saturating_add(1);
+        for w in side.successors(v) {
+            match self.left(*w, member.class) {
+                None => {}
+                Some(other)
+                    if other.standing == Standing::Loose || other.standing == Standing::Stays => {
+                    member.need = member.need.saturating_add(1);
+                }
+                Some(_) => member.to = *w,
             }
         }
-        self.set(v, member);
-    }
-
-    /// Finds what rises by a vertex.
-    fn raise_predecessors(&mut self, side: &Side, w: u32) -> Result<(), AllocError> {
-        let class = self.member(w).class;
-        for v in side.graph.predecessors(w) {
-            let mut member = self.member(*v);
-            if member.standing != Standing::Loose || !self.is_left(*v, class) {
-                continue;
-            }
-            if side.state(*v).is_mine() {
-                member.left = member.left.saturating_sub(1);
-            } else {
-                member.to = w;
-            }
-            if !side.state(*v).is_mine() || member.left == 0 {
-                member.standing = Standing::Rises;
-                self.raised.push(*v)?;
-            }
-            self.set(*v, member);
+        if !side.state(v).is_mine() {
+            member.need = (member.to == NONE) as u32;
+        }
+        put(&mut self.members, v, member);
+        if member.need == 0 {
+            self.gone.push(v)?;
         }
         Ok(())
     }
 
     /// Plays the game of what stays: what the winner wins has the value. False where its winners aren't found.
     fn play(&mut self, alloc: Global, side: &mut Side) -> Result<bool, AllocError> {
-        let mut claims = Vec::with_capacity(alloc, self.stays.len())?;
-        for place in 0..self.stays.len() {
-            let vertex = at(&self.stays, count(place));
-            let member = self.member(vertex);
+        self.board.clear()?;
+        let stays = mem::replace(&mut self.stays, Vec::new(alloc));
+        for v in &stays {
+            let member = self.member(*v);
             if member.standing == Standing::Stays {
-                put(&mut self.places, vertex, count(claims.len()));
-                let row = member.class;
-                claims.push(Asked { vertex, row })?;
+                self.stays.push(*v)?;
+                self.board.node(Asked {
+                    vertex: *v,
+                    row: member.class,
+                })?;
             }
         }
-        self.stays.clear();
-        let mut board = Board::new(alloc, claims)?;
-        for place in 0..usize::MAX {
-            let Some(Asked { vertex, row }) = board.claims.get(place).copied() else {
-                break;
-            };
-            self.stays.push(vertex)?;
-            let state = side.state(vertex);
-            board.begin(state.priority(), state.is_mine())?;
-            for w in side.graph.successors(vertex) {
-                if self.is_left(*w, row) && self.member(*w).standing == Standing::Stays {
-                    board.lead_to(at(&self.places, *w))?;
+        for place in 0..count(self.stays.len()) {
+            let v = at(&self.stays, place);
+            let state = side.state(v);
+            let row = self.member(v).class;
+            self.board.begin(state.priority(), state.is_mine())?;
+            for w in side.successors(v) {
+                if let Some(member) = self.left(*w, row)
+                    && member.standing == Standing::Stays
+                {
+                    let node = self.board.node(Asked { vertex: *w, row })?;
+                    self.board.lead_to(node)?;
                 }
             }
-            board.end()?;
         }
-        let played = board.play(alloc)?;
-        for node in played.lost() {
-            let vertex = played.vertex(*node);
-            let state = side.state(vertex);
-            if state.is_mine() {
-                side.set_to(vertex, played.chosen(*node));
+        let played = self.board.play(alloc)?;
+        for node in &played.winners.of_even {
+            let v = self.board.claim(*node).vertex;
+            if side.state(v).is_mine() {
+                let chosen = at(&played.winners.choice, *node);
+                side.set_to(v, self.board.claim(chosen).vertex);
             }
-            self.give(vertex, state.priority())?;
+            self.give(side, v)?;
         }
-        self.assign(side)?;
+        self.spread(side)?;
         self.has_changed = false;
-        Ok(played.is_ordered())
+        Ok(played.winners.is_ordered)
     }
 
-    /// Goes on to the next value; false where none is left.
-    fn go_on(&mut self) -> bool {
-        let known = self.known.get(self.next_known).copied();
-        if !self.later.is_empty() {
-            self.value = self.value.saturating_add(1);
-            std::mem::swap(&mut self.due, &mut self.later);
-            true
-        } else if let Some(known) = known {
-            self.value = known.component;
-            true
-        } else {
-            false
+    /// The least component of a known vertex that has no value yet, or `NONE`.
+    fn next_value(&self, side: &Side) -> u32 {
+        match self.known.last() {
+            Some(it) => side.rows.node(it.row).component,
+            None => NONE,
         }
-    }
-
-    /// Lets known vertices have the value.
-    fn note_known(&mut self) -> Result<(), AllocError> {
-        for _ in 0..u64::MAX {
-            match self.known.get(self.next_known).copied() {
-                Some(known) if known.component <= self.value => {
-                    self.due.push(known.vertex)?;
-                    self.next_known = self.next_known.saturating_add(1);
-                }
-                _ => break,
-            }
-        }
-        Ok(())
     }
 
     /// The rounds of a level. False where they end too early.
@@ -570,32 +412,79 @@ impl Leveling {
         self.go_back(side)?;
         self.find_first(side)?;
         for _ in 0..u64::MAX {
-            self.note_known()?;
-            self.assign(side)?;
+            for _ in 0..u64::MAX {
+                if self.next_value(side) > self.value {
+                    break;
+                }
+                if let Some(known) = self.known.pop() {
+                    self.give(side, known.vertex)?;
+                }
+            }
+            self.spread(side)?;
             if self.many == 0 {
-                break;
+                return Ok(true);
             }
             self.loosen(side)?;
             self.raise(side)?;
             if self.has_changed && !self.play(alloc, side)? {
                 return Ok(false);
             }
-            if !self.go_on() {
-                return Ok(self.many == 0);
+            if self.later.is_empty() && self.known.is_empty() {
+                break;
+            }
+            if self.later.is_empty() {
+                self.value = self.next_value(side);
+            } else {
+                self.value = self.value.saturating_add(1);
+            }
+            let later = mem::replace(&mut self.later, Vec::new(alloc));
+            for v in &later {
+                self.give(side, *v)?;
             }
         }
-        Ok(true)
+        Ok(self.many == 0)
     }
 }
 
-/// Lowers the rows of some vertices to the least ones, where those of all others that the winner wins are. The map is closed. False where
-/// winners aren't found.
-pub fn set_by_levels(side: &mut Side<'_>, alloc: Global, open: &[u32]) -> Result<bool, AllocError> {
-    let mut leveling = Leveling::new(alloc, side, open)?;
-    for v in open {
-        side.set_row(*v, ZEROS);
+/// Lowers the rows of some vertices to the least ones, where those of all others that the winner wins are, which are settled. The map is
+/// closed. False where winners aren't found.
+pub fn set_by_levels(
+    side: &mut Side<'_>,
+    alloc: Global,
+    open: &[Asked],
+    is_settled: &[bool],
+    board: &mut Board,
+) -> Result<bool, AllocError> {
+    let mut levels = Levels::new(alloc, side)?;
+    for Asked { vertex, .. } in open {
+        side.set_row(*vertex, ZEROS);
     }
-    let mut levels = leveling.asked(alloc, side, open)?;
+    for Asked { vertex, .. } in open {
+        let (vertex, row) = (*vertex, ZEROS);
+        levels.put(side.state(vertex).priority(), Asked { vertex, row })?;
+        for w in side.successors(vertex) {
+            if is_marked(is_settled, *w) && side.row(*w) != TOP {
+                levels.ask_next(side, Asked { vertex: *w, row })?;
+            }
+        }
+    }
+    let mut leveling = Leveling {
+        is_settled,
+        board,
+        members: vec![in alloc; Member::NOWHERE; side.len() as usize]?,
+        lasts: Vec::new(alloc),
+        level: 0,
+        value: 0,
+        reached: Vec::new(alloc),
+        many: 0,
+        known: Vec::new(alloc),
+        fresh: Vec::new(alloc),
+        later: Vec::new(alloc),
+        gone: Vec::new(alloc),
+        loose: Vec::new(alloc),
+        stays: Vec::new(alloc),
+        has_changed: false,
+    };
     for number in (0..levels.len()).rev() {
         let asked = levels.take(alloc, number);
         if asked.is_empty() {
@@ -606,8 +495,10 @@ pub fn set_by_levels(side: &mut Side<'_>, alloc: Global, open: &[u32]) -> Result
             return Ok(false);
         }
         for it in &asked {
-            if !is_marked(&leveling.is_open, it.vertex) && leveling.is_met(side, *it) {
-                levels.put_next(side, it.vertex, it.row)?;
+            let agrees = |v: &u32| !is_marked(is_settled, *v) && side.row(*v) == it.row;
+            let predecessors = side.graph.predecessors(it.vertex);
+            if is_marked(is_settled, it.vertex) && predecessors.iter().any(agrees) {
+                levels.ask_next(side, *it)?;
             }
         }
     }

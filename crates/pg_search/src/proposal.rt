@@ -1,11 +1,11 @@
 //! What is proposed: a ladder, ranks, and claims.
 
 use crate::ladder::Ladder;
-use crate::one_parity::{propose_at_once, propose_measure_at_once};
+use crate::one_parity::propose_at_once;
 use crate::search::find;
-use pg_arena::{Game, Player, Vertex};
+use pg_arena::{Game, Vertex};
 use pg_claims::{Claim, Claims, Span};
-use pg_rows::{NONE, RowClaim, Side, TOP, add_one, add_up, at, count, put};
+use pg_rows::{NONE, RowClaim, Side, TOP, at, count, put};
 use pg_winners::{Graph, Winners, find_winners};
 use std::alloc::{AllocError, Global};
 
@@ -34,92 +34,68 @@ const LOOKS_OF_FEW: u64 = 1 << 20;
 
 /// The map of a game alone: claims show top as well. None where the search gives up.
 pub fn propose_measure(alloc: Global, game: &Game) -> Result<Option<Proposal>, AllocError> {
-    if let Some(known) = propose_measure_at_once(alloc, game)? {
-        return Ok(Some(known));
+    if let Some(Proposals { of_game, .. }) = propose_at_once(alloc, game, true)? {
+        return Ok(Some(of_game));
     }
     let graph = Graph::of(alloc, game)?;
     let winners = find_winners(alloc, &graph)?;
-    if !winners.is_ordered {
-        return Ok(None);
-    }
-    propose_for(alloc, &graph, &winners, Player::Even, true)
+    propose_for(alloc, &graph, &winners, 0, true)
 }
 
 /// The maps of a game and of its dual. Top isn't claimed: it is known from the other map. None where the search gives up.
 pub fn propose(alloc: Global, game: &Game) -> Result<Option<Proposals>, AllocError> {
-    if let Some(known) = propose_at_once(alloc, game)? {
+    if let Some(known) = propose_at_once(alloc, game, false)? {
         return Ok(Some(known));
     }
     let graph = Graph::of(alloc, game)?;
     let winners = find_winners(alloc, &graph)?;
-    if !winners.is_ordered {
-        return Ok(None);
-    }
-    let Some(of_game) = propose_for(alloc, &graph, &winners, Player::Even, false)? else {
+    let Some(of_game) = propose_for(alloc, &graph, &winners, 0, false)? else {
         return Ok(None);
     };
-    let Some(of_dual) = propose_for(alloc, &graph, &winners, Player::Odd, false)? else {
+    let Some(of_dual) = propose_for(alloc, &graph, &winners, 1, false)? else {
         return Ok(None);
     };
     Ok(Some(Proposals { of_game, of_dual }))
 }
 
-/// The map of a player.
+/// The map of a player: Even is 0, Odd is 1.
 fn propose_for(
     alloc: Global,
     graph: &Graph,
     winners: &Winners,
-    player: Player,
+    player: u32,
     with_tops: bool,
 ) -> Result<Option<Proposal>, AllocError> {
-    let size = (graph.len() as u64).saturating_add(graph.edges() as u64);
-    let most = size.saturating_mul(LOOKS).saturating_add(LOOKS_OF_FEW);
-    let mut side = Side::new(alloc, graph, winners, player, most)?;
+    if !winners.is_ordered {
+        return Ok(None);
+    }
     let (mine, others) = match player {
-        Player::Even => (&winners.of_even, &winners.of_odd),
-        Player::Odd => (&winners.of_odd, &winners.of_even),
+        0 => (&winners.of_even, &winners.of_odd),
+        _ => (&winners.of_odd, &winners.of_even),
     };
+    let size = u64::from(graph.len()).saturating_add(u64::from(graph.edges()));
+    let most = size.saturating_mul(LOOKS).saturating_add(LOOKS_OF_FEW);
+    let mut side = Side::new(alloc, graph, player, mine, &winners.choice, most)?;
     let mut claims = Vec::new(alloc);
     if with_tops {
-        claim_tops(&mut claims, winners, others)?;
+        for v in others {
+            let span = at(&winners.span, *v);
+            claims.push(RowClaim {
+                vertex: *v,
+                row: TOP,
+                span,
+            })?;
+        }
     }
-    if has_odd(&side, mine) {
-        let Some(found) = find(&mut side, alloc, winners, mine)? else {
-            return Ok(None);
-        };
-        claims.extend_from_slice(&found)?;
-    }
-    let ladder = Ladder::new(alloc, &side)?;
-    Ok(Some(write(alloc, &side, ladder, &claims)?))
+    let Some(found) = find(&mut side, alloc, &winners.choice, mine)? else {
+        return Ok(None);
+    };
+    claims.extend_from_slice(&found)?;
+    Ok(Some(write(alloc, &side, &claims)?))
 }
 
-/// Whether one of some vertices has an odd priority. Where none has zeros are the least map.
-fn has_odd(side: &Side, vertices: &[u32]) -> bool {
-    vertices.iter().any(|v| side.state(*v).priority() % 2 == 1)
-}
-
-/// Claims top at what the other player wins, in the order of that player's strategy.
-fn claim_tops(
-    claims: &mut Vec<RowClaim>,
-    winners: &Winners,
-    vertices: &[u32],
-) -> Result<(), AllocError> {
-    for v in vertices {
-        claims.push(RowClaim {
-            vertex: *v,
-            row: TOP,
-            span: at(&winners.span, *v),
-        })?;
-    }
-    Ok(())
-}
-
-fn write(
-    alloc: Global,
-    side: &Side,
-    ladder: Ladder,
-    claims: &[RowClaim],
-) -> Result<Proposal, AllocError> {
+fn write(alloc: Global, side: &Side, claims: &[RowClaim]) -> Result<Proposal, AllocError> {
+    let ladder = Ladder::new(alloc, side)?;
     let mut ranks = Vec::with_capacity(alloc, side.len() as usize)?;
     let mut hints = Vec::with_capacity(alloc, side.len() as usize)?;
     for v in 0..side.len() {
@@ -149,9 +125,14 @@ fn rank_claims(
 ) -> Result<Claims, AllocError> {
     let mut firsts = vec![in alloc; 0; side.len() as usize]?;
     for it in listed {
-        add_one(&mut firsts, it.vertex);
+        let many = at(&firsts, it.vertex).wrapping_add(1);
+        put(&mut firsts, it.vertex, many);
     }
-    add_up(&mut firsts);
+    let mut all = 0u32;
+    for it in firsts.iter_mut() {
+        all = all.saturating_add(*it);
+        *it = all;
+    }
     let nowhere = Claim {
         vertex: Vertex(0),
         rank: 0,
@@ -164,13 +145,12 @@ fn rank_claims(
         };
         let number = at(&firsts, it.vertex).wrapping_sub(1);
         put(&mut firsts, it.vertex, number);
-        if (number as usize) < claims.len() {
-            claims[number as usize] = Claim {
-                vertex: Vertex(it.vertex),
-                rank: ladder.rank(it.row),
-                place,
-            };
-        }
+        let claim = Claim {
+            vertex: Vertex(it.vertex),
+            rank: ladder.rank(it.row),
+            place,
+        };
+        put(&mut claims, number, claim);
     }
     let mut spans = Vec::with_capacity(alloc, listed.len())?;
     for (place, it) in listed.iter().enumerate() {

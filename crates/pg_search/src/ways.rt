@@ -1,7 +1,7 @@
 //! Ways from the heads of a part to its greatest way out, and the claims along them.
 
 use crate::greatest::Way;
-use pg_rows::{NONE, RowClaim, Side, ZEROS, at};
+use pg_rows::{NONE, RowClaim, Side, ZEROS, at, item, put};
 use std::alloc::{AllocError, Global};
 
 /// A component in an order: where it begins, how many heads stand first, and before which place it ends.
@@ -46,8 +46,6 @@ pub(crate) struct Ways {
     back: Vec<u32>,
     /// How many of those that were found from behind were looked at.
     looked: usize,
-    /// An edge at which both searches met.
-    met: Option<(u32, u32)>,
     way: Vec<u32>,
     claims: Vec<RowClaim>,
 }
@@ -60,17 +58,12 @@ impl Ways {
                 heads: 0,
                 end: 0,
             },
-            out: Way {
-                row: ZEROS,
-                from: NONE,
-                to: NONE,
-            },
+            out: Way::NOWHERE,
             found: vec![in alloc; Found::NOT; vertices as usize]?,
             turn: 0,
             fore: Vec::new(alloc),
             back: Vec::new(alloc),
             looked: 0,
-            met: None,
             way: Vec::new(alloc),
             claims: Vec::new(alloc),
         })
@@ -78,18 +71,7 @@ impl Ways {
 
     #[inline(always)]
     fn found(&self, v: u32) -> Found {
-        if (v as usize) < self.found.len() {
-            self.found[v as usize]
-        } else {
-            Found::NOT
-        }
-    }
-
-    #[inline(always)]
-    fn set(&mut self, v: u32, found: Found) {
-        if (v as usize) < self.found.len() {
-            self.found[v as usize] = found;
-        }
+        item(&self.found, v, Found::NOT)
     }
 
     /// The claims in their order.
@@ -104,7 +86,7 @@ impl Ways {
         if row == ZEROS || found.row == row {
             return Ok(());
         }
-        self.set(v, Found { row, ..found });
+        put(&mut self.found, v, Found { row, ..found });
         self.claims.push(RowClaim {
             vertex: v,
             row,
@@ -129,13 +111,21 @@ impl Ways {
             next,
             ..self.found(v)
         };
-        self.set(v, found);
+        put(&mut self.found, v, found);
         self.back.push(v)?;
         Ok(())
     }
 
-    fn is_back(&self, v: u32) -> bool {
-        self.found(v).part == self.part.begin
+    /// Notes from which vertex one was found.
+    fn find_fore(&mut self, v: u32, before: u32) -> Result<(), AllocError> {
+        let found = Found {
+            turn: self.turn,
+            before,
+            ..self.found(v)
+        };
+        put(&mut self.found, v, found);
+        self.fore.push(v)?;
+        Ok(())
     }
 
     fn is_inside(&self, places: &[u32], v: u32) -> bool {
@@ -145,7 +135,7 @@ impl Ways {
 
     /// Claims the row of the way out along a way to it from a head; false where there is none.
     pub fn show(&mut self, side: &mut Side, places: &[u32], head: u32) -> Result<bool, AllocError> {
-        if !self.is_back(head) && !self.join(side, places, head)? {
+        if self.found(head).part != self.part.begin && !self.join(side, places, head)? {
             return Ok(false);
         }
         self.way.clear();
@@ -170,86 +160,63 @@ impl Ways {
     /// Searches from both ends until the way out is known from a head.
     fn join(&mut self, side: &mut Side, places: &[u32], head: u32) -> Result<bool, AllocError> {
         self.turn = self.turn.wrapping_add(1);
-        self.met = None;
         self.fore.clear();
         self.find_fore(head, NONE)?;
         for place in 0..usize::MAX {
             let Some(v) = self.fore.get(place).copied() else {
-                return Ok(false);
+                break;
             };
             if side.is_late() {
-                return Ok(false);
-            }
-            self.go_on(side, places, v)?;
-            if self.met.is_none() {
-                self.go_back(side, places)?;
-            }
-            if let Some((from, to)) = self.met {
-                self.connect(from, to)?;
                 break;
             }
+            if self.go_on(side, places, v)? || self.go_back(side, places)? {
+                return Ok(true);
+            }
         }
-        Ok(true)
+        Ok(false)
     }
 
-    fn find_fore(&mut self, v: u32, before: u32) -> Result<(), AllocError> {
-        let found = Found {
-            turn: self.turn,
-            before,
-            ..self.found(v)
-        };
-        self.set(v, found);
-        self.fore.push(v)?;
-        Ok(())
-    }
-
-    /// Goes on from a vertex.
-    fn go_on(&mut self, side: &mut Side, places: &[u32], v: u32) -> Result<(), AllocError> {
-        let graph = side.graph;
+    /// Goes on from a vertex; true where the searches meet.
+    fn go_on(&mut self, side: &mut Side, places: &[u32], v: u32) -> Result<bool, AllocError> {
         let state = side.state(v);
-        let successors = graph.successors(v);
-        side.look(successors.len());
-        for w in successors {
+        for w in side.successors(v) {
             if state.is_mine() && state.to != *w {
                 continue;
             }
             let found = self.found(*w);
             if found.part == self.part.begin {
-                self.met = Some((v, *w));
-                break;
+                self.connect(v, *w)?;
+                return Ok(true);
             }
             if found.turn != self.turn && self.is_inside(places, *w) {
                 self.find_fore(*w, v)?;
             }
         }
-        Ok(())
+        Ok(false)
     }
 
-    /// Goes back from the next vertex from which the way out is known.
-    fn go_back(&mut self, side: &mut Side, places: &[u32]) -> Result<(), AllocError> {
+    /// Goes back from the next vertex from which the way out is known; true where the searches meet.
+    fn go_back(&mut self, side: &mut Side, places: &[u32]) -> Result<bool, AllocError> {
         let Some(w) = self.back.get(self.looked).copied() else {
-            return Ok(());
+            return Ok(false);
         };
         self.looked = self.looked.saturating_add(1);
-        let graph = side.graph;
-        let predecessors = graph.predecessors(w);
-        side.look(predecessors.len());
-        for v in predecessors {
+        for v in side.predecessors(w) {
             let state = side.state(*v);
             let found = self.found(*v);
-            if found.part == self.part.begin || !self.is_inside(places, *v) {
-                continue;
-            }
-            if state.is_mine() && state.to != w {
+            if found.part == self.part.begin
+                || !self.is_inside(places, *v)
+                || state.is_mine() && state.to != w
+            {
                 continue;
             }
             self.find_back(*v, w)?;
             if found.turn == self.turn {
-                self.met = Some((found.before, *v));
-                break;
+                self.connect(found.before, *v)?;
+                return Ok(true);
             }
         }
-        Ok(())
+        Ok(false)
     }
 
     /// Notes that the way out is known from an edge where the searches met, and from all before it.
