@@ -14,7 +14,7 @@ pub(crate) struct Asked {
 #[derive(Drop)]
 pub(crate) struct Levels {
     /// The odd priorities, rising, and what is asked for at each.
-    levels: Vec<u32>,
+    pub priorities: Vec<u32>,
     lists: Vec<Vec<Asked>>,
     /// The row that was last asked for at each vertex.
     lasts: Vec<u32>,
@@ -23,34 +23,24 @@ pub(crate) struct Levels {
 impl Levels {
     /// The levels of a side; nothing is asked for.
     pub fn new(alloc: Global, side: &Side) -> Result<Levels, AllocError> {
-        let mut levels = Vec::new(alloc);
+        let mut priorities = Vec::new(alloc);
         for v in 0..side.len() {
             let priority = side.state(v).priority();
             if priority % 2 == 1 {
-                levels.push(priority)?;
+                priorities.push(priority)?;
             }
         }
-        levels.sort_unstable();
-        levels.dedup();
-        let mut lists = Vec::with_capacity(alloc, levels.len())?;
-        for _ in 0..levels.len() {
+        priorities.sort_unstable();
+        priorities.dedup();
+        let mut lists = Vec::with_capacity(alloc, priorities.len())?;
+        for _ in 0..priorities.len() {
             lists.push(Vec::new(alloc))?;
         }
         Ok(Levels {
-            levels,
+            priorities,
             lists,
             lasts: vec![in alloc; ZEROS; side.len() as usize]?,
         })
-    }
-
-    /// How many levels there are.
-    pub fn len(&self) -> u32 {
-        count(self.levels.len())
-    }
-
-    /// The priority of a level.
-    pub fn priority(&self, level: u32) -> u32 {
-        at(&self.levels, level)
     }
 
     /// Asks for a claim.
@@ -74,8 +64,8 @@ impl Levels {
 
     /// Puts a claim to a level, if there is one of that priority.
     pub fn put(&mut self, priority: u32, asked: Asked) -> Result<(), AllocError> {
-        let level = self.levels.partition_point(|it| *it < priority);
-        if at(&self.levels, count(level)) == priority && level < self.lists.len() {
+        let level = self.priorities.partition_point(|it| *it < priority);
+        if at(&self.priorities, count(level)) == priority && level < self.lists.len() {
             self.lists[level].push(asked)?;
         }
         Ok(())

@@ -11,7 +11,7 @@ use crate::asked::{Asked, Levels};
 use crate::attracting::attract;
 use crate::board::{Board, FIRST, LOST, WON};
 use crate::leveling::set_by_levels;
-use pg_rows::{NONE, RowClaim, Side, TOP, ZEROS, is_marked, put};
+use pg_rows::{NONE, RowClaim, Side, TOP, ZEROS, at, count, is_marked, put};
 use std::alloc::{AllocError, Global};
 
 /// In place of a level: all of them, in the game of own rows.
@@ -160,12 +160,13 @@ impl Justifying {
         order: &mut Vec<RowClaim>,
     ) -> Result<bool, AllocError> {
         let mut blocks = Vec::new(alloc);
-        for number in 0..levels.len() {
+        for number in 0..count(levels.priorities.len()) {
+            let level = at(&levels.priorities, number);
             let asked = levels.take(alloc, number);
             if asked.is_empty() {
                 continue;
             }
-            match self.play(alloc, side, &asked, levels.priority(number), levels)? {
+            match self.play(alloc, side, &asked, level, levels)? {
                 Some(block) => blocks.push(block)?,
                 None => return Ok(false),
             }

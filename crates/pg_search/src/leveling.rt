@@ -485,12 +485,13 @@ pub fn set_by_levels(
         stays: Vec::new(alloc),
         has_changed: false,
     };
-    for number in (0..levels.len()).rev() {
+    for number in (0..count(levels.priorities.len())).rev() {
+        let level = at(&levels.priorities, number);
         let asked = levels.take(alloc, number);
         if asked.is_empty() {
             continue;
         }
-        leveling.begin(side, levels.priority(number), &asked)?;
+        leveling.begin(side, level, &asked)?;
         if !leveling.run(alloc, side)? {
             return Ok(false);
         }
