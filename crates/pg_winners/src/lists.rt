@@ -49,15 +49,21 @@ impl Sides {
     }
 }
 
-/// The vertex behind each one in its list.
+/// The vertices before and behind each one in its list. Before one that is in no list stands itself.
 #[derive(Drop)]
 pub(crate) struct Links {
+    befores: Vec<u32>,
     nexts: Vec<u32>,
 }
 
 impl Links {
     pub fn new(alloc: Global, vertices: u32) -> Result<Links, AllocError> {
+        let mut befores = Vec::with_capacity(alloc, vertices as usize)?;
+        for v in 0..vertices {
+            befores.push(v)?;
+        }
         Ok(Links {
+            befores,
             nexts: vec![in alloc; NONE; vertices as usize]?,
         })
     }
@@ -66,6 +72,12 @@ impl Links {
     #[inline(always)]
     pub fn next(&self, v: u32) -> u32 {
         at(&self.nexts, v)
+    }
+
+    /// Notes that a vertex is in no list.
+    #[inline(always)]
+    pub fn forget(&mut self, v: u32) {
+        put(&mut self.befores, v, v);
     }
 
     /// Puts a list behind another one.
@@ -77,6 +89,7 @@ impl Links {
             return list;
         }
         put(&mut self.nexts, list.last, other.first);
+        put(&mut self.befores, other.first, list.last);
         List {
             first: list.first,
             last: other.last,
@@ -93,8 +106,33 @@ impl Links {
             } else {
                 put(&mut self.nexts, list.last, *v);
             }
+            put(&mut self.befores, *v, list.last);
             list.last = *v;
             list.len = list.len.wrapping_add(1);
+        }
+        list
+    }
+
+    /// Takes those of the vertices out of a list that are in one.
+    pub fn remove(&mut self, list: List, vertices: &[u32]) -> List {
+        let mut list = list;
+        for v in vertices {
+            let (before, next) = (at(&self.befores, *v), at(&self.nexts, *v));
+            if before == *v {
+                continue;
+            }
+            if list.first == *v {
+                list.first = next;
+            } else {
+                put(&mut self.nexts, before, next);
+            }
+            if list.last == *v {
+                list.last = before;
+            } else {
+                put(&mut self.befores, next, before);
+            }
+            list.len = list.len.wrapping_sub(1);
+            self.forget(*v);
         }
         list
     }

@@ -5,9 +5,12 @@
 //! Where the opponent wins nothing there that attracts more of the level, the player wins the level. Else that is taken out, and
 //! the level begins again with what is left.
 //!
+//! Then the next level's game isn't begun from nothing. What the player won there as it chose is still won, where it leads to nothing
+//! but such vertices: it is kept, with what it attracts, and only the rest is gone through.
+//!
 //! Each list that is won stands in an order that shows it: the heads, what they attract, and then what is won in the next level;
-//! what an opponent takes out of a level stands behind what it took before. Edges lead to places before, but those in the span of
-//! a head.
+//! what an opponent takes out of a level stands behind what it took before. Edges lead to places before, but those of heads, behind
+//! which there is nothing greater up to where they lead.
 
 use crate::graph::Graph;
 use crate::lists::{Links, List, Sides};
@@ -19,9 +22,12 @@ use std::alloc::{AllocError, Global};
 #[derive(Clone, Copy)]
 struct Level {
     player: u32,
-    /// Where its vertices begin in the list of all that levels attracted, and its heads in the list of heads.
+    /// The least region of its game: that of what it attracts for Even. That of a player's has the player as its remainder by 2.
+    base: u32,
+    /// The least priority of its heads.
+    least: u32,
+    /// Where its vertices begin in the list of all that levels attracted.
     attracted: usize,
-    heads: usize,
     /// Its part of the list of vertices by priority, and the place behind its first head there.
     from: u32,
     to: u32,
@@ -29,6 +35,30 @@ struct Level {
     /// What was won in it so far.
     won: Sides,
 }
+
+impl Level {
+    /// The region of what it attracts.
+    #[inline(always)]
+    fn mark(&self) -> u32 {
+        self.base.saturating_add(self.player)
+    }
+
+    /// The least region of the game above it.
+    #[inline(always)]
+    fn above(&self) -> u32 {
+        self.base.saturating_add(2)
+    }
+
+    /// Whether a vertex is in its game, and a player has it.
+    #[inline(always)]
+    fn has(&self, table: &Table, v: u32, player: u32) -> bool {
+        let region = table.region(v);
+        region >= self.base && region % 2 == player
+    }
+}
+
+/// Each level begins with a region that is this much greater than that of any level before it.
+const STEP: u32 = 4;
 
 #[derive(Drop)]
 pub(crate) struct Recursion {
@@ -39,23 +69,18 @@ pub(crate) struct Recursion {
     to: u32,
     place: u32,
     levels: Vec<Level>,
-    /// What all levels attracted, and the places of heads in that list.
+    /// The least region of the last level that began.
+    base: u32,
+    /// What all levels attracted.
     attracted: Vec<u32>,
-    heads: Vec<u32>,
-    /// What a level's opponent takes.
+    /// What a level's opponent takes, or what is attracted to what is kept.
     taken: Vec<u32>,
+    /// What is to be gone through again.
+    free: Vec<u32>,
     links: Links,
     /// What was won above the last level, and whether that is all that is to be won there.
     won: Sides,
     is_ending: bool,
-}
-
-/// The region of what a level attracts. What its opponent takes out of it is in the region before that.
-fn mark_of(level: usize) -> u32 {
-    count(level)
-        .saturating_mul(2)
-        .saturating_add(FIRST)
-        .saturating_add(1)
 }
 
 impl Recursion {
@@ -66,9 +91,10 @@ impl Recursion {
             to: 0,
             place: 0,
             levels: Vec::new(alloc),
+            base: FIRST,
             attracted: Vec::new(alloc),
-            heads: Vec::new(alloc),
             taken: Vec::new(alloc),
+            free: Vec::new(alloc),
             links: Links::new(alloc, vertices)?,
             won: Sides::EMPTY,
             is_ending: false,
@@ -82,14 +108,17 @@ impl Recursion {
 
     /// Begins with vertices that are free, and given by rising priority.
     pub fn begin(&mut self, vertices: &[u32]) -> Result<(), AllocError> {
+        for v in vertices {
+            self.links.forget(*v);
+        }
         self.order.clear();
         self.order.extend_from_slice(vertices)?;
         self.from = 0;
         self.to = count(vertices.len());
         self.place = self.to;
         self.levels.clear();
+        self.base = FIRST;
         self.attracted.clear();
-        self.heads.clear();
         self.won = Sides::EMPTY;
         self.is_ending = false;
         Ok(())
@@ -104,7 +133,7 @@ impl Recursion {
     ) -> Result<Option<Sides>, AllocError> {
         let most = table.looks.saturating_add(looks);
         for _ in 0..u64::MAX {
-            if table.looks > most {
+            if table.looks > most || self.base >= FREE - 2 * STEP {
                 return Ok(None);
             }
             if !self.is_ending && self.next_head(table) != NONE {
@@ -137,33 +166,44 @@ impl Recursion {
 
     /// Begins a level.
     fn descend(&mut self, graph: &Graph, table: &mut Table) -> Result<(), AllocError> {
-        let player = graph.priority(self.next_head(table)) % 2;
-        let mark = mark_of(self.levels.len());
-        self.levels.push(Level {
-            player,
+        self.base = self.base.saturating_add(STEP);
+        let level = Level {
+            player: graph.priority(self.next_head(table)) % 2,
+            base: self.base,
+            least: 0,
             attracted: self.attracted.len(),
-            heads: self.heads.len(),
             from: self.from,
             to: self.to,
             place: self.place,
             won: self.won,
-        })?;
-        self.won = Sides::EMPTY;
-        let attraction = Attraction {
-            player,
-            low: FREE,
-            mark,
         };
+        self.won = Sides::EMPTY;
+        self.fill(graph, table, level, FREE)
+    }
+
+    /// Takes the heads of a level and what they attract of regions from `low` on, and puts the level on top of the others.
+    fn fill(
+        &mut self,
+        graph: &Graph,
+        table: &mut Table,
+        level: Level,
+        low: u32,
+    ) -> Result<(), AllocError> {
+        let mut level = level;
+        let (player, mark, least) = (level.player, level.mark(), level.least);
+        let attraction = Attraction { player, low, mark };
         for _ in 0..u64::MAX {
             let head = self.next_head(table);
-            if head == NONE || graph.priority(head) % 2 != player {
+            let priority = graph.priority(head);
+            if head == NONE || priority % 2 != player || priority < least {
                 break;
             }
+            level.least = priority;
             let first = self.attracted.len();
-            self.take_heads(graph, table, graph.priority(head), mark)?;
+            self.take_heads(graph, table, priority, mark)?;
             table.attract(graph, &mut self.attracted, first, attraction)?;
         }
-        Ok(())
+        self.levels.push(level)
     }
 
     /// Takes the free vertices of the greatest priority.
@@ -183,7 +223,6 @@ impl Recursion {
             if table.region(v) == FREE {
                 table.mark(v, mark);
                 put(&mut table.choices, v, NONE);
-                self.heads.push(count(self.attracted.len()))?;
                 self.attracted.push(v)?;
             }
         }
@@ -193,134 +232,249 @@ impl Recursion {
     /// Ends the last level, or begins it again.
     fn end(&mut self, graph: &Graph, table: &mut Table, level: Level) -> Result<(), AllocError> {
         let mut level = level;
-        self.is_ending = !self.take(graph, table, &mut level)?;
+        self.find_lost(graph, table, level)?;
+        self.is_ending = self.taken.is_empty();
+        self.take(graph, table, &mut level)?;
         if self.is_ending {
             self.win(graph, table, level);
-            Ok(())
-        } else {
-            self.begin_again(graph, table, level)
+            return Ok(());
         }
+        self.attract_anew(graph, table, level)?;
+        self.loosen(graph, table, level)?;
+        self.keep(graph, table, level)?;
+        self.list(graph, level)
     }
 
-    /// Takes what the opponent of a level won above it out of the level, and what that attracts. Whether it attracts more: then
-    /// what is left is listed behind the order of the level.
-    fn take(
-        &mut self,
-        graph: &Graph,
-        table: &mut Table,
-        level: &mut Level,
-    ) -> Result<bool, AllocError> {
-        let opponent = level.player ^ 1;
-        let piece = self.won.of(opponent);
-        if piece.len == 0 {
-            return Ok(false);
-        }
-        let mark = mark_of(self.levels.len());
-        let attraction = Attraction {
-            player: opponent,
-            low: mark,
-            mark: mark.saturating_sub(1),
-        };
-        self.take_list(table, piece, attraction.mark)?;
-        let many = self.taken.len();
-        table.attract(graph, &mut self.taken, 0, attraction)?;
-        let attracts = self.taken.len() > many;
-        if attracts {
-            self.list_rest(table, *level, mark)?;
-            for v in from(&self.taken, many) {
-                put(&mut table.spans, *v, 0);
-            }
-        }
-        let won = self.links.join(level.won.of(opponent), piece);
-        let won = self.links.append(won, from(&self.taken, many));
-        level.won.set(opponent, won);
-        Ok(attracts)
-    }
-
-    /// Puts the vertices of a list into a region.
-    fn take_list(&mut self, table: &mut Table, list: List, mark: u32) -> Result<(), AllocError> {
-        self.taken.clear();
-        let mut v = list.first;
-        for _ in 0..list.len {
-            self.taken.push(v)?;
-            table.mark(v, mark);
-            v = self.links.next(v);
-        }
-        table.look(self.taken.len());
-        Ok(())
-    }
-
-    /// Lists what is left of a level, behind its order, and sets it free.
-    fn list_rest(&mut self, table: &mut Table, level: Level, mark: u32) -> Result<(), AllocError> {
-        self.order.truncate(level.to as usize);
-        for v in from(&self.attracted, level.attracted) {
-            if table.region(*v) >= mark {
-                self.order.push(*v)?;
-            }
-        }
-        let mine = self.won.of(level.player);
-        let mut v = mine.first;
-        for _ in 0..mine.len {
-            if table.region(v) >= mark {
-                self.order.push(v)?;
-            }
-            v = self.links.next(v);
-        }
-        table.look(mine.len as usize);
-        table.look(self.attracted.len().saturating_sub(level.attracted));
-        for v in from(&self.order, level.to as usize) {
-            table.mark(*v, FREE);
-            put(&mut table.spans, *v, 0);
-        }
-        Ok(())
-    }
-
-    /// Begins a level again, with what is left of it.
-    fn begin_again(
+    /// Finds those vertices of a level that its opponent attracts at once to what it won above: it owns them and leads there, or they
+    /// are heads that lead nowhere else.
+    fn find_lost(
         &mut self,
         graph: &Graph,
         table: &mut Table,
         level: Level,
     ) -> Result<(), AllocError> {
-        self.won = level.won;
+        let opponent = level.player ^ 1;
+        self.taken.clear();
+        if self.won.of(opponent).len == 0 {
+            return Ok(());
+        }
+        for v in from(&self.attracted, level.attracted) {
+            if graph.owner(*v) == opponent {
+                let row = graph.successors(*v);
+                table.look(row.len());
+                let choice = row.iter().copied().find(|w| level.has(table, *w, opponent));
+                if let Some(choice) = choice {
+                    put(&mut table.choices, *v, choice);
+                    self.taken.push(*v)?;
+                }
+            } else if at(&table.choices, *v) == NONE && !leads(graph, table, level, *v) {
+                self.taken.push(*v)?;
+            }
+        }
+        table.look(self.attracted.len().saturating_sub(level.attracted));
+        Ok(())
+    }
+
+    /// Gives the opponent of a level what it won above it, and what that attracts of the level.
+    fn take(
+        &mut self,
+        graph: &Graph,
+        table: &mut Table,
+        level: &mut Level,
+    ) -> Result<(), AllocError> {
+        let opponent = level.player ^ 1;
+        let piece = self.won.of(opponent);
+        if !self.is_ending {
+            self.leave_behind(table, level, piece);
+            let attraction = Attraction {
+                player: opponent,
+                low: level.base,
+                mark: level.base.saturating_sub(2).saturating_add(opponent),
+            };
+            for v in &self.taken {
+                table.mark(*v, attraction.mark);
+            }
+            table.attract(graph, &mut self.taken, 0, attraction)?;
+        }
+        let mine = self.links.remove(self.won.of(level.player), &self.taken);
+        self.won.set(level.player, mine);
+        let won = self.links.join(level.won.of(opponent), piece);
+        let won = self.links.append(won, &self.taken);
+        level.won.set(opponent, won);
+        Ok(())
+    }
+
+    /// Sees to it that what the opponent of a level won above it is in regions before the level: it or the rest is marked anew.
+    fn leave_behind(&mut self, table: &mut Table, level: &mut Level, piece: List) {
+        let block = from(&self.attracted, level.attracted);
+        let mine = self.won.of(level.player);
+        if (piece.len as usize) < block.len().saturating_add(mine.len as usize) {
+            let mark = level.base.saturating_sub(2).saturating_add(level.player ^ 1);
+            self.mark_list(table, piece, mark);
+            return;
+        }
+        self.base = self.base.saturating_add(STEP);
+        level.base = self.base;
+        for v in block {
+            table.mark(*v, level.mark());
+        }
+        table.look(block.len());
+        self.mark_list(table, mine, level.above().saturating_add(level.player));
+    }
+
+    /// Puts the vertices of a list into a region.
+    fn mark_list(&self, table: &mut Table, list: List, mark: u32) {
+        let mut v = list.first;
+        for _ in 0..list.len {
+            table.mark(v, mark);
+            v = self.links.next(v);
+        }
+        table.look(list.len as usize);
+    }
+
+    /// Lets a level, some of which was taken, attract anew: among what it attracted before and what its player won above it.
+    fn attract_anew(
+        &mut self,
+        graph: &Graph,
+        table: &mut Table,
+        level: Level,
+    ) -> Result<(), AllocError> {
+        self.free.clear();
+        for v in from(&self.attracted, level.attracted) {
+            if table.region(*v) == level.mark() {
+                table.mark(*v, FREE);
+                self.free.push(*v)?;
+            }
+        }
+        table.look(self.attracted.len().saturating_sub(level.attracted));
         self.attracted.truncate(level.attracted);
-        self.heads.truncate(level.heads);
-        let begin = (level.to as usize).min(self.order.len());
-        let rest = &mut self.order[begin..];
-        if rest.len() < (level.place.saturating_sub(level.from) / 16) as usize {
-            rest.sort_unstable_by_key(|v| graph.priority(*v));
+        self.list(graph, level)?;
+        self.fill(graph, table, level, level.above())?;
+        let block = from(&self.attracted, level.attracted);
+        let mine = self.links.remove(self.won.of(level.player), block);
+        self.won.set(level.player, mine);
+        self.free.retain(|v| table.region(*v) == FREE);
+        Ok(())
+    }
+
+    /// Frees what a level's player won above it and that may lead to what is free, or chose what was taken.
+    fn loosen(&mut self, graph: &Graph, table: &mut Table, level: Level) -> Result<(), AllocError> {
+        for place in 0..self.taken.len() {
+            let Some(target) = self.taken.get(place).copied() else {
+                break;
+            };
+            self.free_before(graph, table, level, target)?;
+        }
+        for place in 0..usize::MAX {
+            let Some(target) = self.free.get(place).copied() else {
+                break;
+            };
+            self.free_before(graph, table, level, target)?;
+        }
+        let mine = self.links.remove(self.won.of(level.player), &self.free);
+        self.won.set(level.player, mine);
+        Ok(())
+    }
+
+    /// Frees predecessors of a vertex.
+    fn free_before(
+        &mut self,
+        graph: &Graph,
+        table: &mut Table,
+        level: Level,
+        target: u32,
+    ) -> Result<(), AllocError> {
+        let predecessors = graph.predecessors(target);
+        table.look(predecessors.len());
+        for v in predecessors {
+            let region = table.region(*v);
+            if region < level.above() || region == FREE {
+                continue;
+            }
+            if graph.owner(*v) != level.player || at(&table.choices, *v) == target {
+                table.mark(*v, FREE);
+                self.free.push(*v)?;
+            }
+        }
+        Ok(())
+    }
+
+    /// Keeps what a level's player won above it and that isn't free, with what it attracts.
+    fn keep(&mut self, graph: &Graph, table: &mut Table, level: Level) -> Result<(), AllocError> {
+        let player = level.player;
+        let mut won = Sides::EMPTY;
+        let kept = self.won.of(player);
+        self.taken.clear();
+        if kept.len > 0 {
+            let attraction = Attraction {
+                player,
+                low: FREE,
+                mark: level.above().saturating_add(player),
+            };
+            for v in &self.free {
+                let row = graph.successors(*v);
+                table.look(row.len());
+                let choice = if graph.owner(*v) == player {
+                    let is_kept = |w: &u32| (level.above()..FREE).contains(&table.region(*w));
+                    row.iter().copied().find(is_kept)
+                } else if table.first_from(row, FREE).is_none() {
+                    Some(NONE)
+                } else {
+                    None
+                };
+                if let Some(choice) = choice {
+                    put(&mut table.choices, *v, choice);
+                    table.mark(*v, attraction.mark);
+                    self.taken.push(*v)?;
+                }
+            }
+            table.attract(graph, &mut self.taken, 0, attraction)?;
+            self.free.retain(|v| table.region(*v) == FREE);
+        }
+        won.set(player, self.links.append(kept, &self.taken));
+        self.won = won;
+        Ok(())
+    }
+
+    /// Lists what is free by rising priority, behind the order of a level where it is few; else it is found in that order.
+    fn list(&mut self, graph: &Graph, level: Level) -> Result<(), AllocError> {
+        self.order.truncate(level.to as usize);
+        self.from = level.from;
+        self.to = level.to;
+        self.place = level.place;
+        if self.free.len() < (level.place.saturating_sub(level.from) / 16) as usize {
+            self.free.sort_unstable_by_key(|v| graph.priority(*v));
+            self.order.extend_from_slice(&self.free)?;
             self.from = level.to;
             self.to = count(self.order.len());
             self.place = self.to;
-        } else {
-            self.order.truncate(begin);
-            self.from = level.from;
-            self.to = level.to;
-            self.place = level.place;
         }
         Ok(())
     }
 
     /// Gives a level to its player: the heads and what they attract, and what the player won above it.
     fn win(&mut self, graph: &Graph, table: &mut Table, level: Level) {
-        let mark = mark_of(self.levels.len());
-        let rest = self.won.of(level.player);
+        let player = level.player;
         let block = from(&self.attracted, level.attracted);
         table.look(block.len());
-        let end = count(self.attracted.len()).saturating_add(rest.len);
-        for place in from(&self.heads, level.heads) {
-            let head = at(&self.attracted, *place);
-            put(&mut table.spans, head, end.saturating_sub(*place));
-            if graph.owner(head) == level.player {
-                let choice = table.first_from(graph.successors(head), mark);
-                put(&mut table.choices, head, choice.unwrap_or(NONE));
+        for v in block {
+            if graph.owner(*v) == player && at(&table.choices, *v) == NONE {
+                let mut row = graph.successors(*v).iter().copied();
+                let choice = row.find(|w| level.has(table, *w, player));
+                put(&mut table.choices, *v, choice.unwrap_or(NONE));
             }
         }
-        let won = self.links.append(level.won.of(level.player), block);
-        let won = self.links.join(won, rest);
+        let won = self.links.append(level.won.of(player), block);
+        let won = self.links.join(won, self.won.of(player));
         self.won = level.won;
-        self.won.set(level.player, won);
+        self.won.set(player, won);
         self.attracted.truncate(level.attracted);
-        self.heads.truncate(level.heads);
     }
+}
+
+/// Whether a vertex of a level has a successor that its player has.
+fn leads(graph: &Graph, table: &mut Table, level: Level, v: u32) -> bool {
+    let row = graph.successors(v);
+    table.look(row.len());
+    row.iter().any(|w| level.has(table, *w, level.player))
 }

@@ -8,7 +8,7 @@ use std::alloc::{AllocError, Global};
 /// time that it needs, from `FIRST` on, and what is free for the method.
 pub(crate) const WAITING: u32 = 2;
 
-pub(crate) const FIRST: u32 = 3;
+pub(crate) const FIRST: u32 = 4;
 
 pub(crate) const FREE: u32 = u32::MAX;
 
@@ -28,8 +28,6 @@ pub(crate) struct Table {
     pub regions: Vec<u32>,
     /// What the winner, or who may become it, chooses at each vertex.
     pub choices: Vec<u32>,
-    /// How far from the place of each vertex its edges may lead; 0: to places before it.
-    pub spans: Vec<u32>,
     /// Where the last search in each row ended; no numbers where no row is long.
     hints: Vec<u32>,
     /// How many vertices and edges were looked at.
@@ -47,7 +45,6 @@ impl Table {
         Ok(Table {
             regions: vec![in alloc; WAITING; all]?,
             choices: vec![in alloc; NONE; all]?,
-            spans: vec![in alloc; 0; all]?,
             hints: vec![in alloc; 0; hints]?,
             looks: 0,
             seen: 0,

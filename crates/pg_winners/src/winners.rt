@@ -29,12 +29,9 @@ pub fn find_winners(alloc: Global, graph: &Graph) -> Result<Winners, AllocError>
     let mut solver = Solver::new(alloc, graph)?;
     solver.run()?;
     let (table, orders) = solver.into_parts();
-    let mut spans = table.spans;
-    for v in graph.loops() {
-        if at(&table.regions, *v) != graph.owner(*v) && at(&spans, *v) == 0 {
-            put(&mut spans, *v, 1);
-        }
-    }
+    let mut span = vec![in alloc; 0; table.regions.len()]?;
+    find_spans(alloc, graph, &orders.even, 0, &mut span)?;
+    find_spans(alloc, graph, &orders.odd, 1, &mut span)?;
     let mut winner = Vec::with_capacity(alloc, table.regions.len())?;
     for region in &table.regions {
         winner.push(match *region {
@@ -48,7 +45,39 @@ pub fn find_winners(alloc: Global, graph: &Graph) -> Result<Winners, AllocError>
         choice: table.choices,
         of_even: orders.even,
         of_odd: orders.odd,
-        span: spans,
+        span,
         is_ordered: count(ordered) == graph.len(),
     })
+}
+
+/// Finds the spans of the vertices in a player's list: those of its own priorities reach up to the next greater priority.
+fn find_spans(
+    alloc: Global,
+    graph: &Graph,
+    list: &[u32],
+    player: u32,
+    spans: &mut [u32],
+) -> Result<(), AllocError> {
+    // places behind, of which each has a greater priority than the ones before it
+    let mut greater: Vec<u32> = Vec::new(alloc);
+    for place in (0..count(list.len())).rev() {
+        let v = at(list, place);
+        let priority = graph.priority(v);
+        let mut end = count(list.len());
+        for _ in 0..list.len() {
+            let Some(next) = greater.last().copied() else {
+                break;
+            };
+            if graph.priority(at(list, next)) > priority {
+                end = next;
+                break;
+            }
+            greater.pop();
+        }
+        greater.push(place)?;
+        if priority % 2 == player {
+            put(spans, v, end.saturating_sub(place));
+        }
+    }
+    Ok(())
 }
