@@ -26,8 +26,9 @@ struct Level {
     base: u32,
     /// The least priority of its heads.
     least: u32,
-    /// Where its vertices begin in the list of all that levels attracted.
+    /// Where its vertices begin in the list of all that levels attracted, and its heads in the list of heads.
     attracted: usize,
+    heads: usize,
     /// Its part of the list of vertices by priority, and the place behind its first head there.
     from: u32,
     to: u32,
@@ -49,11 +50,24 @@ impl Level {
         self.base.saturating_add(2)
     }
 
-    /// Whether a vertex is in its game, and a player has it.
+    /// The region of what its opponent takes out of it.
     #[inline(always)]
-    fn has(&self, table: &Table, v: u32, player: u32) -> bool {
-        let region = table.region(v);
-        region >= self.base && region % 2 == player
+    fn mark_of_taken(&self) -> u32 {
+        self.base.saturating_sub(2).saturating_add(self.player ^ 1)
+    }
+
+    /// A successor of a vertex in its game that a player has, or `NONE`.
+    #[inline(always)]
+    fn choice(&self, graph: &Graph, table: &mut Table, v: u32, player: u32) -> u32 {
+        let row = graph.successors(v);
+        table.look(row.len());
+        for w in row {
+            let region = table.region(*w);
+            if region >= self.base && region % 2 == player {
+                return *w;
+            }
+        }
+        NONE
     }
 }
 
@@ -71,8 +85,9 @@ pub(crate) struct Recursion {
     levels: Vec<Level>,
     /// The least region of the last level that began.
     base: u32,
-    /// What all levels attracted.
+    /// What all levels attracted, and the heads among that.
     attracted: Vec<u32>,
+    heads: Vec<u32>,
     /// What a level's opponent takes, or what is attracted to what is kept.
     taken: Vec<u32>,
     /// What is to be gone through again.
@@ -93,6 +108,7 @@ impl Recursion {
             levels: Vec::new(alloc),
             base: FIRST,
             attracted: Vec::new(alloc),
+            heads: Vec::new(alloc),
             taken: Vec::new(alloc),
             free: Vec::new(alloc),
             links: Links::new(alloc, vertices)?,
@@ -119,6 +135,7 @@ impl Recursion {
         self.levels.clear();
         self.base = FIRST;
         self.attracted.clear();
+        self.heads.clear();
         self.won = Sides::EMPTY;
         self.is_ending = false;
         Ok(())
@@ -172,6 +189,7 @@ impl Recursion {
             base: self.base,
             least: 0,
             attracted: self.attracted.len(),
+            heads: self.heads.len(),
             from: self.from,
             to: self.to,
             place: self.place,
@@ -203,7 +221,8 @@ impl Recursion {
             self.take_heads(graph, table, priority, mark)?;
             table.attract(graph, &mut self.attracted, first, attraction)?;
         }
-        self.levels.push(level)
+        self.levels.push(level)?;
+        Ok(())
     }
 
     /// Takes the free vertices of the greatest priority.
@@ -224,6 +243,7 @@ impl Recursion {
                 table.mark(v, mark);
                 put(&mut table.choices, v, NONE);
                 self.attracted.push(v)?;
+                self.heads.push(v)?;
             }
         }
         Ok(())
@@ -232,17 +252,66 @@ impl Recursion {
     /// Ends the last level, or begins it again.
     fn end(&mut self, graph: &Graph, table: &mut Table, level: Level) -> Result<(), AllocError> {
         let mut level = level;
-        self.find_lost(graph, table, level)?;
-        self.is_ending = self.taken.is_empty();
-        self.take(graph, table, &mut level)?;
+        let many = self.take(graph, table, &mut level)?;
+        self.is_ending = self.taken.len() == many;
         if self.is_ending {
             self.win(graph, table, level);
             return Ok(());
         }
         self.attract_anew(graph, table, level)?;
-        self.loosen(graph, table, level)?;
+        self.loosen(graph, table, level, many)?;
         self.keep(graph, table, level)?;
         self.list(graph, level)
+    }
+
+    /// Gives the opponent of a level what it won above it, and what that attracts of the level. The latter is taken, behind some of
+    /// the former, whose number is given.
+    fn take(
+        &mut self,
+        graph: &Graph,
+        table: &mut Table,
+        level: &mut Level,
+    ) -> Result<usize, AllocError> {
+        let opponent = level.player ^ 1;
+        let piece = self.won.of(opponent);
+        let mut many = 0;
+        self.taken.clear();
+        if (piece.len as usize) < self.attracted.len().saturating_sub(level.attracted) {
+            self.take_list(table, piece, level.mark_of_taken())?;
+            many = self.taken.len();
+        } else {
+            self.find_lost(graph, table, *level)?;
+            if !self.taken.is_empty() {
+                self.leave_behind(table, level, piece);
+            }
+            for v in &self.taken {
+                table.mark(*v, level.mark_of_taken());
+            }
+        }
+        let attraction = Attraction {
+            player: opponent,
+            low: level.base,
+            mark: level.mark_of_taken(),
+        };
+        table.attract(graph, &mut self.taken, 0, attraction)?;
+        let taken = from(&self.taken, many);
+        let mine = self.links.remove(self.won.of(level.player), taken);
+        self.won.set(level.player, mine);
+        let won = self.links.join(level.won.of(opponent), piece);
+        let won = self.links.append(won, taken);
+        level.won.set(opponent, won);
+        Ok(many)
+    }
+
+    /// Takes the vertices of a list.
+    fn take_list(&mut self, table: &mut Table, list: List, mark: u32) -> Result<(), AllocError> {
+        self.mark_list(table, list, mark);
+        let mut v = list.first;
+        for _ in 0..list.len {
+            self.taken.push(v)?;
+            v = self.links.next(v);
+        }
+        Ok(())
     }
 
     /// Finds those vertices of a level that its opponent attracts at once to what it won above: it owns them and leads there, or they
@@ -254,53 +323,20 @@ impl Recursion {
         level: Level,
     ) -> Result<(), AllocError> {
         let opponent = level.player ^ 1;
-        self.taken.clear();
-        if self.won.of(opponent).len == 0 {
-            return Ok(());
-        }
-        for v in from(&self.attracted, level.attracted) {
-            if graph.owner(*v) == opponent {
-                let row = graph.successors(*v);
-                table.look(row.len());
-                let choice = row.iter().copied().find(|w| level.has(table, *w, opponent));
-                if let Some(choice) = choice {
-                    put(&mut table.choices, *v, choice);
-                    self.taken.push(*v)?;
-                }
-            } else if at(&table.choices, *v) == NONE && !leads(graph, table, level, *v) {
+        for v in from(&self.heads, level.heads) {
+            if graph.owner(*v) != opponent && level.choice(graph, table, *v, level.player) == NONE {
                 self.taken.push(*v)?;
             }
         }
-        table.look(self.attracted.len().saturating_sub(level.attracted));
-        Ok(())
-    }
-
-    /// Gives the opponent of a level what it won above it, and what that attracts of the level.
-    fn take(
-        &mut self,
-        graph: &Graph,
-        table: &mut Table,
-        level: &mut Level,
-    ) -> Result<(), AllocError> {
-        let opponent = level.player ^ 1;
-        let piece = self.won.of(opponent);
-        if !self.is_ending {
-            self.leave_behind(table, level, piece);
-            let attraction = Attraction {
-                player: opponent,
-                low: level.base,
-                mark: level.base.saturating_sub(2).saturating_add(opponent),
-            };
-            for v in &self.taken {
-                table.mark(*v, attraction.mark);
+        for v in from(&self.attracted, level.attracted) {
+            if graph.owner(*v) == opponent {
+                let choice = level.choice(graph, table, *v, opponent);
+                if choice != NONE {
+                    put(&mut table.choices, *v, choice);
+                    self.taken.push(*v)?;
+                }
             }
-            table.attract(graph, &mut self.taken, 0, attraction)?;
         }
-        let mine = self.links.remove(self.won.of(level.player), &self.taken);
-        self.won.set(level.player, mine);
-        let won = self.links.join(level.won.of(opponent), piece);
-        let won = self.links.append(won, &self.taken);
-        level.won.set(opponent, won);
         Ok(())
     }
 
@@ -309,8 +345,7 @@ impl Recursion {
         let block = from(&self.attracted, level.attracted);
         let mine = self.won.of(level.player);
         if (piece.len as usize) < block.len().saturating_add(mine.len as usize) {
-            let mark = level.base.saturating_sub(2).saturating_add(level.player ^ 1);
-            self.mark_list(table, piece, mark);
+            self.mark_list(table, piece, level.mark_of_taken());
             return;
         }
         self.base = self.base.saturating_add(STEP);
@@ -348,6 +383,7 @@ impl Recursion {
         }
         table.look(self.attracted.len().saturating_sub(level.attracted));
         self.attracted.truncate(level.attracted);
+        self.heads.truncate(level.heads);
         self.list(graph, level)?;
         self.fill(graph, table, level, level.above())?;
         let block = from(&self.attracted, level.attracted);
@@ -358,8 +394,14 @@ impl Recursion {
     }
 
     /// Frees what a level's player won above it and that may lead to what is free, or chose what was taken.
-    fn loosen(&mut self, graph: &Graph, table: &mut Table, level: Level) -> Result<(), AllocError> {
-        for place in 0..self.taken.len() {
+    fn loosen(
+        &mut self,
+        graph: &Graph,
+        table: &mut Table,
+        level: Level,
+        many: usize,
+    ) -> Result<(), AllocError> {
+        for place in many..self.taken.len() {
             let Some(target) = self.taken.get(place).copied() else {
                 break;
             };
@@ -455,26 +497,19 @@ impl Recursion {
     /// Gives a level to its player: the heads and what they attract, and what the player won above it.
     fn win(&mut self, graph: &Graph, table: &mut Table, level: Level) {
         let player = level.player;
-        let block = from(&self.attracted, level.attracted);
-        table.look(block.len());
-        for v in block {
-            if graph.owner(*v) == player && at(&table.choices, *v) == NONE {
-                let mut row = graph.successors(*v).iter().copied();
-                let choice = row.find(|w| level.has(table, *w, player));
-                put(&mut table.choices, *v, choice.unwrap_or(NONE));
+        for head in from(&self.heads, level.heads) {
+            if graph.owner(*head) == player {
+                let choice = level.choice(graph, table, *head, player);
+                put(&mut table.choices, *head, choice);
             }
         }
+        let block = from(&self.attracted, level.attracted);
+        table.look(block.len());
         let won = self.links.append(level.won.of(player), block);
         let won = self.links.join(won, self.won.of(player));
         self.won = level.won;
         self.won.set(player, won);
         self.attracted.truncate(level.attracted);
+        self.heads.truncate(level.heads);
     }
-}
-
-/// Whether a vertex of a level has a successor that its player has.
-fn leads(graph: &Graph, table: &mut Table, level: Level, v: u32) -> bool {
-    let row = graph.successors(v);
-    table.look(row.len());
-    row.iter().any(|w| level.has(table, *w, level.player))
 }
