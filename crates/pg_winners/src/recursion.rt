@@ -303,14 +303,15 @@ impl Recursion {
         Ok(many)
     }
 
-    /// Takes the vertices of a list.
+    /// Takes the vertices of a list, and puts them into a region.
     fn take_list(&mut self, table: &mut Table, list: List, mark: u32) -> Result<(), AllocError> {
-        self.mark_list(table, list, mark);
         let mut v = list.first;
         for _ in 0..list.len {
             self.taken.push(v)?;
+            table.mark(v, mark);
             v = self.links.next(v);
         }
+        table.look(self.taken.len());
         Ok(())
     }
 

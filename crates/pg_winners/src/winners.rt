@@ -58,25 +58,28 @@ fn find_spans(
     player: u32,
     spans: &mut [u32],
 ) -> Result<(), AllocError> {
-    // places behind, of which each has a greater priority than the ones before it
-    let mut greater: Vec<u32> = Vec::new(alloc);
+    let mut priorities = Vec::with_capacity(alloc, list.len())?;
+    for v in list {
+        priorities.push(graph.priority(*v))?;
+    }
+    // of the places behind, those that no greater priority stands before
+    let mut greatest: Vec<u32> = Vec::new(alloc);
     for place in (0..count(list.len())).rev() {
-        let v = at(list, place);
-        let priority = graph.priority(v);
+        let priority = at(&priorities, place);
         let mut end = count(list.len());
         for _ in 0..list.len() {
-            let Some(next) = greater.last().copied() else {
+            let Some(next) = greatest.last().copied() else {
                 break;
             };
-            if graph.priority(at(list, next)) > priority {
+            if at(&priorities, next) > priority {
                 end = next;
                 break;
             }
-            greater.pop();
+            greatest.pop();
         }
-        greater.push(place)?;
+        greatest.push(place)?;
         if priority % 2 == player {
-            put(spans, v, end.saturating_sub(place));
+            put(spans, at(list, place), end.saturating_sub(place));
         }
     }
     Ok(())
