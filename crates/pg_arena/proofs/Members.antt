@@ -1,6 +1,6 @@
 -- Whether a number stands among rising ones.
-use Rattle.pg_arena.proofs.Common.{◌≡◌, ℕ, suc, ◌+◌, ◌-◌, ◌≤◌, ◌<◌, false, List, [], ◌∷◌, ◌++◌, length, get_or, Result, Ok, Err, refl, sym}
-use Rattle.pg_arena.proofs.Common.{ap, ◌∙◌, arith, inl, inr, MatchResult, is_ok, Some, slice_get, IsStrictlyIncreasing}
+use Rattle.pg_arena.proofs.Common.{◌≡◌, ℕ, zero, suc, ◌+◌, ◌-◌, ◌≤◌, ◌<◌, false, List, [], ◌∷◌, ◌++◌, length, get_or, Result, Ok, Err, refl, sym}
+use Rattle.pg_arena.proofs.Common.{ap, ◌∙◌, subst, arith, inl, inr, MatchResult, is_ok, Some, slice_get, IsStrictlyIncreasing}
 use Rattle.pg_arena.proofs.Common.{IsBinarySearchResult, nat_cmp, ne_eqb, cases_lt, get_or_default, length-append, get_or-append}
 use Rattle.pg_arena.proofs.Common.{get_or-append_seam, get_or_from_slice_get, searched, sorted_from_strictly_increasing}
 use Rattle.pg_arena.proofs.Common.{non_decreasing_from_sorted, has, has_contained}
@@ -59,3 +59,36 @@ rises_more xs n last up is above = λ k within.
 
 pub one_rises : (xs : List ℕ) (n : ℕ) → length xs ≤ 0 → IsStrictlyIncreasing (xs ++ n ∷ [])
 one_rises xs n none = λ k within. absurd (omega (arith, length-append xs (n ∷ [])))
+
+-- numbers that rise climb by one at least from place to place
+climbs : (xs : List ℕ) → IsStrictlyIncreasing xs → (i d : ℕ) → i + d < length xs → get_or xs i 0 + d ≤ get_or xs (i + d) 0
+climbs xs up i zero within =
+    let e : i ≡ i + 0 = omega arith in
+    subst (λ (k : ℕ). get_or xs i 0 + 0 ≤ get_or xs k 0) e (omega arith)
+climbs xs up i (suc d) within =
+    let e : i + d + 1 ≡ i + suc d = omega arith in
+    let before = climbs xs up i d (omega arith) in
+    let step : get_or xs (i + d) 0 < get_or xs (i + d + 1) 0 = up (i + d) (omega arith) in
+    subst (λ (k : ℕ). get_or xs i 0 + suc d ≤ get_or xs k 0) e (omega (arith, before, step))
+
+-- where as many numbers rise as there are from the first to the last, none is left out
+pub runs : (xs : List ℕ) (least last : ℕ) → IsStrictlyIncreasing xs → Some least ≡ slice_get xs 0
+    → Some last ≡ slice_get xs (length xs - 1) → last - least ≡ length xs - 1 → (i : ℕ) → i < length xs → get_or xs i 0 ≡ get_or xs 0 0 + i
+runs xs least last up first end whole i within =
+    let more : ℕ = length xs - 1 - i in
+    let from : get_or xs 0 0 ≡ least = get_or_from_slice_get xs 0 least 0 (sym first) in
+    let to : get_or xs (length xs - 1) 0 ≡ last = get_or_from_slice_get xs (length xs - 1) last 0 (sym end) in
+    let here : 0 + i ≡ i = omega arith in
+    let top : i + more ≡ length xs - 1 = omega arith in
+    let behind : get_or xs 0 0 + i ≤ get_or xs i 0 =
+    subst (λ (k : ℕ). get_or xs 0 0 + i ≤ get_or xs k 0) here (climbs xs up 0 i (omega arith)) in
+    let ahead : get_or xs i 0 + more ≤ get_or xs (length xs - 1) 0 =
+    subst (λ (k : ℕ). get_or xs i 0 + more ≤ get_or xs k 0) top (climbs xs up i more (omega arith)) in
+    omega (arith, from, to, behind, ahead)
+
+-- a number behind the last of a run isn't one of them
+pub behind_run : (xs : List ℕ) (n least : ℕ) → ((i : ℕ) → i < length xs → get_or xs i 0 ≡ get_or xs 0 0 + i)
+    → Some least ≡ slice_get xs 0 → least + length xs ≤ n → has n xs ≡ false
+behind_run xs n least run first behind = has_none n xs (λ k within e.
+    let from : get_or xs 0 0 ≡ least = get_or_from_slice_get xs 0 least 0 (sym first) in
+    omega (arith, run k within, from, e, behind))

@@ -90,9 +90,3 @@ pub entry_read : {ids targets : List ℕ} {names : List (Vec ℕ Global)} {place
 entry_read {ids} {targets} {names} {places} {entries} game v w e b view lt same read =
     let low = within game v b view lt in
     read ∙ ap (λ (k : ℕ). get_or entries k e) same ∙ get_or_default entries v e (entry_at [] 0) (omega (arith, b.as_many))
-
-pub identifier_read : {ids targets : List ℕ} {names : List (Vec ℕ Global)} {places : List (Option ℕ)} {entries : List Entry} (game : List GameVertex)
-    (v w i : ℕ) → IsBuiltIn ids targets names places entries → vertices_in targets names (rows_in ids places entries) ≡ game → v < length game → w ≡ v
-    → i ≡ get_or ids w i → i ≡ get_or ids v 0
-identifier_read {ids} {targets} {names} {places} {entries} game v w i b view lt same read =
-    read ∙ ap (λ (k : ℕ). get_or ids k i) same ∙ get_or_default ids v i 0 (within game v b view lt)

@@ -8,7 +8,7 @@ ghost use Rattle.pg_arena.specs.declared.fault.ArenaFault.TheVariants.{OutOfMemo
 use crate::entry::Entry;
 use crate::fault::ArenaFault;
 use crate::limits::MAX_PRIORITY;
-use crate::place::place_of;
+use crate::place::{identifier_at, place_of};
 use crate::player::Player;
 use crate::rows::{SortedLines, place_at};
 use crate::vertex::Vertex;
@@ -94,7 +94,7 @@ impl Game {
         requires { v < length self.now }
         ensures { result ≡ identifier self.now v }
     {
-        self.shared.identifiers[v.0 as usize]
+        identifier_at(&self.shared.identifiers, v.0)
     }
 
     /// The priority of a vertex: at most 65,535, or 65,536 in a dual.

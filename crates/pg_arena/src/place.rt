@@ -1,8 +1,35 @@
 //! Where an identifier stands among rising ones.
 
-ghost use Rattle.std.specs.Prelude.{◌≡◌, ◌<◌, false, length, slice_index, IfSome, IfNone};
+ghost use Rattle.std.specs.Prelude.{◌≡◌, ◌<◌, ◌+◌, ℕ, false, length, slice_index, IsTrue, IfSome, IfNone};
 ghost use Rattle.std.specs.List.Sorted.{IsStrictlyIncreasing};
 ghost use Rattle.pg_arena.specs.Mirrors.Links.{is_among};
+
+/// Whether no number is left out between the least identifier and the greatest, so that each place tells which one stands there.
+#[inline(always)]
+fn is_run(identifiers: &[u32]) -> bool
+    requires { IsStrictlyIncreasing identifiers.now }
+    ensures { IsTrue result → (i : ℕ) → i < length identifiers.now
+        → slice_index identifiers.now i ≡ slice_index identifiers.now 0 + i }
+{
+    match (identifiers.first(), identifiers.last()) {
+        (Some(least), Some(last))
+            if last.saturating_sub(*least) as usize == identifiers.len() - 1 => { true }
+        _ => false,
+    }
+}
+
+/// The identifier at a place. Where no number is left out the list isn't looked at there.
+#[inline(always)]
+pub(crate) fn identifier_at(identifiers: &[u32], place: u32) -> u32
+    requires rising { IsStrictlyIncreasing identifiers.now }
+    requires within { place < length identifiers.now }
+    ensures { result ≡ slice_index identifiers.now place }
+{
+    if is_run(identifiers) {
+        return identifiers[0].wrapping_add(place);
+    }
+    identifiers[place as usize]
+}
 
 /// The place of an identifier, looked for first where it stands if no number is left out between the least one and it.
 pub(crate) fn place_of(identifiers: &[u32], identifier: u32) -> Option<usize>
@@ -16,6 +43,13 @@ pub(crate) fn place_of(identifiers: &[u32], identifier: u32) -> Option<usize>
         return None;
     }
     let guess = (identifier - *least) as usize;
+    if is_run(identifiers) {
+        return if guess < identifiers.len() {
+            Some(guess)
+        } else {
+            None
+        };
+    }
     if guess < identifiers.len() && identifiers[guess] == identifier {
         return Some(guess);
     }
