@@ -11,4 +11,5 @@ pub mod Listed
 pub mod Winning
 pub mod Deciding
 pub mod Ordered
+pub mod OneParity
 mod Common

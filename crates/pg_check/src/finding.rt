@@ -1,7 +1,10 @@
 //! Sound solutions that are found at once: winners, what they choose and an order are proposed, and looked at.
 
-ghost use Rattle.std.specs.Prelude.{◌≡◌, length, IfOk, IfSome};
+ghost use Rattle.std.specs.Prelude.{◌≡◌, ◌<◌, length, IfOk, IfSome};
+ghost use Rattle.std.specs.Bool.{OnTrue};
+ghost use Rattle.pg_arena.specs.Games.{HasParityOf};
 ghost use Rattle.pg_check.specs.Soundness.{IsSoundSolution};
+ghost use Rattle.pg_check.specs.Mirrors.Orders.{AllHaveParityOf, IsAnyChoice};
 
 use crate::order::{Order, height};
 use crate::shown::is_shown;
@@ -20,53 +23,64 @@ struct Ordered {
     split: u32,
 }
 
-/// The player whose parity all priorities have, if there is one.
-fn winner_of_all(game: &Game) -> Option<Player> {
-    let count = game.len() as u32;
-    let first = game.priority(Vertex(0)) % 2;
-    for number in 1..count {
-        if game.priority(Vertex(number)) % 2 != first {
-            return None;
-        }
+/// Whether a priority is one of the player's.
+fn has_parity_of(player: Player, priority: u32) -> bool
+    ensures { OnTrue result (HasParityOf player priority) }
+{
+    match player {
+        Player::Even => priority % 2 == 0,
+        Player::Odd => priority % 2 == 1,
     }
-    Some(if first == 0 {
-        Player::Even
-    } else {
-        Player::Odd
-    })
 }
 
-/// The solution of a game in which all priorities are one player's: that wins everywhere, by whatever successors. All vertices share a
-/// place.
-fn won_by(alloc: Global, game: &Game, winner: Player) -> Result<Ordered, AllocError>
-    ensures { IfOk result (λ o. length o.solution ≡ length game.now) }
+/// Whether all priorities are the player's.
+fn has_all(game: &Game, player: Player) -> bool
+    ensures { OnTrue result (AllHaveParityOf player game.now) }
+{
+    for number in 0..game.len() as u32 {
+        if !has_parity_of(player, game.priority(Vertex(number))) {
+            return false;
+        }
+    }
+    true
+}
+
+/// The player whose parity all priorities have, if there is one.
+fn winner_of_all(game: &Game) -> Option<Player>
+    ensures { IfSome result (λ player. AllHaveParityOf player game.now) }
+{
+    if has_all(game, Player::Even) {
+        Some(Player::Even)
+    } else if has_all(game, Player::Odd) {
+        Some(Player::Odd)
+    } else {
+        None
+    }
+}
+
+/// The first successor, where the player owns the vertex.
+fn first_choice(game: &Game, player: Player, v: Vertex) -> Option<Vertex>
+    requires { v < length game.now }
+    ensures { IsAnyChoice game.now player v result }
+{
+    let _count = game.len();
+    if game.owner(v) != player {
+        return None;
+    }
+    game.successors(v).first().copied()
+}
+
+/// A solution of a game in which all priorities are one player's: that wins everywhere, by whatever successors.
+fn won_by(alloc: Global, game: &Game, winner: Player) -> Result<Solution, AllocError>
+    requires { AllHaveParityOf winner game.now }
+    ensures { IfOk result (IsSoundSolution game.now) }
 {
     let mut solution = Solution::new(alloc, game)?;
     for number in 0..game.len() as u32 {
         let v = Vertex(number);
-        let choice = match game.successors(v).first() {
-            Some(w) if game.owner(v) == winner => Some(*w),
-            _ => None,
-        };
-        solution.set(v, winner, choice);
+        solution.set(v, winner, first_choice(game, winner, v));
     }
-    let place = Span {
-        priority: 0,
-        end: 1,
-    };
-    let order = Order {
-        places: vec![in alloc; 0; game.len()]?,
-        spans: vec![in alloc; place; 1]?,
-    };
-    let split = match winner {
-        Player::Even => 1,
-        Player::Odd => 0,
-    };
-    Ok(Ordered {
-        solution,
-        order,
-        split,
-    })
+    Ok(solution)
 }
 
 /// Gives vertices places one after another, from a first one on.
@@ -120,9 +134,6 @@ fn solved_by(alloc: Global, game: &Game, winners: &Winners) -> Result<Ordered, A
 fn propose(alloc: Global, game: &Game) -> Result<Ordered, AllocError>
     ensures { IfOk result (λ o. length o.solution ≡ length game.now) }
 {
-    if let Some(winner) = winner_of_all(game) {
-        return won_by(alloc, game, winner);
-    }
     let graph = Graph::of(alloc, game)?;
     let winners = find_winners(alloc, &graph)?;
     drop(graph);
@@ -134,6 +145,9 @@ fn propose(alloc: Global, game: &Game) -> Result<Ordered, AllocError>
 pub fn find_solution(alloc: Global, game: &Game) -> Result<Option<Solution>, AllocError>
     ensures { IfOk result (λ found. IfSome found (IsSoundSolution game.now)) }
 {
+    if let Some(winner) = winner_of_all(game) {
+        return Ok(Some(won_by(alloc, game, winner)?));
+    }
     let Ordered {
         solution,
         order,

@@ -1,5 +1,7 @@
-use Rattle.pg_check.proofs.Common.{◌≡◌, length}
+use Rattle.pg_check.proofs.Common.{ℕ, ◌<◌}
+use Rattle.pg_check.proofs.Chosen.{AnswersUpto}
+use Rattle.pg_check.proofs.OneParity.{WinsAnyhow}
 use Rattle.pg_check.proofs.finding.won_by.Given as goal
 
 abbrev pub invariant-loop-number : goal.invariant-loop-number
-invariant-loop-number l = length l.solution ≡ length l.game
+invariant-loop-number l = AnswersUpto l.game (WinsAnyhow l.game l.winner) l.solution l.number
