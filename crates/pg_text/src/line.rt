@@ -9,7 +9,7 @@ ghost use Rattle.pg_text.specs.Mirrors.GameScan.{counted_item_at, body_at};
 ghost use Rattle.pg_text.specs.Mirrors.Parts.{further_at};
 
 use crate::reading::{Refusal, clause, further, natural, semicolon, string, unexpected};
-use crate::tokens::{TokenFault, after_byte, after_first, after_space, short_number};
+use crate::tokens::{TokenFault, after_byte, after_first, after_space};
 use pg_arena::Player;
 use std::alloc::AllocError;
 
@@ -32,19 +32,6 @@ pub(crate) fn player(bytes: &[u8]) -> Result<(Player, &[u8]), TokenFault>
         (0, rest) => Ok((Player::Even, rest)),
         (1, rest) => Ok((Player::Odd, rest)),
         _ => Err(unexpected(bytes)),
-    }
-}
-
-/// The player in front, by a short number.
-#[inline(always)]
-fn short_player(bytes: &[u8]) -> Option<(Player, &[u8])>
-    ensures { IfSome result (λ x. owner_at bytes.now ≡ Ok (x.0, x.1.now)) }
-{
-    let (number, taken) = short_number(bytes);
-    match number {
-        0 if taken > 0 => Some((Player::Even, &bytes[taken..])),
-        1 if taken > 0 => Some((Player::Odd, &bytes[taken..])),
-        _ => None,
     }
 }
 
@@ -150,22 +137,20 @@ fn is_end(bytes: &[u8]) -> bool
     }
 }
 
-/// One or more successors with commas between, of short numbers and without white space, in the place of what the list
-/// held. Repeats may be left out, and the order may change.
+/// One or more successors with commas between and no white space ahead of these, in the place of what the list held: what
+/// `successors` gives, where this function gives something. Repeats may be left out, and the order may change.
 #[tactic(auto, unfolding(crate::specs::Mirrors::GameScan::successors_at, crate::specs::Mirrors::Parts::numbers_at))]
 #[inline(always)]
-fn short_successors<'a>(list: &mut Vec<u32>, bytes: &'a [u8]) -> Option<&'a [u8]>
+fn plain_successors<'a>(list: &mut Vec<u32>, bytes: &'a [u8]) -> Option<&'a [u8]>
     ensures { IfSome result (λ rest. successors_at bytes.now ≡ Ok (rising list.new.items, rest.now)) }
 {
-    let (first, taken) = short_number(bytes);
-    if taken == 0 {
+    let Ok((first, mut rest)) = natural(bytes) else {
         return None;
-    }
+    };
     list.clear();
     let Ok(()) = list.push(first) else {
         return None;
     };
-    let mut rest = &bytes[taken..];
     'successors: loop {
         let Some(after) = after_first(b',', rest) else {
             if is_end(rest) {
@@ -173,36 +158,34 @@ fn short_successors<'a>(list: &mut Vec<u32>, bytes: &'a [u8]) -> Option<&'a [u8]
             }
             return None;
         };
-        let (number, taken) = short_number(after);
-        if taken == 0 {
+        let Ok((number, after)) = natural(after) else {
             return None;
-        }
+        };
         let Ok(()) = make_room(list) else {
             return None;
         };
         let Ok(()) = list.push(number) else {
             return None;
         };
-        rest = &after[taken..];
+        rest = after;
     }
 }
 
-/// A line of short numbers: what `item` gives, where it gives a line and this function does.
+/// A line as programs print it: what `item` gives, where it gives a line and this function does.
 #[inline(always)]
-fn short_line<'a>(buffer: &mut Vec<u32>, bytes: &'a [u8]) -> Option<(TextLine<'a>, &'a [u8])>
+fn plain_line<'a>(buffer: &mut Vec<u32>, bytes: &'a [u8]) -> Option<(TextLine<'a>, &'a [u8])>
     ensures { IfSome result (λ x. counted_item_at bytes.now ≡ Ok (item (counted (line_seen buffer.new.items x.0)), x.1.now)) }
 {
-    let (identifier, taken) = short_number(bytes);
-    if taken == 0 {
+    let Ok((identifier, rest)) = natural(bytes) else {
         return None;
-    }
-    let rest = &bytes[taken..];
-    let (priority, taken) = short_number(rest);
-    if taken == 0 {
+    };
+    let Ok((priority, rest)) = natural(rest) else {
         return None;
-    }
-    let (owner, rest) = short_player(&rest[taken..])?;
-    let rest = short_successors(buffer, rest)?;
+    };
+    let Ok((owner, rest)) = player(rest) else {
+        return None;
+    };
+    let rest = plain_successors(buffer, rest)?;
     let line = TextLine {
         identifier,
         priority,
@@ -226,7 +209,7 @@ pub(crate) fn item<'a>(
 ) -> Result<(Option<TextLine<'a>>, &'a [u8]), Refusal>
     ensures { Gives (λ x. (counted_step (item_seen buffer.new.items x.0), x.1.now)) result (counted_item_at bytes.now) }
 {
-    match short_line(buffer, bytes) {
+    match plain_line(buffer, bytes) {
         Some((line, rest)) => Ok((Some(line), rest)),
         None => any_item(buffer, bytes),
     }
