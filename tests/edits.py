@@ -34,6 +34,7 @@ FUNCTION = re.compile(r"(    )?(?:pub(?:\(\w+\))? )?(?:const )?(?:extern \"C\" )
 OPEN = re.compile(r"note: (src/\S+?):(\d+):\d+: it is not proved that")
 BROKEN = re.compile(r"(?:\./)?proofs/(\S+?)\.antt:\d+:\d+: error: (?:`([^`]*)`: )?(.*)")
 MISSED = re.compile(r"has no field|is not in scope|has no `|was not admitted")
+CALLEES = re.compile(r"which (?:is|are) not proved")
 HOLE = """use Rattle.{crate}.proofs.{path}.Statement.{{statement}}
 
 pub {name}_spec : {{M : Type 1}} → statement M
@@ -184,7 +185,7 @@ class Copy:
             return REFUSED
         if broken:
             return f"{function}: its proof only misses names that the edit took away ({broken[0][:120]})"
-        return WAITS if "which is not proved" in verdict[1] else f"{function}: {verdict[1][:200]}"
+        return WAITS if CALLEES.search(verdict[1]) else f"{function}: {verdict[1][:200]}"
 
     def is_open(self, function, said):
         """Whether a goal of the function isn't proved."""
