@@ -222,10 +222,6 @@ module _ (bs : BoundList) (steps : List ℕ) (bounds : AreBounds bs) (ladder : I
   pub high_is : (r high : ℕ) → r ≤ length steps → IsHigh steps p r high → CoversUnder bs steps p r (Some high)
   high_is r high list is k = (high_covers r high list is k, high_only r high list is k)
 
-  -- top covers all
-  pub top_is : (r : ℕ) → length steps < r → CoversUnder bs steps p r None
-  top_is r lt k = (λ u. subst (λ m. Covers bs p m (rank_measure bs steps k)) (sym (rank_top bs steps r lt)) tt, λ covers. tt)
-
   -- ranks compare as their measures do
   pub rank_at_most : (i j : ℕ) → i ≤ j → AtMost (rank_measure bs steps i) (rank_measure bs steps j)
   rank_at_most i j le = elim (cases_lt (length steps) j) [

@@ -120,9 +120,6 @@ module _ (bs : BoundList) (p n : ℕ) (falls : AreFalling bs) where
   pub not_bounded : (w : ℕ) → w ≡ width_from bs p → ((get_or bs (w - 1) (0, 0)).0 ≡ p → ⊥) → IsBounded bs p n → ⊥
   not_bounded w is other a = other (read w is a).0
 
-  pub none_bounded : width_from bs p ≡ 0 → IsBounded bs p n → ⊥
-  none_bounded none a = let e = (stands a).2 in omega arith
-
 -- the rows are within the bounds
 
 module _ (bs : BoundList) (steps counts : List ℕ) (bounds : AreBounds bs) (are : AreCounts bs steps counts) where
