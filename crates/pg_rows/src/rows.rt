@@ -3,7 +3,7 @@
 //! A node is its parent's row with one more component above 0, at a lesser priority. Equal rows are one node, so that rows are
 //! compared by a walk to where their ways part; zeros are the root and cost nothing.
 
-use crate::numbers::{at, count, item, put};
+use crate::numbers::{at, count, put};
 use std::alloc::{AllocError, Global};
 
 /// In place of a row: top.
@@ -63,7 +63,11 @@ impl Rows {
 
     #[inline(always)]
     pub fn node(&self, row: u32) -> Node {
-        item(&self.nodes, row, Node::ROOT)
+        if (row as usize) < self.nodes.len() {
+            self.nodes[row as usize]
+        } else {
+            Node::ROOT
+        }
     }
 
     /// The row with all components of lesser priorities set to 0.

@@ -1,7 +1,7 @@
 //! The game as one player sees it, for whom it wants the least map: that player is called the winner, since all is about the
 //! vertices that the player wins.
 
-use crate::numbers::{NONE, at, count, item};
+use crate::numbers::{NONE, at, count};
 use crate::rows::{Rows, TOP, ZEROS};
 use pg_winners::Graph;
 use std::alloc::{AllocError, Global};
@@ -94,7 +94,11 @@ impl<'a> Side<'a> {
 
     #[inline(always)]
     pub fn state(&self, v: u32) -> State {
-        item(&self.states, v, State::NOWHERE)
+        if (v as usize) < self.states.len() {
+            self.states[v as usize]
+        } else {
+            State::NOWHERE
+        }
     }
 
     #[inline(always)]
