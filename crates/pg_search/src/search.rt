@@ -17,31 +17,39 @@ pub fn find(
     choices: &[u32],
     vertices: &[u32],
 ) -> Result<Option<Vec<RowClaim>>, AllocError> {
-    let is_least = side.lift(alloc)?;
-    if !is_least {
-        if side.has_no_choice(vertices) {
-            side.clear(alloc, vertices)?;
-            let mut ways = Some(Ways::new(alloc, side.len())?);
-            let is_shown = set_exactly(side, alloc, vertices, &mut ways)?;
-            if let Some(ways) = ways
-                && is_shown
-            {
-                return Ok(Some(ways.into_claims()));
-            }
-            side.clear(alloc, vertices)?;
-        }
-        descend(side, alloc, choices, vertices)?;
+    if side.lift(alloc)? {
+        return finish(side, alloc, vertices, true);
     }
-    finish(side, alloc, vertices, is_least)
+    let is_swept = sweep(side, alloc, choices, vertices)?;
+    if side.has_no_choice(vertices) {
+        // the map of the strategy is the least one then
+        if is_swept {
+            return finish(side, alloc, vertices, true);
+        }
+        side.clear(alloc, vertices)?;
+        let mut ways = Some(Ways::new(alloc, side.len())?);
+        let is_shown = set_exactly(side, alloc, vertices, &mut ways)?;
+        if let Some(ways) = ways
+            && is_shown
+        {
+            return Ok(Some(ways.into_claims()));
+        }
+        side.clear(alloc, vertices)?;
+    }
+    if !is_swept {
+        set_exactly(side, alloc, vertices, &mut None)?;
+    }
+    lower(side, alloc, vertices)?;
+    finish(side, alloc, vertices, false)
 }
 
-/// Sets the map of the winner's strategy, and lowers it.
-fn descend(
+/// Sets the map of the winner's strategy by sweeps; false where that is left.
+fn sweep(
     side: &mut Side<'_>,
     alloc: Global,
     choices: &[u32],
     vertices: &[u32],
-) -> Result<(), AllocError> {
+) -> Result<bool, AllocError> {
     let mut places = vec![in alloc; NONE; side.len() as usize]?;
     for (place, v) in vertices.iter().enumerate() {
         put(&mut places, *v, count(place));
@@ -49,9 +57,11 @@ fn descend(
             side.set_to(*v, at(choices, *v));
         }
     }
-    if !side.sweep(alloc, vertices, &places)? {
-        set_exactly(side, alloc, vertices, &mut None)?;
-    }
+    side.sweep(alloc, vertices, &places)
+}
+
+/// Lowers the map of a strategy.
+fn lower(side: &mut Side<'_>, alloc: Global, vertices: &[u32]) -> Result<(), AllocError> {
     let mut waiting = Vec::new(alloc);
     for v in vertices {
         if !side.state(*v).is_mine() {
