@@ -155,12 +155,16 @@ pub refuses_none : (highest : ℕ) (held : Option SessionValue) (bytes : List �
 refuses_none highest held bytes fault why is all long short stream =
     elim (memory_or fault) [
       | inl memory ↦ inl (is ∙ ap own_fault memory)
-      | inr other ↦ inr (inl (fault, is ∙ other.1, record {
-        of_bytes = (other.0, stream.0, stream.1);
-        none = λ f s. elim (all f s) [ inl ok ↦ absurd cc | inr memory ↦ other.0 (fault_is fault wire.OutOfMemory memory) ];
-        too_long = (λ e. long.0 (ap failed e), λ t. fault_is fault wire.TooLong (long.1 t));
-        truncated = (λ e. short.0 (ap failed e), λ t. fault_is fault wire.Truncated (short.1 t));
-      }))
+      | inr other ↦ inr (inl (
+        fault,
+        is ∙ other.1,
+        record {
+          of_bytes = (other.0, stream.0, stream.1);
+          none = λ f s. elim (all f s) [ inl ok ↦ absurd cc | inr memory ↦ other.0 (fault_is fault wire.OutOfMemory memory) ];
+          too_long = (λ e. long.0 (ap failed e), λ t. fault_is fault wire.TooLong (long.1 t));
+          truncated = (λ e. short.0 (ap failed e), λ t. fault_is fault wire.Truncated (short.1 t));
+        },
+      ))
     ]
 
 -- what `encode` refuses
