@@ -23,7 +23,7 @@ import families  # noqa: E402
 CASES = """
 few 1000000 100
 few 1000000 1000
-ring 20000 65536
+ring 60000 65536
 few 100000 65536
 few 100000 1000
 lists 1024 0
