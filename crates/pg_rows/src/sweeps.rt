@@ -20,8 +20,8 @@ fn take(places: &mut [u64], word: u32) -> u32 {
 }
 
 impl Side<'_> {
-    /// The rows of some vertices under the winner's strategy, from rows that are at most those; false where that takes more than two lifts
-    /// for each vertex, or too many looks. The places are those in the list.
+    /// The rows of some vertices under the winner's strategy, from rows that are at most those; false where that takes more than five lifts
+    /// for four vertices, or too many looks. The places are those in the list.
     pub fn sweep(
         &mut self,
         alloc: Global,
@@ -30,7 +30,7 @@ impl Side<'_> {
     ) -> Result<bool, AllocError> {
         let mut open = vec![in alloc; u64::MAX; vertices.len() / 64 + 1]?;
         let words = count(open.len());
-        let mut lifts = vertices.len().saturating_mul(2);
+        let mut lifts = vertices.len().saturating_add(vertices.len() / 4);
         let size = u64::from(self.graph.edges()).saturating_add(u64::from(self.len()));
         let most = self.looks.saturating_add(size.saturating_mul(LOOKS));
         let mut first = 0;

@@ -38,6 +38,9 @@ struct Member {
     need: u32,
     to: u32,
     standing: Standing,
+    is_mine: bool,
+    /// Whether it has the level's priority.
+    is_head: bool,
 }
 
 impl Member {
@@ -48,6 +51,8 @@ impl Member {
         need: 0,
         to: NONE,
         standing: Standing::Done,
+        is_mine: false,
+        is_head: false,
     };
 }
 
@@ -109,9 +114,9 @@ impl Leveling<'_> {
             let class = side.rows.cut(side.row(it.vertex), level.saturating_add(1));
             if is_marked(self.is_settled, it.vertex) {
                 self.known.push(*it)?;
-                self.reach(it.vertex, class, Standing::Known)?;
+                self.reach(side, it.vertex, class, Standing::Known)?;
             } else {
-                self.reach(it.vertex, class, Standing::Rises)?;
+                self.reach(side, it.vertex, class, Standing::Rises)?;
             }
         }
         self.known
@@ -120,11 +125,20 @@ impl Leveling<'_> {
     }
 
     /// Takes a vertex in.
-    fn reach(&mut self, v: u32, class: u32, standing: Standing) -> Result<(), AllocError> {
+    fn reach(
+        &mut self,
+        side: &Side,
+        v: u32,
+        class: u32,
+        standing: Standing,
+    ) -> Result<(), AllocError> {
+        let state = side.state(v);
         let member = Member {
             level: self.level,
             class,
             standing,
+            is_mine: state.is_mine(),
+            is_head: state.priority() == self.level,
             ..Member::NOWHERE
         };
         put(&mut self.members, v, member);
@@ -139,6 +153,7 @@ impl Leveling<'_> {
             let Some(w) = self.reached.get(place).copied() else {
                 break;
             };
+            side.look_ahead(&self.reached, place);
             let class = self.member(w).class;
             for v in side.predecessors(w) {
                 let state = side.state(*v);
@@ -148,7 +163,7 @@ impl Leveling<'_> {
                     && self.member(*v).level != self.level
                     && !is_marked(self.is_settled, *v)
                 {
-                    self.reach(*v, class, Standing::Loose)?;
+                    self.reach(side, *v, class, Standing::Loose)?;
                 }
             }
         }
@@ -182,7 +197,7 @@ impl Leveling<'_> {
             if member.standing == Standing::Loose {
                 self.loose.push(v)?;
             }
-            let leads_out = side.state(v).is_mine() && outside != NONE;
+            let leads_out = member.is_mine && outside != NONE;
             if leads_out {
                 side.set_to(v, outside);
             }
@@ -196,7 +211,7 @@ impl Leveling<'_> {
     /// Gives a vertex the value; one of the level's priority has it a round later.
     fn give(&mut self, side: &mut Side, v: u32) -> Result<(), AllocError> {
         let mut member = self.member(v);
-        if member.standing == Standing::Rises && side.state(v).priority() == self.level {
+        if member.standing == Standing::Rises && member.is_head {
             member.standing = Standing::Due;
             put(&mut self.members, v, member);
             self.later.push(v)?;
@@ -236,10 +251,11 @@ impl Leveling<'_> {
 
     /// Gives the value to what the winner comes from to what has it.
     fn spread(&mut self, side: &mut Side) -> Result<(), AllocError> {
-        for _ in 0..u64::MAX {
-            let Some(w) = self.fresh.pop() else {
+        for place in 0..usize::MAX {
+            let Some(w) = self.fresh.get(place).copied() else {
                 break;
             };
+            side.look_ahead(&self.fresh, place);
             let class = self.member(w).class;
             for v in side.predecessors(w) {
                 let Some(mut member) = self.left(*v, class) else {
@@ -248,7 +264,7 @@ impl Leveling<'_> {
                 if member.standing == Standing::Known || member.standing == Standing::Due {
                     continue;
                 }
-                if side.state(*v).is_mine() {
+                if member.is_mine {
                     side.set_to(*v, w);
                     self.give(side, *v)?;
                     continue;
@@ -260,6 +276,7 @@ impl Leveling<'_> {
                 }
             }
         }
+        self.fresh.clear();
         Ok(())
     }
 
@@ -271,11 +288,10 @@ impl Leveling<'_> {
             };
             let class = self.member(w).class;
             for v in side.predecessors(w) {
-                let state = side.state(*v);
                 if let Some(mut member) = self.left(*v, class)
                     && member.standing == Standing::Rises
-                    && state.priority() != self.level
-                    && (state.is_mine() || member.to == w)
+                    && !member.is_head
+                    && (member.is_mine || member.to == w)
                 {
                     member.standing = Standing::Loose;
                     put(&mut self.members, *v, member);
@@ -347,7 +363,7 @@ impl Leveling<'_> {
                 Some(_) => member.to = *w,
             }
         }
-        if !side.state(v).is_mine() {
+        if !member.is_mine {
             member.need = (member.to == NONE) as u32;
         }
         put(&mut self.members, v, member);

@@ -151,6 +151,19 @@ impl Graph {
         at(&self.priorities, v)
     }
 
+    /// Numbers the priorities of a part, which is given by rising priority, without gaps and from 0 or 1 on: where neighbours have one
+    /// parity they have one number. Gives the first number that none has.
+    pub(crate) fn compress(&self, part: &[u32], numbers: &mut [u32]) -> u32 {
+        let mut number = 0u32;
+        for v in part {
+            if self.priority(*v) % 2 != number % 2 {
+                number = number.saturating_add(1);
+            }
+            put(numbers, *v, number);
+        }
+        number.saturating_add(1)
+    }
+
     /// The owner of a vertex: 0 is Even, 1 is Odd.
     #[inline(always)]
     pub fn owner(&self, v: u32) -> u32 {

@@ -77,19 +77,15 @@ impl Improvement {
 
     /// Begins with a part, which is given by rising priority: Even stops everywhere.
     pub fn begin(&mut self, graph: &Graph, table: &Table, part: &[u32]) {
-        let mut leaf = 0u32;
+        let leaves = graph.compress(part, &mut self.leaves);
         for v in part {
-            if graph.priority(*v) % 2 != leaf % 2 {
-                leaf = leaf.saturating_add(1);
-            }
             let choice = table.first_from(graph.successors(*v), WAITING);
-            put(&mut self.leaves, *v, leaf);
             put(&mut self.choices, *v, choice.unwrap_or(NONE));
             put(&mut self.passes, *v, 0);
         }
         self.half = 0;
         for bit in 0..u32::BITS {
-            if leaf >> bit != 0 {
+            if leaves.saturating_sub(1) >> bit != 0 {
                 self.half = 1 << bit;
             }
         }

@@ -10,6 +10,7 @@ mod lists;
 mod played;
 mod recursion;
 mod solver;
+mod succinct;
 mod table;
 mod winners;
 
