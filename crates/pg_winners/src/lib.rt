@@ -8,6 +8,7 @@ mod graph;
 mod improvement;
 mod lists;
 mod played;
+mod promotion;
 mod recursion;
 mod solver;
 mod succinct;
