@@ -383,6 +383,21 @@ def looks(a, b, dice):
     yield from laid(1, cells, a)
 
 
+def regions(a, b, dice):
+    """a layers, found by a search for games whose winners recursion, fixpoint iteration and strategy improvement find late"""
+    cells = [(3, 0, 0, True, [(6, 0)]),
+             (8, 1, 1, False, [(9, -1), (0, FIRST), (7, 1)]),
+             (5, 0, 0, False, [(5, 1), (3, -1)]),
+             (2, -2, 0, True, [(2, 1), (0, 1), (7, FIRST), (2, 0)]),
+             (10, 4, 0, False, [(6, -1), (9, 0), (8, 0)]),
+             (17, 4, 0, False, [(3, 0), (4, 1), (4, FIRST), (6, 0)]),
+             (0, -2, 1, False, [(7, 0), (2, 0)]),
+             (11, -2, 1, False, [(4, FIRST), (7, -1), (3, 0), (2, 0)]),
+             (8, -2, 1, False, [(4, 0), (4, 1), (3, 0)]),
+             (18, 4, 1, False, [(5, FIRST), (1, FIRST), (5, -1), (3, 1)])]
+    yield from laid(2, cells, a)
+
+
 def lists(a, b, dice):
     """a layers, found by a search for games whose measures have many components"""
     cells = [(2, 2, 0, False, [(2, 1)]),
@@ -440,7 +455,7 @@ def switches(a, b, dice):
 
 FAMILIES = {it.__name__: it for it in (settled, climb, climbers, jurdzinski, ladder, clique, recladder, elevator, sparse, random,
                                        chain, grid, wide, hubs, loops, repeats, hard, priorities, steps, spread, two_ladders,
-                                       maze, flat_hub, rising_hub, friedmann, twice, path, memory, budget, even, rounds, looks,
+                                       maze, flat_hub, rising_hub, friedmann, twice, path, memory, budget, even, rounds, looks, regions,
                                        lists, gadget, ring, few, switches)}
 
 # those that Even wins without a choice

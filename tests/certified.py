@@ -35,6 +35,8 @@ rounds 34 0
 rounds 256 0
 looks 112 0
 looks 256 0
+regions 96 0
+regions 192 0
 settled 50000 4
 climb 7 8
 climbers 20 500
