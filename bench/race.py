@@ -57,6 +57,7 @@ priorities 65536 1024
 priorities 65536 32768
 priorities 700000 128
 friedmann 100 0
+regions 192 0
 memory 5120 0
 maze 1280 5
 budget 200 0

@@ -1,6 +1,6 @@
-//! Lifting from zeros on the winner's region, as long as that looks short.
+//! Lifting from zeros, as long as that looks short.
 
-use crate::rows::{TOP, ZEROS};
+use crate::rows::ZEROS;
 use crate::side::Side;
 use std::alloc::{AllocError, Global};
 use std::mem;
@@ -15,7 +15,7 @@ impl Side<'_> {
     /// Lifts until nothing waits any more; false where it is left, since it looks as if that took long: many vertices count along, or few
     /// climb for long.
     pub fn lift(&mut self, alloc: Global) -> Result<bool, AllocError> {
-        let vertices = (0..self.len()).filter(|v| self.row(*v) != TOP).count();
+        let vertices = self.len() as usize;
         let edges = u64::from(self.graph.edges());
         let most = edges.saturating_mul(LOOKS).saturating_add(LOOKS_OF_FEW);
         let mut waiting = Vec::new(alloc);
@@ -79,8 +79,7 @@ impl Side<'_> {
         let row = self.row(w);
         for v in self.predecessors(w) {
             let state = self.state(*v);
-            if state.row == TOP
-                || state.is_mine() && state.to != w
+            if state.is_mine() && state.to != w
                 || self.rows.serves(state.row, row, state.priority())
             {
                 continue;
@@ -105,9 +104,6 @@ impl Side<'_> {
         let mut least = (state.to, row);
         for w in self.successors(v) {
             let there = self.row(*w);
-            if there == TOP {
-                continue;
-            }
             if self.rows.serves(state.row, there, state.priority()) {
                 self.set_to(v, *w);
                 return None;

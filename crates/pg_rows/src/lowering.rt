@@ -1,7 +1,7 @@
 //! Lowering of a closed map where successors give less.
 
 use crate::numbers::NONE;
-use crate::rows::{TOP, ZEROS};
+use crate::rows::ZEROS;
 use crate::side::Side;
 use std::alloc::{AllocError, Global};
 
@@ -27,7 +27,7 @@ impl Side<'_> {
         let row = self.row(v);
         for u in self.predecessors(v) {
             let state = self.state(*u);
-            if state.row == TOP || state.row == ZEROS {
+            if state.row == ZEROS {
                 continue;
             }
             if state.is_mine() {

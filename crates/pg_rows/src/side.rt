@@ -1,8 +1,7 @@
-//! The game as one player sees it, for whom it wants the least map: that player is called the winner, since all is about the
-//! vertices that the player wins.
+//! What one player wins, as that player sees it, for whom it wants the least map: that player is called the winner.
 
 use crate::numbers::{NONE, at, count};
-use crate::rows::{Rows, TOP, ZEROS};
+use crate::rows::{Rows, ZEROS};
 use pg_winners::Graph;
 use std::alloc::{AllocError, Global};
 
@@ -23,7 +22,7 @@ const MINE: u32 = 1;
 impl State {
     /// Past the last vertex.
     const NOWHERE: State = State {
-        row: TOP,
+        row: ZEROS,
         key: 0,
         to: NONE,
     };
@@ -39,7 +38,8 @@ impl State {
     }
 }
 
-/// The map of one player. On the side of Odd priorities are raised by one, so that those of the winner are even on both.
+/// The map of one player, on a graph of the vertices that it wins. On the side of Odd priorities are raised by one, so that those of the
+/// winner are even on both.
 #[derive(Drop)]
 pub struct Side<'a> {
     pub graph: &'a Graph,
@@ -55,12 +55,11 @@ pub struct Side<'a> {
 }
 
 impl<'a> Side<'a> {
-    /// Zeros on the vertices that the player wins, top elsewhere; and what is chosen at the player's vertices.
+    /// Zeros everywhere, and what is chosen at the player's vertices.
     pub fn new(
         alloc: Global,
         graph: &'a Graph,
         player: u32,
-        vertices: &[u32],
         choices: &[u32],
         most: u64,
     ) -> Result<Side<'a>, AllocError> {
@@ -69,12 +68,12 @@ impl<'a> Side<'a> {
             let is_mine = graph.owner(v) == player;
             let priority = graph.priority(v).saturating_add(player);
             states.push(State {
-                row: TOP,
+                row: ZEROS,
                 key: priority.saturating_mul(4) | is_mine as u32,
                 to: if is_mine { at(choices, v) } else { NONE },
             })?;
         }
-        let mut side = Side {
+        Ok(Side {
             graph,
             rows: Rows::new(alloc)?,
             states,
@@ -82,9 +81,7 @@ impl<'a> Side<'a> {
             looks: 0,
             most,
             seen: 0,
-        };
-        side.clear(alloc, vertices)?;
-        Ok(side)
+        })
     }
 
     /// How many vertices there are.
@@ -183,21 +180,26 @@ impl<'a> Side<'a> {
         self.looks > self.most
     }
 
-    /// Forgets the rows of some vertices.
-    pub fn clear(&mut self, alloc: Global, vertices: &[u32]) -> Result<(), AllocError> {
+    /// Forgets all rows.
+    pub fn clear(&mut self, alloc: Global) -> Result<(), AllocError> {
         self.rows = Rows::new(alloc)?;
-        for v in vertices {
-            self.set_row(*v, ZEROS);
+        for v in 0..self.len() {
+            self.set_row(v, ZEROS);
         }
         Ok(())
     }
 
-    /// Whether the winner has one way at most to stay in the region, at each of some vertices.
-    pub fn has_no_choice(&self, vertices: &[u32]) -> bool {
-        vertices.iter().all(|v| {
-            let successors = self.graph.successors(*v);
-            let stays = successors.iter().filter(|w| self.row(**w) != TOP);
-            !self.state(*v).is_mine() || stays.count() <= 1
-        })
+    /// Lets the winner choose as given.
+    pub fn choose(&mut self, choices: &[u32]) {
+        for v in 0..self.len() {
+            if self.state(v).is_mine() {
+                self.set_to(v, at(choices, v));
+            }
+        }
+    }
+
+    /// Whether the winner has one way at most to stay among what it wins, at each vertex.
+    pub fn has_no_choice(&self) -> bool {
+        (0..self.len()).all(|v| !self.state(v).is_mine() || self.graph.successors(v).len() <= 1)
     }
 }

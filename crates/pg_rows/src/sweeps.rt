@@ -1,36 +1,32 @@
-//! The map of a winning strategy on some vertices, by sweeps through an order in which edges mostly lead to places before.
+//! The map of a winning strategy, by sweeps through the vertices, which are numbered so that edges mostly lead to lesser numbers.
 
-use crate::numbers::{NONE, at, count};
+use crate::numbers::{NONE, count};
 use crate::side::Side;
 use std::alloc::{AllocError, Global};
 
 /// How often sweeps may look at each vertex and edge.
 const LOOKS: u64 = 8;
 
-/// Takes the first place of a word of places, a bit for each; or `NONE`.
+/// Takes the first vertex of a word of vertices, a bit for each; or `NONE`.
 #[inline(always)]
-fn take(places: &mut [u64], word: u32) -> u32 {
-    if word as usize >= places.len() || places[word as usize] == 0 {
+fn take(open: &mut [u64], word: u32) -> u32 {
+    if word as usize >= open.len() || open[word as usize] == 0 {
         return NONE;
     }
-    let bits = places[word as usize];
-    places[word as usize] = bits & bits.wrapping_sub(1);
+    let bits = open[word as usize];
+    open[word as usize] = bits & bits.wrapping_sub(1);
     word.saturating_mul(64)
         .saturating_add(bits.trailing_zeros())
 }
 
 impl Side<'_> {
-    /// The rows of some vertices under the winner's strategy, from rows that are at most those; false where that takes more than five lifts
-    /// for four vertices, or too many looks. The places are those in the list.
-    pub fn sweep(
-        &mut self,
-        alloc: Global,
-        vertices: &[u32],
-        places: &[u32],
-    ) -> Result<bool, AllocError> {
-        let mut open = vec![in alloc; u64::MAX; vertices.len() / 64 + 1]?;
+    /// The rows under the winner's strategy, from rows that are at most those; false where that takes more than five lifts for four
+    /// vertices, or too many looks.
+    pub fn sweep(&mut self, alloc: Global) -> Result<bool, AllocError> {
+        let vertices = self.len();
+        let mut open = vec![in alloc; u64::MAX; (vertices / 64 + 1) as usize]?;
         let words = count(open.len());
-        let mut lifts = vertices.len().saturating_add(vertices.len() / 4);
+        let mut lifts = vertices.saturating_add(vertices / 4);
         let size = u64::from(self.graph.edges()).saturating_add(u64::from(self.len()));
         let most = self.looks.saturating_add(size.saturating_mul(LOOKS));
         let mut first = 0;
@@ -38,9 +34,8 @@ impl Side<'_> {
             let mut again = words;
             for word in first..words {
                 for _ in 0..u64::MAX {
-                    let place = take(&mut open, word);
-                    let v = at(vertices, place);
-                    if v == NONE {
+                    let v = take(&mut open, word);
+                    if v >= vertices {
                         break;
                     }
                     if !self.lift_by_strategy(v)? {
@@ -50,7 +45,7 @@ impl Side<'_> {
                         return Ok(false);
                     }
                     lifts -= 1;
-                    again = again.min(self.open_predecessors(v, place, places, &mut open));
+                    again = again.min(self.open_predecessors(v, &mut open));
                 }
             }
             if again == words {
@@ -75,19 +70,18 @@ impl Side<'_> {
         Ok(row != state.row)
     }
 
-    /// Opens the places of what leads to a vertex. Gives the first word of places that aren't behind its own.
-    fn open_predecessors(&mut self, v: u32, place: u32, places: &[u32], open: &mut [u64]) -> u32 {
+    /// Opens what leads to a vertex. Gives the first word of what isn't behind it.
+    fn open_predecessors(&mut self, v: u32, open: &mut [u64]) -> u32 {
         let mut again = NONE;
         for u in self.predecessors(v) {
-            let there = at(places, *u);
             let state = self.state(*u);
-            let word = (there / 64) as usize;
+            let word = (*u / 64) as usize;
             if word >= open.len() || state.is_mine() && state.to != v {
                 continue;
             }
-            open[word] |= 1 << (there % 64);
-            if there <= place {
-                again = again.min(there / 64);
+            open[word] |= 1 << (*u % 64);
+            if *u <= v {
+                again = again.min(*u / 64);
             }
         }
         again

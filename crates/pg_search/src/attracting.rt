@@ -1,6 +1,6 @@
 //! Claims that lead to earlier ones alone.
 
-use pg_rows::{NONE, RowClaim, Side, TOP, ZEROS, at, is_marked, put};
+use pg_rows::{NONE, RowClaim, Side, ZEROS, at, is_marked, put};
 use std::alloc::{AllocError, Global};
 
 #[derive(Drop)]
@@ -37,7 +37,7 @@ impl Attracting<'_> {
                 let row = side.row(*w);
                 if side.is_late() && side.rows.is_under(row, low) {
                     left = NONE;
-                } else if row != TOP {
+                } else {
                     left = left.saturating_add(1);
                 }
             }
@@ -70,12 +70,11 @@ impl Attracting<'_> {
     }
 }
 
-/// Claims of the rows of some vertices that lead to earlier ones alone, in their order. What isn't claimed isn't settled any more. No
-/// vertex is claimed that could be lowered: there are none but where lowering was cut short.
+/// Claims of rows that lead to earlier ones alone, in their order. What isn't claimed isn't settled any more. No vertex is claimed that
+/// could be lowered: there are none but where lowering was cut short.
 pub fn attract(
     side: &mut Side<'_>,
     alloc: Global,
-    vertices: &[u32],
     is_settled: &mut [bool],
 ) -> Result<Vec<RowClaim>, AllocError> {
     let mut attracting = Attracting {
@@ -83,8 +82,8 @@ pub fn attract(
         left: vec![in alloc; 0; side.len() as usize]?,
         order: Vec::new(alloc),
     };
-    for v in vertices {
-        attracting.begin(side, *v)?;
+    for v in 0..side.len() {
+        attracting.begin(side, v)?;
     }
     for place in 0..usize::MAX {
         let Some(w) = attracting.order.get(place).copied() else {

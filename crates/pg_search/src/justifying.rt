@@ -11,7 +11,7 @@ use crate::asked::{Asked, Levels};
 use crate::attracting::attract;
 use crate::board::{Board, FIRST, LOST, WON};
 use crate::leveling::set_by_levels;
-use pg_rows::{NONE, RowClaim, Side, TOP, ZEROS, at, count, is_marked, put};
+use pg_rows::{NONE, RowClaim, Side, ZEROS, at, count, is_marked, put};
 use std::alloc::{AllocError, Global};
 
 /// In place of a level: all of them, in the game of own rows.
@@ -32,10 +32,10 @@ struct Justifying {
 }
 
 impl Justifying {
-    /// What a claim needs of a successor: nothing of one that is at top or settled, or that hasn't such a row.
+    /// What a claim needs of a successor: nothing of one that is settled, or that hasn't such a row.
     fn need(&self, side: &Side, w: u32, low: u32) -> Option<Asked> {
         let row = side.row(w);
-        if row == TOP || is_marked(&self.is_settled, w) || side.rows.is_under(row, low) {
+        if is_marked(&self.is_settled, w) || side.rows.is_under(row, low) {
             return None;
         }
         Some(Asked {
@@ -135,17 +135,12 @@ impl Justifying {
     }
 
     /// Claims of the own rows of the vertices that aren't settled.
-    fn unsettled(
-        &self,
-        alloc: Global,
-        side: &Side,
-        vertices: &[u32],
-    ) -> Result<Vec<Asked>, AllocError> {
+    fn unsettled(&self, alloc: Global, side: &Side) -> Result<Vec<Asked>, AllocError> {
         let mut open = Vec::new(alloc);
-        for v in vertices {
-            if !is_marked(&self.is_settled, *v) {
-                let row = side.row(*v);
-                open.push(Asked { vertex: *v, row })?;
+        for vertex in 0..side.len() {
+            if !is_marked(&self.is_settled, vertex) {
+                let row = side.row(vertex);
+                open.push(Asked { vertex, row })?;
             }
         }
         Ok(open)
@@ -183,22 +178,20 @@ fn is_beyond(side: &Side, asked: Asked, level: u32) -> bool {
     level != ALL && side.rows.node(asked.row).priority != level
 }
 
-/// The least rows of some vertices, those that the winner wins, from a closed map, which may be the least one already; with claims of them.
-/// None where winners aren't found.
+/// The least rows, from a closed map, which may be the least one already; with claims of them. None where winners aren't found.
 pub fn finish(
     side: &mut Side<'_>,
     alloc: Global,
-    vertices: &[u32],
     is_least: bool,
 ) -> Result<Option<Vec<RowClaim>>, AllocError> {
     let mut is_settled = vec![in alloc; true; side.len() as usize]?;
-    let mut order = attract(side, alloc, vertices, &mut is_settled)?;
+    let mut order = attract(side, alloc, &mut is_settled)?;
     let mut justifying = Justifying {
         board: Board::new(alloc, side.len())?,
         is_settled,
         beyond: Vec::new(alloc),
     };
-    let open = justifying.unsettled(alloc, side, vertices)?;
+    let open = justifying.unsettled(alloc, side)?;
     if open.is_empty() {
         return Ok(Some(order));
     }
@@ -210,7 +203,7 @@ pub fn finish(
     for claim in &shown {
         put(&mut justifying.is_settled, claim.vertex, true);
     }
-    let open = justifying.unsettled(alloc, side, vertices)?;
+    let open = justifying.unsettled(alloc, side)?;
     let Justifying {
         board,
         is_settled,
@@ -219,7 +212,7 @@ pub fn finish(
     if !is_least && !set_by_levels(side, alloc, &open, is_settled, board)? {
         return Ok(None);
     }
-    for claim in &justifying.unsettled(alloc, side, vertices)? {
+    for claim in &justifying.unsettled(alloc, side)? {
         levels.ask(side, *claim)?;
     }
     if !justifying.play_levels(alloc, side, &mut levels, &mut order)? {

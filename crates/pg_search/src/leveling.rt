@@ -7,7 +7,7 @@
 
 use crate::asked::{Asked, Levels};
 use crate::board::Board;
-use pg_rows::{NONE, Side, TOP, ZEROS, at, count, is_marked, item, put};
+use pg_rows::{NONE, Side, ZEROS, at, count, is_marked, item, put};
 use std::alloc::{AllocError, Global};
 use std::mem;
 
@@ -46,7 +46,7 @@ struct Member {
 impl Member {
     const NOWHERE: Member = Member {
         level: NONE,
-        class: TOP,
+        class: NONE,
         left: 0,
         need: 0,
         to: NONE,
@@ -479,7 +479,7 @@ pub fn set_by_levels(
         let (vertex, row) = (*vertex, ZEROS);
         levels.put(side.state(vertex).priority(), Asked { vertex, row })?;
         for w in side.successors(vertex) {
-            if is_marked(is_settled, *w) && side.row(*w) != TOP {
+            if is_marked(is_settled, *w) {
                 levels.ask_next(side, Asked { vertex: *w, row })?;
             }
         }

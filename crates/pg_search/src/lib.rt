@@ -12,6 +12,7 @@ mod ladder;
 mod leveling;
 mod one_parity;
 mod proposal;
+mod region;
 mod search;
 mod ways;
 

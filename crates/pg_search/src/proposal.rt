@@ -2,11 +2,12 @@
 
 use crate::ladder::Ladder;
 use crate::one_parity::propose_at_once;
+use crate::region::Region;
 use crate::search::find;
-use pg_arena::{Game, Vertex};
+use pg_arena::{Game, Player, Vertex};
 use pg_claims::{Claim, Claims, Span};
-use pg_rows::{NONE, RowClaim, Side, TOP, at, count, put};
-use pg_winners::{Graph, Winners, find_winners};
+use pg_rows::{NONE, RowClaim, Side, TOP, ZEROS, at, count, put};
+use pg_winners::{Graph, find_winners};
 use std::alloc::{AllocError, Global};
 
 /// A map of ranks in a ladder, which is to be the least one, and claims that are to show it. Nothing is promised of it: who wants to
@@ -39,7 +40,19 @@ pub fn propose_measure(alloc: Global, game: &Game) -> Result<Option<Proposal>, A
     }
     let graph = Graph::of(alloc, game)?;
     let winners = find_winners(alloc, &graph)?;
-    propose_for(alloc, &graph, &winners, 0, true)
+    if !winners.is_ordered {
+        return Ok(None);
+    }
+    let mut tops = Vec::with_capacity(alloc, winners.of_odd.len())?;
+    for v in &winners.of_odd {
+        tops.push(RowClaim {
+            vertex: *v,
+            row: TOP,
+            span: at(&winners.span, *v),
+        })?;
+    }
+    let region = Region::of(alloc, &graph, &winners, Player::Even)?;
+    propose_for(alloc, &graph, &region, tops)
 }
 
 /// The maps of a game and of its dual. Top isn't claimed: it is known from the other map. None where the search gives up.
@@ -49,64 +62,75 @@ pub fn propose(alloc: Global, game: &Game) -> Result<Option<Proposals>, AllocErr
     }
     let graph = Graph::of(alloc, game)?;
     let winners = find_winners(alloc, &graph)?;
-    let Some(of_game) = propose_for(alloc, &graph, &winners, 0, false)? else {
+    if !winners.is_ordered {
+        return Ok(None);
+    }
+    let of_even = Region::of(alloc, &graph, &winners, Player::Even)?;
+    let of_odd = Region::of(alloc, &graph, &winners, Player::Odd)?;
+    drop(winners);
+    let Some(of_game) = propose_for(alloc, &graph, &of_even, Vec::new(alloc))? else {
         return Ok(None);
     };
-    let Some(of_dual) = propose_for(alloc, &graph, &winners, 1, false)? else {
+    drop(of_even);
+    let Some(of_dual) = propose_for(alloc, &graph, &of_odd, Vec::new(alloc))? else {
         return Ok(None);
     };
     Ok(Some(Proposals { of_game, of_dual }))
 }
 
-/// The map of a player: Even is 0, Odd is 1.
+/// The map of a player, which has top outside of its region. Claims of that, if there are any, come first.
 fn propose_for(
     alloc: Global,
-    graph: &Graph,
-    winners: &Winners,
-    player: u32,
-    with_tops: bool,
+    whole: &Graph,
+    region: &Region,
+    tops: Vec<RowClaim>,
 ) -> Result<Option<Proposal>, AllocError> {
-    if !winners.is_ordered {
-        return Ok(None);
-    }
-    let (mine, others) = match player {
-        0 => (&winners.of_even, &winners.of_odd),
-        _ => (&winners.of_odd, &winners.of_even),
-    };
+    let graph = &region.graph;
     let size = u64::from(graph.len()).saturating_add(u64::from(graph.edges()));
     let most = size.saturating_mul(LOOKS).saturating_add(LOOKS_OF_FEW);
-    let mut side = Side::new(alloc, graph, player, mine, &winners.choice, most)?;
-    let mut claims = Vec::new(alloc);
-    if with_tops {
-        for v in others {
-            let span = at(&winners.span, *v);
-            claims.push(RowClaim {
-                vertex: *v,
-                row: TOP,
-                span,
-            })?;
-        }
-    }
-    let Some(found) = find(&mut side, alloc, &winners.choice, mine)? else {
+    let mut side = Side::new(alloc, graph, region.player, &region.choices, most)?;
+    let Some(found) = find(&mut side, alloc, &region.choices)? else {
         return Ok(None);
     };
-    claims.extend_from_slice(&found)?;
-    Ok(Some(write(alloc, &side, &claims)?))
-}
-
-fn write(alloc: Global, side: &Side, claims: &[RowClaim]) -> Result<Proposal, AllocError> {
-    let ladder = Ladder::new(alloc, side)?;
-    let mut ranks = Vec::with_capacity(alloc, side.len() as usize)?;
-    let mut hints = Vec::with_capacity(alloc, side.len() as usize)?;
-    for v in 0..side.len() {
-        let state = side.state(v);
-        ranks.push(ladder.rank(state.row))?;
-        hints.push(match state.priority() % 2 {
-            0 => ladder.hint(&side.rows, state.row, state.priority()),
-            _ => NONE,
+    let mut claims = tops;
+    claims.reserve(found.len())?;
+    for claim in &found {
+        claims.push(RowClaim {
+            vertex: at(&region.vertices, claim.vertex),
+            ..*claim
         })?;
     }
-    let claims = rank_claims(alloc, side, &ladder, claims)?;
+    Ok(Some(write(alloc, whole, region, &side, &claims)?))
+}
+
+fn write(
+    alloc: Global,
+    whole: &Graph,
+    region: &Region,
+    side: &Side,
+    claims: &[RowClaim],
+) -> Result<Proposal, AllocError> {
+    let ladder = Ladder::new(alloc, side)?;
+    let hint = |row: u32, priority: u32| match priority % 2 {
+        0 => ladder.hint(&side.rows, row, priority),
+        _ => NONE,
+    };
+    let mut ranks = Vec::with_capacity(alloc, whole.len() as usize)?;
+    let mut hints = Vec::with_capacity(alloc, whole.len() as usize)?;
+    for v in 0..whole.len() {
+        let is_won = at(&region.numbers, v) != NONE;
+        let row = if is_won { ZEROS } else { TOP };
+        ranks.push(ladder.rank(row))?;
+        hints.push(hint(row, whole.priority(v).saturating_add(region.player)))?;
+    }
+    for (number, v) in region.vertices.iter().enumerate() {
+        let state = side.state(count(number));
+        if state.row != ZEROS {
+            put(&mut ranks, *v, ladder.rank(state.row));
+            put(&mut hints, *v, hint(state.row, state.priority()));
+        }
+    }
+    let claims = rank_claims(alloc, whole, region.player, &ladder, claims)?;
     let Ladder { steps, .. } = ladder;
     Ok(Proposal {
         steps,
@@ -119,11 +143,12 @@ fn write(alloc: Global, side: &Side, claims: &[RowClaim]) -> Result<Proposal, Al
 /// The claims vertex by vertex, with their ranks. Those of one vertex stand in the order in which they rise.
 fn rank_claims(
     alloc: Global,
-    side: &Side,
+    whole: &Graph,
+    player: u32,
     ladder: &Ladder,
     listed: &[RowClaim],
 ) -> Result<Claims, AllocError> {
-    let mut firsts = vec![in alloc; 0; side.len() as usize]?;
+    let mut firsts = vec![in alloc; 0; whole.len() as usize]?;
     for it in listed {
         let many = at(&firsts, it.vertex).wrapping_add(1);
         put(&mut firsts, it.vertex, many);
@@ -154,7 +179,7 @@ fn rank_claims(
     }
     let mut spans = Vec::with_capacity(alloc, listed.len())?;
     for (place, it) in listed.iter().enumerate() {
-        let priority = side.state(it.vertex).priority();
+        let priority = whole.priority(it.vertex).saturating_add(player);
         // what the winner owns may lead to itself, where that is to its harm
         let span = it.span.max(priority % 2);
         let end = count(place).saturating_add(span);

@@ -1,7 +1,7 @@
 //! Graphs with priorities and owners.
 
 use pg_arena::{Game, Player, Vertex};
-use pg_arrange::{Edges, Rows, at, between, count, put};
+use pg_arrange::{Edges, NONE, Rows, at, between, count, put};
 use std::alloc::{AllocError, Global};
 
 /// Vertices with priorities and owners, their successors and their predecessors, row by row. Players have numbers here: Even
@@ -61,6 +61,31 @@ impl Graph {
         let mut rows = Vec::with_capacity(alloc, offsets.len())?;
         for (offset, owner) in offsets.iter().zip(owners) {
             rows.push(row_of(*offset, *owner))?;
+        }
+        rows.push(row_of(count(successors.len()), Player::Even))?;
+        Graph::of_rows(alloc, priorities, rows, successors)
+    }
+
+    /// The graph of some vertices and the edges among them. The vertices are numbered in the order in which they are given; `numbers` has
+    /// these numbers, and `NONE` for all others.
+    pub fn part(
+        &self,
+        alloc: Global,
+        vertices: &[u32],
+        numbers: &[u32],
+    ) -> Result<Graph, AllocError> {
+        let mut priorities = Vec::with_capacity(alloc, vertices.len())?;
+        let mut rows = Vec::with_capacity(alloc, vertices.len().saturating_add(1))?;
+        let mut successors = Vec::new(alloc);
+        for v in vertices {
+            priorities.push(self.priority(*v))?;
+            rows.push(count(successors.len()).saturating_mul(2) | self.owner(*v))?;
+            for w in self.successors(*v) {
+                let number = at(numbers, *w);
+                if number != NONE {
+                    successors.push(number)?;
+                }
+            }
         }
         rows.push(row_of(count(successors.len()), Player::Even))?;
         Graph::of_rows(alloc, priorities, rows, successors)
