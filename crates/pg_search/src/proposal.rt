@@ -52,7 +52,7 @@ pub fn propose_measure(alloc: Global, game: &Game) -> Result<Option<Proposal>, A
         })?;
     }
     let region = Region::of(alloc, &graph, &winners, Player::Even)?;
-    propose_for(alloc, &graph, &region, tops)
+    propose_for(alloc, &graph.into_priorities(), &region, tops)
 }
 
 /// The maps of a game and of its dual. Top isn't claimed: it is known from the other map. None where the search gives up.
@@ -68,20 +68,21 @@ pub fn propose(alloc: Global, game: &Game) -> Result<Option<Proposals>, AllocErr
     let of_even = Region::of(alloc, &graph, &winners, Player::Even)?;
     let of_odd = Region::of(alloc, &graph, &winners, Player::Odd)?;
     drop(winners);
-    let Some(of_game) = propose_for(alloc, &graph, &of_even, Vec::new(alloc))? else {
+    let priorities = graph.into_priorities();
+    let Some(of_game) = propose_for(alloc, &priorities, &of_even, Vec::new(alloc))? else {
         return Ok(None);
     };
     drop(of_even);
-    let Some(of_dual) = propose_for(alloc, &graph, &of_odd, Vec::new(alloc))? else {
+    let Some(of_dual) = propose_for(alloc, &priorities, &of_odd, Vec::new(alloc))? else {
         return Ok(None);
     };
     Ok(Some(Proposals { of_game, of_dual }))
 }
 
-/// The map of a player, which has top outside of its region. Claims of that, if there are any, come first.
+/// The map of a player, which has top outside of its region, in a game of these priorities. Claims of that, if there are any, come first.
 fn propose_for(
     alloc: Global,
-    whole: &Graph,
+    priorities: &[u32],
     region: &Region,
     tops: Vec<RowClaim>,
 ) -> Result<Option<Proposal>, AllocError> {
@@ -100,12 +101,12 @@ fn propose_for(
             ..*claim
         })?;
     }
-    Ok(Some(write(alloc, whole, region, &side, &claims)?))
+    Ok(Some(write(alloc, priorities, region, &side, &claims)?))
 }
 
 fn write(
     alloc: Global,
-    whole: &Graph,
+    priorities: &[u32],
     region: &Region,
     side: &Side,
     claims: &[RowClaim],
@@ -115,13 +116,13 @@ fn write(
         0 => ladder.hint(&side.rows, row, priority),
         _ => NONE,
     };
-    let mut ranks = Vec::with_capacity(alloc, whole.len() as usize)?;
-    let mut hints = Vec::with_capacity(alloc, whole.len() as usize)?;
-    for v in 0..whole.len() {
-        let is_won = at(&region.numbers, v) != NONE;
+    let mut ranks = Vec::with_capacity(alloc, priorities.len())?;
+    let mut hints = Vec::with_capacity(alloc, priorities.len())?;
+    for (number, priority) in region.numbers.iter().zip(priorities) {
+        let is_won = *number != NONE;
         let row = if is_won { ZEROS } else { TOP };
         ranks.push(ladder.rank(row))?;
-        hints.push(hint(row, whole.priority(v).saturating_add(region.player)))?;
+        hints.push(hint(row, priority.saturating_add(region.player)))?;
     }
     for (number, v) in region.vertices.iter().enumerate() {
         let state = side.state(count(number));
@@ -130,7 +131,7 @@ fn write(
             put(&mut hints, *v, hint(state.row, state.priority()));
         }
     }
-    let claims = rank_claims(alloc, whole, region.player, &ladder, claims)?;
+    let claims = rank_claims(alloc, priorities, region.player, &ladder, claims)?;
     let Ladder { steps, .. } = ladder;
     Ok(Proposal {
         steps,
@@ -143,12 +144,12 @@ fn write(
 /// The claims vertex by vertex, with their ranks. Those of one vertex stand in the order in which they rise.
 fn rank_claims(
     alloc: Global,
-    whole: &Graph,
+    priorities: &[u32],
     player: u32,
     ladder: &Ladder,
     listed: &[RowClaim],
 ) -> Result<Claims, AllocError> {
-    let mut firsts = vec![in alloc; 0; whole.len() as usize]?;
+    let mut firsts = vec![in alloc; 0; priorities.len()]?;
     for it in listed {
         let many = at(&firsts, it.vertex).wrapping_add(1);
         put(&mut firsts, it.vertex, many);
@@ -179,7 +180,7 @@ fn rank_claims(
     }
     let mut spans = Vec::with_capacity(alloc, listed.len())?;
     for (place, it) in listed.iter().enumerate() {
-        let priority = whole.priority(it.vertex).saturating_add(player);
+        let priority = at(priorities, it.vertex).saturating_add(player);
         // what the winner owns may lead to itself, where that is to its harm
         let span = it.span.max(priority % 2);
         let end = count(place).saturating_add(span);

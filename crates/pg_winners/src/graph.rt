@@ -66,8 +66,8 @@ impl Graph {
         Graph::of_rows(alloc, priorities, rows, successors)
     }
 
-    /// The graph of some vertices and the edges among them. The vertices are numbered in the order in which they are given; `numbers` has
-    /// these numbers, and `NONE` for all others.
+    /// The graph of some vertices, which are numbered as they are given. Edges lead to the numbers that `numbers` has of their heads; those
+    /// are left out where it has `NONE`.
     pub fn part(
         &self,
         alloc: Global,
@@ -163,6 +163,12 @@ impl Graph {
     #[inline(always)]
     pub fn len(&self) -> u32 {
         count(self.priorities.len())
+    }
+
+    /// The priorities of all vertices; the rest is let go.
+    pub fn into_priorities(self) -> Vec<u32> {
+        let Graph { priorities, .. } = self;
+        priorities
     }
 
     /// How many edges there are.
