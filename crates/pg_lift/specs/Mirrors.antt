@@ -1,7 +1,3 @@
--- What mirrors code: no definition that a reader has to believe cites it.
-pub mod Keeps
+-- What mirrors code: contracts of private functions cite it, and no definition that a reader has to believe does.
 pub mod Lifters
-pub mod Predecessors
-pub mod Notes
 pub mod Zeros
-pub mod Searches

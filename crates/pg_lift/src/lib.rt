@@ -1,20 +1,12 @@
-//! Lifting to the end: who leads to a vertex, which vertices wait, and lifts of those that no successor serves. It works on
-//! the lines of a game or of a part of one.
+//! Lifting to the end, of the lines of a game or of a part of one. Which vertex is lifted next a queue proposes, of which nothing is
+//! promised; that none can be lifted any more is seen by a look at all.
 #![tactic(auto)]
 
-mod asked;
-mod beginning;
-mod examining;
 mod lent;
 mod lifting;
-mod note;
 mod predecessors;
-mod serving;
-mod updating;
-mod waiting;
+mod queue;
 
-pub use examining::examine;
 pub use lent::Lent;
 pub use lifting::Lifter;
-pub use predecessors::Predecessors;
-pub use waiting::Waiting;
+pub use queue::Queue;

@@ -7,63 +7,83 @@ ghost use Rattle.pg_measure.specs.Views.{measure_in};
 ghost use Rattle.pg_map.specs.Lines.{AreWithin};
 ghost use Rattle.pg_map.specs.Maps.{measure_at, update_map, IsMap, IsJoin, IsLifted, IsServed, IsClosed};
 ghost use Rattle.pg_lift.specs.Mirrors.Lifters.{KeepsLines, Lifts};
-ghost use Rattle.pg_lift.specs.Mirrors.Zeros.{IsAtZero};
 
-use crate::asked::priority;
-use crate::beginning::{count_edges, examine_all, note_all};
-use crate::predecessors::Predecessors;
-use crate::serving::next_ready;
-use crate::updating::update_predecessors;
-use crate::waiting::Waiting;
+use crate::queue::Queue;
 use pg_arena::Vertex;
 use pg_map::{Lines, MeasureMap, View};
 use pg_measure::{Bounds, Measure};
 use std::alloc::{AllocError, Global};
 use std::marker::Model;
 
-/// Lines and a map of their vertices; who leads to each vertex, and which vertices wait to be looked at: the others are served.
-/// Contracts see the lines, the map, and which vertices have notes. Whoever adds a line writes the fields.
+/// Lines and a map of their vertices, and a queue that proposes what to lift. Contracts see the lines and the map. Whoever adds a line
+/// writes the fields.
 #[derive(Drop)]
 pub struct Lifter<G: Lines + Drop> {
     pub lines: G,
     pub map: MeasureMap,
-    pub predecessors: Predecessors,
-    pub waiting: Waiting,
+    pub queue: Queue,
 }
 
 impl<G: Lines + Drop> Model for Lifter<G> {
-    ghost use Rattle.pg_lift.specs.Mirrors.Lifters.{LifterValue, IsLifter};
+    ghost use Rattle.std.specs.Prelude.{length};
+    ghost use Rattle.pg_map.specs.Lines.{AreWithin};
+    ghost use Rattle.pg_lift.specs.Mirrors.Lifters.{LifterValue};
 
     ghost Value = { LifterValue G };
 
-    ghost view = { λ l. record { lines = l.lines; map = l.map; span = l.waiting.span } };
+    ghost view = { λ l. record { lines = l.lines; map = l.map } };
 
-    ghost invariant = { λ l. IsLifter (G.line l.lines) l.map l.predecessors l.waiting };
+    ghost invariant = { λ l. AreWithin (length l.map.measures) (G.line l.lines) };
+}
+
+/// A queue in which each of the lines waits.
+fn queue_of<G: Lines>(alloc: Global, lines: &G, vertices: u32) -> Result<Queue, AllocError> {
+    let mut queue = Queue::new(alloc, vertices)?;
+    let mut edges = 0usize;
+    for number in (0..vertices).rev() {
+        let v = Vertex(number);
+        if lines.holds(v) {
+            edges = edges.saturating_add(lines.successors(v).len());
+            queue.add(v);
+        }
+    }
+    queue.reserve(edges)?;
+    Ok(queue)
+}
+
+/// Lifts the first vertex that can be lifted of those that the queue proposes, and else the least that can. None where none can be.
+#[inline(always)]
+fn lift_one<G: Lines>(map: &mut MeasureMap, lines: &G, queue: &mut Queue) -> Option<Vertex>
+    requires within { AreWithin (length map.old.measures) (G.line lines.now) }
+    ensures bounds { map.new.bounds ≡ map.old.bounds }
+    ensures size { length map.new.measures ≡ length map.old.measures }
+    ensures held { IfSome result (λ v. IsSome (G.line lines.now v)) }
+    ensures lifted { IfSome result (IsLifted map.old.bounds (G.line lines.now) map.old.measures map.new.measures) }
+    ensures same { IfNone result (map.new ≡ map.old) }
+    ensures closed { IfNone result (IsClosed map.old.bounds (G.line lines.now) map.old.measures) }
+{
+    'proposals: for _ in 0..u64::MAX {
+        let Some(v) = queue.next(map, lines) else {
+            break;
+        };
+        if lines.holds(v) && map.lift(lines, v) {
+            return Some(v);
+        }
+    }
+    let v = map.first_liftable(lines)?;
+    let _rose = map.lift(lines, v);
+    Some(v)
 }
 
 impl<G: Lines + Drop> Lifter<G> {
-    /// Lines with zeros, which no call lifted yet. It is refused for want of memory only, also where there are 2^32 edges or more;
-    /// after it no call takes memory.
-    pub fn new(alloc: Global, lines: G, zero: MeasureMap) -> Result<Lifter<G>, AllocError>
-        requires zero { IsAtZero zero }
-        requires some { 0 < length zero.measures }
-        requires within { AreWithin (length zero.measures) (G.line lines) }
+    /// Lines, and a map that no call lifted yet. It is refused for want of memory only; after it no call takes memory.
+    pub fn new(alloc: Global, lines: G, map: MeasureMap) -> Result<Lifter<G>, AllocError>
+        requires within { AreWithin (length map.measures) (G.line lines) }
         ensures lines { IfOk result (λ l. l.lines ≡ lines) }
-        ensures map { IfOk result (λ l. l.map ≡ zero) }
+        ensures map { IfOk result (λ l. l.map ≡ map) }
     {
-        let vertices = zero.len();
-        let mut predecessors = Predecessors::new(alloc, vertices)?;
-        predecessors.reserve(count_edges(&lines, vertices).ok_or(AllocError)?)?;
-        let mut waiting = Waiting::new(alloc, vertices)?;
-        waiting.reserve(0, vertices - 1)?;
-        note_all(&lines, vertices, &mut waiting);
-        examine_all(&zero, &lines, &mut waiting, true);
-        Ok(Lifter {
-            lines,
-            map: zero,
-            predecessors,
-            waiting,
-        })
+        let queue = queue_of(alloc, &lines, map.len())?;
+        Ok(Lifter { lines, map, queue })
     }
 
     /// How many vertices there are.
@@ -107,14 +127,7 @@ impl<G: Lines + Drop> Lifter<G> {
     {
         let rose = self.map.raise(v, m);
         if rose {
-            self.predecessors.gather(&self.lines, self.map.len());
-            update_predecessors(
-                &self.map,
-                &self.lines,
-                &self.predecessors,
-                &mut self.waiting,
-                v,
-            );
+            self.queue.rise(&self.map, &self.lines, v);
         }
         rose
     }
@@ -126,19 +139,8 @@ impl<G: Lines + Drop> Lifter<G> {
         ensures closed { IfNone result ((self.new ≡ self.old)
             × IsClosed self.old.map.bounds (G.line self.old.lines) self.old.map.measures) }
     {
-        let v = next_ready(&self.map, &self.lines, &mut self.waiting)?;
-        let priority = priority(&self.map, &self.lines, &self.waiting, v);
-        self.map
-            .lift_over(&self.lines, priority, v, self.waiting.best(v));
-        self.waiting.lifted(v);
-        self.predecessors.gather(&self.lines, self.map.len());
-        update_predecessors(
-            &self.map,
-            &self.lines,
-            &self.predecessors,
-            &mut self.waiting,
-            v,
-        );
+        let v = lift_one(&mut self.map, &self.lines, &mut self.queue)?;
+        self.queue.rise(&self.map, &self.lines, v);
         Some(v)
     }
 
@@ -151,29 +153,18 @@ impl<G: Lines + Drop> Lifter<G> {
     {
         let rose = self.map.lift(&self.lines, v);
         if rose {
-            self.predecessors.gather(&self.lines, self.map.len());
-            update_predecessors(
-                &self.map,
-                &self.lines,
-                &self.predecessors,
-                &mut self.waiting,
-                v,
-            );
+            self.queue.rise(&self.map, &self.lines, v);
         }
         rose
     }
 
     /// Whether no vertex can be lifted.
-    pub fn is_quiet(&mut self) -> bool
-        ensures same { self.new ≡ self.old }
-        ensures quiet { MatchBool result (IsClosed self.old.map.bounds (G.line self.old.lines) self.old.map.measures)
-            (¬ (IsClosed self.old.map.bounds (G.line self.old.lines) self.old.map.measures)) }
+    pub fn is_quiet(&self) -> bool
+        ensures { MatchBool result (IsClosed self.now.map.bounds (G.line self.now.lines) self.now.map.measures)
+            (¬ (IsClosed self.now.map.bounds (G.line self.now.lines) self.now.map.measures)) }
     {
-        match next_ready(&self.map, &self.lines, &mut self.waiting) {
-            Some(v) => {
-                self.waiting.add(v);
-                false
-            }
+        match self.map.first_liftable(&self.lines) {
+            Some(_) => false,
             None => true,
         }
     }

@@ -24,13 +24,7 @@ pub use Rattle.std.specs.Prelude.{◌≡◌, ◌≢◌, ◌≤◌, ◌⊎◌}
 pub use Rattle.pg_arena.specs.Games.{nowhere}
 pub use Rattle.pg_arena.specs.declared.player.Player.{Player}
 pub use Rattle.pg_arena.specs.declared.player.Player.TheVariants.{Even}
-pub use Rattle.pg_lift.proofs.Keeping.{same_keeps}
-pub use Rattle.pg_lift.proofs.Noting.{notes_on, room_still, same_notes}
-pub use Rattle.pg_lift.specs.Mirrors.Keeps.{AreSameBut, IsKept, Keeps, KeepsAt, nothing}
-pub use Rattle.pg_lift.specs.Mirrors.Lifters.{AreReady, IsLifter, KeepsLines, LifterValue, Lifts}
-pub use Rattle.pg_lift.specs.Mirrors.Notes.{AreNotes, HasNote, HasRoom, IsSameSpan, Label, Span, WaitingValue, line_label}
-pub use Rattle.pg_lift.specs.Mirrors.Predecessors.{edges_of}
-pub use Rattle.pg_lift.specs.declared.predecessors.Predecessors.{Predecessors}
+pub use Rattle.pg_lift.specs.Mirrors.Lifters.{KeepsLines, LifterValue, Lifts}
 pub use Rattle.pg_map.proofs.Above.{lift_stays_under}
 pub use Rattle.pg_map.proofs.Joins.{zero_map_least}
 pub use Rattle.pg_map.specs.Lines.{AreWithin, Line, line_at, line_of, only, vertex_line}
@@ -75,7 +69,7 @@ pub use Rattle.pg_wire.specs.declared.writer.ValuesWriter.{ValuesWriter}
 pub use Rattle.pg_worker.specs.Above.{AreFrames, IsAboveSession}
 pub use Rattle.pg_worker.specs.Laws.{AreSteps, IsAtLeastTaken, Lifted, RepliesStayUnder, Step, Taken, ToldStayUnder}
 pub use Rattle.pg_worker.specs.Mirrors.Faults.{own_fault}
-pub use Rattle.pg_worker.specs.Mirrors.Insides.{AreAsBefore, IsInside, IsNext, IsWhole, edge_count}
+pub use Rattle.pg_worker.specs.Mirrors.Insides.{IsInside, IsNext, IsWhole, edge_count}
 pub use Rattle.pg_worker.specs.Mirrors.Joins.{JoinsAll}
 pub use Rattle.pg_worker.specs.Mirrors.Lifts.{AreListedLifts}
 pub use Rattle.pg_worker.specs.Mirrors.Parts.{AreHeld, HasPlace, IsSpan, PartValue, head_line, held_line, line_from, line_in, lines_of}

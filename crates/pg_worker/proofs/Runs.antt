@@ -6,7 +6,7 @@ use Rattle.pg_worker.proofs.Common.{AreListedLifts, PartValue, held_line}
 use Rattle.std.proofs.Common.{length-append}
 
 pub same_lines : (a b c : LifterValue PartValue) → KeepsLines a b → KeepsLines b c → KeepsLines a c
-same_lines a b c p q = record { lines = q.lines ∙ p.lines; span = q.span ∙ p.span; bounds = q.bounds ∙ p.bounds; size = q.size ∙ p.size }
+same_lines a b c p q = record { lines = q.lines ∙ p.lines; bounds = q.bounds ∙ p.bounds; size = q.size ∙ p.size }
 
 -- one more lift, of the lines of the first
 pub lift_on : (first old new : LifterValue PartValue) (v : ℕ) → KeepsLines first old → Lifts held_line old new v

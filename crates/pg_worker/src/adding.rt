@@ -1,20 +1,16 @@
 //! Vertices that are added to a part.
 
-ghost use Rattle.std.specs.Prelude.{◌≡◌, ◌↔◌, ℕ, true, ◌+◌, ◌^◌, ◌<◌, ◌≤◌, Some, length, sum_by, slice_set, All, AllPairs, IsSome, IfSome, IsTrue, OnOk, OnErr};
-ghost use Rattle.std.specs.Bool.{OnTrue};
+ghost use Rattle.std.specs.Prelude.{◌≡◌, ◌↔◌, ℕ, ◌+◌, ◌^◌, ◌<◌, ◌≤◌, Some, length, sum_by, slice_set, All, AllPairs, IsSome, IfSome, IsTrue, OnOk, OnErr};
 ghost use Rattle.pg_wire.specs.Lines.{line_with};
 ghost use Rattle.pg_wire.specs.Well.{IsVertexLine};
 ghost use Rattle.pg_parts.specs.Frames.{told_line, player};
 ghost use Rattle.pg_worker.specs.Workers.{with_lines, HasBound, FitsGame};
 ghost use Rattle.pg_worker.specs.Mirrors.Parts.{HasPlace, held_line};
-ghost use Rattle.pg_lift.specs.Mirrors.Notes.{HasRoom};
-ghost use Rattle.pg_worker.specs.Mirrors.Insides.{IsInside, IsNext, AreAsBefore, HaveRoom, edge_count};
-ghost use Rattle.pg_lift.specs.Mirrors.Zeros.{IsAtZero};
+ghost use Rattle.pg_worker.specs.Mirrors.Insides.{IsInside, IsNext, HaveRoom, edge_count};
 
 use crate::part::Part;
 use pg_arena::{Player, Vertex};
-use pg_lift::{Predecessors, Waiting, examine};
-use pg_map::MeasureMap;
+use pg_lift::Queue;
 use pg_measure::Bounds;
 use pg_wire::{LineHead, VertexLine};
 use std::alloc::AllocError;
@@ -30,68 +26,48 @@ fn player(number: u8) -> Player
     }
 }
 
-/// Adds a vertex above those of the part, for which there is room. `is_zero` tells that all measures are zero.
+/// Adds a vertex to a part in which there is room for it.
 #[inline(always)]
-pub(crate) fn add_line(
-    map: &MeasureMap,
-    part: &mut Part,
-    waiting: &mut Waiting,
-    head: LineHead,
-    successors: &[u32],
-    is_zero: bool,
-)
-    requires zero { OnTrue is_zero (IsAtZero map.now) }
-    requires inside { IsInside part.old map.now waiting.old }
+pub(crate) fn add_line(part: &mut Part, queue: &mut Queue, head: LineHead, successors: &[u32])
+    requires inside { IsInside part.old }
     requires new { ¬ (IsSome (held_line part.old head.vertex)) }
-    requires fits { FitsGame map.now.bounds (length map.now.measures) (line_with head successors.now) }
+    requires below { head.vertex < length part.old.lines }
+    requires within { All (λ w. w < length part.old.lines) successors.now }
     requires some { 0 < length successors.now }
     requires place { HasPlace part.old head.vertex }
-    requires note { HasRoom waiting.old.span head.vertex }
     requires few { part.old.edges + length successors.now < 2 ^ 32 }
     requires room { part.old.edges + length successors.now ≤ part.old.room }
-    ensures inside { IsInside part.new map.now waiting.new }
+    ensures inside { IsInside part.new }
     ensures lines { part.new.lines ≡ slice_set part.old.lines head.vertex
         (Some (told_line (line_with head successors.now))) }
     ensures edges { part.new.edges ≡ part.old.edges + length successors.now }
     ensures first { part.new.first ≡ part.old.first }
     ensures places { (v : ℕ) → HasPlace part.old v → HasPlace part.new v }
     ensures room { part.new.room ≡ part.old.room }
-    ensures note_first { waiting.new.span.first ≡ waiting.old.span.first }
-    ensures note_room { waiting.new.span.room ≡ waiting.old.span.room }
 {
     let v = Vertex(head.vertex);
     let owner = player(head.owner);
     part.add(v, head.priority, owner, successors);
-    waiting.hold(v, head.priority, owner);
-    examine(map, part, waiting, v, is_zero);
+    queue.add(v);
 }
 
-/// Adds vertices, which rise from `next` on, and for which there is room. `is_zero` tells that all measures are zero.
-pub(crate) fn add_lines(
-    map: &MeasureMap,
-    part: &mut Part,
-    waiting: &mut Waiting,
-    next: &mut u64,
-    lines: &[VertexLine],
-    is_zero: bool,
-)
-    requires zero { OnTrue is_zero (IsAtZero map.now) }
-    requires inside { IsInside part.old map.now waiting.old }
+/// Adds vertices, which rise from `next` on, and for which there is room.
+pub(crate) fn add_lines(part: &mut Part, queue: &mut Queue, next: &mut u64, lines: &[VertexLine])
+    requires inside { IsInside part.old }
     requires next { IsNext part.old next.old }
     requires above { All (λ l. next.old ≤ l.vertex) lines.now }
-    requires fit { All (FitsGame map.now.bounds (length map.now.measures)) lines.now }
+    requires below { All (λ l. l.vertex < length part.old.lines) lines.now }
+    requires within { All (λ l. All (λ w. w < length part.old.lines) l.successors) lines.now }
     requires lines { All IsVertexLine lines.now }
     requires rising { AllPairs (λ l m. l.vertex < m.vertex) lines.now }
     requires places { All (λ l. HasPlace part.old l.vertex) lines.now }
-    requires waiting { All (λ l. HasRoom waiting.old.span l.vertex) lines.now }
     requires few { part.old.edges + sum_by edge_count lines.now < 2 ^ 32 }
     requires room { part.old.edges + sum_by edge_count lines.now ≤ part.old.room }
-    ensures inside { IsInside part.new map.now waiting.new }
+    ensures inside { IsInside part.new }
     ensures next { IsNext part.new next.new }
     ensures lines { part.new.lines ≡ with_lines part.old.lines lines.now }
-    ensures edges { part.new.edges ≡ part.old.edges + sum_by edge_count lines.now }
+    ensures size { length part.new.lines ≡ length part.old.lines }
     ensures first { 0 < length lines.now → part.new.first ≤ next.new }
-    ensures note_first { 0 < length lines.now → waiting.new.span.first ≤ next.new }
 {
     for line in lines {
         let head = LineHead {
@@ -99,14 +75,7 @@ pub(crate) fn add_lines(
             priority: line.priority,
             owner: line.owner,
         };
-        add_line(
-            map,
-            part,
-            waiting,
-            head,
-            line.successors.as_slice(),
-            is_zero,
-        );
+        add_line(part, queue, head, line.successors.as_slice());
         *next = u64::from(line.vertex) + 1;
     }
 }
@@ -114,24 +83,23 @@ pub(crate) fn add_lines(
 /// Makes room for lines of vertices from the one to the other, with so many successors in all.
 #[inline(always)]
 pub(crate) fn make_room(
-    predecessors: &mut Predecessors,
-    waiting: &mut Waiting,
     part: &mut Part,
+    queue: &mut Queue,
     from: u32,
     to: u32,
     count: usize,
 ) -> Result<(), AllocError>
     requires first { part.old.first ≤ from }
     requires from { from < length part.old.lines }
-    requires note_first { 0 < waiting.old.span.size → waiting.old.span.first ≤ from }
-    requires note_from { from < length waiting.old.waits }
-    ensures same { AreAsBefore part.old part.new predecessors.old predecessors.new waiting.old waiting.new }
+    ensures lines { part.new.lines ≡ part.old.lines }
     ensures first { OnErr result (part.new.first ≡ part.old.first) }
-    ensures room { OnOk result (HaveRoom part.new predecessors.new waiting.new from to count) }
+    ensures room { OnOk result (HaveRoom part.new from to count) }
 {
     let all = part.edges().checked_add(count).ok_or(AllocError)?;
-    predecessors.reserve(all)?;
-    waiting.reserve(from, to)?;
+    if all > u32::MAX as usize {
+        return Err(AllocError);
+    }
+    queue.reserve(count)?;
     part.reserve(from, to, count)
 }
 

@@ -13,7 +13,7 @@ use crate::lifting::{lift_some, lift_turn};
 use crate::part::Part;
 use crate::{Lifted, WorkerFault};
 use pg_arena::Vertex;
-use pg_lift::{Lifter, Predecessors, Waiting};
+use pg_lift::{Lifter, Queue};
 use pg_map::{Lines, MeasureMap, Update, View};
 use pg_measure::{Bounds, Measure};
 use pg_parts::{VertexSet, fits};
@@ -65,16 +65,10 @@ impl Worker {
     {
         let vertices = setup.vertices;
         let lifted = VertexSet::new(alloc, vertices)?;
-        let predecessors = Predecessors::new(alloc, vertices)?;
-        let waiting = Waiting::new(alloc, vertices)?;
+        let queue = Queue::new(alloc, vertices)?;
         let map = zeros(alloc, setup)?;
         let lines = Part::new(alloc, vertices);
-        let lifter = Lifter {
-            lines,
-            map,
-            predecessors,
-            waiting,
-        };
+        let lifter = Lifter { lines, map, queue };
         Ok(Worker {
             lifter,
             next: 0,
@@ -109,23 +103,8 @@ impl Worker {
         let to = lines[lines.len() - 1].vertex;
         let count = count_edges(lines).ok_or(AllocError)?;
         let lifter = &mut self.lifter;
-        make_room(
-            &mut lifter.predecessors,
-            &mut lifter.waiting,
-            &mut lifter.lines,
-            from,
-            to,
-            count,
-        )?;
-        lifter.predecessors.is_gathered = false;
-        add_lines(
-            &lifter.map,
-            &mut lifter.lines,
-            &mut lifter.waiting,
-            &mut self.next,
-            lines,
-            !lifter.predecessors.was_gathered,
-        );
+        make_room(&mut lifter.lines, &mut lifter.queue, from, to, count)?;
+        add_lines(&mut lifter.lines, &mut lifter.queue, &mut self.next, lines);
         Ok(())
     }
 
@@ -151,23 +130,8 @@ impl Worker {
         }
         let count = successors.len();
         let lifter = &mut self.lifter;
-        make_room(
-            &mut lifter.predecessors,
-            &mut lifter.waiting,
-            &mut lifter.lines,
-            vertex,
-            vertex,
-            count,
-        )?;
-        lifter.predecessors.is_gathered = false;
-        add_line(
-            &lifter.map,
-            &mut lifter.lines,
-            &mut lifter.waiting,
-            head,
-            successors,
-            !lifter.predecessors.was_gathered,
-        );
+        make_room(&mut lifter.lines, &mut lifter.queue, vertex, vertex, count)?;
+        add_line(&mut lifter.lines, &mut lifter.queue, head, successors);
         self.next = u64::from(vertex) + 1;
         Ok(())
     }

@@ -1,6 +1,6 @@
 use Rattle.pg_worker.proofs.Common.{◌≡◌, ◌<◌, ◌∷◌, ◌++◌, [], ◌+◌, ◌∙◌, length, take, drop, get_or, set, ◌≤◌, sym, ap, subst, arith, Some}
-use Rattle.pg_worker.proofs.Common.{All, sum_by, get_or_default, drop_all, take_at_read, sum_by-drop_more, VertexLine, IsVertexLine}
-use Rattle.pg_worker.proofs.Common.{told_line, with_lines, FitsGame, HasPlace, HasRoom, room_still, IsNext, edge_count}
+use Rattle.pg_worker.proofs.Common.{All, sum_by, get_or_default, take_at_read, sum_by-drop_more, VertexLine, IsVertexLine}
+use Rattle.pg_worker.proofs.Common.{told_line, with_lines, length-set, HasPlace, IsNext, edge_count}
 use Rattle.pg_worker.proofs.Working.{next_after, with_lines_more}
 use Rattle.pg_worker.proofs.adding.add_lines.Goals as goal
 use Rattle.pg_worker.proofs.adding.add_lines.Goals.{After-as_slice}
@@ -9,14 +9,8 @@ use Rattle.pg_worker.proofs.adding.add_lines.Goals.{After-as_slice}
 of_line : (c : After-as_slice) (P : VertexLine → Type 0) → All P c.args.lines.now → P c.line-item.result
 of_line c P all = subst P (sym c.line-item.is) (all c.loop-line.line-index c.line-item.result c.loop-line-test.true)
 
-fit : (c : After-as_slice) → FitsGame c.args.map.now.bounds (length c.args.map.now.measures) c.line-item.result
-fit c = of_line c (FitsGame c.args.map.now.bounds (length c.args.map.now.measures)) c.requires.fit
-
 place : (c : After-as_slice) → HasPlace c.loop-line.part c.line-item.result.vertex
 place c = c.loop-line.invariant.places c.line-item.result.vertex (of_line c (λ (y : VertexLine). HasPlace c.args.part.now y.vertex) c.requires.places)
-
-room : (c : After-as_slice) → HasRoom c.args.waiting.now.span c.line-item.result.vertex
-room c = of_line c (λ (y : VertexLine). HasRoom c.args.waiting.now.span y.vertex) c.requires.waiting
 
 -- the edges that are to come are this line's and those of the others
 edges_left : (c : After-as_slice)
@@ -38,8 +32,8 @@ loop-line-preserved c =
     let lt = c.loop-line-test.true in
     let part = c.loop-line.part in
     let part' = c.add_line.new.part in
-    let size : length part.lines ≡ length c.args.map.now.measures = inv.inside.size in
-    let below : x.vertex < length part.lines = omega (arith, (fit k).vertex) in
+    let whole : x.vertex < length c.args.part.now.lines = of_line k (λ (y : VertexLine). y.vertex < length c.args.part.now.lines) c.requires.below in
+    let below : x.vertex < length part.lines = rw inv.size whole in
     let here : (d : VertexLine) → get_or xs i d ≡ x = λ d. get_or_default xs i d x lt ∙ sym c.line-item.is in
     let from : c.loop-line.next ≤ x.vertex = subst (λ (y : VertexLine). c.loop-line.next ≤ y.vertex) (here x) (inv.above i x (omega arith) lt) in
     let lines : part'.lines ≡ set part.lines x.vertex (Some (told_line x)) = rw c.as_slice.ensures at c.add_line.ensures.lines in
@@ -49,6 +43,7 @@ loop-line-preserved c =
     let taken : take (i + 1) xs ≡ take i xs ++ x ∷ [] = (take_at_read xs i x lt).1 ∙ ap (λ y. take i xs ++ y ∷ []) (here x) in
     record {
       inside = c.add_line.ensures.inside;
+      size = ap length lines ∙ (length-set part.lines x.vertex (Some (told_line x)) ∙ inv.size);
       next = rw c.from.ensures next;
       above = λ j d le less. let r = subst (λ (y : VertexLine). y.vertex < (get_or xs j d).vertex) (here d)
           (c.requires.rising i j d (omega arith) less) in let f = c.from.ensures in omega arith;
@@ -57,29 +52,22 @@ loop-line-preserved c =
       room = omega (arith, inv.room, c.add_line.ensures.room);
       edges = omega (arith, inv.edges);
       places = λ v h. c.add_line.ensures.places v (inv.places v h);
-      note_first = c.add_line.ensures.note_first ∙ inv.note_first;
-      note_room = c.add_line.ensures.note_room ∙ inv.note_room;
-      noted = λ some. let f = c.from.ensures in let p = (room k).from in let a = inv.note_first in let b = c.add_line.ensures.note_first in omega arith;
       first = λ some. let f = c.from.ensures in let p = (place k).from in let s = c.add_line.ensures.first in omega arith;
     }
 
 pub add_line-requires-clause-place : goal.add_line-requires-clause-place
 add_line-requires-clause-place c = place (goal.at.add_line-requires-clause-place c).After-as_slice
 
-pub returns-clause-edges : goal.returns-clause-edges
-returns-clause-edges c =
-    let f = c.loop-line-test.false in
-    let none : drop c.loop-line.line-index c.args.lines.now ≡ [] = drop_all c.loop-line.line-index c.args.lines.now (omega arith) in
-    let e = c.loop-line.invariant.edges in
-    let z = ap (sum_by edge_count) none in
-    omega arith
+pub add_line-requires-clause-below : goal.add_line-requires-clause-below
+add_line-requires-clause-below c =
+    rw c.loop-line.invariant.size
+    (of_line (goal.at.add_line-requires-clause-below c).After-as_slice (λ (y : VertexLine). y.vertex < length c.args.part.now.lines) c.requires.below)
 
-pub add_line-requires-clause-note : goal.add_line-requires-clause-note
-add_line-requires-clause-note c =
-    room_still c.args.waiting.now.span c.loop-line.waiting.span c.line-item.result.vertex c.loop-line.invariant.note_first c.loop-line.invariant.note_room (room (goal.at.add_line-requires-clause-note c).After-as_slice)
-
-pub add_line-requires-clause-fits : goal.add_line-requires-clause-fits
-add_line-requires-clause-fits c = rw c.as_slice.ensures (fit (goal.at.add_line-requires-clause-fits c).After-as_slice)
+pub add_line-requires-clause-within : goal.add_line-requires-clause-within
+add_line-requires-clause-within c =
+    rw (c.as_slice.ensures, c.loop-line.invariant.size)
+    (of_line (goal.at.add_line-requires-clause-within c).After-as_slice
+    (λ (y : VertexLine). All (λ w. w < length c.args.part.now.lines) y.successors) c.requires.within)
 
 pub add_line-requires-clause-some : goal.add_line-requires-clause-some
 add_line-requires-clause-some c =

@@ -31,4 +31,4 @@ loop-preserved c =
 pub returns-clause-quiet : goal.returns-clause-quiet
 returns-clause-quiet c =
     let s = c.loop.invariant.same in
-    rw c.is_quiet.ensures.same (rw (s.bounds, s.lines) at c.is_quiet.ensures.quiet)
+    rw (s.bounds, s.lines) at c.is_quiet.ensures

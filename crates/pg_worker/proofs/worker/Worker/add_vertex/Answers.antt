@@ -1,48 +1,40 @@
-use Rattle.pg_worker.proofs.Common.{rules, ◌<◌, ◌≤◌, ◌+◌, ◌∷◌, [], false, length, ap, inr, refl, arith, VertexLine, line_with, told_line}
-use Rattle.pg_worker.proofs.Common.{FitsGame, IsInside, IsNext, IsWhole}
-use Rattle.pg_worker.proofs.Working.{above_next, next_above, next_after, lifter_of, whole_of, whole_same, inside_of, inside_same, lifter_same, lifter_more, next_same}
+use Rattle.pg_worker.proofs.Common.{◌≡◌, ◌<◌, ◌≤◌, ◌+◌, ◌∷◌, [], length, ap, inr, subst, arith, VertexLine, line_with, told_line}
+use Rattle.pg_worker.proofs.Common.{FitsGame, IsInside, IsNext, IsWhole, AreWithin, held_line, length-set, ◌∙◌}
+use Rattle.pg_worker.proofs.Working.{above_next, next_above, next_after, lifter_of, whole_of, whole_same, inside_same, next_same}
 use Rattle.pg_worker.proofs.Growing.{only}
 use Rattle.pg_worker.proofs.worker.Worker.add_vertex.Goals as goal
 use Rattle.pg_worker.proofs.worker.Worker.add_vertex.Goals.{After-make_room}
 
-whole : (c : After-make_room) → IsWhole (lifter_of c.lifter.inside.lines c.lifter.inside.map c.lifter.inside.waiting) c.self.inside.next c.self.inside.lifted.count
+whole : (c : After-make_room) → IsWhole (lifter_of c.lifter.inside.lines c.lifter.inside.map) c.self.inside.next c.self.inside.lifted.count
 whole c =
     let l = c.lifter.inside in
     let w = c.self.inside in
-    whole_of l.lines l.map l.waiting w.lifter w.next w.lifted.count c.lifter.view_is c.self.invariant
+    whole_of l.lines l.map w.lifter w.next w.lifted.count c.lifter.view_is c.self.invariant
 
-inside : (c : After-make_room) → IsInside c.lifter.inside.lines c.lifter.inside.map c.lifter.inside.waiting
+-- the part with more room
+inside : (c : After-make_room) → IsInside c.make_room.new.part
 inside c =
     let l = c.lifter.inside in
-    inside_of l.lines l.map l.predecessors l.waiting c.self.inside.next c.self.inside.lifted.count c.lifter.invariant (whole c)
+    inside_same l.lines c.make_room.new.part c.make_room.ensures.lines (rw (whole c).size c.lifter.invariant)
+
+size : (c : After-make_room) → length c.make_room.new.part.lines ≡ length c.lifter.inside.map.measures
+size c = rw c.make_room.ensures.lines (whole c).size
 
 pub invariant_of-lifter : goal.invariant_of-lifter
-invariant_of-lifter c =
-    let l = c.lifter.inside in
-    let new = c.make_room.new in
-    lifter_same l.lines new.part l.map l.predecessors new.predecessors l.waiting new.waiting c.make_room.ensures.same
-    (inside (goal.at.invariant_of-lifter c).After-make_room) c.lifter.invariant
+invariant_of-lifter c = rw c.make_room.ensures.lines c.lifter.invariant
 
 pub invariant_of-self : goal.invariant_of-self
 invariant_of-self c =
     let l = c.lifter.inside in
     let w = c.self.inside in
-    let new = c.make_room.new in
-    whole_same l.lines new.part l.map l.predecessors new.predecessors l.waiting new.waiting w.next w.lifted.count
-    c.make_room.ensures.same c.in_err-make_room.ensures.first (whole (goal.at.invariant_of-self c).After-make_room)
+    whole_same l.lines c.make_room.new.part l.map w.next w.lifted.count c.make_room.ensures.lines c.in_err-make_room.ensures.first
+    (whole (goal.at.invariant_of-self c).After-make_room)
 
 pub add_line-requires-clause-inside : goal.add_line-requires-clause-inside
-add_line-requires-clause-inside c =
-    let l = c.lifter.inside in
-    let new = c.make_room.new in
-    inside_same l.lines new.part l.map l.predecessors new.predecessors l.waiting new.waiting c.make_room.ensures.same
-    (inside (goal.at.add_line-requires-clause-inside c).After-make_room)
+add_line-requires-clause-inside c = inside (goal.at.add_line-requires-clause-inside c).After-make_room
 
 pub add_line-requires-clause-place : goal.add_line-requires-clause-place
 add_line-requires-clause-place c = c.in_ok-make_room.ensures.room.places c.args.head.vertex (omega arith) (omega arith)
-
-pub add_line-requires-clause-note : goal.add_line-requires-clause-note
-add_line-requires-clause-note c = c.in_ok-make_room.ensures.room.labels c.args.head.vertex (omega arith) (omega arith)
 
 pub returns-then-from-self-clause-refused : goal.returns-then-from-self-clause-refused
 returns-then-from-self-clause-refused c = inr (λ above.
@@ -69,11 +61,9 @@ returns-then-not-fits_line-clause-refused c =
 
 pub invariant_of-lifter-2 : goal.invariant_of-lifter-2
 invariant_of-lifter-2 c =
-    let l = c.lifter.inside in
-    let new = c.make_room.new.predecessors in
-    let same = c.make_room.ensures.same in
-    lifter_more l.lines c.add_line.new.part l.map l.predecessors (record new { is_gathered = false }) c.add_line.new.waiting c.add_line.ensures.inside
-    c.lifter.invariant.ready same.starts same.before refl (search rules) (search rules)
+    let k = (goal.at.invariant_of-lifter-2 c).After-make_room in
+    let part' = c.add_line.new.part in
+    subst (λ n. AreWithin n (held_line part')) (ap length c.add_line.ensures.lines ∙ (length-set _ _ _ ∙ size k)) c.add_line.ensures.inside
 
 pub invariant_of-self-2 : goal.invariant_of-self-2
 invariant_of-self-2 c =
@@ -82,20 +72,17 @@ invariant_of-self-2 c =
     let v = c.args.head.vertex in
     let part = c.make_room.new.part in
     let part' = c.add_line.new.part in
-    let old = whole (goal.at.invariant_of-self-2 c).After-make_room in
+    let k = (goal.at.invariant_of-self-2 c).After-make_room in
+    let old = whole k in
     let from : w.next ≤ v = let a = c.if-from-self.false in let b = c.from.ensures in omega arith in
     let fit : FitsGame c.bounds.result.now c.len.result l = c.fits_line.ensures.0 c.if-not-fits_line.false in
-    let lt : v < length part.lines = let a = fit.vertex in let b = c.len.ensures.value in let s = old.size in
-    let e = ap length c.make_room.ensures.same.lines in omega arith in
+    let lt : v < length part.lines = let a = fit.vertex in let b = c.len.ensures.value in let s = size k in omega arith in
     let next : IsNext part' (v + 1) = next_after part part' v w.next (told_line l) c.add_line.ensures.lines lt from
-    (next_same c.lifter.inside.lines part w.next c.make_room.ensures.same.lines old.above) in
+    (next_same c.lifter.inside.lines part w.next c.make_room.ensures.lines old.above) in
     let place = c.in_ok-make_room.ensures.room.places v (omega arith) (omega arith) in
-    let room = c.in_ok-make_room.ensures.room.labels v (omega arith) (omega arith) in
     rw c.from-2.ensures record {
-      count = c.add_line.ensures.inside.count;
-      size = c.add_line.ensures.inside.size;
+      size = ap length c.add_line.ensures.lines ∙ (length-set _ _ _ ∙ size k);
       above = next;
       first = let f = place.from in let s = c.add_line.ensures.first in omega arith;
-      note_first = λ some. let f = room.from in let s = c.add_line.ensures.note_first in omega arith;
       listed = old.listed;
     }

@@ -1,0 +1,198 @@
+//! Which vertices may be lifted next: those that a vertex which rose is a successor of. Nothing is promised of it.
+
+use crate::predecessors::Predecessors;
+use pg_arena::{Player, Vertex};
+use pg_map::{Lines, MeasureMap};
+use std::alloc::{AllocError, Global};
+use std::mem;
+
+/// How often a vertex is lifted in a generation before it has to wait for the next one.
+const LIFTS: u32 = 16;
+
+/// What is kept of a vertex.
+#[derive(Clone, Copy)]
+struct Note {
+    waits: bool,
+    /// Where among its successors the last search for one that serves it stopped.
+    stop: u32,
+    /// The last generation in which it was lifted, and how often.
+    generation: u32,
+    lifts: u32,
+}
+
+/// Vertices that wait to be looked at, each once: those of this generation, of which the last comes first, and those of the next one, which
+/// were lifted often in this one. So a lift is followed by those that it leads to, and no cycle keeps the others waiting.
+#[derive(Drop)]
+pub struct Queue {
+    notes: Vec<Note>,
+    stack: Stack,
+    next: Stack,
+    generation: u32,
+    predecessors: Predecessors,
+}
+
+/// A stack whose room is taken when it is made.
+#[derive(Drop)]
+struct Stack {
+    places: Vec<u32>,
+    count: usize,
+}
+
+impl Stack {
+    fn new(alloc: Global, room: u32) -> Result<Stack, AllocError> {
+        Ok(Stack {
+            places: vec![in alloc; 0; room as usize]?,
+            count: 0,
+        })
+    }
+
+    fn push(&mut self, v: Vertex) {
+        if let Some(place) = self.places.get_mut(self.count) {
+            *place = v.0;
+            self.count = self.count.wrapping_add(1);
+        }
+    }
+
+    fn pop(&mut self) -> Option<Vertex> {
+        let count = self.count.checked_sub(1)?;
+        self.count = count;
+        let number = self.places.get(count).copied()?;
+        Some(Vertex(number))
+    }
+}
+
+/// Whether a vertex is held, and served by another one.
+fn serves<G: Lines>(map: &MeasureMap, lines: &G, v: Vertex, w: Vertex) -> bool {
+    v.0 < map.len() && w.0 < map.len() && lines.holds(v) && map.serves(lines, v, w)
+}
+
+impl Queue {
+    /// No vertex waits, of those below `count`.
+    pub fn new(alloc: Global, count: u32) -> Result<Queue, AllocError> {
+        let note = Note {
+            waits: false,
+            stop: 0,
+            generation: 0,
+            lifts: 0,
+        };
+        Ok(Queue {
+            notes: vec![in alloc; note; count as usize]?,
+            stack: Stack::new(alloc, count)?,
+            next: Stack::new(alloc, count)?,
+            generation: 0,
+            predecessors: Predecessors::new(alloc, count)?,
+        })
+    }
+
+    /// Makes room for so many edges more. Nothing else takes memory.
+    pub fn reserve(&mut self, edges: usize) -> Result<(), AllocError> {
+        self.predecessors.reserve(edges)
+    }
+
+    /// Lets a vertex wait.
+    pub fn add(&mut self, v: Vertex) {
+        let Some(note) = self.notes.get_mut(v.0 as usize) else {
+            return;
+        };
+        if note.waits {
+            return;
+        }
+        note.waits = true;
+        if note.generation == self.generation && note.lifts >= LIFTS {
+            self.next.push(v);
+        } else {
+            self.stack.push(v);
+        }
+    }
+
+    /// Takes the last vertex of this generation; where none is left of it, the last of the next one, which begins then.
+    fn pop(&mut self) -> Option<Vertex> {
+        if self.stack.count == 0 {
+            mem::swap(&mut self.stack, &mut self.next);
+            self.generation = self.generation.wrapping_add(1);
+        }
+        let v = self.stack.pop()?;
+        if let Some(note) = self.notes.get_mut(v.0 as usize) {
+            note.waits = false;
+        }
+        Some(v)
+    }
+
+    /// Counts a lift of a vertex.
+    fn count(&mut self, v: Vertex) {
+        let generation = self.generation;
+        if let Some(note) = self.notes.get_mut(v.0 as usize) {
+            note.lifts = if note.generation == generation {
+                note.lifts.saturating_add(1)
+            } else {
+                1
+            };
+            note.generation = generation;
+        }
+    }
+
+    /// Where among the successors of a vertex the last search stopped.
+    fn stop(&self, v: Vertex) -> usize {
+        match self.notes.get(v.0 as usize) {
+            Some(note) => note.stop as usize,
+            None => 0,
+        }
+    }
+
+    /// Whether one of its successors is found to serve a vertex of Even. The search begins where the last one stopped: measures only
+    /// rise, so who was passed over won't serve the vertex before that rises itself.
+    fn is_served<G: Lines>(&mut self, map: &MeasureMap, lines: &G, v: Vertex) -> bool {
+        if v.0 >= map.len() || !lines.holds(v) || lines.owner(v) == Player::Odd {
+            return false;
+        }
+        let successors = lines.successors(v);
+        let mut place = self.stop(v);
+        for _ in 0..successors.len() {
+            let Some(w) = successors.get(place).copied() else {
+                place = 0;
+                continue;
+            };
+            if serves(map, lines, v, w) {
+                if let Some(note) = self.notes.get_mut(v.0 as usize) {
+                    note.stop = u32::try_from(place).unwrap_or(0);
+                }
+                return true;
+            }
+            place = place.wrapping_add(1);
+        }
+        false
+    }
+
+    /// The next vertex that may be lifted.
+    pub(crate) fn next<G: Lines>(&mut self, map: &MeasureMap, lines: &G) -> Option<Vertex> {
+        for _ in 0..u64::MAX {
+            let v = self.pop()?;
+            if !self.is_served(map, lines, v) {
+                return Some(v);
+            }
+        }
+        None
+    }
+
+    /// Lets those wait that a vertex, which rose, no longer serves: all of Odd's, and of Even's those that none was found to serve.
+    pub(crate) fn rise<G: Lines>(&mut self, map: &MeasureMap, lines: &G, x: Vertex) {
+        self.count(x);
+        self.predecessors.gather(lines);
+        for place in 0..self.predecessors.of(x).len() {
+            let Some(u) = self.predecessors.of(x).get(place).copied() else {
+                break;
+            };
+            if !lines.holds(u) || serves(map, lines, u, x) {
+                continue;
+            }
+            let last = lines.successors(u).get(self.stop(u)).copied();
+            let is_served = match last {
+                Some(w) => lines.owner(u) == Player::Even && serves(map, lines, u, w),
+                None => false,
+            };
+            if !is_served {
+                self.add(u);
+            }
+        }
+    }
+}
