@@ -13,12 +13,12 @@ HEAD = re.compile(r"^(?:(?:abbrev|pub|unfoldable|opaque|record|data)\s+)*([^\s:(
 USE = re.compile(r"^\s*(?:pub\s+|unfoldable\s+)*use\s+Rattle\.(\w+)\.specs\.([\w.]+)\.\{([^}]*)\}", re.M)
 # each chain, in the order in which to read them: the laws that it is for, by file and name
 CHAINS = {
-    "solve": ["pg_command/specs/Laws.antt PrintedWinnersWin", "pg_command/specs/Laws.antt AnyPrintedWinnersWin"],
-    "check": ["pg_command/specs/Checking.antt IsChecked", "pg_check/specs/Laws.antt SoundIffWins"],
-    "measure": ["pg_command/specs/Measuring.antt IsMeasured", "pg_command/specs/Measuring.antt IsMeasureOf",
-                "pg_command/specs/Winners.antt MeasuresTellWinners"],
-    "synth": ["pg_command/specs/Controllers.antt CircuitAccepted", "pg_command/specs/Controllers.antt NoneAccepted"],
-    "workers": ["pg_command/specs/Replaying.antt IsReplayed", "pg_world/specs/Laws.antt SameTaken", "pg_world/specs/Laws.antt NeverAbove"],
+    "solve": ["pg_cli_command/specs/Laws.antt PrintedWinnersWin", "pg_cli_command/specs/Laws.antt AnyPrintedWinnersWin"],
+    "check": ["pg_cli_command/specs/Checking.antt IsChecked", "pg_check/specs/Laws.antt SoundIffWins"],
+    "measure": ["pg_cli_command/specs/Measuring.antt IsMeasured", "pg_cli_command/specs/Measuring.antt IsMeasureOf",
+                "pg_cli_command/specs/Winners.antt MeasuresTellWinners"],
+    "synth": ["pg_cli_command/specs/Controllers.antt CircuitAccepted", "pg_cli_command/specs/Controllers.antt NoneAccepted"],
+    "workers": ["pg_cli_command/specs/Replaying.antt IsReplayed", "pg_world/specs/Laws.antt SameTaken", "pg_world/specs/Laws.antt NeverAbove"],
 }
 
 

@@ -29,7 +29,7 @@ IN_C = {"u32": ["uint32_t"], "usize": ["size_t"], "Global": [], "&Arrays": ["con
         "&mut [u8]": ["uint8_t *", "size_t"], "&mut [u32]": ["uint32_t *", "size_t"],
         "&'a [u32]": ["struct parsolve_numbers"], "&'a [u8]": ["struct parsolve_bytes"], "&'a mut [u8]": ["uint8_t *", "size_t"],
         "&mut ParsolveText<'a>": ["struct parsolve_text *"]}
-STRUCTS = {"parsolve_game": (TOP / "crates/pg_arrays/src/arrays.rt", "Arrays"),
+STRUCTS = {"parsolve_game": (TOP / "crates/parsolve_c_csr/src/arrays.rt", "Arrays"),
            "parsolve_found": (SOURCES / "checking.rt", "ParsolveFound"), "parsolve_text": (SOURCES / "answering.rt", "ParsolveText")}
 
 
@@ -82,7 +82,7 @@ def header_checks():
     ours = dict(re.findall(r"^pub const (PARSOLVE_\w+): u32 = (\d+);", (SOURCES / "code.rt").read_text(), re.M))
     theirs = dict(re.findall(r"\b(PARSOLVE_\w+) = (\d+)", header()))
     yield compared("codes", ours, theirs)
-    no_choice = re.search(r"pub const NO_CHOICE: u32 = ([\d_]+);", (TOP / "crates/pg_arrays/src/solution.rt").read_text())[1]
+    no_choice = re.search(r"pub const NO_CHOICE: u32 = ([\d_]+);", (TOP / "crates/parsolve_c_csr/src/solution.rt").read_text())[1]
     yield compared("NO_CHOICE", int(no_choice), 2**32 - 1 if "PARSOLVE_NO_CHOICE UINT32_MAX" in header() else None)
     for name, (path, struct) in STRUCTS.items():
         fields = re.search(rf"pub struct {struct}(?:<'a>)? \{{(.*?)\n\}}", path.read_text(), re.S)[1]
@@ -182,7 +182,7 @@ def example_checks(folder, work):
     yield "the example with vectors", why or differs(printed([work / "vectors"]), printed([work / "example-cpp"]))
     yield "the examples of the module", ran([sys.executable, "-m", "doctest", folder / "python/parsolve/__init__.py"],
                                             env=with_module(folder))
-    version = re.search(r'^const VERSION: &str = "(.*)";$', (TOP / "crates/pg_words/src/words.rt").read_text(), re.M)[1]
+    version = re.search(r'^const VERSION: &str = "(.*)";$', (TOP / "crates/pg_cli_words/src/words.rt").read_text(), re.M)[1]
     laid = "".join((folder / it).read_text() for it in ("include/parsolve.h", "lib/pkgconfig/parsolve.pc", "python/pyproject.toml",
                                                          "python/parsolve/__init__.py"))
     yield "the version", None if laid.count(version) == 4 and "@" + "VERSION" not in laid else f"isn't {version} in each place"

@@ -95,7 +95,7 @@ class Copy:
         (self.kit / "rt").chmod(0o755)
         for name in CRATES:
             self.write(self.source(name), name)
-        self.write(self.top / "crates/pg_words/src/words.rt", 'const VERSION: &str = "1.2.3";\n')
+        self.write(self.top / "crates/pg_cli_words/src/words.rt", 'const VERSION: &str = "1.2.3";\n')
         self.write(self.top / "crates.txt", "".join(f"{name}: {uses}\n" for name, uses in CRATES.items()))
         (self.top / "tools").mkdir()
         for name in ("parsolve", "build", "test", "tools/sources", "tools/stale"):

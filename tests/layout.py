@@ -29,8 +29,8 @@ CRATES, README, MAP, DEFINITIONS = TOP / "crates", TOP / "README.md", TOP / "doc
 PROMISES = TOP / "docs/promises.md"
 APART = {"Mirrors", "Lemmas"}
 EXCEPTIONS = re.compile(r"Public calls whose contracts name one: ((?:[^.]|\n)*)\.")
-KIT = {"byteorder": "pg_wire", "clap": "pg_words", "indexmap": "pg_synth", "itoa": "pg_command pg_synth pg_text",
-       "thiserror": "pg_arrays pg_check pg_rounds pg_wire pg_worker pg_world"}
+KIT = {"byteorder": "pg_wire", "clap": "pg_cli_words", "indexmap": "pg_synth", "itoa": "pg_cli_command pg_synth pg_text",
+       "thiserror": "parsolve_c_csr pg_check pg_coord_rounds pg_wire pg_worker pg_world"}
 ROW = re.compile(r"^\| `(\w+/specs/[\w/]+\.antt)` \| (\d+) \|", re.M)
 
 

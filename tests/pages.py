@@ -81,8 +81,8 @@ def shown_code():
 def shown_theorem():
     """The same for the clause that the README prints and the law of docs/promises.md: they are as the sources have them."""
     for page, head, source in (("README.md", "ensures answer", "pg_cli/src/program.rt"),
-                               ("docs/promises.md", "pub record", "pg_command/specs/Laws.antt"),
-                               ("docs/promises.md", "abbrev pub", "pg_command/specs/Laws.antt")):
+                               ("docs/promises.md", "pub record", "pg_cli_command/specs/Laws.antt"),
+                               ("docs/promises.md", "abbrev pub", "pg_cli_command/specs/Laws.antt")):
         text = (TOP / page).read_text()
         block = re.sub("^    ", "", re.search(rf"^    {head} (?:.*\n)(?:    .*\n)*", text, re.M)[0], flags=re.M)
         sources = re.sub("^    ensures", "ensures", (TOP / "crates" / source).read_text(), flags=re.M)
@@ -98,7 +98,7 @@ def examples():
 
 def version():
     """The same for the version that CHANGELOG.md says first: `--version` says the same one."""
-    said = re.search(r'^const VERSION: &str = "(.*)";$', (TOP / "crates/pg_words/src/words.rt").read_text(), re.M)
+    said = re.search(r'^const VERSION: &str = "(.*)";$', (TOP / "crates/pg_cli_words/src/words.rt").read_text(), re.M)
     is_first = said and re.search(r"^## (.*) \(", (TOP / "CHANGELOG.md").read_text(), re.M)[1] == said[1]
     yield "CHANGELOG.md: the version", None if is_first else "isn't the one that --version says"
 

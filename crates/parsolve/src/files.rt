@@ -4,7 +4,7 @@ ghost use Rattle.std.specs.Prelude.{◌≤◌, length, IfOk};
 
 use crate::fault::Fault;
 use pg_cli::{CliFault, MOST_BYTES, read_input};
-use pg_words::STANDARD_INPUT;
+use pg_cli_words::STANDARD_INPUT;
 use std::alloc::AllocError;
 use std::fs::{self, Files, OpenFile};
 use std::io;

@@ -6,7 +6,7 @@ mod files;
 mod outs;
 
 ghost use Rattle.std.specs.Prelude.{◌≤◌, ℕ, List, length};
-ghost use Rattle.pg_words.specs.Words.{AsksFor, HasFewWorkers};
+ghost use Rattle.pg_cli_words.specs.Words.{AsksFor, HasFewWorkers};
 
 use fault::{Fault, tell};
 use files::{read, read_both};
@@ -14,9 +14,9 @@ use outs::name_outputs;
 use pg_cli::{
     CliFault, Command, Line, MOST_BYTES, Programs, check_texts, replay_texts, work, write_answer,
 };
+use pg_cli_statistics::{CountedTops, Figures, Notes, Watch, first_text};
+use pg_cli_words::{Request, Told, part_words, read_words};
 use pg_coord::Reach;
-use pg_figures::{CountedTops, Figures, Notes, Watch, first_text};
-use pg_words::{Request, Told, part_words, read_words};
 use std::alloc::{AllocError, Global};
 use std::env;
 use std::io::{self, BufWriter, Write};

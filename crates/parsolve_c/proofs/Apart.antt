@@ -1,9 +1,9 @@
 -- The fault that is told, from what is told.
 use Rattle.std.proofs.Common.{◌≡◌, ℕ, ◌==◌, if◌then◌else◌, unwrap_or, refl, sym, ap, ◌∙◌}
-use Rattle.pg_arrays.specs.declared.fault.GameFault.TheVariants.{Lengths, NoVertex, TooManyVertices, TooManyEdges}
-use Rattle.pg_arrays.specs.declared.fault.GameFault.TheVariants.{PriorityTooLarge, BadOwner, BadStart, NoSuccessor, UnknownSuccessor}
-use Rattle.pg_arrays.specs.declared.fault.ArraysFault.{ArraysFault}
-use Rattle.pg_arrays.specs.declared.fault.ArraysFault.TheVariants.{OutOfMemory, Game, SolutionLengths, BadWinner, BadChoice}
+use Rattle.parsolve_c_csr.specs.declared.fault.GameFault.TheVariants.{Lengths, NoVertex, TooManyVertices, TooManyEdges}
+use Rattle.parsolve_c_csr.specs.declared.fault.GameFault.TheVariants.{PriorityTooLarge, BadOwner, BadStart, NoSuccessor, UnknownSuccessor}
+use Rattle.parsolve_c_csr.specs.declared.fault.ArraysFault.{ArraysFault}
+use Rattle.parsolve_c_csr.specs.declared.fault.ArraysFault.TheVariants.{OutOfMemory, Game, SolutionLengths, BadWinner, BadChoice}
 use Rattle.parsolve_c.specs.Codes.{code_of, vertex_of, TellsFaultsApart}
 
 -- the fault of a code and a vertex

@@ -6,8 +6,8 @@ use Rattle.pg_check.specs.declared.verdict.Verdict.{Verdict}
 use Rattle.pg_check.specs.declared.verdict.Verdict.TheVariants.{Wins, Leaves, BadCycle}
 use Rattle.pg_check.specs.Soundness.{IsSound, NoneLeaves}
 use Rattle.pg_check.specs.Verdicts.{IsWins, Refutes, IsLeastLeaving, IsSimpleBadCycle}
-use Rattle.pg_arrays.specs.Games.{GameArrays, game_of}
-use Rattle.pg_arrays.specs.Solutions.{SpellsSolution, KeepsCycle, solution_of}
+use Rattle.parsolve_c_csr.specs.Games.{GameArrays, game_of}
+use Rattle.parsolve_c_csr.specs.Solutions.{SpellsSolution, KeepsCycle, solution_of}
 use Rattle.parsolve_c.specs.declared.checking.ParsolveFound.{ParsolveFound}
 use Rattle.parsolve_c.specs.Answers as answers
 use Rattle.parsolve_c.specs.Answers.{IsFoundSound, IsFoundUnsound, IsHanded, HasCycle}

@@ -2,8 +2,8 @@
 use Rattle.std.specs.Prelude.{◌≡◌, ℕ, ◌<◌, ◌≤◌, List, length, drop, ◌++◌}
 use Rattle.pg_check.specs.Soundness.{IsSound, NoneLeaves}
 use Rattle.pg_check.specs.Verdicts.{IsLeastLeaving, IsSimpleBadCycle}
-use Rattle.pg_arrays.specs.Games.{GameArrays, SpellsGame, game_of}
-use Rattle.pg_arrays.specs.Solutions.{Solves, SpellsSolution, solution_of}
+use Rattle.parsolve_c_csr.specs.Games.{GameArrays, SpellsGame, game_of}
+use Rattle.parsolve_c_csr.specs.Solutions.{Solves, SpellsSolution, solution_of}
 use Rattle.parsolve_c.specs.declared.checking.ParsolveFound.{ParsolveFound}
 
 -- the arrays spell a game, and these are a sound solution of it

@@ -1,10 +1,10 @@
 -- The codes of faults.
 use Rattle.std.specs.Prelude.{◌≡◌, ℕ, Option, Some, None, unwrap_or}
-use Rattle.pg_arrays.specs.declared.fault.GameFault.{GameFault}
-use Rattle.pg_arrays.specs.declared.fault.GameFault.TheVariants.{Lengths, NoVertex, TooManyVertices, TooManyEdges}
-use Rattle.pg_arrays.specs.declared.fault.GameFault.TheVariants.{PriorityTooLarge, BadOwner, BadStart, NoSuccessor, UnknownSuccessor}
-use Rattle.pg_arrays.specs.declared.fault.ArraysFault.{ArraysFault}
-use Rattle.pg_arrays.specs.declared.fault.ArraysFault.TheVariants.{OutOfMemory, Game, SolutionLengths, BadWinner, BadChoice}
+use Rattle.parsolve_c_csr.specs.declared.fault.GameFault.{GameFault}
+use Rattle.parsolve_c_csr.specs.declared.fault.GameFault.TheVariants.{Lengths, NoVertex, TooManyVertices, TooManyEdges}
+use Rattle.parsolve_c_csr.specs.declared.fault.GameFault.TheVariants.{PriorityTooLarge, BadOwner, BadStart, NoSuccessor, UnknownSuccessor}
+use Rattle.parsolve_c_csr.specs.declared.fault.ArraysFault.{ArraysFault}
+use Rattle.parsolve_c_csr.specs.declared.fault.ArraysFault.TheVariants.{OutOfMemory, Game, SolutionLengths, BadWinner, BadChoice}
 use Rattle.parsolve_c.specs.declared.code.TheConstants.{PARSOLVE_OUT_OF_MEMORY, PARSOLVE_LENGTHS, PARSOLVE_NO_VERTEX}
 use Rattle.parsolve_c.specs.declared.code.TheConstants.{PARSOLVE_TOO_MANY_VERTICES, PARSOLVE_TOO_MANY_EDGES, PARSOLVE_PRIORITY}
 use Rattle.parsolve_c.specs.declared.code.TheConstants.{PARSOLVE_OWNER}

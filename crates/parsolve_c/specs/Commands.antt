@@ -1,11 +1,11 @@
 -- What the numbers of commands say, and what is answered to a text.
 use Rattle.std.specs.Prelude.{◌≡◌, ◌≢◌, ℕ, ◌<◌, ◌==◌, List, length, drop, ◌++◌, Option, Some, None, if◌then◌else◌}
-use Rattle.pg_words.specs.declared.command.Command.{Command}
-use Rattle.pg_words.specs.declared.command.Command.TheVariants.{Measure, Solve, SolveAny, Check, Replay, Game, Synth}
-use Rattle.pg_command.specs.declared.fault.CliFault.{CliFault}
-use Rattle.pg_command.specs.declared.fault.CliFault.TheVariants.{OutOfMemory, Read, Write}
-use Rattle.pg_command.specs.FaultTexts.{fault_line}
-use Rattle.pg_command.specs.Answers.{Prints, Refuses}
+use Rattle.pg_cli_words.specs.declared.command.Command.{Command}
+use Rattle.pg_cli_words.specs.declared.command.Command.TheVariants.{Measure, Solve, SolveAny, Check, Replay, Game, Synth}
+use Rattle.pg_cli_command.specs.declared.fault.CliFault.{CliFault}
+use Rattle.pg_cli_command.specs.declared.fault.CliFault.TheVariants.{OutOfMemory, Read, Write}
+use Rattle.pg_cli_command.specs.FaultTexts.{fault_line}
+use Rattle.pg_cli_command.specs.Answers.{Prints, Refuses}
 use Rattle.parsolve_c.specs.declared.code.TheConstants.{PARSOLVE_COMMAND_MEASURE, PARSOLVE_COMMAND_SOLVE, PARSOLVE_COMMAND_CHECK}
 use Rattle.parsolve_c.specs.declared.code.TheConstants.{PARSOLVE_COMMAND_REPLAY, PARSOLVE_COMMAND_GAME, PARSOLVE_COMMAND_SYNTH, PARSOLVE_COMMAND_SOLVE_ANY}
 

@@ -1,9 +1,9 @@
 //! Commands, from texts to texts in memory.
 
 ghost use Rattle.std.specs.Prelude.{◌≡◌, ◌≢◌, ◌↔◌, ◌⊎◌, ℕ, ◌<◌, ◌≤◌, List, length, None, IfOk, IfErr};
-ghost use Rattle.pg_command.specs.FaultTexts.{fault_line};
-ghost use Rattle.pg_command.specs.Answers.{Prints, Refuses};
-ghost use Rattle.pg_command.specs.declared.fault.CliFault.{CliFault};
+ghost use Rattle.pg_cli_command.specs.FaultTexts.{fault_line};
+ghost use Rattle.pg_cli_command.specs.Answers.{Prints, Refuses};
+ghost use Rattle.pg_cli_command.specs.declared.fault.CliFault.{CliFault};
 ghost use Rattle.parsolve_c.specs.Answers.{IsHanded};
 ghost use Rattle.parsolve_c.specs.Commands.{command_of, IsPrinted, IsFaultLine, IsHandedWhole, IsTooLong};
 ghost use Rattle.parsolve_c.specs.Mirrors.Replies.{IsReply};
@@ -15,8 +15,8 @@ use crate::code::{
     PARSOLVE_TOO_SHORT,
 };
 use crate::copying::copy_bytes;
-use pg_command::{CliFault, Command, MOST_BYTES, answer, write_fault};
-use pg_one_piece::InOnePiece;
+use pg_cli_command::{CliFault, Command, MOST_BYTES, answer, write_fault};
+use pg_cli_in_one_piece::InOnePiece;
 use std::alloc::{AllocError, Global};
 
 /// The command of a number.

@@ -1,15 +1,15 @@
 //! Checking.
 
 ghost use Rattle.std.specs.Prelude.{◌≡◌, ◌≢◌};
-ghost use Rattle.pg_arrays.specs.Games.{arrays_of};
-ghost use Rattle.pg_arrays.specs.Faults.{RefusesCheck};
+ghost use Rattle.parsolve_c_csr.specs.Games.{arrays_of};
+ghost use Rattle.parsolve_c_csr.specs.Faults.{RefusesCheck};
 ghost use Rattle.parsolve_c.specs.Codes.{IsTold};
 ghost use Rattle.parsolve_c.specs.Answers.{IsFoundSound, Leaves, HasCycle};
 ghost use Rattle.parsolve_c.specs.Mirrors.Verdicts.{Tells};
 
 use crate::code::{PARSOLVE_CYCLE, PARSOLVE_LEAVES, PARSOLVE_OK, tell_fault};
 use crate::copying::copy_vertices;
-use pg_arrays::{Arrays, check};
+use parsolve_c_csr::{Arrays, check};
 use pg_check::Verdict;
 use std::alloc::Global;
 

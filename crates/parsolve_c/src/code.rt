@@ -3,7 +3,7 @@
 ghost use Rattle.std.specs.Prelude.{◌≡◌, unwrap_or};
 ghost use Rattle.parsolve_c.specs.Codes.{code_of, game_code, vertex_of, game_vertex};
 
-use pg_arrays::{ArraysFault, GameFault};
+use parsolve_c_csr::{ArraysFault, GameFault};
 
 pub const PARSOLVE_OK: u32 = 0;
 

@@ -1,13 +1,13 @@
 //! Solving.
 
 ghost use Rattle.std.specs.Prelude.{◌≡◌, ◌≢◌};
-ghost use Rattle.pg_arrays.specs.Games.{arrays_of};
-ghost use Rattle.pg_arrays.specs.Faults.{RefusesSolve};
+ghost use Rattle.parsolve_c_csr.specs.Games.{arrays_of};
+ghost use Rattle.parsolve_c_csr.specs.Faults.{RefusesSolve};
 ghost use Rattle.parsolve_c.specs.Codes.{IsTold};
 ghost use Rattle.parsolve_c.specs.Answers.{IsSolved};
 
 use crate::code::{PARSOLVE_OK, tell_fault};
-use pg_arrays::{Arrays, solve};
+use parsolve_c_csr::{Arrays, solve};
 use std::alloc::Global;
 
 /// Solves a game. `PARSOLVE_OK`: a sound solution of the game that the arrays spell stands in `winners` and `strategy`. Else the code of

@@ -24,8 +24,8 @@ pub use Rattle.std.specs.List.{AllByRecursion, flat_map, fold, items_where_true,
 pub use Rattle.std.specs.Prelude.{All, Bool, Err, IsErrAnd, List, Ok, Option, Result, [], codes, cond, decimal, eqb, false, get_or, length}
 pub use Rattle.std.specs.Prelude.{ltb, map, max, min, not, slice_index, suc, take, true, zero, ℕ, ◌%◌, ◌&&◌, ◌*◌, ◌++◌, ◌+◌, ◌-◌, ◌/◌, ◌<◌}
 pub use Rattle.std.specs.Prelude.{◌==◌, ◌^◌, ◌||◌, ◌↔◌, ◌∷◌, ◌≡◌, ◌≢◌, ◌≤◌, ◌⊎◌}
-pub use Rattle.pg_automaton.specs.Automata.{Automaton, IsAutomaton, IsNameByte, IsPropositionName}
-pub use Rattle.pg_lists.specs.Bytes.{Each, is_digit, value_of}
+pub use Rattle.pg_hoa_automaton.specs.Automata.{Automaton, IsAutomaton, IsNameByte, IsPropositionName}
+pub use Rattle.pg_list_lemmas.specs.Bytes.{Each, is_digit, value_of}
 pub use Rattle.pg_synth.specs.Letters.{inputs, joined, outputs}
 pub use Rattle.pg_synth.specs.Machines.{IsMachine, Machine, machine_output, machine_state, machine_word, no_reply, reply}
 pub use Rattle.pg_synth.specs.declared.mealy.Reply.{Reply}

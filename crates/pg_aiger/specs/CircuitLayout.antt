@@ -1,7 +1,7 @@
 -- The layout in which a circuit is printed.
 use Rattle.std.specs.Prelude.{ℕ, suc, not, List, [], ◌∷◌, ◌++◌, map, codes, decimal}
 use Rattle.std.specs.List.{flat_map, items_where_true}
-use Rattle.pg_automaton.specs.Automata.{Automaton}
+use Rattle.pg_hoa_automaton.specs.Automata.{Automaton}
 use Rattle.pg_aiger.specs.Circuits.{Circuit}
 use Rattle.pg_aiger.specs.CircuitText.{Kind, input, output, Symbol, Row, header, numbers, symbol, kind_text, rows_of}
 

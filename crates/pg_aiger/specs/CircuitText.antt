@@ -1,7 +1,7 @@
 -- What a circuit text is, by lines of numbers and symbols.
 use Rattle.std.specs.Prelude.{◌≡◌, ◌≢◌, ℕ, ◌<◌, Bool, true, false, ◌==◌, List, [], ◌∷◌, ◌++◌, length, map, codes, if◌then◌else◌}
 use Rattle.std.specs.List.{AllByRecursion}
-use Rattle.pg_lists.specs.Bytes.{Each, is_digit, value_of}
+use Rattle.pg_list_lemmas.specs.Bytes.{Each, is_digit, value_of}
 use Rattle.pg_aiger.specs.Circuits.{Circuit}
 
 -- what a symbol names

@@ -1,6 +1,6 @@
 -- The laws, as statements.
 use Rattle.std.specs.Prelude.{◌≡◌, ℕ, ◌^◌, ◌<◌, ◌≤◌, Bool, List, length}
-use Rattle.pg_automaton.specs.Automata.{Automaton, IsAutomaton}
+use Rattle.pg_hoa_automaton.specs.Automata.{Automaton, IsAutomaton}
 use Rattle.pg_synth.specs.Letters.{inputs, outputs}
 use Rattle.pg_synth.specs.Machines.{Machine, machine_word}
 use Rattle.pg_aiger.specs.Circuits.{Circuit, IsNumbered}

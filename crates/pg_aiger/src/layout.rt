@@ -3,7 +3,7 @@
 ghost use Rattle.std.specs.Prelude.{◌≡◌, ◌+◌, ◌^◌, ◌<◌, ◌≤◌, ◌++◌, length, map, codes, OnOk, IfErr};
 ghost use Rattle.std.specs.List.{flat_map};
 ghost use Rattle.std.specs.Io.KnownBytes.{Appends};
-ghost use Rattle.pg_automaton.specs.Automata.{IsAutomaton};
+ghost use Rattle.pg_hoa_automaton.specs.Automata.{IsAutomaton};
 ghost use Rattle.pg_synth.specs.Letters as letters;
 ghost use Rattle.pg_aiger.specs.CircuitText.{header, symbol};
 ghost use Rattle.pg_aiger.specs.CircuitLayout.{spaced, spaced_number, row_text, circuit_text};
@@ -13,7 +13,7 @@ ghost use Rattle.pg_aiger.specs.Mirrors.Views.{literals_from, latches_from};
 use crate::circuit::Circuit;
 use crate::fault::AigerFault;
 use crate::gate::Gate;
-use pg_automaton::Automaton;
+use pg_hoa_automaton::Automaton;
 use pg_text::writing::write_number;
 use std::io::{self, Write};
 

@@ -33,10 +33,10 @@ pub use Rattle.std.specs.Prelude.{option_map, option_to_list, replicate, set, sl
 pub use Rattle.std.specs.Prelude.{vec_capacity, vec_len, zero, ℕ, ◌++◌, ◌+◌, ◌-◌, ◌<◌, ◌^◌, ◌||◌, ◌∷◌, ◌≡◌, ◌≤◌, ◌⊎◌}
 pub use Rattle.std.specs.declared.alloc.Global.{Global}
 pub use Rattle.std.specs.declared.vec.Vec.{Vec}
-pub use Rattle.pg_lists.proofs.Contained.{Rises, contains_cases, contains_flat, contains_here, contains_later, contains_map}
-pub use Rattle.pg_lists.proofs.Contained.{contains_mapped, pairs_by, pairs_head, pairs_tail, same_order}
-pub use Rattle.pg_lists.proofs.Rising.{dedup_rising, has, has_contained, rises_already, rising_rises}
-pub use Rattle.pg_lists.specs.Rising.{rising}
+pub use Rattle.pg_list_lemmas.proofs.Contained.{Rises, contains_cases, contains_flat, contains_here, contains_later, contains_map}
+pub use Rattle.pg_list_lemmas.proofs.Contained.{contains_mapped, pairs_by, pairs_head, pairs_tail, same_order}
+pub use Rattle.pg_list_lemmas.proofs.Rising.{dedup_rising, has, has_contained, rises_already, rising_rises}
+pub use Rattle.pg_list_lemmas.specs.Rising.{rising}
 pub use Rattle.pg_arena.specs.Games.{GameVertex, HasPrioritiesUpTo, IsEdge, IsGame, IsWithinLimits, dual, dual_vertex, edge_count}
 pub use Rattle.pg_arena.specs.Games.{identifier, identifiers, nowhere, successors, vertex_at}
 pub use Rattle.pg_arena.specs.Lemmas.Duals.{game_dual, limits_dual}

@@ -4,7 +4,7 @@ use Rattle.std.specs.Prelude.{Ok, Err, ◌==◌, nat_lt, nat_le, if◌then◌els
 use Rattle.std.specs.Borrow.{Bor}
 use Rattle.std.specs.List.{list_any}
 use Rattle.std.specs.List.Sorted.{IsPermutation}
-use Rattle.pg_lists.specs.Rising.{rising}
+use Rattle.pg_list_lemmas.specs.Rising.{rising}
 use Rattle.pg_arena.specs.declared.player.Player.{Player}
 use Rattle.pg_arena.specs.declared.fault.ArenaFault.{ArenaFault}
 use Rattle.pg_arena.specs.declared.fault.ArenaFault.TheVariants.{OutOfMemory, DuplicateVertex, NoSuccessor, UnknownSuccessor}

@@ -5,7 +5,7 @@ ghost use Rattle.std.specs.List.Sorted.{IsStrictlyIncreasing};
 ghost use Rattle.pg_arena.specs.declared.fault.ArenaFault.TheVariants.{OutOfMemory};
 ghost use Rattle.pg_arena.specs.Games.{GameVertex, HasPrioritiesUpTo};
 ghost use Rattle.pg_arena.specs.Lines.{Line, line_with, counted, add_fault, Answers, IsGameOf, FinishFails};
-ghost use Rattle.pg_lists.specs.Rising.{rising};
+ghost use Rattle.pg_list_lemmas.specs.Rising.{rising};
 
 use crate::fault::ArenaFault;
 use crate::game::Game;

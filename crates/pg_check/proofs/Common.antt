@@ -39,9 +39,9 @@ pub use Rattle.pg_map.specs.Maps.{IsClosed, IsFirstServing, IsServedBy, MapValue
 pub use Rattle.pg_measure.proofs.Order.{covers_or}
 pub use Rattle.pg_measure.proofs.SomeBounds.{priority_bound}
 pub use Rattle.pg_measure.specs.Measures.{BoundList, Covers, MeasureValue, is_odd, width_from}
-pub use Rattle.pg_order.proofs.Nested.{wins_nodes}
-pub use Rattle.pg_order.specs.Orders.{span_at}
-pub use Rattle.pg_order.specs.declared.span.Span.{Span}
+pub use Rattle.pg_check_order.proofs.Nested.{wins_nodes}
+pub use Rattle.pg_check_order.specs.Orders.{span_at}
+pub use Rattle.pg_check_order.specs.declared.span.Span.{Span}
 pub use Rattle.pg_text.specs.Solutions.{IsSolution, answer_at, choice, loser, unanswered, winner}
 pub use Rattle.pg_text.specs.declared.answer.Answer.{Answer}
 pub use Rattle.pg_check.specs.Laws.{HasOneLoser, KeepsToSolution, SoundIffWins}

@@ -9,10 +9,10 @@ ghost use Rattle.pg_check.specs.Mirrors.Orders.{AllHaveParityOf, IsAnyChoice};
 use crate::order::{Order, height};
 use crate::shown::is_shown;
 use pg_arena::{Game, Player, Vertex};
-use pg_arrange::{at, count, put};
-use pg_order::Span;
+use pg_check_order::Span;
+use pg_search_components::{at, count, put};
+use pg_search_winners::{Graph, Winners, find_winners};
 use pg_text::Solution;
-use pg_winners::{Graph, Winners, find_winners};
 use std::alloc::{AllocError, Global};
 
 /// A solution, and an order that is to show that it is sound: what Even wins stands before the split.

@@ -5,12 +5,12 @@
 
 ghost use Rattle.std.specs.Prelude.{◌≡◌, ◌%◌, ◌<◌, ◌≤◌, length, slice_index};
 ghost use Rattle.std.specs.Bool.{OnTrue};
-ghost use Rattle.pg_order.specs.Orders.{span_at};
+ghost use Rattle.pg_check_order.specs.Orders.{span_at};
 ghost use Rattle.pg_check.specs.Mirrors.Orders.{height_at, Stands, IsOrder};
 
 use crate::edges::counted;
 use pg_arena::{Game, Player, Vertex};
-use pg_order::{Span, are_nested};
+use pg_check_order::{Span, are_nested};
 use pg_text::Solution;
 
 /// The place of each vertex, and the span of each place.

@@ -8,7 +8,7 @@ ghost use Rattle.pg_check.specs.Mirrors.Orders.{GoesOn, IsOnSide};
 use crate::edges::counted;
 use crate::order::{Order, stands};
 use pg_arena::{Game, Player, Vertex};
-use pg_order::are_nested;
+use pg_check_order::are_nested;
 use pg_text::Solution;
 
 /// Whether a place is on the side of a player: before the split if that is Even, and else from there on.

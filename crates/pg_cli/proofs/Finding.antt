@@ -6,11 +6,11 @@ use Rattle.std.specs.Io.KnownBytes.{Appends}
 use Rattle.pg_arena.specs.Games.{GameVertex}
 use Rattle.pg_map.specs.Lines.{game_line}
 use Rattle.pg_map.specs.Maps.{MapValue}
-use Rattle.pg_parts.specs.Cuts.{CutValue, IsEvenCut}
-use Rattle.pg_rounds.specs.Replies.{Reply, TellReplies, IsLeastOverReplies}
-use Rattle.pg_command.specs.Measuring.{MapKind, IsClosedMapOf, IsMeasureOf, IsMeasured}
-use Rattle.pg_command.specs.declared.fault.CliFault.{CliFault}
-use Rattle.pg_command.proofs.MapKinds.{measured_too}
+use Rattle.pg_coord_partition.specs.Cuts.{CutValue, IsEvenCut}
+use Rattle.pg_coord_rounds.specs.Replies.{Reply, TellReplies, IsLeastOverReplies}
+use Rattle.pg_cli_command.specs.Measuring.{MapKind, IsClosedMapOf, IsMeasureOf, IsMeasured}
+use Rattle.pg_cli_command.specs.declared.fault.CliFault.{CliFault}
+use Rattle.pg_cli_command.proofs.MapKinds.{measured_too}
 use Rattle.pg_cli.specs.Linked.{IsLeastOverTold}
 use Rattle.pg_cli.specs.Mirrors.Finding.{IsFoundIf}
 

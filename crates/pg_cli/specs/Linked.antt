@@ -3,9 +3,9 @@ use Rattle.std.specs.Prelude.{ℕ, ◌≤◌, List, Option, length}
 use Rattle.pg_arena.specs.Games.{GameVertex}
 use Rattle.pg_map.specs.Lines.{game_line}
 use Rattle.pg_map.specs.Maps.{MapValue}
-use Rattle.pg_parts.specs.Cuts.{CutValue, IsEvenCut}
-use Rattle.pg_rounds.specs.Replies.{Reply, TellReplies, IsLeastOverReplies}
-use Rattle.pg_command.specs.Measuring.{IsClosedMapOf}
+use Rattle.pg_coord_partition.specs.Cuts.{CutValue, IsEvenCut}
+use Rattle.pg_coord_rounds.specs.Replies.{Reply, TellReplies, IsLeastOverReplies}
+use Rattle.pg_cli_command.specs.Measuring.{IsClosedMapOf}
 
 -- The map is closed for the game, and was found in one round or more. If the links tell replies, by the even cut of the game among
 -- them, then each round took one reply of each link, while the link had one left and had failed three times at most, and the map

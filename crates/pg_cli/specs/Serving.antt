@@ -4,8 +4,8 @@ use Rattle.pg_wire.specs.declared.fault.WireFault.TheVariants as wire
 use Rattle.pg_worker.specs.declared.fault.WorkerFault.{WorkerFault}
 use Rattle.pg_worker.specs.declared.fault.WorkerFault.TheVariants as worker
 use Rattle.pg_worker.specs.Serving.{Breaks}
-use Rattle.pg_command.specs.declared.fault.CliFault.{CliFault}
-use Rattle.pg_command.specs.declared.fault.CliFault.TheVariants.{OutOfMemory, Connect, Worker}
+use Rattle.pg_cli_command.specs.declared.fault.CliFault.{CliFault}
+use Rattle.pg_cli_command.specs.declared.fault.CliFault.TheVariants.{OutOfMemory, Connect, Worker}
 
 -- serving ended with the fault: a write failed, or the fault came after the frames that were answered
 abbrev pub EndsServing : WorkerFault → Option (List ℕ) → Option (List ℕ) → Option (List ℕ) → Type 0

@@ -1,14 +1,14 @@
 //! Commands whose games are solved by programs.
 
 ghost use Rattle.std.specs.Prelude.{◌≡◌, ◌≢◌, ◌+◌, ◌<◌, ◌≤◌, ◌⊎◌, length, IfOk, IfSome, IfErr};
-ghost use Rattle.pg_command.specs.Input.{StaysWithin};
-ghost use Rattle.pg_command.specs.Measuring.{IsClosedMapOf, IsMeasureOf};
-ghost use Rattle.pg_command.specs.Answers.{Answers, Prints, PrintsBy, Refuses, RefusesBy};
-ghost use Rattle.pg_words.specs.Words.{HasFewWorkers, HasNoWorkers};
+ghost use Rattle.pg_cli_command.specs.Input.{StaysWithin};
+ghost use Rattle.pg_cli_command.specs.Measuring.{IsClosedMapOf, IsMeasureOf};
+ghost use Rattle.pg_cli_command.specs.Answers.{Answers, Prints, PrintsBy, Refuses, RefusesBy};
+ghost use Rattle.pg_cli_words.specs.Words.{HasFewWorkers, HasNoWorkers};
 
 use crate::over_links::Rounds;
 use crate::program::answer_over;
-use pg_command::{CliFault, Command, MOST_BYTES, read_input};
+use pg_cli_command::{CliFault, Command, MOST_BYTES, read_input};
 use pg_coord::{Link, LinkFault, Reach, SocketLink, halt};
 use std::alloc::{AllocError, Global};
 use std::io::{Read, Write};
@@ -61,7 +61,7 @@ pub struct Programs<R: Reach> {
 
 impl<R: Reach> Programs<R> {
     ghost use Rattle.std.specs.Prelude.{◌≡◌, ◌<◌, ◌⊎◌, length, unwrap_or, IfOk, IfErr};
-    ghost use Rattle.pg_words.specs.Commands.{workers_of};
+    ghost use Rattle.pg_cli_words.specs.Commands.{workers_of};
 
     /// Listens for so many programs, each of which will be `path`. Refuses `Listen` where no port of 127.0.0.1 can be listened
     /// at; where the command asks for no workers, or solves nothing, no program is wanted.

@@ -8,10 +8,10 @@ mod program;
 mod working;
 
 pub use apart::{Programs, run_apart};
-pub use pg_command::{
+pub use pg_cli_command::{
     CliFault, Command, MOST_BYTES, check_texts, exit_code, laws, read_input, replay_texts, winners,
     write_fault,
 };
-pub use pg_words::{Line, parse_words};
+pub use pg_cli_words::{Line, parse_words};
 pub use program::{answer, run, run_with, write_answer};
 pub use working::work;

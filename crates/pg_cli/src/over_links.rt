@@ -2,17 +2,17 @@
 
 ghost use Rattle.std.specs.Prelude.{length, All, IfOk, IfSome};
 ghost use Rattle.pg_arena.specs.Games.{HasPrioritiesUpTo, dual};
-ghost use Rattle.pg_parts.specs.Cuts.{IsEvenCut};
+ghost use Rattle.pg_coord_partition.specs.Cuts.{IsEvenCut};
 ghost use Rattle.pg_cli.specs.Linked.{IsLeastOverTold};
 ghost use Rattle.pg_cli.specs.Mirrors.Finding.{IsFoundIf};
 
 use pg_arena::{Game, dual};
-use pg_command::{Finder, Maps};
+use pg_cli_command::{Finder, Maps};
+use pg_cli_in_one_piece::InOnePiece;
 use pg_coord::{Link, solve, solve_within};
+use pg_coord_partition::fits_worker;
 use pg_map::MeasureMap;
 use pg_measure::Bounds;
-use pg_one_piece::InOnePiece;
-use pg_parts::fits_worker;
 use pg_solver::Found;
 use pg_worker::Cut;
 use std::alloc::{AllocError, Global};

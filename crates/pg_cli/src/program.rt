@@ -2,15 +2,15 @@
 
 ghost use Rattle.std.specs.Prelude.{◌≡◌, ◌≢◌, ◌+◌, ◌≤◌, ℕ, List, length, All, IfOk, OnOk, IfSome, IsNone, IfErr};
 ghost use Rattle.std.specs.Io.KnownBytes.{Appends};
-ghost use Rattle.pg_command.specs.Input.{StaysWithin};
-ghost use Rattle.pg_command.specs.Measuring.{IsClosedMapOf, IsMeasureOf, IsMeasured};
-ghost use Rattle.pg_command.specs.Answers.{Answers, Prints, Refuses};
-ghost use Rattle.pg_words.specs.Commands.{workers_of};
+ghost use Rattle.pg_cli_command.specs.Input.{StaysWithin};
+ghost use Rattle.pg_cli_command.specs.Measuring.{IsClosedMapOf, IsMeasureOf, IsMeasured};
+ghost use Rattle.pg_cli_command.specs.Answers.{Answers, Prints, Refuses};
+ghost use Rattle.pg_cli_words.specs.Commands.{workers_of};
 ghost use Rattle.pg_cli.specs.Linked.{IsLeastOverTold};
-ghost use Rattle.pg_words.specs.Words.{HasFewWorkers};
+ghost use Rattle.pg_cli_words.specs.Words.{HasFewWorkers};
 
 use crate::over_links::{OverLinks, Rounds};
-use pg_command::{CliFault, Command, MOST_BYTES, read_input, run_by};
+use pg_cli_command::{CliFault, Command, MOST_BYTES, read_input, run_by};
 use pg_coord::{Link, MemoryLink};
 use std::alloc::{AllocError, Global};
 use std::io::{Read, Write};
@@ -114,7 +114,7 @@ pub(crate) fn answer_over<L: Link, W: Write>(
     ensures untouched { IfErr result (λ fault. fault ≢ CliFault.Write → writer.new ≡ writer.old) }
 {
     let mut finder = OverLinks { links, rounds };
-    pg_command::answer(alloc, command, text, &mut finder, writer)
+    pg_cli_command::answer(alloc, command, text, &mut finder, writer)
 }
 
 /// As `run`, over the links that are given, at most 16: where the command solves a game, the game is cut evenly among them, and

@@ -4,11 +4,11 @@ ghost use Rattle.std.specs.Prelude.{◌≡◌, IfErr, OnOk};
 ghost use Rattle.pg_worker.specs.declared.fault.WorkerFault.{WorkerFault};
 ghost use Rattle.pg_worker.specs.declared.served.Served.{Served};
 ghost use Rattle.pg_worker.specs.Serving.{Serves};
-ghost use Rattle.pg_command.specs.Faults.{worker_fault};
+ghost use Rattle.pg_cli_command.specs.Faults.{worker_fault};
 ghost use Rattle.pg_cli.specs.Serving.{EndsServing, RefusesWork};
 
 use crate::attended::Attended;
-use pg_command::CliFault;
+use pg_cli_command::CliFault;
 use pg_worker::serve;
 use std::alloc::Global;
 use std::fs::Files;

@@ -1,4 +1,4 @@
-ghost use Rattle.pg_words.specs.Words.{HasFewWorkers};
+ghost use Rattle.pg_cli_words.specs.Words.{HasFewWorkers};
 
 use crate::streams::{CIRCUIT, Failing, Full, GAME, LOOP, SCRIPT, SOLVED, TURNS, TWO, WORLD};
 use pg_cli::{CliFault, Command, run};

@@ -4,7 +4,7 @@ ghost use Rattle.std.specs.Prelude.{◌≤◌, length};
 
 use pg_cli::{CliFault, Command, exit_code, run_with};
 use pg_coord::{Link, MemoryLink};
-use pg_link_tests::stand_ins::{Broken, Fixed, Told};
+use pg_coord_links_tests::stand_ins::{Broken, Fixed, Told};
 use std::alloc::Global;
 use std::test::Fail;
 

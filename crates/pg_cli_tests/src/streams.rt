@@ -1,4 +1,4 @@
-ghost use Rattle.pg_words.specs.Words.{HasFewWorkers};
+ghost use Rattle.pg_cli_words.specs.Words.{HasFewWorkers};
 
 use pg_cli::{CliFault, Command, MOST_BYTES, answer, exit_code, run, write_fault};
 use std::alloc::Global;

@@ -1,7 +1,7 @@
 //! What words name. Those that are refused, and the helps, are shown by rows of the program.
 
 use pg_cli::{Command, Line, parse_words};
-use pg_words::{Request, parse_request};
+use pg_cli_words::{Request, parse_request};
 use std::alloc::Global;
 
 /// Whether the words name this command, and no program of the workers.

@@ -7,14 +7,14 @@ use Rattle.pg_wire.specs.declared.frame.Frame.{Frame}
 use Rattle.pg_wire.specs.declared.frame.Frame.TheVariants as frames
 use Rattle.pg_wire.specs.Bytes.{Spells}
 use Rattle.pg_wire.proofs.Bodies.{one_frame}
-use Rattle.pg_parts.specs.Frames.{IsAtLeast, measures_in}
+use Rattle.pg_coord_partition.specs.Frames.{IsAtLeast, measures_in}
 use Rattle.pg_worker.specs.Turns.{SessionValue, Turn}
 use Rattle.pg_worker.specs.Serving.{report_bytes}
 use Rattle.pg_worker.specs.Above.{AreFrames, IsAboveSession}
 use Rattle.pg_worker.specs.Mirrors.Sessions.{IsSmall}
 use Rattle.pg_worker.proofs.Framing.{no_frames, frames_then}
 use Rattle.pg_worker.proofs.Sessions.{fresh_above, greeting_frames, turn_above, turn_tells_under, fault_frames}
-use Rattle.pg_parts.specs.Links.{IsUnderAfter}
+use Rattle.pg_coord_partition.specs.Links.{IsUnderAfter}
 use Rattle.pg_coord.specs.Memory.{MemoryValue, still_waiting, Answers, RefusesFrame, Drops, Sends, IsAboveLink}
 use Rattle.pg_coord.proofs.Queues.{IsParted}
 

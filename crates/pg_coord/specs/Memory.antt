@@ -7,7 +7,7 @@ use Rattle.pg_wire.specs.declared.frame.Frame.TheVariants as frames
 use Rattle.pg_wire.specs.Bytes.{Spells}
 use Rattle.pg_worker.specs.declared.fault.WorkerFault.{WorkerFault}
 use Rattle.pg_worker.specs.declared.fault.WorkerFault.TheVariants.{Wire}
-use Rattle.pg_parts.specs.Frames.{IsAtLeast, measures_in}
+use Rattle.pg_coord_partition.specs.Frames.{IsAtLeast, measures_in}
 use Rattle.pg_worker.specs.Turns.{SessionValue, Turn, IsUpTo, Refuses, IsNoFrame}
 use Rattle.pg_worker.specs.Serving.{report_bytes}
 use Rattle.pg_worker.specs.Above.{AreFrames, IsAboveSession}

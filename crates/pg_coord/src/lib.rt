@@ -6,6 +6,6 @@ mod memory;
 mod waiting;
 
 pub use memory::MemoryLink;
-pub use pg_links::{Reach, SocketLink, is_orphaned};
-pub use pg_parts::{Link, LinkFault};
-pub use pg_rounds::{CoordFault, Solved, halt, solve, solve_within};
+pub use pg_coord_links::{Reach, SocketLink, is_orphaned};
+pub use pg_coord_partition::{Link, LinkFault};
+pub use pg_coord_rounds::{CoordFault, Solved, halt, solve, solve_within};

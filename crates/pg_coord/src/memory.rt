@@ -6,14 +6,14 @@ ghost use Rattle.pg_wire.specs.declared.frame.Frame.{Frame};
 ghost use Rattle.pg_wire.specs.Spelling.{body, longest};
 ghost use Rattle.pg_wire.specs.Well.{IsWell};
 ghost use Rattle.pg_wire.specs.Bytes.{Spells};
-ghost use Rattle.pg_parts.specs.Frames.{IsAtLeast, measures_in};
+ghost use Rattle.pg_coord_partition.specs.Frames.{IsAtLeast, measures_in};
 ghost use Rattle.pg_worker.specs.Above.{AreFrames};
-ghost use Rattle.pg_parts.specs.Links.{IsUnderAfter, CountsFailure};
+ghost use Rattle.pg_coord_partition.specs.Links.{IsUnderAfter, CountsFailure};
 ghost use Rattle.pg_coord.specs.Memory.{started_link, still_waiting, Reports, Sends, SendsNoFrame, Empties, BreaksOff, IsAboveLink};
-ghost use Rattle.pg_links.specs.Counting.{count_after};
+ghost use Rattle.pg_coord_links.specs.Counting.{count_after};
 
 use crate::waiting::{first_len, put_fault};
-use pg_parts::{Link, LinkFault};
+use pg_coord_partition::{Link, LinkFault};
 use pg_wire::{Frame, WireFault, decode};
 use pg_worker::{Session, WorkerFault};
 use std::alloc::Global;

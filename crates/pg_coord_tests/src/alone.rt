@@ -5,7 +5,7 @@ ghost use Rattle.pg_map.specs.Lines.{AreWithin, game_line};
 
 use pg_arena::{Game, GameBuilder, Player, Vertex};
 use pg_coord::{Solved, solve};
-use pg_link_tests::stand_ins::Broken;
+use pg_coord_links_tests::stand_ins::Broken;
 use pg_map::{MeasureMap, View};
 use pg_worker::Cut;
 use std::alloc::Global;

@@ -2,7 +2,7 @@
 
 use crate::tools::solves;
 use pg_coord::MemoryLink;
-use pg_link_tests::stand_ins::FailsOnce;
+use pg_coord_links_tests::stand_ins::FailsOnce;
 use std::alloc::Global;
 use std::test::Fail;
 

@@ -2,7 +2,7 @@
 
 use crate::tools::{Ended, solves, solves_within};
 use pg_coord::MemoryLink;
-use pg_link_tests::stand_ins::Broken;
+use pg_coord_links_tests::stand_ins::Broken;
 use std::test::Fail;
 
 #[test]

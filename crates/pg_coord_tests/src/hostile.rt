@@ -1,7 +1,7 @@
 //! Replies that are failures: each time the link is restarted, three times in all, and then given up.
 
 use crate::tools::solves;
-use pg_link_tests::stand_ins::Fixed;
+use pg_coord_links_tests::stand_ins::Fixed;
 use std::alloc::Global;
 use std::test::Fail;
 

@@ -1,7 +1,7 @@
 //! Solving without links, and over links that are of no help.
 
 use crate::tools::{mismatches, solves};
-use pg_link_tests::stand_ins::{Broken, Fixed};
+use pg_coord_links_tests::stand_ins::{Broken, Fixed};
 use std::test::Fail;
 
 #[test]

@@ -1,7 +1,7 @@
 //! A link that tells its replies: what they say is taken, though it is more than the least progress measure.
 
 use crate::tools::{second_game, solves_game};
-use pg_link_tests::stand_ins::Told;
+use pg_coord_links_tests::stand_ins::Told;
 use std::alloc::Global;
 use std::test::Fail;
 

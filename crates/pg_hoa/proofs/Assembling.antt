@@ -4,7 +4,7 @@ use Rattle.pg_hoa.proofs.Common.{All, AllByRecursion, flat_map, list_any, All-fr
 use Rattle.pg_hoa.proofs.Common.{Formula, FitsShape, Automaton, IsAutomaton, IsPropositionName, IsStepOf, letters, rows, next, StateLine}
 use Rattle.pg_hoa.proofs.Common.{LineFits, Written, Says, controls, KeptLine, kept_of_line, Declares, bare_automaton, Spelt, IsUndetermined}
 use Rattle.pg_hoa.proofs.Common.{Agree, head, steps_of, kept_steps, IsTableOf, IsFirstConflict}
-use Rattle.pg_automaton.specs.Mirrors.Tables as tables
+use Rattle.pg_hoa_automaton.specs.Mirrors.Tables as tables
 use Rattle.pg_hoa.proofs.TableLaws.{written_steps}
 use Rattle.pg_hoa.proofs.GoodSteps.{kept_good}
 

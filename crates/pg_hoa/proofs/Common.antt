@@ -34,38 +34,38 @@ pub use Rattle.std.specs.Vec.{with_item, with_items}
 pub use Rattle.std.specs.declared.alloc.Global.{Global}
 pub use Rattle.std.specs.declared.cmp.Ordering.{Ordering}
 pub use Rattle.std.specs.declared.vec.Vec.{Vec}
-pub use Rattle.pg_automaton.proofs.Deciding.{decides_last}
-pub use Rattle.pg_automaton.proofs.Rows.{next_viewed}
-pub use Rattle.pg_automaton.specs.Automata.{Automaton, IsAutomaton, IsPropositionName, IsStepOf, Step, deciding, first, last, letters, next}
-pub use Rattle.pg_automaton.specs.Automata.{rows, step}
-pub use Rattle.pg_automaton.specs.Formulas.{Formula, both, bracket, either, fin, holds, inf, no, not, proposition, yes}
-pub use Rattle.pg_automaton.specs.Mirrors.Steps.{◌>>=◌}
-pub use Rattle.pg_automaton.specs.Mirrors.Tables.{numbered}
-pub use Rattle.pg_automaton.specs.Mirrors.Views.{viewed}
-pub use Rattle.pg_automaton.specs.Shapes.{FitsShape}
-pub use Rattle.pg_automaton.specs.declared.shape.Shape.{Shape}
-pub use Rattle.pg_automaton.specs.declared.shape.Shape.TheVariants.{Always, MaxEven, MaxOdd, MinEven, MinOdd, Never}
-pub use Rattle.pg_automaton.specs.declared.table.Stored.{Stored}
-pub use Rattle.pg_automaton.specs.declared.table.Table.{Table}
-pub use Rattle.pg_lists.proofs.Contained.{Rises, pairs_tail}
-pub use Rattle.pg_lists.proofs.Rising.{dedup_rising, has, has_rising, rising_below, rising_pairs, rising_put, rising_rises}
-pub use Rattle.pg_lists.proofs.Steps.{none_is_some, some, some_is}
-pub use Rattle.pg_lists.specs.Rising.{put, rising}
-pub use Rattle.pg_syntax.proofs.Lists.{all_of_both, both_true}
-pub use Rattle.pg_syntax.proofs.SetLists.{rising_alike}
-pub use Rattle.pg_syntax.proofs.SpeltReads.{SaysOnce, says_once}
-pub use Rattle.pg_syntax.proofs.Steps.{bind_some}
-pub use Rattle.pg_syntax.specs.Mirrors.FormulaRun.{postfix}
-pub use Rattle.pg_syntax.specs.Mirrors.Kept.{KeptEdge, KeptLine, edge_in, kept_edges, kept_of_edge, kept_of_line, line_in, may_hold}
-pub use Rattle.pg_syntax.specs.Mirrors.Readings.{Declares, SaysNothing, automaton, bare_automaton}
-pub use Rattle.pg_syntax.specs.Syntax.{EachBelow, Edge, EdgeFits, LineFits, Says, SaysNone, StateLine, Written, controls, set_list}
-pub use Rattle.pg_syntax.specs.declared.body.ReadState.{ReadState}
-pub use Rattle.pg_syntax.specs.declared.fault.PartFault.{PartFault}
-pub use Rattle.pg_syntax.specs.declared.fault.PartFault.TheVariants.{BadName, LeftOut, NotParity, OutOfRange, Syntax, TooLarge}
-pub use Rattle.pg_syntax.specs.declared.fault.PartFault.TheVariants.{UnknownHeader}
-pub use Rattle.pg_syntax.specs.declared.fault.Refusal.{Refusal}
-pub use Rattle.pg_syntax.specs.declared.formula.Op.{Op}
-pub use Rattle.pg_syntax.specs.declared.formula.Op.TheVariants.{No}
+pub use Rattle.pg_hoa_automaton.proofs.Deciding.{decides_last}
+pub use Rattle.pg_hoa_automaton.proofs.Rows.{next_viewed}
+pub use Rattle.pg_hoa_automaton.specs.Automata.{Automaton, IsAutomaton, IsPropositionName, IsStepOf, Step, deciding, first, last, letters, next}
+pub use Rattle.pg_hoa_automaton.specs.Automata.{rows, step}
+pub use Rattle.pg_hoa_automaton.specs.Formulas.{Formula, both, bracket, either, fin, holds, inf, no, not, proposition, yes}
+pub use Rattle.pg_hoa_automaton.specs.Mirrors.Steps.{◌>>=◌}
+pub use Rattle.pg_hoa_automaton.specs.Mirrors.Tables.{numbered}
+pub use Rattle.pg_hoa_automaton.specs.Mirrors.Views.{viewed}
+pub use Rattle.pg_hoa_automaton.specs.Shapes.{FitsShape}
+pub use Rattle.pg_hoa_automaton.specs.declared.shape.Shape.{Shape}
+pub use Rattle.pg_hoa_automaton.specs.declared.shape.Shape.TheVariants.{Always, MaxEven, MaxOdd, MinEven, MinOdd, Never}
+pub use Rattle.pg_hoa_automaton.specs.declared.table.Stored.{Stored}
+pub use Rattle.pg_hoa_automaton.specs.declared.table.Table.{Table}
+pub use Rattle.pg_list_lemmas.proofs.Contained.{Rises, pairs_tail}
+pub use Rattle.pg_list_lemmas.proofs.Rising.{dedup_rising, has, has_rising, rising_below, rising_pairs, rising_put, rising_rises}
+pub use Rattle.pg_list_lemmas.proofs.Steps.{none_is_some, some, some_is}
+pub use Rattle.pg_list_lemmas.specs.Rising.{put, rising}
+pub use Rattle.pg_hoa_syntax.proofs.Lists.{all_of_both, both_true}
+pub use Rattle.pg_hoa_syntax.proofs.SetLists.{rising_alike}
+pub use Rattle.pg_hoa_syntax.proofs.SpeltReads.{SaysOnce, says_once}
+pub use Rattle.pg_hoa_syntax.proofs.Steps.{bind_some}
+pub use Rattle.pg_hoa_syntax.specs.Mirrors.FormulaRun.{postfix}
+pub use Rattle.pg_hoa_syntax.specs.Mirrors.Kept.{KeptEdge, KeptLine, edge_in, kept_edges, kept_of_edge, kept_of_line, line_in, may_hold}
+pub use Rattle.pg_hoa_syntax.specs.Mirrors.Readings.{Declares, SaysNothing, automaton, bare_automaton}
+pub use Rattle.pg_hoa_syntax.specs.Syntax.{EachBelow, Edge, EdgeFits, LineFits, Says, SaysNone, StateLine, Written, controls, set_list}
+pub use Rattle.pg_hoa_syntax.specs.declared.body.ReadState.{ReadState}
+pub use Rattle.pg_hoa_syntax.specs.declared.fault.PartFault.{PartFault}
+pub use Rattle.pg_hoa_syntax.specs.declared.fault.PartFault.TheVariants.{BadName, LeftOut, NotParity, OutOfRange, Syntax, TooLarge}
+pub use Rattle.pg_hoa_syntax.specs.declared.fault.PartFault.TheVariants.{UnknownHeader}
+pub use Rattle.pg_hoa_syntax.specs.declared.fault.Refusal.{Refusal}
+pub use Rattle.pg_hoa_syntax.specs.declared.formula.Op.{Op}
+pub use Rattle.pg_hoa_syntax.specs.declared.formula.Op.TheVariants.{No}
 pub use Rattle.pg_hoa.specs.AutomatonText.{Agree, IsDeterministicAt, IsRefused, IsUndetermined, SpellsNone, Spelt, edge_steps, head}
 pub use Rattle.pg_hoa.specs.AutomatonText.{steps_of}
 pub use Rattle.pg_hoa.specs.Laws.{HasOneReading}

@@ -7,9 +7,9 @@ use Rattle.std.specs.Str.{bytes_eq}
 use Rattle.std.proofs.lemmas.List.Elements.{All-filter}
 use Rattle.std.proofs.lemmas.List.FromFn.{get_or-range_with_len, length-range_with_len}
 use Rattle.std.specs.Prelude.{codes}
-use Rattle.pg_syntax.specs.Syntax.{Written, IsText, Says, AtMostOne, EachBelow, controls}
-use Rattle.pg_syntax.specs.Headers.{has_header, with_controls}
-use Rattle.pg_syntax.proofs.HeaderNames.{no_controls}
+use Rattle.pg_hoa_syntax.specs.Syntax.{Written, IsText, Says, AtMostOne, EachBelow, controls}
+use Rattle.pg_hoa_syntax.specs.Headers.{has_header, with_controls}
+use Rattle.pg_hoa_syntax.proofs.HeaderNames.{no_controls}
 use Rattle.pg_hoa.specs.AutomatonText.{Spelt}
 use Rattle.pg_hoa.specs.Outputs.{is_named, outputs, with_outputs}
 

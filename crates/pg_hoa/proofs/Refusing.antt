@@ -2,7 +2,7 @@
 use Rattle.pg_hoa.proofs.Common.{ℕ, List, ◌^◌, length, Automaton, PartFault, Syntax, LeftOut, UnknownHeader, OutOfRange, NotParity}
 use Rattle.pg_hoa.proofs.Common.{TooLarge, BadName, Refusal, SaysNone, KeptLine, Declares, SaysNothing, Conflict, Memory, NotDeterministic}
 use Rattle.pg_hoa.proofs.Common.{SpellsNone, IsRefused, in_text, refusal_in_text, conflict_fault, IsConflictOf}
-use Rattle.pg_syntax.specs.declared.fault.Refusal.TheVariants as refusals
+use Rattle.pg_hoa_syntax.specs.declared.fault.Refusal.TheVariants as refusals
 use Rattle.pg_hoa.proofs.Assembling.{first_undetermined}
 use Rattle.pg_hoa.proofs.SpeltOnce.{says_spell_none, undetermined_spell_none}
 

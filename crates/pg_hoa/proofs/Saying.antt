@@ -1,7 +1,7 @@
 -- The operations of a formula say what the formula says.
 use Rattle.pg_hoa.proofs.Common.{◌≡◌, ℕ, Bool, List, [], ◌∷◌, ◌++◌, refl, ap, ◌∙◌, arith, nat_tests, Op, Formula, yes, no, proposition, inf}
 use Rattle.pg_hoa.proofs.Common.{fin, not, both, either, bracket, holds, postfix, top, perform, run, says}
-use Rattle.pg_syntax.specs.declared.formula.Op.TheVariants as ops
+use Rattle.pg_hoa_syntax.specs.declared.formula.Op.TheVariants as ops
 
 pub run_append : (a b : List Op) (on : ℕ → Bool) (stack : List Bool) → run (a ++ b) on stack ≡ run b on (run a on stack)
 run_append [] b on stack = refl

@@ -2,11 +2,11 @@
 use Rattle.std.specs.Prelude.{◌≡◌, ℕ, ◌^◌, ◌<◌, ◌==◌, List, [], ◌∷◌, ◌++◌, length, map, Option, Some, None, if◌then◌else◌}
 use Rattle.std.specs.List.{flat_map, filter, All}
 use Rattle.std.specs.Int.{bit_at}
-use Rattle.pg_lists.specs.Rising.{rising}
-use Rattle.pg_automaton.specs.Formulas.{holds}
-use Rattle.pg_automaton.specs.declared.shape.Shape.{Shape}
-use Rattle.pg_automaton.specs.Automata.{Step, Automaton, letters, rows, next, deciding}
-use Rattle.pg_syntax.specs.Syntax.{StateLine, Written, IsText, Says, SaysNone, set_list}
+use Rattle.pg_list_lemmas.specs.Rising.{rising}
+use Rattle.pg_hoa_automaton.specs.Formulas.{holds}
+use Rattle.pg_hoa_automaton.specs.declared.shape.Shape.{Shape}
+use Rattle.pg_hoa_automaton.specs.Automata.{Step, Automaton, letters, rows, next, deciding}
+use Rattle.pg_hoa_syntax.specs.Syntax.{StateLine, Written, IsText, Says, SaysNone, set_list}
 use Rattle.pg_hoa.specs.declared.fault.HoaFault.{HoaFault}
 use Rattle.pg_hoa.specs.declared.fault.HoaFault.TheVariants.{OutOfMemory, NotDeterministic}
 

@@ -1,6 +1,6 @@
 -- The texts of faults.
 use Rattle.std.specs.Prelude.{ℕ, List, ◌++◌, codes, decimal}
-use Rattle.pg_syntax.specs.FaultTexts.{left_out_text}
+use Rattle.pg_hoa_syntax.specs.FaultTexts.{left_out_text}
 use Rattle.pg_hoa.specs.declared.fault.HoaFault.{HoaFault}
 use Rattle.pg_hoa.specs.declared.fault.HoaFault.TheVariants.{OutOfMemory, Syntax, LeftOut, UnknownHeader, OutOfRange, NotParity}
 use Rattle.pg_hoa.specs.declared.fault.HoaFault.TheVariants.{NotDeterministic, TooLarge, BadName}

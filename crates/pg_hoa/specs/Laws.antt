@@ -1,6 +1,6 @@
 -- The laws, as statements.
 use Rattle.std.specs.Prelude.{◌≡◌, ℕ, List}
-use Rattle.pg_automaton.specs.Automata.{Automaton}
+use Rattle.pg_hoa_automaton.specs.Automata.{Automaton}
 use Rattle.pg_hoa.specs.AutomatonText.{Spelt, IsUndetermined}
 
 -- one text spells one automaton, or else is undetermined first at one state and letter

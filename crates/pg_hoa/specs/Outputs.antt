@@ -2,9 +2,9 @@
 use Rattle.std.specs.Prelude.{◌≡◌, ◌≢◌, ℕ, ◌==◌, Bool, List, [], length, map, get_or, Contains, codes, true}
 use Rattle.std.specs.List.{All, filter, list_any, range_with_len}
 use Rattle.std.specs.Str.{bytes_eq}
-use Rattle.pg_automaton.specs.Automata.{Automaton}
-use Rattle.pg_syntax.specs.Syntax.{Written, IsText}
-use Rattle.pg_syntax.specs.Headers.{has_header}
+use Rattle.pg_hoa_automaton.specs.Automata.{Automaton}
+use Rattle.pg_hoa_syntax.specs.Syntax.{Written, IsText}
+use Rattle.pg_hoa_syntax.specs.Headers.{has_header}
 use Rattle.pg_hoa.specs.AutomatonText.{Spelt, IsRefused}
 use Rattle.pg_hoa.specs.declared.outputs.OutputsFault.{OutputsFault}
 use Rattle.pg_hoa.specs.declared.outputs.OutputsFault.TheVariants.{Text, Controlled, NoProposition}

@@ -3,7 +3,7 @@
 ghost use Rattle.std.specs.Prelude.{◌≡◌};
 ghost use Rattle.pg_hoa.specs.Mirrors.Faults.{in_text, refusal_in_text, conflict_fault};
 
-use pg_syntax::{LeftOutName, PartFault, Refusal};
+use pg_hoa_syntax::{LeftOutName, PartFault, Refusal};
 use std::alloc::AllocError;
 use std::error::Error;
 use std::fmt;

@@ -11,6 +11,6 @@ mod terms;
 
 pub use fault::HoaFault;
 pub use outputs::{OutputsFault, with_outputs};
-pub use pg_automaton::{Automaton, Shape};
-pub use pg_syntax::{LeftOutName, has_header};
+pub use pg_hoa_automaton::{Automaton, Shape};
+pub use pg_hoa_syntax::{LeftOutName, has_header};
 pub use reader::read_automaton;

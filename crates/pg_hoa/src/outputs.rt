@@ -8,8 +8,8 @@ ghost use Rattle.pg_hoa.specs.Outputs.{is_named, outputs, HasOutputs, RefusesOut
 
 use crate::fault::HoaFault;
 use crate::reader::read_automaton;
-use pg_automaton::Automaton;
-use pg_syntax::{has_header, with_controls};
+use pg_hoa_automaton::Automaton;
+use pg_hoa_syntax::{has_header, with_controls};
 use std::alloc::{AllocError, Global};
 
 /// The header that says what the controller sets.

@@ -5,8 +5,8 @@ ghost use Rattle.pg_hoa.specs.AutomatonText.{Spelt, IsRefused};
 
 use crate::fault::{HoaFault, in_text};
 use crate::table::table_of;
-use pg_automaton::Automaton;
-use pg_syntax::read_syntax;
+use pg_hoa_automaton::Automaton;
+use pg_hoa_syntax::read_syntax;
 use std::alloc::Global;
 
 /// Reads an automaton of HOA v1 with the header `controllable-AP`: deterministic, with one of the six parity shapes as its

@@ -4,11 +4,11 @@ ghost use Rattle.std.specs.Prelude.{◌≡◌, ℕ, true, ◌+◌, ◌*◌, ◌^
 ghost use Rattle.std.specs.Prelude.{option_map};
 ghost use Rattle.std.specs.Prelude.{false, Some, IfSome, IfOk, OnOk, IfErr};
 ghost use Rattle.std.specs.List.{All, fold};
-ghost use Rattle.pg_automaton.specs.Automata.{deciding};
-ghost use Rattle.pg_lists.specs.Rising.{rising};
-ghost use Rattle.pg_syntax.specs.declared.formula.Op.{Op};
-ghost use Rattle.pg_syntax.specs.Mirrors.Kept.{edge_in, line_in};
-ghost use Rattle.pg_automaton.specs.Mirrors.Tables.{numbered, next};
+ghost use Rattle.pg_hoa_automaton.specs.Automata.{deciding};
+ghost use Rattle.pg_list_lemmas.specs.Rising.{rising};
+ghost use Rattle.pg_hoa_syntax.specs.declared.formula.Op.{Op};
+ghost use Rattle.pg_hoa_syntax.specs.Mirrors.Kept.{edge_in, line_in};
+ghost use Rattle.pg_hoa_automaton.specs.Mirrors.Tables.{numbered, next};
 ghost use Rattle.pg_hoa.specs.Mirrors.Tables.{Stage, way_step, IsDecided, IsOf, IsRow, IsCovered, IsRegrouped, with_set, with_sets};
 ghost use Rattle.pg_hoa.specs.Mirrors.Tables.{same_set, agree, Extends, IsPlaced};
 ghost use Rattle.pg_hoa.specs.Mirrors.Tables.{stage, IsSplit, MayNumber, Adds, at_slot, at_word, at_letters, at_line, IsTableOf};
@@ -19,8 +19,8 @@ ghost use Rattle.pg_hoa.specs.Mirrors.Instructions.{SpeaksOf};
 use crate::fault::Conflict;
 use crate::letters::words_of;
 use crate::terms::{Instruction, instructions_of};
-use pg_automaton::{Shape, Stored, Table, numbered};
-use pg_syntax::{Edge, Op, ReadState};
+use pg_hoa_automaton::{Shape, Stored, Table, numbered};
+use pg_hoa_syntax::{Edge, Op, ReadState};
 use std::alloc::{AllocError, Global};
 use std::collections::BTreeMap;
 

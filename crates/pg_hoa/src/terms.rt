@@ -7,7 +7,7 @@ ghost use Rattle.pg_hoa.specs.Mirrors.Letters.{truth, on_at};
 ghost use Rattle.pg_hoa.specs.Mirrors.Instructions.{fits, executed, Tells};
 
 use crate::letters::mask;
-use pg_syntax::Op;
+use pg_hoa_syntax::Op;
 use std::alloc::AllocError;
 
 /// Letters at the bits of the word, in the blocks whose number has at the bits of `care` what `value` has.

@@ -1,6 +1,6 @@
 //! Claims that lead to earlier ones alone.
 
-use pg_rows::{NONE, RowClaim, Side, ZEROS, at, is_marked, put};
+use pg_search_rows::{NONE, RowClaim, Side, ZEROS, at, is_marked, put};
 use std::alloc::{AllocError, Global};
 
 #[derive(Drop)]

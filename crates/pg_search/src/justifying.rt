@@ -11,7 +11,7 @@ use crate::asked::{Asked, Levels};
 use crate::attracting::attract;
 use crate::board::{Board, FIRST, LOST, WON};
 use crate::leveling::set_by_levels;
-use pg_rows::{NONE, RowClaim, Side, ZEROS, at, count, is_marked, put};
+use pg_search_rows::{NONE, RowClaim, Side, ZEROS, at, count, is_marked, put};
 use std::alloc::{AllocError, Global};
 
 /// In place of a level: all of them, in the game of own rows.

@@ -7,7 +7,7 @@
 
 use crate::asked::{Asked, Levels};
 use crate::board::Board;
-use pg_rows::{NONE, Side, ZEROS, at, count, is_marked, item, put};
+use pg_search_rows::{NONE, Side, ZEROS, at, count, is_marked, item, put};
 use std::alloc::{AllocError, Global};
 use std::mem;
 

@@ -3,8 +3,8 @@
 
 use crate::proposal::{Proposal, Proposals};
 use pg_arena::{Game, Vertex};
-use pg_claims::{Claim, Claims, Span};
-use pg_rows::{count, put};
+use pg_map_claims::{Claim, Claims, Span};
+use pg_search_rows::{count, put};
 use std::alloc::{AllocError, Global};
 
 /// The parity of all priorities, if they have one.

@@ -5,9 +5,9 @@ use crate::one_parity::propose_at_once;
 use crate::region::Region;
 use crate::search::find;
 use pg_arena::{Game, Player, Vertex};
-use pg_claims::{Claim, Claims, Span};
-use pg_rows::{NONE, RowClaim, Side, TOP, ZEROS, at, count, put};
-use pg_winners::{Graph, find_winners};
+use pg_map_claims::{Claim, Claims, Span};
+use pg_search_rows::{NONE, RowClaim, Side, TOP, ZEROS, at, count, put};
+use pg_search_winners::{Graph, find_winners};
 use std::alloc::{AllocError, Global};
 
 /// A map of ranks in a ladder, which is to be the least one, and claims that are to show it. Nothing is promised of it: who wants to

@@ -4,8 +4,8 @@
 //! stay among them; one of them stands there for all.
 
 use pg_arena::Player;
-use pg_rows::{NONE, at, count, put};
-use pg_winners::{Graph, Winners};
+use pg_search_rows::{NONE, at, count, put};
+use pg_search_winners::{Graph, Winners};
 use std::alloc::{AllocError, Global};
 
 /// Few are those that are found by looks at this part of the vertices and edges.

@@ -6,7 +6,7 @@
 use crate::exact::set_exactly;
 use crate::justifying::finish;
 use crate::ways::Ways;
-use pg_rows::{NONE, RowClaim, Side};
+use pg_search_rows::{NONE, RowClaim, Side};
 use std::alloc::{AllocError, Global};
 
 /// The least rows of the vertices that the winner wins, as it chooses; with claims of them. None where winners aren't found.

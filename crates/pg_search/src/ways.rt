@@ -1,7 +1,7 @@
 //! Ways from the heads of a part to its greatest way out, and the claims along them.
 
 use crate::greatest::Way;
-use pg_rows::{NONE, RowClaim, Side, ZEROS, at, item, put};
+use pg_search_rows::{NONE, RowClaim, Side, ZEROS, at, item, put};
 use std::alloc::{AllocError, Global};
 
 /// A component in an order: where it begins, how many heads stand first, and before which place it ends.

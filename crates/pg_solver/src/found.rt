@@ -2,8 +2,8 @@
 
 use pg_arena::Vertex;
 use pg_map::{Lines, MeasureMap, Measures, View};
+use pg_map_ranks::RankMap;
 use pg_measure::Bounds;
-use pg_rank::RankMap;
 
 /// A map that was found: by ranks of a ladder, which take a few numbers for each vertex, or by a row for each vertex.
 #[derive(Drop)]

@@ -5,7 +5,7 @@ ghost use Rattle.pg_solver.specs.Mirrors.Known.{AreKnownFrom};
 
 use pg_arena::Vertex;
 use pg_map::Measures;
-use pg_rank::RankMap;
+use pg_map_ranks::RankMap;
 use std::alloc::{AllocError, Global};
 
 /// Where the other side is known to have top: where the map has a list.

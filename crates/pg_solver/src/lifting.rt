@@ -3,10 +3,10 @@
 ghost use Rattle.std.specs.Prelude.{◌≡◌, ◌<◌, length, IfOk};
 ghost use Rattle.pg_map.specs.Lines.{AreWithin};
 ghost use Rattle.pg_map.specs.Maps.{IsLeastProgressMeasure};
-ghost use Rattle.pg_lift.specs.Mirrors.Zeros.{IsAtZero};
+ghost use Rattle.pg_map_lift.specs.Mirrors.Zeros.{IsAtZero};
 
-use pg_lift::Lifter;
 use pg_map::{Lines, MeasureMap};
+use pg_map_lift::Lifter;
 use std::alloc::{AllocError, Global};
 
 /// The least progress measure of some lines, by lifting from zeros. It is refused for want of memory only, also where there are

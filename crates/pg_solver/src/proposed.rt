@@ -11,10 +11,10 @@ ghost use Rattle.pg_solver.specs.Mirrors.Known.{AreOpposite};
 use crate::known::known_from;
 use crate::solver::Maps;
 use pg_arena::Game;
-use pg_claims::{Claims, certifies, is_never_above};
 use pg_map::{Dual, Lines, Measures};
+use pg_map_claims::{Claims, certifies, is_never_above};
+use pg_map_ranks::{Ladder, RankMap};
 use pg_measure::Bounds;
-use pg_rank::{Ladder, RankMap};
 use pg_search::{Proposal, Proposals};
 use std::alloc::{AllocError, Global};
 
@@ -55,7 +55,7 @@ pub(crate) fn certified(
         (λ m. IsLeastProgressMeasure m.bounds (length game.now) (game_line game.now) m.measures)) }
 {
     pg_map::laws::game_lines();
-    pg_claims::laws::zeros_are_known();
+    pg_map_claims::laws::zeros_are_known();
     let bounds = Bounds::of(alloc, game)?;
     let Some((map, claims)) = map_of(alloc, &bounds, game.len(), proposal)? else {
         return Ok(None);

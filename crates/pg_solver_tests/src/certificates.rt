@@ -3,7 +3,7 @@
 use crate::tools::{game, show, table};
 use pg_arena::Game;
 use pg_arena::Player::{Even, Odd};
-use pg_claims::Claims;
+use pg_map_claims::Claims;
 use std::alloc::{AllocError, Global};
 use std::test::Fail;
 

@@ -2,7 +2,7 @@
 
 use crate::lines::{Lines, at};
 use pg_arena::Player;
-use pg_winners::{NONE, Winners};
+use pg_search_winners::{NONE, Winners};
 use std::alloc::{AllocError, Global};
 
 /// Whether two vertices have the same winner.

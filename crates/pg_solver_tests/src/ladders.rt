@@ -4,7 +4,7 @@ use crate::tools::{game, ladder, map};
 use pg_arena::Player::{Even, Odd};
 use pg_arena::Vertex;
 use pg_map::{Measures, View};
-use pg_rank::RankMap;
+use pg_map_ranks::RankMap;
 use std::test::Fail;
 
 // each step is at a priority that has vertices, and counts no more of them than there are

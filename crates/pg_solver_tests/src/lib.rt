@@ -1,4 +1,4 @@
-//! Tests of `pg_solver` and of what it stands on: `pg_winners`, `pg_rank`, `pg_claims` and `pg_search`. Winners, measures, ladders and
+//! Tests of `pg_solver` and of what it stands on: `pg_search_winners`, `pg_map_ranks`, `pg_map_claims` and `pg_search`. Winners, measures, ladders and
 //! claims of some games were worked out by hand; others are made by the dozen, and what is found is looked at as it is defined.
 #![tactic(auto)]
 

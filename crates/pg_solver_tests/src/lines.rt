@@ -1,7 +1,7 @@
 //! Games as lists.
 
 use pg_arena::Player;
-use pg_winners::{Graph, NONE};
+use pg_search_winners::{Graph, NONE};
 use std::alloc::{AllocError, Global};
 
 /// Vertices by priority and owner, and their successors from each offset up to the next.

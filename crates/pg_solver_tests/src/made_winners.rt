@@ -4,7 +4,7 @@ use crate::dice::{Dice, player};
 use crate::judging::{show, win};
 use crate::lines::{Lines, at};
 use pg_arena::Player;
-use pg_winners::find_winners;
+use pg_search_winners::find_winners;
 use std::alloc::Global;
 use std::test::Fail;
 

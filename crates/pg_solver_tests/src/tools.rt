@@ -5,11 +5,11 @@ ghost use Rattle.pg_arena.specs.Games.{HasPrioritiesUpTo};
 ghost use Rattle.pg_map.specs.Lines.{AreWithin, game_line};
 
 use pg_arena::{ArenaFault, Game, GameBuilder, MAX_PRIORITY, Player, Vertex, dual};
-use pg_claims::laws::zeros_are_known;
-use pg_claims::{Claim, Claims, Span, certifies};
 use pg_map::Measures;
+use pg_map_claims::laws::zeros_are_known;
+use pg_map_claims::{Claim, Claims, Span, certifies};
+use pg_map_ranks::{Ladder, RankMap};
 use pg_measure::Bounds;
-use pg_rank::{Ladder, RankMap};
 use pg_search::{Proposal, propose, propose_measure};
 use std::alloc::{AllocError, Global};
 use std::test::Fail;

@@ -3,7 +3,7 @@
 use crate::judging::{show, win};
 use crate::lines::Lines;
 use pg_arena::{GameBuilder, Player};
-use pg_winners::{Graph, NONE, Winners, find_winners};
+use pg_search_winners::{Graph, NONE, Winners, find_winners};
 use std::alloc::Global;
 use std::test::Fail;
 

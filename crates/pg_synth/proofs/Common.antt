@@ -38,25 +38,25 @@ pub use Rattle.pg_arena.specs.declared.fault.ArenaFault.TheVariants.{DuplicateVe
 pub use Rattle.pg_arena.specs.declared.fault.ArenaFault.TheVariants.{TooManyEdges, TooManyVertices, UnknownSuccessor}
 pub use Rattle.pg_arena.specs.declared.player.Player.{Player}
 pub use Rattle.pg_arena.specs.declared.player.Player.TheVariants.{Even, Odd}
-pub use Rattle.pg_automaton.proofs.Collections.{not_not_collected}
-pub use Rattle.pg_automaton.proofs.Deciding.{decides_last}
-pub use Rattle.pg_automaton.proofs.ShapeLaws.{shape_says}
-pub use Rattle.pg_automaton.specs.Automata.{Automaton, IsAutomaton, IsStepOf, Step, deciding, last, letters, next, step}
-pub use Rattle.pg_automaton.specs.Formulas.{Formula, holds}
-pub use Rattle.pg_automaton.specs.Shapes.{Accepts, FitsShape, IsGreatest, IsLeast, condition_of}
-pub use Rattle.pg_automaton.specs.Words.{HoldsRecurring, IsAccepted, IsWord, SetRecurs, sets_of, state_after, step_at, step_from, target_of}
-pub use Rattle.pg_automaton.specs.declared.shape.Shape.{Shape}
-pub use Rattle.pg_automaton.specs.declared.shape.Shape.TheVariants.{Always, MaxEven, MaxOdd, MinEven, MinOdd, Never}
+pub use Rattle.pg_hoa_automaton.proofs.Collections.{not_not_collected}
+pub use Rattle.pg_hoa_automaton.proofs.Deciding.{decides_last}
+pub use Rattle.pg_hoa_automaton.proofs.ShapeLaws.{shape_says}
+pub use Rattle.pg_hoa_automaton.specs.Automata.{Automaton, IsAutomaton, IsStepOf, Step, deciding, last, letters, next, step}
+pub use Rattle.pg_hoa_automaton.specs.Formulas.{Formula, holds}
+pub use Rattle.pg_hoa_automaton.specs.Shapes.{Accepts, FitsShape, IsGreatest, IsLeast, condition_of}
+pub use Rattle.pg_hoa_automaton.specs.Words.{HoldsRecurring, IsAccepted, IsWord, SetRecurs, sets_of, state_after, step_at, step_from, target_of}
+pub use Rattle.pg_hoa_automaton.specs.declared.shape.Shape.{Shape}
+pub use Rattle.pg_hoa_automaton.specs.declared.shape.Shape.TheVariants.{Always, MaxEven, MaxOdd, MinEven, MinOdd, Never}
 pub use Rattle.pg_check.proofs.Cycles.{bad_cycle_from, safe_from_sound}
 pub use Rattle.pg_check.proofs.Recurring.{one_loser, parity_of}
 pub use Rattle.pg_check.proofs.Wins.{wins}
 pub use Rattle.pg_check.specs.Plays.{IsGreatestRecurring, IsPlay, Loses, WinsPlay}
 pub use Rattle.pg_check.specs.Soundness.{Counts, IsSound}
-pub use Rattle.pg_lists.proofs.Contained.{Rises, contains_cases, contains_flat, contains_flattened, contains_here, contains_later}
-pub use Rattle.pg_lists.proofs.Contained.{contains_map, contains_mapped, contains_none, pairs_head, pairs_tail, rising_same}
-pub use Rattle.pg_lists.proofs.Rising.{contains_from, contains_rising, dedup_rising, has, has_contained, has_rising, rising_contains}
-pub use Rattle.pg_lists.proofs.Rising.{rising_length, rising_rises}
-pub use Rattle.pg_lists.specs.Rising.{rising}
+pub use Rattle.pg_list_lemmas.proofs.Contained.{Rises, contains_cases, contains_flat, contains_flattened, contains_here, contains_later}
+pub use Rattle.pg_list_lemmas.proofs.Contained.{contains_map, contains_mapped, contains_none, pairs_head, pairs_tail, rising_same}
+pub use Rattle.pg_list_lemmas.proofs.Rising.{contains_from, contains_rising, dedup_rising, has, has_contained, has_rising, rising_contains}
+pub use Rattle.pg_list_lemmas.proofs.Rising.{rising_length, rising_rises}
+pub use Rattle.pg_list_lemmas.specs.Rising.{rising}
 pub use Rattle.pg_measure.proofs.SomeBounds.{priority_bound}
 pub use Rattle.pg_text.specs.Solutions.{IsSolution, choice, winner}
 pub use Rattle.pg_synth.specs.Answers.{IsMealyOf, IsSynthGame}

@@ -4,7 +4,7 @@ use Rattle.pg_arena.specs.declared.player.Player.TheVariants.{Even, Odd}
 use Rattle.pg_arena.specs.Games.{GameVertex, IsWithinLimits}
 use Rattle.pg_text.specs.declared.answer.Answer.{Answer}
 use Rattle.pg_text.specs.Solutions.{winner}
-use Rattle.pg_automaton.specs.Automata.{Automaton}
+use Rattle.pg_hoa_automaton.specs.Automata.{Automaton}
 use Rattle.pg_synth.specs.AutomatonGames.{StandsFor, IsGameOfAutomaton}
 use Rattle.pg_synth.specs.Machines.{Machine, Follows}
 use Rattle.pg_synth.specs.declared.fault.SynthFault.{SynthFault}

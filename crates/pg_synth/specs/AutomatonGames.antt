@@ -3,9 +3,9 @@ use Rattle.std.specs.Prelude.{◌≡◌, ◌↔◌, ℕ, ◌+◌, ◌-◌, ◌*�
 use Rattle.pg_arena.specs.declared.player.Player.{Player}
 use Rattle.pg_arena.specs.declared.player.Player.TheVariants.{Even, Odd}
 use Rattle.pg_arena.specs.Games.{GameVertex, IsGame, IsEdge, vertex_at}
-use Rattle.pg_automaton.specs.declared.shape.Shape.{Shape}
-use Rattle.pg_automaton.specs.declared.shape.Shape.TheVariants.{MaxEven, MaxOdd, MinEven, MinOdd, Always, Never}
-use Rattle.pg_automaton.specs.Automata.{Step, Automaton, letters, next, deciding}
+use Rattle.pg_hoa_automaton.specs.declared.shape.Shape.{Shape}
+use Rattle.pg_hoa_automaton.specs.declared.shape.Shape.TheVariants.{MaxEven, MaxOdd, MinEven, MinOdd, Always, Never}
+use Rattle.pg_hoa_automaton.specs.Automata.{Step, Automaton, letters, next, deciding}
 use Rattle.pg_synth.specs.Letters.{joined, inputs, outputs}
 use Rattle.pg_synth.specs.declared.place.Place.{Place}
 use Rattle.pg_synth.specs.declared.place.Place.TheVariants.{Dead, Arrival, Answer}

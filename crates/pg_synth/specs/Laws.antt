@@ -7,11 +7,11 @@ use Rattle.pg_check.specs.Plays.{WinsPlay}
 use Rattle.pg_check.specs.Soundness.{IsSound}
 use Rattle.pg_text.specs.declared.answer.Answer.{Answer}
 use Rattle.pg_text.specs.Solutions.{IsSolution, winner}
-use Rattle.pg_automaton.specs.Automata.{Automaton, IsAutomaton}
-use Rattle.pg_automaton.specs.Formulas.{Formula}
-use Rattle.pg_automaton.specs.Shapes.{FitsShape}
+use Rattle.pg_hoa_automaton.specs.Automata.{Automaton, IsAutomaton}
+use Rattle.pg_hoa_automaton.specs.Formulas.{Formula}
+use Rattle.pg_hoa_automaton.specs.Shapes.{FitsShape}
 use Rattle.pg_synth.specs.Letters.{JoinsBack}
-use Rattle.pg_automaton.specs.Words.{IsWord, state_after, IsAccepted}
+use Rattle.pg_hoa_automaton.specs.Words.{IsWord, state_after, IsAccepted}
 use Rattle.pg_synth.specs.AutomatonGames.{StandsFor, IsGameOfAutomaton}
 use Rattle.pg_synth.specs.Tracing.{Traces}
 use Rattle.pg_synth.specs.Answers.{IsSynthGame, IsMealyOf}

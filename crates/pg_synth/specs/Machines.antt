@@ -3,8 +3,8 @@ use Rattle.std.specs.Prelude.{◌≡◌, ℕ, zero, suc, ◌+◌, ◌*◌, ◌^�
 use Rattle.pg_arena.specs.Games.{GameVertex}
 use Rattle.pg_text.specs.declared.answer.Answer as solutions
 use Rattle.pg_text.specs.Solutions.{choice}
-use Rattle.pg_automaton.specs.Automata.{Step, Automaton, next}
-use Rattle.pg_automaton.specs.Words.{state_after}
+use Rattle.pg_hoa_automaton.specs.Automata.{Step, Automaton, next}
+use Rattle.pg_hoa_automaton.specs.Words.{state_after}
 use Rattle.pg_synth.specs.Letters.{input_of, joined, inputs, outputs}
 use Rattle.pg_synth.specs.AutomatonGames.{StandsFor, arrival_of, input_letters, output_letters}
 use Rattle.pg_synth.specs.declared.place.Place.TheVariants.{Answer}

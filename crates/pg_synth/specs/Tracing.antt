@@ -2,9 +2,9 @@
 use Rattle.std.specs.Prelude.{ℕ, zero, suc, ◌+◌, ◌*◌, List, Option, Some, None}
 use Rattle.pg_arena.specs.Games.{GameVertex, IsEdge}
 use Rattle.pg_check.specs.Plays.{IsPlay}
-use Rattle.pg_automaton.specs.Automata.{Automaton}
+use Rattle.pg_hoa_automaton.specs.Automata.{Automaton}
 use Rattle.pg_synth.specs.Letters.{input_of}
-use Rattle.pg_automaton.specs.Words.{state_after, step_at}
+use Rattle.pg_hoa_automaton.specs.Words.{state_after, step_at}
 use Rattle.pg_synth.specs.AutomatonGames.{StandsFor, arrival_of}
 use Rattle.pg_synth.specs.declared.place.Place.{Place}
 use Rattle.pg_synth.specs.declared.place.Place.TheVariants.{Dead, Arrival, Answer}

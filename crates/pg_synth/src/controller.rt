@@ -5,7 +5,7 @@ ghost use Rattle.pg_arena.specs.declared.player.Player.TheVariants.{Even};
 ghost use Rattle.pg_arena.specs.Games.{IsWithinLimits};
 ghost use Rattle.pg_check.specs.Soundness.{IsSound};
 ghost use Rattle.pg_text.specs.Solutions.{IsSolution, winner};
-ghost use Rattle.pg_automaton.specs.Automata.{IsAutomaton};
+ghost use Rattle.pg_hoa_automaton.specs.Automata.{IsAutomaton};
 ghost use Rattle.pg_synth.specs.Answers.{IsSynthGame, IsMealyOf};
 ghost use Rattle.pg_synth.specs.AutomatonGames.{StandsFor, input_letters};
 ghost use Rattle.pg_synth.specs.Laws.{IsWonBy};
@@ -22,7 +22,7 @@ use crate::lines::{first_answer, target};
 use crate::mealy::{Mealy, Reply};
 use indexmap::IndexSet;
 use pg_arena::{Player, Vertex};
-use pg_automaton::Automaton;
+use pg_hoa_automaton::Automaton;
 use pg_text::Solution;
 use std::alloc::{AllocError, Global};
 

@@ -8,7 +8,7 @@ use crate::fault::SynthFault;
 use crate::layout::layout_of;
 use crate::lines::{built, has_few_edges, identifiers_of};
 use pg_arena::{Game, MAX_VERTICES, Vertex};
-use pg_automaton::Automaton;
+use pg_hoa_automaton::Automaton;
 use std::alloc::Global;
 
 /// The game of an automaton, with the vertex where it begins.

@@ -2,8 +2,8 @@
 
 ghost use Rattle.std.specs.Prelude.{List};
 ghost use Rattle.pg_arena.specs.Games.{GameVertex};
-ghost use Rattle.pg_automaton.specs.Automata.{Automaton, IsAutomaton};
-ghost use Rattle.pg_automaton.specs.Words.{IsWord, IsAccepted};
+ghost use Rattle.pg_hoa_automaton.specs.Automata.{Automaton, IsAutomaton};
+ghost use Rattle.pg_hoa_automaton.specs.Words.{IsWord, IsAccepted};
 ghost use Rattle.pg_synth.specs.AutomatonGames.{IsGameOfAutomaton};
 ghost use Rattle.pg_synth.specs.Laws.{AnswerHolds, JoinedLetters, MachineAccepted, OneGame, OneMachine, TracesOnePlay, Unrealizable, WordAndPlay};
 
@@ -53,8 +53,8 @@ pub fn answer_holds()
 
 ghost use Rattle.std.specs.Prelude.{ℕ};
 ghost use Rattle.pg_arena.specs.declared.player.Player.TheVariants.{Even};
-ghost use Rattle.pg_automaton.specs.Formulas.{Formula};
-ghost use Rattle.pg_automaton.specs.Shapes.{FitsShape};
+ghost use Rattle.pg_hoa_automaton.specs.Formulas.{Formula};
+ghost use Rattle.pg_hoa_automaton.specs.Shapes.{FitsShape};
 ghost use Rattle.pg_text.specs.declared.answer.Answer.{Answer};
 ghost use Rattle.pg_synth.specs.Laws.{IsWonBy};
 ghost use Rattle.pg_synth.specs.Machines.{Machine, machine_word, IsMachineOf, IsInputWord};

@@ -3,11 +3,11 @@
 
 ghost use Rattle.std.specs.Prelude.{◌≡◌, ◌^◌, ◌≤◌, length, map, IfOk};
 ghost use Rattle.std.specs.List.{range_with_len};
-ghost use Rattle.pg_automaton.specs.Automata.{IsAutomaton};
+ghost use Rattle.pg_hoa_automaton.specs.Automata.{IsAutomaton};
 ghost use Rattle.pg_synth.specs.Letters.{joined, inputs, outputs};
 ghost use Rattle.pg_synth.specs.Mirrors.Layouts.{IsLayoutOf};
 
-use pg_automaton::Automaton;
+use pg_hoa_automaton::Automaton;
 use std::alloc::{AllocError, Global};
 
 /// Each input letter and each output letter as a letter whose other part is zero, and how many numbers a state has.

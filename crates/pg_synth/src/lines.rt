@@ -4,8 +4,8 @@ ghost use Rattle.std.specs.Prelude.{◌≡◌, ◌↔◌, ◌≤◌, ◌<◌, �
 ghost use Rattle.std.specs.List.{range_with_len, sum_by};
 ghost use Rattle.pg_arena.specs.declared.fault.ArenaFault.TheVariants.{OutOfMemory};
 ghost use Rattle.pg_arena.specs.Lines.{add_fault, IsGameOf};
-ghost use Rattle.pg_lists.specs.Rising.{rising};
-ghost use Rattle.pg_automaton.specs.Automata.{deciding, letters};
+ghost use Rattle.pg_list_lemmas.specs.Rising.{rising};
+ghost use Rattle.pg_hoa_automaton.specs.Automata.{deciding, letters};
 ghost use Rattle.pg_synth.specs.AutomatonGames.{IsPlaceOf, input_letters, place_identifier};
 ghost use Rattle.pg_synth.specs.Mirrors.GameLines.{place_in, target, leads, edges_of, line_at, game_identifiers, game_lines};
 ghost use Rattle.pg_synth.specs.Mirrors.Layouts.{IsLayoutOf};
@@ -14,7 +14,7 @@ ghost use Rattle.pg_synth.specs.declared.place.Place.TheVariants.{Answer};
 use crate::layout::Layout;
 use crate::place::Place;
 use pg_arena::{ArenaFault, Game, GameBuilder, MAX_EDGES};
-use pg_automaton::{Automaton, Shape};
+use pg_hoa_automaton::{Automaton, Shape};
 use std::alloc::{AllocError, Global};
 
 /// The identifiers of all vertices, the least first.

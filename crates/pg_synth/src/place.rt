@@ -6,7 +6,7 @@ ghost use Rattle.pg_synth.specs.Mirrors.GameLines.{place_with, HasSetBelow};
 
 use itoa::Buffer;
 use pg_arena::Player;
-use pg_automaton::Shape;
+use pg_hoa_automaton::Shape;
 use std::alloc::AllocError;
 
 /// A place in a run that is played step by step: Odd chooses an input letter at an arrival, Even an output letter at an

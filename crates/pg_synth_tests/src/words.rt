@@ -2,8 +2,8 @@
 
 ghost use Rattle.std.specs.Prelude.{ℕ, List};
 ghost use Rattle.pg_arena.specs.Games.{GameVertex};
-ghost use Rattle.pg_automaton.specs.Automata.{Automaton, IsAutomaton};
-ghost use Rattle.pg_automaton.specs.Words.{IsWord};
+ghost use Rattle.pg_hoa_automaton.specs.Automata.{Automaton, IsAutomaton};
+ghost use Rattle.pg_hoa_automaton.specs.Words.{IsWord};
 ghost use Rattle.pg_synth.specs.AutomatonGames.{IsGameOfAutomaton};
 ghost use Rattle.pg_synth.specs.Laws.{TracesOnePlay};
 

@@ -42,13 +42,13 @@ pub use Rattle.pg_arena.specs.Lines.{Accepts, Answers, FinishFails, IsGameOf, Li
 pub use Rattle.pg_arena.specs.declared.fault.ArenaFault.{ArenaFault}
 pub use Rattle.pg_arena.specs.declared.player.Player.{Player}
 pub use Rattle.pg_arena.specs.declared.player.Player.TheVariants.{Even, Odd}
-pub use Rattle.pg_lists.proofs.Contained.{contains_mapped}
-pub use Rattle.pg_lists.proofs.Rising.{contains_rising, dedup_rising, rises_already, rising_length, rising_put, rising_rises}
-pub use Rattle.pg_lists.proofs.Runs.{none_more, one_more, rest_again, run_again, run_each, run_is, run_parts, run_stops, value_from}
-pub use Rattle.pg_lists.proofs.Runs.{value_grows}
-pub use Rattle.pg_lists.proofs.Steps.{chosen, none, none_is_some, some, some_is}
-pub use Rattle.pg_lists.specs.Bytes.{Each, Stops, is_digit, value_of}
-pub use Rattle.pg_lists.specs.Rising.{put, rising}
+pub use Rattle.pg_list_lemmas.proofs.Contained.{contains_mapped}
+pub use Rattle.pg_list_lemmas.proofs.Rising.{contains_rising, dedup_rising, rises_already, rising_length, rising_put, rising_rises}
+pub use Rattle.pg_list_lemmas.proofs.Runs.{none_more, one_more, rest_again, run_again, run_each, run_is, run_parts, run_stops, value_from}
+pub use Rattle.pg_list_lemmas.proofs.Runs.{value_grows}
+pub use Rattle.pg_list_lemmas.proofs.Steps.{chosen, none, none_is_some, some, some_is}
+pub use Rattle.pg_list_lemmas.specs.Bytes.{Each, Stops, is_digit, value_of}
+pub use Rattle.pg_list_lemmas.specs.Rising.{put, rising}
 pub use Rattle.pg_text.specs.GameLayout.{game_text, line_text, name_text}
 pub use Rattle.pg_text.specs.GameText.{HasBadLine, HasNoGame, IsGameText, IsNoText, IsText, Refuses, game_lexemes, line_lexemes}
 pub use Rattle.pg_text.specs.GameText.{name_lexemes, player_number}

@@ -2,7 +2,7 @@
 use Rattle.std.specs.Prelude.{◌≡◌, ◌≢◌, ℕ, ◌^◌, ◌<◌, Bool, true, false, ◌||◌, ◌&&◌, ◌==◌, nat_le, List, [], ◌∷◌, ◌++◌, length, drop}
 use Rattle.std.specs.Prelude.{Option, Some, None, if◌then◌else◌}
 use Rattle.std.specs.List.{prefix_len}
-use Rattle.pg_lists.specs.Bytes.{is_digit, Each, Stops, value_of}
+use Rattle.pg_list_lemmas.specs.Bytes.{is_digit, Each, Stops, value_of}
 use Rattle.pg_text.specs.declared.tokens.Token.{Token}
 use Rattle.pg_text.specs.declared.tokens.Token.TheVariants as tokens
 use Rattle.pg_text.specs.declared.tokens.TokenFault.{TokenFault}

@@ -2,7 +2,7 @@
 use Rattle.std.specs.Prelude.{◌≡◌, ◌^◌, ◌<◌, List, All, IfSome}
 use Rattle.pg_arena.specs.Games.{GameVertex, IsGame, IsWithinLimits, HasPrioritiesUpTo}
 use Rattle.pg_text.specs.Lexemes.{is_plain}
-use Rattle.pg_lists.specs.Bytes.{Each}
+use Rattle.pg_list_lemmas.specs.Bytes.{Each}
 use Rattle.pg_text.specs.GameText.{IsGameText}
 use Rattle.pg_text.specs.GameLayout.{game_text}
 

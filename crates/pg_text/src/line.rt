@@ -2,7 +2,7 @@
 
 ghost use Rattle.std.specs.Prelude.{◌≡◌, Ok, IfSome, IsTrue, option_copied};
 ghost use Rattle.pg_arena.specs.Lines.{counted};
-ghost use Rattle.pg_lists.specs.Rising.{rising};
+ghost use Rattle.pg_list_lemmas.specs.Rising.{rising};
 ghost use Rattle.pg_text.specs.Mirrors.Steps.{Reads, Gives, item, stop};
 ghost use Rattle.pg_text.specs.Mirrors.GameScan.{line_seen, item_seen, owner_at, ending_at, successors_at, counted_line_at, counted_step};
 ghost use Rattle.pg_text.specs.Mirrors.GameScan.{counted_item_at, body_at};

@@ -7,7 +7,7 @@ ghost use Rattle.std.specs.Prelude.{◌≡◌, ◌<◌, ◌≤◌, ◌+◌, ◌-
 ghost use Rattle.std.specs.Result.{result_ok};
 ghost use Rattle.std.specs.List.{prefix_len};
 ghost use Rattle.pg_text.specs.Lexemes.{Lexeme, lexeme, number, is_space, is_letter, is_plain, Begins, after_space, fault_at, token_fault};
-ghost use Rattle.pg_lists.specs.Bytes.{is_digit, Stops};
+ghost use Rattle.pg_list_lemmas.specs.Bytes.{is_digit, Stops};
 ghost use Rattle.pg_text.specs.Mirrors.Scan.{number_at, word_at, quoted_at, solid_at, token_at};
 ghost use Rattle.pg_text.specs.Mirrors.Steps.{Reads};
 ghost use Rattle.pg_text.specs.Mirrors.Parts.{natural_at};
@@ -118,7 +118,7 @@ fn number_token(bytes: &[u8]) -> Result<(Token<'_>, &[u8]), TokenFault>
     Ok((Token::Number(value), rest))
 }
 
-#[tactic(auto, using(pg_lists::proofs::Runs::run_within), unfolding(crate::specs::Mirrors::Scan::word_at))]
+#[tactic(auto, using(pg_list_lemmas::proofs::Runs::run_within), unfolding(crate::specs::Mirrors::Scan::word_at))]
 fn word(bytes: &[u8]) -> (Token<'_>, &[u8])
     ensures { Some (lexeme result.0, result.1.now) ≡ word_at bytes.now }
 {
@@ -127,7 +127,7 @@ fn word(bytes: &[u8]) -> (Token<'_>, &[u8])
 }
 
 /// The string whose first quote stands in front of `bytes`.
-#[tactic(auto, using(pg_lists::proofs::Runs::run_within), unfolding(crate::specs::Mirrors::Scan::quoted_at))]
+#[tactic(auto, using(pg_list_lemmas::proofs::Runs::run_within), unfolding(crate::specs::Mirrors::Scan::quoted_at))]
 fn quoted(bytes: &[u8]) -> Option<(Token<'_>, &[u8])>
     ensures { option_map (λ x. (lexeme x.0, x.1.now)) result ≡ quoted_at bytes.now }
 {
@@ -166,7 +166,7 @@ fn solid(bytes: &[u8]) -> Result<(Token<'_>, &[u8]), TokenFault>
 }
 
 /// Behind the white space in front.
-#[tactic(auto, using(pg_lists::proofs::Runs::run_within))]
+#[tactic(auto, using(pg_list_lemmas::proofs::Runs::run_within))]
 #[inline(always)]
 pub(crate) fn after_space(bytes: &[u8]) -> &[u8]
     ensures { result.now ≡ after_space bytes.now }

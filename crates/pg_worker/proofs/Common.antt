@@ -24,7 +24,7 @@ pub use Rattle.std.specs.Prelude.{◌≡◌, ◌≢◌, ◌≤◌, ◌⊎◌}
 pub use Rattle.pg_arena.specs.Games.{nowhere}
 pub use Rattle.pg_arena.specs.declared.player.Player.{Player}
 pub use Rattle.pg_arena.specs.declared.player.Player.TheVariants.{Even}
-pub use Rattle.pg_lift.specs.Mirrors.Lifters.{KeepsLines, LifterValue, Lifts}
+pub use Rattle.pg_map_lift.specs.Mirrors.Lifters.{KeepsLines, LifterValue, Lifts}
 pub use Rattle.pg_map.proofs.Above.{lift_stays_under}
 pub use Rattle.pg_map.proofs.Joins.{zero_map_least}
 pub use Rattle.pg_map.specs.Lines.{AreWithin, Line, line_at, line_of, only, vertex_line}
@@ -34,11 +34,11 @@ pub use Rattle.pg_map.specs.declared.update.Update.{Update}
 pub use Rattle.pg_measure.proofs.Widths.{width_is}
 pub use Rattle.pg_measure.specs.Measures.{AtMost, BoundList, Covers, Fits, MeasureValue, owned, width_from, zeros}
 pub use Rattle.pg_measure.specs.Views.{measure_in}
-pub use Rattle.pg_parts.proofs.Fitting.{components_fit, few_components, frame_tells}
-pub use Rattle.pg_parts.proofs.Joining.{all_none, joins_more, joins_none}
-pub use Rattle.pg_parts.proofs.Lists.{all_left, all_right, pairs_left, pairs_map, pairs_right}
-pub use Rattle.pg_parts.proofs.Reading.{first_is, in_row, none_left, some_is}
-pub use Rattle.pg_parts.specs.Frames.{IsAtLeast, IsClosedAt, lines_in, measures_in, told_line}
+pub use Rattle.pg_coord_partition.proofs.Fitting.{components_fit, few_components, frame_tells}
+pub use Rattle.pg_coord_partition.proofs.Joining.{all_none, joins_more, joins_none}
+pub use Rattle.pg_coord_partition.proofs.Lists.{all_left, all_right, pairs_left, pairs_map, pairs_right}
+pub use Rattle.pg_coord_partition.proofs.Reading.{first_is, in_row, none_left, some_is}
+pub use Rattle.pg_coord_partition.specs.Frames.{IsAtLeast, IsClosedAt, lines_in, measures_in, told_line}
 pub use Rattle.pg_wire.proofs.Append.{few, then}
 pub use Rattle.pg_wire.proofs.Bodies.{one_frame}
 pub use Rattle.pg_wire.proofs.Buffers.{extends_by, extends_then}

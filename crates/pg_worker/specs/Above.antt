@@ -6,7 +6,7 @@ use Rattle.pg_wire.specs.declared.frame.Setup.{Setup}
 use Rattle.pg_wire.specs.declared.frame.Frame.{Frame}
 use Rattle.pg_wire.specs.Spelling.{spelling}
 use Rattle.pg_wire.specs.Bytes.{Spells}
-use Rattle.pg_parts.specs.Frames.{IsAtLeast, lines_in, measures_in, IsClosedAt}
+use Rattle.pg_coord_partition.specs.Frames.{IsAtLeast, lines_in, measures_in, IsClosedAt}
 use Rattle.pg_worker.specs.Workers.{part_line}
 use Rattle.pg_worker.specs.Turns.{SessionValue}
 

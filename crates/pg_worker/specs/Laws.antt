@@ -9,7 +9,7 @@ use Rattle.pg_wire.specs.declared.frame.Frame.{Frame}
 use Rattle.pg_wire.specs.declared.frame.Frame.TheVariants as frames
 use Rattle.pg_wire.specs.Well.{IsSetup}
 use Rattle.pg_worker.specs.Workers.{part_line, AreLifts}
-use Rattle.pg_parts.specs.Frames.{IsAtLeast, measures_in}
+use Rattle.pg_coord_partition.specs.Frames.{IsAtLeast, measures_in}
 use Rattle.pg_worker.specs.Turns.{SessionValue, lifted_measures, LiftsAndTells}
 use Rattle.pg_worker.specs.Serving.{Replies}
 use Rattle.pg_worker.specs.Above.{AreFrames, IsAboveFrames}

@@ -16,7 +16,7 @@ use Rattle.pg_wire.specs.declared.kind.ValueKind.TheVariants.{Dense, Sparse}
 use Rattle.pg_wire.specs.Spelling.{body, spelling, longest}
 use Rattle.pg_wire.specs.Bytes.{Spells, IsTooLong, IsTruncated}
 use Rattle.pg_wire.specs.Measured.{Measured, TellsMeasures, told_values, told_sparse, frame_of}
-use Rattle.pg_parts.specs.Frames.{kind_of, Joins}
+use Rattle.pg_coord_partition.specs.Frames.{kind_of, Joins}
 use Rattle.pg_worker.specs.declared.fault.WorkerFault.{WorkerFault}
 use Rattle.pg_worker.specs.declared.fault.WorkerFault.TheVariants.{BadUpdate, Order, Wire}
 use Rattle.pg_worker.specs.Workers.{WorkerValue, new_worker, with_lines, AreAbove, FitsGame, RefusesLines, CanTake, IsListedTurn}

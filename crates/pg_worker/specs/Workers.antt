@@ -7,7 +7,7 @@ use Rattle.pg_map.specs.Lines.{Line, AreWithin}
 use Rattle.pg_map.specs.Maps.{measure_at, IsMap, zero_map, update_map, IsClosed, IsJoin, IsLifted, StaysUnder}
 use Rattle.pg_map.specs.declared.update.Update.{Update}
 use Rattle.pg_wire.specs.declared.frame.VertexLine.{VertexLine}
-use Rattle.pg_parts.specs.Frames.{told_line}
+use Rattle.pg_coord_partition.specs.Frames.{told_line}
 use Rattle.pg_worker.specs.declared.fault.WorkerFault.{WorkerFault}
 use Rattle.pg_worker.specs.declared.fault.WorkerFault.TheVariants.{BadUpdate, Order}
 

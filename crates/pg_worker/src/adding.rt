@@ -3,14 +3,14 @@
 ghost use Rattle.std.specs.Prelude.{◌≡◌, ◌↔◌, ℕ, ◌+◌, ◌^◌, ◌<◌, ◌≤◌, Some, length, sum_by, slice_set, All, AllPairs, IsSome, IfSome, IsTrue, OnOk, OnErr};
 ghost use Rattle.pg_wire.specs.Lines.{line_with};
 ghost use Rattle.pg_wire.specs.Well.{IsVertexLine};
-ghost use Rattle.pg_parts.specs.Frames.{told_line, player};
+ghost use Rattle.pg_coord_partition.specs.Frames.{told_line, player};
 ghost use Rattle.pg_worker.specs.Workers.{with_lines, HasBound, FitsGame};
 ghost use Rattle.pg_worker.specs.Mirrors.Parts.{HasPlace, held_line};
 ghost use Rattle.pg_worker.specs.Mirrors.Insides.{IsInside, IsNext, HaveRoom, edge_count};
 
 use crate::part::Part;
 use pg_arena::{Player, Vertex};
-use pg_lift::Queue;
+use pg_map_lift::Queue;
 use pg_measure::Bounds;
 use pg_wire::{LineHead, VertexLine};
 use std::alloc::AllocError;

@@ -7,7 +7,7 @@ ghost use Rattle.pg_worker.specs.Turns.{CanTakeAll};
 ghost use Rattle.pg_worker.specs.Mirrors.Joins.{JoinsAll};
 
 use crate::{Worker, WorkerFault};
-use pg_parts::lent_row;
+use pg_coord_partition::lent_row;
 use pg_wire::ValuesReader;
 
 /// Joins the map with each of the measures that are left, by a row of as many places as the width says.

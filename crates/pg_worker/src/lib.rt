@@ -19,7 +19,7 @@ mod worker;
 
 pub use fault::WorkerFault;
 pub use lifting::Lifted;
-pub use pg_parts::{Cut, VertexSet, fill_line, fits, lent_row, line_of, push, setup_of};
+pub use pg_coord_partition::{Cut, VertexSet, fill_line, fits, lent_row, line_of, push, setup_of};
 pub use served::Served;
 pub use service::serve;
 pub use session::Session;

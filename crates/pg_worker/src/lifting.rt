@@ -2,16 +2,16 @@
 
 ghost use Rattle.std.specs.Prelude.{◌≡◌, ◌<◌, ◌≤◌, false, [], length, IfOk, OnOk, MatchBool, vec_len, vec_capacity};
 ghost use Rattle.pg_map.specs.Maps.{IsClosed};
-ghost use Rattle.pg_lift.specs.Mirrors.Lifters.{KeepsLines};
+ghost use Rattle.pg_map_lift.specs.Mirrors.Lifters.{KeepsLines};
 ghost use Rattle.pg_worker.specs.Mirrors.Lifts.{AreListedLifts};
 ghost use Rattle.pg_worker.specs.Mirrors.Parts.{held_line};
 ghost use Rattle.pg_worker.specs.Workers.{AreLifts};
 
 use crate::part::Part;
-use pg_lift::Lifter;
+use pg_coord_partition::VertexSet;
 use pg_map::Update;
+use pg_map_lift::Lifter;
 use pg_measure::{Bounds, Measure};
-use pg_parts::VertexSet;
 use std::alloc::AllocError;
 
 /// The updates of a run of lifts, in the order in which they were made, and whether no vertex of the part can be lifted now.

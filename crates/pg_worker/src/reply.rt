@@ -9,7 +9,7 @@ ghost use Rattle.pg_worker.specs.Mirrors.Replies.{measures_of};
 
 use crate::Worker;
 use pg_arena::Vertex;
-use pg_parts::push;
+use pg_coord_partition::push;
 use pg_wire::{ValueKind, ValuesWriter};
 use std::alloc::AllocError;
 

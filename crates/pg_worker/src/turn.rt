@@ -4,7 +4,7 @@ ghost use Rattle.std.specs.Prelude.{◌≡◌, ◌≤◌, ◌↔◌, ℕ, ◌++�
 ghost use Rattle.pg_wire.specs.Well.{IsWell, IsSetup};
 ghost use Rattle.pg_wire.specs.declared.frame.Frame.TheVariants as frames;
 ghost use Rattle.pg_wire.specs.Mirrors.Buffers.{Extends};
-ghost use Rattle.pg_parts.specs.Frames.{kind_of};
+ghost use Rattle.pg_coord_partition.specs.Frames.{kind_of};
 ghost use Rattle.pg_worker.specs.Turns.{Turn, IsUpTo, Refuses, TakesValues, RefusesValues, LiftsAndTells, fresh, greeting, DoesTurn, HasRows, SpellsRows, RefusesBytes};
 ghost use Rattle.pg_wire.specs.Left.{IsLeft};
 ghost use Rattle.pg_wire.specs.Measured.{Measured};
@@ -15,7 +15,7 @@ use crate::lines::add_read_lines;
 use crate::reply::{put_lifted, put_report};
 use crate::session_state::{SessionState, replace_state};
 use crate::{Worker, WorkerFault};
-use pg_parts::fits_worker;
+use pg_coord_partition::fits_worker;
 use pg_wire::{Frame, Setup, ValueKind, ValuesReader, VerticesReader, WireFault, decode};
 use std::alloc::Global;
 

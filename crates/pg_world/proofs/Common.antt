@@ -26,8 +26,8 @@ pub use Rattle.std.specs.declared.vec.Vec.{Vec}
 pub use Rattle.pg_arena.specs.Games.{GameVertex, IsGame, identifier, owner, priority, successors}
 pub use Rattle.pg_arena.specs.declared.player.Player.{Player}
 pub use Rattle.pg_arena.specs.declared.player.Player.TheVariants.{Even, Odd}
-pub use Rattle.pg_lists.proofs.Contained.{contains_none}
-pub use Rattle.pg_lists.proofs.Steps.{chosen, none_is_some, some, some_is}
+pub use Rattle.pg_list_lemmas.proofs.Contained.{contains_none}
+pub use Rattle.pg_list_lemmas.proofs.Steps.{chosen, none_is_some, some, some_is}
 pub use Rattle.pg_map.proofs.Bests.{BestSoFar, left, taken}
 pub use Rattle.pg_map.proofs.GameLines.{game_line_at}
 pub use Rattle.pg_map.proofs.Lifts.{least_serving}
@@ -44,7 +44,7 @@ pub use Rattle.pg_measure.specs.Laws.{OrderIsTotal}
 pub use Rattle.pg_measure.specs.Measures.{AtMost, BoundList, Covers, Fits, IsBelow, IsLeastStep, MeasureValue, OwnedMeasure, is_odd}
 pub use Rattle.pg_measure.specs.Measures.{measure_from, width_from, zeros}
 pub use Rattle.pg_measure.specs.Mirrors.Rows.{FrontAtMost}
-pub use Rattle.pg_parts.specs.Cuts.{CutValue, even_worker, worker_of}
+pub use Rattle.pg_coord_partition.specs.Cuts.{CutValue, even_worker, worker_of}
 pub use Rattle.pg_text.proofs.Answering.{same_vertex}
 pub use Rattle.pg_text.proofs.Lexing.{token_again}
 pub use Rattle.pg_text.proofs.Parts.{clause_takes, clause_there, end_again, end_takes, name_again, name_takes, natural_again, natural_takes}

@@ -5,7 +5,7 @@ use Rattle.pg_measure.specs.Measures.{BoundList, MeasureValue}
 use Rattle.pg_measure.specs.Games.{IsBoundsOf}
 use Rattle.pg_map.specs.Lines.{game_line}
 use Rattle.pg_map.specs.Maps.{IsNeverAbove}
-use Rattle.pg_parts.specs.Cuts.{CutValue}
+use Rattle.pg_coord_partition.specs.Cuts.{CutValue}
 use Rattle.pg_world.specs.Updates.{UpdateValue, update_at, IsJoinOf}
 use Rattle.pg_world.specs.Worlds.{WorldValue, new_world, IsMapOf, IsEventOf, Runs}
 use Rattle.pg_world.specs.ScriptText.{IsScriptText}

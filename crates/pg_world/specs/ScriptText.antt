@@ -4,7 +4,7 @@ use Rattle.std.specs.List.{flat_map}
 use Rattle.pg_arena.specs.Games.{GameVertex, identifier}
 use Rattle.pg_text.specs.Lexemes.{Lexeme, number, word, semicolon, end, Spells, clause_lexemes}
 use Rattle.pg_text.specs.Numbers.{numbers_lexemes}
-use Rattle.pg_parts.specs.Cuts.{CutValue, IsEvenCut, NameWorkers}
+use Rattle.pg_coord_partition.specs.Cuts.{CutValue, IsEvenCut, NameWorkers}
 use Rattle.pg_world.specs.declared.event.Event.{Event}
 use Rattle.pg_world.specs.declared.event.Event.TheVariants.{Lift, Deliver, Restart, CoordinatorLift}
 use Rattle.pg_world.specs.Worlds.{IsEventOf}

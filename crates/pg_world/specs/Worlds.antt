@@ -5,7 +5,7 @@ use Rattle.pg_arena.specs.Games.{GameVertex, identifier}
 use Rattle.pg_measure.specs.Measures.{BoundList, MeasureValue, IsBelow}
 use Rattle.pg_map.specs.Lines.{game_line}
 use Rattle.pg_map.specs.Maps.{measure_at, IsServed, IsLeastServing}
-use Rattle.pg_parts.specs.Cuts.{CutValue, worker_of}
+use Rattle.pg_coord_partition.specs.Cuts.{CutValue, worker_of}
 use Rattle.pg_world.specs.Updates.{UpdateValue, IsJoinOf}
 use Rattle.pg_world.specs.declared.event.Event.{Event}
 use Rattle.pg_world.specs.declared.event.Event.TheVariants.{Lift, Deliver, Restart, CoordinatorLift}

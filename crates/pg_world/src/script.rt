@@ -2,7 +2,7 @@
 
 ghost use Rattle.std.specs.Prelude.{◌≡◌, ◌≢◌, ℕ, ◌<◌, List, length, Option, option_map, IfOk, IfErr, IfSome, IfNone, MatchResult};
 ghost use Rattle.pg_arena.specs.Games.{IsGame, vertex_at};
-ghost use Rattle.pg_parts.specs.Cuts.{CutValue};
+ghost use Rattle.pg_coord_partition.specs.Cuts.{CutValue};
 ghost use Rattle.pg_world.specs.declared.event.Event.{Event};
 ghost use Rattle.pg_world.specs.declared.script_fault.ScriptFault.TheVariants.{OutOfMemory};
 ghost use Rattle.pg_world.specs.Worlds.{IsEventOf};

@@ -1,7 +1,7 @@
 -- The lines of a circuit text, one kind after another.
 use Rattle.std.specs.Prelude.{ℕ, Bool, true, false, not, List, [], ◌∷◌, length, map, take, if◌then◌else◌}
 use Rattle.std.specs.List.{items_where_true}
-use Rattle.pg_automaton.specs.Automata.{Automaton}
+use Rattle.pg_hoa_automaton.specs.Automata.{Automaton}
 use Rattle.pg_aiger.specs.declared.gate.Gate.{Gate}
 use Rattle.pg_aiger.specs.Circuits.{Latch}
 use Rattle.pg_aiger.specs.CircuitText.{Kind, input, output, Symbol, Row, numbers, symbol}

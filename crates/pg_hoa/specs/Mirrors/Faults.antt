@@ -2,10 +2,10 @@
 use Rattle.std.specs.Prelude.{ℕ, ◌-◌}
 use Rattle.pg_hoa.specs.declared.fault.HoaFault.{HoaFault}
 use Rattle.pg_hoa.specs.declared.fault.HoaFault.TheVariants as faults
-use Rattle.pg_syntax.specs.declared.fault.PartFault.{PartFault}
-use Rattle.pg_syntax.specs.declared.fault.PartFault.TheVariants.{Syntax, LeftOut, UnknownHeader, OutOfRange, NotParity, TooLarge, BadName}
-use Rattle.pg_syntax.specs.declared.fault.Refusal.{Refusal}
-use Rattle.pg_syntax.specs.declared.fault.Refusal.TheVariants as refusals
+use Rattle.pg_hoa_syntax.specs.declared.fault.PartFault.{PartFault}
+use Rattle.pg_hoa_syntax.specs.declared.fault.PartFault.TheVariants.{Syntax, LeftOut, UnknownHeader, OutOfRange, NotParity, TooLarge, BadName}
+use Rattle.pg_hoa_syntax.specs.declared.fault.Refusal.{Refusal}
+use Rattle.pg_hoa_syntax.specs.declared.fault.Refusal.TheVariants as refusals
 use Rattle.pg_hoa.specs.declared.fault.Conflict.{Conflict}
 use Rattle.pg_hoa.specs.declared.fault.Conflict.TheVariants.{Memory, NotDeterministic}
 

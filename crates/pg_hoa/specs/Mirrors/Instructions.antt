@@ -1,6 +1,6 @@
 -- What instructions do to a stack of truths of the letters of blocks.
 use Rattle.std.specs.Prelude.{◌≡◌, ℕ, ◌+◌, ◌*◌, ◌<◌, ◌==◌, Bool, true, false, ◌&&◌, ◌||◌, List, [], ◌∷◌, if◌then◌else◌, bit_and}
-use Rattle.pg_syntax.specs.declared.formula.Op.{Op}
+use Rattle.pg_hoa_syntax.specs.declared.formula.Op.{Op}
 use Rattle.pg_hoa.specs.declared.terms.Term.{Term}
 use Rattle.pg_hoa.specs.declared.terms.Instruction.{Instruction}
 use Rattle.pg_hoa.specs.declared.terms.Instruction.TheVariants.{Put, Not, Both, Either, BothTerm, EitherTerm}

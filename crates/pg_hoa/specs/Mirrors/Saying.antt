@@ -1,7 +1,7 @@
 -- What a list of operations says: each takes its operands from a stack of truths, and leaves its own.
 use Rattle.std.specs.Prelude.{ℕ, Bool, true, false, ◌&&◌, ◌||◌, List, [], ◌∷◌, if◌then◌else◌}
-use Rattle.pg_syntax.specs.declared.formula.Op.{Op}
-use Rattle.pg_syntax.specs.declared.formula.Op.TheVariants.{Yes, No, Proposition, Inf, Fin, Not, Both, Either}
+use Rattle.pg_hoa_syntax.specs.declared.formula.Op.{Op}
+use Rattle.pg_hoa_syntax.specs.declared.formula.Op.TheVariants.{Yes, No, Proposition, Inf, Fin, Not, Both, Either}
 
 -- a missing operand counts as false
 abbrev pub top : List Bool → Bool

@@ -3,22 +3,22 @@ use Rattle.std.specs.Prelude.{◌≡◌, ℕ, zero, suc, ◌+◌, ◌-◌, ◌*�
 use Rattle.std.specs.Prelude.{◌&&◌, List, [], ◌∷◌, ◌++◌, map, length, get_or, slice_get, Option, Some, None, if◌then◌else◌}
 use Rattle.std.specs.List.{filter, flat_map, list_any}
 use Rattle.std.specs.Int.{bit_at}
-use Rattle.pg_automaton.specs.declared.shape.Shape.{Shape}
-use Rattle.pg_automaton.specs.declared.shape.Shape.TheVariants.{MinEven, MinOdd}
+use Rattle.pg_hoa_automaton.specs.declared.shape.Shape.{Shape}
+use Rattle.pg_hoa_automaton.specs.declared.shape.Shape.TheVariants.{MinEven, MinOdd}
 use Rattle.pg_hoa.specs.declared.fault.Conflict.{Conflict}
 use Rattle.pg_hoa.specs.declared.fault.Conflict.TheVariants.{Memory, NotDeterministic}
-use Rattle.pg_automaton.specs.declared.table.Stored.{Stored}
+use Rattle.pg_hoa_automaton.specs.declared.table.Stored.{Stored}
 use Rattle.pg_hoa.specs.declared.table.Covered.{Covered}
 use Rattle.pg_hoa.specs.declared.table.Row.{Row}
 use Rattle.pg_hoa.specs.declared.table.Filling.{Filling}
 use Rattle.pg_hoa.specs.declared.table.Way.{Way}
-use Rattle.pg_automaton.specs.declared.table.Table.{Table}
-use Rattle.pg_syntax.specs.declared.formula.Op.{Op}
-use Rattle.pg_automaton.specs.Automata.{Step, deciding, step}
+use Rattle.pg_hoa_automaton.specs.declared.table.Table.{Table}
+use Rattle.pg_hoa_syntax.specs.declared.formula.Op.{Op}
+use Rattle.pg_hoa_automaton.specs.Automata.{Step, deciding, step}
 use Rattle.pg_hoa.specs.AutomatonText.{Agree, head}
-use Rattle.pg_automaton.specs.Mirrors.Tables.{numbered, next}
-use Rattle.pg_lists.specs.Rising.{rising}
-use Rattle.pg_syntax.specs.Mirrors.Kept.{KeptEdge, KeptLine}
+use Rattle.pg_hoa_automaton.specs.Mirrors.Tables.{numbered, next}
+use Rattle.pg_list_lemmas.specs.Rising.{rising}
+use Rattle.pg_hoa_syntax.specs.Mirrors.Kept.{KeptEdge, KeptLine}
 use Rattle.pg_hoa.specs.Mirrors.Saying.{says}
 use Rattle.pg_hoa.specs.Mirrors.Letters.{truth}
 

@@ -2,8 +2,8 @@
 use Rattle.std.specs.Prelude.{ℕ, ◌-◌, ◌/◌, ◌%◌, ◌<◌, ◌==◌, nat_le, if◌then◌else◌, List, [], ◌∷◌, ◌++◌, map, length, Some, None}
 use Rattle.std.specs.List.{flat_map, range_with_len}
 use Rattle.pg_arena.specs.Lines.{Line}
-use Rattle.pg_lists.specs.Rising.{rising}
-use Rattle.pg_automaton.specs.Automata.{Automaton, letters, next}
+use Rattle.pg_list_lemmas.specs.Rising.{rising}
+use Rattle.pg_hoa_automaton.specs.Automata.{Automaton, letters, next}
 use Rattle.pg_synth.specs.Letters.{joined}
 use Rattle.pg_synth.specs.AutomatonGames.{input_letters, output_letters, width, place_identifier, place_owner, place_priority, place_name, arrival_of}
 use Rattle.pg_synth.specs.declared.place.Place.{Place}

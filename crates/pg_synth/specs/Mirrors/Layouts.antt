@@ -1,7 +1,7 @@
 -- How the vertices of a game are numbered.
 use Rattle.std.specs.Prelude.{◌≡◌, ◌^◌, map}
 use Rattle.std.specs.List.{range_with_len}
-use Rattle.pg_automaton.specs.Automata.{Automaton, IsAutomaton}
+use Rattle.pg_hoa_automaton.specs.Automata.{Automaton, IsAutomaton}
 use Rattle.pg_synth.specs.Letters.{joined, inputs, outputs}
 use Rattle.pg_synth.specs.AutomatonGames.{width}
 use Rattle.pg_synth.specs.declared.layout.Layout.{Layout}

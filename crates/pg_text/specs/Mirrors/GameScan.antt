@@ -3,7 +3,7 @@ use Rattle.std.specs.Prelude.{ℕ, suc, zero, List, Option, Some, None, Ok, Err,
 use Rattle.pg_arena.specs.declared.player.Player.{Player}
 use Rattle.pg_arena.specs.declared.player.Player.TheVariants.{Even, Odd}
 use Rattle.pg_arena.specs.Lines.{Line, counted}
-use Rattle.pg_lists.specs.Rising.{rising}
+use Rattle.pg_list_lemmas.specs.Rising.{rising}
 use Rattle.pg_text.specs.declared.line.TextLine.{TextLine}
 use Rattle.pg_text.specs.Lexemes.{Lexeme, number, semicolon, quoted, end}
 use Rattle.pg_text.specs.Mirrors.Steps.{◌>>=◌, Read, Step, item, stop, items_at, unexpected}

@@ -2,7 +2,7 @@
 use Rattle.std.specs.Prelude.{ℕ, ◌+◌, ◌^◌, ◌==◌, List, [], ◌∷◌, length, drop, Option, Some, None, Ok, Err, nat_lt, if◌then◌else◌}
 use Rattle.std.specs.List.{prefix_len, take_while}
 use Rattle.pg_text.specs.Lexemes.{Lexeme, number, word, semicolon, comma, quoted, end, is_letter, is_plain, after_space, token_fault}
-use Rattle.pg_lists.specs.Bytes.{is_digit, value_of}
+use Rattle.pg_list_lemmas.specs.Bytes.{is_digit, value_of}
 use Rattle.pg_text.specs.declared.tokens.TokenFault.{TokenFault}
 use Rattle.pg_text.specs.Mirrors.Steps.{Read}
 

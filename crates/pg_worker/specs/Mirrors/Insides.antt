@@ -3,7 +3,7 @@ use Rattle.std.specs.Prelude.{◌≡◌, ℕ, ◌+◌, ◌^◌, ◌<◌, ◌≤�
 use Rattle.pg_map.specs.Lines.{AreWithin}
 use Rattle.pg_wire.specs.declared.frame.VertexLine.{VertexLine}
 use Rattle.pg_worker.specs.Mirrors.Parts.{PartValue, HasPlace, held_line}
-use Rattle.pg_lift.specs.Mirrors.Lifters.{LifterValue}
+use Rattle.pg_map_lift.specs.Mirrors.Lifters.{LifterValue}
 
 -- the lines of a part are within it
 abbrev pub IsInside : PartValue → Type 0

@@ -8,7 +8,7 @@ use Rattle.pg_measure.specs.Games.{IsBoundsOf}
 use Rattle.pg_map.specs.Lines.{Line, game_line}
 use Rattle.pg_map.specs.Maps.{measure_at, IsMap, IsClosed, IsLeastServing}
 use Rattle.pg_map.specs.declared.update.Update.{Update}
-use Rattle.pg_parts.specs.Cuts.{CutValue}
+use Rattle.pg_coord_partition.specs.Cuts.{CutValue}
 use Rattle.pg_world.specs.declared.replica.ReplicaMap.{ReplicaMap}
 use Rattle.pg_world.specs.declared.replica.TheConstants.{NO_UPDATE}
 use Rattle.pg_world.specs.Updates.{UpdateValue, update_value, update_at}

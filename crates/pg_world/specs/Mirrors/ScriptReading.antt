@@ -2,7 +2,7 @@
 use Rattle.std.specs.Prelude.{◌≡◌, ◌≢◌, ℕ, ◌≤◌, List, [], All, Option}
 use Rattle.pg_arena.specs.Games.{GameVertex, identifier}
 use Rattle.pg_text.specs.Lexemes.{Spells}
-use Rattle.pg_parts.specs.Cuts.{CutValue}
+use Rattle.pg_coord_partition.specs.Cuts.{CutValue}
 use Rattle.pg_world.specs.declared.event.Event.{Event}
 use Rattle.pg_world.specs.declared.event.Event.TheVariants as event
 use Rattle.pg_world.specs.declared.script_line.ScriptLine.{ScriptLine}

@@ -1,4 +1,4 @@
-use Rattle.pg_arrays.specs.Games.{arrays_of}
+use Rattle.parsolve_c_csr.specs.Games.{arrays_of}
 use Rattle.parsolve_c.proofs.Told.{sound_told, leaves_told, has_cycle}
 use Rattle.parsolve_c.proofs.checking.parsolve_check.Goals as goal
 

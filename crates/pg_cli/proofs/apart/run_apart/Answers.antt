@@ -1,7 +1,7 @@
 use Rattle.std.proofs.Common.{◌≡◌, ◌∙◌, ℕ, refl, inr, Option, Some, None, IfSome, unwrap_or}
-use Rattle.pg_command.specs.Measuring.{IsClosedMapOf, IsMeasureOf}
-use Rattle.pg_command.proofs.Outcomes.{answered_known}
-use Rattle.pg_words.specs.Commands.{workers_of}
+use Rattle.pg_cli_command.specs.Measuring.{IsClosedMapOf, IsMeasureOf}
+use Rattle.pg_cli_command.proofs.Outcomes.{answered_known}
+use Rattle.pg_cli_words.specs.Commands.{workers_of}
 use Rattle.pg_cli.proofs.apart.run_apart.Goals as goal
 
 none_or_none : (workers : Option ℕ) → IfSome workers (λ n. n ≡ 0) → unwrap_or workers 0 ≡ 0

@@ -1,6 +1,6 @@
 use Rattle.std.specs.Prelude.{All}
-use Rattle.pg_command.specs.Measuring.{IsClosedMapOf, IsMeasureOf}
-use Rattle.pg_command.proofs.MapKinds.{answers_too}
+use Rattle.pg_cli_command.specs.Measuring.{IsClosedMapOf, IsMeasureOf}
+use Rattle.pg_cli_command.proofs.MapKinds.{answers_too}
 use Rattle.pg_cli.specs.Mirrors.Finding.{IsFoundIf}
 use Rattle.pg_cli.proofs.Finding.{found_closed, found_least}
 use Rattle.pg_cli.proofs.program.answer_over.Goals as goal

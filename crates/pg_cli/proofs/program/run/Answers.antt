@@ -1,5 +1,5 @@
-use Rattle.pg_command.specs.Measuring.{IsMeasureOf}
-use Rattle.pg_command.proofs.Outcomes.{answered_known}
+use Rattle.pg_cli_command.specs.Measuring.{IsMeasureOf}
+use Rattle.pg_cli_command.proofs.Outcomes.{answered_known}
 use Rattle.pg_cli.proofs.program.run.Goals as goal
 
 pub returns-clause-answer : goal.returns-clause-answer

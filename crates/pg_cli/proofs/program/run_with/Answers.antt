@@ -1,6 +1,6 @@
 use Rattle.std.specs.Prelude.{◌≡◌, All, refl}
-use Rattle.pg_command.specs.Measuring.{IsClosedMapOf, IsMeasureOf}
-use Rattle.pg_command.proofs.MapKinds.{known_too}
+use Rattle.pg_cli_command.specs.Measuring.{IsClosedMapOf, IsMeasureOf}
+use Rattle.pg_cli_command.proofs.MapKinds.{known_too}
 use Rattle.pg_cli.specs.Mirrors.Finding.{IsFoundIf}
 use Rattle.pg_cli.specs.Linked.{IsLeastOverTold}
 use Rattle.pg_cli.specs.declared.over_links.Rounds.TheVariants.{Any}

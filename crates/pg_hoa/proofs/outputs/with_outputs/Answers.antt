@@ -1,7 +1,7 @@
 use Rattle.pg_hoa.proofs.Common.{◌≡◌, ◌∙◌, ◌<◌, ℕ, List, Bor, sym, subst, arith, map, All}
 use Rattle.std.specs.Prelude.{Contains}
-use Rattle.pg_syntax.specs.Syntax.{IsText}
-use Rattle.pg_syntax.specs.Headers.{with_controls}
+use Rattle.pg_hoa_syntax.specs.Syntax.{IsText}
+use Rattle.pg_hoa_syntax.specs.Headers.{with_controls}
 use Rattle.pg_hoa.specs.Outputs.{outputs}
 use Rattle.pg_hoa.proofs.NamedOutputs.{given_spelt, outputs_below, all_map}
 use Rattle.pg_hoa.proofs.outputs.with_outputs.Goals as goal

@@ -1,7 +1,7 @@
 use Rattle.pg_hoa.proofs.Common.{◌≡◌, ◌∙◌, ◌<◌, ◌^◌, ℕ, List, length, map, refl, sym, subst, arith, nat_tests, get_or-map, length-map}
 use Rattle.pg_hoa.proofs.Common.{err_from_is_err_and, Vec, Global, vec_len, All, Table, viewed, next_viewed, ReadState, KeptLine, line_in}
 use Rattle.pg_hoa.proofs.Common.{automaton, Conflict, IsTableOf, IsConflictOf}
-use Rattle.pg_syntax.specs.declared.syntax.Syntax.{Syntax}
+use Rattle.pg_hoa_syntax.specs.declared.syntax.Syntax.{Syntax}
 use Rattle.pg_hoa.proofs.Assembling.{IsOf, lines_below, table_is_automaton, table_spelt}
 use Rattle.pg_hoa.proofs.Refusing.{refusal_refused, conflict_refused}
 use Rattle.pg_hoa.proofs.reader.read_automaton.Goals as goal

@@ -1,7 +1,7 @@
 use Rattle.pg_hoa.proofs.Common.{◌≡◌, ◌∙◌, ℕ, [], ◌∷◌, ◌++◌, ◌*◌, ◌%◌, ◌+◌, ◌^◌, ◌<◌, map, take, length, None, refl, ap, subst, Bor, arith}
 use Rattle.pg_hoa.proofs.Common.{shl_whole, pow_pos, append-nil, take_all, rising, some, step, edge_in, stage, Adds, IsRegrouped, at_line}
 use Rattle.pg_hoa.proofs.Common.{at_letters}
-use Rattle.pg_syntax.specs.declared.body.Edge.{Edge}
+use Rattle.pg_hoa_syntax.specs.declared.body.Edge.{Edge}
 use Rattle.pg_hoa.proofs.Counting.{none_counts, all_count}
 use Rattle.pg_hoa.proofs.TableFilling.{adds_none, adds_then, adds_extended}
 use Rattle.pg_hoa.proofs.TablePlaces.{line_of, no_edges, edge_added, more_items}

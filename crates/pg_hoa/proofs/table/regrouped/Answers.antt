@@ -1,6 +1,6 @@
 use Rattle.pg_hoa.proofs.Common.{◌≡◌, ◌∙◌, ℕ, ◌++◌, ◌==◌, ◌&&◌, map, ap, Bor, rules, Option, filter, ties, is_lt, take_all}
 use Rattle.pg_hoa.proofs.Common.{always_returns_same, deciding, rising, KeptEdge, edge_in, has_key, edge_step, same_set, with_sets}
-use Rattle.pg_syntax.specs.declared.body.Edge.{Edge}
+use Rattle.pg_hoa_syntax.specs.declared.body.Edge.{Edge}
 use Rattle.pg_hoa.proofs.Counting.{all_count}
 use Rattle.pg_hoa.proofs.TableRegrouped.{stable_test, filter_mapped_as, mapped_twice, key_cmp, same_ties}
 use Rattle.pg_hoa.proofs.table.regrouped.Goals as goal

@@ -1,7 +1,7 @@
 use Rattle.std.proofs.Common.{◌∙◌, List, Bool, sym, subst}
 use Rattle.pg_map.specs.Lines.{game_line}
 use Rattle.pg_map.specs.Maps.{IsNeverAbove}
-use Rattle.pg_claims.specs.Known.{known_map}
+use Rattle.pg_map_claims.specs.Known.{known_map}
 use Rattle.pg_solver_tests.proofs.tools.is_shown.Goals as goal
 
 pub certifies-requires-clause-known : goal.certifies-requires-clause-known

@@ -1,6 +1,6 @@
 use Rattle.std.proofs.Common.{◌≡◌, ℕ, List, [], ◌++◌, sym, subst}
-use Rattle.pg_words.specs.declared.command.Command.{Command}
-use Rattle.pg_command.specs.Answers.{Prints}
+use Rattle.pg_cli_words.specs.declared.command.Command.{Command}
+use Rattle.pg_cli_command.specs.Answers.{Prints}
 use Rattle.pg_cli.proofs.apart.Programs.answer.Goals as goal
 
 -- what was written where nothing stood is what is printed

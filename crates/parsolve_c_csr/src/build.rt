@@ -1,0 +1,141 @@
+//! The game of arrays.
+
+ghost use Rattle.std.specs.Prelude.{◌≡◌, ◌↔◌, ◌<◌, ◌++◌, ◌∷◌, [], length, map, All, OnOk, IsTrue, IfOk, IfErr};
+ghost use Rattle.std.specs.List.{range_with_len};
+ghost use Rattle.pg_arena.specs.declared.fault.ArenaFault.{ArenaFault};
+ghost use Rattle.parsolve_c_csr.specs.Games.{arrays_of, HaveSizes, IsRow, SpellsGame, vertex_of, game_of, player_of};
+ghost use Rattle.parsolve_c_csr.specs.Faults.{IsReached, IsFault, RefusesGame};
+
+use crate::arrays::Arrays;
+use crate::fault::{ArraysFault, GameFault};
+use pg_arena::{ArenaFault, Game, GameBuilder, MAX_EDGES, MAX_PRIORITY, MAX_VERTICES, Player};
+use std::alloc::{AllocError, Global};
+
+/// Whether each number is below the bound.
+fn are_below(numbers: &[u32], bound: usize) -> bool
+    ensures { IsTrue result ↔ All (λ n. n < bound) numbers.now }
+{
+    numbers.iter().all(|n| (*n as usize) < bound)
+}
+
+/// The player of a number.
+pub(crate) fn player_of(number: u8) -> Player
+    ensures { result ≡ player_of number }
+{
+    if number == 0 {
+        Player::Even
+    } else {
+        Player::Odd
+    }
+}
+
+/// Looks at a vertex, where nothing speaks against what comes before it.
+fn examine_vertex(arrays: &Arrays, v: u32) -> Result<(), GameFault>
+    requires { IsReached (arrays_of arrays.now) v }
+    ensures ok { OnOk result (IsRow (arrays_of arrays.now) v) }
+    ensures fault { IfErr result (IsFault (arrays_of arrays.now)) }
+{
+    let at = v as usize;
+    if arrays.priorities[at] > MAX_PRIORITY {
+        return Err(GameFault::PriorityTooLarge(v));
+    }
+    if arrays.owners[at] > 1 {
+        return Err(GameFault::BadOwner(v));
+    }
+    let from = arrays.starts[at] as usize;
+    let to = arrays.starts[at + 1] as usize;
+    if to < from || to > arrays.successors.len() {
+        return Err(GameFault::BadStart(v));
+    }
+    if from == to {
+        return Err(GameFault::NoSuccessor(v));
+    }
+    if !are_below(&arrays.successors[from..to], arrays.priorities.len()) {
+        return Err(GameFault::UnknownSuccessor(v));
+    }
+    Ok(())
+}
+
+/// Looks at the lengths of the arrays.
+fn examine_sizes(arrays: &Arrays) -> Result<(), GameFault>
+    ensures ok { OnOk result (HaveSizes (arrays_of arrays.now)) }
+    ensures fault { IfErr result (IsFault (arrays_of arrays.now)) }
+{
+    let count = arrays.priorities.len();
+    if arrays.owners.len() != count || arrays.starts.len() != count + 1 {
+        return Err(GameFault::Lengths);
+    }
+    if count == 0 {
+        return Err(GameFault::NoVertex);
+    }
+    if count > MAX_VERTICES {
+        return Err(GameFault::TooManyVertices);
+    }
+    if arrays.successors.len() > MAX_EDGES {
+        return Err(GameFault::TooManyEdges);
+    }
+    Ok(())
+}
+
+/// Whether the arrays spell a game: else the first fault that speaks against them.
+pub fn examine(arrays: &Arrays) -> Result<(), GameFault>
+    ensures ok { OnOk result (SpellsGame (arrays_of arrays.now)) }
+    ensures fault { IfErr result (IsFault (arrays_of arrays.now)) }
+{
+    examine_sizes(arrays)?;
+    for v in 0..arrays.priorities.len() as u32 {
+        examine_vertex(arrays, v)?;
+    }
+    Ok(())
+}
+
+/// Adds the line of a vertex to those before it.
+fn add_vertex(builder: &mut GameBuilder, arrays: &Arrays, v: u32) -> Result<(), ArenaFault>
+    requires spelled { SpellsGame (arrays_of arrays.now) }
+    requires within { v < length arrays.now.priorities.now }
+    requires before { builder.old ≡ map (vertex_of (arrays_of arrays.now)) (range_with_len 0 v) }
+    ensures added { OnOk result (builder.new ≡ builder.old ++ vertex_of (arrays_of arrays.now) v ∷ []) }
+    ensures fault { IfErr result (λ fault. fault ≡ ArenaFault.OutOfMemory) }
+{
+    let at = v as usize;
+    let from = arrays.starts[at] as usize;
+    let to = arrays.starts[at + 1] as usize;
+    let row = &arrays.successors[from..to];
+    let owner = player_of(arrays.owners[at]);
+    builder.add(v, arrays.priorities[at], owner, row, None)
+}
+
+/// The game of arrays that spell one; only memory can be refused.
+fn built(alloc: Global, arrays: &Arrays) -> Result<Game, ArenaFault>
+    requires { SpellsGame (arrays_of arrays.now) }
+    ensures game { IfOk result (λ game. game ≡ game_of (arrays_of arrays.now)) }
+    ensures fault { IfErr result (λ fault. fault ≡ ArenaFault.OutOfMemory) }
+{
+    let mut builder = GameBuilder::new(alloc);
+    for v in 0..arrays.priorities.len() as u32 {
+        add_vertex(&mut builder, arrays, v)?;
+    }
+    builder.finish()
+}
+
+/// The same, with the one fault by its name.
+pub(crate) fn build(alloc: Global, arrays: &Arrays) -> Result<Game, AllocError>
+    requires { SpellsGame (arrays_of arrays.now) }
+    ensures { IfOk result (λ game. game ≡ game_of (arrays_of arrays.now)) }
+{
+    match built(alloc, arrays) {
+        Ok(game) => Ok(game),
+        Err(_) => Err(AllocError),
+    }
+}
+
+/// The game of the arrays. Refuses with the first fault that speaks against them, or with `OutOfMemory`.
+pub fn game_of(alloc: Global, arrays: &Arrays) -> Result<Game, ArraysFault>
+    ensures spelled { OnOk result (SpellsGame (arrays_of arrays.now)) }
+    ensures game { IfOk result (λ game. game ≡ game_of (arrays_of arrays.now)) }
+    ensures fault { IfErr result (RefusesGame (arrays_of arrays.now)) }
+{
+    examine(arrays)?;
+    let game = build(alloc, arrays)?;
+    Ok(game)
+}

@@ -1,5 +1,0 @@
-use Rattle.pg_claims.proofs.Claiming.{claimed_is_never_above}
-use Rattle.pg_claims.proofs.laws.claimed_is_never_above.Goals as goal
-
-pub returns : goal.returns
-returns c = claimed_is_never_above

@@ -1,5 +1,0 @@
-use Rattle.pg_claims.proofs.Claiming.{zeros_are_known}
-use Rattle.pg_claims.proofs.laws.zeros_are_known.Goals as goal
-
-pub returns : goal.returns
-returns c = zeros_are_known

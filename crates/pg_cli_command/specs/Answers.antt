@@ -1,0 +1,55 @@
+-- What each command answers, and why it gives no answer.
+use Rattle.std.specs.Prelude.{ℕ, ◌<◌, ◌≤◌, List, length, Option, Result, Ok, Err}
+use Rattle.std.specs.Io.KnownBytes.{Appends}
+use Rattle.pg_cli_command.specs.Parts.{IsParted}
+use Rattle.pg_cli_command.specs.Measuring.{MapKind, IsMeasureOf, IsMeasured, RefusesMeasure}
+use Rattle.pg_cli_command.specs.Solving.{IsSolved, IsSolvedAnyhow, RefusesSolve}
+use Rattle.pg_cli_command.specs.Checking.{IsChecked, RefusesCheck}
+use Rattle.pg_cli_command.specs.Replaying.{IsReplayed, RefusesReplay}
+use Rattle.pg_cli_command.specs.Making.{IsMade, RefusesGame}
+use Rattle.pg_cli_command.specs.Synthesising.{IsSynthesised, RefusesSynth}
+use Rattle.pg_cli_words.specs.declared.command.Command.{Command}
+use Rattle.pg_cli_words.specs.declared.command.Command.TheVariants.{Measure, Solve, SolveAny, Check, Replay, Game, Synth}
+use Rattle.pg_cli_command.specs.declared.fault.CliFault.{CliFault}
+use Rattle.pg_cli_command.specs.declared.fault.CliFault.TheVariants.{OutOfMemory, Read, Write, InputTooLong}
+
+-- what a command prints for an input, and why it refuses the input for what it says
+pub record Meaning : Type 1 where
+  pub prints : List ℕ → Type 0
+  pub refuses : CliFault → Type 0
+
+-- a game is solved by maps of the kind
+abbrev pub meaning_of : MapKind → Command → List ℕ → Meaning
+meaning_of Kind (Measure workers) input = record { prints = IsMeasured Kind input; refuses = RefusesMeasure input }
+meaning_of Kind (Solve workers) input = record { prints = IsSolved Kind input; refuses = RefusesSolve Kind input }
+meaning_of Kind (SolveAny workers) input = record { prints = IsSolvedAnyhow input; refuses = RefusesSolve Kind input }
+meaning_of Kind Check input = record { prints = IsChecked (IsParted input); refuses = RefusesCheck (IsParted input) }
+meaning_of Kind Replay input = record { prints = IsReplayed (IsParted input); refuses = RefusesReplay (IsParted input) }
+meaning_of Kind Game input = record { prints = IsMade input; refuses = RefusesGame input }
+meaning_of Kind (Synth workers) input = record { prints = IsSynthesised Kind input; refuses = RefusesSynth Kind input }
+
+-- The command prints the output: the input keeps the limit, and the output is the answer to it.
+pub record PrintsBy (Kind : MapKind) (command : Command) (input output : List ℕ) : Type 0 where
+  pub limit : length input ≤ 268435456
+  pub answer : (meaning_of Kind command input).prints output
+
+-- Why a command prints no answer. The writer can only fail on an answer; of want of memory and of the reader nothing is
+-- said.
+abbrev pub RefusesBy : MapKind → Command → List ℕ → CliFault → Type 0
+RefusesBy Kind command input OutOfMemory = Unit {0}
+RefusesBy Kind command input Read = Unit {0}
+RefusesBy Kind command input InputTooLong = 268435456 < length input
+RefusesBy Kind command input Write = (output : List ℕ) × PrintsBy Kind command input output
+RefusesBy Kind command input fault = (length input ≤ 268435456) × (meaning_of Kind command input).refuses fault
+
+-- What comes of an input: an answer, written behind what stood there, or a refusal.
+abbrev pub Answers : MapKind → Command → List ℕ → Option (List ℕ) → Option (List ℕ) → Result (Unit {0}) CliFault → Type 0
+Answers Kind command input old new (Ok done) = (output : List ℕ) × PrintsBy Kind command input output × Appends old new output
+Answers Kind command input old new (Err fault) = RefusesBy Kind command input fault
+
+-- by least progress measures
+abbrev pub Prints : Command → List ℕ → List ℕ → Type 0
+Prints command input output = PrintsBy IsMeasureOf command input output
+
+abbrev pub Refuses : Command → List ℕ → CliFault → Type 0
+Refuses command input fault = RefusesBy IsMeasureOf command input fault

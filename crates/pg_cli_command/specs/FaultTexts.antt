@@ -1,0 +1,59 @@
+-- The line that is told of a fault.
+use Rattle.std.specs.Prelude.{ℕ, List, ◌++◌, codes, decimal}
+use Rattle.pg_text.specs.FaultTexts as text
+use Rattle.pg_world.specs.ScriptFaultTexts as script
+use Rattle.pg_world.specs.declared.fault.WorldFault.{WorldFault}
+use Rattle.pg_world.specs.declared.fault.WorldFault.TheVariants as world
+use Rattle.pg_worker.specs.declared.fault.WorkerFault.{WorkerFault}
+use Rattle.pg_worker.specs.declared.fault.WorkerFault.TheVariants as worker
+use Rattle.pg_wire.specs.declared.fault.WireFault.TheVariants as wire
+use Rattle.pg_hoa.specs.FaultTexts as hoa
+use Rattle.pg_synth.specs.FaultTexts as synth
+use Rattle.pg_aiger.specs.FaultTexts as aiger
+use Rattle.pg_cli_command.specs.declared.fault.CliFault.{CliFault}
+use Rattle.pg_cli_command.specs.declared.fault.CliFault.TheVariants.{OutOfMemory, Read, Write, InputTooLong, NoSeparator, Text, Script, World}
+use Rattle.pg_cli_command.specs.declared.fault.CliFault.TheVariants.{CutMismatch, Undecided, Hoa, Synth, Aiger, Listen, Connect, Worker}
+
+-- what is told of the event at this place
+abbrev pub at_event : ℕ → List ℕ → List ℕ
+at_event place why = codes "event " ++ (decimal place ++ (codes ": " ++ why))
+
+-- why an event is refused; any want of memory has one text, and so has a cut that doesn't fit
+abbrev pub event_text : ℕ → WorldFault → List ℕ
+event_text place world.OutOfMemory = codes "out of memory"
+event_text place (world.NoSuchReplica n) = at_event place (codes "no replica " ++ decimal n)
+event_text place (world.NotMine worker id) =
+    at_event place (codes "vertex " ++ (decimal id ++ (codes " is not of worker " ++ decimal worker)))
+event_text place (world.NoSuchUpdate n) = at_event place (codes "update " ++ (decimal n ++ codes " was never made"))
+event_text place world.CutMismatch = codes "the cut does not fit the game"
+
+-- what a worker's serving ended with, by its number where it isn't memory
+abbrev pub worker_text : WorkerFault → List ℕ
+worker_text worker.OutOfMemory = codes "out of memory"
+worker_text worker.NotMine = codes "worker fault 2"
+worker_text worker.BadUpdate = codes "worker fault 3"
+worker_text worker.Order = codes "worker fault 4"
+worker_text (worker.Wire wire.OutOfMemory) = codes "out of memory"
+worker_text (worker.Wire fault) = codes "worker fault 5"
+
+abbrev pub fault_text : CliFault → List ℕ
+fault_text OutOfMemory = codes "out of memory"
+fault_text Read = codes "cannot read the input"
+fault_text Write = codes "cannot write the output"
+fault_text InputTooLong = codes "input is longer than 268435456 bytes"
+fault_text NoSeparator = codes "no line -- between the two texts"
+fault_text (Text fault) = text.fault_text fault
+fault_text (Script fault) = script.fault_text fault
+fault_text (World place fault) = event_text place fault
+fault_text CutMismatch = codes "the cut does not fit the game"
+fault_text (Undecided id) = codes "undecided at " ++ decimal id
+fault_text (Hoa fault) = hoa.fault_text fault
+fault_text (Synth fault) = synth.fault_text fault
+fault_text (Aiger fault) = aiger.fault_text fault
+fault_text Listen = codes "cannot listen on 127.0.0.1"
+fault_text (Connect port) = codes "cannot connect to port " ++ decimal port
+fault_text (Worker fault) = worker_text fault
+
+-- `parsolve: `, the text and a newline
+abbrev pub fault_line : CliFault → List ℕ
+fault_line fault = codes "parsolve: " ++ (fault_text fault ++ codes "\n")

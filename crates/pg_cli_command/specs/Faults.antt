@@ -1,0 +1,65 @@
+-- What becomes of the faults of lower layers, and the statuses.
+use Rattle.std.specs.Prelude.{ℕ}
+use Rattle.pg_text.specs.declared.fault.TextFault.{TextFault}
+use Rattle.pg_text.specs.declared.fault.TextFault.TheVariants as text
+use Rattle.pg_cli_command.specs.declared.fault.CliFault.{CliFault}
+use Rattle.pg_check.specs.declared.fault.CheckFault.{CheckFault}
+use Rattle.pg_check.specs.declared.fault.CheckFault.TheVariants as check
+use Rattle.pg_world.specs.declared.fault.WorldFault.{WorldFault}
+use Rattle.pg_world.specs.declared.fault.WorldFault.TheVariants as world
+use Rattle.pg_world.specs.declared.script_fault.ScriptFault.{ScriptFault}
+use Rattle.pg_world.specs.declared.script_fault.ScriptFault.TheVariants as script
+use Rattle.pg_hoa.specs.declared.fault.HoaFault.{HoaFault}
+use Rattle.pg_hoa.specs.declared.fault.HoaFault.TheVariants as hoa
+use Rattle.pg_synth.specs.declared.fault.SynthFault.{SynthFault}
+use Rattle.pg_synth.specs.declared.fault.SynthFault.TheVariants as synth
+use Rattle.pg_aiger.specs.declared.fault.AigerFault.{AigerFault}
+use Rattle.pg_aiger.specs.declared.fault.AigerFault.TheVariants as aiger
+use Rattle.pg_worker.specs.declared.fault.WorkerFault.{WorkerFault}
+use Rattle.pg_worker.specs.declared.fault.WorkerFault.TheVariants as worker
+use Rattle.pg_cli_command.specs.declared.fault.CliFault.TheVariants.{OutOfMemory, Write, Text, Script, World}
+use Rattle.pg_cli_command.specs.declared.fault.CliFault.TheVariants.{Undecided, Hoa, Synth, Aiger, Worker}
+
+-- want of memory and the writer's failure are the program's own
+abbrev pub text_fault : TextFault → CliFault
+text_fault text.OutOfMemory = OutOfMemory
+text_fault text.Write = Write
+text_fault fault = Text fault
+
+-- so is what the checker says
+abbrev pub check_fault : CheckFault → CliFault
+check_fault check.OutOfMemory = OutOfMemory
+check_fault (check.Undecided id) = Undecided id
+
+-- what the reader of scripts says, and what a world says of the event at this place
+abbrev pub script_fault : ScriptFault → CliFault
+script_fault script.OutOfMemory = OutOfMemory
+script_fault fault = Script fault
+
+abbrev pub event_fault : ℕ → WorldFault → CliFault
+event_fault place world.OutOfMemory = OutOfMemory
+event_fault place fault = World place fault
+
+-- and what the reader of automata and the makers of games and of circuits say
+abbrev pub hoa_fault : HoaFault → CliFault
+hoa_fault hoa.OutOfMemory = OutOfMemory
+hoa_fault fault = Hoa fault
+
+abbrev pub synth_fault : SynthFault → CliFault
+synth_fault synth.OutOfMemory = OutOfMemory
+synth_fault fault = Synth fault
+
+abbrev pub aiger_fault : AigerFault → CliFault
+aiger_fault aiger.OutOfMemory = OutOfMemory
+aiger_fault aiger.Write = Write
+aiger_fault fault = Aiger fault
+
+-- and what a worker's serving ends with
+abbrev pub worker_fault : WorkerFault → CliFault
+worker_fault worker.OutOfMemory = OutOfMemory
+worker_fault fault = Worker fault
+
+-- Undecided has a status of its own
+abbrev pub status_of : CliFault → ℕ
+status_of (Undecided id) = 3
+status_of fault = 1

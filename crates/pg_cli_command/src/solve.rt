@@ -1,0 +1,69 @@
+//! The command `solve`, and the same with `--any`.
+
+ghost use Rattle.std.specs.Prelude.{◌≡◌, IfOk, IfErr};
+ghost use Rattle.pg_text.specs.Solutions.{IsSolution};
+ghost use Rattle.pg_text.specs.SolutionLayout.{solution_text};
+ghost use Rattle.pg_cli_command.specs.Solving.{IsSolved, IsSolvedAnyhow, RefusesSolve};
+ghost use Rattle.pg_cli_command.specs.Mirrors.Working.{ShowsWhat, Fails};
+
+use crate::fault::CliFault;
+use crate::finder::Finder;
+use crate::printing::Answer;
+use crate::solver::{any_solution_of, solution_of};
+use pg_arena::Game;
+use pg_text::{Solution, read_game, write_solution};
+use std::alloc::Global;
+use std::io::Write;
+
+/// A game and a solution of it.
+#[derive(Drop)]
+pub(crate) struct Solved {
+    game: Game,
+    solution: Solution,
+}
+
+impl Answer for Solved {
+    ghost is_whole = { λ a. IsSolution a.game a.solution };
+
+    ghost shows = { λ a output. output ≡ solution_text a.game a.solution };
+
+    fn write<W: Write>(self, writer: &mut W) -> Option<()> {
+        write_solution(&self.game, &self.solution, writer).ok()
+    }
+}
+
+/// The solution of a map of the game that a text spells and of one of its dual. The text is let go before the work begins.
+pub(crate) fn solve<F: Finder>(
+    alloc: Global,
+    text: Vec<u8>,
+    finder: &mut F,
+) -> Result<Solved, CliFault>
+    ensures whole { IfOk result ⟦<Solved as Answer>⟧.is_whole }
+    ensures answer { IfOk result (ShowsWhat (IsSolved (F.finds finder.old) text.items) ⟦<Solved as Answer>⟧.shows) }
+    ensures refused { IfErr result (Fails (RefusesSolve (F.finds finder.old) text.items)) }
+{
+    let game = read_game(alloc, &text)?;
+    // asked for what its contract says of the game
+    let _vertices = game.len();
+    drop(text);
+    let solution = solution_of(alloc, &game, finder)?;
+    Ok(Solved { game, solution })
+}
+
+/// A sound solution of the game that a text spells, whichever is found. The text is let go before the work begins.
+pub(crate) fn solve_any<F: Finder>(
+    alloc: Global,
+    text: Vec<u8>,
+    finder: &mut F,
+) -> Result<Solved, CliFault>
+    ensures whole { IfOk result ⟦<Solved as Answer>⟧.is_whole }
+    ensures answer { IfOk result (ShowsWhat (IsSolvedAnyhow text.items) ⟦<Solved as Answer>⟧.shows) }
+    ensures refused { IfErr result (Fails (RefusesSolve (F.finds finder.old) text.items)) }
+{
+    let game = read_game(alloc, &text)?;
+    // asked for what its contract says of the game
+    let _vertices = game.len();
+    drop(text);
+    let solution = any_solution_of(alloc, &game, finder)?;
+    Ok(Solved { game, solution })
+}

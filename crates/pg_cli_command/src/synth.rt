@@ -1,0 +1,85 @@
+//! The command `synth`.
+
+ghost use Rattle.std.specs.Prelude.{◌≡◌, Some, IfOk, IfErr, OnOk};
+ghost use Rattle.std.specs.Io.KnownBytes.{Appends};
+ghost use Rattle.pg_cli_command.specs.Synthesising.{IsSynthesised, RefusesSynth};
+ghost use Rattle.pg_cli_command.specs.Mirrors.Synthesised.{Fits, outcome_text};
+ghost use Rattle.pg_cli_command.specs.Mirrors.Working.{ShowsWhat, Fails};
+
+use crate::fault::CliFault;
+use crate::finder::Finder;
+use crate::printing::Answer;
+use crate::solver::solution_of;
+use pg_aiger::{AigerFault, Circuit, circuit_of, write_circuit};
+use pg_hoa::{Automaton, read_automaton};
+use pg_synth::{game_of, mealy_of};
+use std::alloc::Global;
+use std::io::Write;
+
+/// Writes that there is a controller, and its circuit.
+fn write_realized<W: Write>(
+    circuit: &Circuit,
+    automaton: &Automaton,
+    writer: &mut W,
+) -> Result<(), AigerFault>
+    requires { Fits automaton.now (Some circuit.now) }
+    ensures { OnOk result (Appends (W.contents writer.old) (W.contents writer.new)
+        (outcome_text automaton.now (Some circuit.now))) }
+{
+    writer.write_all(b"REALIZABLE\n")?;
+    write_circuit(circuit, automaton, writer)
+}
+
+/// An automaton, and a circuit under which each of its runs is accepted, where there is one.
+#[derive(Drop)]
+pub(crate) struct Synthesised {
+    automaton: Automaton,
+    circuit: Option<Circuit>,
+}
+
+impl Answer for Synthesised {
+    ghost is_whole = { λ a. Fits a.automaton a.circuit };
+
+    ghost shows = { λ a output. output ≡ outcome_text a.automaton a.circuit };
+
+    fn write<W: Write>(self, writer: &mut W) -> Option<()> {
+        let Synthesised { automaton, circuit } = self;
+        match circuit {
+            Some(circuit) => write_realized(&circuit, &automaton, writer).ok(),
+            None => writer.write_all(b"UNREALIZABLE\n").ok(),
+        }
+    }
+}
+
+/// Whether there is a controller under which each run of the automaton that a text spells is accepted, and the circuit of one.
+/// The text is let go before the game is made, and the game before the circuit is.
+pub(crate) fn synth<F: Finder>(
+    alloc: Global,
+    text: Vec<u8>,
+    finder: &mut F,
+) -> Result<Synthesised, CliFault>
+    ensures whole { IfOk result ⟦<Synthesised as Answer>⟧.is_whole }
+    ensures answer { IfOk result
+        (ShowsWhat (IsSynthesised (F.finds finder.old) text.items) ⟦<Synthesised as Answer>⟧.shows) }
+    ensures refused { IfErr result (Fails (RefusesSynth (F.finds finder.old) text.items)) }
+{
+    let automaton = read_automaton(alloc, &text)?;
+    drop(text);
+    // asked for what its contract says of the automaton
+    let _states = automaton.states();
+    let made = game_of(alloc, &automaton)?;
+    let solution = solution_of(alloc, &made.game, finder)?;
+    let Some(machine) = mealy_of(alloc, &automaton, &made, &solution)? else {
+        return Ok(Synthesised {
+            automaton,
+            circuit: None,
+        });
+    };
+    drop(made);
+    drop(solution);
+    let circuit = circuit_of(alloc, &machine)?;
+    Ok(Synthesised {
+        automaton,
+        circuit: Some(circuit),
+    })
+}

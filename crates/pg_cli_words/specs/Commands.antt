@@ -1,0 +1,24 @@
+-- The names of commands, and how many workers they have.
+use Rattle.std.specs.Prelude.{ℕ, List, Option, Some, None, codes}
+use Rattle.pg_cli_words.specs.declared.command.Command.{Command}
+use Rattle.pg_cli_words.specs.declared.command.Command.TheVariants.{Measure, Solve, SolveAny, Check, Replay, Game, Synth}
+
+-- the word that names a command
+abbrev pub command_name : Command → List ℕ
+command_name (Measure workers) = codes "measure"
+command_name (Solve workers) = codes "solve"
+command_name (SolveAny workers) = codes "solve"
+command_name Check = codes "check"
+command_name Replay = codes "replay"
+command_name Game = codes "game"
+command_name (Synth workers) = codes "synth"
+
+-- how many workers solve for a command; none is asked for where nothing is solved
+abbrev pub workers_of : Command → Option ℕ
+workers_of (Measure workers) = Some workers
+workers_of (Solve workers) = Some workers
+workers_of (SolveAny workers) = Some workers
+workers_of Check = None
+workers_of Replay = None
+workers_of Game = None
+workers_of (Synth workers) = Some workers

@@ -1,6 +1,0 @@
-use Rattle.pg_command.proofs.Outcomes.{shown}
-use Rattle.pg_command.proofs.program.check_texts.Goals as goal
-
-pub returns-in-Ok-clause-answer : goal.returns-in-Ok-clause-answer
-returns-in-Ok-clause-answer c =
-    shown _ _ c.new-output.result.items c.print.new.writer.items _ c.new-output.ensures.items c.check.ensures.answer c.in-Ok.ensures.written

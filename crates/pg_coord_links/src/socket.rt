@@ -1,0 +1,299 @@
+//! Links to programs that are started on this host, over sockets of 127.0.0.1.
+
+ghost use Rattle.std.specs.Prelude.{◌≡◌, true, false, Err, IsOk, IfOk, OnOk, OnErr};
+ghost use Rattle.pg_coord_links.specs.Counting.{count_after};
+ghost use Rattle.pg_coord_links.specs.Sockets.{idle_link, IsFramedByLength};
+
+use crate::connection::Connection;
+use crate::starting::{Reach, Starting, is_want_of_memory, listen_anywhere};
+use pg_coord_partition::{Link, LinkFault};
+use std::alloc::Global;
+use std::io::{self, ErrorKind};
+use std::marker::Model;
+use std::process::{Child, OpenProcess};
+use std::time::{Duration, Instant};
+
+/// A link to a worker program: `PATH worker --port P`, started by `prepare` or at the first send, which connects to the port P of
+/// 127.0.0.1.
+///
+/// What it answers, and whether it answers, is the program's matter: the link is neither honest by contract nor does it tell
+/// its replies. No call waits without end for a program that runs: it has 10 seconds to connect and as many for its first reply, and
+/// 60 seconds for each further reply and to take a frame. Where it neither connects in time nor ends, no other one is started. How
+/// long the system takes to start it isn't limited. A link that is dropped without `close` leaves the program running.
+#[derive(Drop)]
+pub struct SocketLink<R: Reach> {
+    rt: R,
+    path: String,
+    /// Where the next program is to connect; closed once it has.
+    listener: Option<R::Listener>,
+    /// The next program, if it was started and isn't waited for yet.
+    starting: Option<Starting<R>>,
+    program: Option<Child<R::Started>>,
+    connection: Option<Connection<R, R::Stream>>,
+    failures: u64,
+    /// Whether a program neither connected in time nor ended.
+    is_given_up: bool,
+    /// The time in all that is still to begin, if there is a limit.
+    time: Option<Duration>,
+    /// When the time in all is over, once it has begun.
+    end: Option<Instant>,
+}
+
+impl<R: Reach> Model for SocketLink<R> {
+    ghost use Rattle.std.specs.Prelude.{is_some};
+    ghost use Rattle.pg_coord_links.specs.Sockets.{SocketValue};
+
+    ghost Value = { SocketValue };
+
+    ghost view = { λ l. record {
+      has_program = is_some l.program;
+      is_connected = is_some l.connection;
+      failures = l.failures;
+    } };
+}
+
+/// The fault of a link for an error of the system or for want of memory.
+fn fault_of(error: &io::Error) -> LinkFault {
+    if is_want_of_memory(error) {
+        LinkFault::OutOfMemory
+    } else {
+        LinkFault::Failed
+    }
+}
+
+/// Whether a program neither connected in time nor ended.
+fn is_timed_out<S>(accepted: &io::Result<S>) -> bool {
+    match accepted {
+        Ok(_) => false,
+        Err(e) => e.kind() == ErrorKind::TimedOut,
+    }
+}
+
+/// Kills a program, and waits for it.
+fn kill<P: OpenProcess>(program: &mut Child<P>) {
+    if program.kill().is_ok() {
+        let _ended = program.wait();
+    }
+}
+
+impl<R: Reach> SocketLink<R> {
+    /// A link that has started nothing yet. It listens on 127.0.0.1, at a port that the system picks.
+    ///
+    /// Faults: Failed where it can't listen, which is counted nowhere; `OutOfMemory`.
+    pub fn listen(rt: R, alloc: Global, path: &str) -> Result<SocketLink<R>, LinkFault>
+        ensures { IfOk result (λ link. link ≡ idle_link) }
+    {
+        let path = String::from_str(alloc, path)?;
+        match listen_anywhere(&rt) {
+            Ok(listener) => Ok(SocketLink {
+                rt,
+                path,
+                listener: Some(listener),
+                starting: None,
+                program: None,
+                connection: None,
+                failures: 0,
+                is_given_up: false,
+                time: None,
+                end: None,
+            }),
+            Err(e) => Err(fault_of(&e)),
+        }
+    }
+
+    /// Gives the link so many seconds in all, from where a program is first started. Behind these no program is started, nothing is
+    /// waited for, and what waits for the program isn't sent: calls are Failed at once.
+    pub fn limit(&mut self, seconds: u64)
+        ensures { self.new ≡ self.old }
+    {
+        self.time = Some(Duration::from_secs(seconds));
+    }
+
+    /// Whether there is a program, also one that has ended.
+    pub fn has_program(&self) -> bool
+        ensures { result ≡ self.now.has_program }
+    {
+        self.program.is_some()
+    }
+
+    /// The listener that no program has connected to yet, or a new one.
+    fn take_listener(&mut self) -> io::Result<R::Listener>
+        ensures { self.new ≡ self.old }
+    {
+        match self.listener.take() {
+            Some(listener) => Ok(listener),
+            None => listen_anywhere(&self.rt),
+        }
+    }
+
+    /// Takes the stream to the program that was just started.
+    fn connect(&mut self, accepted: io::Result<R::Stream>) -> io::Result<()>
+        ensures ok { OnOk result (self.new ≡ record self.old { is_connected = true }) }
+        ensures program { self.new.has_program ≡ self.old.has_program }
+        ensures failures { self.new.failures ≡ self.old.failures }
+    {
+        let alloc = *self.path.allocator();
+        let clock = self.rt.clone()?;
+        self.connection = Some(Connection::new(alloc, clock, accepted?, self.end)?);
+        Ok(())
+    }
+
+    /// Starts a program, whose connection isn't waited for.
+    fn launch(&mut self) -> io::Result<Starting<R>>
+        ensures { self.new ≡ self.old }
+    {
+        if self.is_given_up {
+            return Err(io::Error::from(ErrorKind::TimedOut));
+        }
+        if let Some(time) = self.time {
+            self.end = Instant::now(&self.rt)?.checked_add(time);
+            self.time = None;
+        }
+        let listener = self.take_listener()?;
+        let alloc = *self.path.allocator();
+        Starting::new(&self.rt, alloc, self.path.as_str(), listener, self.end)
+    }
+
+    /// Starts the program, if that isn't done yet, and waits for its connection.
+    fn start(&mut self) -> io::Result<()>
+        ensures ok { OnOk result (self.new ≡ record self.old { has_program = true; is_connected = true }) }
+        ensures failures { self.new.failures ≡ self.old.failures }
+    {
+        let mut starting = match self.starting.take() {
+            Some(starting) => starting,
+            None => self.launch()?,
+        };
+        let accepted = starting.accept(&self.rt, *self.path.allocator());
+        self.is_given_up = is_timed_out(&accepted);
+        self.program = Some(starting.program);
+        self.connect(accepted)
+    }
+
+    /// Kills the program, if there is one that runs, and waits for it. The connection stays.
+    pub fn kill(&mut self)
+        ensures { self.new ≡ self.old }
+    {
+        if let Some(program) = &mut self.program {
+            kill(program);
+        }
+        if let Some(starting) = &mut self.starting {
+            kill(&mut starting.program);
+        }
+    }
+
+    /// Closes the connection, kills the program and waits for it.
+    fn stop(&mut self)
+        ensures { self.new ≡ record self.old { has_program = false; is_connected = false } }
+    {
+        self.connection = None;
+        self.kill();
+        self.program = None;
+        self.starting = None;
+    }
+
+    /// Closes the connection, kills the program and waits for it.
+    pub fn close(mut self) {
+        self.stop();
+    }
+
+    /// Counts a failure, after which there is no connection.
+    fn fail(&mut self) -> Result<(), LinkFault>
+        ensures failed { result ≡ Err LinkFault.Failed }
+        ensures closed { self.new ≡ record self.old {
+          is_connected = false;
+          failures = count_after result self.old.failures;
+        } }
+    {
+        self.connection = None;
+        self.failures = self.failures.saturating_add(1);
+        Err(LinkFault::Failed)
+    }
+
+    /// What a call answers that ended so; after an error there is no connection.
+    fn conclude(&mut self, ended: io::Result<()>) -> Result<(), LinkFault>
+        ensures failures { self.new.failures ≡ count_after result self.old.failures }
+        ensures program { self.new.has_program ≡ self.old.has_program }
+        ensures ok { OnOk result (OnOk ended (self.new ≡ self.old)) }
+        ensures ended { OnOk result (IsOk ended) }
+        ensures err { OnErr result (self.new.is_connected ≡ false) }
+    {
+        match ended {
+            Ok(()) => Ok(()),
+            Err(e) if is_want_of_memory(&e) => {
+                self.connection = None;
+                Err(LinkFault::OutOfMemory)
+            }
+            Err(_) => self.fail(),
+        }
+    }
+}
+
+impl<R: Reach> Link for SocketLink<R> {
+    ghost use Rattle.std.specs.Prelude.{⊤, None};
+
+    ghost failures = { λ l. l.failures };
+
+    ghost is_honest = { λ _. ⊥ };
+
+    ghost is_under = { λ _ _. ⊥ };
+
+    ghost is_anew = { λ _. ⊤ };
+
+    ghost told = { λ _. None };
+
+    /// Starts the program, if there is none, and doesn't wait for it: so the programs of several links start side by side. Where
+    /// it can't be started, the first send tells.
+    fn prepare(&mut self) {
+        if self.program.is_none() && self.starting.is_none() {
+            self.starting = self.launch().ok();
+        }
+    }
+
+    /// Sends a frame; where there is no program, one is started first. Failed where the program can't be started, doesn't
+    /// connect or doesn't take the frame, and where there is a program without a connection.
+    fn send(&mut self, frame: &[u8]) -> Result<(), LinkFault>
+        ensures failures { self.new.failures ≡ count_after result self.old.failures }
+        ensures ok { OnOk result ((self.new.has_program ≡ true) × (self.new.is_connected ≡ true)) }
+        ensures err { OnErr result (self.new.is_connected ≡ false) }
+        ensures closed { self.old.has_program ≡ true → self.old.is_connected ≡ false → result ≡ Err LinkFault.Failed }
+    {
+        if self.program.is_none() {
+            let started = self.start();
+            self.conclude(started)?;
+        }
+        let Some(connection) = &mut self.connection else {
+            return self.fail();
+        };
+        let sent = connection.send(frame);
+        self.conclude(sent)
+    }
+
+    /// Receives four bytes and as many as they say, or these four alone where no frame has such a length. Failed without a
+    /// connection, where the input ends or can't be read, and where the reply takes too long.
+    fn receive(&mut self, frame: &mut Vec<u8>) -> Result<(), LinkFault>
+        ensures failures { self.new.failures ≡ count_after result self.old.failures }
+        ensures program { self.new.has_program ≡ self.old.has_program }
+        ensures ok { OnOk result (self.new ≡ self.old) }
+        ensures err { OnErr result (self.new.is_connected ≡ false) }
+        ensures framed { OnOk result (IsFramedByLength frame.new.items) }
+        ensures closed { self.old.is_connected ≡ false → result ≡ Err LinkFault.Failed }
+    {
+        let Some(connection) = &mut self.connection else {
+            return self.fail();
+        };
+        let received = connection.receive(frame);
+        self.conclude(received)
+    }
+
+    /// Closes the connection, kills the program and waits for it, if there is one; then starts it anew. Failed where it can't
+    /// be started and where it doesn't connect.
+    fn restart(&mut self) -> Result<(), LinkFault>
+        ensures failures { self.new.failures ≡ count_after result self.old.failures }
+        ensures ok { OnOk result ((self.new.has_program ≡ true) × (self.new.is_connected ≡ true)) }
+        ensures err { OnErr result (self.new.is_connected ≡ false) }
+    {
+        self.stop();
+        let again = self.start();
+        self.conclude(again)
+    }
+}

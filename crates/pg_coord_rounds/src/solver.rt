@@ -1,0 +1,249 @@
+//! Solving over links.
+
+ghost use Rattle.std.specs.Prelude.{IsTrue, ◌≡◌, ◌↔◌, ◌+◌, ◌<◌, ◌≤◌, ◌^◌, ℕ, List, Some, true, false, length, IfOk, IfSome, IfNone, OnOk, All, Err};
+ghost use Rattle.pg_measure.specs.Games.{IsBoundsOf};
+ghost use Rattle.pg_map.specs.Lines.{game_line};
+ghost use Rattle.pg_map.specs.Maps.{zero_map, IsMap, IsClosed, IsNeverAbove, IsLeastProgressMeasure};
+ghost use Rattle.pg_map.specs.Weights.{map_weight};
+ghost use Rattle.pg_coord_rounds.specs.Solving.{IsMismatch, most_rounds};
+ghost use Rattle.pg_coord_rounds.specs.Replies.{Reply, TellReplies, IsLeastOverReplies, received};
+ghost use Rattle.pg_coord_rounds.specs.Mirrors.LinkStates.{AllInStep};
+ghost use Rattle.pg_coord_rounds.specs.Mirrors.Telling.{AllTell};
+ghost use Rattle.pg_coord_rounds.specs.Mirrors.Rounds.{Ends, IsSolvedFrom};
+ghost use Rattle.pg_coord_rounds.specs.declared.fault.CoordFault.TheVariants.{CutMismatch};
+
+use crate::coordinator_map::CoordinatorMap;
+use crate::fault::CoordFault;
+use crate::link_state::{LinkState, UNSET};
+use crate::round::{make_round, prepare_all, set_up_all};
+use crate::task::Task;
+use pg_arena::Game;
+use pg_coord_partition::{Cut, Link};
+use pg_map::MeasureMap;
+use pg_measure::Bounds;
+use std::alloc::{AllocError, Global};
+
+/// What `solve` found, and after how many rounds, restarts of links and links given up. The counts stop at
+/// 18,446,744,073,709,551,615. No clause speaks of the last two.
+#[derive(Drop)]
+pub struct Solved {
+    pub map: MeasureMap,
+    pub rounds: u64,
+    pub restarts: u64,
+    pub abandoned: u64,
+}
+
+/// How many restarts there were.
+fn restarts(states: &[LinkState]) -> u64 {
+    let mut count = 0u64;
+    for state in states {
+        count = count.saturating_add(u64::from(state.restarts));
+    }
+    count
+}
+
+/// How many links were given up.
+fn abandoned(states: &[LinkState]) -> u64 {
+    let mut count = 0u64;
+    for state in states {
+        if !state.in_use {
+            count = count.saturating_add(1);
+        }
+    }
+    count
+}
+
+/// Whether rounds are given up, after so many in which measures rose: where these are more than `most_rounds`, and where no link is in
+/// use. `u64::MAX` is no limit, and then they never are.
+fn are_given_up(rounds: u64, most_rounds: u64, states: &[LinkState]) -> bool
+    ensures { IsTrue result → most_rounds + 1 < 2 ^ 64 }
+{
+    most_rounds < u64::MAX && (rounds > most_rounds || states.iter().all(|state| !state.in_use))
+}
+
+/// Makes rounds until nothing rises in one, by a row of as many places as there are bounds: how many. None where they are given up.
+fn make_rounds<L: Link>(
+    task: &Task<'_>,
+    links: &mut [L],
+    states: &mut [LinkState],
+    coordinator: &mut CoordinatorMap,
+    buffer: &mut Vec<u8>,
+    row: &mut [u32],
+    most_rounds: u64,
+) -> Result<Option<u64>, AllocError>
+    requires states { length states.old ≡ length links.old }
+    requires few { length links.old < 2 ^ 32 }
+    requires bounds { coordinator.old.map.bounds ≡ task.now.bounds }
+    requires map { IsMap coordinator.old.map.bounds (length task.now.game) coordinator.old.map.measures }
+    requires row { length row.old ≡ length task.now.bounds }
+    requires rose { coordinator.old.rose ≡ true }
+    ensures honest { All L.is_honest links.old → All L.is_honest links.new }
+    ensures ends { IfOk result (Ends task.now.game
+        (All L.is_honest links.old × AllInStep L.is_under task.now coordinator.old.map states.old links.old)
+        (λ replies. AllTell L.told task.now states.old links.old (λ k. received 3 (replies k)))
+        (length links.old) most_rounds coordinator.old.map coordinator.new.map) }
+{
+    let mut rounds = 0u64;
+    'rounds: while coordinator.rose {
+        if are_given_up(rounds, most_rounds, states) {
+            return Ok(None);
+        }
+        make_round(task, links, states, coordinator, buffer, row)?;
+        rounds = rounds.saturating_add(1);
+    }
+    Ok(Some(rounds))
+}
+
+/// Sets the links up and makes rounds over them, as `make_rounds` does.
+fn run<L: Link>(
+    task: &Task<'_>,
+    links: &mut [L],
+    states: &mut [LinkState],
+    coordinator: &mut CoordinatorMap,
+    most_rounds: u64,
+) -> Result<Option<u64>, AllocError>
+    requires states { length states.old ≡ length links.old }
+    requires few { length links.old < 2 ^ 32 }
+    requires bounds { coordinator.old.map.bounds ≡ task.now.bounds }
+    requires map { IsMap coordinator.old.map.bounds (length task.now.game) coordinator.old.map.measures }
+    requires rose { coordinator.old.rose ≡ true }
+    requires unset { All (λ s. s.restarts ≡ 0) states.old }
+    ensures honest { All L.is_honest links.old → All L.is_honest links.new }
+    ensures ends { IfOk result (Ends task.now.game (All L.is_honest links.old)
+        (TellReplies L.told task.now.bounds task.now.cut links.old) (length links.old) most_rounds coordinator.old.map coordinator.new.map) }
+{
+    let mut row = vec![in task.alloc(); 0; task.width() as usize]?;
+    let mut buffer = Vec::new(task.alloc());
+    prepare_all(links);
+    set_up_all(task, links, states, &mut buffer)?;
+    make_rounds(
+        task,
+        links,
+        states,
+        coordinator,
+        &mut buffer,
+        row.as_mut_slice(),
+        most_rounds,
+    )
+}
+
+/// Solves a task over links, from a map on. None where rounds are given up.
+fn work<L: Link>(
+    task: &Task<'_>,
+    links: &mut [L],
+    from: MeasureMap,
+    most_rounds: u64,
+) -> Result<Option<Solved>, AllocError>
+    requires few { length links.old < 2 ^ 32 }
+    requires bounds { from.bounds ≡ task.now.bounds }
+    requires size { length from.measures ≡ length task.now.game }
+    ensures honest { All L.is_honest links.old → All L.is_honest links.new }
+    ensures solved { IfOk result (λ o. IfSome o (IsSolvedFrom task.now.game (All L.is_honest links.old)
+        (TellReplies L.told task.now.bounds task.now.cut links.old) (length links.old) from)) }
+    ensures limited { IfOk result (λ o. IfNone o (most_rounds + 1 < 2 ^ 64)) }
+{
+    let mut coordinator = CoordinatorMap::new(task.alloc(), from)?;
+    let mut places = vec![in task.alloc(); UNSET; links.len()]?;
+    let states = places.as_mut_slice();
+    let Some(rounds) = run(task, links, states, &mut coordinator, most_rounds)? else {
+        return Ok(None);
+    };
+    Ok(Some(Solved {
+        map: coordinator.map,
+        rounds,
+        restarts: restarts(states),
+        abandoned: abandoned(states),
+    }))
+}
+
+/// Whether the cut is over the game's vertices and as many workers as there are links.
+fn fits(cut: &Cut, game: &Game, links: usize) -> bool
+    ensures mismatch { result ≡ false ↔ IsMismatch (length game.now) links cut.now }
+    ensures few { IsTrue result → links < 2 ^ 32 }
+{
+    cut.vertices() == game.len() && cut.workers() as usize == links
+}
+
+/// The map with zeros for the game, if the cut fits.
+fn zero_of(alloc: Global, game: &Game, cut: &Cut, links: usize) -> Result<MeasureMap, CoordFault>
+    ensures bounds { IfOk result (λ m. IsBoundsOf game.now m.bounds) }
+    ensures zeros { IfOk result (λ m. m.measures ≡ zero_map m.bounds (length game.now)) }
+    ensures few { OnOk result (links < 2 ^ 32) }
+    ensures mismatch { result ≡ Err CutMismatch ↔ IsMismatch (length game.now) links cut.now }
+{
+    if !fits(cut, game, links) {
+        return Err(CoordFault::CutMismatch);
+    }
+    let bounds = Bounds::of(alloc, game)?;
+    Ok(MeasureMap::zero(alloc, game.len() as u32, &bounds)?)
+}
+
+/// Solves a game over links: worker k + 1 of the cut is behind link k, and makes at most `budget` lifts in a turn.
+///
+/// In a round each link in use is sent values and a Go; then the replies are read, and their values joined. Only where no value
+/// rose, each vertex that can be lifted is lifted here, from 0 up, and where none can be, the map is the answer. It is closed
+/// whatever the links answer; over honest links it is the least progress measure; and over links that tell their replies it is
+/// the least closed map that is at least every value in the replies that were taken, one of each link in each round while it had
+/// one left and had failed three times at most.
+///
+/// A link that fails is restarted and set up again, at most three times; then it is abandoned, and its part is lifted here.
+///
+/// Faults: `CutMismatch` where the cut isn't over the game's vertices and as many workers as links, which then are as they
+/// were; `OutOfMemory`. Links that are honest stay so, whatever comes.
+pub fn solve<L: Link>(
+    alloc: Global,
+    game: &Game,
+    links: &mut [L],
+    cut: &Cut,
+    budget: u32,
+) -> Result<Solved, CoordFault>
+    ensures bounds { IfOk result (λ s. IsBoundsOf game.now s.map.bounds) }
+    ensures map { IfOk result (λ s. IsMap s.map.bounds (length game.now) s.map.measures) }
+    ensures closed { IfOk result (λ s. IsClosed s.map.bounds (game_line game.now) s.map.measures) }
+    ensures rounds { IfOk result (λ s. (1 ≤ s.rounds)
+        × (s.rounds + map_weight s.map.bounds s.map.measures ≤ most_rounds (length game.now) s.map.bounds)) }
+    ensures least { IfOk result (λ s. All L.is_honest links.old
+        → IsLeastProgressMeasure s.map.bounds (length game.now) (game_line game.now) s.map.measures) }
+    ensures told { IfOk result (λ s. (replies : ℕ → List Reply) → TellReplies L.told s.map.bounds cut.now links.old replies
+        → IsLeastOverReplies (game_line game.now) s.rounds (length links.old) replies s.map) }
+    ensures honest { All L.is_honest links.old → All L.is_honest links.new }
+    ensures mismatch { result ≡ Err CutMismatch ↔ IsMismatch (length game.now) (length links.old) cut.now }
+    ensures same { result ≡ Err CutMismatch → links.new ≡ links.old }
+{
+    match solve_within(alloc, game, links, cut, budget, u64::MAX)? {
+        Some(solved) => Ok(solved),
+        None => unreachable!(),
+    }
+}
+
+/// Solves a game as `solve` does, but gives rounds up where measures rose in more than `limit` rounds, and where no link is in use:
+/// then the answer is none, and the links may be used again. `u64::MAX` is no limit, and rounds are then never given up, also where no
+/// link is in use.
+///
+/// Faults: as for `solve`.
+pub fn solve_within<L: Link>(
+    alloc: Global,
+    game: &Game,
+    links: &mut [L],
+    cut: &Cut,
+    budget: u32,
+    limit: u64,
+) -> Result<Option<Solved>, CoordFault>
+    ensures bounds { IfOk result (λ o. IfSome o (λ s. IsBoundsOf game.now s.map.bounds)) }
+    ensures map { IfOk result (λ o. IfSome o (λ s. IsMap s.map.bounds (length game.now) s.map.measures)) }
+    ensures closed { IfOk result (λ o. IfSome o (λ s. IsClosed s.map.bounds (game_line game.now) s.map.measures)) }
+    ensures rounds { IfOk result (λ o. IfSome o (λ s. (1 ≤ s.rounds)
+        × (s.rounds + map_weight s.map.bounds s.map.measures ≤ most_rounds (length game.now) s.map.bounds))) }
+    ensures least { IfOk result (λ o. IfSome o (λ s. All L.is_honest links.old
+        → IsLeastProgressMeasure s.map.bounds (length game.now) (game_line game.now) s.map.measures)) }
+    ensures told { IfOk result (λ o. IfSome o (λ s. (replies : ℕ → List Reply) → TellReplies L.told s.map.bounds cut.now links.old replies
+        → IsLeastOverReplies (game_line game.now) s.rounds (length links.old) replies s.map)) }
+    ensures limited { IfOk result (λ o. IfNone o (limit + 1 < 2 ^ 64)) }
+    ensures honest { All L.is_honest links.old → All L.is_honest links.new }
+    ensures mismatch { result ≡ Err CutMismatch ↔ IsMismatch (length game.now) (length links.old) cut.now }
+    ensures same { result ≡ Err CutMismatch → links.new ≡ links.old }
+{
+    let zero = zero_of(alloc, game, cut, links.len())?;
+    let task = Task::new(alloc, game, cut, zero.bounds(), budget)?;
+    Ok(work(&task, links, zero, limit)?)
+}

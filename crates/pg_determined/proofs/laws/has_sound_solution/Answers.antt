@@ -1,5 +1,0 @@
-use Rattle.pg_determined.proofs.Decided.{has_sound_solution}
-use Rattle.pg_determined.proofs.laws.has_sound_solution.Goals as goal
-
-pub returns : goal.returns
-returns c = has_sound_solution

@@ -1,0 +1,417 @@
+//! Labels and acceptance conditions, as they are computed: operands before their operators. A stack of open brackets
+//! stands in for recursion, so that deep nesting costs memory in line with the text alone.
+
+ghost use Rattle.std.specs.Prelude.{◌≡◌, ◌++◌, Some, None, option_map};
+ghost use Rattle.pg_hoa_syntax.specs.Mirrors.Steps.{Gives};
+ghost use Rattle.pg_hoa_syntax.specs.Mirrors.Scan.{lexeme, lex};
+ghost use Rattle.pg_hoa_syntax.specs.Mirrors.FormulaRun.{view, not_ops, split_last, completed_at, operand_at, negated_at, opened_at};
+ghost use Rattle.pg_hoa_syntax.specs.Mirrors.FormulaRun.{product_at, sum_at, closed_at, limit_at, word_at, operand_turn, operator_turn};
+ghost use Rattle.pg_hoa_syntax.specs.Mirrors.FormulaRun.{opening_turn, naming_turn, closing_turn, turn_at, taken_at, over_at, ops_at};
+
+use crate::fault::{LeftOutName, PartFault, Refusal};
+use crate::token::{Token, next_token, unexpected};
+use std::alloc::Global;
+
+/// A label over so many propositions, or a condition over so many sets.
+#[derive(Clone, Copy)]
+pub enum Kind {
+    Label(u32),
+    Condition(u32),
+}
+
+/// An operand, or an operator on what stands before it.
+#[derive(Clone, Copy)]
+pub enum Op {
+    Yes,
+    No,
+    Proposition(u32),
+    Inf(u32),
+    Fin(u32),
+    Not,
+    Both,
+    Either,
+}
+
+/// What stands before the operand that is due, within one bracket.
+#[derive(Clone, Copy)]
+pub struct Frame {
+    /// Whether an operand of `|` waits for the other one.
+    sum: bool,
+    /// Whether an operand of `&` waits for the other one.
+    product: bool,
+    /// How many `!` stand right before the operand.
+    nots: u32,
+    /// How many brackets and `!` may be open round one place here, beyond those round this bracket.
+    room: u32,
+}
+
+/// What may come next.
+#[derive(Clone, Copy)]
+pub enum Mode {
+    Operand,
+    /// The bracket behind `Inf` or `Fin`.
+    Opening(bool),
+    /// The number in that bracket.
+    Naming(bool),
+    /// The bracket behind that number.
+    Closing(Op),
+    Operator,
+}
+
+/// A formula that is being read.
+#[derive(Drop)]
+pub struct Reading {
+    mode: Mode,
+    top: Frame,
+    outer: Vec<Frame>,
+    ops: Vec<Op>,
+}
+
+/// The operations, and so many negations behind them.
+fn push_nots(mut ops: Vec<Op>, count: u32) -> Result<Vec<Op>, Refusal>
+    ensures { Gives (λ x. x.items) result (Some (ops.items ++ not_ops count)) }
+{
+    for _ in 0..count {
+        ops.push(Op::Not)?;
+    }
+    Ok(ops)
+}
+
+/// The innermost of the open brackets, and those round it.
+fn split_last(mut outer: Vec<Frame>) -> Option<(Vec<Frame>, Frame)>
+    ensures { option_map (λ x. (x.0.items, x.1)) result ≡ split_last outer.items }
+{
+    match outer.pop() {
+        Some(top) => Some((outer, top)),
+        None => None,
+    }
+}
+
+/// The reading behind an operand whose operations are kept.
+#[tactic(auto, unfolding(crate::specs::Mirrors::FormulaRun::completed_at))]
+fn completed(reading: Reading) -> Result<Reading, Refusal>
+    ensures { Gives view result (completed_at (view reading)) }
+{
+    let top = reading.top;
+    let mut ops = push_nots(reading.ops, top.nots)?;
+    if top.product {
+        ops.push(Op::Both)?;
+    }
+    Ok(Reading {
+        mode: Mode::Operator,
+        top: Frame {
+            sum: top.sum,
+            product: false,
+            nots: 0,
+            room: top.room,
+        },
+        outer: reading.outer,
+        ops,
+    })
+}
+
+/// The reading behind an operand of one operation.
+#[tactic(auto, unfolding(crate::specs::Mirrors::FormulaRun::operand_at))]
+fn operand(mut reading: Reading, op: Op) -> Result<Reading, Refusal>
+    ensures { Gives view result (operand_at (view reading) op) }
+{
+    reading.ops.push(op)?;
+    completed(reading)
+}
+
+/// The reading behind a `!`.
+#[tactic(auto, unfolding(crate::specs::Mirrors::FormulaRun::negated_at))]
+fn negated(mut reading: Reading) -> Result<Reading, Refusal>
+    ensures { Gives view result (negated_at (view reading)) }
+{
+    if reading.top.nots < reading.top.room {
+        reading.mode = Mode::Operand;
+        reading.top.nots += 1;
+        Ok(reading)
+    } else {
+        Err(Refusal::Wrong(PartFault::TooLarge))
+    }
+}
+
+/// The reading behind a bracket that opens.
+#[tactic(auto, unfolding(crate::specs::Mirrors::FormulaRun::opened_at))]
+fn opened(mut reading: Reading) -> Result<Reading, Refusal>
+    ensures { Gives view result (opened_at (view reading)) }
+{
+    let top = reading.top;
+    if top.nots < top.room {
+        reading.outer.push(top)?;
+        reading.mode = Mode::Operand;
+        reading.top = Frame {
+            sum: false,
+            product: false,
+            nots: 0,
+            room: top.room - top.nots - 1,
+        };
+        Ok(reading)
+    } else {
+        Err(Refusal::Wrong(PartFault::TooLarge))
+    }
+}
+
+/// The reading behind a `&`.
+#[tactic(auto, unfolding(crate::specs::Mirrors::FormulaRun::product_at))]
+fn product(mut reading: Reading) -> Result<Reading, Refusal>
+    ensures { Gives view result (product_at (view reading)) }
+{
+    reading.mode = Mode::Operand;
+    reading.top.product = true;
+    reading.top.nots = 0;
+    Ok(reading)
+}
+
+/// The reading behind a `|`.
+#[tactic(auto, unfolding(crate::specs::Mirrors::FormulaRun::sum_at))]
+fn sum(mut reading: Reading) -> Result<Reading, Refusal>
+    ensures { Gives view result (sum_at (view reading)) }
+{
+    if reading.top.sum {
+        reading.ops.push(Op::Either)?;
+    }
+    reading.mode = Mode::Operand;
+    reading.top.sum = true;
+    reading.top.product = false;
+    reading.top.nots = 0;
+    Ok(reading)
+}
+
+/// The reading behind a bracket that closes, with `left` bytes left from it on.
+#[tactic(auto, unfolding(crate::specs::Mirrors::FormulaRun::closed_at))]
+fn closed(reading: Reading, left: usize) -> Result<Reading, Refusal>
+    ensures { Gives view result (closed_at (view reading)) }
+{
+    let mut ops = reading.ops;
+    if reading.top.sum {
+        ops.push(Op::Either)?;
+    }
+    match split_last(reading.outer) {
+        Some((outer, top)) => completed(Reading {
+            mode: Mode::Operand,
+            top,
+            outer,
+            ops,
+        }),
+        None => Err(Refusal::Wrong(PartFault::Syntax(left))),
+    }
+}
+
+/// The reading behind a word that is `Inf` or `Fin`, in a condition.
+#[tactic(auto, unfolding(crate::specs::Mirrors::FormulaRun::limit_at))]
+fn limit(kind: Kind, word: &[u8], mut reading: Reading, left: usize) -> Result<Reading, Refusal>
+    ensures { Gives view result (limit_at kind word.now (view reading)) }
+{
+    match kind {
+        Kind::Label(_) => Err(Refusal::Wrong(PartFault::Syntax(left))),
+        Kind::Condition(_) => {
+            if word == b"Inf".as_slice() {
+                reading.mode = Mode::Opening(true);
+                Ok(reading)
+            } else if word == b"Fin".as_slice() {
+                reading.mode = Mode::Opening(false);
+                Ok(reading)
+            } else {
+                Err(Refusal::Wrong(PartFault::Syntax(left)))
+            }
+        }
+    }
+}
+
+/// The reading behind a word.
+#[tactic(auto, unfolding(crate::specs::Mirrors::FormulaRun::word_at))]
+fn word(kind: Kind, word: &[u8], reading: Reading, left: usize) -> Result<Reading, Refusal>
+    ensures { Gives view result (word_at kind word.now (view reading)) }
+{
+    if word == b"t".as_slice() {
+        operand(reading, Op::Yes)
+    } else if word == b"f".as_slice() {
+        operand(reading, Op::No)
+    } else {
+        limit(kind, word, reading, left)
+    }
+}
+
+/// The reading behind a token where an operand is due.
+#[tactic(auto, unfolding(crate::specs::Mirrors::FormulaRun::operand_turn))]
+fn operand_turn(
+    kind: Kind,
+    reading: Reading,
+    token: Token<'_>,
+    left: usize,
+) -> Result<Reading, Refusal>
+    ensures { Gives view result (operand_turn kind (view reading) (lexeme token.entry)) }
+{
+    match (kind, token) {
+        (Kind::Label(_), Token::Bang) => negated(reading),
+        (Kind::Label(propositions), Token::Number(a)) => {
+            if a < propositions {
+                operand(reading, Op::Proposition(a))
+            } else {
+                Err(Refusal::Wrong(PartFault::OutOfRange(left)))
+            }
+        }
+        (_, Token::LeftParen) => opened(reading),
+        (_, Token::Identifier(w)) => word(kind, w, reading, left),
+        _ => Err(Refusal::Wrong(unexpected(token, left))),
+    }
+}
+
+/// The reading behind a token where an operand has ended.
+#[tactic(auto, unfolding(crate::specs::Mirrors::FormulaRun::operator_turn))]
+fn operator_turn(reading: Reading, token: Token<'_>, left: usize) -> Result<Reading, Refusal>
+    ensures { Gives view result (operator_turn (view reading) (lexeme token.entry)) }
+{
+    match token {
+        Token::Ampersand => product(reading),
+        Token::Bar => sum(reading),
+        Token::RightParen => closed(reading, left),
+        _ => Err(Refusal::Wrong(unexpected(token, left))),
+    }
+}
+
+/// The reading behind a token where the bracket behind `Inf`, if `positive`, or `Fin` is due.
+#[tactic(auto, unfolding(crate::specs::Mirrors::FormulaRun::opening_turn))]
+fn opening_turn(
+    mut reading: Reading,
+    positive: bool,
+    token: Token<'_>,
+    left: usize,
+) -> Result<Reading, Refusal>
+    ensures { Gives view result (opening_turn (view reading) positive (lexeme token.entry)) }
+{
+    match token {
+        Token::LeftParen => {
+            reading.mode = Mode::Naming(positive);
+            Ok(reading)
+        }
+        _ => Err(Refusal::Wrong(unexpected(token, left))),
+    }
+}
+
+/// The reading behind a token where the number of a set is due.
+#[tactic(auto, unfolding(crate::specs::Mirrors::FormulaRun::naming_turn))]
+fn naming_turn(
+    kind: Kind,
+    mut reading: Reading,
+    positive: bool,
+    token: Token<'_>,
+    left: usize,
+) -> Result<Reading, Refusal>
+    ensures { Gives view result (naming_turn kind (view reading) positive (lexeme token.entry)) }
+{
+    match (kind, token) {
+        (Kind::Condition(sets), Token::Number(set)) => {
+            if set < sets {
+                reading.mode = Mode::Closing(if positive { Op::Inf(set) } else { Op::Fin(set) });
+                Ok(reading)
+            } else {
+                Err(Refusal::Wrong(PartFault::OutOfRange(left)))
+            }
+        }
+        (Kind::Condition(_), Token::Bang) => Err(Refusal::Wrong(PartFault::LeftOut(
+            LeftOutName::NegatedSet,
+            left,
+        ))),
+        _ => Err(Refusal::Wrong(unexpected(token, left))),
+    }
+}
+
+/// The reading behind a token where the bracket behind that number is due.
+#[tactic(auto, unfolding(crate::specs::Mirrors::FormulaRun::closing_turn))]
+fn closing_turn(reading: Reading, op: Op, token: Token<'_>, left: usize) -> Result<Reading, Refusal>
+    ensures { Gives view result (closing_turn (view reading) op (lexeme token.entry)) }
+{
+    match token {
+        Token::RightParen => operand(reading, op),
+        _ => Err(Refusal::Wrong(unexpected(token, left))),
+    }
+}
+
+/// The reading behind one more token, with `left` bytes left from it on.
+#[tactic(auto, unfolding(crate::specs::Mirrors::FormulaRun::turn_at))]
+fn turn(kind: Kind, reading: Reading, token: Token<'_>, left: usize) -> Result<Reading, Refusal>
+    ensures { Gives view result (turn_at kind (view reading) (lexeme token.entry)) }
+{
+    match reading.mode {
+        Mode::Operand => operand_turn(kind, reading, token, left),
+        Mode::Opening(positive) => opening_turn(reading, positive, token, left),
+        Mode::Naming(positive) => naming_turn(kind, reading, positive, token, left),
+        Mode::Closing(op) => closing_turn(reading, op, token, left),
+        Mode::Operator => operator_turn(reading, token, left),
+    }
+}
+
+/// The token that was found, if it may belong to the formula.
+#[tactic(auto, unfolding(crate::specs::Mirrors::FormulaRun::taken_at, crate::specs::Mirrors::FormulaRun::goes_on_at))]
+fn taken<'a>(reading: &Reading, found: Option<Token<'a>>) -> Option<Token<'a>>
+    ensures { option_map lexeme result ≡ taken_at (view reading.now) (option_map lexeme found.entry) }
+{
+    let token = found?;
+    match reading.mode {
+        Mode::Operator => match token {
+            Token::Ampersand | Token::Bar => Some(token),
+            _ => {
+                if reading.outer.is_empty() {
+                    None
+                } else {
+                    Some(token)
+                }
+            }
+        },
+        _ => Some(token),
+    }
+}
+
+/// The operations of a formula that ends here, with `left` bytes left.
+#[tactic(auto, unfolding(crate::specs::Mirrors::FormulaRun::over_at))]
+fn over(reading: Reading, left: usize) -> Result<Vec<Op>, Refusal>
+    ensures { Gives (λ x. x.items) result (over_at (view reading)) }
+{
+    let mut ops = reading.ops;
+    if reading.top.sum {
+        ops.push(Op::Either)?;
+    }
+    match reading.mode {
+        Mode::Operator => {
+            if reading.outer.is_empty() {
+                Ok(ops)
+            } else {
+                Err(Refusal::Wrong(PartFault::Syntax(left)))
+            }
+        }
+        _ => Err(Refusal::Wrong(PartFault::Syntax(left))),
+    }
+}
+
+/// The formula at the front, as it is computed, and the bytes behind it. It ends before the first token that can't
+/// belong to it.
+pub fn read_formula(alloc: Global, kind: Kind, bytes: &[u8]) -> Result<(Vec<Op>, &[u8]), Refusal>
+    ensures { Gives (λ x. (x.0.items, lex x.1.now)) result (ops_at kind (lex bytes.now)) }
+{
+    let mut reading = Reading {
+        mode: Mode::Operand,
+        top: Frame {
+            sum: false,
+            product: false,
+            nots: 0,
+            room: 8192,
+        },
+        outer: Vec::new(alloc),
+        ops: Vec::new(alloc),
+    };
+    let mut rest = bytes;
+    'tokens: loop {
+        let (found, left, after) = next_token(rest)?;
+        match taken(&reading, found) {
+            Some(token) => {
+                reading = turn(kind, reading, token, left)?;
+                rest = after;
+            }
+            None => return Ok((over(reading, left)?, rest)),
+        }
+    }
+}

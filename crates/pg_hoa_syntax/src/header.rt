@@ -1,0 +1,439 @@
+//! The headers of a text.
+
+ghost use Rattle.std.specs.Prelude.{◌≡◌, [], ◌==◌, IfOk, OnOk, option_map, map};
+ghost use Rattle.std.specs.List.{list_any};
+ghost use Rattle.pg_hoa_syntax.specs.Mirrors.Steps.{Gives};
+ghost use Rattle.pg_hoa_syntax.specs.Mirrors.Scan.{characters, lex, lexeme};
+ghost use Rattle.pg_hoa_syntax.specs.Syntax.{character_code};
+ghost use Rattle.pg_hoa_syntax.specs.Mirrors.Kept.{KeptHead, head_in};
+ghost use Rattle.pg_hoa_syntax.specs.Mirrors.HeaderScan.{numeral_of, numeral_at, alone_at, note, noted_at, is_value, skipped_from, code_at};
+ghost use Rattle.pg_hoa_syntax.specs.Mirrors.HeaderScan.{is_name_byte, is_name, quoted_of, quoted_at, names_from, states_at, start_at};
+ghost use Rattle.pg_hoa_syntax.specs.Mirrors.HeaderScan.{names_at, acceptance_at, controls_at, begins_low, other_at, header_at};
+ghost use Rattle.pg_hoa_syntax.specs.Mirrors.HeaderScan.{opening_at, version_at, headers_from, headers_at};
+
+use crate::fault::{LeftOutName, PartFault, Refusal};
+use crate::formula::{Kind, Op, read_formula};
+use crate::token::{Token, next_token, unexpected};
+use std::alloc::{AllocError, Global};
+
+/// What the headers say. A number that may be out of range stands with how many bytes are left from it on.
+#[derive(Drop)]
+pub struct Head {
+    pub states: Option<u32>,
+    pub start: Option<(u32, usize)>,
+    pub names: Option<Vec<Vec<u8>>>,
+    pub controls: Option<Vec<(u32, usize)>>,
+    pub acceptance: Option<(u32, Vec<Op>)>,
+}
+
+/// What is wrong where another token has to stand, or the text ends.
+fn misplaced(found: Option<Token<'_>>, left: usize) -> PartFault {
+    match found {
+        Some(token) => unexpected(token, left),
+        None => PartFault::Syntax(left),
+    }
+}
+
+/// The number, if one was found.
+fn number(found: Option<Token<'_>>) -> Option<u32>
+    ensures { result ≡ numeral_of (option_map lexeme found.entry) }
+{
+    match found {
+        Some(Token::Number(n)) => Some(n),
+        _ => None,
+    }
+}
+
+/// Whether a value of a header that is skipped was found.
+fn is_value(found: Option<Token<'_>>) -> bool
+    ensures { result ≡ is_value (option_map lexeme found.entry) }
+{
+    match found {
+        Some(Token::Number(_)) => true,
+        Some(Token::Identifier(_)) => true,
+        Some(Token::String(_)) => true,
+        _ => false,
+    }
+}
+
+/// A number up to a limit, how many bytes are left from it on, and the bytes behind it.
+#[tactic(auto, unfolding(crate::specs::Mirrors::HeaderScan::numeral_at))]
+fn read_number(limit: u32, bytes: &[u8]) -> Result<(u32, usize, &[u8]), Refusal>
+    ensures { Gives (λ x. (x.0, lex x.2.now)) result (numeral_at limit (lex bytes.now)) }
+{
+    let (found, left, rest) = next_token(bytes)?;
+    match number(found) {
+        Some(n) => {
+            if n > limit {
+                Err(Refusal::Wrong(PartFault::TooLarge))
+            } else {
+                Ok((n, left, rest))
+            }
+        }
+        None => Err(Refusal::Wrong(misplaced(found, left))),
+    }
+}
+
+/// The bytes behind the number of `Start:`, where no `&` stands.
+#[tactic(auto, unfolding(crate::specs::Mirrors::HeaderScan::alone_at))]
+fn alone(bytes: &[u8]) -> Result<&[u8], Refusal>
+    ensures { Gives (λ x. lex x.now) result (alone_at (lex bytes.now)) }
+{
+    let (found, left, _) = next_token(bytes)?;
+    match found {
+        Some(Token::Ampersand) => Err(Refusal::Wrong(PartFault::LeftOut(
+            LeftOutName::Universal,
+            left,
+        ))),
+        _ => Ok(bytes),
+    }
+}
+
+/// Whether the number stands in the list.
+pub fn is_noted(numbers: &[(u32, usize)], number: usize) -> bool
+    ensures { result ≡ list_any (λ x. x.0 == number) numbers.now }
+{
+    numbers.iter().any(|noted| noted.0 as usize == number)
+}
+
+/// Puts a number behind the others, unless it stands there. All from 16 on, which no proposition has, are noted as 16.
+fn note(numbers: &mut Vec<(u32, usize)>, number: u32, left: usize) -> Result<(), AllocError>
+    ensures { OnOk result (map (λ y. y.0) numbers.new.items ≡ note (map (λ y. y.0) numbers.old.items) number) }
+{
+    let number = number.min(16);
+    if is_noted(numbers, number as usize) {
+        return Ok(());
+    }
+    numbers.push((number, left))?;
+    Ok(())
+}
+
+/// Numbers until another token, as they are noted, each with how many bytes are left from where it stands first, and the
+/// bytes behind them.
+fn read_numbers(alloc: Global, bytes: &[u8]) -> Result<(Vec<(u32, usize)>, &[u8]), Refusal>
+    ensures { Gives (λ x. (map (λ y. y.0) x.0.items, lex x.1.now)) result (noted_at (lex bytes.now)) }
+{
+    let mut numbers = Vec::new(alloc);
+    let mut rest = bytes;
+    'numbers: loop {
+        let (found, left, after) = next_token(rest)?;
+        match number(found) {
+            Some(n) => {
+                note(&mut numbers, n, left)?;
+                rest = after;
+            }
+            None => return Ok((numbers, rest)),
+        }
+    }
+}
+
+/// The bytes behind the values of a header that is skipped.
+fn skip_values(bytes: &[u8]) -> Result<&[u8], Refusal>
+    ensures { Gives (λ x. lex x.now) result (skipped_from (lex bytes.now)) }
+{
+    let mut rest = bytes;
+    'values: loop {
+        let (found, _, after) = next_token(rest)?;
+        if !is_value(found) {
+            return Ok(rest);
+        }
+        rest = after;
+    }
+}
+
+/// The first character of a string's content, without a backslash before it, and what follows.
+fn character(content: &[u8]) -> Option<(u8, &[u8])>
+    ensures { option_map (λ x. (x.0, x.1.now)) result ≡ code_at content.now }
+{
+    match content {
+        [] => None,
+        [one, tail @ ..] => match tail {
+            [] => Some((*one, tail)),
+            [two, after @ ..] => {
+                if *one == b'\\' {
+                    Some((*two, after))
+                } else {
+                    Some((*one, tail))
+                }
+            }
+        },
+    }
+}
+
+/// A string's content, with each backslash before another byte taken away.
+fn unescaped(alloc: Global, content: &[u8]) -> Result<Vec<u8>, AllocError>
+    ensures { IfOk result (λ v. v.items ≡ map character_code (characters content.now)) }
+{
+    let mut name = Vec::new(alloc);
+    let mut rest = content;
+    'characters: loop {
+        match character(rest) {
+            None => return Ok(name),
+            Some((code, after)) => {
+                name.push(code)?;
+                rest = after;
+            }
+        }
+    }
+}
+
+/// Whether a name may hold the byte.
+fn is_name_byte(byte: u8) -> bool
+    ensures { result ≡ is_name_byte byte }
+{
+    byte >= 32 && byte != 127
+}
+
+/// Whether a proposition may have the name.
+fn is_name(name: &[u8]) -> bool
+    ensures { result ≡ is_name name.now }
+{
+    !name.is_empty() && name.iter().all(|byte| is_name_byte(*byte))
+}
+
+/// The name of the proposition of this number, where a string was found, `left` bytes before the end.
+#[tactic(auto, unfolding(crate::specs::Mirrors::HeaderScan::name_of))]
+fn name_in(
+    alloc: Global,
+    proposition: u32,
+    found: Option<Token<'_>>,
+    left: usize,
+) -> Result<Vec<u8>, Refusal>
+    ensures { Gives (λ v. v.items) result (quoted_of (option_map lexeme found.entry)) }
+{
+    match found {
+        Some(Token::String(content)) => {
+            let name = unescaped(alloc, content)?;
+            if is_name(&name) {
+                Ok(name)
+            } else {
+                Err(Refusal::Wrong(PartFault::BadName(proposition)))
+            }
+        }
+        _ => Err(Refusal::Wrong(misplaced(found, left))),
+    }
+}
+
+/// The name of the proposition of this number, and the bytes behind it.
+#[tactic(auto, unfolding(crate::specs::Mirrors::HeaderScan::quoted_at))]
+fn read_name(alloc: Global, proposition: u32, bytes: &[u8]) -> Result<(Vec<u8>, &[u8]), Refusal>
+    ensures { Gives (λ x. (x.0.items, lex x.1.now)) result (quoted_at (lex bytes.now)) }
+{
+    let (found, left, rest) = next_token(bytes)?;
+    Ok((name_in(alloc, proposition, found, left)?, rest))
+}
+
+/// So many names, and the bytes behind them.
+fn read_names(alloc: Global, count: u32, bytes: &[u8]) -> Result<(Vec<Vec<u8>>, &[u8]), Refusal>
+    ensures { Gives (λ x. (map (λ name. name.items) x.0.items, lex x.1.now)) result
+        (names_from count [] (lex bytes.now)) }
+{
+    let mut names = Vec::new(alloc);
+    let mut rest = bytes;
+    'names: for proposition in 0..count {
+        let (name, after) = read_name(alloc, proposition, rest)?;
+        names.push(name)?;
+        rest = after;
+    }
+    Ok((names, rest))
+}
+
+/// Puts what stands behind `States:`, a name `left` bytes before the end, into the head: the bytes behind that.
+#[tactic(auto, unfolding(crate::specs::Mirrors::HeaderScan::states_at))]
+fn states<'a>(head: &mut Head, left: usize, bytes: &'a [u8]) -> Result<&'a [u8], Refusal>
+    ensures { Gives (λ x. (head_in head.new, lex x.now)) result (states_at (head_in head.old) (lex bytes.now)) }
+{
+    if head.states.is_some() {
+        return Err(Refusal::Wrong(PartFault::Syntax(left)));
+    }
+    let (count, _, rest) = read_number(65_535, bytes)?;
+    head.states = Some(count);
+    Ok(rest)
+}
+
+/// Likewise behind `Start:`.
+#[tactic(auto, unfolding(crate::specs::Mirrors::HeaderScan::start_at))]
+fn start<'a>(head: &mut Head, left: usize, bytes: &'a [u8]) -> Result<&'a [u8], Refusal>
+    ensures { Gives (λ x. (head_in head.new, lex x.now)) result (start_at (head_in head.old) (lex bytes.now)) }
+{
+    if head.start.is_some() {
+        return Err(Refusal::Wrong(PartFault::LeftOut(LeftOutName::SeveralStarts, left)));
+    }
+    let (state, place, rest) = read_number(65_534, bytes)?;
+    let rest = alone(rest)?;
+    head.start = Some((state, place));
+    Ok(rest)
+}
+
+/// Likewise behind `AP:`.
+#[tactic(auto, unfolding(crate::specs::Mirrors::HeaderScan::names_at))]
+fn names<'a>(
+    alloc: Global,
+    head: &mut Head,
+    left: usize,
+    bytes: &'a [u8],
+) -> Result<&'a [u8], Refusal>
+    ensures { Gives (λ x. (head_in head.new, lex x.now)) result (names_at (head_in head.old) (lex bytes.now)) }
+{
+    if head.names.is_some() {
+        return Err(Refusal::Wrong(PartFault::Syntax(left)));
+    }
+    let (count, _, rest) = read_number(16, bytes)?;
+    let (names, rest) = read_names(alloc, count, rest)?;
+    head.names = Some(names);
+    Ok(rest)
+}
+
+/// Likewise behind `Acceptance:`.
+#[tactic(auto, unfolding(crate::specs::Mirrors::HeaderScan::acceptance_at))]
+fn acceptance<'a>(
+    alloc: Global,
+    head: &mut Head,
+    left: usize,
+    bytes: &'a [u8],
+) -> Result<&'a [u8], Refusal>
+    ensures { Gives (λ x. (head_in head.new, lex x.now)) result (acceptance_at (head_in head.old) (lex bytes.now)) }
+{
+    if head.acceptance.is_some() {
+        return Err(Refusal::Wrong(PartFault::Syntax(left)));
+    }
+    let (sets, _, rest) = read_number(4_096, bytes)?;
+    let (ops, rest) = read_formula(alloc, Kind::Condition(sets), rest)?;
+    head.acceptance = Some((sets, ops));
+    Ok(rest)
+}
+
+/// Likewise behind `controllable-AP:`.
+#[tactic(auto, unfolding(crate::specs::Mirrors::HeaderScan::controls_at))]
+fn controls<'a>(
+    alloc: Global,
+    head: &mut Head,
+    left: usize,
+    bytes: &'a [u8],
+) -> Result<&'a [u8], Refusal>
+    ensures { Gives (λ x. (head_in head.new, lex x.now)) result (controls_at (head_in head.old) (lex bytes.now)) }
+{
+    if head.controls.is_some() {
+        return Err(Refusal::Wrong(PartFault::Syntax(left)));
+    }
+    let (controls, rest) = read_numbers(alloc, bytes)?;
+    head.controls = Some(controls);
+    Ok(rest)
+}
+
+/// Whether the name begins with a lower-case letter or `_`.
+fn begins_low(name: &[u8]) -> bool
+    ensures { result ≡ begins_low name.now }
+{
+    match name {
+        [] => false,
+        [first, ..] => *first >= b'a' || *first == b'_',
+    }
+}
+
+/// The bytes behind any other name and its values: such a header is skipped, or refused.
+#[tactic(auto, unfolding(crate::specs::Mirrors::HeaderScan::other_at))]
+fn other<'a>(name: &[u8], left: usize, bytes: &'a [u8]) -> Result<&'a [u8], Refusal>
+    ensures { (h : KeptHead) → Gives (λ x. (h, lex x.now)) result (other_at h name.now (lex bytes.now)) }
+{
+    if begins_low(name) {
+        skip_values(bytes)
+    } else if name == b"Alias".as_slice() {
+        Err(Refusal::Wrong(PartFault::LeftOut(LeftOutName::Alias, left)))
+    } else {
+        Err(Refusal::Wrong(PartFault::UnknownHeader(left)))
+    }
+}
+
+/// Puts what a header of this name says, `left` bytes before the end, into the head: the bytes behind it.
+#[tactic(auto, unfolding(crate::specs::Mirrors::HeaderScan::header_at))]
+fn header<'a>(
+    alloc: Global,
+    head: &mut Head,
+    name: &[u8],
+    left: usize,
+    bytes: &'a [u8],
+) -> Result<&'a [u8], Refusal>
+    ensures { Gives (λ x. (head_in head.new, lex x.now)) result
+        (header_at (head_in head.old) name.now (lex bytes.now)) }
+{
+    if name == b"States".as_slice() {
+        states(head, left, bytes)
+    } else if name == b"Start".as_slice() {
+        start(head, left, bytes)
+    } else if name == b"AP".as_slice() {
+        names(alloc, head, left, bytes)
+    } else if name == b"Acceptance".as_slice() {
+        acceptance(alloc, head, left, bytes)
+    } else if name == b"controllable-AP".as_slice() {
+        controls(alloc, head, left, bytes)
+    } else {
+        other(name, left, bytes)
+    }
+}
+
+/// The bytes behind `HOA:`.
+#[tactic(auto, unfolding(crate::specs::Mirrors::HeaderScan::opening_at))]
+pub fn opening(bytes: &[u8]) -> Result<&[u8], Refusal>
+    ensures { Gives (λ x. lex x.now) result (opening_at (lex bytes.now)) }
+{
+    let (found, left, rest) = next_token(bytes)?;
+    match found {
+        Some(Token::Header(name)) if name == b"HOA".as_slice() => Ok(rest),
+        _ => Err(Refusal::Wrong(misplaced(found, left))),
+    }
+}
+
+/// The bytes behind `v1`.
+#[tactic(auto, unfolding(crate::specs::Mirrors::HeaderScan::version_at))]
+pub fn version(bytes: &[u8]) -> Result<&[u8], Refusal>
+    ensures { Gives (λ x. lex x.now) result (version_at (lex bytes.now)) }
+{
+    let (found, left, rest) = next_token(bytes)?;
+    match found {
+        Some(Token::Identifier(word)) if word == b"v1".as_slice() => Ok(rest),
+        _ => Err(Refusal::Wrong(misplaced(found, left))),
+    }
+}
+
+/// Puts what the headers say, up to `--BODY--`, into the head: how many bytes are left from `--BODY--` on, and the
+/// bytes behind it.
+fn headers<'a>(
+    alloc: Global,
+    head: &mut Head,
+    bytes: &'a [u8],
+) -> Result<(usize, &'a [u8]), Refusal>
+    ensures { Gives (λ x. (head_in head.new, lex x.1.now)) result
+        (headers_from (head_in head.old) (lex bytes.now)) }
+{
+    let mut rest = bytes;
+    'headers: loop {
+        let (found, left, after) = next_token(rest)?;
+        match found {
+            Some(token) => match token {
+                Token::Body => return Ok((left, after)),
+                Token::Header(name) => rest = header(alloc, head, name, left, after)?,
+                _ => return Err(Refusal::Wrong(unexpected(token, left))),
+            },
+            None => return Err(Refusal::Wrong(PartFault::Syntax(left))),
+        }
+    }
+}
+
+/// From the first byte up to `--BODY--`: what the headers say, how many bytes are left from `--BODY--` on, and the bytes
+/// behind it.
+#[tactic(auto, unfolding(crate::specs::Mirrors::HeaderScan::headers_at))]
+pub fn read_headers(alloc: Global, bytes: &[u8]) -> Result<(Head, usize, &[u8]), Refusal>
+    ensures { Gives (λ x. (head_in x.0, lex x.2.now)) result (headers_at (lex bytes.now)) }
+{
+    let first = version(opening(bytes)?)?;
+    let mut head = Head {
+        states: None,
+        start: None,
+        names: None,
+        controls: None,
+        acceptance: None,
+    };
+    let (left, rest) = headers(alloc, &mut head, first)?;
+    Ok((head, left, rest))
+}

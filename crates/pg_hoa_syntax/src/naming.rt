@@ -1,0 +1,79 @@
+//! Which headers a text has, and the text with one more.
+
+ghost use Rattle.std.specs.Prelude.{◌≡◌, ◌<◌, ◌++◌, ℕ, List, IfOk, OnOk, option_map};
+ghost use Rattle.std.specs.List.{All};
+ghost use Rattle.pg_hoa_syntax.specs.Syntax.{Written, IsText};
+ghost use Rattle.pg_hoa_syntax.specs.Headers.{has_header, with_controls};
+ghost use Rattle.pg_hoa_syntax.specs.Mirrors.Scan.{lex, lexeme};
+ghost use Rattle.pg_hoa_syntax.specs.Mirrors.HeaderNames.{decided, named_from, behind_version, control_bytes};
+
+use crate::fault::Refusal;
+use crate::header::{opening, version};
+use crate::token::{Token, next_token};
+use std::alloc::{AllocError, Global};
+
+/// Whether the token decides that a header of this name is written, or that none is.
+fn decided(found: Option<Token<'_>>, name: &[u8]) -> Option<bool>
+    ensures { result ≡ decided name.now (option_map lexeme found.entry) }
+{
+    match found {
+        None | Some(Token::Body) => Some(false),
+        Some(Token::Header(other)) => { if other == name { Some(true) } else { None } }
+        Some(_) => None,
+    }
+}
+
+/// Whether a header of this name stands ahead of `--BODY--`, or of the end.
+fn is_named(bytes: &[u8], name: &[u8]) -> Result<bool, Refusal>
+    ensures { IfOk result (λ found. named_from name.now (lex bytes.now) ≡ found) }
+{
+    let mut rest = bytes;
+    'tokens: loop {
+        let (found, _, after) = next_token(rest)?;
+        match decided(found, name) {
+            Some(answer) => return Ok(answer),
+            None => rest = after,
+        }
+    }
+}
+
+/// The bytes behind `HOA: v1`.
+fn behind_version(bytes: &[u8]) -> Result<&[u8], Refusal>
+    ensures { IfOk result (λ rest. (w : Written) → IsText bytes.now w → lex rest.now ≡ behind_version w) }
+{
+    version(opening(bytes)?)
+}
+
+/// Whether a header of this name is written.
+pub fn has_header(bytes: &[u8], name: &[u8]) -> Result<bool, Refusal>
+    ensures { IfOk result (λ found. (w : Written) → IsText bytes.now w → found ≡ has_header name.now w) }
+{
+    is_named(behind_version(bytes)?, name)
+}
+
+/// Appends a number in decimal digits, behind a blank.
+fn add_control(text: &mut Vec<u8>, number: u32) -> Result<(), AllocError>
+    requires { number < 16 }
+    ensures { OnOk result (text.new.items ≡ text.old.items ++ control_bytes number) }
+{
+    if number < 10 {
+        text.extend_from_slice(&[b' ', b'0' + number as u8])
+    } else {
+        text.extend_from_slice(&[b' ', b'1', b'0' + (number - 10) as u8])
+    }
+}
+
+/// The same text, with a header ahead of the others by which the controller sets these propositions.
+pub fn with_controls(alloc: Global, bytes: &[u8], controls: &[u32]) -> Result<Vec<u8>, Refusal>
+    requires { All (λ n. n < 16) controls.now }
+    ensures { IfOk result (λ text. (w : Written) → IsText bytes.now w → IsText text.items (with_controls controls.now w)) }
+{
+    let rest = behind_version(bytes)?;
+    let mut text = Vec::from_slice(alloc, b"HOA: v1\ncontrollable-AP:")?;
+    for number in controls {
+        add_control(&mut text, *number)?;
+    }
+    text.extend_from_slice(b"\n")?;
+    text.extend_from_slice(rest)?;
+    Ok(text)
+}

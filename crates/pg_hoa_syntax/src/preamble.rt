@@ -1,0 +1,101 @@
+//! The headers of a text, once they are whole.
+
+ghost use Rattle.std.specs.Prelude.{◌≡◌, ◌<◌, map, IfOk, IfErr, MatchOption, MatchBool};
+ghost use Rattle.std.specs.List.{All};
+ghost use Rattle.pg_hoa_syntax.specs.Mirrors.Kept.{head_in};
+ghost use Rattle.pg_hoa_syntax.specs.Mirrors.Preambles.{preamble_in, IsPreambleOf, HasCondition, HasNoPreamble, StartsBelow, marked};
+
+use crate::fault::{LeftOutName, PartFault, Refusal};
+use crate::header::{Head, is_noted};
+use crate::shape::shape_of;
+use pg_hoa_automaton::Shape;
+use std::alloc::{AllocError, Global};
+
+/// What the headers say together: a count of states where one is given, the start, the names of propositions, for each of
+/// them whether the controller sets it, the count of sets and the shape of the condition.
+#[derive(Drop)]
+pub struct Preamble {
+    pub states: Option<u32>,
+    pub start: u32,
+    pub names: Vec<Vec<u8>>,
+    pub controllable: Vec<bool>,
+    pub sets: u32,
+    pub shape: Shape,
+}
+
+/// For each proposition, whether its number stands in the list.
+fn marked(alloc: Global, controls: &[(u32, usize)], count: usize) -> Result<Vec<bool>, AllocError>
+    ensures { IfOk result (λ v. v.items ≡ marked (map (λ x. x.0) controls.now) count) }
+{
+    let mut marks = Vec::new(alloc);
+    for proposition in 0..count {
+        marks.push(is_noted(controls, proposition))?;
+    }
+    Ok(marks)
+}
+
+/// The first number in the list that isn't below the count: how many bytes are left from it on.
+fn first_above(controls: &[(u32, usize)], count: usize) -> Option<usize>
+    ensures { MatchOption result (All (λ x. x.0 < count) controls.now) (λ _. All (λ x. x.0 < count) controls.now → ⊥) }
+{
+    for (number, left) in controls {
+        if *number as usize >= count {
+            return Some(*left);
+        }
+    }
+    None
+}
+
+/// What the headers say, where `left` bytes are left from `--BODY--` on. It refuses, in this order, headers without a
+/// condition, without a start, a start that isn't below the count of states, a proposition of the controller that isn't below
+/// their count, and a condition of none of the six shapes.
+pub fn preamble_of(alloc: Global, head: Head, left: usize) -> Result<Preamble, Refusal>
+    requires { HasCondition (head_in head).acceptance }
+    ensures found { IfOk result (λ s. IsPreambleOf (head_in head) (preamble_in s)) }
+    ensures refused { IfErr result (HasNoPreamble (head_in head)) }
+{
+    let Head {
+        states,
+        start,
+        names,
+        controls,
+        acceptance,
+    } = head;
+    let Some((sets, condition)) = acceptance else {
+        return Err(Refusal::Wrong(PartFault::Syntax(left)));
+    };
+    let Some((start, start_left)) = start else {
+        return Err(Refusal::Wrong(PartFault::LeftOut(LeftOutName::NoStart, left)));
+    };
+    if !starts_below(start, states) {
+        return Err(Refusal::Wrong(PartFault::OutOfRange(start_left)));
+    }
+    let names = names.unwrap_or(Vec::new(alloc));
+    let controls = controls.unwrap_or(Vec::new(alloc));
+    let count = names.len();
+    if let Some(left) = first_above(&controls, count) {
+        return Err(Refusal::Wrong(PartFault::OutOfRange(left)));
+    }
+    let controllable = marked(alloc, &controls, count)?;
+    let Some(shape) = shape_of(&condition, sets) else {
+        return Err(Refusal::Wrong(PartFault::NotParity));
+    };
+    Ok(Preamble {
+        states,
+        start,
+        names,
+        controllable,
+        sets,
+        shape,
+    })
+}
+
+/// Whether the state is below their count, where one is given.
+fn starts_below(start: u32, states: Option<u32>) -> bool
+    ensures { MatchBool result (StartsBelow start states) (StartsBelow start states → ⊥) }
+{
+    match states {
+        Some(states) => start < states,
+        None => true,
+    }
+}

@@ -1,0 +1,122 @@
+//! What a text says.
+
+ghost use Rattle.std.specs.Prelude.{◌≡◌, ◌≤◌, ◌<◌, ◌*◌, ◌^◌, length, map, IfOk, IfErr, MatchBool};
+ghost use Rattle.pg_hoa_syntax.specs.Mirrors.Steps.{Gives};
+ghost use Rattle.pg_hoa_syntax.specs.Mirrors.Scan.{lex};
+ghost use Rattle.pg_hoa_syntax.specs.Mirrors.Kept.{KeptHead, line_in, count_named};
+ghost use Rattle.pg_hoa_syntax.specs.Mirrors.Preambles.{preamble_in, nothing_at};
+ghost use Rattle.pg_hoa_syntax.specs.Mirrors.Readings.{bound, state_count, Reads, NeverReads, IsSyntaxOf, SaysNothing};
+
+use crate::body::{Ranges, ReadState, read_body};
+use crate::fault::{LeftOutName, PartFault, Refusal};
+use crate::header::read_headers;
+use crate::preamble::{Preamble, preamble_of};
+use crate::token::{Token, next_token};
+use pg_hoa_automaton::Shape;
+use std::alloc::Global;
+
+/// What a text says of an automaton: its count of states, its start, the names of propositions, for each of them whether the
+/// controller sets it, the count of sets, the shape of the condition, and the edges of each state that has a line.
+#[derive(Drop)]
+pub struct Syntax {
+    pub states: u32,
+    pub start: u32,
+    pub names: Vec<Vec<u8>>,
+    pub controllable: Vec<bool>,
+    pub sets: u32,
+    pub shape: Shape,
+    pub lines: Vec<ReadState>,
+}
+
+/// Reads what a text says, within the limits of an automaton, up to whether its edges agree.
+pub fn read_syntax(alloc: Global, bytes: &[u8]) -> Result<Syntax, Refusal>
+    ensures found { IfOk result (IsSyntaxOf bytes.now) }
+    ensures refused { IfErr result (SaysNothing bytes.now) }
+{
+    let (preamble, lines) = parts(alloc, bytes)?;
+    let states = states_of(&preamble, &lines);
+    if !are_few(states, preamble.names.len() as u32) {
+        return Err(Refusal::Wrong(PartFault::TooLarge));
+    }
+    Ok(Syntax {
+        states,
+        start: preamble.start,
+        names: preamble.names,
+        controllable: preamble.controllable,
+        sets: preamble.sets,
+        shape: preamble.shape,
+        lines,
+    })
+}
+
+/// What the headers of a text say, and its lines.
+fn parts(alloc: Global, bytes: &[u8]) -> Result<(Preamble, Vec<ReadState>), Refusal>
+    ensures found { IfOk result (λ x. (h : KeptHead) × Reads (lex bytes.now) h (preamble_in x.0) (map line_in x.1.items)) }
+    ensures refused { IfErr result (NeverReads (lex bytes.now)) }
+{
+    let (head, left, rest) = read_headers(alloc, bytes)?;
+    let preamble = preamble_of(alloc, head, left)?;
+    let (lines, rest) = read_body(alloc, ranges(&preamble), rest)?;
+    end(rest)?;
+    Ok((preamble, lines))
+}
+
+/// In which ranges the numbers of the body lie.
+fn ranges(preamble: &Preamble) -> Ranges
+    requires { length preamble.now.names.items ≤ 16 }
+    ensures states { result.states ≡ bound preamble.now.states }
+    ensures propositions { result.propositions ≡ length preamble.now.names.items }
+    ensures sets { result.sets ≡ preamble.now.sets }
+{
+    Ranges {
+        states: preamble.states.unwrap_or(65_535),
+        propositions: preamble.names.len() as u32,
+        sets: preamble.sets,
+    }
+}
+
+/// Only white space and comments may stand behind the end.
+fn end(bytes: &[u8]) -> Result<(), Refusal>
+    ensures { Gives (λ _. 0) result (nothing_at (lex bytes.now)) }
+{
+    let (token, left, _) = next_token(bytes)?;
+    match token {
+        None => Ok(()),
+        Some(Token::Header(b"HOA")) => Err(Refusal::Wrong(PartFault::LeftOut(
+            LeftOutName::SeveralAutomata,
+            left,
+        ))),
+        Some(_) => Err(Refusal::Wrong(PartFault::Syntax(left))),
+    }
+}
+
+/// How many states there are: so many as the headers say, or else one more than the greatest number that is named.
+fn states_of(preamble: &Preamble, lines: &[ReadState]) -> u32
+    ensures { state_count (preamble_in preamble.now) (map line_in lines.now) < 2 ^ 32
+        → result ≡ state_count (preamble_in preamble.now) (map line_in lines.now) }
+{
+    match preamble.states {
+        Some(states) => states,
+        None => states_named(lines, preamble.start),
+    }
+}
+
+/// One more than the greatest of the number and the states that the lines name, if it is below 2^32.
+fn states_named(lines: &[ReadState], start: u32) -> u32
+    ensures { count_named start (map line_in lines.now) < 2 ^ 32
+        → result ≡ count_named start (map line_in lines.now) }
+{
+    let mut greatest = start;
+    for line in lines {
+        greatest = greatest.max(line.greatest);
+    }
+    greatest.saturating_add(1)
+}
+
+/// Whether a table of so many states, for the letters of so many propositions, is within the limit.
+fn are_few(states: u32, propositions: u32) -> bool
+    requires { propositions ≤ 16 }
+    ensures { MatchBool result (states * 2 ^ propositions ≤ 16777216) (states * 2 ^ propositions ≤ 16777216 → ⊥) }
+{
+    states <= 16_777_216 >> propositions
+}

@@ -1,0 +1,51 @@
+//! Claims, and how they are found.
+
+ghost use Rattle.std.specs.Prelude.{IfSome};
+ghost use Rattle.pg_map_claims.specs.Mirrors.Backing.{IsClaimFrom};
+
+use pg_arena::Vertex;
+use pg_check_order::Span;
+
+/// Says that each closed map has at least the measure of this rank at the vertex. It stands at a place in the order of the claims.
+#[derive(Clone, Copy)]
+pub struct Claim {
+    pub vertex: Vertex,
+    pub rank: u32,
+    pub place: u32,
+}
+
+/// Claims, and the order that is to show that Odd wins the cycles of what leads from one to another.
+#[derive(Drop)]
+pub struct Claims {
+    /// Those of a vertex stand together, their ranks rising.
+    pub claims: Vec<Claim>,
+    /// The first claim of each vertex, where it has one; elsewhere any number.
+    pub firsts: Vec<u32>,
+    /// For each place the priority of the vertex of the claim that stands there, and before which place those stand that it leads to.
+    pub spans: Vec<Span>,
+}
+
+/// Where the first claim of `w` of at least a rank stands, if the claims stand as they should: who asks has to look.
+fn seek(claims: &[Claim], first: usize, w: Vertex, low: u32) -> usize {
+    if first >= claims.len() || claims[first].rank >= low {
+        return first;
+    }
+    let rest = &claims[first..];
+    first + rest.partition_point(|claim| claim.vertex == w && claim.rank < low)
+}
+
+/// The place of a claim of `w` of at least a rank.
+#[inline]
+pub(crate) fn place_from(claims: &Claims, low: u32, w: Vertex) -> Option<u32>
+    ensures { IfSome result (IsClaimFrom claims.now low w) }
+{
+    let first = claims.firsts.get(w.0 as usize)?;
+    let found = claims
+        .claims
+        .get(seek(&claims.claims, *first as usize, w, low))?;
+    if found.vertex == w && found.rank >= low {
+        Some(found.place)
+    } else {
+        None
+    }
+}

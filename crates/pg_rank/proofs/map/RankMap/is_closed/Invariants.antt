@@ -1,7 +1,0 @@
-use Rattle.pg_rank.proofs.Common.{ℕ, ◌<◌, IsSome, IsServed}
-use Rattle.pg_rank.proofs.map.RankMap.is_closed.Given as goal
-
-abbrev pub invariant-loop-number : goal.invariant-loop-number
-invariant-loop-number g l =
-    (v : ℕ) → v < l.number → IsSome (g.G.Lines.line l.lines v)
-    → IsServed l.self.bounds (g.G.Lines.line l.lines) l.self.measures v

@@ -1,0 +1,205 @@
+//! What one player wins, as that player sees it, for whom it wants the least map: that player is called the winner.
+
+use crate::numbers::{NONE, at, count};
+use crate::rows::{Rows, ZEROS};
+use pg_search_winners::Graph;
+use std::alloc::{AllocError, Global};
+
+/// What is known of a vertex.
+#[derive(Clone, Copy)]
+pub struct State {
+    pub row: u32,
+    /// The priority times four, plus two where the vertex waits, plus one where the winner owns it.
+    key: u32,
+    /// Of the winner's: the successor that serves it, or that a strategy chooses. Else one that holds the row, or `NONE`.
+    pub to: u32,
+}
+
+const WAITS: u32 = 2;
+
+const MINE: u32 = 1;
+
+impl State {
+    /// Past the last vertex.
+    const NOWHERE: State = State {
+        row: ZEROS,
+        key: 0,
+        to: NONE,
+    };
+
+    #[inline(always)]
+    pub fn priority(&self) -> u32 {
+        self.key / 4
+    }
+
+    #[inline(always)]
+    pub fn is_mine(&self) -> bool {
+        self.key & MINE != 0
+    }
+}
+
+/// The map of one player, on a graph of the vertices that it wins. On the side of Odd priorities are raised by one, so that those of the
+/// winner are even on both.
+#[derive(Drop)]
+pub struct Side<'a> {
+    pub graph: &'a Graph,
+    pub rows: Rows,
+    states: Vec<State>,
+    /// Even is 0, Odd is 1.
+    pub player: u32,
+    /// How many vertices and edges were looked at, and how many may be.
+    pub looks: u64,
+    most: u64,
+    /// What `look_ahead` saw last, which nobody asks for.
+    seen: u32,
+}
+
+impl<'a> Side<'a> {
+    /// Zeros everywhere, and what is chosen at the player's vertices.
+    pub fn new(
+        alloc: Global,
+        graph: &'a Graph,
+        player: u32,
+        choices: &[u32],
+        most: u64,
+    ) -> Result<Side<'a>, AllocError> {
+        let mut states = Vec::with_capacity(alloc, graph.len() as usize)?;
+        for v in 0..graph.len() {
+            let is_mine = graph.owner(v) == player;
+            let priority = graph.priority(v).saturating_add(player);
+            states.push(State {
+                row: ZEROS,
+                key: priority.saturating_mul(4) | is_mine as u32,
+                to: if is_mine { at(choices, v) } else { NONE },
+            })?;
+        }
+        Ok(Side {
+            graph,
+            rows: Rows::new(alloc)?,
+            states,
+            player,
+            looks: 0,
+            most,
+            seen: 0,
+        })
+    }
+
+    /// How many vertices there are.
+    pub fn len(&self) -> u32 {
+        count(self.states.len())
+    }
+
+    #[inline(always)]
+    pub fn state(&self, v: u32) -> State {
+        if (v as usize) < self.states.len() {
+            self.states[v as usize]
+        } else {
+            State::NOWHERE
+        }
+    }
+
+    #[inline(always)]
+    pub fn row(&self, v: u32) -> u32 {
+        self.state(v).row
+    }
+
+    #[inline(always)]
+    pub fn set_row(&mut self, v: u32, row: u32) {
+        if (v as usize) < self.states.len() {
+            self.states[v as usize].row = row;
+        }
+    }
+
+    #[inline(always)]
+    pub fn set_to(&mut self, v: u32, to: u32) {
+        if (v as usize) < self.states.len() {
+            self.states[v as usize].to = to;
+        }
+    }
+
+    /// Lets a vertex wait, if it doesn't yet.
+    #[inline(always)]
+    pub fn wake(&mut self, v: u32, waiting: &mut Vec<u32>) -> Result<(), AllocError> {
+        if (v as usize) < self.states.len() && self.states[v as usize].key & WAITS == 0 {
+            self.states[v as usize].key |= WAITS;
+            waiting.push(v)?;
+        }
+        Ok(())
+    }
+
+    /// Notes that a vertex doesn't wait any more.
+    #[inline(always)]
+    pub fn waits_no_more(&mut self, v: u32) {
+        if (v as usize) < self.states.len() {
+            self.states[v as usize].key &= !WAITS;
+        }
+    }
+
+    /// The successors of a vertex, which are looked at.
+    #[inline(always)]
+    pub fn successors(&mut self, v: u32) -> &'a [u32] {
+        let graph = self.graph;
+        let successors = graph.successors(v);
+        self.looks = self.looks.wrapping_add(successors.len() as u64);
+        successors
+    }
+
+    /// The predecessors of a vertex, which are looked at, and that vertex too.
+    #[inline(always)]
+    pub fn predecessors(&mut self, v: u32) -> &'a [u32] {
+        let graph = self.graph;
+        let predecessors = graph.predecessors(v);
+        self.looks = self
+            .looks
+            .wrapping_add(1)
+            .wrapping_add(predecessors.len() as u64);
+        predecessors
+    }
+
+    /// Reads what will be wanted soon when the predecessors of a list are looked at, so that it isn't waited for then.
+    #[inline(always)]
+    pub fn look_ahead(&mut self, list: &[u32], place: usize) {
+        let graph = self.graph;
+        let mut seen = 0;
+        if let Some(w) = list.get(place.wrapping_add(12)) {
+            seen ^= count(graph.predecessors(*w).len());
+        }
+        if let Some(w) = list.get(place.wrapping_add(8)) {
+            seen ^= graph.predecessors(*w).first().copied().unwrap_or(0);
+        }
+        if let Some(w) = list.get(place.wrapping_add(4)) {
+            for v in graph.predecessors(*w).iter().take(4) {
+                seen ^= self.row(*v);
+            }
+        }
+        self.seen ^= seen;
+    }
+
+    /// Whether more was looked at than may be.
+    pub fn is_late(&self) -> bool {
+        self.looks > self.most
+    }
+
+    /// Forgets all rows.
+    pub fn clear(&mut self, alloc: Global) -> Result<(), AllocError> {
+        self.rows = Rows::new(alloc)?;
+        for v in 0..self.len() {
+            self.set_row(v, ZEROS);
+        }
+        Ok(())
+    }
+
+    /// Lets the winner choose as given.
+    pub fn choose(&mut self, choices: &[u32]) {
+        for v in 0..self.len() {
+            if self.state(v).is_mine() {
+                self.set_to(v, at(choices, v));
+            }
+        }
+    }
+
+    /// Whether the winner has one way at most to stay among what it wins, at each vertex.
+    pub fn has_no_choice(&self) -> bool {
+        (0..self.len()).all(|v| !self.state(v).is_mine() || self.graph.successors(v).len() <= 1)
+    }
+}

@@ -1,0 +1,22 @@
+//! Who wins each vertex of a game, how, and an order that shows it. Nothing is promised of what is found but that it is found
+//! safely and in the end: who wants to believe it looks at the order.
+#![tactic(auto)]
+
+mod arranging;
+mod fixpoint;
+mod graph;
+mod improvement;
+mod lists;
+mod played;
+mod promotion;
+mod recursion;
+mod solver;
+mod succinct;
+mod table;
+mod winners;
+
+pub use arranging::arrange;
+pub use graph::Graph;
+pub use pg_search_components::{NONE, Placed};
+pub use played::Played;
+pub use winners::{Winners, find_winners};

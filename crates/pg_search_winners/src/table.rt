@@ -1,0 +1,172 @@
+//! What is known of each vertex while a game is solved, and attractors.
+
+use crate::graph::Graph;
+use pg_search_components::{NONE, at, count, put};
+use std::alloc::{AllocError, Global};
+
+/// The region of a vertex that Even or Odd wins is 0 or 1. Then come those that wait, the regions that a method makes for the
+/// time that it needs, from `FIRST` on, and what is free for the method.
+pub(crate) const WAITING: u32 = 2;
+
+pub(crate) const FIRST: u32 = 4;
+
+pub(crate) const FREE: u32 = u32::MAX;
+
+/// Rows of more successors are gone through from where the last search in them ended.
+const NARROW: usize = 16;
+
+/// Which vertices an attractor takes: for a player, those of regions from `low` on, to the region `mark`, which is lower.
+#[derive(Clone, Copy)]
+pub(crate) struct Attraction {
+    pub player: u32,
+    pub low: u32,
+    pub mark: u32,
+}
+
+#[derive(Drop)]
+pub(crate) struct Table {
+    pub regions: Vec<u32>,
+    /// What the winner, or who may become it, chooses at each vertex.
+    pub choices: Vec<u32>,
+    /// Where the last search in each row ended; no numbers where no row is long.
+    hints: Vec<u32>,
+    /// How many vertices and edges were looked at.
+    pub looks: u64,
+    /// What `look_ahead` saw last, which nobody asks for.
+    seen: u32,
+}
+
+impl Table {
+    /// A table in which all vertices wait.
+    pub fn new(alloc: Global, graph: &Graph) -> Result<Table, AllocError> {
+        let all = graph.len() as usize;
+        let is_wide = (0..graph.len()).any(|v| graph.successors(v).len() > NARROW);
+        let hints = if is_wide { all } else { 0 };
+        Ok(Table {
+            regions: vec![in alloc; WAITING; all]?,
+            choices: vec![in alloc; NONE; all]?,
+            hints: vec![in alloc; 0; hints]?,
+            looks: 0,
+            seen: 0,
+        })
+    }
+
+    /// The region of a vertex.
+    #[inline(always)]
+    pub fn region(&self, v: u32) -> u32 {
+        at(&self.regions, v)
+    }
+
+    /// Puts a vertex into a region.
+    #[inline(always)]
+    pub fn mark(&mut self, v: u32, region: u32) {
+        put(&mut self.regions, v, region);
+    }
+
+    /// Notes that so much was looked at.
+    #[inline(always)]
+    pub fn look(&mut self, many: usize) {
+        self.looks = self.looks.wrapping_add(many as u64);
+    }
+
+    /// The first of some vertices that is in the region `low` or a later one.
+    #[inline(always)]
+    pub fn first_from(&self, row: &[u32], low: u32) -> Option<u32> {
+        for w in row {
+            if self.region(*w) >= low {
+                return Some(*w);
+            }
+        }
+        None
+    }
+
+    /// Whether a vertex with this row leads into the region `low` or a later one.
+    #[inline(always)]
+    fn leads(&mut self, v: u32, row: &[u32], low: u32) -> bool {
+        if row.len() > NARROW {
+            return self.leads_by_hint(v, row, low);
+        }
+        self.first_from(row, low).is_some()
+    }
+
+    /// The same for a long row.
+    fn leads_by_hint(&mut self, v: u32, row: &[u32], low: u32) -> bool {
+        let mut place = at(&self.hints, v);
+        for _ in 0..row.len() {
+            if place as usize >= row.len() {
+                place = 0;
+            }
+            if self.region(at(row, place)) >= low {
+                put(&mut self.hints, v, place);
+                return true;
+            }
+            place = place.wrapping_add(1);
+        }
+        false
+    }
+
+    /// Attracts predecessors of a vertex.
+    #[inline(always)]
+    pub fn pull(
+        &mut self,
+        graph: &Graph,
+        list: &mut Vec<u32>,
+        target: u32,
+        attraction: Attraction,
+    ) -> Result<(), AllocError> {
+        let Attraction { player, low, mark } = attraction;
+        let predecessors = graph.predecessors(target);
+        self.look(predecessors.len());
+        for v in predecessors {
+            if self.region(*v) < low {
+                continue;
+            }
+            let mut choice = NONE;
+            if graph.owner(*v) == player {
+                choice = target;
+            } else if self.leads(*v, graph.successors(*v), low) {
+                continue;
+            }
+            put(&mut self.choices, *v, choice);
+            self.mark(*v, mark);
+            list.push(*v)?;
+        }
+        Ok(())
+    }
+
+    /// Attracts to the vertices of the list from a place on, and lists what is attracted.
+    pub fn attract(
+        &mut self,
+        graph: &Graph,
+        list: &mut Vec<u32>,
+        from: usize,
+        attraction: Attraction,
+    ) -> Result<(), AllocError> {
+        for place in from..usize::MAX {
+            let Some(target) = list.get(place).copied() else {
+                break;
+            };
+            self.look_ahead(graph, list, place);
+            self.pull(graph, list, target, attraction)?;
+        }
+        Ok(())
+    }
+
+    /// Reads what will be wanted soon, so that it isn't waited for then.
+    #[inline(always)]
+    fn look_ahead(&mut self, graph: &Graph, list: &[u32], place: usize) {
+        let mut seen = 0;
+        if let Some(target) = list.get(place.wrapping_add(12)) {
+            seen ^= count(graph.predecessors(*target).len());
+        }
+        if let Some(target) = list.get(place.wrapping_add(8)) {
+            seen ^= graph.predecessors(*target).first().copied().unwrap_or(0);
+        }
+        if let Some(target) = list.get(place.wrapping_add(4)) {
+            for v in graph.predecessors(*target).iter().take(4) {
+                seen ^= self.region(*v) ^ graph.owner(*v);
+            }
+        }
+        self.seen ^= seen;
+    }
+}

@@ -1,8 +1,0 @@
--- The last of the frames.
-use Rattle.pg_syntax.proofs.Common.{◌≡◌, List, [], ◌∷◌, ◌++◌, Some, refl, split_last}
-use Rattle.pg_syntax.specs.declared.formula.Frame.{Frame}
-
-pub split_pushed : (fs : List Frame) (f : Frame) → split_last (fs ++ (f ∷ [])) ≡ Some (fs, f)
-split_pushed [] f = refl
-split_pushed (g ∷ []) f = refl
-split_pushed (g ∷ h ∷ fs) f = rw (split_pushed (h ∷ fs) f) refl

@@ -1,5 +1,0 @@
-use Rattle.pg_syntax.proofs.Common.{◌≡◌, ℕ, map, marked}
-use Rattle.pg_syntax.proofs.preamble.marked.Given as goal
-
-abbrev pub invariant-loop-proposition : goal.invariant-loop-proposition
-invariant-loop-proposition l = l.marks.items ≡ marked (map {A = ℕ × ℕ} {B = ℕ} (λ x. x.0) l.controls) l.proposition
