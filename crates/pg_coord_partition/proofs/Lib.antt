@@ -3,3 +3,4 @@ pub mod Ranges
 pub mod Joining
 pub mod Reading
 pub mod Fitting
+pub mod VertexSets

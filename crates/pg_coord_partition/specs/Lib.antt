@@ -2,3 +2,4 @@ pub mod Cuts
 pub mod VertexSets
 pub mod Frames
 pub mod Links
+pub mod Mirrors

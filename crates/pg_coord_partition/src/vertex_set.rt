@@ -18,7 +18,7 @@ pub struct VertexSet {
 impl Model for VertexSet {
     ghost use Rattle.std.specs.Prelude.{length};
     ghost use Rattle.pg_coord_partition.specs.VertexSets.{VertexSetValue};
-    ghost use Rattle.pg_list_lemmas.specs.Mirrors.Worklists.{IsVertexSet};
+    ghost use Rattle.pg_coord_partition.specs.Mirrors.Listed.{IsVertexSet};
 
     ghost Value = { VertexSetValue };
 

@@ -2,7 +2,7 @@ use Rattle.std.proofs.Common.{◌≡◌, ◌<◌, ◌∷◌, [], ℕ, length, ge
 use Rattle.std.proofs.lemmas.Bool.{cases_lt}
 use Rattle.std.proofs.lemmas.List.{get_or_push, get_or_default}
 use Rattle.std.proofs.Math.ListN.{get_or-append}
-use Rattle.pg_list_lemmas.proofs.Stacks.{room_left, marked_listed}
+use Rattle.pg_coord_partition.proofs.VertexSets.{room_left, marked_listed}
 use Rattle.pg_coord_partition.proofs.vertex_set.VertexSet.add.Goals as goal
 
 pub push_reserved-requires : goal.push_reserved-requires

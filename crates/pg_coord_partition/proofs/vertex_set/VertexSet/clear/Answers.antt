@@ -1,8 +1,8 @@
 use Rattle.std.proofs.Common.{◌∷◌, ◌++◌, [], ap, subst, ◌∙◌, arith}
 use Rattle.std.proofs.lemmas.List.{length-set}
 use Rattle.std.specs.Option.{option_to_list}
-use Rattle.pg_list_lemmas.specs.Mirrors.Worklists.{IsVertexSet}
-use Rattle.pg_list_lemmas.proofs.Stacks.{unlisted, last_below}
+use Rattle.pg_coord_partition.specs.Mirrors.Listed.{IsVertexSet}
+use Rattle.pg_coord_partition.proofs.VertexSets.{unlisted, last_below}
 use Rattle.pg_coord_partition.proofs.vertex_set.VertexSet.clear.Goals as goal
 
 pub index_mut-requires : goal.index_mut-requires

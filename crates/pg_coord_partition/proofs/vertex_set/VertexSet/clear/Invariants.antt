@@ -1,6 +1,6 @@
 use Rattle.std.proofs.Common.{◌≡◌, length}
 use Rattle.std.specs.Prelude.{vec_len}
-use Rattle.pg_list_lemmas.specs.Mirrors.Worklists.{IsVertexSet}
+use Rattle.pg_coord_partition.specs.Mirrors.Listed.{IsVertexSet}
 use Rattle.pg_coord_partition.proofs.vertex_set.VertexSet.clear.Given as goal
 
 abbrev pub invariant-loop-v : goal.invariant-loop-v

@@ -1,8 +1,8 @@
 use Rattle.std.proofs.Common.{◌≡◌, ◌+◌, ℕ, get_or, ◌∙◌, arith}
 use Rattle.std.proofs.lemmas.Map.Keys.{ge_from_not_lt}
 use Rattle.std.proofs.lemmas.List.Sorted.{sum_by-IsPermutation}
-use Rattle.pg_list_lemmas.specs.Mirrors.Worklists.{times}
-use Rattle.pg_list_lemmas.proofs.Stacks.{rising_by, contains_times, times_contains}
+use Rattle.pg_coord_partition.specs.Mirrors.Listed.{times}
+use Rattle.pg_coord_partition.proofs.VertexSets.{rising_by, contains_times, times_contains}
 use Rattle.pg_coord_partition.proofs.vertex_set.VertexSet.sort.Goals as goal
 use Rattle.pg_coord_partition.proofs.vertex_set.VertexSet.sort.Goals.{After-sort_unstable}
 

@@ -7,7 +7,7 @@ use Rattle.std.proofs.lemmas.Bool.{cases_lt, cases_eq, eq-eqb, ne_eqb}
 use Rattle.std.proofs.lemmas.List.Kept.{AllPairs-from_increasing}
 use Rattle.std.proofs.lemmas.List.{get_or-set_same, get_or-set_other, get_or_past, length-set}
 use Rattle.std.proofs.lemmas.List.Sums.{sum_by-set, sum_by-cons, sum_by_push, count_by-le-length}
-use Rattle.pg_list_lemmas.specs.Mirrors.Worklists.{times, IsWorklist, IsVertexSet}
+use Rattle.pg_coord_partition.specs.Mirrors.Listed.{times, IsVertexSet}
 
 abbrev one : Bool → ℕ
 one b = cond b 1 0
@@ -82,42 +82,6 @@ less_at : (marked : List Bool) (v u n : ℕ) → v < length marked → get_or ma
     → n ≡ one (get_or (set marked v false) u false)
 less_at marked v u n lt on e = let z : one (get_or marked v false) ≡ 1 = ap one on in
     elim (changed_at marked v u false lt) [ inl h ↦ omega (arith, h.0, h.1, h.2) | inr h ↦ omega (arith, h.0, h.1) ]
-
-pub pushed : (stack next : List ℕ) (marked : List Bool) (room room' next_room v : ℕ) → IsWorklist stack next marked room next_room
-    → v < length marked → get_or marked v false ≡ false → room ≤ room'
-    → IsWorklist (stack ++ v ∷ []) next (set marked v true) room' next_room
-pushed stack next marked room room' next_room v w lt off le = record {
-  size = omega (arith, count_more marked v lt off, length-append stack (v ∷ []), w.size);
-  each = λ u. let e = w.each u in let p = times_push u stack v in let m = more_at marked v u (times u stack + times u next) lt off e in omega arith;
-  fits = simp length-set (omega (arith, w.fits));
-  next_fits = simp length-set w.next_fits;
-}
-
-pub swapped : (stack next : List ℕ) (marked : List Bool) (room next_room : ℕ) → IsWorklist stack next marked room next_room
-    → IsWorklist next stack marked next_room room
-swapped stack next marked room next_room w = record {
-  size = omega (arith, w.size);
-  each = λ u. let e = w.each u in omega arith;
-  fits = w.next_fits;
-  next_fits = w.fits;
-}
-
-pub top_marked : (stack next : List ℕ) (marked : List Bool) (room next_room v : ℕ) → IsWorklist (stack ++ v ∷ []) next marked room next_room
-    → get_or marked v false ≡ true
-top_marked stack next marked room next_room v w = on_by (get_or marked v false) (let e = w.each v in let p = times_push v stack v in
-    let s = same_is v v refl in omega arith)
-
-pub popped : (stack next : List ℕ) (marked : List Bool) (room room' next_room v : ℕ)
-    → IsWorklist (stack ++ v ∷ []) next marked room next_room → room ≤ room' → IsWorklist stack next (set marked v false) room' next_room
-popped stack next marked room room' next_room v w le =
-    let on = top_marked stack next marked room next_room v w in
-    let lt = marked_below marked v on in
-    record {
-      size = omega (arith, count_less marked v lt on, length-append stack (v ∷ []), w.size);
-      each = λ u. let e = w.each u in let p = times_push u stack v in less_at marked v u (times u stack + times u next) lt on (omega arith);
-      fits = simp length-set (omega (arith, w.fits));
-      next_fits = simp length-set w.next_fits;
-    }
 
 -- what is listed comes up at least once
 pub contains_times : (xs : List ℕ) (v i d : ℕ) → i < length xs → get_or xs i d ≡ v → 1 ≤ times v xs
