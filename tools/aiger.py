@@ -1,4 +1,4 @@
-"""Circuits in the AIGER format: those that `parsolve synth` prints, in the ASCII form, and the same in the binary form."""
+"""Circuits in the AIGER format, in the ASCII form and in the binary form, as any tool writes them."""
 import re
 from typing import NamedTuple
 
@@ -35,13 +35,52 @@ def read_ascii(text):
     greatest, *counts = numbers_of(lines[0][4:], 5, 1)
     if len(lines) < 1 + sum(counts):
         raise Fault("it ends too early")
+    first = 1 + counts[0]
+    lines[first:first + counts[1]] = [line.removesuffix(b" 0") if line.count(b" ") == 2 else line for line in lines[first:first + counts[1]]]
     widths = [width for width, count in zip((1, 2, 1, 3), counts) for _ in range(count)]
     rows = iter([numbers_of(line, width, number) for number, (line, width) in enumerate(zip(lines[1:], widths), 2)])
     inputs, latches, outputs, gates = ([next(rows) for _ in range(count)] for count in counts)
-    defined = [row[0] for row in inputs + latches + gates]
-    if defined != list(range(2, 2 * len(defined) + 2, 2)) or greatest != len(defined):
-        raise Fault("its variables aren't in the order in which synth prints them")
-    return Circuit([it for it, in inputs], latches, [it for it, in outputs], gates, names_of(lines[1 + len(widths):]))
+    return numbered(Circuit([it for it, in inputs], latches, [it for it, in outputs], gates, names_of(lines[1 + len(widths):])))
+
+
+def in_order(gates, known):
+    """The gates, each behind those that it uses, where these literals are known before."""
+    made, order, by = {*known}, [], {gate: (left, right) for gate, left, right in gates}
+    if len(by) < len(gates) or made & {*by}:
+        raise Fault("it defines a variable twice")
+    for gate in by:
+        stack = [gate]
+        while stack:
+            here = stack[-1]
+            waits = [it & -2 for it in by[here] if it & -2 not in made]
+            if here in made or not waits:
+                stack.pop()
+                if here not in made:
+                    made.add(here)
+                    order.append((here, *by[here]))
+            elif len(stack) > len(by) or waits[0] not in by:
+                raise Fault("its gates have a cycle, or use a variable that nothing defines")
+            else:
+                stack.append(waits[0])
+    return order
+
+
+def numbered(circuit):
+    """The same circuit with its variables in order: inputs, latches, gates, each behind those that it uses."""
+    sources = [0, *circuit.inputs, *(it for it, _ in circuit.latches)]
+    gates = in_order(circuit.gates, sources)
+    if len({*sources}) < len(sources) or any(it & 1 for it in [*sources, *(it for it, _, _ in gates)]):
+        raise Fault("it defines a variable twice, or a negation")
+    places = {it: 2 * place for place, it in enumerate([*sources, *(it for it, _, _ in gates)])}
+    if any(it & -2 not in places for it in [*circuit.outputs, *(after for _, after in circuit.latches)]):
+        raise Fault("it uses a variable that nothing defines")
+
+    def put(literal):
+        return places[literal & -2] | literal & 1
+
+    return Circuit([put(it) for it in circuit.inputs], [(put(it), put(after)) for it, after in circuit.latches],
+                   [put(it) for it in circuit.outputs], [(put(it), *sorted((put(left), put(right)), reverse=True)) for it, left, right in gates],
+                   circuit.names)
 
 
 def read_binary(text):
@@ -51,6 +90,7 @@ def read_binary(text):
     *lines, rest = text.split(b"\n", 1 + latches + outputs)
     if len(lines) < 1 + latches + outputs:
         raise Fault("it ends too early")
+    lines[1:1 + latches] = [line.removesuffix(b" 0") for line in lines[1:1 + latches]]
     literals = [numbers_of(line, 1, number)[0] for number, line in enumerate(lines[1:], 2)]
     place = 0
 
@@ -76,7 +116,7 @@ def read_binary(text):
 
 
 def read_circuit(text):
-    """A circuit in either form, with the variables in order: inputs, latches, gates, each behind those that it uses."""
+    """A circuit in either form; its variables are put in order: inputs, latches, gates, each behind those that it uses."""
     text = text[len(b"REALIZABLE\n"):] if text.startswith(b"REALIZABLE\n") else text
     if not text.startswith((b"aag ", b"aig ")):
         raise Fault("it begins neither with aag nor with aig")

@@ -12,10 +12,10 @@ use fault::{Fault, tell};
 use files::{read, read_both};
 use outs::name_outputs;
 use pg_cli::{
-    CliFault, Command, Line, MOST_BYTES, Programs, check_texts, replay_texts, work, write_answer,
+    CliFault, Command, Invocation, MOST_BYTES, Programs, check_texts, replay_texts, work, write_answer,
 };
 use pg_cli_statistics::{CountedTops, Figures, Notes, Watch, first_text};
-use pg_cli_words::{Request, Told, part_words, read_words};
+use pg_cli_words::{Request, Outcome, part_words, read_words};
 use pg_coord::Reach;
 use std::alloc::{AllocError, Global};
 use std::env;
@@ -220,7 +220,7 @@ fn do_line<'a, R: System, E: Write>(
     requires { (words : List (List ℕ)) × AsksFor words request.now.line }
 {
     match &request.line {
-        Line::Run(command, apart) => {
+        Invocation::Run(command, apart) => {
             let options = Options {
                 apart: apart.as_ref().map(|path| path.as_str()),
                 outs: request.outs.as_ref().map(|names| names.as_str()),
@@ -233,7 +233,7 @@ fn do_line<'a, R: System, E: Write>(
                 _ => answer(rt, errors, *command, options, files),
             }
         }
-        Line::Work(port) => match work(rt, rt.alloc(), *port) {
+        Invocation::Work(port) => match work(rt, rt.alloc(), *port) {
             Ok(()) => Ok(()),
             Err(fault) => Err(Fault::Cli(fault)),
         },
@@ -250,10 +250,10 @@ fn obey<R: System, E: Write>(rt: &R, errors: &mut E, words: &[String]) -> ExitCo
             Ok(()) => ExitCode::SUCCESS,
             Err(fault) => tell(errors, &fault),
         },
-        Err(Told::Asked) => ExitCode::SUCCESS,
-        Err(Told::Refused) => ExitCode::from(BAD_WORDS),
-        Err(Told::Unwritten) => tell(errors, &Fault::Cli(CliFault::Write)),
-        Err(Told::OutOfMemory) => tell(errors, &Fault::Cli(CliFault::OutOfMemory)),
+        Err(Outcome::Asked) => ExitCode::SUCCESS,
+        Err(Outcome::Refused) => ExitCode::from(BAD_WORDS),
+        Err(Outcome::Unwritten) => tell(errors, &Fault::Cli(CliFault::Write)),
+        Err(Outcome::OutOfMemory) => tell(errors, &Fault::Cli(CliFault::OutOfMemory)),
     }
 }
 

@@ -12,6 +12,6 @@ pub use pg_cli_command::{
     CliFault, Command, MOST_BYTES, check_texts, exit_code, laws, read_input, replay_texts, winners,
     write_fault,
 };
-pub use pg_cli_words::{Line, parse_words};
+pub use pg_cli_words::{Invocation, parse_words};
 pub use program::{answer, run, run_with, write_answer};
 pub use working::work;

@@ -7,7 +7,7 @@ ghost use Rattle.pg_cli.specs.Linked.{IsLeastOverTold};
 ghost use Rattle.pg_cli.specs.Mirrors.Finding.{IsFoundIf};
 
 use pg_arena::{Game, dual};
-use pg_cli_command::{Finder, Maps};
+use pg_cli_command::{Solver, Maps};
 use pg_cli_in_one_piece::InOnePiece;
 use pg_coord::{Link, solve, solve_within};
 use pg_coord_partition::fits_worker;
@@ -85,7 +85,7 @@ pub(crate) struct OverLinks<'a, L> {
     pub rounds: Rounds,
 }
 
-impl<L: Link> Finder for OverLinks<'_, L> {
+impl<L: Link> Solver for OverLinks<'_, L> {
     type Map = Found;
 
     ghost use Rattle.std.specs.Prelude.{◌≡◌, All};
@@ -93,10 +93,10 @@ impl<L: Link> Finder for OverLinks<'_, L> {
     ghost use Rattle.pg_cli.specs.Mirrors.Finding.{IsFoundIf};
     ghost use Rattle.pg_cli.specs.declared.over_links.Rounds.TheVariants.{Any};
 
-    ghost finds = { λ finder. IsFoundIf (All L.is_honest finder.links.now) };
+    ghost finds = { λ solver. IsFoundIf (All L.is_honest solver.links.now) };
 
-    ghost measures = { λ finder game map. finder.rounds ≡ Any
-        → IsLeastOverTold L.told finder.links.now game map };
+    ghost measures = { λ solver game map. solver.rounds ≡ Any
+        → IsLeastOverTold L.told solver.links.now game map };
 
     fn measure(&mut self, alloc: Global, game: &Game) -> Result<Found, AllocError> {
         if let Rounds::Any = self.rounds {

@@ -113,8 +113,8 @@ pub(crate) fn answer_over<L: Link, W: Write>(
     ensures unread { result ≢ Err CliFault.Read }
     ensures untouched { IfErr result (λ fault. fault ≢ CliFault.Write → writer.new ≡ writer.old) }
 {
-    let mut finder = OverLinks { links, rounds };
-    pg_cli_command::answer(alloc, command, text, &mut finder, writer)
+    let mut solver = OverLinks { links, rounds };
+    pg_cli_command::answer(alloc, command, text, &mut solver, writer)
 }
 
 /// As `run`, over the links that are given, at most 16: where the command solves a game, the game is cut evenly among them, and
@@ -150,9 +150,9 @@ pub fn run_with<L: Link, R: Read, W: Write>(
     ensures untouched { IfErr result (λ fault. fault ≢ CliFault.Write → writer.new ≡ writer.old) }
     ensures unused { IsNone (workers_of command) → links.new ≡ links.old }
 {
-    let mut finder = OverLinks {
+    let mut solver = OverLinks {
         links,
         rounds: Rounds::Any,
     };
-    run_by(alloc, command, &mut finder, reader, writer)
+    run_by(alloc, command, &mut solver, reader, writer)
 }

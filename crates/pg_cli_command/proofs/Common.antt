@@ -105,7 +105,7 @@ pub use Rattle.pg_cli_command.specs.Making.{IsGameFor, IsNoAutomaton, IsTooLarge
 pub use Rattle.pg_cli_command.specs.Measuring.{IsClosedMapOf, IsMeasureOf, IsMeasured, MapKind, RefusesMeasure, measure_line, measures_text}
 pub use Rattle.pg_cli_command.specs.Mirrors.Naming.{IsWithin}
 pub use Rattle.pg_cli_command.specs.Mirrors.Reading.{Keeps}
-pub use Rattle.pg_cli_command.specs.Mirrors.Solver.{IsUnsolved}
+pub use Rattle.pg_cli_command.specs.Mirrors.Unsolved.{IsUnsolved}
 pub use Rattle.pg_cli_command.specs.Mirrors.Synthesised.{Fits}
 pub use Rattle.pg_cli_command.specs.Mirrors.Working.{Fails, ShowsWhat}
 pub use Rattle.pg_cli_command.specs.Parts.{IsParted, Parting, separator}

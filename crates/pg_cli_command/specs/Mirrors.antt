@@ -2,6 +2,6 @@
 pub mod Reading
 pub mod Parting
 pub mod Naming
-pub mod Solver
+pub mod Unsolved
 pub mod Synthesised
 pub mod Working

@@ -4,7 +4,7 @@
 
 mod check;
 mod fault;
-mod finder;
+mod solver;
 mod game;
 mod input;
 pub mod laws;
@@ -15,13 +15,13 @@ mod printing;
 mod program;
 mod replay;
 mod solve;
-mod solver;
+mod solution;
 mod synth;
 pub mod winners;
 mod world_output;
 
 pub use fault::{CliFault, exit_code, write_fault};
-pub use finder::{Finder, Maps};
+pub use solver::{Solver, Maps};
 pub use input::{MOST_BYTES, read_input};
 pub use pg_cli_words::Command;
 pub use program::{answer, check_texts, replay_texts, run_by};

@@ -6,7 +6,7 @@ ghost use Rattle.pg_cli_command.specs.Measuring.{IsMeasured, RefusesMeasure, mea
 ghost use Rattle.pg_cli_command.specs.Mirrors.Working.{ShowsWhat, Fails};
 
 use crate::fault::CliFault;
-use crate::finder::Finder;
+use crate::solver::Solver;
 use crate::output::write_measure_line;
 use crate::printing::Answer;
 use pg_arena::{Game, Vertex};
@@ -66,21 +66,21 @@ impl<M: Measures + Drop> Answer for Measured<M> {
 }
 
 /// A map of the game that a text spells. The text is let go before the work begins.
-pub(crate) fn measure<F: Finder>(
+pub(crate) fn measure<F: Solver>(
     alloc: Global,
     text: Vec<u8>,
-    finder: &mut F,
+    solver: &mut F,
 ) -> Result<Measured<F::Map>, CliFault>
     ensures whole { IfOk result ⟦<Measured<F::Map> as Answer>⟧.is_whole }
     ensures answer { IfOk result
-        (ShowsWhat (IsMeasured (F.finds finder.old) text.items) ⟦<Measured<F::Map> as Answer>⟧.shows) }
+        (ShowsWhat (IsMeasured (F.finds solver.old) text.items) ⟦<Measured<F::Map> as Answer>⟧.shows) }
     ensures measured { IfOk result
-        (ShowsWhat (IsMeasured (F.measures finder.old) text.items) ⟦<Measured<F::Map> as Answer>⟧.shows) }
+        (ShowsWhat (IsMeasured (F.measures solver.old) text.items) ⟦<Measured<F::Map> as Answer>⟧.shows) }
     ensures refused { IfErr result (Fails (RefusesMeasure text.items)) }
 {
     let game = read_game(alloc, &text)?;
     drop(text);
-    let map = finder.measure(alloc, &game)?;
+    let map = solver.measure(alloc, &game)?;
     let room = room_for(alloc, &map)?;
     Ok(Measured { game, map, room })
 }

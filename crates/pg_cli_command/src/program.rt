@@ -12,7 +12,7 @@ ghost use Rattle.pg_cli_words.specs.Commands.{workers_of};
 
 use crate::check::check;
 use crate::fault::CliFault;
-use crate::finder::Finder;
+use crate::solver::Solver;
 use crate::game::game;
 use crate::input::{MOST_BYTES, read_input};
 use crate::measure::measure;
@@ -27,30 +27,30 @@ use std::io::{Read, Write};
 
 /// Writes the answer to a text, and nothing else: what `run_by` does once it has read its input. Refuses what `run_by` does
 /// from `NoSeparator` on, in the same order; never `Read` and never `InputTooLong`.
-pub fn answer<F: Finder, W: Write>(
+pub fn answer<F: Solver, W: Write>(
     alloc: Global,
     command: Command,
     text: Vec<u8>,
-    finder: &mut F,
+    solver: &mut F,
     writer: &mut W,
 ) -> Result<(), CliFault>
     requires limit { length text.items ≤ MOST_BYTES }
-    ensures answer { Answers (F.finds finder.old) command text.items (W.contents writer.old) (W.contents writer.new) result }
+    ensures answer { Answers (F.finds solver.old) command text.items (W.contents writer.old) (W.contents writer.new) result }
     ensures measured { (workers : ℕ) → command ≡ Command.Measure workers
-        → OnOk result ((output : List ℕ) × IsMeasured (F.measures finder.old) text.items output
+        → OnOk result ((output : List ℕ) × IsMeasured (F.measures solver.old) text.items output
         × Appends (W.contents writer.old) (W.contents writer.new) output) }
     ensures unread { result ≢ Err CliFault.Read }
     ensures untouched { IfErr result (λ fault. fault ≢ CliFault.Write → writer.new ≡ writer.old) }
-    ensures unused { IsNone (workers_of command) → finder.new ≡ finder.old }
+    ensures unused { IsNone (workers_of command) → solver.new ≡ solver.old }
 {
     match command {
-        Command::Measure { .. } => print(measure(alloc, text, finder), writer),
-        Command::Solve { .. } => print(solve(alloc, text, finder), writer),
-        Command::SolveAny { .. } => print(solve_any(alloc, text, finder), writer),
+        Command::Measure { .. } => print(measure(alloc, text, solver), writer),
+        Command::Solve { .. } => print(solve(alloc, text, solver), writer),
+        Command::SolveAny { .. } => print(solve_any(alloc, text, solver), writer),
         Command::Check => print(check(alloc, Texts::Joined(text)), writer),
         Command::Replay => print(replay(alloc, Texts::Joined(text)), writer),
         Command::Game => print(game(alloc, text), writer),
-        Command::Synth { .. } => print(synth(alloc, text, finder), writer),
+        Command::Synth { .. } => print(synth(alloc, text, solver), writer),
     }
 }
 
@@ -88,7 +88,7 @@ pub fn replay_texts<W: Write>(
 }
 
 /// Reads the whole input, and writes the answer to it and nothing else. Hand it a buffered writer, and flush that. Games are
-/// solved by the finder; a command that solves nothing leaves it alone. How many workers the command says is of no account.
+/// solved by the solver; a command that solves nothing leaves it alone. How many workers the command says is of no account.
 ///
 /// Refuses, in this order: `Read`; `InputTooLong` for more than 268,435,456 bytes, of which it reads the first one over
 /// the limit at most; `NoSeparator` where two texts are wanted and no line `--` parts them; `Text` for a text that
@@ -98,24 +98,24 @@ pub fn replay_texts<W: Write>(
 /// `Aiger`, of `synth` alone, for a controller whose circuit is; `Write`, after which nothing is said of how much went out.
 /// `OutOfMemory` may come at any growth. Nothing is written before the work is done, so after another fault than `Write`
 /// nothing was written.
-pub fn run_by<F: Finder, R: Read, W: Write>(
+pub fn run_by<F: Solver, R: Read, W: Write>(
     alloc: Global,
     command: Command,
-    finder: &mut F,
+    solver: &mut F,
     reader: &mut R,
     writer: &mut W,
 ) -> Result<(), CliFault>
     ensures answer { IfSome (R.remaining reader.old) (λ input.
-        Answers (F.finds finder.old) command input (W.contents writer.old) (W.contents writer.new) result) }
+        Answers (F.finds solver.old) command input (W.contents writer.old) (W.contents writer.new) result) }
     ensures measured { (workers : ℕ) → command ≡ Command.Measure workers
         → OnOk result (IfSome (R.remaining reader.old) (λ input.
-        (output : List ℕ) × IsMeasured (F.measures finder.old) input output
+        (output : List ℕ) × IsMeasured (F.measures solver.old) input output
         × Appends (W.contents writer.old) (W.contents writer.new) output)) }
     // Whatever comes of it, no byte behind the first one over the limit is read.
     ensures no_further { StaysWithin (R.remaining reader.old) (R.remaining reader.new) (MOST_BYTES + 1) }
     ensures untouched { IfErr result (λ fault. fault ≢ CliFault.Write → writer.new ≡ writer.old) }
-    ensures unused { IsNone (workers_of command) → finder.new ≡ finder.old }
+    ensures unused { IsNone (workers_of command) → solver.new ≡ solver.old }
 {
     let text = read_input(alloc, reader)?;
-    answer(alloc, command, text, finder, writer)
+    answer(alloc, command, text, solver, writer)
 }

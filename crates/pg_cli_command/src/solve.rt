@@ -7,9 +7,9 @@ ghost use Rattle.pg_cli_command.specs.Solving.{IsSolved, IsSolvedAnyhow, Refuses
 ghost use Rattle.pg_cli_command.specs.Mirrors.Working.{ShowsWhat, Fails};
 
 use crate::fault::CliFault;
-use crate::finder::Finder;
+use crate::solver::Solver;
 use crate::printing::Answer;
-use crate::solver::{any_solution_of, solution_of};
+use crate::solution::{any_solution_of, solution_of};
 use pg_arena::Game;
 use pg_text::{Solution, read_game, write_solution};
 use std::alloc::Global;
@@ -33,37 +33,37 @@ impl Answer for Solved {
 }
 
 /// The solution of a map of the game that a text spells and of one of its dual. The text is let go before the work begins.
-pub(crate) fn solve<F: Finder>(
+pub(crate) fn solve<F: Solver>(
     alloc: Global,
     text: Vec<u8>,
-    finder: &mut F,
+    solver: &mut F,
 ) -> Result<Solved, CliFault>
     ensures whole { IfOk result ⟦<Solved as Answer>⟧.is_whole }
-    ensures answer { IfOk result (ShowsWhat (IsSolved (F.finds finder.old) text.items) ⟦<Solved as Answer>⟧.shows) }
-    ensures refused { IfErr result (Fails (RefusesSolve (F.finds finder.old) text.items)) }
+    ensures answer { IfOk result (ShowsWhat (IsSolved (F.finds solver.old) text.items) ⟦<Solved as Answer>⟧.shows) }
+    ensures refused { IfErr result (Fails (RefusesSolve (F.finds solver.old) text.items)) }
 {
     let game = read_game(alloc, &text)?;
     // asked for what its contract says of the game
     let _vertices = game.len();
     drop(text);
-    let solution = solution_of(alloc, &game, finder)?;
+    let solution = solution_of(alloc, &game, solver)?;
     Ok(Solved { game, solution })
 }
 
 /// A sound solution of the game that a text spells, whichever is found. The text is let go before the work begins.
-pub(crate) fn solve_any<F: Finder>(
+pub(crate) fn solve_any<F: Solver>(
     alloc: Global,
     text: Vec<u8>,
-    finder: &mut F,
+    solver: &mut F,
 ) -> Result<Solved, CliFault>
     ensures whole { IfOk result ⟦<Solved as Answer>⟧.is_whole }
     ensures answer { IfOk result (ShowsWhat (IsSolvedAnyhow text.items) ⟦<Solved as Answer>⟧.shows) }
-    ensures refused { IfErr result (Fails (RefusesSolve (F.finds finder.old) text.items)) }
+    ensures refused { IfErr result (Fails (RefusesSolve (F.finds solver.old) text.items)) }
 {
     let game = read_game(alloc, &text)?;
     // asked for what its contract says of the game
     let _vertices = game.len();
     drop(text);
-    let solution = any_solution_of(alloc, &game, finder)?;
+    let solution = any_solution_of(alloc, &game, solver)?;
     Ok(Solved { game, solution })
 }

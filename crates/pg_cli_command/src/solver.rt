@@ -1,47 +1,43 @@
-//! Games that are solved by the maps that are found of them.
+//! Methods of solving.
 
-ghost use Rattle.std.specs.Prelude.{IfOk, IfErr};
-ghost use Rattle.pg_arena.specs.Games.{HasPrioritiesUpTo};
-ghost use Rattle.pg_text.specs.Solutions.{IsSolution};
-ghost use Rattle.pg_check.specs.Soundness.{IsSound, IsSoundSolution};
-ghost use Rattle.pg_cli_command.specs.Solving.{IsSolvedBy};
-ghost use Rattle.pg_cli_command.specs.Mirrors.Solver.{IsUnsolved};
+ghost use Rattle.std.specs.Prelude.{List, IfOk};
+ghost use Rattle.pg_arena.specs.Games.{GameVertex, HasPrioritiesUpTo, dual};
+ghost use Rattle.pg_map.specs.Maps.{MapValue};
+ghost use Rattle.pg_cli_command.specs.Measuring.{MapKind, IsClosedMapOf};
 
-use crate::fault::CliFault;
-use crate::finder::Finder;
 use pg_arena::Game;
-use pg_check::{find_solution, strategies};
-use pg_text::Solution;
-use std::alloc::Global;
+use pg_map::Measures;
+use std::alloc::{AllocError, Global};
 
-/// The solution of a map of a game and of one of its dual.
-pub(crate) fn solution_of<F: Finder>(
-    alloc: Global,
-    game: &Game,
-    finder: &mut F,
-) -> Result<Solution, CliFault>
-    requires { HasPrioritiesUpTo 65535 game.now }
-    ensures solved { IfOk result (IsSolvedBy (F.finds finder.old) game.now) }
-    ensures solution { IfOk result (IsSolution game.now) }
-    ensures sound { IfOk result (IsSound game.now) }
-    ensures refused { IfErr result (IsUnsolved (F.finds finder.old) game.now) }
-{
-    let maps = finder.solve(alloc, game)?;
-    Ok(strategies(alloc, game, &maps.of_game, &maps.of_dual)?)
+/// A map of a game, and one of its dual.
+#[derive(Drop)]
+pub struct Maps<M> {
+    pub of_game: M,
+    pub of_dual: M,
 }
 
-/// A sound solution of a game: one that is found at once, and else that of a map of the game and of one of its dual.
-pub(crate) fn any_solution_of<F: Finder>(
-    alloc: Global,
-    game: &Game,
-    finder: &mut F,
-) -> Result<Solution, CliFault>
-    requires { HasPrioritiesUpTo 65535 game.now }
-    ensures sound { IfOk result (IsSoundSolution game.now) }
-    ensures refused { IfErr result (IsUnsolved (F.finds finder.old) game.now) }
-{
-    match find_solution(alloc, game)? {
-        Some(solution) => Ok(solution),
-        None => solution_of(alloc, game, finder),
-    }
+/// What finds maps of games: a method of solving.
+pub trait Solver {
+    /// How the maps that it finds keep their measures.
+    type Map: Measures + Drop;
+
+    /// Of which kind the maps are that it finds. They are closed.
+    ghost finds: { Self → MapKind };
+
+    /// Of which kind the map is besides that `measure` finds.
+    ghost measures: { Self → MapKind };
+
+    /// A map of a game.
+    fn measure(&mut self, alloc: Global, game: &Game) -> Result<Self::Map, AllocError>
+        ensures found { IfOk result (λ map. finds self.old game.now (Self.Map.map map)) }
+        ensures measured { IfOk result (λ map. measures self.old game.now (Self.Map.map map)) };
+
+    /// A map of a game, and one of its dual.
+    fn solve(&mut self, alloc: Global, game: &Game) -> Result<Maps<Self::Map>, AllocError>
+        requires priorities { HasPrioritiesUpTo 65535 game.now }
+        ensures of_game { IfOk result (λ maps. finds self.old game.now (Self.Map.map maps.of_game)) }
+        ensures of_dual { IfOk result (λ maps. finds self.old (dual game.now) (Self.Map.map maps.of_dual)) };
+
+    ghost closed: { (solver : Self) (game : List GameVertex) (map : MapValue) → finds solver game map
+        → IsClosedMapOf game map };
 }

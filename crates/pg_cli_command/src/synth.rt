@@ -7,9 +7,9 @@ ghost use Rattle.pg_cli_command.specs.Mirrors.Synthesised.{Fits, outcome_text};
 ghost use Rattle.pg_cli_command.specs.Mirrors.Working.{ShowsWhat, Fails};
 
 use crate::fault::CliFault;
-use crate::finder::Finder;
+use crate::solver::Solver;
 use crate::printing::Answer;
-use crate::solver::solution_of;
+use crate::solution::solution_of;
 use pg_aiger::{AigerFault, Circuit, circuit_of, write_circuit};
 use pg_hoa::{Automaton, read_automaton};
 use pg_synth::{game_of, mealy_of};
@@ -53,22 +53,22 @@ impl Answer for Synthesised {
 
 /// Whether there is a controller under which each run of the automaton that a text spells is accepted, and the circuit of one.
 /// The text is let go before the game is made, and the game before the circuit is.
-pub(crate) fn synth<F: Finder>(
+pub(crate) fn synth<F: Solver>(
     alloc: Global,
     text: Vec<u8>,
-    finder: &mut F,
+    solver: &mut F,
 ) -> Result<Synthesised, CliFault>
     ensures whole { IfOk result ⟦<Synthesised as Answer>⟧.is_whole }
     ensures answer { IfOk result
-        (ShowsWhat (IsSynthesised (F.finds finder.old) text.items) ⟦<Synthesised as Answer>⟧.shows) }
-    ensures refused { IfErr result (Fails (RefusesSynth (F.finds finder.old) text.items)) }
+        (ShowsWhat (IsSynthesised (F.finds solver.old) text.items) ⟦<Synthesised as Answer>⟧.shows) }
+    ensures refused { IfErr result (Fails (RefusesSynth (F.finds solver.old) text.items)) }
 {
     let automaton = read_automaton(alloc, &text)?;
     drop(text);
     // asked for what its contract says of the automaton
     let _states = automaton.states();
     let made = game_of(alloc, &automaton)?;
-    let solution = solution_of(alloc, &made.game, finder)?;
+    let solution = solution_of(alloc, &made.game, solver)?;
     let Some(machine) = mealy_of(alloc, &automaton, &made, &solution)? else {
         return Ok(Synthesised {
             automaton,

@@ -2,7 +2,7 @@
 #![tactic(auto)]
 
 use pg_arena::Game;
-use pg_cli_command::{Finder, Maps};
+use pg_cli_command::{Solver, Maps};
 use pg_solver::Found;
 use std::alloc::{AllocError, Global};
 
@@ -10,7 +10,7 @@ use std::alloc::{AllocError, Global};
 #[derive(Clone, Copy)]
 pub struct InOnePiece;
 
-impl Finder for InOnePiece {
+impl Solver for InOnePiece {
     type Map = Found;
 
     ghost use Rattle.pg_cli_command.specs.Measuring.{IsMeasureOf};

@@ -1,25 +1,25 @@
 //! What words name. Those that are refused, and the helps, are shown by rows of the program.
 
-use pg_cli::{Command, Line, parse_words};
+use pg_cli::{Command, Invocation, parse_words};
 use pg_cli_words::{Request, parse_request};
 use std::alloc::Global;
 
 /// Whether the words name this command, and no program of the workers.
 fn names(alloc: Global, words: &[&str], command: Command) -> bool {
     let line = parse_words(alloc, words);
-    matches!(&line, Ok(Line::Run(named, None)) if *named == command)
+    matches!(&line, Ok(Invocation::Run(named, None)) if *named == command)
 }
 
 /// Whether the words name this command, and this program of the workers.
 fn names_apart(alloc: Global, words: &[&str], command: Command, program: &str) -> bool {
     let line = parse_words(alloc, words);
-    matches!(&line, Ok(Line::Run(named, Some(path))) if *named == command && path.as_str() == program)
+    matches!(&line, Ok(Invocation::Run(named, Some(path))) if *named == command && path.as_str() == program)
 }
 
 /// Whether the words name this port of a worker.
 fn names_port(alloc: Global, words: &[&str], port: u16) -> bool {
     let line = parse_words(alloc, words);
-    matches!(&line, Ok(Line::Work(named)) if *named == port)
+    matches!(&line, Ok(Invocation::Work(named)) if *named == port)
 }
 
 #[test]

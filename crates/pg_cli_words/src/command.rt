@@ -17,17 +17,26 @@ pub enum Command {
     Game,
     /// Prints whether an automaton has a controller under which each run is accepted, and the circuit of one.
     Synth { workers: u32 },
+    /// Prints the same, and a small circuit.
+    SynthSmall { workers: u32 },
+    /// Prints whether an automaton accepts each run of a circuit, and if not, the inputs of a run that it doesn't accept. Inputs and
+    /// outputs go by their names, or by their places.
+    Verify { workers: u32, by_place: bool },
+    /// Prints whether an automaton accepts exactly the words that satisfy a formula, and if not, a word on which they differ.
+    Means,
+    /// Prints an automaton that accepts exactly the words that satisfy a formula.
+    Automaton,
 }
 
 impl Command {
-    ghost use Rattle.std.specs.Prelude.{◌≡◌, ◌≢◌, ◌∷◌, [], IfSome, IfNone};
+    ghost use Rattle.std.specs.Prelude.{◌≡◌, ◌≢◌, ◌∷◌, [], false, IfSome, IfNone};
     ghost use Rattle.pg_cli_words.specs.declared.command.Command.{Command};
     ghost use Rattle.pg_cli_words.specs.Commands.{command_name, workers_of};
 
     /// Every command that has a name of its own, in the order of the help, with so many workers where it solves.
-    pub fn all(workers: u32) -> [Command; 6]
+    pub fn all(workers: u32) -> [Command; 9]
         ensures { result ≡ Command.Measure workers ∷ Command.Solve workers ∷ Command.Check ∷ Command.Replay
-            ∷ Command.Game ∷ Command.Synth workers ∷ [] }
+            ∷ Command.Game ∷ Command.Synth workers ∷ Command.Verify workers false ∷ Command.Means ∷ Command.Automaton ∷ [] }
     {
         [
             Command::Measure { workers },
@@ -36,6 +45,12 @@ impl Command {
             Command::Replay,
             Command::Game,
             Command::Synth { workers },
+            Command::Verify {
+                workers,
+                by_place: false,
+            },
+            Command::Means,
+            Command::Automaton,
         ]
     }
 
@@ -49,7 +64,10 @@ impl Command {
             Command::Check => "check",
             Command::Replay => "replay",
             Command::Game => "game",
-            Command::Synth { .. } => "synth",
+            Command::Synth { .. } | Command::SynthSmall { .. } => "synth",
+            Command::Verify { .. } => "verify",
+            Command::Means => "means",
+            Command::Automaton => "automaton",
         }
     }
 
@@ -61,8 +79,14 @@ impl Command {
             Command::Measure { workers }
             | Command::Solve { workers }
             | Command::SolveAny { workers }
-            | Command::Synth { workers } => Some(workers),
-            Command::Check | Command::Replay | Command::Game => None,
+            | Command::Synth { workers }
+            | Command::SynthSmall { workers }
+            | Command::Verify { workers, .. } => Some(workers),
+            Command::Check
+            | Command::Replay
+            | Command::Game
+            | Command::Means
+            | Command::Automaton => None,
         }
     }
 

@@ -9,15 +9,17 @@ const VALUED: [&str; 3] = ["--workers", "--apart", "--outs"];
 /// The word that stands for standard input.
 pub const STANDARD_INPUT: &str = "-";
 
-/// How many files a command takes: a game or an automaton; or a game and what belongs to it.
+/// How many files a command takes: a game, an automaton or a formula; or a game or an automaton and what belongs to it.
 fn count_of(command: Command) -> usize {
     match command {
         Command::Measure { .. }
         | Command::Solve { .. }
         | Command::SolveAny { .. }
         | Command::Game
-        | Command::Synth { .. } => 1,
-        Command::Check | Command::Replay => 2,
+        | Command::Synth { .. }
+        | Command::SynthSmall { .. }
+        | Command::Automaton => 1,
+        Command::Check | Command::Replay | Command::Verify { .. } | Command::Means => 2,
     }
 }
 

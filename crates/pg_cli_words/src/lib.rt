@@ -3,10 +3,10 @@
 
 mod command;
 mod files;
-mod told;
+mod outcome;
 mod words;
 
 pub use command::Command;
 pub use files::{Parted, STANDARD_INPUT, part_words};
-pub use told::{Told, read_words};
-pub use words::{Line, Request, parse_request, parse_words};
+pub use outcome::{Outcome, read_words};
+pub use words::{Invocation, Request, parse_request, parse_words};

@@ -11,7 +11,7 @@ use std::alloc::Global;
 
 /// What a command line asks for.
 #[derive(Debug, Drop)]
-pub enum Line {
+pub enum Invocation {
     /// A command, which writes standard output; and the program to start as each of its workers, where they aren't to be in
     /// this process.
     Run(Command, Option<String>),
@@ -22,7 +22,7 @@ pub enum Line {
 /// A command line: what it asks for, and what goes with that.
 #[derive(Debug, Drop)]
 pub struct Request {
-    pub line: Line,
+    pub line: Invocation,
     /// The names of the outputs, with commas between, where they are given in place of a header.
     pub outs: Option<String>,
     /// Whether figures are to be told behind the answer.
@@ -41,6 +41,12 @@ const APART: &str = "apart";
 
 /// The option that asks for any strategy that wins.
 const ANY: &str = "any";
+
+/// The option that asks for a small circuit.
+const SMALL: &str = "small";
+
+/// The option that takes inputs and outputs of a circuit by their places.
+const BY_PLACE: &str = "by-place";
 
 /// The option that names the outputs of an automaton.
 const OUTS: &str = "outs";
@@ -61,7 +67,8 @@ const ABOUT: &str = "Solves parity games; the answers are proved";
 
 const MORE: &str = "\
 Each command reads the files that it is given (`-` is standard input), or standard input where it is given none, and writes
-standard output. Games and solutions are in the format of PGSolver, automata in HOA v1.
+standard output. Games and solutions are in the format of PGSolver, automata in HOA v1, circuits in AIGER, and formulas in the
+syntax of Spot.
 
 Exit status:
   0  an answer was printed
@@ -164,9 +171,49 @@ Input: an automaton in HOA v1 with the header `controllable-AP`, or without it w
 controllable: deterministic, with a parity condition, labels on edges; by `parsolve synth AUTOMATON` from a file, and else from standard input
 Output: `REALIZABLE` and a circuit in the ASCII form of AIGER, whose inputs are the propositions that aren't controllable
 and whose outputs are those that are: under it every run is accepted, whatever the inputs. Or `UNREALIZABLE`, if there is
-no such controller.
+no such controller. With `--small` the circuit is a small one, under which every run is accepted too.
 
 Example: parsolve synth examples/request-grant.hoa",
+};
+
+const VERIFY: Help = Help {
+    about: "Prints whether an automaton accepts each run of a circuit",
+    usage: "parsolve verify [OPTIONS] [AUTOMATON CIRCUIT]",
+    more: "\
+Input: an automaton, as `synth` reads it, and a circuit in AIGER, ASCII or binary, by `parsolve verify AUTOMATON CIRCUIT` from
+two files, and else from standard input, with a line `--` between. What `synth` prints is taken as it is. The symbols of the
+circuit's inputs and outputs are the names of the propositions; with `--by-place` their order is that of the propositions.
+Output: `ACCEPTED` if, whatever the inputs, the circuit has exactly one run and the automaton accepts it; `STUCK` and a line of
+inputs for each step, after which the automaton has no edge for what the circuit makes; or `REJECTED`, lines of inputs, a line
+`loop`, and the lines that come round for ever: the automaton doesn't accept the run on these inputs. A line has a 0 or a 1
+for each input, in the order of the circuit's inputs.
+
+Example: parsolve synth examples/arbiter.hoa > arbiter.aag; parsolve verify examples/arbiter.hoa arbiter.aag",
+};
+
+const MEANS: Help = Help {
+    about: "Prints whether an automaton accepts exactly the words that satisfy a formula",
+    usage: "parsolve means [OPTIONS] [AUTOMATON FORMULA]",
+    more: "\
+Input: an automaton in HOA v1, deterministic, with a parity condition, labels on edges, and a formula of linear temporal logic
+in the syntax of Spot, by `parsolve means AUTOMATON FORMULA` from two files, and else from standard input, with a line `--`
+between. Several formulas, each ended by `;`, have to hold together.
+Output: `SAME`; or `DIFFERS`, a line that says which of the two takes the word, and the word: a line for each step with the
+propositions that hold (`-` for none), a line `loop`, and the lines that come round for ever.
+
+Example: printf 'G(request -> F grant)' | cat examples/request-grant.hoa <(echo --) - | parsolve means",
+};
+
+const AUTOMATON: Help = Help {
+    about: "Prints an automaton that accepts exactly the words that satisfy a formula",
+    usage: "parsolve automaton [OPTIONS] [FORMULA]",
+    more: "\
+Input: a formula of linear temporal logic in the syntax of Spot, by `parsolve automaton FORMULA` from a file, and else from
+standard input. Several formulas, each ended by `;`, have to hold together.
+Output: a deterministic parity automaton in HOA v1 that accepts exactly the words that satisfy the formula. With `--outs` it has
+the header `controllable-AP`, so that `synth` makes a controller under which each run satisfies the formula.
+
+Example: echo 'G(request -> F grant)' | parsolve automaton --outs grant | parsolve synth",
 };
 
 const WORKER_MORE: &str = "\
@@ -206,6 +253,28 @@ fn any_option<'a>(alloc: Global) -> Result<Arg<'a>, Error> {
     )
 }
 
+/// The option `--small`.
+fn small_option<'a>(alloc: Global) -> Result<Arg<'a>, Error> {
+    Ok(
+        Arg::new(alloc, SMALL)
+            .long(SMALL)
+            .help("Print a small circuit; each of its runs is accepted too")
+            .action(ArgAction::SetTrue)
+            .conflicts_with(WORKERS)?
+            .conflicts_with(APART)?,
+    )
+}
+
+/// The option `--by-place`.
+fn by_place_option<'a>(alloc: Global) -> Arg<'a> {
+    Arg::new(alloc, BY_PLACE)
+        .long(BY_PLACE)
+        .help(
+            "Take the circuit's inputs and outputs in the order of the propositions, and not by their names",
+        )
+        .action(ArgAction::SetTrue)
+}
+
 /// The option `--outs NAMES`.
 fn outs_option<'a>(alloc: Global) -> Arg<'a> {
     Arg::new(alloc, OUTS)
@@ -236,31 +305,34 @@ fn port_option<'a>(alloc: Global) -> Arg<'a> {
         .value_parser(clap::value_parser!(u16).range(1..))
 }
 
-/// The command as the command line knows it, with this help; one that solves has the options `--workers` and `--apart`.
+/// The command as the command line knows it, with this help.
 fn helped<'a>(alloc: Global, command: Command, help: Help) -> Result<Program<'a>, Error> {
     let (name, about, more): (&'a str, &'a str, &'a str) = (command.name(), help.about, help.more);
     let usage: &'a str = help.usage;
-    let program = Program::new(alloc, name)
-        .about(about)
-        .override_usage(usage)
-        .after_help(more);
-    match command.workers() {
-        Some(_) => Ok(
-            program
-                .arg(workers_option(alloc))?
-                .arg(apart_option(alloc))?,
-        ),
-        None => Ok(program),
-    }
+    Ok(
+        Program::new(alloc, name)
+            .about(about)
+            .override_usage(usage)
+            .after_help(more),
+    )
+}
+
+/// The same of a command whose game workers can solve.
+fn shared<'a>(alloc: Global, command: Command, help: Help) -> Result<Program<'a>, Error> {
+    Ok(
+        helped(alloc, command, help)?
+            .arg(workers_option(alloc))?
+            .arg(apart_option(alloc))?,
+    )
 }
 
 /// The command as the command line knows it.
 fn subcommand<'a>(alloc: Global, command: Command) -> Result<Program<'a>, Error> {
     let stats = stats_option(alloc);
     match command {
-        Command::Measure { .. } => Ok(helped(alloc, command, MEASURE)?.arg(stats)?),
+        Command::Measure { .. } => Ok(shared(alloc, command, MEASURE)?.arg(stats)?),
         Command::Solve { .. } | Command::SolveAny { .. } => Ok(
-            helped(alloc, command, SOLVE)?
+            shared(alloc, command, SOLVE)?
                 .arg(any_option(alloc)?)?
                 .arg(stats)?,
         ),
@@ -271,8 +343,21 @@ fn subcommand<'a>(alloc: Global, command: Command) -> Result<Program<'a>, Error>
                 .arg(outs_option(alloc))?
                 .arg(stats)?,
         ),
-        Command::Synth { .. } => Ok(
-            helped(alloc, command, SYNTH)?
+        Command::Synth { .. } | Command::SynthSmall { .. } => Ok(
+            shared(alloc, command, SYNTH)?
+                .arg(small_option(alloc)?)?
+                .arg(outs_option(alloc))?
+                .arg(stats)?,
+        ),
+        Command::Verify { .. } => Ok(
+            helped(alloc, command, VERIFY)?
+                .arg(by_place_option(alloc))?
+                .arg(outs_option(alloc))?
+                .arg(stats)?,
+        ),
+        Command::Means => Ok(helped(alloc, command, MEANS)?.arg(stats)?),
+        Command::Automaton => Ok(
+            helped(alloc, command, AUTOMATON)?
                 .arg(outs_option(alloc))?
                 .arg(stats)?,
         ),
@@ -351,23 +436,28 @@ fn port_in(matches: &ArgMatches<'_>) -> Option<u16>
 }
 
 /// What the words ask for whose second word is the name.
-fn line_of(alloc: Global, name: &str, matches: &ArgMatches<'_>) -> Result<Option<Line>, Error>
+fn line_of(alloc: Global, name: &str, matches: &ArgMatches<'_>) -> Result<Option<Invocation>, Error>
     ensures { IfOk result (λ line. IfSome line (IsLineOf name.now)) }
 {
     if name == WORKER {
         let Some(port) = port_in(matches) else {
             return Ok(None);
         };
-        return Ok(Some(Line::Work(port)));
+        return Ok(Some(Invocation::Work(port)));
     }
     let Some(command) = Command::named(name, workers_in(matches)) else {
         return Ok(None);
     };
     let command = match command {
         Command::Solve { workers } if has_flag(matches, ANY) => Command::SolveAny { workers },
+        Command::Synth { workers } if has_flag(matches, SMALL) => Command::SynthSmall { workers },
+        Command::Verify { workers, .. } => Command::Verify {
+            workers,
+            by_place: has_flag(matches, BY_PLACE),
+        },
         _ => command,
     };
-    Ok(Some(Line::Run(command, value_in(alloc, matches, APART)?)))
+    Ok(Some(Invocation::Run(command, value_in(alloc, matches, APART)?)))
 }
 
 /// Reads a command line, whose first word is the program's own name. The error is `clap`'s: its text, and whether it
@@ -389,7 +479,7 @@ pub fn parse_request(alloc: Global, words: &[&str]) -> Result<Request, Error>
 }
 
 /// What a command line asks for, without what goes with that. The error is that of `parse_request`.
-pub fn parse_words(alloc: Global, words: &[&str]) -> Result<Line, Error>
+pub fn parse_words(alloc: Global, words: &[&str]) -> Result<Invocation, Error>
     ensures { IfOk result (AsksFor (map (λ word. word.now) words.now)) }
 {
     let Request { line, .. } = parse_request(alloc, words)?;

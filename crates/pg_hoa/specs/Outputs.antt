@@ -1,9 +1,8 @@
 -- Automata whose outputs are named apart from their text.
-use Rattle.std.specs.Prelude.{◌≡◌, ◌≢◌, ℕ, ◌==◌, Bool, List, [], length, map, get_or, Contains, codes, true}
+use Rattle.std.specs.Prelude.{◌≡◌, ℕ, ◌==◌, ◌<◌, Bool, true, false, List, [], length, map, get_or, Contains, codes}
 use Rattle.std.specs.List.{All, filter, list_any, range_with_len}
 use Rattle.std.specs.Str.{bytes_eq}
 use Rattle.pg_hoa_automaton.specs.Automata.{Automaton}
-use Rattle.pg_hoa_syntax.specs.Syntax.{Written, IsText}
 use Rattle.pg_hoa_syntax.specs.Headers.{has_header}
 use Rattle.pg_hoa.specs.AutomatonText.{Spelt, IsRefused}
 use Rattle.pg_hoa.specs.declared.outputs.OutputsFault.{OutputsFault}
@@ -30,14 +29,27 @@ pub record HasOutputs (bytes : List ℕ) (names : List (List ℕ)) (text : List 
   pub known : All (λ name. Contains automaton.propositions name) names
   pub given : Spelt text (with_outputs names automaton)
 
--- the text spells an automaton that has no proposition of the name at this place
+-- the name at this place is the first that isn't among the propositions
+pub record IsFirstUnknown (propositions names : List (List ℕ)) (place : ℕ) : Type 0 where
+  pub within : place < length names
+  pub unknown : Contains propositions (get_or names place []) → ⊥
+  pub first : (k : ℕ) → k < place → Contains propositions (get_or names k [])
+
+-- the text spells an automaton, and says by a header what the controller sets
+pub record HasControls (bytes : List ℕ) : Type 0 where
+  pub automaton : Automaton
+  pub spelt : Spelt bytes automaton
+  pub header : has_header (codes "controllable-AP") spelt.written ≡ true
+
+-- the text spells an automaton and has no such header, and the name at this place is the first that no proposition has
 pub record LacksOutput (bytes : List ℕ) (names : List (List ℕ)) (place : ℕ) : Type 0 where
   pub automaton : Automaton
   pub spelt : Spelt bytes automaton
-  pub lacks : Contains automaton.propositions (get_or names place []) → ⊥
+  pub free : has_header (codes "controllable-AP") spelt.written ≡ false
+  pub lacks : IsFirstUnknown automaton.propositions names place
 
 -- Why there is no such second text. Each text may be refused for want of memory.
 abbrev pub RefusesOutputs : List ℕ → List (List ℕ) → OutputsFault → Type 0
 RefusesOutputs bytes names (Text fault) = IsRefused bytes fault
-RefusesOutputs bytes names Controlled = (w : Written) → IsText bytes w → has_header (codes "controllable-AP") w ≡ true
+RefusesOutputs bytes names Controlled = HasControls bytes
 RefusesOutputs bytes names (NoProposition place) = LacksOutput bytes names place

@@ -1,10 +1,10 @@
 //! Outputs that are named apart from the text.
 
-ghost use Rattle.std.specs.Prelude.{◌≡◌, ◌<◌, ◌++◌, ◌∷◌, [], length, map, get_or, Contains, MatchBool, MatchOption, IfOk, OnOk, IfErr};
+ghost use Rattle.std.specs.Prelude.{◌≡◌, ◌<◌, ◌++◌, ◌∷◌, [], length, map, Contains, MatchBool, MatchOption, IfOk, OnOk, IfErr};
 ghost use Rattle.std.specs.Prelude.{if◌then◌else◌};
 ghost use Rattle.std.specs.List.{All, list_any};
 ghost use Rattle.std.specs.Str.{bytes_eq};
-ghost use Rattle.pg_hoa.specs.Outputs.{is_named, outputs, HasOutputs, RefusesOutputs};
+ghost use Rattle.pg_hoa.specs.Outputs.{is_named, outputs, IsFirstUnknown, HasOutputs, RefusesOutputs};
 
 use crate::fault::HoaFault;
 use crate::reader::read_automaton;
@@ -63,7 +63,7 @@ fn has_proposition(automaton: &Automaton, name: &[u8]) -> bool
 /// The place of the first name that no proposition has.
 fn first_unknown(automaton: &Automaton, names: &[&[u8]]) -> Option<usize>
     ensures { MatchOption result (All (λ name. Contains automaton.now.propositions name.now) names.now)
-        (λ place. Contains automaton.now.propositions (get_or (map (λ name. name.now) names.now) place []) → ⊥) }
+        (IsFirstUnknown automaton.now.propositions (map (λ name. name.now) names.now)) }
 {
     for place in 0..names.len() {
         if !has_proposition(automaton, names[place]) {

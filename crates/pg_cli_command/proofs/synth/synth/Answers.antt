@@ -7,14 +7,14 @@ use Rattle.pg_cli_command.proofs.synth.synth.Goals as goal
 
 pub returns-in_err-automaton-clause-refused : goal.returns-in_err-automaton-clause-refused
 returns-in_err-automaton-clause-refused g c =
-    let Refused = Fails (RefusesSynth (g.F.Finder.finds c.args.finder.now) c.args.text.items) in
+    let Refused = Fails (RefusesSynth (g.F.Solver.finds c.args.solver.now) c.args.text.items) in
     let fault = c.in_err-automaton.field-0.0 in
     refused_by Refused c.from_residual.result (hoa_fault fault) c.from_residual.ensures.1
     (text_refused Refused c.args.text.items fault tt (λ said no. no) (rw (← c.deref.ensures.value) c.in_err-automaton.ensures.refused))
 
 pub returns-in_err-made-clause-refused : goal.returns-in_err-made-clause-refused
 returns-in_err-made-clause-refused g c =
-    let Refused = Fails (RefusesSynth (g.F.Finder.finds c.args.finder.now) c.args.text.items) in
+    let Refused = Fails (RefusesSynth (g.F.Solver.finds c.args.solver.now) c.args.text.items) in
     let fault = c.in_err-made.field-0.0 in
     refused_by Refused c.from_residual-in_err-made.result (synth_fault fault) c.from_residual-in_err-made.ensures.1
     (game_refused Refused c.args.text.items c.in_ok-automaton.automaton (rw (← c.deref.ensures.value) c.in_ok-automaton.ensures.found) fault tt
@@ -22,7 +22,7 @@ returns-in_err-made-clause-refused g c =
 
 pub returns-in_err-circuit-clause-refused : goal.returns-in_err-circuit-clause-refused
 returns-in_err-circuit-clause-refused g c =
-    let Kind = g.F.Finder.finds c.args.finder.now in
+    let Kind = g.F.Solver.finds c.args.solver.now in
     let bytes = c.args.text.items in
     let fault = c.in_err-circuit.field-0.0 in
     let a = c.in_ok-automaton.automaton in
@@ -46,7 +46,7 @@ returns-clause-whole g c =
 
 pub returns-clause-answer : goal.returns-clause-answer
 returns-clause-answer g c =
-    let Kind = g.F.Finder.finds c.args.finder.now in
+    let Kind = g.F.Solver.finds c.args.solver.now in
     let bytes = c.args.text.items in
     let a = c.in_ok-automaton.automaton in
     let made = c.in_ok-made.made in

@@ -2,8 +2,8 @@ use Rattle.std.proofs.Common.{◌≡◌, ℕ, ◌≤◌, List, length, map, get_
 use Rattle.std.specs.Prelude.{slice_get}
 use Rattle.std.specs.Option.{option_map}
 use Rattle.std.proofs.lemmas.Option.{slice_get-map, slice_get-get_or}
-use Rattle.pg_cli_words.specs.declared.words.Line.{Line}
-use Rattle.pg_cli_words.specs.declared.words.Line.TheVariants.{Run, Work}
+use Rattle.pg_cli_words.specs.declared.words.Invocation.{Invocation}
+use Rattle.pg_cli_words.specs.declared.words.Invocation.TheVariants.{Run, Work}
 use Rattle.pg_cli_words.specs.Words.{AsksFor}
 use Rattle.pg_cli_words.specs.Mirrors.Asked.{IsLineOf}
 use Rattle.pg_cli_words.proofs.words.parse_request.Goals as goal
@@ -13,7 +13,7 @@ second_word : {A : Type 0} (text : A → List ℕ) (words : List A) (d : A) → 
 second_word text words d some =
     slice_get-map text words 1 ∙ ap (option_map text) (slice_get-get_or words 1 d (omega arith))
 
-asked_by : (words : List (List ℕ)) (name : List ℕ) (line : Line) → slice_get words 1 ≡ Some name → IsLineOf name line → AsksFor words line
+asked_by : (words : List (List ℕ)) (name : List ℕ) (line : Invocation) → slice_get words 1 ≡ Some name → IsLineOf name line → AsksFor words line
 asked_by words name (Run command path) second asked = (second ∙ ap Some asked.0, asked.1)
 asked_by words name (Work port) second asked = (second ∙ ap Some asked.0, asked.1)
 

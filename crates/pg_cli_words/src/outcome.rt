@@ -9,7 +9,7 @@ use clap::error::ErrorKind;
 
 /// What was told of words that ask for nothing.
 #[derive(Clone, Copy, Debug, PartialEq, Eq)]
-pub enum Told {
+pub enum Outcome {
     /// The help or the version that they ask for.
     Asked,
     /// That they aren't those of a command line.
@@ -21,23 +21,26 @@ pub enum Told {
 }
 
 /// Prints what `clap` says of the words: a fault of the command line, or the help or version that was asked for.
-fn tell(rt: &(impl Print + Eprint), error: &Error) -> Told {
+fn tell(rt: &(impl Print + Eprint), error: &Error) -> Outcome {
     if matches!(error.kind(), ErrorKind::OutOfMemory) {
-        return Told::OutOfMemory;
+        return Outcome::OutOfMemory;
     }
     let printed = error.print(rt);
     if error.use_stderr() {
-        Told::Refused
+        Outcome::Refused
     } else if printed.is_err() {
-        Told::Unwritten
+        Outcome::Unwritten
     } else {
-        Told::Asked
+        Outcome::Asked
     }
 }
 
 /// Reads a command line as `parse_request` does. Where it asks for nothing, what is to be told is printed: a fault on the error
 /// stream, the help or the version on standard output.
-pub fn read_words(rt: &(impl Print + Eprint + AllocGlobal), words: &[&str]) -> Result<Request, Told>
+pub fn read_words(
+    rt: &(impl Print + Eprint + AllocGlobal),
+    words: &[&str],
+) -> Result<Request, Outcome>
     ensures { IfOk result (λ request. AsksFor (map (λ word. word.now) words.now) request.line) }
 {
     match parse_request(rt.alloc(), words) {
