@@ -1,5 +1,5 @@
 -- A text with a header more spells the same automaton, but for what the controller sets.
-use Rattle.pg_hoa.proofs.Common.{◌≡◌, ◌∙◌, ℕ, zero, suc, ◌+◌, ◌<◌, Bool, false, cond, List, [], ◌∷◌, ◌++◌, length, arith, nat_tests, ap, subst}
+use Rattle.pg_hoa.proofs.Common.{◌≡◌, ◌∙◌, ℕ, zero, suc, ◌+◌, ◌-◌, ◌<◌, ◌≤◌, Bool, false, cond, List, [], ◌∷◌, ◌++◌, length, arith, nat_tests, ap, subst}
 use Rattle.pg_hoa.proofs.Common.{sym, append-nil, refl, flat_map, filter, get_or, map, list_any, ◌||◌, ◌≢◌, All, ltb, true, filter-append, range_with_len, Automaton}
 use Rattle.std.proofs.lemmas.Bool.{ltb-true}
 use Rattle.std.proofs.lemmas.Slice.Eq.{bytes_eq-Decides}
@@ -102,6 +102,20 @@ all_map P f (x ∷ xs) all = λ k d lt. elim k as (λ k. k < length (f x ∷ map
   | zero ↦ λ h. all 0 x (omega arith)
   | suc j ↦ λ h. all_map P f xs (λ i e within. all (suc i) e (omega arith)) j d (omega arith)
 ] lt
+
+-- what holds of what is made of the elements below a place
+pub known_map : {X Y : Type 0} (P : Y → Type 0) (f : X → Y) (xs : List X) (n : ℕ) (e : Y) → n ≤ length xs
+    → ((k : ℕ) (d : X) → k < n → P (f (get_or xs k d))) → (k : ℕ) → k < n → P (get_or (map f xs) k e)
+known_map P f [] n e within all k lt = absurd (omega arith)
+known_map P f (x ∷ xs) n e within all zero lt = all 0 x lt
+known_map P f (x ∷ xs) n e within all (suc k) lt =
+    known_map P f xs (n - 1) e (omega arith) (λ i d below. all (suc i) d (omega arith)) k (omega arith)
+
+pub map_at : {X Y : Type 0} (P : Y → Type 0) (f : X → Y) (xs : List X) (k : ℕ) (d : X) (e : Y) → k < length xs → P (f (get_or xs k d))
+    → P (get_or (map f xs) k e)
+map_at P f [] k d e within holds = absurd (omega arith)
+map_at P f (x ∷ xs) zero d e within holds = holds
+map_at P f (x ∷ xs) (suc k) d e within holds = map_at P f xs k d e (omega arith) holds
 
 -- what holds of the elements below a place, and of that at the place
 pub known_more : {X : Type 0} (P : X → Type 0) (xs : List X) (n : ℕ) (e : X) → n < length xs

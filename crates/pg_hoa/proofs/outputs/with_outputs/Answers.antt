@@ -7,7 +7,23 @@ use Rattle.pg_hoa.proofs.NamedOutputs.{given_spelt, outputs_below, all_map}
 use Rattle.pg_hoa.proofs.outputs.with_outputs.Goals as goal
 
 pub returns-in-Ok-true-clause-refused : goal.returns-in-Ok-true-clause-refused
-returns-in-Ok-true-clause-refused c = λ w t. sym (c.in-Ok-true.ensures w t) ∙ c.in-Ok-true.field-0-test
+returns-in-Ok-true-clause-refused c =
+    let s = c.in_ok-automaton.ensures.found in
+    record {
+      automaton = c.in_ok-automaton.automaton;
+      spelt = s;
+      header = sym (c.in-Ok-true.ensures s.written s.text) ∙ c.in-Ok-true.field-0-test;
+    }
+
+pub returns-in-Some-clause-refused : goal.returns-in-Some-clause-refused
+returns-in-Some-clause-refused c =
+    let s = c.in_ok-automaton.ensures.found in
+    record {
+      automaton = c.in_ok-automaton.automaton;
+      spelt = s;
+      free = sym (c.in-Ok-false.ensures s.written s.text) ∙ c.in-Ok-false.field-0-test;
+      lacks = c.in-Some.ensures;
+    }
 
 pub with_controls-requires : goal.with_controls-requires
 with_controls-requires c =
