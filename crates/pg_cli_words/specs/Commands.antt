@@ -1,7 +1,7 @@
 -- The names of commands, and how many workers they have.
 use Rattle.std.specs.Prelude.{ℕ, List, Option, Some, None, codes}
 use Rattle.pg_cli_words.specs.declared.command.Command.{Command}
-use Rattle.pg_cli_words.specs.declared.command.Command.TheVariants.{Measure, Solve, SolveAny, Check, Replay, Game, Synth, SynthSmall, Verify, Means, Automaton}
+use Rattle.pg_cli_words.specs.declared.command.Command.TheVariants.{Measure, Solve, SolveAny, Check, Replay, Game, Synth, SynthSmall, Verify}
 
 -- the word that names a command
 abbrev pub command_name : Command → List ℕ
@@ -14,8 +14,6 @@ command_name Game = codes "game"
 command_name (Synth workers) = codes "synth"
 command_name (SynthSmall workers) = codes "synth"
 command_name (Verify workers by_place) = codes "verify"
-command_name Means = codes "means"
-command_name Automaton = codes "automaton"
 
 -- how many workers solve for a command; none is asked for where nothing is solved
 abbrev pub workers_of : Command → Option ℕ
@@ -28,5 +26,3 @@ workers_of Game = None
 workers_of (Synth workers) = Some workers
 workers_of (SynthSmall workers) = Some workers
 workers_of (Verify workers by_place) = Some workers
-workers_of Means = None
-workers_of Automaton = None

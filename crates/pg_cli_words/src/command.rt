@@ -22,10 +22,6 @@ pub enum Command {
     /// Prints whether an automaton accepts each run of a circuit, and if not, the inputs of a run that it doesn't accept. Inputs and
     /// outputs go by their names, or by their places.
     Verify { workers: u32, by_place: bool },
-    /// Prints whether an automaton accepts exactly the words that satisfy a formula, and if not, a word on which they differ.
-    Means,
-    /// Prints an automaton that accepts exactly the words that satisfy a formula.
-    Automaton,
 }
 
 impl Command {
@@ -34,9 +30,9 @@ impl Command {
     ghost use Rattle.pg_cli_words.specs.Commands.{command_name, workers_of};
 
     /// Every command that has a name of its own, in the order of the help, with so many workers where it solves.
-    pub fn all(workers: u32) -> [Command; 9]
+    pub fn all(workers: u32) -> [Command; 7]
         ensures { result ≡ Command.Measure workers ∷ Command.Solve workers ∷ Command.Check ∷ Command.Replay
-            ∷ Command.Game ∷ Command.Synth workers ∷ Command.Verify workers false ∷ Command.Means ∷ Command.Automaton ∷ [] }
+            ∷ Command.Game ∷ Command.Synth workers ∷ Command.Verify workers false ∷ [] }
     {
         [
             Command::Measure { workers },
@@ -49,8 +45,6 @@ impl Command {
                 workers,
                 by_place: false,
             },
-            Command::Means,
-            Command::Automaton,
         ]
     }
 
@@ -66,8 +60,6 @@ impl Command {
             Command::Game => "game",
             Command::Synth { .. } | Command::SynthSmall { .. } => "synth",
             Command::Verify { .. } => "verify",
-            Command::Means => "means",
-            Command::Automaton => "automaton",
         }
     }
 
@@ -82,11 +74,7 @@ impl Command {
             | Command::Synth { workers }
             | Command::SynthSmall { workers }
             | Command::Verify { workers, .. } => Some(workers),
-            Command::Check
-            | Command::Replay
-            | Command::Game
-            | Command::Means
-            | Command::Automaton => None,
+            Command::Check | Command::Replay | Command::Game => None,
         }
     }
 

@@ -9,7 +9,7 @@ const VALUED: [&str; 3] = ["--workers", "--apart", "--outs"];
 /// The word that stands for standard input.
 pub const STANDARD_INPUT: &str = "-";
 
-/// How many files a command takes: a game, an automaton or a formula; or a game or an automaton and what belongs to it.
+/// How many files a command takes: a game or an automaton; or a game or an automaton and what belongs to it.
 fn count_of(command: Command) -> usize {
     match command {
         Command::Measure { .. }
@@ -17,9 +17,8 @@ fn count_of(command: Command) -> usize {
         | Command::SolveAny { .. }
         | Command::Game
         | Command::Synth { .. }
-        | Command::SynthSmall { .. }
-        | Command::Automaton => 1,
-        Command::Check | Command::Replay | Command::Verify { .. } | Command::Means => 2,
+        | Command::SynthSmall { .. } => 1,
+        Command::Check | Command::Replay | Command::Verify { .. } => 2,
     }
 }
 

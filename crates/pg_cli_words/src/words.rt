@@ -67,8 +67,7 @@ const ABOUT: &str = "Solves parity games; the answers are proved";
 
 const MORE: &str = "\
 Each command reads the files that it is given (`-` is standard input), or standard input where it is given none, and writes
-standard output. Games and solutions are in the format of PGSolver, automata in HOA v1, circuits in AIGER, and formulas in the
-syntax of Spot.
+standard output. Games and solutions are in the format of PGSolver, automata in HOA v1, circuits in AIGER.
 
 Exit status:
   0  an answer was printed
@@ -189,31 +188,6 @@ inputs for each step, after which the automaton has no edge for what the circuit
 for each input, in the order of the circuit's inputs.
 
 Example: parsolve synth examples/arbiter.hoa > arbiter.aag; parsolve verify examples/arbiter.hoa arbiter.aag",
-};
-
-const MEANS: Help = Help {
-    about: "Prints whether an automaton accepts exactly the words that satisfy a formula",
-    usage: "parsolve means [OPTIONS] [AUTOMATON FORMULA]",
-    more: "\
-Input: an automaton in HOA v1, deterministic, with a parity condition, labels on edges, and a formula of linear temporal logic
-in the syntax of Spot, by `parsolve means AUTOMATON FORMULA` from two files, and else from standard input, with a line `--`
-between. Several formulas, each ended by `;`, have to hold together.
-Output: `SAME`; or `DIFFERS`, a line that says which of the two takes the word, and the word: a line for each step with the
-propositions that hold (`-` for none), a line `loop`, and the lines that come round for ever.
-
-Example: printf 'G(request -> F grant)' | cat examples/request-grant.hoa <(echo --) - | parsolve means",
-};
-
-const AUTOMATON: Help = Help {
-    about: "Prints an automaton that accepts exactly the words that satisfy a formula",
-    usage: "parsolve automaton [OPTIONS] [FORMULA]",
-    more: "\
-Input: a formula of linear temporal logic in the syntax of Spot, by `parsolve automaton FORMULA` from a file, and else from
-standard input. Several formulas, each ended by `;`, have to hold together.
-Output: a deterministic parity automaton in HOA v1 that accepts exactly the words that satisfy the formula. With `--outs` it has
-the header `controllable-AP`, so that `synth` makes a controller under which each run satisfies the formula.
-
-Example: echo 'G(request -> F grant)' | parsolve automaton --outs grant | parsolve synth",
 };
 
 const WORKER_MORE: &str = "\
@@ -352,12 +326,6 @@ fn subcommand<'a>(alloc: Global, command: Command) -> Result<Program<'a>, Error>
         Command::Verify { .. } => Ok(
             helped(alloc, command, VERIFY)?
                 .arg(by_place_option(alloc))?
-                .arg(outs_option(alloc))?
-                .arg(stats)?,
-        ),
-        Command::Means => Ok(helped(alloc, command, MEANS)?.arg(stats)?),
-        Command::Automaton => Ok(
-            helped(alloc, command, AUTOMATON)?
                 .arg(outs_option(alloc))?
                 .arg(stats)?,
         ),
