@@ -308,11 +308,9 @@ def refuser(folder):
     return path
 
 
-def survives_want_of_memory(program, name, args, text, wanted):
+def survives_want_of_memory(program, args, text, wanted):
     """The N-th growth is refused, N rising until a run meets no refusal: each earlier run ends with status 1, no output
-    and `out of memory`, or, where it could do without, with the right answer. Tells how many could, and without which growths.
-    """
-    spared = []
+    and `out of memory`, or, where it could do without, with the right answer."""
     if case.lacking("cc"):
         return case.lacking("cc")
     with tempfile.TemporaryDirectory() as folder:
@@ -323,11 +321,7 @@ def survives_want_of_memory(program, name, args, text, wanted):
                                  env={**os.environ, "LD_PRELOAD": preload, "REFUSE_AT": str(n), "REFUSE_MET": met})
             if ran.returncode == 0 and ran.stdout == wanted:
                 if not os.path.exists(met):
-                    print(f"{name}: {n - 1} growths refused in turn, {len(spared)} of them done without"
-                          + f": {', '.join(spared)}" * bool(spared))
                     return None if n > 1 else "no growth was refused"
-                with open(met) as file:
-                    spared.append(f"number {n} of {' and '.join(file.read().split())} bytes")
             elif (ran.returncode, ran.stdout, ran.stderr) != (1, b"", b"parsolve: out of memory\n"):
                 return f"growth {n} refused: status {ran.returncode}, {ran.stdout!r}, {ran.stderr!r}"
     return "no run met no refusal"
@@ -497,8 +491,7 @@ def row_lines(first, count, priority):
 def any_solution_survives(program, text):
     """What `solve --any` prints of a game is sound, and the same or nothing where memory is wanting."""
     solved = subprocess.run([program, "solve", "--any"], input=text, capture_output=True, timeout=60).stdout
-    return solution_loses(program, text, "--any") or survives_want_of_memory(
-        program, "want of memory in solve --any of a hard game", ["solve", "--any"], text, solved)
+    return solution_loses(program, text, "--any") or survives_want_of_memory(program, ["solve", "--any"], text, solved)
 
 
 def long_rows_as_worked_out(program, count=1000):
@@ -650,26 +643,22 @@ def cases(program):
                                ("solve --any", three, solution), ("solve --any of one parity", odd, b"paritysol 1;\n0 1;\n1 1;\n"),
                                ("check", three + b"--\n" + solution, b"WINS\n"), ("replay", odd + script, world),
                                ("game", automaton, automaton_game), ("synth", delay, circuit)):
-        name = f"want of memory in {what}"
         command = what.partition(" of ")[0].split()
-        yield name, lambda it=name, c=command, t=text, w=wanted: survives_want_of_memory(program, it, c, t, w)
+        yield f"want of memory in {what}", lambda c=command, t=text, w=wanted: survives_want_of_memory(program, c, t, w)
     # a game that takes some 60,000 plain lifts, and of which jumps are made in the game and in its dual
     hard = hard_game(random.Random(167), 60)
     for command in ("measure", "solve"):
-        name = f"want of memory in {command} of a hard game"
-        yield name, lambda it=name, c=command: survives_want_of_memory(
-            program, it, [c], naive.game_text(hard).encode(), climbed_text(c, hard, most=200_000).encode())
+        yield f"want of memory in {command} of a hard game", lambda c=command: survives_want_of_memory(
+            program, [c], naive.game_text(hard).encode(), climbed_text(c, hard, most=200_000).encode())
     yield "want of memory in solve --any of a hard game", lambda t=naive.game_text(hard).encode(): any_solution_survives(program, t)
     # one game at which Odd goes on in two ways above another one
     twice = {5 * k + v: (p + 6 * k, owner, [5 * k + w for w in successors] + [5 * (1 - k)] * (v == 3 and k == 0))
              for k, part in enumerate(TWICE) for v, (p, owner, successors) in part.items()}
     for command in ("measure", "solve"):
-        name = f"want of memory in {command} where Odd goes on in two ways"
-        yield name, lambda it=name, c=command: survives_want_of_memory(
-            program, it, [c], naive.game_text(twice).encode(), climbed_text(c, twice).encode())
+        yield f"want of memory in {command} where Odd goes on in two ways", lambda c=command: survives_want_of_memory(
+            program, [c], naive.game_text(twice).encode(), climbed_text(c, twice).encode())
     apart = ["measure", "--workers", "1", "--apart", "/proc/self/exe"]
-    name = "want of memory with --apart"
-    yield name, lambda: survives_want_of_memory(program, name, apart, game, b"0 1,1;\n1 1,0;\n2 0,0;\n")
+    yield "want of memory with --apart", lambda: survives_want_of_memory(program, apart, game, b"0 1,1;\n1 1,0;\n2 0,0;\n")
 
 
 def named():

@@ -71,18 +71,27 @@ def fits(*needs):
 '''
 RT = '''#!/bin/sh
 [ "$1" = version ] && echo "the test's kit" && exit
-echo "run" >> "$NOTES"
+echo "$1" >> "$NOTES"
 grep -q wrong ../*/src/lib.rt && exit 1
+[ "$1" = lib ] && exit
 printf '#!/bin/sh\\necho "$@"\\ncat\\n' > out/parsolve
 chmod +x out/parsolve
 '''
+# a stand-in for what links: it writes the file behind -o, or the second word
+LINKER = '''#!/bin/sh
+file=$2
+while [ $# -gt 0 ]; do [ "$1" = -o ] && file=$2; shift; done
+case $file in -*) ;; *) [ -e "$file" ] || echo linked > "$file" ;; esac
+'''
 # a module of tests, which says what it is given
 PART = '''
+import sys
 import unittest
 import case
 class Tests(unittest.TestCase):
     def test_it(self):
-        print(__name__, case.PROGRAM, case.BY_RATTLE, case.IS_PROVING)
+        sys.stdout.write(f"{__name__} {case.PROGRAM} {case.BY_RATTLE} {case.IS_PROVING}\\n")
+        sys.stdout.flush()
 '''
 
 
@@ -94,6 +103,9 @@ class Copy:
         self.kit.mkdir()
         self.write(self.kit / "rt", RT)
         self.write(self.kit / "rtlib.py", RTLIB)
+        for name in ("ld", "objcopy", "ar", "cc"):
+            self.write(self.kit / name, LINKER)
+            (self.kit / name).chmod(0o755)
         (self.kit / "rt").chmod(0o755)
         for name in CRATES:
             self.write(self.source(name), name)
@@ -102,6 +114,8 @@ class Copy:
         (self.top / "tools").mkdir()
         for name in ("parsolve", "build", "test", "tools/sources", "tools/fresh"):
             shutil.copy(TOP / name, self.top / name)
+        for name in ("parsolve.h", "parsolve.hpp", "parsolve.pc", "pyproject.toml", "wheel_of_parsolve.py", "parsolve.py"):
+            self.write(self.top / "bindings" / name, "@VERSION@")
         for path in (TOP / "tests").glob("*.py"):
             self.write(self.top / "tests" / path.name, path.read_text() if path.stem in ("case", "edits", "scripts") else PART)
 
@@ -123,7 +137,7 @@ class Copy:
 
     def ended(self, ran):
         """(status, output, error stream, what the toolchain was asked) of a script that was started."""
-        output, errors = ran.communicate("the input\n", timeout=60)
+        output, errors = ran.communicate("the input\n", timeout=300)
         return ran.returncode, output, errors, self.notes.read_text().split("\n")[:-1]
 
     def use(self, **more):
@@ -155,7 +169,7 @@ class Copy:
         """(status, what it printed, line by line) of ./test, or the fault that it asked the toolchain for something."""
         self.notes.write_text("")
         status, output, _, asked = self.ended(self.start("test", words))
-        return asked or (status, output.splitlines())
+        return asked or (status, [line for line in output.splitlines() if not line.startswith("tests: ")])
 
 
 RIGHT = (0, "solve two words\nthe input\n", "", [])
@@ -269,15 +283,16 @@ def fewer_tools(copy):
     return ran == RIGHT and (status, output) == gone[:2] == (1, "") and errors.endswith(STALE + HOW) and gone[2].endswith(HOW)
 
 
-def quick(copy, calls=5):
-    """A call takes no more than a tenth of a second, on a machine that does nothing else; the least of some counts."""
+def sums(copy):
+    """Where nothing changed no sum is made, so that a call is quick; where a time did, they are made once."""
     copy.build()
-    took = []
-    for _ in range(calls):
-        start = time.monotonic()
-        copy.use()
-        took.append(time.monotonic() - start)
-    return min(took) < 0.5
+    copy.write(copy.kit / "sha256sum", f'#!/bin/sh\necho sum >> "$NOTES"\nexec {shutil.which("sha256sum")} "$@"\n')
+    (copy.kit / "sha256sum").chmod(0o755)
+    first, second = copy.use(), copy.use()
+    copy.source("left").touch()
+    third, fourth = copy.use(), copy.use()
+    return [it[:3] for it in (first, second, third, fourth)] == [RIGHT[:3]] * 4 and first[3] == third[3] == ["sum"] * 3 \
+        and second[3] == fourth[3] == []
 
 
 def failures(copy):
@@ -320,6 +335,22 @@ def no_toolchain(copy):
     proofs = copy.ended(copy.start("test", ["--proofs"], PATH=str(copy.kit)))
     return status == 1 and all(it in errors for it in ("rt isn't on the path", "Rattle kit", "rt version")) \
         and proofs[:3] == (1, "test: the command rt isn't on the path, so nothing can be proved\n", "")
+
+
+def releasing(copy):
+    """./build --release takes the program that is built and is of the sources, builds the library, and says what both are."""
+    copy.build()
+    copy.write(copy.top / "crates/parsolve_c/out/libparsolve_c.a", "made by the test")
+    status, _, asked = copy.build("--release")
+    release, built = copy.top / "release", copy.top / "crates/parsolve/out/parsolve"
+    about = (release / "ABOUT").read_text().splitlines()
+    files = ("bin/parsolve", "lib/libparsolve.a", "lib/libparsolve.so")
+    wanted = ["kit the test's kit", "program parsolve 1.2.3", *(f"sha256 {hashlib.sha256((release / it).read_bytes()).hexdigest()} "
+                                                                f"{it.rpartition('/')[2]}" for it in files)]
+    return (status, asked) == (0, ["lib"]) and (release / "bin/parsolve").read_bytes() == built.read_bytes() \
+        and sorted(it for it in about if not it.startswith("sources")) == sorted(wanted) \
+        and [it.split()[1] for it in about if it.startswith("sources")] == ["parsolve", "parsolve_c"] \
+        and "1.2.3" in (release / "include/parsolve.h").read_text()
 
 
 def released(copy):
@@ -391,8 +422,8 @@ def test_of_one(copy):
                      (0, ["rows /bin/true None False", "1 passed, 0 failed"]), (1, ["test: no test has no such test in its name", "0 passed, 1 failed"]))
 
 
-CHECKS = (first_build, later_uses, changes, set_back, laid_over, other_lines, moved_sources, other_programs, fewer_tools, quick, failures,
-          little_memory, at_once, other_toolchain, no_toolchain, released, installing, test_of_built, test_of_released, test_of_none, test_of_one)
+CHECKS = (first_build, later_uses, changes, set_back, laid_over, other_lines, moved_sources, other_programs, fewer_tools, sums, failures,
+          little_memory, at_once, other_toolchain, no_toolchain, releasing, released, installing, test_of_built, test_of_released, test_of_none, test_of_one)
 
 
 def why_wrong(check):
