@@ -75,6 +75,14 @@ def shown_code():
     yield "docs/first_change.md: libraries", None if f" {count} libraries " in text else f"{count} libraries stand on pg_arena"
 
 
+def shown_diffs():
+    """The same for the lines that docs/first_change.md adds: its sources have them."""
+    for path, lines in re.findall(r"^```diff\n--- (.*)\n((?:.*\n)*?)```$", (TOP / "docs/first_change.md").read_text(), re.M):
+        text = (TOP / path).read_text().splitlines()
+        lost = [line for line in lines.splitlines() if line[0] != "-" and line[1:] not in text]
+        yield f"docs/first_change.md: the change of {path}", f"isn't there: {lost[0]!r}" if lost else None
+
+
 def shown_theorem():
     """The same for the clause that the README prints and the law of docs/promises.md: they are as the sources have them."""
     for page, head, source in (("README.md", "ensures answer", "pg_cli/src/program.rt"),
@@ -100,4 +108,4 @@ def version():
     yield "CHANGELOG.md: the version", None if is_first else "isn't the one that --version says"
 
 
-Tests = case.tests(__name__, links, lines, audiences, decisions, shown_code, shown_theorem, examples, version)
+Tests = case.tests(__name__, links, lines, audiences, decisions, shown_code, shown_diffs, shown_theorem, examples, version)
