@@ -312,7 +312,7 @@ def in_namespace(count, call, *rest):
     os.close(ready[0])
     os.waitpid(child, 0)
     if not can or not text:
-        raise case.LeftOut("no namespace of users, mounts and a loopback can be made, so what another user connects isn't tried")
+        raise case.LeftOut("no namespace of users, mounts and a loopback can be made")
     return ast.literal_eval(text)
 
 

@@ -81,7 +81,7 @@ class Result(unittest.TestResult):
             self.addError(part, error)
 
     def addSkip(self, test, reason):
-        self.left_out.append(reason)
+        self.left_out.append((reason, test.id().partition(".")[0]))
 
     def addError(self, test, error):
         is_told = issubclass(error[0], AssertionError)
@@ -104,7 +104,7 @@ def attempt(place):
 
 def run(modules, word=None):
     """Runs the tests of these modules, as many at once as there are processors and two more, since some wait; only those whose name has the
-    word, where one is given. Answers how many parts passed and failed, and how often what was left out for which reason."""
+    word, where one is given. Answers how many parts passed and failed, and of each that was left out why, and its module."""
     loader = unittest.TestLoader()
     loader.testNamePatterns = word and [f"*{word}*"]
     TESTS[:] = flat(loader.loadTestsFromNames(modules))

@@ -33,12 +33,12 @@ def told():
 def of_sources():
     """It is of these sources: ./build --release makes it anew."""
     if not case.IS_PROVING:
-        yield "the sources", case.LeftOut("whether release/ is of these sources only ./test --proofs asks")
+        yield "the sources", case.LeftOut("only ./test --proofs asks whether release/ is of these sources")
         return
     yield "the sources", about()["sources"], [f"{it} {output(TOP / 'tools/sources', it)}" for it in ("parsolve", "parsolve_c")]
     kit = scripts.script("build").kit()
     if about()["kit"] != [kit]:
-        yield "what was built", case.LeftOut(f"release/ was made by {about()['kit'][0]}, and this is {kit}, so it isn't compared with what was built")
+        yield "what was built", case.LeftOut(f"release/ was made by {about()['kit'][0]}, and this is {kit}")
         return
     is_same = (RELEASED / "bin/parsolve").read_bytes() == (TOP / "crates/parsolve/out/parsolve").read_bytes()
     yield "what was built", None if is_same else "is something else than release/bin/parsolve"
