@@ -107,10 +107,11 @@ def run(modules, word=None):
     word, where one is given. Answers how many parts passed and failed, and of each that was left out why, and its module."""
     loader = unittest.TestLoader()
     loader.testNamePatterns = word and [f"*{word}*"]
-    TESTS[:] = flat(loader.loadTestsFromNames(modules))
+    first = len(TESTS)
+    TESTS.extend(flat(loader.loadTestsFromNames(modules)))
     passed, failed, left_out = 0, 0, []
     with ProcessPoolExecutor(len(os.sched_getaffinity(0)) + 2, multiprocessing.get_context("fork")) as pool:
-        for ended in as_completed([pool.submit(attempt, place) for place in range(len(TESTS))]):
+        for ended in as_completed([pool.submit(attempt, place) for place in range(first, len(TESTS))]):
             good, faults, more = ended.result()
             passed, failed, left_out = passed + good, failed + len(faults), left_out + more
             for fault in faults:
