@@ -2,7 +2,6 @@
 
 What is expected was worked out by hand, and for circuits and automata at random it is what a plain reader of circuits does and what
 a look at every pair of steps finds."""
-import itertools
 import os
 import pathlib
 import random
