@@ -102,15 +102,15 @@ def attempt(place):
     return result.passed, result.faults, result.left_out
 
 
-def run(modules, word=None):
-    """Runs the tests of these modules, as many at once as there are processors and two more, since some wait; only those whose name has the
-    word, where one is given. Answers how many parts passed and failed, and of each that was left out why, and its module."""
+def run(modules, word=None, at_once=None):
+    """Runs the tests of these modules, so many at once, or as many as there are processors; only those whose name has the word, where one is
+    given. Answers how many parts passed and failed, and of each that was left out why, and its module."""
     loader = unittest.TestLoader()
     loader.testNamePatterns = word and [f"*{word}*"]
     first = len(TESTS)
     TESTS.extend(flat(loader.loadTestsFromNames(modules)))
     passed, failed, left_out = 0, 0, []
-    with ProcessPoolExecutor(len(os.sched_getaffinity(0)) + 2, multiprocessing.get_context("fork")) as pool:
+    with ProcessPoolExecutor(at_once or len(os.sched_getaffinity(0)), multiprocessing.get_context("fork")) as pool:
         for ended in as_completed([pool.submit(attempt, place) for place in range(first, len(TESTS))]):
             good, faults, more = ended.result()
             passed, failed, left_out = passed + good, failed + len(faults), left_out + more
