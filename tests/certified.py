@@ -128,7 +128,7 @@ def named():
     """(what is tried, the call)."""
     seed = secrets.randbelow(2**32)
     cases = [*CASES.strip().split("\n"), *(f"small {number}" for number in range(len(SMALL)))]
-    yield "every family", lambda: untried(cases)
+    yield "every family", lambda: untried([*cases, "gadget"])
     yield from ((it, lambda it=it: tried([it])) for it in cases)
     for first in range(seed, seed + GADGETS, 100):
         yield f"gadgets of the seeds from {first} on", lambda first=first: tried(f"gadget 21 7 {first + i}" for i in range(100))
