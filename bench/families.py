@@ -433,7 +433,7 @@ def few(a, b, dice):
 
 
 def switches(a, b, dice):
-    """a bits of a counter, after Friedmann's lower bound for strategy improvement; where b is 1 the dual"""
+    """a bits of a counter, after Friedmann's lower bound for strategy improvement; where b is odd the dual"""
     count, end = 20 * a, ["x"]
     game = {"x": (1, 1, end)}
     game["s"] = count + 2, 0, [("f", j) for j in range(1, a + 1)] + end
@@ -450,7 +450,7 @@ def switches(a, b, dice):
         game["f", i] = count + 4 * i + 5, 1, [("e", i)]
         game["h", i] = count + 4 * i + 6, 1, [("k", i)]
     for priority, owner, successors in named(game):
-        yield priority + b, owner ^ b, successors
+        yield priority + b % 2, owner ^ b % 2, successors
 
 
 FAMILIES = {it.__name__: it for it in (settled, climb, climbers, jurdzinski, ladder, clique, recladder, elevator, sparse, random,

@@ -18,8 +18,8 @@ import sys
 import tempfile
 import threading
 import time
-from concurrent.futures import ProcessPoolExecutor
 
+import case
 import closed
 import naive
 import pretender
@@ -255,10 +255,6 @@ CLONE_NEWNS, CLONE_NEWUSER, CLONE_NEWNET = 0x20000, 0x10000000, 0x40000000
 SIOCSIFFLAGS, IFF_UP = 0x8914, 1
 
 
-class Skipped(Exception):
-    """What is checked can't be tried on this machine."""
-
-
 def enter_namespace(ready, mapped):
     """Has this process, whose parent says when its users are mapped, go on as root of users, mounts and a loopback of its own."""
     if ctypes.CDLL(None).unshare(CLONE_NEWUSER | CLONE_NEWNS | CLONE_NEWNET) != 0:
@@ -284,7 +280,7 @@ def map_users(child, count):
 
 
 def in_namespace(count, call, *rest):
-    """What a call answers, a text or None, that is made as root of a namespace of so many users. Skipped where that can't be had."""
+    """What a call answers, a text or None, that is made as root of a namespace of so many users. Left out where that can't be had."""
     ready, mapped, answer = os.pipe(), os.pipe(), os.pipe()
     child = os.fork()
     if child == 0:
@@ -294,7 +290,7 @@ def in_namespace(count, call, *rest):
             enter_namespace(ready[1], mapped[0])
             why = call(*rest)
             os.write(answer[1], repr(why).encode())
-        except Skipped:
+        except case.LeftOut:
             pass
         except Exception as why:
             os.write(answer[1], repr(repr(why)).encode())
@@ -316,7 +312,7 @@ def in_namespace(count, call, *rest):
     os.close(ready[0])
     os.waitpid(child, 0)
     if not can or not text:
-        raise Skipped
+        raise case.LeftOut("no namespace of users, mounts and a loopback can be made")
     return ast.literal_eval(text)
 
 
@@ -379,17 +375,14 @@ def other_users_stay_out(program):
     executed and not read. That of the worker, which is of the own user, is."""
     name = f"measure --workers 1 --apart a file that can't be read ({os.path.basename(program)}), another user connects"
     if os.getuid() != 0:
-        raise Skipped(name)
-    try:
-        return name, in_namespace(USERS, measured_beside_a_stranger, program)
-    except Skipped:
-        raise Skipped(name)
+        raise case.LeftOut("who isn't root can't connect as another user")
+    return name, in_namespace(USERS, measured_beside_a_stranger, program)
 
 
 def measured_without_tables(program):
     """Why the measures aren't those of TWO, where there is no /proc; the worker says top."""
     if ctypes.CDLL(None).mount(b"none", b"/proc", b"tmpfs", 0, None) != 0:
-        raise Skipped
+        raise case.LeftOut
     run = Run(program, "measure", TWO, "top_everywhere")
     with tempfile.TemporaryDirectory() as folder:
         return run.make(folder) or run.differs(0, ANSWERS["measure", TWO])
@@ -398,10 +391,7 @@ def measured_without_tables(program):
 def takes_nobody_without_tables(program):
     """Where the tables of the system can't be read no connection is taken, and the game is solved in one piece."""
     name = f"measure --workers 1 --apart top_everywhere ({os.path.basename(program)}), without /proc"
-    try:
-        return name, in_namespace(1, measured_without_tables, program)
-    except Skipped:
-        raise Skipped(name)
+    return name, in_namespace(1, measured_without_tables, program)
 
 
 def starts_none_as_its_owner(program):
@@ -511,15 +501,14 @@ def ends_amid_frames(program):
     return "worker whose solver goes amid frames", None if found == (0, "", "") else f"{found!r}"
 
 
-def cases(program, is_first):
-    """The checks of a program, the slow ones first, and those on the first program alone."""
+def cases(program):
+    """The checks of a program, the slow ones first."""
     own, nowhere = [program, "/proc/self/exe"], ["/nonexistent/parsolve", "/dev/null", ""]
-    if is_first:
-        yield answers, program, "measure", TWO, "silent_once"
-        yield ends_where_values_go_to_and_fro, program, "slow"
-        for name in WAITING:
-            yield answers, program, "measure", TWO, name
-        yield answers, program, "solve", TWO, "never_connects", 16, 30
+    yield answers, program, "measure", TWO, "silent_once"
+    yield ends_where_values_go_to_and_fro, program, "slow"
+    for name in WAITING:
+        yield answers, program, "measure", TWO, name
+    yield answers, program, "solve", TWO, "never_connects", 16, 30
     for command, text in ANSWERS:
         for workers in (0, 1, 2, 16):
             yield answers, program, command, text, own[workers % 2], workers
@@ -560,29 +549,20 @@ def cases(program, is_first):
     yield ends_amid_frames, program
 
 
-def check(case):
-    """(what was checked, why it fails or None), or None where it can't be checked here"""
-    call, *rest = case
-    try:
-        return call(*rest)
-    except Skipped as why:
-        print(f"apart: {why}: skipped, no such namespace can be made", flush=True)
-        return None
-    except Exception as why:
-        return f"{call.__name__} {rest}", repr(why)
+def why_wrong(call, *rest):
+    """Why a check fails, and what was checked, or None."""
+    begin()
+    name, why = call(*rest)
+    return why and f"{name}: {why}"
 
 
-def run(programs):
-    """Checks every program; answers how many checks passed and failed."""
-    todo = [case for program in programs for case in cases(program, program == programs[0])]
-    with ProcessPoolExecutor(8, initializer=begin) as pool:
-        found = [checked for checked in pool.map(check, todo) if checked is not None]
-    failed = [(name, why) for name, why in found if why is not None]
-    for name, why in failed:
-        print(f"apart: {name}: {why}")
-    print(f"apart: {len(found) - len(failed)} passed, {len(failed)} failed")
-    return len(found) - len(failed), len(failed)
+def named():
+    """(name, call) of each check; where there is no program each is left out."""
+    if case.PROGRAM is None:
+        yield "nothing", lambda: case.LeftOut("no program is of these sources")
+        return
+    for number, (call, *rest) in enumerate(cases(case.PROGRAM)):
+        yield f"{number:03} {call.__name__}", lambda call=call, rest=rest: why_wrong(call, *rest)
 
 
-if __name__ == "__main__":
-    sys.exit(1 if run(sys.argv[1:])[1] else 0)
+Tests = case.tests_by_name(__name__, named())

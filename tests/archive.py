@@ -1,31 +1,28 @@
-#!/usr/bin/env python3
 """Checks the archive of `./build --archive`: two of the same sources are the same, byte for byte, and what is unpacked into an empty home
-works there, each part of it.
-
-    tests/archive.py    prints what it finds; the status is 1 if something is wrong. What isn't built is built first
-"""
+works there, each part of it."""
 import pathlib
-import shutil
+import re
 import subprocess
-import sys
 import tempfile
 
+import case
 import embedding
+from case import TOP
 
-TOP = pathlib.Path(__file__).resolve().parent.parent
 EXAMPLES = TOP / "examples"
 # what is typed in the unpacked folder, and what it prints
 TYPED = [
-    ("bin/parsolve solve examples/mutex.pg", (EXAMPLES / "mutex.solution").read_text()),
-    ("bin/parsolve check examples/mutex.pg examples/mutex.solution", "WINS\n"),
-    ("tools/hoa --outs grant examples/spot-implicit.hoa | bin/parsolve synth | sed -n 1p", "REALIZABLE\n"),
-    ("bin/parsolve synth examples/request-grant.hoa > answer; echo request | tools/circuit simulate answer | wc -l", "2\n"),
-    ("tools/draw --dot examples/two.pg | sed -n 1p", "digraph game {\n"),
-    ("echo 'workers 1;' | tools/draw --replay examples/two.pg - | wc -l", "2\n"),
+    ("bin/parsolve solve share/parsolve/examples/mutex.pg", (EXAMPLES / "mutex.solution").read_text()),
+    ("bin/parsolve check share/parsolve/examples/mutex.pg share/parsolve/examples/mutex.solution", "WINS\n"),
+    ("bin/parsolve-hoa --outs grant share/parsolve/examples/spot-implicit.hoa | bin/parsolve synth | sed -n 1p", "REALIZABLE\n"),
+    ("bin/parsolve synth share/parsolve/examples/request-grant.hoa > answer; echo request | bin/parsolve-circuit simulate answer | wc -l", "2\n"),
+    ("bin/parsolve-draw --dot share/parsolve/examples/two.pg | sed -n 1p", "digraph game {\n"),
+    ("echo 'workers 1;' | bin/parsolve-draw --replay share/parsolve/examples/two.pg - | wc -l", "2\n"),
+    ("bin/parsolve-where share/parsolve/examples/two.pg 0 | sed -n 1p", "line 1, column 1\n"),
     ("grep -c '^.TH PARSOLVE 1 ' share/man/man1/parsolve.1", "1\n"),
     ("bash -c '. share/bash-completion/completions/parsolve; COMP_WORDS=(parsolve s); COMP_CWORD=1; _parsolve; echo ${COMPREPLY[@]}'",
      "solve synth\n"),
-    ("ls", "LICENSE-APACHE\nLICENSE-MIT\nREADME.md\nanswer\nbin\nexamples\ninclude\nlib\npython\nshare\ntools\n"),
+    ("rm answer; ls", "README.md\nbin\ninclude\nlib\npython\nshare\n"),
 ]
 
 
@@ -37,7 +34,18 @@ def session(top, home):
         yield typed, None if (ran.stdout, ran.stderr) == (wanted, "") else f"printed {ran.stdout!r} {ran.stderr!r}"
 
 
-def checks():
+def paths(top):
+    """(a path that the page of the archive names, why it isn't there or None)."""
+    text = (top / "README.md").read_text()
+    for path in sorted({*re.findall(r"\]\(([^)#:]+)", text), *re.findall(r"(?<![\w/.~-])(?:bin|include|lib|python|share)/[\w./-]*\w", text)}):
+        yield f"README.md: {path}", None if (top / path).exists() else "there is no such file"
+
+
+def whole(program):
+    """What is made, unpacked and used."""
+    if embedding.untried():
+        yield "the archive", embedding.untried()
+        return
     with tempfile.TemporaryDirectory() as made:
         home, work, folders = pathlib.Path(made, "home"), pathlib.Path(made, "work"), [pathlib.Path(made, it) for it in ("one", "two")]
         home.mkdir()
@@ -53,24 +61,8 @@ def checks():
         yield "unpacked", embedding.ran(["tar", "xzf", archive], cwd=home)
         top = home / archive.name.removesuffix(".tar.gz")
         yield from session(top, home)
+        yield from paths(top)
         yield from embedding.example_checks(top, work)
 
 
-def run():
-    """Makes every check; answers how many passed and failed."""
-    if shutil.which("rt") is None:
-        print("archive: rt isn't on the path, so no archive is made")
-        return 0, 0
-    passed = failed = 0
-    for what, why in checks():
-        if why is None:
-            passed += 1
-        else:
-            failed += 1
-            print(f"archive: {what}: {why}")
-    print(f"archive: {passed} passed, {failed} failed")
-    return passed, failed
-
-
-if __name__ == "__main__":
-    sys.exit(1 if run()[1] else 0)
+Tests = case.tests(__name__, whole)

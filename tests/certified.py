@@ -1,20 +1,13 @@
-#!/usr/bin/env python3
 """Sees to it that no game of the benches is lifted to its end: some of each family of bench/families.py, other gadgets in each run, and of
-automata of bench/automata.py, are given to the program `certified`, which tells how their least progress measures are found.
-
-    tests/certified.py CERTIFIED PARSOLVE    prints what it finds; the status is 1 if something is wrong
-
-PARSOLVE makes the games of automata.
-"""
+automata of bench/automata.py, are given to the program `certified`, which tells how their least progress measures are found."""
 import io
-import os
-import pathlib
 import secrets
 import subprocess
 import sys
-from concurrent.futures import ProcessPoolExecutor
 
-TOP = pathlib.Path(__file__).resolve().parent.parent
+import case
+from case import TOP
+
 sys.path.insert(0, str(TOP / "bench"))
 import automata  # noqa: E402
 import families  # noqa: E402
@@ -122,23 +115,23 @@ def untried(cases):
     return f"no case of {' or '.join(sorted(names))}" if names else None
 
 
-def run(certified, parsolve):
-    """Tries every case, as many at once as there are processors; answers how many passed and failed."""
+def tried(cases):
+    """Why a case fails, by its name, or None; where `certified` isn't built nothing is tried."""
+    certified = case.fresh("certified")
+    if isinstance(certified, case.LeftOut):
+        raise certified
+    whys = ((name, fault(certified, case.PROGRAM, name)) for name in cases)
+    return next((f"{name}: {why}" for name, why in whys if why), None)
+
+
+def named():
+    """(what is tried, the call)."""
     seed = secrets.randbelow(2**32)
-    print(f"certified: gadgets of {GADGETS} seeds from {seed} on")
-    cases = CASES.strip().split("\n") + [f"small {i}" for i in range(len(SMALL))] + [f"gadget 21 7 {seed + i}" for i in range(GADGETS)]
-    with ProcessPoolExecutor(len(os.sched_getaffinity(0))) as pool:
-        faults = list(pool.map(fault, [certified] * len(cases), [parsolve] * len(cases), cases))
-    found = [*zip(cases, faults), ("families", untried(cases))]
-    for name, why in found:
-        if why is not None:
-            print(f"certified: {name}: {why}")
-    failed = sum(why is not None for _, why in found)
-    print(f"certified: {len(found) - failed} passed, {failed} failed")
-    return len(found) - failed, failed
+    cases = [*CASES.strip().split("\n"), *(f"small {number}" for number in range(len(SMALL)))]
+    yield "every family", lambda: untried([*cases, "gadget"])
+    yield from ((it, lambda it=it: tried([it])) for it in cases)
+    for first in range(seed, seed + GADGETS, 100):
+        yield f"gadgets of the seeds from {first} on", lambda first=first: tried(f"gadget 21 7 {first + i}" for i in range(100))
 
 
-if __name__ == "__main__":
-    if len(sys.argv) != 3:
-        sys.exit(__doc__)
-    sys.exit(1 if run(*sys.argv[1:])[1] else 0)
+Tests = case.tests_by_name(__name__, named())

@@ -4,13 +4,12 @@ import os
 import random
 import re
 import shlex
-import shutil
 import socket
 import subprocess
 import tempfile
 import tomllib
-from concurrent.futures import ProcessPoolExecutor
 
+import case
 import closed
 import controllers
 import limits
@@ -19,11 +18,7 @@ import refused
 import rows as table
 import serving
 
-top = os.path.dirname(os.path.dirname(os.path.abspath(__file__)))
-
-
-class Skipped(Exception):
-    """What a check raises that can't be made here."""
+top = str(case.TOP)
 
 
 def random_game(dice, priorities=range(5), most=6):
@@ -276,8 +271,8 @@ def controllers_as_defined(program, count=120):
 
 def circuits_are_read(program):
     """An outside tool, where it is installed, reads the circuits of the examples."""
-    if shutil.which("yosys") is None:
-        raise Skipped("yosys is not installed")
+    if case.lacking("yosys"):
+        return case.lacking("yosys")
     with tempfile.TemporaryDirectory() as folder:
         for name in ("request-grant", "owl-arbiter", "delay"):
             with open(os.path.join(top, "examples", f"{name}.hoa"), "rb") as file:
@@ -313,11 +308,11 @@ def refuser(folder):
     return path
 
 
-def survives_want_of_memory(program, name, args, text, wanted):
+def survives_want_of_memory(program, args, text, wanted):
     """The N-th growth is refused, N rising until a run meets no refusal: each earlier run ends with status 1, no output
-    and `out of memory`, or, where it could do without, with the right answer. Tells how many could, and without which growths.
-    """
-    spared = []
+    and `out of memory`, or, where it could do without, with the right answer."""
+    if case.lacking("cc"):
+        return case.lacking("cc")
     with tempfile.TemporaryDirectory() as folder:
         preload = refuser(folder)
         for n in range(1, 10_000):
@@ -326,11 +321,7 @@ def survives_want_of_memory(program, name, args, text, wanted):
                                  env={**os.environ, "LD_PRELOAD": preload, "REFUSE_AT": str(n), "REFUSE_MET": met})
             if ran.returncode == 0 and ran.stdout == wanted:
                 if not os.path.exists(met):
-                    print(f"{name}: {n - 1} growths refused in turn, {len(spared)} of them done without"
-                          + f": {', '.join(spared)}" * bool(spared))
                     return None if n > 1 else "no growth was refused"
-                with open(met) as file:
-                    spared.append(f"number {n} of {' and '.join(file.read().split())} bytes")
             elif (ran.returncode, ran.stdout, ran.stderr) != (1, b"", b"parsolve: out of memory\n"):
                 return f"growth {n} refused: status {ran.returncode}, {ran.stdout!r}, {ran.stderr!r}"
     return "no run met no refusal"
@@ -468,13 +459,12 @@ def climbed_games(dice, count):
 
 
 def solved_games():
-    """(what games they are, the games with solutions of them) for `solve --any`."""
-    dice = random.Random(8)
-    yield "the games of rows", solved_by_rows()
-    yield "random games", solved_by_definition(random_game(dice) for _ in range(100))
-    yield "random games of many priorities", solved_by_definition(random_game(dice, range(13), 8) for _ in range(100))
-    yield "every game of two vertices", solved_by_definition(games_of_two_vertices())
-    yield "hard games on which plain lifting ends", climbed_games(dice, 60)
+    """(what games they are, a call that makes them, with solutions) for `solve --any`."""
+    yield "the games of rows", lambda dice: solved_by_rows()
+    yield "random games", lambda dice: solved_by_definition(random_game(dice) for _ in range(100))
+    yield "random games of many priorities", lambda dice: solved_by_definition(random_game(dice, range(13), 8) for _ in range(100))
+    yield "every game of two vertices", lambda dice: solved_by_definition(games_of_two_vertices())
+    yield "hard games on which plain lifting ends", lambda dice: climbed_games(dice, 60)
 
 
 def hard_games_are_solved(program, size, count=5):
@@ -501,8 +491,7 @@ def row_lines(first, count, priority):
 def any_solution_survives(program, text):
     """What `solve --any` prints of a game is sound, and the same or nothing where memory is wanting."""
     solved = subprocess.run([program, "solve", "--any"], input=text, capture_output=True, timeout=60).stdout
-    return solution_loses(program, text, "--any") or survives_want_of_memory(
-        program, "want of memory in solve --any of a hard game", ["solve", "--any"], text, solved)
+    return solution_loses(program, text, "--any") or survives_want_of_memory(program, ["solve", "--any"], text, solved)
 
 
 def long_rows_as_worked_out(program, count=1000):
@@ -576,7 +565,7 @@ def games_are_limited(program):
     return None
 
 
-def cases(programs):
+def cases(program):
     """(name, check) of each check."""
     game = b"parity 2;\n0 1 0 1;\n1 3 0 2;\n2 4 0 0;\n"
     three = b"parity 2;\n0 0 1 0,1;\n1 1 1 1,2 \"odd\";\n2 2 0 0,2;\n"
@@ -593,58 +582,54 @@ def cases(programs):
              b"[!0&!1] 0 {0}\n[0&!1] 1 {0}\nState: 1\n[!0&1] 0 {0}\n[0&1] 1 {0}\n--END--\n")
     circuit = (b"REALIZABLE\naag 8 1 1 1 6\n2\n4 15\n17\n6 5 3\n8 5 2\n10 4 3\n12 4 2\n14 13 9\n16 13 11\n"
                b"i0 r\no0 g\n")
-    for program in programs:
-        name = os.path.basename(program)
-        yield f"the largest games of automata ({name})", lambda p=program: games_are_limited(p)
-        yield f"measure on random games ({name})", lambda p=program: answers_as_defined(p, "measure", naive.measure_text)
-        yield f"solve on random games ({name})", lambda p=program: answers_as_defined(p, "solve", naive.solution_text)
-        for command in ("measure", "solve"):
-            text_of = naive.measure_text if command == "measure" else naive.solution_text
-            yield (f"{command} on random games of many priorities ({name})", lambda p=program, c=command, t=text_of:
-                   answers_as_defined(p, c, t, lambda dice: random_game(dice, range(13), 8)))
-            yield (f"{command} on every game of two vertices ({name})", lambda p=program, c=command, t=text_of:
-                   all_small_games_as_defined(p, c, t))
-            yield (f"{command} on games at which Odd goes on in two ways ({name})", lambda p=program, c=command:
-                   answers_as_defined(p, c, lambda game: climbed_text(c, game), twice_game))
-            yield f"{command} under other identifiers ({name})", lambda p=program, c=command: names_change_nothing(p, c)
-            yield (f"{command} on hard games on which plain lifting ends ({name})", lambda p=program, c=command:
-                   answers_as_defined(p, c, lambda game: climbed_text(c, game),
-                                      lambda dice: hard_game(dice, dice.randint(20, 50)), count=60))
-            for size, count in ((100, 3), (300, 2), (1000, 1)):
-                yield (f"{command} on hard games of {size} vertices, by every number of workers ({name})",
-                       lambda p=program, c=command, n=size, count=count: workers_change_nothing(
-                           p, c, lambda dice: naive.game_text(hard_game(dice, n)), count))
-            yield (f"{command} by every number of workers ({name})",
-                   lambda p=program, c=command: workers_change_nothing(p, c, large_game))
-            yield (f"{command} where few vertices may rise, by every number of workers ({name})",
-                   lambda p=program, c=command: workers_change_nothing(p, c, calm_game))
-            yield (f"{command} where edges lead to vertices nearby, by every number of workers ({name})",
-                   lambda p=program, c=command: workers_change_nothing(p, c, near_game, count=5))
-        yield f"answers that were worked out, by every number of workers ({name})", lambda p=program: workers_answer_as_worked_out(p)
-        yield (f"synth by every number of workers ({name})", lambda p=program: workers_change_nothing(
-            p, "synth", lambda dice: controllers.automaton_text(controllers.random_automaton(dice))))
-        yield f"replay on random schedules ({name})", lambda p=program: replays_as_defined(p)
-        yield f"solutions of the examples ({name})", lambda p=program: solutions_win(p)
-        yield f"65,536 priorities in a gigabyte ({name})", lambda p=program: many_priorities_in_a_gigabyte(p)
-        for size in (100, 300, 1000):
-            yield f"hard games of {size} vertices ({name})", lambda p=program, n=size: hard_games_are_solved(p, n)
-        yield f"synth on random automata ({name})", lambda p=program: controllers_as_defined(p)
-        for what, games in solved_games():
-            yield f"solve --any on {what} ({name})", lambda p=program, g=games: any_solutions_win(p, g)
-        yield f"solve on long rows ({name})", lambda p=program: long_rows_as_worked_out(p)
-        yield f"files as input ({name})", lambda p=program: files_are_input(p)
-        yield f"little memory ({name})", lambda p=program: little_memory_is_told(p)
-        yield f"tokens that may not stand where they do ({name})", lambda p=program: refused.misplaced_tokens(p)
-        yield f"frames to a worker program ({name})", lambda p=program: serving.check(p)
-        yield f"texts that end too early ({name})", lambda p=program: refused.texts_that_end_too_early(p)
-        for what, games in (("vertices", limits.games_of_many_vertices), ("edges", limits.games_of_many_edges)):
-            yield f"games of as many {what} as there can be, and of more ({name})", lambda p=program, g=games: limits.of_games(p, g())
-        yield f"automata at the limits and just over them ({name})", lambda p=program: limits.of_automata(p)
-        yield f"check on long cycles and on loops in loops ({name})", lambda p=program: long_cycles_are_judged(p)
-        for words in ([], ["measure"], ["solve"], ["check"], ["replay"], ["game"], ["synth"]):
-            yield (f"the example in {' '.join([*words, '--help'])} ({name})",
-                   lambda p=program, w=words: example_in_help(p, w))
-    yield "circuits of the examples", lambda: circuits_are_read(programs[0])
+    yield "the largest games of automata", lambda: games_are_limited(program)
+    yield "measure on random games", lambda: answers_as_defined(program, "measure", naive.measure_text)
+    yield "solve on random games", lambda: answers_as_defined(program, "solve", naive.solution_text)
+    for command in ("measure", "solve"):
+        text_of = naive.measure_text if command == "measure" else naive.solution_text
+        yield (f"{command} on random games of many priorities", lambda c=command, t=text_of:
+               answers_as_defined(program, c, t, lambda dice: random_game(dice, range(13), 8)))
+        yield (f"{command} on every game of two vertices", lambda c=command, t=text_of:
+               all_small_games_as_defined(program, c, t))
+        yield (f"{command} on games at which Odd goes on in two ways", lambda c=command:
+               answers_as_defined(program, c, lambda game: climbed_text(c, game), twice_game))
+        yield f"{command} under other identifiers", lambda c=command: names_change_nothing(program, c)
+        yield (f"{command} on hard games on which plain lifting ends", lambda c=command:
+               answers_as_defined(program, c, lambda game: climbed_text(c, game),
+                                  lambda dice: hard_game(dice, dice.randint(20, 50)), count=60))
+        for size, count in ((100, 3), (300, 2), (1000, 1)):
+            yield (f"{command} on hard games of {size} vertices, by every number of workers",
+                   lambda c=command, n=size, count=count: workers_change_nothing(
+                       program, c, lambda dice: naive.game_text(hard_game(dice, n)), count))
+        yield f"{command} by every number of workers", lambda c=command: workers_change_nothing(program, c, large_game)
+        yield (f"{command} where few vertices may rise, by every number of workers",
+               lambda c=command: workers_change_nothing(program, c, calm_game))
+        yield (f"{command} where edges lead to vertices nearby, by every number of workers",
+               lambda c=command: workers_change_nothing(program, c, near_game, count=5))
+    yield "answers that were worked out, by every number of workers", lambda: workers_answer_as_worked_out(program)
+    yield ("synth by every number of workers", lambda: workers_change_nothing(
+        program, "synth", lambda dice: controllers.automaton_text(controllers.random_automaton(dice))))
+    yield "replay on random schedules", lambda: replays_as_defined(program)
+    yield "solutions of the examples", lambda: solutions_win(program)
+    yield "65,536 priorities in a gigabyte", lambda: many_priorities_in_a_gigabyte(program)
+    for size in (100, 300, 1000):
+        yield f"hard games of {size} vertices", lambda n=size: hard_games_are_solved(program, n)
+    yield "synth on random automata", lambda: controllers_as_defined(program)
+    for what, games in solved_games():
+        yield f"solve --any on {what}", lambda make=games: any_solutions_win(program, make(random.Random(8)))
+    yield "solve on long rows", lambda: long_rows_as_worked_out(program)
+    yield "files as input", lambda: files_are_input(program)
+    yield "little memory", lambda: little_memory_is_told(program)
+    yield "tokens that may not stand where they do", lambda: refused.misplaced_tokens(program)
+    yield "frames to a worker program", lambda: serving.check(program)
+    yield "texts that end too early", lambda: refused.texts_that_end_too_early(program)
+    for what, games in (("vertices", limits.games_of_many_vertices), ("edges", limits.games_of_many_edges)):
+        yield f"games of as many {what} as there can be, and of more", lambda g=games: limits.of_games(program, g())
+    yield "automata at the limits and just over them", lambda: limits.of_automata(program)
+    yield "check on long cycles and on loops in loops", lambda: long_cycles_are_judged(program)
+    for words in ([], ["measure"], ["solve"], ["check"], ["replay"], ["game"], ["synth"]):
+        yield f"the example in {' '.join([*words, '--help'])}", lambda w=words: example_in_help(program, w)
+    yield "circuits of the examples", lambda: circuits_are_read(program)
     # vertices of Even's in a row; Even wins from the last one, and one in 40 of those before it has priority 1: so a measure is how
     # many of these are ahead. Two workers share the game of 250 vertices, half of it each; that of 5,000 is solved in one piece
     rows = {count: "".join(f"{v} {int(v % 40 == 39 and v < count - 1)} 0 {min(v + 1, count - 1)};\n"
@@ -658,51 +643,29 @@ def cases(programs):
                                ("solve --any", three, solution), ("solve --any of one parity", odd, b"paritysol 1;\n0 1;\n1 1;\n"),
                                ("check", three + b"--\n" + solution, b"WINS\n"), ("replay", odd + script, world),
                                ("game", automaton, automaton_game), ("synth", delay, circuit)):
-        name = f"want of memory in {what}"
         command = what.partition(" of ")[0].split()
-        yield name, lambda it=name, c=command, t=text, w=wanted: survives_want_of_memory(programs[0], it, c, t, w)
+        yield f"want of memory in {what}", lambda c=command, t=text, w=wanted: survives_want_of_memory(program, c, t, w)
     # a game that takes some 60,000 plain lifts, and of which jumps are made in the game and in its dual
     hard = hard_game(random.Random(167), 60)
     for command in ("measure", "solve"):
-        name = f"want of memory in {command} of a hard game"
-        yield name, lambda it=name, c=command: survives_want_of_memory(
-            programs[0], it, [c], naive.game_text(hard).encode(), climbed_text(c, hard, most=200_000).encode())
-    yield "want of memory in solve --any of a hard game", lambda t=naive.game_text(hard).encode(): any_solution_survives(programs[0], t)
+        yield f"want of memory in {command} of a hard game", lambda c=command: survives_want_of_memory(
+            program, [c], naive.game_text(hard).encode(), climbed_text(c, hard, most=200_000).encode())
+    yield "want of memory in solve --any of a hard game", lambda t=naive.game_text(hard).encode(): any_solution_survives(program, t)
     # one game at which Odd goes on in two ways above another one
     twice = {5 * k + v: (p + 6 * k, owner, [5 * k + w for w in successors] + [5 * (1 - k)] * (v == 3 and k == 0))
              for k, part in enumerate(TWICE) for v, (p, owner, successors) in part.items()}
     for command in ("measure", "solve"):
-        name = f"want of memory in {command} where Odd goes on in two ways"
-        yield name, lambda it=name, c=command: survives_want_of_memory(
-            programs[0], it, [c], naive.game_text(twice).encode(), climbed_text(c, twice).encode())
+        yield f"want of memory in {command} where Odd goes on in two ways", lambda c=command: survives_want_of_memory(
+            program, [c], naive.game_text(twice).encode(), climbed_text(c, twice).encode())
     apart = ["measure", "--workers", "1", "--apart", "/proc/self/exe"]
-    name = "want of memory with --apart"
-    yield name, lambda: survives_want_of_memory(programs[0], name, apart, game, b"0 1,1;\n1 1,0;\n2 0,0;\n")
+    yield "want of memory with --apart", lambda: survives_want_of_memory(program, apart, game, b"0 1,1;\n1 1,0;\n2 0,0;\n")
 
 
-def outcome(programs, number):
-    """(name, whether it was made, why it failed or was skipped, or None) of one check, by its place."""
-    name, check = list(cases(programs))[number]
-    try:
-        return name, True, check()
-    except Skipped as missing:
-        return name, False, f"skipped, {missing}"
-    except Exception as fault:
-        return name, True, repr(fault)
+def named():
+    """The same; where there is no program each is left out."""
+    if case.PROGRAM is None:
+        return [("nothing", lambda: case.LeftOut("no program is of these sources"))]
+    return cases(case.PROGRAM)
 
 
-def run(programs):
-    """Runs every check, as many at once as there are processors; answers how many passed and failed. One that is skipped did neither."""
-    places = range(len(list(cases(programs))))
-    with ProcessPoolExecutor(len(os.sched_getaffinity(0))) as pool:
-        found = list(pool.map(outcome, [programs] * len(places), places))
-    for name, _, why in found:
-        if why is not None:
-            print(f"{name}: {why}")
-    skipped = sum(not is_made for _, is_made, _ in found)
-    failed = sum(is_made and why is not None for _, is_made, why in found)
-    passed = len(found) - skipped - failed
-    if skipped:
-        print(f"checks: {skipped} skipped")
-    print(f"checks: {passed} passed, {failed} failed")
-    return passed, failed
+Tests = case.tests_by_name(__name__, named())

@@ -1,22 +1,17 @@
-#!/usr/bin/env python3
 """Makes printed circuits small with ABC, as docs/commands.md shows, and checks that each small circuit does the same.
 
 ABC compares the two circuits, and a plain reader runs both on random inputs; ABC also has to tell a circuit apart in which an
-output is negated. Where ABC isn't installed nothing is checked.
-
-    tests/circuits.py [PROGRAM]    prints what it finds; the status is 1 if something is wrong
-"""
+output is negated."""
 import pathlib
 import random
-import shutil
 import subprocess
 import sys
 import tempfile
 
+import case
 import controllers
+from case import TOP
 
-TOP = pathlib.Path(__file__).resolve().parent.parent
-TOOLS = ["berkeley-abc"]
 EXAMPLES = ["arbiter", "request-grant", "owl-arbiter", "delay"]
 STEPS = 500
 
@@ -101,25 +96,11 @@ def why_wrong(program, name):
         return "ABC doesn't tell another circuit apart" if is_equivalent(folder, "other.aig", len(first.latches)) else None
 
 
-def run(program):
-    """Makes every check; answers how many passed and failed."""
-    missing = [it for it in TOOLS if shutil.which(it) is None]
-    if missing:
-        print(f"circuits: {' and '.join(missing)} isn't installed, so no circuit is made small")
-        return 0, 0
-    passed = failed = 0
+def small(program):
+    """The parts of the test, for each example."""
     sys.setrecursionlimit(100_000)  # the plain reader goes down a chain of gates
     for name in EXAMPLES:
-        try:
-            why = why_wrong(program, name)
-        except ValueError as fault:
-            why = str(fault)
-        passed, failed = passed + (why is None), failed + (why is not None)
-        if why is not None:
-            print(f"circuits: {name}: {why}")
-    print(f"circuits: {passed} passed, {failed} failed")
-    return passed, failed
+        yield name, case.lacking("berkeley-abc") or why_wrong(program, name)
 
 
-if __name__ == "__main__":
-    sys.exit(1 if run(sys.argv[1] if len(sys.argv) > 1 else str(TOP / "crates/parsolve/out/parsolve"))[1] else 0)
+Tests = case.tests(__name__, small)

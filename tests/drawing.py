@@ -4,16 +4,16 @@
 The texts for Graphviz of docs/pictures/ have to be those that the tool writes; the pictures beside them depend on the version
 of `dot`, and aren't compared.
 
-    tests/drawing.py            prints what it finds; the status is 1 if something is wrong
-    tests/drawing.py --write    first makes docs/pictures/ anew, for which `dot` has to be installed
+    tests/drawing.py    makes docs/pictures/ anew, for which `dot` has to be installed
 """
 import pathlib
-import shutil
 import subprocess
 import sys
 import tempfile
 
-TOP = pathlib.Path(__file__).resolve().parent.parent
+import case
+from case import TOP
+
 PICTURES = {"two": ["examples/two.pg"], "sender": ["examples/sender.pg", "examples/sender.solution"],
             "request-grant": ["examples/request-grant.hoa"], "traffic-light": ["examples/traffic-light.hoa"],
             "priorities": ["examples/priorities.hoa"],
@@ -285,8 +285,8 @@ def refusals():
 
 def pictures():
     """The same for a picture, where `dot` is installed."""
-    if not shutil.which("dot"):
-        print("drawing: dot isn't installed, so no picture is made")
+    if case.lacking("dot"):
+        yield "a picture", case.lacking("dot")
         return
     status, output, errors = drawn(PICTURES["two"])
     yield "a picture", (status, "<svg" in output and output.endswith("</svg>\n"), errors), (0, True, "")
@@ -300,39 +300,13 @@ def tables(program):
         yield told, drawn(words, {"game": TWO, "script": script}), (1, "", f"draw: {told}\n")
 
 
-def counted(checks):
-    """How many of the checks passed and failed."""
-    passed = failed = 0
-    for what, found, wanted in checks:
-        if found == wanted:
-            passed += 1
-        else:
-            failed += 1
-            print(f"drawing: {what}: {found!r}, and not {wanted!r}")
-    print(f"drawing: {passed} passed, {failed} failed")
-    return passed, failed
+Tests = case.tests(__name__, graphs, verdicts, parts, places, refusals, pictures, tables)
 
 
-def run():
-    """Makes every check that needs no program; answers how many passed and failed."""
-    return counted(check for part in (graphs, verdicts, parts, places, refusals, pictures) for check in part())
-
-
-def run_tables(program):
-    """The same for those that need one."""
-    return counted(tables(program))
-
-
-def write():
+if __name__ == "__main__":
     for name, files in PICTURES.items():
         for kind, words in (("dot", ["--dot"]), ("svg", [])):
             status, output, errors = drawn([*words, *files])
             if status:
                 sys.exit(errors)
             (TOP / f"docs/pictures/{name}.{kind}").write_text(output)
-
-
-if __name__ == "__main__":
-    if sys.argv[1:] == ["--write"]:
-        write()
-    sys.exit(1 if run()[1] else 0)

@@ -9,10 +9,10 @@ of its own function alone, or of one of them where it changes several:
 - it waits for another copy, where only functions that it calls are refused there;
 - anything else is a failure: that the function is proved, that its proof only misses names which the edit took away, that the prover
   comes to a limit, or that the edit can't be made, compiled or read.
-The libraries that the crate stands on have to be there, as ./build or the gate left them.
-
-    tests/edits.py [CRATE..]    prints what fails; the status is 1 if something does
+The libraries that the crate stands on have to be there, as ./build or the gate left them. `./test --proofs` tries one in four of each
+crate's, which goes round with the number of commits, and all of a crate that the last landing touched; with --all it tries all.
 """
+import argparse
 import os
 import pathlib
 import re
@@ -26,9 +26,10 @@ import time
 from concurrent.futures import ThreadPoolExecutor
 
 import scripts
+from case import TOP
 
-TOP = pathlib.Path(__file__).resolve().parent.parent
 EDITS = TOP / "edits"
+PARTS = 4  # one of so many parts of a crate's edits is tried with each commit
 ROOM = 3_000_000_000  # bytes of memory that a check may take
 FUNCTION = re.compile(r"(    )?(?:pub(?:\(\w+\))? )?(?:const )?(?:extern \"C\" )?fn (\w+)")
 OPEN = re.compile(r"note: (src/\S+?):(\d+):\d+: it is not proved that")
@@ -241,11 +242,38 @@ def read(crate, faults):
     return edits
 
 
-def run(names=()):
-    """Tries the edits of these crates, of all where none is named; answers how many passed and failed."""
+def git(*words):
+    """What git says, or nothing, where this is no repository or a shallow one."""
+    ran = subprocess.run(["git", *words], cwd=TOP, capture_output=True, text=True)
+    return ran.stdout.split() if ran.returncode == 0 else []
+
+
+def landed():
+    """The crates that the last landing touched: each ends with a release, so they differ from what the release before the last was made of."""
+    releases = git("log", "-2", "--format=%H", "--", "release/ABOUT")
+    changed = git("diff", "--name-only", releases[-1], "--", "crates", "edits") if len(releases) == 2 else []
+    return {path.split("/")[1] for path in changed}
+
+
+def part():
+    """(how many, which) of the edits of a crate of which not all are tried."""
+    return PARTS, int((git("rev-list", "--count", "HEAD") or ["0"])[0]) % PARTS
+
+
+def chosen(edits, is_whole):
+    """The edits that are tried of a crate's."""
+    count, first = part()
+    return edits if is_whole else edits[first::count]
+
+
+def run(names=(), is_whole=False):
+    """Tries all edits of these crates; where none is named those of every crate, all of them or a part. Answers how many passed and failed."""
     rtlib, start, spent = scripts.script("build").toolchain(is_still=True), time.monotonic(), processor_seconds()
     rtlib.guarded()  # what ends the prover with this process; it can't start once there are threads
+    whole = set(names) or (set(os.listdir(EDITS)) if is_whole else landed())
     wanted = set(names or os.listdir(EDITS))
+    if wanted - whole:
+        print(f"edits: part {part()[1] + 1} of {PARTS} of each crate's, and all of {', '.join(sorted(whole & wanted)) or 'none'}", flush=True)
     crates = [it for it in rtlib.crates_below(str(TOP)) if it.name in wanted]
     lacking = {below.name for it in crates for below in it.below() if not below.is_built()}
     if lacking:
@@ -253,7 +281,7 @@ def run(names=()):
         return 0, 1
     faults, copies = [f"there is no crate {it}" for it in sorted(wanted - {it.name for it in crates})], []
     for crate in crates:
-        copies += [(crate, it) for it in share_out(read(crate, faults))]
+        copies += [(crate, it) for it in share_out(chosen(read(crate, faults), crate.name in whole))]
     copies.sort(key=lambda it: len(it[1]), reverse=True)
     processors = len(os.sched_getaffinity(0))
     most = max([n for n in range(1, processors + 1) if rtlib.fits(*[ROOM] * n)], default=1)
@@ -273,5 +301,11 @@ def processor_seconds():
     return used.ru_utime + used.ru_stime
 
 
+def options():
+    words = argparse.ArgumentParser(description=__doc__, formatter_class=argparse.RawDescriptionHelpFormatter)
+    words.add_argument("crates", metavar="CRATE", nargs="*", help="tries all edits of this crate; where none is named, all of every crate")
+    return words.parse_args()
+
+
 if __name__ == "__main__":
-    sys.exit(1 if run(sys.argv[1:])[1] else 0)
+    sys.exit(1 if run(options().crates, is_whole=True)[1] else 0)

@@ -1,9 +1,5 @@
-#!/usr/bin/env python3
 """Tries the library for C, C++ and Python: its header is that of the sources, the sessions of docs/library.md print what the page says,
-its answers are those of the program, and tests/embedding.c finds nothing wrong, with and without the address sanitizer.
-
-    tests/embedding.py [PROGRAM]    prints what it finds; the status is 1 if something is wrong
-"""
+its answers are those of the program, and tests/embedding.c finds nothing wrong, with and without the address sanitizer."""
 import array
 import ctypes
 import importlib.util
@@ -11,15 +7,15 @@ import os
 import pathlib
 import random
 import re
-import shutil
 import subprocess
 import sys
 import tempfile
 
+import case
 import checks as of_program
 import naive
+from case import TOP
 
-TOP = pathlib.Path(__file__).resolve().parent.parent
 SOURCES, HEADER, MODULE = TOP / "crates/parsolve_c/src", TOP / "bindings/parsolve.h", TOP / "bindings/parsolve.py"
 WARNINGS = ["-Wall", "-Wextra", "-Werror"]
 # what a type of the sources is in C, an argument after the other
@@ -135,6 +131,9 @@ def printed(words, **more):
 
 def names_checks(folder):
     """The exports are the only names that other libraries can meet, and malloc's three the only ones that aren't of memory alone."""
+    if case.lacking("nm"):
+        yield "names", case.lacking("nm")
+        return
     wanted = sorted(exports()[1])
     for file, option in (("libparsolve.a", "-g"), ("libparsolve.so", "-D")):
         lines = [line.split() for line in printed(["nm", option, folder / "lib" / file]).splitlines()]
@@ -157,29 +156,22 @@ def blocks():
 
 def sessions_check(folder, work):
     """The sessions of the page, as they are written, in one shell; the name of the folder has no blank then."""
-    programs, commands, wanted = blocks()
-    for name, text in programs.items():
-        (work / name).write_text(text)
+    _, commands, wanted = blocks()
     linked = work / "laid"
     linked.symlink_to(folder)
-    if not shutil.which("pkg-config"):
-        print("embedding: pkg-config isn't installed, so the sessions of docs/library.md aren't run")
-        return
     env = {**os.environ, "FOLDER": str(linked), "PYTHONDONTWRITEBYTECODE": "1"}
     yield "the sessions", differs(printed(["sh", "-c", "\n".join(commands)], cwd=work, env=env), wanted)
 
 
 def example_checks(folder, work):
-    """The program of the page in C is one in C++ too, from the archive and from the shared object; the examples of the module."""
-    yield from sessions_check(folder, work)
-    wanted, flags = printed([work / "example"]), ["-I", folder / "include", "-L", folder / "lib"]
-    for language, compiler in (("c", ["cc", "-std=c99"]), ("c++", ["c++", "-std=c++11"])):
-        for how, more in (("archive", ["-l:libparsolve.a"]), ("shared", ["-lparsolve", f"-Wl,-rpath,{folder}/lib"])):
-            what, program = f"the example in {language}, {how}", work / f"example-{how}"
-            why = ran([*compiler, *WARNINGS, "-x", language, work / "example.c", *flags, *more, "-o", program])
-            yield what, why or differs(printed([program]), wanted)
-    why = ran(["c++", "-std=c++11", *WARNINGS, work / "example.cpp", *flags, "-l:libparsolve.a", "-o", work / "vectors"])
-    yield "the example with vectors", why or differs(printed([work / "vectors"]), printed([work / "example-cpp"]))
+    """The sessions and the programs of the page, where there are compilers, and the examples of the module."""
+    for name, text in blocks()[0].items():
+        (work / name).write_text(text)
+    if case.lacking("pkg-config", "cc", "c++"):
+        yield "the examples", case.lacking("pkg-config", "cc", "c++")
+    else:
+        yield from sessions_check(folder, work)
+        yield from compiled_checks(folder, work)
     yield "the examples of the module", ran([sys.executable, "-m", "doctest", folder / "python/parsolve/__init__.py"],
                                             env=with_module(folder))
     version = re.search(r'^const VERSION: &str = "(.*)";$', (TOP / "crates/pg_cli_words/src/words.rt").read_text(), re.M)[1]
@@ -189,10 +181,22 @@ def example_checks(folder, work):
     yield from installed(folder, work)
 
 
+def compiled_checks(folder, work):
+    """The program of the page in C is one in C++ too, from the archive and from the shared object."""
+    wanted, flags = printed([work / "example"]), ["-I", folder / "include", "-L", folder / "lib"]
+    for language, compiler in (("c", ["cc", "-std=c99"]), ("c++", ["c++", "-std=c++11"])):
+        for how, more in (("archive", ["-l:libparsolve.a"]), ("shared", ["-lparsolve", f"-Wl,-rpath,{folder}/lib"])):
+            what, program = f"the example in {language}, {how}", work / f"example-{how}"
+            why = ran([*compiler, *WARNINGS, "-x", language, work / "example.c", *flags, *more, "-o", program])
+            yield what, why or differs(printed([program]), wanted)
+    why = ran(["c++", "-std=c++11", *WARNINGS, work / "example.cpp", *flags, "-l:libparsolve.a", "-o", work / "vectors"])
+    yield "the example with vectors", why or differs(printed([work / "vectors"]), printed([work / "example-cpp"]))
+
+
 def installed(folder, work):
     """The package as pip installs it, where pip is there; nothing is fetched."""
     if not importlib.util.find_spec("pip"):
-        print("embedding: pip isn't installed, so the package isn't")
+        yield "the package, installed", case.LeftOut("pip isn't installed")
         return
     target = work / "installed"
     why = ran([sys.executable, "-m", "pip", "install", "-q", "--no-index", "--target", target, folder / "python"])
@@ -211,6 +215,9 @@ def with_module(folder):
 
 def harness_checks(folder, work):
     """What tests/embedding.c tries."""
+    if case.lacking("cc"):
+        yield "tests/embedding.c", case.lacking("cc")
+        return
     wraps = [f"-Wl,--wrap={name}" for name in ("malloc", "realloc", "free")]
     for how, flags in (("", ["-O1"]), (", sanitized", ["-O1", "-g", "-fsanitize=address"])):
         program = work / f"harness{len(flags)}"
@@ -353,7 +360,6 @@ def kinds_of_arrays():
     try:
         import numpy
     except ImportError:
-        print("embedding: NumPy isn't installed, so its arrays aren't tried")
         return
     types = {"I": "u4", "B": "u1"}
     yield "NumPy", True, lambda kind, numbers: numpy.array(numbers, types[kind])
@@ -364,6 +370,8 @@ def kinds_of_arrays():
 
 def array_checks(parsolve):
     """Arrays that fit are taken as they are, and others are copied."""
+    if not importlib.util.find_spec("numpy"):
+        yield "arrays of NumPy", case.LeftOut("NumPy isn't installed")
     numbers, kinds = (("I", [2, 1]), ("B", [1, 0]), ("I", [0, 2, 4]), ("I", [0, 1, 0, 1])), list(kinds_of_arrays())
     for kind, fits, make in kinds:
         parts = [make(*it) for it in numbers]
@@ -436,15 +444,19 @@ def imported(folder):
 
 # ---- all of it
 
-def why_untried(prove):
-    """Why the library can't be tried without a proof, or None."""
-    if shutil.which("rt") is None:
-        return "rt isn't on the path"
-    said = subprocess.run([TOP / "tools/stale", "parsolve_c"], stdout=subprocess.PIPE, text=True, check=True).stdout.strip()
-    return None if prove else said or None
+def untried():
+    """Why the library isn't tried, or None: it may be neither there nor proved now, or what links it isn't installed."""
+    found = case.fresh("parsolve_c")
+    if isinstance(found, case.LeftOut):
+        return None if case.IS_PROVING else found
+    return None if "/release/" in found else case.lacking("cc", "ld", "ar", "objcopy")
 
 
-def checks(program):
+def library(program):
+    """The library that is of these sources, built or released; it is built first where something may be proved."""
+    if untried():
+        yield "the library", untried()
+        return
     with tempfile.TemporaryDirectory() as made:
         work, first, folder = pathlib.Path(made), pathlib.Path(made) / "first", pathlib.Path(made) / "a folder"
         why = ran([TOP / "build", "--library", first], timeout=7200)
@@ -456,23 +468,4 @@ def checks(program):
             yield from same_answers(imported(folder), program)
 
 
-def run(program, prove=False):
-    """Makes every check, of the header alone where the library isn't built and nothing is to be proved; answers how many passed and
-    failed."""
-    why_not = why_untried(prove)
-    if why_not:
-        print(f"embedding: {why_not}, so the library isn't tried")
-    passed = failed = 0
-    for what, why in [*header_checks(), *([] if why_not else checks(program))]:
-        if why is None:
-            passed += 1
-        else:
-            failed += 1
-            print(f"embedding: {what}: {why}")
-    print(f"embedding: {passed} passed, {failed} failed")
-    return passed, failed
-
-
-if __name__ == "__main__":
-    given = sys.argv[1] if len(sys.argv) > 1 else str(TOP / "crates/parsolve/out/parsolve")
-    sys.exit(1 if run(given, prove=True)[1] else 0)
+Tests = case.tests(__name__, header_checks, library)

@@ -1,20 +1,16 @@
-#!/usr/bin/env python3
 """Runs the command of the README that compiles the program with nothing proved, in a copy of the crates in which nothing was built,
-and sees that it prints the solution of the example. Where `rt` is missing nothing is run.
-
-    tests/first_look.py    prints what it finds; the status is 1 if something is wrong
-"""
+and sees that it prints the solution of the example."""
 import pathlib
 import re
 import shutil
 import subprocess
-import sys
 import tempfile
 import time
 
+import case
 import library
+from case import TOP
 
-TOP = pathlib.Path(__file__).resolve().parent.parent
 
 
 def command():
@@ -35,16 +31,9 @@ def why_wrong():
     return None if is_right else f"status {ran.returncode}: {ran.stdout}{ran.stderr}"
 
 
-def run():
-    """Makes the check; answers how many passed and failed."""
-    if shutil.which("rt") is None:
-        print("first look: rt isn't on the path, so nothing is compiled")
-        return 0, 0
-    why = why_wrong()
-    if why is not None:
-        print(f"first look: {why}")
-    return (1, 0) if why is None else (0, 1)
+def look():
+    """The part of the test."""
+    yield "the README's first look", why_wrong()
 
 
-if __name__ == "__main__":
-    sys.exit(1 if run()[1] else 0)
+Tests = case.tests(__name__, look)

@@ -1,4 +1,4 @@
-"""Checks of ./parsolve, ./build and ./test --quick, with a stand-in for the toolchain that proves nothing and notes what it is asked."""
+"""Checks of ./parsolve, ./build and ./test, with a stand-in for the toolchain that proves nothing and notes what it is asked."""
 import hashlib
 import os
 import pathlib
@@ -7,9 +7,12 @@ import shutil
 import subprocess
 import sys
 import tempfile
+import time
 
-TOP = pathlib.Path(__file__).resolve().parent.parent
-CRATES = {"low": "", "left": "low", "right": "low", "parsolve": "left right", "low_tests": "low"}
+import case
+from case import TOP
+
+CRATES = {"low": "", "left": "low", "right": "low", "parsolve": "left right", "parsolve_c": "left", "low_tests": "low"}
 
 RTLIB = '''
 import os, pathlib, time
@@ -68,19 +71,27 @@ def fits(*needs):
 '''
 RT = '''#!/bin/sh
 [ "$1" = version ] && echo "the test's kit" && exit
-echo "run" >> "$NOTES"
+echo "$1" >> "$NOTES"
 grep -q wrong ../*/src/lib.rt && exit 1
+[ "$1" = lib ] && exit
 printf '#!/bin/sh\\necho "$@"\\ncat\\n' > out/parsolve
 chmod +x out/parsolve
 '''
-# a part of ./test, which says what it is given and counts one check
+# a stand-in for what links: it writes the file behind -o, or the second word
+LINKER = '''#!/bin/sh
+file=$2
+while [ $# -gt 0 ]; do [ "$1" = -o ] && file=$2; shift; done
+case $file in -*) ;; *) [ -e "$file" ] || echo linked > "$file" ;; esac
+'''
+# a module of tests, which says what it is given
 PART = '''
-import os
-def run(*given):
-    programs = given[0] if given and isinstance(given[0], list) else given
-    print(__name__, *map(os.path.basename, programs))
-    return 1, 0
-run_tables = run_with = run
+import sys
+import unittest
+import case
+class Tests(unittest.TestCase):
+    def test_it(self):
+        sys.stdout.write(f"{__name__} {case.PROGRAM} {case.BY_RATTLE} {case.IS_PROVING}\\n")
+        sys.stdout.flush()
 '''
 
 
@@ -92,16 +103,21 @@ class Copy:
         self.kit.mkdir()
         self.write(self.kit / "rt", RT)
         self.write(self.kit / "rtlib.py", RTLIB)
+        for name in ("ld", "objcopy", "ar", "cc"):
+            self.write(self.kit / name, LINKER)
+            (self.kit / name).chmod(0o755)
         (self.kit / "rt").chmod(0o755)
         for name in CRATES:
             self.write(self.source(name), name)
         self.write(self.top / "crates/pg_cli_words/src/words.rt", 'const VERSION: &str = "1.2.3";\n')
         self.write(self.top / "crates.txt", "".join(f"{name}: {uses}\n" for name, uses in CRATES.items()))
         (self.top / "tools").mkdir()
-        for name in ("parsolve", "build", "test", "tools/sources", "tools/stale"):
+        for name in ("parsolve", "build", "test", "tools/sources", "tools/fresh"):
             shutil.copy(TOP / name, self.top / name)
-        for name in re.findall(r"^import (\w+)  # noqa", (TOP / "test").read_text(), re.M):
-            self.write(self.top / f"tests/{name}.py", PART)
+        for name in ("parsolve.h", "parsolve.hpp", "parsolve.pc", "pyproject.toml", "wheel_of_parsolve.py", "parsolve.py"):
+            self.write(self.top / "bindings" / name, "@VERSION@")
+        for path in (TOP / "tests").glob("*.py"):
+            self.write(self.top / "tests" / path.name, path.read_text() if path.stem in ("case", "edits", "scripts") else PART)
 
     def source(self, crate):
         return self.top / "crates" / crate / "src/lib.rt"
@@ -121,7 +137,7 @@ class Copy:
 
     def ended(self, ran):
         """(status, output, error stream, what the toolchain was asked) of a script that was started."""
-        output, errors = ran.communicate("the input\n", timeout=60)
+        output, errors = ran.communicate("the input\n", timeout=300)
         return ran.returncode, output, errors, self.notes.read_text().split("\n")[:-1]
 
     def use(self, **more):
@@ -129,166 +145,291 @@ class Copy:
         self.notes.write_text("")
         return self.ended(self.start(**more))
 
-    def test(self):
-        """(status, what it printed, line by line) of ./test --quick, or the fault that it asked the toolchain for something."""
+    def build(self, *words, **more):
+        """(status, error stream, what the toolchain was asked) of ./build."""
         self.notes.write_text("")
-        status, output, _, asked = self.ended(self.start("test", ["--quick"]))
-        return asked or (status, output.splitlines())
+        status, _, errors, asked = self.ended(self.start("build", words, **more))
+        return status, errors, asked
+
+    def release(self):
+        """Lays a program, which says that it is released, and a library into release/, as what is built of these sources."""
+        self.build()
+        program, library = self.top / "release/bin/parsolve", self.top / "release/lib/libparsolve.so"
+        self.write(program, (self.top / "crates/parsolve/out/parsolve").read_text().replace("echo", "echo released"))
+        program.chmod(0o755)
+        for path in (library, self.top / "release/include/parsolve.h", self.top / "release/python/parsolve/__init__.py"):
+            self.write(path, "of the library")
+        lines = [f"sha256 {hashlib.sha256(it.read_bytes()).hexdigest()} {it.name}" for it in (program, library)]
+        for name in ("parsolve", "parsolve_c"):
+            of = subprocess.run(["sh", self.top / "tools/sources", name], stdout=subprocess.PIPE, text=True, check=True).stdout.strip()
+            lines.append(f"sources {name} {of}")
+        self.write(self.top / "release/ABOUT", "".join(f"{it}\n" for it in lines))
+
+    def test(self, *words):
+        """(status, what it printed, line by line) of ./test, or the fault that it asked the toolchain for something."""
+        self.notes.write_text("")
+        status, output, _, asked = self.ended(self.start("test", words))
+        return asked or (status, [line for line in output.splitlines() if not line.startswith("tests: ")])
 
 
-RIGHT = (0, "solve two words\nthe input\n")
+RIGHT = (0, "solve two words\nthe input\n", "", [])
+STALE = "parsolve: crates/parsolve/out/parsolve isn't built of these sources, and there is no release/bin/parsolve\n"
+UNBUILT = "parsolve: there is no crates/parsolve/out/parsolve, and there is no release/bin/parsolve\n"
+HOW = "parsolve: ./build proves and builds it\n"
 
 
-def first_use(copy):
-    """The libraries are proved, those beside one another at once; the kit is told, and then the program runs."""
-    *ran, errors, asked = copy.use()
-    return tuple(ran) == RIGHT and asked[:2] == ["start low", "end low"] and {*asked[2:4]} == {"start left", "start right"} \
-        and {*asked[4:6]} == {"end left", "end right"} and asked[6:] == ["run"] and "by the test's kit\n" in errors
+def refused(copy, why=STALE):
+    """Whether a use says why there is no program and how it is built, runs none, and proves nothing."""
+    return copy.use() == (1, "", why + HOW, [])
+
+
+def first_build(copy):
+    """Nothing is proved unasked. ./build proves the libraries, those beside one another at once, and tells the kit; then the program runs."""
+    was_refused = refused(copy, UNBUILT)
+    status, errors, asked = copy.build()
+    return was_refused and status == 0 and asked[:2] == ["start low", "end low"] and {*asked[2:4]} == {"start left", "start right"} \
+        and {*asked[4:6]} == {"end left", "end right"} and asked[6:] == ["run"] and "by the test's kit\n" in errors and copy.use() == RIGHT
 
 
 def later_uses(copy):
-    """Nothing is asked where nothing changed, nor after a change of a crate of tests."""
-    copy.use()
+    """The program runs where nothing changed, and after a change of a crate of tests."""
+    copy.build()
+    ran = copy.use()
     copy.write(copy.source("low_tests"), "changed")
-    return copy.use() == (*RIGHT, "", [])
+    return ran == copy.use() == copy.use() == RIGHT
 
 
 def changes(copy):
-    """After a change of a library it and what stands on it are proved again, and nothing else."""
-    copy.use()
+    """After a change of a library the program is refused; ./build proves it and what stands on it, and nothing else."""
+    copy.build()
     copy.write(copy.source("left"), "changed")
-    *ran, _, asked = copy.use()
-    return tuple(ran) == RIGHT and asked == ["start left", "end left", "run"] and copy.use() == (*RIGHT, "", [])
+    return refused(copy) and copy.build()[2] == ["start left", "end left", "run"] and copy.use() == RIGHT
+
+
+def set_back(copy):
+    """A source that changed is found, though its size and its time are as they were, and though the program is of a later time."""
+    copy.build()
+    copy.use()
+    source, program = copy.source("left"), copy.top / "crates/parsolve/out/parsolve"
+    times = (source.stat().st_atime_ns, source.stat().st_mtime_ns)
+    copy.write(source, "tfel")
+    os.utime(source, ns=times)
+    is_found = refused(copy)
+    os.utime(program, (time.time() + 1e6,) * 2)
+    return is_found and refused(copy)
+
+
+def laid_over(copy):
+    """An older tree that is laid over this one, with the times that it has, is found, and so is this one when it comes back."""
+    older = copy.top.parent / "older"
+    shutil.copytree(copy.top, older)
+    time.sleep(0.02)
+    copy.write(copy.source("left"), "newer")
+    copy.build()
+    ran = copy.use()
+    newer = copy.top.parent / "newer"
+    shutil.copytree(copy.top / "crates/left", newer / "crates/left")
+    subprocess.run(["cp", "-pr", f"{older}/crates", copy.top], check=True)
+    is_found = refused(copy)
+    subprocess.run(f"tar cf - -C '{newer}' crates | tar xf - -C '{copy.top}'", shell=True, check=True)
+    return is_found and ran == copy.use() == RIGHT
+
+
+def other_lines(copy):
+    """A change of what a crate stands on is found, and one of a line of tests changes nothing; nor does a comment."""
+    copy.build()
+    lines = (copy.top / "crates.txt").read_text()
+    copy.write(copy.top / "crates.txt", f"# of tests\n{lines}other_tests: low\n")
+    ran = copy.use()
+    copy.write(copy.top / "crates.txt", lines.replace("right: low", "right: low left"))
+    return ran == RIGHT and refused(copy)
+
+
+def moved_sources(copy):
+    """A source that is gone, or new, is found."""
+    copy.build()
+    copy.write(copy.source("left").with_name("more.rt"), "more")
+    is_found = refused(copy)
+    copy.source("left").with_name("more.rt").unlink()
+    ran = copy.use()
+    copy.source("right").unlink()
+    return is_found and ran == RIGHT and refused(copy)
+
+
+def other_programs(copy):
+    """A program that is empty, or another one than was built, doesn't run."""
+    copy.build()
+    program = copy.top / "crates/parsolve/out/parsolve"
+    text, before = program.read_text(), copy.use()
+    copy.write(program, text.replace("echo", "echo other"))
+    is_found = refused(copy)
+    copy.write(program, "")
+    is_missed = refused(copy, UNBUILT)
+    copy.write(program, text)
+    return is_found and is_missed and before == copy.use() == RIGHT
+
+
+def fewer_tools(copy):
+    """Tools without their run bit do as before. Where one is gone, or find isn't on the path, the program doesn't run."""
+    copy.build()
+    for name in ("fresh", "sources"):
+        (copy.top / "tools" / name).chmod(0o644)
+    ran = copy.use()
+    for name in ("sh", "awk", "cat", "cut", "dirname", "grep", "mkdir", "mv", "readlink", "sha256sum", "sort", "xargs"):
+        (copy.kit / name).symlink_to(shutil.which(name))
+    status, output, errors, _ = copy.use(PATH=str(copy.kit))
+    (copy.top / "tools/fresh").unlink()
+    gone = copy.use()
+    return ran == RIGHT and (status, output) == gone[:2] == (1, "") and errors.endswith(STALE + HOW) and gone[2].endswith(HOW)
+
+
+def sums(copy):
+    """Where nothing changed no sum is made, so that a call is quick; where a time did, they are made once."""
+    copy.build()
+    copy.write(copy.kit / "sha256sum", f'#!/bin/sh\necho sum >> "$NOTES"\nexec {shutil.which("sha256sum")} "$@"\n')
+    (copy.kit / "sha256sum").chmod(0o755)
+    first, second = copy.use(), copy.use()
+    copy.source("left").touch()
+    third, fourth = copy.use(), copy.use()
+    return [it[:3] for it in (first, second, third, fourth)] == [RIGHT[:3]] * 4 and first[3] == third[3] == ["sum"] * 3 \
+        and second[3] == fourth[3] == []
 
 
 def failures(copy):
-    """Where a library isn't proved the status is 1, nothing is printed, and the error stream says where the log is."""
+    """Where a library isn't proved the status is 1, and the error stream says where the log is."""
     copy.write(copy.source("left"), "wrong")
-    status, output, errors, asked = copy.use()
+    status, errors, asked = copy.build()
     log = copy.top / "crates/left/out/build.log"
-    return (status, output) == (1, "") and str(log) in errors and log.read_text() == "not proved\n" and "run" not in asked
+    return status == 1 and str(log) in errors and log.read_text() == "not proved\n" and "run" not in asked
 
 
 def little_memory(copy):
     """Where memory is short the libraries are proved one after the other, each by one process, so by statements."""
-    *_, asked = copy.use(FITS="1")
+    *_, asked = copy.build(FITS="1")
     orders = [("low", "left", "right"), ("low", "right", "left")]
     return asked in [[word for name in order for word in (f"start {name}", f"end {name} by statements")] + ["run"] for order in orders]
 
 
 def at_once(copy):
-    """Of two first uses at once one builds and the other waits; both run the program."""
+    """Of two builds at once one builds and the other waits."""
     copy.notes.write_text("")
-    both = [copy.start(), copy.start()]
-    ran = [(it.communicate("the input\n", timeout=60)[0], it.returncode) for it in both]
-    return ran == [RIGHT[::-1]] * 2 and copy.notes.read_text().count("start low") == 1
+    both = [copy.start("build", ()), copy.start("build", ())]
+    ended = [(it.communicate(timeout=60), it.returncode)[1] for it in both]
+    return ended == [0, 0] and copy.notes.read_text().count("start low") == 1
 
 
 def other_toolchain(copy):
     """With a toolchain whose library can't be used, `rt` alone builds the program."""
     (copy.kit / "rtlib.py").unlink()
-    *ran, _, asked = copy.use()
-    return tuple(ran) == RIGHT and asked == ["run"]
+    status, _, asked = copy.build()
+    return (status, asked) == (0, ["run"])
 
 
 def no_toolchain(copy):
-    """Without a toolchain the error stream says what is missing."""
+    """Without a toolchain ./build says what is missing, and ./test --proofs does, in a line."""
     (copy.kit / "rt").unlink()
-    for name in ("sh", "awk", "cut", "dirname", "find", "grep", "head", "readlink", "sed", "sha256sum", "sort", "xargs"):
+    for name in ("sh", "awk", "cat", "cut", "dirname", "find", "grep", "readlink", "sha256sum", "sort", "xargs"):
         (copy.kit / name).symlink_to(shutil.which(name))
     (copy.kit / "python3").symlink_to(sys.executable)
-    status, output, errors, _ = copy.use(PATH=str(copy.kit))
-    return (status, output) == (1, "") and all(it in errors for it in ("rt isn't on the path", "Rattle kit", "rt version"))
+    status, errors, _ = copy.build(PATH=str(copy.kit))
+    proofs = copy.ended(copy.start("test", ["--proofs"], PATH=str(copy.kit)))
+    return status == 1 and all(it in errors for it in ("rt isn't on the path", "Rattle kit", "rt version")) \
+        and proofs[:3] == (1, "test: the command rt isn't on the path, so nothing can be proved\n", "")
 
 
 def releasing(copy):
-    """./build --release takes the program that is built, if that is of the sources, and says what it is."""
-    copy.use()
-    copy.notes.write_text("")
-    status, _, _, asked = copy.ended(copy.start("build", ["--release"]))
-    program = (copy.top / "release/parsolve").read_bytes()
-    about = dict(line.split(" ", 1) for line in (copy.top / "release/ABOUT").read_text().splitlines())
-    wanted = {"program": "parsolve 1.2.3", "kit": "the test's kit", "sha256": hashlib.sha256(program).hexdigest()}
-    return (status, asked) == (0, []) and program == (copy.top / "crates/parsolve/out/parsolve").read_bytes() \
-        and {*about} == {*wanted, "sources"} and wanted.items() <= about.items()
+    """./build --release takes the program that is built and is of the sources, builds the library, and says what both are."""
+    copy.build()
+    copy.write(copy.top / "crates/parsolve_c/out/libparsolve_c.a", "made by the test")
+    status, _, asked = copy.build("--release")
+    release, built = copy.top / "release", copy.top / "crates/parsolve/out/parsolve"
+    about = (release / "ABOUT").read_text().splitlines()
+    files = ("bin/parsolve", "lib/libparsolve.a", "lib/libparsolve.so")
+    wanted = ["kit the test's kit", "program parsolve 1.2.3", *(f"sha256 {hashlib.sha256((release / it).read_bytes()).hexdigest()} "
+                                                                f"{it.rpartition('/')[2]}" for it in files)]
+    return (status, asked) == (0, ["lib"]) and (release / "bin/parsolve").read_bytes() == built.read_bytes() \
+        and sorted(it for it in about if not it.startswith("sources")) == sorted(wanted) \
+        and [it.split()[1] for it in about if it.startswith("sources")] == ["parsolve", "parsolve_c"] \
+        and "1.2.3" in (release / "include/parsolve.h").read_text()
 
 
 def released(copy):
     """Where nothing is built the released program runs, if it is of these sources, without a toolchain too, in a folder of another name; after
-    a change the program is built."""
-    copy.ended(copy.start("build", ["--release"]))
+    a change it doesn't."""
+    copy.release()
     for folder in copy.top.glob("crates/*/out"):
         shutil.rmtree(folder)
     copy.top = copy.top.rename(copy.top.with_name("another copy"))
     (copy.top.parent / "link to parsolve").unlink(missing_ok=True)
-    program = copy.top / "release/parsolve"
-    copy.write(program, program.read_text().replace("echo", "echo released"))
     runs = copy.use(PATH=os.environ["PATH"])
     copy.write(copy.source("low_tests"), "changed")
     runs_still = copy.use()
     copy.write(copy.source("left"), "changed")
-    *ran, _, asked = copy.use()
-    return runs == runs_still == (0, "released " + RIGHT[1], "", []) and tuple(ran) == RIGHT and asked[-1] == "run"
+    why = "parsolve: there is no crates/parsolve/out/parsolve, and release/bin/parsolve isn't built of these sources\n"
+    return runs == runs_still == (0, "released " + RIGHT[1], "", []) and refused(copy, why)
 
 
-WITHOUT_PROGRAM = ["layout", "pages", "first_use", "drawing", "rewriting", "simulating", "release"]
-WITHOUT_CERTIFIED = "test: there is no crates/certified/out/certified (run `rt run` in crates/certified), so how games of the benches " \
-    "are solved isn't looked at"
-WITH_PROGRAM = [f"{name} parsolve" for name in ("rows", "checks", "apart", "sessions", "circuits", "share", "drawing", "rewriting",
-                                                   "simulating", "embedding")]
+def installing(copy):
+    """./build --install lays program, library, tools and pages of release/, and asks the toolchain for nothing."""
+    copy.release()
+    shutil.rmtree(copy.top / "crates/parsolve/out", ignore_errors=True)
+    folder = copy.top.parent / "a prefix"
+    for part in ("share", "examples"):
+        copy.write(copy.top / part / "some/file", part)
+    for name in ("circuit", "draw", "hoa", "where", "games.py"):
+        copy.write(copy.top / "tools" / name, "print('here')")
+    for name in ("release/README.md", "LICENSE-APACHE", "LICENSE-MIT"):
+        copy.write(copy.top / name, name)
+    status, _, asked = copy.build("--install", str(folder), PATH=os.environ["PATH"])
+    again = copy.build("--install", str(folder), PATH=os.environ["PATH"])[0]
+    laid = {str(it.relative_to(folder)) for it in folder.rglob("*") if it.is_file()}
+    wanted = {"bin/parsolve", "bin/parsolve-draw", "share/some/file", "share/parsolve/examples/some/file", "share/parsolve/tools/games.py",
+              "share/parsolve/README.md", "share/parsolve/LICENSE-MIT", "lib/libparsolve.so", "include/parsolve.h", "python/parsolve/__init__.py"}
+    return (status, again, asked) == (0, 0, []) and wanted <= laid and not {"share/parsolve/tools/fresh"} & laid
 
 
-def untested(copy, why):
-    """Whether ./test --quick says why it tries no program, fails for that, and tries all the rest."""
-    told = f"test: {why} (run ./build), so no program is tried"
-    return copy.test() == (1, [*WITHOUT_PROGRAM, told, WITHOUT_CERTIFIED, f"{len(WITHOUT_PROGRAM)} passed, 1 failed"])
+MODULES = re.findall(r"\w+", re.search(r"^MODULES = \"(.*?)\"", (TOP / "test").read_text(), re.M | re.S)[1])
 
 
-def quick_test(copy):
-    """./test --quick asks the toolchain for nothing, and tries the program that was built and all that needs none."""
-    copy.use()
-    return copy.test() == (0, [*WITHOUT_PROGRAM, *WITH_PROGRAM, WITHOUT_CERTIFIED, f"{len(WITHOUT_PROGRAM + WITH_PROGRAM)} passed, 0 failed"])
+def test_of_built(copy):
+    """./test asks the toolchain for nothing, and tries the program that was built and all that needs none."""
+    copy.build()
+    status, lines = copy.test()
+    program = copy.top / "crates/parsolve/out/parsolve"
+    return status == 0 and sorted(lines[:-1]) == sorted(f"{it} {program} None False" for it in MODULES) \
+        and lines[-1] == f"{len(MODULES)} passed, 0 failed"
 
 
-def quick_test_certified(copy):
-    """It looks at how games of the benches are solved where the program that tells it was built."""
-    copy.use()
-    program = copy.top / "crates/certified/out/certified"
-    copy.write(program, "")
-    program.chmod(0o755)
-    return copy.test() == (0, [*WITHOUT_PROGRAM, *WITH_PROGRAM, "certified certified parsolve",
-                                f"{len(WITHOUT_PROGRAM + WITH_PROGRAM) + 1} passed, 0 failed"])
+def test_of_released(copy):
+    """It tries the released program, where nothing is built and that is of the sources."""
+    copy.release()
+    shutil.rmtree(copy.top / "crates/parsolve/out", ignore_errors=True)
+    return f"rows {copy.top / 'release/bin/parsolve'} None False" in copy.test()[1]
 
 
-def quick_test_unbuilt(copy):
-    """It says that no program was built."""
-    return untested(copy, "there is no crates/parsolve/out/parsolve")
+def test_of_none(copy):
+    """Where no program is of the sources it says so, fails for that, and tries all the rest."""
+    status, lines = copy.test()
+    told = "test: there is no crates/parsolve/out/parsolve, and there is no release/bin/parsolve, so no program is tried"
+    return status == 1 and told in lines and "rows None None False" in lines and lines[-1] == f"{len(MODULES)} passed, 1 failed"
 
 
-def quick_test_stale(copy):
-    """It says which source is newer than the program: a library's that it stands on, and none of a crate of tests."""
-    copy.use()
-    copy.write(copy.source("low_tests"), "changed")
-    is_tried = copy.test()[0] == 0
-    copy.write(copy.source("left"), "changed")
-    return is_tried and untested(copy, "crates/left/src/lib.rt is newer than crates/parsolve/out/parsolve")
+def test_of_one(copy):
+    """With -k it tries what has the word in its name, and nothing else; with --program another program."""
+    copy.build()
+    found = copy.test("-k", "rows"), copy.test("-k", "rows", "--program", "/bin/true"), copy.test("-k", "no such test")
+    return found == ((0, [f"rows {copy.top / 'crates/parsolve/out/parsolve'} None False", "1 passed, 0 failed"]),
+                     (0, ["rows /bin/true None False", "1 passed, 0 failed"]), (1, ["test: no test has no such test in its name", "0 passed, 1 failed"]))
 
 
-def run():
-    """Makes every check; answers how many passed and failed."""
-    checks = (first_use, later_uses, changes, failures, little_memory, at_once, other_toolchain, no_toolchain, releasing, released, quick_test,
-              quick_test_certified, quick_test_unbuilt, quick_test_stale)
-    passed = failed = 0
-    for check in checks:
-        with tempfile.TemporaryDirectory() as folder:
-            if check(Copy(pathlib.Path(folder))):
-                passed += 1
-            else:
-                failed += 1
-                print(f"first use: {check.__name__} failed")
-    print(f"first use: {passed} passed, {failed} failed")
-    return passed, failed
+CHECKS = (first_build, later_uses, changes, set_back, laid_over, other_lines, moved_sources, other_programs, fewer_tools, sums, failures,
+          little_memory, at_once, other_toolchain, no_toolchain, releasing, released, installing, test_of_built, test_of_released, test_of_none, test_of_one)
 
 
-if __name__ == "__main__":
-    raise SystemExit(1 if run()[1] else 0)
+def why_wrong(check):
+    """Why a check fails, or None."""
+    with tempfile.TemporaryDirectory() as folder:
+        return None if check(Copy(pathlib.Path(folder).resolve())) else check.__doc__
+
+
+Tests = case.tests_by_name(__name__, ((it.__name__, lambda it=it: why_wrong(it)) for it in CHECKS))

@@ -12,19 +12,17 @@ Whoever wants to believe what is proved reads the believed modules: the files of
   docs/promises.md, whose first table names those that the gate tries;
 - five crates of the kit are used where the product is to stand on them, and the README says that they are trusted.
 
-    tests/layout.py            prints what it finds; the status is 1 if something is wrong
-    tests/layout.py --write    first mends both documents as far as that needs no words: numbers of lines, files that are
-                               gone or new, the file of a definition that has moved
+    tests/layout.py    mends both documents as far as that needs no words: numbers of lines, files that are gone or new, the file of a
+                       definition that has moved
 """
 import argparse
-import pathlib
 import re
-import sys
 import textwrap
 
+import case
 import chains
+from case import TOP
 
-TOP = pathlib.Path(__file__).resolve().parent.parent
 CRATES, README, MAP, DEFINITIONS = TOP / "crates", TOP / "README.md", TOP / "docs/map.md", TOP / "docs/definitions.md"
 PROMISES = TOP / "docs/promises.md"
 APART = {"Mirrors", "Lemmas"}
@@ -276,32 +274,14 @@ def write_definitions():
     DEFINITIONS.write_text("\n".join(text))
 
 
-def run():
-    """Makes every check; answers how many passed and failed."""
-    passed = failed = 0
-    for part in (imports, rows_of_map, rows_of_chains, exceptions, entries, calls, promises, edits, kit):
-        for what, why in part():
-            if why is None:
-                passed += 1
-            else:
-                failed += 1
-                print(f"{what}: {why}")
+Tests = case.tests(__name__, imports, rows_of_map, rows_of_chains, exceptions, entries, calls, promises, edits, kit)
+
+
+if __name__ == "__main__":
+    argparse.ArgumentParser(description=__doc__, formatter_class=argparse.RawDescriptionHelpFormatter).parse_args()
+    write_map()
+    write_definitions()
     believed, _, apart = modules()
     read = [path for path in believed if not is_of_tests(path)]
     print(f"layout: {len(read)} believed modules of {sum(map(line_count, read))} lines, "
           f"{len(apart)} mirrors and lemmas of {sum(map(line_count, apart))} lines")
-    print(f"layout: {passed} passed, {failed} failed")
-    return passed, failed
-
-
-def options():
-    words = argparse.ArgumentParser(description=__doc__, formatter_class=argparse.RawDescriptionHelpFormatter)
-    words.add_argument("--write", action="store_true", help="mend docs/map.md and docs/definitions.md first")
-    return words.parse_args()
-
-
-if __name__ == "__main__":
-    if options().write:
-        write_map()
-        write_definitions()
-    sys.exit(1 if run()[1] else 0)

@@ -1,18 +1,14 @@
-#!/usr/bin/env python3
 """Takes the program of docs/library.md into a fresh repository beside the crates that it stands on, and has a gate there prove and run it,
-and refuse its wrong body. What a gate proved on this machine of the same files isn't proved again. Where the toolchain's `rt` is missing
-nothing is checked.
-
-    tests/library.py    prints what it finds; the status is 1 if something is wrong
-"""
+and refuse its wrong body. What a gate proved on this machine of the same files isn't proved again."""
 import pathlib
 import re
 import shutil
 import subprocess
-import sys
 import tempfile
 
-TOP = pathlib.Path(__file__).resolve().parent.parent
+import case
+from case import TOP
+
 RIGHT, WRONG = "strategies(alloc, game, &maps.of_game, &maps.of_dual)", "strategies(alloc, game, &maps.of_dual, &maps.of_game)"
 
 
@@ -67,7 +63,7 @@ def lay_out(folder, line, source):
     (crate / "must-fail/exchanged.edit").write_text(f"file: src/main.rt\nold: {RIGHT}\nnew: {WRONG}\n")
 
 
-def checks():
+def judge():
     """(what is checked, why it failed or None)."""
     line, source = program()
     with tempfile.TemporaryDirectory() as made:
@@ -78,21 +74,4 @@ def checks():
         yield "its wrong body", None if is_refused else ran.stdout
 
 
-def run():
-    """Makes every check; answers how many passed and failed."""
-    if shutil.which("rt") is None:
-        print("library: rt isn't on the path, so nothing is proved")
-        return 0, 0
-    passed = failed = 0
-    for what, why in checks():
-        if why is None:
-            passed += 1
-        else:
-            failed += 1
-            print(f"library: {what}: {why}")
-    print(f"library: {passed} passed, {failed} failed")
-    return passed, failed
-
-
-if __name__ == "__main__":
-    sys.exit(1 if run()[1] else 0)
+Tests = case.tests(__name__, judge)

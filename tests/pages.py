@@ -1,16 +1,13 @@
-#!/usr/bin/env python3
 """Checks the pages: links and paths lead to files, lines are short, the first line says who the page is for, no decision is long, and
 code that is shown is that of the sources; that the examples which scripts make are what these print; and that CHANGELOG.md begins
-with the version of the program.
-
-    tests/pages.py    prints what it finds; the status is 1 if something is wrong
-"""
-import pathlib
+with the version of the program."""
 import re
 import subprocess
 import sys
 
-TOP = pathlib.Path(__file__).resolve().parent.parent
+import case
+from case import TOP
+
 PAGES = [*sorted(TOP.glob("*.md")), *sorted(TOP.glob("docs/*.md")), TOP / "examples/README.md"]
 FOLDERS = "bindings|docs|tests|examples|tools|bench|rows|share"
 LONGEST_LINE, MOST_WORDS = 160, 80
@@ -78,6 +75,14 @@ def shown_code():
     yield "docs/first_change.md: libraries", None if f" {count} libraries " in text else f"{count} libraries stand on pg_arena"
 
 
+def shown_diffs():
+    """The same for the lines that docs/first_change.md adds: its sources have them."""
+    for path, lines in re.findall(r"^```diff\n--- (.*)\n((?:.*\n)*?)```$", (TOP / "docs/first_change.md").read_text(), re.M):
+        text = (TOP / path).read_text().splitlines()
+        lost = [line for line in lines.splitlines() if line[0] != "-" and line[1:] not in text]
+        yield f"docs/first_change.md: the change of {path}", f"isn't there: {lost[0]!r}" if lost else None
+
+
 def shown_theorem():
     """The same for the clause that the README prints and the law of docs/promises.md: they are as the sources have them."""
     for page, head, source in (("README.md", "ensures answer", "pg_cli/src/program.rt"),
@@ -103,19 +108,4 @@ def version():
     yield "CHANGELOG.md: the version", None if is_first else "isn't the one that --version says"
 
 
-def run():
-    """Makes every check; answers how many passed and failed."""
-    passed = failed = 0
-    for part in (links, lines, audiences, decisions, shown_code, shown_theorem, examples, version):
-        for what, why in part():
-            if why is None:
-                passed += 1
-            else:
-                failed += 1
-                print(f"{what}: {why}")
-    print(f"pages: {passed} passed, {failed} failed")
-    return passed, failed
-
-
-if __name__ == "__main__":
-    sys.exit(1 if run()[1] else 0)
+Tests = case.tests(__name__, links, lines, audiences, decisions, shown_code, shown_diffs, shown_theorem, examples, version)

@@ -1,56 +1,47 @@
-#!/usr/bin/env python3
-"""Checks release/: ABOUT tells what the released program is, it is of these sources, and the same, byte for byte, as what was built of them
-by the same kit.
-
-    tests/release.py [PROGRAM]    compares with the program, where one is named; the status is 1 if something is wrong
-"""
+"""Checks release/: ABOUT tells what is there, and where something was proved, that it is of these sources, and the program the same, byte
+for byte, as what was built of them by the same kit."""
 import hashlib
-import pathlib
 import subprocess
-import sys
 
+import case
 import scripts
+from case import TOP
 
-TOP = pathlib.Path(__file__).resolve().parent.parent
-RELEASED, ABOUT = TOP / "release/parsolve", TOP / "release/ABOUT"
-REFRESH = "./build --release makes it anew"
+RELEASED, ABOUT = TOP / "release", TOP / "release/ABOUT"
 
 
 def output(*words):
     return subprocess.run(words, stdin=subprocess.DEVNULL, stdout=subprocess.PIPE, text=True, check=True).stdout.strip()
 
 
-def checks(program):
-    """(what is checked, whether it is so)."""
-    about = dict(line.split(" ", 1) for line in ABOUT.read_text().splitlines())
-    yield "ABOUT tells its sum", about["sha256"] == hashlib.sha256(RELEASED.read_bytes()).hexdigest()
-    yield "ABOUT tells its version", about["program"] == output(RELEASED, "--version")
-    if program is None:
+def about():
+    """What ABOUT has of each word: the lines, without it."""
+    found = {}
+    for line in ABOUT.read_text().splitlines():
+        word, _, rest = line.partition(" ")
+        found.setdefault(word, []).append(rest)
+    return found
+
+
+def told():
+    """ABOUT tells the version, and the sum of each program and library."""
+    yield "the version", about()["program"], [output(RELEASED / "bin/parsolve", "--version")]
+    files = [path for pattern in ("bin/*", "lib/libparsolve.*") for path in sorted(RELEASED.glob(pattern))]
+    yield "sums", about()["sha256"], [f"{hashlib.sha256(it.read_bytes()).hexdigest()} {it.name}" for it in files]
+
+
+def of_sources():
+    """It is of these sources: ./build --release makes it anew."""
+    if not case.IS_PROVING:
+        yield "the sources", case.LeftOut("only ./test --proofs asks whether release/ is of these sources")
         return
-    yield "it is of these sources", about["sources"] == output(TOP / "tools/sources")
+    yield "the sources", about()["sources"], [f"{it} {output(TOP / 'tools/sources', it)}" for it in ("parsolve", "parsolve_c")]
     kit = scripts.script("build").kit()
-    if about["kit"] == kit:
-        yield "it is what was built", RELEASED.read_bytes() == pathlib.Path(program).read_bytes()
-    else:
-        print(f"release: made by {about['kit']}, and this is {kit}, so it isn't compared with what was built")
+    if about()["kit"] != [kit]:
+        yield "what was built", case.LeftOut(f"release/ was made by {about()['kit'][0]}, and this is {kit}")
+        return
+    is_same = (RELEASED / "bin/parsolve").read_bytes() == (TOP / "crates/parsolve/out/parsolve").read_bytes()
+    yield "what was built", None if is_same else "is something else than release/bin/parsolve"
 
 
-def run(program=None):
-    """Makes every check, those on what it is built of only where a program is given that was built of these sources; answers how many passed
-    and failed."""
-    if not (RELEASED.is_file() and ABOUT.is_file()):
-        print(f"release: there is no release/parsolve with its ABOUT; {REFRESH}")
-        return 0, 1
-    passed = failed = 0
-    for what, is_so in checks(program):
-        if is_so:
-            passed += 1
-        else:
-            failed += 1
-            print(f"release: not so: {what}; {REFRESH}")
-    print(f"release: {passed} passed, {failed} failed")
-    return passed, failed
-
-
-if __name__ == "__main__":
-    sys.exit(1 if run(*sys.argv[1:2])[1] else 0)
+Tests = case.tests(__name__, told, of_sources)

@@ -1,19 +1,14 @@
-#!/usr/bin/env python3
 """Checks what tools/hoa makes of automata that `parsolve` doesn't read: the steps of the examples, letter by letter, as they were worked
-out by hand; labels and automata at random, labels as Python evaluates them; and what is refused.
-
-    tests/rewriting.py [PROGRAM]    prints what it finds; the status is 1 if something is wrong. With a program what is made is also
-                                    given to that
-"""
-import pathlib
+out by hand; labels and automata at random, labels as Python evaluates them; and what is refused."""
 import random
 import re
 import subprocess
 import sys
 
+import case
 import controllers
+from case import TOP
 
-TOP = pathlib.Path(__file__).resolve().parent.parent
 
 # For each example: the header of what the controller sets, the condition, and the step of each state by letters 0, 1, 2, ..: a target
 # and a set, or only a target, or None where there is no step. Then what `synth` says.
@@ -187,29 +182,4 @@ def answers(program):
         yield f"{name}: as it stands it isn't read", ran.returncode, 0 if name == "owl-delay" else 1
 
 
-def counted(checks):
-    """How many of the checks passed and failed."""
-    passed = failed = 0
-    for what, found, wanted in checks:
-        if found == wanted:
-            passed += 1
-        else:
-            failed += 1
-            print(f"rewriting: {what}: {found!r}, and not {wanted!r}")
-    print(f"rewriting: {passed} passed, {failed} failed")
-    return passed, failed
-
-
-def run():
-    """Makes every check that needs no program; answers how many passed and failed."""
-    return counted(check for part in (examples, labels, automata, refusals, in_little_memory) for check in part())
-
-
-def run_with(program):
-    """The same for those that need one."""
-    return counted(answers(program))
-
-
-if __name__ == "__main__":
-    bad = run()[1] + (run_with(sys.argv[1])[1] if len(sys.argv) > 1 else 0)
-    sys.exit(1 if bad else 0)
+Tests = case.tests(__name__, examples, labels, automata, refusals, in_little_memory, answers)

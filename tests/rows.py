@@ -1,7 +1,4 @@
-#!/usr/bin/env python3
 """Runs programs over the rows of rows/*.toml.
-
-    tests/rows.py [PROGRAM..]    prints which rows fail; the status is 1 if one does
 
 A row has
 
@@ -31,10 +28,11 @@ import glob
 import os
 import re
 import subprocess
-import sys
 import tomllib
 
-top = os.path.dirname(os.path.dirname(os.path.abspath(__file__)))
+import case
+
+top = str(case.TOP)
 
 
 def bytes_of(row, name):
@@ -105,24 +103,16 @@ def failure(program, row):
     return None
 
 
-def run(programs):
-    """Runs every row on every program; answers how many passed and failed."""
-    passed = failed = 0
-    for path in sorted(glob.glob(os.path.join(top, "rows", "*.toml"))):
+def of_file(path):
+    """The test of a file of rows: each on the program, and on that of the second compiler where it is there."""
+    def run(program):
         with open(path, "rb") as file:
             found = tomllib.load(file)
-        rows = found.get("row", []) + [row for table in found.get("table", []) for row in rows_of(table)]
-        for program in programs:
-            for row in rows:
-                why = failure(program, row)
-                if why is None:
-                    passed += 1
-                else:
-                    failed += 1
-                    print(f"{os.path.basename(path)}: {row['name']} ({os.path.basename(program)}): {why}")
-    print(f"rows: {passed} passed, {failed} failed")
-    return passed, failed
+        for row in [*found.get("row", []), *(row for table in found.get("table", []) for row in rows_of(table))]:
+            for each in filter(None, (program, case.BY_RATTLE)):
+                yield f"{row['name']} ({os.path.basename(each)})", failure(each, row)
+    run.__name__ = os.path.basename(path)
+    return run
 
 
-if __name__ == "__main__":
-    sys.exit(1 if run(sys.argv[1:] or [os.path.join(top, "crates/parsolve/out/parsolve")])[1] else 0)
+Tests = case.tests(__name__, *map(of_file, sorted(glob.glob(os.path.join(top, "rows", "*.toml")))))

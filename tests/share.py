@@ -1,16 +1,14 @@
-#!/usr/bin/env python3
 """Checks share/: the manual page and the completions are those that tools/share makes of the program's help texts, and the tools
-that read them, where they are installed, find no fault in them.
-
-    tests/share.py [PROGRAM]    prints what it finds; the status is 1 if something is wrong
-"""
+that read them, where they are installed, find no fault in them."""
 import pathlib
 import shutil
 import subprocess
 import sys
 import tempfile
 
-TOP = pathlib.Path(__file__).resolve().parent.parent
+import case
+from case import TOP
+
 SHARE = TOP / "share"
 BASH = SHARE / "bash-completion/completions/parsolve"
 FISH = SHARE / "fish/vendor_completions.d/parsolve.fish"
@@ -31,20 +29,21 @@ TYPED = [(["parsolve", ""], [*COMMANDS, "--help", "--version", "-h", "-V"]), (["
 
 
 def made(program):
-    """(what is checked, what came out, what has to) for each file of share/."""
+    """(what is checked, why it isn't so or None) for each file of share/."""
     with tempfile.TemporaryDirectory() as folder:
         subprocess.run([sys.executable, TOP / "tools/share", "--program", program, folder], check=True, timeout=120)
         for path in sorted(pathlib.Path(folder).rglob("*")):
             if path.is_file():
                 kept = SHARE / path.relative_to(folder)
-                yield f"share/{path.relative_to(folder)}", kept.exists() and kept.read_text() == path.read_text(), True
+                is_same = kept.exists() and kept.read_text() == path.read_text()
+                yield f"share/{path.relative_to(folder)}", None if is_same else "tools/share makes it anew"
 
 
 def read():
-    """The same for each tool that reads one of them."""
+    """(what is checked, what came out, what has to) for each tool that reads one of them."""
     for words in READERS:
-        if shutil.which(words[0]) is None:
-            print(f"share: {words[0]} isn't installed, so it reads nothing")
+        if case.lacking(words[0]):
+            yield f"{words[0]} reads {words[-1].name}", case.lacking(words[0])
             continue
         ran = subprocess.run(words, capture_output=True, text=True, timeout=60)
         yield f"{words[0]} reads {words[-1].name}", (ran.returncode, ran.stdout, ran.stderr), (0, "", "")
@@ -62,19 +61,4 @@ def completed():
             yield f"fish completes {typed}", sorted(line.split("\t")[0] for line in ran.stdout.splitlines()), sorted(wanted)
 
 
-def run(program):
-    """Makes every check; answers how many passed and failed."""
-    passed = failed = 0
-    for part in (made(program), read(), completed()):
-        for what, found, wanted in part:
-            if found == wanted:
-                passed += 1
-            else:
-                failed += 1
-                print(f"share: {what}: {found!r}, and not {wanted!r}; tools/share makes the files anew")
-    print(f"share: {passed} passed, {failed} failed")
-    return passed, failed
-
-
-if __name__ == "__main__":
-    sys.exit(1 if run(sys.argv[1] if len(sys.argv) > 1 else str(TOP / "crates/parsolve/out/parsolve"))[1] else 0)
+Tests = case.tests(__name__, made, read, completed)

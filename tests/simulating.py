@@ -1,12 +1,7 @@
-#!/usr/bin/env python3
 """Checks tools/circuit: runs of circuits, beside automata too, and the binary form.
 
 What is expected was worked out by hand, and for circuits and automata at random it is what a plain reader of circuits does and what
-a look at every pair of steps finds.
-
-    tests/simulating.py [PROGRAM]    prints what it finds; the status is 1 if something is wrong. With a program its circuits are run
-"""
-import itertools
+a look at every pair of steps finds."""
 import os
 import pathlib
 import random
@@ -16,9 +11,10 @@ import subprocess
 import sys
 import tempfile
 
+import case
 import controllers
+from case import TOP
 
-TOP = pathlib.Path(__file__).resolve().parent.parent
 
 # the output is the input of the step before, kept in one latch
 DELAY = "aag 2 1 1 1 0\n2\n4 2\n4\ni0 request\no0 grant\n"
@@ -317,29 +313,4 @@ def printed(program):
         yield name, (status, len(output.splitlines()), bad), (0, 201, [])
 
 
-def counted(checks):
-    """How many of the checks passed and failed."""
-    passed = failed = 0
-    for what, found, wanted in checks:
-        if found == wanted:
-            passed += 1
-        else:
-            failed += 1
-            print(f"simulating: {what}: {found!r}, and not {wanted!r}")
-    print(f"simulating: {passed} passed, {failed} failed")
-    return passed, failed
-
-
-def run():
-    """Makes every check that needs no program; answers how many passed and failed."""
-    return counted(itertools.chain(by_hand(), plays(), drawn_inputs(), made_smaller(), refusals(), at_random()))
-
-
-def run_with(program):
-    """The same for those that need one."""
-    return counted(printed(program))
-
-
-if __name__ == "__main__":
-    bad = run()[1] + (run_with(sys.argv[1])[1] if len(sys.argv) > 1 else 0)
-    sys.exit(1 if bad else 0)
+Tests = case.tests(__name__, by_hand, plays, drawn_inputs, made_smaller, refusals, at_random, printed)

@@ -5,8 +5,10 @@ import re
 import subprocess
 import sys
 
-TOP = pathlib.Path(__file__).resolve().parent.parent
-PROGRAM = next((it for it in (TOP / "parsolve", TOP / "bin/parsolve") if it.exists()), pathlib.Path("parsolve"))  # checkout, archive
+HERE = pathlib.Path(__file__).resolve()
+# in a checkout, or where all of it is installed
+PROGRAM = next((it for it in (HERE.parents[1] / "parsolve", *(up / "bin/parsolve" for up in HERE.parents[3:4])) if it.is_file()),
+               pathlib.Path("parsolve"))
 LONGEST_INPUT, GREATEST_NUMBER = 268435456, 4294967295
 AUTOMATON_BLANKS, COMMENT_MARK = re.compile(rb"[\t\n\r ]*"), re.compile(rb"/\*|\*/")
 

@@ -1,0 +1,119 @@
+"""What the tests of this folder share: how tests are made of functions, the program that is tried, and how all of them are run."""
+import inspect
+import multiprocessing
+import os
+import pathlib
+import shutil
+import subprocess
+import traceback
+import unittest
+from concurrent.futures import ProcessPoolExecutor, as_completed
+
+TOP = pathlib.Path(__file__).resolve().parent.parent
+PROGRAM, BY_RATTLE, IS_PROVING = None, None, False  # which programs are tried, and whether something may be proved: set ahead by ./test
+LeftOut = unittest.SkipTest  # in place of why something fails: why it isn't tried here
+TESTS = []
+
+
+def why_wrong(why, *wanted):
+    """Why a part fails or None, of that, or of what came out and what has to."""
+    return why if not wanted or isinstance(why, LeftOut) else None if why == wanted[0] else f"{why!r}, and not {wanted[0]!r}"
+
+
+def hold(test, parts):
+    """Takes the parts of a test: (name, why it fails or None), or (name, what came out, what has to)."""
+    for name, *found in parts:
+        with test.subTest(name):
+            fail_for(why_wrong(*found))
+
+
+def fail_for(why):
+    if isinstance(why, LeftOut):
+        raise why
+    if why is not None:
+        raise AssertionError(why)
+
+
+def tests(module, *functions):
+    """A class with a test for each function, which yields its parts. One whose parameter is the program is left out where there is none."""
+    def test(function):
+        def of_program(self):
+            if PROGRAM is None:
+                raise LeftOut("no program is of these sources")
+            hold(self, function(PROGRAM))
+        return of_program if inspect.signature(function).parameters else lambda self: hold(self, function())
+    return type("Tests", (unittest.TestCase,), {"__module__": module, **{f"test_{it.__name__}": test(it) for it in functions}})
+
+
+def tests_by_name(module, named):
+    """A class with a test for each (name, call), which answers why it fails or None."""
+    return type("Tests", (unittest.TestCase,), {"__module__": module, **{
+        f"test {name}": lambda self, call=call: fail_for(call()) for name, call in named}})
+
+
+def fresh(crate):
+    """The program or library of the crate that is of these sources, or why there is none."""
+    ran = subprocess.run(["sh", TOP / "tools/fresh", crate], capture_output=True, text=True)
+    return ran.stdout.strip() if ran.returncode == 0 else LeftOut(ran.stderr.strip().removeprefix("parsolve: "))
+
+
+def lacking(*commands):
+    """Why what needs these commands is left out, or None."""
+    names = [it for it in commands if shutil.which(it) is None]
+    return LeftOut(f"{' and '.join(names)} isn't installed") if names else None
+
+
+class Result(unittest.TestResult):
+    """Counts each part of a test, and each test that has none."""
+
+    def __init__(self):
+        super().__init__()
+        self.passed, self.faults, self.left_out, self.has_parts = 0, [], [], False
+
+    def addSuccess(self, test):
+        self.passed += not self.has_parts
+
+    def addSubTest(self, test, part, error):
+        self.has_parts = True
+        if error is None:
+            self.passed += 1
+        else:
+            self.addError(part, error)
+
+    def addSkip(self, test, reason):
+        self.left_out.append((reason, test.id().partition(".")[0]))
+
+    def addError(self, test, error):
+        is_told = issubclass(error[0], AssertionError)
+        self.faults.append(f"{test.id()}: {error[1] if is_told else ''.join(traceback.format_exception(*error))}")
+
+    addFailure = addError
+
+
+def flat(suite):
+    for it in suite:
+        yield from flat(it) if isinstance(it, unittest.TestSuite) else [it]
+
+
+def attempt(place):
+    """What came of a test: how many of its parts passed, what failed, what was left out."""
+    result = Result()
+    TESTS[place](result)
+    return result.passed, result.faults, result.left_out
+
+
+def run(modules, word=None, at_once=None):
+    """Runs the tests of these modules, so many at once, or as many as there are processors; only those whose name has the word, where one is
+    given. Answers how many parts passed and failed, and of each that was left out why, and its module."""
+    loader = unittest.TestLoader()
+    loader.testNamePatterns = word and [f"*{word}*"]
+    first = len(TESTS)
+    TESTS.extend(flat(loader.loadTestsFromNames(modules)))
+    passed, failed, left_out = 0, 0, []
+    with ProcessPoolExecutor(at_once or len(os.sched_getaffinity(0)), multiprocessing.get_context("fork")) as pool:
+        for ended in as_completed([pool.submit(attempt, place) for place in range(first, len(TESTS))]):
+            good, faults, more = ended.result()
+            passed, failed, left_out = passed + good, failed + len(faults), left_out + more
+            for fault in faults:
+                print(fault, flush=True)
+    return passed, failed, left_out
