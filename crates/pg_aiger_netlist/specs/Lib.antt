@@ -1,0 +1,2 @@
+pub mod Netlists
+pub mod Mirrors
