@@ -2,7 +2,8 @@
 use Rattle.std.specs.Prelude.{◌≡◌, ◌≢◌, ℕ, suc, ◌+◌, ◌*◌, ◌/◌, ◌%◌, ◌<◌, ◌≤◌, ◌↔◌, ◌⊎◌, Bool, true, List, [], ◌∷◌, ◌++◌, map, Contains, All}
 use Rattle.std.specs.List.{AllPairs}
 use Rattle.pg_aiger.specs.declared.gate.Gate.{Gate}
-use Rattle.pg_aiger.specs.Circuits.{Circuit, Latch}
+use Rattle.pg_aiger.specs.Circuits.{Circuit}
+use Rattle.pg_aiger.specs.declared.gate.Latch.{Latch}
 use Rattle.pg_aiger.specs.Runs.{Valuation, IsRun}
 use Rattle.pg_aiger_netlist.specs.declared.fault.NetlistFault.{NetlistFault}
 use Rattle.pg_aiger_netlist.specs.declared.fault.NetlistFault.TheVariants.{OutOfMemory, NotAVariable, DefinedTwice, Undefined, Cycle}
@@ -54,13 +55,13 @@ pub record IsAcyclic (circuit : Circuit) : Type 0 where
 
 -- the variable stands in the list, and before that already
 abbrev pub IsTwice : List ℕ → ℕ → Type 0
-IsTwice xs x = (before after : List ℕ) × (xs ≡ before ++ x ∷ after) × Contains before x
+IsTwice xs x = (before : List ℕ) × (after : List ℕ) × (xs ≡ before ++ x ∷ after) × Contains before x
 
 -- Each of these variables is that of a gate over one of them. So no order of the gates has a first of them.
 abbrev pub IsKnot : Circuit → (ℕ → Bool) → Type 0
 IsKnot circuit among =
     (x : ℕ) → among x ≡ true
-    → (gate : Gate) (y : ℕ) × Contains circuit.gates gate × (variable gate.lhs ≡ x) × IsUsedBy gate y × (among y ≡ true)
+    → (gate : Gate) × (y : ℕ) × Contains circuit.gates gate × (variable gate.lhs ≡ x) × IsUsedBy gate y × (among y ≡ true)
 
 -- what each fault says of a circuit
 abbrev pub IsFaultOf : Circuit → NetlistFault → Type 0

@@ -2,10 +2,12 @@
 #![tactic(auto)]
 
 mod fault;
+pub mod laws;
 mod marks;
 mod netlist;
 mod order;
 mod propose;
+mod step;
 
 pub use fault::NetlistFault;
 pub use netlist::Netlist;

@@ -3,7 +3,7 @@
 ghost use Rattle.std.specs.Prelude.{◌≡◌, ◌≢◌, ◌+◌, ◌↔◌, ◌++◌, true, map, length, slice_index_or, All, IfOk, IfErr, IsTrue, OnOk};
 ghost use Rattle.std.specs.List.{AllPairs};
 ghost use Rattle.pg_aiger.specs.declared.gate.Gate.{Gate};
-ghost use Rattle.pg_aiger.specs.Circuits.{Latch};
+ghost use Rattle.pg_aiger.specs.declared.gate.Latch.{Latch};
 ghost use Rattle.pg_aiger_netlist.specs.Netlists.{variable, IsPlain, known_by};
 ghost use Rattle.pg_aiger_netlist.specs.Mirrors.Marks.{marked, AreMarked, IsFaultIn, IsUseFault};
 

@@ -44,13 +44,13 @@ fn uses_of(alloc: Global, definers: &[u32], gates: &[Gate]) -> Result<Uses, Allo
     };
     let mut number: u32 = 0;
     for gate in gates {
-        let mut waiting = 0;
+        let mut waiting: u32 = 0;
         for literal in [gate.rhs0, gate.rhs1] {
             let definer = at(definers, literal / 2);
             uses.next.push(at(&uses.first, definer))?;
             if definer != NONE {
                 put(&mut uses.first, definer, number);
-                waiting += 1;
+                waiting = 1u32.wrapping_add(waiting);
             }
             number = number.wrapping_add(1);
         }

@@ -27,6 +27,12 @@ IsUseFault row uses fault = ⊥
 abbrev pub variable_of : Gate → ℕ
 variable_of gate = variable gate.lhs
 
+-- the gate's variables are below this
+pub record IsWithin (bound : ℕ) (gate : Gate) : Type 0 where
+  pub lhs : variable gate.lhs < bound
+  pub rhs0 : variable gate.rhs0 < bound
+  pub rhs1 : variable gate.rhs1 < bound
+
 -- the gates in order are some of all, each over what is known before it, and the marks are what is known then
 pub record IsSorted (first : List ℕ) (all : List Gate) (known : List Bool) (ordered : List Gate) : Type 0 where
   pub marks : (x : ℕ) → (marked known x ≡ true) ↔ (Contains first x ⊎ Contains (map variable_of ordered) x)
@@ -51,6 +57,14 @@ pub record HasPassed (old : List Bool) (before gates : List Gate) (known : List 
   pub stuck : length ordered ≡ length before → (gate : Gate) → Contains waiting gate → IsStuck known gate
   pub sorted : (first : List ℕ) (all : List Gate) → ((gate : Gate) → Contains gates gate → Contains all gate)
       → IsSorted first all old before → IsSorted first all known ordered
+
+-- the gates that aren't in order yet are among those that wait
+pub record IsUnderWay (old : List Bool) (gates : List Gate) (known : List Bool) (ordered waiting : List Gate) : Type 0 where
+  pub as_long : length known ≡ length old
+  pub grown : (x : ℕ) → marked old x ≡ true → marked known x ≡ true
+  pub covers : (gate : Gate) → Contains gates gate → (marked known (variable_of gate) ≡ true) ⊎ Contains waiting gate
+  pub from : (gate : Gate) → Contains waiting gate → Contains gates gate
+  pub sorted : (first : List ℕ) → AreMarked old first → IsSorted first gates known ordered
 
 -- all gates are in order
 pub record IsWhole (old : List Bool) (gates ordered : List Gate) : Type 0 where

@@ -1,7 +1,8 @@
 -- A netlist as it lies in memory.
 use Rattle.std.specs.Prelude.{ℕ, List, Contains, ◌↔◌}
 use Rattle.pg_aiger.specs.declared.gate.Gate.{Gate}
-use Rattle.pg_aiger.specs.Circuits.{Circuit, Latch}
+use Rattle.pg_aiger.specs.Circuits.{Circuit}
+use Rattle.pg_aiger.specs.declared.gate.Latch.{Latch}
 use Rattle.pg_aiger_netlist.specs.Netlists.{IsAcyclic, AreOrdered, known_by, sources}
 
 abbrev pub circuit : ℕ → List ℕ → List Latch → List ℕ → List Gate → Circuit
