@@ -1,11 +1,11 @@
 -- What a pass over gates makes.
 use Rattle.std.proofs.Common.{◌≡◌, ℕ, zero, suc, ◌+◌, ◌<◌, ◌≤◌, ◌⊎◌, inl, inr, Bool, true, false, List, [], ◌∷◌, ◌++◌, length, get_or, set}
 use Rattle.std.proofs.Common.{arith, refl, sym, subst, ap, ◌∙◌, length-append}
-use Rattle.std.specs.Prelude.{map, ◌↔◌}
+use Rattle.std.specs.Prelude.{map, ◌↔◌, All}
 use Rattle.std.specs.List.{Contains}
 use Rattle.std.proofs.lemmas.Bool.{cases_eq}
 use Rattle.std.proofs.lemmas.List.{map-append, get_or-set_same, get_or-set_other, length-set}
-use Rattle.std.proofs.lemmas.List.Elements.{Contains-push, Contains-push_cases, Contains-append_left}
+use Rattle.std.proofs.lemmas.List.Elements.{Contains-push, Contains-push_cases, Contains-append_left, Contains-get_or, All-contains}
 use Rattle.pg_aiger.specs.declared.gate.Gate.{Gate}
 use Rattle.pg_aiger_netlist.specs.Netlists.{variable, IsUsedBy, AreOrdered}
 use Rattle.pg_aiger_netlist.specs.Mirrors.Marks.{marked, AreMarked, variable_of, IsSorted, IsStuck, HasPassed, IsWhole, IsCycle, IsUnderWay}
@@ -203,3 +203,18 @@ cycle old gates known ordered waiting more behind rest here u p none there = rec
   named = refl;
   unknown = (p.stuck none here there).unknown;
 }
+
+-- gates among those whose variables are within the marks
+pub part_within : (n m : ℕ) (gates part list : List Gate) → All (λ gate. variable_of gate < n) gates → ((g : Gate) → Contains part g → Contains gates g)
+    → list ≡ part → m ≡ n → All (λ gate. variable_of gate < m) list
+part_within n m gates part list all some e f k d l =
+    subst (λ b. variable_of (get_or list k d) < b) (sym f)
+    (All-contains (λ gate. variable_of gate < n) gates (get_or list k d) all
+    (some (get_or list k d) (subst (λ gs. Contains gs (get_or list k d)) e (Contains-get_or list k d l))))
+
+pub cycle_at : (old : List Bool) (gates : List Gate) (known : List Bool) (ordered waiting : List Gate) (more : List Bool) (behind rest list : List Gate)
+    (here : Gate) (place : ℕ) → IsUnderWay old gates known ordered waiting → HasPassed known ordered list more behind rest → list ≡ waiting
+    → length behind ≡ length ordered → place < length rest → here ≡ get_or rest place here → IsCycle old gates (variable_of here)
+cycle_at old gates known ordered waiting more behind rest list here place u p e none l at =
+    cycle old gates known ordered waiting more behind rest here u (subst (λ gs. HasPassed known ordered gs more behind rest) e p) none
+    (place, l, sym at)

@@ -57,8 +57,8 @@ impl Netlist {
         let defined = marked(alloc, greatest, &definitions)?;
         let uses = uses_of(alloc, &gates, &latches, &outputs)?;
         check_uses(&defined, &uses)?;
-        let known = marked(alloc, greatest, &sources)?;
-        let ordered = order_of(alloc, known, &gates)?;
+        let mut known = marked(alloc, greatest, &sources)?;
+        let ordered = order_of(alloc, &mut known, &gates)?;
         Ok(Netlist {
             greatest,
             inputs,

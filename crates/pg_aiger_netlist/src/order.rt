@@ -1,8 +1,8 @@
 //! Gates in an order in which each is over what is known before it.
 
-ghost use Rattle.std.specs.Prelude.{◌≡◌, ℕ, ◌<◌, All, Contains, length, IfOk, IfErr};
+ghost use Rattle.std.specs.Prelude.{◌≡◌, ℕ, ◌<◌, Bool, List, All, Contains, length, IfOk, IfErr, OnOk};
 ghost use Rattle.pg_aiger.specs.declared.gate.Gate.{Gate};
-ghost use Rattle.pg_aiger_netlist.specs.Mirrors.Marks.{variable_of, HasPassed, IsWhole, IsOrderFault};
+ghost use Rattle.pg_aiger_netlist.specs.Mirrors.Marks.{variable_of, HasPassed, IsUnderWay, IsWhole, IsOrderFault};
 
 use crate::fault::NetlistFault;
 use crate::marks::is_marked;
@@ -37,30 +37,42 @@ fn picked(alloc: Global, gates: &[Gate], places: &[u32]) -> Result<Vec<Gate>, Al
 {
     let mut list = Vec::new(alloc);
     for place in places {
-        if let Some(gate) = gates.get(*place as usize) {
-            list.push(*gate)?;
+        let at = *place as usize;
+        if at < gates.len() {
+            list.push(gates[at])?;
         }
     }
     Ok(list)
 }
 
-/// All gates in order, if there is one, where these variables are known at first. Gates that stand in order already take one pass, others
-/// one more in the order that is proposed. So however bad a proposal may be, it costs time alone.
-pub(crate) fn order_of(alloc: Global, mut known: Vec<bool>, gates: &[Gate]) -> Result<Vec<Gate>, NetlistFault>
-    requires { All (λ gate. variable_of gate < length known.items) gates.now }
-    ensures order { IfOk result (λ ordered. IsWhole known.items gates.now ordered.items) }
-    ensures fault { IfErr result (IsOrderFault known.items gates.now) }
+/// Puts those that wait behind the others, as far as that goes in the order that is proposed. However bad a proposal may be, it costs time
+/// alone.
+fn place_rest(alloc: Global, known: &mut [bool], ordered: &mut Vec<Gate>, waiting: &[Gate]) -> Result<(), AllocError>
+    requires { All (λ gate. variable_of gate < length known.old) waiting.now }
+    ensures { OnOk result ((old : List Bool) (gates : List Gate) → IsUnderWay old gates known.old ordered.old.items waiting.now
+        → IsUnderWay old gates known.new ordered.new.items waiting.now) }
+{
+    if waiting.is_empty() {
+        return Ok(());
+    }
+    let places = proposed_order(alloc, known.len(), waiting)?;
+    let proposal = picked(alloc, waiting, &places)?;
+    let _rest = place(alloc, known, ordered, &proposal)?;
+    Ok(())
+}
+
+/// All gates in order, if there is one, where these variables are known at first. Gates that stand in order already take one pass.
+pub(crate) fn order_of(alloc: Global, known: &mut [bool], gates: &[Gate]) -> Result<Vec<Gate>, NetlistFault>
+    requires { All (λ gate. variable_of gate < length known.old) gates.now }
+    ensures order { IfOk result (λ ordered. IsWhole known.old gates.now ordered.items) }
+    ensures fault { IfErr result (IsOrderFault known.old gates.now) }
 {
     let mut ordered = Vec::with_capacity(alloc, gates.len())?;
-    let mut waiting = place(alloc, &mut known, &mut ordered, gates)?;
-    if !waiting.is_empty() {
-        let places = proposed_order(alloc, known.len(), &waiting)?;
-        let proposal = picked(alloc, &waiting, &places)?;
-        place(alloc, &mut known, &mut ordered, &proposal)?;
-    }
+    let mut waiting = place(alloc, known, &mut ordered, gates)?;
+    place_rest(alloc, known, &mut ordered, &waiting)?;
     'rounds: loop {
         let before = ordered.len();
-        let rest = place(alloc, &mut known, &mut ordered, &waiting)?;
+        let rest = place(alloc, known, &mut ordered, &waiting)?;
         if rest.is_empty() {
             return Ok(ordered);
         }
