@@ -3,7 +3,8 @@ pub use Rattle.std.proofs.Common.{Bor, add-one, ap, append_assoc, arith, inl, in
 pub use Rattle.std.proofs.lemmas.Bool.{and_parts, cases_Bool, eq-eqb, eqb-false, eqb-true, le-leb, le-ltb, leb-true, lt-ltb, ltb-false, ltb-true}
 pub use Rattle.std.proofs.lemmas.Bool.{ne_eqb}
 pub use Rattle.std.proofs.lemmas.Bool.Decides.{nat_tests}
-pub use Rattle.std.proofs.lemmas.List.{append-nil, at_drop_more, drop-drop, drop_all, drop_at, drop_more, length-map, map-append, take-append-drop}
+pub use Rattle.std.proofs.Math.Dec.{eqb-suc-zero}
+pub use Rattle.std.proofs.lemmas.List.{append-nil, at_drop_more, drop-drop, drop_all, drop_at, drop_more, length-map, map-append, map_push, take-append-drop}
 pub use Rattle.std.proofs.lemmas.Result.{err_from_is_err_and}
 pub use Rattle.std.specs.List.{AllByRecursion, fold, prefix_len, take_while}
 pub use Rattle.std.specs.Prelude.{Bool, Err, IfOk, IfErr, List, None, Ok, Option, Result, Some, [], codes, cond, drop, eqb, false, get_or}

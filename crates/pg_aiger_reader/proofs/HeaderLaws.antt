@@ -1,8 +1,8 @@
 -- The first line: what is read is spelt, and what is spelt is read.
-use Rattle.pg_aiger_reader.proofs.Common.{◌≡◌, ◌≢◌, ℕ, suc, zero, ◌+◌, ◌-◌, ◌≤◌, ◌<◌, ◌&&◌, ◌||◌, Bool, true, false, List, [], ◌∷◌, ◌++◌}
-use Rattle.pg_aiger_reader.proofs.Common.{length, Option, Some, None, refl, sym, ap, subst, ◌∙◌, arith, inl, inr, ◌>>=◌, eqb, ltb, leb, eq-eqb}
-use Rattle.pg_aiger_reader.proofs.Common.{eqb-true, eqb-false, ltb-true, lt-ltb, le-ltb, le-leb, leb-true, ltb-false, nat_tests, chosen, some, some_is}
-use Rattle.pg_aiger_reader.proofs.Common.{none, none_is_some, line_at, header_of, header_at, AllByRecursion, and_parts}
+use Rattle.pg_aiger_reader.proofs.Common.{◌≡◌, ℕ, ◌+◌, ◌≤◌, ◌&&◌, ◌||◌, Bool, true, false, List, [], ◌∷◌, ◌++◌}
+use Rattle.pg_aiger_reader.proofs.Common.{length, Option, Some, None, refl, sym, subst, arith, inl, inr, ◌>>=◌, eqb, ltb, eq-eqb}
+use Rattle.pg_aiger_reader.proofs.Common.{eqb-true, le-ltb, le-leb, leb-true, ltb-false, chosen, some, some_is}
+use Rattle.pg_aiger_reader.proofs.Common.{none, none_is_some, line_at, header_of, header_at, AllByRecursion, and_parts, if◌then◌else◌}
 use Rattle.pg_aiger_reader.proofs.Lines.{line_found, line_only, line_few}
 use Rattle.pg_aiger_reader.specs.declared.fault.Section.{Section}
 use Rattle.pg_aiger_reader.specs.declared.header.Header.{Header}
@@ -134,7 +134,7 @@ within_found form m i l o a None h e =
     ]
 
 pub header_found : (bytes : List ℕ) (x : Header × List ℕ) → header_at bytes ≡ Some x → IsHeader bytes x.0 x.1
-unfolding header_at, header_of
+unfolding header_at header_of
 header_found bytes x e = of_form (form_at bytes) refl e
   where
     made : (form : Form) (text rest : List ℕ) (m i l o a : ℕ) (more : List ℕ) (h : Header) → bytes ≡ form_text form ++ text
@@ -180,11 +180,18 @@ header_found bytes x e = of_form (form_at bytes) refl e
     of_form (Some y) same e = of_line y.0 y.1 (form_found bytes y same) (line_at 9 y.1) refl e
 
 pub header_only : (bytes : List ℕ) (h : Header) (rest : List ℕ) → IsHeader bytes h rest → header_at bytes ≡ Some (h, rest)
-unfolding header_at, header_of
+unfolding header_at header_of
 header_only bytes h rest is =
     let few = is.few_zeros in
     let line = line_only 9 is.text h.greatest (h.inputs ∷ h.latches ∷ h.outputs ∷ h.gates ∷ is.zeros) rest is.line (omega (arith, few)) in
     let low : ltb 16777216 h.greatest ≡ false = le-ltb _ _ is.few_variables in
     let low' : ltb 16777216 h.outputs ≡ false = le-ltb _ _ is.few_outputs in
-    rw (is.begins, form_only h.form is.text, line, zeros_only is.zeros is.zero, low, low',
-    fits_only h.form h.greatest h.inputs h.latches h.gates is.variables) refl
+    rw (
+      is.begins,
+      form_only h.form is.text,
+      line,
+      zeros_only is.zeros is.zero,
+      low,
+      low',
+      fits_only h.form h.greatest h.inputs h.latches h.gates is.variables,
+    ) refl

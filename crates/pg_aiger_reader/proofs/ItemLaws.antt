@@ -1,14 +1,14 @@
 -- Inputs, outputs, latches and gates: what is read is spelt, and what is spelt is read.
 use Rattle.pg_aiger_reader.proofs.Common.{◌≡◌, ◌≢◌, ℕ, suc, zero, ◌+◌, ◌-◌, ◌*◌, ◌≤◌, ◌<◌, ◌^◌, ◌||◌, Bool, true, false, List, [], ◌∷◌, ◌++◌}
-use Rattle.pg_aiger_reader.proofs.Common.{length, Option, Some, None, refl, sym, ap, subst, ◌∙◌, append_assoc, arith, inl, inr, ◌>>=◌, eqb, ltb}
-use Rattle.pg_aiger_reader.proofs.Common.{eqb-true, eqb-false, ltb-true, lt-ltb, le-ltb, ltb-false, ne_eqb, nat_tests, chosen, some, some_is, none}
-use Rattle.pg_aiger_reader.proofs.Common.{none_is_some, line_at, literal_at, input_at, latch_at, ascii_gate_at, groups_at, binary_gate_at, gate_at}
+use Rattle.pg_aiger_reader.proofs.Common.{length, Option, Some, None, refl, sym, ap, subst, ◌∙◌, arith, inl, inr, ◌>>=◌, eqb, ltb}
+use Rattle.pg_aiger_reader.proofs.Common.{eqb-false, ltb-true, lt-ltb, le-ltb, ltb-false, ne_eqb, chosen, some, some_is, none}
+use Rattle.pg_aiger_reader.proofs.Common.{none_is_some, if◌then◌else◌, line_at, literal_at, input_at, latch_at, ascii_gate_at, groups_at, binary_gate_at, gate_at}
 use Rattle.pg_aiger_reader.proofs.Lines.{line_found, line_only}
 use Rattle.pg_aiger_reader.specs.declared.gate.Gate.{Gate}
 use Rattle.pg_aiger_reader.specs.declared.item.Form.{Form}
 use Rattle.pg_aiger_reader.specs.declared.item.Form.TheVariants.{Ascii, Binary}
 use Rattle.pg_aiger_reader.specs.declared.item.LatchLine.{LatchLine}
-use Rattle.pg_aiger_reader.specs.Texts.{BeginsLine, IsInput, IsLatch, IsReset, IsGate, IsBinaryGate, AreGroups, IsDifference}
+use Rattle.pg_aiger_reader.specs.Texts.{BeginsLine, IsInput, IsLatch, IsGate, IsBinaryGate, AreGroups, IsDifference}
 use Rattle.pg_aiger_reader.specs.Mirrors.Items.{only_number, latch_of, latch_line, gate_of, three_numbers}
 
 abbrev Line : Type 0
@@ -17,7 +17,7 @@ Line = List ℕ × List ℕ
 -- ---- inputs and outputs
 
 pub input_found : (form : Form) (v : ℕ) (bytes : List ℕ) (x : ℕ × List ℕ) → input_at form v bytes ≡ Some x → IsInput form v bytes x.0 x.1
-unfolding input_at, literal_at
+unfolding input_at literal_at
 input_found Binary v bytes x e = subst (λ (y : ℕ × List ℕ). (y.0 ≡ 2 * v) × (bytes ≡ y.1)) (some_is (2 * v, bytes) x e) (refl, refl)
 input_found Ascii v bytes x e = of_line (line_at 1 bytes) refl e
   where
@@ -29,7 +29,7 @@ input_found Ascii v bytes x e = of_line (line_at 1 bytes) refl e
     of_line (Some (n ∷ m ∷ ns, rest)) same e = absurd (none_is_some x e)
 
 pub input_only : (form : Form) (v : ℕ) (bytes : List ℕ) (n : ℕ) (rest : List ℕ) → IsInput form v bytes n rest → input_at form v bytes ≡ Some (n, rest)
-unfolding input_at, literal_at
+unfolding input_at literal_at
 input_only Binary v bytes n rest is = rw (is.0, is.1) refl
 input_only Ascii v bytes n rest is = rw (line_only 1 bytes n [] rest is (omega arith)) refl
 
@@ -125,17 +125,17 @@ groups_found (suc n) (b ∷ bytes) x e =
       | inl w ↦
           subst (λ (y : Number). Grouped (suc n) (b ∷ bytes) y.0 y.1) (some_is (b, bytes) x w.1)
           (record { text = b ∷ []; parts = refl; groups = (ltb-true b 128 w.0, refl); few = omega arith })
-      | inr w ↦ of_rest (groups_at n bytes) refl (ltb-false b 128 w.0) w.1
+      | inr w ↦ of_rest (λ y same. groups_found n bytes y same) (groups_at n bytes) refl (ltb-false b 128 w.0) w.1
     ]
   where
-    of_rest : (read : Option Number) → groups_at n bytes ≡ read → 128 ≤ b
+    of_rest : ((y : Number) → groups_at n bytes ≡ Some y → Grouped n bytes y.0 y.1) → (read : Option Number) → groups_at n bytes ≡ read → 128 ≤ b
         → (read >>= λ y. if ltb (b - 128 + 128 * y.0) (2 ^ 32) then Some (b - 128 + 128 * y.0, y.1) else None) ≡ Some x
         → Grouped (suc n) (b ∷ bytes) x.0 x.1
-    of_rest None same large e = absurd (none_is_some x e)
-    of_rest (Some y) same large e =
+    of_rest again None same large e = absurd (none_is_some x e)
+    of_rest again (Some y) same large e =
         elim (chosen (ltb (b - 128 + 128 * y.0) (2 ^ 32)) (some (b - 128 + 128 * y.0, y.1)) none (some x) e) [
           | inl w ↦
-              let below = groups_found n bytes y same in
+              let below = again y same in
               subst (λ (z : Number). Grouped (suc n) (b ∷ bytes) z.0 z.1) (some_is (b - 128 + 128 * y.0, y.1) x w.1)
               (more_groups n b (b - 128 + 128 * y.0) y.0 bytes y.1 below.text large refl below.parts below.groups below.few)
           | inr w ↦ absurd (none_is_some x w.1)
@@ -149,7 +149,7 @@ groups_only zero (b ∷ text) n rest are few small = absurd (omega arith)
 groups_only (suc most) (b ∷ []) n rest are few small = rw (lt-ltb b 128 are.0) (ap (λ k. some (k, rest)) (sym are.1))
 groups_only (suc most) (b ∷ c ∷ text) n rest (large, high, is, are) few small =
     let same : b - 128 + 128 * high ≡ n = omega arith in
-    rw (le-ltb 128 b large, groups_only most (c ∷ text) high rest are (omega arith) (omega arith), same, lt-ltb n (2 ^ 32) small) refl
+    rw (le-ltb b 128 large, groups_only most (c ∷ text) high rest are (omega arith) (omega arith), same, lt-ltb n (2 ^ 32) small) refl
 
 -- what groups write is small if they are read
 groups_small : (most : ℕ) (bytes : List ℕ) (x : Number) → groups_at most bytes ≡ Some x → x.0 < 2 ^ 32
@@ -194,7 +194,7 @@ binary_gate_found v bytes x e = of_first (groups_at 5 bytes) refl e
   where
     made : (a b : Number) → groups_at 5 bytes ≡ Some a → groups_at 5 a.1 ≡ Some b → (a.0 ≢ 0) → a.0 ≤ 2 * v → b.0 ≤ 2 * v - a.0
         → IsBinaryGate v bytes (gate_of (2 * v) (2 * v - a.0) (2 * v - a.0 - b.0)) b.1
-    made a b first second some most below =
+    made a b first second full most below =
         let f = groups_found 5 bytes a first in
         let s = groups_found 5 a.1 b second in
         let d : a.0 ≡ 2 * v - (2 * v - a.0) = omega arith in
@@ -213,13 +213,13 @@ binary_gate_found v bytes x e = of_first (groups_at 5 bytes) refl e
     of_second : (a : Number) → groups_at 5 bytes ≡ Some a → (a.0 ≢ 0) → a.0 ≤ 2 * v → (read : Option Number) → groups_at 5 a.1 ≡ read
         → (read >>= λ y. if ltb (2 * v - a.0) y.0 then None else Some (gate_of (2 * v) (2 * v - a.0) (2 * v - a.0 - y.0), y.1)) ≡ Some x
         → IsBinaryGate v bytes x.0 x.1
-    of_second a first some most None same e = absurd (none_is_some x e)
-    of_second a first some most (Some b) same e =
+    of_second a first full most None same e = absurd (none_is_some x e)
+    of_second a first full most (Some b) same e =
         elim (chosen (ltb (2 * v - a.0) b.0) none _ (Some x) e) [
           | inl w ↦ absurd (none_is_some x w.1)
           | inr w ↦
               subst (λ (y : Gate × List ℕ). IsBinaryGate v bytes y.0 y.1) (some_is _ x w.1)
-              (made a b first same some most (ltb-false _ _ w.0))
+              (made a b first same full most (ltb-false _ _ w.0))
         ]
 
     of_first : (read : Option Number) → groups_at 5 bytes ≡ read → (read >>= behind_first v) ≡ Some x → IsBinaryGate v bytes x.0 x.1
@@ -248,8 +248,8 @@ binary_gate_only v bytes g rest is =
     let second : groups_at 5 (is.second ++ rest) ≡ Some (d', rest) =
     groups_only 5 is.second d' rest is.differ_again.groups is.differ_again.few is.differ_again.small in
     let some_below : eqb d 0 ≡ false = ne_eqb d 0 (λ z. omega arith) in
-    let within : ltb (2 * v) d ≡ false = le-ltb d (2 * v) (omega arith) in
-    let within' : ltb (2 * v - d) d' ≡ false = le-ltb d' (2 * v - d) (omega arith) in
+    let within : ltb (2 * v) d ≡ false = le-ltb (2 * v) d (omega arith) in
+    let within' : ltb (2 * v - d) d' ≡ false = le-ltb (2 * v - d) d' (omega arith) in
     rw (is.parts, first, some_below, within, second, within')
     (ap (λ h. some (h, rest)) (same_gate g (2 * v) (2 * v - d) (2 * v - d - d') own (omega arith) (omega arith)))
 

@@ -1,6 +1,6 @@
 -- Latches of their lines, one after another.
-use Rattle.pg_aiger_reader.proofs.Common.{◌≡◌, ℕ, suc, ◌-◌, ◌+◌, ◌≤◌, ◌<◌, eqb, true, false, List, [], ◌∷◌, ◌++◌, length, map, Option, Some, None}
-use Rattle.pg_aiger_reader.proofs.Common.{refl, sym, ap, subst, ◌∙◌, append_assoc, append-nil, arith, ◌>>=◌, some, some_is, none, none_is_some}
+use Rattle.pg_aiger_reader.proofs.Common.{◌≡◌, ℕ, ◌+◌, ◌≤◌, ◌<◌, eqb, List, [], ◌∷◌, ◌++◌, length, map, Option, Some, None}
+use Rattle.pg_aiger_reader.proofs.Common.{refl, sym, ap, ◌∙◌, append_assoc, append-nil, ◌>>=◌, some, some_is, none, none_is_some}
 use Rattle.pg_aiger_reader.proofs.Common.{AllByRecursion, chosen, inl, inr, eqb-true, drop, get_or, latches_at, drop_more, drop_all, ne_eqb}
 use Rattle.pg_aiger_reader.specs.declared.gate.Latch.{Latch}
 use Rattle.pg_aiger_reader.specs.declared.item.LatchLine.{LatchLine}
@@ -49,15 +49,16 @@ unfolding latches_at
 latches_found [] xs e = (sym (some_is [] xs e), tt)
 latches_found (l ∷ ls) xs e =
     elim (chosen (eqb l.reset 0) (latches_at ls >>= λ ys. Some (latch_in l ∷ ys)) none (some xs) e) [
-      | inl w ↦ of_rest (latches_at ls) refl (eqb-true l.reset 0 w.0) w.1
+      | inl w ↦ of_rest (λ ys same. latches_found ls ys same) (latches_at ls) refl (eqb-true l.reset 0 w.0) w.1
       | inr w ↦ absurd (none_is_some xs w.1)
     ]
   where
-    of_rest : (read : Option (List Latch)) → latches_at ls ≡ read → l.reset ≡ 0 → (read >>= λ ys. Some (latch_in l ∷ ys)) ≡ Some xs
+    of_rest : ((ys : List Latch) → latches_at ls ≡ Some ys → (ys ≡ map latch_in ls) × AllByRecursion (λ l. l.reset ≡ 0) ls)
+        → (read : Option (List Latch)) → latches_at ls ≡ read → l.reset ≡ 0 → (read >>= λ ys. Some (latch_in l ∷ ys)) ≡ Some xs
         → (xs ≡ map latch_in (l ∷ ls)) × AllByRecursion (λ l. l.reset ≡ 0) (l ∷ ls)
-    of_rest None same zero e = absurd (none_is_some xs e)
-    of_rest (Some ys) same zero e =
-        let below = latches_found ls ys same in
+    of_rest again None same zero e = absurd (none_is_some xs e)
+    of_rest again (Some ys) same zero e =
+        let below = again ys same in
         (sym (some_is (latch_in l ∷ ys) xs e) ∙ ap (λ zs. latch_in l ∷ zs) below.0, (zero, below.1))
 
 pub latches_only : (lines : List LatchLine) → AllByRecursion (λ l. l.reset ≡ 0) lines → latches_at lines ≡ Some (map latch_in lines)

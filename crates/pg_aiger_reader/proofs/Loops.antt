@@ -1,7 +1,7 @@
 -- Reading one item after another, as loops do.
-use Rattle.pg_aiger_reader.proofs.Common.{◌≡◌, ℕ, suc, zero, ◌-◌, ◌+◌, ◌≤◌, ◌<◌, Bool, true, false, List, [], ◌∷◌, ◌++◌, Option, Some, None}
-use Rattle.pg_aiger_reader.proofs.Common.{refl, sym, ap, ◌∙◌, append_assoc, append-nil, arith, ◌>>=◌, Fails, ReaderFault, field_at, line_at}
-use Rattle.pg_aiger_reader.proofs.Common.{behind_field, some}
+use Rattle.pg_aiger_reader.proofs.Common.{◌≡◌, ℕ, suc, ◌-◌, ◌+◌, ◌≤◌, ◌<◌, true, false, List, [], ◌∷◌, ◌++◌, Option, Some, None}
+use Rattle.pg_aiger_reader.proofs.Common.{refl, sym, ap, ◌∙◌, append_assoc, arith, ◌>>=◌, Fails, ReaderFault, field_at, line_at}
+use Rattle.pg_aiger_reader.proofs.Common.{some}
 use Rattle.pg_aiger_reader.specs.declared.fault.ReaderFault.TheVariants as faults
 
 -- what was read before, and what is still read

@@ -1,7 +1,7 @@
 -- Items one after another: what is read is spelt, what is spelt is read, and how a loop reads them.
 use Rattle.pg_aiger_reader.proofs.Common.{◌≡◌, ℕ, suc, zero, ◌-◌, ◌+◌, ◌≤◌, ◌<◌, List, [], ◌∷◌, ◌++◌, length, Option, Some, None}
-use Rattle.pg_aiger_reader.proofs.Common.{refl, sym, ap, subst, ◌∙◌, append_assoc, append-nil, arith, ◌>>=◌, Fails, ReaderFault, some, some_is}
-use Rattle.pg_aiger_reader.proofs.Common.{none, none_is_some, many_at}
+use Rattle.pg_aiger_reader.proofs.Common.{refl, sym, ap, subst, ◌∙◌, append-nil, arith, ◌>>=◌, Fails, ReaderFault, some, some_is}
+use Rattle.pg_aiger_reader.proofs.Common.{none_is_some, many_at}
 use Rattle.pg_aiger_reader.proofs.Loops.{with_front, regroup, fails}
 use Rattle.pg_aiger_reader.specs.Texts.{AreItems}
 
@@ -13,21 +13,26 @@ pub many_found : {A : Type 0} (IsItem : ℕ → List ℕ → A → List ℕ → 
 unfolding many_at
 many_found {A = A} IsItem item found zero v bytes x e =
     subst (λ (y : List A × List ℕ). (length y.0 ≡ 0) × AreItems IsItem v bytes y.0 y.1) (some_is ([], bytes) x e) (refl, refl)
-many_found {A = A} IsItem item found (suc n) v bytes x e = of_item (item v bytes) refl e
+many_found {A = A} IsItem item found (suc n) v bytes x e =
+    of_item (λ after xs same. many_found IsItem item found n (suc v) after xs same) (item v bytes) refl e
   where
-    of_rest : (y : A × List ℕ) → item v bytes ≡ Some y → (read : Option (List A × List ℕ)) → many_at item n (suc v) y.1 ≡ read
+    of_rest : ((after : List ℕ) (xs : List A × List ℕ) → many_at item n (suc v) after ≡ Some xs
+        → (length xs.0 ≡ n) × AreItems IsItem (suc v) after xs.0 xs.1)
+        → (y : A × List ℕ) → item v bytes ≡ Some y → (read : Option (List A × List ℕ)) → many_at item n (suc v) y.1 ≡ read
         → (read >>= λ xs. Some (y.0 ∷ xs.0, xs.1)) ≡ Some x → (length x.0 ≡ suc n) × AreItems IsItem v bytes x.0 x.1
-    of_rest y is None same e = absurd (none_is_some x e)
-    of_rest y is (Some xs) same e =
-        let below = many_found IsItem item found n (suc v) y.1 xs same in
+    of_rest again y is None same e = absurd (none_is_some x e)
+    of_rest again y is (Some xs) same e =
+        let below = again y.1 xs same in
         subst (λ (z : List A × List ℕ). (length z.0 ≡ suc n) × AreItems IsItem v bytes z.0 z.1) (some_is (y.0 ∷ xs.0, xs.1) x e)
         (ap suc below.0, (y.1, found v bytes y is, below.1))
 
-    of_item : (read : Option (A × List ℕ)) → item v bytes ≡ read
+    of_item : ((after : List ℕ) (xs : List A × List ℕ) → many_at item n (suc v) after ≡ Some xs
+        → (length xs.0 ≡ n) × AreItems IsItem (suc v) after xs.0 xs.1)
+        → (read : Option (A × List ℕ)) → item v bytes ≡ read
         → (read >>= λ y. many_at item n (suc v) y.1 >>= λ xs. Some (y.0 ∷ xs.0, xs.1)) ≡ Some x
         → (length x.0 ≡ suc n) × AreItems IsItem v bytes x.0 x.1
-    of_item None same e = absurd (none_is_some x e)
-    of_item (Some y) same e = of_rest y same (many_at item n (suc v) y.1) refl e
+    of_item again None same e = absurd (none_is_some x e)
+    of_item again (Some y) same e = of_rest again y same (many_at item n (suc v) y.1) refl e
 
 pub many_only : {A : Type 0} (IsItem : ℕ → List ℕ → A → List ℕ → Type 0) (item : ℕ → List ℕ → Option (A × List ℕ))
     → ((v : ℕ) (bytes : List ℕ) (x : A) (rest : List ℕ) → IsItem v bytes x rest → item v bytes ≡ Some (x, rest))

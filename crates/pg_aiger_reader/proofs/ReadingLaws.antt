@@ -1,9 +1,9 @@
 -- A text that is read spells what is read, and what a text spells is read.
-use Rattle.pg_aiger_reader.proofs.Common.{◌≡◌, ◌≢◌, ◌⊎◌, ℕ, suc, zero, ◌+◌, ◌≤◌, ◌<◌, Bool, true, false, List, [], ◌∷◌, ◌++◌, take, drop, map}
-use Rattle.pg_aiger_reader.proofs.Common.{length, Option, Some, None, refl, sym, ap, subst, ◌∙◌, arith, inl, inr, ◌>>=◌, eqb, bytes_eq, codes}
-use Rattle.pg_aiger_reader.proofs.Common.{chosen, cases_Bool, some, some_is, none, none_is_some, take-append-drop, bytes_eq-Decides, take_at, drop_at}
+use Rattle.pg_aiger_reader.proofs.Common.{◌≡◌, ◌⊎◌, ℕ, ◌+◌, ◌≤◌, List, [], ◌++◌, take, drop, map}
+use Rattle.pg_aiger_reader.proofs.Common.{length, Option, Some, None, refl, sym, ap, subst, ◌∙◌, inl, inr, ◌>>=◌, bytes_eq, codes}
+use Rattle.pg_aiger_reader.proofs.Common.{cases_Bool, some, some_is, none_is_some, take-append-drop, bytes_eq-Decides}
 use Rattle.pg_aiger_reader.proofs.Common.{header_at, sections_at, many_at, input_at, latch_at, gate_at, latches_at, symbols_at, text_at, length-map}
-use Rattle.pg_aiger_reader.proofs.Common.{Result, Ok, Err, IfOk, IfErr, Gives, AllByRecursion}
+use Rattle.pg_aiger_reader.proofs.Common.{Err, Gives}
 use Rattle.pg_aiger_reader.proofs.Many.{many_found, many_only}
 use Rattle.pg_aiger_reader.proofs.ItemLaws.{input_found, input_only, latch_found, latch_only, gate_found, gate_only}
 use Rattle.pg_aiger_reader.proofs.Latches.{latches_found, latches_only}
@@ -102,9 +102,9 @@ parts_in_text c lines = parts_of c.inputs lines c.outputs c.gates
 
 sections_only : (form : Form) (bytes : List ℕ) (c : Circuit) (symbols : List Symbol) (t : IsText form bytes c symbols)
     → sections_at (head_of form c) t.behind_header ≡ Some (parts_in_text c t.lines, t.behind_gates)
-unfolding sections_at, head_of, parts_in_text
+unfolding sections_at head_of parts_in_text
 sections_only form bytes c symbols t =
-    let count : length c.latches ≡ length t.lines = ap length t.same ∙ length-map latch_in t.lines in
+    let count : length c.latches ≡ length t.lines = ap length t.same ∙ length-map t.lines latch_in in
     let inputs = many_only (IsInput form) (input_at form) (input_only form) c.inputs 1 t.behind_header t.behind_inputs t.inputs in
     let latches = many_only (IsLatch form) (latch_at form) (latch_only form) t.lines (1 + length c.inputs) t.behind_inputs t.behind_latches t.latches in
     let outputs = many_only IsOutput (input_at Ascii) (input_only Ascii) c.outputs 1 t.behind_latches t.behind_outputs t.outputs in
@@ -129,7 +129,7 @@ text_made : (bytes : List ℕ) (h : Header) (behind_header : List ℕ) (parts : 
 text_made bytes h behind_header parts behind_gates latches symbols is are plain named =
     let c = circuit_of h.greatest parts latches in
     let start = latches_found parts.lines latches plain in
-    let count : length latches ≡ h.latches = ap length start.0 ∙ length-map latch_in parts.lines ∙ are.count_latches in
+    let count : length latches ≡ h.latches = ap length start.0 ∙ length-map parts.lines latch_in ∙ are.count_latches in
     let names = symbols_found h c (counts_of c h are.count_inputs count are.count_outputs) (length behind_gates + 1) 0 behind_gates symbols named in
     record {
       form = h.form;
@@ -178,7 +178,7 @@ same_latches : (c : Circuit) (latches : List Latch) → c.latches ≡ latches
 same_latches c latches e = ap (λ ls. circuit_of c.greatest (parts_of c.inputs [] c.outputs c.gates) ls) (sym e)
 
 pub text_only : (bytes : List ℕ) (c : Circuit) (symbols : List Symbol) → IsRead bytes c symbols → text_at bytes ≡ Some (c, symbols)
-unfolding text_at, head_of, parts_in_text
+unfolding text_at head_of parts_in_text
 text_only bytes c symbols r =
     let t = r.text in
     let h = head_of r.form c in

@@ -1,10 +1,11 @@
 -- Symbols and what ends a text: what is read is spelt, and what is spelt is read.
-use Rattle.pg_aiger_reader.proofs.Common.{◌≡◌, ◌≢◌, ℕ, suc, zero, ◌+◌, ◌-◌, ◌≤◌, ◌<◌, ◌^◌, ◌&&◌, Bool, true, false, List, [], ◌∷◌, ◌++◌}
+use Rattle.pg_aiger_reader.proofs.Common.{◌≡◌, ℕ, suc, zero, ◌+◌, ◌<◌, ◌^◌, true, false, List, [], ◌∷◌, ◌++◌}
 use Rattle.pg_aiger_reader.proofs.Common.{length, Option, Some, None, refl, sym, ap, subst, ◌∙◌, append_assoc, arith, inl, inr, ◌>>=◌, eqb, ltb}
-use Rattle.pg_aiger_reader.proofs.Common.{eqb-true, ltb-true, lt-ltb, nat_tests, chosen, some, some_is, none, none_is_some, codes, get_or, drop}
-use Rattle.pg_aiger_reader.proofs.Common.{prefix_len, take_while, is_digit, Each, run_each, run_parts, run_again, run_is, length-append, drop-drop}
-use Rattle.pg_aiger_reader.proofs.Common.{drop_at, drop_more, prefix_len_stops, and_parts, field_at, name_at, symbol_at, good_at, symbols_at, AllByRecursion}
-use Rattle.pg_aiger_reader.proofs.Lines.{IsField, Field, mark, field_found, field_only, digits_inner, each_append}
+use Rattle.pg_aiger_reader.proofs.Common.{eqb-true, ltb-true, lt-ltb, chosen, some, some_is, none, none_is_some, codes, get_or, drop}
+use Rattle.pg_aiger_reader.proofs.Common.{prefix_len, take_while, Each, run_each, run_parts, run_again, run_is, length-append, drop-drop}
+use Rattle.pg_aiger_reader.proofs.Common.{drop_at, drop_more, prefix_len_stops, and_parts, field_at, name_at, symbol_at, good_at, symbols_at}
+use Rattle.pg_aiger_reader.proofs.Common.{if◌then◌else◌}
+use Rattle.pg_aiger_reader.proofs.Lines.{IsField, Field, field_found, field_only, digits_inner, each_append}
 use Rattle.pg_aiger_reader.specs.declared.header.Header.{Header}
 use Rattle.pg_aiger_reader.specs.CircuitText.{Kind, input, latch, output, Symbol, Begins, symbol, kind_text, is_inner, count_of, IsNumber}
 use Rattle.pg_aiger_reader.specs.Circuits.{Circuit}
@@ -78,8 +79,7 @@ made b bytes k n text name rest letter f inner parts =
     let tail = f.digits ++ (32 ∷ name) in
     let whole : (b ∷ bytes) ≡ b ∷ (f.digits ++ (32 ∷ (name ++ 10 ∷ rest))) =
     ap (λ (t : List ℕ). b ∷ t) (f.parts ∙ ap (λ (t : List ℕ). f.digits ++ (32 ∷ t)) parts) in
-    let split : f.digits ++ (32 ∷ (name ++ 10 ∷ rest)) ≡ tail ++ 10 ∷ rest = sym (append_assoc f.digits (32 ∷ name) (10 ∷ rest)) in
-    (
+    let split : f.digits ++ (32 ∷ (name ++ 10 ∷ rest)) ≡ tail ++ 10 ∷ rest = sym (append_assoc f.digits (32 ∷ name) (10 ∷ rest)) in (
       record {
         line = kind_text k ++ tail;
         parts =
@@ -239,20 +239,22 @@ symbols_found header circuit counts zero v bytes xs e = absurd (none_is_some xs 
 symbols_found header circuit counts (suc n) v bytes xs e =
     elim (chosen (is_end bytes) (some []) _ (some xs) e) [
       | inl w ↦ subst (Symbols circuit v bytes) (some_is [] xs w.1) (record { comment = bytes; are = refl; ends = end_found bytes w.0 })
-      | inr w ↦ of_symbol (good_at header bytes) refl w.1
+      | inr w ↦ of_symbol (λ after ys same. symbols_found header circuit counts n (suc v) after ys same) (good_at header bytes) refl w.1
     ]
   where
-    of_rest : (y : Symbol × List ℕ) → IsSymbol circuit v bytes y.0 y.1 → (read : Option (List Symbol)) → symbols_at header n y.1 ≡ read
+    of_rest : ((after : List ℕ) (ys : List Symbol) → symbols_at header n after ≡ Some ys → Symbols circuit (suc v) after ys)
+        → (y : Symbol × List ℕ) → IsSymbol circuit v bytes y.0 y.1 → (read : Option (List Symbol)) → symbols_at header n y.1 ≡ read
         → (read >>= λ ys. Some (y.0 ∷ ys)) ≡ Some xs → Symbols circuit v bytes xs
-    of_rest y is None same e = absurd (none_is_some xs e)
-    of_rest y is (Some ys) same e =
-        let below = symbols_found header circuit counts n (suc v) y.1 ys same in
+    of_rest again y is None same e = absurd (none_is_some xs e)
+    of_rest again y is (Some ys) same e =
+        let below = again y.1 ys same in
         subst (Symbols circuit v bytes) (some_is (y.0 ∷ ys) xs e) (record { comment = below.comment; are = (y.1, is, below.are); ends = below.ends })
 
-    of_symbol : (read : Option (Symbol × List ℕ)) → good_at header bytes ≡ read
+    of_symbol : ((after : List ℕ) (ys : List Symbol) → symbols_at header n after ≡ Some ys → Symbols circuit (suc v) after ys)
+        → (read : Option (Symbol × List ℕ)) → good_at header bytes ≡ read
         → (read >>= λ y. symbols_at header n y.1 >>= λ ys. Some (y.0 ∷ ys)) ≡ Some xs → Symbols circuit v bytes xs
-    of_symbol None same e = absurd (none_is_some xs e)
-    of_symbol (Some y) same e = of_rest y (good_found header circuit counts v bytes y same) (symbols_at header n y.1) refl e
+    of_symbol again None same e = absurd (none_is_some xs e)
+    of_symbol again (Some y) same e = of_rest again y (good_found header circuit counts v bytes y same) (symbols_at header n y.1) refl e
 
 symbols_only : (header : Header) (circuit : Circuit) → ((k : Kind) → count_of circuit k ≡ count_in header k)
     → (xs : List Symbol) (n v : ℕ) (bytes comment : List ℕ) → AreItems (IsSymbol circuit) v bytes xs comment → IsComment comment → length bytes < n

@@ -1,6 +1,6 @@
 -- Symbols, one after another.
-use Rattle.pg_aiger_reader.proofs.Common.{◌≡◌, ℕ, suc, zero, ◌-◌, ◌+◌, ◌≤◌, ◌<◌, Bool, true, false, List, [], ◌∷◌, ◌++◌, length, Option, Some, None}
-use Rattle.pg_aiger_reader.proofs.Common.{refl, sym, ap, subst, ◌∙◌, append_assoc, append-nil, arith, ◌>>=◌, Fails, ReaderFault, some, symbols_at, good_at}
+use Rattle.pg_aiger_reader.proofs.Common.{◌≡◌, ℕ, suc, ◌-◌, ◌+◌, ◌≤◌, ◌<◌, true, false, List, [], ◌∷◌, ◌++◌, Option, Some, None}
+use Rattle.pg_aiger_reader.proofs.Common.{refl, sym, ap, ◌∙◌, append_assoc, append-nil, arith, ◌>>=◌, Fails, ReaderFault, some, symbols_at, good_at}
 use Rattle.pg_aiger_reader.proofs.Loops.{fails}
 use Rattle.pg_aiger_reader.specs.declared.header.Header.{Header}
 use Rattle.pg_aiger_reader.specs.CircuitText.{Symbol}

@@ -62,7 +62,10 @@ impl fmt::Display for ReaderFault {
             ReaderFault::Syntax(offset) => write!(f, "syntax error at byte {offset}"),
             ReaderFault::NumberTooLarge(offset) => write!(f, "number too large at byte {offset}"),
             ReaderFault::TooLarge => f.write_str("circuit too large"),
-            ReaderFault::LeftOut(section) => write!(f, "the circuit has {section}, which are not read"),
+            ReaderFault::LeftOut(section) => write!(
+                f,
+                "the circuit has {section}, which are not read"
+            ),
             ReaderFault::Reset(position) => write!(f, "latch {position} does not start at 0"),
         }
     }
@@ -93,7 +96,9 @@ impl ReaderFault {
     {
         match self {
             ReaderFault::Syntax(left) => ReaderFault::Syntax(len.saturating_sub(left)),
-            ReaderFault::NumberTooLarge(left) => ReaderFault::NumberTooLarge(len.saturating_sub(left)),
+            ReaderFault::NumberTooLarge(left) => ReaderFault::NumberTooLarge(len.saturating_sub(
+                left,
+            )),
             other => other,
         }
     }

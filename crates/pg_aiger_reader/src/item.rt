@@ -90,10 +90,7 @@ pub(crate) fn latch<'a>(
 }
 
 #[tactic(auto, unfolding(crate::specs::Mirrors::Items::ascii_gate_at))]
-fn ascii_gate<'a>(
-    numbers: &mut Vec<u32>,
-    bytes: &'a [u8],
-) -> Result<(Gate, &'a [u8]), ReaderFault>
+fn ascii_gate<'a>(numbers: &mut Vec<u32>, bytes: &'a [u8]) -> Result<(Gate, &'a [u8]), ReaderFault>
     ensures { Gives (λ x. (x.0, x.1.now)) result (ascii_gate_at bytes.now) }
 {
     let rest = line(3, numbers, bytes)?;

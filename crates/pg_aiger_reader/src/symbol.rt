@@ -109,10 +109,7 @@ fn count_of(header: &Header, kind: Kind) -> u32
 
 /// A symbol that names something.
 #[tactic(auto, unfolding(crate::specs::Mirrors::Symbols::good_at))]
-fn good_symbol<'a>(
-    header: &Header,
-    bytes: &'a [u8],
-) -> Result<(Symbol<'a>, &'a [u8]), ReaderFault>
+fn good_symbol<'a>(header: &Header, bytes: &'a [u8]) -> Result<(Symbol<'a>, &'a [u8]), ReaderFault>
     ensures { Gives (λ x. (symbol_in x.0, x.1.now)) result (good_at header.now bytes.now) }
 {
     let (symbol, rest) = read_symbol(bytes)?;

@@ -3,7 +3,6 @@ use Rattle.std.specs.Prelude.{ℕ, ◌+◌, ◌==◌, List, [], ◌∷◌, lengt
 use Rattle.std.specs.Str.{bytes_eq}
 use Rattle.pg_hoa_automaton.specs.Mirrors.Steps.{◌>>=◌}
 use Rattle.pg_aiger_reader.specs.declared.gate.Latch.{Latch}
-use Rattle.pg_aiger_reader.specs.declared.header.Header.{Header}
 use Rattle.pg_aiger_reader.specs.declared.item.LatchLine.{LatchLine}
 use Rattle.pg_aiger_reader.specs.declared.reader.Parts as declared
 use Rattle.pg_aiger_reader.specs.Circuits.{Circuit}

@@ -1,11 +1,9 @@
 -- What the functions that read compute: a mirror of them for proofs, whose laws stand in proofs/.
-use Rattle.std.specs.Prelude.{ℕ, suc, zero, ◌+◌, ◌*◌, ◌-◌, ◌^◌, ◌≤◌, ◌<◌, ◌==◌, ◌&&◌, ◌||◌, Bool, true, false, List, [], ◌∷◌, ◌++◌}
-use Rattle.std.specs.Prelude.{length, take, drop, map, Option, Some, None, nat_lt, nat_le, codes, if◌then◌else◌}
-use Rattle.std.specs.Str.{bytes_eq}
+use Rattle.std.specs.Prelude.{ℕ, suc, zero, ◌^◌, ◌==◌, Bool, true, false, List, [], ◌∷◌}
+use Rattle.std.specs.Prelude.{drop, Option, Some, None, nat_lt, if◌then◌else◌}
 use Rattle.std.specs.List.{prefix_len, take_while}
 use Rattle.pg_list_lemmas.specs.Bytes.{is_digit, value_of}
 use Rattle.pg_hoa_automaton.specs.Mirrors.Steps.{◌>>=◌}
-use Rattle.pg_aiger_reader.specs.CircuitText.{is_inner}
 
 -- ---- lines of numbers
 
