@@ -103,7 +103,7 @@ of_sources circuit (DefinedTwice x) (before, after, e, c) = (
   before,
   after ++ map variable (map Gate.lhs circuit.gates),
   map-append variable (sources circuit) (map Gate.lhs circuit.gates)
-  ∙ ap (λ xs. xs ++ map variable (map Gate.lhs circuit.gates)) e ∙ append_assoc before (x ∷ after) (map variable (map Gate.lhs circuit.gates)),
+      ∙ ap (λ xs. xs ++ map variable (map Gate.lhs circuit.gates)) e ∙ append_assoc before (x ∷ after) (map variable (map Gate.lhs circuit.gates)),
   c,
 )
 of_sources circuit (Undefined x) h = absurd h

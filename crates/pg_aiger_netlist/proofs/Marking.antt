@@ -42,7 +42,7 @@ first_marks n some =
       (λ c. absurd (let l = c.1 in omega (arith, l))),
     ))
 
-known_more : (xs : List ℕ) (l : ℕ) → known_by (xs ++ l ∷ []) ≡ known_by xs ++ variable l ∷ []
+pub known_more : (xs : List ℕ) (l : ℕ) → known_by (xs ++ l ∷ []) ≡ known_by xs ++ variable l ∷ []
 known_more xs l = ap (λ ys. 0 ∷ ys) (map-append variable xs (l ∷ []))
 
 pub next_marks : (row : List Bool) (xs : List ℕ) (i d : ℕ) → i < length xs → variable (get_or xs i d) < length row → AreMarked row (known_by (take i xs))
@@ -67,7 +67,7 @@ twice xs i d l some there = (
   map variable (take i xs),
   map variable (drop (suc i) xs),
   ap (map variable) (sym (take-append-drop i xs) ∙ ap (λ r. take i xs ++ r) (drop-cons xs i d l))
-  ∙ map-append variable (take i xs) (get_or xs i d ∷ drop (suc i) xs),
+      ∙ map-append variable (take i xs) (get_or xs i d ∷ drop (suc i) xs),
   elim (member_cases 0 (map variable (take i xs)) (variable (get_or xs i d)) there) [
     | inl zero_is ↦ absurd (omega (arith, zero_is, some))
     | inr c ↦ c

@@ -73,19 +73,23 @@ pub ordered_push : (first : List ℕ) (ordered : List Gate) (g : Gate) → AreOr
     → ((x : ℕ) → IsUsedBy g x → Contains first x ⊎ Contains (map variable_of ordered) x) → AreOrdered first (ordered ++ g ∷ [])
 ordered_push first [] g are fresh new uses =
     (fresh, (λ x u. elim (uses x u) [ inl c ↦ c | inr none ↦ absurd (nobody x none) ]), tt)
-ordered_push first (h ∷ rest) g are fresh new uses = (are.0, are.1, ordered_push (variable_of h ∷ first) rest g are.2
-    (λ c. elim (member_cases (variable_of h) first (variable_of g) c) [
-      | inl e ↦ new (subst (Contains (variable_of h ∷ map variable_of rest)) e (member_first (variable_of h) (map variable_of rest)))
-      | inr old ↦ fresh old
-    ])
-    (λ c. new (member_rest (variable_of h) (map variable_of rest) (variable_of g) c))
-    (λ x u. elim (uses x u) [
-      | inl c ↦ inl (member_rest (variable_of h) first x c)
-      | inr c ↦ elim (member_cases (variable_of h) (map variable_of rest) x c) [
-        | inl e ↦ inl (subst (Contains (variable_of h ∷ first)) e (member_first (variable_of h) first))
-        | inr later ↦ inr later
-      ]
-    ]))
+ordered_push first (h ∷ rest) g are fresh new uses = (
+  are.0,
+  are.1,
+  ordered_push (variable_of h ∷ first) rest g are.2
+      (λ c. elim (member_cases (variable_of h) first (variable_of g) c) [
+        | inl e ↦ new (subst (Contains (variable_of h ∷ map variable_of rest)) e (member_first (variable_of h) (map variable_of rest)))
+        | inr old ↦ fresh old
+      ])
+      (λ c. new (member_rest (variable_of h) (map variable_of rest) (variable_of g) c))
+      (λ x u. elim (uses x u) [
+        | inl c ↦ inl (member_rest (variable_of h) first x c)
+        | inr c ↦ elim (member_cases (variable_of h) (map variable_of rest) x c) [
+          | inl e ↦ inl (subst (Contains (variable_of h ∷ first)) e (member_first (variable_of h) first))
+          | inr later ↦ inr later
+        ]
+      ]),
+)
 
 mapped_more : (ordered : List Gate) (g : Gate) → map variable_of (ordered ++ g ∷ []) ≡ map variable_of ordered ++ variable_of g ∷ []
 mapped_more ordered g = map-append variable_of ordered (g ∷ [])

@@ -3,9 +3,8 @@ use Rattle.std.proofs.Common.{◌≡◌, ◌≢◌, ℕ, zero, suc, ◌+◌, ◌
 use Rattle.std.proofs.Common.{arith, refl, sym, subst, ap, ◌∙◌}
 use Rattle.std.specs.Prelude.{map, not, ◌&&◌, min}
 use Rattle.std.specs.List.{Contains}
-use Rattle.std.specs.Int.{bit_at, bit_not}
+use Rattle.std.specs.Int.{bit_at, bit_not, w64}
 use lib.Bits.{bit_and}
-use mir.Val.{w64}
 use Rattle.std.proofs.Math.Nat.{div-div-eq-div-mul, pow-succ'}
 use Rattle.std.proofs.lemmas.Bool.{cases_eq}
 use Rattle.std.proofs.lemmas.List.{get_or-set_same, get_or-set_other, map-append}

@@ -12,7 +12,11 @@ use pg_aiger::{Gate, Latch};
 use std::alloc::{AllocError, Global};
 
 /// The literals of inputs and latches.
-pub(crate) fn sources_of(alloc: Global, inputs: &[u32], latches: &[Latch]) -> Result<Vec<u32>, AllocError>
+pub(crate) fn sources_of(
+    alloc: Global,
+    inputs: &[u32],
+    latches: &[Latch],
+) -> Result<Vec<u32>, AllocError>
     ensures { IfOk result (λ list. list.items ≡ inputs.now ++ map Latch.literal latches.now) }
 {
     let mut literals = Vec::from_slice(alloc, inputs)?;
@@ -23,7 +27,11 @@ pub(crate) fn sources_of(alloc: Global, inputs: &[u32], latches: &[Latch]) -> Re
 }
 
 /// Those literals, and behind them those of gates.
-pub(crate) fn definitions_of(alloc: Global, sources: &[u32], gates: &[Gate]) -> Result<Vec<u32>, AllocError>
+pub(crate) fn definitions_of(
+    alloc: Global,
+    sources: &[u32],
+    gates: &[Gate],
+) -> Result<Vec<u32>, AllocError>
     ensures { IfOk result (λ list. list.items ≡ sources.now ++ map Gate.lhs gates.now) }
 {
     let mut literals = Vec::from_slice(alloc, sources)?;
@@ -34,7 +42,12 @@ pub(crate) fn definitions_of(alloc: Global, sources: &[u32], gates: &[Gate]) -> 
 }
 
 /// The literals that gates, latches and outputs use.
-pub(crate) fn uses_of(alloc: Global, gates: &[Gate], latches: &[Latch], outputs: &[u32]) -> Result<Vec<u32>, AllocError>
+pub(crate) fn uses_of(
+    alloc: Global,
+    gates: &[Gate],
+    latches: &[Latch],
+    outputs: &[u32],
+) -> Result<Vec<u32>, AllocError>
     ensures { IfOk result (λ list. list.items
         ≡ map Gate.rhs0 gates.now ++ (map Gate.rhs1 gates.now ++ (map Latch.next latches.now ++ outputs.now))) }
 {
@@ -67,7 +80,11 @@ pub(crate) fn is_marked(row: &[bool], x: u32) -> bool
 }
 
 /// Marks of the constant and of the variables that the literals define.
-pub(crate) fn marked(alloc: Global, greatest: u32, literals: &[u32]) -> Result<Vec<bool>, NetlistFault>
+pub(crate) fn marked(
+    alloc: Global,
+    greatest: u32,
+    literals: &[u32],
+) -> Result<Vec<bool>, NetlistFault>
     ensures length { IfOk result (λ row. length row.items ≡ greatest + 1) }
     ensures marks { IfOk result (λ row. AreMarked row.items (known_by literals.now)) }
     ensures plain { OnOk result (All (IsPlain greatest) literals.now) }

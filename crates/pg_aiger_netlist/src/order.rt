@@ -12,7 +12,12 @@ use std::alloc::{AllocError, Global};
 
 /// Puts each gate whose literals are known behind those in order, one after another, and gives those that wait. A gate whose variable is
 /// known already is passed over.
-fn place(alloc: Global, known: &mut [bool], ordered: &mut Vec<Gate>, gates: &[Gate]) -> Result<Vec<Gate>, AllocError>
+fn place(
+    alloc: Global,
+    known: &mut [bool],
+    ordered: &mut Vec<Gate>,
+    gates: &[Gate],
+) -> Result<Vec<Gate>, AllocError>
     requires { All (λ gate. variable_of gate < length known.old) gates.now }
     ensures { IfOk result (λ waiting. HasPassed known.old ordered.old.items gates.now known.new ordered.new.items waiting.items) }
 {
@@ -47,7 +52,12 @@ fn picked(alloc: Global, gates: &[Gate], places: &[u32]) -> Result<Vec<Gate>, Al
 
 /// Puts those that wait behind the others, as far as that goes in the order that is proposed. However bad a proposal may be, it costs time
 /// alone.
-fn place_rest(alloc: Global, known: &mut [bool], ordered: &mut Vec<Gate>, waiting: &[Gate]) -> Result<(), AllocError>
+fn place_rest(
+    alloc: Global,
+    known: &mut [bool],
+    ordered: &mut Vec<Gate>,
+    waiting: &[Gate],
+) -> Result<(), AllocError>
     requires { All (λ gate. variable_of gate < length known.old) waiting.now }
     ensures { OnOk result ((old : List Bool) (gates : List Gate) → IsUnderWay old gates known.old ordered.old.items waiting.now
         → IsUnderWay old gates known.new ordered.new.items waiting.now) }
@@ -62,7 +72,11 @@ fn place_rest(alloc: Global, known: &mut [bool], ordered: &mut Vec<Gate>, waitin
 }
 
 /// All gates in order, if there is one, where these variables are known at first. Gates that stand in order already take one pass.
-pub(crate) fn order_of(alloc: Global, known: &mut [bool], gates: &[Gate]) -> Result<Vec<Gate>, NetlistFault>
+pub(crate) fn order_of(
+    alloc: Global,
+    known: &mut [bool],
+    gates: &[Gate],
+) -> Result<Vec<Gate>, NetlistFault>
     requires { All (λ gate. variable_of gate < length known.old) gates.now }
     ensures order { IfOk result (λ ordered. IsWhole known.old gates.now ordered.items) }
     ensures fault { IfErr result (IsOrderFault known.old gates.now) }

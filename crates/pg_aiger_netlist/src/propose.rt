@@ -60,7 +60,11 @@ fn uses_of(alloc: Global, definers: &[u32], gates: &[Gate]) -> Result<Uses, Allo
 }
 
 /// The places of the gates, each behind those whose variables it uses, as far as that goes.
-pub(crate) fn proposed_order(alloc: Global, variables: usize, gates: &[Gate]) -> Result<Vec<u32>, AllocError> {
+pub(crate) fn proposed_order(
+    alloc: Global,
+    variables: usize,
+    gates: &[Gate],
+) -> Result<Vec<u32>, AllocError> {
     let definers = definers(alloc, variables, gates)?;
     let mut uses = uses_of(alloc, &definers, gates)?;
     let mut order = Vec::new(alloc);
@@ -96,7 +100,11 @@ fn release(uses: &mut Uses, order: &mut Vec<u32>, place: u32) -> Result<(), Allo
 }
 
 /// The place of a gate in a cycle, if each waits for another of them: as many steps from gate to gate lead into one.
-pub(crate) fn in_cycle(alloc: Global, variables: usize, gates: &[Gate]) -> Result<usize, AllocError> {
+pub(crate) fn in_cycle(
+    alloc: Global,
+    variables: usize,
+    gates: &[Gate],
+) -> Result<usize, AllocError> {
     let definers = definers(alloc, variables, gates)?;
     let mut place: u32 = 0;
     for _ in 0..gates.len() {
@@ -104,7 +112,11 @@ pub(crate) fn in_cycle(alloc: Global, variables: usize, gates: &[Gate]) -> Resul
             break;
         };
         let left = at(&definers, gate.rhs0 / 2);
-        place = if left == NONE { at(&definers, gate.rhs1 / 2) } else { left };
+        place = if left == NONE {
+            at(&definers, gate.rhs1 / 2)
+        } else {
+            left
+        };
     }
     Ok(place as usize)
 }

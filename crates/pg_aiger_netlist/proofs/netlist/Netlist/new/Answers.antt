@@ -129,4 +129,3 @@ returns-clause-acyclic c =
     (subst (λ gs. IsWhole c.deref_mut.result.now gs c.in_ok-ordered.ordered.items) c.deref-12.ensures.value c.in_ok-ordered.ensures.order) in
     let acyclic : IsAcyclic circ = acyclic_made circ c.in_ok-defined.defined.items c.in_ok-ordered.ordered.items d used order in
     acyclic
-

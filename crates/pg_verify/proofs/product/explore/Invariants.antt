@@ -1,0 +1,14 @@
+use Rattle.std.proofs.Common.{◌≡◌, ◌+◌, ◌*◌, ◌≤◌, length}
+use Rattle.std.specs.Prelude.{map}
+use Rattle.pg_verify.specs.Mirrors.Products.{IsDraft, AreWide, pair_of}
+use Rattle.pg_verify.proofs.product.explore.Given as goal
+
+abbrev pub invariant-loop-k : goal.invariant-loop-k
+invariant-loop-k l = record {
+  draft : IsDraft l.automaton l.netlist (map pair_of l.draft.rows.items) l.draft.slots.items l.draft.steps.items (map (λ v. v.items) l.draft.lists.items);
+  wide : AreWide (length l.netlist.latches) l.draft.rows.items;
+  place : length l.draft.slots.items ≡ l.k * l.letters;
+  within : l.k ≤ length l.draft.rows.items;
+  room : length l.scratch.values.items ≡ l.netlist.greatest + 1;
+  latches : length l.scratch.latches.items ≡ length l.netlist.latches;
+}

@@ -1,0 +1,55 @@
+//! What is found of a circuit.
+
+ghost use Rattle.std.specs.Prelude.{◌≡◌, ℕ, length, IfOk};
+ghost use Rattle.pg_hoa_automaton.specs.Automata.{Automaton};
+ghost use Rattle.pg_hoa_automaton.specs.Formulas.{Formula};
+ghost use Rattle.pg_hoa_automaton.specs.Shapes.{FitsShape};
+ghost use Rattle.pg_aiger.specs.Circuits.{Circuit};
+ghost use Rattle.pg_aiger_netlist.specs.Netlists.{IsAcyclic};
+ghost use Rattle.pg_check.specs.Soundness.{IsSound};
+ghost use Rattle.pg_text.specs.Solutions.{IsSolution};
+ghost use Rattle.pg_synth.specs.Answers.{IsSynthGame};
+ghost use Rattle.pg_synth.specs.Letters.{inputs};
+ghost use Rattle.pg_verify.specs.Mirrors.Products.{IsProductOf};
+ghost use Rattle.pg_verify.specs.Verdicts.{Says};
+
+use crate::walk::refutation;
+use pg_arena::Player;
+use pg_hoa_automaton::Automaton;
+use pg_synth::SynthGame;
+use pg_text::Solution;
+use std::alloc::{AllocError, Global};
+
+/// Whether the automaton accepts what the circuit makes of every endless input word, and if not, what speaks against it.
+#[derive(Debug, Drop)]
+pub enum Verdict {
+    /// It does.
+    Accepted,
+    /// After these input letters the automaton has no edge for the last letter that the circuit makes.
+    Stuck(Vec<u32>),
+    /// These input letters, and then those of the second list over and over: the run is rejected.
+    Rejected(Vec<u32>, Vec<u32>),
+}
+
+/// The verdict on a circuit, by a sound solution of the game of the product with an automaton. It is refused only where memory runs out.
+pub fn verdict_of(
+    alloc: Global,
+    product: &Automaton,
+    synth: &SynthGame,
+    solution: &Solution,
+) -> Result<Verdict, AllocError>
+    requires game { IsSynthGame product.now synth.now.game synth.now.initial }
+    requires solution { IsSolution synth.now.game solution.now }
+    requires sound { IsSound synth.now.game solution.now }
+    requires product { (a : Automaton) × (circuit : Circuit) × IsProductOf a circuit product.now }
+    ensures { IfOk result (λ verdict. (a : Automaton) (condition : Formula) (circuit : Circuit) → IsAcyclic circuit
+        → length circuit.inputs ≡ inputs a.controllable → FitsShape condition a.sets a.shape → IsProductOf a circuit product.now
+        → Says a condition circuit verdict) }
+{
+    // asked for what its contract says of the automaton
+    let _states = product.states();
+    match solution.winner(synth.initial) {
+        Player::Even => Ok(Verdict::Accepted),
+        Player::Odd => refutation(alloc, product, synth, solution),
+    }
+}
