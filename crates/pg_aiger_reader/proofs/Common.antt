@@ -1,10 +1,10 @@
 -- The names that the proofs of this crate cite from elsewhere, passed on from one place. Declares nothing.
 pub use Rattle.std.proofs.Common.{Bor, add-one, ap, append_assoc, arith, inl, inr, length-append, refl, rules, subst, sym, ◌∙◌}
-pub use Rattle.std.proofs.lemmas.Bool.{and_parts, cases_Bool, eq-eqb, eqb-false, eqb-true, le-leb, le-ltb, leb-true, lt-ltb, ltb-false, ltb-true}
+pub use Rattle.std.proofs.lemmas.Bool.{and_parts, cases_Bool, cases_lt, eq-eqb, eqb-false, eqb-true, le-leb, le-ltb, leb-true, lt-ltb, ltb-false, ltb-true}
 pub use Rattle.std.proofs.lemmas.Bool.{ne_eqb}
 pub use Rattle.std.proofs.lemmas.Bool.Decides.{nat_tests}
 pub use Rattle.std.proofs.Math.Dec.{eqb-suc-zero}
-pub use Rattle.std.proofs.lemmas.List.{append-nil, at_drop_more, drop-drop, drop_all, drop_at, drop_more, length-map, map-append, map_push, take-append-drop}
+pub use Rattle.std.proofs.lemmas.List.{append-nil, at_drop_more, drop-drop, drop_all, take_all, drop_at, drop_more, length-map, map-append, map_push, take-append-drop}
 pub use Rattle.std.proofs.lemmas.Result.{err_from_is_err_and}
 pub use Rattle.std.specs.List.{AllByRecursion, fold, prefix_len, take_while}
 pub use Rattle.std.specs.Prelude.{Bool, Err, IfOk, IfErr, List, None, Ok, Option, Result, Some, [], codes, cond, drop, eqb, false, get_or}
@@ -27,3 +27,8 @@ unfoldable pub use Rattle.pg_aiger_reader.specs.Mirrors.Headers.{header_of, head
 unfoldable pub use Rattle.pg_aiger_reader.specs.Mirrors.Reading.{latches_at, text_at}
 pub use Rattle.std.proofs.lemmas.List.Sums.{prefix_len_stops}
 pub use Rattle.std.proofs.lemmas.Slice.Eq.{bytes_eq-Decides}
+pub use Rattle.std.proofs.lemmas.List.Elements.{Contains-append_left, Contains-get_or, Contains-push, Contains-push_cases}
+pub use Rattle.std.specs.Prelude.{Contains}
+pub use Rattle.std.proofs.lemmas.List.{get_or-map, get_or_append_left, get_or_default, get_or_push, take_more}
+pub use Rattle.std.proofs.lemmas.List.Elements.{Decides-contains, contains_decides}
+pub use Rattle.std.proofs.lemmas.Bool.Decides.{Decides-eqb}

@@ -4,7 +4,7 @@ use Rattle.pg_aiger_reader.proofs.Common.{length, Option, Some, None, refl, sym,
 use Rattle.pg_aiger_reader.proofs.Common.{eqb-false, ltb-true, lt-ltb, le-ltb, ltb-false, ne_eqb, chosen, some, some_is, none}
 use Rattle.pg_aiger_reader.proofs.Common.{none_is_some, if◌then◌else◌, line_at, literal_at, input_at, latch_at, ascii_gate_at, groups_at, binary_gate_at, gate_at}
 use Rattle.pg_aiger_reader.proofs.Lines.{line_found, line_only}
-use Rattle.pg_aiger_reader.specs.declared.gate.Gate.{Gate}
+use Rattle.pg_aiger.specs.declared.gate.Gate.{Gate}
 use Rattle.pg_aiger_reader.specs.declared.item.Form.{Form}
 use Rattle.pg_aiger_reader.specs.declared.item.Form.TheVariants.{Ascii, Binary}
 use Rattle.pg_aiger_reader.specs.declared.item.LatchLine.{LatchLine}

@@ -2,7 +2,7 @@
 use Rattle.pg_aiger_reader.proofs.Common.{◌≡◌, ℕ, ◌+◌, ◌≤◌, ◌<◌, eqb, List, [], ◌∷◌, ◌++◌, length, map, Option, Some, None}
 use Rattle.pg_aiger_reader.proofs.Common.{refl, sym, ap, ◌∙◌, append_assoc, append-nil, ◌>>=◌, some, some_is, none, none_is_some}
 use Rattle.pg_aiger_reader.proofs.Common.{AllByRecursion, chosen, inl, inr, eqb-true, drop, get_or, latches_at, drop_more, drop_all, ne_eqb}
-use Rattle.pg_aiger_reader.specs.declared.gate.Latch.{Latch}
+use Rattle.pg_aiger.specs.declared.gate.Latch.{Latch}
 use Rattle.pg_aiger_reader.specs.declared.item.LatchLine.{LatchLine}
 use Rattle.pg_aiger_reader.specs.Texts.{latch_in}
 

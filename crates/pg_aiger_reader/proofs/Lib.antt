@@ -1,10 +1,12 @@
 pub mod Common
 pub mod Lines
+pub mod Given
 pub mod HeaderLaws
 pub mod ItemLaws
 pub mod Latches
 pub mod Loops
 pub mod Many
+pub mod Places
 pub mod ReadingLaws
 pub mod SymbolLaws
 pub mod Symbols

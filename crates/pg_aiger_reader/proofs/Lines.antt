@@ -4,7 +4,7 @@ use Rattle.pg_aiger_reader.proofs.Common.{Option, Some, None, refl, sym, ap, sub
 use Rattle.pg_aiger_reader.proofs.Common.{eqb-true, ltb-true, lt-ltb, nat_tests, prefix_len, take_while, is_digit, value_of, Each, Stops}
 use Rattle.pg_aiger_reader.proofs.Common.{chosen, some, some_is, none, none_is_some, run_each, run_parts, run_again, rest_again, run_some}
 use Rattle.pg_aiger_reader.proofs.Common.{AllByRecursion, codes, field_at, line_at, behind_field, ended, eqb-false, eqb-suc-zero, one_more}
-use Rattle.pg_aiger_reader.specs.CircuitText.{IsNumber, AreNumbers, is_inner}
+use Rattle.pg_aiger.specs.CircuitText.{IsNumber, AreNumbers, is_inner}
 use Rattle.pg_aiger_reader.specs.Texts.{BeginsLine}
 
 -- what stands behind a number

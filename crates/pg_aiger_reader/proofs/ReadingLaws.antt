@@ -9,7 +9,7 @@ use Rattle.pg_aiger_reader.proofs.ItemLaws.{input_found, input_only, latch_found
 use Rattle.pg_aiger_reader.proofs.Latches.{latches_found, latches_only}
 use Rattle.pg_aiger_reader.proofs.SymbolLaws.{symbols_found, all_symbols_only}
 use Rattle.pg_aiger_reader.proofs.HeaderLaws.{IsHeader, header_found, header_only}
-use Rattle.pg_aiger_reader.specs.declared.gate.Latch.{Latch}
+use Rattle.pg_aiger.specs.declared.gate.Latch.{Latch}
 use Rattle.pg_aiger_reader.specs.declared.header.Header.{Header}
 use Rattle.pg_aiger_reader.specs.declared.item.Form.{Form}
 use Rattle.pg_aiger_reader.specs.declared.item.Form.TheVariants.{Ascii, Binary}
@@ -17,8 +17,8 @@ use Rattle.pg_aiger_reader.specs.declared.item.LatchLine.{LatchLine}
 use Rattle.pg_aiger_reader.specs.declared.fault.ReaderFault.{ReaderFault}
 use Rattle.pg_aiger_reader.specs.declared.fault.ReaderFault.TheVariants as faults
 use Rattle.pg_aiger_reader.specs.declared.reader.Parts as declared
-use Rattle.pg_aiger_reader.specs.Circuits.{Circuit}
-use Rattle.pg_aiger_reader.specs.CircuitText.{Kind, input, latch, output, Symbol, count_of}
+use Rattle.pg_aiger.specs.Circuits.{Circuit}
+use Rattle.pg_aiger.specs.CircuitText.{Kind, input, latch, output, Symbol, count_of}
 use Rattle.pg_aiger_reader.specs.Texts.{AreItems, IsInput, IsOutput, IsLatch, IsGate, IsText, IsRead, SpellsNone, form_text, latch_in}
 use Rattle.pg_aiger_reader.specs.Faults.{Refuses}
 use Rattle.pg_aiger_reader.specs.Views.{circuit_in, symbols_in}

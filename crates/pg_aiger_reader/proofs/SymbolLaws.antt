@@ -7,8 +7,8 @@ use Rattle.pg_aiger_reader.proofs.Common.{drop_at, drop_more, prefix_len_stops, 
 use Rattle.pg_aiger_reader.proofs.Common.{if◌then◌else◌}
 use Rattle.pg_aiger_reader.proofs.Lines.{IsField, Field, field_found, field_only, digits_inner, each_append}
 use Rattle.pg_aiger_reader.specs.declared.header.Header.{Header}
-use Rattle.pg_aiger_reader.specs.CircuitText.{Kind, input, latch, output, Symbol, Begins, symbol, kind_text, is_inner, count_of, IsNumber}
-use Rattle.pg_aiger_reader.specs.Circuits.{Circuit}
+use Rattle.pg_aiger.specs.CircuitText.{Kind, input, latch, output, Symbol, Begins, symbol, kind_text, is_inner, count_of, IsNumber}
+use Rattle.pg_aiger.specs.Circuits.{Circuit}
 use Rattle.pg_aiger_reader.specs.Texts.{AreItems, IsSymbol, IsComment}
 use Rattle.pg_aiger_reader.specs.Views.{symbol_of}
 use Rattle.pg_aiger_reader.specs.Mirrors.Symbols.{count_in, kind_at, is_end, named_at}

@@ -3,7 +3,7 @@ use Rattle.pg_aiger_reader.proofs.Common.{◌≡◌, ℕ, suc, ◌-◌, ◌+◌,
 use Rattle.pg_aiger_reader.proofs.Common.{refl, sym, ap, ◌∙◌, append_assoc, append-nil, arith, ◌>>=◌, Fails, ReaderFault, some, symbols_at, good_at}
 use Rattle.pg_aiger_reader.proofs.Loops.{fails}
 use Rattle.pg_aiger_reader.specs.declared.header.Header.{Header}
-use Rattle.pg_aiger_reader.specs.CircuitText.{Symbol}
+use Rattle.pg_aiger.specs.CircuitText.{Symbol}
 use Rattle.pg_aiger_reader.specs.Mirrors.Symbols.{is_end}
 
 abbrev pub with_symbols : List Symbol → Option (List Symbol) → Option (List Symbol)

@@ -6,3 +6,4 @@ pub mod Items
 pub mod Reading
 pub mod Sections
 pub mod Symbols
+pub mod Places

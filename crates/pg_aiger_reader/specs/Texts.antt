@@ -1,12 +1,13 @@
 -- Circuits in the AIGER format as any tool writes them: in the ASCII form or the binary one, as of 2007 or as of version 1.9.
 use Rattle.std.specs.Prelude.{◌≡◌, ◌⊎◌, ℕ, suc, ◌+◌, ◌-◌, ◌*◌, ◌^◌, ◌<◌, ◌≤◌, List, [], ◌∷◌, ◌++◌, length, map, codes}
 use Rattle.std.specs.List.{AllByRecursion}
-use Rattle.pg_aiger_reader.specs.declared.gate.Gate.{Gate}
+use Rattle.pg_aiger.specs.declared.gate.Gate.{Gate}
 use Rattle.pg_aiger_reader.specs.declared.item.Form.{Form}
 use Rattle.pg_aiger_reader.specs.declared.item.Form.TheVariants.{Ascii, Binary}
 use Rattle.pg_aiger_reader.specs.declared.item.LatchLine.{LatchLine}
-use Rattle.pg_aiger_reader.specs.Circuits.{Circuit, Latch}
-use Rattle.pg_aiger_reader.specs.CircuitText.{Symbol, Begins, numbers, symbol, count_of}
+use Rattle.pg_aiger.specs.Circuits.{Circuit}
+use Rattle.pg_aiger.specs.declared.gate.Latch.{Latch}
+use Rattle.pg_aiger.specs.CircuitText.{Symbol, Begins, numbers, symbol, count_of}
 
 -- the bytes begin with a line of these numbers, each below 2^32; the rest follows
 pub record BeginsLine (bytes ns rest : List ℕ) : Type 0 where

@@ -4,8 +4,8 @@ use Rattle.pg_aiger_reader.specs.declared.reader.Parts.{Parts}
 use Rattle.pg_aiger_reader.specs.declared.symbol.Kind as declared
 use Rattle.pg_aiger_reader.specs.declared.symbol.Kind.TheVariants as kinds
 use Rattle.pg_aiger_reader.specs.declared.symbol.Symbol as symbols
-use Rattle.pg_aiger_reader.specs.Circuits.{Circuit}
-use Rattle.pg_aiger_reader.specs.CircuitText.{Kind, input, latch, output, Symbol}
+use Rattle.pg_aiger.specs.Circuits.{Circuit}
+use Rattle.pg_aiger.specs.CircuitText.{Kind, input, latch, output, Symbol}
 
 abbrev pub kind_in : declared.Kind → Kind
 kind_in kinds.Input = input

@@ -73,6 +73,62 @@ impl fmt::Display for ReaderFault {
 
 impl Error for ReaderFault {}
 
+/// Why the inputs and outputs of a circuit aren't tied to the propositions of an automaton. A number of a name counts from 0 among
+/// the propositions of its side; another number is a position.
+#[derive(Clone, Copy, Debug, PartialEq, Eq)]
+pub enum TieFault {
+    /// A growth was refused.
+    OutOfMemory,
+    /// No input and no output has a name.
+    NoSymbols,
+    /// No input has this name.
+    MissingInput(usize),
+    /// No output has this name.
+    MissingOutput(usize),
+    /// The input at this position has the name of no proposition.
+    ExtraInput(usize),
+    /// The output at this position has the name of no proposition.
+    ExtraOutput(usize),
+    /// Two inputs have this name, or an input has it and one before it.
+    InputNameTwice(usize),
+    /// Two outputs have this name, or an output has it and one before it.
+    OutputNameTwice(usize),
+}
+
+impl fmt::Display for TieFault {
+    ghost use Rattle.std.specs.Prelude.{Some};
+    ghost use Rattle.pg_aiger_reader.specs.FaultTexts.{tie_fault_text};
+
+    ghost output = { λ fault. Some (tie_fault_text fault) };
+
+    fn fmt<W: fmt::Write>(&self, f: &mut fmt::Formatter<W>) -> fmt::Result {
+        match self {
+            TieFault::OutOfMemory => f.write_str("out of memory"),
+            TieFault::NoSymbols => {
+                f.write_str("the inputs and outputs have no names; --by-place takes them in order")
+            }
+            TieFault::MissingInput(name) => write!(f, "no input for proposition {name} of the inputs"),
+            TieFault::MissingOutput(name) => write!(f, "no output for proposition {name} of the outputs"),
+            TieFault::ExtraInput(place) => write!(f, "the circuit has an input more: input {place}"),
+            TieFault::ExtraOutput(place) => write!(f, "the circuit has an output more: output {place}"),
+            TieFault::InputNameTwice(name) => write!(f, "two inputs for proposition {name} of the inputs"),
+            TieFault::OutputNameTwice(name) => write!(f, "two outputs for proposition {name} of the outputs"),
+        }
+    }
+}
+
+impl Error for TieFault {}
+
+impl From<AllocError> for TieFault {
+    ghost use Rattle.pg_aiger_reader.specs.declared.fault.TieFault.TheVariants as ties;
+
+    ghost from_gives = { λ _ e. e ≡ ties.OutOfMemory };
+
+    fn from(_e: AllocError) -> TieFault {
+        TieFault::OutOfMemory
+    }
+}
+
 impl From<AllocError> for ReaderFault {
     ghost from_gives = { λ _ e. e ≡ OutOfMemory };
 

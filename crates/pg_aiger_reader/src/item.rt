@@ -5,7 +5,7 @@ ghost use Rattle.pg_aiger_reader.specs.Mirrors.Steps.{Gives};
 ghost use Rattle.pg_aiger_reader.specs.Mirrors.Items.{literal_at, input_at, latch_of, latch_at, gate_at, ascii_gate_at, groups_at, binary_gate_at};
 
 use crate::fault::ReaderFault;
-use crate::gate::Gate;
+use pg_aiger::Gate;
 use crate::number::line;
 
 /// How a circuit is written.

@@ -3,15 +3,16 @@
 #![tactic(auto)]
 
 mod fault;
-mod gate;
 mod header;
 mod item;
 mod number;
 mod reader;
 mod sections;
 mod symbol;
+mod ties;
 
-pub use fault::{ReaderFault, Section};
-pub use gate::{Gate, Latch};
+pub use fault::{ReaderFault, Section, TieFault};
+pub use pg_aiger::{Gate, Latch};
 pub use reader::{Parts, read_circuit};
 pub use symbol::{Kind, Symbol};
+pub use ties::tie;

@@ -8,7 +8,7 @@ ghost use Rattle.pg_aiger_reader.specs.Texts.{IsRead};
 ghost use Rattle.pg_aiger_reader.specs.Faults.{Refuses};
 
 use crate::fault::ReaderFault;
-use crate::gate::{Gate, Latch};
+use pg_aiger::{Gate, Latch};
 use crate::header::read_header;
 use crate::item::LatchLine;
 use crate::sections::read_sections;

@@ -2,7 +2,7 @@
 
 ghost use Rattle.std.specs.Prelude.{◌≡◌, ◌+◌, length, map, option_map};
 ghost use Rattle.std.specs.List.{prefix_len};
-ghost use Rattle.pg_aiger_reader.specs.CircuitText.{is_inner};
+ghost use Rattle.pg_aiger.specs.CircuitText.{is_inner};
 ghost use Rattle.pg_aiger_reader.specs.Mirrors.Steps.{Gives};
 ghost use Rattle.pg_aiger_reader.specs.Views.{kind_in, symbol_in};
 ghost use Rattle.pg_aiger_reader.specs.Mirrors.Symbols.{count_in, kind_at, is_end, name_at, symbol_at, good_at, symbols_at};

@@ -1,7 +1,7 @@
 -- What the functions that read inputs, outputs, latches and gates compute: a mirror of them for proofs, whose laws stand in proofs/.
 use Rattle.std.specs.Prelude.{ℕ, suc, zero, ◌+◌, ◌*◌, ◌-◌, ◌^◌, ◌==◌, ◌||◌, List, [], ◌∷◌, Option, Some, None, nat_lt, if◌then◌else◌}
 use Rattle.pg_hoa_automaton.specs.Mirrors.Steps.{◌>>=◌}
-use Rattle.pg_aiger_reader.specs.declared.gate.Gate.{Gate}
+use Rattle.pg_aiger.specs.declared.gate.Gate.{Gate}
 use Rattle.pg_aiger_reader.specs.declared.item.Form.{Form}
 use Rattle.pg_aiger_reader.specs.declared.item.Form.TheVariants.{Ascii, Binary}
 use Rattle.pg_aiger_reader.specs.declared.item.LatchLine.{LatchLine}

@@ -2,11 +2,11 @@
 use Rattle.std.specs.Prelude.{ℕ, ◌+◌, ◌==◌, List, [], ◌∷◌, length, take, drop, Option, Some, None, codes, if◌then◌else◌}
 use Rattle.std.specs.Str.{bytes_eq}
 use Rattle.pg_hoa_automaton.specs.Mirrors.Steps.{◌>>=◌}
-use Rattle.pg_aiger_reader.specs.declared.gate.Latch.{Latch}
+use Rattle.pg_aiger.specs.declared.gate.Latch.{Latch}
 use Rattle.pg_aiger_reader.specs.declared.item.LatchLine.{LatchLine}
 use Rattle.pg_aiger_reader.specs.declared.reader.Parts as declared
-use Rattle.pg_aiger_reader.specs.Circuits.{Circuit}
-use Rattle.pg_aiger_reader.specs.CircuitText.{Symbol}
+use Rattle.pg_aiger.specs.Circuits.{Circuit}
+use Rattle.pg_aiger.specs.CircuitText.{Symbol}
 use Rattle.pg_aiger_reader.specs.Texts.{latch_in}
 use Rattle.pg_aiger_reader.specs.Views.{circuit_in, symbols_in}
 use Rattle.pg_aiger_reader.specs.Mirrors.Headers.{header_at}

@@ -1,7 +1,7 @@
 -- What the functions that read sections compute: a mirror of them for proofs, whose laws stand in proofs/.
 use Rattle.std.specs.Prelude.{ℕ, suc, zero, ◌+◌, List, [], ◌∷◌, Option, Some}
 use Rattle.pg_hoa_automaton.specs.Mirrors.Steps.{◌>>=◌}
-use Rattle.pg_aiger_reader.specs.declared.gate.Gate.{Gate}
+use Rattle.pg_aiger.specs.declared.gate.Gate.{Gate}
 use Rattle.pg_aiger_reader.specs.declared.header.Header.{Header}
 use Rattle.pg_aiger_reader.specs.declared.item.Form.TheVariants.{Ascii}
 use Rattle.pg_aiger_reader.specs.declared.item.LatchLine.{LatchLine}

@@ -4,7 +4,7 @@ use Rattle.std.specs.Prelude.{if◌then◌else◌}
 use Rattle.std.specs.List.{prefix_len, take_while}
 use Rattle.pg_hoa_automaton.specs.Mirrors.Steps.{◌>>=◌}
 use Rattle.pg_aiger_reader.specs.declared.header.Header.{Header}
-use Rattle.pg_aiger_reader.specs.CircuitText.{Kind, input, latch, output, Symbol, is_inner}
+use Rattle.pg_aiger.specs.CircuitText.{Kind, input, latch, output, Symbol, is_inner}
 use Rattle.pg_aiger_reader.specs.Mirrors.Scan.{field_at}
 use Rattle.pg_aiger_reader.specs.Views.{symbol_of}
 

@@ -1,0 +1,72 @@
+-- What the functions that look for names say: contracts of private functions cite it.
+use Rattle.std.specs.Prelude.{◌≡◌, ◌≢◌, ℕ, ◌<◌, ◌==◌, ◌&&◌, Bool, true, false, List, [], ◌∷◌, length, map, get_or, nat_lt, if◌then◌else◌}
+use Rattle.std.specs.Str.{bytes_eq}
+use Rattle.std.proofs.Common.{Bor}
+use Rattle.pg_aiger.specs.CircuitText.{Kind, input, latch, output, Symbol}
+use Rattle.pg_aiger_reader.specs.Ties.{IsNamed, IsMissing, IsExtra, IsTwice}
+use Rattle.pg_aiger_reader.specs.declared.ties.Place.{Place}
+use Rattle.pg_aiger_reader.specs.declared.ties.Place.TheVariants.{Missing, At, Twice}
+use Rattle.pg_aiger_reader.specs.declared.ties.SideFault.{SideFault}
+use Rattle.pg_aiger_reader.specs.declared.ties.SideFault.TheVariants as sides
+use Rattle.pg_aiger_reader.specs.declared.fault.TieFault.{TieFault}
+use Rattle.pg_aiger_reader.specs.declared.fault.TieFault.TheVariants as ties
+
+abbrev pub is_kind : Kind → Kind → Bool
+is_kind input input = true
+is_kind latch latch = true
+is_kind output output = true
+is_kind _ _ = false
+
+-- a place, where one or none is known
+abbrev pub also : Place → ℕ → Place
+also Missing place = At place
+also (At found) place = if found == place then At found else Twice
+also Twice place = Twice
+
+abbrev pub noted : Place → Kind → ℕ → List ℕ → Symbol → Place
+noted found kind count name s =
+    if is_kind s.kind kind && nat_lt s.position count && bytes_eq s.name name then also found s.position else found
+
+-- what symbols say of where a name stands
+abbrev pub IsPlaceOf : Kind → ℕ → List Symbol → List ℕ → Place → Type 0
+IsPlaceOf kind count symbols name Missing = (place : ℕ) → ¬ IsNamed kind count symbols name place
+IsPlaceOf kind count symbols name (At p) = IsNamed kind count symbols name p × ((q : ℕ) → IsNamed kind count symbols name q → q ≡ p)
+IsPlaceOf kind count symbols name Twice =
+    (p : ℕ) × (q : ℕ) × (p ≢ q) × IsNamed kind count symbols name p × IsNamed kind count symbols name q
+
+-- names without where they lie in memory
+abbrev pub texts : List (Bor (List ℕ)) → List (List ℕ)
+texts names = map (λ name. name.now) names
+
+-- the first so many names have places of their own
+pub record AreGiven (kind : Kind) (count : ℕ) (symbols : List Symbol) (names : List (List ℕ)) (so_many : ℕ) (places : List ℕ) : Type 0 where
+  pub all : length places ≡ so_many
+  pub named : (k : ℕ) → k < so_many → IsNamed kind count symbols (get_or names k []) (get_or places k 0)
+  pub nowhere_else : (k place : ℕ) → k < so_many → IsNamed kind count symbols (get_or names k []) place → place ≡ get_or places k 0
+  pub apart : (i j : ℕ) → i < j → j < so_many → get_or places i 0 ≢ get_or places j 0
+
+-- why one side doesn't fit
+abbrev pub IsSideFault : Bool → Kind → List Symbol → List (List ℕ) → List ℕ → SideFault → Type 0
+IsSideFault by_place kind symbols names literals sides.OutOfMemory = Unit {0}
+IsSideFault by_place kind symbols names literals (sides.Missing k) = IsMissing by_place kind symbols names literals k
+IsSideFault by_place kind symbols names literals (sides.Extra place) = IsExtra by_place kind symbols names literals place
+IsSideFault by_place kind symbols names literals (sides.Twice k) = IsTwice by_place kind symbols names literals k
+
+-- a side is refused where it is taken as it stands
+abbrev pub IsUneven : ℕ → ℕ → SideFault → Type 0
+IsUneven names literals sides.OutOfMemory = ⊥
+IsUneven names literals (sides.Missing k) = (k ≡ literals) × (k < names)
+IsUneven names literals (sides.Extra place) = (place ≡ names) × (place < literals)
+IsUneven names literals (sides.Twice k) = ⊥
+
+abbrev pub side_of_input : SideFault → TieFault
+side_of_input sides.OutOfMemory = ties.OutOfMemory
+side_of_input (sides.Missing k) = ties.MissingInput k
+side_of_input (sides.Extra place) = ties.ExtraInput place
+side_of_input (sides.Twice k) = ties.InputNameTwice k
+
+abbrev pub side_of_output : SideFault → TieFault
+side_of_output sides.OutOfMemory = ties.OutOfMemory
+side_of_output (sides.Missing k) = ties.MissingOutput k
+side_of_output (sides.Extra place) = ties.ExtraOutput place
+side_of_output (sides.Twice k) = ties.OutputNameTwice k
