@@ -32,30 +32,33 @@ struct Draft {
     slots: Vec<u32>,
     steps: Vec<Stored>,
     lists: Vec<Vec<u32>>,
-}
-
-/// What is made anew at each step, and numbers of states that may be known.
-#[derive(Drop)]
-struct Scratch {
-    /// The values of all variables.
-    values: Vec<u64>,
-    /// Those of the latches in the step that follows.
-    latches: Vec<bool>,
+    /// Numbers of states that may be known.
     known: BTreeMap<u64, u32>,
 }
 
-/// Whether the values are the same; where the answer is no they may be.
+/// Whether the values are the same.
 fn is_same_row(a: &[bool], b: &[bool]) -> bool
     ensures { result ≡ true → a.now ≡ b.now }
 {
-    a == b
+    if a.len() != b.len() {
+        return false;
+    }
+    for (place, value) in a.iter().enumerate() {
+        if *value != b[place] {
+            return false;
+        }
+    }
+    true
 }
 
 /// A number that differs for most states.
 fn key_of(latches: &[bool], state: u32) -> u64 {
     let mut key = state as u64;
     for latch in latches {
-        key = key.wrapping_mul(2).wrapping_add(*latch as u64).wrapping_mul(1_099_511_628_211);
+        key = key
+            .wrapping_mul(2)
+            .wrapping_add(*latch as u64)
+            .wrapping_mul(1_099_511_628_211);
     }
     key
 }
@@ -96,7 +99,6 @@ fn slot_for(
     alloc: Global,
     automaton: &Automaton,
     draft: &mut Draft,
-    known: &mut BTreeMap<u64, u32>,
     latches: &[bool],
     state: u32,
     letter: u32,
@@ -110,21 +112,22 @@ fn slot_for(
     match automaton.next(state, letter) {
         None => Ok(0),
         Some((target, sets)) => {
-            let number = number_of(alloc, &mut draft.rows, known, latches, target)?;
+            let number = number_of(alloc, &mut draft.rows, &mut draft.known, latches, target)?;
             let slot = store(alloc, &mut draft.steps, &mut draft.lists, number, sets)?;
             Ok(slot)
         }
     }
 }
 
-/// Appends the slot of a state's step at an input letter, whose values a lane of the scratch has.
+/// Appends the slot of a state's step at an input letter, whose values a lane has.
 fn push_step(
     alloc: Global,
     automaton: &Automaton,
     netlist: &Netlist,
     controllable: &[bool],
     draft: &mut Draft,
-    scratch: &mut Scratch,
+    values: &[u64],
+    latches: &mut [bool],
     k: usize,
     input: u32,
 ) -> Result<(), VerifyFault>
@@ -137,23 +140,20 @@ fn push_step(
     requires input { input < 2 ^ inputs automaton.now.controllable }
     requires state { k < length draft.old.rows.items }
     requires place { length draft.old.slots.items ≡ k * 2 ^ inputs automaton.now.controllable + input }
-    requires room { length scratch.old.values.items ≡ netlist.now.greatest + 1 }
-    requires latches { length scratch.old.latches.items ≡ length netlist.now.latches }
-    requires values { AreValues netlist.now (pair_at (map pair_of draft.old.rows.items) k).latches input (input % 64)
-        scratch.old.values.items }
+    requires room { length values.now ≡ netlist.now.greatest + 1 }
+    requires latches { length latches.old ≡ length netlist.now.latches }
+    requires values { AreValues netlist.now (pair_at (map pair_of draft.old.rows.items) k).latches input (input % 64) values.now }
     ensures draft { OnOk result (IsDraft automaton.now netlist.now (map pair_of draft.new.rows.items) draft.new.slots.items
         draft.new.steps.items (map (λ v. v.items) draft.new.lists.items)) }
     ensures wide { OnOk result (AreWide (length netlist.now.latches) draft.new.rows.items) }
     ensures grown { OnOk result (Extends (map pair_of draft.old.rows.items) (map pair_of draft.new.rows.items)) }
     ensures place { OnOk result (length draft.new.slots.items ≡ length draft.old.slots.items + 1) }
-    ensures values { scratch.new.values.items ≡ scratch.old.values.items }
-    ensures latches { length scratch.new.latches.items ≡ length scratch.old.latches.items }
 {
     let state = draft.rows[k].state;
-    let output = netlist.output(&scratch.values, input % 64);
-    netlist.next(&scratch.values, input % 64, &mut scratch.latches);
+    let output = netlist.output(values, input % 64);
+    netlist.next(values, input % 64, latches);
     let letter = joined(controllable, input, output);
-    let slot = slot_for(alloc, automaton, draft, &mut scratch.known, &scratch.latches, state, letter)?;
+    let slot = slot_for(alloc, automaton, draft, latches, state, letter)?;
     draft.slots.push(slot)?;
     Ok(())
 }
@@ -180,7 +180,8 @@ fn push_state(
     netlist: &Netlist,
     controllable: &[bool],
     draft: &mut Draft,
-    scratch: &mut Scratch,
+    values: &mut [u64],
+    latches: &mut [bool],
     k: usize,
     letters: u32,
 ) -> Result<(), VerifyFault>
@@ -195,21 +196,41 @@ fn push_state(
     requires wide { AreWide (length netlist.now.latches) draft.old.rows.items }
     requires state { k < length draft.old.rows.items }
     requires place { length draft.old.slots.items ≡ k * letters }
-    requires room { length scratch.old.values.items ≡ netlist.now.greatest + 1 }
-    requires latches { length scratch.old.latches.items ≡ length netlist.now.latches }
+    requires room { length values.old ≡ netlist.now.greatest + 1 }
+    requires latches { length latches.old ≡ length netlist.now.latches }
     ensures draft { OnOk result (IsDraft automaton.now netlist.now (map pair_of draft.new.rows.items) draft.new.slots.items
         draft.new.steps.items (map (λ v. v.items) draft.new.lists.items)) }
     ensures wide { OnOk result (AreWide (length netlist.now.latches) draft.new.rows.items) }
     ensures state { OnOk result (k < length draft.new.rows.items) }
     ensures place { OnOk result (length draft.new.slots.items ≡ (k + 1) * letters) }
-    ensures room { length scratch.new.values.items ≡ length scratch.old.values.items }
-    ensures latches { length scratch.new.latches.items ≡ length scratch.old.latches.items }
 {
     for input in 0..letters {
-        fill(netlist, &draft.rows, k, input, &mut scratch.values);
-        push_step(alloc, automaton, netlist, controllable, draft, scratch, k, input)?;
+        fill(netlist, &draft.rows, k, input, values);
+        push_step(
+            alloc,
+            automaton,
+            netlist,
+            controllable,
+            draft,
+            values,
+            latches,
+            k,
+            input,
+        )?;
     }
     Ok(())
+}
+
+/// The initial state: no latch is set.
+fn first_row(alloc: Global, latches: usize, state: u32) -> Result<Row, AllocError>
+    ensures wide { IfOk result (λ row. length row.latches.items ≡ latches) }
+    ensures first { IfOk result (λ row. pair_of row ≡ pair 0 state) }
+{
+    let values = vec![in alloc; false; latches]?;
+    Ok(Row {
+        latches: values,
+        state,
+    })
 }
 
 /// The initial state alone.
@@ -218,16 +239,15 @@ fn first_draft(alloc: Global, latches: usize, state: u32) -> Result<Draft, Alloc
     ensures first { IfOk result (λ draft. map pair_of draft.rows.items ≡ pair 0 state ∷ []) }
     ensures slots { IfOk result (λ draft. draft.slots.items ≡ []) }
 {
+    let row = first_row(alloc, latches, state)?;
     let mut rows = Vec::new(alloc);
-    rows.push(Row {
-        latches: vec![in alloc; false; latches]?,
-        state,
-    })?;
+    rows.push(row)?;
     Ok(Draft {
         rows,
         slots: Vec::new(alloc),
         steps: Vec::new(alloc),
         lists: Vec::new(alloc),
+        known: BTreeMap::new(alloc),
     })
 }
 
@@ -250,11 +270,10 @@ fn explore(
     ensures whole { IfOk result (λ draft. length draft.slots.items ≡ length draft.rows.items * letters) }
     ensures few { IfOk result (λ draft. (length draft.rows.items ≤ 65535) × (length draft.rows.items * letters ≤ 16777216)) }
 {
-    let mut scratch = Scratch {
-        values: netlist.row(alloc)?,
-        latches: vec![in alloc; false; netlist.latches()]?,
-        known: BTreeMap::new(alloc),
-    };
+    let mut row = netlist.row(alloc)?;
+    let values = row.as_mut_slice();
+    let mut next = vec![in alloc; false; netlist.latches()]?;
+    let latches = next.as_mut_slice();
     let mut draft = first_draft(alloc, netlist.latches(), automaton.start())?;
     for k in 0..MAX_STATES {
         if k == draft.rows.len() {
@@ -263,7 +282,17 @@ fn explore(
             }
             return Ok(draft);
         }
-        push_state(alloc, automaton, netlist, controllable, &mut draft, &mut scratch, k, letters)?;
+        push_state(
+            alloc,
+            automaton,
+            netlist,
+            controllable,
+            &mut draft,
+            values,
+            latches,
+            k,
+            letters,
+        )?;
     }
     Err(VerifyFault::TooLarge)
 }

@@ -9,6 +9,6 @@ invariant-loop-k l = record {
   wide : AreWide (length l.netlist.latches) l.draft.rows.items;
   place : length l.draft.slots.items ≡ l.k * l.letters;
   within : l.k ≤ length l.draft.rows.items;
-  room : length l.scratch.values.items ≡ l.netlist.greatest + 1;
-  latches : length l.scratch.latches.items ≡ length l.netlist.latches;
+  room : length l.values ≡ l.netlist.greatest + 1;
+  latches : length l.latches ≡ length l.netlist.latches;
 }

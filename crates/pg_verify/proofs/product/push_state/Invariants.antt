@@ -9,7 +9,7 @@ invariant-loop-input l = record {
   wide : AreWide (length l.netlist.latches) l.draft.rows.items;
   place : length l.draft.slots.items ≡ l.k * l.letters + l.input;
   within : l.k < length l.draft.rows.items;
-  room : length l.scratch.values.items ≡ l.netlist.greatest + 1;
-  latches : length l.scratch.latches.items ≡ length l.netlist.latches;
-  filled : l.input % 64 ≢ 0 → AreFilled l.netlist (pair_at (map pair_of l.draft.rows.items) l.k).latches l.input l.scratch.values.items;
+  room : length l.values ≡ l.netlist.greatest + 1;
+  latches : length l.latches ≡ length l.netlist.latches;
+  filled : l.input % 64 ≢ 0 → AreFilled l.netlist (pair_at (map pair_of l.draft.rows.items) l.k).latches l.input l.values;
 }
