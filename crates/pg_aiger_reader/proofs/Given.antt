@@ -1,16 +1,16 @@
 -- Names that are given places, one after another.
-use Rattle.pg_aiger_reader.proofs.Common.{◌≡◌, ◌≢◌, ◌⊎◌, ℕ, suc, ◌+◌, ◌≤◌, ◌<◌, false, List, [], ◌∷◌, ◌++◌, length, get_or, refl, sym, ap, subst}
+use Rattle.pg_aiger_reader.proofs.Common.{◌≡◌, ◌⊎◌, ℕ, ◌+◌, ◌<◌, false, List, [], ◌∷◌, ◌++◌, length, get_or, refl, sym, ap, subst}
 use Rattle.pg_aiger_reader.proofs.Common.{◌∙◌, arith, inl, inr, cases_lt, Contains, Contains-get_or, length-append, get_or_append_left, get_or_push, get_or_default, map}
-use Rattle.std.specs.Prelude.{All, AllPairs}
+use Rattle.std.specs.Prelude.{All}
 use Rattle.pg_aiger.specs.CircuitText.{Kind, Symbol}
-use Rattle.pg_aiger_reader.specs.Ties.{Gives, IsNamed, AreNamed, AreTied, IsTwice, IsExtra, literals_at}
+use Rattle.pg_aiger_reader.specs.Ties.{IsNamed, AreTied, IsTwice, IsExtra, literals_at}
 use Rattle.pg_aiger_reader.specs.Mirrors.Places.{IsPlaceOf, AreGiven, texts}
 use Rattle.pg_aiger_reader.proofs.Common.{Bor, get_or-map, length-map, map_push, take, take_more}
 use Rattle.pg_aiger_reader.specs.Views.{symbol_in}
 use Rattle.pg_aiger_reader.specs.declared.symbol.Symbol as memory
 use Rattle.pg_aiger_reader.specs.declared.symbol.Kind.TheVariants as kinds
 use Rattle.pg_aiger_reader.specs.declared.ties.Place.{Place}
-use Rattle.pg_aiger_reader.specs.declared.ties.Place.TheVariants.{Missing, At, Twice}
+use Rattle.pg_aiger_reader.specs.declared.ties.Place.TheVariants.{At}
 
 pub none_given : (kind : Kind) (count : ℕ) (symbols : List Symbol) (names : List (List ℕ)) → AreGiven kind count symbols names 0 []
 none_given kind count symbols names = record {
@@ -100,8 +100,8 @@ pub is_extra : (kind : Kind) (symbols : List Symbol) (names : List (List ℕ)) (
 is_extra kind symbols names literals places p given within new = (
   within,
   λ k below is.
-  let all = given.all in
-  new (subst (Contains places) (sym (given.nowhere_else k p below is)) (Contains-get_or places k 0 (omega arith))),
+      let all = given.all in
+      new (subst (Contains places) (sym (given.nowhere_else k p below is)) (Contains-get_or places k 0 (omega arith))),
 )
 
 -- ---- names and symbols where they lie in memory

@@ -1,10 +1,10 @@
 -- Where symbols give names.
-use Rattle.pg_aiger_reader.proofs.Common.{◌≡◌, ◌≢◌, ◌⊎◌, ℕ, suc, ◌+◌, ◌≤◌, ◌<◌, ◌&&◌, Bool, true, false, List, [], ◌∷◌, ◌++◌, length, map, get_or}
-use Rattle.pg_aiger_reader.proofs.Common.{refl, sym, ap, subst, ◌∙◌, arith, inl, inr, eqb, ltb, bytes_eq, eqb-true, eqb-false, ltb-true, lt-ltb}
-use Rattle.pg_aiger_reader.proofs.Common.{cases_Bool, and_parts, bytes_eq-Decides, Contains, Contains-push, Contains-push_cases, Contains-append_left}
+use Rattle.pg_aiger_reader.proofs.Common.{◌≡◌, ◌⊎◌, ℕ, ◌<◌, ◌&&◌, Bool, true, false, List, [], ◌∷◌, ◌++◌}
+use Rattle.pg_aiger_reader.proofs.Common.{refl, sym, subst, ◌∙◌, inl, inr, eqb, ltb, bytes_eq, eqb-true, eqb-false, ltb-true, lt-ltb}
+use Rattle.pg_aiger_reader.proofs.Common.{cases_Bool, and_parts, bytes_eq-Decides, Contains-push, Contains-push_cases, Contains-append_left}
 use Rattle.pg_aiger.specs.CircuitText.{Kind, input, latch, output, Symbol}
 use Rattle.pg_aiger_reader.specs.Ties.{Gives, IsNamed}
-use Rattle.pg_aiger_reader.specs.Mirrors.Places.{is_kind, also, noted, IsPlaceOf, AreGiven}
+use Rattle.pg_aiger_reader.specs.Mirrors.Places.{is_kind, also, noted, IsPlaceOf}
 use Rattle.pg_aiger_reader.specs.declared.ties.Place.{Place}
 use Rattle.pg_aiger_reader.specs.declared.ties.Place.TheVariants.{Missing, At, Twice}
 
@@ -92,8 +92,12 @@ seen_this kind count before s name (At p) gives seen =
             λ q is. elim (named_cases kind count before s name q is) [ inl h ↦ seen.1 q h | inr h ↦ sym h.at ∙ sym same ],
           )
       | inr e ↦ rw e (
-          p, s.position, eqb-false p s.position e, named_more kind count before s name p seen.0, named_last kind count before s name s.position gives,
-        )
+        p,
+        s.position,
+        eqb-false p s.position e,
+        named_more kind count before s name p seen.0,
+        named_last kind count before s name s.position gives,
+      )
     ]
 seen_this kind count before s name Twice gives (p, q, apart, first, second) =
     (p, q, apart, named_more kind count before s name p first, named_more kind count before s name q second)
@@ -104,5 +108,5 @@ seen_more kind count before s name found seen =
     elim (cases_Bool (test kind count name s)) [
       | inl e ↦ rw e (seen_this kind count before s name found (test_gives kind count name s e) seen)
       | inr e ↦ rw e (seen_other kind count before s name found
-        (λ place g. let yes = gives_test kind count name place s g in absurd (let no : true ≡ false = sym yes ∙ e in cc no)) seen)
+          (λ place g. let yes = gives_test kind count name place s g in absurd (let no : true ≡ false = sym yes ∙ e in cc no)) seen)
     ]

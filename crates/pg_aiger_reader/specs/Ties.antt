@@ -1,6 +1,6 @@
 -- Which input and which output of a circuit is which proposition of an automaton.
-use Rattle.std.specs.Prelude.{◌≡◌, ◌≢◌, ◌⊎◌, ℕ, ◌<◌, ◌≤◌, Bool, true, false, List, [], length, map, get_or, Contains}
-use Rattle.std.specs.List.{All, AllPairs}
+use Rattle.std.specs.Prelude.{◌≡◌, ◌≢◌, ◌⊎◌, ℕ, ◌<◌, Bool, true, false, List, [], length, map, get_or, Contains}
+use Rattle.std.specs.List.{AllPairs}
 use Rattle.pg_hoa_automaton.specs.Automata.{Automaton}
 use Rattle.pg_aiger.specs.Circuits.{Circuit}
 use Rattle.pg_aiger.specs.CircuitText.{Kind, input, latch, output, Symbol}

@@ -107,12 +107,30 @@ impl fmt::Display for TieFault {
             TieFault::NoSymbols => {
                 f.write_str("the inputs and outputs have no names; --by-place takes them in order")
             }
-            TieFault::MissingInput(name) => write!(f, "no input for proposition {name} of the inputs"),
-            TieFault::MissingOutput(name) => write!(f, "no output for proposition {name} of the outputs"),
-            TieFault::ExtraInput(place) => write!(f, "the circuit has an input more: input {place}"),
-            TieFault::ExtraOutput(place) => write!(f, "the circuit has an output more: output {place}"),
-            TieFault::InputNameTwice(name) => write!(f, "two inputs for proposition {name} of the inputs"),
-            TieFault::OutputNameTwice(name) => write!(f, "two outputs for proposition {name} of the outputs"),
+            TieFault::MissingInput(name) => write!(
+                f,
+                "no input for proposition {name} of the inputs"
+            ),
+            TieFault::MissingOutput(name) => write!(
+                f,
+                "no output for proposition {name} of the outputs"
+            ),
+            TieFault::ExtraInput(place) => write!(
+                f,
+                "the circuit has an input more: input {place}"
+            ),
+            TieFault::ExtraOutput(place) => write!(
+                f,
+                "the circuit has an output more: output {place}"
+            ),
+            TieFault::InputNameTwice(name) => write!(
+                f,
+                "two inputs for proposition {name} of the inputs"
+            ),
+            TieFault::OutputNameTwice(name) => write!(
+                f,
+                "two outputs for proposition {name} of the outputs"
+            ),
         }
     }
 }

@@ -5,8 +5,8 @@ ghost use Rattle.pg_aiger_reader.specs.Mirrors.Steps.{Gives};
 ghost use Rattle.pg_aiger_reader.specs.Mirrors.Items.{literal_at, input_at, latch_of, latch_at, gate_at, ascii_gate_at, groups_at, binary_gate_at};
 
 use crate::fault::ReaderFault;
-use pg_aiger::Gate;
 use crate::number::line;
+use pg_aiger::Gate;
 
 /// How a circuit is written.
 #[derive(Clone, Copy, Debug, PartialEq, Eq)]

@@ -8,11 +8,11 @@ ghost use Rattle.pg_aiger_reader.specs.Texts.{IsRead};
 ghost use Rattle.pg_aiger_reader.specs.Faults.{Refuses};
 
 use crate::fault::ReaderFault;
-use pg_aiger::{Gate, Latch};
 use crate::header::read_header;
 use crate::item::LatchLine;
 use crate::sections::read_sections;
 use crate::symbol::{Symbol, symbols};
+use pg_aiger::{Gate, Latch};
 use std::alloc::Global;
 
 /// What a circuit's text says.

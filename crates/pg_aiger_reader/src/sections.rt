@@ -7,9 +7,9 @@ ghost use Rattle.pg_aiger_reader.specs.Mirrors.Items.{input_at, latch_at, gate_a
 ghost use Rattle.pg_aiger_reader.specs.Mirrors.Sections.{many_at, sections_at, sections_in};
 
 use crate::fault::ReaderFault;
-use pg_aiger::Gate;
 use crate::header::Header;
 use crate::item::{Form, LatchLine, gate, input, latch};
+use pg_aiger::Gate;
 use std::alloc::Global;
 
 /// The lines behind the first one, up to the symbols.

@@ -210,7 +210,11 @@ fn is_nameless(symbols: &[Symbol<'_>]) -> bool
 }
 
 /// The names of the propositions that the controller sets, or of the others.
-fn names_of(alloc: Global, automaton: &Automaton, controlled: bool) -> Result<Vec<&[u8]>, AllocError>
+fn names_of(
+    alloc: Global,
+    automaton: &Automaton,
+    controlled: bool,
+) -> Result<Vec<&[u8]>, AllocError>
     requires { IsAutomaton automaton.now }
     ensures { IfOk result (λ x. texts x.items ≡ names_until controlled automaton.now (length automaton.now.propositions)) }
 {

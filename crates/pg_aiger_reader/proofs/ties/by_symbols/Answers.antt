@@ -1,5 +1,4 @@
-use Rattle.pg_aiger_reader.proofs.Common.{◌≡◌, ◌<◌, ◌∙◌, ℕ, List, Contains, ap, length, map, refl, subst, sym}
-use Rattle.std.specs.Prelude.{All}
+use Rattle.pg_aiger_reader.proofs.Common.{◌<◌, ◌∙◌, ℕ, List, Contains, ap, length, map, refl, subst, sym}
 use Rattle.std.proofs.lemmas.Result.{err_from_is_err_and}
 use Rattle.pg_aiger_reader.proofs.Given.{as_many, tied_by_names, places_within, is_extra}
 use Rattle.pg_aiger_reader.specs.Ties.{literals_at}

@@ -1,4 +1,4 @@
-use Rattle.pg_aiger_reader.proofs.Common.{◌≡◌, ℕ, Contains, arith, cases_lt, inl, inr, subst, sym}
+use Rattle.pg_aiger_reader.proofs.Common.{◌≡◌, ℕ, Contains, arith, cases_lt, inl, inr, subst}
 use Rattle.pg_aiger_reader.proofs.ties.extra.Goals as goal
 
 pub loop-p-preserved : goal.loop-p-preserved

@@ -1,4 +1,4 @@
-use Rattle.pg_aiger_reader.proofs.Common.{ℕ, ◌≡◌, eqb, true, false, Contains, Bool, contains_decides, Decides-contains, Decides-eqb}
+use Rattle.pg_aiger_reader.proofs.Common.{◌≡◌, eqb, true, false, Contains, Bool, contains_decides, Decides-contains, Decides-eqb}
 use Rattle.std.specs.Bool.{Decides, MatchBool}
 use Rattle.pg_aiger_reader.proofs.ties.has.Goals as goal
 

@@ -1,4 +1,4 @@
-use Rattle.pg_aiger_reader.proofs.Common.{◌≡◌, ◌<◌, ◌∙◌, ap, arith, cases_lt, get_or, inl, inr, length, length-map, map, subst, sym}
+use Rattle.pg_aiger_reader.proofs.Common.{◌≡◌, ◌<◌, ◌∙◌, arith, cases_lt, get_or, inl, inr, length, length-map, subst, sym}
 use Rattle.pg_aiger_reader.proofs.Places.{kind_is}
 use Rattle.pg_aiger_reader.proofs.Given.{symbol_at, no_symbol}
 use Rattle.pg_aiger.specs.CircuitText.{latch, Symbol}

@@ -1,5 +1,4 @@
 use Rattle.pg_aiger_reader.proofs.Common.{◌≡◌, ◌∙◌, ◌<◌, ◌++◌, ◌∷◌, [], ap, sym, arith, length, map_push}
-use Rattle.pg_aiger.specs.Mirrors.Layouts.{names_until}
 use Rattle.pg_aiger.proofs.Printing.{names_taken, names_left}
 use Rattle.pg_aiger_reader.specs.Mirrors.Places.{texts}
 use Rattle.pg_aiger_reader.proofs.ties.names_of.Goals.{then-controllable-controlled+in_ok-push, else-controllable-controlled}

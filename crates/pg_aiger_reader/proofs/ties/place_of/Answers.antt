@@ -1,4 +1,4 @@
-use Rattle.pg_aiger_reader.proofs.Common.{◌≡◌, map, take, take_all, subst, sym, get_or}
+use Rattle.pg_aiger_reader.proofs.Common.{map, take, take_all, subst, sym, get_or}
 use Rattle.pg_aiger_reader.proofs.Places.{seen_more}
 use Rattle.pg_aiger_reader.proofs.Given.{more_symbols, no_symbol}
 use Rattle.pg_aiger_reader.specs.Views.{kind_in, symbol_in}

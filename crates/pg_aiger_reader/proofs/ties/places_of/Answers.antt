@@ -1,5 +1,4 @@
-use Rattle.pg_aiger_reader.proofs.Common.{◌≡◌, ◌<◌, ℕ, [], Contains, arith, get_or, inl, length, map, subst, sym, true, false, Bool, Err}
-use Rattle.std.specs.Prelude.{MatchBool}
+use Rattle.pg_aiger_reader.proofs.Common.{◌<◌, [], Contains, get_or, inl, map, subst, sym}
 use Rattle.pg_aiger_reader.proofs.Given.{as_many, given_more, moved, name_at, no_name, taken_twice}
 use Rattle.pg_aiger_reader.specs.Views.{kind_in, symbol_in}
 use Rattle.pg_aiger_reader.specs.Mirrors.Places.{AreGiven, IsPlaceOf, texts}
@@ -11,8 +10,7 @@ pub returns-in-Missing-clause-refused : goal.returns-in-Missing-clause-refused
 returns-in-Missing-clause-refused c = λ literals same.
     let names = c.args.names.now in
     let seen = subst (λ (p : Place). IsPlaceOf (kind_in c.args.kind) c.args.count (map symbol_in c.args.symbols.now)
-    (get_or names c.loop-k.k no_name).now p) c.in-Missing.is c.place_of.ensures in
-    (
+    (get_or names c.loop-k.k no_name).now p) c.in-Missing.is c.place_of.ensures in (
       subst (λ n. c.loop-k.k < n) (sym (as_many names)) c.loop-k-test.true,
       moved (kind_in c.args.kind) c.args.count (map symbol_in c.args.symbols.now) names c.loop-k.k literals Missing same c.loop-k-test.true seen,
     )
@@ -21,8 +19,7 @@ pub returns-in-Twice-clause-refused : goal.returns-in-Twice-clause-refused
 returns-in-Twice-clause-refused c = λ literals same.
     let names = c.args.names.now in
     let seen = subst (λ (p : Place). IsPlaceOf (kind_in c.args.kind) c.args.count (map symbol_in c.args.symbols.now)
-    (get_or names c.loop-k.k no_name).now p) c.in-Twice.is c.place_of.ensures in
-    (
+    (get_or names c.loop-k.k no_name).now p) c.in-Twice.is c.place_of.ensures in (
       subst (λ n. c.loop-k.k < n) (sym (as_many names)) c.loop-k-test.true,
       inl (moved (kind_in c.args.kind) c.args.count (map symbol_in c.args.symbols.now) names c.loop-k.k literals Twice same c.loop-k-test.true seen),
     )
