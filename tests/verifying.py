@@ -175,30 +175,4 @@ def refusals(program):
     yield "one input", subprocess.run([program, "verify"], input=AUTOMATON + b"--\n" + WIRE, capture_output=True).stdout, b"ACCEPTED\n"
 
 
-def small_circuits(program, count=60):
-    """A circuit that `synth --small` prints is accepted by the plain product and by `verify`; the first line is that of `synth`."""
-    dice, why = random.Random(8), None
-    for _ in range(count):
-        a = controllers.random_automaton(dice)
-        text = controllers.automaton_text(a)
-        ran = subprocess.run([program, "synth", "--small"], input=text.encode(), capture_output=True, timeout=120)
-        line, _, circuit = ran.stdout.decode().partition("\n")
-        if ran.returncode != 0 or (line == "REALIZABLE") != controllers.is_realizable(a):
-            why = why or f"{text!r}: status {ran.returncode}, {ran.stdout!r}, {ran.stderr!r}"
-        elif line == "REALIZABLE":
-            rejected = controllers.why_rejected(a, controllers.Circuit(circuit))
-            why = why or rejected and f"{text!r}: {circuit!r}: {rejected}" or why_misjudged(program, a, circuit)
-    yield "random automata", why
-
-
-def small_examples(program):
-    """So it is of the examples; and the circuits are small."""
-    for name, most in (("arbiter", 60), ("lift", 160), ("traffic-light", 12), ("delay", 1), ("request-grant", 1)):
-        automaton = (TOP / f"examples/{name}.hoa").read_bytes()
-        answer = subprocess.run([program, "synth", "--small"], input=automaton, capture_output=True, timeout=120).stdout
-        yield f"{name}, accepted", asked(program, automaton, answer), (0, b"ACCEPTED\n", b"")
-        gates = len(read_circuit(answer).gates)
-        yield f"{name}, gates", None if gates <= most else f"{gates} gates"
-
-
-Tests = case.tests(__name__, printed_circuits, forms, names, refusals, small_circuits, small_examples)
+Tests = case.tests(__name__, printed_circuits, forms, names, refusals)

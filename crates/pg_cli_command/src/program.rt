@@ -21,7 +21,7 @@ use crate::printing::print;
 use crate::replay::replay;
 use crate::solve::{solve, solve_any};
 use crate::solver::Solver;
-use crate::synth::{synth, synth_small};
+use crate::synth::synth;
 use crate::verify::verify;
 use pg_cli_words::Command;
 use std::alloc::Global;
@@ -53,7 +53,6 @@ pub fn answer<F: Solver, W: Write>(
         Command::Replay => print(replay(alloc, Texts::Joined(text)), writer),
         Command::Game => print(game(alloc, text), writer),
         Command::Synth { .. } => print(synth(alloc, text, solver), writer),
-        Command::SynthSmall { .. } => print(synth_small(alloc, text, solver), writer),
         Command::Verify { by_place, .. } => print(
             verify(alloc, Texts::Joined(text), by_place, solver),
             writer,

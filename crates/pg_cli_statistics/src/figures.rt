@@ -149,10 +149,7 @@ fn tops_in(measures: &[u8]) -> usize {
 /// How many states the input of a command has, and how much there is of its game.
 fn counted(alloc: Global, command: Command, text: &[u8]) -> (Option<u32>, Option<Size>) {
     match command {
-        Command::Game
-        | Command::Synth { .. }
-        | Command::SynthSmall { .. }
-        | Command::Verify { .. } => {
+        Command::Game | Command::Synth { .. } | Command::Verify { .. } => {
             let Ok(automaton) = read_automaton(alloc, text) else {
                 return (None, None);
             };
@@ -210,7 +207,7 @@ impl Figures {
         self.answered = self.watch.lap(rt);
         match command {
             Command::Solve { .. } | Command::SolveAny { .. } => self.wins = Some(wins_in(answer)),
-            Command::Synth { .. } | Command::SynthSmall { .. } => self.parts = parts_in(answer),
+            Command::Synth { .. } => self.parts = parts_in(answer),
             Command::Measure { .. } => self.set_tops(tops_in(answer)),
             _ => (),
         }

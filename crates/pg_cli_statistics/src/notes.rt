@@ -22,10 +22,7 @@ impl Notes {
     pub fn of(command: Command, text: &[u8]) -> Notes {
         let is_automaton = matches!(
             command,
-            Command::Game
-                | Command::Synth { .. }
-                | Command::SynthSmall { .. }
-                | Command::Verify { .. }
+            Command::Game | Command::Synth { .. } | Command::Verify { .. }
         );
         Notes {
             is_uncontrolled: is_automaton

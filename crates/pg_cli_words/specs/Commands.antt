@@ -1,7 +1,7 @@
 -- The names of commands, and how many workers they have.
 use Rattle.std.specs.Prelude.{ℕ, List, Option, Some, None, codes}
 use Rattle.pg_cli_words.specs.declared.command.Command.{Command}
-use Rattle.pg_cli_words.specs.declared.command.Command.TheVariants.{Measure, Solve, SolveAny, Check, Replay, Game, Synth, SynthSmall, Verify}
+use Rattle.pg_cli_words.specs.declared.command.Command.TheVariants.{Measure, Solve, SolveAny, Check, Replay, Game, Synth, Verify}
 
 -- the word that names a command
 abbrev pub command_name : Command → List ℕ
@@ -12,7 +12,6 @@ command_name Check = codes "check"
 command_name Replay = codes "replay"
 command_name Game = codes "game"
 command_name (Synth workers) = codes "synth"
-command_name (SynthSmall workers) = codes "synth"
 command_name (Verify workers by_place) = codes "verify"
 
 -- how many workers solve for a command; none is asked for where nothing is solved
@@ -24,5 +23,4 @@ workers_of Check = None
 workers_of Replay = None
 workers_of Game = None
 workers_of (Synth workers) = Some workers
-workers_of (SynthSmall workers) = Some workers
 workers_of (Verify workers by_place) = Some workers

@@ -17,8 +17,6 @@ pub enum Command {
     Game,
     /// Prints whether an automaton has a controller under which each run is accepted, and the circuit of one.
     Synth { workers: u32 },
-    /// Prints the same, and a small circuit.
-    SynthSmall { workers: u32 },
     /// Prints whether an automaton accepts each run of a circuit, and if not, the inputs of a run that it doesn't accept. Inputs and
     /// outputs go by their names, or by their places.
     Verify { workers: u32, by_place: bool },
@@ -58,7 +56,7 @@ impl Command {
             Command::Check => "check",
             Command::Replay => "replay",
             Command::Game => "game",
-            Command::Synth { .. } | Command::SynthSmall { .. } => "synth",
+            Command::Synth { .. } => "synth",
             Command::Verify { .. } => "verify",
         }
     }
@@ -72,7 +70,6 @@ impl Command {
             | Command::Solve { workers }
             | Command::SolveAny { workers }
             | Command::Synth { workers }
-            | Command::SynthSmall { workers }
             | Command::Verify { workers, .. } => Some(workers),
             Command::Check | Command::Replay | Command::Game => None,
         }

@@ -16,8 +16,7 @@ fn count_of(command: Command) -> usize {
         | Command::Solve { .. }
         | Command::SolveAny { .. }
         | Command::Game
-        | Command::Synth { .. }
-        | Command::SynthSmall { .. } => 1,
+        | Command::Synth { .. } => 1,
         Command::Check | Command::Replay | Command::Verify { .. } => 2,
     }
 }

@@ -42,9 +42,6 @@ const APART: &str = "apart";
 /// The option that asks for any strategy that wins.
 const ANY: &str = "any";
 
-/// The option that asks for a small circuit.
-const SMALL: &str = "small";
-
 /// The option that takes inputs and outputs of a circuit by their places.
 const BY_PLACE: &str = "by-place";
 
@@ -170,7 +167,7 @@ Input: an automaton in HOA v1 with the header `controllable-AP`, or without it w
 controllable: deterministic, with a parity condition, labels on edges; by `parsolve synth AUTOMATON` from a file, and else from standard input
 Output: `REALIZABLE` and a circuit in the ASCII form of AIGER, whose inputs are the propositions that aren't controllable
 and whose outputs are those that are: under it every run is accepted, whatever the inputs. Or `UNREALIZABLE`, if there is
-no such controller. With `--small` the circuit is a small one, under which every run is accepted too.
+no such controller.
 
 Example: parsolve synth examples/request-grant.hoa",
 };
@@ -221,18 +218,6 @@ fn any_option<'a>(alloc: Global) -> Result<Arg<'a>, Error> {
         Arg::new(alloc, ANY)
             .long(ANY)
             .help("Print any strategy that wins, in less time; the winners are the same")
-            .action(ArgAction::SetTrue)
-            .conflicts_with(WORKERS)?
-            .conflicts_with(APART)?,
-    )
-}
-
-/// The option `--small`.
-fn small_option<'a>(alloc: Global) -> Result<Arg<'a>, Error> {
-    Ok(
-        Arg::new(alloc, SMALL)
-            .long(SMALL)
-            .help("Print a small circuit; each of its runs is accepted too")
             .action(ArgAction::SetTrue)
             .conflicts_with(WORKERS)?
             .conflicts_with(APART)?,
@@ -317,9 +302,8 @@ fn subcommand<'a>(alloc: Global, command: Command) -> Result<Program<'a>, Error>
                 .arg(outs_option(alloc))?
                 .arg(stats)?,
         ),
-        Command::Synth { .. } | Command::SynthSmall { .. } => Ok(
+        Command::Synth { .. } => Ok(
             shared(alloc, command, SYNTH)?
-                .arg(small_option(alloc)?)?
                 .arg(outs_option(alloc))?
                 .arg(stats)?,
         ),
@@ -418,7 +402,6 @@ fn line_of(alloc: Global, name: &str, matches: &ArgMatches<'_>) -> Result<Option
     };
     let command = match command {
         Command::Solve { workers } if has_flag(matches, ANY) => Command::SolveAny { workers },
-        Command::Synth { workers } if has_flag(matches, SMALL) => Command::SynthSmall { workers },
         Command::Verify { workers, .. } => Command::Verify {
             workers,
             by_place: has_flag(matches, BY_PLACE),
