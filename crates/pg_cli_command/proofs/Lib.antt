@@ -15,5 +15,6 @@ pub mod Made
 pub mod Realized
 pub mod Within
 pub mod Synthesised
+pub mod Verified
 pub mod Uncontrolled
 mod Common

@@ -6,6 +6,7 @@ ghost use Rattle.std.specs.Io.KnownBytes.{Appends};
 ghost use Rattle.pg_hoa_automaton.specs.Formulas.{Formula};
 ghost use Rattle.pg_hoa_automaton.specs.Shapes.{FitsShape};
 ghost use Rattle.pg_synth.specs.Letters.{inputs, outputs};
+ghost use Rattle.pg_aiger_netlist.specs.Netlists.{IsAcyclic};
 ghost use Rattle.pg_verify.specs.Verdicts.{Says};
 ghost use Rattle.pg_cli_command.specs.Verifying.{bit_of, bit_text, letter_line, letter_lines, verdict_text, IsVerified, RefusesVerify};
 ghost use Rattle.pg_cli_command.specs.Mirrors.Parting.{parting_of};
@@ -125,6 +126,7 @@ pub(crate) fn verdict_on<F: Solver>(
     netlist: &Netlist,
     solver: &mut F,
 ) -> Result<Verdict, CliFault>
+    requires acyclic { IsAcyclic netlist.now }
     requires inputs { length netlist.now.inputs ≡ inputs automaton.now.controllable }
     requires outputs { length netlist.now.outputs ≡ outputs automaton.now.controllable }
     ensures says { IfOk result (λ verdict. (condition : Formula) → FitsShape condition automaton.now.sets automaton.now.shape
@@ -152,10 +154,12 @@ pub(crate) fn verify<F: Solver>(
         None => Err(CliFault::NoSeparator),
         Some((first, second)) => {
             let automaton = read_automaton(alloc, first)?;
+            // asked for what its contract says of the automaton
+            let _states = automaton.states();
             let parts = read_circuit(alloc, second)?;
-            let given = parts.inputs.clone()?;
+            let given = Vec::from_slice(alloc, &parts.inputs)?;
             let parts = tie(alloc, &automaton, parts, by_place)?;
-            let tied = parts.inputs.clone()?;
+            let tied = Vec::from_slice(alloc, &parts.inputs)?;
             let netlist = Netlist::new(
                 alloc,
                 parts.greatest,

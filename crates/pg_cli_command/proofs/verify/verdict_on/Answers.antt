@@ -5,4 +5,4 @@ verdict_of-requires-clause-product g c = (c.args.automaton.now, c.args.netlist.n
 
 pub returns-clause-says : goal.returns-clause-says
 returns-clause-says g c = λ condition fits.
-    c.in_ok-verdict_of.ensures c.args.automaton.now condition c.args.netlist.now c.args.netlist.type_inv c.requires.inputs fits c.in_ok-product.ensures
+    c.in_ok-verdict_of.ensures c.args.automaton.now condition c.args.netlist.now c.requires.acyclic c.requires.inputs fits c.in_ok-product.ensures

@@ -1,0 +1,74 @@
+-- Why a circuit isn't looked at, and how many inputs and outputs it has.
+use Rattle.pg_cli_command.proofs.Common.{◌≡◌, ◌∙◌, ℕ, suc, ◌+◌, List, [], ◌∷◌, length, map, get_or, ap, refl, arith, Automaton, Circuit, MapKind, CliFault}
+use Rattle.pg_cli_command.proofs.Common.{OutOfMemory, Fails}
+use Rattle.std.specs.Prelude.{Bool, true, false, not}
+use Rattle.std.specs.List.{items_where_true}
+use Rattle.std.proofs.lemmas.List.{length-map}
+use Rattle.pg_synth.specs.Letters.{inputs, outputs}
+use Rattle.pg_synth.specs.declared.fault.SynthFault.TheVariants as synth
+use Rattle.pg_aiger.specs.CircuitText.{Kind, Symbol}
+use Rattle.pg_aiger_netlist.specs.Netlists.{IsAcyclic, IsFaultOf}
+use Rattle.pg_aiger_netlist.specs.declared.fault.NetlistFault.{NetlistFault}
+use Rattle.pg_aiger_netlist.specs.declared.fault.NetlistFault.TheVariants as netlist
+use Rattle.pg_aiger_reader.specs.Faults.{Refuses}
+use Rattle.pg_aiger_reader.specs.Texts.{SpellsNone}
+use Rattle.pg_aiger_reader.specs.Ties.{AreTied, IsTieFault}
+use Rattle.pg_aiger_reader.specs.declared.fault.ReaderFault.{ReaderFault}
+use Rattle.pg_aiger_reader.specs.declared.fault.ReaderFault.TheVariants as reader
+use Rattle.pg_aiger_reader.specs.declared.fault.TieFault.{TieFault}
+use Rattle.pg_aiger_reader.specs.declared.fault.TieFault.TheVariants as tie
+use Rattle.pg_verify.specs.declared.fault.VerifyFault.TheVariants as verify
+use Rattle.pg_cli_command.specs.Faults.{circuit_fault, tie_fault, netlist_fault}
+use Rattle.pg_cli_command.specs.Parts.{Parting}
+use Rattle.pg_cli_command.specs.Verifying.{ArePaired, RefusesVerify}
+use Rattle.pg_cli_command.specs.Mirrors.Looking.{IsUnlooked}
+use Rattle.pg_cli_command.specs.declared.fault.CliFault.TheVariants as cli
+
+-- what is so where memory runs out, and of whatever a text that spells no circuit says, is so of each fault of its reader
+pub circuit_refused : (P : CliFault → Type 0) (bytes : List ℕ) (fault : ReaderFault) → P OutOfMemory
+    → ((said : ReaderFault) → SpellsNone bytes → P (cli.Circuit said)) → Refuses bytes fault → P (circuit_fault fault)
+circuit_refused P bytes reader.OutOfMemory memory told why = memory
+circuit_refused P bytes fault memory told why = told fault why
+
+-- and so it is of the ties
+pub tie_refused : (P : CliFault → Type 0) (by_place : Bool) (a : Automaton) (circuit : Circuit) (symbols : List Symbol) (fault : TieFault)
+    → P OutOfMemory → (IsTieFault by_place a circuit symbols fault → P (cli.Tie fault)) → IsTieFault by_place a circuit symbols fault
+    → P (tie_fault fault)
+tie_refused P by_place a circuit symbols tie.OutOfMemory memory told why = memory
+tie_refused P by_place a circuit symbols fault memory told why = told why
+
+-- and of the look at the lines
+pub netlist_refused : (P : CliFault → Type 0) (circuit : Circuit) (fault : NetlistFault) → P OutOfMemory
+    → (IsFaultOf circuit fault → P (cli.Netlist fault)) → IsFaultOf circuit fault → P (netlist_fault fault)
+netlist_refused P circuit netlist.OutOfMemory memory told why = memory
+netlist_refused P circuit fault memory told why = told why
+
+-- and of the look at the circuit
+pub unlooked : (Kind : MapKind) (Parts : Parting) (by_place : Bool) (a : Automaton) (given tied : Circuit) → ArePaired Parts by_place a given tied
+    → IsAcyclic tied → (fault : CliFault) → IsUnlooked Kind fault → Fails (RefusesVerify Kind Parts by_place) fault
+unlooked Kind Parts by_place a given tied paired acyclic cli.OutOfMemory why = tt
+unlooked Kind Parts by_place a given tied paired acyclic (cli.Verify verify.TooLarge) why = (a, given, tied, paired, acyclic)
+unlooked Kind Parts by_place a given tied paired acyclic (cli.Synth synth.TooLarge) why = (a, given, tied, paired, acyclic)
+unlooked Kind Parts by_place a given tied paired acyclic (cli.Undecided id) why = why
+unlooked Kind Parts by_place a given tied paired acyclic _ why = absurd why
+
+-- each name has a literal
+pub tied_length : (by_place : Bool) (kind : Kind) (symbols : List Symbol) (names : List (List ℕ)) (literals tied : List ℕ)
+    → AreTied by_place kind symbols names literals tied → length tied ≡ length names
+tied_length true kind symbols names literals tied t = ap (λ (l : List ℕ). length l) t.1 ∙ t.0
+tied_length false kind symbols names literals tied t =
+    ap (λ (l : List ℕ). length l) t.2 ∙ length-map t.0 (λ place. get_or literals place 0) ∙ t.1.all
+
+pub inputs_named : (marks : List Bool) (names : List (List ℕ)) → length marks ≡ length names
+    → length (items_where_true (map not marks) names) ≡ inputs marks
+inputs_named [] names same = refl
+inputs_named (mark ∷ marks) [] same = absurd (omega arith)
+inputs_named (true ∷ marks) (name ∷ names) same = inputs_named marks names (omega arith)
+inputs_named (false ∷ marks) (name ∷ names) same = let r = inputs_named marks names (omega arith) in omega (arith, r)
+
+pub outputs_named : (marks : List Bool) (names : List (List ℕ)) → length marks ≡ length names
+    → length (items_where_true marks names) ≡ outputs marks
+outputs_named [] names same = refl
+outputs_named (mark ∷ marks) [] same = absurd (omega arith)
+outputs_named (true ∷ marks) (name ∷ names) same = let r = outputs_named marks names (omega arith) in omega (arith, r)
+outputs_named (false ∷ marks) (name ∷ names) same = outputs_named marks names (omega arith)
